@@ -1,0 +1,11 @@
+pub mod Pieces
+pub mod Agree
+pub mod Exists
+pub mod Netlists
+pub mod HistoryLaws
+pub mod Readings
+pub mod Counts
+pub mod Tabling
+pub mod Making
+pub mod Steady
+pub mod Example

@@ -1,0 +1,5 @@
+pub mod Names
+pub mod Lists
+pub mod Turns
+pub mod Tables
+pub mod FirstSeen

@@ -1,0 +1,51 @@
+use Rattle.std.proofs.Common.{◌≡◌, ◌∙◌, true, false, Some, None, cond, not, ltb, length, suc, ◌+◌, ℕ, List, [], ◌∷◌, map, ap, refl, String, string_bytes, Global, Bor}
+use Rattle.toml.proofs.Views.{Entry}
+use Rattle.toml.specs.View.{members_view}
+use Rattle.toml.specs.declared.value.Value.{Value}
+use Rattle.std.specs.List.{list_any, position, position_or_len}
+use Rattle.std.specs.Prelude.{◌||◌, bytes_eq}
+use Rattle.sdf_document.specs.Tables.{stranger, texts_of}
+
+-- a text is among names exactly where it is a key's
+pub list_any_names : (s : List ℕ) (ks : List (String Global)) → list_any (bytes_eq s) (map string_bytes ks) ≡ list_any (λ k. bytes_eq s (string_bytes k)) ks
+list_any_names s [] = refl
+list_any_names s (k ∷ ks) = ap (λ b. bytes_eq s (string_bytes k) || b) (list_any_names s ks)
+
+pub list_any_texts : (s : List ℕ) (ts : List (Bor (List ℕ))) → list_any (bytes_eq s) (texts_of ts) ≡ list_any (λ t. bytes_eq s t.now) ts
+list_any_texts s [] = refl
+list_any_texts s (t ∷ ts) = ap (λ b. bytes_eq s t.now || b) (list_any_texts s ts)
+
+-- a known key in front
+pub stranger_known : (ts : List (Bor (List ℕ))) (s t : List Entry) (k : String Global) (v : Value) → s ≡ (k, v) ∷ t
+    → list_any (λ x. bytes_eq (string_bytes k) x.now) ts ≡ true → stranger (texts_of ts) (members_view s) ≡ stranger (texts_of ts) (members_view t)
+stranger_known ts s t k v e h =
+    let found : list_any (bytes_eq (string_bytes k)) (texts_of ts) ≡ true = list_any_texts (string_bytes k) ts ∙ h in
+    rw (e, found) refl
+
+-- an unknown key in front
+pub stranger_found : (ts : List (Bor (List ℕ))) (s t : List Entry) (k : String Global) (v : Value) → s ≡ (k, v) ∷ t
+    → list_any (λ x. bytes_eq (string_bytes k) x.now) ts ≡ false → stranger (texts_of ts) (members_view s) ≡ Some (string_bytes k)
+stranger_found ts s t k v e h =
+    let found : list_any (bytes_eq (string_bytes k)) (texts_of ts) ≡ false = list_any_texts (string_bytes k) ts ∙ h in
+    rw (e, found) refl
+
+-- the place of a text in a list, each item seen by f
+before_map : {X : Type 0} (f : X → List ℕ) (s : List ℕ) (ks : List X) → position_or_len (bytes_eq s) (map f ks) ≡ position_or_len (λ k. bytes_eq s (f k)) ks
+before_map f s [] = refl
+before_map f s (k ∷ ks) = ap (λ n. cond (not (bytes_eq s (f k))) (1 + n) 0) (before_map f s ks)
+
+same_length : {X : Type 0} (f : X → List ℕ) (ks : List X) → length (map f ks) ≡ length ks
+same_length f [] = refl
+same_length f (k ∷ ks) = ap suc (same_length f ks)
+
+position_map : {X : Type 0} (f : X → List ℕ) (s : List ℕ) (ks : List X) → position (bytes_eq s) (map f ks) ≡ position (λ k. bytes_eq s (f k)) ks
+position_map f s ks =
+    ap (λ n. cond (ltb n (length (map f ks))) (Some n) None) (before_map f s ks)
+    ∙ ap (λ m. cond (ltb (position_or_len (λ k. bytes_eq s (f k)) ks) m) (Some (position_or_len (λ k. bytes_eq s (f k)) ks)) None) (same_length f ks)
+
+-- the place of a text among names
+pub position_names : (s : List ℕ) (ks : List (String Global)) → position (bytes_eq s) (map string_bytes ks) ≡ position (λ k. bytes_eq s (string_bytes k)) ks
+position_names s ks = position_map string_bytes s ks
+
+pub position_texts : (s : List ℕ) (ts : List (Bor (List ℕ))) → position (bytes_eq s) (texts_of ts) ≡ position (λ t. bytes_eq s t.now) ts
+position_texts s ts = position_map (λ t. t.now) s ts

@@ -1,0 +1,111 @@
+-- A whole graph file, with the first test that it fails.
+use Rattle.std.specs.Prelude.{ℕ, suc, ◌+◌, ◌&&◌, not, List, [], ◌∷◌, ◌++◌, codes, map, Option, Some, None, Result, Ok, Err, nat_le, bytes_eq, if◌then◌else◌, string_bytes, String}
+use Rattle.std.specs.declared.alloc.Global.{Global}
+use Rattle.std.specs.List.{filter, filter_map, list_any}
+use Rattle.toml.specs.Data.{Data, Items, no_items, item, Members, get_member, as_array}
+use Rattle.sdf_document.specs.declared.entry.Document.{Document}
+use Rattle.sdf_document.specs.Fault.{top, Fault, actor_count, channel_count, not_toml, missing_key, wrong_type, ◌>>=◌, or_fault}
+use Rattle.sdf_document.specs.Tables.{table_in, format_at, known_keys}
+use Rattle.sdf_document.specs.Lists.{Files}
+use Rattle.sdf_document.specs.Kinds.{KindValue, fir, table}
+use Rattle.sdf_document.specs.Actors.{ActorValue, actor_view, actor_at}
+use Rattle.sdf_document.specs.Links.{LinkValue, link_view, link_at}
+
+-- ---- one after the other
+
+abbrev pub names_in : List ActorValue → List (List ℕ)
+names_in es = map (λ (e : ActorValue). e.name) es
+
+-- each item in turn, from number i on, after those done
+unfoldable pub each_from : {E : Type 0} → (ℕ → List E → Data → Result E Fault) → ℕ → List E → Items → Result (List E) Fault
+each_from one i done no_items = Ok done
+each_from one i done (item d ds) = one i done d >>= λ e. each_from one (i + 1) (done ++ e ∷ []) ds
+
+abbrev pub actor_after : Option Files → ℕ → List ActorValue → Data → Result ActorValue Fault
+actor_after files a done d = actor_at a files (names_in done) d
+
+abbrev pub link_after : List (List ℕ) → ℕ → List LinkValue → Data → Result LinkValue Fault
+link_after names l done d = link_at l names d
+
+abbrev pub actors_in : Option Files → Items → Result (List ActorValue) Fault
+actors_in files = each_from (actor_after files) 0 []
+
+abbrev pub links_in : List (List ℕ) → Items → Result (List LinkValue) Fault
+links_in names = each_from (link_after names) 0 []
+
+-- ---- the document
+
+unfoldable pub array_at : List ℕ → Members → Result Items Fault
+array_at key ms = do
+  d ← or_fault (missing_key top key) (get_member key ms)
+  or_fault (wrong_type top key) (as_array d)
+
+abbrev pub item_count : Items → ℕ
+item_count no_items = 0
+item_count (item d ds) = suc (item_count ds)
+
+-- from least to most of them
+abbrev pub counted : Fault → ℕ → ℕ → ℕ → Result (Unit {0}) Fault
+counted f least most n = if nat_le least n && nat_le n most then Ok tt else Err f
+
+abbrev pub top_keys : List (List ℕ)
+top_keys = codes "format" ∷ codes "actor" ∷ codes "link" ∷ []
+
+-- the items of `actor` and of `link`
+unfoldable pub arrays_at : Members → Result (Items × Items) Fault
+arrays_at ms = do
+  format ← format_at top ms
+  known ← known_keys top top_keys ms
+  actors ← array_at (codes "actor") ms
+  links ← array_at (codes "link") ms
+  some_actors ← counted actor_count 1 64 (item_count actors)
+  few_links ← counted channel_count 0 256 (item_count links)
+  Ok (actors, links)
+
+pub record DocumentValue : Type 0 where
+  pub actors : List ActorValue
+  pub links : List LinkValue
+
+abbrev pub document_view : Document → DocumentValue
+document_view d = record { actors = map actor_view d.actors.items; links = map link_view d.links.items }
+
+-- what the bytes of a graph file say, beside its coefficient files
+unfoldable pub document_of : List ℕ → Files → Result DocumentValue Fault
+document_of bytes files = do
+  ms ← or_fault (not_toml top) (table_in bytes)
+  arrays ← arrays_at ms
+  actors ← actors_in (Some files) arrays.0
+  links ← links_in (names_in actors) arrays.1
+  Ok (record { actors = actors; links = links })
+
+-- ---- the coefficient files that it names
+
+-- the file that an actor's list stands in
+abbrev pub kind_file : KindValue → Option (List ℕ)
+kind_file (fir up down shift taps) = taps.file
+kind_file (table offset values) = values.file
+kind_file other = None
+
+abbrev pub actor_file : ActorValue → Option (List ℕ)
+actor_file a = kind_file a.kind
+
+-- each once, where it stands first
+abbrev pub first_seen : List (List ℕ) → List (List ℕ)
+first_seen [] = []
+first_seen (x ∷ xs) = x ∷ filter (λ y. not (bytes_eq x y)) (first_seen xs)
+
+-- a name put last, unless it is there
+abbrev pub with_name : List (List ℕ) → List ℕ → List (List ℕ)
+with_name xs x = if list_any (bytes_eq x) xs then xs else xs ++ x ∷ []
+
+-- the tests without links and without a look into the files
+unfoldable pub file_names_of : List ℕ → Result (List (List ℕ)) Fault
+file_names_of bytes = do
+  ms ← or_fault (not_toml top) (table_in bytes)
+  arrays ← arrays_at ms
+  actors ← actors_in None arrays.0
+  Ok (first_seen (filter_map actor_file actors))
+
+-- texts as the bytes that they are
+abbrev pub texts_view : List (String Global) → List (List ℕ)
+texts_view ts = map string_bytes ts

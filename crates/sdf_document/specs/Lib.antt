@@ -1,0 +1,9 @@
+pub mod Fault
+pub mod Tables
+pub mod Values
+pub mod Names
+pub mod Lists
+pub mod Kinds
+pub mod Actors
+pub mod Links
+pub mod Document

@@ -1,0 +1,29 @@
+-- Names of actors and of coefficient files.
+use Rattle.std.specs.Prelude.{ℕ, ◌==◌, ◌&&◌, ◌||◌, not, Bool, List, length, nat_le, slice_index, map, String, string_bytes}
+use Rattle.std.specs.List.{list_all}
+use Rattle.std.specs.declared.alloc.Global.{Global}
+use Rattle.indexmap.specs.IndexSet.{IndexSet, keys}
+
+-- the names in first-seen order
+abbrev pub names_of : {S : Type 0} → IndexSet (String Global) S → List (List ℕ)
+names_of s = map string_bytes (keys s)
+
+-- A-Z a-z
+abbrev pub is_letter : ℕ → Bool
+is_letter b = (nat_le 65 b && nat_le b 90) || (nat_le 97 b && nat_le b 122)
+
+-- a letter, 0-9, `_` or `-`
+abbrev pub is_name_byte : ℕ → Bool
+is_name_byte b = is_letter b || ((nat_le 48 b && nat_le b 57) || ((b == 95) || (b == 45)))
+
+-- 1 to 32 characters, the first a letter
+unfoldable pub is_name : List ℕ → Bool
+is_name s = (nat_le (length s) 32 && is_letter (slice_index s 0)) && list_all is_name_byte s
+
+-- the same, or a dot
+abbrev pub is_file_byte : ℕ → Bool
+is_file_byte b = is_name_byte b || (b == 46)
+
+-- 1 to 64 characters, the first not a dot
+unfoldable pub is_file_name : List ℕ → Bool
+is_file_name s = ((nat_le 1 (length s) && nat_le (length s) 64) && not (slice_index s 0 == 46)) && list_all is_file_byte s

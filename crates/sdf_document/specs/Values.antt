@@ -1,0 +1,51 @@
+-- What stands at single keys.
+use Rattle.std.specs.Prelude.{ℕ, ℤ, pos, negsuc, ◌&&◌, List, [], ◌∷◌, Option, Some, None, option_map, option_and_then, Result, Ok, Err, nat_le, int_le, if◌then◌else◌}
+use Rattle.toml.specs.Data.{Data, Items, no_items, item, Members, get_member, as_str, as_integer, as_array}
+use Rattle.sdf_document.specs.Fault.{Place, actor, Fault, kit_value, missing_key, wrong_type, ◌>>=◌, or_fault}
+
+-- the text at a key that has to be there
+unfoldable pub text_at : Place → List ℕ → Members → Result (List ℕ) Fault
+text_at p key ms = do
+  d ← or_fault (missing_key p key) (get_member key ms)
+  or_fault (wrong_type p key) (as_str d)
+
+abbrev pub within_natural : ℕ → List ℕ → ℕ → ℕ → ℤ → Result ℕ Fault
+within_natural a key least most (pos n) = if nat_le least n && nat_le n most then Ok n else Err (kit_value (actor a) key)
+within_natural a key least most (negsuc n) = Err (kit_value (actor a) key)
+
+-- a whole number from least to most, at a key of actor a
+unfoldable pub natural_in : ℕ → List ℕ → ℕ → ℕ → Data → Result ℕ Fault
+natural_in a key least most d = do
+  z ← or_fault (wrong_type (actor a) key) (as_integer d)
+  within_natural a key least most z
+
+-- the same at a key that has to be there
+unfoldable pub natural_at : ℕ → List ℕ → ℕ → ℕ → Members → Result ℕ Fault
+natural_at a key least most ms = do
+  d ← or_fault (missing_key (actor a) key) (get_member key ms)
+  natural_in a key least most d
+
+abbrev pub given_or : {A : Type 0} → A → (Data → Result A Fault) → Option Data → Result A Fault
+given_or absent read None = Ok absent
+given_or absent read (Some d) = read d
+
+-- the same at a key that may be absent
+unfoldable pub natural_or : ℕ → List ℕ → ℕ → ℕ → ℕ → Members → Result ℕ Fault
+natural_or a key least most absent ms = given_or absent (natural_in a key least most) (get_member key ms)
+
+-- a whole number of either sign
+unfoldable pub integer_at : ℕ → List ℕ → ℤ → ℤ → Members → Result ℤ Fault
+integer_at a key least most ms = do
+  d ← or_fault (missing_key (actor a) key) (get_member key ms)
+  z ← or_fault (wrong_type (actor a) key) (as_integer d)
+  if int_le least z && int_le z most then Ok z else Err (kit_value (actor a) key)
+
+-- the whole numbers of an array, where each item is one
+abbrev pub integers_in : Items → Option (List ℤ)
+integers_in no_items = Some []
+integers_in (item d ds) = option_and_then (λ z. option_map (λ zs. z ∷ zs) (integers_in ds)) (as_integer d)
+
+unfoldable pub integers_at : Place → List ℕ → Data → Result (List ℤ) Fault
+integers_at p key d = do
+  ds ← or_fault (wrong_type p key) (as_array d)
+  or_fault (wrong_type p key) (integers_in ds)

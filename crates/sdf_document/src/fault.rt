@@ -1,0 +1,89 @@
+//! Why a graph file was not read.
+ghost use Rattle.std.specs.Prelude.{◌≡◌, Some, ◌++◌, codes, decimal};
+ghost use Rattle.sdf_document.specs.declared.fault.ReadFault.TheVariants.{OutOfMemory};
+
+use std::alloc::{AllocError, AllocFailed};
+use std::fmt;
+use thiserror::Error;
+
+/// Where a fault stands: at the top of the graph file, in an actor or a link, or in a coefficient file.
+#[derive(Debug, Drop)]
+pub enum Place {
+    Top,
+    Actor(usize),
+    Link(usize),
+    File(String),
+}
+
+impl fmt::Display for Place {
+    ghost use Rattle.sdf_document.specs.Fault.{place_text};
+
+    ghost output = { λ p. Some (place_text p) };
+
+    fn fmt<W: fmt::Write>(&self, f: &mut fmt::Formatter<W>) -> fmt::Result {
+        match self {
+            Place::Top => write!(f, "top"),
+            Place::Actor(number) => write!(f, "actor {number}"),
+            Place::Link(number) => write!(f, "link {number}"),
+            Place::File(name) => write!(f, "file {name}"),
+        }
+    }
+}
+
+/// The first test that a graph file or one of its coefficient files fails.
+///
+/// It prints its number, its name and its place.
+#[derive(Debug, Drop, Error)]
+pub enum DocumentFault {
+    #[error("2 ActorCount")]
+    ActorCount,
+    #[error("3 ChannelCount")]
+    ChannelCount,
+    #[error("28 KitValue {0} key {1}")]
+    KitValue(Place, &'static str),
+    #[error("49 NotToml {0}")]
+    NotToml(Place),
+    #[error("50 Format {0}")]
+    Format(Place),
+    #[error("51 UnknownKey {0} key {1}")]
+    UnknownKey(Place, String),
+    #[error("52 MissingKey {0} key {1}")]
+    MissingKey(Place, &'static str),
+    #[error("53 WrongType {0} key {1}")]
+    WrongType(Place, &'static str),
+    #[error("54 BadName {0} key {1}")]
+    BadName(Place, &'static str),
+    #[error("55 NameTwice actor {0}")]
+    NameTwice(usize),
+    #[error("56 UnknownKind actor {0}")]
+    UnknownKind(usize),
+    #[error("57 BadPort link {0} key {1}")]
+    BadPort(usize, &'static str),
+    #[error("58 NoFile file {0}")]
+    NoFile(String),
+}
+
+/// Why a document was not read: memory was refused, or it fails a test.
+#[derive(Debug, Drop, Error)]
+pub enum ReadFault {
+    #[error("1 OutOfMemory")]
+    OutOfMemory,
+    #[error(transparent)]
+    Document(DocumentFault),
+}
+
+impl From<AllocError> for ReadFault {
+    ghost from_gives = { λ _ e. e ≡ OutOfMemory };
+
+    fn from(_e: AllocError) -> ReadFault {
+        ReadFault::OutOfMemory
+    }
+}
+
+impl<T: Drop> From<AllocFailed<T>> for ReadFault {
+    ghost from_gives = { λ _ e. e ≡ OutOfMemory };
+
+    fn from(_e: AllocFailed<T>) -> ReadFault {
+        ReadFault::OutOfMemory
+    }
+}

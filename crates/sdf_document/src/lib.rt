@@ -1,0 +1,25 @@
+//! Graph files and coefficient files: TOML tables, tested in order, as entries.
+//!
+//! `read_document` gives what a graph file says, or the first test that it fails; `file_names` the coefficient files that
+//! it names. It stands on `toml` and `indexmap` alone. Begin at `entry` and `document`; the definitions, in the order of
+//! the tests, are in `specs/Document.antt`, `specs/Actors.antt`, `specs/Kinds.antt` and `specs/Links.antt`.
+#![tactic(auto)]
+
+mod actor;
+mod document;
+mod entry;
+mod fault;
+mod file;
+mod kind;
+mod link;
+mod list;
+mod name;
+mod table;
+mod value;
+
+pub use document::{file_names, read_document};
+pub use entry::{ActorEntry, Document, KindEntry, LinkEntry, ListEntry};
+pub use fault::{DocumentFault, Place, ReadFault};
+
+#[cfg(test)]
+mod tests;

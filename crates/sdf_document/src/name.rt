@@ -1,0 +1,52 @@
+//! Names of actors and of coefficient files.
+ghost use Rattle.std.specs.Prelude.{◌≡◌};
+ghost use Rattle.std.specs.List.{list_all};
+ghost use Rattle.sdf_document.specs.Names.{is_letter, is_name_byte, is_name, is_file_byte, is_file_name};
+
+fn is_letter(b: u8) -> bool
+    ensures { result ≡ is_letter b }
+{
+    matches!(b, b'A'..=b'Z' | b'a'..=b'z')
+}
+
+fn is_name_byte(b: u8) -> bool
+    ensures { result ≡ is_name_byte b }
+{
+    is_letter(b) || matches!(b, b'0'..=b'9' | b'_' | b'-')
+}
+
+fn are_name_bytes(bytes: &[u8]) -> bool
+    ensures { result ≡ list_all is_name_byte bytes.now }
+{
+    bytes.iter().all(|b| is_name_byte(*b))
+}
+
+/// Whether a text can be an actor's name.
+#[tactic(auto, unfolding(crate::specs::Names::is_name))]
+pub(crate) fn is_name(text: &str) -> bool
+    ensures { result ≡ is_name text.now }
+{
+    let bytes = text.as_bytes();
+    let Some(first) = bytes.first() else {
+        return false;
+    };
+    bytes.len() <= 32 && is_letter(*first) && are_name_bytes(bytes)
+}
+
+fn are_file_bytes(bytes: &[u8]) -> bool
+    ensures { result ≡ list_all is_file_byte bytes.now }
+{
+    bytes.iter().all(|b| is_name_byte(*b) || *b == b'.')
+}
+
+/// Whether a text can be a coefficient file's name.
+#[tactic(auto, unfolding(crate::specs::Names::is_file_name))]
+pub(crate) fn is_file_name(text: &str) -> bool
+    ensures { result ≡ is_file_name text.now }
+{
+    let bytes = text.as_bytes();
+    let Some(first) = bytes.first() else {
+        return false;
+    };
+    bytes.len() <= 64 && *first != b'.' && are_file_bytes(bytes)
+}

@@ -1,0 +1,151 @@
+//! What stands at single keys.
+ghost use Rattle.std.specs.Prelude.{◌≡◌, ◌≤◌, ◌≤ℤ◌, option_map, IfOk};
+ghost use Rattle.toml.specs.Data.{get_member};
+ghost use Rattle.toml.specs.View.{table_view, view, items_view};
+ghost use Rattle.sdf_document.specs.Fault.{Gives, place_view};
+ghost use Rattle.sdf_document.specs.Values.{text_at, natural_in, natural_at, natural_or, integer_at, integers_in, integers_at};
+
+use crate::fault::{DocumentFault, Place, ReadFault};
+use std::alloc::{AllocError, Global};
+use toml::{Table, Value};
+
+/// The value at a key.
+pub(crate) fn at<'a>(table: &'a Table, key: &str) -> Option<&'a Value>
+    ensures { option_map (λ v. view v.now) result ≡ get_member key.now (table_view table.now) }
+{
+    table.get(key)
+}
+
+/// The text at a key that has to be there.
+#[tactic(auto, unfolding(crate::specs::Values::text_at))]
+pub(crate) fn text_of<'a>(
+    place: Place,
+    key: &'static str,
+    table: &'a Table,
+) -> Result<&'a str, ReadFault>
+    ensures { Gives (λ s. s.now) result (text_at (place_view place) key.now (table_view table.now)) }
+{
+    let Some(value) = at(table, key) else {
+        return Err(ReadFault::Document(DocumentFault::MissingKey(place, key)));
+    };
+    match value.as_str() {
+        Some(text) => Ok(text),
+        None => Err(ReadFault::Document(DocumentFault::WrongType(place, key))),
+    }
+}
+
+/// A whole number from `least` to `most`, at a key of an actor.
+#[tactic(auto, unfolding(crate::specs::Values::natural_in))]
+pub(crate) fn natural_in(
+    actor: usize,
+    key: &'static str,
+    least: u32,
+    most: u32,
+    value: &Value,
+) -> Result<u32, ReadFault>
+    ensures given { Gives (λ n. n) result (natural_in actor key.now least most (view value.now)) }
+    ensures within { IfOk result (λ n. (least ≤ n) × (n ≤ most)) }
+{
+    let Some(number) = value.as_integer() else {
+        return Err(ReadFault::Document(DocumentFault::WrongType(Place::Actor(actor), key)));
+    };
+    if number >= 0 && i64::from(least) <= number && number <= i64::from(most) {
+        Ok(number as u32)
+    } else {
+        Err(ReadFault::Document(DocumentFault::KitValue(Place::Actor(actor), key)))
+    }
+}
+
+/// The same at a key that has to be there.
+#[tactic(auto, unfolding(crate::specs::Values::natural_at))]
+pub(crate) fn natural_of(
+    actor: usize,
+    key: &'static str,
+    least: u32,
+    most: u32,
+    table: &Table,
+) -> Result<u32, ReadFault>
+    ensures given { Gives (λ n. n) result (natural_at actor key.now least most (table_view table.now)) }
+    ensures within { IfOk result (λ n. (least ≤ n) × (n ≤ most)) }
+{
+    match at(table, key) {
+        Some(value) => natural_in(actor, key, least, most, value),
+        None => Err(ReadFault::Document(DocumentFault::MissingKey(Place::Actor(actor), key))),
+    }
+}
+
+/// The same at a key that may be absent: 1 then.
+#[tactic(auto, unfolding(crate::specs::Values::natural_or))]
+pub(crate) fn natural_or_one(
+    actor: usize,
+    key: &'static str,
+    most: u32,
+    table: &Table,
+) -> Result<u32, ReadFault>
+    requires { 1 ≤ most }
+    ensures given { Gives (λ n. n) result (natural_or actor key.now 1 most 1 (table_view table.now)) }
+    ensures within { IfOk result (λ n. (1 ≤ n) × (n ≤ most)) }
+{
+    match at(table, key) {
+        Some(value) => natural_in(actor, key, 1, most, value),
+        None => Ok(1),
+    }
+}
+
+/// A whole number of either sign, at a key of an actor that has to be there.
+#[tactic(auto, unfolding(crate::specs::Values::integer_at))]
+pub(crate) fn integer_of(
+    actor: usize,
+    key: &'static str,
+    least: i32,
+    most: i32,
+    table: &Table,
+) -> Result<i32, ReadFault>
+    ensures given { Gives (λ n. n) result (integer_at actor key.now least most (table_view table.now)) }
+    ensures within { IfOk result (λ n. (least ≤ℤ n) × (n ≤ℤ most)) }
+{
+    let Some(value) = at(table, key) else {
+        return Err(ReadFault::Document(DocumentFault::MissingKey(Place::Actor(actor), key)));
+    };
+    let Some(number) = value.as_integer() else {
+        return Err(ReadFault::Document(DocumentFault::WrongType(Place::Actor(actor), key)));
+    };
+    if i64::from(least) <= number && number <= i64::from(most) {
+        Ok(number as i32)
+    } else {
+        Err(ReadFault::Document(DocumentFault::KitValue(Place::Actor(actor), key)))
+    }
+}
+
+/// The numbers, where each item is a whole one.
+fn integers_in(alloc: Global, items: &[Value]) -> Result<Option<Vec<i64>>, AllocError>
+    ensures { IfOk result (λ r. option_map (λ v. v.items) r ≡ integers_in (items_view items.now)) }
+{
+    let mut numbers = Vec::new(alloc);
+    for item in items {
+        match item.as_integer() {
+            Some(number) => numbers.push(number)?,
+            None => return Ok(None),
+        }
+    }
+    Ok(Some(numbers))
+}
+
+/// The numbers of an array, where each item is a whole one.
+#[tactic(auto, unfolding(crate::specs::Values::integers_at))]
+pub(crate) fn integers_of(
+    alloc: Global,
+    place: Place,
+    key: &'static str,
+    value: &Value,
+) -> Result<Vec<i64>, ReadFault>
+    ensures { Gives (λ v. v.items) result (integers_at (place_view place) key.now (view value.now)) }
+{
+    let Some(array) = value.as_array() else {
+        return Err(ReadFault::Document(DocumentFault::WrongType(place, key)));
+    };
+    match integers_in(alloc, array.as_slice())? {
+        Some(numbers) => Ok(numbers),
+        None => Err(ReadFault::Document(DocumentFault::WrongType(place, key))),
+    }
+}

@@ -1,0 +1,4 @@
+pub mod Limits
+pub mod Moves
+pub mod Whole
+pub mod Lines

@@ -1,0 +1,96 @@
+-- The design of a graph file and its coefficient files.
+use Rattle.std.specs.Prelude.{◌≡◌, ◌≤◌, ℕ, ℤ, List, length, map, Option, Ok, Err}
+use Rattle.sdf_document.specs.Fault.{fault_view}
+use Rattle.sdf_document.specs.Lists.{Files}
+use Rattle.sdf_document.specs.Kinds.{KindValue, input, output, fir, decimate, interpolate, add, fork, gain, delay, table}
+use Rattle.sdf_document.specs.Actors.{ActorValue}
+use Rattle.sdf_document.specs.Links.{LinkValue}
+use Rattle.sdf_document.specs.Document.{DocumentValue, document_of, file_names_of}
+use Rattle.sdf_actor.specs.declared.node.Node.{Node}
+use Rattle.sdf_actor.specs.declared.node.Node.TheVariants.{Source, Sink, Inner}
+use Rattle.sdf_actor.specs.declared.fault.NetFault.{NetFault}
+use Rattle.sdf_actor.specs.declared.fault.NetFault.TheVariants as nets
+use Rattle.sdf_actor.specs.Nets.{Wire, Netlist}
+use Rattle.sdf_actor.specs.Sides.{list_count}
+use Rattle.sdf_actor.specs.declared.node.Side.TheVariants.{Input, Output}
+use Rattle.sdf_actor.specs.NetFaults.{IsAccepted, IsNetFault}
+use Rattle.sdf_kit.specs.declared.kit.Kit.{Kit}
+use Rattle.sdf_kit.specs.declared.kit.Kit.TheVariants as kits
+use Rattle.sdf_kit.specs.Kit.{kit_steps}
+use Rattle.sdf_file.specs.declared.fault.FileFault.{FileFault}
+use Rattle.sdf_file.specs.declared.fault.FileFault.TheVariants.{OutOfMemory, Document, Net}
+
+-- a net, and of each of its actors the name and the home processor
+pub record DesignValue : Type 0 where
+  pub net : Netlist Kit ℤ
+  pub names : List (List ℕ)
+  pub homes : List (Option ℕ)
+
+-- ---- the design that a document says
+
+-- the node of a kind
+abbrev pub node_of : KindValue → Node Kit
+node_of (input channel block) = Source channel block
+node_of (output channel block) = Sink channel block
+node_of (fir up down shift taps) = Inner (kits.Fir (record { up = up; down = down; taps = taps.values; shift = shift }))
+node_of (decimate factor) = Inner (kits.Decimate factor)
+node_of (interpolate factor) = Inner (kits.Interpolate factor)
+node_of (add ways) = Inner (kits.Add ways)
+node_of (fork ways) = Inner (kits.Fork ways)
+node_of (gain g shift) = Inner (kits.Gain (record { gain = g; shift = shift }))
+node_of (delay length) = Inner (kits.Delay length)
+node_of (table offset values) = Inner (kits.Table (record { offset = offset; values = values.values }))
+
+abbrev pub wire_of : LinkValue → Wire ℤ
+wire_of l = record { from = l.from; to = l.to; initial = l.initial }
+
+abbrev pub design_of : DocumentValue → DesignValue
+design_of d = record {
+  net = record { nodes = map (λ (a : ActorValue). node_of a.kind) d.actors; wires = map wire_of d.links };
+  names = map (λ (a : ActorValue). a.name) d.actors;
+  homes = map (λ (a : ActorValue). a.processor) d.actors;
+}
+
+-- ---- the design of files: that of their document, where the net of it passes all tests of nets
+
+pub record IsDesignOf (graph : List ℕ) (files : Files) (d : DesignValue) : Type 0 where
+  pub document : DocumentValue
+  pub says : document_of graph files ≡ Ok document
+  pub is : d ≡ design_of document
+  pub period : List ℕ
+  pub accepted : IsAccepted kit_steps d.net period
+
+-- the net has the fault. Memory is no fault of a net
+abbrev pub HasNetFault : Netlist Kit ℤ → NetFault → Type 0
+HasNetFault n nets.OutOfMemory = ⊥
+HasNetFault n fault = IsNetFault kit_steps n fault
+
+abbrev pub IsMadeFault : Netlist Kit ℤ → FileFault → Type 0
+IsMadeFault n OutOfMemory = Unit {0}
+IsMadeFault n (Document fault) = ⊥
+IsMadeFault n (Net fault) = HasNetFault n fault
+
+-- the first test that files fail: those of the document come before those of the net. Memory may be refused at any place
+abbrev pub IsFileFault : List ℕ → Files → FileFault → Type 0
+IsFileFault graph files OutOfMemory = Unit {0}
+IsFileFault graph files (Document fault) = document_of graph files ≡ Err (fault_view fault)
+IsFileFault graph files (Net fault) = (d : DocumentValue) × (document_of graph files ≡ Ok d) × HasNetFault (design_of d).net fault
+
+-- ---- the files that a graph file names
+
+abbrev pub AreFileNames : List ℕ → List (List ℕ) → Type 0
+AreFileNames graph names = file_names_of graph ≡ Ok names
+
+abbrev pub IsNamesFault : List ℕ → FileFault → Type 0
+IsNamesFault graph OutOfMemory = Unit {0}
+IsNamesFault graph (Document fault) = file_names_of graph ≡ Err (fault_view fault)
+IsNamesFault graph (Net fault) = ⊥
+
+-- ---- what holds of every design
+
+-- each node has a name, and a home or none; there are at most 8 inputs and 8 outputs
+pub record IsDesign (d : DesignValue) : Type 0 where
+  pub named : length d.names ≡ length d.net.nodes
+  pub housed : length d.homes ≡ length d.net.nodes
+  pub inputs : list_count Input d.net.nodes ≤ 8
+  pub outputs : list_count Output d.net.nodes ≤ 8

@@ -1,0 +1,37 @@
+-- The texts of designs.
+use Rattle.std.specs.Prelude.{◌≡◌, ℕ, List, [], ◌∷◌, ◌++◌, length, sum, codes, decimal, slice_index, slice_index_or}
+use Rattle.std.specs.List.{flat_map, range_with_len}
+use Rattle.sdf_graph.specs.Rates.{rates}
+use Rattle.sdf_graph.specs.Periods.{IsLeastPeriod}
+use Rattle.sdf_actor.specs.Graphs.{graph_of}
+use Rattle.sdf_actor.specs.Sides.{period_samples}
+use Rattle.sdf_actor.specs.declared.node.Side.TheVariants.{Input, Output}
+use Rattle.sdf_kit.specs.Kit.{kit_steps}
+use Rattle.sdf_file.specs.Designs.{DesignValue}
+
+-- a line feed
+abbrev pub end : List ℕ
+end = 10 ∷ []
+
+-- an actor's name, and how often it fires in a period
+abbrev pub q_line : List ℕ → ℕ → List ℕ
+q_line name count = codes "q " ++ name ++ codes " " ++ decimal count ++ end
+
+-- the lines of the first n actors, in a period q
+abbrev pub q_lines : DesignValue → List ℕ → ℕ → List ℕ
+q_lines d q n = flat_map (λ a. q_line (slice_index_or d.names a []) (slice_index q a)) (range_with_len 0 n)
+
+-- what `check` prints of a design with period vector q
+abbrev pub check_text : DesignValue → List ℕ → List ℕ
+check_text d q =
+    codes "actors " ++ decimal (length d.net.nodes) ++ end
+    ++ codes "links " ++ decimal (length d.net.wires) ++ end
+    ++ codes "period " ++ decimal (sum q) ++ end
+    ++ q_lines d q (length d.net.nodes)
+    ++ codes "input " ++ decimal (period_samples d.net.nodes Input q) ++ codes " output " ++ decimal (period_samples d.net.nodes Output q) ++ end
+
+-- the text of a design, whose period vector is the least
+pub record IsCheckText (d : DesignValue) (text : List ℕ) : Type 0 where
+  pub period : List ℕ
+  pub least : IsLeastPeriod (rates (graph_of kit_steps d.net)) period
+  pub is : text ≡ check_text d period

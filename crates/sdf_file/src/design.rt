@@ -1,0 +1,107 @@
+//! Designs.
+ghost use Rattle.std.specs.Prelude.{◌≡◌, ◌<◌, ℕ, List, [], true, map, length, string_bytes, slice_index_or, MatchResult};
+ghost use Rattle.std.specs.List.{All};
+ghost use Rattle.sdf_document.specs.Lists.{files_view};
+ghost use Rattle.sdf_document.specs.Kinds.{kind_view, IsWithin};
+ghost use Rattle.sdf_document.specs.Document.{document_view, file_names_of, texts_view};
+ghost use Rattle.sdf_actor.specs.NetFaults.{IsAccepted};
+ghost use Rattle.sdf_kit.specs.Kit.{kit_steps};
+ghost use Rattle.sdf_file.specs.Designs.{design_of, IsDesign, IsDesignOf, IsFileFault, IsMadeFault, AreFileNames, IsNamesFault};
+
+use crate::fault::FileFault;
+use crate::parts::{links_of, parts_of};
+use sdf_actor::Net;
+use sdf_document::{Document, file_names, read_document};
+use sdf_kit::Kit;
+use std::alloc::Global;
+use std::marker::Model;
+
+/// A design: a net, and of each of its actors the name and the home processor.
+#[derive(Drop)]
+pub struct Design {
+    net: Net<Kit>,
+    names: Vec<String>,
+    homes: Vec<Option<usize>>,
+}
+
+impl Model for Design {
+    ghost use Rattle.std.specs.Prelude.{map, string_bytes};
+    ghost use Rattle.sdf_file.specs.Designs.{DesignValue, IsDesign};
+
+    ghost Value = { DesignValue };
+
+    ghost view = { λ d. record { net = d.net; names = map string_bytes d.names.items; homes = d.homes.items } };
+
+    ghost invariant = { λ d. IsDesign (record { net = d.net; names = map string_bytes d.names.items; homes = d.homes.items }) };
+}
+
+impl Design {
+    /// Its net: node `a` is actor `a` of the graph file, link `c` is its link `c`.
+    pub fn net(&self) -> &Net<Kit>
+        ensures { result.now ≡ self.now.net }
+    {
+        &self.net
+    }
+
+    /// The name of an actor.
+    pub fn name(&self, actor: usize) -> &str
+        requires { actor < length self.now.net.nodes }
+        ensures { result.now ≡ slice_index_or self.now.names actor [] }
+    {
+        self.names[actor].as_str()
+    }
+
+    /// The home processor of each actor, where its key `processor` names one.
+    pub fn homes(&self) -> &[Option<usize>]
+        ensures { result.now ≡ self.now.homes }
+    {
+        &self.homes
+    }
+
+    /// What holds of every design.
+    pub fn is_whole(&self)
+        ensures { IsDesign self.now }
+    {
+        let _ = self.homes.len();
+    }
+}
+
+/// The coefficient files that a graph file names, each once, where it stands first; or the first test that it fails of
+/// those that look into no coefficient file, all but those of the links and of the net.
+pub fn design_files(alloc: Global, graph: &[u8]) -> Result<Vec<String>, FileFault>
+    ensures { MatchResult result (λ v. AreFileNames graph.now (texts_view v.items)) (IsNamesFault graph.now) }
+{
+    Ok(file_names(alloc, graph)?)
+}
+
+/// A document as a design, or the first test that its net fails.
+fn design_of(alloc: Global, document: Document) -> Result<Design, FileFault>
+    requires { All (λ a. IsWithin true (kind_view a.kind)) document.actors.items }
+    ensures { MatchResult result
+        (λ d. (d ≡ design_of (document_view document)) × ((q : List ℕ) × IsAccepted kit_steps d.net q))
+        (IsMadeFault (design_of (document_view document)).net) }
+{
+    let Document { actors, links } = document;
+    let parts = parts_of(alloc, actors)?;
+    let links = links_of(alloc, links)?;
+    let net = Net::new(alloc, parts.nodes, links)?;
+    Ok(Design {
+        net,
+        names: parts.names,
+        homes: parts.homes,
+    })
+}
+
+/// The design of a graph file and its coefficient files, each a name and its bytes, or the first test that they fail.
+///
+/// Files that the graph file does not name are not read; of two files of one name the first counts.
+pub fn read_design(
+    alloc: Global,
+    graph: &[u8],
+    files: &[(String, Vec<u8>)],
+) -> Result<Design, FileFault>
+    ensures { MatchResult result (IsDesignOf graph.now (files_view files.now)) (IsFileFault graph.now (files_view files.now)) }
+{
+    let document = read_document(alloc, graph, files)?;
+    design_of(alloc, document)
+}

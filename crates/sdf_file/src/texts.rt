@@ -1,0 +1,72 @@
+//! The texts of designs.
+ghost use Rattle.std.specs.Prelude.{◌≡◌, ◌++◌, IfOk, OnOk, length, string_bytes};
+ghost use Rattle.sdf_file.specs.Texts.{q_line, q_lines, check_text, IsCheckText};
+ghost use Rattle.sdf_graph.specs.Rates.{rates};
+ghost use Rattle.sdf_graph.specs.Periods.{IsLeastPeriod};
+ghost use Rattle.sdf_actor.specs.Graphs.{graph_of};
+ghost use Rattle.sdf_actor.specs.Sides.{period_samples};
+ghost use Rattle.sdf_actor.specs.declared.node.Side.TheVariants.{Input, Output};
+ghost use Rattle.sdf_kit.specs.Kit.{kit_steps};
+
+use crate::design::Design;
+use sdf_actor::Net;
+use sdf_graph::Repetitions;
+use sdf_kit::Kit;
+use std::alloc::{AllocError, Global};
+
+fn push_q_line(text: &mut String, name: &str, count: u32) -> Result<(), AllocError>
+    ensures { OnOk result (string_bytes text.new ≡ string_bytes text.old ++ q_line name.now count) }
+{
+    writeln!(text, "q {name} {count}")?;
+    Ok(())
+}
+
+/// Adds a line for each actor, with its name and how often it fires in a period.
+fn push_q_lines(
+    text: &mut String,
+    design: &Design,
+    repetitions: &Repetitions,
+) -> Result<(), AllocError>
+    requires { length repetitions.now ≡ length design.now.net.nodes }
+    ensures { OnOk result (string_bytes text.new ≡ string_bytes text.old ++ q_lines design.now repetitions.now (length design.now.net.nodes)) }
+{
+    for actor in 0..design.net().len() {
+        push_q_line(text, design.name(actor), repetitions.of(actor))?;
+    }
+    Ok(())
+}
+
+/// How many samples each input puts and each output takes in a period.
+fn samples_of(net: &Net<Kit>, repetitions: &Repetitions) -> (usize, usize)
+    requires { IsLeastPeriod (rates (graph_of kit_steps net.now)) repetitions.now }
+    ensures input { result.0 ≡ period_samples net.now.nodes Input repetitions.now }
+    ensures output { result.1 ≡ period_samples net.now.nodes Output repetitions.now }
+{
+    let _ = repetitions;
+    (net.samples_in(), net.samples_out())
+}
+
+fn text_of(alloc: Global, design: &Design, repetitions: &Repetitions) -> Result<String, AllocError>
+    requires { IsLeastPeriod (rates (graph_of kit_steps design.now.net)) repetitions.now }
+    ensures { IfOk result (λ s. string_bytes s ≡ check_text design.now repetitions.now) }
+{
+    let net = design.net();
+    let actors = net.len();
+    let links = net.channels();
+    let period = repetitions.period();
+    let (input, output) = samples_of(net, repetitions);
+    let mut text = format!(in alloc; "actors {actors}\nlinks {links}\nperiod {period}\n")?;
+    push_q_lines(&mut text, design, repetitions)?;
+    writeln!(text, "input {input} output {output}")?;
+    Ok(text)
+}
+
+/// What a design is: how many actors and links it has, its period, how often each actor fires in one, and how many
+/// samples each input puts and each output takes in one.
+pub fn check_text(alloc: Global, design: &Design) -> Result<String, AllocError>
+    ensures { IfOk result (λ s. IsCheckText design.now (string_bytes s)) }
+{
+    let repetitions = design.net().repetitions();
+    let text = text_of(alloc, design, repetitions)?;
+    Ok(text)
+}

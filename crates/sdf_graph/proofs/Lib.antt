@@ -1,0 +1,11 @@
+pub mod Greedy
+pub mod Kept
+pub mod Repeated
+pub mod Shapes
+pub mod Alike
+pub mod Lowest
+pub mod ShareLaws
+pub mod Marks
+pub mod Lists
+pub mod Moves
+pub mod Faultless

@@ -1,0 +1,28 @@
+-- Period vectors, and which is the least.
+use Rattle.std.specs.Prelude.{◌≡◌, ℕ, ◌*◌, ◌≤◌, ◌<◌, List, length, slice_index, sum}
+use Rattle.sdf_graph.specs.Rates.{Rates, Shape, rates}
+use Rattle.sdf_graph.specs.declared.fault.GraphFault.{GraphFault}
+use Rattle.sdf_graph.specs.declared.fault.GraphFault.TheVariants.{OutOfMemory, Inconsistent, PeriodTooLong}
+
+-- how often each actor fires in a period: on each channel as much is put as is taken
+pub record IsPeriodVector (r : Rates) (q : List ℕ) : Type 0 where
+  pub all : length q ≡ r.actors
+  pub positive : (a : ℕ) → a < r.actors → 0 < slice_index q a
+  pub balanced : (c : ℕ) → c < r.channels → r.produced c (slice_index q (r.source c)) ≡ r.consumed c (slice_index q (r.target c))
+
+-- p is some multiple of q
+abbrev pub IsMultiple : List ℕ → List ℕ → Type 0
+IsMultiple p q = (k : ℕ) × ((a : ℕ) → slice_index p a ≡ k * slice_index q a)
+
+-- the least by its sum, which also divides all others
+pub record IsLeastPeriod (r : Rates) (q : List ℕ) : Type 0 where
+  pub is : IsPeriodVector r q
+  pub least : (p : List ℕ) → IsPeriodVector r p → sum q ≤ sum p
+  pub divides : (p : List ℕ) → IsPeriodVector r p → IsMultiple p q
+
+-- why there is no answer: a refusal is true of the graph
+abbrev pub IsPeriodFault : Shape → GraphFault → Type 0
+IsPeriodFault g OutOfMemory = Unit {0}
+IsPeriodFault g (Inconsistent c) = (c < length g.channels) × ((p : List ℕ) → IsPeriodVector (rates g) p → ⊥)
+IsPeriodFault g PeriodTooLong = (p : List ℕ) → IsPeriodVector (rates g) p → 65536 < sum p
+IsPeriodFault g _ = ⊥

@@ -1,0 +1,143 @@
+//! Token counts: how many samples each channel holds after some firings.
+
+ghost use Rattle.std.specs.Prelude.{◌≡◌, ℕ, ◌+◌, ◌-◌, ◌^◌, ◌≤◌, ◌<◌, ◌↔◌, length, replicate, slice_index, slice_index_or, slice_set, IfOk, MatchOption, IsTrue};
+ghost use Rattle.sdf_graph.specs.Rates.{rates, channel, no_channel};
+ghost use Rattle.sdf_graph.specs.Sequences.{tokens, IsEnabled, IsShortChannel};
+ghost use Rattle.sdf_graph.specs.Tally.{counts};
+ghost use Rattle.std.specs.List.Sorted.{IsStrictlyIncreasing};
+ghost use Rattle.sdf_graph.specs.Moved.{moved, moved_at, CanMove, AreMoved, HoldEnough, IsFirstShort};
+
+use crate::channel::{Channel, End};
+use crate::graph::Graph;
+use std::alloc::{AllocError, Global};
+use std::marker::Model;
+
+/// How often each actor has fired, and how many samples (tokens) the channels hold then.
+///
+/// Only `new` takes memory. `enabled`, `short_channel` and `fire` look at the channels of their actor alone.
+#[derive(Drop)]
+pub struct Counts<'a> {
+    graph: &'a Graph,
+    fired: Vec<u32>,
+    held: Vec<u64>,
+}
+
+impl<'a> Model for Counts<'a> {
+    ghost use Rattle.sdf_graph.specs.Tally.{Tally, IsKept};
+
+    ghost Value = { Tally };
+
+    ghost view = { λ s. record { graph = s.graph.now; fired = s.fired.items } };
+
+    ghost invariant = { λ s. IsKept (record { graph = s.graph.now; fired = s.fired.items }) s.held.items };
+}
+
+impl<'a> Counts<'a> {
+    /// The counts before the first firing: each channel holds its initial samples.
+    pub fn new(alloc: Global, graph: &'a Graph) -> Result<Counts<'a>, AllocError>
+        ensures { IfOk result (λ s. s ≡ record { graph = graph.now; fired = replicate graph.now.actors 0 }) }
+    {
+        let fired = vec![in alloc; 0; graph.actors]?;
+        let mut held = Vec::new(alloc);
+        for channel in &graph.channels {
+            held.push(channel.initial as u64)?;
+        }
+        Ok(Counts { graph, fired, held })
+    }
+
+    /// How many samples a channel holds.
+    pub fn tokens(&self, channel: usize) -> u64
+        requires { channel < length self.now.graph.channels }
+        ensures { result ≡ tokens (rates self.now.graph) (counts self.now) channel }
+    {
+        self.held[channel]
+    }
+
+    /// How often an actor has fired.
+    pub fn fired(&self, actor: usize) -> u32
+        requires { actor < self.now.graph.actors }
+        ensures { result ≡ counts self.now actor }
+    {
+        self.fired[actor]
+    }
+
+    /// Whether each channel into an actor holds what it takes.
+    pub fn enabled(&self, actor: usize) -> bool
+        requires { actor < self.now.graph.actors }
+        ensures { IsTrue result ↔ IsEnabled (rates self.now.graph) (counts self.now) actor }
+    {
+        self.short_channel(actor).is_none()
+    }
+
+    /// The lowest channel into an actor that holds less than it takes.
+    pub fn short_channel(&self, actor: usize) -> Option<usize>
+        requires { actor < self.now.graph.actors }
+        ensures { MatchOption result (IsEnabled (rates self.now.graph) (counts self.now) actor) (IsShortChannel (rates self.now.graph) (counts self.now) actor) }
+    {
+        let graph = self.graph;
+        first_short(graph.channels(), graph.incoming(actor), &self.held)
+    }
+
+    /// Fires an actor that is enabled: it takes from each channel into it, and puts on each channel out of it.
+    pub fn fire(&mut self, actor: usize)
+        requires known { actor < self.old.graph.actors }
+        requires enabled { IsEnabled (rates self.old.graph) (counts self.old) actor }
+        requires room { counts self.old actor + 1 < 2 ^ 32 }
+        ensures { self.new ≡ record self.old { fired = slice_set self.old.fired actor (counts self.old actor + 1) } }
+    {
+        let graph = self.graph;
+        move_all(graph, actor, &mut self.held);
+        self.fired[actor] += 1;
+    }
+}
+
+/// The first of some channels that holds less than it takes.
+fn first_short(channels: &[Channel], numbers: &[usize], held: &[u64]) -> Option<usize>
+    requires all { length held.now ≡ length channels.now }
+    requires known { (i : ℕ) → i < length numbers.now → slice_index numbers.now i < length channels.now }
+    ensures { MatchOption result (HoldEnough channels.now held.now numbers.now (length numbers.now)) (IsFirstShort channels.now held.now numbers.now) }
+{
+    for &number in numbers {
+        if held[number] < u64::from(channels[number].take) {
+            return Some(number);
+        }
+    }
+    None
+}
+
+/// What all channels hold after a firing.
+fn move_all(graph: &Graph, actor: usize, held: &mut [u64])
+    requires known { actor < graph.now.actors }
+    requires all { length held.old ≡ length graph.now.channels }
+    requires room { (c : ℕ) → c < length graph.now.channels → slice_index held.old c + (channel graph.now c).put < 2 ^ 64 }
+    requires enough { (c : ℕ) → c < length graph.now.channels → (channel graph.now c).to ≡ actor → (channel graph.now c).take ≤ slice_index held.old c }
+    ensures { (c : ℕ) → c < length graph.now.channels → slice_index held.new c ≡ moved (channel graph.now c) actor (slice_index held.old c) }
+{
+    let channels = graph.channels();
+    move_tokens(channels, graph.incoming(actor), End::Target, held);
+    move_tokens(channels, graph.outgoing(actor), End::Source, held);
+}
+
+/// What channels hold after a firing of the actor at one end of some of them.
+fn move_tokens(channels: &[Channel], numbers: &[usize], end: End, held: &mut [u64])
+    requires all { length held.old ≡ length channels.now }
+    requires rising { IsStrictlyIncreasing numbers.now }
+    requires known { (i : ℕ) → i < length numbers.now → slice_index numbers.now i < length channels.now }
+    requires can { (i : ℕ) → i < length numbers.now → CanMove end (slice_index_or channels.now (slice_index numbers.now i) no_channel) (slice_index held.old (slice_index numbers.now i)) }
+    ensures { AreMoved channels.now end numbers.now (length numbers.now) held.old held.new }
+{
+    for &number in numbers {
+        held[number] = after_firing(&channels[number], end, held[number]);
+    }
+}
+
+/// What a channel holds after a firing of the actor at one end.
+fn after_firing(channel: &Channel, end: End, held: u64) -> u64
+    requires { CanMove end channel.now held }
+    ensures { result ≡ moved_at end channel.now held }
+{
+    match end {
+        End::Source => held + u64::from(channel.put),
+        End::Target => held - u64::from(channel.take),
+    }
+}

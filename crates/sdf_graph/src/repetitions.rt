@@ -1,0 +1,261 @@
+// The least period vector: fractions of actor 0's firings, walked over the channels.
+
+ghost use Rattle.std.specs.Prelude.{◌≡◌, ℕ, ◌*◌, ◌≤◌, ◌<◌, ◌≢◌, ◌↔◌, List, length, map, sum, sum_by, slice_index, slice_index_or, IsTrue, MatchOption, MatchResult, IfOk};
+ghost use Rattle.std.specs.Int.{IsGcd};
+ghost use Rattle.sdf_graph.specs.Rates.{Shape, IsShape, rates, channel, no_channel};
+ghost use Rattle.sdf_graph.specs.Periods.{IsPeriodFault, IsLeastPeriod};
+ghost use Rattle.sdf_graph.specs.Shares.{ratio, IsReduced, IsShare, IsSmall, IsWalk, IsBorder, IsLevel, IsEven, IsCommon, firings, Divides, IsScaleFault};
+
+use crate::channel::Channel;
+use crate::fault::GraphFault;
+use crate::graph::Graph;
+use std::alloc::Global;
+use std::marker::Model;
+
+/// The greatest sum of a period.
+pub const LONGEST: u64 = 65_536;
+
+/// How often an actor fires for each firing of actor 0, or 0 / 0 where that is not known yet.
+#[derive(Clone, Copy)]
+pub(crate) struct Ratio {
+    pub(crate) num: u64,
+    pub(crate) den: u64,
+}
+
+/// The greatest common divisor, which grows as its two numbers do.
+fn gcd(a: u64, b: u64) -> u64
+    requires { 0 < a }
+    ensures some { 0 < result }
+    ensures divides { (c : ℕ) → IsGcd (a * c) (b * c) (result * c) }
+{
+    let mut x = a;
+    let mut y = b;
+    while y != 0 {
+        let rest = x % y;
+        x = y;
+        y = rest;
+    }
+    x
+}
+
+/// A fraction in lowest terms.
+fn reduced(num: u64, den: u64) -> Ratio
+    requires top { 0 < num }
+    requires bottom { 0 < den }
+    ensures { IsReduced num den result.num result.den }
+{
+    let both = gcd(num, den);
+    Ratio {
+        num: num / both,
+        den: den / both,
+    }
+}
+
+/// The lowest channel with exactly one end reached.
+fn border(channels: &[Channel], parts: &[Ratio]) -> Option<usize>
+    requires from_in { (c : ℕ) → c < length channels.now → (slice_index_or channels.now c no_channel).from < length parts.now }
+    requires to_in { (c : ℕ) → c < length channels.now → (slice_index_or channels.now c no_channel).to < length parts.now }
+    ensures { MatchOption result
+        ((c : ℕ) → c < length channels.now → IsLevel parts.now (slice_index_or channels.now c no_channel))
+        (λ c. (c < length channels.now) × IsBorder parts.now (slice_index_or channels.now c no_channel)) }
+{
+    for (i, channel) in channels.iter().enumerate() {
+        let from = parts[channel.from].num;
+        let to = parts[channel.to].num;
+        if from > 0 && to == 0 || from == 0 && to > 0 {
+            return Some(i);
+        }
+    }
+    None
+}
+
+/// The lowest channel that the fractions do not balance.
+fn uneven(channels: &[Channel], parts: &[Ratio]) -> Option<usize>
+    requires from_in { (c : ℕ) → c < length channels.now → (slice_index_or channels.now c no_channel).from < length parts.now }
+    requires to_in { (c : ℕ) → c < length channels.now → (slice_index_or channels.now c no_channel).to < length parts.now }
+    requires small { (a : ℕ) → a < length parts.now → IsSmall (ratio parts.now a) }
+    requires put_small { (c : ℕ) → c < length channels.now → (slice_index_or channels.now c no_channel).put ≤ 1024 }
+    requires take_small { (c : ℕ) → c < length channels.now → (slice_index_or channels.now c no_channel).take ≤ 1024 }
+    ensures { MatchOption result
+        ((c : ℕ) → c < length channels.now → IsEven parts.now (slice_index_or channels.now c no_channel))
+        (λ c. (c < length channels.now) × (IsEven parts.now (slice_index_or channels.now c no_channel) → ⊥)) }
+{
+    for (i, channel) in channels.iter().enumerate() {
+        let from = parts[channel.from];
+        let to = parts[channel.to];
+        if !evens(channel, from, to) {
+            return Some(i);
+        }
+    }
+    None
+}
+
+/// Whether fractions at the ends of a channel balance it.
+fn evens(channel: &Channel, from: Ratio, to: Ratio) -> bool
+    requires from_small { IsSmall from }
+    requires to_small { IsSmall to }
+    requires put_small { channel.now.put ≤ 1024 }
+    requires take_small { channel.now.take ≤ 1024 }
+    ensures { IsTrue result ↔ (from.num * channel.now.put * to.den ≡ to.num * channel.now.take * from.den) }
+{
+    from.num * u64::from(channel.put) * to.den == to.num * u64::from(channel.take) * from.den
+}
+
+/// The fraction of the end that is not reached.
+fn carried(near: Ratio, gives: u32, takes: u32) -> Ratio
+    requires small { IsSmall near }
+    requires gives_small { gives ≤ 1024 }
+    requires takes_small { takes ≤ 1024 }
+    requires top { (0 < near.num) × (0 < gives) }
+    requires bottom { (0 < near.den) × (0 < takes) }
+    ensures { IsReduced (near.num * gives) (near.den * takes) result.num result.den }
+{
+    reduced(near.num * u64::from(gives), near.den * u64::from(takes))
+}
+
+/// The least common multiple of the denominators, unless it is over the limit.
+fn common(parts: &[Ratio]) -> Option<u64>
+    requires { (a : ℕ) → a < length parts.now → (0 < (ratio parts.now a).den) × IsSmall (ratio parts.now a) }
+    ensures { MatchOption result
+        ((n : ℕ) → 0 < n → ((a : ℕ) → a < length parts.now → Divides (ratio parts.now a).den n) → 65536 < n)
+        (λ m. (m ≤ 65536) × IsCommon parts.now (length parts.now) m) }
+{
+    let mut all = 1;
+    for part in parts {
+        let rest = reduced(all, part.den);
+        all *= rest.den;
+        if all > LONGEST {
+            return None;
+        }
+    }
+    Some(all)
+}
+
+/// The firings of each actor, unless their sum is over the limit.
+fn scaled(alloc: Global, parts: &[Ratio], all: u64) -> Result<Repetitions, GraphFault>
+    requires limit { all ≤ 65536 }
+    requires each { (a : ℕ) → a < length parts.now → (0 < (ratio parts.now a).den) × IsSmall (ratio parts.now a) }
+    ensures { MatchResult result
+        (λ q. (q ≡ map (firings all) parts.now) × (sum q ≤ 65536))
+        (IsScaleFault parts.now all) }
+{
+    let mut of = Vec::with_capacity(alloc, parts.len())?;
+    let mut period = 0;
+    for part in parts {
+        let firings = all / part.den * part.num;
+        period += firings;
+        if period > LONGEST {
+            return Err(GraphFault::PeriodTooLong);
+        }
+        of.push_reserved(firings as u32);
+    }
+    Ok(Repetitions {
+        of,
+        period: period as u32,
+    })
+}
+
+/// The end of a border channel that is not reached, and its share.
+fn beyond(graph: &Graph, parts: &[Ratio], channel: usize) -> (usize, Ratio)
+    requires walk { IsWalk graph.now parts.now }
+    requires known { channel < length graph.now.channels }
+    requires border { IsBorder parts.now (slice_index_or graph.now.channels channel no_channel) }
+    ensures within { result.0 < graph.now.actors }
+    ensures fresh { (ratio parts.now result.0).num ≡ 0 }
+    ensures share { IsShare graph.now result.0 result.1 }
+{
+    let channel = graph.channels[channel];
+    let from = parts[channel.from];
+    let to = parts[channel.to];
+    if from.num > 0 {
+        (channel.to, carried(from, channel.put, channel.take))
+    } else {
+        (channel.from, carried(to, channel.take, channel.put))
+    }
+}
+
+/// The shares of all actors.
+fn walk(graph: &Graph, alloc: Global) -> Result<Vec<Ratio>, GraphFault>
+    ensures { MatchResult result
+        (λ v. IsWalk graph.now v.items × ((a : ℕ) → a < graph.now.actors → 0 < (ratio v.items a).num))
+        (IsPeriodFault graph.now) }
+{
+    let mut parts = vec![in alloc; Ratio { num: 0, den: 0 }; graph.actors]?;
+    parts[0] = Ratio { num: 1, den: 1 };
+    while let Some(channel) = border(&graph.channels, &parts) {
+        let (actor, part) = beyond(graph, &parts, channel);
+        if part.num > LONGEST || part.den > LONGEST {
+            return Err(GraphFault::PeriodTooLong);
+        }
+        parts[actor] = part;
+    }
+    Ok(parts)
+}
+
+/// How often each actor fires in a period: a repetition vector, whose sum is at most 65,536.
+#[derive(Drop)]
+pub struct Repetitions {
+    of: Vec<u32>,
+    period: u32,
+}
+
+impl Model for Repetitions {
+    ghost Value = { List ℕ };
+
+    ghost view = { λ s. s.of.items };
+
+    ghost invariant = { λ s. (sum s.of.items ≡ s.period) × (s.period ≤ 65536) };
+}
+
+impl Repetitions {
+    /// How often an actor fires.
+    pub fn of(&self, actor: usize) -> u32
+        requires { actor < length self.now }
+        ensures { result ≡ slice_index self.now actor }
+    {
+        self.of[actor]
+    }
+
+    /// How many actors there are.
+    pub fn len(&self) -> usize
+        ensures { result ≡ length self.now }
+    {
+        self.of.len()
+    }
+
+    /// How many firings a period has.
+    pub fn period(&self) -> u32
+        ensures { result ≡ sum self.now }
+    {
+        self.period
+    }
+
+    /// What holds of every period.
+    pub fn is_whole(&self)
+        ensures { sum self.now ≤ 65536 }
+    {
+        let _ = &self.of;
+    }
+}
+
+impl Graph {
+    /// The least period vector, which is the least positive vector in the null space of the topology matrix (Lee and
+    /// Messerschmitt 1987).
+    ///
+    /// A graph whose channels no vector balances is `Inconsistent`, and one whose least vector has a sum over 65,536
+    /// `PeriodTooLong`; where both hold, either may be answered.
+    pub fn repetitions(&self, alloc: Global) -> Result<Repetitions, GraphFault>
+        ensures { MatchResult result
+            (λ q. IsLeastPeriod (rates self.now) q × (sum q ≤ 65536))
+            (IsPeriodFault self.now) }
+    {
+        let parts = walk(self, alloc)?;
+        if let Some(channel) = uneven(&self.channels, &parts) {
+            return Err(GraphFault::Inconsistent { channel });
+        }
+        let Some(all) = common(&parts) else {
+            return Err(GraphFault::PeriodTooLong);
+        };
+        scaled(alloc, &parts, all)
+    }
+}

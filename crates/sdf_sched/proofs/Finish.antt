@@ -1,0 +1,95 @@
+-- What a schedule shows where it stops.
+use Rattle.std.proofs.Common.{◌≡◌, ℕ, zero, suc, ◌≤◌, ◌<◌, List, [], ◌∷◌, ◌++◌, length, get_or, slice_index, take, sum, eqb, true, false, refl, sym, ap, ◌∙◌, subst, inl, inr, ◌⊎◌, arith}
+use Rattle.std.proofs.lemmas.List.{take-append-le, take_all, get_or_append_left, get_or_push, ext_get_or, get_or_default}
+use Rattle.std.proofs.lemmas.Bool.{cases_lt, eqb-true, false≢true}
+use Rattle.sdf_graph.specs.Rates.{Shape, IsShape, rates}
+use Rattle.sdf_graph.specs.Sequences.{times, IsRunnable, IsAdmissible, IsStopped, IsDeadlocked}
+use Rattle.sdf_graph.specs.Periods.{IsLeastPeriod}
+use Rattle.sdf_graph.specs.Tally.{Tally}
+use Rattle.sdf_sched.specs.Pick.{Chooses, IsChoice, IsPicked, begins, fires}
+use Rattle.sdf_sched.specs.ClassS.{IsGoing}
+use Rattle.sdf_sched.specs.Period.{IsPeriodOf}
+use Rattle.sdf_sched.specs.Stuck.{IsShortList, IsStuckAt, pair}
+use Rattle.sdf_sched.specs.declared.stuck.Stuck.{Stuck}
+use Rattle.sdf_sched.proofs.Greedy.{stuck_means_deadlock}
+use Rattle.sdf_sched.proofs.Runnable.{sound_of}
+use Rattle.sdf_sched.proofs.Going.{length-last}
+
+-- each firing that a pick chooses is of a runnable actor
+module _ (P : Type 0) (chooses : Chooses P) (g : Shape) (q : ℕ → ℕ) (p : P) where
+  chosen_runs : (p' p'' : P) (k : ℕ → ℕ) (a : ℕ) → IsChoice chooses g q p' k a p'' → IsRunnable (rates g) q k a
+  chosen_runs p' p'' k a c = (c.runnable.each a).0 (c.at, c.below, get_or_default c.among c.at a 0 c.below ∙ c.is)
+
+  pub each_runs : (w : List ℕ) (p' : P) → IsPicked chooses g q p w p' → (i : ℕ) → i < length w → IsRunnable (rates g) q (times (take i w)) (get_or w i 0)
+  each_runs _ _ begins i h = absurd (omega arith)
+  each_runs _ _ (fires w a p' p'' picked choice) i h = go (each_runs w p' picked) (cases_lt i (length w))
+    where
+      go : ((i : ℕ) → i < length w → IsRunnable (rates g) q (times (take i w)) (get_or w i 0)) → (i < length w) ⊎ (length w ≤ i) → IsRunnable (rates g) q (times (take i (w ++ a ∷ []))) (get_or (w ++ a ∷ []) i 0)
+      go before (inl early) = rw (take-append-le i w (a ∷ []) (omega arith), get_or_append_left w (a ∷ []) 0 i early) (before i early)
+      go before (inr late) =
+          let last : length w ≡ i = omega (arith, length-last w a) in
+          subst (λ i. IsRunnable (rates g) q (times (take i (w ++ a ∷ []))) (get_or (w ++ a ∷ []) i 0)) last
+          (rw (take-append-le (length w) w (a ∷ []) (omega arith), take_all (length w) w (omega arith), get_or_push w a 0 (length w) refl) (chosen_runs p' p'' (times w) a choice))
+
+module _ (P : Type 0) (chooses : Chooses P) (g : Shape) (q : List ℕ) (p : P) where
+  module _ (t : Tally) (w : List ℕ) (p' : P) (now : IsGoing chooses g q p t w p' []) where
+    runnable : (i : ℕ) → i < length w → IsRunnable (rates g) (slice_index q) (times (take i w)) (get_or w i 0)
+    runnable i h = each_runs P chooses g (slice_index q) p w p' now.picked i h
+
+    pub none_left : (a : ℕ) → IsRunnable (rates g) (slice_index q) (slice_index t.fired) a → ⊥
+    none_left a on = let h = (now.list.each a).1 on in omega (arith, h.1)
+
+    stopped : IsStopped (rates g) (slice_index q) w
+    stopped = record { each = runnable; none = λ a on. none_left a (subst (λ (k : ℕ → ℕ). IsRunnable (rates g) (slice_index q) k a) (sym now.counted) on) }
+
+    admissible : IsAdmissible (rates g) w
+    admissible i h = let on = runnable i h in (on.0, on.2)
+
+    count_of : (a : ℕ) → get_or t.fired a 0 ≡ times w a
+    count_of a = ap (λ (k : ℕ → ℕ). k a) now.counted
+
+    module _ (short : List (ℕ × ℕ)) (lacks : IsShortList (rates g) (slice_index q) (slice_index t.fired) short) (len : length q ≡ g.actors) where
+      -- with no actor unfinished the period is over
+      module _ (none : length short ≡ 0) where
+        full : (a : ℕ) → a < g.actors → get_or t.fired a 0 ≡ get_or q a 0
+        full a h = go (cases_lt (get_or t.fired a 0) (get_or q a 0))
+          where
+            go : (get_or t.fired a 0 < get_or q a 0) ⊎ (get_or q a 0 ≤ get_or t.fired a 0) → get_or t.fired a 0 ≡ get_or q a 0
+            go (inl less) = let i = lacks.all a h less in absurd (omega (arith, i.1.0))
+            go (inr done) = omega (arith, now.within a)
+
+        pub all_fired : t.fired ≡ q
+        all_fired = ext_get_or 0 t.fired q now.all (λ a h. full a (omega (arith, now.all)))
+
+        pub is_period : IsLeastPeriod (rates g) q → sum q ≤ 65536 → IsPeriodOf (rates g) (record { order = w; repetitions = q })
+        is_period least small = record {
+          least = least;
+          pass = (admissible, λ a h. omega (arith, full a h, count_of a));
+          all = sym now.total ∙ ap sum all_fired;
+          within = omega (arith, now.total, ap sum all_fired);
+        }
+
+      -- else there is none
+      module _ (shape : IsShape g) (some : 0 < length short) where
+        pub is_deadlocked : IsDeadlocked (rates g) (slice_index q)
+        is_deadlocked =
+            let first = lacks.each 0 some in
+            stuck_means_deadlock (rates g) (slice_index q) w (sound_of g shape) stopped _ first.known
+            (let less : times w (pair short 0).0 < get_or q (pair short 0).0 0 = omega (arith, first.unfinished, count_of (pair short 0).0) in less)
+
+      pub is_stuck : (s : Stuck) → s.done.items ≡ t.fired → s.short.items ≡ short → IsStuckAt (rates g) (slice_index q) w s
+      is_stuck s done same = record {
+        admissible = admissible;
+        all = ap length done ∙ now.all ∙ len;
+        counts = λ a h. ap (λ (k : List ℕ). get_or k a 0) done ∙ count_of a;
+        within = λ a h. omega (arith, now.within a, count_of a);
+        short = subst (IsShortList (rates g) (slice_index q) (times w)) (sym same) (subst (λ (k : ℕ → ℕ). IsShortList (rates g) (slice_index q) k short) now.counted lacks);
+      }
+
+-- what is_empty's answer says of a list
+pub none_of : (n m : ℕ) → n ≡ m → true ≡ eqb n 0 → m ≡ 0
+none_of n m e t = sym e ∙ eqb-true n 0 (sym t)
+
+pub some_of : (n m : ℕ) → n ≡ m → false ≡ eqb n 0 → 0 < m
+some_of zero m e t = absurd (false≢true t)
+some_of (suc n) m e t = omega arith

@@ -1,0 +1,14 @@
+pub mod Known
+pub mod Numbers
+pub mod Moves
+pub mod DataAt
+pub mod Samples
+pub mod Frames
+pub mod Written
+pub mod StepReads
+pub mod Formats
+pub mod Walk
+pub mod FaultsRead
+pub mod Total
+pub mod Exact
+pub mod Round

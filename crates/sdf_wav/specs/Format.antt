@@ -1,0 +1,18 @@
+-- What formats are read and written.
+use Rattle.std.specs.Prelude.{◌≤◌, Option, Some, None}
+use Rattle.sdf_wav.specs.declared.format.Format.{Format}
+use Rattle.sdf_wav.specs.declared.chunks.Step.{Step}
+use Rattle.sdf_wav.specs.declared.chunks.Step.TheVariants as steps
+
+pub record IsFormat (f : Format) : Type 0 where
+  pub rate : 1 ≤ f.rate
+  pub low : 1 ≤ f.channels
+  pub high : f.channels ≤ 8
+
+abbrev pub IsKnown : Option Format → Type 0
+IsKnown None = Unit {0}
+IsKnown (Some f) = IsFormat f
+
+abbrev pub IsStep : Step → Type 0
+IsStep (steps.Data start) = IsFormat start.format
+IsStep (steps.Passed seen) = IsKnown seen

@@ -1,0 +1,10 @@
+pub mod Device
+pub mod Parts
+pub mod Steps
+pub mod Format
+pub mod Sound
+pub mod Content
+pub mod Canonical
+pub mod Grammar
+pub mod Fault
+pub mod Adapters

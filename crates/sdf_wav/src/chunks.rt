@@ -1,0 +1,206 @@
+//! The chunks of a WAV file, read from left to right up to its samples.
+
+ghost use Rattle.std.specs.Prelude.{◌≡◌, ◌≤◌, ◌%◌, ℕ, Option, Some, None, length, IfOk, IfErr};
+ghost use Rattle.sdf_wav.specs.Device.{failures_after, widened};
+ghost use Rattle.sdf_wav.specs.Format.{IsFormat, IsKnown, IsStep};
+ghost use Rattle.sdf_wav.specs.Steps.{Reads, riff_at, header_at, front_at, skip_at, pad_at, skipped_at, looked_at, pcm_at, format_at, passed_at, is_some, step_at, last_at, data_at};
+
+use crate::device::Reader;
+use crate::fault::{FormatFault, ReadFault};
+use crate::format::Format;
+use crate::moving::{fill, skip};
+use crate::parts::{ChunkHeader, ChunkKind, DataStart, data_start, format_of, header_of, riff_of};
+
+/// The first twelve bytes.
+pub(crate) fn read_riff<R: Reader>(reader: &mut R) -> Result<(), ReadFault>
+    ensures bytes { Reads (λ x. x) (R.remaining reader.old) (R.remaining reader.new) riff_at result }
+    ensures counted { R.failures reader.new ≡ failures_after (widened result) (R.failures reader.old) }
+{
+    let mut front = [0u8; 12];
+    let n = fill(reader, &mut front)?;
+    riff_of(&front[..n])?;
+    Ok(())
+}
+
+/// The first eight bytes at the place of a chunk, or the fault of an input that ends there.
+fn read_header<R: Reader>(reader: &mut R, has_format: bool) -> Result<ChunkHeader, ReadFault>
+    ensures bytes { Reads (λ x. x) (R.remaining reader.old) (R.remaining reader.new) (header_at has_format) result }
+    ensures counted { R.failures reader.new ≡ failures_after (widened result) (R.failures reader.old) }
+{
+    let mut front = [0u8; 8];
+    let n = fill(reader, &mut front)?;
+    Ok(header_of(has_format, &front[..n])?)
+}
+
+/// Fills `buf`.
+fn read_front<R: Reader>(reader: &mut R, buf: &mut [u8]) -> Result<(), ReadFault>
+    ensures bytes { Reads (λ _. buf.new) (R.remaining reader.old) (R.remaining reader.new) (front_at (length buf.old)) result }
+    ensures counted { R.failures reader.new ≡ failures_after (widened result) (R.failures reader.old) }
+{
+    let n = fill(reader, buf)?;
+    if n < buf.len() {
+        return Err(ReadFault::Format(FormatFault::Truncated));
+    }
+    Ok(())
+}
+
+/// Skips this many bytes.
+fn skip_exactly<R: Reader>(reader: &mut R, size: u64) -> Result<(), ReadFault>
+    ensures bytes { Reads (λ x. x) (R.remaining reader.old) (R.remaining reader.new) (skip_at size) result }
+    ensures counted { R.failures reader.new ≡ failures_after (widened result) (R.failures reader.old) }
+{
+    let n = skip(reader, size)?;
+    if n < size {
+        return Err(ReadFault::Format(FormatFault::Truncated));
+    }
+    Ok(())
+}
+
+/// Skips the pad byte behind a content of odd size. At the end of the input it may be missing.
+fn skip_pad<R: Reader>(reader: &mut R, size: u32) -> Result<(), ReadFault>
+    ensures bytes { Reads (λ x. x) (R.remaining reader.old) (R.remaining reader.new) (pad_at size) result }
+    ensures fault { IfErr result (λ e. e ≡ ReadFault.Device) }
+    ensures counted { R.failures reader.new ≡ failures_after (widened result) (R.failures reader.old) }
+{
+    skip(reader, u64::from(size % 2))?;
+    Ok(())
+}
+
+/// Skips a content of this size, and its pad byte.
+fn skip_content<R: Reader>(reader: &mut R, size: u32) -> Result<(), ReadFault>
+    ensures bytes { Reads (λ x. x) (R.remaining reader.old) (R.remaining reader.new) (skipped_at size) result }
+    ensures counted { R.failures reader.new ≡ failures_after (widened result) (R.failures reader.old) }
+{
+    skip_exactly(reader, u64::from(size))?;
+    skip_pad(reader, size)
+}
+
+/// Reads a content of this size, of which the first bytes are looked at.
+#[tactic(auto, unfolding(crate::specs::Steps::looked_at))]
+fn read_looked<R: Reader>(reader: &mut R, front: &mut [u8], size: u32) -> Result<(), ReadFault>
+    requires { length front.old ≤ size }
+    ensures bytes { Reads (λ _. front.new) (R.remaining reader.old) (R.remaining reader.new) (looked_at (length front.old) size) result }
+    ensures counted { R.failures reader.new ≡ failures_after (widened result) (R.failures reader.old) }
+{
+    let len = front.len() as u64;
+    read_front(reader, front)?;
+    skip_exactly(reader, u64::from(size) - len)
+}
+
+/// How many bytes of a format chunk are looked at.
+const LONGEST_FORMAT: u32 = 40;
+
+/// Reads the content of a format chunk.
+#[tactic(auto, unfolding(crate::specs::Steps::pcm_at))]
+fn read_pcm<R: Reader>(reader: &mut R, size: u32) -> Result<Format, ReadFault>
+    requires { 16 ≤ size }
+    ensures bytes { Reads (λ x. x) (R.remaining reader.old) (R.remaining reader.new) (pcm_at size) result }
+    ensures counted { R.failures reader.new ≡ failures_after (widened result) (R.failures reader.old) }
+    ensures valid { IfOk result IsFormat }
+{
+    let mut front = [0u8; 40];
+    let len = size.min(LONGEST_FORMAT);
+    let content = &mut front[..len as usize];
+    read_looked(reader, content, size)?;
+    Ok(format_of(content)?)
+}
+
+/// Reads the content of a format chunk, and its pad byte.
+#[tactic(auto, unfolding(crate::specs::Steps::format_at))]
+fn read_format<R: Reader>(reader: &mut R, size: u32) -> Result<Format, ReadFault>
+    ensures bytes { Reads (λ x. x) (R.remaining reader.old) (R.remaining reader.new) (format_at size) result }
+    ensures counted { R.failures reader.new ≡ failures_after (widened result) (R.failures reader.old) }
+    ensures valid { IfOk result IsFormat }
+{
+    if size < 16 {
+        return Err(ReadFault::Format(FormatFault::ShortFormat));
+    }
+    let format = read_pcm(reader, size)?;
+    skip_pad(reader, size)?;
+    Ok(format)
+}
+
+/// A chunk before the data: the first format chunk is read, and any other skipped.
+fn pass<R: Reader>(
+    reader: &mut R,
+    header: ChunkHeader,
+    seen: Option<Format>,
+) -> Result<Option<Format>, ReadFault>
+    requires { IsKnown seen }
+    ensures bytes { Reads (λ x. x) (R.remaining reader.old) (R.remaining reader.new) (passed_at header.kind header.size seen) result }
+    ensures counted { R.failures reader.new ≡ failures_after (widened result) (R.failures reader.old) }
+    ensures valid { IfOk result IsKnown }
+{
+    match (header.kind, seen) {
+        (ChunkKind::Format, None) => {
+            let format = read_format(reader, header.size)?;
+            Ok(Some(format))
+        }
+        _ => {
+            skip_content(reader, header.size)?;
+            Ok(seen)
+        }
+    }
+}
+
+/// What stands at the place of a chunk: the data, or another chunk.
+#[derive(Clone, Copy, Debug, PartialEq, Eq)]
+enum Step {
+    Data(DataStart),
+    Passed(Option<Format>),
+}
+
+/// Reads what stands at the place of a chunk, as far as the samples if it is the data.
+#[tactic(auto, unfolding(crate::specs::Steps::step_at))]
+fn next_part<R: Reader>(reader: &mut R, seen: Option<Format>) -> Result<Step, ReadFault>
+    requires { IsKnown seen }
+    ensures bytes { Reads (λ x. x) (R.remaining reader.old) (R.remaining reader.new) (step_at seen) result }
+    ensures counted { R.failures reader.new ≡ failures_after (widened result) (R.failures reader.old) }
+    ensures valid { IfOk result IsStep }
+{
+    let header = read_header(reader, seen.is_some())?;
+    match header.kind {
+        ChunkKind::Data => {
+            let start = data_start(seen, header.size)?;
+            Ok(Step::Data(start))
+        }
+        _ => {
+            let now = pass(reader, header, seen)?;
+            Ok(Step::Passed(now))
+        }
+    }
+}
+
+/// The same where no further chunk may stand before the data.
+#[tactic(auto, unfolding(crate::specs::Steps::last_at))]
+fn read_last<R: Reader>(reader: &mut R, seen: Option<Format>) -> Result<DataStart, ReadFault>
+    requires { IsKnown seen }
+    ensures bytes { Reads (λ x. x) (R.remaining reader.old) (R.remaining reader.new) (last_at seen) result }
+    ensures counted { R.failures reader.new ≡ failures_after (widened result) (R.failures reader.old) }
+    ensures valid { IfOk result (λ start. IsFormat start.format) }
+{
+    let header = read_header(reader, seen.is_some())?;
+    match header.kind {
+        ChunkKind::Data => Ok(data_start(seen, header.size)?),
+        _ => Err(ReadFault::Format(FormatFault::TooLong)),
+    }
+}
+
+/// How many chunks may stand before the data.
+const MAX_CHUNKS: u32 = 65_536;
+
+/// Reads up to the samples.
+pub(crate) fn find_data<R: Reader>(reader: &mut R) -> Result<DataStart, ReadFault>
+    ensures bytes { Reads (λ x. x) (R.remaining reader.old) (R.remaining reader.new) (data_at 65536 None) result }
+    ensures counted { R.failures reader.new ≡ failures_after (widened result) (R.failures reader.old) }
+    ensures valid { IfOk result (λ start. IsFormat start.format) }
+{
+    let mut seen = None;
+    for _ in 0..MAX_CHUNKS {
+        match next_part(reader, seen)? {
+            Step::Data(start) => return Ok(start),
+            Step::Passed(now) => seen = now,
+        }
+    }
+    read_last(reader, seen)
+}

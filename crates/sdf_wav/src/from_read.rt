@@ -1,0 +1,54 @@
+//! Readers of std as readers of files.
+
+ghost use Rattle.std.specs.Prelude.{◌≡◌};
+ghost use Rattle.sdf_wav.specs.Adapters.{read_inner, read_failures};
+
+use crate::device::{DeviceFault, Reader};
+use std::io;
+
+/// A reader over one of std's. Every error counts as a failed call, an interrupted one too.
+#[derive(Drop)]
+pub struct FromRead<R> {
+    inner: R,
+    failed: u64,
+}
+
+impl<R> FromRead<R> {
+    /// A reader over `inner` that has not failed yet.
+    pub fn new(inner: R) -> FromRead<R>
+        ensures inner { read_inner result ≡ inner }
+        ensures fresh { read_failures result ≡ 0 }
+    {
+        FromRead { inner, failed: 0 }
+    }
+
+    /// How many calls failed, up to the greatest u64.
+    pub fn failed(&self) -> u64
+        ensures { result ≡ read_failures self.now }
+    {
+        self.failed
+    }
+
+    /// The reader inside.
+    pub fn into_inner(self) -> R
+        ensures { result ≡ read_inner self }
+    {
+        self.inner
+    }
+}
+
+impl<R: io::Read> Reader for FromRead<R> {
+    ghost remaining = { λ s. R.remaining s.inner };
+
+    ghost failures = { λ s. s.failed };
+
+    fn read(&mut self, buf: &mut [u8]) -> Result<usize, DeviceFault> {
+        match self.inner.read(buf) {
+            Ok(count) => Ok(count),
+            Err(_) => {
+                self.failed = self.failed.saturating_add(1);
+                Err(DeviceFault)
+            }
+        }
+    }
+}

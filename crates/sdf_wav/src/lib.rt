@@ -1,0 +1,32 @@
+//! WAV files of 16-bit PCM, read and written exactly.
+//!
+//! A sound is a [`Wav`]: a rate, 1 to 8 channels, and samples. [`read_wav`] reads one from any [`Reader`], and answers
+//! the first fault of any other input; [`write_wav`] writes the one canonical file of a sound to any [`Writer`].
+//! The crate stands on `byteorder` and `thiserror` alone. Begin with the grammar in `specs/Grammar.antt`, the faults in
+//! `specs/Fault.antt` and the canonical file in `specs/Canonical.antt`; then `reading`, `writing` and the `laws`.
+#![tactic(auto)]
+
+mod chunks;
+mod content;
+mod device;
+mod fault;
+mod format;
+mod from_read;
+mod moving;
+mod parts;
+mod reading;
+mod to_write;
+mod wav;
+mod writing;
+
+pub use device::{DeviceFault, Reader, Writer};
+pub use fault::{FormatFault, WavFault};
+pub use from_read::FromRead;
+pub use reading::read_wav;
+pub use to_write::ToWrite;
+pub use wav::Wav;
+pub use writing::write_wav;
+
+pub mod laws;
+#[cfg(test)]
+mod tests;

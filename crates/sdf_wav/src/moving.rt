@@ -1,0 +1,65 @@
+//! Moving bytes from a reader and to a writer, by as many calls as it takes.
+
+ghost use Rattle.std.specs.Prelude.{◌≡◌, ◌≤◌, length, IfOk, OnOk, OnErr};
+ghost use Rattle.std.specs.Io.KnownBytes.{Appends};
+ghost use Rattle.sdf_wav.specs.Device.{failures_after_read, Known, Fills, Skips, LosesFront, AppendsFront};
+
+use crate::device::{DeviceFault, Reader, Writer};
+
+/// Fills `buf` from the reader, and says with how many bytes: fewer than it holds only where the input ends.
+pub(crate) fn fill<R: Reader>(reader: &mut R, buf: &mut [u8]) -> Result<usize, DeviceFault>
+    ensures fits { IfOk result (λ n. n ≤ length buf.new) }
+    ensures ok { IfOk result (λ n. Known (R.remaining reader.old) (R.remaining reader.new) (λ input left. Fills input left buf.new n)) }
+    ensures err { OnErr result (Known (R.remaining reader.old) (R.remaining reader.new) LosesFront) }
+    ensures counted { R.failures reader.new ≡ failures_after_read result (R.failures reader.old) }
+{
+    let mut at = 0;
+    while at < buf.len() {
+        match reader.read(&mut buf[at..]) {
+            Ok(0) => return Ok(at),
+            Ok(count) => at += count,
+            Err(fault) => return Err(fault),
+        }
+    }
+    Ok(at)
+}
+
+/// How many bytes are read at a time where none is kept.
+const PIECE: usize = 4096;
+
+/// Reads this many bytes and drops them, and says how many there were: fewer only where the input ends.
+pub(crate) fn skip<R: Reader>(reader: &mut R, size: u64) -> Result<u64, DeviceFault>
+    ensures fits { IfOk result (λ n. n ≤ size) }
+    ensures ok { IfOk result (λ n. Known (R.remaining reader.old) (R.remaining reader.new) (λ input left. Skips input left size n)) }
+    ensures err { OnErr result (Known (R.remaining reader.old) (R.remaining reader.new) LosesFront) }
+    ensures counted { R.failures reader.new ≡ failures_after_read result (R.failures reader.old) }
+{
+    let mut piece = [0u8; PIECE];
+    let mut skipped = 0u64;
+    while skipped < size {
+        let want = (size - skipped).min(PIECE as u64) as usize;
+        let got = fill(reader, &mut piece[..want])?;
+        skipped += got as u64;
+        if got < want {
+            break;
+        }
+    }
+    Ok(skipped)
+}
+
+/// Writes all of the bytes, or stops at the first call that fails or takes none of them.
+pub(crate) fn put_all<W: Writer>(writer: &mut W, bytes: &[u8]) -> Result<(), DeviceFault>
+    ensures ok { OnOk result (Appends (W.contents writer.old) (W.contents writer.new) bytes.now) }
+    ensures err { OnErr result (AppendsFront (W.contents writer.old) (W.contents writer.new) bytes.now) }
+    ensures counted { W.failures writer.new ≡ failures_after_read result (W.failures writer.old) }
+{
+    let mut at = 0;
+    while at < bytes.len() {
+        match writer.write(&bytes[at..]) {
+            Ok(0) => return Err(DeviceFault),
+            Ok(taken) => at += taken,
+            Err(fault) => return Err(fault),
+        }
+    }
+    Ok(())
+}

@@ -1,0 +1,48 @@
+//! Reading a WAV file.
+
+ghost use Rattle.std.specs.Prelude.{◌≡◌, ℕ, List, Some, IsErrOf};
+ghost use Rattle.sdf_wav.specs.declared.fault.FormatFault.{FormatFault};
+ghost use Rattle.sdf_wav.specs.Device.{failures_after, widened, Failed};
+ghost use Rattle.sdf_wav.specs.Fault.{HasFault, Answers, Accepts, Refuses};
+ghost use Rattle.sdf_wav.specs.Grammar.{IsWav};
+ghost use Rattle.sdf_wav.specs.Sound.{Sound};
+ghost use Rattle.sdf_wav.specs.Steps.{Reads, wav_at};
+
+use crate::chunks::{find_data, read_riff};
+use crate::content::read_content;
+use crate::device::Reader;
+use crate::fault::{ReadFault, WavFault};
+use crate::wav::Wav;
+use std::alloc::Global;
+
+/// Reads a file part by part.
+#[tactic(auto, unfolding(crate::specs::Steps::wav_at))]
+fn read_parts<R: Reader>(alloc: Global, reader: &mut R) -> Result<Wav, ReadFault>
+    ensures bytes { Reads (λ x. x) (R.remaining reader.old) (R.remaining reader.new) wav_at result }
+    ensures counted { R.failures reader.new ≡ failures_after (widened result) (R.failures reader.old) }
+{
+    read_riff(reader)?;
+    let start = find_data(reader)?;
+    let samples = read_content(alloc, reader, start.format.channels, start.size)?;
+    Ok(Wav::of_format(start.format, samples))
+}
+
+/// Reads a WAV file up to the end of its data, and leaves what follows unread. After a fault a front of the input has
+/// been read. Memory grows with the samples that have come, whatever size the file announces.
+///
+/// RIFF/WAVE with 16-bit PCM samples, by the plain tag or the extensible one; a data size of 0xFFFFFFFF, which its writer
+/// never filled in, goes to the end of the input.
+pub fn read_wav<R: Reader>(alloc: Global, reader: &mut R) -> Result<Wav, WavFault>
+    // What is answered is so: the input is a file of this sound and the rest is left, or the input has this fault.
+    ensures answers { Answers (R.remaining reader.old) (R.remaining reader.new) result }
+
+    // What is so is answered, unless memory or the reader failed.
+    ensures accepts { (input : List ℕ) (s : Sound) (rest : List ℕ) → R.remaining reader.old ≡ Some input → IsWav input s rest → Accepts (R.remaining reader.new) s rest result }
+    ensures refuses { (input : List ℕ) (f : FormatFault) → R.remaining reader.old ≡ Some input → HasFault input f → Refuses f result }
+
+    // A failure of the reader is answered at once: no other call of it failed.
+    ensures counted { R.failures reader.new ≡ failures_after result (R.failures reader.old) }
+    ensures device { IsErrOf result WavFault.Read → Failed (R.failures reader.old) (R.failures reader.new) }
+{
+    Ok(read_parts(alloc, reader)?)
+}

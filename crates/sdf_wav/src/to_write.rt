@@ -1,0 +1,59 @@
+//! Writers of std as writers of files.
+
+ghost use Rattle.std.specs.Prelude.{◌≡◌};
+ghost use Rattle.sdf_wav.specs.Adapters.{write_inner, write_failures};
+
+use crate::device::{DeviceFault, Writer};
+use std::io;
+
+/// A writer over one of std's. Every error counts as a failed call, an interrupted one too.
+#[derive(Drop)]
+pub struct ToWrite<W> {
+    inner: W,
+    failed: u64,
+}
+
+impl<W> ToWrite<W> {
+    /// A writer over `inner` that has not failed yet.
+    pub fn new(inner: W) -> ToWrite<W>
+        ensures inner { write_inner result ≡ inner }
+        ensures fresh { write_failures result ≡ 0 }
+    {
+        ToWrite { inner, failed: 0 }
+    }
+
+    /// How many calls failed, up to the greatest u64.
+    pub fn failed(&self) -> u64
+        ensures { result ≡ write_failures self.now }
+    {
+        self.failed
+    }
+
+    /// The writer inside.
+    pub fn into_inner(self) -> W
+        ensures { result ≡ write_inner self }
+    {
+        self.inner
+    }
+}
+
+impl<W: io::Write> Writer for ToWrite<W> {
+    ghost contents = { λ s. W.contents s.inner };
+
+    ghost failures = { λ s. s.failed };
+
+    fn write(&mut self, bytes: &[u8]) -> Result<usize, DeviceFault> {
+        match self.inner.write(bytes) {
+            Ok(count) => {
+                if count == 0 && !bytes.is_empty() {
+                    self.failed = self.failed.saturating_add(1);
+                }
+                Ok(count)
+            }
+            Err(_) => {
+                self.failed = self.failed.saturating_add(1);
+                Err(DeviceFault)
+            }
+        }
+    }
+}

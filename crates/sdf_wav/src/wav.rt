@@ -1,0 +1,102 @@
+//! Samples of 16 bits with their rate.
+
+ghost use Rattle.std.specs.Prelude.{◌≡◌, ◌≤◌, ◌<◌, ◌+◌, ◌*◌, ◌%◌, length, slice_get, Some};
+ghost use Rattle.sdf_wav.specs.Format.{IsFormat};
+ghost use Rattle.sdf_wav.specs.Sound.{Sound, sound_of, frames_of};
+
+use crate::fault::{FormatFault, WavFault};
+use crate::format::Format;
+use std::marker::Model;
+
+/// A sound: at least one frame a second, 1 to 8 channels, and whole frames of one sample for each channel.
+#[derive(Debug, Drop)]
+pub struct Wav {
+    rate: u32,
+    channels: u16,
+    samples: Vec<i16>,
+}
+
+impl Model for Wav {
+    ghost Value = { Sound };
+
+    ghost view = { λ w. record { rate = w.rate; channels = w.channels; samples = w.samples.items } };
+
+    ghost invariant = { λ w. (1 ≤ w.rate) × (1 ≤ w.channels) × (w.channels ≤ 8) × (length w.samples.items % w.channels ≡ 0) };
+}
+
+impl Wav {
+    /// The sound of these samples, interleaved by frame. Fails by `Channels`, `RateZero` or `PartialFrame`, tested in
+    /// this order.
+    pub fn new(rate: u32, channels: u16, samples: Vec<i16>) -> Result<Wav, WavFault>
+        ensures { result ≡ sound_of rate channels samples.items }
+    {
+        if channels == 0 || channels > 8 {
+            return Err(WavFault::Format(FormatFault::Channels));
+        }
+        if rate == 0 {
+            return Err(WavFault::Format(FormatFault::RateZero));
+        }
+        if !samples.len().is_multiple_of(channels as usize) {
+            return Err(WavFault::Format(FormatFault::PartialFrame));
+        }
+        Ok(Wav {
+            rate,
+            channels,
+            samples,
+        })
+    }
+
+    /// The sound of what was read.
+    pub(crate) fn of_format(format: Format, samples: Vec<i16>) -> Wav
+        requires format { IsFormat format }
+        requires whole { length samples.items % format.channels ≡ 0 }
+        ensures { result ≡ record { rate = format.rate; channels = format.channels; samples = samples.items } }
+    {
+        Wav {
+            rate: format.rate,
+            channels: format.channels,
+            samples,
+        }
+    }
+
+    /// Frames a second.
+    pub fn rate(&self) -> u32
+        ensures value { result ≡ self.now.rate }
+        ensures above_0 { 1 ≤ result }
+    {
+        self.rate
+    }
+
+    /// Samples in a frame.
+    pub fn channels(&self) -> u16
+        ensures value { result ≡ self.now.channels }
+        ensures above_0 { 1 ≤ result }
+        ensures at_most_8 { result ≤ 8 }
+    {
+        self.channels
+    }
+
+    /// How many frames there are.
+    pub fn frames(&self) -> usize
+        ensures value { result ≡ frames_of self.now }
+        ensures whole { result * self.now.channels ≡ length self.now.samples }
+    {
+        self.samples.len() / self.channels as usize
+    }
+
+    /// The sample of this frame and channel, both counted from 0.
+    pub fn sample(&self, frame: usize, channel: u16) -> i16
+        requires frame { frame < frames_of self.now }
+        requires channel { channel < self.now.channels }
+        ensures { slice_get self.now.samples (frame * self.now.channels + channel) ≡ Some result }
+    {
+        self.samples[frame * self.channels as usize + channel as usize]
+    }
+
+    /// All samples, interleaved by frame.
+    pub fn samples(&self) -> &[i16]
+        ensures { result.now ≡ self.now.samples }
+    {
+        self.samples.as_slice()
+    }
+}

@@ -1,0 +1,109 @@
+//! Writing a WAV file.
+
+ghost use Rattle.std.specs.Prelude.{◌≡◌, ◌≤◌, ◌*◌, ◌<◌, ◌^◌, ◌++◌, length, OnOk, OnErr, IsErrOf};
+ghost use Rattle.std.specs.Io.KnownBytes.{Appends};
+ghost use Rattle.byteorder.specs.Endian.{little_bytes};
+ghost use Rattle.sdf_wav.specs.Canonical.{header, sample_bytes, canonical_wav, write_fault, Writes};
+ghost use Rattle.sdf_wav.specs.Device.{failures_after, failures_after_read, AppendsFront, Failed};
+
+use crate::device::{DeviceFault, Writer};
+use crate::fault::{FormatFault, WavFault};
+use crate::moving::put_all;
+use crate::wav::Wav;
+use byteorder::{ByteOrder, LittleEndian};
+
+fn bytes_of_u16(n: u16) -> [u8; 2]
+    ensures { result ≡ little_bytes 2 n }
+{
+    let mut bytes = [0; 2];
+    LittleEndian::write_u16(&mut bytes, n);
+    bytes
+}
+
+fn bytes_of_u32(n: u32) -> [u8; 4]
+    ensures { result ≡ little_bytes 4 n }
+{
+    let mut bytes = [0; 4];
+    LittleEndian::write_u32(&mut bytes, n);
+    bytes
+}
+
+/// The 44 bytes before data of this size.
+#[tactic(auto, unfolding(crate::specs::Canonical::header))]
+fn header(rate: u32, channels: u16, size: u32) -> [u8; 44]
+    requires size { size ≤ 4294967259 }
+    requires rate { rate * (2 * channels) < 2 ^ 32 }
+    requires channels { channels ≤ 8 }
+    ensures { result ≡ header rate channels size }
+{
+    let s = bytes_of_u32(36 + size);
+    let c = bytes_of_u16(channels);
+    let r = bytes_of_u32(rate);
+    let b = bytes_of_u32(rate * (2 * u32::from(channels)));
+    let a = bytes_of_u16(2 * channels);
+    let d = bytes_of_u32(size);
+    [
+        b'R', b'I', b'F', b'F', s[0], s[1], s[2], s[3], b'W', b'A', b'V', b'E', b'f', b'm', b't',
+        b' ', 16, 0, 0, 0, 1, 0, c[0], c[1], r[0], r[1], r[2], r[3], b[0], b[1], b[2], b[3], a[0],
+        a[1], 16, 0, b'd', b'a', b't', b'a', d[0], d[1], d[2], d[3],
+    ]
+}
+
+/// How many samples are converted at a time.
+const PIECE: usize = 8192;
+
+/// Writes the samples, a piece at a time.
+fn put_samples<W: Writer>(writer: &mut W, samples: &[i16]) -> Result<(), DeviceFault>
+    ensures ok { OnOk result (Appends (W.contents writer.old) (W.contents writer.new) (sample_bytes samples.now)) }
+    ensures err { OnErr result (AppendsFront (W.contents writer.old) (W.contents writer.new) (sample_bytes samples.now)) }
+    ensures counted { W.failures writer.new ≡ failures_after_read result (W.failures writer.old) }
+{
+    let mut piece = [0u8; 2 * PIECE];
+    let mut at = 0;
+    while at < samples.len() {
+        let count = (samples.len() - at).min(PIECE);
+        let part = &mut piece[..2 * count];
+        LittleEndian::write_i16_into(&samples[at..at + count], part);
+        put_all(writer, part)?;
+        at += count;
+    }
+    Ok(())
+}
+
+/// Writes a file whose samples stand behind this header.
+fn put_file<W: Writer>(writer: &mut W, header: &[u8], samples: &[i16]) -> Result<(), DeviceFault>
+    ensures ok { OnOk result (Appends (W.contents writer.old) (W.contents writer.new) (header.now ++ sample_bytes samples.now)) }
+    ensures err { OnErr result (AppendsFront (W.contents writer.old) (W.contents writer.new) (header.now ++ sample_bytes samples.now)) }
+    ensures counted { W.failures writer.new ≡ failures_after_read result (W.failures writer.old) }
+{
+    put_all(writer, header)?;
+    put_samples(writer, samples)
+}
+
+/// The most bytes a second that the header can say.
+const MAX_BYTES_A_SECOND: u64 = 4_294_967_295;
+
+/// The most bytes of data that the header can say: 36 more stand behind the first eight bytes of the file.
+const MAX_DATA: usize = 4_294_967_259;
+
+/// Writes the canonical file of a sound: RIFF/WAVE with one `fmt ` chunk of 16 bytes and one `data` chunk. Fails by
+/// `RateTooLarge`, or else `TooLong`, before the first byte; after `Write` a front of the file is written.
+pub fn write_wav<W: Writer>(writer: &mut W, wav: &Wav) -> Result<(), WavFault>
+    ensures writes { Writes (W.contents writer.old) (W.contents writer.new) (write_fault wav.now) (canonical_wav wav.now) result }
+
+    // A failure of the writer is answered at once: no other call of it failed.
+    ensures counted { W.failures writer.new ≡ failures_after result (W.failures writer.old) }
+    ensures device { IsErrOf result WavFault.Write → Failed (W.failures writer.old) (W.failures writer.new) }
+{
+    let rate = wav.rate();
+    let channels = wav.channels();
+    let samples = wav.samples();
+    if u64::from(rate) * (2 * u64::from(channels)) > MAX_BYTES_A_SECOND {
+        return Err(WavFault::Format(FormatFault::RateTooLarge));
+    }
+    if samples.len() > MAX_DATA / 2 {
+        return Err(WavFault::Format(FormatFault::TooLong));
+    }
+    let header = header(rate, channels, (2 * samples.len()) as u32);
+    put_file(writer, &header, samples).map_err(|_| WavFault::Write)
+}
