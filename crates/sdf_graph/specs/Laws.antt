@@ -1,13 +1,7 @@
 -- Statements of the laws.
 use Rattle.std.specs.Prelude.{ℕ, length, ◌<◌, List, ◌≡◌, ◌*◌}
 use Rattle.sdf_graph.specs.Rates.{Rates, IsAlike, IsSound, Shape, channel}
-use Rattle.sdf_graph.specs.Sequences.{times, IsAdmissible, IsPass, IsDeadlocked, IsStopped, IsPeriod, repeated, FitsIn}
-
--- if a greedy schedule stops short of a period, no schedule completes one
-abbrev pub StuckMeansDeadlock : Type 0
-StuckMeansDeadlock =
-    (r : Rates) (q : ℕ → ℕ) (w : List ℕ) → IsSound r → IsStopped r q w →
-    (a : ℕ) → a < r.actors → times w a < q a → IsDeadlocked r q
+use Rattle.sdf_graph.specs.Sequences.{times, IsAdmissible, IsPass, IsPeriod, repeated, FitsIn}
 
 -- a period's schedule can be repeated
 abbrev pub PeriodsRepeat : Type 0

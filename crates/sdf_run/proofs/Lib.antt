@@ -1,0 +1,13 @@
+pub mod Ports
+pub mod Firing
+pub mod Grown
+pub mod Routes
+pub mod Standing
+pub mod Works
+pub mod Prefixes
+pub mod Loops
+pub mod Ends
+pub mod Periods
+pub mod Wholes
+pub mod Readings
+pub mod Beginnings

@@ -1,0 +1,5 @@
+pub mod Held
+pub mod Blocks
+pub mod Stages
+pub mod Runs
+pub mod Answer

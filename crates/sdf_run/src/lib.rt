@@ -1,0 +1,18 @@
+//! Runs of nets.
+//!
+//! It stands on `sdf_graph`, `sdf_sched` and `sdf_actor`. Begin at `one`, the runner on one thread, then `stage`, a node
+//! at work, and `queue`, the samples of a channel; the definitions are in `specs/Answer.antt`.
+#![tactic(auto)]
+
+mod block;
+pub mod fault;
+pub mod one;
+mod queue;
+mod schedule;
+mod setup;
+mod stage;
+#[cfg(test)]
+mod tests;
+
+pub use fault::RunFault;
+pub use one::{Ran, run_one};

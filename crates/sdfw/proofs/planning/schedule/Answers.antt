@@ -1,0 +1,11 @@
+use Rattle.std.proofs.Common.{ap, map, ◌∙◌}
+use Rattle.sdf_actor.specs.Graphs.{graph_of}
+use Rattle.sdf_kit.specs.Kit.{kit_steps}
+use Rattle.sdfw.specs.Plans.{progress_view}
+use Rattle.sdfw.proofs.Deadlocks.{deadlock_of}
+use Rattle.sdfw.proofs.planning.schedule.Goals as goal
+
+pub returns-in_ok-actors-in-Err-Deadlock : goal.returns-in_ok-actors-in-Err-Deadlock
+returns-in_ok-actors-in-Err-Deadlock c =
+    deadlock_of c.args.design.now c.graph-graph.result.now c.repetitions-reps.result.now c.in-Err-Deadlock.stuck (map progress_view c.in_ok-actors-in-Err-Deadlock.actors.items)
+    (c.graph-graph.ensures.value ∙ ap (graph_of kit_steps) c.net.ensures) (rw c.in-Err-Deadlock.field-0-is at c.in-Err-Deadlock.ensures) c.in_ok-actors-in-Err-Deadlock.ensures

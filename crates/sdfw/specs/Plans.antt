@@ -1,0 +1,107 @@
+-- The plan of a design, or why it has none.
+use Rattle.std.specs.Prelude.{◌≡◌, ◌≢◌, ◌⊎◌, ℕ, ◌≤◌, ◌<◌, ◌==◌, List, [], map, length, Option, option_map, slice_index, slice_index_or, find, String, string_bytes}
+use Rattle.std.specs.List.{range_with_len}
+use Rattle.sdf_graph.specs.Rates.{Shape, rates}
+use Rattle.sdf_graph.specs.Sequences.{IsDeadlocked}
+use Rattle.sdf_actor.specs.Graphs.{graph_of}
+use Rattle.sdf_kit.specs.Kit.{kit_steps}
+use Rattle.sdf_sched.specs.Period.{Schedule, IsPeriodOf}
+use Rattle.sdf_sched.specs.Pick.{IsPicked}
+use Rattle.sdf_sched.specs.Round.{IsRoundChoice}
+use Rattle.sdf_sched.specs.Lean.{IsLeanChoice}
+use Rattle.sdf_sched.specs.Stuck.{IsStuckAt}
+use Rattle.sdf_sched.specs.declared.lean.Lean.{Lean}
+use Rattle.sdf_sched.specs.declared.stuck.Stuck.{Stuck}
+use Rattle.sdf_sched.specs.declared.fault.SchedFault.{SchedFault}
+use Rattle.sdf_sched.specs.declared.fault.SchedFault.TheVariants as sched
+use Rattle.sdf_file.specs.Designs.{DesignValue}
+use Rattle.sdfw.specs.declared.options.Options.{Options}
+use Rattle.sdfw.specs.declared.options.Policy.{Policy}
+use Rattle.sdfw.specs.declared.options.Policy.TheVariants as policies
+use Rattle.sdfw.specs.declared.options.Runner.{Runner}
+use Rattle.sdfw.specs.declared.options.Runner.TheVariants.{One}
+use Rattle.sdfw.specs.declared.fault.Progress.{Progress}
+use Rattle.sdfw.specs.declared.fault.Fault.{Fault}
+use Rattle.sdfw.specs.declared.fault.Fault.TheVariants.{OutOfMemory, NotYet, BlockingFactor, WorkerCount, Deadlock}
+
+pub record PlanValue : Type 0 where
+  pub blocking : ℕ
+  pub runner : Runner
+  pub patience : ℕ
+  pub period : Schedule
+
+-- a policy fires this order of a period's firings
+abbrev pub IsOrderBy : Policy → Shape → (ℕ → ℕ) → List ℕ → Type 0
+IsOrderBy policies.Round g q order = (turn : ℕ) × IsPicked IsRoundChoice g q 0 order turn
+IsOrderBy policies.Lean g q order = (p : Lean) × (p' : Lean) × IsPicked IsLeanChoice g q p order p'
+
+-- one period of a graph by a policy
+pub record IsScheduleBy (policy : Policy) (g : Shape) (s : Schedule) : Type 0 where
+  pub period : IsPeriodOf (rates g) s
+  pub order : IsOrderBy policy g (slice_index s.repetitions) s.order
+
+-- a graph of period vector q is deadlocked, and this is where a schedule stopped
+abbrev pub IsStuckFault : Shape → List ℕ → SchedFault → Type 0
+IsStuckFault g q sched.OutOfMemory = Unit {0}
+IsStuckFault g q (sched.Deadlock s) =
+    IsDeadlocked (rates g) (slice_index q) × ((w : List ℕ) × IsStuckAt (rates g) (slice_index q) w s)
+
+abbrev pub IsBlocking : ℕ → Type 0
+IsBlocking blocking = (1 ≤ blocking) × (blocking ≤ 64)
+
+abbrev pub IsWorkers : ℕ → Type 0
+IsWorkers workers = (1 ≤ workers) × (workers ≤ 16)
+
+-- the plan of a design by options that pass all tests
+pub record IsPlanOf (d : DesignValue) (o : Options) (p : PlanValue) : Type 0 where
+  pub one : o.runner ≡ One
+  pub blocking : IsBlocking o.blocking
+  pub workers : IsWorkers o.workers
+  pub same_blocking : p.blocking ≡ o.blocking
+  pub same_runner : p.runner ≡ o.runner
+  pub same_patience : p.patience ≡ o.patience
+  pub schedule : IsScheduleBy o.policy (graph_of kit_steps d.net) p.period
+
+-- how far an actor came: its name, its firings, those of a period, and for an unfinished one its first link that holds too little
+pub record ProgressValue : Type 0 where
+  pub name : List ℕ
+  pub done : ℕ
+  pub of : ℕ
+  pub short : Option ℕ
+
+abbrev pub progress_view : Progress → ProgressValue
+progress_view p = record { name = string_bytes p.name; done = p.done; of = p.of; short = p.short }
+
+-- the channel that is told of an actor
+abbrev pub short_of : List (ℕ × ℕ) → ℕ → Option ℕ
+short_of short a = option_map (λ (p : ℕ × ℕ). p.1) (find (λ (p : ℕ × ℕ). p.0 == a) short)
+
+abbrev pub progress_of : DesignValue → List ℕ → Stuck → ℕ → ProgressValue
+progress_of d q s a = record {
+  name = slice_index_or d.names a [];
+  done = slice_index s.done.items a;
+  of = slice_index q a;
+  short = short_of s.short.items a;
+}
+
+-- a deadlock, and what is told of each actor where a schedule stopped
+pub record IsDeadlockOf (d : DesignValue) (actors : List ProgressValue) : Type 0 where
+  pub period : List ℕ
+  pub deadlocked : IsDeadlocked (rates (graph_of kit_steps d.net)) (slice_index period)
+  pub stuck : Stuck
+  pub sequence : List ℕ
+  pub stopped : IsStuckAt (rates (graph_of kit_steps d.net)) (slice_index period) sequence stuck
+  pub told : actors ≡ map (progress_of d period stuck) (range_with_len 0 (length d.net.nodes))
+
+abbrev pub IsScheduleFault : DesignValue → Fault → Type 0
+IsScheduleFault d OutOfMemory = Unit {0}
+IsScheduleFault d (Deadlock stalled) = IsDeadlockOf d (map progress_view stalled.actors.items)
+IsScheduleFault d f = ⊥
+
+-- the first test that options or the design fail
+abbrev pub IsPlanFault : DesignValue → Options → Fault → Type 0
+IsPlanFault d o (NotYet wav) = o.runner ≢ One
+IsPlanFault d o BlockingFactor = (o.runner ≡ One) × (IsBlocking o.blocking → ⊥)
+IsPlanFault d o WorkerCount = (o.runner ≡ One) × IsBlocking o.blocking × (IsWorkers o.workers → ⊥)
+IsPlanFault d o OutOfMemory = Unit {0}
+IsPlanFault d o f = (o.runner ≡ One) × IsBlocking o.blocking × IsWorkers o.workers × IsScheduleFault d f

@@ -1,0 +1,182 @@
+//! The faults of the program: their numbers, texts and exit statuses.
+
+ghost use Rattle.std.specs.Prelude.{◌≡◌};
+ghost use Rattle.sdfw.specs.declared.fault.Fault.TheVariants.{OutOfMemory};
+ghost use Rattle.sdfw.specs.Statuses.{IsStatus};
+
+use crate::command_line::WordFault;
+use sdf_file::FileFault;
+use sdf_run::RunFault;
+use sdf_wav::{FormatFault, WavFault};
+use std::alloc::{AllocError, AllocFailed, Global};
+use std::fmt;
+use thiserror::Error;
+
+/// How far an actor of a deadlocked design came: `done` firings of the `of` that a period has, and for an unfinished actor its
+/// first link that holds too little.
+#[derive(Debug, Drop)]
+pub struct Progress {
+    pub name: String,
+    pub done: u32,
+    pub of: u32,
+    pub short: Option<usize>,
+}
+
+impl fmt::Display for Progress {
+    fn fmt<W: fmt::Write>(&self, f: &mut fmt::Formatter<W>) -> fmt::Result {
+        let name = self.name.as_str();
+        let done = self.done;
+        let of = self.of;
+        write!(f, "{name} {done} of {of}")?;
+        match self.short {
+            Some(link) => write!(f, " short link {link}"),
+            None => Ok(()),
+        }
+    }
+}
+
+/// The actors of a deadlocked design, in file order, each a line of its own.
+#[derive(Debug, Drop)]
+pub struct Stalled {
+    pub actors: Vec<Progress>,
+}
+
+impl fmt::Display for Stalled {
+    fn fmt<W: fmt::Write>(&self, f: &mut fmt::Formatter<W>) -> fmt::Result {
+        for actor in &self.actors {
+            write!(f, "\n{actor}")?;
+        }
+        Ok(())
+    }
+}
+
+/// Why the program does not do what it was asked for. The text is the number and the name, and then the place.
+#[derive(Debug, Drop, Error)]
+pub enum Fault {
+    #[error("1 OutOfMemory")]
+    OutOfMemory,
+    /// The command line was not read; the text is the parser's own.
+    #[error(transparent)]
+    Words(WordFault),
+    /// What is wrong with the design: 2 to 9, 20 to 28, 49 to 58.
+    #[error(transparent)]
+    File(FileFault),
+    /// No sequence of enabled firings completes a period.
+    #[error("10 Deadlock{0}")]
+    Deadlock(Stalled),
+    #[error("11 BlockingFactor")]
+    BlockingFactor,
+    #[error("12 WorkerCount")]
+    WorkerCount,
+    /// Input lists that are too short: the program makes none.
+    #[error("29 InputLength")]
+    InputLength,
+    /// What is wrong with the WAV file, read or to be written: 34 to 46.
+    #[error(transparent)]
+    Wav(FormatFault),
+    /// A file can't be opened, or its reader failed.
+    #[error("47 Read")]
+    Read,
+    /// A file can't be made, or its writer failed.
+    #[error("48 Write")]
+    Write,
+    /// The graph reads a channel that the WAV file lacks.
+    #[error("59 ChannelsMissing")]
+    ChannelsMissing,
+    /// The output's rate would be no whole number.
+    #[error("60 RateNotWhole")]
+    RateNotWhole,
+    /// Not built yet; `wav` says that it is the WAV file that asks for it.
+    #[error("61 NotYet")]
+    NotYet { wav: bool },
+}
+
+impl From<AllocError> for Fault {
+    ghost from_gives = { λ _ f. f ≡ OutOfMemory };
+
+    fn from(_: AllocError) -> Fault {
+        Fault::OutOfMemory
+    }
+}
+
+impl<T: Drop> From<AllocFailed<T>> for Fault {
+    ghost from_gives = { λ _ f. f ≡ OutOfMemory };
+
+    fn from(_: AllocFailed<T>) -> Fault {
+        Fault::OutOfMemory
+    }
+}
+
+impl From<WordFault> for Fault {
+    fn from(fault: WordFault) -> Fault {
+        match fault {
+            WordFault::OutOfMemory => Fault::OutOfMemory,
+            usage => Fault::Words(usage),
+        }
+    }
+}
+
+impl From<FileFault> for Fault {
+    ghost use Rattle.sdfw.specs.Faults.{of_file};
+
+    ghost from_gives = { λ e f. f ≡ of_file e };
+
+    fn from(fault: FileFault) -> Fault {
+        match fault {
+            FileFault::OutOfMemory => Fault::OutOfMemory,
+            other => Fault::File(other),
+        }
+    }
+}
+
+impl From<WavFault> for Fault {
+    ghost use Rattle.sdfw.specs.Faults.{of_wav};
+
+    ghost from_gives = { λ e f. f ≡ of_wav e };
+
+    fn from(fault: WavFault) -> Fault {
+        match fault {
+            WavFault::OutOfMemory => Fault::OutOfMemory,
+            WavFault::Format(fault) => Fault::Wav(fault),
+            WavFault::Read => Fault::Read,
+            WavFault::Write => Fault::Write,
+        }
+    }
+}
+
+impl From<RunFault> for Fault {
+    ghost use Rattle.sdfw.specs.Faults.{of_run};
+
+    ghost from_gives = { λ e f. f ≡ of_run e };
+
+    fn from(fault: RunFault) -> Fault {
+        match fault {
+            RunFault::OutOfMemory => Fault::OutOfMemory,
+            RunFault::InputLength => Fault::InputLength,
+        }
+    }
+}
+
+/// The exit status of a fault: 2 usage (0 where help was asked for), 3 the design or the plan, 4 the WAV file, 5 a device,
+/// 6 memory.
+pub fn status(fault: &Fault) -> u8
+    ensures { IsStatus fault.now result }
+{
+    match fault {
+        Fault::OutOfMemory | Fault::Words(WordFault::OutOfMemory) => 6,
+        Fault::Words(WordFault::Usage(error)) => { if error.use_stderr() { 2 } else { 0 } }
+        Fault::File(_)
+        | Fault::Deadlock(_)
+        | Fault::BlockingFactor
+        | Fault::WorkerCount
+        | Fault::InputLength => 3,
+        Fault::Wav(_) | Fault::ChannelsMissing | Fault::RateNotWhole => 4,
+        Fault::Read | Fault::Write => 5,
+        Fault::NotYet { wav } => { if *wav { 4 } else { 3 } }
+    }
+}
+
+/// What the program prints of a fault on standard error, each line with its line feed.
+pub fn fault_text(alloc: Global, fault: &Fault) -> Result<String, AllocError> {
+    format!(in alloc; "sdfw: {fault}\n")
+}

@@ -1,0 +1,72 @@
+//! What a command line asks for.
+
+/// Which runnable actor fires next.
+#[derive(Clone, Copy, Debug, PartialEq, Eq)]
+pub enum Policy {
+    /// Passes over the actors in file order.
+    Round,
+    /// The actor that adds least to what the channels hold.
+    Lean,
+}
+
+/// How firings come to the processors of a table.
+#[derive(Clone, Copy, Debug, PartialEq, Eq)]
+pub enum Placement {
+    /// The highest level first, on any free processor.
+    Hu,
+    /// The highest level first, each actor on one processor.
+    Homed,
+    /// The processors that the graph file names.
+    File,
+}
+
+/// What runs a plan.
+#[derive(Clone, Copy, Debug, PartialEq, Eq)]
+pub enum Runner {
+    /// One thread.
+    One,
+    /// The rows of a table, the firings of a row at once.
+    Rows,
+    /// Workers over bounded rings, each at its own pace.
+    Rings,
+}
+
+/// The options of a run, within their limits.
+#[derive(Clone, Copy, Debug, PartialEq, Eq)]
+pub struct Options {
+    /// Periods in a block, 1 to 64.
+    pub blocking: u32,
+    /// Processors, 1 to 16.
+    pub workers: usize,
+    pub policy: Policy,
+    pub placement: Placement,
+    pub runner: Runner,
+    /// Repeated tests in a worker's round, at most 1,000,000.
+    pub patience: u32,
+}
+
+impl Options {
+    /// The options of a command line that names none.
+    pub const DEFAULT: Options = Options {
+        blocking: 1,
+        workers: 1,
+        policy: Policy::Round,
+        placement: Placement::Homed,
+        runner: Runner::One,
+        patience: 1000,
+    };
+}
+
+/// A command, its files by their paths.
+#[derive(Clone, Copy, Debug, PartialEq, Eq)]
+pub enum Words<'a> {
+    Check {
+        graph: &'a str,
+    },
+    Run {
+        graph: &'a str,
+        input: &'a str,
+        output: &'a str,
+        options: Options,
+    },
+}

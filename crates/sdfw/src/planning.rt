@@ -1,0 +1,117 @@
+//! Planning a run: one period of a design by a policy, or why there is none.
+
+ghost use Rattle.std.specs.Prelude.{◌≡◌, ◌<◌, length, map, MatchResult, IfOk};
+ghost use Rattle.std.specs.List.{range_with_len};
+ghost use Rattle.sdf_graph.specs.Rates.{rates};
+ghost use Rattle.sdf_graph.specs.Periods.{IsLeastPeriod};
+ghost use Rattle.sdf_actor.specs.Graphs.{graph_of};
+ghost use Rattle.sdf_kit.specs.Kit.{kit_steps};
+ghost use Rattle.sdfw.specs.Plans.{IsPlanOf, IsPlanFault, IsScheduleBy, IsStuckFault, IsScheduleFault, progress_of, progress_view, short_of};
+
+use crate::fault::{Fault, Progress, Stalled};
+use crate::options::{Options, Policy, Runner};
+use crate::plan::Plan;
+use sdf_file::Design;
+use sdf_graph::{Graph, Repetitions};
+use sdf_sched::class_s::class_s;
+use sdf_sched::{Lean, Period, Round, SchedFault, Stuck};
+use std::alloc::{AllocError, Global};
+
+/// The channel that is told of an actor.
+fn short_channel(short: &[(usize, usize)], actor: usize) -> Option<usize>
+    ensures { result ≡ short_of short.now actor }
+{
+    short
+        .iter()
+        .find(|entry| entry.0 == actor)
+        .map(|entry| entry.1)
+}
+
+/// How far an actor came.
+fn progress_at(
+    alloc: Global,
+    design: &Design,
+    reps: &Repetitions,
+    stuck: &Stuck,
+    actor: usize,
+) -> Result<Progress, AllocError>
+    requires known { actor < length design.now.net.nodes }
+    requires all { length reps.now ≡ length design.now.net.nodes }
+    requires done { length stuck.now.done.items ≡ length design.now.net.nodes }
+    ensures { IfOk result (λ p. progress_view p ≡ progress_of design.now reps.now stuck.now actor) }
+{
+    Ok(Progress {
+        name: String::from_str(alloc, design.name(actor))?,
+        done: stuck.done[actor],
+        of: reps.of(actor),
+        short: short_channel(&stuck.short, actor),
+    })
+}
+
+/// How far each actor came, in file order.
+fn progress(
+    alloc: Global,
+    design: &Design,
+    reps: &Repetitions,
+    stuck: &Stuck,
+) -> Result<Vec<Progress>, AllocError>
+    requires all { length reps.now ≡ length design.now.net.nodes }
+    requires done { length stuck.now.done.items ≡ length design.now.net.nodes }
+    ensures { IfOk result (λ all. map progress_view all.items ≡ map (progress_of design.now reps.now stuck.now) (range_with_len 0 (length design.now.net.nodes))) }
+{
+    let mut all = Vec::new(alloc);
+    for actor in 0..design.net().len() {
+        all.push(progress_at(alloc, design, reps, stuck, actor)?)?;
+    }
+    Ok(all)
+}
+
+/// One period of a graph by a policy.
+fn class_s_by(
+    alloc: Global,
+    graph: &Graph,
+    reps: &Repetitions,
+    policy: Policy,
+) -> Result<Period, SchedFault>
+    requires { IsLeastPeriod (rates graph.now) reps.now }
+    ensures { MatchResult result (IsScheduleBy policy graph.now) (IsStuckFault graph.now reps.now) }
+{
+    match policy {
+        Policy::Round => class_s(alloc, graph, reps, &mut Round::new()),
+        Policy::Lean => class_s(alloc, graph, reps, &mut Lean),
+    }
+}
+
+/// One period of a design by a policy.
+fn schedule(alloc: Global, design: &Design, policy: Policy) -> Result<Period, Fault>
+    ensures { MatchResult result (IsScheduleBy policy (graph_of kit_steps design.now.net)) (IsScheduleFault design.now) }
+{
+    let graph = design.net().graph();
+    let reps = design.net().repetitions();
+    match class_s_by(alloc, graph, reps, policy) {
+        Ok(period) => Ok(period),
+        Err(SchedFault::OutOfMemory) => Err(Fault::OutOfMemory),
+        Err(SchedFault::Deadlock(stuck)) => {
+            let actors = progress(alloc, design, reps, &stuck)?;
+            Err(Fault::Deadlock(Stalled { actors }))
+        }
+    }
+}
+
+/// Plans a run. The tests in order: the runners `rows` and `rings` are not there yet; the blocking factor and the workers are
+/// within their limits; the design has a schedule.
+pub fn plan(alloc: Global, design: &Design, options: &Options) -> Result<Plan, Fault>
+    ensures { MatchResult result (IsPlanOf design.now options.now) (IsPlanFault design.now options.now) }
+{
+    if options.runner != Runner::One {
+        return Err(Fault::NotYet { wav: false });
+    }
+    if options.blocking < 1 || options.blocking > 64 {
+        return Err(Fault::BlockingFactor);
+    }
+    if options.workers < 1 || options.workers > 16 {
+        return Err(Fault::WorkerCount);
+    }
+    let period = schedule(alloc, design, options.policy)?;
+    Ok(Plan::new(options.blocking, options.runner, options.patience, period))
+}
