@@ -6,6 +6,7 @@ use crate::options::{Options, Policy, Runner, Words};
 use crate::planning::plan;
 use crate::process::process;
 use sdf_file::read_design;
+use sdf_run::{RunFault, run_one};
 use sdf_wav::{FromRead, ToWrite, Wav, read_wav, write_wav};
 use std::alloc::Global;
 use std::process::Abort;
@@ -45,6 +46,20 @@ actor = [{ name = "in", kind = "input", channel = 0 }, { name = "add", kind = "a
     { name = "gain", kind = "gain", gain = -32768, shift = 15 }, { name = "out", kind = "output", channel = 0 }]
 link = [{ from = "in", to = "add:0" }, { from = "add", to = "fork" }, { from = "fork:0", to = "out" }, { from = "fork:1", to = "gain" },
     { from = "gain", to = "add:1""#;
+
+/// The same loop with a delay in it, which is no initial sample.
+const DELAYED: &str = r#"format = 1
+actor = [{ name = "in", kind = "input", channel = 0 }, { name = "add", kind = "add", ways = 2 }, { name = "fork", kind = "fork", ways = 2 },
+    { name = "gain", kind = "gain", gain = -32768, shift = 15 }, { name = "late", kind = "delay", length = 1 },
+    { name = "out", kind = "output", channel = 0 }]
+link = [{ from = "in", to = "add:0" }, { from = "add", to = "fork" }, { from = "fork:0", to = "out" }, { from = "fork:1", to = "gain" },
+    { from = "gain", to = "late" }, { from = "late", to = "add:1" }]"#;
+
+/// Each sample turned round.
+const TURNED: &str = r#"format = 1
+actor = [{ name = "in", kind = "input", channel = 0 }, { name = "turn", kind = "gain", gain = -32768, shift = 15 },
+    { name = "out", kind = "output", channel = 0 }]
+link = [{ from = "in", to = "turn" }, { from = "turn", to = "out" }]"#;
 
 /// Two samples wait on the link.
 const INITIAL: &str = r#"format = 1
@@ -215,15 +230,25 @@ fn converts_44100_to_48000(rt: HostRuntime) -> Result<(), Fail> {
     let samples = whole.samples();
     assert_eq!(rt; whole.rate(), 48_000);
     assert_eq!(rt; samples.len(), 320);
-    assert_eq!(rt; &samples[..10], [0, 0, 0, 2, 3, 4, 5, 5, 6, 7].as_slice());
+    assert!(rt; samples.starts_with(&[0, 0, 0, 2, 3, 4, 5, 5, 6, 7]));
     assert_eq!(rt; (samples[159], samples[160], samples[319]), (145, 147, 292));
+    Ok(())
+}
 
+#[test]
+fn fills_up_with_zeros(rt: HostRuntime) -> Result<(), Fail> {
+    let alloc = rt.alloc();
+    let whole = run_mono(alloc, CHAIN, 44_100, &ramp(alloc, 294)?)?;
     let part = run_mono(alloc, CHAIN, 44_100, &ramp(alloc, 148)?)?;
-    let cut = part.samples();
-    assert_eq!(rt; cut.len(), 320);
-    assert_eq!(rt; &cut[..160], &samples[..160]);
-    assert_eq!(rt; &cut[160..163], [147, 147, 147].as_slice());
-    assert!(rt; cut[163..].iter().all(|sample| *sample == 0));
+    assert_eq!(rt; part.frames(), 320);
+    for (i, (cut, kept)) in part.samples().iter().zip(whole.samples()).enumerate() {
+        let expected = match i {
+            0..160 => *kept,
+            160..163 => 147,
+            _ => 0,
+        };
+        assert_eq!(rt; *cut, expected);
+    }
     Ok(())
 }
 
@@ -250,8 +275,35 @@ fn goes_round_loops(rt: HostRuntime) -> Result<(), Fail> {
     )?;
     gives(&rt, alloc, INITIAL, 8000, &[1, 2, 3], 8000, &[7, 8, 1])?;
     gives(&rt, alloc, TWICE, 8000, &[32_767], 8000, &[32_767])?;
+    gives(&rt, alloc, TURNED, 8000, &[-32_768], 8000, &[32_767])?;
     let uneven = run_mono(alloc, UNEVEN, 8000, &[1]);
     fails(&rt, alloc, uneven, 3, "sdfw: 8 Inconsistent link 3\n")
+}
+
+#[test]
+fn delays_are_no_initial_samples(rt: HostRuntime) -> Result<(), Fail> {
+    let alloc = rt.alloc();
+    let stuck = run_mono(alloc, DELAYED, 8000, &[1]);
+    fails(
+        &rt,
+        alloc,
+        stuck,
+        3,
+        "sdfw: 10 Deadlock\nin 1 of 1\nadd 0 of 1 short link 5\nfork 0 of 1 short link 1\ngain 0 of 1 short link 3\nlate 0 of 1 short link 4\nout 0 of 1 short link 2\n",
+    )
+}
+
+#[test]
+fn runs_want_whole_periods(rt: HostRuntime) -> Result<(), Fail> {
+    let alloc = rt.alloc();
+    let design = read_design(alloc, CHAIN.as_bytes(), &[])?;
+    let plan = plan(alloc, &design, &Options::DEFAULT)?;
+    let short = vec![in alloc; vec![in alloc; 0i32; 293]?]?;
+    match run_one(alloc, design.net(), plan.period(), 2, &short) {
+        Err(RunFault::InputLength) => {}
+        _ => assert!(rt; false),
+    }
+    Ok(())
 }
 
 #[test]
