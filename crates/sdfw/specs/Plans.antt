@@ -1,5 +1,5 @@
 -- The plan of a design, or why it has none.
-use Rattle.std.specs.Prelude.{◌≡◌, ◌≢◌, ◌⊎◌, ℕ, ◌≤◌, ◌<◌, ◌==◌, List, [], map, length, Option, option_map, slice_index, slice_index_or, find, String, string_bytes}
+use Rattle.std.specs.Prelude.{◌≡◌, ◌≢◌, ◌⊎◌, ℕ, false, ◌≤◌, ◌<◌, ◌==◌, List, [], map, length, Option, option_map, slice_index, slice_index_or, find, String, string_bytes}
 use Rattle.std.specs.List.{range_with_len}
 use Rattle.sdf_graph.specs.Rates.{Shape, rates}
 use Rattle.sdf_graph.specs.Sequences.{IsDeadlocked}
@@ -100,7 +100,7 @@ IsScheduleFault d f = ⊥
 
 -- the first test that options or the design fail
 abbrev pub IsPlanFault : DesignValue → Options → Fault → Type 0
-IsPlanFault d o (NotYet wav) = o.runner ≢ One
+IsPlanFault d o (NotYet wav) = (wav ≡ false) × (o.runner ≢ One)
 IsPlanFault d o BlockingFactor = (o.runner ≡ One) × (IsBlocking o.blocking → ⊥)
 IsPlanFault d o WorkerCount = (o.runner ≡ One) × IsBlocking o.blocking × (IsWorkers o.workers → ⊥)
 IsPlanFault d o OutOfMemory = Unit {0}
