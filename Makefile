@@ -1,11 +1,11 @@
 # The gate, the proved program, and the programs that show it at work.
 
-.PHONY: build demo test bench clean
+.PHONY: build demo try documents test mutants bench clean
 
-# Proves the program, builds it and leaves it as build/sdfw.
+# Proves every crate, a line each, and leaves the program as build/sdfw.
 build:
-	cd crates/sdfw && rt run -- --help > /dev/null
-	mkdir -p build
+	scripts/prove
+	cd crates/sdfw && rt run -- --help > ../../build/proofs/run.txt 2>&1
 	cp crates/sdfw/out/sdfw build/sdfw
 	@echo "built: build/sdfw"
 
@@ -18,13 +18,27 @@ demo: build
 	build/sdfw run examples/gain/gain.toml examples/gain/sine-mono-44100.wav build/half.wav
 	@echo "made it half as loud: build/half.wav"
 
-# Seconds for a minute of sound, beside a plain loop in C (wants python3 and gcc).
-bench: build
-	python3 bench/run.py
+# What `check` says of the rate converter, by the program with nothing proved: a first look within two minutes.
+CONVERTER = ../../examples/44100-to-48000
+try:
+	cd crates/sdfw && rt try --data graph.toml=$(CONVERTER)/graph.toml --data a.toml=$(CONVERTER)/a.toml \
+		--data b.toml=$(CONVERTER)/b.toml --data c.toml=$(CONVERTER)/c.toml --data d.toml=$(CONVERTER)/d.toml -- check graph.toml
+
+# Whether the tables of kinds and of faults in docs/FORMATS.md are the program's (wants python3).
+documents: build
+	python3 docs/tables.py
 
 # Every proof from nothing, the must-fail edits, the tests, and each program as two compilers build it.
 test:
 	rt ci
+
+# The wrong bodies that the gate does not try: of one crate (CRATE=name), or of all.
+mutants:
+	scripts/mutants $(CRATE)
+
+# Seconds for a minute of sound, beside a plain loop in C (wants python3 and gcc).
+bench: build
+	python3 bench/run.py
 
 clean:
 	rm -rf build crates/*/out

@@ -7,5 +7,5 @@ pub mod Readings
 pub mod Counts
 pub mod Tabling
 pub mod Making
-pub mod Steady
+pub mod Numbers
 pub mod Example

@@ -1,12 +1,13 @@
 //! Actors.
 
-ghost use Rattle.std.specs.Prelude.{◌≡◌, ◌<◌, ℕ, length, IfOk};
+ghost use Rattle.std.specs.Prelude.{◌≡◌, ◌<◌, ◌≤◌, ℕ, length, IfOk};
 ghost use Rattle.sdf_actor.specs.Steps.{Steps, total_in, total_out, PutsFit};
 
+use sdf_limits::MOST_PORTS;
 use std::alloc::{AllocError, Global};
 
-/// An actor: in each firing it takes a fixed number of samples at each input port and puts a fixed number on each output
-/// port (Lee and Messerschmitt 1987). `Net::new` accepts rates from 1 to 1,024.
+/// An actor: it has a cycle of phases, and in each firing takes the number of samples of its phase at each input port and puts
+/// that on each output port (Bilsen and others 1996; with one phase, Lee and Messerschmitt 1987).
 pub trait Actor: Sync + Drop {
     /// A sample.
     type Token: Copy + Send + Sync;
@@ -19,32 +20,47 @@ pub trait Actor: Sync + Drop {
 
     /// How many input ports it has. They are numbered from 0.
     fn inputs(&self) -> usize
-        ensures { result ≡ steps.inputs self.now };
+        ensures value { result ≡ steps.inputs self.now }
+        ensures few { result ≤ MOST_PORTS };
 
     /// How many output ports it has. They are numbered from 0.
     fn outputs(&self) -> usize
-        ensures { result ≡ steps.outputs self.now };
+        ensures value { result ≡ steps.outputs self.now }
+        ensures few { result ≤ MOST_PORTS };
 
-    /// How many samples a firing takes at an input port, the same in each firing.
-    fn take(&self, port: usize) -> u32
-        requires { port < steps.inputs self.now }
-        ensures { (i : ℕ) → result ≡ steps.take self.now port i };
+    /// How many phases its cycle has: 1 to 64 in a net. Firing `i` is at phase `i` modulo that.
+    fn cycle(&self) -> u32
+        ensures { result ≡ steps.cycle self.now };
 
-    /// How many samples a firing puts on an output port, the same in each firing.
-    fn put(&self, port: usize) -> u32
-        requires { port < steps.outputs self.now }
-        ensures { (i : ℕ) → result ≡ steps.put self.now port i };
+    /// How many samples a firing at a phase takes at an input port.
+    fn take(&self, port: usize, phase: u32) -> u32
+        requires port { port < steps.inputs self.now }
+        requires phase { phase < steps.cycle self.now }
+        ensures { result ≡ steps.take self.now port phase };
+
+    /// How many samples a firing at a phase puts on an output port.
+    fn put(&self, port: usize, phase: u32) -> u32
+        requires port { port < steps.outputs self.now }
+        requires phase { phase < steps.cycle self.now }
+        ensures { result ≡ steps.put self.now port phase };
 
     /// Its state before the first firing.
     fn start(&self, alloc: Global) -> Result<Self::State, AllocError>
         ensures { IfOk result (λ s. s ≡ steps.start self.now) };
 
-    /// Fires once. The blocks of all ports stand one after another in port order. It takes no memory.
-    fn fire(&self, state: &mut Self::State, taken: &[Self::Token], put: &mut [Self::Token])
-        requires taken { length taken.now ≡ total_in steps self.now 0 }
-        requires put { length put.old ≡ total_out steps self.now 0 }
-        ensures state { state.new ≡ steps.next self.now state.old taken.now }
-        ensures put { put.new ≡ steps.puts self.now state.old taken.now };
+    /// Fires once, at a phase. The blocks of all ports stand one after another in port order. It takes no memory.
+    fn fire(
+        &self,
+        phase: u32,
+        state: &mut Self::State,
+        taken: &[Self::Token],
+        put: &mut [Self::Token],
+    )
+        requires phase { phase < steps.cycle self.now }
+        requires taken { length taken.now ≡ total_in steps self.now phase }
+        requires put { length put.old ≡ total_out steps self.now phase }
+        ensures state { state.new ≡ steps.next self.now phase state.old taken.now }
+        ensures put { put.new ≡ steps.puts self.now phase state.old taken.now };
 
     /// What a firing puts has its length.
     ghost puts_fit: { (x : Self) → PutsFit steps x };

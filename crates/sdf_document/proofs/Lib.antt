@@ -3,3 +3,4 @@ pub mod Lists
 pub mod Turns
 pub mod Tables
 pub mod FirstSeen
+pub mod Keys

@@ -1,13 +1,17 @@
 -- A whole graph file, with the first test that it fails.
-use Rattle.std.specs.Prelude.{ℕ, suc, ◌+◌, ◌&&◌, not, List, [], ◌∷◌, ◌++◌, codes, map, Option, Some, None, Result, Ok, Err, nat_le, bytes_eq, if◌then◌else◌, string_bytes, String}
+use Rattle.std.specs.Prelude.{ℕ, suc, ◌+◌, ◌&&◌, not, List, [], ◌∷◌, ◌++◌, codes, map, Option, None, Result, Ok, Err, nat_le, bytes_eq, if◌then◌else◌, string_bytes, String}
 use Rattle.std.specs.declared.alloc.Global.{Global}
 use Rattle.std.specs.List.{filter, filter_map, list_any}
 use Rattle.toml.specs.Data.{Data, Items, no_items, item, Members, get_member, as_array}
+use Rattle.toml.specs.View.{items_view}
 use Rattle.sdf_document.specs.declared.entry.Document.{Document}
+use Rattle.sdf_document.specs.declared.document.Parts.{Parts}
 use Rattle.sdf_document.specs.Fault.{top, Fault, actor_count, channel_count, not_toml, missing_key, wrong_type, ◌>>=◌, or_fault}
 use Rattle.sdf_document.specs.Tables.{table_in, format_at, known_keys}
-use Rattle.sdf_document.specs.Lists.{Files}
-use Rattle.sdf_document.specs.Kinds.{KindValue, fir, table}
+use Rattle.sdf_document.specs.Lists.{Files, Lookup, unread, read}
+use Rattle.sdf_limits.specs.declared.TheConstants.{MOST_ACTORS, MOST_CHANNELS}
+use Rattle.sdf_document.specs.declared.entry.KindEntry.{KindEntry}
+use Rattle.sdf_document.specs.declared.entry.KindEntry.TheVariants.{Fir, Table}
 use Rattle.sdf_document.specs.Actors.{ActorValue, actor_view, actor_at}
 use Rattle.sdf_document.specs.Links.{LinkValue, link_view, link_at}
 
@@ -21,14 +25,14 @@ unfoldable pub each_from : {E : Type 0} → (ℕ → List E → Data → Result 
 each_from one i done no_items = Ok done
 each_from one i done (item d ds) = one i done d >>= λ e. each_from one (i + 1) (done ++ e ∷ []) ds
 
-abbrev pub actor_after : Option Files → ℕ → List ActorValue → Data → Result ActorValue Fault
-actor_after files a done d = actor_at a files (names_in done) d
+abbrev pub actor_after : ℕ → Lookup → ℕ → List ActorValue → Data → Result ActorValue Fault
+actor_after format files a done d = actor_at a format files (names_in done) d
 
 abbrev pub link_after : List (List ℕ) → ℕ → List LinkValue → Data → Result LinkValue Fault
 link_after names l done d = link_at l names d
 
-abbrev pub actors_in : Option Files → Items → Result (List ActorValue) Fault
-actors_in files = each_from (actor_after files) 0 []
+abbrev pub actors_in : ℕ → Lookup → Items → Result (List ActorValue) Fault
+actors_in format files = each_from (actor_after format files) 0 []
 
 abbrev pub links_in : List (List ℕ) → Items → Result (List LinkValue) Fault
 links_in names = each_from (link_after names) 0 []
@@ -51,16 +55,24 @@ counted f least most n = if nat_le least n && nat_le n most then Ok tt else Err 
 abbrev pub top_keys : List (List ℕ)
 top_keys = codes "format" ∷ codes "actor" ∷ codes "link" ∷ []
 
--- the items of `actor` and of `link`
-unfoldable pub arrays_at : Members → Result (Items × Items) Fault
-arrays_at ms = do
-  format ← format_at top ms
+-- the format, and the items of `actor` and of `link`
+pub record PartsValue : Type 0 where
+  pub format : ℕ
+  pub actors : Items
+  pub links : Items
+
+abbrev pub parts_view : Parts → PartsValue
+parts_view p = record { format = p.format; actors = items_view p.actors.now; links = items_view p.links.now }
+
+unfoldable pub parts_at : Members → Result PartsValue Fault
+parts_at ms = do
+  format ← format_at top 2 ms
   known ← known_keys top top_keys ms
   actors ← array_at (codes "actor") ms
   links ← array_at (codes "link") ms
-  some_actors ← counted actor_count 1 64 (item_count actors)
-  few_links ← counted channel_count 0 256 (item_count links)
-  Ok (actors, links)
+  some_actors ← counted actor_count 1 MOST_ACTORS (item_count actors)
+  few_links ← counted channel_count 0 MOST_CHANNELS (item_count links)
+  Ok (record { format = format; actors = actors; links = links })
 
 pub record DocumentValue : Type 0 where
   pub actors : List ActorValue
@@ -73,17 +85,17 @@ document_view d = record { actors = map actor_view d.actors.items; links = map l
 unfoldable pub document_of : List ℕ → Files → Result DocumentValue Fault
 document_of bytes files = do
   ms ← or_fault (not_toml top) (table_in bytes)
-  arrays ← arrays_at ms
-  actors ← actors_in (Some files) arrays.0
-  links ← links_in (names_in actors) arrays.1
+  parts ← parts_at ms
+  actors ← actors_in parts.format (read files) parts.actors
+  links ← links_in (names_in actors) parts.links
   Ok (record { actors = actors; links = links })
 
 -- ---- the coefficient files that it names
 
 -- the file that an actor's list stands in
-abbrev pub kind_file : KindValue → Option (List ℕ)
-kind_file (fir up down shift taps) = taps.file
-kind_file (table offset values) = values.file
+abbrev pub kind_file : KindEntry → Option (List ℕ)
+kind_file (Fir up down shift taps) = taps.file
+kind_file (Table offset values) = values.file
 kind_file other = None
 
 abbrev pub actor_file : ActorValue → Option (List ℕ)
@@ -102,8 +114,8 @@ with_name xs x = if list_any (bytes_eq x) xs then xs else xs ++ x ∷ []
 unfoldable pub file_names_of : List ℕ → Result (List (List ℕ)) Fault
 file_names_of bytes = do
   ms ← or_fault (not_toml top) (table_in bytes)
-  arrays ← arrays_at ms
-  actors ← actors_in None arrays.0
+  parts ← parts_at ms
+  actors ← actors_in parts.format unread parts.actors
   Ok (first_seen (filter_map actor_file actors))
 
 -- texts as the bytes that they are

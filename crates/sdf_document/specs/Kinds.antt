@@ -1,148 +1,171 @@
--- The kinds of actors, their keys and their values.
-use Rattle.std.specs.Prelude.{ℕ, ℤ, pos, negsuc, Bool, ◌≤◌, ◌≤ℤ◌, List, [], ◌∷◌, codes, Option, Some, None, Result, Ok, bytes_eq, is_some, if◌then◌else◌}
-use Rattle.toml.specs.Data.{Members, get_member}
-use Rattle.sdf_document.specs.declared.entry.KindWord.{KindWord}
-use Rattle.sdf_document.specs.declared.entry.KindWord.TheVariants as word
-use Rattle.sdf_document.specs.declared.entry.Width.TheVariants as width
+-- The kinds of actors: their words, their keys and their values.
+use Rattle.std.specs.Prelude.{ℕ, ℤ, pos, ◌&&◌, Bool, ◌≤◌, ◌≤ℤ◌, List, [], ◌∷◌, ◌++◌, codes, map, find, Option, Some, None, Result, Ok, Err, IfSome, nat_le, bytes_eq, is_some, if◌then◌else◌}
+use Rattle.toml.specs.Data.{Data, Members, get_member}
+use Rattle.sdf_document.specs.declared.row.KindWord.{KindWord}
+use Rattle.sdf_document.specs.declared.row.KindWord.TheVariants as word
+use Rattle.sdf_document.specs.declared.row.Form.{Form}
+use Rattle.sdf_document.specs.declared.row.Form.TheVariants as forms
+use Rattle.sdf_document.specs.declared.key.KeyValue.{KeyValue}
+use Rattle.sdf_document.specs.declared.key.KeyValue.TheVariants.{Natural, Optional, Integer, List as Listed}
 use Rattle.sdf_document.specs.declared.entry.KindEntry.{KindEntry}
-use Rattle.sdf_document.specs.declared.entry.KindEntry.TheVariants as entry
-use Rattle.sdf_document.specs.Fault.{actor, Fault, unknown_kind, ◌>>=◌, or_fault}
-use Rattle.sdf_document.specs.Values.{text_at, natural_at, natural_or, integer_at}
-use Rattle.sdf_document.specs.Lists.{Files, ListValue, list_view, list_at, IsListed}
+use Rattle.sdf_document.specs.declared.entry.KindEntry.TheVariants.{Input, Output, Fir, Decimate, Interpolate, Add, Fork, Gain, Delay, Table, Deal, Gather}
+use Rattle.sdf_document.specs.Fault.{actor, Fault, missing_key, unknown_kind, ◌>>=◌, or_fault}
+use Rattle.sdf_document.specs.Rows.{KeyRow, row_of, kinds, shared_keys}
+use Rattle.sdf_document.specs.Values.{text_at, within_natural, natural_in, integer_in}
+use Rattle.sdf_document.specs.Lists.{Lookup, ListValue, no_list, list_at, IsListed}
 
--- a kind with its values
-pub data KindValue : Type 0 where
-  -- channel, block
-  input : ℕ → ℕ → KindValue
-  output : ℕ → ℕ → KindValue
-  -- up, down, shift, taps
-  fir : ℕ → ℕ → ℕ → ListValue → KindValue
-  -- factor
-  decimate : ℕ → KindValue
-  interpolate : ℕ → KindValue
-  -- ways
-  add : ℕ → KindValue
-  fork : ℕ → KindValue
-  -- gain, shift
-  gain : ℤ → ℕ → KindValue
-  -- length
-  delay : ℕ → KindValue
-  -- offset, values
-  table : ℤ → ListValue → KindValue
+-- ---- the kind that an actor's table names
 
-abbrev pub kind_view : KindEntry → KindValue
-kind_view (entry.Input channel block) = input channel block
-kind_view (entry.Output channel block) = output channel block
-kind_view (entry.Fir up down shift taps) = fir up down shift (list_view taps)
-kind_view (entry.Decimate factor) = decimate factor
-kind_view (entry.Interpolate factor) = interpolate factor
-kind_view (entry.Add ways) = add ways
-kind_view (entry.Fork ways) = fork ways
-kind_view (entry.Gain g shift) = gain g shift
-kind_view (entry.Delay length) = delay length
-kind_view (entry.Table offset values) = table offset (list_view values)
+abbrev pub is_kind : ℕ → List ℕ → KindWord → Bool
+is_kind format s k = bytes_eq s (row_of k).word && nat_le (row_of k).since format
 
--- the word of a kind
-unfoldable pub word_of : List ℕ → Option KindWord
-word_of s =
-    if bytes_eq s (codes "input") then Some word.Input
-    else if bytes_eq s (codes "output") then Some word.Output
-    else if bytes_eq s (codes "fir") then Some word.Fir
-    else if bytes_eq s (codes "decimate") then Some word.Decimate
-    else if bytes_eq s (codes "interpolate") then Some word.Interpolate
-    else if bytes_eq s (codes "add") then Some word.Add
-    else if bytes_eq s (codes "fork") then Some word.Fork
-    else if bytes_eq s (codes "gain") then Some word.Gain
-    else if bytes_eq s (codes "delay") then Some word.Delay
-    else if bytes_eq s (codes "table") then Some word.Table
-    else None
+-- the kind of a word in a format
+abbrev pub kind_named : ℕ → List ℕ → Option KindWord
+kind_named format s = find (is_kind format s) kinds
 
-unfoldable pub word_at : ℕ → Members → Result KindWord Fault
-word_at a ms = do
+unfoldable pub word_at : ℕ → ℕ → Members → Result KindWord Fault
+word_at a format ms = do
   s ← text_at (actor a) (codes "kind") ms
-  or_fault (unknown_kind a) (word_of s)
+  or_fault (unknown_kind a) (kind_named format s)
 
--- the key of a list: its own where that is there, and else `file`
-abbrev pub list_key : List ℕ → Members → List ℕ
-list_key key ms = if is_some (get_member key ms) then key else codes "file"
+-- ---- its keys
 
--- the keys of a kind
-abbrev pub own_keys : KindWord → Members → List (List ℕ)
-own_keys word.Input ms = codes "channel" ∷ codes "block" ∷ []
-own_keys word.Output ms = codes "channel" ∷ codes "block" ∷ []
-own_keys word.Fir ms = codes "up" ∷ codes "down" ∷ codes "shift" ∷ list_key (codes "taps") ms ∷ []
-own_keys word.Decimate ms = codes "factor" ∷ []
-own_keys word.Interpolate ms = codes "factor" ∷ []
-own_keys word.Add ms = codes "ways" ∷ []
-own_keys word.Fork ms = codes "ways" ∷ []
-own_keys word.Gain ms = codes "gain" ∷ codes "shift" ∷ []
-own_keys word.Delay ms = codes "length" ∷ []
-own_keys word.Table ms = codes "offset" ∷ list_key (codes "values") ms ∷ []
+-- where a key of a row is written: a list at its own key where that is there, and else at `file`
+abbrev pub written_at : Members → List ℕ → Form → List ℕ
+written_at ms name (forms.List most width) = if is_some (get_member name ms) then name else codes "file"
+written_at ms name (forms.Natural least most absent) = name
+written_at ms name (forms.Optional least most) = name
+written_at ms name (forms.Integer least most) = name
 
--- the keys of an actor of a kind
-abbrev pub actor_keys : KindWord → Members → List (List ℕ)
-actor_keys k ms = codes "name" ∷ codes "kind" ∷ codes "processor" ∷ own_keys k ms
+abbrev pub names_of_keys : Members → List KeyRow → List (List ℕ)
+names_of_keys ms ks = map (λ (k : KeyRow). written_at ms k.name k.form) ks
 
--- the file channel of an input or output, and its block
-unfoldable pub channel_at : ℕ → Members → Result (ℕ × ℕ) Fault
-channel_at a ms = do
-  channel ← natural_at a (codes "channel") 0 7 ms
-  block ← natural_or a (codes "block") 1 1024 1 ms
-  Ok (channel, block)
+-- the keys that an actor's table may have, with these of its kind
+abbrev pub actor_keys : List KeyRow → Members → List (List ℕ)
+actor_keys ks ms = (codes "name" ∷ codes "kind" ∷ names_of_keys ms ks) ++ names_of_keys ms shared_keys
 
--- a gain, and the power of two to divide by
-unfoldable pub scale_at : ℕ → Members → Result (ℤ × ℕ) Fault
-scale_at a ms = do
-  g ← integer_at a (codes "gain") (negsuc 32767) (pos 32767) ms
-  shift ← natural_at a (codes "shift") 0 15 ms
-  Ok (g, shift)
+-- ---- the values of keys, in their order
 
--- the values of each kind, in the order of its keys
-unfoldable pub kind_at : ℕ → Option Files → KindWord → Members → Result KindValue Fault
-kind_at a files word.Input ms = do
-  e ← channel_at a ms
-  Ok (input e.0 e.1)
-kind_at a files word.Output ms = do
-  e ← channel_at a ms
-  Ok (output e.0 e.1)
-kind_at a files word.Fir ms = do
-  up ← natural_or a (codes "up") 1 64 1 ms
-  down ← natural_or a (codes "down") 1 64 1 ms
-  shift ← natural_at a (codes "shift") 0 15 ms
-  taps ← list_at a (codes "taps") 1024 width.Bits16 files ms
-  Ok (fir up down shift taps)
-kind_at a files word.Decimate ms = do
-  factor ← natural_at a (codes "factor") 1 64 ms
-  Ok (decimate factor)
-kind_at a files word.Interpolate ms = do
-  factor ← natural_at a (codes "factor") 1 64 ms
-  Ok (interpolate factor)
-kind_at a files word.Add ms = do
-  ways ← natural_at a (codes "ways") 2 16 ms
-  Ok (add ways)
-kind_at a files word.Fork ms = do
-  ways ← natural_at a (codes "ways") 2 16 ms
-  Ok (fork ways)
-kind_at a files word.Gain ms = do
-  e ← scale_at a ms
-  Ok (gain e.0 e.1)
-kind_at a files word.Delay ms = do
-  length ← natural_at a (codes "length") 0 65536 ms
-  Ok (delay length)
-kind_at a files word.Table ms = do
-  offset ← integer_at a (codes "offset") (negsuc 2147483647) (pos 2147483647) ms
-  values ← list_at a (codes "values") 65536 width.Bits32 files ms
-  Ok (table offset values)
+-- a number where its key is absent
+abbrev pub absent_as : ℕ → List ℕ → ℕ → ℕ → Option ℕ → Result ℕ Fault
+absent_as a key least most None = Err (missing_key (actor a) key)
+absent_as a key least most (Some n) = within_natural a key least most (pos n)
 
--- the values of a kind are within their limits, its lists where files were looked into
-abbrev pub IsWithin : Bool → KindValue → Type 0
-IsWithin looked (input channel block) = (channel ≤ 7) × ((1 ≤ block) × (block ≤ 1024))
-IsWithin looked (output channel block) = (channel ≤ 7) × ((1 ≤ block) × (block ≤ 1024))
-IsWithin looked (fir up down shift taps) = ((1 ≤ up) × (up ≤ 64)) × (((1 ≤ down) × (down ≤ 64)) × ((shift ≤ 15) × IsListed looked 1024 width.Bits16 taps.values))
-IsWithin looked (decimate factor) = (1 ≤ factor) × (factor ≤ 64)
-IsWithin looked (interpolate factor) = (1 ≤ factor) × (factor ≤ 64)
-IsWithin looked (add ways) = (2 ≤ ways) × (ways ≤ 16)
-IsWithin looked (fork ways) = (2 ≤ ways) × (ways ≤ 16)
-IsWithin looked (gain g shift) = ((negsuc 32767 ≤ℤ g) × (g ≤ℤ pos 32767)) × (shift ≤ 15)
-IsWithin looked (delay length) = length ≤ 65536
-IsWithin looked (table offset values) = IsListed looked 65536 width.Bits32 values.values
+abbrev pub natural_at : ℕ → List ℕ → ℕ → ℕ → Option ℕ → Option Data → Result ℕ Fault
+natural_at a key least most absent None = absent_as a key least most absent
+natural_at a key least most absent (Some d) = natural_in a key least most d
+
+abbrev pub optional_at : ℕ → List ℕ → ℕ → ℕ → Option Data → Result (Option ℕ) Fault
+optional_at a key least most None = Ok None
+optional_at a key least most (Some d) = natural_in a key least most d >>= λ n. Ok (Some n)
+
+abbrev pub integer_at : ℕ → List ℕ → ℤ → ℤ → Option Data → Result ℤ Fault
+integer_at a key least most None = Err (missing_key (actor a) key)
+integer_at a key least most (Some d) = integer_in a key least most d
+
+abbrev pub formed_at : ℕ → Lookup → List ℕ → Form → Members → Result KeyValue Fault
+formed_at a files key (forms.Natural least most absent) ms = natural_at a key least most absent (get_member key ms) >>= λ n. Ok (Natural n)
+formed_at a files key (forms.Optional least most) ms = optional_at a key least most (get_member key ms) >>= λ n. Ok (Optional n)
+formed_at a files key (forms.Integer least most) ms = integer_at a key least most (get_member key ms) >>= λ z. Ok (Integer z)
+formed_at a files key (forms.List most width) ms = list_at a key most width files ms >>= λ l. Ok (Listed l)
+
+-- the values at the keys of a row
+unfoldable pub values_at : ℕ → Lookup → List KeyRow → Members → Result (List KeyValue) Fault
+values_at a files [] ms = Ok []
+values_at a files (k ∷ ks) ms =
+    formed_at a files k.name k.form ms >>= λ v. values_at a files ks ms >>= λ vs. Ok (v ∷ vs)
+
+-- ---- the typed values
+
+abbrev pub natural : KeyValue → ℕ
+natural (Natural n) = n
+natural (Optional n) = 0
+natural (Integer z) = 0
+natural (Listed l) = 0
+
+abbrev pub optional : KeyValue → Option ℕ
+optional (Natural n) = None
+optional (Optional n) = n
+optional (Integer z) = None
+optional (Listed l) = None
+
+abbrev pub integer : KeyValue → ℤ
+integer (Natural n) = pos 0
+integer (Optional n) = pos 0
+integer (Integer z) = z
+integer (Listed l) = pos 0
+
+abbrev pub list : KeyValue → ListValue
+list (Natural n) = no_list
+list (Optional n) = no_list
+list (Integer z) = no_list
+list (Listed l) = l
+
+abbrev pub first : List KeyValue → KeyValue
+first [] = Optional None
+first (v ∷ vs) = v
+
+abbrev pub rest : List KeyValue → List KeyValue
+rest [] = []
+rest (v ∷ vs) = vs
+
+abbrev pub second : List KeyValue → KeyValue
+second vs = first (rest vs)
+
+abbrev pub third : List KeyValue → KeyValue
+third vs = second (rest vs)
+
+abbrev pub fourth : List KeyValue → KeyValue
+fourth vs = third (rest vs)
+
+-- a kind with the values of its keys, in their order
+abbrev pub entry_of : KindWord → List KeyValue → KindEntry
+entry_of word.Input vs = Input (natural (first vs)) (natural (second vs))
+entry_of word.Output vs = Output (natural (first vs)) (natural (second vs))
+entry_of word.Fir vs = Fir (natural (first vs)) (natural (second vs)) (natural (third vs)) (list (fourth vs))
+entry_of word.Decimate vs = Decimate (natural (first vs))
+entry_of word.Interpolate vs = Interpolate (natural (first vs))
+entry_of word.Add vs = Add (natural (first vs))
+entry_of word.Fork vs = Fork (natural (first vs))
+entry_of word.Gain vs = Gain (integer (first vs)) (natural (second vs))
+entry_of word.Delay vs = Delay (natural (first vs))
+entry_of word.Table vs = Table (integer (first vs)) (list (second vs))
+entry_of word.Deal vs = Deal (natural (first vs)) (natural (second vs))
+entry_of word.Gather vs = Gather (natural (first vs)) (natural (second vs))
+
+unfoldable pub kind_at : ℕ → Lookup → KindWord → Members → Result KindEntry Fault
+kind_at a files k ms = do
+  vs ← values_at a files (row_of k).keys ms
+  Ok (entry_of k vs)
+
+-- ---- limits
+
+-- a value is within the limits of its form, a list where files were looked into
+abbrev pub HasForm : Bool → Form → KeyValue → Type 0
+HasForm looked (forms.Natural least most absent) v = (least ≤ natural v) × (natural v ≤ most)
+HasForm looked (forms.Optional least most) v = IfSome (optional v) (λ n. (least ≤ n) × (n ≤ most))
+HasForm looked (forms.Integer least most) v = (least ≤ℤ integer v) × (integer v ≤ℤ most)
+HasForm looked (forms.List most width) v = IsListed looked most width (list v).values
+
+abbrev pub HaveForms : Bool → List KeyRow → List KeyValue → Type 0
+HaveForms looked [] vs = Unit {0}
+HaveForms looked (k ∷ ks) vs = HasForm looked k.form (first vs) × HaveForms looked ks (rest vs)
+
+-- the row of a kind with its values, and these values
+abbrev pub kind_values : KindEntry → KindWord × List KeyValue
+kind_values (Input channel block) = (word.Input, Natural channel ∷ Natural block ∷ [])
+kind_values (Output channel block) = (word.Output, Natural channel ∷ Natural block ∷ [])
+kind_values (Fir up down shift taps) = (word.Fir, Natural up ∷ Natural down ∷ Natural shift ∷ Listed taps ∷ [])
+kind_values (Decimate factor) = (word.Decimate, Natural factor ∷ [])
+kind_values (Interpolate factor) = (word.Interpolate, Natural factor ∷ [])
+kind_values (Add ways) = (word.Add, Natural ways ∷ [])
+kind_values (Fork ways) = (word.Fork, Natural ways ∷ [])
+kind_values (Gain gain shift) = (word.Gain, Integer gain ∷ Natural shift ∷ [])
+kind_values (Delay length) = (word.Delay, Natural length ∷ [])
+kind_values (Table offset values) = (word.Table, Integer offset ∷ Listed values ∷ [])
+kind_values (Deal ways run) = (word.Deal, Natural ways ∷ Natural run ∷ [])
+kind_values (Gather ways run) = (word.Gather, Natural ways ∷ Natural run ∷ [])
+
+-- the values of a kind are within the limits of its row
+abbrev pub IsWithin : Bool → KindEntry → Type 0
+IsWithin looked k = HaveForms looked (row_of (kind_values k).0).keys (kind_values k).1

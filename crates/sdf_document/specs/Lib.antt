@@ -2,6 +2,7 @@ pub mod Fault
 pub mod Tables
 pub mod Values
 pub mod Names
+pub mod Rows
 pub mod Lists
 pub mod Kinds
 pub mod Actors

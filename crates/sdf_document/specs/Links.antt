@@ -6,7 +6,8 @@ use Rattle.sdf_document.specs.declared.entry.LinkEntry.{LinkEntry}
 use Rattle.sdf_document.specs.Fault.{link, Fault, kit_value, wrong_type, bad_port, ◌>>=◌, or_fault}
 use Rattle.sdf_document.specs.Tables.{known_keys}
 use Rattle.sdf_document.specs.Values.{text_at, integers_at}
-use Rattle.sdf_document.specs.Lists.{is_sample}
+use Rattle.sdf_document.specs.declared.row.Width.TheVariants.{Bits32}
+use Rattle.sdf_document.specs.Lists.{fits}
 
 pub record LinkValue : Type 0 where
   pub from : ℕ × ℕ
@@ -50,7 +51,7 @@ abbrev pub initial_in : ℕ → Option Data → Result (List ℤ) Fault
 initial_in l None = Ok []
 initial_in l (Some d) = do
   zs ← integers_at (link l) (codes "initial") d
-  if list_all is_sample zs then Ok zs else Err (kit_value (link l) (codes "initial"))
+  if list_all (fits Bits32) zs then Ok zs else Err (kit_value (link l) (codes "initial"))
 
 unfoldable pub initial_at : ℕ → Members → Result (List ℤ) Fault
 initial_at l ms = initial_in l (get_member (codes "initial") ms)

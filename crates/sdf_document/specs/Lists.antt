@@ -1,12 +1,12 @@
 -- Lists of whole numbers: in an array of their own, or in a coefficient file.
-use Rattle.std.specs.Prelude.{ℕ, ℤ, pos, negsuc, ◌&&◌, Bool, IsTrue, List, [], ◌∷◌, length, codes, map, Option, Some, None, option_map, Result, Ok, Err, nat_le, int_le, bytes_eq, find, if◌then◌else◌, string_bytes, String, Vec}
-use Rattle.std.specs.Borrow.{Bor}
+use Rattle.std.specs.Prelude.{ℕ, ℤ, pos, negsuc, ◌&&◌, Bool, true, false, IsTrue, List, [], ◌∷◌, length, codes, map, Option, Some, None, option_map, Result, Ok, Err, nat_le, int_le, bytes_eq, find, if◌then◌else◌, string_bytes, String, Vec}
 use Rattle.std.specs.List.{list_all}
 use Rattle.std.specs.declared.alloc.Global.{Global}
 use Rattle.toml.specs.Data.{Data, Members, get_member, as_str}
-use Rattle.sdf_document.specs.declared.entry.Width.{Width}
-use Rattle.sdf_document.specs.declared.entry.Width.TheVariants as width
-use Rattle.sdf_document.specs.declared.entry.ListEntry.{ListEntry}
+use Rattle.sdf_document.specs.declared.row.Width.{Width}
+use Rattle.sdf_document.specs.declared.row.Width.TheVariants.{Bits16, Bits32}
+use Rattle.sdf_document.specs.declared.file.Files.{Files as FilesGiven}
+use Rattle.sdf_document.specs.declared.file.Files.TheVariants as files
 use Rattle.sdf_document.specs.Fault.{actor, file, Fault, kit_value, not_toml, no_file, missing_key, wrong_type, bad_name, ◌>>=◌, or_fault}
 use Rattle.sdf_document.specs.Tables.{table_in, format_at, known_keys}
 use Rattle.sdf_document.specs.Values.{integers_at}
@@ -17,19 +17,30 @@ pub record ListValue : Type 0 where
   pub file : Option (List ℕ)
   pub values : List ℤ
 
-abbrev pub list_view : ListEntry → ListValue
-list_view l = record { file = option_map string_bytes l.file; values = l.values.items }
+abbrev pub no_list : ListValue
+no_list = record { file = None; values = [] }
 
--- coefficient files, each a name and its bytes
+-- ---- coefficient files
+
+-- each a name and its bytes
 abbrev pub Files : Type 0
 Files = List (List ℕ × List ℕ)
 
 abbrev pub files_view : List (String Global × Vec ℕ Global) → Files
 files_view fs = map (λ f. (string_bytes f.0, f.1.items)) fs
 
--- the same where they are looked into
-abbrev pub files_given : Option (Bor (List (String Global × Vec ℕ Global))) → Option Files
-files_given fs = option_map (λ f. files_view f.now) fs
+-- whether files are looked into, and which
+pub data Lookup : Type 0 where
+  unread : Lookup
+  read : Files → Lookup
+
+abbrev pub lookup_of : FilesGiven → Lookup
+lookup_of files.Unread = unread
+lookup_of (files.Given fs) = read (files_view fs.now)
+
+abbrev pub are_read : FilesGiven → Bool
+are_read files.Unread = false
+are_read (files.Given fs) = true
 
 -- the first file of a name
 abbrev pub file_named : List ℕ → Files → Option (List ℕ)
@@ -39,25 +50,25 @@ file_named name files = option_map (λ f. f.1) (find (λ f. bytes_eq name f.0) f
 unfoldable pub coefficients : List ℕ → List ℕ → Result (List ℤ) Fault
 coefficients name bytes = do
   ms ← or_fault (not_toml (file name)) (table_in bytes)
-  format ← format_at (file name) ms
+  format ← format_at (file name) 1 ms
   known ← known_keys (file name) (codes "format" ∷ codes "values" ∷ []) ms
   d ← or_fault (missing_key (file name) (codes "values")) (get_member (codes "values") ms)
   integers_at (file name) (codes "values") d
 
--- one of 16 bits, and of 32
-abbrev pub is_tap : ℤ → Bool
-is_tap z = int_le (negsuc 32767) z && int_le z (pos 32767)
+-- ---- lists
 
-abbrev pub is_sample : ℤ → Bool
-is_sample z = int_le (negsuc 2147483647) z && int_le z (pos 2147483647)
+-- a number of the width
+abbrev pub fits : Width → ℤ → Bool
+fits Bits16 z = int_le (negsuc 32767) z && int_le z (pos 32767)
+fits Bits32 z = int_le (negsuc 2147483647) z && int_le z (pos 2147483647)
 
-abbrev pub fits : Width → List ℤ → Bool
-fits width.Bits16 zs = list_all is_tap zs
-fits width.Bits32 zs = list_all is_sample zs
+-- the numbers, where each is of the width
+abbrev pub all_of : Width → List ℤ → Option (List ℤ)
+all_of w zs = if list_all (fits w) zs then Some zs else None
 
 -- from 1 to most values, each of the width
 abbrev pub is_list : ℕ → Width → List ℤ → Bool
-is_list most w zs = (nat_le 1 (length zs) && nat_le (length zs) most) && fits w zs
+is_list most w zs = (nat_le 1 (length zs) && nat_le (length zs) most) && list_all (fits w) zs
 
 -- the numbers, where they are such a list
 abbrev pub listed : ℕ → List ℕ → ℕ → Width → List ℤ → Result (List ℤ) Fault
@@ -70,17 +81,17 @@ name_in a d = do
   if is_file_name name then Ok name else Err (bad_name (actor a) (codes "file"))
 
 -- the values of the file of a name. Where no files are looked into there are none
-unfoldable pub values_of : ℕ → ℕ → Width → Option Files → List ℕ → Result (List ℤ) Fault
-values_of a most w None name = Ok []
-values_of a most w (Some files) name = do
+unfoldable pub filed_values : ℕ → ℕ → Width → Lookup → List ℕ → Result (List ℤ) Fault
+filed_values a most w unread name = Ok []
+filed_values a most w (read files) name = do
   bytes ← or_fault (no_file name) (file_named name files)
   zs ← coefficients name bytes
   listed a (codes "file") most w zs
 
-unfoldable pub filed_at : ℕ → ℕ → Width → Option Files → Data → Result ListValue Fault
+unfoldable pub filed_at : ℕ → ℕ → Width → Lookup → Data → Result ListValue Fault
 filed_at a most w files d = do
   name ← name_in a d
-  zs ← values_of a most w files name
+  zs ← filed_values a most w files name
   Ok (record { file = Some name; values = zs })
 
 unfoldable pub array_in : ℕ → List ℕ → ℕ → Width → Data → Result ListValue Fault
@@ -89,13 +100,13 @@ array_in a key most w d = do
   own ← listed a key most w zs
   Ok (record { file = None; values = own })
 
-abbrev pub list_in : ℕ → List ℕ → ℕ → Width → Option Files → Option Data → Option Data → Result ListValue Fault
+abbrev pub list_in : ℕ → List ℕ → ℕ → Width → Lookup → Option Data → Option Data → Result ListValue Fault
 list_in a key most w files (Some d) other = array_in a key most w d
 list_in a key most w files None (Some d) = filed_at a most w files d
 list_in a key most w files None None = Err (missing_key (actor a) key)
 
 -- the list of actor a: at its own key, or else in the file that the key `file` names
-unfoldable pub list_at : ℕ → List ℕ → ℕ → Width → Option Files → Members → Result ListValue Fault
+unfoldable pub list_at : ℕ → List ℕ → ℕ → Width → Lookup → Members → Result ListValue Fault
 list_at a key most w files ms = list_in a key most w files (get_member key ms) (get_member (codes "file") ms)
 
 -- where files are looked into, a list that was read is such a list

@@ -1,5 +1,5 @@
 -- Tables, and the keys that may stand in them.
-use Rattle.std.specs.Prelude.{ℕ, ℤ, pos, ◌&&◌, Bool, List, codes, map, Option, Some, None, Result, Ok, Err, int_le, bytes_eq, if◌then◌else◌}
+use Rattle.std.specs.Prelude.{ℕ, ℤ, pos, negsuc, ◌&&◌, List, codes, map, Option, Some, None, Result, Ok, Err, nat_le, bytes_eq, if◌then◌else◌}
 use Rattle.std.specs.Borrow.{Bor}
 use Rattle.std.specs.List.{list_any}
 use Rattle.std.specs.Str.{is_utf8}
@@ -15,15 +15,17 @@ texts_of ts = map (λ t. t.now) ts
 unfoldable pub table_in : List ℕ → Option Members
 table_in bytes = if is_utf8 bytes then parse_document bytes else None
 
-abbrev pub is_one : ℤ → Bool
-is_one z = int_le (pos 1) z && int_le z (pos 1)
+-- one of the formats 1 to the last
+abbrev pub format_in : Place → ℕ → ℤ → Result ℕ Fault
+format_in p last (pos n) = if nat_le 1 n && nat_le n last then Ok n else Err (bad_format p)
+format_in p last (negsuc n) = Err (bad_format p)
 
--- `format` is there, and is the whole number 1
-unfoldable pub format_at : Place → Members → Result (Unit {0}) Fault
-format_at p ms = do
+-- the whole number `format`
+unfoldable pub format_at : Place → ℕ → Members → Result ℕ Fault
+format_at p last ms = do
   d ← or_fault (missing_key p (codes "format")) (get_member (codes "format") ms)
   z ← or_fault (wrong_type p (codes "format")) (as_integer d)
-  if is_one z then Ok tt else Err (bad_format p)
+  format_in p last z
 
 -- the first key that is not among those known. The members of a table stand in the byte order of their keys
 abbrev pub stranger : List (List ℕ) → Members → Option (List ℕ)

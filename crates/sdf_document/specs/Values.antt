@@ -1,5 +1,5 @@
 -- What stands at single keys.
-use Rattle.std.specs.Prelude.{ℕ, ℤ, pos, negsuc, ◌&&◌, List, [], ◌∷◌, Option, Some, None, option_map, option_and_then, Result, Ok, Err, nat_le, int_le, if◌then◌else◌}
+use Rattle.std.specs.Prelude.{ℕ, ℤ, pos, negsuc, ◌&&◌, List, [], ◌∷◌, Option, Some, option_map, option_and_then, Result, Ok, Err, nat_le, int_le, if◌then◌else◌}
 use Rattle.toml.specs.Data.{Data, Items, no_items, item, Members, get_member, as_str, as_integer, as_array}
 use Rattle.sdf_document.specs.Fault.{Place, actor, Fault, kit_value, missing_key, wrong_type, ◌>>=◌, or_fault}
 
@@ -19,24 +19,9 @@ natural_in a key least most d = do
   z ← or_fault (wrong_type (actor a) key) (as_integer d)
   within_natural a key least most z
 
--- the same at a key that has to be there
-unfoldable pub natural_at : ℕ → List ℕ → ℕ → ℕ → Members → Result ℕ Fault
-natural_at a key least most ms = do
-  d ← or_fault (missing_key (actor a) key) (get_member key ms)
-  natural_in a key least most d
-
-abbrev pub given_or : {A : Type 0} → A → (Data → Result A Fault) → Option Data → Result A Fault
-given_or absent read None = Ok absent
-given_or absent read (Some d) = read d
-
--- the same at a key that may be absent
-unfoldable pub natural_or : ℕ → List ℕ → ℕ → ℕ → ℕ → Members → Result ℕ Fault
-natural_or a key least most absent ms = given_or absent (natural_in a key least most) (get_member key ms)
-
 -- a whole number of either sign
-unfoldable pub integer_at : ℕ → List ℕ → ℤ → ℤ → Members → Result ℤ Fault
-integer_at a key least most ms = do
-  d ← or_fault (missing_key (actor a) key) (get_member key ms)
+unfoldable pub integer_in : ℕ → List ℕ → ℤ → ℤ → Data → Result ℤ Fault
+integer_in a key least most d = do
   z ← or_fault (wrong_type (actor a) key) (as_integer d)
   if int_le least z && int_le z most then Ok z else Err (kit_value (actor a) key)
 

@@ -1,19 +1,22 @@
 //! Actors, from their tables.
-ghost use Rattle.std.specs.Prelude.{◌≡◌, is_some, IfOk, false, map, option_map, string_bytes, bytes_eq};
+ghost use Rattle.std.specs.Prelude.{◌≡◌, IfOk, false, map, option_map, string_bytes, bytes_eq};
 ghost use Rattle.std.specs.List.{list_any};
 ghost use Rattle.toml.specs.View.{table_view, view};
 ghost use Rattle.sdf_document.specs.Fault.{Gives};
 ghost use Rattle.sdf_document.specs.Names.{names_of};
-ghost use Rattle.sdf_document.specs.Lists.{files_given};
-ghost use Rattle.sdf_document.specs.Kinds.{kind_view, IsWithin};
-ghost use Rattle.sdf_document.specs.Actors.{name_at, processor_at, actor_at, actor_view};
+ghost use Rattle.sdf_document.specs.Lists.{lookup_of, are_read};
+ghost use Rattle.sdf_document.specs.Kinds.{first, optional, IsWithin};
+ghost use Rattle.sdf_document.specs.Actors.{name_at, actor_at, actor_view};
 
 use crate::entry::ActorEntry;
-use crate::fault::{DocumentFault, Place, ReadFault};
-use crate::kind::{keys_of, kind_at, word_at};
+use crate::fault::{DocumentFault, Place, ReadFault, Spot};
+use crate::file::Files;
+use crate::key::{KeyValue, actor_keys, values_at};
+use crate::kind::{kind_at, optional, word_at};
 use crate::name::is_name;
+use crate::row::{row_of, shared_keys};
 use crate::table::test_keys;
-use crate::value::{at, natural_in, text_of};
+use crate::value::text_at;
 use indexmap::IndexSet;
 use std::alloc::Global;
 use toml::{Table, Value};
@@ -27,7 +30,7 @@ fn name_at<'a>(
     ensures given { Gives (λ s. s.now) result (name_at actor (names_of names.now) (table_view table.now)) }
     ensures fresh { IfOk result (λ s. list_any (bytes_eq s.now) (names_of names.now) ≡ false) }
 {
-    let name = text_of(Place::Actor(actor), "name", table)?;
+    let name = text_at(Place::Actor(actor), "name", table)?;
     if !is_name(name) {
         return Err(ReadFault::Document(DocumentFault::BadName(Place::Actor(actor), "name")));
     }
@@ -37,15 +40,12 @@ fn name_at<'a>(
     Ok(name)
 }
 
-#[tactic(auto, unfolding(crate::specs::Actors::processor_at))]
-fn processor_at(actor: usize, table: &Table) -> Result<Option<usize>, ReadFault>
-    ensures { Gives (λ p. p) result (processor_at actor (table_view table.now)) }
+/// The processor of the values of the keys that all actors may have.
+fn processor_of(values: Vec<KeyValue>) -> Option<usize>
+    ensures { result ≡ optional (first values.items) }
 {
-    let Some(value) = at(table, "processor") else {
-        return Ok(None);
-    };
-    let processor = natural_in(actor, "processor", 0, 15, value)?;
-    Ok(Some(processor as usize))
+    let number = optional(&mut values.into_iter())?;
+    Some(number as usize)
 }
 
 /// The actor of a number, after those of the names.
@@ -53,25 +53,27 @@ fn processor_at(actor: usize, table: &Table) -> Result<Option<usize>, ReadFault>
 pub(crate) fn actor_at(
     alloc: Global,
     actor: usize,
-    files: Option<&[(String, Vec<u8>)]>,
+    format: u32,
+    files: Files<'_>,
     names: &IndexSet<String>,
     value: &Value,
 ) -> Result<ActorEntry, ReadFault>
-    ensures given { Gives actor_view result (actor_at actor (files_given files.entry) (names_of names.now) (view value.now)) }
+    ensures given { Gives actor_view result (actor_at actor format (lookup_of files.entry) (names_of names.now) (view value.now)) }
     ensures fresh { IfOk result (λ a. list_any (bytes_eq (string_bytes a.name)) (names_of names.now) ≡ false) }
-    ensures within { IfOk result (λ a. IsWithin (is_some files.entry) (kind_view a.kind)) }
+    ensures within { IfOk result (λ a. IsWithin (are_read files.entry) a.kind) }
 {
     let Some(table) = value.as_table() else {
         return Err(ReadFault::Document(DocumentFault::WrongType(Place::Actor(actor), "actor")));
     };
     let name = name_at(actor, names, table)?;
-    let word = word_at(actor, table)?;
-    test_keys(Place::Actor(actor), keys_of(word, table), table)?;
+    let word = word_at(actor, format, table)?;
+    let known = actor_keys(alloc, row_of(word).keys, table)?;
+    test_keys(alloc, Spot::Actor(actor), known.as_slice(), table)?;
     let kind = kind_at(alloc, actor, files, word, table)?;
-    let processor = processor_at(actor, table)?;
+    let shared = values_at(alloc, actor, files, shared_keys(), table)?;
     Ok(ActorEntry {
         name: String::from_str(alloc, name)?,
         kind,
-        processor,
+        processor: processor_of(shared),
     })
 }

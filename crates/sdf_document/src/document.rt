@@ -5,35 +5,38 @@ ghost use Rattle.toml.specs.View.{items_view, table_view, view};
 ghost use Rattle.sdf_document.specs.Fault.{Gives};
 ghost use Rattle.sdf_document.specs.Names.{names_of};
 ghost use Rattle.sdf_document.specs.Tables.{texts_of};
-ghost use Rattle.sdf_document.specs.Lists.{files_view, files_given};
-ghost use Rattle.sdf_document.specs.Kinds.{kind_view, IsWithin};
+ghost use Rattle.sdf_document.specs.Lists.{files_view, lookup_of, are_read};
+ghost use Rattle.sdf_document.specs.Kinds.{IsWithin};
 ghost use Rattle.sdf_document.specs.Actors.{actor_view};
 ghost use Rattle.sdf_document.specs.Links.{link_view};
-ghost use Rattle.sdf_document.specs.Document.{names_in, actors_in, links_in, array_at, item_count, top_keys, arrays_at, document_view, document_of, kind_file, actor_file, first_seen, with_name, file_names_of, texts_view};
+ghost use Rattle.sdf_document.specs.Document.{names_in, actors_in, links_in, array_at, item_count, top_keys, parts_at, parts_view, document_view, document_of, kind_file, actor_file, first_seen, with_name, file_names_of, texts_view};
 
 use crate::actor::actor_at;
 use crate::entry::{ActorEntry, Document, KindEntry, LinkEntry};
-use crate::fault::{DocumentFault, Place, ReadFault};
+use crate::fault::{DocumentFault, Place, ReadFault, Spot};
+use crate::file::Files;
 use crate::link::link_at;
-use crate::table::{table_of, test_format, test_keys};
+use crate::table::{format_at, table_in, test_keys};
 use crate::value::at;
 use indexmap::IndexSet;
+use sdf_limits::{MOST_ACTORS, MOST_CHANNELS};
 use std::alloc::{AllocError, Global};
 use toml::{Table, Value};
 
 fn actors_in(
     alloc: Global,
-    files: Option<&[(String, Vec<u8>)]>,
+    format: u32,
+    files: Files<'_>,
     items: &[Value],
 ) -> Result<(Vec<ActorEntry>, IndexSet<String>), ReadFault>
-    ensures given { Gives (λ x. map actor_view x.0.items) result (actors_in (files_given files.entry) (items_view items.now)) }
+    ensures given { Gives (λ x. map actor_view x.0.items) result (actors_in format (lookup_of files.entry) (items_view items.now)) }
     ensures named { IfOk result (λ x. names_of x.1 ≡ names_in (map actor_view x.0.items)) }
-    ensures within { IfOk result (λ x. All (λ a. IsWithin (is_some files.entry) (kind_view a.kind)) x.0.items) }
+    ensures within { IfOk result (λ x. All (λ a. IsWithin (are_read files.entry) a.kind) x.0.items) }
 {
     let mut actors = Vec::new(alloc);
     let mut names = IndexSet::new(alloc);
     for (number, value) in items.iter().enumerate() {
-        let actor = actor_at(alloc, number, files, &names, value)?;
+        let actor = actor_at(alloc, number, format, files, &names, value)?;
         names.insert(actor.name.clone()?)?;
         actors.push(actor)?;
     }
@@ -76,21 +79,33 @@ fn top_keys() -> &'static [&'static str]
     TOP_KEYS.as_slice()
 }
 
-#[tactic(auto, using(crate::proofs::Turns::item_count_view), unfolding(crate::specs::Document::arrays_at))]
-fn arrays_at(table: &Table) -> Result<(&[Value], &[Value]), ReadFault>
-    ensures { Gives (λ x. (items_view x.0.now, items_view x.1.now)) result (arrays_at (table_view table.now)) }
+/// The format of a graph file, and the items of its two arrays.
+#[derive(Clone, Copy)]
+struct Parts<'a> {
+    format: u32,
+    actors: &'a [Value],
+    links: &'a [Value],
+}
+
+#[tactic(auto, using(crate::proofs::Turns::item_count_view), unfolding(crate::specs::Document::parts_at))]
+fn parts_at(alloc: Global, table: &Table) -> Result<Parts<'_>, ReadFault>
+    ensures { Gives parts_view result (parts_at (table_view table.now)) }
 {
-    test_format(Place::Top, table)?;
-    test_keys(Place::Top, top_keys(), table)?;
+    let format = format_at(alloc, Spot::Top, 2, table)?;
+    test_keys(alloc, Spot::Top, top_keys(), table)?;
     let actors = array_at("actor", table)?;
     let links = array_at("link", table)?;
-    if actors.is_empty() || actors.len() > 64 {
+    if actors.is_empty() || actors.len() > MOST_ACTORS {
         return Err(ReadFault::Document(DocumentFault::ActorCount));
     }
-    if links.len() > 256 {
+    if links.len() > MOST_CHANNELS {
         return Err(ReadFault::Document(DocumentFault::ChannelCount));
     }
-    Ok((actors, links))
+    Ok(Parts {
+        format,
+        actors,
+        links,
+    })
 }
 
 /// What a graph file says, or the first test that it fails.
@@ -103,18 +118,18 @@ pub fn read_document(
     files: &[(String, Vec<u8>)],
 ) -> Result<Document, ReadFault>
     ensures given { Gives document_view result (document_of graph.now (files_view files.now)) }
-    ensures within { IfOk result (λ d. All (λ a. IsWithin true (kind_view a.kind)) d.actors.items) }
+    ensures within { IfOk result (λ d. All (λ a. IsWithin true a.kind) d.actors.items) }
 {
-    let table = table_of(alloc, Place::Top, graph)?;
-    let (actors, links) = arrays_at(&table)?;
-    let (actors, names) = actors_in(alloc, Some(files), actors)?;
-    let links = links_in(alloc, &names, links)?;
+    let table = table_in(alloc, Spot::Top, graph)?;
+    let parts = parts_at(alloc, &table)?;
+    let (actors, names) = actors_in(alloc, parts.format, Files::Given(files), parts.actors)?;
+    let links = links_in(alloc, &names, parts.links)?;
     Ok(Document { actors, links })
 }
 
 /// The coefficient file that a kind's list stands in.
 fn file_of(kind: &KindEntry) -> Option<&str>
-    ensures { option_map (λ s. s.now) result ≡ kind_file (kind_view kind.now) }
+    ensures { option_map (λ s. s.now) result ≡ kind_file kind.now }
 {
     let list = match kind {
         KindEntry::Fir { taps, .. } => taps,
@@ -163,8 +178,8 @@ fn names_wanted(alloc: Global, actors: &[ActorEntry]) -> Result<Vec<String>, All
 pub fn file_names(alloc: Global, graph: &[u8]) -> Result<Vec<String>, ReadFault>
     ensures { Gives (λ v. texts_view v.items) result (file_names_of graph.now) }
 {
-    let table = table_of(alloc, Place::Top, graph)?;
-    let (actors, _) = arrays_at(&table)?;
-    let (actors, _) = actors_in(alloc, None, actors)?;
+    let table = table_in(alloc, Spot::Top, graph)?;
+    let parts = parts_at(alloc, &table)?;
+    let (actors, _) = actors_in(alloc, parts.format, Files::Unread, parts.actors)?;
     Ok(names_wanted(alloc, actors.as_slice())?)
 }

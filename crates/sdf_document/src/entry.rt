@@ -1,5 +1,7 @@
 //! What the tables of a graph file say.
 
+use std::marker::Model;
+
 /// A graph file: its actors and links, in file order.
 #[derive(Debug, Drop)]
 pub struct Document {
@@ -19,11 +21,11 @@ pub struct ActorEntry {
 #[derive(Debug, Drop)]
 pub enum KindEntry {
     Input {
-        channel: u8,
+        channel: u32,
         block: u32,
     },
     Output {
-        channel: u8,
+        channel: u32,
         block: u32,
     },
     Fir {
@@ -55,6 +57,15 @@ pub enum KindEntry {
         offset: i32,
         values: ListEntry,
     },
+    /// Only in format 2, as `Gather`.
+    Deal {
+        ways: u32,
+        run: u32,
+    },
+    Gather {
+        ways: u32,
+        run: u32,
+    },
 }
 
 /// A list of whole numbers, and the coefficient file that it stands in, where it has one.
@@ -64,32 +75,19 @@ pub struct ListEntry {
     pub values: Vec<i32>,
 }
 
+impl Model for ListEntry {
+    ghost use Rattle.std.specs.Prelude.{option_map, string_bytes};
+    ghost use Rattle.sdf_document.specs.Lists.{ListValue};
+
+    ghost Value = { ListValue };
+
+    ghost view = { λ l. record { file = option_map string_bytes l.file; values = l.values.items } };
+}
+
 /// A channel between two ends, each an actor and a port, and its initial samples.
 #[derive(Debug, Drop)]
 pub struct LinkEntry {
     pub from: (usize, usize),
     pub to: (usize, usize),
     pub initial: Vec<i32>,
-}
-
-/// The word in the key `kind`.
-#[derive(Clone, Copy, Debug, PartialEq, Eq)]
-pub enum KindWord {
-    Input,
-    Output,
-    Fir,
-    Decimate,
-    Interpolate,
-    Add,
-    Fork,
-    Gain,
-    Delay,
-    Table,
-}
-
-/// What the values of a list fit into.
-#[derive(Clone, Copy, Debug, PartialEq, Eq)]
-pub enum Width {
-    Bits16,
-    Bits32,
 }

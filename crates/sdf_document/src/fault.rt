@@ -1,8 +1,9 @@
 //! Why a graph file was not read.
-ghost use Rattle.std.specs.Prelude.{◌≡◌, Some, ◌++◌, codes, decimal};
+ghost use Rattle.std.specs.Prelude.{◌≡◌, Some, ◌++◌, codes, decimal, IfOk};
+ghost use Rattle.sdf_document.specs.Fault.{place_view, spot_view};
 ghost use Rattle.sdf_document.specs.declared.fault.ReadFault.TheVariants.{OutOfMemory};
 
-use std::alloc::{AllocError, AllocFailed};
+use std::alloc::{AllocError, AllocFailed, Global};
 use std::fmt;
 use thiserror::Error;
 
@@ -26,6 +27,28 @@ impl fmt::Display for Place {
             Place::Actor(number) => write!(f, "actor {number}"),
             Place::Link(number) => write!(f, "link {number}"),
             Place::File(name) => write!(f, "file {name}"),
+        }
+    }
+}
+
+/// A place as long as nothing is wrong there: it owns no name.
+#[derive(Clone, Copy)]
+pub(crate) enum Spot<'a> {
+    Top,
+    Actor(usize),
+    Link(usize),
+    File(&'a str),
+}
+
+impl Spot<'_> {
+    pub(crate) fn place(self, alloc: Global) -> Result<Place, AllocError>
+        ensures { IfOk result (λ p. place_view p ≡ spot_view self.entry) }
+    {
+        match self {
+            Spot::Top => Ok(Place::Top),
+            Spot::Actor(number) => Ok(Place::Actor(number)),
+            Spot::Link(number) => Ok(Place::Link(number)),
+            Spot::File(name) => Ok(Place::File(String::from_str(alloc, name)?)),
         }
     }
 }

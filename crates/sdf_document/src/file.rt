@@ -1,14 +1,21 @@
 //! Coefficient files.
-ghost use Rattle.std.specs.Prelude.{◌≡◌, map, find, option_map, string_bytes, bytes_eq, IfOk, codes, [], ◌∷◌};
+ghost use Rattle.std.specs.Prelude.{◌≡◌, map, find, option_map, string_bytes, bytes_eq, codes, [], ◌∷◌};
 ghost use Rattle.toml.specs.View.{table_view};
-ghost use Rattle.sdf_document.specs.Fault.{Gives, place_view, file};
+ghost use Rattle.sdf_document.specs.Fault.{Gives};
 ghost use Rattle.sdf_document.specs.Tables.{texts_of};
 ghost use Rattle.sdf_document.specs.Lists.{file_named, files_view, coefficients};
 
-use crate::fault::{DocumentFault, Place, ReadFault};
-use crate::table::{table_of, test_format, test_keys};
-use crate::value::{at, integers_of};
-use std::alloc::{AllocError, Global};
+use crate::fault::{DocumentFault, ReadFault, Spot};
+use crate::table::{format_at, table_in, test_keys};
+use crate::value::{at, integers_at};
+use std::alloc::Global;
+
+/// Coefficient files: each a name and its bytes, or none that is looked into.
+#[derive(Clone, Copy)]
+pub(crate) enum Files<'a> {
+    Unread,
+    Given(&'a [(String, Vec<u8>)]),
+}
 
 /// The bytes of the first file of a name.
 pub(crate) fn file_named<'a>(name: &str, files: &'a [(String, Vec<u8>)]) -> Option<&'a [u8]>
@@ -30,23 +37,18 @@ fn file_keys() -> &'static [&'static str]
     FILE_KEYS.as_slice()
 }
 
-fn place_of(alloc: Global, name: &str) -> Result<Place, AllocError>
-    ensures { IfOk result (λ p. place_view p ≡ file name.now) }
-{
-    Ok(Place::File(String::from_str(alloc, name)?))
-}
-
 /// The values that the file of a name lists.
 #[tactic(auto, unfolding(crate::specs::Lists::coefficients))]
 pub(crate) fn coefficients(alloc: Global, name: &str, bytes: &[u8]) -> Result<Vec<i64>, ReadFault>
     ensures { Gives (λ v. v.items) result (coefficients name.now bytes.now) }
 {
-    let table = table_of(alloc, place_of(alloc, name)?, bytes)?;
-    test_format(place_of(alloc, name)?, &table)?;
-    test_keys(place_of(alloc, name)?, file_keys(), &table)?;
+    let spot = Spot::File(name);
+    let table = table_in(alloc, spot, bytes)?;
+    format_at(alloc, spot, 1, &table)?;
+    test_keys(alloc, spot, file_keys(), &table)?;
     let Some(values) = at(&table, "values") else {
-        let place = place_of(alloc, name)?;
+        let place = spot.place(alloc)?;
         return Err(ReadFault::Document(DocumentFault::MissingKey(place, "values")));
     };
-    integers_of(alloc, place_of(alloc, name)?, "values", values)
+    integers_at(alloc, spot, "values", values)
 }

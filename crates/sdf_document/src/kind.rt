@@ -1,140 +1,150 @@
-//! The kinds of actors, their keys and their values.
-ghost use Rattle.std.specs.Prelude.{◌≡◌, is_some, ◌≤◌, ◌≤ℤ◌, pos, negsuc, IfOk};
+//! The kinds of actors, with their values.
+ghost use Rattle.std.specs.Prelude.{◌≡◌, IfOk};
+ghost use Rattle.std.specs.Vec.Iter.{into_iter_items};
 ghost use Rattle.toml.specs.View.{table_view};
 ghost use Rattle.sdf_document.specs.Fault.{Gives};
-ghost use Rattle.sdf_document.specs.Tables.{texts_of};
-ghost use Rattle.sdf_document.specs.Lists.{files_given};
-ghost use Rattle.sdf_document.specs.Kinds.{word_of, word_at, actor_keys, channel_at, scale_at, kind_at, kind_view, IsWithin};
-ghost use Rattle.sdf_document.specs.declared.entry.KindWord.TheVariants as word;
+ghost use Rattle.sdf_document.specs.Lists.{lookup_of, are_read};
+ghost use Rattle.sdf_document.specs.Rows.{row_of};
+ghost use Rattle.sdf_document.specs.Kinds.{is_kind, kind_named, word_at, natural, optional, integer, list, first, rest, entry_of, kind_at, HaveForms, IsWithin};
 
-use crate::entry::{KindEntry, KindWord, Width};
+use crate::entry::{KindEntry, ListEntry};
 use crate::fault::{DocumentFault, Place, ReadFault};
-use crate::list::list_at;
-use crate::value::{at, integer_of, natural_of, natural_or_one, text_of};
+use crate::file::Files;
+use crate::key::{KeyValue, values_at};
+use crate::row::{KindWord, kinds, row_of};
+use crate::value::text_at;
 use std::alloc::Global;
+use std::vec;
 use toml::Table;
 
-#[tactic(auto, unfolding(crate::specs::Kinds::word_of))]
-fn word_of(text: &str) -> Option<KindWord>
-    ensures { result ≡ word_of text.now }
+fn is_kind(format: u32, text: &str, kind: KindWord) -> bool
+    ensures { result ≡ is_kind format text.now kind }
 {
-    match text {
-        "input" => Some(KindWord::Input),
-        "output" => Some(KindWord::Output),
-        "fir" => Some(KindWord::Fir),
-        "decimate" => Some(KindWord::Decimate),
-        "interpolate" => Some(KindWord::Interpolate),
-        "add" => Some(KindWord::Add),
-        "fork" => Some(KindWord::Fork),
-        "gain" => Some(KindWord::Gain),
-        "delay" => Some(KindWord::Delay),
-        "table" => Some(KindWord::Table),
-        _ => None,
-    }
+    let row = row_of(kind);
+    text == row.word && row.since <= format
+}
+
+/// The kind of a word in a format.
+fn kind_named(format: u32, text: &str) -> Option<KindWord>
+    ensures { result ≡ kind_named format text.now }
+{
+    kinds()
+        .iter()
+        .copied()
+        .find(|kind| is_kind(format, text, *kind))
 }
 
 /// The kind that an actor's table names.
 #[tactic(auto, unfolding(crate::specs::Kinds::word_at))]
-pub(crate) fn word_at(actor: usize, table: &Table) -> Result<KindWord, ReadFault>
-    ensures { Gives (λ k. k) result (word_at actor (table_view table.now)) }
+pub(crate) fn word_at(actor: usize, format: u32, table: &Table) -> Result<KindWord, ReadFault>
+    ensures { Gives (λ k. k) result (word_at actor format (table_view table.now)) }
 {
-    let text = text_of(Place::Actor(actor), "kind", table)?;
-    match word_of(text) {
-        Some(word) => Ok(word),
+    let text = text_at(Place::Actor(actor), "kind", table)?;
+    match kind_named(format, text) {
+        Some(kind) => Ok(kind),
         None => Err(ReadFault::Document(DocumentFault::UnknownKind(actor))),
     }
 }
 
-static CHANNEL_KEYS: [&str; 5] = ["name", "kind", "processor", "channel", "block"];
-
-static FIR_KEYS: [&str; 7] = ["name", "kind", "processor", "up", "down", "shift", "taps"];
-
-static FILED_FIR_KEYS: [&str; 7] = ["name", "kind", "processor", "up", "down", "shift", "file"];
-
-static FACTOR_KEYS: [&str; 4] = ["name", "kind", "processor", "factor"];
-
-static WAYS_KEYS: [&str; 4] = ["name", "kind", "processor", "ways"];
-
-static GAIN_KEYS: [&str; 5] = ["name", "kind", "processor", "gain", "shift"];
-
-static DELAY_KEYS: [&str; 4] = ["name", "kind", "processor", "length"];
-
-static TABLE_KEYS: [&str; 5] = ["name", "kind", "processor", "offset", "values"];
-
-static FILED_TABLE_KEYS: [&str; 5] = ["name", "kind", "processor", "offset", "file"];
-
-/// The keys that an actor's table may have.
-pub(crate) fn keys_of(word: KindWord, table: &Table) -> &'static [&'static str]
-    ensures { texts_of result.now ≡ actor_keys word (table_view table.now) }
+/// The next value, where it is a whole number that is not negative.
+fn natural(values: &mut vec::IntoIter<KeyValue>) -> u32
+    ensures value { result ≡ natural (first (into_iter_items values.old)) }
+    ensures left { into_iter_items values.new ≡ rest (into_iter_items values.old) }
 {
-    match word {
-        KindWord::Input | KindWord::Output => CHANNEL_KEYS.as_slice(),
-        KindWord::Fir if at(table, "taps").is_some() => FIR_KEYS.as_slice(),
-        KindWord::Fir => FILED_FIR_KEYS.as_slice(),
-        KindWord::Decimate | KindWord::Interpolate => FACTOR_KEYS.as_slice(),
-        KindWord::Add | KindWord::Fork => WAYS_KEYS.as_slice(),
-        KindWord::Gain => GAIN_KEYS.as_slice(),
-        KindWord::Delay => DELAY_KEYS.as_slice(),
-        KindWord::Table if at(table, "values").is_some() => TABLE_KEYS.as_slice(),
-        KindWord::Table => FILED_TABLE_KEYS.as_slice(),
+    match values.next() {
+        Some(KeyValue::Natural(number)) => number,
+        _ => 0,
     }
 }
 
-#[tactic(auto, unfolding(crate::specs::Kinds::channel_at))]
-fn channel_at(actor: usize, table: &Table) -> Result<(u8, u32), ReadFault>
-    ensures given { Gives (λ e. e) result (channel_at actor (table_view table.now)) }
-    ensures within { IfOk result (λ e. (e.0 ≤ 7) × ((1 ≤ e.1) × (e.1 ≤ 1024))) }
+/// The next value, where it is an optional number.
+pub(crate) fn optional(values: &mut vec::IntoIter<KeyValue>) -> Option<u32>
+    ensures value { result ≡ optional (first (into_iter_items values.old)) }
+    ensures left { into_iter_items values.new ≡ rest (into_iter_items values.old) }
 {
-    let channel = natural_of(actor, "channel", 0, 7, table)?;
-    let block = natural_or_one(actor, "block", 1024, table)?;
-    Ok((channel as u8, block))
+    match values.next() {
+        Some(KeyValue::Optional(number)) => number,
+        _ => None,
+    }
 }
 
-#[tactic(auto, unfolding(crate::specs::Kinds::kind_at))]
-fn fir_of(
-    alloc: Global,
-    actor: usize,
-    files: Option<&[(String, Vec<u8>)]>,
-    table: &Table,
-) -> Result<KindEntry, ReadFault>
-    ensures given { Gives kind_view result (kind_at actor (files_given files.entry) word.Fir (table_view table.now)) }
-    ensures within { IfOk result (λ k. IsWithin (is_some files.entry) (kind_view k)) }
+/// The next value, where it is a whole number of either sign.
+fn integer(values: &mut vec::IntoIter<KeyValue>) -> i32
+    ensures value { result ≡ integer (first (into_iter_items values.old)) }
+    ensures left { into_iter_items values.new ≡ rest (into_iter_items values.old) }
 {
-    let up = natural_or_one(actor, "up", 64, table)?;
-    let down = natural_or_one(actor, "down", 64, table)?;
-    let shift = natural_of(actor, "shift", 0, 15, table)?;
-    let taps = list_at(alloc, actor, "taps", 1024, Width::Bits16, files, table)?;
-    Ok(KindEntry::Fir {
-        up,
-        down,
-        shift,
-        taps,
-    })
+    match values.next() {
+        Some(KeyValue::Integer(number)) => number,
+        _ => 0,
+    }
 }
 
-#[tactic(auto, unfolding(crate::specs::Kinds::scale_at))]
-fn scale_at(actor: usize, table: &Table) -> Result<(i32, u32), ReadFault>
-    ensures given { Gives (λ e. e) result (scale_at actor (table_view table.now)) }
-    ensures within { IfOk result (λ e. ((negsuc 32767 ≤ℤ e.0) × (e.0 ≤ℤ pos 32767)) × (e.1 ≤ 15)) }
+/// The next value, where it is a list.
+fn list(alloc: Global, values: &mut vec::IntoIter<KeyValue>) -> ListEntry
+    ensures value { result ≡ list (first (into_iter_items values.old)) }
+    ensures left { into_iter_items values.new ≡ rest (into_iter_items values.old) }
 {
-    let gain = integer_of(actor, "gain", -32768, 32767, table)?;
-    let shift = natural_of(actor, "shift", 0, 15, table)?;
-    Ok((gain, shift))
+    match values.next() {
+        Some(KeyValue::List(list)) => list,
+        _ => ListEntry {
+            file: None,
+            values: Vec::new(alloc),
+        },
+    }
 }
 
-#[tactic(auto, unfolding(crate::specs::Kinds::kind_at))]
-fn table_of(
-    alloc: Global,
-    actor: usize,
-    files: Option<&[(String, Vec<u8>)]>,
-    table: &Table,
-) -> Result<KindEntry, ReadFault>
-    ensures given { Gives kind_view result (kind_at actor (files_given files.entry) word.Table (table_view table.now)) }
-    ensures within { IfOk result (λ k. IsWithin (is_some files.entry) (kind_view k)) }
+/// A kind with the values of its keys, in their order.
+fn entry_of(alloc: Global, kind: KindWord, mut left: vec::IntoIter<KeyValue>) -> KindEntry
+    ensures { result ≡ entry_of kind (into_iter_items left) }
 {
-    let offset = integer_of(actor, "offset", -2147483648, 2147483647, table)?;
-    let values = list_at(alloc, actor, "values", 65536, Width::Bits32, files, table)?;
-    Ok(KindEntry::Table { offset, values })
+    let values = &mut left;
+    match kind {
+        KindWord::Input => KindEntry::Input {
+            channel: natural(values),
+            block: natural(values),
+        },
+        KindWord::Output => KindEntry::Output {
+            channel: natural(values),
+            block: natural(values),
+        },
+        KindWord::Fir => KindEntry::Fir {
+            up: natural(values),
+            down: natural(values),
+            shift: natural(values),
+            taps: list(alloc, values),
+        },
+        KindWord::Decimate => KindEntry::Decimate {
+            factor: natural(values),
+        },
+        KindWord::Interpolate => KindEntry::Interpolate {
+            factor: natural(values),
+        },
+        KindWord::Add => KindEntry::Add {
+            ways: natural(values),
+        },
+        KindWord::Fork => KindEntry::Fork {
+            ways: natural(values),
+        },
+        KindWord::Gain => KindEntry::Gain {
+            gain: integer(values),
+            shift: natural(values),
+        },
+        KindWord::Delay => KindEntry::Delay {
+            length: natural(values),
+        },
+        KindWord::Table => KindEntry::Table {
+            offset: integer(values),
+            values: list(alloc, values),
+        },
+        KindWord::Deal => KindEntry::Deal {
+            ways: natural(values),
+            run: natural(values),
+        },
+        KindWord::Gather => KindEntry::Gather {
+            ways: natural(values),
+            run: natural(values),
+        },
+    }
 }
 
 /// The values of a kind.
@@ -142,47 +152,13 @@ fn table_of(
 pub(crate) fn kind_at(
     alloc: Global,
     actor: usize,
-    files: Option<&[(String, Vec<u8>)]>,
-    word: KindWord,
+    files: Files<'_>,
+    kind: KindWord,
     table: &Table,
 ) -> Result<KindEntry, ReadFault>
-    ensures given { Gives kind_view result (kind_at actor (files_given files.entry) word (table_view table.now)) }
-    ensures within { IfOk result (λ k. IsWithin (is_some files.entry) (kind_view k)) }
+    ensures given { Gives (λ k. k) result (kind_at actor (lookup_of files.entry) kind (table_view table.now)) }
+    ensures within { IfOk result (λ k. IsWithin (are_read files.entry) k) }
 {
-    match word {
-        KindWord::Input => {
-            let (channel, block) = channel_at(actor, table)?;
-            Ok(KindEntry::Input { channel, block })
-        }
-        KindWord::Output => {
-            let (channel, block) = channel_at(actor, table)?;
-            Ok(KindEntry::Output { channel, block })
-        }
-        KindWord::Fir => fir_of(alloc, actor, files, table),
-        KindWord::Decimate => {
-            let factor = natural_of(actor, "factor", 1, 64, table)?;
-            Ok(KindEntry::Decimate { factor })
-        }
-        KindWord::Interpolate => {
-            let factor = natural_of(actor, "factor", 1, 64, table)?;
-            Ok(KindEntry::Interpolate { factor })
-        }
-        KindWord::Add => {
-            let ways = natural_of(actor, "ways", 2, 16, table)?;
-            Ok(KindEntry::Add { ways })
-        }
-        KindWord::Fork => {
-            let ways = natural_of(actor, "ways", 2, 16, table)?;
-            Ok(KindEntry::Fork { ways })
-        }
-        KindWord::Gain => {
-            let (gain, shift) = scale_at(actor, table)?;
-            Ok(KindEntry::Gain { gain, shift })
-        }
-        KindWord::Delay => {
-            let length = natural_of(actor, "length", 0, 65536, table)?;
-            Ok(KindEntry::Delay { length })
-        }
-        KindWord::Table => table_of(alloc, actor, files, table),
-    }
+    let values = values_at(alloc, actor, files, row_of(kind).keys, table)?;
+    Ok(entry_of(alloc, kind, values.into_iter()))
 }

@@ -1,8 +1,9 @@
 //! Graph files and coefficient files: TOML tables, tested in order, as entries.
 //!
 //! `read_document` gives what a graph file says, or the first test that it fails; `file_names` the coefficient files that
-//! it names. It stands on `toml` and `indexmap` alone. Begin at `entry` and `document`; the definitions, in the order of
-//! the tests, are in `specs/Document.antt`, `specs/Actors.antt`, `specs/Kinds.antt` and `specs/Links.antt`.
+//! it names. It stands on `toml`, `indexmap` and `sdf_limits` alone. Begin at `entry`, `row` and `document`; the
+//! definitions, in the order of the tests, are in `specs/Document.antt`, `specs/Actors.antt`, `specs/Rows.antt`,
+//! `specs/Kinds.antt` and `specs/Links.antt`.
 #![tactic(auto)]
 
 mod actor;
@@ -10,10 +11,12 @@ mod document;
 mod entry;
 mod fault;
 mod file;
+mod key;
 mod kind;
 mod link;
 mod list;
 mod name;
+mod row;
 mod table;
 mod value;
 

@@ -8,10 +8,11 @@ ghost use Rattle.sdf_document.specs.Tables.{texts_of};
 ghost use Rattle.sdf_document.specs.Links.{named, port_of, port_texts, end_of, end_at, initial_at, link_at, link_view, link_keys};
 
 use crate::entry::LinkEntry;
-use crate::fault::{DocumentFault, Place, ReadFault};
-use crate::list::samples_of;
+use crate::fault::{DocumentFault, Place, ReadFault, Spot};
+use crate::list::all_of;
+use crate::row::Width;
 use crate::table::test_keys;
-use crate::value::{at, integers_of, text_of};
+use crate::value::{at, integers_at, text_at};
 use indexmap::IndexSet;
 use std::alloc::Global;
 use toml::{Table, Value};
@@ -67,7 +68,7 @@ fn end_at(
 ) -> Result<(usize, usize), ReadFault>
     ensures { Gives (λ e. e) result (end_at link key.now (names_of names.now) (table_view table.now)) }
 {
-    let text = text_of(Place::Link(link), key, table)?;
+    let text = text_at(Place::Link(link), key, table)?;
     match end_of(names, text) {
         Some(end) => Ok(end),
         None => Err(ReadFault::Document(DocumentFault::BadPort(link, key))),
@@ -81,8 +82,8 @@ fn initial_at(alloc: Global, link: usize, table: &Table) -> Result<Vec<i32>, Rea
     let Some(value) = at(table, "initial") else {
         return Ok(Vec::new(alloc));
     };
-    let numbers = integers_of(alloc, Place::Link(link), "initial", value)?;
-    match samples_of(alloc, numbers.as_slice())? {
+    let numbers = integers_at(alloc, Spot::Link(link), "initial", value)?;
+    match all_of(alloc, Width::Bits32, numbers.as_slice())? {
         Some(samples) => Ok(samples),
         None => Err(ReadFault::Document(DocumentFault::KitValue(Place::Link(link), "initial"))),
     }
@@ -109,7 +110,7 @@ pub(crate) fn link_at(
     let Some(table) = value.as_table() else {
         return Err(ReadFault::Document(DocumentFault::WrongType(Place::Link(link), "link")));
     };
-    test_keys(Place::Link(link), link_keys(), table)?;
+    test_keys(alloc, Spot::Link(link), link_keys(), table)?;
     let from = end_at(link, "from", names, table)?;
     let to = end_at(link, "to", names, table)?;
     let initial = initial_at(alloc, link, table)?;

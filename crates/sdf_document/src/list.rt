@@ -1,46 +1,46 @@
 //! Lists of whole numbers: in an array of their own, or in a coefficient file.
-ghost use Rattle.std.specs.Prelude.{◌≡◌, is_some, ◌&&◌, map, option_map, length, nat_le, int_le, Some, None, IfOk, IsTrue, if◌then◌else◌};
+ghost use Rattle.std.specs.Prelude.{◌≡◌, ◌&&◌, map, option_map, length, nat_le, int_le, Some, None, IfOk, IsTrue, if◌then◌else◌};
 ghost use Rattle.std.specs.List.{list_all};
 ghost use Rattle.toml.specs.View.{table_view, view};
 ghost use Rattle.sdf_document.specs.Fault.{Gives};
-ghost use Rattle.sdf_document.specs.Lists.{files_given, is_tap, is_sample, fits, is_list, listed, name_in, values_of, filed_at, array_in, list_at, list_view, IsListed};
+ghost use Rattle.sdf_document.specs.Lists.{lookup_of, are_read, fits, all_of, is_list, listed, name_in, filed_values, filed_at, array_in, list_at, IsListed};
 
-use crate::entry::{ListEntry, Width};
-use crate::fault::{DocumentFault, Place, ReadFault};
-use crate::file::{coefficients, file_named};
+use crate::entry::ListEntry;
+use crate::fault::{DocumentFault, Place, ReadFault, Spot};
+use crate::file::{Files, coefficients, file_named};
 use crate::name::is_file_name;
-use crate::value::{at, integers_of};
+use crate::row::Width;
+use crate::value::{at, integers_at};
 use std::alloc::{AllocError, Global};
 use toml::{Table, Value};
 
-/// The same numbers, where each has 16 bits.
-fn taps_of(alloc: Global, numbers: &[i64]) -> Result<Option<Vec<i32>>, AllocError>
-    ensures { IfOk result (λ r. option_map (λ v. v.items) r ≡ (if list_all is_tap numbers.now then Some numbers.now else None)) }
+/// The number, where it is of the width.
+fn fitting(width: Width, number: i64) -> Option<i32>
+    ensures { result ≡ (if fits width number then Some number else None) }
 {
-    let mut taps = Vec::new(alloc);
-    for number in numbers {
-        if -32768 <= *number && *number <= 32767 {
-            taps.push(*number as i32)?;
-        } else {
-            return Ok(None);
-        }
+    match width {
+        Width::Bits16 if -32768 <= number && number <= 32767 => Some(number as i32),
+        Width::Bits32 if -2147483648 <= number && number <= 2147483647 => Some(number as i32),
+        _ => None,
     }
-    Ok(Some(taps))
 }
 
-/// The same numbers, where each has 32 bits.
-pub(crate) fn samples_of(alloc: Global, numbers: &[i64]) -> Result<Option<Vec<i32>>, AllocError>
-    ensures { IfOk result (λ r. option_map (λ v. v.items) r ≡ (if list_all is_sample numbers.now then Some numbers.now else None)) }
+/// The same numbers, where each is of the width.
+pub(crate) fn all_of(
+    alloc: Global,
+    width: Width,
+    numbers: &[i64],
+) -> Result<Option<Vec<i32>>, AllocError>
+    ensures { IfOk result (λ r. option_map (λ v. v.items) r ≡ all_of width numbers.now) }
 {
-    let mut samples = Vec::new(alloc);
+    let mut values = Vec::new(alloc);
     for number in numbers {
-        if -2147483648 <= *number && *number <= 2147483647 {
-            samples.push(*number as i32)?;
-        } else {
-            return Ok(None);
+        match fitting(width, *number) {
+            Some(value) => values.push(value)?,
+            None => return Ok(None),
         }
     }
-    Ok(Some(samples))
+    Ok(Some(values))
 }
 
 fn list_of(
@@ -54,10 +54,7 @@ fn list_of(
     if numbers.is_empty() || numbers.len() > most {
         return Ok(None);
     }
-    match width {
-        Width::Bits16 => taps_of(alloc, numbers),
-        Width::Bits32 => samples_of(alloc, numbers),
-    }
+    all_of(alloc, width, numbers)
 }
 
 /// The numbers as a list of an actor, named by its key where they are none.
@@ -93,19 +90,19 @@ fn name_in(actor: usize, value: &Value) -> Result<&str, ReadFault>
 }
 
 /// The values of the file of a name, and none where no files are looked into.
-#[tactic(auto, unfolding(crate::specs::Lists::values_of))]
-fn values_of(
+#[tactic(auto, unfolding(crate::specs::Lists::filed_values))]
+fn filed_values(
     alloc: Global,
     actor: usize,
     most: usize,
     width: Width,
-    files: Option<&[(String, Vec<u8>)]>,
+    files: Files<'_>,
     name: &str,
 ) -> Result<Vec<i32>, ReadFault>
-    ensures given { Gives (λ v. v.items) result (values_of actor most width (files_given files.entry) name.now) }
-    ensures within { IfOk result (λ v. IsListed (is_some files.entry) most width v.items) }
+    ensures given { Gives (λ v. v.items) result (filed_values actor most width (lookup_of files.entry) name.now) }
+    ensures within { IfOk result (λ v. IsListed (are_read files.entry) most width v.items) }
 {
-    let Some(files) = files else {
+    let Files::Given(files) = files else {
         return Ok(Vec::new(alloc));
     };
     let Some(bytes) = file_named(name, files) else {
@@ -121,14 +118,14 @@ fn filed_at(
     actor: usize,
     most: usize,
     width: Width,
-    files: Option<&[(String, Vec<u8>)]>,
+    files: Files<'_>,
     value: &Value,
 ) -> Result<ListEntry, ReadFault>
-    ensures given { Gives list_view result (filed_at actor most width (files_given files.entry) (view value.now)) }
-    ensures within { IfOk result (λ l. IsListed (is_some files.entry) most width l.values.items) }
+    ensures given { Gives (λ l. l) result (filed_at actor most width (lookup_of files.entry) (view value.now)) }
+    ensures within { IfOk result (λ l. IsListed (are_read files.entry) most width l.values) }
 {
     let name = name_in(actor, value)?;
-    let values = values_of(alloc, actor, most, width, files, name)?;
+    let values = filed_values(alloc, actor, most, width, files, name)?;
     Ok(ListEntry {
         file: Some(String::from_str(alloc, name)?),
         values,
@@ -144,10 +141,10 @@ fn array_in(
     width: Width,
     value: &Value,
 ) -> Result<ListEntry, ReadFault>
-    ensures given { Gives list_view result (array_in actor key.now most width (view value.now)) }
-    ensures within { IfOk result (λ l. IsTrue (is_list most width l.values.items)) }
+    ensures given { Gives (λ l. l) result (array_in actor key.now most width (view value.now)) }
+    ensures within { IfOk result (λ l. IsTrue (is_list most width l.values)) }
 {
-    let numbers = integers_of(alloc, Place::Actor(actor), key, value)?;
+    let numbers = integers_at(alloc, Spot::Actor(actor), key, value)?;
     let values = listed(alloc, actor, key, most, width, numbers.as_slice())?;
     Ok(ListEntry { file: None, values })
 }
@@ -160,11 +157,11 @@ pub(crate) fn list_at(
     key: &'static str,
     most: usize,
     width: Width,
-    files: Option<&[(String, Vec<u8>)]>,
+    files: Files<'_>,
     table: &Table,
 ) -> Result<ListEntry, ReadFault>
-    ensures given { Gives list_view result (list_at actor key.now most width (files_given files.entry) (table_view table.now)) }
-    ensures within { IfOk result (λ l. IsListed (is_some files.entry) most width l.values.items) }
+    ensures given { Gives (λ l. l) result (list_at actor key.now most width (lookup_of files.entry) (table_view table.now)) }
+    ensures within { IfOk result (λ l. IsListed (are_read files.entry) most width l.values) }
 {
     if let Some(value) = at(table, key) {
         return array_in(alloc, actor, key, most, width, value);

@@ -2,39 +2,50 @@
 ghost use Rattle.std.specs.Prelude.{◌≡◌, map, bytes_eq};
 ghost use Rattle.std.specs.List.{list_any};
 ghost use Rattle.toml.specs.View.{table_view};
-ghost use Rattle.sdf_document.specs.Fault.{Gives, place_view, or_fault, not_toml};
+ghost use Rattle.sdf_document.specs.Fault.{Gives, spot_view, or_fault, not_toml};
 ghost use Rattle.sdf_document.specs.Tables.{texts_of, table_in, format_at, known_keys};
 
-use crate::fault::{DocumentFault, Place, ReadFault};
+use crate::fault::{DocumentFault, ReadFault, Spot};
 use crate::value::at;
 use std::alloc::Global;
 use toml::Table;
 
 /// The table that the bytes are.
-pub(crate) fn table_of(alloc: Global, place: Place, bytes: &[u8]) -> Result<Table, ReadFault>
-    ensures { Gives table_view result (or_fault (not_toml (place_view place)) (table_in bytes.now)) }
+pub(crate) fn table_in(alloc: Global, spot: Spot<'_>, bytes: &[u8]) -> Result<Table, ReadFault>
+    ensures { Gives table_view result (or_fault (not_toml (spot_view spot.entry)) (table_in bytes.now)) }
 {
     match toml::table_from_slice(alloc, bytes) {
         Ok(table) => Ok(table),
         Err(error) if error.is_memory() => Err(ReadFault::OutOfMemory),
-        Err(_) => Err(ReadFault::Document(DocumentFault::NotToml(place))),
+        Err(_) => {
+            let place = spot.place(alloc)?;
+            Err(ReadFault::Document(DocumentFault::NotToml(place)))
+        }
     }
 }
 
-/// Refuses a file that is not of format 1.
+/// The format of a file, one of 1 to `last`.
 #[tactic(auto, unfolding(crate::specs::Tables::format_at))]
-pub(crate) fn test_format(place: Place, table: &Table) -> Result<(), ReadFault>
-    ensures { Gives (λ x. x) result (format_at (place_view place) (table_view table.now)) }
+pub(crate) fn format_at(
+    alloc: Global,
+    spot: Spot<'_>,
+    last: u32,
+    table: &Table,
+) -> Result<u32, ReadFault>
+    ensures { Gives (λ n. n) result (format_at (spot_view spot.entry) last (table_view table.now)) }
 {
     let Some(value) = at(table, "format") else {
+        let place = spot.place(alloc)?;
         return Err(ReadFault::Document(DocumentFault::MissingKey(place, "format")));
     };
     let Some(format) = value.as_integer() else {
+        let place = spot.place(alloc)?;
         return Err(ReadFault::Document(DocumentFault::WrongType(place, "format")));
     };
-    if format == 1 {
-        Ok(())
+    if 1 <= format && format <= i64::from(last) {
+        Ok(format as u32)
     } else {
+        let place = spot.place(alloc)?;
         Err(ReadFault::Document(DocumentFault::Format(place)))
     }
 }
@@ -47,11 +58,17 @@ fn is_known(known: &[&str], key: &str) -> bool
 
 /// Refuses the least key that is not known.
 #[tactic(auto, using(crate::proofs::Names::list_any_texts), unfolding(crate::specs::Tables::known_keys))]
-pub(crate) fn test_keys(place: Place, known: &[&str], table: &Table) -> Result<(), ReadFault>
-    ensures { Gives (λ x. x) result (known_keys (place_view place) (texts_of known.now) (table_view table.now)) }
+pub(crate) fn test_keys(
+    alloc: Global,
+    spot: Spot<'_>,
+    known: &[&str],
+    table: &Table,
+) -> Result<(), ReadFault>
+    ensures { Gives (λ x. x) result (known_keys (spot_view spot.entry) (texts_of known.now) (table_view table.now)) }
 {
     for (key, _) in table {
         if !is_known(known, key.as_str()) {
+            let place = spot.place(alloc)?;
             return Err(ReadFault::Document(DocumentFault::UnknownKey(place, key.clone()?)));
         }
     }

@@ -1,7 +1,10 @@
+mod formats;
+mod rows;
+
 use crate::{Document, KindEntry, ReadFault, file_names, read_document};
 use std::test::Fail;
 
-const GRAPH: &str = "format = 1
+pub(crate) const GRAPH: &str = "format = 1
 [[actor]]
 name = \"in\"
 kind = \"input\"
@@ -26,7 +29,7 @@ to = \"out\"
 initial = [1, -2]
 ";
 
-const GAIN: &str = "kind = \"gain\"\ngain = -32768\nshift = 15";
+pub(crate) const GAIN: &str = "kind = \"gain\"\ngain = -32768\nshift = 15";
 
 const FILED: &str = "kind = \"fir\"\nshift = 15\nfile = \"h.toml\"";
 
@@ -69,7 +72,7 @@ fn fault_with(
     }
 }
 
-fn fault(rt: &HostRuntime, old: &str, new: &str) -> Result<String, Fail> {
+pub(crate) fn fault(rt: &HostRuntime, old: &str, new: &str) -> Result<String, Fail> {
     fault_with(rt, &[], old, new)
 }
 
@@ -120,7 +123,9 @@ fn reads_each_kind(rt: HostRuntime) -> Result<(), Fail> {
 #[test]
 fn names_the_fault_and_its_place(rt: HostRuntime) -> Result<(), Fail> {
     for (old, new, text) in [
-        ("format = 1", "format = 2", "50 Format top"),
+        ("format = 1", "format = 3", "50 Format top"),
+        ("format = 1", "format = 0", "50 Format top"),
+        ("format = 1", "format = -1", "50 Format top"),
         ("format = 1", "", "52 MissingKey top key format"),
         ("format = 1", "format = 1.0", "53 WrongType top key format"),
         ("format = 1", "format == 1", "49 NotToml top"),
@@ -209,7 +214,7 @@ fn names_the_fault_and_its_place(rt: HostRuntime) -> Result<(), Fail> {
     Ok(())
 }
 
-fn fault_of(rt: &HostRuntime, graph: &[u8]) -> Result<String, Fail> {
+pub(crate) fn fault_of(rt: &HostRuntime, graph: &[u8]) -> Result<String, Fail> {
     match read_document(rt.alloc(), graph, &[]) {
         Ok(_) => Err(Fail::from("read")),
         Err(fault) => Ok(fault.to_string(rt.alloc())?),
@@ -232,6 +237,34 @@ fn names_the_faults_of_whole_files(rt: HostRuntime) -> Result<(), Fail> {
         assert_eq!(rt; fault_of(&rt, graph.as_bytes())?.as_str(), text);
     }
     assert_eq!(rt; fault_of(&rt, &[0xFF])?.as_str(), "49 NotToml top");
+    Ok(())
+}
+
+/// A graph of so many actors and links, none of them a table.
+fn counted(rt: &HostRuntime, actors: usize, links: usize) -> Result<String, Fail> {
+    let mut text = String::from_str(rt.alloc(), "format = 1\nactor = [")?;
+    for _ in 0..actors {
+        text.push_str("0, ")?;
+    }
+    text.push_str("]\nlink = [")?;
+    for _ in 0..links {
+        text.push_str("0, ")?;
+    }
+    text.push_str("]\n")?;
+    Ok(text)
+}
+
+#[test]
+fn counts_actors_and_links(rt: HostRuntime) -> Result<(), Fail> {
+    for (actors, links, text) in [
+        (0, 257, "2 ActorCount"),
+        (65, 257, "2 ActorCount"),
+        (64, 257, "3 ChannelCount"),
+        (64, 256, "53 WrongType actor 0 key actor"),
+    ] {
+        let graph = counted(&rt, actors, links)?;
+        assert_eq!(rt; fault_of(&rt, graph.as_bytes())?.as_str(), text);
+    }
     Ok(())
 }
 
@@ -359,7 +392,11 @@ fn names_wanted_files_once(rt: HostRuntime) -> Result<(), Fail> {
 fn tells_memory_from_faults(rt: HostRuntime) -> Result<(), Fail> {
     match read_document(rt.alloc(), GRAPH.as_bytes(), &[]) {
         Ok(_) => Ok(()),
-        Err(ReadFault::OutOfMemory) => Ok(()),
+        Err(ReadFault::OutOfMemory) => {
+            let text = ReadFault::OutOfMemory.to_string(rt.alloc())?;
+            assert_eq!(rt; text.as_str(), "1 OutOfMemory");
+            Ok(())
+        }
         Err(_) => Err(Fail::from("a lawful graph has a fault")),
     }
 }

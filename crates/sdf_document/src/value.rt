@@ -2,10 +2,10 @@
 ghost use Rattle.std.specs.Prelude.{◌≡◌, ◌≤◌, ◌≤ℤ◌, option_map, IfOk};
 ghost use Rattle.toml.specs.Data.{get_member};
 ghost use Rattle.toml.specs.View.{table_view, view, items_view};
-ghost use Rattle.sdf_document.specs.Fault.{Gives, place_view};
-ghost use Rattle.sdf_document.specs.Values.{text_at, natural_in, natural_at, natural_or, integer_at, integers_in, integers_at};
+ghost use Rattle.sdf_document.specs.Fault.{Gives, place_view, spot_view};
+ghost use Rattle.sdf_document.specs.Values.{text_at, natural_in, integer_in, integers_in, integers_at};
 
-use crate::fault::{DocumentFault, Place, ReadFault};
+use crate::fault::{DocumentFault, Place, ReadFault, Spot};
 use std::alloc::{AllocError, Global};
 use toml::{Table, Value};
 
@@ -18,7 +18,7 @@ pub(crate) fn at<'a>(table: &'a Table, key: &str) -> Option<&'a Value>
 
 /// The text at a key that has to be there.
 #[tactic(auto, unfolding(crate::specs::Values::text_at))]
-pub(crate) fn text_of<'a>(
+pub(crate) fn text_at<'a>(
     place: Place,
     key: &'static str,
     table: &'a Table,
@@ -56,57 +56,18 @@ pub(crate) fn natural_in(
     }
 }
 
-/// The same at a key that has to be there.
-#[tactic(auto, unfolding(crate::specs::Values::natural_at))]
-pub(crate) fn natural_of(
-    actor: usize,
-    key: &'static str,
-    least: u32,
-    most: u32,
-    table: &Table,
-) -> Result<u32, ReadFault>
-    ensures given { Gives (λ n. n) result (natural_at actor key.now least most (table_view table.now)) }
-    ensures within { IfOk result (λ n. (least ≤ n) × (n ≤ most)) }
-{
-    match at(table, key) {
-        Some(value) => natural_in(actor, key, least, most, value),
-        None => Err(ReadFault::Document(DocumentFault::MissingKey(Place::Actor(actor), key))),
-    }
-}
-
-/// The same at a key that may be absent: 1 then.
-#[tactic(auto, unfolding(crate::specs::Values::natural_or))]
-pub(crate) fn natural_or_one(
-    actor: usize,
-    key: &'static str,
-    most: u32,
-    table: &Table,
-) -> Result<u32, ReadFault>
-    requires { 1 ≤ most }
-    ensures given { Gives (λ n. n) result (natural_or actor key.now 1 most 1 (table_view table.now)) }
-    ensures within { IfOk result (λ n. (1 ≤ n) × (n ≤ most)) }
-{
-    match at(table, key) {
-        Some(value) => natural_in(actor, key, 1, most, value),
-        None => Ok(1),
-    }
-}
-
-/// A whole number of either sign, at a key of an actor that has to be there.
-#[tactic(auto, unfolding(crate::specs::Values::integer_at))]
-pub(crate) fn integer_of(
+/// A whole number of either sign, at a key of an actor.
+#[tactic(auto, unfolding(crate::specs::Values::integer_in))]
+pub(crate) fn integer_in(
     actor: usize,
     key: &'static str,
     least: i32,
     most: i32,
-    table: &Table,
+    value: &Value,
 ) -> Result<i32, ReadFault>
-    ensures given { Gives (λ n. n) result (integer_at actor key.now least most (table_view table.now)) }
+    ensures given { Gives (λ n. n) result (integer_in actor key.now least most (view value.now)) }
     ensures within { IfOk result (λ n. (least ≤ℤ n) × (n ≤ℤ most)) }
 {
-    let Some(value) = at(table, key) else {
-        return Err(ReadFault::Document(DocumentFault::MissingKey(Place::Actor(actor), key)));
-    };
     let Some(number) = value.as_integer() else {
         return Err(ReadFault::Document(DocumentFault::WrongType(Place::Actor(actor), key)));
     };
@@ -133,19 +94,23 @@ fn integers_in(alloc: Global, items: &[Value]) -> Result<Option<Vec<i64>>, Alloc
 
 /// The numbers of an array, where each item is a whole one.
 #[tactic(auto, unfolding(crate::specs::Values::integers_at))]
-pub(crate) fn integers_of(
+pub(crate) fn integers_at(
     alloc: Global,
-    place: Place,
+    spot: Spot<'_>,
     key: &'static str,
     value: &Value,
 ) -> Result<Vec<i64>, ReadFault>
-    ensures { Gives (λ v. v.items) result (integers_at (place_view place) key.now (view value.now)) }
+    ensures { Gives (λ v. v.items) result (integers_at (spot_view spot.entry) key.now (view value.now)) }
 {
     let Some(array) = value.as_array() else {
+        let place = spot.place(alloc)?;
         return Err(ReadFault::Document(DocumentFault::WrongType(place, key)));
     };
     match integers_in(alloc, array.as_slice())? {
         Some(numbers) => Ok(numbers),
-        None => Err(ReadFault::Document(DocumentFault::WrongType(place, key))),
+        None => {
+            let place = spot.place(alloc)?;
+            Err(ReadFault::Document(DocumentFault::WrongType(place, key)))
+        }
     }
 }

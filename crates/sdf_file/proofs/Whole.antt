@@ -1,15 +1,18 @@
 -- What holds of every design holds of the design of a document.
+use Rattle.sdf_limits.specs.declared.TheConstants.{MOST_CHANNEL}
 use Rattle.std.proofs.Common.{◌≤◌, ◌+◌, ℕ, ℤ, List, [], ◌∷◌, map, max, true, arith}
 use Rattle.std.specs.List.{All, fold}
 use Rattle.std.specs.Option.{option_map_or}
 use Rattle.std.proofs.Math.Nat.{max-le}
 use Rattle.std.proofs.lemmas.List.Elements.{All-head, All-tail}
 use Rattle.sdf_document.specs.declared.entry.ActorEntry.{ActorEntry}
-use Rattle.sdf_document.specs.Kinds.{KindValue, input, output, fir, decimate, interpolate, add, fork, gain, delay, table, kind_view, IsWithin}
+use Rattle.sdf_document.specs.declared.entry.KindEntry.{KindEntry}
+use Rattle.sdf_document.specs.declared.entry.KindEntry.TheVariants.{Input as InputEntry, Output as OutputEntry, Fir, Decimate, Interpolate, Add, Fork, Gain, Delay, Table, Deal, Gather}
+use Rattle.sdf_document.specs.Kinds.{IsWithin}
 use Rattle.sdf_document.specs.Actors.{ActorValue, actor_view}
 use Rattle.sdf_actor.specs.declared.node.Node.{Node}
-use Rattle.sdf_actor.specs.declared.node.Side.{Side}
-use Rattle.sdf_actor.specs.declared.node.Side.TheVariants.{Input, Output}
+use Rattle.sdf_actor.specs.declared.sides.Lists.{Lists}
+use Rattle.sdf_actor.specs.declared.sides.Lists.TheVariants.{Inputs, Outputs}
 use Rattle.sdf_actor.specs.Sides.{list_of, list_count}
 use Rattle.sdf_kit.specs.declared.kit.Kit.{Kit}
 use Rattle.sdf_kit.specs.Kit.{kit_steps}
@@ -21,42 +24,46 @@ use Rattle.sdf_file.specs.Faults.{of_net}
 use Rattle.sdf_file.specs.Designs.{node_of, IsMadeFault}
 
 -- one more than the number of a node's list, or 0
-abbrev pub list_room : Side → Node Kit → ℕ
-list_room side x = option_map_or (λ e. e + 1) (list_of side x) 0
+abbrev pub list_room : Lists → Node Kit → ℕ
+list_room lists x = option_map_or (λ e. e + 1) (list_of lists x) 0
 
-small_list : (side : Side) (k : KindValue) → IsWithin true k → list_room side (node_of k) ≤ 8
-small_list Input (input channel block) h = omega (arith, h.0)
-small_list Input (output channel block) h = omega arith
-small_list Input (fir up down shift taps) h = omega arith
-small_list Input (decimate factor) h = omega arith
-small_list Input (interpolate factor) h = omega arith
-small_list Input (add ways) h = omega arith
-small_list Input (fork ways) h = omega arith
-small_list Input (gain g shift) h = omega arith
-small_list Input (delay len) h = omega arith
-small_list Input (table offset values) h = omega arith
-small_list Output (input channel block) h = omega arith
-small_list Output (output channel block) h = omega (arith, h.0)
-small_list Output (fir up down shift taps) h = omega arith
-small_list Output (decimate factor) h = omega arith
-small_list Output (interpolate factor) h = omega arith
-small_list Output (add ways) h = omega arith
-small_list Output (fork ways) h = omega arith
-small_list Output (gain g shift) h = omega arith
-small_list Output (delay len) h = omega arith
-small_list Output (table offset values) h = omega arith
+small_list : (lists : Lists) (k : KindEntry) → IsWithin true k → list_room lists (node_of k) ≤ MOST_CHANNEL + 1
+small_list Inputs (InputEntry channel block) h = omega (arith, h.0.1)
+small_list Inputs (OutputEntry channel block) h = omega arith
+small_list Inputs (Fir up down shift taps) h = omega arith
+small_list Inputs (Decimate factor) h = omega arith
+small_list Inputs (Interpolate factor) h = omega arith
+small_list Inputs (Add ways) h = omega arith
+small_list Inputs (Fork ways) h = omega arith
+small_list Inputs (Gain g shift) h = omega arith
+small_list Inputs (Delay len) h = omega arith
+small_list Inputs (Table offset values) h = omega arith
+small_list Inputs (Deal ways run) h = omega arith
+small_list Inputs (Gather ways run) h = omega arith
+small_list Outputs (InputEntry channel block) h = omega arith
+small_list Outputs (OutputEntry channel block) h = omega (arith, h.0.1)
+small_list Outputs (Fir up down shift taps) h = omega arith
+small_list Outputs (Decimate factor) h = omega arith
+small_list Outputs (Interpolate factor) h = omega arith
+small_list Outputs (Add ways) h = omega arith
+small_list Outputs (Fork ways) h = omega arith
+small_list Outputs (Gain g shift) h = omega arith
+small_list Outputs (Delay len) h = omega arith
+small_list Outputs (Table offset values) h = omega arith
+small_list Outputs (Deal ways run) h = omega arith
+small_list Outputs (Gather ways run) h = omega arith
 
-small_lists : (side : Side) (es : List ActorEntry) (m : ℕ) → m ≤ 8 → All (λ a. IsWithin true (kind_view a.kind)) es
-    → fold (λ n x. max n (list_room side x)) m (map (λ (a : ActorValue). node_of a.kind) (map actor_view es)) ≤ 8
-small_lists side [] m h all = h
-small_lists side (e ∷ es) m h all =
-    small_lists side es (max m (list_room side (node_of (kind_view e.kind))))
-    (max-le h (small_list side (kind_view e.kind) (All-head (λ a. IsWithin true (kind_view a.kind)) e es all)))
-    (All-tail (λ a. IsWithin true (kind_view a.kind)) e es all)
+small_lists : (lists : Lists) (es : List ActorEntry) (m : ℕ) → m ≤ MOST_CHANNEL + 1 → All (λ a. IsWithin true a.kind) es
+    → fold (λ n x. max n (list_room lists x)) m (map (λ (a : ActorValue). node_of a.kind) (map actor_view es)) ≤ MOST_CHANNEL + 1
+small_lists lists [] m h all = h
+small_lists lists (e ∷ es) m h all =
+    small_lists lists es (max m (list_room lists (node_of e.kind)))
+    (max-le h (small_list lists e.kind (All-head (λ a. IsWithin true a.kind) e es all)))
+    (All-tail (λ a. IsWithin true a.kind) e es all)
 
-pub few_lists : (side : Side) (es : List ActorEntry) → All (λ a. IsWithin true (kind_view a.kind)) es
-    → list_count side (map (λ (a : ActorValue). node_of a.kind) (map actor_view es)) ≤ 8
-few_lists side es all = small_lists side es 0 (omega arith) all
+pub few_lists : (lists : Lists) (es : List ActorEntry) → All (λ a. IsWithin true a.kind) es
+    → list_count lists (map (λ (a : ActorValue). node_of a.kind) (map actor_view es)) ≤ MOST_CHANNEL + 1
+few_lists lists es all = small_lists lists es 0 (omega arith) all
 
 -- a fault of the net as one of the file
 pub made_fault : (n : Netlist Kit ℤ) (fault : NetFault) → IsNetFault kit_steps n fault → IsMadeFault n (of_net fault)

@@ -1,8 +1,10 @@
 -- The design of a graph file and its coefficient files.
-use Rattle.std.specs.Prelude.{◌≡◌, ◌≤◌, ℕ, ℤ, List, length, map, Option, Ok, Err}
+use Rattle.std.specs.Prelude.{◌≡◌, ◌≤◌, ◌+◌, ℕ, ℤ, List, length, map, Option, Ok, Err}
+use Rattle.sdf_limits.specs.declared.TheConstants.{MOST_CHANNEL}
 use Rattle.sdf_document.specs.Fault.{fault_view}
 use Rattle.sdf_document.specs.Lists.{Files}
-use Rattle.sdf_document.specs.Kinds.{KindValue, input, output, fir, decimate, interpolate, add, fork, gain, delay, table}
+use Rattle.sdf_document.specs.declared.entry.KindEntry.{KindEntry}
+use Rattle.sdf_document.specs.declared.entry.KindEntry.TheVariants as entry
 use Rattle.sdf_document.specs.Actors.{ActorValue}
 use Rattle.sdf_document.specs.Links.{LinkValue}
 use Rattle.sdf_document.specs.Document.{DocumentValue, document_of, file_names_of}
@@ -12,7 +14,7 @@ use Rattle.sdf_actor.specs.declared.fault.NetFault.{NetFault}
 use Rattle.sdf_actor.specs.declared.fault.NetFault.TheVariants as nets
 use Rattle.sdf_actor.specs.Nets.{Wire, Netlist}
 use Rattle.sdf_actor.specs.Sides.{list_count}
-use Rattle.sdf_actor.specs.declared.node.Side.TheVariants.{Input, Output}
+use Rattle.sdf_actor.specs.declared.sides.Lists.TheVariants.{Inputs, Outputs}
 use Rattle.sdf_actor.specs.NetFaults.{IsAccepted, IsNetFault}
 use Rattle.sdf_kit.specs.declared.kit.Kit.{Kit}
 use Rattle.sdf_kit.specs.declared.kit.Kit.TheVariants as kits
@@ -29,17 +31,19 @@ pub record DesignValue : Type 0 where
 -- ---- the design that a document says
 
 -- the node of a kind
-abbrev pub node_of : KindValue → Node Kit
-node_of (input channel block) = Source channel block
-node_of (output channel block) = Sink channel block
-node_of (fir up down shift taps) = Inner (kits.Fir (record { up = up; down = down; taps = taps.values; shift = shift }))
-node_of (decimate factor) = Inner (kits.Decimate factor)
-node_of (interpolate factor) = Inner (kits.Interpolate factor)
-node_of (add ways) = Inner (kits.Add ways)
-node_of (fork ways) = Inner (kits.Fork ways)
-node_of (gain g shift) = Inner (kits.Gain (record { gain = g; shift = shift }))
-node_of (delay length) = Inner (kits.Delay length)
-node_of (table offset values) = Inner (kits.Table (record { offset = offset; values = values.values }))
+abbrev pub node_of : KindEntry → Node Kit
+node_of (entry.Input channel block) = Source channel block
+node_of (entry.Output channel block) = Sink channel block
+node_of (entry.Fir up down shift taps) = Inner (kits.Fir (record { up = up; down = down; taps = taps.values; shift = shift }))
+node_of (entry.Decimate factor) = Inner (kits.Decimate factor)
+node_of (entry.Interpolate factor) = Inner (kits.Interpolate factor)
+node_of (entry.Add ways) = Inner (kits.Add ways)
+node_of (entry.Fork ways) = Inner (kits.Fork ways)
+node_of (entry.Gain g shift) = Inner (kits.Gain (record { gain = g; shift = shift }))
+node_of (entry.Delay length) = Inner (kits.Delay length)
+node_of (entry.Table offset values) = Inner (kits.Table (record { offset = offset; values = values.values }))
+node_of (entry.Deal ways run) = Inner (kits.Deal (record { ways = ways; run = run }))
+node_of (entry.Gather ways run) = Inner (kits.Gather (record { ways = ways; run = run }))
 
 abbrev pub wire_of : LinkValue → Wire ℤ
 wire_of l = record { from = l.from; to = l.to; initial = l.initial }
@@ -88,9 +92,9 @@ IsNamesFault graph (Net fault) = ⊥
 
 -- ---- what holds of every design
 
--- each node has a name, and a home or none; there are at most 8 inputs and 8 outputs
+-- each node has a name, and a home or none; there are no inputs and outputs but of a WAV file's channels
 pub record IsDesign (d : DesignValue) : Type 0 where
   pub named : length d.names ≡ length d.net.nodes
   pub housed : length d.homes ≡ length d.net.nodes
-  pub inputs : list_count Input d.net.nodes ≤ 8
-  pub outputs : list_count Output d.net.nodes ≤ 8
+  pub inputs : list_count Inputs d.net.nodes ≤ MOST_CHANNEL + 1
+  pub outputs : list_count Outputs d.net.nodes ≤ MOST_CHANNEL + 1

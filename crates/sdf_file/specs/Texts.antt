@@ -5,7 +5,7 @@ use Rattle.sdf_graph.specs.Rates.{rates}
 use Rattle.sdf_graph.specs.Periods.{IsLeastPeriod}
 use Rattle.sdf_actor.specs.Graphs.{graph_of}
 use Rattle.sdf_actor.specs.Sides.{period_samples}
-use Rattle.sdf_actor.specs.declared.node.Side.TheVariants.{Input, Output}
+use Rattle.sdf_actor.specs.declared.sides.Lists.TheVariants.{Inputs, Outputs}
 use Rattle.sdf_kit.specs.Kit.{kit_steps}
 use Rattle.sdf_file.specs.Designs.{DesignValue}
 
@@ -28,7 +28,7 @@ check_text d q =
     ++ codes "links " ++ decimal (length d.net.wires) ++ end
     ++ codes "period " ++ decimal (sum q) ++ end
     ++ q_lines d q (length d.net.nodes)
-    ++ codes "input " ++ decimal (period_samples d.net.nodes Input q) ++ codes " output " ++ decimal (period_samples d.net.nodes Output q) ++ end
+    ++ codes "input " ++ decimal (period_samples d.net.nodes Inputs q) ++ codes " output " ++ decimal (period_samples d.net.nodes Outputs q) ++ end
 
 -- the text of a design, whose period vector is the least
 pub record IsCheckText (d : DesignValue) (text : List ℕ) : Type 0 where

@@ -2,7 +2,7 @@
 ghost use Rattle.std.specs.Prelude.{◌≡◌, ◌<◌, ℕ, List, [], true, map, length, string_bytes, slice_index_or, MatchResult};
 ghost use Rattle.std.specs.List.{All};
 ghost use Rattle.sdf_document.specs.Lists.{files_view};
-ghost use Rattle.sdf_document.specs.Kinds.{kind_view, IsWithin};
+ghost use Rattle.sdf_document.specs.Kinds.{IsWithin};
 ghost use Rattle.sdf_document.specs.Document.{document_view, file_names_of, texts_view};
 ghost use Rattle.sdf_actor.specs.NetFaults.{IsAccepted};
 ghost use Rattle.sdf_kit.specs.Kit.{kit_steps};
@@ -38,7 +38,8 @@ impl Model for Design {
 impl Design {
     /// Its net: node `a` is actor `a` of the graph file, link `c` is its link `c`.
     pub fn net(&self) -> &Net<Kit>
-        ensures { result.now ≡ self.now.net }
+        ensures value { result.now ≡ self.now.net }
+        ensures whole { IsDesign self.now }
     {
         &self.net
     }
@@ -57,13 +58,6 @@ impl Design {
     {
         &self.homes
     }
-
-    /// What holds of every design.
-    pub fn is_whole(&self)
-        ensures { IsDesign self.now }
-    {
-        let _ = self.homes.len();
-    }
 }
 
 /// The coefficient files that a graph file names, each once, where it stands first; or the first test that it fails of
@@ -76,7 +70,7 @@ pub fn design_files(alloc: Global, graph: &[u8]) -> Result<Vec<String>, FileFaul
 
 /// A document as a design, or the first test that its net fails.
 fn design_of(alloc: Global, document: Document) -> Result<Design, FileFault>
-    requires { All (λ a. IsWithin true (kind_view a.kind)) document.actors.items }
+    requires { All (λ a. IsWithin true a.kind) document.actors.items }
     ensures { MatchResult result
         (λ d. (d ≡ design_of (document_view document)) × ((q : List ℕ) × IsAccepted kit_steps d.net q))
         (IsMadeFault (design_of (document_view document)).net) }

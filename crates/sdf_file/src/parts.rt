@@ -1,14 +1,15 @@
 //! Entries as the nodes and links of a net.
-ghost use Rattle.std.specs.Prelude.{◌≡◌, ◌≤◌, ◌++◌, ◌∷◌, [], true, length, IsTrue, map, Ok, IfOk, OnOk, string_bytes};
+ghost use Rattle.std.specs.Prelude.{◌≡◌, ◌≤◌, ◌+◌, ◌++◌, ◌∷◌, [], true, length, IsTrue, map, Ok, IfOk, OnOk, string_bytes};
 ghost use Rattle.std.specs.List.{All};
-ghost use Rattle.sdf_document.specs.declared.entry.Width.TheVariants as width;
+ghost use Rattle.sdf_document.specs.declared.row.Width.TheVariants as width;
+ghost use Rattle.sdf_limits.specs.declared.TheConstants.{MOST_CHANNEL, MOST_FACTOR, MOST_SHIFT, MOST_TAPS};
 ghost use Rattle.sdf_document.specs.Lists.{is_list};
 ghost use Rattle.sdf_kit.specs.declared.kit.Kit.TheVariants as kits;
-ghost use Rattle.sdf_document.specs.Kinds.{kind_view, IsWithin};
+ghost use Rattle.sdf_document.specs.Kinds.{IsWithin};
 ghost use Rattle.sdf_document.specs.Actors.{ActorValue, actor_view};
 ghost use Rattle.sdf_document.specs.Links.{link_view};
 ghost use Rattle.sdf_actor.specs.Sides.{list_count};
-ghost use Rattle.sdf_actor.specs.declared.node.Side.TheVariants.{Input, Output};
+ghost use Rattle.sdf_actor.specs.declared.sides.Lists.TheVariants.{Inputs, Outputs};
 ghost use Rattle.sdf_actor.specs.Wires.{wires, wire_of as wire_of_link};
 ghost use Rattle.sdf_file.specs.Designs.{node_of, wire_of};
 
@@ -17,18 +18,19 @@ use sdf_document::{ActorEntry, KindEntry, LinkEntry, ListEntry};
 use sdf_kit::{Kit, KitFault};
 use std::alloc::{AllocError, Global};
 
-fn values_of(list: ListEntry) -> Vec<i32>
-    ensures { result.items ≡ list.values.items }
+/// The values of a list.
+fn moved(list: ListEntry) -> Vec<i32>
+    ensures { result.items ≡ list.values }
 {
     list.values
 }
 
 /// A filter whose values are within their limits.
 fn filter_of(up: u32, down: u32, shift: u32, taps: Vec<i32>) -> Result<Kit, KitFault>
-    requires up { (1 ≤ up) × (up ≤ 64) }
-    requires down { (1 ≤ down) × (down ≤ 64) }
-    requires shift { shift ≤ 15 }
-    requires taps { IsTrue (is_list 1024 width.Bits16 taps.items) }
+    requires up { (1 ≤ up) × (up ≤ MOST_FACTOR) }
+    requires down { (1 ≤ down) × (down ≤ MOST_FACTOR) }
+    requires shift { shift ≤ MOST_SHIFT }
+    requires taps { IsTrue (is_list MOST_TAPS width.Bits16 taps.items) }
     ensures { result ≡ Ok (kits.Fir (record { up = up; down = down; taps = taps.items; shift = shift })) }
 {
     Kit::fir(up, down, taps, shift)
@@ -36,16 +38,16 @@ fn filter_of(up: u32, down: u32, shift: u32, taps: Vec<i32>) -> Result<Kit, KitF
 
 /// A kind whose values are within their limits: no test of the kit fails.
 fn tested_node(kind: KindEntry) -> Result<Node<Kit>, KitFault>
-    requires { IsWithin true (kind_view kind) }
-    ensures { result ≡ Ok (node_of (kind_view kind)) }
+    requires { IsWithin true kind }
+    ensures { result ≡ Ok (node_of kind) }
 {
     match kind {
         KindEntry::Input { channel, block } => Ok(Node::Source {
-            ext: channel,
+            ext: channel as u8,
             block,
         }),
         KindEntry::Output { channel, block } => Ok(Node::Sink {
-            ext: channel,
+            ext: channel as u8,
             block,
         }),
         KindEntry::Fir {
@@ -53,7 +55,7 @@ fn tested_node(kind: KindEntry) -> Result<Node<Kit>, KitFault>
             down,
             shift,
             taps,
-        } => Ok(Node::Inner(filter_of(up, down, shift, values_of(taps))?)),
+        } => Ok(Node::Inner(filter_of(up, down, shift, moved(taps))?)),
         KindEntry::Decimate { factor } => Ok(Node::Inner(Kit::decimate(factor)?)),
         KindEntry::Interpolate { factor } => Ok(Node::Inner(Kit::interpolate(factor)?)),
         KindEntry::Add { ways } => Ok(Node::Inner(Kit::add(ways as usize)?)),
@@ -61,14 +63,16 @@ fn tested_node(kind: KindEntry) -> Result<Node<Kit>, KitFault>
         KindEntry::Gain { gain, shift } => Ok(Node::Inner(Kit::gain(gain, shift)?)),
         KindEntry::Delay { length } => Ok(Node::Inner(Kit::delay(length as usize)?)),
         KindEntry::Table { offset, values } => {
-            Ok(Node::Inner(Kit::table(offset, values_of(values))?))
+            Ok(Node::Inner(Kit::table(offset, moved(values))?))
         }
+        KindEntry::Deal { ways, run } => Ok(Node::Inner(Kit::deal(ways as usize, run)?)),
+        KindEntry::Gather { ways, run } => Ok(Node::Inner(Kit::gather(ways as usize, run)?)),
     }
 }
 
 fn node_of(kind: KindEntry) -> Node<Kit>
-    requires { IsWithin true (kind_view kind) }
-    ensures { result ≡ node_of (kind_view kind) }
+    requires { IsWithin true kind }
+    ensures { result ≡ node_of kind }
 {
     match tested_node(kind) {
         Ok(node) => node,
@@ -87,8 +91,8 @@ pub(crate) struct Parts {
 impl Parts {
     #[tactic(auto, using(std::proofs::lemmas::List::map_push))]
     fn push(&mut self, actor: ActorEntry) -> Result<(), AllocError>
-        requires { IsWithin true (kind_view actor.kind) }
-        ensures nodes { OnOk result (self.new.nodes.items ≡ self.old.nodes.items ++ node_of (kind_view actor.kind) ∷ []) }
+        requires { IsWithin true actor.kind }
+        ensures nodes { OnOk result (self.new.nodes.items ≡ self.old.nodes.items ++ node_of actor.kind ∷ []) }
         ensures names { OnOk result (map string_bytes self.new.names.items ≡ map string_bytes self.old.names.items ++ string_bytes actor.name ∷ []) }
         ensures homes { OnOk result (self.new.homes.items ≡ self.old.homes.items ++ actor.processor ∷ []) }
     {
@@ -100,12 +104,12 @@ impl Parts {
 
 /// The parts of actors, in their order.
 pub(crate) fn parts_of(alloc: Global, actors: Vec<ActorEntry>) -> Result<Parts, AllocError>
-    requires { All (λ a. IsWithin true (kind_view a.kind)) actors.items }
+    requires { All (λ a. IsWithin true a.kind) actors.items }
     ensures nodes { IfOk result (λ p. p.nodes.items ≡ map (λ (a : ActorValue). node_of a.kind) (map actor_view actors.items)) }
     ensures names { IfOk result (λ p. map string_bytes p.names.items ≡ map (λ (a : ActorValue). a.name) (map actor_view actors.items)) }
     ensures homes { IfOk result (λ p. p.homes.items ≡ map (λ (a : ActorValue). a.processor) (map actor_view actors.items)) }
-    ensures inputs { IfOk result (λ p. list_count Input p.nodes.items ≤ 8) }
-    ensures outputs { IfOk result (λ p. list_count Output p.nodes.items ≤ 8) }
+    ensures inputs { IfOk result (λ p. list_count Inputs p.nodes.items ≤ MOST_CHANNEL + 1) }
+    ensures outputs { IfOk result (λ p. list_count Outputs p.nodes.items ≤ MOST_CHANNEL + 1) }
 {
     let mut parts = Parts {
         nodes: Vec::new(alloc),

@@ -42,6 +42,39 @@ from = \"a\"
 to = \"out\"
 ";
 
+/// Dealt out to two ways by twos, and gathered by ones.
+const TURNS: &str = "format = 2
+[[actor]]
+name = \"in\"
+kind = \"input\"
+channel = 0
+[[actor]]
+name = \"deal\"
+kind = \"deal\"
+ways = 2
+run = 2
+[[actor]]
+name = \"gather\"
+kind = \"gather\"
+ways = 2
+[[actor]]
+name = \"out\"
+kind = \"output\"
+channel = 0
+[[link]]
+from = \"in\"
+to = \"deal\"
+[[link]]
+from = \"deal:0\"
+to = \"gather:0\"
+[[link]]
+from = \"deal:1\"
+to = \"gather:1\"
+[[link]]
+from = \"gather\"
+to = \"out\"
+";
+
 fn fault(rt: &HostRuntime, old: &str, new: &str) -> Result<String, Fail> {
     let text = TWO.replace(rt.alloc(), old, new)?;
     match read_design(rt.alloc(), text.as_bytes(), &[]) {
@@ -62,6 +95,25 @@ fn reads_and_checks_a_design(rt: HostRuntime) -> Result<(), Fail> {
         "actors 2\nlinks 1\nperiod 5\nq in 3\nq out 2\ninput 6 output 6\n"
     );
     Ok(())
+}
+
+#[test]
+fn reads_designs_of_format_two(rt: HostRuntime) -> Result<(), Fail> {
+    let design = read_design(rt.alloc(), TURNS.as_bytes(), &[])?;
+    let text = check_text(rt.alloc(), &design)?;
+    assert_eq!(rt;
+        text.as_str(),
+        "actors 4\nlinks 4\nperiod 14\nq in 4\nq deal 2\nq gather 4\nq out 4\ninput 4 output 4\n"
+    );
+    let text = TURNS.replace(rt.alloc(), "format = 2", "format = 1")?;
+    match read_design(rt.alloc(), text.as_bytes(), &[]) {
+        Ok(_) => Err(Fail::from("a design")),
+        Err(fault) => {
+            let text = fault.to_string(rt.alloc())?;
+            assert_eq!(rt; text.as_str(), "56 UnknownKind actor 1");
+            Ok(())
+        }
+    }
 }
 
 #[test]
@@ -86,7 +138,7 @@ fn reads_with_coefficient_files(rt: HostRuntime) -> Result<(), Fail> {
 #[test]
 fn names_the_fault_of_documents_and_nets(rt: HostRuntime) -> Result<(), Fail> {
     for (old, new, text) in [
-        ("format = 1", "format = 2", "50 Format top"),
+        ("format = 1", "format = 3", "50 Format top"),
         (
             "channel = 0\nblock = 3",
             "channel = 1\nblock = 3",

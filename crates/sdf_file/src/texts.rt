@@ -5,7 +5,7 @@ ghost use Rattle.sdf_graph.specs.Rates.{rates};
 ghost use Rattle.sdf_graph.specs.Periods.{IsLeastPeriod};
 ghost use Rattle.sdf_actor.specs.Graphs.{graph_of};
 ghost use Rattle.sdf_actor.specs.Sides.{period_samples};
-ghost use Rattle.sdf_actor.specs.declared.node.Side.TheVariants.{Input, Output};
+ghost use Rattle.sdf_actor.specs.declared.sides.Lists.TheVariants.{Inputs, Outputs};
 ghost use Rattle.sdf_kit.specs.Kit.{kit_steps};
 
 use crate::design::Design;
@@ -37,16 +37,20 @@ fn push_q_lines(
 }
 
 /// How many samples each input puts and each output takes in a period.
-fn samples_of(net: &Net<Kit>, repetitions: &Repetitions) -> (usize, usize)
+fn samples_each_way(net: &Net<Kit>, repetitions: &Repetitions) -> (usize, usize)
     requires { IsLeastPeriod (rates (graph_of kit_steps net.now)) repetitions.now }
-    ensures input { result.0 ≡ period_samples net.now.nodes Input repetitions.now }
-    ensures output { result.1 ≡ period_samples net.now.nodes Output repetitions.now }
+    ensures input { result.0 ≡ period_samples net.now.nodes Inputs repetitions.now }
+    ensures output { result.1 ≡ period_samples net.now.nodes Outputs repetitions.now }
 {
     let _ = repetitions;
     (net.samples_in(), net.samples_out())
 }
 
-fn text_of(alloc: Global, design: &Design, repetitions: &Repetitions) -> Result<String, AllocError>
+fn text_with(
+    alloc: Global,
+    design: &Design,
+    repetitions: &Repetitions,
+) -> Result<String, AllocError>
     requires { IsLeastPeriod (rates (graph_of kit_steps design.now.net)) repetitions.now }
     ensures { IfOk result (λ s. string_bytes s ≡ check_text design.now repetitions.now) }
 {
@@ -54,7 +58,7 @@ fn text_of(alloc: Global, design: &Design, repetitions: &Repetitions) -> Result<
     let actors = net.len();
     let links = net.channels();
     let period = repetitions.period();
-    let (input, output) = samples_of(net, repetitions);
+    let (input, output) = samples_each_way(net, repetitions);
     let mut text = format!(in alloc; "actors {actors}\nlinks {links}\nperiod {period}\n")?;
     push_q_lines(&mut text, design, repetitions)?;
     writeln!(text, "input {input} output {output}")?;
@@ -67,6 +71,5 @@ pub fn check_text(alloc: Global, design: &Design) -> Result<String, AllocError>
     ensures { IfOk result (λ s. IsCheckText design.now (string_bytes s)) }
 {
     let repetitions = design.net().repetitions();
-    let text = text_of(alloc, design, repetitions)?;
-    Ok(text)
+    Ok(text_with(alloc, design, repetitions)?)
 }

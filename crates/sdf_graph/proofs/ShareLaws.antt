@@ -1,16 +1,28 @@
 -- Shares, common denominators, and the vector that they give.
-use Rattle.std.proofs.Common.{◌≡◌, ℕ, zero, suc, ◌+◌, ◌*◌, ◌/◌, ◌≤◌, ◌<◌, List, [], ◌∷◌, length, get_or, map, sum, set, sym, ap, ◌∙◌, subst, inl, inr, ◌⊎◌, refl, arith}
+use Rattle.std.proofs.Common.{◌≡◌, ℕ, zero, suc, ◌+◌, ◌*◌, ◌/◌, ◌≤◌, ◌<◌, List, length, get_or, map, sum, set, sym, ap, ◌∙◌, subst, inl, inr, ◌⊎◌, refl, arith}
 use Rattle.std.proofs.Math.Nat.{mul-div_cancel, eq_of_mul-eq-mul_left, mul-le-mul_right}
 use Rattle.std.proofs.lemmas.List.{get_or-map, get_or_past, length-map, get_or-set_same, get_or-set_other, length-set}
-use Rattle.std.proofs.lemmas.List.Sums.{get_or-le-sum_by, sum_by-cons, sum-map}
+use Rattle.std.proofs.lemmas.List.Sums.{get_or-le-sum_by}
 use Rattle.std.proofs.lemmas.Bool.{cases_lt, cases_eq}
-use Rattle.sdf_graph.specs.Rates.{Shape, IsShape, IsReached, start, along, back, rates, channel}
-use Rattle.sdf_graph.specs.Periods.{IsPeriodVector, IsLeastPeriod, IsMultiple, IsPeriodFault}
-use Rattle.sdf_graph.specs.declared.fault.GraphFault.{GraphFault}
-use Rattle.sdf_graph.specs.declared.fault.GraphFault.TheVariants.{OutOfMemory, PeriodTooLong}
-use Rattle.sdf_graph.specs.declared.channel.Channel.{Channel}
+use Rattle.sdf_graph.specs.Rates.{Shape, Edge, IsShape, IsReached, start, along, back, channel, no_channel}
+use Rattle.sdf_graph.specs.Periods.{Divides, IsMultiple}
+use Rattle.sdf_graph.specs.declared.channel.Totals.{Totals}
 use Rattle.sdf_graph.specs.declared.repetitions.Ratio.{Ratio}
-use Rattle.sdf_graph.specs.Shares.{Divides, IsReduced, IsShare, IsSmall, IsWalk, IsCommon, IsEven, IsLevel, IsBorder, ratio, unreached, firings, IsScaleFault}
+use Rattle.sdf_graph.specs.Shares.{IsReduced, IsShare, IsSmall, IsWalk, IsCommon, IsEven, IsLevel, IsBorder, IsCycleVector, ratio, unreached, turns, totals, no_totals}
+
+-- what channels move in a cycle, read by number
+pub totals_read : (chs : List Edge) (c : ℕ) → c < length chs → get_or (map totals chs) c no_totals ≡ totals (get_or chs c no_channel)
+totals_read chs c l = get_or-map totals chs c no_channel no_totals l
+
+pub each_totals : (P : Totals → Type 0) (chs : List Edge) → ((c : ℕ) → c < length (map totals chs) → P (get_or (map totals chs) c no_totals)) → (c : ℕ) → c < length chs → P (totals (get_or chs c no_channel))
+each_totals P chs all c l = subst P (totals_read chs c l) (all c (omega (arith, length-map chs totals)))
+
+pub all_totals : (P : Totals → Type 0) (chs : List Edge) → ((c : ℕ) → c < length chs → P (totals (get_or chs c no_channel))) → (c : ℕ) → c < length (map totals chs) → P (get_or (map totals chs) c no_totals)
+all_totals P chs all c l = let k : c < length chs = omega (arith, length-map chs totals) in subst P (sym (totals_read chs c k)) (all c k)
+
+-- what a channel moves in a cycle, where it is read of the sums that a graph keeps
+pub totals_kept : (chs : List Edge) (kept : List Totals) (c : ℕ) (t : Totals) → kept ≡ map totals chs → c < length chs → t ≡ get_or kept c no_totals → totals (get_or chs c no_channel) ≡ t
+totals_kept chs kept c t sums l read = sym (totals_read chs c l) ∙ (ap (λ (xs : List Totals). get_or xs c no_totals) (sym sums) ∙ sym read)
 
 -- a product of numbers above nothing is above nothing, and so are its factors
 pub some_factor : (s a n : ℕ) → 0 < n → n ≡ s * a → 0 < a
@@ -31,7 +43,7 @@ pub no_greater : (d n : ℕ) → 0 < n → Divides d n → d ≤ n
 no_greater d n some (zero, e) = omega arith
 no_greater d n some (suc k, e) = omega (arith, mul-le-mul_right d (let h : 1 ≤ suc k = omega arith in h))
 
--- a share goes over a channel: near is x firings, far is y
+-- a share goes over a channel: near is x turns, far is y
 pub share_over : (x y z gives takes num den a b : ℕ) → x * den ≡ z * num → gives * x ≡ takes * y → 0 < num * gives → IsReduced (num * gives) (den * takes) a b → y * b ≡ z * a
 share_over x y z gives takes num den a b near even some red =
     eq_of_mul-eq-mul_left red.scale (some_scale red.scale a (num * gives) some red.top) (y * b) (z * a)
@@ -61,7 +73,7 @@ common_more parts i m a b before some red = record {
 
 -- a share that is over the limit makes each period longer
 pub too_long : (g : Shape) (a : ℕ) (f : Ratio) → a < g.actors → 0 < g.actors → IsShare g a f → (65536 < f.num) ⊎ (65536 < f.den) →
-    (p : List ℕ) → IsPeriodVector (rates g) p → 65536 < sum p
+    (p : List ℕ) → IsCycleVector g p → 65536 < sum p
 too_long g a f known any s (inl top) p period =
     let d : f.num ≤ get_or p a 0 = no_greater f.num (get_or p a 0) (period.positive a known) (s.lowest.top (get_or p a 0) (get_or p 0 0) (s.share p period)) in
     omega (arith, get_or-le-sum_by (λ x. x) p a 0 (omega (arith, period.all)))
@@ -69,22 +81,14 @@ too_long g a f known any s (inr bottom) p period =
     let d : f.den ≤ get_or p 0 0 = no_greater f.den (get_or p 0 0) (period.positive 0 any) (s.lowest.bottom (get_or p a 0) (get_or p 0 0) (s.share p period)) in
     omega (arith, get_or-le-sum_by (λ x. x) p 0 0 (omega (arith, period.all)))
 
--- sums follow their terms
-pub sum_within : (xs ys : List ℕ) → length xs ≡ length ys → ((a : ℕ) → get_or xs a 0 ≤ get_or ys a 0) → sum xs ≤ sum ys
-sum_within [] ys e all = omega arith
-sum_within (x ∷ xs) [] e all = omega arith
-sum_within (x ∷ xs) (y ∷ ys) e all =
-    let rest : sum xs ≤ sum ys = sum_within xs ys (omega arith) (λ a. all (suc a)) in
-    omega (arith, all 0, sum_by-cons (λ x. x) x xs, sum_by-cons (λ x. x) y ys)
-
 module _ (g : Shape) (parts : List Ratio) (walk : IsWalk g parts) (reached : (a : ℕ) → a < g.actors → 0 < (ratio parts a).num) where
   share_of : (a : ℕ) → a < g.actors → IsShare g a (ratio parts a)
   share_of a h = (walk.each a h (reached a h)).0
 
   -- what balances in some period balances by the shares
-  pub must_even : (p : List ℕ) → IsPeriodVector (rates g) p → IsShape g → (c : ℕ) → c < length g.channels → IsEven parts (channel g c)
+  pub must_even : (p : List ℕ) → IsCycleVector g p → IsShape g → (c : ℕ) → c < length g.channels → IsEven parts (totals (channel g c))
   must_even p period shape c h =
-      let s = channel g c in
+      let s = totals (channel g c) in
       let near = (share_of s.from (shape.from_in c h)).share p period in
       let far = (share_of s.to (shape.to_in c h)).share p period in
       let even : s.put * get_or p s.from 0 ≡ s.take * get_or p s.to 0 = period.balanced c h in
@@ -101,71 +105,58 @@ module _ (g : Shape) (parts : List Ratio) (walk : IsWalk g parts) (reached : (a 
     factor : (a : ℕ) → a < g.actors → Divides (ratio parts a).den m
     factor a h = common.each a (omega (arith, walk.all))
 
-    is_firings : (a : ℕ) → a < g.actors → firings m (ratio parts a) ≡ (m / (ratio parts a).den) * (ratio parts a).num
-    is_firings a h = refl
+    is_turns : (a : ℕ) → a < g.actors → turns m (ratio parts a) ≡ (m / (ratio parts a).den) * (ratio parts a).num
+    is_turns a h = refl
 
     over : (a : ℕ) (h : a < g.actors) → m / (ratio parts a).den ≡ (factor a h).0
     over a h = ap (λ n. n / (ratio parts a).den) (factor a h).1 ∙ mul-div_cancel (factor a h).0 (share_of a h).bottom_some
 
-    times_den : (a : ℕ) → a < g.actors → firings m (ratio parts a) * (ratio parts a).den ≡ m * (ratio parts a).num
+    times_den : (a : ℕ) → a < g.actors → turns m (ratio parts a) * (ratio parts a).den ≡ m * (ratio parts a).num
     times_den a h =
         omega (arith, ap (λ n. n * (ratio parts a).num * (ratio parts a).den) (over a h), ap (λ n. n * (ratio parts a).num) (factor a h).1)
 
-    entry : (a : ℕ) → a < g.actors → get_or (map (firings m) parts) a 0 ≡ firings m (ratio parts a)
-    entry a h = get_or-map (firings m) parts a unreached 0 (omega (arith, walk.all))
+    pub entry : (a : ℕ) → a < g.actors → get_or (map (turns m) parts) a 0 ≡ turns m (ratio parts a)
+    entry a h = get_or-map (turns m) parts a unreached 0 (omega (arith, walk.all))
 
-    is_period : IsShape g → ((c : ℕ) → c < length g.channels → IsEven parts (channel g c)) → IsPeriodVector (rates g) (map (firings m) parts)
+    pub is_period : IsShape g → ((c : ℕ) → c < length g.channels → IsEven parts (totals (channel g c))) → IsCycleVector g (map (turns m) parts)
     is_period shape evens = record {
-      all = length-map parts (firings m) ∙ walk.all;
+      all = length-map parts (turns m) ∙ walk.all;
       positive = λ a h. rw (entry a h, over a h) (some_product (factor a h).0 (ratio parts a).num (some_scale (factor a h).0 (ratio parts a).den m common.some (factor a h).1) (reached a h));
       balanced = λ c h.
-          let s = channel g c in
+          let s = totals (channel g c) in
           let from = shape.from_in c h in
           let to = shape.to_in c h in
           rw (entry s.from from, entry s.to to)
           (eq_of_mul-eq-mul_left ((ratio parts s.from).den * (ratio parts s.to).den) (some_product (ratio parts s.from).den (ratio parts s.to).den (share_of s.from from).bottom_some (share_of s.to to).bottom_some)
-          (s.put * firings m (ratio parts s.from)) (s.take * firings m (ratio parts s.to))
+          (s.put * turns m (ratio parts s.from)) (s.take * turns m (ratio parts s.to))
           (omega (arith, ap (λ n. n * (s.put * (ratio parts s.to).den)) (times_den s.from from), ap (λ n. n * (s.take * (ratio parts s.from).den)) (times_den s.to to), ap (λ n. m * n) (evens c h))));
     }
 
-    multiple : (p : List ℕ) → IsPeriodVector (rates g) p → 0 < g.actors → IsMultiple p (map (firings m) parts)
+    pub multiple : (p : List ℕ) → IsCycleVector g p → 0 < g.actors → IsMultiple p (map (turns m) parts)
     multiple p period any = (k.0, λ a. go a (cases_lt a g.actors))
       where
         k : Divides m (get_or p 0 0)
         k = common.least (get_or p 0 0) (λ a h. let l : a < g.actors = omega (arith, walk.all) in (share_of a l).lowest.bottom (get_or p a 0) (get_or p 0 0) ((share_of a l).share p period))
 
-        go : (a : ℕ) → (a < g.actors) ⊎ (g.actors ≤ a) → get_or p a 0 ≡ k.0 * get_or (map (firings m) parts) a 0
+        go : (a : ℕ) → (a < g.actors) ⊎ (g.actors ≤ a) → get_or p a 0 ≡ k.0 * get_or (map (turns m) parts) a 0
         go a (inl l) = rw entry
-            (eq_of_mul-eq-mul_left (ratio parts a).den (share_of a l).bottom_some (get_or p a 0) (k.0 * firings m (ratio parts a))
+            (eq_of_mul-eq-mul_left (ratio parts a).den (share_of a l).bottom_some (get_or p a 0) (k.0 * turns m (ratio parts a))
             (omega (arith, (share_of a l).share p period, ap (λ n. n * (ratio parts a).num) k.1, ap (λ n. k.0 * n) (times_den a l))))
         go a (inr past) =
             let none : get_or p a 0 ≡ 0 = get_or_past p a 0 (omega (arith, period.all)) in
-            let none' : get_or (map (firings m) parts) a 0 ≡ 0 = get_or_past (map (firings m) parts) a 0 (omega (arith, length-map parts (firings m), walk.all)) in
+            let none' : get_or (map (turns m) parts) a 0 ≡ 0 = get_or_past (map (turns m) parts) a 0 (omega (arith, length-map parts (turns m), walk.all)) in
             none ∙ sym (ap (λ n. k.0 * n) none' ∙ omega arith)
 
-    pub least_period : IsShape g → ((c : ℕ) → c < length g.channels → IsEven parts (channel g c)) → IsLeastPeriod (rates g) (map (firings m) parts)
-    least_period shape evens = record {
-      is = is_period shape evens;
-      least = λ p period.
-          let k = multiple p period shape.some in
-          sum_within (map (firings m) parts) p ((is_period shape evens).all ∙ sym period.all) (λ a. no_less p period k a (cases_lt a g.actors));
-      divides = λ p period. multiple p period shape.some;
-    }
-      where
-        no_less : (p : List ℕ) → IsPeriodVector (rates g) p → (k : IsMultiple p (map (firings m) parts)) → (a : ℕ) → (a < g.actors) ⊎ (g.actors ≤ a) → get_or (map (firings m) parts) a 0 ≤ get_or p a 0
-        no_less p period k a (inl l) = no_greater (get_or (map (firings m) parts) a 0) (get_or p a 0) (period.positive a l) (k.0, k.1 a)
-        no_less p period k a (inr past) = let none : get_or (map (firings m) parts) a 0 ≡ 0 = get_or_past (map (firings m) parts) a 0 (omega (arith, length-map parts (firings m), walk.all)) in omega arith
-
 -- the share of the end that is not reached
-module _ (g : Shape) (shape : IsShape g) (parts : List Ratio) (walk : IsWalk g parts) (c : ℕ) (h : c < length g.channels) (ch : Channel) (is : channel g c ≡ ch) (f : Ratio) where
-  even_on : (p : List ℕ) → IsPeriodVector (rates g) p → ch.put * get_or p ch.from 0 ≡ ch.take * get_or p ch.to 0
-  even_on p period = subst (λ (ch : Channel). ch.put * get_or p ch.from 0 ≡ ch.take * get_or p ch.to 0) is (period.balanced c h)
+module _ (g : Shape) (shape : IsShape g) (parts : List Ratio) (walk : IsWalk g parts) (c : ℕ) (h : c < length g.channels) (ch : Totals) (is : totals (channel g c) ≡ ch) (f : Ratio) where
+  even_on : (p : List ℕ) → IsCycleVector g p → ch.put * get_or p ch.from 0 ≡ ch.take * get_or p ch.to 0
+  even_on p period = subst (λ (ch : Totals). ch.put * get_or p ch.from 0 ≡ ch.take * get_or p ch.to 0) is (period.balanced c h)
 
   pub share_to : 0 < (ratio parts ch.from).num → IsReduced ((ratio parts ch.from).num * ch.put) ((ratio parts ch.from).den * ch.take) f.num f.den → IsShare g ch.to f
   share_to some red =
-      let near = (walk.each ch.from (subst (λ (ch : Channel). ch.from < g.actors) is (shape.from_in c h)) some).0 in
-      let put_some : 0 < ch.put = subst (λ (ch : Channel). 0 < ch.put) is (shape.put_some c h) in
-      let take_some : 0 < ch.take = subst (λ (ch : Channel). 0 < ch.take) is (shape.take_some c h) in
+      let near = (walk.each ch.from (subst (λ (ch : Totals). ch.from < g.actors) is (shape.from_in c h)) some).0 in
+      let put_some : 0 < ch.put = subst (λ (ch : Totals). 0 < ch.put) is (shape.put c h).moves in
+      let take_some : 0 < ch.take = subst (λ (ch : Totals). 0 < ch.take) is (shape.take c h).moves in
       let top : 0 < (ratio parts ch.from).num * ch.put = some_product (ratio parts ch.from).num ch.put some put_some in
       let bottom : 0 < (ratio parts ch.from).den * ch.take = some_product (ratio parts ch.from).den ch.take near.bottom_some take_some in
       record {
@@ -177,9 +168,9 @@ module _ (g : Shape) (shape : IsShape g) (parts : List Ratio) (walk : IsWalk g p
 
   pub share_from : 0 < (ratio parts ch.to).num → IsReduced ((ratio parts ch.to).num * ch.take) ((ratio parts ch.to).den * ch.put) f.num f.den → IsShare g ch.from f
   share_from some red =
-      let near = (walk.each ch.to (subst (λ (ch : Channel). ch.to < g.actors) is (shape.to_in c h)) some).0 in
-      let put_some : 0 < ch.put = subst (λ (ch : Channel). 0 < ch.put) is (shape.put_some c h) in
-      let take_some : 0 < ch.take = subst (λ (ch : Channel). 0 < ch.take) is (shape.take_some c h) in
+      let near = (walk.each ch.to (subst (λ (ch : Totals). ch.to < g.actors) is (shape.to_in c h)) some).0 in
+      let put_some : 0 < ch.put = subst (λ (ch : Totals). 0 < ch.put) is (shape.put c h).moves in
+      let take_some : 0 < ch.take = subst (λ (ch : Totals). 0 < ch.take) is (shape.take c h).moves in
       let top : 0 < (ratio parts ch.to).num * ch.take = some_product (ratio parts ch.to).num ch.take some take_some in
       let bottom : 0 < (ratio parts ch.to).den * ch.put = some_product (ratio parts ch.to).den ch.put near.bottom_some put_some in
       record {
@@ -211,27 +202,19 @@ walk_more g parts a f walk known fresh share small = record {
         subst (λ (x : Ratio). IsShare g b x × IsSmall x) (sym same) (walk.each b h (subst (λ (x : Ratio). 0 < x.num) same some))
 
 -- where no channel has exactly one end reached, all actors are
-pub all_reached : (g : Shape) (parts : List Ratio) → 0 < (ratio parts 0).num → ((c : ℕ) → c < length g.channels → IsLevel parts (channel g c)) → (a : ℕ) → IsReached g a → 0 < (ratio parts a).num
+pub all_reached : (g : Shape) (parts : List Ratio) → 0 < (ratio parts 0).num → ((c : ℕ) → c < length g.channels → IsLevel parts (totals (channel g c))) → (a : ℕ) → IsReached g a → 0 < (ratio parts a).num
 all_reached g parts begun level _ start = begun
 all_reached g parts begun level _ (along c h r) = (level c h).0 (all_reached g parts begun level (channel g c).from r)
 all_reached g parts begun level _ (back c h r) = (level c h).1 (all_reached g parts begun level (channel g c).to r)
 
 module _ (g : Shape) (shape : IsShape g) (parts : List Ratio) (walk : IsWalk g parts) (reached : (a : ℕ) → a < g.actors → 0 < (ratio parts a).num) where
   -- no period where the common denominator is over the limit
-  pub no_common : ((n : ℕ) → 0 < n → ((a : ℕ) → a < length parts → Divides (ratio parts a).den n) → 65536 < n) → (p : List ℕ) → IsPeriodVector (rates g) p → 65536 < sum p
+  pub no_common : ((n : ℕ) → 0 < n → ((a : ℕ) → a < length parts → Divides (ratio parts a).den n) → 65536 < n) → (p : List ℕ) → IsCycleVector g p → 65536 < sum p
   no_common over p period =
       let first : 65536 < get_or p 0 0 = over (get_or p 0 0) (period.positive 0 shape.some)
       (λ a h. let l : a < g.actors = omega (arith, walk.all) in (share_of g parts walk reached a l).lowest.bottom (get_or p a 0) (get_or p 0 0) ((share_of g parts walk reached a l).share p period)) in
       omega (arith, get_or-le-sum_by (λ x. x) p 0 0 (let l : 0 < length p = omega (arith, period.all, shape.some) in l))
 
-  -- nor where the least is
-  pub fault_of : (m : ℕ) → IsCommon parts (length parts) m → ((c : ℕ) → c < length g.channels → IsEven parts (channel g c)) → (e : GraphFault) → IsScaleFault parts m e → IsPeriodFault g e
-  fault_of m common evens OutOfMemory f = tt
-  fault_of m common evens PeriodTooLong f = λ p period.
-      let least : sum (map (firings m) parts) ≤ sum p = (least_period g parts walk reached m common shape evens).least p period in
-      omega (arith, sum-map (firings m) parts)
-  fault_of m common evens _ f = absurd f
-
-pub other_end : (parts : List Ratio) (c : Channel) → IsBorder parts c → (ratio parts c.from).num ≤ 0 → 0 < (ratio parts c.to).num
+pub other_end : (parts : List Ratio) (c : Totals) → IsBorder parts c → (ratio parts c.from).num ≤ 0 → 0 < (ratio parts c.to).num
 other_end parts c (inl b) none = absurd (omega (arith, b.0))
 other_end parts c (inr b) none = b.0

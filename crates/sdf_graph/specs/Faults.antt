@@ -1,26 +1,45 @@
 -- The faults of a graph, in the order of their tests. The first one that holds is the one that is answered.
-use Rattle.std.specs.Prelude.{◌≡◌, ℕ, ◌+◌, ◌<◌, ◌&&◌, Bool, List, [], ◌∷◌, length, nat_le, nat_lt, Option, Some, None, if◌then◌else◌}
-use Rattle.sdf_graph.specs.Rates.{Shape, IsReached}
-use Rattle.sdf_graph.specs.declared.channel.Channel.{Channel}
+use Rattle.std.specs.Prelude.{◌≡◌, ℕ, ◌+◌, ◌<◌, ◌==◌, ◌&&◌, ◌||◌, Bool, true, List, [], ◌∷◌, length, sum, nat_le, nat_lt, Option, Some, None, if◌then◌else◌}
+use Rattle.sdf_limits.specs.declared.TheConstants.{MOST_ACTORS, MOST_CHANNELS, MOST_RATE, MOST_CYCLE, MOST_INITIAL}
+use Rattle.sdf_graph.specs.Rates.{Shape, Edge, IsReached, cycle_among}
 use Rattle.sdf_graph.specs.declared.fault.GraphFault.{GraphFault}
-use Rattle.sdf_graph.specs.declared.fault.GraphFault.TheVariants.{OutOfMemory, ActorCount, ChannelCount, BadEnd, BadRate, InitialCount, NotConnected}
+use Rattle.sdf_graph.specs.declared.fault.GraphFault.TheVariants.{OutOfMemory, ActorCount, ChannelCount, BadEnd, BadRate, CycleLength, InitialCount, NotConnected}
 
 abbrev pub is_within : ℕ → ℕ → ℕ → Bool
 is_within least most n = nat_le least n && nat_le n most
 
 -- both ends of a channel are actors, of whom there are so many
-abbrev pub joins_actors : ℕ → Channel → Bool
-joins_actors actors ch = nat_lt ch.from actors && nat_lt ch.to actors
+abbrev pub joins_actors : ℕ → Edge → Bool
+joins_actors actors e = nat_lt e.from actors && nat_lt e.to actors
 
-abbrev pub has_rates : Channel → Bool
-has_rates ch = is_within 1 1024 ch.put && is_within 1 1024 ch.take
+-- no rate is over the limit
+abbrev pub are_small : List ℕ → Bool
+are_small [] = true
+are_small (x ∷ xs) = nat_le x MOST_RATE && are_small xs
+
+-- nor does a cycle move nothing, where it has firings at all
+abbrev pub are_rates : List ℕ → Bool
+are_rates rates = are_small rates && (length rates == 0 || nat_lt 0 (sum rates))
+
+abbrev pub has_rates : Edge → Bool
+has_rates e = are_rates e.put && are_rates e.take
+
+-- there is a rate for each firing of a cycle of n
+abbrev pub is_cycle : ℕ → List ℕ → Bool
+is_cycle n rates = is_within 1 MOST_CYCLE (length rates) && length rates == n
+
+-- so it is at both ends of a channel, among all channels
+abbrev pub has_cycles : List Edge → Edge → Bool
+has_cycles channels e = is_cycle (cycle_among channels e.from) e.put && is_cycle (cycle_among channels e.to) e.take
 
 -- the first fault of the numbers of channel c
-abbrev pub channel_fault : ℕ → ℕ → Channel → Option GraphFault
-channel_fault actors c ch =
-    if joins_actors actors ch then (
-    if has_rates ch then (
-    if nat_le ch.initial 65536 then None else Some (InitialCount c)
+abbrev pub channel_fault : ℕ → List Edge → ℕ → Edge → Option GraphFault
+channel_fault actors channels c e =
+    if joins_actors actors e then (
+    if has_rates e then (
+    if has_cycles channels e then (
+    if nat_le e.initial MOST_INITIAL then None else Some (InitialCount c)
+    ) else Some (CycleLength c)
     ) else Some (BadRate c)
     ) else Some (BadEnd c)
 
@@ -28,16 +47,16 @@ abbrev pub or_else : Option GraphFault → Option GraphFault → Option GraphFau
 or_else (Some fault) next = Some fault
 or_else None next = next
 
--- the first fault of channels, the first of which is channel c
-abbrev pub channels_fault : ℕ → ℕ → List Channel → Option GraphFault
-channels_fault actors c [] = None
-channels_fault actors c (ch ∷ chs) = or_else (channel_fault actors c ch) (channels_fault actors (c + 1) chs)
+-- the first fault of the rest of some channels, the first of which is channel c
+abbrev pub channels_fault : ℕ → List Edge → ℕ → List Edge → Option GraphFault
+channels_fault actors channels c [] = None
+channels_fault actors channels c (e ∷ es) = or_else (channel_fault actors channels c e) (channels_fault actors channels (c + 1) es)
 
 -- the first fault of the numbers of a graph: how many actors, how many channels, and then each channel's in order
 abbrev pub numbers_fault : Shape → Option GraphFault
 numbers_fault g =
-    if is_within 1 64 g.actors then (
-    if nat_le (length g.channels) 256 then channels_fault g.actors 0 g.channels else Some ChannelCount
+    if is_within 1 MOST_ACTORS g.actors then (
+    if nat_le (length g.channels) MOST_CHANNELS then channels_fault g.actors g.channels 0 g.channels else Some ChannelCount
     ) else Some ActorCount
 
 -- channels, walked both ways, join each actor to actor 0

@@ -1,7 +1,40 @@
 -- Statements of the laws.
-use Rattle.std.specs.Prelude.{ℕ, length, ◌<◌, List, ◌≡◌, ◌*◌}
-use Rattle.sdf_graph.specs.Rates.{Rates, IsAlike, IsSound, Shape, channel}
+use Rattle.std.specs.Prelude.{◌≡◌, ℕ, ◌+◌, ◌*◌, ◌≤◌, ◌<◌, List, length, take, slice_index, sum}
+use Rattle.sdf_graph.specs.Rates.{Rates, IsAlike, IsSound, Shape, IsShape, rates, sum_to}
 use Rattle.sdf_graph.specs.Sequences.{times, IsAdmissible, IsPass, IsPeriod, repeated, FitsIn}
+use Rattle.sdf_graph.specs.Periods.{IsPeriodVector}
+
+-- the rates of a graph are sound
+abbrev pub GraphsAreSound : Type 0
+GraphsAreSound = (g : Shape) → IsShape g → IsSound (rates g)
+
+-- its period vectors are periods
+abbrev pub GraphsHavePeriods : Type 0
+GraphsHavePeriods = (g : Shape) (q : List ℕ) → IsShape g → IsPeriodVector (rates g) q → IsPeriod (rates g) (slice_index q)
+
+-- the actor that fires last counts one more
+abbrev pub LastCountsMore : Type 0
+LastCountsMore = (w : List ℕ) (i a : ℕ) → i < length w → slice_index w i ≡ a → times (take (i + 1) w) a ≡ times (take i w) a + 1
+
+-- and every other counts the same
+abbrev pub OthersCountSame : Type 0
+OthersCountSame = (w : List ℕ) (i a : ℕ) → i < length w → (slice_index w i ≡ a → ⊥) → times (take (i + 1) w) a ≡ times (take i w) a
+
+-- the front of a sequence counts no more than the whole
+abbrev pub FrontsCountWithin : Type 0
+FrontsCountWithin = (w : List ℕ) (i a : ℕ) → times (take i w) a ≤ times w a
+
+-- a sum grows by the value of the next firing
+abbrev pub SumsGrow : Type 0
+SumsGrow = (f : ℕ → ℕ) (i : ℕ) → sum_to f (i + 1) ≡ sum_to f i + f i
+
+-- so it never falls
+abbrev pub SumsRise : Type 0
+SumsRise = (f : ℕ → ℕ) (i j : ℕ) → i ≤ j → sum_to f i ≤ sum_to f j
+
+-- a list of numbers that are no greater has no greater sum
+abbrev pub ListsSumWithin : Type 0
+ListsSumWithin = (xs ys : List ℕ) → length xs ≡ length ys → ((a : ℕ) → slice_index xs a ≤ slice_index ys a) → sum xs ≤ sum ys
 
 -- a period's schedule can be repeated
 abbrev pub PeriodsRepeat : Type 0
@@ -14,10 +47,6 @@ abbrev pub CapacitiesRepeat : Type 0
 CapacitiesRepeat =
     (r : Rates) (q cap : ℕ → ℕ) (w : List ℕ) (b : ℕ) → IsSound r → IsPeriod r q → IsPass r q w →
     FitsIn r cap w → FitsIn r cap (repeated b w)
-
--- the vector q balances each channel
-abbrev pub Balances : Shape → (ℕ → ℕ) → Type 0
-Balances g q = (c : ℕ) → c < length g.channels → q (channel g c).from * (channel g c).put ≡ q (channel g c).to * (channel g c).take
 
 -- graphs with the same rates have the same admissible sequences
 abbrev pub AlikeSequences : Type 0

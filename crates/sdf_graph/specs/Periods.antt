@@ -1,13 +1,19 @@
 -- Period vectors, and which is the least.
 use Rattle.std.specs.Prelude.{◌≡◌, ℕ, ◌*◌, ◌≤◌, ◌<◌, List, length, slice_index, sum}
+use Rattle.sdf_limits.specs.declared.TheConstants.{MOST_PERIOD}
 use Rattle.sdf_graph.specs.Rates.{Rates, Shape, rates}
 use Rattle.sdf_graph.specs.declared.fault.GraphFault.{GraphFault}
 use Rattle.sdf_graph.specs.declared.fault.GraphFault.TheVariants.{OutOfMemory, Inconsistent, PeriodTooLong}
 
--- how often each actor fires in a period: on each channel as much is put as is taken
+-- d divides n
+abbrev pub Divides : ℕ → ℕ → Type 0
+Divides d n = (k : ℕ) × (n ≡ k * d)
+
+-- how often each actor fires in a period: whole cycles, and on each channel as much is put as is taken
 pub record IsPeriodVector (r : Rates) (q : List ℕ) : Type 0 where
   pub all : length q ≡ r.actors
   pub positive : (a : ℕ) → a < r.actors → 0 < slice_index q a
+  pub whole : (a : ℕ) → a < r.actors → Divides (r.cycle a) (slice_index q a)
   pub balanced : (c : ℕ) → c < r.channels → r.produced c (slice_index q (r.source c)) ≡ r.consumed c (slice_index q (r.target c))
 
 -- p is some multiple of q
@@ -24,5 +30,5 @@ pub record IsLeastPeriod (r : Rates) (q : List ℕ) : Type 0 where
 abbrev pub IsPeriodFault : Shape → GraphFault → Type 0
 IsPeriodFault g OutOfMemory = Unit {0}
 IsPeriodFault g (Inconsistent c) = (c < length g.channels) × ((p : List ℕ) → IsPeriodVector (rates g) p → ⊥)
-IsPeriodFault g PeriodTooLong = (p : List ℕ) → IsPeriodVector (rates g) p → 65536 < sum p
+IsPeriodFault g PeriodTooLong = (p : List ℕ) → IsPeriodVector (rates g) p → MOST_PERIOD < sum p
 IsPeriodFault g _ = ⊥

@@ -1,6 +1,15 @@
 -- What the definitions and laws see of a graph: its shape, and how many samples firings move.
-use Rattle.std.specs.Prelude.{◌≡◌, ℕ, ◌*◌, ◌≤◌, ◌<◌, List, length, slice_index_or}
-use Rattle.sdf_graph.specs.declared.channel.Channel.{Channel}
+use Rattle.std.specs.Prelude.{◌≡◌, ℕ, zero, suc, ◌+◌, ◌%◌, ◌≤◌, ◌<◌, ◌==◌, if◌then◌else◌, List, [], ◌∷◌, length, slice_index, slice_index_or, sum}
+use Rattle.sdf_limits.specs.declared.TheConstants.{MOST_ACTORS, MOST_CHANNELS, MOST_RATE, MOST_CYCLE, MOST_INITIAL}
+
+-- the sum of the first i values
+abbrev pub sum_to : (ℕ → ℕ) → ℕ → ℕ
+sum_to f zero = 0
+sum_to f (suc i) = sum_to f i + f i
+
+-- the rate of firing i, where these are the rates of a cycle, which begins anew after its last
+abbrev pub rate_at : List ℕ → ℕ → ℕ
+rate_at cycle i = slice_index cycle (i % length cycle)
 
 pub record Rates : Type 0 where
   pub actors : ℕ
@@ -8,6 +17,8 @@ pub record Rates : Type 0 where
   -- the actors at the two ends of a channel
   pub source : ℕ → ℕ
   pub target : ℕ → ℕ
+  -- how many firings an actor's cycle has, after which its rates begin anew
+  pub cycle : ℕ → ℕ
   -- how many samples a channel begins with
   pub initial : ℕ → ℕ
   -- how many samples the first i firings of its source put on channel c: produced c i
@@ -24,16 +35,33 @@ pub record IsSound (r : Rates) : Type 0 where
   pub produced_rises : (c i j : ℕ) → i ≤ j → r.produced c i ≤ r.produced c j
   pub consumed_rises : (c i j : ℕ) → i ≤ j → r.consumed c i ≤ r.consumed c j
 
-abbrev pub no_channel : Channel
-no_channel = record { from = 0; put = 0; to = 0; take = 0; initial = 0 }
+-- a channel: the actors at its ends, what each firing of their cycles puts and takes, and how many samples it begins with
+pub record Edge : Type 0 where
+  pub from : ℕ
+  pub put : List ℕ
+  pub to : ℕ
+  pub take : List ℕ
+  pub initial : ℕ
+
+abbrev pub no_channel : Edge
+no_channel = record { from = 0; put = []; to = 0; take = []; initial = 0 }
 
 -- a graph as its actors' number and its channels
 pub record Shape : Type 0 where
   pub actors : ℕ
-  pub channels : List Channel
+  pub channels : List Edge
 
-abbrev pub channel : Shape → ℕ → Channel
+abbrev pub channel : Shape → ℕ → Edge
 channel g c = slice_index_or g.channels c no_channel
+
+-- the length of an actor's cycle: of its list at the first channel that it is an end of, its source before its target.
+-- It is 1 for an actor without channels
+abbrev pub cycle_among : List Edge → ℕ → ℕ
+cycle_among [] a = 1
+cycle_among (e ∷ es) a = if e.from == a then length e.put else (if e.to == a then length e.take else cycle_among es a)
+
+abbrev pub cycle : Shape → ℕ → ℕ
+cycle g a = cycle_among g.channels a
 
 -- the rates of a graph
 abbrev pub rates : Shape → Rates
@@ -42,9 +70,10 @@ rates g = record {
   channels = length g.channels;
   source = λ c. (channel g c).from;
   target = λ c. (channel g c).to;
+  cycle = cycle g;
   initial = λ c. (channel g c).initial;
-  produced = λ c i. (channel g c).put * i;
-  consumed = λ c i. (channel g c).take * i;
+  produced = λ c i. sum_to (rate_at (channel g c).put) i;
+  consumed = λ c i. sum_to (rate_at (channel g c).take) i;
 }
 
 -- actors that channels, walked both ways, join to actor 0
@@ -53,19 +82,25 @@ pub data IsReached (g : Shape) : ℕ → Type 0 where
   along : (c : ℕ) → c < length g.channels → IsReached g (channel g c).from → IsReached g (channel g c).to
   back : (c : ℕ) → c < length g.channels → IsReached g (channel g c).to → IsReached g (channel g c).from
 
--- each channel's ends are actors, its numbers are small, and the graph is connected
+-- the rates at one end of a channel, over a cycle of so many firings
+pub record IsCycle (n : ℕ) (rates : List ℕ) : Type 0 where
+  pub all : length rates ≡ n
+  pub some : 0 < n
+  pub short : n ≤ MOST_CYCLE
+  pub moves : 0 < sum rates
+  pub small : (i : ℕ) → slice_index rates i ≤ MOST_RATE
+
+-- each channel's ends are actors, with a rate for each firing of their cycles, its numbers are small, and the graph is connected
 pub record IsShape (g : Shape) : Type 0 where
   pub some : 0 < g.actors
-  pub few : g.actors ≤ 64
-  pub narrow : length g.channels ≤ 256
-  pub put_some : (c : ℕ) → c < length g.channels → 0 < (channel g c).put
-  pub take_some : (c : ℕ) → c < length g.channels → 0 < (channel g c).take
-  pub take_small : (c : ℕ) → c < length g.channels → (channel g c).take ≤ 1024
+  pub few : g.actors ≤ MOST_ACTORS
+  pub narrow : length g.channels ≤ MOST_CHANNELS
+  pub put : (c : ℕ) → c < length g.channels → IsCycle (cycle g (channel g c).from) (channel g c).put
+  pub take : (c : ℕ) → c < length g.channels → IsCycle (cycle g (channel g c).to) (channel g c).take
   pub connected : (a : ℕ) → a < g.actors → IsReached g a
   pub from_in : (c : ℕ) → c < length g.channels → (channel g c).from < g.actors
   pub to_in : (c : ℕ) → c < length g.channels → (channel g c).to < g.actors
-  pub put_small : (c : ℕ) → c < length g.channels → (channel g c).put ≤ 1024
-  pub initial_small : (c : ℕ) → c < length g.channels → (channel g c).initial ≤ 65536
+  pub initial_small : (c : ℕ) → c < length g.channels → (channel g c).initial ≤ MOST_INITIAL
 
 -- two graphs with the same rates, as a net and the graph that is made of it
 pub record IsAlike (r t : Rates) : Type 0 where

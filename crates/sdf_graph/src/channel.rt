@@ -1,26 +1,42 @@
 //! Channels, and what their numbers may be.
 
-ghost use Rattle.std.specs.Prelude.{◌≡◌};
-ghost use Rattle.sdf_graph.specs.Faults.{channel_fault, channels_fault, is_within};
+ghost use Rattle.std.specs.Prelude.{◌≡◌, ℕ, ◌≤◌, ◌<◌, length, slice_index, sum, nat_lt, IfOk, map};
+ghost use Rattle.sdf_graph.specs.Faults.{channel_fault, channels_fault, are_small, are_rates, is_cycle};
+ghost use Rattle.sdf_graph.specs.Rates.{IsCycle, cycle_among, rate_at};
+ghost use Rattle.sdf_graph.specs.Shares.{totals};
 ghost use Rattle.sdf_graph.specs.Adjacency.{actor_at};
 
 use crate::fault::GraphFault;
+use sdf_limits::{MOST_CYCLE, MOST_INITIAL, MOST_RATE};
+use std::marker::Model;
 
-/// The greatest number of samples that a firing puts on a channel, or takes from it.
-pub const MOST_RATE: u32 = 1_024;
-
-/// The greatest number of samples that a channel begins with.
-pub const MOST_INITIAL: usize = 65_536;
-
-/// A channel from an actor to another one or to itself: each firing of `from` puts `put` samples on it, each firing
-/// of `to` takes `take`, and it begins with `initial` samples (the delays of Lee and Messerschmitt).
-#[derive(Debug, Clone, Copy, PartialEq, Eq)]
+/// A channel from an actor to another one or to itself. Each actor has a cycle of firings, and firing `i` of a cycle of `n`
+/// moves what stands at `i % n` in a list of `n` rates: of `put` what `from` puts, of `take` what `to` takes. The channel
+/// begins with `initial` samples (the delays of Lee and Messerschmitt).
+#[derive(Drop)]
 pub struct Channel {
     pub from: usize,
-    pub put: u32,
+    pub put: Vec<u32>,
     pub to: usize,
-    pub take: u32,
+    pub take: Vec<u32>,
     pub initial: usize,
+}
+
+impl Model for Channel {
+    ghost use Rattle.sdf_graph.specs.Rates.{Edge};
+
+    ghost Value = { Edge };
+
+    ghost view = { λ c. record { from = c.from; put = c.put.items; to = c.to; take = c.take.items; initial = c.initial } };
+}
+
+/// What a channel moves in a cycle of the actor at each end.
+#[derive(Clone, Copy)]
+pub(crate) struct Totals {
+    pub(crate) from: usize,
+    pub(crate) put: u32,
+    pub(crate) to: usize,
+    pub(crate) take: u32,
 }
 
 /// One end of a channel.
@@ -41,14 +57,48 @@ impl Channel {
         }
     }
 
-    /// The first fault of its numbers, where it is channel `number` among so many actors.
-    fn fault(&self, actors: usize, number: usize) -> Option<GraphFault>
-        ensures { result ≡ channel_fault actors number self.now }
+    /// How many samples firing `i` of its source puts.
+    pub fn puts(&self, i: u32) -> u32
+        requires { 0 < length self.now.put }
+        ensures { result ≡ rate_at self.now.put i }
+    {
+        rate_at(&self.put, i)
+    }
+
+    /// How many samples firing `i` of its target takes.
+    pub fn takes(&self, i: u32) -> u32
+        requires { 0 < length self.now.take }
+        ensures { result ≡ rate_at self.now.take i }
+    {
+        rate_at(&self.take, i)
+    }
+
+    /// What its ends move in a cycle.
+    pub(crate) fn totals(&self, puts: usize, takes: usize) -> Totals
+        requires put { IsCycle puts self.now.put }
+        requires take { IsCycle takes self.now.take }
+        ensures { result ≡ totals self.now }
+    {
+        Totals {
+            from: self.from,
+            put: total(&self.put),
+            to: self.to,
+            take: total(&self.take),
+        }
+    }
+
+    /// The first fault of its numbers, where it is channel `number` of these, among so many actors.
+    fn fault(&self, actors: usize, channels: &[Channel], number: usize) -> Option<GraphFault>
+        ensures { result ≡ channel_fault actors channels.now number self.now }
     {
         if self.from >= actors || self.to >= actors {
             Some(GraphFault::BadEnd { channel: number })
-        } else if !is_rate(self.put) || !is_rate(self.take) {
+        } else if !are_rates(&self.put) || !are_rates(&self.take) {
             Some(GraphFault::BadRate { channel: number })
+        } else if !is_cycle(cycle_among(channels, self.from), &self.put)
+            || !is_cycle(cycle_among(channels, self.to), &self.take)
+        {
+            Some(GraphFault::CycleLength { channel: number })
         } else if self.initial > MOST_INITIAL {
             Some(GraphFault::InitialCount { channel: number })
         } else {
@@ -57,18 +107,86 @@ impl Channel {
     }
 }
 
-fn is_rate(rate: u32) -> bool
-    ensures { result ≡ is_within 1 1024 rate }
+/// The rate of firing `i`, where these are the rates of a cycle.
+fn rate_at(rates: &[u32], i: u32) -> u32
+    requires { 0 < length rates.now }
+    ensures { result ≡ rate_at rates.now i }
 {
-    1 <= rate && rate <= MOST_RATE
+    rates[i as usize % rates.len()]
+}
+
+/// The sum of the rates of a cycle.
+fn total(rates: &[u32]) -> u32
+    requires short { length rates.now ≤ MOST_CYCLE }
+    requires small { (i : ℕ) → slice_index rates.now i ≤ MOST_RATE }
+    ensures { result ≡ sum rates.now }
+{
+    let mut total = 0;
+    for rate in rates {
+        total += *rate;
+    }
+    total
+}
+
+/// Whether no rate is over the limit.
+fn are_small(rates: &[u32]) -> bool
+    ensures { result ≡ are_small rates.now }
+{
+    for rate in rates {
+        if *rate > MOST_RATE {
+            return false;
+        }
+    }
+    true
+}
+
+/// Whether some rate is above nothing.
+fn some_moves(rates: &[u32]) -> bool
+    ensures { result ≡ nat_lt 0 (sum rates.now) }
+{
+    for rate in rates {
+        if *rate > 0 {
+            return true;
+        }
+    }
+    false
+}
+
+/// Whether no rate is over the limit, and a cycle that has firings moves something.
+fn are_rates(rates: &[u32]) -> bool
+    ensures { result ≡ are_rates rates.now }
+{
+    are_small(rates) && (rates.is_empty() || some_moves(rates))
+}
+
+/// Whether there is a rate for each firing of a cycle of so many.
+fn is_cycle(firings: usize, rates: &[u32]) -> bool
+    ensures { result ≡ is_cycle firings rates.now }
+{
+    1 <= rates.len() && rates.len() <= MOST_CYCLE as usize && rates.len() == firings
+}
+
+/// How many firings the cycle of an actor has: as many as its first list has rates.
+pub(crate) fn cycle_among(channels: &[Channel], actor: usize) -> usize
+    ensures { result ≡ cycle_among channels.now actor }
+{
+    for channel in channels {
+        if channel.from == actor {
+            return channel.put.len();
+        }
+        if channel.to == actor {
+            return channel.take.len();
+        }
+    }
+    1
 }
 
 /// The first fault of the channels' numbers.
 pub(crate) fn channels_fault(actors: usize, channels: &[Channel]) -> Option<GraphFault>
-    ensures { result ≡ channels_fault actors 0 channels.now }
+    ensures { result ≡ channels_fault actors channels.now 0 channels.now }
 {
     for (number, channel) in channels.iter().enumerate() {
-        if let Some(fault) = channel.fault(actors, number) {
+        if let Some(fault) = channel.fault(actors, channels, number) {
             return Some(fault);
         }
     }

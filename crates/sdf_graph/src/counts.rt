@@ -1,7 +1,7 @@
 //! Token counts: how many samples each channel holds after some firings.
 
 ghost use Rattle.std.specs.Prelude.{◌≡◌, ℕ, ◌+◌, ◌-◌, ◌^◌, ◌≤◌, ◌<◌, ◌↔◌, length, replicate, slice_index, slice_index_or, slice_set, IfOk, MatchOption, IsTrue};
-ghost use Rattle.sdf_graph.specs.Rates.{rates, channel, no_channel};
+ghost use Rattle.sdf_graph.specs.Rates.{rates, channel, no_channel, rate_at, IsCycle};
 ghost use Rattle.sdf_graph.specs.Sequences.{tokens, IsEnabled, IsShortChannel};
 ghost use Rattle.sdf_graph.specs.Tally.{counts};
 ghost use Rattle.std.specs.List.Sorted.{IsStrictlyIncreasing};
@@ -75,7 +75,12 @@ impl<'a> Counts<'a> {
         ensures { MatchOption result (IsEnabled (rates self.now.graph) (counts self.now) actor) (IsShortChannel (rates self.now.graph) (counts self.now) actor) }
     {
         let graph = self.graph;
-        first_short(graph.channels(), graph.incoming(actor), &self.held)
+        first_short(
+            graph.channels(),
+            self.fired[actor],
+            graph.incoming(actor),
+            &self.held,
+        )
     }
 
     /// Fires an actor that is enabled: it takes from each channel into it, and puts on each channel out of it.
@@ -86,58 +91,64 @@ impl<'a> Counts<'a> {
         ensures { self.new ≡ record self.old { fired = slice_set self.old.fired actor (counts self.old actor + 1) } }
     {
         let graph = self.graph;
-        move_all(graph, actor, &mut self.held);
+        move_all(graph, actor, self.fired[actor], &mut self.held);
         self.fired[actor] += 1;
     }
 }
 
-/// The first of some channels that holds less than it takes.
-fn first_short(channels: &[Channel], numbers: &[usize], held: &[u64]) -> Option<usize>
+/// The first of some channels that holds less than firing `i` of their target takes.
+fn first_short(channels: &[Channel], i: u32, numbers: &[usize], held: &[u64]) -> Option<usize>
     requires all { length held.now ≡ length channels.now }
-    requires known { (i : ℕ) → i < length numbers.now → slice_index numbers.now i < length channels.now }
-    ensures { MatchOption result (HoldEnough channels.now held.now numbers.now (length numbers.now)) (IsFirstShort channels.now held.now numbers.now) }
+    requires known { (j : ℕ) → j < length numbers.now → slice_index numbers.now j < length channels.now }
+    requires cycles { (c : ℕ) → c < length channels.now → 0 < length (slice_index_or channels.now c no_channel).take }
+    ensures { MatchOption result (HoldEnough channels.now i held.now numbers.now (length numbers.now)) (IsFirstShort channels.now i held.now numbers.now) }
 {
     for &number in numbers {
-        if held[number] < u64::from(channels[number].take) {
+        let channel = &channels[number];
+        if held[number] < u64::from(channel.takes(i)) {
             return Some(number);
         }
     }
     None
 }
 
-/// What all channels hold after a firing.
-fn move_all(graph: &Graph, actor: usize, held: &mut [u64])
+/// What all channels hold after firing `i` of an actor.
+fn move_all(graph: &Graph, actor: usize, i: u32, held: &mut [u64])
     requires known { actor < graph.now.actors }
     requires all { length held.old ≡ length graph.now.channels }
-    requires room { (c : ℕ) → c < length graph.now.channels → slice_index held.old c + (channel graph.now c).put < 2 ^ 64 }
-    requires enough { (c : ℕ) → c < length graph.now.channels → (channel graph.now c).to ≡ actor → (channel graph.now c).take ≤ slice_index held.old c }
-    ensures { (c : ℕ) → c < length graph.now.channels → slice_index held.new c ≡ moved (channel graph.now c) actor (slice_index held.old c) }
+    requires room { (c : ℕ) → c < length graph.now.channels → slice_index held.old c + rate_at (channel graph.now c).put i < 2 ^ 64 }
+    requires enough { (c : ℕ) → c < length graph.now.channels → (channel graph.now c).to ≡ actor → rate_at (channel graph.now c).take i ≤ slice_index held.old c }
+    ensures { (c : ℕ) → c < length graph.now.channels → slice_index held.new c ≡ moved (channel graph.now c) actor i (slice_index held.old c) }
 {
     let channels = graph.channels();
-    move_tokens(channels, graph.incoming(actor), End::Target, held);
-    move_tokens(channels, graph.outgoing(actor), End::Source, held);
+    move_tokens(channels, graph.incoming(actor), End::Target, i, held);
+    move_tokens(channels, graph.outgoing(actor), End::Source, i, held);
 }
 
-/// What channels hold after a firing of the actor at one end of some of them.
-fn move_tokens(channels: &[Channel], numbers: &[usize], end: End, held: &mut [u64])
+/// What channels hold after firing `i` of the actor at one end of some of them.
+fn move_tokens(channels: &[Channel], numbers: &[usize], end: End, i: u32, held: &mut [u64])
     requires all { length held.old ≡ length channels.now }
     requires rising { IsStrictlyIncreasing numbers.now }
-    requires known { (i : ℕ) → i < length numbers.now → slice_index numbers.now i < length channels.now }
-    requires can { (i : ℕ) → i < length numbers.now → CanMove end (slice_index_or channels.now (slice_index numbers.now i) no_channel) (slice_index held.old (slice_index numbers.now i)) }
-    ensures { AreMoved channels.now end numbers.now (length numbers.now) held.old held.new }
+    requires known { (j : ℕ) → j < length numbers.now → slice_index numbers.now j < length channels.now }
+    requires puts { (c : ℕ) → c < length channels.now → 0 < length (slice_index_or channels.now c no_channel).put }
+    requires takes { (c : ℕ) → c < length channels.now → 0 < length (slice_index_or channels.now c no_channel).take }
+    requires can { (j : ℕ) → j < length numbers.now → CanMove end (slice_index_or channels.now (slice_index numbers.now j) no_channel) i (slice_index held.old (slice_index numbers.now j)) }
+    ensures { AreMoved channels.now end i numbers.now (length numbers.now) held.old held.new }
 {
     for &number in numbers {
-        held[number] = after_firing(&channels[number], end, held[number]);
+        held[number] = after_firing(&channels[number], end, i, held[number]);
     }
 }
 
-/// What a channel holds after a firing of the actor at one end.
-fn after_firing(channel: &Channel, end: End, held: u64) -> u64
-    requires { CanMove end channel.now held }
-    ensures { result ≡ moved_at end channel.now held }
+/// What a channel holds after firing `i` of the actor at one end.
+fn after_firing(channel: &Channel, end: End, i: u32, held: u64) -> u64
+    requires puts { 0 < length channel.now.put }
+    requires takes { 0 < length channel.now.take }
+    requires can { CanMove end channel.now i held }
+    ensures { result ≡ moved_at end channel.now i held }
 {
     match end {
-        End::Source => held + u64::from(channel.put),
-        End::Target => held - u64::from(channel.take),
+        End::Source => held + u64::from(channel.puts(i)),
+        End::Target => held - u64::from(channel.takes(i)),
     }
 }

@@ -1,22 +1,18 @@
 //! Graphs, and the faults with which they are refused.
 
-ghost use Rattle.std.specs.Prelude.{◌≡◌, ◌<◌, MatchResult};
-ghost use Rattle.sdf_graph.specs.Rates.{Shape, IsShape, rates};
+ghost use Rattle.std.specs.Prelude.{◌≡◌, ℕ, ◌^◌, ◌<◌, length, map, slice_index, slice_index_or, MatchResult, IfOk};
+ghost use Rattle.sdf_graph.specs.Rates.{Shape, IsShape, IsCycle, rates, cycle, cycle_among, no_channel};
+ghost use Rattle.sdf_graph.specs.Shares.{totals};
 ghost use Rattle.sdf_graph.specs.Adjacency.{AreOutgoing, AreIncoming};
 ghost use Rattle.sdf_graph.specs.Faults.{IsFaultless, IsFirstFault, numbers_fault};
 
 use crate::adjacency::channels_by_actor;
-use crate::channel::{Channel, End, channels_fault};
+use crate::channel::{Channel, End, Totals, channels_fault, cycle_among};
 use crate::fault::GraphFault;
 use crate::reach::lowest_unreached;
-use std::alloc::Global;
+use sdf_limits::{MOST_ACTORS, MOST_CHANNELS};
+use std::alloc::{AllocError, Global};
 use std::marker::Model;
-
-/// The greatest number of actors of a graph.
-pub const MOST_ACTORS: usize = 64;
-
-/// The greatest number of channels of a graph.
-pub const MOST_CHANNELS: usize = 256;
 
 /// A synchronous dataflow graph (Lee and Messerschmitt 1987): actors, which are numbers from 0, and the channels
 /// between them. Channels, walked both ways, join each actor to actor 0.
@@ -24,6 +20,10 @@ pub const MOST_CHANNELS: usize = 256;
 pub struct Graph {
     pub(crate) actors: usize,
     pub(crate) channels: Vec<Channel>,
+    // what each channel moves in a cycle of the actor at each end
+    pub(crate) totals: Vec<Totals>,
+    // how many firings the cycle of each actor has
+    pub(crate) cycles: Vec<u32>,
     // for each actor the channels that come from it, and those that go to it
     outgoing: Vec<Vec<usize>>,
     incoming: Vec<Vec<usize>>,
@@ -38,15 +38,15 @@ impl Model for Graph {
 
     ghost view = { λ g. record { actors = g.actors; channels = g.channels.items } };
 
-    ghost invariant = { λ g. IsGraph (record { actors = g.actors; channels = g.channels.items }) (map (λ list. list.items) g.outgoing.items) (map (λ list. list.items) g.incoming.items) };
+    ghost invariant = { λ g. IsGraph (record { actors = g.actors; channels = g.channels.items }) g.totals.items g.cycles.items (map (λ list. list.items) g.outgoing.items) (map (λ list. list.items) g.incoming.items) };
 }
 
 impl Graph {
     /// A graph of 1 to 64 actors and at most 256 channels.
     ///
     /// A fault is the first in this order: the number of actors, the number of channels, then for each channel in order
-    /// its ends, its rates (1 to 1,024) and its initial samples (at most 65,536), and then the lowest actor that is not
-    /// joined to actor 0.
+    /// its ends, its rates (at most 1,024, and not all 0), the lengths of its lists (1 to 64, and that of the first list of
+    /// the same actor) and its initial samples (at most 65,536), and then the lowest actor that is not joined to actor 0.
     pub fn new(alloc: Global, actors: usize, channels: Vec<Channel>) -> Result<Graph, GraphFault>
         ensures { let shape : Shape = record { actors = actors; channels = channels.items } in
             MatchResult result (λ graph. (graph ≡ shape) × IsFaultless shape) (IsFirstFault shape) }
@@ -57,11 +57,15 @@ impl Graph {
         if let Some(actor) = lowest_unreached(actors, &channels) {
             return Err(GraphFault::NotConnected { actor });
         }
+        let totals = totals_of(alloc, &channels)?;
+        let cycles = cycles_of(alloc, actors, &channels)?;
         let outgoing = channels_by_actor(alloc, actors, &channels, End::Source)?;
         let incoming = channels_by_actor(alloc, actors, &channels, End::Target)?;
         Ok(Graph {
             actors,
             channels,
+            totals,
+            cycles,
             outgoing,
             incoming,
         })
@@ -76,9 +80,18 @@ impl Graph {
 
     /// The channels, by number.
     pub fn channels(&self) -> &[Channel]
-        ensures { result.now ≡ self.now.channels }
+        ensures list { result.now ≡ self.now.channels }
+        ensures shape { IsShape self.now }
     {
         &self.channels
+    }
+
+    /// How many firings the cycle of an actor has, after which its rates begin anew: 1 for an actor without channels.
+    pub fn cycle(&self, actor: usize) -> u32
+        requires { actor < self.now.actors }
+        ensures { result ≡ cycle self.now actor }
+    {
+        self.cycles[actor]
     }
 
     /// The numbers of the channels that come from an actor, in rising order. One from the actor to itself is among them.
@@ -96,13 +109,6 @@ impl Graph {
     {
         &self.incoming[actor]
     }
-
-    /// What holds of every graph.
-    pub fn is_whole(&self)
-        ensures { IsShape self.now }
-    {
-        let _ = &self.channels;
-    }
 }
 
 /// The first fault of the numbers of a graph.
@@ -116,4 +122,31 @@ fn numbers_fault(actors: usize, channels: &[Channel]) -> Option<GraphFault>
         return Some(GraphFault::ChannelCount);
     }
     channels_fault(actors, channels)
+}
+
+/// What each channel moves in a cycle of the actor at each end.
+fn totals_of(alloc: Global, channels: &[Channel]) -> Result<Vec<Totals>, AllocError>
+    requires put { (c : ℕ) → c < length channels.now → IsCycle (cycle_among channels.now (slice_index_or channels.now c no_channel).from) (slice_index_or channels.now c no_channel).put }
+    requires take { (c : ℕ) → c < length channels.now → IsCycle (cycle_among channels.now (slice_index_or channels.now c no_channel).to) (slice_index_or channels.now c no_channel).take }
+    ensures { IfOk result (λ v. v.items ≡ map totals channels.now) }
+{
+    let mut all = Vec::new(alloc);
+    for channel in channels {
+        let puts = cycle_among(channels, channel.from);
+        let takes = cycle_among(channels, channel.to);
+        all.push(channel.totals(puts, takes))?;
+    }
+    Ok(all)
+}
+
+/// How many firings the cycle of each actor has.
+fn cycles_of(alloc: Global, actors: usize, channels: &[Channel]) -> Result<Vec<u32>, AllocError>
+    requires { (a : ℕ) → cycle_among channels.now a < 2 ^ 32 }
+    ensures { IfOk result (λ v. (length v.items ≡ actors) × ((a : ℕ) → a < actors → slice_index v.items a ≡ cycle_among channels.now a)) }
+{
+    let mut cycles = Vec::new(alloc);
+    for actor in 0..actors {
+        cycles.push(cycle_among(channels, actor) as u32)?;
+    }
+    Ok(cycles)
 }

@@ -6,7 +6,7 @@ ghost use Rattle.sdf_graph.specs.Faults.{IsConnected, IsLowestUnreached, numbers
 ghost use Rattle.sdf_graph.specs.Marks.{AreReached, IsClosed, IsBorder, IsJoin};
 
 use crate::channel::Channel;
-use crate::graph::MOST_ACTORS;
+use sdf_limits::MOST_ACTORS;
 
 /// The lowest actor that channels, walked both ways, do not join to actor 0.
 pub(crate) fn lowest_unreached(actors: usize, channels: &[Channel]) -> Option<usize>
@@ -30,21 +30,21 @@ fn reached(actors: usize, channels: &[Channel]) -> [bool; MOST_ACTORS]
 {
     let mut marked = [false; MOST_ACTORS];
     marked[0] = true;
-    while let Some(channel) = border(channels, &marked) {
-        marked[channel.from] = true;
-        marked[channel.to] = true;
+    while let Some((from, to)) = border(channels, &marked) {
+        marked[from] = true;
+        marked[to] = true;
     }
     marked
 }
 
-/// A channel with one end that is marked and one that is not.
-fn border(channels: &[Channel], marked: &[bool]) -> Option<Channel>
-    requires { (c : ℕ) → c < length channels.now → IsJoin (length marked.now) (slice_index_or channels.now c no_channel) }
-    ensures { MatchOption result (IsClosed channels.now marked.now) (IsBorder channels.now marked.now) }
+/// The ends of a channel with one end that is marked and one that is not.
+fn border(channels: &[Channel], marked: &[bool]) -> Option<(usize, usize)>
+    requires { (c : ℕ) → c < length channels.now → IsJoin (length marked.now) (slice_index_or channels.now c no_channel).from (slice_index_or channels.now c no_channel).to }
+    ensures { MatchOption result (IsClosed channels.now marked.now) (λ ends. IsBorder channels.now marked.now ends.0 ends.1) }
 {
     for channel in channels {
         if marked[channel.from] != marked[channel.to] {
-            return Some(*channel);
+            return Some((channel.from, channel.to));
         }
     }
     None

@@ -2,20 +2,19 @@
 
 ghost use Rattle.std.specs.Prelude.{◌≡◌, ℕ, ◌*◌, ◌≤◌, ◌<◌, ◌≢◌, ◌↔◌, List, length, map, sum, sum_by, slice_index, slice_index_or, IsTrue, MatchOption, MatchResult, IfOk};
 ghost use Rattle.std.specs.Int.{IsGcd};
-ghost use Rattle.sdf_graph.specs.Rates.{Shape, IsShape, rates, channel, no_channel};
-ghost use Rattle.sdf_graph.specs.Periods.{IsPeriodFault, IsLeastPeriod};
-ghost use Rattle.sdf_graph.specs.Shares.{ratio, IsReduced, IsShare, IsSmall, IsWalk, IsBorder, IsLevel, IsEven, IsCommon, firings, Divides, IsScaleFault};
+ghost use Rattle.sdf_graph.specs.Rates.{Shape, IsShape, rates, no_channel};
+ghost use Rattle.sdf_graph.specs.Periods.{Divides, IsPeriodFault, IsLeastPeriod};
+ghost use Rattle.std.specs.List.{range_with_len};
+ghost use Rattle.sdf_graph.specs.Shares.{ratio, IsReduced, IsShare, IsSmall, IsWalk, IsBorder, IsLevel, IsEven, IsCommon, firings, IsScaleFault, no_totals, totals};
 
-use crate::channel::Channel;
+use crate::channel::Totals;
 use crate::fault::GraphFault;
 use crate::graph::Graph;
+use sdf_limits::{MOST_CYCLE, MOST_PERIOD, MOST_RATE};
 use std::alloc::Global;
 use std::marker::Model;
 
-/// The greatest sum of a period.
-pub const LONGEST: u64 = 65_536;
-
-/// How often an actor fires for each firing of actor 0, or 0 / 0 where that is not known yet.
+/// How often an actor goes through its cycle for each time that actor 0 does, or 0 / 0 where that is not known yet.
 #[derive(Clone, Copy)]
 pub(crate) struct Ratio {
     pub(crate) num: u64,
@@ -52,12 +51,12 @@ fn reduced(num: u64, den: u64) -> Ratio
 }
 
 /// The lowest channel with exactly one end reached.
-fn border(channels: &[Channel], parts: &[Ratio]) -> Option<usize>
-    requires from_in { (c : ℕ) → c < length channels.now → (slice_index_or channels.now c no_channel).from < length parts.now }
-    requires to_in { (c : ℕ) → c < length channels.now → (slice_index_or channels.now c no_channel).to < length parts.now }
+fn border(channels: &[Totals], parts: &[Ratio]) -> Option<usize>
+    requires from_in { (c : ℕ) → c < length channels.now → (slice_index_or channels.now c no_totals).from < length parts.now }
+    requires to_in { (c : ℕ) → c < length channels.now → (slice_index_or channels.now c no_totals).to < length parts.now }
     ensures { MatchOption result
-        ((c : ℕ) → c < length channels.now → IsLevel parts.now (slice_index_or channels.now c no_channel))
-        (λ c. (c < length channels.now) × IsBorder parts.now (slice_index_or channels.now c no_channel)) }
+        ((c : ℕ) → c < length channels.now → IsLevel parts.now (slice_index_or channels.now c no_totals))
+        (λ c. (c < length channels.now) × IsBorder parts.now (slice_index_or channels.now c no_totals)) }
 {
     for (i, channel) in channels.iter().enumerate() {
         let from = parts[channel.from].num;
@@ -70,15 +69,15 @@ fn border(channels: &[Channel], parts: &[Ratio]) -> Option<usize>
 }
 
 /// The lowest channel that the fractions do not balance.
-fn uneven(channels: &[Channel], parts: &[Ratio]) -> Option<usize>
-    requires from_in { (c : ℕ) → c < length channels.now → (slice_index_or channels.now c no_channel).from < length parts.now }
-    requires to_in { (c : ℕ) → c < length channels.now → (slice_index_or channels.now c no_channel).to < length parts.now }
+fn uneven(channels: &[Totals], parts: &[Ratio]) -> Option<usize>
+    requires from_in { (c : ℕ) → c < length channels.now → (slice_index_or channels.now c no_totals).from < length parts.now }
+    requires to_in { (c : ℕ) → c < length channels.now → (slice_index_or channels.now c no_totals).to < length parts.now }
     requires small { (a : ℕ) → a < length parts.now → IsSmall (ratio parts.now a) }
-    requires put_small { (c : ℕ) → c < length channels.now → (slice_index_or channels.now c no_channel).put ≤ 1024 }
-    requires take_small { (c : ℕ) → c < length channels.now → (slice_index_or channels.now c no_channel).take ≤ 1024 }
+    requires put_small { (c : ℕ) → c < length channels.now → (slice_index_or channels.now c no_totals).put ≤ MOST_RATE * MOST_CYCLE }
+    requires take_small { (c : ℕ) → c < length channels.now → (slice_index_or channels.now c no_totals).take ≤ MOST_RATE * MOST_CYCLE }
     ensures { MatchOption result
-        ((c : ℕ) → c < length channels.now → IsEven parts.now (slice_index_or channels.now c no_channel))
-        (λ c. (c < length channels.now) × (IsEven parts.now (slice_index_or channels.now c no_channel) → ⊥)) }
+        ((c : ℕ) → c < length channels.now → IsEven parts.now (slice_index_or channels.now c no_totals))
+        (λ c. (c < length channels.now) × (IsEven parts.now (slice_index_or channels.now c no_totals) → ⊥)) }
 {
     for (i, channel) in channels.iter().enumerate() {
         let from = parts[channel.from];
@@ -91,11 +90,11 @@ fn uneven(channels: &[Channel], parts: &[Ratio]) -> Option<usize>
 }
 
 /// Whether fractions at the ends of a channel balance it.
-fn evens(channel: &Channel, from: Ratio, to: Ratio) -> bool
+fn evens(channel: &Totals, from: Ratio, to: Ratio) -> bool
     requires from_small { IsSmall from }
     requires to_small { IsSmall to }
-    requires put_small { channel.now.put ≤ 1024 }
-    requires take_small { channel.now.take ≤ 1024 }
+    requires put_small { channel.now.put ≤ MOST_RATE * MOST_CYCLE }
+    requires take_small { channel.now.take ≤ MOST_RATE * MOST_CYCLE }
     ensures { IsTrue result ↔ (from.num * channel.now.put * to.den ≡ to.num * channel.now.take * from.den) }
 {
     from.num * u64::from(channel.put) * to.den == to.num * u64::from(channel.take) * from.den
@@ -104,8 +103,8 @@ fn evens(channel: &Channel, from: Ratio, to: Ratio) -> bool
 /// The fraction of the end that is not reached.
 fn carried(near: Ratio, gives: u32, takes: u32) -> Ratio
     requires small { IsSmall near }
-    requires gives_small { gives ≤ 1024 }
-    requires takes_small { takes ≤ 1024 }
+    requires gives_small { gives ≤ MOST_RATE * MOST_CYCLE }
+    requires takes_small { takes ≤ MOST_RATE * MOST_CYCLE }
     requires top { (0 < near.num) × (0 < gives) }
     requires bottom { (0 < near.den) × (0 < takes) }
     ensures { IsReduced (near.num * gives) (near.den * takes) result.num result.den }
@@ -117,14 +116,14 @@ fn carried(near: Ratio, gives: u32, takes: u32) -> Ratio
 fn common(parts: &[Ratio]) -> Option<u64>
     requires { (a : ℕ) → a < length parts.now → (0 < (ratio parts.now a).den) × IsSmall (ratio parts.now a) }
     ensures { MatchOption result
-        ((n : ℕ) → 0 < n → ((a : ℕ) → a < length parts.now → Divides (ratio parts.now a).den n) → 65536 < n)
-        (λ m. (m ≤ 65536) × IsCommon parts.now (length parts.now) m) }
+        ((n : ℕ) → 0 < n → ((a : ℕ) → a < length parts.now → Divides (ratio parts.now a).den n) → MOST_PERIOD < n)
+        (λ m. (m ≤ MOST_PERIOD) × IsCommon parts.now (length parts.now) m) }
 {
     let mut all = 1;
     for part in parts {
         let rest = reduced(all, part.den);
         all *= rest.den;
-        if all > LONGEST {
+        if all > MOST_PERIOD {
             return None;
         }
     }
@@ -132,19 +131,27 @@ fn common(parts: &[Ratio]) -> Option<u64>
 }
 
 /// The firings of each actor, unless their sum is over the limit.
-fn scaled(alloc: Global, parts: &[Ratio], all: u64) -> Result<Repetitions, GraphFault>
-    requires limit { all ≤ 65536 }
+fn scaled(
+    alloc: Global,
+    cycles: &[u32],
+    parts: &[Ratio],
+    all: u64,
+) -> Result<Repetitions, GraphFault>
+    requires limit { all ≤ MOST_PERIOD }
+    requires same { length cycles.now ≡ length parts.now }
+    requires short { (a : ℕ) → slice_index cycles.now a ≤ MOST_CYCLE }
     requires each { (a : ℕ) → a < length parts.now → (0 < (ratio parts.now a).den) × IsSmall (ratio parts.now a) }
     ensures { MatchResult result
-        (λ q. (q ≡ map (firings all) parts.now) × (sum q ≤ 65536))
-        (IsScaleFault parts.now all) }
+        (λ q. (q ≡ map (firings cycles.now parts.now all) (range_with_len 0 (length parts.now))) × (sum q ≤ MOST_PERIOD))
+        (IsScaleFault cycles.now parts.now all) }
 {
     let mut of = Vec::with_capacity(alloc, parts.len())?;
     let mut period = 0;
-    for part in parts {
-        let firings = all / part.den * part.num;
+    for (actor, part) in parts.iter().enumerate() {
+        let turns = all / part.den * part.num;
+        let firings = u64::from(cycles[actor]) * turns;
         period += firings;
-        if period > LONGEST {
+        if period > MOST_PERIOD {
             return Err(GraphFault::PeriodTooLong);
         }
         of.push_reserved(firings as u32);
@@ -159,12 +166,12 @@ fn scaled(alloc: Global, parts: &[Ratio], all: u64) -> Result<Repetitions, Graph
 fn beyond(graph: &Graph, parts: &[Ratio], channel: usize) -> (usize, Ratio)
     requires walk { IsWalk graph.now parts.now }
     requires known { channel < length graph.now.channels }
-    requires border { IsBorder parts.now (slice_index_or graph.now.channels channel no_channel) }
+    requires border { IsBorder parts.now (totals (slice_index_or graph.now.channels channel no_channel)) }
     ensures within { result.0 < graph.now.actors }
     ensures fresh { (ratio parts.now result.0).num ≡ 0 }
     ensures share { IsShare graph.now result.0 result.1 }
 {
-    let channel = graph.channels[channel];
+    let channel = graph.totals[channel];
     let from = parts[channel.from];
     let to = parts[channel.to];
     if from.num > 0 {
@@ -182,9 +189,9 @@ fn walk(graph: &Graph, alloc: Global) -> Result<Vec<Ratio>, GraphFault>
 {
     let mut parts = vec![in alloc; Ratio { num: 0, den: 0 }; graph.actors]?;
     parts[0] = Ratio { num: 1, den: 1 };
-    while let Some(channel) = border(&graph.channels, &parts) {
+    while let Some(channel) = border(&graph.totals, &parts) {
         let (actor, part) = beyond(graph, &parts, channel);
-        if part.num > LONGEST || part.den > LONGEST {
+        if part.num > MOST_PERIOD || part.den > MOST_PERIOD {
             return Err(GraphFault::PeriodTooLong);
         }
         parts[actor] = part;
@@ -200,11 +207,14 @@ pub struct Repetitions {
 }
 
 impl Model for Repetitions {
+    ghost use Rattle.std.specs.Prelude.{◌≡◌, ℕ, ◌≤◌, List, sum};
+    ghost use Rattle.sdf_limits.specs.declared.TheConstants.{MOST_PERIOD};
+
     ghost Value = { List ℕ };
 
     ghost view = { λ s. s.of.items };
 
-    ghost invariant = { λ s. (sum s.of.items ≡ s.period) × (s.period ≤ 65536) };
+    ghost invariant = { λ s. (sum s.of.items ≡ s.period) × (s.period ≤ MOST_PERIOD) };
 }
 
 impl Repetitions {
@@ -225,16 +235,10 @@ impl Repetitions {
 
     /// How many firings a period has.
     pub fn period(&self) -> u32
-        ensures { result ≡ sum self.now }
+        ensures sum { result ≡ sum self.now }
+        ensures within { sum self.now ≤ MOST_PERIOD }
     {
         self.period
-    }
-
-    /// What holds of every period.
-    pub fn is_whole(&self)
-        ensures { sum self.now ≤ 65536 }
-    {
-        let _ = &self.of;
     }
 }
 
@@ -246,16 +250,16 @@ impl Graph {
     /// `PeriodTooLong`; where both hold, either may be answered.
     pub fn repetitions(&self, alloc: Global) -> Result<Repetitions, GraphFault>
         ensures { MatchResult result
-            (λ q. IsLeastPeriod (rates self.now) q × (sum q ≤ 65536))
+            (λ q. IsLeastPeriod (rates self.now) q × (sum q ≤ MOST_PERIOD))
             (IsPeriodFault self.now) }
     {
         let parts = walk(self, alloc)?;
-        if let Some(channel) = uneven(&self.channels, &parts) {
+        if let Some(channel) = uneven(&self.totals, &parts) {
             return Err(GraphFault::Inconsistent { channel });
         }
         let Some(all) = common(&parts) else {
             return Err(GraphFault::PeriodTooLong);
         };
-        scaled(alloc, &parts, all)
+        scaled(alloc, &self.cycles, &parts, all)
     }
 }

@@ -1,22 +1,41 @@
-//! The kinds of actor as one type.
+//! The kinds of actor as one type, which only dispatches.
+//!
+//! A new kind is:
+//! 1. a file in `specs/` with its values, their limits, its ports, its step and its formula, as a `Behaviour`;
+//! 2. a module here with its struct, whose `new`, `ports` and `fire` have that as their contracts;
+//! 3. its name, and those of its new keys, in `fault.rt` and `specs/Fault.antt`;
+//! 4. a variant, a constructor and an arm of each `match` below, and a row of `specs/Kit.antt`;
+//! 5. a case in `specs/PutsFit.antt` (its blocks have their lengths) and in `proofs/Formulas.antt` (it puts its formula).
 
-ghost use Rattle.std.specs.Prelude.{◌≡◌};
+ghost use Rattle.std.specs.Prelude.{◌≡◌, ◌≤◌};
 ghost use Rattle.sdf_actor.specs.Steps.{Steps, total_in, total_out, PutsFit};
-ghost use Rattle.sdf_kit.specs.Constructors.{fir_of, decimate_of, interpolate_of, add_of, fork_of, gain_of, delay_of, table_of};
-ghost use Rattle.sdf_kit.specs.Kit.{kit_steps, IsKit};
+ghost use Rattle.sdf_kit.specs.Ports.{ArePorts};
+ghost use Rattle.sdf_kit.specs.Factors.{factor_of, ways_of};
+ghost use Rattle.sdf_kit.specs.Turns.{turns_of};
+ghost use Rattle.sdf_kit.specs.Fir.{filter_of};
+ghost use Rattle.sdf_kit.specs.Gain.{scale_of};
+ghost use Rattle.sdf_kit.specs.Delay.{length_of};
+ghost use Rattle.sdf_kit.specs.Table.{lookup_of};
+ghost use Rattle.sdf_kit.specs.Kit.{behaviour, kit_steps, kit_of};
 ghost use Rattle.sdf_kit.specs.PutsFit.{kit_puts_fit};
+ghost use Rattle.sdf_kit.specs.declared.fault.Kind.TheVariants as kinds;
+ghost use Rattle.sdf_kit.specs.declared.kit.Kit.TheVariants as kits;
 
 use crate::add::Add;
+use crate::deal::Deal;
 use crate::decimate::Decimate;
 use crate::delay::Delay;
 use crate::fault::KitFault;
 use crate::fir::Fir;
 use crate::fork::Fork;
 use crate::gain::Gain;
+use crate::gather::Gather;
 use crate::interpolate::Interpolate;
 use crate::kept::Kept;
+use crate::ports::Ports;
 use crate::table::Table;
 use sdf_actor::Actor;
+use sdf_limits::MOST_DELAY;
 use std::alloc::{AllocError, Global};
 
 /// An actor of one of the kinds, on 32-bit samples.
@@ -32,88 +51,109 @@ pub enum Kit {
     Gain(Gain),
     Delay(Delay),
     Table(Table),
+    Deal(Deal),
+    Gather(Gather),
 }
 
 impl Kit {
     /// A filter: `up` and `down` 1 to 64, `shift` at most 15, 1 to 1,024 taps of 16 bits.
     pub fn fir(up: u32, down: u32, taps: Vec<i32>, shift: u32) -> Result<Kit, KitFault>
-        ensures { result ≡ fir_of up down taps.items shift }
+        ensures { result ≡ kit_of kits.Fir (filter_of up down taps.items shift) }
     {
         Ok(Kit::Fir(Fir::new(up, down, taps, shift)?))
     }
 
     /// One sample in `factor`, 1 to 64.
     pub fn decimate(factor: u32) -> Result<Kit, KitFault>
-        ensures { result ≡ decimate_of factor }
+        ensures { result ≡ kit_of kits.Decimate (factor_of kinds.Decimate factor) }
     {
         Ok(Kit::Decimate(Decimate::new(factor)?))
     }
 
     /// Each sample and `factor - 1` zeros, `factor` 1 to 64.
     pub fn interpolate(factor: u32) -> Result<Kit, KitFault>
-        ensures { result ≡ interpolate_of factor }
+        ensures { result ≡ kit_of kits.Interpolate (factor_of kinds.Interpolate factor) }
     {
         Ok(Kit::Interpolate(Interpolate::new(factor)?))
     }
 
     /// The sum of 2 to 16 ways.
     pub fn add(ways: usize) -> Result<Kit, KitFault>
-        ensures { result ≡ add_of ways }
+        ensures { result ≡ kit_of kits.Add (ways_of kinds.Add ways) }
     {
         Ok(Kit::Add(Add::new(ways)?))
     }
 
     /// Each sample on 2 to 16 ways.
     pub fn fork(ways: usize) -> Result<Kit, KitFault>
-        ensures { result ≡ fork_of ways }
+        ensures { result ≡ kit_of kits.Fork (ways_of kinds.Fork ways) }
     {
         Ok(Kit::Fork(Fork::new(ways)?))
     }
 
     /// Each sample times `gain` of 16 bits, divided by `2^shift`, `shift` at most 15.
     pub fn gain(gain: i32, shift: u32) -> Result<Kit, KitFault>
-        ensures { result ≡ gain_of gain shift }
+        ensures { result ≡ kit_of kits.Gain (scale_of gain shift) }
     {
         Ok(Kit::Gain(Gain::new(gain, shift)?))
     }
 
     /// Each sample `length` firings later, `length` at most 65,536.
     pub fn delay(length: usize) -> Result<Kit, KitFault>
-        ensures { result ≡ delay_of length }
+        ensures { result ≡ kit_of kits.Delay (length_of length) }
     {
         Ok(Kit::Delay(Delay::new(length)?))
     }
 
     /// The value at each sample plus `offset`, of 1 to 65,536 values.
     pub fn table(offset: i32, values: Vec<i32>) -> Result<Kit, KitFault>
-        ensures { result ≡ table_of offset values.items }
+        ensures { result ≡ kit_of kits.Table (lookup_of offset values.items) }
     {
         Ok(Kit::Table(Table::new(offset, values)?))
     }
 
-    /// Its values are within their limits, as the laws ask.
-    pub fn is_within_limits(&self)
-        ensures { IsKit self.now }
+    /// One way dealt out to 2 to 16 `ways`, `run` samples, 1 to 64, to each in turn.
+    pub fn deal(ways: usize, run: u32) -> Result<Kit, KitFault>
+        ensures { result ≡ kit_of kits.Deal (turns_of kinds.Deal ways run) }
+    {
+        Ok(Kit::Deal(Deal::new(ways, run)?))
+    }
+
+    /// 2 to 16 `ways` gathered into one, `run` samples, 1 to 64, from each in turn.
+    pub fn gather(ways: usize, run: u32) -> Result<Kit, KitFault>
+        ensures { result ≡ kit_of kits.Gather (turns_of kinds.Gather ways run) }
+    {
+        Ok(Kit::Gather(Gather::new(ways, run)?))
+    }
+
+    /// Its ports and rates.
+    pub fn ports(&self) -> Ports
+        ensures is { result ≡ (behaviour self.now).ports }
+        ensures limits { ArePorts result }
     {
         match self {
-            Kit::Fir(f) => f.is_within_limits(),
-            Kit::Decimate(d) => {
-                d.factor();
-            }
-            Kit::Interpolate(i) => {
-                i.factor();
-            }
-            Kit::Add(a) => {
-                a.ways();
-            }
-            Kit::Fork(f) => {
-                f.ways();
-            }
-            Kit::Gain(g) => g.is_within_limits(),
-            Kit::Delay(d) => {
-                d.length();
-            }
-            Kit::Table(t) => t.is_within_limits(),
+            Kit::Fir(f) => f.ports(),
+            Kit::Decimate(d) => d.ports(),
+            Kit::Interpolate(i) => i.ports(),
+            Kit::Add(a) => a.ports(),
+            Kit::Fork(f) => f.ports(),
+            Kit::Gain(g) => g.ports(),
+            Kit::Delay(d) => d.ports(),
+            Kit::Table(t) => t.ports(),
+            Kit::Deal(d) => d.ports(),
+            Kit::Gather(g) => g.ports(),
+        }
+    }
+
+    /// How many samples it keeps from one firing to the next.
+    fn kept_len(&self) -> usize
+        ensures is { result ≡ (behaviour self.now).kept }
+        ensures few { result ≤ MOST_DELAY }
+    {
+        match self {
+            Kit::Fir(f) => f.kept_len(),
+            Kit::Delay(d) => d.length(),
+            _ => 0,
         }
     }
 }
@@ -126,45 +166,30 @@ impl Actor for Kit {
     ghost steps = { kit_steps };
 
     fn inputs(&self) -> usize {
-        match self {
-            Kit::Add(a) => a.ways(),
-            _ => 1,
-        }
+        self.ports().inputs.count()
     }
 
     fn outputs(&self) -> usize {
-        match self {
-            Kit::Fork(f) => f.ways(),
-            _ => 1,
-        }
+        self.ports().outputs.count()
     }
 
-    fn take(&self, _port: usize) -> u32 {
-        match self {
-            Kit::Fir(f) => f.down(),
-            Kit::Decimate(d) => d.factor(),
-            _ => 1,
-        }
+    fn cycle(&self) -> u32 {
+        self.ports().cycle
     }
 
-    fn put(&self, _port: usize) -> u32 {
-        match self {
-            Kit::Fir(f) => f.up(),
-            Kit::Interpolate(i) => i.factor(),
-            _ => 1,
-        }
+    fn take(&self, port: usize, phase: u32) -> u32 {
+        self.ports().inputs.moved(port, phase)
+    }
+
+    fn put(&self, port: usize, phase: u32) -> u32 {
+        self.ports().outputs.moved(port, phase)
     }
 
     fn start(&self, alloc: Global) -> Result<Kept, AllocError> {
-        let len = match self {
-            Kit::Fir(f) => f.kept_len(),
-            Kit::Delay(d) => d.length(),
-            _ => 0,
-        };
-        Kept::zeros(alloc, len)
+        Kept::zeros(alloc, self.kept_len())
     }
 
-    fn fire(&self, state: &mut Kept, taken: &[i32], put: &mut [i32]) {
+    fn fire(&self, _phase: u32, state: &mut Kept, taken: &[i32], put: &mut [i32]) {
         match self {
             Kit::Fir(f) => f.fire(state, taken, put),
             Kit::Decimate(d) => d.fire(taken, put),
@@ -174,6 +199,8 @@ impl Actor for Kit {
             Kit::Gain(g) => g.fire(taken, put),
             Kit::Delay(d) => d.fire(state, taken, put),
             Kit::Table(t) => t.fire(taken, put),
+            Kit::Deal(d) => d.fire(taken, put),
+            Kit::Gather(g) => g.fire(taken, put),
         }
     }
 

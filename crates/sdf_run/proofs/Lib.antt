@@ -11,3 +11,5 @@ pub mod Periods
 pub mod Wholes
 pub mod Readings
 pub mod Beginnings
+pub mod Cycles
+pub mod Sinks

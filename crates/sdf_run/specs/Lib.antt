@@ -1,5 +1,7 @@
 pub mod Held
 pub mod Blocks
-pub mod Stages
+pub mod Sizes
+pub mod Firings
 pub mod Runs
 pub mod Answer
+pub mod Twice

@@ -1,18 +1,19 @@
 //! Runs of nets.
 //!
-//! It stands on `sdf_graph`, `sdf_sched` and `sdf_actor`. Begin at `one`, the runner on one thread, then `stage`, a node
-//! at work, and `queue`, the samples of a channel; the definitions are in `specs/Answer.antt`.
+//! It stands on `sdf_graph`, `sdf_sched` and `sdf_actor`. Begin at `one`, the runner on one thread, then `run`, what it
+//! holds, `work`, a node at work, and `queue`, the samples of a channel; the definitions are in `specs/Answer.antt`.
 #![tactic(auto)]
 
 mod block;
 pub mod fault;
 pub mod one;
 mod queue;
-mod schedule;
+mod run;
 mod setup;
-mod stage;
+mod sizes;
 #[cfg(test)]
 mod tests;
+mod work;
 
 pub use fault::RunFault;
 pub use one::{Ran, run_one};

@@ -1,6 +1,6 @@
 //! The runner on one thread.
 
-ghost use Rattle.std.specs.Prelude.{◌≡◌, ◌*◌, ◌≤◌, ◌<◌, ◌↔◌, ℕ, List, [], length, map, slice_index_or, IsTrue, MatchResult, IfOk, IfNone};
+ghost use Rattle.std.specs.Prelude.{◌≡◌, ◌*◌, ◌≤◌, ◌<◌, ◌↔◌, ℕ, List, [], length, slice_index_or, IsTrue, MatchResult, IfOk, IfNone};
 ghost use Rattle.sdf_graph.specs.Rates.{rates, IsShape, IsAlike};
 ghost use Rattle.sdf_actor.specs.Nets.{wiring, IsNet};
 ghost use Rattle.sdf_actor.specs.NetFaults.{IsAccepted};
@@ -8,15 +8,15 @@ ghost use Rattle.sdf_sched.specs.Period.{IsPeriodOf};
 ghost use Rattle.sdf_actor.specs.Graphs.{graph_of};
 ghost use Rattle.sdf_actor.specs.Wires.{lists};
 ghost use Rattle.sdf_actor.specs.Sides.{list_count, period_samples};
-ghost use Rattle.sdf_actor.specs.declared.node.Side.TheVariants.{Input, Output};
-ghost use Rattle.sdf_run.specs.Stages.{list, capacity};
+ghost use Rattle.sdf_actor.specs.declared.sides.Lists.TheVariants.{Inputs, Outputs};
+ghost use Rattle.sdf_run.specs.Firings.{AreEmpty};
 ghost use Rattle.sdf_run.specs.Answer.{AreInputs, HasInputs, AreOutputs, periods_of, IsRunFault};
 
 use crate::fault::RunFault;
-use crate::schedule::fire_all;
-use crate::setup::{make_outputs, make_queues, make_stages};
+use crate::run::Run;
+use crate::setup::{make_outputs, make_queues, make_works};
+use crate::sizes::Sizes;
 use sdf_actor::{Actor, Net};
-use sdf_graph::Channel;
 use sdf_sched::Period;
 use std::alloc::{AllocError, Global};
 
@@ -51,31 +51,15 @@ fn are_inputs<T>(inputs: &[Vec<T>], many: usize, least: usize) -> bool
     true
 }
 
-/// What a run stands on: the facts that hold of every net.
-fn is_whole<A: Actor>(net: &Net<A>)
+/// The facts that a run stands on, as the net's accessors have them.
+fn net_facts<A: Actor>(net: &Net<A>)
     ensures net { IsNet A.steps net.now }
     ensures graph { IsShape (graph_of A.steps net.now) }
     ensures alike { IsAlike (rates (graph_of A.steps net.now)) (wiring A.steps net.now).rates }
     ensures accepted { (q : List ℕ) × IsAccepted A.steps net.now q }
 {
-    net.is_whole();
-    let graph = net.graph();
-    graph.is_whole();
+    let _channels = net.graph().channels();
     let _repetitions = net.repetitions();
-}
-
-/// How many samples a firing takes from each channel.
-fn takes_of(alloc: Global, channels: &[Channel]) -> Result<Vec<usize>, AllocError>
-    ensures { IfOk result (λ v. v.items ≡ map (λ c. c.take) channels.now) }
-{
-    channels.iter().map(|c| c.take as usize).collect(alloc)
-}
-
-/// How many samples a firing puts on each channel.
-fn puts_of(alloc: Global, channels: &[Channel]) -> Result<Vec<usize>, AllocError>
-    ensures { IfOk result (λ v. v.items ≡ map (λ c. c.put) channels.now) }
-{
-    channels.iter().map(|c| c.put as usize).collect(alloc)
 }
 
 /// The firings of a run, which make its output lists.
@@ -86,34 +70,33 @@ fn run<A: Actor>(
     periods: u32,
     inputs: &[Vec<A::Token>],
     filler: A::Token,
-    outputs: &mut [Vec<A::Token>],
-) -> Result<(), AllocError>
+    outputs: Vec<Vec<A::Token>>,
+) -> Result<Vec<Vec<A::Token>>, AllocError>
     requires period { IsPeriodOf (rates (graph_of A.steps net.now)) period.now }
     requires inputs { HasInputs net.now period.now.repetitions periods (lists inputs.now) }
-    requires outputs { length outputs.old ≡ list_count Output net.now.nodes }
-    requires room { (e : ℕ) → e < length outputs.old → (list outputs.old e ≡ []) × (capacity outputs.old e ≡ periods * period_samples net.now.nodes Output period.now.repetitions) }
-    ensures { IfOk result (λ _. AreOutputs A.steps net.now (lists inputs.now) (periods_of period.now.repetitions periods) (lists outputs.new)) }
+    requires outputs { AreEmpty outputs.items (list_count Outputs net.now.nodes) (periods * period_samples net.now.nodes Outputs period.now.repetitions) }
+    ensures { IfOk result (λ made. AreOutputs A.steps net.now (lists inputs.now) (periods_of period.now.repetitions periods) (lists made.items)) }
 {
-    is_whole(net);
-    let channels = net.graph().channels();
-    let take_sizes = takes_of(alloc, channels)?;
-    let put_sizes = puts_of(alloc, channels)?;
-    let takes = take_sizes.as_slice();
-    let puts = put_sizes.as_slice();
-    let mut queues = make_queues(alloc, net, period.repetitions())?;
-    let mut stages = make_stages(alloc, net, takes, puts, inputs, filler)?;
-    fire_all(
+    net_facts(net);
+    sdf_actor::laws::nets_are_wired::<A>();
+    sdf_graph::laws::graphs_are_sound();
+    sdf_graph::laws::graphs_have_periods();
+    sdf_graph::laws::counts_grow();
+    sdf_graph::laws::periods_repeat();
+    sdf_graph::laws::alike_sequences();
+    let sizes = Sizes::new(alloc, net)?;
+    let works = make_works(alloc, net, &sizes, filler)?;
+    let queues = make_queues(alloc, net, period.repetitions())?;
+    let mut run = Run {
         net,
         inputs,
-        period.order(),
-        periods,
-        takes,
-        puts,
-        &mut stages,
-        &mut queues,
+        sizes,
+        works,
+        queues,
         outputs,
-    );
-    Ok(())
+    };
+    run.fire_all(period.order(), periods);
+    Ok(run.outputs)
 }
 
 /// The first sample of the first list.
@@ -133,19 +116,19 @@ fn fill<A: Actor>(
     period: &Period,
     periods: u32,
     inputs: &[Vec<A::Token>],
-    outputs: &mut [Vec<A::Token>],
-) -> Result<(), AllocError>
+    outputs: Vec<Vec<A::Token>>,
+) -> Result<Vec<Vec<A::Token>>, AllocError>
     requires period { IsPeriodOf (rates (graph_of A.steps net.now)) period.now }
     requires inputs { HasInputs net.now period.now.repetitions periods (lists inputs.now) }
-    requires some { 0 < period_samples net.now.nodes Input period.now.repetitions }
-    requires outputs { length outputs.old ≡ list_count Output net.now.nodes }
-    requires room { (e : ℕ) → e < length outputs.old → (list outputs.old e ≡ []) × (capacity outputs.old e ≡ periods * period_samples net.now.nodes Output period.now.repetitions) }
-    ensures { IfOk result (λ _. AreOutputs A.steps net.now (lists inputs.now) (periods_of period.now.repetitions periods) (lists outputs.new)) }
+    requires some { 0 < period_samples net.now.nodes Inputs period.now.repetitions }
+    requires outputs { AreEmpty outputs.items (list_count Outputs net.now.nodes) (periods * period_samples net.now.nodes Outputs period.now.repetitions) }
+    ensures { IfOk result (λ made. AreOutputs A.steps net.now (lists inputs.now) (periods_of period.now.repetitions periods) (lists made.items)) }
 {
-    is_whole(net);
+    net_facts(net);
+    sdf_actor::laws::nets_are_wired::<A>();
     match first_sample(inputs) {
         Some(filler) => run(alloc, net, period, periods, inputs, filler, outputs),
-        None => Ok(()),
+        None => Ok(outputs),
     }
 }
 
@@ -169,7 +152,8 @@ pub fn run_one<A: Actor>(
     if !are_inputs(inputs, net.inputs(), least) {
         return Err(RunFault::InputLength);
     }
-    let mut outputs = make_outputs(alloc, net.outputs(), periods as usize * net.samples_out())?;
-    fill(alloc, net, period, periods, inputs, &mut outputs)?;
+    let room = periods as usize * net.samples_out();
+    let outputs = make_outputs(alloc, net.outputs(), room)?;
+    let outputs = fill(alloc, net, period, periods, inputs, outputs)?;
     Ok(Ran { outputs, rounds: 0 })
 }

@@ -2,19 +2,19 @@
 
 ghost use Rattle.std.specs.Prelude.{◌≡◌, ◌+◌, ◌*◌, ◌≤◌, ◌<◌, ℕ, [], length, slice_index, slice_index_or, vec_len, IfOk};
 ghost use Rattle.std.specs.List.{sum_by};
-ghost use Rattle.sdf_graph.specs.Rates.{channel};
-ghost use Rattle.sdf_actor.specs.Nets.{node, wire};
+ghost use Rattle.sdf_graph.specs.Rates.{rates, rate_at, sum_to};
 ghost use Rattle.sdf_actor.specs.Graphs.{graph_of};
-ghost use Rattle.sdf_actor.specs.Wires.{lists};
-ghost use Rattle.sdf_actor.specs.Nets.{IsNet};
-ghost use Rattle.sdf_actor.specs.declared.node.Node.TheVariants.{Source};
+ghost use Rattle.sdf_actor.specs.Nets.{node, wire, IsNet};
 ghost use Rattle.sdf_run.specs.Blocks.{nothing};
-ghost use Rattle.sdf_run.specs.Runs.{IsPlan, IsBegun};
-ghost use Rattle.sdf_run.specs.Stages.{list, capacity};
+ghost use Rattle.sdf_run.specs.Firings.{AreEmpty};
+ghost use Rattle.sdf_run.specs.Runs.{BeginsWork};
+ghost use Rattle.sdf_run.specs.Sizes.{AreSizes, at_phase, rows_on};
 
 use crate::queue::Queue;
-use crate::stage::{Stage, Work};
-use sdf_actor::{Actor, Net, Node};
+use crate::sizes::Sizes;
+use crate::work::Work;
+use sdf_actor::{Actor, Net, Node, Side};
+use sdf_graph::Channel;
 use std::alloc::{AllocError, Global};
 
 /// Empty output lists, with room for so many samples each.
@@ -23,7 +23,7 @@ pub(crate) fn make_outputs<T: Copy>(
     many: usize,
     room: usize,
 ) -> Result<Vec<Vec<T>>, AllocError>
-    ensures { IfOk result (λ v. (vec_len v ≡ many) × ((e : ℕ) → e < many → (list v.items e ≡ []) × (capacity v.items e ≡ room))) }
+    ensures { IfOk result (λ v. AreEmpty v.items many room) }
 {
     let mut outputs = Vec::with_capacity(alloc, many)?;
     for _ in 0..many {
@@ -40,20 +40,33 @@ pub(crate) fn make_queues<A: Actor>(
 ) -> Result<Vec<Queue<A::Token>>, AllocError>
     requires all { length repetitions.now ≡ length net.now.nodes }
     requires short { (a : ℕ) → a < length repetitions.now → slice_index repetitions.now a ≤ 65536 }
-    ensures { IfOk result (λ v. (vec_len v ≡ length net.now.wires) × ((c : ℕ) → c < length net.now.wires →
+    ensures { let r = rates (graph_of A.steps net.now) in IfOk result (λ v. (vec_len v ≡ length net.now.wires) × ((c : ℕ) → c < length net.now.wires →
         slice_index_or v.items c nothing ≡ record {
           samples = (wire net.now c).initial;
-          room = length (wire net.now c).initial + (channel (graph_of A.steps net.now) c).put * slice_index repetitions.now (channel (graph_of A.steps net.now) c).from;
+          room = length (wire net.now c).initial + r.produced c (slice_index repetitions.now (r.source c));
         })) }
 {
     let graph = net.graph();
-    graph.is_whole();
     let mut queues = Vec::with_capacity(alloc, net.channels())?;
     for (c, channel) in graph.channels().iter().enumerate() {
-        let put = channel.put as usize * repetitions[channel.from] as usize;
-        queues.push(Queue::new(alloc, &net.link(c).initial, channel.initial + put)?)?;
+        let room = channel.initial + put_by(channel, repetitions[channel.from]);
+        queues.push(Queue::new(alloc, &net.link(c).initial, room)?)?;
     }
     Ok(queues)
+}
+
+/// How many samples the first firings of its source put on a channel.
+fn put_by(channel: &Channel, firings: u32) -> usize
+    requires some { 0 < length channel.now.put }
+    requires small { (i : ℕ) → slice_index channel.now.put i ≤ 1024 }
+    ensures value { result ≡ sum_to (rate_at channel.now.put) firings }
+    ensures few { result ≤ 1024 * firings }
+{
+    let mut total = 0;
+    for i in 0..firings {
+        total += channel.puts(i) as usize;
+    }
+    total
 }
 
 /// A block of fillers, with a place for each sample that a firing moves at some ports.
@@ -83,72 +96,107 @@ fn extend<T: Copy>(block: &mut Vec<T>, many: usize, filler: T) -> Result<(), All
     Ok(())
 }
 
+/// The longer of two blocks.
+fn longer<T: Copy>(one: Vec<T>, other: Vec<T>) -> Vec<T>
+    ensures one { vec_len one ≤ vec_len result }
+    ensures other { vec_len other ≤ vec_len result }
+{
+    if one.len() < other.len() { other } else { one }
+}
+
+/// A block with a place for each sample that a firing at any phase moves at some ports, and the length at each phase.
+fn make_blocks<T: Copy>(
+    alloc: Global,
+    ports: &[usize],
+    sizes: &Sizes,
+    side: Side,
+    cycle: u32,
+    filler: T,
+) -> Result<(Vec<T>, Vec<usize>), AllocError>
+    requires phases { (j : ℕ) → j < cycle → j < length (rows_on side sizes.now) }
+    requires ports { (j i : ℕ) → j < cycle → i < length ports.now → slice_index ports.now i < length (at_phase (rows_on side sizes.now) j) }
+    ensures { IfOk result (λ b. (vec_len b.1 ≡ cycle) × ((j : ℕ) → j < cycle →
+        (slice_index b.1.items j ≡ sum_by (slice_index (at_phase (rows_on side sizes.now) j)) ports.now)
+        × (sum_by (slice_index (at_phase (rows_on side sizes.now) j)) ports.now ≤ vec_len b.0))) }
+{
+    let mut longest = Vec::new(alloc);
+    let mut lengths = Vec::new(alloc);
+    for phase in 0..cycle {
+        let block = make_block(alloc, ports, sizes.on(side, phase), filler)?;
+        lengths.push(block.len())?;
+        longest = longer(longest, block);
+    }
+    Ok((longest, lengths))
+}
+
 /// A node before its first firing.
-fn make_stage<'a, A: Actor>(
+fn make_work<'a, A: Actor>(
     alloc: Global,
     net: &'a Net<A>,
     a: usize,
-    takes: &[usize],
-    puts: &[usize],
-    inputs: &'a [Vec<A::Token>],
+    sizes: &Sizes,
     filler: A::Token,
-) -> Result<Stage<'a, A>, AllocError>
+) -> Result<Work<'a, A>, AllocError>
     requires known { a < length net.now.nodes }
     requires net { IsNet A.steps net.now }
-    requires plan { IsPlan A.steps net.now takes.now puts.now }
-    requires inputs { (ext block : ℕ) → node net.now a ≡ Source ext block → ext < length inputs.now }
-    ensures { IfOk result (IsBegun A.steps net.now (lists inputs.now) a) }
+    requires sizes { AreSizes A.steps net.now sizes.now }
+    ensures { IfOk result (BeginsWork A.steps (node net.now a)) }
 {
-    let ins = net.channels_in(a);
-    let outs = net.channels_out(a);
     match net.node(a) {
-        Node::Source { ext, block } => {
-            let list = inputs[usize::from(*ext)].as_slice();
-            let block = *block as usize;
-            let work = Work::Source {
-                list,
-                next: 0,
-                block,
-            };
-            Ok(Stage { ins, outs, work })
-        }
-        Node::Sink { ext, .. } => {
-            let ext = usize::from(*ext);
-            let work = Work::Sink { ext };
-            Ok(Stage { ins, outs, work })
-        }
+        Node::Source { ext, block } => Ok(Work::Source {
+            ext: usize::from(*ext),
+            next: 0,
+            block: *block as usize,
+        }),
+        Node::Sink { ext, .. } => Ok(Work::Sink {
+            ext: usize::from(*ext),
+        }),
         Node::Inner(actor) => {
+            sdf_actor::laws::nets_are_wired::<A>();
+            let cycle = actor.cycle();
             let state = actor.start(alloc)?;
-            let taken = make_block(alloc, ins, takes, filler)?;
-            let put = make_block(alloc, outs, puts, filler)?;
-            let work = Work::Inner {
+            let (taken, _) = make_blocks(
+                alloc,
+                net.channels_in(a),
+                sizes,
+                Side::Input,
+                cycle,
+                filler,
+            )?;
+            let (put, lengths) = make_blocks(
+                alloc,
+                net.channels_out(a),
+                sizes,
+                Side::Output,
+                cycle,
+                filler,
+            )?;
+            Ok(Work::Inner {
                 actor,
+                phase: 0,
                 state,
                 taken,
                 put,
-            };
-            Ok(Stage { ins, outs, work })
+                lengths,
+            })
         }
     }
 }
 
 /// All nodes before the first firing.
-pub(crate) fn make_stages<'a, A: Actor>(
+pub(crate) fn make_works<'a, A: Actor>(
     alloc: Global,
     net: &'a Net<A>,
-    takes: &[usize],
-    puts: &[usize],
-    inputs: &'a [Vec<A::Token>],
+    sizes: &Sizes,
     filler: A::Token,
-) -> Result<Vec<Stage<'a, A>>, AllocError>
+) -> Result<Vec<Work<'a, A>>, AllocError>
     requires net { IsNet A.steps net.now }
-    requires plan { IsPlan A.steps net.now takes.now puts.now }
-    requires inputs { (a ext block : ℕ) → a < length net.now.nodes → node net.now a ≡ Source ext block → ext < length inputs.now }
-    ensures { IfOk result (λ v. (vec_len v ≡ length net.now.nodes) × ((a : ℕ) (d : _) → a < length net.now.nodes → IsBegun A.steps net.now (lists inputs.now) a (slice_index_or v.items a d))) }
+    requires sizes { AreSizes A.steps net.now sizes.now }
+    ensures { IfOk result (λ v. (vec_len v ≡ length net.now.nodes) × ((a : ℕ) (d : _) → a < length net.now.nodes → BeginsWork A.steps (node net.now a) (slice_index_or v.items a d))) }
 {
-    let mut stages = Vec::with_capacity(alloc, net.len())?;
+    let mut works = Vec::with_capacity(alloc, net.len())?;
     for a in 0..net.len() {
-        stages.push(make_stage(alloc, net, a, takes, puts, inputs, filler)?)?;
+        works.push(make_work(alloc, net, a, sizes, filler)?)?;
     }
-    Ok(stages)
+    Ok(works)
 }

@@ -2,17 +2,16 @@
 use Rattle.std.proofs.Common.{◌≡◌, ℕ, zero, suc, ◌≤◌, ◌<◌, List, [], ◌∷◌, ◌++◌, length, get_or, slice_index, take, sum, eqb, true, false, refl, sym, ap, ◌∙◌, subst, inl, inr, ◌⊎◌, arith}
 use Rattle.std.proofs.lemmas.List.{take-append-le, take_all, get_or_append_left, get_or_push, ext_get_or, get_or_default}
 use Rattle.std.proofs.lemmas.Bool.{cases_lt, eqb-true, false≢true}
-use Rattle.sdf_graph.specs.Rates.{Shape, IsShape, rates}
-use Rattle.sdf_graph.specs.Sequences.{times, IsRunnable, IsAdmissible, IsStopped, IsDeadlocked}
+use Rattle.sdf_graph.specs.Rates.{Shape, IsSound, rates}
+use Rattle.sdf_graph.specs.Sequences.{times, IsRunnable, IsAdmissible, IsDeadlocked}
 use Rattle.sdf_graph.specs.Periods.{IsLeastPeriod}
 use Rattle.sdf_graph.specs.Tally.{Tally}
 use Rattle.sdf_sched.specs.Pick.{Chooses, IsChoice, IsPicked, begins, fires}
 use Rattle.sdf_sched.specs.ClassS.{IsGoing}
 use Rattle.sdf_sched.specs.Period.{IsPeriodOf}
-use Rattle.sdf_sched.specs.Stuck.{IsShortList, IsStuckAt, pair}
+use Rattle.sdf_sched.specs.Stuck.{IsShortList, IsStuckAt}
 use Rattle.sdf_sched.specs.declared.stuck.Stuck.{Stuck}
-use Rattle.sdf_sched.proofs.Greedy.{stuck_means_deadlock}
-use Rattle.sdf_sched.proofs.Runnable.{sound_of}
+use Rattle.sdf_sched.specs.Laws.{StuckCountsMeanDeadlock}
 use Rattle.sdf_sched.proofs.Going.{length-last}
 
 -- each firing that a pick chooses is of a runnable actor
@@ -38,9 +37,6 @@ module _ (P : Type 0) (chooses : Chooses P) (g : Shape) (q : List ℕ) (p : P) w
 
     pub none_left : (a : ℕ) → IsRunnable (rates g) (slice_index q) (slice_index t.fired) a → ⊥
     none_left a on = let h = (now.list.each a).1 on in omega (arith, h.1)
-
-    stopped : IsStopped (rates g) (slice_index q) w
-    stopped = record { each = runnable; none = λ a on. none_left a (subst (λ (k : ℕ → ℕ). IsRunnable (rates g) (slice_index q) k a) (sym now.counted) on) }
 
     admissible : IsAdmissible (rates g) w
     admissible i h = let on = runnable i h in (on.0, on.2)
@@ -70,12 +66,9 @@ module _ (P : Type 0) (chooses : Chooses P) (g : Shape) (q : List ℕ) (p : P) w
         }
 
       -- else there is none
-      module _ (shape : IsShape g) (some : 0 < length short) where
+      module _ (sound : IsSound (rates g)) (stuck : StuckCountsMeanDeadlock) (some : 0 < length short) where
         pub is_deadlocked : IsDeadlocked (rates g) (slice_index q)
-        is_deadlocked =
-            let first = lacks.each 0 some in
-            stuck_means_deadlock (rates g) (slice_index q) w (sound_of g shape) stopped _ first.known
-            (let less : times w (pair short 0).0 < get_or q (pair short 0).0 0 = omega (arith, first.unfinished, count_of (pair short 0).0) in less)
+        is_deadlocked = let first = lacks.each 0 some in stuck (rates g) (slice_index q) (slice_index t.fired) sound none_left _ first.known first.unfinished
 
       pub is_stuck : (s : Stuck) → s.done.items ≡ t.fired → s.short.items ≡ short → IsStuckAt (rates g) (slice_index q) w s
       is_stuck s done same = record {

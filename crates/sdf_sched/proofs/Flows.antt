@@ -1,10 +1,12 @@
 -- What a firing moves, summed over an actor's own channels.
-use Rattle.std.proofs.Common.{◌≡◌, ℕ, zero, suc, ◌+◌, ◌-◌, ◌*◌, ◌≤◌, ◌<◌, List, [], ◌∷◌, length, get_or, take, sum_by, cond, eqb, refl, sym, ap, ◌∙◌, subst, inl, inr, ◌⊎◌, zero-add, arith}
+use Rattle.std.proofs.Common.{◌≡◌, ℕ, zero, suc, ◌+◌, ◌-◌, ◌≤◌, ◌<◌, List, [], ◌∷◌, length, get_or, take, sum_by, cond, eqb, refl, sym, ap, ◌∙◌, subst, inl, inr, ◌⊎◌, zero-add, arith}
 use Rattle.std.specs.List.{range_with_len}
 use Rattle.std.proofs.lemmas.List.{take_all, get_or-take, length-take-le}
 use Rattle.std.proofs.lemmas.List.Sums.{sum_by_more, sum_by-cons}
 use Rattle.std.proofs.lemmas.Bool.{cases_lt, cases_eq, eq-eqb, ne_eqb}
 use Rattle.sdf_graph.specs.Adjacency.{ListsExactly}
+use Rattle.sdf_graph.specs.Rates.{sum_to}
+use Rattle.sdf_graph.specs.Laws.{SumsGrow}
 use Rattle.sdf_sched.proofs.Updates.{place_of, stands_at, apart, length_within}
 
 -- the numbers below n + 1 of an end a are those below n, and n where it has that end
@@ -77,11 +79,12 @@ sum_of_own of a f (suc n) xs lists = go (cases_eq (of n) a) (sum_of_own of a f n
 pub few_own : (P : ℕ → Type 0) (n : ℕ) (xs : List ℕ) → ListsExactly P n xs → length xs ≤ n
 few_own P n xs lists = length_within xs lists.rising n (λ c h. let i = place_of xs c h in omega (arith, (lists.each i.0 i.1.0).0, i.1.1))
 
-one_more : (p n : ℕ) → p * (n + 1) - p * n ≡ p
-one_more p n = omega arith
+-- what one firing moves
+step_of : SumsGrow → (f : ℕ → ℕ) (n i : ℕ) → n ≡ i → f i ≡ sum_to f (n + 1) - sum_to f n
+step_of grow f n i e = subst (λ i. f i ≡ sum_to f (n + 1) - sum_to f n) e (omega (arith, grow f n))
 
--- what is summed over the list of an actor's channels is what its next firing moves, over all channels
-pub flow_of : (of rate : ℕ → ℕ) (a n m : ℕ) (xs : List ℕ) → ListsExactly (λ c. of c ≡ a) m xs → (i : ℕ) → length xs ≤ i → (total : ℕ) → total ≡ sum_by rate (take i xs) →
-    total ≡ sum_by (λ c. cond (eqb (of c) a) (rate c * (n + 1) - rate c * n) 0) (range_with_len 0 m)
-flow_of of rate a n m xs lists i past total is =
-    is ∙ (ap (sum_by rate) (take_all i xs past) ∙ (ap (λ (f : ℕ → ℕ). sum_by f xs) (λ j c. sym (one_more (rate c) n) j) ∙ sym (sum_of_own of a (λ c. rate c * (n + 1) - rate c * n) m xs lists)))
+-- what is summed over the list of an actor's channels is what its firing i moves, over all channels
+pub flow_of : SumsGrow → (of : ℕ → ℕ) (rate : ℕ → ℕ → ℕ) (a n m : ℕ) (xs : List ℕ) → ListsExactly (λ c. of c ≡ a) m xs → (i : ℕ) → n ≡ i → (j : ℕ) → length xs ≤ j → (total : ℕ) → total ≡ sum_by (λ c. rate c i) (take j xs) →
+    total ≡ sum_by (λ c. cond (eqb (of c) a) (sum_to (rate c) (n + 1) - sum_to (rate c) n) 0) (range_with_len 0 m)
+flow_of grow of rate a n m xs lists i e j past total is =
+    is ∙ (ap (sum_by (λ c. rate c i)) (take_all j xs past) ∙ (ap (λ (f : ℕ → ℕ). sum_by f xs) (λ z c. step_of grow (rate c) n i e z) ∙ sym (sum_of_own of a (λ c. sum_to (rate c) (n + 1) - sum_to (rate c) n) m xs lists)))

@@ -2,25 +2,14 @@
 use Rattle.std.proofs.Common.{◌≡◌, ℕ, zero, suc, ◌+◌, ◌≤◌, ◌<◌, List, [], length, get_or, slice_index, set, refl, sym, ap, ◌∙◌, subst, inl, inr, ◌⊎◌, arith}
 use Rattle.std.specs.List.{Contains}
 use Rattle.std.specs.List.Sorted.{IsStrictlyIncreasing}
-use Rattle.std.proofs.Math.Nat.{mul-le-mul_left}
 use Rattle.std.proofs.lemmas.List.{get_or-set_same, get_or-set_other}
 use Rattle.std.proofs.lemmas.Bool.{cases_eq}
-use Rattle.sdf_graph.specs.Rates.{Rates, IsSound, Shape, IsShape, rates, channel}
+use Rattle.sdf_graph.specs.Rates.{Rates, IsSound, Shape, rates, channel}
 use Rattle.sdf_graph.specs.Sequences.{IsEnabled, IsRunnable}
 use Rattle.sdf_sched.specs.Pick.{IsRunnableList}
 use Rattle.sdf_sched.specs.ClassS.{IsUpdated}
 use Rattle.sdf_sched.proofs.Greedy.{IsEnabled_rises}
 use Rattle.sdf_sched.proofs.Updates.{place_of}
-
-pub sound_of : (g : Shape) → IsShape g → IsSound (rates g)
-sound_of g shape = record {
-  source_in = shape.from_in;
-  target_in = shape.to_in;
-  produced_none = λ c. omega arith;
-  consumed_none = λ c. omega arith;
-  produced_rises = λ c i j h. mul-le-mul_left (channel g c).put h;
-  consumed_rises = λ c i j h. mul-le-mul_left (channel g c).take h;
-}
 
 -- a channel from actor a to actor b
 abbrev pub IsFed : Rates → ℕ → ℕ → ℕ → Type 0
@@ -162,11 +151,11 @@ pub collected_all : (r : Rates) (q k : ℕ → ℕ) (n : ℕ) (xs : List ℕ) �
 collected_all r q k n xs whole was = record { rising = was.rising; each = λ a. (was.each a, λ on. was.all a (omega (arith, on.0)) on) }
 
 -- `fired`, of counts that are kept in a list
-pub after_firing : (g h : Shape) → h ≡ g → IsShape g → (q : ℕ → ℕ) (before now : List ℕ) (a : ℕ) → a < length before → now ≡ set before a (get_or before a 0 + 1) →
+pub after_firing : (g h : Shape) → h ≡ g → IsSound (rates g) → (q : ℕ → ℕ) (before now : List ℕ) (a : ℕ) → a < length before → now ≡ set before a (get_or before a 0 + 1) →
     (xs ys : List ℕ) → IsRunnableList (rates g) q (slice_index before) xs → IsUpdated xs a (IsRunnable (rates h) q (slice_index now) a) ys →
     (later : ℕ → Type 0) → ((c : ℕ) → c < length g.channels → (channel g c).from ≡ a → later c) → IsCaughtUp (rates g) q (slice_index now) a later ys
-after_firing g h same shape q before now a known is xs ys list up later all =
-    fired (rates g) (sound_of g shape) q (slice_index before) (slice_index now) a
+after_firing g h same sound q before now a known is xs ys list up later all =
+    fired (rates g) sound q (slice_index before) (slice_index now) a
     (ap (λ (n : List ℕ). get_or n a 0) is ∙ get_or-set_same before a (get_or before a 0 + 1) 0 known)
     (λ b ne. ap (λ (n : List ℕ). get_or n b 0) is ∙ get_or-set_other before a b (get_or before a 0 + 1) 0 ne)
     xs ys list (subst (λ (s : Shape). IsUpdated xs a (IsRunnable (rates s) q (slice_index now) a) ys) same up) later all

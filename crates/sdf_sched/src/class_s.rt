@@ -12,10 +12,13 @@ ghost use Rattle.sdf_sched.specs.Stuck.{IsShort, IsShortList, IsSchedFault};
 ghost use Rattle.sdf_sched.specs.ClassS.{IsGoing, IsUpdated};
 
 use crate::fault::SchedFault;
+use crate::laws::stuck_counts_mean_deadlock;
 use crate::period::Period;
 use crate::pick::Pick;
 use crate::stuck::Stuck;
+use sdf_graph::laws::{graphs_are_sound, sums_rise};
 use sdf_graph::{Counts, Graph, Repetitions};
+use sdf_limits::MOST_PERIOD;
 use std::alloc::Global;
 
 /// Whether an actor may fire within the period.
@@ -76,7 +79,7 @@ fn fire(
     requires same { counts.old.graph ≡ graph.now }
     requires all { length reps.now ≡ graph.now.actors }
     requires each { length counts.old.fired ≡ graph.now.actors }
-    requires short { sum reps.now ≤ 65536 }
+    requires short { sum reps.now ≤ MOST_PERIOD }
     requires room { length reps.now ≤ vec_capacity runnable.old }
     requires list { IsRunnableList (rates graph.now) (slice_index reps.now) (slice_index counts.old.fired) runnable.old.items }
     requires fires { Contains runnable.old.items actor }
@@ -84,12 +87,13 @@ fn fire(
     ensures list { IsRunnableList (rates graph.now) (slice_index reps.now) (slice_index counts.new.fired) runnable.new.items }
     ensures capacity { vec_capacity runnable.new ≡ vec_capacity runnable.old }
 {
-    graph.is_whole();
+    graphs_are_sound();
+    let channels = graph.channels();
     counts.fire(actor);
     update(counts, reps, actor, runnable);
-    let channels = graph.channels();
     for channel in graph.outgoing(actor) {
-        update(counts, reps, channels[*channel].to, runnable);
+        let fed = &channels[*channel];
+        update(counts, reps, fed.to, runnable);
     }
 }
 
@@ -103,12 +107,13 @@ fn fire_all<P: Pick>(
     pick: &mut P,
 )
     requires all { length reps.now ≡ graph.now.actors }
-    requires short { sum reps.now ≤ 65536 }
+    requires short { sum reps.now ≤ MOST_PERIOD }
     requires room { sum reps.now ≤ vec_capacity order.old }
     requires places { length reps.now ≤ vec_capacity runnable.old }
     requires begun { IsGoing P.chooses graph.now reps.now pick.old counts.old order.old.items pick.old runnable.old.items }
     ensures { IsGoing P.chooses graph.now reps.now pick.old counts.new order.new.items pick.new [] }
 {
+    sums_rise();
     while !runnable.is_empty() {
         let at = pick.choose(graph, counts, runnable);
         let actor = runnable[at];
@@ -175,8 +180,10 @@ pub fn class_s<P: Pick>(
         (λ s. IsPeriodOf (rates graph.now) s × (s.repetitions ≡ reps.now) × IsPicked P.chooses graph.now (slice_index reps.now) pick.old s.order pick.new)
         (IsSchedFault P.chooses graph.now (slice_index reps.now) pick.old pick.new) }
 {
-    graph.is_whole();
-    reps.is_whole();
+    // the graph has a shape, so its rates are sound, and counts that are stuck mean a deadlock
+    graph.channels();
+    graphs_are_sound();
+    stuck_counts_mean_deadlock();
     let mut counts = Counts::new(alloc, graph)?;
     let mut order = Vec::with_capacity(alloc, reps.period() as usize)?;
     let mut runnable = Vec::with_capacity(alloc, reps.len())?;

@@ -5,7 +5,9 @@ ghost use Rattle.sdf_graph.specs.Rates.{rates};
 ghost use Rattle.sdf_sched.specs.Lean.{puts, takes, IsLeaner};
 
 use crate::pick::Pick;
+use sdf_graph::laws::sums_rise;
 use sdf_graph::{Counts, Graph};
+use sdf_limits::{MOST_CHANNELS, MOST_RATE};
 
 /// The runnable actor whose firing adds least to what the channels hold; of several the first in file order.
 #[derive(Drop)]
@@ -17,21 +19,22 @@ impl Pick for Lean {
     ghost chooses = { IsLeanChoice };
 
     fn choose(&mut self, graph: &Graph, counts: &Counts, runnable: &[usize]) -> usize {
-        leanest(graph, runnable)
+        leanest(graph, counts, runnable)
     }
 }
 
 /// The place of the leanest actor, the first of several.
-fn leanest(graph: &Graph, runnable: &[usize]) -> usize
+fn leanest(graph: &Graph, counts: &Counts, runnable: &[usize]) -> usize
+    requires same { counts.now.graph ≡ graph.now }
     requires some { 0 < length runnable.now }
     requires known { (i : ℕ) → i < length runnable.now → slice_index runnable.now i < graph.now.actors }
     ensures below { result < length runnable.now }
-    ensures least { (k : ℕ → ℕ) (i : ℕ) → i < length runnable.now → IsLeaner (rates graph.now) k (slice_index runnable.now i) (slice_index runnable.now result) → ⊥ }
-    ensures first { (k : ℕ → ℕ) (i : ℕ) → i < result → IsLeaner (rates graph.now) k (slice_index runnable.now result) (slice_index runnable.now i) }
+    ensures least { (i : ℕ) → i < length runnable.now → IsLeaner (rates graph.now) (slice_index counts.now.fired) (slice_index runnable.now i) (slice_index runnable.now result) → ⊥ }
+    ensures first { (i : ℕ) → i < result → IsLeaner (rates graph.now) (slice_index counts.now.fired) (slice_index runnable.now result) (slice_index runnable.now i) }
 {
     let mut best = 0;
     for (i, actor) in runnable.iter().enumerate() {
-        if is_leaner(graph, *actor, runnable[best]) {
+        if is_leaner(graph, counts, *actor, runnable[best]) {
             best = i;
         }
     }
@@ -39,40 +42,46 @@ fn leanest(graph: &Graph, runnable: &[usize]) -> usize
 }
 
 /// Whether a firing of one actor adds less to what the channels hold than a firing of another.
-fn is_leaner(graph: &Graph, one: usize, other: usize) -> bool
+fn is_leaner(graph: &Graph, counts: &Counts, one: usize, other: usize) -> bool
+    requires same { counts.now.graph ≡ graph.now }
     requires one { one < graph.now.actors }
     requires other { other < graph.now.actors }
-    ensures { (k : ℕ → ℕ) → IsTrue result ↔ IsLeaner (rates graph.now) k one other }
+    ensures { IsTrue result ↔ IsLeaner (rates graph.now) (slice_index counts.now.fired) one other }
 {
-    put_by(graph, one) + taken_by(graph, other) < put_by(graph, other) + taken_by(graph, one)
+    let one_at = counts.fired(one);
+    let other_at = counts.fired(other);
+    put_by(graph, one, one_at) + taken_by(graph, other, other_at)
+        < put_by(graph, other, other_at) + taken_by(graph, one, one_at)
 }
 
-/// The samples that a firing of an actor puts.
-fn put_by(graph: &Graph, actor: usize) -> u64
+/// The samples that firing `i` of an actor puts.
+fn put_by(graph: &Graph, actor: usize, i: u32) -> u64
     requires { actor < graph.now.actors }
-    ensures sum { (k : ℕ → ℕ) → result ≡ puts (rates graph.now) k actor }
-    ensures small { result ≤ 1024 * 256 }
+    ensures sum { (k : ℕ → ℕ) → k actor ≡ i → result ≡ puts (rates graph.now) k actor }
+    ensures small { result ≤ MOST_RATE * MOST_CHANNELS }
 {
-    graph.is_whole();
+    sums_rise();
     let channels = graph.channels();
     let mut put = 0;
     for channel in graph.outgoing(actor) {
-        put += u64::from(channels[*channel].put);
+        let rates = &channels[*channel];
+        put += u64::from(rates.puts(i));
     }
     put
 }
 
 /// The samples that it takes.
-fn taken_by(graph: &Graph, actor: usize) -> u64
+fn taken_by(graph: &Graph, actor: usize, i: u32) -> u64
     requires { actor < graph.now.actors }
-    ensures sum { (k : ℕ → ℕ) → result ≡ takes (rates graph.now) k actor }
-    ensures small { result ≤ 1024 * 256 }
+    ensures sum { (k : ℕ → ℕ) → k actor ≡ i → result ≡ takes (rates graph.now) k actor }
+    ensures small { result ≤ MOST_RATE * MOST_CHANNELS }
 {
-    graph.is_whole();
+    sums_rise();
     let channels = graph.channels();
     let mut taken = 0;
     for channel in graph.incoming(actor) {
-        taken += u64::from(channels[*channel].take);
+        let rates = &channels[*channel];
+        taken += u64::from(rates.takes(i));
     }
     taken
 }

@@ -4,7 +4,7 @@ use Rattle.std.proofs.lemmas.List.{take_all, drop_all}
 use Rattle.std.proofs.lemmas.Bool.{lt-ltb, le-ltb, eq-eqb, ne_eqb}
 use Rattle.std.proofs.Math.Nat.{div-add-mod, mul_assoc, mul-mod_right}
 use Rattle.sdf_wav.specs.declared.fault.FormatFault.TheVariants.{TooLong, PartialFrame}
-use Rattle.sdf_wav.specs.Sound.{samples_of}
+use Rattle.sdf_wav.specs.Sound.{pcm_samples}
 use Rattle.sdf_wav.specs.Content.{Holds, open_content_at}
 
 twice : (n c : ℕ) → n % (2 * c) ≡ 0 → n ≡ 2 * (c * (n / (2 * c)))
@@ -30,6 +30,6 @@ open_partial align n input left samples h le partial =
 pub open_whole : (align n : ℕ) (input left : List ℕ) (samples : List ℤ) → Holds input left 4294967296 n samples → n ≤ 4294967294 → n % align ≡ 0 → open_content_at align input ≡ Ok (samples, left)
 open_whole align n input left samples h le whole =
     let n-is : length input ≡ n = omega (arith, h.count) in
-    let all : samples_of input ≡ samples = sym (h.samples_are ∙ ap samples_of (take_all 4294967296 input (omega arith))) in
+    let all : pcm_samples input ≡ samples = sym (h.samples_are ∙ ap pcm_samples (take_all 4294967296 input (omega arith))) in
     let none : [] ≡ left = sym (h.left_is ∙ drop_all 4294967296 input (omega arith)) in
     rw (le-ltb 4294967294 (length input) (omega arith), n-is, eq-eqb (n % align) 0 whole, all, ← none) refl

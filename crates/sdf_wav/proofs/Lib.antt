@@ -12,3 +12,4 @@ pub mod FaultsRead
 pub mod Total
 pub mod Exact
 pub mod Round
+pub mod Canonical

@@ -12,7 +12,7 @@ use mir.Facts.{Fits-lt-pow}
 use mir.ValLaws.{of_z_fits}
 use Rattle.sdf_wav.specs.declared.fault.FormatFault.{FormatFault}
 use Rattle.sdf_wav.specs.declared.format.Format.{Format}
-use Rattle.sdf_wav.specs.Sound.{Sound, samples_of, IsSound}
+use Rattle.sdf_wav.specs.Sound.{Sound, pcm_samples, IsSound}
 use Rattle.sdf_wav.specs.Canonical.{header, sample_bytes, canonical_wav, write_fault}
 use Rattle.sdf_wav.specs.Grammar.{Chunk, IsContentOf, IsFormatChunk, Parts, IsWav}
 
@@ -30,9 +30,9 @@ sample_back z h =
     let n : cast_unsigned w16 z < 65536 = Fits-lt-pow (of_z_fits w16 z h) in
     ap (cast_signed w16) (number_back 2 (cast_unsigned w16 z) n) ∙ to_z-of_z w16 z h
 
-samples_back : (samples : List ℤ) → AllByRecursion (FitsSigned w16) samples → samples_of (sample_bytes samples) ≡ samples
+samples_back : (samples : List ℤ) → AllByRecursion (FitsSigned w16) samples → pcm_samples (sample_bytes samples) ≡ samples
 samples_back [] h = refl
-samples_back (z ∷ zs) h = ap (λ (y : ℤ). y ∷ samples_of (sample_bytes zs)) (sample_back z h.0) ∙ ap (λ (l : List ℤ). z ∷ l) (samples_back zs h.1)
+samples_back (z ∷ zs) h = ap (λ (y : ℤ). y ∷ pcm_samples (sample_bytes zs)) (sample_back z h.0) ∙ ap (λ (l : List ℤ). z ∷ l) (samples_back zs h.1)
 
 twice_whole : (n c : ℕ) → n % c ≡ 0 → (2 * n) % (2 * c) ≡ 0
 twice_whole n c h =

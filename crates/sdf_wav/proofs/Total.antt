@@ -12,7 +12,7 @@ use Rattle.sdf_wav.specs.declared.fault.FormatFault.{FormatFault}
 use Rattle.sdf_wav.specs.declared.fault.FormatFault.TheVariants.{NotRiff, NotWave, NoFormat, NoData, Truncated, TooLong, ShortFormat, PartialFrame}
 use Rattle.sdf_wav.specs.declared.format.Format.{Format}
 use Rattle.sdf_wav.specs.declared.parts.Fields.{Fields}
-use Rattle.sdf_wav.specs.Sound.{Sound, samples_of}
+use Rattle.sdf_wav.specs.Sound.{Sound, pcm_samples}
 use Rattle.sdf_wav.specs.Parts.{pcm_guid, fields_of, checked, format_of}
 use Rattle.sdf_wav.specs.Grammar.{Chunk, IsChunk, IsOther, IsNoData, IsContentOf, IsFormatChunk, Parts, Behind, Place, Content, IsWav}
 use Rattle.sdf_wav.specs.Fault.{IsHeader, PlaceFault, HasFault, ends_early, ends_before_data, header_cut, too_many, data_too_early, format_short, format_cut, format_bad, content_cut, data_partial, data_cut, open_long, open_partial, riff_cut, not_riff, wave_cut, not_wave, at_place}
@@ -331,7 +331,7 @@ at_body bytes riff_size body start four r =
     let place : Place bytes r.cs r.now r.rest = record { riff_size = riff_size; body = body; start = start; size_is_four = four; parts = r.parts; known = Behind-passes r.cs r.now r.passes; few = r.few } in
     elim r.end [
       | inl fault ↦ faulty fault.0 (at_place r.cs r.now r.rest fault.0 place (subst (λ k. PlaceFault r.now k r.rest fault.0) {x = 0 + length r.cs} (omega arith) fault.1))
-      | inr d ↦ sounds (record { rate = d.format.rate; channels = d.format.channels; samples = samples_of d.content }) d.after (record {
+      | inr d ↦ sounds (record { rate = d.format.rate; channels = d.format.channels; samples = pcm_samples d.content }) d.after (record {
         chunks = r.cs;
         format = d.format;
         size = d.size;

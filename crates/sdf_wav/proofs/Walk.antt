@@ -7,7 +7,7 @@ use Rattle.std.proofs.lemmas.List.{drop_at, take_at}
 use Rattle.byteorder.specs.Endian.{little_number}
 use Rattle.sdf_wav.specs.declared.format.Format.{Format}
 use Rattle.sdf_wav.specs.declared.chunks.Step.TheVariants as steps
-use Rattle.sdf_wav.specs.Sound.{Sound, samples_of}
+use Rattle.sdf_wav.specs.Sound.{Sound, pcm_samples}
 use Rattle.sdf_wav.specs.Content.{content_at}
 use Rattle.sdf_wav.specs.Steps.{riff_at, step_at, data_at, wav_at}
 use Rattle.sdf_wav.specs.Grammar.{Chunk, IsOther, IsNoData, Parts, Behind, Content, IsWav}
@@ -58,7 +58,7 @@ walk n k cs (Some f) bytes rest e behind parts =
     ∙ data_at_more (suc (length between + n)) (length between + n) None (Some f) mid (drop (length format.content % 2) second.0) refl formats
     ∙ walk_later f n (length between + n) between (drop (length format.content % 2) second.0) rest refl later second.2
 
-content_reads : (align size : ℕ) (content rest : List ℕ) → Content size content rest → length content % align ≡ 0 → content_at align size (content ++ rest) ≡ Ok (samples_of content, rest)
+content_reads : (align size : ℕ) (content rest : List ℕ) → Content size content rest → length content % align ≡ 0 → content_at align size (content ++ rest) ≡ Ok (pcm_samples content, rest)
 unfolding content_at
 content_reads align size content rest (inl known) whole =
     rw (ne_eqb size 4294967295 known.0, ← known.1, eq-eqb (length content % align) 0 whole, le-ltb (length (content ++ rest)) (length content) (omega (arith, length-append content rest)), take_at content rest (length content) refl, drop_at content rest (length content) refl) refl
@@ -74,6 +74,6 @@ wav_reads bytes s rest w =
     let start : riff_at bytes ≡ Ok (tt, w.place.body) = ap riff_at w.place.start ∙ riff_reads w.place.riff_size w.place.body w.place.size_is_four in
     let found : data_at 65536 None w.place.body ≡ Ok (record { format = w.format; size = little_number 4 w.size }, after) =
     walk n 65536 w.chunks (Some w.format) w.place.body (codes "data" ++ (w.size ++ after)) (omega (arith, w.place.few)) w.place.known w.place.parts ∙ data_at_here n w.format w.size after w.size_is_four in
-    let sound : Sound = record { rate = w.format.rate; channels = w.format.channels; samples = samples_of w.content } in
+    let sound : Sound = record { rate = w.format.rate; channels = w.format.channels; samples = pcm_samples w.content } in
     let made : sound ≡ s = rw (← w.rate, ← w.channels, ← w.samples) refl in
     rw (start, found, content_reads (2 * w.format.channels) (little_number 4 w.size) w.content rest w.content_is w.whole) (ap (λ (x : Sound). Ok (x, rest)) made)

@@ -1,5 +1,5 @@
 -- The canonical file of a sound, and which sounds have none.
-use Rattle.std.specs.Prelude.{◌≡◌, ℕ, ◌+◌, ◌*◌, nat_lt, if◌then◌else◌, ℤ, List, ◌++◌, length, Option, Some, None, Result, Ok, Err, codes}
+use Rattle.std.specs.Prelude.{◌≡◌, ◌⊎◌, ℕ, ◌+◌, ◌*◌, nat_lt, if◌then◌else◌, ℤ, List, ◌++◌, length, Option, Some, None, Result, Ok, Err, codes}
 use Rattle.std.specs.Int.{w16, cast_unsigned}
 use Rattle.std.specs.List.{flat_map}
 use Rattle.std.specs.Io.KnownBytes.{Appends, Keeps}
@@ -8,7 +8,7 @@ use Rattle.sdf_wav.specs.declared.fault.FormatFault.{FormatFault}
 use Rattle.sdf_wav.specs.declared.fault.FormatFault.TheVariants.{RateTooLarge, TooLong}
 use Rattle.sdf_wav.specs.declared.fault.WavFault.{WavFault}
 use Rattle.sdf_wav.specs.declared.fault.WavFault.TheVariants as faults
-use Rattle.sdf_wav.specs.Sound.{Sound}
+use Rattle.sdf_wav.specs.Sound.{Sound, IsSound}
 use Rattle.sdf_wav.specs.Device.{AppendsFront}
 
 -- the 44 bytes before data of this size
@@ -38,6 +38,20 @@ size_fault rate channels samples =
 -- why a sound can't be written, if it can't
 abbrev pub write_fault : Sound → Option FormatFault
 write_fault s = size_fault s.rate s.channels (length s.samples)
+
+-- the canonical file of some sound
+pub record IsCanonical (file : List ℕ) : Type 0 where
+  pub sound : Sound
+  pub is_sound : IsSound sound
+  pub fits : write_fault sound ≡ None
+  pub whole : file ≡ canonical_wav sound
+
+-- a fault that writing answers, whatever is known of the bytes
+abbrev pub IsWritingFault : WavFault → Type 0
+IsWritingFault (faults.Format f) = (f ≡ RateTooLarge) ⊎ (f ≡ TooLong)
+IsWritingFault faults.Write = Unit {0}
+IsWritingFault faults.Read = ⊥
+IsWritingFault faults.OutOfMemory = ⊥
 
 -- What a call did that is to write this file, unless this fault forbids it: the whole of it, or nothing at a fault of the
 -- sound, or a front of it where the device failed. It never fails by memory or by a reader.

@@ -2,12 +2,12 @@
 use Rattle.std.specs.Prelude.{◌≡◌, ℕ, ◌%◌, min, not, if◌then◌else◌, nat_lt, ◌==◌, ℤ, List, [], length, take, drop, Result, Ok, Err}
 use Rattle.sdf_wav.specs.declared.fault.FormatFault.{FormatFault}
 use Rattle.sdf_wav.specs.declared.fault.FormatFault.TheVariants.{Truncated, PartialFrame, TooLong}
-use Rattle.sdf_wav.specs.Sound.{samples_of}
+use Rattle.sdf_wav.specs.Sound.{pcm_samples}
 
 -- the samples of the first bytes, of at most so many, of which there were n
 pub record Holds (input left : List ℕ) (limit n : ℕ) (samples : List ℤ) : Type 0 where
   pub count : n ≡ min limit (length input)
-  pub samples_are : samples ≡ samples_of (take limit input)
+  pub samples_are : samples ≡ pcm_samples (take limit input)
   pub left_is : left ≡ drop limit input
 
 -- to the end of the input
@@ -15,14 +15,14 @@ abbrev pub open_content_at : ℕ → List ℕ → Result (List ℤ × List ℕ) 
 open_content_at align bytes =
     if nat_lt 4294967294 (length bytes) then Err TooLong
     else (if not (length bytes % align == 0) then Err PartialFrame
-    else Ok (samples_of bytes, []))
+    else Ok (pcm_samples bytes, []))
 
 -- of a known size
 abbrev pub sized_content_at : ℕ → ℕ → List ℕ → Result (List ℤ × List ℕ) FormatFault
 sized_content_at align size bytes =
     if not (size % align == 0) then Err PartialFrame
     else (if nat_lt (length bytes) size then Err Truncated
-    else Ok (samples_of (take size bytes), drop size bytes))
+    else Ok (pcm_samples (take size bytes), drop size bytes))
 
 unfoldable pub content_at : ℕ → ℕ → List ℕ → Result (List ℤ × List ℕ) FormatFault
 content_at align size bytes = if size == 0xFFFFFFFF then open_content_at align bytes else sized_content_at align size bytes

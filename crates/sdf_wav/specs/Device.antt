@@ -1,10 +1,16 @@
 -- What readers and writers do, and count.
 use Rattle.std.specs.Prelude.{◌≡◌, ℕ, zero, suc, ◌+◌, ◌-◌, ◌^◌, ◌<◌, ◌⊎◌, min, List, [], ◌∷◌, ◌++◌, length, take, drop, Option, Some, Result, Ok, Err}
 use Rattle.std.specs.Io.KnownBytes.{Appends}
+use Rattle.sdf_wav.specs.declared.device.DeviceFault.{DeviceFault}
 use Rattle.sdf_wav.specs.declared.fault.ReadFault.{ReadFault}
 use Rattle.sdf_wav.specs.declared.fault.ReadFault.TheVariants as read_faults
 use Rattle.sdf_wav.specs.declared.fault.WavFault.{WavFault}
 use Rattle.sdf_wav.specs.declared.fault.WavFault.TheVariants as faults
+
+-- what a device's call answers where the one call of the device inside answered this
+abbrev pub answered : {E : Type 0} → Result ℕ E → Result ℕ DeviceFault
+answered (Ok n) = Ok n
+answered (Err e) = Err (record {})
 
 -- the greatest u64
 abbrev pub most_failures : ℕ

@@ -2,7 +2,7 @@
 use Rattle.std.specs.Prelude.{◌≡◌, ◌≢◌, ◌⊎◌, ℕ, ◌*◌, ◌%◌, ◌≤◌, ◌<◌, min, List, [], ◌++◌, length, take, drop, Option, Some, None, Result, Ok, Err, codes}
 use Rattle.byteorder.specs.Endian.{little_number}
 use Rattle.sdf_wav.specs.declared.fault.FormatFault.{FormatFault}
-use Rattle.sdf_wav.specs.declared.fault.FormatFault.TheVariants.{NotRiff, NotWave, NoFormat, NoData, Truncated, TooLong, ShortFormat, PartialFrame}
+use Rattle.sdf_wav.specs.declared.fault.FormatFault.TheVariants.{NotRiff, NotWave, NoFormat, NoData, Truncated, TooLong, ShortFormat, PartialFrame, RateTooLarge}
 use Rattle.sdf_wav.specs.declared.format.Format.{Format}
 use Rattle.sdf_wav.specs.Parts.{format_of}
 use Rattle.sdf_wav.specs.declared.fault.WavFault.{WavFault}
@@ -76,6 +76,17 @@ Answers old new (Err (faults.Format f)) = Known old new (λ input left. HasFault
 Answers old new (Err faults.OutOfMemory) = Known old new LosesFront
 Answers old new (Err faults.Read) = Known old new LosesFront
 Answers old new (Err faults.Write) = ⊥
+
+-- a fault that inputs have: a rate that no header can say is of sounds alone
+abbrev pub IsInputFault : FormatFault → Type 0
+IsInputFault f = f ≢ RateTooLarge
+
+-- a fault that reading answers, whatever is known of the bytes
+abbrev pub IsReadingFault : WavFault → Type 0
+IsReadingFault faults.OutOfMemory = Unit {0}
+IsReadingFault (faults.Format f) = IsInputFault f
+IsReadingFault faults.Read = Unit {0}
+IsReadingFault faults.Write = ⊥
 
 -- memory or the reader failed
 abbrev pub IsFromOutside : WavFault → Type 0

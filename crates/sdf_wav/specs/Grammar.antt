@@ -4,7 +4,7 @@ use Rattle.std.specs.List.{AllByRecursion}
 use Rattle.byteorder.specs.Endian.{little_number}
 use Rattle.sdf_wav.specs.declared.format.Format.{Format}
 use Rattle.sdf_wav.specs.Parts.{pcm_guid}
-use Rattle.sdf_wav.specs.Sound.{Sound, samples_of}
+use Rattle.sdf_wav.specs.Sound.{Sound, pcm_samples}
 
 -- an id, a size and a content; behind an odd size one more byte stands
 pub record Chunk : Type 0 where
@@ -85,5 +85,5 @@ pub record IsWav (bytes : List ℕ) (s : Sound) (rest : List ℕ) : Type 0 where
   pub content_is : Content (little_number 4 size) content rest
   pub rate : s.rate ≡ format.rate
   pub channels : s.channels ≡ format.channels
-  pub samples : s.samples ≡ samples_of content
+  pub samples : s.samples ≡ pcm_samples content
   pub whole : length content % (2 * format.channels) ≡ 0

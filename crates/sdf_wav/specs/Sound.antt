@@ -25,10 +25,10 @@ sound_of rate channels samples =
     else Ok (record { rate = rate; channels = channels; samples = samples })))
 
 -- two bytes for each sample, the low one first
-abbrev pub samples_of : List ℕ → List ℤ
-samples_of [] = []
-samples_of (a ∷ []) = []
-samples_of (a ∷ b ∷ bytes) = cast_signed w16 (little_number 2 (a ∷ b ∷ [])) ∷ samples_of bytes
+abbrev pub pcm_samples : List ℕ → List ℤ
+pcm_samples [] = []
+pcm_samples (a ∷ []) = []
+pcm_samples (a ∷ b ∷ bytes) = cast_signed w16 (little_number 2 (a ∷ b ∷ [])) ∷ pcm_samples bytes
 
 -- a sound of numbers that its types hold
 pub record IsSound (s : Sound) : Type 0 where

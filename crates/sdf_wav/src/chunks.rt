@@ -2,6 +2,7 @@
 
 ghost use Rattle.std.specs.Prelude.{◌≡◌, ◌≤◌, ◌%◌, ℕ, Option, Some, None, length, IfOk, IfErr};
 ghost use Rattle.sdf_wav.specs.Device.{failures_after, widened};
+ghost use Rattle.sdf_wav.specs.Fault.{IsReadingFault};
 ghost use Rattle.sdf_wav.specs.Format.{IsFormat, IsKnown, IsStep};
 ghost use Rattle.sdf_wav.specs.Steps.{Reads, riff_at, header_at, front_at, skip_at, pad_at, skipped_at, looked_at, pcm_at, format_at, passed_at, is_some, step_at, last_at, data_at};
 
@@ -15,6 +16,7 @@ use crate::parts::{ChunkHeader, ChunkKind, DataStart, data_start, format_of, hea
 pub(crate) fn read_riff<R: Reader>(reader: &mut R) -> Result<(), ReadFault>
     ensures bytes { Reads (λ x. x) (R.remaining reader.old) (R.remaining reader.new) riff_at result }
     ensures counted { R.failures reader.new ≡ failures_after (widened result) (R.failures reader.old) }
+    ensures fault { IfErr (widened result) IsReadingFault }
 {
     let mut front = [0u8; 12];
     let n = fill(reader, &mut front)?;
@@ -26,6 +28,7 @@ pub(crate) fn read_riff<R: Reader>(reader: &mut R) -> Result<(), ReadFault>
 fn read_header<R: Reader>(reader: &mut R, has_format: bool) -> Result<ChunkHeader, ReadFault>
     ensures bytes { Reads (λ x. x) (R.remaining reader.old) (R.remaining reader.new) (header_at has_format) result }
     ensures counted { R.failures reader.new ≡ failures_after (widened result) (R.failures reader.old) }
+    ensures fault { IfErr (widened result) IsReadingFault }
 {
     let mut front = [0u8; 8];
     let n = fill(reader, &mut front)?;
@@ -36,6 +39,7 @@ fn read_header<R: Reader>(reader: &mut R, has_format: bool) -> Result<ChunkHeade
 fn read_front<R: Reader>(reader: &mut R, buf: &mut [u8]) -> Result<(), ReadFault>
     ensures bytes { Reads (λ _. buf.new) (R.remaining reader.old) (R.remaining reader.new) (front_at (length buf.old)) result }
     ensures counted { R.failures reader.new ≡ failures_after (widened result) (R.failures reader.old) }
+    ensures fault { IfErr (widened result) IsReadingFault }
 {
     let n = fill(reader, buf)?;
     if n < buf.len() {
@@ -48,6 +52,7 @@ fn read_front<R: Reader>(reader: &mut R, buf: &mut [u8]) -> Result<(), ReadFault
 fn skip_exactly<R: Reader>(reader: &mut R, size: u64) -> Result<(), ReadFault>
     ensures bytes { Reads (λ x. x) (R.remaining reader.old) (R.remaining reader.new) (skip_at size) result }
     ensures counted { R.failures reader.new ≡ failures_after (widened result) (R.failures reader.old) }
+    ensures fault { IfErr (widened result) IsReadingFault }
 {
     let n = skip(reader, size)?;
     if n < size {
@@ -59,8 +64,8 @@ fn skip_exactly<R: Reader>(reader: &mut R, size: u64) -> Result<(), ReadFault>
 /// Skips the pad byte behind a content of odd size. At the end of the input it may be missing.
 fn skip_pad<R: Reader>(reader: &mut R, size: u32) -> Result<(), ReadFault>
     ensures bytes { Reads (λ x. x) (R.remaining reader.old) (R.remaining reader.new) (pad_at size) result }
-    ensures fault { IfErr result (λ e. e ≡ ReadFault.Device) }
     ensures counted { R.failures reader.new ≡ failures_after (widened result) (R.failures reader.old) }
+    ensures fault { IfErr result (λ e. e ≡ ReadFault.Device) }
 {
     skip(reader, u64::from(size % 2))?;
     Ok(())
@@ -70,6 +75,7 @@ fn skip_pad<R: Reader>(reader: &mut R, size: u32) -> Result<(), ReadFault>
 fn skip_content<R: Reader>(reader: &mut R, size: u32) -> Result<(), ReadFault>
     ensures bytes { Reads (λ x. x) (R.remaining reader.old) (R.remaining reader.new) (skipped_at size) result }
     ensures counted { R.failures reader.new ≡ failures_after (widened result) (R.failures reader.old) }
+    ensures fault { IfErr (widened result) IsReadingFault }
 {
     skip_exactly(reader, u64::from(size))?;
     skip_pad(reader, size)
@@ -81,6 +87,7 @@ fn read_looked<R: Reader>(reader: &mut R, front: &mut [u8], size: u32) -> Result
     requires { length front.old ≤ size }
     ensures bytes { Reads (λ _. front.new) (R.remaining reader.old) (R.remaining reader.new) (looked_at (length front.old) size) result }
     ensures counted { R.failures reader.new ≡ failures_after (widened result) (R.failures reader.old) }
+    ensures fault { IfErr (widened result) IsReadingFault }
 {
     let len = front.len() as u64;
     read_front(reader, front)?;
@@ -96,6 +103,7 @@ fn read_pcm<R: Reader>(reader: &mut R, size: u32) -> Result<Format, ReadFault>
     requires { 16 ≤ size }
     ensures bytes { Reads (λ x. x) (R.remaining reader.old) (R.remaining reader.new) (pcm_at size) result }
     ensures counted { R.failures reader.new ≡ failures_after (widened result) (R.failures reader.old) }
+    ensures fault { IfErr (widened result) IsReadingFault }
     ensures valid { IfOk result IsFormat }
 {
     let mut front = [0u8; 40];
@@ -110,6 +118,7 @@ fn read_pcm<R: Reader>(reader: &mut R, size: u32) -> Result<Format, ReadFault>
 fn read_format<R: Reader>(reader: &mut R, size: u32) -> Result<Format, ReadFault>
     ensures bytes { Reads (λ x. x) (R.remaining reader.old) (R.remaining reader.new) (format_at size) result }
     ensures counted { R.failures reader.new ≡ failures_after (widened result) (R.failures reader.old) }
+    ensures fault { IfErr (widened result) IsReadingFault }
     ensures valid { IfOk result IsFormat }
 {
     if size < 16 {
@@ -129,6 +138,7 @@ fn pass<R: Reader>(
     requires { IsKnown seen }
     ensures bytes { Reads (λ x. x) (R.remaining reader.old) (R.remaining reader.new) (passed_at header.kind header.size seen) result }
     ensures counted { R.failures reader.new ≡ failures_after (widened result) (R.failures reader.old) }
+    ensures fault { IfErr (widened result) IsReadingFault }
     ensures valid { IfOk result IsKnown }
 {
     match (header.kind, seen) {
@@ -156,6 +166,7 @@ fn next_part<R: Reader>(reader: &mut R, seen: Option<Format>) -> Result<Step, Re
     requires { IsKnown seen }
     ensures bytes { Reads (λ x. x) (R.remaining reader.old) (R.remaining reader.new) (step_at seen) result }
     ensures counted { R.failures reader.new ≡ failures_after (widened result) (R.failures reader.old) }
+    ensures fault { IfErr (widened result) IsReadingFault }
     ensures valid { IfOk result IsStep }
 {
     let header = read_header(reader, seen.is_some())?;
@@ -177,6 +188,7 @@ fn read_last<R: Reader>(reader: &mut R, seen: Option<Format>) -> Result<DataStar
     requires { IsKnown seen }
     ensures bytes { Reads (λ x. x) (R.remaining reader.old) (R.remaining reader.new) (last_at seen) result }
     ensures counted { R.failures reader.new ≡ failures_after (widened result) (R.failures reader.old) }
+    ensures fault { IfErr (widened result) IsReadingFault }
     ensures valid { IfOk result (λ start. IsFormat start.format) }
 {
     let header = read_header(reader, seen.is_some())?;
@@ -193,6 +205,7 @@ const MAX_CHUNKS: u32 = 65_536;
 pub(crate) fn find_data<R: Reader>(reader: &mut R) -> Result<DataStart, ReadFault>
     ensures bytes { Reads (λ x. x) (R.remaining reader.old) (R.remaining reader.new) (data_at 65536 None) result }
     ensures counted { R.failures reader.new ≡ failures_after (widened result) (R.failures reader.old) }
+    ensures fault { IfErr (widened result) IsReadingFault }
     ensures valid { IfOk result (λ start. IsFormat start.format) }
 {
     let mut seen = None;

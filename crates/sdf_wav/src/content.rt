@@ -3,7 +3,8 @@
 ghost use Rattle.std.specs.Prelude.{◌≡◌, ◌≤◌, ◌*◌, ◌/◌, ◌%◌, ◌++◌, ◌+◌, ◌⊎◌, length, OnOk, OnErr, IfOk, IfErr};
 ghost use Rattle.sdf_wav.specs.Content.{Holds, open_content_at, sized_content_at, content_at};
 ghost use Rattle.sdf_wav.specs.Device.{failures_after, widened, Known, LosesFront};
-ghost use Rattle.sdf_wav.specs.Sound.{samples_of};
+ghost use Rattle.sdf_wav.specs.Fault.{IsReadingFault};
+ghost use Rattle.sdf_wav.specs.Sound.{pcm_samples};
 ghost use Rattle.sdf_wav.specs.Steps.{Reads};
 
 use crate::device::Reader;
@@ -14,7 +15,7 @@ use std::alloc::{AllocError, Global};
 
 /// Appends the samples of these bytes, two for each; an odd last byte gives none.
 fn push_samples(samples: &mut Vec<i16>, bytes: &[u8]) -> Result<(), AllocError>
-    ensures ok { OnOk result (samples.new.items ≡ samples.old.items ++ samples_of bytes.now) }
+    ensures ok { OnOk result (samples.new.items ≡ samples.old.items ++ pcm_samples bytes.now) }
     ensures count { OnOk result (length samples.new.items ≡ length samples.old.items + length bytes.now / 2) }
 {
     let start = samples.len();
@@ -32,7 +33,7 @@ struct Content {
 }
 
 /// How many bytes are read at a time.
-const PIECE: usize = 16_384;
+const READ_PIECE: usize = 16_384;
 
 /// Reads at most so many bytes in pieces, fewer only where the input ends. Memory grows with what has come alone.
 fn read_samples<R: Reader>(alloc: Global, reader: &mut R, limit: u64) -> Result<Content, ReadFault>
@@ -41,14 +42,14 @@ fn read_samples<R: Reader>(alloc: Global, reader: &mut R, limit: u64) -> Result<
     ensures err { OnErr result (Known (R.remaining reader.old) (R.remaining reader.new) LosesFront) }
     ensures fits { IfOk result (λ x. x.bytes ≤ limit) }
     ensures count { IfOk result (λ x. length x.samples.items ≡ x.bytes / 2) }
-    ensures fault { IfErr result (λ e. (e ≡ ReadFault.Device) ⊎ (e ≡ ReadFault.OutOfMemory)) }
     ensures counted { R.failures reader.new ≡ failures_after (widened result) (R.failures reader.old) }
+    ensures fault { IfErr result (λ e. (e ≡ ReadFault.Device) ⊎ (e ≡ ReadFault.OutOfMemory)) }
 {
     let mut samples = Vec::new(alloc);
     let mut bytes = 0u64;
-    let mut piece = [0u8; PIECE];
+    let mut piece = [0u8; READ_PIECE];
     while bytes < limit {
-        let want = (limit - bytes).min(PIECE as u64) as usize;
+        let want = (limit - bytes).min(READ_PIECE as u64) as usize;
         let part = &mut piece[..want];
         let got = fill(reader, part)?;
         push_samples(&mut samples, &part[..got])?;
@@ -76,6 +77,7 @@ fn read_open<R: Reader>(alloc: Global, reader: &mut R, channels: u16) -> Result<
     ensures bytes { Reads (λ v. v.items) (R.remaining reader.old) (R.remaining reader.new) (open_content_at (2 * channels)) result }
     ensures whole { IfOk result (λ v. length v.items % channels ≡ 0) }
     ensures counted { R.failures reader.new ≡ failures_after (widened result) (R.failures reader.old) }
+    ensures fault { IfErr (widened result) IsReadingFault }
 {
     let content = read_samples(alloc, reader, LIMIT)?;
     if content.bytes > MAX_BYTES {
@@ -99,6 +101,7 @@ fn read_sized<R: Reader>(
     ensures bytes { Reads (λ v. v.items) (R.remaining reader.old) (R.remaining reader.new) (sized_content_at (2 * channels) size) result }
     ensures whole { IfOk result (λ v. length v.items % channels ≡ 0) }
     ensures counted { R.failures reader.new ≡ failures_after (widened result) (R.failures reader.old) }
+    ensures fault { IfErr (widened result) IsReadingFault }
 {
     if size % u32::from(2 * channels) != 0 {
         return Err(ReadFault::Format(FormatFault::PartialFrame));
@@ -123,6 +126,7 @@ pub(crate) fn read_content<R: Reader>(
     ensures bytes { Reads (λ v. v.items) (R.remaining reader.old) (R.remaining reader.new) (content_at (2 * channels) size) result }
     ensures whole { IfOk result (λ v. length v.items % channels ≡ 0) }
     ensures counted { R.failures reader.new ≡ failures_after (widened result) (R.failures reader.old) }
+    ensures fault { IfErr (widened result) IsReadingFault }
 {
     if size == UNKNOWN {
         read_open(alloc, reader, channels)

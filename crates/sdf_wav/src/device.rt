@@ -3,7 +3,9 @@
 ghost use Rattle.std.specs.Prelude.{◌≡◌, ℕ, List, Option};
 ghost use Rattle.std.specs.Io.{ReadsAtMost, WritesAtMost};
 ghost use Rattle.std.specs.Io.KnownBytes.{ReadConsumes, WriteAppends};
-ghost use Rattle.sdf_wav.specs.Device.{failures_after_read, failures_after_write};
+ghost use Rattle.sdf_wav.specs.Device.{answered, failures_after_read, failures_after_write};
+
+use std::io;
 
 /// A device failed.
 #[derive(Clone, Copy, Debug, PartialEq, Eq)]
@@ -37,4 +39,18 @@ pub trait Writer {
         ensures bound { WritesAtMost result bytes.now }
         ensures bytes { WriteAppends (contents self.old) (contents self.new) result bytes.now }
         ensures counted { failures self.new ≡ failures_after_write result bytes.now (failures self.old) };
+}
+
+/// What a call of std's answered, as a device's call: each error is a failure, an interrupted call too.
+pub(crate) fn counted(answer: io::Result<usize>, failed: &mut u64) -> Result<usize, DeviceFault>
+    ensures value { result ≡ answered answer }
+    ensures count { failed.new ≡ failures_after_read answer failed.old }
+{
+    match answer {
+        Ok(count) => Ok(count),
+        Err(_) => {
+            *failed = failed.saturating_add(1);
+            Err(DeviceFault)
+        }
+    }
 }

@@ -3,7 +3,7 @@
 ghost use Rattle.std.specs.Prelude.{◌≡◌};
 ghost use Rattle.sdf_wav.specs.Adapters.{read_inner, read_failures};
 
-use crate::device::{DeviceFault, Reader};
+use crate::device::{DeviceFault, Reader, counted};
 use std::io;
 
 /// A reader over one of std's. Every error counts as a failed call, an interrupted one too.
@@ -43,12 +43,6 @@ impl<R: io::Read> Reader for FromRead<R> {
     ghost failures = { λ s. s.failed };
 
     fn read(&mut self, buf: &mut [u8]) -> Result<usize, DeviceFault> {
-        match self.inner.read(buf) {
-            Ok(count) => Ok(count),
-            Err(_) => {
-                self.failed = self.failed.saturating_add(1);
-                Err(DeviceFault)
-            }
-        }
+        counted(self.inner.read(buf), &mut self.failed)
     }
 }

@@ -27,6 +27,8 @@ pub use to_write::ToWrite;
 pub use wav::Wav;
 pub use writing::write_wav;
 
+#[cfg(test)]
+mod device_tests;
 pub mod laws;
 #[cfg(test)]
 mod tests;

@@ -25,7 +25,7 @@ pub(crate) fn fill<R: Reader>(reader: &mut R, buf: &mut [u8]) -> Result<usize, D
 }
 
 /// How many bytes are read at a time where none is kept.
-const PIECE: usize = 4096;
+const SKIP_PIECE: usize = 4096;
 
 /// Reads this many bytes and drops them, and says how many there were: fewer only where the input ends.
 pub(crate) fn skip<R: Reader>(reader: &mut R, size: u64) -> Result<u64, DeviceFault>
@@ -34,10 +34,10 @@ pub(crate) fn skip<R: Reader>(reader: &mut R, size: u64) -> Result<u64, DeviceFa
     ensures err { OnErr result (Known (R.remaining reader.old) (R.remaining reader.new) LosesFront) }
     ensures counted { R.failures reader.new ≡ failures_after_read result (R.failures reader.old) }
 {
-    let mut piece = [0u8; PIECE];
+    let mut piece = [0u8; SKIP_PIECE];
     let mut skipped = 0u64;
     while skipped < size {
-        let want = (size - skipped).min(PIECE as u64) as usize;
+        let want = (size - skipped).min(SKIP_PIECE as u64) as usize;
         let got = fill(reader, &mut piece[..want])?;
         skipped += got as u64;
         if got < want {

@@ -1,8 +1,9 @@
 //! The parts of a WAV file, each read from its first bytes.
 
-ghost use Rattle.std.specs.Prelude.{◌≡◌, ◌≤◌, Bool, length, IfOk};
+ghost use Rattle.std.specs.Prelude.{◌≡◌, ◌≤◌, Bool, length, IfOk, IfErr};
 ghost use Rattle.sdf_wav.specs.declared.parts.ChunkKind.{ChunkKind};
 ghost use Rattle.sdf_wav.specs.declared.parts.ChunkHeader.{ChunkHeader};
+ghost use Rattle.sdf_wav.specs.Fault.{IsInputFault};
 ghost use Rattle.sdf_wav.specs.Format.{IsFormat, IsKnown};
 ghost use Rattle.sdf_wav.specs.Parts.{riff_of, kind_of, header_of, fields_of, is_pcm16, format_of, data_start};
 
@@ -42,7 +43,8 @@ const PCM_GUID: [u8; 16] = [
 
 /// The first twelve bytes of a file, or as many as it has.
 pub(crate) fn riff_of(front: &[u8]) -> Result<(), FormatFault>
-    ensures { result ≡ riff_of front.now }
+    ensures value { result ≡ riff_of front.now }
+    ensures fault { IfErr result IsInputFault }
 {
     if front.len() < 4 {
         return Err(FormatFault::Truncated);
@@ -73,7 +75,8 @@ fn kind_of(id: &[u8]) -> ChunkKind
 
 /// The first eight bytes at the place of a chunk, or as many as are left.
 pub(crate) fn header_of(has_format: bool, front: &[u8]) -> Result<ChunkHeader, FormatFault>
-    ensures { result ≡ header_of has_format front.now }
+    ensures value { result ≡ header_of has_format front.now }
+    ensures fault { IfErr result IsInputFault }
 {
     if front.is_empty() {
         return Err(if has_format {
@@ -135,6 +138,7 @@ pub(crate) fn format_of(content: &[u8]) -> Result<Format, FormatFault>
     requires { 16 ≤ length content.now }
     ensures value { result ≡ format_of content.now }
     ensures valid { IfOk result IsFormat }
+    ensures fault { IfErr result IsInputFault }
 {
     let fields = fields_of(content);
     if fields.tag == EXTENSIBLE && content.len() < 40 {
@@ -163,6 +167,7 @@ pub(crate) fn data_start(seen: Option<Format>, size: u32) -> Result<DataStart, F
     requires { IsKnown seen }
     ensures value { result ≡ data_start seen size }
     ensures valid { IfOk result (λ start. IsFormat start.format) }
+    ensures fault { IfErr result IsInputFault }
 {
     match seen {
         None => Err(FormatFault::NoFormat),

@@ -1,9 +1,9 @@
 //! Reading a WAV file.
 
-ghost use Rattle.std.specs.Prelude.{◌≡◌, ℕ, List, Some, IsErrOf};
+ghost use Rattle.std.specs.Prelude.{◌≡◌, ℕ, List, Some, IfErr, IsErrOf};
 ghost use Rattle.sdf_wav.specs.declared.fault.FormatFault.{FormatFault};
 ghost use Rattle.sdf_wav.specs.Device.{failures_after, widened, Failed};
-ghost use Rattle.sdf_wav.specs.Fault.{HasFault, Answers, Accepts, Refuses};
+ghost use Rattle.sdf_wav.specs.Fault.{HasFault, Answers, Accepts, Refuses, IsReadingFault};
 ghost use Rattle.sdf_wav.specs.Grammar.{IsWav};
 ghost use Rattle.sdf_wav.specs.Sound.{Sound};
 ghost use Rattle.sdf_wav.specs.Steps.{Reads, wav_at};
@@ -20,6 +20,7 @@ use std::alloc::Global;
 fn read_parts<R: Reader>(alloc: Global, reader: &mut R) -> Result<Wav, ReadFault>
     ensures bytes { Reads (λ x. x) (R.remaining reader.old) (R.remaining reader.new) wav_at result }
     ensures counted { R.failures reader.new ≡ failures_after (widened result) (R.failures reader.old) }
+    ensures fault { IfErr (widened result) IsReadingFault }
 {
     read_riff(reader)?;
     let start = find_data(reader)?;
@@ -39,6 +40,9 @@ pub fn read_wav<R: Reader>(alloc: Global, reader: &mut R) -> Result<Wav, WavFaul
     // What is so is answered, unless memory or the reader failed.
     ensures accepts { (input : List ℕ) (s : Sound) (rest : List ℕ) → R.remaining reader.old ≡ Some input → IsWav input s rest → Accepts (R.remaining reader.new) s rest result }
     ensures refuses { (input : List ℕ) (f : FormatFault) → R.remaining reader.old ≡ Some input → HasFault input f → Refuses f result }
+
+    // Whatever is known of the bytes, no other fault comes.
+    ensures fault { IfErr result IsReadingFault }
 
     // A failure of the reader is answered at once: no other call of it failed.
     ensures counted { R.failures reader.new ≡ failures_after result (R.failures reader.old) }

@@ -1,11 +1,9 @@
-ghost use Rattle.std.specs.Prelude.{None};
-
 use super::*;
 use std::alloc::{AllocError, Global};
 use std::test::Fail;
 
 /// The canonical file of the samples 3 and -2, mono at 44,100.
-const CANONICAL: &[u8; 48] =
+pub(crate) const CANONICAL: &[u8; 48] =
     b"RIFF\x28\0\0\0WAVEfmt \x10\0\0\0\x01\0\x01\0\x44\xAC\0\0\x88\x58\x01\0\x02\0\x10\0data\x04\0\0\0\x03\0\xFE\xFF";
 
 /// A list of odd size with its pad byte, and the extensible format of mono at 44,100.
@@ -47,7 +45,7 @@ fn canonical_both_ways(rt: HostRuntime) -> Result<(), Fail> {
 
 #[test]
 fn files(rt: HostRuntime) -> Result<(), Fail> {
-    let rows: [(&[u8], &[u8], &str); 13] = [
+    let rows: [(&[u8], &[u8], &str); 16] = [
         (
             EXTENSIBLE,
             b"data\xFF\xFF\xFF\xFF\x01\0\xFE\xFF",
@@ -89,6 +87,21 @@ fn files(rt: HostRuntime) -> Result<(), Fail> {
             b"data\x02\0\0\0\x80\x80",
             "38 NotPcm16",
         ),
+        (
+            b"fmt \x10\0\0\0\x01\0\x09\0\x44\xAC\0\0\xC8\x1C\x0C\0\x12\0\x10\0",
+            DATA,
+            "39 Channels",
+        ),
+        (
+            b"fmt \x10\0\0\0\x01\0\x01\0\0\0\0\0\0\0\0\0\x02\0\x10\0",
+            DATA,
+            "40 RateZero",
+        ),
+        (
+            b"fmt \x10\0\0\0\x01\0\x01\0\x44\xAC\0\0\x88\x58\x01\0\x04\0\x10\0",
+            DATA,
+            "41 BadAlign",
+        ),
     ];
     for (chunks, more, answer) in rows {
         let bytes = file_of(rt.alloc(), chunks, more)?;
@@ -116,6 +129,36 @@ fn chunks_before_the_data(rt: HostRuntime) -> Result<(), Fail> {
     lists.extend_from_slice(b"LIST\0\0\0\0")?;
     let over = file_of(rt.alloc(), &lists, &rest)?;
     assert_eq!(rt; answer_to(rt.alloc(), &over)?.as_str(), "45 TooLong");
+    Ok(())
+}
+
+#[test]
+fn long_chunk_before_the_data(rt: HostRuntime) -> Result<(), Fail> {
+    let mut list = b"LIST\x89\x13\0\0".as_slice().to_vec(rt.alloc())?;
+    list.resize(8 + 4_500, 7)?;
+    let cut = file_of(rt.alloc(), FORMAT, &list)?;
+    assert_eq!(rt; answer_to(rt.alloc(), &cut)?.as_str(), "43 Truncated");
+    list.resize(8 + 5_002, 7)?;
+    list.extend_from_slice(FORMAT)?;
+    let whole = file_of(rt.alloc(), &list, DATA)?;
+    assert_eq!(rt; answer_to(rt.alloc(), &whole)?.as_str(), "44100 [1, -2]");
+    Ok(())
+}
+
+/// More samples than are written at a time.
+#[test]
+fn long_sound(rt: HostRuntime) -> Result<(), Fail> {
+    let mut samples = Vec::new(rt.alloc());
+    let mut bytes = Vec::new(rt.alloc());
+    for sample in -10_000..10_000i16 {
+        samples.push(sample)?;
+        bytes.extend_from_slice(&sample.to_le_bytes())?;
+    }
+    let mut writer = ToWrite::new(Vec::new(rt.alloc()));
+    write_wav(&mut writer, &Wav::new(44_100, 1, samples)?)?;
+    let file = writer.into_inner();
+    assert_eq!(rt; file.len(), 40_044);
+    assert!(rt; file.ends_with(&bytes));
     Ok(())
 }
 
@@ -154,144 +197,19 @@ fn sounds(rt: HostRuntime) -> Result<(), Fail> {
 
 #[test]
 fn rates_that_fit(rt: HostRuntime) -> Result<(), Fail> {
-    let too_large = Err(WavFault::Format(FormatFault::RateTooLarge));
     for (rate, channels, answer) in [
-        (2_147_483_647, 1, Ok(())),
-        (2_147_483_648, 1, too_large),
-        (268_435_455, 8, Ok(())),
-        (268_435_456, 8, too_large),
+        (2_147_483_647, 1, "written"),
+        (2_147_483_648, 1, "46 RateTooLarge"),
+        (268_435_455, 8, "written"),
+        (268_435_456, 8, "46 RateTooLarge"),
     ] {
         let wav = Wav::new(rate, channels, Vec::new(rt.alloc()))?;
         let mut writer = ToWrite::new(Vec::new(rt.alloc()));
-        assert_eq!(rt; write_wav(&mut writer, &wav), answer, "{rate} {channels}");
+        let text = match write_wav(&mut writer, &wav) {
+            Ok(()) => format!(in rt.alloc(); "written")?,
+            Err(fault) => format!(in rt.alloc(); "{fault}")?,
+        };
+        assert_eq!(rt; text.as_str(), answer, "{rate} {channels}");
     }
     Ok(())
-}
-
-/// Moves one byte at a time.
-#[derive(Drop)]
-struct OneByte<D> {
-    device: D,
-}
-
-impl<R: Reader> Reader for OneByte<R> {
-    ghost remaining = { λ s. R.remaining s.device };
-
-    ghost failures = { λ s. R.failures s.device };
-
-    fn read(&mut self, buf: &mut [u8]) -> Result<usize, DeviceFault> {
-        if buf.is_empty() {
-            return self.device.read(buf);
-        }
-        self.device.read(&mut buf[..1])
-    }
-}
-
-/// Takes so many bytes, one at a time, and then none.
-#[derive(Drop)]
-struct Full {
-    taken: Vec<u8>,
-    room: usize,
-    failed: u64,
-}
-
-impl Writer for Full {
-    ghost contents = { λ _. None };
-
-    ghost failures = { λ s. s.failed };
-
-    fn write(&mut self, bytes: &[u8]) -> Result<usize, DeviceFault> {
-        if bytes.is_empty() {
-            return Ok(0);
-        }
-        if self.room == 0 {
-            self.failed = self.failed.saturating_add(1);
-            return Ok(0);
-        }
-        match self.taken.push(bytes[0]) {
-            Ok(()) => {
-                self.room -= 1;
-                Ok(1)
-            }
-            Err(_) => {
-                self.failed = self.failed.saturating_add(1);
-                Err(DeviceFault)
-            }
-        }
-    }
-}
-
-/// Fails once so many calls were answered.
-#[derive(Drop)]
-struct Failing<R> {
-    reader: R,
-    calls: u32,
-    failed: u64,
-}
-
-impl<R: Reader> Reader for Failing<R> {
-    ghost remaining = { λ _. None };
-
-    ghost failures = { λ s. s.failed };
-
-    fn read(&mut self, buf: &mut [u8]) -> Result<usize, DeviceFault> {
-        if self.calls > 0 {
-            self.calls -= 1;
-            if let Ok(count) = self.reader.read(buf) {
-                return Ok(count);
-            }
-        }
-        self.failed = self.failed.saturating_add(1);
-        Err(DeviceFault)
-    }
-}
-
-#[test]
-fn slow_devices(rt: HostRuntime) -> Result<(), Fail> {
-    let mut reader = OneByte {
-        device: FromRead::new(CANONICAL.as_slice()),
-    };
-    let wav = read_wav(rt.alloc(), &mut reader)?;
-    assert_eq!(rt; wav.samples(), [3i16, -2].as_slice());
-    for room in [0, 20, 47, 48] {
-        let mut writer = Full {
-            taken: Vec::new(rt.alloc()),
-            room,
-            failed: 0,
-        };
-        let answer = if room < 48 {
-            Err(WavFault::Write)
-        } else {
-            Ok(())
-        };
-        assert_eq!(rt; write_wav(&mut writer, &wav), answer, "{room}");
-        assert_eq!(rt; writer.failed, if room < 48 { 1 } else { 0 }, "{room}");
-        assert!(rt;
-            CANONICAL.as_slice().starts_with(writer.taken.as_slice()),
-            "{room}"
-        );
-    }
-    Ok(())
-}
-
-#[test]
-fn failing_reader(rt: HostRuntime) {
-    for calls in 0..6 {
-        let mut reader = Failing {
-            reader: FromRead::new(CANONICAL.as_slice()),
-            calls,
-            failed: 0,
-        };
-        let fault = read_wav(rt.alloc(), &mut reader).err();
-        assert_eq!(rt;
-            fault,
-            if calls < 5 {
-                Some(WavFault::Read)
-            } else {
-                None
-            },
-            "{calls}"
-        );
-        assert_eq!(rt; reader.failed, if calls < 5 { 1 } else { 0 }, "{calls}");
-    }
 }

@@ -3,7 +3,7 @@
 ghost use Rattle.std.specs.Prelude.{◌≡◌};
 ghost use Rattle.sdf_wav.specs.Adapters.{write_inner, write_failures};
 
-use crate::device::{DeviceFault, Writer};
+use crate::device::{DeviceFault, Writer, counted};
 use std::io;
 
 /// A writer over one of std's. Every error counts as a failed call, an interrupted one too.
@@ -43,17 +43,10 @@ impl<W: io::Write> Writer for ToWrite<W> {
     ghost failures = { λ s. s.failed };
 
     fn write(&mut self, bytes: &[u8]) -> Result<usize, DeviceFault> {
-        match self.inner.write(bytes) {
-            Ok(count) => {
-                if count == 0 && !bytes.is_empty() {
-                    self.failed = self.failed.saturating_add(1);
-                }
-                Ok(count)
-            }
-            Err(_) => {
-                self.failed = self.failed.saturating_add(1);
-                Err(DeviceFault)
-            }
+        let taken = counted(self.inner.write(bytes), &mut self.failed)?;
+        if taken == 0 && !bytes.is_empty() {
+            self.failed = self.failed.saturating_add(1);
         }
+        Ok(taken)
     }
 }

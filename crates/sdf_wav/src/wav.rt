@@ -95,7 +95,8 @@ impl Wav {
 
     /// All samples, interleaved by frame.
     pub fn samples(&self) -> &[i16]
-        ensures { result.now ≡ self.now.samples }
+        ensures value { result.now ≡ self.now.samples }
+        ensures whole { length self.now.samples % self.now.channels ≡ 0 }
     {
         self.samples.as_slice()
     }

@@ -1,9 +1,9 @@
 //! Writing a WAV file.
 
-ghost use Rattle.std.specs.Prelude.{◌≡◌, ◌≤◌, ◌*◌, ◌<◌, ◌^◌, ◌++◌, length, OnOk, OnErr, IsErrOf};
+ghost use Rattle.std.specs.Prelude.{◌≡◌, ◌≤◌, ◌*◌, ◌<◌, ◌^◌, ◌++◌, length, None, OnOk, OnErr, IfErr, IsErrOf};
 ghost use Rattle.std.specs.Io.KnownBytes.{Appends};
 ghost use Rattle.byteorder.specs.Endian.{little_bytes};
-ghost use Rattle.sdf_wav.specs.Canonical.{header, sample_bytes, canonical_wav, write_fault, Writes};
+ghost use Rattle.sdf_wav.specs.Canonical.{header, sample_bytes, canonical_wav, write_fault, Writes, IsWritingFault, IsCanonical};
 ghost use Rattle.sdf_wav.specs.Device.{failures_after, failures_after_read, AppendsFront, Failed};
 
 use crate::device::{DeviceFault, Writer};
@@ -50,7 +50,7 @@ fn header(rate: u32, channels: u16, size: u32) -> [u8; 44]
 }
 
 /// How many samples are converted at a time.
-const PIECE: usize = 8192;
+const WRITE_PIECE: usize = 8192;
 
 /// Writes the samples, a piece at a time.
 fn put_samples<W: Writer>(writer: &mut W, samples: &[i16]) -> Result<(), DeviceFault>
@@ -58,10 +58,10 @@ fn put_samples<W: Writer>(writer: &mut W, samples: &[i16]) -> Result<(), DeviceF
     ensures err { OnErr result (AppendsFront (W.contents writer.old) (W.contents writer.new) (sample_bytes samples.now)) }
     ensures counted { W.failures writer.new ≡ failures_after_read result (W.failures writer.old) }
 {
-    let mut piece = [0u8; 2 * PIECE];
+    let mut piece = [0u8; 2 * WRITE_PIECE];
     let mut at = 0;
     while at < samples.len() {
-        let count = (samples.len() - at).min(PIECE);
+        let count = (samples.len() - at).min(WRITE_PIECE);
         let part = &mut piece[..2 * count];
         LittleEndian::write_i16_into(&samples[at..at + count], part);
         put_all(writer, part)?;
@@ -90,6 +90,10 @@ const MAX_DATA: usize = 4_294_967_259;
 /// `RateTooLarge`, or else `TooLong`, before the first byte; after `Write` a front of the file is written.
 pub fn write_wav<W: Writer>(writer: &mut W, wav: &Wav) -> Result<(), WavFault>
     ensures writes { Writes (W.contents writer.old) (W.contents writer.new) (write_fault wav.now) (canonical_wav wav.now) result }
+
+    // That is the canonical file of a sound, and whatever is known of the bytes, no other fault comes.
+    ensures canonical { write_fault wav.now ≡ None → IsCanonical (canonical_wav wav.now) }
+    ensures fault { IfErr result IsWritingFault }
 
     // A failure of the writer is answered at once: no other call of it failed.
     ensures counted { W.failures writer.new ≡ failures_after result (W.failures writer.old) }

@@ -1,6 +1,12 @@
+pub mod Printing
 pub mod Sizes
 pub mod Lists
 pub mod Running
+pub mod Fronts
+pub mod Devices
 pub mod Sounds
 pub mod Rendering
+pub mod Graphs
+pub mod Greedy
 pub mod Deadlocks
+pub mod Outputs

@@ -17,7 +17,7 @@ use Rattle.sdfw.specs.declared.fault.Fault.{Fault}
 use Rattle.sdfw.specs.declared.fault.Fault.TheVariants as fault
 use Rattle.sdfw.specs.Faults.{of_run}
 use Rattle.sdfw.specs.Output.{exchange_of, periods_of, sample, channel_samples, input_lists, output_of, output_fault, IsExtent}
-use Rattle.sdfw.specs.Run.{IsOutput, IsRenderFault}
+use Rattle.sdfw.specs.Run.{IsRendered, IsRenderFault}
 
 -- each input list has the samples of all periods
 list_length : (n : Netlist Kit ℤ) (q : List ℕ) (s : Sound) (e : ℕ) → e < length (input_lists (exchange_of n q) s) →
@@ -50,11 +50,15 @@ after_run_fault n q s extent inputs e (Ok x) P is given why from = absurd from
 pub after_run : (n : Netlist Kit ℤ) (q : List ℕ) (s : Sound) (extent : Extent) (inputs lists : List (List ℤ)) (r : Result Sound Fault) →
     IsExtent (exchange_of n q) s extent → inputs ≡ input_lists (exchange_of n q) s → AreOutputs kit_steps n inputs (firings q extent.periods) lists →
     MatchResult r (λ out. (out ≡ output_of (exchange_of n q) s lists) × (write_fault out ≡ None)) (λ e. e ≡ fault.OutOfMemory) →
-    MatchResult r (λ out. (output_fault (exchange_of n q) s ≡ None) × IsOutput n q s out × (write_fault out ≡ None)) (IsRenderFault n q s)
+    MatchResult r (IsRendered n q s) (IsRenderFault n q s)
 after_run n q s extent inputs lists r is given made answer =
     let here : AreOutputs kit_steps n (input_lists (exchange_of n q) s) (firings q (periods_of (exchange_of n q) s)) lists =
     subst (λ k. AreOutputs kit_steps n (input_lists (exchange_of n q) s) (firings q k) lists) is.periods
     (subst (λ ins. AreOutputs kit_steps n ins (firings q extent.periods) lists) given made) in
     MatchResult-weaker r answer
-    (λ out (o, fits). (is.is_allowed, record { lists = lists; are_outputs = here; output = o }, fits))
+    (λ out (o, fits). record {
+      is_allowed = is.is_allowed;
+      is_output = record { lists = lists; are_outputs = here; output = o };
+      fits = fits;
+    })
     (λ e memory. inl memory)

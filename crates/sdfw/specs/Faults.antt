@@ -1,12 +1,32 @@
--- The program's fault of a layer's, with one fault of memory for all layers.
+-- The program's fault of a layer's, with one fault of memory for all layers, and its text.
+use Rattle.std.specs.Prelude.{◌≡◌, ◌++◌, ◌∷◌, [], ℕ, List, codes}
+use Rattle.clap.specs.Words.{kind_of}
+use Rattle.clap.specs.declared.error.Error.{Error}
+use Rattle.clap.specs.declared.error.kind.ErrorKind.{ErrorKind}
+use Rattle.clap.specs.declared.error.kind.ErrorKind.TheVariants as kind
 use Rattle.sdf_file.specs.declared.fault.FileFault.{FileFault}
 use Rattle.sdf_file.specs.declared.fault.FileFault.TheVariants as file
 use Rattle.sdf_run.specs.declared.fault.RunFault.{RunFault}
 use Rattle.sdf_run.specs.declared.fault.RunFault.TheVariants as run
 use Rattle.sdf_wav.specs.declared.fault.WavFault.{WavFault}
 use Rattle.sdf_wav.specs.declared.fault.WavFault.TheVariants as wav
+use Rattle.sdfw.specs.declared.command_line.WordFault.{WordFault}
+use Rattle.sdfw.specs.declared.command_line.WordFault.TheVariants as words
 use Rattle.sdfw.specs.declared.fault.Fault.{Fault}
 use Rattle.sdfw.specs.declared.fault.Fault.TheVariants as fault
+use Rattle.sdfw.specs.Printable.{printable_text}
+
+abbrev pub of_kind : ErrorKind → Error → WordFault
+of_kind kind.OutOfMemory e = words.OutOfMemory
+of_kind k e = words.Usage e
+
+-- what the parser of the command line answers
+abbrev pub of_clap : Error → WordFault
+of_clap e = of_kind (kind_of e) e
+
+abbrev pub of_words : WordFault → Fault
+of_words words.OutOfMemory = fault.OutOfMemory
+of_words f = fault.Words f
 
 abbrev pub of_file : FileFault → Fault
 of_file file.OutOfMemory = fault.OutOfMemory
@@ -21,3 +41,10 @@ of_wav wav.OutOfMemory = fault.OutOfMemory
 of_wav (wav.Format f) = fault.Wav f
 of_wav wav.Read = fault.Read
 of_wav wav.Write = fault.Write
+
+-- one line, which nothing that a fault names can break or escape from; a deadlock has a line for each actor, and a mistake of
+-- usage the parser's own text
+abbrev pub IsFaultText : Fault → List ℕ → Type 0
+IsFaultText (fault.Deadlock s) text = Unit {0}
+IsFaultText (fault.Words w) text = Unit {0}
+IsFaultText f text = (said : List ℕ) × (text ≡ codes "sdfw: " ++ printable_text said ++ 10 ∷ [])

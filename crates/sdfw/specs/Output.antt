@@ -6,7 +6,7 @@ use Rattle.sdf_wav.specs.Sound.{Sound, frames_of}
 use Rattle.sdf_wav.specs.Canonical.{size_fault}
 use Rattle.sdf_actor.specs.Nets.{Netlist}
 use Rattle.sdf_actor.specs.Sides.{list_count, period_samples}
-use Rattle.sdf_actor.specs.declared.node.Side.TheVariants.{Input, Output}
+use Rattle.sdf_actor.specs.declared.sides.Lists.TheVariants.{Inputs, Outputs}
 use Rattle.sdfw.specs.declared.exchange.Exchange.{Exchange}
 use Rattle.sdfw.specs.declared.exchange.Extent.{Extent}
 use Rattle.sdfw.specs.declared.fault.Fault.{Fault}
@@ -15,10 +15,10 @@ use Rattle.sdfw.specs.declared.fault.Fault.TheVariants.{Wav, ChannelsMissing, Ra
 -- what a net of least period vector q exchanges with files in a period
 abbrev pub exchange_of : {A : Type 0} → Netlist A ℤ → List ℕ → Exchange
 exchange_of n q = record {
-  inputs = list_count Input n.nodes;
-  outputs = list_count Output n.nodes;
-  taken = period_samples n.nodes Input q;
-  made = period_samples n.nodes Output q;
+  inputs = list_count Inputs n.nodes;
+  outputs = list_count Outputs n.nodes;
+  taken = period_samples n.nodes Inputs q;
+  made = period_samples n.nodes Outputs q;
 }
 
 -- as many periods as it takes to read all frames

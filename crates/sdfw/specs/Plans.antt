@@ -1,8 +1,10 @@
 -- The plan of a design, or why it has none.
-use Rattle.std.specs.Prelude.{◌≡◌, ◌≢◌, ◌⊎◌, ℕ, false, ◌≤◌, ◌<◌, ◌==◌, List, [], map, length, Option, option_map, slice_index, slice_index_or, find, String, string_bytes}
+use Rattle.std.specs.Prelude.{◌≡◌, ◌≢◌, ◌⊎◌, ℕ, false, ◌≤◌, ◌<◌, ◌==◌, List, [], map, length, Option, option_map, Result, Ok, Err, slice_index, slice_index_or, find, String, string_bytes}
 use Rattle.std.specs.List.{range_with_len}
+use Rattle.sdf_limits.specs.declared.TheConstants.{MOST_BLOCKING, MOST_WORKERS}
 use Rattle.sdf_graph.specs.Rates.{Shape, rates}
-use Rattle.sdf_graph.specs.Sequences.{IsDeadlocked}
+use Rattle.sdf_graph.specs.Sequences.{IsPass, IsDeadlocked}
+use Rattle.sdf_graph.specs.Periods.{IsLeastPeriod}
 use Rattle.sdf_actor.specs.Graphs.{graph_of}
 use Rattle.sdf_kit.specs.Kit.{kit_steps}
 use Rattle.sdf_sched.specs.Period.{Schedule, IsPeriodOf}
@@ -30,33 +32,37 @@ pub record PlanValue : Type 0 where
   pub patience : ℕ
   pub period : Schedule
 
--- a policy fires this order of a period's firings
+-- a policy fires this order of a period's firings, from its beginning: a round's first turn is that of actor 0
 abbrev pub IsOrderBy : Policy → Shape → (ℕ → ℕ) → List ℕ → Type 0
 IsOrderBy policies.Round g q order = (turn : ℕ) × IsPicked IsRoundChoice g q 0 order turn
-IsOrderBy policies.Lean g q order = (p : Lean) × (p' : Lean) × IsPicked IsLeanChoice g q p order p'
+IsOrderBy policies.Lean g q order = IsPicked {P = Lean} IsLeanChoice g q (record {}) order (record {})
 
 -- one period of a graph by a policy
 pub record IsScheduleBy (policy : Policy) (g : Shape) (s : Schedule) : Type 0 where
   pub period : IsPeriodOf (rates g) s
   pub order : IsOrderBy policy g (slice_index s.repetitions) s.order
 
--- a graph of period vector q is deadlocked, and this is where a schedule stopped
+-- a graph of least period vector q is deadlocked, and this is where a schedule stopped
 abbrev pub IsStuckFault : Shape → List ℕ → SchedFault → Type 0
 IsStuckFault g q sched.OutOfMemory = Unit {0}
 IsStuckFault g q (sched.Deadlock s) =
     IsDeadlocked (rates g) (slice_index q) × ((w : List ℕ) × IsStuckAt (rates g) (slice_index q) w s)
 
 abbrev pub IsBlocking : ℕ → Type 0
-IsBlocking blocking = (1 ≤ blocking) × (blocking ≤ 64)
+IsBlocking blocking = (1 ≤ blocking) × (blocking ≤ MOST_BLOCKING)
 
 abbrev pub IsWorkers : ℕ → Type 0
-IsWorkers workers = (1 ≤ workers) × (workers ≤ 16)
+IsWorkers workers = (1 ≤ workers) × (workers ≤ MOST_WORKERS)
 
--- the plan of a design by options that pass all tests
-pub record IsPlanOf (d : DesignValue) (o : Options) (p : PlanValue) : Type 0 where
+-- the options pass the tests that look at them alone
+pub record ArePassed (o : Options) : Type 0 where
   pub one : o.runner ≡ One
   pub blocking : IsBlocking o.blocking
   pub workers : IsWorkers o.workers
+
+-- the plan of a design by options that pass all tests
+pub record IsPlanOf (d : DesignValue) (o : Options) (p : PlanValue) : Type 0 where
+  pub options : ArePassed o
   pub same_blocking : p.blocking ≡ o.blocking
   pub same_runner : p.runner ≡ o.runner
   pub same_patience : p.patience ≡ o.patience
@@ -84,9 +90,17 @@ progress_of d q s a = record {
   short = short_of s.short.items a;
 }
 
--- a deadlock, and what is told of each actor where a schedule stopped
+-- some sequence of enabled firings completes the least period of a design
+pub record IsLive (d : DesignValue) : Type 0 where
+  pub period : List ℕ
+  pub least : IsLeastPeriod (rates (graph_of kit_steps d.net)) period
+  pub sequence : List ℕ
+  pub completes : IsPass (rates (graph_of kit_steps d.net)) (slice_index period) sequence
+
+-- none completes it, and what is told of each actor where a schedule stopped
 pub record IsDeadlockOf (d : DesignValue) (actors : List ProgressValue) : Type 0 where
   pub period : List ℕ
+  pub least : IsLeastPeriod (rates (graph_of kit_steps d.net)) period
   pub deadlocked : IsDeadlocked (rates (graph_of kit_steps d.net)) (slice_index period)
   pub stuck : Stuck
   pub sequence : List ℕ
@@ -98,10 +112,17 @@ IsScheduleFault d OutOfMemory = Unit {0}
 IsScheduleFault d (Deadlock stalled) = IsDeadlockOf d (map progress_view stalled.actors.items)
 IsScheduleFault d f = ⊥
 
--- the first test that options or the design fail
+-- the first test that options or the design fail. Only the schedule takes memory
 abbrev pub IsPlanFault : DesignValue → Options → Fault → Type 0
 IsPlanFault d o (NotYet wav) = (wav ≡ false) × (o.runner ≢ One)
 IsPlanFault d o BlockingFactor = (o.runner ≡ One) × (IsBlocking o.blocking → ⊥)
 IsPlanFault d o WorkerCount = (o.runner ≡ One) × IsBlocking o.blocking × (IsWorkers o.workers → ⊥)
-IsPlanFault d o OutOfMemory = Unit {0}
-IsPlanFault d o f = (o.runner ≡ One) × IsBlocking o.blocking × IsWorkers o.workers × IsScheduleFault d f
+IsPlanFault d o f = ArePassed o × IsScheduleFault d f
+
+-- What the answer for options that pass says of a design: a plan stands where some sequence of enabled firings completes its
+-- least period, and 10 where none does. Memory may be refused in both cases, and there is no third.
+abbrev pub Decides : {X : Type 0} → DesignValue → Result X Fault → Type 0
+Decides d (Ok plan) = IsLive d
+Decides d (Err (Deadlock stalled)) = IsLive d → ⊥
+Decides d (Err OutOfMemory) = IsLive d ⊎ (IsLive d → ⊥)
+Decides d (Err f) = ⊥

@@ -1,23 +1,32 @@
 -- The exit statuses.
-use Rattle.std.specs.Prelude.{◌≡◌, ◌⊎◌, ℕ, true, false}
+use Rattle.std.specs.Prelude.{ℕ, true, false}
+use Rattle.clap.specs.Words.{kind_of}
+use Rattle.clap.specs.declared.error.kind.ErrorKind.{ErrorKind}
+use Rattle.clap.specs.declared.error.kind.ErrorKind.TheVariants.{DisplayHelp, DisplayVersion}
 use Rattle.sdfw.specs.declared.command_line.WordFault.TheVariants as words
 use Rattle.sdfw.specs.declared.fault.Fault.{Fault}
 use Rattle.sdfw.specs.declared.fault.Fault.TheVariants as fault
 
--- memory 6, usage 2 or 0 for help that was asked for, the design or the plan 3, the WAV file 4, a device 5
-abbrev pub IsStatus : Fault → ℕ → Type 0
-IsStatus fault.OutOfMemory n = n ≡ 6
-IsStatus (fault.Words words.OutOfMemory) n = n ≡ 6
-IsStatus (fault.Words (words.Usage e)) n = (n ≡ 2) ⊎ (n ≡ 0)
-IsStatus (fault.File f) n = n ≡ 3
-IsStatus (fault.Deadlock s) n = n ≡ 3
-IsStatus fault.BlockingFactor n = n ≡ 3
-IsStatus fault.WorkerCount n = n ≡ 3
-IsStatus fault.InputLength n = n ≡ 3
-IsStatus (fault.Wav f) n = n ≡ 4
-IsStatus fault.ChannelsMissing n = n ≡ 4
-IsStatus fault.RateNotWhole n = n ≡ 4
-IsStatus fault.Read n = n ≡ 5
-IsStatus fault.Write n = n ≡ 5
-IsStatus (fault.NotYet true) n = n ≡ 4
-IsStatus (fault.NotYet false) n = n ≡ 3
+-- help and the version are answers
+abbrev pub usage_status : ErrorKind → ℕ
+usage_status DisplayHelp = 0
+usage_status DisplayVersion = 0
+usage_status k = 2
+
+-- memory 6, usage 2, the design or the plan 3, the WAV file 4, a device 5
+abbrev pub status_of : Fault → ℕ
+status_of fault.OutOfMemory = 6
+status_of (fault.Words words.OutOfMemory) = 6
+status_of (fault.Words (words.Usage e)) = usage_status (kind_of e)
+status_of (fault.File f) = 3
+status_of (fault.Deadlock s) = 3
+status_of fault.BlockingFactor = 3
+status_of fault.WorkerCount = 3
+status_of fault.InputLength = 3
+status_of (fault.Wav f) = 4
+status_of fault.ChannelsMissing = 4
+status_of fault.RateNotWhole = 4
+status_of fault.Read = 5
+status_of fault.Write = 5
+status_of (fault.NotYet true) = 4
+status_of (fault.NotYet false) = 3

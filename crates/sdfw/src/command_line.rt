@@ -1,13 +1,18 @@
 //! Reading a command line.
 
-ghost use Rattle.std.specs.Prelude.{◌≡◌, ◌≤◌, IfOk, IfErr, IfSome};
+ghost use Rattle.std.specs.Prelude.{◌≡◌, ◌≤◌, IfOk, IfErr, IfSome, option_and_then, position, slice_get};
+ghost use Rattle.std.specs.Str.{bytes_eq};
 ghost use Rattle.sdfw.specs.Limits.{AreWithinLimits, IsWithinLimits, IsUsage};
 ghost use Rattle.sdfw.specs.declared.command_line.WordFault.TheVariants as fault;
 
-use crate::options::{Options, Placement, Policy, Runner, Words};
+use crate::options::{
+    MOST_FAULT, Options, PLACEMENT_WORDS, PLACEMENTS, POLICIES, POLICY_WORDS, RUNNER_WORDS,
+    RUNNERS, Words,
+};
 use clap::error::ErrorKind;
 use clap::{Arg, ArgMatches, Command, value_parser};
-use std::alloc::{AllocError, Global};
+use sdf_limits::{MOST_BLOCKING, MOST_PATIENCE, MOST_WORKERS};
+use std::alloc::{AllocError, AllocFailed, Global};
 use thiserror::Error;
 
 /// Why a command line was not read.
@@ -15,7 +20,7 @@ use thiserror::Error;
 pub enum WordFault {
     #[error("1 OutOfMemory")]
     OutOfMemory,
-    /// A mistake in the words, or a request for help, with the text for the user.
+    /// A mistake in the words, or a request for help or the version, with the text for the user.
     #[error(transparent)]
     Usage(clap::Error),
 }
@@ -28,8 +33,18 @@ impl From<AllocError> for WordFault {
     }
 }
 
+impl<T: Drop> From<AllocFailed<T>> for WordFault {
+    ghost from_gives = { λ _ e. e ≡ fault.OutOfMemory };
+
+    fn from(_error: AllocFailed<T>) -> WordFault {
+        WordFault::OutOfMemory
+    }
+}
+
 impl From<clap::Error> for WordFault {
-    ghost from_gives = { λ _ e. IsUsage e };
+    ghost use Rattle.sdfw.specs.Faults.{of_clap};
+
+    ghost from_gives = { λ error e. e ≡ of_clap error };
 
     fn from(error: clap::Error) -> WordFault {
         match error.kind() {
@@ -39,20 +54,14 @@ impl From<clap::Error> for WordFault {
     }
 }
 
-static POLICIES: [&str; 2] = ["round", "lean"];
-
-static PLACEMENTS: [&str; 3] = ["hu", "homed", "file"];
-
-static RUNNERS: [&str; 3] = ["one", "rows", "rings"];
-
-fn file_arg<'a>(alloc: Global, id: &'a str, help: &'a str) -> Arg<'a> {
+fn required<'a>(alloc: Global, id: &'a str, help: &'a str) -> Arg<'a> {
     Arg::new(alloc, id).required(true).help(help)
 }
 
 fn check_command<'a>(alloc: Global) -> Result<Command<'a>, AllocError> {
     Command::new(alloc, "check")
         .about("Checks a graph file and prints its period")
-        .arg(file_arg(alloc, "GRAPH", "The graph file"))
+        .arg(required(alloc, "GRAPH", "The graph file"))
 }
 
 fn with_plan_args<'a>(alloc: Global, command: Command<'a>) -> Result<Command<'a>, AllocError> {
@@ -60,25 +69,25 @@ fn with_plan_args<'a>(alloc: Global, command: Command<'a>) -> Result<Command<'a>
         .long("blocking")
         .value_name("J")
         .help("Periods in a block, 1 to 64")
-        .value_parser(value_parser!(u32).range(1..=64))
+        .value_parser(value_parser!(u32).range(1..=i64::from(MOST_BLOCKING)))
         .default_value("1");
     let workers = Arg::new(alloc, "workers")
         .long("workers")
         .value_name("M")
         .help("Workers, 1 to 16")
-        .value_parser(value_parser!(usize).range(1..=16))
+        .value_parser(value_parser!(usize).range(1..=MOST_WORKERS as i64))
         .default_value("1");
     let policy = Arg::new(alloc, "policy")
         .long("policy")
         .value_name("P")
         .help("Which actor fires next")
-        .value_parser(POLICIES.as_slice())
+        .value_parser(POLICY_WORDS.as_slice())
         .default_value("round");
     let placement = Arg::new(alloc, "placement")
         .long("placement")
         .value_name("L")
         .help("How firings come to workers")
-        .value_parser(PLACEMENTS.as_slice())
+        .value_parser(PLACEMENT_WORDS.as_slice())
         .default_value("homed");
     command
         .arg(blocking)?
@@ -90,31 +99,42 @@ fn with_plan_args<'a>(alloc: Global, command: Command<'a>) -> Result<Command<'a>
 fn run_command<'a>(alloc: Global) -> Result<Command<'a>, AllocError> {
     let command = Command::new(alloc, "run")
         .about("Processes a WAV file")
-        .arg(file_arg(alloc, "GRAPH", "The graph file"))?
-        .arg(file_arg(alloc, "IN", "The WAV file to read"))?
-        .arg(file_arg(alloc, "OUT", "The WAV file to write"))?;
+        .arg(required(alloc, "GRAPH", "The graph file"))?
+        .arg(required(alloc, "IN", "The WAV file to read"))?
+        .arg(required(alloc, "OUT", "The WAV file to write"))?;
     let runner = Arg::new(alloc, "runner")
         .long("runner")
         .value_name("R")
         .help("How firings are run")
-        .value_parser(RUNNERS.as_slice())
+        .value_parser(RUNNER_WORDS.as_slice())
         .default_value("one");
     let patience = Arg::new(alloc, "patience")
         .long("patience")
         .value_name("T")
         .help("Repeated tests in a round, at most 1000000")
-        .value_parser(value_parser!(u32).range(0..=1000000))
+        .value_parser(value_parser!(u32).range(0..=i64::from(MOST_PATIENCE)))
         .default_value("1000");
     with_plan_args(alloc, command)?.arg(runner)?.arg(patience)
+}
+
+fn explain_command<'a>(alloc: Global) -> Result<Command<'a>, AllocError> {
+    let number = required(alloc, "NUMBER", "The number of a fault, 1 to 63").value_parser(
+        value_parser!(u32).range(1..=i64::from(MOST_FAULT)),
+    );
+    Command::new(alloc, "explain")
+        .about("Says what a fault means and what to do about it")
+        .arg(number)
 }
 
 fn sdfw_command<'a>(alloc: Global) -> Result<Command<'a>, AllocError> {
     Command::new(alloc, "sdfw")
         .about("A workbench for synchronous dataflow graphs over WAV files")
+        .version("0.1.0")
         .subcommand_required(true)
         .disable_help_subcommand(true)
         .subcommand(check_command(alloc)?)?
-        .subcommand(run_command(alloc)?)
+        .subcommand(run_command(alloc)?)?
+        .subcommand(explain_command(alloc)?)
 }
 
 // The option's parser keeps its number within these limits, so none is lost here.
@@ -127,40 +147,30 @@ fn number_of(matches: &ArgMatches<'_>, id: &str, least: u32, most: u32) -> Optio
     }
 }
 
-fn policy_of(matches: &ArgMatches<'_>) -> Policy {
-    match matches.get_str("policy") {
-        Some("lean") => Policy::Lean,
-        _ => Policy::Round,
-    }
+/// Where a word stands.
+fn place_of(words: &[&str], word: &str) -> Option<usize>
+    ensures { result ≡ position (λ known. bytes_eq known.now word.now) words.now }
+{
+    words.iter().position(|known| *known == word)
 }
 
-fn placement_of(matches: &ArgMatches<'_>) -> Placement {
-    match matches.get_str("placement") {
-        Some("hu") => Placement::Hu,
-        Some("file") => Placement::File,
-        _ => Placement::Homed,
-    }
+/// What a word means: what stands at its place among the words.
+fn meant<T: Copy>(words: &[&str], values: &[T], word: &str) -> Option<T>
+    ensures { result ≡ option_and_then (slice_get values.now) (position (λ known. bytes_eq known.now word.now) words.now) }
+{
+    values.get(place_of(words, word)?).copied()
 }
 
-fn runner_of(matches: &ArgMatches<'_>) -> Runner {
-    match matches.get_str("runner") {
-        Some("rows") => Runner::Rows,
-        Some("rings") => Runner::Rings,
-        _ => Runner::One,
-    }
-}
-
-// An option that the command lacks has its default.
 fn options_of(matches: &ArgMatches<'_>) -> Option<Options>
     ensures { IfSome result AreWithinLimits }
 {
     Some(Options {
-        blocking: number_of(matches, "blocking", 1, 64)?,
-        workers: number_of(matches, "workers", 1, 16)? as usize,
-        policy: policy_of(matches),
-        placement: placement_of(matches),
-        runner: runner_of(matches),
-        patience: number_of(matches, "patience", 0, 1000000)?,
+        blocking: number_of(matches, "blocking", 1, MOST_BLOCKING)?,
+        workers: number_of(matches, "workers", 1, MOST_WORKERS as u32)? as usize,
+        policy: meant(&POLICY_WORDS, &POLICIES, matches.get_str("policy")?)?,
+        placement: meant(&PLACEMENT_WORDS, &PLACEMENTS, matches.get_str("placement")?)?,
+        runner: meant(&RUNNER_WORDS, &RUNNERS, matches.get_str("runner")?)?,
+        patience: number_of(matches, "patience", 0, MOST_PATIENCE)?,
     })
 }
 
@@ -168,15 +178,20 @@ fn words_of<'a>(matches: &ArgMatches<'a>) -> Option<Words<'a>>
     ensures { IfSome result IsWithinLimits }
 {
     let (name, inner) = matches.subcommand()?;
-    let graph = inner.get_str("GRAPH")?;
     match name {
-        "check" => Some(Words::Check { graph }),
-        _ => Some(Words::Run {
-            graph,
+        "check" => Some(Words::Check {
+            graph: inner.get_str("GRAPH")?,
+        }),
+        "run" => Some(Words::Run {
+            graph: inner.get_str("GRAPH")?,
             input: inner.get_str("IN")?,
             output: inner.get_str("OUT")?,
             options: options_of(inner)?,
         }),
+        "explain" => Some(Words::Explain {
+            number: number_of(inner, "NUMBER", 1, MOST_FAULT)?,
+        }),
+        _ => None,
     }
 }
 
@@ -193,5 +208,20 @@ pub fn words<'a>(alloc: Global, words: &'a [&'a str]) -> Result<Words<'a>, WordF
             ErrorKind::MissingRequiredArgument,
             "an argument is missing",
         )?)),
+    }
+}
+
+/// A mistake in the words that no command could read.
+fn refuse(alloc: Global, text: &str) -> Result<clap::Error, AllocError> {
+    sdfw_command(alloc)?.error(ErrorKind::InvalidValue, text)
+}
+
+/// The same as a fault.
+pub(crate) fn mistake(alloc: Global, text: &str) -> WordFault
+    ensures { IsUsage result }
+{
+    match refuse(alloc, text) {
+        Ok(error) => WordFault::from(error),
+        Err(_) => WordFault::OutOfMemory,
     }
 }

@@ -2,7 +2,7 @@
 
 ghost use Rattle.std.specs.Prelude.{◌≡◌, ◌≤◌, ◌<◌, ◌+◌, ◌*◌, ◌/◌, length, nat_lt, MatchResult, IfOk, Some, None};
 ghost use Rattle.sdf_graph.specs.Rates.{rates};
-ghost use Rattle.sdf_actor.specs.declared.node.Side.TheVariants.{Input, Output};
+ghost use Rattle.sdf_actor.specs.declared.sides.Lists.TheVariants.{Inputs, Outputs};
 ghost use Rattle.sdf_actor.specs.Graphs.{graph_of};
 ghost use Rattle.sdf_actor.specs.Sides.{list_count};
 ghost use Rattle.sdf_actor.specs.Wires.{lists as items_of};
@@ -44,8 +44,8 @@ impl Exchange {
     /// What a net of at most eight inputs and outputs exchanges in a period.
     pub(crate) fn of_net(net: &Net<Kit>, period: &Period) -> Exchange
         requires period { IsPeriodOf (rates (graph_of kit_steps net.now)) period.now }
-        requires inputs { list_count Input net.now.nodes ≤ 8 }
-        requires outputs { list_count Output net.now.nodes ≤ 8 }
+        requires inputs { list_count Inputs net.now.nodes ≤ 8 }
+        requires outputs { list_count Outputs net.now.nodes ≤ 8 }
         ensures value { result ≡ exchange_of net.now period.now.repetitions }
         ensures limits { IsExchange result }
     {

@@ -1,10 +1,13 @@
 //! The faults of the program: their numbers, texts and exit statuses.
 
-ghost use Rattle.std.specs.Prelude.{◌≡◌};
+ghost use Rattle.std.specs.Prelude.{◌≡◌, IfOk, string_bytes};
 ghost use Rattle.sdfw.specs.declared.fault.Fault.TheVariants.{OutOfMemory};
-ghost use Rattle.sdfw.specs.Statuses.{IsStatus};
+ghost use Rattle.sdfw.specs.Faults.{IsFaultText};
+ghost use Rattle.sdfw.specs.Statuses.{status_of};
 
 use crate::command_line::WordFault;
+use crate::printable::printable;
+use clap::error::ErrorKind;
 use sdf_file::FileFault;
 use sdf_run::RunFault;
 use sdf_wav::{FormatFault, WavFault};
@@ -108,6 +111,10 @@ impl<T: Drop> From<AllocFailed<T>> for Fault {
 }
 
 impl From<WordFault> for Fault {
+    ghost use Rattle.sdfw.specs.Faults.{of_words};
+
+    ghost from_gives = { λ e f. f ≡ of_words e };
+
     fn from(fault: WordFault) -> Fault {
         match fault {
             WordFault::OutOfMemory => Fault::OutOfMemory,
@@ -157,14 +164,17 @@ impl From<RunFault> for Fault {
     }
 }
 
-/// The exit status of a fault: 2 usage (0 where help was asked for), 3 the design or the plan, 4 the WAV file, 5 a device,
-/// 6 memory.
+/// The exit status of a fault: 2 usage (0 where help or the version was asked for), 3 the design or the plan, 4 the WAV file,
+/// 5 a device, 6 memory.
 pub fn status(fault: &Fault) -> u8
-    ensures { IsStatus fault.now result }
+    ensures { result ≡ status_of fault.now }
 {
     match fault {
         Fault::OutOfMemory | Fault::Words(WordFault::OutOfMemory) => 6,
-        Fault::Words(WordFault::Usage(error)) => { if error.use_stderr() { 2 } else { 0 } }
+        Fault::Words(WordFault::Usage(error)) => match error.kind() {
+            ErrorKind::DisplayHelp | ErrorKind::DisplayVersion => 0,
+            _ => 2,
+        },
         Fault::File(_)
         | Fault::Deadlock(_)
         | Fault::BlockingFactor
@@ -176,7 +186,18 @@ pub fn status(fault: &Fault) -> u8
     }
 }
 
-/// What the program prints of a fault on standard error, each line with its line feed.
-pub fn fault_text(alloc: Global, fault: &Fault) -> Result<String, AllocError> {
-    format!(in alloc; "sdfw: {fault}\n")
+/// What the program prints of a fault on standard error: one line, and of a deadlock one more for each actor. A character that
+/// would begin another line or reach the terminal's controls is written as `\u{a}`, in a key too.
+pub fn fault_text(alloc: Global, fault: &Fault) -> Result<String, AllocError>
+    ensures { IfOk result (λ text. IsFaultText fault.now (string_bytes text)) }
+{
+    match fault {
+        // The names of actors and the parser's own texts.
+        Fault::Deadlock(_) | Fault::Words(_) => format!(in alloc; "sdfw: {fault}\n"),
+        _ => {
+            let said = format!(in alloc; "{fault}")?;
+            let line = printable(alloc, said.as_str())?;
+            format!(in alloc; "sdfw: {line}\n")
+        }
+    }
 }

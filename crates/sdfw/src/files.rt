@@ -1,5 +1,9 @@
 //! The files of the program.
 
+ghost use Rattle.std.specs.Prelude.{◌≡◌, ◌≢◌};
+ghost use Rattle.std.specs.IoError.{error_kind};
+ghost use Rattle.sdfw.specs.declared.fault.Fault.TheVariants.{OutOfMemory};
+
 use crate::fault::Fault;
 use sdf_file::{Design, design_files, read_design};
 use std::alloc::Global;
@@ -9,24 +13,46 @@ use std::path::Path;
 use std::rt::Files;
 
 /// The most bytes of a graph file or a coefficient file.
-const MOST_BYTES: u64 = 1_073_741_824;
+pub(crate) const MOST_BYTES: u32 = 1_073_741_824;
 
-/// The fault of a file that can't be read.
-fn read_fault(error: &io::Error) -> Fault {
-    if error.kind() == ErrorKind::OutOfMemory {
-        Fault::OutOfMemory
-    } else {
-        Fault::Read
+/// The fault of a file: memory, or what its device is blamed with.
+pub(crate) fn device_fault(error: &io::Error, blamed: Fault) -> Fault
+    ensures memory { error_kind error.now ≡ ErrorKind.OutOfMemory → result ≡ OutOfMemory }
+    ensures device { error_kind error.now ≢ ErrorKind.OutOfMemory → result ≡ blamed }
+{
+    match error.kind() {
+        ErrorKind::OutOfMemory => Fault::OutOfMemory,
+        _ => blamed,
     }
 }
 
-/// All of a file's bytes, where there are not too many.
-fn read_all<F: Read + Drop>(alloc: Global, file: F) -> Result<Vec<u8>, Fault> {
+/// All of a file's bytes, where they are at most `most`.
+pub(crate) fn read_all<F: Read + Drop>(
+    alloc: Global,
+    file: F,
+    most: u32,
+) -> Result<Vec<u8>, Fault> {
     let mut bytes = Vec::new(alloc);
-    match file.take(MOST_BYTES + 1).read_to_end(&mut bytes) {
-        Ok(_) if bytes.len() as u64 <= MOST_BYTES => Ok(bytes),
+    match file.take(u64::from(most) + 1).read_to_end(&mut bytes) {
+        Ok(_) if bytes.len() <= most as usize => Ok(bytes),
         Ok(_) => Err(Fault::Read),
-        Err(error) => Err(read_fault(&error)),
+        Err(error) => Err(device_fault(&error, Fault::Read)),
+    }
+}
+
+/// A coefficient file's bytes, unless it can't be opened.
+fn read_beside<R: Files + AllocGlobal>(
+    rt: &R,
+    graph: &str,
+    name: &str,
+    most: u32,
+) -> Result<Option<Vec<u8>>, Fault> {
+    let alloc = rt.alloc();
+    let path = Path::new(graph).with_file_name(alloc, name)?;
+    match fs::open(rt, &path) {
+        Ok(file) => Ok(Some(read_all(alloc, file, most)?)),
+        Err(error) if error.kind() == ErrorKind::OutOfMemory => Err(Fault::OutOfMemory),
+        Err(_) => Ok(None),
     }
 }
 
@@ -35,27 +61,30 @@ fn read_files<R: Files + AllocGlobal>(
     rt: &R,
     graph: &str,
     names: Vec<String>,
+    most: u32,
 ) -> Result<Vec<(String, Vec<u8>)>, Fault> {
-    let alloc = rt.alloc();
-    let mut files = Vec::new(alloc);
+    let mut files = Vec::new(rt.alloc());
     for name in names {
-        let path = Path::new(graph).with_file_name(alloc, name.as_str())?;
-        if let Ok(file) = fs::open(rt, &path) {
-            files.push((name, read_all(alloc, file)?))?;
+        if let Some(bytes) = read_beside(rt, graph, name.as_str(), most)? {
+            files.push((name, bytes))?;
         }
     }
     Ok(files)
 }
 
-/// The design of a graph file and the coefficient files that it names.
-pub(crate) fn load<R: Files + AllocGlobal>(rt: &R, graph: &str) -> Result<Design, Fault> {
+/// The design of a graph file and the coefficient files that it names, none of which has over `most` bytes.
+pub(crate) fn load<R: Files + AllocGlobal>(
+    rt: &R,
+    graph: &str,
+    most: u32,
+) -> Result<Design, Fault> {
     let alloc = rt.alloc();
     let file = match fs::open(rt, graph) {
         Ok(file) => file,
-        Err(error) => return Err(read_fault(&error)),
+        Err(error) => return Err(device_fault(&error, Fault::Read)),
     };
-    let bytes = read_all(alloc, file)?;
+    let bytes = read_all(alloc, file, most)?;
     let names = design_files(alloc, &bytes)?;
-    let files = read_files(rt, graph, names)?;
+    let files = read_files(rt, graph, names, most)?;
     Ok(read_design(alloc, &bytes, &files)?)
 }

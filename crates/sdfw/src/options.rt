@@ -1,5 +1,8 @@
 //! What a command line asks for.
 
+/// The highest number of a fault.
+pub(crate) const MOST_FAULT: u32 = 63;
+
 /// Which runnable actor fires next.
 #[derive(Clone, Copy, Debug, PartialEq, Eq)]
 pub enum Policy {
@@ -8,6 +11,11 @@ pub enum Policy {
     /// The actor that adds least to what the channels hold.
     Lean,
 }
+
+/// The words of the policies, and the policies in the same order.
+pub(crate) static POLICY_WORDS: [&str; 2] = ["round", "lean"];
+
+pub(crate) static POLICIES: [Policy; 2] = [Policy::Round, Policy::Lean];
 
 /// How firings come to the processors of a table.
 #[derive(Clone, Copy, Debug, PartialEq, Eq)]
@@ -20,6 +28,11 @@ pub enum Placement {
     File,
 }
 
+/// The words of the placements, and the placements in the same order.
+pub(crate) static PLACEMENT_WORDS: [&str; 3] = ["hu", "homed", "file"];
+
+pub(crate) static PLACEMENTS: [Placement; 3] = [Placement::Hu, Placement::Homed, Placement::File];
+
 /// What runs a plan.
 #[derive(Clone, Copy, Debug, PartialEq, Eq)]
 pub enum Runner {
@@ -30,6 +43,11 @@ pub enum Runner {
     /// Workers over bounded rings, each at its own pace.
     Rings,
 }
+
+/// The words of the runners, and the runners in the same order.
+pub(crate) static RUNNER_WORDS: [&str; 3] = ["one", "rows", "rings"];
+
+pub(crate) static RUNNERS: [Runner; 3] = [Runner::One, Runner::Rows, Runner::Rings];
 
 /// The options of a run, within their limits.
 #[derive(Clone, Copy, Debug, PartialEq, Eq)]
@@ -68,5 +86,9 @@ pub enum Words<'a> {
         input: &'a str,
         output: &'a str,
         options: Options,
+    },
+    /// What a fault is, by its number, 1 to 63.
+    Explain {
+        number: u32,
     },
 }

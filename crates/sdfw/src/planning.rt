@@ -6,14 +6,17 @@ ghost use Rattle.sdf_graph.specs.Rates.{rates};
 ghost use Rattle.sdf_graph.specs.Periods.{IsLeastPeriod};
 ghost use Rattle.sdf_actor.specs.Graphs.{graph_of};
 ghost use Rattle.sdf_kit.specs.Kit.{kit_steps};
-ghost use Rattle.sdfw.specs.Plans.{IsPlanOf, IsPlanFault, IsScheduleBy, IsStuckFault, IsScheduleFault, progress_of, progress_view, short_of};
+ghost use Rattle.sdfw.specs.Plans.{ArePassed, IsPlanOf, IsPlanFault, Decides, IsScheduleBy, IsStuckFault, IsScheduleFault, progress_of, progress_view, short_of};
 
 use crate::fault::{Fault, Progress, Stalled};
 use crate::options::{Options, Policy, Runner};
 use crate::plan::Plan;
 use sdf_file::Design;
+use sdf_graph::laws::graphs_are_sound;
 use sdf_graph::{Graph, Repetitions};
+use sdf_limits::{MOST_BLOCKING, MOST_WORKERS};
 use sdf_sched::class_s::class_s;
+use sdf_sched::laws::stuck_means_deadlock;
 use sdf_sched::{Lean, Period, Round, SchedFault, Stuck};
 use std::alloc::{AllocError, Global};
 
@@ -86,8 +89,9 @@ fn class_s_by(
 fn schedule(alloc: Global, design: &Design, policy: Policy) -> Result<Period, Fault>
     ensures { MatchResult result (IsScheduleBy policy (graph_of kit_steps design.now.net)) (IsScheduleFault design.now) }
 {
-    let graph = design.net().graph();
-    let reps = design.net().repetitions();
+    let net = design.net();
+    let graph = net.graph();
+    let reps = net.repetitions();
     match class_s_by(alloc, graph, reps, policy) {
         Ok(period) => Ok(period),
         Err(SchedFault::OutOfMemory) => Err(Fault::OutOfMemory),
@@ -98,20 +102,36 @@ fn schedule(alloc: Global, design: &Design, policy: Policy) -> Result<Period, Fa
     }
 }
 
-/// Plans a run. The tests in order: the runners `rows` and `rings` are not there yet; the blocking factor and the workers are
-/// within their limits; the design has a schedule.
-pub fn plan(alloc: Global, design: &Design, options: &Options) -> Result<Plan, Fault>
+/// The tests in their order, and then the plan.
+fn planned(alloc: Global, design: &Design, options: &Options) -> Result<Plan, Fault>
     ensures { MatchResult result (IsPlanOf design.now options.now) (IsPlanFault design.now options.now) }
 {
     if options.runner != Runner::One {
         return Err(Fault::NotYet { wav: false });
     }
-    if options.blocking < 1 || options.blocking > 64 {
+    if options.blocking < 1 || options.blocking > MOST_BLOCKING {
         return Err(Fault::BlockingFactor);
     }
-    if options.workers < 1 || options.workers > 16 {
+    if options.workers < 1 || options.workers > MOST_WORKERS {
         return Err(Fault::WorkerCount);
     }
     let period = schedule(alloc, design, options.policy)?;
     Ok(Plan::new(options.blocking, options.runner, options.patience, period))
+}
+
+/// Plans a run. The tests in order: the runners `rows` and `rings` are not there yet; the blocking factor and the workers are
+/// within their limits; the design has a schedule.
+pub fn plan(alloc: Global, design: &Design, options: &Options) -> Result<Plan, Fault>
+    // What is answered is so.
+    ensures answers { MatchResult result (IsPlanOf design.now options.now) (IsPlanFault design.now options.now) }
+
+    // 10 is answered exactly where no sequence of enabled firings completes the least period, unless memory was refused.
+    ensures decides { ArePassed options.now → Decides design.now result }
+{
+    let net = design.net();
+    let _ = net.repetitions();
+    let _ = net.graph().channels();
+    graphs_are_sound();
+    stuck_means_deadlock();
+    planned(alloc, design, options)
 }

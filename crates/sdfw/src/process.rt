@@ -1,8 +1,8 @@
 //! From a WAV file to a WAV file.
 
-ghost use Rattle.std.specs.Prelude.{◌≡◌, ◌≤◌, ℕ, List, Some, None, IsErrOf, MatchResult};
+ghost use Rattle.std.specs.Prelude.{◌≡◌, ◌≤◌, ℕ, List, Some, IfErr, MatchResult};
 ghost use Rattle.sdf_graph.specs.Rates.{rates};
-ghost use Rattle.sdf_actor.specs.declared.node.Side.TheVariants.{Input, Output};
+ghost use Rattle.sdf_actor.specs.declared.sides.Lists.TheVariants.{Inputs, Outputs};
 ghost use Rattle.sdf_actor.specs.Graphs.{graph_of};
 ghost use Rattle.sdf_actor.specs.Sides.{list_count};
 ghost use Rattle.sdf_kit.specs.Kit.{kit_steps};
@@ -11,10 +11,8 @@ ghost use Rattle.sdf_wav.specs.Sound.{Sound};
 ghost use Rattle.sdf_wav.specs.Grammar.{IsWav};
 ghost use Rattle.sdf_wav.specs.Fault.{HasFault};
 ghost use Rattle.sdf_wav.specs.declared.fault.FormatFault.{FormatFault};
-ghost use Rattle.sdf_wav.specs.Device.{Failed};
-ghost use Rattle.sdf_wav.specs.Canonical.{write_fault};
 ghost use Rattle.sdfw.specs.Output.{exchange_of, output_fault};
-ghost use Rattle.sdfw.specs.Run.{IsOutput, IsRenderFault, Runs, Refuses};
+ghost use Rattle.sdfw.specs.Run.{IsRendered, IsRenderFault, WhereKnown, Runs, Refuses, IsProcessFault, Leaves, WritesFile, reader_failures, writer_failures, Handles};
 
 use crate::exchange::Exchange;
 use crate::fault::Fault;
@@ -30,11 +28,9 @@ use std::alloc::Global;
 /// What a net makes of a sound.
 fn render(alloc: Global, net: &Net<Kit>, period: &Period, input: &Wav) -> Result<Wav, Fault>
     requires period { IsPeriodOf (rates (graph_of kit_steps net.now)) period.now }
-    requires inputs { list_count Input net.now.nodes ≤ 8 }
-    requires outputs { list_count Output net.now.nodes ≤ 8 }
-    ensures { let q = period.now.repetitions in MatchResult result
-        (λ out. (output_fault (exchange_of net.now q) input.now ≡ None) × IsOutput net.now q input.now out × (write_fault out ≡ None))
-        (IsRenderFault net.now q input.now) }
+    requires inputs { list_count Inputs net.now.nodes ≤ 8 }
+    requires outputs { list_count Outputs net.now.nodes ≤ 8 }
+    ensures { MatchResult result (IsRendered net.now period.now.repetitions input.now) (IsRenderFault net.now period.now.repetitions input.now) }
 {
     let exchange = Exchange::of_net(net, period);
     let extent = exchange.extent(input)?;
@@ -43,7 +39,8 @@ fn render(alloc: Global, net: &Net<Kit>, period: &Period, input: &Wav) -> Result
     exchange.output_of(alloc, input, extent, &ran.outputs)
 }
 
-/// Reads a WAV file, runs a design on it by its plan, and writes the canonical WAV file of the output.
+/// Reads a WAV file, runs a design on it by its plan, and writes the canonical WAV file of the output, of which there is only one
+/// (`laws::one_output`).
 ///
 /// The tests in order: those of the input file (34 to 45), then 59 ChannelsMissing, 60 RateNotWhole, 46 RateTooLarge and
 /// 45 TooLong of the output. Memory (1) and the devices (47, 48) may fail at any place. Nothing is written before all tests.
@@ -56,19 +53,27 @@ pub fn process<R: Reader, W: Writer>(
 ) -> Result<(), Fault>
     requires { IsPeriodOf (rates (graph_of kit_steps design.now.net)) plan.now.period }
 
-    // What is answered is so, and the output's file is written.
-    ensures runs { Runs design.now.net plan.now.period.repetitions (R.remaining reader.old) (W.contents writer.old) (W.contents writer.new) result }
+    // What is answered is so, where the reader's bytes are known.
+    ensures runs { WhereKnown (R.remaining reader.old) (λ input. Runs design.now.net plan.now.period.repetitions input (W.contents writer.old) (W.contents writer.new) result) }
 
     // What is so is answered, unless memory or a device failed.
     ensures accepts { (input : List ℕ) (s : Sound) (rest : List ℕ) → R.remaining reader.old ≡ Some input → IsWav input s rest →
         Refuses (output_fault (exchange_of design.now.net plan.now.period.repetitions) s) result }
     ensures refuses { (input : List ℕ) (f : FormatFault) → R.remaining reader.old ≡ Some input → HasFault input f → Refuses (Some (Fault.Wav f)) result }
 
-    // A device is blamed only where it failed in this call.
-    ensures reader { IsErrOf result Fault.Read → Failed (R.failures reader.old) (R.failures reader.new) }
-    ensures writer { IsErrOf result Fault.Write → Failed (W.failures writer.old) (W.failures writer.new) }
+    // Whatever is known of the bytes, no other fault comes.
+    ensures faults { IfErr result IsProcessFault }
+
+    // Nothing behind the samples is read.
+    ensures leaves { Leaves (R.remaining reader.old) (R.remaining reader.new) result }
+
+    // Whatever the reader tells, one canonical file is written, or a front of one where the writer failed, or nothing.
+    ensures writes { WritesFile (W.contents writer.old) (W.contents writer.new) result }
+
+    // A device is blamed exactly where it failed in this call, and after its first failure it is not called again.
+    ensures reader { R.failures reader.new ≡ reader_failures result (R.failures reader.old) }
+    ensures writer { W.failures writer.new ≡ writer_failures result (W.failures writer.old) }
 {
-    design.is_whole();
     run_net(alloc, reader, writer, design.net(), plan.period())
 }
 
@@ -81,14 +86,14 @@ fn run_net<R: Reader, W: Writer>(
     period: &Period,
 ) -> Result<(), Fault>
     requires period { IsPeriodOf (rates (graph_of kit_steps net.now)) period.now }
-    requires inputs { list_count Input net.now.nodes ≤ 8 }
-    requires outputs { list_count Output net.now.nodes ≤ 8 }
-    ensures runs { Runs net.now period.now.repetitions (R.remaining reader.old) (W.contents writer.old) (W.contents writer.new) result }
+    requires inputs { list_count Inputs net.now.nodes ≤ 8 }
+    requires outputs { list_count Outputs net.now.nodes ≤ 8 }
+    ensures runs { WhereKnown (R.remaining reader.old) (λ input. Runs net.now period.now.repetitions input (W.contents writer.old) (W.contents writer.new) result) }
     ensures accepts { (input : List ℕ) (s : Sound) (rest : List ℕ) → R.remaining reader.old ≡ Some input → IsWav input s rest →
         Refuses (output_fault (exchange_of net.now period.now.repetitions) s) result }
     ensures refuses { (input : List ℕ) (f : FormatFault) → R.remaining reader.old ≡ Some input → HasFault input f → Refuses (Some (Fault.Wav f)) result }
-    ensures reader { IsErrOf result Fault.Read → Failed (R.failures reader.old) (R.failures reader.new) }
-    ensures writer { IsErrOf result Fault.Write → Failed (W.failures writer.old) (W.failures writer.new) }
+    ensures devices { Handles (R.remaining reader.old) (R.remaining reader.new) (W.contents writer.old) (W.contents writer.new)
+        (R.failures reader.old) (R.failures reader.new) (W.failures writer.old) (W.failures writer.new) result }
 {
     let input = read_wav(alloc, reader)?;
     let output = render(alloc, net, period, &input)?;

@@ -1,16 +1,16 @@
-use Rattle.std.proofs.Common.{◌≡◌, map, drop, is_some}
+use Rattle.std.proofs.Common.{◌≡◌, map, drop}
 use Rattle.std.specs.List.{All}
 use Rattle.toml.specs.View.{items_view}
 use Rattle.sdf_document.specs.Names.{names_of}
 use Rattle.sdf_document.specs.Actors.{actor_view}
-use Rattle.sdf_document.specs.Kinds.{kind_view, IsWithin}
-use Rattle.sdf_document.specs.Lists.{files_given}
+use Rattle.sdf_document.specs.Kinds.{IsWithin}
+use Rattle.sdf_document.specs.Lists.{lookup_of, are_read}
 use Rattle.sdf_document.specs.Document.{names_in, each_from, actor_after, actors_in}
 use Rattle.sdf_document.proofs.document.actors_in.Given as goal
 
 abbrev pub invariant-loop-number : goal.invariant-loop-number
 invariant-loop-number l = record {
-  given : each_from (actor_after (files_given l.files)) l.number (map actor_view l.actors.items) (items_view (drop l.number l.items)) ≡ actors_in (files_given l.files) (items_view l.items);
+  given : each_from (actor_after l.format (lookup_of l.files)) l.number (map actor_view l.actors.items) (items_view (drop l.number l.items)) ≡ actors_in l.format (lookup_of l.files) (items_view l.items);
   named : names_of l.names ≡ names_in (map actor_view l.actors.items);
-  within : All (λ a. IsWithin (is_some l.files) (kind_view a.kind)) l.actors.items;
+  within : All (λ a. IsWithin (are_read l.files) a.kind) l.actors.items;
 }

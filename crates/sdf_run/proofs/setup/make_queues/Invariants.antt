@@ -1,5 +1,5 @@
-use Rattle.std.proofs.Common.{◌≡◌, ◌<◌, ◌+◌, ◌*◌, ℕ, length, slice_index, slice_index_or, vec_len}
-use Rattle.sdf_graph.specs.Rates.{channel}
+use Rattle.std.proofs.Common.{◌≡◌, ◌<◌, ◌+◌, ℕ, length, slice_index, slice_index_or, vec_len}
+use Rattle.sdf_graph.specs.Rates.{rates}
 use Rattle.sdf_actor.specs.Nets.{wire}
 use Rattle.sdf_actor.specs.Graphs.{graph_of}
 use Rattle.sdf_run.specs.Blocks.{nothing}
@@ -10,6 +10,6 @@ invariant-loop-c g l = record {
   len : vec_len l.queues ≡ l.c;
   each : (k : ℕ) → k < l.c → slice_index_or l.queues.items k nothing ≡ record {
     samples = (wire l.net k).initial;
-    room = length (wire l.net k).initial + (channel (graph_of g.A.Actor.steps l.net) k).put * slice_index l.repetitions (channel (graph_of g.A.Actor.steps l.net) k).from;
+    room = length (wire l.net k).initial + (rates (graph_of g.A.Actor.steps l.net)).produced k (slice_index l.repetitions ((rates (graph_of g.A.Actor.steps l.net)).source k));
   };
 }

@@ -1,19 +1,19 @@
 use Rattle.std.proofs.Common.{◌≡◌, ◌≤◌, length, arith}
-use Rattle.sdf_graph.specs.Rates.{channel}
+use Rattle.sdf_graph.specs.Rates.{channel, rate_at}
 use Rattle.sdf_sched.proofs.Flows.{flow_of, few_own}
 use Rattle.sdf_sched.proofs.lean.put_by.Goals as goal
 
 pub overflow_add-put : goal.overflow_add-put
 overflow_add-put c =
     let few : length c.outgoing-channel-items.result.now ≤ length c.args.graph.now.channels = few_own (λ x. (channel c.args.graph.now x).from ≡ c.args.actor) _ _ c.outgoing-channel-items.ensures in
-    omega (arith, c.loop-channel.invariant.small, c.is_whole.ensures.narrow)
+    omega (arith, c.loop-channel.invariant.small, c.channels-channels.ensures.shape.narrow)
 
 pub returns-clause-sum : goal.returns-clause-sum
-returns-clause-sum c = λ k.
-    flow_of (λ x. (channel c.args.graph.now x).from) (λ x. (channel c.args.graph.now x).put) c.args.actor (k c.args.actor) (length c.args.graph.now.channels)
-    c.outgoing-channel-items.result.now c.outgoing-channel-items.ensures c.loop-channel.channel-index (omega arith) c.loop-channel.put c.loop-channel.invariant.put
+returns-clause-sum c = λ k is.
+    flow_of c.sums_rise.ensures.one (λ x. (channel c.args.graph.now x).from) (λ x. rate_at (channel c.args.graph.now x).put) c.args.actor (k c.args.actor) (length c.args.graph.now.channels)
+    c.outgoing-channel-items.result.now c.outgoing-channel-items.ensures c.args.i is c.loop-channel.channel-index (omega arith) c.loop-channel.put c.loop-channel.invariant.put
 
 pub returns-clause-small : goal.returns-clause-small
 returns-clause-small c =
     let few : length c.outgoing-channel-items.result.now ≤ length c.args.graph.now.channels = few_own (λ x. (channel c.args.graph.now x).from ≡ c.args.actor) _ _ c.outgoing-channel-items.ensures in
-    omega (arith, c.loop-channel.invariant.small, c.is_whole.ensures.narrow)
+    omega (arith, c.loop-channel.invariant.small, c.channels-channels.ensures.shape.narrow)

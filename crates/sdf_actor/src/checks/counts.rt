@@ -1,0 +1,28 @@
+//! 2, 3: how many nodes and links there are.
+
+ghost use Rattle.std.specs.Prelude.{MatchResult};
+ghost use Rattle.sdf_actor.specs.Wires.{netlist};
+ghost use Rattle.sdf_actor.specs.NetFaults.{HasCounts, CountFault};
+
+use crate::actor::Actor;
+use crate::fault::NetFault;
+use crate::link::Link;
+use crate::node::Node;
+use sdf_graph::GraphFault;
+use sdf_limits::{MOST_ACTORS, MOST_CHANNELS};
+
+/// Tests the numbers of nodes and links.
+pub(crate) fn check_counts<A: Actor>(
+    nodes: &[Node<A>],
+    links: &[Link<A::Token>],
+) -> Result<(), NetFault>
+    ensures { let n = netlist nodes.now links.now in MatchResult result (λ _. HasCounts n) (CountFault n) }
+{
+    if nodes.is_empty() || nodes.len() > MOST_ACTORS {
+        return Err(NetFault::Graph(GraphFault::ActorCount));
+    }
+    if links.len() > MOST_CHANNELS {
+        return Err(NetFault::Graph(GraphFault::ChannelCount));
+    }
+    Ok(())
+}

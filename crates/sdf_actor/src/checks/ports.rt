@@ -1,0 +1,95 @@
+//! 22: the channels at the ports of nodes.
+
+ghost use Rattle.std.specs.Prelude.{◌≡◌, ◌==◌, ◌&&◌, ℕ, [], length, map, MatchResult};
+ghost use Rattle.std.specs.List.{range_with_len, position_or_len};
+ghost use Rattle.sdf_actor.specs.declared.sides.Side.TheVariants.{Input, Output};
+ghost use Rattle.sdf_actor.specs.Sides.{channel_at, end_of};
+ghost use Rattle.sdf_actor.specs.Wires.{wire_of, netlist, lists};
+ghost use Rattle.sdf_actor.specs.Tables.{IsPortTable};
+ghost use Rattle.sdf_actor.specs.NetFaults.{HasChannels, HasPorts, OpenFault, PortFault};
+
+use crate::actor::Actor;
+use crate::fault::NetFault;
+use crate::link::Link;
+use crate::node::Node;
+use crate::sides::Side;
+use std::alloc::Global;
+
+/// The channels into each node and out of it, by port.
+#[derive(Drop)]
+pub(crate) struct PortTables {
+    pub(crate) into: Vec<Vec<usize>>,
+    pub(crate) out_of: Vec<Vec<usize>>,
+}
+
+/// The channels at all ports, or the first port without one.
+pub(crate) fn port_tables<A: Actor>(
+    alloc: Global,
+    nodes: &[Node<A>],
+    links: &[Link<A::Token>],
+) -> Result<PortTables, NetFault>
+    ensures { let n = netlist nodes.now links.now in
+        MatchResult result
+        (λ t. HasPorts A.steps n (length nodes.now)
+        × IsPortTable A.steps n Input (length nodes.now) (lists t.into.items)
+        × IsPortTable A.steps n Output (length nodes.now) (lists t.out_of.items))
+        (PortFault A.steps n) }
+{
+    let mut into = Vec::new(alloc);
+    let mut out_of = Vec::new(alloc);
+    for (a, node) in nodes.iter().enumerate() {
+        let ins = channels_at(alloc, links, a, Side::Input, node.ports(Side::Input))?;
+        let outs = channels_at(alloc, links, a, Side::Output, node.ports(Side::Output))?;
+        into.push(ins)?;
+        out_of.push(outs)?;
+    }
+    Ok(PortTables { into, out_of })
+}
+
+/// The channels at so many ports of a node, or the first of these ports without one.
+fn channels_at<T>(
+    alloc: Global,
+    links: &[Link<T>],
+    node: usize,
+    side: Side,
+    ports: usize,
+) -> Result<Vec<usize>, NetFault>
+    ensures { let n = netlist {A = ℕ} [] links.now in
+        MatchResult result
+        (λ v. (v.items ≡ map (channel_at n side node) (range_with_len 0 ports)) × HasChannels n node side ports)
+        (OpenFault n node side ports) }
+{
+    let mut channels = Vec::new(alloc);
+    for port in 0..ports {
+        let channel = first_at(links, side, node, port);
+        if channel == links.len() {
+            return Err(NetFault::PortOpen {
+                actor: node,
+                side,
+                port,
+            });
+        }
+        channels.push(channel)?;
+    }
+    Ok(channels)
+}
+
+/// The first link at a port, or how many links there are.
+pub(crate) fn first_at<T>(links: &[Link<T>], side: Side, node: usize, port: usize) -> usize
+    ensures { result ≡ channel_at (netlist {A = ℕ} [] links.now) side node port }
+{
+    for (c, link) in links.iter().enumerate() {
+        if is_at(link, side, node, port) {
+            return c;
+        }
+    }
+    links.len()
+}
+
+/// Whether a link ends at a port.
+fn is_at<T>(link: &Link<T>, side: Side, node: usize, port: usize) -> bool
+    ensures { result ≡ ((end_of side (wire_of link.now)).0 == node && (end_of side (wire_of link.now)).1 == port) }
+{
+    let end = link.end(side);
+    end.0 == node && end.1 == port
+}

@@ -1,0 +1,84 @@
+//! 24, 25: the samples of a period.
+
+ghost use Rattle.std.specs.Prelude.{◌≡◌, ◌*◌, ◌<◌, ◌≤◌, ◌↔◌, ◌^◌, ℕ, length, slice_index, slice_index_or, IsTrue, MatchOption, MatchResult};
+ghost use Rattle.sdf_actor.specs.declared.node.Node.TheVariants.{Sink};
+ghost use Rattle.sdf_actor.specs.declared.sides.Lists.TheVariants.{Inputs, Outputs};
+ghost use Rattle.sdf_actor.specs.Sides.{list_of, block_of, first_on, period_samples};
+ghost use Rattle.sdf_actor.specs.NetFaults.{Agree, Differs, RateFault};
+
+use crate::fault::NetFault;
+use crate::node::Node;
+use crate::sides::Lists;
+use sdf_graph::Repetitions;
+
+/// How many samples the sources put and the sinks take in a period, or the first of them that differs.
+pub(crate) fn samples<A>(
+    nodes: &[Node<A>],
+    repetitions: &Repetitions,
+) -> Result<(usize, usize), NetFault>
+    requires { length nodes.now ≡ length repetitions.now }
+    ensures { MatchResult result
+        (λ k. Agree nodes.now repetitions.now Inputs (length nodes.now) × Agree nodes.now repetitions.now Outputs (length nodes.now)
+        × (k.0 ≡ period_samples nodes.now Inputs repetitions.now) × (k.1 ≡ period_samples nodes.now Outputs repetitions.now))
+        (RateFault nodes.now repetitions.now) }
+{
+    let samples_in = samples_of(nodes, repetitions, first_on(nodes, Lists::Inputs));
+    if let Some(actor) = differing(nodes, repetitions, Lists::Inputs, samples_in) {
+        return Err(NetFault::InputRates { actor });
+    }
+    let samples_out = samples_of(nodes, repetitions, first_on(nodes, Lists::Outputs));
+    if let Some(actor) = differing(nodes, repetitions, Lists::Outputs, samples_out) {
+        return Err(NetFault::OutputRates { actor });
+    }
+    Ok((samples_in, samples_out))
+}
+
+/// The first node with a list on a side, or how many nodes there are.
+fn first_on<A>(nodes: &[Node<A>], lists: Lists) -> usize
+    ensures { result ≡ first_on lists nodes.now }
+{
+    for (a, node) in nodes.iter().enumerate() {
+        if node.list(lists).is_some() {
+            return a;
+        }
+    }
+    nodes.len()
+}
+
+/// X that moves another number of samples in a period.
+fn differing<A>(
+    nodes: &[Node<A>],
+    repetitions: &Repetitions,
+    lists: Lists,
+    samples: usize,
+) -> Option<usize>
+    requires each { length nodes.now ≡ length repetitions.now }
+    requires samples { samples ≡ period_samples nodes.now lists repetitions.now }
+    ensures { MatchOption result (Agree nodes.now repetitions.now lists (length nodes.now)) (Differs nodes.now repetitions.now lists) }
+{
+    for (a, node) in nodes.iter().enumerate() {
+        if node.list(lists).is_some() && samples_of(nodes, repetitions, a) != samples {
+            return Some(a);
+        }
+    }
+    None
+}
+
+/// How many samples a node reads or takes in a period, and 0 past the last node.
+fn samples_of<A>(nodes: &[Node<A>], repetitions: &Repetitions, a: usize) -> usize
+    requires { length nodes.now ≡ length repetitions.now }
+    ensures { result ≡ block_of (slice_index_or nodes.now a (Sink 0 0)) * slice_index repetitions.now a }
+{
+    if a < nodes.len() {
+        product(nodes[a].block(), repetitions.of(a))
+    } else {
+        0
+    }
+}
+
+/// The product of two small numbers.
+fn product(a: u32, b: u32) -> usize
+    ensures { result ≡ a * b }
+{
+    a as usize * b as usize
+}

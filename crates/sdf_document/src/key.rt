@@ -1,0 +1,168 @@
+//! What stands at the keys of a row: one reader for all kinds.
+ghost use Rattle.std.specs.Prelude.{◌≡◌, ◌++◌, ◌≤◌, ◌≤ℤ◌, map, IfOk, IfSome, OnOk};
+ghost use Rattle.std.specs.Vec.Iter.{into_iter_items};
+ghost use Rattle.toml.specs.Data.{get_member};
+ghost use Rattle.toml.specs.View.{table_view};
+ghost use Rattle.sdf_document.specs.Fault.{Gives};
+ghost use Rattle.sdf_document.specs.Tables.{texts_of};
+ghost use Rattle.sdf_document.specs.Lists.{lookup_of, are_read};
+ghost use Rattle.sdf_document.specs.Rows.{keys_view};
+ghost use Rattle.sdf_document.specs.Kinds.{written_at, names_of_keys, actor_keys, natural_at, optional_at, integer_at, formed_at, values_at, HasForm, HaveForms};
+
+use crate::entry::ListEntry;
+use crate::fault::{DocumentFault, Place, ReadFault};
+use crate::file::Files;
+use crate::list::list_at;
+use crate::row::{Form, Key, shared_keys};
+use crate::value::{at, integer_in, natural_in};
+use std::alloc::{AllocError, Global};
+use toml::Table;
+
+/// What stands at a key, by its form.
+#[derive(Debug, Drop)]
+pub enum KeyValue {
+    Natural(u32),
+    Optional(Option<u32>),
+    Integer(i32),
+    List(ListEntry),
+}
+
+/// Where a key of a row is written: a list at its own key where that is there, and else at `file`.
+fn written_at(table: &Table, name: &'static str, form: Form) -> &'static str
+    ensures { result.now ≡ written_at (table_view table.now) name.now form }
+{
+    match form {
+        Form::List(_, _) if at(table, name).is_none() => "file",
+        _ => name,
+    }
+}
+
+#[tactic(auto, using(std::proofs::lemmas::List::map_push, std::proofs::lemmas::List::map_more))]
+fn push_names(names: &mut Vec<&'static str>, keys: &[Key], table: &Table) -> Result<(), AllocError>
+    ensures { OnOk result (texts_of names.new.items ≡ texts_of names.old.items ++ names_of_keys (table_view table.now) (keys_view keys.now)) }
+{
+    for key in keys {
+        names.push(written_at(table, key.0, key.1))?;
+    }
+    Ok(())
+}
+
+/// The keys that an actor's table may have, with these of its kind.
+pub(crate) fn actor_keys(
+    alloc: Global,
+    keys: &[Key],
+    table: &Table,
+) -> Result<Vec<&'static str>, AllocError>
+    ensures { IfOk result (λ v. texts_of v.items ≡ actor_keys (keys_view keys.now) (table_view table.now)) }
+{
+    let mut names: Vec<&'static str> = Vec::new(alloc);
+    names.push("name")?;
+    names.push("kind")?;
+    push_names(&mut names, keys, table)?;
+    push_names(&mut names, shared_keys(), table)?;
+    Ok(names)
+}
+
+fn natural_at(
+    actor: usize,
+    key: &'static str,
+    least: u32,
+    most: u32,
+    absent: Option<u32>,
+    table: &Table,
+) -> Result<u32, ReadFault>
+    ensures given { Gives (λ n. n) result (natural_at actor key.now least most absent (get_member key.now (table_view table.now))) }
+    ensures within { IfOk result (λ n. (least ≤ n) × (n ≤ most)) }
+{
+    if let Some(value) = at(table, key) {
+        return natural_in(actor, key, least, most, value);
+    }
+    match absent {
+        Some(number) if least <= number && number <= most => Ok(number),
+        Some(_) => Err(ReadFault::Document(DocumentFault::KitValue(Place::Actor(actor), key))),
+        None => Err(ReadFault::Document(DocumentFault::MissingKey(Place::Actor(actor), key))),
+    }
+}
+
+fn optional_at(
+    actor: usize,
+    key: &'static str,
+    least: u32,
+    most: u32,
+    table: &Table,
+) -> Result<Option<u32>, ReadFault>
+    ensures given { Gives (λ n. n) result (optional_at actor key.now least most (get_member key.now (table_view table.now))) }
+    ensures within { IfOk result (λ o. IfSome o (λ n. (least ≤ n) × (n ≤ most))) }
+{
+    match at(table, key) {
+        Some(value) => Ok(Some(natural_in(actor, key, least, most, value)?)),
+        None => Ok(None),
+    }
+}
+
+fn integer_at(
+    actor: usize,
+    key: &'static str,
+    least: i32,
+    most: i32,
+    table: &Table,
+) -> Result<i32, ReadFault>
+    ensures given { Gives (λ n. n) result (integer_at actor key.now least most (get_member key.now (table_view table.now))) }
+    ensures within { IfOk result (λ n. (least ≤ℤ n) × (n ≤ℤ most)) }
+{
+    match at(table, key) {
+        Some(value) => integer_in(actor, key, least, most, value),
+        None => Err(ReadFault::Document(DocumentFault::MissingKey(Place::Actor(actor), key))),
+    }
+}
+
+/// The value of an actor's key, in its form.
+fn formed_at(
+    alloc: Global,
+    actor: usize,
+    files: Files<'_>,
+    key: &'static str,
+    form: Form,
+    table: &Table,
+) -> Result<KeyValue, ReadFault>
+    ensures given { Gives (λ v. v) result (formed_at actor (lookup_of files.entry) key.now form (table_view table.now)) }
+    ensures within { IfOk result (λ v. HasForm (are_read files.entry) form v) }
+{
+    match form {
+        Form::Natural(least, most, absent) => {
+            let number = natural_at(actor, key, least, most, absent, table)?;
+            Ok(KeyValue::Natural(number))
+        }
+        Form::Optional(least, most) => {
+            let number = optional_at(actor, key, least, most, table)?;
+            Ok(KeyValue::Optional(number))
+        }
+        Form::Integer(least, most) => {
+            let number = integer_at(actor, key, least, most, table)?;
+            Ok(KeyValue::Integer(number))
+        }
+        Form::List(most, width) => {
+            let list = list_at(alloc, actor, key, most, width, files, table)?;
+            Ok(KeyValue::List(list))
+        }
+    }
+}
+
+/// The values at the keys of a row.
+pub(crate) fn values_at(
+    alloc: Global,
+    actor: usize,
+    files: Files<'_>,
+    keys: &[Key],
+    table: &Table,
+) -> Result<Vec<KeyValue>, ReadFault>
+    ensures given { Gives (λ v. v.items) result (values_at actor (lookup_of files.entry) (keys_view keys.now) (table_view table.now)) }
+    ensures within { IfOk result (λ v. HaveForms (are_read files.entry) (keys_view keys.now) v.items) }
+{
+    let mut values = Vec::new(alloc);
+    for key in keys {
+        let value = formed_at(alloc, actor, files, key.0, key.1, table)?;
+        values.push(value)?;
+    }
+    Ok(values)
+}

@@ -1,0 +1,28 @@
+-- Samples that come later.
+use Rattle.std.specs.Prelude.{ℕ, ◌-◌, ◌≤◌, nat_lt, nat_le, cond, pos, ◌++◌, take, Result, Ok}
+use Rattle.sdf_limits.specs.declared.TheConstants.{MOST_DELAY}
+use Rattle.sdf_kit.specs.declared.fault.KitFault.{KitFault}
+use Rattle.sdf_kit.specs.declared.fault.Kind.TheVariants as kinds
+use Rattle.sdf_kit.specs.declared.fault.Key.TheVariants as keys
+use Rattle.sdf_kit.specs.Fault.{tested}
+use Rattle.sdf_kit.specs.Samples.{sample}
+use Rattle.sdf_kit.specs.Ports.{steady}
+use Rattle.sdf_kit.specs.Behaviour.{Behaviour}
+use Rattle.sdf_kit.specs.Kept.{kept_next}
+
+-- y[n] = x[n - length], and 0 before
+abbrev pub delay : ℕ → Behaviour
+delay length = record {
+  ports = steady 1 1 1 1;
+  kept = length;
+  next = kept_next;
+  puts = λ j kept taken. take 1 (kept ++ taken);
+  formula = λ x p n. cond (nat_lt n length) (pos 0) (sample (x 0) (n - length));
+}
+
+-- its value is within its limits
+abbrev pub IsDelay : ℕ → Type 0
+IsDelay length = length ≤ MOST_DELAY
+
+abbrev pub length_of : ℕ → Result ℕ KitFault
+length_of length = tested (nat_le length MOST_DELAY) kinds.Delay keys.Length (Ok length)

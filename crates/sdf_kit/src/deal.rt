@@ -1,0 +1,57 @@
+//! One way dealt out to several.
+
+ghost use Rattle.std.specs.Prelude.{◌≡◌, length};
+ghost use Rattle.sdf_kit.specs.Ports.{ArePorts};
+ghost use Rattle.sdf_kit.specs.Turns.{turns_of};
+ghost use Rattle.sdf_kit.specs.Deal.{deal};
+ghost use Rattle.sdf_kit.specs.declared.fault.Kind.TheVariants as kinds;
+
+use crate::fault::{Kind, KitFault};
+use crate::ports::Ports;
+use crate::turns::Turns;
+use std::marker::Model;
+
+/// Deals its input out to its output ports, `run` samples to each in turn:
+/// `y_j[n] = x[(n / run * ways + j) * run + n % run]` at port `j`.
+#[derive(Drop)]
+pub struct Deal {
+    turns: Turns,
+}
+
+impl Model for Deal {
+    ghost use Rattle.sdf_kit.specs.Turns.{Turns};
+
+    ghost Value = { Turns };
+
+    ghost view = { λ d. d.turns };
+}
+
+impl Deal {
+    pub fn new(ways: usize, run: u32) -> Result<Deal, KitFault>
+        ensures { result ≡ turns_of kinds.Deal ways run }
+    {
+        let turns = Turns::new(Kind::Deal, ways, run)?;
+        Ok(Deal { turns })
+    }
+
+    /// Its input port, and its output ports, one for each way.
+    pub fn ports(&self) -> Ports
+        ensures is { result ≡ (deal self.now).ports }
+        ensures limits { ArePorts result }
+    {
+        Ports {
+            cycle: self.turns.cycle(),
+            inputs: self.turns.one(),
+            outputs: self.turns.ways(),
+        }
+    }
+
+    /// One firing, at any phase: the samples go to the one port whose block is not empty.
+    pub fn fire(&self, taken: &[i32], put: &mut [i32])
+        requires taken { length taken.now ≡ self.now.run }
+        requires put { length put.old ≡ self.now.run }
+        ensures { put.new ≡ taken.now }
+    {
+        put.copy_from_slice(taken);
+    }
+}

@@ -1,0 +1,59 @@
+//! Several ways gathered into one.
+
+ghost use Rattle.std.specs.Prelude.{◌≡◌, length, map};
+ghost use Rattle.std.specs.List.{range_with_len};
+ghost use Rattle.sdf_kit.specs.Samples.{sample};
+ghost use Rattle.sdf_kit.specs.Ports.{ArePorts};
+ghost use Rattle.sdf_kit.specs.Turns.{turns_of};
+ghost use Rattle.sdf_kit.specs.Gather.{gather};
+ghost use Rattle.sdf_kit.specs.declared.fault.Kind.TheVariants as kinds;
+
+use crate::fault::{Kind, KitFault};
+use crate::ports::Ports;
+use crate::turns::Turns;
+use std::marker::Model;
+
+/// Gathers its input ports, `run` samples from each in turn:
+/// `y[n] = x_j[n / (ways * run) * run + n % run]`, where `x_j` is taken at port `j = n / run % ways`.
+#[derive(Drop)]
+pub struct Gather {
+    turns: Turns,
+}
+
+impl Model for Gather {
+    ghost use Rattle.sdf_kit.specs.Turns.{Turns};
+
+    ghost Value = { Turns };
+
+    ghost view = { λ g. g.turns };
+}
+
+impl Gather {
+    pub fn new(ways: usize, run: u32) -> Result<Gather, KitFault>
+        ensures { result ≡ turns_of kinds.Gather ways run }
+    {
+        let turns = Turns::new(Kind::Gather, ways, run)?;
+        Ok(Gather { turns })
+    }
+
+    /// Its input ports, one for each way, and its output port.
+    pub fn ports(&self) -> Ports
+        ensures is { result ≡ (gather self.now).ports }
+        ensures limits { ArePorts result }
+    {
+        Ports {
+            cycle: self.turns.cycle(),
+            inputs: self.turns.ways(),
+            outputs: self.turns.one(),
+        }
+    }
+
+    /// One firing, at any phase: the samples are of the one port whose block is not empty.
+    pub fn fire(&self, taken: &[i32], put: &mut [i32])
+        requires taken { length taken.now ≡ self.now.run }
+        requires put { length put.old ≡ self.now.run }
+        ensures { put.new ≡ map (sample taken.now) (range_with_len 0 self.now.run) }
+    {
+        put.copy_from_slice(taken);
+    }
+}

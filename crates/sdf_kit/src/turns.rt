@@ -1,0 +1,73 @@
+//! Ways that are served in turn.
+
+ghost use Rattle.std.specs.Prelude.{◌≡◌, ◌≤◌};
+ghost use Rattle.sdf_kit.specs.Ports.{IsSide};
+ghost use Rattle.sdf_kit.specs.Turns.{turns_of};
+ghost use Rattle.sdf_kit.specs.declared.ports.Side.TheVariants.{Every, InTurn};
+
+use crate::fault::{Key, Kind, KitFault, check, is_between};
+use crate::ports::Side;
+use sdf_limits::{LEAST_WAYS, MOST_RUN, MOST_WAYS};
+use std::marker::Model;
+
+/// How many ways there are, and how many samples a turn of one has.
+#[derive(Drop)]
+pub struct Turns {
+    ways: usize,
+    run: u32,
+}
+
+impl Model for Turns {
+    ghost use Rattle.sdf_kit.specs.Turns as specs;
+
+    ghost Value = { specs.Turns };
+
+    ghost view = { λ t. record { ways = t.ways; run = t.run } };
+
+    ghost invariant = { λ t. specs.AreTurns (record { ways = t.ways; run = t.run }) };
+}
+
+impl Turns {
+    pub fn new(kind: Kind, ways: usize, run: u32) -> Result<Turns, KitFault>
+        ensures { result ≡ turns_of kind ways run }
+    {
+        let few = is_between(LEAST_WAYS as usize, MOST_WAYS as usize, ways);
+        check(few, kind, Key::Ways)?;
+        check(
+            is_between(1, MOST_RUN as usize, run as usize),
+            kind,
+            Key::Run,
+        )?;
+        Ok(Turns { ways, run })
+    }
+
+    /// How many firings serve each way once.
+    pub fn cycle(&self) -> u32
+        ensures is { result ≡ self.now.ways }
+        ensures some { 1 ≤ result }
+    {
+        self.ways as u32
+    }
+
+    /// The ports of the ways.
+    pub fn ways(&self) -> Side
+        ensures is { result ≡ InTurn self.now.ways self.now.run }
+        ensures limits { IsSide result }
+    {
+        Side::InTurn {
+            ports: self.ways,
+            rate: self.run,
+        }
+    }
+
+    /// The one port on the other side.
+    pub fn one(&self) -> Side
+        ensures is { result ≡ Every 1 self.now.run }
+        ensures limits { IsSide result }
+    {
+        Side::Every {
+            ports: 1,
+            rate: self.run,
+        }
+    }
+}

@@ -1,0 +1,64 @@
+//! The limits of the workspace, each once: code, clauses and documents name them.
+//!
+//! It stands on nothing, and has no functions.
+#![tactic(auto)]
+
+/// Actors of a graph: 1 to this.
+pub const MOST_ACTORS: usize = 64;
+
+/// Channels of a graph.
+pub const MOST_CHANNELS: usize = 256;
+
+/// Ports of an actor on a side.
+pub const MOST_PORTS: usize = 16;
+
+/// Samples that a firing puts on a channel or takes from it, and samples of a block of an input or an output.
+pub const MOST_RATE: u32 = 1024;
+
+/// Firings of an actor's cycle: 1 to this.
+pub const MOST_CYCLE: u32 = 64;
+
+/// Samples that a channel begins with.
+pub const MOST_INITIAL: usize = 65_536;
+
+/// Firings of a period.
+pub const MOST_PERIOD: u64 = 65_536;
+
+/// Factors between rates, `up`, `down` and `factor`: 1 to this.
+pub const MOST_FACTOR: u32 = 64;
+
+/// The ways of an actor with several inputs or outputs: this to `MOST_WAYS`.
+pub const LEAST_WAYS: u32 = 2;
+
+/// The ways of an actor with several inputs or outputs.
+pub const MOST_WAYS: u32 = 16;
+
+/// Samples of a turn of one way: 1 to this.
+pub const MOST_RUN: u32 = 64;
+
+/// The power of two by which a product is divided.
+pub const MOST_SHIFT: u32 = 15;
+
+/// Taps of a filter: 1 to this.
+pub const MOST_TAPS: usize = 1024;
+
+/// Values of a table: 1 to this.
+pub const MOST_VALUES: usize = 65_536;
+
+/// Samples of a delay.
+pub const MOST_DELAY: u32 = 65_536;
+
+/// The number of a channel of a WAV file, from 0.
+pub const MOST_CHANNEL: u32 = 7;
+
+/// The number of a processor, from 0.
+pub const MOST_PROCESSOR: u32 = 15;
+
+/// Periods of a block: 1 to this.
+pub const MOST_BLOCKING: u32 = 64;
+
+/// Workers: 1 to this.
+pub const MOST_WORKERS: usize = 16;
+
+/// Repeated tests of a round.
+pub const MOST_PATIENCE: u32 = 1_000_000;

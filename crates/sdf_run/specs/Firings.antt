@@ -1,0 +1,82 @@
+-- One firing of a node: when it can be done, and what it does.
+use Rattle.std.specs.Prelude.{◌≡◌, ℕ, ◌+◌, ◌-◌, ◌%◌, ◌^◌, ◌≤◌, ◌<◌, ◌==◌, cond, List, [], ◌++◌, length, map, take, drop, slice_index, slice_index_or, vec_capacity}
+use Rattle.std.specs.List.{flat_map, between, sum_by}
+use Rattle.std.specs.declared.vec.Vec.{Vec}
+use Rattle.sdf_actor.specs.Steps.{Steps, total_in, total_out}
+use Rattle.sdf_actor.specs.Histories.{spread}
+use Rattle.sdf_actor.specs.Wires.{lists}
+use Rattle.sdf_run.specs.declared.work.Work.{Work}
+use Rattle.sdf_run.specs.declared.work.Work.TheVariants.{Source, Sink, Inner}
+use Rattle.sdf_run.specs.Held.{Held}
+use Rattle.sdf_run.specs.Blocks.{samples, room, at_ports, ArePorts, HoldBlocks}
+
+-- list e, and how many samples it has room for
+abbrev pub list : {T Z : Type 0} → List (Vec T Z) → ℕ → List T
+list vs e = slice_index_or (lists vs) e []
+
+abbrev pub capacity : {T Z : Type 0} → List (Vec T Z) → ℕ → ℕ
+capacity vs e = slice_index (map (λ v. vec_capacity v) vs) e
+
+-- so many empty lists, with room for so many samples each
+abbrev pub AreEmpty : {T Z : Type 0} → List (Vec T Z) → ℕ → ℕ → Type 0
+AreEmpty vs many samples = (length vs ≡ many) × ((e : ℕ) → e < many → (list vs e ≡ []) × (capacity vs e ≡ samples))
+
+-- the phase of the next firing
+abbrev pub phase_at : {A S T : Type 0} → Work A T S → ℕ
+phase_at (Source ext next block) = 0
+phase_at (Sink ext) = 0
+phase_at (Inner actor phase state taken put lengths) = phase
+
+-- the block that stands at the fronts of the queues of some channels
+abbrev pub front : {T : Type 0} → List ℕ → List ℕ → List (Held T) → List T
+front takes ins qs = flat_map (λ c. take (slice_index takes c) (samples qs c)) ins
+
+-- the block put, where block b is taken
+abbrev pub made : {A S T : Type 0} → Steps A S T → List (List T) → Work A T S → List T → List T
+made s inputs (Source ext next block) b = between next (next + block) (slice_index_or inputs ext [])
+made s inputs (Sink ext) b = []
+made s inputs (Inner actor phase state taken put lengths) b = s.puts actor.now phase state b
+
+-- and what is added to output list e
+abbrev pub added : {A S T : Type 0} → Work A T S → List T → ℕ → List T
+added (Sink ext) b e = cond (ext == e) b []
+added w b e = []
+
+-- the work still to do after it took block b
+abbrev pub HasWorked : {A S T : Type 0} → Steps A S T → Work A T S → List T → Work A T S → Type 0
+HasWorked s (Source ext next block) b w = w ≡ Source ext (next + block) block
+HasWorked s (Sink ext) b w = w ≡ Sink ext
+HasWorked s (Inner actor phase state taken put lengths) b (Inner actor' phase' state' taken' put' lengths') =
+    (actor' ≡ actor) × (phase' ≡ (phase + 1) % s.cycle actor.now) × (state' ≡ s.next actor.now phase state b) ×
+    (vec_capacity taken' ≡ vec_capacity taken) × (length put'.items ≡ length put.items) × (lengths' ≡ lengths)
+HasWorked s (Inner actor phase state taken put lengths) b w = ⊥
+
+-- many samples are taken and more are put: the next firing finds what it reads, and its blocks have their lengths
+abbrev pub CanWork : {A S T Z : Type 0} → Steps A S T → List (List T) → Work A T S → List ℕ → List ℕ → ℕ → ℕ → List (Vec T Z) → Type 0
+CanWork s inputs (Source ext next block) ins outs many more outputs =
+    (ins ≡ []) × (more ≡ block) × (ext < length inputs) × (next + block ≤ length (slice_index_or inputs ext []))
+CanWork s inputs (Sink ext) ins outs many more outputs = (outs ≡ []) × (ext < length outputs) × (length (list outputs ext) + many ≤ capacity outputs ext)
+CanWork s inputs (Inner actor phase state taken put lengths) ins outs many more outputs =
+    (phase < s.cycle actor.now) × (many ≡ total_in s actor.now phase) × (more ≡ total_out s actor.now phase) × (many ≤ vec_capacity taken) ×
+    (length lengths.items ≡ s.cycle actor.now) × (slice_index lengths.items phase ≡ more) × (more ≤ length put.items) × (s.cycle actor.now < 2 ^ 32)
+
+-- a node can fire that takes from the channels ins and puts on the channels outs
+pub record CanFire {A S T Z : Type 0} (s : Steps A S T) (inputs : List (List T)) (ins outs takes puts : List ℕ) (w : Work A T S) (qs : List (Held T)) (outputs : List (Vec T Z)) : Type 0 where
+  pub ins_are : ArePorts ins takes (length qs)
+  pub outs_are : ArePorts outs puts (length qs)
+  pub held : HoldBlocks ins takes qs
+  -- on each channel out of it there is room once its block is taken
+  pub room : (n : ℕ) → n < length outs →
+      let c = slice_index outs n in
+      length (samples qs c) - at_ports ins (slice_index takes c) c + slice_index puts c ≤ room qs c
+  pub work : CanWork s inputs w ins outs (sum_by (slice_index takes) ins) (sum_by (slice_index puts) outs) outputs
+
+-- and this is what its firing does
+pub record IsFired {A S T Z : Type 0} (s : Steps A S T) (inputs : List (List T)) (ins outs takes puts : List ℕ) (w w' : Work A T S) (qs qs' : List (Held T)) (outputs outputs' : List (Vec T Z)) : Type 0 where
+  pub work : HasWorked s w (front takes ins qs) w'
+  pub long : length (made s inputs w (front takes ins qs)) ≡ sum_by (slice_index puts) outs
+  pub queues : (c : ℕ) → c < length qs →
+      samples qs' c ≡ drop (at_ports ins (slice_index takes c) c) (samples qs c) ++ spread (slice_index puts) outs (made s inputs w (front takes ins qs)) c
+  pub rooms : (c : ℕ) → c < length qs → room qs' c ≡ room qs c
+  pub lists : (e : ℕ) → e < length outputs → list outputs' e ≡ list outputs e ++ added w (front takes ins qs) e
+  pub capacities : (e : ℕ) → e < length outputs → capacity outputs' e ≡ capacity outputs e

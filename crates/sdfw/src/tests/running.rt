@@ -1,0 +1,96 @@
+//! Designs run over memory, from bytes to bytes.
+
+use crate::fault::{Fault, fault_text, status};
+use crate::options::Options;
+use crate::planning::plan;
+use crate::process::process;
+use sdf_file::read_design;
+use sdf_wav::{FromRead, ToWrite, Wav, read_wav, write_wav};
+use std::alloc::Global;
+use std::process::Abort;
+use std::test::Fail;
+
+/// The file of a sound.
+pub(super) fn file_of(
+    alloc: Global,
+    rate: u32,
+    channels: u16,
+    samples: &[i16],
+) -> Result<Vec<u8>, Fault> {
+    let mut writer = ToWrite::new(Vec::new(alloc));
+    write_wav(
+        &mut writer,
+        &Wav::new(rate, channels, samples.to_vec(alloc)?)?,
+    )?;
+    Ok(writer.into_inner())
+}
+
+/// What a design makes of a file.
+pub(super) fn run_file(
+    alloc: Global,
+    graph: &str,
+    options: &Options,
+    input: &[u8],
+) -> Result<Vec<u8>, Fault> {
+    let design = read_design(alloc, graph.as_bytes(), &[])?;
+    let plan = plan(alloc, &design, options)?;
+    let mut writer = ToWrite::new(Vec::new(alloc));
+    process(
+        alloc,
+        &mut FromRead::new(input),
+        &mut writer,
+        &design,
+        &plan,
+    )?;
+    Ok(writer.into_inner())
+}
+
+/// What a design makes of a sound of one channel.
+pub(super) fn run_mono(
+    alloc: Global,
+    graph: &str,
+    rate: u32,
+    samples: &[i16],
+) -> Result<Wav, Fault> {
+    let output = run_file(
+        alloc,
+        graph,
+        &Options::DEFAULT,
+        &file_of(alloc, rate, 1, samples)?,
+    )?;
+    Ok(read_wav(alloc, &mut FromRead::new(output.as_slice()))?)
+}
+
+/// Whether a run gives these samples at this rate.
+pub(super) fn gives(
+    rt: &impl Abort,
+    alloc: Global,
+    graph: &str,
+    rate: u32,
+    samples: &[i16],
+    to: u32,
+    expected: &[i16],
+) -> Result<(), Fail> {
+    let output = run_mono(alloc, graph, rate, samples)?;
+    assert_eq!(rt; output.rate(), to);
+    assert_eq!(rt; output.samples(), expected);
+    Ok(())
+}
+
+/// Whether a run ends by this fault, told with this exit status.
+pub(super) fn fails(
+    rt: &impl Abort,
+    alloc: Global,
+    run: Result<Wav, Fault>,
+    code: u8,
+    text: &str,
+) -> Result<(), Fail> {
+    match run {
+        Ok(_) => assert!(rt; false, "there is an output"),
+        Err(fault) => {
+            assert_eq!(rt; fault_text(alloc, &fault)?.as_str(), text);
+            assert_eq!(rt; status(&fault), code);
+        }
+    }
+    Ok(())
+}

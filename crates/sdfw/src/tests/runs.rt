@@ -1,0 +1,191 @@
+//! What designs make of sounds.
+
+use super::designs::{
+    BLOCKS, CHAIN, DELAYED, HALF, INITIAL, LOOP, SECOND, SWAP, THREE_FOR_TWO, TURNED, TWICE, UNEVEN,
+};
+use super::running::{fails, file_of, gives, run_file, run_mono};
+use crate::fault::Fault;
+use crate::options::{Options, Policy};
+use crate::planning::plan;
+use sdf_file::read_design;
+use sdf_run::{RunFault, run_one};
+use std::alloc::Global;
+use std::test::Fail;
+
+#[test]
+fn halves(rt: HostRuntime) -> Result<(), Fail> {
+    let alloc = rt.alloc();
+    let expected =
+        b"RIFF\x28\0\0\0WAVEfmt \x10\0\0\0\x01\0\x01\0\x44\xAC\0\0\x88\x58\x01\0\x02\0\x10\0data\x04\0\0\0\x03\0\xFE\xFF";
+    let output = run_file(
+        alloc,
+        HALF,
+        &Options::DEFAULT,
+        &file_of(alloc, 44_100, 1, &[5, -5])?,
+    )?;
+    assert_eq!(rt; output.as_slice(), expected.as_slice());
+
+    let empty = run_file(
+        alloc,
+        HALF,
+        &Options::DEFAULT,
+        &file_of(alloc, 44_100, 1, &[])?,
+    )?;
+    assert_eq!(rt; empty.len(), 44);
+    assert_eq!(rt; &empty[4..8], [36, 0, 0, 0].as_slice());
+    assert_eq!(rt; &empty[40..44], [0, 0, 0, 0].as_slice());
+
+    let stereo = run_file(
+        alloc,
+        HALF,
+        &Options::DEFAULT,
+        &file_of(alloc, 44_100, 2, &[5, 100, -5, 200])?,
+    )?;
+    assert_eq!(rt; stereo.as_slice(), expected.as_slice());
+    Ok(())
+}
+
+#[test]
+fn changes_rates(rt: HostRuntime) -> Result<(), Fail> {
+    let alloc = rt.alloc();
+    gives(
+        &rt,
+        alloc,
+        BLOCKS,
+        8000,
+        &[1, 2, 3, 4, 5, 6, 7],
+        8000,
+        &[1, 2, 3, 4, 5, 6, 7, 0, 0, 0, 0, 0],
+    )?;
+    gives(
+        &rt,
+        alloc,
+        THREE_FOR_TWO,
+        32_000,
+        &[10, 20],
+        48_000,
+        &[10, 10, 20],
+    )?;
+    let odd = run_mono(alloc, THREE_FOR_TWO, 32_001, &[10, 20]);
+    fails(&rt, alloc, odd, 4, "sdfw: 60 RateNotWhole\n")?;
+    let half_empty = run_mono(alloc, SECOND, 8000, &[1]);
+    fails(&rt, alloc, half_empty, 4, "sdfw: 59 ChannelsMissing\n")
+}
+
+/// The samples 0, 1, 2 and so on.
+fn ramp(alloc: Global, len: i16) -> Result<Vec<i16>, Fault> {
+    let mut samples = Vec::new(alloc);
+    for i in 0..len {
+        samples.push(i)?;
+    }
+    Ok(samples)
+}
+
+#[test]
+fn converts_44100_to_48000(rt: HostRuntime) -> Result<(), Fail> {
+    let alloc = rt.alloc();
+    let whole = run_mono(alloc, CHAIN, 44_100, &ramp(alloc, 294)?)?;
+    let samples = whole.samples();
+    assert_eq!(rt; whole.rate(), 48_000);
+    assert_eq!(rt; samples.len(), 320);
+    assert!(rt; samples.starts_with(&[0, 0, 0, 2, 3, 4, 5, 5, 6, 7]));
+    assert_eq!(rt; (samples[159], samples[160], samples[319]), (145, 147, 292));
+    Ok(())
+}
+
+#[test]
+fn fills_up_with_zeros(rt: HostRuntime) -> Result<(), Fail> {
+    let alloc = rt.alloc();
+    let whole = run_mono(alloc, CHAIN, 44_100, &ramp(alloc, 294)?)?;
+    let part = run_mono(alloc, CHAIN, 44_100, &ramp(alloc, 148)?)?;
+    assert_eq!(rt; part.frames(), 320);
+    for (i, (cut, kept)) in part.samples().iter().zip(whole.samples()).enumerate() {
+        let expected = match i {
+            0..160 => *kept,
+            160..163 => 147,
+            _ => 0,
+        };
+        assert_eq!(rt; *cut, expected);
+    }
+    Ok(())
+}
+
+#[test]
+fn goes_round_loops(rt: HostRuntime) -> Result<(), Fail> {
+    let alloc = rt.alloc();
+    let begun = format!(in alloc; "{LOOP}, initial = [0] }}]")?;
+    gives(
+        &rt,
+        alloc,
+        begun.as_str(),
+        8000,
+        &[1, 2, 3],
+        8000,
+        &[1, 1, 2],
+    )?;
+    let stuck = format!(in alloc; "{LOOP} }}]")?;
+    fails(
+        &rt,
+        alloc,
+        run_mono(alloc, stuck.as_str(), 8000, &[1]),
+        3,
+        "sdfw: 10 Deadlock\nin 1 of 1\nadd 0 of 1 short link 4\nfork 0 of 1 short link 1\ngain 0 of 1 short link 3\nout 0 of 1 short link 2\n",
+    )?;
+    gives(&rt, alloc, INITIAL, 8000, &[1, 2, 3], 8000, &[7, 8, 1])?;
+    gives(&rt, alloc, TWICE, 8000, &[32_767], 8000, &[32_767])?;
+    gives(&rt, alloc, TURNED, 8000, &[-32_768], 8000, &[32_767])?;
+    let uneven = run_mono(alloc, UNEVEN, 8000, &[1]);
+    fails(&rt, alloc, uneven, 3, "sdfw: 8 Inconsistent link 3\n")
+}
+
+#[test]
+fn delays_are_no_initial_samples(rt: HostRuntime) -> Result<(), Fail> {
+    let alloc = rt.alloc();
+    let stuck = run_mono(alloc, DELAYED, 8000, &[1]);
+    fails(
+        &rt,
+        alloc,
+        stuck,
+        3,
+        "sdfw: 10 Deadlock\nin 1 of 1\nadd 0 of 1 short link 5\nfork 0 of 1 short link 1\ngain 0 of 1 short link 3\nlate 0 of 1 short link 4\nout 0 of 1 short link 2\n",
+    )
+}
+
+#[test]
+fn runs_want_whole_periods(rt: HostRuntime) -> Result<(), Fail> {
+    let alloc = rt.alloc();
+    let design = read_design(alloc, CHAIN.as_bytes(), &[])?;
+    let plan = plan(alloc, &design, &Options::DEFAULT)?;
+    let short = vec![in alloc; vec![in alloc; 0i32; 293]?]?;
+    match run_one(alloc, design.net(), plan.period(), 2, &short) {
+        Err(RunFault::InputLength) => {}
+        _ => assert!(rt; false),
+    }
+    Ok(())
+}
+
+#[test]
+fn policies_give_the_same_samples(rt: HostRuntime) -> Result<(), Fail> {
+    let alloc = rt.alloc();
+    let lean = Options {
+        policy: Policy::Lean,
+        ..Options::DEFAULT
+    };
+    for graph in [BLOCKS, CHAIN, INITIAL] {
+        let input = file_of(alloc, 44_100, 1, &[1, 2, 3, 4, 5, 6, 7, 8, 9])?;
+        let one = run_file(alloc, graph, &Options::DEFAULT, &input)?;
+        let other = run_file(alloc, graph, &lean, &input)?;
+        assert_eq!(rt; one.as_slice(), other.as_slice());
+    }
+    Ok(())
+}
+
+#[test]
+fn swaps_channels(rt: HostRuntime) -> Result<(), Fail> {
+    let alloc = rt.alloc();
+    let input = file_of(alloc, 8000, 2, &[1, 10, -2, 20, 32_767, -32_768])?;
+    let wanted = file_of(alloc, 8000, 2, &[10, 1, 20, -2, -32_768, 32_767])?;
+    let output = run_file(alloc, SWAP, &Options::DEFAULT, &input)?;
+    assert_eq!(rt; output.as_slice(), wanted.as_slice());
+    Ok(())
+}
