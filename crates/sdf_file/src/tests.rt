@@ -86,6 +86,7 @@ fn fault(rt: &HostRuntime, old: &str, new: &str) -> Result<String, Fail> {
 #[test]
 fn reads_and_checks_a_design(rt: HostRuntime) -> Result<(), Fail> {
     let design = read_design(rt.alloc(), TWO.as_bytes(), &[])?;
+    assert_eq!(rt; design.net().len(), 2);
     assert_eq!(rt; design.name(1), "out");
     assert!(rt; design.homes().get(0) == Some(&Some(3)));
     assert!(rt; design.homes().get(1) == Some(&None));
