@@ -6,8 +6,7 @@ ghost use Rattle.sdf_document.specs.Fault.{Gives};
 ghost use Rattle.sdf_document.specs.Names.{names_of};
 ghost use Rattle.sdf_document.specs.Tables.{texts_of};
 ghost use Rattle.sdf_document.specs.Lists.{files_view, lookup_of, are_read};
-ghost use Rattle.sdf_document.specs.Kinds.{IsWithin};
-ghost use Rattle.sdf_document.specs.Actors.{actor_view};
+ghost use Rattle.sdf_document.specs.Actors.{actor_view, IsActorWithin};
 ghost use Rattle.sdf_document.specs.Links.{link_view};
 ghost use Rattle.sdf_document.specs.Document.{names_in, actors_in, links_in, array_at, item_count, top_keys, parts_at, parts_view, document_view, document_of, kind_file, actor_file, first_seen, with_name, file_names_of, texts_view};
 
@@ -31,7 +30,7 @@ fn actors_in(
 ) -> Result<(Vec<ActorEntry>, IndexSet<String>), ReadFault>
     ensures given { Gives (λ x. map actor_view x.0.items) result (actors_in format (lookup_of files.entry) (items_view items.now)) }
     ensures named { IfOk result (λ x. names_of x.1 ≡ names_in (map actor_view x.0.items)) }
-    ensures within { IfOk result (λ x. All (λ a. IsWithin (are_read files.entry) a.kind) x.0.items) }
+    ensures within { IfOk result (λ x. All (IsActorWithin (are_read files.entry)) x.0.items) }
 {
     let mut actors = Vec::new(alloc);
     let mut names = IndexSet::new(alloc);
@@ -118,7 +117,7 @@ pub fn read_document(
     files: &[(String, Vec<u8>)],
 ) -> Result<Document, ReadFault>
     ensures given { Gives document_view result (document_of graph.now (files_view files.now)) }
-    ensures within { IfOk result (λ d. All (λ a. IsWithin true a.kind) d.actors.items) }
+    ensures within { IfOk result (λ d. All (IsActorWithin true) d.actors.items) }
 {
     let table = table_in(alloc, Spot::Top, graph)?;
     let parts = parts_at(alloc, &table)?;

@@ -9,7 +9,7 @@ use Rattle.sdf_document.specs.declared.entry.ActorEntry.{ActorEntry}
 use Rattle.sdf_document.specs.declared.entry.KindEntry.{KindEntry}
 use Rattle.sdf_document.specs.declared.entry.KindEntry.TheVariants.{Input as InputEntry, Output as OutputEntry, Fir, Decimate, Interpolate, Add, Fork, Gain, Delay, Table, Deal, Gather}
 use Rattle.sdf_document.specs.Kinds.{IsWithin}
-use Rattle.sdf_document.specs.Actors.{ActorValue, actor_view}
+use Rattle.sdf_document.specs.Actors.{ActorValue, actor_view, IsActorWithin}
 use Rattle.sdf_actor.specs.declared.node.Node.{Node}
 use Rattle.sdf_actor.specs.declared.sides.Lists.{Lists}
 use Rattle.sdf_actor.specs.declared.sides.Lists.TheVariants.{Inputs, Outputs}
@@ -21,7 +21,7 @@ use Rattle.sdf_actor.specs.NetFaults.{IsNetFault}
 use Rattle.sdf_actor.specs.declared.fault.NetFault.{NetFault}
 use Rattle.sdf_actor.specs.declared.fault.NetFault.TheVariants as nets
 use Rattle.sdf_file.specs.Faults.{of_net}
-use Rattle.sdf_file.specs.Designs.{node_of, IsMadeFault}
+use Rattle.sdf_file.specs.Designs.{node_of, IsMadeFault, IsCost}
 
 -- one more than the number of a node's list, or 0
 abbrev pub list_room : Lists → Node Kit → ℕ
@@ -53,17 +53,22 @@ small_list Outputs (Table offset values) h = omega arith
 small_list Outputs (Deal ways run) h = omega arith
 small_list Outputs (Gather ways run) h = omega arith
 
-small_lists : (lists : Lists) (es : List ActorEntry) (m : ℕ) → m ≤ MOST_CHANNEL + 1 → All (λ a. IsWithin true a.kind) es
+small_lists : (lists : Lists) (es : List ActorEntry) (m : ℕ) → m ≤ MOST_CHANNEL + 1 → All (IsActorWithin true) es
     → fold (λ n x. max n (list_room lists x)) m (map (λ (a : ActorValue). node_of a.kind) (map actor_view es)) ≤ MOST_CHANNEL + 1
 small_lists lists [] m h all = h
 small_lists lists (e ∷ es) m h all =
     small_lists lists es (max m (list_room lists (node_of e.kind)))
-    (max-le h (small_list lists e.kind (All-head (λ a. IsWithin true a.kind) e es all)))
-    (All-tail (λ a. IsWithin true a.kind) e es all)
+    (max-le h (small_list lists e.kind (All-head (IsActorWithin true) e es all).0))
+    (All-tail (IsActorWithin true) e es all)
 
-pub few_lists : (lists : Lists) (es : List ActorEntry) → All (λ a. IsWithin true a.kind) es
+pub few_lists : (lists : Lists) (es : List ActorEntry) → All (IsActorWithin true) es
     → list_count lists (map (λ (a : ActorValue). node_of a.kind) (map actor_view es)) ≤ MOST_CHANNEL + 1
 few_lists lists es all = small_lists lists es 0 (omega arith) all
+
+-- actors within their limits have lawful costs
+pub all_cost : (es : List ActorEntry) → All (IsActorWithin true) es → All IsCost (map (λ (a : ActorValue). a.cost) (map actor_view es))
+all_cost [] all = search rules
+all_cost (e ∷ es) all = All-cons IsCost e.cost (map (λ (a : ActorValue). a.cost) (map actor_view es)) (All-head (IsActorWithin true) e es all).1.1.0 (all_cost es (All-tail (IsActorWithin true) e es all))
 
 -- a fault of the net as one of the file
 pub made_fault : (n : Netlist Kit ℤ) (fault : NetFault) → IsNetFault kit_steps n fault → IsMadeFault n (of_net fault)

@@ -2,7 +2,7 @@
 ghost use Rattle.std.specs.Prelude.{◌≡◌, ◌<◌, ℕ, List, [], true, map, length, string_bytes, slice_index_or, MatchResult};
 ghost use Rattle.std.specs.List.{All};
 ghost use Rattle.sdf_document.specs.Lists.{files_view};
-ghost use Rattle.sdf_document.specs.Kinds.{IsWithin};
+ghost use Rattle.sdf_document.specs.Actors.{IsActorWithin};
 ghost use Rattle.sdf_document.specs.Document.{document_view, file_names_of, texts_view};
 ghost use Rattle.sdf_actor.specs.NetFaults.{IsAccepted};
 ghost use Rattle.sdf_kit.specs.Kit.{kit_steps};
@@ -16,12 +16,13 @@ use sdf_kit::Kit;
 use std::alloc::Global;
 use std::marker::Model;
 
-/// A design: a net, and of each of its actors the name and the home processor.
+/// A design: a net, and of each of its actors the name, the home processor and the cost of a firing.
 #[derive(Drop)]
 pub struct Design {
     net: Net<Kit>,
     names: Vec<String>,
     homes: Vec<Option<usize>>,
+    costs: Vec<u32>,
 }
 
 impl Model for Design {
@@ -30,9 +31,9 @@ impl Model for Design {
 
     ghost Value = { DesignValue };
 
-    ghost view = { λ d. record { net = d.net; names = map string_bytes d.names.items; homes = d.homes.items } };
+    ghost view = { λ d. record { net = d.net; names = map string_bytes d.names.items; homes = d.homes.items; costs = d.costs.items } };
 
-    ghost invariant = { λ d. IsDesign (record { net = d.net; names = map string_bytes d.names.items; homes = d.homes.items }) };
+    ghost invariant = { λ d. IsDesign (record { net = d.net; names = map string_bytes d.names.items; homes = d.homes.items; costs = d.costs.items }) };
 }
 
 impl Design {
@@ -52,11 +53,28 @@ impl Design {
         self.names[actor].as_str()
     }
 
+    /// The name of an actor, or no letters where there is no such actor.
+    pub(crate) fn name_of(&self, actor: usize) -> &str
+        ensures { result.now ≡ slice_index_or self.now.names actor [] }
+    {
+        match self.names.get(actor) {
+            Some(name) => name.as_str(),
+            None => "",
+        }
+    }
+
     /// The home processor of each actor, where its key `processor` names one.
     pub fn homes(&self) -> &[Option<usize>]
         ensures { result.now ≡ self.now.homes }
     {
         &self.homes
+    }
+
+    /// What a firing of each actor costs, by its key `cost`: 1 to 1,000,000.
+    pub fn costs(&self) -> &[u32]
+        ensures { result.now ≡ self.now.costs }
+    {
+        &self.costs
     }
 }
 
@@ -70,7 +88,7 @@ pub fn design_files(alloc: Global, graph: &[u8]) -> Result<Vec<String>, FileFaul
 
 /// A document as a design, or the first test that its net fails.
 fn design_of(alloc: Global, document: Document) -> Result<Design, FileFault>
-    requires { All (λ a. IsWithin true a.kind) document.actors.items }
+    requires { All (IsActorWithin true) document.actors.items }
     ensures { MatchResult result
         (λ d. (d ≡ design_of (document_view document)) × ((q : List ℕ) × IsAccepted kit_steps d.net q))
         (IsMadeFault (design_of (document_view document)).net) }
@@ -83,6 +101,7 @@ fn design_of(alloc: Global, document: Document) -> Result<Design, FileFault>
         net,
         names: parts.names,
         homes: parts.homes,
+        costs: parts.costs,
     })
 }
 

@@ -22,7 +22,7 @@ fn push_q_line(text: &mut String, name: &str, count: u32) -> Result<(), AllocErr
 }
 
 /// Adds a line for each actor, with its name and how often it fires in a period.
-fn push_q_lines(
+pub(crate) fn push_q_lines(
     text: &mut String,
     design: &Design,
     repetitions: &Repetitions,
