@@ -54,9 +54,6 @@ pub const MOST_CHANNEL: u32 = 7;
 /// The number of a processor, from 0.
 pub const MOST_PROCESSOR: u32 = 15;
 
-/// What a firing of an actor costs: 1 to this.
-pub const MOST_COST: u32 = 1_000_000;
-
 /// Periods of a block: 1 to this.
 pub const MOST_BLOCKING: u32 = 64;
 
