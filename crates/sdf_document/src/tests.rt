@@ -153,14 +153,25 @@ fn names_the_fault_and_its_place(rt: HostRuntime) -> Result<(), Fail> {
         ("shift = 15", "shift = 16", "28 KitValue actor 1 key shift"),
         (
             "shift = 15",
-            "shift = 15\nzeta = 1\ncost = 2",
-            "51 UnknownKey actor 1 key cost",
+            "shift = 15\nzeta = 1\nprice = 2",
+            "51 UnknownKey actor 1 key price",
         ),
         (
             "processor = 0",
             "processor = 16",
             "28 KitValue actor 0 key processor",
         ),
+        (
+            "processor = 0",
+            "processor = 0\ncost = 1000001",
+            "28 KitValue actor 0 key cost",
+        ),
+        (
+            "processor = 0",
+            "processor = 16\ncost = \"1\"",
+            "28 KitValue actor 0 key processor",
+        ),
+        ("processor = 0", "cost = 1.0", "53 WrongType actor 0 key cost"),
         (
             "channel = 0\nblock",
             "channel = 8\nblock",
