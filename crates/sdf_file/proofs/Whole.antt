@@ -1,6 +1,7 @@
 -- What holds of every design holds of the design of a document.
 use Rattle.sdf_limits.specs.declared.TheConstants.{MOST_CHANNEL}
-use Rattle.std.proofs.Common.{◌≤◌, ◌+◌, ℕ, ℤ, List, [], ◌∷◌, map, max, true, arith}
+use Rattle.std.proofs.Common.{◌≡◌, ◌≤◌, ◌<◌, ◌+◌, ℕ, zero, suc, ℤ, List, [], ◌∷◌, map, max, length, true, refl, ap, arith}
+use Rattle.std.specs.Prelude.{slice_index}
 use Rattle.std.specs.List.{All, fold}
 use Rattle.std.specs.Option.{option_map_or}
 use Rattle.std.proofs.Math.Nat.{max-le}
@@ -20,8 +21,9 @@ use Rattle.sdf_actor.specs.Nets.{Netlist}
 use Rattle.sdf_actor.specs.NetFaults.{IsNetFault}
 use Rattle.sdf_actor.specs.declared.fault.NetFault.{NetFault}
 use Rattle.sdf_actor.specs.declared.fault.NetFault.TheVariants as nets
+use Rattle.sdf_prec.specs.Costs.{IsCost, AreCosts}
 use Rattle.sdf_file.specs.Faults.{of_net}
-use Rattle.sdf_file.specs.Designs.{node_of, IsMadeFault, IsCost}
+use Rattle.sdf_file.specs.Designs.{node_of, IsMadeFault}
 
 -- one more than the number of a node's list, or 0
 abbrev pub list_room : Lists → Node Kit → ℕ
@@ -65,10 +67,21 @@ pub few_lists : (lists : Lists) (es : List ActorEntry) → All (IsActorWithin tr
     → list_count lists (map (λ (a : ActorValue). node_of a.kind) (map actor_view es)) ≤ MOST_CHANNEL + 1
 few_lists lists es all = small_lists lists es 0 (omega arith) all
 
+abbrev pub costs_of : List ActorEntry → List ℕ
+costs_of es = map (λ (a : ActorValue). a.cost) (map actor_view es)
+
+each_costs : (es : List ActorEntry) → All (IsActorWithin true) es → (a : ℕ) → a < length es → IsCost (slice_index (costs_of es) a)
+each_costs [] all a h = absurd (omega arith)
+each_costs (e ∷ es) all zero h = (All-head (IsActorWithin true) e es all).1.1.0
+each_costs (e ∷ es) all (suc a) h = each_costs es (All-tail (IsActorWithin true) e es all) a (omega arith)
+
+as_many : (es : List ActorEntry) → length (costs_of es) ≡ length es
+as_many [] = refl
+as_many (e ∷ es) = ap suc (as_many es)
+
 -- actors within their limits have lawful costs
-pub all_cost : (es : List ActorEntry) → All (IsActorWithin true) es → All IsCost (map (λ (a : ActorValue). a.cost) (map actor_view es))
-all_cost [] all = search rules
-all_cost (e ∷ es) all = All-cons IsCost e.cost (map (λ (a : ActorValue). a.cost) (map actor_view es)) (All-head (IsActorWithin true) e es all).1.1.0 (all_cost es (All-tail (IsActorWithin true) e es all))
+pub have_costs : (es : List ActorEntry) → All (IsActorWithin true) es → AreCosts (length es) (costs_of es)
+have_costs es all = record { all = as_many es; each = each_costs es all }
 
 -- a fault of the net as one of the file
 pub made_fault : (n : Netlist Kit ℤ) (fault : NetFault) → IsNetFault kit_steps n fault → IsMadeFault n (of_net fault)

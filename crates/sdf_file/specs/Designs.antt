@@ -1,7 +1,6 @@
 -- The design of a graph file and its coefficient files.
 use Rattle.std.specs.Prelude.{◌≡◌, ◌≤◌, ◌+◌, ℕ, ℤ, List, length, map, Option, Ok, Err}
-use Rattle.std.specs.List.{All}
-use Rattle.sdf_limits.specs.declared.TheConstants.{MOST_CHANNEL, MOST_COST}
+use Rattle.sdf_limits.specs.declared.TheConstants.{MOST_CHANNEL}
 use Rattle.sdf_document.specs.Fault.{fault_view}
 use Rattle.sdf_document.specs.Lists.{Files}
 use Rattle.sdf_document.specs.declared.entry.KindEntry.{KindEntry}
@@ -20,6 +19,7 @@ use Rattle.sdf_actor.specs.NetFaults.{IsAccepted, IsNetFault}
 use Rattle.sdf_kit.specs.declared.kit.Kit.{Kit}
 use Rattle.sdf_kit.specs.declared.kit.Kit.TheVariants as kits
 use Rattle.sdf_kit.specs.Kit.{kit_steps}
+use Rattle.sdf_prec.specs.Costs.{AreCosts}
 use Rattle.sdf_file.specs.declared.fault.FileFault.{FileFault}
 use Rattle.sdf_file.specs.declared.fault.FileFault.TheVariants.{OutOfMemory, Document, Net}
 
@@ -95,15 +95,10 @@ IsNamesFault graph (Net fault) = ⊥
 
 -- ---- what holds of every design
 
--- what a firing may cost
-abbrev pub IsCost : ℕ → Type 0
-IsCost n = (1 ≤ n) × (n ≤ MOST_COST)
-
 -- each node has a name, a home or none, and a cost; there are no inputs and outputs but of a WAV file's channels
 pub record IsDesign (d : DesignValue) : Type 0 where
   pub named : length d.names ≡ length d.net.nodes
   pub housed : length d.homes ≡ length d.net.nodes
-  pub priced : length d.costs ≡ length d.net.nodes
-  pub costs : All IsCost d.costs
+  pub priced : AreCosts (length d.net.nodes) d.costs
   pub inputs : list_count Inputs d.net.nodes ≤ MOST_CHANNEL + 1
   pub outputs : list_count Outputs d.net.nodes ≤ MOST_CHANNEL + 1

@@ -1,5 +1,5 @@
 -- The text of a schedule: one period's order of firings, and a table of a block.
-use Rattle.std.specs.Prelude.{◌≡◌, ℕ, suc, List, [], ◌∷◌, ◌++◌, ◌==◌, if◌then◌else◌, length, sum, codes, decimal, slice_index, slice_index_or, Option, Some, None}
+use Rattle.std.specs.Prelude.{◌≡◌, ℕ, ◌+◌, List, [], ◌∷◌, ◌++◌, ◌==◌, if◌then◌else◌, length, codes, decimal, slice_index, slice_index_or, Option, Some, None}
 use Rattle.std.specs.List.{flat_map, range_with_len}
 use Rattle.sdf_graph.specs.Rates.{rates}
 use Rattle.sdf_graph.specs.Periods.{IsLeastPeriod}
@@ -9,7 +9,7 @@ use Rattle.sdf_kit.specs.Kit.{kit_steps}
 use Rattle.sdf_prec.specs.declared.firing.Firing.{Firing}
 use Rattle.sdf_prec.specs.Tables.{Tabled}
 use Rattle.sdf_file.specs.Designs.{DesignValue}
-use Rattle.sdf_file.specs.Texts.{end, q_lines}
+use Rattle.sdf_file.specs.Texts.{end, period_text}
 
 -- so many firings of one actor, one after another
 pub record Stretch : Type 0 where
@@ -34,8 +34,12 @@ name_of d a = slice_index_or d.names a []
 abbrev pub stretch_text : DesignValue → Stretch → List ℕ
 stretch_text d s = (if s.firings == 1 then [] else (decimal s.firings ++ codes "*")) ++ name_of d s.actor
 
-abbrev pub order_text : DesignValue → List ℕ → List ℕ
-order_text d order = flat_map (λ s. codes " " ++ stretch_text d s) (stretches order)
+-- the items of an order
+abbrev pub order_items : DesignValue → List ℕ → List ℕ
+order_items d order = flat_map (λ s. codes " " ++ stretch_text d s) (stretches order)
+
+abbrev pub order_line : DesignValue → List ℕ → List ℕ
+order_line d order = codes "order" ++ order_items d order ++ end
 
 -- what a row shows in a column
 abbrev pub cell_text : DesignValue → Option Firing → List ℕ
@@ -53,17 +57,21 @@ abbrev pub capacity_line : DesignValue → List ℕ → ℕ → List ℕ
 capacity_line d caps c =
     codes "capacity " ++ end_text d (wire d.net c).from ++ codes " " ++ end_text d (wire d.net c).to ++ codes " " ++ decimal (slice_index caps c) ++ end
 
--- what `schedule` prints of a design with period vector q, whose period has this order of firings, with this table
-abbrev pub schedule_text : DesignValue → List ℕ → List ℕ → Tabled → List ℕ
-schedule_text d q order t =
-    codes "period " ++ decimal (sum q) ++ end
-    ++ q_lines d q (length d.net.nodes)
-    ++ codes "order" ++ order_text d order ++ end
-    ++ codes "blocking " ++ decimal t.blocking ++ end
+-- the sizes of a table
+abbrev pub size_lines : Tabled → List ℕ
+size_lines t =
+    codes "blocking " ++ decimal t.blocking ++ end
     ++ codes "workers " ++ decimal t.workers ++ end
     ++ codes "rows " ++ decimal (length t.rows) ++ end
-    ++ flat_map (row_line d) t.rows
-    ++ flat_map (capacity_line d t.caps) (range_with_len 0 (length d.net.wires))
+
+-- a table: its sizes, its rows, and the capacities of the links in file order
+abbrev pub table_text : DesignValue → Tabled → List ℕ
+table_text d t =
+    size_lines t ++ flat_map (row_line d) t.rows ++ flat_map (capacity_line d t.caps) (range_with_len 0 (length d.net.wires))
+
+-- what `schedule` prints of a design with period vector q, whose period has this order of firings, with this table
+abbrev pub schedule_text : DesignValue → List ℕ → List ℕ → Tabled → List ℕ
+schedule_text d q order t = period_text d q ++ order_line d order ++ table_text d t
 
 -- the text of a schedule, whose period vector is the least
 pub record IsScheduleText (d : DesignValue) (order : List ℕ) (t : Tabled) (text : List ℕ) : Type 0 where

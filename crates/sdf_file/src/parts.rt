@@ -11,7 +11,8 @@ ghost use Rattle.sdf_document.specs.Links.{link_view};
 ghost use Rattle.sdf_actor.specs.Sides.{list_count};
 ghost use Rattle.sdf_actor.specs.declared.sides.Lists.TheVariants.{Inputs, Outputs};
 ghost use Rattle.sdf_actor.specs.Wires.{wires, wire_of as wire_of_link};
-ghost use Rattle.sdf_file.specs.Designs.{node_of, wire_of, IsCost};
+ghost use Rattle.sdf_prec.specs.Costs.{AreCosts};
+ghost use Rattle.sdf_file.specs.Designs.{node_of, wire_of};
 
 use sdf_actor::{Link, Node};
 use sdf_document::{ActorEntry, KindEntry, LinkEntry, ListEntry};
@@ -112,7 +113,7 @@ pub(crate) fn parts_of(alloc: Global, actors: Vec<ActorEntry>) -> Result<Parts, 
     ensures names { IfOk result (λ p. map string_bytes p.names.items ≡ map (λ (a : ActorValue). a.name) (map actor_view actors.items)) }
     ensures homes { IfOk result (λ p. p.homes.items ≡ map (λ (a : ActorValue). a.processor) (map actor_view actors.items)) }
     ensures costs { IfOk result (λ p. p.costs.items ≡ map (λ (a : ActorValue). a.cost) (map actor_view actors.items)) }
-    ensures valued { IfOk result (λ p. All IsCost p.costs.items) }
+    ensures priced { IfOk result (λ p. AreCosts (length actors.items) p.costs.items) }
     ensures inputs { IfOk result (λ p. list_count Inputs p.nodes.items ≤ MOST_CHANNEL + 1) }
     ensures outputs { IfOk result (λ p. list_count Outputs p.nodes.items ≤ MOST_CHANNEL + 1) }
 {

@@ -1,10 +1,12 @@
 //! The text of a schedule.
 ghost use Rattle.std.specs.Prelude.{◌≡◌, ◌+◌, ◌≤◌, ◌<◌, ◌++◌, ◌∷◌, IfOk, OnOk, length, drop, slice_index, string_bytes, codes};
 ghost use Rattle.std.specs.List.{flat_map, range_with_len};
-ghost use Rattle.sdf_file.specs.Schedules.{Stretch, stretches, stretch_text, order_text, cell_text, row_line, capacity_line, IsScheduleText};
+ghost use Rattle.sdf_actor.specs.Nets.{wire};
+ghost use Rattle.sdf_file.specs.Schedules.{Stretch, stretches, stretch_text, order_items, order_line, cell_text, row_line, end_text, capacity_line, size_lines, table_text, schedule_text, IsScheduleText};
 
 use crate::design::Design;
-use crate::texts::push_q_lines;
+use crate::texts::push_period;
+use sdf_graph::Repetitions;
 use sdf_prec::{Firing, Table};
 use sdf_sched::Period;
 use std::alloc::{AllocError, Global};
@@ -12,13 +14,13 @@ use std::alloc::{AllocError, Global};
 /// How many firings of one actor stand in an order from a place on.
 fn stretch_at(order: &[usize], at: usize) -> usize
     requires { at < length order.now }
-    ensures { stretches (drop at order.now) ≡ record { actor = slice_index order.now at; firings = result } ∷ stretches (drop (at + result) order.now) }
+    ensures stretch { stretches (drop at order.now) ≡ record { actor = slice_index order.now at; firings = result } ∷ stretches (drop (at + result) order.now) }
     ensures some { 0 < result }
     ensures within { at + result ≤ length order.now }
 {
     let actor = order[at];
     let mut past = at + 1;
-    while past < order.len() && order[past] == actor {
+    while past < order.len() && actor == order[past] {
         past += 1;
     }
     past - at
@@ -41,9 +43,9 @@ fn push_stretch(
     Ok(())
 }
 
-/// Adds the order of a period's firings: an item for each longest stretch of one actor.
-fn push_order(text: &mut String, design: &Design, order: &[usize]) -> Result<(), AllocError>
-    ensures { OnOk result (string_bytes text.new ≡ string_bytes text.old ++ order_text design.now order.now) }
+/// Adds an item for each longest stretch of one actor.
+fn push_items(text: &mut String, design: &Design, order: &[usize]) -> Result<(), AllocError>
+    ensures { OnOk result (string_bytes text.new ≡ string_bytes text.old ++ order_items design.now order.now) }
 {
     let mut at = 0;
     while at < order.len() {
@@ -52,6 +54,15 @@ fn push_order(text: &mut String, design: &Design, order: &[usize]) -> Result<(),
         at += firings;
     }
     Ok(())
+}
+
+/// Adds the line of an order.
+fn push_order(text: &mut String, design: &Design, order: &[usize]) -> Result<(), AllocError>
+    ensures { OnOk result (string_bytes text.new ≡ string_bytes text.old ++ order_line design.now order.now) }
+{
+    text.push_str("order")?;
+    push_items(text, design, order)?;
+    text.push_str("\n")
 }
 
 fn push_cell(
@@ -96,6 +107,26 @@ fn push_rows(text: &mut String, design: &Design, table: &Table) -> Result<(), Al
     Ok(())
 }
 
+/// The ends of a link, each an actor and a port.
+fn ends_of(design: &Design, link: usize) -> ((usize, usize), (usize, usize))
+    requires { link < length design.now.net.wires }
+    ensures from { result.0 ≡ (wire design.now.net link).from }
+    ensures to { result.1 ≡ (wire design.now.net link).to }
+{
+    let link = design.net().link(link);
+    (link.from, link.to)
+}
+
+/// Adds an end of a link.
+fn push_end(text: &mut String, design: &Design, end: (usize, usize)) -> Result<(), AllocError>
+    ensures { OnOk result (string_bytes text.new ≡ string_bytes text.old ++ end_text design.now end) }
+{
+    let (actor, port) = end;
+    let name = design.name_of(actor);
+    write!(text, "{name}:{port}")?;
+    Ok(())
+}
+
 /// Adds the line of a link's capacity.
 fn push_capacity(
     text: &mut String,
@@ -107,13 +138,13 @@ fn push_capacity(
     requires capacities { length table.now.caps ≡ length design.now.net.wires }
     ensures { OnOk result (string_bytes text.new ≡ string_bytes text.old ++ capacity_line design.now table.now.caps link) }
 {
-    let ends = design.net().link(link);
-    let source = design.name_of(ends.from.0);
-    let out = ends.from.1;
-    let target = design.name_of(ends.to.0);
-    let into = ends.to.1;
-    let most = table.cap(link);
-    writeln!(text, "capacity {source}:{out} {target}:{into} {most}")?;
+    let (from, to) = ends_of(design, link);
+    let capacity = table.cap(link);
+    text.push_str("capacity ")?;
+    push_end(text, design, from)?;
+    text.push_str(" ")?;
+    push_end(text, design, to)?;
+    writeln!(text, " {capacity}")?;
     Ok(())
 }
 
@@ -128,6 +159,45 @@ fn push_capacities(text: &mut String, design: &Design, table: &Table) -> Result<
     Ok(())
 }
 
+/// Adds the sizes of a table.
+fn push_sizes(text: &mut String, table: &Table) -> Result<(), AllocError>
+    ensures { OnOk result (string_bytes text.new ≡ string_bytes text.old ++ size_lines table.now) }
+{
+    let blocking = table.blocking();
+    let workers = table.workers();
+    let rows = table.rows();
+    writeln!(text, "blocking {blocking}\nworkers {workers}\nrows {rows}")?;
+    Ok(())
+}
+
+/// Adds a table.
+fn push_table(text: &mut String, design: &Design, table: &Table) -> Result<(), AllocError>
+    requires { length table.now.caps ≡ length design.now.net.wires }
+    ensures { OnOk result (string_bytes text.new ≡ string_bytes text.old ++ table_text design.now table.now) }
+{
+    push_sizes(text, table)?;
+    push_rows(text, design, table)?;
+    push_capacities(text, design, table)
+}
+
+fn text_with(
+    alloc: Global,
+    design: &Design,
+    repetitions: &Repetitions,
+    order: &[usize],
+    table: &Table,
+) -> Result<String, AllocError>
+    requires all { length repetitions.now ≡ length design.now.net.nodes }
+    requires capacities { length table.now.caps ≡ length design.now.net.wires }
+    ensures { IfOk result (λ s. string_bytes s ≡ schedule_text design.now repetitions.now order.now table.now) }
+{
+    let mut text = String::new(alloc);
+    push_period(&mut text, design, repetitions)?;
+    push_order(&mut text, design, order)?;
+    push_table(&mut text, design, table)?;
+    Ok(text)
+}
+
 /// What a schedule is: the period and how often each actor fires in it, the order of its firings, and a table: its periods, its
 /// columns, the firings of each row, and the capacity of each link.
 pub fn schedule_text(
@@ -140,16 +210,5 @@ pub fn schedule_text(
     ensures { IfOk result (λ s. IsScheduleText design.now period.now.order table.now (string_bytes s)) }
 {
     let repetitions = design.net().repetitions();
-    let firings = repetitions.period();
-    let mut text = format!(in alloc; "period {firings}\n")?;
-    push_q_lines(&mut text, design, repetitions)?;
-    text.push_str("order")?;
-    push_order(&mut text, design, period.order())?;
-    let blocking = table.blocking();
-    let workers = table.workers();
-    let rows = table.rows();
-    writeln!(text, "\nblocking {blocking}\nworkers {workers}\nrows {rows}")?;
-    push_rows(&mut text, design, table)?;
-    push_capacities(&mut text, design, table)?;
-    Ok(text)
+    Ok(text_with(alloc, design, repetitions, period.order(), table)?)
 }

@@ -4,7 +4,7 @@ use Rattle.std.proofs.lemmas.List.Elements.{All-tail}
 use Rattle.sdf_document.specs.Actors.{ActorValue, actor_view, IsActorWithin}
 use Rattle.sdf_file.specs.Designs.{node_of}
 use Rattle.sdf_file.proofs.Moves.{moved_more, nothing_left}
-use Rattle.sdf_file.proofs.Whole.{few_lists, all_cost}
+use Rattle.sdf_file.proofs.Whole.{few_lists, have_costs}
 use Rattle.sdf_actor.specs.declared.sides.Lists.TheVariants.{Inputs, Outputs}
 use Rattle.sdf_file.proofs.parts.parts_of.Goals as goal
 
@@ -41,11 +41,11 @@ returns-clause-outputs c =
     sym (append-nil at.parts.nodes.items) ∙ (rw (empty, all) at at.invariant.nodes) in
     rw made (few_lists Outputs c.args.actors.items c.requires)
 
-pub returns-clause-valued : goal.returns-clause-valued
-returns-clause-valued c =
+pub returns-clause-priced : goal.returns-clause-priced
+returns-clause-priced c =
     let at = c.loop-actor in
     let empty : into_iter_items at.actor-iterator ≡ [] = nothing_left _ (sym at.invariant.left ∙ c.in-None.ensures.steps.0) in
     let all : into_iter_items c.into_iter-actor-iterator.result ≡ c.args.actors.items = c.into_iter-actor-iterator.ensures.into_iter_gives.0 in
     let made : at.parts.costs.items ≡ map (λ (a : ActorValue). a.cost) (map actor_view c.args.actors.items) =
     sym (append-nil at.parts.costs.items) ∙ (rw (empty, all) at at.invariant.costs) in
-    rw made (all_cost c.args.actors.items c.requires)
+    rw made (have_costs c.args.actors.items c.requires)
