@@ -1,5 +1,5 @@
 -- The text of a schedule: one period's order of firings, and a table of a block.
-use Rattle.std.specs.Prelude.{◌≡◌, ℕ, ◌+◌, List, [], ◌∷◌, ◌++◌, ◌==◌, if◌then◌else◌, length, codes, decimal, slice_index, slice_index_or, Option, Some, None}
+use Rattle.std.specs.Prelude.{◌≡◌, ℕ, ◌+◌, ◌/◌, List, [], ◌∷◌, ◌++◌, ◌==◌, if◌then◌else◌, length, codes, decimal, slice_index, slice_index_or, Option, Some, None}
 use Rattle.std.specs.List.{flat_map, range_with_len}
 use Rattle.sdf_graph.specs.Rates.{rates}
 use Rattle.sdf_graph.specs.Periods.{IsLeastPeriod}
@@ -7,7 +7,7 @@ use Rattle.sdf_actor.specs.Graphs.{graph_of}
 use Rattle.sdf_actor.specs.Nets.{wire}
 use Rattle.sdf_kit.specs.Kit.{kit_steps}
 use Rattle.sdf_prec.specs.declared.firing.Firing.{Firing}
-use Rattle.sdf_prec.specs.Tables.{Tabled}
+use Rattle.sdf_prec.specs.Tables.{Tabled, row}
 use Rattle.sdf_file.specs.Designs.{DesignValue}
 use Rattle.sdf_file.specs.Texts.{end, period_text}
 
@@ -57,21 +57,28 @@ abbrev pub capacity_line : DesignValue → List ℕ → ℕ → List ℕ
 capacity_line d caps c =
     codes "capacity " ++ end_text d (wire d.net c).from ++ codes " " ++ end_text d (wire d.net c).to ++ codes " " ++ decimal (slice_index caps c) ++ end
 
+-- how often the order of a period makes a table's block, and how many columns each of its rows has
+abbrev pub blocking_of : List ℕ → Tabled → ℕ
+blocking_of order t = length t.order / length order
+
+abbrev pub workers_of : Tabled → ℕ
+workers_of t = length (row t.rows 0)
+
 -- the sizes of a table
-abbrev pub size_lines : Tabled → List ℕ
-size_lines t =
-    codes "blocking " ++ decimal t.blocking ++ end
-    ++ codes "workers " ++ decimal t.workers ++ end
+abbrev pub size_lines : List ℕ → Tabled → List ℕ
+size_lines order t =
+    codes "blocking " ++ decimal (blocking_of order t) ++ end
+    ++ codes "workers " ++ decimal (workers_of t) ++ end
     ++ codes "rows " ++ decimal (length t.rows) ++ end
 
 -- a table: its sizes, its rows, and the capacities of the links in file order
-abbrev pub table_text : DesignValue → Tabled → List ℕ
-table_text d t =
-    size_lines t ++ flat_map (row_line d) t.rows ++ flat_map (capacity_line d t.caps) (range_with_len 0 (length d.net.wires))
+abbrev pub table_text : DesignValue → List ℕ → Tabled → List ℕ
+table_text d order t =
+    size_lines order t ++ flat_map (row_line d) t.rows ++ flat_map (capacity_line d t.caps) (range_with_len 0 (length d.net.wires))
 
 -- what `schedule` prints of a design with period vector q, whose period has this order of firings, with this table
 abbrev pub schedule_text : DesignValue → List ℕ → List ℕ → Tabled → List ℕ
-schedule_text d q order t = period_text d q ++ order_line d order ++ table_text d t
+schedule_text d q order t = period_text d q ++ order_line d order ++ table_text d order t
 
 -- the text of a schedule, whose period vector is the least
 pub record IsScheduleText (d : DesignValue) (order : List ℕ) (t : Tabled) (text : List ℕ) : Type 0 where

@@ -2,7 +2,7 @@
 ghost use Rattle.std.specs.Prelude.{◌≡◌, ◌+◌, ◌≤◌, ◌<◌, ◌++◌, ◌∷◌, IfOk, OnOk, length, drop, slice_index, string_bytes, codes};
 ghost use Rattle.std.specs.List.{flat_map, range_with_len};
 ghost use Rattle.sdf_actor.specs.Nets.{wire};
-ghost use Rattle.sdf_file.specs.Schedules.{Stretch, stretches, stretch_text, order_items, order_line, cell_text, row_line, end_text, capacity_line, size_lines, table_text, schedule_text, IsScheduleText};
+ghost use Rattle.sdf_file.specs.Schedules.{Stretch, stretches, stretch_text, order_items, order_line, cell_text, row_line, end_text, capacity_line, blocking_of, workers_of, size_lines, table_text, schedule_text, IsScheduleText};
 
 use crate::design::Design;
 use crate::texts::push_period;
@@ -159,23 +159,45 @@ fn push_capacities(text: &mut String, design: &Design, table: &Table) -> Result<
     Ok(())
 }
 
-/// Adds the sizes of a table.
-fn push_sizes(text: &mut String, table: &Table) -> Result<(), AllocError>
-    ensures { OnOk result (string_bytes text.new ≡ string_bytes text.old ++ size_lines table.now) }
+/// How often the order of a period makes a table's block.
+fn blocking_of(order: &[usize], table: &Table) -> usize
+    ensures { result ≡ blocking_of order.now table.now }
 {
-    let blocking = table.blocking();
-    let workers = table.workers();
+    table.order().len().checked_div(order.len()).unwrap_or(0)
+}
+
+/// How many columns each row of a table has.
+fn workers_of(table: &Table) -> usize
+    ensures { result ≡ workers_of table.now }
+{
+    if table.rows() == 0 {
+        return 0;
+    }
+    table.row(0).len()
+}
+
+/// Adds the sizes of a table.
+fn push_sizes(text: &mut String, order: &[usize], table: &Table) -> Result<(), AllocError>
+    ensures { OnOk result (string_bytes text.new ≡ string_bytes text.old ++ size_lines order.now table.now) }
+{
+    let blocking = blocking_of(order, table);
+    let workers = workers_of(table);
     let rows = table.rows();
     writeln!(text, "blocking {blocking}\nworkers {workers}\nrows {rows}")?;
     Ok(())
 }
 
 /// Adds a table.
-fn push_table(text: &mut String, design: &Design, table: &Table) -> Result<(), AllocError>
+fn push_table(
+    text: &mut String,
+    design: &Design,
+    order: &[usize],
+    table: &Table,
+) -> Result<(), AllocError>
     requires { length table.now.caps ≡ length design.now.net.wires }
-    ensures { OnOk result (string_bytes text.new ≡ string_bytes text.old ++ table_text design.now table.now) }
+    ensures { OnOk result (string_bytes text.new ≡ string_bytes text.old ++ table_text design.now order.now table.now) }
 {
-    push_sizes(text, table)?;
+    push_sizes(text, order, table)?;
     push_rows(text, design, table)?;
     push_capacities(text, design, table)
 }
@@ -194,7 +216,7 @@ fn text_with(
     let mut text = String::new(alloc);
     push_period(&mut text, design, repetitions)?;
     push_order(&mut text, design, order)?;
-    push_table(&mut text, design, table)?;
+    push_table(&mut text, design, order, table)?;
     Ok(text)
 }
 
