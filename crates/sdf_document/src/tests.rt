@@ -383,7 +383,7 @@ fn names_wanted_files_once(rt: HostRuntime) -> Result<(), Fail> {
     )?;
     let names = file_names(alloc, text.as_bytes())?;
     assert_eq!(rt; names.len(), 2);
-    match (names.get(0), names.get(1)) {
+    match (names.get_index(0), names.get_index(1)) {
         (Some(first), Some(second)) => {
             assert!(rt; first.as_str() == "h.toml" && second.as_str() == "t.toml");
         }

@@ -3,7 +3,8 @@ ghost use Rattle.std.specs.Prelude.{◌≡◌, ◌<◌, ℕ, List, [], true, map
 ghost use Rattle.std.specs.List.{All};
 ghost use Rattle.sdf_document.specs.Lists.{files_view};
 ghost use Rattle.sdf_document.specs.Actors.{IsActorWithin};
-ghost use Rattle.sdf_document.specs.Document.{document_view, file_names_of, texts_view};
+ghost use Rattle.sdf_document.specs.Document.{document_view, file_names_of};
+ghost use Rattle.sdf_document.specs.Names.{names_of};
 ghost use Rattle.sdf_actor.specs.NetFaults.{IsAccepted};
 ghost use Rattle.sdf_kit.specs.Kit.{kit_steps};
 ghost use Rattle.sdf_file.specs.Designs.{design_of, IsDesign, IsDesignOf, IsFileFault, IsMadeFault, AreFileNames, IsNamesFault};
@@ -11,6 +12,7 @@ ghost use Rattle.sdf_file.specs.Designs.{design_of, IsDesign, IsDesignOf, IsFile
 use crate::fault::FileFault;
 use crate::parts::{links_of, parts_of};
 use sdf_actor::Net;
+use indexmap::IndexSet;
 use sdf_document::{Document, file_names, read_document};
 use sdf_kit::Kit;
 use std::alloc::Global;
@@ -80,8 +82,8 @@ impl Design {
 
 /// The coefficient files that a graph file names, each once, where it stands first; or the first test that it fails of
 /// those that look into no coefficient file, all but those of the links and of the net.
-pub fn design_files(alloc: Global, graph: &[u8]) -> Result<Vec<String>, FileFault>
-    ensures { MatchResult result (λ v. AreFileNames graph.now (texts_view v.items)) (IsNamesFault graph.now) }
+pub fn design_files(alloc: Global, graph: &[u8]) -> Result<IndexSet<String>, FileFault>
+    ensures { MatchResult result (λ names. AreFileNames graph.now (names_of names)) (IsNamesFault graph.now) }
 {
     Ok(file_names(alloc, graph)?)
 }

@@ -84,6 +84,7 @@ fn run<A: Actor>(
     sdf_graph::laws::counts_grow();
     sdf_graph::laws::periods_repeat();
     sdf_graph::laws::alike_sequences();
+    sdf_graph::laws::one_least_period();
     let sizes = Sizes::new(alloc, net)?;
     let works = make_works(alloc, net, &sizes, filler)?;
     let queues = make_queues(alloc, net, period.repetitions())?;

@@ -12,11 +12,11 @@ use crate::fault::{Fault, Progress, Stalled};
 use crate::options::{Options, Policy, Runner};
 use crate::plan::Plan;
 use sdf_file::Design;
-use sdf_graph::laws::graphs_are_sound;
+use sdf_graph::laws::{graphs_are_sound, one_least_period};
 use sdf_graph::{Graph, Repetitions};
 use sdf_limits::{MOST_BLOCKING, MOST_WORKERS};
 use sdf_sched::class_s::class_s;
-use sdf_sched::laws::stuck_means_deadlock;
+use sdf_sched::laws::period_or_deadlock;
 use sdf_sched::{Lean, Period, Round, SchedFault, Stuck};
 use std::alloc::{AllocError, Global};
 
@@ -132,6 +132,7 @@ pub fn plan(alloc: Global, design: &Design, options: &Options) -> Result<Plan, F
     let _ = net.repetitions();
     let _ = net.graph().channels();
     graphs_are_sound();
-    stuck_means_deadlock();
+    one_least_period();
+    period_or_deadlock();
     planned(alloc, design, options)
 }

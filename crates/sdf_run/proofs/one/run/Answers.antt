@@ -21,6 +21,7 @@ laws g c = record {
   repeat = c.periods_repeat.ensures.words;
   capacities = c.periods_repeat.ensures.capacities;
   alike = c.alike_sequences.ensures;
+  one = c.one_least_period.ensures;
 }
 
 period : (g : Rattle.sdf_run.proofs.one.run.Given.Over) (c : After-order g) → IsPeriodOf (rates (graph_of g.A.Actor.steps c.args.net.now)) (record { order = c.order.result.now; repetitions = c.args.period.now.repetitions })

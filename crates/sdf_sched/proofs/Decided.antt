@@ -1,11 +1,10 @@
 -- Some sequence of enabled firings completes a period, or none does: a greedy schedule is fired to where it stops.
-use Rattle.std.proofs.Common.{◌≡◌, ℕ, zero, suc, ◌+◌, ◌-◌, ◌≤◌, ◌<◌, List, [], ◌∷◌, ◌++◌, length, length-append, get_or, take, cond, eqb, refl, sym, ap, ◌∙◌, subst, inl, inr, ◌⊎◌, arith, add-one}
-use Rattle.std.proofs.lemmas.List.{take-append-le, take_all, get_or_append_left, get_or_push}
-use Rattle.std.proofs.lemmas.List.Sums.{sum_by-append}
-use Rattle.std.proofs.lemmas.Bool.{cases_lt, cases_eq, eq-eqb, ne_eqb}
+use Rattle.std.proofs.Common.{◌≡◌, ℕ, zero, suc, ◌+◌, ◌-◌, ◌≤◌, ◌<◌, List, [], ◌∷◌, ◌++◌, length, get_or, take, sym, subst, inl, inr, ◌⊎◌, arith}
+use Rattle.std.proofs.lemmas.Bool.{cases_lt, cases_eq}
 use Rattle.sdf_graph.specs.Rates.{Rates, IsSound, sum_to}
-use Rattle.sdf_graph.specs.Sequences.{times, IsReady, IsEnabled, IsRunnable, IsPass, IsStopped, IsDeadlocked}
-use Rattle.sdf_sched.specs.Laws.{StuckMeansDeadlock}
+use Rattle.sdf_graph.specs.Sequences.{times, IsReady, IsEnabled, IsRunnable, IsPass, IsDeadlocked}
+use Rattle.sdf_sched.specs.Laws.{StuckMeansDeadlock, PeriodOrDeadlock}
+use Rattle.sdf_sched.proofs.Going.{times-last_same, times-last_other, each_more}
 
 -- below m each number is of one sort, or one is of the other
 look_below : (P Q : ℕ → Type 0) → ((c : ℕ) → P c ⊎ Q c) → (m : ℕ) → ((c : ℕ) → c < m → P c) ⊎ ((c : ℕ) × (c < m) × Q c)
@@ -37,16 +36,6 @@ sum_lt f g a (suc m) h le less = go (cases_lt a m) (λ early. sum_lt f g a m ear
         let same : a ≡ m = omega arith in
         let here : f m < g m = subst (λ b. f b < g b) same less in
         omega (arith, sum_le f g m le)
-
--- the actor that fires counts one more, and each other as before
-times_last : (w : List ℕ) (a : ℕ) → times (w ++ a ∷ []) a ≡ times w a + 1
-times_last w a = sum_by-append (λ b. cond (eqb b a) 1 0) w (a ∷ []) ∙ ap (λ b. times w a + (0 + cond b 1 0)) (eq-eqb a a refl)
-
-times_rest : (w : List ℕ) (a b : ℕ) → (a ≡ b → ⊥) → times (w ++ a ∷ []) b ≡ times w b
-times_rest w a b other =
-    let s : times (w ++ a ∷ []) b ≡ times w b + 0 =
-    sum_by-append (λ x. cond (eqb x b) 1 0) w (a ∷ []) ∙ ap (λ x. times w b + (0 + cond x 1 0)) (ne_eqb a b other) in
-    omega arith
 
 module _ (r : Rates) (q : ℕ → ℕ) where
   ready : (k : ℕ → ℕ) (c : ℕ) → IsReady r k c ⊎ (IsReady r k c → ⊥)
@@ -99,31 +88,24 @@ module _ (r : Rates) (q : ℕ → ℕ) where
   left w = sum_to (λ a. q a - times w a) r.actors
 
   module _ (w : List ℕ) (greedy : IsGreedy w) (a : ℕ) (on : IsRunnable r q (times w) a) where
-    each_fired : (i : ℕ) → i < length (w ++ a ∷ []) → (i < length w) ⊎ (length w ≤ i) → IsRunnable r q (times (take i (w ++ a ∷ []))) (get_or (w ++ a ∷ []) i 0)
-    each_fired i h (inl early) = rw (take-append-le i w (a ∷ []) (omega arith), get_or_append_left w (a ∷ []) 0 i early) (greedy.each i early)
-    each_fired i h (inr late) =
-        let last : length w ≡ i = omega (arith, length-append w (a ∷ [])) in
-        subst (λ i. IsRunnable r q (times (take i (w ++ a ∷ []))) (get_or (w ++ a ∷ []) i 0)) last
-        (rw (take-append-le (length w) w (a ∷ []) (omega arith), take_all (length w) w (omega arith), get_or_push w a 0 (length w) refl) on)
-
     within_fired : (b : ℕ) → (a ≡ b) ⊎ (a ≡ b → ⊥) → times (w ++ a ∷ []) b ≤ q b
-    within_fired b (inl same) = subst (λ b. times (w ++ a ∷ []) b ≤ q b) same (omega (arith, times_last w a, on.1))
-    within_fired b (inr other) = omega (arith, times_rest w a b other, greedy.within b)
+    within_fired b (inl same) = subst (λ b. times (w ++ a ∷ []) b ≤ q b) same (omega (arith, times-last_same w a, on.1))
+    within_fired b (inr other) = omega (arith, times-last_other w a b (λ e. other (sym e)), greedy.within b)
 
     fired : IsGreedy (w ++ a ∷ [])
     fired = record {
-      each = λ i h. each_fired i h (cases_lt i (length w));
+      each = each_more r q w a greedy.each on;
       within = λ b. within_fired b (cases_eq a b);
     }
 
     fewer : (b : ℕ) → (a ≡ b) ⊎ (a ≡ b → ⊥) → q b - times (w ++ a ∷ []) b ≤ q b - times w b
-    fewer b (inl same) = subst (λ b. q b - times (w ++ a ∷ []) b ≤ q b - times w b) same (omega (arith, times_last w a))
-    fewer b (inr other) = omega (arith, times_rest w a b other)
+    fewer b (inl same) = subst (λ b. q b - times (w ++ a ∷ []) b ≤ q b - times w b) same (omega (arith, times-last_same w a))
+    fewer b (inr other) = omega (arith, times-last_other w a b (λ e. other (sym e)))
 
     left_falls : left (w ++ a ∷ []) < left w
     left_falls =
         sum_lt (λ b. q b - times (w ++ a ∷ []) b) (λ b. q b - times w b) a r.actors on.0 (λ b. fewer b (cases_eq a b))
-        (omega (arith, times_last w a, on.1))
+        (omega (arith, times-last_same w a, on.1))
 
   record StopsAt (w : List ℕ) : Type 0 where
     greedy : IsGreedy w
@@ -170,5 +152,8 @@ module _ (r : Rates) (q : ℕ → ℕ) where
     outcome : Outcome
     outcome = ends (look_below (λ a. times v a ≡ q a) (λ a. times v a < q a) (full_or_not v stops.greedy) r.actors)
 
-  pub decided : IsSound r → StuckMeansDeadlock → Outcome
+  decided : IsSound r → StuckMeansDeadlock → Outcome
   decided sound law = let last = go_on (left []) [] begins (omega arith) in outcome sound law last.0 last.1
+
+pub period_or_deadlock : StuckMeansDeadlock → PeriodOrDeadlock
+period_or_deadlock law r q sound = decided r q sound law
