@@ -32,8 +32,6 @@ of_words f = fault.Words f
 
 abbrev pub of_prec : PrecFault → Fault
 of_prec prec.OutOfMemory = fault.OutOfMemory
-of_prec prec.BlockingFactor = fault.BlockingFactor
-of_prec prec.WorkerCount = fault.WorkerCount
 of_prec f = fault.Table f
 
 abbrev pub of_file : FileFault → Fault

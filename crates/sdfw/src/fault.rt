@@ -135,8 +135,6 @@ impl From<PrecFault> for Fault {
     fn from(fault: PrecFault) -> Fault {
         match fault {
             PrecFault::OutOfMemory => Fault::OutOfMemory,
-            PrecFault::BlockingFactor => Fault::BlockingFactor,
-            PrecFault::WorkerCount => Fault::WorkerCount,
             other => Fault::Table(other),
         }
     }

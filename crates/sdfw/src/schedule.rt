@@ -1,41 +1,58 @@
 //! The schedule of a design for some workers, as a text.
 
-ghost use Rattle.std.specs.Prelude.{◌≡◌, MatchResult, string_bytes};
-ghost use Rattle.sdf_graph.specs.Rates.{rates};
-ghost use Rattle.sdf_actor.specs.Graphs.{graph_of};
-ghost use Rattle.sdf_kit.specs.Kit.{kit_steps};
-ghost use Rattle.sdfw.specs.Schedules.{IsTableBy, IsTableFault, IsShownSchedule, IsShowFault};
+ghost use Rattle.std.specs.Prelude.{◌≡◌, IfOk, MatchResult, string_bytes};
+ghost use Rattle.sdf_sched.specs.Period.{IsPeriodOf};
+ghost use Rattle.sdfw.specs.Schedules.{rates_of, IsTableBy, IsPlaceFault, IsShown, IsShowFault};
 
 use crate::fault::Fault;
 use crate::options::{Options, Placement};
-use crate::planning::{period_by, test_sizes};
+use crate::planning::{period_by, size_fault};
 use sdf_file::{Design, schedule_text};
-use sdf_prec::{Costs, PrecFault, Table, by_homes, hu};
+use sdf_prec::{Costs, PrecFault, Table, hu};
 use sdf_sched::Period;
-use std::alloc::Global;
+use std::alloc::{AllocError, Global};
 
-/// The table of a design's block by a placement.
+/// What the firings of a design's actors cost.
+fn costs_of(alloc: Global, design: &Design) -> Result<Costs, AllocError>
+    ensures { IfOk result (λ c. c ≡ design.now.costs) }
+{
+    let costs = Vec::from_slice(alloc, design.costs())?;
+    match Costs::new(design.net().graph(), costs) {
+        Ok(costs) => Ok(costs),
+        Err(_) => unreachable!(),
+    }
+}
+
+/// The table of a design's period by a placement.
 fn table_by(
     alloc: Global,
     design: &Design,
     period: &Period,
     options: &Options,
 ) -> Result<Table, PrecFault>
+    requires { IsPeriodOf (rates_of design.now) period.now }
+    ensures { MatchResult result (IsTableBy design.now options.now period.now)
+        (IsPlaceFault options.now.placement design.now options.now.blocking options.now.workers period.now) }
 {
     let graph = design.net().graph();
-    let Options { blocking, workers, .. } = *options;
-    let costs = || Costs::new(alloc, graph, Vec::from_slice(alloc, design.costs())?);
+    let j = options.blocking;
+    let m = options.workers;
     match options.placement {
-        Placement::Hu => hu(alloc, graph, period, blocking, workers, false, &costs()?),
-        Placement::Homed => hu(alloc, graph, period, blocking, workers, true, &costs()?),
-        Placement::File => by_homes(alloc, graph, period, blocking, workers, design.homes()),
+        Placement::Hu => hu(alloc, graph, period, j, m, false, &costs_of(alloc, design)?),
+        Placement::Homed => hu(alloc, graph, period, j, m, true, &costs_of(alloc, design)?),
+        Placement::File => Table::by_homes(alloc, graph, period, j, m, design.homes()),
     }
 }
 
-/// What the command `schedule` prints: the order of the policy, and the table of the placement. The tests in order: 11, 12, 10, 13, 19.
+/// What the command `schedule` prints: the order of the policy, and the table of the placement. The tests in order: the blocking
+/// factor and the workers are within their limits; the design has a schedule; a block is not too long; with the placement
+/// `file`, each actor has a home among the workers.
 pub fn schedule(alloc: Global, design: &Design, options: &Options) -> Result<String, Fault>
+    ensures { MatchResult result (λ s. IsShown design.now options.now (string_bytes s)) (IsShowFault design.now options.now) }
 {
-    test_sizes(options)?;
+    if let Some(fault) = size_fault(options) {
+        return Err(fault);
+    }
     let period = period_by(alloc, design, options.policy)?;
     let table = table_by(alloc, design, &period, options)?;
     Ok(schedule_text(alloc, design, &period, &table)?)

@@ -5,7 +5,7 @@ use Rattle.sdf_actor.specs.Graphs.{graph_of}
 use Rattle.sdf_kit.specs.Kit.{kit_steps}
 use Rattle.sdfw.specs.Plans.{progress_view}
 use Rattle.sdfw.proofs.Deadlocks.{deadlock_of}
-use Rattle.sdfw.proofs.planning.schedule.Goals as goal
+use Rattle.sdfw.proofs.planning.period_by.Goals as goal
 
 pub returns-in_ok-actors-in-Err-Deadlock : goal.returns-in_ok-actors-in-Err-Deadlock
 returns-in_ok-actors-in-Err-Deadlock c =
