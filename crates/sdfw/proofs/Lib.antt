@@ -7,4 +7,5 @@ pub mod Devices
 pub mod Sounds
 pub mod Rendering
 pub mod Deadlocks
+pub mod Tabling
 pub mod Outputs
