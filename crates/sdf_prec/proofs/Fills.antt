@@ -98,7 +98,7 @@ module _ (until : List ℕ) (now i : ℕ) (queue : List Firing) (next : ℕ) (ce
 
           go : (k + 1 < length s.columns) ⊎ (length s.columns ≤ k + 1) → get_or (s.columns ++ i ∷ []) k 0 < get_or (s.columns ++ i ∷ []) (k + 1) 0
           go (inl l) = omega (arith, old k within, old (k + 1) l, s.idle.rising k l)
-          go (inr l) = omega (arith, old k within, new (k + 1) (omega arith), (s.idle.each k within).0)
+          go (inr l) = omega (arith, old k within, new (k + 1) (omega (arith, within)), (s.idle.each k within).0)
 
       each : (k : ℕ) → (k < length s.columns) ⊎ (length s.columns ≤ k) → k < length s.columns + 1 → (get_or (s.columns ++ i ∷ []) k 0 < i + 1) × (get_or until (get_or (s.columns ++ i ∷ []) k 0) 0 ≤ now)
       each k (inl l) h = let e = s.idle.each k l in subst (λ c. (c < i + 1) × (get_or until c 0 ≤ now)) (sym (old k l)) (omega (arith, e.0), e.1)
