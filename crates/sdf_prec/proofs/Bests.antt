@@ -3,7 +3,7 @@ use Rattle.std.proofs.Common.{◌≡◌, ℕ, ◌+◌, ◌≤◌, ◌<◌, ◌�
 use Rattle.std.specs.Prelude.{MatchOption}
 use Rattle.std.proofs.lemmas.Option.{none-some, same_Some}
 use Rattle.std.proofs.lemmas.Bool.{cases_lt, cases_eq}
-use Rattle.sdf_prec.specs.Trying.{IsPlace}
+use Rattle.sdf_prec.specs.Trying.{IsPlace, IsLeast}
 use Rattle.sdf_prec.specs.Placing.{IsBest, IsNowhere}
 
 pub best_new : (i : ℕ) (free : ℕ → Type 0) (weights : ℕ → ℕ) (best : Option ℕ) → IsBest i free weights best → free i → ((b : ℕ) → best ≡ Some b → weights i < weights b) → IsBest (i + 1) free weights (Some i)
@@ -48,6 +48,6 @@ pub nowhere_none : (width : ℕ) (free : ℕ → Type 0) (weights : ℕ → ℕ)
 nowhere_none width free weights None none j p = none j p.known p.is_free
 nowhere_none width free weights (Some k) none j p = go p.chosen
   where
-    go : (Some k ≡ Some j) ⊎ ((Some k ≡ None) × _) → ⊥
+    go : (Some k ≡ Some j) ⊎ ((Some k ≡ None) × IsLeast width free weights j) → ⊥
     go (inl e) = none.1 (subst free (sym (same_Some k j e)) p.is_free)
     go (inr (e, _)) = none-some k (sym e)

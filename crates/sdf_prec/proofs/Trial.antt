@@ -8,7 +8,7 @@ use Rattle.sdf_prec.specs.Tables.{firing, no_firing, cell_of}
 use Rattle.sdf_prec.specs.Trying.{IsLeft, IsHomeFor, IsLeast, IsPlace, IsPlaced, load}
 use Rattle.sdf_prec.specs.Placing.{IsPlacing}
 
-place_alike : (width : ℕ) (free free' : ℕ → Type 0) (weights : ℕ → ℕ) (home : Option ℕ) (j : ℕ) → ((m : ℕ) → free m → free' m) → ((m : ℕ) → free' m → free m) →
+pub place_alike : (width : ℕ) (free free' : ℕ → Type 0) (weights : ℕ → ℕ) (home : Option ℕ) (j : ℕ) → ((m : ℕ) → free m → free' m) → ((m : ℕ) → free' m → free m) →
     IsPlace width free weights home j → IsPlace width free' weights home j
 place_alike width free free' weights home j to from p = record { known = p.known; is_free = to j p.is_free; chosen = go p.chosen }
   where
@@ -16,7 +16,7 @@ place_alike width free free' weights home j to from p = record { known = p.known
     go (inl e) = inl e
     go (inr (e, least)) = inr (e, λ m l f. least m l (from m f))
 
-place_unique : (width : ℕ) (free : ℕ → Type 0) (weights : ℕ → ℕ) (home : Option ℕ) (j k : ℕ) → IsPlace width free weights home j → IsPlace width free weights home k → j ≡ k
+pub place_unique : (width : ℕ) (free : ℕ → Type 0) (weights : ℕ → ℕ) (home : Option ℕ) (j k : ℕ) → IsPlace width free weights home j → IsPlace width free weights home k → j ≡ k
 place_unique width free weights home j k p q = go p.chosen q.chosen
   where
     even : (weights j < weights k) ⊎ ((weights j ≡ weights k) × (j ≤ k)) → (weights k < weights j) ⊎ ((weights k ≡ weights j) × (k ≤ j)) → j ≡ k
@@ -60,6 +60,20 @@ placed_alike actors width weight idle before queue cells cells' p to back placed
     λ pl. to p j (omega arith) ((placed.stands j).1 (place_alike width (λ m. idle m × IsLeft queue cells' p m) (λ m. idle m × IsLeft queue cells p m) (load actors weight placed.home) (placed.home (firing queue p).actor) j
         (λ m f. (f.0, left_alike before queue cells' cells p (λ x k h. to x k (omega arith)) m f.1))
         (λ m f. (f.0, left_alike before queue cells cells' p (λ x k h. back x k (omega arith)) m f.1)) pl)),
+  );
+}
+
+-- and where the same columns are idle, said in other words
+pub placed_idle : (actors width : ℕ) (weight : ℕ → ℕ) (idle idle' : ℕ → Type 0) (before : ℕ → Option ℕ) (queue : List Firing) (cells : List (Option Firing)) (p : ℕ) →
+    ((j : ℕ) → idle j → idle' j) → ((j : ℕ) → idle' j → idle j) → IsPlaced actors width weight idle before queue cells p → IsPlaced actors width weight idle' before queue cells p
+placed_idle actors width weight idle idle' before queue cells p to from pl = record {
+  home = pl.home;
+  home_is = pl.home_is;
+  stands = λ j. (
+    λ e. place_alike width (λ k. idle k × IsLeft queue cells p k) (λ k. idle' k × IsLeft queue cells p k) (load actors weight pl.home) (pl.home (firing queue p).actor) j
+        (λ k x. (to k x.0, x.1)) (λ k x. (from k x.0, x.1)) ((pl.stands j).0 e),
+    λ place. (pl.stands j).1 (place_alike width (λ k. idle' k × IsLeft queue cells p k) (λ k. idle k × IsLeft queue cells p k) (load actors weight pl.home) (pl.home (firing queue p).actor) j
+        (λ k x. (from k x.0, x.1)) (λ k x. (to k x.0, x.1)) place),
   );
 }
 

@@ -1,12 +1,12 @@
 -- What is known while rows are made: counts of started and of ended firings, when each actor and each column is through.
-use Rattle.std.specs.Prelude.{◌≡◌, ℕ, ◌+◌, ◌≤◌, ◌<◌, ◌⊎◌, ◌↔◌, List, length, slice_index, Option, Some, None}
+use Rattle.std.specs.Prelude.{◌≡◌, ℕ, ◌+◌, ◌≤◌, ◌<◌, ◌⊎◌, ◌↔◌, List, [], length, slice_index, Option, Some, None, Bool, IsTrue}
 use Rattle.sdf_graph.specs.Rates.{Rates}
 use Rattle.sdf_graph.specs.Sequences.{IsEnabled}
 use Rattle.sdf_graph.specs.Adjacency.{ListsExactly}
 use Rattle.sdf_prec.specs.declared.firing.Firing.{Firing}
-use Rattle.sdf_prec.specs.Tables.{cell_of}
+use Rattle.sdf_prec.specs.Tables.{cell_of, firings}
 use Rattle.sdf_prec.specs.Trying.{AreFilled}
-use Rattle.sdf_prec.specs.TimedRows.{Timed, timed, IsAt, Occurs, end_at}
+use Rattle.sdf_prec.specs.TimedRows.{Timed, timed, IsAt, Occurs, end_at, IsSettled, IsLater, AreTimed, hu_rule}
 
 -- the firing is its actor's next one, those before it have ended, and the actor is enabled at the counts of ended firings
 pub record IsNextReady (r : Rates) (n ended started : ℕ → ℕ) (f : Firing) : Type 0 where
@@ -59,3 +59,26 @@ pub record AreEnded (r : Rates) (now i : ℕ) (started ends : ℕ → ℕ) (old 
   pub same : (a : ℕ) → (a < i → ends a ≤ now → slice_index old a < started a → ⊥) → slice_index new a ≡ slice_index old a
   pub rises : (a : ℕ) → slice_index old a ≤ slice_index new a
   pub on : (a : ℕ) → a < r.actors → slice_index new a < started a → IsEnabled r (slice_index new) a
+
+-- no ready firing can start: its home is busy, or all columns are
+abbrev pub IsStuck : Rates → (ℕ → ℕ) → (ℕ → ℕ) → (ℕ → ℕ) → (ℕ → ℕ) → (ℕ → Option ℕ) → ℕ → ℕ → (homed : Bool) → Type 0
+IsStuck r n ended started until homes width now homed = (f : Firing) → IsNextReady r n ended started f →
+    ((k : ℕ) × IsTrue homed × (homes f.actor ≡ Some k) × (now < until k)) ⊎ ((j : ℕ) → j < width → now < until j)
+
+-- a row is due at time now: all earlier times are behind, and at none of them since the last row was there another one
+pub record IsDue (r : Rates) (n cost : ℕ → ℕ) (level : Firing → ℕ) (width : ℕ) (homed : Bool) (past : List Timed) (now : ℕ) (ended started ends until : ℕ → ℕ) (homes : ℕ → Option ℕ) : Type 0 where
+  pub floor : IsFloor r n cost width past now ended started ends until
+  pub rows : AreTimed width (hu_rule r n cost level width homed) past
+  pub later : IsLater past now
+  pub gap : (t : ℕ) → IsLater past t → t < now → (cells : List (Option Firing)) → length cells ≡ width → hu_rule r n cost level width homed past t cells → firings cells ≡ []
+  pub begins : past ≡ [] → now ≡ 0
+  pub homes_are : IsTrue homed → (a j : ℕ) → a < r.actors → (homes a ≡ Some j) ↔ IsSettled past a j
+
+-- time now is done: its row stands, or it has none, and no ready firing can start
+pub record IsDone (r : Rates) (n cost : ℕ → ℕ) (level : Firing → ℕ) (width : ℕ) (homed : Bool) (past : List Timed) (now : ℕ) (ended started ends until : ℕ → ℕ) (homes : ℕ → Option ℕ) : Type 0 where
+  pub floor : IsFloor r n cost width past now ended started ends until
+  pub rows : AreTimed width (hu_rule r n cost level width homed) past
+  pub starts : (i : ℕ) → i < length past → (timed past i).start ≤ now
+  pub gap : (t : ℕ) → IsLater past t → t ≤ now → (cells : List (Option Firing)) → length cells ≡ width → hu_rule r n cost level width homed past t cells → firings cells ≡ []
+  pub homes_are : IsTrue homed → (a j : ℕ) → a < r.actors → (homes a ≡ Some j) ↔ IsSettled past a j
+  pub stuck : IsStuck r n ended started until homes width now homed

@@ -1,7 +1,7 @@
 // Who is at work while rows are made: counts of started firings, and when each actor and each column is through.
 
 ghost use Rattle.std.specs.Prelude.{◌≡◌, ℕ, ◌+◌, ◌<◌, ◌≤◌, ◌^◌, ◌⊎◌, length, slice_index, ◌↔◌, IsTrue, Some};
-ghost use Rattle.sdf_graph.specs.Rates.{rates};
+ghost use Rattle.sdf_graph.specs.Rates.{rates, IsSound};
 ghost use Rattle.sdf_graph.specs.Sequences.{IsEnabled};
 ghost use Rattle.sdf_prec.specs.declared.firing.Firing.{Firing};
 ghost use Rattle.sdf_prec.specs.Costs.{AreCosts};
@@ -11,7 +11,6 @@ ghost use Rattle.sdf_prec.specs.Floor.{AreStarted, IsNextEnd, AreEnded};
 use crate::costs::Costs;
 use crate::firing::Firing;
 use sdf_graph::Counts;
-use sdf_graph::laws::graphs_are_sound;
 
 /// Starts the firings of a row at time `now`.
 pub(crate) fn start(
@@ -69,14 +68,15 @@ fn is_sooner(time: u64, other: Option<u64>) -> bool
 
 /// Ends the firings of the actors that are through by time `now`.
 pub(crate) fn end_by(now: u64, started: &[u32], ends: &[u64], counts: &mut Counts)
+    requires sound { IsSound (rates counts.old.graph) }
     requires started { length started.now ≡ counts.old.graph.actors }
     requires ends { length ends.now ≡ counts.old.graph.actors }
+    requires each { length counts.old.fired ≡ counts.old.graph.actors }
     requires behind { (a : ℕ) → a < counts.old.graph.actors → (slice_index counts.old.fired a ≡ slice_index started.now a) ⊎ (slice_index counts.old.fired a + 1 ≡ slice_index started.now a) }
     requires on { (a : ℕ) → a < counts.old.graph.actors → slice_index counts.old.fired a < slice_index started.now a → IsEnabled (rates counts.old.graph) (slice_index counts.old.fired) a }
     ensures same { counts.new.graph ≡ counts.old.graph }
     ensures ended { AreEnded (rates counts.old.graph) now counts.old.graph.actors (slice_index started.now) (slice_index ends.now) counts.old.fired counts.new.fired }
 {
-    graphs_are_sound();
     for actor in 0..started.len() {
         if counts.fired(actor) < started[actor] && ends[actor] <= now {
             counts.fire(actor);

@@ -2,7 +2,7 @@ use Rattle.std.proofs.Common.{◌≡◌, ◌<◌, ℕ, length, get_or, sym, ◌�
 use Rattle.std.proofs.lemmas.Bool.{ltb-true, lt-ltb}
 use Rattle.std.proofs.lemmas.Option.{same_Some}
 use Rattle.sdf_prec.specs.Trying.{load}
-use Rattle.sdf_prec.proofs.placing.is_lighter.Goals as goal
+use Rattle.sdf_prec.proofs.homing.is_lighter.Goals as goal
 
 pub returns-in-Some : goal.returns-in-Some
 returns-in-Some c =

@@ -1,10 +1,10 @@
-use Rattle.std.proofs.Common.{ℕ, length, get_or, refl, None}
+use Rattle.std.proofs.Common.{ℕ, length, get_or, refl, sym, ◌∙◌, None}
 use Rattle.std.proofs.lemmas.Bool.{false≢true}
 use Rattle.sdf_prec.specs.Trying.{load}
 use Rattle.sdf_prec.specs.Placing.{IsOpen, IsBest}
 use Rattle.sdf_prec.proofs.Bests.{best_new, best_kept}
-use Rattle.sdf_prec.proofs.placing.least_open.Goals.{then-is_open+then-is_lighter, else-is_open, else-is_open-via-then-is_open+else-is_lighter, else-is_open-via-else-is_open}
-use Rattle.sdf_prec.proofs.placing.least_open.Goals as goal
+use Rattle.sdf_prec.proofs.homing.least_open.Goals.{then-is_open+then-is_lighter, else-is_open, else-is_open-via-then-is_open+else-is_lighter, else-is_open-via-else-is_open}
+use Rattle.sdf_prec.proofs.homing.least_open.Goals as goal
 
 pub loop-column-preserved : goal.loop-column-preserved
 loop-column-preserved c =
@@ -14,7 +14,7 @@ loop-column-preserved c =
       | then-is_open+then-is_lighter w ↦ rw w.best-is (best_new i (IsOpen c.args.until.now c.args.now c.args.cells.now) weigh c.loop-column.best c.loop-column.invariant (c.is_open.ensures.0 w.if-is_open.true) (w.is_lighter.ensures.0 w.if-is_lighter.true))
       | else-is_open w ↦ rw w.best-is (best_kept i (IsOpen c.args.until.now c.args.now c.args.cells.now) weigh c.loop-column.best c.loop-column.invariant
           (elim w.else-is_open.branch [
-            | else-is_open-via-then-is_open+else-is_lighter v ↦ λ f h. false≢true (v.is_lighter.ensures.1 h)
-            | else-is_open-via-else-is_open v ↦ λ f h. false≢true (c.is_open.ensures.1 f)
+            | else-is_open-via-then-is_open+else-is_lighter v ↦ λ f h. false≢true (sym v.if-is_lighter.false ∙ v.is_lighter.ensures.1 h)
+            | else-is_open-via-else-is_open v ↦ λ f h. false≢true (sym v.if-is_open.false ∙ c.is_open.ensures.1 f)
           ]))
     ]

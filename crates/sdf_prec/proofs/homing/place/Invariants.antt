@@ -1,7 +1,7 @@
 use Rattle.std.proofs.Common.{length, ◌≤◌, None}
 use Rattle.std.specs.Prelude.{slice_index, slice_index_or}
 use Rattle.sdf_prec.specs.Placing.{IsPlacing, AreWaiting}
-use Rattle.sdf_prec.proofs.placing.place.Given as goal
+use Rattle.sdf_prec.proofs.homing.place.Given as goal
 
 abbrev pub invariant-loop-firing : goal.invariant-loop-firing
 invariant-loop-firing l = record {

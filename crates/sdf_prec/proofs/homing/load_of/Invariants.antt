@@ -1,7 +1,7 @@
 use Rattle.std.proofs.Common.{◌≡◌, ◌≤◌, ◌*◌, None}
 use Rattle.std.specs.Prelude.{slice_index, slice_index_or}
 use Rattle.sdf_prec.specs.Trying.{load}
-use Rattle.sdf_prec.proofs.placing.load_of.Given as goal
+use Rattle.sdf_prec.proofs.homing.load_of.Given as goal
 
 abbrev pub invariant-loop-actor : goal.invariant-loop-actor
 invariant-loop-actor l = record {
