@@ -72,15 +72,15 @@ module _ (r : Rates) (n cost : ℕ → ℕ) (level : Firing → ℕ) (width : �
       back a j (inl x) = x
       back a j (inr (f, e, is)) = absurd (nothing_stands cells none j f e)
 
-pub zeros : (k a : ℕ) → get_or (replicate k 0) a 0 ≡ 0
+pub zeros : (k a : ℕ) → get_or (replicate {A = ℕ} k 0) a 0 ≡ 0
 zeros zero a = refl
 zeros (suc k) zero = refl
 zeros (suc k) (suc a) = zeros k a
 
-pub nones : (k a : ℕ) → get_or (replicate k (None {A = ℕ})) a None ≡ None
-nones zero a = refl
-nones (suc k) zero = refl
-nones (suc k) (suc a) = nones k a
+pub nones : (k a : ℕ) (none : Option ℕ) → none ≡ None → get_or (replicate k none) a None ≡ None
+nones zero a none e = refl
+nones (suc k) zero none e = e
+nones (suc k) (suc a) none e = nones k a none e
 
 -- the first row is due at time 0
 pub due_begins : (r : Rates) (n cost : ℕ → ℕ) (level : Firing → ℕ) (width : ℕ) (homed : Bool) (ended started ends until : ℕ → ℕ) (homes : ℕ → Option ℕ) →

@@ -81,9 +81,6 @@ cell_where (Some g ∷ cells) f (zero, l, e) = (0, ap Some e)
 cell_where (Some g ∷ cells) f (suc p, l, e) = let at = cell_where cells f (p, omega arith, e) in (suc at.0, at.1)
 
 module _ (past : List Timed) where
-  abbrev rows : List (List (Option Firing))
-  rows = cells_of past
-
   rows_length : length (cells_of past) ≡ length past
   rows_length = length-map past (λ (x : Timed). x.cells)
 
@@ -131,13 +128,10 @@ distinct_append xs ys dx dy none p m l k e = go (cases_lt p (length xs)) (cases_
     go (inr a) (inr b) = let same = dy (p - length xs) (m - length xs) (omega (arith, length-append xs ys)) (omega (arith, length-append xs ys)) (sym (right p a) ∙ (e ∙ right m b)) in omega arith
 
 distinct_row : (cells : List (Option Firing)) → ((j m : ℕ) (f : Firing) → get_or cells j None ≡ Some f → get_or cells m None ≡ Some f → j ≡ m) → Distinct (firings cells)
-distinct_row [] once p m l = absurd (omega arith)
+distinct_row [] once = λ p m l. absurd (omega arith)
 distinct_row (None ∷ cells) once = distinct_row cells (λ j m f e g. let same = once (suc j) (suc m) f e g in omega arith)
-distinct_row (Some h ∷ cells) once p m l k e = go p m l k e
+distinct_row (Some h ∷ cells) once = λ p m l k e. go (distinct_row cells (λ j m f e g. let same = once (suc j) (suc m) f e g in omega arith)) p m l k e
   where
-    rest : Distinct (firings cells)
-    rest = distinct_row cells (λ j m f e g. let same = once (suc j) (suc m) f e g in omega arith)
-
     -- the first does not stand again
     again : (p : ℕ) → p < length (firings cells) → h ≡ firing (firings cells) p → ⊥
     again p l e =
@@ -145,11 +139,11 @@ distinct_row (Some h ∷ cells) once p m l k e = go p m l k e
         let same = once 0 (suc at.0) h refl at.1 in
         omega arith
 
-    go : (p m : ℕ) → p < length (h ∷ firings cells) → m < length (h ∷ firings cells) → firing (h ∷ firings cells) p ≡ firing (h ∷ firings cells) m → p ≡ m
-    go zero zero l k e = refl
-    go zero (suc m) l k e = absurd (again m (omega arith) e)
-    go (suc p) zero l k e = absurd (again p (omega arith) (sym e))
-    go (suc p) (suc m) l k e = let same = rest p m (omega arith) (omega arith) e in omega arith
+    go : Distinct (firings cells) → (p m : ℕ) → p < length (h ∷ firings cells) → m < length (h ∷ firings cells) → firing (h ∷ firings cells) p ≡ firing (h ∷ firings cells) m → p ≡ m
+    go rest zero zero l k e = refl
+    go rest zero (suc m) l k e = absurd (again m (omega arith) e)
+    go rest (suc p) zero l k e = absurd (again p (omega arith) (sym e))
+    go rest (suc p) (suc m) l k e = let same = rest p m (omega arith) (omega arith) e in omega arith
 
 -- a firing of a row by the rule was ready
 pub row_ready : (r : Rates) (n cost : ℕ → ℕ) (level : Firing → ℕ) (width : ℕ) (homed : Bool) (past : List Timed) (t : ℕ) (cells : List (Option Firing)) → hu_rule r n cost level width homed past t cells →
@@ -186,14 +180,14 @@ rows_valid r n cost level width homed past now ended started ends until floor ro
     earlier i l f g (j, at) waits =
         let ready = row_ready r n cost level width homed (take i past) (timed past i).start (timed past i).cells (rows i l).by_rule j f at in
         let ended = ready.waits g waits in
-        let m : ended.0 < i = go (row_known (take i past) ended.0 ended.1 g ended.2) in
+        let m : ended.0 < i = go ended.0 (row_known (take i past) ended.0 ended.1 g ended.2) in
         order_of past i ended.0 ended.1 g m (sym (ap (λ (x : Timed). get_or x.cells ended.1 None) (get_or-take i past ended.0 no_row m)) ∙ ended.2)
       where
-        go : {m : ℕ} → m < length (take i past) → m < i
-        go {m} h = omega (arith, length-take i past)
+        go : (m : ℕ) → m < length (take i past) → m < i
+        go m h = omega (arith, length-take i past)
 
     distinct_front : (m : ℕ) → m ≤ length (cells_of past) → Distinct (order (take m (cells_of past)))
-    distinct_front zero h p q l = absurd (omega arith)
+    distinct_front zero h = λ p q l. absurd (omega arith)
     distinct_front (suc m) h = subst Distinct (sym (let e : order (take (m + 1) (cells_of past)) ≡ order (take m (cells_of past)) ++ firings (row (cells_of past) m) = row_order (cells_of past) m (omega arith) in rw add-one at e))
         (distinct_append (order (take m (cells_of past))) (firings (row (cells_of past) m)) (distinct_front m (omega arith))
         (distinct_row (row (cells_of past) m) (λ j k f e g. (floor.once m j m k f (ap (λ (cs : List (Option Firing)). get_or cs j None) (sym (row_of past m)) ∙ e) (ap (λ (cs : List (Option Firing)). get_or cs k None) (sym (row_of past m)) ∙ g)).1))

@@ -6,7 +6,7 @@ use Rattle.std.proofs.lemmas.Bool.{cases_lt, cases_eq}
 use Rattle.sdf_prec.specs.declared.firing.Firing.{Firing}
 use Rattle.sdf_prec.specs.Tables.{firing, no_firing, cell_of}
 use Rattle.sdf_prec.specs.Trying.{IsLeft, IsHomeFor, IsLeast, IsPlace, IsPlaced, load}
-use Rattle.sdf_prec.specs.Placing.{IsPlacing}
+use Rattle.sdf_prec.specs.Placing.{IsOpen, IsNowhere, AreWaiting, IsPlacing}
 
 pub place_alike : (width : ℕ) (free free' : ℕ → Type 0) (weights : ℕ → ℕ) (home : Option ℕ) (j : ℕ) → ((m : ℕ) → free m → free' m) → ((m : ℕ) → free' m → free m) →
     IsPlace width free weights home j → IsPlace width free' weights home j
@@ -292,3 +292,71 @@ placing_begins actors width weight idle queue cells homes none wide all inside =
     go : (a j : ℕ) → IsHomeFor (λ a. get_or homes a None) queue cells 0 a j → get_or homes a None ≡ Some j
     go a j (inl e) = e
     go a j (inr (m, l, e, is)) = absurd (omega arith)
+
+-- a firing that has no place waits for its home, or for any column
+pub waiting_waits : (until : List ℕ) (now : ℕ) (queue : List Firing) (i : ℕ) (cells : List (Option Firing)) (homes : List (Option ℕ)) → AreWaiting until now queue i cells homes →
+    IsNowhere (length until) (IsOpen until now cells) (get_or homes (firing queue i).actor None) → AreWaiting until now queue (i + 1) cells homes
+waiting_waits until now queue i cells homes s nowhere p l = go (cases_lt p i)
+  where
+    here : (o : Option ℕ) → get_or homes (firing queue i).actor None ≡ o → IsNowhere (length until) (IsOpen until now cells) o →
+        ((j : ℕ) × (get_or cells j None ≡ Some (firing queue i))) ⊎
+        (((k : ℕ) × (get_or homes (firing queue i).actor None ≡ Some k) × (k < length until) × (IsOpen until now cells k → ⊥)) ⊎
+        ((j : ℕ) → j < length until → IsOpen until now cells j → ⊥))
+    here None e none = inr (inr none)
+    here (Some k) e (known, closed) = inr (inl (k, e, known, closed))
+
+    go : (p < i) ⊎ (i ≤ p) → ((j : ℕ) × (get_or cells j None ≡ Some (firing queue p))) ⊎
+        (((k : ℕ) × (get_or homes (firing queue p).actor None ≡ Some k) × (k < length until) × (IsOpen until now cells k → ⊥)) ⊎
+        ((j : ℕ) → j < length until → IsOpen until now cells j → ⊥))
+    go (inl low) = s p low
+    go (inr high) =
+        let same : i ≡ p = omega arith in
+        subst (λ p. ((j : ℕ) × (get_or cells j None ≡ Some (firing queue p))) ⊎
+            (((k : ℕ) × (get_or homes (firing queue p).actor None ≡ Some k) × (k < length until) × (IsOpen until now cells k → ⊥)) ⊎
+            ((j : ℕ) → j < length until → IsOpen until now cells j → ⊥))) same (here (get_or homes (firing queue i).actor None) (λ _. get_or homes (firing queue i).actor None) nowhere)
+
+pub waiting_stands : (until : List ℕ) (now : ℕ) (queue : List Firing) (i : ℕ) (cells : List (Option Firing)) (homes : List (Option ℕ)) (c : ℕ) (weights : ℕ → ℕ) → AreWaiting until now queue i cells homes →
+    IsPlace (length until) (IsOpen until now cells) weights (get_or homes (firing queue i).actor None) c → length cells ≡ length until → AreWaiting until now queue (i + 1) (set cells c (Some (firing queue i))) (set homes (firing queue i).actor (Some c))
+waiting_stands until now queue i cells homes c weights s place wide p l = go (cases_lt p i)
+  where
+    there : get_or (set cells c (Some (firing queue i))) c None ≡ Some (firing queue i)
+    there = get_or-set_same cells c (Some (firing queue i)) None (omega (arith, place.known))
+
+    -- an open column was open before
+    was_open : (j : ℕ) → IsOpen until now (set cells c (Some (firing queue i))) j → IsOpen until now cells j
+    was_open j (low, none) = at (cases_eq j c)
+      where
+        at : (j ≡ c) ⊎ (j ≡ c → ⊥) → IsOpen until now cells j
+        at (inl e) = absurd (none-some (firing queue i) (sym none ∙ (ap (λ j. get_or (set cells c (Some (firing queue i))) j None) e ∙ there)))
+        at (inr ne) = (low, sym (get_or-set_other cells c j (Some (firing queue i)) None ne) ∙ none)
+
+    -- a firing whose home is not open has another home than the column
+    old_home : (k : ℕ) → get_or homes (firing queue p).actor None ≡ Some k → (IsOpen until now cells k → ⊥) → get_or (set homes (firing queue i).actor (Some c)) (firing queue p).actor None ≡ Some k
+    old_home k e closed = at (cases_eq (firing queue p).actor (firing queue i).actor)
+      where
+        at : ((firing queue p).actor ≡ (firing queue i).actor) ⊎ ((firing queue p).actor ≡ (firing queue i).actor → ⊥) → get_or (set homes (firing queue i).actor (Some c)) (firing queue p).actor None ≡ Some k
+        at (inr ne) = get_or-set_other homes (firing queue i).actor (firing queue p).actor (Some c) None ne ∙ e
+        at (inl same) = absurd (chosen place.chosen)
+          where
+            its : get_or homes (firing queue i).actor None ≡ Some k
+            its = ap (λ a. get_or homes a None) (sym same) ∙ e
+
+            chosen : (get_or homes (firing queue i).actor None ≡ Some c) ⊎ ((get_or homes (firing queue i).actor None ≡ None) × IsLeast (length until) (IsOpen until now cells) weights c) → ⊥
+            chosen (inl g) = closed (subst (IsOpen until now cells) (sym (same_Some k c (sym its ∙ g))) place.is_free)
+            chosen (inr (none, _)) = none-some k (sym none ∙ its)
+
+    kept : ((j : ℕ) × (get_or cells j None ≡ Some (firing queue p))) ⊎
+        (((k : ℕ) × (get_or homes (firing queue p).actor None ≡ Some k) × (k < length until) × (IsOpen until now cells k → ⊥)) ⊎
+        ((j : ℕ) → j < length until → IsOpen until now cells j → ⊥)) →
+        ((j : ℕ) × (get_or (set cells c (Some (firing queue i))) j None ≡ Some (firing queue p))) ⊎
+        (((k : ℕ) × (get_or (set homes (firing queue i).actor (Some c)) (firing queue p).actor None ≡ Some k) × (k < length until) × (IsOpen until now (set cells c (Some (firing queue i))) k → ⊥)) ⊎
+        ((j : ℕ) → j < length until → IsOpen until now (set cells c (Some (firing queue i))) j → ⊥))
+    kept (inr (inr all)) = absurd (all c place.known place.is_free)
+    kept (inr (inl (k, e, known, closed))) = inr (inl (k, old_home k e closed, known, λ o. closed (was_open k o)))
+    kept (inl (j, e)) = inl (j, get_or-set_other cells c j (Some (firing queue i)) None (λ same. none-some (firing queue p) (sym place.is_free.1 ∙ (ap (λ j. get_or cells j None) (sym same) ∙ e))) ∙ e)
+
+    go : (p < i) ⊎ (i ≤ p) → ((j : ℕ) × (get_or (set cells c (Some (firing queue i))) j None ≡ Some (firing queue p))) ⊎
+        (((k : ℕ) × (get_or (set homes (firing queue i).actor (Some c)) (firing queue p).actor None ≡ Some k) × (k < length until) × (IsOpen until now (set cells c (Some (firing queue i))) k → ⊥)) ⊎
+        ((j : ℕ) → j < length until → IsOpen until now (set cells c (Some (firing queue i))) j → ⊥))
+    go (inl low) = kept (s p low)
+    go (inr high) = let same : i ≡ p = omega arith in inl (c, there ∙ ap (λ p. Some (firing queue p)) same)

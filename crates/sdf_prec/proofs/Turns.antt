@@ -45,11 +45,11 @@ module _ (r : Rates) (n cost : ℕ → ℕ) (level : Firing → ℕ) (width : �
       (IsTrue homed → (a j : ℕ) → a < r.actors → (homes a ≡ Some j) ↔ IsSettled past a j) → IsStuck r n ended started until homes width t homed →
       (cells : List (Option Firing)) → hu_rule r n cost level width homed past t cells → firings cells ≡ []
   stuck_empty true past t ended started ends until homes w homes_are stuck cells row = homed_empty r n cost level width past t ended started ends until w s homes (homes_are refl) stuck cells row
-  stuck_empty false past t ended started ends until homes w homes_are stuck cells row = free_empty r n cost level width past t ended started ends until w s (λ f h. go (stuck f h)) cells row
+  stuck_empty false past t ended started ends until homes w homes_are stuck cells row = free_empty r n cost level width past t ended started ends until w s (λ f h. go f (stuck f h)) cells row
     where
-      go : {f : Firing} → ((k : ℕ) × IsTrue false × (homes f.actor ≡ Some k) × (t < until k)) ⊎ ((j : ℕ) → j < width → t < until j) → (j : ℕ) → j < width → t < until j
-      go (inl (k, no_way, _)) = absurd (false≢true no_way)
-      go (inr all) = all
+      go : (f : Firing) → ((k : ℕ) × IsTrue false × (homes f.actor ≡ Some k) × (t < until k)) ⊎ ((j : ℕ) → j < width → t < until j) → (j : ℕ) → j < width → t < until j
+      go f (inl x) = absurd (false≢true x.1)
+      go f (inr all) = all
 
   module _ (homed : Bool) (past : List Timed) (now : ℕ) (ended started ends until : ℕ → ℕ) (homes : ℕ → Option ℕ) (d : IsDue r n cost level width homed past now ended started ends until homes)
       (started' ends' until' : ℕ → ℕ) (homes' : ℕ → Option ℕ) (cells : List (Option Firing)) (by_rule : hu_rule r n cost level width homed past now cells) where

@@ -11,6 +11,7 @@ use Rattle.sdf_prec.specs.Floor.{IsNextReady, AreStarted, IsStuck}
 
 -- what rows are made of
 pub record IsJob (actors : ℕ) (firings : List ℕ) (levels : Numbered) (costs weights : List ℕ) : Type 0 where
+  pub actors_few : actors ≤ 64
   pub firings_all : length firings ≡ actors
   pub few : sum firings ≤ 65536
   pub levels_of : levels.firings ≡ firings

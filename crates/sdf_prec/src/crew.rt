@@ -71,9 +71,11 @@ fn next_cells(
         job.levels,
     )?;
     if job.homed {
-        place(alloc, &queue, &crew.until, now, job.weights, &mut crew.homes)
+        let cells = place(alloc, &queue, &crew.until, now, job.weights, &mut crew.homes)?;
+        Ok(cells)
     } else {
-        fill(alloc, &queue, &crew.until, now)
+        let cells = fill(alloc, &queue, &crew.until, now)?;
+        Ok(cells)
     }
 }
 

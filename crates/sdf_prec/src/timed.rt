@@ -24,6 +24,7 @@ impl Model for TimedRow {
 }
 
 /// Whether nothing stands in a row.
+#[tactic(auto, using(crate::proofs::Crews::nothing_stands))]
 pub(crate) fn is_empty(cells: &[Option<Firing>]) -> bool
     ensures { IsTrue result ↔ (firings cells.now ≡ []) }
 {

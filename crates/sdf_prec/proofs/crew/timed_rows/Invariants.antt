@@ -6,8 +6,8 @@ use Rattle.sdf_prec.specs.Floor.{IsDone}
 use Rattle.sdf_prec.specs.Crew.{IsCrew}
 use Rattle.sdf_prec.proofs.crew.timed_rows.Given as goal
 
-abbrev pub invariant-loop-now : goal.invariant-loop-now
-invariant-loop-now l = record {
+abbrev pub invariant-loop-next : goal.invariant-loop-next
+invariant-loop-next l = record {
   graph : l.crew.counts.graph ≡ l.graph;
   columns : length l.crew.until.items ≡ l.width;
   crew : IsCrew l.width l.now l.crew.counts l.crew.started.items l.crew.ends.items l.crew.until.items l.crew.homes.items;
@@ -15,5 +15,5 @@ invariant-loop-now l = record {
       (slice_index l.crew.counts.fired) (slice_index l.crew.started.items) (slice_index l.crew.ends.items) (slice_index l.crew.until.items) (λ a. slice_index_or l.crew.homes.items a None);
 }
 
-abbrev pub decreases-loop-now : goal.decreases-loop-now
-decreases-loop-now l = sum l.job.firings.now - sum l.crew.counts.fired
+abbrev pub decreases-loop-next : goal.decreases-loop-next
+decreases-loop-next l = sum l.job.firings.now - sum l.crew.counts.fired
