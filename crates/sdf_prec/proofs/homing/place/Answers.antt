@@ -22,7 +22,13 @@ loop-firing-preserved c =
     let found = subst (λ k. MatchOption c.column_for.result (IsNowhere (length u) (IsOpen u c.args.now cells) home) (IsPlace (length u) (IsOpen u c.args.now cells) (load k weight (λ a. get_or homes a None)) home)) v.placed.all
         (subst (λ cs. MatchOption c.column_for.result (IsNowhere (length u) (IsOpen u c.args.now cs) home) (IsPlace (length u) (IsOpen u c.args.now cs) (load (length homes) weight (λ a. get_or homes a None)) home)) c.deref.ensures.value c.column_for.ensures) in
     elim c.match-column_for.branch [
-      | in-Some w ↦ ?
+      | in-Some w ↦
+          let place = MatchOption-at_some _ _ w.in-Some.column w.in-Some.is found in
+          rw (w.homes-is, w.cells-is) (record {
+            placed = placing_stands (length c.args.homes.now) (length u) weight (λ j. get_or u j 0 ≤ c.args.now) (λ a. get_or c.args.homes.now a None) queue i cells homes c.requires.once c.loop-firing-test.true v.placed
+                w.in-Some.column place (c.requires.known i c.loop-firing-test.true);
+            waiting = waiting_stands u c.args.now queue i cells homes w.in-Some.column (load (length c.args.homes.now) weight (λ a. get_or homes a None)) v.waiting place v.placed.wide;
+          })
       | in_default w ↦
           let nowhere = MatchOption-at_none _ _ w.in_default.is found in
           rw (w.homes-is, w.cells-is) (record {
