@@ -3,6 +3,8 @@ use Rattle.std.proofs.lemmas.List.{length-replicate}
 use Rattle.sdf_graph.specs.Rates.{Shape, rates}
 use Rattle.sdf_graph.specs.Tally.{Tally}
 use Rattle.sdf_prec.specs.Crew.{IsCrew}
+use Rattle.sdf_prec.specs.Numbers.{number}
+use Rattle.sdf_prec.proofs.Ends.{all_stand, rows_valid}
 use Rattle.sdf_prec.proofs.Shifts.{few_ended}
 use Rattle.sdf_prec.proofs.crew.timed_rows.Goals as goal
 
@@ -45,7 +47,23 @@ loop-next-preserved c =
     }
 
 pub returns-clause-rows : goal.returns-clause-rows
-returns-clause-rows c = ?
+returns-clause-rows c =
+    let v = c.loop-next.invariant in
+    let its = ap (λ (g : Shape). g.actors) v.graph in
+    let sound = c.graphs_are_sound.ensures c.args.graph.now c.channels.ensures.shape in
+    let through = rw c.deref.ensures.value at c.in_default.ensures in
+    record {
+      rows_are = v.done.rows;
+      all = all_stand c.the_next_may_fire.ensures.some c.the_next_may_fire.ensures.may_fire c.counts_grow.ensures.last c.counts_grow.ensures.front _ _ _ _ _ _ _ _ _ _ _ _ c.requires.pass.0 sound c.requires.width c.requires.pass.1
+          v.done.floor v.done.stuck (λ a l. through a (omega (arith, l, v.crew.ends_all, its)));
+    }
 
 pub returns-clause-valid : goal.returns-clause-valid
-returns-clause-valid c = ?
+returns-clause-valid c =
+    let v = c.loop-next.invariant in
+    let its = ap (λ (g : Shape). g.actors) v.graph in
+    let sound = c.graphs_are_sound.ensures c.args.graph.now c.channels.ensures.shape in
+    let through = rw c.deref.ensures.value at c.in_default.ensures in
+    let all = all_stand c.the_next_may_fire.ensures.some c.the_next_may_fire.ensures.may_fire c.counts_grow.ensures.last c.counts_grow.ensures.front _ _ _ _ _ _ _ _ _ _ _ _ c.requires.pass.0 sound c.requires.width c.requires.pass.1
+        v.done.floor v.done.stuck (λ a l. through a (omega (arith, l, v.crew.ends_all, its))) in
+    rows_valid _ _ _ (number c.args.job.now.levels.now) _ c.args.job.now.homed _ _ _ _ _ _ v.done.floor v.done.rows all
