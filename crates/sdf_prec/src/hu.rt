@@ -3,7 +3,8 @@
 ghost use Rattle.std.specs.Prelude.{◌≡◌, ℕ, ◌*◌, length, slice_index, IfOk, MatchResult};
 ghost use Rattle.sdf_graph.specs.Rates.{rates};
 ghost use Rattle.sdf_sched.specs.Period.{IsPeriodOf};
-ghost use Rattle.sdf_prec.specs.Blocks.{block, IsFactor, IsWorkers, IsShort, IsSizeFault};
+ghost use Rattle.sdf_prec.specs.Blocks.{block, IsSizeFault};
+ghost use Rattle.sdf_prec.specs.Accepting.{IsSize};
 ghost use Rattle.sdf_prec.specs.Costs.{AreCosts};
 ghost use Rattle.sdf_prec.specs.HuTables.{IsHuTable};
 
@@ -48,7 +49,7 @@ pub fn hu(
     requires period { IsPeriodOf (rates graph.now) period.now }
     requires costs { AreCosts graph.now.actors costs.now }
     ensures { MatchResult result
-        (λ t. IsFactor j × IsWorkers m × IsShort j period.now.repetitions × IsHuTable (rates graph.now) (slice_index (block j period.now.repetitions)) (slice_index costs.now) m homed t)
+        (λ t. IsSize j m period.now.repetitions × IsHuTable (rates graph.now) (slice_index (block j period.now.repetitions)) (slice_index costs.now) m homed t)
         (IsSizeFault j m period.now.repetitions) }
 {
     graph.channels();
