@@ -24,6 +24,7 @@ use std::alloc::{AllocError, Global};
 
 /// What rows are made of: how often each actor fires, levels, costs, what each actor's firings cost together, and whether
 /// actors have homes.
+#[derive(Drop)]
 pub(crate) struct Job<'a> {
     pub(crate) firings: &'a [u32],
     pub(crate) levels: &'a Levels,

@@ -2,7 +2,6 @@
 
 use crate::costs::Costs;
 use crate::fault::PrecFault;
-use crate::firing::Firing;
 use crate::hu::hu;
 use crate::table::Table;
 use sdf_graph::{Channel, Graph};
@@ -45,12 +44,15 @@ fn table(
     Ok(hu(alloc, graph, &period, j, m, homed, &costs))
 }
 
-/// The cells, row by row, each as an actor's number, or 9.
+/// The cells, row by row, each as its actor, and 9 where nothing stands.
 fn actors_of(alloc: Global, table: &Table) -> Result<Vec<usize>, Fail> {
     let mut actors = Vec::new(alloc);
     for i in 0..table.rows() {
         for cell in table.row(i) {
-            actors.push(cell.map_or(9, |firing| firing.actor))?;
+            actors.push(match cell {
+                Some(firing) => firing.actor,
+                None => 9,
+            })?;
         }
     }
     Ok(actors)
