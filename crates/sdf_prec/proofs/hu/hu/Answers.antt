@@ -16,7 +16,7 @@ weights_of-requires c =
     let q = c.args.period.now.repetitions in
     let firings_is : c.in_ok-firings.firings.items ≡ block c.args.j q = c.in_ok-firings.ensures ∙ ap (block c.args.j) c.repetitions-2.ensures in
     let all : length c.in_ok-firings.firings.items ≡ c.args.graph.now.actors = ap length firings_is ∙ (block_length c.args.j q ∙ c.requires.period.least.is.all) in
-    rw c.deref.ensures.value (subst (λ k. AreCosts k c.args.costs.now) (sym all) c.requires.costs)
+    rw c.deref.ensures.value (record { costs = subst (λ k. AreCosts k c.args.costs.now) (sym all) c.requires.costs })
 
 pub timed_rows-requires-clause-job : goal.timed_rows-requires-clause-job
 timed_rows-requires-clause-job c =
