@@ -77,10 +77,10 @@ zeros zero a = refl
 zeros (suc k) zero = refl
 zeros (suc k) (suc a) = zeros k a
 
-pub nones : (k a : ℕ) (none : Option ℕ) → none ≡ None → get_or (replicate k none) a None ≡ None
-nones zero a none e = refl
-nones (suc k) zero none e = e
-nones (suc k) (suc a) none e = nones k a none e
+pub nones : (k a : ℕ) (o : Option ℕ) → o ≡ None → get_or (replicate k o) a None ≡ None
+nones zero a o e = refl
+nones (suc k) zero o e = e
+nones (suc k) (suc a) o e = nones k a o e
 
 -- the first row is due at time 0
 pub due_begins : (r : Rates) (n cost : ℕ → ℕ) (level : Firing → ℕ) (width : ℕ) (homed : Bool) (ended started ends until : ℕ → ℕ) (homes : ℕ → Option ℕ) →

@@ -18,7 +18,7 @@ use Rattle.sdf_prec.specs.Floor.{IsNextReady, IsFloor, IsStuck}
 use Rattle.sdf_prec.proofs.Floors.{row_known, column_known, none_busy}
 use Rattle.sdf_prec.proofs.RowCells.{stands_at}
 use Rattle.sdf_prec.proofs.RowMarks.{row_order, in_order}
-use Rattle.sdf_prec.proofs.Tests.{stands_in}
+use Rattle.sdf_prec.proofs.Sufficing.{stands_in}
 
 -- capacities that no channel passes in a sequence
 abbrev wide_cap : Rates → List ℕ → ℕ → ℕ
