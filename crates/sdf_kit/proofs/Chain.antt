@@ -1,5 +1,5 @@
 -- A filter between rates is a filter at the higher rate, after one that interpolates and before one that decimates.
-use Rattle.std.proofs.Common.{◌≡◌, ℕ, suc, ◌+◌, ◌*◌, ◌<◌, ◌≤◌, ℤ, pos, List, length, map, get_or, refl, sym, ◌∙◌, ap, arith}
+use Rattle.std.proofs.Common.{◌≡◌, ℕ, suc, ◌+◌, ◌*◌, ◌<◌, ◌≤◌, ℤ, pos, List, length, map, sym, ◌∙◌, ap, arith}
 use Rattle.std.specs.List.{range_with_len}
 use Rattle.std.proofs.lemmas.List.FromFn.{fill_by_all, length-map-range_with_len, get_or-map-range_with_len}
 use Rattle.std.proofs.Math.Nat.{suc-mul, mul-le-mul_right, mul_right_comm, mul-one}
@@ -8,7 +8,7 @@ use Rattle.sdf_kit.specs.Fir.{Filter, convolved, filtered}
 use Rattle.sdf_kit.specs.PutsFit.{sum_rates, sum_ones}
 use Rattle.sdf_kit.specs.Formulas.{formula_list, FirIsChain}
 use Rattle.sdf_kit.specs.declared.kit.Kit.TheVariants.{Fir, Decimate, Interpolate}
-use Rattle.sdf_kit.proofs.Weighted.{weighted, weighted_moved, convolved_is}
+use Rattle.sdf_kit.proofs.Weighted.{weighted_moved, convolved_is}
 use Rattle.sdf_kit.proofs.Upsampled.{upsampled_at}
 
 pub same_maps : (f g : ℕ → ℤ) (n : ℕ) → ((k : ℕ) → k < n → f k ≡ g k) → map f (range_with_len 0 n) ≡ map g (range_with_len 0 n)

@@ -1,8 +1,8 @@
 -- Where a sum of products is within 32 bits.
-use Rattle.std.proofs.Common.{refl, sym, ap, ◌∙◌, zero, negsuc, ◌≡◌, ◌≤◌, ◌<◌, ℕ, suc, pos, length, ◌+◌, ◌*◌, ℤ, ◌+ℤ◌, ◌*ℤ◌, List, [], ◌∷◌, unsigned_abs, w32, arith}
+use Rattle.std.proofs.Common.{refl, sym, ap, ◌∙◌, zero, negsuc, ◌≡◌, ◌≤◌, ℕ, suc, pos, length, ◌+◌, ◌*◌, ℤ, ◌+ℤ◌, ◌*ℤ◌, List, [], ◌∷◌, unsigned_abs, w32, arith}
 use Rattle.std.proofs.Math.IntN.{suc_ℤ, pred_ℤ, suc_ℤ-*ℤ, pred_ℤ-*ℤ, zero-*ℤ}
 use Rattle.std.proofs.lemmas.Int.{ints, int_wrap_fits, fits_signed_from_abs, unsigned_abs-mul}
-use Rattle.std.proofs.Math.Nat.{mul-le-mul_left, mul-le-mul_right, add-mul}
+use Rattle.std.proofs.Math.Nat.{mul-le-mul_left, add-mul}
 use Rattle.sdf_kit.specs.Dots.{wrap, dot, total_abs, AreWithin, joined}
 use Rattle.sdf_kit.proofs.Settling.{abs_add}
 

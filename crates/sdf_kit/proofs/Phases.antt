@@ -161,9 +161,9 @@ module _ (taps : List ℤ) (up : ℕ) (some_up : 1 ≤ up) (x : List ℤ) (pad w
 
   same : (k : ℕ) → k < width → get_or h (width - 1 - k) (pos 0) *ℤ get_or w (width - 1 - k) (pos 0) ≡ branch_term taps x up at k
   same k l = elim (less_or k (keep + 1)) [
-      inl m ↦ (let a = tap k l in let b = seen k (omega arith) in rw (a, b) refl)
+    | inl m ↦ (let a = tap k l in let b = seen k (omega arith) in rw (a, b) refl)
     | inr m ↦ (ap (λ z. z *ℤ get_or w (width - 1 - k) (pos 0)) (tap k l ∙ past k m) ∙ zero-*ℤ (get_or w (width - 1 - k) (pos 0))) ∙
-      sym (ap (λ z. z *ℤ get_or x (at / up - k) (pos 0)) (past k m) ∙ zero-*ℤ (get_or x (at / up - k) (pos 0)))
+        sym (ap (λ z. z *ℤ get_or x (at / up - k) (pos 0)) (past k m) ∙ zero-*ℤ (get_or x (at / up - k) (pos 0)))
   ]
 
   pub window_dot : dot (branch taps up (t % up) width) (take width (drop (t / up) (padded pad x))) ≡ convolved taps (upsampled up x) at

@@ -1,16 +1,15 @@
 -- Windows: parts of samples, and dot products with them.
-use Rattle.std.proofs.Common.{◌≡◌, ℕ, zero, suc, ◌+◌, ◌-◌, ◌*◌, ◌^◌, ◌<◌, ◌≤◌, ℤ, pos, negsuc, ◌+ℤ◌, ◌-ℤ◌, ◌*ℤ◌, List, [], ◌∷◌, ◌++◌, length, map, take, drop, replicate, get_or, unsigned_abs, FitsSigned, Bool, true, false, w32, to_z, of_z, refl, sym, ap, subst, ◌∙◌, arith, ⊎_elim}
-use Rattle.std.specs.Int.{w16, int_shr, int_div_euclid}
+use Rattle.std.proofs.Common.{◌≡◌, ℕ, zero, suc, ◌+◌, ◌-◌, ◌*◌, ◌<◌, ◌≤◌, ℤ, pos, negsuc, ◌+ℤ◌, ◌-ℤ◌, ◌*ℤ◌, List, [], ◌∷◌, ◌++◌, length, map, take, drop, replicate, get_or, unsigned_abs, FitsSigned, Bool, true, false, w32, to_z, of_z, refl, sym, ap, subst, ◌∙◌, arith, ⊎_elim}
+use Rattle.std.specs.Int.{w16, int_shr}
 use Rattle.std.proofs.lemmas.Int.{ints, fits_signed_from_abs, to_z-of_z, SFits-int_wrap}
 use Rattle.std.specs.Simd.Lanes.{Each1}
 use Rattle.sdf_kit.proofs.Branching.{each1}
 use Rattle.std.proofs.lemmas.Bool.{cases_lt, true≢false, false≢true}
 use Rattle.std.proofs.lemmas.Simd.{length-zip2}
-use Rattle.std.proofs.lemmas.List.{length-take-le, length-take, length-drop, length-append, length-replicate, length-map, get_or-take, get_or-drop, get_or-replicate, get_or_append_left, get_or-append-add, get_or-append_right, ext_get_or, take-take, drop-take, map-id, map-append}
+use Rattle.std.proofs.lemmas.List.{length-take-le, length-drop, length-append, length-replicate, length-map, get_or-take, get_or-drop, get_or-replicate, get_or_append_left, get_or-append_right, ext_get_or}
 use Rattle.sdf_kit.specs.Dots.{AreWithin, joined, dot, total_abs, wrap}
 use Rattle.sdf_kit.specs.Window.{part_as, AreHeld, held, AreFit}
 use Rattle.sdf_kit.specs.declared.window.Part.TheVariants.{Whole, High, Low}
-use Rattle.sdf_kit.specs.declared.window.Part.{Part}
 use Rattle.sdf_kit.proofs.Exact.{bound, exact, split_exact}
 
 drop_joined : (n : ℕ) (a b : List ℤ) → length a ≡ length b → drop n (joined a b) ≡ joined (drop n a) (drop n b)

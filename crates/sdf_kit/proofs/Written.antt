@@ -1,13 +1,13 @@
 -- Outputs that are written branch by branch, and firings that are done block by block.
-use Rattle.std.proofs.Common.{◌≡◌, ◌≢◌, ℕ, zero, suc, ◌+◌, ◌-◌, ◌*◌, ◌/◌, ◌%◌, ◌<◌, ◌≤◌, ℤ, pos, List, [], ◌∷◌, length, take, drop, get_or, set, refl, sym, ap, subst, ◌∙◌, arith, ⊎_elim}
-use Rattle.std.proofs.lemmas.Bool.{cases_lt, cases_eq}
-use Rattle.std.proofs.lemmas.Nat.{div-mul-add, mod-mul-add, div-add-mod', mod_below, div_below}
+use Rattle.std.proofs.Common.{◌≡◌, ◌≢◌, ℕ, suc, ◌+◌, ◌*◌, ◌/◌, ◌%◌, ◌<◌, ◌≤◌, ℤ, pos, List, [], ◌∷◌, length, take, drop, get_or, set, refl, sym, ap, subst, ◌∙◌, arith, ⊎_elim}
+use Rattle.std.proofs.lemmas.Bool.{cases_lt}
+use Rattle.std.proofs.lemmas.Nat.{mod-mul-add, div-add-mod', mod_below, div_below}
 use Rattle.std.proofs.lemmas.List.{length-set, get_or-set_same, get_or-set_other}
 use Rattle.sdf_kit.specs.Samples.{settled}
 use Rattle.sdf_kit.specs.Dots.{dot}
 use Rattle.sdf_kit.specs.Branches.{branch_at, branch_output}
 use Rattle.sdf_kit.specs.declared.branches.Branches.{Branches}
-use Rattle.std.proofs.Math.Nat.{add-mul, suc-mul, mul-le-mul_right, mul_comm, mul_right_comm, add-mul-mod_self_right, add-mul-div_right}
+use Rattle.std.proofs.Math.Nat.{add-mul, suc-mul, mul-le-mul_right, mul_right_comm, add-mul-mod_self_right, add-mul-div_right}
 
 -- the first m outputs of the branch of place j are written, and nothing else is changed
 pub record IsPut (f : ℕ → ℤ) (up j : ℕ) (old new : List ℤ) (m : ℕ) : Type 0 where

@@ -9,8 +9,8 @@ ghost use Rattle.sdf_kit.specs.Window.{part_as, AreFit};
 
 use crate::arithmetic::{settle, settle_small};
 use crate::dots::{dot, dots};
-use std::marker::Model;
 use sdf_limits::MOST_SHIFT;
+use std::marker::Model;
 
 /// Samples of a window.
 pub(crate) const ROOM: usize = 2048;
@@ -37,8 +37,7 @@ impl Model for Window {
 
 impl Window {
     /// A window of no samples.
-    pub(crate) fn new() -> Window
-    {
+    pub(crate) fn new() -> Window {
         Window {
             high: [0; ROOM],
             low: [0; ROOM],

@@ -1,4 +1,4 @@
-use Rattle.std.proofs.Common.{◌∙◌, ◌/◌, ◌^◌, ◌≤◌, arith}
+use Rattle.std.proofs.Common.{◌/◌, ◌^◌, ◌≤◌, arith}
 use Rattle.sdf_kit.proofs.Settling.{power_small, half_small, shifted_small}
 use Rattle.sdf_kit.proofs.arithmetic.settle_small.Goals as goal
 

@@ -1,5 +1,5 @@
-use Rattle.std.proofs.Common.{◌≤◌, ◌*◌, length, map, to_z, w32, arith}
-use Rattle.sdf_kit.proofs.LaneTotals.{nothing, next, whole_dot}
+use Rattle.std.proofs.Common.{map, to_z, w32}
+use Rattle.sdf_kit.proofs.LaneTotals.{nothing, next}
 use Rattle.sdf_kit.proofs.dots.dot.Goals as goal
 
 pub chunks-init : goal.chunks-init

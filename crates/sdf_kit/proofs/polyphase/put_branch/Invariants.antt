@@ -1,4 +1,4 @@
-use Rattle.std.proofs.Common.{ℕ, ◌+◌, ◌-◌, ◌*◌, ◌≤◌, ℤ, length, take, drop}
+use Rattle.std.proofs.Common.{◌+◌, ◌-◌, ◌*◌, ◌≤◌, length, take, drop}
 use Rattle.sdf_kit.specs.Samples.{settled}
 use Rattle.sdf_kit.specs.Dots.{dot}
 use Rattle.sdf_kit.proofs.Written.{IsPut}

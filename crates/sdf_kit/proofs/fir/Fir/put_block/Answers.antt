@@ -1,4 +1,4 @@
-use Rattle.std.proofs.Common.{◌≡◌, ◌∙◌, ◌+◌, ◌-◌, ◌*◌, ◌++◌, ℕ, List, ℤ, length, map, replicate, pos, ap, sym, subst}
+use Rattle.std.proofs.Common.{◌≡◌, ◌∙◌, ◌-◌, ◌*◌, ◌++◌, ℕ, List, ℤ, length, map, replicate, pos, ap, sym, subst}
 use Rattle.std.specs.List.{range_with_len}
 use Rattle.sdf_kit.specs.Fir.{Filter, kept_len, run_put}
 use Rattle.sdf_kit.specs.Branches.{branch_output}

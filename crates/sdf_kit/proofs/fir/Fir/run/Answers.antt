@@ -1,6 +1,5 @@
 use Rattle.std.proofs.Common.{◌≡◌, ◌∙◌, ◌+◌, ◌-◌, ◌*◌, ◌≤◌, ◌++◌, ℕ, List, ℤ, length, take, drop, ap, sym, subst, arith}
 use Rattle.sdf_kit.specs.Fir.{Filter, kept_len, run_put}
-use Rattle.sdf_kit.specs.Kept.{kept_next}
 use Rattle.sdf_kit.proofs.Blocks.{IsDone, round_more, all_kept, all_done}
 use Rattle.sdf_kit.proofs.fir.Fir.run.Goals as goal
 
@@ -22,7 +21,7 @@ rounds-preserved c =
     outputs ∙ (ap (λ (g : Filter). run_put g (done + now - done) c.items.result.now block) (sym c.self.view_is) ∙
     (ap (λ n. run_put f n c.items.result.now block) back ∙ ap (λ k. run_put f now k block) c.items.ensures.all)) in
     let next = round_more f c.self.invariant.filter.up.0 c.self.invariant.filter.down.0 c.args.kept.now c.args.taken.now c.rounds.kept c.rounds.put c.put_block.new.put c.args.many done now was long size
-        (omega (arith, c.min.ensures, c.rounds-test.true)) value in
+    (omega (arith, c.min.ensures, c.rounds-test.true)) value in
     subst (λ (g : Filter). IsDone g c.args.kept.now c.args.taken.now c.slide.new.self after c.args.many (done + now)) c.self.view_is
     (subst (λ k. IsDone f c.args.kept.now c.args.taken.now k after c.args.many (done + now)) (sym c.slide.ensures) next)
 

@@ -1,11 +1,11 @@
-use Rattle.std.proofs.Common.{◌≡◌, ◌∙◌, ◌+◌, ◌*◌, ◌≤◌, ◌+ℤ◌, ◌*ℤ◌, List, [], ◌∷◌, ℕ, ℤ, pos, length, take, drop, get_or, to_z, of_z, w32, FitsSigned, unsigned_abs, sym, ap, subst, refl, arith}
+use Rattle.std.proofs.Common.{◌≡◌, ◌∙◌, ◌+◌, ◌*◌, ◌≤◌, ◌+ℤ◌, ◌*ℤ◌, [], ◌∷◌, pos, length, take, drop, get_or, to_z, of_z, w32, FitsSigned, unsigned_abs, sym, ap, subst, refl, arith}
 use Rattle.std.specs.Int.{w16}
 use Rattle.std.specs.Simd.Lanes.{Each1}
 use Rattle.std.proofs.lemmas.Int.{to_z-of_z}
 use Rattle.sdf_kit.specs.Samples.{settled}
 use Rattle.sdf_kit.specs.Dots.{dot, wrap, total_abs}
 use Rattle.sdf_kit.specs.Window.{Held, held}
-use Rattle.sdf_kit.proofs.Windows.{length_held, short_front, low_held, whole_value, split_value, read}
+use Rattle.sdf_kit.proofs.Windows.{length_held, short_front, whole_value, split_value, read}
 use Rattle.std.proofs.lemmas.List.{length-take-le}
 use Rattle.sdf_kit.proofs.window.Window.four.Goals as goal
 
