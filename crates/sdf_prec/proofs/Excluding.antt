@@ -1,5 +1,5 @@
 -- Rows that are refused are no valid table within the width.
-use Rattle.std.proofs.Common.{◌≡◌, ℕ, ◌+◌, ◌≤◌, ◌<◌, List, [], ◌∷◌, ◌++◌, length, get_or, take, drop, sym, ap, ◌∙◌, subst, inl, inr, ◌⊎◌, arith, Option, Some, None}
+use Rattle.std.proofs.Common.{◌≡◌, ℕ, ◌+◌, ◌≤◌, ◌<◌, List, [], ◌∷◌, ◌++◌, length, take, drop, sym, ap, ◌∙◌, subst, inl, inr, ◌⊎◌, arith, Option}
 use Rattle.std.proofs.lemmas.List.{take_all, take-append-drop, length-append, get_or_append_left, append_assoc}
 use Rattle.std.proofs.lemmas.List.Concat.{flat_map-append}
 use Rattle.std.proofs.lemmas.Bool.{cases_lt}
@@ -13,7 +13,7 @@ use Rattle.sdf_prec.specs.Refusals.{before, AreNarrow, IsLastNeed, IsFirstLate, 
 use Rattle.sdf_prec.specs.Laws.{FaultsExclude}
 use Rattle.sdf_prec.proofs.Marks.{firings_some, firings_append, last_is}
 use Rattle.sdf_prec.proofs.RowCells.{stands_at}
-use Rattle.sdf_prec.proofs.RowMarks.{in_order, row_order, stands_right}
+use Rattle.sdf_prec.proofs.RowMarks.{in_order, row_order}
 
 -- a firing waits for its last need on a channel
 need_waits : (r : Rates) (f g : Firing) (c : ℕ) → IsLastNeed r f c g → WaitsFor r f g

@@ -1,5 +1,5 @@
 -- What stays when rows are filled up and empty ones are left out.
-use Rattle.std.proofs.Common.{◌≡◌, ℕ, zero, suc, ◌+◌, ◌-◌, ◌≤◌, ◌<◌, Bool, true, false, List, [], ◌∷◌, ◌++◌, length, get_or, take, replicate, map, cond, ltb, sym, ap, ◌∙◌, subst, inl, inr, ◌⊎◌, arith, refl, Option, Some, None}
+use Rattle.std.proofs.Common.{◌≡◌, ℕ, zero, suc, ◌+◌, ◌-◌, ◌≤◌, ◌<◌, List, [], ◌∷◌, ◌++◌, length, take, replicate, map, cond, sym, ap, ◌∙◌, subst, inl, inr, ◌⊎◌, arith, refl, Option, None}
 use Rattle.std.specs.Prelude.{filter}
 use Rattle.std.proofs.lemmas.List.{append-nil, length-append, length-replicate, map-append}
 use Rattle.std.proofs.lemmas.List.Elements.{filter_more}

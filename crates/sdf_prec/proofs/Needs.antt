@@ -1,12 +1,11 @@
 -- What firings need is there: a least number of firings, and balance over a block.
-use Rattle.std.proofs.Common.{◌≡◌, ℕ, zero, suc, ◌+◌, ◌-◌, ◌*◌, ◌≤◌, ◌<◌, List, length, get_or, sum, sym, ap, ◌∙◌, subst, inl, inr, ◌⊎◌, arith, refl}
+use Rattle.std.proofs.Common.{◌≡◌, ℕ, zero, suc, ◌+◌, ◌-◌, ◌*◌, ◌≤◌, ◌<◌, List, length, get_or, sum, sym, ap, ◌∙◌, subst, inl, inr, ◌⊎◌, arith}
 use Rattle.std.proofs.Math.Nat.{mul-le-mul_left}
 use Rattle.std.proofs.lemmas.Bool.{cases_lt, cases_eq}
-use Rattle.sdf_graph.specs.Rates.{Rates, IsSound, Shape, IsShape, IsCycle, rates, channel, sum_to, rate_at}
+use Rattle.sdf_graph.specs.Rates.{Rates, IsSound, IsCycle, rates, channel, sum_to, rate_at}
 use Rattle.sdf_graph.specs.Sequences.{IsPeriod}
 use Rattle.sdf_graph.proofs.Cycles.{sum_to_cycles}
 use Rattle.sdf_prec.specs.Blocks.{block}
-use Rattle.sdf_prec.specs.Precedence.{IsNeeded}
 use Rattle.sdf_prec.specs.Laws.{NeedsExist}
 use Rattle.sdf_prec.proofs.Periods.{block_at}
 

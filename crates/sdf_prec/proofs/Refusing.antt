@@ -1,5 +1,5 @@
 -- From marks to the tests of rows.
-use Rattle.std.proofs.Common.{◌≡◌, ℕ, zero, suc, ◌+◌, ◌≤◌, ◌<◌, List, length, get_or, take, sum, sym, ap, ◌∙◌, subst, inl, inr, ◌⊎◌, arith, refl, Option, Some, None, MatchOption}
+use Rattle.std.proofs.Common.{◌≡◌, ℕ, ◌≤◌, ◌<◌, List, length, get_or, take, sum, sym, ap, ◌∙◌, subst, inl, inr, ◌⊎◌, arith, Option, Some, None, MatchOption}
 use Rattle.std.proofs.lemmas.List.{take_all, get_or_past}
 use Rattle.std.proofs.lemmas.List.Sums.{sum_by_more_le}
 use Rattle.std.proofs.lemmas.Bool.{cases_lt}
@@ -8,11 +8,11 @@ use Rattle.sdf_prec.specs.Blocks.{block}
 use Rattle.sdf_prec.specs.Laws.{TestsSuffice, NeedsExist}
 use Rattle.sdf_prec.specs.declared.firing.Firing.{Firing}
 use Rattle.sdf_prec.specs.declared.fault.PrecFault.{PrecFault}
-use Rattle.sdf_prec.specs.declared.fault.PrecFault.TheVariants.{FiringMissing, FiringTwice, FiringUnknown, RowTooWide, TooEarly}
+use Rattle.sdf_prec.specs.declared.fault.PrecFault.TheVariants.{FiringMissing, TooEarly}
 use Rattle.sdf_prec.specs.Tables.{firing, firings, row, order, Stands, IsOfBlock, IsValid}
 use Rattle.sdf_prec.specs.Numbers.{Numbered, InBlock, number}
-use Rattle.sdf_prec.specs.Seen.{AreFresh, AreMarked, IsMarkedBy, IsCellFault, IsCellsFault, IsAtFault, IsLateAt}
-use Rattle.sdf_prec.specs.Refusals.{before, AreNarrow, IsFresh, IsBefore, IsLate, IsFirstLate, IsEarlier, CellsPass, AllPass, IsAtCell, StandsFirst}
+use Rattle.sdf_prec.specs.Seen.{AreFresh, AreMarked, IsMarkedBy, IsCellsFault, IsLateAt}
+use Rattle.sdf_prec.specs.Refusals.{before, AreNarrow, IsFresh, IsBefore, IsLate, IsEarlier, CellsPass, AllPass, IsAtCell, StandsFirst}
 use Rattle.sdf_prec.proofs.RowMarks.{in_order, marked_earlier, late_earlier, first_late_earlier}
 
 -- no actor of a block fires more often than all together

@@ -1,5 +1,5 @@
 -- Rows as a table keeps them.
-use Rattle.std.specs.Prelude.{◌≡◌, ℕ, ◌-◌, ◌++◌, Bool, List, length, map, filter, replicate, nat_lt, Option, Some, None}
+use Rattle.std.specs.Prelude.{ℕ, ◌-◌, ◌++◌, Bool, List, length, map, filter, replicate, nat_lt, Option, None}
 use Rattle.sdf_prec.specs.declared.firing.Firing.{Firing}
 use Rattle.sdf_prec.specs.Tables.{firings}
 

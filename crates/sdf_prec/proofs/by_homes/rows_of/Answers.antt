@@ -1,8 +1,7 @@
-use Rattle.std.proofs.Common.{◌≡◌, ℕ, ◌+◌, ◌<◌, List, [], ◌∷◌, ◌++◌, length, get_or, set, map, take, replicate, Vec, Global, Option, Some, None, sym, ap, ◌∙◌, subst, arith}
-use Rattle.std.proofs.lemmas.List.{length-set, get_or_read, map_push, take_all}
-use Rattle.sdf_graph.specs.Sequences.{times}
+use Rattle.std.proofs.Common.{◌≡◌, ℕ, ◌+◌, get_or, set, map, replicate, Vec, Global, Option, Some, None, ap, ◌∙◌, arith}
+use Rattle.std.proofs.lemmas.List.{length-set, get_or_read, map_push}
 use Rattle.sdf_prec.specs.declared.firing.Firing.{Firing}
-use Rattle.sdf_prec.specs.ByHomes.{AreByHomes, firing_at}
+use Rattle.sdf_prec.specs.ByHomes.{firing_at}
 use Rattle.sdf_prec.proofs.Capacities.{counts_more}
 use Rattle.sdf_prec.proofs.Standings.{some_within}
 use Rattle.sdf_prec.proofs.Placing.{times_small, by_homes_more}

@@ -1,6 +1,5 @@
-use Rattle.std.proofs.Common.{◌≡◌, ℕ, ◌<◌, length, get_or, map, take, set, replicate, Some, None}
+use Rattle.std.proofs.Common.{◌≡◌, ℕ, ◌<◌, length, get_or, map, take}
 use Rattle.sdf_graph.specs.Sequences.{times}
-use Rattle.sdf_prec.specs.Tables.{row}
 use Rattle.sdf_prec.specs.ByHomes.{AreByHomes}
 use Rattle.sdf_prec.proofs.by_homes.rows_of.Given as goal
 

@@ -1,9 +1,8 @@
-use Rattle.std.proofs.Common.{◌≡◌, ℕ, ◌+◌, ◌*◌, ◌<◌, ◌≤◌, List, length, get_or, sum, map, Option, sym, ap, ◌∙◌, subst, arith, inl, inr}
-use Rattle.std.proofs.lemmas.List.{length-map}
-use Rattle.sdf_graph.specs.Rates.{Rates, rates}
+use Rattle.std.proofs.Common.{◌≡◌, ℕ, ◌+◌, ◌≤◌, List, get_or, sum, map, Option, sym, ap, ◌∙◌, subst, arith}
+use Rattle.sdf_graph.specs.Rates.{rates}
 use Rattle.sdf_prec.specs.declared.firing.Firing.{Firing}
-use Rattle.sdf_prec.specs.Blocks.{block, IsShort}
-use Rattle.sdf_prec.proofs.Periods.{block_sum, block_length}
+use Rattle.sdf_prec.specs.Blocks.{block}
+use Rattle.sdf_prec.proofs.Periods.{block_sum}
 use Rattle.sdf_prec.specs.Tables.{IsValid}
 use Rattle.sdf_prec.specs.Tidied.{tidied}
 use Rattle.sdf_prec.proofs.Needs.{block_balanced}

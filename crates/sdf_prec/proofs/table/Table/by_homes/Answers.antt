@@ -1,9 +1,9 @@
-use Rattle.std.proofs.Common.{◌≡◌, ℕ, ◌*◌, ◌<◌, ◌≤◌, List, length, get_or, sum, map, Option, sym, ap, ◌∙◌, subst, arith}
+use Rattle.std.proofs.Common.{◌≡◌, ℕ, ◌*◌, ◌<◌, List, length, get_or, map, Option, sym, ap, ◌∙◌, subst, arith}
 use Rattle.sdf_graph.specs.Rates.{rates}
-use Rattle.sdf_graph.specs.Sequences.{repeated, IsPass}
+use Rattle.sdf_graph.specs.Sequences.{repeated}
 use Rattle.sdf_prec.specs.declared.firing.Firing.{Firing}
 use Rattle.sdf_prec.specs.Blocks.{block, IsShort}
-use Rattle.sdf_prec.specs.Tables.{row, firings, IsValid, IsTable}
+use Rattle.sdf_prec.specs.Tables.{row, firings, IsValid}
 use Rattle.sdf_prec.specs.ByHomes.{HasHome, AreByHomes}
 use Rattle.sdf_prec.proofs.Periods.{block_sum, block_pass, repeated_length}
 use Rattle.sdf_prec.proofs.Refusing.{one_of_all}
