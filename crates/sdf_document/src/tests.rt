@@ -171,7 +171,11 @@ fn names_the_fault_and_its_place(rt: HostRuntime) -> Result<(), Fail> {
             "processor = 16\ncost = \"1\"",
             "28 KitValue actor 0 key processor",
         ),
-        ("processor = 0", "cost = 1.0", "53 WrongType actor 0 key cost"),
+        (
+            "processor = 0",
+            "cost = 1.0",
+            "53 WrongType actor 0 key cost",
+        ),
         (
             "channel = 0\nblock",
             "channel = 8\nblock",

@@ -9,9 +9,9 @@ use Rattle.sdf_file.specs.Schedules.{Stretch, stretched, stretches}
 same : (a : ℕ) → (a == a) ≡ true
 same a = is_true (a == a) (eqb_refl a)
   where
-  is_true : (b : Bool) → T b → b ≡ true
-  is_true true h = refl
-  is_true false h = absurd h
+    is_true : (b : Bool) → T b → b ≡ true
+    is_true true h = refl
+    is_true false h = absurd h
 
 is_false : (b : Bool) → (b ≡ true → ⊥) → b ≡ false
 is_false true h = absurd (h refl)
@@ -52,9 +52,9 @@ stretched_begins : (a b : ℕ) (ss : List Stretch) → (a == b) ≡ false → Be
 stretched_begins a b [] differ = differ
 stretched_begins a b (s ∷ ss) differ = stretched_by (b == s.actor)
   where
-  stretched_by : (c : Bool) → BeginOther a (if c then stretch b (s.firings + 1) ∷ ss else stretch b 1 ∷ s ∷ ss)
-  stretched_by true = differ
-  stretched_by false = differ
+    stretched_by : (c : Bool) → BeginOther a (if c then stretch b (s.firings + 1) ∷ ss else stretch b 1 ∷ s ∷ ss)
+    stretched_by true = differ
+    stretched_by false = differ
 
 pub begins_with : (order : List ℕ) (past : ℕ) → past < length order → stretches (drop past order) ≡ stretched (get_or order past 0) (stretches (drop (past + 1) order))
 begins_with order past within = ap stretches (drop_more order past 0 within)

@@ -11,8 +11,8 @@ ghost use Rattle.sdf_file.specs.Designs.{design_of, IsDesign, IsDesignOf, IsFile
 
 use crate::fault::FileFault;
 use crate::parts::{links_of, parts_of};
-use sdf_actor::Net;
 use indexmap::IndexSet;
+use sdf_actor::Net;
 use sdf_document::{Document, file_names, read_document};
 use sdf_kit::Kit;
 use std::alloc::Global;

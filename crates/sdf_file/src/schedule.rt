@@ -65,11 +65,7 @@ fn push_order(text: &mut String, design: &Design, order: &[usize]) -> Result<(),
     text.push_str("\n")
 }
 
-fn push_cell(
-    text: &mut String,
-    design: &Design,
-    cell: Option<Firing>,
-) -> Result<(), AllocError>
+fn push_cell(text: &mut String, design: &Design, cell: Option<Firing>) -> Result<(), AllocError>
     ensures { OnOk result (string_bytes text.new ≡ string_bytes text.old ++ codes " " ++ cell_text design.now cell) }
 {
     match cell {
@@ -83,11 +79,7 @@ fn push_cell(
 }
 
 /// Adds the line of a row.
-fn push_row(
-    text: &mut String,
-    design: &Design,
-    cells: &[Option<Firing>],
-) -> Result<(), AllocError>
+fn push_row(text: &mut String, design: &Design, cells: &[Option<Firing>]) -> Result<(), AllocError>
     ensures { OnOk result (string_bytes text.new ≡ string_bytes text.old ++ row_line design.now cells.now) }
 {
     text.push_str("row")?;

@@ -192,8 +192,8 @@ rows_valid r n cost level width homed past now ended started ends until floor ro
         (distinct_append (order (take m (cells_of past))) (firings (row (cells_of past) m)) (distinct_front m (omega arith))
         (distinct_row (row (cells_of past) m) (λ j k f e g. (floor.once m j m k f (ap (λ (cs : List (Option Firing)). get_or cs j None) (sym (row_of past m)) ∙ e) (ap (λ (cs : List (Option Firing)). get_or cs k None) (sym (row_of past m)) ∙ g)).1))
         (λ f st here.
-            let before = occurs_of past m f st in
-            let at = at_of past m f here in
-            let same = (floor.once before.0 before.1 m at.0 f before.3 at.1).0 in
-            let low = before.2 in
-            omega arith))
+        let before = occurs_of past m f st in
+        let at = at_of past m f here in
+        let same = (floor.once before.0 before.1 m at.0 f before.3 at.1).0 in
+        let low = before.2 in
+        omega arith))

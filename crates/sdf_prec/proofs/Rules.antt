@@ -171,7 +171,7 @@ module _ (r : Rates) (n cost : ℕ → ℕ) (level : Firing → ℕ) (width : �
           let same : f ≡ g = same_ready f g (placed_each j f e).0 (placed_each m g e').0 is in
           let pl = placed.each x.0 x.1 in
           place_unique width (λ k. (get_or u k 0 ≤ t) × IsLeft queue cells x.0 k) (load r.actors weight pl.home) (pl.home (firing queue x.0).actor) j m
-              ((pl.stands j).0 (e ∙ ap Some (sym x.2))) ((pl.stands m).0 (e' ∙ ap Some (sym same ∙ sym x.2)))
+          ((pl.stands j).0 (e ∙ ap Some (sym x.2))) ((pl.stands m).0 (e' ∙ ap Some (sym same ∙ sym x.2)))
 
       idle_placed : (p : ℕ) → IsPlaced r.actors width weight (λ j. get_or u j 0 ≤ t) (λ a. get_or homes a None) queue cells p → IsPlaced r.actors width weight (λ j. IsBusy cost past t j → ⊥) (λ a. get_or homes a None) queue cells p
       idle_placed p pl = placed_idle r.actors width weight (λ j. get_or u j 0 ≤ t) (λ j. IsBusy cost past t j → ⊥) (λ a. get_or homes a None) queue cells p

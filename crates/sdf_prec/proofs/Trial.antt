@@ -197,8 +197,8 @@ module _ (actors width : ℕ) (weight : ℕ → ℕ) (idle : ℕ → Type 0) (be
             (λ m f. (f.0, left_alike before queue (set cells c (Some (firing queue i))) cells i (λ x k h. to x k) m f.1)) (of_place c place)),
         λ pl.
             let old = place_of j (place_alike width (λ m. idle m × IsLeft queue (set cells c (Some (firing queue i))) i m) (λ m. idle m × IsLeft queue cells i m) (load actors weight (λ a. get_or homes a None)) (get_or homes (firing queue i).actor None) j
-                (λ m f. (f.0, left_alike before queue (set cells c (Some (firing queue i))) cells i (λ x k h. to x k) m f.1))
-                (λ m f. (f.0, left_alike before queue cells (set cells c (Some (firing queue i))) i back m f.1)) pl) in
+            (λ m f. (f.0, left_alike before queue (set cells c (Some (firing queue i))) cells i (λ x k h. to x k) m f.1))
+            (λ m f. (f.0, left_alike before queue cells (set cells c (Some (firing queue i))) i back m f.1)) pl) in
             let same = place_unique width (λ m. idle m × (get_or cells m None ≡ None)) (load actors weight (λ a. get_or homes a None)) (get_or homes (firing queue i).actor None) j c old place in
             ap (λ j. get_or (set cells c (Some (firing queue i))) j None) same ∙ there,
       );
@@ -312,8 +312,8 @@ waiting_waits until now queue i cells homes s nowhere p l = go (cases_lt p i)
     go (inr high) =
         let same : i ≡ p = omega arith in
         subst (λ p. ((j : ℕ) × (get_or cells j None ≡ Some (firing queue p))) ⊎
-            (((k : ℕ) × (get_or homes (firing queue p).actor None ≡ Some k) × (k < length until) × (IsOpen until now cells k → ⊥)) ⊎
-            ((j : ℕ) → j < length until → IsOpen until now cells j → ⊥))) same (here (get_or homes (firing queue i).actor None) (λ _. get_or homes (firing queue i).actor None) nowhere)
+        (((k : ℕ) × (get_or homes (firing queue p).actor None ≡ Some k) × (k < length until) × (IsOpen until now cells k → ⊥)) ⊎
+        ((j : ℕ) → j < length until → IsOpen until now cells j → ⊥))) same (here (get_or homes (firing queue i).actor None) (λ _. get_or homes (firing queue i).actor None) nowhere)
 
 pub waiting_stands : (until : List ℕ) (now : ℕ) (queue : List Firing) (i : ℕ) (cells : List (Option Firing)) (homes : List (Option ℕ)) (c : ℕ) (weights : ℕ → ℕ) → AreWaiting until now queue i cells homes →
     IsPlace (length until) (IsOpen until now cells) weights (get_or homes (firing queue i).actor None) c → length cells ≡ length until → AreWaiting until now queue (i + 1) (set cells c (Some (firing queue i))) (set homes (firing queue i).actor (Some c))

@@ -185,7 +185,7 @@ homed_plain r n cost level width rows unit are = record {
             IsPlaced r.actors width n (λ _. Unit {0}) rule.homes rule.queue (timed rows i).cells p
         placed p pl =
             let free = placed_idle r.actors width (λ a. n a * cost a) (λ j. IsBusy cost (take i rows) (timed rows i).start j → ⊥) (λ _. Unit {0}) rule.homes rule.queue (timed rows i).cells p
-                (λ j h. tt) (λ j h. idle r n cost level width (IsHomedRow r n cost level width) rows unit are known i l j) pl in
+            (λ j h. tt) (λ j h. idle r n cost level width (IsHomedRow r n cost level width) rows unit are known i l j) pl in
             record {
               home = free.home;
               home_is = free.home_is;

@@ -13,9 +13,9 @@ use crate::costs::Costs;
 use crate::filling::fill;
 use crate::firing::Firing;
 use crate::floor::{end_by, next_end, start};
+use crate::homing::place;
 use crate::laws::the_next_may_fire;
 use crate::level::Levels;
-use crate::homing::place;
 use crate::queue::ready_queue;
 use crate::timed::{TimedRow, is_empty};
 use sdf_graph::laws::{counts_grow, graphs_are_sound};
@@ -60,19 +60,20 @@ fn next_cells(
     ensures homes { IfOk result (λ _. (length crew.new.homes.items ≡ length crew.old.homes.items) × ((a j : ℕ) → slice_index_or crew.new.homes.items a None ≡ Some j → j < length crew.old.until.items)) }
     ensures row { IfOk result (λ cells. (past : List Timed) →
         IsDue (rates crew.old.counts.graph) (slice_index job.now.firings.now) (slice_index job.now.costs.now) (number job.now.levels.now) (length crew.old.until.items) job.now.homed past now
-            (slice_index crew.old.counts.fired) (slice_index crew.old.started.items) (slice_index crew.old.ends.items) (slice_index crew.old.until.items) (λ a. slice_index_or crew.old.homes.items a None) →
+        (slice_index crew.old.counts.fired) (slice_index crew.old.started.items) (slice_index crew.old.ends.items) (slice_index crew.old.until.items) (λ a. slice_index_or crew.old.homes.items a None) →
         IsRowAt (rates crew.old.counts.graph) (slice_index job.now.firings.now) (slice_index job.now.costs.now) (number job.now.levels.now) (length crew.old.until.items) job.now.homed past now
-            (slice_index crew.old.counts.fired) (slice_index crew.old.started.items) (slice_index crew.old.ends.items) (slice_index crew.old.until.items) (λ a. slice_index_or crew.new.homes.items a None) cells.items) }
+        (slice_index crew.old.counts.fired) (slice_index crew.old.started.items) (slice_index crew.old.ends.items) (slice_index crew.old.until.items) (λ a. slice_index_or crew.new.homes.items a None) cells.items) }
 {
-    let queue = ready_queue(
-        alloc,
-        &crew.counts,
-        &crew.started,
-        job.firings,
-        job.levels,
-    )?;
+    let queue = ready_queue(alloc, &crew.counts, &crew.started, job.firings, job.levels)?;
     if job.homed {
-        let cells = place(alloc, &queue, &crew.until, now, job.weights, &mut crew.homes)?;
+        let cells = place(
+            alloc,
+            &queue,
+            &crew.until,
+            now,
+            job.weights,
+            &mut crew.homes,
+        )?;
         Ok(cells)
     } else {
         let cells = fill(alloc, &queue, &crew.until, now)?;

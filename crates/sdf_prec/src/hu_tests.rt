@@ -67,11 +67,7 @@ fn cap_of(table: &Table) -> u64 {
 }
 
 fn fork(alloc: Global) -> Result<Graph, Fail> {
-    linked(
-        alloc,
-        6,
-        &[(0, 1), (1, 2), (1, 3), (2, 4), (3, 4), (4, 5)],
-    )
+    linked(alloc, 6, &[(0, 1), (1, 2), (1, 3), (2, 4), (3, 4), (4, 5)])
 }
 
 /// As the fork, with one actor more on the second way.
@@ -90,13 +86,24 @@ fn fills_rows(rt: HostRuntime) -> Result<(), Fail> {
     channels.push(link(alloc, 0, 2, 1, 3)?)?;
     let graph = Graph::new(alloc, 2, channels)?;
     let homed = table(alloc, &graph, 1, 2, true, &[1, 1])??;
-    assert_eq!(rt; actors_of(alloc, &homed)?.as_slice(), [0, 9, 0, 9, 0, 1, 9, 1].as_slice());
+    assert_eq!(rt;
+        actors_of(alloc, &homed)?.as_slice(),
+        [0, 9, 0, 9, 0, 1, 9, 1].as_slice()
+    );
     assert_eq!(rt; cap_of(&homed), 6);
     let free = table(alloc, &graph, 1, 2, false, &[1, 1])??;
-    assert_eq!(rt; actors_of(alloc, &free)?.as_slice(), [0, 9, 0, 9, 0, 1, 1, 9].as_slice());
+    assert_eq!(rt;
+        actors_of(alloc, &free)?.as_slice(),
+        [0, 9, 0, 9, 0, 1, 1, 9].as_slice()
+    );
     let twice = table(alloc, &graph, 2, 2, true, &[1, 1])??;
     assert_eq!(rt; (twice.rows(), cap_of(&twice)), (7, 6));
-    assert!(rt; matches!(table(alloc, &graph, 1, 17, true, &[1, 1])?, Err(PrecFault::WorkerCount)));
+    assert!(rt;
+        matches!(
+            table(alloc, &graph, 1, 17, true, &[1, 1])?,
+            Err(PrecFault::WorkerCount)
+        )
+    );
     Ok(())
 }
 
@@ -104,13 +111,25 @@ fn fills_rows(rt: HostRuntime) -> Result<(), Fail> {
 fn weighs_costs(rt: HostRuntime) -> Result<(), Fail> {
     let alloc = rt.alloc();
     let short = table(alloc, &fork(alloc)?, 1, 2, true, &[1, 1, 1, 1, 1, 1])??;
-    assert_eq!(rt; actors_of(alloc, &short)?.as_slice(), [0, 9, 9, 1, 2, 3, 4, 9, 9, 5].as_slice());
+    assert_eq!(rt;
+        actors_of(alloc, &short)?.as_slice(),
+        [0, 9, 9, 1, 2, 3, 4, 9, 9, 5].as_slice()
+    );
     let graph = longer_fork(alloc)?;
     let even = table(alloc, &graph, 1, 2, true, &[1, 1, 1, 1, 1, 1, 1])??;
-    assert_eq!(rt; actors_of(alloc, &even)?.as_slice(), [0, 9, 9, 1, 3, 2, 4, 9, 9, 5, 6, 9].as_slice());
+    assert_eq!(rt;
+        actors_of(alloc, &even)?.as_slice(),
+        [0, 9, 9, 1, 3, 2, 4, 9, 9, 5, 6, 9].as_slice()
+    );
     let dear = table(alloc, &graph, 1, 2, true, &[1, 1, 3, 1, 1, 1, 1])??;
-    assert_eq!(rt; actors_of(alloc, &dear)?.as_slice(), [0, 9, 9, 1, 2, 3, 9, 4, 9, 5, 6, 9].as_slice());
+    assert_eq!(rt;
+        actors_of(alloc, &dear)?.as_slice(),
+        [0, 9, 9, 1, 2, 3, 9, 4, 9, 5, 6, 9].as_slice()
+    );
     let dearer = table(alloc, &graph, 1, 2, true, &[1, 4, 3, 1, 1, 1, 1])??;
-    assert_eq!(rt; actors_of(alloc, &dearer)?.as_slice(), [0, 9, 9, 1, 2, 3, 9, 4, 5, 9, 6, 9].as_slice());
+    assert_eq!(rt;
+        actors_of(alloc, &dearer)?.as_slice(),
+        [0, 9, 9, 1, 2, 3, 9, 4, 5, 9, 6, 9].as_slice()
+    );
     Ok(())
 }

@@ -7,5 +7,4 @@ pub mod Devices
 pub mod Sounds
 pub mod Rendering
 pub mod Deadlocks
-pub mod Tabling
 pub mod Outputs

@@ -8,7 +8,8 @@ use crate::fault::Fault;
 use crate::options::{Options, Placement};
 use crate::planning::{period_by, size_fault};
 use sdf_file::{Design, schedule_text};
-use sdf_prec::{Costs, PrecFault, Table, hu};
+use sdf_prec::hu::hu;
+use sdf_prec::{Costs, PrecFault, Table};
 use sdf_sched::Period;
 use std::alloc::{AllocError, Global};
 

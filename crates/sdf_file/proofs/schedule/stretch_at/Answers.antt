@@ -13,5 +13,6 @@ loop-past-preserved c = record {
 pub returns-clause-stretch : goal.returns-clause-stretch
 returns-clause-stretch c =
     elim c.loop-past-test.branch [
-    then-loop-past-test+else-actor-order w ↦ ends_before c.args.order.now c.args.at c.loop-past.past _ c.loop-past.invariant.after (omega arith) w.if-actor-order.false c.loop-past.invariant.same
-    | else-loop-past-test w ↦ ends_last c.args.order.now c.args.at c.loop-past.past _ c.loop-past.invariant.after (omega arith) c.loop-past.invariant.same ]
+      | then-loop-past-test+else-actor-order w ↦ ends_before c.args.order.now c.args.at c.loop-past.past _ c.loop-past.invariant.after (omega arith) w.if-actor-order.false c.loop-past.invariant.same
+      | else-loop-past-test w ↦ ends_last c.args.order.now c.args.at c.loop-past.past _ c.loop-past.invariant.after (omega arith) c.loop-past.invariant.same
+    ]

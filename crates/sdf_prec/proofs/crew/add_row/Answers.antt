@@ -77,7 +77,7 @@ returns-in_ok-push-clause-done c =
     let begun = rw (c.deref-then-not-is_empty.ensures.value, c.deref_mut.ensures.value, c.deref_mut-then-not-is_empty.ensures.value, c.deref_mut-then-not-is_empty-2.ensures.value, s_is, n_is, u_is) at c.start.ensures.started in
     rw (st, nt, ut, e.counts, c.in_ok-push.ensures.items)
     (row_added _ _ _ _ _ _ _ _ _ _ _ _ _ _ c.requires.sound c.requires.due cells row (job_dear _ _ _ _ _ c.requires.job)
-        (λ none. false≢true (c.if-not-is_empty.ensures.1 (ap firings c.deref.ensures.value ∙ none))) _ _ _ begun)
+    (λ none. false≢true (c.if-not-is_empty.ensures.1 (ap firings c.deref.ensures.value ∙ none))) _ _ _ begun)
 
 pub returns-else-not-is_empty-clause-done : goal.returns-else-not-is_empty-clause-done
 returns-else-not-is_empty-clause-done c =

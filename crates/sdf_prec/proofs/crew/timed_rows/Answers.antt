@@ -65,5 +65,5 @@ returns-clause-valid c =
     let sound = c.graphs_are_sound.ensures c.args.graph.now c.channels.ensures.shape in
     let through = rw c.deref.ensures.value at c.in_default.ensures in
     let all = all_stand c.the_next_may_fire.ensures.some c.the_next_may_fire.ensures.may_fire c.counts_grow.ensures.last c.counts_grow.ensures.front _ _ _ _ _ _ _ _ _ _ _ _ c.requires.pass.0 sound c.requires.width c.requires.pass.1
-        v.done.floor v.done.stuck (λ a l. through a (omega (arith, l, v.crew.ends_all, its))) in
+    v.done.floor v.done.stuck (λ a l. through a (omega (arith, l, v.crew.ends_all, its))) in
     rows_valid _ _ _ (number c.args.job.now.levels.now) _ c.args.job.now.homed _ _ _ _ _ _ v.done.floor v.done.rows all

@@ -20,7 +20,7 @@ loop-firing-preserved c =
     let v = c.loop-firing.invariant in
     let home = get_or homes (firing queue i).actor None in
     let found = subst (λ k. MatchOption c.column_for.result (IsNowhere (length u) (IsOpen u c.args.now cells) home) (IsPlace (length u) (IsOpen u c.args.now cells) (load k weight (λ a. get_or homes a None)) home)) v.placed.all
-        (subst (λ cs. MatchOption c.column_for.result (IsNowhere (length u) (IsOpen u c.args.now cs) home) (IsPlace (length u) (IsOpen u c.args.now cs) (load (length homes) weight (λ a. get_or homes a None)) home)) c.deref.ensures.value c.column_for.ensures) in
+    (subst (λ cs. MatchOption c.column_for.result (IsNowhere (length u) (IsOpen u c.args.now cs) home) (IsPlace (length u) (IsOpen u c.args.now cs) (load (length homes) weight (λ a. get_or homes a None)) home)) c.deref.ensures.value c.column_for.ensures) in
     elim c.match-column_for.branch [
       | in-Some w ↦
           let place = MatchOption-at_some _ _ w.in-Some.column w.in-Some.is found in

@@ -25,7 +25,7 @@ loop-actor-preserved c =
           let before = rw w.deref.ensures.value at w.place_of-place.ensures.before in
           let after = rw w.deref.ensures.value at w.place_of-place.ensures.after in
           let more = queue_more level ready next (λ f h. h.next) i c.loop-actor.queue.items x w.place_of-place.result c.loop-actor.invariant refl (c.is_ready.ensures.0 w.if-is_ready.true) within
-              (λ p h. subst (λ y. y ≤ level (firing c.loop-actor.queue.items p)) w.of.ensures (before p h)) (λ l. subst (λ y. level (firing c.loop-actor.queue.items w.place_of-place.result) < y) w.of.ensures (after l)) in
+          (λ p h. subst (λ y. y ≤ level (firing c.loop-actor.queue.items p)) w.of.ensures (before p h)) (λ l. subst (λ y. level (firing c.loop-actor.queue.items w.place_of-place.result) < y) w.of.ensures (after l)) in
           subst (IsQueue level (Among ready (i + 1))) (sym items) more
       | else-is_ready w ↦ rw w.queue-is (queue_skip level ready next (λ f h. h.next) i c.loop-actor.queue.items (λ h. false≢true (w.if-is_ready.ensures.1 h)) c.loop-actor.invariant)
     ]
