@@ -1,3 +1,4 @@
+mod Many
 pub mod Pieces
 pub mod Agree
 pub mod Exists

@@ -1,7 +1,7 @@
 //! Actors.
 
-ghost use Rattle.std.specs.Prelude.{◌≡◌, ◌<◌, ◌≤◌, ℕ, length, IfOk};
-ghost use Rattle.sdf_actor.specs.Steps.{Steps, total_in, total_out, PutsFit};
+ghost use Rattle.std.specs.Prelude.{◌≡◌, ◌+◌, ◌%◌, ◌<◌, ◌≤◌, ℕ, length, IfOk};
+ghost use Rattle.sdf_actor.specs.Steps.{Steps, total_in, total_out, sum_in, sum_out, state_at, puts_to, PutsFit};
 
 use sdf_limits::MOST_PORTS;
 use std::alloc::{AllocError, Global};
@@ -62,6 +62,78 @@ pub trait Actor: Sync + Drop {
         ensures state { state.new ≡ steps.next self.now phase state.old taken.now }
         ensures put { put.new ≡ steps.puts self.now phase state.old taken.now };
 
+    /// How many samples a firing at a phase takes at all ports.
+    fn samples_in(&self, phase: u32) -> usize
+        requires { phase < steps.cycle self.now }
+        ensures { result ≡ total_in steps self.now phase }
+    {
+        let mut total = 0;
+        for port in 0..self.inputs() {
+            total += self.take(port, phase) as usize;
+        }
+        total
+    }
+
+    /// How many samples a firing at a phase puts on all ports.
+    fn samples_out(&self, phase: u32) -> usize
+        requires { phase < steps.cycle self.now }
+        ensures { result ≡ total_out steps self.now phase }
+    {
+        let mut total = 0;
+        for port in 0..self.outputs() {
+            total += self.put(port, phase) as usize;
+        }
+        total
+    }
+
+    /// Fires many times, the first time at a phase, from consecutive blocks to consecutive blocks: the block of a firing
+    /// stands behind that of the one before it. It takes no memory.
+    fn fire_many(
+        &self,
+        phase: u32,
+        many: usize,
+        state: &mut Self::State,
+        taken: &[Self::Token],
+        put: &mut [Self::Token],
+    )
+        requires phase { phase < steps.cycle self.now }
+        requires taken { length taken.now ≡ sum_in steps self.now phase many }
+        requires put { length put.old ≡ sum_out steps self.now phase many }
+        ensures state { state.new ≡ state_at steps self.now phase state.old taken.now many }
+        ensures put { put.new ≡ puts_to steps self.now phase state.old taken.now many }
+    {
+        sdf_graph::laws::sums_rise();
+        let mut now = phase;
+        let mut read = 0;
+        let mut written = 0;
+        for _ in 0..many {
+            let reads = end_of(read, self.samples_in(now), taken.len());
+            let writes = end_of(written, self.samples_out(now), put.len());
+            self.fire(now, state, &taken[read..reads], &mut put[written..writes]);
+            now = next_phase(now, self.cycle());
+            read = reads;
+            written = writes;
+        }
+    }
+
     /// What a firing puts has its length.
     ghost puts_fit: { (x : Self) → PutsFit steps x };
+}
+
+/// The phase after one of a cycle, which begins anew after its last.
+pub fn next_phase(phase: u32, cycle: u32) -> u32
+    requires { phase < cycle }
+    ensures { result ≡ (phase + 1) % cycle }
+{
+    if phase + 1 == cycle { 0 } else { phase + 1 }
+}
+
+/// Where a block ends that lies at a place of a list.
+fn end_of(place: usize, block: usize, len: usize) -> usize
+    requires { place + block ≤ len }
+    ensures value { result ≡ place + block }
+    ensures start { place ≤ result }
+    ensures within { result ≤ len }
+{
+    place + block
 }

@@ -1,9 +1,11 @@
-use Rattle.std.proofs.Common.{◌≡◌, ◌∙◌, true, false, Some, None, cond, not, ltb, length, suc, ◌+◌, ℕ, List, [], ◌∷◌, map, ap, refl, String, string_bytes, Global, Bor}
+use Rattle.std.proofs.Common.{◌≡◌, ◌∙◌, Bool, true, false, Some, None, cond, not, ltb, length, suc, ◌+◌, ℕ, List, [], ◌∷◌, ◌++◌, map, ap, refl, String, string_bytes, Global, Bor}
 use Rattle.toml.proofs.Views.{Entry}
 use Rattle.toml.specs.View.{members_view}
 use Rattle.toml.specs.declared.value.Value.{Value}
 use Rattle.std.specs.List.{list_any, position, position_or_len}
-use Rattle.std.specs.Prelude.{◌||◌, bytes_eq}
+use Rattle.std.specs.Prelude.{◌||◌, bytes_eq, string_eq}
+use Rattle.std.proofs.lemmas.List.{map_push}
+use Rattle.indexmap.specs.IndexSet.{insert_key}
 use Rattle.sdf_document.specs.Tables.{stranger, texts_of}
 
 -- a text is among names exactly where it is a key's
@@ -14,6 +16,18 @@ list_any_names s (k ∷ ks) = ap (λ b. bytes_eq s (string_bytes k) || b) (list_
 pub list_any_texts : (s : List ℕ) (ts : List (Bor (List ℕ))) → list_any (bytes_eq s) (texts_of ts) ≡ list_any (λ t. bytes_eq s t.now) ts
 list_any_texts s [] = refl
 list_any_texts s (t ∷ ts) = ap (λ b. bytes_eq s t.now || b) (list_any_texts s ts)
+
+-- a name put last, unless it is there
+abbrev pub with_name : List (List ℕ) → List ℕ → List (List ℕ)
+with_name xs x = cond (list_any (bytes_eq x) xs) xs (xs ++ x ∷ [])
+
+-- so it is put into a set
+pub names_inserted : (ks : List (String Global)) (k : String Global) → map string_bytes (insert_key string_eq ks k) ≡ with_name (map string_bytes ks) (string_bytes k)
+names_inserted ks k = go (list_any (λ x. bytes_eq (string_bytes k) (string_bytes x)) ks) refl
+  where
+    go : (b : Bool) → list_any (λ x. bytes_eq (string_bytes k) (string_bytes x)) ks ≡ b → map string_bytes (insert_key string_eq ks k) ≡ with_name (map string_bytes ks) (string_bytes k)
+    go true h = rw (h, list_any_names (string_bytes k) ks ∙ h) refl
+    go false h = rw (h, list_any_names (string_bytes k) ks ∙ h) (map_push string_bytes ks k)
 
 -- a known key in front
 pub stranger_known : (ts : List (Bor (List ℕ))) (s t : List Entry) (k : String Global) (v : Value) → s ≡ (k, v) ∷ t

@@ -1,24 +1,30 @@
 -- What an actor's table says, with the first test that it fails.
-use Rattle.std.specs.Prelude.{ℕ, List, codes, Option, Result, Ok, Err, bytes_eq, if◌then◌else◌, string_bytes}
+use Rattle.std.specs.Prelude.{ℕ, Bool, List, [], ◌∷◌, codes, Option, Result, Ok, Err, bytes_eq, if◌then◌else◌, string_bytes}
 use Rattle.std.specs.List.{list_any}
 use Rattle.toml.specs.Data.{Data, Members, as_table}
 use Rattle.sdf_document.specs.declared.entry.ActorEntry.{ActorEntry}
 use Rattle.sdf_document.specs.declared.entry.KindEntry.{KindEntry}
+use Rattle.sdf_document.specs.declared.key.KeyValue.TheVariants.{Natural, Optional}
 use Rattle.sdf_document.specs.Fault.{actor, Fault, wrong_type, bad_name, name_twice, ◌>>=◌, or_fault}
 use Rattle.sdf_document.specs.Tables.{known_keys}
 use Rattle.sdf_document.specs.Values.{text_at}
 use Rattle.sdf_document.specs.Names.{is_name}
 use Rattle.sdf_document.specs.Lists.{Lookup}
 use Rattle.sdf_document.specs.Rows.{row_of, shared_keys}
-use Rattle.sdf_document.specs.Kinds.{word_at, actor_keys, kind_at, values_at, optional, first}
+use Rattle.sdf_document.specs.Kinds.{word_at, actor_keys, kind_at, values_at, optional, natural, first, second, HaveForms, IsWithin}
 
 pub record ActorValue : Type 0 where
   pub name : List ℕ
   pub kind : KindEntry
   pub processor : Option ℕ
+  pub cost : ℕ
 
 abbrev pub actor_view : ActorEntry → ActorValue
-actor_view a = record { name = string_bytes a.name; kind = a.kind; processor = a.processor }
+actor_view a = record { name = string_bytes a.name; kind = a.kind; processor = a.processor; cost = a.cost }
+
+-- an actor's values are within their limits: those of its kind, and those that every actor has
+abbrev pub IsActorWithin : Bool → ActorEntry → Type 0
+IsActorWithin looked a = IsWithin looked a.kind × HaveForms looked shared_keys (Optional a.processor ∷ Natural a.cost ∷ [])
 
 -- the name of actor a, after actors of these names
 unfoldable pub name_at : ℕ → List (List ℕ) → Members → Result (List ℕ) Fault
@@ -36,4 +42,4 @@ actor_at a format files names d = do
   known ← known_keys (actor a) (actor_keys (row_of word).keys ms) ms
   kind ← kind_at a files word ms
   shared ← values_at a files shared_keys ms
-  Ok (record { name = name; kind = kind; processor = optional (first shared) })
+  Ok (record { name = name; kind = kind; processor = optional (first shared); cost = natural (second shared) })

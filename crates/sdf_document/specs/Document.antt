@@ -1,7 +1,6 @@
 -- A whole graph file, with the first test that it fails.
-use Rattle.std.specs.Prelude.{ℕ, suc, ◌+◌, ◌&&◌, not, List, [], ◌∷◌, ◌++◌, codes, map, Option, None, Result, Ok, Err, nat_le, bytes_eq, if◌then◌else◌, string_bytes, String}
-use Rattle.std.specs.declared.alloc.Global.{Global}
-use Rattle.std.specs.List.{filter, filter_map, list_any}
+use Rattle.std.specs.Prelude.{ℕ, suc, ◌+◌, ◌&&◌, not, List, [], ◌∷◌, ◌++◌, codes, map, Option, None, Result, Ok, Err, nat_le, bytes_eq, if◌then◌else◌}
+use Rattle.std.specs.List.{filter, filter_map}
 use Rattle.toml.specs.Data.{Data, Items, no_items, item, Members, get_member, as_array}
 use Rattle.toml.specs.View.{items_view}
 use Rattle.sdf_document.specs.declared.entry.Document.{Document}
@@ -106,10 +105,6 @@ abbrev pub first_seen : List (List ℕ) → List (List ℕ)
 first_seen [] = []
 first_seen (x ∷ xs) = x ∷ filter (λ y. not (bytes_eq x y)) (first_seen xs)
 
--- a name put last, unless it is there
-abbrev pub with_name : List (List ℕ) → List ℕ → List (List ℕ)
-with_name xs x = if list_any (bytes_eq x) xs then xs else xs ++ x ∷ []
-
 -- the tests without links and without a look into the files
 unfoldable pub file_names_of : List ℕ → Result (List (List ℕ)) Fault
 file_names_of bytes = do
@@ -117,7 +112,3 @@ file_names_of bytes = do
   parts ← parts_at ms
   actors ← actors_in parts.format unread parts.actors
   Ok (first_seen (filter_map actor_file actors))
-
--- texts as the bytes that they are
-abbrev pub texts_view : List (String Global) → List (List ℕ)
-texts_view ts = map string_bytes ts

@@ -1,6 +1,6 @@
 -- The table of kinds: a row each.
 use Rattle.std.specs.Prelude.{ℕ, pos, negsuc, List, [], ◌∷◌, codes, map, Option, Some, None}
-use Rattle.sdf_limits.specs.declared.TheConstants.{LEAST_WAYS, MOST_CHANNEL, MOST_DELAY, MOST_FACTOR, MOST_PROCESSOR, MOST_RATE, MOST_RUN, MOST_SHIFT, MOST_TAPS, MOST_VALUES, MOST_WAYS}
+use Rattle.sdf_limits.specs.declared.TheConstants.{LEAST_WAYS, MOST_CHANNEL, MOST_COST, MOST_DELAY, MOST_FACTOR, MOST_PROCESSOR, MOST_RATE, MOST_RUN, MOST_SHIFT, MOST_TAPS, MOST_VALUES, MOST_WAYS}
 use Rattle.sdf_document.specs.declared.row.KindWord.{KindWord}
 use Rattle.sdf_document.specs.declared.row.KindWord.TheVariants as word
 use Rattle.sdf_document.specs.declared.row.Width.TheVariants.{Bits16, Bits32}
@@ -51,7 +51,7 @@ shift = Natural 0 MOST_SHIFT None
 
 -- the keys that every actor may have, tested after those of its kind
 abbrev pub shared_keys : List KeyRow
-shared_keys = key (codes "processor") (Optional 0 MOST_PROCESSOR) ∷ []
+shared_keys = key (codes "processor") (Optional 0 MOST_PROCESSOR) ∷ key (codes "cost") (Natural 1 MOST_COST (Some 1)) ∷ []
 
 abbrev pub channel_keys : List KeyRow
 channel_keys = key (codes "channel") (Natural 0 MOST_CHANNEL None) ∷ key (codes "block") (Natural 1 MOST_RATE (Some 1)) ∷ []

@@ -1,24 +1,26 @@
 //! Actors, from their tables.
 ghost use Rattle.std.specs.Prelude.{◌≡◌, IfOk, false, map, option_map, string_bytes, bytes_eq};
 ghost use Rattle.std.specs.List.{list_any};
+ghost use Rattle.std.specs.Vec.Iter.{into_iter_items};
 ghost use Rattle.toml.specs.View.{table_view, view};
 ghost use Rattle.sdf_document.specs.Fault.{Gives};
 ghost use Rattle.sdf_document.specs.Names.{names_of};
 ghost use Rattle.sdf_document.specs.Lists.{lookup_of, are_read};
-ghost use Rattle.sdf_document.specs.Kinds.{first, optional, IsWithin};
-ghost use Rattle.sdf_document.specs.Actors.{name_at, actor_at, actor_view};
+ghost use Rattle.sdf_document.specs.Kinds.{first, rest, optional};
+ghost use Rattle.sdf_document.specs.Actors.{name_at, actor_at, actor_view, IsActorWithin};
 
 use crate::entry::ActorEntry;
 use crate::fault::{DocumentFault, Place, ReadFault, Spot};
 use crate::file::Files;
 use crate::key::{KeyValue, actor_keys, values_at};
-use crate::kind::{kind_at, optional, word_at};
+use crate::kind::{kind_at, natural, optional, word_at};
 use crate::name::is_name;
 use crate::row::{row_of, shared_keys};
 use crate::table::test_keys;
 use crate::value::text_at;
 use indexmap::IndexSet;
 use std::alloc::Global;
+use std::vec;
 use toml::{Table, Value};
 
 #[tactic(auto, using(crate::proofs::Names::list_any_names), unfolding(crate::specs::Actors::name_at))]
@@ -40,11 +42,12 @@ fn name_at<'a>(
     Ok(name)
 }
 
-/// The processor of the values of the keys that all actors may have.
-fn processor_of(values: Vec<KeyValue>) -> Option<usize>
-    ensures { result ≡ optional (first values.items) }
+/// The next value as a processor, where it is there.
+fn processor(values: &mut vec::IntoIter<KeyValue>) -> Option<usize>
+    ensures value { result ≡ optional (first (into_iter_items values.old)) }
+    ensures left { into_iter_items values.new ≡ rest (into_iter_items values.old) }
 {
-    let number = optional(&mut values.into_iter())?;
+    let number = optional(values)?;
     Some(number as usize)
 }
 
@@ -60,7 +63,7 @@ pub(crate) fn actor_at(
 ) -> Result<ActorEntry, ReadFault>
     ensures given { Gives actor_view result (actor_at actor format (lookup_of files.entry) (names_of names.now) (view value.now)) }
     ensures fresh { IfOk result (λ a. list_any (bytes_eq (string_bytes a.name)) (names_of names.now) ≡ false) }
-    ensures within { IfOk result (λ a. IsWithin (are_read files.entry) a.kind) }
+    ensures within { IfOk result (IsActorWithin (are_read files.entry)) }
 {
     let Some(table) = value.as_table() else {
         return Err(ReadFault::Document(DocumentFault::WrongType(Place::Actor(actor), "actor")));
@@ -70,10 +73,11 @@ pub(crate) fn actor_at(
     let known = actor_keys(alloc, row_of(word).keys, table)?;
     test_keys(alloc, Spot::Actor(actor), known.as_slice(), table)?;
     let kind = kind_at(alloc, actor, files, word, table)?;
-    let shared = values_at(alloc, actor, files, shared_keys(), table)?;
+    let mut shared = values_at(alloc, actor, files, shared_keys(), table)?.into_iter();
     Ok(ActorEntry {
         name: String::from_str(alloc, name)?,
         kind,
-        processor: processor_of(shared),
+        processor: processor(&mut shared),
+        cost: natural(&mut shared),
     })
 }

@@ -6,10 +6,9 @@ ghost use Rattle.sdf_document.specs.Fault.{Gives};
 ghost use Rattle.sdf_document.specs.Names.{names_of};
 ghost use Rattle.sdf_document.specs.Tables.{texts_of};
 ghost use Rattle.sdf_document.specs.Lists.{files_view, lookup_of, are_read};
-ghost use Rattle.sdf_document.specs.Kinds.{IsWithin};
-ghost use Rattle.sdf_document.specs.Actors.{actor_view};
+ghost use Rattle.sdf_document.specs.Actors.{actor_view, IsActorWithin};
 ghost use Rattle.sdf_document.specs.Links.{link_view};
-ghost use Rattle.sdf_document.specs.Document.{names_in, actors_in, links_in, array_at, item_count, top_keys, parts_at, parts_view, document_view, document_of, kind_file, actor_file, first_seen, with_name, file_names_of, texts_view};
+ghost use Rattle.sdf_document.specs.Document.{names_in, actors_in, links_in, array_at, item_count, top_keys, parts_at, parts_view, document_view, document_of, kind_file, actor_file, first_seen, file_names_of};
 
 use crate::actor::actor_at;
 use crate::entry::{ActorEntry, Document, KindEntry, LinkEntry};
@@ -31,7 +30,7 @@ fn actors_in(
 ) -> Result<(Vec<ActorEntry>, IndexSet<String>), ReadFault>
     ensures given { Gives (λ x. map actor_view x.0.items) result (actors_in format (lookup_of files.entry) (items_view items.now)) }
     ensures named { IfOk result (λ x. names_of x.1 ≡ names_in (map actor_view x.0.items)) }
-    ensures within { IfOk result (λ x. All (λ a. IsWithin (are_read files.entry) a.kind) x.0.items) }
+    ensures within { IfOk result (λ x. All (IsActorWithin (are_read files.entry)) x.0.items) }
 {
     let mut actors = Vec::new(alloc);
     let mut names = IndexSet::new(alloc);
@@ -118,7 +117,7 @@ pub fn read_document(
     files: &[(String, Vec<u8>)],
 ) -> Result<Document, ReadFault>
     ensures given { Gives document_view result (document_of graph.now (files_view files.now)) }
-    ensures within { IfOk result (λ d. All (λ a. IsWithin true a.kind) d.actors.items) }
+    ensures within { IfOk result (λ d. All (IsActorWithin true) d.actors.items) }
 {
     let table = table_in(alloc, Spot::Top, graph)?;
     let parts = parts_at(alloc, &table)?;
@@ -142,31 +141,15 @@ fn file_of(kind: &KindEntry) -> Option<&str>
     }
 }
 
-fn has_name(names: &[String], name: &str) -> bool
-    ensures { result ≡ list_any (λ n. bytes_eq name.now (string_bytes n)) names.now }
+/// The coefficient files that actors name.
+#[tactic(auto, using(crate::proofs::FirstSeen::wanted_more, crate::proofs::FirstSeen::wanted_same, crate::proofs::Names::names_inserted))]
+fn names_wanted(alloc: Global, actors: &[ActorEntry]) -> Result<IndexSet<String>, AllocError>
+    ensures { IfOk result (λ names. names_of names ≡ first_seen (filter_map actor_file (map actor_view actors.now))) }
 {
-    names.iter().any(|n| name == n.as_str())
-}
-
-/// Puts a name last, unless it is there.
-#[tactic(auto, using(crate::proofs::Names::list_any_names, std::proofs::lemmas::List::map_push))]
-fn add_name(alloc: Global, names: &mut Vec<String>, name: &str) -> Result<(), AllocError>
-    ensures { OnOk result (texts_view names.new.items ≡ with_name (texts_view names.old.items) name.now) }
-{
-    if has_name(names, name) {
-        return Ok(());
-    }
-    Ok(names.push(String::from_str(alloc, name)?)?)
-}
-
-#[tactic(auto, using(crate::proofs::FirstSeen::wanted_more, crate::proofs::FirstSeen::wanted_same))]
-fn names_wanted(alloc: Global, actors: &[ActorEntry]) -> Result<Vec<String>, AllocError>
-    ensures { IfOk result (λ v. texts_view v.items ≡ first_seen (filter_map actor_file (map actor_view actors.now))) }
-{
-    let mut names = Vec::new(alloc);
+    let mut names = IndexSet::new(alloc);
     for actor in actors {
         if let Some(name) = file_of(&actor.kind) {
-            add_name(alloc, &mut names, name)?;
+            names.insert(String::from_str(alloc, name)?)?;
         }
     }
     Ok(names)
@@ -175,8 +158,8 @@ fn names_wanted(alloc: Global, actors: &[ActorEntry]) -> Result<Vec<String>, All
 /// The coefficient files that a graph file names, each once, where it stands first, or the first test that it fails
 /// of those that need no such file: all but those of the links.
 #[tactic(auto, unfolding(crate::specs::Document::file_names_of))]
-pub fn file_names(alloc: Global, graph: &[u8]) -> Result<Vec<String>, ReadFault>
-    ensures { Gives (λ v. texts_view v.items) result (file_names_of graph.now) }
+pub fn file_names(alloc: Global, graph: &[u8]) -> Result<IndexSet<String>, ReadFault>
+    ensures { Gives names_of result (file_names_of graph.now) }
 {
     let table = table_in(alloc, Spot::Top, graph)?;
     let parts = parts_at(alloc, &table)?;

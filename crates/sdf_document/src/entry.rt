@@ -9,12 +9,13 @@ pub struct Document {
     pub links: Vec<LinkEntry>,
 }
 
-/// An actor: its name, its kind with its values, and its home processor.
+/// An actor: its name, its kind with its values, its home processor, and what a firing costs.
 #[derive(Debug, Drop)]
 pub struct ActorEntry {
     pub name: String,
     pub kind: KindEntry,
     pub processor: Option<usize>,
+    pub cost: u32,
 }
 
 /// A kind with its values, each within its limits.

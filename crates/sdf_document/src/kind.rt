@@ -47,7 +47,7 @@ pub(crate) fn word_at(actor: usize, format: u32, table: &Table) -> Result<KindWo
 }
 
 /// The next value, where it is a whole number that is not negative.
-fn natural(values: &mut vec::IntoIter<KeyValue>) -> u32
+pub(crate) fn natural(values: &mut vec::IntoIter<KeyValue>) -> u32
     ensures value { result ≡ natural (first (into_iter_items values.old)) }
     ensures left { into_iter_items values.new ≡ rest (into_iter_items values.old) }
 {

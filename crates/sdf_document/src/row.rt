@@ -10,8 +10,8 @@ ghost use Rattle.std.specs.Prelude.{◌≡◌};
 ghost use Rattle.sdf_document.specs.Rows.{keys_view, row_view, shared_keys, row_of, kinds};
 
 use sdf_limits::{
-    LEAST_WAYS, MOST_CHANNEL, MOST_DELAY, MOST_FACTOR, MOST_PROCESSOR, MOST_RATE, MOST_RUN,
-    MOST_SHIFT, MOST_TAPS, MOST_VALUES, MOST_WAYS,
+    LEAST_WAYS, MOST_CHANNEL, MOST_COST, MOST_DELAY, MOST_FACTOR, MOST_PROCESSOR, MOST_RATE,
+    MOST_RUN, MOST_SHIFT, MOST_TAPS, MOST_VALUES, MOST_WAYS,
 };
 
 /// The kinds of actors.
@@ -96,7 +96,10 @@ static TURN_KEYS: [Key; 2] = [
     Key("run", Form::Natural(1, MOST_RUN, Some(1))),
 ];
 
-static SHARED_KEYS: [Key; 1] = [Key("processor", Form::Optional(0, MOST_PROCESSOR))];
+static SHARED_KEYS: [Key; 2] = [
+    Key("processor", Form::Optional(0, MOST_PROCESSOR)),
+    Key("cost", Form::Natural(1, MOST_COST, Some(1))),
+];
 
 static KINDS: [KindWord; 12] = [
     KindWord::Input,

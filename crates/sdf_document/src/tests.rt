@@ -153,13 +153,28 @@ fn names_the_fault_and_its_place(rt: HostRuntime) -> Result<(), Fail> {
         ("shift = 15", "shift = 16", "28 KitValue actor 1 key shift"),
         (
             "shift = 15",
-            "shift = 15\nzeta = 1\ncost = 2",
-            "51 UnknownKey actor 1 key cost",
+            "shift = 15\nzeta = 1\nprice = 2",
+            "51 UnknownKey actor 1 key price",
         ),
         (
             "processor = 0",
             "processor = 16",
             "28 KitValue actor 0 key processor",
+        ),
+        (
+            "processor = 0",
+            "processor = 0\ncost = 1000001",
+            "28 KitValue actor 0 key cost",
+        ),
+        (
+            "processor = 0",
+            "processor = 16\ncost = \"1\"",
+            "28 KitValue actor 0 key processor",
+        ),
+        (
+            "processor = 0",
+            "cost = 1.0",
+            "53 WrongType actor 0 key cost",
         ),
         (
             "channel = 0\nblock",
@@ -372,7 +387,7 @@ fn names_wanted_files_once(rt: HostRuntime) -> Result<(), Fail> {
     )?;
     let names = file_names(alloc, text.as_bytes())?;
     assert_eq!(rt; names.len(), 2);
-    match (names.get(0), names.get(1)) {
+    match (names.get_index(0), names.get_index(1)) {
         (Some(first), Some(second)) => {
             assert!(rt; first.as_str() == "h.toml" && second.as_str() == "t.toml");
         }

@@ -1,6 +1,7 @@
 -- What holds of every design holds of the design of a document.
 use Rattle.sdf_limits.specs.declared.TheConstants.{MOST_CHANNEL}
-use Rattle.std.proofs.Common.{◌≤◌, ◌+◌, ℕ, ℤ, List, [], ◌∷◌, map, max, true, arith}
+use Rattle.std.proofs.Common.{◌≡◌, ◌≤◌, ◌<◌, ◌+◌, ℕ, zero, suc, ℤ, List, [], ◌∷◌, map, max, length, true, refl, ap, arith}
+use Rattle.std.specs.Prelude.{slice_index}
 use Rattle.std.specs.List.{All, fold}
 use Rattle.std.specs.Option.{option_map_or}
 use Rattle.std.proofs.Math.Nat.{max-le}
@@ -9,7 +10,7 @@ use Rattle.sdf_document.specs.declared.entry.ActorEntry.{ActorEntry}
 use Rattle.sdf_document.specs.declared.entry.KindEntry.{KindEntry}
 use Rattle.sdf_document.specs.declared.entry.KindEntry.TheVariants.{Input as InputEntry, Output as OutputEntry, Fir, Decimate, Interpolate, Add, Fork, Gain, Delay, Table, Deal, Gather}
 use Rattle.sdf_document.specs.Kinds.{IsWithin}
-use Rattle.sdf_document.specs.Actors.{ActorValue, actor_view}
+use Rattle.sdf_document.specs.Actors.{ActorValue, actor_view, IsActorWithin}
 use Rattle.sdf_actor.specs.declared.node.Node.{Node}
 use Rattle.sdf_actor.specs.declared.sides.Lists.{Lists}
 use Rattle.sdf_actor.specs.declared.sides.Lists.TheVariants.{Inputs, Outputs}
@@ -20,6 +21,7 @@ use Rattle.sdf_actor.specs.Nets.{Netlist}
 use Rattle.sdf_actor.specs.NetFaults.{IsNetFault}
 use Rattle.sdf_actor.specs.declared.fault.NetFault.{NetFault}
 use Rattle.sdf_actor.specs.declared.fault.NetFault.TheVariants as nets
+use Rattle.sdf_prec.specs.Costs.{IsCost, AreCosts}
 use Rattle.sdf_file.specs.Faults.{of_net}
 use Rattle.sdf_file.specs.Designs.{node_of, IsMadeFault}
 
@@ -53,17 +55,33 @@ small_list Outputs (Table offset values) h = omega arith
 small_list Outputs (Deal ways run) h = omega arith
 small_list Outputs (Gather ways run) h = omega arith
 
-small_lists : (lists : Lists) (es : List ActorEntry) (m : ℕ) → m ≤ MOST_CHANNEL + 1 → All (λ a. IsWithin true a.kind) es
+small_lists : (lists : Lists) (es : List ActorEntry) (m : ℕ) → m ≤ MOST_CHANNEL + 1 → All (IsActorWithin true) es
     → fold (λ n x. max n (list_room lists x)) m (map (λ (a : ActorValue). node_of a.kind) (map actor_view es)) ≤ MOST_CHANNEL + 1
 small_lists lists [] m h all = h
 small_lists lists (e ∷ es) m h all =
     small_lists lists es (max m (list_room lists (node_of e.kind)))
-    (max-le h (small_list lists e.kind (All-head (λ a. IsWithin true a.kind) e es all)))
-    (All-tail (λ a. IsWithin true a.kind) e es all)
+    (max-le h (small_list lists e.kind (All-head (IsActorWithin true) e es all).0))
+    (All-tail (IsActorWithin true) e es all)
 
-pub few_lists : (lists : Lists) (es : List ActorEntry) → All (λ a. IsWithin true a.kind) es
+pub few_lists : (lists : Lists) (es : List ActorEntry) → All (IsActorWithin true) es
     → list_count lists (map (λ (a : ActorValue). node_of a.kind) (map actor_view es)) ≤ MOST_CHANNEL + 1
 few_lists lists es all = small_lists lists es 0 (omega arith) all
+
+abbrev pub costs_of : List ActorEntry → List ℕ
+costs_of es = map (λ (a : ActorValue). a.cost) (map actor_view es)
+
+each_costs : (es : List ActorEntry) → All (IsActorWithin true) es → (a : ℕ) → a < length es → IsCost (slice_index (costs_of es) a)
+each_costs [] all a h = absurd (omega arith)
+each_costs (e ∷ es) all zero h = (All-head (IsActorWithin true) e es all).1.1.0
+each_costs (e ∷ es) all (suc a) h = each_costs es (All-tail (IsActorWithin true) e es all) a (omega arith)
+
+as_many : (es : List ActorEntry) → length (costs_of es) ≡ length es
+as_many [] = refl
+as_many (e ∷ es) = ap suc (as_many es)
+
+-- actors within their limits have lawful costs
+pub have_costs : (es : List ActorEntry) → All (IsActorWithin true) es → AreCosts (length es) (costs_of es)
+have_costs es all = record { all = as_many es; each = each_costs es all }
 
 -- a fault of the net as one of the file
 pub made_fault : (n : Netlist Kit ℤ) (fault : NetFault) → IsNetFault kit_steps n fault → IsMadeFault n (of_net fault)

@@ -19,14 +19,16 @@ use Rattle.sdf_actor.specs.NetFaults.{IsAccepted, IsNetFault}
 use Rattle.sdf_kit.specs.declared.kit.Kit.{Kit}
 use Rattle.sdf_kit.specs.declared.kit.Kit.TheVariants as kits
 use Rattle.sdf_kit.specs.Kit.{kit_steps}
+use Rattle.sdf_prec.specs.Costs.{AreCosts}
 use Rattle.sdf_file.specs.declared.fault.FileFault.{FileFault}
 use Rattle.sdf_file.specs.declared.fault.FileFault.TheVariants.{OutOfMemory, Document, Net}
 
--- a net, and of each of its actors the name and the home processor
+-- a net, and of each of its actors the name, the home processor and the cost of a firing
 pub record DesignValue : Type 0 where
   pub net : Netlist Kit ℤ
   pub names : List (List ℕ)
   pub homes : List (Option ℕ)
+  pub costs : List ℕ
 
 -- ---- the design that a document says
 
@@ -53,6 +55,7 @@ design_of d = record {
   net = record { nodes = map (λ (a : ActorValue). node_of a.kind) d.actors; wires = map wire_of d.links };
   names = map (λ (a : ActorValue). a.name) d.actors;
   homes = map (λ (a : ActorValue). a.processor) d.actors;
+  costs = map (λ (a : ActorValue). a.cost) d.actors;
 }
 
 -- ---- the design of files: that of their document, where the net of it passes all tests of nets
@@ -92,9 +95,10 @@ IsNamesFault graph (Net fault) = ⊥
 
 -- ---- what holds of every design
 
--- each node has a name, and a home or none; there are no inputs and outputs but of a WAV file's channels
+-- each node has a name, a home or none, and a cost; there are no inputs and outputs but of a WAV file's channels
 pub record IsDesign (d : DesignValue) : Type 0 where
   pub named : length d.names ≡ length d.net.nodes
   pub housed : length d.homes ≡ length d.net.nodes
+  pub priced : AreCosts (length d.net.nodes) d.costs
   pub inputs : list_count Inputs d.net.nodes ≤ MOST_CHANNEL + 1
   pub outputs : list_count Outputs d.net.nodes ≤ MOST_CHANNEL + 1

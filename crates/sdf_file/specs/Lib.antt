@@ -1,3 +1,4 @@
 pub mod Faults
 pub mod Designs
 pub mod Texts
+pub mod Schedules

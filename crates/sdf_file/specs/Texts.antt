@@ -21,13 +21,16 @@ q_line name count = codes "q " ++ name ++ codes " " ++ decimal count ++ end
 abbrev pub q_lines : DesignValue → List ℕ → ℕ → List ℕ
 q_lines d q n = flat_map (λ a. q_line (slice_index_or d.names a []) (slice_index q a)) (range_with_len 0 n)
 
+-- how many firings a period q has, and the lines of the actors
+abbrev pub period_text : DesignValue → List ℕ → List ℕ
+period_text d q = codes "period " ++ decimal (sum q) ++ end ++ q_lines d q (length d.net.nodes)
+
 -- what `check` prints of a design with period vector q
 abbrev pub check_text : DesignValue → List ℕ → List ℕ
 check_text d q =
     codes "actors " ++ decimal (length d.net.nodes) ++ end
     ++ codes "links " ++ decimal (length d.net.wires) ++ end
-    ++ codes "period " ++ decimal (sum q) ++ end
-    ++ q_lines d q (length d.net.nodes)
+    ++ period_text d q
     ++ codes "input " ++ decimal (period_samples d.net.nodes Inputs q) ++ codes " output " ++ decimal (period_samples d.net.nodes Outputs q) ++ end
 
 -- the text of a design, whose period vector is the least

@@ -2,26 +2,29 @@
 ghost use Rattle.std.specs.Prelude.{◌≡◌, ◌<◌, ℕ, List, [], true, map, length, string_bytes, slice_index_or, MatchResult};
 ghost use Rattle.std.specs.List.{All};
 ghost use Rattle.sdf_document.specs.Lists.{files_view};
-ghost use Rattle.sdf_document.specs.Kinds.{IsWithin};
-ghost use Rattle.sdf_document.specs.Document.{document_view, file_names_of, texts_view};
+ghost use Rattle.sdf_document.specs.Actors.{IsActorWithin};
+ghost use Rattle.sdf_document.specs.Document.{document_view, file_names_of};
+ghost use Rattle.sdf_document.specs.Names.{names_of};
 ghost use Rattle.sdf_actor.specs.NetFaults.{IsAccepted};
 ghost use Rattle.sdf_kit.specs.Kit.{kit_steps};
 ghost use Rattle.sdf_file.specs.Designs.{design_of, IsDesign, IsDesignOf, IsFileFault, IsMadeFault, AreFileNames, IsNamesFault};
 
 use crate::fault::FileFault;
 use crate::parts::{links_of, parts_of};
+use indexmap::IndexSet;
 use sdf_actor::Net;
 use sdf_document::{Document, file_names, read_document};
 use sdf_kit::Kit;
 use std::alloc::Global;
 use std::marker::Model;
 
-/// A design: a net, and of each of its actors the name and the home processor.
+/// A design: a net, and of each of its actors the name, the home processor and the cost of a firing.
 #[derive(Drop)]
 pub struct Design {
     net: Net<Kit>,
     names: Vec<String>,
     homes: Vec<Option<usize>>,
+    costs: Vec<u32>,
 }
 
 impl Model for Design {
@@ -30,9 +33,9 @@ impl Model for Design {
 
     ghost Value = { DesignValue };
 
-    ghost view = { λ d. record { net = d.net; names = map string_bytes d.names.items; homes = d.homes.items } };
+    ghost view = { λ d. record { net = d.net; names = map string_bytes d.names.items; homes = d.homes.items; costs = d.costs.items } };
 
-    ghost invariant = { λ d. IsDesign (record { net = d.net; names = map string_bytes d.names.items; homes = d.homes.items }) };
+    ghost invariant = { λ d. IsDesign (record { net = d.net; names = map string_bytes d.names.items; homes = d.homes.items; costs = d.costs.items }) };
 }
 
 impl Design {
@@ -52,25 +55,42 @@ impl Design {
         self.names[actor].as_str()
     }
 
+    /// The name of an actor, or no letters where there is no such actor.
+    pub(crate) fn name_of(&self, actor: usize) -> &str
+        ensures { result.now ≡ slice_index_or self.now.names actor [] }
+    {
+        match self.names.get(actor) {
+            Some(name) => name.as_str(),
+            None => "",
+        }
+    }
+
     /// The home processor of each actor, where its key `processor` names one.
     pub fn homes(&self) -> &[Option<usize>]
         ensures { result.now ≡ self.now.homes }
     {
         &self.homes
     }
+
+    /// What a firing of each actor costs, by its key `cost`: 1 to 1,000,000.
+    pub fn costs(&self) -> &[u32]
+        ensures { result.now ≡ self.now.costs }
+    {
+        &self.costs
+    }
 }
 
 /// The coefficient files that a graph file names, each once, where it stands first; or the first test that it fails of
 /// those that look into no coefficient file, all but those of the links and of the net.
-pub fn design_files(alloc: Global, graph: &[u8]) -> Result<Vec<String>, FileFault>
-    ensures { MatchResult result (λ v. AreFileNames graph.now (texts_view v.items)) (IsNamesFault graph.now) }
+pub fn design_files(alloc: Global, graph: &[u8]) -> Result<IndexSet<String>, FileFault>
+    ensures { MatchResult result (λ names. AreFileNames graph.now (names_of names)) (IsNamesFault graph.now) }
 {
     Ok(file_names(alloc, graph)?)
 }
 
 /// A document as a design, or the first test that its net fails.
 fn design_of(alloc: Global, document: Document) -> Result<Design, FileFault>
-    requires { All (λ a. IsWithin true a.kind) document.actors.items }
+    requires { All (IsActorWithin true) document.actors.items }
     ensures { MatchResult result
         (λ d. (d ≡ design_of (document_view document)) × ((q : List ℕ) × IsAccepted kit_steps d.net q))
         (IsMadeFault (design_of (document_view document)).net) }
@@ -83,6 +103,7 @@ fn design_of(alloc: Global, document: Document) -> Result<Design, FileFault>
         net,
         names: parts.names,
         homes: parts.homes,
+        costs: parts.costs,
     })
 }
 

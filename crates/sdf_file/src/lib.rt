@@ -1,17 +1,19 @@
-//! Designs from files, and the text that says what a design is.
+//! Designs from files, and the texts that say what a design and its schedule are.
 //!
 //! It stands on `sdf_document`, which reads the files as entries, on `sdf_actor` and `sdf_kit`, whose nets and kinds of
-//! actors it makes of them, and on `sdf_graph`. Begin at `design`; the definitions are in `specs/Designs.antt` and
-//! `specs/Texts.antt`.
+//! actors it makes of them, and on `sdf_graph`; the text of a schedule is of a period of `sdf_sched` and a table of `sdf_prec`. Begin at
+//! `design`; the definitions are in `specs/Designs.antt`, `specs/Texts.antt` and `specs/Schedules.antt`.
 #![tactic(auto)]
 
 pub mod design;
 pub mod fault;
 mod parts;
+pub mod schedule;
 pub mod texts;
 
 pub use design::{Design, design_files, read_design};
 pub use fault::FileFault;
+pub use schedule::schedule_text;
 pub use sdf_document::{DocumentFault, Place};
 pub use texts::check_text;
 

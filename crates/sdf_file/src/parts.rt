@@ -6,11 +6,12 @@ ghost use Rattle.sdf_limits.specs.declared.TheConstants.{MOST_CHANNEL, MOST_FACT
 ghost use Rattle.sdf_document.specs.Lists.{is_list};
 ghost use Rattle.sdf_kit.specs.declared.kit.Kit.TheVariants as kits;
 ghost use Rattle.sdf_document.specs.Kinds.{IsWithin};
-ghost use Rattle.sdf_document.specs.Actors.{ActorValue, actor_view};
+ghost use Rattle.sdf_document.specs.Actors.{ActorValue, actor_view, IsActorWithin};
 ghost use Rattle.sdf_document.specs.Links.{link_view};
 ghost use Rattle.sdf_actor.specs.Sides.{list_count};
 ghost use Rattle.sdf_actor.specs.declared.sides.Lists.TheVariants.{Inputs, Outputs};
 ghost use Rattle.sdf_actor.specs.Wires.{wires, wire_of as wire_of_link};
+ghost use Rattle.sdf_prec.specs.Costs.{AreCosts};
 ghost use Rattle.sdf_file.specs.Designs.{node_of, wire_of};
 
 use sdf_actor::{Link, Node};
@@ -80,34 +81,39 @@ fn node_of(kind: KindEntry) -> Node<Kit>
     }
 }
 
-/// The nodes of actors, with their names and home processors.
+/// The nodes of actors, with their names, home processors and costs.
 #[derive(Drop)]
 pub(crate) struct Parts {
     pub(crate) nodes: Vec<Node<Kit>>,
     pub(crate) names: Vec<String>,
     pub(crate) homes: Vec<Option<usize>>,
+    pub(crate) costs: Vec<u32>,
 }
 
 impl Parts {
     #[tactic(auto, using(std::proofs::lemmas::List::map_push))]
     fn push(&mut self, actor: ActorEntry) -> Result<(), AllocError>
-        requires { IsWithin true actor.kind }
+        requires { IsActorWithin true actor }
         ensures nodes { OnOk result (self.new.nodes.items ≡ self.old.nodes.items ++ node_of actor.kind ∷ []) }
         ensures names { OnOk result (map string_bytes self.new.names.items ≡ map string_bytes self.old.names.items ++ string_bytes actor.name ∷ []) }
         ensures homes { OnOk result (self.new.homes.items ≡ self.old.homes.items ++ actor.processor ∷ []) }
+        ensures costs { OnOk result (self.new.costs.items ≡ self.old.costs.items ++ actor.cost ∷ []) }
     {
         self.nodes.push(node_of(actor.kind))?;
         self.names.push(actor.name)?;
-        Ok(self.homes.push(actor.processor)?)
+        self.homes.push(actor.processor)?;
+        Ok(self.costs.push(actor.cost)?)
     }
 }
 
 /// The parts of actors, in their order.
 pub(crate) fn parts_of(alloc: Global, actors: Vec<ActorEntry>) -> Result<Parts, AllocError>
-    requires { All (λ a. IsWithin true a.kind) actors.items }
+    requires { All (IsActorWithin true) actors.items }
     ensures nodes { IfOk result (λ p. p.nodes.items ≡ map (λ (a : ActorValue). node_of a.kind) (map actor_view actors.items)) }
     ensures names { IfOk result (λ p. map string_bytes p.names.items ≡ map (λ (a : ActorValue). a.name) (map actor_view actors.items)) }
     ensures homes { IfOk result (λ p. p.homes.items ≡ map (λ (a : ActorValue). a.processor) (map actor_view actors.items)) }
+    ensures costs { IfOk result (λ p. p.costs.items ≡ map (λ (a : ActorValue). a.cost) (map actor_view actors.items)) }
+    ensures priced { IfOk result (λ p. AreCosts (length actors.items) p.costs.items) }
     ensures inputs { IfOk result (λ p. list_count Inputs p.nodes.items ≤ MOST_CHANNEL + 1) }
     ensures outputs { IfOk result (λ p. list_count Outputs p.nodes.items ≤ MOST_CHANNEL + 1) }
 {
@@ -115,6 +121,7 @@ pub(crate) fn parts_of(alloc: Global, actors: Vec<ActorEntry>) -> Result<Parts, 
         nodes: Vec::new(alloc),
         names: Vec::new(alloc),
         homes: Vec::new(alloc),
+        costs: Vec::new(alloc),
     };
     for actor in actors {
         parts.push(actor)?;

@@ -13,6 +13,7 @@ name = \"out\"
 kind = \"output\"
 channel = 0
 block = 3
+cost = 7
 [[link]]
 from = \"in\"
 to = \"out\"
@@ -90,6 +91,8 @@ fn reads_and_checks_a_design(rt: HostRuntime) -> Result<(), Fail> {
     assert_eq!(rt; design.name(1), "out");
     assert!(rt; design.homes().get(0) == Some(&Some(3)));
     assert!(rt; design.homes().get(1) == Some(&None));
+    assert!(rt; design.costs().get(0) == Some(&1));
+    assert!(rt; design.costs().get(1) == Some(&7));
     let text = check_text(rt.alloc(), &design)?;
     assert_eq!(rt;
         text.as_str(),

@@ -1,6 +1,6 @@
 //! The texts of designs.
 ghost use Rattle.std.specs.Prelude.{◌≡◌, ◌++◌, IfOk, OnOk, length, string_bytes};
-ghost use Rattle.sdf_file.specs.Texts.{q_line, q_lines, check_text, IsCheckText};
+ghost use Rattle.sdf_file.specs.Texts.{q_line, q_lines, period_text, check_text, IsCheckText};
 ghost use Rattle.sdf_graph.specs.Rates.{rates};
 ghost use Rattle.sdf_graph.specs.Periods.{IsLeastPeriod};
 ghost use Rattle.sdf_actor.specs.Graphs.{graph_of};
@@ -36,6 +36,20 @@ fn push_q_lines(
     Ok(())
 }
 
+/// Adds how many firings a period has, and how many of them each actor's are.
+pub(crate) fn push_period(
+    text: &mut String,
+    design: &Design,
+    repetitions: &Repetitions,
+) -> Result<(), AllocError>
+    requires { length repetitions.now ≡ length design.now.net.nodes }
+    ensures { OnOk result (string_bytes text.new ≡ string_bytes text.old ++ period_text design.now repetitions.now) }
+{
+    let period = repetitions.period();
+    writeln!(text, "period {period}")?;
+    push_q_lines(text, design, repetitions)
+}
+
 /// How many samples each input puts and each output takes in a period.
 fn samples_each_way(net: &Net<Kit>, repetitions: &Repetitions) -> (usize, usize)
     requires { IsLeastPeriod (rates (graph_of kit_steps net.now)) repetitions.now }
@@ -57,10 +71,9 @@ fn text_with(
     let net = design.net();
     let actors = net.len();
     let links = net.channels();
-    let period = repetitions.period();
     let (input, output) = samples_each_way(net, repetitions);
-    let mut text = format!(in alloc; "actors {actors}\nlinks {links}\nperiod {period}\n")?;
-    push_q_lines(&mut text, design, repetitions)?;
+    let mut text = format!(in alloc; "actors {actors}\nlinks {links}\n")?;
+    push_period(&mut text, design, repetitions)?;
     writeln!(text, "input {input} output {output}")?;
     Ok(text)
 }

@@ -11,7 +11,7 @@ use Rattle.sdf_graph.specs.Periods.{IsPeriodVector, IsLeastPeriod, IsMultiple, I
 use Rattle.sdf_graph.specs.declared.fault.GraphFault.{GraphFault}
 use Rattle.sdf_graph.specs.declared.fault.GraphFault.TheVariants.{OutOfMemory, PeriodTooLong}
 use Rattle.sdf_graph.specs.declared.repetitions.Ratio.{Ratio}
-use Rattle.sdf_graph.specs.Shares.{IsCycleVector, IsWalk, IsCommon, IsEven, IsScaleFault, ratio, firings, turns, totals}
+use Rattle.sdf_graph.specs.Shares.{IsCycleVector, AreShares, IsCommon, IsEven, IsScaleFault, ratio, firings, turns, totals}
 use Rattle.sdf_graph.proofs.Cycles.{sum_within}
 use Rattle.sdf_graph.proofs.Shapes.{whole_cycles}
 use Rattle.sdf_graph.proofs.Faultless.{cycle_some}
@@ -60,8 +60,8 @@ module _ (g : Shape) (shape : IsShape g) where
   pub none_long : ((p : List ℕ) → IsCycleVector g p → 65536 < sum p) → (p : List ℕ) → IsPeriodVector (rates g) p → 65536 < sum p
   none_long long p period = omega (arith, long (cycles_in p) (in_cycles p period), sum_in p period)
 
-  module _ (cycles : List ℕ) (same : (a : ℕ) → a < g.actors → get_or cycles a 0 ≡ cycle g a) (parts : List Ratio) (walk : IsWalk g parts)
-      (reached : (a : ℕ) → a < g.actors → 0 < (ratio parts a).num) (m : ℕ) (common : IsCommon parts (length parts) m)
+  module _ (cycles : List ℕ) (same : (a : ℕ) → a < g.actors → get_or cycles a 0 ≡ cycle g a) (parts : List Ratio) (walk : AreShares g parts)
+      (m : ℕ) (common : IsCommon parts (length parts) m)
       (evens : (c : ℕ) → c < length g.channels → IsEven parts (totals (channel g c))) where
     fired : List ℕ
     fired = map (firings cycles parts m) (range_with_len 0 (length parts))
@@ -71,7 +71,7 @@ module _ (g : Shape) (shape : IsShape g) where
 
     turned_are : IsCycleVector g turned
     unfolding turned
-    turned_are = is_period g parts walk reached m common shape evens
+    turned_are = is_period g parts walk m common shape evens
 
     fired_all : length fired ≡ g.actors
     unfolding fired
@@ -81,7 +81,7 @@ module _ (g : Shape) (shape : IsShape g) where
     unfolding fired turned
     fired_at a l =
         get_or-map-range_with_len (firings cycles parts m) 0 (length parts) a a 0 (omega (arith, walk.all)) (zero-add a) ∙
-        omega (arith, ap (λ n. n * turns m (ratio parts a)) (same a l), ap (λ n. n * cycle g a) (entry g parts walk reached m common a l))
+        omega (arith, ap (λ n. n * turns m (ratio parts a)) (same a l), ap (λ n. n * cycle g a) (entry g parts walk m common a l))
 
     are_period : IsPeriodVector (rates g) fired
     are_period = record {
@@ -104,7 +104,7 @@ module _ (g : Shape) (shape : IsShape g) where
     multiple_of p period = (k.0, λ a. go a (cases_lt a g.actors))
       where
         k : IsMultiple (cycles_in p) turned
-        k = multiple g parts walk reached m common (cycles_in p) (in_cycles p period) shape.some
+        k = multiple g parts walk m common (cycles_in p) (in_cycles p period) shape.some
 
         go : (a : ℕ) → (a < g.actors) ⊎ (g.actors ≤ a) → get_or p a 0 ≡ k.0 * get_or fired a 0
         go a (inl l) = omega (arith, whole_in p period a l, ap (λ n. n * cycle g a) (k.1 a), ap (λ n. k.0 * n) (fired_at a l))

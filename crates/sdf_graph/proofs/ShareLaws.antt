@@ -1,14 +1,16 @@
 -- Shares, common denominators, and the vector that they give.
-use Rattle.std.proofs.Common.{◌≡◌, ℕ, zero, suc, ◌+◌, ◌*◌, ◌/◌, ◌≤◌, ◌<◌, List, length, get_or, map, sum, set, sym, ap, ◌∙◌, subst, inl, inr, ◌⊎◌, refl, arith}
+use Rattle.std.proofs.Common.{◌≡◌, ℕ, zero, suc, ◌+◌, ◌*◌, ◌/◌, ◌≤◌, ◌<◌, Bool, true, false, List, length, get_or, map, sum, set, replicate, sym, ap, ◌∙◌, subst, inl, inr, ◌⊎◌, refl, arith}
 use Rattle.std.proofs.Math.Nat.{mul-div_cancel, eq_of_mul-eq-mul_left, mul-le-mul_right}
-use Rattle.std.proofs.lemmas.List.{get_or-map, get_or_past, length-map, get_or-set_same, get_or-set_other, length-set}
+use Rattle.std.proofs.lemmas.List.{get_or-map, get_or_past, length-map, get_or-set_same, get_or-set_other, length-set, length-replicate, get_or-replicate}
 use Rattle.std.proofs.lemmas.List.Sums.{get_or-le-sum_by}
 use Rattle.std.proofs.lemmas.Bool.{cases_lt, cases_eq}
-use Rattle.sdf_graph.specs.Rates.{Shape, Edge, IsShape, IsReached, start, along, back, channel, no_channel}
+use Rattle.sdf_graph.specs.Rates.{Shape, Edge, IsShape, channel, no_channel}
 use Rattle.sdf_graph.specs.Periods.{Divides, IsMultiple}
+use Rattle.sdf_graph.specs.Marks.{is_marked, IsClosed}
+use Rattle.sdf_graph.proofs.Marks.{is_marked-kept, only_first, all_marked}
 use Rattle.sdf_graph.specs.declared.channel.Totals.{Totals}
 use Rattle.sdf_graph.specs.declared.repetitions.Ratio.{Ratio}
-use Rattle.sdf_graph.specs.Shares.{IsReduced, IsShare, IsSmall, IsWalk, IsCommon, IsEven, IsLevel, IsBorder, IsCycleVector, ratio, unreached, turns, totals, no_totals}
+use Rattle.sdf_graph.specs.Shares.{IsReduced, IsShare, IsSmall, IsWalk, AreShares, IsCommon, IsEven, IsCycleVector, ratio, unreached, turns, totals, no_totals}
 
 -- what channels move in a cycle, read by number
 pub totals_read : (chs : List Edge) (c : ℕ) → c < length chs → get_or (map totals chs) c no_totals ≡ totals (get_or chs c no_channel)
@@ -81,9 +83,9 @@ too_long g a f known any s (inr bottom) p period =
     let d : f.den ≤ get_or p 0 0 = no_greater f.den (get_or p 0 0) (period.positive 0 any) (s.lowest.bottom (get_or p a 0) (get_or p 0 0) (s.share p period)) in
     omega (arith, get_or-le-sum_by (λ x. x) p 0 0 (omega (arith, period.all)))
 
-module _ (g : Shape) (parts : List Ratio) (walk : IsWalk g parts) (reached : (a : ℕ) → a < g.actors → 0 < (ratio parts a).num) where
+module _ (g : Shape) (parts : List Ratio) (walk : AreShares g parts) where
   share_of : (a : ℕ) → a < g.actors → IsShare g a (ratio parts a)
-  share_of a h = (walk.each a h (reached a h)).0
+  share_of a h = (walk.each a h).0
 
   -- what balances in some period balances by the shares
   pub must_even : (p : List ℕ) → IsCycleVector g p → IsShape g → (c : ℕ) → c < length g.channels → IsEven parts (totals (channel g c))
@@ -121,7 +123,7 @@ module _ (g : Shape) (parts : List Ratio) (walk : IsWalk g parts) (reached : (a 
     pub is_period : IsShape g → ((c : ℕ) → c < length g.channels → IsEven parts (totals (channel g c))) → IsCycleVector g (map (turns m) parts)
     is_period shape evens = record {
       all = length-map parts (turns m) ∙ walk.all;
-      positive = λ a h. rw (entry a h, over a h) (some_product (factor a h).0 (ratio parts a).num (some_scale (factor a h).0 (ratio parts a).den m common.some (factor a h).1) (reached a h));
+      positive = λ a h. rw (entry a h, over a h) (some_product (factor a h).0 (ratio parts a).num (some_scale (factor a h).0 (ratio parts a).den m common.some (factor a h).1) (share_of a h).top_some);
       balanced = λ c h.
           let s = totals (channel g c) in
           let from = shape.from_in c h in
@@ -148,16 +150,16 @@ module _ (g : Shape) (parts : List Ratio) (walk : IsWalk g parts) (reached : (a 
             none ∙ sym (ap (λ n. k.0 * n) none' ∙ omega arith)
 
 -- the share of the end that is not reached
-module _ (g : Shape) (shape : IsShape g) (parts : List Ratio) (walk : IsWalk g parts) (c : ℕ) (h : c < length g.channels) (ch : Totals) (is : totals (channel g c) ≡ ch) (f : Ratio) where
+module _ (g : Shape) (shape : IsShape g) (parts : List Ratio) (marked : List Bool) (walk : IsWalk g parts marked) (c : ℕ) (h : c < length g.channels) (ch : Totals) (is : totals (channel g c) ≡ ch) (f : Ratio) where
   even_on : (p : List ℕ) → IsCycleVector g p → ch.put * get_or p ch.from 0 ≡ ch.take * get_or p ch.to 0
   even_on p period = subst (λ (ch : Totals). ch.put * get_or p ch.from 0 ≡ ch.take * get_or p ch.to 0) is (period.balanced c h)
 
-  pub share_to : 0 < (ratio parts ch.from).num → IsReduced ((ratio parts ch.from).num * ch.put) ((ratio parts ch.from).den * ch.take) f.num f.den → IsShare g ch.to f
-  share_to some red =
-      let near = (walk.each ch.from (subst (λ (ch : Totals). ch.from < g.actors) is (shape.from_in c h)) some).0 in
+  pub share_to : is_marked marked ch.from ≡ true → IsReduced ((ratio parts ch.from).num * ch.put) ((ratio parts ch.from).den * ch.take) f.num f.den → IsShare g ch.to f
+  share_to on red =
+      let near = (walk.each ch.from (subst (λ (ch : Totals). ch.from < g.actors) is (shape.from_in c h)) on).0 in
       let put_some : 0 < ch.put = subst (λ (ch : Totals). 0 < ch.put) is (shape.put c h).moves in
       let take_some : 0 < ch.take = subst (λ (ch : Totals). 0 < ch.take) is (shape.take c h).moves in
-      let top : 0 < (ratio parts ch.from).num * ch.put = some_product (ratio parts ch.from).num ch.put some put_some in
+      let top : 0 < (ratio parts ch.from).num * ch.put = some_product (ratio parts ch.from).num ch.put near.top_some put_some in
       let bottom : 0 < (ratio parts ch.from).den * ch.take = some_product (ratio parts ch.from).den ch.take near.bottom_some take_some in
       record {
         top_some = some_factor red.scale f.num ((ratio parts ch.from).num * ch.put) top red.top;
@@ -166,12 +168,12 @@ module _ (g : Shape) (shape : IsShape g) (parts : List Ratio) (walk : IsWalk g p
         share = λ p period. share_over (get_or p ch.from 0) (get_or p ch.to 0) (get_or p 0 0) ch.put ch.take (ratio parts ch.from).num (ratio parts ch.from).den f.num f.den (near.share p period) (even_on p period) top red;
       }
 
-  pub share_from : 0 < (ratio parts ch.to).num → IsReduced ((ratio parts ch.to).num * ch.take) ((ratio parts ch.to).den * ch.put) f.num f.den → IsShare g ch.from f
-  share_from some red =
-      let near = (walk.each ch.to (subst (λ (ch : Totals). ch.to < g.actors) is (shape.to_in c h)) some).0 in
+  pub share_from : is_marked marked ch.to ≡ true → IsReduced ((ratio parts ch.to).num * ch.take) ((ratio parts ch.to).den * ch.put) f.num f.den → IsShare g ch.from f
+  share_from on red =
+      let near = (walk.each ch.to (subst (λ (ch : Totals). ch.to < g.actors) is (shape.to_in c h)) on).0 in
       let put_some : 0 < ch.put = subst (λ (ch : Totals). 0 < ch.put) is (shape.put c h).moves in
       let take_some : 0 < ch.take = subst (λ (ch : Totals). 0 < ch.take) is (shape.take c h).moves in
-      let top : 0 < (ratio parts ch.to).num * ch.take = some_product (ratio parts ch.to).num ch.take some take_some in
+      let top : 0 < (ratio parts ch.to).num * ch.take = some_product (ratio parts ch.to).num ch.take near.top_some take_some in
       let bottom : 0 < (ratio parts ch.to).den * ch.put = some_product (ratio parts ch.to).den ch.put near.bottom_some put_some in
       record {
         top_some = some_factor red.scale f.num ((ratio parts ch.to).num * ch.take) top red.top;
@@ -180,41 +182,49 @@ module _ (g : Shape) (shape : IsShape g) (parts : List Ratio) (walk : IsWalk g p
         share = λ p period. share_over (get_or p ch.to 0) (get_or p ch.from 0) (get_or p 0 0) ch.take ch.put (ratio parts ch.to).num (ratio parts ch.to).den f.num f.den (near.share p period) (sym (even_on p period)) top red;
       }
 
--- one actor more
-pub walk_more : (g : Shape) (parts : List Ratio) (a : ℕ) (f : Ratio) → IsWalk g parts → a < g.actors → (ratio parts a).num ≡ 0 → IsShare g a f → IsSmall f → IsWalk g (set parts a f)
-walk_more g parts a f walk known fresh share small = record {
-  all = length-set parts a f ∙ walk.all;
-  begun = begun (cases_eq 0 a);
-  each = λ b h some. each b h (cases_eq b a) some;
+-- at first actor 0 alone has its share, which is one
+pub first_share : (g : Shape) (parts : List Ratio) (n : ℕ) → parts ≡ replicate g.actors (record { num = 1; den = 1 }) → 0 < g.actors → 0 < n → IsWalk g parts (set (replicate n false) 0 true)
+first_share g parts n are some marks = record {
+  all = ap length are ∙ length-replicate g.actors _;
+  begun = get_or-set_same (replicate n false) 0 true false (omega (arith, length-replicate n false));
+  each = λ a h on. subst (λ a. IsShare g a (ratio parts a) × IsSmall (ratio parts a)) (sym (only_first n a on)) (subst (λ (x : Ratio). IsShare g 0 x × IsSmall x) (sym one) (share, record { top = omega arith; bottom = omega arith }));
 }
   where
-    at : ratio (set parts a f) a ≡ f
-    at = get_or-set_same parts a f unreached (omega (arith, walk.all))
+    one : ratio parts 0 ≡ record { num = 1; den = 1 }
+    one = ap (λ (xs : List Ratio). ratio xs 0) are ∙ get_or-replicate g.actors 0 _ unreached some
 
-    begun : (0 ≡ a) ⊎ (0 ≡ a → ⊥) → 0 < (ratio (set parts a f) 0).num
-    begun (inl e) = let n : (ratio parts 0).num ≡ 0 = ap (λ a. (ratio parts a).num) e ∙ fresh in absurd (omega (arith, walk.begun))
-    begun (inr ne) = rw (get_or-set_other parts a 0 f unreached ne) walk.begun
+    share : IsShare g 0 (record { num = 1; den = 1 })
+    share = record {
+      top_some = omega arith;
+      bottom_some = omega arith;
+      lowest = record { top = λ x y e. (x, omega arith); bottom = λ x y e. (y, omega arith) };
+      share = λ p period. refl;
+    }
 
-    each : (b : ℕ) → b < g.actors → (b ≡ a) ⊎ (b ≡ a → ⊥) → 0 < (ratio (set parts a f) b).num → IsShare g b (ratio (set parts a f) b) × IsSmall (ratio (set parts a f) b)
-    each b h (inl e) some = subst (λ b. IsShare g b (ratio (set parts a f) b) × IsSmall (ratio (set parts a f) b)) (sym e) (subst (λ (x : Ratio). IsShare g a x × IsSmall x) (sym at) (share, small))
-    each b h (inr ne) some =
+-- one actor more
+pub walk_more : (g : Shape) (parts : List Ratio) (marked : List Bool) (a : ℕ) (f : Ratio) → IsWalk g parts marked → a < length marked → IsShare g a f → IsSmall f → IsWalk g (set parts a f) (set marked a true)
+walk_more g parts marked a f walk within share small = record {
+  all = length-set parts a f ∙ walk.all;
+  begun = is_marked-kept marked a 0 within walk.begun;
+  each = λ b h on. each b h (cases_eq b a) on;
+}
+  where
+    each : (b : ℕ) → b < g.actors → (b ≡ a) ⊎ (b ≡ a → ⊥) → is_marked (set marked a true) b ≡ true → IsShare g b (ratio (set parts a f) b) × IsSmall (ratio (set parts a f) b)
+    each b h (inl e) on =
+        let at : ratio (set parts a f) b ≡ f = ap (ratio (set parts a f)) e ∙ get_or-set_same parts a f unreached (omega (arith, walk.all)) in
+        subst (λ (x : Ratio). IsShare g b x × IsSmall x) (sym at) (subst (λ b. IsShare g b f) (sym e) share, small)
+    each b h (inr ne) on =
         let same : ratio (set parts a f) b ≡ ratio parts b = get_or-set_other parts a b f unreached ne in
-        subst (λ (x : Ratio). IsShare g b x × IsSmall x) (sym same) (walk.each b h (subst (λ (x : Ratio). 0 < x.num) same some))
+        subst (λ (x : Ratio). IsShare g b x × IsSmall x) (sym same) (walk.each b h (sym (get_or-set_other marked a b true false ne) ∙ on))
 
--- where no channel has exactly one end reached, all actors are
-pub all_reached : (g : Shape) (parts : List Ratio) → 0 < (ratio parts 0).num → ((c : ℕ) → c < length g.channels → IsLevel parts (totals (channel g c))) → (a : ℕ) → IsReached g a → 0 < (ratio parts a).num
-all_reached g parts begun level _ start = begun
-all_reached g parts begun level _ (along c h r) = (level c h).0 (all_reached g parts begun level (channel g c).from r)
-all_reached g parts begun level _ (back c h r) = (level c h).1 (all_reached g parts begun level (channel g c).to r)
+-- where no channel has one end marked and one not, all actors have their shares
+pub walked : (g : Shape) (shape : IsShape g) (parts : List Ratio) (marked : List Bool) → IsWalk g parts marked → IsClosed g.channels marked → AreShares g parts
+walked g shape parts marked walk closed = record { all = walk.all; each = λ a h. walk.each a h (all_marked g marked walk.begun closed a (shape.connected a h)) }
 
-module _ (g : Shape) (shape : IsShape g) (parts : List Ratio) (walk : IsWalk g parts) (reached : (a : ℕ) → a < g.actors → 0 < (ratio parts a).num) where
+module _ (g : Shape) (shape : IsShape g) (parts : List Ratio) (walk : AreShares g parts) where
   -- no period where the common denominator is over the limit
   pub no_common : ((n : ℕ) → 0 < n → ((a : ℕ) → a < length parts → Divides (ratio parts a).den n) → 65536 < n) → (p : List ℕ) → IsCycleVector g p → 65536 < sum p
   no_common over p period =
       let first : 65536 < get_or p 0 0 = over (get_or p 0 0) (period.positive 0 shape.some)
-      (λ a h. let l : a < g.actors = omega (arith, walk.all) in (share_of g parts walk reached a l).lowest.bottom (get_or p a 0) (get_or p 0 0) ((share_of g parts walk reached a l).share p period)) in
+      (λ a h. let l : a < g.actors = omega (arith, walk.all) in (share_of g parts walk a l).lowest.bottom (get_or p a 0) (get_or p 0 0) ((share_of g parts walk a l).share p period)) in
       omega (arith, get_or-le-sum_by (λ x. x) p 0 0 (let l : 0 < length p = omega (arith, period.all, shape.some) in l))
-
-pub other_end : (parts : List Ratio) (c : Totals) → IsBorder parts c → (ratio parts c.from).num ≤ 0 → 0 < (ratio parts c.to).num
-other_end parts c (inl b) none = absurd (omega (arith, b.0))
-other_end parts c (inr b) none = b.0

@@ -2,7 +2,7 @@
 use Rattle.std.specs.Prelude.{◌≡◌, ℕ, ◌+◌, ◌*◌, ◌≤◌, ◌<◌, List, length, take, slice_index, sum}
 use Rattle.sdf_graph.specs.Rates.{Rates, IsAlike, IsSound, Shape, IsShape, rates, sum_to}
 use Rattle.sdf_graph.specs.Sequences.{times, IsAdmissible, IsPass, IsPeriod, repeated, FitsIn}
-use Rattle.sdf_graph.specs.Periods.{IsPeriodVector}
+use Rattle.sdf_graph.specs.Periods.{IsPeriodVector, IsLeastPeriod}
 
 -- the rates of a graph are sound
 abbrev pub GraphsAreSound : Type 0
@@ -11,6 +11,10 @@ GraphsAreSound = (g : Shape) → IsShape g → IsSound (rates g)
 -- its period vectors are periods
 abbrev pub GraphsHavePeriods : Type 0
 GraphsHavePeriods = (g : Shape) (q : List ℕ) → IsShape g → IsPeriodVector (rates g) q → IsPeriod (rates g) (slice_index q)
+
+-- there is one least period vector
+abbrev pub OneLeastPeriod : Type 0
+OneLeastPeriod = (r : Rates) (p q : List ℕ) → IsLeastPeriod r p → IsLeastPeriod r q → p ≡ q
 
 -- the actor that fires last counts one more
 abbrev pub LastCountsMore : Type 0

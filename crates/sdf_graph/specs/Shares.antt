@@ -1,9 +1,10 @@
 -- What the walk over the channels knows: each reached actor's share of actor 0's cycles.
-use Rattle.std.specs.Prelude.{◌≡◌, ℕ, ◌*◌, ◌/◌, ◌≤◌, ◌<◌, List, length, map, sum, slice_index, slice_index_or, ◌⊎◌}
+use Rattle.std.specs.Prelude.{◌≡◌, ℕ, ◌*◌, ◌/◌, ◌≤◌, ◌<◌, Bool, true, List, length, map, sum, slice_index, slice_index_or}
 use Rattle.std.specs.List.{range_with_len}
 use Rattle.sdf_limits.specs.declared.TheConstants.{MOST_PERIOD}
 use Rattle.sdf_graph.specs.Rates.{Shape, Edge, channel}
 use Rattle.sdf_graph.specs.Periods.{Divides}
+use Rattle.sdf_graph.specs.Marks.{is_marked}
 use Rattle.sdf_graph.specs.declared.channel.Totals.{Totals}
 use Rattle.sdf_graph.specs.declared.fault.GraphFault.{GraphFault}
 use Rattle.sdf_graph.specs.declared.fault.GraphFault.TheVariants.{OutOfMemory, PeriodTooLong}
@@ -51,19 +52,16 @@ pub record IsSmall (f : Ratio) : Type 0 where
   pub top : f.num ≤ MOST_PERIOD
   pub bottom : f.den ≤ MOST_PERIOD
 
--- the actors that are reached have their shares
-pub record IsWalk (g : Shape) (parts : List Ratio) : Type 0 where
+-- all actors have their shares
+pub record AreShares (g : Shape) (parts : List Ratio) : Type 0 where
   pub all : length parts ≡ g.actors
-  pub begun : 0 < (ratio parts 0).num
-  pub each : (a : ℕ) → a < g.actors → 0 < (ratio parts a).num → IsShare g a (ratio parts a) × IsSmall (ratio parts a)
+  pub each : (a : ℕ) → a < g.actors → IsShare g a (ratio parts a) × IsSmall (ratio parts a)
 
--- one end of the channel is reached and the other is not
-abbrev pub IsBorder : List Ratio → Totals → Type 0
-IsBorder parts c = ((0 < (ratio parts c.from).num) × ((ratio parts c.to).num ≡ 0)) ⊎ ((0 < (ratio parts c.to).num) × ((ratio parts c.from).num ≡ 0))
-
--- none or both are
-abbrev pub IsLevel : List Ratio → Totals → Type 0
-IsLevel parts c = ((0 < (ratio parts c.from).num) → 0 < (ratio parts c.to).num) × ((0 < (ratio parts c.to).num) → 0 < (ratio parts c.from).num)
+-- the actors that are marked have theirs
+pub record IsWalk (g : Shape) (parts : List Ratio) (marked : List Bool) : Type 0 where
+  pub all : length parts ≡ g.actors
+  pub begun : is_marked marked 0 ≡ true
+  pub each : (a : ℕ) → a < g.actors → is_marked marked a ≡ true → IsShare g a (ratio parts a) × IsSmall (ratio parts a)
 
 -- the shares at the channel's ends balance it
 abbrev pub IsEven : List Ratio → Totals → Type 0

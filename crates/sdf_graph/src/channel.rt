@@ -5,6 +5,7 @@ ghost use Rattle.sdf_graph.specs.Faults.{channel_fault, channels_fault, are_smal
 ghost use Rattle.sdf_graph.specs.Rates.{IsCycle, cycle_among, rate_at};
 ghost use Rattle.sdf_graph.specs.Shares.{totals};
 ghost use Rattle.sdf_graph.specs.Adjacency.{actor_at};
+ghost use Rattle.sdf_graph.specs.Moved.{moves};
 
 use crate::fault::GraphFault;
 use sdf_limits::{MOST_CYCLE, MOST_INITIAL, MOST_RATE};
@@ -41,8 +42,10 @@ pub(crate) struct Totals {
 
 /// One end of a channel.
 #[derive(Clone, Copy)]
-pub(crate) enum End {
+pub enum End {
+    /// That of the actor that puts samples on it.
     Source,
+    /// That of the actor that takes them.
     Target,
 }
 
@@ -71,6 +74,18 @@ impl Channel {
         ensures { result ≡ rate_at self.now.take i }
     {
         rate_at(&self.take, i)
+    }
+
+    /// How many samples firing `i` of the actor at one end moves: `puts` or `takes`.
+    pub fn moves(&self, end: End, i: u32) -> u32
+        requires put { 0 < length self.now.put }
+        requires take { 0 < length self.now.take }
+        ensures { result ≡ moves end self.now i }
+    {
+        match end {
+            End::Source => self.puts(i),
+            End::Target => self.takes(i),
+        }
     }
 
     /// What its ends move in a cycle.

@@ -1,9 +1,9 @@
 //! Graphs, and the faults with which they are refused.
 
 ghost use Rattle.std.specs.Prelude.{◌≡◌, ℕ, ◌^◌, ◌<◌, length, map, slice_index, slice_index_or, MatchResult, IfOk};
-ghost use Rattle.sdf_graph.specs.Rates.{Shape, IsShape, IsCycle, rates, cycle, cycle_among, no_channel};
+ghost use Rattle.sdf_graph.specs.Rates.{Shape, IsShape, IsCycle, rates, channel, cycle, cycle_among, no_channel};
 ghost use Rattle.sdf_graph.specs.Shares.{totals};
-ghost use Rattle.sdf_graph.specs.Adjacency.{AreOutgoing, AreIncoming};
+ghost use Rattle.sdf_graph.specs.Adjacency.{AreOutgoing, AreIncoming, ListsExactly, actor_at};
 ghost use Rattle.sdf_graph.specs.Faults.{IsFaultless, IsFirstFault, numbers_fault};
 
 use crate::adjacency::channels_by_actor;
@@ -108,6 +108,17 @@ impl Graph {
         ensures { AreIncoming (rates self.now) actor result.now }
     {
         &self.incoming[actor]
+    }
+
+    /// The numbers of the channels that have an actor at one end, in rising order: `outgoing` or `incoming`.
+    pub fn channels_at(&self, actor: usize, end: End) -> &[usize]
+        requires { actor < self.now.actors }
+        ensures { ListsExactly (λ c. actor_at end (channel self.now c) ≡ actor) (length self.now.channels) result.now }
+    {
+        match end {
+            End::Source => self.outgoing(actor),
+            End::Target => self.incoming(actor),
+        }
     }
 }
 

@@ -30,21 +30,23 @@ fn reached(actors: usize, channels: &[Channel]) -> [bool; MOST_ACTORS]
 {
     let mut marked = [false; MOST_ACTORS];
     marked[0] = true;
-    while let Some((from, to)) = border(channels, &marked) {
-        marked[from] = true;
-        marked[to] = true;
+    while let Some((_, actor)) = border(channels, &marked) {
+        marked[actor] = true;
     }
     marked
 }
 
-/// The ends of a channel with one end that is marked and one that is not.
-fn border(channels: &[Channel], marked: &[bool]) -> Option<(usize, usize)>
+/// The number of a channel with one end that is marked and one that is not, and the actor that is not.
+pub(crate) fn border(channels: &[Channel], marked: &[bool]) -> Option<(usize, usize)>
     requires { (c : ℕ) → c < length channels.now → IsJoin (length marked.now) (slice_index_or channels.now c no_channel).from (slice_index_or channels.now c no_channel).to }
-    ensures { MatchOption result (IsClosed channels.now marked.now) (λ ends. IsBorder channels.now marked.now ends.0 ends.1) }
+    ensures { MatchOption result (IsClosed channels.now marked.now) (λ found. IsBorder channels.now marked.now found.0 found.1) }
 {
-    for channel in channels {
-        if marked[channel.from] != marked[channel.to] {
-            return Some((channel.from, channel.to));
+    for (number, channel) in channels.iter().enumerate() {
+        if marked[channel.from] && !marked[channel.to] {
+            return Some((number, channel.to));
+        }
+        if marked[channel.to] && !marked[channel.from] {
+            return Some((number, channel.from));
         }
     }
     None

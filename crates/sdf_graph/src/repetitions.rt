@@ -2,19 +2,21 @@
 
 ghost use Rattle.std.specs.Prelude.{◌≡◌, ℕ, ◌*◌, ◌≤◌, ◌<◌, ◌≢◌, ◌↔◌, List, length, map, sum, sum_by, slice_index, slice_index_or, IsTrue, MatchOption, MatchResult, IfOk};
 ghost use Rattle.std.specs.Int.{IsGcd};
-ghost use Rattle.sdf_graph.specs.Rates.{Shape, IsShape, rates, no_channel};
+ghost use Rattle.sdf_graph.specs.Rates.{Shape, IsShape, rates};
 ghost use Rattle.sdf_graph.specs.Periods.{Divides, IsPeriodFault, IsLeastPeriod};
 ghost use Rattle.std.specs.List.{range_with_len};
-ghost use Rattle.sdf_graph.specs.Shares.{ratio, IsReduced, IsShare, IsSmall, IsWalk, IsBorder, IsLevel, IsEven, IsCommon, firings, IsScaleFault, no_totals, totals};
+ghost use Rattle.sdf_graph.specs.Marks.{IsBorder};
+ghost use Rattle.sdf_graph.specs.Shares.{ratio, IsReduced, IsShare, IsSmall, IsWalk, AreShares, IsEven, IsCommon, firings, IsScaleFault, no_totals};
 
 use crate::channel::Totals;
 use crate::fault::GraphFault;
 use crate::graph::Graph;
-use sdf_limits::{MOST_CYCLE, MOST_PERIOD, MOST_RATE};
+use crate::reach::border;
+use sdf_limits::{MOST_ACTORS, MOST_CYCLE, MOST_PERIOD, MOST_RATE};
 use std::alloc::Global;
 use std::marker::Model;
 
-/// How often an actor goes through its cycle for each time that actor 0 does, or 0 / 0 where that is not known yet.
+/// How often an actor goes through its cycle for each time that actor 0 does.
 #[derive(Clone, Copy)]
 pub(crate) struct Ratio {
     pub(crate) num: u64,
@@ -48,24 +50,6 @@ fn reduced(num: u64, den: u64) -> Ratio
         num: num / both,
         den: den / both,
     }
-}
-
-/// The lowest channel with exactly one end reached.
-fn border(channels: &[Totals], parts: &[Ratio]) -> Option<usize>
-    requires from_in { (c : ℕ) → c < length channels.now → (slice_index_or channels.now c no_totals).from < length parts.now }
-    requires to_in { (c : ℕ) → c < length channels.now → (slice_index_or channels.now c no_totals).to < length parts.now }
-    ensures { MatchOption result
-        ((c : ℕ) → c < length channels.now → IsLevel parts.now (slice_index_or channels.now c no_totals))
-        (λ c. (c < length channels.now) × IsBorder parts.now (slice_index_or channels.now c no_totals)) }
-{
-    for (i, channel) in channels.iter().enumerate() {
-        let from = parts[channel.from].num;
-        let to = parts[channel.to].num;
-        if from > 0 && to == 0 || from == 0 && to > 0 {
-            return Some(i);
-        }
-    }
-    None
 }
 
 /// The lowest channel that the fractions do not balance.
@@ -162,39 +146,34 @@ fn scaled(
     })
 }
 
-/// The end of a border channel that is not reached, and its share.
-fn beyond(graph: &Graph, parts: &[Ratio], channel: usize) -> (usize, Ratio)
-    requires walk { IsWalk graph.now parts.now }
-    requires known { channel < length graph.now.channels }
-    requires border { IsBorder parts.now (totals (slice_index_or graph.now.channels channel no_channel)) }
-    ensures within { result.0 < graph.now.actors }
-    ensures fresh { (ratio parts.now result.0).num ≡ 0 }
-    ensures share { IsShare graph.now result.0 result.1 }
+/// The share of the actor beyond a channel of which one end is marked and one is not.
+fn beyond(graph: &Graph, parts: &[Ratio], marked: &[bool], channel: usize) -> Ratio
+    requires walk { IsWalk graph.now parts.now marked.now }
+    requires border { (a : ℕ) × IsBorder graph.now.channels marked.now channel a }
+    ensures { (a : ℕ) → IsBorder graph.now.channels marked.now channel a → IsShare graph.now a result }
 {
     let channel = graph.totals[channel];
-    let from = parts[channel.from];
-    let to = parts[channel.to];
-    if from.num > 0 {
-        (channel.to, carried(from, channel.put, channel.take))
+    if marked[channel.from] {
+        carried(parts[channel.from], channel.put, channel.take)
     } else {
-        (channel.from, carried(to, channel.take, channel.put))
+        carried(parts[channel.to], channel.take, channel.put)
     }
 }
 
 /// The shares of all actors.
 fn walk(graph: &Graph, alloc: Global) -> Result<Vec<Ratio>, GraphFault>
-    ensures { MatchResult result
-        (λ v. IsWalk graph.now v.items × ((a : ℕ) → a < graph.now.actors → 0 < (ratio v.items a).num))
-        (IsPeriodFault graph.now) }
+    ensures { MatchResult result (λ v. AreShares graph.now v.items) (IsPeriodFault graph.now) }
 {
-    let mut parts = vec![in alloc; Ratio { num: 0, den: 0 }; graph.actors]?;
-    parts[0] = Ratio { num: 1, den: 1 };
-    while let Some(channel) = border(&graph.totals, &parts) {
-        let (actor, part) = beyond(graph, &parts, channel);
+    let mut parts = vec![in alloc; Ratio { num: 1, den: 1 }; graph.actors]?;
+    let mut marked = [false; MOST_ACTORS];
+    marked[0] = true;
+    while let Some((channel, actor)) = border(&graph.channels, &marked) {
+        let part = beyond(graph, &parts, &marked, channel);
         if part.num > MOST_PERIOD || part.den > MOST_PERIOD {
             return Err(GraphFault::PeriodTooLong);
         }
         parts[actor] = part;
+        marked[actor] = true;
     }
     Ok(parts)
 }

@@ -57,6 +57,12 @@ pub const MOST_PROCESSOR: u32 = 15;
 /// Periods of a block: 1 to this.
 pub const MOST_BLOCKING: u32 = 64;
 
+/// Firings of a block.
+pub const MOST_BLOCK: u64 = 65_536;
+
+/// What a firing costs: 1 to this.
+pub const MOST_COST: u32 = 1_000_000;
+
 /// Workers: 1 to this.
 pub const MOST_WORKERS: usize = 16;
 

@@ -4,8 +4,6 @@ pub mod Grown
 pub mod Routes
 pub mod Standing
 pub mod Works
-pub mod Prefixes
-pub mod Loops
 pub mod Ends
 pub mod Periods
 pub mod Wholes
@@ -13,3 +11,4 @@ pub mod Readings
 pub mod Beginnings
 pub mod Cycles
 pub mod Sinks
+pub mod Sweeping

@@ -1,5 +1,5 @@
 -- One firing of a node: when it can be done, and what it does.
-use Rattle.std.specs.Prelude.{◌≡◌, ℕ, ◌+◌, ◌-◌, ◌%◌, ◌^◌, ◌≤◌, ◌<◌, ◌==◌, cond, List, [], ◌++◌, length, map, take, drop, slice_index, slice_index_or, vec_capacity}
+use Rattle.std.specs.Prelude.{◌≡◌, ℕ, ◌+◌, ◌-◌, ◌%◌, ◌≤◌, ◌<◌, ◌==◌, cond, List, [], ◌++◌, length, map, take, drop, slice_index, slice_index_or, vec_capacity}
 use Rattle.std.specs.List.{flat_map, between, sum_by}
 use Rattle.std.specs.declared.vec.Vec.{Vec}
 use Rattle.sdf_actor.specs.Steps.{Steps, total_in, total_out}
@@ -58,7 +58,7 @@ CanWork s inputs (Source ext next block) ins outs many more outputs =
 CanWork s inputs (Sink ext) ins outs many more outputs = (outs ≡ []) × (ext < length outputs) × (length (list outputs ext) + many ≤ capacity outputs ext)
 CanWork s inputs (Inner actor phase state taken put lengths) ins outs many more outputs =
     (phase < s.cycle actor.now) × (many ≡ total_in s actor.now phase) × (more ≡ total_out s actor.now phase) × (many ≤ vec_capacity taken) ×
-    (length lengths.items ≡ s.cycle actor.now) × (slice_index lengths.items phase ≡ more) × (more ≤ length put.items) × (s.cycle actor.now < 2 ^ 32)
+    (length lengths.items ≡ s.cycle actor.now) × (slice_index lengths.items phase ≡ more) × (more ≤ length put.items)
 
 -- a node can fire that takes from the channels ins and puts on the channels outs
 pub record CanFire {A S T Z : Type 0} (s : Steps A S T) (inputs : List (List T)) (ins outs takes puts : List ℕ) (w : Work A T S) (qs : List (Held T)) (outputs : List (Vec T Z)) : Type 0 where

@@ -4,4 +4,5 @@ pub mod Sizes
 pub mod Firings
 pub mod Runs
 pub mod Answer
+pub mod Sweeps
 pub mod Twice

@@ -1,6 +1,6 @@
 //! The runner on one thread.
 
-ghost use Rattle.std.specs.Prelude.{◌≡◌, ◌*◌, ◌≤◌, ◌<◌, ◌↔◌, ℕ, List, [], length, slice_index_or, IsTrue, MatchResult, IfOk, IfNone};
+ghost use Rattle.std.specs.Prelude.{◌≡◌, ◌*◌, ◌≤◌, ◌<◌, ◌↔◌, ℕ, List, [], length, map, slice_index_or, IsTrue, MatchResult, IfOk, IfNone};
 ghost use Rattle.sdf_graph.specs.Rates.{rates, IsShape, IsAlike};
 ghost use Rattle.sdf_actor.specs.Nets.{wiring, IsNet};
 ghost use Rattle.sdf_actor.specs.NetFaults.{IsAccepted};
@@ -19,6 +19,9 @@ use crate::sizes::Sizes;
 use sdf_actor::{Actor, Net};
 use sdf_sched::Period;
 use std::alloc::{AllocError, Global};
+
+/// How many samples of an input a block of periods reads, where a period reads no more.
+const BLOCK: usize = 4096;
 
 /// What a run made.
 #[derive(Drop)]
@@ -62,6 +65,26 @@ fn net_facts<A: Actor>(net: &Net<A>)
     let _repetitions = net.repetitions();
 }
 
+/// How often each node has fired before a run.
+fn none_done(alloc: Global, repetitions: &[u32]) -> Result<Vec<usize>, AllocError>
+    ensures { IfOk result (λ v. v.items ≡ map (λ _. 0) repetitions.now) }
+{
+    repetitions.iter().map(|_| 0usize).collect(alloc)
+}
+
+/// How many periods make a block of some thousand samples, where a period reads so many.
+fn block_periods(samples: usize) -> u32
+    requires { 0 < samples }
+    ensures some { 0 < result }
+    ensures few { result ≤ 4096 }
+{
+    if samples > BLOCK {
+        1
+    } else {
+        (BLOCK / samples) as u32
+    }
+}
+
 /// The firings of a run, which make its output lists.
 fn run<A: Actor>(
     alloc: Global,
@@ -81,21 +104,28 @@ fn run<A: Actor>(
     sdf_actor::laws::nets_are_wired::<A>();
     sdf_graph::laws::graphs_are_sound();
     sdf_graph::laws::graphs_have_periods();
-    sdf_graph::laws::counts_grow();
     sdf_graph::laws::periods_repeat();
     sdf_graph::laws::alike_sequences();
+    sdf_graph::laws::one_least_period();
     let sizes = Sizes::new(alloc, net)?;
     let works = make_works(alloc, net, &sizes, filler)?;
-    let queues = make_queues(alloc, net, period.repetitions())?;
+    let repetitions = period.repetitions();
+    let size = block_periods(net.samples_in());
+    let queues = make_queues(alloc, net, repetitions, size)?;
+    let done = none_done(alloc, repetitions)?;
     let mut run = Run {
         net,
         inputs,
         sizes,
+        repetitions,
+        periods,
+        high: 0,
+        done,
         works,
         queues,
         outputs,
     };
-    run.fire_all(period.order(), periods);
+    run.fire_all(size);
     Ok(run.outputs)
 }
 
@@ -132,9 +162,9 @@ fn fill<A: Actor>(
     }
 }
 
-/// Runs a net for a number of periods, its nodes firing one after another in the period's order.
+/// Runs a net for a number of periods, each node in turn firing as often as its samples and a block of periods allow.
 ///
-/// All room is taken before the first firing. A channel's queue has room for what it begins with and what one period
+/// All room is taken before the first firing. A channel's queue has room for what it begins with and what one block
 /// puts on it, so it does not grow with the length of the run, whose time is linear in that length.
 pub fn run_one<A: Actor>(
     alloc: Global,

@@ -64,6 +64,13 @@ impl<T: Copy> Queue<T> {
         })
     }
 
+    /// How many samples there are.
+    pub(crate) fn len(&self) -> usize
+        ensures { result ≡ length self.now.samples }
+    {
+        self.items.len() - self.start
+    }
+
     /// Puts a block behind the samples.
     pub(crate) fn put(&mut self, block: &[T])
         requires { length self.old.samples + length block.now ≤ self.old.room }

@@ -1,30 +1,47 @@
 //! A run on one thread.
 
-ghost use Rattle.std.specs.Prelude.{◌≡◌, ◌<◌, ℕ, length, slice_index_or};
-ghost use Rattle.sdf_graph.specs.Sequences.{times, repeated, IsAdmissible, FitsIn};
-ghost use Rattle.sdf_actor.specs.Nets.{wiring, IsNet, InputsReach};
-ghost use Rattle.sdf_actor.specs.Wires.{lists};
-ghost use Rattle.sdf_run.specs.Blocks.{room};
-ghost use Rattle.sdf_run.specs.Sizes.{AreSizes};
-ghost use Rattle.sdf_run.specs.Runs.{AreApart, IsAt, CanFireAt, IsFiredAt};
+ghost use Rattle.std.specs.Prelude.{◌≡◌, ◌+◌, ◌*◌, ◌≤◌, ◌<◌, ◌↔◌, ℕ, false, length, slice_index, IsTrue};
+ghost use Rattle.sdf_actor.specs.Laws.{NetsAreWired, PortsHaveChannels, HistoryGrowsByFiring, TakenStays};
+ghost use Rattle.sdf_run.specs.Runs.{CanFireAt, IsFiredAt};
+ghost use Rattle.sdf_run.specs.Sweeps.{IsSwept, MayFire, HasRoom, Keeps, IsMoved};
 
+use crate::block::hold_blocks;
 use crate::queue::Queue;
 use crate::sizes::Sizes;
 use crate::work::{Ports, Work};
 use sdf_actor::{Actor, Net, Side};
-use std::alloc::Global;
 
-/// What a run holds. Its net, inputs and sizes stay as they are.
+/// What a run holds. Its net, inputs, sizes, period and length stay as they are.
 #[derive(Drop)]
 pub(crate) struct Run<'a, A: Actor> {
     pub(crate) net: &'a Net<A>,
     pub(crate) inputs: &'a [Vec<A::Token>],
     pub(crate) sizes: Sizes,
+    /// How often each node fires in a period.
+    pub(crate) repetitions: &'a [u32],
+    /// How many periods there are in all.
+    pub(crate) periods: u32,
+    /// How many of them there are up to the end of the block.
+    pub(crate) high: u32,
+    /// How often each node has fired.
+    pub(crate) done: Vec<usize>,
     /// The work of each node.
     pub(crate) works: Vec<Work<'a, A>>,
     /// The samples on each channel.
     pub(crate) queues: Vec<Queue<A::Token>>,
     pub(crate) outputs: Vec<Vec<A::Token>>,
+}
+
+/// The laws that a firing in a run stands on.
+fn step_laws<A: Actor>()
+    ensures wired { NetsAreWired A.steps }
+    ensures ports { PortsHaveChannels A.steps }
+    ensures grows { HistoryGrowsByFiring A.steps }
+    ensures stays { TakenStays A.steps }
+{
+    sdf_actor::laws::nets_are_wired::<A>();
+    sdf_actor::laws::taken_stays::<A>();
+    sdf_actor::laws::history_grows_by_firing::<A>();
 }
 
 impl<'a, A: Actor> Run<'a, A> {
@@ -49,29 +66,103 @@ impl<'a, A: Actor> Run<'a, A> {
             &mut self.queues,
             &mut self.outputs,
         );
+        self.done[a] += 1;
     }
 
-    /// Fires the nodes in an order, a number of times.
-    pub(crate) fn fire_all(&mut self, order: &[usize], periods: u32)
-        requires net { IsNet A.steps self.old.net.now }
-        requires apart { AreApart self.old.net.now }
-        requires sizes { AreSizes A.steps self.old.net.now self.old.sizes }
-        requires inputs { InputsReach self.old.net.now (lists self.old.inputs.now) (times (repeated periods order.now)) }
-        requires admissible { IsAdmissible (wiring A.steps self.old.net.now).rates (repeated periods order.now) }
-        requires room { FitsIn (wiring A.steps self.old.net.now).rates (room self.old.queues.items) (repeated periods order.now) }
-        requires begun { IsAt A.steps self.old (times (repeated periods order.now)) (times (repeated 0 order.now)) }
-        ensures net { self.new.net ≡ self.old.net }
-        ensures inputs { self.new.inputs ≡ self.old.inputs }
-        ensures outputs { length self.new.outputs.items ≡ length self.old.outputs.items }
-        ensures done { IsAt A.steps self.new (times (repeated periods order.now)) (times (repeated periods order.now)) }
+    /// Whether a node may fire within the block: it has firings left there, and the channels into it hold what the next
+    /// one takes.
+    fn may_fire(&self, a: usize) -> bool
+        requires known { a < length self.now.net.now.nodes }
+        requires swept { IsSwept A.steps self.now }
+        ensures { IsTrue result ↔ MayFire A.steps self.now a }
     {
-        sdf_actor::laws::nets_are_wired::<A>();
-        sdf_actor::laws::taken_stays::<A>();
-        sdf_actor::laws::history_grows_by_firing::<A>();
-        'periods: for _ in 0..periods {
-            'order: for a in order {
-                self.fire(*a);
+        step_laws::<A>();
+        let limit = self.high as usize * self.repetitions[a] as usize;
+        if self.done[a] >= limit {
+            return false;
+        }
+        let sizes = self.sizes.on(Side::Input, self.works[a].phase());
+        hold_blocks(self.net.channels_in(a), sizes, &self.queues)
+    }
+
+    /// Fires a node as often as its samples and the block allow, and tells whether it fired.
+    fn fire_node(&mut self, a: usize) -> bool
+        requires known { a < length self.old.net.now.nodes }
+        requires swept { IsSwept A.steps self.old }
+        ensures swept { IsSwept A.steps self.new }
+        ensures moved { IsMoved self.old self.new result }
+        ensures stops { result ≡ false → MayFire A.steps self.old a → ⊥ }
+    {
+        step_laws::<A>();
+        let mut fired = false;
+        while self.may_fire(a) {
+            self.fire(a);
+            fired = true;
+        }
+        fired
+    }
+
+    /// Fires each node in turn, and tells whether any fired.
+    fn sweep(&mut self) -> bool
+        requires swept { IsSwept A.steps self.old }
+        ensures swept { IsSwept A.steps self.new }
+        ensures moved { IsMoved self.old self.new result }
+        ensures stops { result ≡ false → (a : ℕ) → MayFire A.steps self.new a → ⊥ }
+    {
+        let mut moved = false;
+        for a in 0..self.net.len() {
+            if self.fire_node(a) {
+                moved = true;
             }
         }
+        moved
+    }
+
+    /// Sweeps until each node has fired all periods of the block.
+    fn fire_block(&mut self)
+        requires swept { IsSwept A.steps self.old }
+        ensures swept { IsSwept A.steps self.new }
+        ensures keeps { Keeps self.old self.new }
+        ensures high { self.new.high ≡ self.old.high }
+        ensures done { (a : ℕ) → a < length self.old.net.now.nodes → slice_index self.new.done.items a ≡ self.old.high * slice_index self.old.repetitions.now a }
+    {
+        sdf_actor::laws::nets_are_wired::<A>();
+        sdf_graph::laws::sums_rise();
+        sdf_sched::laws::stuck_counts_mean_deadlock();
+        let mut goes = true;
+        while goes {
+            goes = self.sweep();
+        }
+    }
+
+    /// Fires all periods, in blocks of so many and a last one of what is left.
+    pub(crate) fn fire_all(&mut self, size: u32)
+        requires size { 0 < size }
+        requires start { self.old.high ≡ 0 }
+        requires swept { IsSwept A.steps self.old }
+        requires room { HasRoom A.steps size self.old }
+        ensures keeps { Keeps self.old self.new }
+        ensures swept { IsSwept A.steps self.new }
+        ensures done { (a : ℕ) → a < length self.old.net.now.nodes → slice_index self.new.done.items a ≡ self.old.periods * slice_index self.old.repetitions.now a }
+    {
+        while self.high < self.periods {
+            self.high = next_block(self.high, size, self.periods);
+            self.fire_block();
+        }
+    }
+}
+
+/// Where the next block ends.
+fn next_block(high: u32, size: u32, periods: u32) -> u32
+    requires left { high < periods }
+    requires some { 0 < size }
+    ensures more { high < result }
+    ensures within { result ≤ periods }
+    ensures step { result ≤ high + size }
+{
+    if periods - high < size {
+        periods
+    } else {
+        high + size
     }
 }

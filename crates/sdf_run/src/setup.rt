@@ -32,27 +32,41 @@ pub(crate) fn make_outputs<T: Copy>(
     Ok(outputs)
 }
 
-/// The samples that each channel begins with, and room for these and what one period puts there.
+/// The samples that each channel begins with, and room for these and what so many periods put there.
 pub(crate) fn make_queues<A: Actor>(
     alloc: Global,
     net: &Net<A>,
     repetitions: &[u32],
+    periods: u32,
 ) -> Result<Vec<Queue<A::Token>>, AllocError>
     requires all { length repetitions.now ≡ length net.now.nodes }
     requires short { (a : ℕ) → a < length repetitions.now → slice_index repetitions.now a ≤ 65536 }
+    requires few { periods ≤ 4096 }
     ensures { let r = rates (graph_of A.steps net.now) in IfOk result (λ v. (vec_len v ≡ length net.now.wires) × ((c : ℕ) → c < length net.now.wires →
         slice_index_or v.items c nothing ≡ record {
           samples = (wire net.now c).initial;
-          room = length (wire net.now c).initial + r.produced c (slice_index repetitions.now (r.source c));
+          room = length (wire net.now c).initial + periods * r.produced c (slice_index repetitions.now (r.source c));
         })) }
 {
     let graph = net.graph();
     let mut queues = Vec::with_capacity(alloc, net.channels())?;
     for (c, channel) in graph.channels().iter().enumerate() {
-        let room = channel.initial + put_by(channel, repetitions[channel.from]);
+        let room = channel.initial + put_in(channel, repetitions[channel.from], periods);
         queues.push(Queue::new(alloc, &net.link(c).initial, room)?)?;
     }
     Ok(queues)
+}
+
+/// How many samples so many periods of firings put on a channel.
+fn put_in(channel: &Channel, firings: u32, periods: u32) -> usize
+    requires some { 0 < length channel.now.put }
+    requires small { (i : ℕ) → slice_index channel.now.put i ≤ 1024 }
+    requires short { firings ≤ 65536 }
+    requires periods { periods ≤ 4096 }
+    ensures value { result ≡ periods * sum_to (rate_at channel.now.put) firings }
+    ensures few { result ≤ 274877906944 }
+{
+    periods as usize * put_by(channel, firings)
 }
 
 /// How many samples the first firings of its source put on a channel.

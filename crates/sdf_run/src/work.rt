@@ -1,6 +1,6 @@
 //! Nodes at work.
 
-ghost use Rattle.std.specs.Prelude.{◌≡◌, ◌+◌, ◌%◌, ◌^◌, ◌<◌, ◌≤◌, ◌++◌, ℕ, length, slice_index, take};
+ghost use Rattle.std.specs.Prelude.{◌≡◌, ◌+◌, ◌<◌, ◌≤◌, ◌++◌, ℕ, length, slice_index, take};
 ghost use Rattle.std.specs.List.{sum_by};
 ghost use Rattle.sdf_actor.specs.Histories.{spread};
 ghost use Rattle.sdf_actor.specs.Steps.{total_in, total_out};
@@ -10,6 +10,7 @@ ghost use Rattle.sdf_run.specs.Blocks.{samples, room, ArePorts, HaveRoom};
 use crate::block::{put_block, take_block};
 use crate::queue::Queue;
 use sdf_actor::Actor;
+use sdf_actor::actor::next_phase;
 
 /// What a node does in a firing.
 #[derive(Drop)]
@@ -40,19 +41,6 @@ pub(crate) enum Work<'a, A: Actor> {
 pub(crate) struct Ports<'a> {
     pub(crate) channels: &'a [usize],
     pub(crate) sizes: &'a [usize],
-}
-
-/// The phase after one of a cycle, which begins anew after its last.
-fn next_phase(phase: u32, cycle: usize) -> u32
-    requires within { phase < cycle }
-    requires short { cycle < 2 ^ 32 }
-    ensures { result ≡ (phase + 1) % cycle }
-{
-    if phase as usize + 1 == cycle {
-        0
-    } else {
-        phase + 1
-    }
 }
 
 /// Fires an actor at a phase on the block taken. What it puts stands at the front of the other block.
@@ -133,7 +121,7 @@ impl<'a, A: Actor> Work<'a, A> {
                 let many = lengths[*phase as usize];
                 fire_into(*actor, *phase, state, taken, put, many);
                 put_front(outs, put, many, queues);
-                *phase = next_phase(*phase, lengths.len());
+                *phase = next_phase(*phase, actor.cycle());
             }
         }
     }

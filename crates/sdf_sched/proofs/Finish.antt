@@ -1,6 +1,6 @@
 -- What a schedule shows where it stops.
-use Rattle.std.proofs.Common.{◌≡◌, ℕ, zero, suc, ◌≤◌, ◌<◌, List, [], ◌∷◌, ◌++◌, length, get_or, slice_index, take, sum, eqb, true, false, refl, sym, ap, ◌∙◌, subst, inl, inr, ◌⊎◌, arith}
-use Rattle.std.proofs.lemmas.List.{take-append-le, take_all, get_or_append_left, get_or_push, ext_get_or, get_or_default}
+use Rattle.std.proofs.Common.{◌≡◌, ℕ, zero, suc, ◌≤◌, ◌<◌, List, [], length, get_or, slice_index, take, sum, eqb, true, false, sym, ap, ◌∙◌, subst, inl, inr, ◌⊎◌, arith}
+use Rattle.std.proofs.lemmas.List.{ext_get_or, get_or_default}
 use Rattle.std.proofs.lemmas.Bool.{cases_lt, eqb-true, false≢true}
 use Rattle.sdf_graph.specs.Rates.{Shape, IsSound, rates}
 use Rattle.sdf_graph.specs.Sequences.{times, IsRunnable, IsAdmissible, IsDeadlocked}
@@ -12,7 +12,7 @@ use Rattle.sdf_sched.specs.Period.{IsPeriodOf}
 use Rattle.sdf_sched.specs.Stuck.{IsShortList, IsStuckAt}
 use Rattle.sdf_sched.specs.declared.stuck.Stuck.{Stuck}
 use Rattle.sdf_sched.specs.Laws.{StuckCountsMeanDeadlock}
-use Rattle.sdf_sched.proofs.Going.{length-last}
+use Rattle.sdf_sched.proofs.Going.{each_more}
 
 -- each firing that a pick chooses is of a runnable actor
 module _ (P : Type 0) (chooses : Chooses P) (g : Shape) (q : ℕ → ℕ) (p : P) where
@@ -21,14 +21,7 @@ module _ (P : Type 0) (chooses : Chooses P) (g : Shape) (q : ℕ → ℕ) (p : P
 
   pub each_runs : (w : List ℕ) (p' : P) → IsPicked chooses g q p w p' → (i : ℕ) → i < length w → IsRunnable (rates g) q (times (take i w)) (get_or w i 0)
   each_runs _ _ begins i h = absurd (omega arith)
-  each_runs _ _ (fires w a p' p'' picked choice) i h = go (each_runs w p' picked) (cases_lt i (length w))
-    where
-      go : ((i : ℕ) → i < length w → IsRunnable (rates g) q (times (take i w)) (get_or w i 0)) → (i < length w) ⊎ (length w ≤ i) → IsRunnable (rates g) q (times (take i (w ++ a ∷ []))) (get_or (w ++ a ∷ []) i 0)
-      go before (inl early) = rw (take-append-le i w (a ∷ []) (omega arith), get_or_append_left w (a ∷ []) 0 i early) (before i early)
-      go before (inr late) =
-          let last : length w ≡ i = omega (arith, length-last w a) in
-          subst (λ i. IsRunnable (rates g) q (times (take i (w ++ a ∷ []))) (get_or (w ++ a ∷ []) i 0)) last
-          (rw (take-append-le (length w) w (a ∷ []) (omega arith), take_all (length w) w (omega arith), get_or_push w a 0 (length w) refl) (chosen_runs p' p'' (times w) a choice))
+  each_runs _ _ (fires w a p' p'' picked choice) i h = each_more (rates g) q w a (each_runs w p' picked) (chosen_runs p' p'' (times w) a choice) i h
 
 module _ (P : Type 0) (chooses : Chooses P) (g : Shape) (q : List ℕ) (p : P) where
   module _ (t : Tally) (w : List ℕ) (p' : P) (now : IsGoing chooses g q p t w p' []) where

@@ -1,11 +1,15 @@
 -- What a firing moves, summed over an actor's own channels.
-use Rattle.std.proofs.Common.{◌≡◌, ℕ, zero, suc, ◌+◌, ◌-◌, ◌≤◌, ◌<◌, List, [], ◌∷◌, length, get_or, take, sum_by, cond, eqb, refl, sym, ap, ◌∙◌, subst, inl, inr, ◌⊎◌, zero-add, arith}
+use Rattle.std.proofs.Common.{◌≡◌, ℕ, zero, suc, ◌+◌, ◌-◌, ◌%◌, ◌≤◌, ◌<◌, List, [], ◌∷◌, length, get_or, take, sum_by, cond, eqb, refl, sym, ap, ◌∙◌, subst, inl, inr, ◌⊎◌, zero-add, arith}
 use Rattle.std.specs.List.{range_with_len}
 use Rattle.std.proofs.lemmas.List.{take_all, get_or-take, length-take-le}
 use Rattle.std.proofs.lemmas.List.Sums.{sum_by_more, sum_by-cons}
 use Rattle.std.proofs.lemmas.Bool.{cases_lt, cases_eq, eq-eqb, ne_eqb}
-use Rattle.sdf_graph.specs.Adjacency.{ListsExactly}
-use Rattle.sdf_graph.specs.Rates.{sum_to}
+use Rattle.sdf_graph.specs.Adjacency.{ListsExactly, actor_at}
+use Rattle.sdf_graph.specs.declared.channel.End.{End}
+use Rattle.sdf_graph.specs.declared.channel.End.TheVariants.{Source, Target}
+use Rattle.sdf_graph.specs.Moved.{moves}
+use Rattle.sdf_graph.specs.Rates.{Shape, IsShape, rates, channel, sum_to}
+use Rattle.sdf_sched.specs.Lean.{moved_by}
 use Rattle.sdf_graph.specs.Laws.{SumsGrow}
 use Rattle.sdf_sched.proofs.Updates.{place_of, stands_at, apart, length_within}
 
@@ -88,3 +92,15 @@ pub flow_of : SumsGrow → (of : ℕ → ℕ) (rate : ℕ → ℕ → ℕ) (a n 
     total ≡ sum_by (λ c. cond (eqb (of c) a) (sum_to (rate c) (n + 1) - sum_to (rate c) n) 0) (range_with_len 0 m)
 flow_of grow of rate a n m xs lists i e j past total is =
     is ∙ (ap (sum_by (λ c. rate c i)) (take_all j xs past) ∙ (ap (λ (f : ℕ → ℕ). sum_by f xs) (λ z c. step_of grow (rate c) n i e z) ∙ sym (sum_of_own of a (λ c. sum_to (rate c) (n + 1) - sum_to (rate c) n) m xs lists)))
+
+-- so it is at either end
+pub flow_at : (end : End) (g : Shape) (k : ℕ → ℕ) (a total : ℕ) →
+    total ≡ sum_by (λ c. cond (eqb (actor_at end (channel g c)) a) (sum_to (moves end (channel g c)) (k a + 1) - sum_to (moves end (channel g c)) (k a)) 0) (range_with_len 0 (length g.channels)) →
+    total ≡ moved_by end (rates g) k a
+flow_at Source g k a total is = is
+flow_at Target g k a total is = is
+
+-- and no rate is over the limit
+pub moves_small : (end : End) (g : Shape) → IsShape g → (c i : ℕ) → c < length g.channels → moves end (channel g c) i ≤ 1024
+moves_small Source g shape c i h = (shape.put c h).small (i % length (channel g c).put)
+moves_small Target g shape c i h = (shape.take c h).small (i % length (channel g c).take)

@@ -2,11 +2,11 @@
 
 ghost use Rattle.std.specs.Prelude.{◌≡◌, ℕ, ◌*◌, ◌≤◌, ◌<◌, ◌↔◌, length, slice_index, IsTrue};
 ghost use Rattle.sdf_graph.specs.Rates.{rates};
-ghost use Rattle.sdf_sched.specs.Lean.{puts, takes, IsLeaner};
+ghost use Rattle.sdf_sched.specs.Lean.{moved_by, IsLeaner};
 
 use crate::pick::Pick;
 use sdf_graph::laws::sums_rise;
-use sdf_graph::{Counts, Graph};
+use sdf_graph::{Counts, End, Graph};
 use sdf_limits::{MOST_CHANNELS, MOST_RATE};
 
 /// The runnable actor whose firing adds least to what the channels hold; of several the first in file order.
@@ -50,38 +50,23 @@ fn is_leaner(graph: &Graph, counts: &Counts, one: usize, other: usize) -> bool
 {
     let one_at = counts.fired(one);
     let other_at = counts.fired(other);
-    put_by(graph, one, one_at) + taken_by(graph, other, other_at)
-        < put_by(graph, other, other_at) + taken_by(graph, one, one_at)
+    moved_by(graph, one, End::Source, one_at) + moved_by(graph, other, End::Target, other_at)
+        < moved_by(graph, other, End::Source, other_at) + moved_by(graph, one, End::Target, one_at)
 }
 
-/// The samples that firing `i` of an actor puts.
-fn put_by(graph: &Graph, actor: usize, i: u32) -> u64
+/// The samples that firing `i` of an actor moves: what it puts on the channels of which it is the source, or what it takes from
+/// those of which it is the target.
+fn moved_by(graph: &Graph, actor: usize, end: End, i: u32) -> u64
     requires { actor < graph.now.actors }
-    ensures sum { (k : ℕ → ℕ) → k actor ≡ i → result ≡ puts (rates graph.now) k actor }
+    ensures sum { (k : ℕ → ℕ) → k actor ≡ i → result ≡ moved_by end (rates graph.now) k actor }
     ensures small { result ≤ MOST_RATE * MOST_CHANNELS }
 {
     sums_rise();
     let channels = graph.channels();
-    let mut put = 0;
-    for channel in graph.outgoing(actor) {
+    let mut moved = 0;
+    for channel in graph.channels_at(actor, end) {
         let rates = &channels[*channel];
-        put += u64::from(rates.puts(i));
+        moved += u64::from(rates.moves(end, i));
     }
-    put
-}
-
-/// The samples that it takes.
-fn taken_by(graph: &Graph, actor: usize, i: u32) -> u64
-    requires { actor < graph.now.actors }
-    ensures sum { (k : ℕ → ℕ) → k actor ≡ i → result ≡ takes (rates graph.now) k actor }
-    ensures small { result ≤ MOST_RATE * MOST_CHANNELS }
-{
-    sums_rise();
-    let channels = graph.channels();
-    let mut taken = 0;
-    for channel in graph.incoming(actor) {
-        let rates = &channels[*channel];
-        taken += u64::from(rates.takes(i));
-    }
-    taken
+    moved
 }

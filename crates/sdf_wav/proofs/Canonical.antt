@@ -46,7 +46,7 @@ is_canonical s some fits low high whole e = record {
     some_rate = some;
     rate_fits = fits;
     one_channel = low;
-    eight_channels = high;
+    few_channels = high;
     samples_fit = narrowed_fit s.samples;
     whole = rw (narrowed_length s.samples) whole;
   };

@@ -32,11 +32,11 @@ format_of_content content f size e is =
     let m : 16 ≤ min size 40 = omega (arith, is.long) in
     ap (λ (t : Fields). checked t (take (min size 40) content)) (fields_of-take (min size 40) content m)
     ∙ elim is.tag [
-      | inl plain ↦ checked_plain (fields_of content) (take (min size 40) content) plain is.bits (omega (arith, is.channels, is.one_channel)) (omega (arith, is.channels, is.eight_channels)) (omega (arith, is.rate, is.some_rate)) (omega (arith, is.align, is.channels))
+      | inl plain ↦ checked_plain (fields_of content) (take (min size 40) content) plain is.bits (omega (arith, is.channels, is.one_channel)) (omega (arith, is.channels, is.few_channels)) (omega (arith, is.rate, is.some_rate)) (omega (arith, is.align, is.channels))
       | inr ext ↦
           let k : min size 40 ≡ 40 = omega (arith, ext.1) in
           let guid : take 16 (drop 24 (take (min size 40) content)) ≡ pcm_guid = ap (λ (j : ℕ). take 16 (drop 24 (take j content))) k ∙ ap (take 16) (drop-take 24 16 content) ∙ take-take 16 16 (drop 24 content) (omega arith) ∙ ext.2 in
-          checked_extended (fields_of content) (take (min size 40) content) ext.0 (omega (arith, length-take (min size 40) content, ext.1)) guid is.bits (omega (arith, is.channels, is.one_channel)) (omega (arith, is.channels, is.eight_channels)) (omega (arith, is.rate, is.some_rate)) (omega (arith, is.align, is.channels))
+          checked_extended (fields_of content) (take (min size 40) content) ext.0 (omega (arith, length-take (min size 40) content, ext.1)) guid is.bits (omega (arith, is.channels, is.one_channel)) (omega (arith, is.channels, is.few_channels)) (omega (arith, is.rate, is.some_rate)) (omega (arith, is.align, is.channels))
     ]
     ∙ rw (is.channels, is.rate) refl
 

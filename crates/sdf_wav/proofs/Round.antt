@@ -53,7 +53,7 @@ content_is rate channels r fits low high = record {
   bits = refl;
   channels = little_number-reads_back 2 channels (little_bytes 4 rate) (omega arith);
   one_channel = low;
-  eight_channels = high;
+  few_channels = high;
   rate = little_number-reads_back 4 rate (little_bytes 4 (rate * (2 * channels))) fits;
   some_rate = r;
   align = little_number-reads_back 2 (2 * channels) (little_bytes 2 16) (omega arith);
@@ -114,7 +114,7 @@ canonical_is_wav s is e =
         start = ap (λ (l : List ℕ). header s.rate s.channels n ++ l) (sym (append-nil data_bytes)) ∙ starts s.rate s.channels n (data_bytes ++ []);
         size_is_four = refl;
         parts = parts_of s.rate s.channels n (data_bytes ++ []);
-        known = ([], format_chunk s.rate s.channels, [], refl, tt, is_format s.rate s.channels is.some_rate is.rate_fits is.one_channel is.eight_channels, tt);
+        known = ([], format_chunk s.rate s.channels, [], refl, tt, is_format s.rate s.channels is.some_rate is.rate_fits is.one_channel is.few_channels, tt);
         few = omega arith;
       };
       size_is_four = refl;

@@ -54,7 +54,7 @@ record Passed (t : Fields) (front : List ℕ) (f : Format) : Type 0 where
   tag : (t.tag ≡ 1) ⊎ ((t.tag ≡ 0xFFFE) × (40 ≤ length front) × (take 16 (drop 24 front) ≡ pcm_guid))
   bits : t.bits ≡ 16
   one_channel : 1 ≤ t.channels
-  eight_channels : t.channels ≤ 8
+  few_channels : t.channels ≤ 8
   some_rate : 1 ≤ t.rate
   align : t.align ≡ 2 * t.channels
   channels : t.channels ≡ f.channels
@@ -82,7 +82,7 @@ checked_passes t front f e =
       ];
       bits = eqb-true t.bits 16 pcm.0;
       one_channel = omega arith;
-      eight_channels = ltb-false 8 t.channels ch.1;
+      few_channels = ltb-false 8 t.channels ch.1;
       some_rate = omega arith;
       align = eqb-true t.align (2 * t.channels) (not_false _ g.0);
       channels = ap (λ (x : Format). x.channels) is;
@@ -106,7 +106,7 @@ content_of content f size e long h =
       bits = p.bits;
       channels = p.channels;
       one_channel = omega (arith, p.one_channel, p.channels);
-      eight_channels = omega (arith, p.eight_channels, p.channels);
+      few_channels = omega (arith, p.few_channels, p.channels);
       rate = p.rate;
       some_rate = omega (arith, p.some_rate, p.rate);
       align = omega (arith, p.align, p.channels);

@@ -5,6 +5,7 @@ use Rattle.byteorder.specs.Endian.{little_number}
 use Rattle.sdf_wav.specs.declared.format.Format.{Format}
 use Rattle.sdf_wav.specs.Parts.{pcm_guid}
 use Rattle.sdf_wav.specs.Sound.{Sound, pcm_samples}
+use Rattle.sdf_wav.specs.declared.wav.TheConstants.{MOST_CHANNELS}
 
 -- an id, a size and a content; behind an odd size one more byte stands
 pub record Chunk : Type 0 where
@@ -36,7 +37,7 @@ pub record IsContentOf (content : List ℕ) (f : Format) : Type 0 where
   pub bits : little_number 2 (drop 14 content) ≡ 16
   pub channels : little_number 2 (drop 2 content) ≡ f.channels
   pub one_channel : 1 ≤ f.channels
-  pub eight_channels : f.channels ≤ 8
+  pub few_channels : f.channels ≤ MOST_CHANNELS
   pub rate : little_number 4 (drop 4 content) ≡ f.rate
   pub some_rate : 1 ≤ f.rate
   pub align : little_number 2 (drop 12 content) ≡ 2 * f.channels

@@ -10,6 +10,7 @@ ghost use Rattle.sdf_wav.specs.Steps.{Reads};
 use crate::device::Reader;
 use crate::fault::{FormatFault, ReadFault};
 use crate::moving::fill;
+use crate::wav::MOST_CHANNELS;
 use byteorder::{ByteOrder, LittleEndian};
 use std::alloc::{AllocError, Global};
 
@@ -73,7 +74,7 @@ const LIMIT: u64 = 4_294_967_296;
 /// Reads data that goes to the end of the input.
 fn read_open<R: Reader>(alloc: Global, reader: &mut R, channels: u16) -> Result<Vec<i16>, ReadFault>
     requires low { 1 ≤ channels }
-    requires high { channels ≤ 8 }
+    requires high { channels ≤ MOST_CHANNELS }
     ensures bytes { Reads (λ v. v.items) (R.remaining reader.old) (R.remaining reader.new) (open_content_at (2 * channels)) result }
     ensures whole { IfOk result (λ v. length v.items % channels ≡ 0) }
     ensures counted { R.failures reader.new ≡ failures_after (widened result) (R.failures reader.old) }
@@ -97,7 +98,7 @@ fn read_sized<R: Reader>(
     size: u32,
 ) -> Result<Vec<i16>, ReadFault>
     requires low { 1 ≤ channels }
-    requires high { channels ≤ 8 }
+    requires high { channels ≤ MOST_CHANNELS }
     ensures bytes { Reads (λ v. v.items) (R.remaining reader.old) (R.remaining reader.new) (sized_content_at (2 * channels) size) result }
     ensures whole { IfOk result (λ v. length v.items % channels ≡ 0) }
     ensures counted { R.failures reader.new ≡ failures_after (widened result) (R.failures reader.old) }
@@ -122,7 +123,7 @@ pub(crate) fn read_content<R: Reader>(
     size: u32,
 ) -> Result<Vec<i16>, ReadFault>
     requires low { 1 ≤ channels }
-    requires high { channels ≤ 8 }
+    requires high { channels ≤ MOST_CHANNELS }
     ensures bytes { Reads (λ v. v.items) (R.remaining reader.old) (R.remaining reader.new) (content_at (2 * channels) size) result }
     ensures whole { IfOk result (λ v. length v.items % channels ≡ 0) }
     ensures counted { R.failures reader.new ≡ failures_after (widened result) (R.failures reader.old) }

@@ -24,7 +24,7 @@ pub use fault::{FormatFault, WavFault};
 pub use from_read::FromRead;
 pub use reading::read_wav;
 pub use to_write::ToWrite;
-pub use wav::Wav;
+pub use wav::{MOST_CHANNELS, Wav};
 pub use writing::write_wav;
 
 #[cfg(test)]

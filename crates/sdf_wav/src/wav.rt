@@ -8,6 +8,9 @@ use crate::fault::{FormatFault, WavFault};
 use crate::format::Format;
 use std::marker::Model;
 
+/// Channels of a sound: 1 to this.
+pub const MOST_CHANNELS: u16 = 8;
+
 /// A sound: at least one frame a second, 1 to 8 channels, and whole frames of one sample for each channel.
 #[derive(Debug, Drop)]
 pub struct Wav {
@@ -17,11 +20,15 @@ pub struct Wav {
 }
 
 impl Model for Wav {
+    ghost use Rattle.std.specs.Prelude.{◌≡◌, ◌≤◌, ◌%◌, length};
+    ghost use Rattle.sdf_wav.specs.Sound.{Sound};
+    ghost use Rattle.sdf_wav.specs.declared.wav.TheConstants.{MOST_CHANNELS};
+
     ghost Value = { Sound };
 
     ghost view = { λ w. record { rate = w.rate; channels = w.channels; samples = w.samples.items } };
 
-    ghost invariant = { λ w. (1 ≤ w.rate) × (1 ≤ w.channels) × (w.channels ≤ 8) × (length w.samples.items % w.channels ≡ 0) };
+    ghost invariant = { λ w. (1 ≤ w.rate) × (1 ≤ w.channels) × (w.channels ≤ MOST_CHANNELS) × (length w.samples.items % w.channels ≡ 0) };
 }
 
 impl Wav {
@@ -30,7 +37,7 @@ impl Wav {
     pub fn new(rate: u32, channels: u16, samples: Vec<i16>) -> Result<Wav, WavFault>
         ensures { result ≡ sound_of rate channels samples.items }
     {
-        if channels == 0 || channels > 8 {
+        if channels == 0 || channels > MOST_CHANNELS {
             return Err(WavFault::Format(FormatFault::Channels));
         }
         if rate == 0 {
@@ -71,7 +78,7 @@ impl Wav {
     pub fn channels(&self) -> u16
         ensures value { result ≡ self.now.channels }
         ensures above_0 { 1 ≤ result }
-        ensures at_most_8 { result ≤ 8 }
+        ensures few { result ≤ MOST_CHANNELS }
     {
         self.channels
     }

@@ -9,7 +9,7 @@ ghost use Rattle.sdf_wav.specs.Device.{failures_after, failures_after_read, Appe
 use crate::device::{DeviceFault, Writer};
 use crate::fault::{FormatFault, WavFault};
 use crate::moving::put_all;
-use crate::wav::Wav;
+use crate::wav::{MOST_CHANNELS, Wav};
 use byteorder::{ByteOrder, LittleEndian};
 
 fn bytes_of_u16(n: u16) -> [u8; 2]
@@ -33,7 +33,7 @@ fn bytes_of_u32(n: u32) -> [u8; 4]
 fn header(rate: u32, channels: u16, size: u32) -> [u8; 44]
     requires size { size ≤ 4294967259 }
     requires rate { rate * (2 * channels) < 2 ^ 32 }
-    requires channels { channels ≤ 8 }
+    requires channels { channels ≤ MOST_CHANNELS }
     ensures { result ≡ header rate channels size }
 {
     let s = bytes_of_u32(36 + size);

@@ -6,7 +6,5 @@ pub mod Fronts
 pub mod Devices
 pub mod Sounds
 pub mod Rendering
-pub mod Graphs
-pub mod Greedy
 pub mod Deadlocks
 pub mod Outputs

@@ -10,7 +10,7 @@ use Rattle.sdf_actor.specs.Sides.{list_of, list_count}
 use Rattle.sdf_actor.specs.NetFaults.{HasLists}
 use Rattle.sdf_graph.specs.Rates.{rates, IsShape, IsAlike}
 use Rattle.sdf_graph.specs.Sequences.{times, IsAdmissible, repeated}
-use Rattle.sdf_graph.specs.Laws.{PeriodsRepeat, AlikeSequences, GraphsAreSound, GraphsHavePeriods}
+use Rattle.sdf_graph.specs.Laws.{PeriodsRepeat, AlikeSequences, GraphsAreSound, GraphsHavePeriods, OneLeastPeriod}
 use Rattle.sdf_sched.specs.Period.{Schedule, IsPeriodOf}
 use Rattle.sdf_actor.specs.Graphs.{graph_of}
 use Rattle.sdf_actor.specs.Laws.{HistoryIsUnique}
@@ -22,7 +22,6 @@ use Rattle.sdf_file.specs.Designs.{DesignValue}
 use Rattle.sdfw.specs.Output.{exchange_of, periods_of, input_lists, output_of}
 use Rattle.sdfw.specs.Run.{IsOutput, HasOutput}
 use Rattle.sdfw.specs.Laws.{OneOutput}
-use Rattle.sdfw.proofs.Graphs.{least_same}
 
 -- a node that makes a list is a sink
 sink_of : {A : Type 0} (x : Node A) (e : ℕ) → list_of Outputs x ≡ Some e → (block : ℕ) × (x ≡ Sink e block)
@@ -49,7 +48,7 @@ module _ {A S T : Type 0} (s : Steps A S T) (n : Netlist A T) (inputs : List (Li
     one_lists = ext_get_or [] xs ys (x.count ∙ sym y.count) at_list
 
 module _ (d : DesignValue) (net : IsNet kit_steps d.net) (shape : IsShape (graph_of kit_steps d.net)) (alike : IsAlike (rates (graph_of kit_steps d.net)) (wiring kit_steps d.net).rates)
-    (has : HasLists d.net.nodes) (sound : GraphsAreSound) (periods : GraphsHavePeriods) (repeats : PeriodsRepeat) (sequences : AlikeSequences) (unique : HistoryIsUnique kit_steps)
+    (has : HasLists d.net.nodes) (sound : GraphsAreSound) (periods : GraphsHavePeriods) (one : OneLeastPeriod) (repeats : PeriodsRepeat) (sequences : AlikeSequences) (unique : HistoryIsUnique kit_steps)
     (one_sound : (bytes : List ℕ) (s t : Sound) (x y : List ℕ) → IsWav bytes s x → IsWav bytes t y → (s ≡ t) × (x ≡ y)) where
   module _ (p : Schedule) (is : IsPeriodOf (rates (graph_of kit_steps d.net)) p) where
     -- the order again and again
@@ -84,7 +83,5 @@ module _ (d : DesignValue) (net : IsNet kit_steps d.net) (shape : IsShape (graph
 
   pub one_output_of : OneOutput d
   one_output_of s t input x y of_s of_t of_x of_y =
-      let same : t.repetitions ≡ s.repetitions =
-      ext_get_or 0 t.repetitions s.repetitions (of_t.least.is.all ∙ sym of_s.least.is.all)
-      (λ a l. least_same (rates (graph_of kit_steps d.net)) t.repetitions s.repetitions of_t.least of_s.least a (omega (arith, of_t.least.is.all))) in
+      let same : t.repetitions ≡ s.repetitions = one (rates (graph_of kit_steps d.net)) t.repetitions s.repetitions of_t.least of_s.least in
       same_file s of_s input x y of_x (subst (λ q. HasOutput d.net q input y) same of_y)

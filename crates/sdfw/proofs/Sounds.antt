@@ -57,7 +57,7 @@ sound_of_lists x s e xs samples limits extent count is =
     let Bytes : ℕ → Type 0 = λ k. 2 * k ≤ 4294967259 in
     let of_rate : ℕ → Result Sound WavFault = λ r. Ok (record { rate = r; channels = x.outputs; samples = samples }) in
     let of_samples : List ℤ → Result Sound WavFault = λ v. Ok (record { rate = output_rate x s; channels = x.outputs; samples = v }) in (
-      sound_is e.rate x.outputs (e.periods * x.made) samples extent.some_rate limits.one_output limits.eight_outputs long
+      sound_is e.rate x.outputs (e.periods * x.made) samples extent.some_rate limits.one_output limits.few_outputs long
           ∙ ap of_rate extent.rate ∙ ap of_samples same,
       size_fits (output_rate x s) x.outputs (length (interleaved (output_frames x s) xs))
           (subst Second extent.rate extent.few_bytes_a_second) (subst Bytes (sym long ∙ ap length same) extent.few_bytes),

@@ -6,6 +6,8 @@ use Rattle.clap.specs.declared.error.kind.ErrorKind.{ErrorKind}
 use Rattle.clap.specs.declared.error.kind.ErrorKind.TheVariants as kind
 use Rattle.sdf_file.specs.declared.fault.FileFault.{FileFault}
 use Rattle.sdf_file.specs.declared.fault.FileFault.TheVariants as file
+use Rattle.sdf_prec.specs.declared.fault.PrecFault.{PrecFault}
+use Rattle.sdf_prec.specs.declared.fault.PrecFault.TheVariants as prec
 use Rattle.sdf_run.specs.declared.fault.RunFault.{RunFault}
 use Rattle.sdf_run.specs.declared.fault.RunFault.TheVariants as run
 use Rattle.sdf_wav.specs.declared.fault.WavFault.{WavFault}
@@ -27,6 +29,10 @@ of_clap e = of_kind (kind_of e) e
 abbrev pub of_words : WordFault → Fault
 of_words words.OutOfMemory = fault.OutOfMemory
 of_words f = fault.Words f
+
+abbrev pub of_prec : PrecFault → Fault
+of_prec prec.OutOfMemory = fault.OutOfMemory
+of_prec f = fault.Table f
 
 abbrev pub of_file : FileFault → Fault
 of_file file.OutOfMemory = fault.OutOfMemory

@@ -4,5 +4,6 @@ pub mod Faults
 pub mod Output
 pub mod Run
 pub mod Plans
+pub mod Schedules
 pub mod Statuses
 pub mod Laws

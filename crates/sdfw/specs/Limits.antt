@@ -6,7 +6,7 @@ use Rattle.clap.specs.declared.error.kind.ErrorKind.TheVariants.{OutOfMemory}
 use Rattle.sdfw.specs.declared.options.TheConstants.{MOST_FAULT}
 use Rattle.sdfw.specs.declared.options.Options.{Options}
 use Rattle.sdfw.specs.declared.options.Words.{Words}
-use Rattle.sdfw.specs.declared.options.Words.TheVariants.{Check, Run, Explain}
+use Rattle.sdfw.specs.declared.options.Words.TheVariants.{Check, Schedule, Run, Explain}
 use Rattle.sdfw.specs.declared.command_line.WordFault.{WordFault}
 use Rattle.sdfw.specs.declared.command_line.WordFault.TheVariants as fault
 
@@ -19,6 +19,7 @@ pub record AreWithinLimits (o : Options) : Type 0 where
 -- so are those of a command
 abbrev pub IsWithinLimits : Words → Type 0
 IsWithinLimits (Check graph) = Unit {0}
+IsWithinLimits (Schedule graph options) = AreWithinLimits options
 IsWithinLimits (Run graph input output options) = AreWithinLimits options
 IsWithinLimits (Explain number) = (1 ≤ number) × (number ≤ MOST_FAULT)
 

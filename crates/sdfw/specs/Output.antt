@@ -4,6 +4,7 @@ use Rattle.std.specs.Int.{w16, saturate_signed}
 use Rattle.std.specs.List.{flat_map, range_with_len}
 use Rattle.sdf_wav.specs.Sound.{Sound, frames_of}
 use Rattle.sdf_wav.specs.Canonical.{size_fault}
+use Rattle.sdf_wav.specs.declared.wav.TheConstants.{MOST_CHANNELS}
 use Rattle.sdf_actor.specs.Nets.{Netlist}
 use Rattle.sdf_actor.specs.Sides.{list_count, period_samples}
 use Rattle.sdf_actor.specs.declared.sides.Lists.TheVariants.{Inputs, Outputs}
@@ -74,9 +75,9 @@ pub record IsExchange (x : Exchange) : Type 0 where
   pub some_made : 0 < x.made
   pub few_taken : x.taken ≤ 67108864
   pub few_made : x.made ≤ 67108864
-  pub eight_inputs : x.inputs ≤ 8
+  pub few_inputs : x.inputs ≤ MOST_CHANNELS
   pub one_output : 1 ≤ x.outputs
-  pub eight_outputs : x.outputs ≤ 8
+  pub few_outputs : x.outputs ≤ MOST_CHANNELS
 
 -- the rate and the length of the output of a sound, where there is one
 pub record IsExtent (x : Exchange) (s : Sound) (e : Extent) : Type 0 where

@@ -54,11 +54,20 @@ IsBlocking blocking = (1 ≤ blocking) × (blocking ≤ MOST_BLOCKING)
 abbrev pub IsWorkers : ℕ → Type 0
 IsWorkers workers = (1 ≤ workers) × (workers ≤ MOST_WORKERS)
 
+-- the numbers of the options are within their limits
+abbrev pub AreSizes : Options → Type 0
+AreSizes o = IsBlocking o.blocking × IsWorkers o.workers
+
+-- the first of them that is not
+abbrev pub IsSizeFault : Options → Fault → Type 0
+IsSizeFault o BlockingFactor = IsBlocking o.blocking → ⊥
+IsSizeFault o WorkerCount = IsBlocking o.blocking × (IsWorkers o.workers → ⊥)
+IsSizeFault o f = ⊥
+
 -- the options pass the tests that look at them alone
 pub record ArePassed (o : Options) : Type 0 where
   pub one : o.runner ≡ One
-  pub blocking : IsBlocking o.blocking
-  pub workers : IsWorkers o.workers
+  pub sizes : AreSizes o
 
 -- the plan of a design by options that pass all tests
 pub record IsPlanOf (d : DesignValue) (o : Options) (p : PlanValue) : Type 0 where
@@ -115,8 +124,8 @@ IsScheduleFault d f = ⊥
 -- the first test that options or the design fail. Only the schedule takes memory
 abbrev pub IsPlanFault : DesignValue → Options → Fault → Type 0
 IsPlanFault d o (NotYet wav) = (wav ≡ false) × (o.runner ≢ One)
-IsPlanFault d o BlockingFactor = (o.runner ≡ One) × (IsBlocking o.blocking → ⊥)
-IsPlanFault d o WorkerCount = (o.runner ≡ One) × IsBlocking o.blocking × (IsWorkers o.workers → ⊥)
+IsPlanFault d o BlockingFactor = (o.runner ≡ One) × IsSizeFault o BlockingFactor
+IsPlanFault d o WorkerCount = (o.runner ≡ One) × IsSizeFault o WorkerCount
 IsPlanFault d o f = ArePassed o × IsScheduleFault d f
 
 -- What the answer for options that pass says of a design: a plan stands where some sequence of enabled firings completes its

@@ -22,6 +22,7 @@ status_of (fault.File f) = 3
 status_of (fault.Deadlock s) = 3
 status_of fault.BlockingFactor = 3
 status_of fault.WorkerCount = 3
+status_of (fault.Table f) = 3
 status_of fault.InputLength = 3
 status_of (fault.Wav f) = 4
 status_of fault.ChannelsMissing = 4

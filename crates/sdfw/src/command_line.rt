@@ -96,6 +96,13 @@ fn with_plan_args<'a>(alloc: Global, command: Command<'a>) -> Result<Command<'a>
         .arg(placement)
 }
 
+fn schedule_command<'a>(alloc: Global) -> Result<Command<'a>, AllocError> {
+    let command = Command::new(alloc, "schedule")
+        .about("Prints a schedule of a graph file for some workers")
+        .arg(required(alloc, "GRAPH", "The graph file"))?;
+    with_plan_args(alloc, command)
+}
+
 fn run_command<'a>(alloc: Global) -> Result<Command<'a>, AllocError> {
     let command = Command::new(alloc, "run")
         .about("Processes a WAV file")
@@ -133,6 +140,7 @@ fn sdfw_command<'a>(alloc: Global) -> Result<Command<'a>, AllocError> {
         .subcommand_required(true)
         .disable_help_subcommand(true)
         .subcommand(check_command(alloc)?)?
+        .subcommand(schedule_command(alloc)?)?
         .subcommand(run_command(alloc)?)?
         .subcommand(explain_command(alloc)?)
 }
@@ -161,7 +169,8 @@ fn meant<T: Copy>(words: &[&str], values: &[T], word: &str) -> Option<T>
     values.get(place_of(words, word)?).copied()
 }
 
-fn options_of(matches: &ArgMatches<'_>) -> Option<Options>
+/// The options of a schedule.
+fn plan_options_of(matches: &ArgMatches<'_>) -> Option<Options>
     ensures { IfSome result AreWithinLimits }
 {
     Some(Options {
@@ -169,8 +178,18 @@ fn options_of(matches: &ArgMatches<'_>) -> Option<Options>
         workers: number_of(matches, "workers", 1, MOST_WORKERS as u32)? as usize,
         policy: meant(&POLICY_WORDS, &POLICIES, matches.get_str("policy")?)?,
         placement: meant(&PLACEMENT_WORDS, &PLACEMENTS, matches.get_str("placement")?)?,
+        ..Options::DEFAULT
+    })
+}
+
+/// The options of a run.
+fn options_of(matches: &ArgMatches<'_>) -> Option<Options>
+    ensures { IfSome result AreWithinLimits }
+{
+    Some(Options {
         runner: meant(&RUNNER_WORDS, &RUNNERS, matches.get_str("runner")?)?,
         patience: number_of(matches, "patience", 0, MOST_PATIENCE)?,
+        ..plan_options_of(matches)?
     })
 }
 
@@ -181,6 +200,10 @@ fn words_of<'a>(matches: &ArgMatches<'a>) -> Option<Words<'a>>
     match name {
         "check" => Some(Words::Check {
             graph: inner.get_str("GRAPH")?,
+        }),
+        "schedule" => Some(Words::Schedule {
+            graph: inner.get_str("GRAPH")?,
+            options: plan_options_of(inner)?,
         }),
         "run" => Some(Words::Run {
             graph: inner.get_str("GRAPH")?,

@@ -17,7 +17,7 @@ use crate::samples::{channel_lists, interleave};
 use sdf_actor::Net;
 use sdf_kit::Kit;
 use sdf_sched::Period;
-use sdf_wav::{FormatFault, Wav};
+use sdf_wav::{FormatFault, MOST_CHANNELS, Wav};
 use std::alloc::{AllocError, Global};
 
 /// The channels and samples that a net moves in a period.
@@ -44,8 +44,8 @@ impl Exchange {
     /// What a net of at most eight inputs and outputs exchanges in a period.
     pub(crate) fn of_net(net: &Net<Kit>, period: &Period) -> Exchange
         requires period { IsPeriodOf (rates (graph_of kit_steps net.now)) period.now }
-        requires inputs { list_count Inputs net.now.nodes ≤ 8 }
-        requires outputs { list_count Outputs net.now.nodes ≤ 8 }
+        requires inputs { list_count Inputs net.now.nodes ≤ MOST_CHANNELS }
+        requires outputs { list_count Outputs net.now.nodes ≤ MOST_CHANNELS }
         ensures value { result ≡ exchange_of net.now period.now.repetitions }
         ensures limits { IsExchange result }
     {

@@ -9,6 +9,7 @@ use crate::command_line::WordFault;
 use crate::printable::printable;
 use clap::error::ErrorKind;
 use sdf_file::FileFault;
+use sdf_prec::PrecFault;
 use sdf_run::RunFault;
 use sdf_wav::{FormatFault, WavFault};
 use std::alloc::{AllocError, AllocFailed, Global};
@@ -71,6 +72,9 @@ pub enum Fault {
     BlockingFactor,
     #[error("12 WorkerCount")]
     WorkerCount,
+    /// Why there is no table: 13, 19.
+    #[error(transparent)]
+    Table(PrecFault),
     /// Input lists that are too short: the program makes none.
     #[error("29 InputLength")]
     InputLength,
@@ -119,6 +123,19 @@ impl From<WordFault> for Fault {
         match fault {
             WordFault::OutOfMemory => Fault::OutOfMemory,
             usage => Fault::Words(usage),
+        }
+    }
+}
+
+impl From<PrecFault> for Fault {
+    ghost use Rattle.sdfw.specs.Faults.{of_prec};
+
+    ghost from_gives = { λ e f. f ≡ of_prec e };
+
+    fn from(fault: PrecFault) -> Fault {
+        match fault {
+            PrecFault::OutOfMemory => Fault::OutOfMemory,
+            other => Fault::Table(other),
         }
     }
 }
@@ -179,6 +196,7 @@ pub fn status(fault: &Fault) -> u8
         | Fault::Deadlock(_)
         | Fault::BlockingFactor
         | Fault::WorkerCount
+        | Fault::Table(_)
         | Fault::InputLength => 3,
         Fault::Wav(_) | Fault::ChannelsMissing | Fault::RateNotWhole => 4,
         Fault::Read | Fault::Write => 5,

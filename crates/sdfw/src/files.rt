@@ -5,6 +5,7 @@ ghost use Rattle.std.specs.IoError.{error_kind};
 ghost use Rattle.sdfw.specs.declared.fault.Fault.TheVariants.{OutOfMemory};
 
 use crate::fault::Fault;
+use indexmap::IndexSet;
 use sdf_file::{Design, design_files, read_design};
 use std::alloc::Global;
 use std::fs;
@@ -60,7 +61,7 @@ fn read_beside<R: Files + AllocGlobal>(
 fn read_files<R: Files + AllocGlobal>(
     rt: &R,
     graph: &str,
-    names: Vec<String>,
+    names: IndexSet<String>,
     most: u32,
 ) -> Result<Vec<(String, Vec<u8>)>, Fault> {
     let mut files = Vec::new(rt.alloc());

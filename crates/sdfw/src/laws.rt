@@ -4,7 +4,9 @@ ghost use Rattle.sdfw.specs.Laws.{OneOutput};
 
 use sdf_actor::laws::one_history;
 use sdf_file::Design;
-use sdf_graph::laws::{alike_sequences, graphs_are_sound, graphs_have_periods, periods_repeat};
+use sdf_graph::laws::{
+    alike_sequences, graphs_are_sound, graphs_have_periods, one_least_period, periods_repeat,
+};
 use sdf_kit::Kit;
 use sdf_wav::laws::one_outcome;
 
@@ -19,6 +21,7 @@ pub fn one_output(design: &Design)
     let _ = graph.channels();
     graphs_are_sound();
     graphs_have_periods();
+    one_least_period();
     periods_repeat();
     alike_sequences();
     one_history::<Kit>();

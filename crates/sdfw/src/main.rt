@@ -18,6 +18,7 @@ mod printable;
 mod process;
 mod program;
 mod samples;
+mod schedule;
 #[cfg(test)]
 mod tests;
 

@@ -49,7 +49,7 @@ pub(crate) static RUNNER_WORDS: [&str; 3] = ["one", "rows", "rings"];
 
 pub(crate) static RUNNERS: [Runner; 3] = [Runner::One, Runner::Rows, Runner::Rings];
 
-/// The options of a run, within their limits.
+/// The options of a schedule or a run, within their limits.
 #[derive(Clone, Copy, Debug, PartialEq, Eq)]
 pub struct Options {
     /// Periods in a block, 1 to 64.
@@ -80,6 +80,11 @@ impl Options {
 pub enum Words<'a> {
     Check {
         graph: &'a str,
+    },
+    /// The options but the runner and the patience.
+    Schedule {
+        graph: &'a str,
+        options: Options,
     },
     Run {
         graph: &'a str,

@@ -1,22 +1,22 @@
 //! Planning a run: one period of a design by a policy, or why there is none.
 
-ghost use Rattle.std.specs.Prelude.{◌≡◌, ◌<◌, length, map, MatchResult, IfOk};
+ghost use Rattle.std.specs.Prelude.{◌≡◌, ◌<◌, length, map, MatchOption, MatchResult, IfOk};
 ghost use Rattle.std.specs.List.{range_with_len};
 ghost use Rattle.sdf_graph.specs.Rates.{rates};
 ghost use Rattle.sdf_graph.specs.Periods.{IsLeastPeriod};
 ghost use Rattle.sdf_actor.specs.Graphs.{graph_of};
 ghost use Rattle.sdf_kit.specs.Kit.{kit_steps};
-ghost use Rattle.sdfw.specs.Plans.{ArePassed, IsPlanOf, IsPlanFault, Decides, IsScheduleBy, IsStuckFault, IsScheduleFault, progress_of, progress_view, short_of};
+ghost use Rattle.sdfw.specs.Plans.{AreSizes, IsSizeFault, ArePassed, IsPlanOf, IsPlanFault, Decides, IsScheduleBy, IsStuckFault, IsScheduleFault, progress_of, progress_view, short_of};
 
 use crate::fault::{Fault, Progress, Stalled};
 use crate::options::{Options, Policy, Runner};
 use crate::plan::Plan;
 use sdf_file::Design;
-use sdf_graph::laws::graphs_are_sound;
+use sdf_graph::laws::{graphs_are_sound, one_least_period};
 use sdf_graph::{Graph, Repetitions};
 use sdf_limits::{MOST_BLOCKING, MOST_WORKERS};
 use sdf_sched::class_s::class_s;
-use sdf_sched::laws::stuck_means_deadlock;
+use sdf_sched::laws::period_or_deadlock;
 use sdf_sched::{Lean, Period, Round, SchedFault, Stuck};
 use std::alloc::{AllocError, Global};
 
@@ -86,7 +86,7 @@ fn class_s_by(
 }
 
 /// One period of a design by a policy.
-fn schedule(alloc: Global, design: &Design, policy: Policy) -> Result<Period, Fault>
+pub(crate) fn period_by(alloc: Global, design: &Design, policy: Policy) -> Result<Period, Fault>
     ensures { MatchResult result (IsScheduleBy policy (graph_of kit_steps design.now.net)) (IsScheduleFault design.now) }
 {
     let net = design.net();
@@ -102,6 +102,19 @@ fn schedule(alloc: Global, design: &Design, policy: Policy) -> Result<Period, Fa
     }
 }
 
+/// The first of the tests that options fail by their numbers alone.
+pub(crate) fn size_fault(options: &Options) -> Option<Fault>
+    ensures { MatchOption result (AreSizes options.now) (IsSizeFault options.now) }
+{
+    if options.blocking < 1 || options.blocking > MOST_BLOCKING {
+        return Some(Fault::BlockingFactor);
+    }
+    if options.workers < 1 || options.workers > MOST_WORKERS {
+        return Some(Fault::WorkerCount);
+    }
+    None
+}
+
 /// The tests in their order, and then the plan.
 fn planned(alloc: Global, design: &Design, options: &Options) -> Result<Plan, Fault>
     ensures { MatchResult result (IsPlanOf design.now options.now) (IsPlanFault design.now options.now) }
@@ -109,13 +122,10 @@ fn planned(alloc: Global, design: &Design, options: &Options) -> Result<Plan, Fa
     if options.runner != Runner::One {
         return Err(Fault::NotYet { wav: false });
     }
-    if options.blocking < 1 || options.blocking > MOST_BLOCKING {
-        return Err(Fault::BlockingFactor);
+    if let Some(fault) = size_fault(options) {
+        return Err(fault);
     }
-    if options.workers < 1 || options.workers > MOST_WORKERS {
-        return Err(Fault::WorkerCount);
-    }
-    let period = schedule(alloc, design, options.policy)?;
+    let period = period_by(alloc, design, options.policy)?;
     Ok(Plan::new(options.blocking, options.runner, options.patience, period))
 }
 
@@ -132,6 +142,7 @@ pub fn plan(alloc: Global, design: &Design, options: &Options) -> Result<Plan, F
     let _ = net.repetitions();
     let _ = net.graph().channels();
     graphs_are_sound();
-    stuck_means_deadlock();
+    one_least_period();
+    period_or_deadlock();
     planned(alloc, design, options)
 }

@@ -22,14 +22,14 @@ use sdf_file::Design;
 use sdf_kit::Kit;
 use sdf_run::run_one;
 use sdf_sched::Period;
-use sdf_wav::{Reader, Wav, Writer, read_wav, write_wav};
+use sdf_wav::{MOST_CHANNELS, Reader, Wav, Writer, read_wav, write_wav};
 use std::alloc::Global;
 
 /// What a net makes of a sound.
 fn render(alloc: Global, net: &Net<Kit>, period: &Period, input: &Wav) -> Result<Wav, Fault>
     requires period { IsPeriodOf (rates (graph_of kit_steps net.now)) period.now }
-    requires inputs { list_count Inputs net.now.nodes ≤ 8 }
-    requires outputs { list_count Outputs net.now.nodes ≤ 8 }
+    requires inputs { list_count Inputs net.now.nodes ≤ MOST_CHANNELS }
+    requires outputs { list_count Outputs net.now.nodes ≤ MOST_CHANNELS }
     ensures { MatchResult result (IsRendered net.now period.now.repetitions input.now) (IsRenderFault net.now period.now.repetitions input.now) }
 {
     let exchange = Exchange::of_net(net, period);
@@ -86,8 +86,8 @@ fn run_net<R: Reader, W: Writer>(
     period: &Period,
 ) -> Result<(), Fault>
     requires period { IsPeriodOf (rates (graph_of kit_steps net.now)) period.now }
-    requires inputs { list_count Inputs net.now.nodes ≤ 8 }
-    requires outputs { list_count Outputs net.now.nodes ≤ 8 }
+    requires inputs { list_count Inputs net.now.nodes ≤ MOST_CHANNELS }
+    requires outputs { list_count Outputs net.now.nodes ≤ MOST_CHANNELS }
     ensures runs { WhereKnown (R.remaining reader.old) (λ input. Runs net.now period.now.repetitions input (W.contents writer.old) (W.contents writer.new) result) }
     ensures accepts { (input : List ℕ) (s : Sound) (rest : List ℕ) → R.remaining reader.old ≡ Some input → IsWav input s rest →
         Refuses (output_fault (exchange_of net.now period.now.repetitions) s) result }

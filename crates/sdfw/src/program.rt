@@ -11,6 +11,7 @@ use crate::files::{MOST_BYTES, device_fault, load};
 use crate::options::{Options, Words};
 use crate::planning::plan;
 use crate::process::process;
+use crate::schedule::schedule;
 use sdf_file::check_text;
 use sdf_wav::{FromRead, ToWrite};
 use std::fmt::Display;
@@ -31,6 +32,17 @@ fn check<R: Files + Print + AllocGlobal>(rt: &R, graph: &str) -> Result<(), Faul
     let design = load(rt, graph, MOST_BYTES)?;
     plan(alloc, &design, &Options::DEFAULT)?;
     show(rt, check_text(alloc, &design)?)
+}
+
+/// Prints the schedule of a design.
+fn print_schedule<R: Files + Print + AllocGlobal>(
+    rt: &R,
+    graph: &str,
+    options: &Options,
+) -> Result<(), Fault> {
+    let alloc = rt.alloc();
+    let design = load(rt, graph, MOST_BYTES)?;
+    show(rt, schedule(alloc, &design, options)?)
 }
 
 /// Runs a design on a WAV file. OUT is made or emptied once the plan stands and IN is open.
@@ -66,6 +78,7 @@ pub(crate) fn obey<R: Files + Print + AllocGlobal>(rt: &R, line: &[&str]) -> Res
     let alloc = rt.alloc();
     match words(alloc, line) {
         Ok(Words::Check { graph }) => check(rt, graph),
+        Ok(Words::Schedule { graph, options }) => print_schedule(rt, graph, &options),
         Ok(
             Words::Run {
                 graph,

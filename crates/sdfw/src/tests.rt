@@ -8,4 +8,5 @@ mod lines;
 mod refused;
 mod running;
 mod runs;
+mod schedules;
 mod words;

@@ -17,7 +17,7 @@ const TABLE: &str = "| `input` | `channel` 0..7, `block` 1..1024 (1) |
 | `gather`, format 2 | `ways` 2..16, `run` 1..64 (1) |
 ";
 
-const SHARED: &str = "`processor` 0..15 or absent";
+const SHARED: &str = "`processor` 0..15 or absent, `cost` 1..1000000 (1)";
 
 fn key_text(alloc: Global, key: &Key) -> Result<String, Fail> {
     let name = key.0;

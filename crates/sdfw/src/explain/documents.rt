@@ -23,7 +23,7 @@ pub(super) fn meaning_of(number: u32) -> Option<Meaning> {
             name: "UnknownKey",
             place: "PLACE key K",
             means: "A key does not belong there.",
-            limits: "the keys of the kind, `name`, `kind` and `processor`",
+            limits: "the keys of the kind, `name`, `kind`, `processor` and `cost`",
             remedy: "Take it away, or mend its spelling.",
         },
         52 => Meaning {

@@ -8,7 +8,7 @@ pub(super) fn meaning_of(number: u32) -> Option<Meaning> {
         13 => Meaning {
             name: "BlockTooLong",
             place: "",
-            means: "A block has too many firings. It is not answered by this version.",
+            means: "A block has too many firings for a table.",
             limits: "at most 65,536 firings in a block",
             remedy: "Use a smaller `--blocking`.",
         },
@@ -50,7 +50,7 @@ pub(super) fn meaning_of(number: u32) -> Option<Meaning> {
         19 => Meaning {
             name: "BadHome",
             place: "actor A",
-            means: "The actor is at home on no worker that there is. It is not answered by this version.",
+            means: "The actor has no key `processor`, or one past the last worker, and the placement is `file`.",
             limits: "`processor` below the number of workers",
             remedy: "Change `processor`, or use more workers.",
         },

@@ -127,6 +127,22 @@ fn commands_have_their_arguments(rt: HostRuntime) -> Result<(), Fail> {
         Ok(read) => assert_eq!(rt; read, Words::Check { graph: "a b" }),
         Err(_) => assert!(rt; false),
     }
+    match words(alloc, &["sdfw", "schedule", "a b", "--workers", "2"]) {
+        Ok(read) => {
+            let options = Options {
+                workers: 2,
+                ..Options::DEFAULT
+            };
+            assert_eq!(rt;
+                read,
+                Words::Schedule {
+                    graph: "a b",
+                    options
+                }
+            );
+        }
+        Err(_) => assert!(rt; false),
+    }
     for (word, number) in [("1", 1), ("10", 10), ("63", 63)] {
         match words(alloc, &["sdfw", "explain", word]) {
             Ok(read) => assert_eq!(rt; read, Words::Explain { number }),

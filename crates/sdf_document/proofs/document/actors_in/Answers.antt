@@ -5,10 +5,9 @@ use Rattle.indexmap.specs.IndexSet.{keys}
 use Rattle.std.proofs.lemmas.Result.{err_from_is_err_and}
 use Rattle.std.proofs.lemmas.List.{map_push}
 use Rattle.std.proofs.lemmas.List.Elements.{All-push}
-use Rattle.sdf_document.specs.Kinds.{IsWithin}
 use Rattle.toml.specs.View.{view}
 use Rattle.sdf_document.specs.Fault.{Fails}
-use Rattle.sdf_document.specs.Actors.{ActorValue, actor_view, actor_at}
+use Rattle.sdf_document.specs.Actors.{ActorValue, actor_view, actor_at, IsActorWithin}
 use Rattle.sdf_document.specs.Lists.{lookup_of, are_read}
 use Rattle.sdf_document.specs.Document.{names_in, actor_after}
 use Rattle.sdf_document.proofs.Turns.{each_more, each_fail, each_done, names_pushed}
@@ -34,7 +33,7 @@ loop-number-preserved c =
     let seen : map actor_view c.push.new.self.items ≡ map actor_view c.loop-number.actors.items ++ actor_view a ∷ [] = rw pushed (map_push actor_view c.loop-number.actors.items a) in record {
       given = rw seen (each_more (actor_after c.args.format (lookup_of c.args.files)) c.args.items.now c.loop-number.number c.index-items-number.result (map actor_view c.loop-number.actors.items) (actor_view a) _ (omega arith) read c.loop-number.invariant.given);
       named = rw seen (pushed_keys ∙ sym (map_push (λ (e : ActorValue). e.name) (map actor_view c.loop-number.actors.items) (actor_view a)));
-      within = rw pushed (All-push (λ a. IsWithin (are_read c.args.files) a.kind) c.loop-number.actors.items a c.loop-number.invariant.within (search rules));
+      within = rw pushed (All-push (IsActorWithin (are_read c.args.files)) c.loop-number.actors.items a c.loop-number.invariant.within (search rules));
     }
 
 pub returns-clause-given : goal.returns-clause-given

@@ -39,7 +39,7 @@ returns-in_ok-put-in-Inner g c =
     begun s ports c.args.net.now c.requires.net c.args.sizes.now c.requires.sizes c.args.a c.requires.known x is
     _ c.in_ok-state-in-Inner.state c.in_ok-taken-in-Inner.taken c.in_ok-put-in-Inner.put c.in_ok-put-in-Inner.lengths refl c.in_ok-state-in-Inner.ensures
     (blocks s ports c.args.net.now c.requires.net c.args.sizes.now c.requires.sizes c.args.a c.requires.known x is
-    c.in_ok-taken-in-Inner.taken c.in_ok-put-in-Inner.put c.in_ok-put-in-Inner.lengths c.cycle-cycle.result c.cycle-cycle.ensures (omega (arith, c.cycle-cycle.type_inv)) c.in_ok-put-in-Inner.ensures.0
+    c.in_ok-taken-in-Inner.taken c.in_ok-put-in-Inner.put c.in_ok-put-in-Inner.lengths c.cycle-cycle.result c.cycle-cycle.ensures c.in_ok-put-in-Inner.ensures.0
     (λ j h. subst (λ cs. sum_by (λ e. get_or (at_phase c.args.sizes.now.takes j) e 0) cs ≤ vec_len c.in_ok-taken-in-Inner.taken) c.channels_in.ensures (c.in_ok-taken-in-Inner.ensures.1 j h).1)
     (λ j h. subst (λ cs. get_or c.in_ok-put-in-Inner.lengths.items j 0 ≡ sum_by (λ e. get_or (at_phase c.args.sizes.now.puts j) e 0) cs) c.channels_out.ensures (c.in_ok-put-in-Inner.ensures.1 j h).0)
     (λ j h. subst (λ cs. sum_by (λ e. get_or (at_phase c.args.sizes.now.puts j) e 0) cs ≤ vec_len c.in_ok-put-in-Inner.put) c.channels_out.ensures (c.in_ok-put-in-Inner.ensures.1 j h).1))

@@ -15,4 +15,4 @@ returns c =
     (subst (λ n. IsNet kit_steps n) same c.graph-graph.ensures.whole)
     (subst (λ n. IsShape (graph_of kit_steps n)) same (subst IsShape c.graph-graph.ensures.value c.channels.ensures.shape))
     (subst (λ n. IsAlike (rates (graph_of kit_steps n)) (wiring kit_steps n).rates) same (subst (λ g. IsAlike (rates g) (wiring kit_steps c.net-net.result.now).rates) c.graph-graph.ensures.value c.graph-graph.ensures.rates))
-    accepted.lists c.graphs_are_sound.ensures c.graphs_have_periods.ensures c.periods_repeat.ensures.words c.alike_sequences.ensures c.one_history.ensures.is_unique c.one_outcome.ensures.one_sound
+    accepted.lists c.graphs_are_sound.ensures c.graphs_have_periods.ensures c.one_least_period.ensures c.periods_repeat.ensures.words c.alike_sequences.ensures c.one_history.ensures.is_unique c.one_outcome.ensures.one_sound

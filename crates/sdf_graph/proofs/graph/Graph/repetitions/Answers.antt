@@ -24,14 +24,14 @@ returns-in-Some c =
     let within : c.in-Some.channel < length c.args.self.now.channels = omega (arith, uneven.0, length-map c.args.self.now.channels totals) in (
       within,
       λ p period. uneven.1 (subst (IsEven c.in_ok-parts.parts.items) (sym (totals_read c.args.self.now.channels c.in-Some.channel within))
-          (must_even c.args.self.now c.in_ok-parts.parts.items walk.0 walk.1 (cycles_in c.args.self.now shape p) (in_cycles c.args.self.now shape p period) shape c.in-Some.channel within)),
+          (must_even c.args.self.now c.in_ok-parts.parts.items walk (cycles_in c.args.self.now shape p) (in_cycles c.args.self.now shape p period) shape c.in-Some.channel within)),
     )
 
 pub returns-in_default-common : goal.returns-in_default-common
 returns-in_default-common c =
     let walk = c.in_ok-parts.ensures in
     let shape = subst IsShape c.self.view_is c.self.invariant.shape in
-    none_long c.args.self.now shape (no_common c.args.self.now shape c.in_ok-parts.parts.items walk.0 walk.1
+    none_long c.args.self.now shape (no_common c.args.self.now shape c.in_ok-parts.parts.items walk
     (subst (λ (ps : List Ratio). (n : ℕ) → 0 < n → ((a : ℕ) → a < length ps → Divides (ratio ps a).den n) → 65536 < n) c.deref-3.ensures.value (c.in_default-common.ensures)))
 
 pub uneven-requires-clause-from_in : goal.uneven-requires-clause-from_in
@@ -40,7 +40,7 @@ uneven-requires-clause-from_in c =
     let sums : c.deref.result.now ≡ map totals c.args.self.now.channels = c.deref.ensures.value ∙ (c.self.invariant.sums ∙ ap (λ (s : Shape). map totals s.channels) c.self.view_is) in
     subst (λ (xs : List Totals). (d : ℕ) → d < length xs → (get_or xs d no_totals).from < length c.deref-2.result.now) (sym sums)
     (all_totals (λ t. t.from < length c.deref-2.result.now) c.args.self.now.channels
-    (λ d l. omega (arith, shape.from_in d l, c.in_ok-parts.ensures.0.all, ap length c.deref-2.ensures.value)))
+    (λ d l. omega (arith, shape.from_in d l, c.in_ok-parts.ensures.all, ap length c.deref-2.ensures.value)))
 
 pub uneven-requires-clause-to_in : goal.uneven-requires-clause-to_in
 uneven-requires-clause-to_in c =
@@ -48,7 +48,7 @@ uneven-requires-clause-to_in c =
     let sums : c.deref.result.now ≡ map totals c.args.self.now.channels = c.deref.ensures.value ∙ (c.self.invariant.sums ∙ ap (λ (s : Shape). map totals s.channels) c.self.view_is) in
     subst (λ (xs : List Totals). (d : ℕ) → d < length xs → (get_or xs d no_totals).to < length c.deref-2.result.now) (sym sums)
     (all_totals (λ t. t.to < length c.deref-2.result.now) c.args.self.now.channels
-    (λ d l. omega (arith, shape.to_in d l, c.in_ok-parts.ensures.0.all, ap length c.deref-2.ensures.value)))
+    (λ d l. omega (arith, shape.to_in d l, c.in_ok-parts.ensures.all, ap length c.deref-2.ensures.value)))
 
 pub uneven-requires-clause-put_small : goal.uneven-requires-clause-put_small
 uneven-requires-clause-put_small c =
@@ -83,5 +83,5 @@ returns c =
     let made = subst (λ (cs : List ℕ). MatchResult c.scaled.result (λ q. (q ≡ map (firings cs c.in_ok-parts.parts.items c.in-Some-common.all) (range_with_len 0 (length c.in_ok-parts.parts.items))) × (sum q ≤ 65536)) (IsScaleFault cs c.in_ok-parts.parts.items c.in-Some-common.all)) c.deref-4.ensures.value
     (subst (λ (ps : List Ratio). MatchResult c.scaled.result (λ q. (q ≡ map (firings c.deref-4.result.now ps c.in-Some-common.all) (range_with_len 0 (length ps))) × (sum q ≤ 65536)) (IsScaleFault c.deref-4.result.now ps c.in-Some-common.all)) c.deref-5.ensures.value c.scaled.ensures) in
     MatchResult-weaker c.scaled.result made
-    (λ q (e, small). (subst (IsLeastPeriod (rates c.args.self.now)) (sym e) (least_period c.args.self.now shape c.self.inside.cycles.items same c.in_ok-parts.parts.items walk.0 walk.1 c.in-Some-common.all common even), small))
-    (fault_of c.args.self.now shape c.self.inside.cycles.items same c.in_ok-parts.parts.items walk.0 walk.1 c.in-Some-common.all common even)
+    (λ q (e, small). (subst (IsLeastPeriod (rates c.args.self.now)) (sym e) (least_period c.args.self.now shape c.self.inside.cycles.items same c.in_ok-parts.parts.items walk c.in-Some-common.all common even), small))
+    (fault_of c.args.self.now shape c.self.inside.cycles.items same c.in_ok-parts.parts.items walk c.in-Some-common.all common even)

@@ -1,49 +1,50 @@
-use Rattle.std.proofs.Common.{subst}
-use Rattle.sdf_graph.specs.Sequences.{times, repeated}
-use Rattle.sdf_run.specs.Runs.{IsAt}
-use Rattle.sdf_run.proofs.Loops.{Stood, keeps_on, fired_keeps, stood_on, can_fire, goes_on, period_more}
+use Rattle.std.proofs.Common.{◌≡◌, ◌*◌, ◌≤◌, length, get_or, sym, ap, ◌∙◌, arith}
+use Rattle.sdf_run.specs.Sweeps.{Keeps}
+use Rattle.sdf_run.proofs.Sweeping.{keeps_all, keeps_on, room_along, block_begins}
 use Rattle.sdf_run.proofs.run.Run.fire_all.Goals as goal
-use Rattle.sdf_run.proofs.run.Run.fire_all.Goals.{In-order}
 
-stood : (g : Rattle.sdf_run.proofs.run.Run.fire_all.Given.Over) (c : In-order g) → Stood g.A.Actor.steps c.order.self (repeated c.args.periods c.args.order.now)
-stood g c =
+pub loop-self-init : goal.loop-self-init
+loop-self-init g c = record {
+  swept = c.requires.swept;
+  keeps = keeps_all c.args.self.now;
+  room = c.requires.room;
+  done = λ a l.
+      let r = c.args.self.now in
+      let to : get_or r.done.items a 0 ≤ r.high * get_or r.repetitions.now a 0 = c.requires.swept.to a l in
+      let none : r.high * get_or r.repetitions.now a 0 ≡ 0 = ap (λ h. h * get_or r.repetitions.now a 0) c.requires.start ∙ (let z : 0 * get_or r.repetitions.now a 0 ≡ 0 = omega arith in z) in
+      omega arith;
+}
+
+pub fire_block-requires-clause-swept : goal.fire_block-requires-clause-swept
+fire_block-requires-clause-swept g c = λ κs within.
+    let inv = c.loop-self.invariant in
+    let next = c.next_block-self.ensures in
+    block_begins g.A.Actor.steps c.loop-self.self inv.swept c.next_block-self.result c.args.size (omega (arith, next.more)) next.within next.step inv.done inv.room
+
+pub loop-self-smaller : goal.loop-self-smaller
+loop-self-smaller g c = omega (arith, c.fire_block.ensures.high, c.fire_block.ensures.keeps.periods, c.next_block-self.ensures.more, c.loop-self-test.true)
+
+pub loop-self-preserved : goal.loop-self-preserved
+loop-self-preserved g c =
     let s = g.A.Actor.steps in
-    stood_on s c.args.self.now c.order.self (repeated c.args.periods c.args.order.now)
-    (keeps_on s c.args.self.now c.periods.self c.order.self c.periods.invariant.keeps c.order.invariant.keeps)
-    (record {
-      net = record {
-        good = c.requires.net;
-        wired = c.nets_are_wired.ensures.wired c.args.self.now.net.now c.requires.net;
-        ports = c.nets_are_wired.ensures.ports;
-        grows = c.history_grows_by_firing.ensures;
-        stays = c.taken_stays.ensures;
-      };
-      sizes = c.requires.sizes;
-      apart = c.requires.apart;
-      adm = c.requires.admissible;
-      channels = c.requires.begun.channels;
-      fits = c.requires.room;
-      reach = c.requires.inputs;
-    })
-
-pub fire-requires-after_bounds : goal.fire-requires-after_bounds
-fire-requires-after_bounds g c = λ κs within.
-    can_fire g.A.Actor.steps c.order.self c.args.order.now c.args.periods c.periods.counter c.order.a-index c.periods-test.true c.order-test.true (stood g (goal.at.fire-requires-after_bounds g c).In-order) c.order.invariant.stands
-
-pub order-preserved : goal.order-preserved
-order-preserved g c =
-    let s = g.A.Actor.steps in
-    let on = stood g (goal.at.order-preserved g c).In-order in
-    let can = can_fire s c.order.self c.args.order.now c.args.periods c.periods.counter c.order.a-index c.periods-test.true c.order-test.true on c.order.invariant.stands in
+    let inv = c.loop-self.invariant in
+    let r = c.loop-self.self in
+    let r' = c.fire_block.new.self in
+    let k = c.fire_block.ensures.keeps in
+    let keeps : Keeps r r' = record { net = k.net; inputs = k.inputs; repetitions = k.repetitions; periods = k.periods; outputs = k.outputs; queues = k.queues; rooms = k.rooms } in
     record {
-      stands = goes_on s c.order.self c.args.order.now c.args.periods c.periods.counter c.order.a-index c.periods-test.true c.order-test.true on c.order.invariant.stands c.fire.new.self c.fire.ensures;
-      keeps = keeps_on s c.periods.self c.order.self c.fire.new.self c.order.invariant.keeps (fired_keeps s c.order.self c.fire.new.self _ can.worked c.fire.ensures);
+      swept = c.fire_block.ensures.swept;
+      keeps = keeps_on c.args.self.now r r' inv.keeps keeps;
+      room = room_along s c.args.size r r' keeps inv.swept.stands.channels inv.room;
+      done = λ a l.
+          let nodes : length r'.net.now.nodes ≡ length r.net.now.nodes = ap (λ x. length x.now.nodes) k.net in
+          c.fire_block.ensures.done a (omega (arith, l, nodes)) ∙ sym (λ i. c.fire_block.ensures.high i * get_or (k.repetitions i).now a 0);
     }
 
-pub periods-preserved : goal.periods-preserved
-periods-preserved g c =
-    let s = g.A.Actor.steps in
-    record {
-      stands = subst (λ v. IsAt s c.order.self (times (repeated c.args.periods c.args.order.now)) (times v)) (period_more c.args.order.now c.periods.counter c.order.a-index c.order-test.false) c.order.invariant.stands;
-      keeps = keeps_on s c.args.self.now c.periods.self c.order.self c.periods.invariant.keeps c.order.invariant.keeps;
-    }
+pub returns-clause-done : goal.returns-clause-done
+returns-clause-done g c = λ a l.
+    let inv = c.loop-self.invariant in
+    let r = c.loop-self.self in
+    let nodes : length r.net.now.nodes ≡ length c.args.self.now.net.now.nodes = ap (λ x. length x.now.nodes) inv.keeps.net in
+    let last : r.high ≡ c.args.self.now.periods = omega (arith, c.loop-self-test.false, inv.swept.under, inv.keeps.periods) in
+    inv.done a (omega (arith, l, nodes)) ∙ (λ i. last i * get_or (inv.keeps.repetitions i).now a 0)

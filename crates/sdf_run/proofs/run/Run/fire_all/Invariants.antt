@@ -1,17 +1,14 @@
-use Rattle.std.proofs.Common.{◌++◌, take}
-use Rattle.sdf_graph.specs.Sequences.{times, repeated}
-use Rattle.sdf_run.specs.Runs.{IsAt}
-use Rattle.sdf_run.proofs.Loops.{Keeps}
+use Rattle.std.proofs.Common.{◌≡◌, ◌-◌, ◌*◌, ◌<◌, ℕ, length, slice_index}
+use Rattle.sdf_run.specs.Sweeps.{IsSwept, HasRoom, Keeps}
 use Rattle.sdf_run.proofs.run.Run.fire_all.Given as goal
 
-abbrev pub invariant-periods : goal.invariant-periods
-invariant-periods g l = record {
-  stands : IsAt g.A.Actor.steps l.self (times (repeated l.periods l.order)) (times (repeated l.counter l.order));
-  keeps : Keeps g.A.Actor.steps l.initial.self l.self;
+abbrev pub invariant-loop-self : goal.invariant-loop-self
+invariant-loop-self g l = record {
+  swept : IsSwept g.A.Actor.steps l.self;
+  keeps : Keeps l.initial.self l.self;
+  room : HasRoom g.A.Actor.steps l.size l.self;
+  done : (a : ℕ) → a < length l.self.net.now.nodes → slice_index l.self.done.items a ≡ l.self.high * slice_index l.self.repetitions.now a;
 }
 
-abbrev pub invariant-order : goal.invariant-order
-invariant-order g l = record {
-  stands : IsAt g.A.Actor.steps l.self (times (repeated l.periods l.order)) (times (repeated l.counter l.order ++ take l.a-index l.order));
-  keeps : Keeps g.A.Actor.steps l.initial.self l.self;
-}
+abbrev pub decreases-loop-self : goal.decreases-loop-self
+decreases-loop-self g l = l.self.periods - l.self.high

@@ -47,7 +47,7 @@ returns-in-Inner g c =
     fired_inner s (lists c.args.inputs.now) c.args.ins.now.channels.now c.args.outs.now.channels.now c.args.ins.now.sizes.now c.args.outs.now.sizes.now c.args.queues.now c.put_front.new.queues c.args.outputs.now
     c.args.self.now c.in-Inner.actor c.in-Inner.phase c.next_phase.result c.in-Inner.state c.fire_into.new.state c.in-Inner.taken c.in-Inner.put c.take_block-in-Inner.new.block c.fire_into.new.put c.in-Inner.lengths c.take_block-in-Inner.new.queues
     c.in-Inner.is
-    (c.next_phase.ensures ∙ ap (λ m. (c.in-Inner.phase + 1) % m) (omega (arith, c.len.ensures, can.4)))
+    (c.next_phase.ensures ∙ ap (λ m. (c.in-Inner.phase + 1) % m) c.cycle.ensures)
     (c.fire_into.ensures.state ∙ ap (s.next c.in-Inner.actor.now c.in-Inner.phase c.in-Inner.state) b)
     (c.take_block-in-Inner.ensures.capacity ∙ c.clear.ensures.capacity) c.fire_into.ensures.len
     (ap length (sym put) ∙ (short ∙ many))

@@ -1,0 +1,228 @@
+//! The text of a schedule.
+ghost use Rattle.std.specs.Prelude.{◌≡◌, ◌+◌, ◌≤◌, ◌<◌, ◌++◌, ◌∷◌, IfOk, OnOk, length, drop, slice_index, string_bytes, codes};
+ghost use Rattle.std.specs.List.{flat_map, range_with_len};
+ghost use Rattle.sdf_actor.specs.Nets.{wire};
+ghost use Rattle.sdf_file.specs.Schedules.{Stretch, stretches, stretch_text, order_items, order_line, cell_text, row_line, end_text, capacity_line, blocking_of, workers_of, size_lines, table_text, schedule_text, IsScheduleText};
+
+use crate::design::Design;
+use crate::texts::push_period;
+use sdf_graph::Repetitions;
+use sdf_prec::{Firing, Table};
+use sdf_sched::Period;
+use std::alloc::{AllocError, Global};
+
+/// How many firings of one actor stand in an order from a place on.
+fn stretch_at(order: &[usize], at: usize) -> usize
+    requires { at < length order.now }
+    ensures stretch { stretches (drop at order.now) ≡ record { actor = slice_index order.now at; firings = result } ∷ stretches (drop (at + result) order.now) }
+    ensures some { 0 < result }
+    ensures within { at + result ≤ length order.now }
+{
+    let actor = order[at];
+    let mut past = at + 1;
+    while past < order.len() && actor == order[past] {
+        past += 1;
+    }
+    past - at
+}
+
+fn push_stretch(
+    text: &mut String,
+    design: &Design,
+    actor: usize,
+    firings: usize,
+) -> Result<(), AllocError>
+    ensures { OnOk result (string_bytes text.new ≡ string_bytes text.old ++ codes " " ++ stretch_text design.now (record { actor = actor; firings = firings })) }
+{
+    let name = design.name_of(actor);
+    if firings == 1 {
+        write!(text, " {name}")?;
+    } else {
+        write!(text, " {firings}*{name}")?;
+    }
+    Ok(())
+}
+
+/// Adds an item for each longest stretch of one actor.
+fn push_items(text: &mut String, design: &Design, order: &[usize]) -> Result<(), AllocError>
+    ensures { OnOk result (string_bytes text.new ≡ string_bytes text.old ++ order_items design.now order.now) }
+{
+    let mut at = 0;
+    while at < order.len() {
+        let firings = stretch_at(order, at);
+        push_stretch(text, design, order[at], firings)?;
+        at += firings;
+    }
+    Ok(())
+}
+
+/// Adds the line of an order.
+fn push_order(text: &mut String, design: &Design, order: &[usize]) -> Result<(), AllocError>
+    ensures { OnOk result (string_bytes text.new ≡ string_bytes text.old ++ order_line design.now order.now) }
+{
+    text.push_str("order")?;
+    push_items(text, design, order)?;
+    text.push_str("\n")
+}
+
+fn push_cell(text: &mut String, design: &Design, cell: Option<Firing>) -> Result<(), AllocError>
+    ensures { OnOk result (string_bytes text.new ≡ string_bytes text.old ++ codes " " ++ cell_text design.now cell) }
+{
+    match cell {
+        Some(Firing { actor, number }) => {
+            let name = design.name_of(actor);
+            write!(text, " {name}.{number}")?;
+        }
+        None => text.push_str(" -")?,
+    }
+    Ok(())
+}
+
+/// Adds the line of a row.
+fn push_row(text: &mut String, design: &Design, cells: &[Option<Firing>]) -> Result<(), AllocError>
+    ensures { OnOk result (string_bytes text.new ≡ string_bytes text.old ++ row_line design.now cells.now) }
+{
+    text.push_str("row")?;
+    for cell in cells {
+        push_cell(text, design, *cell)?;
+    }
+    Ok(text.push_str("\n")?)
+}
+
+/// Adds the lines of a table's rows.
+fn push_rows(text: &mut String, design: &Design, table: &Table) -> Result<(), AllocError>
+    ensures { OnOk result (string_bytes text.new ≡ string_bytes text.old ++ flat_map (row_line design.now) table.now.rows) }
+{
+    for row in 0..table.rows() {
+        push_row(text, design, table.row(row))?;
+    }
+    Ok(())
+}
+
+/// The ends of a link, each an actor and a port.
+fn ends_of(design: &Design, link: usize) -> ((usize, usize), (usize, usize))
+    requires { link < length design.now.net.wires }
+    ensures from { result.0 ≡ (wire design.now.net link).from }
+    ensures to { result.1 ≡ (wire design.now.net link).to }
+{
+    let link = design.net().link(link);
+    (link.from, link.to)
+}
+
+/// Adds an end of a link.
+fn push_end(text: &mut String, design: &Design, end: (usize, usize)) -> Result<(), AllocError>
+    ensures { OnOk result (string_bytes text.new ≡ string_bytes text.old ++ end_text design.now end) }
+{
+    let (actor, port) = end;
+    let name = design.name_of(actor);
+    write!(text, "{name}:{port}")?;
+    Ok(())
+}
+
+/// Adds the line of a link's capacity.
+fn push_capacity(
+    text: &mut String,
+    design: &Design,
+    table: &Table,
+    link: usize,
+) -> Result<(), AllocError>
+    requires link { link < length design.now.net.wires }
+    requires capacities { length table.now.caps ≡ length design.now.net.wires }
+    ensures { OnOk result (string_bytes text.new ≡ string_bytes text.old ++ capacity_line design.now table.now.caps link) }
+{
+    let (from, to) = ends_of(design, link);
+    let capacity = table.cap(link);
+    text.push_str("capacity ")?;
+    push_end(text, design, from)?;
+    text.push_str(" ")?;
+    push_end(text, design, to)?;
+    writeln!(text, " {capacity}")?;
+    Ok(())
+}
+
+/// Adds the lines of the links' capacities, in file order.
+fn push_capacities(text: &mut String, design: &Design, table: &Table) -> Result<(), AllocError>
+    requires { length table.now.caps ≡ length design.now.net.wires }
+    ensures { OnOk result (string_bytes text.new ≡ string_bytes text.old ++ flat_map (capacity_line design.now table.now.caps) (range_with_len 0 (length design.now.net.wires))) }
+{
+    for link in 0..design.net().channels() {
+        push_capacity(text, design, table, link)?;
+    }
+    Ok(())
+}
+
+/// How often the order of a period makes a table's block.
+fn blocking_of(order: &[usize], table: &Table) -> usize
+    ensures { result ≡ blocking_of order.now table.now }
+{
+    table.order().len().checked_div(order.len()).unwrap_or(0)
+}
+
+/// How many columns each row of a table has.
+fn workers_of(table: &Table) -> usize
+    ensures { result ≡ workers_of table.now }
+{
+    if table.rows() == 0 {
+        return 0;
+    }
+    table.row(0).len()
+}
+
+/// Adds the sizes of a table.
+fn push_sizes(text: &mut String, order: &[usize], table: &Table) -> Result<(), AllocError>
+    ensures { OnOk result (string_bytes text.new ≡ string_bytes text.old ++ size_lines order.now table.now) }
+{
+    let blocking = blocking_of(order, table);
+    let workers = workers_of(table);
+    let rows = table.rows();
+    writeln!(text, "blocking {blocking}\nworkers {workers}\nrows {rows}")?;
+    Ok(())
+}
+
+/// Adds a table.
+fn push_table(
+    text: &mut String,
+    design: &Design,
+    order: &[usize],
+    table: &Table,
+) -> Result<(), AllocError>
+    requires { length table.now.caps ≡ length design.now.net.wires }
+    ensures { OnOk result (string_bytes text.new ≡ string_bytes text.old ++ table_text design.now order.now table.now) }
+{
+    push_sizes(text, order, table)?;
+    push_rows(text, design, table)?;
+    push_capacities(text, design, table)
+}
+
+fn text_with(
+    alloc: Global,
+    design: &Design,
+    repetitions: &Repetitions,
+    order: &[usize],
+    table: &Table,
+) -> Result<String, AllocError>
+    requires all { length repetitions.now ≡ length design.now.net.nodes }
+    requires capacities { length table.now.caps ≡ length design.now.net.wires }
+    ensures { IfOk result (λ s. string_bytes s ≡ schedule_text design.now repetitions.now order.now table.now) }
+{
+    let mut text = String::new(alloc);
+    push_period(&mut text, design, repetitions)?;
+    push_order(&mut text, design, order)?;
+    push_table(&mut text, design, order, table)?;
+    Ok(text)
+}
+
+/// What a schedule is: the period and how often each actor fires in it, the order of its firings, and a table: its periods, its
+/// columns, the firings of each row, and the capacity of each link.
+pub fn schedule_text(
+    alloc: Global,
+    design: &Design,
+    period: &Period,
+    table: &Table,
+) -> Result<String, AllocError>
+    requires { length table.now.caps ≡ length design.now.net.wires }
+    ensures { IfOk result (λ s. IsScheduleText design.now period.now.order table.now (string_bytes s)) }
+{
+    let repetitions = design.net().repetitions();
+    Ok(text_with(alloc, design, repetitions, period.order(), table)?)
+}

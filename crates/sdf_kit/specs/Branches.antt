@@ -1,0 +1,46 @@
+-- Branches of a polyphase filter: the taps of each phase by themselves.
+use Rattle.std.specs.Prelude.{ℕ, ◌≡◌, ◌+◌, ◌-◌, ◌*◌, ◌/◌, ◌%◌, ◌<◌, ◌≤◌, ℤ, pos, List, ◌++◌, length, map, take, drop, replicate, FitsSigned}
+use Rattle.std.specs.Int.{w16}
+use Rattle.std.specs.List.{range_with_len}
+use Rattle.std.specs.Simd.Lanes.{Each1}
+use Rattle.sdf_kit.specs.Samples.{sample, settled, upsampled}
+use Rattle.sdf_kit.specs.Fir.{convolved}
+use Rattle.sdf_kit.specs.Dots.{dot, total_abs}
+use Rattle.sdf_kit.specs.declared.branches.Branches.{Branches}
+
+-- the branch of phase p: n taps, the last one first, and zeros where the filter has none
+abbrev pub branch : List ℤ → ℕ → ℕ → ℕ → List ℤ
+branch taps up p n = map (λ i. sample taps (p + (n - 1 - i) * up)) (range_with_len 0 n)
+
+-- the branch of phase p of a table of branches
+abbrev pub branch_at : Branches → ℕ → List ℤ
+branch_at b p = take b.width (drop (p * b.width) b.table)
+
+-- so many branches that vectors of eight can be used on, and that stay within 32 bits on samples within the peak, also where
+-- half of 2^15 is added to round
+pub record AreQuiet (up : ℕ) (b : Branches) : Type 0 where
+  pub lanes : b.width % 8 ≡ 0
+  pub some : 1 ≤ b.width
+  pub few : b.width ≤ 1024
+  pub room : up * b.width ≤ length b.table
+  pub short : (p : ℕ) → p < up → Each1 (FitsSigned w16) (branch_at b p)
+  pub quiet : (p : ℕ) → p < up → total_abs (branch_at b p) * b.peak ≤ 2147467263
+  pub peak : b.peak ≤ 32767
+
+-- and they are those of a filter, each with all of its taps
+pub record AreBranches (taps : List ℤ) (up : ℕ) (b : Branches) : Type 0 where
+  pub quiet : AreQuiet up b
+  pub reach : (length taps - 1) / up < b.width
+  pub are : (p : ℕ) → p < up → branch_at b p ≡ branch taps up p b.width
+
+-- output n of the branches on the samples of a window, where each input is `down` places after the one before
+abbrev pub branch_output : Branches → ℕ → ℕ → ℕ → List ℤ → ℕ → ℤ
+branch_output b up down shift samples n =
+    settled (dot (branch_at b (n * down % up)) (take b.width (drop (n * down / up) samples))) shift
+
+-- An output of a filter at place t, counted from the first input that is taken, is the dot product of the branch of its phase with as
+-- many samples up to its newest one: of the inputs before, the last (K - 1) / up of K taps are met, and zeros stand before those.
+abbrev pub BranchesAreTheFilter : Type 0
+BranchesAreTheFilter =
+    (taps : List ℤ) (up : ℕ) → 1 ≤ up → (x : List ℤ) (pad n t : ℕ) → pad + (length taps - 1) / up + 1 ≡ n → t / up + (length taps - 1) / up < length x →
+    dot (branch taps up (t % up) n) (take n (drop (t / up) (replicate pad (pos 0) ++ x))) ≡ convolved taps (upsampled up x) (t + (length taps - 1) / up * up)

@@ -1,0 +1,108 @@
+//! The branches of a polyphase filter: the taps of each phase in one piece of memory.
+
+ghost use Rattle.std.specs.Prelude.{ℕ, ◌≡◌, ◌+◌, ◌-◌, ◌*◌, ◌/◌, ◌%◌, ◌<◌, ◌≤◌, length, map, take, drop};
+ghost use Rattle.std.specs.List.{range_with_len};
+ghost use Rattle.sdf_kit.specs.Samples.{sample};
+ghost use Rattle.sdf_kit.specs.Fir.{AreTaps};
+ghost use Rattle.sdf_kit.specs.Dots.{total_abs};
+ghost use Rattle.sdf_kit.specs.Branches.{AreBranches, branch_at};
+
+/// Places of a table: the taps of a filter, and fewer than eight zeros for each branch.
+pub(crate) const PLACES: usize = 1536;
+
+/// The taps of each phase, the last one first, after zeros that make them a multiple of eight.
+#[derive(Drop)]
+pub(crate) struct Branches {
+    pub(crate) table: [i16; PLACES],
+    /// The taps of a branch.
+    pub(crate) width: usize,
+    /// Where no sample passes this, no sum of products passes 32 bits.
+    pub(crate) peak: u32,
+}
+
+impl Branches {
+    /// The branches of a filter.
+    pub(crate) fn new(taps: &[i32], up: u32) -> Branches
+        requires taps { AreTaps taps.now }
+        requires some { 1 ≤ length taps.now }
+        requires up { 1 ≤ up }
+        requires few { up ≤ 64 }
+        ensures { AreBranches taps.now up result }
+    {
+        let width = ((taps.len() - 1) / up as usize + 8) / 8 * 8;
+        let table = table_of(taps, up, width);
+        let peak = peak_of(gain(&table, up, width));
+        Branches { table, width, peak }
+    }
+
+    /// The branch of a phase.
+    pub(crate) fn get(&self, phase: usize) -> &[i16]
+        requires few { phase ≤ 64 }
+        requires width { self.now.width ≤ 1024 }
+        requires room { phase * self.now.width + self.now.width ≤ length self.now.table }
+        ensures { result.now ≡ branch_at self.now phase }
+    {
+        &self.table[phase * self.width..phase * self.width + self.width]
+    }
+}
+
+/// The taps of each phase, branch after branch.
+fn table_of(taps: &[i32], up: u32, width: usize) -> [i16; PLACES]
+    requires taps { AreTaps taps.now }
+    requires up { up ≤ 64 }
+    requires some { 1 ≤ width }
+    requires few { width ≤ 1024 }
+    ensures { result ≡ map (λ place. sample taps.now (place / width + (width - 1 - place % width) * up)) (range_with_len 0 1536) }
+{
+    let mut table = [0; PLACES];
+    for place in 0..PLACES {
+        let back = (width - 1 - place % width) as u32;
+        let at = place / width + back as usize * up as usize;
+        table[place] = tap_at(taps, at);
+    }
+    table
+}
+
+/// The tap at a place, and zero where there is none.
+fn tap_at(taps: &[i32], at: usize) -> i16
+    requires { AreTaps taps.now }
+    ensures { result ≡ sample taps.now at }
+{
+    if at < taps.len() { taps[at] as i16 } else { 0 }
+}
+
+/// The greatest sum of absolute values of a branch.
+fn gain(table: &[i16], up: u32, width: usize) -> u32
+    requires up { up ≤ 64 }
+    requires few { width ≤ 1024 }
+    requires room { up * width ≤ length table.now }
+    ensures greatest { (p : ℕ) → p < up → total_abs (take width (drop (p * width) table.now)) ≤ result }
+{
+    let mut gain = 0;
+    for phase in 0..up {
+        let start = phase as usize * width;
+        gain = gain.max(total(&table[start..start + width]));
+    }
+    gain
+}
+
+/// The sum of absolute values.
+fn total(taps: &[i16]) -> u32
+    requires few { length taps.now ≤ 1024 }
+    ensures is { result ≡ total_abs taps.now }
+{
+    let mut total = 0;
+    for tap in taps {
+        total += u32::from(tap.unsigned_abs());
+    }
+    total
+}
+
+/// The greatest peak at which a filter of this gain stays within 32 bits, also where it rounds.
+fn peak_of(gain: u32) -> u32
+    ensures quiet { gain * result ≤ 2147467263 }
+    ensures small { result ≤ 32767 }
+    ensures greatest { result < 32767 → 2147467263 < gain * (result + 1) }
+{
+    (2_147_467_263 / gain.max(1)).min(32_767)
+}

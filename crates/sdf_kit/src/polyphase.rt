@@ -1,0 +1,95 @@
+//! Outputs of many firings, branch by branch.
+
+ghost use Rattle.std.specs.Prelude.{ℕ, ◌≡◌, ◌≢◌, ◌+◌, ◌-◌, ◌*◌, ◌/◌, ◌%◌, ◌<◌, ◌≤◌, length, map, take, drop, set, slice_index, FitsSigned};
+ghost use Rattle.std.specs.Int.{w16};
+ghost use Rattle.std.specs.List.{range_with_len};
+ghost use Rattle.std.specs.Simd.Lanes.{Each1};
+ghost use Rattle.sdf_kit.specs.Samples.{sample, settled};
+ghost use Rattle.sdf_kit.specs.Dots.{dot, total_abs};
+ghost use Rattle.sdf_kit.specs.Branches.{AreQuiet, branch_output};
+
+use crate::branches::Branches;
+use crate::window::Window;
+use sdf_limits::{MOST_FACTOR, MOST_SHIFT};
+
+/// The outputs of many firings on a window.
+pub(crate) fn put_branches(
+    branches: &Branches,
+    window: &Window,
+    up: u32,
+    down: u32,
+    shift: u32,
+    many: u32,
+    put: &mut [i32],
+)
+    requires branches { AreQuiet up branches.now }
+    requires peak { window.now.peak ≡ branches.now.peak }
+    requires up { 1 ≤ up }
+    requires up_small { up ≤ MOST_FACTOR }
+    requires down { 1 ≤ down }
+    requires down_small { down ≤ MOST_FACTOR }
+    requires shift { shift ≤ MOST_SHIFT }
+    requires many { many ≤ 1024 }
+    requires window { many * down + branches.now.width ≤ length window.now.samples + 1 }
+    requires put { length put.old ≡ many * up }
+    ensures { put.new ≡ map (branch_output branches.now up down shift window.now.samples) (range_with_len 0 (many * up)) }
+{
+    for j in 0..up {
+        let at = j * down;
+        let branch = branches.get((at % up) as usize);
+        let first = (at / up) as usize;
+        put_branch(branch, window, first, j, up, down, shift, many, put);
+    }
+}
+
+/// One output of each firing: those whose place leaves `at` when divided by `up`.
+fn put_branch(
+    branch: &[i16],
+    window: &Window,
+    first: usize,
+    at: u32,
+    up: u32,
+    down: u32,
+    shift: u32,
+    many: u32,
+    put: &mut [i32],
+)
+    requires lanes { length branch.now % 8 ≡ 0 }
+    requires short { Each1 (FitsSigned w16) branch.now }
+    requires quiet { total_abs branch.now * window.now.peak ≤ 2147467263 }
+    requires first { first < down }
+    requires at { at < up }
+    requires up { up ≤ MOST_FACTOR }
+    requires down { down ≤ MOST_FACTOR }
+    requires shift { shift ≤ MOST_SHIFT }
+    requires many { many ≤ 1024 }
+    requires window { many * down + length branch.now ≤ length window.now.samples + 1 }
+    requires put { length put.old ≡ many * up }
+    ensures len { length put.new ≡ length put.old }
+    ensures done { (i : ℕ) → i < many → sample put.new (at + i * up) ≡ settled (dot branch.now (take (length branch.now) (drop (first + i * down) window.now.samples))) shift }
+    ensures others { (n : ℕ) → n % up ≢ at → sample put.new n ≡ sample put.old n }
+{
+    let step = down as usize;
+    let mut done = 0u32;
+    'fours: while done + 4 <= many {
+        let sums = window.four(branch, first + (done * down) as usize, step, shift);
+        put_four(put, (at + done * up) as usize, up as usize, sums);
+        done += 4;
+    }
+    'ones: while done < many {
+        let sum = window.one(branch, first + (done * down) as usize, shift);
+        put[(at + done * up) as usize] = sum;
+        done += 1;
+    }
+}
+
+/// Puts four samples, so many places apart.
+fn put_four(put: &mut [i32], at: usize, step: usize, samples: [i32; 4])
+    requires room { at + 3 * step < length put.old }
+    ensures { put.new ≡ set (set (set (set put.old at (sample samples 0)) (at + step) (sample samples 1)) (at + 2 * step) (sample samples 2)) (at + 3 * step) (sample samples 3) }
+{
+    put[at] = samples[0];
+    put[at + step] = samples[1];
+    put[at + 2 * step] = samples[2];
+    put[at + 3 * step] = samples[3];
+}

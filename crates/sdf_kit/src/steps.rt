@@ -1,0 +1,49 @@
+//! Products that are counted.
+
+ghost use Rattle.std.specs.Prelude.{◌≡◌, ◌+◌, ◌<◌, ◌≤◌, ◌*ℤ◌, unsigned_abs, FitsSigned};
+ghost use Rattle.std.specs.Int.{w16};
+
+use crate::arithmetic::product;
+use std::marker::Model;
+use std::sync::ledger::{Blank, Book, Ledger, Share};
+
+/// How many products were made. It takes no bytes, and only a product changes it.
+#[derive(Drop)]
+pub struct Steps<G: Ledger> {
+    book: Book<G>,
+    share: Share<G>,
+}
+
+impl<G: Ledger> Model for Steps<G> {
+    ghost use Rattle.std.specs.Prelude.{ℕ, ◌<◌};
+
+    ghost Value = { ℕ };
+
+    ghost view = { λ s. s.book.total };
+
+    ghost invariant = { λ s. 0 < s.share.parts };
+}
+
+impl<G: Ledger> Steps<G> {
+    /// None yet, of a ledger with parts.
+    pub fn open(blank: Blank) -> Steps<G>
+        requires name { blank.name ≡ G.name }
+        requires parts { blank.parts ≡ G.parts }
+        requires some { 0 < blank.parts }
+        ensures { result ≡ 0 }
+    {
+        let (book, share) = blank.open::<G>();
+        Steps { book, share }
+    }
+
+    /// A factor of 16 bits times a sample, which counts one.
+    pub(crate) fn product(&mut self, factor: i32, sample: i32) -> i64
+        requires { FitsSigned w16 factor }
+        ensures value { result ≡ factor *ℤ sample }
+        ensures small { unsigned_abs result ≤ 70368744177664 }
+        ensures counted { self.new ≡ self.old + 1 }
+    {
+        self.book.add(&mut self.share, 1);
+        product(factor, sample)
+    }
+}

@@ -1,0 +1,242 @@
+//! The samples that a block of firings sees, as 16-bit numbers.
+
+ghost use Rattle.std.specs.Prelude.{ℕ, ◌≡◌, ◌+◌, ◌*◌, ◌%◌, ◌<◌, ◌≤◌, ℤ, pos, true, [], ◌∷◌, ◌++◌, length, take, drop, replicate, FitsSigned, ◌*ℤ◌, ◌+ℤ◌, map};
+ghost use Rattle.std.specs.Int.{w16};
+ghost use Rattle.std.specs.Simd.Lanes.{Each1};
+ghost use Rattle.sdf_kit.specs.Samples.{sample, settled};
+ghost use Rattle.sdf_kit.specs.Dots.{AreWithin, dot as dot_of, total_abs, wrap};
+ghost use Rattle.sdf_kit.specs.Window.{part_as, AreFit};
+
+use crate::arithmetic::{settle, settle_small};
+use crate::dots::{dot, dots};
+use sdf_limits::MOST_SHIFT;
+use std::marker::Model;
+
+/// Samples of a window.
+pub(crate) const ROOM: usize = 2048;
+
+/// The samples of a window: themselves, or their upper bits and their lowest eight.
+#[derive(Drop)]
+pub(crate) struct Window {
+    high: [i16; ROOM],
+    low: [i16; ROOM],
+    len: usize,
+    peak: u32,
+    is_split: bool,
+}
+
+impl Model for Window {
+    ghost use Rattle.sdf_kit.specs.Window.{Held, held, AreHeld};
+
+    ghost Value = { Held };
+
+    ghost view = { λ w. record { samples = held w.is_split w.high w.low w.len; peak = w.peak } };
+
+    ghost invariant = { λ w. AreHeld w.is_split w.high w.low w.len w.peak };
+}
+
+impl Window {
+    /// A window of no samples.
+    pub(crate) fn new() -> Window {
+        Window {
+            high: [0; ROOM],
+            low: [0; ROOM],
+            len: 0,
+            peak: 0,
+            is_split: false,
+        }
+    }
+
+    /// Takes in so many zeros, the samples kept and those taken. It answers false where a sample is too large.
+    pub(crate) fn load(&mut self, pad: usize, kept: &[i32], taken: &[i32], peak: u32) -> bool
+        requires room { pad + (length kept.now + length taken.now) ≤ 2048 }
+        requires peak { peak ≤ 32767 }
+        ensures peak { result ≡ true → self.new.peak ≡ peak }
+        ensures samples { result ≡ true → self.new.samples ≡ replicate pad (pos 0) ++ (kept.now ++ taken.now) }
+    {
+        let most = most(kept).max(most(taken));
+        let len = pad + kept.len() + taken.len();
+        self.len = 0;
+        self.is_split = false;
+        self.peak = peak;
+        if most <= peak {
+            write_all(&mut self.high, Part::Whole, pad, kept, taken);
+            self.len = len;
+            return true;
+        }
+        if 255 <= peak && most <= 255 * peak {
+            write_all(&mut self.high, Part::High, pad, kept, taken);
+            write_all(&mut self.low, Part::Low, pad, kept, taken);
+            self.is_split = true;
+            self.len = len;
+            return true;
+        }
+        false
+    }
+
+    /// The outputs of a branch at four places.
+    pub(crate) fn four(&self, h: &[i16], at: usize, step: usize, shift: u32) -> [i32; 4]
+        requires lanes { length h.now % 8 ≡ 0 }
+        requires short { Each1 (FitsSigned w16) h.now }
+        requires quiet { total_abs h.now * self.now.peak ≤ 2147467263 }
+        requires room { at + 3 * step + length h.now ≤ length self.now.samples }
+        requires shift { shift ≤ MOST_SHIFT }
+        ensures { result ≡ settled (dot_of h.now (take (length h.now) (drop at self.now.samples))) shift ∷ settled (dot_of h.now (take (length h.now) (drop (at + step) self.now.samples))) shift ∷ settled (dot_of h.now (take (length h.now) (drop (at + 2 * step) self.now.samples))) shift ∷ settled (dot_of h.now (take (length h.now) (drop (at + 3 * step) self.now.samples))) shift ∷ [] }
+    {
+        let high = front(&self.high, self.len);
+        let a = four_dots(h, high, at, step);
+        if self.is_split {
+            let low = front(&self.low, self.len);
+            let b = four_dots(h, low, at, step);
+            [
+                join(a[0], b[0], shift),
+                join(a[1], b[1], shift),
+                join(a[2], b[2], shift),
+                join(a[3], b[3], shift),
+            ]
+        } else {
+            [
+                settle_small(a[0], shift),
+                settle_small(a[1], shift),
+                settle_small(a[2], shift),
+                settle_small(a[3], shift),
+            ]
+        }
+    }
+
+    /// The output of a branch at a place.
+    pub(crate) fn one(&self, h: &[i16], at: usize, shift: u32) -> i32
+        requires lanes { length h.now % 8 ≡ 0 }
+        requires short { Each1 (FitsSigned w16) h.now }
+        requires quiet { total_abs h.now * self.now.peak ≤ 2147467263 }
+        requires room { at + length h.now ≤ length self.now.samples }
+        requires shift { shift ≤ MOST_SHIFT }
+        ensures { result ≡ settled (dot_of h.now (take (length h.now) (drop at self.now.samples))) shift }
+    {
+        let high = front(&self.high, self.len);
+        let a = one_dot(h, high, at);
+        if self.is_split {
+            let low = front(&self.low, self.len);
+            let b = one_dot(h, low, at);
+            join(a, b, shift)
+        } else {
+            settle_small(a, shift)
+        }
+    }
+}
+
+/// Four dot products with the same taps, so many samples apart.
+fn four_dots(h: &[i16], x: &[i16], at: usize, step: usize) -> [i32; 4]
+    requires lanes { length h.now % 8 ≡ 0 }
+    requires short { Each1 (FitsSigned w16) h.now }
+    requires samples { Each1 (FitsSigned w16) x.now }
+    requires room { at + 3 * step + length h.now ≤ length x.now }
+    ensures { result ≡ wrap (dot_of h.now (take (length h.now) (drop at x.now))) ∷ wrap (dot_of h.now (take (length h.now) (drop (at + step) x.now))) ∷ wrap (dot_of h.now (take (length h.now) (drop (at + 2 * step) x.now))) ∷ wrap (dot_of h.now (take (length h.now) (drop (at + 3 * step) x.now))) ∷ [] }
+{
+    let len = h.len();
+    let (b, c, d) = (at + step, at + 2 * step, at + 3 * step);
+    let sums = dots(
+        h,
+        &x[at..at + len],
+        &x[b..b + len],
+        &x[c..c + len],
+        &x[d..d + len],
+    );
+    sums.to_array()
+}
+
+/// A dot product.
+fn one_dot(h: &[i16], x: &[i16], at: usize) -> i32
+    requires lanes { length h.now % 8 ≡ 0 }
+    requires short { Each1 (FitsSigned w16) h.now }
+    requires samples { Each1 (FitsSigned w16) x.now }
+    requires room { at + length h.now ≤ length x.now }
+    ensures { result ≡ wrap (dot_of h.now (take (length h.now) (drop at x.now))) }
+{
+    dot(h, &x[at..at + h.len()])
+}
+
+/// The first so many.
+fn front(numbers: &[i16], len: usize) -> &[i16]
+    requires { len ≤ length numbers.now }
+    ensures { result.now ≡ take len numbers.now }
+{
+    &numbers[..len]
+}
+
+/// The output of the sums of upper bits and of the lowest eight.
+fn join(high: i32, low: i32, shift: u32) -> i32
+    requires shift { shift ≤ MOST_SHIFT }
+    ensures { result ≡ settled ((pos 256 *ℤ high) +ℤ low) shift }
+{
+    settle(256 * i64::from(high) + i64::from(low), shift)
+}
+
+/// The greatest absolute value.
+fn most(samples: &[i32]) -> u32
+    ensures { AreWithin result samples.now }
+{
+    let mut most = 0;
+    for sample in samples {
+        most = most.max(sample.unsigned_abs());
+    }
+    most
+}
+
+/// What is written of a sample: all of it, its upper bits or its lowest eight.
+#[derive(Clone, Copy, Drop)]
+enum Part {
+    Whole,
+    High,
+    Low,
+}
+
+/// A part of a sample.
+fn part_of(part: Part, sample: i32) -> i16
+    requires { FitsSigned w16 (part_as part sample) }
+    ensures { result ≡ part_as part sample }
+{
+    let value = match part {
+        Part::Whole => sample,
+        Part::High => sample >> 8,
+        Part::Low => sample - 256 * (sample >> 8),
+    };
+    value as i16
+}
+
+/// Writes parts of samples from a place on.
+fn write(to: &mut [i16], part: Part, at: usize, from: &[i32])
+    requires room { at + length from.now ≤ length to.old }
+    requires fit { AreFit part from.now }
+    ensures len { length to.new ≡ length to.old }
+    ensures written { (k : ℕ) → k < length from.now → sample to.new (at + k) ≡ part_as part (sample from.now k) }
+    ensures before { (n : ℕ) → n < at → sample to.new n ≡ sample to.old n }
+{
+    for i in 0..from.len() {
+        to[at + i] = part_of(part, from[i]);
+    }
+}
+
+/// Writes zeros.
+fn clear(to: &mut [i16], len: usize)
+    requires { len ≤ length to.old }
+    ensures len { length to.new ≡ length to.old }
+    ensures zeros { (k : ℕ) → k < len → sample to.new k ≡ pos 0 }
+{
+    for i in 0..len {
+        to[i] = 0;
+    }
+}
+
+/// Writes zeros, and parts of the samples kept and taken.
+fn write_all(to: &mut [i16], part: Part, pad: usize, kept: &[i32], taken: &[i32])
+    requires room { pad + (length kept.now + length taken.now) ≤ length to.old }
+    requires kept { AreFit part kept.now }
+    requires taken { AreFit part taken.now }
+    ensures len { length to.new ≡ length to.old }
+    ensures written { take (pad + (length kept.now + length taken.now)) to.new ≡ map (part_as part) (replicate pad (pos 0) ++ (kept.now ++ taken.now)) }
+{
+    clear(to, pad);
+    write(to, part, pad, kept);
+    write(to, part, pad + kept.len(), taken);
+}

@@ -1,0 +1,120 @@
+-- The row that a crew makes, and sums of what has ended.
+use Rattle.std.proofs.Common.{◌≡◌, ℕ, zero, suc, ◌+◌, ◌-◌, ◌*◌, ◌≤◌, ◌<◌, ◌⊎◌, ◌↔◌, List, [], ◌∷◌, ◌++◌, length, get_or, sum, replicate, sym, ap, ◌∙◌, subst, inl, inr, arith, refl, Option, Some, None, Bool, true, false}
+use Rattle.std.specs.Prelude.{IsTrue}
+use Rattle.std.proofs.lemmas.Option.{none-some}
+use Rattle.std.proofs.lemmas.Bool.{cases_lt, cases_eq, false≢true}
+use Rattle.std.proofs.lemmas.List.Sums.{sum_by-cons}
+use Rattle.sdf_graph.specs.Rates.{Rates, IsSound}
+use Rattle.sdf_prec.specs.declared.firing.Firing.{Firing}
+use Rattle.sdf_prec.specs.Tables.{firing, firings, cell_of}
+use Rattle.sdf_prec.specs.Trying.{IsQueue}
+use Rattle.sdf_prec.specs.TimedRows.{Timed, IsSettled, hu_rule}
+use Rattle.sdf_prec.specs.Floor.{IsNextReady, IsFilling, AreStarted, IsStuck, IsDue, IsDone, IsFloor}
+use Rattle.sdf_prec.specs.Placing.{IsPlacing, AreWaiting}
+use Rattle.sdf_prec.specs.Crew.{IsRowAt}
+use Rattle.sdf_prec.proofs.Floors.{floor_begins}
+use Rattle.sdf_prec.proofs.Starts.{starting_none}
+use Rattle.sdf_prec.proofs.Rules.{nothing, free_row, filled_each, filled_apart, free_stuck, homed_row, placed_each, placed_apart, homes_then, homed_stuck}
+use Rattle.sdf_prec.proofs.Turns.{done_row, done_none, settled_more}
+
+-- where the list of a row's firings is empty nothing stands in it
+pub nothing_stands : (cells : List (Option Firing)) → firings cells ≡ [] → (j : ℕ) (f : Firing) → get_or cells j None ≡ Some f → ⊥
+nothing_stands [] e j f is = none-some f is
+nothing_stands (None ∷ cells) e zero f is = none-some f is
+nothing_stands (None ∷ cells) e (suc j) f is = nothing_stands cells e j f is
+nothing_stands (Some g ∷ cells) e j f is = let l : suc (length (firings cells)) ≡ 0 = ap length e in omega arith
+
+module _ (r : Rates) (n cost : ℕ → ℕ) (level : Firing → ℕ) (width : ℕ) (past : List Timed) (now : ℕ) (ended started ends : ℕ → ℕ) (u : List ℕ) (s : IsSound r) (dear : (a : ℕ) → a < r.actors → 1 ≤ cost a)
+    (queue : List Firing) (q : IsQueue level (IsNextReady r n ended started) queue) (cells : List (Option Firing)) where
+  pub row_free : (homes : ℕ → Option ℕ) → IsDue r n cost level width false past now ended started ends (λ j. get_or u j 0) homes → (next : ℕ) → IsFilling u now width queue next cells →
+      IsRowAt r n cost level width false past now ended started ends (λ j. get_or u j 0) homes cells
+  row_free homes d next fill = record {
+    wide = fill.wide;
+    by_rule = free_row r n cost level width past now ended started ends (λ j. get_or u j 0) d.floor s queue q cells u (λ j _. get_or u j 0) next fill;
+    each = filled_each r n cost level width past now ended started ends (λ j. get_or u j 0) d.floor s queue q cells u (λ j _. get_or u j 0) next fill;
+    apart = filled_apart r n cost level width past now ended started ends (λ j. get_or u j 0) d.floor s queue q cells u (λ j _. get_or u j 0) next fill;
+    homes_then = λ never. absurd (false≢true never);
+    stuck = λ started' ends' until' b f h. inr (free_stuck r n cost level width past now ended started ends (λ j. get_or u j 0) d.floor s queue q cells started' ends' until' dear
+        (filled_each r n cost level width past now ended started ends (λ j. get_or u j 0) d.floor s queue q cells u (λ j _. get_or u j 0) next fill) b u (λ j _. get_or u j 0) next fill f h);
+  }
+
+  pub row_homed : (homes homes' : List (Option ℕ)) → IsDue r n cost level width true past now ended started ends (λ j. get_or u j 0) (λ a. get_or homes a None) → (weight : ℕ → ℕ) → weight ≡ (λ a. n a * cost a) → length u ≡ width →
+      IsPlacing r.actors width weight (λ j. get_or u j 0 ≤ now) (λ a. get_or homes a None) queue (length queue) cells homes' → AreWaiting u now queue (length queue) cells homes' →
+      IsRowAt r n cost level width true past now ended started ends (λ j. get_or u j 0) (λ a. get_or homes' a None) cells
+  row_homed homes homes' d weight weight_is wide placed waiting = record {
+    wide = placed.wide;
+    by_rule = homed_row r n cost level width past now ended started ends (λ j. get_or u j 0) d.floor s queue q cells weight weight_is u (λ j _. get_or u j 0) homes homes' (d.homes_are refl) placed;
+    each = placed_each r n cost level width past now ended started ends (λ j. get_or u j 0) d.floor s queue q cells weight weight_is u (λ j _. get_or u j 0) homes homes' (d.homes_are refl) placed;
+    apart = placed_apart r n cost level width past now ended started ends (λ j. get_or u j 0) d.floor s queue q cells weight weight_is u (λ j _. get_or u j 0) homes homes' (d.homes_are refl) placed;
+    homes_then = λ _. homes_then r n cost level width past now ended started ends (λ j. get_or u j 0) d.floor s queue q cells weight weight_is u (λ j _. get_or u j 0) homes homes' (d.homes_are refl) placed;
+    stuck = λ started' ends' until' b. homed_stuck r n cost level width past now ended started ends (λ j. get_or u j 0) d.floor s queue q cells started' ends' until' dear
+        (placed_each r n cost level width past now ended started ends (λ j. get_or u j 0) d.floor s queue q cells weight weight_is u (λ j _. get_or u j 0) homes homes' (d.homes_are refl) placed) b u (λ j _. get_or u j 0) homes' wide waiting;
+  }
+
+module _ (r : Rates) (n cost : ℕ → ℕ) (level : Firing → ℕ) (width : ℕ) (homed : Bool) (past : List Timed) (now : ℕ) (ended started ends until : ℕ → ℕ) (homes homes' : ℕ → Option ℕ) (s : IsSound r)
+    (d : IsDue r n cost level width homed past now ended started ends until homes) (cells : List (Option Firing)) (row : IsRowAt r n cost level width homed past now ended started ends until homes' cells) where
+  -- a row with a firing is added
+  pub row_added : (dear : (a : ℕ) → a < r.actors → 1 ≤ cost a) → (firings cells ≡ [] → ⊥) → (started' ends' until' : ℕ → ℕ) → AreStarted cost now (length cells) cells started ends until started' ends' until' →
+      IsDone r n cost level width homed (past ++ record { start = now; cells = cells } ∷ []) now ended started' ends' until' homes'
+  row_added dear some started' ends' until' b =
+      done_row r n cost level width s homed past now ended started ends until homes d started' ends' until' homes' cells row.by_rule row.wide some dear row.each row.apart b
+      (λ h. row.homes_then h (past ++ record { start = now; cells = cells } ∷ []) (settled_more past (record { start = now; cells = cells })))
+      (row.stuck started' ends' until' b)
+
+  -- an empty one is not
+  pub row_left : firings cells ≡ [] → IsDone r n cost level width homed past now ended started ends until homes'
+  row_left none =
+      done_none r n cost level width s homed past now ended started ends until homes d started ends until homes' cells row.by_rule none
+      (λ h. row.homes_then h past (λ a j. (λ x. inl x, back a j)))
+      (row.stuck started ends until (starting_none cost now (length cells) cells started ends until (λ j f l e. nothing_stands cells none j f e)))
+    where
+      back : (a j : ℕ) → IsSettled past a j ⊎ ((f : Firing) × (get_or cells j None ≡ Some f) × (f.actor ≡ a)) → IsSettled past a j
+      back a j (inl x) = x
+      back a j (inr (f, e, is)) = absurd (nothing_stands cells none j f e)
+
+pub zeros : (k a : ℕ) → get_or (replicate {A = ℕ} k 0) a 0 ≡ 0
+zeros zero a = refl
+zeros (suc k) zero = refl
+zeros (suc k) (suc a) = zeros k a
+
+pub nones : (k a : ℕ) (o : Option ℕ) → o ≡ None → get_or (replicate k o) a None ≡ None
+nones zero a o e = refl
+nones (suc k) zero o e = e
+nones (suc k) (suc a) o e = nones k a o e
+
+-- the first row is due at time 0
+pub due_begins : (r : Rates) (n cost : ℕ → ℕ) (level : Firing → ℕ) (width : ℕ) (homed : Bool) (ended started ends until : ℕ → ℕ) (homes : ℕ → Option ℕ) →
+    ((a : ℕ) → ended a ≡ 0) → ((a : ℕ) → started a ≡ 0) → ((a : ℕ) → ends a ≡ 0) → ((j : ℕ) → until j ≡ 0) → ((a : ℕ) → homes a ≡ None) →
+    IsDue r n cost level width homed [] 0 ended started ends until homes
+due_begins r n cost level width homed ended started ends until homes none_ended none_started none_ends none_until none_homes = record {
+  floor = floor_begins r n cost width started none_started ended ends until none_ended none_ends none_until;
+  rows = λ i l. absurd (omega arith);
+  later = λ i l. absurd (omega arith);
+  gap = λ t later l. absurd (omega arith);
+  begins = λ _. refl;
+  homes_are = λ h a j l. (λ e. absurd (none-some j (sym (none_homes a) ∙ e)), λ x. absurd (none-some x.1 x.2));
+}
+
+pub sum_within : (xs ys : List ℕ) → length xs ≡ length ys → ((a : ℕ) → get_or xs a 0 ≤ get_or ys a 0) → sum xs ≤ sum ys
+sum_within [] ys e h = omega arith
+sum_within (x ∷ xs) [] e h = absurd (omega arith)
+sum_within (x ∷ xs) (y ∷ ys) e h =
+    let rest = sum_within xs ys (omega arith) (λ a. h (suc a)) in
+    let one : sum (x ∷ xs) ≡ x + sum xs = sum_by-cons (λ z. z) x xs in
+    let other : sum (y ∷ ys) ≡ y + sum ys = sum_by-cons (λ z. z) y ys in
+    omega (arith, h 0)
+
+pub sum_less : (xs ys : List ℕ) (b : ℕ) → length xs ≡ length ys → ((a : ℕ) → get_or xs a 0 ≤ get_or ys a 0) → get_or xs b 0 < get_or ys b 0 → sum xs < sum ys
+sum_less [] [] b e h l = absurd (omega arith)
+sum_less [] (y ∷ ys) b e h l = absurd (omega arith)
+sum_less (x ∷ xs) [] b e h l = absurd (omega arith)
+sum_less (x ∷ xs) (y ∷ ys) zero e h l =
+    let rest = sum_within xs ys (omega arith) (λ a. h (suc a)) in
+    let one : sum (x ∷ xs) ≡ x + sum xs = sum_by-cons (λ z. z) x xs in
+    let other : sum (y ∷ ys) ≡ y + sum ys = sum_by-cons (λ z. z) y ys in
+    omega arith
+sum_less (x ∷ xs) (y ∷ ys) (suc b) e h l =
+    let rest = sum_less xs ys b (omega arith) (λ a. h (suc a)) l in
+    let one : sum (x ∷ xs) ≡ x + sum xs = sum_by-cons (λ z. z) x xs in
+    let other : sum (y ∷ ys) ≡ y + sum ys = sum_by-cons (λ z. z) y ys in
+    omega (arith, h 0)

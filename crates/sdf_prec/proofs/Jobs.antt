@@ -1,0 +1,24 @@
+-- Bounds of what rows are made of.
+use Rattle.std.proofs.Common.{◌≡◌, ℕ, ◌+◌, ◌*◌, ◌≤◌, ◌<◌, ◌⊎◌, List, length, get_or, sum, sym, ap, ◌∙◌, subst, inl, inr, arith}
+use Rattle.std.proofs.lemmas.List.{get_or_past}
+use Rattle.std.proofs.lemmas.Nat.{mul-le}
+use Rattle.std.proofs.lemmas.Bool.{cases_lt}
+use Rattle.sdf_prec.specs.Numbers.{Numbered}
+use Rattle.sdf_prec.specs.Crew.{IsJob}
+use Rattle.sdf_prec.proofs.Shifts.{within_sum}
+
+module _ (actors : ℕ) (firings : List ℕ) (levels : Numbered) (costs weights : List ℕ) (job : IsJob actors firings levels costs weights) where
+  pub job_dear : (a : ℕ) → a < actors → 1 ≤ get_or costs a 0
+  job_dear a l = (job.costs_are.each a l).0
+
+  pub job_cheap : (a : ℕ) → a < actors → get_or costs a 0 ≤ 1000000
+  job_cheap a l = (job.costs_are.each a l).1
+
+  pub job_small : (a : ℕ) → get_or weights a 0 ≤ 65536000000
+  job_small a = go (cases_lt a actors)
+    where
+      go : (a < actors) ⊎ (actors ≤ a) → get_or weights a 0 ≤ 65536000000
+      go (inl l) =
+          let low : get_or firings a 0 ≤ 65536 = omega (arith, within_sum firings a, job.few) in
+          omega (arith, job.weights_are a, mul-le (get_or firings a 0) (get_or costs a 0) 65536 1000000 low (job_cheap a l))
+      go (inr h) = omega (arith, get_or_past weights a 0 (omega (arith, job.weights_all)))

@@ -1,0 +1,48 @@
+use Rattle.std.proofs.Common.{◌≡◌, ℕ, ◌+◌, ◌≤◌, ◌<◌, ◌⊎◌, List, length, get_or, set, refl, ap, ◌∙◌, sym, subst, inl, inr, arith}
+use Rattle.std.proofs.lemmas.List.{length-set}
+use Rattle.sdf_graph.specs.Rates.{rates}
+use Rattle.sdf_graph.specs.Tally.{Tally}
+use Rattle.sdf_prec.specs.Floor.{AreEnded}
+use Rattle.sdf_prec.proofs.Starts.{ending_begins, ending_more, ending_skips}
+use Rattle.sdf_prec.proofs.floor.end_by.Goals.{then-fired-started+then-ends-actor, else-fired-started, else-fired-started-via-then-fired-started+else-ends-actor, else-fired-started-via-else-fired-started}
+use Rattle.sdf_prec.proofs.floor.end_by.Goals as goal
+
+pub loop-actor-init : goal.loop-actor-init
+loop-actor-init c = record {
+  same = refl;
+  each = c.requires.each;
+  ended = ending_begins (rates c.args.counts.now.graph) c.args.now (λ a. get_or c.args.started.now a 0) (λ a. get_or c.args.ends.now a 0) c.args.counts.now.fired c.requires.on;
+}
+
+pub loop-actor-preserved : goal.loop-actor-preserved
+loop-actor-preserved c =
+    let r = rates c.args.counts.now.graph in
+    let i : ℕ = c.loop-actor.actor in
+    let v = c.loop-actor.invariant in
+    let started : ℕ → ℕ = λ a. get_or c.args.started.now a 0 in
+    let ends : ℕ → ℕ = λ a. get_or c.args.ends.now a 0 in
+    let old = c.args.counts.now.fired in
+    let fired = c.loop-actor.counts.fired in
+    let untouched : get_or fired i 0 ≡ get_or old i 0 = v.ended.same i (λ l. absurd (omega arith)) in
+    elim c.if-fired-started.branch [
+      | then-fired-started+then-ends-actor w ↦
+          let l : i < length fired = omega (arith, c.loop-actor-test.true, v.each, c.requires.started) in
+          let low : get_or fired i 0 < get_or c.args.started.now i 0 = omega (arith, c.fired.ensures, w.if-fired-started.true) in
+          let last : get_or old i 0 + 1 ≡ get_or c.args.started.now i 0 =
+          elim (c.requires.behind i (omega (arith, c.loop-actor-test.true, c.requires.started))) as (λ _. get_or old i 0 + 1 ≡ get_or c.args.started.now i 0) [ inl e ↦ absurd (omega arith) | inr e ↦ e ] in
+          rw (w.counts-is, w.fire.ensures) (record {
+            same = v.same;
+            each = length-set fired i (get_or fired i 0 + 1) ∙ v.each;
+            ended = ending_more r c.args.now i started ends old fired v.ended c.requires.sound l last w.if-ends-actor.true;
+          })
+      | else-fired-started w ↦
+          rw w.counts-is (record {
+            same = v.same;
+            each = v.each;
+            ended = ending_skips r c.args.now i started ends old fired v.ended
+                (elim w.else-fired-started.branch [
+                  | else-fired-started-via-then-fired-started+else-ends-actor u ↦ λ h k. (let no' = u.if-ends-actor.false in omega arith)
+                  | else-fired-started-via-else-fired-started u ↦ λ h k. (let no' = u.if-fired-started.false in omega (arith, c.fired.ensures))
+                ]);
+          })
+    ]

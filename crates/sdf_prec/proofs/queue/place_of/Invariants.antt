@@ -1,0 +1,7 @@
+use Rattle.std.proofs.Common.{ℕ, ◌<◌, ◌≤◌}
+use Rattle.sdf_prec.specs.Numbers.{number}
+use Rattle.sdf_prec.specs.Tables.{firing}
+use Rattle.sdf_prec.proofs.queue.place_of.Given as goal
+
+abbrev pub invariant-loop-place : goal.invariant-loop-place
+invariant-loop-place l = (p : ℕ) → p < l.place → l.level ≤ number l.levels (firing l.queue p)

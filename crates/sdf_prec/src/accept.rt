@@ -1,0 +1,90 @@
+//! Tables from given rows.
+
+ghost use Rattle.std.specs.Prelude.{◌≡◌, ℕ, ◌+◌, ◌≤◌, ◌<◌, List, length, map, sum, slice_index, IfOk, MatchOption, MatchResult, Option};
+ghost use Rattle.sdf_graph.specs.Rates.{rates};
+ghost use Rattle.sdf_graph.specs.Periods.{IsPeriodVector};
+ghost use Rattle.sdf_prec.specs.declared.firing.Firing.{Firing};
+ghost use Rattle.sdf_prec.specs.Blocks.{block};
+ghost use Rattle.sdf_prec.specs.Refusals.{AllPass, StandsFirst};
+ghost use Rattle.sdf_prec.specs.Accepting.{IsSize, IsAccepted, IsTableFault};
+
+use crate::block::{block_firings, size_fault};
+use crate::cells::mark_rows;
+use crate::fault::PrecFault;
+use crate::firing::Firing;
+use crate::late::first_late_in;
+use crate::laws::{needs_exist, tests_suffice};
+use crate::missing::first_missing;
+use crate::numbers::Numbers;
+use crate::table::Table;
+use crate::tidy::tidied;
+use sdf_graph::Graph;
+use sdf_graph::laws::{graphs_are_sound, graphs_have_periods};
+use sdf_limits::MOST_BLOCK;
+use std::alloc::{AllocError, Global};
+
+/// The first test of rows that fails.
+fn rows_fault(
+    alloc: Global,
+    graph: &Graph,
+    firings: Vec<u32>,
+    width: usize,
+    rows: &[Vec<Option<Firing>>],
+) -> Result<Option<PrecFault>, AllocError>
+    requires each { length firings.items ≡ graph.now.actors }
+    requires few { sum firings.items ≤ MOST_BLOCK }
+    requires enough { (c : ℕ) → c < length graph.now.channels → (rates graph.now).consumed c (slice_index firings.items ((rates graph.now).target c)) ≤ (rates graph.now).initial c + (rates graph.now).produced c (slice_index firings.items ((rates graph.now).source c)) }
+    ensures { IfOk result (λ o. MatchOption o
+        (AllPass (rates graph.now) (slice_index firings.items) width (map (λ r. r.items) rows.now))
+        (StandsFirst (rates graph.now) (slice_index firings.items) width (map (λ r. r.items) rows.now))) }
+{
+    let mut marks = Numbers::new(alloc, firings)?;
+    let mut order = Vec::new(alloc);
+    if let Some(fault) = mark_rows(width, rows, &mut marks, &mut order)? {
+        return Ok(Some(fault));
+    }
+    if let Some(firing) = first_missing(&marks) {
+        return Ok(Some(PrecFault::FiringMissing { firing }));
+    }
+    Ok(first_late_in(graph, &marks, rows))
+}
+
+impl Table {
+    /// The table with these rows, for a block of `j` periods in which the actors fire `reps` times each, and `m` workers. A
+    /// shorter row is filled up, and one in which no firing stands is left out.
+    ///
+    /// A fault is the first in this order: `BlockingFactor`, `WorkerCount`, `BlockTooLong`; then row by row `RowTooWide`, and
+    /// column by column `FiringTwice` and `FiringUnknown`; then `FiringMissing` with the least actor and its least missing
+    /// firing; then in row order `TooEarly`, with the firing before of the same actor, or else by channel number with the last
+    /// one that is waited for.
+    pub fn accept(
+        alloc: Global,
+        graph: &Graph,
+        reps: &[u32],
+        j: u32,
+        m: usize,
+        rows: Vec<Vec<Option<Firing>>>,
+    ) -> Result<Table, PrecFault>
+        requires { IsPeriodVector (rates graph.now) reps.now }
+        ensures { let given : List (List (Option Firing)) = map (λ r. r.items) rows.items in
+            MatchResult result
+            (λ t. IsSize j m reps.now × IsAccepted (rates graph.now) (slice_index (block j reps.now)) m given t)
+            (IsTableFault (rates graph.now) j m reps.now given) }
+    {
+        graph.channels();
+        graphs_are_sound();
+        graphs_have_periods();
+        needs_exist();
+        tests_suffice();
+        if let Some(fault) = size_fault(j, m, reps) {
+            return Err(fault);
+        }
+        let firings = block_firings(alloc, j, reps)?;
+        if let Some(fault) = rows_fault(alloc, graph, firings, m, &rows)? {
+            return Err(fault);
+        }
+        let kept = tidied(alloc, m, &rows)?;
+        let table = Table::of_rows(alloc, graph, kept)?;
+        Ok(table)
+    }
+}

@@ -1,0 +1,130 @@
+//! Tables by given homes: one firing a row.
+
+ghost use Rattle.std.specs.Prelude.{◌≡◌, ℕ, ◌≤◌, ◌<◌, ◌↔◌, length, map, replicate, slice_index, slice_index_or, slice_set, IfOk, IsTrue, MatchOption, MatchResult, Some, None};
+ghost use Rattle.sdf_graph.specs.Rates.{rates};
+ghost use Rattle.sdf_graph.specs.Sequences.{repeated};
+ghost use Rattle.sdf_sched.specs.Period.{IsPeriodOf};
+ghost use Rattle.sdf_prec.specs.Blocks.{block};
+ghost use Rattle.sdf_prec.specs.Tables.{IsTable};
+ghost use Rattle.sdf_prec.specs.Accepting.{IsSize};
+ghost use Rattle.sdf_prec.specs.ByHomes.{HasHome, IsBadHome, AreByHomes, IsHomesFault};
+
+use crate::block::{block_order, size_fault};
+use crate::fault::PrecFault;
+use crate::firing::Firing;
+use crate::table::Table;
+use sdf_graph::Graph;
+use sdf_graph::laws::{graphs_are_sound, graphs_have_periods};
+use sdf_limits::MOST_BLOCK;
+use sdf_sched::Period;
+use std::alloc::{AllocError, Global};
+
+/// Whether an actor is at home in one of the first `m` columns.
+fn has_home(homes: &[Option<usize>], m: usize, actor: usize) -> bool
+    ensures { IsTrue result ↔ HasHome homes.now m actor }
+{
+    if actor >= homes.len() {
+        return false;
+    }
+    match homes[actor] {
+        Some(home) => home < m,
+        None => false,
+    }
+}
+
+/// The lowest actor that is not.
+fn bad_home(homes: &[Option<usize>], m: usize, actors: usize) -> Option<usize>
+    ensures { MatchOption result ((a : ℕ) → a < actors → HasHome homes.now m a) (IsBadHome homes.now m actors) }
+{
+    for actor in 0..actors {
+        if !has_home(homes, m, actor) {
+            return Some(actor);
+        }
+    }
+    None
+}
+
+/// The home of an actor that has one.
+fn home_of(homes: &[Option<usize>], actor: usize) -> usize
+    requires { actor < length homes.now }
+    ensures { (j : ℕ) → slice_index_or homes.now actor None ≡ Some j → result ≡ j }
+{
+    homes[actor].unwrap_or(0)
+}
+
+/// A row of `m` columns with one firing.
+fn row_of(
+    alloc: Global,
+    m: usize,
+    home: usize,
+    firing: Firing,
+) -> Result<Vec<Option<Firing>>, AllocError>
+    requires { home < m }
+    ensures { IfOk result (λ row. row.items ≡ slice_set (replicate m None) home (Some firing)) }
+{
+    let mut row = vec![in alloc; None; m]?;
+    row[home] = Some(firing);
+    Ok(row)
+}
+
+/// The firings of an order, one a row, each in its actor's home.
+fn rows_of(
+    alloc: Global,
+    order: &[usize],
+    actors: usize,
+    m: usize,
+    homes: &[Option<usize>],
+) -> Result<Vec<Vec<Option<Firing>>>, AllocError>
+    requires known { (p : ℕ) → p < length order.now → slice_index order.now p < actors }
+    requires few { length order.now ≤ MOST_BLOCK }
+    requires homed { (a : ℕ) → a < actors → HasHome homes.now m a }
+    ensures { IfOk result (λ rows. AreByHomes homes.now m order.now (map (λ r. r.items) rows.items)) }
+{
+    let mut done = vec![in alloc; 0u32; actors]?;
+    let mut rows = Vec::new(alloc);
+    for actor in order {
+        let actor = *actor;
+        let number = done[actor];
+        done[actor] = number + 1;
+        let home = home_of(homes, actor);
+        let row = row_of(alloc, m, home, Firing { actor, number })?;
+        rows.push(row)?;
+    }
+    Ok(rows)
+}
+
+impl Table {
+    /// The period's order `j` times, one firing a row, each in its actor's home, of `m` workers.
+    ///
+    /// A fault is the first of `BlockingFactor`, `WorkerCount`, `BlockTooLong`, and `BadHome` with the lowest actor that has no
+    /// home among the `m` columns.
+    pub fn by_homes(
+        alloc: Global,
+        graph: &Graph,
+        period: &Period,
+        j: u32,
+        m: usize,
+        homes: &[Option<usize>],
+    ) -> Result<Table, PrecFault>
+        requires { IsPeriodOf (rates graph.now) period.now }
+        ensures { MatchResult result
+            (λ t. IsSize j m period.now.repetitions ×
+            IsTable (rates graph.now) (slice_index (block j period.now.repetitions)) m t ×
+            AreByHomes homes.now m (repeated j period.now.order) t.rows)
+            (IsHomesFault j m period.now.repetitions homes.now) }
+    {
+        graph.channels();
+        graphs_are_sound();
+        graphs_have_periods();
+        if let Some(fault) = size_fault(j, m, period.repetitions()) {
+            return Err(fault);
+        }
+        if let Some(actor) = bad_home(homes, m, graph.actors()) {
+            return Err(PrecFault::BadHome { actor });
+        }
+        let order = block_order(alloc, j, period.order())?;
+        let rows = rows_of(alloc, &order, graph.actors(), m, homes)?;
+        let table = Table::of_rows(alloc, graph, rows)?;
+        Ok(table)
+    }
+}

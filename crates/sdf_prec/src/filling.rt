@@ -1,0 +1,37 @@
+// Rows in which any firing may stand in any column.
+
+ghost use Rattle.std.specs.Prelude.{◌≡◌, length, slice_get, IfOk};
+ghost use Rattle.sdf_prec.specs.Floor.{IsFilling};
+ghost use Rattle.std.specs.Prelude.{ℕ};
+
+use crate::firing::Firing;
+use std::alloc::{AllocError, Global};
+
+/// The firing at a place of a queue, where there is one.
+fn firing_at(queue: &[Firing], place: usize) -> Option<Firing>
+    ensures { result ≡ slice_get queue.now place }
+{
+    queue.get(place).copied()
+}
+
+/// A row in which the first firings of a queue stand in the columns that are through by time `now`.
+pub(crate) fn fill(
+    alloc: Global,
+    queue: &[Firing],
+    until: &[u64],
+    now: u64,
+) -> Result<Vec<Option<Firing>>, AllocError>
+    ensures { IfOk result (λ cells. (next : ℕ) × IsFilling until.now now (length until.now) queue.now next cells.items) }
+{
+    let mut cells = Vec::new(alloc);
+    let mut next = 0;
+    for end in until {
+        if *end <= now {
+            cells.push(firing_at(queue, next))?;
+            next += 1;
+        } else {
+            cells.push(None)?;
+        }
+    }
+    Ok(cells)
+}

@@ -1,0 +1,96 @@
+// The columns in which all firings of an actor stand.
+
+ghost use Rattle.std.specs.Prelude.{◌≡◌, ℕ, ◌+◌, ◌<◌, ◌↔◌, length, map, slice_index_or, slice_set, IfOk, Some, None};
+ghost use Rattle.sdf_prec.specs.declared.firing.Firing.{Firing};
+ghost use Rattle.sdf_prec.specs.Tables.{firings, row, Stands, IsHome};
+ghost use Rattle.sdf_prec.specs.Homes.{AreStanding, also, home_of, standing_of};
+
+use crate::firing::Firing;
+use std::alloc::{AllocError, Global};
+
+/// Where the firings of an actor stand: in no column, in one, or in several.
+#[derive(Clone, Copy)]
+pub(crate) enum Standing {
+    Nowhere,
+    In(usize),
+    Apart,
+}
+
+impl Standing {
+    /// Where they stand with one more in a column.
+    fn also(self, column: usize) -> Standing
+        ensures { result ≡ also self column }
+    {
+        match self {
+            Standing::Nowhere => Standing::In(column),
+            Standing::In(home) => {
+                if home == column {
+                    Standing::In(home)
+                } else {
+                    Standing::Apart
+                }
+            }
+            Standing::Apart => Standing::Apart,
+        }
+    }
+
+    /// The one column.
+    fn home(self) -> Option<usize>
+        ensures { result ≡ home_of self }
+    {
+        match self {
+            Standing::In(home) => Some(home),
+            Standing::Nowhere | Standing::Apart => None,
+        }
+    }
+}
+
+/// Where each actor stands with one more firing in a column.
+fn see(standing: &mut [Standing], firing: Firing, column: usize)
+    requires { firing.actor < length standing.old }
+    ensures { standing.new ≡ slice_set standing.old firing.actor (also (standing_of standing.old firing.actor) column) }
+{
+    standing[firing.actor] = standing[firing.actor].also(column);
+}
+
+/// Where each actor stands once row `i` is seen too.
+fn see_row(rows: &[Vec<Option<Firing>>], i: usize, standing: &mut [Standing])
+    requires within { i < length rows.now }
+    requires known { (f : Firing) → Stands (firings (row (map (λ r. r.items) rows.now) i)) f → f.actor < length standing.old }
+    requires before { AreStanding (map (λ r. r.items) rows.now) i 0 standing.old }
+    ensures { AreStanding (map (λ r. r.items) rows.now) (i + 1) 0 standing.new }
+{
+    for (column, cell) in rows[i].iter().enumerate() {
+        if let Some(firing) = cell {
+            see(standing, *firing, column);
+        }
+    }
+}
+
+/// The one column of each actor.
+fn homes_of(alloc: Global, standing: &[Standing]) -> Result<Vec<Option<usize>>, AllocError>
+    ensures { IfOk result (λ v. v.items ≡ map home_of standing.now) }
+{
+    let mut homes = Vec::new(alloc);
+    for one in standing {
+        homes.push(one.home())?;
+    }
+    Ok(homes)
+}
+
+/// The column of each actor in which all its firings stand, where there is one.
+pub(crate) fn homes(
+    alloc: Global,
+    actors: usize,
+    rows: &[Vec<Option<Firing>>],
+) -> Result<Vec<Option<usize>>, AllocError>
+    requires { (i : ℕ) (f : Firing) → i < length rows.now → Stands (firings (row (map (λ r. r.items) rows.now) i)) f → f.actor < actors }
+    ensures all { IfOk result (λ v. length v.items ≡ actors) }
+    ensures each { IfOk result (λ v. (a j : ℕ) → a < actors → (slice_index_or v.items a None ≡ Some j) ↔ IsHome (map (λ r. r.items) rows.now) a j) }
+{
+    let mut standing = vec![in alloc; Standing::Nowhere; actors]?;
+    for i in 0..rows.len() {
+        see_row(rows, i, &mut standing);
+    }
+    homes_of(alloc, &standing)
+}

@@ -1,0 +1,133 @@
+// Rows in which each actor's firings stand in its home.
+
+ghost use Rattle.std.specs.Prelude.{◌≡◌, ℕ, ◌<◌, ◌≤◌, ◌*◌, ◌↔◌, List, length, slice_index, slice_index_or, MatchOption, IfOk, Option, Some, None, IsTrue};
+ghost use Rattle.sdf_prec.specs.declared.firing.Firing.{Firing};
+ghost use Rattle.sdf_prec.specs.Tables.{firing};
+ghost use Rattle.sdf_prec.specs.Trying.{load, IsPlace};
+ghost use Rattle.sdf_prec.specs.Placing.{IsOpen, IsBest, IsNowhere, IsPlacing, AreWaiting};
+
+use crate::firing::Firing;
+use sdf_graph::laws::sums_rise;
+use std::alloc::{AllocError, Global};
+
+/// The weights of the actors at home in a column.
+fn load_of(weights: &[u64], homes: &[Option<usize>], column: usize) -> u64
+    requires all { length weights.now ≡ length homes.now }
+    requires few { length homes.now ≤ 64 }
+    requires small { (a : ℕ) → a < length homes.now → slice_index weights.now a ≤ 65536000000 }
+    ensures { result ≡ load (length homes.now) (slice_index weights.now) (λ a. slice_index_or homes.now a None) column }
+{
+    sums_rise();
+    let mut load = 0;
+    for actor in 0..homes.len() {
+        if homes[actor] == Some(column) {
+            load += weights[actor];
+        }
+    }
+    load
+}
+
+/// Whether a column is through by time `now`, and nothing stands in it yet.
+fn is_open(until: &[u64], now: u64, cells: &[Option<Firing>], column: usize) -> bool
+    requires known { column < length until.now }
+    requires wide { length cells.now ≡ length until.now }
+    ensures { IsTrue result ↔ IsOpen until.now now cells.now column }
+{
+    until[column] <= now && cells[column].is_none()
+}
+
+/// Whether a column has less load than the best one so far.
+fn is_lighter(weights: &[u64], homes: &[Option<usize>], column: usize, best: Option<usize>) -> bool
+    requires all { length weights.now ≡ length homes.now }
+    requires few { length homes.now ≤ 64 }
+    requires small { (a : ℕ) → a < length homes.now → slice_index weights.now a ≤ 65536000000 }
+    ensures { IsTrue result ↔ ((b : ℕ) → best ≡ Some b → load (length homes.now) (slice_index weights.now) (λ a. slice_index_or homes.now a None) column < load (length homes.now) (slice_index weights.now) (λ a. slice_index_or homes.now a None) b) }
+{
+    match best {
+        Some(other) => load_of(weights, homes, column) < load_of(weights, homes, other),
+        None => true,
+    }
+}
+
+/// The open column of least load, the lowest of several.
+fn least_open(
+    until: &[u64],
+    now: u64,
+    cells: &[Option<Firing>],
+    weights: &[u64],
+    homes: &[Option<usize>],
+) -> Option<usize>
+    requires wide { length cells.now ≡ length until.now }
+    requires all { length weights.now ≡ length homes.now }
+    requires few { length homes.now ≤ 64 }
+    requires small { (a : ℕ) → a < length homes.now → slice_index weights.now a ≤ 65536000000 }
+    ensures { IsBest (length until.now) (IsOpen until.now now cells.now) (load (length homes.now) (slice_index weights.now) (λ a. slice_index_or homes.now a None)) result }
+{
+    let mut best = None;
+    for column in 0..until.len() {
+        if is_open(until, now, cells, column) && is_lighter(weights, homes, column, best) {
+            best = Some(column);
+        }
+    }
+    best
+}
+
+/// The column for a firing whose actor has this home.
+fn column_for(
+    home: Option<usize>,
+    until: &[u64],
+    now: u64,
+    cells: &[Option<Firing>],
+    weights: &[u64],
+    homes: &[Option<usize>],
+) -> Option<usize>
+    requires home { (j : ℕ) → home ≡ Some j → j < length until.now }
+    requires wide { length cells.now ≡ length until.now }
+    requires all { length weights.now ≡ length homes.now }
+    requires few { length homes.now ≤ 64 }
+    requires small { (a : ℕ) → a < length homes.now → slice_index weights.now a ≤ 65536000000 }
+    ensures { MatchOption result
+        (IsNowhere (length until.now) (IsOpen until.now now cells.now) home)
+        (IsPlace (length until.now) (IsOpen until.now now cells.now) (load (length homes.now) (slice_index weights.now) (λ a. slice_index_or homes.now a None)) home) }
+{
+    match home {
+        Some(column) => {
+            if is_open(until, now, cells, column) {
+                Some(column)
+            } else {
+                None
+            }
+        }
+        None => least_open(until, now, cells, weights, homes),
+    }
+}
+
+/// A row in which each firing of a queue stands in its actor's home, where that is open. An actor without a home gets the
+/// open column of least load when its first firing is tried.
+pub(crate) fn place(
+    alloc: Global,
+    queue: &[Firing],
+    until: &[u64],
+    now: u64,
+    weights: &[u64],
+    homes: &mut [Option<usize>],
+) -> Result<Vec<Option<Firing>>, AllocError>
+    requires all { length weights.now ≡ length homes.old }
+    requires few { length homes.old ≤ 64 }
+    requires small { (a : ℕ) → a < length homes.old → slice_index weights.now a ≤ 65536000000 }
+    requires known { (p : ℕ) → p < length queue.now → (firing queue.now p).actor < length homes.old }
+    requires once { (p m : ℕ) → p < m → m < length queue.now → firing queue.now p ≡ firing queue.now m → ⊥ }
+    requires inside { (a j : ℕ) → slice_index_or homes.old a None ≡ Some j → j < length until.now }
+    ensures placed { IfOk result (λ cells. IsPlacing (length homes.old) (length until.now) (slice_index weights.now) (λ j. slice_index until.now j ≤ now) (λ a. slice_index_or homes.old a None) queue.now (length queue.now) cells.items homes.new) }
+    ensures waiting { IfOk result (λ cells. AreWaiting until.now now queue.now (length queue.now) cells.items homes.new) }
+{
+    let mut cells = vec![in alloc; None; until.len()]?;
+    for firing in queue {
+        let home = homes[firing.actor];
+        if let Some(column) = column_for(home, until, now, &cells, weights, homes) {
+            cells[column] = Some(*firing);
+            homes[firing.actor] = Some(column);
+        }
+    }
+    Ok(cells)
+}

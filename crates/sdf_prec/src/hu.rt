@@ -1,0 +1,73 @@
+//! Hu's rule with costs: of the firings that are ready those of highest level first.
+
+ghost use Rattle.std.specs.Prelude.{◌≡◌, ℕ, ◌*◌, length, slice_index, IfOk, MatchResult};
+ghost use Rattle.sdf_graph.specs.Rates.{rates};
+ghost use Rattle.sdf_sched.specs.Period.{IsPeriodOf};
+ghost use Rattle.sdf_prec.specs.Blocks.{block, IsSizeFault};
+ghost use Rattle.sdf_prec.specs.Accepting.{IsSize};
+ghost use Rattle.sdf_prec.specs.Costs.{AreCosts};
+ghost use Rattle.sdf_prec.specs.HuTables.{IsHuTable};
+
+use crate::block::{block_firings, size_fault};
+use crate::costs::Costs;
+use crate::crew::{Job, timed_rows};
+use crate::fault::PrecFault;
+use crate::levels::levels;
+use crate::table::Table;
+use crate::timed::without_times;
+use sdf_graph::Graph;
+use sdf_sched::Period;
+use std::alloc::{AllocError, Global};
+
+/// What the firings of each actor in a block cost together.
+fn weights_of(alloc: Global, firings: &[u32], costs: &Costs) -> Result<Vec<u64>, AllocError>
+    requires costs { AreCosts (length firings.now) costs.now }
+    ensures all { IfOk result (λ w. length w.items ≡ length firings.now) }
+    ensures each { IfOk result (λ w. (a : ℕ) → slice_index w.items a ≡ slice_index firings.now a * slice_index costs.now a) }
+{
+    let mut weights = Vec::new(alloc);
+    for actor in 0..firings.len() {
+        weights.push(u64::from(firings[actor]) * u64::from(costs.of(actor)))?;
+    }
+    Ok(weights)
+}
+
+/// The table of Hu's rule with costs for a block of `j` periods and `m` workers, free or with a home for each actor.
+///
+/// A fault is the first of `BlockingFactor`, `WorkerCount`, `BlockTooLong`. The time is linear in the firings, each times the
+/// actors and links of the graph. (Hu 1961; costs, columns, homes and ties are the profile's.)
+#[tactic(auto, using(crate::proofs::Finals::fault_size))]
+pub fn hu(
+    alloc: Global,
+    graph: &Graph,
+    period: &Period,
+    j: u32,
+    m: usize,
+    homed: bool,
+    costs: &Costs,
+) -> Result<Table, PrecFault>
+    requires period { IsPeriodOf (rates graph.now) period.now }
+    requires costs { AreCosts graph.now.actors costs.now }
+    ensures { MatchResult result
+        (λ t. IsSize j m period.now.repetitions × IsHuTable (rates graph.now) (slice_index (block j period.now.repetitions)) (slice_index costs.now) m homed t)
+        (IsSizeFault j m period.now.repetitions) }
+{
+    graph.channels();
+    if let Some(fault) = size_fault(j, m, period.repetitions()) {
+        return Err(fault);
+    }
+    let by_level = levels(alloc, graph, period, j, costs)?;
+    let firings = block_firings(alloc, j, period.repetitions())?;
+    let weights = weights_of(alloc, &firings, costs)?;
+    let job = Job {
+        firings: &firings,
+        levels: &by_level,
+        costs,
+        weights: &weights,
+        homed,
+    };
+    let rows = timed_rows(alloc, graph, &job, m)?;
+    let cells = without_times(alloc, rows)?;
+    let table = Table::of_rows(alloc, graph, cells)?;
+    Ok(table)
+}

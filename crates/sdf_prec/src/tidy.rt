@@ -1,0 +1,42 @@
+// Rows filled up to a width, and those left out in which nothing stands.
+
+ghost use Rattle.std.specs.Prelude.{◌≡◌, ℕ, ◌<◌, ◌↔◌, length, map, IfOk, IsTrue};
+ghost use Rattle.sdf_prec.specs.Tables.{firings};
+ghost use Rattle.sdf_prec.specs.Refusals.{AreNarrow};
+ghost use Rattle.sdf_prec.specs.Tidied.{tidied};
+
+use crate::firing::Firing;
+use std::alloc::{AllocError, Global};
+
+/// Whether a firing stands in a row.
+#[tactic(auto, using(crate::proofs::RowCells::stands_at, crate::proofs::Marks::firings_none))]
+fn has_firing(row: &[Option<Firing>]) -> bool
+    ensures { IsTrue result ↔ 0 < length (firings row.now) }
+{
+    for cell in row {
+        if cell.is_some() {
+            return true;
+        }
+    }
+    false
+}
+
+/// The rows in which a firing stands, filled up to a width.
+pub(crate) fn tidied(
+    alloc: Global,
+    width: usize,
+    rows: &[Vec<Option<Firing>>],
+) -> Result<Vec<Vec<Option<Firing>>>, AllocError>
+    requires { AreNarrow width (map (λ r. r.items) rows.now) (length rows.now) }
+    ensures { IfOk result (λ t. map (λ r. r.items) t.items ≡ tidied width (map (λ r. r.items) rows.now)) }
+{
+    let mut kept = Vec::new(alloc);
+    for row in rows {
+        if has_firing(row) {
+            let mut full = Vec::from_slice(alloc, row)?;
+            full.resize(width, None)?;
+            kept.push(full)?;
+        }
+    }
+    Ok(kept)
+}

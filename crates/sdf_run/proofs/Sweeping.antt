@@ -1,0 +1,337 @@
+-- Firings of a block of periods in whatever order they come: each can be done, and they stop only at the block's end.
+use Rattle.std.proofs.Common.{◌≡◌, ℕ, zero, suc, ◌+◌, ◌-◌, ◌*◌, ◌^◌, ◌≤◌, ◌<◌, List, [], ◌∷◌, length, map, get_or, set, sum, cond, Bool, true, false, true≢false, IsTrue, refl, sym, ap, ◌∙◌, subst, inl, inr, ◌⊎◌, arith}
+use Rattle.std.proofs.Math.Nat.{mul-le-mul, mul-le-mul_left}
+use Rattle.std.proofs.lemmas.List.{length-map, length-set, get_or-set_same, get_or-set_other, get_or_default, get_or-map}
+use Rattle.std.proofs.lemmas.List.Sums.{sum_by-set}
+use Rattle.std.proofs.lemmas.Bool.{cases_lt, cases_eq}
+use Rattle.sdf_graph.specs.Sequences.{tokens, IsRunnable}
+use Rattle.sdf_graph.specs.Rates.{IsSound}
+use Rattle.sdf_graph.specs.Laws.{ListsSumWithin}
+use Rattle.sdf_sched.specs.Laws.{StuckCountsMeanDeadlock}
+use Rattle.sdf_actor.specs.declared.node.Node.{Node}
+use Rattle.sdf_actor.specs.declared.node.Node.TheVariants.{Source, Sink, Inner}
+use Rattle.sdf_actor.specs.Steps.{Steps}
+use Rattle.sdf_actor.specs.Nets.{node, wiring, SourceReaches, InputsReach}
+use Rattle.sdf_actor.specs.Laws.{NetsAreWired, PortsHaveChannels, HistoryGrowsByFiring, TakenStays}
+use Rattle.sdf_actor.specs.Wires.{lists}
+use Rattle.sdf_run.specs.declared.work.Work.{Work}
+use Rattle.sdf_run.specs.declared.run.Run.{Run}
+use Rattle.sdf_run.specs.Blocks.{room, ArePorts, HoldBlocks}
+use Rattle.sdf_run.specs.Sizes.{phase_of, at_phase}
+use Rattle.sdf_run.specs.Firings.{phase_at}
+use Rattle.sdf_run.specs.Runs.{Stands, CanFireAt, IsFiredAt}
+use Rattle.sdf_run.specs.Answer.{periods_of}
+use Rattle.sdf_run.specs.Sweeps.{Sweeps, IsSwept, MayFire, HasRoom, Keeps, IsMoved}
+use Rattle.sdf_run.proofs.Readings.{some_of}
+use Rattle.sdf_run.proofs.Grown.{Known}
+use Rattle.sdf_run.proofs.Standing as standing
+
+-- sources that find the samples of many firings find those of fewer
+source_reaches : {A T : Type 0} (inputs : List (List T)) (many k : ℕ → ℕ) (a : ℕ) (x : Node A) → SourceReaches inputs many a x → k a ≤ many a → SourceReaches inputs k a x
+source_reaches inputs many k a (Source ext block) reach h = let less : block * k a ≤ block * many a = mul-le-mul_left block h in omega (arith, less, reach)
+source_reaches inputs many k a (Sink ext block) reach h = reach
+source_reaches inputs many k a (Inner x) reach h = reach
+
+-- one step of a run after another
+pub keeps_on : {A S T : Type 0} (r r' r'' : Run A T S) → Keeps r r' → Keeps r' r'' → Keeps r r''
+keeps_on r r' r'' one other = record {
+  net = other.net ∙ one.net;
+  inputs = other.inputs ∙ one.inputs;
+  repetitions = other.repetitions ∙ one.repetitions;
+  periods = other.periods ∙ one.periods;
+  outputs = other.outputs ∙ one.outputs;
+  queues = other.queues ∙ one.queues;
+  rooms = λ c l. other.rooms c (omega (arith, one.queues)) ∙ one.rooms c l;
+}
+
+pub keeps_all : {A S T : Type 0} (r : Run A T S) → Keeps r r
+keeps_all r = record { net = refl; inputs = refl; repetitions = refl; periods = refl; outputs = refl; queues = refl; rooms = λ c l. refl }
+
+pub moved_none : {A S T : Type 0} (r : Run A T S) → IsMoved r r false
+moved_none r = record {
+  keeps = keeps_all r;
+  high = refl;
+  rises = omega arith;
+  moves = λ t. absurd (let e : false ≡ true = t in true≢false (sym e));
+  stays = λ e. refl;
+}
+
+pub moved_on : {A S T : Type 0} (r r' r'' : Run A T S) (x y z : Bool) → (IsTrue z → IsTrue x ⊎ IsTrue y) → (z ≡ false → (x ≡ false) × (y ≡ false)) → IsMoved r r' x → IsMoved r' r'' y → IsMoved r r'' z
+moved_on r r' r'' x y z tells still one other = record {
+  keeps = keeps_on r r' r'' one.keeps other.keeps;
+  high = other.high ∙ one.high;
+  rises = omega (arith, one.rises, other.rises);
+  moves = λ t. go (tells t);
+  stays = λ e. let none = still e in other.stays none.1 ∙ one.stays none.0;
+}
+  where
+    go : IsTrue x ⊎ IsTrue y → sum r.done.items < sum r''.done.items
+    go (inl t) = omega (arith, one.moves t, other.rises)
+    go (inr t) = omega (arith, one.rises, other.moves t)
+
+-- a node may fire where it might before, as long as nothing has fired
+may_along : {A S T : Type 0} (s : Steps A S T) (r r' : Run A T S) (a : ℕ) → r.net ≡ r'.net → r.repetitions ≡ r'.repetitions → r.high ≡ r'.high → r.done.items ≡ r'.done.items → MayFire s r a → MayFire s r' a
+may_along s r r' a net repetitions high done may =
+    subst (λ x. IsRunnable (wiring s x.now).rates (periods_of r'.repetitions.now r'.high) (λ b. get_or r'.done.items b 0) a) net
+    (subst (λ x. IsRunnable (wiring s r.net.now).rates (periods_of x.now r'.high) (λ b. get_or r'.done.items b 0) a) repetitions
+    (subst (λ x. IsRunnable (wiring s r.net.now).rates (periods_of r.repetitions.now x) (λ b. get_or r'.done.items b 0) a) high
+    (subst (λ x. IsRunnable (wiring s r.net.now).rates (periods_of r.repetitions.now r.high) (λ b. get_or x b 0) a) done may)))
+
+-- a node of a sweep after those before it
+pub sweep_on : {A S T : Type 0} (s : Steps A S T) (r r' : Run A T S) (x y z : Bool) (i : ℕ) → (z ≡ false → (x ≡ false) × (y ≡ false)) →
+    (x ≡ false → (b : ℕ) → b < i → MayFire s r b → ⊥) → IsMoved r r' y → (y ≡ false → MayFire s r i → ⊥) → z ≡ false → (b : ℕ) → b < i + 1 → MayFire s r' b → ⊥
+sweep_on s r r' x y z i still before moved here none b l may = go (cases_lt b i)
+  where
+    back : MayFire s r b
+    back = may_along s r' r b moved.keeps.net moved.keeps.repetitions moved.high (moved.stays (still none).1) may
+
+    go : (b < i) ⊎ (i ≤ b) → ⊥
+    go (inl less) = before (still none).0 b less back
+    go (inr past) = here (still none).1 (subst (λ b. MayFire s r b) (let e : b ≡ i = omega arith in e) back)
+
+-- what a step of a run stands on
+pub net_known : {A S T : Type 0} (s : Steps A S T) → NetsAreWired s → PortsHaveChannels s → HistoryGrowsByFiring s → TakenStays s → (r : Run A T S) → IsSwept s r → Known s r.net.now
+net_known s wired ports grows stays r sw = record { good = sw.good; wired = wired r.net.now sw.good; ports = ports; grows = grows; stays = stays }
+
+-- node a of a run may fire exactly where it has firings left and its channels hold what the next one takes
+module _ {A S T : Type 0} (s : Steps A S T) (r : Run A T S) (sw : IsSwept s r) (net : Known s r.net.now) (a : ℕ) (known : a < length r.net.now.nodes) (d : Work A T S) where
+  pub phase_in : phase_at (get_or r.works.items a d) < length r.sizes.takes
+  phase_in =
+      let at = standing.at s r.net.now net r.sizes sw.sizes (lists r.inputs.now) (periods_of r.repetitions.now r.periods) (λ b. get_or r.done.items b 0) a known r.works.items r.queues.items r.outputs.items sw.stands d in
+      omega (arith, at, sw.sizes.takes_known a (get_or r.done.items a 0) known)
+
+  pub ports_in : ArePorts ((wiring s r.net.now).ins a) (at_phase r.sizes.takes (phase_at (get_or r.works.items a d))) (length r.queues.items)
+  ports_in = standing.ports_in s r.net.now net r.sizes sw.sizes (lists r.inputs.now) (periods_of r.repetitions.now r.periods) (λ b. get_or r.done.items b 0) a known r.works.items r.queues.items r.outputs.items sw.stands d
+
+  pub may_from : get_or r.done.items a 0 < r.high * get_or r.repetitions.now a 0 → HoldBlocks ((wiring s r.net.now).ins a) (at_phase r.sizes.takes (phase_at (get_or r.works.items a d))) r.queues.items → MayFire s r a
+  may_from left holds =
+      (known, left, standing.enabled s r.net.now net r.sizes sw.sizes (lists r.inputs.now) (periods_of r.repetitions.now r.periods) (λ b. get_or r.done.items b 0) a known r.works.items r.queues.items r.outputs.items sw.stands d holds)
+
+  pub may_holds : MayFire s r a → HoldBlocks ((wiring s r.net.now).ins a) (at_phase r.sizes.takes (phase_at (get_or r.works.items a d))) r.queues.items
+  may_holds may = standing.held s r.net.now net r.sizes sw.sizes (lists r.inputs.now) (periods_of r.repetitions.now r.periods) (λ b. get_or r.done.items b 0) a known r.works.items r.queues.items r.outputs.items sw.stands d may.2
+
+-- node a of a run may fire within the block
+module _ {A S T : Type 0} (s : Steps A S T) (r : Run A T S) (sw : IsSwept s r) (net : Known s r.net.now) (a : ℕ) (may : MayFire s r a) where
+  abbrev before : ℕ → ℕ
+  before b = get_or r.done.items b 0
+
+  abbrev after : ℕ → ℕ
+  after b = get_or (set r.done.items a (get_or r.done.items a 0 + 1)) b 0
+
+  place : a < length r.done.items
+  place = omega (arith, sw.all, may.0)
+
+  one : after a ≡ before a + 1
+  one = get_or-set_same r.done.items a (get_or r.done.items a 0 + 1) 0 place
+
+  others : (b : ℕ) → (a ≡ b → ⊥) → after b ≡ before b
+  others b ne = get_or-set_other r.done.items a b (get_or r.done.items a 0 + 1) 0 (λ e. ne (sym e))
+
+  rises : (b : ℕ) → before b ≤ after b
+  rises b = go (cases_eq a b)
+    where
+      go : (a ≡ b) ⊎ (a ≡ b → ⊥) → before b ≤ after b
+      go (inl e) = subst (λ b. before b ≤ after b) e (omega (arith, one))
+      go (inr ne) = omega (arith, others b ne)
+
+  now_below : before a < r.high * get_or r.repetitions.now a 0
+  now_below = may.1
+
+  was_below : (b : ℕ) → b < length r.net.now.nodes → before b ≤ r.high * get_or r.repetitions.now b 0
+  was_below = sw.to
+
+  was_above : (b : ℕ) → b < length r.net.now.nodes → sw.low * get_or r.repetitions.now b 0 ≤ before b
+  was_above = sw.from
+
+  -- counts stay within the block
+  above : (b : ℕ) → b < length r.net.now.nodes → sw.low * get_or r.repetitions.now b 0 ≤ after b
+  above b l = omega (arith, was_above b l, rises b)
+
+  below : (b : ℕ) → b < length r.net.now.nodes → after b ≤ r.high * get_or r.repetitions.now b 0
+  below b l = go (cases_eq a b)
+    where
+      go : (a ≡ b) ⊎ (a ≡ b → ⊥) → after b ≤ r.high * get_or r.repetitions.now b 0
+      go (inl e) = subst (λ b. after b ≤ r.high * get_or r.repetitions.now b 0) e (omega (arith, one, now_below))
+      go (inr ne) = omega (arith, others b ne, was_below b l)
+
+  within : (b : ℕ) → b < length r.net.now.nodes → after b ≤ periods_of r.repetitions.now r.periods b
+  within b l =
+      let up : r.high * get_or r.repetitions.now b 0 ≤ r.periods * get_or r.repetitions.now b 0 = mul-le-mul sw.under (let e : get_or r.repetitions.now b 0 ≤ get_or r.repetitions.now b 0 = omega arith in e) in
+      omega (arith, below b l)
+
+  left : before a < periods_of r.repetitions.now r.periods a
+  left = omega (arith, within a may.0, one)
+
+  reached : InputsReach r.net.now (lists r.inputs.now) after
+  reached d l = source_reaches (lists r.inputs.now) (periods_of r.repetitions.now r.periods) after d (node r.net.now d) (sw.reach d l) (within d l)
+
+  -- so the queues have room
+  rooms : (c : ℕ) → c < length r.net.now.wires → tokens (wiring s r.net.now).rates after c ≤ room r.queues.items c
+  rooms c l =
+      let w = (wiring s r.net.now).rates in
+      let x : ℕ = w.source c in
+      let y : ℕ = w.target c in
+      let up : w.produced c (after x) ≤ w.produced c (r.high * get_or r.repetitions.now x 0) = net.wired.sound.produced_rises c (after x) (r.high * get_or r.repetitions.now x 0) (below x (net.wired.sound.source_in c l)) in
+      let down : w.consumed c (sw.low * get_or r.repetitions.now y 0) ≤ w.consumed c (after y) =
+      net.wired.sound.consumed_rises c (sw.low * get_or r.repetitions.now y 0) (after y) (above y (net.wired.sound.target_in c l)) in
+      omega (arith, sw.fits c l)
+
+  few : before a < 2 ^ 63
+  few =
+      let short : r.high ≤ 4294967295 = omega (arith, sw.under, sw.short) in
+      let all : r.high * get_or r.repetitions.now a 0 ≤ 4294967295 * 65536 = mul-le-mul short (let e : get_or r.repetitions.now a 0 ≤ 65536 = sw.paced.small a may.0 in e) in
+      omega (arith, now_below)
+
+  at : (d : Work A T S) → phase_at (get_or r.works.items a d) ≡ phase_of s (node r.net.now a) (before a)
+  at d = standing.at s r.net.now net r.sizes sw.sizes (lists r.inputs.now) (periods_of r.repetitions.now r.periods) before a may.0 r.works.items r.queues.items r.outputs.items sw.stands d
+
+  pub can_fire : CanFireAt s r a
+  can_fire = record {
+    known = may.0;
+    worked = omega (arith, sw.stands.nodes, may.0);
+    takes_known = λ d. omega (arith, at d, sw.sizes.takes_known a (before a) may.0);
+    puts_known = λ d. omega (arith, at d, sw.sizes.puts_known a (before a) may.0);
+    counted = place;
+    few = few;
+    can = λ d.
+        standing.can_fire s r.net.now net r.sizes sw.sizes (lists r.inputs.now) (periods_of r.repetitions.now r.periods) before a may.0 r.works.items r.queues.items r.outputs.items sw.stands d
+        after may.2 one others left reached rooms;
+  }
+
+  -- and after it
+  module _ (r' : Run A T S) (fired : IsFiredAt s r r' a) where
+    kept_rooms : (c : ℕ) → c < length r.queues.items → room r'.queues.items c ≡ room r.queues.items c
+    kept_rooms = (fired.fired (some_of r.works.items a (omega (arith, sw.stands.nodes, may.0)))).rooms
+
+    stands : Stands s r.net.now (lists r.inputs.now) (periods_of r.repetitions.now r.periods) after r'.works.items r'.queues.items r'.outputs.items
+    stands =
+        let d : Work A T S = some_of r.works.items a (omega (arith, sw.stands.nodes, may.0)) in
+        standing.fired_stands s r.net.now net r.sizes sw.sizes (lists r.inputs.now) (periods_of r.repetitions.now r.periods) before a may.0 r.works.items r.queues.items r.outputs.items sw.stands d
+        after may.2 one others left reached
+        sw.apart (get_or r'.works.items a d) r'.queues.items r'.outputs.items (fired.fired d) fired.queues fired.outputs r'.works.items fired.works
+        (λ e. get_or_default r'.works.items a e d (omega (arith, fired.works, sw.stands.nodes, may.0))) fired.others
+
+    sweeps : Sweeps s r.net.now (lists r.inputs.now) r.sizes r.repetitions.now r.periods r.high (set r.done.items a (get_or r.done.items a 0 + 1)) r'.works.items r'.queues.items r'.outputs.items
+    sweeps = record {
+      good = sw.good;
+      apart = sw.apart;
+      sizes = sw.sizes;
+      reach = sw.reach;
+      paced = sw.paced;
+      short = sw.short;
+      under = sw.under;
+      stands = stands;
+      all = length-set r.done.items a (get_or r.done.items a 0 + 1) ∙ sw.all;
+      low = sw.low;
+      from = above;
+      to = below;
+      fits = λ c l. let same : room r'.queues.items c ≡ room r.queues.items c = kept_rooms c (omega (arith, sw.stands.channels)) in omega (arith, sw.fits c l);
+    }
+
+    pub swept : IsSwept s r'
+    swept =
+        subst (λ x. Sweeps s x.now (lists r'.inputs.now) r'.sizes r'.repetitions.now r'.periods r'.high r'.done.items r'.works.items r'.queues.items r'.outputs.items) (sym fired.net)
+        (subst (λ x. Sweeps s r.net.now (lists x.now) r'.sizes r'.repetitions.now r'.periods r'.high r'.done.items r'.works.items r'.queues.items r'.outputs.items) (sym fired.inputs)
+        (subst (λ x. Sweeps s r.net.now (lists r.inputs.now) x r'.repetitions.now r'.periods r'.high r'.done.items r'.works.items r'.queues.items r'.outputs.items) (sym fired.sizes)
+        (subst (λ x. Sweeps s r.net.now (lists r.inputs.now) r.sizes x.now r'.periods r'.high r'.done.items r'.works.items r'.queues.items r'.outputs.items) (sym fired.repetitions)
+        (subst (λ x. Sweeps s r.net.now (lists r.inputs.now) r.sizes r.repetitions.now x r'.high r'.done.items r'.works.items r'.queues.items r'.outputs.items) (sym fired.periods)
+        (subst (λ x. Sweeps s r.net.now (lists r.inputs.now) r.sizes r.repetitions.now r.periods x r'.done.items r'.works.items r'.queues.items r'.outputs.items) (sym fired.high)
+        (subst (λ x. Sweeps s r.net.now (lists r.inputs.now) r.sizes r.repetitions.now r.periods r.high x r'.works.items r'.queues.items r'.outputs.items) (sym fired.done) sweeps))))))
+
+    more : sum r'.done.items ≡ sum r.done.items + 1
+    more = ap sum fired.done ∙ (let e = sum_by-set (λ x. x) r.done.items a (get_or r.done.items a 0 + 1) 0 place in omega arith)
+
+    pub moved : IsMoved r r' true
+    moved = record {
+      keeps = record { net = fired.net; inputs = fired.inputs; repetitions = fired.repetitions; periods = fired.periods; outputs = fired.outputs; queues = fired.queues; rooms = kept_rooms };
+      high = fired.high;
+      rises = omega (arith, more);
+      moves = λ t. omega (arith, more);
+      stays = λ e. absurd (true≢false e);
+    }
+
+    -- there are fewer left
+    pub fewer : r'.high * get_or r'.repetitions.now a 0 - get_or r'.done.items a 0 < r.high * get_or r.repetitions.now a 0 - get_or r.done.items a 0
+    fewer =
+        let limit : r'.high * get_or r'.repetitions.now a 0 ≡ r.high * get_or r.repetitions.now a 0 = λ i. fired.high i * get_or (fired.repetitions i).now a 0 in
+        let now : get_or r'.done.items a 0 ≡ after a = ap (λ xs. get_or xs a 0) fired.done in
+        omega (arith, one, now_below)
+
+-- a sweep that fires leaves less, and one that does not is the last
+goes_less : (a b : Bool) (all x y : ℕ) → IsTrue a → x ≤ y → y ≤ all → (IsTrue b → x < y) → cond b 1 0 + (all - y) < cond a 1 0 + (all - x)
+goes_less true true all x y t rise within more = let m : x < y = more refl in omega arith
+goes_less true false all x y t rise within more = omega arith
+goes_less false b all x y t rise within more = absurd (let e : false ≡ true = t in true≢false (sym e))
+
+-- the firings of a block in all
+abbrev pub in_block : {A S T : Type 0} → Run A T S → ℕ
+in_block r = sum (map (λ x. r.high * x) r.repetitions.now)
+
+sum_below : ListsSumWithin → (xs q : List ℕ) (high : ℕ) → length xs ≡ length q → ((i : ℕ) → i < length xs → get_or xs i 0 ≤ high * get_or q i 0) → sum xs ≤ sum (map (λ x. high * x) q)
+sum_below law xs q high e h = law xs (map (λ x. high * x) q) (e ∙ sym (length-map q (λ x. high * x))) each
+  where
+    each : (i : ℕ) → get_or xs i 0 ≤ get_or (map (λ x. high * x) q) i 0
+    each i = go (cases_lt i (length xs))
+      where
+        go : (i < length xs) ⊎ (length xs ≤ i) → get_or xs i 0 ≤ get_or (map (λ x. high * x) q) i 0
+        go (inl l) = omega (arith, h i l, get_or-map (λ x. high * x) q i 0 0 (omega arith))
+        go (inr past) = let none : get_or xs i 0 ≡ 0 = beyond xs i past in omega arith
+          where
+            beyond : (ys : List ℕ) (j : ℕ) → length ys ≤ j → get_or ys j 0 ≡ 0
+            beyond [] j p = refl
+            beyond (y ∷ ys) zero p = absurd (omega arith)
+            beyond (y ∷ ys) (suc j) p = beyond ys j (omega arith)
+
+pub smaller : {A S T : Type 0} (s : Steps A S T) → ListsSumWithin → (r r' : Run A T S) (goes goes' : Bool) → IsTrue goes → IsSwept s r' → IsMoved r r' goes' →
+    cond goes' 1 0 + (in_block r' - sum r'.done.items) < cond goes 1 0 + (in_block r - sum r.done.items)
+smaller s law r r' goes goes' t sw moved =
+    let same : in_block r' ≡ in_block r = λ i. sum (map (λ x. moved.high i * x) (moved.keeps.repetitions i).now) in
+    let all : sum r'.done.items ≤ in_block r' = sum_below law r'.done.items r'.repetitions.now r'.high (sw.all ∙ sym sw.paced.all) (λ i l. sw.to i (omega (arith, sw.all))) in
+    let less = goes_less goes goes' (in_block r) (sum r.done.items) (sum r'.done.items) t moved.rises (omega arith) moved.moves in
+    omega (arith, same)
+
+-- where none may fire, all have fired the block
+pub all_fired : {A S T : Type 0} (s : Steps A S T) → StuckCountsMeanDeadlock → (r : Run A T S) → IsSwept s r → IsSound (wiring s r.net.now).rates → ((a : ℕ) → MayFire s r a → ⊥) →
+    (a : ℕ) → a < length r.net.now.nodes → get_or r.done.items a 0 ≡ r.high * get_or r.repetitions.now a 0
+all_fired s law r sw sound still a l = go (cases_lt (get_or r.done.items a 0) (r.high * get_or r.repetitions.now a 0))
+  where
+    to : get_or r.done.items a 0 ≤ r.high * get_or r.repetitions.now a 0
+    to = sw.to a l
+
+    go : (get_or r.done.items a 0 < r.high * get_or r.repetitions.now a 0) ⊎ (r.high * get_or r.repetitions.now a 0 ≤ get_or r.done.items a 0) → get_or r.done.items a 0 ≡ r.high * get_or r.repetitions.now a 0
+    go (inl less) =
+        let pass = sw.paced.passes r.high in
+        absurd (law (wiring s r.net.now).rates (periods_of r.repetitions.now r.high) (λ b. get_or r.done.items b 0) sound still a l less pass.0 pass.1)
+    go (inr all) = omega (arith, to, all)
+
+-- queues keep their room
+pub room_along : {A S T : Type 0} (s : Steps A S T) (size : ℕ) (r r' : Run A T S) → Keeps r r' → length r.queues.items ≡ length r.net.now.wires → HasRoom s size r → HasRoom s size r'
+room_along s size r r' keeps channels has =
+    subst (λ x. (c : ℕ) → c < length x.now.wires → (wiring s x.now).rates.initial c + size * (wiring s x.now).rates.produced c (get_or r'.repetitions.now ((wiring s x.now).rates.source c) 0) ≤ room r'.queues.items c) (sym keeps.net)
+    (subst (λ x. (c : ℕ) → c < length r.net.now.wires → (wiring s r.net.now).rates.initial c + size * (wiring s r.net.now).rates.produced c (get_or x.now ((wiring s r.net.now).rates.source c) 0) ≤ room r'.queues.items c) (sym keeps.repetitions)
+    (λ c l. subst (λ m. (wiring s r.net.now).rates.initial c + size * (wiring s r.net.now).rates.produced c (get_or r.repetitions.now ((wiring s r.net.now).rates.source c) 0) ≤ m) (sym (keeps.rooms c (omega (arith, channels)))) (has c l)))
+
+-- the next block may begin
+pub block_begins : {A S T : Type 0} (s : Steps A S T) (r : Run A T S) → IsSwept s r → (next size : ℕ) → r.high ≤ next → next ≤ r.periods → next ≤ r.high + size →
+    ((a : ℕ) → a < length r.net.now.nodes → get_or r.done.items a 0 ≡ r.high * get_or r.repetitions.now a 0) →
+    HasRoom s size r → Sweeps s r.net.now (lists r.inputs.now) r.sizes r.repetitions.now r.periods next r.done.items r.works.items r.queues.items r.outputs.items
+block_begins s r sw next size rise under step at rooms = record {
+  good = sw.good;
+  apart = sw.apart;
+  sizes = sw.sizes;
+  reach = sw.reach;
+  paced = sw.paced;
+  short = sw.short;
+  under = under;
+  stands = sw.stands;
+  all = sw.all;
+  low = r.high;
+  from = λ a l. omega (arith, at a l);
+  to = λ a l. let m : r.high * get_or r.repetitions.now a 0 ≤ next * get_or r.repetitions.now a 0 = mul-le-mul rise (let e : get_or r.repetitions.now a 0 ≤ get_or r.repetitions.now a 0 = omega arith in e) in omega (arith, at a l);
+  fits = λ c l.
+      let w = (wiring s r.net.now).rates in
+      let p : ℕ = w.produced c (get_or r.repetitions.now (w.source c) 0) in
+      let more : next * p ≤ (r.high + size) * p = mul-le-mul step (let e : p ≤ p = omega arith in e) in
+      let split : (r.high + size) * p ≡ r.high * p + size * p = omega arith in
+      omega (arith, sw.paced.put next c l, sw.paced.taken r.high c l, rooms c l);
+}
