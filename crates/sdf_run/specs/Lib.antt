@@ -6,3 +6,4 @@ pub mod Runs
 pub mod Answer
 pub mod Sweeps
 pub mod Twice
+pub mod Rows

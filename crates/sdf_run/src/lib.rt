@@ -8,6 +8,7 @@ mod block;
 pub mod fault;
 pub mod one;
 mod queue;
+pub mod rows;
 mod run;
 mod setup;
 mod sizes;
@@ -17,3 +18,5 @@ mod work;
 
 pub use fault::RunFault;
 pub use one::{Ran, run_one};
+pub use rows::run_rows;
+pub use sdf_node::{ActorId, Gate, NoGate};

@@ -1,0 +1,41 @@
+//! The runner by rows: all firings of a row of a table at once.
+
+ghost use Rattle.std.specs.Prelude.{◌≡◌, ◌*◌, length, MatchResult};
+ghost use Rattle.sdf_graph.specs.Rates.{rates};
+ghost use Rattle.sdf_sched.specs.Period.{IsPeriodOf};
+ghost use Rattle.sdf_actor.specs.Graphs.{graph_of};
+ghost use Rattle.sdf_actor.specs.Wires.{lists};
+ghost use Rattle.sdf_run.specs.Answer.{HasInputs, AreOutputs, periods_of, IsRunFault};
+ghost use Rattle.sdf_run.specs.Rows.{IsTableOf};
+
+use crate::fault::RunFault;
+use crate::one::Ran;
+use sdf_actor::{Actor, Net};
+use sdf_node::Gate;
+use sdf_prec::Table;
+use sdf_sched::Period;
+use std::thread::Threads;
+
+/// Runs a net for a number of blocks of `j` periods, as its table says: the firings of a row run at once, each in a worker of
+/// its own, and are joined before the next row begins. The processor that the gate is told is the firing's column.
+///
+/// All room is taken before the first firing. A channel's queue has room for what it begins with and what one block puts
+/// on it. Where the system starts no thread, the firings of a row run one after another.
+pub fn run_rows<R: Threads + AllocGlobal + Sync, A: Actor, G: Gate>(
+    rt: &R,
+    net: &Net<A>,
+    period: &Period,
+    j: u32,
+    table: &Table,
+    blocks: u32,
+    inputs: &[Vec<A::Token>],
+    gate: &G,
+) -> Result<Ran<A::Token>, RunFault>
+    requires period { IsPeriodOf (rates (graph_of A.steps net.now)) period.now }
+    requires table { IsTableOf (rates (graph_of A.steps net.now)) period.now.repetitions j table.now }
+    ensures { let q = period.now.repetitions in MatchResult result
+        (λ ran. HasInputs net.now q (blocks * j) (lists inputs.now) × AreOutputs A.steps net.now (lists inputs.now) (periods_of q (blocks * j)) (lists ran.outputs.items) × (ran.rounds ≡ blocks * length table.now.rows))
+        (IsRunFault net.now q (blocks * j) (lists inputs.now)) }
+{
+    Err(RunFault::OutOfMemory)
+}
