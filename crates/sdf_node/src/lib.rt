@@ -1,8 +1,12 @@
 //! What the runners with workers share: nodes at work, and the gate that each firing passes.
 //!
-//! It stands on `sdf_graph` and `sdf_actor`. Begin at `gate`.
+//! It stands on `sdf_graph` and `sdf_actor`. Begin at `node`, then `gate`; the definitions are in `specs/Nodes.antt`. What a node
+//! knows of its own channels, whatever the others do, is `IsLocal` in `sdf_actor`, whose laws are in `laws` too.
 #![tactic(auto)]
 
 pub mod gate;
+pub mod laws;
+pub mod node;
 
 pub use gate::{ActorId, Gate, NoGate};
+pub use node::{NodeState, append, begin, puts, step, takes};

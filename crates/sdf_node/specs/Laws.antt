@@ -1,0 +1,19 @@
+-- The laws of nodes at work.
+use Rattle.std.specs.Prelude.{◌≡◌, ℕ, ◌%◌, ◌<◌, List, length}
+use Rattle.sdf_actor.specs.Steps.{Steps}
+use Rattle.sdf_actor.specs.Nets.{cycle_of}
+use Rattle.sdf_actor.specs.declared.node.Node.{Node}
+use Rattle.sdf_node.specs.declared.node.NodeState.{NodeState}
+use Rattle.sdf_node.specs.Nodes.{phase_at, takes_of, puts_of, CanStep, IsAt}
+
+-- a node that has firings left can do the next one, with blocks of the lengths of its phase
+abbrev pub NodesCanStep : {A S T : Type 0} → Steps A S T → Type 0
+NodesCanStep {A} {S} {T} s =
+    (inputs : List (List T)) (x : Node A) (many : ℕ) (past : List (List T)) (w : NodeState T S) → IsAt s inputs many x past w →
+    0 < cycle_of s x → length past < many → CanStep s inputs x w (takes_of s x (phase_at w)) (puts_of s x (phase_at w))
+
+-- its phase is that of the number of its next firing
+abbrev pub NodesKeepPhase : {A S T : Type 0} → Steps A S T → Type 0
+NodesKeepPhase {A} {S} {T} s =
+    (inputs : List (List T)) (x : Node A) (many : ℕ) (past : List (List T)) (w : NodeState T S) → IsAt s inputs many x past w →
+    phase_at w ≡ length past % cycle_of s x

@@ -1,0 +1,12 @@
+//! Laws over the definitions, each the contract of a function that does nothing.
+
+ghost use Rattle.sdf_node.specs.Laws.{NodesCanStep, NodesKeepPhase};
+
+use sdf_actor::Actor;
+pub use sdf_actor::laws::{locals_are_history, locals_grow};
+
+/// A node that has firings left can do the next one, which is at the phase of its number.
+pub fn nodes_can_step<A: Actor>()
+    ensures steps { NodesCanStep A.steps }
+    ensures phases { NodesKeepPhase A.steps }
+{}
