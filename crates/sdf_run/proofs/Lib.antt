@@ -12,3 +12,4 @@ pub mod Beginnings
 pub mod Cycles
 pub mod Sinks
 pub mod Sweeping
+pub mod Longer

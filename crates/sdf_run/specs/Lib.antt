@@ -7,3 +7,4 @@ pub mod Answer
 pub mod Sweeps
 pub mod Twice
 pub mod Rows
+pub mod Laws

@@ -6,6 +6,7 @@
 
 mod block;
 pub mod fault;
+pub mod laws;
 pub mod one;
 mod queue;
 pub mod rows;
