@@ -33,7 +33,7 @@ loop-actor-preserved c =
           rw (w.counts-is, w.fire.ensures) (record {
             same = v.same;
             each = length-set fired i (get_or fired i 0 + 1) ∙ v.each;
-            ended = ending_more r c.args.now i started ends old fired v.ended c.requires.sound l last w.if-ends-actor.true;
+            ended = ending_more r c.args.now i started ends old fired v.ended c.enabled_stays.ensures c.requires.sound l last w.if-ends-actor.true;
           })
       | else-fired-started w ↦
           rw w.counts-is (record {
