@@ -1,4 +1,4 @@
-// The laws of graphs and of schedules, in one.
+//! The laws of graphs and of schedules, in one.
 
 ghost use Rattle.sdf_prec.specs.GraphLaws.{GraphLaws};
 

@@ -1,4 +1,4 @@
-// Who is at work while rows are made: counts of started firings, and when each actor and each column is through.
+//! Who is at work while rows are made: counts of started firings, and when each actor and each column is through.
 
 ghost use Rattle.std.specs.Prelude.{◌≡◌, ℕ, ◌+◌, ◌<◌, ◌≤◌, ◌^◌, ◌⊎◌, length, slice_index, ◌↔◌, IsTrue, Some};
 ghost use Rattle.sdf_graph.specs.Rates.{rates, IsSound};

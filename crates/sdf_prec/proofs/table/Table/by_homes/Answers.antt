@@ -1,4 +1,5 @@
 use Rattle.std.proofs.Common.{◌≡◌, ℕ, ◌*◌, ◌<◌, List, length, get_or, map, Option, sym, ap, ◌∙◌, subst, arith}
+use Rattle.sdf_limits.specs.declared.TheConstants.{MOST_BLOCK}
 use Rattle.sdf_graph.specs.Rates.{rates}
 use Rattle.sdf_graph.specs.Sequences.{repeated}
 use Rattle.sdf_prec.specs.declared.firing.Firing.{Firing}
@@ -35,7 +36,7 @@ of_rows-requires c =
     let homed : (a : ℕ) → a < r.actors → HasHome c.args.homes.now c.args.m a = λ a l. c.in_default-bad_home.ensures a (omega (arith, l, c.actors.ensures)) in (
       n,
       rows_valid c.graph_laws.ensures r n w (c.graph_laws.ensures.sound c.args.graph.now c.channels.ensures.shape) pass c.args.homes.now c.args.m homed rs by,
-      one_of_all (block c.args.j c.args.period.now.repetitions) 65536 (omega (arith, block_sum c.args.j c.args.period.now.repetitions, short)),
+      one_of_all (block c.args.j c.args.period.now.repetitions) MOST_BLOCK (omega (arith, block_sum c.args.j c.args.period.now.repetitions, short)),
     )
 
 pub returns : goal.returns
