@@ -1,6 +1,6 @@
 -- Statements of the laws.
 use Rattle.std.specs.Prelude.{◌≡◌, ℕ, ◌+◌, ◌*◌, ◌≤◌, ◌<◌, List, length, take, slice_index, sum}
-use Rattle.sdf_graph.specs.Rates.{Rates, IsAlike, IsSound, Shape, IsShape, rates, sum_to}
+use Rattle.sdf_graph.specs.Rates.{Rates, IsAlike, IsSound, Shape, IsShape, rates, rate_at, sum_to}
 use Rattle.sdf_graph.specs.Sequences.{times, IsAdmissible, IsPass, IsPeriod, repeated, FitsIn}
 use Rattle.sdf_graph.specs.Periods.{IsPeriodVector, IsLeastPeriod}
 
@@ -35,6 +35,14 @@ SumsGrow = (f : ℕ → ℕ) (i : ℕ) → sum_to f (i + 1) ≡ sum_to f i + f i
 -- so it never falls
 abbrev pub SumsRise : Type 0
 SumsRise = (f : ℕ → ℕ) (i j : ℕ) → i ≤ j → sum_to f i ≤ sum_to f j
+
+-- values that are small have small sums
+abbrev pub SumsAreSmall : Type 0
+SumsAreSmall = (f : ℕ → ℕ) (most : ℕ) → ((i : ℕ) → f i ≤ most) → (i : ℕ) → sum_to f i ≤ most * i
+
+-- after whole cycles the sums of their rates begin anew
+abbrev pub CyclesBeginAnew : Type 0
+CyclesBeginAnew = (xs : List ℕ) (k i : ℕ) → sum_to (rate_at xs) (i + k * length xs) ≡ sum_to (rate_at xs) i + k * sum xs
 
 -- a list of numbers that are no greater has no greater sum
 abbrev pub ListsSumWithin : Type 0

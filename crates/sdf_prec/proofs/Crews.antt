@@ -1,20 +1,19 @@
 -- The row that a crew makes, and sums of what has ended.
-use Rattle.std.proofs.Common.{◌≡◌, ℕ, zero, suc, ◌+◌, ◌-◌, ◌*◌, ◌≤◌, ◌<◌, ◌⊎◌, ◌↔◌, List, [], ◌∷◌, ◌++◌, length, get_or, sum, replicate, sym, ap, ◌∙◌, subst, inl, inr, arith, refl, Option, Some, None, Bool, true, false}
-use Rattle.std.specs.Prelude.{IsTrue}
+use Rattle.std.proofs.Common.{◌≡◌, ℕ, zero, suc, ◌+◌, ◌*◌, ◌≤◌, ◌<◌, ◌⊎◌, List, [], ◌∷◌, ◌++◌, length, get_or, sum, ap, inl, inr, arith, refl, Option, Some, None, Bool, true, false}
 use Rattle.std.proofs.lemmas.Option.{none-some}
-use Rattle.std.proofs.lemmas.Bool.{cases_lt, cases_eq, false≢true}
+use Rattle.std.proofs.lemmas.Bool.{false≢true}
 use Rattle.std.proofs.lemmas.List.Sums.{sum_by-cons}
 use Rattle.sdf_graph.specs.Rates.{Rates, IsSound}
+use Rattle.sdf_graph.specs.Laws.{ListsSumWithin}
 use Rattle.sdf_prec.specs.declared.firing.Firing.{Firing}
-use Rattle.sdf_prec.specs.Tables.{firing, firings, cell_of}
+use Rattle.sdf_prec.specs.Tables.{firings}
 use Rattle.sdf_prec.specs.Trying.{IsQueue}
-use Rattle.sdf_prec.specs.TimedRows.{Timed, IsSettled, hu_rule}
-use Rattle.sdf_prec.specs.Floor.{IsNextReady, IsFilling, AreStarted, IsStuck, IsDue, IsDone, IsFloor}
+use Rattle.sdf_prec.specs.TimedRows.{Timed, IsSettled}
+use Rattle.sdf_prec.specs.Floor.{IsNextReady, IsFilling, AreStarted, IsDue, IsDone}
 use Rattle.sdf_prec.specs.Placing.{IsPlacing, AreWaiting}
 use Rattle.sdf_prec.specs.Crew.{IsRowAt}
-use Rattle.sdf_prec.proofs.Floors.{floor_begins}
 use Rattle.sdf_prec.proofs.Starts.{starting_none}
-use Rattle.sdf_prec.proofs.Rules.{nothing, free_row, filled_each, filled_apart, free_stuck, homed_row, placed_each, placed_apart, homes_then, homed_stuck}
+use Rattle.sdf_prec.proofs.Rules.{free_row, filled_each, filled_apart, free_stuck, homed_row, placed_each, placed_apart, homes_then, homed_stuck}
 use Rattle.sdf_prec.proofs.Turns.{done_row, done_none, settled_more}
 
 -- where the list of a row's firings is empty nothing stands in it
@@ -72,49 +71,17 @@ module _ (r : Rates) (n cost : ℕ → ℕ) (level : Firing → ℕ) (width : �
       back a j (inl x) = x
       back a j (inr (f, e, is)) = absurd (nothing_stands cells none j f e)
 
-pub zeros : (k a : ℕ) → get_or (replicate {A = ℕ} k 0) a 0 ≡ 0
-zeros zero a = refl
-zeros (suc k) zero = refl
-zeros (suc k) (suc a) = zeros k a
-
-pub nones : (k a : ℕ) (o : Option ℕ) → o ≡ None → get_or (replicate k o) a None ≡ None
-nones zero a o e = refl
-nones (suc k) zero o e = e
-nones (suc k) (suc a) o e = nones k a o e
-
--- the first row is due at time 0
-pub due_begins : (r : Rates) (n cost : ℕ → ℕ) (level : Firing → ℕ) (width : ℕ) (homed : Bool) (ended started ends until : ℕ → ℕ) (homes : ℕ → Option ℕ) →
-    ((a : ℕ) → ended a ≡ 0) → ((a : ℕ) → started a ≡ 0) → ((a : ℕ) → ends a ≡ 0) → ((j : ℕ) → until j ≡ 0) → ((a : ℕ) → homes a ≡ None) →
-    IsDue r n cost level width homed [] 0 ended started ends until homes
-due_begins r n cost level width homed ended started ends until homes none_ended none_started none_ends none_until none_homes = record {
-  floor = floor_begins r n cost width started none_started ended ends until none_ended none_ends none_until;
-  rows = λ i l. absurd (omega arith);
-  later = λ i l. absurd (omega arith);
-  gap = λ t later l. absurd (omega arith);
-  begins = λ _. refl;
-  homes_are = λ h a j l. (λ e. absurd (none-some j (sym (none_homes a) ∙ e)), λ x. absurd (none-some x.1 x.2));
-}
-
-pub sum_within : (xs ys : List ℕ) → length xs ≡ length ys → ((a : ℕ) → get_or xs a 0 ≤ get_or ys a 0) → sum xs ≤ sum ys
-sum_within [] ys e h = omega arith
-sum_within (x ∷ xs) [] e h = absurd (omega arith)
-sum_within (x ∷ xs) (y ∷ ys) e h =
-    let rest = sum_within xs ys (omega arith) (λ a. h (suc a)) in
-    let one : sum (x ∷ xs) ≡ x + sum xs = sum_by-cons (λ z. z) x xs in
-    let other : sum (y ∷ ys) ≡ y + sum ys = sum_by-cons (λ z. z) y ys in
-    omega (arith, h 0)
-
-pub sum_less : (xs ys : List ℕ) (b : ℕ) → length xs ≡ length ys → ((a : ℕ) → get_or xs a 0 ≤ get_or ys a 0) → get_or xs b 0 < get_or ys b 0 → sum xs < sum ys
-sum_less [] [] b e h l = absurd (omega arith)
-sum_less [] (y ∷ ys) b e h l = absurd (omega arith)
-sum_less (x ∷ xs) [] b e h l = absurd (omega arith)
-sum_less (x ∷ xs) (y ∷ ys) zero e h l =
-    let rest = sum_within xs ys (omega arith) (λ a. h (suc a)) in
+pub sum_less : ListsSumWithin → (xs ys : List ℕ) (b : ℕ) → length xs ≡ length ys → ((a : ℕ) → get_or xs a 0 ≤ get_or ys a 0) → get_or xs b 0 < get_or ys b 0 → sum xs < sum ys
+sum_less lists [] [] b e h l = absurd (omega arith)
+sum_less lists [] (y ∷ ys) b e h l = absurd (omega arith)
+sum_less lists (x ∷ xs) [] b e h l = absurd (omega arith)
+sum_less lists (x ∷ xs) (y ∷ ys) zero e h l =
+    let rest = lists xs ys (omega arith) (λ a. h (suc a)) in
     let one : sum (x ∷ xs) ≡ x + sum xs = sum_by-cons (λ z. z) x xs in
     let other : sum (y ∷ ys) ≡ y + sum ys = sum_by-cons (λ z. z) y ys in
     omega arith
-sum_less (x ∷ xs) (y ∷ ys) (suc b) e h l =
-    let rest = sum_less xs ys b (omega arith) (λ a. h (suc a)) l in
+sum_less lists (x ∷ xs) (y ∷ ys) (suc b) e h l =
+    let rest = sum_less lists xs ys b (omega arith) (λ a. h (suc a)) l in
     let one : sum (x ∷ xs) ≡ x + sum xs = sum_by-cons (λ z. z) x xs in
     let other : sum (y ∷ ys) ≡ y + sum ys = sum_by-cons (λ z. z) y ys in
     omega (arith, h 0)

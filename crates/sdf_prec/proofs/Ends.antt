@@ -1,21 +1,21 @@
 -- When nothing is at work any more each firing stands, and the rows are a valid table.
-use Rattle.std.proofs.Common.{◌≡◌, ℕ, zero, suc, ◌+◌, ◌-◌, ◌*◌, ◌≤◌, ◌<◌, ◌⊎◌, ◌↔◌, List, [], ◌∷◌, ◌++◌, length, get_or, take, map, sym, ap, ◌∙◌, subst, inl, inr, arith, refl, add-one, Option, Some, None, Bool, true, false}
+use Rattle.std.proofs.Common.{◌≡◌, ℕ, zero, suc, ◌+◌, ◌-◌, ◌≤◌, ◌<◌, ◌⊎◌, List, [], ◌∷◌, ◌++◌, length, get_or, take, sym, ap, ◌∙◌, subst, inl, inr, arith, refl, add-one, Option, Some, None, Bool, true, false}
 use Rattle.std.specs.Prelude.{IsTrue, slice_get}
 use Rattle.std.specs.List.{Contains}
 use Rattle.std.proofs.lemmas.List.{take_all, get_or-take, length-take, get_or_append_left, get_or-append_right, length-append, length-map, get_or_default}
-use Rattle.std.proofs.lemmas.Option.{none-some, same_Some, slice_get_within, get_or_from_slice_get}
-use Rattle.std.proofs.lemmas.Bool.{cases_lt, cases_eq, false≢true}
+use Rattle.std.proofs.lemmas.Option.{slice_get_within, get_or_from_slice_get}
+use Rattle.std.proofs.lemmas.Bool.{cases_lt}
 use Rattle.sdf_graph.specs.Rates.{Rates, IsSound}
-use Rattle.sdf_graph.specs.Sequences.{times, tokens, IsEnabled, IsPass, FitsIn}
+use Rattle.sdf_graph.specs.Sequences.{times, IsPass, FitsIn}
 use Rattle.sdf_graph.specs.Laws.{LastCountsMore, FrontsCountWithin}
 use Rattle.sdf_prec.specs.declared.firing.Firing.{Firing}
 use Rattle.sdf_prec.specs.Precedence.{WaitsFor}
-use Rattle.sdf_prec.specs.Tables.{firing, firings, no_firing, row, order, cell_of, Stands, IsOfBlock, IsValid}
+use Rattle.sdf_prec.specs.Tables.{firing, firings, no_firing, row, order, Stands, IsOfBlock, IsValid}
 use Rattle.sdf_prec.specs.Next.{IsNext}
 use Rattle.sdf_prec.specs.Laws.{SomeIsNext, NextMayFire}
-use Rattle.sdf_prec.specs.TimedRows.{Timed, no_row, timed, cells_of, IsAt, Occurs, IsReadyAt, Rule, IsNextRow, AreTimed, IsFreeRow, IsHomedRow, hu_rule}
+use Rattle.sdf_prec.specs.TimedRows.{Timed, no_row, timed, cells_of, IsAt, Occurs, IsReadyAt, AreTimed, hu_rule}
 use Rattle.sdf_prec.specs.Floor.{IsNextReady, IsFloor, IsStuck}
-use Rattle.sdf_prec.proofs.Floors.{row_known, column_known, none_busy}
+use Rattle.sdf_prec.proofs.Floors.{row_known, none_busy}
 use Rattle.sdf_prec.proofs.RowCells.{stands_at}
 use Rattle.sdf_prec.proofs.RowMarks.{row_order, in_order}
 use Rattle.sdf_prec.proofs.Sufficing.{stands_in}

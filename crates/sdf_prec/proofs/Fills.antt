@@ -1,15 +1,12 @@
 -- One more column is filled, or left.
-use Rattle.std.proofs.Common.{◌≡◌, ℕ, ◌+◌, ◌-◌, ◌≤◌, ◌<◌, ◌⊎◌, List, [], ◌∷◌, ◌++◌, length, get_or, sym, ap, ◌∙◌, subst, inl, inr, arith, Option, Some, None}
+use Rattle.std.proofs.Common.{◌≡◌, ℕ, ◌+◌, ◌≤◌, ◌<◌, ◌⊎◌, List, [], ◌∷◌, ◌++◌, length, get_or, sym, ap, ◌∙◌, subst, inl, inr, arith, Option, Some, None}
 use Rattle.std.specs.Prelude.{slice_get}
 use Rattle.std.specs.List.{Contains}
 use Rattle.std.specs.List.Sorted.{IsStrictlyIncreasing}
 use Rattle.std.proofs.lemmas.List.{get_or_append_left, get_or_push, get_or_past, length_push, get_or_default}
 use Rattle.std.proofs.lemmas.Option.{none-some}
 use Rattle.std.proofs.lemmas.Bool.{cases_lt, cases_eq, cases_order}
-use Rattle.sdf_graph.specs.Adjacency.{ListsExactly}
 use Rattle.sdf_prec.specs.declared.firing.Firing.{Firing}
-use Rattle.sdf_prec.specs.Tables.{cell_of}
-use Rattle.sdf_prec.specs.Trying.{AreFilled}
 use Rattle.sdf_prec.specs.Floor.{IsFilling}
 
 pub filling_begins : (until : List ℕ) (now : ℕ) (queue : List Firing) → IsFilling until now 0 queue 0 []

@@ -1,5 +1,5 @@
 -- The table of the rule's rows.
-use Rattle.std.proofs.Common.{◌≡◌, ℕ, ◌*◌, ◌≤◌, ◌<◌, List, [], ◌∷◌, length, get_or, sym, ap, ◌∙◌, subst, arith, refl, Option, Bool}
+use Rattle.std.proofs.Common.{◌≡◌, ℕ, ◌<◌, List, [], ◌∷◌, length, sym, ap, ◌∙◌, subst, arith, refl, Bool}
 use Rattle.std.proofs.lemmas.List.{length-map}
 use Rattle.sdf_graph.specs.Rates.{Rates}
 use Rattle.sdf_prec.specs.declared.firing.Firing.{Firing}
@@ -7,7 +7,7 @@ use Rattle.sdf_prec.specs.declared.fault.PrecFault.{PrecFault}
 use Rattle.sdf_prec.specs.declared.fault.PrecFault.TheVariants.{OutOfMemory, BlockingFactor, BlockTooLong}
 use Rattle.sdf_prec.specs.Blocks.{IsWorkers, IsBlockFault, IsSizeFault}
 use Rattle.sdf_prec.specs.Levels.{IsLevel}
-use Rattle.sdf_prec.specs.Tables.{firings, row, Tabled, IsTable, IsValid, IsExact, IsOfBlock}
+use Rattle.sdf_prec.specs.Tables.{firings, row, Tabled, IsValid, IsExact, IsOfBlock}
 use Rattle.sdf_prec.specs.TimedRows.{Timed, cells_of, AreTimedRows, hu_rule}
 use Rattle.sdf_prec.specs.HuTables.{IsHuTable}
 use Rattle.sdf_prec.proofs.Ends.{row_of}

@@ -1,15 +1,14 @@
 -- What a floor says of the rule: which firings have ended, which are ready, which columns are busy.
-use Rattle.std.proofs.Common.{◌≡◌, ℕ, zero, suc, ◌+◌, ◌-◌, ◌≤◌, ◌<◌, ◌⊎◌, List, [], ◌∷◌, ◌++◌, length, get_or, sym, ap, ◌∙◌, subst, inl, inr, arith, refl, Option, Some, None}
-use Rattle.std.proofs.lemmas.List.{get_or_append_left, get_or-append-add, get_or_past, length-append}
-use Rattle.std.proofs.lemmas.Option.{none-some, same_Some}
-use Rattle.std.proofs.lemmas.Bool.{cases_lt, cases_eq, cases_order}
+use Rattle.std.proofs.Common.{◌≡◌, ℕ, ◌+◌, ◌-◌, ◌≤◌, ◌<◌, ◌⊎◌, List, length, get_or, sym, ap, ◌∙◌, subst, inl, inr, arith, refl, Option, Some, None}
+use Rattle.std.proofs.lemmas.List.{get_or_past}
+use Rattle.std.proofs.lemmas.Option.{none-some}
+use Rattle.std.proofs.lemmas.Bool.{cases_lt}
 use Rattle.sdf_graph.specs.Rates.{Rates, IsSound}
 use Rattle.sdf_graph.specs.Sequences.{IsEnabled}
 use Rattle.sdf_prec.specs.declared.firing.Firing.{Firing}
 use Rattle.sdf_prec.specs.Precedence.{WaitsFor}
-use Rattle.sdf_prec.specs.Tables.{cell_of}
-use Rattle.sdf_prec.specs.TimedRows.{Timed, no_row, timed, IsAt, Occurs, HasEnded, IsBusy, IsReadyAt, end_at}
-use Rattle.sdf_prec.specs.Floor.{IsNextReady, IsFloor, AreStarted}
+use Rattle.sdf_prec.specs.TimedRows.{Timed, no_row, IsAt, HasEnded, IsBusy, IsReadyAt, end_at}
+use Rattle.sdf_prec.specs.Floor.{IsNextReady, IsFloor}
 
 -- a firing stands in a row that is there
 pub row_known : (past : List Timed) (i j : ℕ) (f : Firing) → IsAt past i j f → i < length past
@@ -195,22 +194,3 @@ module _ (r : Rates) (n cost : ℕ → ℕ) (width : ℕ) (past : List Timed) (t
           let l = (w.occurs f k).1 (i, j, at) in
           let e = (w.ended_is i j f at).1 (omega (arith, x.0)) in
           omega (arith, e)
-
--- before the first row
-pub floor_begins : (r : Rates) (n cost : ℕ → ℕ) (width : ℕ) (zero' : ℕ → ℕ) → ((a : ℕ) → zero' a ≡ 0) → (ended ends until : ℕ → ℕ) → ((a : ℕ) → ended a ≡ 0) → ((a : ℕ) → ends a ≡ 0) → ((j : ℕ) → until j ≡ 0) →
-    IsFloor r n cost width [] 0 ended zero' ends until
-floor_begins r n cost width started none ended ends until none_ended none_ends none_until = record {
-  occurs = λ f k. (λ l. absurd (omega (arith, none f.actor)), λ o. absurd (nowhere o.0 o.1 f o.2));
-  known = λ i j f at. absurd (nowhere i j f at);
-  within = λ a l. omega (arith, none a);
-  once = λ i j k m f at. absurd (nowhere i j f at);
-  ended_is = λ i j f at. absurd (nowhere i j f at);
-  last = λ i j f at. absurd (nowhere i j f at);
-  through = λ a l. inl (none_ended a ∙ sym (none a), omega (arith, none_ends a));
-  on = λ a l h. absurd (omega (arith, none a, none_ended a));
-  until_above = λ i j f at. absurd (nowhere i j f at);
-  until_at = λ j. inl (none_until j);
-}
-  where
-    nowhere : (i j : ℕ) (f : Firing) → IsAt [] i j f → ⊥
-    nowhere i j f at = let l = row_known [] i j f at in omega arith

@@ -1,8 +1,9 @@
 -- Bounds of what rows are made of.
-use Rattle.std.proofs.Common.{◌≡◌, ℕ, ◌+◌, ◌*◌, ◌≤◌, ◌<◌, ◌⊎◌, List, length, get_or, sum, sym, ap, ◌∙◌, subst, inl, inr, arith}
+use Rattle.std.proofs.Common.{ℕ, ◌*◌, ◌≤◌, ◌<◌, ◌⊎◌, List, get_or, inl, inr, arith}
 use Rattle.std.proofs.lemmas.List.{get_or_past}
 use Rattle.std.proofs.lemmas.Nat.{mul-le}
 use Rattle.std.proofs.lemmas.Bool.{cases_lt}
+use Rattle.sdf_limits.specs.declared.TheConstants.{MOST_BLOCK, MOST_COST}
 use Rattle.sdf_prec.specs.Numbers.{Numbered}
 use Rattle.sdf_prec.specs.Crew.{IsJob}
 use Rattle.sdf_prec.proofs.Shifts.{within_sum}
@@ -11,14 +12,14 @@ module _ (actors : ℕ) (firings : List ℕ) (levels : Numbered) (costs weights 
   pub job_dear : (a : ℕ) → a < actors → 1 ≤ get_or costs a 0
   job_dear a l = (job.costs_are.each a l).0
 
-  pub job_cheap : (a : ℕ) → a < actors → get_or costs a 0 ≤ 1000000
+  pub job_cheap : (a : ℕ) → a < actors → get_or costs a 0 ≤ MOST_COST
   job_cheap a l = (job.costs_are.each a l).1
 
-  pub job_small : (a : ℕ) → get_or weights a 0 ≤ 65536000000
+  pub job_small : (a : ℕ) → get_or weights a 0 ≤ MOST_BLOCK * MOST_COST
   job_small a = go (cases_lt a actors)
     where
-      go : (a < actors) ⊎ (actors ≤ a) → get_or weights a 0 ≤ 65536000000
+      go : (a < actors) ⊎ (actors ≤ a) → get_or weights a 0 ≤ MOST_BLOCK * MOST_COST
       go (inl l) =
-          let low : get_or firings a 0 ≤ 65536 = omega (arith, within_sum firings a, job.few) in
-          omega (arith, job.weights_are a, mul-le (get_or firings a 0) (get_or costs a 0) 65536 1000000 low (job_cheap a l))
+          let low : get_or firings a 0 ≤ MOST_BLOCK = omega (arith, within_sum firings a, job.few) in
+          omega (arith, job.weights_are a, mul-le (get_or firings a 0) (get_or costs a 0) MOST_BLOCK MOST_COST low (job_cheap a l))
       go (inr h) = omega (arith, get_or_past weights a 0 (omega (arith, job.weights_all)))

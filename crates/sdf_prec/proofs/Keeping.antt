@@ -1,9 +1,9 @@
 -- What stays when rows are filled up and empty ones are left out.
-use Rattle.std.proofs.Common.{◌≡◌, ℕ, zero, suc, ◌+◌, ◌-◌, ◌≤◌, ◌<◌, List, [], ◌∷◌, ◌++◌, length, take, replicate, map, cond, sym, ap, ◌∙◌, subst, inl, inr, ◌⊎◌, arith, refl, Option, None}
-use Rattle.std.specs.Prelude.{filter}
+use Rattle.std.proofs.Common.{◌≡◌, ℕ, zero, suc, ◌+◌, ◌-◌, ◌≤◌, ◌<◌, List, [], ◌∷◌, ◌++◌, length, take, replicate, map, cond, sym, ap, ◌∙◌, subst, inl, inr, ◌⊎◌, arith, refl, Bool, false, Option, None}
+use Rattle.std.specs.Prelude.{filter, IsTrue}
 use Rattle.std.proofs.lemmas.List.{append-nil, length-append, length-replicate, map-append}
 use Rattle.std.proofs.lemmas.List.Elements.{filter_more}
-use Rattle.std.proofs.lemmas.Bool.{cases_lt, lt-ltb, le-ltb}
+use Rattle.std.proofs.lemmas.Bool.{cases_lt, lt-ltb, le-ltb, false≢true}
 use Rattle.sdf_graph.specs.Rates.{Rates}
 use Rattle.sdf_prec.specs.declared.firing.Firing.{Firing}
 use Rattle.sdf_prec.specs.Precedence.{WaitsFor}
@@ -131,3 +131,11 @@ accepted r n width rows t narrow valid is exact = record {
     exact = exact;
   };
 }
+
+-- where the test that a number is not 0 fails, it is 0
+pub not_some : (b : Bool) (n : ℕ) → b ≡ false → (0 < n → IsTrue b) → n ≤ 0
+not_some b n e some = go (cases_lt 0 n)
+  where
+    go : (0 < n) ⊎ (n ≤ 0) → n ≤ 0
+    go (inl l) = absurd (false≢true (subst IsTrue e (some l)))
+    go (inr h) = h

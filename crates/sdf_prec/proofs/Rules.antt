@@ -1,5 +1,5 @@
 -- Rows by the rule, and times at which they are empty.
-use Rattle.std.proofs.Common.{◌≡◌, ℕ, zero, suc, ◌+◌, ◌-◌, ◌*◌, ◌≤◌, ◌<◌, ◌⊎◌, ◌↔◌, List, [], ◌∷◌, length, get_or, sym, ap, ◌∙◌, subst, inl, inr, arith, refl, Option, Some, None, Bool, true, false}
+use Rattle.std.proofs.Common.{◌≡◌, ℕ, zero, suc, ◌+◌, ◌*◌, ◌≤◌, ◌<◌, ◌⊎◌, ◌↔◌, List, [], ◌∷◌, length, get_or, sym, ap, ◌∙◌, subst, inl, inr, arith, refl, Option, Some, None, true}
 use Rattle.std.specs.Prelude.{slice_get, IsTrue}
 use Rattle.std.specs.List.{Contains}
 use Rattle.std.proofs.lemmas.List.{get_or_default}
@@ -8,7 +8,7 @@ use Rattle.std.proofs.lemmas.Bool.{cases_lt, cases_order}
 use Rattle.sdf_graph.specs.Rates.{Rates, IsSound}
 use Rattle.sdf_graph.specs.Adjacency.{ListsExactly}
 use Rattle.sdf_prec.specs.declared.firing.Firing.{Firing}
-use Rattle.sdf_prec.specs.Tables.{firing, firings, no_firing, Stands, cell_of}
+use Rattle.sdf_prec.specs.Tables.{firing, firings, no_firing, Stands}
 use Rattle.sdf_prec.specs.Trying.{IsTriedBefore, IsQueue, IsLeast, IsPlace, IsLeft, IsPlaced, ArePlaced, load}
 use Rattle.sdf_prec.specs.TimedRows.{Timed, IsBusy, IsReadyAt, IsSettled, IsFreeRow, IsHomedRow}
 use Rattle.sdf_prec.specs.Floor.{IsNextReady, IsFilling, IsFloor, AreStarted, IsStuck}

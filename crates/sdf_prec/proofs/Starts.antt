@@ -1,12 +1,12 @@
 -- One more firing of a row starts, or one more actor's firing ends.
-use Rattle.std.proofs.Common.{◌≡◌, ℕ, ◌+◌, ◌-◌, ◌≤◌, ◌<◌, ◌⊎◌, List, length, get_or, set, sym, ap, ◌∙◌, subst, inl, inr, arith, refl, Option, Some, None}
+use Rattle.std.proofs.Common.{◌≡◌, ℕ, ◌+◌, ◌≤◌, ◌<◌, ◌⊎◌, List, length, get_or, set, sym, ap, ◌∙◌, subst, inl, inr, arith, Option, Some, None}
 use Rattle.std.proofs.lemmas.List.{get_or-set_same, get_or-set_other, length-set}
 use Rattle.std.proofs.lemmas.Option.{none-some, same_Some}
-use Rattle.std.proofs.lemmas.Bool.{cases_lt, cases_eq}
+use Rattle.std.proofs.lemmas.Bool.{cases_eq}
 use Rattle.sdf_graph.specs.Rates.{Rates, IsSound}
-use Rattle.sdf_graph.specs.Sequences.{IsReady, IsEnabled}
+use Rattle.sdf_graph.specs.Sequences.{IsEnabled}
+use Rattle.sdf_sched.specs.Laws.{EnabledStays}
 use Rattle.sdf_prec.specs.declared.firing.Firing.{Firing}
-use Rattle.sdf_prec.specs.Tables.{cell_of}
 use Rattle.sdf_prec.specs.Floor.{AreStarted, AreEnded}
 
 -- nothing stands in the row
@@ -70,16 +70,6 @@ module _ (cost : ℕ → ℕ) (now i : ℕ) (cells : List (Option Firing)) (star
       columns j h (inl same) = absurd (h f (omega arith) (ap (λ j. get_or cells j None) same ∙ here))
       columns j h (inr ne) = get_or-set_other u i j end 0 ne ∙ b.columns j (λ g l. h g (omega arith))
 
--- what is enabled stays so while its own count stays and the others rise
-pub enabled_rises : (r : Rates) → IsSound r → (k m : ℕ → ℕ) (a : ℕ) → k a ≡ m a → ((b : ℕ) → k b ≤ m b) → IsEnabled r k a → IsEnabled r m a
-enabled_rises r s k m a same rise on c h e =
-    let own : k (r.target c) ≡ m (r.target c) = ap k e ∙ (same ∙ ap m (sym e)) in
-    let ready : IsReady r k c = on c h e in
-    let more : r.produced c (k (r.source c)) ≤ r.produced c (m (r.source c)) = s.produced_rises c (k (r.source c)) (m (r.source c)) (rise (r.source c)) in
-    let moved : r.consumed c (m (r.target c) + 1) ≤ r.initial c + r.produced c (k (r.source c)) =
-    subst (λ n. r.consumed c (n + 1) ≤ r.initial c + r.produced c (k (r.source c))) own ready in
-    omega arith
-
 pub ending_begins : (r : Rates) (now : ℕ) (started ends : ℕ → ℕ) (old : List ℕ) → ((a : ℕ) → a < r.actors → get_or old a 0 < started a → IsEnabled r (λ a. get_or old a 0) a) → AreEnded r now 0 started ends old old
 ending_begins r now started ends old on = record {
   all = λ _. length old;
@@ -106,8 +96,8 @@ module _ (r : Rates) (now i : ℕ) (started ends : ℕ → ℕ) (old new : List 
       go a l e h (inl is) = absurd (not (subst (λ a. ends a ≤ now) is e) (rw untouched (subst (λ a. get_or old a 0 < started a) is h)))
       go a l e h (inr ne) = s.through a (omega arith) e h
 
-  pub ending_more : IsSound r → i < length new → get_or old i 0 + 1 ≡ started i → ends i ≤ now → AreEnded r now (i + 1) started ends old (set new i (get_or new i 0 + 1))
-  ending_more sound l last through = record {
+  pub ending_more : EnabledStays → IsSound r → i < length new → get_or old i 0 + 1 ≡ started i → ends i ≤ now → AreEnded r now (i + 1) started ends old (set new i (get_or new i 0 + 1))
+  ending_more stays sound l last through = record {
     all = length-set new i (get_or new i 0 + 1) ∙ s.all;
     through = λ a k e h. go a k e h (cases_eq a i);
     same = λ a h. same a h (cases_eq a i);
@@ -141,4 +131,4 @@ module _ (r : Rates) (now i : ℕ) (started ends : ℕ → ℕ) (old new : List 
 
       on : (a : ℕ) → a < r.actors → get_or (set new i (get_or new i 0 + 1)) a 0 < started a → (a ≡ i) ⊎ (a ≡ i → ⊥) → IsEnabled r (λ a. get_or (set new i (get_or new i 0 + 1)) a 0) a
       on a k h (inl is) = let e : get_or (set new i (get_or new i 0 + 1)) a 0 ≡ started a = go a (omega arith) (subst (λ a. ends a ≤ now) (sym is) through) (subst (λ a. get_or old a 0 < started a) (sym is) (omega arith)) (inl is) in absurd (omega arith)
-      on a k h (inr ne) = enabled_rises r sound (λ a. get_or new a 0) (λ a. get_or (set new i (get_or new i 0 + 1)) a 0) a (sym (other a ne)) (λ b. above b (cases_eq b i)) (s.on a k (let e = other a ne in omega arith))
+      on a k h (inr ne) = stays r sound (λ a. get_or new a 0) (λ a. get_or (set new i (get_or new i 0 + 1)) a 0) a (sym (other a ne)) (λ b _. above b (cases_eq b i)) (s.on a k (let e = other a ne in omega arith))

@@ -4,7 +4,7 @@ use Rattle.std.proofs.lemmas.List.{get_or-set_same, get_or-set_other, length-set
 use Rattle.std.proofs.lemmas.Option.{none-some, same_Some}
 use Rattle.std.proofs.lemmas.Bool.{cases_lt, cases_eq}
 use Rattle.sdf_prec.specs.declared.firing.Firing.{Firing}
-use Rattle.sdf_prec.specs.Tables.{firing, no_firing, cell_of}
+use Rattle.sdf_prec.specs.Tables.{firing}
 use Rattle.sdf_prec.specs.Trying.{IsLeft, IsHomeFor, IsLeast, IsPlace, IsPlaced, load}
 use Rattle.sdf_prec.specs.Placing.{IsOpen, IsNowhere, AreWaiting, IsPlacing}
 

@@ -1,18 +1,17 @@
 -- From a row that is due to a time that is done, and on to the next time.
-use Rattle.std.proofs.Common.{◌≡◌, ℕ, zero, suc, ◌+◌, ◌-◌, ◌*◌, ◌≤◌, ◌<◌, ◌⊎◌, ◌↔◌, List, [], ◌∷◌, ◌++◌, length, get_or, take, sym, ap, ◌∙◌, subst, inl, inr, arith, refl, Option, Some, None, Bool, true, false}
+use Rattle.std.proofs.Common.{◌≡◌, ℕ, ◌+◌, ◌≤◌, ◌<◌, ◌⊎◌, ◌↔◌, List, [], ◌∷◌, ◌++◌, length, get_or, take, sym, ap, ◌∙◌, subst, inl, inr, arith, refl, Option, Some, None, Bool, true, false}
 use Rattle.std.specs.Prelude.{IsTrue}
-use Rattle.std.proofs.lemmas.List.{take_at, take-append-le, length_push, nil_from_length}
-use Rattle.std.proofs.lemmas.Option.{none-some, same_Some}
-use Rattle.std.proofs.lemmas.Bool.{cases_lt, cases_eq, cases_order, false≢true}
+use Rattle.std.proofs.lemmas.List.{take_at, take-append-le, length_push}
+use Rattle.std.proofs.lemmas.Bool.{cases_lt, cases_eq, false≢true}
 use Rattle.sdf_graph.specs.Rates.{Rates, IsSound}
-use Rattle.sdf_graph.specs.Sequences.{IsEnabled, IsPass, times}
+use Rattle.sdf_graph.specs.Sequences.{IsEnabled}
 use Rattle.sdf_prec.specs.declared.firing.Firing.{Firing}
-use Rattle.sdf_prec.specs.Tables.{firings, cell_of, IsOfBlock}
-use Rattle.sdf_prec.specs.TimedRows.{Timed, no_row, timed, IsAt, Occurs, end_at, IsBusy, IsSettled, IsLater, Rule, IsNextRow, AreTimed, IsFreeRow, IsHomedRow, hu_rule}
-use Rattle.sdf_prec.specs.Floor.{IsNextReady, IsFloor, AreStarted, AreEnded, IsStuck, IsDue, IsDone, IsNextEnd}
-use Rattle.sdf_prec.proofs.Floors.{row_known, floor_later, none_busy, busy_of}
+use Rattle.sdf_prec.specs.Tables.{firings}
+use Rattle.sdf_prec.specs.TimedRows.{Timed, timed, IsAt, end_at, IsSettled, IsLater, Rule, IsNextRow, AreTimed, hu_rule}
+use Rattle.sdf_prec.specs.Floor.{IsNextReady, IsFloor, AreStarted, IsStuck, IsDue, IsDone}
+use Rattle.sdf_prec.proofs.Floors.{row_known, floor_later}
 use Rattle.sdf_prec.proofs.Pushes.{row_old, row_new, at_old, at_new, at_cases, floor_more}
-use Rattle.sdf_prec.proofs.Rules.{nothing, free_empty, homed_empty}
+use Rattle.sdf_prec.proofs.Rules.{free_empty, homed_empty}
 
 -- one row more is by the rule
 pub timed_more : (width : ℕ) (rule : Rule) (past : List Timed) (x : Timed) → AreTimed width rule past → IsNextRow width rule past x → AreTimed width rule (past ++ x ∷ [])

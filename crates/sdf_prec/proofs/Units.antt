@@ -1,18 +1,16 @@
 -- Where each firing costs 1, all of the rows before has ended when a row starts.
-use Rattle.std.proofs.Common.{◌≡◌, ℕ, zero, suc, ◌+◌, ◌-◌, ◌*◌, ◌≤◌, ◌<◌, ◌⊎◌, ◌↔◌, List, length, get_or, take, sym, ap, ◌∙◌, subst, inl, inr, arith, refl, add-one, [], true, false, Option, Some, None}
+use Rattle.std.proofs.Common.{◌≡◌, ℕ, zero, suc, ◌+◌, ◌*◌, ◌≤◌, ◌<◌, ◌⊎◌, ◌↔◌, List, length, get_or, take, sym, ap, ◌∙◌, subst, inl, inr, arith, refl, add-one, [], true, false, Option, Some, None}
 use Rattle.std.specs.Prelude.{slice_get}
 use Rattle.std.specs.List.{Contains}
 use Rattle.std.specs.List.Sorted.{IsStrictlyIncreasing}
 use Rattle.std.proofs.lemmas.List.{get_or-take, length-take, get_or_default, length-map}
 use Rattle.std.proofs.lemmas.Bool.{cases_lt}
 use Rattle.sdf_graph.specs.Rates.{Rates, sum_to}
-use Rattle.sdf_graph.specs.Adjacency.{ListsExactly}
 use Rattle.sdf_prec.specs.declared.firing.Firing.{Firing}
-use Rattle.sdf_prec.specs.Precedence.{WaitsFor}
-use Rattle.sdf_prec.specs.Tables.{firing, firings, row, cell, cell_of, order, Stands, IsOfBlock}
-use Rattle.sdf_prec.specs.Trying.{IsQueue, IsLeft, IsPlace, IsPlaced, ArePlaced, load, weight_at}
+use Rattle.sdf_prec.specs.Tables.{firing, firings, row, cell}
+use Rattle.sdf_prec.specs.Trying.{IsLeft, IsPlace, IsPlaced, ArePlaced, load, weight_at}
 use Rattle.sdf_prec.specs.PlainRows.{IsReadyFor, IsFreePlain, IsHomedPlain}
-use Rattle.sdf_prec.specs.TimedRows.{Timed, no_row, timed, cells_of, IsAt, Occurs, HasEnded, IsBusy, IsReadyAt, IsSettled, Rule, IsNextRow, AreTimed, AreTimedRows, IsFreeRow, IsHomedRow, end_at}
+use Rattle.sdf_prec.specs.TimedRows.{Timed, no_row, timed, cells_of, IsAt, IsBusy, IsReadyAt, IsSettled, Rule, IsNextRow, AreTimed, AreTimedRows, IsFreeRow, IsHomedRow, end_at}
 use Rattle.sdf_prec.specs.UnitRows.{UnitFreeRowsArePlain, UnitHomedRowsArePlain}
 use Rattle.sdf_prec.proofs.Floors.{row_known}
 use Rattle.sdf_prec.proofs.Trial.{placed_idle}

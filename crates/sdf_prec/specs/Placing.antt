@@ -1,8 +1,19 @@
 -- Firings of a queue placed one after the other.
-use Rattle.std.specs.Prelude.{◌≡◌, ℕ, ◌≤◌, ◌<◌, ◌⊎◌, ◌↔◌, List, length, slice_index, slice_index_or, Option, Some, None}
+use Rattle.std.specs.Prelude.{◌≡◌, ℕ, ◌*◌, ◌≤◌, ◌<◌, ◌⊎◌, ◌↔◌, List, length, slice_index, slice_index_or, Option, Some, None}
+use Rattle.sdf_limits.specs.declared.TheConstants.{MOST_ACTORS, MOST_BLOCK, MOST_COST}
 use Rattle.sdf_prec.specs.declared.firing.Firing.{Firing}
 use Rattle.sdf_prec.specs.Tables.{firing, cell_of}
-use Rattle.sdf_prec.specs.Trying.{IsLeast, IsHomeFor, IsPlaced}
+use Rattle.sdf_prec.specs.Trying.{load, IsLeast, IsHomeFor, IsPlaced}
+
+-- what the firings of each actor cost together, a weight for each home
+pub record AreWeights (weights : List ℕ) (homes : List (Option ℕ)) : Type 0 where
+  pub all : length weights ≡ length homes
+  pub few : length homes ≤ MOST_ACTORS
+  pub small : (a : ℕ) → a < length homes → slice_index weights a ≤ MOST_BLOCK * MOST_COST
+
+-- the load of each column by these lists
+abbrev pub load_by : List ℕ → List (Option ℕ) → ℕ → ℕ
+load_by weights homes = load (length homes) (slice_index weights) (λ a. slice_index_or homes a None)
 
 -- a column that is through by time now and in which nothing stands yet
 abbrev pub IsOpen : List ℕ → ℕ → List (Option Firing) → ℕ → Type 0

@@ -10,11 +10,11 @@ ghost use Rattle.sdf_prec.specs.Accepting.{IsSize};
 ghost use Rattle.sdf_prec.specs.ByHomes.{HasHome, IsBadHome, AreByHomes, IsHomesFault};
 
 use crate::block::{block_order, size_fault};
+use crate::facts::graph_laws;
 use crate::fault::PrecFault;
 use crate::firing::Firing;
 use crate::table::Table;
 use sdf_graph::Graph;
-use sdf_graph::laws::{graphs_are_sound, graphs_have_periods};
 use sdf_limits::MOST_BLOCK;
 use sdf_sched::Period;
 use std::alloc::{AllocError, Global};
@@ -80,6 +80,7 @@ fn rows_of(
     requires homed { (a : ℕ) → a < actors → HasHome homes.now m a }
     ensures { IfOk result (λ rows. AreByHomes homes.now m order.now (map (λ r. r.items) rows.items)) }
 {
+    graph_laws();
     let mut done = vec![in alloc; 0u32; actors]?;
     let mut rows = Vec::new(alloc);
     for actor in order {
@@ -114,8 +115,7 @@ impl Table {
             (IsHomesFault j m period.now.repetitions homes.now) }
     {
         graph.channels();
-        graphs_are_sound();
-        graphs_have_periods();
+        graph_laws();
         if let Some(fault) = size_fault(j, m, period.repetitions()) {
             return Err(fault);
         }

@@ -1,13 +1,12 @@
-// Rows made one after the other, at the times at which an actor is through.
+//! Rows made one after the other, at the times at which an actor is through.
 
 ghost use Rattle.std.specs.Prelude.{◌≡◌, ℕ, ◌+◌, ◌*◌, ◌<◌, ◌≤◌, ◌^◌, List, length, sum, slice_index, slice_index_or, replicate, IfOk, Some, None};
 ghost use Rattle.sdf_graph.specs.Rates.{rates, IsSound};
 ghost use Rattle.sdf_graph.specs.Sequences.{IsPass};
-ghost use Rattle.sdf_prec.specs.Numbers.{number};
 ghost use Rattle.sdf_prec.specs.Tables.{IsValid};
-ghost use Rattle.sdf_prec.specs.TimedRows.{Timed, cells_of, AreTimedRows, hu_rule};
-ghost use Rattle.sdf_prec.specs.Floor.{IsDue, IsDone, IsNextEnd};
-ghost use Rattle.sdf_prec.specs.Crew.{IsJob, IsCrew, IsRowAt};
+ghost use Rattle.sdf_prec.specs.TimedRows.{cells_of, AreTimedRows};
+ghost use Rattle.sdf_prec.specs.Floor.{IsNextEnd};
+ghost use Rattle.sdf_prec.specs.Crew.{IsJobFor, IsCrewAt, IsDueTo, IsDoneBy, IsRowOf, rule_of};
 
 use crate::costs::Costs;
 use crate::filling::fill;
@@ -17,8 +16,9 @@ use crate::homing::place;
 use crate::laws::the_next_may_fire;
 use crate::level::Levels;
 use crate::queue::ready_queue;
-use crate::timed::{TimedRow, is_empty};
-use sdf_graph::laws::{counts_grow, graphs_are_sound};
+use crate::tidy::has_firing;
+use crate::timed::TimedRow;
+use sdf_graph::laws::{counts_grow, graphs_are_sound, sums_rise};
 use sdf_graph::{Counts, Graph};
 use std::alloc::{AllocError, Global};
 
@@ -51,18 +51,14 @@ fn next_cells(
     crew: &mut Crew,
 ) -> Result<Vec<Option<Firing>>, AllocError>
     requires sound { IsSound (rates crew.old.counts.graph) }
-    requires job { IsJob crew.old.counts.graph.actors job.now.firings.now job.now.levels.now job.now.costs.now job.now.weights.now }
-    requires crew { IsCrew (length crew.old.until.items) now crew.old.counts crew.old.started.items crew.old.ends.items crew.old.until.items crew.old.homes.items }
+    requires job { IsJobFor crew.old.counts.graph job.now }
+    requires crew { IsCrewAt (length crew.old.until.items) now crew.old }
     ensures counts { crew.new.counts ≡ crew.old.counts }
     ensures started { crew.new.started ≡ crew.old.started }
     ensures ends { crew.new.ends ≡ crew.old.ends }
     ensures until { crew.new.until ≡ crew.old.until }
     ensures homes { IfOk result (λ _. (length crew.new.homes.items ≡ length crew.old.homes.items) × ((a j : ℕ) → slice_index_or crew.new.homes.items a None ≡ Some j → j < length crew.old.until.items)) }
-    ensures row { IfOk result (λ cells. (past : List Timed) →
-        IsDue (rates crew.old.counts.graph) (slice_index job.now.firings.now) (slice_index job.now.costs.now) (number job.now.levels.now) (length crew.old.until.items) job.now.homed past now
-        (slice_index crew.old.counts.fired) (slice_index crew.old.started.items) (slice_index crew.old.ends.items) (slice_index crew.old.until.items) (λ a. slice_index_or crew.old.homes.items a None) →
-        IsRowAt (rates crew.old.counts.graph) (slice_index job.now.firings.now) (slice_index job.now.costs.now) (number job.now.levels.now) (length crew.old.until.items) job.now.homed past now
-        (slice_index crew.old.counts.fired) (slice_index crew.old.started.items) (slice_index crew.old.ends.items) (slice_index crew.old.until.items) (λ a. slice_index_or crew.new.homes.items a None) cells.items) }
+    ensures row { IfOk result (λ cells. IsRowOf crew.old.counts.graph job.now (length crew.old.until.items) crew.old crew.new now cells.items) }
 {
     let queue = ready_queue(alloc, &crew.counts, &crew.started, job.firings, job.levels)?;
     if job.homed {
@@ -90,17 +86,16 @@ fn add_row(
     rows: &mut Vec<TimedRow>,
 ) -> Result<(), AllocError>
     requires sound { IsSound (rates crew.old.counts.graph) }
-    requires job { IsJob crew.old.counts.graph.actors job.now.firings.now job.now.levels.now job.now.costs.now job.now.weights.now }
-    requires crew { IsCrew (length crew.old.until.items) now crew.old.counts crew.old.started.items crew.old.ends.items crew.old.until.items crew.old.homes.items }
-    requires due { IsDue (rates crew.old.counts.graph) (slice_index job.now.firings.now) (slice_index job.now.costs.now) (number job.now.levels.now) (length crew.old.until.items) job.now.homed rows.old.items now
-        (slice_index crew.old.counts.fired) (slice_index crew.old.started.items) (slice_index crew.old.ends.items) (slice_index crew.old.until.items) (λ a. slice_index_or crew.old.homes.items a None) }
+    requires job { IsJobFor crew.old.counts.graph job.now }
+    requires crew { IsCrewAt (length crew.old.until.items) now crew.old }
+    requires due { IsDueTo crew.old.counts.graph job.now (length crew.old.until.items) crew.old rows.old.items now }
     ensures counts { crew.new.counts ≡ crew.old.counts }
-    ensures crew { IfOk result (λ _. IsCrew (length crew.old.until.items) now crew.new.counts crew.new.started.items crew.new.ends.items crew.new.until.items crew.new.homes.items) }
-    ensures done { IfOk result (λ _. IsDone (rates crew.old.counts.graph) (slice_index job.now.firings.now) (slice_index job.now.costs.now) (number job.now.levels.now) (length crew.old.until.items) job.now.homed rows.new.items now
-        (slice_index crew.new.counts.fired) (slice_index crew.new.started.items) (slice_index crew.new.ends.items) (slice_index crew.new.until.items) (λ a. slice_index_or crew.new.homes.items a None)) }
+    ensures crew { IfOk result (λ _. IsCrewAt (length crew.old.until.items) now crew.new) }
+    ensures done { IfOk result (λ _. IsDoneBy crew.old.counts.graph job.now (length crew.old.until.items) crew.new rows.new.items now) }
 {
+    sums_rise();
     let cells = next_cells(alloc, job, now, crew)?;
-    if !is_empty(&cells) {
+    if has_firing(&cells) {
         start(
             &cells,
             now,
@@ -142,18 +137,17 @@ fn turn(
     rows: &mut Vec<TimedRow>,
 ) -> Result<(), AllocError>
     requires sound { IsSound (rates crew.old.counts.graph) }
-    requires job { IsJob crew.old.counts.graph.actors job.now.firings.now job.now.levels.now job.now.costs.now job.now.weights.now }
-    requires crew { IsCrew (length crew.old.until.items) now crew.old.counts crew.old.started.items crew.old.ends.items crew.old.until.items crew.old.homes.items }
+    requires job { IsJobFor crew.old.counts.graph job.now }
+    requires crew { IsCrewAt (length crew.old.until.items) now crew.old }
     requires next { IsNextEnd crew.old.ends.items now (length crew.old.ends.items) (Some next) }
-    requires done { IsDone (rates crew.old.counts.graph) (slice_index job.now.firings.now) (slice_index job.now.costs.now) (number job.now.levels.now) (length crew.old.until.items) job.now.homed rows.old.items now
-        (slice_index crew.old.counts.fired) (slice_index crew.old.started.items) (slice_index crew.old.ends.items) (slice_index crew.old.until.items) (λ a. slice_index_or crew.old.homes.items a None) }
+    requires done { IsDoneBy crew.old.counts.graph job.now (length crew.old.until.items) crew.old rows.old.items now }
     ensures graph { crew.new.counts.graph ≡ crew.old.counts.graph }
     ensures columns { IfOk result (λ _. length crew.new.until.items ≡ length crew.old.until.items) }
     ensures more { sum crew.old.counts.fired < sum crew.new.counts.fired }
-    ensures crew { IfOk result (λ _. IsCrew (length crew.old.until.items) next crew.new.counts crew.new.started.items crew.new.ends.items crew.new.until.items crew.new.homes.items) }
-    ensures done { IfOk result (λ _. IsDone (rates crew.old.counts.graph) (slice_index job.now.firings.now) (slice_index job.now.costs.now) (number job.now.levels.now) (length crew.old.until.items) job.now.homed rows.new.items next
-        (slice_index crew.new.counts.fired) (slice_index crew.new.started.items) (slice_index crew.new.ends.items) (slice_index crew.new.until.items) (λ a. slice_index_or crew.new.homes.items a None)) }
+    ensures crew { IfOk result (λ _. IsCrewAt (length crew.old.until.items) next crew.new) }
+    ensures done { IfOk result (λ _. IsDoneBy crew.old.counts.graph job.now (length crew.old.until.items) crew.new rows.new.items next) }
 {
+    sums_rise();
     end_by(next, &crew.started, &crew.ends, &mut crew.counts);
     add_row(alloc, job, next, crew, rows)
 }
@@ -165,15 +159,16 @@ pub(crate) fn timed_rows(
     job: &Job,
     width: usize,
 ) -> Result<Vec<TimedRow>, AllocError>
-    requires job { IsJob graph.now.actors job.now.firings.now job.now.levels.now job.now.costs.now job.now.weights.now }
+    requires job { IsJobFor graph.now job.now }
     requires width { 0 < width }
     requires pass { (w : List ℕ) × IsPass (rates graph.now) (slice_index job.now.firings.now) w }
-    ensures rows { IfOk result (λ rows. AreTimedRows (rates graph.now) (slice_index job.now.firings.now) width (hu_rule (rates graph.now) (slice_index job.now.firings.now) (slice_index job.now.costs.now) (number job.now.levels.now) width job.now.homed) rows.items) }
+    ensures rows { IfOk result (λ rows. AreTimedRows (rates graph.now) (slice_index job.now.firings.now) width (rule_of graph.now job.now width) rows.items) }
     ensures valid { IfOk result (λ rows. IsValid (rates graph.now) (slice_index job.now.firings.now) (cells_of rows.items)) }
 {
     graph.channels();
     graphs_are_sound();
     counts_grow();
+    sums_rise();
     the_next_may_fire();
     let mut crew = new_crew(alloc, graph, width)?;
     let mut rows = Vec::new(alloc);

@@ -1,4 +1,4 @@
-// Rows in which any firing may stand in any column.
+//! Rows in which any firing may stand in any column.
 
 ghost use Rattle.std.specs.Prelude.{◌≡◌, length, slice_get, IfOk};
 ghost use Rattle.sdf_prec.specs.Floor.{IsFilling};

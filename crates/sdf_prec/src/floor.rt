@@ -1,4 +1,4 @@
-// Who is at work while rows are made: counts of started firings, and when each actor and each column is through.
+//! Who is at work while rows are made: counts of started firings, and when each actor and each column is through.
 
 ghost use Rattle.std.specs.Prelude.{◌≡◌, ℕ, ◌+◌, ◌<◌, ◌≤◌, ◌^◌, ◌⊎◌, length, slice_index, ◌↔◌, IsTrue, Some};
 ghost use Rattle.sdf_graph.specs.Rates.{rates, IsSound};
@@ -11,6 +11,7 @@ ghost use Rattle.sdf_prec.specs.Floor.{AreStarted, IsNextEnd, AreEnded};
 use crate::costs::Costs;
 use crate::firing::Firing;
 use sdf_graph::Counts;
+use sdf_sched::laws::enabled_stays;
 
 /// Starts the firings of a row at time `now`.
 pub(crate) fn start(
@@ -77,6 +78,7 @@ pub(crate) fn end_by(now: u64, started: &[u32], ends: &[u64], counts: &mut Count
     ensures same { counts.new.graph ≡ counts.old.graph }
     ensures ended { AreEnded (rates counts.old.graph) now counts.old.graph.actors (slice_index started.now) (slice_index ends.now) counts.old.fired counts.new.fired }
 {
+    enabled_stays();
     for actor in 0..started.len() {
         if counts.fired(actor) < started[actor] && ends[actor] <= now {
             counts.fire(actor);

@@ -1,4 +1,4 @@
-// The columns in which all firings of an actor stand.
+//! The columns in which all firings of an actor stand.
 
 ghost use Rattle.std.specs.Prelude.{◌≡◌, ℕ, ◌+◌, ◌<◌, ◌↔◌, length, map, slice_index_or, slice_set, IfOk, Some, None};
 ghost use Rattle.sdf_prec.specs.declared.firing.Firing.{Firing};

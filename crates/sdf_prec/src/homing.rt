@@ -1,10 +1,10 @@
-// Rows in which each actor's firings stand in its home.
+//! Rows in which each actor's firings stand in its home.
 
 ghost use Rattle.std.specs.Prelude.{◌≡◌, ℕ, ◌<◌, ◌≤◌, ◌*◌, ◌↔◌, List, length, slice_index, slice_index_or, MatchOption, IfOk, Option, Some, None, IsTrue};
 ghost use Rattle.sdf_prec.specs.declared.firing.Firing.{Firing};
 ghost use Rattle.sdf_prec.specs.Tables.{firing};
-ghost use Rattle.sdf_prec.specs.Trying.{load, IsPlace};
-ghost use Rattle.sdf_prec.specs.Placing.{IsOpen, IsBest, IsNowhere, IsPlacing, AreWaiting};
+ghost use Rattle.sdf_prec.specs.Trying.{IsPlace};
+ghost use Rattle.sdf_prec.specs.Placing.{AreWeights, load_by, IsOpen, IsBest, IsNowhere, IsPlacing, AreWaiting};
 
 use crate::firing::Firing;
 use sdf_graph::laws::sums_rise;
@@ -12,10 +12,8 @@ use std::alloc::{AllocError, Global};
 
 /// The weights of the actors at home in a column.
 fn load_of(weights: &[u64], homes: &[Option<usize>], column: usize) -> u64
-    requires all { length weights.now ≡ length homes.now }
-    requires few { length homes.now ≤ 64 }
-    requires small { (a : ℕ) → a < length homes.now → slice_index weights.now a ≤ 65536000000 }
-    ensures { result ≡ load (length homes.now) (slice_index weights.now) (λ a. slice_index_or homes.now a None) column }
+    requires weights { AreWeights weights.now homes.now }
+    ensures { result ≡ load_by weights.now homes.now column }
 {
     sums_rise();
     let mut load = 0;
@@ -38,10 +36,8 @@ fn is_open(until: &[u64], now: u64, cells: &[Option<Firing>], column: usize) -> 
 
 /// Whether a column has less load than the best one so far.
 fn is_lighter(weights: &[u64], homes: &[Option<usize>], column: usize, best: Option<usize>) -> bool
-    requires all { length weights.now ≡ length homes.now }
-    requires few { length homes.now ≤ 64 }
-    requires small { (a : ℕ) → a < length homes.now → slice_index weights.now a ≤ 65536000000 }
-    ensures { IsTrue result ↔ ((b : ℕ) → best ≡ Some b → load (length homes.now) (slice_index weights.now) (λ a. slice_index_or homes.now a None) column < load (length homes.now) (slice_index weights.now) (λ a. slice_index_or homes.now a None) b) }
+    requires weights { AreWeights weights.now homes.now }
+    ensures { IsTrue result ↔ ((b : ℕ) → best ≡ Some b → load_by weights.now homes.now column < load_by weights.now homes.now b) }
 {
     match best {
         Some(other) => load_of(weights, homes, column) < load_of(weights, homes, other),
@@ -58,10 +54,8 @@ fn least_open(
     homes: &[Option<usize>],
 ) -> Option<usize>
     requires wide { length cells.now ≡ length until.now }
-    requires all { length weights.now ≡ length homes.now }
-    requires few { length homes.now ≤ 64 }
-    requires small { (a : ℕ) → a < length homes.now → slice_index weights.now a ≤ 65536000000 }
-    ensures { IsBest (length until.now) (IsOpen until.now now cells.now) (load (length homes.now) (slice_index weights.now) (λ a. slice_index_or homes.now a None)) result }
+    requires weights { AreWeights weights.now homes.now }
+    ensures { IsBest (length until.now) (IsOpen until.now now cells.now) (load_by weights.now homes.now) result }
 {
     let mut best = None;
     for column in 0..until.len() {
@@ -83,12 +77,10 @@ fn column_for(
 ) -> Option<usize>
     requires home { (j : ℕ) → home ≡ Some j → j < length until.now }
     requires wide { length cells.now ≡ length until.now }
-    requires all { length weights.now ≡ length homes.now }
-    requires few { length homes.now ≤ 64 }
-    requires small { (a : ℕ) → a < length homes.now → slice_index weights.now a ≤ 65536000000 }
+    requires weights { AreWeights weights.now homes.now }
     ensures { MatchOption result
         (IsNowhere (length until.now) (IsOpen until.now now cells.now) home)
-        (IsPlace (length until.now) (IsOpen until.now now cells.now) (load (length homes.now) (slice_index weights.now) (λ a. slice_index_or homes.now a None)) home) }
+        (IsPlace (length until.now) (IsOpen until.now now cells.now) (load_by weights.now homes.now) home) }
 {
     match home {
         Some(column) => {
@@ -112,9 +104,7 @@ pub(crate) fn place(
     weights: &[u64],
     homes: &mut [Option<usize>],
 ) -> Result<Vec<Option<Firing>>, AllocError>
-    requires all { length weights.now ≡ length homes.old }
-    requires few { length homes.old ≤ 64 }
-    requires small { (a : ℕ) → a < length homes.old → slice_index weights.now a ≤ 65536000000 }
+    requires weights { AreWeights weights.now homes.old }
     requires known { (p : ℕ) → p < length queue.now → (firing queue.now p).actor < length homes.old }
     requires once { (p m : ℕ) → p < m → m < length queue.now → firing queue.now p ≡ firing queue.now m → ⊥ }
     requires inside { (a j : ℕ) → slice_index_or homes.old a None ≡ Some j → j < length until.now }

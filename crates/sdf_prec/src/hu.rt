@@ -11,6 +11,7 @@ ghost use Rattle.sdf_prec.specs.HuTables.{IsHuTable};
 use crate::block::{block_firings, size_fault};
 use crate::costs::Costs;
 use crate::crew::{Job, timed_rows};
+use crate::facts::graph_laws;
 use crate::fault::PrecFault;
 use crate::levels::levels;
 use crate::table::Table;
@@ -53,6 +54,7 @@ pub fn hu(
         (IsSizeFault j m period.now.repetitions) }
 {
     graph.channels();
+    graph_laws();
     if let Some(fault) = size_fault(j, m, period.repetitions()) {
         return Err(fault);
     }

@@ -1,9 +1,11 @@
-//! Worked rows: a source of 2 to a sink of 3, and a fork of two ways, with costs of 1 and more.
+//! Worked rows and levels: a source of 2 to a sink of 3, and a fork of two ways, with costs of 1 and more.
 
 use crate::costs::Costs;
 use crate::fault::PrecFault;
 use crate::hu::hu;
+use crate::levels::levels;
 use crate::table::Table;
+use crate::tests::level;
 use sdf_graph::{Channel, Graph};
 use sdf_sched::Round;
 use sdf_sched::class_s::class_s;
@@ -131,5 +133,33 @@ fn weighs_costs(rt: HostRuntime) -> Result<(), Fail> {
         actors_of(alloc, &dearer)?.as_slice(),
         [0, 9, 9, 1, 2, 3, 9, 4, 5, 9, 6, 9].as_slice()
     );
+    Ok(())
+}
+
+/// The level of each actor's first firing.
+fn levels_of(alloc: Global, graph: &Graph, costs: &[u32]) -> Result<Vec<u64>, Fail> {
+    let reps = graph.repetitions(alloc)?;
+    let period = class_s(alloc, graph, &reps, &mut Round::new())?;
+    let costs = Costs::new(graph, Vec::from_slice(alloc, costs)?)?;
+    let of = levels(alloc, graph, &period, 1, &costs)?;
+    let mut found = Vec::new(alloc);
+    for actor in 0..graph.actors() {
+        found.push(level(&of, actor, 0))?;
+    }
+    Ok(found)
+}
+
+#[test]
+fn sums_costs_along_ways(rt: HostRuntime) -> Result<(), Fail> {
+    let alloc = rt.alloc();
+    let even = levels_of(alloc, &fork(alloc)?, &[1, 1, 1, 1, 1, 1])?;
+    assert_eq!(rt; even.as_slice(), [5, 4, 3, 3, 2, 1].as_slice());
+    let graph = longer_fork(alloc)?;
+    let longer = levels_of(alloc, &graph, &[1, 1, 1, 1, 1, 1, 1])?;
+    assert_eq!(rt; longer.as_slice(), [6, 5, 3, 4, 3, 2, 1].as_slice());
+    let dear = levels_of(alloc, &graph, &[1, 1, 3, 1, 1, 1, 1])?;
+    assert_eq!(rt; dear.as_slice(), [7, 6, 5, 4, 3, 2, 1].as_slice());
+    let dearer = levels_of(alloc, &graph, &[1, 4, 3, 1, 1, 1, 1])?;
+    assert_eq!(rt; dearer.as_slice(), [10, 9, 5, 4, 3, 2, 1].as_slice());
     Ok(())
 }

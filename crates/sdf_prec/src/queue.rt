@@ -1,4 +1,4 @@
-// Which firings are ready, in the order in which they are tried.
+//! Which firings are ready, in the order in which they are tried.
 
 ghost use Rattle.std.specs.Prelude.{◌≡◌, ℕ, ◌<◌, ◌≤◌, ◌↔◌, length, slice_index, IsTrue, IfOk};
 ghost use Rattle.sdf_graph.specs.Rates.{rates};

@@ -1,4 +1,4 @@
-// The actors of the firings of rows, in row order.
+//! The actors of the firings of rows, in row order.
 
 ghost use Rattle.std.specs.Prelude.{◌≡◌, ◌++◌, map, IfOk};
 ghost use Rattle.sdf_prec.specs.Tables.{firings, sequence};

@@ -1,4 +1,4 @@
-// Rows filled up to a width, and those left out in which nothing stands.
+//! Rows filled up to a width, and those left out in which nothing stands.
 
 ghost use Rattle.std.specs.Prelude.{◌≡◌, ℕ, ◌<◌, ◌↔◌, length, map, IfOk, IsTrue};
 ghost use Rattle.sdf_prec.specs.Tables.{firings};
@@ -10,7 +10,7 @@ use std::alloc::{AllocError, Global};
 
 /// Whether a firing stands in a row.
 #[tactic(auto, using(crate::proofs::RowCells::stands_at, crate::proofs::Marks::firings_none))]
-fn has_firing(row: &[Option<Firing>]) -> bool
+pub(crate) fn has_firing(row: &[Option<Firing>]) -> bool
     ensures { IsTrue result ↔ 0 < length (firings row.now) }
 {
     for cell in row {

@@ -1,7 +1,6 @@
-// Rows with the times at which they start.
+//! Rows with the times at which they start.
 
-ghost use Rattle.std.specs.Prelude.{◌≡◌, ◌↔◌, [], IsTrue, IfOk, map};
-ghost use Rattle.sdf_prec.specs.Tables.{firings};
+ghost use Rattle.std.specs.Prelude.{◌≡◌, IfOk, map};
 ghost use Rattle.sdf_prec.specs.TimedRows.{cells_of};
 
 use crate::firing::Firing;
@@ -21,19 +20,6 @@ impl Model for TimedRow {
     ghost Value = { Timed };
 
     ghost view = { λ r. record { start = r.start; cells = r.cells.items } };
-}
-
-/// Whether nothing stands in a row.
-#[tactic(auto, using(crate::proofs::Crews::nothing_stands))]
-pub(crate) fn is_empty(cells: &[Option<Firing>]) -> bool
-    ensures { IsTrue result ↔ (firings cells.now ≡ []) }
-{
-    for cell in cells {
-        if cell.is_some() {
-            return false;
-        }
-    }
-    true
 }
 
 /// The rows without their times.

@@ -1,4 +1,4 @@
-// The law on unit costs, the contract of a function that does nothing.
+//! The law on unit costs, the contract of a function that does nothing.
 
 ghost use Rattle.sdf_prec.specs.UnitRows.{UnitFreeRowsArePlain, UnitHomedRowsArePlain};
 

@@ -14,7 +14,7 @@ overflow_add-number c =
     let a : ℕ = get_or w i 0 in
     let known = c.requires.known i c.loop-actor-test.true in
     let read = get_or_read c.loop-actor.done.items a c.index-number.result.now (omega (arith, known, c.loop-actor.invariant.each)) c.index-number.ensures 0 in
-    omega (arith, read, c.loop-actor.invariant.done a known, times_small w i a (omega (arith, c.loop-actor-test.true)), c.loop-actor-test.true, c.requires.few)
+    omega (arith, read, c.loop-actor.invariant.done a known, times_small c.graph_laws.ensures w i a (omega (arith, c.loop-actor-test.true)), c.loop-actor-test.true, c.requires.few)
 
 pub home_of-home-requires : goal.home_of-home-requires
 home_of-home-requires c =
@@ -41,7 +41,7 @@ loop-actor-preserved c =
     let is : c.in_ok-row.row.items ≡ set (replicate c.args.m None) home.0 (Some (firing_at w i)) = c.in_ok-row.ensures ∙ (λ k. set (replicate c.args.m None) (at k) (Some (its k))) in
     record {
       each = length-set done a (number + 1) ∙ c.loop-actor.invariant.each;
-      done = counts_more w done i c.args.actors (number + 1) c.loop-actor-test.true known c.loop-actor.invariant.each c.loop-actor.invariant.done (ap (λ k. k + 1) read);
+      done = counts_more c.graph_laws.ensures w done i c.args.actors (number + 1) c.loop-actor-test.true known c.loop-actor.invariant.each c.loop-actor.invariant.done (ap (λ k. k + 1) read);
       rows = rw (c.in_ok-push.ensures.items, map_push (λ (r : Vec (Option Firing) Global). r.items) c.loop-actor.rows.items c.in_ok-row.row)
           (by_homes_more c.args.homes.now c.args.m w i home.0 (map (λ r. r.items) c.loop-actor.rows.items) c.in_ok-row.row.items c.loop-actor-test.true c.loop-actor.invariant.rows home.1 is);
     }

@@ -1,6 +1,6 @@
-use Rattle.std.proofs.Common.{◌≡◌, ℕ, ◌+◌, ◌-◌, ◌≤◌, ◌<◌, length, get_or, sum, sym, ap, ◌∙◌, subst, arith, None}
+use Rattle.std.proofs.Common.{◌≡◌, ◌≤◌, ◌<◌, length, sum, sym, ap, ◌∙◌, subst, arith}
 use Rattle.std.proofs.lemmas.List.{length-replicate}
-use Rattle.sdf_graph.specs.Rates.{Shape, rates}
+use Rattle.sdf_graph.specs.Rates.{Shape}
 use Rattle.sdf_graph.specs.Tally.{Tally}
 use Rattle.sdf_prec.specs.Crew.{IsCrew}
 use Rattle.sdf_prec.specs.Numbers.{number}
@@ -30,7 +30,7 @@ loop-next-smaller c =
     let e = c.in_ok-turn.ensures in
     let same = ap (λ (g : Shape). g.actors) e.graph in
     let its = ap (λ (g : Shape). g.actors) v.graph in
-    let few : sum c.turn.new.crew.counts.fired ≤ sum c.args.job.now.firings.now = few_ended _ _ _ _ _ _ _ _ _ _ e.done.floor (e.crew.fired_all ∙ same) (c.requires.job.firings_all ∙ sym its) in
+    let few : sum c.turn.new.crew.counts.fired ≤ sum c.args.job.now.firings.now = few_ended _ _ _ _ _ _ _ _ _ _ e.done.floor (e.crew.fired_all ∙ same) (c.requires.job.firings_all ∙ sym its) c.sums_rise.ensures.lists in
     let more : sum c.loop-next.crew.counts.fired < sum c.turn.new.crew.counts.fired = e.more in
     omega arith
 

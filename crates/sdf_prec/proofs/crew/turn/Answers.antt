@@ -1,8 +1,5 @@
-use Rattle.std.proofs.Common.{◌≡◌, ℕ, ◌<◌, List, length, get_or, sum, sym, ap, ◌∙◌, subst, arith, None}
+use Rattle.std.proofs.Common.{◌≡◌, length, sym, ap, ◌∙◌}
 use Rattle.sdf_graph.specs.Rates.{Shape, rates}
-use Rattle.sdf_prec.specs.Numbers.{number}
-use Rattle.sdf_prec.specs.Floor.{AreEnded, IsDue}
-use Rattle.sdf_prec.specs.Crew.{IsCrew}
 use Rattle.sdf_prec.proofs.Shifts.{shift_due, shift_sum, shift_early}
 use Rattle.sdf_prec.proofs.crew.turn.Goals as goal
 
@@ -13,7 +10,7 @@ add_row-requires-clause-crew c =
     let r = rates crew.counts.graph in
     let ended = rw (c.deref.ensures.value, c.deref-2.ensures.value) at c.end_by.ensures.ended in
     let ends_all : length crew.ends.items ≡ r.actors = k.ends_all in
-    let early = shift_early r _ _ _ _ _ _ c.args.now c.args.next crew.counts.fired c.end_by.new.counts.fired crew.ends.items _ _ _ c.requires.sound c.requires.done ends_all c.requires.next ended k.fired_all k.early k.soon in
+    let early = shift_early r _ _ _ _ _ _ c.args.now c.args.next crew.counts.fired c.end_by.new.counts.fired crew.ends.items _ _ _ c.requires.sound c.requires.done ends_all c.requires.next ended c.sums_rise.ensures.lists k.fired_all k.early k.soon in
     let same = ap (λ (g : Shape). g.actors) (sym c.end_by.ensures.same) in
     record {
       fired_all = ended.all ∙ (k.fired_all ∙ same);
@@ -41,7 +38,7 @@ returns-clause-more c =
     let k = c.requires.crew in
     let r = rates crew.counts.graph in
     let ended = rw (c.deref.ensures.value, c.deref-2.ensures.value) at c.end_by.ensures.ended in
-    let more = shift_sum r _ _ _ _ _ _ c.args.now c.args.next crew.counts.fired c.end_by.new.counts.fired crew.ends.items _ _ _ c.requires.sound c.requires.done k.ends_all c.requires.next ended k.fired_all in
+    let more = shift_sum r _ _ _ _ _ _ c.args.now c.args.next crew.counts.fired c.end_by.new.counts.fired crew.ends.items _ _ _ c.requires.sound c.requires.done k.ends_all c.requires.next ended c.sums_rise.ensures.lists k.fired_all in
     rw c.add_row.ensures.counts more
 
 pub returns-clause-done : goal.returns-clause-done

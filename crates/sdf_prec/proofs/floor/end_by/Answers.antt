@@ -1,8 +1,6 @@
-use Rattle.std.proofs.Common.{◌≡◌, ℕ, ◌+◌, ◌≤◌, ◌<◌, ◌⊎◌, List, length, get_or, set, refl, ap, ◌∙◌, sym, subst, inl, inr, arith}
+use Rattle.std.proofs.Common.{◌≡◌, ℕ, ◌+◌, ◌<◌, length, get_or, refl, ◌∙◌, inl, inr, arith}
 use Rattle.std.proofs.lemmas.List.{length-set}
 use Rattle.sdf_graph.specs.Rates.{rates}
-use Rattle.sdf_graph.specs.Tally.{Tally}
-use Rattle.sdf_prec.specs.Floor.{AreEnded}
 use Rattle.sdf_prec.proofs.Starts.{ending_begins, ending_more, ending_skips}
 use Rattle.sdf_prec.proofs.floor.end_by.Goals.{then-fired-started+then-ends-actor, else-fired-started, else-fired-started-via-then-fired-started+else-ends-actor, else-fired-started-via-else-fired-started}
 use Rattle.sdf_prec.proofs.floor.end_by.Goals as goal
@@ -33,7 +31,7 @@ loop-actor-preserved c =
           rw (w.counts-is, w.fire.ensures) (record {
             same = v.same;
             each = length-set fired i (get_or fired i 0 + 1) ∙ v.each;
-            ended = ending_more r c.args.now i started ends old fired v.ended c.requires.sound l last w.if-ends-actor.true;
+            ended = ending_more r c.args.now i started ends old fired v.ended c.enabled_stays.ensures c.requires.sound l last w.if-ends-actor.true;
           })
       | else-fired-started w ↦
           rw w.counts-is (record {

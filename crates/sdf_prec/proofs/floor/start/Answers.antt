@@ -1,6 +1,5 @@
-use Rattle.std.proofs.Common.{◌≡◌, ℕ, ◌+◌, List, length, get_or, set, ap, ◌∙◌, subst, sym, arith}
+use Rattle.std.proofs.Common.{◌≡◌, ℕ, ◌+◌, get_or, ◌∙◌, arith}
 use Rattle.std.proofs.lemmas.List.{length-set}
-use Rattle.sdf_prec.specs.Floor.{AreStarted}
 use Rattle.sdf_prec.proofs.Starts.{starting_more, starting_skips}
 use Rattle.sdf_prec.proofs.floor.start.Goals.{in-Some, in_default}
 use Rattle.sdf_prec.proofs.floor.start.Goals as goal

@@ -1,7 +1,7 @@
-use Rattle.std.proofs.Common.{ℕ, length, get_or, refl, sym, ◌∙◌, None}
+use Rattle.std.proofs.Common.{ℕ, length, get_or, sym, ◌∙◌, None}
 use Rattle.std.proofs.lemmas.Bool.{false≢true}
 use Rattle.sdf_prec.specs.Trying.{load}
-use Rattle.sdf_prec.specs.Placing.{IsOpen, IsBest}
+use Rattle.sdf_prec.specs.Placing.{IsOpen}
 use Rattle.sdf_prec.proofs.Bests.{best_new, best_kept}
 use Rattle.sdf_prec.proofs.homing.least_open.Goals.{then-is_open+then-is_lighter, else-is_open, else-is_open-via-then-is_open+else-is_lighter, else-is_open-via-else-is_open}
 use Rattle.sdf_prec.proofs.homing.least_open.Goals as goal

@@ -1,4 +1,4 @@
-use Rattle.std.proofs.Common.{◌≡◌, ℕ, ◌+◌, ◌*◌, ◌≤◌, ◌<◌, List, length, get_or, sum, arith, sym, ap, ◌∙◌, subst}
+use Rattle.std.proofs.Common.{◌≡◌, ℕ, length, get_or, sum, arith, sym, ap, ◌∙◌, subst}
 use Rattle.sdf_graph.specs.Rates.{rates}
 use Rattle.sdf_graph.specs.Sequences.{IsPass, repeated}
 use Rattle.sdf_prec.specs.Blocks.{IsShort, block}
@@ -40,7 +40,7 @@ timed_rows-requires-clause-pass c =
     let g = c.args.graph.now in
     let p = c.args.period.now in
     let firings_is : c.in_ok-firings.firings.items ≡ block c.args.j p.repetitions = c.in_ok-firings.ensures ∙ ap (block c.args.j) c.repetitions-2.ensures in
-    let pass = subst (λ n. IsPass (rates g) (λ a. get_or n a 0) (repeated c.args.j p.order)) (sym firings_is) (block_pass g c.channels.ensures.shape p c.requires.period c.args.j) in
+    let pass = subst (λ n. IsPass (rates g) (λ a. get_or n a 0) (repeated c.args.j p.order)) (sym firings_is) (block_pass c.graph_laws.ensures g c.channels.ensures.shape p c.requires.period c.args.j) in
     rw c.deref-2.ensures.value (repeated c.args.j p.order, pass)
 
 pub of_rows-requires : goal.of_rows-requires

@@ -1,21 +1,13 @@
-use Rattle.std.proofs.Common.{◌≡◌, ℕ, ◌++◌, ◌∷◌, [], ◌-◌, ◌≤◌, ◌<◌, List, length, map, take, replicate, Vec, Global, Option, None, sym, ap, ◌∙◌, subst, arith, inl, inr, ◌⊎◌, Bool, false}
+use Rattle.std.proofs.Common.{◌≡◌, ℕ, ◌++◌, ◌∷◌, [], ◌-◌, ◌≤◌, ◌<◌, List, length, map, take, replicate, Vec, Global, Option, None, sym, ap, ◌∙◌, subst, arith}
 use Rattle.std.specs.Prelude.{IsTrue, vec_len}
-use Rattle.std.proofs.lemmas.Bool.{cases_lt, false≢true}
 use Rattle.std.proofs.lemmas.List.{length-map, map_push, take_all}
 use Rattle.sdf_prec.specs.declared.firing.Firing.{Firing}
 use Rattle.sdf_prec.specs.Tables.{firings, row}
 use Rattle.sdf_prec.specs.Tidied.{filled}
 use Rattle.sdf_prec.proofs.RowMarks.{row_read}
-use Rattle.sdf_prec.proofs.Keeping.{tidied_some, tidied_none}
+use Rattle.sdf_prec.proofs.Keeping.{tidied_some, tidied_none, not_some}
 use Rattle.sdf_prec.proofs.tidy.tidied.Goals.{then-has_firing+in_ok-full+in_ok-resize+in_ok-push, else-has_firing}
 use Rattle.sdf_prec.proofs.tidy.tidied.Goals as goal
-
-not_some : (b : Bool) (n : ℕ) → b ≡ false → (0 < n → IsTrue b) → n ≤ 0
-not_some b n e some = go (cases_lt 0 n)
-  where
-    go : (0 < n) ⊎ (n ≤ 0) → n ≤ 0
-    go (inl l) = absurd (false≢true (subst IsTrue e (some l)))
-    go (inr h) = h
 
 pub loop-row-preserved : goal.loop-row-preserved
 loop-row-preserved c =

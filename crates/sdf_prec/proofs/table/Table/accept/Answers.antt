@@ -1,4 +1,5 @@
 use Rattle.std.proofs.Common.{◌≡◌, ℕ, ◌+◌, ◌≤◌, List, get_or, sum, map, Option, sym, ap, ◌∙◌, subst, arith}
+use Rattle.sdf_limits.specs.declared.TheConstants.{MOST_BLOCK}
 use Rattle.sdf_graph.specs.Rates.{rates}
 use Rattle.sdf_prec.specs.declared.firing.Firing.{Firing}
 use Rattle.sdf_prec.specs.Blocks.{block}
@@ -30,7 +31,7 @@ of_rows-requires c =
     let valid = valid_if_none c.tests_suffice.ensures c.needs_exist.ensures g c.channels.ensures.shape (c.graphs_are_sound.ensures g c.channels.ensures.shape) reps c.args.j m
     c.in_ok-fault.field-0 (map (λ r. r.items) c.deref.result.now) rs c.in_ok-firings.firings.items c.in_default-2.is (ap (map (λ r. r.items)) c.deref.ensures.value) c.in_ok-firings.ensures c.in_ok-fault.ensures in
     let kept : map (λ r. r.items) c.in_ok-kept.kept.items ≡ tidied m rs = c.in_ok-kept.ensures ∙ ap (λ xs. tidied m (map (λ r. r.items) xs)) c.deref-2.ensures.value in
-    (n, subst (IsValid (rates g) n) (sym kept) (tidied_valid m rs (rates g) n valid.1), one_of_all (block c.args.j reps) 65536 (omega (arith, block_sum c.args.j reps, c.in_default.ensures.2)))
+    (n, subst (IsValid (rates g) n) (sym kept) (tidied_valid m rs (rates g) n valid.1), one_of_all (block c.args.j reps) MOST_BLOCK (omega (arith, block_sum c.args.j reps, c.in_default.ensures.2)))
 
 pub returns : goal.returns
 returns c =
