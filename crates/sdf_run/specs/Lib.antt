@@ -4,5 +4,6 @@ pub mod Sizes
 pub mod Firings
 pub mod Runs
 pub mod Answer
+pub mod AtOnce
 pub mod Sweeps
 pub mod Twice

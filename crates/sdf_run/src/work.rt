@@ -1,11 +1,12 @@
 //! Nodes at work.
 
-ghost use Rattle.std.specs.Prelude.{◌≡◌, ◌+◌, ◌<◌, ◌≤◌, ◌++◌, ℕ, length, slice_index, take};
+ghost use Rattle.std.specs.Prelude.{◌≡◌, ◌+◌, ◌*◌, ◌<◌, ◌≤◌, ◌++◌, ℕ, length, slice_index, take, drop, IsTrue};
 ghost use Rattle.std.specs.List.{sum_by};
 ghost use Rattle.sdf_actor.specs.Histories.{spread};
-ghost use Rattle.sdf_actor.specs.Steps.{total_in, total_out};
+ghost use Rattle.sdf_actor.specs.Steps.{total_in, total_out, sum_in, sum_out, state_at, puts_to};
 ghost use Rattle.sdf_actor.specs.Wires.{lists};
-ghost use Rattle.sdf_run.specs.Blocks.{samples, room, ArePorts, HaveRoom};
+ghost use Rattle.sdf_run.specs.AtOnce.{fronts};
+ghost use Rattle.sdf_run.specs.Blocks.{samples, room, at_ports, ArePorts, HaveRoom};
 
 use crate::block::{put_block, take_block};
 use crate::queue::Queue;
@@ -76,8 +77,61 @@ fn put_front<T: Copy>(ports: &Ports, block: &Vec<T>, many: usize, queues: &mut [
     put_block(ports.channels, ports.sizes, &block[..many], queues);
 }
 
+/// So many blocks of a size, within a limit.
+fn blocks(times: usize, size: usize, _most: usize) -> usize
+    requires { times * size ≤ _most }
+    ensures { result ≡ times * size }
+{
+    times * size
+}
+
+/// Fires an actor so many times at once, from one queue's memory to another's.
+fn fire_through<A: Actor>(
+    actor: &A,
+    phase: u32,
+    times: usize,
+    state: &mut A::State,
+    filler: A::Token,
+    ins: &Ports,
+    outs: &Ports,
+    queues: &mut [Queue<A::Token>],
+)
+    requires phase { phase < A.steps.cycle actor.now }
+    requires ins { ArePorts ins.now.channels.now ins.now.sizes.now (length queues.old) }
+    requires outs { ArePorts outs.now.channels.now outs.now.sizes.now (length queues.old) }
+    requires one_in { length ins.now.channels.now ≡ 1 }
+    requires one_out { length outs.now.channels.now ≡ 1 }
+    requires apart { slice_index ins.now.channels.now 0 ≡ slice_index outs.now.channels.now 0 → ⊥ }
+    requires taken { times * slice_index ins.now.sizes.now (slice_index ins.now.channels.now 0) ≡ sum_in A.steps actor.now phase times }
+    requires put { times * slice_index outs.now.sizes.now (slice_index outs.now.channels.now 0) ≡ sum_out A.steps actor.now phase times }
+    requires held { times * slice_index ins.now.sizes.now (slice_index ins.now.channels.now 0) ≤ length (samples queues.old (slice_index ins.now.channels.now 0)) }
+    requires room { length (samples queues.old (slice_index outs.now.channels.now 0)) + times * slice_index outs.now.sizes.now (slice_index outs.now.channels.now 0) ≤ room queues.old (slice_index outs.now.channels.now 0) }
+    ensures state { state.new ≡ state_at A.steps actor.now phase state.old (fronts times ins.now.sizes.now ins.now.channels.now queues.old) times }
+    ensures queues { (c : ℕ) → c < length queues.old → samples queues.new c ≡ drop (at_ports ins.now.channels.now (times * slice_index ins.now.sizes.now c) c) (samples queues.old c) ++
+        spread (λ d. times * slice_index outs.now.sizes.now d) outs.now.channels.now (puts_to A.steps actor.now phase state.old (fronts times ins.now.sizes.now ins.now.channels.now queues.old) times) c }
+    ensures rooms { (c : ℕ) → c < length queues.old → room queues.new c ≡ room queues.old c }
+{
+    let from = ins.channels[0];
+    let to = outs.channels[0];
+    let many = blocks(times, ins.sizes[from], queues[from].len());
+    let more = blocks(times, outs.sizes[to], queues[to].room());
+    let mut target = queues[to].lift();
+    target.put_fired(
+        actor,
+        phase,
+        times,
+        state,
+        queues[from].oldest(many),
+        more,
+        filler,
+    );
+    queues[from].release(many);
+    queues[to] = target;
+}
+
 impl<'a, A: Actor> Work<'a, A> {
     ghost use Rattle.sdf_run.specs.Firings.{phase_at, CanFire, IsFired};
+    ghost use Rattle.sdf_run.specs.AtOnce.{GoesAtOnce, CanFireAtOnce, AreFired};
 
     /// The phase of the next firing.
     pub(crate) fn phase(&self) -> u32
@@ -123,6 +177,53 @@ impl<'a, A: Actor> Work<'a, A> {
                 put_front(outs, put, many, queues);
                 *phase = next_phase(*phase, actor.cycle());
             }
+        }
+    }
+
+    /// Whether its firings can be done at once, where these are its channels.
+    pub(crate) fn goes_at_once(&self, ins: &[usize], outs: &[usize]) -> bool
+        ensures { IsTrue result → GoesAtOnce A.steps self.now ins.now outs.now }
+    {
+        match self {
+            Work::Inner { actor, .. } => {
+                actor.cycle() == 1 && ins.len() == 1 && outs.len() == 1 && ins[0] != outs[0]
+            }
+            _ => true,
+        }
+    }
+
+    /// So many firings at once: from the channel into the node all that they take is taken, and on the channel out of it all
+    /// that they put is put.
+    pub(crate) fn fire_at_once(
+        &mut self,
+        times: usize,
+        filler: A::Token,
+        ins: &Ports,
+        outs: &Ports,
+        inputs: &[Vec<A::Token>],
+        queues: &mut [Queue<A::Token>],
+        outputs: &mut [Vec<A::Token>],
+    )
+        requires { CanFireAtOnce A.steps (lists inputs.now) times ins.now.channels.now outs.now.channels.now ins.now.sizes.now outs.now.sizes.now self.old queues.old outputs.old }
+        ensures { AreFired A.steps (lists inputs.now) times ins.now.channels.now outs.now.channels.now ins.now.sizes.now outs.now.sizes.now self.old self.new queues.old queues.new outputs.old outputs.new }
+    {
+        match self {
+            Work::Source { ext, next, block } => {
+                let last = *next + *block * times;
+                queues[outs.channels[0]].put(&inputs[*ext][*next..last]);
+                *next = last;
+            }
+            Work::Sink { ext } => {
+                let from = ins.channels[0];
+                let many = blocks(times, ins.sizes[from], queues[from].len());
+                queues[from].take(many, &mut outputs[*ext]);
+            }
+            Work::Inner {
+                actor,
+                phase,
+                state,
+                ..
+            } => fire_through(*actor, *phase, times, state, filler, ins, outs, queues),
         }
     }
 }
