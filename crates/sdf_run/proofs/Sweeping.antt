@@ -17,7 +17,7 @@ use Rattle.sdf_run.specs.declared.run.Run.{Run}
 use Rattle.sdf_run.specs.Held.{Held}
 use Rattle.sdf_run.specs.Blocks.{room, ArePorts, HoldBlocks}
 use Rattle.sdf_run.specs.Sizes.{phase_of, at_phase}
-use Rattle.sdf_run.specs.Firings.{phase_at}
+use Rattle.sdf_run.specs.Firings.{phase_at, IsActor}
 use Rattle.sdf_run.specs.AtOnce.{GoesAtOnce, CanFireAtOnceAt, AreFiredAt}
 use Rattle.sdf_run.specs.Runs.{Stands, FiresAlone, CanFireAt, IsFiredAt}
 use Rattle.sdf_run.specs.Answer.{periods_of}
@@ -223,13 +223,11 @@ module _ {A S T : Type 0} (s : Steps A S T) (r : Run A T S) (sw : IsSwept s r) (
       stays = λ e. absurd (true≢false e);
     }
 
--- a firing of a node that may fire
-module _ {A S T : Type 0} (s : Steps A S T) (r : Run A T S) (sw : IsSwept s r) (net : Known s r.net.now) (a : ℕ) (may : MayFire s r a) where
+-- a firing of an actor that may fire
+module _ {A S T : Type 0} (s : Steps A S T) (r : Run A T S) (sw : IsSwept s r) (net : Known s r.net.now) (a : ℕ) (may : MayFire s r a)
+    (actor : (d : Work A T S) → IsActor (get_or r.works.items a d)) where
   next : get_or r.done.items a 0 + 1 ≤ r.high * get_or r.repetitions.now a 0
   next = omega (arith, may.1)
-
-  left : get_or r.done.items a 0 < periods_of r.repetitions.now r.periods a
-  left = omega (arith, within s r sw net a may.0 1 next a may.0, own s r sw net a may.0 1 next)
 
   pub can_fire : CanFireAt s r a
   can_fire = record {
@@ -241,7 +239,7 @@ module _ {A S T : Type 0} (s : Steps A S T) (r : Run A T S) (sw : IsSwept s r) (
     few = omega (arith, few s r sw net a may.0 1 next);
     can = λ d.
         standing.can_fire s r.net.now net r.sizes sw.sizes (lists r.inputs.now) (periods_of r.repetitions.now r.periods) (λ b. get_or r.done.items b 0) a may.0 r.works.items r.queues.items r.outputs.items sw.stands d
-        (after s r sw net a may.0 1 next) may.2 (own s r sw net a may.0 1 next) (others s r sw net a may.0 1 next) left (reached s r sw net a may.0 1 next) (rooms s r sw net a may.0 1 next);
+        (after s r sw net a may.0 1 next) may.2 (own s r sw net a may.0 1 next) (others s r sw net a may.0 1 next) (reached s r sw net a may.0 1 next) (actor d) (rooms s r sw net a may.0 1 next);
   }
 
   module _ (r' : Run A T S) (fired : IsFiredAt s r r' a) where
@@ -250,10 +248,11 @@ module _ {A S T : Type 0} (s : Steps A S T) (r : Run A T S) (sw : IsSwept s r) (
 
     stands : Stands s r.net.now (lists r.inputs.now) (periods_of r.repetitions.now r.periods) (after s r sw net a may.0 1 next) r'.works.items r'.queues.items r'.outputs.items
     stands =
-        standing.fired_stands s r.net.now net r.sizes sw.sizes (lists r.inputs.now) (periods_of r.repetitions.now r.periods) (λ b. get_or r.done.items b 0) a may.0 r.works.items r.queues.items r.outputs.items sw.stands filler
-        (after s r sw net a may.0 1 next) may.2 (own s r sw net a may.0 1 next) (others s r sw net a may.0 1 next) left (reached s r sw net a may.0 1 next)
-        sw.apart (get_or r'.works.items a filler) r'.queues.items r'.outputs.items (fired.fired filler) fired.alone.queues fired.alone.outputs r'.works.items fired.alone.works
-        (λ e. get_or_default r'.works.items a e filler (omega (arith, fired.alone.works, sw.stands.nodes, may.0))) fired.alone.others
+        subst (λ x. Stands s r.net.now (lists r.inputs.now) (periods_of r.repetitions.now r.periods) (after s r sw net a may.0 1 next) r'.works.items r'.queues.items x.items) (sym fired.lists)
+        (standing.fired_stands s r.net.now net r.sizes sw.sizes (lists r.inputs.now) (periods_of r.repetitions.now r.periods) (λ b. get_or r.done.items b 0) a may.0 r.works.items r.queues.items r.outputs.items sw.stands filler
+        (after s r sw net a may.0 1 next) may.2 (own s r sw net a may.0 1 next) (others s r sw net a may.0 1 next) (reached s r sw net a may.0 1 next) (actor filler)
+        (get_or r'.works.items a filler) r'.queues.items (fired.fired filler) fired.alone.queues r'.works.items fired.alone.works
+        (λ e. get_or_default r'.works.items a e filler (omega (arith, fired.alone.works, sw.stands.nodes, may.0))) fired.alone.others)
 
     pub swept : IsSwept s r'
     swept = swept_on s r sw net a may.0 1 next r' fired.alone (fired.fired filler).rooms stands
@@ -267,6 +266,9 @@ pub goes_at : {A S T : Type 0} (s : Steps A S T) (r : Run A T S) (a : ℕ) → a
 goes_at s r a known w ins outs is into from goes d =
     subst (λ x. GoesAtOnce s x ((wiring s r.net.now).ins a) ((wiring s r.net.now).outs a)) (is ∙ get_or_default r.works.items a w d known)
     (subst (λ x. GoesAtOnce s w x ((wiring s r.net.now).outs a)) into (subst (λ x. GoesAtOnce s w ins x) from goes))
+
+pub actor_at : {A S T : Type 0} (works : List (Work A T S)) (a : ℕ) → a < length works → (w : Work A T S) → w ≡ get_or works a w → IsActor w → (d : Work A T S) → IsActor (get_or works a d)
+actor_at works a known w is actor d = subst IsActor (is ∙ get_or_default works a w d known) actor
 
 -- so many firings at once of one whose firings can be done so
 module _ {A S T : Type 0} (s : Steps A S T) (r : Run A T S) (sw : IsSwept s r) (net : Known s r.net.now) (a : ℕ) (known : a < length r.net.now.nodes) (times : ℕ)

@@ -48,7 +48,7 @@ fn step_laws<A: Actor>()
 }
 
 impl<'a, A: Actor> Run<'a, A> {
-    /// Fires a node.
+    /// Fires an actor.
     fn fire(&mut self, a: usize)
         requires { CanFireAt A.steps self.old a }
         ensures { IsFiredAt A.steps self.old self.new a }
@@ -62,13 +62,7 @@ impl<'a, A: Actor> Run<'a, A> {
             channels: self.net.channels_out(a),
             sizes: self.sizes.on(Side::Output, phase),
         };
-        self.works[a].fire(
-            &ins,
-            &outs,
-            self.inputs,
-            &mut self.queues,
-            &mut self.outputs,
-        );
+        self.works[a].fire(&ins, &outs, &mut self.queues);
         self.done[a] += 1;
     }
 

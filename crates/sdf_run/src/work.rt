@@ -1,6 +1,6 @@
 //! Nodes at work.
 
-ghost use Rattle.std.specs.Prelude.{◌≡◌, ◌+◌, ◌*◌, ◌<◌, ◌≤◌, ◌++◌, ℕ, length, slice_index, take, drop, IsTrue};
+ghost use Rattle.std.specs.Prelude.{◌≡◌, ◌+◌, ◌*◌, ◌<◌, ◌≤◌, ◌++◌, ℕ, length, slice_index, take, drop, IsTrue, false};
 ghost use Rattle.std.specs.List.{sum_by};
 ghost use Rattle.sdf_actor.specs.Histories.{spread};
 ghost use Rattle.sdf_actor.specs.Steps.{total_in, total_out, sum_in, sum_out, state_at, puts_to};
@@ -130,7 +130,7 @@ fn fire_through<A: Actor>(
 }
 
 impl<'a, A: Actor> Work<'a, A> {
-    ghost use Rattle.sdf_run.specs.Firings.{phase_at, CanFire, IsFired};
+    ghost use Rattle.sdf_run.specs.Firings.{phase_at, IsActor, CanFire, IsFired};
     ghost use Rattle.sdf_run.specs.AtOnce.{GoesAtOnce, CanFireAtOnce, AreFired};
 
     /// The phase of the next firing.
@@ -143,46 +143,33 @@ impl<'a, A: Actor> Work<'a, A> {
         }
     }
 
-    /// One firing: from each channel into the node its block is taken, and on each channel out of it a block is put.
-    pub(crate) fn fire(
-        &mut self,
-        ins: &Ports,
-        outs: &Ports,
-        inputs: &[Vec<A::Token>],
-        queues: &mut [Queue<A::Token>],
-        outputs: &mut [Vec<A::Token>],
-    )
-        requires { CanFire A.steps (lists inputs.now) ins.now.channels.now outs.now.channels.now ins.now.sizes.now outs.now.sizes.now self.old queues.old outputs.old }
-        ensures { IsFired A.steps (lists inputs.now) ins.now.channels.now outs.now.channels.now ins.now.sizes.now outs.now.sizes.now self.old self.new queues.old queues.new outputs.old outputs.new }
+    /// One firing of an actor: from each channel into it its block is taken, and on each channel out of it a block is put.
+    pub(crate) fn fire(&mut self, ins: &Ports, outs: &Ports, queues: &mut [Queue<A::Token>])
+        requires { CanFire A.steps ins.now.channels.now outs.now.channels.now ins.now.sizes.now outs.now.sizes.now self.old queues.old }
+        ensures { IsFired A.steps ins.now.channels.now outs.now.channels.now ins.now.sizes.now outs.now.sizes.now self.old self.new queues.old queues.new }
     {
-        match self {
-            Work::Source { ext, next, block } => {
-                let end = *next + *block;
-                put_block(outs.channels, outs.sizes, &inputs[*ext][*next..end], queues);
-                *next = end;
-            }
-            Work::Sink { ext } => take_block(ins.channels, ins.sizes, queues, &mut outputs[*ext]),
-            Work::Inner {
-                actor,
-                phase,
-                state,
-                taken,
-                put,
-                lengths,
-            } => {
-                taken.clear();
-                take_block(ins.channels, ins.sizes, queues, taken);
-                let many = lengths[*phase as usize];
-                fire_into(*actor, *phase, state, taken, put, many);
-                put_front(outs, put, many, queues);
-                *phase = next_phase(*phase, actor.cycle());
-            }
+        if let Work::Inner {
+            actor,
+            phase,
+            state,
+            taken,
+            put,
+            lengths,
+        } = self
+        {
+            taken.clear();
+            take_block(ins.channels, ins.sizes, queues, taken);
+            let many = lengths[*phase as usize];
+            fire_into(*actor, *phase, state, taken, put, many);
+            put_front(outs, put, many, queues);
+            *phase = next_phase(*phase, actor.cycle());
         }
     }
 
     /// Whether its firings can be done at once, where these are its channels.
     pub(crate) fn goes_at_once(&self, ins: &[usize], outs: &[usize]) -> bool
-        ensures { IsTrue result → GoesAtOnce A.steps self.now ins.now outs.now }
+        ensures goes { IsTrue result → GoesAtOnce A.steps self.now ins.now outs.now }
+        ensures others { result ≡ false → IsActor self.now }
     {
         match self {
             Work::Inner { actor, .. } => {
