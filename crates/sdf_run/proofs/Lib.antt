@@ -12,4 +12,11 @@ pub mod Beginnings
 pub mod Cycles
 pub mod Sinks
 pub mod Sweeping
+pub mod GoingOn
+pub mod Parts
 pub mod Longer
+pub mod Answered
+pub mod Passing
+pub mod AtOnce
+pub mod AtOnceWorks
+pub mod FiringAtOnce

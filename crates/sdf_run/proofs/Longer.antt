@@ -1,98 +1,83 @@
--- The outputs of more periods begin with those of fewer.
-use Rattle.std.proofs.Common.{◌≡◌, ℕ, ◌+◌, ◌*◌, ◌≤◌, ◌<◌, List, [], length, map, get_or, take, refl, sym, ap, ◌∙◌, subst, arith}
-use Rattle.std.proofs.Math.Nat.{mul-le-mul_right}
-use Rattle.std.proofs.lemmas.List.{get_or-map, length-map, take-take}
-use Rattle.sdf_graph.specs.Sequences.{times, IsPass}
-use Rattle.sdf_sched.specs.Period.{Schedule}
+-- A history goes on by many firings of one node.
+use Rattle.std.proofs.Common.{◌≡◌, ℕ, zero, suc, ◌+◌, ◌-◌, ◌*◌, ◌≤◌, ◌<◌, List, [], ◌++◌, length, cond, eqb, sym, ap, ◌∙◌, inl, inr, ◌⊎◌, arith}
+use Rattle.std.proofs.Math.Nat.{mul-le-mul_left}
+use Rattle.std.proofs.lemmas.List.{append-nil, append_assoc}
+use Rattle.std.proofs.lemmas.Bool.{cases_eq, eq-eqb, ne_eqb}
+use Rattle.sdf_graph.specs.Sequences.{IsEnabled}
 use Rattle.sdf_actor.specs.declared.node.Node.{Node}
 use Rattle.sdf_actor.specs.declared.node.Node.TheVariants.{Source, Sink, Inner}
-use Rattle.sdf_actor.specs.declared.sides.Lists.TheVariants.{Outputs}
 use Rattle.sdf_actor.specs.Steps.{Steps}
-use Rattle.sdf_actor.specs.Nets.{Netlist, node, wire, wiring, answers, to_port, inputs_of, consumed_at, arrived, IsHistoryOf, SourceReaches, InputsReach}
-use Rattle.sdf_actor.specs.Sides.{period_samples}
-use Rattle.sdf_actor.specs.Laws.{HistoryExists, HistoriesGrow, NetsAreWired, PortsHaveChannels}
-use Rattle.sdf_run.specs.Answer.{HasInputs, AreOutputs, periods_of}
-use Rattle.sdf_run.specs.Laws.{HasPeriod, Begin, RunsGoOn}
+use Rattle.sdf_actor.specs.Histories.{taken, taken_before, spread}
+use Rattle.sdf_actor.specs.Nets.{Netlist, node, wiring, answers, SourceReaches, InputsReach, IsHistoryOf}
+use Rattle.sdf_actor.specs.Laws.{after_firing}
+use Rattle.sdf_run.proofs.Grown.{Known}
 use Rattle.sdf_run.proofs.Ends.{history_along}
-use Rattle.sdf_run.proofs.Wholes.{GraphLaws, passes, all_read, makes}
 
--- sources find their samples at counts that are the same
-reach_along : {A T : Type 0} (inputs : List (List T)) (k m : ℕ → ℕ) (a : ℕ) (x : Node A) → k a ≡ m a → SourceReaches inputs k a x → SourceReaches inputs m a x
-reach_along inputs k m a (Source ext block) same h = subst (λ i. block * i ≤ length (get_or inputs ext [])) same h
-reach_along inputs k m a (Sink ext block) same h = tt
-reach_along inputs k m a (Inner x) same h = tt
+-- sources that find the samples of many firings find those of fewer
+source_reaches : {A T : Type 0} (inputs : List (List T)) (many k : ℕ → ℕ) (a : ℕ) (x : Node A) → SourceReaches inputs many a x → k a ≤ many a → SourceReaches inputs k a x
+source_reaches inputs many k a (Source ext block) reach h = let less : block * k a ≤ block * many a = mul-le-mul_left block h in omega (arith, less, reach)
+source_reaches inputs many k a (Sink ext block) reach h = reach
+source_reaches inputs many k a (Inner x) reach h = reach
 
-module _ {A S T : Type 0} (laws : GraphLaws) (s : Steps A S T) (wired : NetsAreWired s) (ports : PortsHaveChannels s) (exists : HistoryExists s) (grows : HistoriesGrow s) where
-  module _ (n : Netlist A T) (p : Schedule) (few many : ℕ) (inputs later longer : List (List T)) (has : HasPeriod s n p) (less : few ≤ many)
-      (given : HasInputs n p.repetitions few inputs) (begin : Begin inputs later) (made : AreOutputs s n later (periods_of p.repetitions many) longer) where
-    abbrev q : List ℕ
-    q = p.repetitions
+pub reaches : {A T : Type 0} (n : Netlist A T) (inputs : List (List T)) (many k : ℕ → ℕ) → InputsReach n inputs many → ((b : ℕ) → b < length n.nodes → k b ≤ many b) → InputsReach n inputs k
+reaches n inputs many k reach h b l = source_reaches inputs many k b (node n b) (reach b l) (h b l)
 
-    pass : (w : List ℕ) × IsPass (wiring s n).rates (periods_of q few) w
-    pass = passes laws s n has.alike has.shape p.order q has.period few few
+module _ {A S T : Type 0} (s : Steps A S T) (n : Netlist A T) (net : Known s n) (inputs : List (List T)) (k top : ℕ → ℕ) (a : ℕ) (known : a < length n.nodes)
+    (reach : InputsReach n inputs top) (V : ℕ → List T) (r : IsHistoryOf s n inputs k V) where
+  -- a history at counts m that goes on from this one
+  abbrev pub GoesOn : (ℕ → ℕ) → Type 0
+  GoesOn m = (W : ℕ → List T) × IsHistoryOf s n inputs m W × ((c : ℕ) → (more : List T) × (W c ≡ V c ++ more))
 
-    reaches : InputsReach n inputs (periods_of q few)
-    reaches = all_read laws s n has.alike has.shape p.order q has.period few has.accepted.0 has.accepted.1 inputs given
+  -- what the node takes in its next firings is there
+  abbrev pub HasCome : ℕ → Type 0
+  HasCome i =
+      (c : ℕ) → c < length n.wires → (wiring s n).rates.target c ≡ a →
+      (wiring s n).rates.consumed c (k a + i) ≤ (wiring s n).rates.initial c + (wiring s n).rates.produced c (k ((wiring s n).rates.source c))
 
-    short : (V : ℕ → List T) × IsHistoryOf s n inputs (periods_of q few) V
-    short = exists n inputs pass.0 (periods_of q few) has.net pass.1.0 (λ a l. sym (pass.1.1 a l)) reaches
+  pub goes_on : (i : ℕ) (m : ℕ → ℕ) → m a ≡ k a + i → ((b : ℕ) → (a ≡ b → ⊥) → m b ≡ k b) → ((b : ℕ) → b < length n.nodes → m b ≤ top b) → HasCome i → GoesOn m
+  goes_on zero m own others below come = (V, history_along (wiring s n) net.wired (answers s n inputs) k m V (λ b l. same b (cases_eq a b)) r, λ c. ([], sym (append-nil (V c))))
+    where
+      same : (b : ℕ) → (a ≡ b) ⊎ (a ≡ b → ⊥) → k b ≡ m b
+      same b (inl e) = ap k (sym e) ∙ ((let z : k a ≡ k a + 0 = omega arith in z) ∙ (sym own ∙ ap m e))
+      same b (inr ne) = sym (others b ne)
+  goes_on (suc i) m own others below come = go (goes_on i mid mid_own (λ b ne. mid_other b ne) (λ b l. mid_below b l (cases_eq a b)) (λ c l e. let rise = net.wired.sound.consumed_rises c (k a + i) (k a + suc i) (omega arith) in omega (arith, come c l e)))
+    where
+      mid : ℕ → ℕ
+      mid b = k b + cond (eqb a b) i 0
 
-    begins : (c : ℕ) → c < length n.wires → short.0 c ≡ take (length (short.0 c)) (made.history c)
-    begins =
-        grows n inputs later pass.0 (periods_of q many) has.net pass.1.0
-        (λ a l. reach_along inputs (periods_of q few) (times pass.0) a (node n a) (sym (pass.1.1 a l)) (reaches a l))
-        begin
-        (λ a l. let less : few * get_or q a 0 ≤ many * get_or q a 0 = mul-le-mul_right (get_or q a 0) less in omega (arith, pass.1.1 a l))
-        short.0 made.history
-        (history_along (wiring s n) (wired n has.net) (answers s n inputs) (periods_of q few) (times pass.0) short.0 (λ a l. sym (pass.1.1 a l)) short.1)
-        made.is
+      mid_own : mid a ≡ k a + i
+      mid_own = ap (λ t. k a + cond t i 0) (eq-eqb a a (λ _. a))
 
-    module _ (a e block : ℕ) (l : a < length n.nodes) (is : node n a ≡ Sink e block) where
-      abbrev c : ℕ
-      c = to_port n a 0
+      mid_other : (b : ℕ) → (a ≡ b → ⊥) → mid b ≡ k b
+      mid_other b ne = ap (λ t. k b + cond t i 0) (ne_eqb a b ne) ∙ (let z : k b + 0 ≡ k b = omega arith in z)
 
-      port : 0 < inputs_of s (node n a)
-      port = subst (λ x. 0 < inputs_of s x) (sym is) (omega arith)
+      one : m a ≡ mid a + 1
+      one = omega (arith, own, mid_own)
 
-      known : c < length n.wires
-      known = has.net.to_all a 0 l port
+      apart : (b : ℕ) → (a ≡ b → ⊥) → m b ≡ mid b
+      apart b ne = others b ne ∙ sym (mid_other b ne)
 
-      -- a sink takes its block each time
-      takes : (i : ℕ) → (wiring s n).rates.consumed c i ≡ block * i
-      takes i = ap (λ b. consumed_at s (node n b) (wire n c).to.1 i) ((ports n a 0 has.net l).0 port).0 ∙ ap (λ x. consumed_at s x (wire n c).to.1 i) is
+      mid_below : (b : ℕ) → b < length n.nodes → (a ≡ b) ⊎ (a ≡ b → ⊥) → mid b ≤ top b
+      mid_below b l (inl e) = let here : mid b + 1 ≡ m b = ap (λ d. mid d + 1) (sym e) ∙ (sym one ∙ ap m e) in omega (arith, below b l)
+      mid_below b l (inr ne) = omega (arith, apart b ne, below b l)
 
-      whole : (b : ℕ) → (e < length longer) × ((wiring s n).rates.consumed c (periods_of q b a) ≡ b * period_samples n.nodes Outputs q)
-      whole b =
-          let m = makes laws s n has.alike has.shape p.order q has.period b has.accepted.0 has.accepted.1 a e block l is in
-          (omega (arith, m.0, made.count), takes (periods_of q b a) ∙ m.1)
+      rises : (b : ℕ) → k b ≤ mid b
+      rises b = omega arith
 
-      abbrev cut : ℕ
-      cut = few * period_samples n.nodes Outputs q
+      on : IsEnabled (wiring s n).rates mid a
+      on c l e =
+          let next : (wiring s n).rates.consumed c (mid ((wiring s n).rates.target c) + 1) ≡ (wiring s n).rates.consumed c (k a + suc i) =
+          ap (λ b. (wiring s n).rates.consumed c (mid b + 1)) e ∙ ap ((wiring s n).rates.consumed c) (let z : mid a + 1 ≡ k a + suc i = omega (arith, mid_own) in z) in
+          let more = net.wired.sound.produced_rises c (k ((wiring s n).rates.source c)) (mid ((wiring s n).rates.source c)) (rises ((wiring s n).rates.source c)) in
+          omega (arith, next, come c l e)
 
-      enough : cut ≤ length (short.0 c)
-      enough =
-          let to : (wiring s n).rates.target c ≡ a = ((ports n a 0 has.net l).0 port).0 in
-          let at : (wiring s n).rates.consumed c (periods_of q few ((wiring s n).rates.target c)) ≡ cut = ap (λ b. (wiring s n).rates.consumed c (periods_of q few b)) to ∙ (whole few).1 in
-          omega (arith, short.1.enough c known, short.1.lengths c known)
-
-      within : cut ≤ (wiring s n).rates.consumed c (periods_of q many a)
-      within = omega (arith, mul-le-mul_right (period_samples n.nodes Outputs q) less, (whole many).1)
-
-      at_sink : get_or (map (take cut) longer) e [] ≡ arrived s n (periods_of q few) short.0 a
-      at_sink =
-          get_or-map (take cut) longer e [] [] (whole few).0 ∙
-          (ap (take cut) (made.each a e block l is) ∙
-          (take-take cut ((wiring s n).rates.consumed c (periods_of q many a)) (made.history c) within ∙
-          (sym (take-take cut (length (short.0 c)) (made.history c) enough) ∙
-          (ap (take cut) (sym (begins c known)) ∙ ap (λ i. take i (short.0 c)) (sym (whole few).1)))))
-
-    outputs_begin : AreOutputs s n inputs (periods_of q few) (map (take (few * period_samples n.nodes Outputs q)) longer)
-    outputs_begin = record {
-      history = short.0;
-      is = short.1;
-      count = length-map longer (take (few * period_samples n.nodes Outputs q)) ∙ made.count;
-      each = λ a e block l is. at_sink a e block l is;
-    }
-
-  pub runs_go_on_of : RunsGoOn s
-  runs_go_on_of n p few many inputs later longer has less given begin made = outputs_begin n p few many inputs later longer has less given begin made
+      go : GoesOn mid → GoesOn m
+      go (W, is, more) = (
+        after_firing s n inputs mid W a,
+        net.grows n inputs mid m a W net.good known on one apart (reaches n inputs top m reach below) is,
+        λ c. ((more c).0 ++ last c, ap (λ ys. ys ++ last c) (more c).1 ∙ append_assoc (V c) (more c).0 (last c)),
+      )
+        where
+          last : ℕ → List T
+          last c = spread (λ d. (wiring s n).rates.produced d (mid a + 1) - (wiring s n).rates.produced d (mid a)) ((wiring s n).outs a)
+              (answers s n inputs a (taken_before (wiring s n) W a (mid a)) (taken (wiring s n) W a (mid a))) c

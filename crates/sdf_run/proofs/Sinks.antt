@@ -10,7 +10,7 @@ use Rattle.sdf_actor.specs.Nets as nets
 use Rattle.sdf_actor.specs.Nets.{Netlist, wiring, to_port, inputs_of}
 
 -- a beginning is a shorter one and the part after it
-take_on : {X : Type 0} (xs : List X) (i j : ℕ) → i ≤ j → take j xs ≡ take i xs ++ between i j xs
+pub take_on : {X : Type 0} (xs : List X) (i j : ℕ) → i ≤ j → take j xs ≡ take i xs ++ between i j xs
 take_on xs i j h =
     sym (take-append-drop i (take j xs)) ∙
     (ap (λ ys. ys ++ drop i (take j xs)) (take-take i j xs h) ∙ ap (λ ys. take i xs ++ ys) (sym (between_is xs i j)))

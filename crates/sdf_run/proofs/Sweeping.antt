@@ -1,6 +1,6 @@
 -- Firings of a block of periods in whatever order they come: each can be done, and they stop only at the block's end.
 use Rattle.std.proofs.Common.{◌≡◌, ℕ, zero, suc, ◌+◌, ◌-◌, ◌*◌, ◌^◌, ◌≤◌, ◌<◌, List, [], ◌∷◌, length, map, get_or, set, sum, cond, Bool, true, false, true≢false, IsTrue, refl, sym, ap, ◌∙◌, subst, inl, inr, ◌⊎◌, arith}
-use Rattle.std.proofs.Math.Nat.{mul-le-mul, mul-le-mul_left}
+use Rattle.std.proofs.Math.Nat.{mul-le-mul}
 use Rattle.std.proofs.lemmas.List.{length-map, length-set, get_or-set_same, get_or-set_other, get_or_default, get_or-map}
 use Rattle.std.proofs.lemmas.List.Sums.{sum_by-set}
 use Rattle.std.proofs.lemmas.Bool.{cases_lt, cases_eq}
@@ -8,29 +8,25 @@ use Rattle.sdf_graph.specs.Sequences.{tokens, IsRunnable}
 use Rattle.sdf_graph.specs.Rates.{IsSound}
 use Rattle.sdf_graph.specs.Laws.{ListsSumWithin}
 use Rattle.sdf_sched.specs.Laws.{StuckCountsMeanDeadlock}
-use Rattle.sdf_actor.specs.declared.node.Node.{Node}
-use Rattle.sdf_actor.specs.declared.node.Node.TheVariants.{Source, Sink, Inner}
 use Rattle.sdf_actor.specs.Steps.{Steps}
-use Rattle.sdf_actor.specs.Nets.{node, wiring, SourceReaches, InputsReach}
+use Rattle.sdf_actor.specs.Nets.{node, wiring, InputsReach}
 use Rattle.sdf_actor.specs.Laws.{NetsAreWired, PortsHaveChannels, HistoryGrowsByFiring, TakenStays}
 use Rattle.sdf_actor.specs.Wires.{lists}
 use Rattle.sdf_run.specs.declared.work.Work.{Work}
 use Rattle.sdf_run.specs.declared.run.Run.{Run}
+use Rattle.sdf_run.specs.Held.{Held}
 use Rattle.sdf_run.specs.Blocks.{room, ArePorts, HoldBlocks}
 use Rattle.sdf_run.specs.Sizes.{phase_of, at_phase}
-use Rattle.sdf_run.specs.Firings.{phase_at}
-use Rattle.sdf_run.specs.Runs.{Stands, CanFireAt, IsFiredAt}
+use Rattle.sdf_run.specs.Firings.{phase_at, IsActor}
+use Rattle.sdf_run.specs.AtOnce.{GoesAtOnce, CanFireAtOnceAt, AreFiredAt}
+use Rattle.sdf_run.specs.Runs.{Stands, FiresAlone, CanFireAt, IsFiredAt}
 use Rattle.sdf_run.specs.Answer.{periods_of}
-use Rattle.sdf_run.specs.Sweeps.{Sweeps, IsSwept, MayFire, HasRoom, Keeps, IsMoved}
+use Rattle.sdf_run.specs.Sweeps.{Sweeps, IsSwept, MayFire, HasRoom, Keeps, IsMoved, AreHeld}
 use Rattle.sdf_run.proofs.Readings.{some_of}
+use Rattle.sdf_run.proofs.AtOnce as at_once
 use Rattle.sdf_run.proofs.Grown.{Known}
+use Rattle.sdf_run.proofs.Longer.{reaches}
 use Rattle.sdf_run.proofs.Standing as standing
-
--- sources that find the samples of many firings find those of fewer
-source_reaches : {A T : Type 0} (inputs : List (List T)) (many k : ℕ → ℕ) (a : ℕ) (x : Node A) → SourceReaches inputs many a x → k a ≤ many a → SourceReaches inputs k a x
-source_reaches inputs many k a (Source ext block) reach h = let less : block * k a ≤ block * many a = mul-le-mul_left block h in omega (arith, less, reach)
-source_reaches inputs many k a (Sink ext block) reach h = reach
-source_reaches inputs many k a (Inner x) reach h = reach
 
 -- one step of a run after another
 pub keeps_on : {A S T : Type 0} (r r' r'' : Run A T S) → Keeps r r' → Keeps r' r'' → Keeps r r''
@@ -93,6 +89,11 @@ sweep_on s r r' x y z i still before moved here none b l may = go (cases_lt b i)
 pub net_known : {A S T : Type 0} (s : Steps A S T) → NetsAreWired s → PortsHaveChannels s → HistoryGrowsByFiring s → TakenStays s → (r : Run A T S) → IsSwept s r → Known s r.net.now
 net_known s wired ports grows stays r sw = record { good = sw.good; wired = wired r.net.now sw.good; ports = ports; grows = grows; stays = stays }
 
+-- at the same ports and queues
+pub holds_along : {T : Type 0} (ins ins' sizes sizes' : List ℕ) (qs qs' : List (Held T)) → ins ≡ ins' → sizes ≡ sizes' → qs ≡ qs' → HoldBlocks ins sizes qs → HoldBlocks ins' sizes' qs'
+holds_along ins ins' sizes sizes' qs qs' i s q h =
+    subst (λ x. HoldBlocks x sizes' qs') i (subst (λ x. HoldBlocks ins x qs') s (subst (λ x. HoldBlocks ins sizes x) q h))
+
 -- node a of a run may fire exactly where it has firings left and its channels hold what the next one takes
 module _ {A S T : Type 0} (s : Steps A S T) (r : Run A T S) (sw : IsSwept s r) (net : Known s r.net.now) (a : ℕ) (known : a < length r.net.now.nodes) (d : Work A T S) where
   pub phase_in : phase_at (get_or r.works.items a d) < length r.sizes.takes
@@ -110,32 +111,30 @@ module _ {A S T : Type 0} (s : Steps A S T) (r : Run A T S) (sw : IsSwept s r) (
   pub may_holds : MayFire s r a → HoldBlocks ((wiring s r.net.now).ins a) (at_phase r.sizes.takes (phase_at (get_or r.works.items a d))) r.queues.items
   may_holds may = standing.held s r.net.now net r.sizes sw.sizes (lists r.inputs.now) (periods_of r.repetitions.now r.periods) (λ b. get_or r.done.items b 0) a known r.works.items r.queues.items r.outputs.items sw.stands d may.2
 
--- node a of a run may fire within the block
-module _ {A S T : Type 0} (s : Steps A S T) (r : Run A T S) (sw : IsSwept s r) (net : Known s r.net.now) (a : ℕ) (may : MayFire s r a) where
+-- so many firings of node a of a run stay within the block
+module _ {A S T : Type 0} (s : Steps A S T) (r : Run A T S) (sw : IsSwept s r) (net : Known s r.net.now) (a : ℕ) (known : a < length r.net.now.nodes) (times : ℕ)
+    (inside : get_or r.done.items a 0 + times ≤ r.high * get_or r.repetitions.now a 0) where
   abbrev before : ℕ → ℕ
   before b = get_or r.done.items b 0
 
   abbrev after : ℕ → ℕ
-  after b = get_or (set r.done.items a (get_or r.done.items a 0 + 1)) b 0
+  after b = get_or (set r.done.items a (get_or r.done.items a 0 + times)) b 0
 
   place : a < length r.done.items
-  place = omega (arith, sw.all, may.0)
+  place = omega (arith, sw.all, known)
 
-  one : after a ≡ before a + 1
-  one = get_or-set_same r.done.items a (get_or r.done.items a 0 + 1) 0 place
+  own : after a ≡ before a + times
+  own = get_or-set_same r.done.items a (get_or r.done.items a 0 + times) 0 place
 
   others : (b : ℕ) → (a ≡ b → ⊥) → after b ≡ before b
-  others b ne = get_or-set_other r.done.items a b (get_or r.done.items a 0 + 1) 0 (λ e. ne (sym e))
+  others b ne = get_or-set_other r.done.items a b (get_or r.done.items a 0 + times) 0 (λ e. ne (sym e))
 
   rises : (b : ℕ) → before b ≤ after b
   rises b = go (cases_eq a b)
     where
       go : (a ≡ b) ⊎ (a ≡ b → ⊥) → before b ≤ after b
-      go (inl e) = subst (λ b. before b ≤ after b) e (omega (arith, one))
+      go (inl e) = subst (λ b. before b ≤ after b) e (omega (arith, own))
       go (inr ne) = omega (arith, others b ne)
-
-  now_below : before a < r.high * get_or r.repetitions.now a 0
-  now_below = may.1
 
   was_below : (b : ℕ) → b < length r.net.now.nodes → before b ≤ r.high * get_or r.repetitions.now b 0
   was_below = sw.to
@@ -151,7 +150,7 @@ module _ {A S T : Type 0} (s : Steps A S T) (r : Run A T S) (sw : IsSwept s r) (
   below b l = go (cases_eq a b)
     where
       go : (a ≡ b) ⊎ (a ≡ b → ⊥) → after b ≤ r.high * get_or r.repetitions.now b 0
-      go (inl e) = subst (λ b. after b ≤ r.high * get_or r.repetitions.now b 0) e (omega (arith, one, now_below))
+      go (inl e) = subst (λ b. after b ≤ r.high * get_or r.repetitions.now b 0) e (omega (arith, own, inside))
       go (inr ne) = omega (arith, others b ne, was_below b l)
 
   within : (b : ℕ) → b < length r.net.now.nodes → after b ≤ periods_of r.repetitions.now r.periods b
@@ -159,11 +158,8 @@ module _ {A S T : Type 0} (s : Steps A S T) (r : Run A T S) (sw : IsSwept s r) (
       let up : r.high * get_or r.repetitions.now b 0 ≤ r.periods * get_or r.repetitions.now b 0 = mul-le-mul sw.under (let e : get_or r.repetitions.now b 0 ≤ get_or r.repetitions.now b 0 = omega arith in e) in
       omega (arith, below b l)
 
-  left : before a < periods_of r.repetitions.now r.periods a
-  left = omega (arith, within a may.0, one)
-
   reached : InputsReach r.net.now (lists r.inputs.now) after
-  reached d l = source_reaches (lists r.inputs.now) (periods_of r.repetitions.now r.periods) after d (node r.net.now d) (sw.reach d l) (within d l)
+  reached = reaches r.net.now (lists r.inputs.now) (periods_of r.repetitions.now r.periods) after sw.reach within
 
   -- so the queues have room
   rooms : (c : ℕ) → c < length r.net.now.wires → tokens (wiring s r.net.now).rates after c ≤ room r.queues.items c
@@ -176,42 +172,19 @@ module _ {A S T : Type 0} (s : Steps A S T) (r : Run A T S) (sw : IsSwept s r) (
       net.wired.sound.consumed_rises c (sw.low * get_or r.repetitions.now y 0) (after y) (above y (net.wired.sound.target_in c l)) in
       omega (arith, sw.fits c l)
 
-  few : before a < 2 ^ 63
+  few : before a + times < 2 ^ 63
   few =
       let short : r.high ≤ 4294967295 = omega (arith, sw.under, sw.short) in
-      let all : r.high * get_or r.repetitions.now a 0 ≤ 4294967295 * 65536 = mul-le-mul short (let e : get_or r.repetitions.now a 0 ≤ 65536 = sw.paced.small a may.0 in e) in
-      omega (arith, now_below)
+      let all : r.high * get_or r.repetitions.now a 0 ≤ 4294967295 * 65536 = mul-le-mul short (let e : get_or r.repetitions.now a 0 ≤ 65536 = sw.paced.small a known in e) in
+      omega (arith, inside)
 
   at : (d : Work A T S) → phase_at (get_or r.works.items a d) ≡ phase_of s (node r.net.now a) (before a)
-  at d = standing.at s r.net.now net r.sizes sw.sizes (lists r.inputs.now) (periods_of r.repetitions.now r.periods) before a may.0 r.works.items r.queues.items r.outputs.items sw.stands d
+  at d = standing.at s r.net.now net r.sizes sw.sizes (lists r.inputs.now) (periods_of r.repetitions.now r.periods) before a known r.works.items r.queues.items r.outputs.items sw.stands d
 
-  pub can_fire : CanFireAt s r a
-  can_fire = record {
-    known = may.0;
-    worked = omega (arith, sw.stands.nodes, may.0);
-    takes_known = λ d. omega (arith, at d, sw.sizes.takes_known a (before a) may.0);
-    puts_known = λ d. omega (arith, at d, sw.sizes.puts_known a (before a) may.0);
-    counted = place;
-    few = few;
-    can = λ d.
-        standing.can_fire s r.net.now net r.sizes sw.sizes (lists r.inputs.now) (periods_of r.repetitions.now r.periods) before a may.0 r.works.items r.queues.items r.outputs.items sw.stands d
-        after may.2 one others left reached rooms;
-  }
-
-  -- and after it
-  module _ (r' : Run A T S) (fired : IsFiredAt s r r' a) where
-    kept_rooms : (c : ℕ) → c < length r.queues.items → room r'.queues.items c ≡ room r.queues.items c
-    kept_rooms = (fired.fired (some_of r.works.items a (omega (arith, sw.stands.nodes, may.0)))).rooms
-
-    stands : Stands s r.net.now (lists r.inputs.now) (periods_of r.repetitions.now r.periods) after r'.works.items r'.queues.items r'.outputs.items
-    stands =
-        let d : Work A T S = some_of r.works.items a (omega (arith, sw.stands.nodes, may.0)) in
-        standing.fired_stands s r.net.now net r.sizes sw.sizes (lists r.inputs.now) (periods_of r.repetitions.now r.periods) before a may.0 r.works.items r.queues.items r.outputs.items sw.stands d
-        after may.2 one others left reached
-        sw.apart (get_or r'.works.items a d) r'.queues.items r'.outputs.items (fired.fired d) fired.queues fired.outputs r'.works.items fired.works
-        (λ e. get_or_default r'.works.items a e d (omega (arith, fired.works, sw.stands.nodes, may.0))) fired.others
-
-    sweeps : Sweeps s r.net.now (lists r.inputs.now) r.sizes r.repetitions.now r.periods r.high (set r.done.items a (get_or r.done.items a 0 + 1)) r'.works.items r'.queues.items r'.outputs.items
+  -- where the runner stands at the counts after them, it is swept
+  module _ (r' : Run A T S) (alone : FiresAlone r r' a times) (kept_rooms : (c : ℕ) → c < length r.queues.items → room r'.queues.items c ≡ room r.queues.items c)
+      (stands : Stands s r.net.now (lists r.inputs.now) (periods_of r.repetitions.now r.periods) after r'.works.items r'.queues.items r'.outputs.items) where
+    sweeps : Sweeps s r.net.now (lists r.inputs.now) r.sizes r.repetitions.now r.periods r.high (set r.done.items a (get_or r.done.items a 0 + times)) r'.works.items r'.queues.items r'.outputs.items
     sweeps = record {
       good = sw.good;
       apart = sw.apart;
@@ -221,41 +194,115 @@ module _ {A S T : Type 0} (s : Steps A S T) (r : Run A T S) (sw : IsSwept s r) (
       short = sw.short;
       under = sw.under;
       stands = stands;
-      all = length-set r.done.items a (get_or r.done.items a 0 + 1) ∙ sw.all;
+      all = length-set r.done.items a (get_or r.done.items a 0 + times) ∙ sw.all;
       low = sw.low;
       from = above;
       to = below;
       fits = λ c l. let same : room r'.queues.items c ≡ room r.queues.items c = kept_rooms c (omega (arith, sw.stands.channels)) in omega (arith, sw.fits c l);
     }
 
-    pub swept : IsSwept s r'
-    swept =
-        subst (λ x. Sweeps s x.now (lists r'.inputs.now) r'.sizes r'.repetitions.now r'.periods r'.high r'.done.items r'.works.items r'.queues.items r'.outputs.items) (sym fired.net)
-        (subst (λ x. Sweeps s r.net.now (lists x.now) r'.sizes r'.repetitions.now r'.periods r'.high r'.done.items r'.works.items r'.queues.items r'.outputs.items) (sym fired.inputs)
-        (subst (λ x. Sweeps s r.net.now (lists r.inputs.now) x r'.repetitions.now r'.periods r'.high r'.done.items r'.works.items r'.queues.items r'.outputs.items) (sym fired.sizes)
-        (subst (λ x. Sweeps s r.net.now (lists r.inputs.now) r.sizes x.now r'.periods r'.high r'.done.items r'.works.items r'.queues.items r'.outputs.items) (sym fired.repetitions)
-        (subst (λ x. Sweeps s r.net.now (lists r.inputs.now) r.sizes r.repetitions.now x r'.high r'.done.items r'.works.items r'.queues.items r'.outputs.items) (sym fired.periods)
-        (subst (λ x. Sweeps s r.net.now (lists r.inputs.now) r.sizes r.repetitions.now r.periods x r'.done.items r'.works.items r'.queues.items r'.outputs.items) (sym fired.high)
-        (subst (λ x. Sweeps s r.net.now (lists r.inputs.now) r.sizes r.repetitions.now r.periods r.high x r'.works.items r'.queues.items r'.outputs.items) (sym fired.done) sweeps))))))
+    swept_on : IsSwept s r'
+    swept_on =
+        subst (λ x. Sweeps s x.now (lists r'.inputs.now) r'.sizes r'.repetitions.now r'.periods r'.high r'.done.items r'.works.items r'.queues.items r'.outputs.items) (sym alone.net)
+        (subst (λ x. Sweeps s r.net.now (lists x.now) r'.sizes r'.repetitions.now r'.periods r'.high r'.done.items r'.works.items r'.queues.items r'.outputs.items) (sym alone.inputs)
+        (subst (λ x. Sweeps s r.net.now (lists r.inputs.now) x r'.repetitions.now r'.periods r'.high r'.done.items r'.works.items r'.queues.items r'.outputs.items) (sym alone.sizes)
+        (subst (λ x. Sweeps s r.net.now (lists r.inputs.now) r.sizes x.now r'.periods r'.high r'.done.items r'.works.items r'.queues.items r'.outputs.items) (sym alone.repetitions)
+        (subst (λ x. Sweeps s r.net.now (lists r.inputs.now) r.sizes r.repetitions.now x r'.high r'.done.items r'.works.items r'.queues.items r'.outputs.items) (sym alone.periods)
+        (subst (λ x. Sweeps s r.net.now (lists r.inputs.now) r.sizes r.repetitions.now r.periods x r'.done.items r'.works.items r'.queues.items r'.outputs.items) (sym alone.high)
+        (subst (λ x. Sweeps s r.net.now (lists r.inputs.now) r.sizes r.repetitions.now r.periods r.high x r'.works.items r'.queues.items r'.outputs.items) (sym alone.done) sweeps))))))
 
-    more : sum r'.done.items ≡ sum r.done.items + 1
-    more = ap sum fired.done ∙ (let e = sum_by-set (λ x. x) r.done.items a (get_or r.done.items a 0 + 1) 0 place in omega arith)
+    more : sum r'.done.items ≡ sum r.done.items + times
+    more = ap sum alone.done ∙ (let e = sum_by-set (λ x. x) r.done.items a (get_or r.done.items a 0 + times) 0 place in omega arith)
 
-    pub moved : IsMoved r r' true
-    moved = record {
-      keeps = record { net = fired.net; inputs = fired.inputs; repetitions = fired.repetitions; periods = fired.periods; outputs = fired.outputs; queues = fired.queues; rooms = kept_rooms };
-      high = fired.high;
+    moved_by : 0 < times → IsMoved r r' true
+    moved_by some = record {
+      keeps = record { net = alone.net; inputs = alone.inputs; repetitions = alone.repetitions; periods = alone.periods; outputs = alone.outputs; queues = alone.queues; rooms = kept_rooms };
+      high = alone.high;
       rises = omega (arith, more);
-      moves = λ t. omega (arith, more);
+      moves = λ t. omega (arith, more, some);
       stays = λ e. absurd (true≢false e);
     }
 
-    -- there are fewer left
-    pub fewer : r'.high * get_or r'.repetitions.now a 0 - get_or r'.done.items a 0 < r.high * get_or r.repetitions.now a 0 - get_or r.done.items a 0
-    fewer =
-        let limit : r'.high * get_or r'.repetitions.now a 0 ≡ r.high * get_or r.repetitions.now a 0 = λ i. fired.high i * get_or (fired.repetitions i).now a 0 in
-        let now : get_or r'.done.items a 0 ≡ after a = ap (λ xs. get_or xs a 0) fired.done in
-        omega (arith, one, now_below)
+-- a firing of an actor that may fire
+module _ {A S T : Type 0} (s : Steps A S T) (r : Run A T S) (sw : IsSwept s r) (net : Known s r.net.now) (a : ℕ) (may : MayFire s r a)
+    (actor : (d : Work A T S) → IsActor (get_or r.works.items a d)) where
+  next : get_or r.done.items a 0 + 1 ≤ r.high * get_or r.repetitions.now a 0
+  next = omega (arith, may.1)
+
+  pub can_fire : CanFireAt s r a
+  can_fire = record {
+    known = may.0;
+    worked = omega (arith, sw.stands.nodes, may.0);
+    takes_known = λ d. omega (arith, at s r sw net a may.0 1 next d, sw.sizes.takes_known a (get_or r.done.items a 0) may.0);
+    puts_known = λ d. omega (arith, at s r sw net a may.0 1 next d, sw.sizes.puts_known a (get_or r.done.items a 0) may.0);
+    counted = place s r sw net a may.0 1 next;
+    few = omega (arith, few s r sw net a may.0 1 next);
+    can = λ d.
+        standing.can_fire s r.net.now net r.sizes sw.sizes (lists r.inputs.now) (periods_of r.repetitions.now r.periods) (λ b. get_or r.done.items b 0) a may.0 r.works.items r.queues.items r.outputs.items sw.stands d
+        (after s r sw net a may.0 1 next) may.2 (own s r sw net a may.0 1 next) (others s r sw net a may.0 1 next) (reached s r sw net a may.0 1 next) (actor d) (rooms s r sw net a may.0 1 next);
+  }
+
+  module _ (r' : Run A T S) (fired : IsFiredAt s r r' a) where
+    filler : Work A T S
+    filler = some_of r.works.items a (omega (arith, sw.stands.nodes, may.0))
+
+    stands : Stands s r.net.now (lists r.inputs.now) (periods_of r.repetitions.now r.periods) (after s r sw net a may.0 1 next) r'.works.items r'.queues.items r'.outputs.items
+    stands =
+        subst (λ x. Stands s r.net.now (lists r.inputs.now) (periods_of r.repetitions.now r.periods) (after s r sw net a may.0 1 next) r'.works.items r'.queues.items x.items) (sym fired.lists)
+        (standing.fired_stands s r.net.now net r.sizes sw.sizes (lists r.inputs.now) (periods_of r.repetitions.now r.periods) (λ b. get_or r.done.items b 0) a may.0 r.works.items r.queues.items r.outputs.items sw.stands filler
+        (after s r sw net a may.0 1 next) may.2 (own s r sw net a may.0 1 next) (others s r sw net a may.0 1 next) (reached s r sw net a may.0 1 next) (actor filler)
+        (get_or r'.works.items a filler) r'.queues.items (fired.fired filler) fired.alone.queues r'.works.items fired.alone.works
+        (λ e. get_or_default r'.works.items a e filler (omega (arith, fired.alone.works, sw.stands.nodes, may.0))) fired.alone.others)
+
+    pub swept : IsSwept s r'
+    swept = swept_on s r sw net a may.0 1 next r' fired.alone (fired.fired filler).rooms stands
+
+    pub moved : IsMoved r r' true
+    moved = moved_by s r sw net a may.0 1 next r' fired.alone (fired.fired filler).rooms stands (omega arith)
+
+-- the work of a node of a run, as it is read
+pub goes_at : {A S T : Type 0} (s : Steps A S T) (r : Run A T S) (a : ℕ) → a < length r.works.items → (w : Work A T S) (ins outs : List ℕ) → w ≡ get_or r.works.items a w → ins ≡ (wiring s r.net.now).ins a → outs ≡ (wiring s r.net.now).outs a →
+    GoesAtOnce s w ins outs → (d : Work A T S) → GoesAtOnce s (get_or r.works.items a d) ((wiring s r.net.now).ins a) ((wiring s r.net.now).outs a)
+goes_at s r a known w ins outs is into from goes d =
+    subst (λ x. GoesAtOnce s x ((wiring s r.net.now).ins a) ((wiring s r.net.now).outs a)) (is ∙ get_or_default r.works.items a w d known)
+    (subst (λ x. GoesAtOnce s w x ((wiring s r.net.now).outs a)) into (subst (λ x. GoesAtOnce s w ins x) from goes))
+
+pub actor_at : {A S T : Type 0} (works : List (Work A T S)) (a : ℕ) → a < length works → (w : Work A T S) → w ≡ get_or works a w → IsActor w → (d : Work A T S) → IsActor (get_or works a d)
+actor_at works a known w is actor d = subst IsActor (is ∙ get_or_default works a w d known) actor
+
+-- so many firings at once of one whose firings can be done so
+module _ {A S T : Type 0} (s : Steps A S T) (r : Run A T S) (sw : IsSwept s r) (net : Known s r.net.now) (a : ℕ) (known : a < length r.net.now.nodes) (times : ℕ)
+    (inside : get_or r.done.items a 0 + times ≤ r.high * get_or r.repetitions.now a 0)
+    (goes : (d : Work A T S) → GoesAtOnce s (get_or r.works.items a d) ((wiring s r.net.now).ins a) ((wiring s r.net.now).outs a)) (held : AreHeld s r a times) where
+  pub can_fire_at_once : CanFireAtOnceAt s r a times
+  can_fire_at_once = record {
+    known = known;
+    worked = omega (arith, sw.stands.nodes, known);
+    takes_known = λ d. omega (arith, at s r sw net a known times inside d, sw.sizes.takes_known a (get_or r.done.items a 0) known);
+    puts_known = λ d. omega (arith, at s r sw net a known times inside d, sw.sizes.puts_known a (get_or r.done.items a 0) known);
+    counted = place s r sw net a known times inside;
+    few = few s r sw net a known times inside;
+    can = λ d.
+        at_once.can_fire s r.net.now net r.sizes sw.sizes (lists r.inputs.now) (periods_of r.repetitions.now r.periods) (λ b. get_or r.done.items b 0) a known r.works.items r.queues.items r.outputs.items sw.stands d (goes d)
+        times (after s r sw net a known times inside) (own s r sw net a known times inside) (others s r sw net a known times inside) (within s r sw net a known times inside) (held d) sw.reach (rooms s r sw net a known times inside);
+  }
+
+  module _ (r' : Run A T S) (fired : AreFiredAt s r r' a times) where
+    first : Work A T S
+    first = some_of r.works.items a (omega (arith, sw.stands.nodes, known))
+
+    all_stand : Stands s r.net.now (lists r.inputs.now) (periods_of r.repetitions.now r.periods) (after s r sw net a known times inside) r'.works.items r'.queues.items r'.outputs.items
+    all_stand =
+        at_once.fired_stands s r.net.now net r.sizes sw.sizes (lists r.inputs.now) (periods_of r.repetitions.now r.periods) (λ b. get_or r.done.items b 0) a known r.works.items r.queues.items r.outputs.items sw.stands first (goes first)
+        times (after s r sw net a known times inside) (own s r sw net a known times inside) (others s r sw net a known times inside) (within s r sw net a known times inside) (held first) sw.reach
+        sw.apart (get_or r'.works.items a first) r'.queues.items r'.outputs.items (fired.fired first) fired.alone.queues fired.alone.outputs r'.works.items fired.alone.works
+        (λ e. get_or_default r'.works.items a e first (omega (arith, fired.alone.works, sw.stands.nodes, known))) fired.alone.others
+
+    pub swept_at_once : IsSwept s r'
+    swept_at_once = swept_on s r sw net a known times inside r' fired.alone (fired.fired first).rooms all_stand
+
+    pub moved_at_once : 0 < times → IsMoved r r' true
+    moved_at_once some = moved_by s r sw net a known times inside r' fired.alone (fired.fired first).rooms all_stand some
 
 -- a sweep that fires leaves less, and one that does not is the last
 goes_less : (a b : Bool) (all x y : ℕ) → IsTrue a → x ≤ y → y ≤ all → (IsTrue b → x < y) → cond b 1 0 + (all - y) < cond a 1 0 + (all - x)

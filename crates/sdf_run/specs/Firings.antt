@@ -1,6 +1,6 @@
--- One firing of a node: when it can be done, and what it does.
+-- One firing of an actor by copies: when it can be done, and what it does.
 use Rattle.std.specs.Prelude.{◌≡◌, ℕ, ◌+◌, ◌-◌, ◌%◌, ◌≤◌, ◌<◌, ◌==◌, cond, List, [], ◌++◌, length, map, take, drop, slice_index, slice_index_or, vec_capacity}
-use Rattle.std.specs.List.{flat_map, between, sum_by}
+use Rattle.std.specs.List.{flat_map, sum_by}
 use Rattle.std.specs.declared.vec.Vec.{Vec}
 use Rattle.sdf_actor.specs.Steps.{Steps, total_in, total_out}
 use Rattle.sdf_actor.specs.Histories.{spread}
@@ -31,37 +31,38 @@ phase_at (Inner actor phase state taken put lengths) = phase
 abbrev pub front : {T : Type 0} → List ℕ → List ℕ → List (Held T) → List T
 front takes ins qs = flat_map (λ c. take (slice_index takes c) (samples qs c)) ins
 
--- the block put, where block b is taken
-abbrev pub made : {A S T : Type 0} → Steps A S T → List (List T) → Work A T S → List T → List T
-made s inputs (Source ext next block) b = between next (next + block) (slice_index_or inputs ext [])
-made s inputs (Sink ext) b = []
-made s inputs (Inner actor phase state taken put lengths) b = s.puts actor.now phase state b
-
--- and what is added to output list e
+-- what is added to output list e where block b is taken
 abbrev pub added : {A S T : Type 0} → Work A T S → List T → ℕ → List T
 added (Sink ext) b e = cond (ext == e) b []
 added w b e = []
 
+-- an actor, which fires by copies where its firings can't be done at once
+abbrev pub IsActor : {A S T : Type 0} → Work A T S → Type 0
+IsActor (Source ext next block) = ⊥
+IsActor (Sink ext) = ⊥
+IsActor (Inner actor phase state taken put lengths) = Unit {0}
+
+-- the block that it puts, where block b is taken
+abbrev pub made : {A S T : Type 0} → Steps A S T → Work A T S → List T → List T
+made s (Inner actor phase state taken put lengths) b = s.puts actor.now phase state b
+made s w b = []
+
 -- the work still to do after it took block b
 abbrev pub HasWorked : {A S T : Type 0} → Steps A S T → Work A T S → List T → Work A T S → Type 0
-HasWorked s (Source ext next block) b w = w ≡ Source ext (next + block) block
-HasWorked s (Sink ext) b w = w ≡ Sink ext
 HasWorked s (Inner actor phase state taken put lengths) b (Inner actor' phase' state' taken' put' lengths') =
     (actor' ≡ actor) × (phase' ≡ (phase + 1) % s.cycle actor.now) × (state' ≡ s.next actor.now phase state b) ×
     (vec_capacity taken' ≡ vec_capacity taken) × (length put'.items ≡ length put.items) × (lengths' ≡ lengths)
-HasWorked s (Inner actor phase state taken put lengths) b w = ⊥
+HasWorked s w b w' = ⊥
 
--- many samples are taken and more are put: the next firing finds what it reads, and its blocks have their lengths
-abbrev pub CanWork : {A S T Z : Type 0} → Steps A S T → List (List T) → Work A T S → List ℕ → List ℕ → ℕ → ℕ → List (Vec T Z) → Type 0
-CanWork s inputs (Source ext next block) ins outs many more outputs =
-    (ins ≡ []) × (more ≡ block) × (ext < length inputs) × (next + block ≤ length (slice_index_or inputs ext []))
-CanWork s inputs (Sink ext) ins outs many more outputs = (outs ≡ []) × (ext < length outputs) × (length (list outputs ext) + many ≤ capacity outputs ext)
-CanWork s inputs (Inner actor phase state taken put lengths) ins outs many more outputs =
+-- many samples are taken and more are put: its blocks have their lengths
+abbrev pub CanWork : {A S T : Type 0} → Steps A S T → Work A T S → ℕ → ℕ → Type 0
+CanWork s (Inner actor phase state taken put lengths) many more =
     (phase < s.cycle actor.now) × (many ≡ total_in s actor.now phase) × (more ≡ total_out s actor.now phase) × (many ≤ vec_capacity taken) ×
     (length lengths.items ≡ s.cycle actor.now) × (slice_index lengths.items phase ≡ more) × (more ≤ length put.items)
+CanWork s w many more = ⊥
 
--- a node can fire that takes from the channels ins and puts on the channels outs
-pub record CanFire {A S T Z : Type 0} (s : Steps A S T) (inputs : List (List T)) (ins outs takes puts : List ℕ) (w : Work A T S) (qs : List (Held T)) (outputs : List (Vec T Z)) : Type 0 where
+-- an actor can fire that takes from the channels ins and puts on the channels outs
+pub record CanFire {A S T : Type 0} (s : Steps A S T) (ins outs takes puts : List ℕ) (w : Work A T S) (qs : List (Held T)) : Type 0 where
   pub ins_are : ArePorts ins takes (length qs)
   pub outs_are : ArePorts outs puts (length qs)
   pub held : HoldBlocks ins takes qs
@@ -69,14 +70,11 @@ pub record CanFire {A S T Z : Type 0} (s : Steps A S T) (inputs : List (List T))
   pub room : (n : ℕ) → n < length outs →
       let c = slice_index outs n in
       length (samples qs c) - at_ports ins (slice_index takes c) c + slice_index puts c ≤ room qs c
-  pub work : CanWork s inputs w ins outs (sum_by (slice_index takes) ins) (sum_by (slice_index puts) outs) outputs
+  pub work : CanWork s w (sum_by (slice_index takes) ins) (sum_by (slice_index puts) outs)
 
 -- and this is what its firing does
-pub record IsFired {A S T Z : Type 0} (s : Steps A S T) (inputs : List (List T)) (ins outs takes puts : List ℕ) (w w' : Work A T S) (qs qs' : List (Held T)) (outputs outputs' : List (Vec T Z)) : Type 0 where
+pub record IsFired {A S T : Type 0} (s : Steps A S T) (ins outs takes puts : List ℕ) (w w' : Work A T S) (qs qs' : List (Held T)) : Type 0 where
   pub work : HasWorked s w (front takes ins qs) w'
-  pub long : length (made s inputs w (front takes ins qs)) ≡ sum_by (slice_index puts) outs
   pub queues : (c : ℕ) → c < length qs →
-      samples qs' c ≡ drop (at_ports ins (slice_index takes c) c) (samples qs c) ++ spread (slice_index puts) outs (made s inputs w (front takes ins qs)) c
+      samples qs' c ≡ drop (at_ports ins (slice_index takes c) c) (samples qs c) ++ spread (slice_index puts) outs (made s w (front takes ins qs)) c
   pub rooms : (c : ℕ) → c < length qs → room qs' c ≡ room qs c
-  pub lists : (e : ℕ) → e < length outputs → list outputs' e ≡ list outputs e ++ added w (front takes ins qs) e
-  pub capacities : (e : ℕ) → e < length outputs → capacity outputs' e ≡ capacity outputs e

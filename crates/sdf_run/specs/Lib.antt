@@ -4,6 +4,7 @@ pub mod Sizes
 pub mod Firings
 pub mod Runs
 pub mod Answer
+pub mod AtOnce
 pub mod Sweeps
 pub mod Twice
 pub mod Rows

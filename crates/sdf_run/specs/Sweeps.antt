@@ -1,5 +1,5 @@
 -- A run in blocks of periods, whose nodes fire in whatever order their samples come.
-use Rattle.std.specs.Prelude.{◌≡◌, ℕ, ◌+◌, ◌*◌, ◌^◌, ◌≤◌, ◌<◌, Bool, false, IsTrue, List, length, slice_index, sum}
+use Rattle.std.specs.Prelude.{◌≡◌, ℕ, ◌+◌, ◌*◌, ◌^◌, ◌≤◌, ◌<◌, Bool, false, IsTrue, List, length, slice_index, slice_index_or, sum}
 use Rattle.std.specs.declared.vec.Vec.{Vec}
 use Rattle.sdf_graph.specs.Rates.{Rates}
 use Rattle.sdf_graph.specs.Sequences.{IsPass, IsRunnable}
@@ -9,8 +9,9 @@ use Rattle.sdf_actor.specs.Wires.{lists}
 use Rattle.sdf_run.specs.declared.work.Work.{Work}
 use Rattle.sdf_run.specs.declared.run.Run.{Run}
 use Rattle.sdf_run.specs.Held.{Held}
-use Rattle.sdf_run.specs.Blocks.{room}
-use Rattle.sdf_run.specs.Sizes.{Rows, AreSizes}
+use Rattle.sdf_run.specs.Blocks.{samples, room}
+use Rattle.sdf_run.specs.Sizes.{Rows, AreSizes, at_phase}
+use Rattle.sdf_run.specs.Firings.{phase_at}
 use Rattle.sdf_run.specs.Runs.{AreApart, Stands}
 use Rattle.sdf_run.specs.Answer.{periods_of}
 
@@ -47,6 +48,16 @@ IsSwept s r = Sweeps s r.net.now (lists r.inputs.now) r.sizes r.repetitions.now 
 -- a node may fire within the block
 abbrev pub MayFire : {A S T : Type 0} → Steps A S T → Run A T S → ℕ → Type 0
 MayFire s r a = IsRunnable (wiring s r.net.now).rates (periods_of r.repetitions.now r.high) (slice_index r.done.items) a
+
+-- it has so many firings left within the block
+abbrev pub IsLeft : {A S T : Type 0} → Run A T S → ℕ → ℕ → Type 0
+IsLeft r a many = slice_index r.done.items a + many ≡ r.high * slice_index r.repetitions.now a
+
+-- the first channel into a node, where it has one, holds what so many firings take
+abbrev pub AreHeld : {A S T : Type 0} → Steps A S T → Run A T S → ℕ → ℕ → Type 0
+AreHeld {A} {S} {T} s r a times =
+    (d : Work A T S) → let ins = (wiring s r.net.now).ins a in let c = slice_index ins 0 in
+    0 < length ins → times * slice_index (at_phase r.sizes.takes (phase_at (slice_index_or r.works.items a d))) c ≤ length (samples r.queues.items c)
 
 -- the queues have room for a block of so many periods
 abbrev pub HasRoom : {A S T : Type 0} → Steps A S T → ℕ → Run A T S → Type 0

@@ -124,6 +124,7 @@ fn run<A: Actor>(
         works,
         queues,
         outputs,
+        filler,
     };
     run.fire_all(size);
     Ok(run.outputs)

@@ -1,28 +1,35 @@
 //! The samples that stand on a channel.
 
-ghost use Rattle.std.specs.Prelude.{◌≡◌, ◌+◌, ◌≤◌, ◌++◌, IfOk, length, take, drop, vec_len, vec_capacity};
+ghost use Rattle.std.specs.Prelude.{◌≡◌, ◌+◌, ◌-◌, ◌≤◌, ◌<◌, ◌++◌, IfOk, length, take, drop, vec_len, vec_capacity};
+ghost use Rattle.std.specs.List.{between};
+ghost use Rattle.sdf_actor.specs.Steps.{sum_in, sum_out, state_at, puts_to};
 ghost use Rattle.sdf_run.specs.Held.{Held};
 
+use sdf_actor::Actor;
 use std::alloc::{AllocError, Global};
 use std::marker::Model;
+use std::mem;
 
 /// The samples that stand on a channel, the oldest first. Once it is made it takes no memory.
 ///
-/// They lie in one piece of a buffer of twice their room. Those taken are dropped at the front, and the rest moves there
-/// when the end of the buffer is reached: at most one move for each sample put.
+/// They lie in one piece of a buffer of twice their room, where actors read and write them in place. Those taken are
+/// dropped at the front, and the rest moves there when the end of the buffer is reached: at most one move for each sample
+/// put.
 #[derive(Drop)]
 pub(crate) struct Queue<T> {
+    /// The samples, from `start` to `end`. What follows them are fillers.
     items: Vec<T>,
     start: usize,
+    end: usize,
     room: usize,
 }
 
 impl<T> Model for Queue<T> {
     ghost Value = { Held T };
 
-    ghost view = { λ q. record { samples = drop q.start q.items.items; room = q.room } };
+    ghost view = { λ q. record { samples = between q.start q.end q.items.items; room = q.room } };
 
-    ghost invariant = { λ q. (q.start ≤ vec_len q.items) × (q.room + q.room ≤ vec_capacity q.items) };
+    ghost invariant = { λ q. (q.start ≤ q.end) × (q.end ≤ vec_len q.items) × (q.room + q.room ≤ vec_capacity q.items) };
 }
 
 /// Copies a block to the end of a list with room for it.
@@ -37,15 +44,36 @@ pub(crate) fn append<T: Copy>(list: &mut Vec<T>, block: &[T])
     }
 }
 
-/// Moves what follows the first samples of a list to its front.
-fn rewind<T: Copy>(list: &mut Vec<T>, start: usize)
-    requires { start ≤ vec_len list.old }
-    ensures items { list.new.items ≡ drop start list.old.items }
+/// Lengthens a list by fillers, within its room, where it is shorter than that.
+fn lengthen<T: Copy>(list: &mut Vec<T>, len: usize, filler: T)
+    requires { len ≤ vec_capacity list.old }
+    ensures front { take (vec_len list.old) list.new.items ≡ list.old.items }
+    ensures more { vec_len list.old ≤ vec_len list.new }
+    ensures long { len ≤ vec_len list.new }
     ensures capacity { vec_capacity list.new ≡ vec_capacity list.old }
 {
-    let rest = list.len() - start;
-    list.copy_within(start.., 0);
-    list.truncate(rest);
+    while list.len() < len {
+        list.push_reserved(filler);
+    }
+}
+
+/// Where a part of a list begins and ends that has room for more behind it: it moves to the front where the room is not
+/// there.
+fn place_for<T: Copy>(list: &mut Vec<T>, start: usize, end: usize, more: usize) -> (usize, usize)
+    requires rise { start ≤ end }
+    requires within { end ≤ vec_len list.old }
+    requires room { end - start + more ≤ vec_capacity list.old }
+    ensures same { between result.0 result.1 list.new.items ≡ between start end list.old.items }
+    ensures rise { result.0 ≤ result.1 }
+    ensures within { result.1 ≤ vec_len list.new }
+    ensures room { result.1 + more ≤ vec_capacity list.new }
+    ensures capacity { vec_capacity list.new ≡ vec_capacity list.old }
+{
+    if list.capacity() - end >= more {
+        return (start, end);
+    }
+    list.copy_within(start..end, 0);
+    (0, end - start)
 }
 
 impl<T: Copy> Queue<T> {
@@ -57,9 +85,11 @@ impl<T: Copy> Queue<T> {
     {
         let mut items = Vec::with_capacity(alloc, room + room)?;
         append(&mut items, initial);
+        let end = items.len();
         Ok(Queue {
             items,
             start: 0,
+            end,
             room,
         })
     }
@@ -68,7 +98,14 @@ impl<T: Copy> Queue<T> {
     pub(crate) fn len(&self) -> usize
         ensures { result ≡ length self.now.samples }
     {
-        self.items.len() - self.start
+        self.end - self.start
+    }
+
+    /// How many there may be.
+    pub(crate) fn room(&self) -> usize
+        ensures { result ≡ self.now.room }
+    {
+        self.room
     }
 
     /// Puts a block behind the samples.
@@ -76,11 +113,11 @@ impl<T: Copy> Queue<T> {
         requires { length self.old.samples + length block.now ≤ self.old.room }
         ensures { self.new ≡ record self.old { samples = self.old.samples ++ block.now } }
     {
-        if self.items.capacity() - self.items.len() < block.len() {
-            rewind(&mut self.items, self.start);
-            self.start = 0;
-        }
+        let place = place_for(&mut self.items, self.start, self.end, block.len());
+        self.items.truncate(place.1);
         append(&mut self.items, block);
+        self.start = place.0;
+        self.end = self.items.len();
     }
 
     /// Moves the oldest samples to the end of a list with room for them.
@@ -92,8 +129,65 @@ impl<T: Copy> Queue<T> {
         ensures len { vec_len list.new ≡ vec_len list.old + many }
         ensures capacity { vec_capacity list.new ≡ vec_capacity list.old }
     {
+        append(list, self.oldest(many));
+        self.release(many);
+    }
+
+    /// The oldest samples, where they lie.
+    pub(crate) fn oldest(&self, many: usize) -> &[T]
+        requires { many ≤ length self.now.samples }
+        ensures { result.now ≡ take many self.now.samples }
+    {
         let end = self.start + many;
-        append(list, &self.items[self.start..end]);
-        self.start = end;
+        &self.items[self.start..end]
+    }
+
+    /// Lets the oldest samples go.
+    pub(crate) fn release(&mut self, many: usize)
+        requires { many ≤ length self.old.samples }
+        ensures { self.new ≡ record self.old { samples = drop many self.old.samples } }
+    {
+        self.start += many;
+    }
+
+    /// Fires an actor so many times at once, into the room behind the samples, which takes what it puts.
+    pub(crate) fn put_fired<A: Actor<Token = T>>(
+        &mut self,
+        actor: &A,
+        phase: u32,
+        times: usize,
+        state: &mut A::State,
+        taken: &[T],
+        made: usize,
+        filler: T,
+    )
+        requires phase { phase < A.steps.cycle actor.now }
+        requires taken { length taken.now ≡ sum_in A.steps actor.now phase times }
+        requires made { made ≡ sum_out A.steps actor.now phase times }
+        requires room { length self.old.samples + made ≤ self.old.room }
+        ensures state { state.new ≡ state_at A.steps actor.now phase state.old taken.now times }
+        ensures queue { self.new ≡ record self.old { samples = self.old.samples ++ puts_to A.steps actor.now phase state.old taken.now times } }
+        ensures long { length (puts_to A.steps actor.now phase state.old taken.now times) ≡ made }
+    {
+        let place = place_for(&mut self.items, self.start, self.end, made);
+        let end = place.1 + made;
+        lengthen(&mut self.items, end, filler);
+        actor.fire_many(phase, times, state, taken, &mut self.items[place.1..end]);
+        self.start = place.0;
+        self.end = end;
+    }
+
+    /// The queue, and one with no room in its place.
+    pub(crate) fn lift(&mut self) -> Queue<T>
+        ensures { result ≡ self.old }
+    {
+        let alloc = *self.items.allocator();
+        let empty = Queue {
+            items: Vec::new(alloc),
+            start: 0,
+            end: 0,
+            room: 0,
+        };
+        mem::replace(self, empty)
     }
 }

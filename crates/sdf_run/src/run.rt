@@ -2,10 +2,11 @@
 
 ghost use Rattle.std.specs.Prelude.{◌≡◌, ◌+◌, ◌*◌, ◌≤◌, ◌<◌, ◌↔◌, ℕ, false, length, slice_index, IsTrue};
 ghost use Rattle.sdf_actor.specs.Laws.{NetsAreWired, PortsHaveChannels, HistoryGrowsByFiring, TakenStays};
+ghost use Rattle.sdf_run.specs.AtOnce.{CanFireAtOnceAt, AreFiredAt};
 ghost use Rattle.sdf_run.specs.Runs.{CanFireAt, IsFiredAt};
-ghost use Rattle.sdf_run.specs.Sweeps.{IsSwept, MayFire, HasRoom, Keeps, IsMoved};
+ghost use Rattle.sdf_run.specs.Sweeps.{IsSwept, MayFire, HasRoom, Keeps, IsMoved, IsLeft, AreHeld};
 
-use crate::block::hold_blocks;
+use crate::block::{blocks_held, hold_blocks};
 use crate::queue::Queue;
 use crate::sizes::Sizes;
 use crate::work::{Ports, Work};
@@ -30,6 +31,8 @@ pub(crate) struct Run<'a, A: Actor> {
     /// The samples on each channel.
     pub(crate) queues: Vec<Queue<A::Token>>,
     pub(crate) outputs: Vec<Vec<A::Token>>,
+    /// A sample to fill up buffers with.
+    pub(crate) filler: A::Token,
 }
 
 /// The laws that a firing in a run stands on.
@@ -45,7 +48,7 @@ fn step_laws<A: Actor>()
 }
 
 impl<'a, A: Actor> Run<'a, A> {
-    /// Fires a node.
+    /// Fires an actor.
     fn fire(&mut self, a: usize)
         requires { CanFireAt A.steps self.old a }
         ensures { IsFiredAt A.steps self.old self.new a }
@@ -59,14 +62,43 @@ impl<'a, A: Actor> Run<'a, A> {
             channels: self.net.channels_out(a),
             sizes: self.sizes.on(Side::Output, phase),
         };
-        self.works[a].fire(
+        self.works[a].fire(&ins, &outs, &mut self.queues);
+        self.done[a] += 1;
+    }
+
+    /// Fires a node so many times at once.
+    fn fire_at_once(&mut self, a: usize, times: usize)
+        requires { CanFireAtOnceAt A.steps self.old a times }
+        ensures { AreFiredAt A.steps self.old self.new a times }
+    {
+        let phase = self.works[a].phase();
+        let ins = Ports {
+            channels: self.net.channels_in(a),
+            sizes: self.sizes.on(Side::Input, phase),
+        };
+        let outs = Ports {
+            channels: self.net.channels_out(a),
+            sizes: self.sizes.on(Side::Output, phase),
+        };
+        self.works[a].fire_at_once(
+            times,
+            self.filler,
             &ins,
             &outs,
             self.inputs,
             &mut self.queues,
             &mut self.outputs,
         );
-        self.done[a] += 1;
+        self.done[a] += times;
+    }
+
+    /// How many firings a node has left within the block.
+    fn left(&self, a: usize) -> usize
+        requires known { a < length self.now.net.now.nodes }
+        requires swept { IsSwept A.steps self.now }
+        ensures { IsLeft self.now a result }
+    {
+        self.high as usize * self.repetitions[a] as usize - self.done[a]
     }
 
     /// Whether a node may fire within the block: it has firings left there, and the channels into it hold what the next
@@ -77,12 +109,25 @@ impl<'a, A: Actor> Run<'a, A> {
         ensures { IsTrue result ↔ MayFire A.steps self.now a }
     {
         step_laws::<A>();
-        let limit = self.high as usize * self.repetitions[a] as usize;
-        if self.done[a] >= limit {
+        if self.left(a) == 0 {
             return false;
         }
         let sizes = self.sizes.on(Side::Input, self.works[a].phase());
         hold_blocks(self.net.channels_in(a), sizes, &self.queues)
+    }
+
+    /// How many firings of a node with a channel into it at most can be done at once, within the block.
+    fn times(&self, a: usize) -> usize
+        requires may { MayFire A.steps self.now a }
+        requires swept { IsSwept A.steps self.now }
+        ensures some { 0 < result }
+        ensures left { slice_index self.now.done.items a + result ≤ self.now.high * slice_index self.now.repetitions.now a }
+        ensures held { AreHeld A.steps self.now a result }
+    {
+        step_laws::<A>();
+        let left = self.left(a);
+        let sizes = self.sizes.on(Side::Input, self.works[a].phase());
+        blocks_held(self.net.channels_in(a), sizes, &self.queues, left)
     }
 
     /// Fires a node as often as its samples and the block allow, and tells whether it fired.
@@ -96,7 +141,16 @@ impl<'a, A: Actor> Run<'a, A> {
         step_laws::<A>();
         let mut fired = false;
         while self.may_fire(a) {
-            self.fire(a);
+            let at_once = self.works[a].goes_at_once(
+                self.net.channels_in(a),
+                self.net.channels_out(a),
+            );
+            if at_once {
+                let times = self.times(a);
+                self.fire_at_once(a, times);
+            } else {
+                self.fire(a);
+            }
             fired = true;
         }
         fired

@@ -1,11 +1,12 @@
 //! Nodes at work.
 
-ghost use Rattle.std.specs.Prelude.{◌≡◌, ◌+◌, ◌<◌, ◌≤◌, ◌++◌, ℕ, length, slice_index, take};
+ghost use Rattle.std.specs.Prelude.{◌≡◌, ◌+◌, ◌*◌, ◌<◌, ◌≤◌, ◌++◌, ℕ, length, slice_index, take, drop, IsTrue, false};
 ghost use Rattle.std.specs.List.{sum_by};
 ghost use Rattle.sdf_actor.specs.Histories.{spread};
-ghost use Rattle.sdf_actor.specs.Steps.{total_in, total_out};
+ghost use Rattle.sdf_actor.specs.Steps.{total_in, total_out, sum_in, sum_out, state_at, puts_to};
 ghost use Rattle.sdf_actor.specs.Wires.{lists};
-ghost use Rattle.sdf_run.specs.Blocks.{samples, room, ArePorts, HaveRoom};
+ghost use Rattle.sdf_run.specs.AtOnce.{fronts};
+ghost use Rattle.sdf_run.specs.Blocks.{samples, room, at_ports, ArePorts, HaveRoom};
 
 use crate::block::{put_block, take_block};
 use crate::queue::Queue;
@@ -76,8 +77,61 @@ fn put_front<T: Copy>(ports: &Ports, block: &Vec<T>, many: usize, queues: &mut [
     put_block(ports.channels, ports.sizes, &block[..many], queues);
 }
 
+/// So many blocks of a size, within a limit.
+fn blocks(times: usize, size: usize, _most: usize) -> usize
+    requires { times * size ≤ _most }
+    ensures { result ≡ times * size }
+{
+    times * size
+}
+
+/// Fires an actor so many times at once, from one queue's memory to another's.
+fn fire_through<A: Actor>(
+    actor: &A,
+    phase: u32,
+    times: usize,
+    state: &mut A::State,
+    filler: A::Token,
+    ins: &Ports,
+    outs: &Ports,
+    queues: &mut [Queue<A::Token>],
+)
+    requires phase { phase < A.steps.cycle actor.now }
+    requires ins { ArePorts ins.now.channels.now ins.now.sizes.now (length queues.old) }
+    requires outs { ArePorts outs.now.channels.now outs.now.sizes.now (length queues.old) }
+    requires one_in { length ins.now.channels.now ≡ 1 }
+    requires one_out { length outs.now.channels.now ≡ 1 }
+    requires apart { slice_index ins.now.channels.now 0 ≡ slice_index outs.now.channels.now 0 → ⊥ }
+    requires taken { times * slice_index ins.now.sizes.now (slice_index ins.now.channels.now 0) ≡ sum_in A.steps actor.now phase times }
+    requires put { times * slice_index outs.now.sizes.now (slice_index outs.now.channels.now 0) ≡ sum_out A.steps actor.now phase times }
+    requires held { times * slice_index ins.now.sizes.now (slice_index ins.now.channels.now 0) ≤ length (samples queues.old (slice_index ins.now.channels.now 0)) }
+    requires room { length (samples queues.old (slice_index outs.now.channels.now 0)) + times * slice_index outs.now.sizes.now (slice_index outs.now.channels.now 0) ≤ room queues.old (slice_index outs.now.channels.now 0) }
+    ensures state { state.new ≡ state_at A.steps actor.now phase state.old (fronts times ins.now.sizes.now ins.now.channels.now queues.old) times }
+    ensures queues { (c : ℕ) → c < length queues.old → samples queues.new c ≡ drop (at_ports ins.now.channels.now (times * slice_index ins.now.sizes.now c) c) (samples queues.old c) ++
+        spread (λ d. times * slice_index outs.now.sizes.now d) outs.now.channels.now (puts_to A.steps actor.now phase state.old (fronts times ins.now.sizes.now ins.now.channels.now queues.old) times) c }
+    ensures rooms { (c : ℕ) → c < length queues.old → room queues.new c ≡ room queues.old c }
+{
+    let from = ins.channels[0];
+    let to = outs.channels[0];
+    let many = blocks(times, ins.sizes[from], queues[from].len());
+    let more = blocks(times, outs.sizes[to], queues[to].room());
+    let mut target = queues[to].lift();
+    target.put_fired(
+        actor,
+        phase,
+        times,
+        state,
+        queues[from].oldest(many),
+        more,
+        filler,
+    );
+    queues[from].release(many);
+    queues[to] = target;
+}
+
 impl<'a, A: Actor> Work<'a, A> {
-    ghost use Rattle.sdf_run.specs.Firings.{phase_at, CanFire, IsFired};
+    ghost use Rattle.sdf_run.specs.Firings.{phase_at, IsActor, CanFire, IsFired};
+    ghost use Rattle.sdf_run.specs.AtOnce.{GoesAtOnce, CanFireAtOnce, AreFired};
 
     /// The phase of the next firing.
     pub(crate) fn phase(&self) -> u32
@@ -89,40 +143,74 @@ impl<'a, A: Actor> Work<'a, A> {
         }
     }
 
-    /// One firing: from each channel into the node its block is taken, and on each channel out of it a block is put.
-    pub(crate) fn fire(
+    /// One firing of an actor: from each channel into it its block is taken, and on each channel out of it a block is put.
+    pub(crate) fn fire(&mut self, ins: &Ports, outs: &Ports, queues: &mut [Queue<A::Token>])
+        requires { CanFire A.steps ins.now.channels.now outs.now.channels.now ins.now.sizes.now outs.now.sizes.now self.old queues.old }
+        ensures { IsFired A.steps ins.now.channels.now outs.now.channels.now ins.now.sizes.now outs.now.sizes.now self.old self.new queues.old queues.new }
+    {
+        if let Work::Inner {
+            actor,
+            phase,
+            state,
+            taken,
+            put,
+            lengths,
+        } = self
+        {
+            taken.clear();
+            take_block(ins.channels, ins.sizes, queues, taken);
+            let many = lengths[*phase as usize];
+            fire_into(*actor, *phase, state, taken, put, many);
+            put_front(outs, put, many, queues);
+            *phase = next_phase(*phase, actor.cycle());
+        }
+    }
+
+    /// Whether its firings can be done at once, where these are its channels.
+    pub(crate) fn goes_at_once(&self, ins: &[usize], outs: &[usize]) -> bool
+        ensures goes { IsTrue result → GoesAtOnce A.steps self.now ins.now outs.now }
+        ensures others { result ≡ false → IsActor self.now }
+    {
+        match self {
+            Work::Inner { actor, .. } => {
+                actor.cycle() == 1 && ins.len() == 1 && outs.len() == 1 && ins[0] != outs[0]
+            }
+            _ => true,
+        }
+    }
+
+    /// So many firings at once: from the channel into the node all that they take is taken, and on the channel out of it all
+    /// that they put is put.
+    pub(crate) fn fire_at_once(
         &mut self,
+        times: usize,
+        filler: A::Token,
         ins: &Ports,
         outs: &Ports,
         inputs: &[Vec<A::Token>],
         queues: &mut [Queue<A::Token>],
         outputs: &mut [Vec<A::Token>],
     )
-        requires { CanFire A.steps (lists inputs.now) ins.now.channels.now outs.now.channels.now ins.now.sizes.now outs.now.sizes.now self.old queues.old outputs.old }
-        ensures { IsFired A.steps (lists inputs.now) ins.now.channels.now outs.now.channels.now ins.now.sizes.now outs.now.sizes.now self.old self.new queues.old queues.new outputs.old outputs.new }
+        requires { CanFireAtOnce A.steps (lists inputs.now) times ins.now.channels.now outs.now.channels.now ins.now.sizes.now outs.now.sizes.now self.old queues.old outputs.old }
+        ensures { AreFired A.steps (lists inputs.now) times ins.now.channels.now outs.now.channels.now ins.now.sizes.now outs.now.sizes.now self.old self.new queues.old queues.new outputs.old outputs.new }
     {
         match self {
             Work::Source { ext, next, block } => {
-                let end = *next + *block;
-                put_block(outs.channels, outs.sizes, &inputs[*ext][*next..end], queues);
-                *next = end;
+                let last = *next + *block * times;
+                queues[outs.channels[0]].put(&inputs[*ext][*next..last]);
+                *next = last;
             }
-            Work::Sink { ext } => take_block(ins.channels, ins.sizes, queues, &mut outputs[*ext]),
+            Work::Sink { ext } => {
+                let from = ins.channels[0];
+                let many = blocks(times, ins.sizes[from], queues[from].len());
+                queues[from].take(many, &mut outputs[*ext]);
+            }
             Work::Inner {
                 actor,
                 phase,
                 state,
-                taken,
-                put,
-                lengths,
-            } => {
-                taken.clear();
-                take_block(ins.channels, ins.sizes, queues, taken);
-                let many = lengths[*phase as usize];
-                fire_into(*actor, *phase, state, taken, put, many);
-                put_front(outs, put, many, queues);
-                *phase = next_phase(*phase, actor.cycle());
-            }
+                ..
+            } => fire_through(*actor, *phase, times, state, filler, ins, outs, queues),
         }
     }
 }

@@ -1,4 +1,4 @@
-use Rattle.sdf_run.proofs.Longer.{runs_go_on_of}
+use Rattle.sdf_run.proofs.GoingOn.{runs_go_on_of}
 use Rattle.sdf_run.proofs.laws.runs_go_on.Goals as goal
 
 pub returns : goal.returns

@@ -1,12 +1,10 @@
-use Rattle.std.proofs.Common.{◌≡◌, ◌*◌, ◌<◌, ℕ, Bool, true, false, IsTrue, List, length, get_or, refl, sym, ap, ◌∙◌, subst, arith}
-use Rattle.std.proofs.lemmas.List.{get_or_default}
+use Rattle.std.proofs.Common.{◌≡◌, ◌*◌, ◌<◌, ℕ, Bool, true, false, IsTrue, length, get_or, refl, sym, ap, ◌∙◌, subst, arith}
 use Rattle.sdf_actor.specs.Nets.{wiring}
-use Rattle.sdf_run.specs.Held.{Held}
-use Rattle.sdf_run.specs.Blocks.{ArePorts, HoldBlocks}
+use Rattle.sdf_run.specs.Blocks.{ArePorts}
 use Rattle.sdf_run.specs.Sizes.{at_phase}
 use Rattle.sdf_run.specs.Firings.{phase_at}
 use Rattle.sdf_run.proofs.Grown.{Known}
-use Rattle.sdf_run.proofs.Sweeping.{net_known, phase_in, ports_in, may_from, may_holds}
+use Rattle.sdf_run.proofs.Sweeping.{net_known, phase_in, ports_in, may_from, may_holds, holds_along}
 use Rattle.sdf_run.proofs.run.Run.may_fire.Goals as goal
 use Rattle.sdf_run.proofs.run.Run.may_fire.Goals.{After-phase, After-hold_blocks}
 
@@ -14,41 +12,37 @@ told : (b : Bool) → (b ≡ false → ⊥) → IsTrue b
 told true f = refl
 told false f = absurd (f refl)
 
-holds_along : {T : Type 0} (ins ins' sizes sizes' : List ℕ) (qs qs' : List (Held T)) → ins ≡ ins' → sizes ≡ sizes' → qs ≡ qs' → HoldBlocks ins sizes qs → HoldBlocks ins' sizes' qs'
-holds_along ins ins' sizes sizes' qs qs' i s q h =
-    subst (λ x. HoldBlocks x sizes' qs') i (subst (λ x. HoldBlocks ins x qs') s (subst (λ x. HoldBlocks ins sizes x) q h))
-
 known : (g : Rattle.sdf_run.proofs.run.Run.may_fire.Given.Over) (c : After-phase g) → Known g.A.Actor.steps c.args.self.now.net.now
 known g c = net_known g.A.Actor.steps c.step_laws.ensures.wired c.step_laws.ensures.ports c.step_laws.ensures.grows c.step_laws.ensures.stays c.args.self.now c.requires.swept
 
-at : (g : Rattle.sdf_run.proofs.run.Run.may_fire.Given.Over) (c : After-phase g) → phase_at (get_or c.args.self.now.works.items c.args.a c.index-2.result.now) ≡ c.phase.result
-at g c = ap phase_at (sym c.index-2.ensures) ∙ sym c.phase.ensures
+at : (g : Rattle.sdf_run.proofs.run.Run.may_fire.Given.Over) (c : After-phase g) → phase_at (get_or c.args.self.now.works.items c.args.a c.index.result.now) ≡ c.phase.result
+at g c = ap phase_at (sym c.index.ensures) ∙ sym c.phase.ensures
 
 pub on-sizes-requires : goal.on-sizes-requires
 on-sizes-requires g c =
-    let k = phase_in g.A.Actor.steps c.args.self.now c.requires.swept (known g c) c.args.a c.requires.known c.index-2.result.now in
+    let k = phase_in g.A.Actor.steps c.args.self.now c.requires.swept (known g c) c.args.a c.requires.known c.index.result.now in
     subst (λ j. j < length c.args.self.now.sizes.takes) (at g c) k
 
 pub hold_blocks-requires : goal.hold_blocks-requires
 hold_blocks-requires g c =
     let p = (goal.at.hold_blocks-requires g c).After-phase in
     let r = c.args.self.now in
-    let sizes : at_phase r.sizes.takes (phase_at (get_or r.works.items c.args.a c.index-2.result.now)) ≡ c.on-sizes.result.now = ap (at_phase r.sizes.takes) (at g p) ∙ sym c.on-sizes.ensures in
+    let sizes : at_phase r.sizes.takes (phase_at (get_or r.works.items c.args.a c.index.result.now)) ≡ c.on-sizes.result.now = ap (at_phase r.sizes.takes) (at g p) ∙ sym c.on-sizes.ensures in
     subst (λ x. ArePorts x c.on-sizes.result.now (length c.deref.result.now)) (sym c.channels_in.ensures)
     (subst (λ x. ArePorts ((wiring g.A.Actor.steps r.net.now).ins c.args.a) x (length c.deref.result.now)) sizes
-    (subst (λ x. ArePorts ((wiring g.A.Actor.steps r.net.now).ins c.args.a) (at_phase r.sizes.takes (phase_at (get_or r.works.items c.args.a c.index-2.result.now))) x) (ap length (sym c.deref.ensures.value))
-    (ports_in g.A.Actor.steps r c.requires.swept (known g p) c.args.a c.requires.known c.index-2.result.now)))
+    (subst (λ x. ArePorts ((wiring g.A.Actor.steps r.net.now).ins c.args.a) (at_phase r.sizes.takes (phase_at (get_or r.works.items c.args.a c.index.result.now))) x) (ap length (sym c.deref.ensures.value))
+    (ports_in g.A.Actor.steps r c.requires.swept (known g p) c.args.a c.requires.known c.index.result.now)))
 
 pub returns : goal.returns
 returns g c =
     let s = g.A.Actor.steps in
     let p = (goal.at.returns g c).After-phase in
     let r = c.args.self.now in
-    let w = c.index-2.result.now in
+    let w = c.index.result.now in
     let a : ℕ = c.args.a in
-    let sizes : at_phase r.sizes.takes (phase_at (get_or r.works.items c.args.a c.index-2.result.now)) ≡ c.on-sizes.result.now = ap (at_phase r.sizes.takes) (at g p) ∙ sym c.on-sizes.ensures in
+    let sizes : at_phase r.sizes.takes (phase_at (get_or r.works.items c.args.a c.index.result.now)) ≡ c.on-sizes.result.now = ap (at_phase r.sizes.takes) (at g p) ∙ sym c.on-sizes.ensures in
     let left : get_or r.done.items a 0 < r.high * get_or r.repetitions.now a 0 =
-    subst (λ n. n < r.high * get_or r.repetitions.now a 0) (c.index.ensures ∙ get_or_default r.done.items a c.index.result.now 0 (omega (arith, c.requires.swept.all, c.requires.known))) c.if-index-limit.false in (
+    omega (arith, c.left.ensures, c.if-left-eq0.false) in (
       λ t. may_from s r c.requires.swept (known g p) a c.requires.known w left
           (holds_along c.channels_in.result.now ((wiring s r.net.now).ins a) c.on-sizes.result.now (at_phase r.sizes.takes (phase_at (get_or r.works.items a w))) c.deref.result.now r.queues.items
           c.channels_in.ensures (sym sizes) c.deref.ensures.value (c.hold_blocks.ensures.held t)),

@@ -1,0 +1,65 @@
+-- Parts of lists.
+use Rattle.std.proofs.Common.{◌≡◌, ℕ, ◌+◌, ◌-◌, ◌≤◌, List, [], ◌∷◌, ◌++◌, length, get_or, take, drop, refl, sym, ap, ◌∙◌, arith}
+use Rattle.std.specs.List.{between}
+use Rattle.std.proofs.lemmas.List.{drop-drop, take-take, take_all, drop-append-le, length-take-le, length-append}
+use Rattle.std.proofs.lemmas.Slice.{between_is, take-put_mid}
+use borrow.Rule.Slice.PartMut.{put_mid}
+use Rattle.sdf_run.proofs.Sinks.{take_on}
+
+-- a part is a shorter one and what follows it
+pub joined : {X : Type 0} (xs : List X) (i j k : ℕ) → i ≤ j → j ≤ k → between i k xs ≡ between i j xs ++ between j k xs
+joined xs i j k h g =
+    let less : j - i ≤ k - i = omega arith in
+    let rest : (k - i) - (j - i) ≡ k - j = omega arith in
+    let from : i + (j - i) ≡ j = omega arith in
+    take_on (drop i xs) (j - i) (k - i) less ∙
+    ap (λ ys. between i j xs ++ ys)
+    (ap (take ((k - i) - (j - i))) (drop-drop (j - i) i xs) ∙ (λ l. take (rest l) (drop (from l) xs)))
+
+-- a part of a part
+pub inner : {X : Type 0} (xs : List X) (i j k l : ℕ) → i + l ≤ j → between k l (between i j xs) ≡ between (i + k) (i + l) xs
+inner xs i j k l h =
+    let short : l ≤ j - i = omega arith in
+    let long : l - k ≡ (i + l) - (i + k) = omega arith in
+    between_is (between i j xs) k l ∙
+    (ap (drop k) (take-take l (j - i) (drop i xs) short) ∙
+    (sym (between_is (drop i xs) k l) ∙
+    (ap (take (l - k)) (drop-drop k i xs) ∙ ap (λ m. take m (drop (i + k) xs)) long)))
+
+-- a list of none
+pub none_of : {X : Type 0} (xs : List X) → length xs ≡ 0 → xs ≡ []
+none_of [] e = refl
+none_of (x ∷ xs) e = absurd (omega arith)
+
+-- a list of one
+pub one_of : (xs : List ℕ) → length xs ≡ 1 → xs ≡ get_or xs 0 0 ∷ []
+one_of [] e = absurd (omega arith)
+one_of (x ∷ xs) e = ap (λ ys. x ∷ ys) (none_of xs (omega arith))
+
+-- a part whose beginning is dropped
+pub released : {T : Type 0} (xs : List T) (start end many : ℕ) → between (start + many) end xs ≡ drop many (between start end xs)
+released xs start end many = between_is xs (start + many) end ∙ (sym (drop-drop many start (take end xs)) ∙ ap (drop many) (sym (between_is xs start end)))
+
+-- a block behind a part
+pub put_behind : {T : Type 0} (xs ys : List T) (start end last : ℕ) → start ≤ end → end ≤ length xs → last ≡ end + length ys →
+    between start last (take end xs ++ ys) ≡ between start end xs ++ ys
+put_behind xs ys start end last rise within is =
+    let long : length (take end xs) ≡ end = length-take-le end xs within in
+    between_is (take end xs ++ ys) start last ∙
+    (ap (drop start) (take_all last (take end xs ++ ys) (omega (arith, length-append (take end xs) ys))) ∙
+    (drop-append-le start (take end xs) ys (omega (arith, long)) ∙ ap (λ zs. zs ++ ys) (sym (between_is xs start end))))
+
+-- and where it is written over what stood there
+pub put_over : {T : Type 0} (xs ys : List T) (start end many last : ℕ) → start ≤ end → end ≤ length xs → last ≡ end + length ys →
+    between start last (put_mid end many xs ys) ≡ between start end xs ++ ys
+put_over xs ys start end many last rise within is =
+    let long : length (take end xs) ≡ end = length-take-le end xs within in
+    between_is (put_mid end many xs ys) start last ∙
+    (ap (drop start) (take-put_mid end many xs ys last is within) ∙
+    (drop-append-le start (take end xs) ys (omega (arith, long)) ∙ ap (λ zs. zs ++ ys) (sym (between_is xs start end))))
+
+-- a part of the beginning of a longer list
+pub part_of_front : {T : Type 0} (xs ys : List T) (start end : ℕ) → take (length xs) ys ≡ xs → end ≤ length xs → between start end ys ≡ between start end xs
+part_of_front xs ys start end front within =
+    between_is ys start end ∙
+    (ap (drop start) (sym (take-take end (length xs) ys within) ∙ ap (take end) front) ∙ sym (between_is xs start end))
