@@ -204,5 +204,30 @@ impl Actor for Kit {
         }
     }
 
+    fn fire_at_once(
+        &self,
+        _phase: u32,
+        many: usize,
+        state: &mut Kept,
+        taken: &[i32],
+        put: &mut [i32],
+    ) -> bool {
+        // Its rates are 1 at least.
+        self.ports();
+        if state.items().len() != self.kept_len() {
+            return false;
+        }
+        match self {
+            Kit::Fir(f) => f.run(many, state, taken, put),
+            Kit::Decimate(d) => d.run(taken, put),
+            Kit::Interpolate(i) => i.run(taken, put),
+            Kit::Gain(g) => g.run(taken, put),
+            Kit::Delay(d) => d.run(state, taken, put),
+            Kit::Table(t) => t.run(taken, put),
+            Kit::Add(_) | Kit::Fork(_) | Kit::Deal(_) | Kit::Gather(_) => return false,
+        }
+        true
+    }
+
     ghost puts_fit = { kit_puts_fit };
 }
