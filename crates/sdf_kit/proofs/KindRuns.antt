@@ -1,5 +1,5 @@
 -- The kinds with one port a side: what many firings leave and put.
-use Rattle.std.proofs.Common.{◌≡◌, ℕ, zero, suc, ◌+◌, ◌-◌, ◌*◌, ◌/◌, ◌≤◌, ◌<◌, List, [], ◌∷◌, ◌++◌, length, map, take, drop, get_or, ℤ, pos, refl, sym, ◌∙◌, ap, subst, arith}
+use Rattle.std.proofs.Common.{◌≡◌, ℕ, suc, ◌+◌, ◌*◌, ◌/◌, ◌≤◌, ◌<◌, List, [], ◌∷◌, ◌++◌, length, map, take, drop, ℤ, pos, refl, sym, ◌∙◌, ap, subst, arith}
 use Rattle.std.specs.List.{range_with_len}
 use Rattle.std.proofs.lemmas.Nat.{div_below}
 use Rattle.std.proofs.lemmas.List.{length-append, length-drop, append_assoc, append-nil, map-append, drop-drop, take-append-le, drop-append-le, get_or-drop, get_or_append_left, get_or-append-add}
@@ -7,9 +7,9 @@ use Rattle.std.proofs.lemmas.List.FromFn.{length-map-range_with_len, get_or-map-
 use Rattle.std.proofs.Math.Nat.{zero-mul, suc-mul, mul-le-mul_right}
 use Rattle.std.proofs.Math.Seq.{take-add}
 use Rattle.sdf_actor.specs.Steps.{phase, total_in, total_out, sum_in, sum_out, state_at, puts_to}
-use Rattle.sdf_kit.specs.Samples.{sample, settled, upsampled}
+use Rattle.sdf_kit.specs.Samples.{sample, upsampled}
 use Rattle.sdf_kit.specs.Kept.{kept_next}
-use Rattle.sdf_kit.specs.Fir.{Filter, convolved, kept_len, block_put, run_put}
+use Rattle.sdf_kit.specs.Fir.{Filter, kept_len, block_put, run_put}
 use Rattle.sdf_kit.specs.Gain.{Scale, scaled}
 use Rattle.sdf_kit.specs.Table.{Lookup, looked_up}
 use Rattle.sdf_kit.specs.Ports.{ArePorts}

@@ -1,10 +1,10 @@
 -- Many firings as one: an actor whose state and output are known of all that it took.
-use Rattle.std.proofs.Common.{◌≡◌, ℕ, zero, suc, ◌+◌, ◌-◌, ◌*◌, ◌≤◌, ◌<◌, List, [], ◌++◌, length, map, take, drop, get_or, ℤ, pos, refl, sym, ◌∙◌, ap, arith, ⊎_elim}
-use Rattle.std.specs.List.{range_with_len, between}
+use Rattle.std.proofs.Common.{◌≡◌, ℕ, zero, suc, ◌+◌, ◌-◌, ◌*◌, ◌≤◌, ◌<◌, List, [], ◌++◌, length, map, take, drop, get_or, ℤ, pos, sym, ◌∙◌, ap, arith, ⊎_elim}
+use Rattle.std.specs.List.{range_with_len}
 use Rattle.std.proofs.lemmas.Bool.{cases_lt}
 use Rattle.std.proofs.lemmas.List.{length-append, length-map, length-take-le, length-drop, take_all, get_or_append_left, get_or-append_right, get_or-map, ext_get_or}
 use Rattle.std.proofs.lemmas.List.FromFn.{fill_by_all, length-map-range_with_len, get_or-map-range_with_len}
-use Rattle.std.proofs.Math.Nat.{zero-mul, suc-mul, mul-le-mul_right}
+use Rattle.std.proofs.Math.Nat.{zero-mul, suc-mul}
 use Rattle.std.proofs.Math.Seq.{take-add}
 use Rattle.sdf_graph.specs.Rates.{sum_to}
 use Rattle.sdf_actor.specs.Steps.{Steps, phase, total_in, sum_in, block_at, state_at, puts_to}

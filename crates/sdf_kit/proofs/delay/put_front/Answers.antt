@@ -1,4 +1,3 @@
-use Rattle.std.proofs.Common.{arith}
 use Rattle.sdf_kit.proofs.Sliding.{fronts}
 use Rattle.sdf_kit.proofs.delay.put_front.Goals as goal
 
