@@ -36,7 +36,7 @@ test:
 mutants:
 	scripts/mutants $(CRATE)
 
-# Seconds for a minute of sound, beside a plain loop in C (wants python3 and gcc).
+# Seconds and memory on noise, in turn with C, and with sox and ffmpeg where they are installed (wants python3 and gcc).
 bench: build
 	python3 bench/run.py
 

@@ -1,61 +1,106 @@
 #!/usr/bin/env python3
-"""Times the built program on a minute of sound, beside reading and writing alone, and beside a plain loop in C of the same filters.
+"""Times the built program on noise, side by side with C, and with sox and ffmpeg where they are installed.
 
-Prints seconds, samples a second and the factor over real time, the best of three runs each. It asserts nothing.
+The programs take turns, so that what else the machine does falls on all of them. Of each it prints the least and the median seconds,
+the least over that of the fastest C, the greatest memory, and whether it wrote the bytes of the plain loop in C. It asserts nothing.
 """
-import pathlib, re, struct, subprocess, sys, tempfile, time
+import array, pathlib, random, shutil, statistics, struct, subprocess, sys, tempfile, tomllib
 
 TOP = pathlib.Path(__file__).resolve().parent.parent
-SECONDS, RATE = 60, 44100
+CONVERTER, CROSSOVER, ECHO = (TOP / "examples" / name for name in ("44100-to-48000", "crossover", "echo"))
+RATE, ROUNDS = 44100, 5
 
 
-def wav(path, rate, samples):
-    data = struct.pack(f"<{len(samples)}h", *samples)
-    head = b"RIFF" + struct.pack("<I", 36 + len(data)) + b"WAVEfmt " + struct.pack("<IHHIIHH", 16, 1, 1, rate, 2 * rate, 2, 16)
-    path.write_bytes(head + b"data" + struct.pack("<I", len(data)) + data)
+def noise(path, seconds, channels):
+    """A WAV file of noise at half scale."""
+    samples = array.array("h", random.Random(1).randbytes(2 * seconds * RATE * channels))
+    data = array.array("h", (sample >> 1 for sample in samples)).tobytes()
+    form = struct.pack("<IHHIIHH", 16, 1, channels, RATE, 2 * channels * RATE, 2 * channels, 16)
+    path.write_bytes(b"RIFF" + struct.pack("<I", 36 + len(data)) + b"WAVEfmt " + form + b"data" + struct.pack("<I", len(data)) + data)
 
 
-def noise(count):
-    state, samples = 1, []
-    for _ in range(count):
-        state = (1103515245 * state + 12345) & 0x7FFFFFFF
-        samples.append((state >> 15) - 32768)
-    return samples
+def values(path):
+    return tomllib.loads(path.read_text())["values"]
 
 
-def best(command):
-    times = []
-    for _ in range(3):
-        begun = time.perf_counter()
-        subprocess.run(command, check=True)
-        times.append(time.perf_counter() - begun)
-    return min(times)
+def taps(path):
+    """What the C programs know of the designs: the filters of the converter, and the crossover's two."""
+    lines = ["enum { PERIOD_IN = 147, PERIOD_OUT = 160 };"]
+    stages = [actor for actor in tomllib.loads((CONVERTER / "graph.toml").read_text())["actor"] if actor["kind"] == "fir"]
+    entries = []
+    for stage in stages:
+        numbers = values(CONVERTER / stage["file"])
+        lines.append(f"static const int taps_{stage['name']}[] = {{{','.join(map(str, numbers))}}};")
+        entries.append(f"{{{stage['up']}, {stage['down']}, {stage['shift']}, {len(numbers)}, taps_{stage['name']}}}")
+    lines.append(f"enum {{ STAGES = {len(entries)} }};\n__attribute__((unused)) static const Filter stages[] = {{{', '.join(entries)}}};")
+    for name in ("low300", "low3000"):
+        numbers = values(CROSSOVER / f"{name}.toml")
+        lines.append(f"static const int taps_{name}[] = {{{','.join(map(str, numbers))}}};")
+        lines.append(f"__attribute__((unused)) static const Filter {name} = {{1, 1, 15, {len(numbers)}, taps_{name}}};")
+    path.write_text("\n".join(lines) + "\n")
 
 
-def tell(name, seconds):
-    print(f"{name}: {seconds:.3f} s, {SECONDS * RATE / seconds:,.0f} samples a second, {SECONDS / seconds:.0f} times real time")
+def compiled(folder, name):
+    made = folder / name
+    if made.exists():
+        return str(made)
+    flags = ["-O3", "-march=native", "-Wall", "-Wextra", "-I", str(folder)]
+    subprocess.run(["gcc", *flags, "-o", str(made), str(TOP / "bench" / f"{name}.c")], check=True)
+    return str(made)
+
+
+def run(meter, command):
+    """The seconds that a command takes, and its greatest memory in kilobytes."""
+    told = pathlib.Path(meter + ".txt")
+    subprocess.run([meter, str(told), *command], check=True)
+    seconds, memory = told.read_text().split()
+    return float(seconds), int(memory)
+
+
+def measure(meter, title, seconds, commands, made):
+    """Measures commands by name in turn; those in C have names that begin with C."""
+    seen = {name: [] for name in commands}
+    for _ in range(ROUNDS):
+        for name, command in commands.items():
+            seen[name].append(run(meter, command))
+    least = {name: min(took for took, _ in runs) for name, runs in seen.items()}
+    fastest = min(took for name, took in least.items() if name.startswith("C"))
+    plain = made["C, plain loop"].read_bytes()
+    print(f"{title}, {seconds} s")
+    for name, runs in seen.items():
+        middle, memory = statistics.median(took for took, _ in runs), max(memory for _, memory in runs)
+        same = "" if name in ("sox", "ffmpeg") else "the same bytes" if made[name].read_bytes() == plain else "OTHER BYTES"
+        print(f"  {name:14} {least[name]:8.3f} {middle:8.3f} s {least[name] / fastest:7.2f} times {memory / 1024:7.1f} MB  {same}")
+
+
+def compare(folder, title, graph, programs, channels, rate):
+    """Measures a design beside programs, on 10 s and 60 s of noise."""
+    others = {"sox": ["sox", None, "-b", "16", "-r", "48000", None], "ffmpeg": ["ffmpeg", "-v", "error", "-y", "-i", None, "-ar", "48000", None]}
+    for seconds in (10, 60):
+        source = folder / f"{seconds}-{channels}.wav"
+        if not source.exists():
+            noise(source, seconds, channels)
+        made = {name: folder / f"{place}.wav" for place, name in enumerate(["sdfw", *programs, *others])}
+        commands = {"sdfw": [str(TOP / "build/sdfw"), "run", str(graph), str(source), str(made["sdfw"])]}
+        for name, program in programs.items():
+            commands[name] = [program, str(source), str(made[name])]
+        for name, words in others.items():
+            if rate and shutil.which(name):
+                paths = iter((str(source), str(made[name])))
+                commands[name] = [word or next(paths) for word in words]
+        measure(compiled(folder, "measure"), title, seconds, commands, made)
 
 
 def main():
     with tempfile.TemporaryDirectory() as folder:
         folder = pathlib.Path(folder)
-        source, made, plain = folder / "in.wav", folder / "out.wav", folder / "plain.wav"
-        wav(source, RATE, noise(SECONDS * RATE))
-        program = str(TOP / "build/sdfw")
-        design = TOP / "examples/44100-to-48000"
-        tell("44,100 to 48,000 by sdfw", best([program, "run", str(design / "graph.toml"), str(source), str(made)]))
-        copy = folder / "copy.toml"
-        copy.write_text('format = 1\nactor = [{ name = "in", kind = "input", channel = 0 }, { name = "out", kind = "output", channel = 0 }]\nlink = [{ from = "in", to = "out" }]\n')
-        tell("reading and writing alone", best([program, "run", str(copy), str(source), str(folder / "copy.wav")]))
-        taps = []
-        for stage in "abcd":
-            values = re.search(r"values = \[(.*?)\]", (design / f"{stage}.toml").read_text(), re.S).group(1)
-            taps.append([int(value) for value in values.replace("\n", " ").split(",") if value.strip()])
-        lines = [f"static const int taps_{s}[] = {{{','.join(map(str, t))}}};\nenum {{ many_{s} = {len(t)} }};\n" for s, t in zip("abcd", taps)]
-        (folder / "taps.h").write_text("".join(lines))
-        subprocess.run(["gcc", "-O2", "-I", str(folder), "-o", str(folder / "plain"), str(TOP / "bench/plain.c")], check=True)
-        tell("the same by a plain loop in C", best([str(folder / "plain"), str(source), str(plain)]))
-        print("the same bytes:", made.read_bytes() == plain.read_bytes())
+        taps(folder / "taps.h")
+        chain = {"C, plain loop": compiled(folder, "plain"), "C, SIMD": compiled(folder, "simd")}
+        print("seconds: least, median; over the fastest C; greatest memory")
+        compare(folder, "44,100 to 48,000, mono", CONVERTER / "graph.toml", chain, 1, True)
+        compare(folder, "44,100 to 48,000, stereo", CONVERTER / "graph-stereo.toml", chain, 2, True)
+        compare(folder, "crossover", CROSSOVER / "graph.toml", {"C, plain loop": compiled(folder, "crossover")}, 1, False)
+        compare(folder, "echo", ECHO / "graph.toml", {"C, plain loop": compiled(folder, "echo")}, 1, False)
 
 
 if __name__ == "__main__":

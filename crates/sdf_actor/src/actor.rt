@@ -1,6 +1,6 @@
 //! Actors.
 
-ghost use Rattle.std.specs.Prelude.{◌≡◌, ◌+◌, ◌%◌, ◌<◌, ◌≤◌, ℕ, length, IfOk};
+ghost use Rattle.std.specs.Prelude.{◌≡◌, ◌+◌, ◌%◌, ◌<◌, ◌≤◌, ℕ, cond, length, IfOk};
 ghost use Rattle.sdf_actor.specs.Steps.{Steps, total_in, total_out, sum_in, sum_out, state_at, puts_to, PutsFit};
 
 use sdf_limits::MOST_PORTS;
@@ -86,6 +86,25 @@ pub trait Actor: Sync + Drop {
         total
     }
 
+    /// Fires many times in one piece of work, where it has one for that, and answers true; else it does nothing. `fire_many`
+    /// asks it first. It takes no memory.
+    fn fire_at_once(
+        &self,
+        phase: u32,
+        many: usize,
+        state: &mut Self::State,
+        taken: &[Self::Token],
+        put: &mut [Self::Token],
+    ) -> bool
+        requires phase { phase < steps.cycle self.now }
+        requires taken { length taken.now ≡ sum_in steps self.now phase many }
+        requires put { length put.old ≡ sum_out steps self.now phase many }
+        ensures state { state.new ≡ cond result (state_at steps self.now phase state.old taken.now many) state.old }
+        ensures put { put.new ≡ cond result (puts_to steps self.now phase state.old taken.now many) put.old }
+    {
+        false
+    }
+
     /// Fires many times, the first time at a phase, from consecutive blocks to consecutive blocks: the block of a firing
     /// stands behind that of the one before it. It takes no memory.
     fn fire_many(
@@ -102,6 +121,9 @@ pub trait Actor: Sync + Drop {
         ensures state { state.new ≡ state_at steps self.now phase state.old taken.now many }
         ensures put { put.new ≡ puts_to steps self.now phase state.old taken.now many }
     {
+        if self.fire_at_once(phase, many, state, taken, put) {
+            return;
+        }
         sdf_graph::laws::sums_rise();
         let mut now = phase;
         let mut read = 0;

@@ -5,7 +5,8 @@
 //! 2. a module here with its struct, whose `new`, `ports` and `fire` have that as their contracts;
 //! 3. its name, and those of its new keys, in `fault.rt` and `specs/Fault.antt`;
 //! 4. a variant, a constructor and an arm of each `match` below, and a row of `specs/Kit.antt`;
-//! 5. a case in `specs/PutsFit.antt` (its blocks have their lengths) and in `proofs/Formulas.antt` (it puts its formula).
+//! 5. a case in `specs/PutsFit.antt` (its blocks have their lengths) and in `proofs/Formulas.antt` (it puts its formula);
+//! 6. where many firings in one call are worth it, a `run`, its arm in `fire_at_once`, and its lemma in `proofs/KindRuns.antt`.
 
 ghost use Rattle.std.specs.Prelude.{◌≡◌, ◌≤◌};
 ghost use Rattle.sdf_actor.specs.Steps.{Steps, total_in, total_out, PutsFit};
@@ -202,6 +203,31 @@ impl Actor for Kit {
             Kit::Deal(d) => d.fire(taken, put),
             Kit::Gather(g) => g.fire(taken, put),
         }
+    }
+
+    fn fire_at_once(
+        &self,
+        _phase: u32,
+        many: usize,
+        state: &mut Kept,
+        taken: &[i32],
+        put: &mut [i32],
+    ) -> bool {
+        // By its ports, its rates are 1 at least.
+        self.ports();
+        if state.items().len() != self.kept_len() {
+            return false;
+        }
+        match self {
+            Kit::Fir(f) => f.run(many, state, taken, put),
+            Kit::Decimate(d) => d.run(taken, put),
+            Kit::Interpolate(i) => i.run(taken, put),
+            Kit::Gain(g) => g.run(taken, put),
+            Kit::Delay(d) => d.run(state, taken, put),
+            Kit::Table(t) => t.run(taken, put),
+            Kit::Add(_) | Kit::Fork(_) | Kit::Deal(_) | Kit::Gather(_) => return false,
+        }
+        true
     }
 
     ghost puts_fit = { kit_puts_fit };

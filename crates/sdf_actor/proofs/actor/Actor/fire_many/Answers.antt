@@ -1,4 +1,4 @@
-use Rattle.std.proofs.Common.{◌≡◌, ℕ, ◌+◌, ◌%◌, length, refl, sym, ap, ◌∙◌, arith}
+use Rattle.std.proofs.Common.{◌≡◌, ℕ, ◌+◌, ◌%◌, cond, length, refl, sym, ap, ◌∙◌, arith}
 use Rattle.std.proofs.lemmas.List.{take_all}
 use Rattle.sdf_actor.specs.Steps.{sum_out, state_at, puts_to}
 use Rattle.sdf_actor.proofs.Many.{begins, read_within, written_within, phase_more, read_more, written_more, long_after, state_after_one, puts_after_one}
@@ -9,8 +9,8 @@ loop-init g c = record {
   now = begins g.Self.Actor.steps c.args.self.now c.args.phase c.requires.phase;
   read = refl;
   written = refl;
-  long = refl;
-  state = refl;
+  long = ap length (c.fire_at_once.ensures.put ∙ ap (λ b. cond b (puts_to g.Self.Actor.steps c.args.self.now c.args.phase c.args.state.now c.args.taken.now c.args.many) c.args.put.now) c.if-fire_at_once.false);
+  state = c.fire_at_once.ensures.state ∙ ap (λ b. cond b (state_at g.Self.Actor.steps c.args.self.now c.args.phase c.args.state.now c.args.taken.now c.args.many) c.args.state.now) c.if-fire_at_once.false;
   put = refl;
 }
 

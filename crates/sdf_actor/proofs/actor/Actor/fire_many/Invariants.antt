@@ -7,7 +7,7 @@ invariant-loop g l = record {
   now : l.now ≡ phase g.Self.Actor.steps l.self (l.phase + l.counter);
   read : l.read ≡ sum_in g.Self.Actor.steps l.self l.phase l.counter;
   written : l.written ≡ sum_out g.Self.Actor.steps l.self l.phase l.counter;
-  long : length l.put ≡ length l.initial.put;
-  state : l.state ≡ state_at g.Self.Actor.steps l.self l.phase l.initial.state l.taken l.counter;
-  put : take l.written l.put ≡ puts_to g.Self.Actor.steps l.self l.phase l.initial.state l.taken l.counter;
+  long : length l.put ≡ length l.fn.put;
+  state : l.state ≡ state_at g.Self.Actor.steps l.self l.phase l.fn.state l.taken l.counter;
+  put : take l.written l.put ≡ puts_to g.Self.Actor.steps l.self l.phase l.fn.state l.taken l.counter;
 }

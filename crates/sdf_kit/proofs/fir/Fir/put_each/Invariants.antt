@@ -1,4 +1,4 @@
-use Rattle.sdf_kit.proofs.fir.Fir.put_block.Given as goal
+use Rattle.sdf_kit.proofs.fir.Fir.put_each.Given as goal
 
 abbrev pub ghosts-put_plain : goal.ghosts-put_plain
 ghosts-put_plain a = record { name = a.blank.name; parts = a.blank.parts }

@@ -1,7 +1,7 @@
 use Rattle.std.proofs.Common.{◌≡◌, ◌∙◌, ◌+◌, ◌-◌, ◌*◌, ◌≤◌, ◌++◌, ℕ, List, ℤ, length, take, drop, ap, sym, subst, arith}
 use Rattle.sdf_kit.specs.Fir.{Filter, kept_len, run_put}
 use Rattle.sdf_kit.proofs.Blocks.{IsDone, round_more, all_kept, all_done}
-use Rattle.sdf_kit.proofs.fir.Fir.run.Goals as goal
+use Rattle.sdf_kit.proofs.fir.Fir.run_blocks.Goals as goal
 
 pub rounds-preserved : goal.rounds-preserved
 rounds-preserved c =
