@@ -10,3 +10,4 @@ pub mod Tabling
 pub mod Making
 pub mod Numbers
 pub mod Example
+pub mod Dealt
