@@ -7,3 +7,4 @@ pub mod Going
 pub mod Reaches
 pub mod Folds
 pub mod Quiescent
+pub mod PairAtWork
