@@ -8,3 +8,5 @@ pub mod Reaches
 pub mod Folds
 pub mod Quiescent
 pub mod PairAtWork
+pub mod PairPlanned
+pub mod Own

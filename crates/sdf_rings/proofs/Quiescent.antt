@@ -8,11 +8,11 @@ use Rattle.sdf_actor.specs.Steps.{Steps}
 use Rattle.sdf_actor.specs.Histories.{Wiring, Answers, taken, put, taken_before, IsWired}
 use Rattle.sdf_actor.specs.Nets.{Netlist, node, wiring, answers, IsNet, IsHistoryOf}
 use Rattle.sdf_rings.specs.Machine.{Machine, Event, Take, Put, happens, IsAllowed, IsRun, after}
-use Rattle.sdf_rings.specs.MachineLaws.{Rest, resting, firings, capacity, IsQuiescent, IsStateOf, HasGrown, IsWithin, QuiescentReached}
+use Rattle.sdf_rings.specs.MachineLaws.{blocks_left, Rest, resting, firings, capacity, IsQuiescent, IsStateOf, HasGrown, IsWithin, QuiescentReached}
 use Rattle.sdf_rings.proofs.Kept.{NetLaws, Keeps, keeps_run, last_agrees}
 use Rattle.sdf_rings.proofs.Plans.{sequence_of, plan_sequence}
 use Rattle.sdf_rings.proofs.Progress.{goes_on}
-use Rattle.sdf_rings.proofs.Reaches.{todo, runs_to_end}
+use Rattle.sdf_rings.proofs.Reaches.{runs_to_end}
 use Rattle.sdf_rings.proofs.Folds.{state_is, put_is}
 
 -- what is allowed within fewer firings is allowed within more
@@ -110,7 +110,7 @@ quiescent_reached last others alike repeats {A} {S} {T} s laws n inputs p b x y 
     (λ c l. omega (arith, within c l, grown.lengths c l)) in
     let goes = (λ (m : Machine T). goes_on last others f ok y.done cap (sequence_of p b) seq.admissible later.enough cap_y seq.room m (λ a l. omega (arith, short a l, seq.counts a l))) in
     let start : Machine T = resting s n x in
-    let run = runs_to_end f (answers s n inputs) y.done cap goes (todo f y.done start f.rates.channels) start (omega arith) in
+    let run = runs_to_end f (answers s n inputs) y.done cap goes (blocks_left f y.done start f.rates.channels) start (omega arith) in
     let end : Machine T = after f (answers s n inputs) start run.0 in
     let kept : Keeps f y.done cap y.lists end =
     keeps_run s laws n plan.net inputs y.done cap y.lists later start run.0 (keeps_resting s laws n plan.net inputs cap x y rest grown) run.1 in

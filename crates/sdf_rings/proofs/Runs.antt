@@ -1,12 +1,13 @@
--- What every run has put, and that it keeps within the capacities.
-use Rattle.std.proofs.Common.{ℕ, List, sym, arith}
+-- What every run has put, that it keeps within the capacities, and where it ends.
+use Rattle.std.proofs.Common.{◌≡◌, ◌+◌, ap, ◌∙◌, ℕ, List, sym, arith}
+use Rattle.std.proofs.lemmas.List.{take_all}
 use Rattle.sdf_graph.specs.Laws.{AlikeSequences}
 use Rattle.sdf_prec.specs.Laws.{TablesRepeat}
 use Rattle.sdf_actor.specs.Steps.{Steps}
 use Rattle.sdf_actor.specs.Nets.{Netlist, wiring, IsHistoryOf}
 use Rattle.sdf_actor.specs.Laws.{HistoryExists}
 use Rattle.sdf_rings.specs.Machine.{Event, at_start}
-use Rattle.sdf_rings.specs.MachineLaws.{Plan, IsPlan, IsRunOf, firings, capacity, reached, RunsPutPrefixes, RunsKeepWithin}
+use Rattle.sdf_rings.specs.MachineLaws.{Plan, IsPlan, IsRunOf, firings, capacity, reached, RunsPutPrefixes, RunsKeepWithin, RunsEndInHistories}
 use Rattle.sdf_rings.proofs.Kept.{NetLaws, Keeps, keeps_start, keeps_run, long, begins}
 use Rattle.sdf_rings.proofs.Plans.{plan_sequence, sequence_of, room_first}
 
@@ -32,3 +33,10 @@ module _ (alike : AlikeSequences) (repeats : TablesRepeat) {A S T : Type 0} (s :
       let V = exists n inputs (sequence_of p b) (firings p b) plan.net is.admissible (λ a k. sym (is.counts a k)) reach in
       let keep = kept n inputs p b V.0 es plan V.1 run in
       omega (arith, keep.counts.room c l, long s laws n plan.net inputs (firings p b) (capacity p) V.0 V.1 (reached s n inputs es) keep c l)
+
+  pub runs_end_in_histories : RunsEndInHistories s
+  runs_end_in_histories n inputs p b V es plan history run over c l =
+      let keep = kept n inputs p b V es plan history run in
+      let gave = (over c l).1 in
+      let size : (wiring s n).rates.produced c ((reached s n inputs es).gave c) ≡ (wiring s n).rates.produced c (firings p b ((wiring s n).rates.source c)) = ap ((wiring s n).rates.produced c) gave in
+      keep.lists c l ∙ take_all ((wiring s n).rates.initial c + (wiring s n).rates.produced c ((reached s n inputs es).gave c)) (V c) (omega (arith, history.lengths c l))

@@ -20,7 +20,7 @@ pub record Plan : Type 0 where
   pub width : ℕ
   pub table : Tabled
 
--- the graph is the net's, and the table is valid
+-- the graph is the net's, and the table is valid. Where its actors are at home is not asked: the laws hold of each valid table
 pub record IsPlan {A S T : Type 0} (s : Steps A S T) (n : Netlist A T) (p : Plan) : Type 0 where
   pub net : IsNet s n
   pub alike : IsAlike p.rates (wiring s n).rates
@@ -70,6 +70,35 @@ RunsGoOn {A} {S} {T} s =
     (n : Netlist A T) (inputs : List (List T)) (p : Plan) (b : ℕ) (es : List Event) →
     IsPlan s n p → IsRunOf s n inputs p b es →
     IsOver s n (firings p b) (reached s n inputs es) ⊎ ((e : Event) × IsAllowed (wiring s n) (firings p b) (capacity p) (reached s n inputs es) e)
+
+-- how many blocks of k firings have still to move at the first so many channels
+abbrev pub blocks_left : {A : Type 0} → Wiring A → (ℕ → ℕ) → Machine A → ℕ → ℕ
+blocks_left f k m zero = 0
+blocks_left f k m (suc c) = blocks_left f k m c + ((k (f.rates.target c) - m.took c) + (k (f.rates.source c) - m.gave c))
+
+-- each event moves one of them, so no run has more events than there are blocks
+abbrev pub RunsMoveBlocks : {A S T : Type 0} → Steps A S T → Type 0
+RunsMoveBlocks {A} {S} {T} s =
+    (n : Netlist A T) (inputs : List (List T)) (p : Plan) (b : ℕ) (es : List Event) → IsPlan s n p → IsRunOf s n inputs p b es →
+    length es + blocks_left (wiring s n) (firings p b) (reached s n inputs es) (length n.wires) ≡
+    blocks_left (wiring s n) (firings p b) (at_start (wiring s n)) (length n.wires)
+
+-- where all have moved, each channel was given its history
+abbrev pub RunsEndInHistories : {A S T : Type 0} → Steps A S T → Type 0
+RunsEndInHistories {A} {S} {T} s =
+    (n : Netlist A T) (inputs : List (List T)) (p : Plan) (b : ℕ) (V : ℕ → List T) (es : List Event) →
+    IsPlan s n p → IsHistoryOf s n inputs (firings p b) V → IsRunOf s n inputs p b es → IsOver s n (firings p b) (reached s n inputs es) →
+    (c : ℕ) → c < length n.wires → (reached s n inputs es).lists c ≡ V c
+
+-- a channel from an actor to itself is never waited for: once the turn of a block has come, its samples are there for the take, and
+-- the room for the put
+abbrev pub OwnNeverWaits : {A S T : Type 0} → Steps A S T → Type 0
+OwnNeverWaits {A} {S} {T} s =
+    (n : Netlist A T) (p : Plan) (b : ℕ) (m : Machine T) (c : ℕ) →
+    IsPlan s n p → c < length n.wires → (wiring s n).rates.source c ≡ (wiring s n).rates.target c →
+    (m.took c < firings p b ((wiring s n).rates.target c) → m.took c ≤ m.gave c → (wiring s n).rates.consumed c (m.took c + 1) ≤ put_on (wiring s n) m c) ×
+    (m.gave c < firings p b ((wiring s n).rates.source c) → m.gave c < m.took c →
+    (wiring s n).rates.initial c + (wiring s n).rates.produced c (m.gave c + 1) ≤ capacity p c + taken_from (wiring s n) m c)
 
 -- all actors are idle: how often each has fired, its state, and what each channel was given
 pub record Rest (S T : Type 0) : Type 0 where

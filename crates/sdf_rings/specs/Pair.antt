@@ -1,5 +1,5 @@
 -- A ring at work: `in` puts 2 samples in a firing and `out` takes 3, over a channel that holds at most 6.
-use Rattle.std.specs.Prelude.{◌≡◌, ℕ, ◌*◌, ◌-◌, ◌<◌, List, [], ◌∷◌, ◌++◌, Option, Some, None, slice_index}
+use Rattle.std.specs.Prelude.{◌≡◌, ℕ, ◌-◌, List, [], ◌∷◌, Option, Some, None}
 use Rattle.sdf_prec.specs.declared.firing.Firing.{Firing}
 use Rattle.sdf_actor.specs.declared.node.Node.TheVariants.{Source, Sink}
 use Rattle.sdf_actor.specs.Steps.{Steps}

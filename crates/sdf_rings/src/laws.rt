@@ -1,6 +1,6 @@
 //! Laws of the ring machine, each the contract of a function that does nothing but call laws.
 
-ghost use Rattle.sdf_rings.specs.MachineLaws.{RunsPutPrefixes, RunsKeepWithin, RunsGoOn, QuiescentReached};
+ghost use Rattle.sdf_rings.specs.MachineLaws.{RunsPutPrefixes, RunsKeepWithin, RunsGoOn, RunsMoveBlocks, RunsEndInHistories, OwnNeverWaits, QuiescentReached};
 
 use sdf_actor::Actor;
 
@@ -34,6 +34,29 @@ pub fn runs_go_on<A: Actor>()
     sdf_graph::laws::counts_grow();
     sdf_graph::laws::alike_sequences();
     sdf_prec::laws::tables_repeat();
+    sdf_actor::laws::nets_are_wired::<A>();
+}
+
+/// Each event of a run moves one of the blocks, and where all have moved the channels were given their histories.
+pub fn runs_end<A: Actor>()
+    ensures count { RunsMoveBlocks A.steps }
+    ensures histories { RunsEndInHistories A.steps }
+{
+    sdf_graph::laws::alike_sequences();
+    sdf_prec::laws::tables_repeat();
+    sdf_actor::laws::nets_are_wired::<A>();
+    sdf_actor::laws::taken_stays::<A>();
+    sdf_actor::laws::put_stays::<A>();
+}
+
+/// A channel from an actor to itself never keeps it waiting.
+pub fn own_never_waits<A: Actor>()
+    ensures { OwnNeverWaits A.steps }
+{
+    sdf_graph::laws::counts_grow();
+    sdf_graph::laws::alike_sequences();
+    sdf_prec::laws::tables_repeat();
+    sdf_prec::laws::the_next_may_fire();
     sdf_actor::laws::nets_are_wired::<A>();
 }
 
