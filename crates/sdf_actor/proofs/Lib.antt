@@ -11,3 +11,4 @@ pub mod Making
 pub mod Numbers
 pub mod Example
 pub mod Locals
+pub mod Dealt

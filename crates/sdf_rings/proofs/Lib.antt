@@ -1,0 +1,12 @@
+pub mod Counts
+pub mod Kept
+pub mod Plans
+pub mod Runs
+pub mod Progress
+pub mod Going
+pub mod Reaches
+pub mod Folds
+pub mod Quiescent
+pub mod PairAtWork
+pub mod PairPlanned
+pub mod Own

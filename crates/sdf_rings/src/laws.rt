@@ -1,0 +1,73 @@
+//! Laws of the ring machine, each the contract of a function that does nothing but call laws.
+
+ghost use Rattle.sdf_rings.specs.MachineLaws.{RunsPutPrefixes, RunsKeepWithin, RunsGoOn, RunsMoveBlocks, RunsEndInHistories, OwnNeverWaits, QuiescentReached};
+
+use sdf_actor::Actor;
+
+/// What a run has put on each channel begins the channel's history.
+pub fn runs_put_prefixes<A: Actor>()
+    ensures { RunsPutPrefixes A.steps }
+{
+    sdf_graph::laws::alike_sequences();
+    sdf_prec::laws::tables_repeat();
+    sdf_actor::laws::nets_are_wired::<A>();
+    sdf_actor::laws::taken_stays::<A>();
+    sdf_actor::laws::put_stays::<A>();
+}
+
+/// In a run no channel passes its capacity.
+pub fn runs_keep_within<A: Actor>()
+    ensures { RunsKeepWithin A.steps }
+{
+    sdf_graph::laws::alike_sequences();
+    sdf_prec::laws::tables_repeat();
+    sdf_actor::laws::nets_are_wired::<A>();
+    sdf_actor::laws::taken_stays::<A>();
+    sdf_actor::laws::put_stays::<A>();
+    sdf_actor::laws::one_history::<A>();
+}
+
+/// A run that is not over goes on.
+pub fn runs_go_on<A: Actor>()
+    ensures { RunsGoOn A.steps }
+{
+    sdf_graph::laws::counts_grow();
+    sdf_graph::laws::alike_sequences();
+    sdf_prec::laws::tables_repeat();
+    sdf_actor::laws::nets_are_wired::<A>();
+}
+
+/// Each event of a run moves one of the blocks, and where all have moved the channels were given their histories.
+pub fn runs_end<A: Actor>()
+    ensures count { RunsMoveBlocks A.steps }
+    ensures histories { RunsEndInHistories A.steps }
+{
+    sdf_graph::laws::alike_sequences();
+    sdf_prec::laws::tables_repeat();
+    sdf_actor::laws::nets_are_wired::<A>();
+    sdf_actor::laws::taken_stays::<A>();
+    sdf_actor::laws::put_stays::<A>();
+}
+
+/// A channel from an actor to itself never keeps it waiting.
+pub fn own_never_waits<A: Actor>()
+    ensures { OwnNeverWaits A.steps }
+{
+    sdf_graph::laws::counts_grow();
+    sdf_graph::laws::alike_sequences();
+    sdf_prec::laws::tables_repeat();
+    sdf_prec::laws::the_next_may_fire();
+    sdf_actor::laws::nets_are_wired::<A>();
+}
+
+/// From one quiescent state to the next there is a run.
+pub fn quiescent_reached<A: Actor>()
+    ensures { QuiescentReached A.steps }
+{
+    sdf_graph::laws::counts_grow();
+    sdf_graph::laws::alike_sequences();
+    sdf_prec::laws::tables_repeat();
+    sdf_actor::laws::nets_are_wired::<A>();
+    sdf_actor::laws::taken_stays::<A>();
+    sdf_actor::laws::put_stays::<A>();
+}
