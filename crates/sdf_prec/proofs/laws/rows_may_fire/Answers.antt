@@ -2,4 +2,4 @@ use Rattle.sdf_prec.proofs.RowFirings.{rows_may_fire}
 use Rattle.sdf_prec.proofs.laws.rows_may_fire.Goals as goal
 
 pub returns : goal.returns
-returns c = rows_may_fire
+returns c = rows_may_fire c.graph_laws.ensures
