@@ -49,13 +49,16 @@ decides_of one d o (Ok p) passed is both =
     record { period = p.period.repetitions; least = is.schedule.period.least; sequence = p.period.order; completes = is.schedule.period.pass }
 decides_of one d o (Err fault.OutOfMemory) passed is both = both
 decides_of one d o (Err (fault.Deadlock stalled)) passed is both = not_live one d is.1.period is.1.least is.1.deadlocked
-decides_of one d o (Err (fault.NotYet wav)) passed is both = absurd (is.1 passed.one)
+decides_of one d o (Err (fault.NotYet wav)) passed is both = absurd (passed.there is.1)
 decides_of one d o (Err fault.BlockingFactor) passed is both = absurd (is.1 passed.sizes.0)
 decides_of one d o (Err fault.WorkerCount) passed is both = absurd (is.1.1 passed.sizes.1)
-decides_of one d o (Err (fault.Table f)) passed is both = absurd is.1
+decides_of one d o (Err (fault.Table f)) passed is both =
+    let schedule = is.1.by_policy.period in
+    record { period = is.1.period.repetitions; least = schedule.least; sequence = is.1.period.order; completes = schedule.pass }
 decides_of one d o (Err (fault.Words w)) passed is both = absurd is.1
 decides_of one d o (Err (fault.File f)) passed is both = absurd is.1
 decides_of one d o (Err fault.InputLength) passed is both = absurd is.1
+decides_of one d o (Err fault.NoWorker) passed is both = absurd is.1
 decides_of one d o (Err (fault.Wav f)) passed is both = absurd is.1
 decides_of one d o (Err fault.Read) passed is both = absurd is.1
 decides_of one d o (Err fault.Write) passed is both = absurd is.1

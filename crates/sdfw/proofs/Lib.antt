@@ -8,3 +8,4 @@ pub mod Sounds
 pub mod Rendering
 pub mod Deadlocks
 pub mod Outputs
+pub mod Suiting

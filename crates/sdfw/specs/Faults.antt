@@ -41,6 +41,7 @@ of_file f = fault.File f
 abbrev pub of_run : RunFault → Fault
 of_run run.OutOfMemory = fault.OutOfMemory
 of_run run.InputLength = fault.InputLength
+of_run run.NoWorker = fault.NoWorker
 
 abbrev pub of_wav : WavFault → Fault
 of_wav wav.OutOfMemory = fault.OutOfMemory

@@ -3,6 +3,7 @@ pub mod Printable
 pub mod Faults
 pub mod Output
 pub mod Run
+pub mod Placements
 pub mod Plans
 pub mod Schedules
 pub mod Statuses

@@ -49,9 +49,13 @@ sample s e i = slice_index_or s.samples (i * s.channels + e) (pos 0)
 abbrev pub channel_samples : Sound → ℕ → ℕ → List ℤ
 channel_samples s n e = map (sample s e) (range_with_len 0 n)
 
--- the input lists: each channel that is read, for all periods
+-- each channel that is read, for so many periods
+abbrev pub lists_to : ℕ → Exchange → Sound → List (List ℤ)
+lists_to periods x s = map (channel_samples s (periods * x.taken)) (range_with_len 0 x.inputs)
+
+-- the input lists: those for all periods
 abbrev pub input_lists : Exchange → Sound → List (List ℤ)
-input_lists x s = map (channel_samples s (periods_of x s * x.taken)) (range_with_len 0 x.inputs)
+input_lists x s = lists_to (periods_of x s) x s
 
 -- frame i of some lists, each sample clamped to 16 bits
 abbrev pub frame : List (List ℤ) → ℕ → List ℤ

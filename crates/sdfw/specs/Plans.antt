@@ -1,12 +1,15 @@
 -- The plan of a design, or why it has none.
-use Rattle.std.specs.Prelude.{◌≡◌, ◌≢◌, ◌⊎◌, ℕ, false, ◌≤◌, ◌<◌, ◌==◌, List, [], map, length, Option, option_map, Result, Ok, Err, slice_index, slice_index_or, find, String, string_bytes}
+use Rattle.std.specs.Prelude.{◌≡◌, ◌≢◌, ◌⊎◌, ℕ, ℤ, false, ◌≤◌, ◌<◌, ◌==◌, List, [], map, length, Option, option_map, Result, Ok, Err, slice_index, slice_index_or, find, Some, None, IfSome, String, string_bytes}
 use Rattle.std.specs.List.{range_with_len}
 use Rattle.sdf_limits.specs.declared.TheConstants.{MOST_BLOCKING, MOST_WORKERS}
 use Rattle.sdf_graph.specs.Rates.{Shape, rates}
 use Rattle.sdf_graph.specs.Sequences.{IsPass, IsDeadlocked}
 use Rattle.sdf_graph.specs.Periods.{IsLeastPeriod}
 use Rattle.sdf_actor.specs.Graphs.{graph_of}
+use Rattle.sdf_actor.specs.Nets.{Netlist}
+use Rattle.sdf_kit.specs.declared.kit.Kit.{Kit}
 use Rattle.sdf_kit.specs.Kit.{kit_steps}
+use Rattle.sdf_run.specs.Rows.{IsTableOf}
 use Rattle.sdf_sched.specs.Period.{Schedule, IsPeriodOf}
 use Rattle.sdf_sched.specs.Pick.{IsPicked}
 use Rattle.sdf_sched.specs.Round.{IsRoundChoice}
@@ -16,21 +19,27 @@ use Rattle.sdf_sched.specs.declared.lean.Lean.{Lean}
 use Rattle.sdf_sched.specs.declared.stuck.Stuck.{Stuck}
 use Rattle.sdf_sched.specs.declared.fault.SchedFault.{SchedFault}
 use Rattle.sdf_sched.specs.declared.fault.SchedFault.TheVariants as sched
+use Rattle.sdf_prec.specs.declared.fault.PrecFault.{PrecFault}
+use Rattle.sdf_prec.specs.declared.fault.PrecFault.TheVariants as prec
+use Rattle.sdf_prec.specs.Tables.{Tabled}
 use Rattle.sdf_file.specs.Designs.{DesignValue}
 use Rattle.sdfw.specs.declared.options.Options.{Options}
 use Rattle.sdfw.specs.declared.options.Policy.{Policy}
 use Rattle.sdfw.specs.declared.options.Policy.TheVariants as policies
 use Rattle.sdfw.specs.declared.options.Runner.{Runner}
-use Rattle.sdfw.specs.declared.options.Runner.TheVariants.{One}
+use Rattle.sdfw.specs.declared.options.Runner.TheVariants.{One, Rows, Rings}
 use Rattle.sdfw.specs.declared.fault.Progress.{Progress}
 use Rattle.sdfw.specs.declared.fault.Fault.{Fault}
-use Rattle.sdfw.specs.declared.fault.Fault.TheVariants.{OutOfMemory, NotYet, BlockingFactor, WorkerCount, Deadlock}
+use Rattle.sdfw.specs.declared.fault.Fault.TheVariants.{OutOfMemory, NotYet, BlockingFactor, WorkerCount, Deadlock, Table}
+use Rattle.sdfw.specs.Placements.{IsTableBy, IsPlaceFault}
 
+-- what runs a design, the periods of a block, a worker's repeated tests, the order of one period, and the table of a block
 pub record PlanValue : Type 0 where
   pub blocking : ℕ
   pub runner : Runner
   pub patience : ℕ
   pub period : Schedule
+  pub table : Option Tabled
 
 -- a policy fires this order of a period's firings, from its beginning: a round's first turn is that of actor 0
 abbrev pub IsOrderBy : Policy → Shape → (ℕ → ℕ) → List ℕ → Type 0
@@ -66,8 +75,14 @@ IsSizeFault o f = ⊥
 
 -- the options pass the tests that look at them alone
 pub record ArePassed (o : Options) : Type 0 where
-  pub one : o.runner ≡ One
+  pub there : o.runner ≢ Rings
   pub sizes : AreSizes o
+
+-- The runner on one thread has no table. Each other one has that of the placement.
+abbrev pub IsTableFor : Runner → DesignValue → Options → Schedule → Option Tabled → Type 0
+IsTableFor One d o s t = t ≡ None
+IsTableFor runner d o s (Some t) = IsTableBy d o s t
+IsTableFor runner d o s None = ⊥
 
 -- the plan of a design by options that pass all tests
 pub record IsPlanOf (d : DesignValue) (o : Options) (p : PlanValue) : Type 0 where
@@ -76,6 +91,12 @@ pub record IsPlanOf (d : DesignValue) (o : Options) (p : PlanValue) : Type 0 whe
   pub same_runner : p.runner ≡ o.runner
   pub same_patience : p.patience ≡ o.patience
   pub schedule : IsScheduleBy o.policy (graph_of kit_steps d.net) p.period
+  pub by_placement : IsTableFor o.runner d o p.period p.table
+
+-- a plan is one of a net's: its order is one of the net's period, and its table, where it has one, is one of the net's blocks
+pub record Suits (n : Netlist Kit ℤ) (p : PlanValue) : Type 0 where
+  pub period : IsPeriodOf (rates (graph_of kit_steps n)) p.period
+  pub table : IfSome p.table (IsTableOf (rates (graph_of kit_steps n)) p.period.repetitions p.blocking)
 
 -- how far an actor came: its name, its firings, those of a period, and for an unfinished one its first link that holds too little
 pub record ProgressValue : Type 0 where
@@ -121,17 +142,27 @@ IsScheduleFault d OutOfMemory = Unit {0}
 IsScheduleFault d (Deadlock stalled) = IsDeadlockOf d (map progress_view stalled.actors.items)
 IsScheduleFault d f = ⊥
 
--- the first test that options or the design fail. Only the schedule takes memory
+-- no table of the period of the policy, but memory was not refused
+pub record IsUnplaced (d : DesignValue) (o : Options) (f : PrecFault) : Type 0 where
+  pub sizes : AreSizes o
+  pub period : Schedule
+  pub by_policy : IsScheduleBy o.policy (graph_of kit_steps d.net) period
+  pub fault : IsPlaceFault o.placement d o.blocking o.workers period f
+  pub no_memory : f ≡ prec.OutOfMemory → ⊥
+
+-- the first test that options or the design fail. Only the schedule and the table take memory
 abbrev pub IsPlanFault : DesignValue → Options → Fault → Type 0
-IsPlanFault d o (NotYet wav) = (wav ≡ false) × (o.runner ≢ One)
-IsPlanFault d o BlockingFactor = (o.runner ≡ One) × IsSizeFault o BlockingFactor
-IsPlanFault d o WorkerCount = (o.runner ≡ One) × IsSizeFault o WorkerCount
+IsPlanFault d o (NotYet wav) = (wav ≡ false) × (o.runner ≡ Rings)
+IsPlanFault d o BlockingFactor = (o.runner ≢ Rings) × IsSizeFault o BlockingFactor
+IsPlanFault d o WorkerCount = (o.runner ≢ Rings) × IsSizeFault o WorkerCount
+IsPlanFault d o (Table f) = (o.runner ≡ Rows) × IsUnplaced d o f
 IsPlanFault d o f = ArePassed o × IsScheduleFault d f
 
--- What the answer for options that pass says of a design: a plan stands where some sequence of enabled firings completes its
--- least period, and 10 where none does. Memory may be refused in both cases, and there is no third.
+-- What the answer for options that pass says of a design: a plan, or a reason why there is no table, stands where some sequence of
+-- enabled firings completes its least period, and 10 where none does. Memory may be refused in both cases, and there is no third.
 abbrev pub Decides : {X : Type 0} → DesignValue → Result X Fault → Type 0
 Decides d (Ok plan) = IsLive d
+Decides d (Err (Table f)) = IsLive d
 Decides d (Err (Deadlock stalled)) = IsLive d → ⊥
 Decides d (Err OutOfMemory) = IsLive d ⊎ (IsLive d → ⊥)
 Decides d (Err f) = ⊥

@@ -1,5 +1,5 @@
 -- What a run of the program reads, answers and writes.
-use Rattle.std.specs.Prelude.{◌≡◌, ℕ, ◌⊎◌, ℤ, List, Option, Some, None, Result, Ok, Err, IfErr}
+use Rattle.std.specs.Prelude.{◌≡◌, ℕ, ◌⊎◌, ℤ, List, Option, Some, None, Result, Ok, Err, IfErr, map, take}
 use Rattle.std.specs.Io.KnownBytes.{Appends, Keeps}
 use Rattle.sdf_actor.specs.Nets.{Netlist}
 use Rattle.sdf_run.specs.Answer.{AreOutputs, periods_of as firings}
@@ -10,7 +10,7 @@ use Rattle.sdf_wav.specs.Grammar.{IsWav}
 use Rattle.sdf_wav.specs.Fault.{HasFault}
 use Rattle.sdf_wav.specs.Device.{AppendsFront, Known, LosesFront, one_more}
 use Rattle.sdf_wav.specs.Canonical.{canonical_wav, write_fault, IsCanonical}
-use Rattle.sdfw.specs.Output.{exchange_of, periods_of, input_lists, output_of, output_fault}
+use Rattle.sdfw.specs.Output.{exchange_of, periods_of, input_lists, output_frames, output_of, output_fault}
 use Rattle.sdf_wav.specs.declared.fault.FormatFault.{FormatFault}
 use Rattle.sdfw.specs.declared.fault.Fault.{Fault}
 use Rattle.sdfw.specs.declared.fault.Fault.TheVariants.{OutOfMemory, Wav, Read, Write, ChannelsMissing, RateNotWhole}
@@ -21,6 +21,11 @@ pub record IsOutput (n : Netlist Kit ℤ) (q : List ℕ) (s out : Sound) : Type 
   pub lists : List (List ℤ)
   pub are_outputs : AreOutputs kit_steps n (input_lists (exchange_of n q) s) (firings q (periods_of (exchange_of n q) s)) lists
   pub output : out ≡ output_of (exchange_of n q) s lists
+
+-- Lists whose first samples reach the sinks. A runner by whole blocks may make more of them.
+abbrev pub BeginWithOutput : Netlist Kit ℤ → List ℕ → Sound → List (List ℤ) → Type 0
+BeginWithOutput n q s lists =
+    AreOutputs kit_steps n (input_lists (exchange_of n q) s) (firings q (periods_of (exchange_of n q) s)) (map (take (output_frames (exchange_of n q) s)) lists)
 
 -- what a net makes of a sound that has an output: it, and there is a file of it
 pub record IsRendered (n : Netlist Kit ℤ) (q : List ℕ) (s out : Sound) : Type 0 where

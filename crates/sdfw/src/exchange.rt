@@ -9,7 +9,7 @@ ghost use Rattle.sdf_actor.specs.Wires.{lists as items_of};
 ghost use Rattle.sdf_kit.specs.Kit.{kit_steps};
 ghost use Rattle.sdf_sched.specs.Period.{IsPeriodOf};
 ghost use Rattle.sdf_wav.specs.Canonical.{write_fault};
-ghost use Rattle.sdfw.specs.Output.{exchange_of, periods_of, output_rate, output_fault, input_lists, output_of, IsExchange, IsExtent};
+ghost use Rattle.sdfw.specs.Output.{exchange_of, periods_of, output_rate, output_fault, lists_to, output_of, IsExchange, IsExtent};
 ghost use Rattle.sdfw.specs.declared.fault.Fault.TheVariants.{OutOfMemory};
 
 use crate::fault::Fault;
@@ -31,6 +31,15 @@ pub(crate) struct Exchange {
     pub(crate) taken: usize,
     /// Samples put on each channel that is made.
     pub(crate) made: usize,
+}
+
+/// How many blocks hold so many periods.
+pub(crate) fn blocks_for(periods: u32, blocking: u32) -> u32
+    requires { 0 < blocking }
+    ensures enough { periods ≤ result * blocking }
+    ensures few { result * blocking < periods + blocking }
+{
+    periods.div_ceil(blocking)
 }
 
 /// The rate of an output, and its length in periods.
@@ -102,23 +111,17 @@ impl Exchange {
         })
     }
 
-    /// The input lists of an extent.
+    /// The input lists for so many periods, with zeros past the end of the sound.
     pub(crate) fn inputs_of(
         self,
         alloc: Global,
         input: &Wav,
-        extent: Extent,
+        periods: u32,
     ) -> Result<Vec<Vec<i32>>, AllocError>
-        requires limits { IsExchange self }
-        requires extent { IsExtent self input.now extent }
-        ensures { IfOk result (λ all. items_of all.items ≡ input_lists self input.now) }
+        requires { IsExchange self }
+        ensures { IfOk result (λ all. items_of all.items ≡ lists_to periods self input.now) }
     {
-        channel_lists(
-            alloc,
-            input,
-            extent.periods as usize * self.taken,
-            self.inputs,
-        )
+        channel_lists(alloc, input, periods as usize * self.taken, self.inputs)
     }
 
     /// The sound of the output lists of an extent.

@@ -78,6 +78,9 @@ pub enum Fault {
     /// Input lists that are too short: the program makes none.
     #[error("29 InputLength")]
     InputLength,
+    /// A worker could not be started. No runner answers it today.
+    #[error("32 NoWorker")]
+    NoWorker,
     /// What is wrong with the WAV file, read or to be written: 34 to 46.
     #[error(transparent)]
     Wav(FormatFault),
@@ -177,17 +180,18 @@ impl From<RunFault> for Fault {
         match fault {
             RunFault::OutOfMemory => Fault::OutOfMemory,
             RunFault::InputLength => Fault::InputLength,
+            RunFault::NoWorker => Fault::NoWorker,
         }
     }
 }
 
 /// The exit status of a fault: 2 usage (0 where help or the version was asked for), 3 the design or the plan, 4 the WAV file,
-/// 5 a device, 6 memory.
+/// 5 a device, 6 memory or a worker.
 pub fn status(fault: &Fault) -> u8
     ensures { result ≡ status_of fault.now }
 {
     match fault {
-        Fault::OutOfMemory | Fault::Words(WordFault::OutOfMemory) => 6,
+        Fault::OutOfMemory | Fault::Words(WordFault::OutOfMemory) | Fault::NoWorker => 6,
         Fault::Words(WordFault::Usage(error)) => match error.kind() {
             ErrorKind::DisplayHelp | ErrorKind::DisplayVersion => 0,
             _ => 2,

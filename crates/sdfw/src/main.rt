@@ -12,6 +12,7 @@ mod fault;
 mod files;
 mod laws;
 mod options;
+mod placement;
 mod plan;
 mod planning;
 mod printable;
@@ -25,10 +26,13 @@ mod tests;
 use arguments::arguments;
 use fault::Fault;
 use program::{obey, tell};
+use std::env::Env;
 use std::process::ExitCode;
+use std::rt::Files;
+use std::thread::Threads;
 
 /// Does what the command line asks for.
-fn start(rt: &HostRuntime) -> Result<(), Fault> {
+fn start<R: Env + Files + Print + Threads + AllocGlobal + Sync>(rt: &R) -> Result<(), Fault> {
     let given = arguments(rt, rt.alloc())?;
     let mut line = Vec::new(rt.alloc());
     for word in &given {

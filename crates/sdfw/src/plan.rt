@@ -1,18 +1,20 @@
 //! How a design is run.
 
-ghost use Rattle.std.specs.Prelude.{◌≡◌};
+ghost use Rattle.std.specs.Prelude.{◌≡◌, option_map};
 
-use crate::options::Runner;
+use crate::options::{Options, Runner};
+use sdf_prec::Table;
 use sdf_sched::Period;
 use std::marker::Model;
 
-/// How a design is run: the firings of one period, and what a runner with workers needs.
+/// How a design is run: the firings of one period, and the table that a runner with workers needs.
 #[derive(Drop)]
 pub struct Plan {
     blocking: u32,
     runner: Runner,
     patience: u32,
     period: Period,
+    table: Option<Table>,
 }
 
 impl Model for Plan {
@@ -20,19 +22,20 @@ impl Model for Plan {
 
     ghost Value = { PlanValue };
 
-    ghost view = { λ p. record { blocking = p.blocking; runner = p.runner; patience = p.patience; period = p.period } };
+    ghost view = { λ p. record { blocking = p.blocking; runner = p.runner; patience = p.patience; period = p.period; table = p.table } };
 }
 
 impl Plan {
     /// A plan of these.
-    pub(crate) fn new(blocking: u32, runner: Runner, patience: u32, period: Period) -> Plan
-        ensures { result ≡ record { blocking = blocking; runner = runner; patience = patience; period = period } }
+    pub(crate) fn new(options: &Options, period: Period, table: Option<Table>) -> Plan
+        ensures { result ≡ record { blocking = options.now.blocking; runner = options.now.runner; patience = options.now.patience; period = period; table = table } }
     {
         Plan {
-            blocking,
-            runner,
-            patience,
+            blocking: options.blocking,
+            runner: options.runner,
+            patience: options.patience,
             period,
+            table,
         }
     }
 
@@ -62,5 +65,12 @@ impl Plan {
         ensures { result.now ≡ self.now.period }
     {
         &self.period
+    }
+
+    /// The table of a block, where the runner has workers.
+    pub fn table(&self) -> Option<&Table>
+        ensures { option_map (λ t. t.now) result ≡ self.now.table }
+    {
+        self.table.as_ref()
     }
 }

@@ -6,10 +6,11 @@ ghost use Rattle.sdf_graph.specs.Rates.{rates};
 ghost use Rattle.sdf_graph.specs.Periods.{IsLeastPeriod};
 ghost use Rattle.sdf_actor.specs.Graphs.{graph_of};
 ghost use Rattle.sdf_kit.specs.Kit.{kit_steps};
-ghost use Rattle.sdfw.specs.Plans.{AreSizes, IsSizeFault, ArePassed, IsPlanOf, IsPlanFault, Decides, IsScheduleBy, IsStuckFault, IsScheduleFault, progress_of, progress_view, short_of};
+ghost use Rattle.sdfw.specs.Plans.{AreSizes, IsSizeFault, ArePassed, IsPlanOf, IsPlanFault, Suits, Decides, IsScheduleBy, IsStuckFault, IsScheduleFault, progress_of, progress_view, short_of};
 
 use crate::fault::{Fault, Progress, Stalled};
 use crate::options::{Options, Policy, Runner};
+use crate::placement::table_by;
 use crate::plan::Plan;
 use sdf_file::Design;
 use sdf_graph::laws::{graphs_are_sound, one_least_period};
@@ -119,21 +120,29 @@ pub(crate) fn size_fault(options: &Options) -> Option<Fault>
 fn planned(alloc: Global, design: &Design, options: &Options) -> Result<Plan, Fault>
     ensures { MatchResult result (IsPlanOf design.now options.now) (IsPlanFault design.now options.now) }
 {
-    if options.runner != Runner::One {
+    if options.runner == Runner::Rings {
         return Err(Fault::NotYet { wav: false });
     }
     if let Some(fault) = size_fault(options) {
         return Err(fault);
     }
     let period = period_by(alloc, design, options.policy)?;
-    Ok(Plan::new(options.blocking, options.runner, options.patience, period))
+    let table = match options.runner {
+        Runner::One => None,
+        _ => Some(table_by(alloc, design, &period, options)?),
+    };
+    Ok(Plan::new(options, period, table))
 }
 
-/// Plans a run. The tests in order: the runners `rows` and `rings` are not there yet; the blocking factor and the workers are
-/// within their limits; the design has a schedule.
+/// Plans a run. The tests in order: the runner `rings` is not there yet; the blocking factor and the workers are within their
+/// limits; the design has a schedule; and for a runner with workers a block is not too long, and with the placement `file` each
+/// actor has a home among the workers.
 pub fn plan(alloc: Global, design: &Design, options: &Options) -> Result<Plan, Fault>
     // What is answered is so.
     ensures answers { MatchResult result (IsPlanOf design.now options.now) (IsPlanFault design.now options.now) }
+
+    // The plan is one of the design's.
+    ensures suits { IfOk result (Suits design.now.net) }
 
     // 10 is answered exactly where no sequence of enabled firings completes the least period, unless memory was refused.
     ensures decides { ArePassed options.now → Decides design.now result }

@@ -17,6 +17,7 @@ use sdf_wav::{FromRead, ToWrite};
 use std::fmt::Display;
 use std::fs;
 use std::rt::Files;
+use std::thread::Threads;
 
 /// Prints an answer.
 fn show<R: Print, D: Display + Drop>(rt: &R, answer: D) -> Result<(), Fault> {
@@ -46,7 +47,7 @@ fn print_schedule<R: Files + Print + AllocGlobal>(
 }
 
 /// Runs a design on a WAV file. OUT is made or emptied once the plan stands and IN is open.
-fn run<R: Files + AllocGlobal>(
+fn run<R: Files + Threads + AllocGlobal + Sync>(
     rt: &R,
     graph: &str,
     input: &str,
@@ -65,7 +66,7 @@ fn run<R: Files + AllocGlobal>(
         Err(error) => return Err(device_fault(&error, Fault::Write)),
     };
     process(
-        alloc,
+        rt,
         &mut FromRead::new(from),
         &mut ToWrite::new(to),
         &design,
@@ -74,7 +75,10 @@ fn run<R: Files + AllocGlobal>(
 }
 
 /// Does what the words ask for, of which the first is the program's name.
-pub(crate) fn obey<R: Files + Print + AllocGlobal>(rt: &R, line: &[&str]) -> Result<(), Fault> {
+pub(crate) fn obey<R: Files + Print + Threads + AllocGlobal + Sync>(
+    rt: &R,
+    line: &[&str],
+) -> Result<(), Fault> {
     let alloc = rt.alloc();
     match words(alloc, line) {
         Ok(Words::Check { graph }) => check(rt, graph),

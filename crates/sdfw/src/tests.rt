@@ -6,6 +6,7 @@ mod faults;
 mod files;
 mod lines;
 mod refused;
+mod rows;
 mod running;
 mod runs;
 mod schedules;

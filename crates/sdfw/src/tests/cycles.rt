@@ -31,7 +31,6 @@ fn dealt_and_gathered(rt: HostRuntime) -> Result<(), Fail> {
     let alloc = rt.alloc();
     gives(
         &rt,
-        alloc,
         SECOND_DOUBLED,
         8000,
         &[1, 2, 3, 4, 5],
@@ -40,7 +39,6 @@ fn dealt_and_gathered(rt: HostRuntime) -> Result<(), Fail> {
     )?;
     gives(
         &rt,
-        alloc,
         PAIRS,
         8000,
         &[1, 2, 3, 4, 5, 6, 7, 8],
@@ -52,8 +50,8 @@ fn dealt_and_gathered(rt: HostRuntime) -> Result<(), Fail> {
 #[test]
 fn formats(rt: HostRuntime) -> Result<(), Fail> {
     let alloc = rt.alloc();
-    let later = run_mono(alloc, LATER, 8000, &[1]);
+    let later = run_mono(&rt, LATER, 8000, &[1]);
     fails(&rt, alloc, later, 3, "sdfw: 50 Format top\n")?;
-    let early = run_mono(alloc, EARLY, 8000, &[1]);
+    let early = run_mono(&rt, EARLY, 8000, &[1]);
     fails(&rt, alloc, early, 3, "sdfw: 56 UnknownKind actor 1\n")
 }

@@ -8,6 +8,7 @@ use crate::options::{Options, Runner};
 use std::alloc::{AllocError, Global};
 use std::process::Abort;
 use std::test::Fail;
+use std::thread::Threads;
 
 /// Whether a run ends by this fault, told with this exit status.
 fn ends(
@@ -28,12 +29,16 @@ fn ends(
 }
 
 /// What a run of `HALF` makes of a file whose bytes from `place` on are these.
-fn with_bytes(alloc: Global, place: usize, bytes: &[u8]) -> Result<Vec<u8>, Fault> {
-    let mut file = file_of(alloc, 8000, 1, &[5])?;
+fn with_bytes<T: Threads + AllocGlobal + Sync>(
+    rt: &T,
+    place: usize,
+    bytes: &[u8],
+) -> Result<Vec<u8>, Fault> {
+    let mut file = file_of(rt.alloc(), 8000, 1, &[5])?;
     for (slot, byte) in file.iter_mut().skip(place).zip(bytes) {
         *slot = *byte;
     }
-    run_file(alloc, HALF, &Options::DEFAULT, &file)
+    run_file(rt, HALF, &Options::DEFAULT, &file)
 }
 
 #[test]
@@ -54,19 +59,19 @@ fn wav_files_have_their_faults(rt: HostRuntime) -> Result<(), Fail> {
         (40, b"\x01\0\0\0".as_slice(), "sdfw: 44 PartialFrame\n"),
         (24, b"\0\0\0\x80".as_slice(), "sdfw: 46 RateTooLarge\n"),
     ] {
-        ends(&rt, alloc, with_bytes(alloc, place, bytes), 4, text)?;
+        ends(&rt, alloc, with_bytes(&rt, place, bytes), 4, text)?;
     }
     let mono = file_of(alloc, 32_001, 1, &[1])?;
-    let odd = run_file(alloc, THREE_FOR_TWO, &Options::DEFAULT, &mono);
+    let odd = run_file(&rt, THREE_FOR_TWO, &Options::DEFAULT, &mono);
     ends(&rt, alloc, odd, 4, "sdfw: 60 RateNotWhole\n")?;
-    let lacking = run_file(alloc, SECOND, &Options::DEFAULT, &mono);
+    let lacking = run_file(&rt, SECOND, &Options::DEFAULT, &mono);
     ends(&rt, alloc, lacking, 4, "sdfw: 59 ChannelsMissing\n")
 }
 
 #[test]
 fn designs_have_their_faults(rt: HostRuntime) -> Result<(), Fail> {
     let alloc = rt.alloc();
-    let missing = run_file(alloc, "", &Options::DEFAULT, b"");
+    let missing = run_file(&rt, "", &Options::DEFAULT, b"");
     ends(
         &rt,
         alloc,
@@ -79,7 +84,7 @@ fn designs_have_their_faults(rt: HostRuntime) -> Result<(), Fail> {
         many.push_str("{},")?;
     }
     many.push_str("]")?;
-    let links = run_file(alloc, many.as_str(), &Options::DEFAULT, b"");
+    let links = run_file(&rt, many.as_str(), &Options::DEFAULT, b"");
     ends(&rt, alloc, links, 3, "sdfw: 3 ChannelCount\n")?;
     for (options, text) in [
         (
@@ -98,13 +103,13 @@ fn designs_have_their_faults(rt: HostRuntime) -> Result<(), Fail> {
         ),
         (
             Options {
-                runner: Runner::Rows,
+                runner: Runner::Rings,
                 ..Options::DEFAULT
             },
             "sdfw: 61 NotYet\n",
         ),
     ] {
-        ends(&rt, alloc, run_file(alloc, HALF, &options, b""), 3, text)?;
+        ends(&rt, alloc, run_file(&rt, HALF, &options, b""), 3, text)?;
     }
     Ok(())
 }
@@ -119,6 +124,7 @@ fn devices_and_memory_have_their_faults(rt: HostRuntime) -> Result<(), Fail> {
             "sdfw: 1 OutOfMemory\n",
         ),
         (Fault::InputLength, 3, "sdfw: 29 InputLength\n"),
+        (Fault::NoWorker, 6, "sdfw: 32 NoWorker\n"),
         (Fault::Read, 5, "sdfw: 47 Read\n"),
         (Fault::Write, 5, "sdfw: 48 Write\n"),
         (Fault::NotYet { wav: true }, 4, "sdfw: 61 NotYet\n"),

@@ -11,6 +11,7 @@ use std::io::ErrorKind;
 use std::process::Abort;
 use std::rt::Files;
 use std::test::Fail;
+use std::thread::Threads;
 use std::{env, fs};
 
 /// A gain, and then a filter whose one tap stands in a file of its folder.
@@ -31,7 +32,7 @@ pub(super) fn folder(rt: &HostRuntime, name: &str) -> Result<String, Fail> {
 }
 
 /// How a command ends: its exit status, and what is told.
-pub(super) fn ends<R: Files + Print + AllocGlobal>(
+pub(super) fn ends<R: Files + Print + Threads + AllocGlobal + Sync>(
     rt: &R,
     line: &[&str],
 ) -> Result<(u8, String), Fail> {
@@ -43,7 +44,7 @@ pub(super) fn ends<R: Files + Print + AllocGlobal>(
 
 /// Whether a command ends by this fault.
 fn fails(
-    rt: &(impl Abort + Files + Print + AllocGlobal),
+    rt: &(impl Abort + Files + Print + Threads + AllocGlobal + Sync),
     line: &[&str],
     code: u8,
     text: &str,

@@ -38,7 +38,7 @@ fn keys_forge_no_lines(rt: HostRuntime) -> Result<(), Fail> {
         ("é", "sdfw: 51 UnknownKey top key é\n"),
     ] {
         let graph = format!(in rt.alloc(); "format = 1\n\"{key}\" = 1")?;
-        let run = run_mono(rt.alloc(), graph.as_str(), 8000, &[1]);
+        let run = run_mono(&rt, graph.as_str(), 8000, &[1]);
         fails(&rt, rt.alloc(), run, 3, wanted)?;
     }
     Ok(())
@@ -51,7 +51,7 @@ fn deadlocks_keep_their_lines(rt: HostRuntime) -> Result<(), Fail> {
     fails(
         &rt,
         alloc,
-        run_mono(alloc, stuck.as_str(), 8000, &[1]),
+        run_mono(&rt, stuck.as_str(), 8000, &[1]),
         3,
         "sdfw: 10 Deadlock\nin 1 of 1\nadd 0 of 1 short link 4\nfork 0 of 1 short link 1\ngain 0 of 1 short link 3\nout 0 of 1 short link 2\n",
     )

@@ -7,26 +7,27 @@ use crate::program::obey;
 use std::alloc::{Alloc, Allocator, Global};
 use std::fmt::Display;
 use std::fs;
-use std::fs::{File, Metadata, OpenOptions};
+use std::fs::{Metadata, OpenOptions};
 use std::io::{self, Error, ErrorKind};
 use std::rt::Files;
 use std::test::Fail;
+use std::thread::Threads;
 
 /// A runtime that refuses to open the files whose paths end so, and to print.
-#[derive(Clone, Copy)]
-struct Refusing<'a> {
-    host: &'a HostRuntime,
+#[derive(Drop)]
+struct Refusing<'a, R> {
+    host: &'a R,
     ending: &'a str,
     kind: ErrorKind,
 }
 
-impl Refusing<'_> {
+impl<R> Refusing<'_, R> {
     fn error(&self) -> Error {
         Error::from(self.kind)
     }
 }
 
-impl Alloc for Refusing<'_> {
+impl<R: AllocGlobal> Alloc for Refusing<'_, R> {
     type A = Global;
 
     fn alloc(&self) -> Global {
@@ -34,7 +35,7 @@ impl Alloc for Refusing<'_> {
     }
 }
 
-impl Print for Refusing<'_> {
+impl<R> Print for Refusing<'_, R> {
     fn print<D: Display + Drop>(&self, _value: D) -> io::Result<()> {
         Err(self.error())
     }
@@ -48,19 +49,21 @@ impl Print for Refusing<'_> {
     }
 }
 
-impl Files for Refusing<'_> {
-    type File = File;
+impl<R: Threads> Threads for Refusing<'_, R> {}
 
-    type Dir = File;
+impl<R: Files> Files for Refusing<'_, R> {
+    type File = R::File;
 
-    fn open_file(&self, how: &OpenOptions, path: &str) -> io::Result<File> {
+    type Dir = R::Dir;
+
+    fn open_file(&self, how: &OpenOptions, path: &str) -> io::Result<R::File> {
         if path.ends_with(self.ending) {
             return Err(self.error());
         }
-        how.open(self.host, path)
+        self.host.open_file(how, path)
     }
 
-    fn open_dir(&self, _path: &str) -> io::Result<File> {
+    fn open_dir(&self, _path: &str) -> io::Result<R::Dir> {
         Err(self.error())
     }
 
@@ -98,8 +101,8 @@ impl Files for Refusing<'_> {
 }
 
 /// How a command ends where files with this ending are refused by this kind of error.
-fn refused(
-    rt: &HostRuntime,
+fn refused<R: Files + Threads + AllocGlobal + Sync>(
+    rt: &R,
     ending: &str,
     kind: ErrorKind,
     line: &[&str],

@@ -9,6 +9,7 @@ use sdf_wav::{FromRead, ToWrite, Wav, read_wav, write_wav};
 use std::alloc::Global;
 use std::process::Abort;
 use std::test::Fail;
+use std::thread::Threads;
 
 /// The file of a sound.
 pub(super) fn file_of(
@@ -26,34 +27,30 @@ pub(super) fn file_of(
 }
 
 /// What a design makes of a file.
-pub(super) fn run_file(
-    alloc: Global,
+pub(super) fn run_file<T: Threads + AllocGlobal + Sync>(
+    rt: &T,
     graph: &str,
     options: &Options,
     input: &[u8],
 ) -> Result<Vec<u8>, Fault> {
+    let alloc = rt.alloc();
     let design = read_design(alloc, graph.as_bytes(), &[])?;
     let plan = plan(alloc, &design, options)?;
     let mut writer = ToWrite::new(Vec::new(alloc));
-    process(
-        alloc,
-        &mut FromRead::new(input),
-        &mut writer,
-        &design,
-        &plan,
-    )?;
+    process(rt, &mut FromRead::new(input), &mut writer, &design, &plan)?;
     Ok(writer.into_inner())
 }
 
 /// What a design makes of a sound of one channel.
-pub(super) fn run_mono(
-    alloc: Global,
+pub(super) fn run_mono<T: Threads + AllocGlobal + Sync>(
+    rt: &T,
     graph: &str,
     rate: u32,
     samples: &[i16],
 ) -> Result<Wav, Fault> {
+    let alloc = rt.alloc();
     let output = run_file(
-        alloc,
+        rt,
         graph,
         &Options::DEFAULT,
         &file_of(alloc, rate, 1, samples)?,
@@ -62,16 +59,15 @@ pub(super) fn run_mono(
 }
 
 /// Whether a run gives these samples at this rate.
-pub(super) fn gives(
-    rt: &impl Abort,
-    alloc: Global,
+pub(super) fn gives<T: Abort + Threads + AllocGlobal + Sync>(
+    rt: &T,
     graph: &str,
     rate: u32,
     samples: &[i16],
     to: u32,
     expected: &[i16],
 ) -> Result<(), Fail> {
-    let output = run_mono(alloc, graph, rate, samples)?;
+    let output = run_mono(rt, graph, rate, samples)?;
     assert_eq!(rt; output.rate(), to);
     assert_eq!(rt; output.samples(), expected);
     Ok(())

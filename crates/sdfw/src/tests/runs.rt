@@ -18,7 +18,7 @@ fn halves(rt: HostRuntime) -> Result<(), Fail> {
     let expected =
         b"RIFF\x28\0\0\0WAVEfmt \x10\0\0\0\x01\0\x01\0\x44\xAC\0\0\x88\x58\x01\0\x02\0\x10\0data\x04\0\0\0\x03\0\xFE\xFF";
     let output = run_file(
-        alloc,
+        &rt,
         HALF,
         &Options::DEFAULT,
         &file_of(alloc, 44_100, 1, &[5, -5])?,
@@ -26,7 +26,7 @@ fn halves(rt: HostRuntime) -> Result<(), Fail> {
     assert_eq!(rt; output.as_slice(), expected.as_slice());
 
     let empty = run_file(
-        alloc,
+        &rt,
         HALF,
         &Options::DEFAULT,
         &file_of(alloc, 44_100, 1, &[])?,
@@ -36,7 +36,7 @@ fn halves(rt: HostRuntime) -> Result<(), Fail> {
     assert_eq!(rt; &empty[40..44], [0, 0, 0, 0].as_slice());
 
     let stereo = run_file(
-        alloc,
+        &rt,
         HALF,
         &Options::DEFAULT,
         &file_of(alloc, 44_100, 2, &[5, 100, -5, 200])?,
@@ -50,30 +50,21 @@ fn changes_rates(rt: HostRuntime) -> Result<(), Fail> {
     let alloc = rt.alloc();
     gives(
         &rt,
-        alloc,
         BLOCKS,
         8000,
         &[1, 2, 3, 4, 5, 6, 7],
         8000,
         &[1, 2, 3, 4, 5, 6, 7, 0, 0, 0, 0, 0],
     )?;
-    gives(
-        &rt,
-        alloc,
-        THREE_FOR_TWO,
-        32_000,
-        &[10, 20],
-        48_000,
-        &[10, 10, 20],
-    )?;
-    let odd = run_mono(alloc, THREE_FOR_TWO, 32_001, &[10, 20]);
+    gives(&rt, THREE_FOR_TWO, 32_000, &[10, 20], 48_000, &[10, 10, 20])?;
+    let odd = run_mono(&rt, THREE_FOR_TWO, 32_001, &[10, 20]);
     fails(&rt, alloc, odd, 4, "sdfw: 60 RateNotWhole\n")?;
-    let half_empty = run_mono(alloc, SECOND, 8000, &[1]);
+    let half_empty = run_mono(&rt, SECOND, 8000, &[1]);
     fails(&rt, alloc, half_empty, 4, "sdfw: 59 ChannelsMissing\n")
 }
 
 /// The samples 0, 1, 2 and so on.
-fn ramp(alloc: Global, len: i16) -> Result<Vec<i16>, Fault> {
+pub(super) fn ramp(alloc: Global, len: i16) -> Result<Vec<i16>, Fault> {
     let mut samples = Vec::new(alloc);
     for i in 0..len {
         samples.push(i)?;
@@ -84,7 +75,7 @@ fn ramp(alloc: Global, len: i16) -> Result<Vec<i16>, Fault> {
 #[test]
 fn converts_44100_to_48000(rt: HostRuntime) -> Result<(), Fail> {
     let alloc = rt.alloc();
-    let whole = run_mono(alloc, CHAIN, 44_100, &ramp(alloc, 294)?)?;
+    let whole = run_mono(&rt, CHAIN, 44_100, &ramp(alloc, 294)?)?;
     let samples = whole.samples();
     assert_eq!(rt; whole.rate(), 48_000);
     assert_eq!(rt; samples.len(), 320);
@@ -96,8 +87,8 @@ fn converts_44100_to_48000(rt: HostRuntime) -> Result<(), Fail> {
 #[test]
 fn fills_up_with_zeros(rt: HostRuntime) -> Result<(), Fail> {
     let alloc = rt.alloc();
-    let whole = run_mono(alloc, CHAIN, 44_100, &ramp(alloc, 294)?)?;
-    let part = run_mono(alloc, CHAIN, 44_100, &ramp(alloc, 148)?)?;
+    let whole = run_mono(&rt, CHAIN, 44_100, &ramp(alloc, 294)?)?;
+    let part = run_mono(&rt, CHAIN, 44_100, &ramp(alloc, 148)?)?;
     assert_eq!(rt; part.frames(), 320);
     for (i, (cut, kept)) in part.samples().iter().zip(whole.samples()).enumerate() {
         let expected = match i {
@@ -114,34 +105,26 @@ fn fills_up_with_zeros(rt: HostRuntime) -> Result<(), Fail> {
 fn goes_round_loops(rt: HostRuntime) -> Result<(), Fail> {
     let alloc = rt.alloc();
     let begun = format!(in alloc; "{LOOP}, initial = [0] }}]")?;
-    gives(
-        &rt,
-        alloc,
-        begun.as_str(),
-        8000,
-        &[1, 2, 3],
-        8000,
-        &[1, 1, 2],
-    )?;
+    gives(&rt, begun.as_str(), 8000, &[1, 2, 3], 8000, &[1, 1, 2])?;
     let stuck = format!(in alloc; "{LOOP} }}]")?;
     fails(
         &rt,
         alloc,
-        run_mono(alloc, stuck.as_str(), 8000, &[1]),
+        run_mono(&rt, stuck.as_str(), 8000, &[1]),
         3,
         "sdfw: 10 Deadlock\nin 1 of 1\nadd 0 of 1 short link 4\nfork 0 of 1 short link 1\ngain 0 of 1 short link 3\nout 0 of 1 short link 2\n",
     )?;
-    gives(&rt, alloc, INITIAL, 8000, &[1, 2, 3], 8000, &[7, 8, 1])?;
-    gives(&rt, alloc, TWICE, 8000, &[32_767], 8000, &[32_767])?;
-    gives(&rt, alloc, TURNED, 8000, &[-32_768], 8000, &[32_767])?;
-    let uneven = run_mono(alloc, UNEVEN, 8000, &[1]);
+    gives(&rt, INITIAL, 8000, &[1, 2, 3], 8000, &[7, 8, 1])?;
+    gives(&rt, TWICE, 8000, &[32_767], 8000, &[32_767])?;
+    gives(&rt, TURNED, 8000, &[-32_768], 8000, &[32_767])?;
+    let uneven = run_mono(&rt, UNEVEN, 8000, &[1]);
     fails(&rt, alloc, uneven, 3, "sdfw: 8 Inconsistent link 3\n")
 }
 
 #[test]
 fn delays_are_no_initial_samples(rt: HostRuntime) -> Result<(), Fail> {
     let alloc = rt.alloc();
-    let stuck = run_mono(alloc, DELAYED, 8000, &[1]);
+    let stuck = run_mono(&rt, DELAYED, 8000, &[1]);
     fails(
         &rt,
         alloc,
@@ -173,8 +156,8 @@ fn policies_give_the_same_samples(rt: HostRuntime) -> Result<(), Fail> {
     };
     for graph in [BLOCKS, CHAIN, INITIAL] {
         let input = file_of(alloc, 44_100, 1, &[1, 2, 3, 4, 5, 6, 7, 8, 9])?;
-        let one = run_file(alloc, graph, &Options::DEFAULT, &input)?;
-        let other = run_file(alloc, graph, &lean, &input)?;
+        let one = run_file(&rt, graph, &Options::DEFAULT, &input)?;
+        let other = run_file(&rt, graph, &lean, &input)?;
         assert_eq!(rt; one.as_slice(), other.as_slice());
     }
     Ok(())
@@ -185,7 +168,7 @@ fn swaps_channels(rt: HostRuntime) -> Result<(), Fail> {
     let alloc = rt.alloc();
     let input = file_of(alloc, 8000, 2, &[1, 10, -2, 20, 32_767, -32_768])?;
     let wanted = file_of(alloc, 8000, 2, &[10, 1, 20, -2, -32_768, 32_767])?;
-    let output = run_file(alloc, SWAP, &Options::DEFAULT, &input)?;
+    let output = run_file(&rt, SWAP, &Options::DEFAULT, &input)?;
     assert_eq!(rt; output.as_slice(), wanted.as_slice());
     Ok(())
 }

@@ -4,7 +4,11 @@ use Rattle.sdf_graph.specs.Periods.{IsLeastPeriod}
 use Rattle.sdf_actor.specs.Graphs.{graph_of}
 use Rattle.sdf_kit.specs.Kit.{kit_steps}
 use Rattle.sdfw.proofs.Deadlocks.{live_or_not, decides_of}
+use Rattle.sdfw.proofs.Suiting.{suits_of}
 use Rattle.sdfw.proofs.planning.plan.Goals as goal
+
+pub returns-clause-suits : goal.returns-clause-suits
+returns-clause-suits c = suits_of c.args.design.now c.args.options.now c.planned.result c.planned.ensures
 
 pub returns-clause-decides : goal.returns-clause-decides
 returns-clause-decides c passed =
