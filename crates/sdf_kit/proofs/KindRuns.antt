@@ -45,7 +45,7 @@ table_run t kept = record {
   more = λ _ _ xs b _ one. map_more (looked_up t) xs b one;
 }
 
-pub decimate_run : (m : ℕ) (kept : List ℤ) → 1 ≤ m → IsRun kit_steps (Decimate m) m kept (λ _. kept) (λ i xs. map (λ n. sample xs (n * m)) (range_with_len 0 i))
+decimate_run : (m : ℕ) (kept : List ℤ) → 1 ≤ m → IsRun kit_steps (Decimate m) m kept (λ _. kept) (λ i xs. map (λ n. sample xs (n * m)) (range_with_len 0 i))
 decimate_run m kept some = record {
   rate = λ _. omega arith;
   begins = refl;
@@ -60,7 +60,7 @@ decimate_run m kept some = record {
       sym (ap (sample (xs ++ b)) place ∙ get_or-append-add xs b 0 (pos 0)));
 }
 
-pub interpolate_run : (up : ℕ) (kept : List ℤ) → 1 ≤ up → IsRun kit_steps (Interpolate up) 1 kept (λ _. kept) (λ i xs. map (upsampled up xs) (range_with_len 0 (i * up)))
+interpolate_run : (up : ℕ) (kept : List ℤ) → 1 ≤ up → IsRun kit_steps (Interpolate up) 1 kept (λ _. kept) (λ i xs. map (upsampled up xs) (range_with_len 0 (i * up)))
 interpolate_run up kept some = record {
   rate = λ _. refl;
   begins = refl;
@@ -132,7 +132,7 @@ module _ (f : Filter) (kept : List ℤ) (some_up : 1 ≤ f.up) (some_down : 1 �
         output_is f some_up some_down kept (xs ++ b) (kept_next kept xs) (outputs (suc i)) b (suc i) i 1 q done keeps (omega (arith, one))
         (λ r h. sym (ap (sample (xs ++ b)) (let place : i * f.down + r ≡ length xs + r = omega (arith, long) in place) ∙ get_or-append-add xs b r (pos 0))) (omega arith))
 
-  pub fir_run : IsRun kit_steps (Fir f) f.down kept (kept_next kept) (λ i xs. run_put f i kept xs)
+  fir_run : IsRun kit_steps (Fir f) f.down kept (kept_next kept) (λ i xs. run_put f i kept xs)
   fir_run = record {
     rate = λ _. omega arith;
     begins = append-nil kept;
@@ -142,10 +142,6 @@ module _ (f : Filter) (kept : List ℤ) (some_up : 1 ≤ f.up) (some_down : 1 �
   }
 
 -- a kit that is of a kind: how many samples its firings take and put, and what they leave and put
-module _ (k x : Kit) (is : k ≡ x) where
-  pub are_ports : (p : Ports) → p ≡ (behaviour k).ports → ArePorts p → ArePorts (behaviour x).ports
-  are_ports p same are = subst (λ y. ArePorts (behaviour y).ports) is (subst ArePorts same are)
-
 module _ (k x : Kit) (is : k ≡ x) (j many : ℕ) where
   pub takes : (r n : ℕ) → ((i : ℕ) → total_in kit_steps x i ≡ r) → n ≡ sum_in kit_steps k j many → n ≡ many * r
   takes r n rate e =
@@ -163,3 +159,18 @@ module _ (k x : Kit) (is : k ≡ x) (j many : ℕ) where
     pub puts : all many taken ≡ puts_to kit_steps k j kept taken many
     puts =
         sym (ap (λ y. puts_to kit_steps y j kept taken many) is ∙ run_puts kit_steps x size kept after all run j taken many (long ∙ ap (λ y. sum_in kit_steps y j many) is))
+
+-- the runs of kinds whose rates are known by the ports of a kit
+module _ (k x : Kit) (is : k ≡ x) (p : Ports) (same : p ≡ (behaviour k).ports) (are : ArePorts p) where
+  ports : ArePorts (behaviour x).ports
+  ports = subst (λ y. ArePorts (behaviour y).ports) is (subst ArePorts same are)
+
+module _ (k : Kit) (p : Ports) (same : p ≡ (behaviour k).ports) (are : ArePorts p) (kept : List ℤ) where
+  pub fir_runs : (f : Filter) → k ≡ Fir f → length kept ≡ (behaviour k).kept → IsRun kit_steps (Fir f) f.down kept (kept_next kept) (λ i xs. run_put f i kept xs)
+  fir_runs f is keeps = let x = ports k (Fir f) is p same are in fir_run f kept x.outputs.some x.inputs.some (keeps ∙ ap (λ y. (behaviour y).kept) is)
+
+  pub decimate_runs : (m : ℕ) → k ≡ Decimate m → IsRun kit_steps (Decimate m) m kept (λ _. kept) (λ i xs. map (λ n. sample xs (n * m)) (range_with_len 0 i))
+  decimate_runs m is = let x = ports k (Decimate m) is p same are in decimate_run m kept x.inputs.some
+
+  pub interpolate_runs : (up : ℕ) → k ≡ Interpolate up → IsRun kit_steps (Interpolate up) 1 kept (λ _. kept) (λ i xs. map (upsampled up xs) (range_with_len 0 (i * up)))
+  interpolate_runs up is = let x = ports k (Interpolate up) is p same are in interpolate_run up kept x.outputs.some

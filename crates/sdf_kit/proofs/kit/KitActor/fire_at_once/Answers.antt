@@ -1,11 +1,8 @@
 use Rattle.std.proofs.Common.{◌≡◌, ◌*◌, ◌∙◌, length, map, ap, sym, arith}
 use Rattle.std.specs.List.{range_with_len}
 use Rattle.sdf_kit.specs.Samples.{sample, upsampled}
-use Rattle.sdf_kit.specs.Fir.{kept_len}
-use Rattle.sdf_kit.specs.Kit.{behaviour}
-use Rattle.sdf_kit.specs.declared.kit.Kit.{Kit}
 use Rattle.sdf_kit.specs.declared.kit.Kit.TheVariants.{Fir, Decimate, Interpolate, Gain, Delay, Table}
-use Rattle.sdf_kit.proofs.KindRuns.{are_ports, takes, gives, leaves, puts, fir_run, decimate_run, interpolate_run, gain_run, delay_run, table_run}
+use Rattle.sdf_kit.proofs.KindRuns.{takes, gives, leaves, puts, fir_runs, decimate_runs, interpolate_runs, gain_run, delay_run, table_run}
 use Rattle.sdf_kit.proofs.kit.KitActor.fire_at_once.Goals as goal
 
 pub run-requires-clause-taken : goal.run-requires-clause-taken
@@ -30,40 +27,30 @@ run-requires-in-Interpolate c =
 
 pub returns-in-Fir-clause-state : goal.returns-in-Fir-clause-state
 returns-in-Fir-clause-state c =
-    let are = are_ports c.args.self.now (Fir c.in-Fir.f) c.in-Fir.is c.ports.result c.ports.ensures.is c.ports.ensures.limits in
-    let keeps : length c.args.state.now ≡ kept_len c.in-Fir.f =
-    ap length (sym c.items.ensures.all) ∙ (c.if-items-kept_len.false ∙ (c.kept_len.ensures.is ∙ ap (λ (k : Kit). (behaviour k).kept) c.in-Fir.is)) in
-    c.run.ensures.kept ∙ leaves c.args.self.now (Fir c.in-Fir.f) c.in-Fir.is c.args._phase c.args.many (fir_run c.in-Fir.f c.args.state.now are.outputs.some are.inputs.some keeps) c.args.taken.now c.requires.taken
+    c.run.ensures.kept ∙ leaves c.args.self.now (Fir c.in-Fir.f) c.in-Fir.is c.args._phase c.args.many (fir_runs c.args.self.now c.ports.result c.ports.ensures.is c.ports.ensures.limits c.args.state.now c.in-Fir.f c.in-Fir.is (ap length (sym c.items.ensures.all) ∙ (c.if-items-kept_len.false ∙ c.kept_len.ensures.is))) c.args.taken.now c.requires.taken
 
 pub returns-in-Fir-clause-put : goal.returns-in-Fir-clause-put
 returns-in-Fir-clause-put c =
-    let are = are_ports c.args.self.now (Fir c.in-Fir.f) c.in-Fir.is c.ports.result c.ports.ensures.is c.ports.ensures.limits in
-    let keeps : length c.args.state.now ≡ kept_len c.in-Fir.f =
-    ap length (sym c.items.ensures.all) ∙ (c.if-items-kept_len.false ∙ (c.kept_len.ensures.is ∙ ap (λ (k : Kit). (behaviour k).kept) c.in-Fir.is)) in
-    c.run.ensures.put ∙ puts c.args.self.now (Fir c.in-Fir.f) c.in-Fir.is c.args._phase c.args.many (fir_run c.in-Fir.f c.args.state.now are.outputs.some are.inputs.some keeps) c.args.taken.now c.requires.taken
+    c.run.ensures.put ∙ puts c.args.self.now (Fir c.in-Fir.f) c.in-Fir.is c.args._phase c.args.many (fir_runs c.args.self.now c.ports.result c.ports.ensures.is c.ports.ensures.limits c.args.state.now c.in-Fir.f c.in-Fir.is (ap length (sym c.items.ensures.all) ∙ (c.if-items-kept_len.false ∙ c.kept_len.ensures.is))) c.args.taken.now c.requires.taken
 
 pub returns-in-Decimate-clause-state : goal.returns-in-Decimate-clause-state
 returns-in-Decimate-clause-state c =
-    let are = are_ports c.args.self.now (Decimate c.in-Decimate.d) c.in-Decimate.is c.ports.result c.ports.ensures.is c.ports.ensures.limits in
-    leaves c.args.self.now (Decimate c.in-Decimate.d) c.in-Decimate.is c.args._phase c.args.many (decimate_run c.in-Decimate.d c.args.state.now are.inputs.some) c.args.taken.now c.requires.taken
+    leaves c.args.self.now (Decimate c.in-Decimate.d) c.in-Decimate.is c.args._phase c.args.many (decimate_runs c.args.self.now c.ports.result c.ports.ensures.is c.ports.ensures.limits c.args.state.now c.in-Decimate.d c.in-Decimate.is) c.args.taken.now c.requires.taken
 
 pub returns-in-Decimate-clause-put : goal.returns-in-Decimate-clause-put
 returns-in-Decimate-clause-put c =
-    let are = are_ports c.args.self.now (Decimate c.in-Decimate.d) c.in-Decimate.is c.ports.result c.ports.ensures.is c.ports.ensures.limits in
     let many : length c.args.put.now ≡ c.args.many * 1 = gives c.args.self.now (Decimate c.in-Decimate.d) c.in-Decimate.is c.args._phase c.args.many 1 (length c.args.put.now) (λ _. omega arith) c.requires.put in
     let same : length c.args.put.now ≡ c.args.many = omega (arith, many) in
-    c.run-in-Decimate.ensures ∙ (ap (λ n. map (λ i. sample c.args.taken.now (i * c.in-Decimate.d)) (range_with_len 0 n)) same ∙ puts c.args.self.now (Decimate c.in-Decimate.d) c.in-Decimate.is c.args._phase c.args.many (decimate_run c.in-Decimate.d c.args.state.now are.inputs.some) c.args.taken.now c.requires.taken)
+    c.run-in-Decimate.ensures ∙ (ap (λ n. map (λ i. sample c.args.taken.now (i * c.in-Decimate.d)) (range_with_len 0 n)) same ∙ puts c.args.self.now (Decimate c.in-Decimate.d) c.in-Decimate.is c.args._phase c.args.many (decimate_runs c.args.self.now c.ports.result c.ports.ensures.is c.ports.ensures.limits c.args.state.now c.in-Decimate.d c.in-Decimate.is) c.args.taken.now c.requires.taken)
 
 pub returns-in-Interpolate-clause-state : goal.returns-in-Interpolate-clause-state
 returns-in-Interpolate-clause-state c =
-    let are = are_ports c.args.self.now (Interpolate c.in-Interpolate.i) c.in-Interpolate.is c.ports.result c.ports.ensures.is c.ports.ensures.limits in
-    leaves c.args.self.now (Interpolate c.in-Interpolate.i) c.in-Interpolate.is c.args._phase c.args.many (interpolate_run c.in-Interpolate.i c.args.state.now are.outputs.some) c.args.taken.now c.requires.taken
+    leaves c.args.self.now (Interpolate c.in-Interpolate.i) c.in-Interpolate.is c.args._phase c.args.many (interpolate_runs c.args.self.now c.ports.result c.ports.ensures.is c.ports.ensures.limits c.args.state.now c.in-Interpolate.i c.in-Interpolate.is) c.args.taken.now c.requires.taken
 
 pub returns-in-Interpolate-clause-put : goal.returns-in-Interpolate-clause-put
 returns-in-Interpolate-clause-put c =
-    let are = are_ports c.args.self.now (Interpolate c.in-Interpolate.i) c.in-Interpolate.is c.ports.result c.ports.ensures.is c.ports.ensures.limits in
     let same : length c.args.put.now ≡ c.args.many * c.in-Interpolate.i = gives c.args.self.now (Interpolate c.in-Interpolate.i) c.in-Interpolate.is c.args._phase c.args.many c.in-Interpolate.i (length c.args.put.now) (λ _. omega arith) c.requires.put in
-    c.run-in-Interpolate.ensures ∙ (ap (λ n. map (upsampled c.in-Interpolate.i c.args.taken.now) (range_with_len 0 n)) same ∙ puts c.args.self.now (Interpolate c.in-Interpolate.i) c.in-Interpolate.is c.args._phase c.args.many (interpolate_run c.in-Interpolate.i c.args.state.now are.outputs.some) c.args.taken.now c.requires.taken)
+    c.run-in-Interpolate.ensures ∙ (ap (λ n. map (upsampled c.in-Interpolate.i c.args.taken.now) (range_with_len 0 n)) same ∙ puts c.args.self.now (Interpolate c.in-Interpolate.i) c.in-Interpolate.is c.args._phase c.args.many (interpolate_runs c.args.self.now c.ports.result c.ports.ensures.is c.ports.ensures.limits c.args.state.now c.in-Interpolate.i c.in-Interpolate.is) c.args.taken.now c.requires.taken)
 
 pub returns-in-Gain-clause-state : goal.returns-in-Gain-clause-state
 returns-in-Gain-clause-state c =
