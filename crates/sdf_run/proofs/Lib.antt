@@ -12,3 +12,10 @@ pub mod Beginnings
 pub mod Cycles
 pub mod Sinks
 pub mod Sweeping
+mod RowJobs
+mod RowLoads
+mod RowSettles
+mod RowFills
+mod RowRuns
+mod RowBlocks
+mod RowRounds

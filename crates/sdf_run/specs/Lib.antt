@@ -7,3 +7,7 @@ pub mod Answer
 pub mod Sweeps
 pub mod Twice
 pub mod Rows
+pub mod RowJobs
+pub mod RowStage
+pub mod RowStands
+pub mod RowBlocks
