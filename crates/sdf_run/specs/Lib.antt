@@ -11,3 +11,4 @@ pub mod RowJobs
 pub mod RowStage
 pub mod RowStands
 pub mod RowBlocks
+pub mod RowSetup

@@ -13,6 +13,7 @@ mod queue;
 mod row_job;
 mod row_line;
 mod row_runs;
+mod row_setup;
 mod row_stage;
 pub mod rows;
 mod run;

@@ -22,8 +22,8 @@ use std::thread::Threads;
 /// All room is taken before the first firing. A channel has room for what it begins with and what one block puts on it. Where
 /// the system starts no thread, the firings of a row run one after another.
 ///
-/// It is not there yet: `row_runs` fires all blocks of a table, but nothing makes what a run begins with, so the answer is
-/// `OutOfMemory`.
+/// It is not there yet: `row_setup` makes the parts that a run begins with and `row_runs` fires all blocks of a table, but
+/// nothing joins them, so the answer is `OutOfMemory`.
 pub fn run_rows<R: Threads + AllocGlobal + Sync, A: Actor, G: Gate>(
     rt: &R,
     net: &Net<A>,
