@@ -20,3 +20,10 @@ pub mod Passing
 pub mod AtOnce
 pub mod AtOnceWorks
 pub mod FiringAtOnce
+mod RowJobs
+mod RowLoads
+mod RowSettles
+mod RowFills
+mod RowRuns
+mod RowBlocks
+mod RowRounds

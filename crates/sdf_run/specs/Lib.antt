@@ -9,3 +9,8 @@ pub mod Sweeps
 pub mod Twice
 pub mod Rows
 pub mod Laws
+pub mod RowJobs
+pub mod RowStage
+pub mod RowStands
+pub mod RowBlocks
+pub mod RowSetup

@@ -1,7 +1,9 @@
 //! Runs of nets.
 //!
-//! It stands on `sdf_graph`, `sdf_sched` and `sdf_actor`. Begin at `one`, the runner on one thread, then `run`, what it
-//! holds, `work`, a node at work, and `queue`, the samples of a channel; the definitions are in `specs/Answer.antt`.
+//! It stands on `sdf_graph`, `sdf_sched`, `sdf_prec`, `sdf_actor` and `sdf_node`. Begin at `one`, the runner on one thread, then
+//! `run`, what it holds, `work`, a node at work, and `queue`, the samples of a channel; or at `rows`, the runner by rows, then
+//! `row_runs`, its rows and blocks, `row_stage`, one row, `row_job`, its firings at once, and `row_line`, the samples of a channel.
+//! The definitions are in `specs/Answer.antt` and `specs/Rows.antt`.
 #![tactic(auto)]
 
 mod block;
@@ -9,6 +11,11 @@ pub mod fault;
 pub mod laws;
 pub mod one;
 mod queue;
+mod row_job;
+mod row_line;
+mod row_runs;
+mod row_setup;
+mod row_stage;
 pub mod rows;
 mod run;
 mod setup;

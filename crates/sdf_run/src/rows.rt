@@ -19,8 +19,11 @@ use std::thread::Threads;
 /// Runs a net for a number of blocks of `j` periods, as its table says: the firings of a row run at once, each in a worker of
 /// its own, and are joined before the next row begins. The processor that the gate is told is the firing's column.
 ///
-/// All room is taken before the first firing. A channel's queue has room for what it begins with and what one block puts
-/// on it. Where the system starts no thread, the firings of a row run one after another.
+/// All room is taken before the first firing. A channel has room for what it begins with and what one block puts on it. Where
+/// the system starts no thread, the firings of a row run one after another.
+///
+/// It is not there yet: `row_setup` makes the parts that a run begins with and `row_runs` fires all blocks of a table, but
+/// nothing joins them, so the answer is `OutOfMemory`.
 pub fn run_rows<R: Threads + AllocGlobal + Sync, A: Actor, G: Gate>(
     rt: &R,
     net: &Net<A>,

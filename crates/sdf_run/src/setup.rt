@@ -58,7 +58,7 @@ pub(crate) fn make_queues<A: Actor>(
 }
 
 /// How many samples so many periods of firings put on a channel.
-fn put_in(channel: &Channel, firings: u32, periods: u32) -> usize
+pub(crate) fn put_in(channel: &Channel, firings: u32, periods: u32) -> usize
     requires some { 0 < length channel.now.put }
     requires small { (i : ℕ) → slice_index channel.now.put i ≤ 1024 }
     requires short { firings ≤ 65536 }
