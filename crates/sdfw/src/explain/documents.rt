@@ -92,9 +92,9 @@ pub(super) fn meaning_of(number: u32) -> Option<Meaning> {
         61 => Meaning {
             name: "NotYet",
             place: "",
-            means: "The runners `rows` and `rings` are not there yet.",
+            means: "The runner `rings` is not there yet.",
             limits: "",
-            remedy: "Leave `--runner` out.",
+            remedy: "Leave `--runner` out, or use `rows`.",
         },
         62 => Meaning {
             name: "BadCost",
