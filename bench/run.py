@@ -9,12 +9,13 @@ import array, pathlib, random, shutil, statistics, struct, subprocess, sys, temp
 TOP = pathlib.Path(__file__).resolve().parent.parent
 CONVERTER, CROSSOVER, ECHO = (TOP / "examples" / name for name in ("44100-to-48000", "crossover", "echo"))
 RATE, ROUNDS = 44100, 5
+RUNNERS = {"sdfw": [], "sdfw, rows": ["--runner", "rows", "--workers", "2", "--blocking", "16"]}
 
 
-def noise(path, seconds, channels):
-    """A WAV file of noise at half scale."""
+def noise(path, seconds, channels, halvings):
+    """A WAV file of noise, its full scale halved so many times."""
     samples = array.array("h", random.Random(1).randbytes(2 * seconds * RATE * channels))
-    data = array.array("h", (sample >> 1 for sample in samples)).tobytes()
+    data = array.array("h", (sample >> halvings for sample in samples)).tobytes()
     form = struct.pack("<IHHIIHH", 16, 1, channels, RATE, 2 * channels * RATE, 2 * channels, 16)
     path.write_bytes(b"RIFF" + struct.pack("<I", 36 + len(data)) + b"WAVEfmt " + form + b"data" + struct.pack("<I", len(data)) + data)
 
@@ -73,15 +74,17 @@ def measure(meter, title, seconds, commands, made):
         print(f"  {name:14} {least[name]:8.3f} {middle:8.3f} s {least[name] / fastest:7.2f} times {memory / 1024:7.1f} MB  {same}")
 
 
-def compare(folder, title, graph, programs, channels, rate):
-    """Measures a design beside programs, on 10 s and 60 s of noise."""
+def compare(folder, title, graph, programs, channels=1, rate=False, halvings=1):
+    """Measures a design by both runners beside programs, on 10 s and 60 s of noise."""
     others = {"sox": ["sox", None, "-b", "16", "-r", "48000", None], "ffmpeg": ["ffmpeg", "-v", "error", "-y", "-i", None, "-ar", "48000", None]}
     for seconds in (10, 60):
-        source = folder / f"{seconds}-{channels}.wav"
+        source = folder / f"{seconds}-{channels}-{halvings}.wav"
         if not source.exists():
-            noise(source, seconds, channels)
-        made = {name: folder / f"{place}.wav" for place, name in enumerate(["sdfw", *programs, *others])}
-        commands = {"sdfw": [str(TOP / "build/sdfw"), "run", str(graph), str(source), str(made["sdfw"])]}
+            noise(source, seconds, channels, halvings)
+        made = {name: folder / f"{place}.wav" for place, name in enumerate([*RUNNERS, *programs, *others])}
+        commands = {
+            name: [str(TOP / "build/sdfw"), "run", str(graph), str(source), str(made[name]), *options] for name, options in RUNNERS.items()
+        }
         for name, program in programs.items():
             commands[name] = [program, str(source), str(made[name])]
         for name, words in others.items():
@@ -97,10 +100,11 @@ def main():
         taps(folder / "taps.h")
         chain = {"C, plain loop": compiled(folder, "plain"), "C, SIMD": compiled(folder, "simd")}
         print("seconds: least, median; over the fastest C; greatest memory")
-        compare(folder, "44,100 to 48,000, mono", CONVERTER / "graph.toml", chain, 1, True)
-        compare(folder, "44,100 to 48,000, stereo", CONVERTER / "graph-stereo.toml", chain, 2, True)
-        compare(folder, "crossover", CROSSOVER / "graph.toml", {"C, plain loop": compiled(folder, "crossover")}, 1, False)
-        compare(folder, "echo", ECHO / "graph.toml", {"C, plain loop": compiled(folder, "echo")}, 1, False)
+        compare(folder, "44,100 to 48,000, mono, half scale", CONVERTER / "graph.toml", chain, rate=True)
+        compare(folder, "44,100 to 48,000, mono, full scale", CONVERTER / "graph.toml", chain, halvings=0)
+        compare(folder, "44,100 to 48,000, stereo", CONVERTER / "graph-stereo.toml", chain, channels=2, rate=True)
+        compare(folder, "crossover", CROSSOVER / "graph.toml", {"C, plain loop": compiled(folder, "crossover")})
+        compare(folder, "echo", ECHO / "graph.toml", {"C, plain loop": compiled(folder, "echo")})
 
 
 if __name__ == "__main__":
