@@ -135,6 +135,8 @@ fn firings_of_a_row_meet(rt: HostRuntime) -> Result<(), Fail> {
             &meeting,
         )?;
         assert_eq!(rt; writer.into_inner().as_slice(), expected.as_slice());
+        assert!(rt; meeting.begun[0].load(Ordering::SeqCst));
+        assert!(rt; meeting.begun[1].load(Ordering::SeqCst));
         assert!(rt; !meeting.missed.load(Ordering::SeqCst));
     }
     Ok(())
