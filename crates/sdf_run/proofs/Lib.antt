@@ -27,3 +27,6 @@ mod RowFills
 mod RowRuns
 mod RowBlocks
 mod RowRounds
+mod RowCounts
+mod RowEnds
+mod RowLists

@@ -14,3 +14,4 @@ pub mod RowStage
 pub mod RowStands
 pub mod RowBlocks
 pub mod RowSetup
+pub mod RowCollect

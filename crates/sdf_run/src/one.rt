@@ -40,7 +40,7 @@ fn is_input<T>(list: &Vec<T>, len: usize, least: usize) -> bool
 }
 
 /// Whether there are so many lists, all of one length and none shorter than the least.
-fn are_inputs<T>(inputs: &[Vec<T>], many: usize, least: usize) -> bool
+pub(crate) fn are_inputs<T>(inputs: &[Vec<T>], many: usize, least: usize) -> bool
     ensures { IsTrue result ↔ AreInputs many least (lists inputs.now) }
 {
     if inputs.len() != many {
@@ -55,7 +55,7 @@ fn are_inputs<T>(inputs: &[Vec<T>], many: usize, least: usize) -> bool
 }
 
 /// The facts that a run stands on, as the net's accessors have them.
-fn net_facts<A: Actor>(net: &Net<A>)
+pub(crate) fn net_facts<A: Actor>(net: &Net<A>)
     ensures net { IsNet A.steps net.now }
     ensures graph { IsShape (graph_of A.steps net.now) }
     ensures alike { IsAlike (rates (graph_of A.steps net.now)) (wiring A.steps net.now).rates }
@@ -131,7 +131,7 @@ fn run<A: Actor>(
 }
 
 /// The first sample of the first list.
-fn first_sample<T: Copy>(inputs: &[Vec<T>]) -> Option<T>
+pub(crate) fn first_sample<T: Copy>(inputs: &[Vec<T>]) -> Option<T>
     ensures { IfNone result (length (slice_index_or (lists inputs.now) 0 []) ≡ 0) }
 {
     if inputs.is_empty() || inputs[0].is_empty() {

@@ -1,4 +1,4 @@
-use Rattle.std.proofs.Common.{◌≡◌, ◌+◌, ◌<◌, ℕ, ◌∙◌, arith}
+use Rattle.std.proofs.Common.{◌≡◌, ◌∙◌, arith}
 use Rattle.sdf_run.specs.RowSetup.{HasPlaces}
 use Rattle.sdf_run.proofs.Readings.{vec_long, push_each}
 use Rattle.sdf_run.proofs.row_setup.make_jobs.Goals as goal
