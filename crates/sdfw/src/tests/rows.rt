@@ -29,15 +29,13 @@ fn rows_write_what_one_thread_writes(rt: HostRuntime) -> Result<(), Fail> {
     let sound = file_of(alloc, 44_100, 1, &ramp(alloc, 148)?)?;
     let one = run_file(&rt, CHAIN, &Options::DEFAULT, &sound)?;
     assert_eq!(rt; one.len(), 44 + 2 * 320);
-    for blocking in [1, 2, 64] {
-        for workers in 1..6 {
-            let rows = run_file(&rt, CHAIN, &by_rows(workers, blocking), &sound)?;
-            assert_eq!(rt;
-                rows.as_slice(),
-                one.as_slice(),
-                "{workers} workers, {blocking} periods"
-            );
-        }
+    for (workers, blocking) in [(1, 1), (2, 1), (3, 1), (4, 1), (5, 1), (2, 2), (1, 64)] {
+        let rows = run_file(&rt, CHAIN, &by_rows(workers, blocking), &sound)?;
+        assert_eq!(rt;
+            rows.as_slice(),
+            one.as_slice(),
+            "{workers} workers, {blocking} periods"
+        );
     }
     Ok(())
 }
