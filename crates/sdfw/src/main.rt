@@ -38,7 +38,7 @@ fn start<R: Env + Files + Print + Threads + AllocGlobal + Sync>(rt: &R) -> Resul
     for word in &given {
         line.push(word.as_str())?;
     }
-    obey(rt, line.as_slice())
+    obey(rt, rt, line.as_slice())
 }
 
 fn main(rt: HostRuntime) -> ExitCode {

@@ -47,8 +47,9 @@ fn print_schedule<R: Files + Print + AllocGlobal>(
 }
 
 /// Runs a design on a WAV file. OUT is made or emptied once the plan stands and IN is open.
-fn run<R: Files + Threads + AllocGlobal + Sync>(
+fn run<R: Files + AllocGlobal, T: Threads + AllocGlobal + Sync>(
     rt: &R,
+    threads: &T,
     graph: &str,
     input: &str,
     output: &str,
@@ -66,7 +67,7 @@ fn run<R: Files + Threads + AllocGlobal + Sync>(
         Err(error) => return Err(device_fault(&error, Fault::Write)),
     };
     process(
-        rt,
+        threads,
         &mut FromRead::new(from),
         &mut ToWrite::new(to),
         &design,
@@ -74,9 +75,10 @@ fn run<R: Files + Threads + AllocGlobal + Sync>(
     )
 }
 
-/// Does what the words ask for, of which the first is the program's name.
-pub(crate) fn obey<R: Files + Print + Threads + AllocGlobal + Sync>(
+/// Does what the words ask for, of which the first is the program's name. A run with workers starts them by `threads`.
+pub(crate) fn obey<R: Files + Print + AllocGlobal, T: Threads + AllocGlobal + Sync>(
     rt: &R,
+    threads: &T,
     line: &[&str],
 ) -> Result<(), Fault> {
     let alloc = rt.alloc();
@@ -90,7 +92,7 @@ pub(crate) fn obey<R: Files + Print + Threads + AllocGlobal + Sync>(
                 output,
                 options,
             },
-        ) => run(rt, graph, input, output, &options),
+        ) => run(rt, threads, graph, input, output, &options),
         Ok(Words::Explain { number }) => show(rt, explained(alloc, number)?),
         // Help or the version is an answer.
         Err(WordFault::Usage(told)) if !told.use_stderr() => show(rt, told),

@@ -32,11 +32,12 @@ pub(super) fn folder(rt: &HostRuntime, name: &str) -> Result<String, Fail> {
 }
 
 /// How a command ends: its exit status, and what is told.
-pub(super) fn ends<R: Files + Print + Threads + AllocGlobal + Sync>(
+pub(super) fn ends<R: Files + Print + AllocGlobal, T: Threads + AllocGlobal + Sync>(
     rt: &R,
+    threads: &T,
     line: &[&str],
 ) -> Result<(u8, String), Fail> {
-    match obey(rt, line) {
+    match obey(rt, threads, line) {
         Ok(()) => Ok((0, String::new(rt.alloc()))),
         Err(fault) => Ok((status(&fault), fault_text(rt.alloc(), &fault)?)),
     }
@@ -49,7 +50,7 @@ fn fails(
     code: u8,
     text: &str,
 ) -> Result<(), Fail> {
-    let (status, said) = ends(rt, line)?;
+    let (status, said) = ends(rt, rt, line)?;
     assert_eq!(rt; (status, said.as_str()), (code, text), "{line:?}");
     Ok(())
 }
@@ -78,7 +79,7 @@ fn makes_out_from_in(rt: HostRuntime) -> Result<(), Fail> {
         input.as_str(),
         output.as_str(),
     ];
-    match obey(&rt, line.as_slice()) {
+    match obey(&rt, &rt, line.as_slice()) {
         Ok(()) => {}
         Err(fault) => assert!(rt; false, "{fault}"),
     }

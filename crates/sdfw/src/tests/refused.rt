@@ -7,27 +7,27 @@ use crate::program::obey;
 use std::alloc::{Alloc, Allocator, Global};
 use std::fmt::Display;
 use std::fs;
-use std::fs::{Metadata, OpenOptions};
+use std::fs::{File, Metadata, OpenOptions};
 use std::io::{self, Error, ErrorKind};
 use std::rt::Files;
 use std::test::Fail;
 use std::thread::Threads;
 
 /// A runtime that refuses to open the files whose paths end so, and to print.
-#[derive(Drop)]
-struct Refusing<'a, R> {
-    host: &'a R,
+#[derive(Clone, Copy)]
+struct Refusing<'a> {
+    host: &'a HostRuntime,
     ending: &'a str,
     kind: ErrorKind,
 }
 
-impl<R> Refusing<'_, R> {
+impl Refusing<'_> {
     fn error(&self) -> Error {
         Error::from(self.kind)
     }
 }
 
-impl<R: AllocGlobal> Alloc for Refusing<'_, R> {
+impl Alloc for Refusing<'_> {
     type A = Global;
 
     fn alloc(&self) -> Global {
@@ -35,7 +35,7 @@ impl<R: AllocGlobal> Alloc for Refusing<'_, R> {
     }
 }
 
-impl<R> Print for Refusing<'_, R> {
+impl Print for Refusing<'_> {
     fn print<D: Display + Drop>(&self, _value: D) -> io::Result<()> {
         Err(self.error())
     }
@@ -49,21 +49,19 @@ impl<R> Print for Refusing<'_, R> {
     }
 }
 
-impl<R: Threads> Threads for Refusing<'_, R> {}
+impl Files for Refusing<'_> {
+    type File = File;
 
-impl<R: Files> Files for Refusing<'_, R> {
-    type File = R::File;
+    type Dir = File;
 
-    type Dir = R::Dir;
-
-    fn open_file(&self, how: &OpenOptions, path: &str) -> io::Result<R::File> {
+    fn open_file(&self, how: &OpenOptions, path: &str) -> io::Result<File> {
         if path.ends_with(self.ending) {
             return Err(self.error());
         }
-        self.host.open_file(how, path)
+        how.open(self.host, path)
     }
 
-    fn open_dir(&self, _path: &str) -> io::Result<R::Dir> {
+    fn open_dir(&self, _path: &str) -> io::Result<File> {
         Err(self.error())
     }
 
@@ -101,8 +99,9 @@ impl<R: Files> Files for Refusing<'_, R> {
 }
 
 /// How a command ends where files with this ending are refused by this kind of error.
-fn refused<R: Files + Threads + AllocGlobal + Sync>(
-    rt: &R,
+fn refused<T: Threads + AllocGlobal + Sync>(
+    rt: &HostRuntime,
+    threads: &T,
     ending: &str,
     kind: ErrorKind,
     line: &[&str],
@@ -112,7 +111,7 @@ fn refused<R: Files + Threads + AllocGlobal + Sync>(
         ending,
         kind,
     };
-    ends(&refusing, line)
+    ends(&refusing, threads, line)
 }
 
 #[test]
@@ -143,9 +142,9 @@ fn refused_opens(rt: HostRuntime) -> Result<(), Fail> {
         ("in.wav", 5, "sdfw: 47 Read\n"),
         ("out.wav", 5, "sdfw: 48 Write\n"),
     ] {
-        let (status, said) = refused(&rt, ending, ErrorKind::PermissionDenied, &line)?;
+        let (status, said) = refused(&rt, &rt, ending, ErrorKind::PermissionDenied, &line)?;
         assert_eq!(rt; (status, said.as_str()), (code, text));
-        let (status, said) = refused(&rt, ending, ErrorKind::OutOfMemory, &line)?;
+        let (status, said) = refused(&rt, &rt, ending, ErrorKind::OutOfMemory, &line)?;
         assert_eq!(rt;
             (status, said.as_str()),
             (6, "sdfw: 1 OutOfMemory\n"),
@@ -167,14 +166,20 @@ fn refused_answers(rt: HostRuntime) -> Result<(), Fail> {
         ["sdfw", "run", "--help"].as_slice(),
         ["sdfw", "--version"].as_slice(),
     ] {
-        let (status, said) = refused(&rt, "no file", ErrorKind::BrokenPipe, line)?;
+        let (status, said) = refused(&rt, &rt, "no file", ErrorKind::BrokenPipe, line)?;
         assert_eq!(rt;
             (status, said.as_str()),
             (5, "sdfw: 48 Write\n"),
             "{line:?}"
         );
     }
-    let (status, _) = refused(&rt, "no file", ErrorKind::BrokenPipe, &["sdfw", "play"])?;
+    let (status, _) = refused(
+        &rt,
+        &rt,
+        "no file",
+        ErrorKind::BrokenPipe,
+        &["sdfw", "play"],
+    )?;
     assert_eq!(rt; status, 2);
     Ok(())
 }
