@@ -5,8 +5,8 @@ ghost use Rattle.sdf_sched.specs.Period.{IsPeriodOf};
 ghost use Rattle.sdf_actor.specs.Graphs.{graph_of};
 ghost use Rattle.sdf_run.specs.Laws.{HasPeriod, RunsGoOn};
 
-use sdf_actor::{Actor, Net};
 use sdf_actor::laws::{histories_grow, nets_are_wired, one_history};
+use sdf_actor::{Actor, Net};
 use sdf_graph::laws::{
     alike_sequences, graphs_are_sound, graphs_have_periods, one_least_period, periods_repeat,
 };
