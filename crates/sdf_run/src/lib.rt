@@ -18,6 +18,8 @@ mod row_line;
 mod row_runs;
 mod row_setup;
 mod row_stage;
+#[cfg(test)]
+mod row_tests;
 pub mod rows;
 mod run;
 mod setup;
