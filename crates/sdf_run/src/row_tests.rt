@@ -1,12 +1,12 @@
 //! The worked net of blocks of two and of three, row by row.
 
-use crate::tests::{Sum, list, pair};
+use crate::tests::{list, pair};
 use crate::{NoGate, run_rows};
+use sdf_prec::Costs;
 use sdf_prec::hu::hu;
-use sdf_prec::{Costs, Table};
+use sdf_sched::Round;
 use sdf_sched::class_s::class_s;
-use sdf_sched::{Period, Round};
-use std::alloc::{AllocGlobal, Global};
+use std::alloc::AllocGlobal;
 use std::test::Fail;
 use std::thread::Threads;
 
