@@ -10,3 +10,6 @@ pub mod Quiescent
 pub mod PairAtWork
 pub mod PairPlanned
 pub mod Own
+pub mod Blocks
+pub mod Each
+pub mod Looks

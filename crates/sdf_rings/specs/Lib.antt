@@ -1,3 +1,5 @@
 pub mod Machine
 pub mod MachineLaws
 pub mod Pair
+pub mod Blocks
+pub mod Ends

@@ -4,5 +4,6 @@
 //! `specs/MachineLaws.antt`, and a ring at work in `specs/Pair.antt`.
 #![tactic(auto)]
 
+mod ends;
 pub mod laws;
 pub mod pair;
