@@ -13,3 +13,10 @@ pub mod Own
 pub mod Blocks
 pub mod Each
 pub mod Looks
+pub mod Deals
+pub mod PortBlocks
+pub mod Firing
+pub mod Standing
+pub mod Looking
+pub mod Times
+pub mod Rounds

@@ -1,9 +1,15 @@
 //! Bounded rings between actors that fire when they can: what they do, whatever the order of their moves.
 //!
-//! It stands on `sdf_actor` and `sdf_prec`. Begin at `specs/Machine.antt`, the machine; the statements of its laws are in
-//! `specs/MachineLaws.antt`, and a ring at work in `specs/Pair.antt`.
+//! It stands on `sdf_actor`, `sdf_node`, `sdf_prec` and the rings of `rtrb`. Begin at `specs/Machine.antt`, the machine; the statements of its laws
+//! are in `specs/MachineLaws.antt`, and a ring at work in `specs/Pair.antt`. The code begins at `seat`, one worker's round (`work`), over `stand`, a node
+//! with its ends of rings. Their invariants are in `specs/Stands.antt` and `specs/Seats.antt`: what a node knows of its own channels.
 #![tactic(auto)]
 
 mod ends;
 pub mod laws;
 pub mod pair;
+pub mod seat;
+pub mod stand;
+
+pub use seat::{Seat, work};
+pub use stand::Stand;
