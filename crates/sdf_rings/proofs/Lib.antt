@@ -20,3 +20,10 @@ pub mod Standing
 pub mod Looking
 pub mod Times
 pub mod Rounds
+pub mod Places
+pub mod Pairs
+pub mod Swaps
+pub mod Tells
+pub mod Placed
+pub mod Telling
+pub mod Rests

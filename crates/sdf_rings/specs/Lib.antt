@@ -6,3 +6,5 @@ pub mod Ends
 pub mod Sizes
 pub mod Stands
 pub mod Seats
+pub mod Places
+pub mod Rests

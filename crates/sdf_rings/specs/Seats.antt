@@ -1,5 +1,5 @@
 -- What one worker holds, and what it did in a round.
-use Rattle.std.specs.Prelude.{ℕ, ◌≡◌, ◌+◌, ◌<◌, ◌≤◌, List, vec_len, slice_index, slice_index_or, slice_range}
+use Rattle.std.specs.Prelude.{ℕ, ◌≡◌, ◌+◌, ◌<◌, ◌≤◌, ◌⊎◌, List, vec_len, slice_index, slice_index_or, slice_range}
 use Rattle.sdf_graph.specs.Sequences.{times}
 use Rattle.sdf_actor.specs.Steps.{Steps}
 use Rattle.sdf_actor.specs.Nets.{Netlist}
@@ -35,3 +35,11 @@ module _ {A S T : Type 0} (s : Steps A S T) (n : Netlist A T) where
     pub moved : (k : ℕ) (d : Stand A T S) → k < vec_len x.stands → HasMoved s n (slice_index_or x.stands.items k d) (slice_index_or y.stands.items k d)
     pub dones : (k : ℕ) (d : Stand A T S) → k < vec_len x.stands →
         (slice_index_or y.stands.items k d).done ≡ (slice_index_or x.stands.items k d).done + times_between k x.left.items x.next y.next
+
+  -- one worker's round: it ends where its list is empty or by what its ends know its first firing lacks samples or room, and
+  -- does that where it was known to be possible
+  pub record HasRounded (inputs : List (List T)) (x y : Seat A T S) : Type 0 where
+    pub seat : IsSeat inputs y
+    pub worked : HasWorked x y
+    pub stopped : (y.next ≡ vec_len y.left) ⊎ (HasFirst y → ⊥)
+    pub progress : x.next < vec_len x.left → HasFirst x → x.next < y.next
