@@ -27,3 +27,4 @@ pub mod Tells
 pub mod Placed
 pub mod Telling
 pub mod Rests
+pub mod Hands

@@ -8,3 +8,4 @@ pub mod Stands
 pub mod Seats
 pub mod Places
 pub mod Rests
+pub mod Totals
