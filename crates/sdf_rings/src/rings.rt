@@ -2,16 +2,19 @@
 
 ghost use Rattle.std.specs.Prelude.{◌≡◌, ◌+◌, ◌<◌, ◌≤◌, ◌⊎◌, ◌^◌, ℕ, List, length, vec_len, slice_index_or};
 ghost use Rattle.rtrb.specs.Ring.{known_items};
-ghost use Rattle.sdf_rings.specs.Seats.{HasFirst, HasWorked};
-ghost use Rattle.sdf_rings.specs.Rests.{stand_of, consumer_of, HaveMet};
+ghost use Rattle.sdf_rings.specs.Seats.{HasFirst, HasWorked, HasRounded};
+ghost use Rattle.sdf_rings.specs.Rests.{stand_of, consumer_of, HaveMet, AreAtRest};
 ghost use Rattle.sdf_rings.specs.Totals.{total_left};
 
 use crate::meet::meet_all;
+use crate::rest::met_is_rest;
+use crate::round::run_round;
 use crate::seat::{Seat, work};
 use sdf_actor::{Actor, Net};
 use sdf_node::Gate;
 use std::alloc::Global;
 use std::marker::Model;
+use std::thread::Threads;
 
 /// The seats of a run, and where each node stands: its seat, and its place there.
 #[derive(Drop)]
@@ -67,6 +70,17 @@ impl<'a, A: Actor> Rings<'a, A> {
         work(net, inputs, &mut self.seats[seat], patience, gate)
     }
 
+    /// A round of all workers, each in a thread of its own.
+    pub fn work_all<R: Threads + Sync, G: Gate>(&mut self, rt: &R, patience: u32, gate: &G)
+        ensures rounded { (i : ℕ) (e : _) → i < length self.old.seats → HasRounded A.steps self.new.net self.new.inputs (slice_index_or self.old.seats i e) (slice_index_or self.new.seats i e) }
+        ensures same { (self.new.net ≡ self.old.net) × (self.new.inputs ≡ self.old.inputs) × (self.new.places ≡ self.old.places) × (length self.new.seats ≡ length self.old.seats) }
+    {
+        let net = self.net;
+        let inputs = self.inputs;
+        let _whole = net.graph();
+        run_round(rt, net, inputs, &mut self.seats, patience, gate);
+    }
+
     /// How many firings are left in all seats.
     #[tactic(auto, using(std::proofs::lemmas::List::Sums::sum_by_more_le, std::proofs::lemmas::List::Sums::sum_by_more))]
     pub fn left(&self) -> u64
@@ -94,11 +108,14 @@ impl<'a, A: Actor> Rings<'a, A> {
     /// The end of a round: each end is told what the other did.
     pub fn meet(&mut self)
         ensures met { HaveMet self.new.net self.new.seats self.new.places }
+        ensures rest { AreAtRest A.steps self.new.net self.new.inputs self.new.seats self.new.places }
         ensures idle { (i : ℕ) (e : _) → i < length self.old.seats → HasWorked A.steps self.new.net (slice_index_or self.old.seats i e) (slice_index_or self.new.seats i e) × ((slice_index_or self.new.seats i e).next ≡ (slice_index_or self.old.seats i e).next) }
         ensures same { (self.new.net ≡ self.old.net) × (self.new.inputs ≡ self.old.inputs) × (self.new.places ≡ self.old.places) × (length self.new.seats ≡ length self.old.seats) }
     {
         let net = self.net;
         let inputs = self.inputs;
+        let _whole = net.graph();
         meet_all(self.alloc, net, inputs, &mut self.seats, &self.places);
+        met_is_rest(net, inputs, &self.seats, &self.places);
     }
 }
