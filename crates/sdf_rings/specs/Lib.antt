@@ -1,3 +1,11 @@
 pub mod Machine
 pub mod MachineLaws
 pub mod Pair
+pub mod Blocks
+pub mod Ends
+pub mod Sizes
+pub mod Stands
+pub mod Seats
+pub mod Places
+pub mod Rests
+pub mod Totals

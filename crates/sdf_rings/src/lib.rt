@@ -1,8 +1,22 @@
 //! Bounded rings between actors that fire when they can: what they do, whatever the order of their moves.
 //!
-//! It stands on `sdf_actor` and `sdf_prec`. Begin at `specs/Machine.antt`, the machine; the statements of its laws are in
-//! `specs/MachineLaws.antt`, and a ring at work in `specs/Pair.antt`.
+//! It stands on `sdf_actor`, `sdf_node`, `sdf_prec` and the rings of `rtrb`. Begin at `specs/Machine.antt`, the machine; the statements of its laws
+//! are in `specs/MachineLaws.antt`, and a ring at work in `specs/Pair.antt`. The code begins at `seat`, one worker's round (`work`), over `stand`, a
+//! node with its ends of rings: `specs/Stands.antt` and `specs/Seats.antt` say what a node knows of its own channels. `round` has all workers at once,
+//! `meet` tells all ends, `rest` says what then stands where, and `rings` has rounds by hand.
 #![tactic(auto)]
 
+mod ends;
 pub mod laws;
+pub mod meet;
 pub mod pair;
+pub mod rest;
+pub mod rings;
+pub mod round;
+pub mod seat;
+pub mod stand;
+
+pub use rings::Rings;
+pub use round::run_round;
+pub use seat::{Seat, work};
+pub use stand::Stand;

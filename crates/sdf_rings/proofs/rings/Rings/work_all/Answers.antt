@@ -1,0 +1,23 @@
+use Rattle.std.proofs.Common.{◌≡◌, length, ap, arith, ◌∙◌}
+use Rattle.std.proofs.lemmas.List.{with_items_is}
+use Rattle.sdf_actor.specs.Wires.{lists}
+use Rattle.sdf_rings.proofs.Placed.{rings_all}
+use Rattle.sdf_rings.proofs.rings.Rings.work_all.Goals as goal
+
+pub invariant_of-self : goal.invariant_of-self
+invariant_of-self g c =
+    let x = c.self.inside in
+    let l = c.run_round.auto.seats in
+    let m = c.deref_mut.ensures.len in
+    let v = c.deref_mut.ensures.value in
+    let same = with_items_is x.seats c.run_round.new.seats (omega arith) in
+    let len : length c.run_round.new.seats ≡ length x.seats.items = l ∙ ap length v in
+    let rounded = rw v at c.run_round.ensures in
+    rw same (rings_all g.A.Actor.steps x.net.now (lists x.inputs.now) x.seats.items c.run_round.new.seats x.places.items c.self.invariant len (λ j e h. (rounded j e h).seat) (λ j e h. (rounded j e h).worked))
+
+pub returns-clause-rounded : goal.returns-clause-rounded
+returns-clause-rounded g c =
+    let l = c.run_round.auto.seats in
+    let m = c.deref_mut.ensures.len in
+    let same = with_items_is c.self.inside.seats c.run_round.new.seats (omega arith) in
+    rw (same, ← c.self.view_is, ← c.deref_mut.ensures.value) c.run_round.ensures

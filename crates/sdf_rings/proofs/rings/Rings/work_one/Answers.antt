@@ -1,0 +1,31 @@
+use Rattle.std.proofs.Common.{◌≡◌, ◌<◌, ◌⊎◌, length, vec_len, slice_index_or, get_or-set_same, ap, sym, ◌∙◌, subst, arith}
+use Rattle.std.proofs.lemmas.List.{get_or_default}
+use Rattle.sdf_actor.specs.Wires.{lists}
+use Rattle.sdf_rings.specs.declared.seat.Seat.{Seat}
+use Rattle.sdf_rings.specs.Seats.{HasFirst}
+use Rattle.sdf_rings.specs.Rests.{InHand}
+use Rattle.sdf_rings.proofs.Hands.{rings_worked}
+use Rattle.sdf_rings.proofs.rings.Rings.work_one.Goals as goal
+
+pub invariant_of-self : goal.invariant_of-self
+invariant_of-self g c =
+    let l = ap (λ (v : InHand _ _ _). length v.seats) c.self.view_is in
+    rings_worked g.A.Actor.steps c.self.inside.net.now (lists c.self.inside.inputs.now) c.self.inside.seats.items c.self.inside.places.items c.self.invariant c.args.seat c.index_mut.result.now c.work.new.seat
+    (omega (arith, l, c.requires)) c.index_mut.ensures.value c.work.ensures.seat c.work.ensures.worked
+
+pub returns-clause-stopped : goal.returns-clause-stopped
+returns-clause-stopped g c = λ e.
+    let l = ap (λ (v : InHand _ _ _). length v.seats) c.self.view_is in
+    let items = c.self.inside.seats.items in
+    let inside : c.args.seat < length items = omega (arith, l, c.requires) in
+    subst (λ (z : Seat _ _ _). (z.next ≡ vec_len z.left) ⊎ (HasFirst g.A.Actor.steps c.self.inside.net.now z → ⊥)) (sym (get_or-set_same items c.args.seat c.work.new.seat e inside)) c.work.ensures.stopped
+
+pub returns-clause-progress : goal.returns-clause-progress
+returns-clause-progress g c =
+    let l = ap (λ (v : InHand _ _ _). length v.seats) c.self.view_is in
+    let items = c.self.inside.seats.items in
+    let inside : c.args.seat < length items = omega (arith, l, c.requires) in
+    subst (λ (v : InHand _ _ _). (e : Seat _ _ _) → (slice_index_or v.seats c.args.seat e).next < vec_len (slice_index_or v.seats c.args.seat e).left → HasFirst g.A.Actor.steps v.net (slice_index_or v.seats c.args.seat e) → 0 < c.work.result)
+    c.self.view_is
+    (λ e. subst (λ (z : Seat _ _ _). z.next < vec_len z.left → HasFirst g.A.Actor.steps c.self.inside.net.now z → 0 < c.work.result)
+    (c.index_mut.ensures.value ∙ get_or_default items c.args.seat c.index_mut.result.now e inside) c.work.ensures.progress)

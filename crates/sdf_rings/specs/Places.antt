@@ -1,0 +1,77 @@
+-- Where ends of rings stand.
+use Rattle.std.specs.Prelude.{ℕ, ◌≡◌, ◌<◌, List, length, vec_len, slice_index_or}
+use Rattle.sdf_rings.specs.declared.stand.Stand.{Stand}
+use Rattle.sdf_rings.specs.declared.seat.Seat.{Seat}
+use Rattle.sdf_rings.specs.declared.meet.Spot.{Spot}
+use Rattle.std.specs.Global.{Global}
+use Rattle.rtrb.specs.Ring.{IsPair, ConsumerLooked, ProducerLooked}
+use Rattle.rtrb.specs.declared.producer.Producer.{Producer}
+use Rattle.rtrb.specs.declared.consumer.Consumer.{Consumer}
+use Rattle.rtrb.specs.declared.AnyItems.{AnyItems}
+use Rattle.sdf_rings.specs.Ends.{IsMet}
+
+module _ {A T S : Type 0} where
+  abbrev pub stand_at : List (Seat A T S) → ℕ → ℕ → Seat A T S → Stand A T S → Stand A T S
+  stand_at seats i k e d = slice_index_or (slice_index_or seats i e).stands.items k d
+
+  -- all but what is on the stands
+  pub record SameSeat (s t : Seat A T S) : Type 0 where
+    pub processor_same : t.processor ≡ s.processor
+    pub left_same : t.left ≡ s.left
+    pub next_same : t.next ≡ s.next
+    pub stands_same : vec_len t.stands ≡ vec_len s.stands
+
+  -- the stand k of seat i is now x, and nothing else is changed
+  pub record IsUpdated (old new : List (Seat A T S)) (i k : ℕ) (x : Stand A T S) : Type 0 where
+    pub len : length new ≡ length old
+    pub seats : (j : ℕ) (e : Seat A T S) → SameSeat (slice_index_or old j e) (slice_index_or new j e)
+    pub here : (e : Seat A T S) (d : Stand A T S) → stand_at new i k e d ≡ x
+    pub others : (j l : ℕ) (e : Seat A T S) (d : Stand A T S) → ((j ≡ i) × (l ≡ k) → ⊥) → stand_at new j l e d ≡ stand_at old j l e d
+
+  abbrev pub consumer_at : List (Seat A T S) → Spot → Seat A T S → Stand A T S → Consumer T Global AnyItems → Consumer T Global AnyItems
+  consumer_at seats q e d x = slice_index_or (stand_at seats q.seat q.stand e d).ins.items q.port x
+
+  abbrev pub producer_at : List (Seat A T S) → Spot → Seat A T S → Stand A T S → Producer T Global AnyItems → Producer T Global AnyItems
+  producer_at seats q e d x = slice_index_or (stand_at seats q.seat q.stand e d).outs.items q.port x
+
+  -- all but the ends
+  pub record SameStand (s t : Stand A T S) : Type 0 where
+    pub actor_same : t.actor ≡ s.actor
+    pub state_same : t.state ≡ s.state
+    pub takes_same : t.takes ≡ s.takes
+    pub puts_same : t.puts ≡ s.puts
+    pub taken_same : t.taken ≡ s.taken
+    pub put_same : t.put ≡ s.put
+    pub done_same : t.done ≡ s.done
+    pub asked_same : t.asked ≡ s.asked
+    pub ins_len_same : vec_len t.ins ≡ vec_len s.ins
+    pub outs_len_same : vec_len t.outs ≡ vec_len s.outs
+
+  -- a place for a consumer
+  pub record TakesAt (seats : List (Seat A T S)) (q : Spot) : Type 0 where
+    pub seat_in : q.seat < length seats
+    pub stand_in : (e : Seat A T S) → q.stand < vec_len (slice_index_or seats q.seat e).stands
+    pub port_in : (e : Seat A T S) (d : Stand A T S) → q.port < vec_len (stand_at seats q.seat q.stand e d).ins
+
+  -- a place for a producer
+  pub record PutsAt (seats : List (Seat A T S)) (q : Spot) : Type 0 where
+    pub seat_in : q.seat < length seats
+    pub stand_in : (e : Seat A T S) → q.stand < vec_len (slice_index_or seats q.seat e).stands
+    pub port_in : (e : Seat A T S) (d : Stand A T S) → q.port < vec_len (stand_at seats q.seat q.stand e d).outs
+
+  -- the ring between two places
+  pub record IsRing (seats : List (Seat A T S)) (from to : Spot) : Type 0 where
+    pub puts_there : PutsAt seats from
+    pub takes_there : TakesAt seats to
+    pub pair_there : (e : Seat A T S) (d : Stand A T S) (x : Consumer T Global AnyItems) (y : Producer T Global AnyItems) → IsPair (producer_at seats from e d y) (consumer_at seats to e d x)
+
+  -- the ends of one ring were told, and nothing else is changed
+  pub record IsTold (old new : List (Seat A T S)) (from to : Spot) : Type 0 where
+    pub told_len : length new ≡ length old
+    pub told_seats : (j : ℕ) (e : Seat A T S) → SameSeat (slice_index_or old j e) (slice_index_or new j e)
+    pub told_stands : (j l : ℕ) (e : Seat A T S) (d : Stand A T S) → SameStand (stand_at old j l e d) (stand_at new j l e d)
+    pub told_consumer : (e : Seat A T S) (d : Stand A T S) (x : Consumer T Global AnyItems) → ConsumerLooked (consumer_at old to e d x) (consumer_at new to e d x)
+    pub told_producer : (e : Seat A T S) (d : Stand A T S) (y : Producer T Global AnyItems) → ProducerLooked (producer_at old from e d y) (producer_at new from e d y)
+    pub met : (e : Seat A T S) (d : Stand A T S) (x : Consumer T Global AnyItems) (y : Producer T Global AnyItems) → IsMet (producer_at new from e d y) (consumer_at new to e d x)
+    pub other_consumers : (q : Spot) (e : Seat A T S) (d : Stand A T S) (x : Consumer T Global AnyItems) → ((q.seat ≡ to.seat) × (q.stand ≡ to.stand) × (q.port ≡ to.port) → ⊥) → consumer_at new q e d x ≡ consumer_at old q e d x
+    pub other_producers : (q : Spot) (e : Seat A T S) (d : Stand A T S) (y : Producer T Global AnyItems) → ((q.seat ≡ from.seat) × (q.stand ≡ from.stand) × (q.port ≡ from.port) → ⊥) → producer_at new q e d y ≡ producer_at old q e d y

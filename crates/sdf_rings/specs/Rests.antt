@@ -1,0 +1,74 @@
+-- All ends in one hand: each node stands on one seat, and both ends of each ring know all of it.
+use Rattle.std.specs.Prelude.{ℕ, ◌≡◌, ◌<◌, List, length, drop, vec_len, slice_index_or}
+use Rattle.std.specs.Global.{Global}
+use Rattle.rtrb.specs.Ring.{sent, known_items, IsPair}
+use Rattle.rtrb.specs.declared.producer.Producer.{Producer}
+use Rattle.rtrb.specs.declared.consumer.Consumer.{Consumer}
+use Rattle.rtrb.specs.declared.AnyItems.{AnyItems}
+use Rattle.sdf_actor.specs.Steps.{Steps}
+use Rattle.sdf_actor.specs.Nets.{Netlist, wire, wiring, IsNet, IsHistoryOf}
+use Rattle.sdf_rings.specs.declared.stand.Stand.{Stand}
+use Rattle.sdf_rings.specs.declared.seat.Seat.{Seat}
+use Rattle.sdf_rings.specs.declared.meet.Spot.{Spot}
+use Rattle.sdf_rings.specs.Ends.{IsMet}
+use Rattle.sdf_rings.specs.Places.{stand_at}
+use Rattle.sdf_rings.specs.Seats.{IsSeat}
+
+module _ {A S T : Type 0} (n : Netlist A T) (seats : List (Seat A T S)) (places : List (ℕ × ℕ)) where
+  -- the stand of a node. The places are by node: a seat, and a stand on it
+  abbrev pub stand_of : Seat A T S → Stand A T S → ℕ → Stand A T S
+  stand_of e d a = stand_at seats (slice_index_or places a (0, 0)).0 (slice_index_or places a (0, 0)).1 e d
+
+  pub record IsPlaced : Type 0 where
+    pub seat_in : (a : ℕ) → a < length n.nodes → (slice_index_or places a (0, 0)).0 < length seats
+    pub stand_in : (a : ℕ) (e : Seat A T S) → a < length n.nodes → (slice_index_or places a (0, 0)).1 < vec_len (slice_index_or seats (slice_index_or places a (0, 0)).0 e).stands
+    pub is : (a : ℕ) (e : Seat A T S) (d : Stand A T S) → a < length n.nodes → (stand_of e d a).actor ≡ a
+
+  -- the two ends of channel c
+  abbrev pub producer_of : Seat A T S → Stand A T S → Producer T Global AnyItems → ℕ → Producer T Global AnyItems
+  producer_of e d y c = slice_index_or (stand_of e d (wire n c).from.0).outs.items (wire n c).from.1 y
+
+  abbrev pub consumer_of : Seat A T S → Stand A T S → Consumer T Global AnyItems → ℕ → Consumer T Global AnyItems
+  consumer_of e d x c = slice_index_or (stand_of e d (wire n c).to.0).ins.items (wire n c).to.1 x
+
+  abbrev pub HaveMet : Type 0
+  HaveMet = (c : ℕ) (e : Seat A T S) (d : Stand A T S) (x : Consumer T Global AnyItems) (y : Producer T Global AnyItems) → c < length n.wires → IsMet (producer_of e d y c) (consumer_of e d x c)
+
+module _ {A S T : Type 0} (n : Netlist A T) (seats : List (Seat A T S)) (places : List (ℕ × ℕ)) where
+  -- the two ends of each channel are of one ring
+  pub record HavePairs : Type 0 where
+    pub all : length places ≡ length n.nodes
+    pub pair : (c : ℕ) (e : Seat A T S) (d : Stand A T S) (x : Consumer T Global AnyItems) (y : Producer T Global AnyItems) → c < length n.wires →
+        IsPair (producer_of n seats places e d y c) (consumer_of n seats places e d x c)
+
+-- at rest after done a firings of each node a: what was put is the history, and each ring holds what is left of it
+pub record IsRest {A S T : Type 0} (s : Steps A S T) (n : Netlist A T) (inputs : List (List T)) (seats : List (Seat A T S)) (places : List (ℕ × ℕ)) (done : ℕ → ℕ) : Type 0 where
+  pub history : ℕ → List T
+  pub is : IsHistoryOf s n inputs done history
+  pub dones : (a : ℕ) (e : Seat A T S) (d : Stand A T S) → a < length n.nodes → (stand_of n seats places e d a).done ≡ done a
+  pub put : (c : ℕ) (e : Seat A T S) (d : Stand A T S) (y : Producer T Global AnyItems) → c < length n.wires → sent (producer_of n seats places e d y c) ≡ history c
+  pub left : (c : ℕ) (e : Seat A T S) (d : Stand A T S) (x : Consumer T Global AnyItems) → c < length n.wires →
+      known_items (consumer_of n seats places e d x c) ≡ drop ((wiring s n).rates.consumed c (done ((wiring s n).rates.target c))) (history c)
+
+-- the same, read by any seat, stand and ends
+abbrev pub AreAtRest : {A S T : Type 0} → Steps A S T → Netlist A T → List (List T) → List (Seat A T S) → List (ℕ × ℕ) → Type 0
+AreAtRest {A} {S} {T} s n inputs seats places =
+    (e : Seat A T S) (d : Stand A T S) (x : Consumer T Global AnyItems) (y : Producer T Global AnyItems) →
+    IsRest s n inputs seats places (λ a. (stand_of n seats places e d a).done)
+
+-- all the ends of a run in one hand. The places are by node: a seat, and a stand on it
+pub record InHand (A S T : Type 0) : Type 0 where
+  pub net : Netlist A T
+  pub inputs : List (List T)
+  pub seats : List (Seat A T S)
+  pub places : List (ℕ × ℕ)
+
+pub record AreRings {A S T : Type 0} (s : Steps A S T) (r : InHand A S T) : Type 0 where
+  pub is_net : IsNet s r.net
+  pub each : (i : ℕ) (e : Seat A T S) → i < length r.seats → IsSeat s r.net r.inputs (slice_index_or r.seats i e)
+  pub placed : IsPlaced r.net r.seats r.places
+  pub paired : HavePairs r.net r.seats r.places
+
+-- the place of an end of a link
+abbrev pub spot_of : List (ℕ × ℕ) → ℕ × ℕ → Spot
+spot_of places end = record { seat = (slice_index_or places end.0 (0, 0)).0; stand = (slice_index_or places end.0 (0, 0)).1; port = end.1 }

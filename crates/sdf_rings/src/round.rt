@@ -1,0 +1,41 @@
+//! A round: all seats at once.
+
+ghost use Rattle.std.specs.Prelude.{◌≡◌, ◌<◌, ℕ, All, length, slice_index_or};
+ghost use Rattle.sdf_actor.specs.Nets.{IsNet};
+ghost use Rattle.sdf_actor.specs.Wires.{lists};
+ghost use Rattle.sdf_rings.specs.Seats.{IsSeat, HasRounded};
+
+use crate::seat::{Seat, work};
+use sdf_actor::{Actor, Net};
+use sdf_node::Gate;
+use std::thread;
+use std::thread::Threads;
+
+/// Each seat works in a thread of its own.
+pub fn run_round<R: Threads + Sync, A: Actor, G: Gate>(
+    rt: &R,
+    net: &Net<A>,
+    inputs: &[Vec<A::Token>],
+    seats: &mut [Seat<A>],
+    patience: u32,
+    gate: &G,
+)
+    requires net { IsNet A.steps net.now }
+    requires seats { All (IsSeat A.steps net.now (lists inputs.now)) seats.old }
+    ensures { (i : ℕ) (s : _) → i < length seats.old → HasRounded A.steps net.now (lists inputs.now) (slice_index_or seats.old i s) (slice_index_or seats.new i s) }
+{
+    let threads = seats.len();
+    if threads > 0 {
+        thread::for_each_mut(
+            rt,
+            seats,
+            threads,
+            &|_: usize, seat: &mut Seat<A>|
+                requires { IsNet A.steps net.now × IsSeat A.steps net.now (lists inputs.now) seat.now }
+                ensures { HasRounded A.steps net.entry.now (lists inputs.entry.now) seat.entry.now seat.exit.now }
+            {
+                work(net, inputs, seat, patience, gate);
+            },
+        );
+    }
+}

@@ -1,0 +1,134 @@
+//! A node at work, with its ends of rings.
+
+ghost use Rattle.std.specs.Prelude.{◌≡◌, ◌+◌, ◌<◌, ◌≤◌, ◌++◌, ◌∷◌, [], ℕ, List, length, take, slice_index, IsTrue, IsFalse};
+ghost use Rattle.sdf_actor.specs.Nets.{answer_of, IsNet};
+ghost use Rattle.sdf_actor.specs.Wires.{lists};
+ghost use Rattle.sdf_node.specs.Nodes.{CanStep, IsAt};
+ghost use Rattle.sdf_rings.specs.Blocks.{start_at, block_of};
+ghost use Rattle.sdf_rings.specs.Ends.{DrewEach, HoldsEach};
+ghost use Rattle.sdf_rings.specs.Sizes.{row_at};
+ghost use Rattle.sdf_rings.specs.Stands.{IsStand, CanFire, HasMoved};
+
+use crate::ends::{have_room_each, hold_each, put_each, take_each};
+use rtrb::{Consumer, Producer};
+use sdf_actor::{Actor, Net, Node};
+use sdf_node::{ActorId, NodeState, puts, step, takes};
+use std::alloc::Global;
+
+/// A node with its state, the ends of its rings by port, and its working blocks. It holds no reference.
+#[derive(Drop)]
+pub struct Stand<A: Actor> {
+    pub actor: ActorId,
+    pub state: NodeState<A::Token, A::State>,
+    pub ins: Vec<Consumer<A::Token, Global>>,
+    pub outs: Vec<Producer<A::Token, Global>>,
+    /// How many samples its firings take and put: by phase, then by port.
+    pub takes: Vec<Vec<usize>>,
+    pub puts: Vec<Vec<usize>>,
+    /// What a firing takes and puts stands at the front of these.
+    pub taken: Vec<A::Token>,
+    pub put: Vec<A::Token>,
+    /// Its firings done, and all that are asked of it.
+    pub done: u64,
+    pub asked: u64,
+}
+
+/// The row of a phase.
+fn row(rows: &Vec<Vec<usize>>, phase: u32) -> &[usize]
+    requires { phase < length (lists rows.now.items) }
+    ensures { result.now ≡ row_at (lists rows.now.items) phase }
+{
+    rows[phase as usize].as_slice()
+}
+
+/// Takes a block at each port, to the front of `taken`.
+fn take_front<T: Copy>(
+    sizes: &[usize],
+    ends: &mut [Consumer<T, Global>],
+    taken: &mut [T],
+    many: usize,
+)
+    requires ports { length ends.old ≡ length sizes.now }
+    requires many { many ≡ start_at (slice_index sizes.now) (length ends.old) }
+    requires long { many ≤ length taken.old }
+    requires known { HoldsEach (slice_index sizes.now) ends.old }
+    ensures { DrewEach ends.old ends.new (λ i. block_of (slice_index sizes.now) i (take many taken.new)) }
+{
+    let (front, _) = taken.split_at_mut(many);
+    take_each(sizes, ends, front);
+}
+
+/// Fires a node on the block taken. What it puts stands at the front of the other block.
+fn step_front<A: Actor>(
+    node: &Node<A>,
+    inputs: &[Vec<A::Token>],
+    state: &mut NodeState<A::Token, A::State>,
+    taken: &[A::Token],
+    put: &mut [A::Token],
+    many: usize,
+)
+    requires can { CanStep A.steps (lists inputs.now) node.now state.old (length taken.now) many }
+    requires long { many ≤ length put.old }
+    ensures state { (all : ℕ) (past : List (List A.Token)) → IsAt A.steps (lists inputs.now) all node.now past state.old → IsAt A.steps (lists inputs.now) all node.now (past ++ taken.now ∷ []) state.new }
+    ensures put { (all : ℕ) (past : List (List A.Token)) → IsAt A.steps (lists inputs.now) all node.now past state.old → take many put.new ≡ answer_of A.steps (lists inputs.now) node.now past taken.now }
+{
+    let (front, _) = put.split_at_mut(many);
+    step(node, inputs, state, taken, front);
+}
+
+/// Takes all blocks, fires and puts all blocks.
+pub fn fire_one<A: Actor>(net: &Net<A>, inputs: &[Vec<A::Token>], stand: &mut Stand<A>)
+    requires net { IsNet A.steps net.now }
+    requires stand { IsStand A.steps net.now (lists inputs.now) stand.old }
+    requires can { CanFire A.steps net.now stand.old }
+    requires left { stand.old.done < stand.old.asked }
+    ensures stand { IsStand A.steps net.now (lists inputs.now) stand.new }
+    ensures moved { HasMoved A.steps net.now stand.old stand.new }
+    ensures done { stand.new.done ≡ stand.old.done + 1 }
+{
+    sdf_actor::laws::nets_are_wired::<A>();
+    sdf_actor::laws::taken_stays::<A>();
+    sdf_actor::laws::locals_grow::<A>();
+    sdf_node::laws::nodes_can_step::<A>();
+    let node = net.node(stand.actor);
+    let phase = stand.state.phase();
+    let many = takes(node, phase);
+    let more = puts(node, phase);
+    take_front(
+        row(&stand.takes, phase),
+        stand.ins.as_mut_slice(),
+        stand.taken.as_mut_slice(),
+        many,
+    );
+    step_front(
+        node,
+        inputs,
+        &mut stand.state,
+        &stand.taken[..many],
+        stand.put.as_mut_slice(),
+        more,
+    );
+    put_each(
+        row(&stand.puts, phase),
+        stand.outs.as_mut_slice(),
+        &stand.put[..more],
+    );
+    stand.done += 1;
+}
+
+/// Whether the next firing is known to be possible.
+pub fn is_ready<A: Actor>(net: &Net<A>, inputs: &[Vec<A::Token>], stand: &mut Stand<A>) -> bool
+    requires { IsStand A.steps net.now (lists inputs.now) stand.old }
+    ensures stand { IsStand A.steps net.now (lists inputs.now) stand.new }
+    ensures moved { HasMoved A.steps net.now stand.old stand.new }
+    ensures done { stand.new.done ≡ stand.old.done }
+    ensures yes { IsTrue result → CanFire A.steps net.now stand.new }
+    ensures no { IsFalse result → CanFire A.steps net.now stand.new → ⊥ }
+{
+    sdf_node::laws::nodes_can_step::<A>();
+    let phase = stand.state.phase();
+    if !hold_each(row(&stand.takes, phase), stand.ins.as_mut_slice()) {
+        return false;
+    }
+    have_room_each(row(&stand.puts, phase), stand.outs.as_mut_slice())
+}
