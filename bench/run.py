@@ -9,7 +9,8 @@ import array, pathlib, random, shutil, statistics, struct, subprocess, sys, temp
 TOP = pathlib.Path(__file__).resolve().parent.parent
 CONVERTER, CROSSOVER, ECHO = (TOP / "examples" / name for name in ("44100-to-48000", "crossover", "echo"))
 RATE, ROUNDS = 44100, 5
-RUNNERS = {"sdfw": [], "sdfw, rows": ["--runner", "rows", "--workers", "2", "--blocking", "16"]}
+ONE = {"sdfw": []}
+ROWS = {"sdfw, rows": ["--runner", "rows", "--workers", "2", "--blocking", "16"]}
 
 
 def noise(path, seconds, channels, halvings):
@@ -74,16 +75,16 @@ def measure(meter, title, seconds, commands, made):
         print(f"  {name:14} {least[name]:8.3f} {middle:8.3f} s {least[name] / fastest:7.2f} times {memory / 1024:7.1f} MB  {same}")
 
 
-def compare(folder, title, graph, programs, channels=1, rate=False, halvings=1):
-    """Measures a design by both runners beside programs, on 10 s and 60 s of noise."""
+def compare(folder, title, graph, programs, channels=1, rate=False, halvings=1, runners=ONE, lengths=(10, 60)):
+    """Measures a design by some runners beside programs, on noise of some seconds."""
     others = {"sox": ["sox", None, "-b", "16", "-r", "48000", None], "ffmpeg": ["ffmpeg", "-v", "error", "-y", "-i", None, "-ar", "48000", None]}
-    for seconds in (10, 60):
+    for seconds in lengths:
         source = folder / f"{seconds}-{channels}-{halvings}.wav"
         if not source.exists():
             noise(source, seconds, channels, halvings)
-        made = {name: folder / f"{place}.wav" for place, name in enumerate([*RUNNERS, *programs, *others])}
+        made = {name: folder / f"{place}.wav" for place, name in enumerate([*runners, *programs, *others])}
         commands = {
-            name: [str(TOP / "build/sdfw"), "run", str(graph), str(source), str(made[name]), *options] for name, options in RUNNERS.items()
+            name: [str(TOP / "build/sdfw"), "run", str(graph), str(source), str(made[name]), *options] for name, options in runners.items()
         }
         for name, program in programs.items():
             commands[name] = [program, str(source), str(made[name])]
@@ -104,6 +105,8 @@ def main():
         compare(folder, "44,100 to 48,000, mono, full scale", CONVERTER / "graph.toml", chain, halvings=0)
         compare(folder, "44,100 to 48,000, stereo", CONVERTER / "graph-stereo.toml", chain, channels=2, rate=True)
         compare(folder, "crossover", CROSSOVER / "graph.toml", {"C, plain loop": compiled(folder, "crossover")})
+        both = {**ONE, **ROWS}
+        compare(folder, "44,100 to 48,000, mono, by rows", CONVERTER / "graph.toml", chain, runners=both, lengths=(1,))
         compare(folder, "echo", ECHO / "graph.toml", {"C, plain loop": compiled(folder, "echo")})
 
 
