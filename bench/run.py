@@ -11,6 +11,7 @@ CONVERTER, CROSSOVER, ECHO = (TOP / "examples" / name for name in ("44100-to-480
 RATE, ROUNDS = 44100, 5
 ONE = {"sdfw": []}
 ROWS = {"sdfw, rows": ["--runner", "rows", "--workers", "2", "--blocking", "16"]}
+RINGS = {f"sdfw, rings {m}": ["--runner", "rings", "--workers", str(m), "--blocking", "16", "--policy", "runs"] for m in (1, 2, 4)}
 
 
 def noise(path, seconds, channels, halvings):
@@ -105,8 +106,8 @@ def main():
         compare(folder, "44,100 to 48,000, mono, full scale", CONVERTER / "graph.toml", chain, halvings=0)
         compare(folder, "44,100 to 48,000, stereo", CONVERTER / "graph-stereo.toml", chain, channels=2, rate=True)
         compare(folder, "crossover", CROSSOVER / "graph.toml", {"C, plain loop": compiled(folder, "crossover")})
-        both = {**ONE, **ROWS}
-        compare(folder, "44,100 to 48,000, mono, by rows", CONVERTER / "graph.toml", chain, runners=both, lengths=(1,))
+        workers = {**ONE, **ROWS, **RINGS}
+        compare(folder, "44,100 to 48,000, mono, by workers", CONVERTER / "graph.toml", chain, runners=workers, lengths=(1,))
         compare(folder, "echo", ECHO / "graph.toml", {"C, plain loop": compiled(folder, "echo")})
 
 

@@ -12,3 +12,8 @@ pub mod Numbers
 pub mod Example
 pub mod Locals
 pub mod Dealt
+mod GoesOn
+mod Continuing
+mod Fitting
+mod BegunGraphs
+mod WholePeriods

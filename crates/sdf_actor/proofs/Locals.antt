@@ -1,9 +1,9 @@
 -- A node's own equations, one firing more, and all of them together.
-use Rattle.std.proofs.Common.{◌≡◌, ℕ, zero, suc, ◌+◌, ◌≤◌, ◌<◌, List, ◌++◌, length, get_or, take, refl, sym, ap, ◌∙◌, subst, inl, inr, ◌⊎◌, arith}
+use Rattle.std.proofs.Common.{◌≡◌, ℕ, zero, suc, ◌+◌, ◌≤◌, ◌<◌, List, length, get_or, take, refl, sym, ap, ◌∙◌, subst, inl, inr, ◌⊎◌, arith}
 use Rattle.std.specs.List.{between}
 use Rattle.std.proofs.lemmas.List.{take_all, length-append, take-append-le}
 use Rattle.std.proofs.lemmas.Bool.{cases_lt}
-use Rattle.sdf_actor.specs.Histories.{Wiring, Answers, taken, put, taken_before, spread, IsHistory, IsWired, size_out}
+use Rattle.sdf_actor.specs.Histories.{Wiring, Answers, taken, put, taken_before, spread, IsHistory, IsWired}
 use Rattle.sdf_actor.proofs.Pieces.{between_agree, flat_map_same, length_spread, spread_joined, between_after}
 use Rattle.sdf_actor.proofs.Agree.{part, port}
 use Rattle.sdf_actor.proofs.Exists.{size_at}

@@ -13,7 +13,7 @@ pub trait Actor: Sync + Drop {
     type Token: Copy + Send + Sync;
 
     /// What it keeps from one firing to the next.
-    type State: Send + Drop;
+    type State: Send + Sync + Drop;
 
     /// Its ports, rates and step.
     ghost steps: { Steps Self Self.State Self.Token };
@@ -47,6 +47,10 @@ pub trait Actor: Sync + Drop {
     /// Its state before the first firing.
     fn start(&self, alloc: Global) -> Result<Self::State, AllocError>
         ensures { IfOk result (λ s. s ≡ steps.start self.now) };
+
+    /// A copy of a state.
+    fn again(&self, alloc: Global, state: &Self::State) -> Result<Self::State, AllocError>
+        ensures { IfOk result (λ s. s ≡ state.now) };
 
     /// Fires once, at a phase. The blocks of all ports stand one after another in port order. It takes no memory.
     fn fire(

@@ -1,13 +1,15 @@
--- The kinds with one port a side: what many firings leave and put.
-use Rattle.std.proofs.Common.{◌≡◌, ℕ, suc, ◌+◌, ◌*◌, ◌/◌, ◌≤◌, ◌<◌, List, [], ◌∷◌, ◌++◌, length, map, take, drop, ℤ, pos, refl, sym, ◌∙◌, ap, subst, arith}
+-- The kinds of one phase: what many firings leave and put.
+use Rattle.std.proofs.Common.{◌≡◌, ℕ, zero, suc, ◌+◌, ◌*◌, ◌/◌, ◌≤◌, ◌<◌, List, [], ◌∷◌, ◌++◌, length, map, replicate, take, drop, ℤ, pos, refl, sym, ◌∙◌, ap, subst, arith}
 use Rattle.std.specs.List.{range_with_len}
-use Rattle.std.proofs.lemmas.Nat.{div_below}
+use Rattle.std.proofs.lemmas.Nat.{div_below, div-mul-add}
 use Rattle.std.proofs.lemmas.List.{length-append, length-drop, append_assoc, append-nil, map-append, drop-drop, take-append-le, drop-append-le, get_or-drop, get_or_append_left, get_or-append-add}
 use Rattle.std.proofs.lemmas.List.FromFn.{length-map-range_with_len, get_or-map-range_with_len}
 use Rattle.std.proofs.Math.Nat.{zero-mul, suc-mul, mul-le-mul_right}
 use Rattle.std.proofs.Math.Seq.{take-add}
 use Rattle.sdf_actor.specs.Steps.{phase, total_in, total_out, sum_in, sum_out, state_at, puts_to}
-use Rattle.sdf_kit.specs.Samples.{sample, upsampled}
+use Rattle.sdf_kit.specs.Samples.{sample, saturated, sum_below, upsampled}
+use Rattle.sdf_kit.specs.Add.{sum_at}
+use Rattle.sdf_kit.specs.PutsFit.{sum_ones}
 use Rattle.sdf_kit.specs.Kept.{kept_next}
 use Rattle.sdf_kit.specs.Fir.{Filter, kept_len, block_put, run_put}
 use Rattle.sdf_kit.specs.Gain.{Scale, scaled}
@@ -16,9 +18,10 @@ use Rattle.sdf_kit.specs.Ports.{ArePorts}
 use Rattle.sdf_kit.specs.declared.ports.Ports.{Ports}
 use Rattle.sdf_kit.specs.Kit.{behaviour, kit_steps}
 use Rattle.sdf_kit.specs.declared.kit.Kit.{Kit}
-use Rattle.sdf_kit.specs.declared.kit.Kit.TheVariants.{Fir, Decimate, Interpolate, Gain, Delay, Table}
+use Rattle.sdf_kit.specs.declared.kit.Kit.TheVariants.{Fir, Decimate, Interpolate, Add, Fork, Gain, Delay, Table}
 use Rattle.sdf_kit.proofs.Upsampled.{upsampled_moved}
 use Rattle.sdf_kit.proofs.Blocks.{IsDone, done_begins, output, output_is}
+use Rattle.sdf_kit.proofs.Sums.{sum_below_same}
 use Rattle.sdf_kit.proofs.Runs.{IsRun, seam, same_sums, run_state, run_puts}
 
 -- each sample by itself
@@ -76,6 +79,51 @@ interpolate_run up kept some = record {
       let place : length xs + q / up ≡ q / up + i = omega (arith, long) in
       upsampled_moved b (xs ++ b) up i q (i * up + q) some (omega arith)
       (sym (get_or-append-add xs b (q / up) (pos 0)) ∙ ap (sample (xs ++ b)) place));
+}
+
+-- sums of a part of the samples, firing by firing
+pub add_run : (ways : ℕ) (kept : List ℤ) → IsRun kit_steps (Add ways) ways kept (λ _. kept) (λ i xs. map (sum_at ways xs) (range_with_len 0 i))
+add_run ways kept = record {
+  rate = λ _. sum_ones 0 ways;
+  begins = refl;
+  none = refl;
+  next = λ _ _ _ _ _ _. refl;
+  more = λ _ i xs b long one.
+      seam (sum_at ways xs) (sum_at ways (xs ++ b)) (λ _. saturated (sum_below ways (sample b))) i 1 (suc i) (omega arith)
+      (λ n l.
+      ap saturated (sum_below_same ways (λ q. sample xs (n * ways + q)) (λ q. sample (xs ++ b) (n * ways + q))
+      (λ q h. sym (get_or_append_left xs b (pos 0) (n * ways + q) (omega (arith, h, long, suc-mul n ways, mul-le-mul_right ways l))))))
+      (λ r l.
+      let here : i + r ≡ i = omega arith in
+      ap saturated (sum_below_same ways (sample b) (λ q. sample (xs ++ b) ((i + r) * ways + q))
+      (λ q h.
+      let place : (i + r) * ways + q ≡ length xs + q = omega (arith, long, ap (λ n. n * ways) here) in
+      sym (ap (sample (xs ++ b)) place ∙ get_or-append-add xs b q (pos 0)))));
+}
+
+-- a sample on each way
+same_all : (x : ℤ) (a n : ℕ) → replicate n x ≡ map (λ _. x) (range_with_len a n)
+same_all x a zero = refl
+same_all x a (suc n) = ap (λ ys. x ∷ ys) (same_all x (a + 1) n)
+
+some_of : (n i ways : ℕ) → n < i * ways → 0 < ways
+some_of n i zero l = let none : i * 0 ≡ 0 = omega arith in absurd (omega (arith, l, none))
+some_of n i (suc ways) l = omega arith
+
+pub fork_run : (ways : ℕ) (kept : List ℤ) → IsRun kit_steps (Fork ways) 1 kept (λ _. kept) (λ i xs. map (λ n. sample xs (n / ways)) (range_with_len 0 (i * ways)))
+fork_run ways kept = record {
+  rate = λ _. refl;
+  begins = refl;
+  none = ap (λ n. map (λ k. sample [] (k / ways)) (range_with_len 0 n)) (zero-mul ways);
+  next = λ _ _ _ _ _ _. refl;
+  more = λ _ i xs b long one.
+      ap (λ ys. map (λ n. sample xs (n / ways)) (range_with_len 0 (i * ways)) ++ ys) (same_all (sample b 0) 0 ways) ∙
+      seam (λ n. sample xs (n / ways)) (λ n. sample (xs ++ b) (n / ways)) (λ _. sample b 0) (i * ways) ways (suc i * ways) (suc-mul i ways)
+      (λ n l. sym (get_or_append_left xs b (pos 0) (n / ways) (omega (arith, long, div_below n ways i (some_of n i ways l) l))))
+      (λ q l.
+      let row : (i * ways + q) / ways ≡ i = div-mul-add i ways q l in
+      let place : (i * ways + q) / ways ≡ length xs + 0 = omega (arith, long, row) in
+      sym (ap (sample (xs ++ b)) place ∙ get_or-append-add xs b 0 (pos 0)));
 }
 
 -- what is kept after some samples and then some more

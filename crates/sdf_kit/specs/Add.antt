@@ -1,5 +1,5 @@
 -- Sums of several ways.
-use Rattle.std.specs.Prelude.{ℕ, [], ◌∷◌}
+use Rattle.std.specs.Prelude.{ℕ, ◌+◌, ◌*◌, ℤ, List, [], ◌∷◌}
 use Rattle.sdf_kit.specs.Samples.{sample, saturated, sum_below}
 use Rattle.sdf_kit.specs.Ports.{steady}
 use Rattle.sdf_kit.specs.Behaviour.{Behaviour}
@@ -13,3 +13,7 @@ add ways = record {
   puts = λ j kept taken. saturated (sum_below ways (sample taken)) ∷ [];
   formula = λ x p n. saturated (sum_below ways (λ q. sample (x q) n));
 }
+
+-- the sum of firing n, where the blocks of firings stand one after another
+abbrev pub sum_at : ℕ → List ℤ → ℕ → ℤ
+sum_at ways xs n = saturated (sum_below ways (λ q. sample xs (n * ways + q)))

@@ -190,6 +190,10 @@ impl Actor for Kit {
         Kept::zeros(alloc, self.kept_len())
     }
 
+    fn again(&self, alloc: Global, state: &Kept) -> Result<Kept, AllocError> {
+        state.again(alloc)
+    }
+
     fn fire(&self, _phase: u32, state: &mut Kept, taken: &[i32], put: &mut [i32]) {
         match self {
             Kit::Fir(f) => f.fire(state, taken, put),
@@ -225,7 +229,9 @@ impl Actor for Kit {
             Kit::Gain(g) => g.run(taken, put),
             Kit::Delay(d) => d.run(state, taken, put),
             Kit::Table(t) => t.run(taken, put),
-            Kit::Add(_) | Kit::Fork(_) | Kit::Deal(_) | Kit::Gather(_) => return false,
+            Kit::Add(a) => a.run(taken, put),
+            Kit::Fork(f) => f.run(taken, put),
+            Kit::Deal(_) | Kit::Gather(_) => return false,
         }
         true
     }

@@ -1,5 +1,6 @@
 //! Laws over the definitions, each the contract of a function that does nothing.
 
+ghost use Rattle.sdf_node.specs.Collected.{SinksHoldLists};
 ghost use Rattle.sdf_node.specs.Laws.{NodesCanStep, NodesKeepPhase};
 
 use sdf_actor::Actor;
@@ -9,4 +10,9 @@ pub use sdf_actor::laws::{locals_are_history, locals_grow};
 pub fn nodes_can_step<A: Actor>()
     ensures steps { NodesCanStep A.steps }
     ensures phases { NodesKeepPhase A.steps }
+{}
+
+/// A sink's list is all that it took.
+pub fn sinks_hold_lists<A: Actor>()
+    ensures { SinksHoldLists A.steps }
 {}

@@ -4,9 +4,11 @@
 //! knows of its own channels, whatever the others do, is `IsLocal` in `sdf_actor`, whose laws are in `laws` too.
 #![tactic(auto)]
 
+pub mod collect;
 pub mod gate;
 pub mod laws;
 pub mod node;
 
+pub use collect::collect_at;
 pub use gate::{ActorId, Gate, NoGate};
 pub use node::{NodeState, append, begin, puts, step, takes};

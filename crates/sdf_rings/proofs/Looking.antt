@@ -14,6 +14,7 @@ use Rattle.sdf_actor.specs.declared.sides.Side.TheVariants.{Input, Output}
 use Rattle.sdf_rings.specs.declared.stand.Stand.{Stand}
 use Rattle.sdf_rings.specs.Ends.{DrewEach, GaveEach}
 use Rattle.sdf_rings.specs.Stands.{IsStand, CanFire, HasMoved}
+use Rattle.sdf_rings.proofs.OwnEnds.{own_pairs_kept}
 use Rattle.sdf_rings.proofs.Looks.{drew_join, gave_join, drew_none, gave_none}
 
 pub vec_in : {X Z : Type 0} (v : Vec X Z) (i : ℕ) → i < vec_len v → i < length v.items
@@ -21,6 +22,9 @@ vec_in v i h = omega arith
 
 vec_out : {X Z : Type 0} (v : Vec X Z) (i : ℕ) → i < length v.items → i < vec_len v
 vec_out v i h = omega arith
+
+pub items_long : {X Z : Type 0} (v w : Vec X Z) → vec_len v ≡ vec_len w → length v.items ≡ length w.items
+items_long v w h = omega arith
 
 -- a list of no samples
 nil : {X : Type 0} (xs : List X) (m : ℕ) → length xs + m ≡ m → xs ≡ []
@@ -76,7 +80,7 @@ module _ {A S T : Type 0} (s : Steps A S T) (n : Netlist A T) where
     pub looked_stand : (inputs : List (List T)) → IsStand s n inputs x → IsStand s n inputs (record x { ins = ins; outs = outs })
     looked_stand inputs st = record {
       known = st.known;
-      apart = st.apart;
+      own_pairs = own_pairs_kept n x.actor x.ins.items ins.items x.outs.items outs.items (λ _. []) (λ _. []) (items_long ins x.ins ins_is) (items_long outs x.outs outs_is) drew gave st.own_pairs;
       within = st.within;
       own = st.own;
       local = st.local;

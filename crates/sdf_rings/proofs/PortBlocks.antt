@@ -14,7 +14,7 @@ use Rattle.sdf_actor.specs.declared.sides.Side.TheVariants.{Input, Output}
 use Rattle.sdf_actor.specs.Sides.{ports_of}
 use Rattle.sdf_node.specs.Nodes.{takes_of, puts_of}
 use Rattle.sdf_rings.specs.Blocks.{start_at, block_of}
-use Rattle.sdf_rings.specs.Sizes.{sizes, row_at, AreRows}
+use Rattle.sdf_answer.specs.Sizes.{sizes, at_phase, AreRows}
 use Rattle.sdf_rings.proofs.Blocks.{start_at_zero, start_at_next}
 use Rattle.sdf_rings.proofs.Deals.{start_at_same, start_at_all, start_at_range, spread_is_block, block_same}
 
@@ -44,12 +44,12 @@ module _ {A S T : Type 0} (s : Steps A S T) where
 
   -- and by the row of its phase
   pub row_start : (side : Side) (x : Node A) (rows : List (List ℕ)) (k : ℕ) → AreRows s side x rows →
-      start_at (λ p. get_or (row_at rows (k % cycle_of s x)) p 0) (ports_of s side x) ≡ start_at (sizes s side x k) (ports_of s side x)
-  row_start side x rows k are = start_at_same (λ p. get_or (row_at rows (k % cycle_of s x)) p 0) (sizes s side x k) (ports_of s side x) (are.each k)
+      start_at (λ p. get_or (at_phase rows (k % cycle_of s x)) p 0) (ports_of s side x) ≡ start_at (sizes s side x k) (ports_of s side x)
+  row_start side x rows k are = start_at_same (λ p. get_or (at_phase rows (k % cycle_of s x)) p 0) (sizes s side x k) (ports_of s side x) (are.each k)
 
   pub row_block : {X : Type 0} (side : Side) (x : Node A) (rows : List (List ℕ)) (k i : ℕ) (b : List X) → AreRows s side x rows → i < ports_of s side x →
-      block_of (λ p. get_or (row_at rows (k % cycle_of s x)) p 0) i b ≡ block_of (sizes s side x k) i b
-  row_block side x rows k i b are h = block_same (λ p. get_or (row_at rows (k % cycle_of s x)) p 0) (sizes s side x k) i b (λ p l. are.each k p (omega arith))
+      block_of (λ p. get_or (at_phase rows (k % cycle_of s x)) p 0) i b ≡ block_of (sizes s side x k) i b
+  row_block side x rows k i b are h = block_same (λ p. get_or (at_phase rows (k % cycle_of s x)) p 0) (sizes s side x k) i b (λ p l. are.each k p (omega arith))
 
 -- what firing k puts on a channel
 abbrev pub size_at : {A : Type 0} → Wiring A → ℕ → ℕ → ℕ

@@ -17,11 +17,11 @@ use Rattle.sdf_node.specs.Nodes.{phase_at, takes_of, puts_of, CanStep}
 use Rattle.sdf_rings.specs.declared.stand.Stand.{Stand}
 use Rattle.sdf_rings.specs.Blocks.{start_at, block_of}
 use Rattle.sdf_rings.specs.Ends.{Drew, Gave, DrewEach, GaveEach, HoldsEach, HasRoomEach}
-use Rattle.sdf_rings.specs.Sizes.{sizes, row_at, AreRows}
+use Rattle.sdf_answer.specs.Sizes.{sizes, at_phase, AreRows}
 use Rattle.sdf_rings.specs.Stands.{IsStand}
 use Rattle.sdf_rings.proofs.Deals.{start_at_same, block_same}
 use Rattle.sdf_rings.proofs.PortBlocks.{sizes_taken, sizes_put}
-use Rattle.sdf_rings.proofs.Firing.{length_taken_before}
+use Rattle.sdf_rings.proofs.Knowing.{length_taken_before}
 
 module _ {A S T : Type 0} (s : Steps A S T) (keep : NodesKeepPhase s) (n : Netlist A T) (inputs : List (List T)) (x : Stand A T S) (st : IsStand s n inputs x) where
   pub phase_is : phase_at x.state ≡ x.done % cycle_of s (node n x.actor)
@@ -47,9 +47,9 @@ module _ {A S T : Type 0} (s : Steps A S T) (keep : NodesKeepPhase s) (n : Netli
     pub row_known : j < length rows
     row_known = let k = are.known x.done in omega (arith, j_is, phase_is)
 
-    module _ (row : List ℕ) (row_is : row ≡ row_at rows j) where
-      row_as : row ≡ row_at rows (x.done % cycle_of s (node n x.actor))
-      row_as = row_is ∙ ap (row_at rows) (j_is ∙ phase_is)
+    module _ (row : List ℕ) (row_is : row ≡ at_phase rows j) where
+      row_as : row ≡ at_phase rows (x.done % cycle_of s (node n x.actor))
+      row_as = row_is ∙ ap (at_phase rows) (j_is ∙ phase_is)
 
       pub row_all : length row ≡ ports_of s side (node n x.actor)
       row_all = ap length row_as ∙ are.long x.done
@@ -84,7 +84,7 @@ module _ {A S T : Type 0} (s : Steps A S T) (keep : NodesKeepPhase s) (n : Netli
         omega arith
 
   -- by the row or by the firing: whether the ports hold a block or have room, and what moved
-  module _ (j : ℕ) (j_is : j ≡ phase_at x.state) (row : List ℕ) (row_is : row ≡ row_at (lists x.takes.items) j)
+  module _ (j : ℕ) (j_is : j ≡ phase_at x.state) (row : List ℕ) (row_is : row ≡ at_phase (lists x.takes.items) j)
       (ends : List (Consumer T Global AnyItems)) (long : length ends ≡ ports_of s Input (node n x.actor)) where
     pub ins_row : length ends ≡ length row
     ins_row = long ∙ sym (row_all Input (lists x.takes.items) st.takes j j_is row row_is)
@@ -106,7 +106,7 @@ module _ {A S T : Type 0} (s : Steps A S T) (keep : NodesKeepPhase s) (n : Netli
     drew_by_firing after t all = λ i d h.
         subst (λ b. Drew (get_or ends i d) (get_or after i d) b) (row_part Input (lists x.takes.items) st.takes j j_is row row_is i t (omega arith)) (all i d h)
 
-  module _ (j : ℕ) (j_is : j ≡ phase_at x.state) (row : List ℕ) (row_is : row ≡ row_at (lists x.puts.items) j)
+  module _ (j : ℕ) (j_is : j ≡ phase_at x.state) (row : List ℕ) (row_is : row ≡ at_phase (lists x.puts.items) j)
       (ends : List (Producer T Global AnyItems)) (long : length ends ≡ ports_of s Output (node n x.actor)) where
     pub outs_row : length ends ≡ length row
     outs_row = long ∙ sym (row_all Output (lists x.puts.items) st.puts j j_is row row_is)

@@ -105,10 +105,10 @@ module _ {A S T : Type 0} where
       | inr less ↦
           let lk : k < length n.wires = omega arith in
           let puts = t.other_producers (spot_of places (wire n k).from) e d y (λ z.
-          let node = one_node s n inputs seats places r (wire n k).from.0 (wire n m).from.0 e d (r.is_net.from_in k lk).0 (r.is_net.from_in m known).0 z.0 z.1 in
+          let node = one_node n seats places r.placed (wire n k).from.0 (wire n m).from.0 e d (r.is_net.from_in k lk).0 (r.is_net.from_in m known).0 z.0 z.1 in
           let one = r.is_net.from_once k m lk known (λ i. (node i, z.2 i)) in omega arith) in
           let takes = t.other_consumers (spot_of places (wire n k).to) e d x (λ z.
-          let node = one_node s n inputs seats places r (wire n k).to.0 (wire n m).to.0 e d (r.is_net.to_in k lk).0 (r.is_net.to_in m known).0 z.0 z.1 in
+          let node = one_node n seats places r.placed (wire n k).to.0 (wire n m).to.0 e d (r.is_net.to_in k lk).0 (r.is_net.to_in m known).0 z.0 z.1 in
           let one = r.is_net.to_once k m lk known (λ i. (node i, z.2 i)) in omega arith) in
           rw (puts, takes) (before less)
     ]

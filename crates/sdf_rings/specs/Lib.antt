@@ -3,9 +3,13 @@ pub mod MachineLaws
 pub mod Pair
 pub mod Blocks
 pub mod Ends
-pub mod Sizes
 pub mod Stands
 pub mod Seats
 pub mod Places
 pub mod Rests
+pub mod Asks
 pub mod Totals
+pub mod Openings
+pub mod Begun
+pub mod Prepared
+pub mod Outcome

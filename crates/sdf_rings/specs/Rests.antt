@@ -6,7 +6,9 @@ use Rattle.rtrb.specs.declared.producer.Producer.{Producer}
 use Rattle.rtrb.specs.declared.consumer.Consumer.{Consumer}
 use Rattle.rtrb.specs.declared.AnyItems.{AnyItems}
 use Rattle.sdf_actor.specs.Steps.{Steps}
-use Rattle.sdf_actor.specs.Nets.{Netlist, wire, wiring, IsNet, IsHistoryOf}
+use Rattle.sdf_actor.specs.Histories.{taken_before}
+use Rattle.sdf_actor.specs.Nets.{Netlist, node, wire, wiring, IsNet, IsHistoryOf}
+use Rattle.sdf_node.specs.Nodes.{IsAt}
 use Rattle.sdf_rings.specs.declared.stand.Stand.{Stand}
 use Rattle.sdf_rings.specs.declared.seat.Seat.{Seat}
 use Rattle.sdf_rings.specs.declared.meet.Spot.{Spot}
@@ -41,7 +43,8 @@ module _ {A S T : Type 0} (n : Netlist A T) (seats : List (Seat A T S)) (places 
     pub pair : (c : ℕ) (e : Seat A T S) (d : Stand A T S) (x : Consumer T Global AnyItems) (y : Producer T Global AnyItems) → c < length n.wires →
         IsPair (producer_of n seats places e d y c) (consumer_of n seats places e d x c)
 
--- at rest after done a firings of each node a: what was put is the history, and each ring holds what is left of it
+-- at rest after done a firings of each node a: what was put is the history, each ring holds what is left of it, and each node's state
+-- is the one after what it took
 pub record IsRest {A S T : Type 0} (s : Steps A S T) (n : Netlist A T) (inputs : List (List T)) (seats : List (Seat A T S)) (places : List (ℕ × ℕ)) (done : ℕ → ℕ) : Type 0 where
   pub history : ℕ → List T
   pub is : IsHistoryOf s n inputs done history
@@ -49,12 +52,14 @@ pub record IsRest {A S T : Type 0} (s : Steps A S T) (n : Netlist A T) (inputs :
   pub put : (c : ℕ) (e : Seat A T S) (d : Stand A T S) (y : Producer T Global AnyItems) → c < length n.wires → sent (producer_of n seats places e d y c) ≡ history c
   pub left : (c : ℕ) (e : Seat A T S) (d : Stand A T S) (x : Consumer T Global AnyItems) → c < length n.wires →
       known_items (consumer_of n seats places e d x c) ≡ drop ((wiring s n).rates.consumed c (done ((wiring s n).rates.target c))) (history c)
+  pub states : (a : ℕ) (e : Seat A T S) (d : Stand A T S) → a < length n.nodes →
+      IsAt s inputs (stand_of n seats places e d a).asked (node n a) (taken_before (wiring s n) history a (done a)) (stand_of n seats places e d a).state
 
--- the same, read by any seat, stand and ends
+-- the same at whatever counts are those of the firings done, read by any seat, stand and ends
 abbrev pub AreAtRest : {A S T : Type 0} → Steps A S T → Netlist A T → List (List T) → List (Seat A T S) → List (ℕ × ℕ) → Type 0
 AreAtRest {A} {S} {T} s n inputs seats places =
-    (e : Seat A T S) (d : Stand A T S) (x : Consumer T Global AnyItems) (y : Producer T Global AnyItems) →
-    IsRest s n inputs seats places (λ a. (stand_of n seats places e d a).done)
+    (e : Seat A T S) (d : Stand A T S) (x : Consumer T Global AnyItems) (y : Producer T Global AnyItems) (k : ℕ → ℕ) →
+    ((a : ℕ) → a < length n.nodes → (stand_of n seats places e d a).done ≡ k a) → IsRest s n inputs seats places k
 
 -- all the ends of a run in one hand. The places are by node: a seat, and a stand on it
 pub record InHand (A S T : Type 0) : Type 0 where

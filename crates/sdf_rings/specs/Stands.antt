@@ -1,29 +1,44 @@
 -- A node with its ends of rings: what it knows, when it can fire, and what became of it.
 use Rattle.std.specs.Prelude.{◌≡◌, ℕ, ◌+◌, ◌%◌, ◌≤◌, ◌<◌, List, length, take, vec_len, slice_index, slice_index_or}
 use Rattle.std.specs.Global.{Global}
-use Rattle.rtrb.specs.Ring.{sent, received}
+use mathlib.Core.List.{IsPrefix}
+use Rattle.rtrb.specs.Ring.{sent, received, IsPair}
 use Rattle.rtrb.specs.declared.producer.Producer.{Producer}
 use Rattle.rtrb.specs.declared.consumer.Consumer.{Consumer}
 use Rattle.rtrb.specs.declared.AnyItems.{AnyItems}
 use Rattle.sdf_actor.specs.Steps.{Steps}
 use Rattle.sdf_actor.specs.Histories.{taken_before}
 use Rattle.sdf_actor.specs.Locals.{IsLocal}
-use Rattle.sdf_actor.specs.Nets.{Netlist, node, wiring, answers, inputs_of, outputs_of, cycle_of}
+use Rattle.sdf_actor.specs.Nets.{Netlist, wire, node, wiring, answers, inputs_of, outputs_of, cycle_of}
 use Rattle.sdf_actor.specs.Sides.{moved_at}
 use Rattle.sdf_actor.specs.Wires.{lists}
 use Rattle.sdf_actor.specs.declared.sides.Side.TheVariants.{Input, Output}
 use Rattle.sdf_node.specs.Nodes.{takes_of, puts_of, IsAt}
 use Rattle.sdf_rings.specs.declared.stand.Stand.{Stand}
 use Rattle.sdf_rings.specs.Ends.{DrewEach, GaveEach, HoldsEach, HasRoomEach}
-use Rattle.sdf_rings.specs.Sizes.{sizes, AreRows}
+use Rattle.sdf_answer.specs.Sizes.{sizes, AreRows}
+
+-- channels from node a to itself, by its ends of rings
+module _ {A T : Type 0} (n : Netlist A T) (a : ℕ) (ins : List (Consumer T Global AnyItems)) (outs : List (Producer T Global AnyItems)) where
+  -- what holds of the two ends of each
+  abbrev HoldsOfOwn : (Consumer T Global AnyItems → Producer T Global AnyItems → Type 0) → Type 0
+  HoldsOfOwn R = (c : ℕ) (d : Consumer T Global AnyItems) (e : Producer T Global AnyItems) → c < length n.wires → (wire n c).from.0 ≡ a → (wire n c).to.0 ≡ a →
+      R (slice_index_or ins (wire n c).to.1 d) (slice_index_or outs (wire n c).from.1 e)
+
+  -- both ends of each are one ring's
+  abbrev pub OwnArePairs : Type 0
+  OwnArePairs = HoldsOfOwn (λ x y. IsPair y x)
+
+  -- what was taken of each is the beginning of what was put there
+  abbrev pub OwnBegin : Type 0
+  OwnBegin = HoldsOfOwn (λ x y. IsPrefix (received x) (sent y))
 
 module _ {A S T : Type 0} (s : Steps A S T) (n : Netlist A T) where
   -- it has its ends of rings by port, and what went through them is what it knows of its own channels: its firings done answer what
   -- they took, and its state is the one after them
   pub record IsStand (inputs : List (List T)) (x : Stand A T S) : Type 0 where
     pub known : x.actor < length n.nodes
-    -- no channel leads from it to itself
-    pub apart : (c : ℕ) → c < length n.wires → (wiring s n).rates.source c ≡ x.actor → (wiring s n).rates.target c ≡ x.actor → ⊥
+    pub own_pairs : OwnArePairs n x.actor x.ins.items x.outs.items
     pub within : x.done ≤ x.asked
     pub own : ℕ → List T
     pub local : IsLocal (wiring s n) (answers s n inputs) x.actor x.done own

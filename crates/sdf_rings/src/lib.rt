@@ -2,21 +2,30 @@
 //!
 //! It stands on `sdf_actor`, `sdf_node`, `sdf_prec` and the rings of `rtrb`. Begin at `specs/Machine.antt`, the machine; the statements of its laws
 //! are in `specs/MachineLaws.antt`, and a ring at work in `specs/Pair.antt`. The code begins at `seat`, one worker's round (`work`), over `stand`, a
-//! node with its ends of rings: `specs/Stands.antt` and `specs/Seats.antt` say what a node knows of its own channels. `round` has all workers at once,
-//! `meet` tells all ends, `rest` says what then stands where, and `rings` has rounds by hand.
+//! node with its ends of rings: `specs/Stands.antt` and `specs/Seats.antt` say what a node knows of its own channels; `own_rings` is about those from a node
+//! to itself. `round` has all workers at once, `meet` tells all ends, `rest` says what then stands where, and `rings` has rounds by hand.
+//! `prepare` makes the seats of a run, `run` goes on until nothing is left, `finish` gives out the lists of the sinks, and `runner` does
+//! all of it (`specs/Asks.antt`, `specs/Outcome.antt`).
 #![tactic(auto)]
 
 mod ends;
+pub mod finish;
 pub mod laws;
 pub mod meet;
+mod own_rings;
 pub mod pair;
+pub mod prepare;
 pub mod rest;
 pub mod rings;
 pub mod round;
+pub mod run;
+pub mod runner;
 pub mod seat;
+mod setup;
 pub mod stand;
 
 pub use rings::Rings;
 pub use round::run_round;
+pub use runner::run_rings;
 pub use seat::{Seat, work};
 pub use stand::Stand;

@@ -1,15 +1,18 @@
 //! The end of a round: all ends in one hand.
 
-ghost use Rattle.std.specs.Prelude.{◌≡◌, ◌<◌, ℕ, List, length, slice_index_or};
+ghost use Rattle.std.specs.Prelude.{◌<◌, ℕ, List, length, slice_index_or};
 ghost use Rattle.sdf_actor.specs.Nets.{IsNet};
 ghost use Rattle.sdf_actor.specs.Wires.{lists};
 ghost use Rattle.sdf_rings.specs.Seats.{IsSeat};
-ghost use Rattle.sdf_rings.specs.Rests.{IsPlaced, HaveMet, AreAtRest};
+ghost use Rattle.sdf_rings.specs.Rests.{IsPlaced, AreRings, HaveMet, AreAtRest};
+ghost use Rattle.sdf_rings.specs.Asks.{IsPlanned, SomeFirst};
+ghost use Rattle.sdf_rings.specs.Totals.{total_left};
 
 use crate::seat::Seat;
 use sdf_actor::{Actor, Net};
 
-/// Where all ends have met, what was put is the history at the firings done, and each ring holds what is left of it.
+/// Where all ends have met, what was put is the history at the firings done, each ring holds what is left of it, and each state is the
+/// one after what its node took.
 pub fn met_is_rest<A: Actor>(
     net: &Net<A>,
     inputs: &[Vec<A::Token>],
@@ -23,5 +26,24 @@ pub fn met_is_rest<A: Actor>(
     ensures { AreAtRest A.steps net.now (lists inputs.now) seats.now places.now }
 {
     sdf_actor::laws::nets_are_wired::<A>();
+    sdf_actor::laws::taken_stays::<A>();
     sdf_actor::laws::locals_are_history::<A>();
+}
+
+/// Where all ends have met and firings of a plan are left, the first of some seat is known to be possible.
+pub fn met_goes_on<A: Actor>(
+    net: &Net<A>,
+    inputs: &[Vec<A::Token>],
+    seats: &[Seat<A>],
+    places: &[(usize, usize)],
+)
+    requires rings { AreRings A.steps (record { net = net.now; inputs = lists inputs.now; seats = seats.now; places = places.now }) }
+    requires met { HaveMet net.now seats.now places.now }
+    requires planned { (order : List ℕ) × ((cap : ℕ → ℕ) × IsPlanned A.steps net.now seats.now places.now order cap) }
+    requires some { 0 < total_left seats.now }
+    ensures { SomeFirst A.steps net.now seats.now }
+{
+    sdf_actor::laws::nets_are_wired::<A>();
+    sdf_prec::laws::the_next_may_fire();
+    met_is_rest(net, inputs, seats, places);
 }

@@ -3,14 +3,23 @@
 ghost use Rattle.std.specs.Prelude.{◌≡◌, ◌+◌, ◌<◌, ◌≤◌, ◌⊎◌, ◌^◌, ℕ, List, length, vec_len, slice_index_or};
 ghost use Rattle.rtrb.specs.Ring.{known_items};
 ghost use Rattle.sdf_rings.specs.Seats.{HasFirst, HasWorked, HasRounded};
-ghost use Rattle.sdf_rings.specs.Rests.{stand_of, consumer_of, HaveMet, AreAtRest};
+ghost use Rattle.sdf_rings.specs.Rests.{stand_of, consumer_of, AreRings, HaveMet, AreAtRest};
+ghost use Rattle.sdf_rings.specs.Asks.{IsPlanned};
 ghost use Rattle.sdf_rings.specs.Totals.{total_left};
+ghost use Rattle.sdf_actor.specs.Laws.{AreCountsOf};
+ghost use Rattle.sdf_actor.specs.Sides.{list_count};
+ghost use Rattle.sdf_actor.specs.Wires.{lists};
+ghost use Rattle.sdf_actor.specs.declared.sides.Lists.TheVariants.{Outputs};
+ghost use Rattle.sdf_answer.specs.Answer.{AreOutputs};
 
+use crate::finish::collect;
 use crate::meet::meet_all;
 use crate::rest::met_is_rest;
 use crate::round::run_round;
+use crate::run::run_all;
 use crate::seat::{Seat, work};
 use sdf_actor::{Actor, Net};
+use sdf_answer::laws::{histories_make_outputs, net_facts};
 use sdf_node::Gate;
 use std::alloc::Global;
 use std::marker::Model;
@@ -24,9 +33,14 @@ pub struct Rings<'a, A: Actor> {
     inputs: &'a [Vec<A::Token>],
     seats: Vec<Seat<A>>,
     places: Vec<(usize, usize)>,
+    /// As many lists as the net makes, for which `finish` swaps those of the sinks.
+    outputs: Vec<Vec<A::Token>>,
 }
 
 impl<'a, A: Actor> Model for Rings<'a, A> {
+    ghost use Rattle.std.specs.Prelude.{◌≡◌, length};
+    ghost use Rattle.sdf_actor.specs.declared.sides.Lists.TheVariants.{Outputs};
+    ghost use Rattle.sdf_actor.specs.Sides.{list_count};
     ghost use Rattle.sdf_actor.specs.Wires.{lists};
     ghost use Rattle.sdf_rings.specs.Rests.{InHand, AreRings};
 
@@ -34,10 +48,40 @@ impl<'a, A: Actor> Model for Rings<'a, A> {
 
     ghost view = { λ r. record { net = r.net.now; inputs = lists r.inputs.now; seats = r.seats.items; places = r.places.items } };
 
-    ghost invariant = { λ r. AreRings A.steps (record { net = r.net.now; inputs = lists r.inputs.now; seats = r.seats.items; places = r.places.items }) };
+    ghost invariant = { λ r. AreRings A.steps (record { net = r.net.now; inputs = lists r.inputs.now; seats = r.seats.items; places = r.places.items }) × (length r.outputs.items ≡ list_count Outputs r.net.now.nodes) };
 }
 
 impl<'a, A: Actor> Rings<'a, A> {
+    /// Seats, where each node stands, and lists for `finish`, as many as the net makes.
+    pub(crate) fn new(
+        alloc: Global,
+        net: &'a Net<A>,
+        inputs: &'a [Vec<A::Token>],
+        seats: Vec<Seat<A>>,
+        places: Vec<(usize, usize)>,
+        outputs: Vec<Vec<A::Token>>,
+    ) -> Rings<'a, A>
+        requires rings { AreRings A.steps (record { net = net.now; inputs = lists inputs.now; seats = seats.items; places = places.items }) }
+        requires outputs { length outputs.items ≡ list_count Outputs net.now.nodes }
+        ensures { result ≡ record { net = net.now; inputs = lists inputs.now; seats = seats.items; places = places.items } }
+    {
+        Rings {
+            alloc,
+            net,
+            inputs,
+            seats,
+            places,
+            outputs,
+        }
+    }
+
+    /// Each node stands on one seat and knows its own channels, and the two ends of each channel are of one ring.
+    pub fn facts(&self)
+        ensures { AreRings A.steps self.now }
+    {
+        let _ = &self.alloc;
+    }
+
     /// How many seats there are. Seat `i` is processor `i`.
     pub fn seats(&self) -> usize
         ensures { result ≡ length self.now.seats }
@@ -62,6 +106,7 @@ impl<'a, A: Actor> Rings<'a, A> {
         ensures stopped { (e : _) → ((slice_index_or self.new.seats seat e).next ≡ vec_len (slice_index_or self.new.seats seat e).left) ⊎ (HasFirst A.steps self.new.net (slice_index_or self.new.seats seat e) → ⊥) }
         ensures progress { (e : _) → (slice_index_or self.old.seats seat e).next < vec_len (slice_index_or self.old.seats seat e).left → HasFirst A.steps self.old.net (slice_index_or self.old.seats seat e) → 0 < result }
         ensures same { (self.new.net ≡ self.old.net) × (self.new.inputs ≡ self.old.inputs) × (self.new.places ≡ self.old.places) }
+        ensures planned { (order : List ℕ) (cap : ℕ → ℕ) → IsPlanned A.steps self.old.net self.old.seats self.old.places order cap → IsPlanned A.steps self.new.net self.new.seats self.new.places order cap }
         ensures others { (i : ℕ) (e : _) → (seat ≡ i → ⊥) → slice_index_or self.new.seats i e ≡ slice_index_or self.old.seats i e }
     {
         let net = self.net;
@@ -73,6 +118,7 @@ impl<'a, A: Actor> Rings<'a, A> {
     /// A round of all workers, each in a thread of its own.
     pub fn work_all<R: Threads + Sync, G: Gate>(&mut self, rt: &R, patience: u32, gate: &G)
         ensures rounded { (i : ℕ) (e : _) → i < length self.old.seats → HasRounded A.steps self.new.net self.new.inputs (slice_index_or self.old.seats i e) (slice_index_or self.new.seats i e) }
+        ensures planned { (order : List ℕ) (cap : ℕ → ℕ) → IsPlanned A.steps self.old.net self.old.seats self.old.places order cap → IsPlanned A.steps self.new.net self.new.seats self.new.places order cap }
         ensures same { (self.new.net ≡ self.old.net) × (self.new.inputs ≡ self.old.inputs) × (self.new.places ≡ self.old.places) × (length self.new.seats ≡ length self.old.seats) }
     {
         let net = self.net;
@@ -110,6 +156,7 @@ impl<'a, A: Actor> Rings<'a, A> {
         ensures met { HaveMet self.new.net self.new.seats self.new.places }
         ensures rest { AreAtRest A.steps self.new.net self.new.inputs self.new.seats self.new.places }
         ensures idle { (i : ℕ) (e : _) → i < length self.old.seats → HasWorked A.steps self.new.net (slice_index_or self.old.seats i e) (slice_index_or self.new.seats i e) × ((slice_index_or self.new.seats i e).next ≡ (slice_index_or self.old.seats i e).next) }
+        ensures planned { (order : List ℕ) (cap : ℕ → ℕ) → IsPlanned A.steps self.old.net self.old.seats self.old.places order cap → IsPlanned A.steps self.new.net self.new.seats self.new.places order cap }
         ensures same { (self.new.net ≡ self.old.net) × (self.new.inputs ≡ self.old.inputs) × (self.new.places ≡ self.old.places) × (length self.new.seats ≡ length self.old.seats) }
     {
         let net = self.net;
@@ -117,5 +164,54 @@ impl<'a, A: Actor> Rings<'a, A> {
         let _whole = net.graph();
         meet_all(self.alloc, net, inputs, &mut self.seats, &self.places);
         met_is_rest(net, inputs, &self.seats, &self.places);
+    }
+
+    /// Rounds until nothing is left of a plan, and how many there were. Each does at least one firing.
+    pub fn run<R: Threads + Sync, G: Gate>(&mut self, rt: &R, patience: u32, gate: &G) -> u64
+        requires met { HaveMet self.old.net self.old.seats self.old.places }
+        requires planned { (order : List ℕ) × ((cap : ℕ → ℕ) × IsPlanned A.steps self.old.net self.old.seats self.old.places order cap) }
+        requires count { total_left self.old.seats < 2 ^ 64 }
+        ensures met { HaveMet self.new.net self.new.seats self.new.places }
+        ensures planned { (order : List ℕ) (cap : ℕ → ℕ) → IsPlanned A.steps self.old.net self.old.seats self.old.places order cap → IsPlanned A.steps self.new.net self.new.seats self.new.places order cap }
+        ensures same { (self.new.net ≡ self.old.net) × (self.new.inputs ≡ self.old.inputs) × (self.new.places ≡ self.old.places) }
+        ensures done { total_left self.new.seats ≡ 0 }
+        ensures rounds { result ≤ total_left self.old.seats }
+        ensures some { 0 < total_left self.old.seats → 0 < result }
+    {
+        let net = self.net;
+        let inputs = self.inputs;
+        run_all(
+            rt,
+            self.alloc,
+            net,
+            inputs,
+            &mut self.seats,
+            &self.places,
+            patience,
+            gate,
+        )
+    }
+
+    /// The output lists, where nothing is left of a plan and all ends have met. It takes no memory.
+    pub fn finish(self) -> Vec<Vec<A::Token>>
+        requires left { total_left self.seats ≡ 0 }
+        requires met { HaveMet self.net self.seats self.places }
+        ensures { (order : List ℕ) (cap k : ℕ → ℕ) → IsPlanned A.steps self.entry.net self.entry.seats self.entry.places order cap → AreCountsOf self.entry.net order k →
+            AreOutputs A.steps self.entry.net self.entry.inputs k (lists result.items) }
+    {
+        let Rings {
+            alloc: _,
+            net,
+            inputs,
+            mut seats,
+            places,
+            mut outputs,
+        } = self;
+        net_facts(net);
+        histories_make_outputs::<A>();
+        sdf_node::laws::sinks_hold_lists::<A>();
+        met_is_rest(net, inputs, &seats, &places);
+        collect(net, &mut seats, &places, &mut outputs);
+        outputs
     }
 }

@@ -1,15 +1,16 @@
 //! A node at work, with its ends of rings.
 
 ghost use Rattle.std.specs.Prelude.{◌≡◌, ◌+◌, ◌<◌, ◌≤◌, ◌++◌, ◌∷◌, [], ℕ, List, length, take, slice_index, IsTrue, IsFalse};
-ghost use Rattle.sdf_actor.specs.Nets.{answer_of, IsNet};
+ghost use Rattle.sdf_actor.specs.Nets.{answer_of, node, inputs_of, outputs_of, IsNet};
 ghost use Rattle.sdf_actor.specs.Wires.{lists};
 ghost use Rattle.sdf_node.specs.Nodes.{CanStep, IsAt};
 ghost use Rattle.sdf_rings.specs.Blocks.{start_at, block_of};
-ghost use Rattle.sdf_rings.specs.Ends.{DrewEach, HoldsEach};
-ghost use Rattle.sdf_rings.specs.Sizes.{row_at};
-ghost use Rattle.sdf_rings.specs.Stands.{IsStand, CanFire, HasMoved};
+ghost use Rattle.sdf_rings.specs.Ends.{DrewEach, GaveEach, HoldsEach, HasRoomEach};
+ghost use Rattle.sdf_answer.specs.Sizes.{at_phase};
+ghost use Rattle.sdf_rings.specs.Stands.{OwnArePairs, OwnBegin, IsStand, CanFire, HasMoved};
 
 use crate::ends::{have_room_each, hold_each, put_each, take_each};
+use crate::own_rings::tell_own;
 use rtrb::{Consumer, Producer};
 use sdf_actor::{Actor, Net, Node};
 use sdf_node::{ActorId, NodeState, puts, step, takes};
@@ -36,7 +37,7 @@ pub struct Stand<A: Actor> {
 /// The row of a phase.
 fn row(rows: &Vec<Vec<usize>>, phase: u32) -> &[usize]
     requires { phase < length (lists rows.now.items) }
-    ensures { result.now ≡ row_at (lists rows.now.items) phase }
+    ensures { result.now ≡ at_phase (lists rows.now.items) phase }
 {
     rows[phase as usize].as_slice()
 }
@@ -76,15 +77,39 @@ fn step_front<A: Actor>(
     step(node, inputs, state, taken, front);
 }
 
-/// Takes all blocks, fires and puts all blocks.
-pub fn fire_one<A: Actor>(net: &Net<A>, inputs: &[Vec<A::Token>], stand: &mut Stand<A>)
+/// Puts a block at each port, after the rings from the node to itself were told.
+fn put_told<A: Actor>(
+    net: &Net<A>,
+    actor: ActorId,
+    sizes: &[usize],
+    ins: &mut [Consumer<A::Token, Global>],
+    outs: &mut [Producer<A::Token, Global>],
+    put: &[A::Token],
+)
+    requires net { IsNet A.steps net.now }
+    requires known { actor < length net.now.nodes }
+    requires ins { length ins.old ≡ inputs_of A.steps (node net.now actor) }
+    requires outs { length outs.old ≡ outputs_of A.steps (node net.now actor) }
+    requires pairs { OwnArePairs net.now actor ins.old outs.old }
+    requires ports { length outs.old ≡ length sizes.now }
+    requires length { length put.now ≡ start_at (slice_index sizes.now) (length outs.old) }
+    requires room { HasRoomEach (slice_index sizes.now) outs.old }
+    ensures looked { DrewEach ins.old ins.new (λ _. []) }
+    ensures gave { GaveEach outs.old outs.new (λ i. block_of (slice_index sizes.now) i put.now) }
+    ensures begin { OwnBegin net.now actor ins.new outs.old }
+{
+    tell_own(net, actor, ins, outs);
+    put_each(sizes, outs, put);
+}
+
+/// Takes all blocks, fires and puts all blocks. The firing is still to be counted.
+fn fire_blocks<A: Actor>(net: &Net<A>, inputs: &[Vec<A::Token>], stand: &mut Stand<A>)
     requires net { IsNet A.steps net.now }
     requires stand { IsStand A.steps net.now (lists inputs.now) stand.old }
     requires can { CanFire A.steps net.now stand.old }
     requires left { stand.old.done < stand.old.asked }
-    ensures stand { IsStand A.steps net.now (lists inputs.now) stand.new }
-    ensures moved { HasMoved A.steps net.now stand.old stand.new }
-    ensures done { stand.new.done ≡ stand.old.done + 1 }
+    ensures fired { IsStand A.steps net.now (lists inputs.now) (record stand.new { done = stand.old.done + 1 }) × HasMoved A.steps net.now stand.old (record stand.new { done = stand.old.done + 1 }) }
+    ensures done { stand.new.done ≡ stand.old.done }
 {
     sdf_actor::laws::nets_are_wired::<A>();
     sdf_actor::laws::taken_stays::<A>();
@@ -108,11 +133,27 @@ pub fn fire_one<A: Actor>(net: &Net<A>, inputs: &[Vec<A::Token>], stand: &mut St
         stand.put.as_mut_slice(),
         more,
     );
-    put_each(
+    put_told(
+        net,
+        stand.actor,
         row(&stand.puts, phase),
+        stand.ins.as_mut_slice(),
         stand.outs.as_mut_slice(),
         &stand.put[..more],
     );
+}
+
+/// Takes all blocks, fires and puts all blocks.
+pub fn fire_one<A: Actor>(net: &Net<A>, inputs: &[Vec<A::Token>], stand: &mut Stand<A>)
+    requires net { IsNet A.steps net.now }
+    requires stand { IsStand A.steps net.now (lists inputs.now) stand.old }
+    requires can { CanFire A.steps net.now stand.old }
+    requires left { stand.old.done < stand.old.asked }
+    ensures stand { IsStand A.steps net.now (lists inputs.now) stand.new }
+    ensures moved { HasMoved A.steps net.now stand.old stand.new }
+    ensures done { stand.new.done ≡ stand.old.done + 1 }
+{
+    fire_blocks(net, inputs, stand);
     stand.done += 1;
 }
 

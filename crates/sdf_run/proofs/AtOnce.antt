@@ -1,8 +1,7 @@
 -- What a runner holds, before so many firings of a node at once and after them.
-use Rattle.std.proofs.Common.{◌≡◌, ℕ, zero, suc, ◌+◌, ◌-◌, ◌*◌, ◌%◌, ◌≤◌, ◌<◌, List, [], ◌∷◌, ◌++◌, length, get_or, take, drop, cond, eqb, refl, sym, ap, ◌∙◌, subst, inl, inr, ◌⊎◌, arith}
+use Rattle.std.proofs.Common.{◌≡◌, ℕ, zero, suc, ◌+◌, ◌-◌, ◌*◌, ◌≤◌, ◌<◌, List, [], ◌∷◌, ◌++◌, length, get_or, take, drop, cond, eqb, refl, sym, ap, ◌∙◌, subst, inl, inr, ◌⊎◌, arith}
 use Rattle.std.specs.List.{between, flat_map, sum_by}
 use Rattle.std.proofs.lemmas.List.{append-nil, take_all, take_at, drop_at, drop-append-le, take-append-le, length-append, length-drop, drop-drop, get_or_default}
-use Rattle.std.proofs.Math.Nat.{mod-one}
 use Rattle.std.proofs.lemmas.List.FromFn.{length-map-range_with_len}
 use Rattle.std.proofs.lemmas.List.Sums.{sum_by-cons}
 use Rattle.std.proofs.lemmas.Bool.{cases_eq, eq-eqb, ne_eqb}
@@ -15,12 +14,14 @@ use Rattle.sdf_actor.specs.Histories.{taken_before, spread}
 use Rattle.sdf_actor.specs.Nets as nets
 use Rattle.sdf_actor.specs.Nets.{Netlist, wiring, to_port, from_port, inputs_of, outputs_of, cycle_of, InputsReach, IsHistoryOf}
 use Rattle.sdf_run.specs.declared.work.Work.{Work}
-use Rattle.sdf_run.specs.Held.{Held}
-use Rattle.sdf_run.specs.Blocks.{samples, room, at_ports, ArePorts}
-use Rattle.sdf_run.specs.Sizes.{Rows, IsPlan, AreSizes, at_phase, phase_of}
-use Rattle.sdf_run.specs.Firings.{list, phase_at}
+use Rattle.sdf_answer.specs.Held.{Held}
+use Rattle.sdf_answer.specs.Blocks.{samples, room, at_ports, ArePorts}
+use Rattle.sdf_answer.specs.Sizes.{Rows, IsPlan, AreSizes, at_phase}
+use Rattle.sdf_answer.specs.Lists.{list}
+use Rattle.sdf_run.specs.Firings.{phase_at}
 use Rattle.sdf_run.specs.AtOnce.{GoesAtOnce, fronts, all_made, CanFireAtOnce, AreFired}
-use Rattle.sdf_run.specs.Runs.{IsWork, Stands, AreApart}
+use Rattle.sdf_answer.specs.Periods.{AreApart}
+use Rattle.sdf_run.specs.Runs.{IsWork, Stands}
 use Rattle.sdf_run.proofs.Answered.{source_puts, states, actor_puts}
 use Rattle.sdf_run.proofs.AtOnceWorks as work
 use Rattle.sdf_run.proofs.AtOnceWorks.{at_none, all_answers}
@@ -31,6 +32,7 @@ use Rattle.sdf_run.proofs.Ports.{spread_none}
 use Rattle.sdf_run.proofs.Routes.{in_all, out_all, ins_all, at_ins, sum_taken, sum_put}
 use Rattle.sdf_run.proofs.Sinks.{take_on, joined_taken, into_sink}
 use Rattle.sdf_run.proofs.Standing as standing
+use Rattle.sdf_run.proofs.Steady as steady
 use Rattle.sdf_run.proofs.Works.{none_added, work_other}
 
 -- what follows the beginning of a longer list
@@ -76,30 +78,14 @@ module _ {A S T Z : Type 0} (s : Steps A S T) (n : Netlist A T) (net : Known s n
   few = work.few_channels s inputs (many a) 0 (nets.node n a) past (get_or works a d) outputs ((wiring s n).ins a) ((wiring s n).outs a) does goes ins_long outs_long
 
   -- each firing moves the same
-  same_phase : (i : ℕ) → phase_of s (nets.node n a) i ≡ phase_at (get_or works a d)
-  same_phase i =
-      let none : (j : ℕ) → phase_of s (nets.node n a) j ≡ 0 = (λ j. at_zero j) in
-      none i ∙ sym (standing.at s n net z sizes inputs many k a known works qs outputs st d ∙ none (k a))
-    where
-      at_zero : (j : ℕ) → phase_of s (nets.node n a) j ≡ 0
-      at_zero j = ap (λ c. j % c) one_phase ∙ mod-one j
-
   plan : (i : ℕ) → IsPlan s n a i takes puts
-  plan i = subst (λ j. IsPlan s n a i (at_phase z.takes j) (at_phase z.puts j)) (same_phase i) (sizes.plan a i known)
+  plan = steady.plan s n net z sizes inputs many k a known works qs outputs st d one_phase
 
   all_taken : (c : ℕ) → c < length n.wires → (wiring s n).rates.target c ≡ a → (t : ℕ) → (wiring s n).rates.consumed c (k a + t) ≡ (wiring s n).rates.consumed c (k a) + t * get_or takes c 0
-  all_taken c l e zero = ap ((wiring s n).rates.consumed c) (let y : k a + 0 ≡ k a = omega arith in y) ∙ (let y : (wiring s n).rates.consumed c (k a) ≡ (wiring s n).rates.consumed c (k a) + 0 * get_or takes c 0 = omega arith in y)
-  all_taken c l e (suc t) =
-      let next : (wiring s n).rates.consumed c (k a + suc t) ≡ (wiring s n).rates.consumed c (k a + t + 1) = ap ((wiring s n).rates.consumed c) (let y : k a + suc t ≡ k a + t + 1 = omega arith in y) in
-      let split : suc t * get_or takes c 0 ≡ t * get_or takes c 0 + get_or takes c 0 = omega arith in
-      omega (arith, all_taken c l e t, (plan (k a + t)).taken c l e)
+  all_taken = steady.all_taken s n net z sizes inputs many k a known works qs outputs st d one_phase
 
   all_put : (c : ℕ) → c < length n.wires → (wiring s n).rates.source c ≡ a → (t : ℕ) → (wiring s n).rates.produced c (k a + t) ≡ (wiring s n).rates.produced c (k a) + t * get_or puts c 0
-  all_put c l e zero = ap ((wiring s n).rates.produced c) (let y : k a + 0 ≡ k a = omega arith in y) ∙ (let y : (wiring s n).rates.produced c (k a) ≡ (wiring s n).rates.produced c (k a) + 0 * get_or puts c 0 = omega arith in y)
-  all_put c l e (suc t) =
-      let next : (wiring s n).rates.produced c (k a + suc t) ≡ (wiring s n).rates.produced c (k a + t + 1) = ap ((wiring s n).rates.produced c) (let y : k a + suc t ≡ k a + t + 1 = omega arith in y) in
-      let split : suc t * get_or puts c 0 ≡ t * get_or puts c 0 + get_or puts c 0 = omega arith in
-      omega (arith, all_put c l e t, (plan (k a + t)).put c l e)
+  all_put = steady.all_put s n net z sizes inputs many k a known works qs outputs st d one_phase
 
   module _ (times : ℕ) (m : ℕ → ℕ) (own : m a ≡ k a + times) (others : (b : ℕ) → (a ≡ b → ⊥) → m b ≡ k b) (below : (b : ℕ) → b < length n.nodes → m b ≤ many b)
       (held : 0 < length ((wiring s n).ins a) → times * get_or takes (get_or ((wiring s n).ins a) 0 0) 0 ≤ length (samples qs (get_or ((wiring s n).ins a) 0 0))) where
@@ -111,11 +97,7 @@ module _ {A S T Z : Type 0} (s : Steps A S T) (n : Netlist A T) (net : Known s n
     stood c l = standing.standing s n net z sizes inputs many k a known works qs outputs st d c l
 
     come : (c : ℕ) → c < length n.wires → (wiring s n).rates.target c ≡ a → (wiring s n).rates.consumed c (k a + times) ≤ (wiring s n).rates.initial c + (wiring s n).rates.produced c (k ((wiring s n).rates.source c))
-    come c l e =
-        let at = ins_all s net.ports n net.good a c known l e in
-        let here : times * get_or takes c 0 ≤ length (samples qs c) = subst (λ b. times * get_or takes b 0 ≤ length (samples qs b)) at.2 (all_held at.0 at.1) in
-        let mine : (wiring s n).rates.consumed c (k ((wiring s n).rates.target c)) ≡ (wiring s n).rates.consumed c (k a) = ap (λ b. (wiring s n).rates.consumed c (k b)) e in
-        omega (arith, stood c l, all_taken c l e times)
+    come = steady.come s n net z sizes inputs many k a known works qs outputs st d one_phase times all_held
 
     -- they can be done
     pub can_fire : (reach : InputsReach n inputs many) → ((c : ℕ) → c < length n.wires → tokens (wiring s n).rates m c ≤ room qs c) →

@@ -10,9 +10,9 @@ use Rattle.sdf_actor.specs.Steps.{Steps, state_at, puts_to}
 use Rattle.sdf_actor.specs.Histories.{spread}
 use Rattle.sdf_run.specs.declared.work.Work.{Work}
 use Rattle.sdf_run.specs.declared.work.Work.TheVariants.{Source, Sink, Inner}
-use Rattle.sdf_run.specs.Held.{Held}
-use Rattle.sdf_run.specs.Blocks.{nothing, samples, room, at_ports, ArePorts}
-use Rattle.sdf_run.specs.Firings.{list}
+use Rattle.sdf_answer.specs.Held.{Held}
+use Rattle.sdf_answer.specs.Blocks.{nothing, samples, room, at_ports, ArePorts}
+use Rattle.sdf_answer.specs.Lists.{list}
 use Rattle.sdf_run.specs.AtOnce.{fronts, CanFireAtOnce, AreFired}
 use Rattle.sdf_run.proofs.Firing.{list_set, capacity_set}
 use Rattle.sdf_run.proofs.Parts.{one_of}

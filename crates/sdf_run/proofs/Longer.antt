@@ -1,5 +1,5 @@
 -- A history goes on by many firings of one node.
-use Rattle.std.proofs.Common.{◌≡◌, ℕ, zero, suc, ◌+◌, ◌-◌, ◌*◌, ◌≤◌, ◌<◌, List, [], ◌++◌, length, cond, eqb, sym, ap, ◌∙◌, inl, inr, ◌⊎◌, arith}
+use Rattle.std.proofs.Common.{◌≡◌, ℕ, zero, suc, ◌+◌, ◌-◌, ◌*◌, ◌≤◌, ◌<◌, List, [], ◌++◌, length, cond, eqb, sym, ap, ◌∙◌, subst, inl, inr, ◌⊎◌, arith}
 use Rattle.std.proofs.Math.Nat.{mul-le-mul_left}
 use Rattle.std.proofs.lemmas.List.{append-nil, append_assoc}
 use Rattle.std.proofs.lemmas.Bool.{cases_eq, eq-eqb, ne_eqb}
@@ -11,7 +11,6 @@ use Rattle.sdf_actor.specs.Histories.{taken, taken_before, spread}
 use Rattle.sdf_actor.specs.Nets.{Netlist, node, wiring, answers, SourceReaches, InputsReach, IsHistoryOf}
 use Rattle.sdf_actor.specs.Laws.{after_firing}
 use Rattle.sdf_run.proofs.Grown.{Known}
-use Rattle.sdf_run.proofs.Ends.{history_along}
 
 -- sources that find the samples of many firings find those of fewer
 source_reaches : {A T : Type 0} (inputs : List (List T)) (many k : ℕ → ℕ) (a : ℕ) (x : Node A) → SourceReaches inputs many a x → k a ≤ many a → SourceReaches inputs k a x
@@ -35,11 +34,14 @@ module _ {A S T : Type 0} (s : Steps A S T) (n : Netlist A T) (net : Known s n) 
       (wiring s n).rates.consumed c (k a + i) ≤ (wiring s n).rates.initial c + (wiring s n).rates.produced c (k ((wiring s n).rates.source c))
 
   pub goes_on : (i : ℕ) (m : ℕ → ℕ) → m a ≡ k a + i → ((b : ℕ) → (a ≡ b → ⊥) → m b ≡ k b) → ((b : ℕ) → b < length n.nodes → m b ≤ top b) → HasCome i → GoesOn m
-  goes_on zero m own others below come = (V, history_along (wiring s n) net.wired (answers s n inputs) k m V (λ b l. same b (cases_eq a b)) r, λ c. ([], sym (append-nil (V c))))
+  goes_on zero m own others below come = (V, subst (λ j. IsHistoryOf s n inputs j V) along r, λ c. ([], sym (append-nil (V c))))
     where
       same : (b : ℕ) → (a ≡ b) ⊎ (a ≡ b → ⊥) → k b ≡ m b
       same b (inl e) = ap k (sym e) ∙ ((let z : k a ≡ k a + 0 = omega arith in z) ∙ (sym own ∙ ap m e))
       same b (inr ne) = sym (others b ne)
+
+      along : k ≡ m
+      along = λ j b. same b (cases_eq a b) j
   goes_on (suc i) m own others below come = go (goes_on i mid mid_own (λ b ne. mid_other b ne) (λ b l. mid_below b l (cases_eq a b)) (λ c l e. let rise = net.wired.sound.consumed_rises c (k a + i) (k a + suc i) (omega arith) in omega (arith, come c l e)))
     where
       mid : ℕ → ℕ

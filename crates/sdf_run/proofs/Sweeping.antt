@@ -8,24 +8,27 @@ use Rattle.sdf_graph.specs.Sequences.{tokens, IsRunnable}
 use Rattle.sdf_graph.specs.Rates.{IsSound}
 use Rattle.sdf_graph.specs.Laws.{ListsSumWithin}
 use Rattle.sdf_sched.specs.Laws.{StuckCountsMeanDeadlock}
-use Rattle.sdf_actor.specs.Steps.{Steps}
+use Rattle.sdf_actor.specs.Steps.{Steps, PutsFit}
+use Rattle.sdf_actor.specs.Histories.{taken_before}
 use Rattle.sdf_actor.specs.Nets.{node, wiring, InputsReach}
 use Rattle.sdf_actor.specs.Laws.{NetsAreWired, PortsHaveChannels, HistoryGrowsByFiring, TakenStays}
 use Rattle.sdf_actor.specs.Wires.{lists}
 use Rattle.sdf_run.specs.declared.work.Work.{Work}
 use Rattle.sdf_run.specs.declared.run.Run.{Run}
-use Rattle.sdf_run.specs.Held.{Held}
-use Rattle.sdf_run.specs.Blocks.{room, ArePorts, HoldBlocks}
-use Rattle.sdf_run.specs.Sizes.{phase_of, at_phase}
+use Rattle.sdf_answer.specs.Held.{Held}
+use Rattle.sdf_answer.specs.Blocks.{room, ArePorts, HoldBlocks}
+use Rattle.sdf_answer.specs.Sizes.{phase_of, at_phase}
 use Rattle.sdf_run.specs.Firings.{phase_at, IsActor}
 use Rattle.sdf_run.specs.AtOnce.{GoesAtOnce, CanFireAtOnceAt, AreFiredAt}
+use Rattle.sdf_run.specs.Many.{GoesByMany, HasItsBlocks, Fit, CanFireManyAt, AreManyFiredAt}
 use Rattle.sdf_run.specs.Runs.{Stands, FiresAlone, CanFireAt, IsFiredAt}
-use Rattle.sdf_run.specs.Answer.{periods_of}
+use Rattle.sdf_answer.specs.Answer.{periods_of}
 use Rattle.sdf_run.specs.Sweeps.{Sweeps, IsSwept, MayFire, HasRoom, Keeps, IsMoved, AreHeld}
 use Rattle.sdf_run.proofs.Readings.{some_of}
 use Rattle.sdf_run.proofs.AtOnce as at_once
 use Rattle.sdf_run.proofs.Grown.{Known}
 use Rattle.sdf_run.proofs.Longer.{reaches}
+use Rattle.sdf_run.proofs.Many.{its_blocks, can_fire_many, stands_many}
 use Rattle.sdf_run.proofs.Standing as standing
 
 -- one step of a run after another
@@ -284,7 +287,7 @@ module _ {A S T : Type 0} (s : Steps A S T) (r : Run A T S) (sw : IsSwept s r) (
     few = few s r sw net a known times inside;
     can = λ d.
         at_once.can_fire s r.net.now net r.sizes sw.sizes (lists r.inputs.now) (periods_of r.repetitions.now r.periods) (λ b. get_or r.done.items b 0) a known r.works.items r.queues.items r.outputs.items sw.stands d (goes d)
-        times (after s r sw net a known times inside) (own s r sw net a known times inside) (others s r sw net a known times inside) (within s r sw net a known times inside) (held d) sw.reach (rooms s r sw net a known times inside);
+        times (after s r sw net a known times inside) (own s r sw net a known times inside) (others s r sw net a known times inside) (within s r sw net a known times inside) (held d 0) sw.reach (rooms s r sw net a known times inside);
   }
 
   module _ (r' : Run A T S) (fired : AreFiredAt s r r' a times) where
@@ -294,7 +297,7 @@ module _ {A S T : Type 0} (s : Steps A S T) (r : Run A T S) (sw : IsSwept s r) (
     all_stand : Stands s r.net.now (lists r.inputs.now) (periods_of r.repetitions.now r.periods) (after s r sw net a known times inside) r'.works.items r'.queues.items r'.outputs.items
     all_stand =
         at_once.fired_stands s r.net.now net r.sizes sw.sizes (lists r.inputs.now) (periods_of r.repetitions.now r.periods) (λ b. get_or r.done.items b 0) a known r.works.items r.queues.items r.outputs.items sw.stands first (goes first)
-        times (after s r sw net a known times inside) (own s r sw net a known times inside) (others s r sw net a known times inside) (within s r sw net a known times inside) (held first) sw.reach
+        times (after s r sw net a known times inside) (own s r sw net a known times inside) (others s r sw net a known times inside) (within s r sw net a known times inside) (held first 0) sw.reach
         sw.apart (get_or r'.works.items a first) r'.queues.items r'.outputs.items (fired.fired first) fired.alone.queues fired.alone.outputs r'.works.items fired.alone.works
         (λ e. get_or_default r'.works.items a e first (omega (arith, fired.alone.works, sw.stands.nodes, known))) fired.alone.others
 
@@ -303,6 +306,63 @@ module _ {A S T : Type 0} (s : Steps A S T) (r : Run A T S) (sw : IsSwept s r) (
 
     pub moved_at_once : 0 < times → IsMoved r r' true
     moved_at_once some = moved_by s r sw net a known times inside r' fired.alone (fired.fired first).rooms all_stand some
+
+-- so many firings of an actor through its blocks
+module _ {A S T : Type 0} (s : Steps A S T) (fits : (x : A) → PutsFit s x) (r : Run A T S) (sw : IsSwept s r) (net : Known s r.net.now) (a : ℕ) (known : a < length r.net.now.nodes) (times : ℕ)
+    (inside : get_or r.done.items a 0 + times ≤ r.high * get_or r.repetitions.now a 0)
+    (goes : (d : Work A T S) → GoesByMany s (get_or r.works.items a d) ((wiring s r.net.now).ins a) ((wiring s r.net.now).outs a)) (held : AreHeld s r a times) where
+  does : (d e : Work A T S) → get_or r.works.items a e ≡ get_or r.works.items a d
+  does d e = get_or_default r.works.items a e d (omega (arith, sw.stands.nodes, known))
+
+  pub can_fire_many_at : ((d : Work A T S) → Fit s (get_or r.works.items a d) times) → CanFireManyAt s r a times
+  can_fire_many_at fit = record {
+    known = known;
+    worked = omega (arith, sw.stands.nodes, known);
+    takes_known = λ d. omega (arith, at s r sw net a known times inside d, sw.sizes.takes_known a (get_or r.done.items a 0) known);
+    puts_known = λ d. omega (arith, at s r sw net a known times inside d, sw.sizes.puts_known a (get_or r.done.items a 0) known);
+    counted = place s r sw net a known times inside;
+    few = few s r sw net a known times inside;
+    can = λ d.
+        can_fire_many s fits r.net.now net r.sizes sw.sizes (lists r.inputs.now) (periods_of r.repetitions.now r.periods) (λ b. get_or r.done.items b 0) a known r.works.items r.queues.items r.outputs.items sw.stands
+        times (after s r sw net a known times inside) (own s r sw net a known times inside) (others s r sw net a known times inside) (within s r sw net a known times inside)
+        (get_or r.works.items a d) (does d) (goes d) (held d) (fit d) (rooms s r sw net a known times inside);
+  }
+
+  module _ (r' : Run A T S) (fired : AreManyFiredAt s r r' a times) where
+    its : Work A T S
+    its = some_of r.works.items a (omega (arith, sw.stands.nodes, known))
+
+    many_stand : Stands s r.net.now (lists r.inputs.now) (periods_of r.repetitions.now r.periods) (after s r sw net a known times inside) r'.works.items r'.queues.items r'.outputs.items
+    many_stand =
+        subst (λ x. Stands s r.net.now (lists r.inputs.now) (periods_of r.repetitions.now r.periods) (after s r sw net a known times inside) r'.works.items r'.queues.items x.items) (sym fired.lists)
+        (stands_many s fits r.net.now net r.sizes sw.sizes (lists r.inputs.now) (periods_of r.repetitions.now r.periods) (λ b. get_or r.done.items b 0) a known r.works.items r.queues.items r.outputs.items sw.stands
+        times (after s r sw net a known times inside) (own s r sw net a known times inside) (others s r sw net a known times inside) (within s r sw net a known times inside)
+        (get_or r.works.items a its) (does its) (goes its) (held its) sw.reach
+        (get_or r'.works.items a its) r'.queues.items (fired.fired its) fired.alone.queues r'.works.items fired.alone.works
+        (λ e. get_or_default r'.works.items a e its (omega (arith, fired.alone.works, sw.stands.nodes, known))) fired.alone.others)
+
+    pub swept_many : IsSwept s r'
+    swept_many = swept_on s r sw net a known times inside r' fired.alone (fired.fired its).rooms many_stand
+
+    pub moved_many : 0 < times → IsMoved r r' true
+    moved_many some = moved_by s r sw net a known times inside r' fired.alone (fired.fired its).rooms many_stand some
+
+-- a node that fired has fired more often
+pub further : {A S T : Type 0} (s : Steps A S T) (r r' : Run A T S) (a times : ℕ) → IsSwept s r → a < length r.net.now.nodes → FiresAlone r r' a times → 0 < times → get_or r.done.items a 0 < get_or r'.done.items a 0
+further s r r' a times sw known alone some =
+    let now : get_or r'.done.items a 0 ≡ get_or r.done.items a 0 + times = ap (λ xs. get_or xs a 0) alone.done ∙ get_or-set_same r.done.items a (get_or r.done.items a 0 + times) 0 (omega (arith, sw.all, known)) in
+    omega (arith, now, some)
+
+-- the blocks of a node of a run
+pub blocks_at : {A S T : Type 0} (s : Steps A S T) (r : Run A T S) → IsSwept s r → (a : ℕ) → a < length r.net.now.nodes → (d : Work A T S) → HasItsBlocks s (get_or r.works.items a d)
+blocks_at s r sw a known d =
+    its_blocks s (lists r.inputs.now) r.outputs.items (periods_of r.repetitions.now r.periods a) (node r.net.now a) (taken_before (wiring s r.net.now) sw.stands.history a (get_or r.done.items a 0)) (get_or r.works.items a d) (sw.stands.each a d known)
+
+pub many_at : {A S T : Type 0} (s : Steps A S T) (r : Run A T S) (a : ℕ) → a < length r.works.items → (w : Work A T S) (ins outs : List ℕ) → w ≡ get_or r.works.items a w → ins ≡ (wiring s r.net.now).ins a → outs ≡ (wiring s r.net.now).outs a →
+    GoesByMany s w ins outs → (d : Work A T S) → GoesByMany s (get_or r.works.items a d) ((wiring s r.net.now).ins a) ((wiring s r.net.now).outs a)
+many_at s r a known w ins outs is into from goes d =
+    subst (λ x. GoesByMany s x ((wiring s r.net.now).ins a) ((wiring s r.net.now).outs a)) (is ∙ get_or_default r.works.items a w d known)
+    (subst (λ x. GoesByMany s w x ((wiring s r.net.now).outs a)) into (subst (λ x. GoesByMany s w ins x) from goes))
 
 -- a sweep that fires leaves less, and one that does not is the last
 goes_less : (a b : Bool) (all x y : ℕ) → IsTrue a → x ≤ y → y ≤ all → (IsTrue b → x < y) → cond b 1 0 + (all - y) < cond a 1 0 + (all - x)

@@ -9,10 +9,11 @@ use Rattle.sdf_actor.specs.Wires.{lists}
 use Rattle.sdf_run.specs.declared.work.Work.{Work}
 use Rattle.sdf_run.specs.declared.work.Work.TheVariants.{Source, Sink, Inner}
 use Rattle.sdf_run.specs.declared.run.Run.{Run}
-use Rattle.sdf_run.specs.Held.{Held}
-use Rattle.sdf_run.specs.Blocks.{samples, room, at_ports, ArePorts}
-use Rattle.sdf_run.specs.Sizes.{at_phase}
-use Rattle.sdf_run.specs.Firings.{list, capacity, phase_at, added}
+use Rattle.sdf_answer.specs.Held.{Held}
+use Rattle.sdf_answer.specs.Blocks.{samples, room, at_ports, ArePorts}
+use Rattle.sdf_answer.specs.Sizes.{at_phase}
+use Rattle.sdf_answer.specs.Lists.{list, capacity}
+use Rattle.sdf_run.specs.Firings.{phase_at, added}
 use Rattle.sdf_run.specs.Runs.{FiresAlone}
 
 -- a node whose firings can be done at once: it has one phase, and a channel on each side at most, not the same on both

@@ -1,25 +1,12 @@
 -- One firing of an actor by copies: when it can be done, and what it does.
-use Rattle.std.specs.Prelude.{◌≡◌, ℕ, ◌+◌, ◌-◌, ◌%◌, ◌≤◌, ◌<◌, ◌==◌, cond, List, [], ◌++◌, length, map, take, drop, slice_index, slice_index_or, vec_capacity}
+use Rattle.std.specs.Prelude.{◌≡◌, ℕ, ◌+◌, ◌-◌, ◌%◌, ◌≤◌, ◌<◌, ◌==◌, cond, List, [], ◌++◌, length, take, drop, slice_index, vec_capacity}
 use Rattle.std.specs.List.{flat_map, sum_by}
-use Rattle.std.specs.declared.vec.Vec.{Vec}
 use Rattle.sdf_actor.specs.Steps.{Steps, total_in, total_out}
 use Rattle.sdf_actor.specs.Histories.{spread}
-use Rattle.sdf_actor.specs.Wires.{lists}
 use Rattle.sdf_run.specs.declared.work.Work.{Work}
 use Rattle.sdf_run.specs.declared.work.Work.TheVariants.{Source, Sink, Inner}
-use Rattle.sdf_run.specs.Held.{Held}
-use Rattle.sdf_run.specs.Blocks.{samples, room, at_ports, ArePorts, HoldBlocks}
-
--- list e, and how many samples it has room for
-abbrev pub list : {T Z : Type 0} → List (Vec T Z) → ℕ → List T
-list vs e = slice_index_or (lists vs) e []
-
-abbrev pub capacity : {T Z : Type 0} → List (Vec T Z) → ℕ → ℕ
-capacity vs e = slice_index (map (λ v. vec_capacity v) vs) e
-
--- so many empty lists, with room for so many samples each
-abbrev pub AreEmpty : {T Z : Type 0} → List (Vec T Z) → ℕ → ℕ → Type 0
-AreEmpty vs many samples = (length vs ≡ many) × ((e : ℕ) → e < many → (list vs e ≡ []) × (capacity vs e ≡ samples))
+use Rattle.sdf_answer.specs.Held.{Held}
+use Rattle.sdf_answer.specs.Blocks.{samples, room, at_ports, ArePorts, HoldBlocks}
 
 -- the phase of the next firing
 abbrev pub phase_at : {A S T : Type 0} → Work A T S → ℕ

@@ -1,27 +1,19 @@
 -- A run in blocks of periods, whose nodes fire in whatever order their samples come.
 use Rattle.std.specs.Prelude.{◌≡◌, ℕ, ◌+◌, ◌*◌, ◌^◌, ◌≤◌, ◌<◌, Bool, false, IsTrue, List, length, slice_index, slice_index_or, sum}
 use Rattle.std.specs.declared.vec.Vec.{Vec}
-use Rattle.sdf_graph.specs.Rates.{Rates}
-use Rattle.sdf_graph.specs.Sequences.{IsPass, IsRunnable}
+use Rattle.sdf_graph.specs.Sequences.{IsRunnable}
 use Rattle.sdf_actor.specs.Steps.{Steps}
 use Rattle.sdf_actor.specs.Nets.{Netlist, wiring, IsNet, InputsReach}
 use Rattle.sdf_actor.specs.Wires.{lists}
 use Rattle.sdf_run.specs.declared.work.Work.{Work}
 use Rattle.sdf_run.specs.declared.run.Run.{Run}
-use Rattle.sdf_run.specs.Held.{Held}
-use Rattle.sdf_run.specs.Blocks.{samples, room}
-use Rattle.sdf_run.specs.Sizes.{Rows, AreSizes, at_phase}
+use Rattle.sdf_answer.specs.Held.{Held}
+use Rattle.sdf_answer.specs.Blocks.{samples, room}
+use Rattle.sdf_answer.specs.Sizes.{Rows, AreSizes, at_phase}
 use Rattle.sdf_run.specs.Firings.{phase_at}
-use Rattle.sdf_run.specs.Runs.{AreApart, Stands}
-use Rattle.sdf_run.specs.Answer.{periods_of}
-
--- so many periods of q as one likes can be fired from the start, and each puts and takes the same on each channel
-pub record IsPaced (r : Rates) (q : List ℕ) : Type 0 where
-  pub all : length q ≡ r.actors
-  pub small : (a : ℕ) → a < r.actors → slice_index q a ≤ 65536
-  pub passes : (b : ℕ) → (w : List ℕ) × IsPass r (periods_of q b) w
-  pub put : (b c : ℕ) → c < r.channels → r.produced c (b * slice_index q (r.source c)) ≡ b * r.produced c (slice_index q (r.source c))
-  pub taken : (b c : ℕ) → c < r.channels → r.consumed c (b * slice_index q (r.target c)) ≡ b * r.produced c (slice_index q (r.source c))
+use Rattle.sdf_answer.specs.Periods.{AreApart, IsPaced}
+use Rattle.sdf_run.specs.Runs.{Stands}
+use Rattle.sdf_answer.specs.Answer.{periods_of}
 
 -- each node a has fired done a times, at least low and at most high periods, and the queues have room for all up to high
 pub record Sweeps {A S T Z : Type 0} (s : Steps A S T) (n : Netlist A T) (inputs : List (List T)) (z : Rows) (q : List ℕ) (periods high : ℕ) (done : List ℕ) (works : List (Work A T S)) (qs : List (Held T)) (outputs : List (Vec T Z)) : Type 0 where
@@ -53,11 +45,11 @@ MayFire s r a = IsRunnable (wiring s r.net.now).rates (periods_of r.repetitions.
 abbrev pub IsLeft : {A S T : Type 0} → Run A T S → ℕ → ℕ → Type 0
 IsLeft r a many = slice_index r.done.items a + many ≡ r.high * slice_index r.repetitions.now a
 
--- the first channel into a node, where it has one, holds what so many firings take
+-- each channel into a node holds what so many firings take
 abbrev pub AreHeld : {A S T : Type 0} → Steps A S T → Run A T S → ℕ → ℕ → Type 0
 AreHeld {A} {S} {T} s r a times =
-    (d : Work A T S) → let ins = (wiring s r.net.now).ins a in let c = slice_index ins 0 in
-    0 < length ins → times * slice_index (at_phase r.sizes.takes (phase_at (slice_index_or r.works.items a d))) c ≤ length (samples r.queues.items c)
+    (d : Work A T S) (n : ℕ) → let ins = (wiring s r.net.now).ins a in let c = slice_index ins n in
+    n < length ins → times * slice_index (at_phase r.sizes.takes (phase_at (slice_index_or r.works.items a d))) c ≤ length (samples r.queues.items c)
 
 -- the queues have room for a block of so many periods
 abbrev pub HasRoom : {A S T : Type 0} → Steps A S T → ℕ → Run A T S → Type 0

@@ -9,61 +9,22 @@ ghost use Rattle.sdf_actor.specs.Graphs.{graph_of};
 ghost use Rattle.sdf_actor.specs.Wires.{lists};
 ghost use Rattle.sdf_actor.specs.Sides.{list_count, period_samples};
 ghost use Rattle.sdf_actor.specs.declared.sides.Lists.TheVariants.{Inputs, Outputs};
-ghost use Rattle.sdf_run.specs.Firings.{AreEmpty};
-ghost use Rattle.sdf_run.specs.Answer.{AreInputs, HasInputs, AreOutputs, periods_of, IsRunFault};
+ghost use Rattle.sdf_answer.specs.Lists.{AreEmpty};
+ghost use Rattle.sdf_run.specs.Fired.{HasFired};
+ghost use Rattle.sdf_answer.specs.Answer.{AreInputs, HasInputs, AreOutputs, periods_of, IsRunFault};
 
-use crate::fault::RunFault;
 use crate::run::Run;
-use crate::setup::{make_outputs, make_queues, make_works};
-use crate::sizes::Sizes;
+use crate::setup::{make_queues, make_works};
 use sdf_actor::{Actor, Net};
+use sdf_answer::inputs::{are_inputs, first_sample};
+use sdf_answer::laws::{histories_make_outputs, net_facts, nets_can_run, nets_have_periods};
+use sdf_answer::outputs::make_outputs;
+use sdf_answer::{Ran, RunFault, Sizes};
 use sdf_sched::Period;
 use std::alloc::{AllocError, Global};
 
 /// How many samples of an input a block of periods reads, where a period reads no more.
 const BLOCK: usize = 4096;
-
-/// What a run made.
-#[derive(Drop)]
-pub struct Ran<T> {
-    /// The output lists, by number.
-    pub outputs: Vec<Vec<T>>,
-    /// How many rounds its workers took: none on one thread.
-    pub rounds: u64,
-}
-
-/// Whether a list has that length and is not shorter than the least.
-fn is_input<T>(list: &Vec<T>, len: usize, least: usize) -> bool
-    ensures { IsTrue result ↔ (length list.now.items ≡ len) × (least ≤ length list.now.items) }
-{
-    list.len() == len && least <= list.len()
-}
-
-/// Whether there are so many lists, all of one length and none shorter than the least.
-pub(crate) fn are_inputs<T>(inputs: &[Vec<T>], many: usize, least: usize) -> bool
-    ensures { IsTrue result ↔ AreInputs many least (lists inputs.now) }
-{
-    if inputs.len() != many {
-        return false;
-    }
-    for list in inputs {
-        if !is_input(list, inputs[0].len(), least) {
-            return false;
-        }
-    }
-    true
-}
-
-/// The facts that a run stands on, as the net's accessors have them.
-pub(crate) fn net_facts<A: Actor>(net: &Net<A>)
-    ensures net { IsNet A.steps net.now }
-    ensures graph { IsShape (graph_of A.steps net.now) }
-    ensures alike { IsAlike (rates (graph_of A.steps net.now)) (wiring A.steps net.now).rates }
-    ensures accepted { (q : List ℕ) × IsAccepted A.steps net.now q }
-{
-    let _channels = net.graph().channels();
-    let _repetitions = net.repetitions();
-}
 
 /// How often each node has fired before a run.
 fn none_done(alloc: Global, repetitions: &[u32]) -> Result<Vec<usize>, AllocError>
@@ -85,28 +46,26 @@ fn block_periods(samples: usize) -> u32
     }
 }
 
-/// The firings of a run, which make its output lists.
-fn run<A: Actor>(
+/// A run that has fired all its periods.
+pub(crate) fn fired<'a, A: Actor>(
     alloc: Global,
-    net: &Net<A>,
-    period: &Period,
+    net: &'a Net<A>,
+    period: &'a Period,
     periods: u32,
-    inputs: &[Vec<A::Token>],
+    inputs: &'a [Vec<A::Token>],
     filler: A::Token,
     outputs: Vec<Vec<A::Token>>,
-) -> Result<Vec<Vec<A::Token>>, AllocError>
+) -> Result<Run<'a, A>, AllocError>
     requires period { IsPeriodOf (rates (graph_of A.steps net.now)) period.now }
     requires inputs { HasInputs net.now period.now.repetitions periods (lists inputs.now) }
     requires outputs { AreEmpty outputs.items (list_count Outputs net.now.nodes) (periods * period_samples net.now.nodes Outputs period.now.repetitions) }
-    ensures { IfOk result (λ made. AreOutputs A.steps net.now (lists inputs.now) (periods_of period.now.repetitions periods) (lists made.items)) }
+    ensures { IfOk result (λ run. HasFired A.steps net.now (lists inputs.now) period.now.repetitions periods run) }
 {
     net_facts(net);
+    nets_have_periods(net, period);
+    nets_can_run::<A>();
+    histories_make_outputs::<A>();
     sdf_actor::laws::nets_are_wired::<A>();
-    sdf_graph::laws::graphs_are_sound();
-    sdf_graph::laws::graphs_have_periods();
-    sdf_graph::laws::periods_repeat();
-    sdf_graph::laws::alike_sequences();
-    sdf_graph::laws::one_least_period();
     let sizes = Sizes::new(alloc, net)?;
     let works = make_works(alloc, net, &sizes, filler)?;
     let repetitions = period.repetitions();
@@ -127,17 +86,29 @@ fn run<A: Actor>(
         filler,
     };
     run.fire_all(size);
-    Ok(run.outputs)
+    Ok(run)
 }
 
-/// The first sample of the first list.
-pub(crate) fn first_sample<T: Copy>(inputs: &[Vec<T>]) -> Option<T>
-    ensures { IfNone result (length (slice_index_or (lists inputs.now) 0 []) ≡ 0) }
+/// The firings of a run, which make its output lists.
+fn run<A: Actor>(
+    alloc: Global,
+    net: &Net<A>,
+    period: &Period,
+    periods: u32,
+    inputs: &[Vec<A::Token>],
+    filler: A::Token,
+    outputs: Vec<Vec<A::Token>>,
+) -> Result<Vec<Vec<A::Token>>, AllocError>
+    requires period { IsPeriodOf (rates (graph_of A.steps net.now)) period.now }
+    requires inputs { HasInputs net.now period.now.repetitions periods (lists inputs.now) }
+    requires outputs { AreEmpty outputs.items (list_count Outputs net.now.nodes) (periods * period_samples net.now.nodes Outputs period.now.repetitions) }
+    ensures { IfOk result (λ made. AreOutputs A.steps net.now (lists inputs.now) (periods_of period.now.repetitions periods) (lists made.items)) }
 {
-    if inputs.is_empty() || inputs[0].is_empty() {
-        return None;
-    }
-    Some(inputs[0][0])
+    net_facts(net);
+    histories_make_outputs::<A>();
+    sdf_actor::laws::nets_are_wired::<A>();
+    let finished = fired(alloc, net, period, periods, inputs, filler, outputs)?;
+    Ok(finished.outputs)
 }
 
 /// The output lists of a run. Without a sample there are no periods, and nothing fires.
@@ -156,7 +127,7 @@ fn fill<A: Actor>(
     ensures { IfOk result (λ made. AreOutputs A.steps net.now (lists inputs.now) (periods_of period.now.repetitions periods) (lists made.items)) }
 {
     net_facts(net);
-    sdf_actor::laws::nets_are_wired::<A>();
+    histories_make_outputs::<A>();
     match first_sample(inputs) {
         Some(filler) => run(alloc, net, period, periods, inputs, filler, outputs),
         None => Ok(outputs),

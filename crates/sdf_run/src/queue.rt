@@ -3,7 +3,7 @@
 ghost use Rattle.std.specs.Prelude.{◌≡◌, ◌+◌, ◌-◌, ◌≤◌, ◌<◌, ◌++◌, IfOk, length, take, drop, vec_len, vec_capacity};
 ghost use Rattle.std.specs.List.{between};
 ghost use Rattle.sdf_actor.specs.Steps.{sum_in, sum_out, state_at, puts_to};
-ghost use Rattle.sdf_run.specs.Held.{Held};
+ghost use Rattle.sdf_answer.specs.Held.{Held};
 
 use sdf_actor::Actor;
 use std::alloc::{AllocError, Global};

@@ -1,16 +1,18 @@
 //! A run on one thread.
 
-ghost use Rattle.std.specs.Prelude.{◌≡◌, ◌+◌, ◌*◌, ◌≤◌, ◌<◌, ◌↔◌, ℕ, false, length, slice_index, IsTrue};
+ghost use Rattle.std.specs.Prelude.{◌≡◌, ◌+◌, ◌*◌, ◌≤◌, ◌<◌, ◌↔◌, ℕ, true, false, length, slice_index, slice_index_or, IsTrue};
+ghost use Rattle.sdf_actor.specs.Steps.{PutsFit};
 ghost use Rattle.sdf_actor.specs.Laws.{NetsAreWired, PortsHaveChannels, HistoryGrowsByFiring, TakenStays};
 ghost use Rattle.sdf_run.specs.AtOnce.{CanFireAtOnceAt, AreFiredAt};
+ghost use Rattle.sdf_run.specs.Many.{Fit, CanFireManyAt, AreManyFiredAt};
 ghost use Rattle.sdf_run.specs.Runs.{CanFireAt, IsFiredAt};
 ghost use Rattle.sdf_run.specs.Sweeps.{IsSwept, MayFire, HasRoom, Keeps, IsMoved, IsLeft, AreHeld};
 
 use crate::block::{blocks_held, hold_blocks};
 use crate::queue::Queue;
-use crate::sizes::Sizes;
 use crate::work::{Ports, Work};
 use sdf_actor::{Actor, Net, Side};
+use sdf_answer::Sizes;
 
 /// What a run holds. Its net, inputs, sizes, period and length stay as they are.
 #[derive(Drop)]
@@ -41,6 +43,7 @@ fn step_laws<A: Actor>()
     ensures ports { PortsHaveChannels A.steps }
     ensures grows { HistoryGrowsByFiring A.steps }
     ensures stays { TakenStays A.steps }
+    ensures fits { (x : A) → PutsFit A.steps x }
 {
     sdf_actor::laws::nets_are_wired::<A>();
     sdf_actor::laws::taken_stays::<A>();
@@ -92,6 +95,24 @@ impl<'a, A: Actor> Run<'a, A> {
         self.done[a] += times;
     }
 
+    /// Fires an actor so many times through its blocks.
+    fn fire_many(&mut self, a: usize, times: usize)
+        requires { CanFireManyAt A.steps self.old a times }
+        ensures { AreManyFiredAt A.steps self.old self.new a times }
+    {
+        let phase = self.works[a].phase();
+        let ins = Ports {
+            channels: self.net.channels_in(a),
+            sizes: self.sizes.on(Side::Input, phase),
+        };
+        let outs = Ports {
+            channels: self.net.channels_out(a),
+            sizes: self.sizes.on(Side::Output, phase),
+        };
+        self.works[a].fire_many(times, &ins, &outs, &mut self.queues);
+        self.done[a] += times;
+    }
+
     /// How many firings a node has left within the block.
     fn left(&self, a: usize) -> usize
         requires known { a < length self.now.net.now.nodes }
@@ -116,7 +137,7 @@ impl<'a, A: Actor> Run<'a, A> {
         hold_blocks(self.net.channels_in(a), sizes, &self.queues)
     }
 
-    /// How many firings of a node with a channel into it at most can be done at once, within the block.
+    /// How many firings of a node can be done at once, within the block.
     fn times(&self, a: usize) -> usize
         requires may { MayFire A.steps self.now a }
         requires swept { IsSwept A.steps self.now }
@@ -130,6 +151,41 @@ impl<'a, A: Actor> Run<'a, A> {
         blocks_held(self.net.channels_in(a), sizes, &self.queues, left)
     }
 
+    /// How many of them its own blocks have room for.
+    fn times_in_blocks(&self, a: usize) -> usize
+        requires may { MayFire A.steps self.now a }
+        requires swept { IsSwept A.steps self.now }
+        ensures some { 0 < result }
+        ensures left { slice_index self.now.done.items a + result ≤ self.now.high * slice_index self.now.repetitions.now a }
+        ensures held { AreHeld A.steps self.now a result }
+        ensures fit { (d : _) → Fit A.steps (slice_index_or self.now.works.items a d) result }
+    {
+        let most = self.times(a);
+        self.works[a].fits(most)
+    }
+
+    /// Fires a node that may fire: once, or as often in one piece of work as its samples and the block allow.
+    fn fire_some(&mut self, a: usize)
+        requires may { MayFire A.steps self.old a }
+        requires swept { IsSwept A.steps self.old }
+        ensures swept { IsSwept A.steps self.new }
+        ensures moved { IsMoved self.old self.new true }
+        ensures further { slice_index self.old.done.items a < slice_index self.new.done.items a }
+    {
+        step_laws::<A>();
+        let ins = self.net.channels_in(a);
+        let outs = self.net.channels_out(a);
+        if self.works[a].goes_at_once(ins, outs) {
+            let times = self.times(a);
+            self.fire_at_once(a, times);
+        } else if self.works[a].goes_by_many(ins, outs) {
+            let times = self.times_in_blocks(a);
+            self.fire_many(a, times);
+        } else {
+            self.fire(a);
+        }
+    }
+
     /// Fires a node as often as its samples and the block allow, and tells whether it fired.
     fn fire_node(&mut self, a: usize) -> bool
         requires known { a < length self.old.net.now.nodes }
@@ -138,19 +194,9 @@ impl<'a, A: Actor> Run<'a, A> {
         ensures moved { IsMoved self.old self.new result }
         ensures stops { result ≡ false → MayFire A.steps self.old a → ⊥ }
     {
-        step_laws::<A>();
         let mut fired = false;
         while self.may_fire(a) {
-            let at_once = self.works[a].goes_at_once(
-                self.net.channels_in(a),
-                self.net.channels_out(a),
-            );
-            if at_once {
-                let times = self.times(a);
-                self.fire_at_once(a, times);
-            } else {
-                self.fire(a);
-            }
+            self.fire_some(a);
             fired = true;
         }
         fired

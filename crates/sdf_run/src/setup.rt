@@ -2,35 +2,19 @@
 
 ghost use Rattle.std.specs.Prelude.{◌≡◌, ◌+◌, ◌*◌, ◌≤◌, ◌<◌, ℕ, [], length, slice_index, slice_index_or, vec_len, IfOk};
 ghost use Rattle.std.specs.List.{sum_by};
-ghost use Rattle.sdf_graph.specs.Rates.{rates, rate_at, sum_to};
+ghost use Rattle.sdf_graph.specs.Rates.{rates};
 ghost use Rattle.sdf_actor.specs.Graphs.{graph_of};
 ghost use Rattle.sdf_actor.specs.Nets.{node, wire, IsNet};
-ghost use Rattle.sdf_run.specs.Blocks.{nothing};
-ghost use Rattle.sdf_run.specs.Firings.{AreEmpty};
+ghost use Rattle.sdf_answer.specs.Blocks.{nothing};
 ghost use Rattle.sdf_run.specs.Runs.{BeginsWork};
-ghost use Rattle.sdf_run.specs.Sizes.{AreSizes, at_phase, rows_on};
+ghost use Rattle.sdf_answer.specs.Sizes.{AreSizes, at_phase, rows_on};
 
 use crate::queue::Queue;
-use crate::sizes::Sizes;
 use crate::work::Work;
 use sdf_actor::{Actor, Net, Node, Side};
-use sdf_graph::Channel;
+use sdf_answer::Sizes;
+use sdf_answer::rooms::put_in;
 use std::alloc::{AllocError, Global};
-
-/// Empty output lists, with room for so many samples each.
-pub(crate) fn make_outputs<T: Copy>(
-    alloc: Global,
-    many: usize,
-    room: usize,
-) -> Result<Vec<Vec<T>>, AllocError>
-    ensures { IfOk result (λ v. AreEmpty v.items many room) }
-{
-    let mut outputs = Vec::with_capacity(alloc, many)?;
-    for _ in 0..many {
-        outputs.push(Vec::with_capacity(alloc, room)?)?;
-    }
-    Ok(outputs)
-}
 
 /// The samples that each channel begins with, and room for these and what so many periods put there.
 pub(crate) fn make_queues<A: Actor>(
@@ -55,32 +39,6 @@ pub(crate) fn make_queues<A: Actor>(
         queues.push(Queue::new(alloc, &net.link(c).initial, room)?)?;
     }
     Ok(queues)
-}
-
-/// How many samples so many periods of firings put on a channel.
-pub(crate) fn put_in(channel: &Channel, firings: u32, periods: u32) -> usize
-    requires some { 0 < length channel.now.put }
-    requires small { (i : ℕ) → slice_index channel.now.put i ≤ 1024 }
-    requires short { firings ≤ 65536 }
-    requires periods { periods ≤ 4096 }
-    ensures value { result ≡ periods * sum_to (rate_at channel.now.put) firings }
-    ensures few { result ≤ 274877906944 }
-{
-    periods as usize * put_by(channel, firings)
-}
-
-/// How many samples the first firings of its source put on a channel.
-fn put_by(channel: &Channel, firings: u32) -> usize
-    requires some { 0 < length channel.now.put }
-    requires small { (i : ℕ) → slice_index channel.now.put i ≤ 1024 }
-    ensures value { result ≡ sum_to (rate_at channel.now.put) firings }
-    ensures few { result ≤ 1024 * firings }
-{
-    let mut total = 0;
-    for i in 0..firings {
-        total += channel.puts(i) as usize;
-    }
-    total
 }
 
 /// A block of fillers, with a place for each sample that a firing moves at some ports.
@@ -118,7 +76,10 @@ fn longer<T: Copy>(one: Vec<T>, other: Vec<T>) -> Vec<T>
     if one.len() < other.len() { other } else { one }
 }
 
-/// A block with a place for each sample that a firing at any phase moves at some ports, and the length at each phase.
+/// So many fillers more than a firing needs have the blocks of an actor, so that many firings fit.
+const MORE: usize = 1024;
+
+/// A block with a place for each sample that a firing at any phase moves at some ports and some more, and the length at each phase.
 fn make_blocks<T: Copy>(
     alloc: Global,
     ports: &[usize],
@@ -140,6 +101,7 @@ fn make_blocks<T: Copy>(
         lengths.push(block.len())?;
         longest = longer(longest, block);
     }
+    extend(&mut longest, MORE, filler)?;
     Ok((longest, lengths))
 }
 

@@ -6,9 +6,10 @@ ghost use Rattle.sdf_actor.specs.Histories.{spread};
 ghost use Rattle.sdf_actor.specs.Steps.{total_in, total_out, sum_in, sum_out, state_at, puts_to};
 ghost use Rattle.sdf_actor.specs.Wires.{lists};
 ghost use Rattle.sdf_run.specs.AtOnce.{fronts};
-ghost use Rattle.sdf_run.specs.Blocks.{samples, room, at_ports, ArePorts, HaveRoom};
+ghost use Rattle.sdf_run.specs.Many.{chained, front_at, dealt};
+ghost use Rattle.sdf_answer.specs.Blocks.{samples, room, at_ports, ArePorts, HaveRoom};
 
-use crate::block::{put_block, take_block};
+use crate::block::{put_block, put_blocks, take_block, take_blocks, whole_blocks};
 use crate::queue::Queue;
 use sdf_actor::Actor;
 use sdf_actor::actor::next_phase;
@@ -65,6 +66,28 @@ fn fire_into<A: Actor>(
     actor.fire(phase, state, taken.as_slice(), front);
 }
 
+/// Fires an actor so many times from a phase on the blocks taken. What it puts stands at the front of the other block.
+fn fire_many_into<A: Actor>(
+    actor: &A,
+    phase: u32,
+    times: usize,
+    state: &mut A::State,
+    taken: &Vec<A::Token>,
+    put: &mut Vec<A::Token>,
+    many: usize,
+)
+    requires phase { phase < A.steps.cycle actor.now }
+    requires taken { length taken.now.items ≡ sum_in A.steps actor.now phase times }
+    requires put { many ≤ length put.old.items }
+    requires many { many ≡ sum_out A.steps actor.now phase times }
+    ensures state { state.new ≡ state_at A.steps actor.now phase state.old taken.now.items times }
+    ensures put { take many put.new.items ≡ puts_to A.steps actor.now phase state.old taken.now.items times }
+    ensures len { length put.new.items ≡ length put.old.items }
+{
+    let (front, _) = put.as_mut_slice().split_at_mut(many);
+    actor.fire_many(phase, times, state, taken.as_slice(), front);
+}
+
 /// Puts the first samples of a block on the channels of the ports.
 fn put_front<T: Copy>(ports: &Ports, block: &Vec<T>, many: usize, queues: &mut [Queue<T>])
     requires ports { ArePorts ports.now.channels.now ports.now.sizes.now (length queues.old) }
@@ -75,6 +98,57 @@ fn put_front<T: Copy>(ports: &Ports, block: &Vec<T>, many: usize, queues: &mut [
     ensures rooms { (c : ℕ) → c < length queues.old → room queues.new c ≡ room queues.old c }
 {
     put_block(ports.channels, ports.sizes, &block[..many], queues);
+}
+
+/// Puts the first samples of a block on the channels of the ports: so many firings' blocks, each of a size.
+fn put_fronts<T: Copy>(
+    ports: &Ports,
+    times: usize,
+    size: usize,
+    block: &Vec<T>,
+    many: usize,
+    queues: &mut [Queue<T>],
+)
+    requires ports { ArePorts ports.now.channels.now ports.now.sizes.now (length queues.old) }
+    requires room { (n : ℕ) → n < length ports.now.channels.now → length (samples queues.old (slice_index ports.now.channels.now n)) + times * slice_index ports.now.sizes.now (slice_index ports.now.channels.now n) ≤ room queues.old (slice_index ports.now.channels.now n) }
+    requires long { many ≤ length block.now.items }
+    requires many { many ≡ times * size }
+    requires size { size ≡ sum_by (slice_index ports.now.sizes.now) ports.now.channels.now }
+    ensures queues { (c : ℕ) → c < length queues.old → samples queues.new c ≡ samples queues.old c ++ dealt ports.now.sizes.now ports.now.channels.now size (take many block.now.items) c times }
+    ensures rooms { (c : ℕ) → c < length queues.old → room queues.new c ≡ room queues.old c }
+{
+    put_blocks(
+        ports.channels,
+        ports.sizes,
+        times,
+        size,
+        &block[..many],
+        queues,
+    );
+}
+
+/// Whether no channel is on both sides.
+fn are_apart(ins: &[usize], outs: &[usize]) -> bool
+    ensures { IsTrue result → (i j : ℕ) → i < length ins.now → j < length outs.now → slice_index ins.now i ≡ slice_index outs.now j → ⊥ }
+{
+    for from in ins {
+        if has(outs, *from) {
+            return false;
+        }
+    }
+    true
+}
+
+/// Whether a channel is among some.
+fn has(channels: &[usize], channel: usize) -> bool
+    ensures { result ≡ false → (j : ℕ) → j < length channels.now → channel ≡ slice_index channels.now j → ⊥ }
+{
+    for c in channels {
+        if *c == channel {
+            return true;
+        }
+    }
+    false
 }
 
 /// So many blocks of a size, within a limit.
@@ -132,6 +206,7 @@ fn fire_through<A: Actor>(
 impl<'a, A: Actor> Work<'a, A> {
     ghost use Rattle.sdf_run.specs.Firings.{phase_at, IsActor, CanFire, IsFired};
     ghost use Rattle.sdf_run.specs.AtOnce.{GoesAtOnce, CanFireAtOnce, AreFired};
+    ghost use Rattle.sdf_run.specs.Many.{GoesByMany, HasItsBlocks, Fit, CanFireMany, AreManyFired};
 
     /// The phase of the next firing.
     pub(crate) fn phase(&self) -> u32
@@ -211,6 +286,71 @@ impl<'a, A: Actor> Work<'a, A> {
                 state,
                 ..
             } => fire_through(*actor, *phase, times, state, filler, ins, outs, queues),
+        }
+    }
+
+    /// Whether so many of its firings can be done through its blocks, where these are its channels.
+    pub(crate) fn goes_by_many(&self, ins: &[usize], outs: &[usize]) -> bool
+        requires { IsActor self.now }
+        ensures { IsTrue result → GoesByMany A.steps self.now ins.now outs.now }
+    {
+        match self {
+            Work::Inner { actor, .. } => actor.cycle() == 1 && are_apart(ins, outs),
+            _ => false,
+        }
+    }
+
+    /// For how many firings its blocks have room, up to a limit.
+    pub(crate) fn fits(&self, most: usize) -> usize
+        requires some { 0 < most }
+        requires blocks { HasItsBlocks A.steps self.now }
+        ensures some { 0 < result }
+        ensures within { result ≤ most }
+        ensures fit { Fit A.steps self.now result }
+    {
+        match self {
+            Work::Inner {
+                actor,
+                phase,
+                taken,
+                put,
+                lengths,
+                ..
+            } => {
+                let many = whole_blocks(taken.capacity(), actor.samples_in(*phase), most);
+                whole_blocks(put.len(), lengths[*phase as usize], many)
+            }
+            _ => most,
+        }
+    }
+
+    /// So many firings of an actor of one phase: from each channel into it their blocks are taken, and on each channel out of it
+    /// their blocks are put.
+    pub(crate) fn fire_many(
+        &mut self,
+        times: usize,
+        ins: &Ports,
+        outs: &Ports,
+        queues: &mut [Queue<A::Token>],
+    )
+        requires { CanFireMany A.steps times ins.now.channels.now outs.now.channels.now ins.now.sizes.now outs.now.sizes.now self.old queues.old }
+        ensures { AreManyFired A.steps times ins.now.channels.now outs.now.channels.now ins.now.sizes.now outs.now.sizes.now self.old self.new queues.old queues.new }
+    {
+        if let Work::Inner {
+            actor,
+            phase,
+            state,
+            taken,
+            put,
+            lengths,
+        } = self
+        {
+            taken.clear();
+            take_blocks(ins.channels, ins.sizes, times, queues, taken);
+            let size = lengths[*phase as usize];
+            let many = blocks(times, size, put.len());
+            fire_many_into(*actor, *phase, times, state, taken, put, many);
+            put_fronts(outs, times, size, put, many, queues);
         }
     }
 }

@@ -94,7 +94,7 @@ module _ (r : Rates) (q : ℕ → ℕ) where
 
     fired : IsGreedy (w ++ a ∷ [])
     fired = record {
-      each = each_more r q w a greedy.each on;
+      each = each_more (λ v b. IsRunnable r q (times v) b) w a greedy.each on;
       within = λ b. within_fired b (cases_eq a b);
     }
 

@@ -1,27 +1,25 @@
 -- What a schedule shows where it stops.
 use Rattle.std.proofs.Common.{◌≡◌, ℕ, zero, suc, ◌≤◌, ◌<◌, List, [], length, get_or, slice_index, take, sum, eqb, true, false, sym, ap, ◌∙◌, subst, inl, inr, ◌⊎◌, arith}
-use Rattle.std.proofs.lemmas.List.{ext_get_or, get_or_default}
+use Rattle.std.proofs.lemmas.List.{ext_get_or}
 use Rattle.std.proofs.lemmas.Bool.{cases_lt, eqb-true, false≢true}
 use Rattle.sdf_graph.specs.Rates.{Shape, IsSound, rates}
 use Rattle.sdf_graph.specs.Sequences.{times, IsRunnable, IsAdmissible, IsDeadlocked}
 use Rattle.sdf_graph.specs.Periods.{IsLeastPeriod}
 use Rattle.sdf_graph.specs.Tally.{Tally}
-use Rattle.sdf_sched.specs.Pick.{Chooses, IsChoice, IsPicked, begins, fires}
+use Rattle.sdf_sched.specs.Pick.{Chooses, IsPicked, begins, fires}
 use Rattle.sdf_sched.specs.ClassS.{IsGoing}
 use Rattle.sdf_sched.specs.Period.{IsPeriodOf}
 use Rattle.sdf_sched.specs.Stuck.{IsShortList, IsStuckAt}
 use Rattle.sdf_sched.specs.declared.stuck.Stuck.{Stuck}
 use Rattle.sdf_sched.specs.Laws.{StuckCountsMeanDeadlock}
 use Rattle.sdf_sched.proofs.Going.{each_more}
+use Rattle.sdf_sched.proofs.Choices.{is_runnable}
 
 -- each firing that a pick chooses is of a runnable actor
 module _ (P : Type 0) (chooses : Chooses P) (g : Shape) (q : ℕ → ℕ) (p : P) where
-  chosen_runs : (p' p'' : P) (k : ℕ → ℕ) (a : ℕ) → IsChoice chooses g q p' k a p'' → IsRunnable (rates g) q k a
-  chosen_runs p' p'' k a c = (c.runnable.each a).0 (c.at, c.below, get_or_default c.among c.at a 0 c.below ∙ c.is)
-
   pub each_runs : (w : List ℕ) (p' : P) → IsPicked chooses g q p w p' → (i : ℕ) → i < length w → IsRunnable (rates g) q (times (take i w)) (get_or w i 0)
   each_runs _ _ begins i h = absurd (omega arith)
-  each_runs _ _ (fires w a p' p'' picked choice) i h = each_more (rates g) q w a (each_runs w p' picked) (chosen_runs p' p'' (times w) a choice) i h
+  each_runs _ _ (fires w a p' p'' picked choice) i h = each_more (λ v b. IsRunnable (rates g) q (times v) b) w a (each_runs w p' picked) (is_runnable P chooses g q (times w) p' p'' a choice) i h
 
 module _ (P : Type 0) (chooses : Chooses P) (g : Shape) (q : List ℕ) (p : P) where
   module _ (t : Tally) (w : List ℕ) (p' : P) (now : IsGoing chooses g q p t w p' []) where

@@ -1,11 +1,7 @@
--- Whole frames, and the data of a size that was never filled in.
-use Rattle.std.proofs.Common.{◌≡◌, ℕ, ◌*◌, ◌/◌, ◌%◌, ◌<◌, ◌≤◌, ℤ, List, [], length, Ok, Err, refl, sym, ap, ◌∙◌, arith}
-use Rattle.std.proofs.lemmas.List.{take_all, drop_all}
-use Rattle.std.proofs.lemmas.Bool.{lt-ltb, le-ltb, eq-eqb, ne_eqb}
-use Rattle.std.proofs.Math.Nat.{div-add-mod, mul_assoc, mul-mod_right}
-use Rattle.sdf_wav.specs.declared.fault.FormatFault.TheVariants.{TooLong, PartialFrame}
-use Rattle.sdf_wav.specs.Sound.{pcm_samples}
-use Rattle.sdf_wav.specs.Content.{Holds, open_content_at}
+-- Whole frames.
+use Rattle.std.proofs.Common.{◌≡◌, ℕ, ◌+◌, ◌-◌, ◌*◌, ◌/◌, ◌%◌, ◌≤◌, min, inl, inr, sym, ap, ◌∙◌, arith}
+use Rattle.std.proofs.lemmas.Bool.{cases_lt}
+use Rattle.std.proofs.Math.Nat.{div-add-mod, mul_assoc, mul_comm, mul-mod_right, mul-add-mod_self_left}
 
 twice : (n c : ℕ) → n % (2 * c) ≡ 0 → n ≡ 2 * (c * (n / (2 * c)))
 twice n c h = sym (div-add-mod n (2 * c)) ∙ omega (arith, h, mul_assoc 2 c (n / (2 * c)))
@@ -18,18 +14,40 @@ whole_frames n c h =
     let k : n / 2 ≡ c * (n / (2 * c)) = omega (arith, twice n c h) in
     ap (λ m. m % c) k ∙ mul-mod_right c (n / (2 * c))
 
-pub open_long : (align n : ℕ) (input left : List ℕ) (samples : List ℤ) → Holds input left 4294967296 n samples → 4294967294 < n → open_content_at align input ≡ Err TooLong
-open_long align n input left samples h lt =
-    rw (lt-ltb 4294967294 (length input) (omega (arith, h.count))) refl
+-- more bytes behind whole frames
+pub past_whole : (n m d : ℕ) → n % d ≡ 0 → (n + m) % d ≡ m % d
+past_whole n m d h =
+    let k : n ≡ d * (n / d) = sym (div-add-mod n d) ∙ omega (arith, h) in
+    ap (λ j. (j + m) % d) k ∙ mul-add-mod_self_left d (n / d) m
 
-pub open_partial : (align n : ℕ) (input left : List ℕ) (samples : List ℤ) → Holds input left 4294967296 n samples → n ≤ 4294967294 → (n % align ≡ 0 → ⊥) → open_content_at align input ≡ Err PartialFrame
-open_partial align n input left samples h le partial =
-    let n-is : length input ≡ n = omega (arith, h.count) in
-    rw (le-ltb 4294967294 (length input) (omega arith), n-is, ne_eqb (n % align) 0 partial) refl
+pub less_whole : (n m d : ℕ) → n % d ≡ 0 → m % d ≡ 0 → m ≤ n → (n - m) % d ≡ 0
+less_whole n m d h k le =
+    let all : m + (n - m) ≡ n = omega arith in
+    sym (past_whole m (n - m) d k) ∙ ap (λ j. j % d) all ∙ h
 
-pub open_whole : (align n : ℕ) (input left : List ℕ) (samples : List ℤ) → Holds input left 4294967296 n samples → n ≤ 4294967294 → n % align ≡ 0 → open_content_at align input ≡ Ok (samples, left)
-open_whole align n input left samples h le whole =
-    let n-is : length input ≡ n = omega (arith, h.count) in
-    let all : pcm_samples input ≡ samples = sym (h.samples_are ∙ ap pcm_samples (take_all 4294967296 input (omega arith))) in
-    let none : [] ≡ left = sym (h.left_is ∙ drop_all 4294967296 input (omega arith)) in
-    rw (le-ltb 4294967294 (length input) (omega arith), n-is, eq-eqb (n % align) 0 whole, all, ← none) refl
+pub asked_whole : (frames c : ℕ) → (2 * (frames * c)) % (2 * c) ≡ 0
+asked_whole frames c =
+    let e : 2 * (frames * c) ≡ (2 * c) * frames = omega (arith, mul_assoc 2 c frames, mul_comm frames c) in
+    ap (λ n. n % (2 * c)) e ∙ mul-mod_right (2 * c) frames
+
+pub smaller_whole : (n m d : ℕ) → n % d ≡ 0 → m % d ≡ 0 → min n m % d ≡ 0
+smaller_whole n m d h k =
+    elim (cases_lt n m) [
+      | inl lt ↦ let e : min n m ≡ n = omega arith in ap (λ j. j % d) e ∙ h
+      | inr le ↦ let e : min n m ≡ m = omega arith in ap (λ j. j % d) e ∙ k
+    ]
+
+-- bytes of whole frames are twice their samples
+pub twice_halved : (n samples c : ℕ) → n % (2 * c) ≡ 0 → samples ≡ n / 2 → 2 * samples ≡ n
+twice_halved n samples c whole e = let even = whole_is_even n c whole in omega arith
+
+pub half_whole : (n samples c : ℕ) → n % (2 * c) ≡ 0 → 2 * samples ≡ n → samples % c ≡ 0
+half_whole n samples c whole e =
+    let half : samples ≡ n / 2 = omega arith in
+    ap (λ m. m % c) half ∙ whole_frames n c whole
+
+pub twice_whole : (n c : ℕ) → n % c ≡ 0 → (2 * n) % (2 * c) ≡ 0
+twice_whole n c h =
+    let k : n ≡ c * (n / c) = sym (div-add-mod n c) ∙ omega (arith, h) in
+    let e : 2 * n ≡ (2 * c) * (n / c) = omega (arith, k, mul_assoc 2 c (n / c)) in
+    ap (λ m. m % (2 * c)) e ∙ mul-mod_right (2 * c) (n / c)

@@ -25,3 +25,9 @@ pub Reads-last : {X Y : Type 0} (view : X → Y) {a b : Option (List ℕ)} (c : 
     → Known a b (λ x y. (read x ≡ rest y) × LosesFront x y) → Reads view b c rest r → Reads view a c read r
 Reads-last view c read rest (Ok x) p q = Known-then p q (λ x y z p q. (p.0 ∙ q.0, LosesFront-then x y z p.1 q.1))
 Reads-last view c read rest (Err e) p q = Known-then p q (λ x y z p q. (subst (Explains e) (sym p.0) q.0, LosesFront-then x y z p.1 q.1))
+
+-- the same reading in other words
+pub Reads-same : {X Y : Type 0} (view : X → Y) (a b : Option (List ℕ)) (read again : List ℕ → Result (Y × List ℕ) FormatFault) (r : Result X ReadFault)
+    → ((bytes : List ℕ) → read bytes ≡ again bytes) → Reads view a b read r → Reads view a b again r
+Reads-same view a b read again (Ok x) same p = Known-weaker p (λ x y q. (sym (same x) ∙ q.0, q.1))
+Reads-same view a b read again (Err e) same p = Known-weaker p (λ x y q. (subst (Explains e) (same x) q.0, q.1))

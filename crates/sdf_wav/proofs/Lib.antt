@@ -5,11 +5,14 @@ pub mod DataAt
 pub mod Samples
 pub mod Frames
 pub mod Written
+pub mod PiecesOut
 pub mod StepReads
 pub mod Formats
 pub mod Walk
 pub mod FaultsRead
 pub mod Total
 pub mod Exact
+pub mod Opens
+pub mod PiecesIn
 pub mod Round
 pub mod Canonical

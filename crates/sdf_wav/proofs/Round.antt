@@ -1,15 +1,15 @@
 -- The canonical file of a sound is a WAV file of it.
-use Rattle.std.proofs.Common.{◌≡◌, inl, inr, ℕ, ◌+◌, ◌*◌, ◌/◌, ◌%◌, ◌^◌, ◌<◌, ◌≤◌, ℤ, List, [], ◌∷◌, ◌++◌, length, Some, None, refl, sym, ap, ◌∙◌, arith, append-nil}
+use Rattle.std.proofs.Common.{◌≡◌, inl, inr, ℕ, ◌+◌, ◌*◌, ◌%◌, ◌^◌, ◌<◌, ◌≤◌, ℤ, List, [], ◌∷◌, ◌++◌, length, Some, None, refl, sym, ap, ◌∙◌, arith, append-nil}
 use Rattle.std.specs.Prelude.{codes, FitsSigned}
 use Rattle.std.specs.List.{AllByRecursion}
 use Rattle.std.specs.Int.{w16, cast_signed, cast_unsigned}
 use Rattle.byteorder.specs.Endian.{little_number, little_bytes}
 use Rattle.byteorder.specs.Numbers.{little_number-reads_back}
-use Rattle.std.proofs.Math.Nat.{div-add-mod, mul_assoc, mul-mod_right}
 use Rattle.std.proofs.lemmas.Bool.{cases_lt, lt-ltb, le-ltb}
 use Rattle.std.proofs.lemmas.Int.{to_z-of_z}
 use mir.Facts.{Fits-lt-pow}
 use mir.ValLaws.{of_z_fits}
+use Rattle.sdf_wav.proofs.Frames.{twice_whole}
 use Rattle.sdf_wav.specs.declared.fault.FormatFault.{FormatFault}
 use Rattle.sdf_wav.specs.declared.format.Format.{Format}
 use Rattle.sdf_wav.specs.Sound.{Sound, pcm_samples, IsSound}
@@ -33,12 +33,6 @@ sample_back z h =
 samples_back : (samples : List ℤ) → AllByRecursion (FitsSigned w16) samples → pcm_samples (sample_bytes samples) ≡ samples
 samples_back [] h = refl
 samples_back (z ∷ zs) h = ap (λ (y : ℤ). y ∷ pcm_samples (sample_bytes zs)) (sample_back z h.0) ∙ ap (λ (l : List ℤ). z ∷ l) (samples_back zs h.1)
-
-twice_whole : (n c : ℕ) → n % c ≡ 0 → (2 * n) % (2 * c) ≡ 0
-twice_whole n c h =
-    let k : n ≡ c * (n / c) = sym (div-add-mod n c) ∙ omega (arith, h) in
-    let e : 2 * n ≡ (2 * c) * (n / c) = omega (arith, k, mul_assoc 2 c (n / c)) in
-    ap (λ m. m % (2 * c)) e ∙ mul-mod_right (2 * c) (n / c)
 
 -- ---- the format
 

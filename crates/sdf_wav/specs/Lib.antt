@@ -5,6 +5,10 @@ pub mod Format
 pub mod Sound
 pub mod Content
 pub mod Canonical
+pub mod PiecesOut
+pub mod WavOut
+pub mod PiecesIn
+pub mod WavIn
 pub mod Grammar
 pub mod Fault
 pub mod Adapters

@@ -1,8 +1,8 @@
 -- What each part of the reader gives, for the crate's own functions: a value and the bytes after it, or the first fault.
 -- What a file is, and which faults an input has, is said apart from it in Grammar and Fault.
-use Rattle.std.specs.Prelude.{◌≡◌, ℕ, zero, suc, ◌+◌, ◌*◌, ◌%◌, min, Bool, true, false, if◌then◌else◌, nat_lt, List, length, take, drop, Option, Some, None, Result, Ok, Err}
+use Rattle.std.specs.Prelude.{◌≡◌, ℕ, zero, suc, ◌+◌, ◌*◌, ◌%◌, min, Bool, true, false, not, ◌&&◌, if◌then◌else◌, nat_lt, ◌==◌, List, length, take, drop, Option, Some, None, Result, Ok, Err}
 use Rattle.sdf_wav.specs.declared.fault.FormatFault.{FormatFault}
-use Rattle.sdf_wav.specs.declared.fault.FormatFault.TheVariants.{ShortFormat, Truncated, TooLong}
+use Rattle.sdf_wav.specs.declared.fault.FormatFault.TheVariants.{ShortFormat, Truncated, PartialFrame, TooLong}
 use Rattle.sdf_wav.specs.declared.fault.ReadFault.{ReadFault}
 use Rattle.sdf_wav.specs.declared.fault.ReadFault.TheVariants as read_faults
 use Rattle.sdf_wav.specs.declared.parts.ChunkKind.{ChunkKind}
@@ -101,6 +101,16 @@ data_at (suc n) seen bytes = step_at seen bytes >>= λ x. elim x.0 [
   | steps.Data start ↦ Ok (start, x.1)
   | steps.Passed now ↦ data_at n now x.1
 ]
+
+-- data whose size is whole frames, or was never filled in
+abbrev pub whole_at : DataStart → List ℕ → Result (DataStart × List ℕ) FormatFault
+whole_at start bytes =
+    if not (start.size == 0xFFFFFFFF) && not (start.size % (2 * start.format.channels) == 0) then Err PartialFrame
+    else Ok (start, bytes)
+
+-- a file as far as the size of its data
+unfoldable pub open_at : List ℕ → Result (DataStart × List ℕ) FormatFault
+open_at bytes = riff_at bytes >>= λ r. data_at 65536 None r.1 >>= λ d. whole_at d.0 d.1
 
 -- a whole file: its sound, and what is behind its data
 unfoldable pub wav_at : List ℕ → Result (Sound × List ℕ) FormatFault

@@ -1,11 +1,13 @@
 //! The chunks of a WAV file, read from left to right up to its samples.
 
-ghost use Rattle.std.specs.Prelude.{◌≡◌, ◌≤◌, ◌%◌, ℕ, Option, Some, None, length, IfOk, IfErr};
+ghost use Rattle.std.specs.Prelude.{◌≡◌, ◌≤◌, ◌*◌, ◌%◌, ℕ, Option, Some, None, length, IfOk, IfErr};
 ghost use Rattle.sdf_wav.specs.Device.{failures_after, widened};
 ghost use Rattle.sdf_wav.specs.Fault.{IsReadingFault};
 ghost use Rattle.sdf_wav.specs.Format.{IsFormat, IsKnown, IsStep};
-ghost use Rattle.sdf_wav.specs.Steps.{Reads, riff_at, header_at, front_at, skip_at, pad_at, skipped_at, looked_at, pcm_at, format_at, passed_at, is_some, step_at, last_at, data_at};
+ghost use Rattle.sdf_wav.specs.Steps.{Reads, riff_at, header_at, front_at, skip_at, pad_at, skipped_at, looked_at, pcm_at, format_at, passed_at, is_some, step_at, last_at, data_at, open_at};
+ghost use Rattle.sdf_wav.specs.PiecesIn.{IsWithin};
 
+use crate::content::UNKNOWN;
 use crate::device::Reader;
 use crate::fault::{FormatFault, ReadFault};
 use crate::format::Format;
@@ -13,7 +15,7 @@ use crate::moving::{fill, skip};
 use crate::parts::{ChunkHeader, ChunkKind, DataStart, data_start, format_of, header_of, riff_of};
 
 /// The first twelve bytes.
-pub(crate) fn read_riff<R: Reader>(reader: &mut R) -> Result<(), ReadFault>
+fn read_riff<R: Reader>(reader: &mut R) -> Result<(), ReadFault>
     ensures bytes { Reads (λ x. x) (R.remaining reader.old) (R.remaining reader.new) riff_at result }
     ensures counted { R.failures reader.new ≡ failures_after (widened result) (R.failures reader.old) }
     ensures fault { IfErr (widened result) IsReadingFault }
@@ -202,7 +204,7 @@ fn read_last<R: Reader>(reader: &mut R, seen: Option<Format>) -> Result<DataStar
 const MAX_CHUNKS: u32 = 65_536;
 
 /// Reads up to the samples.
-pub(crate) fn find_data<R: Reader>(reader: &mut R) -> Result<DataStart, ReadFault>
+fn find_data<R: Reader>(reader: &mut R) -> Result<DataStart, ReadFault>
     ensures bytes { Reads (λ x. x) (R.remaining reader.old) (R.remaining reader.new) (data_at 65536 None) result }
     ensures counted { R.failures reader.new ≡ failures_after (widened result) (R.failures reader.old) }
     ensures fault { IfErr (widened result) IsReadingFault }
@@ -216,4 +218,21 @@ pub(crate) fn find_data<R: Reader>(reader: &mut R) -> Result<DataStart, ReadFaul
         }
     }
     read_last(reader, seen)
+}
+
+/// Reads a file up to the size of its data, which is whole frames where it is known.
+#[tactic(auto, unfolding(crate::specs::Steps::open_at))]
+pub(crate) fn open_data<R: Reader>(reader: &mut R) -> Result<DataStart, ReadFault>
+    ensures bytes { Reads (λ x. x) (R.remaining reader.old) (R.remaining reader.new) open_at result }
+    ensures counted { R.failures reader.new ≡ failures_after (widened result) (R.failures reader.old) }
+    ensures fault { IfErr (widened result) IsReadingFault }
+    ensures valid { IfOk result (λ start. IsFormat start.format) }
+    ensures whole { IfOk result (λ start. IsWithin (2 * start.format.channels) start.size 0) }
+{
+    read_riff(reader)?;
+    let start = find_data(reader)?;
+    if start.size != UNKNOWN && start.size % u32::from(2 * start.format.channels) != 0 {
+        return Err(ReadFault::Format(FormatFault::PartialFrame));
+    }
+    Ok(start)
 }

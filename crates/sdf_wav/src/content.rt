@@ -1,7 +1,8 @@
 //! The samples of a data chunk.
 
-ghost use Rattle.std.specs.Prelude.{◌≡◌, ◌≤◌, ◌*◌, ◌/◌, ◌%◌, ◌++◌, ◌+◌, ◌⊎◌, length, OnOk, OnErr, IfOk, IfErr};
-ghost use Rattle.sdf_wav.specs.Content.{Holds, open_content_at, sized_content_at, content_at};
+ghost use Rattle.std.specs.Prelude.{◌≡◌, ◌≤◌, ◌*◌, ◌/◌, ◌%◌, ◌++◌, ◌+◌, ◌⊎◌, min, length, OnOk, OnErr, IfOk, IfErr};
+ghost use Rattle.sdf_wav.specs.Content.{Holds};
+ghost use Rattle.sdf_wav.specs.PiecesIn.{open_piece, sized_piece};
 ghost use Rattle.sdf_wav.specs.Device.{failures_after, widened, Known, LosesFront};
 ghost use Rattle.sdf_wav.specs.Fault.{IsReadingFault};
 ghost use Rattle.sdf_wav.specs.Sound.{pcm_samples};
@@ -63,7 +64,7 @@ fn read_samples<R: Reader>(alloc: Global, reader: &mut R, limit: u64) -> Result<
 }
 
 /// The size of data that its writer never filled in: it goes to the end of the input.
-const UNKNOWN: u32 = 0xFFFF_FFFF;
+pub(crate) const UNKNOWN: u32 = 0xFFFF_FFFF;
 
 /// The most bytes of data of a size that is not filled in.
 const MAX_BYTES: u64 = 4_294_967_294;
@@ -71,17 +72,28 @@ const MAX_BYTES: u64 = 4_294_967_294;
 /// One sample more than that.
 const LIMIT: u64 = 4_294_967_296;
 
-/// Reads data that goes to the end of the input.
-fn read_open<R: Reader>(alloc: Global, reader: &mut R, channels: u16) -> Result<Vec<i16>, ReadFault>
+/// Reads at most so many bytes of data that goes to the end of the input and of which so many are gone.
+pub(crate) fn read_open<R: Reader>(
+    alloc: Global,
+    reader: &mut R,
+    channels: u16,
+    gone: u64,
+    asked: u64,
+) -> Result<Vec<i16>, ReadFault>
     requires low { 1 ≤ channels }
     requires high { channels ≤ MOST_CHANNELS }
-    ensures bytes { Reads (λ v. v.items) (R.remaining reader.old) (R.remaining reader.new) (open_content_at (2 * channels)) result }
+    requires within { gone ≤ 4294967294 }
+    requires whole { gone % 2 ≡ 0 }
+    requires even { asked % 2 ≡ 0 }
+    ensures bytes { Reads (λ v. v.items) (R.remaining reader.old) (R.remaining reader.new) (λ bytes. open_piece (2 * channels) gone (min asked (length bytes)) bytes) result }
     ensures whole { IfOk result (λ v. length v.items % channels ≡ 0) }
+    ensures most { IfOk result (λ v. 2 * length v.items ≤ asked) }
+    ensures fits { IfOk result (λ v. gone + 2 * length v.items ≤ 4294967294) }
     ensures counted { R.failures reader.new ≡ failures_after (widened result) (R.failures reader.old) }
     ensures fault { IfErr (widened result) IsReadingFault }
 {
-    let content = read_samples(alloc, reader, LIMIT)?;
-    if content.bytes > MAX_BYTES {
+    let content = read_samples(alloc, reader, asked.min(LIMIT - gone))?;
+    if gone + content.bytes > MAX_BYTES {
         return Err(ReadFault::Format(FormatFault::TooLong));
     }
     if content.bytes % u64::from(2 * channels) != 0 {
@@ -90,48 +102,21 @@ fn read_open<R: Reader>(alloc: Global, reader: &mut R, channels: u16) -> Result<
     Ok(content.samples)
 }
 
-/// Reads data of a known size.
-fn read_sized<R: Reader>(
+/// Reads so many bytes of data of a known size.
+pub(crate) fn read_sized<R: Reader>(
     alloc: Global,
     reader: &mut R,
-    channels: u16,
-    size: u32,
+    size: u64,
 ) -> Result<Vec<i16>, ReadFault>
-    requires low { 1 ≤ channels }
-    requires high { channels ≤ MOST_CHANNELS }
-    ensures bytes { Reads (λ v. v.items) (R.remaining reader.old) (R.remaining reader.new) (sized_content_at (2 * channels) size) result }
-    ensures whole { IfOk result (λ v. length v.items % channels ≡ 0) }
+    requires { size % 2 ≡ 0 }
+    ensures bytes { Reads (λ v. v.items) (R.remaining reader.old) (R.remaining reader.new) (sized_piece size) result }
+    ensures count { IfOk result (λ v. 2 * length v.items ≡ size) }
     ensures counted { R.failures reader.new ≡ failures_after (widened result) (R.failures reader.old) }
     ensures fault { IfErr (widened result) IsReadingFault }
 {
-    if size % u32::from(2 * channels) != 0 {
-        return Err(ReadFault::Format(FormatFault::PartialFrame));
-    }
-    let content = read_samples(alloc, reader, u64::from(size))?;
-    if content.bytes < u64::from(size) {
+    let content = read_samples(alloc, reader, size)?;
+    if content.bytes < size {
         return Err(ReadFault::Format(FormatFault::Truncated));
     }
     Ok(content.samples)
-}
-
-/// Reads the samples of a data chunk of this size.
-#[tactic(auto, unfolding(crate::specs::Content::content_at))]
-pub(crate) fn read_content<R: Reader>(
-    alloc: Global,
-    reader: &mut R,
-    channels: u16,
-    size: u32,
-) -> Result<Vec<i16>, ReadFault>
-    requires low { 1 ≤ channels }
-    requires high { channels ≤ MOST_CHANNELS }
-    ensures bytes { Reads (λ v. v.items) (R.remaining reader.old) (R.remaining reader.new) (content_at (2 * channels) size) result }
-    ensures whole { IfOk result (λ v. length v.items % channels ≡ 0) }
-    ensures counted { R.failures reader.new ≡ failures_after (widened result) (R.failures reader.old) }
-    ensures fault { IfErr (widened result) IsReadingFault }
-{
-    if size == UNKNOWN {
-        read_open(alloc, reader, channels)
-    } else {
-        read_sized(alloc, reader, channels, size)
-    }
 }

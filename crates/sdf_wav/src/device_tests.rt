@@ -29,10 +29,10 @@ impl<R: Reader> Reader for OneByte<R> {
 
 /// Takes so many bytes, one at a time, and then none.
 #[derive(Drop)]
-struct Full {
-    taken: Vec<u8>,
-    room: usize,
-    failed: u64,
+pub(crate) struct Full {
+    pub(crate) taken: Vec<u8>,
+    pub(crate) room: usize,
+    pub(crate) failed: u64,
 }
 
 impl Writer for Full {
@@ -63,10 +63,10 @@ impl Writer for Full {
 
 /// Fails once so many calls were answered.
 #[derive(Drop)]
-struct Failing<R> {
-    reader: R,
-    calls: u32,
-    failed: u64,
+pub(crate) struct Failing<R> {
+    pub(crate) reader: R,
+    pub(crate) calls: u32,
+    pub(crate) failed: u64,
 }
 
 impl<R: Reader> Reader for Failing<R> {

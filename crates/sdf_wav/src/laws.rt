@@ -1,15 +1,35 @@
 //! Laws over the definitions, which no call of the crate states.
 
-ghost use Rattle.std.specs.Prelude.{◌≡◌, ◌⊎◌, ℕ, List, [], None};
+ghost use Rattle.std.specs.Prelude.{◌≡◌, ◌<◌, ◌+◌, ◌*◌, ◌⊎◌, ◌++◌, ℕ, ℤ, List, [], length, Option, None, Ok, Err};
+ghost use Rattle.std.specs.Io.KnownBytes.{Appends};
 ghost use Rattle.sdf_wav.specs.declared.fault.FormatFault.{FormatFault};
-ghost use Rattle.sdf_wav.specs.Canonical.{canonical_wav, write_fault};
+ghost use Rattle.sdf_wav.specs.Canonical.{canonical_wav, sample_bytes, write_fault};
 ghost use Rattle.sdf_wav.specs.Fault.{HasFault};
 ghost use Rattle.sdf_wav.specs.Grammar.{IsWav};
+ghost use Rattle.sdf_wav.specs.declared.format.Format.{Format};
+ghost use Rattle.sdf_wav.specs.PiecesIn.{Reading, Opens, IsReadTo, IsEnded, sound_read, next_at};
 ghost use Rattle.sdf_wav.specs.Sound.{Sound, IsSound};
 
 /// The canonical file of a sound is a file of that sound, with nothing behind it.
 pub fn canonical_is_wav()
     ensures { (s : Sound) → IsSound s → write_fault s ≡ None → IsWav (canonical_wav s) s [] }
+{}
+
+/// Samples that are written in turn are written as one list, so the pieces behind a header are a file.
+pub fn puts_join()
+    ensures { (a b c : Option (List ℕ)) (x y : List ℤ) → Appends a b (sample_bytes x) → Appends b c (sample_bytes y) → Appends a c (sample_bytes (x ++ y)) }
+{}
+
+/// Pieces that are read in turn, joined: they are the samples of the content that is gone; fewer frames than were asked for
+/// come at the end alone; at the end the input is a file of them; and a fault among them is the input's.
+pub fn pieces_join()
+    ensures opens { (input : List ℕ) (s : Sound) (rest : List ℕ) → IsWav input s rest → (f : Format) × (size : ℕ) × (bytes : List ℕ) × Opens input f size bytes }
+    ensures goes_on { (input : List ℕ) (r : Reading) (before : List ℤ) (bytes : List ℕ) (frames : ℕ) (samples : List ℤ) (rest : List ℕ) → IsReadTo input r before bytes
+        → next_at r frames bytes ≡ Ok (samples, rest) → IsReadTo input (record r { gone = r.gone + 2 * length samples }) (before ++ samples) rest }
+    ensures few { (input : List ℕ) (r : Reading) (before : List ℤ) (bytes : List ℕ) (frames : ℕ) (samples : List ℤ) (rest : List ℕ) → IsReadTo input r before bytes
+        → next_at r frames bytes ≡ Ok (samples, rest) → length samples < frames * r.channels → IsEnded (record r { gone = r.gone + 2 * length samples }) rest }
+    ensures ends { (input : List ℕ) (r : Reading) (samples : List ℤ) (rest : List ℕ) → IsReadTo input r samples rest → IsEnded r rest → IsWav input (sound_read r samples) rest }
+    ensures falls { (input : List ℕ) (r : Reading) (before : List ℤ) (bytes : List ℕ) (frames : ℕ) (f : FormatFault) → IsReadTo input r before bytes → next_at r frames bytes ≡ Err f → HasFault input f }
 {}
 
 /// Every input is a file of one sound with one rest, or has one fault, and never both.

@@ -8,6 +8,8 @@
 
 mod chunks;
 mod content;
+mod content_in;
+mod content_out;
 mod device;
 mod fault;
 mod format;
@@ -17,18 +19,26 @@ mod parts;
 mod reading;
 mod to_write;
 mod wav;
+mod wav_in;
+mod wav_out;
 mod writing;
 
+pub use content_in::ContentIn;
+pub use content_out::ContentOut;
 pub use device::{DeviceFault, Reader, Writer};
 pub use fault::{FormatFault, WavFault};
 pub use from_read::FromRead;
 pub use reading::read_wav;
 pub use to_write::ToWrite;
 pub use wav::{MOST_CHANNELS, Wav};
+pub use wav_in::WavIn;
+pub use wav_out::WavOut;
 pub use writing::write_wav;
 
 #[cfg(test)]
 mod device_tests;
 pub mod laws;
+#[cfg(test)]
+mod pieces_tests;
 #[cfg(test)]
 mod tests;

@@ -1,31 +1,36 @@
 //! Reading a WAV file.
 
-ghost use Rattle.std.specs.Prelude.{◌≡◌, ℕ, List, Some, IfErr, IsErrOf};
+ghost use Rattle.std.specs.Prelude.{◌≡◌, ℕ, List, Some, None, IfOk, IfErr, IsErrOf};
 ghost use Rattle.sdf_wav.specs.declared.fault.FormatFault.{FormatFault};
-ghost use Rattle.sdf_wav.specs.Device.{failures_after, widened, Failed};
+ghost use Rattle.sdf_wav.specs.Device.{failures_after, Failed};
 ghost use Rattle.sdf_wav.specs.Fault.{HasFault, Answers, Accepts, Refuses, IsReadingFault};
 ghost use Rattle.sdf_wav.specs.Grammar.{IsWav};
 ghost use Rattle.sdf_wav.specs.Sound.{Sound};
-ghost use Rattle.sdf_wav.specs.Steps.{Reads, wav_at};
+ghost use Rattle.sdf_wav.specs.PiecesIn.{AnswersBy, next_at};
 
-use crate::chunks::{find_data, read_riff};
-use crate::content::read_content;
+use crate::content_in::ContentIn;
 use crate::device::Reader;
-use crate::fault::{ReadFault, WavFault};
+use crate::fault::WavFault;
 use crate::wav::Wav;
+use crate::wav_in::WavIn;
 use std::alloc::Global;
 
-/// Reads a file part by part.
-#[tactic(auto, unfolding(crate::specs::Steps::wav_at))]
-fn read_parts<R: Reader>(alloc: Global, reader: &mut R) -> Result<Wav, ReadFault>
-    ensures bytes { Reads (λ x. x) (R.remaining reader.old) (R.remaining reader.new) wav_at result }
-    ensures counted { R.failures reader.new ≡ failures_after (widened result) (R.failures reader.old) }
-    ensures fault { IfErr (widened result) IsReadingFault }
+/// Reads a whole content in one piece.
+fn read_content<R: Reader>(
+    alloc: Global,
+    reader: &mut R,
+    content: ContentIn,
+) -> Result<Wav, WavFault>
+    requires { content.fault ≡ None }
+    ensures bytes { AnswersBy (λ w. w.samples) (R.remaining reader.old) (R.remaining reader.new) (next_at content 18446744073709551615) result }
+    ensures format { IfOk result (λ w. (w.rate ≡ content.rate) × (w.channels ≡ content.channels)) }
+    ensures counted { R.failures reader.new ≡ failures_after result (R.failures reader.old) }
+    ensures fault { IfErr result IsReadingFault }
 {
-    read_riff(reader)?;
-    let start = find_data(reader)?;
-    let samples = read_content(alloc, reader, start.format.channels, start.size)?;
-    Ok(Wav::of_format(start.format, samples))
+    let format = content.format();
+    let mut input = WavIn::over(alloc, reader, content);
+    let samples = input.next(usize::MAX)?;
+    Ok(Wav::of_format(format, samples))
 }
 
 /// Reads a WAV file up to the end of its data, and leaves what follows unread. After a fault a front of the input has
@@ -48,5 +53,6 @@ pub fn read_wav<R: Reader>(alloc: Global, reader: &mut R) -> Result<Wav, WavFaul
     ensures counted { R.failures reader.new ≡ failures_after result (R.failures reader.old) }
     ensures device { IsErrOf result WavFault.Read → Failed (R.failures reader.old) (R.failures reader.new) }
 {
-    Ok(read_parts(alloc, reader)?)
+    let content = ContentIn::open(reader)?;
+    read_content(alloc, reader, content)
 }

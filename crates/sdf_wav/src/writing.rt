@@ -1,15 +1,18 @@
 //! Writing a WAV file.
 
-ghost use Rattle.std.specs.Prelude.{◌≡◌, ◌≤◌, ◌*◌, ◌<◌, ◌^◌, ◌++◌, length, None, OnOk, OnErr, IfErr, IsErrOf};
+ghost use Rattle.std.specs.Prelude.{◌≡◌, ◌≤◌, ◌*◌, ◌/◌, ◌%◌, ◌<◌, ◌^◌, length, false, None, OnOk, OnErr, IfErr, IsErrOf};
 ghost use Rattle.std.specs.Io.KnownBytes.{Appends};
 ghost use Rattle.byteorder.specs.Endian.{little_bytes};
 ghost use Rattle.sdf_wav.specs.Canonical.{header, sample_bytes, canonical_wav, write_fault, Writes, IsWritingFault, IsCanonical};
+ghost use Rattle.sdf_wav.specs.PiecesOut.{Puts};
 ghost use Rattle.sdf_wav.specs.Device.{failures_after, failures_after_read, AppendsFront, Failed};
 
+use crate::content_out::ContentOut;
 use crate::device::{DeviceFault, Writer};
-use crate::fault::{FormatFault, WavFault};
+use crate::fault::WavFault;
 use crate::moving::put_all;
 use crate::wav::{MOST_CHANNELS, Wav};
+use crate::wav_out::WavOut;
 use byteorder::{ByteOrder, LittleEndian};
 
 fn bytes_of_u16(n: u16) -> [u8; 2]
@@ -30,7 +33,7 @@ fn bytes_of_u32(n: u32) -> [u8; 4]
 
 /// The 44 bytes before data of this size.
 #[tactic(auto, unfolding(crate::specs::Canonical::header))]
-fn header(rate: u32, channels: u16, size: u32) -> [u8; 44]
+pub(crate) fn header(rate: u32, channels: u16, size: u32) -> [u8; 44]
     requires size { size ≤ 4294967259 }
     requires rate { rate * (2 * channels) < 2 ^ 32 }
     requires channels { channels ≤ MOST_CHANNELS }
@@ -53,7 +56,7 @@ fn header(rate: u32, channels: u16, size: u32) -> [u8; 44]
 const WRITE_PIECE: usize = 8192;
 
 /// Writes the samples, a piece at a time.
-fn put_samples<W: Writer>(writer: &mut W, samples: &[i16]) -> Result<(), DeviceFault>
+pub(crate) fn put_samples<W: Writer>(writer: &mut W, samples: &[i16]) -> Result<(), DeviceFault>
     ensures ok { OnOk result (Appends (W.contents writer.old) (W.contents writer.new) (sample_bytes samples.now)) }
     ensures err { OnErr result (AppendsFront (W.contents writer.old) (W.contents writer.new) (sample_bytes samples.now)) }
     ensures counted { W.failures writer.new ≡ failures_after_read result (W.failures writer.old) }
@@ -70,21 +73,29 @@ fn put_samples<W: Writer>(writer: &mut W, samples: &[i16]) -> Result<(), DeviceF
     Ok(())
 }
 
-/// Writes a file whose samples stand behind this header.
-fn put_file<W: Writer>(writer: &mut W, header: &[u8], samples: &[i16]) -> Result<(), DeviceFault>
-    ensures ok { OnOk result (Appends (W.contents writer.old) (W.contents writer.new) (header.now ++ sample_bytes samples.now)) }
-    ensures err { OnErr result (AppendsFront (W.contents writer.old) (W.contents writer.new) (header.now ++ sample_bytes samples.now)) }
-    ensures counted { W.failures writer.new ≡ failures_after_read result (W.failures writer.old) }
-{
-    put_all(writer, header)?;
-    put_samples(writer, samples)
-}
-
 /// The most bytes a second that the header can say.
-const MAX_BYTES_A_SECOND: u64 = 4_294_967_295;
+pub(crate) const MAX_BYTES_A_SECOND: u64 = 4_294_967_295;
 
 /// The most bytes of data that the header can say: 36 more stand behind the first eight bytes of the file.
-const MAX_DATA: usize = 4_294_967_259;
+pub(crate) const MAX_DATA: u64 = 4_294_967_259;
+
+/// Writes a whole content in one piece.
+fn put_content<W: Writer>(
+    writer: &mut W,
+    content: ContentOut,
+    samples: &[i16],
+) -> Result<(), WavFault>
+    requires unspent { content.spent ≡ false }
+    requires frames { length samples.now % content.channels ≡ 0 }
+    requires whole { content.missing * content.channels ≡ length samples.now }
+    requires ends { content.missing ≡ length samples.now / content.channels }
+    ensures writes { Puts (W.contents writer.old) (W.contents writer.new) (sample_bytes samples.now) result }
+    ensures counted { W.failures writer.new ≡ failures_after result (W.failures writer.old) }
+{
+    let mut out = WavOut::over(writer, content);
+    out.put(samples)?;
+    out.end()
+}
 
 /// Writes the canonical file of a sound: RIFF/WAVE with one `fmt ` chunk of 16 bytes and one `data` chunk. Fails by
 /// `RateTooLarge`, or else `TooLong`, before the first byte; after `Write` a front of the file is written.
@@ -99,15 +110,12 @@ pub fn write_wav<W: Writer>(writer: &mut W, wav: &Wav) -> Result<(), WavFault>
     ensures counted { W.failures writer.new ≡ failures_after result (W.failures writer.old) }
     ensures device { IsErrOf result WavFault.Write → Failed (W.failures writer.old) (W.failures writer.new) }
 {
-    let rate = wav.rate();
-    let channels = wav.channels();
     let samples = wav.samples();
-    if u64::from(rate) * (2 * u64::from(channels)) > MAX_BYTES_A_SECOND {
-        return Err(WavFault::Format(FormatFault::RateTooLarge));
-    }
-    if samples.len() > MAX_DATA / 2 {
-        return Err(WavFault::Format(FormatFault::TooLong));
-    }
-    let header = header(rate, channels, (2 * samples.len()) as u32);
-    put_file(writer, &header, samples).map_err(|_| WavFault::Write)
+    let content = ContentOut::start(
+        writer,
+        u64::from(wav.rate()),
+        wav.channels(),
+        wav.frames() as u64,
+    )?;
+    put_content(writer, content, samples)
 }

@@ -2,11 +2,11 @@
 
 ghost use Rattle.std.specs.Prelude.{◌≡◌, ◌≢◌};
 ghost use Rattle.std.specs.IoError.{error_kind};
-ghost use Rattle.sdfw.specs.declared.fault.Fault.TheVariants.{OutOfMemory};
+ghost use Rattle.sdf_process.specs.declared.fault.Fault.TheVariants.{OutOfMemory};
 
-use crate::fault::Fault;
 use indexmap::IndexSet;
 use sdf_file::{Design, design_files, read_design};
+use sdf_process::Fault;
 use std::alloc::Global;
 use std::fs;
 use std::io::{self, ErrorKind, Read};

@@ -1,31 +1,18 @@
 //! The program `sdfw`: synchronous dataflow graphs over 16-bit PCM WAV files.
 //!
-//! It stands on all crates of the workspace. Begin at `process`, from bytes to bytes, whose contract carries what the project
-//! is for; then `plan` and `command_line`. The definitions are in `specs/Output.antt`, `specs/Run.antt` and `specs/Plans.antt`.
+//! It stands on `sdf_words`, which reads the command line, on `sdf_process`, which plans and runs a design, and on `sdf_file`, which
+//! reads it; here are the files and what is printed. Begin at `program`, then `files`. What the project is for is the contract of
+//! `sdf_process::process`.
 #![tactic(auto)]
 
-mod arguments;
-mod command_line;
-mod exchange;
-mod explain;
-mod fault;
 mod files;
-mod laws;
-mod options;
-mod placement;
-mod plan;
-mod planning;
-mod printable;
-mod process;
 mod program;
-mod samples;
-mod schedule;
 #[cfg(test)]
 mod tests;
 
-use arguments::arguments;
-use fault::Fault;
 use program::{obey, tell};
+use sdf_process::Fault;
+use sdf_words::arguments::arguments;
 use std::env::Env;
 use std::process::ExitCode;
 use std::rt::Files;

@@ -1,19 +1,17 @@
 //! What the program does for each command.
 
 ghost use Rattle.std.specs.Prelude.{◌≡◌, ◌⊎◌};
-ghost use Rattle.sdfw.specs.Statuses.{status_of};
-ghost use Rattle.sdfw.specs.declared.fault.Fault.TheVariants.{OutOfMemory};
+ghost use Rattle.sdf_process.specs.Statuses.{status_of};
+ghost use Rattle.sdf_process.specs.declared.fault.Fault.TheVariants.{OutOfMemory};
 
-use crate::command_line::{WordFault, words};
-use crate::explain::explained;
-use crate::fault::{Fault, fault_text, status};
 use crate::files::{MOST_BYTES, device_fault, load};
-use crate::options::{Options, Words};
-use crate::planning::plan;
-use crate::process::process;
-use crate::schedule::schedule;
 use sdf_file::check_text;
+use sdf_process::planning::plan;
+use sdf_process::process::process;
+use sdf_process::schedule::schedule;
+use sdf_process::{Fault, fault_text, status};
 use sdf_wav::{FromRead, ToWrite};
+use sdf_words::{Options, WordFault, Words, explained, words};
 use std::fmt::Display;
 use std::fs;
 use std::rt::Files;

@@ -1,13 +1,4 @@
-//! What no clause says: worked designs, printed texts, the words of the command line, and real files.
+//! What no clause says: commands over real files, and devices that refuse.
 
-mod cycles;
-mod designs;
-mod faults;
 mod files;
-mod lines;
 mod refused;
-mod rows;
-mod running;
-mod runs;
-mod schedules;
-mod words;

@@ -54,6 +54,10 @@ impl Actor for Sum {
         Ok(0)
     }
 
+    fn again(&self, _alloc: Global, state: &i64) -> Result<i64, AllocError> {
+        Ok(*state)
+    }
+
     #[tactic(auto, using(std::proofs::lemmas::Int::wraps))]
     fn fire(&self, _phase: u32, state: &mut i64, taken: &[i64], put: &mut [i64]) {
         *state = state.wrapping_add(taken[0]);
@@ -105,6 +109,10 @@ impl Actor for Swap {
 
     fn start(&self, _alloc: Global) -> Result<u8, AllocError> {
         Ok(0)
+    }
+
+    fn again(&self, _alloc: Global, state: &u8) -> Result<u8, AllocError> {
+        Ok(*state)
     }
 
     fn fire(&self, _phase: u32, _state: &mut u8, taken: &[[u8; 2]], put: &mut [[u8; 2]]) {
@@ -175,6 +183,10 @@ impl Actor for Deal {
 
     fn start(&self, _alloc: Global) -> Result<u8, AllocError> {
         Ok(0)
+    }
+
+    fn again(&self, _alloc: Global, state: &u8) -> Result<u8, AllocError> {
+        Ok(*state)
     }
 
     fn fire(&self, phase: u32, _state: &mut u8, taken: &[i32], put: &mut [i32]) {

@@ -1,14 +1,13 @@
 //! Opens and writes that are refused, for want of memory or for another cause.
 
-use super::designs::HALF;
-use super::files::{FILTERED, ends, folder};
-use super::running::file_of;
+use super::files::{FILTERED, PLAIN, SOUND, ends, folder};
 use crate::program::obey;
 use std::alloc::{Alloc, Allocator, Global};
 use std::fmt::Display;
 use std::fs;
 use std::fs::{File, Metadata, OpenOptions};
 use std::io::{self, Error, ErrorKind};
+use std::process::Abort;
 use std::rt::Files;
 use std::test::Fail;
 use std::thread::Threads;
@@ -114,6 +113,55 @@ fn refused<T: Threads + AllocGlobal + Sync>(
     ends(&refusing, threads, line)
 }
 
+/// Whether it ends so.
+fn ends_refused<T: Abort + Threads + AllocGlobal + Sync>(
+    rt: &HostRuntime,
+    threads: &T,
+    ending: &str,
+    kind: ErrorKind,
+    line: &[&str],
+    code: u8,
+    text: &str,
+) -> Result<(), Fail> {
+    let (status, said) = refused(rt, threads, ending, kind, line)?;
+    assert_eq!(threads; (status, said.as_str()), (code, text), "{ending} {line:?}");
+    Ok(())
+}
+
+/// Each file of a run refused in turn, for want of memory and for another cause.
+fn each_refused<T: Abort + Threads + AllocGlobal + Sync>(
+    rt: &HostRuntime,
+    threads: &T,
+    line: &[&str],
+) -> Result<(), Fail> {
+    for (ending, code, text) in [
+        ("graph.toml", 5, "sdfw: 47 Read\n"),
+        ("one.toml", 3, "sdfw: 58 NoFile file one.toml\n"),
+        ("in.wav", 5, "sdfw: 47 Read\n"),
+        ("out.wav", 5, "sdfw: 48 Write\n"),
+    ] {
+        ends_refused(
+            rt,
+            threads,
+            ending,
+            ErrorKind::PermissionDenied,
+            line,
+            code,
+            text,
+        )?;
+        ends_refused(
+            rt,
+            threads,
+            ending,
+            ErrorKind::OutOfMemory,
+            line,
+            6,
+            "sdfw: 1 OutOfMemory\n",
+        )?;
+    }
+    Ok(())
+}
+
 #[test]
 fn refused_opens(rt: HostRuntime) -> Result<(), Fail> {
     let alloc = rt.alloc();
@@ -124,41 +172,25 @@ fn refused_opens(rt: HostRuntime) -> Result<(), Fail> {
     let output = format!(in alloc; "{folder}/out.wav")?;
     fs::write(&rt, graph.as_str(), FILTERED)?;
     fs::write(&rt, taps.as_str(), "format = 1\nvalues = [1]\n")?;
-    fs::write(
+    fs::write(&rt, input.as_str(), SOUND.as_slice())?;
+    each_refused(
         &rt,
-        input.as_str(),
-        file_of(alloc, 8000, 1, &[1])?.as_slice(),
-    )?;
-    let line = [
-        "sdfw",
-        "run",
-        graph.as_str(),
-        input.as_str(),
-        output.as_str(),
-    ];
-    for (ending, code, text) in [
-        ("graph.toml", 5, "sdfw: 47 Read\n"),
-        ("one.toml", 3, "sdfw: 58 NoFile file one.toml\n"),
-        ("in.wav", 5, "sdfw: 47 Read\n"),
-        ("out.wav", 5, "sdfw: 48 Write\n"),
-    ] {
-        let (status, said) = refused(&rt, &rt, ending, ErrorKind::PermissionDenied, &line)?;
-        assert_eq!(rt; (status, said.as_str()), (code, text));
-        let (status, said) = refused(&rt, &rt, ending, ErrorKind::OutOfMemory, &line)?;
-        assert_eq!(rt;
-            (status, said.as_str()),
-            (6, "sdfw: 1 OutOfMemory\n"),
-            "{ending}"
-        );
-    }
-    Ok(())
+        &rt,
+        &[
+            "sdfw",
+            "run",
+            graph.as_str(),
+            input.as_str(),
+            output.as_str(),
+        ],
+    )
 }
 
 #[test]
 fn refused_answers(rt: HostRuntime) -> Result<(), Fail> {
     let folder = folder(&rt, "answers")?;
     let graph = format!(in rt.alloc(); "{folder}/graph.toml")?;
-    fs::write(&rt, graph.as_str(), HALF)?;
+    fs::write(&rt, graph.as_str(), PLAIN)?;
     for line in [
         ["sdfw", "check", graph.as_str()].as_slice(),
         ["sdfw", "explain", "5"].as_slice(),
@@ -166,12 +198,15 @@ fn refused_answers(rt: HostRuntime) -> Result<(), Fail> {
         ["sdfw", "run", "--help"].as_slice(),
         ["sdfw", "--version"].as_slice(),
     ] {
-        let (status, said) = refused(&rt, &rt, "no file", ErrorKind::BrokenPipe, line)?;
-        assert_eq!(rt;
-            (status, said.as_str()),
-            (5, "sdfw: 48 Write\n"),
-            "{line:?}"
-        );
+        ends_refused(
+            &rt,
+            &rt,
+            "no file",
+            ErrorKind::BrokenPipe,
+            line,
+            5,
+            "sdfw: 48 Write\n",
+        )?;
     }
     let (status, _) = refused(
         &rt,

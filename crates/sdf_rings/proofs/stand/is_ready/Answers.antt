@@ -5,7 +5,7 @@ use Rattle.sdf_actor.specs.Wires.{lists}
 use Rattle.sdf_actor.specs.declared.sides.Side.TheVariants.{Input, Output}
 use Rattle.sdf_actor.specs.Nets.{node}
 use Rattle.sdf_rings.specs.Ends.{HoldsEach, HasRoomEach}
-use Rattle.sdf_rings.specs.Sizes.{sizes}
+use Rattle.sdf_answer.specs.Sizes.{sizes}
 use Rattle.sdf_rings.proofs.Looks.{gave_none}
 use Rattle.sdf_rings.proofs.Looking.{looked_stand, looked_moved}
 use Rattle.sdf_rings.proofs.Standing.{ins_row, outs_row, holds_by_row, holds_by_firing, room_by_row, room_by_firing}

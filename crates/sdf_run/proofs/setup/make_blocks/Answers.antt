@@ -1,7 +1,7 @@
 use Rattle.std.proofs.Common.{◌≡◌, ◌≤◌, ℕ, [], ◌∷◌, get_or, vec_len, ap, ◌∙◌, arith, below_more}
 use Rattle.std.specs.List.{sum_by}
 use Rattle.std.proofs.lemmas.List.{get_or_append_left, get_or_push}
-use Rattle.sdf_run.specs.Sizes.{at_phase, rows_on}
+use Rattle.sdf_answer.specs.Sizes.{at_phase, rows_on}
 use Rattle.sdf_run.proofs.Readings.{vec_long}
 use Rattle.sdf_run.proofs.setup.make_blocks.Goals as goal
 
@@ -25,3 +25,9 @@ loop-phase-preserved g c =
           (λ j h. omega (arith, c.loop-phase.invariant.fits j h, c.longer-longest.ensures.one))
           (omega (arith, here, c.longer-longest.ensures.other));
     }
+
+pub returns : goal.returns
+returns g c =
+    let inv = c.loop-phase.invariant in
+    let all : c.loop-phase.phase ≡ c.args.cycle = omega (arith, c.loop-phase-test.false, c.loop-phase.auto.phase-end) in
+    (inv.len ∙ all, λ j h. (inv.each j (omega (arith, h, all)), omega (arith, inv.fits j (omega (arith, h, all)), c.in_ok-extend.ensures)))

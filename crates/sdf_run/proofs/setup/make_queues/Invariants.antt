@@ -2,7 +2,7 @@ use Rattle.std.proofs.Common.{◌≡◌, ◌<◌, ◌+◌, ◌*◌, ℕ, length,
 use Rattle.sdf_graph.specs.Rates.{rates}
 use Rattle.sdf_actor.specs.Nets.{wire}
 use Rattle.sdf_actor.specs.Graphs.{graph_of}
-use Rattle.sdf_run.specs.Blocks.{nothing}
+use Rattle.sdf_answer.specs.Blocks.{nothing}
 use Rattle.sdf_run.proofs.setup.make_queues.Given as goal
 
 abbrev pub invariant-loop-c : goal.invariant-loop-c

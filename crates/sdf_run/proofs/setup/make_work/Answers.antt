@@ -2,7 +2,7 @@ use Rattle.std.proofs.Common.{◌≡◌, ◌<◌, ◌≤◌, length, get_or, vec
 use Rattle.std.specs.List.{sum_by}
 use Rattle.sdf_actor.specs.declared.node.Node.TheVariants.{Inner}
 use Rattle.sdf_actor.specs.Nets.{node}
-use Rattle.sdf_run.specs.Sizes.{at_phase}
+use Rattle.sdf_answer.specs.Sizes.{at_phase}
 use Rattle.sdf_run.proofs.Beginnings.{first_plan, takes_row, puts_row, blocks, begun}
 use Rattle.sdf_run.proofs.setup.make_work.Goals as goal
 

@@ -1,28 +1,30 @@
-use Rattle.std.proofs.Common.{Ok, Err}
+use Rattle.std.proofs.Common.{Err}
 use Rattle.std.proofs.lemmas.Result.{err_from_is_err_and}
-use Rattle.sdf_wav.proofs.Exact.{answers, accepts, refuses}
+use Rattle.sdf_wav.proofs.Exact.{accepts, refuses}
+use Rattle.sdf_wav.proofs.PiecesIn.{whole_answers, unopened_answers}
 use Rattle.sdf_wav.proofs.reading.read_wav.Goals as goal
 
-pub returns-in_err-read_parts-clause-answers : goal.returns-in_err-read_parts-clause-answers
-returns-in_err-read_parts-clause-answers g c =
+pub returns-in_err-content-clause-answers : goal.returns-in_err-content-clause-answers
+returns-in_err-content-clause-answers g c =
     let p = err_from_is_err_and c.from_residual.result c.from_residual.ensures.1 in
-    rw (p.1, p.2) (answers _ _ (Err c.in_err-read_parts.field-0.0) c.in_err-read_parts.ensures.bytes)
+    rw (p.1, p.2) (unopened_answers _ _ c.in_err-content.field-0.0 c.in_err-content.ensures.answers)
 
-pub returns-in_err-read_parts-clause-accepts : goal.returns-in_err-read_parts-clause-accepts
-returns-in_err-read_parts-clause-accepts g c =
+pub returns-in_err-content-clause-accepts : goal.returns-in_err-content-clause-accepts
+returns-in_err-content-clause-accepts g c =
     let p = err_from_is_err_and c.from_residual.result c.from_residual.ensures.1 in
-    rw (p.1, p.2) (accepts _ _ (Err c.in_err-read_parts.field-0.0) c.in_err-read_parts.ensures.bytes)
+    rw (p.1, p.2) (accepts _ _ (Err c.in_err-content.field-0.0) (unopened_answers _ _ c.in_err-content.field-0.0 c.in_err-content.ensures.answers))
 
-pub returns-in_err-read_parts-clause-refuses : goal.returns-in_err-read_parts-clause-refuses
-returns-in_err-read_parts-clause-refuses g c =
+pub returns-in_err-content-clause-refuses : goal.returns-in_err-content-clause-refuses
+returns-in_err-content-clause-refuses g c =
     let p = err_from_is_err_and c.from_residual.result c.from_residual.ensures.1 in
-    rw (p.1, p.2) (refuses _ _ (Err c.in_err-read_parts.field-0.0) c.in_err-read_parts.ensures.bytes)
+    rw (p.1, p.2) (refuses _ _ (Err c.in_err-content.field-0.0) (unopened_answers _ _ c.in_err-content.field-0.0 c.in_err-content.ensures.answers))
 
 pub returns-clause-answers : goal.returns-clause-answers
-returns-clause-answers g c = answers _ _ (Ok c.in_ok-read_parts.field-0) c.in_ok-read_parts.ensures.bytes
+returns-clause-answers g c =
+    whole_answers _ _ _ c.in_ok-content.content c.read_content.result c.in_ok-content.ensures.sound c.in_ok-content.ensures.answers c.read_content.ensures.bytes c.read_content.ensures.format
 
 pub returns-clause-accepts : goal.returns-clause-accepts
-returns-clause-accepts g c = accepts _ _ (Ok c.in_ok-read_parts.field-0) c.in_ok-read_parts.ensures.bytes
+returns-clause-accepts g c = accepts _ _ c.read_content.result (returns-clause-answers g c)
 
 pub returns-clause-refuses : goal.returns-clause-refuses
-returns-clause-refuses g c = refuses _ _ (Ok c.in_ok-read_parts.field-0) c.in_ok-read_parts.ensures.bytes
+returns-clause-refuses g c = refuses _ _ c.read_content.result (returns-clause-answers g c)

@@ -1,8 +1,10 @@
-use Rattle.std.proofs.Common.{◌≡◌, ◌*◌, ◌∙◌, length, map, ap, sym, arith}
+use Rattle.std.proofs.Common.{◌≡◌, ◌*◌, ◌/◌, ◌∙◌, length, map, ap, sym, arith}
 use Rattle.std.specs.List.{range_with_len}
 use Rattle.sdf_kit.specs.Samples.{sample, upsampled}
-use Rattle.sdf_kit.specs.declared.kit.Kit.TheVariants.{Fir, Decimate, Interpolate, Gain, Delay, Table}
-use Rattle.sdf_kit.proofs.KindRuns.{takes, gives, leaves, puts, fir_runs, decimate_runs, interpolate_runs, gain_run, delay_run, table_run}
+use Rattle.sdf_kit.specs.Add.{sum_at}
+use Rattle.sdf_kit.specs.PutsFit.{sum_ones}
+use Rattle.sdf_kit.specs.declared.kit.Kit.TheVariants.{Fir, Decimate, Interpolate, Add, Fork, Gain, Delay, Table}
+use Rattle.sdf_kit.proofs.KindRuns.{takes, gives, leaves, puts, fir_runs, decimate_runs, interpolate_runs, add_run, fork_run, gain_run, delay_run, table_run}
 use Rattle.sdf_kit.proofs.kit.KitActor.fire_at_once.Goals as goal
 
 pub run-requires-clause-taken : goal.run-requires-clause-taken
@@ -75,3 +77,34 @@ returns-in-Delay-clause-state c =
 pub returns-in-Delay-clause-put : goal.returns-in-Delay-clause-put
 returns-in-Delay-clause-put c =
     c.run-in-Delay.ensures.put ∙ puts c.args.self.now (Delay c.in-Delay.d) c.in-Delay.is c.args._phase c.args.many (delay_run c.in-Delay.d c.args.state.now) c.args.taken.now c.requires.taken
+
+pub run-requires-in-Add : goal.run-requires-in-Add
+run-requires-in-Add c =
+    let many : length c.args.put.now ≡ c.args.many * 1 = gives c.args.self.now (Add c.in-Add.a) c.in-Add.is c.args._phase c.args.many 1 (length c.args.put.now) (λ _. omega arith) c.requires.put in
+    let same : c.args.many ≡ length c.args.put.now = omega (arith, many) in
+    takes c.args.self.now (Add c.in-Add.a) c.in-Add.is c.args._phase c.args.many c.in-Add.a (length c.args.taken.now) (λ _. sum_ones 0 c.in-Add.a) c.requires.taken ∙ ap (λ n. n * c.in-Add.a) same
+
+pub run-requires-in-Fork : goal.run-requires-in-Fork
+run-requires-in-Fork c =
+    let many : length c.args.taken.now ≡ c.args.many * 1 = takes c.args.self.now (Fork c.in-Fork.f) c.in-Fork.is c.args._phase c.args.many 1 (length c.args.taken.now) (λ _. omega arith) c.requires.taken in
+    let same : c.args.many ≡ length c.args.taken.now = omega (arith, many) in
+    gives c.args.self.now (Fork c.in-Fork.f) c.in-Fork.is c.args._phase c.args.many c.in-Fork.f (length c.args.put.now) (λ _. sum_ones 0 c.in-Fork.f) c.requires.put ∙ ap (λ n. n * c.in-Fork.f) same
+
+pub returns-in-Add-clause-state : goal.returns-in-Add-clause-state
+returns-in-Add-clause-state c =
+    leaves c.args.self.now (Add c.in-Add.a) c.in-Add.is c.args._phase c.args.many (add_run c.in-Add.a c.args.state.now) c.args.taken.now c.requires.taken
+
+pub returns-in-Add-clause-put : goal.returns-in-Add-clause-put
+returns-in-Add-clause-put c =
+    let many : length c.args.put.now ≡ c.args.many * 1 = gives c.args.self.now (Add c.in-Add.a) c.in-Add.is c.args._phase c.args.many 1 (length c.args.put.now) (λ _. omega arith) c.requires.put in
+    let same : length c.args.put.now ≡ c.args.many = omega (arith, many) in
+    c.run-in-Add.ensures ∙ (ap (λ n. map (sum_at c.in-Add.a c.args.taken.now) (range_with_len 0 n)) same ∙ puts c.args.self.now (Add c.in-Add.a) c.in-Add.is c.args._phase c.args.many (add_run c.in-Add.a c.args.state.now) c.args.taken.now c.requires.taken)
+
+pub returns-in-Fork-clause-state : goal.returns-in-Fork-clause-state
+returns-in-Fork-clause-state c =
+    leaves c.args.self.now (Fork c.in-Fork.f) c.in-Fork.is c.args._phase c.args.many (fork_run c.in-Fork.f c.args.state.now) c.args.taken.now c.requires.taken
+
+pub returns-in-Fork-clause-put : goal.returns-in-Fork-clause-put
+returns-in-Fork-clause-put c =
+    let same : length c.args.put.now ≡ c.args.many * c.in-Fork.f = gives c.args.self.now (Fork c.in-Fork.f) c.in-Fork.is c.args._phase c.args.many c.in-Fork.f (length c.args.put.now) (λ _. sum_ones 0 c.in-Fork.f) c.requires.put in
+    c.run-in-Fork.ensures ∙ (ap (λ n. map (λ i. sample c.args.taken.now (i / c.in-Fork.f)) (range_with_len 0 n)) same ∙ puts c.args.self.now (Fork c.in-Fork.f) c.in-Fork.is c.args._phase c.args.many (fork_run c.in-Fork.f c.args.state.now) c.args.taken.now c.requires.taken)

@@ -4,14 +4,19 @@ use Rattle.sdf_actor.specs.Wires.{lists}
 use Rattle.sdf_rings.specs.declared.seat.Seat.{Seat}
 use Rattle.sdf_rings.specs.Seats.{HasFirst}
 use Rattle.sdf_rings.specs.Rests.{InHand}
-use Rattle.sdf_rings.proofs.Hands.{rings_worked}
+use Rattle.sdf_rings.proofs.Hands.{one_worked, rings_worked}
+use Rattle.sdf_rings.specs.Asks.{IsPlanned}
+use Rattle.sdf_rings.proofs.Planned.{planned_kept}
+use Rattle.std.proofs.Math.ListN.{length-set}
 use Rattle.sdf_rings.proofs.rings.Rings.work_one.Goals as goal
 
 pub invariant_of-self : goal.invariant_of-self
 invariant_of-self g c =
-    let l = ap (λ (v : InHand _ _ _). length v.seats) c.self.view_is in
-    rings_worked g.A.Actor.steps c.self.inside.net.now (lists c.self.inside.inputs.now) c.self.inside.seats.items c.self.inside.places.items c.self.invariant c.args.seat c.index_mut.result.now c.work.new.seat
-    (omega (arith, l, c.requires)) c.index_mut.ensures.value c.work.ensures.seat c.work.ensures.worked
+    let l = ap (λ (v : InHand _ _ _). length v.seats) c.self.view_is in (
+      rings_worked g.A.Actor.steps c.self.inside.net.now (lists c.self.inside.inputs.now) c.self.inside.seats.items c.self.inside.places.items c.self.invariant.0 c.args.seat c.index_mut.result.now c.work.new.seat
+          (omega (arith, l, c.requires)) c.index_mut.ensures.value c.work.ensures.worked c.work.ensures.seat,
+      c.self.invariant.1,
+    )
 
 pub returns-clause-stopped : goal.returns-clause-stopped
 returns-clause-stopped g c = λ e.
@@ -29,3 +34,13 @@ returns-clause-progress g c =
     c.self.view_is
     (λ e. subst (λ (z : Seat _ _ _). z.next < vec_len z.left → HasFirst g.A.Actor.steps c.self.inside.net.now z → 0 < c.work.result)
     (c.index_mut.ensures.value ∙ get_or_default items c.args.seat c.index_mut.result.now e inside) c.work.ensures.progress)
+
+pub returns-clause-planned : goal.returns-clause-planned
+returns-clause-planned g c = λ order cap plan.
+    let l = ap (λ (v : InHand _ _ _). length v.seats) c.self.view_is in
+    let x = c.self.inside in
+    let s = g.A.Actor.steps in
+    let inside : c.args.seat < length x.seats.items = omega (arith, l, c.requires) in
+    let mine = subst (λ (v : InHand _ _ _). IsPlanned s v.net v.seats v.places order cap) (sym c.self.view_is) plan in
+    planned_kept s x.net.now (lists x.inputs.now) x.seats.items _ x.places.items c.self.invariant.0 (length-set x.seats.items c.args.seat c.work.new.seat)
+    (one_worked s x.net.now (lists x.inputs.now) x.seats.items x.places.items c.self.invariant.0 c.args.seat c.index_mut.result.now c.work.new.seat inside c.index_mut.ensures.value c.work.ensures.worked) order cap mine

@@ -1,7 +1,7 @@
 use Rattle.std.proofs.Common.{◌≡◌, ◌*◌, ◌<◌, ℕ, Bool, true, false, IsTrue, length, get_or, refl, sym, ap, ◌∙◌, subst, arith}
 use Rattle.sdf_actor.specs.Nets.{wiring}
-use Rattle.sdf_run.specs.Blocks.{ArePorts}
-use Rattle.sdf_run.specs.Sizes.{at_phase}
+use Rattle.sdf_answer.specs.Blocks.{ArePorts}
+use Rattle.sdf_answer.specs.Sizes.{at_phase}
 use Rattle.sdf_run.specs.Firings.{phase_at}
 use Rattle.sdf_run.proofs.Grown.{Known}
 use Rattle.sdf_run.proofs.Sweeping.{net_known, phase_in, ports_in, may_from, may_holds, holds_along}

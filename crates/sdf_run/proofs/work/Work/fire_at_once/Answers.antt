@@ -4,8 +4,8 @@ use Rattle.std.proofs.Math.Facts.{Fits-le}
 use Rattle.std.proofs.lemmas.List.{length-map, get_or_default}
 use Rattle.std.proofs.lemmas.List.Edits.{length-between}
 use Rattle.sdf_actor.specs.Wires.{lists}
-use Rattle.sdf_run.specs.Blocks.{nothing}
-use Rattle.sdf_run.specs.Firings.{list}
+use Rattle.sdf_answer.specs.Blocks.{nothing}
+use Rattle.sdf_answer.specs.Lists.{list}
 use Rattle.sdf_run.proofs.FiringAtOnce.{fired_source, fired_sink}
 use Rattle.sdf_run.proofs.Readings.{list_fits, list_is}
 use Rattle.sdf_run.proofs.work.Work.fire_at_once.Goals as goal

@@ -1,0 +1,159 @@
+//! Nets that begin with what a run left.
+
+ghost use Rattle.std.specs.Prelude.{◌≡◌, ◌<◌, ℕ, List, [], Some, None, length, map, slice_index_or, IfOk};
+ghost use Rattle.sdf_actor.specs.declared.node.Node.TheVariants.{Sink, Inner};
+ghost use Rattle.sdf_actor.specs.Begun.{MayBegin};
+ghost use Rattle.sdf_actor.specs.BegunSteps.{begun_steps};
+ghost use Rattle.sdf_actor.specs.Graphs.{graph_of};
+ghost use Rattle.sdf_actor.specs.Nets.{no_wire};
+ghost use Rattle.sdf_actor.specs.Rests.{AreWhole, IsRest, IsNodeIn, BeginsWith};
+ghost use Rattle.sdf_actor.specs.Wires.{lists, wire_of, wires};
+
+use crate::actor::Actor;
+use crate::begun::Begun;
+use crate::link::Link;
+use crate::net::Net;
+use crate::node::Node;
+use crate::rest::Rest;
+use sdf_graph::laws::sums_rise;
+use std::alloc::{AllocError, Global};
+
+/// A node, where an actor begins in a state.
+fn node_in<'a, A: Actor>(
+    alloc: Global,
+    node: &'a Node<A>,
+    state: &Option<A::State>,
+) -> Result<Node<Begun<'a, A>>, AllocError>
+    requires { MayBegin A.steps state.now node.now }
+    ensures { IfOk result (λ y. IsNodeIn A.steps (begun_steps A.Actor) state.now node.now y) }
+{
+    match node {
+        Node::Source { ext, block } => Ok(Node::Source {
+            ext: *ext,
+            block: *block,
+        }),
+        Node::Sink { ext, block } => Ok(Node::Sink {
+            ext: *ext,
+            block: *block,
+        }),
+        Node::Inner(actor) => match state {
+            Some(state) => Ok(Node::Inner(Begun::new(actor, actor.again(alloc, state)?))),
+            None => unreachable!(),
+        },
+    }
+}
+
+/// A link that begins with these samples.
+fn link_with<T: Copy>(alloc: Global, link: &Link<T>, held: &[T]) -> Result<Link<T>, AllocError>
+    ensures { IfOk result (λ l. wire_of l ≡ record { from = link.now.from; to = link.now.to; initial = held.now }) }
+{
+    Ok(Link {
+        from: link.from,
+        to: link.to,
+        initial: Vec::from_slice(alloc, held)?,
+    })
+}
+
+/// The nodes, where actors begin in these states.
+fn nodes_in<'a, A: Actor>(
+    alloc: Global,
+    nodes: &'a [Node<A>],
+    states: &[Option<A::State>],
+) -> Result<Vec<Node<Begun<'a, A>>>, AllocError>
+    requires all { length states.now ≡ length nodes.now }
+    requires each { (a : ℕ) → a < length nodes.now → MayBegin A.steps (slice_index_or states.now a None) (slice_index_or nodes.now a (Sink 0 0)) }
+    ensures all { IfOk result (λ v. length v.items ≡ length nodes.now) }
+    ensures each { IfOk result (λ v. (a : ℕ) → a < length nodes.now → IsNodeIn A.steps (begun_steps A.Actor) (slice_index_or states.now a None) (slice_index_or nodes.now a (Sink 0 0)) (slice_index_or v.items a (Sink 0 0))) }
+{
+    let mut begun = Vec::new(alloc);
+    for a in 0..nodes.len() {
+        begun.push(node_in(alloc, &nodes[a], &states[a])?)?;
+    }
+    Ok(begun)
+}
+
+/// The links, where channels begin with these samples.
+fn links_with<T: Copy>(
+    alloc: Global,
+    links: &[Link<T>],
+    held: &[Vec<T>],
+) -> Result<Vec<Link<T>>, AllocError>
+    requires all { length held.now ≡ length links.now }
+    ensures all { IfOk result (λ v. length v.items ≡ length links.now) }
+    ensures each { IfOk result (λ v. (c : ℕ) → c < length links.now → slice_index_or (wires v.items) c no_wire ≡
+        record { from = (slice_index_or (wires links.now) c no_wire).from; to = (slice_index_or (wires links.now) c no_wire).to; initial = slice_index_or (lists held.now) c [] }) }
+{
+    let mut begun = Vec::new(alloc);
+    for c in 0..links.len() {
+        begun.push(link_with(alloc, &links[c], &held[c])?)?;
+    }
+    Ok(begun)
+}
+
+/// The state that a node begins in, where it is an actor.
+fn first_state<A: Actor>(alloc: Global, node: &Node<A>) -> Result<Option<A::State>, AllocError>
+    ensures { IfOk result (λ state. (x : A) → node.now ≡ Inner x → state ≡ Some (A.steps.start x)) }
+{
+    match node {
+        Node::Inner(actor) => Ok(Some(actor.start(alloc)?)),
+        _ => Ok(None),
+    }
+}
+
+/// The states that nodes begin in.
+fn first_states<A: Actor>(
+    alloc: Global,
+    nodes: &[Node<A>],
+) -> Result<Vec<Option<A::State>>, AllocError>
+    ensures all { IfOk result (λ v. length v.items ≡ length nodes.now) }
+    ensures each { IfOk result (λ v. (a : ℕ) → a < length nodes.now → (x : A) → slice_index_or nodes.now a (Sink 0 0) ≡ Inner x → slice_index_or v.items a None ≡ Some (A.steps.start x)) }
+{
+    let mut states = Vec::new(alloc);
+    for node in nodes {
+        states.push(first_state(alloc, node)?)?;
+    }
+    Ok(states)
+}
+
+/// The samples that channels begin with.
+fn first_held<T: Copy>(alloc: Global, links: &[Link<T>]) -> Result<Vec<Vec<T>>, AllocError>
+    ensures { IfOk result (λ v. lists v.items ≡ map (λ w. w.initial) (wires links.now)) }
+{
+    let mut held = Vec::new(alloc);
+    for link in links {
+        held.push(Vec::from_slice(alloc, &link.initial)?)?;
+    }
+    Ok(held)
+}
+
+impl<A: Actor> Net<A> {
+    /// What it begins with: the first states of its actors, and the samples that its channels begin with.
+    pub fn first_rest(&self, alloc: Global) -> Result<Rest<A::Token, A::State>, AllocError>
+        ensures { IfOk result (λ rest. (inputs : List (List A.Token)) → IsRest A.steps self.now inputs (λ _. 0) rest) }
+    {
+        sums_rise();
+        Ok(Rest {
+            states: first_states(alloc, &self.nodes)?,
+            held: first_held(alloc, &self.links)?,
+        })
+    }
+
+    /// The net, where its actors begin in the states of a rest, and its channels with the samples of it.
+    pub fn begun<'a>(
+        &'a self,
+        alloc: Global,
+        rest: &Rest<A::Token, A::State>,
+    ) -> Result<Net<Begun<'a, A>>, AllocError>
+        requires rest { (inputs : List (List A.Token)) × (k : ℕ → ℕ) × AreWhole A.steps self.now k × IsRest A.steps self.now inputs k rest.now }
+        ensures begins { IfOk result (λ net. BeginsWith A.steps (begun_steps A.Actor) self.now rest.now net) }
+        ensures graph { IfOk result (λ net. graph_of (begun_steps A.Actor) net ≡ graph_of A.steps self.now) }
+    {
+        sums_rise();
+        let nodes = nodes_in(alloc, &self.nodes, &rest.states)?;
+        let links = links_with(alloc, &self.links, &rest.held)?;
+        match Net::new(alloc, nodes, links) {
+            Ok(net) => Ok(net),
+            Err(_) => Err(AllocError),
+        }
+    }
+}

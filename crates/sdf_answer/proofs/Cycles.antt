@@ -1,0 +1,132 @@
+-- Each node of a net has phases, and each firing moves the sizes of its phase.
+use Rattle.std.proofs.Common.{◌≡◌, ℕ, ◌+◌, ◌%◌, ◌≤◌, ◌<◌, List, length, map, get_or, refl, sym, ap, ◌∙◌, subst, inl, inr, ◌⊎◌, arith, add-one, Option, Some}
+use Rattle.std.specs.Option.{option_map_or}
+use Rattle.std.proofs.Math.Nat.{mod-mod}
+use Rattle.std.proofs.lemmas.Nat.{mod_below}
+use Rattle.std.proofs.lemmas.Bool.{cases_eq}
+use Rattle.std.proofs.lemmas.List.{get_or-map, length-map}
+use Rattle.std.proofs.lemmas.List.FromFn.{length-map-range_with_len}
+use Rattle.sdf_graph.specs.Rates.{Shape, Edge, IsShape, IsAlike, IsReached, start, along, back, rates, rate_at, sum_to, channel, no_channel}
+use Rattle.sdf_actor.specs.declared.node.Node.{Node}
+use Rattle.sdf_actor.specs.declared.node.Node.TheVariants.{Source, Sink, Inner}
+use Rattle.sdf_actor.specs.declared.sides.Side.TheVariants.{Input, Output}
+use Rattle.sdf_actor.specs.declared.sides.Lists.TheVariants.{Outputs}
+use Rattle.sdf_actor.specs.Steps.{Steps}
+use Rattle.sdf_actor.specs.Nets.{Netlist, node, wire, no_wire, wiring, cycle_of}
+use Rattle.sdf_actor.specs.Graphs.{graph_of, channel_of, rate_of}
+use Rattle.sdf_actor.specs.Sides.{list_of}
+use Rattle.sdf_actor.specs.NetFaults.{HasLists}
+use Rattle.sdf_answer.specs.Sizes.{AreSizes, at_phase, phase_of}
+
+abbrev count : Option ℕ → ℕ
+count o = option_map_or (λ e. e + 1) o 0
+
+-- a channel ends at the actor
+abbrev Touches : Shape → ℕ → Type 0
+Touches g b = (c : ℕ) × (c < length g.channels) × (((channel g c).from ≡ b) ⊎ ((channel g c).to ≡ b))
+
+touched : (g : Shape) (b : ℕ) → IsReached g b → (0 ≡ b) ⊎ Touches g b
+touched g _ start = inl refl
+touched g _ (along c h r) = inr (c, h, inr refl)
+touched g _ (back c h r) = inr (c, h, inl refl)
+
+-- one ends at actor 0, where that is not alone
+first_touched : (g : Shape) (b : ℕ) → IsReached g b → (0 ≡ b → ⊥) → Touches g 0
+first_touched g _ start ne = absurd (ne refl)
+first_touched g _ (along c h r) ne = go (cases_eq 0 (channel g c).from) (first_touched g (channel g c).from r)
+  where
+    go : (0 ≡ (channel g c).from) ⊎ (0 ≡ (channel g c).from → ⊥) → ((0 ≡ (channel g c).from → ⊥) → Touches g 0) → Touches g 0
+    go (inl e) on = (c, h, inl (sym e))
+    go (inr f) on = on f
+first_touched g _ (back c h r) ne = go (cases_eq 0 (channel g c).to) (first_touched g (channel g c).to r)
+  where
+    go : (0 ≡ (channel g c).to) ⊎ (0 ≡ (channel g c).to → ⊥) → ((0 ≡ (channel g c).to → ⊥) → Touches g 0) → Touches g 0
+    go (inl e) on = (c, h, inr (sym e))
+    go (inr f) on = on f
+
+module _ {A S T : Type 0} (s : Steps A S T) (n : Netlist A T) where
+  wires_all : length (graph_of s n).channels ≡ length n.wires
+  wires_all = length-map n.wires (channel_of s n.nodes)
+
+  pub channel_is : (c : ℕ) → c < length n.wires → channel (graph_of s n) c ≡ channel_of s n.nodes (wire n c)
+  channel_is c l = get_or-map (channel_of s n.nodes) n.wires c no_wire no_channel l
+
+  put_long : (c : ℕ) → c < length n.wires → length (channel (graph_of s n) c).put ≡ cycle_of s (node n (wire n c).from.0)
+  put_long c l = ap (λ (e : Edge). length e.put) (channel_is c l) ∙ length-map-range_with_len (rate_of s Output (node n (wire n c).from.0) (wire n c).from.1) 0 (cycle_of s (node n (wire n c).from.0))
+
+  take_long : (c : ℕ) → c < length n.wires → length (channel (graph_of s n) c).take ≡ cycle_of s (node n (wire n c).to.0)
+  take_long c l = ap (λ (e : Edge). length e.take) (channel_is c l) ∙ length-map-range_with_len (rate_of s Input (node n (wire n c).to.0) (wire n c).to.1) 0 (cycle_of s (node n (wire n c).to.0))
+
+  -- a node at a channel has phases
+  phases_at : IsShape (graph_of s n) → (a : ℕ) → Touches (graph_of s n) a → 0 < cycle_of s (node n a)
+  phases_at shape a (c, h, inl e) =
+      let l : c < length n.wires = omega (arith, wires_all, h) in
+      let own : (wire n c).from.0 ≡ a = sym (ap (λ (x : Edge). x.from) (channel_is c l)) ∙ e in
+      let is = shape.put c h in
+      subst (λ b. 0 < cycle_of s (node n b)) own (omega (arith, put_long c l, is.all, is.some))
+  phases_at shape a (c, h, inr e) =
+      let l : c < length n.wires = omega (arith, wires_all, h) in
+      let own : (wire n c).to.0 ≡ a = sym (ap (λ (x : Edge). x.to) (channel_is c l)) ∙ e in
+      let is = shape.take c h in
+      subst (λ b. 0 < cycle_of s (node n b)) own (omega (arith, take_long c l, is.all, is.some))
+
+  -- each node has
+  pub phases : IsShape (graph_of s n) → HasLists n.nodes → (a : ℕ) → a < length n.nodes → 0 < cycle_of s (node n a)
+  phases shape has a known = go (node n a) refl
+    where
+      go : (x : Node A) → node n a ≡ x → 0 < cycle_of s x
+      go (Source ext block) is = omega arith
+      go (Sink ext block) is = omega arith
+      go (Inner x) is = subst (λ y. 0 < cycle_of s y) is (phases_at shape a (at (touched (graph_of s n) a (shape.connected a known))))
+        where
+          at : (0 ≡ a) ⊎ Touches (graph_of s n) a → Touches (graph_of s n) a
+          at (inr here) = here
+          at (inl e) =
+              let sink = has.outputs 0 has.output in
+              let other : 0 ≡ sink.0 → ⊥ = λ f. apart (sym (ap (λ b. list_of Outputs (node n b)) (sym e ∙ f) ∙ sink.2) ∙ ap (list_of Outputs) is) in
+              subst (Touches (graph_of s n)) e (first_touched (graph_of s n) sink.0 (shape.connected sink.0 sink.1) other)
+            where
+              apart : Some 0 ≡ list_of Outputs (Inner x) → ⊥
+              apart same = let none : count (Some 0) ≡ 0 = ap count same in absurd (omega (arith, none))
+
+  -- the rates of a firing are those of its phase
+  turn : (cycle : List ℕ) (many i : ℕ) → length cycle ≡ many → rate_at cycle i ≡ rate_at cycle (i % many)
+  turn cycle many i e = ap (λ k. get_or cycle k 0) (sym (mod-mod i (length cycle)) ∙ ap (λ m. i % m % length cycle) e)
+
+  sum_more : (f : ℕ → ℕ) (i : ℕ) → sum_to f (i + 1) ≡ sum_to f i + f i
+  sum_more f i = rw add-one refl
+
+  module _ (alike : IsAlike (rates (graph_of s n)) (wiring s n).rates) (some : (a : ℕ) → a < length n.nodes → 0 < cycle_of s (node n a))
+      (most : ℕ) (longest : (a : ℕ) → a < length n.nodes → cycle_of s (node n a) ≤ most) (takes puts : List (List ℕ)) (takes_all : length takes ≡ most) (puts_all : length puts ≡ most)
+      (takes_are : (j : ℕ) → j < most → at_phase takes j ≡ map (λ (e : Edge). rate_at e.take j) (graph_of s n).channels)
+      (puts_are : (j : ℕ) → j < most → at_phase puts j ≡ map (λ (e : Edge). rate_at e.put j) (graph_of s n).channels) where
+    below : (a i : ℕ) → a < length n.nodes → phase_of s (node n a) i < most
+    below a i l = omega (arith, mod_below i (cycle_of s (node n a)) (some a l), longest a l)
+
+    -- the sizes made of a net's graph are its sizes
+    pub are_sizes : AreSizes s n (record { takes = takes; puts = puts })
+    are_sizes = record {
+      some = some;
+      takes_known = λ a i l. omega (arith, takes_all, below a i l);
+      puts_known = λ a i l. omega (arith, puts_all, below a i l);
+      plan = λ a i l.
+          let j : ℕ = phase_of s (node n a) i in
+          record {
+            takes_all = ap length (takes_are j (below a i l)) ∙ (length-map (graph_of s n).channels (λ (e : Edge). rate_at e.take j) ∙ wires_all);
+            puts_all = ap length (puts_are j (below a i l)) ∙ (length-map (graph_of s n).channels (λ (e : Edge). rate_at e.put j) ∙ wires_all);
+            taken = λ c h e.
+                let known : c < length (graph_of s n).channels = omega (arith, wires_all, h) in
+                let size : get_or (at_phase takes j) c 0 ≡ rate_at (channel (graph_of s n) c).take j =
+                ap (λ xs. get_or xs c 0) (takes_are j (below a i l)) ∙ get_or-map (λ (e : Edge). rate_at e.take j) (graph_of s n).channels c no_channel 0 known in
+                let same : rate_at (channel (graph_of s n) c).take i ≡ rate_at (channel (graph_of s n) c).take j =
+                turn (channel (graph_of s n) c).take (cycle_of s (node n a)) i (take_long c h ∙ ap (λ b. cycle_of s (node n b)) e) in
+                omega (arith, alike.consumed c i known, alike.consumed c (i + 1) known, sum_more (rate_at (channel (graph_of s n) c).take) i, size, same);
+            put = λ c h e.
+                let known : c < length (graph_of s n).channels = omega (arith, wires_all, h) in
+                let size : get_or (at_phase puts j) c 0 ≡ rate_at (channel (graph_of s n) c).put j =
+                ap (λ xs. get_or xs c 0) (puts_are j (below a i l)) ∙ get_or-map (λ (e : Edge). rate_at e.put j) (graph_of s n).channels c no_channel 0 known in
+                let same : rate_at (channel (graph_of s n) c).put i ≡ rate_at (channel (graph_of s n) c).put j =
+                turn (channel (graph_of s n) c).put (cycle_of s (node n a)) i (put_long c h ∙ ap (λ b. cycle_of s (node n b)) e) in
+                omega (arith, alike.produced c i known, alike.produced c (i + 1) known, sum_more (rate_at (channel (graph_of s n) c).put) i, size, same);
+          };
+    }

@@ -1,0 +1,12 @@
+mod Readings
+mod Periods
+mod Wholes
+mod Sinks
+mod Histories
+mod GoingOn
+mod Cycles
+mod Routes
+mod PortRows
+mod Moves
+mod Feeds
+mod BegunLists

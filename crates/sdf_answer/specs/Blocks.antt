@@ -1,0 +1,32 @@
+-- Blocks taken from queues and put on queues, a part for each port.
+use Rattle.std.specs.Prelude.{◌≡◌, ℕ, ◌≤◌, ◌<◌, ◌+◌, ◌==◌, cond, List, [], ◌∷◌, length, slice_index, slice_index_or}
+use Rattle.sdf_answer.specs.Held.{Held}
+
+abbrev pub nothing : {T : Type 0} → Held T
+nothing = record { samples = []; room = 0 }
+
+-- the samples that stand on channel c, and how many may
+abbrev pub samples : {T : Type 0} → List (Held T) → ℕ → List T
+samples qs c = (slice_index_or qs c nothing).samples
+
+abbrev pub room : {T : Type 0} → List (Held T) → ℕ → ℕ
+room qs c = (slice_index_or qs c nothing).room
+
+-- many, where the channel is one of these
+abbrev pub at_ports : List ℕ → ℕ → ℕ → ℕ
+at_ports [] many c = 0
+at_ports (d ∷ ds) many c = cond (d == c) many (at_ports ds many c)
+
+-- each port is a channel of its own, and has a size
+pub record ArePorts (ports sizes : List ℕ) (channels : ℕ) : Type 0 where
+  pub known : (n : ℕ) → n < length ports → slice_index ports n < channels
+  pub sized : length sizes ≡ channels
+  pub once : (m n : ℕ) → m < length ports → n < length ports → slice_index ports m ≡ slice_index ports n → m ≡ n
+
+-- the queue at each port holds what is taken from it
+abbrev pub HoldBlocks : {T : Type 0} → List ℕ → List ℕ → List (Held T) → Type 0
+HoldBlocks ports sizes qs = (n : ℕ) → n < length ports → slice_index sizes (slice_index ports n) ≤ length (samples qs (slice_index ports n))
+
+-- the queue at each port has room for what is put on it
+abbrev pub HaveRoom : {T : Type 0} → List ℕ → List ℕ → List (Held T) → Type 0
+HaveRoom ports sizes qs = (n : ℕ) → n < length ports → length (samples qs (slice_index ports n)) + slice_index sizes (slice_index ports n) ≤ room qs (slice_index ports n)

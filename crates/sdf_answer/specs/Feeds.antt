@@ -1,0 +1,73 @@
+-- A run that is fed in pieces.
+use Rattle.std.specs.Prelude.{◌≡◌, ◌↔◌, ℕ, ◌+◌, ◌*◌, ◌<◌, List, [], length, slice_index_or}
+use Rattle.std.specs.List.{flat_map}
+use Rattle.sdf_sched.specs.Period.{Schedule}
+use Rattle.sdf_actor.specs.declared.node.Node.TheVariants.{Sink}
+use Rattle.sdf_actor.specs.declared.rest.Rest.{Rest}
+use Rattle.sdf_actor.specs.declared.sides.Lists.TheVariants.{Inputs, Outputs}
+use Rattle.sdf_actor.specs.Histories.{taken_before}
+use Rattle.sdf_actor.specs.Nets.{Netlist, node, wiring, arrived, IsNet, IsHistoryOf}
+use Rattle.sdf_actor.specs.Rests.{Leaves, IsRest, BeginsWith, AreJoined}
+use Rattle.sdf_actor.specs.Sides.{list_count, period_samples}
+use Rattle.sdf_actor.specs.Steps.{Steps}
+use Rattle.sdf_answer.specs.Answer.{HasInputs, periods_of}
+use Rattle.sdf_answer.specs.Periods.{HasPeriod}
+
+-- the outputs of the history where each node a has fired k a times, and what that history leaves
+pub record HasRun {A S T : Type 0} (s : Steps A S T) (n : Netlist A T) (inputs : List (List T)) (k : ℕ → ℕ) (outputs : List (List T)) (rest : Rest T S) : Type 0 where
+  pub history : ℕ → List T
+  pub is : IsHistoryOf s n inputs k history
+  pub count : length outputs ≡ list_count Outputs n.nodes
+  pub each : (a e block : ℕ) → a < length n.nodes → node n a ≡ Sink e block → slice_index_or outputs e [] ≡ arrived s n k history a
+  pub left : Leaves s n k history rest
+
+-- the input lists hold the samples of so many periods of q, and no more
+abbrev pub AreFull : {A T : Type 0} → Netlist A T → List ℕ → ℕ → List (List T) → Type 0
+AreFull n q periods inputs = (e : ℕ) → e < length inputs → length (slice_index_or inputs e []) ≡ periods * period_samples n.nodes Inputs q
+
+-- a run of net n on the first lists, and then one of the net that begins with what it left, on the later ones, are a run of net n on
+-- both joined: its outputs are theirs joined, and it leaves what the later one leaves
+abbrev pub FeedsGoOn : {A B S T : Type 0} → Steps A S T → Steps B S T → Type 0
+FeedsGoOn {A} {B} {S} {T} s r =
+    (n : Netlist A T) (m : Netlist B T) (p : Schedule) (few more : ℕ) (first later all made on joined : List (List T)) (rest last : Rest T S) →
+    HasPeriod s n p → HasInputs n p.repetitions few first → AreFull n p.repetitions few first →
+    HasRun s n first (periods_of p.repetitions few) made rest → BeginsWith s r n rest m → HasRun r m later (periods_of p.repetitions more) on last →
+    AreJoined first later all → AreJoined made on joined → length joined ≡ length made →
+    HasRun s n all (periods_of p.repetitions (few + more)) joined last
+
+-- where each node has fired so many periods of q, the lists of what the sinks took and what is left are a run
+abbrev pub SinksMakeRuns : {A S T : Type 0} → Steps A S T → Type 0
+SinksMakeRuns {A} {S} {T} s =
+    (n : Netlist A T) (inputs : List (List T)) (q : List ℕ) (periods : ℕ) (k : ℕ → ℕ) (V : ℕ → List T) (outputs : List (List T)) (rest : Rest T S) →
+    IsNet s n → IsHistoryOf s n inputs k V → ((a : ℕ) → a < length n.nodes → k a ≡ periods_of q periods a) → length outputs ≡ list_count Outputs n.nodes →
+    ((a ext block : ℕ) → a < length n.nodes → node n a ≡ Sink ext block → slice_index_or outputs ext [] ≡ flat_map (λ (b : List T). b) (taken_before (wiring s n) V a (k a))) →
+    Leaves s n k V rest → HasRun s n inputs (periods_of q periods) outputs rest
+
+-- where the inputs hold no sample, empty lists and what the net begins with are one
+abbrev pub NothingRuns : {A S T : Type 0} → Steps A S T → Type 0
+NothingRuns {A} {S} {T} s =
+    (n : Netlist A T) (q : List ℕ) (periods : ℕ) (inputs outputs : List (List T)) (rest : Rest T S) →
+    IsNet s n → HasInputs n q periods inputs → 0 < length inputs → 0 < period_samples n.nodes Inputs q → length (slice_index_or inputs 0 []) ≡ 0 →
+    length outputs ≡ list_count Outputs n.nodes → ((e : ℕ) → e < length outputs → slice_index_or outputs e [] ≡ []) →
+    IsRest s n inputs (λ _. 0) rest → HasRun s n inputs (periods_of q periods) outputs rest
+
+-- a net that begins with a rest is given the same inputs
+abbrev pub BegunNetsAsk : {A B S T : Type 0} → Steps A S T → Steps B S T → Type 0
+BegunNetsAsk {A} {B} {S} {T} s r =
+    (n : Netlist A T) (rest : Rest T S) (m : Netlist B T) (q : List ℕ) (periods : ℕ) (inputs : List (List T)) → BeginsWith s r n rest m →
+    HasInputs m q periods inputs ↔ HasInputs n q periods inputs
+
+-- and makes as many outputs
+abbrev pub BegunNetsMake : {A B S T : Type 0} → Steps A S T → Steps B S T → Type 0
+BegunNetsMake {A} {B} {S} {T} s r =
+    (n : Netlist A T) (rest : Rest T S) (m : Netlist B T) → BeginsWith s r n rest m → list_count Outputs m.nodes ≡ list_count Outputs n.nodes
+
+-- a run goes on by so many periods on the later lists: whatever run left the rest, with nothing unread, the outputs are what it then makes
+-- beyond that, and the last rest is what it leaves
+pub record GoesOnBy {A S T : Type 0} (s : Steps A S T) (n : Netlist A T) (q : List ℕ) (rest : Rest T S) (more : ℕ) (later on : List (List T)) (last : Rest T S) : Type 0 where
+  pub given : HasInputs n q more later
+  pub count : length on ≡ list_count Outputs n.nodes
+  pub runs : (few : ℕ) (first all made joined : List (List T)) →
+      HasInputs n q few first → AreFull n q few first → HasRun s n first (periods_of q few) made rest →
+      AreJoined first later all → AreJoined made on joined → length joined ≡ length made →
+      HasRun s n all (periods_of q (few + more)) joined last

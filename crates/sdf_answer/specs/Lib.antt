@@ -1,0 +1,11 @@
+pub mod Answer
+pub mod Rows
+pub mod Lists
+pub mod Held
+pub mod Blocks
+pub mod Sizes
+pub mod Periods
+pub mod Moves
+pub mod GraphLaws
+pub mod Laws
+pub mod Feeds

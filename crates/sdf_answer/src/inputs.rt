@@ -1,0 +1,37 @@
+//! The input lists of a run.
+
+ghost use Rattle.std.specs.Prelude.{◌≡◌, ◌≤◌, ◌<◌, ◌↔◌, ℕ, List, [], length, slice_index_or, IsTrue, IfNone};
+ghost use Rattle.sdf_actor.specs.Wires.{lists};
+ghost use Rattle.sdf_answer.specs.Answer.{AreInputs};
+
+/// Whether a list has that length and is not shorter than the least.
+fn is_input<T>(list: &Vec<T>, len: usize, least: usize) -> bool
+    ensures { IsTrue result ↔ (length list.now.items ≡ len) × (least ≤ length list.now.items) }
+{
+    list.len() == len && least <= list.len()
+}
+
+/// Whether there are so many lists, all of one length and none shorter than the least.
+pub fn are_inputs<T>(inputs: &[Vec<T>], many: usize, least: usize) -> bool
+    ensures { IsTrue result ↔ AreInputs many least (lists inputs.now) }
+{
+    if inputs.len() != many {
+        return false;
+    }
+    for list in inputs {
+        if !is_input(list, inputs[0].len(), least) {
+            return false;
+        }
+    }
+    true
+}
+
+/// The first sample of the first list.
+pub fn first_sample<T: Copy>(inputs: &[Vec<T>]) -> Option<T>
+    ensures { IfNone result (length (slice_index_or (lists inputs.now) 0 []) ≡ 0) }
+{
+    if inputs.is_empty() || inputs[0].is_empty() {
+        return None;
+    }
+    Some(inputs[0][0])
+}

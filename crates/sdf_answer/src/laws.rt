@@ -1,0 +1,121 @@
+//! Laws over the definitions, each the contract of a function that does nothing but call laws of lower crates.
+
+ghost use Rattle.std.specs.Prelude.{◌<◌, ℕ, List, length};
+ghost use Rattle.sdf_graph.specs.Rates.{rates, IsShape, IsAlike};
+ghost use Rattle.sdf_sched.specs.Period.{IsPeriodOf};
+ghost use Rattle.sdf_actor.specs.Graphs.{graph_of};
+ghost use Rattle.sdf_actor.specs.Nets.{node, wiring, cycle_of, IsNet};
+ghost use Rattle.sdf_actor.specs.NetFaults.{IsAccepted};
+ghost use Rattle.sdf_answer.specs.Feeds.{FeedsGoOn, BegunNetsAsk, BegunNetsMake, SinksMakeRuns, NothingRuns};
+ghost use Rattle.sdf_answer.specs.GraphLaws.{GraphLaws};
+ghost use Rattle.sdf_answer.specs.Periods.{HasPeriod, HasSinks};
+ghost use Rattle.sdf_answer.specs.Laws.{RunsGoOn, NetsCanRun, HistoriesBegin, SinksTakeAll, SinksMakeOutputs, NothingMakesNothing};
+ghost use Rattle.sdf_answer.specs.Laws.{BlocksAreCounted, PlansFit, BlocksStand, FiringsMoveOn};
+
+use sdf_actor::laws::{
+    histories_grow, history_grows_by_firing, nets_are_wired, one_history, periods_are_whole,
+    rests_go_on, taken_stays,
+};
+use sdf_actor::{Actor, Net};
+use sdf_graph::laws::{
+    alike_sequences, graphs_are_sound, graphs_have_periods, one_least_period, periods_repeat,
+};
+use sdf_sched::Period;
+
+/// The facts that a run stands on, as the net's accessors have them.
+pub fn net_facts<A: Actor>(net: &Net<A>)
+    ensures net { IsNet A.steps net.now }
+    ensures graph { IsShape (graph_of A.steps net.now) }
+    ensures alike { IsAlike (rates (graph_of A.steps net.now)) (wiring A.steps net.now).rates }
+    ensures accepted { (q : List ℕ) × IsAccepted A.steps net.now q }
+    ensures phases { (a : ℕ) → a < length net.now.nodes → 0 < cycle_of A.steps (node net.now a) }
+    ensures sinks { HasSinks net.now }
+{
+    let _channels = net.graph().channels();
+    let _repetitions = net.repetitions();
+}
+
+/// A net and one period of it have what the laws of runs want.
+pub fn nets_have_periods<A: Actor>(net: &Net<A>, period: &Period)
+    requires { IsPeriodOf (rates (graph_of A.steps net.now)) period.now }
+    ensures { HasPeriod A.steps net.now period.now }
+{
+    let _ = period;
+    net_facts(net);
+}
+
+/// The laws of graphs that the laws of runs stand on.
+fn graph_laws()
+    ensures { GraphLaws }
+{
+    graphs_are_sound();
+    graphs_have_periods();
+    one_least_period();
+    periods_repeat();
+    alike_sequences();
+}
+
+/// A net that has a period can be run for as many as its inputs reach.
+pub fn nets_can_run<A: Actor>()
+    ensures { NetsCanRun A.steps }
+{
+    graph_laws();
+}
+
+/// A run of more periods goes on where one of fewer ends: its outputs begin with those.
+pub fn runs_go_on<A: Actor>()
+    ensures { RunsGoOn A.steps }
+{
+    graph_laws();
+    nets_are_wired::<A>();
+    one_history::<A>();
+    histories_grow::<A>();
+}
+
+/// A run that is fed in pieces makes, joined, what one run makes, and leaves what it leaves.
+pub fn feeds_go_on<A: Actor, B: Actor<Token = A::Token, State = A::State>>()
+    ensures runs { FeedsGoOn A.steps B.steps }
+    ensures inputs { BegunNetsAsk A.steps B.steps }
+    ensures outputs { BegunNetsMake A.steps B.steps }
+{
+    graph_laws();
+    periods_are_whole::<A>();
+    rests_go_on::<A, B>();
+}
+
+/// A history begins with what the channels begin with, and what its sinks took are the outputs.
+pub fn histories_make_outputs<A: Actor>()
+    ensures begin { HistoriesBegin A.steps }
+    ensures took { SinksTakeAll A.steps }
+    ensures outputs { SinksMakeOutputs A.steps }
+    ensures nothing { NothingMakesNothing A.steps }
+{
+    nets_are_wired::<A>();
+}
+
+/// What its sinks took and what is left is a run.
+pub fn histories_make_runs<A: Actor>()
+    ensures runs { SinksMakeRuns A.steps }
+    ensures nothing { NothingRuns A.steps }
+{
+    nets_are_wired::<A>();
+}
+
+/// The sizes of a firing fit its node's ports.
+pub fn plans_fit<A: Actor>()
+    ensures { PlansFit A.steps }
+{
+    nets_are_wired::<A>();
+}
+
+/// A firing of an enabled node takes its block from the front of its channels, and they go on from one history to the next.
+pub fn firings_move_on<A: Actor>()
+    ensures counts { BlocksAreCounted A.steps }
+    ensures stand { BlocksStand A.steps }
+    ensures moves { FiringsMoveOn A.steps }
+{
+    nets_are_wired::<A>();
+    plans_fit::<A>();
+    taken_stays::<A>();
+    history_grows_by_firing::<A>();
+}

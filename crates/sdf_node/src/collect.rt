@@ -1,0 +1,37 @@
+//! The lists that sinks made.
+
+ghost use Rattle.std.specs.Prelude.{◌≡◌, ◌<◌, ℕ, length};
+ghost use Rattle.std.specs.declared.vec.Vec.{Vec};
+ghost use Rattle.std.specs.Global.{Global};
+ghost use Rattle.sdf_actor.specs.declared.node.Node.TheVariants as kind;
+ghost use Rattle.sdf_node.specs.declared.node.NodeState.TheVariants.{Sink};
+ghost use Rattle.sdf_node.specs.Collected.{IsCollected};
+
+use crate::node::NodeState;
+use sdf_actor::{Actor, Node};
+use std::mem;
+
+/// Changes the list of a sink for another.
+fn swap_list<T, S>(state: &mut NodeState<T, S>, list: &mut Vec<T>)
+    ensures { (made : Vec T Global) → state.old ≡ Sink made → list.new ≡ made }
+{
+    if let NodeState::Sink(made) = state {
+        mem::swap(made, list);
+    }
+}
+
+/// Takes the list of a node, where it is a sink, to its number. It takes no memory.
+pub fn collect_at<A: Actor>(
+    node: &Node<A>,
+    state: &mut NodeState<A::Token, A::State>,
+    outputs: &mut [Vec<A::Token>],
+)
+    requires { (ext block : ℕ) → node.now ≡ kind.Sink ext block → ext < length outputs.old }
+    ensures { IsCollected node.now state.old outputs.old outputs.new }
+{
+    match node {
+        Node::Sink { ext, .. } => swap_list(state, &mut outputs[usize::from(*ext)]),
+        Node::Source { .. } => {}
+        Node::Inner(_) => {}
+    }
+}

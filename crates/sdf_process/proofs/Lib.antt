@@ -1,0 +1,11 @@
+pub mod Sizes
+pub mod Lists
+pub mod Running
+pub mod Fronts
+pub mod Devices
+pub mod Sounds
+pub mod Rendering
+pub mod Deadlocks
+pub mod Outputs
+pub mod Suiting
+pub mod Tabling

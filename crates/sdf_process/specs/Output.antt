@@ -1,0 +1,93 @@
+-- The output of a design and a WAV file.
+use Rattle.std.specs.Prelude.{◌≡◌, ℕ, ◌+◌, ◌-◌, ◌*◌, ◌/◌, ◌%◌, ◌<◌, ◌≤◌, nat_lt, not, ◌==◌, if◌then◌else◌, ℤ, pos, List, map, option_map, slice_index_or, Option, Some, None}
+use Rattle.std.specs.Int.{w16, saturate_signed}
+use Rattle.std.specs.List.{flat_map, range_with_len}
+use Rattle.sdf_wav.specs.Sound.{Sound, frames_of}
+use Rattle.sdf_wav.specs.Canonical.{size_fault}
+use Rattle.sdf_wav.specs.declared.wav.TheConstants.{MOST_CHANNELS}
+use Rattle.sdf_actor.specs.Nets.{Netlist}
+use Rattle.sdf_actor.specs.Sides.{list_count, period_samples}
+use Rattle.sdf_actor.specs.declared.sides.Lists.TheVariants.{Inputs, Outputs}
+use Rattle.sdf_process.specs.declared.exchange.Exchange.{Exchange}
+use Rattle.sdf_process.specs.declared.exchange.Extent.{Extent}
+use Rattle.sdf_process.specs.declared.fault.Fault.{Fault}
+use Rattle.sdf_process.specs.declared.fault.Fault.TheVariants.{Wav, ChannelsMissing, RateNotWhole}
+
+-- what a net of least period vector q exchanges with files in a period
+abbrev pub exchange_of : {A : Type 0} → Netlist A ℤ → List ℕ → Exchange
+exchange_of n q = record {
+  inputs = list_count Inputs n.nodes;
+  outputs = list_count Outputs n.nodes;
+  taken = period_samples n.nodes Inputs q;
+  made = period_samples n.nodes Outputs q;
+}
+
+-- as many periods as it takes to read all frames
+abbrev pub periods_of : Exchange → Sound → ℕ
+periods_of x s = (frames_of s + (x.taken - 1)) / x.taken
+
+-- frames a second of the output
+abbrev pub output_rate : Exchange → Sound → ℕ
+output_rate x s = s.rate * x.made / x.taken
+
+-- frames of the output: those of whole periods
+abbrev pub output_frames : Exchange → Sound → ℕ
+output_frames x s = periods_of x s * x.made
+
+-- why there is no output, if there is none
+abbrev pub output_fault : Exchange → Sound → Option Fault
+output_fault x s =
+    if nat_lt s.channels x.inputs then Some ChannelsMissing
+    else (if not (s.rate * x.made % x.taken == 0) then Some RateNotWhole
+    else option_map Wav (size_fault (output_rate x s) x.outputs (output_frames x s * x.outputs)))
+
+-- sample i of channel e; there are zeros past the last frame
+abbrev pub sample : Sound → ℕ → ℕ → ℤ
+sample s e i = slice_index_or s.samples (i * s.channels + e) (pos 0)
+
+-- the first n samples of a channel
+abbrev pub channel_samples : Sound → ℕ → ℕ → List ℤ
+channel_samples s n e = map (sample s e) (range_with_len 0 n)
+
+-- each channel that is read, for so many periods
+abbrev pub lists_to : ℕ → Exchange → Sound → List (List ℤ)
+lists_to periods x s = map (channel_samples s (periods * x.taken)) (range_with_len 0 x.inputs)
+
+-- the input lists: those for all periods
+abbrev pub input_lists : Exchange → Sound → List (List ℤ)
+input_lists x s = lists_to (periods_of x s) x s
+
+-- frame i of some lists, each sample clamped to 16 bits
+abbrev pub frame : List (List ℤ) → ℕ → List ℤ
+frame lists i = map (λ xs. saturate_signed w16 (slice_index_or xs i (pos 0))) lists
+
+-- n frames, one after the other
+abbrev pub interleaved : ℕ → List (List ℤ) → List ℤ
+interleaved n lists = flat_map (frame lists) (range_with_len 0 n)
+
+-- the sound of the output lists
+abbrev pub output_of : Exchange → Sound → List (List ℤ) → Sound
+output_of x s lists = record {
+  rate = output_rate x s;
+  channels = x.outputs;
+  samples = interleaved (output_frames x s) lists;
+}
+
+-- what holds of a net's exchange with files
+pub record IsExchange (x : Exchange) : Type 0 where
+  pub some_taken : 0 < x.taken
+  pub some_made : 0 < x.made
+  pub few_taken : x.taken ≤ 67108864
+  pub few_made : x.made ≤ 67108864
+  pub few_inputs : x.inputs ≤ MOST_CHANNELS
+  pub one_output : 1 ≤ x.outputs
+  pub few_outputs : x.outputs ≤ MOST_CHANNELS
+
+-- the rate and the length of the output of a sound, where there is one
+pub record IsExtent (x : Exchange) (s : Sound) (e : Extent) : Type 0 where
+  pub is_allowed : output_fault x s ≡ None
+  pub rate : e.rate ≡ output_rate x s
+  pub periods : e.periods ≡ periods_of x s
+  pub some_rate : 0 < e.rate
+  pub few_bytes_a_second : e.rate * (2 * x.outputs) ≤ 4294967295
+  pub few_bytes : 2 * (e.periods * x.made * x.outputs) ≤ 4294967259

@@ -1,0 +1,42 @@
+-- The table of a design by the placement of the options, or why there is none.
+use Rattle.std.specs.Prelude.{ℕ, true, false, slice_index}
+use Rattle.sdf_graph.specs.Rates.{Rates, rates}
+use Rattle.sdf_graph.specs.Sequences.{repeated}
+use Rattle.sdf_actor.specs.Graphs.{graph_of}
+use Rattle.sdf_kit.specs.Kit.{kit_steps}
+use Rattle.sdf_sched.specs.Period.{Schedule}
+use Rattle.sdf_prec.specs.declared.fault.PrecFault.{PrecFault}
+use Rattle.sdf_prec.specs.Blocks.{block, IsSizeFault as IsBlockSizeFault}
+use Rattle.sdf_prec.specs.Accepting.{IsSize}
+use Rattle.sdf_prec.specs.ByHomes.{AreByHomes, IsHomesFault}
+use Rattle.sdf_prec.specs.HuTables.{IsHuTable}
+use Rattle.sdf_prec.specs.Tables.{Tabled, IsTable}
+use Rattle.sdf_file.specs.Designs.{DesignValue}
+use Rattle.sdf_words.specs.declared.options.Options.{Options}
+use Rattle.sdf_words.specs.declared.options.Placement.{Placement}
+use Rattle.sdf_words.specs.declared.options.Placement.TheVariants.{Hu, Homed, File}
+
+abbrev pub rates_of : DesignValue → Rates
+rates_of d = rates (graph_of kit_steps d.net)
+
+-- how often each actor fires in a block
+abbrev pub firings_of : ℕ → Schedule → ℕ → ℕ
+firings_of j s = slice_index (block j s.repetitions)
+
+-- the table by a placement for blocks of j periods and m workers: by Hu's rule with the costs of the design, free or homed, or one
+-- firing a row at the homes of the design
+abbrev pub IsPlaced : Placement → DesignValue → ℕ → ℕ → Schedule → Tabled → Type 0
+IsPlaced Hu d j m s t = IsHuTable (rates_of d) (firings_of j s) (slice_index d.costs) m false t
+IsPlaced Homed d j m s t = IsHuTable (rates_of d) (firings_of j s) (slice_index d.costs) m true t
+IsPlaced File d j m s t = IsTable (rates_of d) (firings_of j s) m t × AreByHomes d.homes m (repeated j s.order) t.rows
+
+-- the first reason why there is none
+abbrev pub IsPlaceFault : Placement → DesignValue → ℕ → ℕ → Schedule → PrecFault → Type 0
+IsPlaceFault Hu d j m s f = IsBlockSizeFault j m s.repetitions f
+IsPlaceFault Homed d j m s f = IsBlockSizeFault j m s.repetitions f
+IsPlaceFault File d j m s f = IsHomesFault j m s.repetitions d.homes f
+
+-- the table of a design's period by options
+pub record IsTableBy (d : DesignValue) (o : Options) (s : Schedule) (t : Tabled) : Type 0 where
+  pub size : IsSize o.blocking o.workers s.repetitions
+  pub placed : IsPlaced o.placement d o.blocking o.workers s t

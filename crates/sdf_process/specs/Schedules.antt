@@ -1,0 +1,31 @@
+-- What the command `schedule` prints of a design, or why it prints nothing.
+use Rattle.std.specs.Prelude.{ℕ, List}
+use Rattle.sdf_actor.specs.Graphs.{graph_of}
+use Rattle.sdf_kit.specs.Kit.{kit_steps}
+use Rattle.sdf_sched.specs.Period.{Schedule}
+use Rattle.sdf_prec.specs.Tables.{Tabled}
+use Rattle.sdf_file.specs.Designs.{DesignValue}
+use Rattle.sdf_file.specs.Schedules.{IsScheduleText}
+use Rattle.sdf_words.specs.declared.options.Options.{Options}
+use Rattle.sdf_process.specs.declared.fault.Fault.{Fault}
+use Rattle.sdf_process.specs.declared.fault.Fault.TheVariants.{OutOfMemory, BlockingFactor, WorkerCount, Deadlock, Table}
+use Rattle.sdf_process.specs.Placements.{IsTableBy}
+use Rattle.sdf_process.specs.Plans.{AreSizes, IsSizeFault, IsScheduleBy, IsScheduleFault, IsUnplaced}
+
+-- the text is of the order of the policy, and of the table of the placement
+pub record IsShown (d : DesignValue) (o : Options) (text : List ℕ) : Type 0 where
+  pub sizes : AreSizes o
+  pub period : Schedule
+  pub by_policy : IsScheduleBy o.policy (graph_of kit_steps d.net) period
+  pub table : Tabled
+  pub by_placement : IsTableBy d o period table
+  pub is : IsScheduleText d period.order table text
+
+-- the first test that fails: of the numbers, of the schedule, of the table
+abbrev pub IsShowFault : DesignValue → Options → Fault → Type 0
+IsShowFault d o OutOfMemory = Unit {0}
+IsShowFault d o BlockingFactor = IsSizeFault o BlockingFactor
+IsShowFault d o WorkerCount = IsSizeFault o WorkerCount
+IsShowFault d o (Deadlock stalled) = AreSizes o × IsScheduleFault d (Deadlock stalled)
+IsShowFault d o (Table f) = IsUnplaced d o f
+IsShowFault d o f = ⊥

@@ -1,0 +1,146 @@
+//! What a net exchanges with WAV files: channels and samples of a period, and what they make of a file's rate and size.
+
+ghost use Rattle.std.specs.Prelude.{◌≡◌, ◌≤◌, ◌<◌, ◌+◌, ◌*◌, ◌/◌, length, nat_lt, MatchResult, IfOk, Some, None};
+ghost use Rattle.sdf_graph.specs.Rates.{rates};
+ghost use Rattle.sdf_actor.specs.declared.sides.Lists.TheVariants.{Inputs, Outputs};
+ghost use Rattle.sdf_actor.specs.Graphs.{graph_of};
+ghost use Rattle.sdf_actor.specs.Sides.{list_count};
+ghost use Rattle.sdf_actor.specs.Wires.{lists as items_of};
+ghost use Rattle.sdf_kit.specs.Kit.{kit_steps};
+ghost use Rattle.sdf_sched.specs.Period.{IsPeriodOf};
+ghost use Rattle.sdf_wav.specs.Canonical.{write_fault};
+ghost use Rattle.sdf_process.specs.Output.{exchange_of, periods_of, output_rate, output_fault, lists_to, output_of, IsExchange, IsExtent};
+ghost use Rattle.sdf_process.specs.declared.fault.Fault.TheVariants.{OutOfMemory};
+
+use crate::fault::Fault;
+use crate::samples::{channel_lists, interleave};
+use sdf_actor::Net;
+use sdf_kit::Kit;
+use sdf_sched::Period;
+use sdf_wav::{FormatFault, MOST_CHANNELS, Wav};
+use std::alloc::{AllocError, Global};
+
+/// The channels and samples that a net moves in a period.
+#[derive(Clone, Copy)]
+pub(crate) struct Exchange {
+    /// The channels that are read, the lowest ones.
+    pub(crate) inputs: usize,
+    /// The channels that are made.
+    pub(crate) outputs: usize,
+    /// Samples taken from each channel that is read.
+    pub(crate) taken: usize,
+    /// Samples put on each channel that is made.
+    pub(crate) made: usize,
+}
+
+/// How many blocks hold so many periods.
+pub(crate) fn blocks_for(periods: u32, blocking: u32) -> u32
+    requires { 0 < blocking }
+    ensures enough { periods ≤ result * blocking }
+    ensures few { result * blocking < periods + blocking }
+{
+    periods.div_ceil(blocking)
+}
+
+/// The rate of an output, and its length in periods.
+#[derive(Clone, Copy)]
+pub(crate) struct Extent {
+    pub(crate) rate: u32,
+    pub(crate) periods: u32,
+}
+
+impl Exchange {
+    /// What a net of at most eight inputs and outputs exchanges in a period.
+    pub(crate) fn of_net(net: &Net<Kit>, period: &Period) -> Exchange
+        requires period { IsPeriodOf (rates (graph_of kit_steps net.now)) period.now }
+        requires inputs { list_count Inputs net.now.nodes ≤ MOST_CHANNELS }
+        requires outputs { list_count Outputs net.now.nodes ≤ MOST_CHANNELS }
+        ensures value { result ≡ exchange_of net.now period.now.repetitions }
+        ensures limits { IsExchange result }
+    {
+        let _ = net.repetitions();
+        let _ = period;
+        Exchange {
+            inputs: net.inputs(),
+            outputs: net.outputs(),
+            taken: net.samples_in(),
+            made: net.samples_out(),
+        }
+    }
+
+    /// How many periods take all frames of a sound.
+    fn periods(self, input: &Wav) -> usize
+        requires { IsExchange self }
+        ensures { result ≡ periods_of self input.now }
+    {
+        input.frames().div_ceil(self.taken)
+    }
+
+    /// Whether the data of so many periods would pass 4,294,967,259 bytes.
+    fn is_too_long(self, periods: usize) -> bool
+        requires { IsExchange self }
+        ensures { result ≡ nat_lt 4294967259 (2 * (periods * self.made * self.outputs)) }
+    {
+        periods > 2_147_483_629 / (self.made * self.outputs)
+    }
+
+    /// The rate and the length of the output, where there can be one.
+    pub(crate) fn extent(self, input: &Wav) -> Result<Extent, Fault>
+        requires { IsExchange self }
+        ensures { MatchResult result (IsExtent self input.now) (λ e. output_fault self input.now ≡ Some e) }
+    {
+        if usize::from(input.channels()) < self.inputs {
+            return Err(Fault::ChannelsMissing);
+        }
+        let made = u64::from(input.rate()) * self.made as u64;
+        let taken = self.taken as u64;
+        if !made.is_multiple_of(taken) {
+            return Err(Fault::RateNotWhole);
+        }
+        let rate = made / taken;
+        if rate * (2 * self.outputs as u64) > 4_294_967_295 {
+            return Err(Fault::Wav(FormatFault::RateTooLarge));
+        }
+        let periods = self.periods(input);
+        if self.is_too_long(periods) {
+            return Err(Fault::Wav(FormatFault::TooLong));
+        }
+        Ok(Extent {
+            rate: rate as u32,
+            periods: periods as u32,
+        })
+    }
+
+    /// The input lists for so many periods, with zeros past the end of the sound.
+    pub(crate) fn inputs_of(
+        self,
+        alloc: Global,
+        input: &Wav,
+        periods: u32,
+    ) -> Result<Vec<Vec<i32>>, AllocError>
+        requires { IsExchange self }
+        ensures { IfOk result (λ all. items_of all.items ≡ lists_to periods self input.now) }
+    {
+        channel_lists(alloc, input, periods as usize * self.taken, self.inputs)
+    }
+
+    /// The sound of the output lists of an extent.
+    pub(crate) fn output_of(
+        self,
+        alloc: Global,
+        input: &Wav,
+        extent: Extent,
+        lists: &[Vec<i32>],
+    ) -> Result<Wav, Fault>
+        requires limits { IsExchange self }
+        requires extent { IsExtent self input.now extent }
+        requires lists { length lists.now ≡ self.outputs }
+        ensures { MatchResult result
+            (λ out. (out ≡ output_of self input.now (items_of lists.now)) × (write_fault out ≡ None))
+            (λ e. e ≡ OutOfMemory) }
+    {
+        let _ = input;
+        let samples = interleave(alloc, lists, extent.periods as usize * self.made)?;
+        Ok(Wav::new(extent.rate, self.outputs as u16, samples)?)
+    }
+}

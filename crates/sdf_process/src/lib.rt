@@ -1,0 +1,20 @@
+//! A design from bytes to bytes: its plan, its run on a WAV file, and its printed schedule.
+//!
+//! It stands on `sdf_words` for the options, on `sdf_file` for the design, on `sdf_sched` and `sdf_prec` for the plan, on `sdf_run`
+//! for the run and on `sdf_wav` for the files; `fault` gathers the faults of all of these, with their texts and exit statuses. Begin at `process`,
+//! whose contract carries what the project is for; then `planning`, `schedule` and `laws`. The definitions are in
+//! `specs/Output.antt`, `specs/Run.antt`, `specs/Plans.antt` and `specs/Schedules.antt`.
+#![tactic(auto)]
+
+mod exchange;
+mod fault;
+pub mod laws;
+mod placement;
+mod plan;
+pub mod planning;
+pub mod process;
+mod samples;
+pub mod schedule;
+
+pub use fault::{Fault, Progress, Stalled, fault_text, status};
+pub use plan::Plan;

@@ -1,0 +1,211 @@
+//! From a WAV file to a WAV file.
+
+ghost use Rattle.std.specs.Prelude.{◌≡◌, ◌*◌, ◌≤◌, ℕ, List, Some, IfErr, MatchResult};
+ghost use Rattle.sdf_actor.specs.declared.sides.Lists.TheVariants.{Inputs, Outputs};
+ghost use Rattle.sdf_actor.specs.Wires.{lists as items_of};
+ghost use Rattle.sdf_actor.specs.Sides.{list_count};
+ghost use Rattle.sdf_answer.specs.Answer.{HasInputs, AreOutputs, IsRunFault, periods_of as firings};
+ghost use Rattle.sdf_kit.specs.Kit.{kit_steps};
+ghost use Rattle.sdf_wav.specs.Sound.{Sound};
+ghost use Rattle.sdf_wav.specs.Grammar.{IsWav};
+ghost use Rattle.sdf_wav.specs.Fault.{HasFault};
+ghost use Rattle.sdf_wav.specs.declared.fault.FormatFault.{FormatFault};
+ghost use Rattle.sdf_process.specs.declared.fault.Fault.TheVariants.{OutOfMemory};
+ghost use Rattle.sdf_process.specs.Output.{exchange_of, periods_of, output_fault};
+ghost use Rattle.sdf_process.specs.Plans.{Suits};
+ghost use Rattle.sdf_process.specs.Run.{BeginWithOutput, IsRendered, IsRenderFault, WhereKnown, Runs, Refuses, IsProcessFault, Leaves, WritesFile, reader_failures, writer_failures, Handles};
+
+use crate::exchange::{Exchange, blocks_for};
+use crate::fault::Fault;
+use crate::plan::Plan;
+use sdf_actor::Net;
+use sdf_file::Design;
+use sdf_kit::Kit;
+use sdf_prec::Table;
+use sdf_run::laws::{nets_have_periods, runs_go_on};
+use sdf_run::{Gate, NoGate, Ran, RunFault, run_one, run_rings, run_rows};
+use sdf_wav::{MOST_CHANNELS, Reader, Wav, Writer, read_wav, write_wav};
+use sdf_words::Runner;
+use std::thread::Threads;
+
+/// Runs a net for whole blocks by the plan's runner with workers.
+fn run_blocks<T: Threads + AllocGlobal + Sync, G: Gate>(
+    rt: &T,
+    net: &Net<Kit>,
+    plan: &Plan,
+    table: &Table,
+    blocks: u32,
+    inputs: &[Vec<i32>],
+    gate: &G,
+) -> Result<Ran<i32>, RunFault>
+    requires plan { Suits net.now plan.now }
+    requires table { plan.now.table ≡ Some table.now }
+    ensures { let q = plan.now.period.repetitions in let periods = blocks * plan.now.blocking in MatchResult result
+        (λ ran. HasInputs net.now q periods (items_of inputs.now) × AreOutputs kit_steps net.now (items_of inputs.now) (firings q periods) (items_of ran.outputs.items))
+        (IsRunFault net.now q periods (items_of inputs.now)) }
+{
+    let period = plan.period();
+    let j = plan.blocking();
+    match plan.runner() {
+        Runner::Rings => {
+            let patience = plan.patience();
+            run_rings(rt, net, period, j, table, blocks, inputs, patience, gate)
+        }
+        _ => run_rows(rt, net, period, j, table, blocks, inputs, gate),
+    }
+}
+
+/// The output lists of a net on a sound, or longer ones that begin with them: workers run whole blocks, on zeros past the sound's end.
+fn lists_of<T: Threads + AllocGlobal + Sync, G: Gate>(
+    rt: &T,
+    net: &Net<Kit>,
+    plan: &Plan,
+    gate: &G,
+    input: &Wav,
+    periods: u32,
+) -> Result<Vec<Vec<i32>>, Fault>
+    requires plan { Suits net.now plan.now }
+    requires inputs { list_count Inputs net.now.nodes ≤ MOST_CHANNELS }
+    requires outputs { list_count Outputs net.now.nodes ≤ MOST_CHANNELS }
+    requires periods { periods ≡ periods_of (exchange_of net.now plan.now.period.repetitions) input.now }
+    requires few { periods ≤ 2147483629 }
+    ensures { MatchResult result (λ lists. BeginWithOutput net.now plan.now.period.repetitions input.now (items_of lists.items)) (λ e. e ≡ OutOfMemory) }
+{
+    let alloc = rt.alloc();
+    let period = plan.period();
+    nets_have_periods(net, period);
+    runs_go_on::<Kit>();
+    let exchange = Exchange::of_net(net, period);
+    match plan.table() {
+        None => {
+            let inputs = exchange.inputs_of(alloc, input, periods)?;
+            let ran = run_one(alloc, net, period, periods, &inputs)?;
+            Ok(ran.outputs)
+        }
+        Some(table) => {
+            let blocks = blocks_for(periods, plan.blocking());
+            let inputs = exchange.inputs_of(alloc, input, blocks * plan.blocking())?;
+            let ran = run_blocks(rt, net, plan, table, blocks, &inputs, gate)?;
+            Ok(ran.outputs)
+        }
+    }
+}
+
+/// What a net makes of a sound.
+fn render<T: Threads + AllocGlobal + Sync, G: Gate>(
+    rt: &T,
+    net: &Net<Kit>,
+    plan: &Plan,
+    gate: &G,
+    input: &Wav,
+) -> Result<Wav, Fault>
+    requires plan { Suits net.now plan.now }
+    requires inputs { list_count Inputs net.now.nodes ≤ MOST_CHANNELS }
+    requires outputs { list_count Outputs net.now.nodes ≤ MOST_CHANNELS }
+    ensures { MatchResult result (IsRendered net.now plan.now.period.repetitions input.now) (IsRenderFault net.now plan.now.period.repetitions input.now) }
+{
+    let exchange = Exchange::of_net(net, plan.period());
+    let extent = exchange.extent(input)?;
+    let lists = lists_of(rt, net, plan, gate, input, extent.periods)?;
+    exchange.output_of(rt.alloc(), input, extent, &lists)
+}
+
+/// Reads a WAV file, runs a design on it by its plan, and writes the canonical WAV file of the output, of which there is only one
+/// (`laws::one_output`).
+///
+/// The tests in order: those of the input file (34 to 45), then 59 ChannelsMissing, 60 RateNotWhole, 46 RateTooLarge and
+/// 45 TooLong of the output. Memory (1) and the devices (47, 48) may fail at any place. Nothing is written before all tests.
+///
+/// A runner with workers calls the gate before each firing; the runner on one thread calls none.
+pub fn process_with<T: Threads + AllocGlobal + Sync, R: Reader, W: Writer, G: Gate>(
+    rt: &T,
+    reader: &mut R,
+    writer: &mut W,
+    design: &Design,
+    plan: &Plan,
+    gate: &G,
+) -> Result<(), Fault>
+    requires { Suits design.now.net plan.now }
+
+    // What is answered is so, where the reader's bytes are known.
+    ensures runs { WhereKnown (R.remaining reader.old) (λ input. Runs design.now.net plan.now.period.repetitions input (W.contents writer.old) (W.contents writer.new) result) }
+
+    // What is so is answered, unless memory or a device failed.
+    ensures accepts { (input : List ℕ) (s : Sound) (rest : List ℕ) → R.remaining reader.old ≡ Some input → IsWav input s rest →
+        Refuses (output_fault (exchange_of design.now.net plan.now.period.repetitions) s) result }
+    ensures refuses { (input : List ℕ) (f : FormatFault) → R.remaining reader.old ≡ Some input → HasFault input f → Refuses (Some (Fault.Wav f)) result }
+
+    // Whatever is known of the bytes, no other fault comes.
+    ensures faults { IfErr result IsProcessFault }
+
+    // Nothing behind the samples is read.
+    ensures leaves { Leaves (R.remaining reader.old) (R.remaining reader.new) result }
+
+    // Whatever the reader tells, one canonical file is written, or a front of one where the writer failed, or nothing.
+    ensures writes { WritesFile (W.contents writer.old) (W.contents writer.new) result }
+
+    // A device is blamed exactly where it failed in this call, and after its first failure it is not called again.
+    ensures reader { R.failures reader.new ≡ reader_failures result (R.failures reader.old) }
+    ensures writer { W.failures writer.new ≡ writer_failures result (W.failures writer.old) }
+{
+    run_net(rt, reader, writer, design.net(), plan, gate)
+}
+
+/// The same with no gate: what the program does.
+pub fn process<T: Threads + AllocGlobal + Sync, R: Reader, W: Writer>(
+    rt: &T,
+    reader: &mut R,
+    writer: &mut W,
+    design: &Design,
+    plan: &Plan,
+) -> Result<(), Fault>
+    requires { Suits design.now.net plan.now }
+
+    // What is answered is so, where the reader's bytes are known.
+    ensures runs { WhereKnown (R.remaining reader.old) (λ input. Runs design.now.net plan.now.period.repetitions input (W.contents writer.old) (W.contents writer.new) result) }
+
+    // What is so is answered, unless memory or a device failed.
+    ensures accepts { (input : List ℕ) (s : Sound) (rest : List ℕ) → R.remaining reader.old ≡ Some input → IsWav input s rest →
+        Refuses (output_fault (exchange_of design.now.net plan.now.period.repetitions) s) result }
+    ensures refuses { (input : List ℕ) (f : FormatFault) → R.remaining reader.old ≡ Some input → HasFault input f → Refuses (Some (Fault.Wav f)) result }
+
+    // Whatever is known of the bytes, no other fault comes.
+    ensures faults { IfErr result IsProcessFault }
+
+    // Nothing behind the samples is read.
+    ensures leaves { Leaves (R.remaining reader.old) (R.remaining reader.new) result }
+
+    // Whatever the reader tells, one canonical file is written, or a front of one where the writer failed, or nothing.
+    ensures writes { WritesFile (W.contents writer.old) (W.contents writer.new) result }
+
+    // A device is blamed exactly where it failed in this call, and after its first failure it is not called again.
+    ensures reader { R.failures reader.new ≡ reader_failures result (R.failures reader.old) }
+    ensures writer { W.failures writer.new ≡ writer_failures result (W.failures writer.old) }
+{
+    process_with(rt, reader, writer, design, plan, &NoGate)
+}
+
+/// The same for a net.
+fn run_net<T: Threads + AllocGlobal + Sync, R: Reader, W: Writer, G: Gate>(
+    rt: &T,
+    reader: &mut R,
+    writer: &mut W,
+    net: &Net<Kit>,
+    plan: &Plan,
+    gate: &G,
+) -> Result<(), Fault>
+    requires plan { Suits net.now plan.now }
+    requires inputs { list_count Inputs net.now.nodes ≤ MOST_CHANNELS }
+    requires outputs { list_count Outputs net.now.nodes ≤ MOST_CHANNELS }
+    ensures runs { WhereKnown (R.remaining reader.old) (λ input. Runs net.now plan.now.period.repetitions input (W.contents writer.old) (W.contents writer.new) result) }
+    ensures accepts { (input : List ℕ) (s : Sound) (rest : List ℕ) → R.remaining reader.old ≡ Some input → IsWav input s rest →
+        Refuses (output_fault (exchange_of net.now plan.now.period.repetitions) s) result }
+    ensures refuses { (input : List ℕ) (f : FormatFault) → R.remaining reader.old ≡ Some input → HasFault input f → Refuses (Some (Fault.Wav f)) result }
+    ensures devices { Handles (R.remaining reader.old) (R.remaining reader.new) (W.contents writer.old) (W.contents writer.new)
+        (R.failures reader.old) (R.failures reader.new) (W.failures writer.old) (W.failures writer.new) result }
+{
+    let input = read_wav(rt.alloc(), reader)?;
+    let output = render(rt, net, plan, gate, &input)?;
+    write_wav(writer, &output)?;
+    Ok(())
+}

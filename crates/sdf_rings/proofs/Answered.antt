@@ -1,0 +1,92 @@
+-- What a table asks of so many blocks.
+use Rattle.std.proofs.Common.{◌≡◌, ℕ, ◌*◌, ◌≤◌, ◌<◌, ◌^◌, List, length, get_or, sym, ap, ◌∙◌, subst, arith}
+use Rattle.std.specs.Prelude.{sum}
+use Rattle.std.proofs.Math.Nat.{mul-le-mul, mul-le-mul_left}
+use Rattle.std.proofs.lemmas.List.{get_or-map}
+use Rattle.sdf_limits.specs.declared.TheConstants.{MOST_BLOCK, MOST_PATIENCE}
+use Rattle.sdf_graph.specs.Laws.{GraphsAreSound, GraphsHavePeriods}
+use Rattle.sdf_graph.specs.Rates.{rates}
+use Rattle.sdf_graph.specs.Sequences.{times, repeated}
+use Rattle.sdf_sched.specs.Period.{Schedule}
+use Rattle.sdf_prec.specs.Blocks.{block}
+use Rattle.sdf_prec.specs.Counts.{TablesCount}
+use Rattle.sdf_prec.specs.Laws.{TablesRepeat, AreBlocks}
+use Rattle.sdf_prec.specs.Tables.{Tabled, IsHomed}
+use Rattle.sdf_actor.specs.Graphs.{graph_of}
+use Rattle.sdf_actor.specs.Laws.{AreCountsOf}
+use Rattle.sdf_actor.specs.Nets.{Netlist}
+use Rattle.sdf_actor.specs.Steps.{Steps}
+use Rattle.sdf_answer.specs.Answer.{HasInputs, AreOutputs, periods_of}
+use Rattle.sdf_answer.specs.Periods.{HasPeriod}
+use Rattle.sdf_answer.specs.Rows.{IsTableOf}
+use Rattle.sdf_rings.specs.Asks.{IsPlanned}
+use Rattle.sdf_rings.specs.Outcome.{HasRun}
+use Rattle.sdf_rings.specs.Prepared.{IsPrepared}
+use Rattle.sdf_rings.specs.Rests.{InHand, AreRings}
+use Rattle.sdf_rings.specs.Totals.{total_left}
+use Rattle.sdf_rings.proofs.Lengths.{left_few, left_some}
+
+module _ (sound : GraphsAreSound) (periods : GraphsHavePeriods) (repeats : TablesRepeat) (count : TablesCount)
+    {A S T : Type 0} (s : Steps A S T) (n : Netlist A T) (p : Schedule) (has : HasPeriod s n p) (j : ℕ) (t : Tabled) (is : IsTableOf (rates (graph_of s n)) p.repetitions j t) (b : ℕ) where
+  abbrev q : List ℕ
+  q = p.repetitions
+
+  blocks : AreBlocks (rates (graph_of s n)) (λ a. get_or (block j q) a 0) t b
+  blocks = repeats (rates (graph_of s n)) q j is.width t b (sound (graph_of s n) has.shape) (periods (graph_of s n) q has.shape has.period.least.is) is.table
+
+  pub counts_are : AreCountsOf n (repeated b t.order) (periods_of q (b * j))
+  counts_are a l =
+      let known : a < (rates (graph_of s n)).actors = subst (λ m. a < m) (sym has.alike.actors) l in
+      let each : get_or (block j q) a 0 ≡ j * get_or q a 0 = get_or-map (λ (m : ℕ). j * m) q a 0 0 (omega (arith, known, has.period.least.is.all)) in
+      let turn : b * j * get_or q a 0 ≡ b * (j * get_or q a 0) = omega arith in
+      turn ∙ (ap (λ m. b * m) (sym each) ∙ sym (blocks.counts a known))
+
+  pub order_long : length (repeated b t.order) ≡ b * (j * sum q)
+  order_long = count (rates (graph_of s n)) q j is.width t b has.period.least.is.all is.table
+
+  pub order_few : b < 2 ^ 32 → length (repeated b t.order) < 2 ^ 64
+  order_few few =
+      let within : b * (j * sum q) ≤ b * MOST_BLOCK = mul-le-mul_left b is.size.short in
+      omega (arith, order_long, within, few)
+
+  pub some_node : 0 < length n.nodes
+  some_node = subst (λ m. 0 < m) has.alike.actors has.shape.some
+
+  pub some_asked : 0 < b → 0 < times (repeated b t.order) 0
+  some_asked more =
+      let known : 0 < (rates (graph_of s n)).actors = has.shape.some in
+      let each : get_or (block j q) 0 0 ≡ j * get_or q 0 0 = get_or-map (λ (m : ℕ). j * m) q 0 0 0 (omega (arith, known, has.period.least.is.all)) in
+      let one : 1 * 1 ≤ j * get_or q 0 0 = mul-le-mul is.size.factor.0 (has.period.least.is.positive 0 known) in
+      let some : 1 ≤ j * get_or q 0 0 = omega (arith, one) in
+      let all : 1 * 1 ≤ b * (j * get_or q 0 0) = mul-le-mul more some in
+      omega (arith, all, ap (λ m. b * m) each, blocks.counts 0 known)
+
+  module _ (inputs : List (List T)) (r : InHand A S T) (rings : AreRings s r) (prepared : IsPrepared s n inputs t b r) where
+    -- what is asked, of the net in hand
+    pub asked : IsPlanned s r.net r.seats r.places (repeated b t.order) (λ c. get_or t.caps c 0)
+    asked = subst (λ m. IsPlanned s m r.seats r.places (repeated b t.order) (λ c. get_or t.caps c 0)) (sym prepared.net_is) prepared.planned
+
+    few_left : total_left r.seats ≤ length (repeated b t.order)
+    few_left = left_few s r.net r.inputs r.seats r.places rings (repeated b t.order) (λ c. get_or t.caps c 0) asked
+
+    pub few_rounds : b < 2 ^ 32 → total_left r.seats < 2 ^ 64
+    few_rounds few = omega (arith, few_left, order_few few)
+
+    pub has_run : (new : InHand A S T) (patience rounds : ℕ) (outputs : List (List T)) → IsHomed t → patience ≤ MOST_PATIENCE → HasInputs n q (b * j) inputs →
+        (new.net ≡ r.net) × (new.inputs ≡ r.inputs) × (new.places ≡ r.places) →
+        ((order : List ℕ) (cap : ℕ → ℕ) → IsPlanned s r.net r.seats r.places order cap → IsPlanned s new.net new.seats new.places order cap) →
+        rounds ≤ total_left r.seats → (0 < total_left r.seats → 0 < rounds) →
+        ((order : List ℕ) (cap k : ℕ → ℕ) → IsPlanned s new.net new.seats new.places order cap → AreCountsOf new.net order k → AreOutputs s new.net new.inputs k outputs) →
+        HasRun s n q j t b inputs patience outputs rounds
+    has_run new patience rounds outputs homed patient fits same kept most least given =
+        let net : new.net ≡ n = same.0 ∙ prepared.net_is in
+        let k : ℕ → ℕ = periods_of q (b * j) in
+        let made : AreOutputs s new.net new.inputs k outputs = given (repeated b t.order) (λ c. get_or t.caps c 0) k (kept (repeated b t.order) (λ c. get_or t.caps c 0) asked) (subst (λ m. AreCountsOf m (repeated b t.order) k) (sym net) counts_are) in
+        record {
+          homed = homed;
+          patient = patient;
+          has = fits;
+          outputs_are = subst (λ is. AreOutputs s n is k outputs) (same.1 ∙ prepared.inputs_are) (subst (λ m. AreOutputs s m new.inputs k outputs) net made);
+          rounds_few = omega (arith, most, few_left, order_long);
+          rounds_some = λ more. least (left_some s r.net r.inputs r.seats r.places rings (repeated b t.order) (λ c. get_or t.caps c 0) asked 0 (subst (λ m. 0 < length m.nodes) (sym prepared.net_is) some_node) (λ e d. prepared.undone 0 e d some_node) (some_asked more));
+        }

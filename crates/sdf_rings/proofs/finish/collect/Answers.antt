@@ -1,0 +1,25 @@
+use Rattle.std.proofs.Common.{◌<◌, length, arith, ◌∙◌, subst}
+use Rattle.sdf_node.specs.Collected.{IsCollected}
+use Rattle.sdf_rings.specs.Rests.{stand_of}
+use Rattle.sdf_rings.proofs.Collects.{stands_more, rest_more, given_more}
+use Rattle.sdf_rings.proofs.finish.collect.Goals as goal
+
+pub loop-a-preserved : goal.loop-a-preserved
+loop-a-preserved g c =
+    let n = c.args.net.now in
+    let a = c.loop-a.a in
+    let known : a < length n.nodes = omega arith in
+    let was = c.loop-a.invariant in
+    let sinks = c.net_facts.ensures.sinks in
+    let new = c.collect_from.new.seats in
+    let outputs = c.collect_from.new.outputs in
+    record {
+      all = c.collect_from.auto.outputs ∙ was.all;
+      stands = stands_more n sinks c.args.seats.now c.args.places.now c.requires.placed c.loop-a.seats new a known was.stands was.rest c.collect_from.ensures.seats;
+      rest = rest_more n sinks c.args.seats.now c.args.places.now c.requires.placed c.loop-a.seats new a known was.stands was.rest c.collect_from.ensures.seats;
+      given = given_more n sinks c.args.seats.now c.args.places.now c.requires.placed c.loop-a.seats new a known was.stands was.rest c.collect_from.ensures.seats c.loop-a.outputs outputs
+          (λ e d. subst (λ x. IsCollected x (stand_of n c.loop-a.seats c.args.places.now e d a).state c.loop-a.outputs outputs) c.node.ensures (c.collect_from.ensures.list e d)) was.given;
+    }
+
+pub returns-clause-each : goal.returns-clause-each
+returns-clause-each g c = λ a ext block made e d l is at. c.loop-a.invariant.given a ext block made e d (omega arith) is at

@@ -1,0 +1,143 @@
+//! What makes the seats of a run.
+
+ghost use Rattle.std.specs.Prelude.{◌≡◌, ◌*◌, ◌≤◌, ◌<◌, ℕ, length, slice_index, vec_len, IfOk, MatchResult};
+ghost use Rattle.sdf_limits.specs.declared.TheConstants.{MOST_BLOCKING, MOST_RATE, MOST_PERIOD};
+ghost use Rattle.sdf_graph.specs.Rates.{rates};
+ghost use Rattle.sdf_sched.specs.Period.{IsPeriodOf};
+ghost use Rattle.sdf_prec.specs.Tables.{row, IsHomed};
+ghost use Rattle.sdf_actor.specs.declared.sides.Lists.TheVariants.{Inputs};
+ghost use Rattle.sdf_actor.specs.Graphs.{graph_of};
+ghost use Rattle.sdf_actor.specs.Sides.{period_samples};
+ghost use Rattle.sdf_actor.specs.Wires.{lists};
+ghost use Rattle.sdf_answer.specs.Answer.{HasInputs};
+ghost use Rattle.sdf_answer.specs.Rows.{IsTableOf};
+ghost use Rattle.sdf_answer.specs.Sizes.{AreSizes};
+ghost use Rattle.sdf_rings.specs.Begun.{CanStart};
+ghost use Rattle.sdf_rings.specs.Prepared.{IsPrepared, IsAsked, IsPrepareFault};
+
+use crate::rings::Rings;
+use crate::setup::asked::asked;
+use crate::setup::openings::open_rings;
+use crate::setup::places::places;
+use crate::setup::seats::seats;
+use crate::setup::stands::Start;
+use sdf_actor::{Actor, Net};
+use sdf_answer::inputs::{are_inputs, first_sample};
+use sdf_answer::laws::{net_facts, nets_can_run, nets_have_periods};
+use sdf_answer::outputs::make_outputs;
+use sdf_answer::{RunFault, Sizes};
+use sdf_prec::Table;
+use sdf_sched::Period;
+use std::alloc::{AllocError, Global};
+
+/// How many columns a table has, where all its rows have as many.
+fn columns(table: &Table) -> usize
+    requires { (width : ℕ) × ((i : ℕ) → i < length table.now.rows → length (row table.now.rows i) ≡ width) }
+    ensures { (i : ℕ) → i < length table.now.rows → length (row table.now.rows i) ≡ result }
+{
+    if table.rows() == 0 {
+        return 0;
+    }
+    table.row(0).len()
+}
+
+/// The seats of a run of so many blocks of a table.
+fn lay_out<'a, A: Actor>(
+    alloc: Global,
+    start: &Start<'a, A>,
+    table: &Table,
+    blocks: u32,
+) -> Result<Rings<'a, A>, AllocError>
+    requires start { CanStart A.steps start.now.net.now (lists start.now.inputs.now) (slice_index start.now.asked.items) start.now.room start.now.filler }
+    requires sizes { AreSizes A.steps start.now.net.now start.now.sizes }
+    requires asked { vec_len start.now.asked ≡ length start.now.net.now.nodes }
+    requires plan { IsAsked A.steps start.now.net.now table.now blocks (slice_index start.now.asked.items) }
+    requires homed { IsHomed table.now }
+    ensures { IfOk result (IsPrepared A.steps start.now.net.now (lists start.now.inputs.now) table.now blocks) }
+{
+    sdf_actor::laws::nets_are_wired::<A>();
+    sdf_graph::laws::alike_sequences();
+    sdf_prec::laws::tables_repeat();
+    let places = places(alloc, table, start.net.len())?;
+    let mut ends = open_rings(alloc, start.net, table)?;
+    let seats = seats(
+        alloc,
+        start,
+        &places,
+        table.order(),
+        blocks,
+        &mut ends,
+        columns(table),
+    )?;
+    let outputs = make_outputs(alloc, start.net.outputs(), 0)?;
+    Ok(Rings::new(alloc, start.net, start.inputs, seats, places, outputs))
+}
+
+/// How many samples move in so many blocks, where each of their periods moves so many.
+fn samples_of(blocks: u32, j: u32, each: usize) -> usize
+    requires short { j ≤ MOST_BLOCKING }
+    requires few { each ≤ MOST_RATE * MOST_PERIOD }
+    ensures { result ≡ blocks * j * each }
+{
+    blocks as usize * j as usize * each
+}
+
+/// The seats of a run whose table has a home for each actor, and whose inputs fit.
+fn prepare_homed<'a, A: Actor>(
+    alloc: Global,
+    net: &'a Net<A>,
+    period: &Period,
+    j: u32,
+    table: &Table,
+    blocks: u32,
+    inputs: &'a [Vec<A::Token>],
+) -> Result<Rings<'a, A>, AllocError>
+    requires period { IsPeriodOf (rates (graph_of A.steps net.now)) period.now }
+    requires table { IsTableOf (rates (graph_of A.steps net.now)) period.now.repetitions j table.now }
+    requires homed { IsHomed table.now }
+    requires inputs { HasInputs net.now period.now.repetitions (blocks * j) (lists inputs.now) }
+    requires some { 0 < period_samples net.now.nodes Inputs period.now.repetitions }
+    ensures { IfOk result (IsPrepared A.steps net.now (lists inputs.now) table.now blocks) }
+{
+    net_facts(net);
+    nets_have_periods(net, period);
+    nets_can_run::<A>();
+    sdf_graph::laws::graphs_are_sound();
+    sdf_graph::laws::graphs_have_periods();
+    let start = Start {
+        net,
+        inputs,
+        sizes: Sizes::new(alloc, net)?,
+        asked: asked(alloc, period.repetitions(), j, blocks)?,
+        room: samples_of(blocks, j, net.samples_out()),
+        filler: first_sample(inputs),
+    };
+    lay_out(alloc, &start, table, blocks)
+}
+
+/// What a run of so many blocks of `j` periods holds before its first round: a seat for each column of its table, each actor at
+/// home, each channel with what it begins with, and each seat's list of firings. First of all 30 where an actor has no home.
+pub fn prepare<'a, A: Actor>(
+    alloc: Global,
+    net: &'a Net<A>,
+    period: &Period,
+    j: u32,
+    table: &Table,
+    blocks: u32,
+    inputs: &'a [Vec<A::Token>],
+) -> Result<Rings<'a, A>, RunFault>
+    requires period { IsPeriodOf (rates (graph_of A.steps net.now)) period.now }
+    requires table { IsTableOf (rates (graph_of A.steps net.now)) period.now.repetitions j table.now }
+    ensures { let q = period.now.repetitions in MatchResult result
+        (λ r. IsHomed table.now × HasInputs net.now q (blocks * j) (lists inputs.now) × IsPrepared A.steps net.now (lists inputs.now) table.now blocks r)
+        (IsPrepareFault net.now q (blocks * j) (lists inputs.now) table.now) }
+{
+    if !table.homed() {
+        return Err(RunFault::NotHomed);
+    }
+    let least = samples_of(blocks, j, net.samples_in());
+    if !are_inputs(inputs, net.inputs(), least) {
+        return Err(RunFault::InputLength);
+    }
+    Ok(prepare_homed(alloc, net, period, j, table, blocks, inputs)?)
+}

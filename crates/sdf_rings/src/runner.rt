@@ -1,0 +1,60 @@
+//! The runner over rings.
+
+ghost use Rattle.std.specs.Prelude.{◌*◌, ℕ, MatchResult};
+ghost use Rattle.sdf_graph.specs.Rates.{rates};
+ghost use Rattle.sdf_sched.specs.Period.{IsPeriodOf};
+ghost use Rattle.sdf_actor.specs.Graphs.{graph_of};
+ghost use Rattle.sdf_actor.specs.Wires.{lists};
+ghost use Rattle.sdf_answer.specs.Rows.{IsTableOf};
+ghost use Rattle.sdf_rings.specs.Outcome.{HasRun, IsRingsFault};
+
+use crate::prepare::prepare;
+use sdf_actor::{Actor, Net};
+use sdf_answer::laws::nets_have_periods;
+use sdf_answer::{Ran, RunFault};
+use sdf_limits::MOST_PATIENCE;
+use sdf_node::Gate;
+use sdf_prec::Table;
+use sdf_sched::Period;
+use std::alloc::AllocGlobal;
+use std::thread::Threads;
+
+/// Runs a net for a number of blocks of `j` periods. There is a worker for each column of the table, which does the firings of the
+/// actors at home there in the table's order, as samples and room come; each channel has a ring of the table's capacity. In each round
+/// the workers run at once, until their lists are empty or a test has failed more often than `patience` says.
+///
+/// All room is taken before the first firing. The faults, in this order: 30 NotHomed, 31 Patience, 29 InputLength.
+pub fn run_rings<R: Threads + AllocGlobal + Sync, A: Actor, G: Gate>(
+    rt: &R,
+    net: &Net<A>,
+    period: &Period,
+    j: u32,
+    table: &Table,
+    blocks: u32,
+    inputs: &[Vec<A::Token>],
+    patience: u32,
+    gate: &G,
+) -> Result<Ran<A::Token>, RunFault>
+    requires period { IsPeriodOf (rates (graph_of A.steps net.now)) period.now }
+    requires table { IsTableOf (rates (graph_of A.steps net.now)) period.now.repetitions j table.now }
+    ensures { let q = period.now.repetitions in MatchResult result
+        (λ ran. HasRun A.steps net.now q j table.now blocks (lists inputs.now) patience (lists ran.outputs.items) ran.rounds)
+        (IsRingsFault net.now q (blocks * j) (lists inputs.now) table.now patience) }
+{
+    sdf_graph::laws::graphs_are_sound();
+    sdf_graph::laws::graphs_have_periods();
+    sdf_prec::laws::tables_repeat();
+    sdf_prec::laws::tables_count();
+    nets_have_periods(net, period);
+    if !table.homed() {
+        return Err(RunFault::NotHomed);
+    }
+    if patience > MOST_PATIENCE {
+        return Err(RunFault::Patience);
+    }
+    let mut rings = prepare(rt.alloc(), net, period, j, table, blocks, inputs)?;
+    rings.facts();
+    let rounds = rings.run(rt, patience, gate);
+    let outputs = rings.finish();
+    Ok(Ran { outputs, rounds })
+}

@@ -1,0 +1,10 @@
+//! What a run over rings holds before its first firing: rings with what their channels begin with, a seat for each worker, and on
+//! each seat its nodes and the list of their firings.
+
+pub(crate) mod asked;
+pub(crate) mod deals;
+pub(crate) mod openings;
+pub(crate) mod places;
+pub(crate) mod seats;
+pub(crate) mod sizes;
+pub(crate) mod stands;

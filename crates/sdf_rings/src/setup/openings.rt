@@ -1,0 +1,103 @@
+//! Rings before the first firing: each holds what its channel begins with.
+
+ghost use Rattle.std.specs.Prelude.{◌≡◌, ◌<◌, ◌≤◌, ℕ, length, slice_index, IfOk};
+ghost use Rattle.rtrb.specs.Ring.{producer_capacity};
+ghost use Rattle.sdf_actor.specs.Nets.{wire, wiring};
+ghost use Rattle.sdf_rings.specs.Asks.{IsRoomOf};
+ghost use Rattle.sdf_rings.specs.Openings.{IsOpened, IsGreatestOf, HaveRings};
+
+use crate::meet::tell;
+use rtrb::{Consumer, Producer, RingBuffer};
+use sdf_actor::{Actor, Net};
+use sdf_graph::Channel;
+use sdf_prec::Table;
+use std::alloc::{AllocError, Global};
+
+/// The ends of rings, by channel. Those that stand at a node are taken out.
+#[derive(Drop)]
+pub(crate) struct Ends<T> {
+    pub(crate) producers: Vec<Option<Producer<T, Global>>>,
+    pub(crate) consumers: Vec<Option<Consumer<T, Global>>>,
+}
+
+/// A ring of so many places that holds some samples.
+fn open_ring<T: Copy>(
+    alloc: Global,
+    places: usize,
+    samples: &[T],
+) -> Result<(Producer<T, Global>, Consumer<T, Global>), AllocError>
+    requires { length samples.now ≤ places }
+    ensures opened { IfOk result (λ ends. IsOpened ends.0 ends.1 samples.now) }
+    ensures capacity { IfOk result (λ ends. producer_capacity ends.0 ≡ places) }
+{
+    let (mut producer, mut consumer) = RingBuffer::new(alloc, places)?;
+    let _ = producer.push_entire_slice(samples);
+    tell(&mut consumer, &mut producer);
+    Ok((producer, consumer))
+}
+
+/// The greatest of some numbers.
+fn greatest(numbers: &[u32]) -> u32
+    requires { 0 < length numbers.now }
+    ensures { IsGreatestOf numbers.now result }
+{
+    let mut greatest = numbers[0];
+    for number in numbers {
+        if *number > greatest {
+            greatest = *number;
+        }
+    }
+    greatest
+}
+
+/// The greatest number of samples that a firing puts on a channel.
+fn greatest_put(channel: &Channel) -> u32
+    requires { 0 < length channel.now.put }
+    ensures { IsGreatestOf channel.now.put result }
+{
+    greatest(&channel.put)
+}
+
+/// How many samples the ring of a channel takes: as many as the table says that it may hold, and where it leads from an actor to
+/// itself another block. More than a memory has can't be reserved.
+fn room_of<A: Actor>(net: &Net<A>, table: &Table, c: usize) -> Result<usize, AllocError>
+    requires known { c < length net.now.wires }
+    requires caps { length table.now.caps ≡ length net.now.wires }
+    ensures { IfOk result (IsRoomOf (wiring A.steps net.now).rates (slice_index table.now.caps) c) }
+{
+    sdf_graph::laws::sums_rise();
+    let link = net.link(c);
+    let held = table.cap(c) as usize;
+    if link.from.0 != link.to.0 {
+        return Ok(held);
+    }
+    let block = greatest_put(&net.graph().channels()[c]);
+    match held.checked_add(block as usize) {
+        Some(room) => Ok(room),
+        None => Err(AllocError),
+    }
+}
+
+/// The rings of a net's channels.
+pub(crate) fn open_rings<A: Actor>(
+    alloc: Global,
+    net: &Net<A>,
+    table: &Table,
+) -> Result<Ends<A::Token>, AllocError>
+    requires caps { length table.now.caps ≡ length net.now.wires }
+    requires held { (c : ℕ) → c < length net.now.wires → length (wire net.now c).initial ≤ slice_index table.now.caps c }
+    ensures { IfOk result (λ ends. HaveRings A.steps net.now (slice_index table.now.caps) ends.producers.items ends.consumers.items) }
+{
+    let mut producers = Vec::with_capacity(alloc, net.channels())?;
+    let mut consumers = Vec::with_capacity(alloc, net.channels())?;
+    for c in 0..net.channels() {
+        let room = room_of(net, table, c)?;
+        let ring = open_ring(alloc, room, &net.link(c).initial)?;
+        producers.push(Some(ring.0))?;
+        consumers.push(Some(ring.1))?;
+    }
+    Ok(Ends {
+        producers,
+        consumers,
+    })
+}

@@ -1,0 +1,103 @@
+//! Seats before their first firing.
+
+ghost use Rattle.std.specs.Prelude.{◌≡◌, ◌<◌, ℕ, length, slice_index, slice_index_or, vec_len, IfOk, OnOk};
+ghost use Rattle.sdf_graph.specs.Sequences.{repeated};
+ghost use Rattle.sdf_actor.specs.Nets.{wire};
+ghost use Rattle.sdf_actor.specs.Wires.{lists};
+ghost use Rattle.sdf_answer.specs.Sizes.{AreSizes};
+ghost use Rattle.sdf_rings.specs.Openings.{end_at, HasEnds};
+ghost use Rattle.sdf_rings.specs.Begun.{place, AreNext, CanStart, AreBegun, IsBegun};
+
+use crate::seat::Seat;
+use crate::setup::deals::deal;
+use crate::setup::openings::Ends;
+use crate::setup::stands::{Start, begin_stand};
+use crate::stand::Stand;
+use sdf_actor::Actor;
+use std::alloc::{AllocError, Global};
+
+/// The nodes of a seat, each at its place.
+fn stands<A: Actor>(
+    alloc: Global,
+    start: &Start<A>,
+    places: &[(usize, usize)],
+    ends: &mut Ends<A::Token>,
+    seat: usize,
+) -> Result<Vec<Stand<A>>, AllocError>
+    requires start { CanStart A.steps start.now.net.now (lists start.now.inputs.now) (slice_index start.now.asked.items) start.now.room start.now.filler }
+    requires sizes { AreSizes A.steps start.now.net.now start.now.sizes }
+    requires asked { vec_len start.now.asked ≡ length start.now.net.now.nodes }
+    requires all { length places.now ≡ length start.now.net.now.nodes }
+    requires next { AreNext places.now }
+    requires ends { (a : ℕ) → a < length places.now → (place places.now a).0 ≡ seat → HasEnds start.now.net.now a ends.old.producers.items ends.old.consumers.items }
+    ensures begun { IfOk result (λ v. AreBegun A.steps start.now.net.now (lists start.now.inputs.now) (slice_index start.now.asked.items) ends.old.producers.items ends.old.consumers.items places.now seat v.items) }
+    ensures producers { OnOk result ((c : ℕ) → ((place places.now (wire start.now.net.now c).from.0).0 ≡ seat → ⊥) → end_at ends.new.producers.items c ≡ end_at ends.old.producers.items c) }
+    ensures consumers { OnOk result ((c : ℕ) → ((place places.now (wire start.now.net.now c).to.0).0 ≡ seat → ⊥) → end_at ends.new.consumers.items c ≡ end_at ends.old.consumers.items c) }
+{
+    sdf_graph::laws::counts_grow();
+    let mut stands = Vec::new(alloc);
+    for a in 0..places.len() {
+        if places[a].0 == seat {
+            stands.push(begin_stand(alloc, start, ends, a)?)?;
+        }
+    }
+    Ok(stands)
+}
+
+/// A seat with its nodes and the list of its firings.
+fn begin_seat<A: Actor>(
+    alloc: Global,
+    start: &Start<A>,
+    places: &[(usize, usize)],
+    order: &[usize],
+    blocks: u32,
+    ends: &mut Ends<A::Token>,
+    seat: usize,
+) -> Result<Seat<A>, AllocError>
+    requires start { CanStart A.steps start.now.net.now (lists start.now.inputs.now) (slice_index start.now.asked.items) start.now.room start.now.filler }
+    requires sizes { AreSizes A.steps start.now.net.now start.now.sizes }
+    requires asked { vec_len start.now.asked ≡ length start.now.net.now.nodes }
+    requires all { length places.now ≡ length start.now.net.now.nodes }
+    requires next { AreNext places.now }
+    requires order { (i : ℕ) → i < length order.now → slice_index order.now i < length places.now }
+    requires ends { (a : ℕ) → a < length places.now → (place places.now a).0 ≡ seat → HasEnds start.now.net.now a ends.old.producers.items ends.old.consumers.items }
+    ensures begun { IfOk result (IsBegun A.steps start.now.net.now (lists start.now.inputs.now) (slice_index start.now.asked.items) ends.old.producers.items ends.old.consumers.items places.now (repeated blocks order.now) seat) }
+    ensures producers { OnOk result ((c : ℕ) → ((place places.now (wire start.now.net.now c).from.0).0 ≡ seat → ⊥) → end_at ends.new.producers.items c ≡ end_at ends.old.producers.items c) }
+    ensures consumers { OnOk result ((c : ℕ) → ((place places.now (wire start.now.net.now c).to.0).0 ≡ seat → ⊥) → end_at ends.new.consumers.items c ≡ end_at ends.old.consumers.items c) }
+{
+    let stands = stands(alloc, start, places, ends, seat)?;
+    let left = deal(alloc, places, order, blocks, seat)?;
+    Ok(Seat {
+        processor: seat,
+        stands,
+        left,
+        next: 0,
+    })
+}
+
+/// So many seats, each with its nodes and the list of its firings.
+pub(crate) fn seats<A: Actor>(
+    alloc: Global,
+    start: &Start<A>,
+    places: &[(usize, usize)],
+    order: &[usize],
+    blocks: u32,
+    ends: &mut Ends<A::Token>,
+    many: usize,
+) -> Result<Vec<Seat<A>>, AllocError>
+    requires start { CanStart A.steps start.now.net.now (lists start.now.inputs.now) (slice_index start.now.asked.items) start.now.room start.now.filler }
+    requires sizes { AreSizes A.steps start.now.net.now start.now.sizes }
+    requires asked { vec_len start.now.asked ≡ length start.now.net.now.nodes }
+    requires all { length places.now ≡ length start.now.net.now.nodes }
+    requires next { AreNext places.now }
+    requires order { (i : ℕ) → i < length order.now → slice_index order.now i < length places.now }
+    requires ends { (a : ℕ) → a < length places.now → HasEnds start.now.net.now a ends.old.producers.items ends.old.consumers.items }
+    ensures all { IfOk result (λ v. vec_len v ≡ many) }
+    ensures each { IfOk result (λ v. (i : ℕ) (e : _) → i < many → IsBegun A.steps start.now.net.now (lists start.now.inputs.now) (slice_index start.now.asked.items) ends.old.producers.items ends.old.consumers.items places.now (repeated blocks order.now) i (slice_index_or v.items i e)) }
+{
+    let mut seats = Vec::with_capacity(alloc, many)?;
+    for seat in 0..many {
+        seats.push(begin_seat(alloc, start, places, order, blocks, ends, seat)?)?;
+    }
+    Ok(seats)
+}

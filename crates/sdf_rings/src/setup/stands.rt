@@ -1,0 +1,135 @@
+//! A node before its first firing.
+
+ghost use Rattle.std.specs.Prelude.{◌≡◌, ◌<◌, ℕ, None, length, slice_index, slice_index_or, vec_len, IsSome, IfSome, IfOk, OnOk};
+ghost use Rattle.sdf_actor.specs.Nets.{wire, node};
+ghost use Rattle.sdf_actor.specs.Wires.{lists};
+ghost use Rattle.sdf_answer.specs.Sizes.{AreSizes};
+ghost use Rattle.sdf_rings.specs.Openings.{end_at, HasEnds};
+ghost use Rattle.sdf_rings.specs.Begun.{CanStart, HasIns, HasOuts, HasBegun};
+ghost use Rattle.sdf_rings.specs.Stands.{OwnArePairs, IsStand};
+
+use crate::setup::openings::Ends;
+use crate::setup::sizes::most;
+use crate::stand::Stand;
+use rtrb::{Consumer, Producer};
+use sdf_actor::{Actor, Net, Side};
+use sdf_answer::Sizes;
+use sdf_node::begin;
+use std::alloc::{AllocError, Global};
+use std::mem;
+
+/// What a run begins with.
+#[derive(Drop)]
+pub(crate) struct Start<'a, A: Actor> {
+    pub(crate) net: &'a Net<A>,
+    pub(crate) inputs: &'a [Vec<A::Token>],
+    /// What firings move.
+    pub(crate) sizes: Sizes,
+    /// How many firings are asked of each node.
+    pub(crate) asked: Vec<u64>,
+    /// How many samples a sink takes in all.
+    pub(crate) room: usize,
+    /// Any sample, where there is one.
+    pub(crate) filler: Option<A::Token>,
+}
+
+/// Takes the end of a ring out.
+fn take_end<E>(ends: &mut Vec<Option<E>>, c: usize) -> E
+    requires known { c < length ends.old.items }
+    requires there { IsSome (end_at ends.old.items c) }
+    ensures end { end_at ends.old.items c ≡ Some result }
+    ensures others { (d : ℕ) → (c ≡ d → ⊥) → end_at ends.new.items d ≡ end_at ends.old.items d }
+{
+    match mem::replace(&mut ends[c], None) {
+        Some(end) => end,
+        None => unreachable!(),
+    }
+}
+
+/// Takes the ends of the rings of some channels out, in order.
+fn take_ends<E: Drop>(
+    alloc: Global,
+    ends: &mut Vec<Option<E>>,
+    channels: &[usize],
+) -> Result<Vec<E>, AllocError>
+    requires there { (i : ℕ) → i < length channels.now → IsSome (end_at ends.old.items (slice_index channels.now i)) }
+    requires once { (i k : ℕ) → i < length channels.now → k < length channels.now → slice_index channels.now i ≡ slice_index channels.now k → i ≡ k }
+    ensures all { IfOk result (λ v. vec_len v ≡ length channels.now) }
+    ensures each { IfOk result (λ v. (i : ℕ) (d : E) → i < length channels.now → end_at ends.old.items (slice_index channels.now i) ≡ Some (slice_index_or v.items i d)) }
+    ensures others { OnOk result ((c : ℕ) → ((i : ℕ) → i < length channels.now → slice_index channels.now i ≡ c → ⊥) → end_at ends.new.items c ≡ end_at ends.old.items c) }
+{
+    let mut taken = Vec::with_capacity(alloc, channels.len())?;
+    for channel in channels {
+        taken.push(take_end(ends, *channel))?;
+    }
+    Ok(taken)
+}
+
+/// A block of fillers, where there is one.
+fn fillers<T: Copy>(alloc: Global, filler: Option<T>, many: usize) -> Result<Vec<T>, AllocError>
+    ensures { IfSome filler (λ _. IfOk result (λ v. vec_len v ≡ many)) }
+{
+    match filler {
+        Some(filler) => vec![in alloc; filler; many],
+        None => Ok(Vec::new(alloc)),
+    }
+}
+
+/// A node with its ends of rings.
+fn make_stand<A: Actor>(
+    alloc: Global,
+    start: &Start<A>,
+    a: usize,
+    ins: Vec<Consumer<A::Token, Global>>,
+    outs: Vec<Producer<A::Token, Global>>,
+) -> Result<Stand<A>, AllocError>
+    requires known { a < length start.now.net.now.nodes }
+    requires start { CanStart A.steps start.now.net.now (lists start.now.inputs.now) (slice_index start.now.asked.items) start.now.room start.now.filler }
+    requires sizes { AreSizes A.steps start.now.net.now start.now.sizes }
+    requires asked { vec_len start.now.asked ≡ length start.now.net.now.nodes }
+    requires ins { HasIns A.steps start.now.net.now a ins.items }
+    requires outs { HasOuts A.steps start.now.net.now a outs.items }
+    requires own { OwnArePairs start.now.net.now a ins.items outs.items }
+    ensures stand { IfOk result (IsStand A.steps start.now.net.now (lists start.now.inputs.now)) }
+    ensures begun { IfOk result (λ x. (x.actor ≡ a) × (x.done ≡ 0) × (x.asked ≡ slice_index start.now.asked.items a)) }
+    ensures ends { IfOk result (λ x. (x.ins ≡ ins) × (x.outs ≡ outs)) }
+{
+    sdf_actor::laws::nets_are_wired::<A>();
+    sdf_actor::laws::locals_grow::<A>();
+    let node = start.net.node(a);
+    let many = most(node);
+    Ok(Stand {
+        actor: a,
+        state: begin(alloc, node, start.room)?,
+        ins,
+        outs,
+        takes: start.sizes.rows(alloc, start.net, a, Side::Input)?,
+        puts: start.sizes.rows(alloc, start.net, a, Side::Output)?,
+        taken: fillers(alloc, start.filler, many)?,
+        put: fillers(alloc, start.filler, many)?,
+        done: 0,
+        asked: start.asked[a],
+    })
+}
+
+/// A node before its first firing, with the ends at its ports.
+pub(crate) fn begin_stand<A: Actor>(
+    alloc: Global,
+    start: &Start<A>,
+    ends: &mut Ends<A::Token>,
+    a: usize,
+) -> Result<Stand<A>, AllocError>
+    requires known { a < length start.now.net.now.nodes }
+    requires start { CanStart A.steps start.now.net.now (lists start.now.inputs.now) (slice_index start.now.asked.items) start.now.room start.now.filler }
+    requires sizes { AreSizes A.steps start.now.net.now start.now.sizes }
+    requires asked { vec_len start.now.asked ≡ length start.now.net.now.nodes }
+    requires ends { HasEnds start.now.net.now a ends.old.producers.items ends.old.consumers.items }
+    ensures begun { IfOk result (HasBegun A.steps start.now.net.now (lists start.now.inputs.now) (slice_index start.now.asked.items) ends.old.producers.items ends.old.consumers.items a) }
+    ensures producers { OnOk result ((c : ℕ) → ((wire start.now.net.now c).from.0 ≡ a → ⊥) → end_at ends.new.producers.items c ≡ end_at ends.old.producers.items c) }
+    ensures consumers { OnOk result ((c : ℕ) → ((wire start.now.net.now c).to.0 ≡ a → ⊥) → end_at ends.new.consumers.items c ≡ end_at ends.old.consumers.items c) }
+{
+    sdf_actor::laws::nets_are_wired::<A>();
+    let ins = take_ends(alloc, &mut ends.consumers, start.net.channels_in(a))?;
+    let outs = take_ends(alloc, &mut ends.producers, start.net.channels_out(a))?;
+    make_stand(alloc, start, a, ins, outs)
+}

@@ -1,0 +1,189 @@
+-- A row's jobs, filled and then fired.
+use Rattle.std.proofs.Common.{◌≡◌, ℕ, ◌≤◌, ◌<◌, List, [], ◌∷◌, ◌++◌, length, get_or, take, sym, ap, ◌∙◌, subst, arith}
+use Rattle.std.specs.List.{All, sum_by}
+use Rattle.std.proofs.lemmas.List.{same_lists, get_or-map, length-map}
+use Rattle.std.proofs.lemmas.List.Elements.{All-nil, All-from_get_or}
+use Rattle.sdf_actor.specs.Steps.{Steps}
+use Rattle.sdf_actor.specs.Histories.{taken, taken_before}
+use Rattle.sdf_actor.specs.Nets.{Netlist, node, wiring, answer_of}
+use Rattle.sdf_node.specs.Nodes.{phase_at, takes_of, puts_of, CanStep, IsAt}
+use Rattle.sdf_node.specs.Laws.{NodesCanStep, NodesKeepPhase}
+use Rattle.sdf_node.specs.declared.node.NodeState.{NodeState}
+use Rattle.sdf_rows.specs.declared.job.Job.{Job}
+use Rattle.sdf_answer.specs.Held.{Held}
+use Rattle.sdf_answer.specs.Blocks.{samples}
+use Rattle.sdf_answer.specs.Sizes.{Rows, AreSizes, at_phase, phase_of}
+use Rattle.sdf_rows.specs.Jobs.{fronts, JobFits, HasFired}
+use Rattle.sdf_rows.specs.Stage.{actors_of}
+use Rattle.sdf_rows.specs.Stands.{IsLoaded, IsBack, IsFilling, IsSettling, IsBetween, HaveBlocks, KeepBlocks}
+use Rattle.sdf_rows.proofs.Known.{Known}
+use Rattle.sdf_rows.proofs.Settles.{plan, held, ports_in, in_cycle, takes_in, takes_are}
+
+-- all elements, each with a default of its own
+pub all_from : {X : Type 0} (P : X → Type 0) (xs : List X) → ((i : ℕ) (d : X) → i < length xs → P (get_or xs i d)) → All P xs
+all_from P [] each = All-nil P
+all_from P (x ∷ xs) each = All-from_get_or P (x ∷ xs) x (λ i h. each i x h)
+
+module _ {A S T : Type 0} (s : Steps A S T) (n : Netlist A T) (net : Known s n) (z : Rows) (sizes : AreSizes s n z) (inputs : List (List T)) (steps : NodesCanStep s) (phases : NodesKeepPhase s)
+    (many low high : ℕ → ℕ) (acts : List ℕ) (k : ℕ → ℕ) (states : List (NodeState T S)) (ls : List (Held T)) (jobs : List (Job A T S)) (st : IsFilling s n inputs many low high acts 0 k states ls jobs)
+    (i : ℕ) (h : i < length acts) (d : Job A T S) where
+  abbrev pub who : ℕ
+  who = get_or acts i 0
+
+  abbrev pub job : Job A T S
+  job = get_or jobs i d
+
+  first : 0 ≤ i
+  first = omega arith
+
+  has : IsLoaded s n inputs many k st.history who job
+  has = st.jobs_are i d first h
+
+  count : length (taken_before (wiring s n) st.history who (k who)) ≡ k who
+  count = net.counts n st.history who (k who)
+
+  -- the job is at the phase of its state
+  at_phase_is : phase_at job.state ≡ job.phase
+  at_phase_is =
+      phases inputs (node n who) (many who) (taken_before (wiring s n) st.history who (k who)) job.state has.state ∙
+      (ap (phase_of s (node n who)) count ∙ sym has.phase)
+
+  same_job : record job { actor = who } ≡ job
+  same_job = λ e. record job { actor = sym has.actor e }
+
+  left : k who < many who
+  left = let l = st.within i first h in omega (arith, l, st.top who (st.known i h))
+
+  fits_at : JobFits s n inputs z ls (record job { actor = who })
+  fits_at =
+      let total : ℕ = sum_by (λ c. get_or (at_phase z.takes job.phase) c 0) ((wiring s n).ins who) in
+      let total_is : total ≡ takes_of s (node n who) job.phase = takes_are s n net z sizes inputs many low high acts 0 i k states ls jobs (IsLoaded s n inputs many) st first h job.phase has.phase in
+      let can : CanStep s inputs (node n who) job.state (takes_of s (node n who) (phase_at job.state)) (puts_of s (node n who) (phase_at job.state)) =
+      steps inputs (node n who) (many who) (taken_before (wiring s n) st.history who (k who)) job.state has.state (sizes.some who (st.known i h)) (omega (arith, count, left)) in
+      record {
+        known = st.known i h;
+        in_cycle = in_cycle s n net z sizes inputs many low high acts 0 i k states ls jobs (IsLoaded s n inputs many) st first h job.phase has.phase;
+        sized = takes_in s n net z sizes inputs many low high acts 0 i k states ls jobs (IsLoaded s n inputs many) st first h job.phase has.phase;
+        ports = ports_in s n net z sizes inputs many low high acts 0 i k states ls jobs (IsLoaded s n inputs many) st first h job.phase has.phase;
+        held = held s n net z sizes inputs many low high acts 0 i k states ls jobs (IsLoaded s n inputs many) st first h job.phase has.phase;
+        room = omega (arith, total_is, ap (takes_of s (node n who)) has.phase, has.blocks.taken who (k who) (st.known i h));
+        long = omega (arith, ap (puts_of s (node n who)) has.phase, has.blocks.put who (k who) (st.known i h));
+        can = subst (λ m. CanStep s inputs (node n who) job.state m (puts_of s (node n who) job.phase)) (sym total_is)
+            (subst (λ p. CanStep s inputs (node n who) job.state (takes_of s (node n who) p) (puts_of s (node n who) p)) at_phase_is can);
+      }
+
+  pub job_fits : JobFits s n inputs z ls job
+  job_fits = subst (λ j. JobFits s n inputs z ls j) same_job fits_at
+
+  -- what it takes is the node's next block
+  block_is : fronts (at_phase z.takes job.phase) ((wiring s n).ins who) ls ≡ taken (wiring s n) st.history who (k who)
+  block_is =
+      net.stand n k who st.history (at_phase z.takes job.phase) (at_phase z.puts job.phase) (samples ls) net.good (st.known i h)
+      (plan s n net z sizes inputs many low high acts 0 i k states ls jobs (IsLoaded s n inputs many) st first h job.phase has.phase) st.left
+
+  pub is_back : (job' : Job A T S) → HasFired s n inputs z ls job job' → IsBack s n inputs many k st.history who job'
+  is_back job' fired =
+      let past : List (List T) = taken_before (wiring s n) st.history who (k who) in
+      let at : HasFired s n inputs z ls (record job { actor = who }) job' = subst (λ j. HasFired s n inputs z ls j job') (sym same_job) fired in
+      let phase : job'.phase ≡ phase_of s (node n who) (k who) = at.phase_kept ∙ has.phase in
+      record {
+        actor = at.actor_kept;
+        phase = phase;
+        long = omega (arith, ap (puts_of s (node n who)) phase, at.long_kept, has.blocks.put who (k who) (st.known i h));
+        state = subst (λ b. IsAt s inputs (many who) (node n who) (past ++ b ∷ []) job'.state) block_is (at.at (many who) past has.state);
+        put = ap (λ m. take (puts_of s (node n who) m) job'.put.items) at.phase_kept ∙
+            (at.put (many who) past has.state ∙ ap (answer_of s inputs (node n who) past) block_is);
+      }
+
+module _ {A S T : Type 0} (s : Steps A S T) (n : Netlist A T) (net : Known s n) (z : Rows) (sizes : AreSizes s n z) (inputs : List (List T)) (steps : NodesCanStep s) (phases : NodesKeepPhase s)
+    (many low high : ℕ → ℕ) (k : ℕ → ℕ) (states : List (NodeState T S)) (ls : List (Held T)) (jobs : List (Job A T S)) (st : IsFilling s n inputs many low high (actors_of jobs) 0 k states ls jobs) where
+  acts_long : length (actors_of jobs) ≡ length jobs
+  acts_long = length-map jobs (λ j. j.actor)
+
+  pub all_fit : All (JobFits s n inputs z ls) jobs
+  all_fit = all_from (JobFits s n inputs z ls) jobs (λ i d h. job_fits s n net z sizes inputs steps phases many low high (actors_of jobs) k states ls jobs st i (omega (arith, acts_long)) d)
+
+  module _ (jobs' : List (Job A T S)) (all : length jobs' ≡ length jobs) (fired : (i : ℕ) (j : Job A T S) → i < length jobs → HasFired s n inputs z ls (get_or jobs i j) (get_or jobs' i j)) where
+    pub same_actors : actors_of jobs' ≡ actors_of jobs
+    same_actors =
+        same_lists (actors_of jobs') (actors_of jobs) (length-map jobs' (λ j. j.actor) ∙ (all ∙ sym acts_long))
+        (λ i d h.
+        let h' : i < length jobs' = omega (arith, length-map jobs' (λ j. j.actor)) in
+        let j : Job A T S = some_job jobs' i h' in
+        get_or-map (λ (j : Job A T S). j.actor) jobs' i j d h' ∙
+        ((fired i j (omega (arith, all))).actor_kept ∙ sym (get_or-map (λ (j : Job A T S). j.actor) jobs i j d (omega (arith, all)))))
+      where
+        some_job : (js : List (Job A T S)) (i : ℕ) → i < length js → Job A T S
+        some_job [] i h = absurd (omega arith)
+        some_job (j ∷ js) i h = j
+
+    pub all_back : IsSettling s n inputs many low high (actors_of jobs) 0 k states ls jobs'
+    all_back = record {
+      small = st.small;
+      reach = st.reach;
+      top = st.top;
+      history = st.history;
+      is = st.is;
+      channels = st.channels;
+      left = st.left;
+      above = st.above;
+      below = st.below;
+      fits = st.fits;
+      nodes = st.nodes;
+      known = st.known;
+      apart = st.apart;
+      idle = st.idle;
+      jobs_are = λ i j from h.
+          is_back s n net z sizes inputs steps phases many low high (actors_of jobs) k states ls jobs st i h j (get_or jobs' i j) (fired i j (omega (arith, acts_long)));
+      able = st.able;
+      within = st.within;
+    }
+
+    pub all_back_here : IsSettling s n inputs many low high (actors_of jobs') 0 k states ls jobs'
+    all_back_here = subst (λ acts. IsSettling s n inputs many low high acts 0 k states ls jobs') (sym same_actors) all_back
+
+    pub fired_keep : KeepBlocks jobs jobs'
+    fired_keep = record {
+      all = all;
+      taken = λ i j h. (fired i j h).room_kept;
+      put = λ i j h. (fired i j h).long_kept;
+    }
+
+-- when all are settled, the row is over
+pub row_over : {A S T : Type 0} (s : Steps A S T) (n : Netlist A T) (inputs : List (List T)) (many low high : ℕ → ℕ) (acts : List ℕ) (from : ℕ) (k : ℕ → ℕ) (states : List (NodeState T S)) (ls : List (Held T)) (jobs : List (Job A T S)) →
+    length acts ≤ from → IsSettling s n inputs many low high acts from k states ls jobs → IsBetween s n inputs many low high k states ls
+row_over s n inputs many low high acts from k states ls jobs over st = record {
+  small = st.small;
+  reach = st.reach;
+  top = st.top;
+  history = st.history;
+  is = st.is;
+  channels = st.channels;
+  left = st.left;
+  above = st.above;
+  below = st.below;
+  fits = st.fits;
+  nodes = st.nodes;
+  known = λ i h. absurd (omega arith);
+  apart = λ i m h. absurd (omega arith);
+  idle = λ a w l none. st.idle a w l (λ i f h e. absurd (omega arith));
+  jobs_are = λ i j f h. absurd (omega arith);
+  able = λ i f h. absurd (omega arith);
+  within = λ i f h. absurd (omega arith);
+}
+
+pub keep_twice : {A S T : Type 0} (x y z : List (Job A T S)) → KeepBlocks x y → KeepBlocks y z → KeepBlocks x z
+keep_twice x y z one two = record {
+  all = two.all ∙ one.all;
+  taken = λ i j h. two.taken i j (omega (arith, one.all)) ∙ one.taken i j h;
+  put = λ i j h. two.put i j (omega (arith, one.all)) ∙ one.put i j h;
+}
+
+pub keep_have : {A S T : Type 0} (s : Steps A S T) (n : Netlist A T) (x y : List (Job A T S)) → HaveBlocks s n x → KeepBlocks x y → HaveBlocks s n y
+keep_have s n x y have keeps i j h =
+    let l : i < length x = omega (arith, keeps.all) in
+    let was = have i j l in
+    record {
+      taken = λ a p k. omega (arith, was.taken a p k, keeps.taken i j l);
+      put = λ a p k. omega (arith, was.put a p k, keeps.put i j l);
+    }

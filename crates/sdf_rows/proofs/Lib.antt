@@ -1,0 +1,13 @@
+mod Known
+mod Ports
+mod Readings
+mod Jobs
+mod Loads
+mod Settles
+mod Fills
+mod Between
+mod Blocks
+mod Rounds
+mod Counts
+mod Ends
+mod Lists

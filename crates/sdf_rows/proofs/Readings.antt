@@ -1,0 +1,25 @@
+-- Lists that are read and pushed on.
+use Rattle.std.proofs.Common.{◌≡◌, ℕ, ◌+◌, ◌<◌, List, [], ◌∷◌, ◌++◌, length, get_or, sym, ◌∙◌, subst, inl, inr, ◌⊎◌, ◌≤◌, vec_len, arith}
+use Rattle.std.proofs.lemmas.List.{get_or_append_left, get_or_push}
+use Rattle.std.proofs.lemmas.Bool.{cases_lt}
+use Rattle.std.specs.declared.vec.Vec.{Vec}
+use Rattle.std.specs.Global.{Global}
+
+-- an element of a list that has one
+pub some_of : {X : Type 0} (xs : List X) (i : ℕ) → i < length xs → X
+some_of [] i h = absurd (omega arith)
+some_of (x ∷ xs) i h = x
+
+pub vec_long : {X : Type 0} (v : Vec X Global) → length v.items ≡ vec_len v
+vec_long v = omega arith
+
+-- what holds of each element, with one more
+pub push_each : {X : Type 0} (P : ℕ → X → Type 0) (xs ys : List X) (x : X) (i : ℕ) → ys ≡ xs ++ x ∷ [] → length xs ≡ i →
+    ((k : ℕ) (d : X) → k < i → P k (get_or xs k d)) → P i x → (k : ℕ) (d : X) → k < i + 1 → P k (get_or ys k d)
+push_each P xs ys x i is long before here k d h = subst (λ zs. P k (get_or zs k d)) (sym is) (go (cases_lt k i))
+  where
+    go : (k < i) ⊎ (i ≤ k) → P k (get_or (xs ++ x ∷ []) k d)
+    go (inl below) = subst (P k) (sym (get_or_append_left xs (x ∷ []) d k (omega arith))) (before k d below)
+    go (inr above) =
+        let at : i ≡ k = omega arith in
+        subst (P k) (sym (get_or_push xs x d k (long ∙ at))) (subst (λ j. P j x) at here)

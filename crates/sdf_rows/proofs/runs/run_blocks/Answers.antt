@@ -1,0 +1,57 @@
+use Rattle.std.proofs.Common.{◌≡◌, ◌*◌, get_or, subst, ◌∙◌, arith}
+use Rattle.sdf_graph.specs.Rates.{rates}
+use Rattle.sdf_actor.specs.Graphs.{graph_of}
+use Rattle.sdf_actor.specs.Wires.{lists}
+use Rattle.sdf_rows.specs.Blocks.{IsResting}
+use Rattle.sdf_rows.proofs.Fills.{keep_twice, keep_have}
+use Rattle.sdf_rows.proofs.Rounds.{round_here, block_begins, block_ends}
+use Rattle.sdf_rows.proofs.runs.run_blocks.Goals as goal
+
+pub run_block-requires-clause-start : goal.run_block-requires-clause-start
+run_block-requires-clause-start g c = λ κs within.
+    let s = g.A.Actor.steps in
+    let n = c.args.scene.now.net.now in
+    let q = c.args.course.now.repetitions.now in
+    let j = c.args.course.now.j in (
+      (λ a. c.args.blocks * (j * get_or q a 0)),
+      block_begins s n (rates (graph_of s n)) c.requires.alike (c.graphs_are_sound.ensures (graph_of s n) c.requires.graph) q (c.graphs_have_periods.ensures (graph_of s n) q c.requires.graph c.requires.period.is)
+          (lists c.args.scene.now.inputs.now) j c.args.blocks c.loop.counter (λ a. get_or c.loop.done a 0) c.loop.states c.loop.lines c.loop.invariant.rests c.loop-test.true,
+    )
+
+pub run_block-requires-clause-round : goal.run_block-requires-clause-round
+run_block-requires-clause-round g c = λ κs within.
+    let s = g.A.Actor.steps in
+    let n = c.args.scene.now.net.now in
+    let q = c.args.course.now.repetitions.now in
+    round_here s n (rates (graph_of s n)) c.requires.alike (c.graphs_are_sound.ensures (graph_of s n) c.requires.graph) q (c.graphs_have_periods.ensures (graph_of s n) q c.requires.graph c.requires.period.is)
+    (lists c.args.scene.now.inputs.now) c.args.course.now.j c.args.blocks c.loop.counter (λ a. get_or c.loop.done a 0) c.loop.states c.loop.lines c.loop.invariant.rests
+
+pub run_block-requires-clause-blocks : goal.run_block-requires-clause-blocks
+run_block-requires-clause-blocks g c = λ κs within.
+    keep_have g.A.Actor.steps c.args.scene.now.net.now c.args.jobs.now c.loop.jobs c.requires.blocks c.loop.invariant.blocks
+
+pub loop-preserved : goal.loop-preserved
+loop-preserved g c =
+    let s = g.A.Actor.steps in
+    let n = c.args.scene.now.net.now in
+    let q = c.args.course.now.repetitions.now in
+    let j = c.args.course.now.j in
+    let begins =
+    block_begins s n (rates (graph_of s n)) c.requires.alike (c.graphs_are_sound.ensures (graph_of s n) c.requires.graph) q (c.graphs_have_periods.ensures (graph_of s n) q c.requires.graph c.requires.period.is)
+    (lists c.args.scene.now.inputs.now) j c.args.blocks c.loop.counter (λ a. get_or c.loop.done a 0) c.loop.states c.loop.lines c.loop.invariant.rests c.loop-test.true in
+    record {
+      rests = block_ends s n (rates (graph_of s n)) c.requires.alike (c.graphs_are_sound.ensures (graph_of s n) c.requires.graph) q (c.graphs_have_periods.ensures (graph_of s n) q c.requires.graph c.requires.period.is)
+          (lists c.args.scene.now.inputs.now) j c.args.blocks c.loop.counter (λ a. get_or c.loop.done a 0) c.loop.states c.loop.lines c.loop.invariant.rests
+          (λ a. get_or c.run_block.new.done a 0) c.run_block.new.states c.run_block.new.lines c.run_block.ensures.done (c.run_block.ensures.over (λ a. c.args.blocks * (j * get_or q a 0)) begins);
+      counts = c.run_block.ensures.counts ∙ c.loop.invariant.counts;
+      blocks = keep_twice c.args.jobs.now c.loop.jobs c.run_block.new.jobs c.loop.invariant.blocks c.run_block.ensures.blocks;
+    }
+
+pub returns : goal.returns
+returns g c =
+    let s = g.A.Actor.steps in
+    let n = c.args.scene.now.net.now in
+    let e : c.loop.counter ≡ c.args.blocks = omega (arith, c.loop-test.false, c.loop.auto.counter-end) in
+    record {
+      over = subst (λ b. IsResting s n (lists c.args.scene.now.inputs.now) c.args.course.now.repetitions.now c.args.course.now.j c.args.blocks b (λ a. get_or c.loop.done a 0) c.loop.states c.loop.lines) e c.loop.invariant.rests;
+    }

@@ -1,0 +1,58 @@
+use Rattle.std.proofs.Common.{◌+◌, length, get_or, ap, ◌∙◌, arith}
+use Rattle.std.proofs.lemmas.List.{length-map}
+use Rattle.sdf_graph.specs.Sequences.{times}
+use Rattle.sdf_actor.specs.Wires.{lists}
+use Rattle.sdf_rows.specs.Stage.{actors_of}
+use Rattle.sdf_rows.proofs.Known.{Known}
+use Rattle.sdf_rows.proofs.Fills.{all_fit, same_actors, all_back_here, fired_keep, row_over, keep_twice}
+use Rattle.sdf_rows.proofs.stage.fire_row.Goals as goal
+use Rattle.sdf_rows.proofs.stage.fire_row.Goals.{After-row_laws}
+
+net : (g : Rattle.sdf_rows.proofs.stage.fire_row.Given.Over) (c : After-row_laws g) → Known g.A.Actor.steps c.args.scene.now.net.now
+net g c = record { good = c.requires.scene.good; wired = c.row_laws.ensures.wired c.args.scene.now.net.now c.requires.scene.good; fit = c.row_laws.ensures.fit; counts = c.row_laws.ensures.counts; stand = c.row_laws.ensures.stand; moves = c.row_laws.ensures.moves }
+
+pub fire_jobs-requires-after_bounds : goal.fire_jobs-requires-after_bounds
+fire_jobs-requires-after_bounds g c = λ κs within.
+    let b = c.requires.filled in
+    all_fit g.A.Actor.steps c.args.scene.now.net.now (net g (goal.at.fire_jobs-requires-after_bounds g c).After-row_laws) c.args.scene.now.sizes c.requires.scene.sizes (lists c.args.scene.now.inputs.now)
+    c.row_laws.ensures.steps c.row_laws.ensures.phases b.0 b.1 b.2 (λ a. get_or c.args.done.now a 0) c.args.states.now c.args.lines.now c.args.jobs.now b.3
+
+pub settle_row-requires-clause-back : goal.settle_row-requires-clause-back
+settle_row-requires-clause-back g c = λ κs within.
+    let b = c.requires.filled in (
+      b.0,
+      b.1,
+      b.2,
+      all_back_here g.A.Actor.steps c.args.scene.now.net.now (net g (goal.at.settle_row-requires-clause-back g c).After-row_laws) c.args.scene.now.sizes c.requires.scene.sizes (lists c.args.scene.now.inputs.now)
+          c.row_laws.ensures.steps c.row_laws.ensures.phases b.0 b.1 b.2 (λ a. get_or c.args.done.now a 0) c.args.states.now c.args.lines.now c.args.jobs.now b.3
+          c.fire_jobs.new.jobs c.fire_jobs.auto.jobs c.fire_jobs.ensures,
+    )
+
+pub returns-clause-settled : goal.returns-clause-settled
+returns-clause-settled g c = λ many low high was.
+    let s = g.A.Actor.steps in
+    let n = c.args.scene.now.net.now in
+    let inputs = lists c.args.scene.now.inputs.now in
+    let back =
+    all_back_here s n (net g (goal.at.returns-clause-settled g c).After-row_laws) c.args.scene.now.sizes c.requires.scene.sizes inputs
+    c.row_laws.ensures.steps c.row_laws.ensures.phases many low high (λ a. get_or c.args.done.now a 0) c.args.states.now c.args.lines.now c.args.jobs.now was
+    c.fire_jobs.new.jobs c.fire_jobs.auto.jobs c.fire_jobs.ensures in
+    row_over s n inputs many low high (actors_of c.fire_jobs.new.jobs) (length c.fire_jobs.new.jobs) (λ a. get_or c.settle_row.new.done a 0) c.settle_row.new.states c.settle_row.new.lines c.settle_row.new.jobs
+    (omega (arith, length-map c.fire_jobs.new.jobs (λ j. j.actor))) (c.settle_row.ensures.settled many low high back)
+
+pub returns-clause-done : goal.returns-clause-done
+returns-clause-done g c = λ a.
+    let b = c.requires.filled in
+    let same =
+    same_actors g.A.Actor.steps c.args.scene.now.net.now (net g (goal.at.returns-clause-done g c).After-row_laws) c.args.scene.now.sizes c.requires.scene.sizes (lists c.args.scene.now.inputs.now)
+    c.row_laws.ensures.steps c.row_laws.ensures.phases b.0 b.1 b.2 (λ a. get_or c.args.done.now a 0) c.args.states.now c.args.lines.now c.args.jobs.now b.3
+    c.fire_jobs.new.jobs c.fire_jobs.auto.jobs c.fire_jobs.ensures in
+    c.settle_row.ensures.done a ∙ ap (λ w. get_or c.args.done.now a 0 + times w a) same
+
+pub returns-clause-blocks : goal.returns-clause-blocks
+returns-clause-blocks g c =
+    let b = c.requires.filled in
+    keep_twice c.args.jobs.now c.fire_jobs.new.jobs c.settle_row.new.jobs
+    (fired_keep g.A.Actor.steps c.args.scene.now.net.now (net g (goal.at.returns-clause-blocks g c).After-row_laws) c.args.scene.now.sizes c.requires.scene.sizes (lists c.args.scene.now.inputs.now)
+    c.row_laws.ensures.steps c.row_laws.ensures.phases b.0 b.1 b.2 (λ a. get_or c.args.done.now a 0) c.args.states.now c.args.lines.now c.args.jobs.now b.3
+    c.fire_jobs.new.jobs c.fire_jobs.auto.jobs c.fire_jobs.ensures) c.settle_row.ensures.blocks

@@ -1,0 +1,40 @@
+-- The firings of one row.
+use Rattle.std.specs.Prelude.{◌≡◌, ℕ, ◌≤◌, ◌<◌, List, [], ◌∷◌, ◌++◌, length, take, slice_index, vec_capacity}
+use Rattle.std.specs.List.{flat_map, sum_by}
+use Rattle.sdf_actor.specs.Steps.{Steps}
+use Rattle.sdf_actor.specs.Nets.{Netlist, node, wiring, cycle_of, answer_of}
+use Rattle.sdf_node.specs.Nodes.{puts_of, CanStep, IsAt}
+use Rattle.sdf_rows.specs.declared.job.Job.{Job}
+use Rattle.sdf_answer.specs.Held.{Held}
+use Rattle.sdf_answer.specs.Blocks.{samples, ArePorts, HoldBlocks}
+use Rattle.sdf_answer.specs.Sizes.{Rows, at_phase}
+
+-- the block that stands at the fronts of some channels
+abbrev pub fronts : {T : Type 0} → List ℕ → List ℕ → List (Held T) → List T
+fronts sizes ports ls = flat_map (λ c. take (slice_index sizes c) (samples ls c)) ports
+
+module _ {A S T : Type 0} (s : Steps A S T) (n : Netlist A T) (inputs : List (List T)) (z : Rows) (ls : List (Held T)) where
+  -- the block that a firing takes
+  abbrev pub block_of : Job A T S → List T
+  block_of j = fronts (at_phase z.takes j.phase) ((wiring s n).ins j.actor) ls
+
+  -- its samples stand on the channels, and it can be done
+  pub record JobFits (j : Job A T S) : Type 0 where
+    pub known : j.actor < length n.nodes
+    pub in_cycle : j.phase < cycle_of s (node n j.actor)
+    pub sized : j.phase < length z.takes
+    pub ports : ArePorts ((wiring s n).ins j.actor) (at_phase z.takes j.phase) (length ls)
+    pub held : HoldBlocks ((wiring s n).ins j.actor) (at_phase z.takes j.phase) ls
+    pub room : sum_by (slice_index (at_phase z.takes j.phase)) ((wiring s n).ins j.actor) ≤ vec_capacity j.taken
+    pub long : puts_of s (node n j.actor) j.phase ≤ length j.put.items
+    pub can : CanStep s inputs (node n j.actor) j.state (sum_by (slice_index (at_phase z.takes j.phase)) ((wiring s n).ins j.actor)) (puts_of s (node n j.actor) j.phase)
+
+  -- the node's answer to its block, and its state after it
+  pub record HasFired (j k : Job A T S) : Type 0 where
+    pub actor_kept : k.actor ≡ j.actor
+    pub phase_kept : k.phase ≡ j.phase
+    pub room_kept : vec_capacity k.taken ≡ vec_capacity j.taken
+    pub long_kept : length k.put.items ≡ length j.put.items
+    pub at : (many : ℕ) (past : List (List T)) → IsAt s inputs many (node n j.actor) past j.state → IsAt s inputs many (node n j.actor) (past ++ block_of j ∷ []) k.state
+    pub put : (many : ℕ) (past : List (List T)) → IsAt s inputs many (node n j.actor) past j.state →
+        take (puts_of s (node n j.actor) j.phase) k.put.items ≡ answer_of s inputs (node n j.actor) past (block_of j)

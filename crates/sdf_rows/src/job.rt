@@ -1,0 +1,100 @@
+//! The firings of one row, at once.
+
+ghost use Rattle.std.specs.Prelude.{◌≡◌, ◌≤◌, ◌<◌, ◌++◌, ◌∷◌, [], ℕ, All, List, length, take, slice_index_or};
+ghost use Rattle.sdf_actor.specs.Nets.{answer_of, wiring};
+ghost use Rattle.sdf_actor.specs.Wires.{lists};
+ghost use Rattle.sdf_node.specs.Nodes.{CanStep, IsAt};
+ghost use Rattle.sdf_rows.specs.Jobs.{JobFits, HasFired};
+
+use crate::line::{Line, read_fronts};
+use sdf_actor::{Actor, Net, Node, Side};
+use sdf_answer::Sizes;
+use sdf_node::{ActorId, Gate, NodeState, puts, step};
+use std::thread;
+use std::thread::Threads;
+
+/// One firing of a row. Its blocks have room for any firing of any node, what it puts stands at the front of `put`.
+#[derive(Drop)]
+pub(crate) struct Job<A: Actor> {
+    pub(crate) processor: usize,
+    pub(crate) actor: ActorId,
+    /// Its number among all firings of the actor.
+    pub(crate) firing: u64,
+    pub(crate) phase: u32,
+    pub(crate) state: NodeState<A::Token, A::State>,
+    pub(crate) taken: Vec<A::Token>,
+    pub(crate) put: Vec<A::Token>,
+}
+
+/// Fires a node on the block taken. What it puts stands at the front of the other block.
+fn step_into<A: Actor>(
+    node: &Node<A>,
+    inputs: &[Vec<A::Token>],
+    state: &mut NodeState<A::Token, A::State>,
+    taken: &Vec<A::Token>,
+    put: &mut Vec<A::Token>,
+    many: usize,
+)
+    requires can { CanStep A.steps (lists inputs.now) node.now state.old (length taken.now.items) many }
+    requires long { many ≤ length put.old.items }
+    ensures state { (all : ℕ) (past : List (List A.Token)) → IsAt A.steps (lists inputs.now) all node.now past state.old → IsAt A.steps (lists inputs.now) all node.now (past ++ taken.now.items ∷ []) state.new }
+    ensures put { (all : ℕ) (past : List (List A.Token)) → IsAt A.steps (lists inputs.now) all node.now past state.old → take many put.new.items ≡ answer_of A.steps (lists inputs.now) node.now past taken.now.items }
+    ensures len { length put.new.items ≡ length put.old.items }
+{
+    let (front, _) = put.as_mut_slice().split_at_mut(many);
+    step(node, inputs, state, taken.as_slice(), front);
+}
+
+/// One firing, of the samples that stand on the channels.
+fn fire_job<A: Actor, G: Gate>(
+    net: &Net<A>,
+    inputs: &[Vec<A::Token>],
+    sizes: &Sizes,
+    lines: &[Line<A::Token>],
+    job: &mut Job<A>,
+    gate: &G,
+)
+    requires { JobFits A.steps net.now (lists inputs.now) sizes.now lines.now job.old }
+    ensures { HasFired A.steps net.now (lists inputs.now) sizes.now lines.now job.old job.new }
+{
+    gate.before(job.processor, job.actor, job.firing);
+    job.taken.clear();
+    read_fronts(
+        net.channels_in(job.actor),
+        sizes.on(Side::Input, job.phase),
+        lines,
+        &mut job.taken,
+    );
+    let node = net.node(job.actor);
+    let many = puts(node, job.phase);
+    step_into(node, inputs, &mut job.state, &job.taken, &mut job.put, many);
+}
+
+/// Each firing in a worker of its own, or a single one here. All are back when it returns.
+pub(crate) fn fire_jobs<R: Threads + Sync, A: Actor, G: Gate>(
+    rt: &R,
+    net: &Net<A>,
+    inputs: &[Vec<A::Token>],
+    sizes: &Sizes,
+    lines: &[Line<A::Token>],
+    jobs: &mut [Job<A>],
+    gate: &G,
+)
+    requires { All (JobFits A.steps net.now (lists inputs.now) sizes.now lines.now) jobs.old }
+    ensures { (i : ℕ) (j : _) → i < length jobs.old → HasFired A.steps net.now (lists inputs.now) sizes.now lines.now (slice_index_or jobs.old i j) (slice_index_or jobs.new i j) }
+{
+    let threads = jobs.len();
+    if threads > 0 {
+        thread::for_each_mut(
+            rt,
+            jobs,
+            threads,
+            &|_: usize, job: &mut Job<A>|
+                requires { JobFits A.steps net.now (lists inputs.now) sizes.now lines.now job.now }
+                ensures { HasFired A.steps net.entry.now (lists inputs.entry.now) sizes.entry.now lines.entry.now job.entry.now job.exit.now }
+            {
+                fire_job(net, inputs, sizes, lines, job, gate);
+            },
+        );
+    }
+}

@@ -1,0 +1,16 @@
+//! Runs of nets by the rows of a table: all firings of a row at once.
+//!
+//! It stands on `sdf_answer`, `sdf_graph`, `sdf_sched`, `sdf_prec`, `sdf_actor` and `sdf_node`. Begin at `rows`, the runner, then `runs`, its
+//! rows and blocks, `stage`, one row, `job`, its firings at once, `line`, the samples of a channel, and `collect`, the lists that
+//! sinks made. What a row is between two others is in `specs/Stands.antt`.
+#![tactic(auto)]
+
+mod collect;
+mod job;
+mod line;
+pub mod rows;
+mod runs;
+mod setup;
+mod stage;
+
+pub use rows::run_rows;

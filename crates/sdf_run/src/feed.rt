@@ -1,0 +1,158 @@
+//! A run on one thread that another one goes on from.
+
+ghost use Rattle.std.specs.Prelude.{◌≡◌, ◌*◌, ◌<◌, ℕ, List, map, MatchResult, IfOk};
+ghost use Rattle.sdf_graph.specs.Rates.{rates};
+ghost use Rattle.sdf_sched.specs.Period.{IsPeriodOf};
+ghost use Rattle.sdf_actor.specs.Graphs.{graph_of};
+ghost use Rattle.sdf_actor.specs.Rests.{IsRest};
+ghost use Rattle.sdf_actor.specs.Sides.{list_count, period_samples};
+ghost use Rattle.sdf_actor.specs.Wires.{lists};
+ghost use Rattle.sdf_actor.specs.declared.sides.Lists.TheVariants.{Inputs, Outputs};
+ghost use Rattle.sdf_answer.specs.Answer.{HasInputs, periods_of, IsRunFault};
+ghost use Rattle.sdf_answer.specs.Feeds.{HasRun, GoesOnBy};
+ghost use Rattle.sdf_answer.specs.Lists.{AreEmpty};
+ghost use Rattle.sdf_run.specs.Fired.{state_in};
+
+use crate::one::fired;
+use crate::queue::Queue;
+use crate::work::Work;
+use sdf_actor::laws::periods_are_whole;
+use sdf_actor::{Actor, Begun, Net, Rest};
+use sdf_answer::inputs::{are_inputs, first_sample};
+use sdf_answer::laws::{feeds_go_on, histories_make_runs, net_facts, nets_have_periods};
+use sdf_answer::outputs::make_outputs;
+use sdf_answer::{Ran, RunFault};
+use sdf_graph::laws::one_least_period;
+use sdf_sched::Period;
+use std::alloc::{AllocError, Global};
+
+/// A copy of the state of an actor at work.
+fn state_of<A: Actor>(alloc: Global, work: &Work<A>) -> Result<Option<A::State>, AllocError>
+    ensures { IfOk result (λ state. state ≡ state_in work.now) }
+{
+    match work {
+        Work::Inner { actor, state, .. } => Ok(Some(actor.again(alloc, state)?)),
+        _ => Ok(None),
+    }
+}
+
+/// Copies of the states of all actors.
+fn states_of<A: Actor>(
+    alloc: Global,
+    works: &[Work<A>],
+) -> Result<Vec<Option<A::State>>, AllocError>
+    ensures { IfOk result (λ v. v.items ≡ map state_in works.now) }
+{
+    let mut states = Vec::new(alloc);
+    for work in works {
+        states.push(state_of(alloc, work)?)?;
+    }
+    Ok(states)
+}
+
+/// Copies of the samples on all channels.
+fn samples_of<T: Copy>(alloc: Global, queues: &[Queue<T>]) -> Result<Vec<Vec<T>>, AllocError>
+    ensures { IfOk result (λ v. lists v.items ≡ map (λ q. q.samples) queues.now) }
+{
+    let mut held = Vec::new(alloc);
+    for queue in queues {
+        held.push(Vec::from_slice(alloc, queue.oldest(queue.len()))?)?;
+    }
+    Ok(held)
+}
+
+/// What a run makes and leaves.
+fn run<A: Actor>(
+    alloc: Global,
+    net: &Net<A>,
+    period: &Period,
+    periods: u32,
+    inputs: &[Vec<A::Token>],
+    filler: A::Token,
+    outputs: Vec<Vec<A::Token>>,
+) -> Result<(Vec<Vec<A::Token>>, Rest<A::Token, A::State>), AllocError>
+    requires period { IsPeriodOf (rates (graph_of A.steps net.now)) period.now }
+    requires inputs { HasInputs net.now period.now.repetitions periods (lists inputs.now) }
+    requires outputs { AreEmpty outputs.items (list_count Outputs net.now.nodes) (periods * period_samples net.now.nodes Outputs period.now.repetitions) }
+    ensures { IfOk result (λ made. HasRun A.steps net.now (lists inputs.now) (periods_of period.now.repetitions periods) (lists made.0.items) made.1) }
+{
+    net_facts(net);
+    histories_make_runs::<A>();
+    sdf_actor::laws::nets_are_wired::<A>();
+    let finished = fired(alloc, net, period, periods, inputs, filler, outputs)?;
+    let rest = Rest {
+        states: states_of(alloc, &finished.works)?,
+        held: samples_of(alloc, &finished.queues)?,
+    };
+    Ok((finished.outputs, rest))
+}
+
+/// What a run makes and leaves. Without a sample there are no periods, and nothing fires.
+fn fill<A: Actor>(
+    alloc: Global,
+    net: &Net<A>,
+    period: &Period,
+    periods: u32,
+    inputs: &[Vec<A::Token>],
+    outputs: Vec<Vec<A::Token>>,
+) -> Result<(Vec<Vec<A::Token>>, Rest<A::Token, A::State>), AllocError>
+    requires period { IsPeriodOf (rates (graph_of A.steps net.now)) period.now }
+    requires inputs { HasInputs net.now period.now.repetitions periods (lists inputs.now) }
+    requires some { 0 < period_samples net.now.nodes Inputs period.now.repetitions }
+    requires outputs { AreEmpty outputs.items (list_count Outputs net.now.nodes) (periods * period_samples net.now.nodes Outputs period.now.repetitions) }
+    ensures { IfOk result (λ made. HasRun A.steps net.now (lists inputs.now) (periods_of period.now.repetitions periods) (lists made.0.items) made.1) }
+{
+    net_facts(net);
+    histories_make_runs::<A>();
+    match first_sample(inputs) {
+        Some(filler) => run(alloc, net, period, periods, inputs, filler, outputs),
+        None => Ok((outputs, net.first_rest(alloc)?)),
+    }
+}
+
+/// Runs a net as `run_one` does, and gives what the run leaves beside what it makes. `Net::begun` goes on from there.
+pub fn feed_one<A: Actor>(
+    alloc: Global,
+    net: &Net<A>,
+    period: &Period,
+    periods: u32,
+    inputs: &[Vec<A::Token>],
+) -> Result<(Ran<A::Token>, Rest<A::Token, A::State>), RunFault>
+    requires period { IsPeriodOf (rates (graph_of A.steps net.now)) period.now }
+    ensures { let q = period.now.repetitions in MatchResult result
+        (λ fed. HasInputs net.now q periods (lists inputs.now) × HasRun A.steps net.now (lists inputs.now) (periods_of q periods) (lists fed.0.outputs.items) fed.1 × (fed.0.rounds ≡ 0))
+        (IsRunFault net.now q periods (lists inputs.now)) }
+{
+    let least = periods as usize * net.samples_in();
+    if !are_inputs(inputs, net.inputs(), least) {
+        return Err(RunFault::InputLength);
+    }
+    let room = periods as usize * net.samples_out();
+    let outputs = make_outputs(alloc, net.outputs(), room)?;
+    let (outputs, rest) = fill(alloc, net, period, periods, inputs, outputs)?;
+    Ok((Ran { outputs, rounds: 0 }, rest))
+}
+
+/// Goes on from where runs of a net left it, with all samples read: by further periods on further inputs. What it makes, joined to
+/// what they made, is what one run on all inputs makes.
+pub fn resume_one<A: Actor>(
+    alloc: Global,
+    net: &Net<A>,
+    period: &Period,
+    rest: &Rest<A::Token, A::State>,
+    periods: u32,
+    inputs: &[Vec<A::Token>],
+) -> Result<(Ran<A::Token>, Rest<A::Token, A::State>), RunFault>
+    requires period { IsPeriodOf (rates (graph_of A.steps net.now)) period.now }
+    requires rest { (first : List (List A.Token)) × (few : ℕ) × IsRest A.steps net.now first (periods_of period.now.repetitions few) rest.now }
+    ensures { let q = period.now.repetitions in MatchResult result
+        (λ fed. GoesOnBy A.steps net.now q rest.now periods (lists inputs.now) (lists fed.0.outputs.items) fed.1 × (fed.0.rounds ≡ 0))
+        (IsRunFault net.now q periods (lists inputs.now)) }
+{
+    nets_have_periods(net, period);
+    periods_are_whole::<A>();
+    one_least_period();
+    feeds_go_on::<A, Begun<A>>();
+    let begun = net.begun(alloc, rest)?;
+    feed_one(alloc, &begun, period, periods, inputs)
+}

@@ -1,0 +1,89 @@
+//! Small nets that are fed in two pieces.
+
+use crate::tests::{Sum, Twice, chain, list, pair};
+use crate::{feed_one, resume_one};
+use sdf_actor::{Actor, Net};
+use sdf_sched::Round;
+use sdf_sched::class_s::class_s;
+use std::alloc::Global;
+use std::test::Fail;
+
+/// What a run of some periods makes, and then what a further one makes.
+fn in_pieces<A: Actor>(
+    alloc: Global,
+    net: &Net<A>,
+    periods: (u32, u32),
+    first: &[Vec<A::Token>],
+    later: &[Vec<A::Token>],
+) -> Result<Vec<Vec<Vec<A::Token>>>, Fail> {
+    let period = class_s(alloc, net.graph(), net.repetitions(), &mut Round::new())?;
+    let (ran, rest) = feed_one(alloc, net, &period, periods.0, first)?;
+    let (more, _last) = resume_one(alloc, net, &period, &rest, periods.1, later)?;
+    let mut made = Vec::new(alloc);
+    made.push(ran.outputs)?;
+    made.push(more.outputs)?;
+    Ok(made)
+}
+
+#[test]
+fn a_state_goes_on(rt: HostRuntime) -> Result<(), Fail> {
+    let alloc = rt.alloc();
+    let net = chain(alloc, Sum)?;
+    let made = in_pieces(
+        alloc,
+        &net,
+        (2, 1),
+        &list(alloc, &[1, 2])?,
+        &list(alloc, &[3])?,
+    )?;
+    assert_eq!(rt;
+        format!(in alloc; "{made:?}")?.as_str(),
+        "[[[1, 3]], [[6]]]"
+    );
+    Ok(())
+}
+
+#[test]
+fn phases_begin_anew(rt: HostRuntime) -> Result<(), Fail> {
+    let alloc = rt.alloc();
+    let net = chain(alloc, Twice)?;
+    let made = in_pieces(
+        alloc,
+        &net,
+        (1, 2),
+        &list(alloc, &[1])?,
+        &list(alloc, &[2, 3])?,
+    )?;
+    assert_eq!(rt;
+        format!(in alloc; "{made:?}")?.as_str(),
+        "[[[1, 1]], [[2, 2, 3, 3]]]"
+    );
+    Ok(())
+}
+
+#[test]
+fn held_samples_come_first(rt: HostRuntime) -> Result<(), Fail> {
+    let alloc = rt.alloc();
+    let net = pair(alloc, 1, 1, &[7, 8])?;
+    let made = in_pieces(
+        alloc,
+        &net,
+        (3, 2),
+        &list(alloc, &[1, 2, 3])?,
+        &list(alloc, &[4, 5])?,
+    )?;
+    assert_eq!(rt;
+        format!(in alloc; "{made:?}")?.as_str(),
+        "[[[7, 8, 1]], [[2, 3]]]"
+    );
+    Ok(())
+}
+
+#[test]
+fn an_empty_feed(rt: HostRuntime) -> Result<(), Fail> {
+    let alloc = rt.alloc();
+    let net = pair(alloc, 1, 1, &[7, 8])?;
+    let made = in_pieces(alloc, &net, (0, 1), &list(alloc, &[])?, &list(alloc, &[4])?)?;
+    assert_eq!(rt; format!(in alloc; "{made:?}")?.as_str(), "[[[]], [[7]]]");
+    Ok(())
+}

@@ -1,0 +1,140 @@
+-- Reading a file in pieces: its parts up to the size of its data first, then its content, some frames at a time.
+use Rattle.std.specs.Prelude.{◌≡◌, ◌≢◌, ◌⊎◌, ℕ, ◌+◌, ◌-◌, ◌*◌, ◌/◌, ◌%◌, ◌≤◌, min, not, if◌then◌else◌, nat_lt, ◌==◌, ℤ, List, [], ◌++◌, length, take, drop, Option, Some, None, IfSome, Result, Ok, Err, codes}
+use Rattle.byteorder.specs.Endian.{little_number}
+use Rattle.sdf_wav.specs.declared.fault.FormatFault.{FormatFault}
+use Rattle.sdf_wav.specs.declared.fault.FormatFault.TheVariants.{Truncated, PartialFrame, TooLong}
+use Rattle.sdf_wav.specs.declared.fault.WavFault.{WavFault}
+use Rattle.sdf_wav.specs.declared.fault.WavFault.TheVariants as faults
+use Rattle.sdf_wav.specs.declared.format.Format.{Format}
+use Rattle.sdf_wav.specs.declared.wav.TheConstants.{MOST_CHANNELS}
+use Rattle.sdf_wav.specs.Device.{Known, LosesFront}
+use Rattle.sdf_wav.specs.Sound.{Sound, pcm_samples}
+use Rattle.sdf_wav.specs.Grammar.{Chunk, Place}
+use Rattle.sdf_wav.specs.Fault.{HasFault, IsReadingFault, IsFromOutside}
+
+-- where a file is read on: what its parts say, how many bytes of its content are gone, and the fault that it met
+pub record Reading : Type 0 where
+  pub rate : ℕ
+  pub channels : ℕ
+  pub size : ℕ
+  pub gone : ℕ
+  pub fault : Option WavFault
+
+abbrev pub format_read : Reading → Format
+format_read r = record { rate = r.rate; channels = r.channels }
+
+-- a content of which nothing is read yet
+abbrev pub at_start : Format → ℕ → Reading
+at_start f size = record { rate = f.rate; channels = f.channels; size = size; gone = 0; fault = None }
+
+-- how many frames there are, where the size of the data was filled in
+abbrev pub known_frames : Reading → Option ℕ
+known_frames r = if r.size == 0xFFFFFFFF then None else Some (r.size / (2 * r.channels))
+
+-- The bytes begin as a WAV file does, up to the size of its data; then stands the rest.
+pub record Opens (bytes : List ℕ) (format : Format) (size : ℕ) (rest : List ℕ) : Type 0 where
+  pub chunks : List Chunk
+  pub size_bytes : List ℕ
+  pub place : Place bytes chunks (Some format) (codes "data" ++ (size_bytes ++ rest))
+  pub size_is_four : length size_bytes ≡ 4
+  pub size_is : little_number 4 size_bytes ≡ size
+  pub whole : size ≢ 0xFFFFFFFF → size % (2 * format.channels) ≡ 0
+
+-- so many bytes of a content can be gone: not past a known size, nor past the most that a size that is not known allows
+abbrev pub IsWithin : ℕ → ℕ → ℕ → Type 0
+IsWithin align size gone =
+    ((size ≢ 0xFFFFFFFF) × (size % align ≡ 0) × (gone ≤ size)) ⊎ ((size ≡ 0xFFFFFFFF) × (gone ≤ 4294967294))
+
+-- a reading that can be
+pub record IsReading (r : Reading) : Type 0 where
+  pub some_rate : 1 ≤ r.rate
+  pub one_channel : 1 ≤ r.channels
+  pub few_channels : r.channels ≤ MOST_CHANNELS
+  pub size_fits : r.size ≤ 0xFFFFFFFF
+  pub whole : r.gone % (2 * r.channels) ≡ 0
+  pub within : IsWithin (2 * r.channels) r.size r.gone
+  pub fault : IfSome r.fault IsReadingFault
+
+-- An input was read as far as this: it opens, these are the samples of the bytes of its content that are gone, and then
+-- stands the rest.
+pub record IsReadTo (input : List ℕ) (r : Reading) (samples : List ℤ) (rest : List ℕ) : Type 0 where
+  pub gone : List ℕ
+  pub opens : Opens input (format_read r) r.size (gone ++ rest)
+  pub count : length gone ≡ r.gone
+  pub samples_are : samples ≡ pcm_samples gone
+  pub whole : length gone % (2 * r.channels) ≡ 0
+  pub within : IsWithin (2 * r.channels) r.size r.gone
+
+-- nothing of the content is left
+abbrev pub IsEnded : Reading → List ℕ → Type 0
+IsEnded r rest = ((r.size ≢ 0xFFFFFFFF) × (r.gone ≡ r.size)) ⊎ ((r.size ≡ 0xFFFFFFFF) × (rest ≡ []))
+
+-- what was read, as a sound
+abbrev pub sound_read : Reading → List ℤ → Sound
+sound_read r samples = record { rate = r.rate; channels = r.channels; samples = samples }
+
+-- the next n bytes of a content of a known size
+abbrev pub sized_piece : ℕ → List ℕ → Result (List ℤ × List ℕ) FormatFault
+sized_piece n bytes = if nat_lt (length bytes) n then Err Truncated else Ok (pcm_samples (take n bytes), drop n bytes)
+
+-- the next n bytes of a content that goes to the end of the input, where so many are gone
+abbrev pub open_piece : ℕ → ℕ → ℕ → List ℕ → Result (List ℤ × List ℕ) FormatFault
+open_piece align gone n bytes =
+    if nat_lt 4294967294 (gone + n) then Err TooLong
+    else (if not (n % align == 0) then Err PartialFrame
+    else Ok (pcm_samples (take n bytes), drop n bytes))
+
+-- the samples of the next frames and the bytes behind them, or the fault that stands among these frames: as many frames as
+-- were asked for, or all up to the content's end
+unfoldable pub next_at : Reading → ℕ → List ℕ → Result (List ℤ × List ℕ) FormatFault
+next_at r frames bytes =
+    let asked = 2 * (frames * r.channels) in
+    if r.size == 0xFFFFFFFF then open_piece (2 * r.channels) r.gone (min asked (length bytes)) bytes
+    else sized_piece (min asked (r.size - r.gone)) bytes
+
+-- So many samples are those of the next frames: no more than were asked for, and of a known size exactly as many as are left or
+-- were asked for, whatever is known of the bytes.
+pub record IsPiece (r : Reading) (frames samples : ℕ) : Type 0 where
+  pub most : samples ≤ frames * r.channels
+  pub whole : samples % r.channels ≡ 0
+  pub sized : r.size ≢ 0xFFFFFFFF → 2 * samples ≡ min (2 * (frames * r.channels)) (r.size - r.gone)
+
+-- What a call answered, seen by view, is what `read` gives for the bytes before it, and the bytes after it are those that
+-- `read` leaves, where the bytes are known; unless memory or the reader failed. It never fails by a writer.
+abbrev pub AnswersBy : {X Y : Type 0} → (X → Y) → Option (List ℕ) → Option (List ℕ) → (List ℕ → Result (Y × List ℕ) FormatFault) → Result X WavFault → Type 0
+AnswersBy view old new read (Ok x) = Known old new (λ input left. (read input ≡ Ok (view x, left)) × LosesFront input left)
+AnswersBy view old new read (Err (faults.Format f)) = Known old new (λ input left. (read input ≡ Err f) × LosesFront input left)
+AnswersBy view old new read (Err faults.OutOfMemory) = Known old new LosesFront
+AnswersBy view old new read (Err faults.Read) = Known old new LosesFront
+AnswersBy view old new read (Err faults.Write) = ⊥
+
+-- an input has this fault before its content
+pub record FailsToOpen (input : List ℕ) (f : FormatFault) : Type 0 where
+  pub has : HasFault input f
+  pub opens_not : (format : Format) (size : ℕ) (rest : List ℕ) → Opens input format size rest → ⊥
+
+-- What the answer of an opening says of the bytes before it and after it, where they are known: the input opens and the
+-- content stands before the reader, or it fails to open and lost a front, or only a front is gone.
+abbrev pub AnswersOpening : Option (List ℕ) → Option (List ℕ) → Result Reading WavFault → Type 0
+AnswersOpening old new (Ok r) = Known old new (λ input left. IsReadTo input r [] left × LosesFront input left)
+AnswersOpening old new (Err (faults.Format f)) = Known old new (λ input left. FailsToOpen input f × LosesFront input left)
+AnswersOpening old new (Err faults.OutOfMemory) = Known old new LosesFront
+AnswersOpening old new (Err faults.Read) = Known old new LosesFront
+AnswersOpening old new (Err faults.Write) = ⊥
+
+-- the content is before the reader, unless memory or the reader failed
+abbrev pub OpensTo : Option (List ℕ) → Format → ℕ → List ℕ → Result Reading WavFault → Type 0
+OpensTo new f size rest (Ok r) = (r ≡ at_start f size) × (new ≡ Some rest)
+OpensTo new f size rest (Err e) = IsFromOutside e
+
+-- the fault is answered, unless memory or the reader failed
+abbrev pub RefusesToOpen : FormatFault → Result Reading WavFault → Type 0
+RefusesToOpen f (Ok r) = ⊥
+RefusesToOpen f (Err e) = (e ≡ faults.Format f) ⊎ IsFromOutside e
+
+-- why a file did not open, where the bytes are known
+abbrev pub OpenFails : Option (List ℕ) → WavFault → Type 0
+OpenFails old (faults.Format f) = (input : List ℕ) → old ≡ Some input → FailsToOpen input f
+OpenFails old faults.OutOfMemory = Unit {0}
+OpenFails old faults.Read = Unit {0}
+OpenFails old faults.Write = ⊥

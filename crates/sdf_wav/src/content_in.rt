@@ -1,0 +1,169 @@
+//! The content of a file that is read in pieces.
+
+ghost use Rattle.std.specs.Prelude.{◌≡◌, ◌≤◌, ◌+◌, ◌*◌, ◌%◌, ℕ, List, Option, Some, None, length, IfOk, IfErr, IsErrOf, Err};
+ghost use Rattle.sdf_wav.specs.declared.fault.FormatFault.{FormatFault};
+ghost use Rattle.sdf_wav.specs.declared.fault.WavFault.{WavFault};
+ghost use Rattle.sdf_wav.specs.declared.format.Format.{Format};
+ghost use Rattle.sdf_wav.specs.declared.wav.TheConstants.{MOST_CHANNELS};
+ghost use Rattle.sdf_wav.specs.Device.{failures_after, widened, Failed};
+ghost use Rattle.sdf_wav.specs.Fault.{HasFault, IsReadingFault};
+ghost use Rattle.sdf_wav.specs.PiecesIn.{IsReading, IsPiece, IsWithin, Opens, AnswersOpening, OpensTo, RefusesToOpen, AnswersBy, known_frames, next_at};
+ghost use Rattle.sdf_wav.specs.Steps.{Reads};
+
+use crate::chunks::open_data;
+use crate::content::{UNKNOWN, read_open, read_sized};
+use crate::device::Reader;
+use crate::fault::{ReadFault, WavFault};
+use crate::format::Format;
+use std::alloc::Global;
+use std::marker::Model;
+
+/// How far the content of a file was read, and the fault that came. It holds no reader: each call is handed the one that
+/// the file was opened from.
+#[derive(Debug, Drop)]
+pub struct ContentIn {
+    format: Format,
+    size: u32,
+    gone: u64,
+    fault: Option<WavFault>,
+}
+
+impl Model for ContentIn {
+    ghost use Rattle.sdf_wav.specs.PiecesIn.{Reading, IsReading};
+
+    ghost Value = { Reading };
+
+    ghost view = { λ c. record { rate = c.format.rate; channels = c.format.channels; size = c.size; gone = c.gone; fault = c.fault } };
+
+    ghost invariant = { λ c. IsReading (record { rate = c.format.rate; channels = c.format.channels; size = c.size; gone = c.gone; fault = c.fault }) };
+}
+
+/// More samples than any content has.
+const MOST_SAMPLES: u64 = 2_147_483_648;
+
+impl ContentIn {
+    /// Reads a file up to the size of its data, and leaves the content unread. Fails by each fault that stands before, and
+    /// by `PartialFrame` where that size is known and no whole number of frames.
+    pub fn open<R: Reader>(reader: &mut R) -> Result<ContentIn, WavFault>
+        // What is answered is so: the input opens and its content is left, or it has this fault before its content.
+        ensures answers { AnswersOpening (R.remaining reader.old) (R.remaining reader.new) result }
+
+        // What is so is answered, unless memory or the reader failed.
+        ensures accepts { (input : List ℕ) (f : Format) (size : ℕ) (rest : List ℕ) → R.remaining reader.old ≡ Some input → Opens input f size rest → OpensTo (R.remaining reader.new) f size rest result }
+        ensures refuses { (input : List ℕ) (f : FormatFault) → R.remaining reader.old ≡ Some input → HasFault input f → ((g : Format) (size : ℕ) (rest : List ℕ) → Opens input g size rest → ⊥) → RefusesToOpen f result }
+
+        // Whatever is known of the bytes, it is at a start, and no other fault comes.
+        ensures start { IfOk result (λ c. (c.gone ≡ 0) × (c.fault ≡ None)) }
+        ensures sound { IfOk result IsReading }
+        ensures fault { IfErr result IsReadingFault }
+
+        // A failure of the reader is answered at once: no other call of it failed.
+        ensures counted { R.failures reader.new ≡ failures_after result (R.failures reader.old) }
+        ensures device { IsErrOf result WavFault.Read → Failed (R.failures reader.old) (R.failures reader.new) }
+    {
+        let start = open_data(reader)?;
+        Ok(ContentIn {
+            format: start.format,
+            size: start.size,
+            gone: 0,
+            fault: None,
+        })
+    }
+
+    /// Frames a second.
+    pub fn rate(&self) -> u32
+        ensures value { result ≡ self.now.rate }
+        ensures above_0 { 1 ≤ result }
+    {
+        self.format.rate
+    }
+
+    /// Samples in a frame.
+    pub fn channels(&self) -> u16
+        ensures value { result ≡ self.now.channels }
+        ensures above_0 { 1 ≤ result }
+        ensures few { result ≤ MOST_CHANNELS }
+    {
+        self.format.channels
+    }
+
+    /// How many frames the whole content has, where the size of the data was filled in.
+    pub fn frames(&self) -> Option<usize>
+        ensures { result ≡ known_frames self.now }
+    {
+        if self.size == UNKNOWN {
+            return None;
+        }
+        Some((self.size / u32::from(2 * self.format.channels)) as usize)
+    }
+
+    /// The rate and the number of channels.
+    pub(crate) fn format(&self) -> Format
+        ensures value { result ≡ record { rate = self.now.rate; channels = self.now.channels } }
+        ensures sound { IsReading self.now }
+    {
+        self.format
+    }
+
+    /// Reads the next frames.
+    fn read<R: Reader>(
+        &self,
+        alloc: Global,
+        reader: &mut R,
+        frames: usize,
+    ) -> Result<Vec<i16>, ReadFault>
+        ensures bytes { Reads (λ v. v.items) (R.remaining reader.old) (R.remaining reader.new) (next_at self.now frames) result }
+        ensures piece { IfOk result (λ v. IsPiece self.now frames (length v.items)) }
+        ensures within { IfOk result (λ v. IsWithin (2 * self.now.channels) self.now.size (self.now.gone + 2 * length v.items)) }
+        ensures counted { R.failures reader.new ≡ failures_after (widened result) (R.failures reader.old) }
+        ensures fault { IfErr (widened result) IsReadingFault }
+    {
+        let samples = (frames as u64).saturating_mul(u64::from(self.format.channels));
+        let asked = 2 * samples.min(MOST_SAMPLES);
+        if self.size == UNKNOWN {
+            return read_open(alloc, reader, self.format.channels, self.gone, asked);
+        }
+        let left = u64::from(self.size) - self.gone;
+        read_sized(alloc, reader, asked.min(left))
+    }
+
+    /// The samples of the next frames, interleaved: fewer than were asked for only at the content's end, and none after
+    /// it. Fails by `Truncated` where the input ends within these frames of a known size; where the size is not known, by
+    /// `TooLong` where a byte of them stands past the 4,294,967,294 that are taken, else by `PartialFrame` where the input
+    /// ends within one of them. After a fault nothing more is read, and the fault comes again.
+    pub fn next<R: Reader>(
+        &mut self,
+        alloc: Global,
+        reader: &mut R,
+        frames: usize,
+    ) -> Result<Vec<i16>, WavFault>
+        // These are the samples before the reader, or the fault that stands among them, and what is behind them is left.
+        ensures bytes { self.old.fault ≡ None → AnswersBy (λ v. v.items) (R.remaining reader.old) (R.remaining reader.new) (next_at self.old frames) result }
+        ensures counted { self.old.fault ≡ None → R.failures reader.new ≡ failures_after result (R.failures reader.old) }
+        ensures piece { IfOk result (λ v. IsPiece self.old frames (length v.items)) }
+
+        // A fault is repeated, and the reader left alone.
+        ensures repeats { (e : WavFault) → self.old.fault ≡ Some e → (result ≡ Err e) × (reader.new ≡ reader.old) }
+
+        // What was read is gone, and a fault stays.
+        ensures goes_on { IfOk result (λ v. self.new ≡ record self.old { gone = self.old.gone + 2 * length v.items }) }
+        ensures stops { IfErr result (λ e. self.new ≡ record self.old { fault = Some e }) }
+        ensures fault { IfErr result IsReadingFault }
+        ensures sound { IsReading self.new }
+    {
+        if let Some(fault) = self.fault {
+            return Err(fault);
+        }
+        match self.read(alloc, reader, frames) {
+            Ok(samples) => {
+                self.gone += 2 * samples.len() as u64;
+                Ok(samples)
+            }
+            Err(fault) => {
+                let fault = WavFault::from(fault);
+                self.fault = Some(fault);
+                Err(fault)
+            }
+        }
+    }
+}

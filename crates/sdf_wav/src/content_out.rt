@@ -1,0 +1,121 @@
+//! The content of a file that is written in pieces.
+
+ghost use Rattle.std.specs.Prelude.{◌≡◌, ◌≤◌, ◌*◌, ◌%◌, ◌⊎◌, Bool, true, false, length, IfOk, IfErr, IsErrOf};
+ghost use Rattle.sdf_wav.specs.Canonical.{sample_bytes, Writes};
+ghost use Rattle.sdf_wav.specs.Device.{failures_after, Failed};
+ghost use Rattle.sdf_wav.specs.PiecesOut.{start_fault, file_header, Puts, owed_after, ended};
+
+use crate::device::Writer;
+use crate::fault::{FormatFault, WavFault};
+use crate::moving::put_all;
+use crate::wav::MOST_CHANNELS;
+use crate::writing::{MAX_BYTES_A_SECOND, MAX_DATA, header, put_samples};
+use std::marker::Model;
+
+/// What of a file is still to be written behind its header, and whether its writer failed. It holds no writer: each call
+/// is handed the one that took the header.
+#[derive(Debug, Drop)]
+pub struct ContentOut {
+    channels: u16,
+    missing: u64,
+    spent: bool,
+}
+
+impl Model for ContentOut {
+    ghost use Rattle.std.specs.Prelude.{◌≤◌};
+    ghost use Rattle.sdf_wav.specs.PiecesOut.{Owed};
+
+    ghost Value = { Owed };
+
+    ghost view = { λ c. record { channels = c.channels; missing = c.missing; spent = c.spent } };
+
+    ghost invariant = { λ c. 1 ≤ c.channels };
+}
+
+impl ContentOut {
+    /// Writes the header of a file of so many frames, of which all are missing then. Fails by `Channels`, `RateZero`,
+    /// `RateTooLarge` or `TooLong`, tested in this order and before the first byte; after `Write` a front of the header
+    /// is written.
+    pub fn start<W: Writer>(
+        writer: &mut W,
+        rate: u64,
+        channels: u16,
+        frames: u64,
+    ) -> Result<ContentOut, WavFault>
+        ensures writes { Writes (W.contents writer.old) (W.contents writer.new) (start_fault rate channels frames) (file_header rate channels frames) result }
+        ensures owed { IfOk result (λ c. c ≡ record { channels = channels; missing = frames; spent = false }) }
+        ensures counted { W.failures writer.new ≡ failures_after result (W.failures writer.old) }
+        ensures device { IsErrOf result WavFault.Write → Failed (W.failures writer.old) (W.failures writer.new) }
+    {
+        if channels == 0 || channels > MOST_CHANNELS {
+            return Err(WavFault::Format(FormatFault::Channels));
+        }
+        if rate == 0 {
+            return Err(WavFault::Format(FormatFault::RateZero));
+        }
+        if rate.saturating_mul(2 * u64::from(channels)) > MAX_BYTES_A_SECOND {
+            return Err(WavFault::Format(FormatFault::RateTooLarge));
+        }
+        let samples = frames.saturating_mul(u64::from(channels));
+        if samples > MAX_DATA / 2 {
+            return Err(WavFault::Format(FormatFault::TooLong));
+        }
+        let header = header(rate as u32, channels, (2 * samples) as u32);
+        match put_all(writer, &header) {
+            Ok(()) => Ok(ContentOut {
+                channels,
+                missing: frames,
+                spent: false,
+            }),
+            Err(_) => Err(WavFault::Write),
+        }
+    }
+
+    /// How many frames are still to be written.
+    pub fn missing(&self) -> u64
+        ensures { result ≡ self.now.missing }
+    {
+        self.missing
+    }
+
+    /// Writes the next frames, interleaved. Once the writer failed, nothing more is written and `Write` comes again.
+    pub fn put<W: Writer>(&mut self, writer: &mut W, samples: &[i16]) -> Result<(), WavFault>
+        requires whole { length samples.now % self.old.channels ≡ 0 }
+        requires missing { length samples.now ≤ self.old.missing * self.old.channels }
+
+        // The samples are written, or a front of their bytes where the writer fails.
+        ensures writes { self.old.spent ≡ false → Puts (W.contents writer.old) (W.contents writer.new) (sample_bytes samples.now) result }
+        ensures counted { self.old.spent ≡ false → W.failures writer.new ≡ failures_after result (W.failures writer.old) }
+
+        // A failure is repeated, and the writer left alone.
+        ensures repeats { self.old.spent ≡ true → (result ≡ Err WavFault.Write) × (writer.new ≡ writer.old) }
+        ensures owed { self.new ≡ owed_after self.old (length samples.now) result }
+        ensures fault { IfErr result (λ e. e ≡ WavFault.Write) }
+    {
+        if self.spent {
+            return Err(WavFault::Write);
+        }
+        match put_samples(writer, samples) {
+            Ok(()) => {
+                self.missing -= (samples.len() / self.channels as usize) as u64;
+                Ok(())
+            }
+            Err(_) => {
+                self.spent = true;
+                Err(WavFault::Write)
+            }
+        }
+    }
+
+    /// Ends the file, and says whether its writer failed.
+    pub fn end(self) -> Result<(), WavFault>
+        requires { (self.missing ≡ 0) ⊎ (self.spent ≡ true) }
+        ensures { result ≡ ended self.spent }
+    {
+        if self.spent {
+            Err(WavFault::Write)
+        } else {
+            Ok(())
+        }
+    }
+}

@@ -1,0 +1,99 @@
+//! A file that is read in pieces.
+
+ghost use Rattle.std.specs.Prelude.{◌≡◌, ◌≤◌, ◌+◌, ◌*◌, ◌%◌, ℕ, List, Option, Some, None, [], length, IfOk, IfErr, Err};
+ghost use Rattle.sdf_wav.specs.declared.fault.WavFault.{WavFault};
+ghost use Rattle.sdf_wav.specs.declared.wav.TheConstants.{MOST_CHANNELS};
+ghost use Rattle.sdf_wav.specs.Device.{failures_after, Known, LosesFront};
+ghost use Rattle.sdf_wav.specs.Fault.{IsReadingFault};
+ghost use Rattle.sdf_wav.specs.PiecesIn.{IsReading, IsPiece, IsReadTo, OpenFails, AnswersBy, known_frames, next_at};
+ghost use Rattle.sdf_wav.specs.WavIn.{reader_of, reader_name, reading};
+
+use crate::content_in::ContentIn;
+use crate::device::Reader;
+use crate::fault::WavFault;
+use std::alloc::Global;
+
+/// A file on its way from a reader: its parts up to the size of its data were read, and its content comes in pieces.
+#[derive(Drop)]
+pub struct WavIn<'a, R> {
+    alloc: Global,
+    reader: &'a mut R,
+    content: ContentIn,
+}
+
+impl<'a, R: Reader> WavIn<'a, R> {
+    /// Reads a file up to the size of its data, and fails as [`ContentIn::open`] does. Whoever must know what the reader
+    /// lost before a fault calls that, which reads the same, and then [`WavIn::over`]. Memory for the pieces is taken from
+    /// `alloc`.
+    pub fn open(alloc: Global, reader: &'a mut R) -> Result<WavIn<'a, R>, WavFault>
+        ensures same_reader { IfOk result (λ w. reader_name w ≡ reader.entry.ghost_name) }
+        ensures opens { IfOk result (λ w. Known (R.remaining reader.old) (R.remaining (reader_of w)) (λ input left. IsReadTo input (reading w) [] left × LosesFront input left)) }
+        ensures start { IfOk result (λ w. ((reading w).gone ≡ 0) × ((reading w).fault ≡ None)) }
+        ensures counted { IfOk result (λ w. R.failures (reader_of w) ≡ R.failures reader.old) }
+        ensures sound { IfOk result (λ w. IsReading (reading w)) }
+        ensures refuses { IfErr result (OpenFails (R.remaining reader.old)) }
+        ensures fault { IfErr result IsReadingFault }
+    {
+        let content = ContentIn::open(reader)?;
+        Ok(WavIn::over(alloc, reader, content))
+    }
+
+    /// A file whose content goes on in this reader.
+    pub fn over(alloc: Global, reader: &'a mut R, content: ContentIn) -> WavIn<'a, R>
+        ensures same_reader { reader_name result ≡ reader.entry.ghost_name }
+        ensures reader { reader_of result ≡ reader.old }
+        ensures reading { reading result ≡ content }
+    {
+        WavIn {
+            alloc,
+            reader,
+            content,
+        }
+    }
+
+    /// Frames a second.
+    pub fn rate(&self) -> u32
+        ensures value { result ≡ (reading self.now).rate }
+        ensures above_0 { 1 ≤ result }
+    {
+        self.content.rate()
+    }
+
+    /// Samples in a frame.
+    pub fn channels(&self) -> u16
+        ensures value { result ≡ (reading self.now).channels }
+        ensures above_0 { 1 ≤ result }
+        ensures few { result ≤ MOST_CHANNELS }
+    {
+        self.content.channels()
+    }
+
+    /// How many frames the whole content has, where the size of the data was filled in.
+    pub fn frames(&self) -> Option<usize>
+        ensures { result ≡ known_frames (reading self.now) }
+    {
+        self.content.frames()
+    }
+
+    /// The samples of the next frames, interleaved: fewer than were asked for only at the content's end, and none after
+    /// it. Fails as [`ContentIn::next`] does, and again by the same fault from then on.
+    pub fn next(&mut self, frames: usize) -> Result<Vec<i16>, WavFault>
+        ensures same_reader { reader_name self.new ≡ reader_name self.old }
+
+        // These are the samples before the reader, or the fault that stands among them, and what is behind them is left.
+        ensures bytes { (reading self.old).fault ≡ None → AnswersBy (λ v. v.items) (R.remaining (reader_of self.old)) (R.remaining (reader_of self.new)) (next_at (reading self.old) frames) result }
+        ensures counted { (reading self.old).fault ≡ None → R.failures (reader_of self.new) ≡ failures_after result (R.failures (reader_of self.old)) }
+        ensures piece { IfOk result (λ v. IsPiece (reading self.old) frames (length v.items)) }
+
+        // A fault is repeated, and the reader left alone.
+        ensures repeats { (e : WavFault) → (reading self.old).fault ≡ Some e → (result ≡ Err e) × (reader_of self.new ≡ reader_of self.old) }
+
+        // What was read is gone, and a fault stays.
+        ensures goes_on { IfOk result (λ v. reading self.new ≡ record (reading self.old) { gone = (reading self.old).gone + 2 * length v.items }) }
+        ensures stops { IfErr result (λ e. reading self.new ≡ record (reading self.old) { fault = Some e }) }
+        ensures fault { IfErr result IsReadingFault }
+        ensures sound { IsReading (reading self.new) }
+    {
+        self.content.next(self.alloc, self.reader, frames)
+    }
+}

@@ -1,0 +1,88 @@
+//! A file that is written in pieces.
+
+ghost use Rattle.std.specs.Prelude.{◌≡◌, ◌≤◌, ◌*◌, ◌%◌, ◌⊎◌, Some, None, true, false, length, IfOk, IfErr};
+ghost use Rattle.std.specs.Io.KnownBytes.{Appends};
+ghost use Rattle.sdf_wav.specs.Canonical.{sample_bytes};
+ghost use Rattle.sdf_wav.specs.Device.{failures_after};
+ghost use Rattle.sdf_wav.specs.PiecesOut.{start_fault, file_header, Puts, owed_after, ended};
+ghost use Rattle.sdf_wav.specs.WavOut.{writer_of, writer_name, owed, StartFails};
+
+use crate::content_out::ContentOut;
+use crate::device::Writer;
+use crate::fault::WavFault;
+
+/// A file on its way to a writer: the header is written, and so many frames are missing.
+#[derive(Drop)]
+pub struct WavOut<'a, W> {
+    writer: &'a mut W,
+    content: ContentOut,
+}
+
+impl<'a, W: Writer> WavOut<'a, W> {
+    /// Writes the header of a file of so many frames. Fails by `Channels`, `RateZero`, `RateTooLarge` or `TooLong`, tested
+    /// in this order and before the first byte, and by `Write`. Whoever must know what the writer took before that fault
+    /// calls [`ContentOut::start`], which writes the same, and then [`WavOut::over`].
+    pub fn start(
+        writer: &'a mut W,
+        rate: u64,
+        channels: u16,
+        frames: u64,
+    ) -> Result<WavOut<'a, W>, WavFault>
+        ensures same_writer { IfOk result (λ o. writer_name o ≡ writer.entry.ghost_name) }
+        ensures header { IfOk result (λ o. Appends (W.contents writer.old) (W.contents (writer_of o)) (file_header rate channels frames)) }
+        ensures counted { IfOk result (λ o. W.failures (writer_of o) ≡ W.failures writer.old) }
+        ensures owed { IfOk result (λ o. owed o ≡ record { channels = channels; missing = frames; spent = false }) }
+        ensures fits { IfOk result (λ _. start_fault rate channels frames ≡ None) }
+        ensures fault { IfErr result (StartFails rate channels frames) }
+    {
+        let content = ContentOut::start(writer, rate, channels, frames)?;
+        Ok(WavOut::over(writer, content))
+    }
+
+    /// A file whose content goes on to this writer.
+    pub fn over(writer: &'a mut W, content: ContentOut) -> WavOut<'a, W>
+        ensures same_writer { writer_name result ≡ writer.entry.ghost_name }
+        ensures writer { writer_of result ≡ writer.old }
+        ensures owed { owed result ≡ content }
+    {
+        WavOut { writer, content }
+    }
+
+    /// How many frames are still to be written.
+    pub fn missing(&self) -> u64
+        ensures { result ≡ (owed self.now).missing }
+    {
+        self.content.missing()
+    }
+
+    /// Writes the next frames, interleaved. Once the writer failed, nothing more is written and `Write` comes again.
+    pub fn put(&mut self, samples: &[i16]) -> Result<(), WavFault>
+        requires whole { length samples.now % (owed self.old).channels ≡ 0 }
+        requires missing { length samples.now ≤ (owed self.old).missing * (owed self.old).channels }
+        ensures same_writer { writer_name self.new ≡ writer_name self.old }
+
+        // The samples are written, or a front of their bytes where the writer fails.
+        ensures writes { (owed self.old).spent ≡ false → Puts (W.contents (writer_of self.old)) (W.contents (writer_of self.new)) (sample_bytes samples.now) result }
+        ensures counted { (owed self.old).spent ≡ false → W.failures (writer_of self.new) ≡ failures_after result (W.failures (writer_of self.old)) }
+
+        // A failure is repeated, and the writer left alone.
+        ensures repeats { (owed self.old).spent ≡ true → (result ≡ Err WavFault.Write) × (writer_of self.new ≡ writer_of self.old) }
+        ensures owed { owed self.new ≡ owed_after (owed self.old) (length samples.now) result }
+        ensures fault { IfErr result (λ e. e ≡ WavFault.Write) }
+    {
+        self.content.put(self.writer, samples)
+    }
+
+    /// Ends the file, and says whether its writer failed. Nothing is written.
+    pub fn end(self) -> Result<(), WavFault>
+        requires { ((owed self).missing ≡ 0) ⊎ ((owed self).spent ≡ true) }
+        ensures value { result ≡ ended (owed self.entry).spent }
+        ensures unwritten { self.exit.0.now ≡ writer_of self.entry }
+    {
+        let WavOut {
+            writer: _writer,
+            content,
+        } = self;
+        content.end()
+    }
+}

@@ -1,0 +1,8 @@
+use Rattle.std.proofs.Common.{◌≡◌, ◌++◌, IsUtf8, string_bytes}
+use Rattle.std.specs.Str.Iter.{chars_rest}
+use Rattle.sdf_words.specs.Printable.{printable_text}
+use Rattle.sdf_words.proofs.printable.printable.Given as goal
+
+abbrev pub invariant-loop-character : goal.invariant-loop-character
+invariant-loop-character l = IsUtf8 (chars_rest l.character-iterator)
+    × (string_bytes l.shown ++ printable_text (chars_rest l.character-iterator) ≡ printable_text l.fn.text)

@@ -1,0 +1,157 @@
+//! What the faults 13 to 33 mean: tables, the ends of links, inputs and outputs, and runners.
+
+use super::Meaning;
+
+/// What the fault of this number means, 13 to 33.
+pub(super) fn meaning_of(number: u32) -> Option<Meaning> {
+    Some(match number {
+        13 => Meaning {
+            name: "BlockTooLong",
+            place: "",
+            means: "A block has too many firings for a table.",
+            limits: "at most 65,536 firings in a block",
+            remedy: "Use a smaller `--blocking`.",
+        },
+        14 => Meaning {
+            name: "FiringMissing",
+            place: "",
+            means: "A firing stands nowhere in a table. It is not answered by this version.",
+            limits: "",
+            remedy: "Give each firing of the block a place.",
+        },
+        15 => Meaning {
+            name: "FiringTwice",
+            place: "",
+            means: "A firing stands twice in a table. It is not answered by this version.",
+            limits: "",
+            remedy: "Take one of its places away.",
+        },
+        16 => Meaning {
+            name: "FiringUnknown",
+            place: "",
+            means: "A table names a firing that the block has not. It is not answered by this version.",
+            limits: "",
+            remedy: "Take it away.",
+        },
+        17 => Meaning {
+            name: "RowTooWide",
+            place: "",
+            means: "A row of a table has more places than there are workers. It is not answered by this version.",
+            limits: "",
+            remedy: "Split the row, or use more workers.",
+        },
+        18 => Meaning {
+            name: "TooEarly",
+            place: "",
+            means: "A table has a firing before one that it needs. It is not answered by this version.",
+            limits: "",
+            remedy: "Move it to a later row.",
+        },
+        19 => Meaning {
+            name: "BadHome",
+            place: "actor A",
+            means: "The actor has no key `processor`, or one past the last worker, and the placement is `file`.",
+            limits: "`processor` below the number of workers",
+            remedy: "Change `processor`, or use more workers.",
+        },
+        20 => Meaning {
+            name: "NoPort",
+            place: "link C",
+            means: "An end of the link names a port that the actor has not, or an input where an output is wanted.",
+            limits: "ports 0 to 15, by the actor's kind",
+            remedy: "Look up the kind's ports; `from` is an output, `to` an input.",
+        },
+        21 => Meaning {
+            name: "PortTwice",
+            place: "link C",
+            means: "An end of the link is already an end of an earlier link.",
+            limits: "one link at each port",
+            remedy: "Use a `fork` to send samples two ways, and an `add` to join two streams.",
+        },
+        22 => Meaning {
+            name: "PortOpen",
+            place: "actor A input P",
+            means: "A port has no link. It may be `output P` in place of `input P`.",
+            limits: "one link at each port",
+            remedy: "Link the port, or use a smaller `ways`.",
+        },
+        23 => Meaning {
+            name: "ExtTwice",
+            place: "actor A",
+            means: "A second input or a second output of one channel.",
+            limits: "one input and one output for each channel",
+            remedy: "Change `channel`, or use one input and a `fork`.",
+        },
+        24 => Meaning {
+            name: "InputRates",
+            place: "actor A",
+            means: "The input puts another number of samples in a period than the first input.",
+            limits: "the same number at each input",
+            remedy: "Make the rates behind the two inputs alike.",
+        },
+        25 => Meaning {
+            name: "OutputRates",
+            place: "actor A",
+            means: "The output takes another number of samples in a period than the first output.",
+            limits: "the same number at each output",
+            remedy: "Make the rates before the two outputs alike.",
+        },
+        26 => Meaning {
+            name: "NoInput",
+            place: "",
+            means: "The design has no actor of kind `input`.",
+            limits: "at least one input",
+            remedy: "Add an input; its samples also say how long the output is.",
+        },
+        27 => Meaning {
+            name: "NoOutput",
+            place: "channel E",
+            means: "No actor of kind `output` has this channel.",
+            limits: "outputs of channels 0, 1 and so on without a gap",
+            remedy: "Add an output, or renumber the outputs.",
+        },
+        28 => Meaning {
+            name: "KitValue",
+            place: "PLACE key K",
+            means: "A value is outside its limits, or a list is empty or too long.",
+            limits: "those of the key, in the table of kinds",
+            remedy: "Change the value.",
+        },
+        29 => Meaning {
+            name: "InputLength",
+            place: "",
+            means: "Too few samples were handed to a runner. The program itself always fills up with zeros.",
+            limits: "",
+            remedy: "Hand in whole periods.",
+        },
+        30 => Meaning {
+            name: "NotHomed",
+            place: "",
+            means: "With the runner `rings` each actor has one worker, and the table has an actor in two columns.",
+            limits: "",
+            remedy: "Use `--placement homed`.",
+        },
+        31 => Meaning {
+            name: "Patience",
+            place: "",
+            means: "The number of repeated tests is out of range. The program refuses it as a mistake of usage.",
+            limits: "0 to 1,000,000",
+            remedy: "Change `--patience`.",
+        },
+        32 => Meaning {
+            name: "NoWorker",
+            place: "",
+            means: "A thread could not be started. It is not answered by this version.",
+            limits: "",
+            remedy: "Use fewer workers.",
+        },
+        33 => Meaning {
+            name: "SessionFailed",
+            place: "",
+            means: "A session was used again after it had failed. It is not answered by this version.",
+            limits: "",
+            remedy: "Begin a new session.",
+        },
+        _ => return None,
+    })
+}

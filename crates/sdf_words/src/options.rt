@@ -1,0 +1,101 @@
+//! What a command line asks for.
+
+/// The highest number of a fault.
+pub const MOST_FAULT: u32 = 63;
+
+/// Which runnable actor fires next.
+#[derive(Clone, Copy, Debug, PartialEq, Eq)]
+pub enum Policy {
+    /// Passes over the actors in file order.
+    Round,
+    /// The actor that adds least to what the channels hold.
+    Lean,
+    /// The same actor while it is runnable, and then the next one in file order.
+    Runs,
+}
+
+/// The words of the policies, and the policies in the same order.
+pub(crate) static POLICY_WORDS: [&str; 3] = ["round", "lean", "runs"];
+
+pub(crate) static POLICIES: [Policy; 3] = [Policy::Round, Policy::Lean, Policy::Runs];
+
+/// How firings come to the processors of a table.
+#[derive(Clone, Copy, Debug, PartialEq, Eq)]
+pub enum Placement {
+    /// The highest level first, on any free processor.
+    Hu,
+    /// The highest level first, each actor on one processor.
+    Homed,
+    /// The processors that the graph file names.
+    File,
+}
+
+/// The words of the placements, and the placements in the same order.
+pub(crate) static PLACEMENT_WORDS: [&str; 3] = ["hu", "homed", "file"];
+
+pub(crate) static PLACEMENTS: [Placement; 3] = [Placement::Hu, Placement::Homed, Placement::File];
+
+/// What runs a plan.
+#[derive(Clone, Copy, Debug, PartialEq, Eq)]
+pub enum Runner {
+    /// One thread.
+    One,
+    /// The rows of a table, the firings of a row at once.
+    Rows,
+    /// Workers over bounded rings, each at its own pace.
+    Rings,
+}
+
+/// The words of the runners, and the runners in the same order.
+pub(crate) static RUNNER_WORDS: [&str; 3] = ["one", "rows", "rings"];
+
+pub(crate) static RUNNERS: [Runner; 3] = [Runner::One, Runner::Rows, Runner::Rings];
+
+/// The options of a schedule or a run, within their limits.
+#[derive(Clone, Copy, Debug, PartialEq, Eq)]
+pub struct Options {
+    /// Periods in a block, 1 to 64.
+    pub blocking: u32,
+    /// Processors, 1 to 16.
+    pub workers: usize,
+    pub policy: Policy,
+    pub placement: Placement,
+    pub runner: Runner,
+    /// Repeated tests in a worker's round, at most 1,000,000.
+    pub patience: u32,
+}
+
+impl Options {
+    /// The options of a command line that names none.
+    pub const DEFAULT: Options = Options {
+        blocking: 1,
+        workers: 1,
+        policy: Policy::Round,
+        placement: Placement::Homed,
+        runner: Runner::One,
+        patience: 1000,
+    };
+}
+
+/// A command, its files by their paths.
+#[derive(Clone, Copy, Debug, PartialEq, Eq)]
+pub enum Words<'a> {
+    Check {
+        graph: &'a str,
+    },
+    /// The options but the runner and the patience.
+    Schedule {
+        graph: &'a str,
+        options: Options,
+    },
+    Run {
+        graph: &'a str,
+        input: &'a str,
+        output: &'a str,
+        options: Options,
+    },
+    /// What a fault is, by its number, 1 to 63.
+    Explain {
+        number: u32,
+    },
+}

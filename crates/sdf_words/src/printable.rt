@@ -1,0 +1,30 @@
+//! Texts that are safe to print on one line.
+
+ghost use Rattle.std.specs.Prelude.{◌≡◌, ◌++◌, IfOk, OnOk, string_bytes};
+ghost use Rattle.sdf_words.specs.Printable.{printable_char, printable_text};
+
+use std::alloc::{AllocError, Global};
+
+/// Adds a character as it is printed.
+fn push_printable(shown: &mut String, character: char) -> Result<(), AllocError>
+    ensures { OnOk result (string_bytes shown.new ≡ string_bytes shown.old ++ printable_char character) }
+{
+    if character.is_control() {
+        let number = character as u32;
+        write!(shown, "\\u{{{number:x}}}")
+    } else {
+        shown.push(character)
+    }
+}
+
+/// A text with each control character (below U+0020, or from U+007F to U+009F) written as `\u{a}`: its number in lower-case
+/// hexadecimal, without leading zeros.
+pub fn printable(alloc: Global, text: &str) -> Result<String, AllocError>
+    ensures { IfOk result (λ shown. string_bytes shown ≡ printable_text text.now) }
+{
+    let mut shown = String::new(alloc);
+    for character in text.chars() {
+        push_printable(&mut shown, character)?;
+    }
+    Ok(shown)
+}

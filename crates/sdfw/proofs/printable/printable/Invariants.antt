@@ -1,8 +1,0 @@
-use Rattle.std.proofs.Common.{◌≡◌, ◌++◌, IsUtf8, string_bytes}
-use Rattle.std.specs.Str.Iter.{chars_rest}
-use Rattle.sdfw.specs.Printable.{printable_text}
-use Rattle.sdfw.proofs.printable.printable.Given as goal
-
-abbrev pub invariant-loop-character : goal.invariant-loop-character
-invariant-loop-character l = IsUtf8 (chars_rest l.character-iterator)
-    × (string_bytes l.shown ++ printable_text (chars_rest l.character-iterator) ≡ printable_text l.fn.text)

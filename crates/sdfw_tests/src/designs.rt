@@ -1,0 +1,82 @@
+//! The designs of the tests.
+
+/// Half of each sample.
+pub(crate) const HALF: &str = r#"format = 1
+actor = [{ name = "in", kind = "input", channel = 0 }, { name = "half", kind = "gain", gain = 16384, shift = 15 },
+    { name = "out", kind = "output", channel = 0 }]
+link = [{ from = "in", to = "half" }, { from = "half", to = "out" }]"#;
+
+/// Blocks of two samples to blocks of three.
+pub(crate) const BLOCKS: &str = r#"format = 1
+actor = [{ name = "in", kind = "input", channel = 0, block = 2 }, { name = "out", kind = "output", channel = 0, block = 3 }]
+link = [{ from = "in", to = "out" }]"#;
+
+/// 44,100 to 48,000 in four stages, each with as many taps of 1 as its `up`.
+pub(crate) const CHAIN: &str = r#"format = 1
+actor = [{ name = "in", kind = "input", channel = 0 },
+    { name = "a", kind = "fir", up = 2, shift = 0, taps = [1, 1] },
+    { name = "b", kind = "fir", up = 2, down = 3, shift = 0, taps = [1, 1] },
+    { name = "c", kind = "fir", up = 8, down = 7, shift = 0, taps = [1, 1, 1, 1, 1, 1, 1, 1] },
+    { name = "d", kind = "fir", up = 5, down = 7, shift = 0, taps = [1, 1, 1, 1, 1] },
+    { name = "out", kind = "output", channel = 0 }]
+link = [{ from = "in", to = "a" }, { from = "a", to = "b" }, { from = "b", to = "c" }, { from = "c", to = "d" }, { from = "d", to = "out" }]"#;
+
+/// Three for two, each tap a half.
+pub(crate) const THREE_FOR_TWO: &str = r#"format = 1
+actor = [{ name = "in", kind = "input", channel = 0 },
+    { name = "up", kind = "fir", up = 3, down = 2, shift = 14, taps = [16384, 16384, 16384] },
+    { name = "out", kind = "output", channel = 0 }]
+link = [{ from = "in", to = "up" }, { from = "up", to = "out" }]"#;
+
+/// The actors of a loop: what comes out is fed back, turned round.
+pub(crate) const LOOP: &str = r#"format = 1
+actor = [{ name = "in", kind = "input", channel = 0 }, { name = "add", kind = "add", ways = 2 }, { name = "fork", kind = "fork", ways = 2 },
+    { name = "gain", kind = "gain", gain = -32768, shift = 15 }, { name = "out", kind = "output", channel = 0 }]
+link = [{ from = "in", to = "add:0" }, { from = "add", to = "fork" }, { from = "fork:0", to = "out" }, { from = "fork:1", to = "gain" },
+    { from = "gain", to = "add:1""#;
+
+/// The same loop with a delay in it, which is no initial sample.
+pub(crate) const DELAYED: &str = r#"format = 1
+actor = [{ name = "in", kind = "input", channel = 0 }, { name = "add", kind = "add", ways = 2 }, { name = "fork", kind = "fork", ways = 2 },
+    { name = "gain", kind = "gain", gain = -32768, shift = 15 }, { name = "late", kind = "delay", length = 1 },
+    { name = "out", kind = "output", channel = 0 }]
+link = [{ from = "in", to = "add:0" }, { from = "add", to = "fork" }, { from = "fork:0", to = "out" }, { from = "fork:1", to = "gain" },
+    { from = "gain", to = "late" }, { from = "late", to = "add:1" }]"#;
+
+/// Each sample turned round.
+pub(crate) const TURNED: &str = r#"format = 1
+actor = [{ name = "in", kind = "input", channel = 0 }, { name = "turn", kind = "gain", gain = -32768, shift = 15 },
+    { name = "out", kind = "output", channel = 0 }]
+link = [{ from = "in", to = "turn" }, { from = "turn", to = "out" }]"#;
+
+/// Two samples wait on the link.
+pub(crate) const INITIAL: &str = r#"format = 1
+actor = [{ name = "in", kind = "input", channel = 0 }, { name = "out", kind = "output", channel = 0 }]
+link = [{ from = "in", to = "out", initial = [7, 8] }]"#;
+
+/// Both branches are added.
+pub(crate) const TWICE: &str = r#"format = 1
+actor = [{ name = "in", kind = "input", channel = 0 }, { name = "fork", kind = "fork", ways = 2 },
+    { name = "add", kind = "add", ways = 2 }, { name = "out", kind = "output", channel = 0 }]
+link = [{ from = "in", to = "fork" }, { from = "fork:0", to = "add:0" }, { from = "fork:1", to = "add:1" }, { from = "add", to = "out" }]"#;
+
+/// One branch loses every second sample, the other none.
+pub(crate) const UNEVEN: &str = r#"format = 1
+actor = [{ name = "in", kind = "input", channel = 0 }, { name = "fork", kind = "fork", ways = 2 },
+    { name = "dec", kind = "decimate", factor = 2 }, { name = "add", kind = "add", ways = 2 }, { name = "out", kind = "output", channel = 0 }]
+link = [{ from = "in", to = "fork" }, { from = "fork:0", to = "dec" }, { from = "dec", to = "add:0" }, { from = "fork:1", to = "add:1" },
+    { from = "add", to = "out" }]"#;
+
+/// The second channel alone.
+pub(crate) const SECOND: &str = r#"format = 1
+actor = [{ name = "in", kind = "input", channel = 1 }, { name = "out", kind = "output", channel = 0 }]
+link = [{ from = "in", to = "out" }]"#;
+
+/// The two channels swapped, joined by a branch that adds nothing.
+pub(crate) const SWAP: &str = r#"format = 1
+actor = [{ name = "in0", kind = "input", channel = 0 }, { name = "in1", kind = "input", channel = 1 },
+    { name = "split", kind = "fork", ways = 2 }, { name = "nothing", kind = "gain", gain = 0, shift = 0 },
+    { name = "join", kind = "add", ways = 2 }, { name = "out0", kind = "output", channel = 0 },
+    { name = "out1", kind = "output", channel = 1 }]
+link = [{ from = "in0", to = "split" }, { from = "split:0", to = "out1" }, { from = "split:1", to = "nothing" },
+    { from = "in1", to = "join:0" }, { from = "nothing", to = "join:1" }, { from = "join", to = "out0" }]"#;
