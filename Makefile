@@ -1,6 +1,6 @@
 # The gate, the proved program, and the programs that show it at work.
 
-.PHONY: build demo try documents test mutants bench clean
+.PHONY: build demo try documents test mutants allocations bench clean
 
 # Proves every crate, a line each, and leaves the program as build/sdfw.
 build:
@@ -35,6 +35,10 @@ test:
 # The wrong bodies that the gate does not try: of one crate (CRATE=name), or of all.
 mutants:
 	scripts/mutants $(CRATE)
+
+# How many allocations a short run and a long one make on one thread: as many.
+allocations:
+	scripts/allocations
 
 # Seconds and memory on noise, in turn with C, and with sox and ffmpeg where they are installed (wants python3 and gcc).
 bench: build
