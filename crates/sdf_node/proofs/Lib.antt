@@ -1,3 +1,5 @@
 pub mod Nodes
 pub mod Stepping
 pub mod Collected
+pub mod Joined
+pub mod ManyFirings

@@ -21,6 +21,10 @@ state_push s x i state (p ∷ past) b =
     state_push s x (i + 1) (s.next x (phase s x i) state p) past b ∙
     ap (λ j. s.next x (phase s x j) (state_from s x (i + 1) (s.next x (phase s x i) state p) past) b) (let e : i + 1 + length past ≡ i + length (p ∷ past) = omega arith in e)
 
+pub state_more : {A S T : Type 0} (s : Steps A S T) (x : A) (past : List (List T)) (b : List T) →
+    s.next x (phase s x (length past)) (state_after s x past) b ≡ state_after s x (past ++ b ∷ [])
+state_more s x past b = sym (state_push s x 0 (s.start x) past b ∙ ap (λ i. s.next x (phase s x i) (state_after s x past) b) (let e : 0 + length past ≡ length past = omega arith in e))
+
 module _ {A S T : Type 0} (s : Steps A S T) (inputs : List (List T)) where
   pub source_next : (x : Node A) (w : NodeState T S) (ext block next taken put after many : ℕ) (past : List (List T)) (b : List T) → x ≡ node.Source ext block → w ≡ Source next →
       CanStep s inputs x w taken put → after ≡ next + put → IsAt s inputs many x past w → IsAt s inputs many x (past ++ b ∷ []) (Source after)
@@ -55,11 +59,9 @@ module _ {A S T : Type 0} (s : Steps A S T) (inputs : List (List T)) where
   inner_next y w x j j' many state state' past b y_is w_is turn next at =
       let at' : IsAt s inputs many (node.Inner x) past (Inner j state) = subst (λ w. IsAt s inputs many (node.Inner x) past w) w_is (subst (λ y. IsAt s inputs many y past w) y_is at) in
       let count : length past + 1 ≡ length (past ++ b ∷ []) = sym (length_push past b) in
-      let push : s.next x (phase s x (length past)) (state_after s x past) b ≡ state_after s x (past ++ b ∷ []) =
-      sym (state_push s x 0 (s.start x) past b ∙ ap (λ i. s.next x (phase s x i) (state_after s x past) b) (let e : 0 + length past ≡ length past = omega arith in e)) in
       let same : s.next x j state b ≡ s.next x (phase s x (length past)) (state_after s x past) b = λ i. s.next x (at'.0 i) (at'.1 i) b in
       subst (λ y. IsAt s inputs many y (past ++ b ∷ []) (Inner j' state')) (sym y_is)
-      (turn ∙ (ap (λ i. (i + 1) % s.cycle x) at'.0 ∙ (mod-add-mod (length past) (s.cycle x) 1 ∙ ap (phase s x) count)), next ∙ (same ∙ push))
+      (turn ∙ (ap (λ i. (i + 1) % s.cycle x) at'.0 ∙ (mod-add-mod (length past) (s.cycle x) 1 ∙ ap (phase s x) count)), next ∙ (same ∙ state_more s x past b))
 
   pub inner_puts : (y : Node A) (w : NodeState T S) (x : A) (j many : ℕ) (state : S) (past : List (List T)) (b : List T) → y ≡ node.Inner x → w ≡ Inner j state →
       IsAt s inputs many y past w → s.puts x j state b ≡ answer_of s inputs y past b

@@ -1,10 +1,11 @@
 -- The laws of nodes at work.
-use Rattle.std.specs.Prelude.{◌≡◌, ℕ, ◌%◌, ◌<◌, List, length}
+use Rattle.std.specs.Prelude.{◌≡◌, ℕ, ◌+◌, ◌*◌, ◌%◌, ◌≤◌, ◌<◌, List, length}
 use Rattle.sdf_actor.specs.Steps.{Steps}
 use Rattle.sdf_actor.specs.Nets.{cycle_of}
 use Rattle.sdf_actor.specs.declared.node.Node.{Node}
 use Rattle.sdf_node.specs.declared.node.NodeState.{NodeState}
 use Rattle.sdf_node.specs.Nodes.{phase_at, takes_of, puts_of, CanStep, IsAt}
+use Rattle.sdf_node.specs.Many.{nth_block, joined, CanStepMany}
 
 -- a node that has firings left can do the next one, with blocks of the lengths of its phase
 abbrev pub NodesCanStep : {A S T : Type 0} → Steps A S T → Type 0
@@ -17,3 +18,15 @@ abbrev pub NodesKeepPhase : {A S T : Type 0} → Steps A S T → Type 0
 NodesKeepPhase {A} {S} {T} s =
     (inputs : List (List T)) (x : Node A) (many : ℕ) (past : List (List T)) (w : NodeState T S) → IsAt s inputs many x past w →
     phase_at w ≡ length past % cycle_of s x
+
+-- a node of one phase that has so many firings left can do them in one piece of work
+abbrev pub NodesCanStepMany : {A S T : Type 0} → Steps A S T → Type 0
+NodesCanStepMany {A} {S} {T} s =
+    (inputs : List (List T)) (x : Node A) (all many : ℕ) (past : List (List T)) (w : NodeState T S) → IsAt s inputs all x past w →
+    cycle_of s x ≡ 1 → length past + many ≤ all → CanStepMany s inputs x w many (takes_of s x 0 * many) (puts_of s x 0 * many)
+
+-- consecutive blocks of one size that make a whole list: each has that length, and joined they are the list
+abbrev pub BlocksJoin : Type 0 → Type 0
+BlocksJoin T =
+    (size many : ℕ) (xs : List T) → length xs ≡ size * many →
+    ((i : ℕ) → i < many → length (nth_block size xs i) ≡ size) × (joined (nth_block size xs) many ≡ xs)

@@ -1,7 +1,7 @@
 //! Laws over the definitions, each the contract of a function that does nothing.
 
 ghost use Rattle.sdf_node.specs.Collected.{SinksHoldLists};
-ghost use Rattle.sdf_node.specs.Laws.{NodesCanStep, NodesKeepPhase};
+ghost use Rattle.sdf_node.specs.Laws.{NodesCanStep, NodesKeepPhase, NodesCanStepMany, BlocksJoin};
 
 use sdf_actor::Actor;
 pub use sdf_actor::laws::{locals_are_history, locals_grow};
@@ -10,6 +10,16 @@ pub use sdf_actor::laws::{locals_are_history, locals_grow};
 pub fn nodes_can_step<A: Actor>()
     ensures steps { NodesCanStep A.steps }
     ensures phases { NodesKeepPhase A.steps }
+{}
+
+/// A node of one phase can do as many firings as it has left in one piece of work.
+pub fn nodes_can_step_many<A: Actor>()
+    ensures { NodesCanStepMany A.steps }
+{}
+
+/// Consecutive blocks of one size, joined, are the list that they were cut from.
+pub fn blocks_join<T>()
+    ensures { BlocksJoin T }
 {}
 
 /// A sink's list is all that it took.

@@ -7,8 +7,10 @@
 pub mod collect;
 pub mod gate;
 pub mod laws;
+pub mod many;
 pub mod node;
 
 pub use collect::collect_at;
 pub use gate::{ActorId, Gate, NoGate};
+pub use many::step_many;
 pub use node::{NodeState, append, begin, puts, step, takes};

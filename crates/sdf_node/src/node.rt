@@ -94,7 +94,12 @@ fn read_block<T: Copy>(list: &[T], next: usize, put: &mut [T]) -> usize
 }
 
 /// Reads the next samples of an input list.
-fn read_input<T: Copy>(inputs: &[Vec<T>], ext: usize, next: usize, put: &mut [T]) -> usize
+pub(crate) fn read_input<T: Copy>(
+    inputs: &[Vec<T>],
+    ext: usize,
+    next: usize,
+    put: &mut [T],
+) -> usize
     requires list { ext < length inputs.now }
     requires samples { next + length put.old ≤ length (slice_index_or (lists inputs.now) ext []) }
     ensures next { result ≡ next + length put.old }

@@ -20,11 +20,11 @@ use Rattle.sdf_rings.specs.Ends.{DrewEach, GaveEach}
 use Rattle.sdf_answer.specs.Sizes.{sizes}
 use Rattle.sdf_rings.specs.Stands.{OwnBegin, IsStand, HasMoved}
 use Rattle.sdf_rings.proofs.Blocks.{block_in}
-use Rattle.sdf_rings.proofs.Known.{out_in, in_in, sent_at, received_at, port_at}
+use Rattle.sdf_rings.proofs.Known.{out_in, in_in, sent_at, received_at}
 use Rattle.sdf_rings.proofs.Knowing.{FiringLaws, IsOneMore, one_more}
-use Rattle.sdf_rings.proofs.OwnEnds.{own_pairs_kept}
+use Rattle.sdf_rings.proofs.Onward.{HasGoneOn, gone_on}
 use Rattle.sdf_rings.proofs.Tells.{some}
-use Rattle.sdf_rings.proofs.Looking.{vec_in, items_long}
+use Rattle.sdf_rings.proofs.Looking.{vec_in}
 use Rattle.sdf_rings.proofs.PortBlocks.{outs_long, consumed_in, produced_out, out_block}
 
 module _ {A S T : Type 0} (s : Steps A S T) (laws : FiringLaws s) (n : Netlist A T) (good : IsNet s n) (inputs : List (List T)) (x : Stand A T S) (st : IsStand s n inputs x) (left : x.done < x.asked)
@@ -59,57 +59,23 @@ module _ {A S T : Type 0} (s : Steps A S T) (laws : FiringLaws s) (n : Netlist A
   more : (W : ℕ → List T) × IsOneMore s n inputs x.actor x.done st.own W t b
   more = one_more s laws n good inputs x.actor x.done st.known st.own st.local t b t_long b_long (puts x.asked (taken_before (wiring s n) st.own x.actor x.done) st.at) own_taken
 
-  fired_stand : IsStand s n inputs (record { actor = x.actor; state = w; ins = ins; outs = outs; takes = x.takes; puts = x.puts; taken = tv; put = pv; done = x.done + 1; asked = x.asked })
-  fired_stand = record {
-    known = st.known;
-    own_pairs = own_pairs_kept n x.actor x.ins.items ins.items x.outs.items outs.items (λ i. block_of (sizes s Input (node n x.actor) x.done) i t) (λ i. block_of (sizes s Output (node n x.actor) x.done) i b) (items_long ins x.ins ins_is) (items_long outs x.outs outs_is) drew gave st.own_pairs;
-    within = omega arith;
-    own = more.0;
+  on : HasGoneOn s n inputs x st.own more.0 1 (λ i. block_of (sizes s Input (node n x.actor) x.done) i t) (λ i. block_of (sizes s Output (node n x.actor) x.done) i b)
+  on = record {
     local = more.1.local;
-    at = subst (λ p. IsAt s inputs x.asked (node n x.actor) p w) (sym more.1.past) (moved x.asked (taken_before (wiring s n) st.own x.actor x.done) st.at);
-    ins_all = ins_is ∙ st.ins_all;
-    outs_all = outs_is ∙ st.outs_all;
-    took = λ i d h.
-        let l : i < inputs_of s (node n x.actor) = omega (arith, st.ins_all) in
-        let c : ℕ = get_or ((wiring s n).ins x.actor) i 0 in
-        let is = port_at s laws.ports n good x.actor i st.known l in
-        ap (λ j. received (get_or ins.items j d)) (sym is.2) ∙ (took_then c d is.0 is.1 ∙ sym (more.1.into c is.0 is.1));
-    gave = λ i d h.
-        let c : ℕ = get_or ((wiring s n).outs x.actor) i 0 in
-        let l : i < vec_len x.outs = omega arith in
-        let p : i < outputs_of s (node n x.actor) = omega (arith, st.outs_all) in
+    into = more.1.into;
+    out = λ i p.
         let q : i < length ((wiring s n).outs x.actor) = omega (arith, outs_long s laws.ports n good wired x.actor st.known) in
         let is = wired.outs_are x.actor i st.known q in
-        (gave i d (vec_in x.outs i l)).sent_then ∙ (ap (λ r. r ++ block_of (sizes s Output (node n x.actor) x.done) i b) (st.gave i d l) ∙
-        (ap (λ r. st.own c ++ r) (sym (out_block s laws.ports n good wired x.actor st.known x.done i b p)) ∙ sym (more.1.out c is.1)));
-    phases = st.phases;
-    takes = st.takes;
-    puts = st.puts;
-    taken_long = λ more k. let long = st.taken_long left k in omega arith;
-    put_long = λ more k. let long = st.put_long left k in omega arith;
-  }
-
-  fired_moved : HasMoved s n x (record { actor = x.actor; state = w; ins = ins; outs = outs; takes = x.takes; puts = x.puts; taken = tv; put = pv; done = x.done + 1; asked = x.asked })
-  fired_moved = record {
-    actor_kept = refl;
-    asked_kept = refl;
-    more = omega arith;
-    ins_kept = ins_is;
-    outs_kept = outs_is;
-    taken = λ i. block_of (sizes s Input (node n x.actor) x.done) i t;
-    put = λ i. block_of (sizes s Output (node n x.actor) x.done) i b;
-    drew = drew;
-    gave = gave;
-    taken_count = λ i h.
-        let p : i < inputs_of s (node n x.actor) = omega (arith, st.ins_all) in
+        more.1.out (get_or ((wiring s n).outs x.actor) i 0) is.1 ∙
+        ap (λ r. st.own (get_or ((wiring s n).outs x.actor) i 0) ++ r) (out_block s laws.ports n good wired x.actor st.known x.done i b p);
+    taken_count = λ i p.
         let h : ℕ → ℕ = sizes s Input (node n x.actor) x.done in
         let inside = block_in h i (inputs_of s (node n x.actor)) p in
         let long = length-between t (start_at h i) (start_at h i + h i) (omega arith) in
         let rise : (wiring s n).rates.consumed (get_or ((wiring s n).ins x.actor) i 0) x.done ≤ (wiring s n).rates.consumed (get_or ((wiring s n).ins x.actor) i 0) (x.done + 1) =
         wired.sound.consumed_rises (get_or ((wiring s n).ins x.actor) i 0) x.done (x.done + 1) (omega arith) in
         omega (arith, consumed_in s laws.ports n good wired x.actor st.known i x.done p, consumed_in s laws.ports n good wired x.actor st.known i (x.done + 1) p);
-    put_count = λ i h.
-        let p : i < outputs_of s (node n x.actor) = omega (arith, st.outs_all) in
+    put_count = λ i p.
         let h : ℕ → ℕ = sizes s Output (node n x.actor) x.done in
         let inside = block_in h i (outputs_of s (node n x.actor)) p in
         let long = length-between b (start_at h i) (start_at h i + h i) (omega arith) in
@@ -120,4 +86,7 @@ module _ {A S T : Type 0} (s : Steps A S T) (laws : FiringLaws s) (n : Netlist A
 
   pub fired : IsStand s n inputs (record { actor = x.actor; state = w; ins = ins; outs = outs; takes = x.takes; puts = x.puts; taken = tv; put = pv; done = x.done + 1; asked = x.asked }) ×
       HasMoved s n x (record { actor = x.actor; state = w; ins = ins; outs = outs; takes = x.takes; puts = x.puts; taken = tv; put = pv; done = x.done + 1; asked = x.asked })
-  fired = (fired_stand, fired_moved)
+  fired =
+      gone_on s laws n good inputs x st 1 (omega arith) more.0 (λ i. block_of (sizes s Input (node n x.actor) x.done) i t) (λ i. block_of (sizes s Output (node n x.actor) x.done) i b) on
+      w (subst (λ p. IsAt s inputs x.asked (node n x.actor) p w) (sym more.1.past) (moved x.asked (taken_before (wiring s n) st.own x.actor x.done) st.at))
+      ins outs tv pv drew gave ins_is outs_is tv_is pv_is

@@ -18,7 +18,11 @@ pub mod PortBlocks
 pub mod Known
 pub mod OwnEnds
 pub mod Knowing
+pub mod Onward
 pub mod Firing
+pub mod Running
+pub mod RunEnds
+pub mod RunFired
 pub mod Standing
 pub mod Looking
 pub mod Times

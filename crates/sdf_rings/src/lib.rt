@@ -23,6 +23,7 @@ pub mod runner;
 pub mod seat;
 mod setup;
 pub mod stand;
+mod together;
 
 pub use rings::Rings;
 pub use round::run_round;

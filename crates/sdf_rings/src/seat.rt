@@ -1,14 +1,19 @@
 //! One worker.
 
-ghost use Rattle.std.specs.Prelude.{◌≡◌, ◌+◌, ◌<◌, ◌≤◌, ◌⊎◌, IsTrue, IsFalse, vec_len};
+ghost use Rattle.std.specs.Prelude.{◌≡◌, ◌+◌, ◌<◌, ◌≤◌, ◌⊎◌, ℕ, IsTrue, IsFalse, length, slice_index, vec_len};
 ghost use Rattle.sdf_actor.specs.Nets.{IsNet};
 ghost use Rattle.sdf_actor.specs.Wires.{lists};
 ghost use Rattle.sdf_rings.specs.Stands.{IsStand, CanFire, HasMoved};
-ghost use Rattle.sdf_rings.specs.Seats.{IsSeat, HasFirst, HasWorked};
+ghost use Rattle.sdf_rings.specs.Seats.{times_between, IsSeat, HasFirst, HasWorked};
 
 use crate::stand::{Stand, fire_one, is_ready};
+use crate::together::{fire_run, in_one_run};
 use sdf_actor::{Actor, Net};
 use sdf_node::Gate;
+use std::hint;
+
+/// So many firings at most go in one piece of work.
+const MOST_AT_ONCE: usize = 65_536;
 
 /// A worker's nodes, and the list of its firings still to do: those from `next` on. It holds no reference.
 #[derive(Drop)]
@@ -39,50 +44,103 @@ fn becomes_ready<A: Actor>(
             return true;
         }
         *tries = tries.saturating_sub(1);
+        hint::spin_loop();
     }
     is_ready(net, inputs, stand)
 }
 
-/// One firing of a node, if it becomes possible.
+/// How often the stand at a place of a list stands there and in the next places, up to a limit.
+fn in_a_row(left: &[usize], next: usize, most: usize) -> usize
+    requires { next < length left.now }
+    ensures within { result ≤ most }
+    ensures inside { next + result ≤ length left.now }
+    ensures same { (j : ℕ) → j < result → slice_index left.now next ≡ slice_index left.now (next + j) }
+{
+    let many = most.min(left.len() - next);
+    for j in 0..many {
+        if left[next + j] != left[next] {
+            return j;
+        }
+    }
+    many
+}
+
+/// The next firings of the list that are one node's and known to be possible, in one piece of work where they go so.
+fn fire_known<A: Actor, G: Gate>(
+    net: &Net<A>,
+    inputs: &[Vec<A::Token>],
+    stand: &mut Stand<A>,
+    left: &[usize],
+    next: usize,
+    processor: usize,
+    gate: &G,
+) -> usize
+    requires net { IsNet A.steps net.now }
+    requires stand { IsStand A.steps net.now (lists inputs.now) stand.old }
+    requires can { CanFire A.steps net.now stand.old }
+    requires some { next < length left.now }
+    requires counts { stand.old.done + times_between (slice_index left.now next) left.now next (length left.now) ≡ stand.old.asked }
+    ensures stand { IsStand A.steps net.now (lists inputs.now) stand.new }
+    ensures moved { HasMoved A.steps net.now stand.old stand.new }
+    ensures done { stand.new.done ≡ stand.old.done + result }
+    ensures some { 0 < result }
+    ensures inside { next + result ≤ length left.now }
+    ensures same { (j : ℕ) → j < result → slice_index left.now next ≡ slice_index left.now (next + j) }
+{
+    let row = in_a_row(left, next, MOST_AT_ONCE);
+    let many = in_one_run(net, inputs, stand, row);
+    if many > 1 {
+        fire_run(net, inputs, stand, processor, many, gate);
+        return many;
+    }
+    gate.before(processor, stand.actor, stand.done);
+    fire_one(net, inputs, stand);
+    1
+}
+
+/// The next firings of a node, if the first becomes possible. The answer is their number.
 fn fire_next<A: Actor, G: Gate>(
     net: &Net<A>,
     inputs: &[Vec<A::Token>],
     stand: &mut Stand<A>,
+    left: &[usize],
+    next: usize,
     processor: usize,
     tries: &mut u32,
     gate: &G,
-) -> bool
+) -> usize
     requires net { IsNet A.steps net.now }
     requires stand { IsStand A.steps net.now (lists inputs.now) stand.old }
-    requires left { stand.old.done < stand.old.asked }
+    requires some { next < length left.now }
+    requires counts { stand.old.done + times_between (slice_index left.now next) left.now next (length left.now) ≡ stand.old.asked }
     ensures stand { IsStand A.steps net.now (lists inputs.now) stand.new }
     ensures moved { HasMoved A.steps net.now stand.old stand.new }
-    ensures yes { IsTrue result → stand.new.done ≡ stand.old.done + 1 }
-    ensures no { IsFalse result → (stand.new.done ≡ stand.old.done) × (CanFire A.steps net.now stand.new → ⊥) }
+    ensures done { stand.new.done ≡ stand.old.done + result }
+    ensures inside { next + result ≤ length left.now }
+    ensures same { (j : ℕ) → j < result → slice_index left.now next ≡ slice_index left.now (next + j) }
+    ensures no { result ≡ 0 → CanFire A.steps net.now stand.new → ⊥ }
 {
     if !becomes_ready(net, inputs, stand, tries) {
-        return false;
+        return 0;
     }
-    gate.before(processor, stand.actor, stand.done);
-    fire_one(net, inputs, stand);
-    true
+    fire_known(net, inputs, stand, left, next, processor, gate)
 }
 
-/// The next firing of the list, if it becomes possible.
+/// The next firings of the list, if the first becomes possible. The answer is their number.
 fn work_next<A: Actor, G: Gate>(
     net: &Net<A>,
     inputs: &[Vec<A::Token>],
     seat: &mut Seat<A>,
     tries: &mut u32,
     gate: &G,
-) -> bool
+) -> usize
     requires net { IsNet A.steps net.now }
     requires seat { IsSeat A.steps net.now (lists inputs.now) seat.old }
     requires some { seat.old.next < vec_len seat.old.left }
     ensures seat { IsSeat A.steps net.now (lists inputs.now) seat.new }
     ensures worked { HasWorked A.steps net.now seat.old seat.new }
-    ensures yes { IsTrue result → seat.new.next ≡ seat.old.next + 1 }
-    ensures no { IsFalse result → (seat.new.next ≡ seat.old.next) × (HasFirst A.steps net.now seat.new → ⊥) }
+    ensures count { seat.new.next ≡ seat.old.next + result }
+    ensures no { result ≡ 0 → HasFirst A.steps net.now seat.new → ⊥ }
 {
     let number = seat.left[seat.next];
     let processor = seat.processor;
@@ -90,13 +148,13 @@ fn work_next<A: Actor, G: Gate>(
         net,
         inputs,
         &mut seat.stands[number],
+        &seat.left,
+        seat.next,
         processor,
         tries,
         gate,
     );
-    if fired {
-        seat.next += 1;
-    }
+    seat.next += fired;
     fired
 }
 
@@ -119,7 +177,10 @@ pub fn work<A: Actor, G: Gate>(
     let start = seat.next;
     let mut tries = patience;
     for _ in start..seat.left.len() {
-        if !work_next(net, inputs, seat, &mut tries, gate) {
+        if seat.next == seat.left.len() {
+            return (seat.next - start) as u64;
+        }
+        if work_next(net, inputs, seat, &mut tries, gate) == 0 {
             return (seat.next - start) as u64;
         }
     }

@@ -35,7 +35,7 @@ pub struct Stand<A: Actor> {
 }
 
 /// The row of a phase.
-fn row(rows: &Vec<Vec<usize>>, phase: u32) -> &[usize]
+pub(crate) fn row(rows: &Vec<Vec<usize>>, phase: u32) -> &[usize]
     requires { phase < length (lists rows.now.items) }
     ensures { result.now ≡ at_phase (lists rows.now.items) phase }
 {

@@ -8,7 +8,7 @@ use sdf_actor::{Actor, Node};
 use sdf_node::{puts, takes};
 
 /// How many phases the cycle of a node has.
-fn cycle<A: Actor>(node: &Node<A>) -> u32
+pub(crate) fn cycle<A: Actor>(node: &Node<A>) -> u32
     ensures { result ≡ cycle_of A.steps node.now }
 {
     match node {

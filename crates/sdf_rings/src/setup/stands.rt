@@ -18,6 +18,9 @@ use sdf_node::begin;
 use std::alloc::{AllocError, Global};
 use std::mem;
 
+/// The working blocks of a node hold so many samples, or a firing's where that has more.
+const SAMPLES_AT_ONCE: usize = 4_096;
+
 /// What a run begins with.
 #[derive(Drop)]
 pub(crate) struct Start<'a, A: Actor> {
@@ -97,7 +100,7 @@ fn make_stand<A: Actor>(
     sdf_actor::laws::nets_are_wired::<A>();
     sdf_actor::laws::locals_grow::<A>();
     let node = start.net.node(a);
-    let many = most(node);
+    let many = most(node).max(SAMPLES_AT_ONCE);
     Ok(Stand {
         actor: a,
         state: begin(alloc, node, start.room)?,

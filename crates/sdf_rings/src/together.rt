@@ -1,0 +1,209 @@
+//! Runs of firings of one node: as many as its ends know to be possible go in one piece of work.
+
+ghost use Rattle.std.specs.Prelude.{◌≡◌, ◌+◌, ◌*◌, ◌<◌, ◌≤◌, ◌^◌, ◌++◌, ℕ, List, length, take, slice_index, IsTrue};
+ghost use Rattle.sdf_actor.specs.Nets.{answer_of, wire, IsNet};
+ghost use Rattle.sdf_actor.specs.Wires.{lists};
+ghost use Rattle.sdf_node.specs.Nodes.{takes_of, puts_of, IsAt};
+ghost use Rattle.sdf_node.specs.Many.{nth_block, listed, joined, AreWhole, CanStepMany};
+ghost use Rattle.sdf_rings.specs.Blocks.{start_at, block_of};
+ghost use Rattle.sdf_rings.specs.Ends.{DrewEach, HoldsEach};
+ghost use Rattle.sdf_rings.specs.Stands.{IsStand, HasMoved};
+ghost use Rattle.sdf_rings.specs.Together.{GoesInRuns, CanRun};
+
+use crate::ends::{blocks_free, blocks_held, put_run, take_run, whole_blocks};
+use crate::setup::sizes::cycle;
+use crate::stand::{Stand, row};
+use rtrb::Consumer;
+use sdf_actor::{Actor, Net, Node};
+use sdf_node::{ActorId, Gate, NodeState, puts, step_many, takes};
+use std::alloc::Global;
+
+/// Whether no channel leads from a node to itself.
+fn is_apart<A: Actor>(net: &Net<A>, actor: ActorId) -> bool
+    requires net { IsNet A.steps net.now }
+    requires known { actor < length net.now.nodes }
+    ensures { IsTrue result → (c : ℕ) → c < length net.now.wires → (wire net.now c).from.0 ≡ actor → (wire net.now c).to.0 ≡ actor → ⊥ }
+{
+    sdf_actor::laws::nets_are_wired::<A>();
+    let channels = net.channels_in(actor);
+    for i in 0..channels.len() {
+        if net.link(channels[i]).from.0 == actor {
+            return false;
+        }
+    }
+    true
+}
+
+/// Whether the firings of a node go in runs.
+fn goes_in_runs<A: Actor>(net: &Net<A>, actor: ActorId) -> bool
+    requires net { IsNet A.steps net.now }
+    requires known { actor < length net.now.nodes }
+    ensures { IsTrue result → GoesInRuns A.steps net.now actor }
+{
+    cycle(net.node(actor)) == 1 && is_apart(net, actor)
+}
+
+/// Passes the gate before each of so many firings, in order.
+fn pass_gate<G: Gate>(gate: &G, processor: usize, actor: ActorId, done: u64, many: usize)
+    requires { done + many < 2 ^ 64 }
+{
+    for i in 0..many {
+        gate.before(processor, actor, done + i as u64);
+    }
+}
+
+/// Takes the blocks of so many firings, to the front of `taken`.
+fn take_front_run<T: Copy>(
+    sizes: &[usize],
+    ends: &mut [Consumer<T, Global>],
+    taken: &mut [T],
+    many: usize,
+    size: usize,
+    all: usize,
+)
+    requires ports { length ends.old ≡ length sizes.now }
+    requires size { size ≡ start_at (slice_index sizes.now) (length ends.old) }
+    requires all { all ≡ size * many }
+    requires long { all ≤ length taken.old }
+    requires known { HoldsEach (λ i. many * slice_index sizes.now i) ends.old }
+    ensures { DrewEach ends.old ends.new (λ p. joined (λ i. block_of (slice_index sizes.now) p (nth_block size (take all taken.new) i)) many) }
+{
+    let (front, _) = taken.split_at_mut(all);
+    take_run(sizes, ends, front, many, size);
+}
+
+/// Fires a node so often, on the blocks taken. What it puts stands at the front of the other block.
+fn step_front_many<A: Actor>(
+    node: &Node<A>,
+    inputs: &[Vec<A::Token>],
+    state: &mut NodeState<A::Token, A::State>,
+    many: usize,
+    taken: &[A::Token],
+    put: &mut [A::Token],
+    all: usize,
+)
+    requires can { CanStepMany A.steps (lists inputs.now) node.now state.old many (length taken.now) all }
+    requires long { all ≤ length put.old }
+    ensures state { (asked : ℕ) (past : List (List A.Token)) → IsAt A.steps (lists inputs.now) asked node.now past state.old →
+        IsAt A.steps (lists inputs.now) asked node.now (past ++ listed (nth_block (takes_of A.steps node.now 0) taken.now) many) state.new }
+    ensures put { (asked : ℕ) (past : List (List A.Token)) → IsAt A.steps (lists inputs.now) asked node.now past state.old → AreWhole A.steps node.now past →
+        (i : ℕ) → i < many → nth_block (puts_of A.steps node.now 0) (take all put.new) i ≡
+        answer_of A.steps (lists inputs.now) node.now (past ++ listed (nth_block (takes_of A.steps node.now 0) taken.now) i) (nth_block (takes_of A.steps node.now 0) taken.now i) }
+{
+    let (front, _) = put.split_at_mut(all);
+    step_many(node, inputs, state, many, taken, front);
+}
+
+/// Takes the blocks of so many firings, fires so often and puts all their blocks. The firings are still to be counted.
+fn fire_run_blocks<A: Actor>(
+    net: &Net<A>,
+    inputs: &[Vec<A::Token>],
+    stand: &mut Stand<A>,
+    many: usize,
+)
+    requires net { IsNet A.steps net.now }
+    requires stand { IsStand A.steps net.now (lists inputs.now) stand.old }
+    requires can { CanRun A.steps net.now stand.old many }
+    ensures fired { IsStand A.steps net.now (lists inputs.now) (record stand.new { done = stand.old.done + many }) × HasMoved A.steps net.now stand.old (record stand.new { done = stand.old.done + many }) }
+    ensures done { stand.new.done ≡ stand.old.done }
+    ensures asked { stand.new.asked ≡ stand.old.asked }
+{
+    sdf_actor::laws::nets_are_wired::<A>();
+    sdf_actor::laws::taken_stays::<A>();
+    sdf_actor::laws::locals_grow::<A>();
+    sdf_node::laws::nodes_can_step::<A>();
+    sdf_node::laws::nodes_can_step_many::<A>();
+    sdf_node::laws::blocks_join::<A::Token>();
+    let node = net.node(stand.actor);
+    let size = takes(node, 0);
+    let made = puts(node, 0);
+    let taken = size * many;
+    let put = made * many;
+    take_front_run(
+        row(&stand.takes, 0),
+        stand.ins.as_mut_slice(),
+        stand.taken.as_mut_slice(),
+        many,
+        size,
+        taken,
+    );
+    step_front_many(
+        node,
+        inputs,
+        &mut stand.state,
+        many,
+        &stand.taken[..taken],
+        stand.put.as_mut_slice(),
+        put,
+    );
+    put_run(
+        row(&stand.puts, 0),
+        stand.outs.as_mut_slice(),
+        &stand.put[..put],
+        many,
+        made,
+    );
+}
+
+/// How many firings in a row are known to be possible, up to a limit, where the firings of the node go in runs.
+fn possible<A: Actor>(
+    net: &Net<A>,
+    inputs: &[Vec<A::Token>],
+    stand: &Stand<A>,
+    most: usize,
+) -> usize
+    requires net { IsNet A.steps net.now }
+    requires stand { IsStand A.steps net.now (lists inputs.now) stand.now }
+    requires goes { GoesInRuns A.steps net.now stand.now.actor }
+    requires left { stand.now.done + most ≤ stand.now.asked }
+    ensures within { result ≤ most }
+    ensures can { CanRun A.steps net.now stand.now result }
+{
+    sdf_node::laws::nodes_can_step::<A>();
+    let node = net.node(stand.actor);
+    let mut many = whole_blocks(stand.taken.len(), takes(node, 0), most);
+    many = whole_blocks(stand.put.len(), puts(node, 0), many);
+    many = blocks_held(row(&stand.takes, 0), stand.ins.as_slice(), many);
+    blocks_free(row(&stand.puts, 0), stand.outs.as_slice(), many)
+}
+
+/// So many firings of a node in one piece of work, each past the gate first.
+pub(crate) fn fire_run<A: Actor, G: Gate>(
+    net: &Net<A>,
+    inputs: &[Vec<A::Token>],
+    stand: &mut Stand<A>,
+    processor: usize,
+    many: usize,
+    gate: &G,
+)
+    requires net { IsNet A.steps net.now }
+    requires stand { IsStand A.steps net.now (lists inputs.now) stand.old }
+    requires can { CanRun A.steps net.now stand.old many }
+    ensures stand { IsStand A.steps net.now (lists inputs.now) stand.new }
+    ensures moved { HasMoved A.steps net.now stand.old stand.new }
+    ensures done { stand.new.done ≡ stand.old.done + many }
+{
+    pass_gate(gate, processor, stand.actor, stand.done, many);
+    fire_run_blocks(net, inputs, stand, many);
+    stand.done += many as u64;
+}
+
+/// How many firings go in one run, up to a limit: none where the node's firings go one by one.
+pub(crate) fn in_one_run<A: Actor>(
+    net: &Net<A>,
+    inputs: &[Vec<A::Token>],
+    stand: &Stand<A>,
+    most: usize,
+) -> usize
+    requires net { IsNet A.steps net.now }
+    requires stand { IsStand A.steps net.now (lists inputs.now) stand.now }
+    requires left { stand.now.done + most ≤ stand.now.asked }
+    ensures within { result ≤ most }
+    ensures can { 0 < result → CanRun A.steps net.now stand.now result }
+{
+    if goes_in_runs(net, stand.actor) {
+        possible(net, inputs, stand, most)
+    } else {
+        0
+    }
+}
