@@ -1,3 +1,4 @@
 pub mod Nodes
 pub mod Stepping
 pub mod Collected
+pub mod Keeping

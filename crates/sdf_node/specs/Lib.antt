@@ -1,3 +1,4 @@
 pub mod Nodes
 pub mod Laws
 pub mod Collected
+pub mod Kept

@@ -1,6 +1,7 @@
 //! Laws over the definitions, each the contract of a function that does nothing.
 
 ghost use Rattle.sdf_node.specs.Collected.{SinksHoldLists};
+ghost use Rattle.sdf_node.specs.Kept.{ActorsKeepStates};
 ghost use Rattle.sdf_node.specs.Laws.{NodesCanStep, NodesKeepPhase};
 
 use sdf_actor::Actor;
@@ -15,4 +16,9 @@ pub fn nodes_can_step<A: Actor>()
 /// A sink's list is all that it took.
 pub fn sinks_hold_lists<A: Actor>()
     ensures { SinksHoldLists A.steps }
+{}
+
+/// An actor keeps the state after all that it took.
+pub fn actors_keep_states<A: Actor>()
+    ensures { ActorsKeepStates A.steps }
 {}

@@ -8,7 +8,9 @@ pub mod collect;
 pub mod gate;
 pub mod laws;
 pub mod node;
+pub mod rest;
 
 pub use collect::collect_at;
 pub use gate::{ActorId, Gate, NoGate};
 pub use node::{NodeState, append, begin, puts, step, takes};
+pub use rest::kept;
