@@ -10,3 +10,4 @@ mod PortRows
 mod Moves
 mod Feeds
 mod BegunLists
+mod Begun

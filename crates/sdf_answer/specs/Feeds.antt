@@ -7,10 +7,11 @@ use Rattle.sdf_actor.specs.declared.rest.Rest.{Rest}
 use Rattle.sdf_actor.specs.declared.sides.Lists.TheVariants.{Inputs, Outputs}
 use Rattle.sdf_actor.specs.Histories.{taken_before}
 use Rattle.sdf_actor.specs.Nets.{Netlist, node, wiring, arrived, IsNet, IsHistoryOf}
-use Rattle.sdf_actor.specs.Rests.{Leaves, IsRest, BeginsWith, AreJoined}
+use Rattle.sdf_actor.specs.Rests.{AreWhole, Leaves, IsRest, BeginsWith, AreJoined}
 use Rattle.sdf_actor.specs.Sides.{list_count, period_samples}
 use Rattle.sdf_actor.specs.Steps.{Steps}
-use Rattle.sdf_answer.specs.Answer.{HasInputs, periods_of}
+use Rattle.sdf_answer.specs.Answer.{HasInputs, periods_of, IsRunFault}
+use Rattle.sdf_answer.specs.declared.fault.RunFault.{RunFault}
 use Rattle.sdf_answer.specs.Periods.{HasPeriod}
 
 -- the outputs of the history where each node a has fired k a times, and what that history leaves
@@ -71,3 +72,20 @@ pub record GoesOnBy {A S T : Type 0} (s : Steps A S T) (n : Netlist A T) (q : Li
       HasInputs n q few first → AreFull n q few first → HasRun s n first (periods_of q few) made rest →
       AreJoined first later all → AreJoined made on joined → length joined ≡ length made →
       HasRun s n all (periods_of q (few + more)) joined last
+
+-- the counts of so many periods are whole, so a net may begin with what is left there
+abbrev pub PeriodsMayLeave : {A S T : Type 0} → Steps A S T → Type 0
+PeriodsMayLeave {A} {S} {T} s = (n : Netlist A T) (p : Schedule) (few : ℕ) → HasPeriod s n p → AreWhole s n (periods_of p.repetitions few)
+
+-- a run of the net that begins with a rest goes on from there
+abbrev pub BegunRunsGoOn : {A B S T : Type 0} → Steps A S T → Steps B S T → Type 0
+BegunRunsGoOn {A} {B} {S} {T} s r =
+    (n : Netlist A T) (m : Netlist B T) (p : Schedule) (more : ℕ) (later on : List (List T)) (rest last : Rest T S) →
+    HasPeriod s n p → BeginsWith s r n rest m → HasInputs m p.repetitions more later → HasRun r m later (periods_of p.repetitions more) on last →
+    GoesOnBy s n p.repetitions rest more later on last
+
+-- and a fault of it is one of the net
+abbrev pub BegunRunsFail : {A B S T : Type 0} → Steps A S T → Steps B S T → Type 0
+BegunRunsFail {A} {B} {S} {T} s r =
+    (n : Netlist A T) (rest : Rest T S) (m : Netlist B T) (q : List ℕ) (periods : ℕ) (inputs : List (List T)) (fault : RunFault) → BeginsWith s r n rest m →
+    IsRunFault m q periods inputs fault → IsRunFault n q periods inputs fault

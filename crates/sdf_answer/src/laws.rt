@@ -7,6 +7,7 @@ ghost use Rattle.sdf_actor.specs.Graphs.{graph_of};
 ghost use Rattle.sdf_actor.specs.Nets.{node, wiring, cycle_of, IsNet};
 ghost use Rattle.sdf_actor.specs.NetFaults.{IsAccepted};
 ghost use Rattle.sdf_answer.specs.Feeds.{FeedsGoOn, BegunNetsAsk, BegunNetsMake, SinksMakeRuns, NothingRuns};
+ghost use Rattle.sdf_answer.specs.Feeds.{PeriodsMayLeave, BegunRunsGoOn, BegunRunsFail};
 ghost use Rattle.sdf_answer.specs.GraphLaws.{GraphLaws};
 ghost use Rattle.sdf_answer.specs.Periods.{HasPeriod, HasSinks};
 ghost use Rattle.sdf_answer.specs.Laws.{RunsGoOn, NetsCanRun, HistoriesBegin, SinksTakeAll, SinksMakeOutputs, NothingMakesNothing};
@@ -81,6 +82,17 @@ pub fn feeds_go_on<A: Actor, B: Actor<Token = A::Token, State = A::State>>()
     graph_laws();
     periods_are_whole::<A>();
     rests_go_on::<A, B>();
+}
+
+/// A net that begins with what periods left is run in place of the net, from there on.
+pub fn begun_nets_go_on<A: Actor, B: Actor<Token = A::Token, State = A::State>>()
+    ensures whole { PeriodsMayLeave A.steps }
+    ensures runs { BegunRunsGoOn A.steps B.steps }
+    ensures faults { BegunRunsFail A.steps B.steps }
+{
+    graph_laws();
+    periods_are_whole::<A>();
+    feeds_go_on::<A, B>();
 }
 
 /// A history begins with what the channels begin with, and what its sinks took are the outputs.

@@ -3,3 +3,4 @@ pub mod Stepping
 pub mod Collected
 pub mod Joined
 pub mod ManyFirings
+pub mod Keeping

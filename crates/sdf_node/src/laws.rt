@@ -2,6 +2,7 @@
 
 ghost use Rattle.sdf_node.specs.Collected.{SinksHoldLists};
 ghost use Rattle.sdf_node.specs.Laws.{NodesCanStep, NodesKeepPhase, NodesCanStepMany, BlocksJoin};
+ghost use Rattle.sdf_node.specs.Kept.{ActorsKeepStates};
 
 use sdf_actor::Actor;
 pub use sdf_actor::laws::{locals_are_history, locals_grow};
@@ -25,4 +26,9 @@ pub fn blocks_join<T>()
 /// A sink's list is all that it took.
 pub fn sinks_hold_lists<A: Actor>()
     ensures { SinksHoldLists A.steps }
+{}
+
+/// An actor keeps the state after all that it took.
+pub fn actors_keep_states<A: Actor>()
+    ensures { ActorsKeepStates A.steps }
 {}

@@ -9,8 +9,10 @@ pub mod gate;
 pub mod laws;
 pub mod many;
 pub mod node;
+pub mod rest;
 
 pub use collect::collect_at;
 pub use gate::{ActorId, Gate, NoGate};
 pub use many::step_many;
 pub use node::{NodeState, append, begin, puts, step, takes};
+pub use rest::kept;

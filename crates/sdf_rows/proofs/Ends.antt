@@ -1,12 +1,12 @@
 -- A run by rows before its first block and after its last.
-use Rattle.std.proofs.Common.{◌≡◌, ℕ, ◌+◌, ◌*◌, ◌≤◌, ◌<◌, ◌^◌, List, length, get_or, drop, refl, sym, ap, ◌∙◌, subst, arith}
+use Rattle.std.proofs.Common.{◌≡◌, ℕ, ◌+◌, ◌*◌, ◌≤◌, ◌<◌, ◌^◌, List, [], length, map, get_or, drop, None, refl, sym, ap, ◌∙◌, subst, arith}
 use Rattle.std.specs.Prelude.{sum}
 use Rattle.std.specs.List.{flat_map}
 use Rattle.std.specs.Global.{Global}
 use Rattle.std.specs.declared.vec.Vec.{Vec}
 use Rattle.std.proofs.Math.Nat.{mul-le-mul_left}
 use Rattle.std.proofs.lemmas.Nat.{mod_below}
-use Rattle.std.proofs.lemmas.List.{length-map}
+use Rattle.std.proofs.lemmas.List.{get_or-map, length-map}
 use Rattle.std.proofs.lemmas.List.Sums.{get_or-le-sum_by}
 use Rattle.sdf_limits.specs.declared.TheConstants.{MOST_BLOCK}
 use Rattle.sdf_graph.specs.Rates.{rates}
@@ -18,19 +18,23 @@ use Rattle.sdf_actor.specs.Histories.{IsWired, taken_before}
 use Rattle.sdf_actor.specs.Nets as nets
 use Rattle.sdf_actor.specs.Nets.{Netlist, wire, wiring, cycle_of, IsNet, InputsReach}
 use Rattle.sdf_actor.specs.Graphs.{graph_of}
+use Rattle.sdf_actor.specs.Rests.{Leaves}
+use Rattle.sdf_actor.specs.declared.rest.Rest.{Rest}
 use Rattle.sdf_actor.specs.Sides.{list_count, period_samples}
 use Rattle.sdf_actor.specs.Wires.{lists}
 use Rattle.sdf_node.specs.declared.node.NodeState.{NodeState}
 use Rattle.sdf_node.specs.declared.node.NodeState.TheVariants.{Source, Sink, Inner}
+use Rattle.sdf_node.specs.Kept.{kept_of, ActorsKeepStates}
 use Rattle.sdf_node.specs.Nodes.{CanBegin, IsAt}
 use Rattle.sdf_rows.specs.declared.job.Job.{Job}
 use Rattle.sdf_answer.specs.Answer.{AreOutputs, periods_of}
+use Rattle.sdf_answer.specs.Feeds.{HasRun, SinksMakeRuns}
 use Rattle.sdf_answer.specs.Held.{Held}
 use Rattle.sdf_answer.specs.Blocks.{room, nothing}
 use Rattle.sdf_answer.specs.Sizes.{Rows, AreSizes, phase_of}
 use Rattle.sdf_rows.specs.Setup.{HasBegun, HasPlaces}
 use Rattle.sdf_rows.specs.Stands.{HaveBlocks}
-use Rattle.sdf_rows.specs.Blocks.{IsResting, IsOver}
+use Rattle.sdf_rows.specs.Blocks.{IsResting}
 use Rattle.sdf_rows.specs.Collect.{AreCollected}
 use Rattle.sdf_rows.proofs.Readings.{some_of}
 use Rattle.sdf_answer.specs.Laws.{HistoriesBegin, SinksMakeOutputs}
@@ -123,21 +127,57 @@ sink_list s inputs many ext block past (Sink made) is = (made, refl, is.0)
 sink_list s inputs many ext block past (Source next) is = absurd is
 sink_list s inputs many ext block past (Inner phase state) is = absurd is
 
--- after the last block the lists of the sinks are the outputs
-pub row_outputs : {A S T : Type 0} (s : Steps A S T) → SinksMakeOutputs s → (n : Netlist A T) → IsNet s n → (inputs : List (List T)) (q : List ℕ) (j blocks : ℕ) (states : List (NodeState T S)) (outputs : List (Vec T Global)) →
-    IsOver s n inputs q j blocks states → AreCollected n (length n.nodes) states outputs → length outputs ≡ list_count Outputs n.nodes → AreOutputs s n inputs (periods_of q (blocks * j)) (lists outputs)
-row_outputs {A} {S} {T} s make n good inputs q j blocks states outputs over collected count =
-    let k : ℕ → ℕ = over.0 in
-    let rest = over.2 in
-    make n inputs q (blocks * j) k rest.between.history (lists outputs) good rest.between.is
-    (λ a l. rest.counts a l ∙ (let e : blocks * (j * get_or q a 0) ≡ blocks * j * get_or q a 0 = omega arith in e))
-    (length-map outputs (λ v. v.items) ∙ count)
-    (λ a e block l x.
-    let w : NodeState T S = some_of states a (omega (arith, rest.between.nodes)) in
-    let at : IsAt s inputs (blocks * (j * get_or q a 0)) (node.Sink e block) (taken_before (wiring s n) rest.between.history a (k a)) (get_or states a w) =
-    subst (λ y. IsAt s inputs (blocks * (j * get_or q a 0)) y (taken_before (wiring s n) rest.between.history a (k a)) (get_or states a w)) x (rest.between.idle a w l (λ i f h. absurd (omega arith))) in
-    let found = sink_list s inputs (blocks * (j * get_or q a 0)) e block (taken_before (wiring s n) rest.between.history a (k a)) (get_or states a w) at in
-    collected a e block found.0 w l x found.1 ∙ found.2)
+module _ {A S T : Type 0} (s : Steps A S T) (n : Netlist A T) (inputs : List (List T)) (q : List ℕ) (j blocks : ℕ) (k : ℕ → ℕ) (states : List (NodeState T S)) (ls : List (Held T))
+    (over : IsResting s n inputs q j blocks blocks k states ls) where
+  -- all firings are done
+  all_done : (a : ℕ) → a < length n.nodes → k a ≡ periods_of q (blocks * j) a
+  all_done a l = over.counts a l ∙ (let e : blocks * (j * get_or q a 0) ≡ blocks * j * get_or q a 0 = omega arith in e)
+
+  -- each node is where all that it took brought it
+  node_at : (a : ℕ) (x : Node A) (w : NodeState T S) → a < length n.nodes → nets.node n a ≡ x →
+      IsAt s inputs (blocks * (j * get_or q a 0)) x (taken_before (wiring s n) over.between.history a (k a)) (get_or states a w)
+  node_at a x w l is =
+      subst (λ y. IsAt s inputs (blocks * (j * get_or q a 0)) y (taken_before (wiring s n) over.between.history a (k a)) (get_or states a w)) is
+      (over.between.idle a w l (λ i f h. absurd (omega arith)))
+
+  -- so the list of each sink is what it took
+  sinks_took : (outputs : List (Vec T Global)) → AreCollected n (length n.nodes) states outputs → (a e block : ℕ) → a < length n.nodes → nets.node n a ≡ node.Sink e block →
+      get_or (lists outputs) e [] ≡ flat_map (λ (b : List T). b) (taken_before (wiring s n) over.between.history a (k a))
+  sinks_took outputs collected a e block l x =
+      let w : NodeState T S = some_of states a (omega (arith, over.between.nodes)) in
+      let found = sink_list s inputs (blocks * (j * get_or q a 0)) e block (taken_before (wiring s n) over.between.history a (k a)) (get_or states a w) (node_at a (node.Sink e block) w l x) in
+      collected a e block found.0 w l x found.1 ∙ found.2
+
+  -- after the last block the lists of the sinks are the outputs
+  pub row_outputs : SinksMakeOutputs s → IsNet s n → (outputs : List (Vec T Global)) → AreCollected n (length n.nodes) states outputs → length outputs ≡ list_count Outputs n.nodes →
+      AreOutputs s n inputs (periods_of q (blocks * j)) (lists outputs)
+  row_outputs make good outputs collected count =
+      make n inputs q (blocks * j) k over.between.history (lists outputs) good over.between.is all_done (length-map outputs (λ v. v.items) ∙ count) (sinks_took outputs collected)
+
+  -- copies of the actors' states and of the samples on the channels are what is left
+  leaves : ActorsKeepStates s → (rest : Rest T S) → length rest.states.items ≡ length n.nodes →
+      ((a : ℕ) (w : NodeState T S) → a < length n.nodes → get_or rest.states.items a None ≡ kept_of (nets.node n a) (get_or states a w)) → lists rest.held.items ≡ map (λ line. line.samples) ls →
+      Leaves s n k over.between.history rest
+  leaves keep rest all copies held = record {
+    nodes = all;
+    states = λ a x l is.
+        let w : NodeState T S = some_of states a (omega (arith, over.between.nodes)) in
+        copies a w l ∙ (ap (λ y. kept_of y (get_or states a w)) is ∙
+        keep inputs (blocks * (j * get_or q a 0)) x (taken_before (wiring s n) over.between.history a (k a)) (get_or states a w) (node_at a (node.Inner x) w l is));
+    channels = sym (length-map rest.held.items (λ v. v.items)) ∙ (ap length held ∙ (length-map ls (λ (q : Held T). q.samples) ∙ over.between.channels));
+    held = λ c l.
+        ap (λ v. get_or v c []) held ∙
+        (get_or-map (λ (q : Held T). q.samples) ls c nothing [] (omega (arith, over.between.channels, l)) ∙ over.between.left c l);
+  }
+
+  -- and that is a run
+  pub row_run : SinksMakeRuns s → ActorsKeepStates s → IsNet s n → (outputs : List (Vec T Global)) → AreCollected n (length n.nodes) states outputs → length outputs ≡ list_count Outputs n.nodes →
+      (rest : Rest T S) → length rest.states.items ≡ length n.nodes →
+      ((a : ℕ) (w : NodeState T S) → a < length n.nodes → get_or rest.states.items a None ≡ kept_of (nets.node n a) (get_or states a w)) → lists rest.held.items ≡ map (λ line. line.samples) ls →
+      HasRun s n inputs (periods_of q (blocks * j)) (lists outputs) rest
+  row_run make keep good outputs collected count rest all copies held =
+      make n inputs q (blocks * j) k over.between.history (lists outputs) rest good over.between.is all_done (length-map outputs (λ v. v.items) ∙ count) (sinks_took outputs collected)
+      (leaves keep rest all copies held)
 
 -- nobody has fired
 abbrev pub the_none : ℕ

@@ -1,9 +1,13 @@
 -- Lists that are read and pushed on.
-use Rattle.std.proofs.Common.{◌≡◌, ℕ, ◌+◌, ◌<◌, List, [], ◌∷◌, ◌++◌, length, get_or, sym, ◌∙◌, subst, inl, inr, ◌⊎◌, ◌≤◌, vec_len, arith}
+use Rattle.std.proofs.Common.{◌≡◌, ℕ, ◌+◌, ◌*◌, ◌<◌, List, [], ◌∷◌, ◌++◌, length, get_or, sym, ap, ◌∙◌, subst, inl, inr, ◌⊎◌, ◌≤◌, vec_len, arith}
 use Rattle.std.proofs.lemmas.List.{get_or_append_left, get_or_push}
 use Rattle.std.proofs.lemmas.Bool.{cases_lt}
 use Rattle.std.specs.declared.vec.Vec.{Vec}
 use Rattle.std.specs.Global.{Global}
+use Rattle.sdf_actor.specs.declared.sides.Lists.TheVariants.{Inputs}
+use Rattle.sdf_actor.specs.Nets.{Netlist}
+use Rattle.sdf_actor.specs.Sides.{list_count, period_samples}
+use Rattle.sdf_answer.specs.Answer.{AreInputs, HasInputs}
 
 -- an element of a list that has one
 pub some_of : {X : Type 0} (xs : List X) (i : ℕ) → i < length xs → X
@@ -23,3 +27,9 @@ push_each P xs ys x i is long before here k d h = subst (λ zs. P k (get_or zs k
     go (inr above) =
         let at : i ≡ k = omega arith in
         subst (P k) (sym (get_or_push xs x d k (long ∙ at))) (subst (λ j. P j x) at here)
+
+-- lists that pass the test of their number and length are what so many periods read
+pub given : {A T : Type 0} (n : Netlist A T) (q : List ℕ) (periods many least samples : ℕ) (inputs : List (List T)) → AreInputs many least inputs → many ≡ list_count Inputs n.nodes →
+    least ≡ periods * samples → samples ≡ period_samples n.nodes Inputs q → HasInputs n q periods inputs
+given n q periods many least samples inputs are count long each =
+    subst (λ m. AreInputs m (periods * period_samples n.nodes Inputs q) inputs) count (subst (λ l. AreInputs many l inputs) (long ∙ ap (λ m. periods * m) each) are)

@@ -28,6 +28,6 @@ pub record IsResting {A S T : Type 0} (s : Steps A S T) (n : Netlist A T) (input
       (wiring s n).rates.initial c + (wiring s n).rates.produced c (j * slice_index q ((wiring s n).rates.source c)) ≤ room ls c
   pub between : IsBetween s n inputs (λ a. blocks * (j * slice_index q a)) k k k states ls
 
--- after all blocks, whatever stands on the channels then
-abbrev pub IsOver : {A S T : Type 0} → Steps A S T → Netlist A T → List (List T) → List ℕ → ℕ → ℕ → List (NodeState T S) → Type 0
-IsOver {A} {S} {T} s n inputs q j blocks states = (k : ℕ → ℕ) × (ls : List (Held T)) × IsResting s n inputs q j blocks blocks k states ls
+-- after all blocks
+abbrev pub IsOver : {A S T : Type 0} → Steps A S T → Netlist A T → List (List T) → List ℕ → ℕ → ℕ → List (NodeState T S) → List (Held T) → Type 0
+IsOver s n inputs q j blocks states ls = (k : ℕ → ℕ) × IsResting s n inputs q j blocks blocks k states ls

@@ -65,6 +65,13 @@ impl<T: Copy> Line<T> {
         &self.items[self.start..self.start + many]
     }
 
+    /// How many samples there are.
+    pub(crate) fn len(&self) -> usize
+        ensures { result ≡ length self.now.samples }
+    {
+        self.items.len() - self.start
+    }
+
     /// Drops the oldest samples.
     pub(crate) fn skip(&mut self, many: usize)
         requires { many ≤ length self.old.samples }

@@ -14,6 +14,7 @@ ghost use Rattle.sdf_rows.specs.Blocks.{IsOver};
 ghost use Rattle.sdf_answer.specs.Rows.{IsTableOf};
 
 use crate::collect::collect;
+use crate::line::Line;
 use crate::runs::{Course, run_blocks};
 use crate::setup::{make_jobs, make_lines, make_states};
 use crate::stage::Scene;
@@ -30,15 +31,22 @@ use std::thread::Threads;
 
 /// What is run: so many blocks of `j` periods, as a table says.
 #[derive(Drop)]
-struct Plan<'a> {
-    period: &'a Period,
-    j: u32,
-    table: &'a Table,
-    blocks: u32,
+pub(crate) struct Plan<'a> {
+    pub(crate) period: &'a Period,
+    pub(crate) j: u32,
+    pub(crate) table: &'a Table,
+    pub(crate) blocks: u32,
+}
+
+/// A run that has fired all its blocks.
+#[derive(Drop)]
+pub(crate) struct Fired<A: Actor> {
+    pub(crate) states: Vec<NodeState<A::Token, A::State>>,
+    pub(crate) lines: Vec<Line<A::Token>>,
 }
 
 /// How many samples move in so many blocks, where each of their periods moves so many.
-fn samples_of(blocks: u32, j: u32, each: usize) -> usize
+pub(crate) fn samples_of(blocks: u32, j: u32, each: usize) -> usize
     requires short { j ≤ MOST_BLOCKING }
     requires few { each ≤ MOST_RATE * MOST_PERIOD }
     ensures { result ≡ blocks * j * each }
@@ -64,19 +72,19 @@ fn none_done(alloc: Global, repetitions: &[u32]) -> Result<Vec<u64>, AllocError>
     repetitions.iter().map(|_| 0u64).collect(alloc)
 }
 
-/// Fires all blocks, and gives the states of the nodes after them.
-fn fire<R: Threads + AllocGlobal + Sync, A: Actor, G: Gate>(
+/// Fires all blocks.
+pub(crate) fn fire<R: Threads + AllocGlobal + Sync, A: Actor, G: Gate>(
     rt: &R,
     net: &Net<A>,
     plan: &Plan,
     inputs: &[Vec<A::Token>],
     filler: A::Token,
     gate: &G,
-) -> Result<Vec<NodeState<A::Token, A::State>>, AllocError>
+) -> Result<Fired<A>, AllocError>
     requires period { IsPeriodOf (rates (graph_of A.steps net.now)) plan.now.period.now }
     requires table { IsTableOf (rates (graph_of A.steps net.now)) plan.now.period.now.repetitions plan.now.j plan.now.table.now }
     requires inputs { HasInputs net.now plan.now.period.now.repetitions (plan.now.blocks * plan.now.j) (lists inputs.now) }
-    ensures { IfOk result (λ v. IsOver A.steps net.now (lists inputs.now) plan.now.period.now.repetitions plan.now.j plan.now.blocks v.items) }
+    ensures { IfOk result (λ run. IsOver A.steps net.now (lists inputs.now) plan.now.period.now.repetitions plan.now.j plan.now.blocks run.states.items run.lines.items) }
 {
     net_facts(net);
     nets_have_periods(net, plan.period);
@@ -108,7 +116,7 @@ fn fire<R: Threads + AllocGlobal + Sync, A: Actor, G: Gate>(
         &mut done,
         gate,
     );
-    Ok(states)
+    Ok(Fired { states, lines })
 }
 
 /// The output lists of a run. Without a sample there are no blocks, and nothing fires.
@@ -130,8 +138,8 @@ fn fill<R: Threads + AllocGlobal + Sync, A: Actor, G: Gate>(
     let mut outputs = make_outputs(rt.alloc(), net.outputs(), 0)?;
     match first_sample(inputs) {
         Some(filler) => {
-            let mut states = fire(rt, net, plan, inputs, filler, gate)?;
-            collect(net, &mut states, &mut outputs);
+            let mut fired = fire(rt, net, plan, inputs, filler, gate)?;
+            collect(net, &mut fired.states, &mut outputs);
             Ok(outputs)
         }
         None => Ok(outputs),
@@ -139,7 +147,7 @@ fn fill<R: Threads + AllocGlobal + Sync, A: Actor, G: Gate>(
 }
 
 /// How many rows are fired in so many blocks.
-fn rounds_of(blocks: u32, rows: usize) -> u64
+pub(crate) fn rounds_of(blocks: u32, rows: usize) -> u64
     requires { rows ≤ MOST_BLOCK }
     ensures { result ≡ blocks * rows }
 {

@@ -10,8 +10,8 @@ use Rattle.sdf_rows.proofs.Readings.{vec_long}
 use Rattle.sdf_rows.proofs.Ends.{row_outputs}
 use Rattle.sdf_rows.proofs.rows.fill.Goals as goal
 
-pub returns-in_ok-states-in-Some : goal.returns-in_ok-states-in-Some
-returns-in_ok-states-in-Some g c =
+pub returns-in_ok-fired-in-Some : goal.returns-in_ok-fired-in-Some
+returns-in_ok-fired-in-Some g c =
     let s = g.A.Actor.steps in
     let n = c.args.net.now in
     let p = c.args.plan.now in
@@ -21,10 +21,11 @@ returns-in_ok-states-in-Some g c =
     let same : length made ≡ length items = c.collect.ensures.all ∙ ap length c.deref_mut-in-Some.ensures.value in
     let count : length made ≡ list_count Outputs n.nodes = same ∙ (c.in_ok-outputs.ensures.0 ∙ c.outputs.ensures) in
     let long : c.in_ok-outputs.outputs.len ≡ length made = omega (arith, same, vec_long c.in_ok-outputs.outputs) in
+    let run = c.in_ok-fired-in-Some.ensures in
     let whole = ap (λ m. take m (made ++ drop (length made) items)) long ∙ take-append_seam made (drop (length made) items) in
     let collected = subst (λ w. AreCollected n (length n.nodes) w made) c.deref_mut.ensures.value c.collect.ensures.lists in
     subst (λ v. AreOutputs s n (lists c.args.inputs.now) (periods_of q (p.blocks * p.j)) (lists v)) (sym whole)
-    (row_outputs s c.histories_make_outputs.ensures.outputs n c.net_facts.ensures.net (lists c.args.inputs.now) q p.j p.blocks c.in_ok-states-in-Some.states.items made c.in_ok-states-in-Some.ensures collected count)
+    (row_outputs s n (lists c.args.inputs.now) q p.j p.blocks run.0 c.in_ok-fired-in-Some.fired.states.items c.in_ok-fired-in-Some.fired.lines.items run.1 c.histories_make_outputs.ensures.outputs c.net_facts.ensures.net made collected count)
 
 pub returns-in-None : goal.returns-in-None
 returns-in-None g c =

@@ -56,4 +56,10 @@ returns g c =
     let rest = subst (λ r. IsResting s n (lists c.args.inputs.now) r p.j p.blocks p.blocks k made c.run_blocks.new.lines) c.repetitions-repetitions.ensures c.run_blocks.ensures.over in
     let long : c.in_ok-states.states.len ≡ length made = omega (arith, c.in_ok-states.ensures.0, rest.between.nodes) in
     let whole = ap (λ m. take m (made ++ drop (length made) c.in_ok-states.states.items)) long ∙ take-append_seam made (drop (length made) c.in_ok-states.states.items) in
-    (k, c.run_blocks.new.lines, subst (λ v. IsResting s n (lists c.args.inputs.now) p.period.now.repetitions p.j p.blocks p.blocks k v c.run_blocks.new.lines) (sym whole) rest)
+    let held = c.run_blocks.new.lines in
+    let held_long : c.in_ok-lines.lines.len ≡ length held = omega (arith, c.in_ok-lines.ensures.0, rest.between.channels) in
+    let held_whole = ap (λ m. take m (held ++ drop (length held) c.in_ok-lines.lines.items)) held_long ∙ take-append_seam held (drop (length held) c.in_ok-lines.lines.items) in (
+      k,
+      subst (λ v. IsResting s n (lists c.args.inputs.now) p.period.now.repetitions p.j p.blocks p.blocks k v (take c.in_ok-lines.lines.len (held ++ drop (length held) c.in_ok-lines.lines.items))) (sym whole)
+          (subst (λ v. IsResting s n (lists c.args.inputs.now) p.period.now.repetitions p.j p.blocks p.blocks k made v) (sym held_whole) rest),
+    )

@@ -1,9 +1,9 @@
-use Rattle.std.proofs.Common.{◌*◌, refl, ap, ◌∙◌, subst, arith}
+use Rattle.std.proofs.Common.{◌*◌, refl, ap, ◌∙◌, arith}
 use Rattle.sdf_graph.specs.Rates.{rates}
 use Rattle.sdf_actor.specs.Graphs.{graph_of}
 use Rattle.sdf_actor.specs.Wires.{lists}
-use Rattle.sdf_answer.specs.Answer.{AreInputs}
 use Rattle.sdf_rows.proofs.Counts.{rows_few}
+use Rattle.sdf_rows.proofs.Readings.{given}
 use Rattle.sdf_rows.proofs.rows.run_rows.Goals as goal
 
 pub rounds_of-rounds-requires : goal.rounds_of-rounds-requires
@@ -12,10 +12,9 @@ rounds_of-rounds-requires g c =
 
 pub returns : goal.returns
 returns g c =
-    let q = c.args.period.now.repetitions in
-    let least = c.samples_of-least.ensures ∙ ap (λ m. c.args.blocks * c.args.j * m) (c.samples_in.ensures.value q c.requires.period.least) in
-    let has = subst (λ m. AreInputs c.inputs.result m (lists c.args.inputs.now)) least (c.if-not-are_inputs.ensures.0 refl) in (
-      subst (λ many. AreInputs many (c.args.blocks * c.args.j * Rattle.sdf_actor.specs.Sides.period_samples c.args.net.now.nodes Rattle.sdf_actor.specs.declared.sides.Lists.TheVariants.Inputs q) (lists c.args.inputs.now)) c.inputs.ensures has,
+    let q = c.args.period.now.repetitions in (
+      given c.args.net.now q (c.args.blocks * c.args.j) c.inputs.result c.samples_of-least.result c.samples_in.result (lists c.args.inputs.now) (c.if-not-are_inputs.ensures.0 refl) c.inputs.ensures c.samples_of-least.ensures
+          (c.samples_in.ensures.value q c.requires.period.least),
       c.in_ok-outputs.ensures,
       c.rounds_of-rounds.ensures ∙ ap (λ m. c.args.blocks * m) c.rows.ensures,
     )

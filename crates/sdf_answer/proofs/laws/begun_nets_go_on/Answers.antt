@@ -1,0 +1,11 @@
+use Rattle.sdf_answer.proofs.Begun.{periods_may_leave, begun_runs_go_on, begun_runs_fail}
+use Rattle.sdf_answer.proofs.laws.begun_nets_go_on.Goals as goal
+
+pub returns-clause-whole : goal.returns-clause-whole
+returns-clause-whole g c = periods_may_leave c.graph_laws.ensures g.A.Actor.steps c.periods_are_whole.ensures
+
+pub returns-clause-runs : goal.returns-clause-runs
+returns-clause-runs g c = begun_runs_go_on g.A.Actor.steps g.B.Actor.steps c.feeds_go_on.ensures.runs c.feeds_go_on.ensures.inputs c.feeds_go_on.ensures.outputs
+
+pub returns-clause-faults : goal.returns-clause-faults
+returns-clause-faults g c = begun_runs_fail g.A.Actor.steps g.B.Actor.steps c.feeds_go_on.ensures.inputs

@@ -1,0 +1,150 @@
+//! A run by rows that another one goes on from.
+
+ghost use Rattle.std.specs.Prelude.{◌≡◌, ◌*◌, ◌<◌, ℕ, List, length, map, MatchResult, IfOk, None, slice_index_or};
+ghost use Rattle.sdf_graph.specs.Rates.{rates};
+ghost use Rattle.sdf_sched.specs.Period.{IsPeriodOf};
+ghost use Rattle.sdf_actor.specs.Graphs.{graph_of};
+ghost use Rattle.sdf_actor.specs.Nets.{node};
+ghost use Rattle.sdf_actor.specs.Rests.{IsRest};
+ghost use Rattle.sdf_actor.specs.Sides.{period_samples};
+ghost use Rattle.sdf_actor.specs.Wires.{lists};
+ghost use Rattle.sdf_actor.specs.declared.sides.Lists.TheVariants.{Inputs};
+ghost use Rattle.sdf_answer.specs.Answer.{HasInputs, periods_of, IsRunFault};
+ghost use Rattle.sdf_answer.specs.Feeds.{HasRun, GoesOnBy};
+ghost use Rattle.sdf_answer.specs.Rows.{IsTableOf};
+ghost use Rattle.sdf_node.specs.Kept.{kept_of};
+
+use crate::collect::collect;
+use crate::line::Line;
+use crate::rows::{Plan, fire, rounds_of, samples_of};
+use sdf_actor::{Actor, Begun, Net, Rest};
+use sdf_answer::inputs::{are_inputs, first_sample};
+use sdf_answer::laws::{begun_nets_go_on, histories_make_runs, net_facts, nets_have_periods};
+use sdf_answer::outputs::make_outputs;
+use sdf_answer::{Ran, RunFault};
+use sdf_node::laws::actors_keep_states;
+use sdf_node::{Gate, NodeState, kept};
+use sdf_prec::Table;
+use sdf_sched::Period;
+use std::alloc::{AllocError, Global};
+use std::thread::Threads;
+
+/// Copies of the states of all actors.
+fn kept_by<A: Actor>(
+    alloc: Global,
+    net: &Net<A>,
+    states: &[NodeState<A::Token, A::State>],
+) -> Result<Vec<Option<A::State>>, AllocError>
+    requires { length states.now ≡ length net.now.nodes }
+    ensures all { IfOk result (λ v. length v.items ≡ length net.now.nodes) }
+    ensures each { IfOk result (λ v. (a : ℕ) (d : _) → a < length net.now.nodes → slice_index_or v.items a None ≡ kept_of (node net.now a) (slice_index_or states.now a d)) }
+{
+    let mut copies = Vec::new(alloc);
+    for a in 0..net.len() {
+        copies.push(kept(alloc, net.node(a), &states[a])?)?;
+    }
+    Ok(copies)
+}
+
+/// Copies of the samples on all channels.
+fn held_by<T: Copy>(alloc: Global, lines: &[Line<T>]) -> Result<Vec<Vec<T>>, AllocError>
+    ensures { IfOk result (λ v. lists v.items ≡ map (λ line. line.samples) lines.now) }
+{
+    let mut held = Vec::new(alloc);
+    for line in lines {
+        held.push(Vec::from_slice(alloc, line.front(line.len()))?)?;
+    }
+    Ok(held)
+}
+
+/// What a run makes and leaves. Without a sample there are no blocks, and nothing fires.
+fn fill<R: Threads + AllocGlobal + Sync, A: Actor, G: Gate>(
+    rt: &R,
+    net: &Net<A>,
+    plan: &Plan,
+    inputs: &[Vec<A::Token>],
+    gate: &G,
+) -> Result<(Vec<Vec<A::Token>>, Rest<A::Token, A::State>), AllocError>
+    requires period { IsPeriodOf (rates (graph_of A.steps net.now)) plan.now.period.now }
+    requires table { IsTableOf (rates (graph_of A.steps net.now)) plan.now.period.now.repetitions plan.now.j plan.now.table.now }
+    requires inputs { HasInputs net.now plan.now.period.now.repetitions (plan.now.blocks * plan.now.j) (lists inputs.now) }
+    requires some { 0 < period_samples net.now.nodes Inputs plan.now.period.now.repetitions }
+    ensures { IfOk result (λ made. HasRun A.steps net.now (lists inputs.now) (periods_of plan.now.period.now.repetitions (plan.now.blocks * plan.now.j)) (lists made.0.items) made.1) }
+{
+    net_facts(net);
+    histories_make_runs::<A>();
+    actors_keep_states::<A>();
+    let alloc = rt.alloc();
+    let mut outputs = make_outputs(alloc, net.outputs(), 0)?;
+    match first_sample(inputs) {
+        Some(filler) => {
+            let mut fired = fire(rt, net, plan, inputs, filler, gate)?;
+            let rest = Rest {
+                states: kept_by(alloc, net, &fired.states)?,
+                held: held_by(alloc, &fired.lines)?,
+            };
+            collect(net, &mut fired.states, &mut outputs);
+            Ok((outputs, rest))
+        }
+        None => Ok((outputs, net.first_rest(alloc)?)),
+    }
+}
+
+/// Runs a net as `run_rows` does, and gives what the run leaves beside what it makes. `Net::begun` goes on from there.
+pub fn feed_rows<R: Threads + AllocGlobal + Sync, A: Actor, G: Gate>(
+    rt: &R,
+    net: &Net<A>,
+    period: &Period,
+    j: u32,
+    table: &Table,
+    blocks: u32,
+    inputs: &[Vec<A::Token>],
+    gate: &G,
+) -> Result<(Ran<A::Token>, Rest<A::Token, A::State>), RunFault>
+    requires period { IsPeriodOf (rates (graph_of A.steps net.now)) period.now }
+    requires table { IsTableOf (rates (graph_of A.steps net.now)) period.now.repetitions j table.now }
+    ensures { let q = period.now.repetitions in MatchResult result
+        (λ fed. HasInputs net.now q (blocks * j) (lists inputs.now) × HasRun A.steps net.now (lists inputs.now) (periods_of q (blocks * j)) (lists fed.0.outputs.items) fed.1 × (fed.0.rounds ≡ blocks * length table.now.rows))
+        (IsRunFault net.now q (blocks * j) (lists inputs.now)) }
+{
+    sdf_prec::laws::orders_are_passes();
+    let least = samples_of(blocks, j, net.samples_in());
+    if !are_inputs(inputs, net.inputs(), least) {
+        return Err(RunFault::InputLength);
+    }
+    let plan = Plan {
+        period,
+        j,
+        table,
+        blocks,
+    };
+    let (outputs, rest) = fill(rt, net, &plan, inputs, gate)?;
+    let rounds = rounds_of(blocks, table.rows());
+    Ok((Ran { outputs, rounds }, rest))
+}
+
+/// Goes on from where runs of a net left it, with all samples read: by further blocks on further inputs. What it makes, joined to
+/// what they made, is what one run on all inputs makes.
+pub fn resume_rows<R: Threads + AllocGlobal + Sync, A: Actor, G: Gate>(
+    rt: &R,
+    net: &Net<A>,
+    period: &Period,
+    j: u32,
+    table: &Table,
+    rest: &Rest<A::Token, A::State>,
+    blocks: u32,
+    inputs: &[Vec<A::Token>],
+    gate: &G,
+) -> Result<(Ran<A::Token>, Rest<A::Token, A::State>), RunFault>
+    requires period { IsPeriodOf (rates (graph_of A.steps net.now)) period.now }
+    requires table { IsTableOf (rates (graph_of A.steps net.now)) period.now.repetitions j table.now }
+    requires rest { (first : List (List A.Token)) × (few : ℕ) × IsRest A.steps net.now first (periods_of period.now.repetitions few) rest.now }
+    ensures { let q = period.now.repetitions in MatchResult result
+        (λ fed. GoesOnBy A.steps net.now q rest.now (blocks * j) (lists inputs.now) (lists fed.0.outputs.items) fed.1 × (fed.0.rounds ≡ blocks * length table.now.rows))
+        (IsRunFault net.now q (blocks * j) (lists inputs.now)) }
+{
+    nets_have_periods(net, period);
+    begun_nets_go_on::<A, Begun<A>>();
+    let begun = net.begun(rt.alloc(), rest)?;
+    feed_rows(rt, &begun, period, j, table, blocks, inputs, gate)
+}
