@@ -12,17 +12,19 @@ use Rattle.sdf_prec.specs.Blocks.{block}
 use Rattle.sdf_prec.specs.Counts.{TablesCount}
 use Rattle.sdf_prec.specs.Laws.{TablesRepeat, AreBlocks}
 use Rattle.sdf_prec.specs.Tables.{Tabled, IsHomed}
+use Rattle.sdf_actor.specs.declared.rest.Rest.{Rest}
 use Rattle.sdf_actor.specs.Graphs.{graph_of}
 use Rattle.sdf_actor.specs.Laws.{AreCountsOf}
 use Rattle.sdf_actor.specs.Nets.{Netlist}
 use Rattle.sdf_actor.specs.Steps.{Steps}
 use Rattle.sdf_answer.specs.Answer.{HasInputs, AreOutputs, periods_of}
+use Rattle.sdf_answer.specs.Feeds as feeds
 use Rattle.sdf_answer.specs.Periods.{HasPeriod}
 use Rattle.sdf_answer.specs.Rows.{IsTableOf}
 use Rattle.sdf_rings.specs.Asks.{IsPlanned}
-use Rattle.sdf_rings.specs.Outcome.{HasRun}
+use Rattle.sdf_rings.specs.Outcome.{HasRun, HasEnded}
 use Rattle.sdf_rings.specs.Prepared.{IsPrepared}
-use Rattle.sdf_rings.specs.Rests.{InHand, AreRings}
+use Rattle.sdf_rings.specs.Rests.{InHand, AreRings, HaveMet}
 use Rattle.sdf_rings.specs.Totals.{total_left}
 use Rattle.sdf_rings.proofs.Lengths.{left_few, left_some}
 
@@ -72,21 +74,46 @@ module _ (sound : GraphsAreSound) (periods : GraphsHavePeriods) (repeats : Table
     pub few_rounds : b < 2 ^ 32 → total_left r.seats < 2 ^ 64
     few_rounds few = omega (arith, few_left, order_few few)
 
-    pub has_run : (new : InHand A S T) (patience rounds : ℕ) (outputs : List (List T)) → IsHomed t → patience ≤ MOST_PATIENCE → HasInputs n q (b * j) inputs →
+    pub has_ended : (new : InHand A S T) (patience rounds : ℕ) → IsHomed t → patience ≤ MOST_PATIENCE → HasInputs n q (b * j) inputs →
         (new.net ≡ r.net) × (new.inputs ≡ r.inputs) × (new.places ≡ r.places) →
         ((order : List ℕ) (cap : ℕ → ℕ) → IsPlanned s r.net r.seats r.places order cap → IsPlanned s new.net new.seats new.places order cap) →
-        rounds ≤ total_left r.seats → (0 < total_left r.seats → 0 < rounds) →
-        ((order : List ℕ) (cap k : ℕ → ℕ) → IsPlanned s new.net new.seats new.places order cap → AreCountsOf new.net order k → AreOutputs s new.net new.inputs k outputs) →
-        HasRun s n q j t b inputs patience outputs rounds
-    has_run new patience rounds outputs homed patient fits same kept most least given =
+        HaveMet new.net new.seats new.places → total_left new.seats ≡ 0 → rounds ≤ total_left r.seats → (0 < total_left r.seats → 0 < rounds) →
+        HasEnded s n q j t b inputs patience new rounds
+    has_ended new patience rounds homed patient fits same kept met none most least =
         let net : new.net ≡ n = same.0 ∙ prepared.net_is in
-        let k : ℕ → ℕ = periods_of q (b * j) in
-        let made : AreOutputs s new.net new.inputs k outputs = given (repeated b t.order) (λ c. get_or t.caps c 0) k (kept (repeated b t.order) (λ c. get_or t.caps c 0) asked) (subst (λ m. AreCountsOf m (repeated b t.order) k) (sym net) counts_are) in
         record {
           homed = homed;
           patient = patient;
           has = fits;
-          outputs_are = subst (λ is. AreOutputs s n is k outputs) (same.1 ∙ prepared.inputs_are) (subst (λ m. AreOutputs s m new.inputs k outputs) net made);
+          net_is = net;
+          inputs_are = same.1 ∙ prepared.inputs_are;
+          met = met;
+          none_left = none;
+          planned = kept (repeated b t.order) (λ c. get_or t.caps c 0) asked;
+          counts = subst (λ m. AreCountsOf m (repeated b t.order) (periods_of q (b * j))) (sym net) counts_are;
           rounds_few = omega (arith, most, few_left, order_long);
           rounds_some = λ more. least (left_some s r.net r.inputs r.seats r.places rings (repeated b t.order) (λ c. get_or t.caps c 0) asked 0 (subst (λ m. 0 < length m.nodes) (sym prepared.net_is) some_node) (λ e d. prepared.undone 0 e d some_node) (some_asked more));
         }
+
+module _ {A S T : Type 0} (s : Steps A S T) (n : Netlist A T) (q : List ℕ) (j : ℕ) (t : Tabled) (b : ℕ) (inputs : List (List T)) (patience : ℕ) (r : InHand A S T) (rounds : ℕ)
+    (ended : HasEnded s n q j t b inputs patience r rounds) where
+  -- what holds at the counts of a plan's firings holds of the run
+  at_counts : (P : Netlist A T → List (List T) → (ℕ → ℕ) → Type 0) →
+      ((order : List ℕ) (cap k : ℕ → ℕ) → IsPlanned s r.net r.seats r.places order cap → AreCountsOf r.net order k → P r.net r.inputs k) → P n inputs (periods_of q (b * j))
+  at_counts P given =
+      let k : ℕ → ℕ = periods_of q (b * j) in
+      subst (λ is. P n is k) ended.inputs_are (subst (λ m. P m r.inputs k) ended.net_is (given (repeated b t.order) (λ c. get_or t.caps c 0) k ended.planned ended.counts))
+
+  run_with : (outputs : List (List T)) → AreOutputs s n inputs (periods_of q (b * j)) outputs → HasRun s n q j t b inputs patience outputs rounds
+  run_with outputs made = record { homed = ended.homed; patient = ended.patient; has = ended.has; outputs_are = made; rounds_few = ended.rounds_few; rounds_some = ended.rounds_some }
+
+  pub has_run : (outputs : List (List T)) → ((order : List ℕ) (cap k : ℕ → ℕ) → IsPlanned s r.net r.seats r.places order cap → AreCountsOf r.net order k → AreOutputs s r.net r.inputs k outputs) →
+      HasRun s n q j t b inputs patience outputs rounds
+  has_run outputs given = run_with outputs (at_counts (λ m is k. AreOutputs s m is k outputs) given)
+
+  pub has_fed : (outputs : List (List T)) (rest : Rest T S) →
+      ((order : List ℕ) (cap k : ℕ → ℕ) → IsPlanned s r.net r.seats r.places order cap → AreCountsOf r.net order k → feeds.HasRun s r.net r.inputs k outputs rest) →
+      HasRun s n q j t b inputs patience outputs rounds × feeds.HasRun s n inputs (periods_of q (b * j)) outputs rest
+  has_fed outputs rest given =
+      let run = at_counts (λ m is k. feeds.HasRun s m is k outputs rest) given in
+      (run_with outputs (record { history = run.history; is = run.is; count = run.count; each = run.each }), run)

@@ -45,5 +45,6 @@ pub mod Planned
 pub mod CanGo
 pub mod Collects
 pub mod Ended
+pub mod Leaving
 pub mod Lengths
 pub mod Answered

@@ -1,9 +1,16 @@
 -- What a run over rings is given and gives.
-use Rattle.std.specs.Prelude.{ℕ, ◌*◌, ◌≤◌, ◌<◌, List, sum}
+use Rattle.std.specs.Prelude.{ℕ, ◌≡◌, ◌*◌, ◌≤◌, ◌<◌, List, slice_index, sum}
 use Rattle.sdf_limits.specs.declared.TheConstants.{MOST_PATIENCE}
+use Rattle.sdf_graph.specs.Sequences.{repeated}
 use Rattle.sdf_prec.specs.Tables.{Tabled, IsHomed}
+use Rattle.sdf_actor.specs.declared.rest.Rest.{Rest}
+use Rattle.sdf_actor.specs.Laws.{AreCountsOf}
 use Rattle.sdf_actor.specs.Steps.{Steps}
 use Rattle.sdf_actor.specs.Nets.{Netlist}
+use Rattle.sdf_answer.specs.Feeds.{GoesOnBy}
+use Rattle.sdf_rings.specs.Asks.{IsPlanned}
+use Rattle.sdf_rings.specs.Rests.{InHand, HaveMet}
+use Rattle.sdf_rings.specs.Totals.{total_left}
 use Rattle.sdf_answer.specs.Answer.{HasInputs, AreOutputs, periods_of}
 use Rattle.sdf_answer.specs.declared.fault.RunFault.{RunFault}
 use Rattle.sdf_answer.specs.declared.fault.RunFault.TheVariants.{OutOfMemory, InputLength, NotHomed, Patience, NoWorker}
@@ -14,6 +21,28 @@ pub record HasRun {A S T : Type 0} (s : Steps A S T) (n : Netlist A T) (q : List
   pub patient : patience ≤ MOST_PATIENCE
   pub has : HasInputs n q (blocks * j) inputs
   pub outputs_are : AreOutputs s n inputs (periods_of q (blocks * j)) outputs
+  pub rounds_few : rounds ≤ blocks * (j * sum q)
+  pub rounds_some : 0 < blocks → 0 < rounds
+
+-- what a run gives that goes on from a rest, where no test fails. Its rounds are as many as those of any run
+pub record HasGoneOn {A S T : Type 0} (s : Steps A S T) (n : Netlist A T) (q : List ℕ) (j : ℕ) (t : Tabled) (rest : Rest T S) (blocks : ℕ) (inputs : List (List T)) (patience : ℕ) (outputs : List (List T)) (rounds : ℕ) (last : Rest T S) : Type 0 where
+  pub homed : IsHomed t
+  pub patient : patience ≤ MOST_PATIENCE
+  pub goes_on : GoesOnBy s n q rest (blocks * j) inputs outputs last
+  pub rounds_few : rounds ≤ blocks * (j * sum q)
+  pub rounds_some : 0 < blocks → 0 < rounds
+
+-- after the rounds of a run, where no test fails: nothing is left of the blocks of the table, and all ends have met
+pub record HasEnded {A S T : Type 0} (s : Steps A S T) (n : Netlist A T) (q : List ℕ) (j : ℕ) (t : Tabled) (blocks : ℕ) (inputs : List (List T)) (patience : ℕ) (r : InHand A S T) (rounds : ℕ) : Type 0 where
+  pub homed : IsHomed t
+  pub patient : patience ≤ MOST_PATIENCE
+  pub has : HasInputs n q (blocks * j) inputs
+  pub net_is : r.net ≡ n
+  pub inputs_are : r.inputs ≡ inputs
+  pub met : HaveMet r.net r.seats r.places
+  pub none_left : total_left r.seats ≡ 0
+  pub planned : IsPlanned s r.net r.seats r.places (repeated blocks t.order) (slice_index t.caps)
+  pub counts : AreCountsOf r.net (repeated blocks t.order) (periods_of q (blocks * j))
   pub rounds_few : rounds ≤ blocks * (j * sum q)
   pub rounds_some : 0 < blocks → 0 < rounds
 

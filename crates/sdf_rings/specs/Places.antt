@@ -75,3 +75,14 @@ module _ {A T S : Type 0} where
     pub met : (e : Seat A T S) (d : Stand A T S) (x : Consumer T Global AnyItems) (y : Producer T Global AnyItems) → IsMet (producer_at new from e d y) (consumer_at new to e d x)
     pub other_consumers : (q : Spot) (e : Seat A T S) (d : Stand A T S) (x : Consumer T Global AnyItems) → ((q.seat ≡ to.seat) × (q.stand ≡ to.stand) × (q.port ≡ to.port) → ⊥) → consumer_at new q e d x ≡ consumer_at old q e d x
     pub other_producers : (q : Spot) (e : Seat A T S) (d : Stand A T S) (y : Producer T Global AnyItems) → ((q.seat ≡ from.seat) × (q.stand ≡ from.stand) × (q.port ≡ from.port) → ⊥) → producer_at new q e d y ≡ producer_at old q e d y
+
+  -- all but the ends is as it was
+  pub record SameButEnds (old new : List (Seat A T S)) : Type 0 where
+    pub all_same : length new ≡ length old
+    pub each_seat : (j : ℕ) (e : Seat A T S) → SameSeat (slice_index_or old j e) (slice_index_or new j e)
+    pub each_stand : (j l : ℕ) (e : Seat A T S) (d : Stand A T S) → SameStand (stand_at old j l e d) (stand_at new j l e d)
+
+  -- the items of one ring may be gone, and nothing else is changed
+  pub record IsEmptied (old new : List (Seat A T S)) (at : Spot) : Type 0 where
+    pub but_ends : SameButEnds old new
+    pub others_kept : (q : Spot) (e : Seat A T S) (d : Stand A T S) (x : Consumer T Global AnyItems) → ((q.seat ≡ at.seat) × (q.stand ≡ at.stand) × (q.port ≡ at.port) → ⊥) → consumer_at new q e d x ≡ consumer_at old q e d x

@@ -1,5 +1,5 @@
 -- All ends in one hand: each node stands on one seat, and both ends of each ring know all of it.
-use Rattle.std.specs.Prelude.{ℕ, ◌≡◌, ◌<◌, List, length, drop, vec_len, slice_index_or}
+use Rattle.std.specs.Prelude.{ℕ, ◌≡◌, ◌<◌, List, [], length, drop, vec_len, slice_index_or, Option, Some, None}
 use Rattle.std.specs.Global.{Global}
 use Rattle.rtrb.specs.Ring.{sent, known_items, IsPair}
 use Rattle.rtrb.specs.declared.producer.Producer.{Producer}
@@ -8,7 +8,12 @@ use Rattle.rtrb.specs.declared.AnyItems.{AnyItems}
 use Rattle.sdf_actor.specs.Steps.{Steps}
 use Rattle.sdf_actor.specs.Histories.{taken_before}
 use Rattle.sdf_actor.specs.Nets.{Netlist, node, wire, wiring, IsNet, IsHistoryOf}
+use Rattle.sdf_actor.specs.declared.node.Node.TheVariants as node_of
+use Rattle.sdf_actor.specs.declared.rest.Rest.{Rest}
+use Rattle.sdf_actor.specs.Wires.{lists}
 use Rattle.sdf_node.specs.Nodes.{IsAt}
+use Rattle.sdf_node.specs.declared.node.NodeState.{NodeState}
+use Rattle.sdf_node.specs.declared.node.NodeState.TheVariants.{Source, Sink, Inner}
 use Rattle.sdf_rings.specs.declared.stand.Stand.{Stand}
 use Rattle.sdf_rings.specs.declared.seat.Seat.{Seat}
 use Rattle.sdf_rings.specs.declared.meet.Spot.{Spot}
@@ -77,3 +82,18 @@ pub record AreRings {A S T : Type 0} (s : Steps A S T) (r : InHand A S T) : Type
 -- the place of an end of a link
 abbrev pub spot_of : List (ℕ × ℕ) → ℕ × ℕ → Spot
 spot_of places end = record { seat = (slice_index_or places end.0 (0, 0)).0; stand = (slice_index_or places end.0 (0, 0)).1; port = end.1 }
+
+-- the state of an actor at work
+abbrev pub state_in : {T S : Type 0} → NodeState T S → Option S
+state_in (Source next) = None
+state_in (Sink list) = None
+state_in (Inner j state) = Some state
+
+-- a rest of what the seats hold: each actor's state, and the items that are known of each ring
+pub record HoldRest {A S T : Type 0} (n : Netlist A T) (seats : List (Seat A T S)) (places : List (ℕ × ℕ)) (rest : Rest T S) : Type 0 where
+  pub nodes : length rest.states.items ≡ length n.nodes
+  pub states_held : (a : ℕ) (x : A) (e : Seat A T S) (d : Stand A T S) → a < length n.nodes → node n a ≡ node_of.Inner x →
+      slice_index_or rest.states.items a None ≡ state_in (stand_of n seats places e d a).state
+  pub channels : length rest.held.items ≡ length n.wires
+  pub items_held : (c : ℕ) (e : Seat A T S) (d : Stand A T S) (x : Consumer T Global AnyItems) → c < length n.wires →
+      slice_index_or (lists rest.held.items) c [] ≡ known_items (consumer_of n seats places e d x c)

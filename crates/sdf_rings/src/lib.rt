@@ -4,13 +4,15 @@
 //! are in `specs/MachineLaws.antt`, and a ring at work in `specs/Pair.antt`. The code begins at `seat`, one worker's round (`work`), over `stand`, a
 //! node with its ends of rings: `specs/Stands.antt` and `specs/Seats.antt` say what a node knows of its own channels; `own_rings` is about those from a node
 //! to itself. `round` has all workers at once, `meet` tells all ends, `rest` says what then stands where, and `rings` has rounds by hand.
-//! `prepare` makes the seats of a run, `run` goes on until nothing is left, `finish` gives out the lists of the sinks, and `runner` does
-//! all of it (`specs/Asks.antt`, `specs/Outcome.antt`).
+//! `prepare` makes the seats of a run, `run` goes on until nothing is left, `finish` gives out the lists of the sinks and `leave` what else the seats
+//! hold, and `runner` does all of it (`specs/Asks.antt`, `specs/Outcome.antt`); `feed` has runs that another one goes on from.
 #![tactic(auto)]
 
 mod ends;
+pub mod feed;
 pub mod finish;
 pub mod laws;
+pub mod leave;
 pub mod meet;
 mod own_rings;
 pub mod pair;
@@ -24,6 +26,7 @@ pub mod seat;
 mod setup;
 pub mod stand;
 
+pub use feed::{feed_rings, resume_rings};
 pub use rings::Rings;
 pub use round::run_round;
 pub use runner::run_rings;

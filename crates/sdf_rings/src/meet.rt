@@ -36,7 +36,7 @@ pub fn tell<T>(consumer: &mut Consumer<T, Global>, producer: &mut Producer<T, Gl
 }
 
 /// Changes the consumers of a stand for others.
-fn swap_ins<A: Actor>(
+pub(crate) fn swap_ins<A: Actor>(
     seats: &mut [Seat<A>],
     seat: usize,
     stand: usize,
@@ -82,7 +82,7 @@ pub fn tell_at<A: Actor>(alloc: Global, seats: &mut [Seat<A>], from: Spot, to: S
 }
 
 /// The place of an end of a link: a port of a node, and where each node stands.
-fn end_at(places: &[(usize, usize)], end: (usize, usize)) -> Spot
+pub(crate) fn end_at(places: &[(usize, usize)], end: (usize, usize)) -> Spot
     requires { end.0 < length places.now }
     ensures { result ≡ spot_of places.now end }
 {

@@ -1,6 +1,6 @@
 //! Rounds by hand: the seats of a run, and all their ends in one hand between two rounds.
 
-ghost use Rattle.std.specs.Prelude.{◌≡◌, ◌+◌, ◌<◌, ◌≤◌, ◌⊎◌, ◌^◌, ℕ, List, length, vec_len, slice_index_or};
+ghost use Rattle.std.specs.Prelude.{◌≡◌, ◌+◌, ◌<◌, ◌≤◌, ◌⊎◌, ◌^◌, ℕ, List, length, vec_len, slice_index_or, IfOk};
 ghost use Rattle.rtrb.specs.Ring.{known_items};
 ghost use Rattle.sdf_rings.specs.Seats.{HasFirst, HasWorked, HasRounded};
 ghost use Rattle.sdf_rings.specs.Rests.{stand_of, consumer_of, AreRings, HaveMet, AreAtRest};
@@ -11,17 +11,19 @@ ghost use Rattle.sdf_actor.specs.Sides.{list_count};
 ghost use Rattle.sdf_actor.specs.Wires.{lists};
 ghost use Rattle.sdf_actor.specs.declared.sides.Lists.TheVariants.{Outputs};
 ghost use Rattle.sdf_answer.specs.Answer.{AreOutputs};
+ghost use Rattle.sdf_answer.specs.Feeds.{HasRun};
 
 use crate::finish::collect;
+use crate::leave::leave;
 use crate::meet::meet_all;
 use crate::rest::met_is_rest;
 use crate::round::run_round;
 use crate::run::run_all;
 use crate::seat::{Seat, work};
-use sdf_actor::{Actor, Net};
+use sdf_actor::{Actor, Net, Rest};
 use sdf_answer::laws::{histories_make_outputs, net_facts};
 use sdf_node::Gate;
-use std::alloc::Global;
+use std::alloc::{AllocError, Global};
 use std::marker::Model;
 use std::thread::Threads;
 
@@ -213,5 +215,30 @@ impl<'a, A: Actor> Rings<'a, A> {
         met_is_rest(net, inputs, &seats, &places);
         collect(net, &mut seats, &places, &mut outputs);
         outputs
+    }
+
+    /// The output lists, and what is left beside them: the states of the actors and the samples on the channels. Another run
+    /// goes on from there.
+    pub fn leave(self) -> Result<(Vec<Vec<A::Token>>, Rest<A::Token, A::State>), AllocError>
+        requires left { total_left self.seats ≡ 0 }
+        requires met { HaveMet self.net self.seats self.places }
+        ensures { IfOk result (λ made. (order : List ℕ) (cap k : ℕ → ℕ) → IsPlanned A.steps self.entry.net self.entry.seats self.entry.places order cap → AreCountsOf self.entry.net order k →
+            HasRun A.steps self.entry.net self.entry.inputs k (lists made.0.items) made.1) }
+    {
+        let Rings {
+            alloc,
+            net,
+            inputs,
+            mut seats,
+            places,
+            mut outputs,
+        } = self;
+        net_facts(net);
+        histories_make_outputs::<A>();
+        sdf_node::laws::sinks_hold_lists::<A>();
+        met_is_rest(net, inputs, &seats, &places);
+        let rest = leave(alloc, net, &mut seats, &places)?;
+        collect(net, &mut seats, &places, &mut outputs);
+        Ok((outputs, rest))
     }
 }

@@ -6,9 +6,10 @@ ghost use Rattle.sdf_sched.specs.Period.{IsPeriodOf};
 ghost use Rattle.sdf_actor.specs.Graphs.{graph_of};
 ghost use Rattle.sdf_actor.specs.Wires.{lists};
 ghost use Rattle.sdf_answer.specs.Rows.{IsTableOf};
-ghost use Rattle.sdf_rings.specs.Outcome.{HasRun, IsRingsFault};
+ghost use Rattle.sdf_rings.specs.Outcome.{HasRun, HasEnded, IsRingsFault};
 
 use crate::prepare::prepare;
+use crate::rings::Rings;
 use sdf_actor::{Actor, Net};
 use sdf_answer::laws::nets_have_periods;
 use sdf_answer::{Ran, RunFault};
@@ -18,6 +19,41 @@ use sdf_prec::Table;
 use sdf_sched::Period;
 use std::alloc::AllocGlobal;
 use std::thread::Threads;
+
+/// The seats of a run after its rounds, and how many rounds there were. The tests come first, in their order.
+pub(crate) fn run_through<'a, R: Threads + AllocGlobal + Sync, A: Actor, G: Gate>(
+    rt: &R,
+    net: &'a Net<A>,
+    period: &Period,
+    j: u32,
+    table: &Table,
+    blocks: u32,
+    inputs: &'a [Vec<A::Token>],
+    patience: u32,
+    gate: &G,
+) -> Result<(Rings<'a, A>, u64), RunFault>
+    requires period { IsPeriodOf (rates (graph_of A.steps net.now)) period.now }
+    requires table { IsTableOf (rates (graph_of A.steps net.now)) period.now.repetitions j table.now }
+    ensures { let q = period.now.repetitions in MatchResult result
+        (λ ran. HasEnded A.steps net.now q j table.now blocks (lists inputs.now) patience ran.0 ran.1)
+        (IsRingsFault net.now q (blocks * j) (lists inputs.now) table.now patience) }
+{
+    sdf_graph::laws::graphs_are_sound();
+    sdf_graph::laws::graphs_have_periods();
+    sdf_prec::laws::tables_repeat();
+    sdf_prec::laws::tables_count();
+    nets_have_periods(net, period);
+    if !table.homed() {
+        return Err(RunFault::NotHomed);
+    }
+    if patience > MOST_PATIENCE {
+        return Err(RunFault::Patience);
+    }
+    let mut rings = prepare(rt.alloc(), net, period, j, table, blocks, inputs)?;
+    rings.facts();
+    let rounds = rings.run(rt, patience, gate);
+    Ok((rings, rounds))
+}
 
 /// Runs a net for a number of blocks of `j` periods. There is a worker for each column of the table, which does the firings of the
 /// actors at home there in the table's order, as samples and room come; each channel has a ring of the table's capacity. In each round
@@ -41,20 +77,7 @@ pub fn run_rings<R: Threads + AllocGlobal + Sync, A: Actor, G: Gate>(
         (λ ran. HasRun A.steps net.now q j table.now blocks (lists inputs.now) patience (lists ran.outputs.items) ran.rounds)
         (IsRingsFault net.now q (blocks * j) (lists inputs.now) table.now patience) }
 {
-    sdf_graph::laws::graphs_are_sound();
-    sdf_graph::laws::graphs_have_periods();
-    sdf_prec::laws::tables_repeat();
-    sdf_prec::laws::tables_count();
-    nets_have_periods(net, period);
-    if !table.homed() {
-        return Err(RunFault::NotHomed);
-    }
-    if patience > MOST_PATIENCE {
-        return Err(RunFault::Patience);
-    }
-    let mut rings = prepare(rt.alloc(), net, period, j, table, blocks, inputs)?;
-    rings.facts();
-    let rounds = rings.run(rt, patience, gate);
+    let (rings, rounds) = run_through(rt, net, period, j, table, blocks, inputs, patience, gate)?;
     let outputs = rings.finish();
     Ok(Ran { outputs, rounds })
 }

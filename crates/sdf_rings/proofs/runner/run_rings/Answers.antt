@@ -1,16 +1,8 @@
-use Rattle.std.proofs.Common.{arith}
 use Rattle.sdf_actor.specs.Wires.{lists}
-use Rattle.sdf_rings.proofs.Answered.{few_rounds, has_run}
+use Rattle.sdf_rings.proofs.Answered.{has_run}
 use Rattle.sdf_rings.proofs.runner.run_rings.Goals as goal
-
-pub run-rounds-requires-clause-count : goal.run-rounds-requires-clause-count
-run-rounds-requires-clause-count g c κs within =
-    few_rounds c.graphs_are_sound.ensures c.graphs_have_periods.ensures c.tables_repeat.ensures c.tables_count.ensures g.A.Actor.steps c.args.net.now c.args.period.now c.nets_have_periods.ensures c.args.j c.args.table.now
-    c.requires.table c.args.blocks (lists c.args.inputs.now) c.in_ok-rings.rings c.facts.ensures c.in_ok-rings.ensures.2 (omega (arith, c.ranges.blocks.fits))
 
 pub returns : goal.returns
 returns g c =
-    let run = c.run-rounds.ensures in
-    has_run c.graphs_are_sound.ensures c.graphs_have_periods.ensures c.tables_repeat.ensures c.tables_count.ensures g.A.Actor.steps c.args.net.now c.args.period.now c.nets_have_periods.ensures c.args.j c.args.table.now
-    c.requires.table c.args.blocks (lists c.args.inputs.now) c.in_ok-rings.rings c.facts.ensures c.in_ok-rings.ensures.2 c.run-rounds.new.self c.args.patience c.run-rounds.result (lists c.finish-outputs.result.items) c.in_ok-rings.ensures.0 (omega (arith, c.if-patience-gt-MOST_PATIENCE.false)) c.in_ok-rings.ensures.1
-    run.same run.planned run.rounds run.some c.finish-outputs.ensures
+    has_run g.A.Actor.steps c.args.net.now c.args.period.now.repetitions c.args.j c.args.table.now c.args.blocks (lists c.args.inputs.now) c.args.patience c.in_ok-rings.rings c.in_ok-rings.rounds c.in_ok-rings.ensures
+    (lists c.finish-outputs.result.items) c.finish-outputs.ensures

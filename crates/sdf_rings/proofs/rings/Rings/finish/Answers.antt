@@ -31,4 +31,4 @@ returns g c = λ order cap k plan counts.
     let count = l ∙ (ap length v ∙ c.self.invariant.1) in
     let accepted = c.net_facts.ensures.accepted in
     rw same (subst (λ (v : InHand _ _ _). AreOutputs s v.net v.inputs k (lists c.collect.new.outputs)) c.self.view_is
-    (outputs_given s n (lists x.inputs.now) x.seats.items x.places.items c.self.invariant.0 order cap mine left c.sinks_hold_lists.ensures c.histories_make_outputs.ensures.took rest accepted.0 accepted.1 c.collect.new.outputs count given k asked))
+    (outputs_given s n (lists x.inputs.now) x.seats.items x.places.items c.self.invariant.0 order cap mine left rest accepted.0 accepted.1 k asked c.sinks_hold_lists.ensures c.histories_make_outputs.ensures.took c.collect.new.outputs count given))

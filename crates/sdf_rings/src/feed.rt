@@ -1,0 +1,77 @@
+//! A run over rings that another one goes on from.
+
+ghost use Rattle.std.specs.Prelude.{◌*◌, ℕ, List, MatchResult};
+ghost use Rattle.sdf_graph.specs.Rates.{rates};
+ghost use Rattle.sdf_sched.specs.Period.{IsPeriodOf};
+ghost use Rattle.sdf_actor.specs.Graphs.{graph_of};
+ghost use Rattle.sdf_actor.specs.Rests.{IsRest};
+ghost use Rattle.sdf_actor.specs.Wires.{lists};
+ghost use Rattle.sdf_answer.specs.Answer.{periods_of};
+ghost use Rattle.sdf_answer.specs.Feeds as feeds;
+ghost use Rattle.sdf_answer.specs.Rows.{IsTableOf};
+ghost use Rattle.sdf_rings.specs.Outcome.{HasRun, HasGoneOn, IsRingsFault};
+
+use crate::runner::run_through;
+use sdf_actor::laws::periods_are_whole;
+use sdf_actor::{Actor, Begun, Net, Rest};
+use sdf_answer::laws::{feeds_go_on, nets_have_periods};
+use sdf_answer::{Ran, RunFault};
+use sdf_graph::laws::one_least_period;
+use sdf_node::Gate;
+use sdf_prec::Table;
+use sdf_sched::Period;
+use std::alloc::AllocGlobal;
+use std::thread::Threads;
+
+/// Runs a net as `run_rings` does, and gives what the run leaves beside what it makes. `Net::begun` goes on from there.
+pub fn feed_rings<R: Threads + AllocGlobal + Sync, A: Actor, G: Gate>(
+    rt: &R,
+    net: &Net<A>,
+    period: &Period,
+    j: u32,
+    table: &Table,
+    blocks: u32,
+    inputs: &[Vec<A::Token>],
+    patience: u32,
+    gate: &G,
+) -> Result<(Ran<A::Token>, Rest<A::Token, A::State>), RunFault>
+    requires period { IsPeriodOf (rates (graph_of A.steps net.now)) period.now }
+    requires table { IsTableOf (rates (graph_of A.steps net.now)) period.now.repetitions j table.now }
+    ensures { let q = period.now.repetitions in MatchResult result
+        (λ fed. HasRun A.steps net.now q j table.now blocks (lists inputs.now) patience (lists fed.0.outputs.items) fed.0.rounds ×
+        feeds.HasRun A.steps net.now (lists inputs.now) (periods_of q (blocks * j)) (lists fed.0.outputs.items) fed.1)
+        (IsRingsFault net.now q (blocks * j) (lists inputs.now) table.now patience) }
+{
+    let (rings, rounds) = run_through(rt, net, period, j, table, blocks, inputs, patience, gate)?;
+    let (outputs, rest) = rings.leave()?;
+    Ok((Ran { outputs, rounds }, rest))
+}
+
+/// Goes on from where runs of a net left it, with all samples read: by further blocks on further inputs. What it makes, joined to
+/// what they made, is what one run on all inputs makes.
+pub fn resume_rings<R: Threads + AllocGlobal + Sync, A: Actor, G: Gate>(
+    rt: &R,
+    net: &Net<A>,
+    period: &Period,
+    j: u32,
+    table: &Table,
+    rest: &Rest<A::Token, A::State>,
+    blocks: u32,
+    inputs: &[Vec<A::Token>],
+    patience: u32,
+    gate: &G,
+) -> Result<(Ran<A::Token>, Rest<A::Token, A::State>), RunFault>
+    requires period { IsPeriodOf (rates (graph_of A.steps net.now)) period.now }
+    requires table { IsTableOf (rates (graph_of A.steps net.now)) period.now.repetitions j table.now }
+    requires rest { (first : List (List A.Token)) × (few : ℕ) × IsRest A.steps net.now first (periods_of period.now.repetitions few) rest.now }
+    ensures { let q = period.now.repetitions in MatchResult result
+        (λ fed. HasGoneOn A.steps net.now q j table.now rest.now blocks (lists inputs.now) patience (lists fed.0.outputs.items) fed.0.rounds fed.1)
+        (IsRingsFault net.now q (blocks * j) (lists inputs.now) table.now patience) }
+{
+    nets_have_periods(net, period);
+    periods_are_whole::<A>();
+    one_least_period();
+    feeds_go_on::<A, Begun<A>>();
+    let begun = net.begun(rt.alloc(), rest)?;
+    feed_rings(rt, &begun, period, j, table, blocks, inputs, patience, gate)
+}

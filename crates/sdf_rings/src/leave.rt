@@ -1,0 +1,121 @@
+//! What seats hold, when all is done: the states of their actors, and the samples in their rings.
+
+ghost use Rattle.std.specs.Prelude.{◌≡◌, ◌<◌, ℕ, List, None, [], length, slice_index_or, IfOk, OnOk};
+ghost use Rattle.rtrb.specs.Ring.{known_items};
+ghost use Rattle.sdf_actor.specs.declared.node.Node.TheVariants as kind;
+ghost use Rattle.sdf_actor.specs.Nets.{node};
+ghost use Rattle.sdf_actor.specs.Wires.{lists};
+ghost use Rattle.sdf_rings.specs.Places.{TakesAt, SameButEnds, IsEmptied, consumer_at};
+ghost use Rattle.sdf_rings.specs.Rests.{stand_of, consumer_of, state_in, IsPlaced, AreRings, HoldRest};
+
+use crate::meet::{Spot, end_at, swap_ins};
+use crate::seat::Seat;
+use rtrb::Consumer;
+use sdf_actor::{Actor, Net, Node, Rest};
+use sdf_node::NodeState;
+use std::alloc::{AllocError, Global};
+
+/// A copy of the state of a node, where it is an actor.
+fn state_of<A: Actor>(
+    alloc: Global,
+    node: &Node<A>,
+    state: &NodeState<A::Token, A::State>,
+) -> Result<Option<A::State>, AllocError>
+    ensures { IfOk result (λ v. (x : A) → node.now ≡ kind.Inner x → v ≡ state_in state.now) }
+{
+    match node {
+        Node::Inner(actor) => match state {
+            NodeState::Inner(_, inner) => Ok(Some(actor.again(alloc, inner)?)),
+            _ => Ok(None),
+        },
+        _ => Ok(None),
+    }
+}
+
+/// Copies of the states of all actors.
+fn states_of<A: Actor>(
+    alloc: Global,
+    net: &Net<A>,
+    seats: &[Seat<A>],
+    places: &[(usize, usize)],
+) -> Result<Vec<Option<A::State>>, AllocError>
+    requires placed { IsPlaced net.now seats.now places.now }
+    requires all { length places.now ≡ length net.now.nodes }
+    ensures all { IfOk result (λ v. length v.items ≡ length net.now.nodes) }
+    ensures each { IfOk result (λ v. (a : ℕ) (x : A) (e : _) (d : _) → a < length net.now.nodes → node net.now a ≡ kind.Inner x →
+        slice_index_or v.items a None ≡ state_in (stand_of net.now seats.now places.now e d a).state) }
+{
+    let mut states = Vec::with_capacity(alloc, net.len())?;
+    for a in 0..net.len() {
+        let place = places[a];
+        let stand = &seats[place.0].stands[place.1];
+        states.push(state_of(alloc, net.node(a), &stand.state)?)?;
+    }
+    Ok(states)
+}
+
+/// Takes all items that an end is known to hold.
+fn empty<T: Copy>(alloc: Global, end: &mut Consumer<T, Global>) -> Result<Vec<T>, AllocError>
+    ensures { IfOk result (λ v. v.items ≡ known_items end.old) }
+{
+    let mut items = Vec::with_capacity(alloc, end.cached_slots())?;
+    while end.cached_slots() > 0 {
+        items.push(end.pop_known())?;
+    }
+    Ok(items)
+}
+
+/// Takes all items that the end at a place is known to hold.
+fn empty_at<A: Actor>(
+    alloc: Global,
+    seats: &mut [Seat<A>],
+    at: Spot,
+) -> Result<Vec<A::Token>, AllocError>
+    requires there { TakesAt seats.old at }
+    ensures items { IfOk result (λ v. (e : _) (d : _) (x : _) → v.items ≡ known_items (consumer_at seats.old at e d x)) }
+    ensures kept { OnOk result (IsEmptied seats.old seats.new at) }
+{
+    let mut ins = Vec::new(alloc);
+    swap_ins(seats, at.seat, at.stand, &mut ins);
+    let items = empty(alloc, &mut ins[at.port])?;
+    swap_ins(seats, at.seat, at.stand, &mut ins);
+    Ok(items)
+}
+
+/// Takes the samples that all channels hold.
+fn empty_all<A: Actor>(
+    alloc: Global,
+    net: &Net<A>,
+    seats: &mut [Seat<A>],
+    places: &[(usize, usize)],
+) -> Result<Vec<Vec<A::Token>>, AllocError>
+    requires rings { (inputs : List (List A.Token)) × AreRings A.steps (record { net = net.now; inputs = inputs; seats = seats.old; places = places.now }) }
+    ensures all { IfOk result (λ v. length v.items ≡ length net.now.wires) }
+    ensures each { IfOk result (λ v. (c : ℕ) (e : _) (d : _) (x : _) → c < length net.now.wires →
+        slice_index_or (lists v.items) c [] ≡ known_items (consumer_of net.now seats.old places.now e d x c)) }
+    ensures kept { OnOk result (SameButEnds seats.old seats.new) }
+{
+    let mut held = Vec::with_capacity(alloc, net.channels())?;
+    for c in 0..net.channels() {
+        let at = end_at(places, net.link(c).to);
+        held.push(empty_at(alloc, seats, at)?)?;
+    }
+    Ok(held)
+}
+
+/// What the seats hold: copies of the states of all actors, and the samples on all channels, which are taken out of their rings.
+pub fn leave<A: Actor>(
+    alloc: Global,
+    net: &Net<A>,
+    seats: &mut [Seat<A>],
+    places: &[(usize, usize)],
+) -> Result<Rest<A::Token, A::State>, AllocError>
+    requires rings { (inputs : List (List A.Token)) × AreRings A.steps (record { net = net.now; inputs = inputs; seats = seats.old; places = places.now }) }
+    ensures rest { IfOk result (λ rest. HoldRest net.now seats.old places.now rest) }
+    ensures kept { OnOk result (SameButEnds seats.old seats.new) }
+{
+    Ok(Rest {
+        states: states_of(alloc, net, seats, places)?,
+        held: empty_all(alloc, net, seats, places)?,
+    })
+}
