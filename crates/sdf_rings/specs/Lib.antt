@@ -13,3 +13,4 @@ pub mod Openings
 pub mod Begun
 pub mod Prepared
 pub mod Outcome
+pub mod Quiescence
