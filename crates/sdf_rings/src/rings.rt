@@ -1,6 +1,6 @@
 //! Rounds by hand: the seats of a run, and all their ends in one hand between two rounds.
 
-ghost use Rattle.std.specs.Prelude.{◌≡◌, ◌+◌, ◌<◌, ◌≤◌, ◌⊎◌, ◌^◌, ℕ, List, length, vec_len, slice_index_or, IfOk};
+ghost use Rattle.std.specs.Prelude.{◌≡◌, ◌+◌, ◌<◌, ◌≤◌, ◌⊎◌, ◌^◌, ◌-◌, ℕ, List, length, min, vec_len, slice_index_or, IfOk};
 ghost use Rattle.rtrb.specs.Ring.{known_items};
 ghost use Rattle.sdf_rings.specs.Seats.{HasFirst, HasWorked, HasRounded};
 ghost use Rattle.sdf_rings.specs.Rests.{stand_of, consumer_of, AreRings, HaveMet, AreAtRest};
@@ -108,7 +108,7 @@ impl<'a, A: Actor> Rings<'a, A> {
         ensures count { (e : _) → (slice_index_or self.new.seats seat e).next ≡ (slice_index_or self.old.seats seat e).next + result }
         ensures stopped { (e : _) → ((slice_index_or self.new.seats seat e).next ≡ vec_len (slice_index_or self.new.seats seat e).left) ⊎ (HasFirst A.steps self.new.net (slice_index_or self.new.seats seat e) → ⊥) }
         ensures progress { (e : _) → (slice_index_or self.old.seats seat e).next < vec_len (slice_index_or self.old.seats seat e).left → HasFirst A.steps self.old.net (slice_index_or self.old.seats seat e) → 0 < result }
-        ensures same { (self.new.net ≡ self.old.net) × (self.new.inputs ≡ self.old.inputs) × (self.new.places ≡ self.old.places) }
+        ensures same { (self.new.net ≡ self.old.net) × (self.new.inputs ≡ self.old.inputs) × (self.new.places ≡ self.old.places) × (length self.new.seats ≡ length self.old.seats) }
         ensures planned { (order : List ℕ) (cap : ℕ → ℕ) → IsPlanned A.steps self.old.net self.old.seats self.old.places order cap → IsPlanned A.steps self.new.net self.new.seats self.new.places order cap }
         ensures others { (i : ℕ) (e : _) → (seat ≡ i → ⊥) → slice_index_or self.new.seats i e ≡ slice_index_or self.old.seats i e }
     {
@@ -131,14 +131,13 @@ impl<'a, A: Actor> Rings<'a, A> {
     }
 
     /// How many firings are left in all seats.
-    #[tactic(auto, using(std::proofs::lemmas::List::Sums::sum_by_more_le, std::proofs::lemmas::List::Sums::sum_by_more))]
+    #[tactic(auto, using(std::proofs::lemmas::List::Sums::sum_by_more))]
     pub fn left(&self) -> u64
-        requires { total_left self.now.seats < 2 ^ 64 }
-        ensures { result ≡ total_left self.now.seats }
+        ensures { result ≡ min (total_left self.now.seats) (2 ^ 64 - 1) }
     {
         let mut left = 0u64;
         for seat in &self.seats {
-            left += (seat.left.len() - seat.next) as u64;
+            left = left.saturating_add((seat.left.len() - seat.next) as u64);
         }
         left
     }
