@@ -48,7 +48,9 @@ pub mod Totals
 pub mod Planned
 pub mod CanGo
 pub mod Collects
+pub mod Reading
 pub mod Ended
+pub mod Quiet
 pub mod Leaving
 pub mod Lengths
 pub mod Answered

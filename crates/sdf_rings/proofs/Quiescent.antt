@@ -7,10 +7,10 @@ use Rattle.sdf_prec.specs.Laws.{TablesRepeat}
 use Rattle.sdf_actor.specs.Steps.{Steps}
 use Rattle.sdf_actor.specs.Histories.{Wiring, Answers, taken, put, taken_before, IsWired}
 use Rattle.sdf_actor.specs.Nets.{Netlist, node, wiring, answers, IsNet, IsHistoryOf}
-use Rattle.sdf_rings.specs.Machine.{Machine, Event, Take, Put, happens, IsAllowed, IsRun, after}
-use Rattle.sdf_rings.specs.MachineLaws.{blocks_left, Rest, resting, firings, capacity, IsQuiescent, IsStateOf, HasGrown, IsWithin, QuiescentReached}
-use Rattle.sdf_rings.proofs.Kept.{NetLaws, Keeps, keeps_run, last_agrees}
-use Rattle.sdf_rings.proofs.Plans.{sequence_of, plan_sequence}
+use Rattle.sdf_rings.specs.Machine.{Machine, Event, Take, Put, at_start, happens, IsAllowed, IsRun, after}
+use Rattle.sdf_rings.specs.MachineLaws.{blocks_left, Rest, resting, firings, capacity, IsQuiescent, IsStateOf, HasGrown, IsWithin, IsPlan, Plan, IsLike, QuiescentReached, QuiescentIsReached}
+use Rattle.sdf_rings.proofs.Kept.{NetLaws, Keeps, keeps_start, keeps_run, last_agrees}
+use Rattle.sdf_rings.proofs.Plans.{sequence_of, plan_sequence, room_first}
 use Rattle.sdf_rings.proofs.Progress.{goes_on}
 use Rattle.sdf_rings.proofs.Reaches.{runs_to_end}
 use Rattle.sdf_rings.proofs.Folds.{state_is, put_is}
@@ -99,31 +99,42 @@ module _ {A S T : Type 0} (s : Steps A S T) (laws : NetLaws s) (n : Netlist A T)
     lists = begins_longer;
   }
 
-pub quiescent_reached : LastCountsMore → OthersCountSame → AlikeSequences → TablesRepeat → {A S T : Type 0} (s : Steps A S T) → NetLaws s → QuiescentReached s
-quiescent_reached last others alike repeats {A} {S} {T} s laws n inputs p b x y plan rest grown short within =
-    let f = wiring s n in
-    let ok = laws.wired n plan.net in
-    let cap : ℕ → ℕ = capacity p in
-    let seq = plan_sequence alike repeats s n p b plan in
-    let later = history_later s laws n plan.net inputs cap x y rest grown in
-    let cap_y : (c : ℕ) → c < f.rates.channels → f.rates.initial c + f.rates.produced c (y.done (f.rates.source c)) ≤ cap c + f.rates.consumed c (y.done (f.rates.target c)) =
-    (λ c l. omega (arith, within c l, grown.lengths c l)) in
-    let goes = (λ (m : Machine T). goes_on last others f ok y.done cap (sequence_of p b) seq.admissible later.enough cap_y seq.room m (λ a l. omega (arith, short a l, seq.counts a l))) in
-    let start : Machine T = resting s n x in
-    let run = runs_to_end f (answers s n inputs) y.done cap goes (blocks_left f y.done start f.rates.channels) start (omega arith) in
-    let end : Machine T = after f (answers s n inputs) start run.0 in
-    let kept : Keeps f y.done cap y.lists end =
-    keeps_run s laws n plan.net inputs y.done cap y.lists later start run.0 (keeps_resting s laws n plan.net inputs cap x y rest grown) run.1 in
-    let gave : (c : ℕ) → c < f.rates.channels → end.gave c ≡ y.done (f.rates.source c) = (λ c l. omega (arith, kept.counts.gave_in c l, (run.2 c l).1)) in (
-      quiescent_later s laws n plan.net inputs cap x y rest grown within,
-      (
-        run.0,
-        run_more f ok (answers s n inputs) y.done (firings p b) cap short start run.0 run.1,
-        record {
-          took = λ c l. omega (arith, kept.counts.took_in c l, (run.2 c l).0);
-          gave = gave;
-          lists = λ c l. kept.lists c l ∙ (ap (λ j. take (f.rates.initial c + f.rates.produced c j) (y.lists c)) (gave c l) ∙
-              take_all (f.rates.initial c + f.rates.produced c (y.done (f.rates.source c))) (y.lists c) (omega (arith, grown.lengths c l)));
-        },
-      ),
-    )
+module _ (last : LastCountsMore) (others : OthersCountSame) (alike : AlikeSequences) (repeats : TablesRepeat) {A S T : Type 0} (s : Steps A S T) (laws : NetLaws s) where
+  module _ (n : Netlist A T) (inputs : List (List T)) (p : Plan) (b : ℕ) (plan : IsPlan s n p) (y : Rest S T) (quiet : IsQuiescent s n inputs (capacity p) y)
+      (short : (a : ℕ) → a < length n.nodes → y.done a ≤ firings p b a) where
+    -- from where the history is kept a run leads to the quiescent state
+    leads : (start : Machine T) → Keeps (wiring s n) y.done (capacity p) y.lists start →
+        (es : List Event) × IsRun (wiring s n) (answers s n inputs) (firings p b) (capacity p) start es × IsLike n (after (wiring s n) (answers s n inputs) start es) (resting s n y)
+    leads start keeps =
+        let f = wiring s n in
+        let ok = laws.wired n plan.net in
+        let cap : ℕ → ℕ = capacity p in
+        let later = quiet.history in
+        let seq = plan_sequence alike repeats s n p b plan in
+        let cap_y : (c : ℕ) → c < f.rates.channels → f.rates.initial c + f.rates.produced c (y.done (f.rates.source c)) ≤ cap c + f.rates.consumed c (y.done (f.rates.target c)) =
+        (λ c l. omega (arith, quiet.within c l, later.lengths c l)) in
+        let goes = (λ (m : Machine T). goes_on last others f ok y.done cap (sequence_of p b) seq.admissible later.enough cap_y seq.room m (λ a l. omega (arith, short a l, seq.counts a l))) in
+        let run = runs_to_end f (answers s n inputs) y.done cap goes (blocks_left f y.done start f.rates.channels) start (omega arith) in
+        let end : Machine T = after f (answers s n inputs) start run.0 in
+        let kept : Keeps f y.done cap y.lists end = keeps_run s laws n plan.net inputs y.done cap y.lists later start run.0 keeps run.1 in
+        let gave : (c : ℕ) → c < f.rates.channels → end.gave c ≡ y.done (f.rates.source c) = (λ c l. omega (arith, kept.counts.gave_in c l, (run.2 c l).1)) in (
+          run.0,
+          run_more f ok (answers s n inputs) y.done (firings p b) cap short start run.0 run.1,
+          record {
+            took = λ c l. omega (arith, kept.counts.took_in c l, (run.2 c l).0);
+            gave = gave;
+            lists = λ c l. kept.lists c l ∙ (ap (λ j. take (f.rates.initial c + f.rates.produced c j) (y.lists c)) (gave c l) ∙
+                take_all (f.rates.initial c + f.rates.produced c (y.done (f.rates.source c))) (y.lists c) (omega (arith, later.lengths c l)));
+          },
+        )
+
+  pub quiescent_reached : QuiescentReached s
+  quiescent_reached n inputs p b x y plan rest grown short within =
+      let quiet = quiescent_later s laws n plan.net inputs (capacity p) x y rest grown within in
+      (quiet, leads n inputs p b plan y quiet short (resting s n x) (keeps_resting s laws n plan.net inputs (capacity p) x y rest grown))
+
+  pub quiescent_is_reached : QuiescentIsReached s
+  quiescent_is_reached n inputs p b x plan quiet short =
+      leads n inputs p b plan x quiet short (at_start (wiring s n))
+      (keeps_start s laws n plan.net inputs x.done (capacity p) x.lists quiet.history
+      (room_first (wiring s n).rates (firings p b) (capacity p) (sequence_of p b) (laws.wired n plan.net).sound (plan_sequence alike repeats s n p b plan)))

@@ -14,3 +14,4 @@ pub mod Begun
 pub mod Prepared
 pub mod Outcome
 pub mod Together
+pub mod Quiescence

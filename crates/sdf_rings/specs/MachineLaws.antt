@@ -173,3 +173,13 @@ QuiescentReached {A} {S} {T} s =
     IsQuiescent s n inputs (capacity p) y ×
     ((es : List Event) × IsRun (wiring s n) (answers s n inputs) (firings p b) (capacity p) (resting s n x) es ×
     IsLike n (after (wiring s n) (answers s n inputs) (resting s n x) es) (resting s n y))
+
+-- a run of b blocks leads to a state where all actors are idle
+abbrev pub IsReached : {A S T : Type 0} → Steps A S T → Netlist A T → List (List T) → Plan → ℕ → Rest S T → Type 0
+IsReached s n inputs p b x = (es : List Event) × IsRunOf s n inputs p b es × IsLike n (reached s n inputs es) (resting s n x)
+
+-- a run from the start leads to each quiescent state with no more firings than those of the blocks
+abbrev pub QuiescentIsReached : {A S T : Type 0} → Steps A S T → Type 0
+QuiescentIsReached {A} {S} {T} s =
+    (n : Netlist A T) (inputs : List (List T)) (p : Plan) (b : ℕ) (x : Rest S T) →
+    IsPlan s n p → IsQuiescent s n inputs (capacity p) x → ((a : ℕ) → a < length n.nodes → x.done a ≤ firings p b a) → IsReached s n inputs p b x

@@ -1,6 +1,6 @@
 //! Laws of the ring machine, each the contract of a function that does nothing but call laws.
 
-ghost use Rattle.sdf_rings.specs.MachineLaws.{RunsPutPrefixes, RunsKeepWithin, RunsGoOn, RunsMoveBlocks, RunsEndInHistories, OwnNeverWaits, QuiescentReached};
+ghost use Rattle.sdf_rings.specs.MachineLaws.{RunsPutPrefixes, RunsKeepWithin, RunsGoOn, RunsMoveBlocks, RunsEndInHistories, OwnNeverWaits, QuiescentReached, QuiescentIsReached};
 
 use sdf_actor::Actor;
 
@@ -60,9 +60,10 @@ pub fn own_never_waits<A: Actor>()
     sdf_actor::laws::nets_are_wired::<A>();
 }
 
-/// From one quiescent state to the next there is a run.
+/// From one quiescent state to the next there is a run, and from the start to each.
 pub fn quiescent_reached<A: Actor>()
-    ensures { QuiescentReached A.steps }
+    ensures next { QuiescentReached A.steps }
+    ensures from_start { QuiescentIsReached A.steps }
 {
     sdf_graph::laws::counts_grow();
     sdf_graph::laws::alike_sequences();

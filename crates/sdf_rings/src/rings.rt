@@ -1,9 +1,10 @@
 //! Rounds by hand: the seats of a run, and all their ends in one hand between two rounds.
 
-ghost use Rattle.std.specs.Prelude.{◌≡◌, ◌+◌, ◌<◌, ◌≤◌, ◌⊎◌, ◌^◌, ℕ, List, length, vec_len, slice_index_or, IfOk};
+ghost use Rattle.std.specs.Prelude.{◌≡◌, ◌+◌, ◌<◌, ◌≤◌, ◌⊎◌, ◌^◌, ◌-◌, ℕ, List, length, min, vec_len, slice_index_or, IfOk};
 ghost use Rattle.rtrb.specs.Ring.{known_items};
 ghost use Rattle.sdf_rings.specs.Seats.{HasFirst, HasWorked, HasRounded};
 ghost use Rattle.sdf_rings.specs.Rests.{stand_of, consumer_of, AreRings, HaveMet, AreAtRest};
+ghost use Rattle.sdf_rings.specs.Quiescence.{AreQuiescent};
 ghost use Rattle.sdf_rings.specs.Asks.{IsPlanned};
 ghost use Rattle.sdf_rings.specs.Totals.{total_left};
 ghost use Rattle.sdf_actor.specs.Laws.{AreCountsOf};
@@ -16,7 +17,7 @@ ghost use Rattle.sdf_answer.specs.Feeds.{HasRun};
 use crate::finish::collect;
 use crate::leave::leave;
 use crate::meet::meet_all;
-use crate::rest::met_is_rest;
+use crate::rest::{met_is_quiescent, met_is_rest};
 use crate::round::run_round;
 use crate::run::run_all;
 use crate::seat::{Seat, work};
@@ -107,7 +108,7 @@ impl<'a, A: Actor> Rings<'a, A> {
         ensures count { (e : _) → (slice_index_or self.new.seats seat e).next ≡ (slice_index_or self.old.seats seat e).next + result }
         ensures stopped { (e : _) → ((slice_index_or self.new.seats seat e).next ≡ vec_len (slice_index_or self.new.seats seat e).left) ⊎ (HasFirst A.steps self.new.net (slice_index_or self.new.seats seat e) → ⊥) }
         ensures progress { (e : _) → (slice_index_or self.old.seats seat e).next < vec_len (slice_index_or self.old.seats seat e).left → HasFirst A.steps self.old.net (slice_index_or self.old.seats seat e) → 0 < result }
-        ensures same { (self.new.net ≡ self.old.net) × (self.new.inputs ≡ self.old.inputs) × (self.new.places ≡ self.old.places) }
+        ensures same { (self.new.net ≡ self.old.net) × (self.new.inputs ≡ self.old.inputs) × (self.new.places ≡ self.old.places) × (length self.new.seats ≡ length self.old.seats) }
         ensures planned { (order : List ℕ) (cap : ℕ → ℕ) → IsPlanned A.steps self.old.net self.old.seats self.old.places order cap → IsPlanned A.steps self.new.net self.new.seats self.new.places order cap }
         ensures others { (i : ℕ) (e : _) → (seat ≡ i → ⊥) → slice_index_or self.new.seats i e ≡ slice_index_or self.old.seats i e }
     {
@@ -130,14 +131,13 @@ impl<'a, A: Actor> Rings<'a, A> {
     }
 
     /// How many firings are left in all seats.
-    #[tactic(auto, using(std::proofs::lemmas::List::Sums::sum_by_more_le, std::proofs::lemmas::List::Sums::sum_by_more))]
+    #[tactic(auto, using(std::proofs::lemmas::List::Sums::sum_by_more))]
     pub fn left(&self) -> u64
-        requires { total_left self.now.seats < 2 ^ 64 }
-        ensures { result ≡ total_left self.now.seats }
+        ensures { result ≡ min (total_left self.now.seats) (2 ^ 64 - 1) }
     {
         let mut left = 0u64;
         for seat in &self.seats {
-            left += (seat.left.len() - seat.next) as u64;
+            left = left.saturating_add((seat.left.len() - seat.next) as u64);
         }
         left
     }
@@ -157,6 +157,7 @@ impl<'a, A: Actor> Rings<'a, A> {
     pub fn meet(&mut self)
         ensures met { HaveMet self.new.net self.new.seats self.new.places }
         ensures rest { AreAtRest A.steps self.new.net self.new.inputs self.new.seats self.new.places }
+        ensures quiescent { AreQuiescent A.steps self.new }
         ensures idle { (i : ℕ) (e : _) → i < length self.old.seats → HasWorked A.steps self.new.net (slice_index_or self.old.seats i e) (slice_index_or self.new.seats i e) × ((slice_index_or self.new.seats i e).next ≡ (slice_index_or self.old.seats i e).next) }
         ensures planned { (order : List ℕ) (cap : ℕ → ℕ) → IsPlanned A.steps self.old.net self.old.seats self.old.places order cap → IsPlanned A.steps self.new.net self.new.seats self.new.places order cap }
         ensures same { (self.new.net ≡ self.old.net) × (self.new.inputs ≡ self.old.inputs) × (self.new.places ≡ self.old.places) × (length self.new.seats ≡ length self.old.seats) }
@@ -166,6 +167,18 @@ impl<'a, A: Actor> Rings<'a, A> {
         let _whole = net.graph();
         meet_all(self.alloc, net, inputs, &mut self.seats, &self.places);
         met_is_rest(net, inputs, &self.seats, &self.places);
+        met_is_quiescent(net, inputs, &self.seats, &self.places);
+    }
+
+    /// Where all ends have met, as `prepare` and `meet` leave them, what was put is the history at the firings done, and the state of
+    /// the ring machine that is made of the stands is quiescent and reached by a run.
+    pub fn at_rest(&self)
+        requires met { HaveMet self.now.net self.now.seats self.now.places }
+        ensures rest { AreAtRest A.steps self.now.net self.now.inputs self.now.seats self.now.places }
+        ensures quiescent { AreQuiescent A.steps self.now }
+    {
+        met_is_rest(self.net, self.inputs, &self.seats, &self.places);
+        met_is_quiescent(self.net, self.inputs, &self.seats, &self.places);
     }
 
     /// Rounds until nothing is left of a plan, and how many there were. Each does at least one firing.
