@@ -1,5 +1,5 @@
 -- A file as far as the size of its data: what the grammar says of it is what is read.
-use Rattle.std.proofs.Common.{◌≡◌, ◌≢◌, ◌⊎◌, inl, inr, ℕ, ◌-◌, ◌*◌, ◌%◌, List, [], ◌++◌, length, take, Option, Some, None, Result, Ok, Err, refl, sym, ap, subst, ◌∙◌, arith}
+use Rattle.std.proofs.Common.{◌≡◌, ◌≢◌, ◌⊎◌, inl, inr, ℕ, ◌-◌, ◌*◌, ◌/◌, ◌%◌, List, [], ◌++◌, length, take, Option, Some, None, Result, Ok, Err, refl, sym, ap, subst, ◌∙◌, arith}
 use Rattle.std.specs.Prelude.{codes}
 use Rattle.std.proofs.Math.Nat.{zero-mod}
 use Rattle.std.proofs.lemmas.Bool.{eq-eqb, ne_eqb}
@@ -20,8 +20,10 @@ use Rattle.sdf_wav.specs.Grammar.{Chunk, Content, Place, IsWav}
 use Rattle.sdf_wav.specs.Parts.{riff_of}
 use Rattle.sdf_wav.specs.Fault.{HasFault}
 use Rattle.sdf_wav.specs.Steps.{◌>>=◌, Reads, riff_at, data_at, whole_at, open_at, wav_at}
-use Rattle.sdf_wav.specs.PiecesIn.{Reading, at_start, Opens, IsReadTo, FailsToOpen, AnswersOpening, OpensTo, RefusesToOpen}
+use Rattle.sdf_wav.specs.PiecesIn.{Reading, at_start, Opens, OpensAs, IsReadTo, FailsToOpen, AnswersOpening, OpensTo, RefusesToOpen}
+use Rattle.sdf_wav.proofs.Frames.{whole_is_even}
 use Rattle.sdf_wav.proofs.Known.{Known-weaker}
+use Rattle.sdf_wav.proofs.Samples.{pcm_count}
 use Rattle.sdf_wav.proofs.Walk.{riff_reads, walk, data_at_here}
 use Rattle.sdf_wav.proofs.FaultsRead.{ContentFails, is_not_whole, is_cut, is_long, is_partial, place_fails, sized_partial, riff_or_place, to_place}
 use Rattle.sdf_wav.proofs.Exact.{some_outcome, one_fault, fault_of}
@@ -143,20 +145,33 @@ whole_size : (align size : ℕ) (content rest : List ℕ) → Content size conte
 whole_size align size content rest (inl known) whole x = ap (λ n. n % align) (sym known.1) ∙ whole
 whole_size align size content rest (inr filled) whole x = absurd (x filled.0)
 
+sized_content : (size : ℕ) (content rest : List ℕ) (samples : ℕ) → Content size content rest → size ≢ 0xFFFFFFFF → samples ≡ length content / 2 → length content % 2 ≡ 0 → size ≡ 2 * samples
+sized_content size content rest samples (inl known) x count even = omega (arith, known.1)
+sized_content size content rest samples (inr filled) x count even = absurd (x filled.0)
+
+opens_of : (bytes : List ℕ) (s : Sound) (rest : List ℕ) (w : IsWav bytes s rest) → Opens bytes w.format (little_number 4 w.size) (w.content ++ rest)
+opens_of bytes s rest w = record {
+  chunks = w.chunks;
+  size_bytes = w.size;
+  place = w.place;
+  size_is_four = w.size_is_four;
+  size_is = refl;
+  whole = whole_size (2 * w.format.channels) (little_number 4 w.size) w.content rest w.content_is w.whole;
+}
+
 pub wav_opens : (bytes : List ℕ) (s : Sound) (rest : List ℕ) → IsWav bytes s rest → SomeOpens bytes
-wav_opens bytes s rest w = (
-  w.format,
-  little_number 4 w.size,
-  w.content ++ rest,
-  record {
-    chunks = w.chunks;
-    size_bytes = w.size;
-    place = w.place;
-    size_is_four = w.size_is_four;
-    size_is = refl;
-    whole = whole_size (2 * w.format.channels) (little_number 4 w.size) w.content rest w.content_is w.whole;
-  },
-)
+wav_opens bytes s rest w = (w.format, little_number 4 w.size, w.content ++ rest, opens_of bytes s rest w)
+
+-- with the format of its sound, and a size that is filled in is that of its samples
+pub wav_opens_as : (bytes : List ℕ) (s : Sound) (rest : List ℕ) → IsWav bytes s rest → OpensAs bytes s
+wav_opens_as bytes s rest w =
+    let same : ◌≡◌ {A = Format} w.format (record { rate = s.rate; channels = s.channels }) = rw (w.rate, w.channels) refl in
+    record {
+      size = little_number 4 w.size;
+      rest = w.content ++ rest;
+      opens = subst (λ (f : Format). Opens bytes f (little_number 4 w.size) (w.content ++ rest)) same (opens_of bytes s rest w);
+      sized = λ known. sized_content (little_number 4 w.size) w.content rest (length s.samples) w.content_is known (ap length w.samples ∙ pcm_count w.content) (whole_is_even (length w.content) w.format.channels w.whole);
+    }
 
 -- ---- what is read opens
 

@@ -17,15 +17,10 @@ use Rattle.sdf_wav.specs.Steps.{Reads}
 use Rattle.sdf_wav.specs.Fault.{Answers}
 use Rattle.sdf_wav.proofs.Known.{Known-then, Known-weaker, LosesFront-then, Reads-same}
 use Rattle.sdf_wav.specs.PiecesIn.{IsReading, IsPiece, AnswersBy, AnswersOpening, Reading, format_read, Opens, IsWithin, IsReadTo, IsEnded, sound_read, sized_piece, open_piece, next_at}
-use Rattle.sdf_wav.proofs.Samples.{pcm_samples-append}
+use Rattle.sdf_wav.proofs.Samples.{pcm_count, pcm_samples-append}
 use Rattle.sdf_wav.proofs.Frames.{whole_is_even, past_whole, less_whole, asked_whole, smaller_whole, twice_whole}
 
 -- ---- the cases of a piece
-
-pcm_count : (bytes : List ℕ) → length (pcm_samples bytes) ≡ length bytes / 2
-pcm_count [] = refl
-pcm_count (a ∷ []) = refl
-pcm_count (a ∷ b ∷ bytes) = omega (arith, pcm_count bytes)
 
 record Gives (r : Reading) (frames : ℕ) (bytes : List ℕ) : Type 0 where
   n : ℕ

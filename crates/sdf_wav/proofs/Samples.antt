@@ -56,6 +56,12 @@ tail_written old fill new all at n post more whole start len =
 
 -- whole pieces
 
+-- two bytes for each sample
+pub pcm_count : (bytes : List ℕ) → length (pcm_samples bytes) ≡ length bytes / 2
+pcm_count [] = refl
+pcm_count (a ∷ []) = refl
+pcm_count (a ∷ b ∷ bytes) = omega (arith, pcm_count bytes)
+
 pub pcm_samples-append : (front rest : List ℕ) → length front % 2 ≡ 0 → pcm_samples (front ++ rest) ≡ pcm_samples front ++ pcm_samples rest
 pcm_samples-append [] rest h = refl
 pcm_samples-append (a ∷ []) rest h = absurd (omega arith)

@@ -99,6 +99,20 @@ pub record IsPiece (r : Reading) (frames samples : ℕ) : Type 0 where
   pub whole : samples % r.channels ≡ 0
   pub sized : r.size ≢ 0xFFFFFFFF → 2 * samples ≡ min (2 * (frames * r.channels)) (r.size - r.gone)
 
+-- a fault within a content of a known size: it is cut off
+abbrev pub IsSizedFault : WavFault → Type 0
+IsSizedFault faults.OutOfMemory = Unit {0}
+IsSizedFault (faults.Format f) = f ≡ Truncated
+IsSizedFault faults.Read = Unit {0}
+IsSizedFault faults.Write = ⊥
+
+-- the input opens with the format of a sound, and a size that is filled in is that of its samples
+pub record OpensAs (input : List ℕ) (s : Sound) : Type 0 where
+  pub size : ℕ
+  pub rest : List ℕ
+  pub opens : Opens input (record { rate = s.rate; channels = s.channels }) size rest
+  pub sized : size ≢ 0xFFFFFFFF → size ≡ 2 * length s.samples
+
 -- What a call answered, seen by view, is what `read` gives for the bytes before it, and the bytes after it are those that
 -- `read` leaves, where the bytes are known; unless memory or the reader failed. It never fails by a writer.
 abbrev pub AnswersBy : {X Y : Type 0} → (X → Y) → Option (List ℕ) → Option (List ℕ) → (List ℕ → Result (Y × List ℕ) FormatFault) → Result X WavFault → Type 0

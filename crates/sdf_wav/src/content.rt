@@ -2,7 +2,7 @@
 
 ghost use Rattle.std.specs.Prelude.{◌≡◌, ◌≤◌, ◌*◌, ◌/◌, ◌%◌, ◌++◌, ◌+◌, ◌⊎◌, min, length, OnOk, OnErr, IfOk, IfErr};
 ghost use Rattle.sdf_wav.specs.Content.{Holds};
-ghost use Rattle.sdf_wav.specs.PiecesIn.{open_piece, sized_piece};
+ghost use Rattle.sdf_wav.specs.PiecesIn.{IsSizedFault, open_piece, sized_piece};
 ghost use Rattle.sdf_wav.specs.Device.{failures_after, widened, Known, LosesFront};
 ghost use Rattle.sdf_wav.specs.Fault.{IsReadingFault};
 ghost use Rattle.sdf_wav.specs.Sound.{pcm_samples};
@@ -113,6 +113,7 @@ pub(crate) fn read_sized<R: Reader>(
     ensures count { IfOk result (λ v. 2 * length v.items ≡ size) }
     ensures counted { R.failures reader.new ≡ failures_after (widened result) (R.failures reader.old) }
     ensures fault { IfErr (widened result) IsReadingFault }
+    ensures cut { IfErr (widened result) IsSizedFault }
 {
     let content = read_samples(alloc, reader, size)?;
     if content.bytes < size {

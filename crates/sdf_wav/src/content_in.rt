@@ -1,13 +1,13 @@
 //! The content of a file that is read in pieces.
 
-ghost use Rattle.std.specs.Prelude.{◌≡◌, ◌≤◌, ◌+◌, ◌*◌, ◌%◌, ℕ, List, Option, Some, None, length, IfOk, IfErr, IsErrOf, Err};
+ghost use Rattle.std.specs.Prelude.{◌≡◌, ◌≢◌, ◌≤◌, ◌+◌, ◌*◌, ◌%◌, ℕ, List, Option, Some, None, length, IfOk, IfErr, IsErrOf, Err};
 ghost use Rattle.sdf_wav.specs.declared.fault.FormatFault.{FormatFault};
 ghost use Rattle.sdf_wav.specs.declared.fault.WavFault.{WavFault};
 ghost use Rattle.sdf_wav.specs.declared.format.Format.{Format};
 ghost use Rattle.sdf_wav.specs.declared.wav.TheConstants.{MOST_CHANNELS};
 ghost use Rattle.sdf_wav.specs.Device.{failures_after, widened, Failed};
 ghost use Rattle.sdf_wav.specs.Fault.{HasFault, IsReadingFault};
-ghost use Rattle.sdf_wav.specs.PiecesIn.{IsReading, IsPiece, IsWithin, Opens, AnswersOpening, OpensTo, RefusesToOpen, AnswersBy, known_frames, next_at};
+ghost use Rattle.sdf_wav.specs.PiecesIn.{IsReading, IsPiece, IsWithin, IsSizedFault, Opens, AnswersOpening, OpensTo, RefusesToOpen, AnswersBy, known_frames, next_at};
 ghost use Rattle.sdf_wav.specs.Steps.{Reads};
 
 use crate::chunks::open_data;
@@ -117,6 +117,7 @@ impl ContentIn {
         ensures within { IfOk result (λ v. IsWithin (2 * self.now.channels) self.now.size (self.now.gone + 2 * length v.items)) }
         ensures counted { R.failures reader.new ≡ failures_after (widened result) (R.failures reader.old) }
         ensures fault { IfErr (widened result) IsReadingFault }
+        ensures cut { self.now.size ≢ 0xFFFFFFFF → IfErr (widened result) IsSizedFault }
     {
         let samples = (frames as u64).saturating_mul(u64::from(self.format.channels));
         let asked = 2 * samples.min(MOST_SAMPLES);
@@ -149,6 +150,7 @@ impl ContentIn {
         ensures goes_on { IfOk result (λ v. self.new ≡ record self.old { gone = self.old.gone + 2 * length v.items }) }
         ensures stops { IfErr result (λ e. self.new ≡ record self.old { fault = Some e }) }
         ensures fault { IfErr result IsReadingFault }
+        ensures cut { self.old.fault ≡ None → self.old.size ≢ 0xFFFFFFFF → IfErr result IsSizedFault }
         ensures sound { IsReading self.new }
     {
         if let Some(fault) = self.fault {

@@ -1,18 +1,24 @@
 //! Laws over the definitions, which no call of the crate states.
 
-ghost use Rattle.std.specs.Prelude.{◌≡◌, ◌<◌, ◌+◌, ◌*◌, ◌⊎◌, ◌++◌, ℕ, ℤ, List, [], length, Option, None, Ok, Err};
+ghost use Rattle.std.specs.Prelude.{◌≡◌, ◌≤◌, ◌<◌, ◌^◌, ◌%◌, ◌+◌, ◌*◌, ◌⊎◌, ◌++◌, ℕ, ℤ, List, [], length, Option, None, Ok, Err};
 ghost use Rattle.std.specs.Io.KnownBytes.{Appends};
 ghost use Rattle.sdf_wav.specs.declared.fault.FormatFault.{FormatFault};
-ghost use Rattle.sdf_wav.specs.Canonical.{canonical_wav, sample_bytes, write_fault};
+ghost use Rattle.sdf_wav.specs.Canonical.{IsCanonical, canonical_wav, sample_bytes, write_fault};
 ghost use Rattle.sdf_wav.specs.Fault.{HasFault};
 ghost use Rattle.sdf_wav.specs.Grammar.{IsWav};
 ghost use Rattle.sdf_wav.specs.declared.format.Format.{Format};
-ghost use Rattle.sdf_wav.specs.PiecesIn.{Reading, Opens, IsReadTo, IsEnded, sound_read, next_at};
+ghost use Rattle.sdf_wav.specs.PiecesIn.{Reading, Opens, OpensAs, IsReadTo, IsEnded, sound_read, next_at};
 ghost use Rattle.sdf_wav.specs.Sound.{Sound, IsSound};
+ghost use Rattle.sdf_wav.specs.declared.wav.TheConstants.{MOST_CHANNELS};
 
 /// The canonical file of a sound is a file of that sound, with nothing behind it.
 pub fn canonical_is_wav()
     ensures { (s : Sound) → IsSound s → write_fault s ≡ None → IsWav (canonical_wav s) s [] }
+{}
+
+/// The canonical file of whole frames is that of a sound, whatever numbers its samples are.
+pub fn files_are_canonical()
+    ensures { (s : Sound) → 1 ≤ s.rate → s.rate < 2 ^ 32 → 1 ≤ s.channels → s.channels ≤ MOST_CHANNELS → length s.samples % s.channels ≡ 0 → write_fault s ≡ None → IsCanonical (canonical_wav s) }
 {}
 
 /// Samples that are written in turn are written as one list, so the pieces behind a header are a file.
@@ -20,10 +26,11 @@ pub fn puts_join()
     ensures { (a b c : Option (List ℕ)) (x y : List ℤ) → Appends a b (sample_bytes x) → Appends b c (sample_bytes y) → Appends a c (sample_bytes (x ++ y)) }
 {}
 
-/// Pieces that are read in turn, joined: they are the samples of the content that is gone; fewer frames than were asked for
+/// A file opens, with its sound's format, and a size that is filled in is that of its samples. Pieces that are read in turn, joined: they are the samples of the content that is gone; fewer frames than were asked for
 /// come at the end alone; at the end the input is a file of them; and a fault among them is the input's.
 pub fn pieces_join()
     ensures opens { (input : List ℕ) (s : Sound) (rest : List ℕ) → IsWav input s rest → (f : Format) × (size : ℕ) × (bytes : List ℕ) × Opens input f size bytes }
+    ensures announces { (input : List ℕ) (s : Sound) (rest : List ℕ) → IsWav input s rest → OpensAs input s }
     ensures goes_on { (input : List ℕ) (r : Reading) (before : List ℤ) (bytes : List ℕ) (frames : ℕ) (samples : List ℤ) (rest : List ℕ) → IsReadTo input r before bytes
         → next_at r frames bytes ≡ Ok (samples, rest) → IsReadTo input (record r { gone = r.gone + 2 * length samples }) (before ++ samples) rest }
     ensures few { (input : List ℕ) (r : Reading) (before : List ℤ) (bytes : List ℕ) (frames : ℕ) (samples : List ℤ) (rest : List ℕ) → IsReadTo input r before bytes
