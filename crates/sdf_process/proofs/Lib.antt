@@ -2,7 +2,12 @@ pub mod Sizes
 pub mod Lists
 pub mod Running
 pub mod Fronts
-pub mod Devices
+pub mod Contents
+pub mod Refusals
+pub mod Texts
+pub mod Opened
+pub mod Finishing
+pub mod Pieces
 pub mod Sounds
 pub mod Rendering
 pub mod Deadlocks

@@ -1,5 +1,5 @@
 -- What a net makes of a sound, by what the runners gave.
-use Rattle.std.proofs.Common.{◌≡◌, ◌⊎◌, inl, inr, ℕ, zero, suc, ◌+◌, ◌*◌, ◌≤◌, ◌<◌, ℤ, pos, List, [], ◌∷◌, ◌++◌, length, map, take, get_or, MatchResult, None, Result, Ok, Err, refl, sym, ap, ◌∙◌, subst, arith}
+use Rattle.std.proofs.Common.{◌≡◌, ◌⊎◌, inl, inr, ℕ, zero, suc, ◌+◌, ◌*◌, ◌≤◌, ◌<◌, ℤ, pos, List, [], ◌∷◌, ◌++◌, length, map, take, get_or, MatchResult, Result, Ok, Err, refl, sym, ap, ◌∙◌, subst, arith}
 use Rattle.std.specs.Int.{w16, saturate_signed}
 use Rattle.std.specs.Prelude.{IsErrAnd}
 use Rattle.std.specs.List.{flat_map, range_with_len}
@@ -8,7 +8,6 @@ use Rattle.std.proofs.lemmas.Bool.{cases_lt}
 use Rattle.std.proofs.lemmas.List.{get_or-take, get_or_past}
 use Rattle.std.proofs.lemmas.List.Concat.{flat_map-cons}
 use Rattle.std.proofs.lemmas.List.FromFn.{length-map-range_with_len, get_or-map-range_with_len, take-map-range_with_len}
-use Rattle.std.proofs.lemmas.Result.{MatchResult-weaker}
 use Rattle.sdf_actor.specs.Nets.{Netlist}
 use Rattle.sdf_kit.specs.declared.kit.Kit.{Kit}
 use Rattle.sdf_kit.specs.Kit.{kit_steps}
@@ -19,13 +18,12 @@ use Rattle.sdf_answer.specs.declared.fault.RunFault.{RunFault}
 use Rattle.sdf_answer.specs.declared.fault.RunFault.TheVariants as run
 use Rattle.sdf_sched.specs.Period.{Schedule}
 use Rattle.sdf_wav.specs.Sound.{Sound}
-use Rattle.sdf_wav.specs.Canonical.{write_fault}
 use Rattle.sdf_process.specs.declared.exchange.Exchange.{Exchange}
 use Rattle.sdf_process.specs.declared.fault.Fault.{Fault}
 use Rattle.sdf_process.specs.declared.fault.Fault.TheVariants as fault
 use Rattle.sdf_process.specs.Faults.{of_run}
-use Rattle.sdf_process.specs.Output.{exchange_of, periods_of, output_frames, sample, channel_samples, lists_to, input_lists, frame, interleaved, output_of, output_fault}
-use Rattle.sdf_process.specs.Run.{BeginWithOutput, IsRendered, IsRenderFault}
+use Rattle.sdf_process.specs.Output.{exchange_of, periods_of, sample, channel_samples, lists_to, input_lists, frame, interleaved}
+use Rattle.sdf_process.specs.Run.{BeginWithOutput}
 
 -- ---- what the runners are given
 
@@ -110,25 +108,5 @@ frames_cut xs n a (suc m) h =
     ∙ sym (flat_map-cons (frame xs) a (range_with_len (a + 1) m))))
 
 -- frames past the cut are not looked at
-interleaved_cut : (xs : List (List ℤ)) (n : ℕ) → interleaved n (map (take n) xs) ≡ interleaved n xs
+pub interleaved_cut : (xs : List (List ℤ)) (n : ℕ) → interleaved n (map (take n) xs) ≡ interleaved n xs
 interleaved_cut xs n = frames_cut xs n 0 n (omega arith)
-
--- the sound of lists that begin with the output is the output
-pub after_run : (n : Netlist Kit ℤ) (q : List ℕ) (s : Sound) (lists : List (List ℤ)) (r : Result Sound Fault) →
-    output_fault (exchange_of n q) s ≡ None → BeginWithOutput n q s lists →
-    MatchResult r (λ out. (out ≡ output_of (exchange_of n q) s lists) × (write_fault out ≡ None)) (λ e. e ≡ fault.OutOfMemory) →
-    MatchResult r (IsRendered n q s) (IsRenderFault n q s)
-after_run n q s lists r allowed begins answer =
-    let x = exchange_of n q in
-    let frames : ℕ = output_frames x s in
-    MatchResult-weaker r answer
-    (λ out (o, fits). record {
-      is_allowed = allowed;
-      is_output = record {
-        lists = map (take frames) lists;
-        are_outputs = begins;
-        output = o ∙ ap (λ samples. record { rate = (output_of x s lists).rate; channels = x.outputs; samples = samples }) (sym (interleaved_cut lists frames));
-      };
-      fits = fits;
-    })
-    (λ e memory. inl memory)

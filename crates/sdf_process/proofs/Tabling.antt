@@ -1,5 +1,4 @@
 -- A plan has no table, by why the table of its period was not made.
-use Rattle.std.proofs.Common.{ℕ}
 use Rattle.sdf_actor.specs.Graphs.{graph_of}
 use Rattle.sdf_kit.specs.Kit.{kit_steps}
 use Rattle.sdf_sched.specs.Period.{Schedule}

@@ -4,10 +4,12 @@ use Rattle.std.specs.Int.{w16, saturate_signed}
 use Rattle.std.specs.List.{flat_map, range_with_len}
 use Rattle.sdf_wav.specs.Sound.{Sound, frames_of}
 use Rattle.sdf_wav.specs.Canonical.{size_fault}
+use Rattle.sdf_wav.specs.PiecesOut.{file_header}
 use Rattle.sdf_wav.specs.declared.wav.TheConstants.{MOST_CHANNELS}
 use Rattle.sdf_actor.specs.Nets.{Netlist}
 use Rattle.sdf_actor.specs.Sides.{list_count, period_samples}
 use Rattle.sdf_actor.specs.declared.sides.Lists.TheVariants.{Inputs, Outputs}
+use Rattle.sdf_process.specs.declared.exchange.Announced.{Announced}
 use Rattle.sdf_process.specs.declared.exchange.Exchange.{Exchange}
 use Rattle.sdf_process.specs.declared.exchange.Extent.{Extent}
 use Rattle.sdf_process.specs.declared.fault.Fault.{Fault}
@@ -22,24 +24,45 @@ exchange_of n q = record {
   made = period_samples n.nodes Outputs q;
 }
 
--- as many periods as it takes to read all frames
-abbrev pub periods_of : Exchange → Sound → ℕ
-periods_of x s = (frames_of s + (x.taken - 1)) / x.taken
+-- what is known of a sound before its samples are
+abbrev pub announced_by : Sound → Announced
+announced_by s = record { rate = s.rate; channels = s.channels; frames = frames_of s }
+
+-- as many periods as it takes to read so many frames
+abbrev pub periods_for : Exchange → ℕ → ℕ
+periods_for x frames = (frames + (x.taken - 1)) / x.taken
 
 -- frames a second of the output
-abbrev pub output_rate : Exchange → Sound → ℕ
-output_rate x s = s.rate * x.made / x.taken
+abbrev pub rate_for : Exchange → ℕ → ℕ
+rate_for x rate = rate * x.made / x.taken
 
 -- frames of the output: those of whole periods
-abbrev pub output_frames : Exchange → Sound → ℕ
-output_frames x s = periods_of x s * x.made
+abbrev pub frames_for : Exchange → ℕ → ℕ
+frames_for x frames = periods_for x frames * x.made
 
--- why there is no output, if there is none
+-- why there is no output of what is announced, if there is none
+abbrev pub announced_fault : Exchange → Announced → Option Fault
+announced_fault x a =
+    if nat_lt a.channels x.inputs then Some ChannelsMissing
+    else (if not (a.rate * x.made % x.taken == 0) then Some RateNotWhole
+    else option_map Wav (size_fault (rate_for x a.rate) x.outputs (frames_for x a.frames * x.outputs)))
+
+-- the same of a sound
+abbrev pub periods_of : Exchange → Sound → ℕ
+periods_of x s = periods_for x (frames_of s)
+
+abbrev pub output_rate : Exchange → Sound → ℕ
+output_rate x s = rate_for x s.rate
+
+abbrev pub output_frames : Exchange → Sound → ℕ
+output_frames x s = frames_for x (frames_of s)
+
 abbrev pub output_fault : Exchange → Sound → Option Fault
-output_fault x s =
-    if nat_lt s.channels x.inputs then Some ChannelsMissing
-    else (if not (s.rate * x.made % x.taken == 0) then Some RateNotWhole
-    else option_map Wav (size_fault (output_rate x s) x.outputs (output_frames x s * x.outputs)))
+output_fault x s = announced_fault x (announced_by s)
+
+-- the header of the output of what is announced
+abbrev pub output_header : Exchange → Announced → List ℕ
+output_header x a = file_header (rate_for x a.rate) x.outputs (frames_for x a.frames)
 
 -- sample i of channel e; there are zeros past the last frame
 abbrev pub sample : Sound → ℕ → ℕ → ℤ
@@ -61,9 +84,12 @@ input_lists x s = lists_to (periods_of x s) x s
 abbrev pub frame : List (List ℤ) → ℕ → List ℤ
 frame lists i = map (λ xs. saturate_signed w16 (slice_index_or xs i (pos 0))) lists
 
--- n frames, one after the other
+-- n frames, one after the other, and those from a place on
 abbrev pub interleaved : ℕ → List (List ℤ) → List ℤ
 interleaved n lists = flat_map (frame lists) (range_with_len 0 n)
+
+abbrev pub interleaved_from : ℕ → ℕ → List (List ℤ) → List ℤ
+interleaved_from at n lists = flat_map (frame lists) (range_with_len at n)
 
 -- the sound of the output lists
 abbrev pub output_of : Exchange → Sound → List (List ℤ) → Sound
@@ -83,11 +109,11 @@ pub record IsExchange (x : Exchange) : Type 0 where
   pub one_output : 1 ≤ x.outputs
   pub few_outputs : x.outputs ≤ MOST_CHANNELS
 
--- the rate and the length of the output of a sound, where there is one
-pub record IsExtent (x : Exchange) (s : Sound) (e : Extent) : Type 0 where
-  pub is_allowed : output_fault x s ≡ None
-  pub rate : e.rate ≡ output_rate x s
-  pub periods : e.periods ≡ periods_of x s
+-- the rate and the length of the output of what is announced, where there is one
+pub record IsExtent (x : Exchange) (a : Announced) (e : Extent) : Type 0 where
+  pub is_allowed : announced_fault x a ≡ None
+  pub rate : e.rate ≡ rate_for x a.rate
+  pub periods : e.periods ≡ periods_for x a.frames
   pub some_rate : 0 < e.rate
   pub few_bytes_a_second : e.rate * (2 * x.outputs) ≤ 4294967295
   pub few_bytes : 2 * (e.periods * x.made * x.outputs) ≤ 4294967259

@@ -1,5 +1,5 @@
 -- The plan of a design, or why it has none.
-use Rattle.std.specs.Prelude.{◌≡◌, ◌≢◌, ◌⊎◌, ℕ, ℤ, false, ◌≤◌, ◌==◌, List, [], map, length, Option, option_map, Result, Ok, Err, slice_index, slice_index_or, find, Some, None, IfSome, string_bytes}
+use Rattle.std.specs.Prelude.{◌≡◌, ◌≢◌, ◌⊎◌, ℕ, ℤ, ◌≤◌, ◌==◌, List, [], map, length, Option, option_map, Result, Ok, Err, slice_index, slice_index_or, find, Some, None, IfSome, string_bytes}
 use Rattle.std.specs.List.{range_with_len}
 use Rattle.sdf_limits.specs.declared.TheConstants.{MOST_BLOCKING, MOST_PATIENCE, MOST_WORKERS}
 use Rattle.sdf_graph.specs.Rates.{Shape, rates}

@@ -1,17 +1,22 @@
 -- What a run of the program reads, answers and writes.
-use Rattle.std.specs.Prelude.{◌≡◌, ℕ, ◌⊎◌, ℤ, List, Option, Some, None, Result, Ok, Err, IfErr, map, take}
+use Rattle.std.specs.Prelude.{◌≡◌, ◌≢◌, ℕ, ◌*◌, ◌/◌, ◌≤◌, ◌⊎◌, [], ◌++◌, ℤ, List, Option, Some, None, Result, Ok, Err, IfErr, map, take}
 use Rattle.std.specs.Io.KnownBytes.{Appends, Keeps}
 use Rattle.sdf_actor.specs.Nets.{Netlist}
 use Rattle.sdf_answer.specs.Answer.{AreOutputs, periods_of as firings}
 use Rattle.sdf_kit.specs.declared.kit.Kit.{Kit}
 use Rattle.sdf_kit.specs.Kit.{kit_steps}
-use Rattle.sdf_wav.specs.Sound.{Sound}
+use Rattle.sdf_wav.specs.Sound.{Sound, frames_of}
 use Rattle.sdf_wav.specs.Grammar.{IsWav}
 use Rattle.sdf_wav.specs.Fault.{HasFault}
 use Rattle.sdf_wav.specs.Device.{AppendsFront, Known, LosesFront, one_more}
-use Rattle.sdf_wav.specs.Canonical.{canonical_wav, write_fault, IsCanonical}
-use Rattle.sdf_process.specs.Output.{exchange_of, periods_of, input_lists, output_frames, output_of, output_fault}
+use Rattle.sdf_wav.specs.Canonical.{canonical_wav, sample_bytes, IsCanonical}
+use Rattle.sdf_process.specs.Output.{exchange_of, announced_fault, output_header, periods_of, lists_to, input_lists, interleaved, output_frames, output_of, output_fault}
+use Rattle.sdf_wav.specs.PiecesIn.{Reading, Opens, IsReadTo, IsEnded, sound_read, known_frames}
 use Rattle.sdf_wav.specs.declared.fault.FormatFault.{FormatFault}
+use Rattle.sdf_wav.specs.declared.fault.FormatFault.TheVariants.{Truncated}
+use Rattle.sdf_wav.specs.declared.format.Format.{Format}
+use Rattle.sdf_process.specs.declared.exchange.Announced.{Announced}
+use Rattle.sdf_process.specs.declared.exchange.Exchange.{Exchange}
 use Rattle.sdf_process.specs.declared.fault.Fault.{Fault}
 use Rattle.sdf_process.specs.declared.fault.Fault.TheVariants.{OutOfMemory, Wav, Read, Write, ChannelsMissing, RateNotWhole}
 
@@ -27,12 +32,6 @@ abbrev pub BeginWithOutput : Netlist Kit ℤ → List ℕ → Sound → List (Li
 BeginWithOutput n q s lists =
     AreOutputs kit_steps n (input_lists (exchange_of n q) s) (firings q (periods_of (exchange_of n q) s)) (map (take (output_frames (exchange_of n q) s)) lists)
 
--- what a net makes of a sound that has an output: it, and there is a file of it
-pub record IsRendered (n : Netlist Kit ℤ) (q : List ℕ) (s out : Sound) : Type 0 where
-  pub is_allowed : output_fault (exchange_of n q) s ≡ None
-  pub is_output : IsOutput n q s out
-  pub fits : write_fault out ≡ None
-
 -- a WAV file stood in the input, and there is an output of it
 pub record HasOutput (n : Netlist Kit ℤ) (q : List ℕ) (input : List ℕ) (out : Sound) : Type 0 where
   pub sound : Sound
@@ -41,31 +40,86 @@ pub record HasOutput (n : Netlist Kit ℤ) (q : List ℕ) (input : List ℕ) (ou
   pub is_allowed : output_fault (exchange_of n q) sound ≡ None
   pub is_output : IsOutput n q sound out
 
--- a WAV file stood in the input, and there is no output of it
+-- What is announced of a content that was read as far as this: as many frames as the size of its data says, or, where that was not
+-- filled in, as many as there are once nothing of it is left.
+abbrev pub Announces : Reading → List ℤ → List ℕ → Announced → Type 0
+Announces r samples rest a =
+    (a.rate ≡ r.rate) × (a.channels ≡ r.channels)
+    × ((known_frames r ≡ Some a.frames) ⊎ ((known_frames r ≡ None) × IsEnded r rest × (a.frames ≡ frames_of (sound_read r samples))))
+
+-- a size of data that was filled in announces so many frames
+abbrev pub announced_size : Format → ℕ → Announced
+announced_size f size = record { rate = f.rate; channels = f.channels; frames = size / (2 * f.channels) }
+
+-- the size of the data of an input was never filled in, if it opens
+abbrev pub IsUnsized : List ℕ → Type 0
+IsUnsized input = (f : Format) (size : ℕ) (rest : List ℕ) → Opens input f size rest → size ≡ 0xFFFFFFFF
+
+-- of what the size of the data announces there is an output, if the input opens and the size was filled in
+abbrev pub IsAllowed : Exchange → List ℕ → Type 0
+IsAllowed x input = (f : Format) (size : ℕ) (rest : List ℕ) → Opens input f size rest → size ≢ 0xFFFFFFFF → announced_fault x (announced_size f size) ≡ None
+
+-- of what the input announces there is no output
 pub record HasOutputFault (n : Netlist Kit ℤ) (q : List ℕ) (input : List ℕ) (f : Fault) : Type 0 where
-  pub sound : Sound
+  pub reading : Reading
+  pub samples : List ℤ
   pub rest : List ℕ
-  pub is_wav : IsWav input sound rest
-  pub fault : output_fault (exchange_of n q) sound ≡ Some f
+  pub announced : Announced
+  pub read : IsReadTo input reading samples rest
+  pub announces : Announces reading samples rest announced
+  pub fault : announced_fault (exchange_of n q) announced ≡ Some f
 
--- the input is no WAV file by this fault, or one that there is no output of
-abbrev pub HasRunFault : Netlist Kit ℤ → List ℕ → List ℕ → Fault → Type 0
-HasRunFault n q input f = ((g : FormatFault) × (f ≡ Wav g) × HasFault input g) ⊎ HasOutputFault n q input f
+-- so many whole periods were read of a content, the last one filled up with zeros once nothing is left
+abbrev pub AreRead : Exchange → Reading → List ℤ → List ℕ → ℕ → Type 0
+AreRead x r samples rest periods =
+    (periods * x.taken ≤ frames_of (sound_read r samples)) ⊎ (IsEnded r rest × (periods ≤ periods_of x (sound_read r samples)))
 
--- why a net makes nothing of a sound
-abbrev pub IsRenderFault : Netlist Kit ℤ → List ℕ → Sound → Fault → Type 0
-IsRenderFault n q s f = (f ≡ OutOfMemory) ⊎ (output_fault (exchange_of n q) s ≡ Some f)
+-- the bytes of the frames that a net makes in the first periods of a sound: none, or those of the lists that reach the sinks
+abbrev pub AreFrames : Netlist Kit ℤ → List ℕ → Sound → ℕ → List ℕ → Type 0
+AreFrames n q s periods bytes =
+    ((periods ≡ 0) × (bytes ≡ []))
+    ⊎ ((lists : List (List ℤ)) × AreOutputs kit_steps n (lists_to periods (exchange_of n q) s) (firings q periods) lists
+    × (bytes ≡ sample_bytes (interleaved (periods * (exchange_of n q).made) lists)))
+
+-- What a run may have written of an input by now: the header of the output, which what is announced says, and behind it the frames
+-- of whole periods that were read.
+pub record IsText (n : Netlist Kit ℤ) (q : List ℕ) (input text : List ℕ) : Type 0 where
+  pub reading : Reading
+  pub samples : List ℤ
+  pub rest : List ℕ
+  pub announced : Announced
+  pub periods : ℕ
+  pub frames : List ℕ
+  pub read : IsReadTo input reading samples rest
+  pub announces : Announces reading samples rest announced
+  pub is_allowed : announced_fault (exchange_of n q) announced ≡ None
+  pub are_read : AreRead (exchange_of n q) reading samples rest periods
+  pub are_frames : AreFrames n q (sound_read reading samples) periods frames
+  pub text_is : text ≡ output_header (exchange_of n q) announced ++ frames
+
+-- such a text was written whole, or a front of one
+abbrev pub WritesText : Netlist Kit ℤ → List ℕ → List ℕ → Option (List ℕ) → Option (List ℕ) → Type 0
+WritesText n q input before after = (text : List ℕ) × IsText n q input text × Appends before after text
+
+abbrev pub WritesFront : Netlist Kit ℤ → List ℕ → List ℕ → Option (List ℕ) → Option (List ℕ) → Type 0
+WritesFront n q input before after = (text : List ℕ) × IsText n q input text × AppendsFront before after text
 
 abbrev pub WhereKnown : Option (List ℕ) → (List ℕ → Type 0) → Type 0
 WhereKnown bytes P = (input : List ℕ) → bytes ≡ Some input → P input
 
--- What a run's answer says of the input, and of what was written of the output's canonical file.
+-- What a run's answer says of the input, and of what was written. On Ok that is the output's canonical file. A fault of the input before its
+-- content, or anywhere where the size of its data was never filled in, and a fault of the output leave nothing written; a content
+-- that is cut off leaves a text whole, the writer's failure a front of one, and memory and the reader nothing or a text.
 abbrev pub Runs : Netlist Kit ℤ → List ℕ → List ℕ → Option (List ℕ) → Option (List ℕ) → Result (Unit {0}) Fault → Type 0
 Runs n q input before after (Ok x) = (out : Sound) × HasOutput n q input out × Appends before after (canonical_wav out)
-Runs n q input before after (Err Write) = (out : Sound) × HasOutput n q input out × AppendsFront before after (canonical_wav out)
-Runs n q input before after (Err OutOfMemory) = Unit {0}
-Runs n q input before after (Err Read) = Unit {0}
-Runs n q input before after (Err f) = HasRunFault n q input f
+Runs n q input before after (Err Write) = WritesFront n q input before after
+Runs n q input before after (Err OutOfMemory) = Keeps before after ⊎ WritesText n q input before after
+Runs n q input before after (Err Read) = Keeps before after ⊎ WritesText n q input before after
+Runs n q input before after (Err (Wav f)) =
+    (HasFault input f × IsUnsized input × Keeps before after)
+    ⊎ ((HasOutputFault n q input (Wav f) × Keeps before after)
+    ⊎ (HasFault input f × WritesText n q input before after))
+Runs n q input before after (Err f) = HasOutputFault n q input f × Keeps before after
 
 -- the faults that a run answers: 1, 34 to 46, 47, 48, 59 and 60
 abbrev pub IsProcessFault : Fault → Type 0
@@ -81,23 +135,41 @@ IsProcessFault f = ⊥
 abbrev pub ReadsFile : List ℕ → List ℕ → Type 0
 ReadsFile input left = (s : Sound) × IsWav input s left
 
--- the input has this fault and lost a front, or it is a WAV file and the fault is of its output
-abbrev pub IsRefused : FormatFault → List ℕ → List ℕ → Type 0
-IsRefused f input left = (HasFault input f × LosesFront input left) ⊎ ReadsFile input left
+-- the input was read as far as some frames of its content, and exactly what stands behind these is left
+abbrev pub ReadsInto : List ℕ → List ℕ → Type 0
+ReadsInto input left = (r : Reading) × (samples : List ℤ) × IsReadTo input r samples left
 
--- What is left in the reader: what stands behind the WAV file, once it is known to be one, or else the input without some front.
+-- the input was read as far as it takes to know its frames: not into its content, where the size of the data was filled in, and else to its end
+abbrev pub ReadsAnnounced : List ℕ → List ℕ → Type 0
+ReadsAnnounced input left =
+    (r : Reading) × (samples : List ℤ) × IsReadTo input r samples left × ((r.size ≢ 0xFFFFFFFF → r.gone ≡ 0) × (r.size ≡ 0xFFFFFFFF → left ≡ []))
+
+-- the input has this fault and lost a front, or the fault is of its output
+abbrev pub IsRefused : FormatFault → List ℕ → List ℕ → Type 0
+IsRefused f input left = (HasFault input f × LosesFront input left) ⊎ ReadsAnnounced input left
+
+-- What is left in the reader: what stands behind the WAV file, once it is known to be one; behind what was read of it, where the writer
+-- failed; the content, where there is no output of as many frames as the size of the data says; or else the input without some front.
 abbrev pub Leaves : {X : Type 0} → Option (List ℕ) → Option (List ℕ) → Result X Fault → Type 0
 Leaves old new (Ok x) = Known old new ReadsFile
-Leaves old new (Err Write) = Known old new ReadsFile
-Leaves old new (Err ChannelsMissing) = Known old new ReadsFile
-Leaves old new (Err RateNotWhole) = Known old new ReadsFile
+Leaves old new (Err Write) = Known old new ReadsInto
+Leaves old new (Err ChannelsMissing) = Known old new ReadsAnnounced
+Leaves old new (Err RateNotWhole) = Known old new ReadsAnnounced
 Leaves old new (Err (Wav f)) = Known old new (IsRefused f)
 Leaves old new (Err f) = Known old new LosesFront
 
--- What was written, whatever the reader tells: one canonical file, a front of one where the writer failed, and else nothing.
+-- nothing was written, or a front of one canonical file
+abbrev pub WritesSome : Option (List ℕ) → Option (List ℕ) → Type 0
+WritesSome old new = Keeps old new ⊎ ((file : List ℕ) × IsCanonical file × AppendsFront old new file)
+
+-- What was written, whatever the reader tells: one canonical file, a front of one where the writer failed, nothing or a front where memory or the
+-- reader failed or the content is cut off, and else nothing.
 abbrev pub WritesFile : {X : Type 0} → Option (List ℕ) → Option (List ℕ) → Result X Fault → Type 0
 WritesFile old new (Ok x) = (file : List ℕ) × IsCanonical file × Appends old new file
 WritesFile old new (Err Write) = (file : List ℕ) × IsCanonical file × AppendsFront old new file
+WritesFile old new (Err OutOfMemory) = WritesSome old new
+WritesFile old new (Err Read) = WritesSome old new
+WritesFile old new (Err (Wav Truncated)) = WritesSome old new
 WritesFile old new (Err f) = Keeps old new
 
 -- how often the reader has failed: once more where it is blamed, and else never
@@ -128,3 +200,12 @@ Refuses None (Ok x) = Unit {0}
 Refuses None (Err e) = IsFromOutside e
 Refuses (Some f) (Ok x) = ⊥
 Refuses (Some f) (Err e) = (e ≡ f) ⊎ IsFromOutside e
+
+-- All that a run's answer says: what is answered is so; what is so is answered, unless memory or a device failed; and the devices.
+pub record IsRun (n : Netlist Kit ℤ) (q : List ℕ) (read left before after : Option (List ℕ)) (r r' w w' : ℕ) (result : Result (Unit {0}) Fault) : Type 0 where
+  pub runs : WhereKnown read (λ input. Runs n q input before after result)
+  pub accepts : (input : List ℕ) (s : Sound) (rest : List ℕ) → read ≡ Some input → IsWav input s rest → Refuses (output_fault (exchange_of n q) s) result
+  pub foresees : (input : List ℕ) (f : Format) (size : ℕ) (rest : List ℕ) (e : Fault) → read ≡ Some input → Opens input f size rest → size ≢ 0xFFFFFFFF →
+      announced_fault (exchange_of n q) (announced_size f size) ≡ Some e → Refuses (Some e) result
+  pub refuses : (input : List ℕ) (f : FormatFault) → read ≡ Some input → HasFault input f → IsAllowed (exchange_of n q) input → Refuses (Some (Wav f)) result
+  pub devices : Handles read left before after r r' w w' result

@@ -1,6 +1,6 @@
 //! What a net exchanges with WAV files: channels and samples of a period, and what they make of a file's rate and size.
 
-ghost use Rattle.std.specs.Prelude.{◌≡◌, ◌≤◌, ◌<◌, ◌+◌, ◌*◌, ◌/◌, length, nat_lt, MatchResult, IfOk, Some, None};
+ghost use Rattle.std.specs.Prelude.{◌≡◌, ◌≤◌, ◌<◌, ◌+◌, ◌*◌, ◌/◌, length, nat_lt, MatchResult, IfOk, Some};
 ghost use Rattle.sdf_graph.specs.Rates.{rates};
 ghost use Rattle.sdf_actor.specs.declared.sides.Lists.TheVariants.{Inputs, Outputs};
 ghost use Rattle.sdf_actor.specs.Graphs.{graph_of};
@@ -8,12 +8,10 @@ ghost use Rattle.sdf_actor.specs.Sides.{list_count};
 ghost use Rattle.sdf_actor.specs.Wires.{lists as items_of};
 ghost use Rattle.sdf_kit.specs.Kit.{kit_steps};
 ghost use Rattle.sdf_sched.specs.Period.{IsPeriodOf};
-ghost use Rattle.sdf_wav.specs.Canonical.{write_fault};
-ghost use Rattle.sdf_process.specs.Output.{exchange_of, periods_of, output_rate, output_fault, lists_to, output_of, IsExchange, IsExtent};
-ghost use Rattle.sdf_process.specs.declared.fault.Fault.TheVariants.{OutOfMemory};
+ghost use Rattle.sdf_process.specs.Output.{exchange_of, announced_by, announced_fault, periods_for, rate_for, lists_to, IsExchange, IsExtent};
 
 use crate::fault::Fault;
-use crate::samples::{channel_lists, interleave};
+use crate::samples::channel_lists;
 use sdf_actor::Net;
 use sdf_kit::Kit;
 use sdf_sched::Period;
@@ -42,6 +40,27 @@ pub(crate) fn blocks_for(periods: u32, blocking: u32) -> u32
     periods.div_ceil(blocking)
 }
 
+/// What is known of a sound before its samples are.
+#[derive(Clone, Copy)]
+pub(crate) struct Announced {
+    pub(crate) rate: u32,
+    pub(crate) channels: u16,
+    pub(crate) frames: usize,
+}
+
+impl Announced {
+    /// That of a sound.
+    pub(crate) fn by(input: &Wav) -> Announced
+        ensures { result ≡ announced_by input.now }
+    {
+        Announced {
+            rate: input.rate(),
+            channels: input.channels(),
+            frames: input.frames(),
+        }
+    }
+}
+
 /// The rate of an output, and its length in periods.
 #[derive(Clone, Copy)]
 pub(crate) struct Extent {
@@ -68,12 +87,12 @@ impl Exchange {
         }
     }
 
-    /// How many periods take all frames of a sound.
-    fn periods(self, input: &Wav) -> usize
+    /// How many periods take so many frames.
+    fn periods(self, frames: usize) -> usize
         requires { IsExchange self }
-        ensures { result ≡ periods_of self input.now }
+        ensures { result ≡ periods_for self frames }
     {
-        input.frames().div_ceil(self.taken)
+        frames.div_ceil(self.taken)
     }
 
     /// Whether the data of so many periods would pass 4,294,967,259 bytes.
@@ -85,14 +104,15 @@ impl Exchange {
     }
 
     /// The rate and the length of the output, where there can be one.
-    pub(crate) fn extent(self, input: &Wav) -> Result<Extent, Fault>
-        requires { IsExchange self }
-        ensures { MatchResult result (IsExtent self input.now) (λ e. output_fault self input.now ≡ Some e) }
+    pub(crate) fn extent(self, announced: Announced) -> Result<Extent, Fault>
+        requires limits { IsExchange self }
+        requires rate { 1 ≤ announced.rate }
+        ensures { MatchResult result (IsExtent self announced) (λ e. announced_fault self announced ≡ Some e) }
     {
-        if usize::from(input.channels()) < self.inputs {
+        if usize::from(announced.channels) < self.inputs {
             return Err(Fault::ChannelsMissing);
         }
-        let made = u64::from(input.rate()) * self.made as u64;
+        let made = u64::from(announced.rate) * self.made as u64;
         let taken = self.taken as u64;
         if !made.is_multiple_of(taken) {
             return Err(Fault::RateNotWhole);
@@ -101,7 +121,7 @@ impl Exchange {
         if rate * (2 * self.outputs as u64) > 4_294_967_295 {
             return Err(Fault::Wav(FormatFault::RateTooLarge));
         }
-        let periods = self.periods(input);
+        let periods = self.periods(announced.frames);
         if self.is_too_long(periods) {
             return Err(Fault::Wav(FormatFault::TooLong));
         }
@@ -122,25 +142,5 @@ impl Exchange {
         ensures { IfOk result (λ all. items_of all.items ≡ lists_to periods self input.now) }
     {
         channel_lists(alloc, input, periods as usize * self.taken, self.inputs)
-    }
-
-    /// The sound of the output lists of an extent.
-    pub(crate) fn output_of(
-        self,
-        alloc: Global,
-        input: &Wav,
-        extent: Extent,
-        lists: &[Vec<i32>],
-    ) -> Result<Wav, Fault>
-        requires limits { IsExchange self }
-        requires extent { IsExtent self input.now extent }
-        requires lists { length lists.now ≡ self.outputs }
-        ensures { MatchResult result
-            (λ out. (out ≡ output_of self input.now (items_of lists.now)) × (write_fault out ≡ None))
-            (λ e. e ≡ OutOfMemory) }
-    {
-        let _ = input;
-        let samples = interleave(alloc, lists, extent.periods as usize * self.made)?;
-        Ok(Wav::new(extent.rate, self.outputs as u16, samples)?)
     }
 }

@@ -8,11 +8,13 @@
 
 mod exchange;
 mod fault;
+mod hearing;
 pub mod laws;
 mod placement;
 mod plan;
 pub mod planning;
 pub mod process;
+mod putting;
 mod samples;
 pub mod schedule;
 

@@ -1,6 +1,6 @@
 //! From a WAV file to a WAV file.
 
-ghost use Rattle.std.specs.Prelude.{◌≡◌, ◌*◌, ◌≤◌, ℕ, List, Some, IfErr, MatchResult};
+ghost use Rattle.std.specs.Prelude.{◌≡◌, ◌≢◌, ◌*◌, ◌≤◌, ℕ, List, Some, IfErr, MatchResult, false};
 ghost use Rattle.sdf_actor.specs.declared.sides.Lists.TheVariants.{Inputs, Outputs};
 ghost use Rattle.sdf_actor.specs.Wires.{lists as items_of};
 ghost use Rattle.sdf_actor.specs.Sides.{list_count};
@@ -9,22 +9,27 @@ ghost use Rattle.sdf_kit.specs.Kit.{kit_steps};
 ghost use Rattle.sdf_wav.specs.Sound.{Sound};
 ghost use Rattle.sdf_wav.specs.Grammar.{IsWav};
 ghost use Rattle.sdf_wav.specs.Fault.{HasFault};
+ghost use Rattle.sdf_wav.specs.PiecesIn.{Opens};
 ghost use Rattle.sdf_wav.specs.declared.fault.FormatFault.{FormatFault};
+ghost use Rattle.sdf_wav.specs.declared.format.Format.{Format};
 ghost use Rattle.sdf_process.specs.declared.fault.Fault.TheVariants.{OutOfMemory};
-ghost use Rattle.sdf_process.specs.Output.{exchange_of, periods_of, output_fault};
+ghost use Rattle.sdf_process.specs.Output.{announced_by, announced_fault, exchange_of, output_frames, output_fault, periods_of, IsExtent};
 ghost use Rattle.sdf_process.specs.Plans.{Suits};
-ghost use Rattle.sdf_process.specs.Run.{BeginWithOutput, IsRendered, IsRenderFault, WhereKnown, Runs, Refuses, IsProcessFault, Leaves, WritesFile, reader_failures, writer_failures, Handles};
+ghost use Rattle.sdf_process.specs.Run.{announced_size, BeginWithOutput, IsAllowed, IsRun, WhereKnown, Runs, Refuses, IsProcessFault, Leaves, WritesFile, reader_failures, writer_failures};
+ghost use Rattle.sdf_process.specs.Stages.{PutsOutput};
 
 use crate::exchange::{Exchange, blocks_for};
 use crate::fault::Fault;
+use crate::hearing::{Heard, hear, wav_laws};
 use crate::plan::Plan;
+use crate::putting::put_frames;
 use sdf_actor::Net;
 use sdf_file::Design;
 use sdf_kit::Kit;
 use sdf_prec::Table;
 use sdf_run::laws::{nets_have_periods, runs_go_on};
 use sdf_run::{Gate, NoGate, Ran, RunFault, run_one, run_rings, run_rows};
-use sdf_wav::{MOST_CHANNELS, Reader, Wav, Writer, read_wav, write_wav};
+use sdf_wav::{MOST_CHANNELS, Reader, Wav, Writer};
 use sdf_words::Runner;
 use std::thread::Threads;
 
@@ -91,30 +96,40 @@ fn lists_of<T: Threads + AllocGlobal + Sync, G: Gate>(
     }
 }
 
-/// What a net makes of a sound.
-fn render<T: Threads + AllocGlobal + Sync, G: Gate>(
+/// Runs a net on a sound that was heard, and writes the frames of its output.
+fn finish<T: Threads + AllocGlobal + Sync, W: Writer, G: Gate>(
     rt: &T,
+    writer: &mut W,
     net: &Net<Kit>,
     plan: &Plan,
     gate: &G,
-    input: &Wav,
-) -> Result<Wav, Fault>
+    heard: Heard,
+) -> Result<(), Fault>
     requires plan { Suits net.now plan.now }
     requires inputs { list_count Inputs net.now.nodes ≤ MOST_CHANNELS }
     requires outputs { list_count Outputs net.now.nodes ≤ MOST_CHANNELS }
-    ensures { MatchResult result (IsRendered net.now plan.now.period.repetitions input.now) (IsRenderFault net.now plan.now.period.repetitions input.now) }
+    requires extent { IsExtent (exchange_of net.now plan.now.period.repetitions) (announced_by heard.input) heard.extent }
+    requires owed { let x = exchange_of net.now plan.now.period.repetitions in heard.output ≡ record { channels = x.outputs; missing = output_frames x heard.input; spent = false } }
+    ensures { PutsOutput net.now plan.now.period.repetitions heard.input (W.contents writer.old) (W.contents writer.new) (W.failures writer.old) (W.failures writer.new) result }
 {
+    let Heard {
+        input,
+        extent,
+        mut output,
+    } = heard;
     let exchange = Exchange::of_net(net, plan.period());
-    let extent = exchange.extent(input)?;
-    let lists = lists_of(rt, net, plan, gate, input, extent.periods)?;
-    exchange.output_of(rt.alloc(), input, extent, &lists)
+    let lists = lists_of(rt, net, plan, gate, &input, extent.periods)?;
+    let frames = extent.periods as usize * exchange.made;
+    put_frames(rt.alloc(), writer, &mut output, &lists, frames)
 }
 
 /// Reads a WAV file, runs a design on it by its plan, and writes the canonical WAV file of the output, of which there is only one
 /// (`laws::one_output`).
 ///
-/// The tests in order: those of the input file (34 to 45), then 59 ChannelsMissing, 60 RateNotWhole, 46 RateTooLarge and
-/// 45 TooLong of the output. Memory (1) and the devices (47, 48) may fail at any place. Nothing is written before all tests.
+/// The tests in order: those of the input file before its content (34 to 45), then 59 ChannelsMissing, 60 RateNotWhole, 46 RateTooLarge and
+/// 45 TooLong of the output, as long as the size of the data says; then the header of the output is written, and the content
+/// read (43). Where that size is not filled in, the content comes first (45, 44), then the tests of the output and its header.
+/// Memory (1) and the devices (47, 48) may fail at any place.
 ///
 /// A runner with workers calls the gate before each firing; the runner on one thread calls none.
 pub fn process_with<T: Threads + AllocGlobal + Sync, R: Reader, W: Writer, G: Gate>(
@@ -133,15 +148,19 @@ pub fn process_with<T: Threads + AllocGlobal + Sync, R: Reader, W: Writer, G: Ga
     // What is so is answered, unless memory or a device failed.
     ensures accepts { (input : List ℕ) (s : Sound) (rest : List ℕ) → R.remaining reader.old ≡ Some input → IsWav input s rest →
         Refuses (output_fault (exchange_of design.now.net plan.now.period.repetitions) s) result }
-    ensures refuses { (input : List ℕ) (f : FormatFault) → R.remaining reader.old ≡ Some input → HasFault input f → Refuses (Some (Fault.Wav f)) result }
+    // The output's fault comes first where the size of the data says how long it would be, and else a fault of the input.
+    ensures foresees { (input : List ℕ) (f : Format) (size : ℕ) (rest : List ℕ) (e : Fault) → R.remaining reader.old ≡ Some input → Opens input f size rest → size ≢ 0xFFFFFFFF →
+        announced_fault (exchange_of design.now.net plan.now.period.repetitions) (announced_size f size) ≡ Some e → Refuses (Some e) result }
+    ensures refuses { (input : List ℕ) (f : FormatFault) → R.remaining reader.old ≡ Some input → HasFault input f →
+        IsAllowed (exchange_of design.now.net plan.now.period.repetitions) input → Refuses (Some (Fault.Wav f)) result }
 
     // Whatever is known of the bytes, no other fault comes.
     ensures faults { IfErr result IsProcessFault }
 
-    // Nothing behind the samples is read.
+    // Nothing behind the samples is read, and no sample before all tests that come before them.
     ensures leaves { Leaves (R.remaining reader.old) (R.remaining reader.new) result }
 
-    // Whatever the reader tells, one canonical file is written, or a front of one where the writer failed, or nothing.
+    // Whatever the reader tells, one canonical file is written, or a front of one where the run stopped behind its header, or nothing.
     ensures writes { WritesFile (W.contents writer.old) (W.contents writer.new) result }
 
     // A device is blamed exactly where it failed in this call, and after its first failure it is not called again.
@@ -167,15 +186,19 @@ pub fn process<T: Threads + AllocGlobal + Sync, R: Reader, W: Writer>(
     // What is so is answered, unless memory or a device failed.
     ensures accepts { (input : List ℕ) (s : Sound) (rest : List ℕ) → R.remaining reader.old ≡ Some input → IsWav input s rest →
         Refuses (output_fault (exchange_of design.now.net plan.now.period.repetitions) s) result }
-    ensures refuses { (input : List ℕ) (f : FormatFault) → R.remaining reader.old ≡ Some input → HasFault input f → Refuses (Some (Fault.Wav f)) result }
+    // The output's fault comes first where the size of the data says how long it would be, and else a fault of the input.
+    ensures foresees { (input : List ℕ) (f : Format) (size : ℕ) (rest : List ℕ) (e : Fault) → R.remaining reader.old ≡ Some input → Opens input f size rest → size ≢ 0xFFFFFFFF →
+        announced_fault (exchange_of design.now.net plan.now.period.repetitions) (announced_size f size) ≡ Some e → Refuses (Some e) result }
+    ensures refuses { (input : List ℕ) (f : FormatFault) → R.remaining reader.old ≡ Some input → HasFault input f →
+        IsAllowed (exchange_of design.now.net plan.now.period.repetitions) input → Refuses (Some (Fault.Wav f)) result }
 
     // Whatever is known of the bytes, no other fault comes.
     ensures faults { IfErr result IsProcessFault }
 
-    // Nothing behind the samples is read.
+    // Nothing behind the samples is read, and no sample before all tests that come before them.
     ensures leaves { Leaves (R.remaining reader.old) (R.remaining reader.new) result }
 
-    // Whatever the reader tells, one canonical file is written, or a front of one where the writer failed, or nothing.
+    // Whatever the reader tells, one canonical file is written, or a front of one where the run stopped behind its header, or nothing.
     ensures writes { WritesFile (W.contents writer.old) (W.contents writer.new) result }
 
     // A device is blamed exactly where it failed in this call, and after its first failure it is not called again.
@@ -197,15 +220,11 @@ fn run_net<T: Threads + AllocGlobal + Sync, R: Reader, W: Writer, G: Gate>(
     requires plan { Suits net.now plan.now }
     requires inputs { list_count Inputs net.now.nodes ≤ MOST_CHANNELS }
     requires outputs { list_count Outputs net.now.nodes ≤ MOST_CHANNELS }
-    ensures runs { WhereKnown (R.remaining reader.old) (λ input. Runs net.now plan.now.period.repetitions input (W.contents writer.old) (W.contents writer.new) result) }
-    ensures accepts { (input : List ℕ) (s : Sound) (rest : List ℕ) → R.remaining reader.old ≡ Some input → IsWav input s rest →
-        Refuses (output_fault (exchange_of net.now plan.now.period.repetitions) s) result }
-    ensures refuses { (input : List ℕ) (f : FormatFault) → R.remaining reader.old ≡ Some input → HasFault input f → Refuses (Some (Fault.Wav f)) result }
-    ensures devices { Handles (R.remaining reader.old) (R.remaining reader.new) (W.contents writer.old) (W.contents writer.new)
+    ensures { IsRun net.now plan.now.period.repetitions (R.remaining reader.old) (R.remaining reader.new) (W.contents writer.old) (W.contents writer.new)
         (R.failures reader.old) (R.failures reader.new) (W.failures writer.old) (W.failures writer.new) result }
 {
-    let input = read_wav(rt.alloc(), reader)?;
-    let output = render(rt, net, plan, gate, &input)?;
-    write_wav(writer, &output)?;
-    Ok(())
+    wav_laws();
+    let _ = Exchange::of_net(net, plan.period());
+    let heard = hear(rt.alloc(), reader, writer, net, plan)?;
+    finish(rt, writer, net, plan, gate, heard)
 }

@@ -1,10 +1,10 @@
 //! Samples between a sound and the lists of a net.
 
-ghost use Rattle.std.specs.Prelude.{◌≡◌, ◌*◌, ◌+◌, ◌++◌, ◌≤◌, ◌<◌, ◌^◌, length, map, IfOk, vec_capacity, vec_len, slice_index_or, pos};
+ghost use Rattle.std.specs.Prelude.{◌≡◌, ◌*◌, ◌-◌, ◌+◌, ◌++◌, ◌≤◌, ◌<◌, ◌^◌, length, map, IfOk, vec_capacity, vec_len, slice_index_or, pos};
 ghost use Rattle.std.specs.Int.{saturate_signed, w16};
 ghost use Rattle.std.specs.List.{range_with_len};
 ghost use Rattle.sdf_actor.specs.Wires.{lists as items_of};
-ghost use Rattle.sdf_process.specs.Output.{sample, channel_samples, frame, interleaved};
+ghost use Rattle.sdf_process.specs.Output.{sample, channel_samples, frame, interleaved_from};
 
 use sdf_wav::Wav;
 use std::alloc::{AllocError, Global};
@@ -78,18 +78,15 @@ fn push_frame(lists: &[Vec<i32>], at: usize, samples: &mut Vec<i16>)
     }
 }
 
-/// The frames of the lists, one after the other, each sample clamped to 16 bits.
-pub(crate) fn interleave(
-    alloc: Global,
-    lists: &[Vec<i32>],
-    frames: usize,
-) -> Result<Vec<i16>, AllocError>
-    requires { frames * length lists.now < 2 ^ 32 }
-    ensures { IfOk result (λ samples. samples.items ≡ interleaved frames (items_of lists.now)) }
+/// Appends some frames of the lists, one after the other, each sample clamped to 16 bits.
+pub(crate) fn push_frames(lists: &[Vec<i32>], from: usize, to: usize, samples: &mut Vec<i16>)
+    requires order { from ≤ to }
+    requires room { vec_len samples.old + (to - from) * length lists.now ≤ vec_capacity samples.old }
+    ensures appended { samples.new.items ≡ samples.old.items ++ interleaved_from from (to - from) (items_of lists.now) }
+    ensures count { vec_len samples.new ≡ vec_len samples.old + (to - from) * length lists.now }
+    ensures capacity { vec_capacity samples.new ≡ vec_capacity samples.old }
 {
-    let mut samples = Vec::with_capacity(alloc, frames * lists.len())?;
-    for at in 0..frames {
-        push_frame(lists, at, &mut samples);
+    for at in from..to {
+        push_frame(lists, at, samples);
     }
-    Ok(samples)
 }

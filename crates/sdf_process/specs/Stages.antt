@@ -1,0 +1,94 @@
+-- The stages of a run: what each of them says of the devices.
+use Rattle.std.specs.Prelude.{◌≡◌, ◌≢◌, ◌⊎◌, ℕ, ◌+◌, ◌*◌, ◌%◌, ◌^◌, ◌<◌, ◌≤◌, ℤ, List, [], ◌++◌, length, Option, Some, None, Result, Ok, Err, false}
+use Rattle.std.specs.Io.KnownBytes.{Appends, Keeps}
+use Rattle.sdf_actor.specs.Nets.{Netlist}
+use Rattle.sdf_answer.specs.Answer.{AreOutputs, periods_of as firings}
+use Rattle.sdf_kit.specs.declared.kit.Kit.{Kit}
+use Rattle.sdf_kit.specs.Kit.{kit_steps}
+use Rattle.sdf_wav.specs.Canonical.{sample_bytes, canonical_wav, write_fault, IsCanonical}
+use Rattle.sdf_wav.specs.Device.{AppendsFront, Known, LosesFront, one_more}
+use Rattle.sdf_wav.specs.Grammar.{IsWav}
+use Rattle.sdf_wav.specs.Fault.{HasFault}
+use Rattle.sdf_wav.specs.PiecesIn.{Reading, OpensAs, IsReadTo, IsEnded, sound_read}
+use Rattle.sdf_wav.specs.PiecesOut.{Owed}
+use Rattle.sdf_wav.specs.Sound.{Sound}
+use Rattle.sdf_wav.specs.declared.fault.FormatFault.{FormatFault}
+use Rattle.sdf_wav.specs.declared.fault.FormatFault.TheVariants.{Truncated}
+use Rattle.sdf_wav.specs.declared.wav.TheConstants.{MOST_CHANNELS}
+use Rattle.sdf_process.specs.declared.exchange.Exchange.{Exchange}
+use Rattle.sdf_process.specs.declared.exchange.Extent.{Extent}
+use Rattle.sdf_process.specs.declared.fault.Fault.{Fault}
+use Rattle.sdf_process.specs.declared.fault.Fault.TheVariants.{OutOfMemory, Wav, Read, Write}
+use Rattle.sdf_process.specs.Output.{announced_by, exchange_of, input_lists, interleaved, output_frames, output_header, periods_of, IsExtent}
+use Rattle.sdf_process.specs.Run.{Announces, AreFrames, IsAllowed}
+
+-- What a call did that is to write these bytes: all of them, or a front where the writer failed.
+abbrev pub PutsHeader : {X : Type 0} → Option (List ℕ) → Option (List ℕ) → ℕ → ℕ → List ℕ → Result X Fault → Type 0
+PutsHeader before after w w' bytes (Ok x) = Appends before after bytes × (w' ≡ w)
+PutsHeader before after w w' bytes (Err f) = (f ≡ Write) × AppendsFront before after bytes × (w' ≡ one_more w)
+
+-- the same, where memory may be refused before
+abbrev pub PutsFrames : {X : Type 0} → Option (List ℕ) → Option (List ℕ) → ℕ → ℕ → List ℕ → Result X Fault → Type 0
+PutsFrames before after w w' bytes (Ok x) = Appends before after bytes × (w' ≡ w)
+PutsFrames before after w w' bytes (Err f) =
+    ((f ≡ Write) × AppendsFront before after bytes × (w' ≡ one_more w)) ⊎ ((f ≡ OutOfMemory) × Keeps before after × (w' ≡ w))
+
+-- The frames of a net on a sound were written: all of them, or a front of those of some periods where the writer failed, or those
+-- of some periods where memory was refused.
+abbrev pub PutsOutput : Netlist Kit ℤ → List ℕ → Sound → Option (List ℕ) → Option (List ℕ) → ℕ → ℕ → Result (Unit {0}) Fault → Type 0
+PutsOutput n q s before after w w' (Ok x) =
+    (lists : List (List ℤ)) × AreOutputs kit_steps n (input_lists (exchange_of n q) s) (firings q (periods_of (exchange_of n q) s)) lists
+    × Appends before after (sample_bytes (interleaved (output_frames (exchange_of n q) s) lists)) × (w' ≡ w)
+PutsOutput n q s before after w w' (Err f) =
+    (periods : ℕ) × (frames : List ℕ) × (periods ≤ periods_of (exchange_of n q) s) × AreFrames n q s periods frames
+    × (((f ≡ Write) × AppendsFront before after frames × (w' ≡ one_more w)) ⊎ ((f ≡ OutOfMemory) × Appends before after frames × (w' ≡ w)))
+
+-- where the content c of an input was read from its start on, to its end, and this is its sound
+pub record IsHeardFrom (c : Reading) (input : List ℕ) (s : Sound) (left : List ℕ) : Type 0 where
+  pub read : IsReadTo input (record c { gone = c.gone + 2 * length s.samples }) s.samples left
+  pub ended : IsEnded (record c { gone = c.gone + 2 * length s.samples }) left
+
+-- what the reading of a whole content says of the bytes before it and behind it
+abbrev pub ReadsContent : Reading → Option (List ℕ) → Option (List ℕ) → ℕ → ℕ → Result Sound Fault → Type 0
+ReadsContent c old new r r' (Ok s) =
+    Known old new (λ bytes left. ((input : List ℕ) → IsReadTo input c [] bytes → IsHeardFrom c input s left) × LosesFront bytes left) × (r' ≡ r)
+    × (s.rate ≡ c.rate) × (s.channels ≡ c.channels) × (c.size ≢ 0xFFFFFFFF → 2 * length s.samples ≡ c.size)
+ReadsContent c old new r r' (Err f) =
+    ((f ≡ OutOfMemory) × Known old new LosesFront × (r' ≡ r))
+    ⊎ (((f ≡ Read) × Known old new LosesFront × (r' ≡ one_more r))
+    ⊎ ((g : FormatFault) × (f ≡ Wav g) × Known old new (λ bytes left. ((input : List ℕ) → IsReadTo input c [] bytes → HasFault input g) × LosesFront bytes left)
+    × (r' ≡ r) × (c.size ≢ 0xFFFFFFFF → g ≡ Truncated)))
+
+-- an input was read to the end of its content, this is its sound, and its frames are those that it announced
+pub record IsHeard (input : List ℕ) (s : Sound) (left : List ℕ) : Type 0 where
+  pub reading : Reading
+  pub read : IsReadTo input reading s.samples left
+  pub ended : IsEnded reading left
+  pub rate : s.rate ≡ reading.rate
+  pub channels : s.channels ≡ reading.channels
+  pub announces : Announces reading s.samples left (announced_by s)
+
+-- All that is known once a sound was heard and the header of its output is written: of an output of this rate and length nothing is
+-- there but the header.
+pub record Hears (x : Exchange) (read left before after : Option (List ℕ)) (r r' w w' : ℕ) (s : Sound) (e : Extent) (o : Owed) : Type 0 where
+  pub heard : Known read left (λ input rest. IsHeard input s rest × LosesFront input rest)
+  pub allowed : (input : List ℕ) → read ≡ Some input → IsAllowed x input
+  pub extent : IsExtent x (announced_by s) e
+  pub header : Appends before after (output_header x (announced_by s))
+  pub owed : o ≡ record { channels = x.outputs; missing = output_frames x s; spent = false }
+  pub reader : r' ≡ r
+  pub writer : w' ≡ w
+
+-- samples that are written in turn are written as one list
+abbrev pub SamplesJoin : Type 0
+SamplesJoin = (a b c : Option (List ℕ)) (x y : List ℤ) → Appends a b (sample_bytes x) → Appends b c (sample_bytes y) → Appends a c (sample_bytes (x ++ y))
+
+-- The laws of WAV files that a run stands on.
+pub record WavLaws : Type 0 where
+  pub announces : (input : List ℕ) (s : Sound) (rest : List ℕ) → IsWav input s rest → OpensAs input s
+  pub ends : (input : List ℕ) (r : Reading) (samples : List ℤ) (rest : List ℕ) → IsReadTo input r samples rest → IsEnded r rest → IsWav input (sound_read r samples) rest
+  pub one_sound : (bytes : List ℕ) (s t : Sound) (x y : List ℕ) → IsWav bytes s x → IsWav bytes t y → (s ≡ t) × (x ≡ y)
+  pub one_fault : (bytes : List ℕ) (f g : FormatFault) → HasFault bytes f → HasFault bytes g → f ≡ g
+  pub not_both : (bytes : List ℕ) (s : Sound) (x : List ℕ) (f : FormatFault) → IsWav bytes s x → HasFault bytes f → ⊥
+  pub joins : SamplesJoin
+  pub canonical : (s : Sound) → 1 ≤ s.rate → s.rate < 2 ^ 32 → 1 ≤ s.channels → s.channels ≤ MOST_CHANNELS → length s.samples % s.channels ≡ 0 → write_fault s ≡ None → IsCanonical (canonical_wav s)

@@ -1,0 +1,45 @@
+//! The samples of lists to a file whose header is written.
+
+ghost use Rattle.std.specs.Prelude.{◌≡◌, ◌-◌, ◌*◌, ◌≤◌, ◌<◌, ◌^◌, false, length, IfOk};
+ghost use Rattle.sdf_actor.specs.Wires.{lists as items_of};
+ghost use Rattle.sdf_wav.specs.Canonical.{sample_bytes};
+ghost use Rattle.sdf_process.specs.Output.{interleaved};
+ghost use Rattle.sdf_process.specs.Stages.{PutsFrames};
+
+use crate::fault::Fault;
+use crate::samples::push_frames;
+use sdf_wav::laws::puts_join;
+use sdf_wav::{ContentOut, Writer};
+use std::alloc::Global;
+
+/// Frames that are clamped at a time.
+const FRAMES: usize = 4096;
+
+/// Writes the first frames of the lists, each sample clamped to 16 bits. Memory is taken before the first byte.
+pub(crate) fn put_frames<W: Writer>(
+    alloc: Global,
+    writer: &mut W,
+    output: &mut ContentOut,
+    lists: &[Vec<i32>],
+    frames: usize,
+) -> Result<(), Fault>
+    requires unspent { output.old.spent ≡ false }
+    requires channels { output.old.channels ≡ length lists.now }
+    requires some { 1 ≤ output.old.channels }
+    requires missing { frames ≤ output.old.missing }
+    requires few { frames * length lists.now < 2 ^ 32 }
+    ensures puts { PutsFrames (W.contents writer.old) (W.contents writer.new) (W.failures writer.old) (W.failures writer.new) (sample_bytes (interleaved frames (items_of lists.now))) result }
+    ensures owed { IfOk result (λ x. output.new ≡ record output.old { missing = output.old.missing - frames }) }
+{
+    puts_join();
+    let mut piece = Vec::with_capacity(alloc, FRAMES.min(frames) * lists.len())?;
+    let mut at = 0;
+    while at < frames {
+        let end = at + FRAMES.min(frames - at);
+        piece.clear();
+        push_frames(lists, at, end, &mut piece);
+        output.put(writer, &piece)?;
+        at = end;
+    }
+    Ok(())
+}
