@@ -6,10 +6,10 @@ use Rattle.std.proofs.lemmas.List.Sums.{sum_by-cons}
 use Rattle.sdf_graph.specs.Sequences.{times}
 use Rattle.sdf_prec.specs.Next.{IsNext}
 
-abbrev bit : Bool → ℕ
+abbrev pub bit : Bool → ℕ
 bit t = cond t 1 0
 
-times_cons : (a : ℕ) (w : List ℕ) (b : ℕ) → times (a ∷ w) b ≡ cond (eqb a b) 1 0 + times w b
+pub times_cons : (a : ℕ) (w : List ℕ) (b : ℕ) → times (a ∷ w) b ≡ cond (eqb a b) 1 0 + times w b
 times_cons a w b = sum_by-cons (λ x. cond (eqb x b) 1 0) a w
 
 module _ (home : ℕ → ℕ) where

@@ -13,7 +13,7 @@ use Rattle.sdf_rings.specs.Places.{stand_at, IsUpdated, TakesAt, SameStand, Same
 use Rattle.sdf_rings.specs.Rests.{consumer_of, IsPlaced, AreRings, spot_of}
 use Rattle.sdf_rings.proofs.Collects.{AreGiven}
 use Rattle.sdf_rings.proofs.Placed.{one_node, ins_of}
-use Rattle.sdf_rings.proofs.Swaps.{ins_changed, ends_join, seat_join_same, same_place, ButEnds, in_vec}
+use Rattle.sdf_rings.proofs.Swaps.{ins_changed, ends_join, seat_join_same, same_place, ButEnds, in_vec, same_stand_of}
 use Rattle.sdf_rings.proofs.Tells.{some}
 
 module _ {A T S : Type 0} where
@@ -34,21 +34,11 @@ module _ {A T S : Type 0} where
         but_ends = record {
           all_same = (u2 e0 d0).len ∙ (u1 e0 d0).len;
           each_seat = λ j e. seat_join_same _ _ _ ((u1 e d0).seats j e) ((u2 e d0).seats j e);
-          each_stand = λ j l e d. let k = but j l e d in record {
-            actor_same = k.actor_is;
-            state_same = k.state_is;
-            takes_same = k.takes_is;
-            puts_same = k.puts_is;
-            taken_same = k.taken_is;
-            put_same = k.put_is;
-            done_same = k.done_is;
-            asked_same = k.asked_is;
-            ins_len_same = elim (same_place j l at.seat at.stand) as (λ _. vec_len (stand_at s2 j l e d).ins ≡ vec_len (stand_at s0 j l e d).ins) [
-              | inl h ↦ rw (h.0, h.1, z.ins_here e d) (ap (λ (v : Vec (Consumer T Global AnyItems) Global). vec_len v) (had e d))
-              | inr h ↦ ap (λ (v : Vec (Consumer T Global AnyItems) Global). vec_len v) (z.ins_other j l e d h ∙ a.ins_other j l e d h)
-            ];
-            outs_len_same = ap (λ (v : Vec _ Global). vec_len v) (z.outs_is j l e d ∙ a.outs_is j l e d);
-          };
+          each_stand = λ j l e d. same_stand_of (stand_at s0 j l e d) (stand_at s2 j l e d) (but j l e d)
+              (elim (same_place j l at.seat at.stand) as (λ _. vec_len (stand_at s2 j l e d).ins ≡ vec_len (stand_at s0 j l e d).ins) [
+                | inl h ↦ rw (h.0, h.1, z.ins_here e d) (ap (λ (v : Vec (Consumer T Global AnyItems) Global). vec_len v) (had e d))
+                | inr h ↦ ap (λ (v : Vec (Consumer T Global AnyItems) Global). vec_len v) (z.ins_other j l e d h ∙ a.ins_other j l e d h)
+              ]) (ap (λ (v : Vec _ Global). vec_len v) (z.outs_is j l e d ∙ a.outs_is j l e d));
         };
         others_kept = λ q e d x apart. elim (same_place q.seat q.stand at.seat at.stand) as (λ _. consumer_at s2 q e d x ≡ consumer_at s0 q e d x) [
           | inl h ↦ let ne : q.port ≢ at.port = λ k. apart (h.0, h.1, k) in

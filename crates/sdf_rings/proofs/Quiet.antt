@@ -1,10 +1,9 @@
 -- Where all ends have met, the state of the ring machine that is made of the stands is quiescent.
-use Rattle.std.proofs.Common.{◌≡◌, ◌≢◌, ℕ, zero, suc, ◌+◌, ◌-◌, ◌≤◌, ◌<◌, List, [], ◌∷◌, length, get_or, take, Bool, cond, eqb, Some, inl, inr, refl, sym, ap, ◌∙◌, subst, arith, length-drop}
+use Rattle.std.proofs.Common.{◌≡◌, ◌≢◌, ℕ, zero, suc, ◌+◌, ◌-◌, ◌≤◌, ◌<◌, List, [], ◌∷◌, length, get_or, take, eqb, Some, inl, inr, refl, sym, ap, ◌∙◌, subst, arith, length-drop}
 use Rattle.std.specs.Global.{Global}
 use Rattle.std.proofs.lemmas.Bool.Decides.{eqb_tells}
 use Rattle.std.proofs.lemmas.List.{take_all}
 use Rattle.std.proofs.lemmas.Option.{same_Some}
-use Rattle.std.proofs.lemmas.List.Sums.{sum_by-cons}
 use Rattle.rtrb.specs.Ring.{known_items, producer_capacity}
 use Rattle.rtrb.specs.declared.producer.Producer.{Producer}
 use Rattle.rtrb.specs.declared.consumer.Consumer.{Consumer}
@@ -24,12 +23,10 @@ use Rattle.sdf_rings.specs.Ends.{IsMet}
 use Rattle.sdf_rings.specs.MachineLaws.{Rest, resting, state_on, taken_on, IsStateOf, IsWithin, IsQuiescent, HasGrown}
 use Rattle.sdf_rings.specs.Quiescence.{IsMadeOf}
 use Rattle.sdf_rings.specs.Rests.{stand_of, state_in, producer_of, consumer_of, AreRings, HaveMet, IsRest, AreAtRest}
+use Rattle.sdf_rings.proofs.Dealt.{bit, times_cons}
 use Rattle.sdf_rings.proofs.Kept.{NetLaws}
 use Rattle.sdf_rings.proofs.Quiescent.{quiescent_later}
 use Rattle.sdf_rings.proofs.Reading.{state_is, a_seat, a_stand, taker, putter, rest_at}
-
-abbrev bit : Bool → ℕ
-bit t = cond t 1 0
 
 -- a front of a sequence has as many firings of an actor as one likes, up to all
 front_times : (a : ℕ) (w : List ℕ) (m : ℕ) → m ≤ times w a → (i : ℕ) × (i ≤ length w) × (times (take i w) a ≡ m)
@@ -38,16 +35,16 @@ front_times a [] (suc m) h = absurd (omega (arith, h))
 front_times a (b ∷ w) (suc m) h = elim (eqb_tells b a) as (λ _. (i : ℕ) × (i ≤ length (b ∷ w)) × (times (take i (b ∷ w)) a ≡ suc m)) [
   | inl e ↦
       let one : bit (eqb b a) ≡ 1 = ap bit e.0 in
-      let all = sum_by-cons (λ x. bit (eqb x a)) b w in
+      let all = times_cons b w a in
       let ih = front_times a w m (omega (arith, h, all, one)) in
-      let more = sum_by-cons (λ x. bit (eqb x a)) b (take ih.0 w) in
+      let more = times_cons b (take ih.0 w) a in
       let is = ih.2 in
       (suc ih.0, (let l = ih.1 in omega (arith, l)), omega (arith, more, one, is))
   | inr e ↦
       let none : bit (eqb b a) ≡ 0 = ap bit e.0 in
-      let all = sum_by-cons (λ x. bit (eqb x a)) b w in
+      let all = times_cons b w a in
       let ih = front_times a w (suc m) (omega (arith, h, all, none)) in
-      let more = sum_by-cons (λ x. bit (eqb x a)) b (take ih.0 w) in
+      let more = times_cons b (take ih.0 w) a in
       let is = ih.2 in
       (suc ih.0, (let l = ih.1 in omega (arith, l)), omega (arith, more, none, is))
 ]

@@ -8,7 +8,7 @@ use Rattle.rtrb.specs.declared.consumer.Consumer.{Consumer}
 use Rattle.rtrb.specs.declared.AnyItems.{AnyItems}
 use Rattle.sdf_rings.specs.declared.stand.Stand.{Stand}
 use Rattle.sdf_rings.specs.declared.seat.Seat.{Seat}
-use Rattle.sdf_rings.specs.Places.{stand_at, SameSeat, IsUpdated}
+use Rattle.sdf_rings.specs.Places.{stand_at, SameSeat, SameStand, IsUpdated}
 
 pub same_place : (j l i k : ℕ) → ((j ≡ i) × (l ≡ k)) ⊎ ((j ≡ i) × (l ≡ k) → ⊥)
 same_place j l i k =
@@ -29,6 +29,20 @@ pub record ButEnds {A T S : Type 0} (s t : Stand A T S) : Type 0 where
   pub put_is : t.put ≡ s.put
   pub done_is : t.done ≡ s.done
   pub asked_is : t.asked ≡ s.asked
+
+pub same_stand_of : {A T S : Type 0} (s t : Stand A T S) → ButEnds s t → vec_len t.ins ≡ vec_len s.ins → vec_len t.outs ≡ vec_len s.outs → SameStand s t
+same_stand_of s t k ins outs = record {
+  actor_same = k.actor_is;
+  state_same = k.state_is;
+  takes_same = k.takes_is;
+  puts_same = k.puts_is;
+  taken_same = k.taken_is;
+  put_same = k.put_is;
+  done_same = k.done_is;
+  asked_same = k.asked_is;
+  ins_len_same = ins;
+  outs_len_same = outs;
+}
 
 module _ {A T S : Type 0} where
   pub ends_join : (s t u : Stand A T S) → ButEnds s t → ButEnds t u → ButEnds s u

@@ -12,7 +12,7 @@ use Rattle.sdf_rings.specs.declared.seat.Seat.{Seat}
 use Rattle.sdf_rings.specs.declared.meet.Spot.{Spot}
 use Rattle.sdf_rings.specs.Ends.{IsMet}
 use Rattle.sdf_rings.specs.Places.{stand_at, IsUpdated, IsRing, IsTold, consumer_at}
-use Rattle.sdf_rings.proofs.Swaps.{ins_changed, out_changed, ends_join, seat_join_same, same_place, ButEnds, in_vec}
+use Rattle.sdf_rings.proofs.Swaps.{ins_changed, out_changed, ends_join, seat_join_same, same_place, ButEnds, in_vec, same_stand_of}
 
 pub some : {X : Type 0} (xs : List X) (i : ℕ) → i < length xs → X
 some [] i h = absurd (omega arith)
@@ -47,21 +47,12 @@ module _ {A T S : Type 0} where
       record {
         told_len = (u3 e0 d0).len ∙ (u2 e0 d0 y0).len ∙ (u1 e0 d0).len;
         told_seats = λ j e. seat_join_same _ _ _ (seat_join_same _ _ _ ((u1 e d0).seats j e) ((u2 e d0 y0).seats j e)) ((u3 e d0).seats j e);
-        told_stands = λ j l e d. let k = but j l e d in record {
-          actor_same = k.actor_is;
-          state_same = k.state_is;
-          takes_same = k.takes_is;
-          puts_same = k.puts_is;
-          taken_same = k.taken_is;
-          put_same = k.put_is;
-          done_same = k.done_is;
-          asked_same = k.asked_is;
-          ins_len_same = elim (same_place j l to.seat to.stand) as (λ _. vec_len (stand_at s3 j l e d).ins ≡ vec_len (stand_at s0 j l e d).ins) [
-            | inl h ↦ rw (h.0, h.1, z.ins_here e d) (ap (λ (v : Vec (Consumer T Global AnyItems) Global). vec_len v) (had e d))
-            | inr h ↦ ap (λ (v : Vec (Consumer T Global AnyItems) Global). vec_len v) (z.ins_other j l e d h ∙ b.ins_is j l e d ∙ a.ins_other j l e d h)
-          ];
-          outs_len_same = ap (λ (v : Vec (Producer T Global AnyItems) Global). vec_len v) (z.outs_is j l e d) ∙ b.outs_len j l e d ∙ ap (λ (v : Vec (Producer T Global AnyItems) Global). vec_len v) (a.outs_is j l e d);
-        };
+        told_stands = λ j l e d. same_stand_of (stand_at s0 j l e d) (stand_at s3 j l e d) (but j l e d)
+            (elim (same_place j l to.seat to.stand) as (λ _. vec_len (stand_at s3 j l e d).ins ≡ vec_len (stand_at s0 j l e d).ins) [
+              | inl h ↦ rw (h.0, h.1, z.ins_here e d) (ap (λ (v : Vec (Consumer T Global AnyItems) Global). vec_len v) (had e d))
+              | inr h ↦ ap (λ (v : Vec (Consumer T Global AnyItems) Global). vec_len v) (z.ins_other j l e d h ∙ b.ins_is j l e d ∙ a.ins_other j l e d h)
+            ])
+            (ap (λ (v : Vec (Producer T Global AnyItems) Global). vec_len v) (z.outs_is j l e d) ∙ b.outs_len j l e d ∙ ap (λ (v : Vec (Producer T Global AnyItems) Global). vec_len v) (a.outs_is j l e d));
         told_consumer = λ e d x. rw (here e d x, was e d x) looked;
         told_producer = λ e d y. rw (outs from.seat from.stand from.port e d y, ← outs1 from.seat from.stand from.port e d y) (plooked e d y);
         met = λ e d x y. rw (here e d x, outs from.seat from.stand from.port e d y) (met e d y);

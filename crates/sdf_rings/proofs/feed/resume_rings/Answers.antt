@@ -1,5 +1,5 @@
-use Rattle.std.proofs.Common.{◌*◌, ℕ, List, Result, Ok, Err, get_or, sym, ◌∙◌, subst}
-use Rattle.std.specs.Prelude.{MatchResult}
+use Rattle.std.proofs.Common.{◌*◌, ℕ, List, get_or, sym, ◌∙◌, subst}
+use Rattle.std.proofs.lemmas.Result.{MatchResult-weaker}
 use Rattle.sdf_graph.specs.Rates.{rates}
 use Rattle.sdf_sched.specs.Period.{IsPeriodOf}
 use Rattle.sdf_prec.specs.Tables.{Tabled}
@@ -28,11 +28,6 @@ feed_rings-requires-clause-period g c κs within = subst (λ x. IsPeriodOf (rate
 pub feed_rings-requires-clause-table : goal.feed_rings-requires-clause-table
 feed_rings-requires-clause-table g c κs within = subst (λ x. IsTableOf (rates x) c.args.period.now.repetitions c.args.j c.args.table.now) (sym c.in_ok-begun.ensures.graph) c.requires.table
 
--- what holds of a result's parts
-matched : {X E : Type 0} (P Q : X → Type 0) (F G : E → Type 0) → ((x : X) → P x → Q x) → ((e : E) → F e → G e) → (r : Result X E) → MatchResult r P F → MatchResult r Q G
-matched P Q F G ok err (Ok x) h = ok x h
-matched P Q F G ok err (Err e) h = err e h
-
 -- a fault of the one net is one of the other, where they are given the same inputs
 fault_of : {A B T : Type 0} (m : Netlist B T) (n : Netlist A T) (q : List ℕ) (periods : ℕ) (inputs : List (List T)) (t : Tabled) (patience : ℕ) → (HasInputs n q periods inputs → HasInputs m q periods inputs) →
     (fault : RunFault) → IsRingsFault m q periods inputs t patience fault → IsRingsFault n q periods inputs t patience fault
@@ -52,7 +47,7 @@ returns g c =
     let later = lists c.args.inputs.now in
     let begins = c.in_ok-begun.ensures.begins in
     let asks = c.feeds_go_on.ensures.inputs n c.args.rest.now m q periods later begins in
-    matched _ _ _ _
+    MatchResult-weaker c.feed_rings.result c.feed_rings.ensures
     (λ fed made. record {
       homed = made.0.homed;
       patient = made.0.patient;
@@ -67,4 +62,3 @@ returns g c =
       rounds_some = made.0.rounds_some;
     })
     (fault_of m n q periods later c.args.table.now c.args.patience asks.1)
-    c.feed_rings.result c.feed_rings.ensures
