@@ -131,16 +131,16 @@ impl Exchange {
         })
     }
 
-    /// The input lists for so many periods, with zeros past the end of the sound.
+    /// The input lists for so many periods, with zeros past the end of the sound, which is gone then.
     pub(crate) fn inputs_of(
         self,
         alloc: Global,
-        input: &Wav,
+        input: Wav,
         periods: u32,
     ) -> Result<Vec<Vec<i32>>, AllocError>
         requires { IsExchange self }
-        ensures { IfOk result (λ all. items_of all.items ≡ lists_to periods self input.now) }
+        ensures { IfOk result (λ all. items_of all.items ≡ lists_to periods self input) }
     {
-        channel_lists(alloc, input, periods as usize * self.taken, self.inputs)
+        channel_lists(alloc, &input, periods as usize * self.taken, self.inputs)
     }
 }

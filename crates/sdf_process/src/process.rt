@@ -66,15 +66,15 @@ fn lists_of<T: Threads + AllocGlobal + Sync, G: Gate>(
     net: &Net<Kit>,
     plan: &Plan,
     gate: &G,
-    input: &Wav,
+    input: Wav,
     periods: u32,
 ) -> Result<Vec<Vec<i32>>, Fault>
     requires plan { Suits net.now plan.now }
     requires inputs { list_count Inputs net.now.nodes ≤ MOST_CHANNELS }
     requires outputs { list_count Outputs net.now.nodes ≤ MOST_CHANNELS }
-    requires periods { periods ≡ periods_of (exchange_of net.now plan.now.period.repetitions) input.now }
+    requires periods { periods ≡ periods_of (exchange_of net.now plan.now.period.repetitions) input }
     requires few { periods ≤ 2147483629 }
-    ensures { MatchResult result (λ lists. BeginWithOutput net.now plan.now.period.repetitions input.now (items_of lists.items)) (λ e. e ≡ OutOfMemory) }
+    ensures { MatchResult result (λ lists. BeginWithOutput net.now plan.now.period.repetitions input (items_of lists.items)) (λ e. e ≡ OutOfMemory) }
 {
     let alloc = rt.alloc();
     let period = plan.period();
@@ -118,7 +118,7 @@ fn finish<T: Threads + AllocGlobal + Sync, W: Writer, G: Gate>(
         mut output,
     } = heard;
     let exchange = Exchange::of_net(net, plan.period());
-    let lists = lists_of(rt, net, plan, gate, &input, extent.periods)?;
+    let lists = lists_of(rt, net, plan, gate, input, extent.periods)?;
     let frames = extent.periods as usize * exchange.made;
     put_frames(rt.alloc(), writer, &mut output, &lists, frames)
 }
