@@ -6,7 +6,7 @@ use Rattle.sdf_answer.specs.Answer.{IsRunFault}
 use Rattle.sdf_answer.specs.Feeds.{FeedsGoOn, BegunNetsAsk, BegunNetsMake, PeriodsMayLeave, BegunRunsGoOn, BegunRunsFail}
 use Rattle.sdf_answer.specs.GraphLaws.{GraphLaws}
 use Rattle.sdf_answer.specs.declared.fault.RunFault.{RunFault}
-use Rattle.sdf_answer.specs.declared.fault.RunFault.TheVariants.{OutOfMemory, InputLength, NotHomed, Patience, NoWorker}
+use Rattle.sdf_answer.specs.declared.fault.RunFault.TheVariants.{OutOfMemory, InputLength, NotHomed, Patience, NoWorker, SessionFailed}
 use Rattle.sdf_answer.proofs.Wholes.{accepted}
 
 pub periods_may_leave : {A S T : Type 0} (laws : GraphLaws) (s : Steps A S T) → PeriodsAreWhole s → PeriodsMayLeave s
@@ -30,3 +30,4 @@ begun_runs_fail {A} {B} {S} {T} s r ask n rest m q periods inputs fault begins =
     go NotHomed why = why
     go Patience why = why
     go NoWorker why = why
+    go SessionFailed why = why

@@ -6,7 +6,7 @@ use Rattle.sdf_actor.specs.Steps.{Steps}
 use Rattle.sdf_actor.specs.Nets.{Netlist, node, arrived, IsHistoryOf}
 use Rattle.sdf_actor.specs.Sides.{list_count, period_samples}
 use Rattle.sdf_answer.specs.declared.fault.RunFault.{RunFault}
-use Rattle.sdf_answer.specs.declared.fault.RunFault.TheVariants.{OutOfMemory, InputLength, NotHomed, Patience, NoWorker}
+use Rattle.sdf_answer.specs.declared.fault.RunFault.TheVariants.{OutOfMemory, InputLength, NotHomed, Patience, NoWorker, SessionFailed}
 
 -- so many lists, all of one length and none shorter than the least
 pub record AreInputs {T : Type 0} (many least : ℕ) (inputs : List (List T)) : Type 0 where
@@ -29,10 +29,11 @@ pub record AreOutputs {A S T : Type 0} (s : Steps A S T) (n : Netlist A T) (inpu
 abbrev pub periods_of : List ℕ → ℕ → ℕ → ℕ
 periods_of q periods a = periods * slice_index q a
 
--- a fault is true of what was given: a runner that does not ask for homes, patience or workers has no fault of them
+-- a fault is true of what was given: a runner that does not ask for homes, patience or workers has no fault of them, and none is a session
 abbrev pub IsRunFault : {A T : Type 0} → Netlist A T → List ℕ → ℕ → List (List T) → RunFault → Type 0
 IsRunFault n q periods inputs OutOfMemory = Unit {0}
 IsRunFault n q periods inputs InputLength = HasInputs n q periods inputs → ⊥
 IsRunFault n q periods inputs NotHomed = ⊥
 IsRunFault n q periods inputs Patience = ⊥
 IsRunFault n q periods inputs NoWorker = ⊥
+IsRunFault n q periods inputs SessionFailed = ⊥

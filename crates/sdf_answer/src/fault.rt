@@ -23,6 +23,9 @@ pub enum RunFault {
     /// A worker could not be started.
     #[error("32 NoWorker")]
     NoWorker,
+    /// A session is used again after memory was refused in it, or a worker.
+    #[error("33 SessionFailed")]
+    SessionFailed,
 }
 
 impl From<AllocError> for RunFault {

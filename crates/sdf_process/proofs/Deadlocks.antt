@@ -62,6 +62,7 @@ decides_of one d o (Err (fault.Words w)) passed is both = absurd is.1
 decides_of one d o (Err (fault.File f)) passed is both = absurd is.1
 decides_of one d o (Err fault.InputLength) passed is both = absurd is.1
 decides_of one d o (Err fault.NoWorker) passed is both = absurd is.1
+decides_of one d o (Err fault.SessionFailed) passed is both = absurd is.1
 decides_of one d o (Err (fault.Wav f)) passed is both = absurd is.1
 decides_of one d o (Err fault.Read) passed is both = absurd is.1
 decides_of one d o (Err fault.Write) passed is both = absurd is.1

@@ -68,6 +68,7 @@ run_fault_is n q s periods inputs run.InputLength given why = absurd (why (subst
 run_fault_is n q s periods inputs run.NotHomed given why = absurd why
 run_fault_is n q s periods inputs run.Patience given why = absurd why
 run_fault_is n q s periods inputs run.NoWorker given why = absurd why
+run_fault_is n q s periods inputs run.SessionFailed given why = absurd why
 
 -- and what they give begins with the output
 pub begins_with_output : RunsGoOn kit_steps → (n : Netlist Kit ℤ) (p : Schedule) → HasPeriod kit_steps n p → (s : Sound) (many : ℕ) (inputs lists : List (List ℤ)) →

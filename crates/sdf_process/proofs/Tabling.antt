@@ -22,6 +22,7 @@ untabled d o s (fault.Words w) passed schedule is = absurd is
 untabled d o s (fault.File f) passed schedule is = absurd is
 untabled d o s fault.InputLength passed schedule is = absurd is
 untabled d o s fault.NoWorker passed schedule is = absurd is
+untabled d o s fault.SessionFailed passed schedule is = absurd is
 untabled d o s (fault.Wav f) passed schedule is = absurd is
 untabled d o s fault.Read passed schedule is = absurd is
 untabled d o s fault.Write passed schedule is = absurd is

@@ -32,6 +32,7 @@ of_run run.InputLength = fault.InputLength
 of_run run.NotHomed = fault.NotHomed
 of_run run.Patience = fault.Patience
 of_run run.NoWorker = fault.NoWorker
+of_run run.SessionFailed = fault.SessionFailed
 
 abbrev pub of_wav : WavFault → Fault
 of_wav wav.OutOfMemory = fault.OutOfMemory

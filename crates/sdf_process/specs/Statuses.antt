@@ -13,10 +13,11 @@ usage_status DisplayHelp = 0
 usage_status DisplayVersion = 0
 usage_status k = 2
 
--- memory or a worker 6, usage 2, the design or the plan 3, the WAV file 4, a device 5
+-- memory, a worker or a session 6, usage 2, the design or the plan 3, the WAV file 4, a device 5
 abbrev pub status_of : Fault → ℕ
 status_of fault.OutOfMemory = 6
 status_of fault.NoWorker = 6
+status_of fault.SessionFailed = 6
 status_of (fault.Words words.OutOfMemory) = 6
 status_of (fault.Words (words.Usage e)) = usage_status (kind_of e)
 status_of (fault.File f) = 3

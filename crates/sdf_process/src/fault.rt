@@ -87,6 +87,9 @@ pub enum Fault {
     /// A worker could not be started. No runner answers it today.
     #[error("32 NoWorker")]
     NoWorker,
+    /// A session was used again after memory or a worker was refused. The program uses none again.
+    #[error("33 SessionFailed")]
+    SessionFailed,
     /// What is wrong with the WAV file, read or to be written: 34 to 46.
     #[error(transparent)]
     Wav(FormatFault),
@@ -186,17 +189,21 @@ impl From<RunFault> for Fault {
             RunFault::NotHomed => Fault::NotHomed,
             RunFault::Patience => Fault::Patience,
             RunFault::NoWorker => Fault::NoWorker,
+            RunFault::SessionFailed => Fault::SessionFailed,
         }
     }
 }
 
 /// The exit status of a fault: 2 usage (0 where help or the version was asked for), 3 the design or the plan, 4 the WAV file,
-/// 5 a device, 6 memory or a worker.
+/// 5 a device, 6 memory, a worker or a session.
 pub fn status(fault: &Fault) -> u8
     ensures { result ≡ status_of fault.now }
 {
     match fault {
-        Fault::OutOfMemory | Fault::Words(WordFault::OutOfMemory) | Fault::NoWorker => 6,
+        Fault::OutOfMemory
+        | Fault::Words(WordFault::OutOfMemory)
+        | Fault::NoWorker
+        | Fault::SessionFailed => 6,
         Fault::Words(WordFault::Usage(error)) => match error.kind() {
             ErrorKind::DisplayHelp | ErrorKind::DisplayVersion => 0,
             _ => 2,

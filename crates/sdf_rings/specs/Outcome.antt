@@ -13,7 +13,7 @@ use Rattle.sdf_rings.specs.Rests.{InHand, HaveMet}
 use Rattle.sdf_rings.specs.Totals.{total_left}
 use Rattle.sdf_answer.specs.Answer.{HasInputs, AreOutputs, periods_of}
 use Rattle.sdf_answer.specs.declared.fault.RunFault.{RunFault}
-use Rattle.sdf_answer.specs.declared.fault.RunFault.TheVariants.{OutOfMemory, InputLength, NotHomed, Patience, NoWorker}
+use Rattle.sdf_answer.specs.declared.fault.RunFault.TheVariants.{OutOfMemory, InputLength, NotHomed, Patience, NoWorker, SessionFailed}
 
 -- what the run gives, where no test fails: the outputs, and in how many rounds. Each round does some firing
 pub record HasRun {A S T : Type 0} (s : Steps A S T) (n : Netlist A T) (q : List ℕ) (j : ℕ) (t : Tabled) (blocks : ℕ) (inputs : List (List T)) (patience : ℕ) (outputs : List (List T)) (rounds : ℕ) : Type 0 where
@@ -53,3 +53,4 @@ IsRingsFault n q periods inputs t patience NotHomed = IsHomed t → ⊥
 IsRingsFault n q periods inputs t patience Patience = IsHomed t × (MOST_PATIENCE < patience)
 IsRingsFault n q periods inputs t patience InputLength = IsHomed t × (patience ≤ MOST_PATIENCE) × (HasInputs n q periods inputs → ⊥)
 IsRingsFault n q periods inputs t patience NoWorker = ⊥
+IsRingsFault n q periods inputs t patience SessionFailed = ⊥

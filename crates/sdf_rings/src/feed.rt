@@ -12,11 +12,9 @@ ghost use Rattle.sdf_answer.specs.Rows.{IsTableOf};
 ghost use Rattle.sdf_rings.specs.Outcome.{HasRun, HasGoneOn, IsRingsFault};
 
 use crate::runner::run_through;
-use sdf_actor::laws::periods_are_whole;
 use sdf_actor::{Actor, Begun, Net, Rest};
-use sdf_answer::laws::{feeds_go_on, nets_have_periods};
+use sdf_answer::laws::{begun_nets_go_on, feeds_go_on, nets_have_periods};
 use sdf_answer::{Ran, RunFault};
-use sdf_graph::laws::one_least_period;
 use sdf_node::Gate;
 use sdf_prec::Table;
 use sdf_sched::Period;
@@ -69,9 +67,8 @@ pub fn resume_rings<R: Threads + AllocGlobal + Sync, A: Actor, G: Gate>(
         (IsRingsFault net.now q (blocks * j) (lists inputs.now) table.now patience) }
 {
     nets_have_periods(net, period);
-    periods_are_whole::<A>();
-    one_least_period();
     feeds_go_on::<A, Begun<A>>();
+    begun_nets_go_on::<A, Begun<A>>();
     let begun = net.begun(rt.alloc(), rest)?;
     feed_rings(rt, &begun, period, j, table, blocks, inputs, patience, gate)
 }

@@ -21,3 +21,4 @@ pub mod Left
 pub mod Chained
 pub mod BlocksTaken
 pub mod Many
+mod Feeding

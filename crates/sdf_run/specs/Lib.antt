@@ -5,3 +5,4 @@ pub mod Many
 pub mod Sweeps
 pub mod Twice
 pub mod Fired
+pub mod Sessions

@@ -16,13 +16,11 @@ ghost use Rattle.sdf_run.specs.Fired.{state_in};
 use crate::one::fired;
 use crate::queue::Queue;
 use crate::work::Work;
-use sdf_actor::laws::periods_are_whole;
 use sdf_actor::{Actor, Begun, Net, Rest};
 use sdf_answer::inputs::{are_inputs, first_sample};
-use sdf_answer::laws::{feeds_go_on, histories_make_runs, net_facts, nets_have_periods};
+use sdf_answer::laws::{begun_nets_go_on, histories_make_runs, net_facts, nets_have_periods};
 use sdf_answer::outputs::make_outputs;
 use sdf_answer::{Ran, RunFault};
-use sdf_graph::laws::one_least_period;
 use sdf_sched::Period;
 use std::alloc::{AllocError, Global};
 
@@ -150,9 +148,7 @@ pub fn resume_one<A: Actor>(
         (IsRunFault net.now q periods (lists inputs.now)) }
 {
     nets_have_periods(net, period);
-    periods_are_whole::<A>();
-    one_least_period();
-    feeds_go_on::<A, Begun<A>>();
+    begun_nets_go_on::<A, Begun<A>>();
     let begun = net.begun(alloc, rest)?;
     feed_one(alloc, &begun, period, periods, inputs)
 }

@@ -1,7 +1,7 @@
 //! Runs of nets.
 //!
 //! It stands on `sdf_answer`, `sdf_rows`, `sdf_graph`, `sdf_sched`, `sdf_actor` and `sdf_node`. Begin at `one`, the runner on one thread, then
-//! `run`, what it holds, `work`, a node at work, and `queue`, the samples of a channel; `feed`, a run that another one goes on from. The runner by rows is `sdf_rows`; what all
+//! `run`, what it holds, `work`, a node at work, and `queue`, the samples of a channel; `feed`, a run that another one goes on from; `session`, a run that is fed in pieces. The runner by rows is `sdf_rows`; what all
 //! runners are given and give is in `sdf_answer`.
 #![tactic(auto)]
 
@@ -9,19 +9,23 @@ mod block;
 pub mod feed;
 #[cfg(test)]
 mod feed_tests;
+pub mod mode;
 pub mod one;
 mod queue;
 #[cfg(test)]
 mod row_tests;
 mod run;
+pub mod session;
 mod setup;
 #[cfg(test)]
 mod tests;
 mod work;
 
 pub use feed::{feed_one, resume_one};
+pub use mode::Mode;
 pub use one::run_one;
 pub use sdf_answer::{Ran, RunFault, laws};
 pub use sdf_node::{ActorId, Gate, NoGate};
 pub use sdf_rings::{Rings, run_rings};
 pub use sdf_rows::run_rows;
+pub use session::{Closed, Session};

@@ -159,6 +159,7 @@ fn devices_and_memory_have_their_faults(rt: HostRuntime) -> Result<(), Fail> {
         (Fault::NotHomed, 3, "sdfw: 30 NotHomed\n"),
         (Fault::Patience, 3, "sdfw: 31 Patience\n"),
         (Fault::NoWorker, 6, "sdfw: 32 NoWorker\n"),
+        (Fault::SessionFailed, 6, "sdfw: 33 SessionFailed\n"),
         (Fault::Read, 5, "sdfw: 47 Read\n"),
         (Fault::Write, 5, "sdfw: 48 Write\n"),
     ] {

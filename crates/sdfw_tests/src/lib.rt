@@ -25,4 +25,6 @@ mod runs;
 #[cfg(test)]
 mod schedules;
 #[cfg(test)]
+mod sessions;
+#[cfg(test)]
 mod words;

@@ -3,24 +3,19 @@ use Rattle.std.proofs.lemmas.Result.{MatchResult-weaker}
 use Rattle.sdf_graph.specs.Rates.{rates}
 use Rattle.sdf_sched.specs.Period.{IsPeriodOf}
 use Rattle.sdf_prec.specs.Tables.{Tabled}
-use Rattle.sdf_actor.specs.Graphs.{graph_of}
 use Rattle.sdf_actor.specs.Nets.{Netlist}
-use Rattle.sdf_actor.specs.NetFaults.{IsAccepted}
 use Rattle.sdf_actor.specs.Wires.{lists}
-use Rattle.sdf_answer.specs.Answer.{HasInputs}
+use Rattle.sdf_answer.specs.Answer.{HasInputs, periods_of}
 use Rattle.sdf_answer.specs.Rows.{IsTableOf}
 use Rattle.sdf_answer.specs.declared.fault.RunFault.{RunFault}
-use Rattle.sdf_answer.specs.declared.fault.RunFault.TheVariants.{OutOfMemory, InputLength, NotHomed, Patience, NoWorker}
+use Rattle.sdf_answer.specs.declared.fault.RunFault.TheVariants.{OutOfMemory, InputLength, NotHomed, Patience, NoWorker, SessionFailed}
 use Rattle.sdf_rings.specs.Outcome.{IsRingsFault}
 use Rattle.sdf_rings.proofs.feed.resume_rings.Goals as goal
 
 pub begun-requires-clause-rest : goal.begun-requires-clause-rest
 begun-requires-clause-rest g c κs within =
-    let s = g.A.Actor.steps in
-    let n = c.args.net.now in
-    let has = c.nets_have_periods.ensures in
-    let accepted = subst (IsAccepted s n) (c.one_least_period.ensures (rates (graph_of s n)) has.accepted.0 c.args.period.now.repetitions has.accepted.1.period has.period.least) has.accepted.1 in
-    (c.requires.rest.0, λ a. c.requires.rest.1 * get_or c.args.period.now.repetitions a 0, c.periods_are_whole.ensures n c.args.period.now.repetitions c.requires.rest.1 has.net has.shape has.alike accepted, c.requires.rest.2)
+    let q = c.args.period.now.repetitions in
+    (c.requires.rest.0, periods_of q c.requires.rest.1, c.begun_nets_go_on.ensures.whole c.args.net.now c.args.period.now c.requires.rest.1 c.nets_have_periods.ensures, c.requires.rest.2)
 
 pub feed_rings-requires-clause-period : goal.feed_rings-requires-clause-period
 feed_rings-requires-clause-period g c κs within = subst (λ x. IsPeriodOf (rates x) c.args.period.now) (sym c.in_ok-begun.ensures.graph) c.requires.period
@@ -36,10 +31,10 @@ fault_of m n q periods inputs t patience back InputLength h = (h.0, h.1, λ give
 fault_of m n q periods inputs t patience back NotHomed h = h
 fault_of m n q periods inputs t patience back Patience h = h
 fault_of m n q periods inputs t patience back NoWorker h = h
+fault_of m n q periods inputs t patience back SessionFailed h = h
 
 pub returns : goal.returns
 returns g c =
-    let s = g.A.Actor.steps in
     let n = c.args.net.now in
     let m = c.in_ok-begun.begun in
     let q = c.args.period.now.repetitions in
@@ -51,13 +46,7 @@ returns g c =
     (λ fed made. record {
       homed = made.0.homed;
       patient = made.0.patient;
-      goes_on = record {
-        given = asks.0 made.0.has;
-        count = made.1.count ∙ c.feeds_go_on.ensures.outputs n c.args.rest.now m begins;
-        runs = λ few first all before joined has full run all_are joined_are as_many.
-            c.feeds_go_on.ensures.runs n m c.args.period.now few periods first later all before (lists fed.0.outputs.items) joined c.args.rest.now fed.1
-            c.nets_have_periods.ensures has full run begins made.1 all_are joined_are as_many;
-      };
+      goes_on = c.begun_nets_go_on.ensures.runs n m c.args.period.now periods later (lists fed.0.outputs.items) c.args.rest.now fed.1 c.nets_have_periods.ensures begins made.0.has made.1;
       rounds_few = made.0.rounds_few;
       rounds_some = made.0.rounds_some;
     })

@@ -1,23 +1,15 @@
-use Rattle.std.proofs.Common.{◌*◌, ℕ, List, Result, Ok, Err, get_or, sym, ◌∙◌, subst}
+use Rattle.std.proofs.Common.{Result, Ok, Err, sym, subst}
 use Rattle.std.specs.Prelude.{MatchResult}
 use Rattle.sdf_graph.specs.Rates.{rates}
 use Rattle.sdf_sched.specs.Period.{IsPeriodOf}
-use Rattle.sdf_actor.specs.Graphs.{graph_of}
-use Rattle.sdf_actor.specs.Nets.{Netlist}
-use Rattle.sdf_actor.specs.NetFaults.{IsAccepted}
 use Rattle.sdf_actor.specs.Wires.{lists}
-use Rattle.sdf_answer.specs.Answer.{HasInputs, IsRunFault}
-use Rattle.sdf_answer.specs.declared.fault.RunFault.{RunFault}
-use Rattle.sdf_answer.specs.declared.fault.RunFault.TheVariants.{OutOfMemory, InputLength, NotHomed, Patience, NoWorker}
+use Rattle.sdf_answer.specs.Answer.{periods_of}
 use Rattle.sdf_run.proofs.feed.resume_one.Goals as goal
 
 pub begun-requires-clause-rest : goal.begun-requires-clause-rest
 begun-requires-clause-rest g c κs within =
-    let s = g.A.Actor.steps in
-    let n = c.args.net.now in
-    let has = c.nets_have_periods.ensures in
-    let accepted = subst (IsAccepted s n) (c.one_least_period.ensures (rates (graph_of s n)) has.accepted.0 c.args.period.now.repetitions has.accepted.1.period has.period.least) has.accepted.1 in
-    (c.requires.rest.0, λ a. c.requires.rest.1 * get_or c.args.period.now.repetitions a 0, c.periods_are_whole.ensures n c.args.period.now.repetitions c.requires.rest.1 has.net has.shape has.alike accepted, c.requires.rest.2)
+    let q = c.args.period.now.repetitions in
+    (c.requires.rest.0, periods_of q c.requires.rest.1, c.begun_nets_go_on.ensures.whole c.args.net.now c.args.period.now c.requires.rest.1 c.nets_have_periods.ensures, c.requires.rest.2)
 
 pub feed_one-requires-clause-period : goal.feed_one-requires-clause-period
 feed_one-requires-clause-period g c κs within = subst (λ x. IsPeriodOf (rates x) c.args.period.now) (sym c.in_ok-begun.ensures.graph) c.requires.period
@@ -27,34 +19,16 @@ matched : {X E : Type 0} (P Q : X → Type 0) (F G : E → Type 0) → ((x : X) 
 matched P Q F G ok err (Ok x) h = ok x h
 matched P Q F G ok err (Err e) h = err e h
 
--- a fault of the one net is one of the other, where they are given the same inputs
-fault_of : {A B T : Type 0} (m : Netlist B T) (n : Netlist A T) (q : List ℕ) (periods : ℕ) (inputs : List (List T)) → (HasInputs n q periods inputs → HasInputs m q periods inputs) →
-    (fault : RunFault) → IsRunFault m q periods inputs fault → IsRunFault n q periods inputs fault
-fault_of m n q periods inputs back OutOfMemory h = tt
-fault_of m n q periods inputs back InputLength h = λ given. h (back given)
-fault_of m n q periods inputs back NotHomed h = h
-fault_of m n q periods inputs back Patience h = h
-fault_of m n q periods inputs back NoWorker h = h
-
 pub returns : goal.returns
 returns g c =
-    let s = g.A.Actor.steps in
     let n = c.args.net.now in
     let m = c.in_ok-begun.begun in
-    let q = c.args.period.now.repetitions in
     let later = lists c.args.inputs.now in
     let begins = c.in_ok-begun.ensures.begins in
-    let asks = c.feeds_go_on.ensures.inputs n c.args.rest.now m q c.args.periods later begins in
     matched _ _ _ _
     (λ fed made. (
-      record {
-        given = asks.0 made.0;
-        count = made.1.count ∙ c.feeds_go_on.ensures.outputs n c.args.rest.now m begins;
-        runs = λ few first all before joined has full run all_are joined_are as_many.
-            c.feeds_go_on.ensures.runs n m c.args.period.now few c.args.periods first later all before (lists fed.0.outputs.items) joined c.args.rest.now fed.1
-            c.nets_have_periods.ensures has full run begins made.1 all_are joined_are as_many;
-      },
+      c.begun_nets_go_on.ensures.runs n m c.args.period.now c.args.periods later (lists fed.0.outputs.items) c.args.rest.now fed.1 c.nets_have_periods.ensures begins made.0 made.1,
       made.2,
     ))
-    (fault_of m n q c.args.periods later asks.1)
+    (λ fault. c.begun_nets_go_on.ensures.faults n c.args.rest.now m c.args.period.now.repetitions c.args.periods later fault begins)
     c.feed_one.result c.feed_one.ensures

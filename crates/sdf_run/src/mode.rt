@@ -1,0 +1,10 @@
+//! How the blocks of a session are run.
+
+/// How the blocks of a session are run. Both make the same.
+#[derive(Debug, Clone, Copy)]
+pub enum Mode {
+    /// Row by row of the table, the firings of a row at once.
+    Rows,
+    /// By a worker for each column over rings, with so many repeated tests in a round.
+    Rings { patience: u32 },
+}

@@ -1,0 +1,241 @@
+//! Runs that are fed in pieces, in memory that does not grow with what was fed.
+
+ghost use Rattle.std.specs.Prelude.{◌≡◌, ◌*◌, ◌≤◌, ◌<◌, ℕ, List, length, MatchResult, IfSome, IfNone, IfOk, None};
+ghost use Rattle.sdf_graph.specs.Rates.{rates};
+ghost use Rattle.sdf_sched.specs.Period.{IsPeriodOf};
+ghost use Rattle.sdf_actor.specs.Graphs.{graph_of};
+ghost use Rattle.sdf_actor.specs.Rests.{IsRest};
+ghost use Rattle.sdf_actor.specs.Sides.{list_count};
+ghost use Rattle.sdf_actor.specs.Wires.{lists};
+ghost use Rattle.sdf_actor.specs.declared.sides.Lists.TheVariants.{Inputs, Outputs};
+ghost use Rattle.sdf_answer.specs.Answer.{periods_of, IsRunFault};
+ghost use Rattle.sdf_answer.specs.Feeds.{GoesOnBy};
+ghost use Rattle.sdf_answer.specs.Rows.{IsTableOf};
+ghost use Rattle.sdf_answer.specs.declared.fault.RunFault.TheVariants.{SessionFailed};
+ghost use Rattle.sdf_run.specs.Sessions.{AreBlocks, AreNone, SessionValue, MayRun, IsModeFault, HasRounds, IsLive, StandsAfter, HasFed, IsSession, IsFeedFault, after_fault, FeedsAreOneRun};
+
+use crate::mode::Mode;
+use sdf_actor::{Actor, Net, Rest};
+use sdf_answer::inputs::are_inputs;
+use sdf_answer::laws::{histories_make_runs, net_facts};
+use sdf_answer::{Ran, RunFault};
+use sdf_limits::MOST_PATIENCE;
+use sdf_node::Gate;
+use sdf_prec::Table;
+use sdf_rings::resume_rings;
+use sdf_rows::resume_rows;
+use sdf_sched::Period;
+use std::alloc::Global;
+use std::marker::Model;
+use std::thread::Threads;
+
+/// A run of a net that is fed in pieces, each of whole blocks: what its feeds make, joined, is what one run makes of all that was fed.
+/// It holds the states of the actors and the samples on the channels, and nothing that was fed before.
+#[derive(Drop)]
+pub struct Session<'a, A: Actor> {
+    net: &'a Net<A>,
+    period: &'a Period,
+    table: &'a Table,
+    j: u32,
+    mode: Mode,
+    /// None once memory or a worker was refused.
+    rest: Option<Rest<A::Token, A::State>>,
+    blocks: u64,
+    rounds: u64,
+}
+
+impl<'a, A: Actor> Model for Session<'a, A> {
+    ghost use Rattle.sdf_run.specs.Sessions.{SessionValue, IsSession};
+
+    ghost Value = { SessionValue A A.State A.Token };
+
+    ghost view = { λ s. record { net = s.net.now; period = s.period.now; factor = s.j; table = s.table.now; mode = s.mode; rest = s.rest; blocks = s.blocks; rounds = s.rounds } };
+
+    ghost invariant = { λ s. IsSession A.steps (record { net = s.net.now; period = s.period.now; factor = s.j; table = s.table.now; mode = s.mode; rest = s.rest; blocks = s.blocks; rounds = s.rounds }) };
+}
+
+/// What was counted over all feeds of a session that were answered. A count that would pass its greatest number stays there.
+#[derive(Debug, Clone, Copy, PartialEq, Eq)]
+pub struct Closed {
+    pub blocks: u64,
+    pub rounds: u64,
+}
+
+/// Whether a table can be run so.
+fn may_run(table: &Table, mode: Mode) -> Result<(), RunFault>
+    ensures { MatchResult result (λ _. MayRun table.now mode) (IsModeFault table.now mode) }
+{
+    match mode {
+        Mode::Rows => Ok(()),
+        Mode::Rings { patience } => {
+            if !table.homed() {
+                return Err(RunFault::NotHomed);
+            }
+            if patience > MOST_PATIENCE {
+                return Err(RunFault::Patience);
+            }
+            Ok(())
+        }
+    }
+}
+
+/// How many blocks the lists have, where each block has so many samples of each, or none where they are no blocks.
+fn blocks_in<T>(inputs: &[Vec<T>], many: usize, samples: usize) -> Option<u32>
+    requires many { 0 < many }
+    requires samples { 0 < samples }
+    ensures some { IfSome result (λ blocks. AreBlocks many samples blocks (lists inputs.now)) }
+    ensures none { IfNone result ((blocks : ℕ) → AreBlocks many samples blocks (lists inputs.now) → ⊥) }
+{
+    if !are_inputs(inputs, many, 0) {
+        return None;
+    }
+    let len = inputs[0].len();
+    if len % samples != 0 {
+        return None;
+    }
+    let blocks = len / samples;
+    if blocks > u32::MAX as usize {
+        return None;
+    }
+    Some(blocks as u32)
+}
+
+/// Goes on by some blocks.
+fn go_on<R: Threads + AllocGlobal + Sync, A: Actor, G: Gate>(
+    rt: &R,
+    net: &Net<A>,
+    period: &Period,
+    j: u32,
+    table: &Table,
+    mode: Mode,
+    rest: &Rest<A::Token, A::State>,
+    blocks: u32,
+    inputs: &[Vec<A::Token>],
+    gate: &G,
+) -> Result<(Ran<A::Token>, Rest<A::Token, A::State>), RunFault>
+    requires period { IsPeriodOf (rates (graph_of A.steps net.now)) period.now }
+    requires table { IsTableOf (rates (graph_of A.steps net.now)) period.now.repetitions j table.now }
+    requires may { MayRun table.now mode }
+    requires rest { (first : List (List A.Token)) × (few : ℕ) × IsRest A.steps net.now first (periods_of period.now.repetitions few) rest.now }
+    ensures { let q = period.now.repetitions in MatchResult result
+        (λ fed. GoesOnBy A.steps net.now q rest.now (blocks * j) (lists inputs.now) (lists fed.0.outputs.items) fed.1 × HasRounds table.now q j mode blocks fed.0.rounds)
+        (IsRunFault net.now q (blocks * j) (lists inputs.now)) }
+{
+    match mode {
+        Mode::Rows => resume_rows(rt, net, period, j, table, rest, blocks, inputs, gate),
+        Mode::Rings { patience } => {
+            resume_rings(
+                rt, net, period, j, table, rest, blocks, inputs, patience, gate,
+            )
+        }
+    }
+}
+
+impl<'a, A: Actor> Session<'a, A> {
+    /// A session that was fed nothing. The faults, over rings alone, in this order: 30 NotHomed, 31 Patience.
+    pub fn open(
+        alloc: Global,
+        net: &'a Net<A>,
+        period: &'a Period,
+        j: u32,
+        table: &'a Table,
+        mode: Mode,
+    ) -> Result<Session<'a, A>, RunFault>
+        requires period { IsPeriodOf (rates (graph_of A.steps net.now)) period.now }
+        requires table { IsTableOf (rates (graph_of A.steps net.now)) period.now.repetitions j table.now }
+        ensures tests { MatchResult result (λ _. MayRun table.now mode) (IsModeFault table.now mode) }
+        ensures value { IfOk result (λ v. IsLive v × (v ≡ record { net = net.now; period = period.now; factor = j; table = table.now; mode = mode; rest = v.rest; blocks = 0; rounds = 0 })) }
+        ensures stands { IfOk result (λ v. (fed made : List (List A.Token)) → AreNone (list_count Inputs net.now.nodes) fed → AreNone (list_count Outputs net.now.nodes) made → StandsAfter A.steps v 0 fed made) }
+    {
+        net_facts(net);
+        histories_make_runs::<A>();
+        let _samples = net.samples_in();
+        may_run(table, mode)?;
+        Ok(Session {
+            net,
+            period,
+            table,
+            j,
+            mode,
+            rest: Some(net.first_rest(alloc)?),
+            blocks: 0,
+            rounds: 0,
+        })
+    }
+
+    /// What holds of every session.
+    pub fn facts(&self)
+        ensures { IsSession A.steps self.now }
+    {
+        let _ = &self.net;
+    }
+
+    /// Runs the blocks of the lists, of which each has as many samples of each as a block reads, and gives what they make beyond what
+    /// was made before. No sample is no block, and makes empty lists.
+    ///
+    /// Lists that are no blocks are 29 InputLength, and leave the session as it was. After 1 OutOfMemory or 32 NoWorker it is spent, and answers
+    /// 33 SessionFailed.
+    pub fn feed<R: Threads + AllocGlobal + Sync, G: Gate>(
+        &mut self,
+        rt: &R,
+        inputs: &[Vec<A::Token>],
+        gate: &G,
+    ) -> Result<Ran<A::Token>, RunFault>
+        ensures { MatchResult result
+            (λ ran. (blocks : ℕ) × HasFed A.steps self.old self.new blocks (lists inputs.now) (lists ran.outputs.items) ran.rounds)
+            (λ fault. IsFeedFault self.old (lists inputs.now) fault × (self.new ≡ after_fault self.old fault)) }
+    {
+        net_facts(self.net);
+        let Some(rest) = &self.rest else {
+            return Err(RunFault::SessionFailed);
+        };
+        let samples = self.j as usize * self.net.samples_in();
+        let Some(blocks) = blocks_in(inputs, self.net.inputs(), samples) else {
+            return Err(RunFault::InputLength);
+        };
+        let fed = go_on(
+            rt,
+            self.net,
+            self.period,
+            self.j,
+            self.table,
+            self.mode,
+            rest,
+            blocks,
+            inputs,
+            gate,
+        );
+        match fed {
+            Ok((ran, last)) => {
+                self.rest = Some(last);
+                self.blocks = self.blocks.saturating_add(u64::from(blocks));
+                self.rounds = self.rounds.saturating_add(ran.rounds);
+                Ok(ran)
+            }
+            Err(fault) => {
+                self.rest = None;
+                Err(fault)
+            }
+        }
+    }
+
+    /// Ends a session, and tells how many blocks and rounds the feeds had that were answered. A spent one is 33 SessionFailed.
+    pub fn close(self) -> Result<Closed, RunFault>
+        ensures { MatchResult result
+            (λ closed. IsLive self.entry × (closed.blocks ≡ self.entry.blocks) × (closed.rounds ≡ self.entry.rounds))
+            (λ fault. (fault ≡ SessionFailed) × (self.entry.rest ≡ None)) }
+    {
+        match self.rest {
+            Some(_) => Ok(Closed {
+                blocks: self.blocks,
+                rounds: self.rounds,
+            }),
+            None => Err(RunFault::SessionFailed),
+        }
+    }
+}
+
+/// What the feeds of a session make, joined, is what one run makes of all that they were given.
+pub fn feeds_are_one_run<A: Actor>()
+    ensures { FeedsAreOneRun A.steps }
+{}
