@@ -71,7 +71,7 @@ pub(super) fn meaning_of(number: u32) -> Option<Meaning> {
         43 => Meaning {
             name: "Truncated",
             place: "",
-            means: "The WAV file ends within one of its parts. OUT is left empty.",
+            means: "The WAV file ends within one of its parts. OUT is left empty, or ends early too.",
             limits: "",
             remedy: "Get the whole file; a copy was cut off.",
         },
