@@ -11,7 +11,17 @@ CONVERTER, CROSSOVER, ECHO = (TOP / "examples" / name for name in ("44100-to-480
 RATE, ROUNDS = 44100, 5
 ONE = {"sdfw": []}
 ROWS = {"sdfw, rows": ["--runner", "rows", "--workers", "2", "--blocking", "16"]}
-RINGS = {f"sdfw, rings {m}": ["--runner", "rings", "--workers", str(m), "--blocking", "16", "--policy", "runs"] for m in (1, 2, 4)}
+WORKERS = (1, 2, 4)
+RINGS = {f"rings {m}": ["--runner", "rings", "--workers", str(m)] for m in WORKERS}
+RUNS = {f"rings {m}, runs": [*words, "--blocking", "16", "--policy", "runs"] for m, words in zip(WORKERS, RINGS.values())}
+HOMES = {f"rings {m}, at home": [*words, "--placement", "file"] for m, words in zip(WORKERS, RUNS.values())}
+BANK, BANK_TAPS = 8, 1024
+# Of four workers, on which each actor of the crossover is at home; those not named are on the last.
+CROSSOVER_HOMES = {
+    **dict.fromkeys(("in", "split", "dry"), 0),
+    **dict.fromkeys(("low300", "low300-down", "low", "low-time", "out-low", "minus-low"), 1),
+    **dict.fromkeys(("low3000", "low3000-down", "low3000-align"), 2),
+}
 
 
 def noise(path, seconds, channels, halvings):
@@ -40,7 +50,47 @@ def taps(path):
         numbers = values(CROSSOVER / f"{name}.toml")
         lines.append(f"static const int taps_{name}[] = {{{','.join(map(str, numbers))}}};")
         lines.append(f"__attribute__((unused)) static const Filter {name} = {{1, 1, 15, {len(numbers)}, taps_{name}}};")
+    rows = ",".join("{" + ",".join(map(str, bank_taps(p))) + "}" for p in range(BANK))
+    lines.append(f"enum {{ BANK = {BANK}, BANK_TAPS = {BANK_TAPS} }};\n__attribute__((unused)) static const int taps_bank[BANK][BANK_TAPS] = {{{rows}}};")
     path.write_text("\n".join(lines) + "\n")
+
+
+def bank_taps(filter):
+    """The taps of a filter of the bank: noise."""
+    numbers = random.Random(filter)
+    return [numbers.randint(-200, 200) for _ in range(BANK_TAPS)]
+
+
+def bank(folder):
+    """A design of a bank of filters, one channel in, and where its actors are at home among four workers."""
+    folder.mkdir()
+    actors = [("in", "input", "channel = 0"), ("split", "fork", f"ways = {BANK}")]
+    links = [("in", "split")]
+    for p in range(BANK):
+        (folder / f"taps-{p}.toml").write_text(f"format = 1\nvalues = {bank_taps(p)}\n")
+        actors += [(f"f{p}", "fir", f'shift = 15\nfile = "taps-{p}.toml"'), (f"out{p}", "output", f"channel = {p}")]
+        links += [(f"split:{p}", f"f{p}"), (f"f{p}", f"out{p}")]
+    tables = [f'[[actor]]\nname = "{name}"\nkind = "{kind}"\n{keys}\n' for name, kind, keys in actors]
+    tables += [f'[[link]]\nfrom = "{one}"\nto = "{other}"\n' for one, other in links]
+    (folder / "graph.toml").write_text("format = 1\n\n" + "\n".join(tables))
+    homes = {f"{kind}{p}": p * 4 // BANK for p in range(BANK) for kind in ("f", "out")}
+    return folder / "graph.toml", {"in": 0, "split": 0, **homes}
+
+
+def at_homes(folder, graph, homes):
+    """For each number of workers the design with its actors at home, by the names of the runners that want it."""
+    made = {}
+    for name, workers in zip(HOMES, WORKERS):
+        place = folder / f"{graph.parent.name}-at-{workers}"
+        shutil.copytree(graph.parent, place)
+        lines = []
+        for line in graph.read_text().splitlines():
+            lines.append(line)
+            if line.startswith("name = "):
+                lines.append(f"processor = {homes.get(line.split(chr(34))[1], 3) * workers // 4}")
+        (place / "graph.toml").write_text("\n".join(lines) + "\n")
+        made[name] = place / "graph.toml"
+    return made
 
 
 def compiled(folder, name):
@@ -76,7 +126,7 @@ def measure(meter, title, seconds, commands, made):
         print(f"  {name:14} {least[name]:8.3f} {middle:8.3f} s {least[name] / fastest:7.2f} times {memory / 1024:7.1f} MB  {same}")
 
 
-def compare(folder, title, graph, programs, channels=1, rate=False, halvings=1, runners=ONE, lengths=(10, 60)):
+def compare(folder, title, graph, programs, channels=1, rate=False, halvings=1, runners=ONE, lengths=(10, 60), homes=None):
     """Measures a design by some runners beside programs, on noise of some seconds."""
     others = {"sox": ["sox", None, "-b", "16", "-r", "48000", None], "ffmpeg": ["ffmpeg", "-v", "error", "-y", "-i", None, "-ar", "48000", None]}
     for seconds in lengths:
@@ -85,7 +135,8 @@ def compare(folder, title, graph, programs, channels=1, rate=False, halvings=1, 
             noise(source, seconds, channels, halvings)
         made = {name: folder / f"{place}.wav" for place, name in enumerate([*runners, *programs, *others])}
         commands = {
-            name: [str(TOP / "build/sdfw"), "run", str(graph), str(source), str(made[name]), *options] for name, options in runners.items()
+            name: [str(TOP / "build/sdfw"), "run", str((homes or {}).get(name, graph)), str(source), str(made[name]), *options]
+            for name, options in runners.items()
         }
         for name, program in programs.items():
             commands[name] = [program, str(source), str(made[name])]
@@ -106,8 +157,15 @@ def main():
         compare(folder, "44,100 to 48,000, mono, full scale", CONVERTER / "graph.toml", chain, halvings=0)
         compare(folder, "44,100 to 48,000, stereo", CONVERTER / "graph-stereo.toml", chain, channels=2, rate=True)
         compare(folder, "crossover", CROSSOVER / "graph.toml", {"C, plain loop": compiled(folder, "crossover")})
-        workers = {**ONE, **ROWS, **RINGS}
+        workers = {**ONE, **ROWS, **RINGS, **RUNS}
         compare(folder, "44,100 to 48,000, mono, by workers", CONVERTER / "graph.toml", chain, runners=workers, lengths=(1,))
+        compare(folder, "44,100 to 48,000, stereo, by workers", CONVERTER / "graph-stereo.toml", chain, channels=2, runners={**ONE, **RINGS, **RUNS}, lengths=(1,))
+        workers = {**ONE, **RINGS, **HOMES}
+        homes = at_homes(folder, CROSSOVER / "graph.toml", CROSSOVER_HOMES)
+        compare(folder, "crossover, by workers", CROSSOVER / "graph.toml", {"C, plain loop": compiled(folder, "crossover")}, runners=workers, lengths=(1,), homes=homes)
+        graph, places = bank(folder / "bank")
+        homes = at_homes(folder, graph, places)
+        compare(folder, "a bank of eight filters, by workers", graph, {"C, plain loop": compiled(folder, "bank")}, runners=workers, lengths=(1,), homes=homes)
         compare(folder, "echo", ECHO / "graph.toml", {"C, plain loop": compiled(folder, "echo")})
 
 
