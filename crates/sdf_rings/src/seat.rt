@@ -10,7 +10,7 @@ use crate::stand::{Stand, fire_one, is_ready};
 use crate::together::{fire_run, in_one_run};
 use sdf_actor::{Actor, Net};
 use sdf_node::Gate;
-use std::hint;
+use std::thread;
 
 /// So many firings at most go in one piece of work.
 const MOST_AT_ONCE: usize = 65_536;
@@ -44,7 +44,7 @@ fn becomes_ready<A: Actor>(
             return true;
         }
         *tries = tries.saturating_sub(1);
-        hint::spin_loop();
+        thread::yield_now();
     }
     is_ready(net, inputs, stand)
 }
