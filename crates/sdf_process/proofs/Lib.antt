@@ -14,3 +14,5 @@ pub mod Deadlocks
 pub mod Outputs
 pub mod Suiting
 pub mod Tabling
+pub mod Played
+pub mod Streams

@@ -24,7 +24,7 @@ use Rattle.sdf_process.specs.Run.{IsOutput, HasOutput}
 use Rattle.sdf_process.specs.Laws.{OneOutput}
 
 -- a node that makes a list is a sink
-sink_of : {A : Type 0} (x : Node A) (e : ℕ) → list_of Outputs x ≡ Some e → (block : ℕ) × (x ≡ Sink e block)
+pub sink_of : {A : Type 0} (x : Node A) (e : ℕ) → list_of Outputs x ≡ Some e → (block : ℕ) × (x ≡ Sink e block)
 sink_of (Source ext block) e is = absurd (let no : None ≡ Some e = is in cc)
 sink_of (Sink ext block) e is = (block, let same : Some ext ≡ Some e = is in cc)
 sink_of (Inner x) e is = absurd (let no : None ≡ Some e = is in cc)

@@ -94,7 +94,7 @@ owed_on o p at end k samples is count same some less =
 
 -- ---- what the last stage wrote
 
-appends_none : (a b : Option (List ℕ)) → Keeps a b → Appends a b []
+pub appends_none : (a b : Option (List ℕ)) → Keeps a b → Appends a b []
 appends_none None b p = tt
 appends_none (Some x) None p = absurd p
 appends_none (Some x) (Some y) p = p ∙ sym (append-nil x)

@@ -34,11 +34,11 @@ list_at periods x s e here = get_or-map-range_with_len (channel_samples s (perio
 count_of : (periods : ℕ) (x : Exchange) (s : Sound) → length (lists_to periods x s) ≡ x.inputs
 count_of periods x s = length-map-range_with_len (channel_samples s (periods * x.taken)) 0 x.inputs
 
-list_length : (periods : ℕ) (x : Exchange) (s : Sound) (e : ℕ) → e < length (lists_to periods x s) → length (get_or (lists_to periods x s) e []) ≡ periods * x.taken
+pub list_length : (periods : ℕ) (x : Exchange) (s : Sound) (e : ℕ) → e < length (lists_to periods x s) → length (get_or (lists_to periods x s) e []) ≡ periods * x.taken
 list_length periods x s e here =
     ap length (list_at periods x s e (omega (arith, here, count_of periods x s))) ∙ length-map-range_with_len (sample s e) 0 (periods * x.taken)
 
-are_inputs : (n : Netlist Kit ℤ) (q : List ℕ) (s : Sound) (periods : ℕ) → HasInputs n q periods (lists_to periods (exchange_of n q) s)
+pub are_inputs : (n : Netlist Kit ℤ) (q : List ℕ) (s : Sound) (periods : ℕ) → HasInputs n q periods (lists_to periods (exchange_of n q) s)
 are_inputs n q s periods = record {
   count = count_of periods (exchange_of n q) s;
   even = λ e here. list_length periods (exchange_of n q) s e here ∙ sym (list_length periods (exchange_of n q) s 0 (omega (arith, here)));
@@ -61,14 +61,17 @@ begin few many x s less e = go (cases_lt e x.inputs)
         none ∙ ap (λ k. take k (get_or (lists_to many x s) e [])) (let z : 0 ≡ length (get_or (lists_to few x s) e []) = sym (ap length none) in z)
 
 -- so the runners fail by memory alone
-pub run_fault_is : (n : Netlist Kit ℤ) (q : List ℕ) (s : Sound) (periods : ℕ) (inputs : List (List ℤ)) (e : RunFault) →
+pub run_fault_by : (n : Netlist Kit ℤ) (q : List ℕ) (periods : ℕ) (inputs : List (List ℤ)) (e : RunFault) → HasInputs n q periods inputs → IsRunFault n q periods inputs e → of_run e ≡ fault.OutOfMemory
+run_fault_by n q periods inputs run.OutOfMemory given why = refl
+run_fault_by n q periods inputs run.InputLength given why = absurd (why given)
+run_fault_by n q periods inputs run.NotHomed given why = absurd why
+run_fault_by n q periods inputs run.Patience given why = absurd why
+run_fault_by n q periods inputs run.NoWorker given why = absurd why
+run_fault_by n q periods inputs run.SessionFailed given why = absurd why
+
+run_fault_is : (n : Netlist Kit ℤ) (q : List ℕ) (s : Sound) (periods : ℕ) (inputs : List (List ℤ)) (e : RunFault) →
     inputs ≡ lists_to periods (exchange_of n q) s → IsRunFault n q periods inputs e → of_run e ≡ fault.OutOfMemory
-run_fault_is n q s periods inputs run.OutOfMemory given why = refl
-run_fault_is n q s periods inputs run.InputLength given why = absurd (why (subst (HasInputs n q periods) (sym given) (are_inputs n q s periods)))
-run_fault_is n q s periods inputs run.NotHomed given why = absurd why
-run_fault_is n q s periods inputs run.Patience given why = absurd why
-run_fault_is n q s periods inputs run.NoWorker given why = absurd why
-run_fault_is n q s periods inputs run.SessionFailed given why = absurd why
+run_fault_is n q s periods inputs e given why = run_fault_by n q periods inputs e (subst (HasInputs n q periods) (sym given) (are_inputs n q s periods)) why
 
 -- and what they give begins with the output
 pub begins_with_output : RunsGoOn kit_steps → (n : Netlist Kit ℤ) (p : Schedule) → HasPeriod kit_steps n p → (s : Sound) (many : ℕ) (inputs lists : List (List ℤ)) →

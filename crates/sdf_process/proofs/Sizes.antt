@@ -1,6 +1,6 @@
 -- Tests of sizes by a division, in place of a product that could wrap.
-use Rattle.std.proofs.Common.{◌≡◌, ℕ, ◌*◌, ◌/◌, ◌≤◌, ◌<◌, nat_lt, sym, ap, ◌∙◌, inl, inr, ◌⊎◌, arith}
-use Rattle.std.proofs.Math.Nat.{mul_assoc}
+use Rattle.std.proofs.Common.{◌≡◌, ℕ, ◌+◌, ◌*◌, ◌/◌, ◌≤◌, ◌<◌, nat_lt, sym, ap, ◌∙◌, inl, inr, ◌⊎◌, arith}
+use Rattle.std.proofs.Math.Nat.{mul_assoc, mul-le-mul_right}
 use Rattle.std.proofs.lemmas.Nat.{div_below, le-div}
 use Rattle.std.proofs.lemmas.Bool.{cases_lt, lt-ltb, le-ltb}
 
@@ -27,3 +27,10 @@ data_too_long periods made outputs some =
     lt_divided 2147483629 (made * outputs) periods some
     ∙ lt_doubled (periods * (made * outputs))
     ∙ ap (λ x. nat_lt 4294967259 (2 * x)) (sym (mul_assoc periods made outputs))
+
+-- the frames of so many periods behind so many
+pub frames_fit : (at periods taken : ℕ) → at ≤ 4294967295 → periods ≤ 4294967295 → taken ≤ 67108864 → at * taken + periods * taken < 576460752303423488
+frames_fit at periods taken few more small =
+    let one : at * taken ≤ 4294967295 * taken = mul-le-mul_right taken few in
+    let other : periods * taken ≤ 4294967295 * taken = mul-le-mul_right taken more in
+    omega arith

@@ -72,9 +72,17 @@ sample s e i = slice_index_or s.samples (i * s.channels + e) (pos 0)
 abbrev pub channel_samples : Sound → ℕ → ℕ → List ℤ
 channel_samples s n e = map (sample s e) (range_with_len 0 n)
 
+-- n samples of a channel from a place on
+abbrev pub channel_samples_from : Sound → ℕ → ℕ → ℕ → List ℤ
+channel_samples_from s at n e = map (sample s e) (range_with_len at n)
+
 -- each channel that is read, for so many periods
 abbrev pub lists_to : ℕ → Exchange → Sound → List (List ℤ)
 lists_to periods x s = map (channel_samples s (periods * x.taken)) (range_with_len 0 x.inputs)
+
+-- each channel that is read, for so many periods behind the first ones
+abbrev pub lists_from : ℕ → ℕ → Exchange → Sound → List (List ℤ)
+lists_from at periods x s = map (channel_samples_from s (at * x.taken) (periods * x.taken)) (range_with_len 0 x.inputs)
 
 -- the input lists: those for all periods
 abbrev pub input_lists : Exchange → Sound → List (List ℤ)

@@ -8,7 +8,7 @@ ghost use Rattle.sdf_actor.specs.Sides.{list_count};
 ghost use Rattle.sdf_actor.specs.Wires.{lists as items_of};
 ghost use Rattle.sdf_kit.specs.Kit.{kit_steps};
 ghost use Rattle.sdf_sched.specs.Period.{IsPeriodOf};
-ghost use Rattle.sdf_process.specs.Output.{exchange_of, announced_by, announced_fault, periods_for, rate_for, lists_to, IsExchange, IsExtent};
+ghost use Rattle.sdf_process.specs.Output.{exchange_of, announced_by, announced_fault, periods_for, rate_for, lists_from, lists_to, IsExchange, IsExtent};
 
 use crate::fault::Fault;
 use crate::samples::channel_lists;
@@ -141,6 +141,22 @@ impl Exchange {
         requires { IsExchange self }
         ensures { IfOk result (λ all. items_of all.items ≡ lists_to periods self input) }
     {
-        channel_lists(alloc, &input, periods as usize * self.taken, self.inputs)
+        channel_lists(alloc, &input, 0, periods as usize * self.taken, self.inputs)
+    }
+
+    /// The input lists for some periods behind the first ones, with zeros past the end of the sound.
+    pub(crate) fn inputs_from(
+        self,
+        alloc: Global,
+        input: &Wav,
+        at: u32,
+        periods: u32,
+    ) -> Result<Vec<Vec<i32>>, AllocError>
+        requires { IsExchange self }
+        ensures { IfOk result (λ all. items_of all.items ≡ lists_from at periods self input.now) }
+    {
+        let from = at as usize * self.taken;
+        let len = periods as usize * self.taken;
+        channel_lists(alloc, input, from, len, self.inputs)
     }
 }

@@ -13,6 +13,7 @@ pub mod laws;
 mod placement;
 mod plan;
 pub mod planning;
+mod playing;
 pub mod process;
 mod putting;
 mod samples;

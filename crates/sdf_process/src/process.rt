@@ -22,13 +22,14 @@ use crate::exchange::{Exchange, blocks_for};
 use crate::fault::Fault;
 use crate::hearing::{Heard, hear, wav_laws};
 use crate::plan::Plan;
+use crate::playing::put_pieces;
 use crate::putting::put_frames;
 use sdf_actor::Net;
 use sdf_file::Design;
 use sdf_kit::Kit;
 use sdf_prec::Table;
 use sdf_run::laws::{nets_have_periods, runs_go_on};
-use sdf_run::{Gate, NoGate, Ran, RunFault, run_one, run_rings, run_rows};
+use sdf_run::{Gate, NoGate, Ran, RunFault, run_rings, run_rows};
 use sdf_wav::{MOST_CHANNELS, Reader, Wav, Writer};
 use sdf_words::Runner;
 use std::thread::Threads;
@@ -65,11 +66,13 @@ fn lists_of<T: Threads + AllocGlobal + Sync, G: Gate>(
     rt: &T,
     net: &Net<Kit>,
     plan: &Plan,
+    table: &Table,
     gate: &G,
     input: Wav,
     periods: u32,
 ) -> Result<Vec<Vec<i32>>, Fault>
     requires plan { Suits net.now plan.now }
+    requires table { plan.now.table ≡ Some table.now }
     requires inputs { list_count Inputs net.now.nodes ≤ MOST_CHANNELS }
     requires outputs { list_count Outputs net.now.nodes ≤ MOST_CHANNELS }
     requires periods { periods ≡ periods_of (exchange_of net.now plan.now.period.repetitions) input }
@@ -81,19 +84,10 @@ fn lists_of<T: Threads + AllocGlobal + Sync, G: Gate>(
     nets_have_periods(net, period);
     runs_go_on::<Kit>();
     let exchange = Exchange::of_net(net, period);
-    match plan.table() {
-        None => {
-            let inputs = exchange.inputs_of(alloc, input, periods)?;
-            let ran = run_one(alloc, net, period, periods, &inputs)?;
-            Ok(ran.outputs)
-        }
-        Some(table) => {
-            let blocks = blocks_for(periods, plan.blocking());
-            let inputs = exchange.inputs_of(alloc, input, blocks * plan.blocking())?;
-            let ran = run_blocks(rt, net, plan, table, blocks, &inputs, gate)?;
-            Ok(ran.outputs)
-        }
-    }
+    let blocks = blocks_for(periods, plan.blocking());
+    let inputs = exchange.inputs_of(alloc, input, blocks * plan.blocking())?;
+    let ran = run_blocks(rt, net, plan, table, blocks, &inputs, gate)?;
+    Ok(ran.outputs)
 }
 
 /// Runs a net on a sound that was heard, and writes the frames of its output.
@@ -117,10 +111,16 @@ fn finish<T: Threads + AllocGlobal + Sync, W: Writer, G: Gate>(
         extent,
         mut output,
     } = heard;
-    let exchange = Exchange::of_net(net, plan.period());
-    let lists = lists_of(rt, net, plan, gate, input, extent.periods)?;
+    let alloc = rt.alloc();
+    let period = plan.period();
+    let periods = extent.periods;
+    let Some(table) = plan.table() else {
+        return put_pieces(alloc, writer, net, period, &input, &mut output, periods);
+    };
+    let exchange = Exchange::of_net(net, period);
+    let lists = lists_of(rt, net, plan, table, gate, input, periods)?;
     let frames = extent.periods as usize * exchange.made;
-    put_frames(rt.alloc(), writer, &mut output, &lists, frames)
+    put_frames(alloc, writer, &mut output, &lists, frames)
 }
 
 /// Reads a WAV file, runs a design on it by its plan, and writes the canonical WAV file of the output, of which there is only one

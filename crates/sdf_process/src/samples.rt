@@ -4,7 +4,7 @@ ghost use Rattle.std.specs.Prelude.{◌≡◌, ◌*◌, ◌-◌, ◌+◌, ◌++�
 ghost use Rattle.std.specs.Int.{saturate_signed, w16};
 ghost use Rattle.std.specs.List.{range_with_len};
 ghost use Rattle.sdf_actor.specs.Wires.{lists as items_of};
-ghost use Rattle.sdf_process.specs.Output.{sample, channel_samples, frame, interleaved_from};
+ghost use Rattle.sdf_process.specs.Output.{sample, channel_samples_from, frame, interleaved_from};
 
 use sdf_wav::Wav;
 use std::alloc::{AllocError, Global};
@@ -12,7 +12,7 @@ use std::alloc::{AllocError, Global};
 /// A sample of a channel, 0 past the end.
 fn sample_at(input: &Wav, channel: usize, frame: usize) -> i32
     requires channel { channel < 2 ^ 32 }
-    requires frame { frame < 2 ^ 58 }
+    requires frame { frame < 2 ^ 59 }
     ensures { result ≡ sample input.now channel frame }
 {
     let place = frame * usize::from(input.channels()) + channel;
@@ -22,36 +22,38 @@ fn sample_at(input: &Wav, channel: usize, frame: usize) -> i32
     i32::from(*sample)
 }
 
-/// The first samples of a channel, with zeros past the end.
+/// Samples of a channel from a place on, with zeros past the end.
 fn channel_list(
     alloc: Global,
     input: &Wav,
+    from: usize,
     len: usize,
     channel: usize,
 ) -> Result<Vec<i32>, AllocError>
     requires channel { channel < 2 ^ 32 }
-    requires len { len < 2 ^ 58 }
-    ensures { IfOk result (λ list. list.items ≡ channel_samples input.now len channel) }
+    requires len { from + len < 2 ^ 59 }
+    ensures { IfOk result (λ list. list.items ≡ channel_samples_from input.now from len channel) }
 {
-    (0..len)
+    (from..from + len)
         .map(|frame| sample_at(input, channel, frame))
         .collect(alloc)
 }
 
-/// So many samples of each of the lowest channels.
+/// So many samples of each of the lowest channels, from a place on.
 pub(crate) fn channel_lists(
     alloc: Global,
     input: &Wav,
+    from: usize,
     len: usize,
     channels: usize,
 ) -> Result<Vec<Vec<i32>>, AllocError>
     requires channels { channels < 2 ^ 32 }
-    requires len { len < 2 ^ 58 }
-    ensures { IfOk result (λ found. items_of found.items ≡ map (channel_samples input.now len) (range_with_len 0 channels)) }
+    requires len { from + len < 2 ^ 59 }
+    ensures { IfOk result (λ found. items_of found.items ≡ map (channel_samples_from input.now from len) (range_with_len 0 channels)) }
 {
     let mut all = Vec::new(alloc);
     for channel in 0..channels {
-        all.push(channel_list(alloc, input, len, channel)?)?;
+        all.push(channel_list(alloc, input, from, len, channel)?)?;
     }
     Ok(all)
 }

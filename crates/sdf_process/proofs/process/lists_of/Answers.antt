@@ -1,4 +1,4 @@
-use Rattle.std.proofs.Common.{◌*◌, ◌≤◌, ap, sym, ◌∙◌, subst, arith}
+use Rattle.std.proofs.Common.{◌*◌, ◌≤◌, ap, sym, ◌∙◌, subst}
 use Rattle.sdf_actor.specs.Wires.{lists}
 use Rattle.sdf_answer.specs.Answer.{AreOutputs, IsRunFault, periods_of as firings}
 use Rattle.sdf_kit.specs.Kit.{kit_steps}
@@ -6,35 +6,23 @@ use Rattle.sdf_process.specs.Output.{lists_to}
 use Rattle.sdf_process.proofs.Rendering.{run_begins, run_refused}
 use Rattle.sdf_process.proofs.process.lists_of.Goals as goal
 
-pub returns-in_err-ran-in-None : goal.returns-in_err-ran-in-None
-returns-in_err-ran-in-None g c =
-    run_refused c.args.net.now c.period-period.result.now.repetitions c.args.input c.of_net-exchange.result c.of_net-exchange.ensures.value c.args.periods (lists c.deref.result.now)
-    (ap lists c.deref.ensures.value ∙ c.in_ok-inputs-in-None.ensures)
-    c.in_err-ran-in-None.field-0.0 c.from_residual-in_err-ran-in-None.result _ c.in_err-ran-in-None.ensures c.from_residual-in_err-ran-in-None.ensures.1
-
-pub returns-in_ok-ran-in-None : goal.returns-in_ok-ran-in-None
-returns-in_ok-ran-in-None g c =
-    run_begins c.runs_go_on.ensures c.args.net.now c.args.plan.now.period c.period-period.result.now c.period-period.ensures c.nets_have_periods.ensures
-    c.args.input c.of_net-exchange.result c.of_net-exchange.ensures.value c.args.periods c.args.periods c.requires.periods (omega arith)
-    (lists c.deref.result.now) (lists c.in_ok-ran-in-None.ran.outputs.items) (ap lists c.deref.ensures.value ∙ c.in_ok-inputs-in-None.ensures) c.in_ok-ran-in-None.ensures.1
-
-pub returns-in_err-ran-in-Some : goal.returns-in_err-ran-in-Some
-returns-in_err-ran-in-Some g c =
-    let same = c.blocking-in-Some.ensures in
+pub returns-in_err-ran : goal.returns-in_err-ran
+returns-in_err-ran g c =
+    let same = c.blocking-2.ensures in
     run_refused c.args.net.now c.period-period.result.now.repetitions c.args.input c.of_net-exchange.result c.of_net-exchange.ensures.value
-    (c.blocks_for-blocks.result * c.args.plan.now.blocking) (lists c.deref-in-Some.result.now)
-    (ap lists c.deref-in-Some.ensures.value ∙ (c.in_ok-inputs-in-Some.ensures ∙ ap (λ j. lists_to (c.blocks_for-blocks.result * j) c.of_net-exchange.result c.args.input) same))
-    c.in_err-ran-in-Some.field-0.0 c.from_residual-in_err-ran-in-Some.result _
-    (subst (λ p. IsRunFault c.args.net.now p.repetitions (c.blocks_for-blocks.result * c.args.plan.now.blocking) (lists c.deref-in-Some.result.now) c.in_err-ran-in-Some.field-0.0) (sym c.period-period.ensures) c.in_err-ran-in-Some.ensures)
-    c.from_residual-in_err-ran-in-Some.ensures.1
+    (c.blocks_for-blocks.result * c.args.plan.now.blocking) (lists c.deref.result.now)
+    (ap lists c.deref.ensures.value ∙ (c.in_ok-inputs.ensures ∙ ap (λ j. lists_to (c.blocks_for-blocks.result * j) c.of_net-exchange.result c.args.input) same))
+    c.in_err-ran.field-0.0 c.from_residual-in_err-ran.result _
+    (subst (λ p. IsRunFault c.args.net.now p.repetitions (c.blocks_for-blocks.result * c.args.plan.now.blocking) (lists c.deref.result.now) c.in_err-ran.field-0.0) (sym c.period-period.ensures) c.in_err-ran.ensures)
+    c.from_residual-in_err-ran.ensures.1
 
-pub returns-in_ok-ran-in-Some : goal.returns-in_ok-ran-in-Some
-returns-in_ok-ran-in-Some g c =
-    let same = c.blocking-in-Some.ensures in
+pub returns : goal.returns
+returns g c =
+    let same = c.blocking-2.ensures in
     let first = c.blocking.ensures in
     run_begins c.runs_go_on.ensures c.args.net.now c.args.plan.now.period c.period-period.result.now c.period-period.ensures c.nets_have_periods.ensures
     c.args.input c.of_net-exchange.result c.of_net-exchange.ensures.value c.args.periods (c.blocks_for-blocks.result * c.args.plan.now.blocking) c.requires.periods
     (subst (λ j. c.args.periods ≤ c.blocks_for-blocks.result * j) first c.blocks_for-blocks.ensures.enough)
-    (lists c.deref-in-Some.result.now) (lists c.in_ok-ran-in-Some.ran.outputs.items)
-    (ap lists c.deref-in-Some.ensures.value ∙ (c.in_ok-inputs-in-Some.ensures ∙ ap (λ j. lists_to (c.blocks_for-blocks.result * j) c.of_net-exchange.result c.args.input) same))
-    (subst (λ p. AreOutputs kit_steps c.args.net.now (lists c.deref-in-Some.result.now) (firings p.repetitions (c.blocks_for-blocks.result * c.args.plan.now.blocking)) (lists c.in_ok-ran-in-Some.ran.outputs.items)) (sym c.period-period.ensures) c.in_ok-ran-in-Some.ensures.1)
+    (lists c.deref.result.now) (lists c.in_ok-ran.ran.outputs.items)
+    (ap lists c.deref.ensures.value ∙ (c.in_ok-inputs.ensures ∙ ap (λ j. lists_to (c.blocks_for-blocks.result * j) c.of_net-exchange.result c.args.input) same))
+    (subst (λ p. AreOutputs kit_steps c.args.net.now (lists c.deref.result.now) (firings p.repetitions (c.blocks_for-blocks.result * c.args.plan.now.blocking)) (lists c.in_ok-ran.ran.outputs.items)) (sym c.period-period.ensures) c.in_ok-ran.ensures.1)
