@@ -25,6 +25,4 @@ mod runs;
 #[cfg(test)]
 mod schedules;
 #[cfg(test)]
-mod sessions;
-#[cfg(test)]
 mod words;
