@@ -2,7 +2,11 @@
 
 use crate::designs::{HALF, SECOND, THREE_FOR_TWO};
 use crate::running::{file_of, run_file};
+use sdf_file::read_design;
+use sdf_process::planning::plan;
+use sdf_process::process::process;
 use sdf_process::{Fault, fault_text, status};
+use sdf_wav::{FromRead, ToWrite};
 use sdf_words::{Options, Runner, WordFault};
 use std::alloc::{AllocError, Global};
 use std::process::Abort;
@@ -65,6 +69,31 @@ fn wav_files_have_their_faults(rt: HostRuntime) -> Result<(), Fail> {
     ends(&rt, alloc, odd, 4, "sdfw: 60 RateNotWhole\n")?;
     let lacking = run_file(&rt, SECOND, &Options::DEFAULT, &mono);
     ends(&rt, alloc, lacking, 4, "sdfw: 59 ChannelsMissing\n")
+}
+
+#[test]
+fn faults_leave_the_header_or_nothing(rt: HostRuntime) -> Result<(), Fail> {
+    let alloc = rt.alloc();
+    let design = read_design(alloc, HALF.as_bytes(), &[])?;
+    let plan = plan(alloc, &design, &Options::DEFAULT)?;
+    for (size, end, fault, written) in [
+        (6, 48, "sdfw: 43 Truncated\n", 44),
+        (0xFFFF_FFFF, 47, "sdfw: 44 PartialFrame\n", 0),
+        (0xFFFF_FFFE, 48, "sdfw: 45 TooLong\n", 0),
+    ] {
+        let mut file = file_of(alloc, 8000, 1, &[1, 2, 3])?;
+        for (slot, byte) in file.iter_mut().skip(40).zip(&u32::to_le_bytes(size)) {
+            *slot = *byte;
+        }
+        file.truncate(end);
+        let mut writer = ToWrite::new(Vec::new(alloc));
+        let mut reader = FromRead::new(file.as_slice());
+        let run = process(&rt, &mut reader, &mut writer, &design, &plan);
+        let output = writer.into_inner();
+        assert_eq!(rt; output.len(), written);
+        ends(&rt, alloc, run.map(|()| output), 4, fault)?;
+    }
+    Ok(())
 }
 
 #[test]
