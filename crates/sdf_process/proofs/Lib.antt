@@ -1,12 +1,12 @@
 pub mod Sizes
 pub mod Lists
-pub mod Running
+pub mod Outcomes
 pub mod Fronts
 pub mod Contents
 pub mod Refusals
 pub mod Texts
 pub mod Opened
-pub mod Finishing
+pub mod Finished
 pub mod Pieces
 pub mod Sounds
 pub mod Rendering
@@ -15,4 +15,10 @@ pub mod Outputs
 pub mod Suiting
 pub mod Tabling
 pub mod Played
-pub mod Streams
+pub mod Pieced
+pub mod Parts
+pub mod Readings
+pub mod Fed
+pub mod Streamed
+pub mod Flow
+pub mod Flowing

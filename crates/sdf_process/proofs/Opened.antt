@@ -1,11 +1,10 @@
 -- What is known where a file has opened: what it announces, and what each stage behind says.
-use Rattle.std.proofs.Common.{false, ◌≡◌, ◌≢◌, inl, inr, ℕ, ◌+◌, ◌*◌, ◌/◌, ℤ, List, [], ◌∷◌, ◌++◌, length, Option, Some, None, Ok, Err, refl, sym, ap, ◌∙◌, subst, arith, append-nil}
-use Rattle.std.specs.Prelude.{if◌then◌else◌, ◌==◌, drop}
+use Rattle.std.proofs.Common.{false, ◌≡◌, ◌≢◌, ◌⊎◌, inl, inr, ℕ, ◌+◌, ◌*◌, ◌/◌, ◌≤◌, ℤ, List, [], ◌∷◌, ◌++◌, length, Option, Some, None, Ok, Err, refl, sym, ap, ◌∙◌, subst, arith, append-nil}
+use Rattle.std.specs.Prelude.{if◌then◌else◌, ◌==◌}
 use Rattle.std.specs.Io.KnownBytes.{Appends}
 use Rattle.std.proofs.Math.Nat.{mul-div-mul_left}
 use Rattle.std.proofs.lemmas.Bool.Decides.{eqb_tells}
 use Rattle.std.proofs.lemmas.Bool.{eq-eqb, ne_eqb}
-use Rattle.std.proofs.lemmas.List.{drop-drop}
 use Rattle.sdf_actor.specs.Nets.{Netlist}
 use Rattle.sdf_kit.specs.declared.kit.Kit.{Kit}
 use Rattle.sdf_wav.specs.Sound.{Sound, frames_of}
@@ -20,9 +19,13 @@ use Rattle.sdf_process.specs.declared.exchange.Announced.{Announced}
 use Rattle.sdf_process.specs.declared.exchange.Exchange.{Exchange}
 use Rattle.sdf_process.specs.declared.exchange.Extent.{Extent}
 use Rattle.sdf_process.specs.declared.fault.Fault.{Fault}
+use Rattle.sdf_process.specs.declared.fault.Fault.TheVariants.{Write}
 use Rattle.sdf_process.specs.Output.{announced_by, announced_fault, exchange_of, output_frames, output_header, IsExchange, IsExtent}
-use Rattle.sdf_process.specs.Run.{announced_size, IsAllowed, IsRun, IsText, IsUnsized}
+use Rattle.sdf_process.specs.Run.{announced_size, AreRead, IsAllowed, IsRun, IsText, IsUnsized}
 use Rattle.sdf_process.specs.Stages.{Hears, IsHeard, ReadsContent, PutsHeader, WavLaws}
+use Rattle.sdf_process.specs.Streams.{IsStream, ReadsBy}
+use Rattle.sdf_process.proofs.Outcomes.{appends_join, front_join, lost_twice}
+use Rattle.sdf_process.proofs.Sizes.{fewer_frames, fewer_periods, periods_fit}
 use Rattle.sdf_process.proofs.Refusals.{some_no_none, AnnouncedAt, Begins, refused, writer_failed, memory_failed, reader_failed, content_cut, unheard_by_memory, unheard_by_reader, unheard_by_fault}
 use Rattle.sdf_process.proofs.Texts.{header_is, text_begins}
 
@@ -53,8 +56,13 @@ no_gone (x ∷ xs) left e = absurd (omega arith)
 pub announced_same : (r h f u v w : ℕ) → r ≡ u → h ≡ v → f ≡ w → ◌≡◌ {A = Announced} (record { rate = r; channels = h; frames = f }) (record { rate = u; channels = v; frames = w })
 announced_same r h f u v w x y z = rw (x, y, z) refl
 
-lost_twice : (a b c : List ℕ) → LosesFront a b → LosesFront b c → LosesFront a c
-lost_twice a b c (k, first) (j, next) = (k + j, next ∙ (ap (drop j) first ∙ drop-drop j k a))
+-- a sound of so many samples has the frames that are known
+pub sound_announced : (c : Reading) (frames : ℕ) → known_frames c ≡ Some frames → (s : Sound) → s.rate ≡ c.rate → s.channels ≡ c.channels → 2 * length s.samples ≡ c.size →
+    announced_by s ≡ record { rate = c.rate; channels = c.channels; frames = frames }
+sound_announced c frames is s rate channels size =
+    announced_same s.rate s.channels (frames_of s) c.rate c.channels frames rate channels
+    (sym (mul-div-mul_left {m = 2} (length s.samples) s.channels (omega arith))
+    ∙ (ap (λ (z : ℕ). z / (2 * s.channels)) size ∙ (ap (λ (z : ℕ). c.size / (2 * z)) channels ∙ sym (frames_known c.size c.channels frames is).1)))
 
 then_lost : (a b c : Option (List ℕ)) (P : List ℕ → List ℕ → Type 0) → Known a b (λ x y. P x y × LosesFront x y) → Known b c LosesFront → Known a c LosesFront
 then_lost a b c P p q = record { at = λ input known. let y = p.at input known in let z = q.at y.0 y.1 in (z.0, z.1, lost_twice input y.0 z.0 y.2.1 z.2) }
@@ -109,12 +117,8 @@ module _ (laws : WavLaws) (n : Netlist Kit ℤ) (q : List ℕ) (x : Exchange) (s
         sym (announced_same c.rate c.channels frames f.rate f.channels (size / (2 * f.channels)) rate channels
         ((frames_known c.size c.channels frames is).1 ∙ (ap (λ (z : ℕ). z / (2 * c.channels)) count ∙ ap (λ (z : ℕ). size / (2 * z)) channels)))
 
-    -- a sound of so many samples has them
     announced_sound : (s : Sound) → s.rate ≡ c.rate → s.channels ≡ c.channels → 2 * length s.samples ≡ c.size → announced_by s ≡ announced
-    announced_sound s rate channels size =
-        announced_same s.rate s.channels (frames_of s) c.rate c.channels frames rate channels
-        (sym (mul-div-mul_left {m = 2} (length s.samples) s.channels (omega arith))
-        ∙ (ap (λ (z : ℕ). z / (2 * s.channels)) size ∙ (ap (λ (z : ℕ). c.size / (2 * z)) channels ∙ sym (frames_known c.size c.channels frames is).1)))
+    announced_sound s rate channels size = sound_announced c frames is s rate channels size
 
     sounds : (input : List ℕ) (s : Sound) (rest : List ℕ) → read ≡ Some input → IsWav input s rest → announced_by s ≡ announced
     sounds input s rest known wav =
@@ -183,21 +187,24 @@ module _ (laws : WavLaws) (n : Netlist Kit ℤ) (q : List ℕ) (x : Exchange) (s
           (writer_failed n q read mid before after r r' w w' text is_text begins (subst (AppendsFront before after) header_same puts.1)
           (record { at = λ input known. let y = said.at input known in (y.0, y.1, (c, [], y.2.0)) }) counted puts.2)
 
-      -- the content failed behind the header
-      module _ (left before after : Option (List ℕ)) (r r1 r' w w' : ℕ) (counted : r1 ≡ r) (written : Appends before after (file_header e.rate x.outputs (e.periods * x.made))) (fine : w' ≡ w) where
-        put : Appends before after text
-        put = subst (Appends before after) header_same written
-
-        pub content_failed_ahead : (f : Fault) → ReadsContent c mid left r1 r' (Err f) → Fails left before after r r' w w' f
-        content_failed_ahead f (inl reads) =
+      -- the reading failed behind some text
+      module _ (text : List ℕ) (is_text : (input : List ℕ) → read ≡ Some input → IsText n q input text) (begins : Begins text) (left before after : Option (List ℕ)) (r r1 r' w w' : ℕ) (counted : r1 ≡ r) (put : Appends before after text)
+          (fine : w' ≡ w) where
+        pub reading_failed : (f : Fault) → ReadsContent c mid left r1 r' (Err f) → Fails left before after r r' w w' f
+        reading_failed f (inl reads) =
             subst (Fails left before after r r' w w') (sym reads.0)
             (memory_failed n q read left before after r r' w w' text is_text begins put (then_lost read mid left _ said reads.1) (reads.2 ∙ counted) fine)
-        content_failed_ahead f (inr (inl reads)) =
+        reading_failed f (inr (inl reads)) =
             subst (Fails left before after r r' w w') (sym reads.0)
             (reader_failed n q read left before after r r' w w' text is_text begins put (then_lost read mid left _ said reads.1) (reads.2 ∙ ap one_more counted) fine)
-        content_failed_ahead f (inr (inr reads)) =
+        reading_failed f (inr (inr reads)) =
             subst (Fails left before after r r' w w') (sym reads.1)
             (content_cut n q read left before after r r' w w' text is_text begins laws reads.0 (reads.4 sized) put (content_has reads.0 left reads.2) allowed_by (reads.3 ∙ counted) fine)
+
+      -- the content failed behind the header
+      module _ (left before after : Option (List ℕ)) (r r1 r' w w' : ℕ) (counted : r1 ≡ r) (written : Appends before after (file_header e.rate x.outputs (e.periods * x.made))) (fine : w' ≡ w) where
+        pub content_failed_ahead : (f : Fault) → ReadsContent c mid left r1 r' (Err f) → Fails left before after r r' w w' f
+        content_failed_ahead f reads = reading_failed text is_text begins left before after r r1 r' w w' counted (subst (Appends before after) header_same written) fine f reads
 
         -- all was heard
         pub heard_ahead : (s : Sound) (o : Owed) → ReadsContent c mid left r1 r' (Ok s) → o ≡ record { channels = x.outputs; missing = e.periods * x.made; spent = false } →
@@ -230,6 +237,62 @@ module _ (laws : WavLaws) (n : Netlist Kit ℤ) (q : List ℕ) (x : Exchange) (s
               reader = reads.1 ∙ counted;
               writer = fine;
             }
+
+      -- a run that reads and writes as it goes
+      module _ (left before begun after : Option (List ℕ)) (r r' w w1 w' : ℕ) (one : 1 ≤ c.channels) (written : Appends before begun (file_header e.rate x.outputs (e.periods * x.made))) (fine : w1 ≡ w) where
+        begun_by : Appends before begun (output_header (exchange_of n q) announced)
+        begun_by = subst (Appends before begun) (header_is x announced e extent ∙ ap (λ (z : Exchange). output_header z announced) same) written
+
+        module _ (samples : List ℤ) (periods : ℕ) (bytes : List ℕ) (last : Option (List ℕ)) (st : IsStream n q c samples periods bytes) (reads : ReadsBy c samples mid last) where
+          here_read : (input : List ℕ) → read ≡ Some input → (rest : List ℕ) × (last ≡ Some rest) × IsReadTo input (record c { gone = c.gone + 2 * length samples }) samples rest
+          here_read input known = let y = said.at input known in let z = reads.at y.0 y.1 in (z.0, z.1, z.2.0 input y.2.0)
+
+          are_read_of : (rest : List ℕ) → AreRead (exchange_of n q) (record c { gone = c.gone + 2 * length samples }) samples rest periods
+          are_read_of rest = elim st.are_read [
+            | inl less ↦ inl less
+            | inr y ↦ inr (inl (sized, (let z : c.gone + 2 * length samples ≡ c.size = omega (arith, gone, y.0) in z)), y.1)
+          ]
+
+          text_so_far : (input : List ℕ) → read ≡ Some input → IsText n q input (output_header (exchange_of n q) announced ++ bytes)
+          text_so_far input known =
+              let y = here_read input known in
+              record {
+                reading = record c { gone = c.gone + 2 * length samples };
+                samples = samples;
+                rest = y.0;
+                announced = announced;
+                periods = periods;
+                frames = bytes;
+                read = y.2;
+                announces = (refl, refl, inl is);
+                is_allowed = extent_of.is_allowed;
+                are_read = are_read_of y.0;
+                are_frames = st.are_frames;
+                text_is = refl;
+              }
+
+          frames_read : frames_of (sound_read c samples) ≤ frames
+          frames_read = subst (λ (k : ℕ). frames_of (sound_read c samples) ≤ k) (sym (frames_known c.size c.channels frames is).1) (fewer_frames (length samples) c.channels c.size one st.within)
+
+          few_periods : periods ≤ e.periods
+          few_periods = subst (λ (k : ℕ). periods ≤ k) (sym extent_of.periods) (elim st.are_read [
+            | inl less ↦ periods_fit periods (exchange_of n q).taken frames limited.some_taken (omega (arith, less, frames_read))
+            | inr y ↦ omega (arith, y.1, fewer_periods (frames_of (sound_read c samples)) frames (exchange_of n q).taken limited.some_taken frames_read)
+          ])
+
+          begins_so_far : Begins (output_header (exchange_of n q) announced ++ bytes)
+          begins_so_far = text_begins laws n q announced e limited extent_of (sound_read c samples) periods bytes few_periods st.are_frames
+
+          pub stream_stopped : (f : Fault) → (((f ≡ Write) × (last ≡ left) × AppendsFront begun after bytes × (r' ≡ r) × (w' ≡ one_more w1)) ⊎ (ReadsContent c mid left r r' (Err f) × Appends begun after bytes × (w' ≡ w1))) →
+              Fails left before after r r' w w' f
+          stream_stopped f (inl (is_write, here, front, counted, failed)) =
+              subst (Fails left before after r r' w w') (sym is_write)
+              (writer_failed n q read left before after r r' w w' (output_header (exchange_of n q) announced ++ bytes) text_so_far begins_so_far
+              (front_join before begun after (output_header (exchange_of n q) announced) bytes begun_by front)
+              (record { at = λ input known. let y = here_read input known in (y.0, sym here ∙ y.1, (record c { gone = c.gone + 2 * length samples }, samples, y.2)) }) counted (failed ∙ ap one_more fine))
+          stream_stopped f (inr (failed, all, same_count)) =
+              reading_failed (output_header (exchange_of n q) announced ++ bytes) text_so_far begins_so_far left before after r r r' w w' refl
+              (appends_join before begun after (output_header (exchange_of n q) announced) bytes begun_by all) (same_count ∙ fine) f failed
 
   -- ---- the size of the data was not filled in
 

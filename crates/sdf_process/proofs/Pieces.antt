@@ -19,9 +19,8 @@ use Rattle.sdf_process.specs.declared.fault.Fault.TheVariants.{OutOfMemory}
 use Rattle.sdf_process.specs.Output.{exchange_of, frame, interleaved, interleaved_from, output_frames, periods_of}
 use Rattle.sdf_process.specs.Run.{BeginWithOutput}
 use Rattle.sdf_process.specs.Stages.{PutsFrames, PutsOutput, SamplesJoin}
-use Rattle.sdf_process.proofs.Finishing.{front_join}
 use Rattle.sdf_process.proofs.Rendering.{interleaved_cut}
-use Rattle.sdf_process.proofs.Running.{keeps_same}
+use Rattle.sdf_process.proofs.Outcomes.{front_join, keeps_same}
 use Rattle.sdf_process.proofs.Texts.{bytes_append}
 
 -- frames from two places on, one behind the other

@@ -79,7 +79,7 @@ pub lists_full : (n : Netlist Kit ℤ) (q : List ℕ) (periods : ℕ) (s : Sound
 lists_full n q periods s e l = list_length periods (exchange_of n q) s e l
 
 module _ (few more : ℕ) (x : Exchange) (s : Sound) where
-  from_at : (e : ℕ) → e < length (lists_from few more x s) → length (get_or (lists_from few more x s) e []) ≡ more * x.taken
+  pub from_at : (e : ℕ) → e < length (lists_from few more x s) → length (get_or (lists_from few more x s) e []) ≡ more * x.taken
   from_at e l =
       let count : length (lists_from few more x s) ≡ x.inputs = length-map-range_with_len (channel_samples_from s (few * x.taken) (more * x.taken)) 0 x.inputs in
       ap length (get_or-map-range_with_len (channel_samples_from s (few * x.taken) (more * x.taken)) 0 x.inputs e e [] (omega (arith, l, count)) (omega arith))

@@ -22,7 +22,7 @@ use Rattle.sdf_process.specs.Faults.{of_wav}
 use Rattle.sdf_process.specs.Output.{announced_by, announced_fault, exchange_of, output_fault}
 use Rattle.sdf_process.specs.Run.{Announces, announced_size, HasOutputFault, Handles, IsAllowed, IsRun, IsText, IsUnsized, ReadsAnnounced, ReadsInto, Refuses, Runs, WritesFile, WritesSome}
 use Rattle.sdf_process.specs.Stages.{WavLaws}
-use Rattle.sdf_process.proofs.Running.{IsOfOutput, fault_of_announced, keeps_same, kept, refuses_outside}
+use Rattle.sdf_process.proofs.Outcomes.{IsOfOutput, fault_of_announced, keeps_same, kept, refuses_outside}
 
 -- the fault of a call that failed
 pub fails_by : {X : Type 0} (r : Result X Fault) (f : Fault) (P : X → Type 0) (Q : Fault → Type 0) → IsErrAnd r (λ e. e ≡ f) → Q f → MatchResult r P Q

@@ -46,7 +46,7 @@ are_inputs n q s periods = record {
 }
 
 -- those of fewer periods begin those of more
-begin : (few many : ℕ) (x : Exchange) (s : Sound) → few ≤ many → Begin (lists_to few x s) (lists_to many x s)
+pub begin : (few many : ℕ) (x : Exchange) (s : Sound) → few ≤ many → Begin (lists_to few x s) (lists_to many x s)
 begin few many x s less e = go (cases_lt e x.inputs)
   where
     go : (e < x.inputs) ⊎ (x.inputs ≤ e) → get_or (lists_to few x s) e [] ≡ take (length (get_or (lists_to few x s) e [])) (get_or (lists_to many x s) e [])

@@ -2,6 +2,7 @@ pub mod Faults
 pub mod Output
 pub mod Run
 pub mod Stages
+pub mod Streams
 pub mod Placements
 pub mod Plans
 pub mod Schedules

@@ -11,9 +11,10 @@ use Rattle.sdf_wav.specs.Canonical.{sample_bytes, canonical_wav, write_fault, Is
 use Rattle.sdf_wav.specs.Device.{AppendsFront, Known, LosesFront, one_more}
 use Rattle.sdf_wav.specs.Grammar.{IsWav}
 use Rattle.sdf_wav.specs.Fault.{HasFault}
-use Rattle.sdf_wav.specs.PiecesIn.{Reading, OpensAs, IsReadTo, IsEnded, sound_read}
+use Rattle.sdf_wav.specs.PiecesIn.{Reading, Opens, OpensAs, OpensTo, AnswersOpening, IsReadTo, IsEnded, sound_read}
 use Rattle.sdf_wav.specs.PiecesOut.{Owed}
 use Rattle.sdf_wav.specs.Sound.{Sound}
+use Rattle.sdf_wav.specs.declared.format.Format.{Format}
 use Rattle.sdf_wav.specs.declared.fault.FormatFault.{FormatFault}
 use Rattle.sdf_wav.specs.declared.fault.FormatFault.TheVariants.{Truncated}
 use Rattle.sdf_wav.specs.declared.wav.TheConstants.{MOST_CHANNELS}
@@ -22,7 +23,7 @@ use Rattle.sdf_process.specs.declared.exchange.Extent.{Extent}
 use Rattle.sdf_process.specs.declared.fault.Fault.{Fault}
 use Rattle.sdf_process.specs.declared.fault.Fault.TheVariants.{OutOfMemory, Wav, Read, Write}
 use Rattle.sdf_process.specs.Output.{announced_by, exchange_of, input_lists, interleaved, lists_to, output_frames, output_header, periods_of, IsExtent}
-use Rattle.sdf_process.specs.Run.{Announces, AreFrames, IsAllowed}
+use Rattle.sdf_process.specs.Run.{Announces, AreFrames, IsAllowed, IsRun}
 
 -- What a call did that is to write these bytes: all of them, or a front where the writer failed.
 abbrev pub PutsHeader : {X : Type 0} → Option (List ℕ) → Option (List ℕ) → ℕ → ℕ → List ℕ → Result X Fault → Type 0
@@ -95,6 +96,15 @@ pub record Hears (x : Exchange) (read left before after : Option (List ℕ)) (r 
   pub owed : o ≡ record { channels = x.outputs; missing = output_frames x s; spent = false }
   pub reader : r' ≡ r
   pub writer : w' ≡ w
+
+-- a content that was opened from an input of which this is left
+pub record IsOpened (read left : Option (List ℕ)) (c : Reading) : Type 0 where
+  pub answers : AnswersOpening read left (Ok c)
+  pub only : (input : List ℕ) (f : Format) (size : ℕ) (rest : List ℕ) → read ≡ Some input → Opens input f size rest → OpensTo left f size rest (Ok c)
+
+-- what the stages behind an opening say of the run, whatever was opened
+abbrev pub RunsOn : Netlist Kit ℤ → List ℕ → Reading → Option (List ℕ) → Option (List ℕ) → Option (List ℕ) → Option (List ℕ) → ℕ → ℕ → ℕ → ℕ → Result (Unit {0}) Fault → Type 0
+RunsOn n q c mid left before after r r' w w' result = (read : Option (List ℕ)) → IsOpened read mid c → IsRun n q read left before after r r' w w' result
 
 -- samples that are written in turn are written as one list
 abbrev pub SamplesJoin : Type 0

@@ -1,30 +1,15 @@
-//! The first stages of a run: the input as far as its frames are known, the tests of the output, its header, and the content.
+//! Stages of a run: the header of its output, and a content that is read whole.
 
-ghost use Rattle.std.specs.Prelude.{◌≡◌, ◌*◌, ◌≤◌, ◌<◌, false, None, MatchResult, IfOk, Err};
-ghost use Rattle.sdf_actor.specs.declared.sides.Lists.TheVariants.{Inputs, Outputs};
-ghost use Rattle.sdf_actor.specs.Sides.{list_count};
+ghost use Rattle.std.specs.Prelude.{◌≡◌, ◌*◌, ◌≤◌, ◌<◌, false, None, IfOk};
 ghost use Rattle.sdf_wav.specs.PiecesOut.{file_header};
-ghost use Rattle.sdf_process.specs.Output.{exchange_of, IsExchange};
-ghost use Rattle.sdf_process.specs.Plans.{Suits};
-ghost use Rattle.sdf_process.specs.Run.{IsRun};
-ghost use Rattle.sdf_process.specs.Stages.{Hears, PutsHeader, ReadsContent, WavLaws};
+ghost use Rattle.sdf_process.specs.Output.{IsExchange};
+ghost use Rattle.sdf_process.specs.Stages.{PutsHeader, ReadsContent, WavLaws};
 
-use crate::exchange::{Announced, Exchange, Extent};
+use crate::exchange::{Exchange, Extent};
 use crate::fault::Fault;
-use crate::plan::Plan;
-use sdf_actor::Net;
-use sdf_kit::Kit;
 use sdf_wav::laws::{files_are_canonical, one_outcome, pieces_join, puts_join};
-use sdf_wav::{ContentIn, ContentOut, MOST_CHANNELS, Reader, Wav, Writer};
+use sdf_wav::{ContentIn, ContentOut, Reader, Wav, Writer};
 use std::alloc::Global;
-
-/// A sound that was read, and its output as far as it is begun.
-#[derive(Drop)]
-pub(crate) struct Heard {
-    pub(crate) input: Wav,
-    pub(crate) extent: Extent,
-    pub(crate) output: ContentOut,
-}
 
 /// The laws of WAV files that a run stands on.
 pub(crate) fn wav_laws()
@@ -37,7 +22,11 @@ pub(crate) fn wav_laws()
 }
 
 /// Writes the header of an output.
-fn begin<W: Writer>(writer: &mut W, exchange: Exchange, extent: Extent) -> Result<ContentOut, Fault>
+pub(crate) fn begin<W: Writer>(
+    writer: &mut W,
+    exchange: Exchange,
+    extent: Extent,
+) -> Result<ContentOut, Fault>
     requires limits { IsExchange exchange }
     requires some_rate { 0 < extent.rate }
     requires few_bytes_a_second { extent.rate * (2 * exchange.outputs) ≤ 4294967295 }
@@ -55,7 +44,7 @@ fn begin<W: Writer>(writer: &mut W, exchange: Exchange, extent: Extent) -> Resul
 }
 
 /// Reads a whole content.
-fn read_content<R: Reader>(
+pub(crate) fn read_content<R: Reader>(
     alloc: Global,
     reader: &mut R,
     mut content: ContentIn,
@@ -67,50 +56,4 @@ fn read_content<R: Reader>(
     pieces_join();
     let samples = content.next(alloc, reader, usize::MAX)?;
     Ok(Wav::new(content.rate(), content.channels(), samples)?)
-}
-
-/// Reads an input and writes the header of its output. Where the size of the data is filled in, the output is tested and the header
-/// written before the content is read, and else behind it.
-pub(crate) fn hear<R: Reader, W: Writer>(
-    alloc: Global,
-    reader: &mut R,
-    writer: &mut W,
-    net: &Net<Kit>,
-    plan: &Plan,
-) -> Result<Heard, Fault>
-    requires plan { Suits net.now plan.now }
-    requires inputs { list_count Inputs net.now.nodes ≤ MOST_CHANNELS }
-    requires outputs { list_count Outputs net.now.nodes ≤ MOST_CHANNELS }
-    ensures { MatchResult result
-        (λ h. Hears (exchange_of net.now plan.now.period.repetitions) (R.remaining reader.old) (R.remaining reader.new) (W.contents writer.old) (W.contents writer.new)
-        (R.failures reader.old) (R.failures reader.new) (W.failures writer.old) (W.failures writer.new) h.input h.extent h.output)
-        (λ e. IsRun net.now plan.now.period.repetitions (R.remaining reader.old) (R.remaining reader.new) (W.contents writer.old) (W.contents writer.new)
-        (R.failures reader.old) (R.failures reader.new) (W.failures writer.old) (W.failures writer.new) (Err e)) }
-{
-    wav_laws();
-    let exchange = Exchange::of_net(net, plan.period());
-    let content = ContentIn::open(reader)?;
-    let Some(frames) = content.frames() else {
-        let input = read_content(alloc, reader, content)?;
-        let extent = exchange.extent(Announced::by(&input))?;
-        let output = begin(writer, exchange, extent)?;
-        return Ok(Heard {
-            input,
-            extent,
-            output,
-        });
-    };
-    let announced = Announced {
-        rate: content.rate(),
-        channels: content.channels(),
-        frames,
-    };
-    let extent = exchange.extent(announced)?;
-    let output = begin(writer, exchange, extent)?;
-    let input = read_content(alloc, reader, content)?;
-    Ok(Heard {
-        input,
-        extent,
-        output,
-    })
 }

@@ -8,6 +8,7 @@
 
 mod exchange;
 mod fault;
+mod finishing;
 mod hearing;
 pub mod laws;
 mod placement;
@@ -16,8 +17,10 @@ pub mod planning;
 mod playing;
 pub mod process;
 mod putting;
+mod running;
 mod samples;
 pub mod schedule;
+mod streaming;
 
 pub use fault::{Fault, Progress, Stalled, fault_text, status};
 pub use plan::Plan;

@@ -1,6 +1,6 @@
 use Rattle.std.proofs.Common.{◌*◌, ap}
 use Rattle.sdf_actor.specs.Wires.{lists as items_of}
-use Rattle.sdf_process.proofs.Streams.{piece_failed, piece_put}
+use Rattle.sdf_process.proofs.Pieced.{piece_failed, piece_put}
 use Rattle.sdf_process.proofs.playing.put_piece.Goals as goal
 
 pub returns-in_err-put_frames-clause-puts : goal.returns-in_err-put_frames-clause-puts

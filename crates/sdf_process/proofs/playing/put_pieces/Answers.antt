@@ -3,10 +3,9 @@ use Rattle.sdf_wav.specs.PiecesOut.{Owed}
 use Rattle.sdf_process.specs.declared.exchange.Exchange.{Exchange}
 use Rattle.sdf_process.specs.declared.fault.Fault.TheVariants.{OutOfMemory}
 use Rattle.sdf_process.specs.Output.{exchange_of}
-use Rattle.sdf_process.proofs.Finishing.{appends_join}
 use Rattle.sdf_process.proofs.Pieces.{appends_none, unrun}
-use Rattle.sdf_process.proofs.Running.{keeps_same}
-use Rattle.sdf_process.proofs.Streams.{owed_more, owed_none, piece_few, piece_missing, pieces_failed, pieces_put, plays_first}
+use Rattle.sdf_process.proofs.Outcomes.{appends_join, keeps_same}
+use Rattle.sdf_process.proofs.Pieced.{owed_more, owed_none, piece_few, piece_missing, pieces_failed, pieces_put, plays_first}
 use Rattle.sdf_process.proofs.playing.put_pieces.Goals as goal
 
 pub returns-in_err-rest : goal.returns-in_err-rest

@@ -1,5 +1,5 @@
 -- The last stage of a run: what is known once its frames are written, or where that failed.
-use Rattle.std.proofs.Common.{◌≡◌, ◌⊎◌, inl, inr, ℕ, ◌*◌, ◌≤◌, ℤ, List, ◌++◌, length, Option, Some, None, Result, Ok, Err, refl, sym, ap, ◌∙◌, subst, append_assoc}
+use Rattle.std.proofs.Common.{false, ◌≡◌, ◌⊎◌, inl, inr, ℕ, ◌*◌, ◌≤◌, ℤ, List, ◌++◌, length, Option, Some, None, Result, Ok, Err, refl, sym, ap, ◌∙◌, subst, append_assoc}
 use Rattle.std.specs.Io.KnownBytes.{Appends}
 use Rattle.sdf_actor.specs.Nets.{Netlist}
 use Rattle.sdf_answer.specs.Answer.{AreOutputs, periods_of as firings}
@@ -9,32 +9,22 @@ use Rattle.sdf_wav.specs.Sound.{Sound}
 use Rattle.sdf_wav.specs.Grammar.{IsWav}
 use Rattle.sdf_wav.specs.Canonical.{header, canonical_wav, sample_bytes, IsCanonical}
 use Rattle.sdf_wav.specs.Device.{AppendsFront, one_more}
-use Rattle.sdf_wav.specs.PiecesIn.{sound_read}
-use Rattle.sdf_wav.specs.PiecesOut.{Owed}
+use Rattle.sdf_wav.specs.PiecesIn.{Reading, Opens, OpensTo, AnswersOpening, known_frames, sound_read}
+use Rattle.sdf_wav.specs.PiecesOut.{Owed, file_header}
+use Rattle.sdf_wav.specs.declared.format.Format.{Format}
+use Rattle.sdf_process.specs.declared.exchange.Exchange.{Exchange}
 use Rattle.sdf_process.specs.declared.exchange.Extent.{Extent}
 use Rattle.sdf_process.specs.declared.fault.Fault.{Fault}
 use Rattle.sdf_process.specs.declared.fault.Fault.TheVariants.{OutOfMemory, Write}
-use Rattle.sdf_process.specs.Output.{announced_by, exchange_of, interleaved, input_lists, output_frames, output_fault, output_header, output_of, periods_of, IsExchange}
+use Rattle.sdf_process.specs.Output.{announced_by, exchange_of, interleaved, input_lists, output_frames, output_fault, output_header, output_of, periods_of, IsExchange, IsExtent}
 use Rattle.sdf_process.specs.Run.{AreFrames, HasOutput, IsRun, IsText, Refuses}
 use Rattle.sdf_process.specs.Stages.{Hears, PutsOutput, WavLaws}
+use Rattle.sdf_process.specs.Streams.{Streams}
+use Rattle.sdf_process.proofs.Outcomes.{appends_join, front_join}
 use Rattle.sdf_process.proofs.Refusals.{Begins, writer_failed, memory_failed, some_no_none}
-use Rattle.sdf_process.proofs.Opened.{wav_of_heard}
+use Rattle.sdf_process.proofs.Opened.{heard_ahead, stream_stopped, wav_of_heard}
 use Rattle.sdf_process.proofs.Sounds.{length-interleaved}
 use Rattle.sdf_process.proofs.Texts.{text_begins, whole_file}
-
-pub appends_join : (a b c : Option (List ℕ)) (x y : List ℕ) → Appends a b x → Appends b c y → Appends a c (x ++ y)
-appends_join None b c x y p q = tt
-appends_join (Some l) None c x y p q = absurd p
-appends_join (Some l) (Some m) None x y p q = absurd q
-appends_join (Some l) (Some m) (Some z) x y p q = q ∙ (ap (λ v. v ++ y) p ∙ append_assoc l x y)
-
-pub front_join : (a b c : Option (List ℕ)) (x y : List ℕ) → Appends a b x → AppendsFront b c y → AppendsFront a c (x ++ y)
-front_join a b c x y p f = record {
-  front = x ++ f.front;
-  rest = f.rest;
-  whole = ap (λ z. x ++ z) f.whole ∙ sym (append_assoc x f.front f.rest);
-  written = appends_join a b c x f.front p f.written;
-}
 
 module _ (laws : WavLaws) (n : Netlist Kit ℤ) (q : List ℕ) (limits : IsExchange (exchange_of n q)) (read left before mid after : Option (List ℕ)) (r r' w w1 w' : ℕ) (s : Sound) (e : Extent) (o : Owed)
     (hears : Hears (exchange_of n q) read left before mid r r' w w1 s e o) where
@@ -126,3 +116,15 @@ answered laws n q limits read left before mid after r r' w w1 w' s e o hears (Ok
     finished laws n q limits read left before mid after r r' w w1 w' s e o hears lists made written fine
 answered laws n q limits read left before mid after r r' w w1 w' s e o hears (Err f) (periods, frames, few, are, why) =
     finishing_failed laws n q limits read left before mid after r r' w w1 w' s e o hears periods frames few are f why
+
+-- so is one that read and wrote as it went
+pub streamed : (laws : WavLaws) (n : Netlist Kit ℤ) (q : List ℕ) (x : Exchange) (same : x ≡ exchange_of n q) (limits : IsExchange x) (read mid : Option (List ℕ)) (c : Reading) (said : AnswersOpening read mid (Ok c)) (gone : c.gone ≡ 0)
+    (only : (input : List ℕ) (f : Format) (size : ℕ) (rest : List ℕ) → read ≡ Some input → Opens input f size rest → OpensTo mid f size rest (Ok c)) (frames : ℕ) (is : known_frames c ≡ Some frames)
+    (e : Extent) (extent : IsExtent x (record { rate = c.rate; channels = c.channels; frames = frames }) e) (left before begun after : Option (List ℕ)) (r r' w w1 w' : ℕ)
+    (written : Appends before begun (file_header e.rate x.outputs (e.periods * x.made))) (fine : w1 ≡ w) (one : 1 ≤ c.channels) (o : Owed) → o ≡ record { channels = x.outputs; missing = e.periods * x.made; spent = false } →
+    (result : Result (Unit {0}) Fault) → Streams n q c mid left begun after r r' w1 w' result → IsRun n q read left before after r r' w w' result
+streamed laws n q x same limits read mid c said gone only frames is e extent left before begun after r r' w w1 w' written fine one o owed (Ok y) (s, reads, puts) =
+    answered laws n q (subst IsExchange same limits) read left before begun after r r' w w1 w' s e o
+    (heard_ahead laws n q x same limits read mid c said gone only frames is e extent left before begun r r r' w w1 refl written fine s o reads owed) (Ok y) puts
+streamed laws n q x same limits read mid c said gone only frames is e extent left before begun after r r' w w1 w' written fine one o owed (Err f) (samples, periods, bytes, last, st, reads, why) =
+    stream_stopped laws n q x same limits read mid c said gone only frames is e extent left before begun after r r' w w1 w' one written fine samples periods bytes last st reads f why

@@ -3,7 +3,7 @@ use Rattle.sdf_actor.specs.Wires.{lists as items_of}
 use Rattle.sdf_process.specs.Output.{exchange_of, periods_of, IsExchange}
 use Rattle.sdf_process.specs.Run.{BeginWithOutput}
 use Rattle.sdf_process.proofs.Pieces.{few_periods, puts_output, unrun}
-use Rattle.sdf_process.proofs.process.finish.Goals as goal
+use Rattle.sdf_process.proofs.finishing.finish.Goals as goal
 
 pub lists_of-requires-clause-few : goal.lists_of-requires-clause-few
 lists_of-requires-clause-few g c κs within =

@@ -25,27 +25,27 @@ use Rattle.sdf_process.specs.declared.fault.Fault.{Fault}
 use Rattle.sdf_process.specs.Output.{exchange_of, interleaved, lists_from, lists_to, periods_of}
 use Rattle.sdf_process.specs.Run.{AreFrames}
 use Rattle.sdf_process.specs.Stages.{PlaysTo, PutsFrames, PutsOutput, PutsPiece, SamplesJoin}
-use Rattle.sdf_process.proofs.Finishing.{appends_join, front_join}
+use Rattle.sdf_process.proofs.Outcomes.{appends_join, front_join}
 use Rattle.sdf_process.proofs.Pieces.{appends_none}
 use Rattle.sdf_process.proofs.Played.{frames_on_join, join, joined_is, joined_long, lists_full, lists_joined, lists_long, made_long}
 use Rattle.sdf_process.proofs.Rendering.{are_inputs, list_length}
 use Rattle.sdf_process.proofs.Texts.{bytes_append}
 
 -- what a run made
-outputs_of : (n : Netlist Kit ℤ) (inputs : List (List ℤ)) (k : ℕ → ℕ) (made : List (List ℤ)) (rest : Rest ℤ (List ℤ)) → HasRun kit_steps n inputs k made rest → AreOutputs kit_steps n inputs k made
+pub outputs_of : (n : Netlist Kit ℤ) (inputs : List (List ℤ)) (k : ℕ → ℕ) (made : List (List ℤ)) (rest : Rest ℤ (List ℤ)) → HasRun kit_steps n inputs k made rest → AreOutputs kit_steps n inputs k made
 outputs_of n inputs k made rest run = record { history = run.history; is = run.is; count = run.count; each = run.each }
 
 -- lists without a sample
-abbrev blank : ℕ → List (List ℤ)
+abbrev pub blank : ℕ → List (List ℤ)
 blank zero = []
 blank (suc k) = [] ∷ blank k
 
-blank_at : (k e : ℕ) → get_or (blank k) e [] ≡ []
+pub blank_at : (k e : ℕ) → get_or (blank k) e [] ≡ []
 blank_at zero e = refl
 blank_at (suc k) zero = refl
 blank_at (suc k) (suc e) = blank_at k e
 
-blank_long : (k : ℕ) → length (blank k) ≡ k
+pub blank_long : (k : ℕ) → length (blank k) ≡ k
 blank_long zero = refl
 blank_long (suc k) = ap suc (blank_long k)
 
@@ -100,7 +100,7 @@ module _ (joins : SamplesJoin) (n : Netlist Kit ℤ) (p : Schedule) (has : HasPe
     piece_failed e (Ok y) puts same = absurd same
 
 -- the frames of the pieces so far
-are_frames : (n : Netlist Kit ℤ) (q : List ℕ) (s : Sound) (periods : ℕ) (frames : List ℕ) (rest : Rest ℤ (List ℤ)) → PlaysTo n q s periods frames rest → AreFrames n q s periods frames
+pub are_frames : (n : Netlist Kit ℤ) (q : List ℕ) (s : Sound) (periods : ℕ) (frames : List ℕ) (rest : Rest ℤ (List ℤ)) → PlaysTo n q s periods frames rest → AreFrames n q s periods frames
 are_frames n q s periods frames rest (made, run, same) = inr (made, outputs_of n (lists_to periods (exchange_of n q) s) (firings q periods) made rest run, same)
 
 -- all were written

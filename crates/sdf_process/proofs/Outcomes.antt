@@ -1,7 +1,9 @@
 -- What is common to all answers of a run.
-use Rattle.std.proofs.Common.{◌≡◌, ◌⊎◌, inl, inr, ℕ, ◌*◌, ◌%◌, nat_lt, eqb, not, true, false, Bool, List, Option, Some, None, Err, refl}
-use Rattle.std.specs.Prelude.{if◌then◌else◌, option_map}
-use Rattle.std.specs.Io.KnownBytes.{Keeps}
+use Rattle.std.proofs.Common.{◌≡◌, ◌⊎◌, inl, inr, ℕ, ◌+◌, ◌*◌, ◌%◌, nat_lt, eqb, not, true, false, Bool, List, ◌++◌, Option, Some, None, Err, refl, sym, ap, ◌∙◌, append_assoc}
+use Rattle.std.specs.Prelude.{if◌then◌else◌, option_map, drop}
+use Rattle.std.specs.Io.KnownBytes.{Appends, Keeps}
+use Rattle.std.proofs.lemmas.List.{drop-drop}
+use Rattle.sdf_wav.specs.Device.{AppendsFront, LosesFront}
 use Rattle.sdf_wav.specs.Canonical.{size_fault}
 use Rattle.sdf_wav.specs.declared.fault.FormatFault.{FormatFault}
 use Rattle.sdf_wav.specs.declared.fault.FormatFault.TheVariants as format
@@ -16,6 +18,25 @@ use Rattle.sdf_process.specs.Run.{IsFromOutside, Refuses, WritesFile}
 pub keeps_same : (known : Option (List ℕ)) → Keeps known known
 keeps_same None = tt
 keeps_same (Some xs) = refl
+
+-- bytes that are written in turn are written as one list
+pub appends_join : (a b c : Option (List ℕ)) (x y : List ℕ) → Appends a b x → Appends b c y → Appends a c (x ++ y)
+appends_join None b c x y p q = tt
+appends_join (Some l) None c x y p q = absurd p
+appends_join (Some l) (Some m) None x y p q = absurd q
+appends_join (Some l) (Some m) (Some z) x y p q = q ∙ (ap (λ v. v ++ y) p ∙ append_assoc l x y)
+
+pub front_join : (a b c : Option (List ℕ)) (x y : List ℕ) → Appends a b x → AppendsFront b c y → AppendsFront a c (x ++ y)
+front_join a b c x y p f = record {
+  front = x ++ f.front;
+  rest = f.rest;
+  whole = ap (λ z. x ++ z) f.whole ∙ sym (append_assoc x f.front f.rest);
+  written = appends_join a b c x f.front p f.written;
+}
+
+-- a front is gone that went in turns
+pub lost_twice : (a b c : List ℕ) → LosesFront a b → LosesFront b c → LosesFront a c
+lost_twice a b c (k, first) (j, next) = (k + j, next ∙ (ap (drop j) first ∙ drop-drop j k a))
 
 -- which is what any fault of a file allows
 pub kept : (held : Option (List ℕ)) (g : FormatFault) → WritesFile {X = Unit {0}} held held (Err (fault.Wav g))

@@ -4,7 +4,7 @@ use Rattle.sdf_answer.specs.Answer.{AreOutputs, IsRunFault, periods_of as firing
 use Rattle.sdf_kit.specs.Kit.{kit_steps}
 use Rattle.sdf_process.specs.Output.{lists_to}
 use Rattle.sdf_process.proofs.Rendering.{run_begins, run_refused}
-use Rattle.sdf_process.proofs.process.lists_of.Goals as goal
+use Rattle.sdf_process.proofs.finishing.lists_of.Goals as goal
 
 pub returns-in_err-ran : goal.returns-in_err-ran
 returns-in_err-ran g c =
