@@ -7,6 +7,8 @@
 #[cfg(test)]
 mod actors;
 #[cfg(test)]
+mod by_hand;
+#[cfg(test)]
 mod faults;
 #[cfg(test)]
 mod graphs;
