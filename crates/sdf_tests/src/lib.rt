@@ -1,6 +1,6 @@
 //! What no clause says of schedules, tables and runs of nets: worked nets, run by each runner, by hand and in pieces.
 //!
-//! It stands on the libraries below `sdf_file`, and has no functions: tests stand in a crate of their own, since the functions of a
+//! It stands on the libraries below `sdf_process`, and has no functions: tests stand in a crate of their own, since the functions of a
 //! crate are proved once more with its tests. Begin at `nets`, the nets of the tests and their tables.
 #![tactic(auto)]
 
@@ -18,5 +18,7 @@ mod hu_rows;
 mod levels;
 #[cfg(test)]
 mod nets;
+#[cfg(test)]
+mod over_rings;
 #[cfg(test)]
 mod tables;
