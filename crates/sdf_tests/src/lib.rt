@@ -21,4 +21,6 @@ mod nets;
 #[cfg(test)]
 mod over_rings;
 #[cfg(test)]
+mod sessions;
+#[cfg(test)]
 mod tables;
