@@ -1,7 +1,8 @@
 //! The texts of faults.
 
-use sdf_answer::RunFault;
+use sdf_file::FileFault;
 use sdf_prec::PrecFault;
+use sdf_run::RunFault;
 use std::alloc::AllocError;
 use std::test::Fail;
 
@@ -32,5 +33,12 @@ fn of_plans(rt: HostRuntime) -> Result<(), Fail> {
     ] {
         assert_eq!(rt; fault.to_string(rt.alloc())?.as_str(), text);
     }
+    Ok(())
+}
+
+#[test]
+fn of_files(rt: HostRuntime) -> Result<(), Fail> {
+    let refused = FileFault::from(AllocError);
+    assert_eq!(rt; refused.to_string(rt.alloc())?.as_str(), "1 OutOfMemory");
     Ok(())
 }

@@ -11,6 +11,8 @@ mod by_hand;
 #[cfg(test)]
 mod faults;
 #[cfg(test)]
+mod feeds;
+#[cfg(test)]
 mod graphs;
 #[cfg(test)]
 mod hu_rows;
@@ -20,6 +22,10 @@ mod levels;
 mod nets;
 #[cfg(test)]
 mod over_rings;
+#[cfg(test)]
+mod rows;
+#[cfg(test)]
+mod runs;
 #[cfg(test)]
 mod sessions;
 #[cfg(test)]
