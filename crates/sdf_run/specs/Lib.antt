@@ -3,6 +3,5 @@ pub mod Runs
 pub mod AtOnce
 pub mod Many
 pub mod Sweeps
-pub mod Twice
 pub mod Fired
 pub mod Sessions

@@ -7,18 +7,12 @@
 
 mod block;
 pub mod feed;
-#[cfg(test)]
-mod feed_tests;
 pub mod mode;
 pub mod one;
 mod queue;
-#[cfg(test)]
-mod row_tests;
 mod run;
 pub mod session;
 mod setup;
-#[cfg(test)]
-mod tests;
 mod work;
 
 pub use feed::{feed_one, resume_one};

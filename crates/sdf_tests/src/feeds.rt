@@ -1,8 +1,9 @@
 //! Small nets that are fed in two pieces.
 
-use crate::tests::{Sum, Twice, chain, list, pair};
-use crate::{feed_one, resume_one};
+use crate::actors::{Sum, Twice};
+use crate::nets::{chain, list, pair};
 use sdf_actor::{Actor, Net};
+use sdf_run::{feed_one, resume_one};
 use sdf_sched::Round;
 use sdf_sched::class_s::class_s;
 use std::alloc::Global;

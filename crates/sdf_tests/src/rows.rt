@@ -1,11 +1,7 @@
 //! The worked net of blocks of two and of three, row by row.
 
-use crate::tests::{list, pair};
-use crate::{NoGate, run_rows};
-use sdf_prec::Costs;
-use sdf_prec::hu::hu;
-use sdf_sched::Round;
-use sdf_sched::class_s::class_s;
+use crate::nets::{list, pair, planned};
+use sdf_run::{NoGate, run_rows};
 use std::alloc::AllocGlobal;
 use std::test::Fail;
 use std::thread::Threads;
@@ -15,9 +11,7 @@ fn printed<R: Threads + AllocGlobal + Sync>(rt: &R, j: u32, blocks: u32) -> Resu
     let alloc = rt.alloc();
     let net = pair(alloc, 2, 3, &[])?;
     let inputs = list(alloc, &[1, 2, 3, 4, 5, 6, 7, 8, 9, 10, 11, 12])?;
-    let period = class_s(alloc, net.graph(), net.repetitions(), &mut Round::new())?;
-    let costs = Costs::unit(alloc, net.graph())?;
-    let table = hu(alloc, net.graph(), &period, j, 2, false, &costs)?;
+    let (period, table) = planned(alloc, &net, j, 2, false)?;
     let ran = run_rows(rt, &net, &period, j, &table, blocks, &inputs, &NoGate)?;
     let outputs = &ran.outputs;
     let rounds = ran.rounds;

@@ -1,0 +1,32 @@
+//! What no clause says of schedules, tables and runs of nets: worked nets, run by each runner, by hand and in pieces.
+//!
+//! It stands on the libraries below `sdf_process`, and has no functions: tests stand in a crate of their own, since the functions of a
+//! crate are proved once more with its tests. Begin at `nets`, the nets of the tests and their tables.
+#![tactic(auto)]
+
+#[cfg(test)]
+mod actors;
+#[cfg(test)]
+mod by_hand;
+#[cfg(test)]
+mod faults;
+#[cfg(test)]
+mod feeds;
+#[cfg(test)]
+mod graphs;
+#[cfg(test)]
+mod hu_rows;
+#[cfg(test)]
+mod levels;
+#[cfg(test)]
+mod nets;
+#[cfg(test)]
+mod over_rings;
+#[cfg(test)]
+mod rows;
+#[cfg(test)]
+mod runs;
+#[cfg(test)]
+mod sessions;
+#[cfg(test)]
+mod tables;
