@@ -45,8 +45,8 @@ first_of lists (x ∷ xs) =
 abbrev asked : List (Option ℕ × ℕ) → List ℕ → ℕ
 asked v q = (get_or v (position_or_len (λ o. is_some o.0) v) (None, 0)).1 * get_or q (position_or_len (λ o. is_some o.0) v) 0
 
-samples_of : {A : Type 0} (xs : List (Node A)) (q : List ℕ) → period_samples xs Inputs q ≡ asked (map (lists_of Inputs) xs) q
-samples_of xs q =
+period_samples-asked : {A : Type 0} (xs : List (Node A)) (q : List ℕ) → period_samples xs Inputs q ≡ asked (map (lists_of Inputs) xs) q
+period_samples-asked xs q =
     let block : block_of (get_or xs (first_on Inputs xs) (Sink 0 0)) ≡ (get_or (map (lists_of Inputs) xs) (first_on Inputs xs) (None, 0)).1 =
     ap (λ (o : Option ℕ × ℕ). o.1) (sym (get_or_mapped (lists_of Inputs) xs (first_on Inputs xs) (Sink 0 0))) in
     ap (λ b. b * get_or q (first_on Inputs xs) 0) block ∙ ap (λ f. (get_or (map (lists_of Inputs) xs) f (None, 0)).1 * get_or q f 0) (sym (first_of Inputs xs))
@@ -69,7 +69,7 @@ pub begun_nets_ask : {A B S T : Type 0} (s : Steps A S T) (r : Steps B S T) → 
 begun_nets_ask s r n rest m q periods inputs begins =
     let count = as_many_lists s r n rest m begins Inputs in
     let samples : period_samples m.nodes Inputs q ≡ period_samples n.nodes Inputs q =
-    samples_of m.nodes q ∙ (ap (λ v. asked v q) (same_lists_of s r n rest m begins Inputs) ∙ sym (samples_of n.nodes q)) in
+    period_samples-asked m.nodes q ∙ (ap (λ v. asked v q) (same_lists_of s r n rest m begins Inputs) ∙ sym (period_samples-asked n.nodes q)) in
     let one : AreInputs (list_count Inputs m.nodes) (periods * period_samples m.nodes Inputs q) inputs ≡ AreInputs (list_count Inputs n.nodes) (periods * period_samples n.nodes Inputs q) inputs =
     λ κ. AreInputs (count κ) (periods * samples κ) inputs in
     (subst (λ X. X) one, subst (λ X. X) (sym one))

@@ -1,6 +1,7 @@
 //! How many samples firings move.
 
-ghost use Rattle.std.specs.Prelude.{◌≡◌, ◌<◌, ◌≤◌, ℕ, length, map, slice_index, slice_index_or, vec_len, IfOk};
+ghost use Rattle.std.specs.Prelude.{◌≡◌, ◌<◌, ◌≤◌, ◌*◌, ℕ, length, map, slice_index, slice_index_or, vec_len, IfOk};
+ghost use Rattle.sdf_limits.specs.declared.TheConstants.{MOST_BLOCKING, MOST_RATE, MOST_PERIOD};
 ghost use Rattle.sdf_graph.specs.Rates.{rate_at, no_channel};
 ghost use Rattle.sdf_actor.specs.Nets.{node, cycle_of};
 ghost use Rattle.sdf_actor.specs.Sides.{channels_at};
@@ -13,6 +14,15 @@ use sdf_actor::{Actor, Net, Node, Side};
 use sdf_graph::Channel;
 use std::alloc::{AllocError, Global};
 use std::marker::Model;
+
+/// How many samples move in so many blocks, where each of their periods moves so many.
+pub fn samples_of_blocks(blocks: u32, j: u32, each: usize) -> usize
+    requires short { j ≤ MOST_BLOCKING }
+    requires few { each ≤ MOST_RATE * MOST_PERIOD }
+    ensures { result ≡ blocks * j * each }
+{
+    blocks as usize * j as usize * each
+}
 
 /// How many samples a firing at each phase takes from each channel, and puts on it: by phase, then by channel.
 #[derive(Drop)]

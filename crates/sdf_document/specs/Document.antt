@@ -8,7 +8,7 @@ use Rattle.sdf_document.specs.declared.document.Parts.{Parts}
 use Rattle.sdf_document.specs.Fault.{top, Fault, actor_count, channel_count, not_toml, missing_key, wrong_type, ◌>>=◌, or_fault}
 use Rattle.sdf_document.specs.Tables.{table_in, format_at, known_keys}
 use Rattle.sdf_document.specs.Lists.{Files, Lookup, unread, read}
-use Rattle.sdf_limits.specs.declared.TheConstants.{MOST_ACTORS, MOST_CHANNELS}
+use Rattle.sdf_limits.specs.declared.TheConstants.{MOST_ACTORS, MOST_LINKS}
 use Rattle.sdf_document.specs.declared.entry.KindEntry.{KindEntry}
 use Rattle.sdf_document.specs.declared.entry.KindEntry.TheVariants.{Fir, Table}
 use Rattle.sdf_document.specs.Actors.{ActorValue, actor_view, actor_at}
@@ -70,7 +70,7 @@ parts_at ms = do
   actors ← array_at (codes "actor") ms
   links ← array_at (codes "link") ms
   some_actors ← counted actor_count 1 MOST_ACTORS (item_count actors)
-  few_links ← counted channel_count 0 MOST_CHANNELS (item_count links)
+  few_links ← counted channel_count 0 MOST_LINKS (item_count links)
   Ok (record { format = format; actors = actors; links = links })
 
 pub record DocumentValue : Type 0 where

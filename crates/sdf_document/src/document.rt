@@ -18,7 +18,7 @@ use crate::link::link_at;
 use crate::table::{format_at, table_in, test_keys};
 use crate::value::at;
 use indexmap::IndexSet;
-use sdf_limits::{MOST_ACTORS, MOST_CHANNELS};
+use sdf_limits::{MOST_ACTORS, MOST_LINKS};
 use std::alloc::{AllocError, Global};
 use toml::{Table, Value};
 
@@ -97,7 +97,7 @@ fn parts_at(alloc: Global, table: &Table) -> Result<Parts<'_>, ReadFault>
     if actors.is_empty() || actors.len() > MOST_ACTORS {
         return Err(ReadFault::Document(DocumentFault::ActorCount));
     }
-    if links.len() > MOST_CHANNELS {
+    if links.len() > MOST_LINKS {
         return Err(ReadFault::Document(DocumentFault::ChannelCount));
     }
     Ok(Parts {

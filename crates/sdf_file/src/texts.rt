@@ -4,14 +4,10 @@ ghost use Rattle.sdf_file.specs.Texts.{q_line, q_lines, period_text, check_text,
 ghost use Rattle.sdf_graph.specs.Rates.{rates};
 ghost use Rattle.sdf_graph.specs.Periods.{IsLeastPeriod};
 ghost use Rattle.sdf_actor.specs.Graphs.{graph_of};
-ghost use Rattle.sdf_actor.specs.Sides.{period_samples};
-ghost use Rattle.sdf_actor.specs.declared.sides.Lists.TheVariants.{Inputs, Outputs};
 ghost use Rattle.sdf_kit.specs.Kit.{kit_steps};
 
 use crate::design::Design;
-use sdf_actor::Net;
 use sdf_graph::Repetitions;
-use sdf_kit::Kit;
 use std::alloc::{AllocError, Global};
 
 fn push_q_line(text: &mut String, name: &str, count: u32) -> Result<(), AllocError>
@@ -50,16 +46,6 @@ pub(crate) fn push_period(
     push_q_lines(text, design, repetitions)
 }
 
-/// How many samples each input puts and each output takes in a period.
-fn samples_each_way(net: &Net<Kit>, repetitions: &Repetitions) -> (usize, usize)
-    requires { IsLeastPeriod (rates (graph_of kit_steps net.now)) repetitions.now }
-    ensures input { result.0 ≡ period_samples net.now.nodes Inputs repetitions.now }
-    ensures output { result.1 ≡ period_samples net.now.nodes Outputs repetitions.now }
-{
-    let _ = repetitions;
-    (net.samples_in(), net.samples_out())
-}
-
 fn text_with(
     alloc: Global,
     design: &Design,
@@ -71,7 +57,8 @@ fn text_with(
     let net = design.net();
     let actors = net.len();
     let links = net.channels();
-    let (input, output) = samples_each_way(net, repetitions);
+    let input = net.samples_in();
+    let output = net.samples_out();
     let mut text = format!(in alloc; "actors {actors}\nlinks {links}\n")?;
     push_period(&mut text, design, repetitions)?;
     writeln!(text, "input {input} output {output}")?;

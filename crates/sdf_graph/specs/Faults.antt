@@ -1,6 +1,6 @@
 -- The faults of a graph, in the order of their tests. The first one that holds is the one that is answered.
 use Rattle.std.specs.Prelude.{◌≡◌, ℕ, ◌+◌, ◌<◌, ◌==◌, ◌&&◌, ◌||◌, Bool, true, List, [], ◌∷◌, length, sum, nat_le, nat_lt, Option, Some, None, if◌then◌else◌}
-use Rattle.sdf_limits.specs.declared.TheConstants.{MOST_ACTORS, MOST_CHANNELS, MOST_RATE, MOST_CYCLE, MOST_INITIAL}
+use Rattle.sdf_limits.specs.declared.TheConstants.{MOST_ACTORS, MOST_LINKS, MOST_RATE, MOST_CYCLE, MOST_INITIAL}
 use Rattle.sdf_graph.specs.Rates.{Shape, Edge, IsReached, cycle_among}
 use Rattle.sdf_graph.specs.declared.fault.GraphFault.{GraphFault}
 use Rattle.sdf_graph.specs.declared.fault.GraphFault.TheVariants.{OutOfMemory, ActorCount, ChannelCount, BadEnd, BadRate, CycleLength, InitialCount, NotConnected}
@@ -56,7 +56,7 @@ channels_fault actors channels c (e ∷ es) = or_else (channel_fault actors chan
 abbrev pub numbers_fault : Shape → Option GraphFault
 numbers_fault g =
     if is_within 1 MOST_ACTORS g.actors then (
-    if nat_le (length g.channels) MOST_CHANNELS then channels_fault g.actors g.channels 0 g.channels else Some ChannelCount
+    if nat_le (length g.channels) MOST_LINKS then channels_fault g.actors g.channels 0 g.channels else Some ChannelCount
     ) else Some ActorCount
 
 -- channels, walked both ways, join each actor to actor 0

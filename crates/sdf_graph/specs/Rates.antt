@@ -1,6 +1,6 @@
 -- What the definitions and laws see of a graph: its shape, and how many samples firings move.
 use Rattle.std.specs.Prelude.{◌≡◌, ℕ, zero, suc, ◌+◌, ◌%◌, ◌≤◌, ◌<◌, ◌==◌, if◌then◌else◌, List, [], ◌∷◌, length, slice_index, slice_index_or, sum}
-use Rattle.sdf_limits.specs.declared.TheConstants.{MOST_ACTORS, MOST_CHANNELS, MOST_RATE, MOST_CYCLE, MOST_INITIAL}
+use Rattle.sdf_limits.specs.declared.TheConstants.{MOST_ACTORS, MOST_LINKS, MOST_RATE, MOST_CYCLE, MOST_INITIAL}
 
 -- the sum of the first i values
 abbrev pub sum_to : (ℕ → ℕ) → ℕ → ℕ
@@ -94,7 +94,7 @@ pub record IsCycle (n : ℕ) (rates : List ℕ) : Type 0 where
 pub record IsShape (g : Shape) : Type 0 where
   pub some : 0 < g.actors
   pub few : g.actors ≤ MOST_ACTORS
-  pub narrow : length g.channels ≤ MOST_CHANNELS
+  pub narrow : length g.channels ≤ MOST_LINKS
   pub put : (c : ℕ) → c < length g.channels → IsCycle (cycle g (channel g c).from) (channel g c).put
   pub take : (c : ℕ) → c < length g.channels → IsCycle (cycle g (channel g c).to) (channel g c).take
   pub connected : (a : ℕ) → a < g.actors → IsReached g a

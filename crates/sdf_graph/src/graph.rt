@@ -10,7 +10,7 @@ use crate::adjacency::channels_by_actor;
 use crate::channel::{Channel, End, Totals, channels_fault, cycle_among};
 use crate::fault::GraphFault;
 use crate::reach::lowest_unreached;
-use sdf_limits::{MOST_ACTORS, MOST_CHANNELS};
+use sdf_limits::{MOST_ACTORS, MOST_LINKS};
 use std::alloc::{AllocError, Global};
 use std::marker::Model;
 
@@ -129,7 +129,7 @@ fn numbers_fault(actors: usize, channels: &[Channel]) -> Option<GraphFault>
     if actors < 1 || actors > MOST_ACTORS {
         return Some(GraphFault::ActorCount);
     }
-    if channels.len() > MOST_CHANNELS {
+    if channels.len() > MOST_LINKS {
         return Some(GraphFault::ChannelCount);
     }
     channels_fault(actors, channels)

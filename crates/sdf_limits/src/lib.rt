@@ -6,8 +6,8 @@
 /// Actors of a graph: 1 to this.
 pub const MOST_ACTORS: usize = 64;
 
-/// Channels of a graph.
-pub const MOST_CHANNELS: usize = 256;
+/// Links of a design, which are the channels of its graph.
+pub const MOST_LINKS: usize = 256;
 
 /// Ports of an actor on a side.
 pub const MOST_PORTS: usize = 16;

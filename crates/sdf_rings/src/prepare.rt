@@ -1,7 +1,6 @@
 //! What makes the seats of a run.
 
 ghost use Rattle.std.specs.Prelude.{◌≡◌, ◌*◌, ◌≤◌, ◌<◌, ℕ, length, slice_index, vec_len, IfOk, MatchResult};
-ghost use Rattle.sdf_limits.specs.declared.TheConstants.{MOST_BLOCKING, MOST_RATE, MOST_PERIOD};
 ghost use Rattle.sdf_graph.specs.Rates.{rates};
 ghost use Rattle.sdf_sched.specs.Period.{IsPeriodOf};
 ghost use Rattle.sdf_prec.specs.Tables.{row, IsHomed};
@@ -25,6 +24,7 @@ use sdf_actor::{Actor, Net};
 use sdf_answer::inputs::{are_inputs, first_sample};
 use sdf_answer::laws::{net_facts, nets_can_run, nets_have_periods};
 use sdf_answer::outputs::make_outputs;
+use sdf_answer::sizes::samples_of_blocks;
 use sdf_answer::{RunFault, Sizes};
 use sdf_prec::Table;
 use sdf_sched::Period;
@@ -73,15 +73,6 @@ fn lay_out<'a, A: Actor>(
     Ok(Rings::new(alloc, start.net, start.inputs, seats, places, outputs))
 }
 
-/// How many samples move in so many blocks, where each of their periods moves so many.
-fn samples_of(blocks: u32, j: u32, each: usize) -> usize
-    requires short { j ≤ MOST_BLOCKING }
-    requires few { each ≤ MOST_RATE * MOST_PERIOD }
-    ensures { result ≡ blocks * j * each }
-{
-    blocks as usize * j as usize * each
-}
-
 /// The seats of a run whose table has a home for each actor, and whose inputs fit.
 fn prepare_homed<'a, A: Actor>(
     alloc: Global,
@@ -109,7 +100,7 @@ fn prepare_homed<'a, A: Actor>(
         inputs,
         sizes: Sizes::new(alloc, net)?,
         asked: asked(alloc, period.repetitions(), j, blocks)?,
-        room: samples_of(blocks, j, net.samples_out()),
+        room: samples_of_blocks(blocks, j, net.samples_out()),
         filler: first_sample(inputs),
     };
     lay_out(alloc, &start, table, blocks)
@@ -135,7 +126,7 @@ pub fn prepare<'a, A: Actor>(
     if !table.homed() {
         return Err(RunFault::NotHomed);
     }
-    let least = samples_of(blocks, j, net.samples_in());
+    let least = samples_of_blocks(blocks, j, net.samples_in());
     if !are_inputs(inputs, net.inputs(), least) {
         return Err(RunFault::InputLength);
     }

@@ -16,11 +16,12 @@ ghost use Rattle.sdf_node.specs.Kept.{kept_of};
 
 use crate::collect::collect;
 use crate::line::Line;
-use crate::rows::{Plan, fire, rounds_of, samples_of};
+use crate::rows::{Plan, fire, rounds_of};
 use sdf_actor::{Actor, Begun, Net, Rest};
 use sdf_answer::inputs::{are_inputs, first_sample};
 use sdf_answer::laws::{begun_nets_go_on, histories_make_runs, net_facts, nets_have_periods};
 use sdf_answer::outputs::make_outputs;
+use sdf_answer::sizes::samples_of_blocks;
 use sdf_answer::{Ran, RunFault};
 use sdf_node::laws::actors_keep_states;
 use sdf_node::{Gate, NodeState, kept};
@@ -108,7 +109,7 @@ pub fn feed_rows<R: Threads + AllocGlobal + Sync, A: Actor, G: Gate>(
         (IsRunFault net.now q (blocks * j) (lists inputs.now)) }
 {
     sdf_prec::laws::orders_are_passes();
-    let least = samples_of(blocks, j, net.samples_in());
+    let least = samples_of_blocks(blocks, j, net.samples_in());
     if !are_inputs(inputs, net.inputs(), least) {
         return Err(RunFault::InputLength);
     }

@@ -7,7 +7,7 @@ ghost use Rattle.sdf_actor.specs.Graphs.{graph_of};
 ghost use Rattle.sdf_actor.specs.Wires.{lists};
 ghost use Rattle.sdf_actor.specs.declared.sides.Lists.TheVariants.{Inputs, Outputs};
 ghost use Rattle.sdf_actor.specs.Sides.{list_count, period_samples};
-ghost use Rattle.sdf_limits.specs.declared.TheConstants.{MOST_BLOCK, MOST_BLOCKING, MOST_RATE, MOST_PERIOD};
+ghost use Rattle.sdf_limits.specs.declared.TheConstants.{MOST_BLOCK};
 ghost use Rattle.sdf_prec.specs.Tables.{row, firings};
 ghost use Rattle.sdf_answer.specs.Answer.{HasInputs, AreOutputs, periods_of, IsRunFault};
 ghost use Rattle.sdf_rows.specs.Blocks.{IsOver};
@@ -22,6 +22,7 @@ use sdf_actor::{Actor, Net};
 use sdf_answer::inputs::{are_inputs, first_sample};
 use sdf_answer::laws::{histories_make_outputs, net_facts, nets_can_run, nets_have_periods};
 use sdf_answer::outputs::make_outputs;
+use sdf_answer::sizes::samples_of_blocks;
 use sdf_answer::{Ran, RunFault, Sizes};
 use sdf_node::{Gate, NodeState};
 use sdf_prec::Table;
@@ -43,15 +44,6 @@ pub(crate) struct Plan<'a> {
 pub(crate) struct Fired<A: Actor> {
     pub(crate) states: Vec<NodeState<A::Token, A::State>>,
     pub(crate) lines: Vec<Line<A::Token>>,
-}
-
-/// How many samples move in so many blocks, where each of their periods moves so many.
-pub(crate) fn samples_of(blocks: u32, j: u32, each: usize) -> usize
-    requires short { j ≤ MOST_BLOCKING }
-    requires few { each ≤ MOST_RATE * MOST_PERIOD }
-    ensures { result ≡ blocks * j * each }
-{
-    blocks as usize * j as usize * each
 }
 
 /// How many columns a table has, where all its rows have as many.
@@ -93,7 +85,7 @@ pub(crate) fn fire<R: Threads + AllocGlobal + Sync, A: Actor, G: Gate>(
     sdf_actor::laws::nets_are_wired::<A>();
     let alloc = rt.alloc();
     let repetitions = plan.period.repetitions();
-    let room = samples_of(plan.blocks, plan.j, net.samples_out());
+    let room = samples_of_blocks(plan.blocks, plan.j, net.samples_out());
     let mut states = make_states(alloc, net, room)?;
     let mut lines = make_lines(alloc, net, repetitions, plan.j)?;
     let mut jobs = make_jobs(alloc, net, columns(plan.table), filler)?;
@@ -176,7 +168,7 @@ pub fn run_rows<R: Threads + AllocGlobal + Sync, A: Actor, G: Gate>(
         (IsRunFault net.now q (blocks * j) (lists inputs.now)) }
 {
     sdf_prec::laws::orders_are_passes();
-    let least = samples_of(blocks, j, net.samples_in());
+    let least = samples_of_blocks(blocks, j, net.samples_in());
     if !are_inputs(inputs, net.inputs(), least) {
         return Err(RunFault::InputLength);
     }

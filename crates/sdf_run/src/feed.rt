@@ -49,7 +49,7 @@ fn states_of<A: Actor>(
 }
 
 /// Copies of the samples on all channels.
-fn samples_of<T: Copy>(alloc: Global, queues: &[Queue<T>]) -> Result<Vec<Vec<T>>, AllocError>
+fn samples_held<T: Copy>(alloc: Global, queues: &[Queue<T>]) -> Result<Vec<Vec<T>>, AllocError>
     ensures { IfOk result (λ v. lists v.items ≡ map (λ q. q.samples) queues.now) }
 {
     let mut held = Vec::new(alloc);
@@ -80,7 +80,7 @@ fn run<A: Actor>(
     let finished = fired(alloc, net, period, periods, inputs, filler, outputs)?;
     let rest = Rest {
         states: states_of(alloc, &finished.works)?,
-        held: samples_of(alloc, &finished.queues)?,
+        held: samples_held(alloc, &finished.queues)?,
     };
     Ok((finished.outputs, rest))
 }

@@ -7,7 +7,7 @@ ghost use Rattle.sdf_sched.specs.Lean.{moved_by, IsLeaner};
 use crate::pick::Pick;
 use sdf_graph::laws::sums_rise;
 use sdf_graph::{Counts, End, Graph};
-use sdf_limits::{MOST_CHANNELS, MOST_RATE};
+use sdf_limits::{MOST_LINKS, MOST_RATE};
 
 /// The runnable actor whose firing adds least to what the channels hold; of several the first in file order.
 #[derive(Drop)]
@@ -59,7 +59,7 @@ fn is_leaner(graph: &Graph, counts: &Counts, one: usize, other: usize) -> bool
 fn moved_by(graph: &Graph, actor: usize, end: End, i: u32) -> u64
     requires { actor < graph.now.actors }
     ensures sum { (k : ℕ → ℕ) → k actor ≡ i → result ≡ moved_by end (rates graph.now) k actor }
-    ensures small { result ≤ MOST_RATE * MOST_CHANNELS }
+    ensures small { result ≤ MOST_RATE * MOST_LINKS }
 {
     sums_rise();
     let channels = graph.channels();

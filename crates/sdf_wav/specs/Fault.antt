@@ -88,6 +88,13 @@ IsReadingFault (faults.Format f) = IsInputFault f
 IsReadingFault faults.Read = Unit {0}
 IsReadingFault faults.Write = ⊥
 
+-- a fault that an opening answers, whatever is known of the bytes: it takes no memory
+abbrev pub IsOpeningFault : WavFault → Type 0
+IsOpeningFault faults.OutOfMemory = ⊥
+IsOpeningFault (faults.Format f) = IsInputFault f
+IsOpeningFault faults.Read = Unit {0}
+IsOpeningFault faults.Write = ⊥
+
 -- memory or the reader failed
 abbrev pub IsFromOutside : WavFault → Type 0
 IsFromOutside e = (e ≡ faults.OutOfMemory) ⊎ (e ≡ faults.Read)

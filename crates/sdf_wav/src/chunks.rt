@@ -2,7 +2,7 @@
 
 ghost use Rattle.std.specs.Prelude.{◌≡◌, ◌≤◌, ◌*◌, ◌%◌, ℕ, Option, Some, None, length, IfOk, IfErr};
 ghost use Rattle.sdf_wav.specs.Device.{failures_after, widened};
-ghost use Rattle.sdf_wav.specs.Fault.{IsReadingFault};
+ghost use Rattle.sdf_wav.specs.Fault.{IsOpeningFault};
 ghost use Rattle.sdf_wav.specs.Format.{IsFormat, IsKnown, IsStep};
 ghost use Rattle.sdf_wav.specs.Steps.{Reads, riff_at, header_at, front_at, skip_at, pad_at, skipped_at, looked_at, pcm_at, format_at, passed_at, is_some, step_at, last_at, data_at, open_at};
 ghost use Rattle.sdf_wav.specs.PiecesIn.{IsWithin};
@@ -18,7 +18,7 @@ use crate::parts::{ChunkHeader, ChunkKind, DataStart, data_start, format_of, hea
 fn read_riff<R: Reader>(reader: &mut R) -> Result<(), ReadFault>
     ensures bytes { Reads (λ x. x) (R.remaining reader.old) (R.remaining reader.new) riff_at result }
     ensures counted { R.failures reader.new ≡ failures_after (widened result) (R.failures reader.old) }
-    ensures fault { IfErr (widened result) IsReadingFault }
+    ensures fault { IfErr (widened result) IsOpeningFault }
 {
     let mut front = [0u8; 12];
     let n = fill(reader, &mut front)?;
@@ -30,7 +30,7 @@ fn read_riff<R: Reader>(reader: &mut R) -> Result<(), ReadFault>
 fn read_header<R: Reader>(reader: &mut R, has_format: bool) -> Result<ChunkHeader, ReadFault>
     ensures bytes { Reads (λ x. x) (R.remaining reader.old) (R.remaining reader.new) (header_at has_format) result }
     ensures counted { R.failures reader.new ≡ failures_after (widened result) (R.failures reader.old) }
-    ensures fault { IfErr (widened result) IsReadingFault }
+    ensures fault { IfErr (widened result) IsOpeningFault }
 {
     let mut front = [0u8; 8];
     let n = fill(reader, &mut front)?;
@@ -41,7 +41,7 @@ fn read_header<R: Reader>(reader: &mut R, has_format: bool) -> Result<ChunkHeade
 fn read_front<R: Reader>(reader: &mut R, buf: &mut [u8]) -> Result<(), ReadFault>
     ensures bytes { Reads (λ _. buf.new) (R.remaining reader.old) (R.remaining reader.new) (front_at (length buf.old)) result }
     ensures counted { R.failures reader.new ≡ failures_after (widened result) (R.failures reader.old) }
-    ensures fault { IfErr (widened result) IsReadingFault }
+    ensures fault { IfErr (widened result) IsOpeningFault }
 {
     let n = fill(reader, buf)?;
     if n < buf.len() {
@@ -54,7 +54,7 @@ fn read_front<R: Reader>(reader: &mut R, buf: &mut [u8]) -> Result<(), ReadFault
 fn skip_exactly<R: Reader>(reader: &mut R, size: u64) -> Result<(), ReadFault>
     ensures bytes { Reads (λ x. x) (R.remaining reader.old) (R.remaining reader.new) (skip_at size) result }
     ensures counted { R.failures reader.new ≡ failures_after (widened result) (R.failures reader.old) }
-    ensures fault { IfErr (widened result) IsReadingFault }
+    ensures fault { IfErr (widened result) IsOpeningFault }
 {
     let n = skip(reader, size)?;
     if n < size {
@@ -77,7 +77,7 @@ fn skip_pad<R: Reader>(reader: &mut R, size: u32) -> Result<(), ReadFault>
 fn skip_content<R: Reader>(reader: &mut R, size: u32) -> Result<(), ReadFault>
     ensures bytes { Reads (λ x. x) (R.remaining reader.old) (R.remaining reader.new) (skipped_at size) result }
     ensures counted { R.failures reader.new ≡ failures_after (widened result) (R.failures reader.old) }
-    ensures fault { IfErr (widened result) IsReadingFault }
+    ensures fault { IfErr (widened result) IsOpeningFault }
 {
     skip_exactly(reader, u64::from(size))?;
     skip_pad(reader, size)
@@ -89,7 +89,7 @@ fn read_looked<R: Reader>(reader: &mut R, front: &mut [u8], size: u32) -> Result
     requires { length front.old ≤ size }
     ensures bytes { Reads (λ _. front.new) (R.remaining reader.old) (R.remaining reader.new) (looked_at (length front.old) size) result }
     ensures counted { R.failures reader.new ≡ failures_after (widened result) (R.failures reader.old) }
-    ensures fault { IfErr (widened result) IsReadingFault }
+    ensures fault { IfErr (widened result) IsOpeningFault }
 {
     let len = front.len() as u64;
     read_front(reader, front)?;
@@ -105,7 +105,7 @@ fn read_pcm<R: Reader>(reader: &mut R, size: u32) -> Result<Format, ReadFault>
     requires { 16 ≤ size }
     ensures bytes { Reads (λ x. x) (R.remaining reader.old) (R.remaining reader.new) (pcm_at size) result }
     ensures counted { R.failures reader.new ≡ failures_after (widened result) (R.failures reader.old) }
-    ensures fault { IfErr (widened result) IsReadingFault }
+    ensures fault { IfErr (widened result) IsOpeningFault }
     ensures valid { IfOk result IsFormat }
 {
     let mut front = [0u8; 40];
@@ -120,7 +120,7 @@ fn read_pcm<R: Reader>(reader: &mut R, size: u32) -> Result<Format, ReadFault>
 fn read_format<R: Reader>(reader: &mut R, size: u32) -> Result<Format, ReadFault>
     ensures bytes { Reads (λ x. x) (R.remaining reader.old) (R.remaining reader.new) (format_at size) result }
     ensures counted { R.failures reader.new ≡ failures_after (widened result) (R.failures reader.old) }
-    ensures fault { IfErr (widened result) IsReadingFault }
+    ensures fault { IfErr (widened result) IsOpeningFault }
     ensures valid { IfOk result IsFormat }
 {
     if size < 16 {
@@ -140,7 +140,7 @@ fn pass<R: Reader>(
     requires { IsKnown seen }
     ensures bytes { Reads (λ x. x) (R.remaining reader.old) (R.remaining reader.new) (passed_at header.kind header.size seen) result }
     ensures counted { R.failures reader.new ≡ failures_after (widened result) (R.failures reader.old) }
-    ensures fault { IfErr (widened result) IsReadingFault }
+    ensures fault { IfErr (widened result) IsOpeningFault }
     ensures valid { IfOk result IsKnown }
 {
     match (header.kind, seen) {
@@ -168,7 +168,7 @@ fn next_part<R: Reader>(reader: &mut R, seen: Option<Format>) -> Result<Step, Re
     requires { IsKnown seen }
     ensures bytes { Reads (λ x. x) (R.remaining reader.old) (R.remaining reader.new) (step_at seen) result }
     ensures counted { R.failures reader.new ≡ failures_after (widened result) (R.failures reader.old) }
-    ensures fault { IfErr (widened result) IsReadingFault }
+    ensures fault { IfErr (widened result) IsOpeningFault }
     ensures valid { IfOk result IsStep }
 {
     let header = read_header(reader, seen.is_some())?;
@@ -190,7 +190,7 @@ fn read_last<R: Reader>(reader: &mut R, seen: Option<Format>) -> Result<DataStar
     requires { IsKnown seen }
     ensures bytes { Reads (λ x. x) (R.remaining reader.old) (R.remaining reader.new) (last_at seen) result }
     ensures counted { R.failures reader.new ≡ failures_after (widened result) (R.failures reader.old) }
-    ensures fault { IfErr (widened result) IsReadingFault }
+    ensures fault { IfErr (widened result) IsOpeningFault }
     ensures valid { IfOk result (λ start. IsFormat start.format) }
 {
     let header = read_header(reader, seen.is_some())?;
@@ -207,7 +207,7 @@ const MAX_CHUNKS: u32 = 65_536;
 fn find_data<R: Reader>(reader: &mut R) -> Result<DataStart, ReadFault>
     ensures bytes { Reads (λ x. x) (R.remaining reader.old) (R.remaining reader.new) (data_at 65536 None) result }
     ensures counted { R.failures reader.new ≡ failures_after (widened result) (R.failures reader.old) }
-    ensures fault { IfErr (widened result) IsReadingFault }
+    ensures fault { IfErr (widened result) IsOpeningFault }
     ensures valid { IfOk result (λ start. IsFormat start.format) }
 {
     let mut seen = None;
@@ -225,7 +225,7 @@ fn find_data<R: Reader>(reader: &mut R) -> Result<DataStart, ReadFault>
 pub(crate) fn open_data<R: Reader>(reader: &mut R) -> Result<DataStart, ReadFault>
     ensures bytes { Reads (λ x. x) (R.remaining reader.old) (R.remaining reader.new) open_at result }
     ensures counted { R.failures reader.new ≡ failures_after (widened result) (R.failures reader.old) }
-    ensures fault { IfErr (widened result) IsReadingFault }
+    ensures fault { IfErr (widened result) IsOpeningFault }
     ensures valid { IfOk result (λ start. IsFormat start.format) }
     ensures whole { IfOk result (λ start. IsWithin (2 * start.format.channels) start.size 0) }
 {

@@ -6,7 +6,7 @@ ghost use Rattle.sdf_wav.specs.declared.fault.WavFault.{WavFault};
 ghost use Rattle.sdf_wav.specs.declared.format.Format.{Format};
 ghost use Rattle.sdf_wav.specs.declared.wav.TheConstants.{MOST_CHANNELS};
 ghost use Rattle.sdf_wav.specs.Device.{failures_after, widened, Failed};
-ghost use Rattle.sdf_wav.specs.Fault.{HasFault, IsReadingFault};
+ghost use Rattle.sdf_wav.specs.Fault.{HasFault, IsOpeningFault, IsReadingFault};
 ghost use Rattle.sdf_wav.specs.PiecesIn.{IsReading, IsPiece, IsWithin, IsSizedFault, Opens, AnswersOpening, OpensTo, RefusesToOpen, AnswersBy, known_frames, next_at};
 ghost use Rattle.sdf_wav.specs.Steps.{Reads};
 
@@ -48,14 +48,14 @@ impl ContentIn {
         // What is answered is so: the input opens and its content is left, or it has this fault before its content.
         ensures answers { AnswersOpening (R.remaining reader.old) (R.remaining reader.new) result }
 
-        // What is so is answered, unless memory or the reader failed.
+        // What is so is answered, unless the reader failed.
         ensures accepts { (input : List ℕ) (f : Format) (size : ℕ) (rest : List ℕ) → R.remaining reader.old ≡ Some input → Opens input f size rest → OpensTo (R.remaining reader.new) f size rest result }
         ensures refuses { (input : List ℕ) (f : FormatFault) → R.remaining reader.old ≡ Some input → HasFault input f → ((g : Format) (size : ℕ) (rest : List ℕ) → Opens input g size rest → ⊥) → RefusesToOpen f result }
 
-        // Whatever is known of the bytes, it is at a start, and no other fault comes.
+        // Whatever is known of the bytes, it is at a start, and no other fault comes. It takes no memory.
         ensures start { IfOk result (λ c. (c.gone ≡ 0) × (c.fault ≡ None)) }
         ensures sound { IfOk result IsReading }
-        ensures fault { IfErr result IsReadingFault }
+        ensures fault { IfErr result IsOpeningFault }
 
         // A failure of the reader is answered at once: no other call of it failed.
         ensures counted { R.failures reader.new ≡ failures_after result (R.failures reader.old) }

@@ -1,10 +1,10 @@
 //! A file that is read in pieces.
 
-ghost use Rattle.std.specs.Prelude.{◌≡◌, ◌≤◌, ◌+◌, ◌*◌, ◌%◌, ℕ, List, Option, Some, None, [], length, IfOk, IfErr, Err};
+ghost use Rattle.std.specs.Prelude.{◌≡◌, ◌≤◌, ◌+◌, ◌*◌, ◌%◌, ℕ, List, Option, Some, None, [], length, IfOk, IfErr, IsErrOf, Err};
 ghost use Rattle.sdf_wav.specs.declared.fault.WavFault.{WavFault};
 ghost use Rattle.sdf_wav.specs.declared.wav.TheConstants.{MOST_CHANNELS};
-ghost use Rattle.sdf_wav.specs.Device.{failures_after, Known, LosesFront};
-ghost use Rattle.sdf_wav.specs.Fault.{IsReadingFault};
+ghost use Rattle.sdf_wav.specs.Device.{failures_after, one_more, Known, LosesFront};
+ghost use Rattle.sdf_wav.specs.Fault.{IsOpeningFault, IsReadingFault};
 ghost use Rattle.sdf_wav.specs.PiecesIn.{IsReading, IsPiece, IsReadTo, OpenFails, AnswersBy, known_frames, next_at};
 ghost use Rattle.sdf_wav.specs.WavIn.{reader_of, reader_name, reading};
 
@@ -24,7 +24,7 @@ pub struct WavIn<'a, R> {
 impl<'a, R: Reader> WavIn<'a, R> {
     /// Reads a file up to the size of its data, and fails as [`ContentIn::open`] does. Whoever must know what the reader
     /// lost before a fault calls that, which reads the same, and then [`WavIn::over`]. Memory for the pieces is taken from
-    /// `alloc`.
+    /// `alloc`, and none here.
     pub fn open(alloc: Global, reader: &'a mut R) -> Result<WavIn<'a, R>, WavFault>
         ensures same_reader { IfOk result (λ w. reader_name w ≡ reader.entry.ghost_name) }
         ensures opens { IfOk result (λ w. Known (R.remaining reader.old) (R.remaining (reader_of w)) (λ input left. IsReadTo input (reading w) [] left × LosesFront input left)) }
@@ -32,7 +32,10 @@ impl<'a, R: Reader> WavIn<'a, R> {
         ensures counted { IfOk result (λ w. R.failures (reader_of w) ≡ R.failures reader.old) }
         ensures sound { IfOk result (λ w. IsReading (reading w)) }
         ensures refuses { IfErr result (OpenFails (R.remaining reader.old)) }
-        ensures fault { IfErr result IsReadingFault }
+        ensures fault { IfErr result IsOpeningFault }
+
+        // Where the reader is blamed, some reader was left that had failed once more: a body that reads nothing has none.
+        ensures device { IsErrOf result WavFault.Read → (left : R) × (R.failures left ≡ one_more (R.failures reader.old)) }
     {
         let content = ContentIn::open(reader)?;
         Ok(WavIn::over(alloc, reader, content))

@@ -1,9 +1,9 @@
 //! A file that is written in pieces.
 
-ghost use Rattle.std.specs.Prelude.{◌≡◌, ◌≤◌, ◌*◌, ◌%◌, ◌⊎◌, Some, None, true, false, length, IfOk, IfErr};
+ghost use Rattle.std.specs.Prelude.{◌≡◌, ◌≤◌, ◌*◌, ◌%◌, ◌⊎◌, Some, None, true, false, length, IfOk, IfErr, IsErrOf};
 ghost use Rattle.std.specs.Io.KnownBytes.{Appends};
 ghost use Rattle.sdf_wav.specs.Canonical.{sample_bytes};
-ghost use Rattle.sdf_wav.specs.Device.{failures_after};
+ghost use Rattle.sdf_wav.specs.Device.{failures_after, one_more};
 ghost use Rattle.sdf_wav.specs.PiecesOut.{start_fault, file_header, Puts, owed_after, ended};
 ghost use Rattle.sdf_wav.specs.WavOut.{writer_of, writer_name, owed, StartFails};
 
@@ -34,6 +34,9 @@ impl<'a, W: Writer> WavOut<'a, W> {
         ensures owed { IfOk result (λ o. owed o ≡ record { channels = channels; missing = frames; spent = false }) }
         ensures fits { IfOk result (λ _. start_fault rate channels frames ≡ None) }
         ensures fault { IfErr result (StartFails rate channels frames) }
+
+        // Where the writer is blamed, some writer was left that had failed once more: a body that writes nothing has none.
+        ensures device { IsErrOf result WavFault.Write → (left : W) × (W.failures left ≡ one_more (W.failures writer.old)) }
     {
         let content = ContentOut::start(writer, rate, channels, frames)?;
         Ok(WavOut::over(writer, content))

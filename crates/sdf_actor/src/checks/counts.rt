@@ -9,7 +9,7 @@ use crate::fault::NetFault;
 use crate::link::Link;
 use crate::node::Node;
 use sdf_graph::GraphFault;
-use sdf_limits::{MOST_ACTORS, MOST_CHANNELS};
+use sdf_limits::{MOST_ACTORS, MOST_LINKS};
 
 /// Tests the numbers of nodes and links.
 pub(crate) fn check_counts<A: Actor>(
@@ -21,7 +21,7 @@ pub(crate) fn check_counts<A: Actor>(
     if nodes.is_empty() || nodes.len() > MOST_ACTORS {
         return Err(NetFault::Graph(GraphFault::ActorCount));
     }
-    if links.len() > MOST_CHANNELS {
+    if links.len() > MOST_LINKS {
         return Err(NetFault::Graph(GraphFault::ChannelCount));
     }
     Ok(())

@@ -22,11 +22,11 @@ pub(crate) fn samples<A>(
         × (k.0 ≡ period_samples nodes.now Inputs repetitions.now) × (k.1 ≡ period_samples nodes.now Outputs repetitions.now))
         (RateFault nodes.now repetitions.now) }
 {
-    let samples_in = samples_of(nodes, repetitions, first_on(nodes, Lists::Inputs));
+    let samples_in = node_samples(nodes, repetitions, first_on(nodes, Lists::Inputs));
     if let Some(actor) = differing(nodes, repetitions, Lists::Inputs, samples_in) {
         return Err(NetFault::InputRates { actor });
     }
-    let samples_out = samples_of(nodes, repetitions, first_on(nodes, Lists::Outputs));
+    let samples_out = node_samples(nodes, repetitions, first_on(nodes, Lists::Outputs));
     if let Some(actor) = differing(nodes, repetitions, Lists::Outputs, samples_out) {
         return Err(NetFault::OutputRates { actor });
     }
@@ -57,7 +57,7 @@ fn differing<A>(
     ensures { MatchOption result (Agree nodes.now repetitions.now lists (length nodes.now)) (Differs nodes.now repetitions.now lists) }
 {
     for (a, node) in nodes.iter().enumerate() {
-        if node.list(lists).is_some() && samples_of(nodes, repetitions, a) != samples {
+        if node.list(lists).is_some() && node_samples(nodes, repetitions, a) != samples {
             return Some(a);
         }
     }
@@ -65,7 +65,7 @@ fn differing<A>(
 }
 
 /// How many samples a node reads or takes in a period, and 0 past the last node.
-fn samples_of<A>(nodes: &[Node<A>], repetitions: &Repetitions, a: usize) -> usize
+fn node_samples<A>(nodes: &[Node<A>], repetitions: &Repetitions, a: usize) -> usize
     requires { length nodes.now ≡ length repetitions.now }
     ensures { result ≡ block_of (slice_index_or nodes.now a (Sink 0 0)) * slice_index repetitions.now a }
 {

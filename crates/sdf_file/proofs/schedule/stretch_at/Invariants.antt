@@ -1,4 +1,4 @@
-use Rattle.std.proofs.Common.{◌≡◌, ◌+◌, ◌-◌, ◌≤◌, ◌<◌, drop, length}
+use Rattle.std.proofs.Common.{◌≡◌, ◌-◌, ◌≤◌, ◌<◌, drop, length}
 use Rattle.sdf_file.specs.Schedules.{stretches}
 use Rattle.sdf_file.proofs.Stretches.{grown}
 use Rattle.sdf_file.proofs.schedule.stretch_at.Given as goal

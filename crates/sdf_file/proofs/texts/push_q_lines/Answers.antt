@@ -1,4 +1,4 @@
-use Rattle.std.proofs.Common.{◌≡◌, ◌++◌, [], ℕ, List, string_bytes}
+use Rattle.std.proofs.Common.{[], ℕ, List, string_bytes}
 use Rattle.std.specs.Prelude.{slice_index, slice_index_or}
 use Rattle.sdf_file.specs.Texts.{q_line}
 use Rattle.sdf_file.proofs.Lines.{line_added}

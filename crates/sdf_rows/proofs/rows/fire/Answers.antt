@@ -28,7 +28,7 @@ run_blocks-requires-clause-start g c = λ κs within.
     (c.nets_can_run.ensures n p.period.now (p.blocks * p.j) (lists c.args.inputs.now) c.nets_have_periods.ensures c.requires.inputs) in
     let short = subst (λ r. p.j * sum r ≤ MOST_BLOCK) (sym same) c.requires.table.size.short in
     begins s c.histories_make_outputs.ensures.begin n c.net_facts.ensures.net (c.nets_are_wired.ensures.wired n c.net_facts.ensures.net) q p.j p.blocks (lists c.args.inputs.now) can short (omega arith)
-    c.samples_of-room.result (c.samples_of-room.ensures ∙ ap (λ m. p.blocks * p.j * m) (c.samples_out.ensures.value q least))
+    c.samples_of_blocks-room.result (c.samples_of_blocks-room.ensures ∙ ap (λ m. p.blocks * p.j * m) (c.samples_out.ensures.value q least))
     c.deref_mut-4.result.now (λ a. ap (λ xs. get_or xs a 0) (c.deref_mut-4.ensures.value ∙ c.in_ok-done.ensures) ∙ get_or-map (λ (x : ℕ). the_none) q a 0)
     c.deref_mut-2.result.now c.deref_mut-3.result.now
     (ap length c.deref_mut-2.ensures.value ∙ (vec_long c.in_ok-states.states ∙ c.in_ok-states.ensures.0))

@@ -13,7 +13,7 @@ rounds_of-rounds-requires g c =
 pub returns : goal.returns
 returns g c =
     let q = c.args.period.now.repetitions in (
-      given c.args.net.now q (c.args.blocks * c.args.j) c.inputs.result c.samples_of-least.result c.samples_in.result (lists c.args.inputs.now) (c.if-not-are_inputs.ensures.0 refl) c.inputs.ensures c.samples_of-least.ensures
+      given c.args.net.now q (c.args.blocks * c.args.j) c.inputs.result c.samples_of_blocks-least.result c.samples_in.result (lists c.args.inputs.now) (c.if-not-are_inputs.ensures.0 refl) c.inputs.ensures c.samples_of_blocks-least.ensures
           (c.samples_in.ensures.value q c.requires.period.least),
       c.in_ok-outputs.ensures,
       c.rounds_of-rounds.ensures ∙ ap (λ m. c.args.blocks * m) c.rows.ensures,
