@@ -1,5 +1,5 @@
 -- The firings of a row may be done at the counts of the rows before.
-use Rattle.std.proofs.Common.{◌≡◌, ℕ, suc, ◌+◌, ◌≤◌, ◌<◌, List, [], ◌∷◌, ◌++◌, length, map, get_or, take, drop, sym, ap, ◌∙◌, subst, arith, refl, Option}
+use Rattle.std.proofs.Common.{◌≡◌, ℕ, suc, ◌+◌, ◌<◌, List, [], ◌++◌, length, map, take, drop, sym, ap, ◌∙◌, subst, arith, refl, Option}
 use Rattle.std.proofs.Math.Seq.{drop-cons}
 use Rattle.std.proofs.lemmas.List.{get_or-map, length-map, get_or_append_left, length-append, take-append-drop, map-append, take_at}
 use Rattle.std.proofs.lemmas.List.Concat.{flat_map-append, get_or-flat_map}

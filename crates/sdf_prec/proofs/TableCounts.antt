@@ -3,7 +3,7 @@ use Rattle.std.proofs.Common.{◌≡◌, ℕ, zero, suc, ◌+◌, ◌*◌, ◌<�
 use Rattle.std.specs.Prelude.{sum}
 use Rattle.std.proofs.Math.Dec.{eqb-suc-zero, eqb-zero-suc, eqb-suc-suc}
 use Rattle.std.proofs.lemmas.List.Sums.{sum_by-cons}
-use Rattle.sdf_graph.specs.Sequences.{times, repeated}
+use Rattle.sdf_graph.specs.Sequences.{times}
 use Rattle.sdf_prec.specs.Blocks.{block}
 use Rattle.sdf_prec.specs.Counts.{TablesCount}
 use Rattle.sdf_prec.specs.Laws.{OrdersAreAdmissible}

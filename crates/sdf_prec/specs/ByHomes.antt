@@ -1,6 +1,8 @@
 -- One firing a row, each in its actor's home.
 use Rattle.std.specs.Prelude.{◌≡◌, ℕ, ◌<◌, ◌⊎◌, List, length, take, replicate, slice_index, slice_index_or, slice_set, Option, Some, None}
+use Rattle.sdf_graph.specs.Rates.{Rates}
 use Rattle.sdf_graph.specs.Sequences.{times}
+use Rattle.sdf_sched.specs.Runs.{IsInRuns}
 use Rattle.sdf_prec.specs.declared.firing.Firing.{Firing}
 use Rattle.sdf_prec.specs.declared.fault.PrecFault.{PrecFault}
 use Rattle.sdf_prec.specs.declared.fault.PrecFault.TheVariants.{BadHome}
@@ -27,6 +29,12 @@ pub record AreByHomes (homes : List (Option ℕ)) (m : ℕ) (w : List ℕ) (rows
   pub all : length rows ≡ length w
   pub each : (p j : ℕ) → p < length w → slice_index_or homes (slice_index w p) None ≡ Some j →
       row rows p ≡ slice_set (replicate m None) j (Some (firing_at w p))
+
+-- row by row the firings of n of each actor in runs: an actor fires on while it is runnable, and then the next one in file order
+pub record AreRunsByHomes (r : Rates) (n : ℕ → ℕ) (homes : List (Option ℕ)) (m : ℕ) (rows : List (List (Option Firing))) : Type 0 where
+  pub order : List ℕ
+  pub in_runs : IsInRuns r n order
+  pub by : AreByHomes homes m order rows
 
 -- why there is no such table: the size, or else the lowest actor without a home
 abbrev pub IsHomesFault : ℕ → ℕ → List ℕ → List (Option ℕ) → PrecFault → Type 0

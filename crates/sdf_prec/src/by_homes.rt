@@ -1,22 +1,24 @@
 //! Tables by given homes: one firing a row.
 
-ghost use Rattle.std.specs.Prelude.{◌≡◌, ℕ, ◌≤◌, ◌<◌, ◌↔◌, length, map, replicate, slice_index, slice_index_or, slice_set, IfOk, IsTrue, MatchOption, MatchResult, Some, None};
+ghost use Rattle.std.specs.Prelude.{◌≡◌, ℕ, ◌≤◌, ◌<◌, ◌^◌, ◌↔◌, length, map, replicate, slice_index, slice_index_or, slice_set, IfOk, IsTrue, MatchOption, MatchResult, Some, None};
 ghost use Rattle.sdf_graph.specs.Rates.{rates};
-ghost use Rattle.sdf_graph.specs.Sequences.{repeated};
+ghost use Rattle.sdf_graph.specs.Sequences.{repeated, IsPass};
 ghost use Rattle.sdf_sched.specs.Period.{IsPeriodOf};
 ghost use Rattle.sdf_prec.specs.Blocks.{block};
 ghost use Rattle.sdf_prec.specs.Tables.{IsTable};
 ghost use Rattle.sdf_prec.specs.Accepting.{IsSize};
-ghost use Rattle.sdf_prec.specs.ByHomes.{HasHome, IsBadHome, AreByHomes, IsHomesFault};
+ghost use Rattle.sdf_prec.specs.ByHomes.{HasHome, IsBadHome, AreByHomes, AreRunsByHomes, IsHomesFault};
 
-use crate::block::{block_order, size_fault};
+use crate::block::{block_firings, block_order, size_fault};
 use crate::facts::graph_laws;
 use crate::fault::PrecFault;
 use crate::firing::Firing;
 use crate::table::Table;
 use sdf_graph::Graph;
 use sdf_limits::MOST_BLOCK;
-use sdf_sched::Period;
+use sdf_sched::class_s::class_s_of;
+use sdf_sched::laws::runs_stay;
+use sdf_sched::{Period, Runs};
 use std::alloc::{AllocError, Global};
 
 /// Whether an actor is at home in one of the first `m` columns.
@@ -94,6 +96,43 @@ fn rows_of(
     Ok(rows)
 }
 
+/// Why such a table can't be: by its size, or an actor without a home.
+fn homes_fault(j: u32, m: usize, reps: &[u32], homes: &[Option<usize>]) -> Option<PrecFault>
+    requires few { length reps.now < 2 ^ 20 }
+    ensures { MatchOption result
+        (IsSize j m reps.now × ((a : ℕ) → a < length reps.now → HasHome homes.now m a))
+        (IsHomesFault j m reps.now homes.now) }
+{
+    if let Some(fault) = size_fault(j, m, reps) {
+        return Some(fault);
+    }
+    match bad_home(homes, m, reps.len()) {
+        Some(actor) => Some(PrecFault::BadHome { actor }),
+        None => None,
+    }
+}
+
+/// The table of an order, one firing a row, each in its actor's home.
+fn by_order(
+    alloc: Global,
+    graph: &Graph,
+    order: &[usize],
+    m: usize,
+    homes: &[Option<usize>],
+) -> Result<Table, AllocError>
+    requires pass { (n : ℕ → ℕ) × IsPass (rates graph.now) n order.now × ((a : ℕ) → n a ≤ MOST_BLOCK) }
+    requires few { length order.now ≤ MOST_BLOCK }
+    requires homed { (a : ℕ) → a < graph.now.actors → HasHome homes.now m a }
+    ensures table { IfOk result (λ t. (n : ℕ → ℕ) → IsPass (rates graph.now) n order.now → IsTable (rates graph.now) n m t) }
+    ensures rows { IfOk result (λ t. AreByHomes homes.now m order.now t.rows) }
+{
+    graph.channels();
+    graph_laws();
+    let rows = rows_of(alloc, order, graph.actors(), m, homes)?;
+    let table = Table::of_rows(alloc, graph, rows)?;
+    Ok(table)
+}
+
 impl Table {
     /// The period's order `j` times, one firing a row, each in its actor's home, of `m` workers.
     ///
@@ -116,15 +155,43 @@ impl Table {
     {
         graph.channels();
         graph_laws();
-        if let Some(fault) = size_fault(j, m, period.repetitions()) {
+        if let Some(fault) = homes_fault(j, m, period.repetitions(), homes) {
             return Err(fault);
         }
-        if let Some(actor) = bad_home(homes, m, graph.actors()) {
-            return Err(PrecFault::BadHome { actor });
-        }
         let order = block_order(alloc, j, period.order())?;
-        let rows = rows_of(alloc, &order, graph.actors(), m, homes)?;
-        let table = Table::of_rows(alloc, graph, rows)?;
+        let table = by_order(alloc, graph, &order, m, homes)?;
+        Ok(table)
+    }
+
+    /// The firings of `j` periods in runs, one a row, each in its actor's home, of `m` workers: an actor fires on while it is
+    /// runnable in the block, and then the next runnable one in file order.
+    ///
+    /// The faults are those of `by_homes`.
+    pub fn by_homes_in_runs(
+        alloc: Global,
+        graph: &Graph,
+        period: &Period,
+        j: u32,
+        m: usize,
+        homes: &[Option<usize>],
+    ) -> Result<Table, PrecFault>
+        requires { IsPeriodOf (rates graph.now) period.now }
+        ensures { MatchResult result
+            (λ t. IsSize j m period.now.repetitions ×
+            IsTable (rates graph.now) (slice_index (block j period.now.repetitions)) m t ×
+            AreRunsByHomes (rates graph.now) (slice_index (block j period.now.repetitions)) homes.now m t.rows)
+            (IsHomesFault j m period.now.repetitions homes.now) }
+    {
+        graph.channels();
+        graph_laws();
+        runs_stay();
+        let reps = period.repetitions();
+        if let Some(fault) = homes_fault(j, m, reps, homes) {
+            return Err(fault);
+        }
+        let firings = block_firings(alloc, j, reps)?;
+        let order = class_s_of(alloc, graph, &firings, &mut Runs::new())?;
+        let table = by_order(alloc, graph, &order, m, homes)?;
         Ok(table)
     }
 }

@@ -22,6 +22,7 @@ pub mod Onward
 pub mod Firing
 pub mod Running
 pub mod RunEnds
+pub mod Gathers
 pub mod RunFired
 pub mod Standing
 pub mod Looking

@@ -21,7 +21,6 @@ use Rattle.sdf_rings.proofs.Known.{received_at, in_in, port_at}
 use Rattle.sdf_rings.proofs.Knowing.{FiringLaws}
 use Rattle.sdf_rings.proofs.OwnEnds.{own_pairs_kept}
 use Rattle.sdf_rings.proofs.Looking.{vec_in, items_long}
-use Rattle.sdf_rings.proofs.PortBlocks.{outs_long}
 
 -- from own to W the node has fired more times: at each port it took and put so much more
 pub record HasGoneOn {A S T : Type 0} (s : Steps A S T) (n : Netlist A T) (inputs : List (List T)) (x : Stand A T S) (own W : ℕ → List T) (more : ℕ) (taken put : ℕ → List T) : Type 0 where

@@ -1,5 +1,5 @@
 -- The blocks of many firings at the ends of rings, those of one firing after those of another.
-use Rattle.std.proofs.Common.{◌≡◌, ℕ, zero, suc, ◌+◌, ◌-◌, ◌*◌, ◌≤◌, ◌<◌, List, [], ◌++◌, length, get_or, take, drop, slice_index, slice_range, slice_set, get_or-set_same, refl, sym, ap, ◌∙◌, subst, arith, add-one, length-append, append-nil}
+use Rattle.std.proofs.Common.{◌≡◌, ℕ, zero, suc, ◌+◌, ◌-◌, ◌*◌, ◌≤◌, ◌<◌, List, ◌++◌, length, get_or, take, drop, slice_range, slice_set, get_or-set_same, refl, sym, ap, ◌∙◌, subst, arith, add-one, length-append}
 use Rattle.std.specs.List.{between}
 use Rattle.std.proofs.Math.Nat.{mul-suc, suc-mul}
 use Rattle.std.proofs.lemmas.List.{take_all, get_or_default}
@@ -13,7 +13,7 @@ use Rattle.sdf_node.specs.Many.{nth_block, joined}
 use Rattle.sdf_rings.specs.Blocks.{start_at, block_of}
 use Rattle.sdf_rings.specs.Ends.{Drew, Gave, DrewEach, GaveEach, HoldsEach, HasRoomEach}
 use Rattle.sdf_rings.proofs.Blocks.{block_in, start_at_zero, start_at_next}
-use Rattle.sdf_rings.proofs.Looks.{drew_join, gave_join, drew_none, gave_none}
+use Rattle.sdf_rings.proofs.Looks.{drew_join, gave_join}
 
 pub same_joined : {T : Type 0} (f g : ℕ → List T) (many : ℕ) → ((i : ℕ) → i < many → f i ≡ g i) → joined f many ≡ joined g many
 same_joined f g zero same = refl

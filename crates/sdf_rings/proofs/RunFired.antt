@@ -1,7 +1,7 @@
 -- A run of firings of a node at its ends of rings.
-use Rattle.std.proofs.Common.{◌≡◌, ℕ, zero, suc, ◌+◌, ◌-◌, ◌*◌, ◌%◌, ◌≤◌, ◌<◌, ◌⊎◌, inl, inr, List, [], ◌∷◌, ◌++◌, length, get_or, refl, sym, ap, ◌∙◌, subst, arith, vec_len, length-append}
+use Rattle.std.proofs.Common.{◌≡◌, ℕ, zero, suc, ◌+◌, ◌*◌, ◌%◌, ◌≤◌, ◌<◌, ◌⊎◌, inl, inr, List, [], ◌∷◌, ◌++◌, length, get_or, sym, ap, ◌∙◌, subst, arith, vec_len, length-append}
 use Rattle.std.specs.Global.{Global}
-use Rattle.std.specs.List.{between, flat_map, sum_by}
+use Rattle.std.specs.List.{between}
 use Rattle.std.specs.declared.vec.Vec.{Vec}
 use Rattle.std.proofs.Math.Nat.{mod-one, mul_comm}
 use Rattle.std.proofs.lemmas.Bool.{cases_lt}
@@ -13,8 +13,7 @@ use Rattle.rtrb.specs.declared.consumer.Consumer.{Consumer}
 use Rattle.rtrb.specs.declared.AnyItems.{AnyItems}
 use Rattle.sdf_actor.specs.Steps.{Steps}
 use Rattle.sdf_actor.specs.Histories.{IsWired, taken, taken_before}
-use Rattle.sdf_actor.specs.Locals.{IsLocal}
-use Rattle.sdf_actor.specs.Nets.{Netlist, node, wiring, answers, answer_of, inputs_of, outputs_of, IsNet}
+use Rattle.sdf_actor.specs.Nets.{Netlist, node, wiring, answer_of, inputs_of, outputs_of, IsNet}
 use Rattle.sdf_actor.specs.Sides.{ports_of, moved_at}
 use Rattle.sdf_actor.specs.Wires.{lists}
 use Rattle.sdf_actor.specs.declared.node.Node.{Node}

@@ -1,16 +1,10 @@
 -- What a node knows of its own channels after many firings more, where it has one phase and no channel to itself.
-use Rattle.std.proofs.Common.{◌≡◌, ℕ, zero, suc, ◌+◌, ◌-◌, ◌*◌, ◌%◌, ◌≤◌, ◌<◌, List, [], ◌∷◌, ◌++◌, length, take, get_or, refl, sym, ap, ◌∙◌, subst, arith, append_assoc, append-nil, add-zero}
-use Rattle.std.specs.List.{between, flat_map, range_with_len, sum_by}
-use Rattle.std.proofs.Math.Nat.{mod-one}
-use Rattle.std.proofs.lemmas.List.{get_or_append_left, get_or_push}
+use Rattle.std.proofs.Common.{◌≡◌, ℕ, zero, suc, ◌+◌, ◌<◌, List, [], ◌∷◌, ◌++◌, length, take, get_or, sym, ap, ◌∙◌, subst, arith, append_assoc, append-nil, add-zero}
 use Rattle.sdf_actor.specs.Steps.{Steps}
-use Rattle.sdf_actor.specs.Histories.{IsWired, taken, taken_before}
+use Rattle.sdf_actor.specs.Histories.{IsWired, taken_before}
 use Rattle.sdf_actor.specs.Locals.{IsLocal}
-use Rattle.sdf_actor.specs.Nets.{Netlist, wire, node, wiring, answers, answer_of, inputs_of, outputs_of, cycle_of, IsNet}
-use Rattle.sdf_actor.specs.declared.sides.Side.{Side}
+use Rattle.sdf_actor.specs.Nets.{Netlist, wire, node, wiring, answers, answer_of, inputs_of, outputs_of, IsNet}
 use Rattle.sdf_actor.specs.declared.sides.Side.TheVariants.{Input, Output}
-use Rattle.sdf_actor.specs.Sides.{ports_of}
-use Rattle.sdf_node.specs.Nodes.{takes_of, puts_of}
 use Rattle.sdf_node.specs.Many.{listed, joined}
 use Rattle.sdf_answer.specs.Sizes.{sizes}
 use Rattle.sdf_rings.specs.Blocks.{start_at, block_of}

@@ -1,5 +1,5 @@
 -- Runs of firings of one node: when they go in one piece of work.
-use Rattle.std.specs.Prelude.{◌≡◌, ℕ, ◌+◌, ◌*◌, ◌≤◌, ◌<◌, length, vec_len}
+use Rattle.std.specs.Prelude.{◌≡◌, ℕ, ◌+◌, ◌*◌, ◌≤◌, ◌<◌, length}
 use Rattle.sdf_actor.specs.Steps.{Steps}
 use Rattle.sdf_actor.specs.Nets.{Netlist, wire, node, cycle_of}
 use Rattle.sdf_actor.specs.declared.sides.Side.TheVariants.{Input, Output}

@@ -257,11 +257,78 @@ fn put_by_firing<T: Copy>(
     }
 }
 
-/// Puts the blocks of so many firings at each port: at a lone port in one call.
+/// Copies a part of one list into another.
+fn copy_part<T: Copy>(from: &[T], start: usize, to: &mut [T], at: usize, width: usize)
+    requires from { start + width ≤ length from.now }
+    requires to { at + width ≤ length to.old }
+    ensures copied { slice_range to.new at (at + width) ≡ slice_range from.now start (start + width) }
+    ensures before { (n : ℕ) → n ≤ at → take n to.new ≡ take n to.old }
+{
+    to[at..at + width].copy_from_slice(&from[start..start + width]);
+}
+
+/// Gathers what so many firings put at one port, to the front of a list with room for all that they put.
+fn gather<T: Copy>(put: &[T], to: &mut [T], at: usize, width: usize, many: usize, size: usize)
+    requires inside { at + width ≤ size }
+    requires length { length put.now ≡ size * many }
+    requires long { length put.now ≤ length to.old }
+    ensures { take (width * many) to.new ≡ joined (λ i. slice_range (nth_block size put.now i) at (at + width)) many }
+{
+    for i in 0..many {
+        copy_part(put, size * i + at, to, width * i, width);
+    }
+}
+
+/// Puts what so many firings put at one port, in one call.
+fn put_part<T: Copy>(
+    end: &mut Producer<T, Global>,
+    put: &[T],
+    scratch: &mut [T],
+    at: usize,
+    width: usize,
+    many: usize,
+    size: usize,
+)
+    requires inside { at + width ≤ size }
+    requires length { length put.now ≡ size * many }
+    requires long { length put.now ≤ length scratch.old }
+    requires room { many * width ≤ known_free end.old }
+    ensures { Gave end.old end.new (joined (λ i. slice_range (nth_block size put.now i) at (at + width)) many) }
+{
+    gather(put, scratch, at, width, many, size);
+    put_block(end, &scratch[..width * many]);
+}
+
+/// Puts the blocks of so many firings, at each port in one call. A list as long as all of them serves to gather them.
+fn put_by_port<T: Copy>(
+    sizes: &[usize],
+    ends: &mut [Producer<T, Global>],
+    put: &[T],
+    scratch: &mut [T],
+    many: usize,
+    size: usize,
+)
+    requires ports { length ends.old ≡ length sizes.now }
+    requires size { size ≡ start_at (slice_index sizes.now) (length ends.old) }
+    requires length { length put.now ≡ size * many }
+    requires long { length put.now ≤ length scratch.old }
+    requires room { HasRoomEach (λ i. many * slice_index sizes.now i) ends.old }
+    ensures { GaveEach ends.old ends.new (λ p. joined (λ i. block_of (slice_index sizes.now) p (nth_block size put.now i)) many) }
+{
+    let mut at = 0;
+    for i in 0..ends.len() {
+        let width = sizes[i];
+        put_part(&mut ends[i], put, scratch, at, width, many, size);
+        at += width;
+    }
+}
+
+/// Puts the blocks of so many firings at each port: in one call a port, where the other list has room to gather them.
 pub(crate) fn put_run<T: Copy>(
     sizes: &[usize],
     ends: &mut [Producer<T, Global>],
     put: &[T],
+    scratch: &mut [T],
     many: usize,
     size: usize,
 )
@@ -274,6 +341,8 @@ pub(crate) fn put_run<T: Copy>(
     sdf_node::laws::blocks_join::<T>();
     if ends.len() == 1 {
         put_block(&mut ends[0], put);
+    } else if put.len() <= scratch.len() {
+        put_by_port(sizes, ends, put, scratch, many, size);
     } else {
         put_by_firing(sizes, ends, put, many, size);
     }

@@ -140,6 +140,7 @@ fn fire_run_blocks<A: Actor>(
         row(&stand.puts, 0),
         stand.outs.as_mut_slice(),
         &stand.put[..put],
+        stand.taken.as_mut_slice(),
         many,
         made,
     );

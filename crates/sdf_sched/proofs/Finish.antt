@@ -3,7 +3,7 @@ use Rattle.std.proofs.Common.{◌≡◌, ℕ, zero, suc, ◌≤◌, ◌<◌, Lis
 use Rattle.std.proofs.lemmas.List.{ext_get_or}
 use Rattle.std.proofs.lemmas.Bool.{cases_lt, eqb-true, false≢true}
 use Rattle.sdf_graph.specs.Rates.{Shape, IsSound, rates}
-use Rattle.sdf_graph.specs.Sequences.{times, IsRunnable, IsAdmissible, IsDeadlocked}
+use Rattle.sdf_graph.specs.Sequences.{times, IsRunnable, IsAdmissible, IsPass, IsDeadlocked}
 use Rattle.sdf_graph.specs.Periods.{IsLeastPeriod}
 use Rattle.sdf_graph.specs.Tally.{Tally}
 use Rattle.sdf_sched.specs.Pick.{Chooses, IsPicked, begins, fires}
@@ -34,6 +34,21 @@ module _ (P : Type 0) (chooses : Chooses P) (g : Shape) (q : List ℕ) (p : P) w
 
     count_of : (a : ℕ) → get_or t.fired a 0 ≡ times w a
     count_of a = ap (λ (k : ℕ → ℕ). k a) now.counted
+
+    -- where some sequence does all firings, this one does
+    module _ (sound : IsSound (rates g)) (stuck : StuckCountsMeanDeadlock) (v : List ℕ) (pass : IsPass (rates g) (slice_index q) v) where
+      done : (a : ℕ) → a < g.actors → get_or t.fired a 0 ≡ get_or q a 0
+      done a h = go (cases_lt (get_or t.fired a 0) (get_or q a 0))
+        where
+          go : (get_or t.fired a 0 < get_or q a 0) ⊎ (get_or q a 0 ≤ get_or t.fired a 0) → get_or t.fired a 0 ≡ get_or q a 0
+          go (inl less) = absurd (stuck (rates g) (slice_index q) (slice_index t.fired) sound none_left a h less v pass)
+          go (inr full) = omega (arith, now.within a)
+
+      pub is_pass : IsPass (rates g) (slice_index q) w
+      is_pass = (admissible, λ a h. omega (arith, done a h, count_of a))
+
+      pub is_whole : length q ≡ g.actors → length w ≡ sum q
+      is_whole len = sym now.total ∙ ap sum (ext_get_or 0 t.fired q now.all (λ a h. done a (omega (arith, now.all, len))))
 
     module _ (short : List (ℕ × ℕ)) (lacks : IsShortList (rates g) (slice_index q) (slice_index t.fired) short) (len : length q ≡ g.actors) where
       -- with no actor unfinished the period is over

@@ -1,10 +1,10 @@
 //! Class S: while some actor is runnable, one of them fires.
 
-ghost use Rattle.std.specs.Prelude.{◌≡◌, ℕ, ◌+◌, ◌≤◌, ◌<◌, List, length, sum, slice_index, slice_set, MatchResult, MatchOption, vec_capacity, IsTrue, ◌↔◌, []};
+ghost use Rattle.std.specs.Prelude.{◌≡◌, ℕ, ◌+◌, ◌≤◌, ◌<◌, List, length, sum, slice_index, slice_set, IfOk, MatchResult, MatchOption, vec_capacity, IsTrue, ◌↔◌, []};
 ghost use Rattle.std.specs.List.{Contains};
 ghost use Rattle.std.specs.List.Sorted.{IsStrictlyIncreasing};
 ghost use Rattle.sdf_graph.specs.Rates.{rates};
-ghost use Rattle.sdf_graph.specs.Sequences.{IsRunnable};
+ghost use Rattle.sdf_graph.specs.Sequences.{IsRunnable, IsPass};
 ghost use Rattle.sdf_graph.specs.Periods.{IsLeastPeriod};
 ghost use Rattle.sdf_sched.specs.Pick.{IsRunnableList, IsPicked};
 ghost use Rattle.sdf_sched.specs.Period.{IsPeriodOf};
@@ -19,28 +19,28 @@ use crate::stuck::Stuck;
 use sdf_graph::laws::{graphs_are_sound, sums_rise};
 use sdf_graph::{Counts, Graph, Repetitions};
 use sdf_limits::MOST_PERIOD;
-use std::alloc::Global;
+use std::alloc::{AllocError, Global};
 
 /// Whether an actor may fire within the period.
-fn is_runnable(counts: &Counts, reps: &Repetitions, actor: usize) -> bool
-    requires all { length reps.now ≡ counts.now.graph.actors }
-    requires known { actor < length reps.now }
-    ensures { IsTrue result ↔ IsRunnable (rates counts.now.graph) (slice_index reps.now) (slice_index counts.now.fired) actor }
+fn is_runnable(counts: &Counts, firings: &[u32], actor: usize) -> bool
+    requires all { length firings.now ≡ counts.now.graph.actors }
+    requires known { actor < length firings.now }
+    ensures { IsTrue result ↔ IsRunnable (rates counts.now.graph) (slice_index firings.now) (slice_index counts.now.fired) actor }
 {
-    counts.fired(actor) < reps.of(actor) && counts.enabled(actor)
+    counts.fired(actor) < firings[actor] && counts.enabled(actor)
 }
 
 /// Puts an actor into the list of those that are runnable, or takes it out.
-fn update(counts: &Counts, reps: &Repetitions, actor: usize, runnable: &mut Vec<usize>)
-    requires all { length reps.now ≡ counts.now.graph.actors }
-    requires known { actor < length reps.now }
+fn update(counts: &Counts, firings: &[u32], actor: usize, runnable: &mut Vec<usize>)
+    requires all { length firings.now ≡ counts.now.graph.actors }
+    requires known { actor < length firings.now }
     requires rising { IsStrictlyIncreasing runnable.old.items }
-    requires below { (a : ℕ) → Contains runnable.old.items a → a < length reps.now }
-    requires room { length reps.now ≤ vec_capacity runnable.old }
-    ensures list { IsUpdated runnable.old.items actor (IsRunnable (rates counts.now.graph) (slice_index reps.now) (slice_index counts.now.fired) actor) runnable.new.items }
+    requires below { (a : ℕ) → Contains runnable.old.items a → a < length firings.now }
+    requires room { length firings.now ≤ vec_capacity runnable.old }
+    ensures list { IsUpdated runnable.old.items actor (IsRunnable (rates counts.now.graph) (slice_index firings.now) (slice_index counts.now.fired) actor) runnable.new.items }
     ensures capacity { vec_capacity runnable.new ≡ vec_capacity runnable.old }
 {
-    let fires = is_runnable(counts, reps, actor);
+    let fires = is_runnable(counts, firings, actor);
     match runnable.binary_search(&actor) {
         Ok(at) => {
             if !fires {
@@ -56,69 +56,69 @@ fn update(counts: &Counts, reps: &Repetitions, actor: usize, runnable: &mut Vec<
 }
 
 /// The actors that are runnable before the first firing.
-fn collect(counts: &Counts, reps: &Repetitions, runnable: &mut Vec<usize>)
-    requires all { length reps.now ≡ counts.now.graph.actors }
+fn collect(counts: &Counts, firings: &[u32], runnable: &mut Vec<usize>)
+    requires all { length firings.now ≡ counts.now.graph.actors }
     requires empty { runnable.old.items ≡ [] }
-    requires room { length reps.now ≤ vec_capacity runnable.old }
-    ensures list { IsRunnableList (rates counts.now.graph) (slice_index reps.now) (slice_index counts.now.fired) runnable.new.items }
+    requires room { length firings.now ≤ vec_capacity runnable.old }
+    ensures list { IsRunnableList (rates counts.now.graph) (slice_index firings.now) (slice_index counts.now.fired) runnable.new.items }
     ensures capacity { vec_capacity runnable.new ≡ vec_capacity runnable.old }
 {
-    for actor in 0..reps.len() {
-        update(counts, reps, actor, runnable);
+    for actor in 0..firings.len() {
+        update(counts, firings, actor, runnable);
     }
 }
 
 /// Fires a runnable actor. Besides it, only the actors that it feeds are looked at again.
 fn fire(
     graph: &Graph,
-    reps: &Repetitions,
+    firings: &[u32],
     actor: usize,
     counts: &mut Counts,
     runnable: &mut Vec<usize>,
 )
     requires same { counts.old.graph ≡ graph.now }
-    requires all { length reps.now ≡ graph.now.actors }
+    requires all { length firings.now ≡ graph.now.actors }
     requires each { length counts.old.fired ≡ graph.now.actors }
-    requires short { sum reps.now ≤ MOST_PERIOD }
-    requires room { length reps.now ≤ vec_capacity runnable.old }
-    requires list { IsRunnableList (rates graph.now) (slice_index reps.now) (slice_index counts.old.fired) runnable.old.items }
+    requires short { sum firings.now ≤ MOST_PERIOD }
+    requires room { length firings.now ≤ vec_capacity runnable.old }
+    requires list { IsRunnableList (rates graph.now) (slice_index firings.now) (slice_index counts.old.fired) runnable.old.items }
     requires fires { Contains runnable.old.items actor }
     ensures fired { counts.new ≡ record counts.old { fired = slice_set counts.old.fired actor (slice_index counts.old.fired actor + 1) } }
-    ensures list { IsRunnableList (rates graph.now) (slice_index reps.now) (slice_index counts.new.fired) runnable.new.items }
+    ensures list { IsRunnableList (rates graph.now) (slice_index firings.now) (slice_index counts.new.fired) runnable.new.items }
     ensures capacity { vec_capacity runnable.new ≡ vec_capacity runnable.old }
 {
     graphs_are_sound();
     let channels = graph.channels();
     counts.fire(actor);
-    update(counts, reps, actor, runnable);
+    update(counts, firings, actor, runnable);
     for channel in graph.outgoing(actor) {
         let fed = &channels[*channel];
-        update(counts, reps, fed.to, runnable);
+        update(counts, firings, fed.to, runnable);
     }
 }
 
 /// Fires what the pick chooses while some actor is runnable.
 fn fire_all<P: Pick>(
     graph: &Graph,
-    reps: &Repetitions,
+    firings: &[u32],
     counts: &mut Counts,
     order: &mut Vec<usize>,
     runnable: &mut Vec<usize>,
     pick: &mut P,
 )
-    requires all { length reps.now ≡ graph.now.actors }
-    requires short { sum reps.now ≤ MOST_PERIOD }
-    requires room { sum reps.now ≤ vec_capacity order.old }
-    requires places { length reps.now ≤ vec_capacity runnable.old }
-    requires begun { IsGoing P.chooses graph.now reps.now pick.old counts.old order.old.items pick.old runnable.old.items }
-    ensures { IsGoing P.chooses graph.now reps.now pick.old counts.new order.new.items pick.new [] }
+    requires all { length firings.now ≡ graph.now.actors }
+    requires short { sum firings.now ≤ MOST_PERIOD }
+    requires room { sum firings.now ≤ vec_capacity order.old }
+    requires places { length firings.now ≤ vec_capacity runnable.old }
+    requires begun { IsGoing P.chooses graph.now firings.now pick.old counts.old order.old.items pick.old runnable.old.items }
+    ensures { IsGoing P.chooses graph.now firings.now pick.old counts.new order.new.items pick.new [] }
 {
     sums_rise();
     while !runnable.is_empty() {
         let at = pick.choose(graph, counts, runnable);
         let actor = runnable[at];
         order.push_reserved(actor);
-        fire(graph, reps, actor, counts, runnable);
+        fire(graph, firings, actor, counts, runnable);
     }
 }
 
@@ -165,6 +165,51 @@ fn collect_done(counts: &Counts, reps: &Repetitions, done: &mut Vec<u32>)
     }
 }
 
+/// How often the actors fire in a period, one by one.
+fn firings_of(alloc: Global, reps: &Repetitions) -> Result<Vec<u32>, AllocError>
+    ensures { IfOk result (λ v. v.items ≡ reps.now) }
+{
+    let mut firings = Vec::with_capacity(alloc, reps.len())?;
+    for actor in 0..reps.len() {
+        firings.push(reps.of(actor))?;
+    }
+    Ok(firings)
+}
+
+/// How many firings there are in all.
+fn total(firings: &[u32]) -> usize
+    requires { sum firings.now ≤ MOST_PERIOD }
+    ensures { result ≡ sum firings.now }
+{
+    sums_rise();
+    let mut total = 0;
+    for many in firings {
+        total += *many as usize;
+    }
+    total
+}
+
+/// Fires what the pick chooses, from the start until no actor is runnable. It takes all its memory before the first choice.
+fn fire_greedily<'a, P: Pick>(
+    alloc: Global,
+    graph: &'a Graph,
+    firings: &[u32],
+    pick: &mut P,
+) -> Result<(Counts<'a>, Vec<usize>), AllocError>
+    requires all { length firings.now ≡ graph.now.actors }
+    requires short { sum firings.now ≤ MOST_PERIOD }
+    ensures { MatchResult result
+        (λ made. IsGoing P.chooses graph.now firings.now pick.old made.0 made.1.items pick.new [])
+        (λ _. pick.new ≡ pick.old) }
+{
+    let mut counts = Counts::new(alloc, graph)?;
+    let mut order = Vec::with_capacity(alloc, total(firings))?;
+    let mut runnable = Vec::with_capacity(alloc, firings.len())?;
+    collect(&counts, firings, &mut runnable);
+    fire_all(graph, firings, &mut counts, &mut order, &mut runnable, pick);
+    Ok((counts, order))
+}
+
 /// A schedule of one period, made by a pick's choices among the runnable actors. It takes all its memory before the first
 /// choice; after an error the pick is in the state that its last choice left.
 ///
@@ -184,13 +229,11 @@ pub fn class_s<P: Pick>(
     graph.channels();
     graphs_are_sound();
     stuck_counts_mean_deadlock();
-    let mut counts = Counts::new(alloc, graph)?;
-    let mut order = Vec::with_capacity(alloc, reps.period() as usize)?;
-    let mut runnable = Vec::with_capacity(alloc, reps.len())?;
+    reps.period();
+    let firings = firings_of(alloc, reps)?;
     let mut done = Vec::with_capacity(alloc, reps.len())?;
     let mut short = Vec::with_capacity(alloc, reps.len())?;
-    collect(&counts, reps, &mut runnable);
-    fire_all(graph, reps, &mut counts, &mut order, &mut runnable, pick);
+    let (counts, order) = fire_greedily(alloc, graph, &firings, pick)?;
     collect_short(&counts, reps, &mut short);
     collect_done(&counts, reps, &mut done);
     if !short.is_empty() {
@@ -200,4 +243,26 @@ pub fn class_s<P: Pick>(
         order,
         repetitions: done,
     })
+}
+
+/// A schedule of so many firings of each actor, as of several periods, made by a pick's choices. There is one wherever any sequence
+/// of enabled firings does them all.
+pub fn class_s_of<P: Pick>(
+    alloc: Global,
+    graph: &Graph,
+    firings: &[u32],
+    pick: &mut P,
+) -> Result<Vec<usize>, AllocError>
+    requires all { length firings.now ≡ graph.now.actors }
+    requires short { sum firings.now ≤ MOST_PERIOD }
+    requires some { (v : List ℕ) × IsPass (rates graph.now) (slice_index firings.now) v }
+    ensures pass { IfOk result (λ order. IsPass (rates graph.now) (slice_index firings.now) order.items) }
+    ensures all { IfOk result (λ order. length order.items ≡ sum firings.now) }
+    ensures picked { IfOk result (λ order. IsPicked P.chooses graph.now (slice_index firings.now) pick.old order.items pick.new) }
+{
+    graph.channels();
+    graphs_are_sound();
+    stuck_counts_mean_deadlock();
+    let (_, order) = fire_greedily(alloc, graph, firings, pick)?;
+    Ok(order)
 }

@@ -1,4 +1,4 @@
-use Rattle.std.proofs.Common.{slice_index, ◌+◌, ◌*◌, length, arith}
+use Rattle.std.proofs.Common.{slice_index, length, arith}
 use Rattle.sdf_rings.proofs.RunEnds.{place, fits, gave_next, room_next}
 use Rattle.sdf_rings.proofs.ends.put_by_firing.Goals as goal
 

@@ -1,4 +1,4 @@
-use Rattle.std.proofs.Common.{◌≡◌, slice_index, ◌+◌, ◌*◌, length, subst, arith}
+use Rattle.std.proofs.Common.{◌≡◌, slice_index, length, subst, arith}
 use Rattle.sdf_node.specs.Many.{nth_block, joined}
 use Rattle.sdf_rings.specs.Blocks.{block_of}
 use Rattle.sdf_rings.specs.Ends.{DrewEach}

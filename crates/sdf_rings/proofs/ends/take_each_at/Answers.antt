@@ -1,4 +1,4 @@
-use Rattle.std.proofs.Common.{◌+◌, ◌-◌, ◌∙◌, slice_index, slice_index_or, subst, sym, arith}
+use Rattle.std.proofs.Common.{◌+◌, ◌-◌, slice_index, slice_index_or, subst, sym, arith}
 use Rattle.std.proofs.lemmas.Slice.{between-put_mid}
 use Rattle.sdf_rings.specs.Blocks.{block_of}
 use Rattle.sdf_rings.specs.Ends.{Drew}

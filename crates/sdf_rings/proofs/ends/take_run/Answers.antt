@@ -1,4 +1,4 @@
-use Rattle.std.proofs.Common.{slice_index, ◌∙◌, length, ap, arith, sym}
+use Rattle.std.proofs.Common.{slice_index, ◌∙◌, length, ap, arith}
 use Rattle.sdf_rings.specs.Blocks.{start_at}
 use Rattle.sdf_rings.specs.Ends.{Drew}
 use Rattle.sdf_rings.proofs.RunEnds.{lone_fits, lone_end, lone_port}

@@ -1,4 +1,4 @@
-use Rattle.std.proofs.Common.{◌+◌, slice_index, ap, arith}
+use Rattle.std.proofs.Common.{slice_index, ap, arith}
 use Rattle.sdf_rings.proofs.Times.{row_left}
 use Rattle.sdf_rings.proofs.seat.fire_known.Goals as goal
 

@@ -1,8 +1,7 @@
-use Rattle.std.proofs.Common.{◌*◌, length, take, ap, sym, ◌∙◌, arith, refl}
+use Rattle.std.proofs.Common.{◌*◌, length, take, ap, ◌∙◌, arith, refl}
 use Rattle.std.specs.Vec.{with_items}
 use Rattle.std.proofs.lemmas.List.{with_items_is, length-take-le}
 use Rattle.sdf_actor.specs.Wires.{lists}
-use Rattle.sdf_actor.specs.Nets.{node}
 use Rattle.sdf_node.specs.Nodes.{takes_of, puts_of}
 use Rattle.sdf_rings.proofs.Knowing.{FiringLaws}
 use Rattle.sdf_rings.proofs.RunFired.{in_size, out_size, holds_run, room_run, drew_run, gave_run, can_step_run, taken_within, put_within, run_fired}
@@ -62,7 +61,9 @@ returns-clause-fired g c =
     let made_is = c.puts-made.ensures ∙ ap (λ v. puts_of s v 0) y_is in
     let fits = taken_within s laws join n c.requires.net inputs x st many c.requires.can y y_is c.takes-size.result c.takes-size.ensures in
     let holds = put_within s laws join n c.requires.net inputs x st many c.requires.can y y_is c.puts-made.result c.puts-made.ensures in
+    let seen_taken = with_items x.taken c.take_front_run.new.taken in
     let taken = with_items_is x.taken c.take_front_run.new.taken (omega arith) in
+    let after = with_items_is seen_taken c.put_run.new.scratch (omega (arith, ap length taken)) in
     let put = with_items_is x.put c.step_front_many.new.put (omega arith) in
     let ins = with_items_is x.ins c.take_front_run.new.ends (omega arith) in
     let outs = with_items_is x.outs c.put_run.new.ends (omega arith) in
@@ -79,5 +80,5 @@ returns-clause-fired g c =
     c.step_front_many.new.state
     (rw (seen, y_is) at c.step_front_many.ensures.state)
     (rw (seen, y_is) at c.step_front_many.ensures.put)
-    (with_items x.ins c.take_front_run.new.ends) (with_items x.outs c.put_run.new.ends) (with_items x.taken c.take_front_run.new.taken) (with_items x.put c.step_front_many.new.put)
-    (rw ins drew) (rw outs gave) (omega arith) (omega arith) (ap length taken ∙ omega arith) (ap length put ∙ omega arith)
+    (with_items x.ins c.take_front_run.new.ends) (with_items x.outs c.put_run.new.ends) (with_items seen_taken c.put_run.new.scratch) (with_items x.put c.step_front_many.new.put)
+    (rw ins drew) (rw outs gave) (omega arith) (omega arith) (ap length after ∙ omega (arith, ap length taken)) (ap length put ∙ omega arith)

@@ -1,4 +1,4 @@
-use Rattle.std.proofs.Common.{◌≡◌, ◌<◌, length, get_or, refl, ap, ◌∙◌, arith}
+use Rattle.std.proofs.Common.{◌≡◌, length, get_or, refl, ap, ◌∙◌, arith}
 use Rattle.sdf_actor.specs.Nets.{wire, wiring}
 use Rattle.sdf_rings.proofs.Known.{at_port}
 use Rattle.sdf_rings.proofs.PortBlocks.{ins_long, port_of}
