@@ -9,18 +9,19 @@ use Rattle.sdf_process.specs.declared.fault.Fault.{Fault}
 use Rattle.sdf_words.specs.declared.options.Options.{Options}
 use Rattle.sdf_words.specs.declared.options.Placement.{Placement}
 use Rattle.sdf_words.specs.declared.options.Placement.TheVariants.{Hu, Homed, File}
+use Rattle.sdf_words.specs.declared.options.Policy.{Policy}
 use Rattle.sdf_words.specs.declared.options.Runner.{Runner}
 use Rattle.sdf_words.specs.declared.options.Runner.TheVariants.{One, Rows, Rings}
 use Rattle.sdf_process.specs.Placements.{rates_of, firings_of, IsPlaced, IsTableBy}
 use Rattle.sdf_process.specs.Plans.{PlanValue, IsPlanOf, IsPlanFault, IsTableFor, HasPatience, SuitsRunner, Suits}
 
-placed_table : (placement : Placement) (d : DesignValue) (j m : ℕ) (s : Schedule) (t : Tabled) → IsPlaced placement d j m s t → IsTable (rates_of d) (firings_of j s) m t
-placed_table Hu d j m s t is = is.table
-placed_table Homed d j m s t is = is.table
-placed_table File d j m s t is = is.0
+placed_table : (placement : Placement) (policy : Policy) (d : DesignValue) (j m : ℕ) (s : Schedule) (t : Tabled) → IsPlaced placement policy d j m s t → IsTable (rates_of d) (firings_of j s) m t
+placed_table Hu policy d j m s t is = is.table
+placed_table Homed policy d j m s t is = is.table
+placed_table File policy d j m s t is = is.0
 
 table_of : (d : DesignValue) (o : Options) (s : Schedule) (t : Tabled) → IsTableBy d o s t → IsTableOf (rates_of d) s.repetitions o.blocking t
-table_of d o s t is = record { width = o.workers; size = is.size; table = placed_table o.placement d o.blocking o.workers s t is.placed }
+table_of d o s t is = record { width = o.workers; size = is.size; table = placed_table o.placement o.policy d o.blocking o.workers s t is.placed }
 
 table_suits : (runner : Runner) (d : DesignValue) (o : Options) (s : Schedule) (t : Option Tabled) → IsTableFor runner d o s t → IfSome t (IsTableOf (rates_of d) s.repetitions o.blocking)
 table_suits One d o s t is = subst (λ x. IfSome x (IsTableOf (rates_of d) s.repetitions o.blocking)) (sym is) tt

@@ -8,13 +8,15 @@ use Rattle.sdf_sched.specs.Period.{Schedule}
 use Rattle.sdf_prec.specs.declared.fault.PrecFault.{PrecFault}
 use Rattle.sdf_prec.specs.Blocks.{block, IsSizeFault as IsBlockSizeFault}
 use Rattle.sdf_prec.specs.Accepting.{IsSize}
-use Rattle.sdf_prec.specs.ByHomes.{AreByHomes, IsHomesFault}
+use Rattle.sdf_prec.specs.ByHomes.{AreByHomes, AreRunsByHomes, IsHomesFault}
 use Rattle.sdf_prec.specs.HuTables.{IsHuTable}
 use Rattle.sdf_prec.specs.Tables.{Tabled, IsTable}
 use Rattle.sdf_file.specs.Designs.{DesignValue}
 use Rattle.sdf_words.specs.declared.options.Options.{Options}
 use Rattle.sdf_words.specs.declared.options.Placement.{Placement}
 use Rattle.sdf_words.specs.declared.options.Placement.TheVariants.{Hu, Homed, File}
+use Rattle.sdf_words.specs.declared.options.Policy.{Policy}
+use Rattle.sdf_words.specs.declared.options.Policy.TheVariants.{Round, Lean, Runs}
 
 abbrev pub rates_of : DesignValue → Rates
 rates_of d = rates (graph_of kit_steps d.net)
@@ -23,12 +25,18 @@ rates_of d = rates (graph_of kit_steps d.net)
 abbrev pub firings_of : ℕ → Schedule → ℕ → ℕ
 firings_of j s = slice_index (block j s.repetitions)
 
+-- one firing a row at the homes of the design: the period's order so many times, and by the policy of runs the whole block in runs
+abbrev pub AreAtHome : Policy → DesignValue → ℕ → ℕ → Schedule → Tabled → Type 0
+AreAtHome Round d j m s t = AreByHomes d.homes m (repeated j s.order) t.rows
+AreAtHome Lean d j m s t = AreByHomes d.homes m (repeated j s.order) t.rows
+AreAtHome Runs d j m s t = AreRunsByHomes (rates_of d) (firings_of j s) d.homes m t.rows
+
 -- the table by a placement for blocks of j periods and m workers: by Hu's rule with the costs of the design, free or homed, or one
 -- firing a row at the homes of the design
-abbrev pub IsPlaced : Placement → DesignValue → ℕ → ℕ → Schedule → Tabled → Type 0
-IsPlaced Hu d j m s t = IsHuTable (rates_of d) (firings_of j s) (slice_index d.costs) m false t
-IsPlaced Homed d j m s t = IsHuTable (rates_of d) (firings_of j s) (slice_index d.costs) m true t
-IsPlaced File d j m s t = IsTable (rates_of d) (firings_of j s) m t × AreByHomes d.homes m (repeated j s.order) t.rows
+abbrev pub IsPlaced : Placement → Policy → DesignValue → ℕ → ℕ → Schedule → Tabled → Type 0
+IsPlaced Hu policy d j m s t = IsHuTable (rates_of d) (firings_of j s) (slice_index d.costs) m false t
+IsPlaced Homed policy d j m s t = IsHuTable (rates_of d) (firings_of j s) (slice_index d.costs) m true t
+IsPlaced File policy d j m s t = IsTable (rates_of d) (firings_of j s) m t × AreAtHome policy d j m s t
 
 -- the first reason why there is none
 abbrev pub IsPlaceFault : Placement → DesignValue → ℕ → ℕ → Schedule → PrecFault → Type 0
@@ -39,4 +47,4 @@ IsPlaceFault File d j m s f = IsHomesFault j m s.repetitions d.homes f
 -- the table of a design's period by options
 pub record IsTableBy (d : DesignValue) (o : Options) (s : Schedule) (t : Tabled) : Type 0 where
   pub size : IsSize o.blocking o.workers s.repetitions
-  pub placed : IsPlaced o.placement d o.blocking o.workers s t
+  pub placed : IsPlaced o.placement o.policy d o.blocking o.workers s t

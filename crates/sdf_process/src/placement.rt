@@ -8,7 +8,7 @@ use sdf_file::Design;
 use sdf_prec::hu::hu;
 use sdf_prec::{Costs, PrecFault, Table};
 use sdf_sched::Period;
-use sdf_words::{Options, Placement};
+use sdf_words::{Options, Placement, Policy};
 use std::alloc::{AllocError, Global};
 
 /// What the firings of a design's actors cost.
@@ -39,6 +39,9 @@ pub(crate) fn table_by(
     match options.placement {
         Placement::Hu => hu(alloc, graph, period, j, m, false, &costs_of(alloc, design)?),
         Placement::Homed => hu(alloc, graph, period, j, m, true, &costs_of(alloc, design)?),
-        Placement::File => Table::by_homes(alloc, graph, period, j, m, design.homes()),
+        Placement::File => match options.policy {
+            Policy::Runs => Table::by_homes_in_runs(alloc, graph, period, j, m, design.homes()),
+            Policy::Round | Policy::Lean => Table::by_homes(alloc, graph, period, j, m, design.homes()),
+        },
     }
 }
