@@ -41,7 +41,14 @@ pub(crate) fn table_by(
         Placement::Homed => hu(alloc, graph, period, j, m, true, &costs_of(alloc, design)?),
         Placement::File => match options.policy {
             Policy::Runs => Table::by_homes_in_runs(alloc, graph, period, j, m, design.homes()),
-            Policy::Round | Policy::Lean => Table::by_homes(alloc, graph, period, j, m, design.homes()),
+            Policy::Round | Policy::Lean => Table::by_homes(
+                alloc,
+                graph,
+                period,
+                j,
+                m,
+                design.homes(),
+            ),
         },
     }
 }
