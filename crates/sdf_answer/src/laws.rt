@@ -2,7 +2,7 @@
 
 ghost use Rattle.std.specs.Prelude.{◌<◌, ℕ, List, length};
 ghost use Rattle.sdf_graph.specs.Rates.{rates, IsShape, IsAlike};
-ghost use Rattle.sdf_sched.specs.Period.{IsPeriodOf};
+ghost use Rattle.sdf_sched.specs.Period.{Schedule, IsPeriodOf};
 ghost use Rattle.sdf_actor.specs.Graphs.{graph_of};
 ghost use Rattle.sdf_actor.specs.Nets.{node, wiring, cycle_of, IsNet};
 ghost use Rattle.sdf_actor.specs.NetFaults.{IsAccepted};
@@ -21,7 +21,6 @@ use sdf_actor::{Actor, Net};
 use sdf_graph::laws::{
     alike_sequences, graphs_are_sound, graphs_have_periods, one_least_period, periods_repeat,
 };
-use sdf_sched::Period;
 
 /// The facts that a run stands on, as the net's accessors have them.
 pub fn net_facts<A: Actor>(net: &Net<A>)
@@ -36,12 +35,10 @@ pub fn net_facts<A: Actor>(net: &Net<A>)
     let _repetitions = net.repetitions();
 }
 
-/// A net and one period of it have what the laws of runs want.
-pub fn nets_have_periods<A: Actor>(net: &Net<A>, period: &Period)
-    requires { IsPeriodOf (rates (graph_of A.steps net.now)) period.now }
-    ensures { HasPeriod A.steps net.now period.now }
+/// A net and any period of it have what the laws of runs want.
+pub fn nets_have_periods<A: Actor>(net: &Net<A>)
+    ensures { (p : Schedule) → IsPeriodOf (rates (graph_of A.steps net.now)) p → HasPeriod A.steps net.now p }
 {
-    let _ = period;
     net_facts(net);
 }
 

@@ -16,9 +16,10 @@ use Rattle.sdf_kit.specs.Kit.{kit_steps}
 use Rattle.sdf_run.specs.Sessions.{SessionValue}
 use Rattle.sdf_answer.specs.Rows.{IsTableOf}
 use Rattle.sdf_actor.specs.Graphs.{graph_of}
+use Rattle.sdf_graph.specs.Periods.{IsLeastPeriod}
 use Rattle.sdf_graph.specs.Rates.{rates}
 use Rattle.sdf_prec.specs.Tables.{Tabled}
-use Rattle.sdf_sched.specs.Period.{Schedule}
+use Rattle.sdf_sched.specs.Period.{Schedule, IsPeriodOf}
 use Rattle.sdf_wav.specs.Canonical.{sample_bytes}
 use Rattle.sdf_wav.specs.Device.{AppendsFront, Known, LosesFront, one_more}
 use Rattle.sdf_wav.specs.PiecesIn.{Reading, IsEnded, IsReading, IsReadTo, IsWithin, known_frames, sound_read}
@@ -137,17 +138,17 @@ factor_fits n plan t is suits =
     let here : IsTableOf (rates (graph_of kit_steps n)) plan.period.repetitions plan.blocking t = subst (λ (o : Option Tabled). IfSome o (IsTableOf (rates (graph_of kit_steps n)) plan.period.repetitions plan.blocking)) is suits.table in
     (omega (arith, here.size.factor.0), omega (arith, here.size.factor.1))
 
-module _ (n : Netlist Kit ℤ) (plan : PlanValue) (t : Tabled) (is : plan.table ≡ Some t) (suits : Suits n plan) (r : Schedule) (same : r ≡ plan.period) (has : HasPeriod kit_steps n r) (c : Reading) (frames : ℕ) (o : Owed)
-    (x : Exchange) (x_is : x ≡ exchange_of n r.repetitions) (limits : IsExchange x) (owed : IsOwed n plan.period c frames o) where
+module _ (n : Netlist Kit ℤ) (plan : PlanValue) (t : Tabled) (is : plan.table ≡ Some t) (suits : Suits n plan) (has : (p : Schedule) → IsPeriodOf (rates (graph_of kit_steps n)) p → HasPeriod kit_steps n p) (c : Reading) (frames : ℕ) (o : Owed)
+    (x : Exchange) (x_is : (q : List ℕ) → IsLeastPeriod (rates (graph_of kit_steps n)) q → x ≡ exchange_of n q) (limits : IsExchange x) (owed : IsOwed n plan.period c frames o) where
   there : x ≡ exchange_of n plan.period.repetitions
-  there = x_is ∙ ap (λ (y : Schedule). exchange_of n y.repetitions) same
+  there = x_is plan.period.repetitions suits.period.least
 
   pub can_flow : RunsGoOn kit_steps → IsReading c → c.gone ≡ 0 → known_frames c ≡ Some frames → CanFlow n plan.period plan.blocking c frames o.missing
   can_flow runs sound gone known =
       let here = frames_known c.size c.channels frames known in
       record {
         runs = runs;
-        has = subst (HasPeriod kit_steps n) same has;
+        has = has plan.period suits.period;
         unread = gone;
         one = sound.one_channel;
         lower = allowed_lower (exchange_of n plan.period.repetitions) (record { rate = c.rate; channels = c.channels; frames = frames }) owed.1.is_allowed;
@@ -168,7 +169,7 @@ module _ (n : Netlist Kit ℤ) (plan : PlanValue) (t : Tabled) (is : plan.table 
     net = at.net;
     period = at.period;
     factor = at.factor ∙ sym blocking;
-    has = subst (HasPeriod kit_steps n) same has;
+    has = has plan.period suits.period;
     some = omega (arith, (factor_fits n plan t is suits).0, blocking);
     fits = omega (arith, (factor_fits n plan t is suits).1, blocking);
     exchange = there;

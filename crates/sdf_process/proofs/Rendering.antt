@@ -83,13 +83,11 @@ begins_with_output runs n p has s many inputs lists less given made =
     (subst (λ ins. AreOutputs kit_steps n ins (firings p.repetitions many) lists) given made)
 
 -- the same where what was read off is not yet known to be it
-pub run_begins : RunsGoOn kit_steps → (n : Netlist Kit ℤ) (p r : Schedule) → r ≡ p → HasPeriod kit_steps n r → (s : Sound) (x : Exchange) → x ≡ exchange_of n r.repetitions →
+pub run_begins : RunsGoOn kit_steps → (n : Netlist Kit ℤ) (p : Schedule) → HasPeriod kit_steps n p → (s : Sound) (x : Exchange) → x ≡ exchange_of n p.repetitions →
     (periods many : ℕ) → periods ≡ periods_of (exchange_of n p.repetitions) s → periods ≤ many → (inputs lists : List (List ℤ)) → inputs ≡ lists_to many x s →
-    AreOutputs kit_steps n inputs (firings r.repetitions many) lists → BeginWithOutput n p.repetitions s lists
-run_begins runs n p r same has s x is periods many all less inputs lists given made =
-    begins_with_output runs n p (subst (HasPeriod kit_steps n) same has) s many inputs lists (subst (λ k. k ≤ many) all less)
-    (given ∙ ap (λ y. lists_to many y s) (is ∙ ap (λ z. exchange_of n z.repetitions) same))
-    (subst (λ z. AreOutputs kit_steps n inputs (firings z.repetitions many) lists) same made)
+    AreOutputs kit_steps n inputs (firings p.repetitions many) lists → BeginWithOutput n p.repetitions s lists
+run_begins runs n p has s x is periods many all less inputs lists given made =
+    begins_with_output runs n p has s many inputs lists (subst (λ k. k ≤ many) all less) (given ∙ ap (λ y. lists_to many y s) is) made
 
 pub run_refused : {X : Type 0} (n : Netlist Kit ℤ) (q : List ℕ) (s : Sound) (x : Exchange) → x ≡ exchange_of n q → (periods : ℕ) (inputs : List (List ℤ)) → inputs ≡ lists_to periods x s →
     (e : RunFault) (r : Result X Fault) (P : X → Type 0) → IsRunFault n q periods inputs e → IsErrAnd r (λ f. f ≡ of_run e) → MatchResult r P (λ f. f ≡ fault.OutOfMemory)

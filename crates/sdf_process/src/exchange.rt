@@ -1,20 +1,19 @@
 //! What a net exchanges with WAV files: channels and samples of a period, and what they make of a file's rate and size.
 
-ghost use Rattle.std.specs.Prelude.{◌≡◌, ◌≤◌, ◌<◌, ◌+◌, ◌*◌, ◌/◌, length, nat_lt, MatchResult, IfOk, Some};
+ghost use Rattle.std.specs.Prelude.{◌≡◌, ◌≤◌, ◌<◌, ◌+◌, ◌*◌, ◌/◌, ℕ, List, length, nat_lt, MatchResult, IfOk, Some};
+ghost use Rattle.sdf_graph.specs.Periods.{IsLeastPeriod};
 ghost use Rattle.sdf_graph.specs.Rates.{rates};
 ghost use Rattle.sdf_actor.specs.declared.sides.Lists.TheVariants.{Inputs, Outputs};
 ghost use Rattle.sdf_actor.specs.Graphs.{graph_of};
 ghost use Rattle.sdf_actor.specs.Sides.{list_count};
 ghost use Rattle.sdf_actor.specs.Wires.{lists as items_of};
 ghost use Rattle.sdf_kit.specs.Kit.{kit_steps};
-ghost use Rattle.sdf_sched.specs.Period.{IsPeriodOf};
 ghost use Rattle.sdf_process.specs.Output.{exchange_of, announced_by, announced_fault, periods_for, rate_for, lists_from, lists_to, IsExchange, IsExtent};
 
 use crate::fault::Fault;
 use crate::samples::channel_lists;
 use sdf_actor::Net;
 use sdf_kit::Kit;
-use sdf_sched::Period;
 use sdf_wav::{FormatFault, MOST_CHANNELS, Wav};
 use std::alloc::{AllocError, Global};
 
@@ -70,15 +69,13 @@ pub(crate) struct Extent {
 
 impl Exchange {
     /// What a net of at most eight inputs and outputs exchanges in a period.
-    pub(crate) fn of_net(net: &Net<Kit>, period: &Period) -> Exchange
-        requires period { IsPeriodOf (rates (graph_of kit_steps net.now)) period.now }
+    pub(crate) fn of_net(net: &Net<Kit>) -> Exchange
         requires inputs { list_count Inputs net.now.nodes ≤ MOST_CHANNELS }
         requires outputs { list_count Outputs net.now.nodes ≤ MOST_CHANNELS }
-        ensures value { result ≡ exchange_of net.now period.now.repetitions }
+        ensures value { (q : List ℕ) → IsLeastPeriod (rates (graph_of kit_steps net.now)) q → result ≡ exchange_of net.now q }
         ensures limits { IsExchange result }
     {
         let _ = net.repetitions();
-        let _ = period;
         Exchange {
             inputs: net.inputs(),
             outputs: net.outputs(),

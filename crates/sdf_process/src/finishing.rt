@@ -80,10 +80,9 @@ fn lists_of<T: Threads + AllocGlobal + Sync, G: Gate>(
     ensures { MatchResult result (λ lists. BeginWithOutput net.now plan.now.period.repetitions input (items_of lists.items)) (λ e. e ≡ OutOfMemory) }
 {
     let alloc = rt.alloc();
-    let period = plan.period();
-    nets_have_periods(net, period);
+    nets_have_periods(net);
     runs_go_on::<Kit>();
-    let exchange = Exchange::of_net(net, period);
+    let exchange = Exchange::of_net(net);
     let blocks = blocks_for(periods, plan.blocking());
     let inputs = exchange.inputs_of(alloc, input, blocks * plan.blocking())?;
     let ran = run_blocks(rt, net, plan, table, blocks, &inputs, gate)?;
@@ -117,7 +116,7 @@ pub(crate) fn finish<T: Threads + AllocGlobal + Sync, W: Writer, G: Gate>(
     let Some(table) = plan.table() else {
         return put_pieces(alloc, writer, net, period, &input, &mut output, periods);
     };
-    let exchange = Exchange::of_net(net, period);
+    let exchange = Exchange::of_net(net);
     let lists = lists_of(rt, net, plan, table, gate, input, periods)?;
     let frames = extent.periods as usize * exchange.made;
     put_frames(alloc, writer, &mut output, &lists, frames)

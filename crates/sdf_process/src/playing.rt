@@ -59,7 +59,7 @@ fn play(
     ensures { let q = period.now.repetitions in MatchResult result
         (λ r. GoesOnBy kit_steps net.now q rest.now many (lists_from at many (exchange_of net.now q) input.now) (items_of r.0.items) r.1) (λ e. e ≡ OutOfMemory) }
 {
-    let exchange = Exchange::of_net(net, period);
+    let exchange = Exchange::of_net(net);
     let inputs = exchange.inputs_from(alloc, input, at, many)?;
     let (ran, last) = resume_one(alloc, net, period, rest, many, &inputs)?;
     Ok((ran.outputs, last))
@@ -90,10 +90,10 @@ fn put_piece<W: Writer>(
     ensures owed { IfOk result (λ x. output.new ≡ record output.old { missing = output.old.missing - many * (exchange_of net.now period.now.repetitions).made }) }
 {
     puts_join();
-    nets_have_periods(net, period);
+    nets_have_periods(net);
     nets_can_run::<Kit>();
     nets_are_wired::<Kit>();
-    let exchange = Exchange::of_net(net, period);
+    let exchange = Exchange::of_net(net);
     let (lists, last) = play(alloc, net, period, input, rest, at, many)?;
     put_frames(alloc, writer, output, &lists, many as usize * exchange.made)?;
     Ok(last)
@@ -119,7 +119,7 @@ pub(crate) fn put_pieces<W: Writer>(
 {
     net_facts(net);
     histories_make_runs::<Kit>();
-    let exchange = Exchange::of_net(net, period);
+    let exchange = Exchange::of_net(net);
     let most = piece_periods(exchange);
     let mut rest = net.first_rest(alloc)?;
     let mut at = 0;

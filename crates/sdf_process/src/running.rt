@@ -44,7 +44,7 @@ fn run_ahead<T: Threads + AllocGlobal + Sync, R: Reader, W: Writer, G: Gate>(
 {
     wav_laws();
     let period = plan.period();
-    let exchange = Exchange::of_net(net, period);
+    let exchange = Exchange::of_net(net);
     let announced = Announced {
         rate: content.rate(),
         channels: content.channels(),
@@ -90,7 +90,7 @@ fn run_behind<T: Threads + AllocGlobal + Sync, R: Reader, W: Writer, G: Gate>(
         (R.failures reader.old) (R.failures reader.new) (W.failures writer.old) (W.failures writer.new) result }
 {
     wav_laws();
-    let exchange = Exchange::of_net(net, plan.period());
+    let exchange = Exchange::of_net(net);
     let input = read_content(rt.alloc(), reader, content)?;
     let extent = exchange.extent(Announced::by(&input))?;
     let output = begin(writer, exchange, extent)?;

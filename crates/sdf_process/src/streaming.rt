@@ -235,10 +235,9 @@ pub(crate) fn run_stream<T: Threads + AllocGlobal + Sync, R: Reader, W: Writer, 
         (R.failures reader.old) (R.failures reader.new) (W.failures writer.old) (W.failures writer.new) result }
 {
     let alloc = rt.alloc();
-    let period = plan.period();
     runs_go_on::<Kit>();
-    nets_have_periods(net, period);
-    let exchange = Exchange::of_net(net, period);
+    nets_have_periods(net);
+    let exchange = Exchange::of_net(net);
     let (rate, channels) = (content.rate(), content.channels());
     let mut stream = Stream {
         session: open_session(alloc, net, plan, table)?,

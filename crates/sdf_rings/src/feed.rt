@@ -66,7 +66,7 @@ pub fn resume_rings<R: Threads + AllocGlobal + Sync, A: Actor, G: Gate>(
         (λ fed. HasGoneOn A.steps net.now q j table.now rest.now blocks (lists inputs.now) patience (lists fed.0.outputs.items) fed.0.rounds fed.1)
         (IsRingsFault net.now q (blocks * j) (lists inputs.now) table.now patience) }
 {
-    nets_have_periods(net, period);
+    nets_have_periods(net);
     feeds_go_on::<A, Begun<A>>();
     begun_nets_go_on::<A, Begun<A>>();
     let begun = net.begun(rt.alloc(), rest)?;

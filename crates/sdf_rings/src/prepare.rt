@@ -91,7 +91,7 @@ fn prepare_homed<'a, A: Actor>(
     ensures { IfOk result (IsPrepared A.steps net.now (lists inputs.now) table.now blocks) }
 {
     net_facts(net);
-    nets_have_periods(net, period);
+    nets_have_periods(net);
     nets_can_run::<A>();
     sdf_graph::laws::graphs_are_sound();
     sdf_graph::laws::graphs_have_periods();

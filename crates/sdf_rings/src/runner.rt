@@ -42,7 +42,7 @@ pub(crate) fn run_through<'a, R: Threads + AllocGlobal + Sync, A: Actor, G: Gate
     sdf_graph::laws::graphs_have_periods();
     sdf_prec::laws::tables_repeat();
     sdf_prec::laws::tables_count();
-    nets_have_periods(net, period);
+    nets_have_periods(net);
     if !table.homed() {
         return Err(RunFault::NotHomed);
     }

@@ -144,7 +144,7 @@ pub fn resume_rows<R: Threads + AllocGlobal + Sync, A: Actor, G: Gate>(
         (λ fed. GoesOnBy A.steps net.now q rest.now (blocks * j) (lists inputs.now) (lists fed.0.outputs.items) fed.1 × (fed.0.rounds ≡ blocks * length table.now.rows))
         (IsRunFault net.now q (blocks * j) (lists inputs.now)) }
 {
-    nets_have_periods(net, period);
+    nets_have_periods(net);
     begun_nets_go_on::<A, Begun<A>>();
     let begun = net.begun(rt.alloc(), rest)?;
     feed_rows(rt, &begun, period, j, table, blocks, inputs, gate)

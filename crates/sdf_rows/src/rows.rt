@@ -79,7 +79,7 @@ pub(crate) fn fire<R: Threads + AllocGlobal + Sync, A: Actor, G: Gate>(
     ensures { IfOk result (λ run. IsOver A.steps net.now (lists inputs.now) plan.now.period.now.repetitions plan.now.j plan.now.blocks run.states.items run.lines.items) }
 {
     net_facts(net);
-    nets_have_periods(net, plan.period);
+    nets_have_periods(net);
     nets_can_run::<A>();
     histories_make_outputs::<A>();
     sdf_actor::laws::nets_are_wired::<A>();

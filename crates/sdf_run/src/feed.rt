@@ -147,7 +147,7 @@ pub fn resume_one<A: Actor>(
         (λ fed. GoesOnBy A.steps net.now q rest.now periods (lists inputs.now) (lists fed.0.outputs.items) fed.1 × (fed.0.rounds ≡ 0))
         (IsRunFault net.now q periods (lists inputs.now)) }
 {
-    nets_have_periods(net, period);
+    nets_have_periods(net);
     begun_nets_go_on::<A, Begun<A>>();
     let begun = net.begun(alloc, rest)?;
     feed_one(alloc, &begun, period, periods, inputs)

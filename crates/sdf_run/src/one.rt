@@ -62,7 +62,7 @@ pub(crate) fn fired<'a, A: Actor>(
     ensures { IfOk result (λ run. HasFired A.steps net.now (lists inputs.now) period.now.repetitions periods run) }
 {
     net_facts(net);
-    nets_have_periods(net, period);
+    nets_have_periods(net);
     nets_can_run::<A>();
     histories_make_outputs::<A>();
     sdf_actor::laws::nets_are_wired::<A>();

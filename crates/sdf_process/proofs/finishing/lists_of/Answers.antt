@@ -1,7 +1,5 @@
-use Rattle.std.proofs.Common.{◌*◌, ◌≤◌, ap, sym, ◌∙◌, subst}
+use Rattle.std.proofs.Common.{◌*◌, ◌≤◌, ap, ◌∙◌, subst}
 use Rattle.sdf_actor.specs.Wires.{lists}
-use Rattle.sdf_answer.specs.Answer.{AreOutputs, IsRunFault, periods_of as firings}
-use Rattle.sdf_kit.specs.Kit.{kit_steps}
 use Rattle.sdf_process.specs.Output.{lists_to}
 use Rattle.sdf_process.proofs.Rendering.{run_begins, run_refused}
 use Rattle.sdf_process.proofs.finishing.lists_of.Goals as goal
@@ -9,20 +7,21 @@ use Rattle.sdf_process.proofs.finishing.lists_of.Goals as goal
 pub returns-in_err-ran : goal.returns-in_err-ran
 returns-in_err-ran g c =
     let same = c.blocking-2.ensures in
-    run_refused c.args.net.now c.period-period.result.now.repetitions c.args.input c.of_net-exchange.result c.of_net-exchange.ensures.value
+    let q = c.args.plan.now.period.repetitions in
+    run_refused c.args.net.now q c.args.input c.of_net-exchange.result (c.of_net-exchange.ensures.value q c.requires.plan.period.least)
     (c.blocks_for-blocks.result * c.args.plan.now.blocking) (lists c.deref.result.now)
     (ap lists c.deref.ensures.value ∙ (c.in_ok-inputs.ensures ∙ ap (λ j. lists_to (c.blocks_for-blocks.result * j) c.of_net-exchange.result c.args.input) same))
-    c.in_err-ran.field-0.0 c.from_residual-in_err-ran.result _
-    (subst (λ p. IsRunFault c.args.net.now p.repetitions (c.blocks_for-blocks.result * c.args.plan.now.blocking) (lists c.deref.result.now) c.in_err-ran.field-0.0) (sym c.period-period.ensures) c.in_err-ran.ensures)
+    c.in_err-ran.field-0.0 c.from_residual-in_err-ran.result _ c.in_err-ran.ensures
     c.from_residual-in_err-ran.ensures.1
 
 pub returns : goal.returns
 returns g c =
     let same = c.blocking-2.ensures in
     let first = c.blocking.ensures in
-    run_begins c.runs_go_on.ensures c.args.net.now c.args.plan.now.period c.period-period.result.now c.period-period.ensures c.nets_have_periods.ensures
-    c.args.input c.of_net-exchange.result c.of_net-exchange.ensures.value c.args.periods (c.blocks_for-blocks.result * c.args.plan.now.blocking) c.requires.periods
+    let p = c.args.plan.now.period in
+    run_begins c.runs_go_on.ensures c.args.net.now p (c.nets_have_periods.ensures p c.requires.plan.period)
+    c.args.input c.of_net-exchange.result (c.of_net-exchange.ensures.value p.repetitions c.requires.plan.period.least) c.args.periods (c.blocks_for-blocks.result * c.args.plan.now.blocking) c.requires.periods
     (subst (λ j. c.args.periods ≤ c.blocks_for-blocks.result * j) first c.blocks_for-blocks.ensures.enough)
     (lists c.deref.result.now) (lists c.in_ok-ran.ran.outputs.items)
     (ap lists c.deref.ensures.value ∙ (c.in_ok-inputs.ensures ∙ ap (λ j. lists_to (c.blocks_for-blocks.result * j) c.of_net-exchange.result c.args.input) same))
-    (subst (λ p. AreOutputs kit_steps c.args.net.now (lists c.deref.result.now) (firings p.repetitions (c.blocks_for-blocks.result * c.args.plan.now.blocking)) (lists c.in_ok-ran.ran.outputs.items)) (sym c.period-period.ensures) c.in_ok-ran.ensures.1)
+    c.in_ok-ran.ensures.1

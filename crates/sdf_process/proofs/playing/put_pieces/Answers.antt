@@ -15,7 +15,7 @@ returns-in_err-rest g c =
 pub loop-at-init : goal.loop-at-init
 loop-at-init g c =
     let q = c.args.period.now.repetitions in
-    let sized = subst (λ (x : Exchange). 0 < x.taken) c.of_net-exchange.ensures.value c.of_net-exchange.ensures.limits.some_taken in
+    let sized = subst (λ (x : Exchange). 0 < x.taken) (c.of_net-exchange.ensures.value q c.requires.period.least) c.of_net-exchange.ensures.limits.some_taken in
     record {
       within = omega arith;
       plays = (

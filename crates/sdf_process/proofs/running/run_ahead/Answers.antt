@@ -1,4 +1,8 @@
 use Rattle.std.proofs.Common.{◌≡◌, ◌≤◌, ℕ, List, Option, Some, Result, refl, ap, sym, ◌∙◌, subst}
+use Rattle.sdf_graph.specs.Periods.{IsLeastPeriod}
+use Rattle.sdf_graph.specs.Rates.{rates}
+use Rattle.sdf_actor.specs.Graphs.{graph_of}
+use Rattle.sdf_kit.specs.Kit.{kit_steps}
 use Rattle.sdf_process.specs.declared.exchange.Announced.{Announced}
 use Rattle.sdf_process.specs.declared.fault.Fault.{Fault}
 use Rattle.sdf_process.specs.Output.{announced_fault, exchange_of, periods_for, IsExchange, IsExtent}
@@ -12,7 +16,7 @@ pub returns-in_err-extent : goal.returns-in_err-extent
 returns-in_err-extent g c =
     let n = c.args.net.now in
     let q = c.args.plan.now.period.repetitions in
-    let same = c.of_net-exchange.ensures.value ∙ ap (λ p. exchange_of n p.repetitions) c.period-period.ensures in
+    let same = c.of_net-exchange.ensures.value q c.requires.plan.period.least in
     let told = announced_same c.rate.result c.channels.result c.args.frames c.args.content.rate c.args.content.channels c.args.frames c.rate.ensures.value c.channels.ensures.value refl in
     run_fails (λ (x : Result (Unit {0}) Fault). RunsOn n q c.args.content (g.R.Reader.remaining c.args.reader.now) (g.R.Reader.remaining c.args.reader.now) (g.W.Writer.contents c.args.writer.now) (g.W.Writer.contents c.args.writer.now)
     (g.R.Reader.failures c.args.reader.now) (g.R.Reader.failures c.args.reader.now) (g.W.Writer.failures c.args.writer.now) (g.W.Writer.failures c.args.writer.now) x)
@@ -25,7 +29,7 @@ pub returns-in_err-output : goal.returns-in_err-output
 returns-in_err-output g c =
     let n = c.args.net.now in
     let q = c.args.plan.now.period.repetitions in
-    let same = c.of_net-exchange.ensures.value ∙ ap (λ p. exchange_of n p.repetitions) c.period-period.ensures in
+    let same = c.of_net-exchange.ensures.value q c.requires.plan.period.least in
     let told = announced_same c.rate.result c.channels.result c.args.frames c.args.content.rate c.args.content.channels c.args.frames c.rate.ensures.value c.channels.ensures.value refl in
     run_fails (λ (x : Result (Unit {0}) Fault). RunsOn n q c.args.content (g.R.Reader.remaining c.args.reader.now) (g.R.Reader.remaining c.args.reader.now) (g.W.Writer.contents c.args.writer.now) (g.W.Writer.contents c.begin.new.writer)
     (g.R.Reader.failures c.args.reader.now) (g.R.Reader.failures c.args.reader.now) (g.W.Writer.failures c.args.writer.now) (g.W.Writer.failures c.begin.new.writer) x)
@@ -38,7 +42,7 @@ pub returns-in_err-input : goal.returns-in_err-input
 returns-in_err-input g c =
     let n = c.args.net.now in
     let q = c.args.plan.now.period.repetitions in
-    let same = c.of_net-exchange.ensures.value ∙ ap (λ p. exchange_of n p.repetitions) c.period-period.ensures in
+    let same = c.of_net-exchange.ensures.value q c.requires.plan.period.least in
     let told = announced_same c.rate.result c.channels.result c.args.frames c.args.content.rate c.args.content.channels c.args.frames c.rate.ensures.value c.channels.ensures.value refl in
     run_fails (λ (x : Result (Unit {0}) Fault). RunsOn n q c.args.content (g.R.Reader.remaining c.args.reader.now) (g.R.Reader.remaining c.read_content.new.reader) (g.W.Writer.contents c.args.writer.now) (g.W.Writer.contents c.begin.new.writer)
     (g.R.Reader.failures c.args.reader.now) (g.R.Reader.failures c.read_content.new.reader) (g.W.Writer.failures c.args.writer.now) (g.W.Writer.failures c.begin.new.writer) x)
@@ -51,7 +55,7 @@ returns-in_err-input g c =
 pub put_pieces-requires-clause-periods : goal.put_pieces-requires-clause-periods
 put_pieces-requires-clause-periods g c =
     let known = frames_known c.args.content.size c.args.content.channels c.args.frames c.requires.known in
-    c.in_ok-extent.ensures.periods ∙ (ap (λ y. periods_for y c.args.frames) c.of_net-exchange.ensures.value
+    c.in_ok-extent.ensures.periods ∙ (ap (λ y. periods_for y c.args.frames) (c.of_net-exchange.ensures.value c.period-period.result.now.repetitions (subst (λ p. IsLeastPeriod (rates (graph_of kit_steps c.args.net.now)) p.repetitions) (sym c.period-period.ensures) c.requires.plan.period.least))
     ∙ ap (periods_for (exchange_of c.args.net.now c.period-period.result.now.repetitions))
     (sym (ap (λ (a : Announced). a.frames) (sound_announced c.args.content c.args.frames c.requires.known c.in_ok-input.input c.in_ok-input.ensures.2 c.in_ok-input.ensures.3 (c.in_ok-input.ensures.4 known.0)))))
 
@@ -59,7 +63,7 @@ pub returns-in_default : goal.returns-in_default
 returns-in_default g c = λ read opened.
     let n = c.args.net.now in
     let q = c.args.plan.now.period.repetitions in
-    let same = c.of_net-exchange.ensures.value ∙ ap (λ p. exchange_of n p.repetitions) c.period-period.ensures in
+    let same = c.of_net-exchange.ensures.value q c.requires.plan.period.least in
     let told = announced_same c.rate.result c.channels.result c.args.frames c.args.content.rate c.args.content.channels c.args.frames c.rate.ensures.value c.channels.ensures.value refl in
     answered c.wav_laws.ensures n q (subst IsExchange same c.of_net-exchange.ensures.limits)
     read (g.R.Reader.remaining c.read_content.new.reader) (g.W.Writer.contents c.args.writer.now) (g.W.Writer.contents c.begin.new.writer) (g.W.Writer.contents c.put_pieces.new.writer)
@@ -75,7 +79,7 @@ pub returns : goal.returns
 returns g c = λ read opened.
     let n = c.args.net.now in
     let q = c.args.plan.now.period.repetitions in
-    let same = c.of_net-exchange.ensures.value ∙ ap (λ p. exchange_of n p.repetitions) c.period-period.ensures in
+    let same = c.of_net-exchange.ensures.value q c.requires.plan.period.least in
     let told = announced_same c.rate.result c.channels.result c.args.frames c.args.content.rate c.args.content.channels c.args.frames c.rate.ensures.value c.channels.ensures.value refl in
     streamed c.wav_laws.ensures n q c.of_net-exchange.result same c.of_net-exchange.ensures.limits read (g.R.Reader.remaining c.args.reader.now) c.args.content opened.answers c.requires.unread opened.only
     c.args.frames c.requires.known c.in_ok-extent.extent (subst (λ z. IsExtent c.of_net-exchange.result z c.in_ok-extent.extent) told c.in_ok-extent.ensures)

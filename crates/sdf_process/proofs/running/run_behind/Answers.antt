@@ -11,7 +11,7 @@ pub returns-in_err-input : goal.returns-in_err-input
 returns-in_err-input g c =
     let n = c.args.net.now in
     let q = c.args.plan.now.period.repetitions in
-    let same = c.of_net-exchange.ensures.value ∙ ap (λ p. exchange_of n p.repetitions) c.period.ensures in
+    let same = c.of_net-exchange.ensures.value q c.requires.plan.period.least in
     run_fails (λ (x : Result (Unit {0}) Fault). RunsOn n q c.args.content (g.R.Reader.remaining c.args.reader.now) (g.R.Reader.remaining c.read_content.new.reader) (g.W.Writer.contents c.args.writer.now) (g.W.Writer.contents c.args.writer.now)
     (g.R.Reader.failures c.args.reader.now) (g.R.Reader.failures c.read_content.new.reader) (g.W.Writer.failures c.args.writer.now) (g.W.Writer.failures c.args.writer.now) x)
     c.in_err-input.field-0.0 c.from_residual.result c.from_residual.ensures.1
@@ -23,7 +23,7 @@ pub returns-in_err-extent : goal.returns-in_err-extent
 returns-in_err-extent g c =
     let n = c.args.net.now in
     let q = c.args.plan.now.period.repetitions in
-    let same = c.of_net-exchange.ensures.value ∙ ap (λ p. exchange_of n p.repetitions) c.period.ensures in
+    let same = c.of_net-exchange.ensures.value q c.requires.plan.period.least in
     run_fails (λ (x : Result (Unit {0}) Fault). RunsOn n q c.args.content (g.R.Reader.remaining c.args.reader.now) (g.R.Reader.remaining c.read_content.new.reader) (g.W.Writer.contents c.args.writer.now) (g.W.Writer.contents c.args.writer.now)
     (g.R.Reader.failures c.args.reader.now) (g.R.Reader.failures c.read_content.new.reader) (g.W.Writer.failures c.args.writer.now) (g.W.Writer.failures c.args.writer.now) x)
     c.in_err-extent.field-0.0 c.from_residual-in_err-extent.result c.from_residual-in_err-extent.ensures.1
@@ -35,7 +35,7 @@ pub returns-in_err-output : goal.returns-in_err-output
 returns-in_err-output g c =
     let n = c.args.net.now in
     let q = c.args.plan.now.period.repetitions in
-    let same = c.of_net-exchange.ensures.value ∙ ap (λ p. exchange_of n p.repetitions) c.period.ensures in
+    let same = c.of_net-exchange.ensures.value q c.requires.plan.period.least in
     run_fails (λ (x : Result (Unit {0}) Fault). RunsOn n q c.args.content (g.R.Reader.remaining c.args.reader.now) (g.R.Reader.remaining c.read_content.new.reader) (g.W.Writer.contents c.args.writer.now) (g.W.Writer.contents c.begin.new.writer)
     (g.R.Reader.failures c.args.reader.now) (g.R.Reader.failures c.read_content.new.reader) (g.W.Writer.failures c.args.writer.now) (g.W.Writer.failures c.begin.new.writer) x)
     c.in_err-output.field-0.0 c.from_residual-in_err-output.result c.from_residual-in_err-output.ensures.1
@@ -48,7 +48,7 @@ pub returns : goal.returns
 returns g c = λ read opened.
     let n = c.args.net.now in
     let q = c.args.plan.now.period.repetitions in
-    let same = c.of_net-exchange.ensures.value ∙ ap (λ p. exchange_of n p.repetitions) c.period.ensures in
+    let same = c.of_net-exchange.ensures.value q c.requires.plan.period.least in
     answered c.wav_laws.ensures n q (subst IsExchange same c.of_net-exchange.ensures.limits)
     read (g.R.Reader.remaining c.read_content.new.reader) (g.W.Writer.contents c.args.writer.now) (g.W.Writer.contents c.begin.new.writer) (g.W.Writer.contents c.finish.new.writer)
     (g.R.Reader.failures c.args.reader.now) (g.R.Reader.failures c.read_content.new.reader) (g.W.Writer.failures c.args.writer.now) (g.W.Writer.failures c.begin.new.writer) (g.W.Writer.failures c.finish.new.writer)

@@ -23,13 +23,13 @@ loop-unread-init g c =
     let p = c.args.plan.now.period in
     let j = c.args.plan.now.blocking in
     let d = c.args.content in
-    let can = can_flow n c.args.plan.now c.args.table.now c.requires.table c.requires.plan c.period-period.result.now c.period-period.ensures c.nets_have_periods.ensures d c.args.frames c.args.output
+    let can = can_flow n c.args.plan.now c.args.table.now c.requires.table c.requires.plan c.nets_have_periods.ensures d c.args.frames c.args.output
     c.of_net-exchange.result c.of_net-exchange.ensures.value c.of_net-exchange.ensures.limits c.requires.owed c.runs_go_on.ensures c.requires.sound c.requires.unread c.requires.known in
     let v = c.in_ok-open_session.field-0 in
     let sound = sound_read d [] in
     record {
       within = omega arith;
-      ready = ready_first n c.args.plan.now c.args.table.now c.requires.table c.requires.plan c.period-period.result.now c.period-period.ensures c.nets_have_periods.ensures d c.args.frames c.args.output
+      ready = ready_first n c.args.plan.now c.args.table.now c.requires.table c.requires.plan c.nets_have_periods.ensures d c.args.frames c.args.output
           c.of_net-exchange.result c.of_net-exchange.ensures.value c.of_net-exchange.ensures.limits c.requires.owed c.blocking.result c.blocking.ensures v sound (c.in_ok-open_session.ensures sound);
       blocking = c.blocking.ensures;
       flows = flows_first n p j d c.args.frames c.args.output.missing can (g.R.Reader.remaining c.args.reader.now) (g.W.Writer.contents c.args.writer.now) (g.R.Reader.failures c.args.reader.now) (g.W.Writer.failures c.args.writer.now)
@@ -42,7 +42,7 @@ read_more-requires-clause-unspoilt g c =
     let p = c.args.plan.now.period in
     let j = c.args.plan.now.blocking in
     let d = c.args.content in
-    let can = can_flow n c.args.plan.now c.args.table.now c.requires.table c.requires.plan c.period-period.result.now c.period-period.ensures c.nets_have_periods.ensures d c.args.frames c.args.output
+    let can = can_flow n c.args.plan.now c.args.table.now c.requires.table c.requires.plan c.nets_have_periods.ensures d c.args.frames c.args.output
     c.of_net-exchange.result c.of_net-exchange.ensures.value c.of_net-exchange.ensures.limits c.requires.owed c.runs_go_on.ensures c.requires.sound c.requires.unread c.requires.known in
     let at = c.loop-unread.invariant in
     unspoilt n p j d c.args.frames c.args.output.missing can c.loop-unread.unread at.within (g.R.Reader.remaining c.args.reader.now) (g.R.Reader.remaining c.loop-unread.reader) (g.W.Writer.contents c.args.writer.now) (g.W.Writer.contents c.loop-unread.writer)
@@ -54,7 +54,7 @@ read_more-requires-clause-sized g c =
     let p = c.args.plan.now.period in
     let j = c.args.plan.now.blocking in
     let d = c.args.content in
-    let can = can_flow n c.args.plan.now c.args.table.now c.requires.table c.requires.plan c.period-period.result.now c.period-period.ensures c.nets_have_periods.ensures d c.args.frames c.args.output
+    let can = can_flow n c.args.plan.now c.args.table.now c.requires.table c.requires.plan c.nets_have_periods.ensures d c.args.frames c.args.output
     c.of_net-exchange.result c.of_net-exchange.ensures.value c.of_net-exchange.ensures.limits c.requires.owed c.runs_go_on.ensures c.requires.sound c.requires.unread c.requires.known in
     let at = c.loop-unread.invariant in
     sized n p j d c.args.frames c.args.output.missing can c.loop-unread.unread at.within (g.R.Reader.remaining c.args.reader.now) (g.R.Reader.remaining c.loop-unread.reader) (g.W.Writer.contents c.args.writer.now) (g.W.Writer.contents c.loop-unread.writer)
@@ -66,7 +66,7 @@ read_more-requires-clause-enough g c =
     let p = c.args.plan.now.period in
     let j = c.args.plan.now.blocking in
     let d = c.args.content in
-    let can = can_flow n c.args.plan.now c.args.table.now c.requires.table c.requires.plan c.period-period.result.now c.period-period.ensures c.nets_have_periods.ensures d c.args.frames c.args.output
+    let can = can_flow n c.args.plan.now c.args.table.now c.requires.table c.requires.plan c.nets_have_periods.ensures d c.args.frames c.args.output
     c.of_net-exchange.result c.of_net-exchange.ensures.value c.of_net-exchange.ensures.limits c.requires.owed c.runs_go_on.ensures c.requires.sound c.requires.unread c.requires.known in
     let at = c.loop-unread.invariant in
     asks_enough n p j d c.args.frames c.args.output.missing can c.loop-unread.unread at.within (g.R.Reader.remaining c.args.reader.now) (g.R.Reader.remaining c.loop-unread.reader) (g.W.Writer.contents c.args.writer.now) (g.W.Writer.contents c.loop-unread.writer)
@@ -78,7 +78,7 @@ returns-in_err-samples g c =
     let p = c.args.plan.now.period in
     let j = c.args.plan.now.blocking in
     let d = c.args.content in
-    let can = can_flow n c.args.plan.now c.args.table.now c.requires.table c.requires.plan c.period-period.result.now c.period-period.ensures c.nets_have_periods.ensures d c.args.frames c.args.output
+    let can = can_flow n c.args.plan.now c.args.table.now c.requires.table c.requires.plan c.nets_have_periods.ensures d c.args.frames c.args.output
     c.of_net-exchange.result c.of_net-exchange.ensures.value c.of_net-exchange.ensures.limits c.requires.owed c.runs_go_on.ensures c.requires.sound c.requires.unread c.requires.known in
     let at = c.loop-unread.invariant in
     run_fails (λ (r : Result (Unit {0}) Fault). Streams c.args.net.now c.args.plan.now.period.repetitions c.args.content (g.R.Reader.remaining c.args.reader.now) (g.R.Reader.remaining c.read_more.new.reader) (g.W.Writer.contents c.args.writer.now) (g.W.Writer.contents c.loop-unread.writer)
@@ -97,7 +97,7 @@ put_whole-requires-clause-whole g c κs within =
     let p = c.args.plan.now.period in
     let j = c.args.plan.now.blocking in
     let d = c.args.content in
-    let can = can_flow n c.args.plan.now c.args.table.now c.requires.table c.requires.plan c.period-period.result.now c.period-period.ensures c.nets_have_periods.ensures d c.args.frames c.args.output
+    let can = can_flow n c.args.plan.now c.args.table.now c.requires.table c.requires.plan c.nets_have_periods.ensures d c.args.frames c.args.output
     c.of_net-exchange.result c.of_net-exchange.ensures.value c.of_net-exchange.ensures.limits c.requires.owed c.runs_go_on.ensures c.requires.sound c.requires.unread c.requires.known in
     let at = c.loop-unread.invariant in
     subst (λ k. length c.in_ok-samples.samples.items % k ≡ 0) (sym c.channels-channels.ensures.value)
@@ -112,7 +112,7 @@ put_whole-requires-clause-few g c κs within =
     let p = c.args.plan.now.period in
     let j = c.args.plan.now.blocking in
     let d = c.args.content in
-    let can = can_flow n c.args.plan.now c.args.table.now c.requires.table c.requires.plan c.period-period.result.now c.period-period.ensures c.nets_have_periods.ensures d c.args.frames c.args.output
+    let can = can_flow n c.args.plan.now c.args.table.now c.requires.table c.requires.plan c.nets_have_periods.ensures d c.args.frames c.args.output
     c.of_net-exchange.result c.of_net-exchange.ensures.value c.of_net-exchange.ensures.limits c.requires.owed c.runs_go_on.ensures c.requires.sound c.requires.unread c.requires.known in
     let at = c.loop-unread.invariant in
     held_few n p j d c.args.frames c.args.output.missing can c.loop-unread.unread at.within (g.R.Reader.remaining c.args.reader.now) (g.R.Reader.remaining c.loop-unread.reader) (g.W.Writer.contents c.args.writer.now) (g.W.Writer.contents c.loop-unread.writer)
@@ -126,7 +126,7 @@ put_whole-requires-clause-missing g c κs within =
     let p = c.args.plan.now.period in
     let j = c.args.plan.now.blocking in
     let d = c.args.content in
-    let can = can_flow n c.args.plan.now c.args.table.now c.requires.table c.requires.plan c.period-period.result.now c.period-period.ensures c.nets_have_periods.ensures d c.args.frames c.args.output
+    let can = can_flow n c.args.plan.now c.args.table.now c.requires.table c.requires.plan c.nets_have_periods.ensures d c.args.frames c.args.output
     c.of_net-exchange.result c.of_net-exchange.ensures.value c.of_net-exchange.ensures.limits c.requires.owed c.runs_go_on.ensures c.requires.sound c.requires.unread c.requires.known in
     let at = c.loop-unread.invariant in
     λ periods there.
@@ -144,7 +144,7 @@ returns-in_err-kept g c =
     let p = c.args.plan.now.period in
     let j = c.args.plan.now.blocking in
     let d = c.args.content in
-    let can = can_flow n c.args.plan.now c.args.table.now c.requires.table c.requires.plan c.period-period.result.now c.period-period.ensures c.nets_have_periods.ensures d c.args.frames c.args.output
+    let can = can_flow n c.args.plan.now c.args.table.now c.requires.table c.requires.plan c.nets_have_periods.ensures d c.args.frames c.args.output
     c.of_net-exchange.result c.of_net-exchange.ensures.value c.of_net-exchange.ensures.limits c.requires.owed c.runs_go_on.ensures c.requires.sound c.requires.unread c.requires.known in
     let at = c.loop-unread.invariant in
     let more = c.in_ok-samples.ensures d at.flows.samples (g.R.Reader.remaining c.args.reader.now) (g.R.Reader.failures c.args.reader.now) at.flows.content_is at.flows.read at.flows.reader in
@@ -174,7 +174,7 @@ loop-unread-preserved g c =
     let p = c.args.plan.now.period in
     let j = c.args.plan.now.blocking in
     let d = c.args.content in
-    let can = can_flow n c.args.plan.now c.args.table.now c.requires.table c.requires.plan c.period-period.result.now c.period-period.ensures c.nets_have_periods.ensures d c.args.frames c.args.output
+    let can = can_flow n c.args.plan.now c.args.table.now c.requires.table c.requires.plan c.nets_have_periods.ensures d c.args.frames c.args.output
     c.of_net-exchange.result c.of_net-exchange.ensures.value c.of_net-exchange.ensures.limits c.requires.owed c.runs_go_on.ensures c.requires.sound c.requires.unread c.requires.known in
     let at = c.loop-unread.invariant in
     let more = c.in_ok-samples.ensures d at.flows.samples (g.R.Reader.remaining c.args.reader.now) (g.R.Reader.failures c.args.reader.now) at.flows.content_is at.flows.read at.flows.reader in
@@ -210,7 +210,7 @@ put_rest-requires-clause-whole g c κs within =
     let p = c.args.plan.now.period in
     let j = c.args.plan.now.blocking in
     let d = c.args.content in
-    let can = can_flow n c.args.plan.now c.args.table.now c.requires.table c.requires.plan c.period-period.result.now c.period-period.ensures c.nets_have_periods.ensures d c.args.frames c.args.output
+    let can = can_flow n c.args.plan.now c.args.table.now c.requires.table c.requires.plan c.nets_have_periods.ensures d c.args.frames c.args.output
     c.of_net-exchange.result c.of_net-exchange.ensures.value c.of_net-exchange.ensures.limits c.requires.owed c.runs_go_on.ensures c.requires.sound c.requires.unread c.requires.known in
     let at = c.loop-unread.invariant in
     let end : c.loop-unread.unread ≡ 0 = search rules in
@@ -223,7 +223,7 @@ returns g c =
     let p = c.args.plan.now.period in
     let j = c.args.plan.now.blocking in
     let d = c.args.content in
-    let can = can_flow n c.args.plan.now c.args.table.now c.requires.table c.requires.plan c.period-period.result.now c.period-period.ensures c.nets_have_periods.ensures d c.args.frames c.args.output
+    let can = can_flow n c.args.plan.now c.args.table.now c.requires.table c.requires.plan c.nets_have_periods.ensures d c.args.frames c.args.output
     c.of_net-exchange.result c.of_net-exchange.ensures.value c.of_net-exchange.ensures.limits c.requires.owed c.runs_go_on.ensures c.requires.sound c.requires.unread c.requires.known in
     let at = c.loop-unread.invariant in
     let end : c.loop-unread.unread ≡ 0 = search rules in

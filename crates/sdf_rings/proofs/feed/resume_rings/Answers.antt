@@ -15,7 +15,7 @@ use Rattle.sdf_rings.proofs.feed.resume_rings.Goals as goal
 pub begun-requires-clause-rest : goal.begun-requires-clause-rest
 begun-requires-clause-rest g c κs within =
     let q = c.args.period.now.repetitions in
-    (c.requires.rest.0, periods_of q c.requires.rest.1, c.begun_nets_go_on.ensures.whole c.args.net.now c.args.period.now c.requires.rest.1 c.nets_have_periods.ensures, c.requires.rest.2)
+    (c.requires.rest.0, periods_of q c.requires.rest.1, c.begun_nets_go_on.ensures.whole c.args.net.now c.args.period.now c.requires.rest.1 (c.nets_have_periods.ensures c.args.period.now c.requires.period), c.requires.rest.2)
 
 pub feed_rings-requires-clause-period : goal.feed_rings-requires-clause-period
 feed_rings-requires-clause-period g c κs within = subst (λ x. IsPeriodOf (rates x) c.args.period.now) (sym c.in_ok-begun.ensures.graph) c.requires.period
@@ -46,7 +46,7 @@ returns g c =
     (λ fed made. record {
       homed = made.0.homed;
       patient = made.0.patient;
-      goes_on = c.begun_nets_go_on.ensures.runs n m c.args.period.now periods later (lists fed.0.outputs.items) c.args.rest.now fed.1 c.nets_have_periods.ensures begins made.0.has made.1;
+      goes_on = c.begun_nets_go_on.ensures.runs n m c.args.period.now periods later (lists fed.0.outputs.items) c.args.rest.now fed.1 (c.nets_have_periods.ensures c.args.period.now c.requires.period) begins made.0.has made.1;
       rounds_few = made.0.rounds_few;
       rounds_some = made.0.rounds_some;
     })

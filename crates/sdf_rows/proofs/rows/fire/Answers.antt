@@ -25,7 +25,7 @@ run_blocks-requires-clause-start g c = λ κs within.
     let same = c.repetitions-repetitions.ensures in
     let least = subst (IsLeastPeriod (rates (graph_of s n))) (sym same) c.requires.period.least in
     let can = subst (λ r. CanRun s n r (p.blocks * p.j) (lists c.args.inputs.now)) (sym same)
-    (c.nets_can_run.ensures n p.period.now (p.blocks * p.j) (lists c.args.inputs.now) c.nets_have_periods.ensures c.requires.inputs) in
+    (c.nets_can_run.ensures n p.period.now (p.blocks * p.j) (lists c.args.inputs.now) (c.nets_have_periods.ensures p.period.now c.requires.period) c.requires.inputs) in
     let short = subst (λ r. p.j * sum r ≤ MOST_BLOCK) (sym same) c.requires.table.size.short in
     begins s c.histories_make_outputs.ensures.begin n c.net_facts.ensures.net (c.nets_are_wired.ensures.wired n c.net_facts.ensures.net) q p.j p.blocks (lists c.args.inputs.now) can short (omega arith)
     c.samples_of_blocks-room.result (c.samples_of_blocks-room.ensures ∙ ap (λ m. p.blocks * p.j * m) (c.samples_out.ensures.value q least))

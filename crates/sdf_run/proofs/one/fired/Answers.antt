@@ -18,7 +18,7 @@ use Rattle.sdf_run.proofs.one.fired.Goals.{After-run-1}
 can : (g : Rattle.sdf_run.proofs.one.fired.Given.Over) (c : After-run-1 g) → CanRun g.A.Actor.steps c.args.net.now c.repetitions-repetitions.result.now c.args.periods (lists c.args.inputs.now)
 can g c =
     subst (λ q. CanRun g.A.Actor.steps c.args.net.now q c.args.periods (lists c.args.inputs.now)) (sym c.repetitions-repetitions.ensures)
-    (c.nets_can_run.ensures c.args.net.now c.args.period.now c.args.periods (lists c.args.inputs.now) c.nets_have_periods.ensures c.requires.inputs)
+    (c.nets_can_run.ensures c.args.net.now c.args.period.now c.args.periods (lists c.args.inputs.now) (c.nets_have_periods.ensures c.args.period.now c.requires.period) c.requires.inputs)
 
 rooms : (g : Rattle.sdf_run.proofs.one.fired.Given.Over) (c : After-run-1 g) (d : ℕ) → d < length c.args.net.now.wires →
     (wiring g.A.Actor.steps c.args.net.now).rates.initial d + c.block_periods-size.result * (wiring g.A.Actor.steps c.args.net.now).rates.produced d (get_or c.repetitions-repetitions.result.now ((wiring g.A.Actor.steps c.args.net.now).rates.source d) 0) ≤ room c.in_ok-queues.queues.items d
