@@ -85,6 +85,8 @@ def at_homes(folder, graph, homes):
         shutil.copytree(graph.parent, place)
         lines = []
         for line in graph.read_text().splitlines():
+            if line.startswith("processor = "):
+                continue
             lines.append(line)
             if line.startswith("name = "):
                 lines.append(f"processor = {homes.get(line.split(chr(34))[1], 3) * workers // 4}")

@@ -17,20 +17,21 @@ fn deal_one(place: (usize, usize), seat: usize, left: &mut Vec<usize>) -> Result
     Ok(())
 }
 
-/// Puts a seat's firings of a block behind its list.
+/// A seat's firings of a block.
 fn deal_block(
+    alloc: Global,
     places: &[(usize, usize)],
     order: &[usize],
     seat: usize,
-    left: &mut Vec<usize>,
-) -> Result<(), AllocError>
+) -> Result<Vec<usize>, AllocError>
     requires { (i : ℕ) → i < length order.now → slice_index order.now i < length places.now }
-    ensures { OnOk result (left.new.items ≡ left.old.items ++ map (λ a. (place places.now a).1) (dealt places.now order.now seat)) }
+    ensures { IfOk result (λ left. left.items ≡ map (λ a. (place places.now a).1) (dealt places.now order.now seat)) }
 {
+    let mut left = Vec::new(alloc);
     for actor in order {
-        deal_one(places[*actor], seat, left)?;
+        deal_one(places[*actor], seat, &mut left)?;
     }
-    Ok(())
+    Ok(left)
 }
 
 /// A seat's firings of so many blocks.
@@ -44,9 +45,10 @@ pub(crate) fn deal(
     requires { (i : ℕ) → i < length order.now → slice_index order.now i < length places.now }
     ensures { IfOk result (λ left. left.items ≡ map (λ a. (place places.now a).1) (dealt places.now (repeated blocks order.now) seat)) }
 {
-    let mut left = Vec::new(alloc);
+    let block = deal_block(alloc, places, order, seat)?;
+    let mut left = Vec::with_capacity(alloc, block.len().saturating_mul(blocks as usize))?;
     for _ in 0..blocks {
-        deal_block(places, order, seat, &mut left)?;
+        left.extend_from_slice(&block)?;
     }
     Ok(left)
 }

@@ -1,5 +1,4 @@
-use Rattle.std.proofs.Common.{◌++◌, ◌∷◌, [], map, take, cond, eqb, get_or, sym, ap, ◌∙◌, append_assoc}
-use Rattle.sdf_rings.specs.Asks.{dealt}
+use Rattle.std.proofs.Common.{◌++◌, ◌∷◌, [], cond, eqb, get_or, sym, ap, ◌∙◌}
 use Rattle.sdf_rings.specs.Begun.{place}
 use Rattle.sdf_rings.proofs.Dealing.{dealt_more}
 use Rattle.sdf_rings.proofs.setup.deals.deal_block.Goals as goal
@@ -9,8 +8,6 @@ loop-actor-preserved c =
     let places = c.args.places.now in
     let order = c.args.order.now in
     let i = c.loop-actor.actor-index in
-    let before = map (λ a. (place places a).1) (dealt places (take i order) c.args.seat) in
     let more = cond (eqb (place places (get_or order i 0)).0 c.args.seat) ((place places (get_or order i 0)).1 ∷ []) [] in
     c.in_ok-deal_one.ensures ∙
-    (ap (λ xs. xs ++ more) c.loop-actor.invariant ∙ (append_assoc c.args.left.now.items before more ∙
-    ap (λ ys. c.args.left.now.items ++ ys) (sym (dealt_more places c.args.seat order i c.loop-actor-test.true))))
+    (ap (λ xs. xs ++ more) c.loop-actor.invariant ∙ sym (dealt_more places c.args.seat order i c.loop-actor-test.true))
