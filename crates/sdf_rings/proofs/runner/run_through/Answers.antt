@@ -1,7 +1,12 @@
-use Rattle.std.proofs.Common.{arith}
+use Rattle.std.proofs.Common.{sym, subst, arith}
 use Rattle.sdf_actor.specs.Wires.{lists}
+use Rattle.sdf_rings.specs.Rests.{HaveMet}
 use Rattle.sdf_rings.proofs.Answered.{few_rounds, has_ended}
 use Rattle.sdf_rings.proofs.runner.run_through.Goals as goal
+
+pub run-rounds-requires-clause-met : goal.run-rounds-requires-clause-met
+run-rounds-requires-clause-met g c κs within =
+    subst (λ n. HaveMet n c.in_ok-rings.rings.seats c.in_ok-rings.rings.places) (sym c.in_ok-rings.ensures.2.net_is) c.in_ok-rings.ensures.2.met
 
 pub run-rounds-requires-clause-count : goal.run-rounds-requires-clause-count
 run-rounds-requires-clause-count g c κs within =
