@@ -12,6 +12,7 @@ pub mod PairPlanned
 pub mod Own
 pub mod Blocks
 pub mod Each
+pub mod Walks
 pub mod Looks
 pub mod Deals
 pub mod PortBlocks

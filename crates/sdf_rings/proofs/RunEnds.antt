@@ -1,19 +1,14 @@
 -- The blocks of many firings at the ends of rings, those of one firing after those of another.
-use Rattle.std.proofs.Common.{◌≡◌, ℕ, zero, suc, ◌+◌, ◌-◌, ◌*◌, ◌≤◌, ◌<◌, List, ◌++◌, length, get_or, take, drop, slice_range, slice_set, get_or-set_same, refl, sym, ap, ◌∙◌, subst, arith, add-one, length-append}
+use Rattle.std.proofs.Common.{◌≡◌, ℕ, zero, suc, ◌+◌, ◌-◌, ◌*◌, ◌≤◌, ◌<◌, List, ◌++◌, length, get_or, take, drop, slice_range, slice_set, get_or-set_same, refl, sym, ap, ◌∙◌, subst, arith, add-one}
 use Rattle.std.specs.List.{between}
 use Rattle.std.proofs.Math.Nat.{mul-suc, suc-mul}
 use Rattle.std.proofs.lemmas.List.{take_all, get_or_default}
 use Rattle.std.proofs.lemmas.List.Edits.{length-between}
 use Rattle.std.proofs.lemmas.Slice.{between_is, between_from_start}
-use Rattle.rtrb.specs.Ring.{known_items, known_free}
-use Rattle.rtrb.specs.declared.producer.Producer.{Producer}
-use Rattle.rtrb.specs.declared.consumer.Consumer.{Consumer}
 use Rattle.sdf_node.specs.Laws.{BlocksJoin}
 use Rattle.sdf_node.specs.Many.{nth_block, joined}
 use Rattle.sdf_rings.specs.Blocks.{start_at, block_of}
-use Rattle.sdf_rings.specs.Ends.{Drew, Gave, DrewEach, GaveEach, HoldsEach, HasRoomEach}
 use Rattle.sdf_rings.proofs.Blocks.{block_in, start_at_zero, start_at_next}
-use Rattle.sdf_rings.proofs.Looks.{drew_join, gave_join}
 
 pub same_joined : {T : Type 0} (f g : ℕ → List T) (many : ℕ) → ((i : ℕ) → i < many → f i ≡ g i) → joined f many ≡ joined g many
 same_joined f g zero same = refl
@@ -49,47 +44,31 @@ block_long g p ports at size xs l size_is inside =
     let long = length-between xs at (at + size) inside in
     length-between (slice_range xs at (at + size)) (start_at g p) (start_at g p + g p) (omega arith) ∙ omega arith
 
-module _ {T A P : Type 0} (g : ℕ → ℕ) (size many i at : ℕ) (l : i < many) (at_is : at ≡ size * i) where
-  -- firing i's blocks were taken after those of the firings before it
-  pub drew_next : (before mid after : List (Consumer T A P)) (xs ys : List T) → length mid ≡ length before →
-      DrewEach before mid (λ p. joined (λ j. block_of g p (nth_block size xs j)) i) → DrewEach mid after (λ p. block_of g p (slice_range ys at (at + size))) →
-      ((n : ℕ) → n ≤ at → take n ys ≡ take n xs) → DrewEach before after (λ p. joined (λ j. block_of g p (nth_block size ys j)) (i + 1))
-  drew_next before mid after xs ys long p q same = λ k d h.
+-- what moved at each of the ends
+abbrev pub Moves : {X T : Type 0} → (X → X → List T → Type 0) → List X → List X → (ℕ → List T) → Type 0
+Moves {X = X} R before after at = (k : ℕ) (d : X) → k < length before → R (get_or before k d) (get_or after k d) (at k)
+
+module _ {X T : Type 0} (R : X → X → List T → Type 0) (g : ℕ → ℕ) (size many i at : ℕ) (l : i < many) (at_is : at ≡ size * i) where
+  -- firing i's blocks moved after those of the firings before it
+  pub moved_next : ((a b c : X) (xs ys : List T) → R a b xs → R b c ys → R a c (xs ++ ys)) → (before mid after : List X) (xs ys : List T) → length mid ≡ length before →
+      Moves R before mid (λ p. joined (λ j. block_of g p (nth_block size xs j)) i) → Moves R mid after (λ p. block_of g p (slice_range ys at (at + size))) →
+      ((n : ℕ) → n ≤ at → take n ys ≡ take n xs) → Moves R before after (λ p. joined (λ j. block_of g p (nth_block size ys j)) (i + 1))
+  moved_next join before mid after xs ys long p q same = λ k d h.
       let new : block_of g k (slice_range ys at (at + size)) ≡ block_of g k (nth_block size ys i) = ap (λ b. block_of g k b) (nth_is size i at ys at_is) in
       let old : joined (λ j. block_of g k (nth_block size xs j)) i ≡ joined (λ j. block_of g k (nth_block size ys j)) i =
       same_joined (λ j. block_of g k (nth_block size xs j)) (λ j. block_of g k (nth_block size ys j)) i (λ j m. ap (λ b. block_of g k b) (sym (nth_kept size i j at xs ys m at_is same))) in
       let all : joined (λ j. block_of g k (nth_block size xs j)) i ++ block_of g k (slice_range ys at (at + size)) ≡ joined (λ j. block_of g k (nth_block size ys j)) (i + 1) =
       (λ m. old m ++ new m) ∙ ap (joined (λ j. block_of g k (nth_block size ys j))) (sym (add-one i)) in
-      subst (Drew (get_or before k d) (get_or after k d)) all (drew_join (get_or before k d) (get_or mid k d) (get_or after k d) _ _ (p k d h) (q k d (omega arith)))
+      subst (R (get_or before k d) (get_or after k d)) all (join (get_or before k d) (get_or mid k d) (get_or after k d) _ _ (p k d h) (q k d (omega arith)))
 
-  pub gave_next : (before mid after : List (Producer T A P)) (ys : List T) → length mid ≡ length before →
-      GaveEach before mid (λ p. joined (λ j. block_of g p (nth_block size ys j)) i) → GaveEach mid after (λ p. block_of g p (slice_range ys at (at + size))) →
-      GaveEach before after (λ p. joined (λ j. block_of g p (nth_block size ys j)) (i + 1))
-  gave_next before mid after ys long p q = λ k d h.
-      let new : block_of g k (slice_range ys at (at + size)) ≡ block_of g k (nth_block size ys i) = ap (λ b. block_of g k b) (nth_is size i at ys at_is) in
-      let all : joined (λ j. block_of g k (nth_block size ys j)) i ++ block_of g k (slice_range ys at (at + size)) ≡ joined (λ j. block_of g k (nth_block size ys j)) (i + 1) =
-      ap (λ b. joined (λ j. block_of g k (nth_block size ys j)) i ++ b) new ∙ ap (joined (λ j. block_of g k (nth_block size ys j))) (sym (add-one i)) in
-      subst (Gave (get_or before k d) (get_or after k d)) all (gave_join (get_or before k d) (get_or mid k d) (get_or after k d) _ _ (p k d h) (q k d (omega arith)))
-
-  -- the blocks of the firings still to come are there
-  pub holds_next : (mid after : List (Consumer T A P)) (ys : List T) (ports : ℕ) → length after ≡ length mid → length mid ≡ ports → size ≡ start_at g ports → at + size ≤ length ys →
-      DrewEach mid after (λ p. block_of g p (slice_range ys at (at + size))) → HoldsEach (λ p. (many - i) * g p) mid → HoldsEach (λ p. (many - (i + 1)) * g p) after
-  holds_next mid after ys ports long all size_is inside q holds = λ k d h.
+  -- the firings still to come find what they want at each of the ends
+  pub left_next : (has : X → ℕ) → ((a b : X) (xs : List T) → R a b xs → has a ≤ length xs + has b) → (mid after : List X) (ys : List T) (ports : ℕ) →
+      length after ≡ length mid → length mid ≡ ports → size ≡ start_at g ports → at + size ≤ length ys → Moves R mid after (λ p. block_of g p (slice_range ys at (at + size))) →
+      ((k : ℕ) (d : X) → k < length mid → (many - i) * g k ≤ has (get_or mid k d)) → (k : ℕ) (d : X) → k < length after → (many - (i + 1)) * g k ≤ has (get_or after k d)
+  left_next has less mid after ys ports long all size_is inside q have = λ k d h.
       let m : k < length mid = omega arith in
-      let known = (q k d m).known_then in
-      let count = ap length known.1 in
-      let here = length-append (known_items (get_or mid k d)) known.0 in
-      let there = length-append (block_of g k (slice_range ys at (at + size))) (known_items (get_or after k d)) in
-      left_after many i (g k) (length (known_items (get_or mid k d))) (length (known_items (get_or after k d))) (length (block_of g k (slice_range ys at (at + size)))) l (holds k d m)
-      (omega arith) (block_long g k ports at size ys (omega arith) size_is inside)
-
-  pub room_next : (mid after : List (Producer T A P)) (ys : List T) (ports : ℕ) → length after ≡ length mid → length mid ≡ ports → size ≡ start_at g ports → at + size ≤ length ys →
-      GaveEach mid after (λ p. block_of g p (slice_range ys at (at + size))) → HasRoomEach (λ p. (many - i) * g p) mid → HasRoomEach (λ p. (many - (i + 1)) * g p) after
-  room_next mid after ys ports long all size_is inside q room = λ k d h.
-      let m : k < length mid = omega arith in
-      let free = (q k d m).free_then in
-      left_after many i (g k) (known_free (get_or mid k d)) (known_free (get_or after k d)) (length (block_of g k (slice_range ys at (at + size)))) l (room k d m)
-      (omega arith) (block_long g k ports at size ys (omega arith) size_is inside)
+      left_after many i (g k) (has (get_or mid k d)) (has (get_or after k d)) (length (block_of g k (slice_range ys at (at + size)))) l (have k d m)
+      (less (get_or mid k d) (get_or after k d) (block_of g k (slice_range ys at (at + size))) (q k d m)) (block_long g k ports at size ys (omega arith) size_is inside)
 
 -- at a lone port they are the whole list
 pub lone_port : {T : Type 0} (g : ℕ → ℕ) (size many : ℕ) (xs : List T) → BlocksJoin T → size ≡ start_at g 1 → length xs ≡ size * many → joined (λ i. block_of g 0 (nth_block size xs i)) many ≡ xs

@@ -3,7 +3,7 @@ use Rattle.std.proofs.Common.{◌≡◌, ℕ, zero, suc, ◌+◌, ◌*◌, ◌%�
 use Rattle.std.specs.Global.{Global}
 use Rattle.std.specs.List.{between}
 use Rattle.std.specs.declared.vec.Vec.{Vec}
-use Rattle.std.proofs.Math.Nat.{mod-one, mul_comm}
+use Rattle.std.proofs.Math.Nat.{mod-one, mul_comm, mul-le-mul_left}
 use Rattle.std.proofs.lemmas.Bool.{cases_lt}
 use Rattle.std.proofs.lemmas.List.{get_or_append_left, get_or_push, length_push}
 use Rattle.std.proofs.lemmas.List.Concat.{length-flat_map}
@@ -267,3 +267,14 @@ module _ {A S T : Type 0} (s : Steps A S T) (keep : NodesKeepPhase s) (n : Netli
         let same : puts_of s (node n x.actor) 0 * free ≡ free * made = mul_comm (puts_of s (node n x.actor) 0) free ∙ ap (λ v. free * v) (sym (made_is ∙ ap (λ v. puts_of s v 0) z_is)) in
         omega (arith, same, few);
   }
+
+-- fewer firings can run too
+pub fewer_run : {A S T : Type 0} (s : Steps A S T) (n : Netlist A T) (x : Stand A T S) (few many : ℕ) → few ≤ many → CanRun s n x many → CanRun s n x few
+fewer_run s n x few many l can = record {
+  goes = can.goes;
+  left = let a = can.left in omega arith;
+  holds = λ i d h. few_kept few many (sizes s Input (node n x.actor) x.done i) _ l (can.holds i d h);
+  has_room = λ i d h. few_kept few many (sizes s Output (node n x.actor) x.done i) _ l (can.has_room i d h);
+  taken_fits = let a = can.taken_fits in let m : takes_of s (node n x.actor) 0 * few ≤ takes_of s (node n x.actor) 0 * many = mul-le-mul_left _ l in omega arith;
+  put_fits = let a = can.put_fits in let m : puts_of s (node n x.actor) 0 * few ≤ puts_of s (node n x.actor) 0 * many = mul-le-mul_left _ l in omega arith;
+}

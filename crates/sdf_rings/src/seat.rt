@@ -13,7 +13,7 @@ use sdf_node::Gate;
 use std::thread;
 
 /// So many firings at most go in one piece of work.
-const MOST_AT_ONCE: usize = 65_536;
+const MOST_AT_ONCE: u64 = 65_536;
 
 /// A worker's nodes, and the list of its firings still to do: those from `next` on. It holds no reference.
 #[derive(Drop)]
@@ -87,8 +87,9 @@ fn fire_known<A: Actor, G: Gate>(
     ensures inside { next + result ≤ length left.now }
     ensures same { (j : ℕ) → j < result → slice_index left.now next ≡ slice_index left.now (next + j) }
 {
-    let row = in_a_row(left, next, MOST_AT_ONCE);
-    let many = in_one_run(net, inputs, stand, row);
+    let most = (stand.asked - stand.done).min(MOST_AT_ONCE) as usize;
+    let known = in_one_run(net, inputs, stand, most);
+    let many = in_a_row(left, next, known);
     if many > 1 {
         fire_run(net, inputs, stand, processor, many, gate);
         return many;

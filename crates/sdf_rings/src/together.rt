@@ -10,7 +10,7 @@ ghost use Rattle.sdf_rings.specs.Ends.{DrewEach, HoldsEach};
 ghost use Rattle.sdf_rings.specs.Stands.{IsStand, HasMoved};
 ghost use Rattle.sdf_rings.specs.Together.{GoesInRuns, CanRun};
 
-use crate::ends::{blocks_free, blocks_held, put_run, take_run, whole_blocks};
+use crate::run_ends::{blocks_free, blocks_held, put_run, take_run, whole_blocks};
 use crate::setup::sizes::cycle;
 use crate::stand::{Stand, row};
 use rtrb::Consumer;
@@ -57,6 +57,7 @@ fn take_front_run<T: Copy>(
     sizes: &[usize],
     ends: &mut [Consumer<T, Global>],
     taken: &mut [T],
+    scratch: &mut [T],
     many: usize,
     size: usize,
     all: usize,
@@ -69,7 +70,7 @@ fn take_front_run<T: Copy>(
     ensures { DrewEach ends.old ends.new (λ p. joined (λ i. block_of (slice_index sizes.now) p (nth_block size (take all taken.new) i)) many) }
 {
     let (front, _) = taken.split_at_mut(all);
-    take_run(sizes, ends, front, many, size);
+    take_run(sizes, ends, front, scratch, many, size);
 }
 
 /// Fires a node so often, on the blocks taken. What it puts stands at the front of the other block.
@@ -123,6 +124,7 @@ fn fire_run_blocks<A: Actor>(
         row(&stand.takes, 0),
         stand.ins.as_mut_slice(),
         stand.taken.as_mut_slice(),
+        stand.put.as_mut_slice(),
         many,
         size,
         taken,

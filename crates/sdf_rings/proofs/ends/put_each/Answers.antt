@@ -1,16 +1,14 @@
-use Rattle.std.proofs.Common.{slice_index, rules, ◌≢◌, length, arith, refl, sym, get_or-set_other}
+use Rattle.std.proofs.Common.{slice_index, rules, length, arith, refl}
 use Rattle.sdf_rings.specs.Blocks.{block_of}
 use Rattle.sdf_rings.specs.Ends.{Gave}
-use Rattle.sdf_rings.proofs.Blocks.{start_at_zero, start_at_next, block_in}
-use Rattle.sdf_rings.proofs.Each.{each_more}
+use Rattle.sdf_rings.proofs.Walks.{walked_none, walked_inside, walked_more}
 use Rattle.sdf_rings.proofs.ends.put_each.Goals as goal
 
 pub loop-i-init : goal.loop-i-init
-loop-i-init g c = record { at = sym (start_at_zero _); done = λ k d h. absurd (omega arith); rest = λ k d h. refl }
+loop-i-init g c = walked_none Gave (slice_index c.args.sizes.now) (λ k. block_of (slice_index c.args.sizes.now) k c.args.put.now) c.args.ends.now
 
 pub put_at-requires-clause-inside : goal.put_at-requires-clause-inside
-put_at-requires-clause-inside g c =
-    let b = block_in (slice_index c.args.sizes.now) c.loop-i.i (length c.args.ends.now) (omega arith) in omega (arith, b)
+put_at-requires-clause-inside g c = let b = walked_inside _ _ _ _ _ _ _ c.loop-i.invariant (length c.args.ends.now) (omega arith) in omega (arith, b)
 
 pub put_at-requires-clause-room : goal.put_at-requires-clause-room
 put_at-requires-clause-room g c =
@@ -18,22 +16,10 @@ put_at-requires-clause-room g c =
     rw (c.loop-i.invariant.rest c.loop-i.i e (omega arith)) (c.requires.room c.loop-i.i e (omega arith))
 
 pub overflow_add-at : goal.overflow_add-at
-overflow_add-at g c =
-    let b = block_in (slice_index c.args.sizes.now) c.loop-i.i (length c.args.ends.now) (omega arith) in search rules
+overflow_add-at g c = let b = walked_inside _ _ _ _ _ _ _ c.loop-i.invariant (length c.args.ends.now) (omega arith) in search rules
 
 pub loop-i-preserved : goal.loop-i-preserved
 loop-i-preserved g c =
-    let rate = (slice_index c.args.sizes.now) in
-    let n = start_at_next rate c.loop-i.i in
-    record {
-      at = omega (arith, n);
-      done = each_more
-          (λ k a b. Gave a b (block_of rate k c.args.put.now))
-          (λ k a b. Gave a b (block_of rate k c.args.put.now))
-          c.args.ends.now c.loop-i.ends c.loop-i.i c.put_at.new.end c.index-ends-i.result (omega arith)
-          c.loop-i.invariant.rest
-          c.loop-i.invariant.done
-          (λ k a b h t. t)
-          (rw (← c.loop-i.invariant.at) c.put_at.ensures);
-      rest = λ k d h. let ne : k ≢ c.loop-i.i = omega arith in rw get_or-set_other (c.loop-i.invariant.rest k d (omega arith));
-    }
+    let part = λ (k : _). block_of (slice_index c.args.sizes.now) k c.args.put.now in
+    walked_more Gave (slice_index c.args.sizes.now) part c.args.ends.now c.loop-i.ends c.loop-i.i c.loop-i.at c.loop-i.invariant
+    part c.put_at.new.end c.index-ends-i.result (omega arith) (λ k l. refl) (rw (← c.loop-i.invariant.at_is) c.put_at.ensures)

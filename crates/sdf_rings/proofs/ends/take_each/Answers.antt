@@ -1,16 +1,15 @@
-use Rattle.std.proofs.Common.{slice_index, rules, ◌≢◌, length, arith, refl, sym, get_or-set_other}
+use Rattle.std.proofs.Common.{slice_index, rules, length, arith, sym}
 use Rattle.sdf_rings.specs.Blocks.{block_of}
 use Rattle.sdf_rings.specs.Ends.{Drew}
-use Rattle.sdf_rings.proofs.Blocks.{start_at_zero, start_at_next, block_in, block_kept}
-use Rattle.sdf_rings.proofs.Each.{each_more}
+use Rattle.sdf_rings.proofs.Blocks.{block_kept}
+use Rattle.sdf_rings.proofs.Walks.{walked_none, walked_inside, walked_more}
 use Rattle.sdf_rings.proofs.ends.take_each.Goals as goal
 
 pub loop-i-init : goal.loop-i-init
-loop-i-init g c = record { at = sym (start_at_zero _); done = λ k d h. absurd (omega arith); rest = λ k d h. refl }
+loop-i-init g c = walked_none Drew (slice_index c.args.sizes.now) (λ k. block_of (slice_index c.args.sizes.now) k c.args.taken.now) c.args.ends.now
 
 pub take_at-requires-clause-inside : goal.take_at-requires-clause-inside
-take_at-requires-clause-inside g c =
-    let b = block_in (slice_index c.args.sizes.now) c.loop-i.i (length c.args.ends.now) (omega arith) in omega (arith, b)
+take_at-requires-clause-inside g c = let b = walked_inside _ _ _ _ _ _ _ c.loop-i.invariant (length c.args.ends.now) (omega arith) in omega (arith, b)
 
 pub take_at-requires-clause-known : goal.take_at-requires-clause-known
 take_at-requires-clause-known g c =
@@ -18,22 +17,12 @@ take_at-requires-clause-known g c =
     rw (c.loop-i.invariant.rest c.loop-i.i e (omega arith)) (c.requires.known c.loop-i.i e (omega arith))
 
 pub overflow_add-at : goal.overflow_add-at
-overflow_add-at g c =
-    let b = block_in (slice_index c.args.sizes.now) c.loop-i.i (length c.args.ends.now) (omega arith) in search rules
+overflow_add-at g c = let b = walked_inside _ _ _ _ _ _ _ c.loop-i.invariant (length c.args.ends.now) (omega arith) in search rules
 
 pub loop-i-preserved : goal.loop-i-preserved
 loop-i-preserved g c =
-    let rate = (slice_index c.args.sizes.now) in
-    let n = start_at_next rate c.loop-i.i in
-    record {
-      at = omega (arith, n);
-      done = each_more
-          (λ k a b. Drew a b (block_of rate k c.loop-i.taken))
-          (λ k a b. Drew a b (block_of rate k c.take_at.new.taken))
-          c.args.ends.now c.loop-i.ends c.loop-i.i c.take_at.new.end c.index-ends-i.result (omega arith)
-          c.loop-i.invariant.rest
-          c.loop-i.invariant.done
-          (λ k a b h t. rw (block_kept rate k c.loop-i.i c.loop-i.at c.loop-i.taken c.take_at.new.taken h c.loop-i.invariant.at c.take_at.ensures.before) t)
-          (rw (← c.loop-i.invariant.at) c.take_at.ensures.block);
-      rest = λ k d h. let ne : k ≢ c.loop-i.i = omega arith in rw get_or-set_other (c.loop-i.invariant.rest k d (omega arith));
-    }
+    let rate = slice_index c.args.sizes.now in
+    walked_more Drew rate (λ k. block_of rate k c.loop-i.taken) c.args.ends.now c.loop-i.ends c.loop-i.i c.loop-i.at c.loop-i.invariant
+    (λ k. block_of rate k c.take_at.new.taken) c.take_at.new.end c.index-ends-i.result (omega arith)
+    (λ k l. sym (block_kept rate k c.loop-i.i c.loop-i.at c.loop-i.taken c.take_at.new.taken l c.loop-i.invariant.at_is c.take_at.ensures.before))
+    (rw (← c.loop-i.invariant.at_is) c.take_at.ensures.block)

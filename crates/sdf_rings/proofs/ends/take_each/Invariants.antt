@@ -1,11 +1,8 @@
-use Rattle.std.proofs.Common.{slice_index, ◌≡◌, ◌≤◌, ◌<◌, ℕ, slice_index_or}
-use Rattle.sdf_rings.specs.Blocks.{start_at, block_of}
+use Rattle.std.proofs.Common.{slice_index}
+use Rattle.sdf_rings.specs.Blocks.{block_of}
 use Rattle.sdf_rings.specs.Ends.{Drew}
+use Rattle.sdf_rings.proofs.Walks.{Walked}
 use Rattle.sdf_rings.proofs.ends.take_each.Given as goal
 
 abbrev pub invariant-loop-i : goal.invariant-loop-i
-invariant-loop-i g l = record {
-  at : l.at ≡ start_at (slice_index l.sizes) l.i;
-  done : (k : ℕ) (d : _) → k < l.i → Drew (slice_index_or l.initial.ends k d) (slice_index_or l.ends k d) (block_of (slice_index l.sizes) k l.taken);
-  rest : (k : ℕ) (d : _) → l.i ≤ k → slice_index_or l.ends k d ≡ slice_index_or l.initial.ends k d;
-}
+invariant-loop-i g l = Walked Drew (slice_index l.sizes) (λ k. block_of (slice_index l.sizes) k l.taken) l.initial.ends l.ends l.i l.at

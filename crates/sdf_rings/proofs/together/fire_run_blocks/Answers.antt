@@ -34,13 +34,13 @@ pub put_run-requires-clause-size : goal.put_run-requires-clause-size
 put_run-requires-clause-size g c =
     let laws : FiringLaws g.A.Actor.steps = record { wired = c.nets_are_wired.ensures.wired; ports = c.nets_are_wired.ensures.ports; grows = c.locals_grow.ensures.grows; stays = c.taken_stays.ensures } in
     out_size g.A.Actor.steps laws c.blocks_join.ensures c.args.net.now c.requires.net (lists c.args.inputs.now) c.args.stand.now c.requires.stand c.args.many c.requires.can c.nodes_can_step.ensures.phases
-    c.node-node.result.now c.node-node.ensures c.puts-made.result c.row-2.result.now c.puts-made.ensures c.row-2.ensures (length c.as_mut_slice-4.result.now) (c.as_mut_slice-4.ensures.len ∙ c.requires.stand.outs_all)
+    c.node-node.result.now c.node-node.ensures c.puts-made.result c.row-2.result.now c.puts-made.ensures c.row-2.ensures (length c.as_mut_slice-5.result.now) (c.as_mut_slice-5.ensures.len ∙ c.requires.stand.outs_all)
 
 pub put_run-requires-clause-room : goal.put_run-requires-clause-room
 put_run-requires-clause-room g c =
     let laws : FiringLaws g.A.Actor.steps = record { wired = c.nets_are_wired.ensures.wired; ports = c.nets_are_wired.ensures.ports; grows = c.locals_grow.ensures.grows; stays = c.taken_stays.ensures } in
     room_run g.A.Actor.steps laws c.blocks_join.ensures c.args.net.now c.requires.net (lists c.args.inputs.now) c.args.stand.now c.requires.stand c.args.many c.requires.can c.nodes_can_step.ensures.phases
-    c.row-2.result.now c.row-2.ensures c.as_mut_slice-4.result.now c.as_mut_slice-4.ensures.value
+    c.row-2.result.now c.row-2.ensures c.as_mut_slice-5.result.now c.as_mut_slice-5.ensures.value
 
 pub returns-clause-fired : goal.returns-clause-fired
 returns-clause-fired g c =
@@ -64,7 +64,9 @@ returns-clause-fired g c =
     let seen_taken = with_items x.taken c.take_front_run.new.taken in
     let taken = with_items_is x.taken c.take_front_run.new.taken (omega arith) in
     let after = with_items_is seen_taken c.put_run.new.scratch (omega (arith, ap length taken)) in
-    let put = with_items_is x.put c.step_front_many.new.put (omega arith) in
+    let seen_put = with_items x.put c.take_front_run.new.scratch in
+    let gathered = with_items_is x.put c.take_front_run.new.scratch (omega arith) in
+    let put = with_items_is seen_put c.step_front_many.new.put (omega (arith, ap length gathered)) in
     let ins = with_items_is x.ins c.take_front_run.new.ends (omega arith) in
     let outs = with_items_is x.outs c.put_run.new.ends (omega arith) in
     let seen = ap (take all) (c.deref.ensures.value ∙ taken) in
@@ -72,7 +74,7 @@ returns-clause-fired g c =
     let t = take all c.take_front_run.new.taken in
     let b = take more c.step_front_many.new.put in
     let drew = drew_run s laws join n c.requires.net inputs x st many c.requires.can keep c.row.result.now c.row.ensures c.takes-size.result size_is c.as_mut_slice.result.now c.take_front_run.new.ends c.as_mut_slice.ensures.value t c.take_front_run.ensures in
-    let gave = gave_run s laws join n c.requires.net inputs x st many c.requires.can keep c.row-2.result.now c.row-2.ensures c.puts-made.result made_is c.as_mut_slice-4.result.now c.put_run.new.ends c.as_mut_slice-4.ensures.value b
+    let gave = gave_run s laws join n c.requires.net inputs x st many c.requires.can keep c.row-2.result.now c.row-2.ensures c.puts-made.result made_is c.as_mut_slice-5.result.now c.put_run.new.ends c.as_mut_slice-5.ensures.value b
     (rw out at c.put_run.ensures) in
     run_fired s laws join n c.requires.net inputs x st many c.requires.can t b
     (length-take-le all c.take_front_run.new.taken (omega arith) ∙ ap (λ m. m * many) size_is)
@@ -80,5 +82,5 @@ returns-clause-fired g c =
     c.step_front_many.new.state
     (rw (seen, y_is) at c.step_front_many.ensures.state)
     (rw (seen, y_is) at c.step_front_many.ensures.put)
-    (with_items x.ins c.take_front_run.new.ends) (with_items x.outs c.put_run.new.ends) (with_items seen_taken c.put_run.new.scratch) (with_items x.put c.step_front_many.new.put)
-    (rw ins drew) (rw outs gave) (omega arith) (omega arith) (ap length after ∙ omega (arith, ap length taken)) (ap length put ∙ omega arith)
+    (with_items x.ins c.take_front_run.new.ends) (with_items x.outs c.put_run.new.ends) (with_items seen_taken c.put_run.new.scratch) (with_items seen_put c.step_front_many.new.put)
+    (rw ins drew) (rw outs gave) (omega arith) (omega arith) (ap length after ∙ omega (arith, ap length taken)) (ap length put ∙ omega (arith, ap length gathered))

@@ -2,7 +2,7 @@ use Rattle.std.proofs.Common.{slice_index, ◌≡◌, ◌-◌, ◌*◌}
 use Rattle.sdf_node.specs.Many.{nth_block, joined}
 use Rattle.sdf_rings.specs.Blocks.{block_of}
 use Rattle.sdf_rings.specs.Ends.{DrewEach, HoldsEach}
-use Rattle.sdf_rings.proofs.ends.take_by_firing.Given as goal
+use Rattle.sdf_rings.proofs.run_ends.take_by_firing.Given as goal
 
 abbrev pub invariant-loop : goal.invariant-loop
 invariant-loop g l = record {

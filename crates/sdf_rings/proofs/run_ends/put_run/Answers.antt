@@ -2,7 +2,7 @@ use Rattle.std.proofs.Common.{slice_index, ◌∙◌, length, ap, arith}
 use Rattle.sdf_rings.specs.Blocks.{start_at}
 use Rattle.sdf_rings.specs.Ends.{Gave}
 use Rattle.sdf_rings.proofs.RunEnds.{lone_fits, lone_end, lone_port}
-use Rattle.sdf_rings.proofs.ends.put_run.Goals as goal
+use Rattle.sdf_rings.proofs.run_ends.put_run.Goals as goal
 
 pub put_block-requires : goal.put_block-requires
 put_block-requires g c =

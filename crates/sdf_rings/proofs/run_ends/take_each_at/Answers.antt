@@ -2,7 +2,7 @@ use Rattle.std.proofs.Common.{◌+◌, ◌-◌, slice_index, slice_index_or, sub
 use Rattle.std.proofs.lemmas.Slice.{between-put_mid}
 use Rattle.sdf_rings.specs.Blocks.{block_of}
 use Rattle.sdf_rings.specs.Ends.{Drew}
-use Rattle.sdf_rings.proofs.ends.take_each_at.Goals as goal
+use Rattle.sdf_rings.proofs.run_ends.take_each_at.Goals as goal
 
 pub returns-clause-drew : goal.returns-clause-drew
 returns-clause-drew g c = λ i d h.

@@ -1,6 +1,6 @@
 use Rattle.std.proofs.Common.{slice_index, ◌*◌, ◌≤◌, ◌<◌, ℕ, length, slice_index_or}
 use Rattle.rtrb.specs.Ring.{known_items}
-use Rattle.sdf_rings.proofs.ends.blocks_held.Given as goal
+use Rattle.sdf_rings.proofs.run_ends.blocks_held.Given as goal
 
 abbrev pub invariant-loop-i : goal.invariant-loop-i
 invariant-loop-i g l = record {

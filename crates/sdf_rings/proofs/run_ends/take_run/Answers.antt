@@ -2,7 +2,7 @@ use Rattle.std.proofs.Common.{slice_index, ◌∙◌, length, ap, arith}
 use Rattle.sdf_rings.specs.Blocks.{start_at}
 use Rattle.sdf_rings.specs.Ends.{Drew}
 use Rattle.sdf_rings.proofs.RunEnds.{lone_fits, lone_end, lone_port}
-use Rattle.sdf_rings.proofs.ends.take_run.Goals as goal
+use Rattle.sdf_rings.proofs.run_ends.take_run.Goals as goal
 
 pub take_block-requires : goal.take_block-requires
 take_block-requires g c =
