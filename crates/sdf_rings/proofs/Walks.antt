@@ -1,5 +1,5 @@
 -- A walk over the ports of a node: what moved at those passed, while the others are as they were.
-use Rattle.std.proofs.Common.{◌≡◌, ◌≢◌, ℕ, ◌+◌, ◌<◌, ◌≤◌, List, length, slice_index_or, slice_set, get_or-set_other, refl, sym, ap, subst, arith}
+use Rattle.std.proofs.Common.{◌≡◌, ◌≢◌, ℕ, ◌+◌, ◌<◌, ◌≤◌, List, length, slice_index_or, slice_set, get_or-set_other, refl, sym, subst, arith}
 use Rattle.sdf_rings.specs.Blocks.{start_at}
 use Rattle.sdf_rings.proofs.Blocks.{start_at_zero, start_at_next, block_in}
 use Rattle.sdf_rings.proofs.Each.{each_more}
