@@ -73,7 +73,7 @@ module _ {A S T : Type 0} (s : Steps A S T) (ports : PortsHaveChannels s) (n : N
       sym ((ports n a i good l).0 hi).1 ∙ (ap (λ c. (wire n c).to.1) same ∙ ((ports n a j good l).0 hj).1)
 
   -- a channel that leads to a node is at one of its ports
-  ins_all : (a c : ℕ) → a < length n.nodes → c < length n.wires → (wire n c).to.0 ≡ a → (i : ℕ) × (i < length ((wiring s n).ins a)) × (get_or ((wiring s n).ins a) i 0 ≡ c)
+  pub ins_all : (a c : ℕ) → a < length n.nodes → c < length n.wires → (wire n c).to.0 ≡ a → (i : ℕ) × (i < length ((wiring s n).ins a)) × (get_or ((wiring s n).ins a) i 0 ≡ c)
   ins_all a c known l e =
       let p : ℕ = (wire n c).to.1 in
       let in_range = good.to_in c l in

@@ -1,10 +1,22 @@
 -- Parts of lists.
-use Rattle.std.proofs.Common.{◌≡◌, ℕ, ◌+◌, ◌-◌, ◌≤◌, List, [], ◌∷◌, ◌++◌, length, get_or, take, drop, refl, sym, ap, ◌∙◌, arith}
-use Rattle.std.specs.List.{between}
+use Rattle.std.proofs.Common.{◌≡◌, ℕ, suc, ◌+◌, ◌-◌, ◌≤◌, ◌<◌, List, [], ◌∷◌, ◌++◌, length, get_or, take, drop, refl, sym, ap, ◌∙◌, arith}
+use Rattle.std.specs.List.{between, flat_map}
 use Rattle.std.proofs.lemmas.List.{drop-drop, take-take, take_all, drop-append-le, length-take-le, length-append}
 use Rattle.std.proofs.lemmas.Slice.{between_is, take-put_mid}
 use borrow.Rule.Slice.PartMut.{put_mid}
-use Rattle.sdf_run.proofs.Sinks.{take_on}
+use Rattle.std.proofs.Math.Seq.{take-add}
+
+-- a beginning is a shorter one and the part after it
+pub take_on : {X : Type 0} (xs : List X) (i j : ℕ) → i ≤ j → take j xs ≡ take i xs ++ between i j xs
+take_on xs i j h = ap (λ k. take k xs) (let e : j ≡ i + (j - i) = omega arith in e) ∙ take-add i (j - i) xs
+
+-- pieces that are the same, joined
+pub flat_map_same : {X : Type 0} (f g : ℕ → List X) (cs : List ℕ) → ((n : ℕ) → n < length cs → f (get_or cs n 0) ≡ g (get_or cs n 0)) → flat_map f cs ≡ flat_map g cs
+flat_map_same f g [] h = refl
+flat_map_same f g (c ∷ cs) h =
+    let e : f c ≡ g c = h 0 (omega arith) in
+    let r : flat_map f cs ≡ flat_map g cs = flat_map_same f g cs (λ n l. h (suc n) (omega arith)) in
+    cc
 
 -- a part is a shorter one and what follows it
 pub joined : {X : Type 0} (xs : List X) (i j k : ℕ) → i ≤ j → j ≤ k → between i k xs ≡ between i j xs ++ between j k xs

@@ -128,7 +128,7 @@ fn make_work<'a, A: Actor>(
             ext: usize::from(*ext),
         }),
         Node::Inner(actor) => {
-            sdf_actor::laws::nets_are_wired::<A>();
+            sdf_answer::laws::plans_fit::<A>();
             let cycle = actor.cycle();
             let state = actor.start(alloc)?;
             let (taken, _) = make_blocks(
