@@ -14,12 +14,7 @@ use Rattle.sdf_actor.specs.Graphs.{rate_of}
 use Rattle.sdf_actor.specs.Laws.{PortsHaveChannels}
 use Rattle.sdf_answer.specs.Blocks.{at_ports}
 use Rattle.sdf_answer.specs.Sizes.{IsPlan, phase_of, in_all, out_all}
-
-at_none : (ds : List ℕ) (many c : ℕ) → ((n : ℕ) → n < length ds → get_or ds n 0 ≡ c → ⊥) → at_ports ds many c ≡ 0
-at_none [] many c none = refl
-at_none (d ∷ ds) many c none =
-    let apart : eqb d c ≡ false = ne_eqb d c (none 0 (omega arith)) in
-    ap (λ t. cond t many (at_ports ds many c)) apart ∙ at_none ds many c (λ n l. none (suc n) (omega arith))
+use Rattle.sdf_answer.proofs.Ports.{at_none}
 
 at_one : (ds : List ℕ) (n many c : ℕ) → n < length ds → get_or ds n 0 ≡ c → at_ports ds many c ≡ many
 at_one [] n many c l e = absurd (omega arith)

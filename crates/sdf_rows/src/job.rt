@@ -6,9 +6,9 @@ ghost use Rattle.sdf_actor.specs.Wires.{lists};
 ghost use Rattle.sdf_node.specs.Nodes.{CanStep, IsAt};
 ghost use Rattle.sdf_rows.specs.Jobs.{JobFits, HasFired};
 
-use crate::line::{Line, read_fronts};
 use sdf_actor::{Actor, Net, Node, Side};
-use sdf_answer::Sizes;
+use sdf_answer::blocks::read_fronts;
+use sdf_answer::{Queue, Sizes};
 use sdf_node::{ActorId, Gate, NodeState, puts, step};
 use std::thread;
 use std::thread::Threads;
@@ -50,7 +50,7 @@ fn fire_job<A: Actor, G: Gate>(
     net: &Net<A>,
     inputs: &[Vec<A::Token>],
     sizes: &Sizes,
-    lines: &[Line<A::Token>],
+    lines: &[Queue<A::Token>],
     job: &mut Job<A>,
     gate: &G,
 )
@@ -76,7 +76,7 @@ pub(crate) fn fire_jobs<R: Threads + Sync, A: Actor, G: Gate>(
     net: &Net<A>,
     inputs: &[Vec<A::Token>],
     sizes: &Sizes,
-    lines: &[Line<A::Token>],
+    lines: &[Queue<A::Token>],
     jobs: &mut [Job<A>],
     gate: &G,
 )

@@ -14,16 +14,16 @@ ghost use Rattle.sdf_rows.specs.Blocks.{IsOver};
 ghost use Rattle.sdf_answer.specs.Rows.{IsTableOf};
 
 use crate::collect::collect;
-use crate::line::Line;
 use crate::runs::{Course, run_blocks};
-use crate::setup::{make_jobs, make_lines, make_states};
+use crate::setup::{make_jobs, make_states};
 use crate::stage::Scene;
 use sdf_actor::{Actor, Net};
 use sdf_answer::inputs::{are_inputs, first_sample};
 use sdf_answer::laws::{histories_make_outputs, net_facts, nets_can_run, nets_have_periods};
 use sdf_answer::outputs::make_outputs;
+use sdf_answer::rooms::make_queues;
 use sdf_answer::sizes::samples_of_blocks;
-use sdf_answer::{Ran, RunFault, Sizes};
+use sdf_answer::{Queue, Ran, RunFault, Sizes};
 use sdf_node::{Gate, NodeState};
 use sdf_prec::Table;
 use sdf_sched::Period;
@@ -43,7 +43,7 @@ pub(crate) struct Plan<'a> {
 #[derive(Drop)]
 pub(crate) struct Fired<A: Actor> {
     pub(crate) states: Vec<NodeState<A::Token, A::State>>,
-    pub(crate) lines: Vec<Line<A::Token>>,
+    pub(crate) lines: Vec<Queue<A::Token>>,
 }
 
 /// How many columns a table has, where all its rows have as many.
@@ -87,7 +87,7 @@ pub(crate) fn fire<R: Threads + AllocGlobal + Sync, A: Actor, G: Gate>(
     let repetitions = plan.period.repetitions();
     let room = samples_of_blocks(plan.blocks, plan.j, net.samples_out());
     let mut states = make_states(alloc, net, room)?;
-    let mut lines = make_lines(alloc, net, repetitions, plan.j)?;
+    let mut lines = make_queues(alloc, net, repetitions, plan.j)?;
     let mut jobs = make_jobs(alloc, net, columns(plan.table), filler)?;
     let mut done = none_done(alloc, repetitions)?;
     let sizes = Sizes::new(alloc, net)?;

@@ -12,9 +12,9 @@ ghost use Rattle.sdf_rows.specs.Stands.{HaveBlocks, KeepBlocks, IsBetween, IsSce
 ghost use Rattle.sdf_rows.specs.Blocks.{IsRound, IsResting, block_after};
 
 use crate::job::Job;
-use crate::line::Line;
 use crate::stage::{Scene, run_row};
 use sdf_actor::Actor;
+use sdf_answer::Queue;
 use sdf_node::{Gate, NodeState};
 use sdf_prec::Table;
 use std::thread::Threads;
@@ -34,7 +34,7 @@ pub(crate) fn run_block<R: Threads + Sync, A: Actor, G: Gate>(
     course: &Course,
     jobs: &mut [Job<A>],
     states: &mut [NodeState<A::Token, A::State>],
-    lines: &mut [Line<A::Token>],
+    lines: &mut [Queue<A::Token>],
     done: &mut [u64],
     gate: &G,
 )
@@ -78,7 +78,7 @@ pub(crate) fn run_blocks<R: Threads + Sync, A: Actor, G: Gate>(
     blocks: u32,
     jobs: &mut [Job<A>],
     states: &mut [NodeState<A::Token, A::State>],
-    lines: &mut [Line<A::Token>],
+    lines: &mut [Queue<A::Token>],
     done: &mut [u64],
     gate: &G,
 )

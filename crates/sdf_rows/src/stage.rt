@@ -13,9 +13,9 @@ ghost use Rattle.sdf_rows.specs.Stage.{CanLoad, HasLoaded, AreLoaded, CanSettle,
 ghost use Rattle.sdf_rows.specs.Stands.{HaveBlocks, KeepBlocks, IsFilling, IsSettling, IsBetween, IsRow, IsScene};
 
 use crate::job::{Job, fire_jobs};
-use crate::line::{Line, put_each, skip_fronts};
 use sdf_actor::{Actor, Net, Side};
-use sdf_answer::Sizes;
+use sdf_answer::blocks::{put_block, skip_fronts};
+use sdf_answer::{Queue, Sizes};
 use sdf_node::{ActorId, Gate, NodeState, puts};
 use sdf_prec::Firing;
 use std::mem;
@@ -91,7 +91,7 @@ fn settle<A: Actor>(
     sizes: &Sizes,
     job: &mut Job<A>,
     state: &mut NodeState<A::Token, A::State>,
-    lines: &mut [Line<A::Token>],
+    lines: &mut [Queue<A::Token>],
 )
     requires { CanSettle A.steps net.now sizes.now job.old lines.old }
     ensures lines { HasSettled A.steps net.now sizes.now job.old lines.old lines.new }
@@ -105,7 +105,7 @@ fn settle<A: Actor>(
         lines,
     );
     let many = puts(net.node(job.actor), sized);
-    put_each(
+    put_block(
         net.channels_out(job.actor),
         sizes.on(Side::Output, sized),
         &job.put[..many],
@@ -143,7 +143,7 @@ fn settle_at<A: Actor>(
     scene: &Scene<A>,
     job: &mut Job<A>,
     states: &mut [NodeState<A::Token, A::State>],
-    lines: &mut [Line<A::Token>],
+    lines: &mut [Queue<A::Token>],
     done: &mut [u64],
 )
     requires can { CanSettle A.steps scene.now.net.now scene.now.sizes job.old lines.old }
@@ -166,7 +166,7 @@ pub(crate) fn settle_row<A: Actor>(
     scene: &Scene<A>,
     jobs: &mut [Job<A>],
     states: &mut [NodeState<A::Token, A::State>],
-    lines: &mut [Line<A::Token>],
+    lines: &mut [Queue<A::Token>],
     done: &mut [u64],
 )
     requires scene { IsScene A.steps scene.now.net.now scene.now.sizes }
@@ -191,7 +191,7 @@ pub(crate) fn fire_row<R: Threads + Sync, A: Actor, G: Gate>(
     scene: &Scene<A>,
     jobs: &mut [Job<A>],
     states: &mut [NodeState<A::Token, A::State>],
-    lines: &mut [Line<A::Token>],
+    lines: &mut [Queue<A::Token>],
     done: &mut [u64],
     gate: &G,
 )
@@ -216,7 +216,7 @@ pub(crate) fn run_row<R: Threads + Sync, A: Actor, G: Gate>(
     row: &[Option<Firing>],
     jobs: &mut [Job<A>],
     states: &mut [NodeState<A::Token, A::State>],
-    lines: &mut [Line<A::Token>],
+    lines: &mut [Queue<A::Token>],
     done: &mut [u64],
     gate: &G,
 )

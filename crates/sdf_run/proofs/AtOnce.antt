@@ -28,8 +28,7 @@ use Rattle.sdf_run.proofs.AtOnceWorks as work
 use Rattle.sdf_run.proofs.AtOnceWorks.{at_none, all_answers}
 use Rattle.sdf_run.proofs.Known.{Known, ins_all, into_sink}
 use Rattle.sdf_run.proofs.Longer.{GoesOn, goes_on}
-use Rattle.sdf_run.proofs.Parts.{take_on, none_of, one_of}
-use Rattle.sdf_run.proofs.Ports.{spread_none}
+use Rattle.sdf_run.proofs.Parts.{take_on, none_of, one_of, spread_none}
 use Rattle.sdf_run.proofs.Standing as standing
 use Rattle.sdf_run.proofs.Steady as steady
 use Rattle.sdf_run.proofs.Works.{none_added, work_other}

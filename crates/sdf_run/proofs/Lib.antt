@@ -1,4 +1,3 @@
-pub mod Ports
 pub mod Firing
 pub mod Known
 pub mod Standing

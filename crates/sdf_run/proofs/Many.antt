@@ -21,10 +21,10 @@ use Rattle.sdf_actor.specs.Nets.{Netlist, wiring, cycle_of, InputsReach, IsHisto
 use Rattle.sdf_run.specs.declared.work.Work.{Work}
 use Rattle.sdf_run.specs.declared.work.Work.TheVariants.{Source, Sink, Inner}
 use Rattle.sdf_answer.specs.Held.{Held}
-use Rattle.sdf_answer.specs.Blocks.{nothing, samples, room, at_ports, ArePorts}
+use Rattle.sdf_answer.specs.Blocks.{nothing, samples, room, at_ports, ArePorts, front}
 use Rattle.sdf_answer.specs.Moves.{FitsPorts}
 use Rattle.sdf_answer.specs.Sizes.{Rows, IsPlan, AreSizes, at_phase, in_all, out_all}
-use Rattle.sdf_run.specs.Firings.{front, made, phase_at, IsActor, IsFired}
+use Rattle.sdf_run.specs.Firings.{made, phase_at, IsActor, IsFired}
 use Rattle.sdf_run.specs.Many.{chained, front_at, dealt, GoesByMany, HasItsBlocks, Fit, HaveManyWorked, CanFireMany, AreManyFired}
 use Rattle.sdf_run.specs.Runs.{HasBlocks, IsWork, Stands}
 use Rattle.sdf_run.proofs.AtOnceWorks.{at_none, sum_of_equal}
@@ -32,8 +32,7 @@ use Rattle.sdf_run.proofs.BlocksTaken.{at_one, one_more, at_sum, at_zero, cut_mo
 use Rattle.sdf_run.proofs.Chained.{chained_none, chained_part}
 use Rattle.sdf_run.proofs.Known.{Known, ins_all}
 use Rattle.sdf_run.proofs.Longer.{reaches}
-use Rattle.sdf_run.proofs.Parts.{flat_map_same}
-use Rattle.sdf_run.proofs.Ports.{spread_none}
+use Rattle.sdf_run.proofs.Parts.{flat_map_same, spread_none}
 use Rattle.sdf_run.proofs.Standing as standing
 use Rattle.sdf_run.proofs.Steady as steady
 

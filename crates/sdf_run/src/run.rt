@@ -8,10 +8,9 @@ ghost use Rattle.sdf_run.specs.Runs.{FiringLaws, CanFireAt, IsFiredAt};
 ghost use Rattle.sdf_run.specs.Sweeps.{IsSwept, MayFire, HasRoom, Keeps, IsMoved, IsLeft, AreHeld};
 
 use crate::block::{blocks_held, hold_blocks};
-use crate::queue::Queue;
 use crate::work::{Ports, Work};
 use sdf_actor::{Actor, Net, Side};
-use sdf_answer::Sizes;
+use sdf_answer::{Queue, Sizes};
 
 /// What a run holds. Its net, inputs, sizes, period and length stay as they are.
 #[derive(Drop)]
