@@ -31,6 +31,7 @@ pub fn net_facts<A: Actor>(net: &Net<A>)
     ensures phases { (a : ℕ) → a < length net.now.nodes → 0 < cycle_of A.steps (node net.now a) }
     ensures sinks { HasSinks net.now }
 {
+    periods_are_whole::<A>();
     let _channels = net.graph().channels();
     let _repetitions = net.repetitions();
 }

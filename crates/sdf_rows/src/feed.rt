@@ -97,7 +97,7 @@ pub fn feed_rows<R: Threads + AllocGlobal + Sync, A: Actor, G: Gate>(
         (λ fed. HasInputs net.now q (blocks * j) (lists inputs.now) × HasRun A.steps net.now (lists inputs.now) (periods_of q (blocks * j)) (lists fed.0.outputs.items) fed.1 × (fed.0.rounds ≡ blocks * length table.now.rows))
         (IsRunFault net.now q (blocks * j) (lists inputs.now)) }
 {
-    sdf_prec::laws::orders_are_passes();
+    sdf_prec::laws::tables_count();
     let least = samples_of_blocks(blocks, j, net.samples_in());
     if !are_inputs(inputs, net.inputs(), least) {
         return Err(RunFault::InputLength);
