@@ -1,6 +1,6 @@
 //! A run by rows that another one goes on from.
 
-ghost use Rattle.std.specs.Prelude.{◌≡◌, ◌*◌, ◌<◌, ℕ, List, length, map, MatchResult, IfOk, None, slice_index_or};
+ghost use Rattle.std.specs.Prelude.{◌≡◌, ◌*◌, ◌<◌, ℕ, List, length, MatchResult, IfOk, None, slice_index_or};
 ghost use Rattle.sdf_graph.specs.Rates.{rates};
 ghost use Rattle.sdf_sched.specs.Period.{IsPeriodOf};
 ghost use Rattle.sdf_actor.specs.Graphs.{graph_of};
@@ -71,7 +71,7 @@ fn fill<R: Threads + AllocGlobal + Sync, A: Actor, G: Gate>(
             let mut fired = fire(rt, net, plan, inputs, filler, gate)?;
             let rest = Rest {
                 states: kept_by(alloc, net, &fired.states)?,
-                held: held(alloc, &fired.lines)?,
+                held: held(alloc, &fired.queues)?,
             };
             collect(net, &mut fired.states, &mut outputs);
             Ok((outputs, rest))

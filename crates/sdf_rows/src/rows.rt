@@ -43,7 +43,7 @@ pub(crate) struct Plan<'a> {
 #[derive(Drop)]
 pub(crate) struct Fired<A: Actor> {
     pub(crate) states: Vec<NodeState<A::Token, A::State>>,
-    pub(crate) lines: Vec<Queue<A::Token>>,
+    pub(crate) queues: Vec<Queue<A::Token>>,
 }
 
 /// How many columns a table has, where all its rows have as many.
@@ -76,7 +76,7 @@ pub(crate) fn fire<R: Threads + AllocGlobal + Sync, A: Actor, G: Gate>(
     requires period { IsPeriodOf (rates (graph_of A.steps net.now)) plan.now.period.now }
     requires table { IsTableOf (rates (graph_of A.steps net.now)) plan.now.period.now.repetitions plan.now.j plan.now.table.now }
     requires inputs { HasInputs net.now plan.now.period.now.repetitions (plan.now.blocks * plan.now.j) (lists inputs.now) }
-    ensures { IfOk result (λ run. IsOver A.steps net.now (lists inputs.now) plan.now.period.now.repetitions plan.now.j plan.now.blocks run.states.items run.lines.items) }
+    ensures { IfOk result (λ run. IsOver A.steps net.now (lists inputs.now) plan.now.period.now.repetitions plan.now.j plan.now.blocks run.states.items run.queues.items) }
 {
     net_facts(net);
     nets_have_periods(net);
@@ -87,7 +87,7 @@ pub(crate) fn fire<R: Threads + AllocGlobal + Sync, A: Actor, G: Gate>(
     let repetitions = plan.period.repetitions();
     let room = samples_of_blocks(plan.blocks, plan.j, net.samples_out());
     let mut states = make_states(alloc, net, room)?;
-    let mut lines = make_queues(alloc, net, repetitions, plan.j)?;
+    let mut queues = make_queues(alloc, net, repetitions, plan.j)?;
     let mut jobs = make_jobs(alloc, net, columns(plan.table), filler)?;
     let mut done = none_done(alloc, repetitions)?;
     let sizes = Sizes::new(alloc, net)?;
@@ -104,11 +104,11 @@ pub(crate) fn fire<R: Threads + AllocGlobal + Sync, A: Actor, G: Gate>(
         plan.blocks,
         &mut jobs,
         &mut states,
-        &mut lines,
+        &mut queues,
         &mut done,
         gate,
     );
-    Ok(Fired { states, lines })
+    Ok(Fired { states, queues })
 }
 
 /// The output lists of a run. Without a sample there are no blocks, and nothing fires.

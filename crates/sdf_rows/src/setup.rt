@@ -1,10 +1,7 @@
 //! What a run by rows holds before its first firing.
 
-ghost use Rattle.std.specs.Prelude.{◌≡◌, ◌+◌, ◌*◌, ◌≤◌, ◌<◌, ℕ, length, slice_index, slice_index_or, vec_len, IfOk};
-ghost use Rattle.sdf_graph.specs.Rates.{rates};
-ghost use Rattle.sdf_actor.specs.Graphs.{graph_of};
-ghost use Rattle.sdf_actor.specs.Nets.{node, wire};
-ghost use Rattle.sdf_answer.specs.Blocks.{nothing};
+ghost use Rattle.std.specs.Prelude.{◌≡◌, ◌<◌, ℕ, length, slice_index_or, vec_len, IfOk};
+ghost use Rattle.sdf_actor.specs.Nets.{node};
 ghost use Rattle.sdf_rows.specs.Setup.{HasBegun, IsMost, HasPlaces};
 
 use crate::job::Job;

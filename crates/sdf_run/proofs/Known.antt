@@ -1,5 +1,5 @@
 -- What is known of a net whose nodes fire.
-use Rattle.std.proofs.Common.{◌≡◌, ℕ, ◌<◌, [], ◌∷◌, List, length, map, get_or, subst, ap, ◌∙◌, arith}
+use Rattle.std.proofs.Common.{◌≡◌, ℕ, ◌<◌, [], ◌∷◌, length, map, get_or, subst, ap, ◌∙◌, arith}
 use Rattle.std.specs.List.{range_with_len}
 use Rattle.std.proofs.lemmas.List.{get_or_default}
 use Rattle.sdf_actor.specs.declared.node.Node.TheVariants.{Sink}

@@ -1,6 +1,6 @@
 -- One firing of an actor by copies: when it can be done, and what it does.
-use Rattle.std.specs.Prelude.{◌≡◌, ℕ, ◌+◌, ◌-◌, ◌%◌, ◌≤◌, ◌<◌, ◌==◌, cond, List, [], ◌++◌, length, take, drop, slice_index, vec_capacity}
-use Rattle.std.specs.List.{flat_map, sum_by}
+use Rattle.std.specs.Prelude.{◌≡◌, ℕ, ◌+◌, ◌-◌, ◌%◌, ◌≤◌, ◌<◌, ◌==◌, cond, List, [], ◌++◌, length, drop, slice_index, vec_capacity}
+use Rattle.std.specs.List.{sum_by}
 use Rattle.sdf_actor.specs.Steps.{Steps, total_in, total_out}
 use Rattle.sdf_actor.specs.Histories.{spread}
 use Rattle.sdf_run.specs.declared.work.Work.{Work}

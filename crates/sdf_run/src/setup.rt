@@ -1,11 +1,8 @@
 //! What a run holds before its first firing.
 
-ghost use Rattle.std.specs.Prelude.{◌≡◌, ◌+◌, ◌*◌, ◌≤◌, ◌<◌, ℕ, [], length, slice_index, slice_index_or, vec_len, IfOk};
+ghost use Rattle.std.specs.Prelude.{◌≡◌, ◌+◌, ◌*◌, ◌≤◌, ◌<◌, ℕ, length, slice_index, slice_index_or, vec_len, IfOk};
 ghost use Rattle.std.specs.List.{sum_by};
-ghost use Rattle.sdf_graph.specs.Rates.{rates};
-ghost use Rattle.sdf_actor.specs.Graphs.{graph_of};
-ghost use Rattle.sdf_actor.specs.Nets.{node, wire, IsNet};
-ghost use Rattle.sdf_answer.specs.Blocks.{nothing};
+ghost use Rattle.sdf_actor.specs.Nets.{node, IsNet};
 ghost use Rattle.sdf_run.specs.Runs.{BeginsWork};
 ghost use Rattle.sdf_answer.specs.Sizes.{AreSizes, at_phase, rows_on};
 

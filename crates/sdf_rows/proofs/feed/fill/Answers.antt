@@ -31,10 +31,10 @@ returns-in_ok-held-in-Some g c =
     let whole = ap (λ m. take m (made ++ drop (length made) items)) long ∙ take-append_seam made (drop (length made) items) in
     let collected = subst (λ w. AreCollected n (length n.nodes) w made) c.deref_mut.ensures.value c.collect.ensures.lists in
     subst (λ v. HasRun s n (lists c.args.inputs.now) (periods_of q (p.blocks * p.j)) (lists v) rest) (sym whole)
-    (row_run s n (lists c.args.inputs.now) q p.j p.blocks over.0 run.states.items run.lines.items over.1 c.histories_make_runs.ensures.runs c.actors_keep_states.ensures c.net_facts.ensures.net
+    (row_run s n (lists c.args.inputs.now) q p.j p.blocks over.0 run.states.items run.queues.items over.1 c.histories_make_runs.ensures.runs c.actors_keep_states.ensures c.net_facts.ensures.net
     made collected count rest c.in_ok-kept_by-in-Some.ensures.all
     (λ a w l. c.in_ok-kept_by-in-Some.ensures.each a w l ∙ ap (λ xs. kept_of (node n a) (get_or xs a w)) c.deref.ensures.value)
-    (c.in_ok-held-in-Some.ensures ∙ ap (map (λ line. line.samples)) c.deref-in-Some.ensures.value))
+    (c.in_ok-held-in-Some.ensures ∙ ap (map (λ queue. queue.samples)) c.deref-in-Some.ensures.value))
 
 pub returns-in_ok-first_rest-in-None : goal.returns-in_ok-first_rest-in-None
 returns-in_ok-first_rest-in-None g c =
