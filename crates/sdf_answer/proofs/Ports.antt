@@ -1,12 +1,12 @@
 -- A port more, taken from or put on.
-use Rattle.std.proofs.Common.{◌≡◌, ℕ, suc, ◌+◌, ◌<◌, List, [], ◌∷◌, ◌++◌, length, get_or, set, take, drop, cond, eqb, Bool, true, false, refl, sym, ap, ◌∙◌, subst, inl, inr, ◌⊎◌, arith, add-one}
+use Rattle.std.proofs.Common.{◌≡◌, ℕ, suc, ◌+◌, ◌≤◌, ◌<◌, List, [], ◌∷◌, ◌++◌, length, get_or, set, take, drop, cond, eqb, Bool, true, false, refl, sym, ap, ◌∙◌, subst, inl, inr, ◌⊎◌, arith, add-one}
 use Rattle.std.proofs.lemmas.List.{get_or-set_same, get_or-set_other, get_or_default, get_or-take, length-take-le, take_more, flat_map_more, append-nil, get_or-drop, length-drop}
 use Rattle.std.proofs.Math.Seq.{drop-cons}
 use Rattle.std.specs.List.{flat_map}
 use Rattle.std.proofs.lemmas.Bool.{cases_eq, eq-eqb, ne_eqb}
 use Rattle.sdf_actor.specs.Histories.{spread}
 use Rattle.sdf_answer.specs.Held.{Held}
-use Rattle.sdf_answer.specs.Blocks.{nothing, samples, room, at_ports, ArePorts}
+use Rattle.sdf_answer.specs.Blocks.{nothing, samples, room, at_ports, ArePorts, HoldBlocks}
 
 pub at_none : (ds : List ℕ) (many c : ℕ) → ((n : ℕ) → n < length ds → get_or ds n 0 ≡ c → ⊥) → at_ports ds many c ≡ 0
 at_none [] many c none = refl
@@ -34,11 +34,11 @@ spread_none size (d ∷ ds) b c none =
 
 module _ (ports sizes : List ℕ) (channels : ℕ) (are : ArePorts ports sizes channels) where
   -- the ports before one are other channels
-  pub earlier : (i n : ℕ) → i < length ports → n < i → get_or ports n 0 ≡ get_or ports i 0 → ⊥
+  earlier : (i n : ℕ) → i < length ports → n < i → get_or ports n 0 ≡ get_or ports i 0 → ⊥
   earlier i n l h e = let same : n ≡ i = are.once n i (omega arith) l e in omega arith
 
   -- a port's channel is whole until its turn
-  pub fresh : (i : ℕ) → i < length ports → (many : ℕ) → at_ports (take i ports) many (get_or ports i 0) ≡ 0
+  fresh : (i : ℕ) → i < length ports → (many : ℕ) → at_ports (take i ports) many (get_or ports i 0) ≡ 0
   fresh i l many =
       at_none (take i ports) many (get_or ports i 0)
       (λ n h e. let short : length (take i ports) ≡ i = length-take-le i ports (omega arith) in
@@ -67,6 +67,16 @@ module _ (ports sizes : List ℕ) (channels : ℕ) (are : ArePorts ports sizes c
             (ap (λ (y : Held T). y.room) set_here ∙ (stays ∙ (sym same_room ∙ before (get_or ports i 0) (are.known i l))))
         go (inr ne) = ap (λ (y : Held T). y.room) (set_other c ne) ∙ before c k
 
+    -- a port's queue is whole until its turn
+    pub whole : ((c : ℕ) → c < channels → samples now c ≡ drop (at_ports (take i ports) (get_or sizes c 0) c) (samples was c)) → (get_or now (get_or ports i 0) x).samples ≡ samples was (get_or ports i 0)
+    whole before =
+        sym same_x ∙ (before (get_or ports i 0) (are.known i l) ∙ ap (λ n. drop n (samples was (get_or ports i 0))) (fresh i l (get_or sizes (get_or ports i 0) 0)))
+
+    -- and so holds what is taken from it
+    pub holds : HoldBlocks ports sizes was → ((c : ℕ) → c < channels → samples now c ≡ drop (at_ports (take i ports) (get_or sizes c 0) c) (samples was c)) →
+        get_or sizes (get_or ports i 0) 0 ≤ length (get_or now (get_or ports i 0) x).samples
+    holds held before = omega (arith, held i l, ap length (whole before))
+
     -- taking from one port more
     pub taken_more : q.samples ≡ drop (get_or sizes (get_or ports i 0) 0) (get_or now (get_or ports i 0) x).samples →
         ((c : ℕ) → c < channels → samples now c ≡ drop (at_ports (take i ports) (get_or sizes c 0) c) (samples was c)) →
@@ -78,9 +88,8 @@ module _ (ports sizes : List ℕ) (channels : ℕ) (are : ArePorts ports sizes c
         go (inl e) =
             let d : ℕ = get_or ports i 0 in
             let size : ℕ = get_or sizes d 0 in
-            let start : samples now d ≡ samples was d = before d (are.known i l) ∙ ap (λ n. drop n (samples was d)) (fresh i l size) in
             subst (λ c. samples (set now d q) c ≡ drop (at_ports (take i ports ++ d ∷ []) (get_or sizes c 0) c) (samples was c)) e
-            (ap (λ (y : Held T). y.samples) set_here ∙ (moved ∙ (ap (drop size) (sym same_x ∙ start) ∙ ap (λ n. drop n (samples was d)) (sym (push_same (take i ports) size d)))))
+            (ap (λ (y : Held T). y.samples) set_here ∙ (moved ∙ (ap (drop size) (whole before) ∙ ap (λ n. drop n (samples was d)) (sym (push_same (take i ports) size d)))))
         go (inr ne) =
             ap (λ (y : Held T). y.samples) (set_other c ne) ∙
             (before c k ∙ ap (λ n. drop n (samples was c)) (sym (push_other (take i ports) (get_or sizes c 0) (get_or ports i 0) c ne)))
