@@ -1,54 +1,33 @@
 -- Each node of a net has phases, and each firing moves the sizes of its phase.
-use Rattle.std.proofs.Common.{◌≡◌, ℕ, ◌+◌, ◌%◌, ◌≤◌, ◌<◌, List, length, map, get_or, refl, sym, ap, ◌∙◌, subst, inl, inr, ◌⊎◌, arith, add-one, Option, Some}
-use Rattle.std.specs.Option.{option_map_or}
+use Rattle.std.proofs.Common.{◌≡◌, ℕ, zero, suc, ◌+◌, ◌*◌, ◌%◌, ◌≤◌, ◌<◌, List, length, map, get_or, refl, sym, ap, ◌∙◌, arith, add-one}
 use Rattle.std.proofs.Math.Nat.{mod-mod}
 use Rattle.std.proofs.lemmas.Nat.{mod_below}
-use Rattle.std.proofs.lemmas.Bool.{cases_eq}
 use Rattle.std.proofs.lemmas.List.{get_or-map, length-map}
 use Rattle.std.proofs.lemmas.List.FromFn.{length-map-range_with_len}
-use Rattle.sdf_graph.specs.Rates.{Shape, Edge, IsShape, IsAlike, IsReached, start, along, back, rates, rate_at, sum_to, channel, no_channel}
-use Rattle.sdf_actor.specs.declared.node.Node.{Node}
-use Rattle.sdf_actor.specs.declared.node.Node.TheVariants.{Source, Sink, Inner}
+use Rattle.sdf_graph.specs.Periods.{Divides}
+use Rattle.sdf_graph.specs.Rates.{Edge, IsShape, IsAlike, rates, rate_at, sum_to, channel, no_channel}
 use Rattle.sdf_actor.specs.declared.sides.Side.TheVariants.{Input, Output}
-use Rattle.sdf_actor.specs.declared.sides.Lists.TheVariants.{Outputs}
 use Rattle.sdf_actor.specs.Steps.{Steps}
-use Rattle.sdf_actor.specs.Nets.{Netlist, node, wire, no_wire, wiring, cycle_of}
+use Rattle.sdf_actor.specs.Nets.{Netlist, node, wire, no_wire, wiring, cycle_of, IsNet}
 use Rattle.sdf_actor.specs.Graphs.{graph_of, channel_of, rate_of}
-use Rattle.sdf_actor.specs.Sides.{list_of}
-use Rattle.sdf_actor.specs.NetFaults.{HasLists}
+use Rattle.sdf_actor.specs.GoingOn.{PeriodsAreWhole}
+use Rattle.sdf_actor.specs.NetFaults.{IsAccepted}
 use Rattle.sdf_answer.specs.Sizes.{AreSizes, at_phase, phase_of}
 
-abbrev count : Option ℕ → ℕ
-count o = option_map_or (λ e. e + 1) o 0
-
--- a channel ends at the actor
-abbrev Touches : Shape → ℕ → Type 0
-Touches g b = (c : ℕ) × (c < length g.channels) × (((channel g c).from ≡ b) ⊎ ((channel g c).to ≡ b))
-
-touched : (g : Shape) (b : ℕ) → IsReached g b → (0 ≡ b) ⊎ Touches g b
-touched g _ start = inl refl
-touched g _ (along c h r) = inr (c, h, inr refl)
-touched g _ (back c h r) = inr (c, h, inl refl)
-
--- one ends at actor 0, where that is not alone
-first_touched : (g : Shape) (b : ℕ) → IsReached g b → (0 ≡ b → ⊥) → Touches g 0
-first_touched g _ start ne = absurd (ne refl)
-first_touched g _ (along c h r) ne = go (cases_eq 0 (channel g c).from) (first_touched g (channel g c).from r)
+-- each node has phases: a period is whole cycles of it, and some
+pub phases : {A S T : Type 0} (s : Steps A S T) → PeriodsAreWhole s → (n : Netlist A T) (q : List ℕ) → IsNet s n → IsShape (graph_of s n) → IsAlike (rates (graph_of s n)) (wiring s n).rates → IsAccepted s n q →
+    (a : ℕ) → a < length n.nodes → 0 < cycle_of s (node n a)
+phases s whole n q good shape alike accepted a l = go (cycle_of s (node n a)) ((whole n q 1 good shape alike accepted).cycles a l)
   where
-    go : (0 ≡ (channel g c).from) ⊎ (0 ≡ (channel g c).from → ⊥) → ((0 ≡ (channel g c).from → ⊥) → Touches g 0) → Touches g 0
-    go (inl e) on = (c, h, inl (sym e))
-    go (inr f) on = on f
-first_touched g _ (back c h r) ne = go (cases_eq 0 (channel g c).to) (first_touched g (channel g c).to r)
-  where
-    go : (0 ≡ (channel g c).to) ⊎ (0 ≡ (channel g c).to → ⊥) → ((0 ≡ (channel g c).to → ⊥) → Touches g 0) → Touches g 0
-    go (inl e) on = (c, h, inr (sym e))
-    go (inr f) on = on f
+    go : (m : ℕ) → Divides m (1 * get_or q a 0) → 0 < m
+    go zero cycles = let none : cycles.0 * 0 ≡ 0 = omega arith in absurd (omega (arith, cycles.1, accepted.period.is.positive a l))
+    go (suc m) cycles = omega arith
 
 module _ {A S T : Type 0} (s : Steps A S T) (n : Netlist A T) where
   wires_all : length (graph_of s n).channels ≡ length n.wires
   wires_all = length-map n.wires (channel_of s n.nodes)
 
-  pub channel_is : (c : ℕ) → c < length n.wires → channel (graph_of s n) c ≡ channel_of s n.nodes (wire n c)
+  channel_is : (c : ℕ) → c < length n.wires → channel (graph_of s n) c ≡ channel_of s n.nodes (wire n c)
   channel_is c l = get_or-map (channel_of s n.nodes) n.wires c no_wire no_channel l
 
   put_long : (c : ℕ) → c < length n.wires → length (channel (graph_of s n) c).put ≡ cycle_of s (node n (wire n c).from.0)
@@ -56,38 +35,6 @@ module _ {A S T : Type 0} (s : Steps A S T) (n : Netlist A T) where
 
   take_long : (c : ℕ) → c < length n.wires → length (channel (graph_of s n) c).take ≡ cycle_of s (node n (wire n c).to.0)
   take_long c l = ap (λ (e : Edge). length e.take) (channel_is c l) ∙ length-map-range_with_len (rate_of s Input (node n (wire n c).to.0) (wire n c).to.1) 0 (cycle_of s (node n (wire n c).to.0))
-
-  -- a node at a channel has phases
-  phases_at : IsShape (graph_of s n) → (a : ℕ) → Touches (graph_of s n) a → 0 < cycle_of s (node n a)
-  phases_at shape a (c, h, inl e) =
-      let l : c < length n.wires = omega (arith, wires_all, h) in
-      let own : (wire n c).from.0 ≡ a = sym (ap (λ (x : Edge). x.from) (channel_is c l)) ∙ e in
-      let is = shape.put c h in
-      subst (λ b. 0 < cycle_of s (node n b)) own (omega (arith, put_long c l, is.all, is.some))
-  phases_at shape a (c, h, inr e) =
-      let l : c < length n.wires = omega (arith, wires_all, h) in
-      let own : (wire n c).to.0 ≡ a = sym (ap (λ (x : Edge). x.to) (channel_is c l)) ∙ e in
-      let is = shape.take c h in
-      subst (λ b. 0 < cycle_of s (node n b)) own (omega (arith, take_long c l, is.all, is.some))
-
-  -- each node has
-  pub phases : IsShape (graph_of s n) → HasLists n.nodes → (a : ℕ) → a < length n.nodes → 0 < cycle_of s (node n a)
-  phases shape has a known = go (node n a) refl
-    where
-      go : (x : Node A) → node n a ≡ x → 0 < cycle_of s x
-      go (Source ext block) is = omega arith
-      go (Sink ext block) is = omega arith
-      go (Inner x) is = subst (λ y. 0 < cycle_of s y) is (phases_at shape a (at (touched (graph_of s n) a (shape.connected a known))))
-        where
-          at : (0 ≡ a) ⊎ Touches (graph_of s n) a → Touches (graph_of s n) a
-          at (inr here) = here
-          at (inl e) =
-              let sink = has.outputs 0 has.output in
-              let other : 0 ≡ sink.0 → ⊥ = λ f. apart (sym (ap (λ b. list_of Outputs (node n b)) (sym e ∙ f) ∙ sink.2) ∙ ap (list_of Outputs) is) in
-              subst (Touches (graph_of s n)) e (first_touched (graph_of s n) sink.0 (shape.connected sink.0 sink.1) other)
-            where
-              apart : Some 0 ≡ list_of Outputs (Inner x) → ⊥
-              apart same = let none : count (Some 0) ≡ 0 = ap count same in absurd (omega (arith, none))
 
   -- the rates of a firing are those of its phase
   turn : (cycle : List ℕ) (many i : ℕ) → length cycle ≡ many → rate_at cycle i ≡ rate_at cycle (i % many)

@@ -5,6 +5,8 @@ mod Sinks
 mod Histories
 mod GoingOn
 mod Cycles
+mod Ports
+mod Buffers
 mod Routes
 mod PortRows
 mod Moves

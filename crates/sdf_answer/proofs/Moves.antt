@@ -1,7 +1,7 @@
 -- A firing takes what stands on the channels from one history to the next.
 use Rattle.std.proofs.Common.{◌≡◌, ℕ, zero, suc, ◌+◌, ◌-◌, ◌≤◌, ◌<◌, List, [], ◌∷◌, ◌++◌, length, get_or, take, drop, cond, eqb, refl, sym, ap, ◌∙◌, subst, inl, inr, ◌⊎◌, arith, add-one}
 use Rattle.std.specs.List.{between, flat_map}
-use Rattle.std.proofs.lemmas.List.{drop-append-le, drop-drop, take_at, take-take, length_push}
+use Rattle.std.proofs.lemmas.List.{drop-append-le, drop-drop, take_at, take-take, length_push, get_or_default}
 use Rattle.std.proofs.lemmas.Bool.{cases_eq, eq-eqb, ne_eqb}
 use Rattle.std.proofs.lemmas.Slice.{between_is}
 use Rattle.sdf_graph.specs.Rates.{Rates}
@@ -11,10 +11,10 @@ use Rattle.sdf_actor.specs.Histories.{Wiring, taken, taken_before, IsWired, spre
 use Rattle.sdf_actor.specs.Nets.{Netlist, wiring, answers, IsNet, InputsReach, IsHistoryOf}
 use Rattle.sdf_actor.specs.Laws.{HistoryGrowsByFiring, NetsAreWired, PortsHaveChannels, TakenStays, after_firing}
 use Rattle.sdf_answer.specs.Blocks.{at_ports}
-use Rattle.sdf_answer.specs.Laws.{BlocksAreCounted, PlansFit, BlocksStand, FiringsMoveOn}
+use Rattle.sdf_answer.specs.Laws.{BlocksAreCounted, NodesTakeTheirs, PlansFit, BlocksStand, FiringsMoveOn}
 use Rattle.sdf_answer.specs.Moves.{IsLeft, MovesOn}
 use Rattle.sdf_answer.specs.Sizes.{IsPlan}
-use Rattle.sdf_answer.proofs.Routes.{spread_same, ins_once, at_ins, sum_taken, sum_put}
+use Rattle.sdf_answer.proofs.Routes.{spread_same, ins_once, ins_all, at_ins, sum_taken, sum_put}
 
 -- pieces that are the same, joined
 flat_map_same : {X : Type 0} (f g : ℕ → List X) (cs : List ℕ) → ((n : ℕ) → n < length cs → f (get_or cs n 0) ≡ g (get_or cs n 0)) → flat_map f cs ≡ flat_map g cs
@@ -49,6 +49,12 @@ taken_kept f V W a i on =
     between_is (V c) at end ∙ (ap (λ xs. drop at (take end xs)) is.0 ∙ (ap (drop at) (take-take end (length (V c)) (W c) is.1) ∙ sym (between_is (W c) at end))))
 
 module _ {A S T : Type 0} (s : Steps A S T) (wired : NetsAreWired s) (ports : PortsHaveChannels s) where
+  pub nodes_take_theirs : NodesTakeTheirs s
+  nodes_take_theirs n a c good known l = (
+    λ e. let at = ins_all s ports n good a c known l e in (at.0, at.1, get_or_default ((wiring s n).ins a) at.0 c 0 at.1 ∙ at.2),
+    λ many. at_ins s ports n good a many c known l,
+  )
+
   pub plans_fit : PlansFit s
   plans_fit n a i takes puts good known plan = record {
     ins_are = record { known = λ p l. ((wired n good).ins_are a p known l).0; sized = plan.takes_all; once = λ p q. ins_once s ports n good a p q known };

@@ -14,12 +14,7 @@ use Rattle.sdf_actor.specs.Graphs.{rate_of}
 use Rattle.sdf_actor.specs.Laws.{PortsHaveChannels}
 use Rattle.sdf_answer.specs.Blocks.{at_ports}
 use Rattle.sdf_answer.specs.Sizes.{IsPlan, phase_of, in_all, out_all}
-
-at_none : (ds : List ℕ) (many c : ℕ) → ((n : ℕ) → n < length ds → get_or ds n 0 ≡ c → ⊥) → at_ports ds many c ≡ 0
-at_none [] many c none = refl
-at_none (d ∷ ds) many c none =
-    let apart : eqb d c ≡ false = ne_eqb d c (none 0 (omega arith)) in
-    ap (λ t. cond t many (at_ports ds many c)) apart ∙ at_none ds many c (λ n l. none (suc n) (omega arith))
+use Rattle.sdf_answer.proofs.Ports.{at_none}
 
 at_one : (ds : List ℕ) (n many c : ℕ) → n < length ds → get_or ds n 0 ≡ c → at_ports ds many c ≡ many
 at_one [] n many c l e = absurd (omega arith)
@@ -73,7 +68,7 @@ module _ {A S T : Type 0} (s : Steps A S T) (ports : PortsHaveChannels s) (n : N
       sym ((ports n a i good l).0 hi).1 ∙ (ap (λ c. (wire n c).to.1) same ∙ ((ports n a j good l).0 hj).1)
 
   -- a channel that leads to a node is at one of its ports
-  ins_all : (a c : ℕ) → a < length n.nodes → c < length n.wires → (wire n c).to.0 ≡ a → (i : ℕ) × (i < length ((wiring s n).ins a)) × (get_or ((wiring s n).ins a) i 0 ≡ c)
+  pub ins_all : (a c : ℕ) → a < length n.nodes → c < length n.wires → (wire n c).to.0 ≡ a → (i : ℕ) × (i < length ((wiring s n).ins a)) × (get_or ((wiring s n).ins a) i 0 ≡ c)
   ins_all a c known l e =
       let p : ℕ = (wire n c).to.1 in
       let in_range = good.to_in c l in

@@ -1,5 +1,6 @@
 -- Blocks taken from queues and put on queues, a part for each port.
-use Rattle.std.specs.Prelude.{◌≡◌, ℕ, ◌≤◌, ◌<◌, ◌+◌, ◌==◌, cond, List, [], ◌∷◌, length, slice_index, slice_index_or}
+use Rattle.std.specs.Prelude.{◌≡◌, ℕ, ◌≤◌, ◌<◌, ◌+◌, ◌==◌, cond, List, [], ◌∷◌, length, take, slice_index, slice_index_or}
+use Rattle.std.specs.List.{flat_map}
 use Rattle.sdf_answer.specs.Held.{Held}
 
 abbrev pub nothing : {T : Type 0} → Held T
@@ -11,6 +12,10 @@ samples qs c = (slice_index_or qs c nothing).samples
 
 abbrev pub room : {T : Type 0} → List (Held T) → ℕ → ℕ
 room qs c = (slice_index_or qs c nothing).room
+
+-- the block that stands at the fronts of the queues of some channels
+abbrev pub front : {T : Type 0} → List ℕ → List ℕ → List (Held T) → List T
+front sizes ports qs = flat_map (λ c. take (slice_index sizes c) (samples qs c)) ports
 
 -- many, where the channel is one of these
 abbrev pub at_ports : List ℕ → ℕ → ℕ → ℕ

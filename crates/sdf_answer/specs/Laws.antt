@@ -1,6 +1,6 @@
 -- Statements of the laws.
-use Rattle.std.specs.Prelude.{◌≡◌, ◌≢◌, ℕ, ◌+◌, ◌*◌, ◌≤◌, ◌<◌, List, [], length, map, take, slice_index_or}
-use Rattle.std.specs.List.{flat_map}
+use Rattle.std.specs.Prelude.{◌≡◌, ◌≢◌, ℕ, ◌+◌, ◌*◌, ◌≤◌, ◌<◌, ◌==◌, cond, List, [], length, map, take, slice_index_or}
+use Rattle.std.specs.List.{flat_map, Contains}
 use Rattle.sdf_graph.specs.Sequences.{IsEnabled}
 use Rattle.sdf_sched.specs.Period.{Schedule}
 use Rattle.sdf_actor.specs.declared.node.Node.TheVariants.{Sink}
@@ -10,6 +10,7 @@ use Rattle.sdf_actor.specs.Nets.{Netlist, node, wiring, arrived, IsNet, InputsRe
 use Rattle.sdf_actor.specs.Sides.{list_count, period_samples}
 use Rattle.sdf_actor.specs.Steps.{Steps}
 use Rattle.sdf_answer.specs.Answer.{HasInputs, AreOutputs, periods_of}
+use Rattle.sdf_answer.specs.Blocks.{at_ports}
 use Rattle.sdf_answer.specs.Periods.{HasPeriod, CanRun}
 use Rattle.sdf_answer.specs.Moves.{FitsPorts, IsLeft, front_of, MovesOn}
 use Rattle.sdf_answer.specs.Sizes.{IsPlan}
@@ -63,6 +64,13 @@ NothingMakesNothing {A} {S} {T} s =
 -- a node takes one block in each firing
 abbrev pub BlocksAreCounted : {A S T : Type 0} → Steps A S T → Type 0
 BlocksAreCounted {A} {S} {T} s = (n : Netlist A T) (V : ℕ → List T) (a i : ℕ) → length (taken_before (wiring s n) V a i) ≡ i
+
+-- a node takes from the channels that lead to it, each at one of its ports, and from no other
+abbrev pub NodesTakeTheirs : {A S T : Type 0} → Steps A S T → Type 0
+NodesTakeTheirs {A} {S} {T} s =
+    (n : Netlist A T) (a c : ℕ) → IsNet s n → a < length n.nodes → c < length n.wires →
+    ((wiring s n).rates.target c ≡ a → Contains ((wiring s n).ins a) c) ×
+    ((many : ℕ) → at_ports ((wiring s n).ins a) many c ≡ cond ((wiring s n).rates.target c == a) many 0)
 
 -- the sizes of a firing fit its node's ports
 abbrev pub PlansFit : {A S T : Type 0} → Steps A S T → Type 0

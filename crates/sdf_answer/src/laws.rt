@@ -11,7 +11,7 @@ ghost use Rattle.sdf_answer.specs.Feeds.{PeriodsMayLeave, BegunRunsGoOn, BegunRu
 ghost use Rattle.sdf_answer.specs.GraphLaws.{GraphLaws};
 ghost use Rattle.sdf_answer.specs.Periods.{HasPeriod, HasSinks};
 ghost use Rattle.sdf_answer.specs.Laws.{RunsGoOn, NetsCanRun, HistoriesBegin, SinksTakeAll, SinksMakeOutputs, NothingMakesNothing};
-ghost use Rattle.sdf_answer.specs.Laws.{BlocksAreCounted, PlansFit, BlocksStand, FiringsMoveOn};
+ghost use Rattle.sdf_answer.specs.Laws.{BlocksAreCounted, NodesTakeTheirs, PlansFit, BlocksStand, FiringsMoveOn};
 
 use sdf_actor::laws::{
     histories_grow, history_grows_by_firing, nets_are_wired, one_history, periods_are_whole,
@@ -31,6 +31,7 @@ pub fn net_facts<A: Actor>(net: &Net<A>)
     ensures phases { (a : ℕ) → a < length net.now.nodes → 0 < cycle_of A.steps (node net.now a) }
     ensures sinks { HasSinks net.now }
 {
+    periods_are_whole::<A>();
     let _channels = net.graph().channels();
     let _repetitions = net.repetitions();
 }
@@ -106,6 +107,13 @@ pub fn histories_make_outputs<A: Actor>()
 pub fn histories_make_runs<A: Actor>()
     ensures runs { SinksMakeRuns A.steps }
     ensures nothing { NothingRuns A.steps }
+{
+    nets_are_wired::<A>();
+}
+
+/// A node takes from the channels that lead to it, each at one of its ports, and from no other.
+pub fn nodes_take_theirs<A: Actor>()
+    ensures { NodesTakeTheirs A.steps }
 {
     nets_are_wired::<A>();
 }

@@ -1,17 +1,21 @@
 //! What runs of nets are given and give, whatever runs them.
 //!
-//! It stands on `sdf_graph`, `sdf_sched`, `sdf_prec` and `sdf_actor`, and every runner stands on it. Begin at `specs/Answer.antt`: which
+//! It stands on `sdf_graph`, `sdf_sched`, `sdf_prec`, `sdf_actor` and `sdf_node`, and every runner stands on it. Begin at `specs/Answer.antt`: which
 //! inputs a run is given, and that its outputs are the lists of the histories. Then `inputs` and `outputs`, the tests and the lists
-//! of a run, `sizes`, how many samples firings move, `rooms`, how many stand on a channel, and `laws`, what every runner's proof uses.
+//! of a run, `sizes`, how many samples firings move, `queue`, the samples that stand on a channel, `blocks`, those that a firing moves at its ports,
+//! `rooms`, how many stand on a channel, and `laws`, what every runner's proof uses.
 #![tactic(auto)]
 
+pub mod blocks;
 pub mod fault;
 pub mod inputs;
 pub mod laws;
 pub mod outputs;
+pub mod queue;
 pub mod rooms;
 pub mod sizes;
 
 pub use fault::RunFault;
 pub use outputs::Ran;
+pub use queue::Queue;
 pub use sizes::Sizes;

@@ -1,9 +1,15 @@
-//! How many samples stand on a channel.
+//! How many samples stand on a channel, and queues that have room for them.
 
-ghost use Rattle.std.specs.Prelude.{◌≡◌, ◌*◌, ◌≤◌, ◌<◌, ℕ, length, slice_index};
-ghost use Rattle.sdf_graph.specs.Rates.{rate_at, sum_to};
+ghost use Rattle.std.specs.Prelude.{◌≡◌, ◌+◌, ◌*◌, ◌≤◌, ◌<◌, ℕ, length, slice_index, slice_index_or, vec_len, IfOk};
+ghost use Rattle.sdf_graph.specs.Rates.{rates, rate_at, sum_to};
+ghost use Rattle.sdf_actor.specs.Graphs.{graph_of};
+ghost use Rattle.sdf_actor.specs.Nets.{wire};
+ghost use Rattle.sdf_answer.specs.Blocks.{nothing};
 
+use crate::queue::Queue;
+use sdf_actor::{Actor, Net};
 use sdf_graph::Channel;
+use std::alloc::{AllocError, Global};
 
 /// How many samples so many periods of firings put on a channel.
 pub fn put_in(channel: &Channel, firings: u32, periods: u32) -> usize
@@ -29,4 +35,29 @@ fn put_by(channel: &Channel, firings: u32) -> usize
         total += channel.puts(i) as usize;
     }
     total
+}
+
+/// The samples that each channel begins with, and room for these and what so many periods put there.
+pub fn make_queues<A: Actor>(
+    alloc: Global,
+    net: &Net<A>,
+    repetitions: &[u32],
+    periods: u32,
+) -> Result<Vec<Queue<A::Token>>, AllocError>
+    requires all { length repetitions.now ≡ length net.now.nodes }
+    requires short { (a : ℕ) → a < length repetitions.now → slice_index repetitions.now a ≤ 65536 }
+    requires few { periods ≤ 4096 }
+    ensures { let r = rates (graph_of A.steps net.now) in IfOk result (λ v. (vec_len v ≡ length net.now.wires) × ((c : ℕ) → c < length net.now.wires →
+        slice_index_or v.items c nothing ≡ record {
+          samples = (wire net.now c).initial;
+          room = length (wire net.now c).initial + periods * r.produced c (slice_index repetitions.now (r.source c));
+        })) }
+{
+    let graph = net.graph();
+    let mut queues = Vec::with_capacity(alloc, net.channels())?;
+    for (c, channel) in graph.channels().iter().enumerate() {
+        let room = channel.initial + put_in(channel, repetitions[channel.from], periods);
+        queues.push(Queue::new(alloc, &net.link(c).initial, room)?)?;
+    }
+    Ok(queues)
 }

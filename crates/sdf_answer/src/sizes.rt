@@ -45,8 +45,8 @@ impl Sizes {
     pub fn new<A: Actor>(alloc: Global, net: &Net<A>) -> Result<Sizes, AllocError>
         ensures { IfOk result (AreSizes A.steps net.now) }
     {
+        net_facts(net);
         let channels = net.graph().channels();
-        let _accepted = net.repetitions();
         let phases = longest_cycle(net);
         let takes = by_phase(alloc, channels, Side::Input, phases)?;
         let puts = by_phase(alloc, channels, Side::Output, phases)?;

@@ -89,7 +89,7 @@ module _ {A S T : Type 0} (s : Steps A S T) (begin : HistoriesBegin s) (n : Netl
       length states ≡ length n.nodes → ((a : ℕ) (w : NodeState T S) → a < length n.nodes → HasBegun s space (nets.node n a) (get_or states a w)) → length ls ≡ length n.wires →
       ((c : ℕ) → c < length n.wires → get_or ls c nothing ≡ record { samples = (wire n c).initial; room = length (wire n c).initial + j * (rates (graph_of s n)).produced c (get_or q ((rates (graph_of s n)).source c) 0) }) →
       IsResting s n inputs q j blocks 0 (λ a. get_or done a 0) states ls
-  begins space space_is done none states ls all begun channels lines = record {
+  begins space space_is done none states ls all begun channels queues = record {
     counts = λ a l. omega (arith, none a);
     rooms = rooms;
     between = record {
@@ -99,7 +99,7 @@ module _ {A S T : Type 0} (s : Steps A S T) (begin : HistoriesBegin s) (n : Netl
       history = (wiring s n).starts;
       is = begin n inputs (λ a. get_or done a 0) good (λ a l. none a);
       channels = channels;
-      left = λ c l. ap (λ x. x.samples) (lines c l) ∙
+      left = λ c l. ap (λ x. x.samples) (queues c l) ∙
           (ap (λ i. drop i (wire n c).initial) (sym (wired.sound.consumed_none c)) ∙ ap (λ i. drop ((wiring s n).rates.consumed c i) (wire n c).initial) (sym (none ((wiring s n).rates.target c))));
       above = λ a l. omega arith;
       below = λ a l. omega arith;
@@ -118,7 +118,7 @@ module _ {A S T : Type 0} (s : Steps A S T) (begin : HistoriesBegin s) (n : Netl
     where
       rooms : (c : ℕ) → c < length n.wires → (wiring s n).rates.initial c + (wiring s n).rates.produced c (j * get_or q ((wiring s n).rates.source c) 0) ≤ room ls c
       rooms c l =
-          omega (arith, ap (λ x. x.room) (lines c l), ap (λ m. j * m) (can.put c l), can.paced.put j c l)
+          omega (arith, ap (λ x. x.room) (queues c l), ap (λ m. j * m) (can.put c l), can.paced.put j c l)
 
 -- the list that stands in a sink's state
 sink_list : {A S T : Type 0} (s : Steps A S T) (inputs : List (List T)) (many ext block : ℕ) (past : List (List T)) (w : NodeState T S) → IsAt s inputs many (node.Sink ext block) past w →
@@ -156,7 +156,7 @@ module _ {A S T : Type 0} (s : Steps A S T) (n : Netlist A T) (inputs : List (Li
 
   -- copies of the actors' states and of the samples on the channels are what is left
   leaves : ActorsKeepStates s → (rest : Rest T S) → length rest.states.items ≡ length n.nodes →
-      ((a : ℕ) (w : NodeState T S) → a < length n.nodes → get_or rest.states.items a None ≡ kept_of (nets.node n a) (get_or states a w)) → lists rest.held.items ≡ map (λ line. line.samples) ls →
+      ((a : ℕ) (w : NodeState T S) → a < length n.nodes → get_or rest.states.items a None ≡ kept_of (nets.node n a) (get_or states a w)) → lists rest.held.items ≡ map (λ queue. queue.samples) ls →
       Leaves s n k over.between.history rest
   leaves keep rest all copies held = record {
     nodes = all;
@@ -173,7 +173,7 @@ module _ {A S T : Type 0} (s : Steps A S T) (n : Netlist A T) (inputs : List (Li
   -- and that is a run
   pub row_run : SinksMakeRuns s → ActorsKeepStates s → IsNet s n → (outputs : List (Vec T Global)) → AreCollected n (length n.nodes) states outputs → length outputs ≡ list_count Outputs n.nodes →
       (rest : Rest T S) → length rest.states.items ≡ length n.nodes →
-      ((a : ℕ) (w : NodeState T S) → a < length n.nodes → get_or rest.states.items a None ≡ kept_of (nets.node n a) (get_or states a w)) → lists rest.held.items ≡ map (λ line. line.samples) ls →
+      ((a : ℕ) (w : NodeState T S) → a < length n.nodes → get_or rest.states.items a None ≡ kept_of (nets.node n a) (get_or states a w)) → lists rest.held.items ≡ map (λ queue. queue.samples) ls →
       HasRun s n inputs (periods_of q (blocks * j)) (lists outputs) rest
   row_run make keep good outputs collected count rest all copies held =
       make n inputs q (blocks * j) k over.between.history (lists outputs) rest good over.between.is all_done (length-map outputs (λ v. v.items) ∙ count) (sinks_took outputs collected)

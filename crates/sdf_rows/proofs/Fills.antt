@@ -11,9 +11,9 @@ use Rattle.sdf_node.specs.Laws.{NodesCanStep, NodesKeepPhase}
 use Rattle.sdf_node.specs.declared.node.NodeState.{NodeState}
 use Rattle.sdf_rows.specs.declared.job.Job.{Job}
 use Rattle.sdf_answer.specs.Held.{Held}
-use Rattle.sdf_answer.specs.Blocks.{samples}
+use Rattle.sdf_answer.specs.Blocks.{samples, front}
 use Rattle.sdf_answer.specs.Sizes.{Rows, AreSizes, at_phase, phase_of}
-use Rattle.sdf_rows.specs.Jobs.{fronts, JobFits, HasFired}
+use Rattle.sdf_rows.specs.Jobs.{JobFits, HasFired}
 use Rattle.sdf_rows.specs.Stage.{actors_of}
 use Rattle.sdf_rows.specs.Stands.{IsLoaded, IsBack, IsFilling, IsSettling, IsBetween, HaveBlocks, KeepBlocks}
 use Rattle.sdf_rows.proofs.Known.{Known}
@@ -76,7 +76,7 @@ module _ {A S T : Type 0} (s : Steps A S T) (n : Netlist A T) (net : Known s n) 
   job_fits = subst (λ j. JobFits s n inputs z ls j) same_job fits_at
 
   -- what it takes is the node's next block
-  block_is : fronts (at_phase z.takes job.phase) ((wiring s n).ins who) ls ≡ taken (wiring s n) st.history who (k who)
+  block_is : front (at_phase z.takes job.phase) ((wiring s n).ins who) ls ≡ taken (wiring s n) st.history who (k who)
   block_is =
       net.stand n k who st.history (at_phase z.takes job.phase) (at_phase z.puts job.phase) (samples ls) net.good (st.known i h)
       (plan s n net z sizes inputs many low high acts 0 i k states ls jobs (IsLoaded s n inputs many) st first h job.phase has.phase) st.left

@@ -1,5 +1,4 @@
 mod Known
-mod Ports
 mod Readings
 mod Jobs
 mod Loads

@@ -1,8 +1,7 @@
 -- The lists that sinks made.
-use Rattle.std.specs.Prelude.{◌≡◌, ℕ, ◌<◌, List, length, slice_index_or}
+use Rattle.std.specs.Prelude.{◌≡◌, ℕ, ◌<◌, List, slice_index_or}
 use Rattle.std.specs.Global.{Global}
 use Rattle.std.specs.declared.vec.Vec.{Vec}
-use Rattle.sdf_actor.specs.declared.node.Node.{Node}
 use Rattle.sdf_actor.specs.declared.node.Node.TheVariants as node
 use Rattle.sdf_actor.specs.Nets as nets
 use Rattle.sdf_actor.specs.Nets.{Netlist}
@@ -10,13 +9,7 @@ use Rattle.sdf_node.specs.declared.node.NodeState.{NodeState}
 use Rattle.sdf_node.specs.declared.node.NodeState.TheVariants.{Sink}
 use Rattle.sdf_answer.specs.Lists.{list}
 
--- the list that a node made, where it is a sink, has its number among some lists, and the others are as they were
-pub record IsCollected {A S T : Type 0} (x : Node A) (w : NodeState T S) (outputs outputs' : List (Vec T Global)) : Type 0 where
-  pub all : length outputs' ≡ length outputs
-  pub own : (ext block : ℕ) (made : Vec T Global) → x ≡ node.Sink ext block → w ≡ Sink made → list outputs' ext ≡ made.items
-  pub others : (e : ℕ) → ((block : ℕ) → x ≡ node.Sink e block → ⊥) → list outputs' e ≡ list outputs e
-
--- so it is with each of the first m nodes
+-- the list of each of the first m nodes, where it is a sink, has its number
 abbrev pub AreCollected : {A S T : Type 0} → Netlist A T → ℕ → List (NodeState T S) → List (Vec T Global) → Type 0
 AreCollected {A} {S} {T} n m states outputs =
     (a ext block : ℕ) (made : Vec T Global) (w : NodeState T S) → a < m → nets.node n a ≡ node.Sink ext block → slice_index_or states a w ≡ Sink made → list outputs ext ≡ made.items

@@ -1,22 +1,18 @@
 -- The firings of one row.
 use Rattle.std.specs.Prelude.{◌≡◌, ℕ, ◌≤◌, ◌<◌, List, [], ◌∷◌, ◌++◌, length, take, slice_index, vec_capacity}
-use Rattle.std.specs.List.{flat_map, sum_by}
+use Rattle.std.specs.List.{sum_by}
 use Rattle.sdf_actor.specs.Steps.{Steps}
 use Rattle.sdf_actor.specs.Nets.{Netlist, node, wiring, cycle_of, answer_of}
 use Rattle.sdf_node.specs.Nodes.{puts_of, CanStep, IsAt}
 use Rattle.sdf_rows.specs.declared.job.Job.{Job}
 use Rattle.sdf_answer.specs.Held.{Held}
-use Rattle.sdf_answer.specs.Blocks.{samples, ArePorts, HoldBlocks}
+use Rattle.sdf_answer.specs.Blocks.{front, ArePorts, HoldBlocks}
 use Rattle.sdf_answer.specs.Sizes.{Rows, at_phase}
-
--- the block that stands at the fronts of some channels
-abbrev pub fronts : {T : Type 0} → List ℕ → List ℕ → List (Held T) → List T
-fronts sizes ports ls = flat_map (λ c. take (slice_index sizes c) (samples ls c)) ports
 
 module _ {A S T : Type 0} (s : Steps A S T) (n : Netlist A T) (inputs : List (List T)) (z : Rows) (ls : List (Held T)) where
   -- the block that a firing takes
   abbrev pub block_of : Job A T S → List T
-  block_of j = fronts (at_phase z.takes j.phase) ((wiring s n).ins j.actor) ls
+  block_of j = front (at_phase z.takes j.phase) ((wiring s n).ins j.actor) ls
 
   -- its samples stand on the channels, and it can be done
   pub record JobFits (j : Job A T S) : Type 0 where

@@ -1,6 +1,6 @@
 //! A run by rows that another one goes on from.
 
-ghost use Rattle.std.specs.Prelude.{◌≡◌, ◌*◌, ◌<◌, ℕ, List, length, map, MatchResult, IfOk, None, slice_index_or};
+ghost use Rattle.std.specs.Prelude.{◌≡◌, ◌*◌, ◌<◌, ℕ, List, length, MatchResult, IfOk, None, slice_index_or};
 ghost use Rattle.sdf_graph.specs.Rates.{rates};
 ghost use Rattle.sdf_sched.specs.Period.{IsPeriodOf};
 ghost use Rattle.sdf_actor.specs.Graphs.{graph_of};
@@ -15,12 +15,12 @@ ghost use Rattle.sdf_answer.specs.Rows.{IsTableOf};
 ghost use Rattle.sdf_node.specs.Kept.{kept_of};
 
 use crate::collect::collect;
-use crate::line::Line;
 use crate::rows::{Plan, fire, rounds_of};
 use sdf_actor::{Actor, Begun, Net, Rest};
 use sdf_answer::inputs::{are_inputs, first_sample};
 use sdf_answer::laws::{begun_nets_go_on, histories_make_runs, net_facts, nets_have_periods};
 use sdf_answer::outputs::make_outputs;
+use sdf_answer::queue::held;
 use sdf_answer::sizes::samples_of_blocks;
 use sdf_answer::{Ran, RunFault};
 use sdf_node::laws::actors_keep_states;
@@ -47,17 +47,6 @@ fn kept_by<A: Actor>(
     Ok(copies)
 }
 
-/// Copies of the samples on all channels.
-fn held_by<T: Copy>(alloc: Global, lines: &[Line<T>]) -> Result<Vec<Vec<T>>, AllocError>
-    ensures { IfOk result (λ v. lists v.items ≡ map (λ line. line.samples) lines.now) }
-{
-    let mut held = Vec::new(alloc);
-    for line in lines {
-        held.push(Vec::from_slice(alloc, line.front(line.len()))?)?;
-    }
-    Ok(held)
-}
-
 /// What a run makes and leaves. Without a sample there are no blocks, and nothing fires.
 fn fill<R: Threads + AllocGlobal + Sync, A: Actor, G: Gate>(
     rt: &R,
@@ -82,7 +71,7 @@ fn fill<R: Threads + AllocGlobal + Sync, A: Actor, G: Gate>(
             let mut fired = fire(rt, net, plan, inputs, filler, gate)?;
             let rest = Rest {
                 states: kept_by(alloc, net, &fired.states)?,
-                held: held_by(alloc, &fired.lines)?,
+                held: held(alloc, &fired.queues)?,
             };
             collect(net, &mut fired.states, &mut outputs);
             Ok((outputs, rest))
@@ -108,7 +97,7 @@ pub fn feed_rows<R: Threads + AllocGlobal + Sync, A: Actor, G: Gate>(
         (λ fed. HasInputs net.now q (blocks * j) (lists inputs.now) × HasRun A.steps net.now (lists inputs.now) (periods_of q (blocks * j)) (lists fed.0.outputs.items) fed.1 × (fed.0.rounds ≡ blocks * length table.now.rows))
         (IsRunFault net.now q (blocks * j) (lists inputs.now)) }
 {
-    sdf_prec::laws::orders_are_passes();
+    sdf_prec::laws::tables_count();
     let least = samples_of_blocks(blocks, j, net.samples_in());
     if !are_inputs(inputs, net.inputs(), least) {
         return Err(RunFault::InputLength);

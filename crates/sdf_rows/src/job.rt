@@ -6,9 +6,9 @@ ghost use Rattle.sdf_actor.specs.Wires.{lists};
 ghost use Rattle.sdf_node.specs.Nodes.{CanStep, IsAt};
 ghost use Rattle.sdf_rows.specs.Jobs.{JobFits, HasFired};
 
-use crate::line::{Line, read_fronts};
 use sdf_actor::{Actor, Net, Node, Side};
-use sdf_answer::Sizes;
+use sdf_answer::blocks::read_fronts;
+use sdf_answer::{Queue, Sizes};
 use sdf_node::{ActorId, Gate, NodeState, puts, step};
 use std::thread;
 use std::thread::Threads;
@@ -50,19 +50,19 @@ fn fire_job<A: Actor, G: Gate>(
     net: &Net<A>,
     inputs: &[Vec<A::Token>],
     sizes: &Sizes,
-    lines: &[Line<A::Token>],
+    queues: &[Queue<A::Token>],
     job: &mut Job<A>,
     gate: &G,
 )
-    requires { JobFits A.steps net.now (lists inputs.now) sizes.now lines.now job.old }
-    ensures { HasFired A.steps net.now (lists inputs.now) sizes.now lines.now job.old job.new }
+    requires { JobFits A.steps net.now (lists inputs.now) sizes.now queues.now job.old }
+    ensures { HasFired A.steps net.now (lists inputs.now) sizes.now queues.now job.old job.new }
 {
     gate.before(job.processor, job.actor, job.firing);
     job.taken.clear();
     read_fronts(
         net.channels_in(job.actor),
         sizes.on(Side::Input, job.phase),
-        lines,
+        queues,
         &mut job.taken,
     );
     let node = net.node(job.actor);
@@ -76,12 +76,12 @@ pub(crate) fn fire_jobs<R: Threads + Sync, A: Actor, G: Gate>(
     net: &Net<A>,
     inputs: &[Vec<A::Token>],
     sizes: &Sizes,
-    lines: &[Line<A::Token>],
+    queues: &[Queue<A::Token>],
     jobs: &mut [Job<A>],
     gate: &G,
 )
-    requires { All (JobFits A.steps net.now (lists inputs.now) sizes.now lines.now) jobs.old }
-    ensures { (i : ℕ) (j : _) → i < length jobs.old → HasFired A.steps net.now (lists inputs.now) sizes.now lines.now (slice_index_or jobs.old i j) (slice_index_or jobs.new i j) }
+    requires { All (JobFits A.steps net.now (lists inputs.now) sizes.now queues.now) jobs.old }
+    ensures { (i : ℕ) (j : _) → i < length jobs.old → HasFired A.steps net.now (lists inputs.now) sizes.now queues.now (slice_index_or jobs.old i j) (slice_index_or jobs.new i j) }
 {
     let threads = jobs.len();
     if threads > 0 {
@@ -90,10 +90,10 @@ pub(crate) fn fire_jobs<R: Threads + Sync, A: Actor, G: Gate>(
             jobs,
             threads,
             &|_: usize, job: &mut Job<A>|
-                requires { JobFits A.steps net.now (lists inputs.now) sizes.now lines.now job.now }
-                ensures { HasFired A.steps net.entry.now (lists inputs.entry.now) sizes.entry.now lines.entry.now job.entry.now job.exit.now }
+                requires { JobFits A.steps net.now (lists inputs.now) sizes.now queues.now job.now }
+                ensures { HasFired A.steps net.entry.now (lists inputs.entry.now) sizes.entry.now queues.entry.now job.entry.now job.exit.now }
             {
-                fire_job(net, inputs, sizes, lines, job, gate);
+                fire_job(net, inputs, sizes, queues, job, gate);
             },
         );
     }

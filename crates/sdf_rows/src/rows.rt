@@ -14,16 +14,16 @@ ghost use Rattle.sdf_rows.specs.Blocks.{IsOver};
 ghost use Rattle.sdf_answer.specs.Rows.{IsTableOf};
 
 use crate::collect::collect;
-use crate::line::Line;
 use crate::runs::{Course, run_blocks};
-use crate::setup::{make_jobs, make_lines, make_states};
+use crate::setup::{make_jobs, make_states};
 use crate::stage::Scene;
 use sdf_actor::{Actor, Net};
 use sdf_answer::inputs::{are_inputs, first_sample};
 use sdf_answer::laws::{histories_make_outputs, net_facts, nets_can_run, nets_have_periods};
 use sdf_answer::outputs::make_outputs;
+use sdf_answer::rooms::make_queues;
 use sdf_answer::sizes::samples_of_blocks;
-use sdf_answer::{Ran, RunFault, Sizes};
+use sdf_answer::{Queue, Ran, RunFault, Sizes};
 use sdf_node::{Gate, NodeState};
 use sdf_prec::Table;
 use sdf_sched::Period;
@@ -43,7 +43,7 @@ pub(crate) struct Plan<'a> {
 #[derive(Drop)]
 pub(crate) struct Fired<A: Actor> {
     pub(crate) states: Vec<NodeState<A::Token, A::State>>,
-    pub(crate) lines: Vec<Line<A::Token>>,
+    pub(crate) queues: Vec<Queue<A::Token>>,
 }
 
 /// How many columns a table has, where all its rows have as many.
@@ -76,7 +76,7 @@ pub(crate) fn fire<R: Threads + AllocGlobal + Sync, A: Actor, G: Gate>(
     requires period { IsPeriodOf (rates (graph_of A.steps net.now)) plan.now.period.now }
     requires table { IsTableOf (rates (graph_of A.steps net.now)) plan.now.period.now.repetitions plan.now.j plan.now.table.now }
     requires inputs { HasInputs net.now plan.now.period.now.repetitions (plan.now.blocks * plan.now.j) (lists inputs.now) }
-    ensures { IfOk result (λ run. IsOver A.steps net.now (lists inputs.now) plan.now.period.now.repetitions plan.now.j plan.now.blocks run.states.items run.lines.items) }
+    ensures { IfOk result (λ run. IsOver A.steps net.now (lists inputs.now) plan.now.period.now.repetitions plan.now.j plan.now.blocks run.states.items run.queues.items) }
 {
     net_facts(net);
     nets_have_periods(net);
@@ -87,7 +87,7 @@ pub(crate) fn fire<R: Threads + AllocGlobal + Sync, A: Actor, G: Gate>(
     let repetitions = plan.period.repetitions();
     let room = samples_of_blocks(plan.blocks, plan.j, net.samples_out());
     let mut states = make_states(alloc, net, room)?;
-    let mut lines = make_lines(alloc, net, repetitions, plan.j)?;
+    let mut queues = make_queues(alloc, net, repetitions, plan.j)?;
     let mut jobs = make_jobs(alloc, net, columns(plan.table), filler)?;
     let mut done = none_done(alloc, repetitions)?;
     let sizes = Sizes::new(alloc, net)?;
@@ -104,11 +104,11 @@ pub(crate) fn fire<R: Threads + AllocGlobal + Sync, A: Actor, G: Gate>(
         plan.blocks,
         &mut jobs,
         &mut states,
-        &mut lines,
+        &mut queues,
         &mut done,
         gate,
     );
-    Ok(Fired { states, lines })
+    Ok(Fired { states, queues })
 }
 
 /// The output lists of a run. Without a sample there are no blocks, and nothing fires.
@@ -167,7 +167,7 @@ pub fn run_rows<R: Threads + AllocGlobal + Sync, A: Actor, G: Gate>(
         (λ ran. HasInputs net.now q (blocks * j) (lists inputs.now) × AreOutputs A.steps net.now (lists inputs.now) (periods_of q (blocks * j)) (lists ran.outputs.items) × (ran.rounds ≡ blocks * length table.now.rows))
         (IsRunFault net.now q (blocks * j) (lists inputs.now)) }
 {
-    sdf_prec::laws::orders_are_passes();
+    sdf_prec::laws::tables_count();
     let least = samples_of_blocks(blocks, j, net.samples_in());
     if !are_inputs(inputs, net.inputs(), least) {
         return Err(RunFault::InputLength);

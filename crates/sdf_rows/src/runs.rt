@@ -12,9 +12,9 @@ ghost use Rattle.sdf_rows.specs.Stands.{HaveBlocks, KeepBlocks, IsBetween, IsSce
 ghost use Rattle.sdf_rows.specs.Blocks.{IsRound, IsResting, block_after};
 
 use crate::job::Job;
-use crate::line::Line;
 use crate::stage::{Scene, run_row};
 use sdf_actor::Actor;
+use sdf_answer::Queue;
 use sdf_node::{Gate, NodeState};
 use sdf_prec::Table;
 use std::thread::Threads;
@@ -34,7 +34,7 @@ pub(crate) fn run_block<R: Threads + Sync, A: Actor, G: Gate>(
     course: &Course,
     jobs: &mut [Job<A>],
     states: &mut [NodeState<A::Token, A::State>],
-    lines: &mut [Line<A::Token>],
+    queues: &mut [Queue<A::Token>],
     done: &mut [u64],
     gate: &G,
 )
@@ -42,13 +42,13 @@ pub(crate) fn run_block<R: Threads + Sync, A: Actor, G: Gate>(
     requires graph { IsShape (graph_of A.steps scene.now.net.now) }
     requires alike { IsAlike (rates (graph_of A.steps scene.now.net.now)) (wiring A.steps scene.now.net.now).rates }
     requires table { IsTableOf (rates (graph_of A.steps scene.now.net.now)) course.now.repetitions.now course.now.j course.now.table.now }
-    requires start { (many : ℕ → ℕ) × IsBetween A.steps scene.now.net.now (lists scene.now.inputs.now) many (slice_index done.old) (block_after course.now.repetitions.now course.now.j (slice_index done.old)) (slice_index done.old) states.old lines.old }
+    requires start { (many : ℕ → ℕ) × IsBetween A.steps scene.now.net.now (lists scene.now.inputs.now) many (slice_index done.old) (block_after course.now.repetitions.now course.now.j (slice_index done.old)) (slice_index done.old) states.old queues.old }
     requires round { IsRound A.steps scene.now.net.now (slice_index done.old) }
     requires counted { length done.old ≡ length scene.now.net.now.nodes }
     requires blocks { HaveBlocks A.steps scene.now.net.now jobs.old }
     requires wide { (i : ℕ) → i < length course.now.table.now.rows → length (firings (row course.now.table.now.rows i)) ≤ length jobs.old }
-    ensures over { (many : ℕ → ℕ) → IsBetween A.steps scene.now.net.now (lists scene.now.inputs.now) many (slice_index done.old) (block_after course.now.repetitions.now course.now.j (slice_index done.old)) (slice_index done.old) states.old lines.old →
-        IsBetween A.steps scene.now.net.now (lists scene.now.inputs.now) many (slice_index done.old) (block_after course.now.repetitions.now course.now.j (slice_index done.old)) (slice_index done.new) states.new lines.new }
+    ensures over { (many : ℕ → ℕ) → IsBetween A.steps scene.now.net.now (lists scene.now.inputs.now) many (slice_index done.old) (block_after course.now.repetitions.now course.now.j (slice_index done.old)) (slice_index done.old) states.old queues.old →
+        IsBetween A.steps scene.now.net.now (lists scene.now.inputs.now) many (slice_index done.old) (block_after course.now.repetitions.now course.now.j (slice_index done.old)) (slice_index done.new) states.new queues.new }
     ensures done { (a : ℕ) → a < length scene.now.net.now.nodes → slice_index done.new a ≡ block_after course.now.repetitions.now course.now.j (slice_index done.old) a }
     ensures counts { length done.new ≡ length done.old }
     ensures blocks { KeepBlocks jobs.old jobs.new }
@@ -63,7 +63,7 @@ pub(crate) fn run_block<R: Threads + Sync, A: Actor, G: Gate>(
             course.table.row(i),
             jobs,
             states,
-            lines,
+            queues,
             done,
             gate,
         );
@@ -78,7 +78,7 @@ pub(crate) fn run_blocks<R: Threads + Sync, A: Actor, G: Gate>(
     blocks: u32,
     jobs: &mut [Job<A>],
     states: &mut [NodeState<A::Token, A::State>],
-    lines: &mut [Line<A::Token>],
+    queues: &mut [Queue<A::Token>],
     done: &mut [u64],
     gate: &G,
 )
@@ -87,15 +87,15 @@ pub(crate) fn run_blocks<R: Threads + Sync, A: Actor, G: Gate>(
     requires alike { IsAlike (rates (graph_of A.steps scene.now.net.now)) (wiring A.steps scene.now.net.now).rates }
     requires period { IsLeastPeriod (rates (graph_of A.steps scene.now.net.now)) course.now.repetitions.now }
     requires table { IsTableOf (rates (graph_of A.steps scene.now.net.now)) course.now.repetitions.now course.now.j course.now.table.now }
-    requires start { IsResting A.steps scene.now.net.now (lists scene.now.inputs.now) course.now.repetitions.now course.now.j blocks 0 (slice_index done.old) states.old lines.old }
+    requires start { IsResting A.steps scene.now.net.now (lists scene.now.inputs.now) course.now.repetitions.now course.now.j blocks 0 (slice_index done.old) states.old queues.old }
     requires counted { length done.old ≡ length scene.now.net.now.nodes }
     requires blocks { HaveBlocks A.steps scene.now.net.now jobs.old }
     requires wide { (i : ℕ) → i < length course.now.table.now.rows → length (firings (row course.now.table.now.rows i)) ≤ length jobs.old }
-    ensures over { IsResting A.steps scene.now.net.now (lists scene.now.inputs.now) course.now.repetitions.now course.now.j blocks blocks (slice_index done.new) states.new lines.new }
+    ensures over { IsResting A.steps scene.now.net.now (lists scene.now.inputs.now) course.now.repetitions.now course.now.j blocks blocks (slice_index done.new) states.new queues.new }
 {
     sdf_graph::laws::graphs_are_sound();
     sdf_graph::laws::graphs_have_periods();
     for _ in 0..blocks {
-        run_block(rt, scene, course, jobs, states, lines, done, gate);
+        run_block(rt, scene, course, jobs, states, queues, done, gate);
     }
 }

@@ -1,43 +1,13 @@
 //! What a run by rows holds before its first firing.
 
-ghost use Rattle.std.specs.Prelude.{◌≡◌, ◌+◌, ◌*◌, ◌≤◌, ◌<◌, ℕ, length, slice_index, slice_index_or, vec_len, IfOk};
-ghost use Rattle.sdf_graph.specs.Rates.{rates};
-ghost use Rattle.sdf_actor.specs.Graphs.{graph_of};
-ghost use Rattle.sdf_actor.specs.Nets.{node, wire};
-ghost use Rattle.sdf_answer.specs.Blocks.{nothing};
+ghost use Rattle.std.specs.Prelude.{◌≡◌, ◌<◌, ℕ, length, slice_index_or, vec_len, IfOk};
+ghost use Rattle.sdf_actor.specs.Nets.{node};
 ghost use Rattle.sdf_rows.specs.Setup.{HasBegun, IsMost, HasPlaces};
 
 use crate::job::Job;
-use crate::line::Line;
 use sdf_actor::{Actor, Net, Node};
-use sdf_answer::rooms::put_in;
 use sdf_node::{NodeState, begin, puts, takes};
 use std::alloc::{AllocError, Global};
-
-/// The samples that each channel begins with, and room for these and what so many periods put there.
-pub(crate) fn make_lines<A: Actor>(
-    alloc: Global,
-    net: &Net<A>,
-    repetitions: &[u32],
-    periods: u32,
-) -> Result<Vec<Line<A::Token>>, AllocError>
-    requires all { length repetitions.now ≡ length net.now.nodes }
-    requires short { (a : ℕ) → a < length repetitions.now → slice_index repetitions.now a ≤ 65536 }
-    requires few { periods ≤ 4096 }
-    ensures { let r = rates (graph_of A.steps net.now) in IfOk result (λ v. (vec_len v ≡ length net.now.wires) × ((c : ℕ) → c < length net.now.wires →
-        slice_index_or v.items c nothing ≡ record {
-          samples = (wire net.now c).initial;
-          room = length (wire net.now c).initial + periods * r.produced c (slice_index repetitions.now (r.source c));
-        })) }
-{
-    let graph = net.graph();
-    let mut lines = Vec::with_capacity(alloc, net.channels())?;
-    for (c, channel) in graph.channels().iter().enumerate() {
-        let room = channel.initial + put_in(channel, repetitions[channel.from], periods);
-        lines.push(Line::new(alloc, &net.link(c).initial, room)?)?;
-    }
-    Ok(lines)
-}
 
 /// All nodes before the first firing. The list of a sink has so much room.
 pub(crate) fn make_states<A: Actor>(

@@ -13,9 +13,9 @@ ghost use Rattle.sdf_rows.specs.Stage.{CanLoad, HasLoaded, AreLoaded, CanSettle,
 ghost use Rattle.sdf_rows.specs.Stands.{HaveBlocks, KeepBlocks, IsFilling, IsSettling, IsBetween, IsRow, IsScene};
 
 use crate::job::{Job, fire_jobs};
-use crate::line::{Line, put_each, skip_fronts};
 use sdf_actor::{Actor, Net, Side};
-use sdf_answer::Sizes;
+use sdf_answer::blocks::{put_block, skip_fronts};
+use sdf_answer::{Queue, Sizes};
 use sdf_node::{ActorId, Gate, NodeState, puts};
 use sdf_prec::Firing;
 use std::mem;
@@ -91,10 +91,10 @@ fn settle<A: Actor>(
     sizes: &Sizes,
     job: &mut Job<A>,
     state: &mut NodeState<A::Token, A::State>,
-    lines: &mut [Line<A::Token>],
+    queues: &mut [Queue<A::Token>],
 )
-    requires { CanSettle A.steps net.now sizes.now job.old lines.old }
-    ensures lines { HasSettled A.steps net.now sizes.now job.old lines.old lines.new }
+    requires { CanSettle A.steps net.now sizes.now job.old queues.old }
+    ensures queues { HasSettled A.steps net.now sizes.now job.old queues.old queues.new }
     ensures state { state.new ≡ job.old.state }
     ensures job { job.new ≡ record job.old { state = state.old } }
 {
@@ -102,14 +102,14 @@ fn settle<A: Actor>(
     skip_fronts(
         net.channels_in(job.actor),
         sizes.on(Side::Input, sized),
-        lines,
+        queues,
     );
     let many = puts(net.node(job.actor), sized);
-    put_each(
+    put_block(
         net.channels_out(job.actor),
         sizes.on(Side::Output, sized),
         &job.put[..many],
-        lines,
+        queues,
     );
     mem::swap(&mut job.state, state);
 }
@@ -143,21 +143,21 @@ fn settle_at<A: Actor>(
     scene: &Scene<A>,
     job: &mut Job<A>,
     states: &mut [NodeState<A::Token, A::State>],
-    lines: &mut [Line<A::Token>],
+    queues: &mut [Queue<A::Token>],
     done: &mut [u64],
 )
-    requires can { CanSettle A.steps scene.now.net.now scene.now.sizes job.old lines.old }
+    requires can { CanSettle A.steps scene.now.net.now scene.now.sizes job.old queues.old }
     requires state { job.old.actor < length states.old }
     requires counted { job.old.actor < length done.old }
     requires small { slice_index done.old job.old.actor < 2 ^ 63 }
-    ensures lines { HasSettled A.steps scene.now.net.now scene.now.sizes job.old lines.old lines.new }
+    ensures queues { HasSettled A.steps scene.now.net.now scene.now.sizes job.old queues.old queues.new }
     ensures states { states.new ≡ slice_set states.old job.old.actor job.old.state }
     ensures done { done.new ≡ slice_set done.old job.old.actor (slice_index done.old job.old.actor + 1) }
     ensures taken { job.new.taken ≡ job.old.taken }
     ensures put { job.new.put ≡ job.old.put }
 {
     let actor = job.actor;
-    settle(scene.net, &scene.sizes, job, &mut states[actor], lines);
+    settle(scene.net, &scene.sizes, job, &mut states[actor], queues);
     done[actor] += 1;
 }
 
@@ -166,14 +166,14 @@ pub(crate) fn settle_row<A: Actor>(
     scene: &Scene<A>,
     jobs: &mut [Job<A>],
     states: &mut [NodeState<A::Token, A::State>],
-    lines: &mut [Line<A::Token>],
+    queues: &mut [Queue<A::Token>],
     done: &mut [u64],
 )
     requires scene { IsScene A.steps scene.now.net.now scene.now.sizes }
-    requires back { (many low high : ℕ → ℕ) × IsSettling A.steps scene.now.net.now (lists scene.now.inputs.now) many low high (actors_of jobs.old) 0 (slice_index done.old) states.old lines.old jobs.old }
+    requires back { (many low high : ℕ → ℕ) × IsSettling A.steps scene.now.net.now (lists scene.now.inputs.now) many low high (actors_of jobs.old) 0 (slice_index done.old) states.old queues.old jobs.old }
     requires counted { length done.old ≡ length scene.now.net.now.nodes }
-    ensures settled { (many low high : ℕ → ℕ) → IsSettling A.steps scene.now.net.now (lists scene.now.inputs.now) many low high (actors_of jobs.old) 0 (slice_index done.old) states.old lines.old jobs.old →
-        IsSettling A.steps scene.now.net.now (lists scene.now.inputs.now) many low high (actors_of jobs.old) (length jobs.old) (slice_index done.new) states.new lines.new jobs.new }
+    ensures settled { (many low high : ℕ → ℕ) → IsSettling A.steps scene.now.net.now (lists scene.now.inputs.now) many low high (actors_of jobs.old) 0 (slice_index done.old) states.old queues.old jobs.old →
+        IsSettling A.steps scene.now.net.now (lists scene.now.inputs.now) many low high (actors_of jobs.old) (length jobs.old) (slice_index done.new) states.new queues.new jobs.new }
     ensures done { (a : ℕ) → slice_index done.new a ≡ slice_index done.old a + times (actors_of jobs.old) a }
     ensures counts { length done.new ≡ length done.old }
     ensures blocks { KeepBlocks jobs.old jobs.new }
@@ -181,7 +181,7 @@ pub(crate) fn settle_row<A: Actor>(
     row_laws::<A>();
     sdf_graph::laws::counts_grow();
     for place in 0..jobs.len() {
-        settle_at(scene, &mut jobs[place], states, lines, done);
+        settle_at(scene, &mut jobs[place], states, queues, done);
     }
 }
 
@@ -191,22 +191,30 @@ pub(crate) fn fire_row<R: Threads + Sync, A: Actor, G: Gate>(
     scene: &Scene<A>,
     jobs: &mut [Job<A>],
     states: &mut [NodeState<A::Token, A::State>],
-    lines: &mut [Line<A::Token>],
+    queues: &mut [Queue<A::Token>],
     done: &mut [u64],
     gate: &G,
 )
     requires scene { IsScene A.steps scene.now.net.now scene.now.sizes }
-    requires filled { (many low high : ℕ → ℕ) × IsFilling A.steps scene.now.net.now (lists scene.now.inputs.now) many low high (actors_of jobs.old) 0 (slice_index done.old) states.old lines.old jobs.old }
+    requires filled { (many low high : ℕ → ℕ) × IsFilling A.steps scene.now.net.now (lists scene.now.inputs.now) many low high (actors_of jobs.old) 0 (slice_index done.old) states.old queues.old jobs.old }
     requires counted { length done.old ≡ length scene.now.net.now.nodes }
-    ensures settled { (many low high : ℕ → ℕ) → IsFilling A.steps scene.now.net.now (lists scene.now.inputs.now) many low high (actors_of jobs.old) 0 (slice_index done.old) states.old lines.old jobs.old →
-        IsBetween A.steps scene.now.net.now (lists scene.now.inputs.now) many low high (slice_index done.new) states.new lines.new }
+    ensures settled { (many low high : ℕ → ℕ) → IsFilling A.steps scene.now.net.now (lists scene.now.inputs.now) many low high (actors_of jobs.old) 0 (slice_index done.old) states.old queues.old jobs.old →
+        IsBetween A.steps scene.now.net.now (lists scene.now.inputs.now) many low high (slice_index done.new) states.new queues.new }
     ensures done { (a : ℕ) → slice_index done.new a ≡ slice_index done.old a + times (actors_of jobs.old) a }
     ensures counts { length done.new ≡ length done.old }
     ensures blocks { KeepBlocks jobs.old jobs.new }
 {
     row_laws::<A>();
-    fire_jobs(rt, scene.net, scene.inputs, &scene.sizes, lines, jobs, gate);
-    settle_row(scene, jobs, states, lines, done);
+    fire_jobs(
+        rt,
+        scene.net,
+        scene.inputs,
+        &scene.sizes,
+        queues,
+        jobs,
+        gate,
+    );
+    settle_row(scene, jobs, states, queues, done);
 }
 
 /// Fires a row of a table.
@@ -216,18 +224,18 @@ pub(crate) fn run_row<R: Threads + Sync, A: Actor, G: Gate>(
     row: &[Option<Firing>],
     jobs: &mut [Job<A>],
     states: &mut [NodeState<A::Token, A::State>],
-    lines: &mut [Line<A::Token>],
+    queues: &mut [Queue<A::Token>],
     done: &mut [u64],
     gate: &G,
 )
     requires scene { IsScene A.steps scene.now.net.now scene.now.sizes }
-    requires between { (many low high : ℕ → ℕ) × IsBetween A.steps scene.now.net.now (lists scene.now.inputs.now) many low high (slice_index done.old) states.old lines.old × IsRow A.steps scene.now.net.now (slice_index done.old) high (row_actors row.now) }
+    requires between { (many low high : ℕ → ℕ) × IsBetween A.steps scene.now.net.now (lists scene.now.inputs.now) many low high (slice_index done.old) states.old queues.old × IsRow A.steps scene.now.net.now (slice_index done.old) high (row_actors row.now) }
     requires counted { length done.old ≡ length scene.now.net.now.nodes }
     requires blocks { HaveBlocks A.steps scene.now.net.now jobs.old }
     requires few { length (firings row.now) ≤ length jobs.old }
-    ensures between { (many low high : ℕ → ℕ) → IsBetween A.steps scene.now.net.now (lists scene.now.inputs.now) many low high (slice_index done.old) states.old lines.old →
+    ensures between { (many low high : ℕ → ℕ) → IsBetween A.steps scene.now.net.now (lists scene.now.inputs.now) many low high (slice_index done.old) states.old queues.old →
         IsRow A.steps scene.now.net.now (slice_index done.old) high (row_actors row.now) →
-        IsBetween A.steps scene.now.net.now (lists scene.now.inputs.now) many low high (slice_index done.new) states.new lines.new }
+        IsBetween A.steps scene.now.net.now (lists scene.now.inputs.now) many low high (slice_index done.new) states.new queues.new }
     ensures done { (a : ℕ) → slice_index done.new a ≡ slice_index done.old a + times (row_actors row.now) a }
     ensures counts { length done.new ≡ length done.old }
     ensures blocks { KeepBlocks jobs.old jobs.new }
@@ -235,5 +243,5 @@ pub(crate) fn run_row<R: Threads + Sync, A: Actor, G: Gate>(
     row_laws::<A>();
     let many = load_row(row, done, states, jobs);
     let (front, _) = jobs.split_at_mut(many);
-    fire_row(rt, scene, front, states, lines, done, gate);
+    fire_row(rt, scene, front, states, queues, done, gate);
 }

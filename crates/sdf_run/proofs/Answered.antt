@@ -9,7 +9,7 @@ use Rattle.sdf_actor.specs.Steps.{Steps, phase, total_in, sum_in, block_at, stat
 use Rattle.sdf_actor.specs.Histories.{taken, taken_before, put}
 use Rattle.sdf_actor.specs.Nets as nets
 use Rattle.sdf_actor.specs.Nets.{Netlist, wiring, answers, answer_of, IsHistoryOf}
-use Rattle.sdf_run.proofs.Grown.{Known, length_taken_before}
+use Rattle.sdf_run.proofs.Known.{Known}
 use Rattle.sdf_run.proofs.Parts.{joined, inner}
 use Rattle.sdf_run.proofs.Works.{state_push}
 
@@ -48,7 +48,7 @@ module _ {A S T : Type 0} (s : Steps A S T) (n : Netlist A T) (net : Known s n) 
     source_puts ext block is i (suc j) h =
         let past : List (List T) = taken_before (wiring s n) W a (i + j) in
         let now : List T = taken (wiring s n) W a (i + j) in
-        let long : length past ≡ i + j = length_taken_before (wiring s n) W a (i + j) in
+        let long : length past ≡ i + j = net.laws.counts n W a (i + j) in
         let answer : answers s n inputs a past now ≡ between (block * (i + j)) (block * (i + j + 1)) (get_or inputs ext []) =
         ap (λ x. answer_of s inputs x past now) is ∙ ap (λ e. between (block * e) (block * (e + 1)) (get_or inputs ext [])) long in
         let up : block * i ≤ block * (i + j) = mul-le-mul_left block (omega arith) in
@@ -98,7 +98,7 @@ module _ {A S T : Type 0} (s : Steps A S T) (n : Netlist A T) (net : Known s n) 
     states (suc j) h =
         let past : List (List T) = taken_before (wiring s n) W a (i + j) in
         let now : List T = taken (wiring s n) W a (i + j) in
-        let at : 0 + length past ≡ i + j = (let z : 0 + length past ≡ length past = omega arith in z) ∙ length_taken_before (wiring s n) W a (i + j) in
+        let at : 0 + length past ≡ i + j = (let z : 0 + length past ≡ length past = omega arith in z) ∙ net.laws.counts n W a (i + j) in
         let turned : phase s x (0 + length past) ≡ phase s x (begin + j) = ap (phase s x) at ∙ sym (turn j) in
         let before : state_after s x past ≡ state_at s x begin state block j = states j (omega arith) in
         let here : now ≡ block_at s x begin block j = part j (omega arith) in
@@ -111,7 +111,7 @@ module _ {A S T : Type 0} (s : Steps A S T) (n : Netlist A T) (net : Known s n) 
     actor_puts d from (suc j) h l =
         let past : List (List T) = taken_before (wiring s n) W a (i + j) in
         let now : List T = taken (wiring s n) W a (i + j) in
-        let turned : phase s x (length past) ≡ phase s x (begin + j) = ap (phase s x) (length_taken_before (wiring s n) W a (i + j)) ∙ sym (turn j) in
+        let turned : phase s x (length past) ≡ phase s x (begin + j) = ap (phase s x) (net.laws.counts n W a (i + j)) ∙ sym (turn j) in
         let before : state_after s x past ≡ state_at s x begin state block j = states j (omega arith) in
         let here : now ≡ block_at s x begin block j = part j (omega arith) in
         let answer : answers s n inputs a past now ≡ s.puts x (phase s x (begin + j)) (state_at s x begin state block j) (block_at s x begin block j) =

@@ -16,7 +16,8 @@ use Rattle.sdf_actor.specs.Nets.{Netlist, wiring, to_port, from_port, inputs_of,
 use Rattle.sdf_run.specs.declared.work.Work.{Work}
 use Rattle.sdf_answer.specs.Held.{Held}
 use Rattle.sdf_answer.specs.Blocks.{samples, room, at_ports, ArePorts}
-use Rattle.sdf_answer.specs.Sizes.{Rows, IsPlan, AreSizes, at_phase}
+use Rattle.sdf_answer.specs.Moves.{FitsPorts}
+use Rattle.sdf_answer.specs.Sizes.{Rows, IsPlan, AreSizes, at_phase, in_all, out_all}
 use Rattle.sdf_answer.specs.Lists.{list}
 use Rattle.sdf_run.specs.Firings.{phase_at}
 use Rattle.sdf_run.specs.AtOnce.{GoesAtOnce, fronts, all_made, CanFireAtOnce, AreFired}
@@ -25,12 +26,9 @@ use Rattle.sdf_run.specs.Runs.{IsWork, Stands}
 use Rattle.sdf_run.proofs.Answered.{source_puts, states, actor_puts}
 use Rattle.sdf_run.proofs.AtOnceWorks as work
 use Rattle.sdf_run.proofs.AtOnceWorks.{at_none, all_answers}
-use Rattle.sdf_run.proofs.Grown.{Known, length_taken_before}
+use Rattle.sdf_run.proofs.Known.{Known, ins_all, into_sink}
 use Rattle.sdf_run.proofs.Longer.{GoesOn, goes_on}
-use Rattle.sdf_run.proofs.Parts.{none_of, one_of}
-use Rattle.sdf_run.proofs.Ports.{spread_none}
-use Rattle.sdf_run.proofs.Routes.{in_all, out_all, ins_all, at_ins, sum_taken, sum_put}
-use Rattle.sdf_run.proofs.Sinks.{take_on, joined_taken, into_sink}
+use Rattle.sdf_run.proofs.Parts.{take_on, none_of, one_of, spread_none}
 use Rattle.sdf_run.proofs.Standing as standing
 use Rattle.sdf_run.proofs.Steady as steady
 use Rattle.sdf_run.proofs.Works.{none_added, work_other}
@@ -63,7 +61,7 @@ module _ {A S T Z : Type 0} (s : Steps A S T) (n : Netlist A T) (net : Known s n
   does = st.each a d known
 
   count : length past ≡ k a
-  count = length_taken_before (wiring s n) st.history a (k a)
+  count = net.laws.counts n st.history a (k a)
 
   one_phase : cycle_of s (nets.node n a) ≡ 1
   one_phase = work.one_phase s inputs (many a) 0 (nets.node n a) past (get_or works a d) outputs ((wiring s n).ins a) ((wiring s n).outs a) does goes
@@ -80,6 +78,9 @@ module _ {A S T Z : Type 0} (s : Steps A S T) (n : Netlist A T) (net : Known s n
   -- each firing moves the same
   plan : (i : ℕ) → IsPlan s n a i takes puts
   plan = steady.plan s n net z sizes inputs many k a known works qs outputs st d one_phase
+
+  fits_ports : (i : ℕ) → FitsPorts s n a i takes puts
+  fits_ports i = net.laws.fit n a i takes puts net.good known (plan i)
 
   all_taken : (c : ℕ) → c < length n.wires → (wiring s n).rates.target c ≡ a → (t : ℕ) → (wiring s n).rates.consumed c (k a + t) ≡ (wiring s n).rates.consumed c (k a) + t * get_or takes c 0
   all_taken = steady.all_taken s n net z sizes inputs many k a known works qs outputs st d one_phase
@@ -105,14 +106,14 @@ module _ {A S T Z : Type 0} (s : Steps A S T) (n : Netlist A T) (net : Known s n
     can_fire reach fits = record {
       ins_are = standing.ports_in s n net z sizes inputs many k a known works qs outputs st d;
       outs_are = subst (ArePorts ((wiring s n).outs a) puts) (sym st.channels)
-          (record { known = λ i h. standing.out_known s n net a i known h; sized = (plan (k a)).puts_all; once = λ i j. net.wired.outs_once a i j known });
+          (fits_ports (k a)).outs_are;
       held = all_held;
       room = rooms;
       work = work.can_work s inputs (many a) times (nets.node n a) past (get_or works a d) outputs ((wiring s n).ins a) ((wiring s n).outs a)
           (times * get_or takes (get_or ((wiring s n).ins a) 0 0) 0) (times * get_or puts (get_or ((wiring s n).outs a) 0 0) 0)
           does goes (omega (arith, count, own, below a known)) ins_long outs_long
-          (λ one. ap (λ v. times * v) (sum_one takes ((wiring s n).ins a) one ∙ (sum_taken s net.ports n net.good a (k a) known takes puts (plan (k a)) ∙ ap (in_all s (nets.node n a)) (sym count))))
-          (λ one. ap (λ v. times * v) (sum_one puts ((wiring s n).outs a) one ∙ (sum_put s net.ports n net.good a (k a) known takes puts (plan (k a)) ∙ ap (out_all s (nets.node n a)) (sym count))))
+          (λ one. ap (λ v. times * v) (sum_one takes ((wiring s n).ins a) one ∙ ((fits_ports (k a)).taken ∙ ap (in_all s (nets.node n a)) (sym count))))
+          (λ one. ap (λ v. times * v) (sum_one puts ((wiring s n).outs a) one ∙ ((fits_ports (k a)).put ∙ ap (out_all s (nets.node n a)) (sym count))))
           (λ ext block is. standing.sink_took s n net inputs k st.history st.is a ext block known is ∙ ap (λ i. block * i) (sym count));
     }
       where
@@ -136,7 +137,7 @@ module _ {A S T Z : Type 0} (s : Steps A S T) (n : Netlist A T) (net : Known s n
 
             loop : (wiring s n).rates.target c ≡ a → ⊥
             loop e =
-                let at = ins_all s net.ports n net.good a c known (net.wired.outs_are a 0 known h).0 e in
+                let at = ins_all s n net a known c (net.wired.outs_are a 0 known h).0 e in
                 let first : at.0 ≡ 0 = omega (arith, at.1, few.0) in
                 few.2 (omega (arith, at.1)) h (ap (λ i. get_or ((wiring s n).ins a) i 0) (sym first) ∙ at.2)
 
@@ -164,7 +165,7 @@ module _ {A S T Z : Type 0} (s : Steps A S T) (n : Netlist A T) (net : Known s n
 
       taken_same : (b : ℕ) → b < length n.nodes → taken_before (wiring s n) st.history b (k b) ≡ taken_before (wiring s n) W b (k b)
       taken_same b l =
-          net.stays n st.history W b (k b) net.good l
+          net.laws.stays n st.history W b (k b) net.good l
           (λ c h e.
           let all : (wiring s n).rates.consumed c (k ((wiring s n).rates.target c)) ≤ length (st.history c) = omega (arith, st.is.lengths c h, st.is.enough c h) in
           subst (λ i. (wiring s n).rates.consumed c i ≤ length (st.history c)) (ap k e) all)
@@ -202,7 +203,7 @@ module _ {A S T Z : Type 0} (s : Steps A S T) (n : Netlist A T) (net : Known s n
       each_takes : (x : A) → nets.node n a ≡ node.Inner x → (c : ℕ) → (wiring s n).ins a ≡ c ∷ [] → c < length n.wires → (wiring s n).rates.target c ≡ a → (i : ℕ) →
           (wiring s n).rates.consumed c (i + 1) ≡ (wiring s n).rates.consumed c i + total_in s x (phase s x i)
       each_takes x e c into l t i =
-          let sum : sum_by (λ c. get_or takes c 0) (c ∷ []) ≡ in_all s (nets.node n a) i = ap (sum_by (λ c. get_or takes c 0)) (sym into) ∙ sum_taken s net.ports n net.good a i known takes puts (plan i) in
+          let sum : sum_by (λ c. get_or takes c 0) (c ∷ []) ≡ in_all s (nets.node n a) i = ap (sum_by (λ c. get_or takes c 0)) (sym into) ∙ (fits_ports i).taken in
           let all : in_all s (nets.node n a) i ≡ total_in s x (phase s x i) = ap (λ x. in_all s x i) e in
           omega (arith, (plan i).taken c l t, sum_by-cons (λ c. get_or takes c 0) c [])
 
@@ -284,7 +285,7 @@ module _ {A S T Z : Type 0} (s : Steps A S T) (n : Netlist A T) (net : Known s n
       left_after c l =
           fired.queues c (omega (arith, st.channels)) ∙
           (ap (λ ys. drop (at_ports ((wiring s n).ins a) (times * get_or takes c 0) c) (samples qs c) ++ ys) (dealt c l) ∙
-          (ap (λ j. drop j (samples qs c) ++ more c) (at_ins s net.ports n net.good a (times * get_or takes c 0) c known l) ∙
+          (ap (λ j. drop j (samples qs c) ++ more c) ((net.laws.theirs n a c net.good known l).1 (times * get_or takes c 0)) ∙
           go (cases_eq ((wiring s n).rates.target c) a)))
         where
           x : ℕ
@@ -309,21 +310,17 @@ module _ {A S T Z : Type 0} (s : Steps A S T) (n : Netlist A T) (net : Known s n
       joins_on : (ext size : ℕ) → nets.node n a ≡ node.Sink ext size → flat_map (λ (b : List T). b) (taken_before (wiring s n) W a (m a)) ≡ flat_map (λ b. b) past ++ block
       joins_on ext size e =
           let c : ℕ = to_port n a 0 in
-          let into : (wiring s n).ins a ≡ c ∷ [] = into_sink s n a ext size e in
-          let some : 0 < length ((wiring s n).ins a) = (let one : length ((wiring s n).ins a) ≡ 1 = ap length into in omega (arith, one)) in
-          let first : get_or ((wiring s n).ins a) 0 0 ≡ c = ap (λ xs. get_or xs 0 0) into in
-          let l : c < length n.wires = subst (λ b. b < length n.wires) first (net.wired.ins_are a 0 known some).0 in
-          let t : (wiring s n).rates.target c ≡ a = subst (λ b. (wiring s n).rates.target b ≡ a) first (net.wired.ins_are a 0 known some).1 in
+          let at = into_sink s n net a known ext size e in
           let rise : (wiring s n).rates.consumed c (k a) ≤ (wiring s n).rates.consumed c (k a + times) = net.wired.sound.consumed_rises c (k a) (k a + times) (omega arith) in
-          joined_taken s n net.wired W a c into (m a) ∙
+          net.laws.took n W m a ext size net.good e ∙
           (ap (λ i. take ((wiring s n).rates.consumed c i) (W c)) own ∙
           (take_on (W c) ((wiring s n).rates.consumed c (k a)) ((wiring s n).rates.consumed c (k a + times)) rise ∙
-          (λ i. (sym (joined_taken s n net.wired W a c into (k a)) ∙ ap (flat_map (λ (b : List T). b)) (sym (taken_same a known))) i ++ sym (block_is c into l t) i)))
+          (λ i. (sym (net.laws.took n W k a ext size net.good e) ∙ ap (flat_map (λ (b : List T). b)) (sym (taken_same a known))) i ++ sym (block_is c at.0 at.1 at.2) i)))
 
       here : IsWork s inputs outputs' (many a) (nets.node n a) (taken_before (wiring s n) W a (m a)) y
       here =
           work.work_next s inputs (many a) times (nets.node n a) past (taken_before (wiring s n) W a (m a)) (get_or works a d) y outputs outputs' block does one_phase fired.work
-          (length_taken_before (wiring s n) W a (m a) ∙ (own ∙ ap (λ i. i + times) (sym count))) states_on joins_on same_outputs fired.lists fired.capacities
+          (net.laws.counts n W a (m a) ∙ (own ∙ ap (λ i. i + times) (sym count))) states_on joins_on same_outputs fired.lists fired.capacities
 
       there : (b : ℕ) (e : Work A T S) → b < length n.nodes → (a ≡ b → ⊥) → IsWork s inputs outputs' (many b) (nets.node n b) (taken_before (wiring s n) W b (m b)) (get_or works b e)
       there b e l ne =

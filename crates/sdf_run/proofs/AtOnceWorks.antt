@@ -13,11 +13,11 @@ use Rattle.sdf_actor.specs.Nets.{inputs_of, outputs_of, cycle_of}
 use Rattle.sdf_run.specs.declared.work.Work.{Work}
 use Rattle.sdf_run.specs.declared.work.Work.TheVariants.{Source, Sink, Inner}
 use Rattle.sdf_answer.specs.Lists.{list, capacity}
+use Rattle.sdf_answer.specs.Sizes.{in_all, out_all}
 use Rattle.sdf_run.specs.Firings.{added}
 use Rattle.sdf_run.specs.AtOnce.{GoesAtOnce, all_made, HaveWorked, CanWorkAtOnce}
 use Rattle.sdf_run.specs.Runs.{IsWork}
 use Rattle.sdf_run.proofs.Parts.{none_of}
-use Rattle.sdf_run.proofs.Routes.{in_all, out_all}
 
 -- a sum of equal terms
 pub sum_of_equal : (f : ℕ → ℕ) (v many : ℕ) → ((i : ℕ) → f i ≡ v) → sum_to f many ≡ many * v

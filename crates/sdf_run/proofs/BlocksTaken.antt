@@ -1,5 +1,5 @@
 -- The blocks of many firings, taken from queues and put on queues one after another.
-use Rattle.std.proofs.Common.{◌≡◌, ℕ, suc, ◌+◌, ◌-◌, ◌*◌, ◌≤◌, ◌<◌, List, [], ◌∷◌, ◌++◌, length, get_or, take, drop, map, cond, eqb, Bool, true, false, refl, sym, ap, ◌∙◌, subst, inl, inr, ◌⊎◌, arith, add-one}
+use Rattle.std.proofs.Common.{◌≡◌, ℕ, zero, suc, ◌+◌, ◌-◌, ◌*◌, ◌≤◌, ◌<◌, List, [], ◌∷◌, ◌++◌, length, get_or, take, drop, map, cond, eqb, Bool, true, false, refl, sym, ap, ◌∙◌, subst, inl, inr, ◌⊎◌, arith, add-one}
 use Rattle.std.specs.List.{flat_map, sum_by, range_with_len}
 use Rattle.std.proofs.Math.Nat.{suc-mul, mul-le-mul_right}
 use Rattle.std.proofs.lemmas.List.{append_assoc, drop-drop, length-drop, length-append, length-take}
@@ -11,8 +11,17 @@ use Rattle.sdf_answer.specs.Blocks.{nothing, samples, room, at_ports, ArePorts, 
 use Rattle.sdf_run.specs.Many.{chained, front_at, dealt}
 use Rattle.sdf_run.proofs.Chained.{chained_short, length_chained}
 use Rattle.sdf_run.proofs.Firing.{length_front}
-use Rattle.sdf_run.proofs.Grown.{flat_map_same}
-use Rattle.sdf_run.proofs.Routes.{at_one}
+use Rattle.sdf_run.proofs.Parts.{flat_map_same}
+
+-- at a port there is so much
+pub at_one : (ds : List ℕ) (n many c : ℕ) → n < length ds → get_or ds n 0 ≡ c → at_ports ds many c ≡ many
+at_one [] n many c l e = absurd (omega arith)
+at_one (d ∷ ds) zero many c l e = ap (λ t. cond t many (at_ports ds many c)) (eq-eqb d c e)
+at_one (d ∷ ds) (suc n) many c l e = go (eqb d c) (at_one ds n many c (omega arith) e)
+  where
+    go : (t : Bool) → at_ports ds many c ≡ many → cond t many (at_ports ds many c) ≡ many
+    go true ih = refl
+    go false ih = ih
 
 -- one block more
 pub one_more : (i size : ℕ) → (i + 1) * size ≡ i * size + size

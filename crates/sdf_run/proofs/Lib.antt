@@ -1,13 +1,10 @@
-pub mod Ports
 pub mod Firing
-pub mod Grown
-pub mod Routes
+pub mod Known
 pub mod Standing
 pub mod Works
 pub mod Ends
 pub mod Readings
 pub mod Beginnings
-pub mod Sinks
 pub mod Sweeping
 pub mod Parts
 pub mod Longer

@@ -10,7 +10,7 @@ use Rattle.sdf_actor.specs.Steps.{Steps}
 use Rattle.sdf_actor.specs.Histories.{taken, taken_before, spread}
 use Rattle.sdf_actor.specs.Nets.{Netlist, node, wiring, answers, SourceReaches, InputsReach, IsHistoryOf}
 use Rattle.sdf_actor.specs.Laws.{after_firing}
-use Rattle.sdf_run.proofs.Grown.{Known}
+use Rattle.sdf_run.proofs.Known.{Known}
 
 -- sources that find the samples of many firings find those of fewer
 source_reaches : {A T : Type 0} (inputs : List (List T)) (many k : ℕ → ℕ) (a : ℕ) (x : Node A) → SourceReaches inputs many a x → k a ≤ many a → SourceReaches inputs k a x
@@ -76,7 +76,7 @@ module _ {A S T : Type 0} (s : Steps A S T) (n : Netlist A T) (net : Known s n) 
       go : GoesOn mid → GoesOn m
       go (W, is, more) = (
         after_firing s n inputs mid W a,
-        net.grows n inputs mid m a W net.good known on one apart (reaches n inputs top m reach below) is,
+        net.laws.grows n inputs mid m a W net.good known on one apart (reaches n inputs top m reach below) is,
         λ c. ((more c).0 ++ last c, ap (λ ys. ys ++ last c) (more c).1 ∙ append_assoc (V c) (more c).0 (last c)),
       )
         where

@@ -21,18 +21,18 @@ use Rattle.sdf_actor.specs.Nets.{Netlist, wiring, cycle_of, InputsReach, IsHisto
 use Rattle.sdf_run.specs.declared.work.Work.{Work}
 use Rattle.sdf_run.specs.declared.work.Work.TheVariants.{Source, Sink, Inner}
 use Rattle.sdf_answer.specs.Held.{Held}
-use Rattle.sdf_answer.specs.Blocks.{nothing, samples, room, at_ports, ArePorts}
-use Rattle.sdf_answer.specs.Sizes.{Rows, IsPlan, AreSizes, at_phase}
-use Rattle.sdf_run.specs.Firings.{front, made, phase_at, IsActor, IsFired}
+use Rattle.sdf_answer.specs.Blocks.{nothing, samples, room, at_ports, ArePorts, front}
+use Rattle.sdf_answer.specs.Moves.{FitsPorts}
+use Rattle.sdf_answer.specs.Sizes.{Rows, IsPlan, AreSizes, at_phase, in_all, out_all}
+use Rattle.sdf_run.specs.Firings.{made, phase_at, IsActor, IsFired}
 use Rattle.sdf_run.specs.Many.{chained, front_at, dealt, GoesByMany, HasItsBlocks, Fit, HaveManyWorked, CanFireMany, AreManyFired}
 use Rattle.sdf_run.specs.Runs.{HasBlocks, IsWork, Stands}
 use Rattle.sdf_run.proofs.AtOnceWorks.{at_none, sum_of_equal}
-use Rattle.sdf_run.proofs.BlocksTaken.{one_more, at_sum, at_zero, cut_more, front_long}
+use Rattle.sdf_run.proofs.BlocksTaken.{at_one, one_more, at_sum, at_zero, cut_more, front_long}
 use Rattle.sdf_run.proofs.Chained.{chained_none, chained_part}
-use Rattle.sdf_run.proofs.Grown.{Known, flat_map_same, length_taken_before}
+use Rattle.sdf_run.proofs.Known.{Known, ins_all}
 use Rattle.sdf_run.proofs.Longer.{reaches}
-use Rattle.sdf_run.proofs.Ports.{spread_none}
-use Rattle.sdf_run.proofs.Routes.{in_all, out_all, at_one, at_ins, ins_all, sum_taken, sum_put}
+use Rattle.sdf_run.proofs.Parts.{flat_map_same, spread_none}
 use Rattle.sdf_run.proofs.Standing as standing
 use Rattle.sdf_run.proofs.Steady as steady
 
@@ -103,12 +103,12 @@ puts_chained s x j state b zero = refl
 puts_chained s x j state b (suc i) = ap (λ ys. ys ++ s.puts x (phase s x (j + i)) (state_at s x j state b i) (block_at s x j b i)) (puts_chained s x j state b i)
 
 -- what a firing took, of those before another
-taken_at : {T : Type 0} (f : Wiring T) (V : ℕ → List T) (a i e : ℕ) → e < i → get_or (taken_before f V a i) e [] ≡ taken f V a e
-taken_at f V a zero e l = absurd (omega arith)
-taken_at f V a (suc i) e l = go (λ less. taken_at f V a i e less) (cases_lt e i)
+taken_at : {T : Type 0} (f : Wiring T) (V : ℕ → List T) (a : ℕ) → ((i : ℕ) → length (taken_before f V a i) ≡ i) → (i e : ℕ) → e < i → get_or (taken_before f V a i) e [] ≡ taken f V a e
+taken_at f V a counts zero e l = absurd (omega arith)
+taken_at f V a counts (suc i) e l = go (λ less. taken_at f V a counts i e less) (cases_lt e i)
   where
     long : length (taken_before f V a i) ≡ i
-    long = length_taken_before f V a i
+    long = counts i
 
     go : (e < i → get_or (taken_before f V a i) e [] ≡ taken f V a e) → (e < i) ⊎ (i ≤ e) → get_or (taken_before f V a i ++ taken f V a i ∷ []) e [] ≡ taken f V a e
     go before (inl less) = get_or_append_left (taken_before f V a i) (taken f V a i ∷ []) [] e (omega (arith, long)) ∙ before less
@@ -179,13 +179,16 @@ module _ {A S T Z : Type 0} (s : Steps A S T) (fits : (x : A) → PutsFit s x) (
       steady.come s n net z sizes inputs many k a known works qs outputs st w0 one_phase times
       (subst (λ w. (i : ℕ) → i < length ins → times * get_or (at_phase z.takes (phase_at w)) (get_or ins i 0) 0 ≤ length (samples qs (get_or ins i 0))) (sym (does w0)) held)
 
+  fits_ports : FitsPorts s n a (k a) takes puts
+  fits_ports = net.laws.fit n a (k a) takes puts net.good known (plan (k a))
+
   size_is : total_in s actor.now j ≡ size
   size_is =
-      sym (sum_taken s net.ports n net.good a (k a) known takes puts (plan (k a)) ∙ (ap (λ x. in_all s x (k a)) inner.0 ∙ ap (total_in s actor.now) (same_phase (k a))))
+      sym (fits_ports.taken ∙ (ap (λ x. in_all s x (k a)) inner.0 ∙ ap (total_in s actor.now) (same_phase (k a))))
 
   more_is : total_out s actor.now j ≡ more
   more_is =
-      sym (sum_put s net.ports n net.good a (k a) known takes puts (plan (k a)) ∙ (ap (λ x. out_all s x (k a)) inner.0 ∙ ap (total_out s actor.now) (same_phase (k a))))
+      sym (fits_ports.put ∙ (ap (λ x. out_all s x (k a)) inner.0 ∙ ap (total_out s actor.now) (same_phase (k a))))
 
   sums_in : (i : ℕ) → sum_in s actor.now j i ≡ i * size
   sums_in i = sum_of_equal (λ e. total_in s actor.now (phase s actor.now (j + e))) size i (λ e. ap (total_in s actor.now) (same_phase (j + e)) ∙ size_is)
@@ -201,7 +204,7 @@ module _ {A S T Z : Type 0} (s : Steps A S T) (fits : (x : A) → PutsFit s x) (
   can_fire fit roomy = record {
     ins_are = ports_are;
     outs_are = subst (ArePorts outs puts) (sym st.channels)
-        (record { known = λ i h. standing.out_known s n net a i known h; sized = (plan (k a)).puts_all; once = λ i e. net.wired.outs_once a i e known });
+        fits_ports.outs_are;
     held = held;
     room = rooms;
     work = (
@@ -233,7 +236,7 @@ module _ {A S T Z : Type 0} (s : Steps A S T) (fits : (x : A) → PutsFit s x) (
           put l e = subst (λ w. (wiring s n).rates.produced c (k a + times) ≡ (wiring s n).rates.produced c (k a) + times * get_or (at_phase z.puts (phase_at w)) c 0) (does w0) (steady.all_put s n net z sizes inputs many k a known works qs outputs st w0 one_phase c l e times)
 
           loop : c < length n.wires → (wiring s n).rates.target c ≡ a → ⊥
-          loop l e = let at = ins_all s net.ports n net.good a c known l e in apart at.0 i at.1 h at.2
+          loop l e = let at = ins_all s n net a known c l e in apart at.0 i at.1 h at.2
 
   abbrev f : ℕ → List T
   f = front_at takes ins qs
@@ -292,11 +295,11 @@ module _ {A S T Z : Type 0} (s : Steps A S T) (fits : (x : A) → PutsFit s x) (
 
   -- each firing finds what it takes
   within : (i c : ℕ) → i < times → c < length n.wires → at_ports ins ((i + 1) * get_or takes c 0) c ≤ length (samples qs c)
-  within i c l h = subst (λ v. v ≤ length (samples qs c)) (sym (at_ins s net.ports n net.good a ((i + 1) * get_or takes c 0) c known h)) (go (cases_eq ((wiring s n).rates.target c) a))
+  within i c l h = subst (λ v. v ≤ length (samples qs c)) (sym ((net.laws.theirs n a c net.good known h).1 ((i + 1) * get_or takes c 0))) (go (cases_eq ((wiring s n).rates.target c) a))
     where
       go : ((wiring s n).rates.target c ≡ a) ⊎ ((wiring s n).rates.target c ≡ a → ⊥) → cond (eqb ((wiring s n).rates.target c) a) ((i + 1) * get_or takes c 0) 0 ≤ length (samples qs c)
       go (inl e) =
-          let at = ins_all s net.ports n net.good a c known h e in
+          let at = ins_all s n net a known c h e in
           let all_held : times * get_or takes c 0 ≤ length (samples qs c) = subst (λ b. times * get_or takes b 0 ≤ length (samples qs b)) at.2 (held at.0 at.1) in
           let up : (i + 1) * get_or takes c 0 ≤ times * get_or takes c 0 = mul-le-mul_right (get_or takes c 0) (let v : i + 1 ≤ times = omega arith in v) in
           subst (λ t. cond t ((i + 1) * get_or takes c 0) 0 ≤ length (samples qs c)) (sym (eq-eqb ((wiring s n).rates.target c) a e)) (omega (arith, all_held, up))
@@ -348,11 +351,11 @@ module _ {A S T Z : Type 0} (s : Steps A S T) (fits : (x : A) → PutsFit s x) (
 
     piece_long : length (piece i) ≡ more
     piece_long =
-        let count : length past ≡ kk i a = length_taken_before (wiring s n) at.history a (kk i a) in
+        let count : length past ≡ kk i a = net.laws.counts n at.history a (kk i a) in
         let put_at : piece i ≡ s.puts actor.now (phase s actor.now (length past)) (state_after s actor.now past) (f i) = λ e. s.puts actor.now ((same_phase (j + i) ∙ here.1) e) (here.2 e) (block_is i l e) in
         ap length put_at ∙
         (fits actor.now past (f i)
-        (λ e h. ap length (taken_at (wiring s n) at.history a (kk i a) e (omega (arith, count, h))) ∙ (took e (omega (arith, count, h)) ∙ (sym size_is ∙ ap (total_in s actor.now) (sym (same_phase e)))))
+        (λ e h. ap length (taken_at (wiring s n) at.history a (net.laws.counts n at.history a) (kk i a) e (omega (arith, count, h))) ∙ (took e (omega (arith, count, h)) ∙ (sym size_is ∙ ap (total_in s actor.now) (sym (same_phase e)))))
         (f_long i l ∙ (sym size_is ∙ ap (total_in s actor.now) here.1)) ∙
         (ap (total_out s actor.now) (sym here.1) ∙ more_is))
 

@@ -1,10 +1,23 @@
 -- Parts of lists.
-use Rattle.std.proofs.Common.{◌≡◌, ℕ, ◌+◌, ◌-◌, ◌≤◌, List, [], ◌∷◌, ◌++◌, length, get_or, take, drop, refl, sym, ap, ◌∙◌, arith}
-use Rattle.std.specs.List.{between}
-use Rattle.std.proofs.lemmas.List.{drop-drop, take-take, take_all, drop-append-le, length-take-le, length-append}
-use Rattle.std.proofs.lemmas.Slice.{between_is, take-put_mid}
-use borrow.Rule.Slice.PartMut.{put_mid}
-use Rattle.sdf_run.proofs.Sinks.{take_on}
+use Rattle.std.proofs.Common.{◌≡◌, ℕ, suc, ◌+◌, ◌-◌, ◌≤◌, ◌<◌, List, [], ◌∷◌, ◌++◌, length, get_or, take, drop, cond, refl, sym, ap, ◌∙◌, arith}
+use Rattle.std.specs.List.{between, flat_map}
+use Rattle.std.proofs.lemmas.List.{drop-drop, take-take}
+use Rattle.std.proofs.lemmas.Bool.{ne_eqb}
+use Rattle.std.proofs.lemmas.Slice.{between_is}
+use Rattle.sdf_actor.specs.Histories.{spread}
+use Rattle.std.proofs.Math.Seq.{take-add}
+
+-- a beginning is a shorter one and the part after it
+pub take_on : {X : Type 0} (xs : List X) (i j : ℕ) → i ≤ j → take j xs ≡ take i xs ++ between i j xs
+take_on xs i j h = ap (λ k. take k xs) (let e : j ≡ i + (j - i) = omega arith in e) ∙ take-add i (j - i) xs
+
+-- pieces that are the same, joined
+pub flat_map_same : {X : Type 0} (f g : ℕ → List X) (cs : List ℕ) → ((n : ℕ) → n < length cs → f (get_or cs n 0) ≡ g (get_or cs n 0)) → flat_map f cs ≡ flat_map g cs
+flat_map_same f g [] h = refl
+flat_map_same f g (c ∷ cs) h =
+    let e : f c ≡ g c = h 0 (omega arith) in
+    let r : flat_map f cs ≡ flat_map g cs = flat_map_same f g cs (λ n l. h (suc n) (omega arith)) in
+    cc
 
 -- a part is a shorter one and what follows it
 pub joined : {X : Type 0} (xs : List X) (i j k : ℕ) → i ≤ j → j ≤ k → between i k xs ≡ between i j xs ++ between j k xs
@@ -36,30 +49,9 @@ pub one_of : (xs : List ℕ) → length xs ≡ 1 → xs ≡ get_or xs 0 0 ∷ []
 one_of [] e = absurd (omega arith)
 one_of (x ∷ xs) e = ap (λ ys. x ∷ ys) (none_of xs (omega arith))
 
--- a part whose beginning is dropped
-pub released : {T : Type 0} (xs : List T) (start end many : ℕ) → between (start + many) end xs ≡ drop many (between start end xs)
-released xs start end many = between_is xs (start + many) end ∙ (sym (drop-drop many start (take end xs)) ∙ ap (drop many) (sym (between_is xs start end)))
-
--- a block behind a part
-pub put_behind : {T : Type 0} (xs ys : List T) (start end last : ℕ) → start ≤ end → end ≤ length xs → last ≡ end + length ys →
-    between start last (take end xs ++ ys) ≡ between start end xs ++ ys
-put_behind xs ys start end last rise within is =
-    let long : length (take end xs) ≡ end = length-take-le end xs within in
-    between_is (take end xs ++ ys) start last ∙
-    (ap (drop start) (take_all last (take end xs ++ ys) (omega (arith, length-append (take end xs) ys))) ∙
-    (drop-append-le start (take end xs) ys (omega (arith, long)) ∙ ap (λ zs. zs ++ ys) (sym (between_is xs start end))))
-
--- and where it is written over what stood there
-pub put_over : {T : Type 0} (xs ys : List T) (start end many last : ℕ) → start ≤ end → end ≤ length xs → last ≡ end + length ys →
-    between start last (put_mid end many xs ys) ≡ between start end xs ++ ys
-put_over xs ys start end many last rise within is =
-    let long : length (take end xs) ≡ end = length-take-le end xs within in
-    between_is (put_mid end many xs ys) start last ∙
-    (ap (drop start) (take-put_mid end many xs ys last is within) ∙
-    (drop-append-le start (take end xs) ys (omega (arith, long)) ∙ ap (λ zs. zs ++ ys) (sym (between_is xs start end))))
-
--- a part of the beginning of a longer list
-pub part_of_front : {T : Type 0} (xs ys : List T) (start end : ℕ) → take (length xs) ys ≡ xs → end ≤ length xs → between start end ys ≡ between start end xs
-part_of_front xs ys start end front within =
-    between_is ys start end ∙
-    (ap (drop start) (sym (take-take end (length xs) ys within) ∙ ap (take end) front) ∙ sym (between_is xs start end))
+-- nothing goes to a channel at none of the ports
+pub spread_none : {T : Type 0} (size : ℕ → ℕ) (ds : List ℕ) (b : List T) (c : ℕ) → ((n : ℕ) → n < length ds → get_or ds n 0 ≡ c → ⊥) → spread size ds b c ≡ []
+spread_none size [] b c none = refl
+spread_none size (d ∷ ds) b c none =
+    ap (λ t. cond t (take (size d) b) (spread size ds (drop (size d) b) c)) (ne_eqb d c (none 0 (omega arith))) ∙
+    spread_none size ds (drop (size d) b) c (λ n l. none (suc n) (omega arith))

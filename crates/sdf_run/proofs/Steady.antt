@@ -11,8 +11,7 @@ use Rattle.sdf_answer.specs.Blocks.{samples}
 use Rattle.sdf_answer.specs.Sizes.{Rows, IsPlan, AreSizes, at_phase, phase_of}
 use Rattle.sdf_run.specs.Firings.{phase_at}
 use Rattle.sdf_run.specs.Runs.{Stands}
-use Rattle.sdf_run.proofs.Grown.{Known}
-use Rattle.sdf_run.proofs.Routes.{ins_all}
+use Rattle.sdf_run.proofs.Known.{Known, ins_all}
 use Rattle.sdf_run.proofs.Standing as standing
 
 module _ {A S T Z : Type 0} (s : Steps A S T) (n : Netlist A T) (net : Known s n) (z : Rows) (sizes : AreSizes s n z) (inputs : List (List T)) (many k : ℕ → ℕ) (a : ℕ) (known : a < length n.nodes)
@@ -52,7 +51,7 @@ module _ {A S T Z : Type 0} (s : Steps A S T) (n : Netlist A T) (net : Known s n
   pub come : (times : ℕ) → ((i : ℕ) → i < length ((wiring s n).ins a) → times * get_or takes (get_or ((wiring s n).ins a) i 0) 0 ≤ length (samples qs (get_or ((wiring s n).ins a) i 0))) →
       (c : ℕ) → c < length n.wires → (wiring s n).rates.target c ≡ a → (wiring s n).rates.consumed c (k a + times) ≤ (wiring s n).rates.initial c + (wiring s n).rates.produced c (k ((wiring s n).rates.source c))
   come times held c l e =
-      let at = ins_all s net.ports n net.good a c known l e in
+      let at = ins_all s n net a known c l e in
       let here : times * get_or takes c 0 ≤ length (samples qs c) = subst (λ b. times * get_or takes b 0 ≤ length (samples qs b)) at.2 (held at.0 at.1) in
       let mine : (wiring s n).rates.consumed c (k ((wiring s n).rates.target c)) ≡ (wiring s n).rates.consumed c (k a) = ap (λ b. (wiring s n).rates.consumed c (k b)) e in
       let stood = standing.standing s n net z sizes inputs many k a known works qs outputs st d c l in

@@ -11,7 +11,6 @@ use Rattle.sdf_sched.specs.Laws.{StuckCountsMeanDeadlock}
 use Rattle.sdf_actor.specs.Steps.{Steps, PutsFit}
 use Rattle.sdf_actor.specs.Histories.{taken_before}
 use Rattle.sdf_actor.specs.Nets.{node, wiring, InputsReach}
-use Rattle.sdf_actor.specs.Laws.{NetsAreWired, PortsHaveChannels, HistoryGrowsByFiring, TakenStays}
 use Rattle.sdf_actor.specs.Wires.{lists}
 use Rattle.sdf_run.specs.declared.work.Work.{Work}
 use Rattle.sdf_run.specs.declared.run.Run.{Run}
@@ -21,12 +20,12 @@ use Rattle.sdf_answer.specs.Sizes.{phase_of, at_phase}
 use Rattle.sdf_run.specs.Firings.{phase_at, IsActor}
 use Rattle.sdf_run.specs.AtOnce.{GoesAtOnce, CanFireAtOnceAt, AreFiredAt}
 use Rattle.sdf_run.specs.Many.{GoesByMany, HasItsBlocks, Fit, CanFireManyAt, AreManyFiredAt}
-use Rattle.sdf_run.specs.Runs.{Stands, FiresAlone, CanFireAt, IsFiredAt}
+use Rattle.sdf_run.specs.Runs.{FiringLaws, Stands, FiresAlone, CanFireAt, IsFiredAt}
 use Rattle.sdf_answer.specs.Answer.{periods_of}
 use Rattle.sdf_run.specs.Sweeps.{Sweeps, IsSwept, MayFire, HasRoom, Keeps, IsMoved, AreHeld}
 use Rattle.sdf_run.proofs.Readings.{some_of}
 use Rattle.sdf_run.proofs.AtOnce as at_once
-use Rattle.sdf_run.proofs.Grown.{Known}
+use Rattle.sdf_run.proofs.Known.{Known}
 use Rattle.sdf_run.proofs.Longer.{reaches}
 use Rattle.sdf_run.proofs.Many.{its_blocks, can_fire_many, stands_many}
 use Rattle.sdf_run.proofs.Standing as standing
@@ -89,8 +88,8 @@ sweep_on s r r' x y z i still before moved here none b l may = go (cases_lt b i)
     go (inr past) = here (still none).1 (subst (λ b. MayFire s r b) (let e : b ≡ i = omega arith in e) back)
 
 -- what a step of a run stands on
-pub net_known : {A S T : Type 0} (s : Steps A S T) → NetsAreWired s → PortsHaveChannels s → HistoryGrowsByFiring s → TakenStays s → (r : Run A T S) → IsSwept s r → Known s r.net.now
-net_known s wired ports grows stays r sw = record { good = sw.good; wired = wired r.net.now sw.good; ports = ports; grows = grows; stays = stays }
+pub net_known : {A S T : Type 0} (s : Steps A S T) → FiringLaws s → (r : Run A T S) → IsSwept s r → Known s r.net.now
+net_known s laws r sw = record { good = sw.good; wired = laws.wired r.net.now sw.good; laws = laws }
 
 -- at the same ports and queues
 pub holds_along : {T : Type 0} (ins ins' sizes sizes' : List ℕ) (qs qs' : List (Held T)) → ins ≡ ins' → sizes ≡ sizes' → qs ≡ qs' → HoldBlocks ins sizes qs → HoldBlocks ins' sizes' qs'

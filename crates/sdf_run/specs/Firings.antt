@@ -1,22 +1,18 @@
 -- One firing of an actor by copies: when it can be done, and what it does.
-use Rattle.std.specs.Prelude.{◌≡◌, ℕ, ◌+◌, ◌-◌, ◌%◌, ◌≤◌, ◌<◌, ◌==◌, cond, List, [], ◌++◌, length, take, drop, slice_index, vec_capacity}
-use Rattle.std.specs.List.{flat_map, sum_by}
+use Rattle.std.specs.Prelude.{◌≡◌, ℕ, ◌+◌, ◌-◌, ◌%◌, ◌≤◌, ◌<◌, ◌==◌, cond, List, [], ◌++◌, length, drop, slice_index, vec_capacity}
+use Rattle.std.specs.List.{sum_by}
 use Rattle.sdf_actor.specs.Steps.{Steps, total_in, total_out}
 use Rattle.sdf_actor.specs.Histories.{spread}
 use Rattle.sdf_run.specs.declared.work.Work.{Work}
 use Rattle.sdf_run.specs.declared.work.Work.TheVariants.{Source, Sink, Inner}
 use Rattle.sdf_answer.specs.Held.{Held}
-use Rattle.sdf_answer.specs.Blocks.{samples, room, at_ports, ArePorts, HoldBlocks}
+use Rattle.sdf_answer.specs.Blocks.{samples, room, front, at_ports, ArePorts, HoldBlocks}
 
 -- the phase of the next firing
 abbrev pub phase_at : {A S T : Type 0} → Work A T S → ℕ
 phase_at (Source ext next block) = 0
 phase_at (Sink ext) = 0
 phase_at (Inner actor phase state taken put lengths) = phase
-
--- the block that stands at the fronts of the queues of some channels
-abbrev pub front : {T : Type 0} → List ℕ → List ℕ → List (Held T) → List T
-front takes ins qs = flat_map (λ c. take (slice_index takes c) (samples qs c)) ins
 
 -- what is added to output list e where block b is taken
 abbrev pub added : {A S T : Type 0} → Work A T S → List T → ℕ → List T

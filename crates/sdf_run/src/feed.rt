@@ -14,12 +14,12 @@ ghost use Rattle.sdf_answer.specs.Lists.{AreEmpty};
 ghost use Rattle.sdf_run.specs.Fired.{state_in};
 
 use crate::one::fired;
-use crate::queue::Queue;
 use crate::work::Work;
 use sdf_actor::{Actor, Begun, Net, Rest};
 use sdf_answer::inputs::{are_inputs, first_sample};
 use sdf_answer::laws::{begun_nets_go_on, histories_make_runs, net_facts, nets_have_periods};
 use sdf_answer::outputs::make_outputs;
+use sdf_answer::queue::held;
 use sdf_answer::{Ran, RunFault};
 use sdf_sched::Period;
 use std::alloc::{AllocError, Global};
@@ -48,17 +48,6 @@ fn states_of<A: Actor>(
     Ok(states)
 }
 
-/// Copies of the samples on all channels.
-fn samples_held<T: Copy>(alloc: Global, queues: &[Queue<T>]) -> Result<Vec<Vec<T>>, AllocError>
-    ensures { IfOk result (λ v. lists v.items ≡ map (λ q. q.samples) queues.now) }
-{
-    let mut held = Vec::new(alloc);
-    for queue in queues {
-        held.push(Vec::from_slice(alloc, queue.oldest(queue.len()))?)?;
-    }
-    Ok(held)
-}
-
 /// What a run makes and leaves.
 fn run<A: Actor>(
     alloc: Global,
@@ -80,7 +69,7 @@ fn run<A: Actor>(
     let finished = fired(alloc, net, period, periods, inputs, filler, outputs)?;
     let rest = Rest {
         states: states_of(alloc, &finished.works)?,
-        held: samples_held(alloc, &finished.queues)?,
+        held: held(alloc, &finished.queues)?,
     };
     Ok((finished.outputs, rest))
 }

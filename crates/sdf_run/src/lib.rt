@@ -1,7 +1,7 @@
 //! Runs of nets.
 //!
 //! It stands on `sdf_answer`, `sdf_rows`, `sdf_graph`, `sdf_sched`, `sdf_actor` and `sdf_node`. Begin at `one`, the runner on one thread, then
-//! `run`, what it holds, `work`, a node at work, and `queue`, the samples of a channel; `feed`, a run that another one goes on from; `session`, a run that is fed in pieces. The runner by rows is `sdf_rows`; what all
+//! `run`, what it holds, `work`, a node at work, and `block`, the blocks of its firings; `feed`, a run that another one goes on from; `session`, a run that is fed in pieces. The runner by rows is `sdf_rows`; what all
 //! runners are given and give is in `sdf_answer`.
 #![tactic(auto)]
 
@@ -9,7 +9,6 @@ mod block;
 pub mod feed;
 pub mod mode;
 pub mod one;
-mod queue;
 mod run;
 pub mod session;
 mod setup;

@@ -14,11 +14,12 @@ ghost use Rattle.sdf_run.specs.Fired.{HasFired};
 ghost use Rattle.sdf_answer.specs.Answer.{AreInputs, HasInputs, AreOutputs, periods_of, IsRunFault};
 
 use crate::run::Run;
-use crate::setup::{make_queues, make_works};
+use crate::setup::make_works;
 use sdf_actor::{Actor, Net};
 use sdf_answer::inputs::{are_inputs, first_sample};
 use sdf_answer::laws::{histories_make_outputs, net_facts, nets_can_run, nets_have_periods};
 use sdf_answer::outputs::make_outputs;
+use sdf_answer::rooms::make_queues;
 use sdf_answer::{Ran, RunFault, Sizes};
 use sdf_sched::Period;
 use std::alloc::{AllocError, Global};

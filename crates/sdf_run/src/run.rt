@@ -2,17 +2,15 @@
 
 ghost use Rattle.std.specs.Prelude.{◌≡◌, ◌+◌, ◌*◌, ◌≤◌, ◌<◌, ◌↔◌, ℕ, true, false, length, slice_index, slice_index_or, IsTrue};
 ghost use Rattle.sdf_actor.specs.Steps.{PutsFit};
-ghost use Rattle.sdf_actor.specs.Laws.{NetsAreWired, PortsHaveChannels, HistoryGrowsByFiring, TakenStays};
 ghost use Rattle.sdf_run.specs.AtOnce.{CanFireAtOnceAt, AreFiredAt};
 ghost use Rattle.sdf_run.specs.Many.{Fit, CanFireManyAt, AreManyFiredAt};
-ghost use Rattle.sdf_run.specs.Runs.{CanFireAt, IsFiredAt};
+ghost use Rattle.sdf_run.specs.Runs.{FiringLaws, CanFireAt, IsFiredAt};
 ghost use Rattle.sdf_run.specs.Sweeps.{IsSwept, MayFire, HasRoom, Keeps, IsMoved, IsLeft, AreHeld};
 
 use crate::block::{blocks_held, hold_blocks};
-use crate::queue::Queue;
 use crate::work::{Ports, Work};
 use sdf_actor::{Actor, Net, Side};
-use sdf_answer::Sizes;
+use sdf_answer::{Queue, Sizes};
 
 /// What a run holds. Its net, inputs, sizes, period and length stay as they are.
 #[derive(Drop)]
@@ -39,15 +37,16 @@ pub(crate) struct Run<'a, A: Actor> {
 
 /// The laws that a firing in a run stands on.
 fn step_laws<A: Actor>()
-    ensures wired { NetsAreWired A.steps }
-    ensures ports { PortsHaveChannels A.steps }
-    ensures grows { HistoryGrowsByFiring A.steps }
-    ensures stays { TakenStays A.steps }
+    ensures laws { FiringLaws A.steps }
     ensures fits { (x : A) → PutsFit A.steps x }
 {
     sdf_actor::laws::nets_are_wired::<A>();
     sdf_actor::laws::taken_stays::<A>();
     sdf_actor::laws::history_grows_by_firing::<A>();
+    sdf_answer::laws::plans_fit::<A>();
+    sdf_answer::laws::nodes_take_theirs::<A>();
+    sdf_answer::laws::firings_move_on::<A>();
+    sdf_answer::laws::histories_make_outputs::<A>();
 }
 
 impl<'a, A: Actor> Run<'a, A> {

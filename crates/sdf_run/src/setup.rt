@@ -1,45 +1,15 @@
 //! What a run holds before its first firing.
 
-ghost use Rattle.std.specs.Prelude.{◌≡◌, ◌+◌, ◌*◌, ◌≤◌, ◌<◌, ℕ, [], length, slice_index, slice_index_or, vec_len, IfOk};
+ghost use Rattle.std.specs.Prelude.{◌≡◌, ◌+◌, ◌*◌, ◌≤◌, ◌<◌, ℕ, length, slice_index, slice_index_or, vec_len, IfOk};
 ghost use Rattle.std.specs.List.{sum_by};
-ghost use Rattle.sdf_graph.specs.Rates.{rates};
-ghost use Rattle.sdf_actor.specs.Graphs.{graph_of};
-ghost use Rattle.sdf_actor.specs.Nets.{node, wire, IsNet};
-ghost use Rattle.sdf_answer.specs.Blocks.{nothing};
+ghost use Rattle.sdf_actor.specs.Nets.{node, IsNet};
 ghost use Rattle.sdf_run.specs.Runs.{BeginsWork};
 ghost use Rattle.sdf_answer.specs.Sizes.{AreSizes, at_phase, rows_on};
 
-use crate::queue::Queue;
 use crate::work::Work;
 use sdf_actor::{Actor, Net, Node, Side};
 use sdf_answer::Sizes;
-use sdf_answer::rooms::put_in;
 use std::alloc::{AllocError, Global};
-
-/// The samples that each channel begins with, and room for these and what so many periods put there.
-pub(crate) fn make_queues<A: Actor>(
-    alloc: Global,
-    net: &Net<A>,
-    repetitions: &[u32],
-    periods: u32,
-) -> Result<Vec<Queue<A::Token>>, AllocError>
-    requires all { length repetitions.now ≡ length net.now.nodes }
-    requires short { (a : ℕ) → a < length repetitions.now → slice_index repetitions.now a ≤ 65536 }
-    requires few { periods ≤ 4096 }
-    ensures { let r = rates (graph_of A.steps net.now) in IfOk result (λ v. (vec_len v ≡ length net.now.wires) × ((c : ℕ) → c < length net.now.wires →
-        slice_index_or v.items c nothing ≡ record {
-          samples = (wire net.now c).initial;
-          room = length (wire net.now c).initial + periods * r.produced c (slice_index repetitions.now (r.source c));
-        })) }
-{
-    let graph = net.graph();
-    let mut queues = Vec::with_capacity(alloc, net.channels())?;
-    for (c, channel) in graph.channels().iter().enumerate() {
-        let room = channel.initial + put_in(channel, repetitions[channel.from], periods);
-        queues.push(Queue::new(alloc, &net.link(c).initial, room)?)?;
-    }
-    Ok(queues)
-}
 
 /// A block of fillers, with a place for each sample that a firing moves at some ports.
 fn make_block<T: Copy>(
@@ -128,7 +98,7 @@ fn make_work<'a, A: Actor>(
             ext: usize::from(*ext),
         }),
         Node::Inner(actor) => {
-            sdf_actor::laws::nets_are_wired::<A>();
+            sdf_answer::laws::plans_fit::<A>();
             let cycle = actor.cycle();
             let state = actor.start(alloc)?;
             let (taken, _) = make_blocks(

@@ -9,10 +9,11 @@ ghost use Rattle.sdf_run.specs.AtOnce.{fronts};
 ghost use Rattle.sdf_run.specs.Many.{chained, front_at, dealt};
 ghost use Rattle.sdf_answer.specs.Blocks.{samples, room, at_ports, ArePorts, HaveRoom};
 
-use crate::block::{put_block, put_blocks, take_block, take_blocks, whole_blocks};
-use crate::queue::Queue;
+use crate::block::{put_blocks, take_blocks, whole_blocks};
 use sdf_actor::Actor;
 use sdf_actor::actor::next_phase;
+use sdf_answer::Queue;
+use sdf_answer::blocks::{put_block, take_block};
 
 /// What a node does in a firing.
 #[derive(Drop)]

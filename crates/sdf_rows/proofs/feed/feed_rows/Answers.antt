@@ -8,7 +8,7 @@ use Rattle.sdf_rows.proofs.feed.feed_rows.Goals as goal
 
 pub rounds_of-rounds-requires : goal.rounds_of-rounds-requires
 rounds_of-rounds-requires g c =
-    omega (arith, rows_few c.orders_are_passes.ensures.admissible (rates (graph_of g.A.Actor.steps c.args.net.now)) c.args.period.now.repetitions c.args.j c.args.table.now c.requires.period.least.is.all c.requires.table, c.rows.ensures)
+    omega (arith, rows_few c.tables_count.ensures (rates (graph_of g.A.Actor.steps c.args.net.now)) c.args.period.now.repetitions c.args.j c.args.table.now c.requires.period.least.is.all c.requires.table, c.rows.ensures)
 
 pub returns : goal.returns
 returns g c =

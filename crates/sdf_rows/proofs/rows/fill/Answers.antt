@@ -25,7 +25,7 @@ returns-in_ok-fired-in-Some g c =
     let whole = ap (λ m. take m (made ++ drop (length made) items)) long ∙ take-append_seam made (drop (length made) items) in
     let collected = subst (λ w. AreCollected n (length n.nodes) w made) c.deref_mut.ensures.value c.collect.ensures.lists in
     subst (λ v. AreOutputs s n (lists c.args.inputs.now) (periods_of q (p.blocks * p.j)) (lists v)) (sym whole)
-    (row_outputs s n (lists c.args.inputs.now) q p.j p.blocks run.0 c.in_ok-fired-in-Some.fired.states.items c.in_ok-fired-in-Some.fired.lines.items run.1 c.histories_make_outputs.ensures.outputs c.net_facts.ensures.net made collected count)
+    (row_outputs s n (lists c.args.inputs.now) q p.j p.blocks run.0 c.in_ok-fired-in-Some.fired.states.items c.in_ok-fired-in-Some.fired.queues.items run.1 c.histories_make_outputs.ensures.outputs c.net_facts.ensures.net made collected count)
 
 pub returns-in-None : goal.returns-in-None
 returns-in-None g c =

@@ -33,8 +33,8 @@ run_blocks-requires-clause-start g c = λ κs within.
     c.deref_mut-2.result.now c.deref_mut-3.result.now
     (ap length c.deref_mut-2.ensures.value ∙ (vec_long c.in_ok-states.states ∙ c.in_ok-states.ensures.0))
     (λ a w l. rw (c.deref_mut-2.ensures.value) (c.in_ok-states.ensures.1 a w l))
-    (ap length c.deref_mut-3.ensures.value ∙ (vec_long c.in_ok-lines.lines ∙ c.in_ok-lines.ensures.0))
-    (λ d l. rw (c.deref_mut-3.ensures.value) (c.in_ok-lines.ensures.1 d l))
+    (ap length c.deref_mut-3.ensures.value ∙ (vec_long c.in_ok-queues.queues ∙ c.in_ok-queues.ensures.0))
+    (λ d l. rw (c.deref_mut-3.ensures.value) (c.in_ok-queues.ensures.1 d l))
 
 pub run_blocks-requires-clause-blocks : goal.run_blocks-requires-clause-blocks
 run_blocks-requires-clause-blocks g c = λ κs within.
@@ -53,13 +53,13 @@ returns g c =
     let p = c.args.plan.now in
     let k : ℕ → ℕ = (λ a. get_or c.run_blocks.new.done a 0) in
     let made = c.run_blocks.new.states in
-    let rest = subst (λ r. IsResting s n (lists c.args.inputs.now) r p.j p.blocks p.blocks k made c.run_blocks.new.lines) c.repetitions-repetitions.ensures c.run_blocks.ensures.over in
+    let rest = subst (λ r. IsResting s n (lists c.args.inputs.now) r p.j p.blocks p.blocks k made c.run_blocks.new.queues) c.repetitions-repetitions.ensures c.run_blocks.ensures.over in
     let long : c.in_ok-states.states.len ≡ length made = omega (arith, c.in_ok-states.ensures.0, rest.between.nodes) in
     let whole = ap (λ m. take m (made ++ drop (length made) c.in_ok-states.states.items)) long ∙ take-append_seam made (drop (length made) c.in_ok-states.states.items) in
-    let held = c.run_blocks.new.lines in
-    let held_long : c.in_ok-lines.lines.len ≡ length held = omega (arith, c.in_ok-lines.ensures.0, rest.between.channels) in
-    let held_whole = ap (λ m. take m (held ++ drop (length held) c.in_ok-lines.lines.items)) held_long ∙ take-append_seam held (drop (length held) c.in_ok-lines.lines.items) in (
+    let held = c.run_blocks.new.queues in
+    let held_long : c.in_ok-queues.queues.len ≡ length held = omega (arith, c.in_ok-queues.ensures.0, rest.between.channels) in
+    let held_whole = ap (λ m. take m (held ++ drop (length held) c.in_ok-queues.queues.items)) held_long ∙ take-append_seam held (drop (length held) c.in_ok-queues.queues.items) in (
       k,
-      subst (λ v. IsResting s n (lists c.args.inputs.now) p.period.now.repetitions p.j p.blocks p.blocks k v (take c.in_ok-lines.lines.len (held ++ drop (length held) c.in_ok-lines.lines.items))) (sym whole)
+      subst (λ v. IsResting s n (lists c.args.inputs.now) p.period.now.repetitions p.j p.blocks p.blocks k v (take c.in_ok-queues.queues.len (held ++ drop (length held) c.in_ok-queues.queues.items))) (sym whole)
           (subst (λ v. IsResting s n (lists c.args.inputs.now) p.period.now.repetitions p.j p.blocks p.blocks k made v) (sym held_whole) rest),
     )

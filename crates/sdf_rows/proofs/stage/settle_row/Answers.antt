@@ -23,28 +23,28 @@ settle_at-requires-clause-can g c = λ κs within.
     let c' = (goal.at.settle_at-requires-clause-can g c).In-loop-place in
     let b = c.requires.back in
     can_settle g.A.Actor.steps c.args.scene.now.net.now (net g c') c.args.scene.now.sizes c.requires.scene.sizes (lists c.args.scene.now.inputs.now) b.0 b.1 b.2 (actors_of c.args.jobs.now) c.loop-place.place
-    (λ a. get_or c.loop-place.done a 0) c.loop-place.states c.loop-place.lines c.loop-place.jobs (c.loop-place.invariant.settled b.0 b.1 b.2 b.3) (acts_long g c') c.index-jobs-place.result
+    (λ a. get_or c.loop-place.done a 0) c.loop-place.states c.loop-place.queues c.loop-place.jobs (c.loop-place.invariant.settled b.0 b.1 b.2 b.3) (acts_long g c') c.index-jobs-place.result
 
 pub settle_at-requires-clause-state : goal.settle_at-requires-clause-state
 settle_at-requires-clause-state g c = λ κs within.
     let c' = (goal.at.settle_at-requires-clause-state g c).In-loop-place in
     let b = c.requires.back in
     has_state g.A.Actor.steps c.args.scene.now.net.now (net g c') c.args.scene.now.sizes c.requires.scene.sizes (lists c.args.scene.now.inputs.now) b.0 b.1 b.2 (actors_of c.args.jobs.now) c.loop-place.place
-    c.loop-place.done c.loop-place.states c.loop-place.lines c.loop-place.jobs (c.loop-place.invariant.settled b.0 b.1 b.2 b.3) (acts_long g c') c.index-jobs-place.result (counted g c')
+    c.loop-place.done c.loop-place.states c.loop-place.queues c.loop-place.jobs (c.loop-place.invariant.settled b.0 b.1 b.2 b.3) (acts_long g c') c.index-jobs-place.result (counted g c')
 
 pub settle_at-requires-clause-counted : goal.settle_at-requires-clause-counted
 settle_at-requires-clause-counted g c = λ κs within.
     let c' = (goal.at.settle_at-requires-clause-counted g c).In-loop-place in
     let b = c.requires.back in
     has_count g.A.Actor.steps c.args.scene.now.net.now (net g c') c.args.scene.now.sizes c.requires.scene.sizes (lists c.args.scene.now.inputs.now) b.0 b.1 b.2 (actors_of c.args.jobs.now) c.loop-place.place
-    c.loop-place.done c.loop-place.states c.loop-place.lines c.loop-place.jobs (c.loop-place.invariant.settled b.0 b.1 b.2 b.3) (acts_long g c') c.index-jobs-place.result (counted g c')
+    c.loop-place.done c.loop-place.states c.loop-place.queues c.loop-place.jobs (c.loop-place.invariant.settled b.0 b.1 b.2 b.3) (acts_long g c') c.index-jobs-place.result (counted g c')
 
 pub settle_at-requires-clause-small : goal.settle_at-requires-clause-small
 settle_at-requires-clause-small g c = λ κs within.
     let c' = (goal.at.settle_at-requires-clause-small g c).In-loop-place in
     let b = c.requires.back in
     count_small g.A.Actor.steps c.args.scene.now.net.now (net g c') c.args.scene.now.sizes c.requires.scene.sizes (lists c.args.scene.now.inputs.now) b.0 b.1 b.2 (actors_of c.args.jobs.now) c.loop-place.place
-    c.loop-place.done c.loop-place.states c.loop-place.lines c.loop-place.jobs (c.loop-place.invariant.settled b.0 b.1 b.2 b.3) (acts_long g c') c.index-jobs-place.result (counted g c')
+    c.loop-place.done c.loop-place.states c.loop-place.queues c.loop-place.jobs (c.loop-place.invariant.settled b.0 b.1 b.2 b.3) (acts_long g c') c.index-jobs-place.result (counted g c')
 
 pub loop-place-preserved : goal.loop-place-preserved
 loop-place-preserved g c =
@@ -54,11 +54,11 @@ loop-place-preserved g c =
     record {
       settled = λ many low high was.
           settled_next g.A.Actor.steps c.args.scene.now.net.now (net g c') c.args.scene.now.sizes c.requires.scene.sizes (lists c.args.scene.now.inputs.now) many low high (actors_of c.args.jobs.now) c.loop-place.place
-          c.loop-place.done c.loop-place.states c.loop-place.lines c.loop-place.jobs (c.loop-place.invariant.settled many low high was) (acts_long g c') d (counted g c')
-          c.settle_at.new.lines c.settle_at.ensures.lines c.settle_at.new.states c.settle_at.new.done c.settle_at.new.job c.settle_at.ensures.states c.settle_at.ensures.done;
+          c.loop-place.done c.loop-place.states c.loop-place.queues c.loop-place.jobs (c.loop-place.invariant.settled many low high was) (acts_long g c') d (counted g c')
+          c.settle_at.new.queues c.settle_at.ensures.queues c.settle_at.new.states c.settle_at.new.done c.settle_at.new.job c.settle_at.ensures.states c.settle_at.ensures.done;
       done = counts_next g.A.Actor.steps c.args.scene.now.net.now (net g c') c.args.scene.now.sizes c.requires.scene.sizes (lists c.args.scene.now.inputs.now) b.0 b.1 b.2 (actors_of c.args.jobs.now) c.loop-place.place
-          c.loop-place.done c.loop-place.states c.loop-place.lines c.loop-place.jobs (c.loop-place.invariant.settled b.0 b.1 b.2 b.3) (acts_long g c') d (counted g c')
-          c.settle_at.new.lines c.settle_at.ensures.lines c.settle_at.new.states c.settle_at.new.done c.settle_at.new.job c.settle_at.ensures.states c.settle_at.ensures.done
+          c.loop-place.done c.loop-place.states c.loop-place.queues c.loop-place.jobs (c.loop-place.invariant.settled b.0 b.1 b.2 b.3) (acts_long g c') d (counted g c')
+          c.settle_at.new.queues c.settle_at.ensures.queues c.settle_at.new.states c.settle_at.new.done c.settle_at.new.job c.settle_at.ensures.states c.settle_at.ensures.done
           c.counts_grow.ensures.last c.counts_grow.ensures.others c.args.done.now c.loop-place.invariant.done;
       counted = omega (arith, c.settle_at.auto.done, c.loop-place.invariant.counted);
       blocks = kept_set c.args.jobs.now c.loop-place.jobs c.loop-place.place c.settle_at.new.job d c.loop-place.invariant.blocks (omega (arith, c.loop-place-test.true, c.loop-place.auto.jobs)) c.settle_at.ensures.taken c.settle_at.ensures.put;
@@ -67,7 +67,7 @@ loop-place-preserved g c =
 pub returns-clause-settled : goal.returns-clause-settled
 returns-clause-settled g c = λ many low high was.
     let e : c.loop-place.place ≡ length c.args.jobs.now = omega (arith, c.loop-place-test.false, c.loop-place.auto.place-end, c.loop-place.auto.jobs) in
-    subst (λ i. IsSettling g.A.Actor.steps c.args.scene.now.net.now (lists c.args.scene.now.inputs.now) many low high (actors_of c.args.jobs.now) i (λ a. get_or c.loop-place.done a 0) c.loop-place.states c.loop-place.lines c.loop-place.jobs) e
+    subst (λ i. IsSettling g.A.Actor.steps c.args.scene.now.net.now (lists c.args.scene.now.inputs.now) many low high (actors_of c.args.jobs.now) i (λ a. get_or c.loop-place.done a 0) c.loop-place.states c.loop-place.queues c.loop-place.jobs) e
     (c.loop-place.invariant.settled many low high was)
 
 pub returns-clause-done : goal.returns-clause-done

@@ -1,10 +1,9 @@
-use Rattle.std.proofs.Common.{◌≡◌, map, ap, ◌∙◌, subst}
+use Rattle.std.proofs.Common.{◌≡◌, map, ap, ◌∙◌}
 use Rattle.std.proofs.lemmas.List.{length-map}
-use Rattle.sdf_graph.specs.Rates.{Shape, Edge, IsShape, IsAlike, rates, rate_at}
-use Rattle.sdf_actor.specs.Nets.{wiring}
+use Rattle.sdf_graph.specs.Rates.{Shape, Edge, rate_at}
 use Rattle.sdf_actor.specs.Graphs.{graph_of}
 use Rattle.sdf_actor.specs.Wires.{lists}
-use Rattle.sdf_answer.proofs.Cycles.{phases, are_sizes}
+use Rattle.sdf_answer.proofs.Cycles.{are_sizes}
 use Rattle.sdf_answer.proofs.Readings.{vec_long}
 use Rattle.sdf_answer.proofs.sizes.Sizes.new.Goals as goal
 
@@ -13,9 +12,7 @@ returns g c =
     let s = g.A.Actor.steps in
     let n = c.args.net.now in
     let chans : c.channels-channels.result.now ≡ (graph_of s n).channels = c.channels-channels.ensures.list ∙ ap (λ (x : Shape). x.channels) c.graph.ensures.value in
-    let shape = subst IsShape c.graph.ensures.value c.channels-channels.ensures.shape in
-    let alike = subst (λ (x : Shape). IsAlike (rates x) (wiring s n).rates) c.graph.ensures.value c.graph.ensures.rates in
-    are_sizes s n alike (phases s n shape c.repetitions-accepted.ensures.accepted.lists) c.longest_cycle-phases.result c.longest_cycle-phases.ensures (lists c.in_ok-takes.takes.items) (lists c.in_ok-puts.puts.items)
+    are_sizes s n c.net_facts.ensures.alike c.net_facts.ensures.phases c.longest_cycle-phases.result c.longest_cycle-phases.ensures (lists c.in_ok-takes.takes.items) (lists c.in_ok-puts.puts.items)
     (length-map c.in_ok-takes.takes.items (λ v. v.items) ∙ (vec_long c.in_ok-takes.takes ∙ c.in_ok-takes.ensures.0))
     (length-map c.in_ok-puts.puts.items (λ v. v.items) ∙ (vec_long c.in_ok-puts.puts ∙ c.in_ok-puts.ensures.0))
     (λ j h. c.in_ok-takes.ensures.1 j h ∙ ap (map (λ (e : Edge). rate_at e.take j)) chans)

@@ -1,11 +1,11 @@
 use Rattle.std.proofs.Common.{arith}
-use Rattle.sdf_run.proofs.Grown.{Known}
+use Rattle.sdf_run.proofs.Known.{Known}
 use Rattle.sdf_run.proofs.Sweeping.{net_known, can_fire, swept, moved, goes_at, actor_at, can_fire_at_once, swept_at_once, moved_at_once, many_at, can_fire_many_at, swept_many, moved_many, further}
 use Rattle.sdf_run.proofs.run.Run.fire_some.Goals as goal
 use Rattle.sdf_run.proofs.run.Run.fire_some.Goals.{After-step_laws}
 
 known : (g : Rattle.sdf_run.proofs.run.Run.fire_some.Given.Over) (c : After-step_laws g) → Known g.A.Actor.steps c.args.self.now.net.now
-known g c = net_known g.A.Actor.steps c.step_laws.ensures.wired c.step_laws.ensures.ports c.step_laws.ensures.grows c.step_laws.ensures.stays c.args.self.now c.requires.swept
+known g c = net_known g.A.Actor.steps c.step_laws.ensures.laws c.args.self.now c.requires.swept
 
 pub fire_at_once-requires-after_bounds : goal.fire_at_once-requires-after_bounds
 fire_at_once-requires-after_bounds g c κs inside =

@@ -3,7 +3,7 @@ use Rattle.sdf_actor.specs.Nets.{wiring}
 use Rattle.sdf_answer.specs.Blocks.{ArePorts}
 use Rattle.sdf_answer.specs.Sizes.{at_phase}
 use Rattle.sdf_run.specs.Firings.{phase_at}
-use Rattle.sdf_run.proofs.Grown.{Known}
+use Rattle.sdf_run.proofs.Known.{Known}
 use Rattle.sdf_run.proofs.Sweeping.{net_known, phase_in, ports_in, may_from, may_holds, holds_along}
 use Rattle.sdf_run.proofs.run.Run.may_fire.Goals as goal
 use Rattle.sdf_run.proofs.run.Run.may_fire.Goals.{After-phase, After-hold_blocks}
@@ -13,7 +13,7 @@ told true f = refl
 told false f = absurd (f refl)
 
 known : (g : Rattle.sdf_run.proofs.run.Run.may_fire.Given.Over) (c : After-phase g) → Known g.A.Actor.steps c.args.self.now.net.now
-known g c = net_known g.A.Actor.steps c.step_laws.ensures.wired c.step_laws.ensures.ports c.step_laws.ensures.grows c.step_laws.ensures.stays c.args.self.now c.requires.swept
+known g c = net_known g.A.Actor.steps c.step_laws.ensures.laws c.args.self.now c.requires.swept
 
 at : (g : Rattle.sdf_run.proofs.run.Run.may_fire.Given.Over) (c : After-phase g) → phase_at (get_or c.args.self.now.works.items c.args.a c.index.result.now) ≡ c.phase.result
 at g c = ap phase_at (sym c.index.ensures) ∙ sym c.phase.ensures

@@ -1,8 +1,7 @@
 use Rattle.std.proofs.Common.{◌≡◌, ◌+◌, ◌%◌, ◌++◌, length, ap, ◌∙◌, arith, get_or}
 use Rattle.std.specs.List.{sum_by}
 use Rattle.sdf_actor.specs.Histories.{spread}
-use Rattle.sdf_answer.specs.Blocks.{samples}
-use Rattle.sdf_run.specs.Firings.{front}
+use Rattle.sdf_answer.specs.Blocks.{samples, front}
 use Rattle.sdf_run.proofs.Firing.{length_front, fired_inner}
 use Rattle.sdf_run.proofs.work.Work.fire.Goals as goal
 use Rattle.sdf_run.proofs.work.Work.fire.Goals.{After-take_block}

@@ -1,0 +1,75 @@
+//! Blocks of samples, a part for each port.
+
+ghost use Rattle.std.specs.Prelude.{◌≡◌, ℕ, ◌+◌, ◌≤◌, ◌<◌, ◌++◌, length, drop, slice_index, vec_len, vec_capacity};
+ghost use Rattle.std.specs.List.{sum_by};
+ghost use Rattle.sdf_actor.specs.Histories.{spread};
+ghost use Rattle.sdf_answer.specs.Blocks.{samples, room, front, at_ports, ArePorts, HoldBlocks, HaveRoom};
+
+use crate::queue::Queue;
+use sdf_node::append;
+
+/// Copies the oldest samples at each port to the end of a block with room for them: of each channel its size.
+pub fn read_fronts<T: Copy>(
+    ports: &[usize],
+    sizes: &[usize],
+    queues: &[Queue<T>],
+    block: &mut Vec<T>,
+)
+    requires ports { ArePorts ports.now sizes.now (length queues.now) }
+    requires held { HoldBlocks ports.now sizes.now queues.now }
+    requires room { vec_len block.old + sum_by (slice_index sizes.now) ports.now ≤ vec_capacity block.old }
+    ensures block { block.new.items ≡ block.old.items ++ front sizes.now ports.now queues.now }
+    ensures capacity { vec_capacity block.new ≡ vec_capacity block.old }
+{
+    for c in ports {
+        append(block, queues[*c].oldest(sizes[*c]));
+    }
+}
+
+/// Drops the oldest samples at each port: of each channel its size.
+pub fn skip_fronts<T: Copy>(ports: &[usize], sizes: &[usize], queues: &mut [Queue<T>])
+    requires ports { ArePorts ports.now sizes.now (length queues.old) }
+    requires held { HoldBlocks ports.now sizes.now queues.old }
+    ensures queues { (c : ℕ) → c < length queues.old → samples queues.new c ≡ drop (at_ports ports.now (slice_index sizes.now c) c) (samples queues.old c) }
+    ensures rooms { (c : ℕ) → c < length queues.old → room queues.new c ≡ room queues.old c }
+{
+    for c in ports {
+        queues[*c].release(sizes[*c]);
+    }
+}
+
+/// Moves the oldest samples at each port to the end of a block with room for them: from each channel its size.
+pub fn take_block<T: Copy>(
+    ports: &[usize],
+    sizes: &[usize],
+    queues: &mut [Queue<T>],
+    block: &mut Vec<T>,
+)
+    requires ports { ArePorts ports.now sizes.now (length queues.old) }
+    requires held { HoldBlocks ports.now sizes.now queues.old }
+    requires room { vec_len block.old + sum_by (slice_index sizes.now) ports.now ≤ vec_capacity block.old }
+    ensures block { block.new.items ≡ block.old.items ++ front sizes.now ports.now queues.old }
+    ensures capacity { vec_capacity block.new ≡ vec_capacity block.old }
+    ensures queues { (c : ℕ) → c < length queues.old → samples queues.new c ≡ drop (at_ports ports.now (slice_index sizes.now c) c) (samples queues.old c) }
+    ensures rooms { (c : ℕ) → c < length queues.old → room queues.new c ≡ room queues.old c }
+{
+    for c in ports {
+        queues[*c].take(sizes[*c], block);
+    }
+}
+
+/// Puts a block on the channels of the ports, to each channel its size.
+pub fn put_block<T: Copy>(ports: &[usize], sizes: &[usize], block: &[T], queues: &mut [Queue<T>])
+    requires ports { ArePorts ports.now sizes.now (length queues.old) }
+    requires room { HaveRoom ports.now sizes.now queues.old }
+    requires length { length block.now ≡ sum_by (slice_index sizes.now) ports.now }
+    ensures queues { (c : ℕ) → c < length queues.old → samples queues.new c ≡ samples queues.old c ++ spread (slice_index sizes.now) ports.now block.now c }
+    ensures rooms { (c : ℕ) → c < length queues.old → room queues.new c ≡ room queues.old c }
+{
+    let mut rest = block;
+    for c in ports {
+        let (now, later) = rest.split_at(sizes[*c]);
+        queues[*c].put(now);
+        rest = later;
+    }
+}

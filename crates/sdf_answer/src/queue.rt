@@ -1,0 +1,194 @@
+//! The samples that stand on a channel.
+
+ghost use Rattle.std.specs.Prelude.{◌≡◌, ◌+◌, ◌-◌, ◌≤◌, ◌<◌, ◌++◌, IfOk, length, map, take, drop, vec_len, vec_capacity};
+ghost use Rattle.std.specs.List.{between};
+ghost use Rattle.sdf_actor.specs.Steps.{sum_in, sum_out, state_at, puts_to};
+ghost use Rattle.sdf_actor.specs.Wires.{lists};
+ghost use Rattle.sdf_answer.specs.Held.{Held};
+
+use sdf_actor::Actor;
+use sdf_node::append;
+use std::alloc::{AllocError, Global};
+use std::marker::Model;
+use std::mem;
+
+/// The samples that stand on a channel, the oldest first. Once it is made it takes no memory.
+///
+/// They lie in one piece of a buffer of twice their room, where actors read and write them in place. Those taken are
+/// dropped at the front, and the rest moves there when the end of the buffer is reached: at most one move for each sample
+/// put.
+#[derive(Drop)]
+pub struct Queue<T> {
+    /// The samples, from `start` to `end`. What follows them are fillers.
+    items: Vec<T>,
+    start: usize,
+    end: usize,
+    room: usize,
+}
+
+impl<T> Model for Queue<T> {
+    ghost Value = { Held T };
+
+    ghost view = { λ q. record { samples = between q.start q.end q.items.items; room = q.room } };
+
+    ghost invariant = { λ q. (q.start ≤ q.end) × (q.end ≤ vec_len q.items) × (q.room + q.room ≤ vec_capacity q.items) };
+}
+
+/// Lengthens a list by fillers, within its room, where it is shorter than that.
+fn lengthen<T: Copy>(list: &mut Vec<T>, len: usize, filler: T)
+    requires { len ≤ vec_capacity list.old }
+    ensures front { take (vec_len list.old) list.new.items ≡ list.old.items }
+    ensures more { vec_len list.old ≤ vec_len list.new }
+    ensures long { len ≤ vec_len list.new }
+    ensures capacity { vec_capacity list.new ≡ vec_capacity list.old }
+{
+    while list.len() < len {
+        list.push_reserved(filler);
+    }
+}
+
+/// Where a part of a list begins and ends that has room for more behind it: it moves to the front where the room is not
+/// there.
+fn place_for<T: Copy>(list: &mut Vec<T>, start: usize, end: usize, more: usize) -> (usize, usize)
+    requires rise { start ≤ end }
+    requires within { end ≤ vec_len list.old }
+    requires room { end - start + more ≤ vec_capacity list.old }
+    ensures same { between result.0 result.1 list.new.items ≡ between start end list.old.items }
+    ensures rise { result.0 ≤ result.1 }
+    ensures within { result.1 ≤ vec_len list.new }
+    ensures room { result.1 + more ≤ vec_capacity list.new }
+    ensures capacity { vec_capacity list.new ≡ vec_capacity list.old }
+{
+    if list.capacity() - end >= more {
+        return (start, end);
+    }
+    list.copy_within(start..end, 0);
+    (0, end - start)
+}
+
+impl<T: Copy> Queue<T> {
+    /// The samples that a channel begins with, and room for a number of samples in all.
+    pub fn new(alloc: Global, initial: &[T], room: usize) -> Result<Queue<T>, AllocError>
+        requires initial { length initial.now ≤ room }
+        requires room { room ≤ 4_611_686_018_427_387_904 }
+        ensures { IfOk result (λ q. q ≡ record { samples = initial.now; room = room }) }
+    {
+        let mut items = Vec::with_capacity(alloc, room + room)?;
+        append(&mut items, initial);
+        let end = items.len();
+        Ok(Queue {
+            items,
+            start: 0,
+            end,
+            room,
+        })
+    }
+
+    /// How many samples there are.
+    pub fn len(&self) -> usize
+        ensures { result ≡ length self.now.samples }
+    {
+        self.end - self.start
+    }
+
+    /// How many there may be.
+    pub fn room(&self) -> usize
+        ensures { result ≡ self.now.room }
+    {
+        self.room
+    }
+
+    /// Puts a block behind the samples.
+    pub fn put(&mut self, block: &[T])
+        requires { length self.old.samples + length block.now ≤ self.old.room }
+        ensures { self.new ≡ record self.old { samples = self.old.samples ++ block.now } }
+    {
+        let place = place_for(&mut self.items, self.start, self.end, block.len());
+        self.items.truncate(place.1);
+        append(&mut self.items, block);
+        self.start = place.0;
+        self.end = self.items.len();
+    }
+
+    /// Moves the oldest samples to the end of a list with room for them.
+    pub fn take(&mut self, many: usize, list: &mut Vec<T>)
+        requires held { many ≤ length self.old.samples }
+        requires room { vec_len list.old + many ≤ vec_capacity list.old }
+        ensures queue { self.new ≡ record self.old { samples = drop many self.old.samples } }
+        ensures list { list.new.items ≡ list.old.items ++ take many self.old.samples }
+        ensures len { vec_len list.new ≡ vec_len list.old + many }
+        ensures capacity { vec_capacity list.new ≡ vec_capacity list.old }
+    {
+        append(list, self.oldest(many));
+        self.release(many);
+    }
+
+    /// The oldest samples, where they lie.
+    pub fn oldest(&self, many: usize) -> &[T]
+        requires { many ≤ length self.now.samples }
+        ensures { result.now ≡ take many self.now.samples }
+    {
+        let end = self.start + many;
+        &self.items[self.start..end]
+    }
+
+    /// Lets the oldest samples go.
+    pub fn release(&mut self, many: usize)
+        requires { many ≤ length self.old.samples }
+        ensures { self.new ≡ record self.old { samples = drop many self.old.samples } }
+    {
+        self.start += many;
+    }
+
+    /// Fires an actor so many times at once, into the room behind the samples, which takes what it puts.
+    pub fn put_fired<A: Actor<Token = T>>(
+        &mut self,
+        actor: &A,
+        phase: u32,
+        times: usize,
+        state: &mut A::State,
+        taken: &[T],
+        made: usize,
+        filler: T,
+    )
+        requires phase { phase < A.steps.cycle actor.now }
+        requires taken { length taken.now ≡ sum_in A.steps actor.now phase times }
+        requires made { made ≡ sum_out A.steps actor.now phase times }
+        requires room { length self.old.samples + made ≤ self.old.room }
+        ensures state { state.new ≡ state_at A.steps actor.now phase state.old taken.now times }
+        ensures queue { self.new ≡ record self.old { samples = self.old.samples ++ puts_to A.steps actor.now phase state.old taken.now times } }
+        ensures long { length (puts_to A.steps actor.now phase state.old taken.now times) ≡ made }
+    {
+        let place = place_for(&mut self.items, self.start, self.end, made);
+        let end = place.1 + made;
+        lengthen(&mut self.items, end, filler);
+        actor.fire_many(phase, times, state, taken, &mut self.items[place.1..end]);
+        self.start = place.0;
+        self.end = end;
+    }
+
+    /// The queue, and one with no room in its place.
+    pub fn lift(&mut self) -> Queue<T>
+        ensures { result ≡ self.old }
+    {
+        let alloc = *self.items.allocator();
+        let empty = Queue {
+            items: Vec::new(alloc),
+            start: 0,
+            end: 0,
+            room: 0,
+        };
+        mem::replace(self, empty)
+    }
+}
+
+/// Copies of the samples in each queue.
+pub fn held<T: Copy>(alloc: Global, queues: &[Queue<T>]) -> Result<Vec<Vec<T>>, AllocError>
+    ensures { IfOk result (λ v. lists v.items ≡ map (λ q. q.samples) queues.now) }
+{
+    let mut held = Vec::new(alloc);
+    for queue in queues {
+        held.push(Vec::from_slice(alloc, queue.oldest(queue.len()))?)?;
+    }
+    Ok(held)
+}

@@ -1,9 +1,0 @@
-use Rattle.std.proofs.Common.{sym, ap, ◌∙◌}
-use Rattle.sdf_actor.specs.declared.node.Node.TheVariants as kind
-use Rattle.sdf_rows.proofs.Lists.{collected_sink}
-use Rattle.sdf_rows.proofs.collect.collect_at.Goals as goal
-
-pub returns-in-Sink : goal.returns-in-Sink
-returns-in-Sink g c =
-    let is = c.in-Sink.is ∙ ap (λ i. kind.Sink i c.in-Sink.block) (sym c.from.ensures) in
-    collected_sink c.args.node.now c.args.state.now c.args.outputs.now c.from.result c.in-Sink.block c.take_list.new.list is (c.requires c.from.result c.in-Sink.block is) c.take_list.ensures
