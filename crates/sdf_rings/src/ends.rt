@@ -44,6 +44,7 @@ fn put_at<T: Copy>(end: &mut Producer<T, Global>, put: &[T], at: usize, size: us
 }
 
 /// Takes a block at each port.
+#[tactic(auto, using(crate::proofs::Blocks::block_in))]
 pub(crate) fn take_each<T: Copy>(sizes: &[usize], ends: &mut [Consumer<T, Global>], taken: &mut [T])
     requires ports { length ends.old ≡ length sizes.now }
     requires length { length taken.old ≡ start_at (slice_index sizes.now) (length ends.old) }
@@ -59,6 +60,7 @@ pub(crate) fn take_each<T: Copy>(sizes: &[usize], ends: &mut [Consumer<T, Global
 }
 
 /// Puts a block at each port.
+#[tactic(auto, using(crate::proofs::Blocks::block_in))]
 pub(crate) fn put_each<T: Copy>(sizes: &[usize], ends: &mut [Producer<T, Global>], put: &[T])
     requires ports { length ends.old ≡ length sizes.now }
     requires length { length put.now ≡ start_at (slice_index sizes.now) (length ends.old) }

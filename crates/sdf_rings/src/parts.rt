@@ -1,4 +1,4 @@
-//! Parts of a list: all of one width, each as far behind the one before it as that was behind the one before.
+//! Parts of a list, all of one width and each as far behind the one before it.
 
 ghost use Rattle.std.specs.Prelude.{◌≡◌, ◌≤◌, ◌<◌, ◌+◌, ℕ, length, take, drop, slice_range};
 ghost use Rattle.sdf_rings.specs.Parts.{part_of, HoldsParts, KeepsOthers};
@@ -10,7 +10,7 @@ pub(crate) struct Stride {
     pub(crate) step: usize,
 }
 
-/// Copies a part of one list into another, by no call: most parts are one sample or a few.
+/// Copies a part of one list into another. It calls nothing, since most parts are one sample or a few.
 fn copy_part<T: Copy>(from: &[T], start: usize, to: &mut [T], at: usize, width: usize)
     requires from { start + width ≤ length from.now }
     requires to { at + width ≤ length to.old }

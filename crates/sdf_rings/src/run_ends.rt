@@ -119,6 +119,7 @@ fn take_part<T: Copy>(
 }
 
 /// Takes the blocks of so many firings, at each port in one call. A list as long as all of them holds those of a port until they are dealt out.
+#[tactic(auto, using(crate::proofs::Blocks::block_in))]
 fn take_by_port<T: Copy>(
     sizes: &[usize],
     ends: &mut [Consumer<T, Global>],
@@ -234,6 +235,7 @@ fn put_part<T: Copy>(
 }
 
 /// Puts the blocks of so many firings, at each port in one call. A list as long as all of them serves to gather them.
+#[tactic(auto, using(crate::proofs::Blocks::block_in))]
 fn put_by_port<T: Copy>(
     sizes: &[usize],
     ends: &mut [Producer<T, Global>],

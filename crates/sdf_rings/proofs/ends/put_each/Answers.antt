@@ -1,22 +1,11 @@
-use Rattle.std.proofs.Common.{slice_index, rules, length, arith, refl}
+use Rattle.std.proofs.Common.{slice_index, arith, refl}
 use Rattle.sdf_rings.specs.Blocks.{block_of}
 use Rattle.sdf_rings.specs.Ends.{Gave}
-use Rattle.sdf_rings.proofs.Walks.{walked_none, walked_inside, walked_more}
+use Rattle.sdf_rings.proofs.Walks.{walked_none, walked_more}
 use Rattle.sdf_rings.proofs.ends.put_each.Goals as goal
 
 pub loop-i-init : goal.loop-i-init
 loop-i-init g c = walked_none Gave (slice_index c.args.sizes.now) (λ k. block_of (slice_index c.args.sizes.now) k c.args.put.now) c.args.ends.now
-
-pub put_at-requires-clause-inside : goal.put_at-requires-clause-inside
-put_at-requires-clause-inside g c = let b = walked_inside _ _ _ _ _ _ _ c.loop-i.invariant (length c.args.ends.now) (omega arith) in omega (arith, b)
-
-pub put_at-requires-clause-room : goal.put_at-requires-clause-room
-put_at-requires-clause-room g c =
-    let e = c.index-ends-i.result in
-    rw (c.loop-i.invariant.rest c.loop-i.i e (omega arith)) (c.requires.room c.loop-i.i e (omega arith))
-
-pub overflow_add-at : goal.overflow_add-at
-overflow_add-at g c = let b = walked_inside _ _ _ _ _ _ _ c.loop-i.invariant (length c.args.ends.now) (omega arith) in search rules
 
 pub loop-i-preserved : goal.loop-i-preserved
 loop-i-preserved g c =

@@ -1,23 +1,12 @@
-use Rattle.std.proofs.Common.{slice_index, rules, length, arith, sym}
+use Rattle.std.proofs.Common.{slice_index, arith, sym}
 use Rattle.sdf_rings.specs.Blocks.{block_of}
 use Rattle.sdf_rings.specs.Ends.{Drew}
 use Rattle.sdf_rings.proofs.Blocks.{block_kept}
-use Rattle.sdf_rings.proofs.Walks.{walked_none, walked_inside, walked_more}
+use Rattle.sdf_rings.proofs.Walks.{walked_none, walked_more}
 use Rattle.sdf_rings.proofs.ends.take_each.Goals as goal
 
 pub loop-i-init : goal.loop-i-init
 loop-i-init g c = walked_none Drew (slice_index c.args.sizes.now) (λ k. block_of (slice_index c.args.sizes.now) k c.args.taken.now) c.args.ends.now
-
-pub take_at-requires-clause-inside : goal.take_at-requires-clause-inside
-take_at-requires-clause-inside g c = let b = walked_inside _ _ _ _ _ _ _ c.loop-i.invariant (length c.args.ends.now) (omega arith) in omega (arith, b)
-
-pub take_at-requires-clause-known : goal.take_at-requires-clause-known
-take_at-requires-clause-known g c =
-    let e = c.index-ends-i.result in
-    rw (c.loop-i.invariant.rest c.loop-i.i e (omega arith)) (c.requires.known c.loop-i.i e (omega arith))
-
-pub overflow_add-at : goal.overflow_add-at
-overflow_add-at g c = let b = walked_inside _ _ _ _ _ _ _ c.loop-i.invariant (length c.args.ends.now) (omega arith) in search rules
 
 pub loop-i-preserved : goal.loop-i-preserved
 loop-i-preserved g c =

@@ -1,25 +1,14 @@
-use Rattle.std.proofs.Common.{ℕ, List, slice_index, rules, length, arith, sym}
+use Rattle.std.proofs.Common.{ℕ, List, slice_index, arith, sym}
 use Rattle.sdf_node.specs.Many.{nth_block, joined}
 use Rattle.sdf_rings.specs.Blocks.{start_at, block_of}
 use Rattle.sdf_rings.specs.Ends.{Drew}
 use Rattle.sdf_rings.proofs.Blocks.{block_in}
 use Rattle.sdf_rings.proofs.RunEnds.{same_joined}
-use Rattle.sdf_rings.proofs.Walks.{walked_none, walked_inside, walked_more}
+use Rattle.sdf_rings.proofs.Walks.{walked_none, walked_more}
 use Rattle.sdf_rings.proofs.run_ends.take_by_port.Goals as goal
 
 pub loop-i-init : goal.loop-i-init
 loop-i-init g c = let rate = slice_index c.args.sizes.now in walked_none Drew rate (λ k. joined (λ i. block_of rate k (nth_block c.args.size c.args.taken.now i)) c.args.many) c.args.ends.now
-
-pub take_part-requires-clause-inside : goal.take_part-requires-clause-inside
-take_part-requires-clause-inside g c = let b = walked_inside _ _ _ _ _ _ _ c.loop-i.invariant (length c.args.ends.now) (omega arith) in omega (arith, b)
-
-pub take_part-requires-clause-known : goal.take_part-requires-clause-known
-take_part-requires-clause-known g c =
-    let e = c.index-ends-i.result in
-    rw (c.loop-i.invariant.rest c.loop-i.i e (omega arith)) (c.requires.known c.loop-i.i e (omega arith))
-
-pub overflow_add-at : goal.overflow_add-at
-overflow_add-at g c = let b = walked_inside _ _ _ _ _ _ _ c.loop-i.invariant (length c.args.ends.now) (omega arith) in search rules
 
 pub loop-i-preserved : goal.loop-i-preserved
 loop-i-preserved g c =
