@@ -1,4 +1,6 @@
-use super::*;
+//! Whole WAV files, read and written.
+
+use sdf_wav::{FormatFault, FromRead, ToWrite, Wav, WavFault, read_wav, write_wav};
 use std::alloc::{AllocError, Global};
 use std::test::Fail;
 

@@ -1,9 +1,11 @@
-//! Files in pieces.
+//! WAV files in pieces.
 
 ghost use Rattle.std.specs.Prelude.{◌≡◌, length};
 
-use super::*;
-use crate::device_tests::{Failing, Full};
+use crate::devices::{Failing, Full};
+use sdf_wav::{
+    FromRead, ToWrite, Wav, WavFault, WavIn, WavOut, Writer, read_wav, write_wav,
+};
 use std::alloc::{AllocError, Global};
 use std::test::Fail;
 
