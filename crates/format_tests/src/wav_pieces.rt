@@ -3,9 +3,7 @@
 ghost use Rattle.std.specs.Prelude.{◌≡◌, length};
 
 use crate::devices::{Failing, Full};
-use sdf_wav::{
-    FromRead, ToWrite, Wav, WavFault, WavIn, WavOut, Writer, read_wav, write_wav,
-};
+use sdf_wav::{FromRead, ToWrite, Wav, WavFault, WavIn, WavOut, Writer, read_wav, write_wav};
 use std::alloc::{AllocError, Global};
 use std::test::Fail;
 

@@ -1,9 +1,11 @@
-mod formats;
-mod rows;
+//! Documents of format 1: what they say, and each fault with its place.
 
-use crate::{Document, KindEntry, ReadFault, file_names, read_document};
+use crate::readings::{File, refusal};
+use sdf_document::{Document, KindEntry, ReadFault, read_document};
+use std::alloc::Global;
 use std::test::Fail;
 
+/// An input, a gain and an output.
 pub(crate) const GRAPH: &str = "format = 1
 [[actor]]
 name = \"in\"
@@ -29,51 +31,39 @@ to = \"out\"
 initial = [1, -2]
 ";
 
+/// The kind of its gain.
 pub(crate) const GAIN: &str = "kind = \"gain\"\ngain = -32768\nshift = 15";
 
-const FILED: &str = "kind = \"fir\"\nshift = 15\nfile = \"h.toml\"";
-
-fn file(rt: &HostRuntime, name: &str, text: &str) -> Result<Vec<(String, Vec<u8>)>, Fail> {
-    let mut files = Vec::new(rt.alloc());
-    add_file(rt, &mut files, name, text)?;
-    Ok(files)
-}
-
-fn add_file(
-    rt: &HostRuntime,
-    files: &mut Vec<(String, Vec<u8>)>,
-    name: &str,
-    text: &str,
-) -> Result<(), Fail> {
-    let bytes = Vec::from_slice(rt.alloc(), text.as_bytes())?;
-    Ok(files.push((String::from_str(rt.alloc(), name)?, bytes))?)
-}
-
-fn read_with(
-    rt: &HostRuntime,
-    files: &[(String, Vec<u8>)],
+/// What the graph says with one text in the place of another, beside these files.
+pub(crate) fn read_with(
+    alloc: Global,
+    files: &[File],
     old: &str,
     new: &str,
 ) -> Result<Document, Fail> {
-    let text = GRAPH.replace(rt.alloc(), old, new)?;
-    Ok(read_document(rt.alloc(), text.as_bytes(), files)?)
+    let text = GRAPH.replace(alloc, old, new)?;
+    Ok(read_document(alloc, text.as_bytes(), files)?)
 }
 
-fn fault_with(
-    rt: &HostRuntime,
-    files: &[(String, Vec<u8>)],
+/// Its fault with one text in the place of another, beside these files.
+pub(crate) fn fault_with(
+    alloc: Global,
+    files: &[File],
     old: &str,
     new: &str,
 ) -> Result<String, Fail> {
-    let text = GRAPH.replace(rt.alloc(), old, new)?;
-    match read_document(rt.alloc(), text.as_bytes(), files) {
-        Ok(_) => Err(Fail::from("read")),
-        Err(fault) => Ok(fault.to_string(rt.alloc())?),
-    }
+    let text = GRAPH.replace(alloc, old, new)?;
+    refusal(alloc, read_document(alloc, text.as_bytes(), files))
 }
 
-pub(crate) fn fault(rt: &HostRuntime, old: &str, new: &str) -> Result<String, Fail> {
-    fault_with(rt, &[], old, new)
+/// Its fault with one text in the place of another.
+pub(crate) fn fault(alloc: Global, old: &str, new: &str) -> Result<String, Fail> {
+    fault_with(alloc, &[], old, new)
+}
+
+/// The fault of a graph.
+pub(crate) fn fault_of(alloc: Global, graph: &[u8]) -> Result<String, Fail> {
+    refusal(alloc, read_document(alloc, graph, &[]))
 }
 
 #[test]
@@ -115,7 +105,7 @@ fn reads_each_kind(rt: HostRuntime) -> Result<(), Fail> {
         "kind = \"delay\"\nlength = 65536",
         "kind = \"table\"\noffset = -2147483648\nvalues = [2147483647]",
     ] {
-        read_with(&rt, &[], GAIN, kind)?;
+        read_with(rt.alloc(), &[], GAIN, kind)?;
     }
     Ok(())
 }
@@ -224,16 +214,9 @@ fn names_the_fault_and_its_place(rt: HostRuntime) -> Result<(), Fail> {
             "51 UnknownKey link 1 key late",
         ),
     ] {
-        assert_eq!(rt; fault(&rt, old, new)?.as_str(), text);
+        assert_eq!(rt; fault(rt.alloc(), old, new)?.as_str(), text);
     }
     Ok(())
-}
-
-pub(crate) fn fault_of(rt: &HostRuntime, graph: &[u8]) -> Result<String, Fail> {
-    match read_document(rt.alloc(), graph, &[]) {
-        Ok(_) => Err(Fail::from("read")),
-        Err(fault) => Ok(fault.to_string(rt.alloc())?),
-    }
 }
 
 #[test]
@@ -249,15 +232,15 @@ fn names_the_faults_of_whole_files(rt: HostRuntime) -> Result<(), Fail> {
             "53 WrongType actor 0 key actor",
         ),
     ] {
-        assert_eq!(rt; fault_of(&rt, graph.as_bytes())?.as_str(), text);
+        assert_eq!(rt; fault_of(rt.alloc(), graph.as_bytes())?.as_str(), text);
     }
-    assert_eq!(rt; fault_of(&rt, &[0xFF])?.as_str(), "49 NotToml top");
+    assert_eq!(rt; fault_of(rt.alloc(), &[0xFF])?.as_str(), "49 NotToml top");
     Ok(())
 }
 
 /// A graph of so many actors and links, none of them a table.
-fn counted(rt: &HostRuntime, actors: usize, links: usize) -> Result<String, Fail> {
-    let mut text = String::from_str(rt.alloc(), "format = 1\nactor = [")?;
+fn counted(alloc: Global, actors: usize, links: usize) -> Result<String, Fail> {
+    let mut text = String::from_str(alloc, "format = 1\nactor = [")?;
     for _ in 0..actors {
         text.push_str("0, ")?;
     }
@@ -277,128 +260,8 @@ fn counts_actors_and_links(rt: HostRuntime) -> Result<(), Fail> {
         (64, 257, "3 ChannelCount"),
         (64, 256, "53 WrongType actor 0 key actor"),
     ] {
-        let graph = counted(&rt, actors, links)?;
-        assert_eq!(rt; fault_of(&rt, graph.as_bytes())?.as_str(), text);
-    }
-    Ok(())
-}
-
-#[test]
-fn reads_coefficient_files(rt: HostRuntime) -> Result<(), Fail> {
-    let mut files = file(&rt, "h.toml", "format = 1\nvalues = [1, 2, -3]\n")?;
-    add_file(&rt, &mut files, "h.toml", "format = 1\nvalues = [4]\n")?;
-    let document = read_with(&rt, files.as_slice(), GAIN, FILED)?;
-    match document.actors.get(1) {
-        Some(actor) => match &actor.kind {
-            KindEntry::Fir { taps, .. } => {
-                assert_eq!(rt; taps.values.as_slice(), [1, 2, -3].as_slice());
-            }
-            _ => assert!(rt; false),
-        },
-        None => assert!(rt; false),
-    }
-    Ok(())
-}
-
-#[test]
-fn names_the_faults_of_coefficient_files(rt: HostRuntime) -> Result<(), Fail> {
-    for (name, content, kind, text) in [
-        ("g.toml", "", FILED, "58 NoFile file h.toml"),
-        (
-            "h.toml",
-            "format = 1\nvalue = [1]\n",
-            FILED,
-            "51 UnknownKey file h.toml key value",
-        ),
-        (
-            "h.toml",
-            "format = 1\n",
-            FILED,
-            "52 MissingKey file h.toml key values",
-        ),
-        ("h.toml", "format = 2\n", FILED, "50 Format file h.toml"),
-        ("h.toml", "[", FILED, "49 NotToml file h.toml"),
-        (
-            "h.toml",
-            "format = 1\nvalues = [0.5]\n",
-            FILED,
-            "53 WrongType file h.toml key values",
-        ),
-        (
-            "h.toml",
-            "format = 1\nvalues = [40000]\n",
-            FILED,
-            "28 KitValue actor 1 key file",
-        ),
-        (
-            "h.toml",
-            "format = 1\nvalues = []\n",
-            FILED,
-            "28 KitValue actor 1 key file",
-        ),
-        (
-            "h.toml",
-            "",
-            "kind = \"fir\"\nshift = 1\nfile = \"../h\"",
-            "54 BadName actor 1 key file",
-        ),
-        (
-            "h.toml",
-            "",
-            "kind = \"fir\"\nshift = 1\nfile = 1",
-            "53 WrongType actor 1 key file",
-        ),
-        (
-            "h.toml",
-            "",
-            "kind = \"fir\"\nshift = 1\nfile = \"h.toml\"\ntaps = [1]",
-            "51 UnknownKey actor 1 key file",
-        ),
-        (
-            "h.toml",
-            "",
-            "kind = \"fir\"\nshift = 1",
-            "52 MissingKey actor 1 key taps",
-        ),
-        (
-            "h.toml",
-            "",
-            "kind = \"table\"\noffset = 1",
-            "52 MissingKey actor 1 key values",
-        ),
-    ] {
-        let files = file(&rt, name, content)?;
-        assert_eq!(rt;
-            fault_with(&rt, files.as_slice(), GAIN, kind)?.as_str(),
-            text
-        );
-    }
-    Ok(())
-}
-
-#[test]
-fn names_wanted_files_once(rt: HostRuntime) -> Result<(), Fail> {
-    let alloc = rt.alloc();
-    let text = GRAPH.replace(alloc, GAIN, FILED)?;
-    let text = text.replace(
-        alloc,
-        "kind = \"output\"\nchannel = 0",
-        "kind = \"table\"\noffset = 0\nfile = \"t.toml\"\n[[actor]]\nname = \"again\"\nkind = \"fir\"\nshift = 0\nfile = \"h.toml\"",
-    )?;
-    let names = file_names(alloc, text.as_bytes())?;
-    assert_eq!(rt; names.len(), 2);
-    match (names.get_index(0), names.get_index(1)) {
-        (Some(first), Some(second)) => {
-            assert!(rt; first.as_str() == "h.toml" && second.as_str() == "t.toml");
-        }
-        _ => assert!(rt; false),
-    }
-    match file_names(alloc, b"format = 3") {
-        Ok(_) => assert!(rt; false),
-        Err(fault) => {
-            let text = fault.to_string(alloc)?;
-            assert_eq!(rt; text.as_str(), "50 Format top");
-        }
+        let graph = counted(rt.alloc(), actors, links)?;
+        assert_eq!(rt; fault_of(rt.alloc(), graph.as_bytes())?.as_str(), text);
     }
     Ok(())
 }

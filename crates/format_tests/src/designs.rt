@@ -1,6 +1,11 @@
-use crate::{check_text, design_files, read_design};
+//! Designs from files, their texts, and their faults.
+
+use crate::readings::refusal;
+use sdf_file::{check_text, design_files, read_design};
+use std::alloc::Global;
 use std::test::Fail;
 
+/// An input and an output of other rates.
 const TWO: &str = "format = 1
 [[actor]]
 name = \"in\"
@@ -19,6 +24,7 @@ from = \"in\"
 to = \"out\"
 ";
 
+/// A filter whose taps stand in a file.
 const FILTER: &str = "format = 1
 [[actor]]
 name = \"in\"
@@ -76,12 +82,10 @@ from = \"gather\"
 to = \"out\"
 ";
 
-fn fault(rt: &HostRuntime, old: &str, new: &str) -> Result<String, Fail> {
-    let text = TWO.replace(rt.alloc(), old, new)?;
-    match read_design(rt.alloc(), text.as_bytes(), &[]) {
-        Ok(_) => Err(Fail::from("a design")),
-        Err(fault) => Ok(fault.to_string(rt.alloc())?),
-    }
+/// The fault of the first with one text in the place of another.
+fn fault(alloc: Global, old: &str, new: &str) -> Result<String, Fail> {
+    let text = TWO.replace(alloc, old, new)?;
+    refusal(alloc, read_design(alloc, text.as_bytes(), &[]))
 }
 
 #[test]
@@ -110,14 +114,9 @@ fn reads_designs_of_format_two(rt: HostRuntime) -> Result<(), Fail> {
         "actors 4\nlinks 4\nperiod 14\nq in 4\nq deal 2\nq gather 4\nq out 4\ninput 4 output 4\n"
     );
     let text = TURNS.replace(rt.alloc(), "format = 2", "format = 1")?;
-    match read_design(rt.alloc(), text.as_bytes(), &[]) {
-        Ok(_) => Err(Fail::from("a design")),
-        Err(fault) => {
-            let text = fault.to_string(rt.alloc())?;
-            assert_eq!(rt; text.as_str(), "56 UnknownKind actor 1");
-            Ok(())
-        }
-    }
+    let text = refusal(rt.alloc(), read_design(rt.alloc(), text.as_bytes(), &[]))?;
+    assert_eq!(rt; text.as_str(), "56 UnknownKind actor 1");
+    Ok(())
 }
 
 #[test]
@@ -156,7 +155,7 @@ fn names_the_fault_of_documents_and_nets(rt: HostRuntime) -> Result<(), Fail> {
             "21 PortTwice link 1",
         ),
     ] {
-        assert_eq!(rt; fault(&rt, old, new)?.as_str(), text);
+        assert_eq!(rt; fault(rt.alloc(), old, new)?.as_str(), text);
     }
     Ok(())
 }
@@ -165,19 +164,9 @@ fn names_the_fault_of_documents_and_nets(rt: HostRuntime) -> Result<(), Fail> {
 fn names_the_fault_of_wanted_files(rt: HostRuntime) -> Result<(), Fail> {
     let alloc = rt.alloc();
     let text = FILTER.replace(alloc, "h.toml", "../h")?;
-    match design_files(alloc, text.as_bytes()) {
-        Ok(_) => assert!(rt; false),
-        Err(fault) => {
-            let text = fault.to_string(alloc)?;
-            assert_eq!(rt; text.as_str(), "54 BadName actor 1 key file");
-        }
-    }
-    match read_design(alloc, FILTER.as_bytes(), &[]) {
-        Ok(_) => assert!(rt; false),
-        Err(fault) => {
-            let text = fault.to_string(alloc)?;
-            assert_eq!(rt; text.as_str(), "58 NoFile file h.toml");
-        }
-    }
+    let text = refusal(alloc, design_files(alloc, text.as_bytes()))?;
+    assert_eq!(rt; text.as_str(), "54 BadName actor 1 key file");
+    let text = refusal(alloc, read_design(alloc, FILTER.as_bytes(), &[]))?;
+    assert_eq!(rt; text.as_str(), "58 NoFile file h.toml");
     Ok(())
 }
