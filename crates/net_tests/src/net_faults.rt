@@ -1,11 +1,22 @@
 //! A net for each fault, in the order of the tests. Each net before the last has faults of the next test as well, where it can.
 
-use crate::fault::NetFault;
-use crate::link::Link;
-use crate::node::Node;
-use crate::tests::kit::{Deal, dealer, fault, links, sink, source, turning};
+use sdf_actor::{Actor, Link, Net, NetFault, Node};
 use std::alloc::{AllocError, Global};
 use std::test::Fail;
+use test_actors::Deal;
+use test_actors::nets::{dealer, links, sink, source, turning};
+
+/// The text of the fault of a net, and nothing where there is none.
+fn fault<A: Actor>(
+    alloc: Global,
+    nodes: Vec<Node<A>>,
+    links: Vec<Link<A::Token>>,
+) -> Result<String, Fail> {
+    match Net::new(alloc, nodes, links) {
+        Ok(_) => Ok(String::new(alloc)),
+        Err(fault) => Ok(fault.to_string(alloc)?),
+    }
+}
 
 /// Two sources, an actor between them and two sinks.
 const THROUGH: [[usize; 4]; 4] = [[0, 0, 2, 0], [1, 0, 2, 1], [2, 0, 3, 0], [2, 1, 4, 0]];

@@ -1,6 +1,6 @@
 use Rattle.std.proofs.Common.{◌≡◌}
 use Rattle.sdf_actor.specs.Steps.{sum_in, sum_out}
-use Rattle.sdf_kit.proofs.tests.moved.Given as goal
+use Rattle.net_tests.proofs.firing.moved.Given as goal
 
 abbrev pub invariant-loop-firing : goal.invariant-loop-firing
 invariant-loop-firing g l = record {

@@ -1,6 +1,6 @@
 use Rattle.std.proofs.Common.{◌≡◌, ℕ, ◌+◌, ◌%◌, ap, ◌∙◌, arith, add-one}
 use Rattle.sdf_actor.specs.Steps.{phase, total_in, total_out, sum_in, sum_out}
-use Rattle.sdf_kit.proofs.tests.moved.Goals as goal
+use Rattle.net_tests.proofs.firing.moved.Goals as goal
 
 pub loop-firing-preserved : goal.loop-firing-preserved
 loop-firing-preserved g c =

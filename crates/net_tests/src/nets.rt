@@ -3,17 +3,14 @@
 ghost use Rattle.std.specs.Prelude.{◌≡◌, ◌<◌, length};
 ghost use Rattle.sdf_actor.specs.Steps.{total_in, total_out};
 
-use crate::actor::Actor;
-use crate::fault::NetFault;
-use crate::laws::{
+use sdf_actor::laws::{
     histories_grow, history_grows_by_firing, nets_are_wired, one_history, taken_stays,
 };
-use crate::net::Net;
-use crate::node::Node;
-use crate::sides::Side;
-use crate::tests::kit::{Deal, Sum, Swap, links, sink, source, turning};
+use sdf_actor::{Actor, Net, NetFault, Node};
 use std::alloc::{AllocError, Global};
 use std::test::Fail;
+use test_actors::nets::{links, sink, source, turning};
+use test_actors::{Deal, Sum, Swap};
 
 #[test]
 fn two_to_three(rt: HostRuntime) -> Result<(), Fail> {
@@ -30,8 +27,9 @@ fn two_to_three(rt: HostRuntime) -> Result<(), Fail> {
     assert_eq!(rt; net.graph().actors(), 2);
     assert_eq!(rt; net.channels_in(1), [0].as_slice());
     assert_eq!(rt; net.channels_out(1).len(), 0);
-    assert_eq!(rt; net.node(0).ports(Side::Output), 1);
-    assert_eq!(rt; net.link(0).end(Side::Input), (1, 0));
+    assert_eq!(rt; net.channels_out(0), [0].as_slice());
+    assert!(rt; matches!(net.node(0), Node::Source { ext: 0, block: 2 }));
+    assert_eq!(rt; net.link(0).to, (1, 0));
     Ok(())
 }
 

@@ -1,18 +1,15 @@
-//! Actors of the tests.
+//! The actors: each is as small as what a test wants of it.
 
-ghost use Rattle.std.specs.Prelude.{[], ◌∷◌, ◌≡◌, ◌+◌, ◌==◌, ◌+ℤ◌, pos, refl, slice_index, slice_index_or, if◌then◌else◌};
+ghost use Rattle.std.specs.Prelude.{[], ◌∷◌, ◌≡◌, ◌+◌, ◌==◌, ◌+ℤ◌, ◌%◌, length, pos, refl, slice_index, slice_index_or, if◌then◌else◌};
 ghost use Rattle.std.specs.Int.{int_wrap, w64};
+ghost use Rattle.sdf_actor.specs.Steps.{total_in, total_out};
 
-use crate::actor::Actor;
-use crate::link::Link;
-use crate::net::Net;
-use crate::node::Node;
+use sdf_actor::Actor;
 use std::alloc::{AllocError, Global};
-use std::test::Fail;
 
 /// Puts the total of all that it has taken, which wraps.
 #[derive(Drop)]
-pub(crate) struct Sum;
+pub struct Sum;
 
 impl Actor for Sum {
     type Token = i64;
@@ -69,7 +66,7 @@ impl Actor for Sum {
 
 /// Turns each pair round.
 #[derive(Drop)]
-pub(crate) struct Swap;
+pub struct Swap;
 
 impl Actor for Swap {
     type Token = [u8; 2];
@@ -123,14 +120,75 @@ impl Actor for Swap {
     ghost puts_fit = { λ _ _ _ _ _. refl };
 }
 
+/// Keeps a sample at its first phase, and puts it twice at its second.
+#[derive(Drop)]
+pub struct Twice;
+
+impl Actor for Twice {
+    ghost use Rattle.test_actors.specs.Twice.{twice_take, twice_put, twice_next, twice_puts, twice_fits};
+
+    type Token = i64;
+
+    type State = i64;
+
+    ghost steps = { record {
+      inputs = λ _. 1;
+      outputs = λ _. 1;
+      cycle = λ _. 2;
+      take = λ _ _ j. twice_take j;
+      put = λ _ _ j. twice_put j;
+      start = λ _. pos 0;
+      next = λ _ j s t. twice_next j s t;
+      puts = λ _ j s _. twice_puts j s;
+    } };
+
+    fn inputs(&self) -> usize {
+        1
+    }
+
+    fn outputs(&self) -> usize {
+        1
+    }
+
+    fn cycle(&self) -> u32 {
+        2
+    }
+
+    fn take(&self, _port: usize, phase: u32) -> u32 {
+        if phase == 0 { 1 } else { 0 }
+    }
+
+    fn put(&self, _port: usize, phase: u32) -> u32 {
+        if phase == 0 { 0 } else { 2 }
+    }
+
+    fn start(&self, _alloc: Global) -> Result<i64, AllocError> {
+        Ok(0)
+    }
+
+    fn again(&self, _alloc: Global, state: &i64) -> Result<i64, AllocError> {
+        Ok(*state)
+    }
+
+    fn fire(&self, phase: u32, state: &mut i64, taken: &[i64], put: &mut [i64]) {
+        if phase == 0 {
+            *state = taken[0];
+        } else {
+            put.copy_from_slice(&[*state, *state]);
+        }
+    }
+
+    ghost puts_fit = { λ x past now blocks e. twice_fits (length past % 2) _ };
+}
+
 /// At phase 0 of its cycle it takes `first + middle` and `last` samples, and puts them on as `first` and `middle + last`. At its
 /// other phases it moves none.
 #[derive(Drop)]
-pub(crate) struct Deal {
-    pub(crate) cycle: u32,
-    pub(crate) first: u16,
-    pub(crate) middle: u16,
-    pub(crate) last: u16,
+pub struct Deal {
+    pub cycle: u32,
+    pub first: u16,
+    pub middle: u16,
+    pub last: u16,
 }
 
 impl Actor for Deal {
@@ -198,55 +256,4 @@ impl Actor for Deal {
     ghost use Rattle.std.proofs.Common.{rules, ◌∙◌};
 
     ghost puts_fit = { λ x past now blocks e. e ∙ Prim.search rules };
-}
-
-pub(crate) fn source<A>(ext: u8, block: u32) -> Node<A> {
-    Node::Source { ext, block }
-}
-
-pub(crate) fn sink<A>(ext: u8, block: u32) -> Node<A> {
-    Node::Sink { ext, block }
-}
-
-/// An actor of one phase.
-pub(crate) fn dealer(first: u16, middle: u16, last: u16) -> Node<Deal> {
-    turning(1, first, middle, last)
-}
-
-/// An actor of so many phases.
-pub(crate) fn turning(cycle: u32, first: u16, middle: u16, last: u16) -> Node<Deal> {
-    Node::Inner(Deal {
-        cycle,
-        first,
-        middle,
-        last,
-    })
-}
-
-/// Links by their ends, each a node and a port.
-pub(crate) fn links<T: Drop>(
-    alloc: Global,
-    ends: &[[usize; 4]],
-) -> Result<Vec<Link<T>>, AllocError> {
-    let mut links = Vec::new(alloc);
-    for [from, output, to, input] in ends {
-        links.push(Link {
-            from: (*from, *output),
-            to: (*to, *input),
-            initial: Vec::new(alloc),
-        })?;
-    }
-    Ok(links)
-}
-
-/// The text of the fault of a net, and nothing where there is none.
-pub(crate) fn fault<A: Actor>(
-    alloc: Global,
-    nodes: Vec<Node<A>>,
-    links: Vec<Link<A::Token>>,
-) -> Result<String, Fail> {
-    match Net::new(alloc, nodes, links) {
-        Ok(_) => Ok(String::new(alloc)),
-        Err(fault) => Ok(fault.to_string(alloc)?),
-    }
 }
