@@ -1,7 +1,7 @@
 """Compares two tables of docs/FORMATS.md with the program's.
 
-The table of faults is what `sdfw explain` prints; `--write` writes it anew. The first two columns of the table of kinds stand in a test of
-`sdf_document`, which holds that they are the rows that the reader follows.
+The table of faults is what `sdfw explain` prints; `--write` writes it anew. The first two columns of the table of kinds stand in
+`format_tests`, which proves that they are the rows that the reader follows.
 """
 
 import pathlib
@@ -31,7 +31,7 @@ def first_columns(lines):
 def kinds_agree(page):
     """Whether the document's kinds are those of the test."""
     rows = page[page.index("| kind |"):].split("\n\n", 1)[0].splitlines()[2:]
-    test = (TOP / "crates" / "sdf_document" / "src" / "tests" / "rows.rt").read_text()
+    test = (TOP / "crates" / "format_tests" / "src" / "document_kinds.rt").read_text()
     table = test[test.index("const TABLE: &str = \"") + 21:].split("\";", 1)[0]
     return first_columns(rows) == [row for row in table.splitlines() if row]
 
@@ -40,7 +40,7 @@ def main():
     table = HEAD + "".join(row(number) for number in range(1, 64))
     page = PAGE.read_text()
     if not kinds_agree(page):
-        sys.exit("docs/FORMATS.md: its table of kinds is not that of crates/sdf_document/src/tests/rows.rt")
+        sys.exit("docs/FORMATS.md: its table of kinds is not that of crates/format_tests/src/document_kinds.rt")
     start = page.index(HEAD)
     end = page.index("\n\n", start) + 1
     if page[start:end] == table:

@@ -23,6 +23,3 @@ mod value;
 pub use document::{file_names, read_document};
 pub use entry::{ActorEntry, Document, KindEntry, LinkEntry, ListEntry};
 pub use fault::{DocumentFault, Place, ReadFault};
-
-#[cfg(test)]
-mod tests;

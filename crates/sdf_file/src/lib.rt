@@ -16,6 +16,3 @@ pub use fault::FileFault;
 pub use schedule::schedule_text;
 pub use sdf_document::{DocumentFault, Place};
 pub use texts::check_text;
-
-#[cfg(test)]
-mod tests;

@@ -14,6 +14,7 @@ mod device;
 mod fault;
 mod format;
 mod from_read;
+pub mod laws;
 mod moving;
 mod parts;
 mod reading;
@@ -34,11 +35,3 @@ pub use wav::{MOST_CHANNELS, Wav};
 pub use wav_in::WavIn;
 pub use wav_out::WavOut;
 pub use writing::write_wav;
-
-#[cfg(test)]
-mod device_tests;
-pub mod laws;
-#[cfg(test)]
-mod pieces_tests;
-#[cfg(test)]
-mod tests;

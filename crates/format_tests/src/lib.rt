@@ -1,0 +1,27 @@
+//! What no clause says of files: worked WAV files, whole and in pieces, over devices that fail, and worked documents and designs.
+//!
+//! It stands on `sdf_wav`, `sdf_document` and `sdf_file`, and has no functions: tests stand in a crate of their own, since the functions of
+//! a crate are proved once more with its tests. Begin at `wav_files` and `documents`. That the table of kinds in `docs/FORMATS.md` is the one
+//! that the reader follows is proved: `document_kinds`, by `specs/KindTable.antt`.
+#![tactic(auto)]
+
+#[cfg(test)]
+mod coefficient_files;
+#[cfg(test)]
+mod designs;
+#[cfg(test)]
+mod devices;
+#[cfg(test)]
+mod document_formats;
+#[cfg(test)]
+mod document_kinds;
+#[cfg(test)]
+mod documents;
+#[cfg(test)]
+mod readings;
+#[cfg(test)]
+mod wav_devices;
+#[cfg(test)]
+mod wav_files;
+#[cfg(test)]
+mod wav_pieces;

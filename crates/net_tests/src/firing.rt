@@ -1,0 +1,167 @@
+//! Actors of the tests at work, fired through the trait's bound.
+
+ghost use Rattle.std.specs.Prelude.{◌≡◌, ◌<◌};
+ghost use Rattle.sdf_actor.specs.Steps.{sum_in, sum_out};
+
+use sdf_actor::Actor;
+use sdf_kit::{Kit, KitFault};
+use std::alloc::AllocError;
+use std::process::Abort;
+use std::test::Fail;
+
+/// How many samples so many firings take and put at all ports.
+fn moved<A: Actor>(rt: &impl Abort, actor: &A, many: u32) -> (usize, usize)
+    requires { 0 < A.steps.cycle actor.now }
+    ensures taken { result.0 ≡ sum_in A.steps actor.now 0 many }
+    ensures put { result.1 ≡ sum_out A.steps actor.now 0 many }
+{
+    let mut taken = 0usize;
+    let mut put = 0usize;
+    for firing in 0..many {
+        let phase = firing % actor.cycle();
+        let reads = actor.samples_in(phase);
+        let writes = actor.samples_out(phase);
+        assert!(rt; taken <= 65_536 && put <= 65_536 && reads <= 65_536 && writes <= 65_536);
+        taken += reads;
+        put += writes;
+    }
+    (taken, put)
+}
+
+/// Where the samples of an output port begin in a block that is put.
+fn start_of<A: Actor>(rt: &impl Abort, actor: &A, port: usize, phase: u32) -> usize
+    requires phase { phase < A.steps.cycle actor.now }
+    requires port { port < A.steps.outputs actor.now }
+{
+    let mut start = 0usize;
+    for before in 0..port {
+        assert!(rt; start <= 65_536);
+        start += actor.put(before, phase) as usize;
+    }
+    start
+}
+
+/// Moves the samples that a firing takes from the fronts of lists at its input ports. It answers false where they are
+/// too few.
+fn take_block<A: Actor>(
+    rt: &impl Abort,
+    actor: &A,
+    phase: u32,
+    lists: &mut [&[A::Token]],
+    block: &mut Vec<A::Token>,
+) -> Result<bool, AllocError>
+    requires { phase < A.steps.cycle actor.now }
+{
+    assert!(rt; lists.len() == actor.inputs());
+    for (port, list) in lists.iter_mut().enumerate() {
+        let rate = actor.take(port, phase) as usize;
+        if list.len() < rate {
+            return Ok(false);
+        }
+        let (front, rest) = list.split_at(rate);
+        block.extend_from_slice(front)?;
+        *list = rest;
+    }
+    Ok(true)
+}
+
+/// Fires an actor on lists at its input ports as long as they last, and gives all that it puts at an output port.
+pub(crate) fn put_at<A: Actor>(
+    rt: &(impl Abort + AllocGlobal),
+    actor: &A,
+    port: usize,
+    lists: &mut [&[A::Token]],
+    blank: A::Token,
+) -> Result<Vec<A::Token>, AllocError> {
+    let cycle = actor.cycle();
+    assert!(rt; 0 < cycle && port < actor.outputs());
+    let mut state = actor.start(rt.alloc())?;
+    let mut all = Vec::new(rt.alloc());
+    for firing in 0..1024u32 {
+        let phase = firing % cycle;
+        let mut taken = Vec::new(rt.alloc());
+        if !take_block(rt, actor, phase, lists, &mut taken)? {
+            break;
+        }
+        let mut put = vec![in rt.alloc(); blank; actor.samples_out(phase)]?;
+        assert!(rt; taken.len() == actor.samples_in(phase));
+        actor.fire(phase, &mut state, &taken, &mut put);
+        let start = start_of(rt, actor, port, phase);
+        let rate = actor.put(port, phase) as usize;
+        assert!(rt; start <= put.len() && rate <= put.len() - start);
+        all.extend_from_slice(&put[start..start + rate])?;
+    }
+    Ok(all)
+}
+
+/// Fires an actor with one phase in runs of so many firings, and gives all that it puts, block after block.
+pub(crate) fn put_in_runs<A: Actor>(
+    rt: &(impl Abort + AllocGlobal),
+    actor: &A,
+    runs: &[u32],
+    taken: &[A::Token],
+    blank: A::Token,
+) -> Result<Vec<A::Token>, AllocError> {
+    assert!(rt; actor.cycle() == 1);
+    let mut state = actor.start(rt.alloc())?;
+    let mut all = Vec::new(rt.alloc());
+    let mut rest = taken;
+    for many in runs {
+        let (reads, writes) = moved(rt, actor, *many);
+        assert!(rt; reads <= rest.len());
+        let (now, later) = rest.split_at(reads);
+        let mut put = vec![in rt.alloc(); blank; writes]?;
+        actor.fire_many(0, *many as usize, &mut state, now, &mut put);
+        all.extend_from_slice(&put)?;
+        rest = later;
+    }
+    Ok(all)
+}
+
+/// Fires a kit with one port a side in one run and in two, and compares what it puts.
+fn check_runs(
+    rt: &(impl Abort + AllocGlobal),
+    kit: &Kit,
+    taken: &[i32],
+    want: &[i32],
+) -> Result<(), Fail> {
+    assert!(rt; kit.cycle() == 1);
+    let rate = kit.samples_in(0);
+    assert!(rt; 0 < rate && rate <= taken.len() && taken.len() <= 65_536);
+    let many = (taken.len() / rate) as u32;
+    let put = put_in_runs(rt, kit, &[many], taken, 0)?;
+    assert_eq!(rt; put.as_slice(), want);
+    let put = put_in_runs(rt, kit, &[many / 2, many - many / 2], taken, 0)?;
+    assert_eq!(rt; put.as_slice(), want);
+    Ok(())
+}
+
+/// Fires a kit with one input port, and compares what it puts at its output ports.
+pub(crate) fn check(
+    rt: &(impl Abort + AllocGlobal),
+    kit: Result<Kit, KitFault>,
+    taken: &[i32],
+    want: &[&[i32]],
+) -> Result<(), Fail> {
+    let kit = kit?;
+    assert_eq!(rt; kit.outputs(), want.len());
+    for (port, list) in want.iter().enumerate() {
+        let put = put_at(rt, &kit, port, &mut [taken], 0)?;
+        assert_eq!(rt; put.as_slice(), *list);
+        if want.len() == 1 {
+            check_runs(rt, &kit, taken, list)?;
+        }
+    }
+    Ok(())
+}
+
+/// Compares what a kit puts in runs with what it puts firing by firing.
+pub(crate) fn same_in_runs(
+    rt: &(impl Abort + AllocGlobal),
+    kit: Result<Kit, KitFault>,
+    taken: &[i32],
+) -> Result<(), Fail> {
+    let kit = kit?;
+    let want = put_at(rt, &kit, 0, &mut [taken], 0)?;
+    check_runs(rt, &kit, taken, &want)
+}

@@ -1,0 +1,59 @@
+//! Nodes and links, for nets.
+
+ghost use Rattle.std.specs.Prelude.{◌≡◌, IfOk};
+ghost use Rattle.sdf_actor.specs.declared.node.Node.TheVariants.{Source, Sink, Inner};
+ghost use Rattle.sdf_actor.specs.Wires.{wires};
+ghost use Rattle.test_actors.specs.Rows.{empty_wires};
+
+use crate::actors::Deal;
+use sdf_actor::{Link, Node};
+use std::alloc::{AllocError, Global};
+
+/// A source of an input list.
+pub fn source<A>(ext: u8, block: u32) -> Node<A>
+    ensures { result ≡ Source ext block }
+{
+    Node::Source { ext, block }
+}
+
+/// A sink to an output list.
+pub fn sink<A>(ext: u8, block: u32) -> Node<A>
+    ensures { result ≡ Sink ext block }
+{
+    Node::Sink { ext, block }
+}
+
+/// An actor of one phase.
+pub fn dealer(first: u16, middle: u16, last: u16) -> Node<Deal>
+    ensures { result ≡ Inner (record { cycle = 1; first = first; middle = middle; last = last }) }
+{
+    turning(1, first, middle, last)
+}
+
+/// An actor of so many phases.
+pub fn turning(cycle: u32, first: u16, middle: u16, last: u16) -> Node<Deal>
+    ensures { result ≡ Inner (record { cycle = cycle; first = first; middle = middle; last = last }) }
+{
+    Node::Inner(Deal {
+        cycle,
+        first,
+        middle,
+        last,
+    })
+}
+
+/// Links by their ends, each a node and a port, that begin with no samples.
+#[tactic(auto, using(std::proofs::lemmas::List::map_push, std::proofs::lemmas::List::map_more))]
+pub fn links<T: Drop>(alloc: Global, ends: &[[usize; 4]]) -> Result<Vec<Link<T>>, AllocError>
+    ensures { IfOk result (λ links. wires links.items ≡ empty_wires ends.now) }
+{
+    let mut links = Vec::new(alloc);
+    for [from, output, to, input] in ends {
+        links.push(Link {
+            from: (*from, *output),
+            to: (*to, *input),
+            initial: Vec::new(alloc),
+        })?;
+    }
+    Ok(links)
+}
