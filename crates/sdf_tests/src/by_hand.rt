@@ -2,7 +2,6 @@
 
 ghost use Rattle.sdf_rings.specs.Rests.{HaveMet};
 
-use crate::actors::Sum;
 use crate::nets::{list, pair, planned};
 use sdf_answer::RunFault;
 use sdf_node::NoGate;
@@ -10,6 +9,7 @@ use sdf_rings::Rings;
 use sdf_rings::prepare::prepare;
 use std::process::Abort;
 use std::test::Fail;
+use test_actors::Sum;
 
 /// A round of both seats, the sink's first, and its end.
 fn both_and_meet(rt: &impl Abort, rings: &mut Rings<Sum>)

@@ -1,6 +1,5 @@
 //! Small nets that are fed in two pieces.
 
-use crate::actors::{Sum, Twice};
 use crate::nets::{chain, list, pair};
 use sdf_actor::{Actor, Net};
 use sdf_run::{feed_one, resume_one};
@@ -8,6 +7,7 @@ use sdf_sched::Round;
 use sdf_sched::class_s::class_s;
 use std::alloc::Global;
 use std::test::Fail;
+use test_actors::{Sum, Twice};
 
 /// What a run of some periods makes, and then what a further one makes.
 fn in_pieces<A: Actor>(

@@ -1,26 +1,9 @@
 //! The graphs of the tests.
 
-use sdf_graph::{Channel, Graph};
-use std::alloc::{AllocError, Global};
+use sdf_graph::Graph;
+use std::alloc::Global;
 use std::test::Fail;
-
-/// A channel between two actors.
-pub(crate) fn channel(
-    alloc: Global,
-    from: usize,
-    put: &[u32],
-    to: usize,
-    take: &[u32],
-    initial: usize,
-) -> Result<Channel, AllocError> {
-    Ok(Channel {
-        from,
-        put: Vec::from_slice(alloc, put)?,
-        to,
-        take: Vec::from_slice(alloc, take)?,
-        initial,
-    })
-}
+use test_actors::graphs::{Row, graph};
 
 /// Two actors and one channel.
 pub(crate) fn pair(
@@ -29,18 +12,17 @@ pub(crate) fn pair(
     take: &[u32],
     initial: usize,
 ) -> Result<Graph, Fail> {
-    let mut channels = Vec::new(alloc);
-    channels.push(channel(alloc, 0, put, 1, take, initial)?)?;
-    Ok(Graph::new(alloc, 2, channels)?)
+    Ok(graph(alloc, 2, &[(0, put, take, 1, initial)])?)
 }
 
 /// A graph of channels with rates 1.
 fn linked(alloc: Global, actors: usize, ends: &[(usize, usize)]) -> Result<Graph, Fail> {
-    let mut channels = Vec::new(alloc);
+    let one = [1].as_slice();
+    let mut rows: Vec<Row> = Vec::new(alloc);
     for (from, to) in ends {
-        channels.push(channel(alloc, *from, &[1], *to, &[1], 0)?)?;
+        rows.push((*from, one, one, *to, 0))?;
     }
-    Ok(Graph::new(alloc, actors, channels)?)
+    Ok(graph(alloc, actors, &rows)?)
 }
 
 /// Two ways from one actor to another.

@@ -3,7 +3,7 @@
 ghost use Rattle.std.specs.Prelude.{◌≡◌};
 ghost use Rattle.sdf_prec.specs.Blocks.{block};
 
-use crate::graphs::{channel, fork, longer_fork, pair};
+use crate::graphs::{fork, longer_fork, pair};
 use sdf_graph::Graph;
 use sdf_prec::levels::levels;
 use sdf_prec::{Costs, Firing, Levels, PrecFault, needed};
@@ -11,6 +11,7 @@ use sdf_sched::Round;
 use sdf_sched::class_s::class_s;
 use std::alloc::Global;
 use std::test::Fail;
+use test_actors::graphs::graph;
 
 /// How many firings a firing waits for on channel 0.
 fn needs(graph: &Graph, number: u32) -> u64 {
@@ -107,10 +108,11 @@ fn blocks_have_limits(rt: HostRuntime) -> Result<(), Fail> {
         fault_of(alloc, &short, 65)?,
         Some(PrecFault::BlockingFactor)
     );
-    let mut channels = Vec::new(alloc);
-    channels.push(channel(alloc, 0, &[255], 1, &[1], 0)?)?;
-    channels.push(channel(alloc, 1, &[256], 2, &[1], 0)?)?;
-    let long = Graph::new(alloc, 3, channels)?;
+    let long = graph(
+        alloc,
+        3,
+        &[(0, &[255], &[1], 1, 0), (1, &[256], &[1], 2, 0)],
+    )?;
     assert_eq!(rt; fault_of(alloc, &long, 2)?, Some(PrecFault::BlockTooLong));
     Ok(())
 }

@@ -6,7 +6,6 @@ ghost use Rattle.sdf_sched.specs.Period.{IsPeriodOf};
 ghost use Rattle.sdf_actor.specs.Graphs.{graph_of};
 ghost use Rattle.sdf_answer.specs.Rows.{IsTableOf};
 
-use crate::actors::Sum;
 use sdf_actor::{Actor, Link, Net, Node};
 use sdf_kit::Kit;
 use sdf_prec::hu::hu;
@@ -15,6 +14,8 @@ use sdf_sched::class_s::class_s;
 use sdf_sched::{Period, Round};
 use std::alloc::{AllocError, Global};
 use std::test::Fail;
+use test_actors::Sum;
+use test_actors::nets::{links, sink, source};
 
 /// One list of samples.
 pub(crate) fn list<T: Copy>(alloc: Global, samples: &[T]) -> Result<Vec<Vec<T>>, AllocError> {
@@ -58,11 +59,8 @@ pub(crate) fn pair(
     initial: &[i64],
 ) -> Result<Net<Sum>, Fail> {
     let mut nodes = Vec::new(alloc);
-    nodes.push(Node::Source { ext: 0, block })?;
-    nodes.push(Node::Sink {
-        ext: 0,
-        block: taken,
-    })?;
+    nodes.push(source(0, block))?;
+    nodes.push(sink(0, taken))?;
     let mut links = Vec::new(alloc);
     links.push(link(0, 1, Vec::from_slice(alloc, initial)?))?;
     Ok(Net::new(alloc, nodes, links)?)
@@ -71,22 +69,20 @@ pub(crate) fn pair(
 /// A source, an actor and a sink, in a chain.
 pub(crate) fn chain<A: Actor>(alloc: Global, actor: A) -> Result<Net<A>, Fail> {
     let mut nodes = Vec::new(alloc);
-    nodes.push(Node::Source { ext: 0, block: 1 })?;
+    nodes.push(source(0, 1))?;
     nodes.push(Node::Inner(actor))?;
-    nodes.push(Node::Sink { ext: 0, block: 1 })?;
-    let mut links = Vec::new(alloc);
-    links.push(link(0, 1, Vec::new(alloc)))?;
-    links.push(link(1, 2, Vec::new(alloc)))?;
+    nodes.push(sink(0, 1))?;
+    let links = links(alloc, &[[0, 0, 1, 0], [1, 0, 2, 0]])?;
     Ok(Net::new(alloc, nodes, links)?)
 }
 
 /// A source, two sums with five samples between them that are there at first, and a sink.
 pub(crate) fn two_sums(alloc: Global) -> Result<Net<Sum>, Fail> {
     let mut nodes = Vec::new(alloc);
-    nodes.push(Node::Source { ext: 0, block: 3 })?;
+    nodes.push(source(0, 3))?;
     nodes.push(Node::Inner(Sum))?;
     nodes.push(Node::Inner(Sum))?;
-    nodes.push(Node::Sink { ext: 0, block: 2 })?;
+    nodes.push(sink(0, 2))?;
     let mut links = Vec::new(alloc);
     links.push(link(0, 1, Vec::new(alloc)))?;
     links.push(link(1, 2, Vec::from_slice(alloc, &[0; 5])?))?;
@@ -103,11 +99,11 @@ fn of_ones(alloc: Global, up: u32, down: u32) -> Result<Node<Kit>, Fail> {
 /// 147 samples to 160, in four stages.
 pub(crate) fn converter(alloc: Global) -> Result<Net<Kit>, Fail> {
     let mut nodes = Vec::new(alloc);
-    nodes.push(Node::Source { ext: 0, block: 1 })?;
+    nodes.push(source(0, 1))?;
     for (up, down) in [(2, 1), (2, 3), (8, 7), (5, 7)] {
         nodes.push(of_ones(alloc, up, down)?)?;
     }
-    nodes.push(Node::Sink { ext: 0, block: 1 })?;
+    nodes.push(sink(0, 1))?;
     let mut links = Vec::new(alloc);
     for (from, to) in [(0, 1), (1, 2), (2, 3), (3, 4), (4, 5)] {
         links.push(link(from, to, Vec::new(alloc)))?;

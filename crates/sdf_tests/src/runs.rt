@@ -1,6 +1,5 @@
 //! Small nets on one thread.
 
-use crate::actors::{Sum, Swap, Twice};
 use crate::nets::{chain, list, pair, two_sums};
 use sdf_actor::{Actor, Net};
 use sdf_run::{RunFault, run_one};
@@ -8,6 +7,7 @@ use sdf_sched::class_s::class_s;
 use sdf_sched::{Lean, Pick, Round};
 use std::alloc::Global;
 use std::test::Fail;
+use test_actors::{Sum, Swap, Twice};
 
 /// The output lists of a net, scheduled by a policy.
 fn outputs_of<A: Actor, P: Pick>(
