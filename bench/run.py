@@ -13,8 +13,11 @@ ONE = {"sdfw": []}
 ROWS = {"sdfw, rows": ["--runner", "rows", "--workers", "2", "--blocking", "16"]}
 WORKERS = (1, 2, 4)
 RINGS = {f"rings {m}": ["--runner", "rings", "--workers", str(m)] for m in WORKERS}
-RUNS = {f"rings {m}, runs": [*words, "--blocking", "16", "--policy", "runs"] for m, words in zip(WORKERS, RINGS.values())}
-HOMES = {f"rings {m}, at home": [*words, "--placement", "file"] for m, words in zip(WORKERS, RUNS.values())}
+HOMES = {
+    f"rings {m}, at home": [*words, "--policy", "runs", "--placement", "file", "--blocking", "64", "--patience", "100000"]
+    for m, words in zip(WORKERS, RINGS.values())
+}
+ALONE = {"rings 1, at home": HOMES["rings 1, at home"]}
 BANK, BANK_TAPS = 8, 1024
 # Of four workers, on which each actor of the crossover is at home; those not named are on the last.
 CROSSOVER_HOMES = {
@@ -159,15 +162,15 @@ def main():
         compare(folder, "44,100 to 48,000, mono, full scale", CONVERTER / "graph.toml", chain, halvings=0)
         compare(folder, "44,100 to 48,000, stereo", CONVERTER / "graph-stereo.toml", chain, channels=2, rate=True)
         compare(folder, "crossover", CROSSOVER / "graph.toml", {"C, plain loop": compiled(folder, "crossover")})
-        workers = {**ONE, **ROWS, **RINGS, **RUNS}
-        compare(folder, "44,100 to 48,000, mono, by workers", CONVERTER / "graph.toml", chain, runners=workers, lengths=(1,))
-        compare(folder, "44,100 to 48,000, stereo, by workers", CONVERTER / "graph-stereo.toml", chain, channels=2, runners={**ONE, **RINGS, **RUNS}, lengths=(1,))
-        workers = {**ONE, **RINGS, **HOMES}
-        homes = at_homes(folder, CROSSOVER / "graph.toml", CROSSOVER_HOMES)
-        compare(folder, "crossover, by workers", CROSSOVER / "graph.toml", {"C, plain loop": compiled(folder, "crossover")}, runners=workers, lengths=(1,), homes=homes)
+        converter, crossover = CONVERTER / "graph.toml", CROSSOVER / "graph.toml"
+        compare(folder, "44,100 to 48,000, mono, by workers", converter, chain, runners={**ONE, **ROWS, **RINGS}, lengths=(1,))
+        compare(folder, "44,100 to 48,000, mono, one worker in runs", converter, chain, runners={**ONE, **ALONE}, lengths=(10, 60, 600))
+        compare(folder, "44,100 to 48,000, stereo, by workers", CONVERTER / "graph-stereo.toml", chain, channels=2, runners={**ONE, **RINGS}, lengths=(1,))
         graph, places = bank(folder / "bank")
-        homes = at_homes(folder, graph, places)
-        compare(folder, "a bank of eight filters, by workers", graph, {"C, plain loop": compiled(folder, "bank")}, runners=workers, lengths=(1,), homes=homes)
+        for title, design, program, homes in (("crossover", crossover, "crossover", CROSSOVER_HOMES), ("a bank of eight filters", graph, "bank", places)):
+            plain = {"C, plain loop": compiled(folder, program)}
+            compare(folder, f"{title}, by workers", design, plain, runners={**ONE, **RINGS}, lengths=(1,))
+            compare(folder, f"{title}, by workers in runs", design, plain, runners={**ONE, **HOMES}, lengths=(10,), homes=at_homes(folder, design, homes))
         compare(folder, "echo", ECHO / "graph.toml", {"C, plain loop": compiled(folder, "echo")})
 
 
