@@ -36,6 +36,12 @@ fn three_workers(rt: HostRuntime) -> Result<(), Fail> {
 }
 
 #[test]
+fn sixteen_workers(rt: HostRuntime) -> Result<(), Fail> {
+    makes_as_one(&rt, 16, 0)?;
+    makes_as_one(&rt, 16, 1_000_000)
+}
+
+#[test]
 fn a_block_of_two_periods(rt: HostRuntime) -> Result<(), Fail> {
     let alloc = rt.alloc();
     let net = converter(alloc)?;
