@@ -1,17 +1,16 @@
 -- A session of a run goes on: what it stands after, and what of that is written.
 use Rattle.std.proofs.Common.{◌≡◌, inl, inr, Result, Ok, Err, ℕ, ◌+◌, ◌-◌, ◌*◌, ◌/◌, ◌≤◌, ◌<◌, ℤ, zero, suc, List, [], ◌++◌, length, map, get_or, Option, Some, None, refl, sym, ap, ◌∙◌, subst, arith}
 use Rattle.std.specs.Prelude.{IsErrAnd, IfOk}
-use Rattle.std.specs.Io.KnownBytes.{Appends, Keeps}
+use Rattle.std.specs.Io.KnownBytes.{Keeps}
 use Rattle.std.specs.List.{range_with_len}
 use Rattle.std.proofs.Math.Nat.{mul-div_left, mul-le-mul_right}
 use Rattle.std.proofs.lemmas.List.FromFn.{length-map-range_with_len}
-use Rattle.sdf_actor.specs.declared.rest.Rest.{Rest}
 use Rattle.sdf_actor.specs.declared.sides.Lists.TheVariants.{Inputs, Outputs}
 use Rattle.sdf_actor.specs.Laws.{PortsHaveChannels}
 use Rattle.sdf_actor.specs.Nets.{Netlist}
 use Rattle.sdf_actor.specs.Rests.{AreJoined}
 use Rattle.sdf_actor.specs.Sides.{list_count, period_samples}
-use Rattle.sdf_answer.specs.Answer.{AreOutputs, HasInputs, periods_of as firings}
+use Rattle.sdf_answer.specs.Answer.{AreOutputs, periods_of as firings}
 use Rattle.sdf_answer.specs.Feeds.{HasRun}
 use Rattle.sdf_answer.specs.Laws.{NetsCanRun}
 use Rattle.sdf_answer.specs.Periods.{HasPeriod}
@@ -23,14 +22,13 @@ use Rattle.sdf_prec.specs.Tables.{Tabled}
 use Rattle.sdf_run.specs.Sessions.{SessionValue, AreBlocks, AreNone, FeedsBlocks, HasFed, IsFeedFault, IsLive, IsModeFault, StandsAfter}
 use Rattle.sdf_sched.specs.Period.{Schedule}
 use Rattle.sdf_wav.specs.Canonical.{sample_bytes}
-use Rattle.sdf_wav.specs.Device.{AppendsFront, one_more}
 use Rattle.sdf_wav.specs.PiecesOut.{Owed}
 use Rattle.sdf_wav.specs.Sound.{Sound}
 use Rattle.sdf_words.specs.declared.options.Runner.{Runner}
 use Rattle.sdf_words.specs.declared.options.Runner.TheVariants as runners
 use Rattle.sdf_process.specs.declared.exchange.Exchange.{Exchange}
 use Rattle.sdf_process.specs.declared.fault.Fault.{Fault}
-use Rattle.sdf_process.specs.declared.fault.Fault.TheVariants.{OutOfMemory, Write}
+use Rattle.sdf_process.specs.declared.fault.Fault.TheVariants.{OutOfMemory}
 use Rattle.sdf_process.specs.Faults.{of_run}
 use Rattle.sdf_process.specs.Output.{channel_samples, exchange_of, interleaved, lists_from, lists_to}
 use Rattle.sdf_process.specs.Plans.{HasPatience, SuitsRunner}

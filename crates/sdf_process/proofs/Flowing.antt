@@ -1,43 +1,26 @@
 -- A run that reads and writes as it goes, from its first block to its last.
-use Rattle.std.proofs.Common.{false, ◌≡◌, ◌≢◌, ◌⊎◌, inl, inr, Result, Ok, Err, ℕ, ◌+◌, ◌-◌, ◌*◌, ◌/◌, ◌%◌, ◌≤◌, ◌<◌, ℤ, List, [], ◌++◌, length, map, take, drop, Option, Some, None, append-nil, refl, sym, ap, ◌∙◌, subst, arith}
-use Rattle.std.specs.Prelude.{IfSome}
-use Rattle.std.specs.Io.KnownBytes.{Appends, Keeps}
-use Rattle.std.proofs.Math.Nat.{div-mul-le_self, mod-eq-sub-div-mul, mul-div_left, mul-le-mul_right, mul-mod_left}
+use Rattle.std.proofs.Common.{◌≡◌, ◌≢◌, inl, inr, Result, Ok, Err, ℕ, ◌+◌, ◌-◌, ◌*◌, ◌/◌, ◌%◌, ◌≤◌, ◌<◌, ℤ, List, [], ◌++◌, length, drop, Option, None, append-nil, refl, sym, ap, ◌∙◌, subst, arith}
+use Rattle.std.specs.Io.KnownBytes.{Appends}
+use Rattle.std.proofs.Math.Nat.{mul-div_left, mul-le-mul_right, mul-mod_left}
 use Rattle.std.proofs.Math.Seq.{drop-nil}
 use Rattle.std.proofs.lemmas.List.{length-append, length-drop}
-use Rattle.std.proofs.lemmas.Bool.{cases_lt, lt-ltb}
-use Rattle.std.proofs.lemmas.Nat.{le-div}
 use Rattle.sdf_actor.specs.Nets.{Netlist}
-use Rattle.sdf_answer.specs.Answer.{AreOutputs, periods_of as firings}
 use Rattle.sdf_answer.specs.Laws.{RunsGoOn}
 use Rattle.sdf_answer.specs.Periods.{HasPeriod}
 use Rattle.sdf_kit.specs.declared.kit.Kit.{Kit}
 use Rattle.sdf_kit.specs.Kit.{kit_steps}
 use Rattle.sdf_run.specs.Sessions.{SessionValue}
-use Rattle.sdf_answer.specs.Rows.{IsTableOf}
-use Rattle.sdf_actor.specs.Graphs.{graph_of}
-use Rattle.sdf_graph.specs.Rates.{rates}
-use Rattle.sdf_prec.specs.Tables.{Tabled}
 use Rattle.sdf_sched.specs.Period.{Schedule}
-use Rattle.sdf_wav.specs.Canonical.{sample_bytes}
-use Rattle.sdf_wav.specs.Device.{AppendsFront, Known, LosesFront, one_more}
-use Rattle.sdf_wav.specs.PiecesIn.{Reading, IsEnded, IsReading, IsReadTo, IsWithin, known_frames, sound_read}
+use Rattle.sdf_wav.specs.Device.{one_more}
+use Rattle.sdf_wav.specs.PiecesIn.{Reading, IsReadTo, sound_read}
 use Rattle.sdf_wav.specs.PiecesOut.{Owed}
 use Rattle.sdf_wav.specs.Sound.{Sound, frames_of}
-use Rattle.sdf_process.specs.declared.exchange.Announced.{Announced}
 use Rattle.sdf_process.specs.declared.exchange.Exchange.{Exchange}
-use Rattle.sdf_process.specs.declared.exchange.Extent.{Extent}
 use Rattle.sdf_process.specs.declared.fault.Fault.{Fault}
-use Rattle.sdf_process.specs.declared.fault.Fault.TheVariants.{ChannelsMissing, OutOfMemory, Write}
-use Rattle.sdf_process.specs.Output.{announced_fault, exchange_of, interleaved, lists_to, periods_for, periods_of, IsExchange, IsExtent}
-use Rattle.sdf_process.specs.Plans.{PlanValue, Suits}
-use Rattle.sdf_process.specs.Run.{AreFrames}
-use Rattle.sdf_process.specs.Stages.{IsHeardFrom, PutsOutput, ReadsContent}
-use Rattle.sdf_process.specs.Streams.{AreBehind, IsReady, IsStream, PutsBlocks, PutsWhole, ReadsBy, ReadsMore, StandsAt, StandsWhole, Streams}
-use Rattle.sdf_process.proofs.Fed.{run_at}
-use Rattle.sdf_process.proofs.Opened.{frames_known}
+use Rattle.sdf_process.specs.Output.{exchange_of, periods_for, periods_of}
+use Rattle.sdf_process.specs.Stages.{ReadsContent}
+use Rattle.sdf_process.specs.Streams.{AreBehind, IsStream, PutsBlocks, PutsWhole, ReadsMore, StandsAt, StandsWhole, Streams}
 use Rattle.sdf_process.proofs.Pieces.{appends_none}
-use Rattle.sdf_process.proofs.Rendering.{are_inputs, begin, interleaved_cut}
 use Rattle.sdf_process.proofs.Sizes.{below_by, cancel, less_twice, minus, periods_end, periods_fit, positive}
 use Rattle.sdf_process.proofs.Outcomes.{appends_join, front_join, keeps_same}
 use Rattle.sdf_process.proofs.Streamed.{behind_on, stands_on}

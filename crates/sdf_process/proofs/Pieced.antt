@@ -8,7 +8,7 @@ use Rattle.sdf_actor.specs.declared.sides.Lists.TheVariants.{Inputs, Outputs}
 use Rattle.sdf_actor.specs.Laws.{PortsHaveChannels}
 use Rattle.sdf_actor.specs.Nets.{Netlist, IsNet}
 use Rattle.sdf_actor.specs.Rests.{IsRest}
-use Rattle.sdf_actor.specs.Sides.{list_count, period_samples}
+use Rattle.sdf_actor.specs.Sides.{list_count}
 use Rattle.sdf_answer.specs.Answer.{AreOutputs, periods_of as firings}
 use Rattle.sdf_answer.specs.Feeds.{GoesOnBy, HasRun, NothingRuns}
 use Rattle.sdf_answer.specs.Laws.{NetsCanRun}
@@ -27,7 +27,7 @@ use Rattle.sdf_process.specs.Run.{AreFrames}
 use Rattle.sdf_process.specs.Stages.{PlaysTo, PutsFrames, PutsOutput, PutsPiece, SamplesJoin}
 use Rattle.sdf_process.proofs.Outcomes.{appends_join, front_join}
 use Rattle.sdf_process.proofs.Pieces.{appends_none}
-use Rattle.sdf_process.proofs.Played.{frames_on_join, join, joined_is, joined_long, lists_full, lists_joined, lists_long, made_long}
+use Rattle.sdf_process.proofs.Played.{frames_on_join, join, joined_is, joined_long, lists_full, lists_joined, made_long}
 use Rattle.sdf_process.proofs.Rendering.{are_inputs, list_length}
 use Rattle.sdf_process.proofs.Texts.{bytes_append}
 

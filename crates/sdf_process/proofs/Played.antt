@@ -1,37 +1,35 @@
 -- A run that is played some periods at a time: its pieces, joined, are one run.
-use Rattle.std.proofs.Common.{◌≡◌, inl, inr, Result, Ok, Err, ℕ, zero, suc, ◌+◌, ◌*◌, ◌≤◌, ◌<◌, ℤ, pos, List, [], ◌∷◌, ◌++◌, length, map, get_or, refl, sym, ap, ◌∙◌, subst, arith, ◌⊎◌, append-nil, append_assoc}
+use Rattle.std.proofs.Common.{◌≡◌, inl, inr, Result, Ok, Err, ℕ, zero, suc, ◌+◌, ◌*◌, ◌≤◌, ◌<◌, ℤ, pos, List, [], ◌∷◌, ◌++◌, length, map, get_or, refl, sym, ap, ◌∙◌, subst, arith, ◌⊎◌, append-nil}
 use Rattle.std.specs.Int.{w16, saturate_signed}
 use Rattle.std.specs.Prelude.{IsErrAnd, MatchResult}
-use Rattle.std.specs.List.{flat_map, range_with_len}
+use Rattle.std.specs.List.{range_with_len}
 use Rattle.std.proofs.lemmas.Bool.{cases_lt}
-use Rattle.std.proofs.lemmas.List.{get_or_past, get_or_append_left, get_or-append-add, length-append, length-take-le}
+use Rattle.std.proofs.lemmas.List.{get_or_past, get_or_append_left, get_or-append-add, length-take-le}
 use Rattle.std.proofs.lemmas.List.Concat.{flat_map-cons}
 use Rattle.std.proofs.lemmas.List.FromFn.{length-map-range_with_len, get_or-map-range_with_len}
 use Rattle.sdf_actor.specs.declared.node.Node.TheVariants.{Sink}
-use Rattle.sdf_actor.specs.declared.rest.Rest.{Rest}
 use Rattle.sdf_actor.specs.declared.sides.Lists.TheVariants.{Outputs}
 use Rattle.sdf_actor.specs.Laws.{PortsHaveChannels}
-use Rattle.sdf_actor.specs.Nets.{Netlist, node, wire, wiring, consumed_at, inputs_of, to_port, IsNet}
+use Rattle.sdf_actor.specs.Nets.{Netlist, node, wire, wiring, consumed_at, inputs_of, to_port}
 use Rattle.sdf_actor.specs.Rests.{AreJoined}
-use Rattle.sdf_actor.specs.Sides.{list_count, period_samples}
+use Rattle.sdf_actor.specs.Sides.{period_samples}
 use Rattle.sdf_actor.specs.Steps.{Steps}
 use Rattle.sdf_answer.specs.Answer.{AreOutputs, HasInputs, IsRunFault, periods_of as firings}
 use Rattle.sdf_answer.specs.declared.fault.RunFault.{RunFault}
 use Rattle.sdf_process.specs.declared.fault.Fault.{Fault}
 use Rattle.sdf_process.specs.declared.fault.Fault.TheVariants.{OutOfMemory}
 use Rattle.sdf_process.specs.Faults.{of_run}
-use Rattle.sdf_answer.specs.Feeds.{AreFull, GoesOnBy, HasRun}
+use Rattle.sdf_answer.specs.Feeds.{AreFull}
 use Rattle.sdf_answer.specs.Laws.{NetsCanRun}
 use Rattle.sdf_answer.specs.Periods.{HasPeriod}
 use Rattle.sdf_kit.specs.declared.kit.Kit.{Kit}
-use Rattle.sdf_kit.specs.Kit.{kit_steps}
 use Rattle.sdf_sched.specs.Period.{Schedule}
 use Rattle.sdf_wav.specs.Sound.{Sound}
 use Rattle.sdf_process.specs.declared.exchange.Exchange.{Exchange}
 use Rattle.sdf_process.specs.Output.{exchange_of, sample, channel_samples, channel_samples_from, frame, interleaved, interleaved_from, lists_to, lists_from}
 use Rattle.sdf_process.proofs.Outputs.{sink_of}
 use Rattle.sdf_process.proofs.Pieces.{frames_joined}
-use Rattle.sdf_process.proofs.Rendering.{are_inputs, list_length, run_fault_by}
+use Rattle.sdf_process.proofs.Rendering.{list_length, run_fault_by}
 
 -- ---- what a piece is given
 

@@ -1,35 +1,22 @@
 -- A run that reads and writes as it goes: its blocks joined, and its end.
-use Rattle.std.proofs.Common.{◌≡◌, ◌≢◌, ◌⊎◌, inl, inr, Result, Ok, Err, ℕ, ◌+◌, ◌-◌, ◌*◌, ◌/◌, ◌%◌, ◌≤◌, ◌<◌, ℤ, List, [], ◌++◌, length, drop, map, take, Option, Some, refl, sym, ap, ◌∙◌, subst, arith, append-nil, append_assoc}
-use Rattle.std.specs.Prelude.{IsErrAnd, MatchResult}
-use Rattle.std.specs.Io.KnownBytes.{Appends, Keeps}
-use Rattle.std.proofs.Math.Nat.{mod-eq-sub-div-mul, mul-div_left, mul-div-mul_left, mul-le-mul_right, div-mul-le_self, lt-div-mul-add, mul-mod_left}
+use Rattle.std.proofs.Common.{◌≡◌, inl, inr, Ok, Err, ℕ, ◌+◌, ◌-◌, ◌*◌, ◌≤◌, ◌<◌, ℤ, List, [], ◌++◌, length, drop, Option, refl, sym, ap, ◌∙◌, subst, arith, append-nil}
 use Rattle.std.proofs.lemmas.List.{drop-append-le, drop-drop, length-append, length-drop}
-use Rattle.sdf_actor.specs.Laws.{PortsHaveChannels}
 use Rattle.sdf_actor.specs.Nets.{Netlist}
-use Rattle.sdf_answer.specs.Answer.{AreOutputs, periods_of as firings}
-use Rattle.sdf_answer.specs.Laws.{RunsGoOn}
-use Rattle.sdf_answer.specs.Periods.{HasPeriod}
 use Rattle.sdf_kit.specs.declared.kit.Kit.{Kit}
 use Rattle.sdf_kit.specs.Kit.{kit_steps}
 use Rattle.sdf_run.specs.Sessions.{SessionValue, StandsAfter}
 use Rattle.sdf_sched.specs.Period.{Schedule}
-use Rattle.sdf_wav.specs.Canonical.{sample_bytes}
-use Rattle.sdf_wav.specs.Device.{AppendsFront, Known, LosesFront, one_more}
-use Rattle.sdf_wav.specs.PiecesIn.{Reading, IsEnded, IsReadTo, IsReading, IsWithin, sound_read}
+use Rattle.sdf_wav.specs.PiecesIn.{Reading, sound_read}
 use Rattle.sdf_wav.specs.PiecesOut.{Owed}
-use Rattle.sdf_wav.specs.Sound.{Sound, frames_of}
+use Rattle.sdf_wav.specs.Sound.{Sound}
 use Rattle.sdf_process.specs.declared.exchange.Exchange.{Exchange}
 use Rattle.sdf_process.specs.declared.fault.Fault.{Fault}
-use Rattle.sdf_process.specs.declared.fault.Fault.TheVariants.{OutOfMemory, Write}
-use Rattle.sdf_process.specs.Output.{exchange_of, interleaved, lists_to, output_frames, periods_for, periods_of}
-use Rattle.sdf_process.specs.Run.{AreFrames}
-use Rattle.sdf_process.specs.Stages.{IsHeardFrom, PutsOutput, ReadsContent}
-use Rattle.sdf_process.specs.Streams.{AreBehind, IsStream, PutsBlocks, PutsWhole, ReadsBy, StandsAt, StandsWhole, Streams}
-use Rattle.sdf_process.proofs.Fed.{run_at}
+use Rattle.sdf_process.specs.declared.fault.Fault.TheVariants.{OutOfMemory}
+use Rattle.sdf_process.specs.Output.{exchange_of}
+use Rattle.sdf_process.specs.Streams.{AreBehind, PutsBlocks, PutsWhole, StandsAt, StandsWhole}
 use Rattle.sdf_process.proofs.Parts.{lists_stay}
 use Rattle.sdf_process.proofs.Pieces.{appends_none}
-use Rattle.sdf_process.proofs.Rendering.{are_inputs, begin, interleaved_cut}
-use Rattle.sdf_process.proofs.Outcomes.{appends_join, front_join, keeps_same}
+use Rattle.sdf_process.proofs.Outcomes.{keeps_same}
 
 -- ---- what a session stands after, as the sound is read on
 

@@ -1,6 +1,6 @@
-use Rattle.std.proofs.Common.{◌≡◌, ℕ, List, Option, Result, refl, ap, sym, ◌∙◌, subst}
+use Rattle.std.proofs.Common.{Result, refl, ap, sym, ◌∙◌, subst}
 use Rattle.sdf_process.specs.declared.fault.Fault.{Fault}
-use Rattle.sdf_process.specs.Output.{announced_fault, exchange_of, IsExchange, IsExtent}
+use Rattle.sdf_process.specs.Output.{announced_fault, IsExchange, IsExtent}
 use Rattle.sdf_process.specs.Stages.{RunsOn}
 use Rattle.sdf_process.proofs.Finished.{answered}
 use Rattle.sdf_process.proofs.Opened.{content_failed_behind, refused_behind, header_failed_behind, heard_behind}

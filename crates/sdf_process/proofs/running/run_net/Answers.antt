@@ -1,4 +1,4 @@
-use Rattle.std.proofs.Common.{◌≡◌, Result, ap, sym, ◌∙◌, subst}
+use Rattle.std.proofs.Common.{Result, subst}
 use Rattle.sdf_process.specs.Faults.{of_wav}
 use Rattle.sdf_process.specs.declared.fault.Fault.{Fault}
 use Rattle.sdf_process.specs.Run.{IsRun}

@@ -1,6 +1,6 @@
-use Rattle.std.proofs.Common.{◌≡◌, MatchResult, Some, refl, rules, ap, sym, ◌∙◌, subst}
+use Rattle.std.proofs.Common.{ap, ◌∙◌, subst}
 use Rattle.std.specs.Prelude.{IfSome}
-use Rattle.sdf_run.specs.Sessions.{SessionValue, IsModeFault}
+use Rattle.sdf_run.specs.Sessions.{IsModeFault}
 use Rattle.sdf_process.specs.Faults.{of_run}
 use Rattle.sdf_process.specs.Plans.{SuitsRunner}
 use Rattle.sdf_process.proofs.Fed.{opened_refused, stands_first}

@@ -1,5 +1,5 @@
-use Rattle.std.proofs.Common.{◌≡◌, refl, rules, ap, ◌∙◌}
-use Rattle.sdf_process.proofs.Readings.{more_failed, more_read, more_refused}
+use Rattle.std.proofs.Common.{rules}
+use Rattle.sdf_process.proofs.Readings.{more_failed, more_read}
 use Rattle.sdf_process.proofs.streaming.read_more.Goals as goal
 
 pub returns-in_err-samples : goal.returns-in_err-samples

@@ -1,4 +1,4 @@
-use Rattle.std.proofs.Common.{◌≡◌, ◌≤◌, ◌<◌, ◌%◌, ℕ, Result, Ok, Err, length, List, [], ◌++◌, ◌*◌, refl, rules, arith, ap, sym, ◌∙◌, subst, inl, inr, ◌⊎◌}
+use Rattle.std.proofs.Common.{◌≡◌, ◌≤◌, ◌%◌, Result, Ok, Err, length, [], ◌++◌, ◌*◌, refl, rules, arith, sym, ◌∙◌, subst, inl, inr}
 use Rattle.std.proofs.lemmas.Bool.{cases_lt}
 use Rattle.sdf_wav.specs.PiecesIn.{sound_read}
 use Rattle.sdf_process.specs.declared.fault.Fault.{Fault}

@@ -1,4 +1,4 @@
-use Rattle.std.proofs.Common.{◌≡◌, ◌≤◌, ap, ◌∙◌, rules}
+use Rattle.std.proofs.Common.{◌≤◌, ap, ◌∙◌, rules}
 use Rattle.sdf_actor.specs.Wires.{lists as items_of}
 use Rattle.sdf_process.proofs.Fed.{put_done, put_refused, ready_on}
 use Rattle.sdf_process.proofs.Outcomes.{keeps_same}

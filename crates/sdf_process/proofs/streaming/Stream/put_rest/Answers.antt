@@ -1,4 +1,4 @@
-use Rattle.std.proofs.Common.{◌≡◌, ◌≤◌, ◌*◌, ℕ, refl, rules, arith, ap, sym, ◌∙◌, subst}
+use Rattle.std.proofs.Common.{◌*◌, arith, ap, sym, ◌∙◌, subst}
 use Rattle.sdf_wav.specs.PiecesIn.{sound_read}
 use Rattle.sdf_wav.specs.Sound.{Sound}
 use Rattle.sdf_process.specs.Output.{exchange_of}

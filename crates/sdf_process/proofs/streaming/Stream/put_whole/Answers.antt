@@ -1,4 +1,4 @@
-use Rattle.std.proofs.Common.{◌≡◌, ◌≤◌, ◌<◌, ◌-◌, ◌*◌, ◌/◌, length, drop, ℕ, refl, rules, arith, ap, sym, ◌∙◌, subst}
+use Rattle.std.proofs.Common.{◌≡◌, ◌≤◌, ◌<◌, ◌*◌, ◌/◌, length, drop, refl, arith, ap, sym, ◌∙◌}
 use Rattle.std.proofs.lemmas.List.{length-drop}
 use Rattle.sdf_wav.specs.PiecesIn.{sound_read}
 use Rattle.sdf_wav.specs.Sound.{Sound}
