@@ -166,7 +166,7 @@ def main():
         compare(folder, "44,100 to 48,000, mono, by workers", converter, chain, runners={**ONE, **ROWS, **RINGS}, lengths=(1,))
         compare(folder, "44,100 to 48,000, mono, one worker in runs", converter, chain, runners={**ONE, **ALONE}, lengths=(10, 60, 600))
         compare(folder, "44,100 to 48,000, stereo, by workers", CONVERTER / "graph-stereo.toml", chain, channels=2, runners={**ONE, **RINGS}, lengths=(1,))
-        graph, places = bank(folder / "bank")
+        graph, places = bank(folder / "filters")
         for title, design, program, homes in (("crossover", crossover, "crossover", CROSSOVER_HOMES), ("a bank of eight filters", graph, "bank", places)):
             plain = {"C, plain loop": compiled(folder, program)}
             compare(folder, f"{title}, by workers", design, plain, runners={**ONE, **RINGS}, lengths=(1,))
