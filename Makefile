@@ -1,11 +1,10 @@
 # The gate, the proved program, and the programs that show it at work.
 
-.PHONY: build demo try documents test mutants allocations bench clean
+.PHONY: build demo try documents test mutants times allocations bench clean
 
-# Proves every crate, a line each, and leaves the program as build/sdfw.
+# Proves the program and the crates that it stands on, a line each, and leaves it as build/sdfw.
 build:
 	scripts/prove
-	cd crates/sdfw && rt run -- --help > ../../build/proofs/run.txt 2>&1
 	cp crates/sdfw/out/sdfw build/sdfw
 	@echo "built: build/sdfw"
 
@@ -33,8 +32,13 @@ test:
 	rt ci
 
 # The wrong bodies that the gate does not try: of one crate (CRATE=name), or of all.
+# With ALL=1 those too that it tries.
 mutants:
-	scripts/mutants $(CRATE)
+	scripts/mutants $(if $(ALL),--all) $(CRATE)
+
+# Where a whole check's time goes: each crate and the fifty dearest functions, on a copy.
+times:
+	scripts/times $(CRATE)
 
 # How many allocations a short run and a long one make on one thread: as many.
 allocations:

@@ -1,0 +1,81 @@
+"""What the scripts take from the kit's own command `rt`: its crates and its checks. `rt` works on one crate at a time and
+holds the folders below it, so that two of them wait for each other; here crates are proved side by side in one process."""
+import importlib.machinery
+import importlib.util
+import os
+import shutil
+import sys
+import time
+from concurrent.futures import FIRST_COMPLETED, ThreadPoolExecutor, wait
+
+sys.dont_write_bytecode = True
+TOP = os.path.dirname(os.path.dirname(os.path.realpath(__file__)))
+FOUND = shutil.which("rt") or sys.exit("the Rattle kit's command rt is not on the path")
+HERE = os.path.dirname(os.path.realpath(FOUND))
+
+
+def load(name, file):
+    loader = importlib.machinery.SourceFileLoader(name, f"{HERE}/{file}")
+    made = importlib.util.module_from_spec(importlib.util.spec_from_loader(name, loader))
+    sys.modules[name] = made
+    loader.exec_module(made)
+    return made
+
+
+rt = load("rt", "rt")
+rtlib = rt.rtlib
+# Its first call sets a signal's handler, which only the main thread may.
+rtlib.guarded()
+
+
+class Said:
+    """A file of what a check says, each line with the seconds since it began."""
+
+    def __init__(self, path):
+        self.began, self.file = time.time(), open(path, "w", encoding="utf-8")
+
+    def write(self, text):
+        for line in text.splitlines(True):
+            self.file.write(f"{time.time() - self.began:8.2f} {line}")
+
+    def flush(self):
+        self.file.flush()
+
+
+def crates_for(root, names):
+    """The crates of these names and all that they stand on, lowest first; without names all crates."""
+    crates = sorted(rtlib.crates_below(root), key=lambda it: len(it.below()))
+    lost = [it for it in names if it not in [known.name for known in crates]]
+    if lost:
+        sys.exit(f"crates.txt has no crate {lost[0]}")
+    wanted = {it.name for crate in crates if crate.name in names for it in [crate, *crate.below()]}
+    return [it for it in crates if not names or it.name in wanted]
+
+
+def side_by_side(crates, work, lanes, jobs_for_one):
+    """Calls work(crate, jobs) for each crate once all below it are done, the longest chain of crates above it first, and
+    returns the names of those that failed or were not tried. Lanes that no crate waits for go to those that begin."""
+    behind = {it.name: it.count(rb"\n") for it in crates}
+    for crate in reversed(crates):
+        for below in crate.below():
+            own = below.count(rb"\n")
+            behind[below.name] = max(behind[below.name], own + behind[crate.name])
+    left, running, done = sorted(crates, key=lambda it: -behind[it.name]), {}, {}
+    room = 0.85 * rt.free()
+    with ThreadPoolExecutor(lanes) as pool:
+        while left or running:
+            ready = [it for it in left if all(below.name in done for below in it.below())]
+            for at, crate in enumerate(ready):
+                idle = lanes - sum(jobs for _, jobs in running.values())
+                held = sum(it.need() for it, _ in running.values())
+                if any(done[below.name] for below in crate.below()):
+                    left.remove(crate)
+                    done[crate.name] = 1
+                elif idle > 0 and (not running or held + crate.need() <= room):
+                    left.remove(crate)
+                    jobs = max(1, min(jobs_for_one, idle // (len(ready) - at)))
+                    running[pool.submit(work, crate, jobs)] = crate, jobs
+            if running:
+                for it in wait(running, return_when=FIRST_COMPLETED).done:
+                    done[running.pop(it)[0].name] = it.result()
+    return [name for name, status in done.items() if status]
