@@ -1,6 +1,6 @@
 //! Class S: while some actor is runnable, one of them fires.
 
-ghost use Rattle.std.specs.Prelude.{◌≡◌, ℕ, ◌+◌, ◌≤◌, ◌<◌, List, length, sum, slice_index, slice_set, IfOk, MatchResult, MatchOption, vec_capacity, IsTrue, ◌↔◌, []};
+ghost use Rattle.std.specs.Prelude.{◌≡◌, ℕ, ◌+◌, ◌≤◌, ◌<◌, List, length, sum, slice_index, slice_set, IfOk, IfErr, MatchResult, MatchOption, vec_capacity, IsTrue, ◌↔◌, []};
 ghost use Rattle.std.specs.List.{Contains};
 ghost use Rattle.std.specs.List.Sorted.{IsStrictlyIncreasing};
 ghost use Rattle.sdf_graph.specs.Rates.{rates};
@@ -259,6 +259,7 @@ pub fn class_s_of<P: Pick>(
     ensures pass { IfOk result (λ order. IsPass (rates graph.now) (slice_index firings.now) order.items) }
     ensures all { IfOk result (λ order. length order.items ≡ sum firings.now) }
     ensures picked { IfOk result (λ order. IsPicked P.chooses graph.now (slice_index firings.now) pick.old order.items pick.new) }
+    ensures unmoved { IfErr result (λ _. pick.new ≡ pick.old) }
 {
     graph.channels();
     graphs_are_sound();
