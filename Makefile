@@ -1,6 +1,11 @@
 # The gate, the proved program, and the programs that show it at work.
 
-.PHONY: build demo try documents test mutants times allocations bench clean
+.PHONY: help build demo announced try install documents examples test mutants times allocations bench clean
+
+# Lists these targets.
+help:
+	@awk '/^# / { said = said (said ? " " : "") substr($$0, 3); next } \
+		/^[a-z]+:/ && said { name = $$0; sub(/:.*/, "", name); printf "%-12s %s\n", name, said } { said = "" }' Makefile
 
 # Proves the program and the crates that it stands on, a line each, and leaves it as build/sdfw.
 build:
@@ -8,8 +13,8 @@ build:
 	cp crates/sdfw/out/sdfw build/sdfw
 	@echo "built: build/sdfw"
 
-# The main job on a shipped example: a real 44,100 Hz file becomes a 48,000 Hz file.
-demo: build
+# Proves and builds the program, then converts a real 44,100 Hz file to 48,000 Hz.
+demo: announced build
 	@echo
 	build/sdfw check examples/44100-to-48000/graph.toml
 	build/sdfw run examples/44100-to-48000/graph.toml examples/gain/sine-mono-44100.wav build/sine-48000.wav
@@ -17,15 +22,31 @@ demo: build
 	build/sdfw run examples/gain/gain.toml examples/gain/sine-mono-44100.wav build/half.wav
 	@echo "made it half as loud: build/half.wav"
 
-# What `check` says of the rate converter, by the program with nothing proved: a first look within two minutes.
-CONVERTER = ../../examples/44100-to-48000
-try:
-	cd crates/sdfw && rt try --data graph.toml=$(CONVERTER)/graph.toml --data a.toml=$(CONVERTER)/a.toml \
-		--data b.toml=$(CONVERTER)/b.toml --data c.toml=$(CONVERTER)/c.toml --data d.toml=$(CONVERTER)/d.toml -- check graph.toml
+announced:
+	@scripts/expected
 
-# Whether the tables of kinds and of faults in docs/FORMATS.md are the program's (wants python3).
+# A first look within two minutes, with nothing proved: checks the rate converter and converts the shipped sound by it.
+try:
+	@scripts/try
+
+# Copies the built program, its man page and its completions below PREFIX (/usr/local).
+PREFIX ?= /usr/local
+install:
+	@test -x build/sdfw || { echo "there is no build/sdfw: make build"; exit 1; }
+	install -D -m 755 build/sdfw $(DESTDIR)$(PREFIX)/bin/sdfw
+	install -D -m 644 docs/sdfw.1 $(DESTDIR)$(PREFIX)/share/man/man1/sdfw.1
+	install -D -m 644 docs/completions/sdfw.bash $(DESTDIR)$(PREFIX)/share/bash-completion/completions/sdfw
+	install -D -m 644 docs/completions/_sdfw $(DESTDIR)$(PREFIX)/share/zsh/site-functions/_sdfw
+	install -D -m 644 docs/completions/sdfw.fish $(DESTDIR)$(PREFIX)/share/fish/vendor_completions.d/sdfw.fish
+
+# Whether the documents say what the program and the sources say: kinds, faults, functions without an edit, pages (wants python3).
 documents: build
 	python3 docs/tables.py
+	scripts/pages --check
+
+# Whether each design of examples/ makes the bytes that Python's own arithmetic makes (wants python3.11; about a minute).
+examples: build
+	scripts/examples
 
 # Every proof from nothing, the must-fail edits, the tests, and each program as two compilers build it.
 test:

@@ -1,0 +1,32 @@
+# Completions of sdfw for bash.
+_sdfw() {
+  local word=${COMP_WORDS[COMP_CWORD]} before=${COMP_WORDS[COMP_CWORD-1]}
+  COMPREPLY=()
+  if [ "$COMP_CWORD" -eq 1 ]; then
+    mapfile -t COMPREPLY < <(compgen -W "check schedule run explain --help --version" -- "$word")
+    return
+  fi
+  case ${COMP_WORDS[1]}:$before in
+    schedule:--blocking) :; return ;;
+    schedule:--workers) :; return ;;
+    schedule:--policy) mapfile -t COMPREPLY < <(compgen -W "round lean runs" -- "$word"); return ;;
+    schedule:--placement) mapfile -t COMPREPLY < <(compgen -W "hu homed file" -- "$word"); return ;;
+    run:--blocking) :; return ;;
+    run:--workers) :; return ;;
+    run:--policy) mapfile -t COMPREPLY < <(compgen -W "round lean runs" -- "$word"); return ;;
+    run:--placement) mapfile -t COMPREPLY < <(compgen -W "hu homed file" -- "$word"); return ;;
+    run:--runner) mapfile -t COMPREPLY < <(compgen -W "one rows rings" -- "$word"); return ;;
+    run:--patience) :; return ;;
+  esac
+  case ${COMP_WORDS[1]}:$word in
+    check:-*) mapfile -t COMPREPLY < <(compgen -W "--help" -- "$word") ;;
+    schedule:-*) mapfile -t COMPREPLY < <(compgen -W "--blocking --workers --policy --placement --help" -- "$word") ;;
+    run:-*) mapfile -t COMPREPLY < <(compgen -W "--blocking --workers --policy --placement --runner --patience --help" -- "$word") ;;
+    explain:-*) mapfile -t COMPREPLY < <(compgen -W "--help" -- "$word") ;;
+    check:*|schedule:*|run:*)
+      compopt -o filenames
+      mapfile -t COMPREPLY < <(compgen -f -- "$word")
+      ;;
+  esac
+}
+complete -F _sdfw sdfw
