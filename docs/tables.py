@@ -1,55 +1,227 @@
-"""Compares two tables of docs/FORMATS.md with the program's.
+"""Compares what the documents repeat with where it comes from.
 
-The table of faults is what `sdfw explain` prints; `--write` writes it anew. The first two columns of the table of kinds stand in
-`format_tests`, which proves that they are the rows that the reader follows.
+- docs/FORMATS.md: the list of faults is what `sdfw explain` prints (`--write` writes it anew); the table of kinds
+  stands in `format_tests`, which proves that it is the rows that the reader follows.
+- docs/PROOFS.md: the list of public functions without a must-fail edit is the repository's.
+- The head of each crate's root file names the crates that crates.txt says it stands on, and where to begin; so does
+  the list of crates in docs/ARCHITECTURE.md.
+- Designs that a test repeats are those of examples/.
+- Blocks marked `console`, in each document: each command, run at the top of the repository, prints what stands below.
+- No line of a document is over 120 columns.
+
+`python3 docs/tables.py [--write] [PROGRAM]`: the program is build/sdfw where none is named.
 """
 
+import os
 import pathlib
+import re
 import subprocess
 import sys
+import textwrap
 
 TOP = pathlib.Path(__file__).resolve().parent.parent
 PAGE = TOP / "docs" / "FORMATS.md"
-HEAD = "| No | Name | Line goes on | What it means | Limits | What to do |\n|---|---|---|---|---|---|\n"
+PROOFS = TOP / "docs" / "PROOFS.md"
+HEAD = "Each with its number, its name and how its line goes on:\n\n"
+PAPERS = [*TOP.glob("*.md"), *TOP.glob("docs/*.md"), *TOP.glob("examples/*.md")]
+WIDTH = 120
 
 
-def row(number):
-    """A fault's row, of what the program says of it."""
-    said = subprocess.run([TOP / "build" / "sdfw", "explain", str(number)], check=True, capture_output=True, text=True)
+def fault(program, number):
+    """A fault's entry, of what the program says of it."""
+    said = subprocess.run([program, "explain", str(number)], check=True, capture_output=True, text=True)
     first, *rest = said.stdout.splitlines()
-    number, name = first.split(" ", 1)
     parts = dict(line.split(": ", 1) for line in rest)
-    place = f"`{parts['where']}`" if "where" in parts else ""
-    return f"| {number} | {name} | {place} | {parts['means']} | {parts.get('limits', '')} | {parts['remedy']} |\n"
+    place = f", `{parts['where']}`" if "where" in parts else ""
+    limits = f" Within: {parts['limits']}." if "limits" in parts else ""
+    text = f"- **{first}**{place}: {parts['means']}{limits} *{parts['remedy']}*"
+    lines = textwrap.wrap(text, WIDTH, subsequent_indent="  ", break_long_words=False, break_on_hyphens=False)
+    return "\n".join(lines) + "\n"
 
 
-def first_columns(lines):
-    """The first two columns of a table's rows."""
-    return ["|".join(line.split("|")[:3]) + "|" for line in lines]
+def faults(program, write):
+    """What is wrong with the list of faults."""
+    made = HEAD + "".join(fault(program, number) for number in range(1, 64))
+    page = PAGE.read_text()
+    start = page.index(HEAD)
+    end = page.index("\n\n", start + len(HEAD)) + 1
+    if page[start:end] == made:
+        return []
+    if write:
+        PAGE.write_text(page[:start] + made + page[end:])
+        return []
+    return ["docs/FORMATS.md: its list of faults is not the program's (python3 docs/tables.py --write)"]
 
 
-def kinds_agree(page):
+def kinds():
     """Whether the document's kinds are those of the test."""
-    rows = page[page.index("| kind |"):].split("\n\n", 1)[0].splitlines()[2:]
+    page = PAGE.read_text()
+    rows = page[page.index("| kind | keys") :].split("\n\n", 1)[0].splitlines()[2:]
     test = (TOP / "crates" / "format_tests" / "src" / "document_kinds.rt").read_text()
-    table = test[test.index("const TABLE: &str = \"") + 21:].split("\";", 1)[0]
-    return first_columns(rows) == [row for row in table.splitlines() if row]
+    table = test[test.index('const TABLE: &str = "') + 21 :].split('";', 1)[0]
+    if rows == [row for row in table.splitlines() if row]:
+        return []
+    return ["docs/FORMATS.md: its table of kinds is not that of crates/format_tests/src/document_kinds.rt"]
+
+
+class Function:
+    """A function of a crate: its name with its type's, where it stands, and the names that its body calls."""
+
+    def __init__(self, file, text, found):
+        close = re.compile(rf"^{found['indent']}}}[ ]*$", re.M).search(text, found.end())
+        self.file, self.start, self.end = file, found.start(), close.end() if close else len(text)
+        self.public, self.name = found["public"] == "pub ", found["name"]
+        heads = re.findall(r"^(?:pub )?(impl|trait)\b([^{]*)\{", text[: found.start()], re.M) if found["indent"] else []
+        # The type's name without its parameters; an impl of a trait has none: the trait's contract is what it owes.
+        self.owner = ""
+        if heads:
+            head = re.sub(r"<[^<>]*>", "", re.sub(r"<[^<>]*>", "", heads[-1][1])).split("\n")[0].strip()
+            self.owner = "" if " for " in head else head.split(":")[0].split(" where")[0].strip()
+        whole = text[self.start : self.end]
+        head = re.split(r"\n\s*(?:ensures|requires|\{)|\{", whole, maxsplit=1)[0]
+        # A law gives nothing and changes nothing: its contract is a statement.
+        self.law = "->" not in head and "&mut" not in head
+        self.calls = set(re.findall(r"\b([a-z_0-9]+)(?:::<[^()]*>)?\(", whole[len(head) :]))
+
+    def shown(self):
+        return f"{self.owner}::{self.name}" if self.owner else self.name
+
+
+def functions(crate):
+    """All functions of a crate, and its files' texts by name."""
+    pattern = re.compile(r"^(?P<indent> *)(?P<public>pub(?:\([a-z]+\))? )?(?:const )?fn (?P<name>[a-z_0-9]+)", re.M)
+    texts = {path.relative_to(crate).as_posix(): path.read_text() for path in sorted((crate / "src").rglob("*.rt"))}
+    return [Function(file, text, found) for file, text in texts.items() for found in pattern.finditer(text)], texts
+
+
+def edited(crate):
+    """The public functions of a crate, and those functions that reach an edit: in themselves, or in what they call."""
+    every, texts = functions(crate)
+    reached = set()
+    for edit in [*crate.glob("must-fail/*.edit"), *crate.glob("mutants/*.edit")]:
+        lines = edit.read_text().splitlines()
+        file = next(line[6:].strip() for line in lines if line.startswith("file: "))
+        for line in lines:
+            at = texts.get(file, "").find(line[5:]) if line.startswith("old: ") else -1
+            inside = [one for one in every if one.file == file and one.start <= at <= one.end]
+            reached |= {inside[-1]} if inside else set()
+    while True:
+        names = {one.name for one in reached}
+        more = {one for one in every if one not in reached and one.calls & names}
+        if not more:
+            break
+        reached |= more
+    public = [one for one in every if one.public and not one.law]
+    return {one.shown() for one in public}, {one.shown() for one in reached}
+
+
+def unedited():
+    """What is wrong with the list of public functions without an edit."""
+    page = PROOFS.read_text()
+    start = page.index("## Public functions without a must-fail edit")
+    items = re.findall(r"^- `([a-z_]+)`: (.*?)(?=^- |^$)", page[start : page.index("\n## ", start + 1)], re.M | re.S)
+    listed = {}
+    for name, text in items:
+        for owner, several, one in re.findall(r"`(?:([A-Z]\w*)::)?(?:\{([^}]*)\}|(\w+))`", text):
+            for word in re.split(r",\s*", several or one):
+                listed.setdefault(name, set()).add(f"{owner}::{word}" if owner else word)
+    wrong = []
+    for crate in sorted(TOP.glob("crates/sdf_*")) + [TOP / "crates" / "test_actors"]:
+        if crate.name.endswith("_tests"):
+            continue
+        public, reached = edited(crate)
+        missing = public - reached - listed.get(crate.name, set())
+        extra = listed.get(crate.name, set()) - (public - reached)
+        if missing:
+            wrong.append(f"docs/PROOFS.md: {crate.name} has no edit of {', '.join(sorted(missing))}: the list lacks it")
+        if extra:
+            wrong.append(f"docs/PROOFS.md: {crate.name} has an edit of {', '.join(sorted(extra))}, or no such function")
+    return wrong
+
+
+def is_crate(name):
+    return (TOP / "crates" / name).is_dir()
+
+
+def heads():
+    """What is wrong with what the heads of root files say that their crates stand on; `sdf_limits` may be left out."""
+    wrong = []
+    for line in (TOP / "crates.txt").read_text().splitlines():
+        name, below = re.sub(r" \w+=\w+", "", line).split(":")
+        wanted = {one for one in below.split() if is_crate(one)} - {"sdf_limits"}
+        root = next(path for path in (TOP / "crates" / name / "src").glob("*.rt") if path.stem in ("lib", "main"))
+        head = " ".join(text[4:] for text in root.read_text().splitlines() if text.startswith("//!"))
+        if "stands on the libraries" in head:
+            continue
+        named = set(re.findall(r"`(\w+)(?:::\w+)*`", head))
+        below = re.search(r"stands on (.*?)(?:Begin|$)", head)
+        extra = {one for one in re.findall(r"`(\w+)`", below[1] if below else "") if is_crate(one)} - wanted
+        differ = (wanted - named | extra) - {"sdf_limits"}
+        if not below or differ:
+            wrong.append(f"crates/{name}: its root file's head and crates.txt differ in {sorted(differ)}")
+        if "Begin " not in head:
+            wrong.append(f"crates/{name}: its root file's head does not say where to begin")
+    return wrong
+
+
+def stands_on():
+    """What is wrong with what docs/ARCHITECTURE.md says that the crates stand on."""
+    page = (TOP / "docs" / "ARCHITECTURE.md").read_text()
+    items = dict(re.findall(r"^- \*\*`(\w+)`\*\*, on (.*?):", page, re.M | re.S))
+    wrong = []
+    for line in (TOP / "crates.txt").read_text().splitlines():
+        name, below = re.sub(r" \w+=\w+", "", line).split(":")
+        wanted = [one for one in below.split() if is_crate(one)]
+        if name not in items or sorted(re.findall(r"`(\w+)`", items[name])) != sorted(wanted):
+            wrong.append(f"docs/ARCHITECTURE.md: {name} is to stand there, on {', '.join(wanted) or 'nothing'}")
+    return wrong
+
+
+def designs():
+    """What is wrong with the texts of examples that tests repeat."""
+    path = TOP / "crates" / "sdfw_tests" / "src" / "examples.rt"
+    test = path.read_text() if path.exists() else ""
+    repeated = re.findall(r'^/// `(examples/\S+)`\.\nconst \w+: &str =\s+r#"(.*?)"#;', test, re.M | re.S)
+    wrong = [f"{path} is not what the tests say" for path, text in repeated if (TOP / path).read_text() != text]
+    if len(repeated) != test.count("const "):
+        wrong.append("crates/sdfw_tests/src/examples.rt: a design that is not compared")
+    return wrong
+
+
+def consoles(program):
+    """What is wrong with the blocks marked `console`."""
+    wrong = []
+    for paper in PAPERS:
+        for block in re.findall(r"^```console\n(.*?)^```$", paper.read_text(), re.M | re.S):
+            for part in re.split(r"^\$ ", block, flags=re.M)[1:]:
+                command, _, wanted = re.sub(r"\\\n\s*", "", part).partition("\n")
+                ran = subprocess.run(
+                    ["bash", "-c", command.replace("build/sdfw", str(program))],
+                    cwd=TOP, stdout=subprocess.PIPE, stderr=subprocess.STDOUT, text=True,
+                )
+                if ran.stdout.rstrip() != wanted.rstrip():
+                    wrong.append(f"{paper.relative_to(TOP)}: `{command}` prints\n{ran.stdout}")
+    return wrong
+
+
+def widths():
+    """The lines that are too long."""
+    return [
+        f"{paper.relative_to(TOP)}:{number}: over {WIDTH} columns"
+        for paper in PAPERS
+        for number, line in enumerate(paper.read_text().splitlines(), 1)
+        if len(line) > WIDTH
+    ]
 
 
 def main():
-    table = HEAD + "".join(row(number) for number in range(1, 64))
-    page = PAGE.read_text()
-    if not kinds_agree(page):
-        sys.exit("docs/FORMATS.md: its table of kinds is not that of crates/format_tests/src/document_kinds.rt")
-    start = page.index(HEAD)
-    end = page.index("\n\n", start) + 1
-    if page[start:end] == table:
-        print("docs/FORMATS.md has the program's table of faults")
-    elif "--write" in sys.argv:
-        PAGE.write_text(page[:start] + table + page[end:])
-        print("docs/FORMATS.md: the table of faults was written anew")
-    else:
-        sys.exit("docs/FORMATS.md: its table of faults is not the program's (python3 docs/tables.py --write)")
+    words = [word for word in sys.argv[1:] if word != "--write"]
+    program = words[0] if words else os.path.relpath(TOP / "build" / "sdfw", TOP)
+    os.chdir(TOP)
+    wrong = faults(program, "--write" in sys.argv) + kinds() + unedited() + heads() + stands_on() + designs()
+    wrong += consoles(program) + widths()
+    print("\n".join(wrong) or "the documents say what the program and the sources say")
+    sys.exit(1 if wrong else 0)
 
 
 main()

@@ -1,8 +1,9 @@
 //! Runs of nets.
 //!
-//! It stands on `sdf_answer`, `sdf_rows`, `sdf_graph`, `sdf_sched`, `sdf_actor` and `sdf_node`. Begin at `one`, the runner on one thread, then
-//! `run`, what it holds, `work`, a node at work, and `block`, the blocks of its firings; `feed`, a run that another one goes on from; `session`, a run that is fed in pieces. The runner by rows is `sdf_rows`; what all
-//! runners are given and give is in `sdf_answer`.
+//! It stands on `sdf_answer`, `sdf_rows`, `sdf_rings`, `sdf_graph`, `sdf_sched`, `sdf_prec`, `sdf_actor` and
+//! `sdf_node`. Begin at `one`, the runner on one thread, then `run`, what it holds, `work`, a node at work, and
+//! `block`, the blocks of its firings; `feed`, a run that another one goes on from; `session`, a run that is fed in
+//! pieces, by rows (`sdf_rows`) or over rings (`sdf_rings`). What all runners are given and give is in `sdf_answer`.
 #![tactic(auto)]
 
 mod block;

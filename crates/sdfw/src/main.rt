@@ -2,7 +2,7 @@
 //!
 //! It stands on `sdf_words`, which reads the command line, on `sdf_process`, which plans and runs a design, and on `sdf_file`, which
 //! reads it; here are the files and what is printed. Begin at `program`, then `files`. What the project is for is the contract of
-//! `sdf_process::process`.
+//! `sdf_process::process`. What reads and writes a WAV file's bytes is a device of `sdf_wav`.
 #![tactic(auto)]
 
 mod files;
