@@ -1,9 +1,9 @@
 -- Parts of lists, copied, dealt out and gathered.
 use Rattle.std.proofs.Common.{◌≡◌, ℕ, zero, suc, ◌+◌, ◌-◌, ◌*◌, ◌≤◌, ◌<◌, ◌⊎◌, inl, inr, List, ◌∷◌, [], ◌++◌, length, take, drop, get_or, slice_range, slice_set, get_or-set_same, sym, ap, ◌∙◌, arith}
-use Rattle.std.proofs.Math.Nat.{mul-suc, mul-zero, mul-le-mul_left}
+use Rattle.std.proofs.Math.Nat.{mul-suc, mul-zero, mul-le-mul_left, mul-le-mul_right}
 use Rattle.std.proofs.Math.Seq.{take-add}
 use Rattle.std.proofs.lemmas.Bool.{cases_lt}
-use Rattle.std.proofs.lemmas.List.{drop-take, take-take, drop-drop, take-set}
+use Rattle.std.proofs.lemmas.List.{length-take, drop-take, take-take, drop-drop, take-set}
 use Rattle.std.proofs.lemmas.List.Edits.{between_more}
 use Rattle.std.proofs.lemmas.Slice.{between_is}
 use Rattle.sdf_node.specs.Many.{nth_block, joined}
@@ -38,6 +38,22 @@ parts_apart step width j i l w =
     let m = mul-suc step j in
     let within : step * suc j ≤ step * i = mul-le-mul_left step (omega arith) in
     omega arith
+
+-- the parts at a port, and those that lie side by side, are within lists that hold all blocks
+pub parts_inside : (size at width many n i : ℕ) → at + width ≤ size → n ≡ size * many → i < many → (at + size * i) + width ≤ n
+parts_inside size at width many n i inside all l = let p = parts_apart size size i many l (omega arith) in omega arith
+
+pub rows_inside : (size at width many n m i : ℕ) → at + width ≤ size → n ≡ size * many → n ≤ m → i < many → (0 + width * i) + width ≤ m
+rows_inside size at width many n m i inside all long l =
+    let p = parts_apart width width i many l (omega arith) in
+    let q : width * many ≤ size * many = mul-le-mul_right many (omega arith) in
+    omega arith
+
+pub rows_end : (size at width many n m : ℕ) → at + width ≤ size → n ≡ size * many → n ≤ m → width * many ≤ m
+rows_end size at width many n m inside all long = let q : width * many ≤ size * many = mul-le-mul_right many (omega arith) in omega arith
+
+pub rows_fit : {T : Type 0} (xs : List T) (width many free : ℕ) → many * width ≤ free → length (take (width * many) xs) ≤ free
+rows_fit xs width many free room = omega (arith, length-take (width * many) xs)
 
 -- a part more is copied
 module _ {T : Type 0} (from before ys zs : List T) (s t : Stride) (width i : ℕ) (apart : width ≤ t.step) (kept : take (part_at t i) zs ≡ take (part_at t i) ys) (behind : drop (part_at t i + width) zs ≡ drop (part_at t i + width) ys) where

@@ -18,15 +18,19 @@ pub vec_long : {X : Type 0} (v : Vec X Global) → length v.items ≡ vec_len v
 vec_long v = omega arith
 
 -- what holds of each element, with one more
-pub push_each : {X : Type 0} (P : ℕ → X → Type 0) (xs ys : List X) (x : X) (i : ℕ) → ys ≡ xs ++ x ∷ [] → length xs ≡ i →
-    ((k : ℕ) (d : X) → k < i → P k (get_or xs k d)) → P i x → (k : ℕ) (d : X) → k < i + 1 → P k (get_or ys k d)
-push_each P xs ys x i is long before here k d h = subst (λ zs. P k (get_or zs k d)) (sym is) (go (cases_lt k i))
+pub push_at : {X : Type 0} (P : ℕ → X → Type 0) (xs ys : List X) (x d : X) (i : ℕ) → ys ≡ xs ++ x ∷ [] → length xs ≡ i →
+    ((k : ℕ) → k < i → P k (get_or xs k d)) → P i x → (k : ℕ) → k < i + 1 → P k (get_or ys k d)
+push_at P xs ys x d i is long before here k h = subst (λ zs. P k (get_or zs k d)) (sym is) (go (cases_lt k i))
   where
     go : (k < i) ⊎ (i ≤ k) → P k (get_or (xs ++ x ∷ []) k d)
-    go (inl below) = subst (P k) (sym (get_or_append_left xs (x ∷ []) d k (omega arith))) (before k d below)
+    go (inl below) = subst (P k) (sym (get_or_append_left xs (x ∷ []) d k (omega arith))) (before k below)
     go (inr above) =
         let at : i ≡ k = omega arith in
         subst (P k) (sym (get_or_push xs x d k (long ∙ at))) (subst (λ j. P j x) at here)
+
+pub push_each : {X : Type 0} (P : ℕ → X → Type 0) (xs ys : List X) (x : X) (i : ℕ) → ys ≡ xs ++ x ∷ [] → length xs ≡ i →
+    ((k : ℕ) (d : X) → k < i → P k (get_or xs k d)) → P i x → (k : ℕ) (d : X) → k < i + 1 → P k (get_or ys k d)
+push_each P xs ys x i is long before here k d = push_at P xs ys x d i is long (λ j h. before j d h) here k
 
 -- lists that pass the test of their number and length are what so many periods read
 pub given : {A T : Type 0} (n : Netlist A T) (q : List ℕ) (periods many least samples : ℕ) (inputs : List (List T)) → AreInputs many least inputs → many ≡ list_count Inputs n.nodes →

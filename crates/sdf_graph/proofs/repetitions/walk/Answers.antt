@@ -1,8 +1,9 @@
-use Rattle.std.proofs.Common.{List, ap, sym, ◌∙◌, subst, arith, inl, inr}
-use Rattle.sdf_graph.specs.Rates.{Shape, Edge, IsShape}
-use Rattle.sdf_graph.specs.Marks.{IsBorder, IsClosed}
+use Rattle.std.proofs.Common.{◌<◌, ℕ, List, length, get_or, ap, sym, ◌∙◌, subst, arith, inl, inr}
+use Rattle.sdf_graph.specs.Rates.{Shape, Edge, IsShape, no_channel}
+use Rattle.sdf_graph.specs.Marks.{IsBorder, IsClosed, IsJoin}
 use Rattle.sdf_graph.specs.Shares.{IsShare, IsWalk}
-use Rattle.sdf_graph.proofs.Marks.{border_in}
+use Rattle.sdf_graph.specs.declared.repetitions.Ratio.{Ratio}
+use Rattle.sdf_graph.proofs.Marks.{border_in, fewer}
 use Rattle.sdf_graph.proofs.ShareLaws.{too_long, first_share, walk_more, walked}
 use Rattle.sdf_graph.proofs.PeriodLaws.{none_long}
 use Rattle.sdf_graph.proofs.repetitions.walk.Goals as goal
@@ -33,3 +34,31 @@ returns c =
     walked c.args.graph.now (subst IsShape c.graph.view_is c.graph.invariant.shape) c.loop-channel.parts.items c.loop-channel.marked
     (subst (λ (s : Shape). IsWalk s c.loop-channel.parts.items c.loop-channel.marked) c.graph.view_is c.loop-channel.invariant)
     (subst (λ (chs : List Edge). IsClosed chs c.loop-channel.marked) (c.deref.ensures.value ∙ ap (λ (s : Shape). s.channels) c.graph.view_is) c.in_default.ensures)
+
+pub border-requires : goal.border-requires
+border-requires c =
+    let shape = c.graph.invariant.shape in
+    subst (λ (chs : List Edge). (d : ℕ) → d < length chs → IsJoin (length c.loop-channel.marked) (get_or chs d no_channel).from (get_or chs d no_channel).to) (sym c.deref.ensures.value)
+    (λ d l. record { from_in = omega (arith, shape.from_in d l, shape.few); to_in = omega (arith, shape.to_in d l, shape.few) })
+
+pub beyond-part-requires-clause-walk : goal.beyond-part-requires-clause-walk
+beyond-part-requires-clause-walk c =
+    subst (λ (parts : List Ratio). IsWalk c.args.graph.now parts c.loop-channel.marked) (sym c.deref-in-Some.ensures.value)
+    (subst (λ (s : Shape). IsWalk s c.loop-channel.parts.items c.loop-channel.marked) c.graph.view_is c.loop-channel.invariant)
+
+pub beyond-part-requires-clause-border : goal.beyond-part-requires-clause-border
+beyond-part-requires-clause-border c =
+    let border = subst (λ (chs : List Edge). IsBorder chs c.loop-channel.marked c.in-Some.channel c.in-Some.actor) (c.deref.ensures.value ∙ ap (λ (s : Shape). s.channels) c.graph.view_is) c.in-Some.ensures in
+    (c.in-Some.actor, border)
+
+pub index_mut-requires : goal.index_mut-requires
+index_mut-requires c =
+    let shape = c.graph.invariant.shape in
+    let border = subst (λ (chs : List Edge). IsBorder chs c.loop-channel.marked c.in-Some.channel c.in-Some.actor) c.deref.ensures.value c.in-Some.ensures in
+    omega (arith, border_in _ shape c.loop-channel.marked c.in-Some.channel c.in-Some.actor border, c.loop-channel.invariant.all, c.loop-channel.parts.ok.0)
+
+pub bounds-marked-actor : goal.bounds-marked-actor
+bounds-marked-actor c = omega (arith, c.in-Some.ensures.within)
+
+pub loop-channel-smaller : goal.loop-channel-smaller
+loop-channel-smaller c = fewer c.deref.result.now c.loop-channel.marked c.in-Some.channel c.in-Some.actor c.in-Some.ensures

@@ -1,4 +1,4 @@
-use Rattle.std.proofs.Common.{◌*◌, length, take, ap, ◌∙◌, arith, refl}
+use Rattle.std.proofs.Common.{◌*◌, ◌≤◌, length, take, ap, sym, ◌∙◌, subst, arith, refl}
 use Rattle.std.specs.Vec.{with_items}
 use Rattle.std.proofs.lemmas.List.{with_items_is, length-take-le}
 use Rattle.sdf_actor.specs.Wires.{lists}
@@ -84,3 +84,20 @@ returns-clause-fired g c =
     (rw (seen, y_is) at c.step_front_many.ensures.put)
     (with_items x.ins c.take_front_run.new.ends) (with_items x.outs c.put_run.new.ends) (with_items seen_taken c.put_run.new.scratch) (with_items seen_put c.step_front_many.new.put)
     (rw ins drew) (rw outs gave) (omega arith) (omega arith) (ap length after ∙ omega (arith, ap length taken)) (ap length put ∙ omega (arith, ap length gathered))
+
+pub take_front_run-requires-clause-all : goal.take_front_run-requires-clause-all
+take_front_run-requires-clause-all g c = refl
+
+pub take_front_run-requires-clause-long : goal.take_front_run-requires-clause-long
+take_front_run-requires-clause-long g c =
+    let s = g.A.Actor.steps in
+    let x = c.args.stand.now in
+    let laws : FiringLaws s = record { wired = c.nets_are_wired.ensures.wired; ports = c.nets_are_wired.ensures.ports; grows = c.locals_grow.ensures.grows; stays = c.taken_stays.ensures } in
+    let fits = taken_within s laws c.blocks_join.ensures c.args.net.now c.requires.net (lists c.args.inputs.now) x c.requires.stand c.args.many c.requires.can c.node-node.result.now c.node-node.ensures c.takes-size.result c.takes-size.ensures in
+    subst (λ ts. c.takes-size.result * c.args.many ≤ length ts) (sym c.as_mut_slice-2.ensures.value) fits
+
+pub returns-clause-done : goal.returns-clause-done
+returns-clause-done g c = refl
+
+pub returns-clause-asked : goal.returns-clause-asked
+returns-clause-asked g c = refl
