@@ -4,13 +4,16 @@ ghost use Rattle.std.specs.Prelude.{◌≡◌, ◌≤◌, IfOk, IfErr, IfSome, o
 ghost use Rattle.std.specs.Str.{bytes_eq};
 ghost use Rattle.sdf_words.specs.Limits.{AreWithinLimits, IsWithinLimits, IsUsage};
 ghost use Rattle.sdf_words.specs.declared.command_line.WordFault.TheVariants as fault;
+ghost use Rattle.sdf_words.specs.declared.options.TheConstants.{MOST_FAULT};
 
+use crate::commands::sdfw_command;
+use crate::explain::number_named;
 use crate::options::{
     MOST_FAULT, Options, PLACEMENT_WORDS, PLACEMENTS, POLICIES, POLICY_WORDS, RUNNER_WORDS,
     RUNNERS, Words,
 };
+use clap::ArgMatches;
 use clap::error::ErrorKind;
-use clap::{Arg, ArgMatches, Command, value_parser};
 use sdf_limits::{MOST_BLOCKING, MOST_PATIENCE, MOST_WORKERS};
 use std::alloc::{AllocError, AllocFailed, Global};
 use thiserror::Error;
@@ -54,97 +57,6 @@ impl From<clap::Error> for WordFault {
     }
 }
 
-fn required<'a>(alloc: Global, id: &'a str, help: &'a str) -> Arg<'a> {
-    Arg::new(alloc, id).required(true).help(help)
-}
-
-fn check_command<'a>(alloc: Global) -> Result<Command<'a>, AllocError> {
-    Command::new(alloc, "check")
-        .about("Checks a graph file and prints its period")
-        .arg(required(alloc, "GRAPH", "The graph file"))
-}
-
-fn with_plan_args<'a>(alloc: Global, command: Command<'a>) -> Result<Command<'a>, AllocError> {
-    let blocking = Arg::new(alloc, "blocking")
-        .long("blocking")
-        .value_name("J")
-        .help("Periods in a block, 1 to 64")
-        .value_parser(value_parser!(u32).range(1..=i64::from(MOST_BLOCKING)))
-        .default_value("1");
-    let workers = Arg::new(alloc, "workers")
-        .long("workers")
-        .value_name("M")
-        .help("Workers, 1 to 16")
-        .value_parser(value_parser!(usize).range(1..=MOST_WORKERS as i64))
-        .default_value("1");
-    let policy = Arg::new(alloc, "policy")
-        .long("policy")
-        .value_name("P")
-        .help("Which actor fires next")
-        .value_parser(POLICY_WORDS.as_slice())
-        .default_value("round");
-    let placement = Arg::new(alloc, "placement")
-        .long("placement")
-        .value_name("L")
-        .help("How firings come to workers")
-        .value_parser(PLACEMENT_WORDS.as_slice())
-        .default_value("homed");
-    command
-        .arg(blocking)?
-        .arg(workers)?
-        .arg(policy)?
-        .arg(placement)
-}
-
-fn schedule_command<'a>(alloc: Global) -> Result<Command<'a>, AllocError> {
-    let command = Command::new(alloc, "schedule")
-        .about("Prints a schedule of a graph file for some workers")
-        .arg(required(alloc, "GRAPH", "The graph file"))?;
-    with_plan_args(alloc, command)
-}
-
-fn run_command<'a>(alloc: Global) -> Result<Command<'a>, AllocError> {
-    let command = Command::new(alloc, "run")
-        .about("Processes a WAV file")
-        .arg(required(alloc, "GRAPH", "The graph file"))?
-        .arg(required(alloc, "IN", "The WAV file to read"))?
-        .arg(required(alloc, "OUT", "The WAV file to write"))?;
-    let runner = Arg::new(alloc, "runner")
-        .long("runner")
-        .value_name("R")
-        .help("How firings are run")
-        .value_parser(RUNNER_WORDS.as_slice())
-        .default_value("one");
-    let patience = Arg::new(alloc, "patience")
-        .long("patience")
-        .value_name("T")
-        .help("Repeated tests in a round, at most 1000000")
-        .value_parser(value_parser!(u32).range(0..=i64::from(MOST_PATIENCE)))
-        .default_value("1000");
-    with_plan_args(alloc, command)?.arg(runner)?.arg(patience)
-}
-
-fn explain_command<'a>(alloc: Global) -> Result<Command<'a>, AllocError> {
-    let number = required(alloc, "NUMBER", "The number of a fault, 1 to 63").value_parser(
-        value_parser!(u32).range(1..=i64::from(MOST_FAULT)),
-    );
-    Command::new(alloc, "explain")
-        .about("Says what a fault means and what to do about it")
-        .arg(number)
-}
-
-fn sdfw_command<'a>(alloc: Global) -> Result<Command<'a>, AllocError> {
-    Command::new(alloc, "sdfw")
-        .about("A workbench for synchronous dataflow graphs over WAV files")
-        .version("0.1.0")
-        .subcommand_required(true)
-        .disable_help_subcommand(true)
-        .subcommand(check_command(alloc)?)?
-        .subcommand(schedule_command(alloc)?)?
-        .subcommand(run_command(alloc)?)?
-        .subcommand(explain_command(alloc)?)
-}
-
 // The option's parser keeps its number within these limits, so none is lost here.
 fn number_of(matches: &ArgMatches<'_>, id: &str, least: u32, most: u32) -> Option<u32>
     ensures { IfSome result (λ n. (least ≤ n) × (n ≤ most)) }
@@ -176,8 +88,8 @@ fn plan_options_of(matches: &ArgMatches<'_>) -> Option<Options>
     Some(Options {
         blocking: number_of(matches, "blocking", 1, MOST_BLOCKING)?,
         workers: number_of(matches, "workers", 1, MOST_WORKERS as u32)? as usize,
-        policy: meant(&POLICY_WORDS, &POLICIES, matches.get_str("policy")?)?,
-        placement: meant(&PLACEMENT_WORDS, &PLACEMENTS, matches.get_str("placement")?)?,
+        policy: meant(POLICY_WORDS, &POLICIES, matches.get_str("policy")?)?,
+        placement: meant(PLACEMENT_WORDS, &PLACEMENTS, matches.get_str("placement")?)?,
         ..Options::DEFAULT
     })
 }
@@ -187,33 +99,64 @@ fn options_of(matches: &ArgMatches<'_>) -> Option<Options>
     ensures { IfSome result AreWithinLimits }
 {
     Some(Options {
-        runner: meant(&RUNNER_WORDS, &RUNNERS, matches.get_str("runner")?)?,
+        runner: meant(RUNNER_WORDS, &RUNNERS, matches.get_str("runner")?)?,
         patience: number_of(matches, "patience", 0, MOST_PATIENCE)?,
         ..plan_options_of(matches)?
     })
+}
+
+/// What `schedule` is asked for.
+fn schedule_of<'a>(matches: &ArgMatches<'a>) -> Option<Words<'a>>
+    ensures { IfSome result IsWithinLimits }
+{
+    Some(Words::Schedule {
+        graph: matches.get_str("GRAPH")?,
+        options: plan_options_of(matches)?,
+    })
+}
+
+/// What `run` is asked for.
+fn run_of<'a>(matches: &ArgMatches<'a>) -> Option<Words<'a>>
+    ensures { IfSome result IsWithinLimits }
+{
+    Some(Words::Run {
+        graph: matches.get_str("GRAPH")?,
+        input: matches.get_str("IN")?,
+        output: matches.get_str("OUT")?,
+        options: options_of(matches)?,
+    })
+}
+
+/// What a command is asked for, by its name.
+fn asked<'a>(name: &str, matches: &ArgMatches<'a>) -> Option<Words<'a>>
+    ensures { IfSome result IsWithinLimits }
+{
+    match name {
+        "check" => Some(Words::Check {
+            graph: matches.get_str("GRAPH")?,
+        }),
+        "schedule" => schedule_of(matches),
+        "run" => run_of(matches),
+        "explain" => Some(Words::Explain {
+            number: number_of(matches, "NUMBER", 1, MOST_FAULT)?,
+        }),
+        _ => None,
+    }
 }
 
 fn words_of<'a>(matches: &ArgMatches<'a>) -> Option<Words<'a>>
     ensures { IfSome result IsWithinLimits }
 {
     let (name, inner) = matches.subcommand()?;
-    match name {
-        "check" => Some(Words::Check {
-            graph: inner.get_str("GRAPH")?,
-        }),
-        "schedule" => Some(Words::Schedule {
-            graph: inner.get_str("GRAPH")?,
-            options: plan_options_of(inner)?,
-        }),
-        "run" => Some(Words::Run {
-            graph: inner.get_str("GRAPH")?,
-            input: inner.get_str("IN")?,
-            output: inner.get_str("OUT")?,
-            options: options_of(inner)?,
-        }),
-        "explain" => Some(Words::Explain {
-            number: number_of(inner, "NUMBER", 1, MOST_FAULT)?,
-        }),
+    asked(name, inner)
+}
+
+/// The number of a fault that is to be explained by its name.
+fn explained_by_name(words: &[&str]) -> Option<u32>
+    ensures { IfSome result (λ n. (1 ≤ n) × (n ≤ MOST_FAULT)) }
+{
+    match words {
+        [_, "explain", name] => number_named(name),
         _ => None,
     }
 }
@@ -223,6 +166,9 @@ pub fn words<'a>(alloc: Global, words: &'a [&'a str]) -> Result<Words<'a>, WordF
     ensures within { IfOk result IsWithinLimits }
     ensures usage { IfErr result IsUsage }
 {
+    if let Some(number) = explained_by_name(words) {
+        return Ok(Words::Explain { number });
+    }
     let mut command = sdfw_command(alloc)?;
     let matches = command.try_get_matches_from_mut(words)?;
     match words_of(&matches) {
@@ -239,8 +185,8 @@ fn refuse(alloc: Global, text: &str) -> Result<clap::Error, AllocError> {
     sdfw_command(alloc)?.error(ErrorKind::InvalidValue, text)
 }
 
-/// The same as a fault.
-pub(crate) fn mistake(alloc: Global, text: &str) -> WordFault
+/// A mistake in what the words ask for, with what is said of it.
+pub fn mistake(alloc: Global, text: &str) -> WordFault
     ensures { IsUsage result }
 {
     match refuse(alloc, text) {

@@ -1,15 +1,20 @@
 //! What the faults mean.
 
+ghost use Rattle.std.specs.Prelude.{◌≡◌, ◌≤◌, IfSome};
+ghost use Rattle.sdf_words.specs.declared.options.TheConstants.{MOST_FAULT};
+
 mod documents;
 mod graphs;
 mod sounds;
 mod tables;
 
+use crate::options::MOST_FAULT;
 use std::alloc::{AllocError, Global};
 
 /// What a fault means, within which limits it does not come, and what to do about it. `place` is how its line goes on.
 #[derive(Clone, Copy)]
 struct Meaning {
+    number: u32,
     name: &'static str,
     place: &'static str,
     means: &'static str,
@@ -17,14 +22,44 @@ struct Meaning {
     remedy: &'static str,
 }
 
-/// What the fault of this number means.
-fn meaning_of(number: u32) -> Option<Meaning> {
+/// What the faults near this number mean.
+fn meanings_near(number: u32) -> &'static [Meaning] {
     match number {
-        0..=12 => graphs::meaning_of(number),
-        13..=33 => tables::meaning_of(number),
-        34..=48 => sounds::meaning_of(number),
-        _ => documents::meaning_of(number),
+        0..=12 => graphs::MEANINGS.as_slice(),
+        13..=33 => tables::MEANINGS.as_slice(),
+        34..=48 => sounds::MEANINGS.as_slice(),
+        _ => documents::MEANINGS.as_slice(),
     }
+}
+
+/// What the fault of this number means.
+fn meaning_of(number: u32) -> Option<Meaning>
+    ensures { IfSome result (λ meaning. meaning.number ≡ number) }
+{
+    meanings_near(number)
+        .iter()
+        .copied()
+        .find(|meaning| meaning.number == number)
+}
+
+/// Whether the fault of this number has this name.
+fn is_named(number: u32, name: &str) -> bool {
+    match meaning_of(number) {
+        Some(meaning) => meaning.name == name,
+        None => false,
+    }
+}
+
+/// The number of the fault of this name.
+pub(crate) fn number_named(name: &str) -> Option<u32>
+    ensures { IfSome result (λ number. (1 ≤ number) × (number ≤ MOST_FAULT)) }
+{
+    for number in 1..=MOST_FAULT {
+        if is_named(number, name) {
+            return Some(number);
+        }
+    }
+    None
 }
 
 /// A line of an explanation, where there is something to say.

@@ -15,7 +15,7 @@ pub enum Policy {
 }
 
 /// The words of the policies, and the policies in the same order.
-pub(crate) static POLICY_WORDS: [&str; 3] = ["round", "lean", "runs"];
+pub(crate) const POLICY_WORDS: &[&str] = &["round", "lean", "runs"];
 
 pub(crate) static POLICIES: [Policy; 3] = [Policy::Round, Policy::Lean, Policy::Runs];
 
@@ -31,7 +31,7 @@ pub enum Placement {
 }
 
 /// The words of the placements, and the placements in the same order.
-pub(crate) static PLACEMENT_WORDS: [&str; 3] = ["hu", "homed", "file"];
+pub(crate) const PLACEMENT_WORDS: &[&str] = &["hu", "homed", "file"];
 
 pub(crate) static PLACEMENTS: [Placement; 3] = [Placement::Hu, Placement::Homed, Placement::File];
 
@@ -47,7 +47,7 @@ pub enum Runner {
 }
 
 /// The words of the runners, and the runners in the same order.
-pub(crate) static RUNNER_WORDS: [&str; 3] = ["one", "rows", "rings"];
+pub(crate) const RUNNER_WORDS: &[&str] = &["one", "rows", "rings"];
 
 pub(crate) static RUNNERS: [Runner; 3] = [Runner::One, Runner::Rows, Runner::Rings];
 

@@ -4,14 +4,13 @@ ghost use Rattle.std.specs.Prelude.{◌≡◌, ◌≢◌};
 ghost use Rattle.std.specs.IoError.{error_kind};
 ghost use Rattle.sdf_process.specs.declared.fault.Fault.TheVariants.{OutOfMemory};
 
+use crate::storage::Storage;
 use indexmap::IndexSet;
 use sdf_file::{Design, design_files, read_design};
 use sdf_process::Fault;
-use std::alloc::Global;
-use std::fs;
+use std::alloc::{AllocError, Global};
 use std::io::{self, ErrorKind, Read};
 use std::path::Path;
-use std::rt::Files;
 
 /// The most bytes of a graph file or a coefficient file.
 pub(crate) const MOST_BYTES: u32 = 1_073_741_824;
@@ -42,15 +41,15 @@ pub(crate) fn read_all<F: Read + Drop>(
 }
 
 /// A coefficient file's bytes, unless it can't be opened.
-fn read_beside<R: Files + AllocGlobal>(
-    rt: &R,
+fn read_beside<S: Storage>(
+    alloc: Global,
+    storage: &S,
     graph: &str,
     name: &str,
     most: u32,
 ) -> Result<Option<Vec<u8>>, Fault> {
-    let alloc = rt.alloc();
     let path = Path::new(graph).with_file_name(alloc, name)?;
-    match fs::open(rt, &path) {
+    match storage.open(path.as_str()) {
         Ok(file) => Ok(Some(read_all(alloc, file, most)?)),
         Err(error) if error.kind() == ErrorKind::OutOfMemory => Err(Fault::OutOfMemory),
         Err(_) => Ok(None),
@@ -58,34 +57,53 @@ fn read_beside<R: Files + AllocGlobal>(
 }
 
 /// The coefficient files that can be opened, each with its name. They lie in the folder of the graph file.
-fn read_files<R: Files + AllocGlobal>(
-    rt: &R,
+fn read_files<S: Storage>(
+    alloc: Global,
+    storage: &S,
     graph: &str,
     names: IndexSet<String>,
     most: u32,
 ) -> Result<Vec<(String, Vec<u8>)>, Fault> {
-    let mut files = Vec::new(rt.alloc());
+    let mut files = Vec::new(alloc);
     for name in names {
-        if let Some(bytes) = read_beside(rt, graph, name.as_str(), most)? {
+        if let Some(bytes) = read_beside(alloc, storage, graph, name.as_str(), most)? {
             files.push((name, bytes))?;
         }
     }
     Ok(files)
 }
 
+/// A design, and the names of the coefficient files that it was read with.
+#[derive(Drop)]
+pub(crate) struct Loaded {
+    pub(crate) design: Design,
+    pub(crate) names: Vec<String>,
+}
+
+/// The names of files.
+fn names_of(alloc: Global, files: Vec<(String, Vec<u8>)>) -> Result<Vec<String>, AllocError> {
+    let mut names = Vec::new(alloc);
+    for (name, _) in files {
+        names.push(name)?;
+    }
+    Ok(names)
+}
+
 /// The design of a graph file and the coefficient files that it names, none of which has over `most` bytes.
-pub(crate) fn load<R: Files + AllocGlobal>(
-    rt: &R,
+pub(crate) fn load<S: Storage>(
+    alloc: Global,
+    storage: &S,
     graph: &str,
     most: u32,
-) -> Result<Design, Fault> {
-    let alloc = rt.alloc();
-    let file = match fs::open(rt, graph) {
+) -> Result<Loaded, Fault> {
+    let file = match storage.open(graph) {
         Ok(file) => file,
         Err(error) => return Err(device_fault(&error, Fault::Read)),
     };
     let bytes = read_all(alloc, file, most)?;
     let names = design_files(alloc, &bytes)?;
-    let files = read_files(rt, graph, names, most)?;
-    Ok(read_design(alloc, &bytes, &files)?)
+    let files = read_files(alloc, storage, graph, names, most)?;
+    let design = read_design(alloc, &bytes, &files)?;
+    let names = names_of(alloc, files)?;
+    Ok(Loaded { design, names })
 }

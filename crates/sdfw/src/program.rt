@@ -4,7 +4,9 @@ ghost use Rattle.std.specs.Prelude.{◌≡◌, ◌⊎◌};
 ghost use Rattle.sdf_process.specs.Statuses.{status_of};
 ghost use Rattle.sdf_process.specs.declared.fault.Fault.TheVariants.{OutOfMemory};
 
-use crate::files::{MOST_BYTES, device_fault, load};
+use crate::files::{Loaded, device_fault, load};
+use crate::overwriting::keep_what_is_read;
+use crate::storage::Storage;
 use sdf_file::check_text;
 use sdf_process::planning::plan;
 use sdf_process::process::process;
@@ -12,60 +14,76 @@ use sdf_process::schedule::schedule;
 use sdf_process::{Fault, fault_text, status};
 use sdf_wav::{FromRead, ToWrite};
 use sdf_words::{Options, WordFault, Words, explained, words};
-use std::fmt::Display;
-use std::fs;
-use std::rt::Files;
+use std::alloc::{AllocError, Global};
+use std::io::Write;
 use std::thread::Threads;
 
+/// What commands are done with. The threads are for a run with workers, and bring the memory.
+#[derive_where(Clone, Copy)]
+pub(crate) struct World<'a, S, T> {
+    pub(crate) storage: &'a S,
+    pub(crate) threads: &'a T,
+    /// The most bytes of a graph file or a coefficient file.
+    pub(crate) most: u32,
+}
+
 /// Prints an answer.
-fn show<R: Print, D: Display + Drop>(rt: &R, answer: D) -> Result<(), Fault> {
-    match rt.print(answer) {
+fn show<O: Write>(out: &mut O, answer: &str) -> Result<(), Fault> {
+    match out.write_all(answer.as_bytes()) {
         Ok(()) => Ok(()),
         Err(error) => Err(device_fault(&error, Fault::Write)),
     }
 }
 
 /// Says what a design is, where it can be scheduled.
-fn check<R: Files + Print + AllocGlobal>(rt: &R, graph: &str) -> Result<(), Fault> {
-    let alloc = rt.alloc();
-    let design = load(rt, graph, MOST_BYTES)?;
+fn check<S: Storage, T: AllocGlobal, O: Write>(
+    world: &World<S, T>,
+    out: &mut O,
+    graph: &str,
+) -> Result<(), Fault> {
+    let alloc = world.threads.alloc();
+    let Loaded { design, .. } = load(alloc, world.storage, graph, world.most)?;
     plan(alloc, &design, &Options::DEFAULT)?;
-    show(rt, check_text(alloc, &design)?)
+    let text = check_text(alloc, &design)?;
+    show(out, text.as_str())
 }
 
 /// Prints the schedule of a design.
-fn print_schedule<R: Files + Print + AllocGlobal>(
-    rt: &R,
+fn print_schedule<S: Storage, T: AllocGlobal, O: Write>(
+    world: &World<S, T>,
+    out: &mut O,
     graph: &str,
     options: &Options,
 ) -> Result<(), Fault> {
-    let alloc = rt.alloc();
-    let design = load(rt, graph, MOST_BYTES)?;
-    show(rt, schedule(alloc, &design, options)?)
+    let alloc = world.threads.alloc();
+    let Loaded { design, .. } = load(alloc, world.storage, graph, world.most)?;
+    let text = schedule(alloc, &design, options)?;
+    show(out, text.as_str())
 }
 
-/// Runs a design on a WAV file. OUT is made or emptied once the plan stands and IN is open.
-fn run<R: Files + AllocGlobal, T: Threads + AllocGlobal + Sync>(
-    rt: &R,
-    threads: &T,
+/// Runs a design on a WAV file. OUT is made or emptied once the plan stands, IN is open, and none of the files that
+/// are read is OUT.
+fn run<S: Storage, T: Threads + AllocGlobal + Sync>(
+    world: &World<S, T>,
     graph: &str,
     input: &str,
     output: &str,
     options: &Options,
 ) -> Result<(), Fault> {
-    let alloc = rt.alloc();
-    let design = load(rt, graph, MOST_BYTES)?;
+    let alloc = world.threads.alloc();
+    let Loaded { design, names } = load(alloc, world.storage, graph, world.most)?;
     let plan = plan(alloc, &design, options)?;
-    let from = match fs::open(rt, input) {
+    let from = match world.storage.open(input) {
         Ok(file) => file,
         Err(error) => return Err(device_fault(&error, Fault::Read)),
     };
-    let to = match fs::create(rt, output) {
+    keep_what_is_read(alloc, world.storage, graph, &names, input, output)?;
+    let to = match world.storage.create(output) {
         Ok(file) => file,
         Err(error) => return Err(device_fault(&error, Fault::Write)),
     };
     process(
-        threads,
+        world.threads,
         &mut FromRead::new(from),
         &mut ToWrite::new(to),
         &design,
@@ -73,16 +91,16 @@ fn run<R: Files + AllocGlobal, T: Threads + AllocGlobal + Sync>(
     )
 }
 
-/// Does what the words ask for, of which the first is the program's name. A run with workers starts them by `threads`.
-pub(crate) fn obey<R: Files + Print + AllocGlobal, T: Threads + AllocGlobal + Sync>(
-    rt: &R,
-    threads: &T,
+/// Does what the words ask for, of which the first is the program's name.
+fn obey<S: Storage, T: Threads + AllocGlobal + Sync, O: Write>(
+    world: &World<S, T>,
+    out: &mut O,
     line: &[&str],
 ) -> Result<(), Fault> {
-    let alloc = rt.alloc();
+    let alloc = world.threads.alloc();
     match words(alloc, line) {
-        Ok(Words::Check { graph }) => check(rt, graph),
-        Ok(Words::Schedule { graph, options }) => print_schedule(rt, graph, &options),
+        Ok(Words::Check { graph }) => check(world, out, graph),
+        Ok(Words::Schedule { graph, options }) => print_schedule(world, out, graph, &options),
         Ok(
             Words::Run {
                 graph,
@@ -90,30 +108,64 @@ pub(crate) fn obey<R: Files + Print + AllocGlobal, T: Threads + AllocGlobal + Sy
                 output,
                 options,
             },
-        ) => run(rt, threads, graph, input, output, &options),
-        Ok(Words::Explain { number }) => show(rt, explained(alloc, number)?),
+        ) => run(world, graph, input, output, &options),
+        Ok(Words::Explain { number }) => show(out, explained(alloc, number)?.as_str()),
         // Help or the version is an answer.
-        Err(WordFault::Usage(told)) if !told.use_stderr() => show(rt, told),
+        Err(WordFault::Usage(told)) if !told.use_stderr() => {
+            show(out, format!(in alloc; "{told}")?.as_str())
+        }
         Err(fault) => Err(Fault::from(fault)),
     }
 }
 
+/// The text of a fault, for standard error.
+fn told(alloc: Global, fault: &Fault) -> Result<String, AllocError> {
+    match fault {
+        Fault::Words(WordFault::Usage(told)) => format!(in alloc; "{told}"),
+        other => fault_text(alloc, other),
+    }
+}
+
 /// Tells a fault on standard error, and gives its exit status; that of memory where there is none for its text.
-pub(crate) fn tell<R: Eprint + AllocGlobal>(rt: &R, fault: &Fault) -> u8
+fn tell<E: Write>(alloc: Global, err: &mut E, fault: &Fault) -> u8
     ensures { (result ≡ status_of fault.now) ⊎ (result ≡ status_of OutOfMemory) }
 {
-    if let Fault::Words(WordFault::Usage(told)) = fault {
-        let _ = eprint!(rt; "{told}");
-        return status(fault);
-    }
-    match fault_text(rt.alloc(), fault) {
+    match told(alloc, fault) {
         Ok(text) => {
-            let _ = eprint!(rt; "{text}");
+            let _ = err.write_all(text.as_bytes());
             status(fault)
         }
         Err(_) => {
-            let _ = eprintln!(rt; "sdfw: {}", Fault::OutOfMemory);
+            let _ = err.write_all(b"sdfw: 1 OutOfMemory\n");
             status(&Fault::OutOfMemory)
         }
+    }
+}
+
+/// Does what the program was started for, if its words could be read.
+fn answer<S: Storage, T: Threads + AllocGlobal + Sync, O: Write>(
+    world: &World<S, T>,
+    out: &mut O,
+    given: Result<Vec<String>, WordFault>,
+) -> Result<(), Fault> {
+    let given = given?;
+    let mut line = Vec::new(world.threads.alloc());
+    for word in &given {
+        line.push(word.as_str())?;
+    }
+    obey(world, out, line.as_slice())
+}
+
+/// The whole program: what it was started with and what it works on come in, what it prints and its exit status come
+/// out.
+pub(crate) fn serve<S: Storage, T: Threads + AllocGlobal + Sync, O: Write, E: Write>(
+    world: &World<S, T>,
+    out: &mut O,
+    err: &mut E,
+    given: Result<Vec<String>, WordFault>,
+) -> u8 {
+    match answer(world, out, given) {
+        Ok(()) => 0,
+        Err(fault) => tell(world.threads.alloc(), err, &fault),
     }
 }

@@ -1,4 +1,6 @@
 //! What no clause says: commands over real files, and devices that refuse.
 
 mod files;
+mod overwriting;
 mod refused;
+mod streams;

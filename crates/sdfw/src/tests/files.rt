@@ -1,9 +1,10 @@
 //! Commands over real files.
 
-use crate::files::{load, read_all};
-use crate::program::obey;
-use sdf_process::{fault_text, status};
-use std::io::ErrorKind;
+use crate::files::{MOST_BYTES, load, read_all};
+use crate::program::{World, serve};
+use crate::storage::{Disk, Storage};
+use sdf_process::fault_text;
+use std::io::{ErrorKind, Write};
 use std::process::Abort;
 use std::rt::Files;
 use std::test::Fail;
@@ -36,21 +37,40 @@ pub(super) fn folder(rt: &HostRuntime, name: &str) -> Result<String, Fail> {
     }
 }
 
-/// How a command ends: its exit status, and what is told.
-pub(super) fn ends<R: Files + Print + AllocGlobal, T: Threads + AllocGlobal + Sync>(
+/// What the words print to `out`, and how they end: the exit status, and what stands on standard error.
+pub(super) fn ends_into<S: Storage, T: Threads + AllocGlobal + Sync, O: Write>(
+    world: &World<S, T>,
+    out: &mut O,
+    line: &[&str],
+) -> Result<(u8, String), Fail> {
+    let alloc = world.threads.alloc();
+    let mut given = Vec::new(alloc);
+    for word in line {
+        given.push(format!(in alloc; "{word}")?)?;
+    }
+    let mut err = Vec::new(alloc);
+    let status = serve(world, out, &mut err, Ok(given));
+    Ok((status, String::from_utf8(err)?))
+}
+
+/// How a command over real files ends: its exit status, and what stands on standard error.
+pub(super) fn ends<R: Files, T: Threads + AllocGlobal + Sync>(
     rt: &R,
     threads: &T,
     line: &[&str],
 ) -> Result<(u8, String), Fail> {
-    match obey(rt, threads, line) {
-        Ok(()) => Ok((0, String::new(rt.alloc()))),
-        Err(fault) => Ok((status(&fault), fault_text(rt.alloc(), &fault)?)),
-    }
+    let world = World {
+        storage: &Disk { rt },
+        threads,
+        most: MOST_BYTES,
+    };
+    let mut out = Vec::new(threads.alloc());
+    ends_into(&world, &mut out, line)
 }
 
-/// Whether a command ends by this fault.
+/// Whether a command ends so.
 fn fails(
-    rt: &(impl Abort + Files + Print + Threads + AllocGlobal + Sync),
+    rt: &(impl Abort + Files + Threads + AllocGlobal + Sync),
     line: &[&str],
     code: u8,
     text: &str,
@@ -83,10 +103,7 @@ fn makes_out_from_in(rt: HostRuntime) -> Result<(), Fail> {
         input.as_str(),
         output.as_str(),
     ];
-    match obey(&rt, &rt, line.as_slice()) {
-        Ok(()) => {}
-        Err(fault) => assert!(rt; false, "{fault}"),
-    }
+    fails(&rt, line.as_slice(), 0, "")?;
     assert_eq!(rt; fs::read(&rt, input.as_str())?.as_slice(), SOUND.as_slice());
     assert_eq!(rt;
         fs::read(&rt, output.as_str())?.as_slice(),
@@ -170,9 +187,10 @@ fn long_files_are_refused(rt: HostRuntime) -> Result<(), Fail> {
     let folder = folder(&rt, "long")?;
     let graph = format!(in alloc; "{folder}/graph.toml")?;
     fs::write(&rt, graph.as_str(), PLAIN)?;
+    let disk = Disk { rt: &rt };
     let len = u32::try_from(PLAIN.len()).unwrap_or(0);
-    assert!(rt; load(&rt, graph.as_str(), len).is_ok());
-    match load(&rt, graph.as_str(), len.saturating_sub(1)) {
+    assert!(rt; load(alloc, &disk, graph.as_str(), len).is_ok());
+    match load(alloc, &disk, graph.as_str(), len.saturating_sub(1)) {
         Ok(_) => assert!(rt; false),
         Err(fault) => assert_eq!(rt; fault_text(alloc, &fault)?.as_str(), "sdfw: 47 Read\n"),
     }

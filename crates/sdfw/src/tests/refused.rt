@@ -1,18 +1,19 @@
-//! Opens and writes that are refused, for want of memory or for another cause.
+//! Opens, writes and streams that are refused, for want of memory or for another cause.
 
-use super::files::{FILTERED, PLAIN, SOUND, ends, folder};
-use crate::program::obey;
-use std::alloc::{Alloc, Allocator, Global};
-use std::fmt::Display;
+use super::files::{FILTERED, PLAIN, SOUND, ends, ends_into, folder};
+use crate::files::MOST_BYTES;
+use crate::program::{World, serve};
+use crate::storage::Disk;
+use std::alloc::Allocator;
 use std::fs;
 use std::fs::{File, Metadata, OpenOptions};
-use std::io::{self, Error, ErrorKind};
+use std::io::{self, Error, ErrorKind, Write};
 use std::process::Abort;
 use std::rt::Files;
 use std::test::Fail;
 use std::thread::Threads;
 
-/// A runtime that refuses to open the files whose paths end so, and to print.
+/// A file system that refuses to open the files whose paths end so.
 #[derive(Clone, Copy)]
 struct Refusing<'a> {
     host: &'a HostRuntime,
@@ -23,28 +24,6 @@ struct Refusing<'a> {
 impl Refusing<'_> {
     fn error(&self) -> Error {
         Error::from(self.kind)
-    }
-}
-
-impl Alloc for Refusing<'_> {
-    type A = Global;
-
-    fn alloc(&self) -> Global {
-        self.host.alloc()
-    }
-}
-
-impl Print for Refusing<'_> {
-    fn print<D: Display + Drop>(&self, _value: D) -> io::Result<()> {
-        Err(self.error())
-    }
-
-    fn println<D: Display + Drop>(&self, _value: D) -> io::Result<()> {
-        Err(self.error())
-    }
-
-    fn write_all(&self, _bytes: &[u8]) -> io::Result<()> {
-        Err(self.error())
     }
 }
 
@@ -186,35 +165,72 @@ fn refused_opens(rt: HostRuntime) -> Result<(), Fail> {
     )
 }
 
+/// A stream that refuses.
+#[derive(Clone, Copy)]
+struct Closed {
+    kind: ErrorKind,
+}
+
+impl Write for Closed {
+    fn write(&mut self, _bytes: &[u8]) -> io::Result<usize> {
+        Err(Error::from(self.kind))
+    }
+
+    fn flush(&mut self) -> io::Result<()> {
+        Err(Error::from(self.kind))
+    }
+}
+
+/// Whether a command whose answer is refused, for want of memory or for another cause, ends by that fault.
+fn answer_is_refused(
+    rt: &(impl Abort + Files + Threads + AllocGlobal + Sync),
+    line: &[&str],
+) -> Result<(), Fail> {
+    let world = World {
+        storage: &Disk { rt },
+        threads: rt,
+        most: MOST_BYTES,
+    };
+    for (kind, code, text) in [
+        (ErrorKind::BrokenPipe, 5, "sdfw: 48 Write\n"),
+        (ErrorKind::OutOfMemory, 6, "sdfw: 1 OutOfMemory\n"),
+    ] {
+        let (status, said) = ends_into(&world, &mut Closed { kind }, line)?;
+        assert_eq!(rt; (status, said.as_str()), (code, text), "{line:?}");
+    }
+    Ok(())
+}
+
 #[test]
 fn refused_answers(rt: HostRuntime) -> Result<(), Fail> {
     let folder = folder(&rt, "answers")?;
     let graph = format!(in rt.alloc(); "{folder}/graph.toml")?;
     fs::write(&rt, graph.as_str(), PLAIN)?;
-    for line in [
-        ["sdfw", "check", graph.as_str()].as_slice(),
-        ["sdfw", "explain", "5"].as_slice(),
-        ["sdfw", "--help"].as_slice(),
-        ["sdfw", "run", "--help"].as_slice(),
-        ["sdfw", "--version"].as_slice(),
-    ] {
-        ends_refused(
-            &rt,
-            &rt,
-            "no file",
-            ErrorKind::BrokenPipe,
-            line,
-            5,
-            "sdfw: 48 Write\n",
-        )?;
+    answer_is_refused(&rt, &["sdfw", "check", graph.as_str()])?;
+    answer_is_refused(&rt, &["sdfw", "schedule", graph.as_str()])?;
+    answer_is_refused(&rt, &["sdfw", "explain", "5"])?;
+    answer_is_refused(&rt, &["sdfw", "--help"])?;
+    answer_is_refused(&rt, &["sdfw", "run", "--help"])?;
+    answer_is_refused(&rt, &["sdfw", "--version"])
+}
+
+/// A fault that can't be told has its status none the less.
+#[test]
+fn refused_faults(rt: HostRuntime) -> Result<(), Fail> {
+    let alloc = rt.alloc();
+    let world = World {
+        storage: &Disk { rt: &rt },
+        threads: &rt,
+        most: MOST_BYTES,
+    };
+    let kind = ErrorKind::BrokenPipe;
+    for (word, code) in [("play", 2), ("check", 2)] {
+        let mut given = Vec::new(alloc);
+        given.push(format!(in alloc; "sdfw")?)?;
+        given.push(format!(in alloc; "{word}")?)?;
+        let mut out = Vec::new(alloc);
+        let status = serve(&world, &mut out, &mut Closed { kind }, Ok(given));
+        assert_eq!(rt; (status, out.len()), (code, 0), "{word}");
     }
-    let (status, _) = refused(
-        &rt,
-        &rt,
-        "no file",
-        ErrorKind::BrokenPipe,
-        &["sdfw", "play"],
-    )?;
-    assert_eq!(rt; status, 2);
     Ok(())
 }

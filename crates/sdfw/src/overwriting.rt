@@ -1,0 +1,74 @@
+//! What a run would destroy: OUT is emptied before IN is read, so it may be no file that the run reads.
+
+use crate::storage::Storage;
+use sdf_process::Fault;
+use sdf_words::mistake;
+use sdf_words::printable::printable;
+use std::alloc::Global;
+use std::io::ErrorKind;
+use std::path::{Path, PathBuf};
+
+/// The one path of a file, without dots and links, where a file is there.
+fn only_path<S: Storage>(alloc: Global, storage: &S, path: &str) -> Result<Option<PathBuf>, Fault> {
+    match storage.only_path(alloc, path) {
+        Ok(only) => Ok(Some(only)),
+        Err(error) if error.kind() == ErrorKind::OutOfMemory => Err(Fault::OutOfMemory),
+        Err(_) => Ok(None),
+    }
+}
+
+/// Whether a path leads to the file whose one path is `file`.
+fn leads_to<S: Storage>(alloc: Global, storage: &S, path: &str, file: &str) -> Result<bool, Fault> {
+    match only_path(alloc, storage, path)? {
+        Some(only) => Ok(only.as_str() == file),
+        None => Ok(false),
+    }
+}
+
+/// The refusal of an OUT that is also a file that is read.
+fn same_file(alloc: Global, what: &str) -> Fault {
+    match format!(in alloc; "OUT is the same file as {what}") {
+        Ok(text) => Fault::from(mistake(alloc, text.as_str())),
+        Err(_) => Fault::OutOfMemory,
+    }
+}
+
+/// Refuses an OUT that is the same file as a coefficient file. These lie in the folder of the graph file.
+fn keep_coefficients<S: Storage>(
+    alloc: Global,
+    storage: &S,
+    graph: &str,
+    names: &[String],
+    out: &str,
+) -> Result<(), Fault> {
+    for name in names {
+        let path = Path::new(graph).with_file_name(alloc, name.as_str())?;
+        if leads_to(alloc, storage, path.as_str(), out)? {
+            let shown = printable(alloc, name.as_str())?;
+            let what = format!(in alloc; "the coefficient file {}", shown.as_str())?;
+            return Err(same_file(alloc, what.as_str()));
+        }
+    }
+    Ok(())
+}
+
+/// Refuses an OUT that is the same file as IN, GRAPH or one of the coefficient files that `names` has.
+pub(crate) fn keep_what_is_read<S: Storage>(
+    alloc: Global,
+    storage: &S,
+    graph: &str,
+    names: &[String],
+    input: &str,
+    output: &str,
+) -> Result<(), Fault> {
+    let Some(out) = only_path(alloc, storage, output)? else {
+        return Ok(());
+    };
+    if leads_to(alloc, storage, input, out.as_str())? {
+        return Err(same_file(alloc, "IN"));
+    }
+    if leads_to(alloc, storage, graph, out.as_str())? {
+        return Err(same_file(alloc, "GRAPH"));
+    }
+    keep_coefficients(alloc, storage, graph, names, out.as_str())
+}

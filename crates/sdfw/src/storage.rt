@@ -1,0 +1,48 @@
+//! The files that the program reads and writes.
+
+use std::alloc::Global;
+use std::fs;
+use std::io::{self, Read, Write};
+use std::path::PathBuf;
+use std::rt::Files;
+
+/// Files by their paths.
+pub(crate) trait Storage {
+    /// What a file is read by.
+    type Source: Read + Drop;
+
+    /// What a file is written by.
+    type Sink: Write + Drop;
+
+    fn open(&self, path: &str) -> io::Result<Self::Source>;
+
+    /// Makes a file, or empties it.
+    fn create(&self, path: &str) -> io::Result<Self::Sink>;
+
+    /// The one path of a file that is there, without dots and links.
+    fn only_path(&self, alloc: Global, path: &str) -> io::Result<PathBuf>;
+}
+
+/// The files of the system.
+#[derive_where(Clone, Copy)]
+pub(crate) struct Disk<'a, R> {
+    pub(crate) rt: &'a R,
+}
+
+impl<R: Files> Storage for Disk<'_, R> {
+    type Source = R::File;
+
+    type Sink = R::File;
+
+    fn open(&self, path: &str) -> io::Result<R::File> {
+        fs::open(self.rt, path)
+    }
+
+    fn create(&self, path: &str) -> io::Result<R::File> {
+        fs::create(self.rt, path)
+    }
+
+    fn only_path(&self, alloc: Global, path: &str) -> io::Result<PathBuf> {
+        self.rt.canonicalize(alloc, path)
+    }
+}

@@ -1,0 +1,336 @@
+//! What the program prints, on which stream, and its exit status, over files in memory.
+
+use super::files::{FILTERED, PLAIN, SOUND, ends_into};
+use crate::files::MOST_BYTES;
+use crate::program::World;
+use crate::storage::Storage;
+use std::alloc::Global;
+use std::cell::RefCell;
+use std::io::{self, Error, ErrorKind, Write};
+use std::path::{Path, PathBuf};
+use std::process::Abort;
+use std::test::Fail;
+use std::thread::Threads;
+
+/// Two samples stand on the link, and each actor has a processor of its own.
+const BEGUN: &str = r#"format = 1
+actor = [{ name = "in", kind = "input", channel = 0, processor = 1 },
+    { name = "out", kind = "output", channel = 0, processor = 0 }]
+link = [{ from = "in", to = "out", initial = [7, 8] }]"#;
+
+/// Each end of the one link moves other numbers of samples.
+const BLOCKS: &str = r#"format = 1
+actor = [{ name = "in", kind = "input", channel = 0, block = 2 },
+    { name = "out", kind = "output", channel = 0, block = 3 }]
+link = [{ from = "in", to = "out" }]"#;
+
+/// A period of 2,047 firings.
+const LONG: &str = r#"format = 1
+actor = [{ name = "in", kind = "input", channel = 0, block = 1023 },
+    { name = "out", kind = "output", channel = 0, block = 1024 }]
+link = [{ from = "in", to = "out" }]"#;
+
+/// A loop on which no sample stands.
+const STUCK: &str = r#"format = 1
+actor = [{ name = "in", kind = "input", channel = 0 }, { name = "add", kind = "add", ways = 2 },
+    { name = "fork", kind = "fork", ways = 2 },
+    { name = "out", kind = "output", channel = 0 }]
+link = [{ from = "in", to = "add:0" }, { from = "add", to = "fork" },
+    { from = "fork:0", to = "out" }, { from = "fork:1", to = "add:1" }]"#;
+
+const TAPS: &str = "format = 1\nvalues = [1]\n";
+
+/// The same taps in a file that is longer than the graph file.
+const PADDED: &str = "format = 1
+# The taps of a filter that hands on what it takes: it has one tap, which is 1, and divides by nothing. What else is said
+# here makes the file longer than the graph file that names it, so that a limit can stand between the two: no graph file
+# of this test is as long as this one, which is read after it, and is refused where it is a byte longer than may be.
+# What is past the limit is not looked at, so it does not matter what would stand there.
+values = [1]
+";
+
+/// The graph files and coefficient files of the tests.
+const TEXTS: [(&str, &str); 9] = [
+    ("plain.toml", PLAIN),
+    ("begun.toml", BEGUN),
+    ("blocks.toml", BLOCKS),
+    ("long.toml", LONG),
+    ("stuck.toml", STUCK),
+    ("filtered.toml", FILTERED),
+    ("one.toml", TAPS),
+    ("padded/filtered.toml", FILTERED),
+    ("padded/one.toml", PADDED),
+];
+
+/// The bytes of a file of the tests.
+fn bytes_of(path: &str) -> Option<&'static [u8]> {
+    if path == "in.wav" {
+        return Some(SOUND.as_slice());
+    }
+    for (name, text) in TEXTS {
+        if path == name {
+            return Some(text.as_bytes());
+        }
+    }
+    None
+}
+
+/// Files in memory, and what was written. Only out.wav can be made.
+#[derive(Clone, Copy)]
+struct Shelf<'a> {
+    written: &'a RefCell<Vec<u8>>,
+}
+
+/// The file that is written.
+#[derive(Clone, Copy)]
+struct Slot<'a> {
+    written: &'a RefCell<Vec<u8>>,
+}
+
+impl Write for Slot<'_> {
+    fn write(&mut self, bytes: &[u8]) -> io::Result<usize> {
+        match self.written.try_borrow_mut() {
+            Ok(mut written) => written.write(bytes),
+            Err(_) => Err(Error::from(ErrorKind::ResourceBusy)),
+        }
+    }
+
+    fn flush(&mut self) -> io::Result<()> {
+        Ok(())
+    }
+}
+
+impl<'a> Storage for Shelf<'a> {
+    type Source = &'static [u8];
+
+    type Sink = Slot<'a>;
+
+    fn open(&self, path: &str) -> io::Result<&'static [u8]> {
+        if path == "no-memory" {
+            return Err(Error::from(ErrorKind::OutOfMemory));
+        }
+        bytes_of(path).ok_or(Error::from(ErrorKind::NotFound))
+    }
+
+    fn create(&self, path: &str) -> io::Result<Slot<'a>> {
+        if path == "out.wav" {
+            Ok(Slot {
+                written: self.written,
+            })
+        } else {
+            Err(Error::from(ErrorKind::PermissionDenied))
+        }
+    }
+
+    fn only_path(&self, alloc: Global, path: &str) -> io::Result<PathBuf> {
+        self.open(path)?;
+        Ok(Path::new(path).to_path_buf(alloc)?)
+    }
+}
+
+/// Whether a command over these files ends so: its exit status, what stands on the two streams, and in the file that is
+/// written.
+fn ends_with<T: Abort + Threads + AllocGlobal + Sync>(
+    rt: &T,
+    most: u32,
+    line: &[&str],
+    wanted: (u8, &str, &str, &[u8]),
+) -> Result<(), Fail> {
+    let alloc = rt.alloc();
+    let written = RefCell::new(Vec::new(alloc));
+    let world = World {
+        storage: &Shelf { written: &written },
+        threads: rt,
+        most,
+    };
+    let mut out = Vec::new(alloc);
+    let (status, err) = ends_into(&world, &mut out, line)?;
+    let out = String::from_utf8(out)?;
+    assert_eq!(rt;
+        (status, out.as_str(), err.as_str()),
+        (wanted.0, wanted.1, wanted.2),
+        "{line:?}"
+    );
+    assert_eq!(rt; written.into_inner().as_slice(), wanted.3, "{line:?}");
+    Ok(())
+}
+
+/// The sound 7, 8, 44,100 a second.
+const BEFORE: &[u8; 48] =
+    b"RIFF\x28\0\0\0WAVEfmt \x10\0\0\0\x01\0\x01\0\x44\xAC\0\0\x88\x58\x01\0\x02\0\x10\0data\x04\0\0\0\x07\0\x08\0";
+
+#[test]
+fn answers_stand_on_standard_output(rt: HostRuntime) -> Result<(), Fail> {
+    for (line, text) in [
+        (
+            ["sdfw", "check", "plain.toml"].as_slice(),
+            "actors 2\nlinks 1\nperiod 2\nq in 1\nq out 1\ninput 1 output 1\n",
+        ),
+        (
+            &[
+                "sdfw",
+                "schedule",
+                "begun.toml",
+                "--blocking",
+                "3",
+                "--workers",
+                "2",
+                "--policy",
+                "lean",
+                "--placement",
+                "file",
+            ],
+            "period 2\nq in 1\nq out 1\norder out in\nblocking 3\nworkers 2\nrows 6\n\
+             row out.0 -\nrow - in.0\nrow out.1 -\nrow - in.1\nrow out.2 -\nrow - in.2\ncapacity in:0 out:0 2\n",
+        ),
+        (
+            &["sdfw", "explain", "11"],
+            "11 BlockingFactor\nmeans: The number of periods in a block is out of range.\n\
+             limits: 1 to 64\nremedy: Change `--blocking`.\n",
+        ),
+        (
+            &["sdfw", "explain", "WorkerCount"],
+            "12 WorkerCount\nmeans: The number of workers is out of range.\n\
+             limits: 1 to 16\nremedy: Change `--workers`.\n",
+        ),
+        (&["sdfw", "--version"], "sdfw 0.1.0\n"),
+        (
+            &["sdfw", "check", "-h"],
+            "Checks a graph file and prints its period\n\nUsage: sdfw check <GRAPH>\n\n\
+             Arguments:\n  <GRAPH>  The graph file\n\nOptions:\n  -h, --help  Print help\n",
+        ),
+    ] {
+        ends_with(&rt, MOST_BYTES, line, (0, text, "", b""))?;
+    }
+    Ok(())
+}
+
+/// With `in` on processor 1 a plan for one worker has a fault, and so has one by rings without homes, or of a long
+/// block.
+#[test]
+fn runs_follow_their_options(rt: HostRuntime) -> Result<(), Fail> {
+    let all = [
+        "sdfw",
+        "run",
+        "begun.toml",
+        "in.wav",
+        "out.wav",
+        "--blocking",
+        "3",
+        "--workers",
+        "2",
+        "--policy",
+        "lean",
+        "--placement",
+        "file",
+        "--runner",
+        "rings",
+        "--patience",
+        "7",
+    ];
+    ends_with(&rt, MOST_BYTES, &all, (0, "", "", BEFORE.as_slice()))?;
+    let two = [
+        "sdfw",
+        "run",
+        "blocks.toml",
+        "in.wav",
+        "no.wav",
+        "--workers",
+        "2",
+    ];
+    for (name, value, code, text) in [
+        ("--runner", "one", 5, "sdfw: 48 Write\n"),
+        ("--placement", "hu", 5, "sdfw: 48 Write\n"),
+        ("--policy", "lean", 5, "sdfw: 48 Write\n"),
+    ] {
+        let mut line = Vec::new(rt.alloc());
+        line.extend_from_slice(two.as_slice())?;
+        line.push(name)?;
+        line.push(value)?;
+        ends_with(&rt, MOST_BYTES, line.as_slice(), (code, "", text, b""))?;
+    }
+    for (graph, options, text) in [
+        (
+            "blocks.toml",
+            ["--runner", "rings", "--workers", "2", "--placement", "hu"],
+            "sdfw: 30 NotHomed\n",
+        ),
+        (
+            "begun.toml",
+            ["--runner", "rows", "--placement", "file", "--workers", "1"],
+            "sdfw: 19 BadHome actor 0\n",
+        ),
+        (
+            "long.toml",
+            ["--runner", "rows", "--blocking", "64", "--workers", "2"],
+            "sdfw: 13 BlockTooLong\n",
+        ),
+    ] {
+        let mut line = Vec::new(rt.alloc());
+        line.extend_from_slice(["sdfw", "run", graph, "in.wav", "out.wav"].as_slice())?;
+        line.extend_from_slice(options.as_slice())?;
+        ends_with(&rt, MOST_BYTES, line.as_slice(), (3, "", text, b""))?;
+    }
+    Ok(())
+}
+
+#[test]
+fn faults_stand_on_standard_error(rt: HostRuntime) -> Result<(), Fail> {
+    for (line, code, text) in [
+        (
+            ["sdfw", "check", "stuck.toml"].as_slice(),
+            3,
+            "sdfw: 10 Deadlock\nin 1 of 1\nadd 0 of 1 short link 3\nfork 0 of 1 short link 1\n\
+             out 0 of 1 short link 2\n",
+        ),
+        (
+            &["sdfw", "explain", "64"],
+            2,
+            "error: invalid value '64' for '<NUMBER>': 64 is not in 1..=63\n\nFor more information, try '--help'.\n",
+        ),
+        (
+            &["sdfw", "run", "plain.toml", "plain.toml", "out.wav"],
+            4,
+            "sdfw: 34 NotRiff\n",
+        ),
+        (&["sdfw", "check", "none.toml"], 5, "sdfw: 47 Read\n"),
+        (
+            &["sdfw", "run", "plain.toml", "in.wav", "no.wav"],
+            5,
+            "sdfw: 48 Write\n",
+        ),
+        (
+            &["sdfw", "schedule", "no-memory"],
+            6,
+            "sdfw: 1 OutOfMemory\n",
+        ),
+        (
+            &["sdfw", "run", "plain.toml", "in.wav", "in.wav"],
+            2,
+            "error: OUT is the same file as IN\n\nUsage: sdfw <COMMAND>\n\nFor more information, try '--help'.\n",
+        ),
+    ] {
+        ends_with(&rt, MOST_BYTES, line, (code, "", text, b""))?;
+    }
+    Ok(())
+}
+
+/// The longest file that is read is as long as the limit.
+#[test]
+fn files_fit_their_limit(rt: HostRuntime) -> Result<(), Fail> {
+    let text =
+        "actors 4\nlinks 3\nperiod 4\nq in 1\nq half 1\nq same 1\nq out 1\ninput 1 output 1\n";
+    assert!(rt; TAPS.len() < FILTERED.len());
+    assert!(rt; FILTERED.len() < PADDED.len());
+    for (path, longest) in [
+        ("filtered.toml", FILTERED.len()),
+        ("padded/filtered.toml", PADDED.len()),
+    ] {
+        let line = ["sdfw", "check", path];
+        let most = u32::try_from(longest).unwrap_or(0);
+        ends_with(&rt, most, &line, (0, text, "", b""))?;
+        let less = most.saturating_sub(1);
+        ends_with(&rt, less, &line, (5, "", "sdfw: 47 Read\n", b""))?;
+    }
+    Ok(())
+}
