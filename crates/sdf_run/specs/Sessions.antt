@@ -50,10 +50,10 @@ IsModeFault t (Rings patience) NotHomed = IsHomed t → ⊥
 IsModeFault t (Rings patience) Patience = IsHomed t × (MOST_PATIENCE < patience)
 IsModeFault t (Rings patience) fault = ⊥
 
--- a run of so many blocks takes so many rounds
+-- a run of so many blocks takes so many rounds: over rings each does some firing
 abbrev pub HasRounds : Tabled → List ℕ → ℕ → Mode → ℕ → ℕ → Type 0
 HasRounds t q j Rows blocks rounds = rounds ≡ blocks * length t.rows
-HasRounds t q j (Rings patience) blocks rounds = rounds ≤ blocks * (j * sum q)
+HasRounds t q j (Rings patience) blocks rounds = (rounds ≤ blocks * (j * sum q)) × (0 < blocks → 0 < rounds)
 
 -- counts stop at their greatest number
 abbrev pub counted : ℕ → ℕ

@@ -7,6 +7,8 @@
 #[cfg(test)]
 mod by_hand;
 #[cfg(test)]
+mod disturbed;
+#[cfg(test)]
 mod faults;
 #[cfg(test)]
 mod feeds;
@@ -15,11 +17,19 @@ mod graphs;
 #[cfg(test)]
 mod hu_rows;
 #[cfg(test)]
+mod kits;
+#[cfg(test)]
 mod levels;
+#[cfg(test)]
+mod meetings;
 #[cfg(test)]
 mod nets;
 #[cfg(test)]
 mod over_rings;
+#[cfg(test)]
+mod passes;
+#[cfg(test)]
+mod patience;
 #[cfg(test)]
 mod rows;
 #[cfg(test)]
@@ -28,3 +38,5 @@ mod runs;
 mod sessions;
 #[cfg(test)]
 mod tables;
+#[cfg(test)]
+mod turns;

@@ -8,12 +8,15 @@ ghost use Rattle.sdf_answer.specs.Rows.{IsTableOf};
 
 use sdf_actor::{Actor, Link, Net, Node};
 use sdf_kit::Kit;
+use sdf_node::Gate;
 use sdf_prec::hu::hu;
 use sdf_prec::{Costs, Table};
+use sdf_run::{Mode, Ran, RunFault, run_rings, run_rows};
 use sdf_sched::class_s::class_s;
 use sdf_sched::{Period, Round};
 use std::alloc::{AllocError, Global};
 use std::test::Fail;
+use std::thread::Threads;
 use test_actors::Sum;
 use test_actors::nets::{links, sink, source};
 
@@ -126,4 +129,37 @@ pub(crate) fn planned<A: Actor>(
     let costs = Costs::unit(alloc, net.graph())?;
     let table = hu(alloc, net.graph(), &period, j, m, homed, &costs)?;
     Ok((period, table))
+}
+
+/// A period of a net and a table of one column for two of them, in which the firings of a node stand in runs.
+pub(crate) fn in_runs<A: Actor>(alloc: Global, net: &Net<A>) -> Result<(Period, Table), Fail>
+    ensures period { IfOk result (λ plan. IsPeriodOf (rates (graph_of A.steps net.now)) plan.0) }
+    ensures table { IfOk result (λ plan. IsTableOf (rates (graph_of A.steps net.now)) plan.0.repetitions 2 plan.1) }
+{
+    let period = class_s(alloc, net.graph(), net.repetitions(), &mut Round::new())?;
+    let homes = vec![in alloc; Some(0); net.len()]?;
+    let table = Table::by_homes_in_runs(alloc, net.graph(), &period, 2, 1, &homes)?;
+    Ok((period, table))
+}
+
+/// A run of so many blocks of `j` periods, by rows or over rings, with this gate.
+pub(crate) fn run_by<R: Threads + AllocGlobal + Sync, A: Actor, G: Gate>(
+    rt: &R,
+    net: &Net<A>,
+    plan: &(Period, Table),
+    j: u32,
+    blocks: u32,
+    inputs: &[Vec<A::Token>],
+    mode: Mode,
+    gate: &G,
+) -> Result<Ran<A::Token>, RunFault>
+    requires period { IsPeriodOf (rates (graph_of A.steps net.now)) plan.now.0 }
+    requires table { IsTableOf (rates (graph_of A.steps net.now)) plan.now.0.repetitions j plan.now.1 }
+{
+    match mode {
+        Mode::Rows => run_rows(rt, net, &plan.0, j, &plan.1, blocks, inputs, gate),
+        Mode::Rings { patience } => {
+            run_rings(rt, net, &plan.0, j, &plan.1, blocks, inputs, patience, gate)
+        }
+    }
 }

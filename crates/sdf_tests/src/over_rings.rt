@@ -1,6 +1,9 @@
 //! Runs of the rate converter by workers over rings.
 
+use crate::kits::{blocks, branches, dealt, looped};
 use crate::nets::{converter, list, pair, planned, ramp};
+use sdf_actor::Net;
+use sdf_kit::Kit;
 use sdf_run::{NoGate, run_one, run_rings};
 use std::process::Abort;
 use std::test::Fail;
@@ -20,6 +23,37 @@ fn makes_as_one<R: Abort + Threads + AllocGlobal + Sync>(
     let ran = run_rings(rt, &net, &period, 1, &table, 2, &inputs, patience, &NoGate)?;
     assert_eq!(rt; ran.outputs.as_slice(), one.outputs.as_slice());
     assert!(rt; 1 <= ran.rounds && ran.rounds <= 1224);
+    Ok(())
+}
+
+/// In how many rounds one worker without patience does some blocks of a net that reads a sample or more a period.
+fn rounds_of_one<R: Abort + Threads + AllocGlobal + Sync>(
+    rt: &R,
+    net: &Net<Kit>,
+    blocks: u32,
+) -> Result<u64, Fail> {
+    let alloc = rt.alloc();
+    let (period, table) = planned(alloc, net, 1, 1, true)?;
+    let samples = net.samples_in().wrapping_mul(blocks as usize);
+    let inputs = ramp(alloc, 0, 0, samples)?;
+    let ran = run_rings(rt, net, &period, 1, &table, blocks, &inputs, 0, &NoGate)?;
+    Ok(ran.rounds)
+}
+
+/// In the table's order each firing finds its samples and its room.
+#[test]
+fn one_worker_wants_one_round(rt: HostRuntime) -> Result<(), Fail> {
+    let alloc = rt.alloc();
+    for net in [
+        blocks(alloc)?,
+        looped(alloc)?,
+        dealt(alloc)?,
+        branches(alloc, 3)?,
+        converter(alloc)?,
+    ] {
+        assert_eq!(rt; rounds_of_one(&rt, &net, 2)?, 1);
+        assert_eq!(rt; rounds_of_one(&rt, &net, 0)?, 0);
+    }
     Ok(())
 }
 

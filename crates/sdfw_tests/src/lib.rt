@@ -15,6 +15,8 @@ mod faults;
 #[cfg(test)]
 mod lines;
 #[cfg(test)]
+mod meetings;
+#[cfg(test)]
 mod pieces;
 #[cfg(test)]
 mod rings;

@@ -1,0 +1,162 @@
+//! The gate: each firing passes it once, on its processor, in its turn, and then fires.
+
+ghost use Rattle.sdf_graph.specs.Rates.{rates};
+ghost use Rattle.sdf_sched.specs.Period.{IsPeriodOf};
+ghost use Rattle.sdf_actor.specs.Graphs.{graph_of};
+ghost use Rattle.sdf_answer.specs.Rows.{IsTableOf};
+
+use crate::nets::{in_runs, list, planned, run_by};
+use sdf_actor::{Actor, Net, Node};
+use sdf_prec::Table;
+use sdf_run::{Mode, RunFault, Session};
+use sdf_sched::Period;
+use std::alloc::Global;
+use std::process::Abort;
+use std::test::Fail;
+use std::thread::Threads;
+use test_actors::Watched;
+use test_actors::gates::{Hold, Watch};
+use test_actors::nets::{links, sink, source};
+
+/// The source, an actor that goes in runs, one of two phases, one with a channel to itself, and the sink.
+const ACTORS: usize = 5;
+
+/// An actor that tells of its firings.
+fn actor<'a>(watch: &'a Watch<'a>, number: usize, cycle: u32, two: bool) -> Node<Watched<'a>> {
+    Node::Inner(Watched {
+        cycle,
+        two,
+        number,
+        watch,
+    })
+}
+
+/// The net whose firings are watched: in a period the source fires twice, the sink once, and the actors between four times each.
+fn watched<'a>(alloc: Global, watch: &'a Watch<'a>) -> Result<Net<Watched<'a>>, Fail> {
+    let mut nodes = Vec::new(alloc);
+    nodes.push(source(0, 2))?;
+    nodes.push(actor(watch, 1, 1, false))?;
+    nodes.push(actor(watch, 2, 2, false))?;
+    nodes.push(actor(watch, 3, 1, true))?;
+    nodes.push(sink(0, 4))?;
+    let mut links = links(
+        alloc,
+        &[
+            [0, 0, 1, 0],
+            [1, 0, 2, 0],
+            [2, 0, 3, 0],
+            [3, 0, 4, 0],
+            [3, 1, 3, 1],
+        ],
+    )?;
+    if let Some(own) = links.get_mut(4) {
+        own.initial.push(9)?;
+    }
+    Ok(Net::new(alloc, nodes, links)?)
+}
+
+/// How many firings of an actor stand in a column of a table.
+fn standing(table: &Table, column: usize, actor: usize) -> u64 {
+    let mut many: u64 = 0;
+    for i in 0..table.rows() {
+        if let Some(Some(firing)) = table.row(i).get(column) {
+            many = many.wrapping_add(u64::from(firing.actor == actor));
+        }
+    }
+    many
+}
+
+/// Whether each firing of so many blocks of a table passed once, in its turn and in its column.
+fn all_passed(rt: &impl Abort, watch: &Watch, table: &Table, blocks: u64) {
+    assert_eq!(rt; watch.odd(), 0);
+    for place in 0..3 * ACTORS {
+        let (column, actor) = (place / ACTORS, place % ACTORS);
+        assert_eq!(rt;
+            watch.passed(column, actor),
+            standing(table, column, actor).wrapping_mul(blocks),
+            "actor {actor} in column {column}"
+        );
+    }
+}
+
+/// Feeds a session two blocks of two periods, twice, with this gate: each feed numbers its firings anew.
+fn feed<R: Threads + AllocGlobal + Sync, A: Actor>(
+    rt: &R,
+    net: &Net<A>,
+    plan: &(Period, Table),
+    mode: Mode,
+    inputs: &[Vec<A::Token>],
+    watch: &Watch,
+) -> Result<(), RunFault>
+    requires period { IsPeriodOf (rates (graph_of A.steps net.now)) plan.now.0 }
+    requires table { IsTableOf (rates (graph_of A.steps net.now)) plan.now.0.repetitions 2 plan.now.1 }
+{
+    let mut session = Session::open(rt.alloc(), net, &plan.0, 2, &plan.1, mode)?;
+    session.feed(rt, inputs, watch)?;
+    watch.anew();
+    session.feed(rt, inputs, watch)?;
+    Ok(())
+}
+
+/// Whether each firing passes once, in a run and in feeds.
+fn all_pass<R: Abort + Threads + AllocGlobal + Sync, A: Actor>(
+    rt: &R,
+    net: &Net<A>,
+    plan: &(Period, Table),
+    mode: Mode,
+    inputs: &[Vec<A::Token>],
+    watch: &Watch,
+) -> Result<(), Fail>
+    requires period { IsPeriodOf (rates (graph_of A.steps net.now)) plan.now.0 }
+    requires table { IsTableOf (rates (graph_of A.steps net.now)) plan.now.0.repetitions 2 plan.now.1 }
+{
+    run_by(rt, net, plan, 2, 2, inputs, mode, watch)?;
+    all_passed(rt, watch, &plan.1, 2);
+    watch.anew();
+    feed(rt, net, plan, mode, inputs, watch)?;
+    all_passed(rt, watch, &plan.1, 6);
+    Ok(())
+}
+
+/// The same for so many workers, by a table free or homed.
+fn all_pass_on<R: Abort + Threads + AllocGlobal + Sync>(
+    rt: &R,
+    workers: usize,
+    homed: bool,
+    mode: Mode,
+) -> Result<(), Fail> {
+    let alloc = rt.alloc();
+    let watch = Watch::new(alloc, 3, ACTORS, Hold::NONE)?;
+    let net = watched(alloc, &watch)?;
+    let plan = planned(alloc, &net, 2, workers, homed)?;
+    all_pass(rt, &net, &plan, mode, &list(alloc, &[7; 16])?, &watch)
+}
+
+/// The same for one worker, whose firings stand in runs.
+fn all_pass_in_runs<R: Abort + Threads + AllocGlobal + Sync>(
+    rt: &R,
+    mode: Mode,
+) -> Result<(), Fail> {
+    let alloc = rt.alloc();
+    let watch = Watch::new(alloc, 3, ACTORS, Hold::NONE)?;
+    let net = watched(alloc, &watch)?;
+    let plan = in_runs(alloc, &net)?;
+    all_pass(rt, &net, &plan, mode, &list(alloc, &[7; 16])?, &watch)
+}
+
+#[test]
+fn by_rows(rt: HostRuntime) -> Result<(), Fail> {
+    all_pass_in_runs(&rt, Mode::Rows)?;
+    all_pass_on(&rt, 2, true, Mode::Rows)?;
+    all_pass_on(&rt, 3, false, Mode::Rows)
+}
+
+#[test]
+fn over_rings(rt: HostRuntime) -> Result<(), Fail> {
+    for patience in [0, 1000] {
+        all_pass_in_runs(&rt, Mode::Rings { patience })?;
+        all_pass_on(&rt, 2, true, Mode::Rings { patience })?;
+        all_pass_on(&rt, 3, true, Mode::Rings { patience })?;
+    }
+    Ok(())
+}
