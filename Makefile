@@ -69,5 +69,11 @@ allocations:
 bench: build
 	python3 bench/run.py
 
+# Memory, reads, writes and threads refused, one call at a time, and devices that fail (wants python3 and gcc).
+.PHONY: hostile
+hostile: build
+	gcc -O2 -Wall -Wextra -shared -fPIC -o build/refuse.so hostile/refuse.c
+	python3 hostile/run.py
+
 clean:
 	rm -rf build crates/*/out

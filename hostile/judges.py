@@ -1,0 +1,44 @@
+"""What a run may answer whose call was refused."""
+
+NO_MEMORY = (6, b"sdfw: 1 OutOfMemory\n")
+NO_WORKER = (6, b"sdfw: 32 NoWorker\n")
+NO_READ = (5, b"sdfw: 47 Read\n")
+NO_WRITE = (5, b"sdfw: 48 Write\n")
+
+
+def is_text(output, whole, period):
+    """Nothing, or the header, or it and the frames of whole periods, which have so many bytes each."""
+    return is_front(output, whole) and (not output or (len(output) >= 44 and (len(output) - 44) % period == 0))
+
+
+def is_front(output, whole):
+    return not output or (whole is not None and whole.startswith(output))
+
+
+def ample_or(fault, period=None, text=True):
+    """The ample answer, or the fault with nothing printed and a text in OUT, or at least a front of one."""
+
+    def allowed(ended, ample, at):
+        if ended.answer() == ample.answer():
+            return True
+        written = is_text(ended.output, ample.output, period or 2) if text else is_front(ended.output, ample.output)
+        return ended.refused() == 1 and ended.fault() == fault and not ended.printed and written
+
+    return allowed
+
+
+def only(fault, period=None, text=True):
+    """The fault alone: a refused call is never passed over."""
+    allowed = ample_or(fault, period, text)
+    return lambda ended, ample, at: ended.answer() != ample.answer() and allowed(ended, ample, at)
+
+
+def printed_or(fault, ample_too):
+    """The fault behind a front of what is printed."""
+
+    def allowed(ended, ample, at):
+        if ended.answer() == ample.answer():
+            return ample_too
+        return ended.fault() == fault and ample.printed.startswith(ended.printed)
+
+    return allowed
