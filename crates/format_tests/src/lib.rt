@@ -20,6 +20,10 @@ mod documents;
 #[cfg(test)]
 mod readings;
 #[cfg(test)]
+mod wav_answers;
+#[cfg(test)]
+mod wav_damaged;
+#[cfg(test)]
 mod wav_devices;
 #[cfg(test)]
 mod wav_files;

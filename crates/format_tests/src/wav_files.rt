@@ -1,5 +1,6 @@
 //! Whole WAV files, read and written.
 
+use crate::wav_answers::answers;
 use sdf_wav::{FormatFault, FromRead, ToWrite, Wav, WavFault, read_wav, write_wav};
 use std::alloc::{AllocError, Global};
 use std::test::Fail;
@@ -9,8 +10,9 @@ pub(crate) const CANONICAL: &[u8; 48] =
     b"RIFF\x28\0\0\0WAVEfmt \x10\0\0\0\x01\0\x01\0\x44\xAC\0\0\x88\x58\x01\0\x02\0\x10\0data\x04\0\0\0\x03\0\xFE\xFF";
 
 /// A list of odd size with its pad byte, and the extensible format of mono at 44,100.
-const EXTENSIBLE: &[u8; 62] =
-    b"LIST\x05\0\0\0\x01\x02\x03\x04\x05\0fmt \x28\0\0\0\xFE\xFF\x01\0\x44\xAC\0\0\x88\x58\x01\0\x02\0\x10\0\x16\0\x10\0\x04\0\0\0\x01\0\0\0\0\0\x10\0\x80\0\0\xAA\0\x38\x9B\x71";
+const EXTENSIBLE: &[u8; 62] = b"LIST\x05\0\0\0\x01\x02\x03\x04\x05\0\
+        fmt \x28\0\0\0\xFE\xFF\x01\0\x44\xAC\0\0\x88\x58\x01\0\x02\0\x10\0\x16\0\x10\0\x04\0\0\0\
+        \x01\0\0\0\0\0\x10\0\x80\0\0\xAA\0\x38\x9B\x71";
 
 /// The plain format of mono at 44,100, and data of two samples.
 const FORMAT: &[u8; 24] = b"fmt \x10\0\0\0\x01\0\x01\0\x44\xAC\0\0\x88\x58\x01\0\x02\0\x10\0";
@@ -23,14 +25,6 @@ fn file_of(alloc: Global, chunks: &[u8], more: &[u8]) -> Result<Vec<u8>, AllocEr
     bytes.extend_from_slice(chunks)?;
     bytes.extend_from_slice(more)?;
     Ok(bytes)
-}
-
-/// The rate and the samples of a file, as one text, or its fault.
-fn answer_to(alloc: Global, bytes: &[u8]) -> Result<String, Fail> {
-    match read_wav(alloc, &mut FromRead::new(bytes)) {
-        Ok(wav) => Ok(format!(in alloc; "{} {:?}", wav.rate(), wav.samples())?),
-        Err(fault) => Ok(format!(in alloc; "{fault}")?),
-    }
 }
 
 #[test]
@@ -107,15 +101,11 @@ fn files(rt: HostRuntime) -> Result<(), Fail> {
     ];
     for (chunks, more, answer) in rows {
         let bytes = file_of(rt.alloc(), chunks, more)?;
-        assert_eq!(rt; answer_to(rt.alloc(), &bytes)?.as_str(), answer);
+        answers(&rt, rt.alloc(), &bytes, answer)?;
     }
-    assert_eq!(rt; answer_to(rt.alloc(), b"RIF")?.as_str(), "43 Truncated");
-    assert_eq!(rt; answer_to(rt.alloc(), b"RIFX")?.as_str(), "34 NotRiff");
-    assert_eq!(rt;
-        answer_to(rt.alloc(), b"RIFF1234WAVI")?.as_str(),
-        "35 NotWave"
-    );
-    Ok(())
+    answers(&rt, rt.alloc(), b"RIF", "43 Truncated")?;
+    answers(&rt, rt.alloc(), b"RIFX", "34 NotRiff")?;
+    answers(&rt, rt.alloc(), b"RIFF1234WAVI", "35 NotWave")
 }
 
 #[test]
@@ -127,11 +117,10 @@ fn chunks_before_the_data(rt: HostRuntime) -> Result<(), Fail> {
     let mut rest = FORMAT.as_slice().to_vec(rt.alloc())?;
     rest.extend_from_slice(DATA)?;
     let most = file_of(rt.alloc(), &lists, &rest)?;
-    assert_eq!(rt; answer_to(rt.alloc(), &most)?.as_str(), "44100 [1, -2]");
+    answers(&rt, rt.alloc(), &most, "44100 [1, -2]")?;
     lists.extend_from_slice(b"LIST\0\0\0\0")?;
     let over = file_of(rt.alloc(), &lists, &rest)?;
-    assert_eq!(rt; answer_to(rt.alloc(), &over)?.as_str(), "45 TooLong");
-    Ok(())
+    answers(&rt, rt.alloc(), &over, "45 TooLong")
 }
 
 #[test]
@@ -139,12 +128,11 @@ fn long_chunk_before_the_data(rt: HostRuntime) -> Result<(), Fail> {
     let mut list = b"LIST\x89\x13\0\0".as_slice().to_vec(rt.alloc())?;
     list.resize(8 + 4_500, 7)?;
     let cut = file_of(rt.alloc(), FORMAT, &list)?;
-    assert_eq!(rt; answer_to(rt.alloc(), &cut)?.as_str(), "43 Truncated");
+    answers(&rt, rt.alloc(), &cut, "43 Truncated")?;
     list.resize(8 + 5_002, 7)?;
     list.extend_from_slice(FORMAT)?;
     let whole = file_of(rt.alloc(), &list, DATA)?;
-    assert_eq!(rt; answer_to(rt.alloc(), &whole)?.as_str(), "44100 [1, -2]");
-    Ok(())
+    answers(&rt, rt.alloc(), &whole, "44100 [1, -2]")
 }
 
 /// More samples than are written at a time.

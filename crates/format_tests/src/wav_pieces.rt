@@ -2,16 +2,17 @@
 
 ghost use Rattle.std.specs.Prelude.{◌≡◌, length};
 
-use crate::devices::{Failing, Full};
-use sdf_wav::{FromRead, ToWrite, Wav, WavFault, WavIn, WavOut, Writer, read_wav, write_wav};
+use crate::wav_answers::MOVES;
+use sdf_wav::{FromRead, ToWrite, Wav, WavFault, WavIn, WavOut, Writer, write_wav};
 use std::alloc::{AllocError, Global};
 use std::test::Fail;
+use test_devices::{Faulty, Slip};
 
 /// Six frames of two channels.
-const FRAMES: [i16; 12] = [1, -1, 2, -2, 3, -3, 4, -4, 5, -5, 6, -6];
+pub(crate) const FRAMES: [i16; 12] = [1, -1, 2, -2, 3, -3, 4, -4, 5, -5, 6, -6];
 
 /// Writes six frames as pieces of one, two and three.
-fn put_pieces<W: Writer>(writer: &mut W, samples: &[i16]) -> Result<(), WavFault>
+pub(crate) fn put_pieces<W: Writer>(writer: &mut W, samples: &[i16]) -> Result<(), WavFault>
     requires { length samples.now ≡ 12 }
 {
     let mut out = WavOut::start(writer, 8_000, 2, 6)?;
@@ -65,11 +66,9 @@ fn headers_that_fit(rt: HostRuntime) -> Result<(), Fail> {
 /// A writer that is full fails once, and is left alone from then on.
 #[test]
 fn spent_wav_out(rt: HostRuntime) -> Result<(), Fail> {
-    let mut writer = Full {
-        taken: Vec::new(rt.alloc()),
-        room: 55,
-        failed: 0,
-    };
+    let taken = Vec::new(rt.alloc());
+    let device = Faulty::slipping(rt.alloc(), taken, 1, Slip::MovesNothing, 56);
+    let mut writer = ToWrite::new(device);
     let samples = FRAMES.as_slice();
     let mut out = WavOut::start(&mut writer, 8_000, 2, 6)?;
     assert_eq!(rt; out.put(&samples[..4]), Ok(()));
@@ -79,8 +78,9 @@ fn spent_wav_out(rt: HostRuntime) -> Result<(), Fail> {
     if first == Err(WavFault::Write) {
         assert_eq!(rt; out.put(&samples[4..8]), Err(WavFault::Write));
     }
-    assert_eq!(rt; writer.failed, 1);
-    assert_eq!(rt; writer.taken.len(), 55);
+    assert_eq!(rt; writer.failed(), 1);
+    let device = writer.into_inner();
+    assert_eq!(rt; (device.device.len(), device.asked.len()), (55, 56));
     Ok(())
 }
 
@@ -99,8 +99,8 @@ fn mono(alloc: Global, data: &[u8]) -> Result<Vec<u8>, AllocError> {
 }
 
 /// All that comes in pieces of so many frames, as one text: the numbers of samples, and a fault.
-fn pieces_of(alloc: Global, bytes: &[u8], frames: usize) -> Result<String, Fail> {
-    let mut reader = FromRead::new(bytes);
+fn pieces_of(alloc: Global, bytes: &[u8], frames: usize, most: usize) -> Result<String, Fail> {
+    let mut reader = FromRead::new(Faulty::moving(alloc, bytes, most));
     let mut input = match WavIn::open(alloc, &mut reader) {
         Ok(input) => input,
         Err(fault) => return Ok(format!(in alloc; "{fault}")?),
@@ -153,24 +153,12 @@ fn read_in_pieces(rt: HostRuntime) -> Result<(), Fail> {
     ];
     for (data, frames, answer) in rows {
         let bytes = mono(rt.alloc(), data)?;
-        assert_eq!(rt; pieces_of(rt.alloc(), &bytes, frames)?.as_str(), answer);
-    }
-    Ok(())
-}
-
-/// A known size that the input does not reach is truncated, whatever it is.
-#[test]
-fn sizes_past_the_end(rt: HostRuntime) -> Result<(), Fail> {
-    for (data, answer) in [
-        (b"data\xFE\xFF\xFF\xFF\x01\0\xFF\xFF", "43 Truncated"),
-        (b"data\xFF\xFF\xFF\xFF\x01\0\xFF\xFF", "2 frames"),
-    ] {
-        let bytes = mono(rt.alloc(), data)?;
-        let text = match read_wav(rt.alloc(), &mut FromRead::new(bytes.as_slice())) {
-            Ok(wav) => format!(in rt.alloc(); "{} frames", wav.frames())?,
-            Err(fault) => format!(in rt.alloc(); "{fault}")?,
-        };
-        assert_eq!(rt; text.as_str(), answer);
+        for most in MOVES {
+            assert_eq!(rt;
+                pieces_of(rt.alloc(), &bytes, frames, most)?.as_str(),
+                answer
+            );
+        }
     }
     Ok(())
 }
@@ -193,17 +181,15 @@ fn pieces_leave_the_rest(rt: HostRuntime) -> Result<(), Fail> {
 #[test]
 fn spent_wav_in(rt: HostRuntime) -> Result<(), Fail> {
     let bytes = mono(rt.alloc(), THREE)?;
-    let mut reader = Failing {
-        reader: FromRead::new(bytes.as_slice()),
-        calls: 5,
-        failed: 0,
-    };
+    let device = Faulty::slipping(rt.alloc(), bytes.as_slice(), usize::MAX, Slip::Fails, 6);
+    let mut reader = FromRead::new(device);
     let mut input = WavIn::open(rt.alloc(), &mut reader)?;
     assert_eq!(rt; input.next(1)?.as_slice(), [1i16].as_slice());
     for _ in 0..3 {
         assert_eq!(rt; input.next(1).err(), Some(WavFault::Read));
     }
-    assert_eq!(rt; reader.failed, 1);
+    assert_eq!(rt; reader.failed(), 1);
+    assert_eq!(rt; reader.into_inner().asked.len(), 6);
     Ok(())
 }
 
@@ -215,7 +201,8 @@ fn pieces_are_the_whole(rt: HostRuntime) -> Result<(), Fail> {
     write_wav(&mut writer, &wav)?;
     let file = writer.into_inner();
     for frames in [1usize, 2, 3, 4, 5, 6, 7] {
-        let mut reader = FromRead::new(file.as_slice());
+        let device = Faulty::moving(rt.alloc(), file.as_slice(), frames);
+        let mut reader = FromRead::new(device);
         let mut input = WavIn::open(rt.alloc(), &mut reader)?;
         assert_eq!(rt;
             (input.rate(), input.channels(), input.frames()),

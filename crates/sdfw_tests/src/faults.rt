@@ -7,8 +7,8 @@ use sdf_process::planning::plan;
 use sdf_process::process::process;
 use sdf_process::{Fault, fault_text, status};
 use sdf_wav::{FromRead, ToWrite};
-use sdf_words::{Options, Runner, WordFault};
-use std::alloc::{AllocError, Global};
+use sdf_words::{Options, Runner};
+use std::alloc::Global;
 use std::process::Abort;
 use std::test::Fail;
 use std::thread::Threads;
@@ -140,29 +140,6 @@ fn designs_have_their_faults(rt: HostRuntime) -> Result<(), Fail> {
         ),
     ] {
         ends(&rt, alloc, run_file(&rt, HALF, &options, b""), 3, text)?;
-    }
-    Ok(())
-}
-
-#[test]
-fn devices_and_memory_have_their_faults(rt: HostRuntime) -> Result<(), Fail> {
-    for (fault, code, text) in [
-        (Fault::from(AllocError), 6, "sdfw: 1 OutOfMemory\n"),
-        (
-            Fault::from(WordFault::from(AllocError)),
-            6,
-            "sdfw: 1 OutOfMemory\n",
-        ),
-        (Fault::InputLength, 3, "sdfw: 29 InputLength\n"),
-        (Fault::NotHomed, 3, "sdfw: 30 NotHomed\n"),
-        (Fault::Patience, 3, "sdfw: 31 Patience\n"),
-        (Fault::NoWorker, 6, "sdfw: 32 NoWorker\n"),
-        (Fault::SessionFailed, 6, "sdfw: 33 SessionFailed\n"),
-        (Fault::Read, 5, "sdfw: 47 Read\n"),
-        (Fault::Write, 5, "sdfw: 48 Write\n"),
-    ] {
-        assert_eq!(rt; fault_text(rt.alloc(), &fault)?.as_str(), text);
-        assert_eq!(rt; status(&fault), code);
     }
     Ok(())
 }

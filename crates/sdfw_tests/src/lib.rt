@@ -9,9 +9,15 @@ mod arguments;
 #[cfg(test)]
 mod cycles;
 #[cfg(test)]
+mod damaged;
+#[cfg(test)]
 mod designs;
 #[cfg(test)]
+mod devices;
+#[cfg(test)]
 mod faults;
+#[cfg(test)]
+mod limits;
 #[cfg(test)]
 mod lines;
 #[cfg(test)]
@@ -28,5 +34,7 @@ mod running;
 mod runs;
 #[cfg(test)]
 mod schedules;
+#[cfg(test)]
+mod texts;
 #[cfg(test)]
 mod words;

@@ -1,0 +1,86 @@
+//! What each way of reading a WAV file answers.
+
+use sdf_wav::{FromRead, Reader, Wav, WavFault, WavIn, read_wav};
+use std::alloc::Global;
+use std::process::Abort;
+use std::test::Fail;
+use test_devices::Faulty;
+
+/// How a file is read.
+#[derive(Clone, Copy, Debug)]
+pub(crate) enum Way {
+    Whole,
+    /// In pieces of so many frames.
+    Pieces(usize),
+}
+
+const WAYS: [Way; 3] = [Way::Whole, Way::Pieces(1), Way::Pieces(2)];
+
+/// The bytes that a call moves at most: what is asked for, or one.
+pub(crate) const MOVES: [usize; 2] = [usize::MAX, 1];
+
+/// Reads a file in pieces up to its end.
+fn read_pieces<R: Reader>(alloc: Global, reader: &mut R, frames: usize) -> Result<Wav, WavFault> {
+    let mut input = WavIn::open(alloc, reader)?;
+    let mut samples = Vec::new(alloc);
+    for _ in 0..u64::MAX {
+        let piece = input.next(frames)?;
+        if piece.is_empty() {
+            break;
+        }
+        if samples.extend_from_slice(&piece).is_err() {
+            return Err(WavFault::OutOfMemory);
+        }
+    }
+    Wav::new(input.rate(), input.channels(), samples)
+}
+
+/// Reads a file.
+pub(crate) fn read_by<R: Reader>(alloc: Global, reader: &mut R, way: Way) -> Result<Wav, WavFault> {
+    match way {
+        Way::Whole => read_wav(alloc, reader),
+        Way::Pieces(frames) => read_pieces(alloc, reader, frames),
+    }
+}
+
+/// The rate and the samples of a file, as one text, or its fault.
+fn text_of(alloc: Global, answer: Result<Wav, WavFault>) -> Result<String, Fail> {
+    match answer {
+        Ok(wav) => Ok(format!(in alloc; "{} {:?}", wav.rate(), wav.samples())?),
+        Err(fault) => Ok(format!(in alloc; "{fault}")?),
+    }
+}
+
+/// Whether a file has this answer, also where a call gives one byte.
+pub(crate) fn answers_by(
+    rt: &impl Abort,
+    alloc: Global,
+    way: Way,
+    bytes: &[u8],
+    answer: &str,
+) -> Result<(), Fail> {
+    for most in MOVES {
+        let mut reader = FromRead::new(Faulty::moving(alloc, bytes, most));
+        let text = text_of(alloc, read_by(alloc, &mut reader, way))?;
+        let len = bytes.len();
+        assert_eq!(rt;
+            text.as_str(),
+            answer,
+            "{len} bytes, {way:?}, {most} a call"
+        );
+    }
+    Ok(())
+}
+
+/// Whether a file has this answer, however it is read.
+pub(crate) fn answers(
+    rt: &impl Abort,
+    alloc: Global,
+    bytes: &[u8],
+    answer: &str,
+) -> Result<(), Fail> {
+    for way in WAYS {
+        answers_by(rt, alloc, way, bytes, answer)?;
+    }
+    Ok(())
+}
