@@ -1,12 +1,37 @@
 -- A row's jobs filled, cell by cell.
-use Rattle.std.proofs.Common.{◌≡◌, ℕ, ◌+◌, ◌≤◌, ◌<◌, List, [], ◌∷◌, ◌++◌, length, get_or, take, drop, refl, sym, ap, ◌∙◌, subst, inl, inr, ◌⊎◌, arith, Option, Some, None}
-use Rattle.std.proofs.lemmas.List.{length-append, length_push, append-nil, take_more, take-append-drop, get_or_append_left, get_or_push}
+use Rattle.std.proofs.Common.{◌≡◌, ℕ, ◌+◌, ◌≤◌, ◌<◌, List, [], ◌∷◌, ◌++◌, length, get_or, set, take, drop, refl, sym, ap, ◌∙◌, subst, inl, inr, ◌⊎◌, arith, Option, Some, None}
+use Rattle.std.proofs.lemmas.List.{get_or_default, get_or-set_same, get_or-set_other, length-set, length-append, length_push, append-nil, take_more, take-append-drop, get_or_append_left, get_or_push}
 use Rattle.std.proofs.lemmas.Bool.{cases_lt}
 use Rattle.sdf_node.specs.declared.node.NodeState.{NodeState}
+use Rattle.sdf_node.specs.Nodes.{phase_at}
 use Rattle.sdf_prec.specs.declared.firing.Firing.{Firing}
 use Rattle.sdf_prec.specs.Tables.{firing, firings, no_firing, cell_of}
 use Rattle.sdf_rows.specs.declared.job.Job.{Job}
 use Rattle.sdf_rows.specs.Stage.{CanLoad, IsFilled, HasLoaded, AreLoaded}
+
+-- a job filled, whatever stands in its actor's place
+module _ {A S T : Type 0} (states : List (NodeState T S)) (jobs : List (Job A T S)) (f : Firing) (many column number : ℕ) (v gone : NodeState T S) (k filled : Job A T S) (known : f.actor < length states) (has : many < length jobs)
+    (is : filled ≡ record (get_or jobs many k) { processor = column; actor = f.actor; firing = number; phase = phase_at (get_or states f.actor v); state = get_or states f.actor v }) where
+  here : (w : NodeState T S) (j : Job A T S) → IsFilled f.actor (get_or states f.actor w) (get_or jobs many j) (get_or (set jobs many filled) many j)
+  here w j =
+      let state = get_or_default states f.actor v w known in
+      let job = get_or_default jobs many k j has in
+      let put = get_or-set_same jobs many filled j has ∙ is in
+      let full : IsFilled f.actor (get_or states f.actor v) (get_or jobs many k) (record (get_or jobs many k) { processor = column; actor = f.actor; firing = number; phase = phase_at (get_or states f.actor v); state = get_or states f.actor v }) =
+      record { actor = refl; phase = refl; state = refl; taken = refl; put = refl } in
+      let there = subst (IsFilled f.actor (get_or states f.actor v) (get_or jobs many k)) (sym put) full in
+      let of_job = subst (λ i. IsFilled f.actor (get_or states f.actor v) i (get_or (set jobs many filled) many j)) job there in
+      subst (λ u. IsFilled f.actor u (get_or jobs many j) (get_or (set jobs many filled) many j)) state of_job
+
+  pub has_loaded : HasLoaded (Some f) states (set states f.actor gone) jobs (set jobs many filled) many (many + 1)
+  has_loaded = (
+    refl,
+    length-set states f.actor gone,
+    length-set jobs many filled,
+    here,
+    λ a w other. get_or-set_other states f.actor a gone w (λ e. other (sym e)),
+    λ i j other. get_or-set_other jobs many i filled j (λ e. other (sym e)),
+  )
 
 firings-append : (xs ys : List (Option Firing)) → firings (xs ++ ys) ≡ firings xs ++ firings ys
 firings-append [] ys = refl

@@ -37,3 +37,9 @@ pub given : {A T : Type 0} (n : Netlist A T) (q : List ℕ) (periods many least 
     least ≡ periods * samples → samples ≡ period_samples n.nodes Inputs q → HasInputs n q periods inputs
 given n q periods many least samples inputs are count long each =
     subst (λ m. AreInputs m (periods * period_samples n.nodes Inputs q) inputs) count (subst (λ l. AreInputs many l inputs) (long ∙ ap (λ m. periods * m) each) are)
+
+-- and the other way
+pub asked : {A T : Type 0} (n : Netlist A T) (q : List ℕ) (periods many least samples : ℕ) (inputs : List (List T)) → HasInputs n q periods inputs → many ≡ list_count Inputs n.nodes →
+    least ≡ periods * samples → samples ≡ period_samples n.nodes Inputs q → AreInputs many least inputs
+asked n q periods many least samples inputs has count long each =
+    subst (λ l. AreInputs many l inputs) (sym (long ∙ ap (λ m. periods * m) each)) (subst (λ m. AreInputs m (periods * period_samples n.nodes Inputs q) inputs) (sym count) has)

@@ -33,9 +33,10 @@ loop-number-preserved c =
     let signed : FitsSigned w64 z = search rules in
     let kept = kept_of (fits c.args.width) (to_z w64 (of_z w64 z)) z v (to_z-of_z w64 z signed) c.in-Some.ensures in
     let short : FitsSigned w32 v = search rules in
-    let items : List ℤ → ℤ → List ℤ = λ xs v. xs ++ v ∷ [] in
-    (c.in_ok-push-in-Some.ensures.items ∙ (ap (items c.loop-number.values.items) (to_z-of_z w32 v short) ∙ ap (λ xs. items xs v) c.loop-number.invariant.0 ∙ (ap (items (take i zs)) kept.0 ∙ sym (take_more zs i (pos 0) c.loop-number-test.true))),
-    list_all_more (fits c.args.width) zs i (pos 0) c.loop-number-test.true ∙ (ap (λ t. t && fits c.args.width z) c.loop-number.invariant.1 ∙ kept.1))
+    let items : List ℤ → ℤ → List ℤ = λ xs v. xs ++ v ∷ [] in (
+      c.in_ok-push-in-Some.ensures.items ∙ (ap (items c.loop-number.values.items) (to_z-of_z w32 v short) ∙ ap (λ xs. items xs v) c.loop-number.invariant.0 ∙ (ap (items (take i zs)) kept.0 ∙ sym (take_more zs i (pos 0) c.loop-number-test.true))),
+      list_all_more (fits c.args.width) zs i (pos 0) c.loop-number-test.true ∙ (ap (λ t. t && fits c.args.width z) c.loop-number.invariant.1 ∙ kept.1),
+    )
 
 pub returns-in-None : goal.returns-in-None
 returns-in-None c =

@@ -1,9 +1,10 @@
-use Rattle.std.proofs.Common.{◌*◌, refl, ap, ◌∙◌, arith}
+use Rattle.std.proofs.Common.{◌*◌, ◌<◌, false, refl, ap, ◌∙◌, subst, arith}
+use Rattle.std.proofs.lemmas.Bool.{both_ways}
 use Rattle.sdf_graph.specs.Rates.{rates}
 use Rattle.sdf_actor.specs.Graphs.{graph_of}
 use Rattle.sdf_actor.specs.Wires.{lists}
 use Rattle.sdf_rows.proofs.Counts.{rows_few}
-use Rattle.sdf_rows.proofs.Readings.{given}
+use Rattle.sdf_rows.proofs.Readings.{given, asked}
 use Rattle.sdf_rows.proofs.feed.feed_rows.Goals as goal
 
 pub rounds_of-rounds-requires : goal.rounds_of-rounds-requires
@@ -18,3 +19,32 @@ returns g c =
       c.in_ok-outputs.ensures,
       c.rounds_of-rounds.ensures ∙ ap (λ m. c.args.blocks * m) c.rows.ensures,
     )
+
+pub samples_of_blocks-least-requires-clause-short : goal.samples_of_blocks-least-requires-clause-short
+samples_of_blocks-least-requires-clause-short g c = c.requires.table.size.factor.1
+
+pub samples_of_blocks-least-requires-clause-few : goal.samples_of_blocks-least-requires-clause-few
+samples_of_blocks-least-requires-clause-few g c = c.samples_in.ensures.few
+
+pub returns-then-not-are_inputs : goal.returns-then-not-are_inputs
+returns-then-not-are_inputs g c = λ has.
+    let q = c.args.period.now.repetitions in
+    both_ways false refl
+    (c.if-not-are_inputs.ensures.1
+    (asked c.args.net.now q (c.args.blocks * c.args.j) c.inputs.result c.samples_of_blocks-least.result c.samples_in.result (lists c.args.inputs.now) has c.inputs.ensures c.samples_of_blocks-least.ensures
+    (c.samples_in.ensures.value q c.requires.period.least)))
+
+pub fill-requires-clause-period : goal.fill-requires-clause-period
+fill-requires-clause-period g c = λ κs within. c.requires.period
+
+pub fill-requires-clause-table : goal.fill-requires-clause-table
+fill-requires-clause-table g c = λ κs within. c.requires.table
+
+pub fill-requires-clause-inputs : goal.fill-requires-clause-inputs
+fill-requires-clause-inputs g c = λ κs within.
+    let q = c.args.period.now.repetitions in
+    given c.args.net.now q (c.args.blocks * c.args.j) c.inputs.result c.samples_of_blocks-least.result c.samples_in.result (lists c.args.inputs.now) (c.if-not-are_inputs.ensures.0 refl) c.inputs.ensures c.samples_of_blocks-least.ensures
+    (c.samples_in.ensures.value q c.requires.period.least)
+
+pub fill-requires-clause-some : goal.fill-requires-clause-some
+fill-requires-clause-some g c = λ κs within. subst (λ m. 0 < m) (c.samples_in.ensures.value c.args.period.now.repetitions c.requires.period.least) c.samples_in.ensures.some

@@ -1,6 +1,8 @@
 use Rattle.std.proofs.Common.{◌≡◌, ◌*◌, ◌≤◌, ◌++◌, ℕ, length, get_or, take, drop, ap, sym, ◌∙◌, subst, arith}
 use Rattle.std.specs.Prelude.{sum}
 use Rattle.std.proofs.Math.ListN.{get_or-map}
+use Rattle.std.proofs.lemmas.List.{length-map}
+use Rattle.std.proofs.lemmas.List.Sums.{get_or-le-sum_by}
 use Rattle.std.proofs.Math.Seq.{take-append_seam}
 use Rattle.sdf_limits.specs.declared.TheConstants.{MOST_BLOCK}
 use Rattle.sdf_graph.specs.Rates.{rates}
@@ -8,6 +10,7 @@ use Rattle.sdf_graph.specs.Periods.{IsLeastPeriod}
 use Rattle.sdf_actor.specs.Graphs.{graph_of}
 use Rattle.sdf_actor.specs.Wires.{lists}
 use Rattle.sdf_answer.specs.Periods.{CanRun}
+use Rattle.sdf_answer.specs.Rows.{IsTableOf}
 use Rattle.sdf_rows.specs.Blocks.{IsResting}
 use Rattle.sdf_rows.proofs.Readings.{vec_long}
 use Rattle.sdf_rows.proofs.Ends.{begins, have_blocks, the_none}
@@ -63,3 +66,40 @@ returns g c =
       subst (λ v. IsResting s n (lists c.args.inputs.now) p.period.now.repetitions p.j p.blocks p.blocks k v (take c.in_ok-queues.queues.len (held ++ drop (length held) c.in_ok-queues.queues.items))) (sym whole)
           (subst (λ v. IsResting s n (lists c.args.inputs.now) p.period.now.repetitions p.j p.blocks p.blocks k made v) (sym held_whole) rest),
     )
+
+pub run_blocks-requires-clause-scene : goal.run_blocks-requires-clause-scene
+run_blocks-requires-clause-scene g c = λ κs within. record { good = c.net_facts.ensures.net; sizes = c.in_ok-sizes.ensures }
+
+pub run_blocks-requires-clause-graph : goal.run_blocks-requires-clause-graph
+run_blocks-requires-clause-graph g c = λ κs within. c.net_facts.ensures.graph
+
+pub run_blocks-requires-clause-alike : goal.run_blocks-requires-clause-alike
+run_blocks-requires-clause-alike g c = λ κs within. c.net_facts.ensures.alike
+
+pub run_blocks-requires-clause-period : goal.run_blocks-requires-clause-period
+run_blocks-requires-clause-period g c = λ κs within. subst (IsLeastPeriod (rates (graph_of g.A.Actor.steps c.args.net.now))) (sym c.repetitions-repetitions.ensures) c.requires.period.least
+
+pub run_blocks-requires-clause-table : goal.run_blocks-requires-clause-table
+run_blocks-requires-clause-table g c = λ κs within.
+    subst (λ q. IsTableOf (rates (graph_of g.A.Actor.steps c.args.net.now)) q c.args.plan.now.j c.args.plan.now.table.now) (sym c.repetitions-repetitions.ensures) c.requires.table
+
+pub run_blocks-requires-clause-counted : goal.run_blocks-requires-clause-counted
+run_blocks-requires-clause-counted g c = λ κs within.
+    ap length (c.deref_mut-4.ensures.value ∙ c.in_ok-done.ensures) ∙ (length-map c.repetitions-repetitions.result.now (λ (x : ℕ). the_none) ∙ (ap length c.repetitions-repetitions.ensures ∙ c.requires.period.least.is.all))
+
+pub make_queues-requires-clause-all : goal.make_queues-requires-clause-all
+make_queues-requires-clause-all g c = λ κs within. ap length c.repetitions-repetitions.ensures ∙ c.requires.period.least.is.all
+
+pub make_queues-requires-clause-short : goal.make_queues-requires-clause-short
+make_queues-requires-clause-short g c = λ κs within. λ a l.
+    let q = c.repetitions-repetitions.result.now in
+    omega (arith, get_or-le-sum_by (λ x. x) q a 0 l, ap sum c.repetitions-repetitions.ensures, c.requires.period.all, c.requires.period.within)
+
+pub make_queues-requires-clause-few : goal.make_queues-requires-clause-few
+make_queues-requires-clause-few g c = λ κs within. omega (arith, c.requires.table.size.factor.1)
+
+pub samples_of_blocks-room-requires-clause-short : goal.samples_of_blocks-room-requires-clause-short
+samples_of_blocks-room-requires-clause-short g c = c.requires.table.size.factor.1
+
+pub samples_of_blocks-room-requires-clause-few : goal.samples_of_blocks-room-requires-clause-few
+samples_of_blocks-room-requires-clause-few g c = c.samples_out.ensures.few

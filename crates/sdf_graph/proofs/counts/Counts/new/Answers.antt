@@ -16,10 +16,11 @@ loop-channel-preserved c =
     let is : c.channel-item.result ≡ get_or c.args.graph.now.channels i no_channel = read ∙ ap (λ (es : List Edge). get_or es i no_channel) all in
     let first = ap (λ (e : Edge). e.initial) c.channel.view_is in
     let items = c.in_ok-push.ensures.items ∙ ap (λ n. c.loop-channel.held.items ++ n ∷ []) first in
-    let inv = c.loop-channel.invariant in
-    (omega (arith, ap length items, length_push c.loop-channel.held.items c.channel-item.result.initial, inv.0),
-    subst (λ (xs : List ℕ). (d : ℕ) → d < i + 1 → get_or xs d 0 ≡ (get_or c.args.graph.now.channels d no_channel).initial) (sym items)
-    (begins_more c.args.graph.now.channels c.loop-channel.held.items i c.channel-item.result inv.0 is inv.1))
+    let inv = c.loop-channel.invariant in (
+      omega (arith, ap length items, length_push c.loop-channel.held.items c.channel-item.result.initial, inv.0),
+      subst (λ (xs : List ℕ). (d : ℕ) → d < i + 1 → get_or xs d 0 ≡ (get_or c.args.graph.now.channels d no_channel).initial) (sym items)
+          (begins_more c.args.graph.now.channels c.loop-channel.held.items i c.channel-item.result inv.0 is inv.1),
+    )
 
 pub invariant_of-result : goal.invariant_of-result
 invariant_of-result c =
