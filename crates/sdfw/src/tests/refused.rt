@@ -181,23 +181,37 @@ impl Write for Closed {
     }
 }
 
-/// Whether a command whose answer is refused, for want of memory or for another cause, ends by that fault.
-fn answer_is_refused(
-    rt: &(impl Abort + Files + Threads + AllocGlobal + Sync),
+/// How a command ends whose answer is refused by this kind of error.
+fn ends_closed(
+    rt: &(impl Files + Threads + AllocGlobal + Sync),
+    kind: ErrorKind,
     line: &[&str],
-) -> Result<(), Fail> {
+) -> Result<(u8, String), Fail> {
     let world = World {
         storage: &Disk { rt },
         threads: rt,
         most: MOST_BYTES,
     };
-    for (kind, code, text) in [
-        (ErrorKind::BrokenPipe, 5, "sdfw: 48 Write\n"),
-        (ErrorKind::OutOfMemory, 6, "sdfw: 1 OutOfMemory\n"),
-    ] {
-        let (status, said) = ends_into(&world, &mut Closed { kind }, line)?;
-        assert_eq!(rt; (status, said.as_str()), (code, text), "{line:?}");
-    }
+    ends_into(&world, &mut Closed { kind }, line)
+}
+
+/// Whether it ends by the fault that it has to, for want of memory and for another cause.
+fn answer_is_refused(
+    rt: &(impl Abort + Files + Threads + AllocGlobal + Sync),
+    line: &[&str],
+) -> Result<(), Fail> {
+    let (status, said) = ends_closed(rt, ErrorKind::BrokenPipe, line)?;
+    assert_eq!(rt;
+        (status, said.as_str()),
+        (5, "sdfw: 48 Write\n"),
+        "{line:?}"
+    );
+    let (status, said) = ends_closed(rt, ErrorKind::OutOfMemory, line)?;
+    assert_eq!(rt;
+        (status, said.as_str()),
+        (6, "sdfw: 1 OutOfMemory\n"),
+        "{line:?}"
+    );
     Ok(())
 }
 
