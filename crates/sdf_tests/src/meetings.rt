@@ -1,8 +1,8 @@
 //! Workers that meet: a gate holds a firing until others have begun.
 
 use crate::kits::{branches, dealt};
-use crate::nets::{planned, ramp, run_by};
-use sdf_run::{Mode, Session, run_one};
+use crate::nets::{feed_twice, planned, ramp, run_by};
+use sdf_run::{Mode, run_one};
 use std::process::Abort;
 use std::test::Fail;
 use std::thread::Threads;
@@ -54,13 +54,10 @@ fn missed_in_feeds<R: Abort + Threads + AllocGlobal + Sync>(
 ) -> Result<u64, Fail> {
     let alloc = rt.alloc();
     let net = dealt(alloc)?;
-    let (period, table) = planned(alloc, &net, 1, 2, true)?;
+    let plan = planned(alloc, &net, 1, 2, true)?;
+    let inputs = ramp(alloc, 0, 12, 0)?;
     let watch = Watch::new(alloc, 2, 4, ACROSS)?;
-    let mut session = Session::open(alloc, &net, &period, 1, &table, mode)?;
-    for (from, to) in [(0, 12), (12, 24)] {
-        watch.anew();
-        session.feed(rt, &ramp(alloc, from, to, 0)?, &watch)?;
-    }
+    feed_twice(rt, &net, &plan, 1, mode, &inputs, &watch)?;
     assert_eq!(rt; watch.odd(), 0);
     Ok(watch.missed())
 }

@@ -11,13 +11,14 @@ use sdf_kit::Kit;
 use sdf_node::Gate;
 use sdf_prec::hu::hu;
 use sdf_prec::{Costs, Table};
-use sdf_run::{Mode, Ran, RunFault, run_rings, run_rows};
+use sdf_run::{Mode, Ran, RunFault, Session, run_rings, run_rows};
 use sdf_sched::class_s::class_s;
 use sdf_sched::{Period, Round};
 use std::alloc::{AllocError, Global};
 use std::test::Fail;
 use std::thread::Threads;
 use test_actors::Sum;
+use test_actors::gates::Watch;
 use test_actors::nets::{links, sink, source};
 
 /// One list of samples.
@@ -162,4 +163,24 @@ pub(crate) fn run_by<R: Threads + AllocGlobal + Sync, A: Actor, G: Gate>(
             run_rings(rt, net, &plan.0, j, &plan.1, blocks, inputs, patience, gate)
         }
     }
+}
+
+/// Feeds a session blocks of `j` periods, twice, with this gate: each feed numbers its firings anew.
+pub(crate) fn feed_twice<R: Threads + AllocGlobal + Sync, A: Actor>(
+    rt: &R,
+    net: &Net<A>,
+    plan: &(Period, Table),
+    j: u32,
+    mode: Mode,
+    inputs: &[Vec<A::Token>],
+    watch: &Watch,
+) -> Result<(), RunFault>
+    requires period { IsPeriodOf (rates (graph_of A.steps net.now)) plan.now.0 }
+    requires table { IsTableOf (rates (graph_of A.steps net.now)) plan.now.0.repetitions j plan.now.1 }
+{
+    let mut session = Session::open(rt.alloc(), net, &plan.0, j, &plan.1, mode)?;
+    session.feed(rt, inputs, watch)?;
+    watch.anew();
+    session.feed(rt, inputs, watch)?;
+    Ok(())
 }

@@ -5,10 +5,10 @@ ghost use Rattle.sdf_sched.specs.Period.{IsPeriodOf};
 ghost use Rattle.sdf_actor.specs.Graphs.{graph_of};
 ghost use Rattle.sdf_answer.specs.Rows.{IsTableOf};
 
-use crate::nets::{in_runs, list, planned, run_by};
+use crate::nets::{feed_twice, in_runs, list, planned, run_by};
 use sdf_actor::{Actor, Net, Node};
 use sdf_prec::Table;
-use sdf_run::{Mode, RunFault, Session};
+use sdf_run::Mode;
 use sdf_sched::Period;
 use std::alloc::Global;
 use std::process::Abort;
@@ -79,25 +79,6 @@ fn all_passed(rt: &impl Abort, watch: &Watch, table: &Table, blocks: u64) {
     }
 }
 
-/// Feeds a session two blocks of two periods, twice, with this gate: each feed numbers its firings anew.
-fn feed<R: Threads + AllocGlobal + Sync, A: Actor>(
-    rt: &R,
-    net: &Net<A>,
-    plan: &(Period, Table),
-    mode: Mode,
-    inputs: &[Vec<A::Token>],
-    watch: &Watch,
-) -> Result<(), RunFault>
-    requires period { IsPeriodOf (rates (graph_of A.steps net.now)) plan.now.0 }
-    requires table { IsTableOf (rates (graph_of A.steps net.now)) plan.now.0.repetitions 2 plan.now.1 }
-{
-    let mut session = Session::open(rt.alloc(), net, &plan.0, 2, &plan.1, mode)?;
-    session.feed(rt, inputs, watch)?;
-    watch.anew();
-    session.feed(rt, inputs, watch)?;
-    Ok(())
-}
-
 /// Whether each firing passes once, in a run and in feeds.
 fn all_pass<R: Abort + Threads + AllocGlobal + Sync, A: Actor>(
     rt: &R,
@@ -113,7 +94,7 @@ fn all_pass<R: Abort + Threads + AllocGlobal + Sync, A: Actor>(
     run_by(rt, net, plan, 2, 2, inputs, mode, watch)?;
     all_passed(rt, watch, &plan.1, 2);
     watch.anew();
-    feed(rt, net, plan, mode, inputs, watch)?;
+    feed_twice(rt, net, plan, 2, mode, inputs, watch)?;
     all_passed(rt, watch, &plan.1, 6);
     Ok(())
 }

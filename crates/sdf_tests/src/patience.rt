@@ -10,10 +10,10 @@ use std::thread;
 use std::thread::Threads;
 
 /// A firing waits for so many turns at most, and then goes on.
-const TURNS: u32 = 200_000;
+const TURNS: u32 = 2_000_000;
 
 /// A worker whose firing has begun does that firing and tests for the next one within so many turns of another.
-const PAUSE: u32 = 20_000;
+const PAUSE: u32 = 50_000;
 
 /// Holds the source's first firing until the sink's has begun, and for a while: so long there is nothing more for the sink.
 #[derive(Drop)]

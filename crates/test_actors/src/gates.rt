@@ -8,7 +8,7 @@ use std::sync::atomic::{AtomicU64, Ordering};
 use std::thread;
 
 /// A firing is held for so many turns at most.
-const TURNS: u32 = 200_000;
+const TURNS: u32 = 2_000_000;
 
 /// Which firings are held, and until when: firing `first` of each actor that is held, and the `many` from there on, until each actor
 /// that is awaited has begun its firing of that number, `ahead` more.
