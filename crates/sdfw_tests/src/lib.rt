@@ -17,8 +17,6 @@ mod devices;
 #[cfg(test)]
 mod faults;
 #[cfg(test)]
-mod limits;
-#[cfg(test)]
 mod lines;
 #[cfg(test)]
 mod meetings;
