@@ -52,6 +52,11 @@ def crates_for(root, names):
     return [it for it in crates if not names or it.name in wanted]
 
 
+def memory(crate, jobs):
+    """The bytes that a check is likely to take: as rt ci plans, a process for each job."""
+    return rt.need(crate) * (1 + 0.6 * (jobs - 1))
+
+
 def side_by_side(crates, work, lanes, jobs_for_one):
     """Calls work(crate, jobs) for each crate once all below it are done, the longest chain of crates above it first, and
     returns the names of those that failed or were not tried. Lanes that no crate waits for go to those that begin."""
@@ -67,11 +72,11 @@ def side_by_side(crates, work, lanes, jobs_for_one):
             ready = [it for it in left if all(below.name in done for below in it.below())]
             for at, crate in enumerate(ready):
                 idle = lanes - sum(jobs for _, jobs in running.values())
-                held = sum(it.need() for it, _ in running.values())
+                held = sum(memory(*it) for it in running.values())
                 if any(done[below.name] for below in crate.below()):
                     left.remove(crate)
                     done[crate.name] = 1
-                elif idle > 0 and (not running or held + crate.need() <= room):
+                elif idle > 0 and (not running or held + memory(crate, 1) <= room):
                     left.remove(crate)
                     jobs = max(1, min(jobs_for_one, idle // (len(ready) - at)))
                     running[pool.submit(work, crate, jobs)] = crate, jobs
