@@ -1,8 +1,8 @@
 //! What no clause says of files: worked WAV files, whole and in pieces, over devices that fail, and worked documents and designs.
 //!
-//! It stands on `sdf_wav`, `sdf_document` and `sdf_file`, and has no functions: tests stand in a crate of their own, since the functions of
-//! a crate are proved once more with its tests. Begin at `wav_files` and `documents`. That the table of kinds in `docs/FORMATS.md` is the one
-//! that the reader follows is proved: `document_kinds`, by `specs/KindTable.antt`.
+//! It stands on `sdf_wav`, `sdf_document`, `sdf_file` and `test_devices`, and has no functions: tests stand in a crate
+//! of their own, since a crate's functions are proved once more with its tests. Begin at `wav_files` and `documents`.
+//! The table of kinds in `docs/FORMATS.md` is proved to be the reader's: `document_kinds`, by `specs/KindTable.antt`.
 #![tactic(auto)]
 
 #[cfg(test)]

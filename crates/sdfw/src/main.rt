@@ -2,7 +2,7 @@
 //!
 //! It stands on `sdf_words`, which reads the command line, on `sdf_process`, which plans and runs a design, and on
 //! `sdf_file`, which reads it; here are the files and what is printed. `main` names the streams, the arguments and the
-//! files of the system, and hands them to `program::serve`: begin there, then `files`, `overwriting` and `storage`.
+//! files of the system. Begin at `program::serve`, which gets them, then `files`, `overwriting` and `storage`.
 //! What the project is for is the contract of `sdf_process::process`. What reads and writes a WAV file's bytes is a
 //! device of `sdf_wav`.
 #![tactic(auto)]
