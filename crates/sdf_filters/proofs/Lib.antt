@@ -1,0 +1,3 @@
+pub mod PhaseSums
+pub mod Splits
+pub mod Values

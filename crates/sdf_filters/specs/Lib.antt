@@ -1,0 +1,5 @@
+pub mod Phases
+pub mod Asked
+pub mod Lowpass
+pub mod Stages
+pub mod Coefficients
