@@ -1,3 +1,4 @@
 pub mod PhaseSums
 pub mod Splits
 pub mod Values
+pub mod Counts

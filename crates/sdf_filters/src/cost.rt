@@ -5,7 +5,8 @@
 //! much; so its products a second are its taps, divided by `up`, times s. One with more taps than a filter may have, or
 //! whose s is below the lower rate, can't be taken. What a split costs is the sum over its stages.
 
-ghost use Rattle.std.specs.Prelude.{◌<◌};
+ghost use Rattle.std.specs.Prelude.{IfSome};
+ghost use Rattle.sdf_filters.specs.Stages.{IsPart};
 
 use crate::ratio::{PLACES, Ratio};
 use crate::stage::Stage;
@@ -28,12 +29,19 @@ pub(crate) struct Weights {
     taps: f64,
 }
 
+/// What the cheapest split costs, infinitely much where there is none, and the place of its first stage.
+#[derive(Clone, Copy)]
+pub(crate) struct Best {
+    cost: f64,
+    place: u32,
+}
+
 impl Weights {
     /// Those of a conversion between two rates, with this attenuation in dB.
     pub(crate) fn new(from: f64, to: f64, attenuation: f64) -> Weights {
         Weights {
             lower: from.min(to),
-            taps: (attenuation - 7.95) / (2.285 * TAU),
+            taps: (attenuation - 7.95).max(1.0) / (2.285 * TAU),
         }
     }
 
@@ -52,55 +60,50 @@ impl Weights {
         }
     }
 
-    /// What a ratio costs in one stage.
-    fn whole(self, rate: f64, left: Ratio) -> f64 {
-        if left.sum() == 2 {
+    /// A ratio in one stage.
+    fn whole(self, rate: f64, left: Ratio) -> Best {
+        if left.up > MOST_FACTOR || left.down > MOST_FACTOR {
+            return Best {
+                cost: f64::INFINITY,
+                place: 0,
+            };
+        }
+        let place = left.up.saturating_sub(1) * MOST_FACTOR + left.down.saturating_sub(1);
+        let cost = if place == 0 {
             0.0
-        } else if left.up > MOST_FACTOR || left.down > MOST_FACTOR {
-            f64::INFINITY
         } else {
             self.stage(rate, left.up, left.down)
-        }
+        };
+        Best { cost, place }
     }
 
-    /// What a ratio costs whose first stage is the one at a place, with the others as cheap as they come in so many
-    /// stages.
-    fn from_place(self, rate: f64, left: Ratio, place: u32, stages: u32) -> f64
-        requires { place < PLACES }
-    {
-        match left.part(place) {
-            Some(stage) => {
-                let put = rate * f64::from(stage.up) / f64::from(stage.down);
-                self.stage(rate, stage.up, stage.down) + self.least(put, left.after(stage), stages)
-            }
-            None => f64::INFINITY,
-        }
-    }
-
-    /// What a ratio costs as cheap as it comes in so many stages, or fewer.
-    fn least(self, rate: f64, left: Ratio, stages: u32) -> f64 {
-        let mut least = self.whole(rate, left);
+    /// The cheapest split of a ratio into so many stages, or fewer.
+    fn best(self, rate: f64, left: Ratio, stages: u32) -> Best {
+        let mut best = self.whole(rate, left);
         if stages > 1 {
             for place in 1..PLACES {
-                least = least.min(self.from_place(rate, left, place, stages - 1));
-            }
-        }
-        least
-    }
-
-    /// The place of the first stage of the cheapest split, or 0 where no split is found.
-    pub(crate) fn first(self, rate: f64, left: Ratio) -> u32
-        ensures { result < PLACES }
-    {
-        let mut best = 0;
-        let mut least = f64::INFINITY;
-        for place in 1..PLACES {
-            let cost = self.from_place(rate, left, place, MOST_STAGES - 1);
-            if cost < least {
-                least = cost;
-                best = place;
+                if let Some(stage) = left.part(place) {
+                    let put = rate * f64::from(stage.up) / f64::from(stage.down);
+                    let rest = self.best(put, left.after(stage), stages - 1);
+                    let cost = self.stage(rate, stage.up, stage.down) + rest.cost;
+                    if cost < best.cost {
+                        best = Best { cost, place };
+                    }
+                }
             }
         }
         best
+    }
+
+    /// The first stage of the cheapest split of a ratio.
+    pub(crate) fn first(self, rate: f64, left: Ratio) -> Option<Stage>
+        ensures { IfSome result (IsPart left.up left.down) }
+    {
+        let best = self.best(rate, left, MOST_STAGES);
+        if best.cost < f64::INFINITY {
+            left.part(best.place)
+        } else {
+            None
+        }
     }
 }

@@ -9,7 +9,7 @@ use crate::sinc::beyond;
 use sdf_limits::MOST_TAPS;
 
 /// A tap is moved no further than this.
-const FARTHEST: i32 = 65_536;
+const FARTHEST: u32 = 65_536;
 
 /// A tap where its place is one of the phase, else 0.
 fn counted(up: usize, phase: usize, place: usize, tap: i32) -> i32
@@ -122,7 +122,7 @@ fn step_tap(taps: &mut [i32], place: usize, rise: bool) -> Result<(), FilterFaul
     ensures fault { IfErr result IsTapFault }
 {
     let tap = taps[place];
-    if tap.unsigned_abs() > FARTHEST.unsigned_abs() {
+    if tap.unsigned_abs() > FARTHEST {
         return Err(past_16_bits(tap));
     }
     taps[place] = stepped(tap, rise);

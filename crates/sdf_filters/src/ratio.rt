@@ -67,14 +67,16 @@ impl Ratio {
 
     /// The stage at a place, where it is a part of the ratio. At place 0 is the stage that does nothing.
     pub(crate) fn part(self, place: u32) -> Option<Stage>
-        requires { place < PLACES }
         ensures { IfSome result (IsPart self.up self.down) }
     {
+        if place == 0 || place >= PLACES {
+            return None;
+        }
         let stage = Stage {
             up: place / MOST_FACTOR + 1,
             down: place % MOST_FACTOR + 1,
         };
-        if place > 0 && self.up % stage.up == 0 && self.down % stage.down == 0 {
+        if self.up % stage.up == 0 && self.down % stage.down == 0 {
             Some(stage)
         } else {
             None

@@ -74,7 +74,7 @@ fn next_stage(left: Ratio, weights: Weights, rate: f64) -> Result<Stage, FilterF
     requires some { 2 < left.up + left.down }
     ensures { MatchResult result (IsPart left.up left.down) (IsPartFault left.up left.down) }
 {
-    match left.part(weights.first(rate, left)) {
+    match weights.first(rate, left) {
         Some(stage) => Ok(stage),
         None => least_part(left),
     }
