@@ -1,5 +1,6 @@
 -- Numbers of taps in whole phases.
-use Rattle.std.proofs.Common.{◌≡◌, ℕ, ◌+◌, ◌-◌, ◌*◌, ◌/◌, ◌%◌, ◌<◌, ◌≤◌, ◌⊎◌, inl, inr, sym, ◌∙◌, mod-lt, mod-eq_of_lt, div-add-mod', arith}
+use Rattle.std.proofs.Common.{◌≡◌, ℕ, ◌+◌, ◌-◌, ◌*◌, ◌/◌, ◌%◌, ◌<◌, ◌≤◌, ◌⊎◌, inl, inr, sym, ◌∙◌, mod-lt, mod-eq_of_lt}
+use Rattle.std.proofs.Common.{div-add-mod', arith}
 use Rattle.std.proofs.lemmas.Bool.{cases_lt}
 
 -- a number made up to whole phases is no less

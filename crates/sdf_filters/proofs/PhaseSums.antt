@@ -1,5 +1,7 @@
 -- What the taps of a phase come to where one tap moves.
-use Rattle.std.proofs.Common.{◌≡◌, ℕ, zero, suc, ◌+◌, ◌-◌, ◌<◌, ◌≤◌, ◌%◌, ◌⊎◌, inl, inr, Bool, true, false, cond, eqb, ℤ, pos, negsuc, ◌+ℤ◌, ◌-ℤ◌, unsigned_abs, FitsSigned, List, length, get_or, set, refl, sym, ap, ◌∙◌, arith}
+use Rattle.std.proofs.Common.{◌≡◌, ℕ, zero, suc, ◌+◌, ◌-◌, ◌<◌, ◌≤◌, ◌%◌, ◌⊎◌, inl, inr, Bool, true, false, cond, eqb}
+use Rattle.std.proofs.Common.{ℤ, pos, negsuc, ◌+ℤ◌, ◌-ℤ◌, unsigned_abs, FitsSigned, List, length, get_or, set, refl}
+use Rattle.std.proofs.Common.{sym, ap, ◌∙◌, arith}
 use Rattle.std.specs.Prelude.{int_lt}
 use Rattle.std.specs.Int.{w16}
 use Rattle.std.proofs.lemmas.Int.{ints}
@@ -13,7 +15,8 @@ pub sum_before-zero : (h : List ℤ) (up phase : ℕ) → sum_before h up phase 
 unfolding sum_before
 sum_before-zero h up phase = refl
 
-pub sum_before_more : (h : List ℤ) (up phase n : ℕ) → sum_before h up phase (n + 1) ≡ sum_before h up phase n +ℤ counted up phase n (tap h n)
+pub sum_before_more : (h : List ℤ) (up phase n : ℕ) →
+    sum_before h up phase (n + 1) ≡ sum_before h up phase n +ℤ counted up phase n (tap h n)
 unfolding sum_before
 sum_before_more h up phase n = let e : n + 1 ≡ suc n = omega arith in rw e refl
 
@@ -24,7 +27,8 @@ counted_here : (up phase n : ℕ) (x : ℤ) → n % up ≡ phase → counted up 
 counted_here up phase n x here = grind (arith, nat_tests)
 
 -- a tap at a later place
-before : (h : List ℤ) (up phase k : ℕ) (x : ℤ) (n : ℕ) → n ≤ k → sum_before (set h k x) up phase n ≡ sum_before h up phase n
+before : (h : List ℤ) (up phase k : ℕ) (x : ℤ) (n : ℕ) → n ≤ k →
+    sum_before (set h k x) up phase n ≡ sum_before h up phase n
 unfolding sum_before
 before h up phase k x zero early = refl
 before h up phase k x (suc n) early =
@@ -33,7 +37,8 @@ before h up phase k x (suc n) early =
     rw (ih, same) refl
 
 -- a tap of another phase
-elsewhere : (h : List ℤ) (up phase k : ℕ) (x : ℤ) (n : ℕ) → (k % up ≡ phase → ⊥) → sum_before (set h k x) up phase n ≡ sum_before h up phase n
+elsewhere : (h : List ℤ) (up phase k : ℕ) (x : ℤ) (n : ℕ) → (k % up ≡ phase → ⊥) →
+    sum_before (set h k x) up phase n ≡ sum_before h up phase n
 unfolding sum_before
 elsewhere h up phase k x zero other = refl
 elsewhere h up phase k x (suc n) other =
@@ -52,25 +57,34 @@ unfolding sum_before
 here h up phase k d zero within is past = absurd (omega arith)
 here h up phase k d (suc n) within is past = go (cases_eq n k)
   where
-    go : (n ≡ k) ⊎ (n ≡ k → ⊥) → sum_before (set h k (tap h k +ℤ d)) up phase (suc n) ≡ sum_before h up phase (suc n) +ℤ d
+    go : (n ≡ k) ⊎ (n ≡ k → ⊥) → sum_before (set h k (tap h k +ℤ d)) up phase (suc n) ≡
+        sum_before h up phase (suc n) +ℤ d
     go (inl e) =
-        let first : sum_before (set h k (tap h k +ℤ d)) up phase n ≡ sum_before h up phase n = before h up phase k (tap h k +ℤ d) n (omega arith) in
+        let first : sum_before (set h k (tap h k +ℤ d)) up phase n ≡ sum_before h up phase n =
+        before h up phase k (tap h k +ℤ d) n (omega arith) in
         let place : n % up ≡ phase = ap (λ m. m % up) e ∙ is in
         let old : counted up phase n (tap h n) ≡ tap h n = counted_here up phase n (tap h n) place in
-        let new : counted up phase n (tap (set h k (tap h k +ℤ d)) n) ≡ tap (set h k (tap h k +ℤ d)) n = counted_here up phase n (tap (set h k (tap h k +ℤ d)) n) place in
-        let moved : tap (set h k (tap h k +ℤ d)) n ≡ tap h n +ℤ d = ap (tap (set h k (tap h k +ℤ d))) e ∙ (get_or-set_same h k (tap h k +ℤ d) (pos 0) within ∙ ap (λ m. tap h m +ℤ d) (sym e)) in
+        let new : counted up phase n (tap (set h k (tap h k +ℤ d)) n) ≡ tap (set h k (tap h k +ℤ d)) n =
+        counted_here up phase n (tap (set h k (tap h k +ℤ d)) n) place in
+        let moved : tap (set h k (tap h k +ℤ d)) n ≡ tap h n +ℤ d =
+        ap (tap (set h k (tap h k +ℤ d))) e ∙ (get_or-set_same h k (tap h k +ℤ d) (pos 0) within
+        ∙ ap (λ m. tap h m +ℤ d) (sym e)) in
         rw (first, new, moved, old) (omega (arith, ints))
     go (inr ne) =
-        let ih : sum_before (set h k (tap h k +ℤ d)) up phase n ≡ sum_before h up phase n +ℤ d = here h up phase k d n within is (omega arith) in
+        let ih : sum_before (set h k (tap h k +ℤ d)) up phase n ≡ sum_before h up phase n +ℤ d =
+        here h up phase k d n within is (omega arith) in
         let same : tap (set h k (tap h k +ℤ d)) n ≡ tap h n = get_or-set_other h k n (tap h k +ℤ d) (pos 0) ne in
         rw (ih, same) (omega (arith, ints))
 
 -- a tap that moves changes the sum of its phase by as much, and no other
-pub moved_here : (h : List ℤ) (up phase k : ℕ) (d : ℤ) → k < length h → k % up ≡ phase → phase_sum (set h k (tap h k +ℤ d)) up phase ≡ phase_sum h up phase +ℤ d
+pub moved_here : (h : List ℤ) (up phase k : ℕ) (d : ℤ) → k < length h → k % up ≡ phase →
+    phase_sum (set h k (tap h k +ℤ d)) up phase ≡ phase_sum h up phase +ℤ d
 moved_here h up phase k d within is =
-    ap (sum_before (set h k (tap h k +ℤ d)) up phase) (length-set h k (tap h k +ℤ d)) ∙ here h up phase k d (length h) within is within
+    ap (sum_before (set h k (tap h k +ℤ d)) up phase) (length-set h k (tap h k +ℤ d))
+    ∙ here h up phase k d (length h) within is within
 
-pub moved_elsewhere : (h : List ℤ) (up phase k : ℕ) (x : ℤ) → (k % up ≡ phase → ⊥) → phase_sum (set h k x) up phase ≡ phase_sum h up phase
+pub moved_elsewhere : (h : List ℤ) (up phase k : ℕ) (x : ℤ) → (k % up ≡ phase → ⊥) →
+    phase_sum (set h k x) up phase ≡ phase_sum h up phase
 moved_elsewhere h up phase k x other =
     ap (sum_before (set h k x) up phase) (length-set h k x) ∙ elsewhere h up phase k x (length h) other
 
@@ -84,7 +98,8 @@ steps_none true s = omega (arith, ints)
 steps_none false s = omega (arith, ints)
 
 -- as many steps as lack lead to the total
-pub steps_reach : (rise : Bool) (s total : ℤ) → int_lt s total ≡ rise → s +ℤ steps rise (unsigned_abs (total -ℤ s)) ≡ total
+pub steps_reach : (rise : Bool) (s total : ℤ) → int_lt s total ≡ rise →
+    s +ℤ steps rise (unsigned_abs (total -ℤ s)) ≡ total
 steps_reach true s total e = grind (arith, ints)
 steps_reach false s total e = grind (arith, ints)
 
@@ -98,7 +113,8 @@ past_16 (pos n) e = let l : 32768 ≤ n = grind (arith, nat_tests) in l
 past_16 (negsuc n) e = let l : 32768 ≤ n = grind (arith, nat_tests) in omega arith
 
 -- the sum of one phase more is the total
-pub one_phase_more : (h g : List ℤ) (up phase : ℕ) (total : ℤ) → phase_sum g up phase ≡ total → ((q : ℕ) → (q ≡ phase → ⊥) → phase_sum g up q ≡ phase_sum h up q) →
+pub one_phase_more : (h g : List ℤ) (up phase : ℕ) (total : ℤ) → phase_sum g up phase ≡ total →
+    ((q : ℕ) → (q ≡ phase → ⊥) → phase_sum g up q ≡ phase_sum h up q) →
     ((q : ℕ) → q < phase → phase_sum h up q ≡ total) → (q : ℕ) → q < phase + 1 → phase_sum g up q ≡ total
 one_phase_more h g up phase total exact others before q below = go (cases_eq q phase)
   where

@@ -1,6 +1,7 @@
 //! Making the taps of each phase come to one total: in whole numbers, whatever rounding gave.
 
-ghost use Rattle.std.specs.Prelude.{◌≡◌, ◌<◌, ◌≤◌, ◌%◌, ◌+ℤ◌, ℕ, length, slice_set, unsigned_abs, OnOk, IfErr, MatchResult};
+ghost use Rattle.std.specs.Prelude.{◌≡◌, ◌<◌, ◌≤◌, ◌%◌, ◌+ℤ◌, ℕ, length, slice_set, unsigned_abs, OnOk, IfErr};
+ghost use Rattle.std.specs.Prelude.{MatchResult};
 ghost use Rattle.sdf_filters.specs.Phases.{tap, counted, phase_sum, steps, has_16_bits, Have16Bits};
 ghost use Rattle.sdf_filters.specs.Lowpass.{IsTapFault};
 
@@ -61,8 +62,8 @@ fn past_16_bits(tap: i32) -> FilterFault
     }
 }
 
-/// How late a tap is moved: how far it stands beyond its real value in the direction of the step, and for the middle one
-/// the bias more.
+/// How late a tap is moved: how far it stands beyond its real value in the direction of the step, and for the middle
+/// one the bias more.
 fn lateness(taps: &[i32], reals: &[f64], rise: bool, bias: f64, place: usize) -> f64
     requires same { length reals.now ≡ length taps.now }
     requires place { place < length taps.now }

@@ -1,7 +1,8 @@
 //! The stages of a conversion between two rates.
 
 ghost use Rattle.std.specs.Prelude.{◌≡◌, ◌<◌, ◌≤◌, ◌+◌, ◌%◌, ◌++◌, ◌∷◌, [], OnOk, MatchOption, MatchResult};
-ghost use Rattle.sdf_filters.specs.Stages.{IsPart, IsSplitOf, IsSplit, IsPartFault, IsSplitFault, HasNoFactor, IsLeastFactor};
+ghost use Rattle.sdf_filters.specs.Stages.{IsPart, IsSplitOf, IsSplit, IsPartFault, IsSplitFault, HasNoFactor};
+ghost use Rattle.sdf_filters.specs.Stages.{IsLeastFactor};
 
 use crate::cost::Weights;
 use crate::fault::FilterFault;

@@ -4,4 +4,5 @@ use Rattle.sdf_filters.proofs.phases.phase_sum.Given as goal
 
 abbrev pub invariant-loop-place : goal.invariant-loop-place
 invariant-loop-place l =
-    (l.sum ≡ sum_before l.taps l.up l.phase l.place) × (neg_ℤ (pos (2147483648 * l.place)) ≤ℤ l.sum) × (l.sum ≤ℤ pos (2147483648 * l.place))
+    (l.sum ≡ sum_before l.taps l.up l.phase l.place) × (neg_ℤ (pos (2147483648 * l.place)) ≤ℤ l.sum)
+    × (l.sum ≤ℤ pos (2147483648 * l.place))

@@ -4,10 +4,18 @@ use Rattle.sdf_filters.proofs.Splits.{over_limit}
 use Rattle.sdf_filters.proofs.split.least_part.Goals as goal
 
 pub returns-in-Some-up : goal.returns-in-Some-up
-returns-in-Some-up c = record { up_divides = c.in-Some-up.ensures.divides; down_divides = mod-one _; some = omega (arith, c.in-Some-up.ensures.more) }
+returns-in-Some-up c = record {
+  up_divides = c.in-Some-up.ensures.divides;
+  down_divides = mod-one _;
+  some = omega (arith, c.in-Some-up.ensures.more);
+}
 
 pub returns-in-Some-down : goal.returns-in-Some-down
-returns-in-Some-down c = record { up_divides = mod-one _; down_divides = c.in-Some-down.ensures.divides; some = omega (arith, c.in-Some-down.ensures.more) }
+returns-in-Some-down c = record {
+  up_divides = mod-one _;
+  down_divides = c.in-Some-down.ensures.divides;
+  some = omega (arith, c.in-Some-down.ensures.more);
+}
 
 pub returns-then-left-up-gt1 : goal.returns-then-left-up-gt1
 returns-then-left-up-gt1 c = record {

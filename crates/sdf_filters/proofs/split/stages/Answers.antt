@@ -2,7 +2,9 @@ use Rattle.sdf_filters.proofs.Splits.{split_is, fault_of_rates}
 use Rattle.sdf_filters.proofs.split.stages.Goals as goal
 
 pub returns : goal.returns
-returns c = split_is c.args.from c.args.to c.lowest.result.up c.lowest.result.down c.in_ok-stages.stages.items c.lowest.ensures c.in_ok-stages.ensures
+returns c = split_is c.args.from c.args.to c.lowest.result.up c.lowest.result.down c.in_ok-stages.stages.items
+    c.lowest.ensures c.in_ok-stages.ensures
 
 pub returns-in_err-stages : goal.returns-in_err-stages
-returns-in_err-stages c = fault_of_rates c.args.from c.args.to c.lowest.result.up c.lowest.result.down c.lowest.ensures c.in_err-stages.field-0.0 c.in_err-stages.ensures
+returns-in_err-stages c = fault_of_rates c.args.from c.args.to c.lowest.result.up c.lowest.result.down c.lowest.ensures
+    c.in_err-stages.field-0.0 c.in_err-stages.ensures
