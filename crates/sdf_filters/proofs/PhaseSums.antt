@@ -55,11 +55,12 @@ here : (h : List ℤ) (up phase k : ℕ) (d : ℤ) (n : ℕ) → k < length h �
     sum_before (set h k (tap h k +ℤ d)) up phase n ≡ sum_before h up phase n +ℤ d
 unfolding sum_before
 here h up phase k d zero within is past = absurd (omega arith)
-here h up phase k d (suc n) within is past = go (cases_eq n k)
+here h up phase k d (suc n) within is past = go (cases_eq n k) (λ l. here h up phase k d n within is l)
   where
-    go : (n ≡ k) ⊎ (n ≡ k → ⊥) → sum_before (set h k (tap h k +ℤ d)) up phase (suc n) ≡
-        sum_before h up phase (suc n) +ℤ d
-    go (inl e) =
+    go : (n ≡ k) ⊎ (n ≡ k → ⊥) →
+        (k < n → sum_before (set h k (tap h k +ℤ d)) up phase n ≡ sum_before h up phase n +ℤ d) →
+        sum_before (set h k (tap h k +ℤ d)) up phase (suc n) ≡ sum_before h up phase (suc n) +ℤ d
+    go (inl e) earlier =
         let first : sum_before (set h k (tap h k +ℤ d)) up phase n ≡ sum_before h up phase n =
         before h up phase k (tap h k +ℤ d) n (omega arith) in
         let place : n % up ≡ phase = ap (λ m. m % up) e ∙ is in
@@ -70,9 +71,9 @@ here h up phase k d (suc n) within is past = go (cases_eq n k)
         ap (tap (set h k (tap h k +ℤ d))) e ∙ (get_or-set_same h k (tap h k +ℤ d) (pos 0) within
         ∙ ap (λ m. tap h m +ℤ d) (sym e)) in
         rw (first, new, moved, old) (omega (arith, ints))
-    go (inr ne) =
+    go (inr ne) earlier =
         let ih : sum_before (set h k (tap h k +ℤ d)) up phase n ≡ sum_before h up phase n +ℤ d =
-        here h up phase k d n within is (omega arith) in
+        earlier (omega arith) in
         let same : tap (set h k (tap h k +ℤ d)) n ≡ tap h n = get_or-set_other h k n (tap h k +ℤ d) (pos 0) ne in
         rw (ih, same) (omega (arith, ints))
 
@@ -102,6 +103,14 @@ pub steps_reach : (rise : Bool) (s total : ℤ) → int_lt s total ≡ rise →
     s +ℤ steps rise (unsigned_abs (total -ℤ s)) ≡ total
 steps_reach true s total e = grind (arith, ints)
 steps_reach false s total e = grind (arith, ints)
+
+-- where s and t are the sum and the total as the code has them
+pub reached : (before after sum total s t : ℤ) (times : ℕ) → s ≡ sum → t ≡ total → sum ≡ before →
+    times ≡ unsigned_abs (t -ℤ s) → after ≡ before +ℤ steps (int_lt s t) times → after ≡ total
+reached before after sum total s t times is_sum is_total is_before many moves =
+    let start : s ≡ before = is_sum ∙ is_before in
+    moves ∙ (ap (λ z. z +ℤ steps (int_lt s t) times) (sym start)
+    ∙ (ap (λ k. s +ℤ steps (int_lt s t) k) many ∙ (steps_reach (int_lt s t) s t refl ∙ is_total)))
 
 -- the two answers of the test of a tap
 pub fits_16 : (z : ℤ) → has_16_bits z ≡ true → FitsSigned w16 z

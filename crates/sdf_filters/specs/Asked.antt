@@ -1,7 +1,7 @@
 -- What a low-pass may be asked for.
 use Rattle.std.specs.Prelude.{ℕ, ◌<◌, ◌≤◌, ◌*◌}
 use Rattle.sdf_limits.specs.declared.TheConstants.{MOST_FACTOR, MOST_SHIFT}
-use Rattle.sdf_filters.specs.declared.TheConstants.{MOST_ATTENUATION}
+use Rattle.sdf_filters.specs.declared.lowpass.TheConstants.{MOST_ATTENUATION}
 
 -- samples a second at the filter, the last Hz that pass, the first that don't, dB, and the actor's `up` and `shift`
 pub record Asked : Type 0 where

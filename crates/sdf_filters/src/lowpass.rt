@@ -18,7 +18,7 @@ pub const MOST_ATTENUATION: u32 = 200;
 ///
 /// It is a sinc under Kaiser's window (Kaiser 1974; Oppenheim and Schafer), for an actor of kind `fir` with its `up`
 /// and `shift`. Its rate is the one that it works at: that of the actor's input times `up`.
-#[derive(Clone, Copy)]
+#[derive(Drop)]
 pub struct Lowpass {
     rate: u32,
     pass: u32,

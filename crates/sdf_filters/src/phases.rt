@@ -191,7 +191,8 @@ fn settle_phase(
     let sum = phase_sum(taps, up, phase);
     let rise = sum < total;
     let times = total.abs_diff(sum);
-    move_taps(taps, reals, up, phase, rise, times)
+    move_taps(taps, reals, up, phase, rise, times)?;
+    Ok(())
 }
 
 /// Moves taps until those of each phase come to the total.

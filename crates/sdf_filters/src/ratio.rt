@@ -37,7 +37,7 @@ fn gcd(a: u32, b: u32) -> u32
 pub(crate) fn lowest(from: u32, to: u32) -> Ratio
     requires from { 0 < from }
     requires to { 0 < to }
-    ensures is { IsLowest from to result.up result.down }
+    ensures { IsLowest from to result.up result.down }
 {
     let common = gcd(from, to);
     Ratio {

@@ -79,41 +79,41 @@ fn many_steps(rt: HostRuntime) -> Result<(), Fail> {
     )
 }
 
-/// Refuses a fault of another value, and a limit that is one off.
+/// Whether a low-pass of these values has the fault with this text.
+fn refused(
+    rt: &(impl Abort + AllocGlobal),
+    filter: Result<Lowpass, FilterFault>,
+    text: &str,
+) -> Result<(), Fail> {
+    let Err(fault) = filter else {
+        return Err(Fail::from("no fault"));
+    };
+    assert_eq!(rt; fault.to_string(rt.alloc())?.as_str(), text);
+    Ok(())
+}
+
+/// Refuses a text of another value, and a limit that is one off.
 #[test]
 fn faults(rt: HostRuntime) -> Result<(), Fail> {
-    for (filter, text) in [
-        (
-            Lowpass::new(8000, 1000, 3000, 40, 0, 15),
-            "`up` is 0: take one from 1 to 64",
-        ),
-        (
-            Lowpass::new(8000, 1000, 3000, 40, 65, 15),
-            "`up` is 65: take one from 1 to 64",
-        ),
-        (
-            Lowpass::new(8000, 1000, 3000, 40, 1, 16),
-            "`shift` is 16: take one from 0 to 15",
-        ),
-        (
-            Lowpass::new(8000, 1000, 3000, 201, 1, 15),
-            "an attenuation of 201 dB: take one from 0 to 200",
-        ),
-        (
-            Lowpass::new(8000, 3000, 3000, 40, 1, 15),
-            "what passes ends at 3000 Hz, what is stopped begins at 3000: \
-             take the first lower, or the second higher",
-        ),
-        (
-            Lowpass::new(8000, 1000, 4001, 40, 1, 15),
-            "what is stopped begins at 4001 Hz, over half the rate of 8000: take it lower, or a higher rate",
-        ),
-    ] {
-        let Err(fault) = filter else {
-            return Err(Fail::from("no fault"));
-        };
-        assert_eq!(rt; fault.to_string(rt.alloc())?.as_str(), text);
-    }
+    let at = |up, shift, attenuation| Lowpass::new(8000, 1000, 3000, attenuation, up, shift);
+    refused(&rt, at(0, 15, 40), "`up` is 0: take one from 1 to 64")?;
+    refused(&rt, at(65, 15, 40), "`up` is 65: take one from 1 to 64")?;
+    refused(&rt, at(1, 16, 40), "`shift` is 16: take one from 0 to 15")?;
+    refused(
+        &rt,
+        at(1, 15, 201),
+        "an attenuation of 201 dB: take one from 0 to 200",
+    )?;
+    refused(
+        &rt,
+        Lowpass::new(8000, 3000, 3000, 40, 1, 15),
+        "what passes ends at 3000 Hz, what is stopped begins at 3000: take the first lower, or the second higher",
+    )?;
+    refused(
+        &rt,
+        Lowpass::new(8000, 1000, 4001, 40, 1, 15),
+        "what is stopped begins at 4001 Hz, over half the rate of 8000: take it lower, or a higher rate",
+    )?;
     assert!(rt; Lowpass::new(8000, 1000, 4000, 200, 64, 0).is_ok());
     Ok(())
 }

@@ -1,3 +1,4 @@
+use Rattle.std.proofs.lemmas.Result.{err_from_is_err_and}
 use Rattle.std.proofs.Common.{List, subst, sym, arith}
 use Rattle.sdf_filters.specs.declared.stage.Stage.{Stage}
 use Rattle.sdf_filters.specs.Stages.{IsSplitOf}
@@ -28,5 +29,7 @@ returns c = all_done c.args.ratio.up c.args.ratio.down c.parts.left.up c.parts.l
 
 pub returns-in_err-stage : goal.returns-in_err-stage
 returns-in_err-stage c =
+    let p = err_from_is_err_and c.from_residual.result c.from_residual.ensures.1 in
+    rw (p.1, p.2) (
     fault_of_all c.args.ratio.up c.args.ratio.down c.parts.left.up c.parts.left.down c.parts.stages.items
-    c.parts.invariant c.in_err-stage.field-0.0 c.in_err-stage.ensures
+    c.parts.invariant c.in_err-stage.field-0.0 c.in_err-stage.ensures)
