@@ -1,5 +1,5 @@
 -- One value more.
-use Rattle.std.proofs.Common.{◌≡◌, ◌∙◌, ◌+◌, ℕ, zero, suc, ℤ, List, [], ◌++◌, refl, sym, ap, append-nil, append_assoc}
+use Rattle.std.proofs.Common.{◌≡◌, ◌∙◌, ◌+◌, ℕ, zero, suc, ℤ, List, ◌++◌, sym, append-nil, append_assoc}
 use Rattle.std.proofs.Common.{arith}
 use Rattle.sdf_filters.specs.Phases.{tap}
 use Rattle.sdf_filters.specs.Coefficients.{value_text, values_text}

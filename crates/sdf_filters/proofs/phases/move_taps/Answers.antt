@@ -1,4 +1,4 @@
-use Rattle.std.proofs.Common.{◌≡◌, ◌∙◌, ◌+ℤ◌, ℕ, ℤ, List, ap, sym, refl}
+use Rattle.std.proofs.Common.{◌∙◌, ◌+ℤ◌, ℕ, ℤ, List, ap, sym, refl}
 use Rattle.sdf_filters.specs.Phases.{tap, phase_sum, steps}
 use Rattle.sdf_filters.proofs.PhaseSums.{moved_here, moved_elsewhere, steps_more, steps_none}
 use Rattle.sdf_filters.proofs.phases.move_taps.Goals as goal

@@ -1,4 +1,4 @@
-use Rattle.std.proofs.Common.{◌≡◌, pos, arith}
+use Rattle.std.proofs.Common.{arith}
 use Rattle.std.proofs.lemmas.Int.{ints, to_z-of_z}
 use Rattle.sdf_filters.proofs.PhaseSums.{sum_before-zero, sum_before_more}
 use Rattle.sdf_filters.proofs.phases.phase_sum.Goals as goal
