@@ -22,7 +22,7 @@ pub enum FilterFault {
     #[error("an attenuation of {attenuation} dB: take one from 0 to 200")]
     Attenuation { attenuation: u32 },
     /// What passes does not end below what is stopped.
-    #[error("what passes ends at {pass} Hz, what is stopped begins at {stop}: take the first lower, or the second higher")]
+    #[error("what passes ends at {pass} Hz, what is stopped begins at {stop}: take `pass` lower, or `stop` higher")]
     PassNotBelowStop { pass: u32, stop: u32 },
     /// What is stopped begins over half the rate.
     #[error("what is stopped begins at {stop} Hz, over half the rate of {rate}: take it lower, or a higher rate")]

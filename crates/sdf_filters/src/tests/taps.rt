@@ -107,7 +107,7 @@ fn faults(rt: HostRuntime) -> Result<(), Fail> {
     refused(
         &rt,
         Lowpass::new(8000, 3000, 3000, 40, 1, 15),
-        "what passes ends at 3000 Hz, what is stopped begins at 3000: take the first lower, or the second higher",
+        "what passes ends at 3000 Hz, what is stopped begins at 3000: take `pass` lower, or `stop` higher",
     )?;
     refused(
         &rt,

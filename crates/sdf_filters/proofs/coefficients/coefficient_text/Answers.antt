@@ -7,4 +7,6 @@ loop-place-init c = no_values c.args.taps.now (string_bytes c.in_ok-text.text)
 
 pub loop-place-preserved : goal.loop-place-preserved
 loop-place-preserved c =
-    value_added c.args.taps.now c.loop-place.place _ (string_bytes c.in_ok-text.text) (string_bytes c.loop-place.text) (string_bytes c.push_value.new.text) (search rules) c.loop-place.invariant c.in_ok-push_value.ensures
+    value_added c.args.taps.now c.loop-place.place _ (string_bytes c.in_ok-text.text)
+    (string_bytes c.loop-place.text) (string_bytes c.push_value.new.text) (search rules) c.loop-place.invariant
+    c.in_ok-push_value.ensures
