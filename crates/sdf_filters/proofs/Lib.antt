@@ -2,3 +2,4 @@ pub mod PhaseSums
 pub mod Splits
 pub mod Values
 pub mod Counts
+pub mod Differing

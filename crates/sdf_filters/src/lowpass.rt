@@ -3,7 +3,9 @@
 ghost use Rattle.std.specs.Prelude.{◌≡◌, ◌<◌, ◌≤◌, ◌%◌, ◌^◌, pos, MatchResult};
 ghost use Rattle.sdf_filters.specs.Lowpass.{is_factor, lowpass_of, AreLowpassTaps, IsCount, IsTapFault, IsCountFault};
 ghost use Rattle.sdf_filters.specs.Asked.{asked};
+ghost use Rattle.sdf_filters.specs.Differences.{AreHighpassTaps, AreBandpassTaps};
 
+use crate::differences::{differences, impulse};
 use crate::fault::{FilterFault, test};
 use crate::phases::{settle, test_16_bits};
 use crate::sinc::{Sinc, kaiser_length, real_taps, rounded_taps};
@@ -95,8 +97,48 @@ impl Lowpass {
         let reals = real_taps(alloc, self.sinc(count), count)?;
         let mut taps = rounded_taps(alloc, &reals)?;
         test_16_bits(&taps)?;
-        settle(&mut taps, &reals, self.up as usize, total(self.shift))?;
+        settle(
+            &mut taps,
+            &reals,
+            self.up as usize,
+            i64::from(height(self.shift)),
+        )?;
         test_16_bits(&taps)?;
+        Ok(taps)
+    }
+
+    /// The high-pass that passes what this stops, and stops what this passes: `2^shift` at the middle less this one's taps.
+    /// Its taps come to 0, so of a constant nothing is left.
+    pub fn highpass(&self, alloc: Global, count: usize) -> Result<Vec<i32>, FilterFault>
+        requires few { count ≤ MOST_TAPS }
+        requires odd { count % 2 ≡ 1 }
+        requires up { self.now.up ≡ 1 }
+        ensures { MatchResult result (λ taps. AreHighpassTaps self.now count taps.items) IsTapFault }
+    {
+        let low = self.taps(alloc, count)?;
+        let impulse = impulse(alloc, count, height(self.shift))?;
+        let taps = differences(alloc, &impulse, &low)?;
+        Ok(taps)
+    }
+
+    /// The band-pass of what this passes and a narrower low-pass doesn't: this one's taps less that one's. Each phase's
+    /// come to 0, so of a constant nothing is left.
+    pub fn bandpass(
+        &self,
+        alloc: Global,
+        narrow: &Lowpass,
+        count: usize,
+    ) -> Result<Vec<i32>, FilterFault>
+        requires some { 0 < count }
+        requires few { count ≤ MOST_TAPS }
+        requires whole { count % self.now.up ≡ 0 }
+        requires up { narrow.now.up ≡ self.now.up }
+        requires shift { narrow.now.shift ≡ self.now.shift }
+        ensures { MatchResult result (λ taps. AreBandpassTaps self.now narrow.now count taps.items) IsTapFault }
+    {
+        let wide = self.taps(alloc, count)?;
+        let narrow = narrow.taps(alloc, count)?;
+        let taps = differences(alloc, &wide, &narrow)?;
         Ok(taps)
     }
 
@@ -121,11 +163,11 @@ fn is_factor(up: u32) -> bool
 }
 
 /// What each phase's taps come to.
-fn total(shift: u32) -> i64
+fn height(shift: u32) -> i32
     requires { shift ≤ MOST_SHIFT }
     ensures { result ≡ pos (2 ^ shift) }
 {
-    i64::from(1u32 << shift)
+    1i32 << shift
 }
 
 /// A number of taps, at least one, made up to whole phases.

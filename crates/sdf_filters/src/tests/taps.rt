@@ -146,3 +146,26 @@ fn text(rt: HostRuntime) -> Result<(), Fail> {
     );
     Ok(())
 }
+
+/// Refuses a high-pass that is a low-pass turned round, and a middle that is one place off.
+#[test]
+fn highpass(rt: HostRuntime) -> Result<(), Fail> {
+    let filter = Lowpass::new(8000, 1000, 2500, 40, 1, 15)?;
+    let taps = filter.highpass(rt.alloc(), 13)?;
+    let wanted = [
+        -237, -359, 920, 1990, -1698, -9832, 18432, -9832, -1698, 1990, 920, -359, -237,
+    ];
+    assert_eq!(rt; taps.as_slice(), wanted.as_slice());
+    Ok(())
+}
+
+/// Refuses a band-pass that passes what the narrow low-pass does.
+#[test]
+fn bandpass(rt: HostRuntime) -> Result<(), Fail> {
+    let wide = Lowpass::new(8000, 1000, 3000, 40, 1, 15)?;
+    let narrow = Lowpass::new(8000, 400, 1000, 40, 1, 15)?;
+    let taps = wide.bandpass(rt.alloc(), &narrow, 9)?;
+    let wanted = [-1107, -3587, -3993, 3759, 9856, 3759, -3993, -3587, -1107];
+    assert_eq!(rt; taps.as_slice(), wanted.as_slice());
+    Ok(())
+}
