@@ -1,8 +1,3 @@
-use Rattle.std.proofs.Common.{◌≡◌, ◌∙◌, ◌^◌, ◌<◌, ℕ, List, ℤ, pos, length, ap, sym, subst}
-use Rattle.sdf_filters.specs.Asked.{Asked}
-use Rattle.sdf_filters.specs.Phases.{phase_sum}
-use Rattle.sdf_filters.specs.Lowpass.{AreLowpassTaps}
-use Rattle.sdf_filters.specs.Differences.{AreDifferences}
 use Rattle.sdf_filters.proofs.Differing.{band_taps}
 use Rattle.sdf_filters.proofs.lowpass.Lowpass.bandpass.Goals as goal
 
