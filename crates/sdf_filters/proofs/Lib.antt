@@ -1,0 +1,5 @@
+pub mod PhaseSums
+pub mod Splits
+pub mod Values
+pub mod Counts
+pub mod Differing

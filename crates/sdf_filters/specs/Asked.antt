@@ -1,0 +1,31 @@
+-- What a low-pass may be asked for.
+use Rattle.std.specs.Prelude.{ℕ, ◌<◌, ◌≤◌, ◌*◌}
+use Rattle.sdf_limits.specs.declared.TheConstants.{MOST_FACTOR, MOST_SHIFT}
+use Rattle.sdf_filters.specs.declared.lowpass.TheConstants.{MOST_ATTENUATION}
+
+-- samples a second at the filter, the last Hz that pass, the first that don't, dB, and the actor's `up` and `shift`
+pub record Asked : Type 0 where
+  pub rate : ℕ
+  pub pass : ℕ
+  pub stop : ℕ
+  pub attenuation : ℕ
+  pub up : ℕ
+  pub shift : ℕ
+
+abbrev pub asked : ℕ → ℕ → ℕ → ℕ → ℕ → ℕ → Asked
+asked rate pass stop attenuation up shift = record {
+  rate = rate;
+  pass = pass;
+  stop = stop;
+  attenuation = attenuation;
+  up = up;
+  shift = shift;
+}
+
+-- its values are within their limits
+pub record IsAsked (f : Asked) : Type 0 where
+  pub up : (1 ≤ f.up) × (f.up ≤ MOST_FACTOR)
+  pub shift : f.shift ≤ MOST_SHIFT
+  pub attenuation : f.attenuation ≤ MOST_ATTENUATION
+  pub band : f.pass < f.stop
+  pub half : 2 * f.stop ≤ f.rate

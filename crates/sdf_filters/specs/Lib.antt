@@ -1,0 +1,6 @@
+pub mod Phases
+pub mod Asked
+pub mod Lowpass
+pub mod Differences
+pub mod Stages
+pub mod Coefficients

@@ -1,0 +1,52 @@
+-- What a low-pass may be asked for, and what its taps are.
+use Rattle.std.specs.Prelude.{◌≡◌, ℕ, ◌<◌, ◌≤◌, ◌*◌, ◌%◌, ◌^◌, Bool, true, false, ◌&&◌, nat_lt, nat_le, ℤ, pos, List}
+use Rattle.std.specs.Prelude.{length, Result, Ok, Err}
+use Rattle.sdf_limits.specs.declared.TheConstants.{MOST_FACTOR, MOST_SHIFT, MOST_TAPS}
+use Rattle.sdf_filters.specs.declared.lowpass.TheConstants.{MOST_ATTENUATION}
+use Rattle.sdf_filters.specs.declared.fault.FilterFault.{FilterFault}
+use Rattle.sdf_filters.specs.declared.fault.FilterFault.TheVariants.{OutOfMemory, Up, Shift, Attenuation}
+use Rattle.sdf_filters.specs.declared.fault.FilterFault.TheVariants.{PassNotBelowStop, StopOverHalf, TooManyTaps}
+use Rattle.sdf_filters.specs.declared.fault.FilterFault.TheVariants.{TapTooLarge}
+use Rattle.sdf_filters.specs.Asked.{Asked}
+use Rattle.sdf_filters.specs.Phases.{phase_sum, Have16Bits}
+
+-- the fault of a test that fails, else what the later tests give
+abbrev pub tested : {X : Type 0} → Bool → FilterFault → Result X FilterFault → Result X FilterFault
+tested true fault later = later
+tested false fault later = Err fault
+
+abbrev pub is_factor : ℕ → Bool
+is_factor n = nat_le 1 n && nat_le n MOST_FACTOR
+
+-- the low-pass of these values, or the first fault
+abbrev pub lowpass_of : Asked → Result Asked FilterFault
+lowpass_of f =
+    tested (is_factor f.up) (Up f.up)
+    (tested (nat_le f.shift MOST_SHIFT) (Shift f.shift)
+    (tested (nat_le f.attenuation MOST_ATTENUATION) (Attenuation f.attenuation)
+    (tested (nat_lt f.pass f.stop) (PassNotBelowStop f.pass f.stop)
+    (tested (nat_le (2 * f.stop) f.rate) (StopOverHalf f.stop f.rate)
+    (Ok f)))))
+
+-- a number of taps in whole phases, within the limit
+pub record IsCount (up count : ℕ) : Type 0 where
+  pub some : 0 < count
+  pub few : count ≤ MOST_TAPS
+  pub whole : count % up ≡ 0
+
+-- so many taps of 16 bits, each phase's with the sum 2^shift
+pub record AreLowpassTaps (f : Asked) (count : ℕ) (h : List ℤ) : Type 0 where
+  pub all : length h ≡ count
+  pub small : Have16Bits h
+  pub exact : (phase : ℕ) → phase < f.up → phase_sum h f.up phase ≡ pos (2 ^ f.shift)
+
+-- the only fault of a number of taps
+abbrev pub IsCountFault : FilterFault → Type 0
+IsCountFault (TooManyTaps taps) = MOST_TAPS < taps
+IsCountFault fault = ⊥
+
+-- the faults of taps: memory, and a tap that has over 16 bits
+abbrev pub IsTapFault : FilterFault → Type 0
+IsTapFault OutOfMemory = Unit {0}
+IsTapFault (TapTooLarge size) = 32768 ≤ size
+IsTapFault fault = ⊥

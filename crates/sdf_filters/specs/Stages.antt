@@ -1,0 +1,72 @@
+-- Stages of a conversion, and what they come to.
+use Rattle.std.specs.Prelude.{◌≡◌, ◌≢◌, ℕ, ◌+◌, ◌*◌, ◌%◌, ◌<◌, ◌≤◌, ◌⊎◌, List, [], ◌∷◌}
+use Rattle.std.specs.Int.{IsGcd}
+use Rattle.sdf_limits.specs.declared.TheConstants.{MOST_FACTOR}
+use Rattle.sdf_filters.specs.declared.stage.Stage.{Stage}
+use Rattle.sdf_filters.specs.declared.fault.FilterFault.{FilterFault}
+use Rattle.sdf_filters.specs.declared.fault.FilterFault.TheVariants.{OutOfMemory, NoRate, FactorTooLarge}
+
+-- the product of all `up`
+abbrev pub ups : List Stage → ℕ
+ups [] = 1
+ups (s ∷ ss) = s.up * ups ss
+
+-- the product of all `down`
+abbrev pub downs : List Stage → ℕ
+downs [] = 1
+downs (s ∷ ss) = s.down * downs ss
+
+-- the stages come to to / from
+abbrev pub IsSplit : ℕ → ℕ → List Stage → Type 0
+IsSplit from to stages = ups stages * from ≡ downs stages * to
+
+-- up / down is to / from in lowest terms
+pub record IsLowest (from to up down : ℕ) : Type 0 where
+  pub common : ℕ
+  pub greatest : IsGcd from to common
+  pub from_is : from ≡ common * down
+  pub to_is : to ≡ common * up
+  pub up_some : 0 < up
+  pub down_some : 0 < down
+
+-- the stages come to up / down, but for what is left of it
+pub record IsSplitOf (up down up_left down_left : ℕ) (stages : List Stage) : Type 0 where
+  pub up_is : ups stages * up_left ≡ up
+  pub down_is : downs stages * down_left ≡ down
+  pub up_some : 0 < up_left
+  pub down_some : 0 < down_left
+
+-- a stage is a part of up / down, and does something
+pub record IsPart (up down : ℕ) (s : Stage) : Type 0 where
+  pub up_divides : up % s.up ≡ 0
+  pub down_divides : down % s.down ≡ 0
+  pub some : 2 < s.up + s.down
+
+-- no number from 2 to 64 divides it
+abbrev pub HasNoFactor : ℕ → Type 0
+HasNoFactor n = (d : ℕ) → 1 < d → d ≤ MOST_FACTOR → n % d ≢ 0
+
+pub record IsLeastFactor (n d : ℕ) : Type 0 where
+  pub more : 1 < d
+  pub within : d ≤ MOST_FACTOR
+  pub divides : n % d ≡ 0
+  pub least : (e : ℕ) → 1 < e → e < d → n % e ≢ 0
+
+-- a factor of the ratio is over 64, and none of its own are from 2 to 64
+pub record IsTooLarge (up down factor : ℕ) : Type 0 where
+  pub large : MOST_FACTOR < factor
+  pub of : (up % factor ≡ 0) ⊎ (down % factor ≡ 0)
+  pub none : HasNoFactor factor
+
+abbrev pub IsPartFault : ℕ → ℕ → FilterFault → Type 0
+IsPartFault up down OutOfMemory = Unit {0}
+IsPartFault up down (FactorTooLarge factor) = IsTooLarge up down factor
+IsPartFault up down fault = ⊥
+
+-- a rate is 0, or their ratio in lowest terms has such a factor
+abbrev pub IsSplitFault : ℕ → ℕ → FilterFault → Type 0
+IsSplitFault from to OutOfMemory = Unit {0}
+IsSplitFault from to NoRate = (from ≡ 0) ⊎ (to ≡ 0)
+IsSplitFault from to (FactorTooLarge factor) =
+    (up : ℕ) × (down : ℕ) × IsLowest from to up down × IsTooLarge up down factor
+IsSplitFault from to fault = ⊥

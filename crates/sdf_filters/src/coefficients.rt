@@ -1,0 +1,40 @@
+//! The text of a coefficient file.
+
+ghost use Rattle.std.specs.Prelude.{◌≡◌, ◌++◌, IfOk, OnOk, string_bytes};
+ghost use Rattle.sdf_filters.specs.Coefficients.{separator, value_text, coefficient_text};
+
+use std::alloc::{AllocError, Global};
+
+/// What stands before a value: each row has twelve of them.
+fn separator(place: usize) -> &'static str
+    ensures { result.now ≡ separator place }
+{
+    if place == 0 {
+        "\n  "
+    } else if place % 12 == 0 {
+        ",\n  "
+    } else {
+        ", "
+    }
+}
+
+/// Adds a value.
+fn push_value(text: &mut String, place: usize, value: i32) -> Result<(), AllocError>
+    ensures { OnOk result (string_bytes text.new ≡ string_bytes text.old ++ value_text place value) }
+{
+    let before = separator(place);
+    write!(text, "{before}{value}")?;
+    Ok(())
+}
+
+/// The coefficient file of some taps, as an actor of kind `fir` reads it by its key `file`.
+pub fn coefficient_text(alloc: Global, taps: &[i32]) -> Result<String, AllocError>
+    ensures { IfOk result (λ text. string_bytes text ≡ coefficient_text taps.now) }
+{
+    let mut text = String::from_str(alloc, "format = 1\nvalues = [")?;
+    for (place, value) in taps.iter().enumerate() {
+        push_value(&mut text, place, *value)?;
+    }
+    text.push_str("\n]\n")?;
+    Ok(text)
+}

@@ -1,0 +1,59 @@
+//! Why there is no filter, and no way between two rates.
+
+ghost use Rattle.std.specs.Prelude.{◌≡◌, Ok};
+ghost use Rattle.sdf_filters.specs.Lowpass.{tested};
+
+use std::alloc::AllocError;
+use thiserror::Error;
+
+/// Why there is no filter, or no way between two rates. Its text says what to change.
+#[derive(Debug, Clone, Copy, PartialEq, Eq, Error)]
+pub enum FilterFault {
+    /// An allocation was refused.
+    #[error("out of memory")]
+    OutOfMemory,
+    /// The filter's `up` is outside its limits.
+    #[error("`up` is {up}: take one from 1 to 64")]
+    Up { up: u32 },
+    /// The filter's `shift` is over its limit.
+    #[error("`shift` is {shift}: take one from 0 to 15")]
+    Shift { shift: u32 },
+    /// Over 200 dB.
+    #[error("an attenuation of {attenuation} dB: take one from 0 to 200")]
+    Attenuation { attenuation: u32 },
+    /// What passes does not end below what is stopped.
+    #[error("what passes ends at {pass} Hz, what is stopped begins at {stop}: take `pass` lower, or `stop` higher")]
+    PassNotBelowStop { pass: u32, stop: u32 },
+    /// What is stopped begins over half the rate.
+    #[error("what is stopped begins at {stop} Hz, over half the rate of {rate}: take it lower, or a higher rate")]
+    StopOverHalf { stop: u32, rate: u32 },
+    /// The formula asks for more taps than a filter may have.
+    #[error("{taps} taps, over 1024: take what passes and what is stopped further apart, or less attenuation")]
+    TooManyTaps { taps: usize },
+    /// A tap, of this size, has more than 16 bits.
+    #[error("a tap of size {size} has over 16 bits: take a smaller `shift`, or what passes and what is stopped lower")]
+    TapTooLarge { size: u32 },
+    /// A rate is 0.
+    #[error("a rate is 0: take both from 1 on")]
+    NoRate,
+    /// What is left of the ratio of the rates has no factor from 2 to 64.
+    #[error("the ratio of the rates has the factor {factor}, and none of it is from 2 to 64: take another rate")]
+    FactorTooLarge { factor: u32 },
+}
+
+impl From<AllocError> for FilterFault {
+    ghost use Rattle.sdf_filters.specs.declared.fault.FilterFault.TheVariants.{OutOfMemory};
+
+    ghost from_gives = { λ _ e. e ≡ OutOfMemory };
+
+    fn from(_: AllocError) -> FilterFault {
+        FilterFault::OutOfMemory
+    }
+}
+
+/// The fault of a test that fails.
+pub(crate) fn test(passed: bool, fault: FilterFault) -> Result<(), FilterFault>
+    ensures { result ≡ tested passed fault (Ok tt) }
+{
+    if passed { Ok(()) } else { Err(fault) }
+}

@@ -1,0 +1,194 @@
+//! Low-passes.
+
+ghost use Rattle.std.specs.Prelude.{◌≡◌, ◌<◌, ◌≤◌, ◌%◌, ◌^◌, pos, MatchResult};
+ghost use Rattle.sdf_filters.specs.Lowpass.{is_factor, lowpass_of, AreLowpassTaps, IsCount, IsTapFault, IsCountFault};
+ghost use Rattle.sdf_filters.specs.Asked.{asked};
+ghost use Rattle.sdf_filters.specs.Differences.{AreHighpassTaps, AreBandpassTaps};
+
+use crate::differences::{differences, impulse};
+use crate::fault::{FilterFault, test};
+use crate::phases::{settle, test_16_bits};
+use crate::sinc::{Sinc, kaiser_length, real_taps, rounded_taps};
+use sdf_limits::{MOST_FACTOR, MOST_SHIFT, MOST_TAPS};
+use std::alloc::Global;
+use std::marker::Model;
+
+/// The attenuation of what is stopped, in dB: taps of 16 bits reach about half of this.
+pub const MOST_ATTENUATION: u32 = 200;
+
+/// A low-pass that can be asked for.
+///
+/// It is a sinc under Kaiser's window (Kaiser 1974; Oppenheim and Schafer), for an actor of kind `fir` with its `up`
+/// and `shift`. Its rate is the one that it works at: that of the actor's input times `up`.
+#[derive(Drop)]
+pub struct Lowpass {
+    rate: u32,
+    pass: u32,
+    stop: u32,
+    attenuation: u32,
+    up: u32,
+    shift: u32,
+}
+
+impl Model for Lowpass {
+    ghost use Rattle.sdf_filters.specs.Asked.{Asked, asked, IsAsked};
+
+    ghost Value = { Asked };
+
+    ghost view = { λ f. asked f.rate f.pass f.stop f.attenuation f.up f.shift };
+
+    ghost invariant = { λ f. IsAsked (asked f.rate f.pass f.stop f.attenuation f.up f.shift) };
+}
+
+impl Lowpass {
+    /// What passes up to `pass` Hz and is down by `attenuation` dB from `stop` Hz on.
+    pub fn new(
+        rate: u32,
+        pass: u32,
+        stop: u32,
+        attenuation: u32,
+        up: u32,
+        shift: u32,
+    ) -> Result<Lowpass, FilterFault>
+        ensures { result ≡ lowpass_of (asked rate pass stop attenuation up shift) }
+    {
+        test(is_factor(up), FilterFault::Up { up })?;
+        test(shift <= MOST_SHIFT, FilterFault::Shift { shift })?;
+        test(
+            attenuation <= MOST_ATTENUATION,
+            FilterFault::Attenuation { attenuation },
+        )?;
+        test(pass < stop, FilterFault::PassNotBelowStop { pass, stop })?;
+        test(
+            2 * u64::from(stop) <= u64::from(rate),
+            FilterFault::StopOverHalf { stop, rate },
+        )?;
+        Ok(Lowpass {
+            rate,
+            pass,
+            stop,
+            attenuation,
+            up,
+            shift,
+        })
+    }
+
+    /// How many taps Kaiser's formula asks for, made up to whole phases.
+    ///
+    /// That the number is the formula's no clause says.
+    pub fn count(&self) -> Result<usize, FilterFault>
+        ensures { MatchResult result (IsCount self.now.up) IsCountFault }
+    {
+        let band = self.stop - self.pass;
+        let count = kaiser_length(self.attenuation, f64::from(band), f64::from(self.rate));
+        whole_phases(count, self.up as usize)
+    }
+
+    /// So many taps, whole numbers of 16 bits, of which each phase's come to `2^shift`: so a constant stays what it is.
+    ///
+    /// They are the sinc's values rounded; where a phase's sum is not exact, the taps that rounding moved most the
+    /// other way are moved, each by one before any is again. That they are near the sinc's no clause says.
+    pub fn taps(&self, alloc: Global, count: usize) -> Result<Vec<i32>, FilterFault>
+        requires some { 0 < count }
+        requires few { count ≤ MOST_TAPS }
+        requires whole { count % self.now.up ≡ 0 }
+        ensures { MatchResult result (λ taps. AreLowpassTaps self.now count taps.items) IsTapFault }
+    {
+        let reals = real_taps(alloc, self.sinc(count), count)?;
+        let mut taps = rounded_taps(alloc, &reals)?;
+        test_16_bits(&taps)?;
+        settle(
+            &mut taps,
+            &reals,
+            self.up as usize,
+            i64::from(height(self.shift)),
+        )?;
+        test_16_bits(&taps)?;
+        Ok(taps)
+    }
+
+    /// The high-pass that passes what this stops, and stops what this passes: `2^shift` at the middle less this one's taps.
+    /// Its taps come to 0, so of a constant nothing is left.
+    pub fn highpass(&self, alloc: Global, count: usize) -> Result<Vec<i32>, FilterFault>
+        requires few { count ≤ MOST_TAPS }
+        requires odd { count % 2 ≡ 1 }
+        requires up { self.now.up ≡ 1 }
+        ensures { MatchResult result (λ taps. AreHighpassTaps self.now count taps.items) IsTapFault }
+    {
+        let low = self.taps(alloc, count)?;
+        let impulse = impulse(alloc, count, height(self.shift))?;
+        let taps = differences(alloc, &impulse, &low)?;
+        Ok(taps)
+    }
+
+    /// The band-pass of what this passes and a narrower low-pass doesn't: this one's taps less that one's. Each phase's
+    /// come to 0, so of a constant nothing is left.
+    pub fn bandpass(
+        &self,
+        alloc: Global,
+        narrow: &Lowpass,
+        count: usize,
+    ) -> Result<Vec<i32>, FilterFault>
+        requires some { 0 < count }
+        requires few { count ≤ MOST_TAPS }
+        requires whole { count % self.now.up ≡ 0 }
+        requires up { narrow.now.up ≡ self.now.up }
+        requires shift { narrow.now.shift ≡ self.now.shift }
+        ensures { MatchResult result (λ taps. AreBandpassTaps self.now narrow.now count taps.items) IsTapFault }
+    {
+        let wide = self.taps(alloc, count)?;
+        let narrow = narrow.taps(alloc, count)?;
+        let taps = differences(alloc, &wide, &narrow)?;
+        Ok(taps)
+    }
+
+    /// The sinc whose values are the taps.
+    fn sinc(&self, count: usize) -> Sinc {
+        let edge = f64::from(self.pass) + f64::from(self.stop);
+        Sinc::new(
+            edge / f64::from(self.rate) / 2.0,
+            self.attenuation,
+            f64::from(self.up),
+            f64::from(1u32 << self.shift),
+            count,
+        )
+    }
+}
+
+/// Whether a value is one of 1 to 64.
+fn is_factor(up: u32) -> bool
+    ensures { result ≡ is_factor up }
+{
+    1 <= up && up <= MOST_FACTOR
+}
+
+/// What each phase's taps come to.
+fn height(shift: u32) -> i32
+    requires { shift ≤ MOST_SHIFT }
+    ensures { result ≡ pos (2 ^ shift) }
+{
+    1i32 << shift
+}
+
+/// A number of taps, at least one, made up to whole phases.
+fn whole_phases(count: usize, up: usize) -> Result<usize, FilterFault>
+    requires some { 1 ≤ up }
+    requires few { up ≤ MOST_FACTOR }
+    ensures { MatchResult result (IsCount up) IsCountFault }
+{
+    let least = count.max(1);
+    test_few(least)?;
+    let whole = (least + up - 1) / up * up;
+    test_few(whole)?;
+    Ok(whole)
+}
+
+/// Whether a filter may have so many taps.
+fn test_few(taps: usize) -> Result<(), FilterFault>
+    ensures { MatchResult result (λ _. taps ≤ MOST_TAPS) IsCountFault }
+{
+    if taps > MOST_TAPS {
+        return Err(FilterFault::TooManyTaps { taps });
+    }
+    Ok(())
+}

@@ -1,0 +1,85 @@
+//! Ratios of rates, and the stages that may be the first ones of them.
+
+ghost use Rattle.std.specs.Prelude.{◌≡◌, ◌<◌, ◌+◌, ◌/◌, IfSome};
+ghost use Rattle.std.specs.Int.{IsGcd};
+ghost use Rattle.sdf_filters.specs.Stages.{IsLowest, IsPart};
+
+use crate::stage::Stage;
+use sdf_limits::MOST_FACTOR;
+
+/// How many places there are for stages: each `up` with each `down`.
+pub(crate) const PLACES: u32 = MOST_FACTOR * MOST_FACTOR;
+
+/// A ratio: `up` samples for `down`.
+#[derive(Clone, Copy)]
+pub(crate) struct Ratio {
+    pub(crate) up: u32,
+    pub(crate) down: u32,
+}
+
+/// The greatest common divisor.
+fn gcd(a: u32, b: u32) -> u32
+    requires { 0 < a }
+    ensures some { 0 < result }
+    ensures is { IsGcd a b result }
+{
+    let mut x = a;
+    let mut y = b;
+    while y != 0 {
+        let rest = x % y;
+        x = y;
+        y = rest;
+    }
+    x
+}
+
+/// The ratio of two rates, in lowest terms.
+pub(crate) fn lowest(from: u32, to: u32) -> Ratio
+    requires from { 0 < from }
+    requires to { 0 < to }
+    ensures { IsLowest from to result.up result.down }
+{
+    let common = gcd(from, to);
+    Ratio {
+        up: to / common,
+        down: from / common,
+    }
+}
+
+impl Ratio {
+    /// The sum of its terms: 2 where the ratio is 1.
+    pub(crate) fn sum(self) -> u64
+        ensures { result ≡ self.up + self.down }
+    {
+        u64::from(self.up) + u64::from(self.down)
+    }
+
+    /// What is left of it behind a stage.
+    pub(crate) fn after(self, stage: Stage) -> Ratio
+        ensures up { result.up ≡ self.up / stage.up }
+        ensures down { result.down ≡ self.down / stage.down }
+    {
+        Ratio {
+            up: self.up / stage.up,
+            down: self.down / stage.down,
+        }
+    }
+
+    /// The stage at a place, where it is a part of the ratio. At place 0 is the stage that does nothing.
+    pub(crate) fn part(self, place: u32) -> Option<Stage>
+        ensures { IfSome result (IsPart self.up self.down) }
+    {
+        if place == 0 || place >= PLACES {
+            return None;
+        }
+        let stage = Stage {
+            up: place / MOST_FACTOR + 1,
+            down: place % MOST_FACTOR + 1,
+        };
+        if self.up % stage.up == 0 && self.down % stage.down == 0 {
+            Some(stage)
+        } else {
+            None
+        }
+    }
+}

@@ -1,0 +1,118 @@
+//! The real values of a low-pass, in floats: a sinc under Kaiser's window. No clause says what they are.
+
+ghost use Rattle.std.specs.Prelude.{◌≡◌, ◌<◌, ◌≤◌, length, IfOk};
+
+use std::alloc::{AllocError, Global};
+use std::f64::consts::{PI, TAU};
+use std::num::{nearest_usize_to_f64, saturating_f64_to_i32, saturating_f64_to_usize};
+
+/// A sinc under Kaiser's window, times `up` and `2^shift`, about the middle of its places.
+#[derive(Clone, Copy)]
+pub(crate) struct Sinc {
+    /// Half of what passes, as a part of the rate.
+    edge: f64,
+    /// The window's parameter.
+    beta: f64,
+    up: f64,
+    unit: f64,
+    middle: f64,
+}
+
+impl Sinc {
+    /// So many places, of a filter that has half its height at `edge` times the rate.
+    pub(crate) fn new(edge: f64, attenuation: u32, up: f64, unit: f64, count: usize) -> Sinc {
+        let last = count.saturating_sub(1);
+        Sinc {
+            edge,
+            beta: shape(f64::from(attenuation)),
+            up,
+            unit,
+            middle: nearest_usize_to_f64(last) / 2.0,
+        }
+    }
+
+    /// Its value at a place.
+    fn at(&self, place: usize) -> f64 {
+        let from_middle = nearest_usize_to_f64(place) - self.middle;
+        let part = if self.middle == 0.0 {
+            0.0
+        } else {
+            from_middle / self.middle
+        };
+        let inside = (1.0 - part * part).max(0.0).sqrt();
+        let window = bessel(self.beta * inside) / bessel(self.beta);
+        self.up * sine_over(self.edge, from_middle) * window * self.unit
+    }
+}
+
+/// The sinc of a low-pass of unit height, `from_middle` places from its middle.
+fn sine_over(edge: f64, from_middle: f64) -> f64 {
+    if from_middle == 0.0 {
+        2.0 * edge
+    } else {
+        (TAU * edge * from_middle).sin() / (PI * from_middle)
+    }
+}
+
+/// Kaiser's formula for the window's parameter, by the attenuation in dB.
+fn shape(attenuation: f64) -> f64 {
+    if attenuation > 50.0 {
+        0.1102 * (attenuation - 8.7)
+    } else if attenuation > 21.0 {
+        0.5842 * (attenuation - 21.0).powf(0.4) + 0.07886 * (attenuation - 21.0)
+    } else {
+        0.0
+    }
+}
+
+/// The modified Bessel function of order 0, by its series: the terms of an argument up to 22 are small after 60.
+fn bessel(x: f64) -> f64 {
+    let mut total = 1.0;
+    let mut term = 1.0;
+    for k in 1u32..500 {
+        if term <= total * 1e-17 {
+            break;
+        }
+        let ratio = x / f64::from(2 * k);
+        term *= ratio * ratio;
+        total += term;
+    }
+    total
+}
+
+/// Kaiser's formula for the number of taps, by the attenuation in dB, and by the Hz between what passes and what is
+/// stopped.
+pub(crate) fn kaiser_length(attenuation: u32, band: f64, rate: f64) -> usize {
+    let width = TAU * band / rate;
+    let order = (f64::from(attenuation) - 7.95) / (2.285 * width);
+    saturating_f64_to_usize(order.ceil()).saturating_add(1)
+}
+
+/// The values at all places; the second half is the first one turned round.
+pub(crate) fn real_taps(alloc: Global, sinc: Sinc, count: usize) -> Result<Vec<f64>, AllocError>
+    ensures { IfOk result (λ reals. length reals.items ≡ count) }
+{
+    let mut reals = Vec::new(alloc);
+    for place in 0..count {
+        let other = count - 1 - place;
+        reals.push(sinc.at(place.min(other)))?;
+    }
+    Ok(reals)
+}
+
+/// The nearest whole numbers, of two as near the even one.
+pub(crate) fn rounded_taps(alloc: Global, reals: &[f64]) -> Result<Vec<i32>, AllocError>
+    ensures { IfOk result (λ taps. length taps.items ≡ length reals.now) }
+{
+    let mut taps = Vec::new(alloc);
+    for real in reals {
+        taps.push(saturating_f64_to_i32(real.round_ties_even()))?;
+    }
+    Ok(taps)
+}
+
+/// How far a tap stands beyond its real value, in the direction of a step.
+pub(crate) fn beyond(tap: i32, real: f64, rise: bool) -> f64 {
+    let over = f64::from(tap) - real;
+    if rise { over } else { -over }
+}

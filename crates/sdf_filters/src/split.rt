@@ -1,0 +1,113 @@
+//! The stages of a conversion between two rates.
+
+ghost use Rattle.std.specs.Prelude.{◌≡◌, ◌<◌, ◌≤◌, ◌+◌, ◌%◌, ◌++◌, ◌∷◌, [], OnOk, MatchOption, MatchResult};
+ghost use Rattle.sdf_filters.specs.Stages.{IsPart, IsSplitOf, IsSplit, IsPartFault, IsSplitFault, HasNoFactor};
+ghost use Rattle.sdf_filters.specs.Stages.{IsLeastFactor};
+
+use crate::cost::Weights;
+use crate::fault::FilterFault;
+use crate::ratio::{Ratio, lowest};
+use crate::stage::Stage;
+use sdf_limits::MOST_FACTOR;
+use std::alloc::{AllocError, Global};
+
+/// The stages of a conversion between two rates, in order: their product is the ratio of the rates exactly.
+///
+/// Of the splits into at most three stages the cheapest one is taken, in products a second for that attenuation in dB
+/// (`cost` says how they are counted); where there is none, the least factor is taken first, and what is left is split
+/// so. That the split is cheap no clause says.
+pub fn stages(
+    alloc: Global,
+    from: u32,
+    to: u32,
+    attenuation: u32,
+) -> Result<Vec<Stage>, FilterFault>
+    ensures { MatchResult result (λ stages. IsSplit from to stages.items) (IsSplitFault from to) }
+{
+    if from == 0 {
+        return Err(FilterFault::NoRate);
+    }
+    if to == 0 {
+        return Err(FilterFault::NoRate);
+    }
+    let weights = Weights::new(f64::from(from), f64::from(to), f64::from(attenuation));
+    let stages = split(alloc, lowest(from, to), weights, f64::from(from))?;
+    Ok(stages)
+}
+
+/// The stages of a ratio, from a rate on.
+fn split(
+    alloc: Global,
+    ratio: Ratio,
+    weights: Weights,
+    from: f64,
+) -> Result<Vec<Stage>, FilterFault>
+    requires up { 0 < ratio.up }
+    requires down { 0 < ratio.down }
+    ensures { MatchResult result
+        (λ stages. IsSplitOf ratio.up ratio.down 1 1 stages.items)
+        (IsPartFault ratio.up ratio.down) }
+{
+    let mut stages = Vec::new(alloc);
+    let mut left = ratio;
+    let mut rate = from;
+    'parts: while left.sum() > 2 {
+        let stage = next_stage(left, weights, rate)?;
+        add_stage(&mut stages, stage)?;
+        left = left.after(stage);
+        rate = rate * f64::from(stage.up) / f64::from(stage.down);
+    }
+    Ok(stages)
+}
+
+/// One stage more.
+fn add_stage(stages: &mut Vec<Stage>, stage: Stage) -> Result<(), AllocError>
+    ensures { OnOk result (stages.new.items ≡ stages.old.items ++ stage ∷ []) }
+{
+    stages.push(stage)?;
+    Ok(())
+}
+
+/// The next stage of a ratio.
+fn next_stage(left: Ratio, weights: Weights, rate: f64) -> Result<Stage, FilterFault>
+    requires up { 0 < left.up }
+    requires down { 0 < left.down }
+    requires some { 2 < left.up + left.down }
+    ensures { MatchResult result (IsPart left.up left.down) (IsPartFault left.up left.down) }
+{
+    match weights.first(rate, left) {
+        Some(stage) => Ok(stage),
+        None => least_part(left),
+    }
+}
+
+/// The stage of the least factor.
+fn least_part(left: Ratio) -> Result<Stage, FilterFault>
+    requires up { 0 < left.up }
+    requires down { 0 < left.down }
+    requires some { 2 < left.up + left.down }
+    ensures { MatchResult result (IsPart left.up left.down) (IsPartFault left.up left.down) }
+{
+    if let Some(up) = least_factor(left.up) {
+        return Ok(Stage { up, down: 1 });
+    }
+    if let Some(down) = least_factor(left.down) {
+        return Ok(Stage { up: 1, down });
+    }
+    if left.up > 1 {
+        return Err(FilterFault::FactorTooLarge { factor: left.up });
+    }
+    Err(FilterFault::FactorTooLarge { factor: left.down })
+}
+
+/// The least factor of a number from 2 to 64.
+fn least_factor(number: u32) -> Option<u32>
+    ensures { MatchOption result (HasNoFactor number) (IsLeastFactor number) }
+{
+    for factor in 2..MOST_FACTOR + 1 {
+        if number % factor == 0 {
+            return Some(factor);
+        }
+    }
+    None
+}

@@ -1,0 +1,15 @@
+//! A stage of a conversion between two rates.
+
+ghost use Rattle.std.specs.Prelude.{◌≤◌};
+ghost use Rattle.sdf_limits.specs.declared.TheConstants.{MOST_FACTOR};
+
+/// A filter between two rates: `up / down` times as many samples, each key within the limits of an actor of kind `fir`.
+#[derive(Debug, Clone, Copy, PartialEq, Eq)]
+pub struct Stage {
+    pub up: u32,
+    pub down: u32,
+    pub ghost up_some: { 1 ≤ up },
+    pub ghost up_few: { up ≤ MOST_FACTOR },
+    pub ghost down_some: { 1 ≤ down },
+    pub ghost down_few: { down ≤ MOST_FACTOR },
+}
