@@ -82,7 +82,7 @@ waits_test r f g =
 
 -- whether a firing stands in a cell
 held_pick : (f g : Firing) → (g.actor ≡ f.actor) ⊎ (g.actor ≡ f.actor → ⊥) → (g.number ≡ f.number) ⊎ (g.number ≡ f.number → ⊥) → (Some g ≡ Some f) ⊎ (Some g ≡ Some f → ⊥)
-held_pick f g (inl a) (inl b) = inl (λ i. Some (record { actor = a i; number = b i }))
+held_pick f g (inl a) (inl b) = let is : g ≡ f = λ i. record { actor = a i; number = b i } in inl (ap Some is)
 held_pick f g (inl a) (inr nb) = inr (λ e. nb (ap (λ (h : Firing). h.number) (same_Some g f e)))
 held_pick f g (inr na) x = inr (λ e. na (ap (λ (h : Firing). h.actor) (same_Some g f e)))
 

@@ -6,3 +6,4 @@ pub mod Sums
 pub mod Bounds
 pub mod Spans
 pub mod Exists
+pub mod Caps

@@ -102,9 +102,6 @@ pub span_is : (r : Rates) (cost : ℕ → ℕ) (s : Numbered) (j : ℕ) (reps : 
     IsGreatest (λ u. (a : ℕ) × (0 < get_or reps a 0) × (number s (record { actor = a; number = 0 }) ≡ u)) t → IsSpan r (λ a. get_or (block j reps) a 0) cost t
 span_is r cost s j reps t some all levels g = record { above = λ u w. above u w.0 w.1 w.2; reached = reach g.reached }
   where
-    n : ℕ → ℕ
-    n = λ a. get_or (block j reps) a 0
-
     fires : (a k : ℕ) → k < get_or (block j reps) a 0 → (0 < get_or reps a 0) ⊎ (get_or reps a 0 ≤ 0) → 0 < get_or reps a 0
     fires a k l (inl h) = h
     fires a k l (inr z) =

@@ -1,6 +1,6 @@
 -- One cell more of a table.
-use Rattle.std.proofs.Common.{◌≡◌, ℕ, ◌+◌, ◌-◌, ◌*◌, ◌^◌, ◌≤◌, ◌<◌, ◌⊎◌, List, [], ◌∷◌, ◌++◌, length, get_or, set, max, inl, inr, sym, ap, ◌∙◌, subst, arith, refl, Option, Some, None}
-use Rattle.std.proofs.lemmas.List.{get_or_append_left, get_or_push, get_or-set_same, get_or-set_other, get_or_past, length-set, length_push, length-replicate, get_or-replicate}
+use Rattle.std.proofs.Common.{◌≡◌, ℕ, ◌+◌, ◌-◌, ◌*◌, ◌^◌, ◌≤◌, ◌<◌, ◌⊎◌, List, [], ◌∷◌, ◌++◌, length, get_or, set, replicate, inl, inr, sym, ap, ◌∙◌, subst, arith, refl, Option, Some, None}
+use Rattle.std.proofs.lemmas.List.{get_or_append_left, get_or-append_right, get_or_push, get_or-set_same, get_or-set_other, get_or_past, length-set, length_push, length-replicate, get_or-replicate}
 use Rattle.std.proofs.lemmas.Option.{none-some, same_Some}
 use Rattle.std.proofs.lemmas.Bool.{cases_lt, cases_eq}
 use Rattle.sdf_limits.specs.declared.TheConstants.{MOST_COST, MOST_BLOCK}
@@ -386,3 +386,25 @@ module _ (r : Rates) (cost : ℕ → ℕ) (rows : List (List (Option Firing))) (
       reach : (t ≡ 0) ⊎ ((j : ℕ) × (j < length until) × (get_or until j 0 ≡ t)) → (t ≡ 0) ⊎ ((f : Firing) × IsInTable rows f × (end_of cost (start_in starts) f ≡ t))
       reach (inl z) = inl z
       reach (inr (j, l, is)) = by j is (w.through j l).reached
+
+-- lists of no starts
+one_none : (k : ℕ) → ◌≡◌ {A = List ℕ} (get_or ([] ∷ []) k []) []
+one_none k = go (cases_eq k 0)
+  where
+    go : (k ≡ 0) ⊎ (k ≡ 0 → ⊥) → ◌≡◌ {A = List ℕ} (get_or ([] ∷ []) k []) []
+    go (inl e) = ap (λ (i : ℕ). get_or {A = List ℕ} ([] ∷ []) i []) e
+    go (inr ne) = get_or_past ([] ∷ []) k [] (omega arith)
+
+pub none_push : (xs : List (List ℕ)) → ((a : ℕ) → get_or xs a [] ≡ []) → (a : ℕ) → get_or (xs ++ [] ∷ []) a [] ≡ []
+none_push xs none a = go (cases_lt a (length xs))
+  where
+    go : (a < length xs) ⊎ (length xs ≤ a) → get_or (xs ++ [] ∷ []) a [] ≡ []
+    go (inl low) = get_or_append_left xs ([] ∷ []) [] a low ∙ none a
+    go (inr high) = get_or-append_right xs ([] ∷ []) (length xs) a [] refl high ∙ one_none (a - length xs)
+
+pub zeros : (m i : ℕ) → ◌≡◌ {A = ℕ} (get_or (replicate m 0) i 0) 0
+zeros m i = go (cases_lt i m)
+  where
+    go : (i < m) ⊎ (m ≤ i) → ◌≡◌ {A = ℕ} (get_or (replicate m 0) i 0) 0
+    go (inl low) = get_or-replicate m i 0 0 low
+    go (inr high) = get_or_past (replicate m 0) i 0 (omega (arith, length-replicate {A = ℕ} m 0))

@@ -8,6 +8,7 @@ pub mod bounds;
 pub mod laws;
 mod loads;
 mod needs;
+pub mod samples;
 mod starts;
 #[cfg(test)]
 mod tests;
@@ -15,4 +16,5 @@ pub mod times;
 mod walk;
 
 pub use bounds::{bound, span, work};
+pub use samples::held;
 pub use times::Times;

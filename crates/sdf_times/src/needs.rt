@@ -36,9 +36,10 @@ pub(crate) fn ready(graph: &Graph, starts: &[Starts], costs: &Costs, firing: Fir
     graphs_are_sound();
     let channels = graph.channels();
     let mut time = ended(starts, costs, firing.actor, u64::from(firing.number));
-    for channel in graph.incoming(firing.actor) {
-        let count = needed(graph, *channel, firing.number);
-        time = time.max(ended(starts, costs, channels[*channel].from, count));
+    for number in graph.incoming(firing.actor) {
+        let channel = &channels[*number];
+        let count = needed(graph, *number, firing.number);
+        time = time.max(ended(starts, costs, channel.from, count));
     }
     time
 }

@@ -1,7 +1,6 @@
 //! The cells of a table, row by row: each firing starts when its column and all that it waits for are through.
 
 ghost use Rattle.std.specs.Prelude.{◌≡◌, ℕ, ◌+◌, ◌<◌, ◌^◌, length, slice_index, IfOk};
-ghost use Rattle.sdf_limits.specs.declared.TheConstants.{MOST_BLOCK};
 ghost use Rattle.sdf_graph.specs.Rates.{rates};
 ghost use Rattle.sdf_prec.specs.Costs.{AreCosts};
 ghost use Rattle.sdf_prec.specs.Tables.{IsTable};
