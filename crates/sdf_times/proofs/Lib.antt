@@ -7,3 +7,4 @@ pub mod Bounds
 pub mod Spans
 pub mod Exists
 pub mod Caps
+pub mod Rules

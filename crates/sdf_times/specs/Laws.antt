@@ -1,8 +1,9 @@
 -- Statements of the laws.
-use Rattle.std.specs.Prelude.{◌≡◌, ℕ, ◌≤◌, ◌<◌, List, length, Option}
+use Rattle.std.specs.Prelude.{◌≡◌, ℕ, ◌≤◌, ◌<◌, List, length, Option, Bool}
 use Rattle.sdf_graph.specs.Rates.{Rates}
 use Rattle.sdf_prec.specs.declared.firing.Firing.{Firing}
 use Rattle.sdf_prec.specs.Tables.{row, IsValid}
+use Rattle.sdf_prec.specs.TimedRows.{Timed, timed, cells_of, IsAt, AreTimedRows, hu_rule}
 use Rattle.sdf_times.specs.Times.{IsInTable, ComesBefore, end_of, AreStarts, IsMakespan, work_of, IsSpan, IsBound}
 
 -- a valid table has times
@@ -27,3 +28,9 @@ BoundsHold =
     (r : Rates) (n cost : ℕ → ℕ) (width : ℕ) (rows : List (List (Option Firing))) (start : Firing → ℕ) (makespan span bound : ℕ) → IsValid r n rows →
     ((i : ℕ) → i < length rows → length (row rows i) ≤ width) → AreStarts r cost rows start → IsMakespan cost rows start makespan → IsSpan r n cost span →
     IsBound span (work_of r.actors n cost) width bound → bound ≤ makespan
+
+-- in rows by Hu's rule with these costs no firing starts later than its row
+abbrev pub RowsAreNoSooner : Type 0
+RowsAreNoSooner =
+    (r : Rates) (n cost : ℕ → ℕ) (level : Firing → ℕ) (width : ℕ) (homed : Bool) (rows : List Timed) (start : Firing → ℕ) → AreTimedRows r n width (hu_rule r n cost level width homed) rows →
+    IsValid r n (cells_of rows) → AreStarts r cost (cells_of rows) start → (i j : ℕ) (f : Firing) → IsAt rows i j f → start f ≤ (timed rows i).start

@@ -1,6 +1,6 @@
 //! Laws over the definitions, each the contract of a function that does nothing but call laws.
 
-ghost use Rattle.sdf_times.specs.Laws.{StartsExist, StartsAreLeast, StartsAreOne, BoundsHold};
+ghost use Rattle.sdf_times.specs.Laws.{StartsExist, StartsAreLeast, StartsAreOne, BoundsHold, RowsAreNoSooner};
 
 use sdf_graph::laws::cycles_begin_anew;
 use sdf_prec::laws::orders_are_passes;
@@ -19,3 +19,8 @@ pub fn bounds_hold()
     cycles_begin_anew();
     orders_are_passes();
 }
+
+/// In a table by Hu's rule no firing starts later than the rule starts its row.
+pub fn rows_are_no_sooner()
+    ensures { RowsAreNoSooner }
+{}
