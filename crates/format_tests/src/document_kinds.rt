@@ -1,5 +1,5 @@
-//! The rows of kinds as the table of `docs/FORMATS.md` has them: word and keys, its first two columns. It is proved of the
-//! definitions that `read_document` is proved to follow, and `docs/tables.py` compares the text here with the page.
+//! The rows of kinds as the table of `docs/FORMATS.md` has them: word and keys, its first two columns. It is proved of
+//! the definitions that `read_document` is proved to follow, and `docs/tables.py` compares the text here with the page.
 
 ghost use Rattle.std.specs.Prelude.{◌≡◌};
 ghost use Rattle.format_tests.specs.KindTable.{kinds_text, shared_text};

@@ -1,4 +1,5 @@
-//! What no clause says of files: worked WAV files, whole and in pieces, over devices that fail, and worked documents and designs.
+//! What no clause says of files: worked WAV files, whole and in pieces, over devices that fail, and worked documents
+//! and designs.
 //!
 //! It stands on `sdf_wav`, `sdf_document`, `sdf_file` and `test_devices`, and has no functions: tests stand in a crate
 //! of their own, since a crate's functions are proved once more with its tests. Begin at `wav_files` and `documents`.

@@ -1,4 +1,5 @@
-//! A net for each fault, in the order of the tests. Each net before the last has faults of the next test as well, where it can.
+//! A net for each fault, in the order of the tests. Each net before the last has faults of the next test as well, where
+//! it can.
 
 use sdf_actor::{Actor, Link, Net, NetFault, Node};
 use std::alloc::{AllocError, Global};

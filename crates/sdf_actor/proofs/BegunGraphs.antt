@@ -1,8 +1,10 @@
 -- The graph of a net that begins with what a history left.
-use Rattle.std.proofs.Common.{◌≡◌, ℕ, ◌+◌, ◌≤◌, ◌<◌, List, [], ◌∷◌, ◌++◌, length, map, get_or, drop, Option, None, sym, ap, ◌∙◌, subst, inl, inr, ◌⊎◌, arith}
+use Rattle.std.proofs.Common.{◌≡◌, ℕ, ◌+◌, ◌≤◌, ◌<◌, List, [], ◌∷◌, ◌++◌, length, map, get_or, drop, Option, None, sym}
+use Rattle.std.proofs.Common.{ap, ◌∙◌, subst, inl, inr, ◌⊎◌, arith}
 use Rattle.std.specs.List.{range_with_len}
 use Rattle.std.proofs.lemmas.Bool.{cases_lt}
-use Rattle.std.proofs.lemmas.List.{take_all, get_or-map, length-map, length-drop, same_lists, get_or_append_left, get_or_push}
+use Rattle.std.proofs.lemmas.List.{take_all, get_or-map, length-map, length-drop, same_lists, get_or_append_left}
+use Rattle.std.proofs.lemmas.List.{get_or_push}
 use Rattle.sdf_graph.specs.Laws.{SumsRise}
 use Rattle.sdf_graph.specs.Sequences.{IsPeriod}
 use Rattle.sdf_actor.specs.declared.node.Node.{Node}
@@ -20,7 +22,8 @@ use Rattle.sdf_actor.proofs.Netlists.{wired}
 use Rattle.sdf_actor.proofs.Readings.{length-wires}
 
 -- what holds of each item holds with one more
-pub each_pushed : {X : Type 0} (P : ℕ → X → Type 0) (xs : List X) (y d : X) (n : ℕ) → length xs ≡ n → ((i : ℕ) → i < n → P i (get_or xs i d)) → P n y →
+pub each_pushed : {X : Type 0} (P : ℕ → X → Type 0) (xs : List X) (y d : X) (n : ℕ) → length xs ≡ n →
+    ((i : ℕ) → i < n → P i (get_or xs i d)) → P n y →
     (i : ℕ) → i < n + 1 → P i (get_or (xs ++ y ∷ []) i d)
 each_pushed {X} P xs y d n long each last i h = go (cases_lt i n)
   where
@@ -31,7 +34,8 @@ each_pushed {X} P xs y d n long each last i h = go (cases_lt i n)
         subst (P i) (sym (get_or_push xs y d i (long ∙ at))) (subst (λ j. P j y) at last)
 
 -- before its first firing the channels have what they begin with
-pub no_firing : SumsRise → {A S T : Type 0} (s : Steps A S T) (n : Netlist A T) → IsNet s n → (inputs : List (List T)) → IsHistoryOf s n inputs (λ _. 0) (wiring s n).starts
+pub no_firing : SumsRise → {A S T : Type 0} (s : Steps A S T) (n : Netlist A T) → IsNet s n → (inputs : List (List T)) →
+    IsHistoryOf s n inputs (λ _. 0) (wiring s n).starts
 no_firing rise s n good inputs =
     let sound = (wired s n good rise).sound in
     record {
@@ -42,34 +46,51 @@ no_firing rise s n good inputs =
     }
 
 -- after a whole period a channel holds as many samples as at first
-pub held_as_many : {A S T : Type 0} (s : Steps A S T) (n : Netlist A T) (inputs : List (List T)) (k : ℕ → ℕ) (V : ℕ → List T) → IsPeriod (wiring s n).rates k → IsHistoryOf s n inputs k V →
-    (c : ℕ) → c < length n.wires → length (drop ((wiring s n).rates.consumed c (k ((wiring s n).rates.target c))) (V c)) ≡ length (wire n c).initial
+pub held_as_many : {A S T : Type 0} (s : Steps A S T) (n : Netlist A T) (inputs : List (List T)) (k : ℕ → ℕ)
+    (V : ℕ → List T) → IsPeriod (wiring s n).rates k → IsHistoryOf s n inputs k V →
+    (c : ℕ) → c < length n.wires → length (drop ((wiring s n).rates.consumed c (k ((wiring s n).rates.target c)))
+    (V c)) ≡ length (wire n c).initial
 held_as_many s n inputs k V period r c l =
-    omega (arith, length-drop ((wiring s n).rates.consumed c (k ((wiring s n).rates.target c))) (V c), r.lengths c l, period.balanced c l)
+    omega (
+      arith,
+      length-drop ((wiring s n).rates.consumed c (k ((wiring s n).rates.target c))) (V c),
+      r.lengths c l,
+      period.balanced c l,
+    )
 
 -- a node that begins in a state has its rates
-rates_same : {A B S T : Type 0} (s : Steps A S T) (r : Steps B S T) (state : Option S) (x : Node A) (y : Node B) → IsNodeIn s r state x y → (side : Side) (p : ℕ) →
+rates_same : {A B S T : Type 0} (s : Steps A S T) (r : Steps B S T) (state : Option S) (x : Node A) (y : Node B) →
+    IsNodeIn s r state x y → (side : Side) (p : ℕ) →
     rates_at r side y p ≡ rates_at s side x p
 rates_same s r state (Source ext block) y e Input p = ap (λ t. rates_at r Input t p) e
 rates_same s r state (Source ext block) y e Output p = ap (λ t. rates_at r Output t p) e
 rates_same s r state (Sink ext block) y e Input p = ap (λ t. rates_at r Input t p) e
 rates_same s r state (Sink ext block) y e Output p = ap (λ t. rates_at r Output t p) e
-rates_same s r state (Inner x) y (b, now, e, _, same) Input p = ap (λ t. rates_at r Input t p) e ∙ (λ κ. map (same.take κ p) (range_with_len 0 (same.cycle κ)))
-rates_same s r state (Inner x) y (b, now, e, _, same) Output p = ap (λ t. rates_at r Output t p) e ∙ (λ κ. map (same.put κ p) (range_with_len 0 (same.cycle κ)))
+rates_same s r state (Inner x) y (b, now, e, _, same) Input p =
+    ap (λ t. rates_at r Input t p) e ∙ (λ κ. map (same.take κ p) (range_with_len 0 (same.cycle κ)))
+rates_same s r state (Inner x) y (b, now, e, _, same) Output p =
+    ap (λ t. rates_at r Output t p) e ∙ (λ κ. map (same.put κ p) (range_with_len 0 (same.cycle κ)))
 
-module _ {A B S T : Type 0} (s : Steps A S T) (r : Steps B S T) (n : Netlist A T) (good : IsNet s n) (inputs : List (List T)) (k : ℕ → ℕ) (period : IsPeriod (wiring s n).rates k)
-    (V : ℕ → List T) (is : IsHistoryOf s n inputs k V) (rest : Rest T S) (left : Leaves s n k V rest) (m : Netlist B T) (begins : BeginsWith s r n rest m) where
+module _ {A B S T : Type 0} (s : Steps A S T) (r : Steps B S T) (n : Netlist A T) (good : IsNet s n)
+    (inputs : List (List T)) (k : ℕ → ℕ) (period : IsPeriod (wiring s n).rates k)
+    (V : ℕ → List T) (is : IsHistoryOf s n inputs k V) (rest : Rest T S) (left : Leaves s n k V rest) (m : Netlist B T)
+    (begins : BeginsWith s r n rest m) where
   channel_same : (c : ℕ) → c < length n.wires → channel_of r m.nodes (wire m c) ≡ channel_of s n.nodes (wire n c)
   channel_same c l =
       let from = begins.from c l in
       let to = begins.to c l in
-      let put : rates_at r Output (node m (wire m c).from.0) (wire m c).from.1 ≡ rates_at s Output (node n (wire n c).from.0) (wire n c).from.1 =
+      let put : rates_at r Output (node m (wire m c).from.0) (wire m c).from.1 ≡
+      rates_at s Output (node n (wire n c).from.0) (wire n c).from.1 =
       ap (λ e. rates_at r Output (node m e.0) e.1) from ∙
-      rates_same s r (get_or rest.states.items (wire n c).from.0 None) (node n (wire n c).from.0) (node m (wire n c).from.0) (begins.each (wire n c).from.0 (good.from_in c l).0) Output (wire n c).from.1 in
-      let take : rates_at r Input (node m (wire m c).to.0) (wire m c).to.1 ≡ rates_at s Input (node n (wire n c).to.0) (wire n c).to.1 =
+      rates_same s r (get_or rest.states.items (wire n c).from.0 None) (node n (wire n c).from.0)
+      (node m (wire n c).from.0) (begins.each (wire n c).from.0 (good.from_in c l).0) Output (wire n c).from.1 in
+      let take : rates_at r Input (node m (wire m c).to.0) (wire m c).to.1 ≡
+      rates_at s Input (node n (wire n c).to.0) (wire n c).to.1 =
       ap (λ e. rates_at r Input (node m e.0) e.1) to ∙
-      rates_same s r (get_or rest.states.items (wire n c).to.0 None) (node n (wire n c).to.0) (node m (wire n c).to.0) (begins.each (wire n c).to.0 (good.to_in c l).0) Input (wire n c).to.1 in
-      let initial : length (wire m c).initial ≡ length (wire n c).initial = ap length (begins.initial c l ∙ left.held c l) ∙ held_as_many s n inputs k V period is c l in
+      rates_same s r (get_or rest.states.items (wire n c).to.0 None) (node n (wire n c).to.0) (node m (wire n c).to.0)
+      (begins.each (wire n c).to.0 (good.to_in c l).0) Input (wire n c).to.1 in
+      let initial : length (wire m c).initial ≡ length (wire n c).initial =
+      ap length (begins.initial c l ∙ left.held c l) ∙ held_as_many s n inputs k V period is c l in
       λ κ. record { from = (from κ).0; put = put κ; to = (to κ).0; take = take κ; initial = initial κ }
 
   -- so the graph is the same
@@ -82,14 +103,22 @@ module _ {A B S T : Type 0} (s : Steps A S T) (r : Steps B S T) (n : Netlist A T
       (λ c d h.
       let here : c < length m.wires = omega (arith, length-map m.wires (channel_of r m.nodes), h) in
       let there : c < length n.wires = omega (arith, begins.wires, here) in
-      get_or-map (channel_of r m.nodes) m.wires c no_wire d here ∙ (channel_same c there ∙ sym (get_or-map (channel_of s n.nodes) n.wires c no_wire d there))) in
+      get_or-map (channel_of r m.nodes) m.wires c no_wire d here
+      ∙ (channel_same c there ∙ sym (get_or-map (channel_of s n.nodes) n.wires c no_wire d there))) in
       λ κ. record { actors = nodes κ; channels = channels κ }
 
 -- a net of nodes and links that were made one by one
-pub begins_with : {A B S T : Type 0} (s : Steps A S T) (r : Steps B S T) (nodes : List (Node A)) (links : List (Link T)) (rest : Rest T S) (made : List (Node B)) (joined : List (Link T)) →
-    length made ≡ length nodes → ((a : ℕ) → a < length nodes → IsNodeIn s r (get_or rest.states.items a None) (get_or nodes a (Sink 0 0)) (get_or made a (Sink 0 0))) →
+pub begins_with : {A B S T : Type 0} (s : Steps A S T) (r : Steps B S T) (nodes : List (Node A)) (links : List (Link T))
+    (rest : Rest T S) (made : List (Node B)) (joined : List (Link T)) →
+    length made ≡ length nodes → ((a : ℕ) → a < length nodes →
+    IsNodeIn s r (get_or rest.states.items a None) (get_or nodes a (Sink 0 0)) (get_or made a (Sink 0 0))) →
     length joined ≡ length links →
-    ((c : ℕ) → c < length links → get_or (wires joined) c no_wire ≡ record { from = (get_or (wires links) c no_wire).from; to = (get_or (wires links) c no_wire).to; initial = get_or (lists rest.held.items) c [] }) →
+    ((c : ℕ) → c < length links → get_or (wires joined) c no_wire ≡
+    record {
+      from = (get_or (wires links) c no_wire).from;
+      to = (get_or (wires links) c no_wire).to;
+      initial = get_or (lists rest.held.items) c [];
+    }) →
     BeginsWith s r (netlist nodes links) rest (netlist made joined)
 begins_with {A} {B} {S} {T} s r nodes links rest made joined nodes_all nodes_each links_all links_each = record {
   nodes = nodes_all;

@@ -1,5 +1,6 @@
 -- A net that begins with what a history left.
-use Rattle.std.proofs.Common.{◌≡◌, ℕ, suc, ◌+◌, ◌*◌, ◌%◌, ◌<◌, List, [], ◌∷◌, ◌++◌, length, map, get_or, take, drop, eqb, ◌&&◌, Bool, not, cond, Option, Some, None, refl, sym, ap, ◌∙◌, subst, arith}
+use Rattle.std.proofs.Common.{◌≡◌, ℕ, suc, ◌+◌, ◌*◌, ◌%◌, ◌<◌, List, [], ◌∷◌, ◌++◌, length, map, get_or, take, drop}
+use Rattle.std.proofs.Common.{eqb, ◌&&◌, Bool, not, cond, Option, Some, None, refl, sym, ap, ◌∙◌, subst, arith}
 use Rattle.std.specs.List.{between, position_or_len, range_with_len}
 use Rattle.std.proofs.Math.Nat.{mul-add, add-mul-mod_self_right}
 use Rattle.std.proofs.lemmas.List.{drop_at, take_at, length-append}
@@ -11,7 +12,9 @@ use Rattle.sdf_actor.specs.declared.node.Node.TheVariants.{Source, Sink, Inner}
 use Rattle.sdf_actor.specs.declared.rest.Rest.{Rest}
 use Rattle.sdf_actor.specs.Begun.{BeginsIn}
 use Rattle.sdf_actor.specs.Histories.{IsWired, AnswersAgree, taken_before}
-use Rattle.sdf_actor.specs.Nets.{Wire, Netlist, no_wire, wire, node, inputs_of, outputs_of, consumed_at, produced_at, cycle_of, from_port, to_port, wiring, answers, answer_of, arrived, IsHistoryOf, SourceReaches, InputsReach}
+use Rattle.sdf_actor.specs.Nets.{Wire, Netlist, no_wire, wire, node, inputs_of, outputs_of, consumed_at, produced_at}
+use Rattle.sdf_actor.specs.Nets.{cycle_of, from_port, to_port, wiring, answers, answer_of, arrived, IsHistoryOf}
+use Rattle.sdf_actor.specs.Nets.{SourceReaches, InputsReach}
 use Rattle.sdf_actor.specs.Steps.{Steps, phase, state_from, state_after}
 use Rattle.sdf_actor.specs.Rests.{Leaves, IsNodeIn, AreJoined}
 use Rattle.sdf_actor.specs.GoingOn.{GoesOn, in_all}
@@ -26,33 +29,41 @@ state_append : {A S T : Type 0} (s : Steps A S T) (x : A) (j : ℕ) (state : S) 
 state_append s x j state [] more = ap (λ n. state_from s x n state more) (let e : j ≡ j + 0 = omega arith in e)
 state_append s x j state (b ∷ past) more =
     state_append s x (j + 1) (s.next x (phase s x j) state b) past more ∙
-    ap (λ n. state_from s x n (state_from s x (j + 1) (s.next x (phase s x j) state b) past) more) (let e : j + 1 + length past ≡ j + suc (length past) = omega arith in e)
+    ap (λ n. state_from s x n (state_from s x (j + 1) (s.next x (phase s x j) state b) past) more)
+    (let e : j + 1 + length past ≡ j + suc (length past) = omega arith in e)
 
-module _ {A B S T : Type 0} (s : Steps A S T) (r : Steps B S T) (x : A) (now : S) (b : B) (same : BeginsIn s r x now b) (whole : ℕ) (cycles : Divides (s.cycle x) whole) where
+module _ {A B S T : Type 0} (s : Steps A S T) (r : Steps B S T) (x : A) (now : S) (b : B) (same : BeginsIn s r x now b)
+    (whole : ℕ) (cycles : Divides (s.cycle x) whole) where
   -- after whole cycles the phases begin anew
   pub phases : (j : ℕ) → phase s x (whole + j) ≡ phase r b j
   phases j =
       ap (λ n. n % s.cycle x) (let e : whole + j ≡ j + cycles.0 * s.cycle x = omega (arith, cycles.1) in e) ∙
       (add-mul-mod_self_right j cycles.0 (s.cycle x) ∙ ap (λ n. j % n) (sym same.cycle))
 
-  states_on : (state : S) (n j : ℕ) → n ≡ whole + j → (more : List (List T)) → state_from s x n state more ≡ state_from r b j state more
+  states_on : (state : S) (n j : ℕ) → n ≡ whole + j → (more : List (List T)) →
+      state_from s x n state more ≡ state_from r b j state more
   states_on state n j e [] = refl
   states_on state n j e (c ∷ more) =
       let at : phase s x n ≡ phase r b j = ap (phase s x) e ∙ phases j in
       let one : s.next x (phase s x n) state c ≡ r.next b (phase r b j) state c = λ κ. sym same.next κ (at κ) state c in
-      ap (λ t. state_from s x (n + 1) t more) one ∙ states_on (r.next b (phase r b j) state c) (n + 1) (j + 1) (omega (arith, e)) more
+      ap (λ t. state_from s x (n + 1) t more) one ∙ states_on (r.next b (phase r b j) state c) (n + 1) (j + 1)
+      (omega (arith, e)) more
 
   -- so its states are those of the actor that begins there
-  pub state_on : (past more : List (List T)) → length past ≡ whole → now ≡ state_after s x past → state_after s x (past ++ more) ≡ state_after r b more
+  pub state_on : (past more : List (List T)) → length past ≡ whole → now ≡ state_after s x past →
+      state_after s x (past ++ more) ≡ state_after r b more
   state_on past more long is =
       state_append s x 0 (s.start x) past more ∙
       (states_on (state_after s x past) (0 + length past) 0 (omega (arith, long)) more ∙
       ap (λ t. state_from r b 0 t more) (sym is ∙ sym same.start))
 
   puts_on : (past more : List (List T)) (block : List T) → length past ≡ whole → now ≡ state_after s x past →
-      s.puts x (phase s x (length (past ++ more))) (state_after s x (past ++ more)) block ≡ r.puts b (phase r b (length more)) (state_after r b more) block
+      s.puts x (phase s x (length (past ++ more))) (state_after s x (past ++ more)) block ≡
+      r.puts b (phase r b (length more)) (state_after r b more) block
   puts_on past more block long is =
-      let at : phase s x (length (past ++ more)) ≡ phase r b (length more) = ap (phase s x) (let e : length (past ++ more) ≡ whole + length more = omega (arith, length-append past more, long) in e) ∙ phases (length more) in
+      let at : phase s x (length (past ++ more)) ≡ phase r b (length more) =
+      ap (phase s x) (let e : length (past ++ more) ≡ whole + length more =
+      omega (arith, length-append past more, long) in e) ∙ phases (length more) in
       let state = state_on past more long is in
       λ κ. sym same.puts κ (at κ) (state κ) block
 
@@ -68,28 +79,35 @@ module _ {A B S T : Type 0} (s : Steps A S T) (r : Steps B S T) (state : Option 
   outputs_same (Sink ext block) y e = ap (outputs_of r) e
   outputs_same (Inner x) y (b, now, e, _, same) = ap (outputs_of r) e ∙ same.outputs
 
-  consumed_same : (x : Node A) (y : Node B) → IsNodeIn s r state x y → (p i : ℕ) → consumed_at r y p i ≡ consumed_at s x p i
+  consumed_same : (x : Node A) (y : Node B) → IsNodeIn s r state x y → (p i : ℕ) →
+      consumed_at r y p i ≡ consumed_at s x p i
   consumed_same (Source ext block) y e p i = ap (λ t. consumed_at r t p i) e
   consumed_same (Sink ext block) y e p i = ap (λ t. consumed_at r t p i) e
-  consumed_same (Inner x) y (b, now, e, _, same) p i = ap (λ t. consumed_at r t p i) e ∙ (λ κ. sum_to (λ j. same.take κ p (j % same.cycle κ)) i)
+  consumed_same (Inner x) y (b, now, e, _, same) p i =
+      ap (λ t. consumed_at r t p i) e ∙ (λ κ. sum_to (λ j. same.take κ p (j % same.cycle κ)) i)
 
-  produced_same : (x : Node A) (y : Node B) → IsNodeIn s r state x y → (p i : ℕ) → produced_at r y p i ≡ produced_at s x p i
+  produced_same : (x : Node A) (y : Node B) → IsNodeIn s r state x y → (p i : ℕ) →
+      produced_at r y p i ≡ produced_at s x p i
   produced_same (Source ext block) y e p i = ap (λ t. produced_at r t p i) e
   produced_same (Sink ext block) y e p i = ap (λ t. produced_at r t p i) e
-  produced_same (Inner x) y (b, now, e, _, same) p i = ap (λ t. produced_at r t p i) e ∙ (λ κ. sum_to (λ j. same.put κ p (j % same.cycle κ)) i)
+  produced_same (Inner x) y (b, now, e, _, same) p i =
+      ap (λ t. produced_at r t p i) e ∙ (λ κ. sum_to (λ j. same.put κ p (j % same.cycle κ)) i)
 
 -- the first wire that passes a test, in two lists whose wires pass it alike
 first_same : {T : Type 0} (test : Wire T → Bool) (xs ys : List (Wire T)) → length xs ≡ length ys →
-    ((c : ℕ) → c < length ys → test (get_or xs c no_wire) ≡ test (get_or ys c no_wire)) → position_or_len test xs ≡ position_or_len test ys
+    ((c : ℕ) → c < length ys → test (get_or xs c no_wire) ≡ test (get_or ys c no_wire)) →
+    position_or_len test xs ≡ position_or_len test ys
 first_same test [] [] e h = refl
 first_same test [] (y ∷ ys) e h = absurd (omega arith)
 first_same test (x ∷ xs) [] e h = absurd (omega arith)
 first_same test (x ∷ xs) (y ∷ ys) e h =
     let here : test x ≡ test y = h 0 (omega arith) in
-    let more : position_or_len test xs ≡ position_or_len test ys = first_same test xs ys (omega arith) (λ c l. h (suc c) (omega arith)) in
+    let more : position_or_len test xs ≡ position_or_len test ys =
+    first_same test xs ys (omega arith) (λ c l. h (suc c) (omega arith)) in
     λ κ. cond (not (here κ)) (1 + more κ) 0
 
-module _ {A B S T : Type 0} (rise : SumsRise) (s : Steps A S T) (r : Steps B S T) (n : Netlist A T) (m : Netlist B T) (first later : List (List T)) (k i : ℕ → ℕ)
+module _ {A B S T : Type 0} (rise : SumsRise) (s : Steps A S T) (r : Steps B S T) (n : Netlist A T) (m : Netlist B T)
+    (first later : List (List T)) (k i : ℕ → ℕ)
     (V U : ℕ → List T) (rest : Rest T S) (h : GoesOn s r n m first later k i V U rest) where
   from_same : (c : ℕ) → c < length n.wires → (wire m c).from ≡ (wire n c).from
   from_same c l = h.begins.from c l
@@ -98,12 +116,15 @@ module _ {A B S T : Type 0} (rise : SumsRise) (s : Steps A S T) (r : Steps B S T
   to_same c l = h.begins.to c l
 
   from_ports : (a p : ℕ) → from_port m a p ≡ from_port n a p
-  from_ports a p = first_same (λ w. eqb w.from.0 a && eqb w.from.1 p) m.wires n.wires h.begins.wires (λ c l κ. eqb (from_same c l κ).0 a && eqb (from_same c l κ).1 p)
+  from_ports a p = first_same (λ w. eqb w.from.0 a && eqb w.from.1 p) m.wires n.wires h.begins.wires
+      (λ c l κ. eqb (from_same c l κ).0 a && eqb (from_same c l κ).1 p)
 
   to_ports : (a p : ℕ) → to_port m a p ≡ to_port n a p
-  to_ports a p = first_same (λ w. eqb w.to.0 a && eqb w.to.1 p) m.wires n.wires h.begins.wires (λ c l κ. eqb (to_same c l κ).0 a && eqb (to_same c l κ).1 p)
+  to_ports a p = first_same (λ w. eqb w.to.0 a && eqb w.to.1 p) m.wires n.wires h.begins.wires
+      (λ c l κ. eqb (to_same c l κ).0 a && eqb (to_same c l κ).1 p)
 
-  begins_with : (c : ℕ) → c < length n.wires → (wire m c).initial ≡ drop ((wiring s n).rates.consumed c (k ((wiring s n).rates.target c))) (V c)
+  begins_with : (c : ℕ) → c < length n.wires → (wire m c).initial ≡
+      drop ((wiring s n).rates.consumed c (k ((wiring s n).rates.target c))) (V c)
   begins_with c l = h.begins.initial c l ∙ h.left.held c l
 
   as_many : (c : ℕ) → c < length n.wires → length (wire m c).initial ≡ length (wire n c).initial
@@ -118,10 +139,12 @@ module _ {A B S T : Type 0} (rise : SumsRise) (s : Steps A S T) (r : Steps B S T
     initial = as_many;
     produced = λ c j l.
         ap (λ e. produced_at r (node m e.0) e.1 j) (from_same c l) ∙
-        produced_same s r (get_or rest.states.items (wire n c).from.0 None) (node n (wire n c).from.0) (node m (wire n c).from.0) (h.begins.each (wire n c).from.0 (h.net.from_in c l).0) (wire n c).from.1 j;
+        produced_same s r (get_or rest.states.items (wire n c).from.0 None) (node n (wire n c).from.0)
+        (node m (wire n c).from.0) (h.begins.each (wire n c).from.0 (h.net.from_in c l).0) (wire n c).from.1 j;
     consumed = λ c j l.
         ap (λ e. consumed_at r (node m e.0) e.1 j) (to_same c l) ∙
-        consumed_same s r (get_or rest.states.items (wire n c).to.0 None) (node n (wire n c).to.0) (node m (wire n c).to.0) (h.begins.each (wire n c).to.0 (h.net.to_in c l).0) (wire n c).to.1 j;
+        consumed_same s r (get_or rest.states.items (wire n c).to.0 None) (node n (wire n c).to.0)
+        (node m (wire n c).to.0) (h.begins.each (wire n c).to.0 (h.net.to_in c l).0) (wire n c).to.1 j;
     ins = λ a l.
         let many = inputs_same s r (get_or rest.states.items a None) (node n a) (node m a) (h.begins.each a l) in
         λ κ. map (λ p. to_ports a p κ) (range_with_len 0 (many κ));
@@ -137,7 +160,8 @@ module _ {A B S T : Type 0} (rise : SumsRise) (s : Steps A S T) (r : Steps B S T
   before a = taken_before (wiring s n) V a (k a)
 
   -- an actor of the net begins in the state that it was left in
-  module _ (a : ℕ) (known : a < length n.nodes) (x : A) (is : node n a ≡ Inner x) (b : B) (now : S) (given : get_or rest.states.items a None ≡ Some now) (same : BeginsIn s r x now b) where
+  module _ (a : ℕ) (known : a < length n.nodes) (x : A) (is : node n a ≡ Inner x) (b : B) (now : S)
+      (given : get_or rest.states.items a None ≡ Some now) (same : BeginsIn s r x now b) where
     left_in : now ≡ state_after s x (before a)
     left_in = let e : Some now ≡ Some (state_after s x (before a)) = sym given ∙ h.left.states a x known is in cc
 
@@ -145,11 +169,14 @@ module _ {A B S T : Type 0} (rise : SumsRise) (s : Steps A S T) (r : Steps B S T
     cycles = subst (λ y. Divides (cycle_of s y) (k a)) is (h.whole.cycles a known)
 
     pub puts_as : (past : List (List T)) (block : List T) →
-        s.puts x (phase s x (length (before a ++ past))) (state_after s x (before a ++ past)) block ≡ r.puts b (phase r b (length past)) (state_after r b past) block
-    puts_as past block = puts_on s r x now b same (k a) cycles (before a) past block (length_taken_before (wiring s n) V a (k a)) left_in
+        s.puts x (phase s x (length (before a ++ past))) (state_after s x (before a ++ past)) block ≡
+        r.puts b (phase r b (length past)) (state_after r b past) block
+    puts_as past block = puts_on s r x now b same (k a) cycles (before a) past block
+        (length_taken_before (wiring s n) V a (k a)) left_in
 
     pub state_as : (past : List (List T)) → state_after s x (before a ++ past) ≡ state_after r b past
-    state_as past = state_on s r x now b same (k a) cycles (before a) past (length_taken_before (wiring s n) V a (k a)) left_in
+    state_as past = state_on s r x now b same (k a) cycles (before a) past
+        (length_taken_before (wiring s n) V a (k a)) left_in
 
   module _ (all : List (List T)) (joined : AreJoined first later all) where
     reach : InputsReach n first k
@@ -161,7 +188,10 @@ module _ {A B S T : Type 0} (rise : SumsRise) (s : Steps A S T) (r : Steps B S T
         go (Inner x) e = tt
 
     early : AnswersAgree (wiring s n) (answers s n first) (answers s n all) k
-    early = agree s n h.net first all k reach (λ e. sym (ap (take (length (get_or first e []))) (joined e) ∙ take_at (get_or first e []) (get_or later e []) (length (get_or first e [])) (λ _. length (get_or first e []))))
+    early = agree s n h.net first all k reach (λ e. sym
+        (ap (take (length (get_or first e []))) (joined e)
+        ∙ take_at (get_or first e []) (get_or later e []) (length (get_or first e []))
+        (λ _. length (get_or first e []))))
 
     late : (a : ℕ) (past : List (List T)) (now : List T) → a < length n.nodes → length past < i a →
         answers s n all a (before a ++ past) now ≡ answers r m later a past now
@@ -171,19 +201,26 @@ module _ {A B S T : Type 0} (rise : SumsRise) (s : Steps A S T) (r : Steps B S T
             answer_of s all x (before a ++ past) now ≡ answer_of r later y past now
         go (Source ext block) y e is =
             let read : length (get_or first ext []) ≡ block * k a = h.read a ext block l e in
-            let many : length (before a ++ past) ≡ length past + k a = omega (arith, length-append (before a) past, length_taken_before (wiring s n) V a (k a)) in
-            let from : block * length (before a ++ past) ≡ block * length past + block * k a = ap (λ j. block * j) many ∙ mul-add block (length past) (k a) in
+            let many : length (before a ++ past) ≡ length past + k a =
+            omega (arith, length-append (before a) past, length_taken_before (wiring s n) V a (k a)) in
+            let from : block * length (before a ++ past) ≡ block * length past + block * k a =
+            ap (λ j. block * j) many ∙ mul-add block (length past) (k a) in
             let to : block * (length (before a ++ past) + 1) ≡ block * (length past + 1) + block * k a =
-            ap (λ j. block * j) (let e : length (before a ++ past) + 1 ≡ length past + 1 + k a = omega (arith, many) in e) ∙ mul-add block (length past + 1) (k a) in
+            ap (λ j. block * j) (let e : length (before a ++ past) + 1 ≡ length past + 1 + k a = omega (arith, many) in
+            e) ∙ mul-add block (length past + 1) (k a) in
             (λ κ. between (from κ) (to κ) (joined ext κ)) ∙
-            (between_past (get_or first ext [] ++ get_or later ext []) (block * k a) (block * length past) (block * (length past + 1)) ∙
-            (ap (between (block * length past) (block * (length past + 1))) (drop_at (get_or first ext []) (get_or later ext []) (block * k a) read) ∙
+            (between_past (get_or first ext [] ++ get_or later ext []) (block * k a) (block * length past)
+            (block * (length past + 1)) ∙
+            (ap (between (block * length past) (block * (length past + 1)))
+            (drop_at (get_or first ext []) (get_or later ext []) (block * k a) read) ∙
             ap (λ t. answer_of r later t past now) (sym is)))
         go (Sink ext block) y e is = ap (λ t. answer_of r later t past now) (sym is)
-        go (Inner x) y e (b, state, is, given, same) = puts_as a l x e b state given same past now ∙ ap (λ t. answer_of r later t past now) (sym is)
+        go (Inner x) y e (b, state, is, given, same) =
+            puts_as a l x e b state given same past now ∙ ap (λ t. answer_of r later t past now) (sym is)
 
     pub history_goes_on : IsHistoryOf s n all (λ a. k a + i a) (in_all s n V U)
-    history_goes_on = goes_on (wiring s n) (wiring r m) here same_wiring (answers s n first) (answers r m later) k i V U h.whole.period h.before h.on begins_with (answers s n all) early late
+    history_goes_on = goes_on (wiring s n) (wiring r m) here same_wiring (answers s n first) (answers r m later) k i V U
+        h.whole.period h.before h.on begins_with (answers s n all) early late
 
   pub rest_goes_on : (last : Rest T S) → Leaves r m i U last → Leaves s n (λ a. k a + i a) (in_all s n V U) last
   rest_goes_on last left = record {
@@ -192,18 +229,24 @@ module _ {A B S T : Type 0} (rise : SumsRise) (s : Steps A S T) (r : Steps B S T
     channels = left.channels ∙ h.begins.wires;
     held = λ c l.
         left.held c (subst (λ j. c < j) (sym h.begins.wires) l) ∙
-        sym (left_on (wiring s n) (wiring r m) here same_wiring (answers s n first) (answers r m later) k i V U h.whole.period h.before h.on begins_with c l);
+        sym (left_on (wiring s n) (wiring r m) here same_wiring (answers s n first) (answers r m later) k i V U
+        h.whole.period h.before h.on begins_with c l);
   }
     where
-      at : (a : ℕ) (x : A) → a < length n.nodes → node n a ≡ Inner x → IsNodeIn s r (get_or rest.states.items a None) (node n a) (node m a) →
-          get_or last.states.items a None ≡ Some (state_after s x (taken_before (wiring s n) (in_all s n V U) a (k a + i a)))
+      at : (a : ℕ) (x : A) → a < length n.nodes → node n a ≡ Inner x →
+          IsNodeIn s r (get_or rest.states.items a None) (node n a) (node m a) →
+          get_or last.states.items a None ≡ Some (state_after s x
+          (taken_before (wiring s n) (in_all s n V U) a (k a + i a)))
       at a x l is each = go (subst (λ y. IsNodeIn s r (get_or rest.states.items a None) y (node m a)) is each)
         where
-          go : IsNodeIn s r (get_or rest.states.items a None) (Inner x) (node m a) → get_or last.states.items a None ≡ Some (state_after s x (taken_before (wiring s n) (in_all s n V U) a (k a + i a)))
+          go : IsNodeIn s r (get_or rest.states.items a None) (Inner x) (node m a) →
+              get_or last.states.items a None ≡ Some (state_after s x
+              (taken_before (wiring s n) (in_all s n V U) a (k a + i a)))
           go (b, now, there, given, same) =
               left.states a b (subst (λ j. a < j) (sym h.begins.nodes) l) there ∙
               ap Some (sym (state_as a l x is b now given same (taken_before (wiring r m) U a (i a))) ∙
-              ap (state_after s x) (sym (past_late (wiring s n) (wiring r m) here same_wiring (answers s n first) (answers r m later) k i V U h.whole.period h.before h.on begins_with a l (i a))))
+              ap (state_after s x) (sym (past_late (wiring s n) (wiring r m) here same_wiring (answers s n first)
+              (answers r m later) k i V U h.whole.period h.before h.on begins_with a l (i a))))
 
   pub arrivals_go_on : (a e block : ℕ) → a < length n.nodes → node n a ≡ Sink e block →
       arrived s n (λ b. k b + i b) (in_all s n V U) a ≡ arrived s n k V a ++ arrived r m i U a
@@ -211,5 +254,6 @@ module _ {A B S T : Type 0} (rise : SumsRise) (s : Steps A S T) (r : Steps B S T
       let port : 0 < inputs_of s (node n a) = subst (λ x. 0 < inputs_of s x) (sym is) (omega arith) in
       let c : ℕ = to_port n a 0 in
       let there : c < length n.wires = h.net.to_all a 0 l port in
-      arrived_on (wiring s n) (wiring r m) here same_wiring (answers s n first) (answers r m later) k i V U h.whole.period h.before h.on begins_with a c there (to_port_is s n h.net a 0 l port).0 ∙
+      arrived_on (wiring s n) (wiring r m) here same_wiring (answers s n first) (answers r m later) k i V U
+      h.whole.period h.before h.on begins_with a c there (to_port_is s n h.net a 0 l port).0 ∙
       ap (λ d. arrived s n k V a ++ take ((wiring r m).rates.consumed d (i a)) (U d)) (sym (to_ports a 0))

@@ -7,26 +7,33 @@ use Rattle.sdf_actor.proofs.Pieces.{between_agree, flat_map_same, spread_of_join
 use Rattle.sdf_actor.proofs.Agree.{part, port}
 
 pub put_is_dealt : {A : Type 0} (f : Wiring A) → IsWired f → (V : ℕ → List A) (c i : ℕ) → c < f.rates.channels →
-    ((d : ℕ) → d < f.rates.channels → f.rates.source d ≡ f.rates.source c → f.rates.initial d + f.rates.produced d (i + 1) ≤ length (V d)) →
-    spread (λ d. f.rates.produced d (i + 1) - f.rates.produced d i) (f.outs (f.rates.source c)) (put f V (f.rates.source c) i) c ≡ part f V i c
+    ((d : ℕ) → d < f.rates.channels → f.rates.source d ≡ f.rates.source c →
+    f.rates.initial d + f.rates.produced d (i + 1) ≤ length (V d)) →
+    spread (λ d. f.rates.produced d (i + 1) - f.rates.produced d i) (f.outs (f.rates.source c))
+    (put f V (f.rates.source c) i) c ≡ part f V i c
 put_is_dealt f wired V c i l long =
     let a : ℕ = f.rates.source c in
     let at = port f wired c l a refl in
     let size : ℕ → ℕ = λ d. f.rates.produced d (i + 1) - f.rates.produced d i in
-    let sizes : (m : ℕ) → m < length (f.outs a) → length (part f V i (get_or (f.outs a) m 0)) ≡ size (get_or (f.outs a) m 0) =
+    let sizes : (m : ℕ) → m < length (f.outs a) → length (part f V i (get_or (f.outs a) m 0)) ≡
+    size (get_or (f.outs a) m 0) =
     (λ m h.
     let d : ℕ = get_or (f.outs a) m 0 in
     let is = wired.outs_are a m (wired.sound.source_in c l) h in
     let all = long d is.0 is.1 in
-    let rise : f.rates.produced d i ≤ f.rates.produced d (i + 1) = wired.sound.produced_rises d i (i + 1) (omega arith) in
-    let len : length (part f V i d) ≡ (f.rates.initial d + f.rates.produced d (i + 1)) - (f.rates.initial d + f.rates.produced d i) =
-    length-between (V d) (f.rates.initial d + f.rates.produced d i) (f.rates.initial d + f.rates.produced d (i + 1)) (omega arith) in
+    let rise : f.rates.produced d i ≤ f.rates.produced d (i + 1) =
+    wired.sound.produced_rises d i (i + 1) (omega arith) in
+    let len : length (part f V i d) ≡ (f.rates.initial d + f.rates.produced d (i + 1))
+    - (f.rates.initial d + f.rates.produced d i) =
+    length-between (V d) (f.rates.initial d + f.rates.produced d i) (f.rates.initial d + f.rates.produced d (i + 1))
+    (omega arith) in
     omega arith) in
     subst (λ d. spread size (f.outs a) (put f V a i) d ≡ part f V i d) at.2
     (spread_of_joined size (part f V i) (f.outs a) at.0 at.1 sizes)
 
 pub put_agrees : {A : Type 0} (f : Wiring A) → IsWired f → (V W : ℕ → List A) (a i : ℕ) → a < f.rates.actors →
-    ((c : ℕ) → c < f.rates.channels → f.rates.source c ≡ a → f.rates.initial c + f.rates.produced c (i + 1) ≤ length (V c)) →
+    ((c : ℕ) → c < f.rates.channels → f.rates.source c ≡ a →
+    f.rates.initial c + f.rates.produced c (i + 1) ≤ length (V c)) →
     ((c : ℕ) → c < f.rates.channels → V c ≡ take (length (V c)) (W c)) →
     put f V a i ≡ put f W a i
 put_agrees f wired V W a i known long on =
@@ -34,5 +41,6 @@ put_agrees f wired V W a i known long on =
     (λ m h.
     let d : ℕ = get_or (f.outs a) m 0 in
     let is = wired.outs_are a m known h in
-    between_agree (V d) (W d) (length (V d)) (f.rates.initial d + f.rates.produced d i) (f.rates.initial d + f.rates.produced d (i + 1))
+    between_agree (V d) (W d) (length (V d)) (f.rates.initial d + f.rates.produced d i)
+    (f.rates.initial d + f.rates.produced d (i + 1))
     (take_all (length (V d)) (V d) (omega arith) ∙ on d is.0) (long d is.0 is.1))

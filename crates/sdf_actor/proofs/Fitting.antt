@@ -1,5 +1,6 @@
 -- What an actor puts has its length also from the state that a history left it in.
-use Rattle.std.proofs.Common.{◌≡◌, ℕ, ◌+◌, ◌-◌, ◌≤◌, ◌<◌, List, [], ◌++◌, length, get_or, None, refl, sym, ap, ◌∙◌, subst, inl, inr, ◌⊎◌, arith}
+use Rattle.std.proofs.Common.{◌≡◌, ℕ, ◌+◌, ◌-◌, ◌≤◌, ◌<◌, List, [], ◌++◌, length, get_or, None, refl, sym, ap, ◌∙◌}
+use Rattle.std.proofs.Common.{subst, inl, inr, ◌⊎◌, arith}
 use Rattle.std.specs.List.{sum_by, range_with_len}
 use Rattle.std.proofs.lemmas.Bool.{cases_lt}
 use Rattle.std.proofs.lemmas.List.{get_or_append_left, get_or-append_right, length-append}
@@ -18,22 +19,34 @@ use Rattle.sdf_actor.proofs.Continuing.{phases, state_on}
 use Rattle.sdf_actor.proofs.Exists.{blocks_long}
 use Rattle.sdf_actor.proofs.Netlists.{wired, size_in_is, sum_to_one}
 
-module _ {A S T : Type 0} (s : Steps A S T) (x : A) (fits : PutsFit s x) (before : List (List T)) (whole : Divides (s.cycle x) (length before))
+module _ {A S T : Type 0} (s : Steps A S T) (x : A) (fits : PutsFit s x) (before : List (List T))
+    (whole : Divides (s.cycle x) (length before))
     (sized : (i : ℕ) → i < length before → length (get_or before i []) ≡ total_in s x (phase s x i)) where
   abbrev state : S
   state = state_after s x before
 
   same : BeginsIn s (beginning s state) x state x
-  same = record { inputs = refl; outputs = refl; cycle = refl; take = refl; put = refl; start = refl; next = refl; puts = refl }
+  same = record {
+    inputs = refl;
+    outputs = refl;
+    cycle = refl;
+    take = refl;
+    put = refl;
+    start = refl;
+    next = refl;
+    puts = refl;
+  }
 
   turn : (j : ℕ) → phase s x (length before + j) ≡ phase s x j
   turn j = phases s (beginning s state) x state x same (length before) whole j
 
-  all_sized : (past : List (List T)) → ((i : ℕ) → i < length past → length (get_or past i []) ≡ total_in s x (phase s x i)) →
+  all_sized : (past : List (List T)) → ((i : ℕ) → i < length past →
+      length (get_or past i []) ≡ total_in s x (phase s x i)) →
       (i : ℕ) → i < length (before ++ past) → length (get_or (before ++ past) i []) ≡ total_in s x (phase s x i)
   all_sized past each i h = go (cases_lt i (length before))
     where
-      go : (i < length before) ⊎ (length before ≤ i) → length (get_or (before ++ past) i []) ≡ total_in s x (phase s x i)
+      go : (i < length before) ⊎ (length before ≤ i) →
+          length (get_or (before ++ past) i []) ≡ total_in s x (phase s x i)
       go (inl low) = ap length (get_or_append_left before past [] i low) ∙ sized i low
       go (inr high) =
           let at : length before + (i - length before) ≡ i = omega arith in
@@ -43,14 +56,18 @@ module _ {A S T : Type 0} (s : Steps A S T) (x : A) (fits : PutsFit s x) (before
 
   pub fits_on : PutsFit (beginning s (state_after s x before)) x
   fits_on past now each size =
-      let at : phase s x (length (before ++ past)) ≡ phase s x (length past) = ap (phase s x) (length-append before past) ∙ turn (length past) in
-      let reached : state_after s x (before ++ past) ≡ state_after (beginning s state) x past = state_on s (beginning s state) x state x same (length before) whole before past refl refl in
+      let at : phase s x (length (before ++ past)) ≡ phase s x (length past) =
+      ap (phase s x) (length-append before past) ∙ turn (length past) in
+      let reached : state_after s x (before ++ past) ≡ state_after (beginning s state) x past =
+      state_on s (beginning s state) x state x same (length before) whole before past refl refl in
       (λ κ. length (s.puts x (sym at κ) (sym reached κ) now)) ∙
       (fits (before ++ past) now (all_sized past each) (size ∙ ap (total_in s x) (sym at)) ∙
       ap (total_out s x) at)
 
-module _ (rise : SumsRise) {A S T : Type 0} (s : Steps A S T) (fits : (x : A) → PutsFit s x) (n : Netlist A T) (good : IsNet s n) (inputs : List (List T)) (k : ℕ → ℕ) (whole : AreWhole s n k)
-    (V : ℕ → List T) (r : IsHistoryOf s n inputs k V) (a : ℕ) (known : a < length n.nodes) (x : A) (is : node n a ≡ Inner x) where
+module _ (rise : SumsRise) {A S T : Type 0} (s : Steps A S T) (fits : (x : A) → PutsFit s x) (n : Netlist A T)
+    (good : IsNet s n) (inputs : List (List T)) (k : ℕ → ℕ) (whole : AreWhole s n k)
+    (V : ℕ → List T) (r : IsHistoryOf s n inputs k V) (a : ℕ) (known : a < length n.nodes) (x : A)
+    (is : node n a ≡ Inner x) where
   -- so it is in a net after whole periods
   pub fits_left : PutsFit (beginning s (state_after s x (taken_before (wiring s n) V a (k a)))) x
   fits_left =
@@ -59,23 +76,31 @@ module _ (rise : SumsRise) {A S T : Type 0} (s : Steps A S T) (fits : (x : A) �
       (subst (Divides (s.cycle x)) (sym long) (subst (λ y. Divides (cycle_of s y) (k a)) is (whole.cycles a known)))
       (λ i h. blocks i (omega (arith, long, h)))
     where
-      blocks : (i : ℕ) → i < k a → length (get_or (taken_before (wiring s n) V a (k a)) i []) ≡ total_in s x (phase s x i)
+      blocks : (i : ℕ) → i < k a → length (get_or (taken_before (wiring s n) V a (k a)) i []) ≡
+          total_in s x (phase s x i)
       blocks i h =
           blocks_long (wiring s n) (wired s n good rise) V a (k a) known
           (λ c l e.
-          let own : (wiring s n).rates.consumed c (k ((wiring s n).rates.target c)) ≡ (wiring s n).rates.consumed c (k a) = ap (λ b. (wiring s n).rates.consumed c (k b)) e in
+          let own : (wiring s n).rates.consumed c (k ((wiring s n).rates.target c)) ≡
+          (wiring s n).rates.consumed c (k a) = ap (λ b. (wiring s n).rates.consumed c (k b)) e in
           omega (arith, r.lengths c l, r.enough c l, own))
           (k a) (omega arith) i h ∙
           (size_in_is s n good a i known ∙
-          (ap (λ y. sum_by (λ p. consumed_at s y p (i + 1) - consumed_at s y p i) (range_with_len 0 (inputs_of s y))) is ∙
+          (ap (λ y. sum_by (λ p. consumed_at s y p (i + 1) - consumed_at s y p i)
+          (range_with_len 0 (inputs_of s y))) is ∙
           ap (λ f. sum_by f (range_with_len 0 (s.inputs x))) (λ κ p. sum_to_one (λ j. s.take x p (phase s x j)) i κ)))
 
 -- so each node may begin there
-pub may_begin : SumsRise → {A S T : Type 0} (s : Steps A S T) → ((x : A) → PutsFit s x) → (n : Netlist A T) → IsNet s n → (inputs : List (List T)) (k : ℕ → ℕ) → AreWhole s n k → (rest : Rest T S) → IsRest s n inputs k rest →
+pub may_begin : SumsRise → {A S T : Type 0} (s : Steps A S T) → ((x : A) → PutsFit s x) → (n : Netlist A T) →
+    IsNet s n → (inputs : List (List T)) (k : ℕ → ℕ) → AreWhole s n k → (rest : Rest T S) → IsRest s n inputs k rest →
     (a : ℕ) → a < length n.nodes → MayBegin s (get_or rest.states.items a None) (node n a)
 may_begin rise {A} s fits n good inputs k whole rest is a known = go (node n a) refl
   where
     go : (x : Node A) → node n a ≡ x → MayBegin s (get_or rest.states.items a None) x
     go (Source ext block) e = tt
     go (Sink ext block) e = tt
-    go (Inner x) e = (state_after s x (taken_before (wiring s n) is.history a (k a)), is.left.states a x known e, fits_left rise s fits n good inputs k whole is.history is.is a known x e)
+    go (Inner x) e = (
+      state_after s x (taken_before (wiring s n) is.history a (k a)),
+      is.left.states a x known e,
+      fits_left rise s fits n good inputs k whole is.history is.is a known x e,
+    )

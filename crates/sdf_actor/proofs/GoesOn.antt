@@ -1,7 +1,9 @@
 -- A history goes on where another wiring, with the same channels, begins with the samples that it left.
-use Rattle.std.proofs.Common.{◌≡◌, ℕ, zero, suc, ◌+◌, ◌-◌, ◌≤◌, ◌<◌, List, [], ◌∷◌, ◌++◌, length, get_or, take, drop, sym, ap, ◌∙◌, subst, inl, inr, ◌⊎◌, arith, append_assoc}
+use Rattle.std.proofs.Common.{◌≡◌, ℕ, zero, suc, ◌+◌, ◌-◌, ◌≤◌, ◌<◌, List, [], ◌∷◌, ◌++◌, length, get_or, take, drop}
+use Rattle.std.proofs.Common.{sym, ap, ◌∙◌, subst, inl, inr, ◌⊎◌, arith, append_assoc}
 use Rattle.std.specs.List.{flat_map, between}
-use Rattle.std.proofs.lemmas.List.{take_all, take_at, take-append-le, take-append-drop, drop-append-le, drop-drop, append-nil, length-append, length-drop}
+use Rattle.std.proofs.lemmas.List.{take_all, take_at, take-append-le, take-append-drop, drop-append-le, drop-drop}
+use Rattle.std.proofs.lemmas.List.{append-nil, length-append, length-drop}
 use Rattle.std.proofs.lemmas.Bool.{cases_lt}
 use Rattle.sdf_graph.specs.Sequences.{IsPeriod}
 use Rattle.sdf_actor.specs.Histories.{Wiring, Answers, taken, put, taken_before, IsHistory, IsWired, AnswersAgree}
@@ -25,7 +27,8 @@ pub record SameWiring {T : Type 0} (f g : Wiring T) : Type 0 where
 pub between_past : {X : Type 0} (xs : List X) (n i j : ℕ) → between (i + n) (j + n) xs ≡ between i j (drop n xs)
 between_past xs n i j =
     let size : (j + n) - (i + n) ≡ j - i = omega arith in
-    let place : drop (i + n) xs ≡ drop i (drop n xs) = ap (λ m. drop m xs) (let e : i + n ≡ n + i = omega arith in e) ∙ sym (drop-drop i n xs) in
+    let place : drop (i + n) xs ≡ drop i (drop n xs) =
+    ap (λ m. drop m xs) (let e : i + n ≡ n + i = omega arith in e) ∙ sym (drop-drop i n xs) in
     λ κ. take (size κ) (place κ)
 
 -- a beginning that goes past the first n
@@ -34,9 +37,11 @@ take_past xs n i =
     let size : n + i - n ≡ i = omega arith in
     take_on xs n (n + i) (omega arith) ∙ ap (λ m. take n xs ++ take m (drop n xs)) size
 
-module _ {T : Type 0} (f g : Wiring T) (wired : IsWired f) (same : SameWiring f g) (x y : Answers T) (k i : ℕ → ℕ) (V U : ℕ → List T)
+module _ {T : Type 0} (f g : Wiring T) (wired : IsWired f) (same : SameWiring f g) (x y : Answers T) (k i : ℕ → ℕ)
+    (V U : ℕ → List T)
     (period : IsPeriod f.rates k) (before : IsHistory f x k V) (on : IsHistory g y i U)
-    (starts : (c : ℕ) → c < f.rates.channels → g.starts c ≡ drop (f.rates.consumed c (k (f.rates.target c))) (V c)) where
+    (starts : (c : ℕ) → c < f.rates.channels → g.starts c ≡
+    drop (f.rates.consumed c (k (f.rates.target c))) (V c)) where
   -- how many samples of a channel were taken
   abbrev pub used : ℕ → ℕ
   used c = f.rates.consumed c (k (f.rates.target c))
@@ -51,22 +56,28 @@ module _ {T : Type 0} (f g : Wiring T) (wired : IsWired f) (same : SameWiring f 
   length_before : (c : ℕ) → c < f.rates.channels → length (V c) ≡ f.rates.initial c + used c
   length_before c l = before.lengths c l ∙ ap (λ n. f.rates.initial c + n) (period.balanced c l)
 
-  length_on : (c : ℕ) → c < f.rates.channels → length (U c) ≡ f.rates.initial c + f.rates.produced c (i (f.rates.source c))
+  length_on : (c : ℕ) → c < f.rates.channels → length (U c) ≡
+      f.rates.initial c + f.rates.produced c (i (f.rates.source c))
   length_on c l =
       let first = same.initial c l in
-      let later : g.rates.produced c (i (g.rates.source c)) ≡ f.rates.produced c (i (f.rates.source c)) = ap (λ b. g.rates.produced c (i b)) (same.source c l) ∙ same.produced c (i (f.rates.source c)) l in
+      let later : g.rates.produced c (i (g.rates.source c)) ≡ f.rates.produced c (i (f.rates.source c)) =
+      ap (λ b. g.rates.produced c (i b)) (same.source c l) ∙ same.produced c (i (f.rates.source c)) l in
       on.lengths c (also c l) ∙ (λ κ. first κ + later κ)
 
-  enough_on : (c : ℕ) → c < f.rates.channels → f.rates.consumed c (i (f.rates.target c)) ≤ f.rates.initial c + f.rates.produced c (i (f.rates.source c))
+  enough_on : (c : ℕ) → c < f.rates.channels → f.rates.consumed c (i (f.rates.target c)) ≤
+      f.rates.initial c + f.rates.produced c (i (f.rates.source c))
   enough_on c l =
-      let later : g.rates.produced c (i (g.rates.source c)) ≡ f.rates.produced c (i (f.rates.source c)) = ap (λ b. g.rates.produced c (i b)) (same.source c l) ∙ same.produced c (i (f.rates.source c)) l in
-      let took : g.rates.consumed c (i (g.rates.target c)) ≡ f.rates.consumed c (i (f.rates.target c)) = ap (λ b. g.rates.consumed c (i b)) (same.target c l) ∙ same.consumed c (i (f.rates.target c)) l in
+      let later : g.rates.produced c (i (g.rates.source c)) ≡ f.rates.produced c (i (f.rates.source c)) =
+      ap (λ b. g.rates.produced c (i b)) (same.source c l) ∙ same.produced c (i (f.rates.source c)) l in
+      let took : g.rates.consumed c (i (g.rates.target c)) ≡ f.rates.consumed c (i (f.rates.target c)) =
+      ap (λ b. g.rates.consumed c (i b)) (same.target c l) ∙ same.consumed c (i (f.rates.target c)) l in
       omega (arith, on.enough c (also c l), same.initial c l)
 
   -- the other begins with the samples that were left
   pub rest_is : (c : ℕ) → c < f.rates.channels → drop (used c) (whole c) ≡ U c
   rest_is c l =
-      let first : take (f.rates.initial c) (U c) ≡ drop (used c) (V c) = ap (λ n. take n (U c)) (sym (same.initial c l)) ∙ (on.begins c (also c l) ∙ starts c l) in
+      let first : take (f.rates.initial c) (U c) ≡ drop (used c) (V c) =
+      ap (λ n. take n (U c)) (sym (same.initial c l)) ∙ (on.begins c (also c l) ∙ starts c l) in
       drop-append-le (used c) (V c) (drop (f.rates.initial c) (U c)) (omega (arith, length_before c l)) ∙
       (ap (λ ys. ys ++ drop (f.rates.initial c) (U c)) (sym first) ∙ take-append-drop (f.rates.initial c) (U c))
 
@@ -77,19 +88,23 @@ module _ {T : Type 0} (f g : Wiring T) (wired : IsWired f) (same : SameWiring f 
   fronts c l = take_all (length (V c)) (V c) (omega arith) ∙ front_is c
 
   -- rates begin anew
-  pub consumed_on : (a j c : ℕ) → c < f.rates.channels → f.rates.target c ≡ a → f.rates.consumed c (k a + j) ≡ f.rates.consumed c j + used c
+  pub consumed_on : (a j c : ℕ) → c < f.rates.channels → f.rates.target c ≡ a →
+      f.rates.consumed c (k a + j) ≡ f.rates.consumed c j + used c
   consumed_on a j c l e =
       let at : k a + j ≡ j + k (f.rates.target c) = let own : k (f.rates.target c) ≡ k a = ap k e in omega arith in
       ap (f.rates.consumed c) at ∙ period.consumed_anew c j l
 
-  produced_on : (a j c : ℕ) → c < f.rates.channels → f.rates.source c ≡ a → f.rates.produced c (k a + j) ≡ f.rates.produced c j + used c
+  produced_on : (a j c : ℕ) → c < f.rates.channels → f.rates.source c ≡ a →
+      f.rates.produced c (k a + j) ≡ f.rates.produced c j + used c
   produced_on a j c l e =
       let at : k a + j ≡ j + k (f.rates.source c) = let own : k (f.rates.source c) ≡ k a = ap k e in omega arith in
-      ap (f.rates.produced c) at ∙ (period.produced_anew c j l ∙ ap (λ n. f.rates.produced c j + n) (period.balanced c l))
+      ap (f.rates.produced c) at ∙ (period.produced_anew c j l
+      ∙ ap (λ n. f.rates.produced c j + n) (period.balanced c l))
 
   module _ (a : ℕ) (known : a < f.rates.actors) where
     reached : (c : ℕ) → c < f.rates.channels → f.rates.target c ≡ a → f.rates.consumed c (k a) ≤ length (V c)
-    reached c l e = let own : used c ≡ f.rates.consumed c (k a) = ap (λ b. f.rates.consumed c (k b)) e in omega (arith, length_before c l)
+    reached c l e = let own : used c ≡ f.rates.consumed c (k a) = ap (λ b. f.rates.consumed c (k b)) e in
+        omega (arith, length_before c l)
 
     taken_early : (j : ℕ) → j < k a → taken f V a j ≡ taken f whole a j
     taken_early j h = taken_agrees f wired V whole (λ c. length (V c)) a (k a) known reached fronts j h
@@ -101,22 +116,27 @@ module _ {T : Type 0} (f g : Wiring T) (wired : IsWired f) (same : SameWiring f 
     put_early j h =
         put_agrees f wired V whole a j known
         (λ c l e.
-        let own : f.rates.produced c (k (f.rates.source c)) ≡ f.rates.produced c (k a) = ap (λ b. f.rates.produced c (k b)) e in
+        let own : f.rates.produced c (k (f.rates.source c)) ≡ f.rates.produced c (k a) =
+        ap (λ b. f.rates.produced c (k b)) e in
         omega (arith, before.lengths c l, wired.sound.produced_rises c (j + 1) (k a) (omega arith)))
         (λ c l. front_is c)
 
     -- what its further firings take and put
     taken_late : (j : ℕ) → taken f whole a (k a + j) ≡ taken g U a j
     taken_late j =
-        flat_map_same (λ c. between (f.rates.consumed c (k a + j)) (f.rates.consumed c (k a + j + 1)) (whole c)) (λ c. between (g.rates.consumed c j) (g.rates.consumed c (j + 1)) (U c)) (f.ins a)
+        flat_map_same (λ c. between (f.rates.consumed c (k a + j)) (f.rates.consumed c (k a + j + 1)) (whole c))
+        (λ c. between (g.rates.consumed c j) (g.rates.consumed c (j + 1)) (U c)) (f.ins a)
         (λ m h. let is = wired.ins_are a m known h in at (get_or (f.ins a) m 0) is.0 is.1) ∙
         ap (flat_map (λ c. between (g.rates.consumed c j) (g.rates.consumed c (j + 1)) (U c))) (sym (same.ins a known))
       where
         at : (c : ℕ) → c < f.rates.channels → f.rates.target c ≡ a →
-            between (f.rates.consumed c (k a + j)) (f.rates.consumed c (k a + j + 1)) (whole c) ≡ between (g.rates.consumed c j) (g.rates.consumed c (j + 1)) (U c)
+            between (f.rates.consumed c (k a + j)) (f.rates.consumed c (k a + j + 1)) (whole c) ≡
+            between (g.rates.consumed c j) (g.rates.consumed c (j + 1)) (U c)
         at c l e =
             let from = consumed_on a j c l e in
-            let to : f.rates.consumed c (k a + j + 1) ≡ f.rates.consumed c (j + 1) + used c = ap (f.rates.consumed c) (let z : k a + j + 1 ≡ k a + (j + 1) = omega arith in z) ∙ consumed_on a (j + 1) c l e in
+            let to : f.rates.consumed c (k a + j + 1) ≡ f.rates.consumed c (j + 1) + used c =
+            ap (f.rates.consumed c) (let z : k a + j + 1 ≡ k a + (j + 1) = omega arith in z)
+            ∙ consumed_on a (j + 1) c l e in
             let first = sym (same.consumed c j l) in
             let last = sym (same.consumed c (j + 1) l) in
             (λ κ. between (from κ) (to κ) (whole c)) ∙
@@ -125,36 +145,52 @@ module _ {T : Type 0} (f g : Wiring T) (wired : IsWired f) (same : SameWiring f 
 
     put_late : (j : ℕ) → put f whole a (k a + j) ≡ put g U a j
     put_late j =
-        flat_map_same (λ c. between (f.rates.initial c + f.rates.produced c (k a + j)) (f.rates.initial c + f.rates.produced c (k a + j + 1)) (whole c)) (λ c. between (g.rates.initial c + g.rates.produced c j) (g.rates.initial c + g.rates.produced c (j + 1)) (U c)) (f.outs a)
+        flat_map_same (λ c. between (f.rates.initial c + f.rates.produced c (k a + j))
+        (f.rates.initial c + f.rates.produced c (k a + j + 1)) (whole c))
+        (λ c. between (g.rates.initial c + g.rates.produced c j) (g.rates.initial c + g.rates.produced c (j + 1))
+        (U c)) (f.outs a)
         (λ m h. let is = wired.outs_are a m known h in at (get_or (f.outs a) m 0) is.0 is.1) ∙
-        ap (flat_map (λ c. between (g.rates.initial c + g.rates.produced c j) (g.rates.initial c + g.rates.produced c (j + 1)) (U c))) (sym (same.outs a known))
+        ap (flat_map (λ c. between (g.rates.initial c + g.rates.produced c j)
+        (g.rates.initial c + g.rates.produced c (j + 1)) (U c))) (sym (same.outs a known))
       where
         at : (c : ℕ) → c < f.rates.channels → f.rates.source c ≡ a →
-            between (f.rates.initial c + f.rates.produced c (k a + j)) (f.rates.initial c + f.rates.produced c (k a + j + 1)) (whole c) ≡ between (g.rates.initial c + g.rates.produced c j) (g.rates.initial c + g.rates.produced c (j + 1)) (U c)
+            between (f.rates.initial c + f.rates.produced c (k a + j))
+            (f.rates.initial c + f.rates.produced c (k a + j + 1)) (whole c) ≡
+            between (g.rates.initial c + g.rates.produced c j)
+            (g.rates.initial c + g.rates.produced c (j + 1)) (U c)
         at c l e =
-            let next : f.rates.produced c (k a + j + 1) ≡ f.rates.produced c (j + 1) + used c = ap (f.rates.produced c) (let z : k a + j + 1 ≡ k a + (j + 1) = omega arith in z) ∙ produced_on a (j + 1) c l e in
-            let from : f.rates.initial c + f.rates.produced c (k a + j) ≡ f.rates.initial c + f.rates.produced c j + used c = omega (arith, produced_on a j c l e) in
-            let to : f.rates.initial c + f.rates.produced c (k a + j + 1) ≡ f.rates.initial c + f.rates.produced c (j + 1) + used c = omega (arith, next) in
+            let next : f.rates.produced c (k a + j + 1) ≡ f.rates.produced c (j + 1) + used c =
+            ap (f.rates.produced c) (let z : k a + j + 1 ≡ k a + (j + 1) = omega arith in z)
+            ∙ produced_on a (j + 1) c l e in
+            let from : f.rates.initial c + f.rates.produced c (k a + j) ≡
+            f.rates.initial c + f.rates.produced c j + used c = omega (arith, produced_on a j c l e) in
+            let to : f.rates.initial c + f.rates.produced c (k a + j + 1) ≡
+            f.rates.initial c + f.rates.produced c (j + 1) + used c = omega (arith, next) in
             let begin = sym (same.initial c l) in
             let first = sym (same.produced c j l) in
             let last = sym (same.produced c (j + 1) l) in
             (λ κ. between (from κ) (to κ) (whole c)) ∙
-            (between_past (whole c) (used c) (f.rates.initial c + f.rates.produced c j) (f.rates.initial c + f.rates.produced c (j + 1)) ∙
+            (between_past (whole c) (used c) (f.rates.initial c + f.rates.produced c j)
+            (f.rates.initial c + f.rates.produced c (j + 1)) ∙
             (λ κ. between (begin κ + first κ) (begin κ + last κ) (rest_is c l κ)))
 
     pub past_late : (j : ℕ) → taken_before f whole a (k a + j) ≡ taken_before f V a (k a) ++ taken_before g U a j
     past_late zero =
-        ap (taken_before f whole a) (let z : k a + 0 ≡ k a = omega arith in z) ∙ (sym (past_early (k a) (omega arith)) ∙ sym (append-nil (taken_before f V a (k a))))
+        ap (taken_before f whole a) (let z : k a + 0 ≡ k a = omega arith in z)
+        ∙ (sym (past_early (k a) (omega arith)) ∙ sym (append-nil (taken_before f V a (k a))))
     past_late (suc j) =
         let earlier = past_late j in
         let now = taken_late j in
         ap (taken_before f whole a) (let z : k a + suc j ≡ suc (k a + j) = omega arith in z) ∙
-        ((λ κ. earlier κ ++ now κ ∷ []) ∙ append_assoc (taken_before f V a (k a)) (taken_before g U a j) (taken g U a j ∷ []))
+        ((λ κ. earlier κ ++ now κ ∷ []) ∙ append_assoc (taken_before f V a (k a)) (taken_before g U a j)
+        (taken g U a j ∷ []))
 
   -- its history in all, where the answers are those of the one and then of the other
   module _ (z : Answers T) (early : AnswersAgree f x z k)
-      (late : (a : ℕ) (past : List (List T)) (now : List T) → a < f.rates.actors → length past < i a → z a (taken_before f V a (k a) ++ past) now ≡ y a past now) where
-    step_early : (a j : ℕ) → a < f.rates.actors → j < k a → put f whole a j ≡ z a (taken_before f whole a j) (taken f whole a j)
+      (late : (a : ℕ) (past : List (List T)) (now : List T) → a < f.rates.actors → length past < i a →
+      z a (taken_before f V a (k a) ++ past) now ≡ y a past now) where
+    step_early : (a j : ℕ) → a < f.rates.actors → j < k a →
+        put f whole a j ≡ z a (taken_before f whole a j) (taken f whole a j)
     step_early a j known h =
         let past = past_early a known j (omega arith) in
         let now = taken_early a known j h in
@@ -163,7 +199,8 @@ module _ {T : Type 0} (f g : Wiring T) (wired : IsWired f) (same : SameWiring f 
         (early a (taken_before f V a j) (taken f V a j) known (omega (arith, length_taken_before f V a j, h)) ∙
         (λ κ. z a (past κ) (now κ))))
 
-    step_late : (a j : ℕ) → a < f.rates.actors → j < i a → put f whole a (k a + j) ≡ z a (taken_before f whole a (k a + j)) (taken f whole a (k a + j))
+    step_late : (a j : ℕ) → a < f.rates.actors → j < i a →
+        put f whole a (k a + j) ≡ z a (taken_before f whole a (k a + j)) (taken f whole a (k a + j))
     step_late a j known h =
         let past = past_late a known j in
         let now = taken_late a known j in
@@ -172,41 +209,64 @@ module _ {T : Type 0} (f g : Wiring T) (wired : IsWired f) (same : SameWiring f 
         (sym (late a (taken_before g U a j) (taken g U a j) known (omega (arith, length_taken_before g U a j, h))) ∙
         sym (λ κ. z a (past κ) (now κ))))
 
-    step : (a n : ℕ) → a < f.rates.actors → n < k a + i a → (n < k a) ⊎ (k a ≤ n) → put f whole a n ≡ z a (taken_before f whole a n) (taken f whole a n)
+    step : (a n : ℕ) → a < f.rates.actors → n < k a + i a → (n < k a) ⊎ (k a ≤ n) →
+        put f whole a n ≡ z a (taken_before f whole a n) (taken f whole a n)
     step a n known h (inl less) = step_early a n known less
     step a n known h (inr more) =
-        subst (λ m. put f whole a m ≡ z a (taken_before f whole a m) (taken f whole a m)) (let e : k a + (n - k a) ≡ n = omega arith in e)
+        subst (λ m. put f whole a m ≡ z a (taken_before f whole a m) (taken f whole a m))
+        (let e : k a + (n - k a) ≡ n = omega arith in e)
         (step_late a (n - k a) known (omega arith))
 
     pub goes_on : IsHistory f z (λ a. k a + i a) whole
     goes_on = record {
-      begins = λ c l. take-append-le (f.rates.initial c) (V c) (drop (f.rates.initial c) (U c)) (omega (arith, length_before c l)) ∙ before.begins c l;
+      begins = λ c l. take-append-le (f.rates.initial c) (V c) (drop (f.rates.initial c) (U c))
+          (omega (arith, length_before c l)) ∙ before.begins c l;
       lengths = λ c l.
-          omega (arith, length-append (V c) (drop (f.rates.initial c) (U c)), length-drop (f.rates.initial c) (U c), length_before c l, length_on c l, produced_on (f.rates.source c) (i (f.rates.source c)) c l (λ _. f.rates.source c));
-      enough = λ c l. omega (arith, enough_on c l, produced_on (f.rates.source c) (i (f.rates.source c)) c l (λ _. f.rates.source c), consumed_on (f.rates.target c) (i (f.rates.target c)) c l (λ _. f.rates.target c));
+          omega (
+            arith,
+            length-append (V c) (drop (f.rates.initial c) (U c)),
+            length-drop (f.rates.initial c) (U c),
+            length_before c l,
+            length_on c l,
+            produced_on (f.rates.source c) (i (f.rates.source c)) c l
+                (λ _. f.rates.source c),
+          );
+      enough = λ c l. omega (
+        arith,
+        enough_on c l,
+        produced_on (f.rates.source c) (i (f.rates.source c)) c l
+            (λ _. f.rates.source c),
+        consumed_on (f.rates.target c) (i (f.rates.target c)) c l (λ _. f.rates.target c),
+      );
       steps = λ a n known h. step a n known h (cases_lt n (k a));
     }
 
   -- what it leaves on a channel, and what has arrived at its end
   pub left_on : (c : ℕ) → c < f.rates.channels →
-      drop (f.rates.consumed c (k (f.rates.target c) + i (f.rates.target c))) (whole c) ≡ drop (g.rates.consumed c (i (g.rates.target c))) (U c)
+      drop (f.rates.consumed c (k (f.rates.target c) + i (f.rates.target c))) (whole c) ≡
+      drop (g.rates.consumed c (i (g.rates.target c))) (U c)
   left_on c l =
-      let took : g.rates.consumed c (i (g.rates.target c)) ≡ f.rates.consumed c (i (f.rates.target c)) = ap (λ b. g.rates.consumed c (i b)) (same.target c l) ∙ same.consumed c (i (f.rates.target c)) l in
-      let at : f.rates.consumed c (k (f.rates.target c) + i (f.rates.target c)) ≡ used c + f.rates.consumed c (i (f.rates.target c)) =
+      let took : g.rates.consumed c (i (g.rates.target c)) ≡ f.rates.consumed c (i (f.rates.target c)) =
+      ap (λ b. g.rates.consumed c (i b)) (same.target c l) ∙ same.consumed c (i (f.rates.target c)) l in
+      let at : f.rates.consumed c (k (f.rates.target c) + i (f.rates.target c)) ≡
+      used c + f.rates.consumed c (i (f.rates.target c)) =
       omega (arith, consumed_on (f.rates.target c) (i (f.rates.target c)) c l (λ _. f.rates.target c)) in
       ap (λ n. drop n (whole c)) at ∙
       (sym (drop-drop (f.rates.consumed c (i (f.rates.target c))) (used c) (whole c)) ∙
       (λ κ. drop (sym took κ) (rest_is c l κ)))
 
   pub arrived_on : (a c : ℕ) → c < f.rates.channels → f.rates.target c ≡ a →
-      take (f.rates.consumed c (k a + i a)) (whole c) ≡ take (f.rates.consumed c (k a)) (V c) ++ take (g.rates.consumed c (i a)) (U c)
+      take (f.rates.consumed c (k a + i a)) (whole c) ≡
+      take (f.rates.consumed c (k a)) (V c) ++ take (g.rates.consumed c (i a)) (U c)
   arrived_on a c l e =
       let own : used c ≡ f.rates.consumed c (k a) = ap (λ b. f.rates.consumed c (k b)) e in
-      let at : f.rates.consumed c (k a + i a) ≡ used c + f.rates.consumed c (i a) = omega (arith, consumed_on a (i a) c l e) in
+      let at : f.rates.consumed c (k a + i a) ≡ used c + f.rates.consumed c (i a) =
+      omega (arith, consumed_on a (i a) c l e) in
       let took = sym (same.consumed c (i a) l) in
       ap (λ n. take n (whole c)) at ∙
       (take_past (whole c) (used c) (f.rates.consumed c (i a)) ∙
-      (λ κ. front κ ++ take (took κ) (rest_is c l κ)) ∙ ap (λ n. take n (V c) ++ take (g.rates.consumed c (i a)) (U c)) own)
+      (λ κ. front κ ++ take (took κ) (rest_is c l κ))
+      ∙ ap (λ n. take n (V c) ++ take (g.rates.consumed c (i a)) (U c)) own)
     where
       front : take (used c) (whole c) ≡ take (used c) (V c)
       front = take-append-le (used c) (V c) (drop (f.rates.initial c) (U c)) (omega (arith, length_before c l))

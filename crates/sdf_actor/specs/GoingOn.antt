@@ -9,9 +9,10 @@ use Rattle.sdf_actor.specs.Nets.{Netlist, node, wiring, arrived, IsNet, IsHistor
 use Rattle.sdf_actor.specs.Rests.{AreWhole, Leaves, BeginsWith, AllRead, AreJoined}
 use Rattle.sdf_actor.specs.Steps.{Steps}
 
--- V is the history of net n on the first lists, of which nothing is unread after k a firings of each node a, whole periods of it,
--- and U that of net m, which begins with what V leaves, on the later lists, for i a firings more
-pub record GoesOn {A B S T : Type 0} (s : Steps A S T) (r : Steps B S T) (n : Netlist A T) (m : Netlist B T) (first later : List (List T)) (k i : ℕ → ℕ) (V U : ℕ → List T) (rest : Rest T S) : Type 0 where
+-- V is the history of net n on the first lists, of which nothing is unread after k a firings of each node a, whole
+-- periods of it, and U that of net m, which begins with what V leaves, on the later lists, for i a firings more
+pub record GoesOn {A B S T : Type 0} (s : Steps A S T) (r : Steps B S T) (n : Netlist A T) (m : Netlist B T)
+    (first later : List (List T)) (k i : ℕ → ℕ) (V U : ℕ → List T) (rest : Rest T S) : Type 0 where
   pub net : IsNet s n
   pub whole : AreWhole s n k
   pub before : IsHistoryOf s n first k V
@@ -27,25 +28,29 @@ in_all s n V U c = V c ++ drop ((wiring s n).rates.initial c) (U c)
 -- so that is the history of net n on both lists
 abbrev pub HistoriesGoOn : {A B S T : Type 0} → Steps A S T → Steps B S T → Type 0
 HistoriesGoOn {A} {B} {S} {T} s r =
-    (n : Netlist A T) (m : Netlist B T) (first later all : List (List T)) (k i : ℕ → ℕ) (V U : ℕ → List T) (rest : Rest T S) →
+    (n : Netlist A T) (m : Netlist B T) (first later all : List (List T)) (k i : ℕ → ℕ) (V U : ℕ → List T)
+    (rest : Rest T S) →
     GoesOn s r n m first later k i V U rest → AreJoined first later all →
     IsHistoryOf s n all (λ a. k a + i a) (in_all s n V U)
 
 -- it leaves what U leaves
 abbrev pub RestsGoOn : {A B S T : Type 0} → Steps A S T → Steps B S T → Type 0
 RestsGoOn {A} {B} {S} {T} s r =
-    (n : Netlist A T) (m : Netlist B T) (first later : List (List T)) (k i : ℕ → ℕ) (V U : ℕ → List T) (rest last : Rest T S) →
+    (n : Netlist A T) (m : Netlist B T) (first later : List (List T)) (k i : ℕ → ℕ) (V U : ℕ → List T)
+    (rest last : Rest T S) →
     GoesOn s r n m first later k i V U rest → Leaves r m i U last → Leaves s n (λ a. k a + i a) (in_all s n V U) last
 
 -- and at each sink arrives what arrived by V and then by U
 abbrev pub ArrivalsGoOn : {A B S T : Type 0} → Steps A S T → Steps B S T → Type 0
 ArrivalsGoOn {A} {B} {S} {T} s r =
-    (n : Netlist A T) (m : Netlist B T) (first later : List (List T)) (k i : ℕ → ℕ) (V U : ℕ → List T) (rest : Rest T S) →
+    (n : Netlist A T) (m : Netlist B T) (first later : List (List T)) (k i : ℕ → ℕ) (V U : ℕ → List T)
+    (rest : Rest T S) →
     GoesOn s r n m first later k i V U rest → (a e block : ℕ) → a < length n.nodes → node n a ≡ Sink e block →
     arrived s n (λ b. k b + i b) (in_all s n V U) a ≡ arrived s n k V a ++ arrived r m i U a
 
 -- the counts of so many periods are whole
 abbrev pub PeriodsAreWhole : {A S T : Type 0} → Steps A S T → Type 0
 PeriodsAreWhole {A} {S} {T} s =
-    (n : Netlist A T) (q : List ℕ) (b : ℕ) → IsNet s n → IsShape (graph_of s n) → IsAlike (rates (graph_of s n)) (wiring s n).rates → IsAccepted s n q →
+    (n : Netlist A T) (q : List ℕ) (b : ℕ) → IsNet s n → IsShape (graph_of s n) →
+    IsAlike (rates (graph_of s n)) (wiring s n).rates → IsAccepted s n q →
     AreWhole s n (λ a. b * slice_index q a)

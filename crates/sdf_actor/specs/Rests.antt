@@ -16,18 +16,21 @@ pub record AreWhole {A S T : Type 0} (s : Steps A S T) (n : Netlist A T) (k : �
   pub period : IsPeriod (wiring s n).rates k
   pub cycles : (a : ℕ) → a < length n.nodes → Divides (cycle_of s (node n a)) (k a)
 
--- what the history V leaves where each node a has fired k a times: each actor's state after all that it took, and of each
--- channel the samples that were not taken
-pub record Leaves {A S T : Type 0} (s : Steps A S T) (n : Netlist A T) (k : ℕ → ℕ) (V : ℕ → List T) (rest : Rest T S) : Type 0 where
+-- what the history V leaves where each node a has fired k a times: each actor's state after all that it took, and of
+-- each channel the samples that were not taken
+pub record Leaves {A S T : Type 0} (s : Steps A S T) (n : Netlist A T) (k : ℕ → ℕ) (V : ℕ → List T)
+    (rest : Rest T S) : Type 0 where
   pub nodes : length rest.states.items ≡ length n.nodes
   pub states : (a : ℕ) (x : A) → a < length n.nodes → node n a ≡ Inner x →
       slice_index_or rest.states.items a None ≡ Some (state_after s x (taken_before (wiring s n) V a (k a)))
   pub channels : length rest.held.items ≡ length n.wires
   pub held : (c : ℕ) → c < length n.wires →
-      slice_index_or (lists rest.held.items) c [] ≡ drop ((wiring s n).rates.consumed c (k ((wiring s n).rates.target c))) (V c)
+      slice_index_or (lists rest.held.items) c [] ≡
+      drop ((wiring s n).rates.consumed c (k ((wiring s n).rates.target c))) (V c)
 
 -- a rest is left by the history on these inputs
-pub record IsRest {A S T : Type 0} (s : Steps A S T) (n : Netlist A T) (inputs : List (List T)) (k : ℕ → ℕ) (rest : Rest T S) : Type 0 where
+pub record IsRest {A S T : Type 0} (s : Steps A S T) (n : Netlist A T) (inputs : List (List T)) (k : ℕ → ℕ)
+    (rest : Rest T S) : Type 0 where
   pub history : ℕ → List T
   pub is : IsHistoryOf s n inputs k history
   pub left : Leaves s n k history rest
@@ -36,10 +39,12 @@ pub record IsRest {A S T : Type 0} (s : Steps A S T) (n : Netlist A T) (inputs :
 abbrev pub IsNodeIn : {A B S T : Type 0} → Steps A S T → Steps B S T → Option S → Node A → Node B → Type 0
 IsNodeIn s r state (Source ext block) y = y ≡ Source ext block
 IsNodeIn s r state (Sink ext block) y = y ≡ Sink ext block
-IsNodeIn {A} {B} {S} {T} s r state (Inner x) y = (b : B) × (now : S) × (y ≡ Inner b) × (state ≡ Some now) × BeginsIn s r x now b
+IsNodeIn {A} {B} {S} {T} s r state (Inner x) y =
+    (b : B) × (now : S) × (y ≡ Inner b) × (state ≡ Some now) × BeginsIn s r x now b
 
 -- m is net n, but its actors begin in the states of a rest, and its channels with the samples of it
-pub record BeginsWith {A B S T : Type 0} (s : Steps A S T) (r : Steps B S T) (n : Netlist A T) (rest : Rest T S) (m : Netlist B T) : Type 0 where
+pub record BeginsWith {A B S T : Type 0} (s : Steps A S T) (r : Steps B S T) (n : Netlist A T) (rest : Rest T S)
+    (m : Netlist B T) : Type 0 where
   pub nodes : length m.nodes ≡ length n.nodes
   pub each : (a : ℕ) → a < length n.nodes → IsNodeIn s r (slice_index_or rest.states.items a None) (node n a) (node m a)
   pub wires : length m.wires ≡ length n.wires
@@ -50,7 +55,8 @@ pub record BeginsWith {A B S T : Type 0} (s : Steps A S T) (r : Steps B S T) (n 
 -- each source has read all of its list
 abbrev pub AllRead : {A T : Type 0} → Netlist A T → List (List T) → (ℕ → ℕ) → Type 0
 AllRead n inputs k =
-    (a ext block : ℕ) → a < length n.nodes → node n a ≡ Source ext block → length (slice_index_or inputs ext []) ≡ block * k a
+    (a ext block : ℕ) → a < length n.nodes → node n a ≡ Source ext block →
+    length (slice_index_or inputs ext []) ≡ block * k a
 
 -- each list is one of the first and then one of the later ones
 abbrev pub AreJoined : {T : Type 0} → List (List T) → List (List T) → List (List T) → Type 0

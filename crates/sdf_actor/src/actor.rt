@@ -6,8 +6,8 @@ ghost use Rattle.sdf_actor.specs.Steps.{Steps, total_in, total_out, sum_in, sum_
 use sdf_limits::MOST_PORTS;
 use std::alloc::{AllocError, Global};
 
-/// An actor: it has a cycle of phases, and in each firing takes the number of samples of its phase at each input port and puts
-/// that on each output port (Bilsen and others 1996; with one phase, Lee and Messerschmitt 1987).
+/// An actor: it has a cycle of phases, and in each firing takes the number of samples of its phase at each input port
+/// and puts that on each output port (Bilsen and others 1996; with one phase, Lee and Messerschmitt 1987).
 pub trait Actor: Sync + Drop {
     /// A sample.
     type Token: Copy + Send + Sync;
@@ -90,8 +90,8 @@ pub trait Actor: Sync + Drop {
         total
     }
 
-    /// Fires many times in one piece of work, where it has one for that, and answers true; else it does nothing. `fire_many`
-    /// asks it first. It takes no memory.
+    /// Fires many times in one piece of work, where it has one for that, and answers true; else it does nothing.
+    /// `fire_many` asks it first. It takes no memory.
     fn fire_at_once(
         &self,
         phase: u32,
@@ -109,8 +109,8 @@ pub trait Actor: Sync + Drop {
         false
     }
 
-    /// Fires many times, the first time at a phase, from consecutive blocks to consecutive blocks: the block of a firing
-    /// stands behind that of the one before it. It takes no memory.
+    /// Fires many times, the first time at a phase, from consecutive blocks to consecutive blocks: the block of a
+    /// firing stands behind that of the one before it. It takes no memory.
     fn fire_many(
         &self,
         phase: u32,

@@ -61,9 +61,12 @@ fn nodes_in<'a, A: Actor>(
     states: &[Option<A::State>],
 ) -> Result<Vec<Node<Begun<'a, A>>>, AllocError>
     requires all { length states.now ≡ length nodes.now }
-    requires each { (a : ℕ) → a < length nodes.now → MayBegin A.steps (slice_index_or states.now a None) (slice_index_or nodes.now a (Sink 0 0)) }
+    requires each { (a : ℕ) → a < length nodes.now →
+        MayBegin A.steps (slice_index_or states.now a None) (slice_index_or nodes.now a (Sink 0 0)) }
     ensures all { IfOk result (λ v. length v.items ≡ length nodes.now) }
-    ensures each { IfOk result (λ v. (a : ℕ) → a < length nodes.now → IsNodeIn A.steps (begun_steps A.Actor) (slice_index_or states.now a None) (slice_index_or nodes.now a (Sink 0 0)) (slice_index_or v.items a (Sink 0 0))) }
+    ensures each { IfOk result (λ v. (a : ℕ) → a < length nodes.now →
+        IsNodeIn A.steps (begun_steps A.Actor) (slice_index_or states.now a None)
+        (slice_index_or nodes.now a (Sink 0 0)) (slice_index_or v.items a (Sink 0 0))) }
 {
     let mut begun = Vec::new(alloc);
     for a in 0..nodes.len() {
@@ -81,7 +84,11 @@ fn links_with<T: Copy>(
     requires all { length held.now ≡ length links.now }
     ensures all { IfOk result (λ v. length v.items ≡ length links.now) }
     ensures each { IfOk result (λ v. (c : ℕ) → c < length links.now → slice_index_or (wires v.items) c no_wire ≡
-        record { from = (slice_index_or (wires links.now) c no_wire).from; to = (slice_index_or (wires links.now) c no_wire).to; initial = slice_index_or (lists held.now) c [] }) }
+        record {
+          from = (slice_index_or (wires links.now) c no_wire).from;
+          to = (slice_index_or (wires links.now) c no_wire).to;
+          initial = slice_index_or (lists held.now) c [];
+        }) }
 {
     let mut begun = Vec::new(alloc);
     for c in 0..links.len() {
@@ -106,7 +113,8 @@ fn first_states<A: Actor>(
     nodes: &[Node<A>],
 ) -> Result<Vec<Option<A::State>>, AllocError>
     ensures all { IfOk result (λ v. length v.items ≡ length nodes.now) }
-    ensures each { IfOk result (λ v. (a : ℕ) → a < length nodes.now → (x : A) → slice_index_or nodes.now a (Sink 0 0) ≡ Inner x → slice_index_or v.items a None ≡ Some (A.steps.start x)) }
+    ensures each { IfOk result (λ v. (a : ℕ) → a < length nodes.now → (x : A) →
+        slice_index_or nodes.now a (Sink 0 0) ≡ Inner x → slice_index_or v.items a None ≡ Some (A.steps.start x)) }
 {
     let mut states = Vec::new(alloc);
     for node in nodes {
@@ -144,7 +152,8 @@ impl<A: Actor> Net<A> {
         alloc: Global,
         rest: &Rest<A::Token, A::State>,
     ) -> Result<Net<Begun<'a, A>>, AllocError>
-        requires rest { (inputs : List (List A.Token)) × (k : ℕ → ℕ) × AreWhole A.steps self.now k × IsRest A.steps self.now inputs k rest.now }
+        requires rest { (inputs : List (List A.Token)) × (k : ℕ → ℕ) × AreWhole A.steps self.now k
+            × IsRest A.steps self.now inputs k rest.now }
         ensures begins { IfOk result (λ net. BeginsWith A.steps (begun_steps A.Actor) self.now rest.now net) }
         ensures graph { IfOk result (λ net. graph_of (begun_steps A.Actor) net ≡ graph_of A.steps self.now) }
     {

@@ -1,5 +1,6 @@
 -- Each node of a net has phases, and each firing moves the sizes of its phase.
-use Rattle.std.proofs.Common.{◌≡◌, ℕ, zero, suc, ◌+◌, ◌*◌, ◌%◌, ◌≤◌, ◌<◌, List, length, map, get_or, refl, sym, ap, ◌∙◌, arith, add-one}
+use Rattle.std.proofs.Common.{◌≡◌, ℕ, zero, suc, ◌+◌, ◌*◌, ◌%◌, ◌≤◌, ◌<◌, List, length, map, get_or, refl, sym, ap, ◌∙◌}
+use Rattle.std.proofs.Common.{arith, add-one}
 use Rattle.std.proofs.Math.Nat.{mod-mod}
 use Rattle.std.proofs.lemmas.Nat.{mod_below}
 use Rattle.std.proofs.lemmas.List.{get_or-map, length-map}
@@ -15,12 +16,15 @@ use Rattle.sdf_actor.specs.NetFaults.{IsAccepted}
 use Rattle.sdf_answer.specs.Sizes.{AreSizes, at_phase, phase_of}
 
 -- each node has phases: a period is whole cycles of it, and some
-pub phases : {A S T : Type 0} (s : Steps A S T) → PeriodsAreWhole s → (n : Netlist A T) (q : List ℕ) → IsNet s n → IsShape (graph_of s n) → IsAlike (rates (graph_of s n)) (wiring s n).rates → IsAccepted s n q →
+pub phases : {A S T : Type 0} (s : Steps A S T) → PeriodsAreWhole s → (n : Netlist A T) (q : List ℕ) → IsNet s n →
+    IsShape (graph_of s n) → IsAlike (rates (graph_of s n)) (wiring s n).rates → IsAccepted s n q →
     (a : ℕ) → a < length n.nodes → 0 < cycle_of s (node n a)
-phases s whole n q good shape alike accepted a l = go (cycle_of s (node n a)) ((whole n q 1 good shape alike accepted).cycles a l)
+phases s whole n q good shape alike accepted a l =
+    go (cycle_of s (node n a)) ((whole n q 1 good shape alike accepted).cycles a l)
   where
     go : (m : ℕ) → Divides m (1 * get_or q a 0) → 0 < m
-    go zero cycles = let none : cycles.0 * 0 ≡ 0 = omega arith in absurd (omega (arith, cycles.1, accepted.period.is.positive a l))
+    go zero cycles = let none : cycles.0 * 0 ≡ 0 = omega arith in
+        absurd (omega (arith, cycles.1, accepted.period.is.positive a l))
     go (suc m) cycles = omega arith
 
 module _ {A S T : Type 0} (s : Steps A S T) (n : Netlist A T) where
@@ -30,11 +34,17 @@ module _ {A S T : Type 0} (s : Steps A S T) (n : Netlist A T) where
   channel_is : (c : ℕ) → c < length n.wires → channel (graph_of s n) c ≡ channel_of s n.nodes (wire n c)
   channel_is c l = get_or-map (channel_of s n.nodes) n.wires c no_wire no_channel l
 
-  put_long : (c : ℕ) → c < length n.wires → length (channel (graph_of s n) c).put ≡ cycle_of s (node n (wire n c).from.0)
-  put_long c l = ap (λ (e : Edge). length e.put) (channel_is c l) ∙ length-map-range_with_len (rate_of s Output (node n (wire n c).from.0) (wire n c).from.1) 0 (cycle_of s (node n (wire n c).from.0))
+  put_long : (c : ℕ) → c < length n.wires → length (channel (graph_of s n) c).put ≡
+      cycle_of s (node n (wire n c).from.0)
+  put_long c l = ap (λ (e : Edge). length e.put) (channel_is c l)
+      ∙ length-map-range_with_len (rate_of s Output (node n (wire n c).from.0) (wire n c).from.1) 0
+      (cycle_of s (node n (wire n c).from.0))
 
-  take_long : (c : ℕ) → c < length n.wires → length (channel (graph_of s n) c).take ≡ cycle_of s (node n (wire n c).to.0)
-  take_long c l = ap (λ (e : Edge). length e.take) (channel_is c l) ∙ length-map-range_with_len (rate_of s Input (node n (wire n c).to.0) (wire n c).to.1) 0 (cycle_of s (node n (wire n c).to.0))
+  take_long : (c : ℕ) → c < length n.wires → length (channel (graph_of s n) c).take ≡
+      cycle_of s (node n (wire n c).to.0)
+  take_long c l = ap (λ (e : Edge). length e.take) (channel_is c l)
+      ∙ length-map-range_with_len (rate_of s Input (node n (wire n c).to.0) (wire n c).to.1) 0
+      (cycle_of s (node n (wire n c).to.0))
 
   -- the rates of a firing are those of its phase
   turn : (cycle : List ℕ) (many i : ℕ) → length cycle ≡ many → rate_at cycle i ≡ rate_at cycle (i % many)
@@ -43,10 +53,13 @@ module _ {A S T : Type 0} (s : Steps A S T) (n : Netlist A T) where
   sum_more : (f : ℕ → ℕ) (i : ℕ) → sum_to f (i + 1) ≡ sum_to f i + f i
   sum_more f i = rw add-one refl
 
-  module _ (alike : IsAlike (rates (graph_of s n)) (wiring s n).rates) (some : (a : ℕ) → a < length n.nodes → 0 < cycle_of s (node n a))
-      (most : ℕ) (longest : (a : ℕ) → a < length n.nodes → cycle_of s (node n a) ≤ most) (takes puts : List (List ℕ)) (takes_all : length takes ≡ most) (puts_all : length puts ≡ most)
+  module _ (alike : IsAlike (rates (graph_of s n)) (wiring s n).rates)
+      (some : (a : ℕ) → a < length n.nodes → 0 < cycle_of s (node n a))
+      (most : ℕ) (longest : (a : ℕ) → a < length n.nodes → cycle_of s (node n a) ≤ most) (takes puts : List (List ℕ))
+      (takes_all : length takes ≡ most) (puts_all : length puts ≡ most)
       (takes_are : (j : ℕ) → j < most → at_phase takes j ≡ map (λ (e : Edge). rate_at e.take j) (graph_of s n).channels)
-      (puts_are : (j : ℕ) → j < most → at_phase puts j ≡ map (λ (e : Edge). rate_at e.put j) (graph_of s n).channels) where
+      (puts_are : (j : ℕ) → j < most → at_phase puts j ≡
+      map (λ (e : Edge). rate_at e.put j) (graph_of s n).channels) where
     below : (a i : ℕ) → a < length n.nodes → phase_of s (node n a) i < most
     below a i l = omega (arith, mod_below i (cycle_of s (node n a)) (some a l), longest a l)
 
@@ -59,21 +72,41 @@ module _ {A S T : Type 0} (s : Steps A S T) (n : Netlist A T) where
       plan = λ a i l.
           let j : ℕ = phase_of s (node n a) i in
           record {
-            takes_all = ap length (takes_are j (below a i l)) ∙ (length-map (graph_of s n).channels (λ (e : Edge). rate_at e.take j) ∙ wires_all);
-            puts_all = ap length (puts_are j (below a i l)) ∙ (length-map (graph_of s n).channels (λ (e : Edge). rate_at e.put j) ∙ wires_all);
+            takes_all = ap length (takes_are j (below a i l))
+                ∙ (length-map (graph_of s n).channels (λ (e : Edge). rate_at e.take j) ∙ wires_all);
+            puts_all = ap length (puts_are j (below a i l))
+                ∙ (length-map (graph_of s n).channels (λ (e : Edge). rate_at e.put j) ∙ wires_all);
             taken = λ c h e.
                 let known : c < length (graph_of s n).channels = omega (arith, wires_all, h) in
                 let size : get_or (at_phase takes j) c 0 ≡ rate_at (channel (graph_of s n) c).take j =
-                ap (λ xs. get_or xs c 0) (takes_are j (below a i l)) ∙ get_or-map (λ (e : Edge). rate_at e.take j) (graph_of s n).channels c no_channel 0 known in
+                ap (λ xs. get_or xs c 0) (takes_are j (below a i l))
+                ∙ get_or-map (λ (e : Edge). rate_at e.take j) (graph_of s n).channels c no_channel 0 known in
                 let same : rate_at (channel (graph_of s n) c).take i ≡ rate_at (channel (graph_of s n) c).take j =
-                turn (channel (graph_of s n) c).take (cycle_of s (node n a)) i (take_long c h ∙ ap (λ b. cycle_of s (node n b)) e) in
-                omega (arith, alike.consumed c i known, alike.consumed c (i + 1) known, sum_more (rate_at (channel (graph_of s n) c).take) i, size, same);
+                turn (channel (graph_of s n) c).take (cycle_of s (node n a)) i
+                (take_long c h ∙ ap (λ b. cycle_of s (node n b)) e) in
+                omega (
+                  arith,
+                  alike.consumed c i known,
+                  alike.consumed c (i + 1) known,
+                  sum_more (rate_at (channel (graph_of s n) c).take) i,
+                  size,
+                  same,
+                );
             put = λ c h e.
                 let known : c < length (graph_of s n).channels = omega (arith, wires_all, h) in
                 let size : get_or (at_phase puts j) c 0 ≡ rate_at (channel (graph_of s n) c).put j =
-                ap (λ xs. get_or xs c 0) (puts_are j (below a i l)) ∙ get_or-map (λ (e : Edge). rate_at e.put j) (graph_of s n).channels c no_channel 0 known in
+                ap (λ xs. get_or xs c 0) (puts_are j (below a i l))
+                ∙ get_or-map (λ (e : Edge). rate_at e.put j) (graph_of s n).channels c no_channel 0 known in
                 let same : rate_at (channel (graph_of s n) c).put i ≡ rate_at (channel (graph_of s n) c).put j =
-                turn (channel (graph_of s n) c).put (cycle_of s (node n a)) i (put_long c h ∙ ap (λ b. cycle_of s (node n b)) e) in
-                omega (arith, alike.produced c i known, alike.produced c (i + 1) known, sum_more (rate_at (channel (graph_of s n) c).put) i, size, same);
+                turn (channel (graph_of s n) c).put (cycle_of s (node n a)) i
+                (put_long c h ∙ ap (λ b. cycle_of s (node n b)) e) in
+                omega (
+                  arith,
+                  alike.produced c i known,
+                  alike.produced c (i + 1) known,
+                  sum_more (rate_at (channel (graph_of s n) c).put) i,
+                  size,
+                  same,
+                );
           };
     }

@@ -13,11 +13,15 @@ use Rattle.sdf_answer.specs.GraphLaws.{GraphLaws}
 use Rattle.sdf_answer.specs.Periods.{HasPeriod}
 use Rattle.sdf_answer.proofs.Wholes.{accepted, asks, reads}
 
-module _ {A B S T : Type 0} (laws : GraphLaws) (s : Steps A S T) (r : Steps B S T) (whole : PeriodsAreWhole s) (histories : HistoriesGoOn s r) (rests : RestsGoOn s r) (arrivals : ArrivalsGoOn s r)
-    (n : Netlist A T) (m : Netlist B T) (p : Schedule) (few more : ℕ) (first later all made on joined : List (List T)) (rest last : Rest T S)
+module _ {A B S T : Type 0} (laws : GraphLaws) (s : Steps A S T) (r : Steps B S T) (whole : PeriodsAreWhole s)
+    (histories : HistoriesGoOn s r) (rests : RestsGoOn s r) (arrivals : ArrivalsGoOn s r)
+    (n : Netlist A T) (m : Netlist B T) (p : Schedule) (few more : ℕ) (first later all made on joined : List (List T))
+    (rest last : Rest T S)
     (has : HasPeriod s n p) (given : HasInputs n p.repetitions few first) (full : AreFull n p.repetitions few first)
-    (before : HasRun s n first (periods_of p.repetitions few) made rest) (begins : BeginsWith s r n rest m) (after : HasRun r m later (periods_of p.repetitions more) on last)
-    (all_are : AreJoined first later all) (joined_are : AreJoined made on joined) (as_many : length joined ≡ length made) where
+    (before : HasRun s n first (periods_of p.repetitions few) made rest) (begins : BeginsWith s r n rest m)
+    (after : HasRun r m later (periods_of p.repetitions more) on last)
+    (all_are : AreJoined first later all) (joined_are : AreJoined made on joined)
+    (as_many : length joined ≡ length made) where
   abbrev k : ℕ → ℕ
   k = periods_of p.repetitions few
 
@@ -26,13 +30,16 @@ module _ {A B S T : Type 0} (laws : GraphLaws) (s : Steps A S T) (r : Steps B S 
 
   read : AllRead n first k
   read a ext block l is =
-      full ext (reads laws s n has.alike has.shape p.order p.repetitions has.period few has.accepted.0 has.accepted.1 first given a ext block l is).0 ∙
-      sym (asks laws s n has.alike has.shape p.order p.repetitions has.period few has.accepted.0 has.accepted.1 a ext block l is)
+      full ext (reads laws s n has.alike has.shape p.order p.repetitions has.period few has.accepted.0 has.accepted.1
+      first given a ext block l is).0 ∙
+      sym (asks laws s n has.alike has.shape p.order p.repetitions has.period few has.accepted.0 has.accepted.1 a
+      ext block l is)
 
   goes_on : GoesOn s r n m first later k i before.history after.history rest
   goes_on = record {
     net = has.net;
-    whole = whole n p.repetitions few has.net has.shape has.alike (accepted laws s n has.alike has.shape p.order p.repetitions has.period few has.accepted.0 has.accepted.1);
+    whole = whole n p.repetitions few has.net has.shape has.alike
+        (accepted laws s n has.alike has.shape p.order p.repetitions has.period few has.accepted.0 has.accepted.1);
     before = before.is;
     read = read;
     left = before.left;
@@ -52,12 +59,14 @@ module _ {A B S T : Type 0} (laws : GraphLaws) (s : Steps A S T) (r : Steps B S 
     each = λ a e block l is.
         let one = before.each a e block l is in
         let other = after.each a e block (subst (λ j. a < j) (sym begins.nodes) l) (again a e block l is) in
-        joined_are e ∙ ((λ κ. one κ ++ other κ) ∙ sym (arrivals n m first later k i before.history after.history rest goes_on a e block l is));
+        joined_are e ∙ ((λ κ. one κ ++ other κ) ∙ sym
+        (arrivals n m first later k i before.history after.history rest goes_on a e block l is));
     left = rests n m first later k i before.history after.history rest last goes_on after.left;
   }
 
   counts : (λ a. k a + i a) ≡ periods_of p.repetitions (few + more)
-  counts = λ κ a. (let e : few * get_or p.repetitions a 0 + more * get_or p.repetitions a 0 ≡ (few + more) * get_or p.repetitions a 0 = omega arith in e) κ
+  counts = λ κ a. (let e : few * get_or p.repetitions a 0 + more * get_or p.repetitions a 0 ≡
+      (few + more) * get_or p.repetitions a 0 = omega arith in e) κ
 
   pub run_in_all : HasRun s n all (periods_of p.repetitions (few + more)) joined last
   run_in_all = subst (λ j. HasRun s n all j joined last) counts run_at

@@ -1,5 +1,6 @@
 -- Histories at the first firing and at the last.
-use Rattle.std.proofs.Common.{◌≡◌, ℕ, ◌+◌, ◌*◌, ◌≤◌, ◌<◌, List, [], length, get_or, take, drop, Some, sym, ap, ◌∙◌, arith, add-zero, refl}
+use Rattle.std.proofs.Common.{◌≡◌, ℕ, ◌+◌, ◌*◌, ◌≤◌, ◌<◌, List, [], length, get_or, take, drop, Some, sym, ap, ◌∙◌}
+use Rattle.std.proofs.Common.{arith, add-zero, refl}
 use Rattle.std.specs.List.{flat_map}
 use Rattle.std.proofs.Math.Nat.{mul-le-mul_left}
 use Rattle.std.proofs.lemmas.List.{take_all}
@@ -26,13 +27,17 @@ begun_history f wired x = record {
 }
 
 -- a history at counts that are the same
-pub history_along : {A : Type 0} (f : Wiring A) → IsWired f → (x : Answers A) (k m : ℕ → ℕ) (V : ℕ → List A) → ((a : ℕ) → a < f.rates.actors → k a ≡ m a) → IsHistory f x k V → IsHistory f x m V
+pub history_along : {A : Type 0} (f : Wiring A) → IsWired f → (x : Answers A) (k m : ℕ → ℕ) (V : ℕ → List A) →
+    ((a : ℕ) → a < f.rates.actors → k a ≡ m a) → IsHistory f x k V → IsHistory f x m V
 history_along f wired x k m V same r = record {
   begins = r.begins;
-  lengths = λ c l. r.lengths c l ∙ ap (λ i. f.rates.initial c + f.rates.produced c i) (same (f.rates.source c) (wired.sound.source_in c l));
+  lengths = λ c l. r.lengths c l ∙ ap (λ i. f.rates.initial c + f.rates.produced c i)
+      (same (f.rates.source c) (wired.sound.source_in c l));
   enough = λ c l.
-      let from : f.rates.produced c (k (f.rates.source c)) ≡ f.rates.produced c (m (f.rates.source c)) = ap (f.rates.produced c) (same (f.rates.source c) (wired.sound.source_in c l)) in
-      let to : f.rates.consumed c (k (f.rates.target c)) ≡ f.rates.consumed c (m (f.rates.target c)) = ap (f.rates.consumed c) (same (f.rates.target c) (wired.sound.target_in c l)) in
+      let from : f.rates.produced c (k (f.rates.source c)) ≡ f.rates.produced c (m (f.rates.source c)) =
+      ap (f.rates.produced c) (same (f.rates.source c) (wired.sound.source_in c l)) in
+      let to : f.rates.consumed c (k (f.rates.target c)) ≡ f.rates.consumed c (m (f.rates.target c)) =
+      ap (f.rates.consumed c) (same (f.rates.target c) (wired.sound.target_in c l)) in
       omega (arith, r.enough c l);
   steps = λ a i l h. r.steps a i l (let e : k a ≡ m a = same a l in omega arith);
 }
@@ -40,10 +45,12 @@ history_along f wired x k m V same r = record {
 module _ {A S T : Type 0} (s : Steps A S T) (wired : NetsAreWired s) where
   pub histories_begin : HistoriesBegin s
   histories_begin n inputs k good none =
-      history_along (wiring s n) (wired n good) (answers s n inputs) (times []) k (wiring s n).starts (λ a l. sym (none a l)) (begun_history (wiring s n) (wired n good) (answers s n inputs))
+      history_along (wiring s n) (wired n good) (answers s n inputs) (times []) k (wiring s n).starts
+      (λ a l. sym (none a l)) (begun_history (wiring s n) (wired n good) (answers s n inputs))
 
   pub sinks_take_all : SinksTakeAll s
-  sinks_take_all n V k a ext block good is = joined_taken s n (wired n good) V a (to_port n a 0) (into_sink s n a ext block is) (k a)
+  sinks_take_all n V k a ext block good is = joined_taken s n (wired n good) V a (to_port n a 0)
+      (into_sink s n a ext block is) (k a)
 
   pub sinks_make_outputs : SinksMakeOutputs s
   sinks_make_outputs n inputs q periods k V outputs good r same count lists_are = record {
@@ -52,7 +59,8 @@ module _ {A S T : Type 0} (s : Steps A S T) (wired : NetsAreWired s) where
     count = count;
     each = λ a e block l is.
         lists_are a e block l is ∙
-        (sinks_take_all n V k a e block good is ∙ ap (λ i. take ((wiring s n).rates.consumed (to_port n a 0) i) (V (to_port n a 0))) (same a l));
+        (sinks_take_all n V k a e block good is ∙ ap
+        (λ i. take ((wiring s n).rates.consumed (to_port n a 0) i) (V (to_port n a 0))) (same a l));
   }
 
   pub sinks_make_runs : SinksMakeRuns s
@@ -62,22 +70,27 @@ module _ {A S T : Type 0} (s : Steps A S T) (wired : NetsAreWired s) where
     count = count;
     each = λ a e block l is.
         lists_are a e block l is ∙
-        (sinks_take_all n V k a e block good is ∙ ap (λ i. take ((wiring s n).rates.consumed (to_port n a 0) i) (V (to_port n a 0))) (same a l));
+        (sinks_take_all n V k a e block good is ∙ ap
+        (λ i. take ((wiring s n).rates.consumed (to_port n a 0) i) (V (to_port n a 0))) (same a l));
     left = record {
       nodes = left.nodes;
-      states = λ a x l is. left.states a x l is ∙ ap (λ i. Some (state_after s x (taken_before (wiring s n) V a i))) (same a l);
+      states = λ a x l is. left.states a x l is ∙ ap
+          (λ i. Some (state_after s x (taken_before (wiring s n) V a i))) (same a l);
       channels = left.channels;
-      held = λ c l. left.held c l ∙ ap (λ i. drop ((wiring s n).rates.consumed c i) (V c)) (same ((wiring s n).rates.target c) ((wired n good).sound.target_in c l));
+      held = λ c l. left.held c l ∙ ap (λ i. drop ((wiring s n).rates.consumed c i) (V c))
+          (same ((wiring s n).rates.target c) ((wired n good).sound.target_in c l));
     };
   }
 
   -- where the inputs hold no sample, no node was asked to fire
-  module _ (n : Netlist A T) (q : List ℕ) (periods : ℕ) (inputs : List (List T)) (has : HasInputs n q periods inputs) (some : 0 < length inputs)
+  module _ (n : Netlist A T) (q : List ℕ) (periods : ℕ) (inputs : List (List T)) (has : HasInputs n q periods inputs)
+      (some : 0 < length inputs)
       (moves : 0 < period_samples n.nodes Inputs q) (empty : length (get_or inputs 0 []) ≡ 0) where
     no_periods : periods ≡ 0
     no_periods =
         let least : periods * period_samples n.nodes Inputs q ≤ 0 = omega (arith, has.enough 0 some, empty) in
-        let one : periods * 1 ≤ periods * period_samples n.nodes Inputs q = mul-le-mul_left periods (omega (arith, moves)) in
+        let one : periods * 1 ≤ periods * period_samples n.nodes Inputs q =
+        mul-le-mul_left periods (omega (arith, moves)) in
         omega (arith, least, one)
 
     idle : (a : ℕ) → periods * get_or q a 0 ≡ 0
@@ -94,6 +107,7 @@ module _ {A S T : Type 0} (s : Steps A S T) (wired : NetsAreWired s) where
 
   pub nothing_runs : NothingRuns s
   nothing_runs n q periods inputs outputs rest good has some moves empty count none is =
-      sinks_make_runs n inputs q periods (λ _. 0) is.history outputs rest good is.is (λ a l. sym (idle n q periods inputs has some moves empty a)) count
+      sinks_make_runs n inputs q periods (λ _. 0) is.history outputs rest good is.is
+      (λ a l. sym (idle n q periods inputs has some moves empty a)) count
       (λ a ext block l at. none ext (omega (arith, sinks_below n a ext block l at, count)))
       is.left

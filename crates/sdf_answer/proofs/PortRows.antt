@@ -12,7 +12,8 @@ use Rattle.sdf_actor.specs.Laws.{NetsAreWired, PortsHaveChannels}
 use Rattle.sdf_actor.specs.Sides.{ports_of, channel_at, channels_at}
 use Rattle.sdf_answer.specs.Sizes.{Rows, AreSizes, AreRows, IsPlan, at_phase, phase_of, rows_on, sizes}
 
-module _ {A S T : Type 0} (s : Steps A S T) (wired : NetsAreWired s) (ports : PortsHaveChannels s) (n : Netlist A T) (good : IsNet s n) (z : Rows) (are : AreSizes s n z) (a : ℕ) (known : a < length n.nodes) where
+module _ {A S T : Type 0} (s : Steps A S T) (wired : NetsAreWired s) (ports : PortsHaveChannels s) (n : Netlist A T)
+    (good : IsNet s n) (z : Rows) (are : AreSizes s n z) (a : ℕ) (known : a < length n.nodes) where
   -- the firings of the first cycle are at the phases of their numbers
   turn : (j : ℕ) → j < cycle_of s (node n a) → phase_of s (node n a) j ≡ j
   turn j h = mod-eq_of_lt h
@@ -25,38 +26,52 @@ module _ {A S T : Type 0} (s : Steps A S T) (wired : NetsAreWired s) (ports : Po
   plan j h = subst (λ i. IsPlan s n a j (at_phase z.takes i) (at_phase z.puts i)) (turn j h) (are.plan a j known)
 
   -- each channel at a port has a size
-  pub sized : (side : Side) (j p : ℕ) → j < cycle_of s (node n a) → p < length (channels_at s n side a) → get_or (channels_at s n side a) p 0 < length (at_phase (rows_on side z) j)
+  pub sized : (side : Side) (j p : ℕ) → j < cycle_of s (node n a) → p < length (channels_at s n side a) →
+      get_or (channels_at s n side a) p 0 < length (at_phase (rows_on side z) j)
   sized Input j p h l = omega (arith, (plan j h).takes_all, ((wired n good).ins_are a p known l).0)
   sized Output j p h l = omega (arith, (plan j h).puts_all, ((wired n good).outs_are a p known l).0)
 
   -- which is what the port's firings move
-  moves : (side : Side) (k p : ℕ) → p < ports_of s side (node n a) → get_or (at_phase (rows_on side z) (phase_of s (node n a) k)) (channel_at n side a p) 0 ≡ sizes s side (node n a) k p
+  moves : (side : Side) (k p : ℕ) → p < ports_of s side (node n a) →
+      get_or (at_phase (rows_on side z) (phase_of s (node n a) k)) (channel_at n side a p) 0 ≡
+      sizes s side (node n a) k p
   moves Input k p h =
       let is = (ports n a p good known).0 h in
       let c : ℕ = to_port n a p in
       let all = (are.plan a k known).taken c (good.to_all a p known h) is.0 in
-      let after : consumed_at s (node n (wire n c).to.0) (wire n c).to.1 (k + 1) ≡ consumed_at s (node n a) p (k + 1) = λ j. consumed_at s (node n (is.0 j)) (is.1 j) (k + 1) in
-      let before : consumed_at s (node n (wire n c).to.0) (wire n c).to.1 k ≡ consumed_at s (node n a) p k = λ j. consumed_at s (node n (is.0 j)) (is.1 j) k in
+      let after : consumed_at s (node n (wire n c).to.0) (wire n c).to.1 (k + 1) ≡ consumed_at s (node n a) p (k + 1) =
+      λ j. consumed_at s (node n (is.0 j)) (is.1 j) (k + 1) in
+      let before : consumed_at s (node n (wire n c).to.0) (wire n c).to.1 k ≡ consumed_at s (node n a) p k =
+      λ j. consumed_at s (node n (is.0 j)) (is.1 j) k in
       omega (arith, all, after, before)
   moves Output k p h =
       let is = (ports n a p good known).1 h in
       let c : ℕ = from_port n a p in
       let all = (are.plan a k known).put c (good.from_all a p known h) is.0 in
-      let after : produced_at s (node n (wire n c).from.0) (wire n c).from.1 (k + 1) ≡ produced_at s (node n a) p (k + 1) = λ j. produced_at s (node n (is.0 j)) (is.1 j) (k + 1) in
-      let before : produced_at s (node n (wire n c).from.0) (wire n c).from.1 k ≡ produced_at s (node n a) p k = λ j. produced_at s (node n (is.0 j)) (is.1 j) k in
+      let after : produced_at s (node n (wire n c).from.0) (wire n c).from.1 (k + 1) ≡
+      produced_at s (node n a) p (k + 1) = λ j. produced_at s (node n (is.0 j)) (is.1 j) (k + 1) in
+      let before : produced_at s (node n (wire n c).from.0) (wire n c).from.1 k ≡ produced_at s (node n a) p k =
+      λ j. produced_at s (node n (is.0 j)) (is.1 j) k in
       omega (arith, all, after, before)
 
   pub are_rows : (side : Side) (rows : List (List ℕ)) → length rows ≡ cycle_of s (node n a) →
-      ((j : ℕ) → j < cycle_of s (node n a) → at_phase rows j ≡ map (λ c. get_or (at_phase (rows_on side z) j) c 0) (channels_at s n side a)) → AreRows s side (node n a) rows
+      ((j : ℕ) → j < cycle_of s (node n a) → at_phase rows j ≡
+      map (λ c. get_or (at_phase (rows_on side z) j) c 0) (channels_at s n side a)) →
+      AreRows s side (node n a) rows
   are_rows side rows all each =
-      let below : (k : ℕ) → phase_of s (node n a) k < cycle_of s (node n a) = λ k. mod_below k (cycle_of s (node n a)) (are.some a known) in
-      let long : length (channels_at s n side a) ≡ ports_of s side (node n a) = length-map-range_with_len (channel_at n side a) 0 (ports_of s side (node n a)) in
+      let below : (k : ℕ) → phase_of s (node n a) k < cycle_of s (node n a) =
+      λ k. mod_below k (cycle_of s (node n a)) (are.some a known) in
+      let long : length (channels_at s n side a) ≡ ports_of s side (node n a) =
+      length-map-range_with_len (channel_at n side a) 0 (ports_of s side (node n a)) in
       record {
         known = λ k. omega (arith, below k, all);
-        long = λ k. ap length (each (phase_of s (node n a) k) (below k)) ∙ (length-map (channels_at s n side a) (λ c. get_or (at_phase (rows_on side z) (phase_of s (node n a) k)) c 0) ∙ long);
+        long = λ k. ap length (each (phase_of s (node n a) k) (below k))
+            ∙ (length-map (channels_at s n side a) (λ c. get_or
+            (at_phase (rows_on side z) (phase_of s (node n a) k)) c 0) ∙ long);
         each = λ k p h.
             let size : ℕ → ℕ = λ c. get_or (at_phase (rows_on side z) (phase_of s (node n a) k)) c 0 in
             ap (λ xs. get_or xs p 0) (each (phase_of s (node n a) k) (below k)) ∙
             (get_or-map size (channels_at s n side a) p 0 0 (omega (arith, long)) ∙
-            (ap size (get_or-map-range_with_len (channel_at n side a) 0 (ports_of s side (node n a)) p p 0 h (omega arith)) ∙ moves side k p h));
+            (ap size (get_or-map-range_with_len (channel_at n side a) 0 (ports_of s side (node n a)) p p 0 h
+            (omega arith)) ∙ moves side k p h));
       }

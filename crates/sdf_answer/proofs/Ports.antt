@@ -1,6 +1,8 @@
 -- A port more, taken from or put on.
-use Rattle.std.proofs.Common.{◌≡◌, ℕ, suc, ◌+◌, ◌≤◌, ◌<◌, List, [], ◌∷◌, ◌++◌, length, get_or, set, take, drop, cond, eqb, Bool, true, false, refl, sym, ap, ◌∙◌, subst, inl, inr, ◌⊎◌, arith, add-one}
-use Rattle.std.proofs.lemmas.List.{get_or-set_same, get_or-set_other, get_or_default, get_or-take, length-take-le, take_more, flat_map_more, append-nil, get_or-drop, length-drop}
+use Rattle.std.proofs.Common.{◌≡◌, ℕ, suc, ◌+◌, ◌≤◌, ◌<◌, List, [], ◌∷◌, ◌++◌, length, get_or, set, take, drop, cond}
+use Rattle.std.proofs.Common.{eqb, Bool, true, false, refl, sym, ap, ◌∙◌, subst, inl, inr, ◌⊎◌, arith, add-one}
+use Rattle.std.proofs.lemmas.List.{get_or-set_same, get_or-set_other, get_or_default, get_or-take, length-take-le}
+use Rattle.std.proofs.lemmas.List.{take_more, flat_map_more, append-nil, get_or-drop, length-drop}
 use Rattle.std.proofs.Math.Seq.{drop-cons}
 use Rattle.std.specs.List.{flat_map}
 use Rattle.std.proofs.lemmas.Bool.{cases_eq, eq-eqb, ne_eqb}
@@ -26,7 +28,8 @@ push_other : (ds : List ℕ) (many d c : ℕ) → (d ≡ c → ⊥) → at_ports
 push_other [] many d c ne = ap (λ t. cond t many 0) (ne_eqb d c ne)
 push_other (e ∷ ds) many d c ne = ap (λ n. cond (eqb e c) many n) (push_other ds many d c ne)
 
-pub spread_none : {T : Type 0} (size : ℕ → ℕ) (ds : List ℕ) (b : List T) (c : ℕ) → ((n : ℕ) → n < length ds → get_or ds n 0 ≡ c → ⊥) → spread size ds b c ≡ []
+pub spread_none : {T : Type 0} (size : ℕ → ℕ) (ds : List ℕ) (b : List T) (c : ℕ) →
+    ((n : ℕ) → n < length ds → get_or ds n 0 ≡ c → ⊥) → spread size ds b c ≡ []
 spread_none size [] b c none = refl
 spread_none size (d ∷ ds) b c none =
     ap (λ t. cond t (take (size d) b) (spread size ds (drop (size d) b) c)) (ne_eqb d c (none 0 (omega arith))) ∙
@@ -44,66 +47,90 @@ module _ (ports sizes : List ℕ) (channels : ℕ) (are : ArePorts ports sizes c
       (λ n h e. let short : length (take i ports) ≡ i = length-take-le i ports (omega arith) in
       earlier i n l (omega arith) (sym (get_or-take i ports n 0 (omega arith)) ∙ e))
 
-  module _ {T : Type 0} (was now : List (Held T)) (i : ℕ) (l : i < length ports) (x q : Held T) (many : length now ≡ channels) where
+  module _ {T : Type 0} (was now : List (Held T)) (i : ℕ) (l : i < length ports) (x q : Held T)
+      (many : length now ≡ channels) where
     pub same_x : samples now (get_or ports i 0) ≡ (get_or now (get_or ports i 0) x).samples
-    same_x = ap (λ (y : Held T). y.samples) (get_or_default now (get_or ports i 0) nothing x (let k = are.known i l in omega arith))
+    same_x = ap (λ (y : Held T). y.samples) (get_or_default now (get_or ports i 0) nothing x
+        (let k = are.known i l in omega arith))
 
     same_room : room now (get_or ports i 0) ≡ (get_or now (get_or ports i 0) x).room
-    same_room = ap (λ (y : Held T). y.room) (get_or_default now (get_or ports i 0) nothing x (let k = are.known i l in omega arith))
+    same_room = ap (λ (y : Held T). y.room) (get_or_default now (get_or ports i 0) nothing x
+        (let k = are.known i l in omega arith))
 
     set_here : get_or (set now (get_or ports i 0) q) (get_or ports i 0) nothing ≡ q
     set_here = get_or-set_same now (get_or ports i 0) q nothing (let k = are.known i l in omega arith)
 
-    set_other : (c : ℕ) → (get_or ports i 0 ≡ c → ⊥) → get_or (set now (get_or ports i 0) q) c nothing ≡ get_or now c nothing
+    set_other : (c : ℕ) → (get_or ports i 0 ≡ c → ⊥) →
+        get_or (set now (get_or ports i 0) q) c nothing ≡ get_or now c nothing
     set_other c ne = get_or-set_other now (get_or ports i 0) c q nothing (λ e. ne (sym e))
 
     -- the room of each queue stays
-    pub rooms_more : q.room ≡ (get_or now (get_or ports i 0) x).room → ((c : ℕ) → c < channels → room now c ≡ room was c) → (c : ℕ) → c < channels → room (set now (get_or ports i 0) q) c ≡ room was c
+    pub rooms_more : q.room ≡ (get_or now (get_or ports i 0) x).room →
+        ((c : ℕ) → c < channels → room now c ≡ room was c) → (c : ℕ) → c < channels →
+        room (set now (get_or ports i 0) q) c ≡ room was c
     rooms_more stays before c k = go (cases_eq (get_or ports i 0) c)
       where
         go : (get_or ports i 0 ≡ c) ⊎ (get_or ports i 0 ≡ c → ⊥) → room (set now (get_or ports i 0) q) c ≡ room was c
         go (inl e) =
             subst (λ d. room (set now (get_or ports i 0) q) d ≡ room was d) e
-            (ap (λ (y : Held T). y.room) set_here ∙ (stays ∙ (sym same_room ∙ before (get_or ports i 0) (are.known i l))))
+            (ap (λ (y : Held T). y.room) set_here ∙ (stays
+            ∙ (sym same_room ∙ before (get_or ports i 0) (are.known i l))))
         go (inr ne) = ap (λ (y : Held T). y.room) (set_other c ne) ∙ before c k
 
     -- a port's queue is whole until its turn
-    pub whole : ((c : ℕ) → c < channels → samples now c ≡ drop (at_ports (take i ports) (get_or sizes c 0) c) (samples was c)) → (get_or now (get_or ports i 0) x).samples ≡ samples was (get_or ports i 0)
+    pub whole : ((c : ℕ) → c < channels → samples now c ≡
+        drop (at_ports (take i ports) (get_or sizes c 0) c) (samples was c)) →
+        (get_or now (get_or ports i 0) x).samples ≡ samples was (get_or ports i 0)
     whole before =
-        sym same_x ∙ (before (get_or ports i 0) (are.known i l) ∙ ap (λ n. drop n (samples was (get_or ports i 0))) (fresh i l (get_or sizes (get_or ports i 0) 0)))
+        sym same_x ∙ (before (get_or ports i 0) (are.known i l)
+        ∙ ap (λ n. drop n (samples was (get_or ports i 0))) (fresh i l (get_or sizes (get_or ports i 0) 0)))
 
     -- and so holds what is taken from it
-    pub holds : HoldBlocks ports sizes was → ((c : ℕ) → c < channels → samples now c ≡ drop (at_ports (take i ports) (get_or sizes c 0) c) (samples was c)) →
+    pub holds : HoldBlocks ports sizes was → ((c : ℕ) → c < channels →
+        samples now c ≡ drop (at_ports (take i ports) (get_or sizes c 0) c) (samples was c)) →
         get_or sizes (get_or ports i 0) 0 ≤ length (get_or now (get_or ports i 0) x).samples
     holds held before = omega (arith, held i l, ap length (whole before))
 
     -- taking from one port more
     pub taken_more : q.samples ≡ drop (get_or sizes (get_or ports i 0) 0) (get_or now (get_or ports i 0) x).samples →
         ((c : ℕ) → c < channels → samples now c ≡ drop (at_ports (take i ports) (get_or sizes c 0) c) (samples was c)) →
-        (c : ℕ) → c < channels → samples (set now (get_or ports i 0) q) c ≡ drop (at_ports (take (i + 1) ports) (get_or sizes c 0) c) (samples was c)
+        (c : ℕ) → c < channels → samples (set now (get_or ports i 0) q) c ≡
+        drop (at_ports (take (i + 1) ports) (get_or sizes c 0) c) (samples was c)
     taken_more moved before c k =
-        go (cases_eq (get_or ports i 0) c) ∙ ap (λ ds. drop (at_ports ds (get_or sizes c 0) c) (samples was c)) (sym (take_more ports i 0 l))
+        go (cases_eq (get_or ports i 0) c) ∙ ap (λ ds. drop (at_ports ds (get_or sizes c 0) c) (samples was c))
+        (sym (take_more ports i 0 l))
       where
-        go : (get_or ports i 0 ≡ c) ⊎ (get_or ports i 0 ≡ c → ⊥) → samples (set now (get_or ports i 0) q) c ≡ drop (at_ports (take i ports ++ get_or ports i 0 ∷ []) (get_or sizes c 0) c) (samples was c)
+        go : (get_or ports i 0 ≡ c) ⊎ (get_or ports i 0 ≡ c → ⊥) →
+            samples (set now (get_or ports i 0) q) c ≡ drop
+            (at_ports (take i ports ++ get_or ports i 0 ∷ []) (get_or sizes c 0) c) (samples was c)
         go (inl e) =
             let d : ℕ = get_or ports i 0 in
             let size : ℕ = get_or sizes d 0 in
-            subst (λ c. samples (set now d q) c ≡ drop (at_ports (take i ports ++ d ∷ []) (get_or sizes c 0) c) (samples was c)) e
-            (ap (λ (y : Held T). y.samples) set_here ∙ (moved ∙ (ap (drop size) (whole before) ∙ ap (λ n. drop n (samples was d)) (sym (push_same (take i ports) size d)))))
+            subst (λ c. samples (set now d q) c ≡ drop (at_ports (take i ports ++ d ∷ []) (get_or sizes c 0) c)
+            (samples was c)) e
+            (ap (λ (y : Held T). y.samples) set_here ∙ (moved
+            ∙ (ap (drop size) (whole before) ∙ ap (λ n. drop n (samples was d))
+            (sym (push_same (take i ports) size d)))))
         go (inr ne) =
             ap (λ (y : Held T). y.samples) (set_other c ne) ∙
-            (before c k ∙ ap (λ n. drop n (samples was c)) (sym (push_other (take i ports) (get_or sizes c 0) (get_or ports i 0) c ne)))
+            (before c k ∙ ap (λ n. drop n (samples was c))
+            (sym (push_other (take i ports) (get_or sizes c 0) (get_or ports i 0) c ne)))
 
     -- putting on one port more
-    pub untouched_more : ((c : ℕ) → c < channels → ((n : ℕ) → n < i → get_or ports n 0 ≡ c → ⊥) → samples now c ≡ samples was c) →
-        (c : ℕ) → c < channels → ((n : ℕ) → n < i + 1 → get_or ports n 0 ≡ c → ⊥) → samples (set now (get_or ports i 0) q) c ≡ samples was c
+    pub untouched_more : ((c : ℕ) → c < channels → ((n : ℕ) → n < i → get_or ports n 0 ≡ c → ⊥) →
+        samples now c ≡ samples was c) →
+        (c : ℕ) → c < channels → ((n : ℕ) → n < i + 1 → get_or ports n 0 ≡ c → ⊥) →
+        samples (set now (get_or ports i 0) q) c ≡ samples was c
     untouched_more before c k none =
         ap (λ (y : Held T). y.samples) (set_other c (none i (omega arith))) ∙ before c k (λ n h. none n (omega arith))
 
-    pub put_more : (all : List T) (rest : List T) → q.samples ≡ (get_or now (get_or ports i 0) x).samples ++ take (get_or sizes (get_or ports i 0) 0) rest →
-        ((c : ℕ) → c < channels → samples now c ++ spread (λ d. get_or sizes d 0) (drop i ports) rest c ≡ samples was c ++ spread (λ d. get_or sizes d 0) ports all c) →
+    pub put_more : (all : List T) (rest : List T) →
+        q.samples ≡ (get_or now (get_or ports i 0) x).samples ++ take (get_or sizes (get_or ports i 0) 0) rest →
+        ((c : ℕ) → c < channels → samples now c ++ spread (λ d. get_or sizes d 0) (drop i ports) rest c ≡
+        samples was c ++ spread (λ d. get_or sizes d 0) ports all c) →
         (c : ℕ) → c < channels →
-        samples (set now (get_or ports i 0) q) c ++ spread (λ d. get_or sizes d 0) (drop (i + 1) ports) (drop (get_or sizes (get_or ports i 0) 0) rest) c ≡
+        samples (set now (get_or ports i 0) q) c ++ spread (λ d. get_or sizes d 0) (drop (i + 1) ports)
+        (drop (get_or sizes (get_or ports i 0) 0) rest) c ≡
         samples was c ++ spread (λ d. get_or sizes d 0) ports all c
     put_more all rest moved before c k = go (cases_eq (get_or ports i 0) c) ∙ before c k
       where
@@ -128,20 +155,29 @@ module _ (ports sizes : List ℕ) (channels : ℕ) (are : ArePorts ports sizes c
             omega arith)
 
         go : (get_or ports i 0 ≡ c) ⊎ (get_or ports i 0 ≡ c → ⊥) →
-            samples (set now (get_or ports i 0) q) c ++ spread size ds (drop (size d) rest) c ≡ samples now c ++ spread size (drop i ports) rest c
+            samples (set now (get_or ports i 0) q) c ++ spread size ds (drop (size d) rest) c ≡
+            samples now c ++ spread size (drop i ports) rest c
         go (inl e) =
-            let mine : samples (set now d q) c ≡ q.samples = subst (λ c. samples (set now d q) c ≡ q.samples) e (ap (λ (y : Held T). y.samples) set_here) in
-            let old : samples now c ≡ (get_or now d x).samples = subst (λ c. samples now c ≡ (get_or now d x).samples) e same_x in
+            let mine : samples (set now d q) c ≡ q.samples =
+            subst (λ c. samples (set now d q) c ≡ q.samples) e (ap (λ (y : Held T). y.samples) set_here) in
+            let old : samples now c ≡ (get_or now d x).samples =
+            subst (λ c. samples now c ≡ (get_or now d x).samples) e same_x in
             let part : spread size (drop i ports) rest c ≡ take (size d) rest =
-            ap (λ es. spread size es rest c) cons ∙ ap (λ t. cond t (take (size d) rest) (spread size ds (drop (size d) rest) c)) (eq-eqb d c e) in
+            ap (λ es. spread size es rest c) cons ∙ ap (λ t. cond t (take (size d) rest)
+            (spread size ds (drop (size d) rest) c)) (eq-eqb d c e) in
             ap (λ ys. samples (set now d q) c ++ ys) (later e) ∙ (append-nil (samples (set now d q) c) ∙
-            (mine ∙ (moved ∙ (ap (λ ys. ys ++ take (size d) rest) (sym old) ∙ ap (λ ys. samples now c ++ ys) (sym part)))))
+            (mine ∙ (moved ∙ (ap (λ ys. ys ++ take (size d) rest) (sym old)
+            ∙ ap (λ ys. samples now c ++ ys) (sym part)))))
         go (inr ne) =
             let part : spread size (drop i ports) rest c ≡ spread size ds (drop (size d) rest) c =
-            ap (λ es. spread size es rest c) cons ∙ ap (λ t. cond t (take (size d) rest) (spread size ds (drop (size d) rest) c)) (ne_eqb d c ne) in
-            ap (λ ys. ys ++ spread size ds (drop (size d) rest) c) (ap (λ (y : Held T). y.samples) (set_other c ne)) ∙ ap (λ ys. samples now c ++ ys) (sym part)
+            ap (λ es. spread size es rest c) cons ∙ ap (λ t. cond t (take (size d) rest)
+            (spread size ds (drop (size d) rest) c)) (ne_eqb d c ne) in
+            ap (λ ys. ys ++ spread size ds (drop (size d) rest) c) (ap (λ (y : Held T). y.samples) (set_other c ne))
+            ∙ ap (λ ys. samples now c ++ ys) (sym part)
 
 -- a block with a port more
-pub block_more : {T : Type 0} (f : ℕ → List T) (ports : List ℕ) (i : ℕ) (was block : List T) → i < length ports → block ≡ (was ++ flat_map f (take i ports)) ++ f (get_or ports i 0) →
+pub block_more : {T : Type 0} (f : ℕ → List T) (ports : List ℕ) (i : ℕ) (was block : List T) → i < length ports →
+    block ≡ (was ++ flat_map f (take i ports)) ++ f (get_or ports i 0) →
     block ≡ was ++ flat_map f (take (i + 1) ports)
-block_more f ports i was block l is = is ∙ (flat_map_more f was (take i ports) (get_or ports i 0) ∙ ap (λ ds. was ++ flat_map f ds) (sym (take_more ports i 0 l)))
+block_more f ports i was block l is = is ∙ (flat_map_more f was (take i ports) (get_or ports i 0)
+    ∙ ap (λ ds. was ++ flat_map f ds) (sym (take_more ports i 0 l)))

@@ -6,10 +6,12 @@ use Rattle.std.specs.Global.{Global}
 use Rattle.sdf_answer.specs.Lists.{list}
 
 -- a list that is read
-pub list_is : {T : Type 0} (xs : List (Vec T Global)) (i : ℕ) (v : Vec T Global) → i < length xs → list xs i ≡ (get_or xs i v).items
+pub list_is : {T : Type 0} (xs : List (Vec T Global)) (i : ℕ) (v : Vec T Global) → i < length xs →
+    list xs i ≡ (get_or xs i v).items
 list_is {T} xs i v l = get_or-map (λ (x : Vec T Global). x.items) xs i v [] l
 
-pub list_long : {T : Type 0} (xs : List (Vec T Global)) (i : ℕ) (v : Vec T Global) → i < length xs → length (list xs i) ≡ vec_len (get_or xs i v)
+pub list_long : {T : Type 0} (xs : List (Vec T Global)) (i : ℕ) (v : Vec T Global) → i < length xs →
+    length (list xs i) ≡ vec_len (get_or xs i v)
 list_long {T} xs i v l = ap length (list_is xs i v l) ∙ long (get_or xs i v)
   where
     long : (w : Vec T Global) → length w.items ≡ vec_len w

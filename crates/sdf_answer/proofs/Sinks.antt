@@ -1,5 +1,6 @@
 -- What a sink takes.
-use Rattle.std.proofs.Common.{◌≡◌, ℕ, zero, suc, ◌+◌, ◌≤◌, List, [], ◌∷◌, ◌++◌, map, take, drop, sym, ap, ◌∙◌, arith, add-one}
+use Rattle.std.proofs.Common.{◌≡◌, ℕ, zero, suc, ◌+◌, ◌≤◌, List, [], ◌∷◌, ◌++◌, map, take, drop, sym, ap, ◌∙◌, arith}
+use Rattle.std.proofs.Common.{add-one}
 use Rattle.std.specs.List.{between, flat_map, range_with_len}
 use Rattle.std.proofs.lemmas.List.{append-nil, flat_map_more, take-take, take-append-drop}
 use Rattle.std.proofs.lemmas.Slice.{between_is}
@@ -22,13 +23,20 @@ module _ {A S T : Type 0} (s : Steps A S T) (n : Netlist A T) where
 
   module _ (wired : IsWired (wiring s n)) where
     -- what a node with one port takes, joined, is the front of its channel
-    pub joined_taken : (V : ℕ → List T) (a c : ℕ) → (wiring s n).ins a ≡ c ∷ [] → (i : ℕ) → flat_map (λ (b : List T). b) (taken_before (wiring s n) V a i) ≡ take ((wiring s n).rates.consumed c i) (V c)
+    pub joined_taken : (V : ℕ → List T) (a c : ℕ) → (wiring s n).ins a ≡ c ∷ [] → (i : ℕ) →
+        flat_map (λ (b : List T). b) (taken_before (wiring s n) V a i) ≡ take ((wiring s n).rates.consumed c i) (V c)
     joined_taken V a c one zero = ap (λ i. take i (V c)) (sym (wired.sound.consumed_none c))
     joined_taken V a c one (suc i) =
-        let before : flat_map (λ (b : List T). b) (taken_before (wiring s n) V a i) ≡ take ((wiring s n).rates.consumed c i) (V c) = joined_taken V a c one i in
+        let before : flat_map (λ (b : List T). b) (taken_before (wiring s n) V a i) ≡
+        take ((wiring s n).rates.consumed c i) (V c) = joined_taken V a c one i in
         let more = flat_map_more (λ (b : List T). b) [] (taken_before (wiring s n) V a i) (taken (wiring s n) V a i) in
-        let now : taken (wiring s n) V a i ≡ between ((wiring s n).rates.consumed c i) ((wiring s n).rates.consumed c (i + 1)) (V c) =
-        ap (flat_map (λ d. between ((wiring s n).rates.consumed d i) ((wiring s n).rates.consumed d (i + 1)) (V d))) one ∙ append-nil (between ((wiring s n).rates.consumed c i) ((wiring s n).rates.consumed c (i + 1)) (V c)) in
-        let rise : (wiring s n).rates.consumed c i ≤ (wiring s n).rates.consumed c (i + 1) = wired.sound.consumed_rises c i (i + 1) (omega arith) in
-        sym more ∙ (ap (λ xs. xs ++ taken (wiring s n) V a i) before ∙ (ap (λ ys. take ((wiring s n).rates.consumed c i) (V c) ++ ys) now ∙
-        (sym (take_on (V c) ((wiring s n).rates.consumed c i) ((wiring s n).rates.consumed c (i + 1)) rise) ∙ ap (λ j. take ((wiring s n).rates.consumed c j) (V c)) (add-one i))))
+        let now : taken (wiring s n) V a i ≡ between ((wiring s n).rates.consumed c i)
+        ((wiring s n).rates.consumed c (i + 1)) (V c) =
+        ap (flat_map (λ d. between ((wiring s n).rates.consumed d i) ((wiring s n).rates.consumed d (i + 1)) (V d))) one
+        ∙ append-nil (between ((wiring s n).rates.consumed c i) ((wiring s n).rates.consumed c (i + 1)) (V c)) in
+        let rise : (wiring s n).rates.consumed c i ≤ (wiring s n).rates.consumed c (i + 1) =
+        wired.sound.consumed_rises c i (i + 1) (omega arith) in
+        sym more ∙ (ap (λ xs. xs ++ taken (wiring s n) V a i) before
+        ∙ (ap (λ ys. take ((wiring s n).rates.consumed c i) (V c) ++ ys) now ∙
+        (sym (take_on (V c) ((wiring s n).rates.consumed c i) ((wiring s n).rates.consumed c (i + 1)) rise)
+        ∙ ap (λ j. take ((wiring s n).rates.consumed c j) (V c)) (add-one i))))

@@ -6,7 +6,8 @@ use Rattle.sdf_actor.specs.Steps.{Steps}
 use Rattle.sdf_actor.specs.Nets.{Netlist, node, arrived, IsHistoryOf}
 use Rattle.sdf_actor.specs.Sides.{list_count, period_samples}
 use Rattle.sdf_answer.specs.declared.fault.RunFault.{RunFault}
-use Rattle.sdf_answer.specs.declared.fault.RunFault.TheVariants.{OutOfMemory, InputLength, NotHomed, Patience, NoWorker, SessionFailed}
+use Rattle.sdf_answer.specs.declared.fault.RunFault.TheVariants.{OutOfMemory, InputLength, NotHomed, Patience, NoWorker}
+use Rattle.sdf_answer.specs.declared.fault.RunFault.TheVariants.{SessionFailed}
 
 -- so many lists, all of one length and none shorter than the least
 pub record AreInputs {T : Type 0} (many least : ℕ) (inputs : List (List T)) : Type 0 where
@@ -19,17 +20,20 @@ abbrev pub HasInputs : {A T : Type 0} → Netlist A T → List ℕ → ℕ → L
 HasInputs n q periods inputs = AreInputs (list_count Inputs n.nodes) (periods * period_samples n.nodes Inputs q) inputs
 
 -- the output lists of the history where each node a has fired k a times: each sink's is what has arrived there
-pub record AreOutputs {A S T : Type 0} (s : Steps A S T) (n : Netlist A T) (inputs : List (List T)) (k : ℕ → ℕ) (outputs : List (List T)) : Type 0 where
+pub record AreOutputs {A S T : Type 0} (s : Steps A S T) (n : Netlist A T) (inputs : List (List T)) (k : ℕ → ℕ)
+    (outputs : List (List T)) : Type 0 where
   pub history : ℕ → List T
   pub is : IsHistoryOf s n inputs k history
   pub count : length outputs ≡ list_count Outputs n.nodes
-  pub each : (a e block : ℕ) → a < length n.nodes → node n a ≡ Sink e block → slice_index_or outputs e [] ≡ arrived s n k history a
+  pub each : (a e block : ℕ) → a < length n.nodes → node n a ≡ Sink e block →
+      slice_index_or outputs e [] ≡ arrived s n k history a
 
 -- how often each node has fired after so many periods of q
 abbrev pub periods_of : List ℕ → ℕ → ℕ → ℕ
 periods_of q periods a = periods * slice_index q a
 
--- a fault is true of what was given: a runner that does not ask for homes, patience or workers has no fault of them, and none is a session
+-- a fault is true of what was given: a runner that does not ask for homes, patience or workers has no fault of them,
+-- and none is a session
 abbrev pub IsRunFault : {A T : Type 0} → Netlist A T → List ℕ → ℕ → List (List T) → RunFault → Type 0
 IsRunFault n q periods inputs OutOfMemory = Unit {0}
 IsRunFault n q periods inputs InputLength = HasInputs n q periods inputs → ⊥

@@ -1,5 +1,6 @@
 -- Blocks taken from queues and put on queues, a part for each port.
-use Rattle.std.specs.Prelude.{◌≡◌, ℕ, ◌≤◌, ◌<◌, ◌+◌, ◌==◌, cond, List, [], ◌∷◌, length, take, slice_index, slice_index_or}
+use Rattle.std.specs.Prelude.{◌≡◌, ℕ, ◌≤◌, ◌<◌, ◌+◌, ◌==◌, cond, List, [], ◌∷◌, length, take, slice_index}
+use Rattle.std.specs.Prelude.{slice_index_or}
 use Rattle.std.specs.List.{flat_map}
 use Rattle.sdf_answer.specs.Held.{Held}
 
@@ -30,8 +31,10 @@ pub record ArePorts (ports sizes : List ℕ) (channels : ℕ) : Type 0 where
 
 -- the queue at each port holds what is taken from it
 abbrev pub HoldBlocks : {T : Type 0} → List ℕ → List ℕ → List (Held T) → Type 0
-HoldBlocks ports sizes qs = (n : ℕ) → n < length ports → slice_index sizes (slice_index ports n) ≤ length (samples qs (slice_index ports n))
+HoldBlocks ports sizes qs = (n : ℕ) → n < length ports →
+    slice_index sizes (slice_index ports n) ≤ length (samples qs (slice_index ports n))
 
 -- the queue at each port has room for what is put on it
 abbrev pub HaveRoom : {T : Type 0} → List ℕ → List ℕ → List (Held T) → Type 0
-HaveRoom ports sizes qs = (n : ℕ) → n < length ports → length (samples qs (slice_index ports n)) + slice_index sizes (slice_index ports n) ≤ room qs (slice_index ports n)
+HaveRoom ports sizes qs = (n : ℕ) → n < length ports →
+    length (samples qs (slice_index ports n)) + slice_index sizes (slice_index ports n) ≤ room qs (slice_index ports n)

@@ -15,57 +15,69 @@ use Rattle.sdf_answer.specs.declared.fault.RunFault.{RunFault}
 use Rattle.sdf_answer.specs.Periods.{HasPeriod}
 
 -- the outputs of the history where each node a has fired k a times, and what that history leaves
-pub record HasRun {A S T : Type 0} (s : Steps A S T) (n : Netlist A T) (inputs : List (List T)) (k : ℕ → ℕ) (outputs : List (List T)) (rest : Rest T S) : Type 0 where
+pub record HasRun {A S T : Type 0} (s : Steps A S T) (n : Netlist A T) (inputs : List (List T)) (k : ℕ → ℕ)
+    (outputs : List (List T)) (rest : Rest T S) : Type 0 where
   pub history : ℕ → List T
   pub is : IsHistoryOf s n inputs k history
   pub count : length outputs ≡ list_count Outputs n.nodes
-  pub each : (a e block : ℕ) → a < length n.nodes → node n a ≡ Sink e block → slice_index_or outputs e [] ≡ arrived s n k history a
+  pub each : (a e block : ℕ) → a < length n.nodes → node n a ≡ Sink e block →
+      slice_index_or outputs e [] ≡ arrived s n k history a
   pub left : Leaves s n k history rest
 
 -- the input lists hold the samples of so many periods of q, and no more
 abbrev pub AreFull : {A T : Type 0} → Netlist A T → List ℕ → ℕ → List (List T) → Type 0
-AreFull n q periods inputs = (e : ℕ) → e < length inputs → length (slice_index_or inputs e []) ≡ periods * period_samples n.nodes Inputs q
+AreFull n q periods inputs = (e : ℕ) → e < length inputs →
+    length (slice_index_or inputs e []) ≡ periods * period_samples n.nodes Inputs q
 
--- a run of net n on the first lists, and then one of the net that begins with what it left, on the later ones, are a run of net n on
--- both joined: its outputs are theirs joined, and it leaves what the later one leaves
+-- a run of net n on the first lists, and then one of the net that begins with what it left, on the later ones, are a
+-- run of net n on both joined: its outputs are theirs joined, and it leaves what the later one leaves
 abbrev pub FeedsGoOn : {A B S T : Type 0} → Steps A S T → Steps B S T → Type 0
 FeedsGoOn {A} {B} {S} {T} s r =
-    (n : Netlist A T) (m : Netlist B T) (p : Schedule) (few more : ℕ) (first later all made on joined : List (List T)) (rest last : Rest T S) →
+    (n : Netlist A T) (m : Netlist B T) (p : Schedule) (few more : ℕ) (first later all made on joined : List (List T))
+    (rest last : Rest T S) →
     HasPeriod s n p → HasInputs n p.repetitions few first → AreFull n p.repetitions few first →
-    HasRun s n first (periods_of p.repetitions few) made rest → BeginsWith s r n rest m → HasRun r m later (periods_of p.repetitions more) on last →
+    HasRun s n first (periods_of p.repetitions few) made rest → BeginsWith s r n rest m →
+    HasRun r m later (periods_of p.repetitions more) on last →
     AreJoined first later all → AreJoined made on joined → length joined ≡ length made →
     HasRun s n all (periods_of p.repetitions (few + more)) joined last
 
 -- where each node has fired so many periods of q, the lists of what the sinks took and what is left are a run
 abbrev pub SinksMakeRuns : {A S T : Type 0} → Steps A S T → Type 0
 SinksMakeRuns {A} {S} {T} s =
-    (n : Netlist A T) (inputs : List (List T)) (q : List ℕ) (periods : ℕ) (k : ℕ → ℕ) (V : ℕ → List T) (outputs : List (List T)) (rest : Rest T S) →
-    IsNet s n → IsHistoryOf s n inputs k V → ((a : ℕ) → a < length n.nodes → k a ≡ periods_of q periods a) → length outputs ≡ list_count Outputs n.nodes →
-    ((a ext block : ℕ) → a < length n.nodes → node n a ≡ Sink ext block → slice_index_or outputs ext [] ≡ flat_map (λ (b : List T). b) (taken_before (wiring s n) V a (k a))) →
+    (n : Netlist A T) (inputs : List (List T)) (q : List ℕ) (periods : ℕ) (k : ℕ → ℕ) (V : ℕ → List T)
+    (outputs : List (List T)) (rest : Rest T S) →
+    IsNet s n → IsHistoryOf s n inputs k V → ((a : ℕ) → a < length n.nodes → k a ≡ periods_of q periods a) →
+    length outputs ≡ list_count Outputs n.nodes →
+    ((a ext block : ℕ) → a < length n.nodes → node n a ≡ Sink ext block →
+    slice_index_or outputs ext [] ≡ flat_map (λ (b : List T). b) (taken_before (wiring s n) V a (k a))) →
     Leaves s n k V rest → HasRun s n inputs (periods_of q periods) outputs rest
 
 -- where the inputs hold no sample, empty lists and what the net begins with are one
 abbrev pub NothingRuns : {A S T : Type 0} → Steps A S T → Type 0
 NothingRuns {A} {S} {T} s =
     (n : Netlist A T) (q : List ℕ) (periods : ℕ) (inputs outputs : List (List T)) (rest : Rest T S) →
-    IsNet s n → HasInputs n q periods inputs → 0 < length inputs → 0 < period_samples n.nodes Inputs q → length (slice_index_or inputs 0 []) ≡ 0 →
+    IsNet s n → HasInputs n q periods inputs → 0 < length inputs → 0 < period_samples n.nodes Inputs q →
+    length (slice_index_or inputs 0 []) ≡ 0 →
     length outputs ≡ list_count Outputs n.nodes → ((e : ℕ) → e < length outputs → slice_index_or outputs e [] ≡ []) →
     IsRest s n inputs (λ _. 0) rest → HasRun s n inputs (periods_of q periods) outputs rest
 
 -- a net that begins with a rest is given the same inputs
 abbrev pub BegunNetsAsk : {A B S T : Type 0} → Steps A S T → Steps B S T → Type 0
 BegunNetsAsk {A} {B} {S} {T} s r =
-    (n : Netlist A T) (rest : Rest T S) (m : Netlist B T) (q : List ℕ) (periods : ℕ) (inputs : List (List T)) → BeginsWith s r n rest m →
+    (n : Netlist A T) (rest : Rest T S) (m : Netlist B T) (q : List ℕ) (periods : ℕ) (inputs : List (List T)) →
+    BeginsWith s r n rest m →
     HasInputs m q periods inputs ↔ HasInputs n q periods inputs
 
 -- and makes as many outputs
 abbrev pub BegunNetsMake : {A B S T : Type 0} → Steps A S T → Steps B S T → Type 0
 BegunNetsMake {A} {B} {S} {T} s r =
-    (n : Netlist A T) (rest : Rest T S) (m : Netlist B T) → BeginsWith s r n rest m → list_count Outputs m.nodes ≡ list_count Outputs n.nodes
+    (n : Netlist A T) (rest : Rest T S) (m : Netlist B T) → BeginsWith s r n rest m →
+    list_count Outputs m.nodes ≡ list_count Outputs n.nodes
 
--- a run goes on by so many periods on the later lists: whatever run left the rest, with nothing unread, the outputs are what it then makes
--- beyond that, and the last rest is what it leaves
-pub record GoesOnBy {A S T : Type 0} (s : Steps A S T) (n : Netlist A T) (q : List ℕ) (rest : Rest T S) (more : ℕ) (later on : List (List T)) (last : Rest T S) : Type 0 where
+-- a run goes on by so many periods on the later lists: whatever run left the rest, with nothing unread, the outputs are
+-- what it then makes beyond that, and the last rest is what it leaves
+pub record GoesOnBy {A S T : Type 0} (s : Steps A S T) (n : Netlist A T) (q : List ℕ) (rest : Rest T S) (more : ℕ)
+    (later on : List (List T)) (last : Rest T S) : Type 0 where
   pub given : HasInputs n q more later
   pub count : length on ≡ list_count Outputs n.nodes
   pub runs : (few : ℕ) (first all made joined : List (List T)) →
@@ -75,17 +87,20 @@ pub record GoesOnBy {A S T : Type 0} (s : Steps A S T) (n : Netlist A T) (q : Li
 
 -- the counts of so many periods are whole, so a net may begin with what is left there
 abbrev pub PeriodsMayLeave : {A S T : Type 0} → Steps A S T → Type 0
-PeriodsMayLeave {A} {S} {T} s = (n : Netlist A T) (p : Schedule) (few : ℕ) → HasPeriod s n p → AreWhole s n (periods_of p.repetitions few)
+PeriodsMayLeave {A} {S} {T} s = (n : Netlist A T) (p : Schedule) (few : ℕ) → HasPeriod s n p →
+    AreWhole s n (periods_of p.repetitions few)
 
 -- a run of the net that begins with a rest goes on from there
 abbrev pub BegunRunsGoOn : {A B S T : Type 0} → Steps A S T → Steps B S T → Type 0
 BegunRunsGoOn {A} {B} {S} {T} s r =
     (n : Netlist A T) (m : Netlist B T) (p : Schedule) (more : ℕ) (later on : List (List T)) (rest last : Rest T S) →
-    HasPeriod s n p → BeginsWith s r n rest m → HasInputs m p.repetitions more later → HasRun r m later (periods_of p.repetitions more) on last →
+    HasPeriod s n p → BeginsWith s r n rest m → HasInputs m p.repetitions more later →
+    HasRun r m later (periods_of p.repetitions more) on last →
     GoesOnBy s n p.repetitions rest more later on last
 
 -- and a fault of it is one of the net
 abbrev pub BegunRunsFail : {A B S T : Type 0} → Steps A S T → Steps B S T → Type 0
 BegunRunsFail {A} {B} {S} {T} s r =
-    (n : Netlist A T) (rest : Rest T S) (m : Netlist B T) (q : List ℕ) (periods : ℕ) (inputs : List (List T)) (fault : RunFault) → BeginsWith s r n rest m →
+    (n : Netlist A T) (rest : Rest T S) (m : Netlist B T) (q : List ℕ) (periods : ℕ) (inputs : List (List T))
+    (fault : RunFault) → BeginsWith s r n rest m →
     IsRunFault m q periods inputs fault → IsRunFault n q periods inputs fault

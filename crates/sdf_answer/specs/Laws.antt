@@ -26,7 +26,8 @@ RunsGoOn {A} {S} {T} s =
     (n : Netlist A T) (p : Schedule) (few many : ℕ) (inputs later longer : List (List T)) →
     HasPeriod s n p → few ≤ many → HasInputs n p.repetitions few inputs → Begin inputs later →
     AreOutputs s n later (periods_of p.repetitions many) longer →
-    AreOutputs s n inputs (periods_of p.repetitions few) (map (take (few * period_samples n.nodes Outputs p.repetitions)) longer)
+    AreOutputs s n inputs (periods_of p.repetitions few)
+    (map (take (few * period_samples n.nodes Outputs p.repetitions)) longer)
 
 -- a net that has a period can be run for as many as its inputs reach
 abbrev pub NetsCanRun : {A S T : Type 0} → Steps A S T → Type 0
@@ -37,7 +38,8 @@ NetsCanRun {A} {S} {T} s =
 -- where no node has fired, the history is what the channels begin with
 abbrev pub HistoriesBegin : {A S T : Type 0} → Steps A S T → Type 0
 HistoriesBegin {A} {S} {T} s =
-    (n : Netlist A T) (inputs : List (List T)) (k : ℕ → ℕ) → IsNet s n → ((a : ℕ) → a < length n.nodes → k a ≡ 0) → IsHistoryOf s n inputs k (wiring s n).starts
+    (n : Netlist A T) (inputs : List (List T)) (k : ℕ → ℕ) → IsNet s n → ((a : ℕ) → a < length n.nodes → k a ≡ 0) →
+    IsHistoryOf s n inputs k (wiring s n).starts
 
 -- all that a sink took is what has arrived there
 abbrev pub SinksTakeAll : {A S T : Type 0} → Steps A S T → Type 0
@@ -48,22 +50,27 @@ SinksTakeAll {A} {S} {T} s =
 -- so the lists of what the sinks took are the outputs
 abbrev pub SinksMakeOutputs : {A S T : Type 0} → Steps A S T → Type 0
 SinksMakeOutputs {A} {S} {T} s =
-    (n : Netlist A T) (inputs : List (List T)) (q : List ℕ) (periods : ℕ) (k : ℕ → ℕ) (V : ℕ → List T) (outputs : List (List T)) →
-    IsNet s n → IsHistoryOf s n inputs k V → ((a : ℕ) → a < length n.nodes → k a ≡ periods_of q periods a) → length outputs ≡ list_count Outputs n.nodes →
-    ((a ext block : ℕ) → a < length n.nodes → node n a ≡ Sink ext block → slice_index_or outputs ext [] ≡ flat_map (λ (b : List T). b) (taken_before (wiring s n) V a (k a))) →
+    (n : Netlist A T) (inputs : List (List T)) (q : List ℕ) (periods : ℕ) (k : ℕ → ℕ) (V : ℕ → List T)
+    (outputs : List (List T)) →
+    IsNet s n → IsHistoryOf s n inputs k V → ((a : ℕ) → a < length n.nodes → k a ≡ periods_of q periods a) →
+    length outputs ≡ list_count Outputs n.nodes →
+    ((a ext block : ℕ) → a < length n.nodes → node n a ≡ Sink ext block →
+    slice_index_or outputs ext [] ≡ flat_map (λ (b : List T). b) (taken_before (wiring s n) V a (k a))) →
     AreOutputs s n inputs (periods_of q periods) outputs
 
 -- where the inputs hold no sample no period was asked, nothing fires, and empty lists are the outputs
 abbrev pub NothingMakesNothing : {A S T : Type 0} → Steps A S T → Type 0
 NothingMakesNothing {A} {S} {T} s =
     (n : Netlist A T) (q : List ℕ) (periods : ℕ) (inputs outputs : List (List T)) →
-    IsNet s n → HasInputs n q periods inputs → 0 < length inputs → 0 < period_samples n.nodes Inputs q → length (slice_index_or inputs 0 []) ≡ 0 →
+    IsNet s n → HasInputs n q periods inputs → 0 < length inputs → 0 < period_samples n.nodes Inputs q →
+    length (slice_index_or inputs 0 []) ≡ 0 →
     length outputs ≡ list_count Outputs n.nodes → ((e : ℕ) → e < length outputs → slice_index_or outputs e [] ≡ []) →
     AreOutputs s n inputs (periods_of q periods) outputs
 
 -- a node takes one block in each firing
 abbrev pub BlocksAreCounted : {A S T : Type 0} → Steps A S T → Type 0
-BlocksAreCounted {A} {S} {T} s = (n : Netlist A T) (V : ℕ → List T) (a i : ℕ) → length (taken_before (wiring s n) V a i) ≡ i
+BlocksAreCounted {A} {S} {T} s = (n : Netlist A T) (V : ℕ → List T) (a i : ℕ) →
+    length (taken_before (wiring s n) V a i) ≡ i
 
 -- a node takes from the channels that lead to it, each at one of its ports, and from no other
 abbrev pub NodesTakeTheirs : {A S T : Type 0} → Steps A S T → Type 0
@@ -75,7 +82,8 @@ NodesTakeTheirs {A} {S} {T} s =
 -- the sizes of a firing fit its node's ports
 abbrev pub PlansFit : {A S T : Type 0} → Steps A S T → Type 0
 PlansFit {A} {S} {T} s =
-    (n : Netlist A T) (a i : ℕ) (takes puts : List ℕ) → IsNet s n → a < length n.nodes → IsPlan s n a i takes puts → FitsPorts s n a i takes puts
+    (n : Netlist A T) (a i : ℕ) (takes puts : List ℕ) → IsNet s n → a < length n.nodes → IsPlan s n a i takes puts →
+    FitsPorts s n a i takes puts
 
 -- the block of a node's next firing stands at the front of its channels
 abbrev pub BlocksStand : {A S T : Type 0} → Steps A S T → Type 0
@@ -87,7 +95,9 @@ BlocksStand {A} {S} {T} s =
 -- an enabled node's firing takes what stands on the channels from one history to the next
 abbrev pub FiringsMoveOn : {A S T : Type 0} → Steps A S T → Type 0
 FiringsMoveOn {A} {S} {T} s =
-    (n : Netlist A T) (inputs : List (List T)) (k m : ℕ → ℕ) (a : ℕ) (V : ℕ → List T) (takes puts : List ℕ) (queue : ℕ → List T) →
-    IsNet s n → a < length n.nodes → IsEnabled (wiring s n).rates k a → m a ≡ k a + 1 → ((b : ℕ) → a ≢ b → m b ≡ k b) → InputsReach n inputs m →
+    (n : Netlist A T) (inputs : List (List T)) (k m : ℕ → ℕ) (a : ℕ) (V : ℕ → List T) (takes puts : List ℕ)
+    (queue : ℕ → List T) →
+    IsNet s n → a < length n.nodes → IsEnabled (wiring s n).rates k a → m a ≡ k a + 1 → ((b : ℕ) → a ≢ b → m b ≡ k b) →
+    InputsReach n inputs m →
     IsHistoryOf s n inputs k V → IsPlan s n a (k a) takes puts → IsLeft s n k V queue →
     MovesOn s n inputs k m a V takes puts queue

@@ -10,7 +10,8 @@ use Rattle.sdf_answer.specs.Blocks.{at_ports, ArePorts}
 use Rattle.sdf_answer.specs.Sizes.{in_all, out_all}
 
 module _ {A S T : Type 0} (s : Steps A S T) (n : Netlist A T) where
-  -- the sizes of firing i of node a by its ports: each is a channel of its own, and they come to what the firing moves in all
+  -- the sizes of firing i of node a by its ports: each is a channel of its own, and they come to what the firing moves
+  -- in all
   pub record FitsPorts (a i : ℕ) (takes puts : List ℕ) : Type 0 where
     pub ins_are : ArePorts ((wiring s n).ins a) takes (length n.wires)
     pub outs_are : ArePorts ((wiring s n).outs a) puts (length n.wires)
@@ -19,22 +20,28 @@ module _ {A S T : Type 0} (s : Steps A S T) (n : Netlist A T) where
 
   -- the rest of a history stands on the channels
   abbrev pub IsLeft : (ℕ → ℕ) → (ℕ → List T) → (ℕ → List T) → Type 0
-  IsLeft k V queue = (c : ℕ) → c < length n.wires → queue c ≡ drop ((wiring s n).rates.consumed c (k ((wiring s n).rates.target c))) (V c)
+  IsLeft k V queue = (c : ℕ) → c < length n.wires →
+      queue c ≡ drop ((wiring s n).rates.consumed c (k ((wiring s n).rates.target c))) (V c)
 
   -- the block of a node's next firing, at the front of its channels
   abbrev pub front_of : ℕ → List ℕ → (ℕ → List T) → List T
   front_of a takes queue = flat_map (λ c. take (slice_index takes c) (queue c)) ((wiring s n).ins a)
 
   -- node a fires after a history V at the counts k, and the counts are m then
-  pub record MovesOn (inputs : List (List T)) (k m : ℕ → ℕ) (a : ℕ) (V : ℕ → List T) (takes puts : List ℕ) (queue : ℕ → List T) : Type 0 where
+  pub record MovesOn (inputs : List (List T)) (k m : ℕ → ℕ) (a : ℕ) (V : ℕ → List T) (takes puts : List ℕ)
+      (queue : ℕ → List T) : Type 0 where
     pub is : IsHistoryOf s n inputs m (after_firing s n inputs k V a)
     -- its block is gone from the channels, and its answer stands there
     pub left : (c : ℕ) → c < length n.wires →
         drop (at_ports ((wiring s n).ins a) (slice_index takes c) c) (queue c) ++
-        spread (slice_index puts) ((wiring s n).outs a) (answers s n inputs a (taken_before (wiring s n) V a (k a)) (taken (wiring s n) V a (k a))) c ≡
+        spread (slice_index puts) ((wiring s n).outs a)
+        (answers s n inputs a (taken_before (wiring s n) V a (k a)) (taken (wiring s n) V a (k a))) c ≡
         drop ((wiring s n).rates.consumed c (m ((wiring s n).rates.target c))) (after_firing s n inputs k V a c)
     -- it has taken one block more, and no other node has
-    pub own : taken_before (wiring s n) (after_firing s n inputs k V a) a (m a) ≡ taken_before (wiring s n) V a (k a) ++ taken (wiring s n) V a (k a) ∷ []
-    pub others : (b : ℕ) → b < length n.nodes → a ≢ b → taken_before (wiring s n) (after_firing s n inputs k V a) b (m b) ≡ taken_before (wiring s n) V b (k b)
+    pub own : taken_before (wiring s n) (after_firing s n inputs k V a) a (m a) ≡
+        taken_before (wiring s n) V a (k a) ++ taken (wiring s n) V a (k a) ∷ []
+    pub others : (b : ℕ) → b < length n.nodes → a ≢ b →
+        taken_before (wiring s n) (after_firing s n inputs k V a) b (m b) ≡ taken_before (wiring s n) V b (k b)
     -- what another enabled node takes next is the same
-    pub ahead : (b : ℕ) → b < length n.nodes → a ≢ b → IsEnabled (wiring s n).rates k b → taken (wiring s n) (after_firing s n inputs k V a) b (m b) ≡ taken (wiring s n) V b (k b)
+    pub ahead : (b : ℕ) → b < length n.nodes → a ≢ b → IsEnabled (wiring s n).rates k b →
+        taken (wiring s n) (after_firing s n inputs k V a) b (m b) ≡ taken (wiring s n) V b (k b)

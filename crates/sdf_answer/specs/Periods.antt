@@ -22,7 +22,8 @@ pub record HasPeriod {A S T : Type 0} (s : Steps A S T) (n : Netlist A T) (p : S
 
 -- no two sinks make one output list
 abbrev pub AreApart : {A T : Type 0} → Netlist A T → Type 0
-AreApart n = (a d e x y : ℕ) → a < length n.nodes → d < length n.nodes → node n a ≡ Sink e x → node n d ≡ Sink e y → a ≡ d
+AreApart n = (a d e x y : ℕ) → a < length n.nodes → d < length n.nodes → node n a ≡ Sink e x → node n d ≡ Sink e y →
+    a ≡ d
 
 -- each sink makes one of them, alone
 pub record HasSinks {A T : Type 0} (n : Netlist A T) : Type 0 where
@@ -34,19 +35,24 @@ pub record IsPaced (r : Rates) (q : List ℕ) : Type 0 where
   pub all : length q ≡ r.actors
   pub small : (a : ℕ) → a < r.actors → slice_index q a ≤ 65536
   pub passes : (b : ℕ) → (w : List ℕ) × IsPass r (periods_of q b) w
-  pub put : (b c : ℕ) → c < r.channels → r.produced c (b * slice_index q (r.source c)) ≡ b * r.produced c (slice_index q (r.source c))
-  pub taken : (b c : ℕ) → c < r.channels → r.consumed c (b * slice_index q (r.target c)) ≡ b * r.produced c (slice_index q (r.source c))
+  pub put : (b c : ℕ) → c < r.channels → r.produced c (b * slice_index q (r.source c)) ≡
+      b * r.produced c (slice_index q (r.source c))
+  pub taken : (b c : ℕ) → c < r.channels → r.consumed c (b * slice_index q (r.target c)) ≡
+      b * r.produced c (slice_index q (r.source c))
 
 -- a net can be run for so many periods of q on these inputs
-pub record CanRun {A S T : Type 0} (s : Steps A S T) (n : Netlist A T) (q : List ℕ) (periods : ℕ) (inputs : List (List T)) : Type 0 where
+pub record CanRun {A S T : Type 0} (s : Steps A S T) (n : Netlist A T) (q : List ℕ) (periods : ℕ)
+    (inputs : List (List T)) : Type 0 where
   pub paced : IsPaced (wiring s n).rates q
   -- each source finds what it reads
   pub reads : (a ext block : ℕ) → a < length n.nodes → node n a ≡ Source ext block →
       (ext < length inputs) × (block * periods_of q periods a ≤ length (slice_index_or inputs ext []))
   pub reach : InputsReach n inputs (periods_of q periods)
   -- as many samples reach each sink
-  pub makes : (a ext block : ℕ) → a < length n.nodes → node n a ≡ Sink ext block → block * periods_of q periods a ≡ periods * period_samples n.nodes Outputs q
+  pub makes : (a ext block : ℕ) → a < length n.nodes → node n a ≡ Sink ext block →
+      block * periods_of q periods a ≡ periods * period_samples n.nodes Outputs q
   -- a period puts on each channel what the graph says
   pub put : (c : ℕ) → c < length n.wires →
       let r = rates (graph_of s n) in
-      r.produced c (slice_index q (r.source c)) ≡ (wiring s n).rates.produced c (slice_index q ((wiring s n).rates.source c))
+      r.produced c (slice_index q (r.source c)) ≡ (wiring s n).rates.produced c
+      (slice_index q ((wiring s n).rates.source c))

@@ -53,7 +53,8 @@ pub record AreSizes {A S T : Type 0} (s : Steps A S T) (n : Netlist A T) (z : Ro
   pub some : (a : ℕ) → a < length n.nodes → 0 < cycle_of s (node n a)
   pub takes_known : (a i : ℕ) → a < length n.nodes → phase_of s (node n a) i < length z.takes
   pub puts_known : (a i : ℕ) → a < length n.nodes → phase_of s (node n a) i < length z.puts
-  pub plan : (a i : ℕ) → a < length n.nodes → IsPlan s n a i (at_phase z.takes (phase_of s (node n a) i)) (at_phase z.puts (phase_of s (node n a) i))
+  pub plan : (a i : ℕ) → a < length n.nodes → IsPlan s n a i (at_phase z.takes (phase_of s (node n a) i))
+      (at_phase z.puts (phase_of s (node n a) i))
 
 -- the samples that firing k moves at port p
 abbrev pub sizes : {A S T : Type 0} → Steps A S T → Side → Node A → ℕ → ℕ → ℕ

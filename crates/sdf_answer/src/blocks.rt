@@ -30,7 +30,8 @@ pub fn read_fronts<T: Copy>(
 pub fn skip_fronts<T: Copy>(ports: &[usize], sizes: &[usize], queues: &mut [Queue<T>])
     requires ports { ArePorts ports.now sizes.now (length queues.old) }
     requires held { HoldBlocks ports.now sizes.now queues.old }
-    ensures queues { (c : ℕ) → c < length queues.old → samples queues.new c ≡ drop (at_ports ports.now (slice_index sizes.now c) c) (samples queues.old c) }
+    ensures queues { (c : ℕ) → c < length queues.old →
+        samples queues.new c ≡ drop (at_ports ports.now (slice_index sizes.now c) c) (samples queues.old c) }
     ensures rooms { (c : ℕ) → c < length queues.old → room queues.new c ≡ room queues.old c }
 {
     for c in ports {
@@ -50,7 +51,8 @@ pub fn take_block<T: Copy>(
     requires room { vec_len block.old + sum_by (slice_index sizes.now) ports.now ≤ vec_capacity block.old }
     ensures block { block.new.items ≡ block.old.items ++ front sizes.now ports.now queues.old }
     ensures capacity { vec_capacity block.new ≡ vec_capacity block.old }
-    ensures queues { (c : ℕ) → c < length queues.old → samples queues.new c ≡ drop (at_ports ports.now (slice_index sizes.now c) c) (samples queues.old c) }
+    ensures queues { (c : ℕ) → c < length queues.old →
+        samples queues.new c ≡ drop (at_ports ports.now (slice_index sizes.now c) c) (samples queues.old c) }
     ensures rooms { (c : ℕ) → c < length queues.old → room queues.new c ≡ room queues.old c }
 {
     for c in ports {
@@ -63,7 +65,8 @@ pub fn put_block<T: Copy>(ports: &[usize], sizes: &[usize], block: &[T], queues:
     requires ports { ArePorts ports.now sizes.now (length queues.old) }
     requires room { HaveRoom ports.now sizes.now queues.old }
     requires length { length block.now ≡ sum_by (slice_index sizes.now) ports.now }
-    ensures queues { (c : ℕ) → c < length queues.old → samples queues.new c ≡ samples queues.old c ++ spread (slice_index sizes.now) ports.now block.now c }
+    ensures queues { (c : ℕ) → c < length queues.old →
+        samples queues.new c ≡ samples queues.old c ++ spread (slice_index sizes.now) ports.now block.now c }
     ensures rooms { (c : ℕ) → c < length queues.old → room queues.new c ≡ room queues.old c }
 {
     let mut rest = block;

@@ -10,7 +10,8 @@ ghost use Rattle.sdf_answer.specs.Feeds.{FeedsGoOn, BegunNetsAsk, BegunNetsMake,
 ghost use Rattle.sdf_answer.specs.Feeds.{PeriodsMayLeave, BegunRunsGoOn, BegunRunsFail};
 ghost use Rattle.sdf_answer.specs.GraphLaws.{GraphLaws};
 ghost use Rattle.sdf_answer.specs.Periods.{HasPeriod, HasSinks};
-ghost use Rattle.sdf_answer.specs.Laws.{RunsGoOn, NetsCanRun, HistoriesBegin, SinksTakeAll, SinksMakeOutputs, NothingMakesNothing};
+ghost use Rattle.sdf_answer.specs.Laws.{RunsGoOn, NetsCanRun, HistoriesBegin, SinksTakeAll, SinksMakeOutputs};
+ghost use Rattle.sdf_answer.specs.Laws.{NothingMakesNothing};
 ghost use Rattle.sdf_answer.specs.Laws.{BlocksAreCounted, NodesTakeTheirs, PlansFit, BlocksStand, FiringsMoveOn};
 
 use sdf_actor::laws::{
@@ -125,7 +126,8 @@ pub fn plans_fit<A: Actor>()
     nets_are_wired::<A>();
 }
 
-/// A firing of an enabled node takes its block from the front of its channels, and they go on from one history to the next.
+/// A firing of an enabled node takes its block from the front of its channels, and they go on from one history to the
+/// next.
 pub fn firings_move_on<A: Actor>()
     ensures counts { BlocksAreCounted A.steps }
     ensures stand { BlocksStand A.steps }

@@ -1,6 +1,7 @@
 //! The samples that stand on a channel.
 
-ghost use Rattle.std.specs.Prelude.{◌≡◌, ◌+◌, ◌-◌, ◌≤◌, ◌<◌, ◌++◌, IfOk, length, map, take, drop, vec_len, vec_capacity};
+ghost use Rattle.std.specs.Prelude.{◌≡◌, ◌+◌, ◌-◌, ◌≤◌, ◌<◌, ◌++◌, IfOk, length, map, take, drop, vec_len};
+ghost use Rattle.std.specs.Prelude.{vec_capacity};
 ghost use Rattle.std.specs.List.{between};
 ghost use Rattle.sdf_actor.specs.Steps.{sum_in, sum_out, state_at, puts_to};
 ghost use Rattle.sdf_actor.specs.Wires.{lists};
@@ -15,8 +16,8 @@ use std::mem;
 /// The samples that stand on a channel, the oldest first. Once it is made it takes no memory.
 ///
 /// They lie in one piece of a buffer of twice their room, where actors read and write them in place. Those taken are
-/// dropped at the front, and the rest moves there when the end of the buffer is reached: at most one move for each sample
-/// put.
+/// dropped at the front, and the rest moves there when the end of the buffer is reached: at most one move for each
+/// sample put.
 #[derive(Drop)]
 pub struct Queue<T> {
     /// The samples, from `start` to `end`. What follows them are fillers.
@@ -156,7 +157,10 @@ impl<T: Copy> Queue<T> {
         requires made { made ≡ sum_out A.steps actor.now phase times }
         requires room { length self.old.samples + made ≤ self.old.room }
         ensures state { state.new ≡ state_at A.steps actor.now phase state.old taken.now times }
-        ensures queue { self.new ≡ record self.old { samples = self.old.samples ++ puts_to A.steps actor.now phase state.old taken.now times } }
+        ensures queue { self.new ≡ record self.old {
+          samples = self.old.samples
+              ++ puts_to A.steps actor.now phase state.old taken.now times;
+        } }
         ensures long { length (puts_to A.steps actor.now phase state.old taken.now times) ≡ made }
     {
         let place = place_for(&mut self.items, self.start, self.end, made);

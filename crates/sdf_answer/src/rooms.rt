@@ -47,7 +47,8 @@ pub fn make_queues<A: Actor>(
     requires all { length repetitions.now ≡ length net.now.nodes }
     requires short { (a : ℕ) → a < length repetitions.now → slice_index repetitions.now a ≤ 65536 }
     requires few { periods ≤ 4096 }
-    ensures { let r = rates (graph_of A.steps net.now) in IfOk result (λ v. (vec_len v ≡ length net.now.wires) × ((c : ℕ) → c < length net.now.wires →
+    ensures { let r = rates (graph_of A.steps net.now) in
+        IfOk result (λ v. (vec_len v ≡ length net.now.wires) × ((c : ℕ) → c < length net.now.wires →
         slice_index_or v.items c nothing ≡ record {
           samples = (wire net.now c).initial;
           room = length (wire net.now c).initial + periods * r.produced c (slice_index repetitions.now (r.source c));

@@ -138,7 +138,8 @@ fn by_phase(
     side: Side,
     phases: u32,
 ) -> Result<Vec<Vec<usize>>, AllocError>
-    requires { (c : ℕ) → c < length channels.now → 0 < length (rates_on side (slice_index_or channels.now c no_channel)) }
+    requires { (c : ℕ) → c < length channels.now →
+        0 < length (rates_on side (slice_index_or channels.now c no_channel)) }
     ensures { IfOk result (λ v. (vec_len v ≡ phases) × ((j : ℕ) → j < phases →
         at_phase (lists v.items) j ≡ map (λ e. rate_at (rates_on side e) j) channels.now)) }
 {
@@ -156,7 +157,8 @@ fn row(
     side: Side,
     phase: u32,
 ) -> Result<Vec<usize>, AllocError>
-    requires { (c : ℕ) → c < length channels.now → 0 < length (rates_on side (slice_index_or channels.now c no_channel)) }
+    requires { (c : ℕ) → c < length channels.now →
+        0 < length (rates_on side (slice_index_or channels.now c no_channel)) }
     ensures { IfOk result (λ v. v.items ≡ map (λ e. rate_at (rates_on side e) phase) channels.now) }
 {
     let mut row = Vec::new(alloc);

@@ -1,5 +1,6 @@
 -- Names, each once, where it stands first.
-use Rattle.std.proofs.Common.{◌≡◌, ◌∙◌, ◌<◌, ◌+◌, Some, None, map, take, length, get_or, Bool, true, false, ℕ, List, [], ◌∷◌, ◌++◌, ap, refl, sym, subst}
+use Rattle.std.proofs.Common.{◌≡◌, ◌∙◌, ◌<◌, ◌+◌, Some, None, map, take, length, get_or, Bool, true, false, ℕ, List, []}
+use Rattle.std.proofs.Common.{◌∷◌, ◌++◌, ap, refl, sym, subst}
 use Rattle.std.specs.Prelude.{◌||◌, not, bytes_eq}
 use Rattle.std.specs.List.{list_any, filter, filter_map}
 use Rattle.std.proofs.lemmas.List.Elements.{filter-append, filter_map-append}
@@ -30,7 +31,8 @@ abbrev pub without : List ℕ → List (List ℕ) → List (List ℕ)
 without x ys = filter (λ y. not (bytes_eq x y)) ys
 
 -- x is found without another
-any_without : (x y : List ℕ) → bytes_eq x y ≡ false → (zs : List (List ℕ)) → list_any (bytes_eq x) (without y zs) ≡ list_any (bytes_eq x) zs
+any_without : (x y : List ℕ) → bytes_eq x y ≡ false → (zs : List (List ℕ)) →
+    list_any (bytes_eq x) (without y zs) ≡ list_any (bytes_eq x) zs
 any_without x y e [] = refl
 any_without x y e (z ∷ zs) = go (bytes_eq y z) refl (any_without x y e zs)
   where
@@ -52,7 +54,8 @@ push_same x y zs e = go (list_any (bytes_eq x) zs) refl
         let same : bytes_eq y x ≡ true = subst (λ w. bytes_eq y w ≡ true) (sym (same_text x y e)) (text_itself y) in
         rw h (filter-append (λ z. not (bytes_eq y z)) zs (x ∷ []) ∙ rw same (append-nil (without y zs)))
 
-push_other : (x y : List ℕ) (zs : List (List ℕ)) → bytes_eq x y ≡ false → y ∷ without y (with_name zs x) ≡ with_name (y ∷ without y zs) x
+push_other : (x y : List ℕ) (zs : List (List ℕ)) → bytes_eq x y ≡ false →
+    y ∷ without y (with_name zs x) ≡ with_name (y ∷ without y zs) x
 push_other x y zs e = go (list_any (bytes_eq x) zs) refl
   where
     other : bytes_eq y x ≡ false
@@ -70,22 +73,31 @@ pub first_seen_push : (xs : List (List ℕ)) (x : List ℕ) → first_seen (xs +
 first_seen_push [] x = refl
 first_seen_push (y ∷ xs) x = ap (λ zs. y ∷ without y zs) (first_seen_push xs x) ∙ go (bytes_eq x y) refl
   where
-    go : (b : Bool) → bytes_eq x y ≡ b → y ∷ without y (with_name (first_seen xs) x) ≡ with_name (y ∷ without y (first_seen xs)) x
+    go : (b : Bool) → bytes_eq x y ≡ b → y ∷ without y (with_name (first_seen xs) x) ≡
+        with_name (y ∷ without y (first_seen xs)) x
     go true e = rw e (ap (λ zs. y ∷ zs) (push_same x y (first_seen xs) e))
     go false e = push_other x y (first_seen xs) e
 
 -- after one more actor
 one_more : (es : List ActorEntry) (i : ℕ) (e : ActorEntry) → i < length es
-    → first_seen (filter_map actor_file (map actor_view (take (i + 1) es))) ≡ first_seen (filter_map actor_file (map actor_view (take i es)) ++ filter_map actor_file (actor_view (get_or es i e) ∷ []))
+    → first_seen (filter_map actor_file (map actor_view (take (i + 1) es))) ≡
+    first_seen (filter_map actor_file (map actor_view (take i es))
+    ++ filter_map actor_file (actor_view (get_or es i e) ∷ []))
 one_more es i e h =
     ap (λ xs. first_seen (filter_map actor_file xs)) (map_more actor_view es i e h)
     ∙ ap first_seen (filter_map-append actor_file (map actor_view (take i es)) (actor_view (get_or es i e) ∷ []))
 
 -- one with a file, and one without
-pub wanted_more : (es : List ActorEntry) (i : ℕ) (e : ActorEntry) (name : List ℕ) → i < length es → actor_file (actor_view (get_or es i e)) ≡ Some name
-    → first_seen (filter_map actor_file (map actor_view (take (i + 1) es))) ≡ with_name (first_seen (filter_map actor_file (map actor_view (take i es)))) name
-wanted_more es i e name h is = one_more es i e h ∙ rw is (first_seen_push (filter_map actor_file (map actor_view (take i es))) name)
+pub wanted_more : (es : List ActorEntry) (i : ℕ) (e : ActorEntry) (name : List ℕ) → i < length es →
+    actor_file (actor_view (get_or es i e)) ≡ Some name
+    → first_seen (filter_map actor_file (map actor_view (take (i + 1) es))) ≡
+    with_name (first_seen (filter_map actor_file (map actor_view (take i es)))) name
+wanted_more es i e name h is = one_more es i e h
+    ∙ rw is (first_seen_push (filter_map actor_file (map actor_view (take i es))) name)
 
-pub wanted_same : (es : List ActorEntry) (i : ℕ) (e : ActorEntry) → i < length es → actor_file (actor_view (get_or es i e)) ≡ None
-    → first_seen (filter_map actor_file (map actor_view (take (i + 1) es))) ≡ first_seen (filter_map actor_file (map actor_view (take i es)))
-wanted_same es i e h is = one_more es i e h ∙ rw is (ap first_seen (append-nil (filter_map actor_file (map actor_view (take i es)))))
+pub wanted_same : (es : List ActorEntry) (i : ℕ) (e : ActorEntry) → i < length es →
+    actor_file (actor_view (get_or es i e)) ≡ None
+    → first_seen (filter_map actor_file (map actor_view (take (i + 1) es))) ≡
+    first_seen (filter_map actor_file (map actor_view (take i es)))
+wanted_same es i e h is = one_more es i e h ∙ rw is
+    (ap first_seen (append-nil (filter_map actor_file (map actor_view (take i es)))))

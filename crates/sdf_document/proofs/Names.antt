@@ -1,4 +1,5 @@
-use Rattle.std.proofs.Common.{◌≡◌, ◌∙◌, Bool, true, false, Some, None, cond, not, ltb, length, suc, ◌+◌, ℕ, List, [], ◌∷◌, ◌++◌, map, ap, refl, String, string_bytes, Global, Bor}
+use Rattle.std.proofs.Common.{◌≡◌, ◌∙◌, Bool, true, false, Some, None, cond, not, ltb, length, suc, ◌+◌, ℕ, List, []}
+use Rattle.std.proofs.Common.{◌∷◌, ◌++◌, map, ap, refl, String, string_bytes, Global, Bor}
 use Rattle.toml.proofs.Views.{Entry}
 use Rattle.toml.specs.View.{members_view}
 use Rattle.toml.specs.declared.value.Value.{Value}
@@ -9,11 +10,13 @@ use Rattle.indexmap.specs.IndexSet.{insert_key}
 use Rattle.sdf_document.specs.Tables.{stranger, texts_of}
 
 -- a text is among names exactly where it is a key's
-pub list_any_names : (s : List ℕ) (ks : List (String Global)) → list_any (bytes_eq s) (map string_bytes ks) ≡ list_any (λ k. bytes_eq s (string_bytes k)) ks
+pub list_any_names : (s : List ℕ) (ks : List (String Global)) →
+    list_any (bytes_eq s) (map string_bytes ks) ≡ list_any (λ k. bytes_eq s (string_bytes k)) ks
 list_any_names s [] = refl
 list_any_names s (k ∷ ks) = ap (λ b. bytes_eq s (string_bytes k) || b) (list_any_names s ks)
 
-pub list_any_texts : (s : List ℕ) (ts : List (Bor (List ℕ))) → list_any (bytes_eq s) (texts_of ts) ≡ list_any (λ t. bytes_eq s t.now) ts
+pub list_any_texts : (s : List ℕ) (ts : List (Bor (List ℕ))) →
+    list_any (bytes_eq s) (texts_of ts) ≡ list_any (λ t. bytes_eq s t.now) ts
 list_any_texts s [] = refl
 list_any_texts s (t ∷ ts) = ap (λ b. bytes_eq s t.now || b) (list_any_texts s ts)
 
@@ -22,29 +25,34 @@ abbrev pub with_name : List (List ℕ) → List ℕ → List (List ℕ)
 with_name xs x = cond (list_any (bytes_eq x) xs) xs (xs ++ x ∷ [])
 
 -- so it is put into a set
-pub names_inserted : (ks : List (String Global)) (k : String Global) → map string_bytes (insert_key string_eq ks k) ≡ with_name (map string_bytes ks) (string_bytes k)
+pub names_inserted : (ks : List (String Global)) (k : String Global) →
+    map string_bytes (insert_key string_eq ks k) ≡ with_name (map string_bytes ks) (string_bytes k)
 names_inserted ks k = go (list_any (λ x. bytes_eq (string_bytes k) (string_bytes x)) ks) refl
   where
-    go : (b : Bool) → list_any (λ x. bytes_eq (string_bytes k) (string_bytes x)) ks ≡ b → map string_bytes (insert_key string_eq ks k) ≡ with_name (map string_bytes ks) (string_bytes k)
+    go : (b : Bool) → list_any (λ x. bytes_eq (string_bytes k) (string_bytes x)) ks ≡ b →
+        map string_bytes (insert_key string_eq ks k) ≡ with_name (map string_bytes ks) (string_bytes k)
     go true h = rw (h, list_any_names (string_bytes k) ks ∙ h) refl
     go false h = rw (h, list_any_names (string_bytes k) ks ∙ h) (map_push string_bytes ks k)
 
 -- a known key in front
 pub stranger_known : (ts : List (Bor (List ℕ))) (s t : List Entry) (k : String Global) (v : Value) → s ≡ (k, v) ∷ t
-    → list_any (λ x. bytes_eq (string_bytes k) x.now) ts ≡ true → stranger (texts_of ts) (members_view s) ≡ stranger (texts_of ts) (members_view t)
+    → list_any (λ x. bytes_eq (string_bytes k) x.now) ts ≡ true →
+    stranger (texts_of ts) (members_view s) ≡ stranger (texts_of ts) (members_view t)
 stranger_known ts s t k v e h =
     let found : list_any (bytes_eq (string_bytes k)) (texts_of ts) ≡ true = list_any_texts (string_bytes k) ts ∙ h in
     rw (e, found) refl
 
 -- an unknown key in front
 pub stranger_found : (ts : List (Bor (List ℕ))) (s t : List Entry) (k : String Global) (v : Value) → s ≡ (k, v) ∷ t
-    → list_any (λ x. bytes_eq (string_bytes k) x.now) ts ≡ false → stranger (texts_of ts) (members_view s) ≡ Some (string_bytes k)
+    → list_any (λ x. bytes_eq (string_bytes k) x.now) ts ≡ false →
+    stranger (texts_of ts) (members_view s) ≡ Some (string_bytes k)
 stranger_found ts s t k v e h =
     let found : list_any (bytes_eq (string_bytes k)) (texts_of ts) ≡ false = list_any_texts (string_bytes k) ts ∙ h in
     rw (e, found) refl
 
 -- the place of a text in a list, each item seen by f
-before_map : {X : Type 0} (f : X → List ℕ) (s : List ℕ) (ks : List X) → position_or_len (bytes_eq s) (map f ks) ≡ position_or_len (λ k. bytes_eq s (f k)) ks
+before_map : {X : Type 0} (f : X → List ℕ) (s : List ℕ) (ks : List X) →
+    position_or_len (bytes_eq s) (map f ks) ≡ position_or_len (λ k. bytes_eq s (f k)) ks
 before_map f s [] = refl
 before_map f s (k ∷ ks) = ap (λ n. cond (not (bytes_eq s (f k))) (1 + n) 0) (before_map f s ks)
 
@@ -52,14 +60,18 @@ same_length : {X : Type 0} (f : X → List ℕ) (ks : List X) → length (map f 
 same_length f [] = refl
 same_length f (k ∷ ks) = ap suc (same_length f ks)
 
-position_map : {X : Type 0} (f : X → List ℕ) (s : List ℕ) (ks : List X) → position (bytes_eq s) (map f ks) ≡ position (λ k. bytes_eq s (f k)) ks
+position_map : {X : Type 0} (f : X → List ℕ) (s : List ℕ) (ks : List X) →
+    position (bytes_eq s) (map f ks) ≡ position (λ k. bytes_eq s (f k)) ks
 position_map f s ks =
     ap (λ n. cond (ltb n (length (map f ks))) (Some n) None) (before_map f s ks)
-    ∙ ap (λ m. cond (ltb (position_or_len (λ k. bytes_eq s (f k)) ks) m) (Some (position_or_len (λ k. bytes_eq s (f k)) ks)) None) (same_length f ks)
+    ∙ ap (λ m. cond (ltb (position_or_len (λ k. bytes_eq s (f k)) ks) m)
+    (Some (position_or_len (λ k. bytes_eq s (f k)) ks)) None) (same_length f ks)
 
 -- the place of a text among names
-pub position_names : (s : List ℕ) (ks : List (String Global)) → position (bytes_eq s) (map string_bytes ks) ≡ position (λ k. bytes_eq s (string_bytes k)) ks
+pub position_names : (s : List ℕ) (ks : List (String Global)) →
+    position (bytes_eq s) (map string_bytes ks) ≡ position (λ k. bytes_eq s (string_bytes k)) ks
 position_names s ks = position_map string_bytes s ks
 
-pub position_texts : (s : List ℕ) (ts : List (Bor (List ℕ))) → position (bytes_eq s) (texts_of ts) ≡ position (λ t. bytes_eq s t.now) ts
+pub position_texts : (s : List ℕ) (ts : List (Bor (List ℕ))) →
+    position (bytes_eq s) (texts_of ts) ≡ position (λ t. bytes_eq s t.now) ts
 position_texts s ts = position_map (λ t. t.now) s ts

@@ -7,7 +7,8 @@ use Rattle.toml.specs.Data.{Members}
 use Rattle.toml.specs.Parse.{parse_document}
 use Rattle.sdf_document.specs.Tables.{table_in}
 
-pub table_found : (bytes : List ℕ) (ms : Members) → IsUtf8 bytes × (parse_document bytes ≡ Some ms) → table_in bytes ≡ Some ms
+pub table_found : (bytes : List ℕ) (ms : Members) → IsUtf8 bytes × (parse_document bytes ≡ Some ms) →
+    table_in bytes ≡ Some ms
 unfolding table_in
 table_found bytes ms h = rw (is_utf8-from_IsUtf8 bytes h.0, h.1) refl
 

@@ -5,7 +5,8 @@ use Rattle.std.proofs.lemmas.List.{drop_all}
 use Rattle.indexmap.specs.IndexSet.{insert_key}
 use Rattle.toml.specs.Data.{Data}
 use Rattle.sdf_document.proofs.Names.{names_inserted}
-use Rattle.std.proofs.Common.{◌≡◌, ◌∙◌, false, map, String, string_bytes, Global, ◌<◌, ◌≤◌, ◌+◌, Ok, Err, Result, ℕ, List, [], ◌∷◌, ◌++◌, length, drop, get_or, ap, refl, sym, suc}
+use Rattle.std.proofs.Common.{◌≡◌, ◌∙◌, false, map, String, string_bytes, Global, ◌<◌, ◌≤◌, ◌+◌, Ok, Err, Result, ℕ}
+use Rattle.std.proofs.Common.{List, [], ◌∷◌, ◌++◌, length, drop, get_or, ap, refl, sym, suc}
 use Rattle.toml.proofs.Views.{items_view-drop}
 use Rattle.toml.specs.View.{view, items_view}
 use Rattle.toml.specs.declared.value.Value.{Value}
@@ -15,20 +16,26 @@ use Rattle.sdf_document.specs.Fault.{Fault, fault_view, Fails}
 use Rattle.sdf_document.specs.Document.{each_from, item_count}
 
 module _ {E : Type 0} (one : ℕ → List E → Data → Result E Fault) where
-  pub each_more : (vs : List Value) (a : ℕ) (d : Value) (done : List E) (e : E) (total : Result (List E) Fault) → a < length vs
+  pub each_more : (vs : List Value) (a : ℕ) (d : Value) (done : List E) (e : E) (total : Result (List E) Fault) →
+      a < length vs
       → one a done (view (get_or vs a d)) ≡ Ok e → each_from one a done (items_view (drop a vs)) ≡ total
       → each_from one (a + 1) (done ++ e ∷ []) (items_view (drop (a + 1) vs)) ≡ total
   unfolding each_from
   each_more vs a d done e total lt h so_far =
-      let step : each_from one a done (items_view (drop a vs)) ≡ each_from one (a + 1) (done ++ e ∷ []) (items_view (drop (a + 1) vs)) = rw (items_view-drop vs a d lt, h) refl in
+      let step : each_from one a done (items_view (drop a vs)) ≡
+      each_from one (a + 1) (done ++ e ∷ []) (items_view (drop (a + 1) vs)) =
+      rw (items_view-drop vs a d lt, h) refl in
       sym step ∙ so_far
 
-  pub each_fail : (x : ReadFault) (vs : List Value) (a : ℕ) (d : Value) (done : List E) (total : Result (List E) Fault) → a < length vs
-      → Fails x (one a done (view (get_or vs a d))) → each_from one a done (items_view (drop a vs)) ≡ total → Fails x total
+  pub each_fail : (x : ReadFault) (vs : List Value) (a : ℕ) (d : Value) (done : List E)
+      (total : Result (List E) Fault) → a < length vs
+      → Fails x (one a done (view (get_or vs a d))) → each_from one a done (items_view (drop a vs)) ≡ total →
+      Fails x total
   unfolding each_from
   each_fail errors.OutOfMemory vs a d done total lt h so_far = tt
   each_fail (errors.Document f) vs a d done total lt h so_far =
-      let step : each_from one a done (items_view (drop a vs)) ≡ Err (fault_view f) = rw (items_view-drop vs a d lt, h) refl in
+      let step : each_from one a done (items_view (drop a vs)) ≡ Err (fault_view f) =
+      rw (items_view-drop vs a d lt, h) refl in
       sym so_far ∙ step
 
   pub each_done : (vs : List Value) (a : ℕ) (done : List E) (total : Result (List E) Fault) → length vs ≤ a
@@ -39,7 +46,8 @@ module _ {E : Type 0} (one : ℕ → List E → Data → Result E Fault) where
       sym so_far ∙ step
 
 -- a new name goes last
-pub names_pushed : (ks : List (String Global)) (k : String Global) (names : List (List ℕ)) (s : List ℕ) → map string_bytes ks ≡ names → string_bytes k ≡ s
+pub names_pushed : (ks : List (String Global)) (k : String Global) (names : List (List ℕ)) (s : List ℕ) →
+    map string_bytes ks ≡ names → string_bytes k ≡ s
     → list_any (bytes_eq s) names ≡ false → map string_bytes (insert_key string_eq ks k) ≡ names ++ s ∷ []
 names_pushed ks k names s same is fresh = names_inserted ks k ∙ rw (same, is, fresh) refl
 

@@ -1,5 +1,6 @@
 -- What an actor's table says, with the first test that it fails.
-use Rattle.std.specs.Prelude.{ℕ, Bool, List, [], ◌∷◌, codes, Option, Result, Ok, Err, bytes_eq, if◌then◌else◌, string_bytes}
+use Rattle.std.specs.Prelude.{ℕ, Bool, List, [], ◌∷◌, codes, Option, Result, Ok, Err, bytes_eq, if◌then◌else◌}
+use Rattle.std.specs.Prelude.{string_bytes}
 use Rattle.std.specs.List.{list_any}
 use Rattle.toml.specs.Data.{Data, Members, as_table}
 use Rattle.sdf_document.specs.declared.entry.ActorEntry.{ActorEntry}
@@ -11,7 +12,8 @@ use Rattle.sdf_document.specs.Values.{text_at}
 use Rattle.sdf_document.specs.Names.{is_name}
 use Rattle.sdf_document.specs.Lists.{Lookup}
 use Rattle.sdf_document.specs.Rows.{row_of, shared_keys}
-use Rattle.sdf_document.specs.Kinds.{word_at, actor_keys, kind_at, values_at, optional, natural, first, second, HaveForms, IsWithin}
+use Rattle.sdf_document.specs.Kinds.{word_at, actor_keys, kind_at, values_at, optional, natural, first, second}
+use Rattle.sdf_document.specs.Kinds.{HaveForms, IsWithin}
 
 pub record ActorValue : Type 0 where
   pub name : List ℕ
@@ -24,7 +26,8 @@ actor_view a = record { name = string_bytes a.name; kind = a.kind; processor = a
 
 -- an actor's values are within their limits: those of its kind, and those that every actor has
 abbrev pub IsActorWithin : Bool → ActorEntry → Type 0
-IsActorWithin looked a = IsWithin looked a.kind × HaveForms looked shared_keys (Optional a.processor ∷ Natural a.cost ∷ [])
+IsActorWithin looked a = IsWithin looked a.kind × HaveForms looked shared_keys
+    (Optional a.processor ∷ Natural a.cost ∷ [])
 
 -- the name of actor a, after actors of these names
 unfoldable pub name_at : ℕ → List (List ℕ) → Members → Result (List ℕ) Fault

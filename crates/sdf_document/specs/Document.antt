@@ -1,11 +1,13 @@
 -- A whole graph file, with the first test that it fails.
-use Rattle.std.specs.Prelude.{ℕ, suc, ◌+◌, ◌&&◌, not, List, [], ◌∷◌, ◌++◌, codes, map, Option, None, Result, Ok, Err, nat_le, bytes_eq, if◌then◌else◌}
+use Rattle.std.specs.Prelude.{ℕ, suc, ◌+◌, ◌&&◌, not, List, [], ◌∷◌, ◌++◌, codes, map, Option, None, Result, Ok, Err}
+use Rattle.std.specs.Prelude.{nat_le, bytes_eq, if◌then◌else◌}
 use Rattle.std.specs.List.{filter, filter_map}
 use Rattle.toml.specs.Data.{Data, Items, no_items, item, Members, get_member, as_array}
 use Rattle.toml.specs.View.{items_view}
 use Rattle.sdf_document.specs.declared.entry.Document.{Document}
 use Rattle.sdf_document.specs.declared.document.Parts.{Parts}
-use Rattle.sdf_document.specs.Fault.{top, Fault, actor_count, channel_count, not_toml, missing_key, wrong_type, ◌>>=◌, or_fault}
+use Rattle.sdf_document.specs.Fault.{top, Fault, actor_count, channel_count, not_toml, missing_key, wrong_type, ◌>>=◌}
+use Rattle.sdf_document.specs.Fault.{or_fault}
 use Rattle.sdf_document.specs.Tables.{table_in, format_at, known_keys}
 use Rattle.sdf_document.specs.Lists.{Files, Lookup, unread, read}
 use Rattle.sdf_limits.specs.declared.TheConstants.{MOST_ACTORS, MOST_LINKS}
@@ -20,7 +22,8 @@ abbrev pub names_in : List ActorValue → List (List ℕ)
 names_in es = map (λ (e : ActorValue). e.name) es
 
 -- each item in turn, from number i on, after those done
-unfoldable pub each_from : {E : Type 0} → (ℕ → List E → Data → Result E Fault) → ℕ → List E → Items → Result (List E) Fault
+unfoldable pub each_from : {E : Type 0} → (ℕ → List E → Data → Result E Fault) → ℕ → List E → Items →
+    Result (List E) Fault
 each_from one i done no_items = Ok done
 each_from one i done (item d ds) = one i done d >>= λ e. each_from one (i + 1) (done ++ e ∷ []) ds
 

@@ -1,5 +1,6 @@
 -- The kinds of actors: their words, their keys and their values.
-use Rattle.std.specs.Prelude.{ℕ, ℤ, pos, ◌&&◌, Bool, ◌≤◌, ◌≤ℤ◌, List, [], ◌∷◌, ◌++◌, codes, map, find, Option, Some, None, Result, Ok, Err, IfSome, nat_le, bytes_eq, is_some, if◌then◌else◌}
+use Rattle.std.specs.Prelude.{ℕ, ℤ, pos, ◌&&◌, Bool, ◌≤◌, ◌≤ℤ◌, List, [], ◌∷◌, ◌++◌, codes, map, find, Option, Some}
+use Rattle.std.specs.Prelude.{None, Result, Ok, Err, IfSome, nat_le, bytes_eq, is_some, if◌then◌else◌}
 use Rattle.toml.specs.Data.{Data, Members, get_member}
 use Rattle.sdf_document.specs.declared.row.KindWord.{KindWord}
 use Rattle.sdf_document.specs.declared.row.KindWord.TheVariants as word
@@ -8,7 +9,8 @@ use Rattle.sdf_document.specs.declared.row.Form.TheVariants as forms
 use Rattle.sdf_document.specs.declared.key.KeyValue.{KeyValue}
 use Rattle.sdf_document.specs.declared.key.KeyValue.TheVariants.{Natural, Optional, Integer, List as Listed}
 use Rattle.sdf_document.specs.declared.entry.KindEntry.{KindEntry}
-use Rattle.sdf_document.specs.declared.entry.KindEntry.TheVariants.{Input, Output, Fir, Decimate, Interpolate, Add, Fork, Gain, Delay, Table, Deal, Gather}
+use Rattle.sdf_document.specs.declared.entry.KindEntry.TheVariants.{Input, Output, Fir, Decimate, Interpolate, Add}
+use Rattle.sdf_document.specs.declared.entry.KindEntry.TheVariants.{Fork, Gain, Delay, Table, Deal, Gather}
 use Rattle.sdf_document.specs.Fault.{actor, Fault, missing_key, unknown_kind, ◌>>=◌, or_fault}
 use Rattle.sdf_document.specs.Rows.{KeyRow, row_of, kinds, shared_keys}
 use Rattle.sdf_document.specs.Values.{text_at, within_natural, natural_in, integer_in}
@@ -64,9 +66,12 @@ integer_at a key least most None = Err (missing_key (actor a) key)
 integer_at a key least most (Some d) = integer_in a key least most d
 
 abbrev pub formed_at : ℕ → Lookup → List ℕ → Form → Members → Result KeyValue Fault
-formed_at a files key (forms.Natural least most absent) ms = natural_at a key least most absent (get_member key ms) >>= λ n. Ok (Natural n)
-formed_at a files key (forms.Optional least most) ms = optional_at a key least most (get_member key ms) >>= λ n. Ok (Optional n)
-formed_at a files key (forms.Integer least most) ms = integer_at a key least most (get_member key ms) >>= λ z. Ok (Integer z)
+formed_at a files key (forms.Natural least most absent) ms =
+    natural_at a key least most absent (get_member key ms) >>= λ n. Ok (Natural n)
+formed_at a files key (forms.Optional least most) ms =
+    optional_at a key least most (get_member key ms) >>= λ n. Ok (Optional n)
+formed_at a files key (forms.Integer least most) ms =
+    integer_at a key least most (get_member key ms) >>= λ z. Ok (Integer z)
 formed_at a files key (forms.List most width) ms = list_at a key most width files ms >>= λ l. Ok (Listed l)
 
 -- the values at the keys of a row

@@ -1,5 +1,6 @@
 -- What a link's table says, with the first test that it fails.
-use Rattle.std.specs.Prelude.{ℕ, ℤ, Bool, List, [], ◌∷◌, length, codes, Option, Some, None, option_map, option_and_then, Result, Ok, Err, nat_lt, eqb, bytes_eq, if◌then◌else◌}
+use Rattle.std.specs.Prelude.{ℕ, ℤ, Bool, List, [], ◌∷◌, length, codes, Option, Some, None, option_map, option_and_then}
+use Rattle.std.specs.Prelude.{Result, Ok, Err, nat_lt, eqb, bytes_eq, if◌then◌else◌}
 use Rattle.std.specs.List.{list_all, position, position_or_len, before_first, after_first}
 use Rattle.toml.specs.Data.{Data, Members, get_member, as_table}
 use Rattle.sdf_document.specs.declared.entry.LinkEntry.{LinkEntry}
@@ -19,7 +20,8 @@ link_view l = record { from = l.from; to = l.to; initial = l.initial.items }
 
 -- the ports that a text can name
 abbrev pub port_texts : List (List ℕ)
-port_texts = codes "0" ∷ codes "1" ∷ codes "2" ∷ codes "3" ∷ codes "4" ∷ codes "5" ∷ codes "6" ∷ codes "7" ∷ codes "8" ∷ codes "9"
+port_texts = codes "0" ∷ codes "1" ∷ codes "2" ∷ codes "3" ∷ codes "4" ∷ codes "5" ∷ codes "6" ∷ codes "7"
+    ∷ codes "8" ∷ codes "9"
     ∷ codes "10" ∷ codes "11" ∷ codes "12" ∷ codes "13" ∷ codes "14" ∷ codes "15" ∷ []
 
 abbrev pub port_of : List ℕ → Option ℕ

@@ -1,5 +1,7 @@
 -- Lists of whole numbers: in an array of their own, or in a coefficient file.
-use Rattle.std.specs.Prelude.{ℕ, ℤ, pos, negsuc, ◌&&◌, Bool, true, false, IsTrue, List, [], ◌∷◌, length, codes, map, Option, Some, None, option_map, Result, Ok, Err, nat_le, int_le, bytes_eq, find, if◌then◌else◌, string_bytes, String, Vec}
+use Rattle.std.specs.Prelude.{ℕ, ℤ, pos, negsuc, ◌&&◌, Bool, true, false, IsTrue, List, [], ◌∷◌, length, codes, map}
+use Rattle.std.specs.Prelude.{Option, Some, None, option_map, Result, Ok, Err, nat_le, int_le, bytes_eq, find}
+use Rattle.std.specs.Prelude.{if◌then◌else◌, string_bytes, String, Vec}
 use Rattle.std.specs.List.{list_all}
 use Rattle.std.specs.declared.alloc.Global.{Global}
 use Rattle.toml.specs.Data.{Data, Members, get_member, as_str}
@@ -7,7 +9,8 @@ use Rattle.sdf_document.specs.declared.row.Width.{Width}
 use Rattle.sdf_document.specs.declared.row.Width.TheVariants.{Bits16, Bits32}
 use Rattle.sdf_document.specs.declared.file.Files.{Files as FilesGiven}
 use Rattle.sdf_document.specs.declared.file.Files.TheVariants as files
-use Rattle.sdf_document.specs.Fault.{actor, file, Fault, kit_value, not_toml, no_file, missing_key, wrong_type, bad_name, ◌>>=◌, or_fault}
+use Rattle.sdf_document.specs.Fault.{actor, file, Fault, kit_value, not_toml, no_file, missing_key, wrong_type}
+use Rattle.sdf_document.specs.Fault.{bad_name, ◌>>=◌, or_fault}
 use Rattle.sdf_document.specs.Tables.{table_in, format_at, known_keys}
 use Rattle.sdf_document.specs.Values.{integers_at}
 use Rattle.sdf_document.specs.Names.{is_file_name}

@@ -1,5 +1,6 @@
 -- Names of actors and of coefficient files.
-use Rattle.std.specs.Prelude.{ℕ, ◌==◌, ◌&&◌, ◌||◌, not, Bool, List, length, nat_le, slice_index, map, String, string_bytes}
+use Rattle.std.specs.Prelude.{ℕ, ◌==◌, ◌&&◌, ◌||◌, not, Bool, List, length, nat_le, slice_index, map, String}
+use Rattle.std.specs.Prelude.{string_bytes}
 use Rattle.std.specs.List.{list_all}
 use Rattle.std.specs.declared.alloc.Global.{Global}
 use Rattle.indexmap.specs.IndexSet.{IndexSet, keys}
@@ -26,4 +27,5 @@ is_file_byte b = is_name_byte b || (b == 46)
 
 -- 1 to 64 characters, the first not a dot
 unfoldable pub is_file_name : List ℕ → Bool
-is_file_name s = ((nat_le 1 (length s) && nat_le (length s) 64) && not (slice_index s 0 == 46)) && list_all is_file_byte s
+is_file_name s = ((nat_le 1 (length s) && nat_le (length s) 64) && not (slice_index s 0 == 46))
+    && list_all is_file_byte s

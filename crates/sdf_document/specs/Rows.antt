@@ -1,6 +1,8 @@
 -- The table of kinds: a row each.
 use Rattle.std.specs.Prelude.{ℕ, pos, negsuc, List, [], ◌∷◌, codes, map, Option, Some, None}
-use Rattle.sdf_limits.specs.declared.TheConstants.{LEAST_WAYS, MOST_CHANNEL, MOST_COST, MOST_DELAY, MOST_FACTOR, MOST_PROCESSOR, MOST_RATE, MOST_RUN, MOST_SHIFT, MOST_TAPS, MOST_VALUES, MOST_WAYS}
+use Rattle.sdf_limits.specs.declared.TheConstants.{LEAST_WAYS, MOST_CHANNEL, MOST_COST, MOST_DELAY, MOST_FACTOR}
+use Rattle.sdf_limits.specs.declared.TheConstants.{MOST_PROCESSOR, MOST_RATE, MOST_RUN, MOST_SHIFT, MOST_TAPS}
+use Rattle.sdf_limits.specs.declared.TheConstants.{MOST_VALUES, MOST_WAYS}
 use Rattle.sdf_document.specs.declared.row.KindWord.{KindWord}
 use Rattle.sdf_document.specs.declared.row.KindWord.TheVariants as word
 use Rattle.sdf_document.specs.declared.row.Width.TheVariants.{Bits16, Bits32}
@@ -51,10 +53,12 @@ shift = Natural 0 MOST_SHIFT None
 
 -- the keys that every actor may have, tested after those of its kind
 abbrev pub shared_keys : List KeyRow
-shared_keys = key (codes "processor") (Optional 0 MOST_PROCESSOR) ∷ key (codes "cost") (Natural 1 MOST_COST (Some 1)) ∷ []
+shared_keys = key (codes "processor") (Optional 0 MOST_PROCESSOR)
+    ∷ key (codes "cost") (Natural 1 MOST_COST (Some 1)) ∷ []
 
 abbrev pub channel_keys : List KeyRow
-channel_keys = key (codes "channel") (Natural 0 MOST_CHANNEL None) ∷ key (codes "block") (Natural 1 MOST_RATE (Some 1)) ∷ []
+channel_keys = key (codes "channel") (Natural 0 MOST_CHANNEL None)
+    ∷ key (codes "block") (Natural 1 MOST_RATE (Some 1)) ∷ []
 
 abbrev pub turn_keys : List KeyRow
 turn_keys = key (codes "ways") ways ∷ key (codes "run") (Natural 1 MOST_RUN (Some 1)) ∷ []
@@ -63,21 +67,25 @@ abbrev pub row_of : KindWord → KindRow
 row_of word.Input = row (codes "input") 1 channel_keys
 row_of word.Output = row (codes "output") 1 channel_keys
 row_of word.Fir =
-    row (codes "fir") 1 (key (codes "up") (factor (Some 1)) ∷ key (codes "down") (factor (Some 1)) ∷ key (codes "shift") shift
+    row (codes "fir") 1 (key (codes "up") (factor (Some 1)) ∷ key (codes "down") (factor (Some 1))
+    ∷ key (codes "shift") shift
     ∷ key (codes "taps") (ListForm MOST_TAPS Bits16) ∷ [])
 row_of word.Decimate = row (codes "decimate") 1 (key (codes "factor") (factor None) ∷ [])
 row_of word.Interpolate = row (codes "interpolate") 1 (key (codes "factor") (factor None) ∷ [])
 row_of word.Add = row (codes "add") 1 (key (codes "ways") ways ∷ [])
 row_of word.Fork = row (codes "fork") 1 (key (codes "ways") ways ∷ [])
-row_of word.Gain = row (codes "gain") 1 (key (codes "gain") (Integer (negsuc 32767) (pos 32767)) ∷ key (codes "shift") shift ∷ [])
+row_of word.Gain = row (codes "gain") 1 (key (codes "gain") (Integer (negsuc 32767) (pos 32767))
+    ∷ key (codes "shift") shift ∷ [])
 row_of word.Delay = row (codes "delay") 1 (key (codes "length") (Natural 0 MOST_DELAY None) ∷ [])
 row_of word.Table =
-    row (codes "table") 1 (key (codes "offset") (Integer (negsuc 2147483647) (pos 2147483647)) ∷ key (codes "values") (ListForm MOST_VALUES Bits32) ∷ [])
+    row (codes "table") 1 (key (codes "offset") (Integer (negsuc 2147483647) (pos 2147483647))
+    ∷ key (codes "values") (ListForm MOST_VALUES Bits32) ∷ [])
 row_of word.Deal = row (codes "deal") 2 turn_keys
 row_of word.Gather = row (codes "gather") 2 turn_keys
 
 -- all kinds
 abbrev pub kinds : List KindWord
 kinds =
-    word.Input ∷ word.Output ∷ word.Fir ∷ word.Decimate ∷ word.Interpolate ∷ word.Add ∷ word.Fork ∷ word.Gain ∷ word.Delay ∷ word.Table
+    word.Input ∷ word.Output ∷ word.Fir ∷ word.Decimate ∷ word.Interpolate ∷ word.Add ∷ word.Fork ∷ word.Gain
+    ∷ word.Delay ∷ word.Table
     ∷ word.Deal ∷ word.Gather ∷ []

@@ -1,5 +1,6 @@
 -- What stands at single keys.
-use Rattle.std.specs.Prelude.{ℕ, ℤ, pos, negsuc, ◌&&◌, List, [], ◌∷◌, Option, Some, option_map, option_and_then, Result, Ok, Err, nat_le, int_le, if◌then◌else◌}
+use Rattle.std.specs.Prelude.{ℕ, ℤ, pos, negsuc, ◌&&◌, List, [], ◌∷◌, Option, Some, option_map, option_and_then, Result}
+use Rattle.std.specs.Prelude.{Ok, Err, nat_le, int_le, if◌then◌else◌}
 use Rattle.toml.specs.Data.{Data, Items, no_items, item, Members, get_member, as_str, as_integer, as_array}
 use Rattle.sdf_document.specs.Fault.{Place, actor, Fault, kit_value, missing_key, wrong_type, ◌>>=◌, or_fault}
 
@@ -10,7 +11,8 @@ text_at p key ms = do
   or_fault (wrong_type p key) (as_str d)
 
 abbrev pub within_natural : ℕ → List ℕ → ℕ → ℕ → ℤ → Result ℕ Fault
-within_natural a key least most (pos n) = if nat_le least n && nat_le n most then Ok n else Err (kit_value (actor a) key)
+within_natural a key least most (pos n) = if nat_le least n
+    && nat_le n most then Ok n else Err (kit_value (actor a) key)
 within_natural a key least most (negsuc n) = Err (kit_value (actor a) key)
 
 -- a whole number from least to most, at a key of actor a

@@ -61,7 +61,8 @@ pub(crate) fn actor_at(
     names: &IndexSet<String>,
     value: &Value,
 ) -> Result<ActorEntry, ReadFault>
-    ensures given { Gives actor_view result (actor_at actor format (lookup_of files.entry) (names_of names.now) (view value.now)) }
+    ensures given { Gives actor_view result (actor_at actor format (lookup_of files.entry) (names_of names.now)
+        (view value.now)) }
     ensures fresh { IfOk result (λ a. list_any (bytes_eq (string_bytes a.name)) (names_of names.now) ≡ false) }
     ensures within { IfOk result (IsActorWithin (are_read files.entry)) }
 {

@@ -1,5 +1,6 @@
 //! Whole graph files.
-ghost use Rattle.std.specs.Prelude.{◌≡◌, ◌++◌, [], map, IfOk, OnOk, Some, true, is_some, None, option_map, string_bytes, bytes_eq, length, List};
+ghost use Rattle.std.specs.Prelude.{◌≡◌, ◌++◌, [], map, IfOk, OnOk, Some, true, is_some, None, option_map};
+ghost use Rattle.std.specs.Prelude.{string_bytes, bytes_eq, length, List};
 ghost use Rattle.std.specs.List.{All, list_any, filter_map};
 ghost use Rattle.toml.specs.View.{items_view, table_view, view};
 ghost use Rattle.sdf_document.specs.Fault.{Gives};
@@ -8,7 +9,9 @@ ghost use Rattle.sdf_document.specs.Tables.{texts_of};
 ghost use Rattle.sdf_document.specs.Lists.{files_view, lookup_of, are_read};
 ghost use Rattle.sdf_document.specs.Actors.{actor_view, IsActorWithin};
 ghost use Rattle.sdf_document.specs.Links.{link_view};
-ghost use Rattle.sdf_document.specs.Document.{names_in, actors_in, links_in, array_at, item_count, top_keys, parts_at, parts_view, document_view, document_of, kind_file, actor_file, first_seen, file_names_of};
+ghost use Rattle.sdf_document.specs.Document.{names_in, actors_in, links_in, array_at, item_count, top_keys, parts_at};
+ghost use Rattle.sdf_document.specs.Document.{parts_view, document_view, document_of, kind_file, actor_file};
+ghost use Rattle.sdf_document.specs.Document.{first_seen, file_names_of};
 
 use crate::actor::actor_at;
 use crate::entry::{ActorEntry, Document, KindEntry, LinkEntry};
@@ -28,7 +31,8 @@ fn actors_in(
     files: Files<'_>,
     items: &[Value],
 ) -> Result<(Vec<ActorEntry>, IndexSet<String>), ReadFault>
-    ensures given { Gives (λ x. map actor_view x.0.items) result (actors_in format (lookup_of files.entry) (items_view items.now)) }
+    ensures given { Gives (λ x. map actor_view x.0.items) result
+        (actors_in format (lookup_of files.entry) (items_view items.now)) }
     ensures named { IfOk result (λ x. names_of x.1 ≡ names_in (map actor_view x.0.items)) }
     ensures within { IfOk result (λ x. All (IsActorWithin (are_read files.entry)) x.0.items) }
 {

@@ -7,7 +7,8 @@ ghost use Rattle.sdf_document.specs.Fault.{Gives};
 ghost use Rattle.sdf_document.specs.Tables.{texts_of};
 ghost use Rattle.sdf_document.specs.Lists.{lookup_of, are_read};
 ghost use Rattle.sdf_document.specs.Rows.{keys_view};
-ghost use Rattle.sdf_document.specs.Kinds.{written_at, names_of_keys, actor_keys, natural_at, optional_at, integer_at, formed_at, values_at, HasForm, HaveForms};
+ghost use Rattle.sdf_document.specs.Kinds.{written_at, names_of_keys, actor_keys, natural_at, optional_at, integer_at};
+ghost use Rattle.sdf_document.specs.Kinds.{formed_at, values_at, HasForm, HaveForms};
 
 use crate::entry::ListEntry;
 use crate::fault::{DocumentFault, Place, ReadFault};
@@ -39,7 +40,8 @@ fn written_at(table: &Table, name: &'static str, form: Form) -> &'static str
 
 #[tactic(auto, using(std::proofs::lemmas::List::map_push, std::proofs::lemmas::List::map_more))]
 fn push_names(names: &mut Vec<&'static str>, keys: &[Key], table: &Table) -> Result<(), AllocError>
-    ensures { OnOk result (texts_of names.new.items ≡ texts_of names.old.items ++ names_of_keys (table_view table.now) (keys_view keys.now)) }
+    ensures { OnOk result (texts_of names.new.items ≡
+        texts_of names.old.items ++ names_of_keys (table_view table.now) (keys_view keys.now)) }
 {
     for key in keys {
         names.push(written_at(table, key.0, key.1))?;
@@ -71,7 +73,8 @@ fn natural_at(
     absent: Option<u32>,
     table: &Table,
 ) -> Result<u32, ReadFault>
-    ensures given { Gives (λ n. n) result (natural_at actor key.now least most absent (get_member key.now (table_view table.now))) }
+    ensures given { Gives (λ n. n) result (natural_at actor key.now least most absent
+        (get_member key.now (table_view table.now))) }
     ensures within { IfOk result (λ n. (least ≤ n) × (n ≤ most)) }
 {
     if let Some(value) = at(table, key) {
@@ -91,7 +94,8 @@ fn optional_at(
     most: u32,
     table: &Table,
 ) -> Result<Option<u32>, ReadFault>
-    ensures given { Gives (λ n. n) result (optional_at actor key.now least most (get_member key.now (table_view table.now))) }
+    ensures given { Gives (λ n. n) result (optional_at actor key.now least most
+        (get_member key.now (table_view table.now))) }
     ensures within { IfOk result (λ o. IfSome o (λ n. (least ≤ n) × (n ≤ most))) }
 {
     match at(table, key) {
@@ -107,7 +111,8 @@ fn integer_at(
     most: i32,
     table: &Table,
 ) -> Result<i32, ReadFault>
-    ensures given { Gives (λ n. n) result (integer_at actor key.now least most (get_member key.now (table_view table.now))) }
+    ensures given { Gives (λ n. n) result (integer_at actor key.now least most
+        (get_member key.now (table_view table.now))) }
     ensures within { IfOk result (λ n. (least ≤ℤ n) × (n ≤ℤ most)) }
 {
     match at(table, key) {
@@ -125,7 +130,8 @@ fn formed_at(
     form: Form,
     table: &Table,
 ) -> Result<KeyValue, ReadFault>
-    ensures given { Gives (λ v. v) result (formed_at actor (lookup_of files.entry) key.now form (table_view table.now)) }
+    ensures given { Gives (λ v. v) result (formed_at actor (lookup_of files.entry) key.now form
+        (table_view table.now)) }
     ensures within { IfOk result (λ v. HasForm (are_read files.entry) form v) }
 {
     match form {
@@ -156,7 +162,8 @@ pub(crate) fn values_at(
     keys: &[Key],
     table: &Table,
 ) -> Result<Vec<KeyValue>, ReadFault>
-    ensures given { Gives (λ v. v.items) result (values_at actor (lookup_of files.entry) (keys_view keys.now) (table_view table.now)) }
+    ensures given { Gives (λ v. v.items) result (values_at actor (lookup_of files.entry) (keys_view keys.now)
+        (table_view table.now)) }
     ensures within { IfOk result (λ v. HaveForms (are_read files.entry) (keys_view keys.now) v.items) }
 {
     let mut values = Vec::new(alloc);

@@ -5,7 +5,8 @@ ghost use Rattle.toml.specs.View.{table_view};
 ghost use Rattle.sdf_document.specs.Fault.{Gives};
 ghost use Rattle.sdf_document.specs.Lists.{lookup_of, are_read};
 ghost use Rattle.sdf_document.specs.Rows.{row_of};
-ghost use Rattle.sdf_document.specs.Kinds.{is_kind, kind_named, word_at, natural, optional, integer, list, first, rest, entry_of, kind_at, HaveForms, IsWithin};
+ghost use Rattle.sdf_document.specs.Kinds.{is_kind, kind_named, word_at, natural, optional, integer, list, first, rest};
+ghost use Rattle.sdf_document.specs.Kinds.{entry_of, kind_at, HaveForms, IsWithin};
 
 use crate::entry::{KindEntry, ListEntry};
 use crate::fault::{DocumentFault, Place, ReadFault};

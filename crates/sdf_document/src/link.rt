@@ -5,7 +5,8 @@ ghost use Rattle.toml.specs.View.{table_view, view};
 ghost use Rattle.sdf_document.specs.Fault.{Gives};
 ghost use Rattle.sdf_document.specs.Names.{names_of};
 ghost use Rattle.sdf_document.specs.Tables.{texts_of};
-ghost use Rattle.sdf_document.specs.Links.{named, port_of, port_texts, end_of, end_at, initial_at, link_at, link_view, link_keys};
+ghost use Rattle.sdf_document.specs.Links.{named, port_of, port_texts, end_of, end_at, initial_at, link_at, link_view};
+ghost use Rattle.sdf_document.specs.Links.{link_keys};
 
 use crate::entry::LinkEntry;
 use crate::fault::{DocumentFault, Place, ReadFault, Spot};

@@ -1,9 +1,11 @@
 //! Lists of whole numbers: in an array of their own, or in a coefficient file.
-ghost use Rattle.std.specs.Prelude.{◌≡◌, ◌&&◌, map, option_map, length, nat_le, int_le, Some, None, IfOk, IsTrue, if◌then◌else◌};
+ghost use Rattle.std.specs.Prelude.{◌≡◌, ◌&&◌, map, option_map, length, nat_le, int_le, Some, None, IfOk, IsTrue};
+ghost use Rattle.std.specs.Prelude.{if◌then◌else◌};
 ghost use Rattle.std.specs.List.{list_all};
 ghost use Rattle.toml.specs.View.{table_view, view};
 ghost use Rattle.sdf_document.specs.Fault.{Gives};
-ghost use Rattle.sdf_document.specs.Lists.{lookup_of, are_read, fits, all_of, is_list, listed, name_in, filed_values, filed_at, array_in, list_at, IsListed};
+ghost use Rattle.sdf_document.specs.Lists.{lookup_of, are_read, fits, all_of, is_list, listed, name_in, filed_values};
+ghost use Rattle.sdf_document.specs.Lists.{filed_at, array_in, list_at, IsListed};
 
 use crate::entry::ListEntry;
 use crate::fault::{DocumentFault, Place, ReadFault, Spot};
@@ -49,7 +51,8 @@ fn list_of(
     width: Width,
     numbers: &[i64],
 ) -> Result<Option<Vec<i32>>, AllocError>
-    ensures { IfOk result (λ r. option_map (λ v. v.items) r ≡ (if is_list most width numbers.now then Some numbers.now else None)) }
+    ensures { IfOk result (λ r. option_map (λ v. v.items) r ≡
+        (if is_list most width numbers.now then Some numbers.now else None)) }
 {
     if numbers.is_empty() || numbers.len() > most {
         return Ok(None);
@@ -160,7 +163,8 @@ pub(crate) fn list_at(
     files: Files<'_>,
     table: &Table,
 ) -> Result<ListEntry, ReadFault>
-    ensures given { Gives (λ l. l) result (list_at actor key.now most width (lookup_of files.entry) (table_view table.now)) }
+    ensures given { Gives (λ l. l) result (list_at actor key.now most width (lookup_of files.entry)
+        (table_view table.now)) }
     ensures within { IfOk result (λ l. IsListed (are_read files.entry) most width l.values) }
 {
     if let Some(value) = at(table, key) {

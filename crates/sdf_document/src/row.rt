@@ -2,9 +2,11 @@
 //!
 //! A new kind is:
 //! 1. its word in `KindWord` and `KINDS`, and its row: its keys and an arm of `row_of`, here and in `specs/Rows.antt`;
-//! 2. its values as a variant of `KindEntry`, with an arm of `entry_of` in `kind.rt` that takes them in the order of the row;
+//! 2. its values as a variant of `KindEntry`, with an arm of `entry_of` in `kind.rt` that takes them in the order of
+//!   the row;
 //! 3. an equation of `entry_of` and one of `kind_values` in `specs/Kinds.antt`;
-//! 4. where it has a list, an arm of `file_of` in `document.rt` and an equation of `kind_file` in `specs/Document.antt`;
+//! 4. where it has a list, an arm of `file_of` in `document.rt` and an equation of `kind_file` in
+//!   `specs/Document.antt`;
 //! 5. its line in the table of `docs/FORMATS.md` and in `document_kinds.rt` of `format_tests`.
 ghost use Rattle.std.specs.Prelude.{◌≡◌};
 ghost use Rattle.sdf_document.specs.Rows.{keys_view, row_view, shared_keys, row_of, kinds};

@@ -1,5 +1,6 @@
 -- The limits of a document's lists are those of the kit.
-use Rattle.std.proofs.Common.{◌≡◌, ◌∙◌, Bool, true, false, ℕ, ℤ, pos, negsuc, List, [], ◌∷◌, refl, sym, ap, arith, ◌≤◌, Ok}
+use Rattle.std.proofs.Common.{◌≡◌, ◌∙◌, Bool, true, false, ℕ, ℤ, pos, negsuc, List, [], ◌∷◌, refl, sym, ap, arith, ◌≤◌}
+use Rattle.std.proofs.Common.{Ok}
 use Rattle.std.specs.Prelude.{◌&&◌, nat_le, IsTrue, length}
 use Rattle.std.specs.List.{list_all}
 use Rattle.std.proofs.Math.Dec.{leb-suc-suc}
@@ -27,10 +28,12 @@ tap_has_16_bits (negsuc n) = and_true (nat_le n 32767) ∙ sym (leb-suc-suc n 32
 
 same_test : (zs : List ℤ) → list_all (fits width.Bits16) zs ≡ list_all has_16_bits zs
 same_test [] = refl
-same_test (z ∷ zs) = ap (λ b. b && list_all (fits width.Bits16) zs) (tap_has_16_bits z) ∙ ap (λ b. has_16_bits z && b) (same_test zs)
+same_test (z ∷ zs) = ap (λ b. b && list_all (fits width.Bits16) zs) (tap_has_16_bits z)
+    ∙ ap (λ b. has_16_bits z && b) (same_test zs)
 
 taps_pass : (zs : List ℤ) → IsTrue (is_list MOST_TAPS width.Bits16 zs) → list_all has_16_bits zs ≡ true
-taps_pass zs h = sym (same_test zs) ∙ second (nat_le 1 (length zs) && nat_le (length zs) MOST_TAPS) (list_all (fits width.Bits16) zs) h
+taps_pass zs h = sym (same_test zs) ∙ second (nat_le 1 (length zs) && nat_le (length zs) MOST_TAPS)
+    (list_all (fits width.Bits16) zs) h
 
 first : (a b : Bool) → (a && b) ≡ true → a ≡ true
 first true b h = refl
@@ -44,12 +47,15 @@ between : (low high n : ℕ) → (low ≤ n) × (n ≤ high) → is_between low 
 between low high n h = ap (λ b. b && nat_le n high) (le_test low n h.0) ∙ le_test n high h.1
 
 -- values of a filter that are within the limits of a document pass the tests of the kit
-pub filter_passes : (up down shift : ℕ) (taps : List ℤ) → (1 ≤ up) × (up ≤ MOST_FACTOR) → (1 ≤ down) × (down ≤ MOST_FACTOR) → shift ≤ MOST_SHIFT → IsTrue (is_list MOST_TAPS width.Bits16 taps)
-    → kit_of kits.Fir (filter_of up down taps shift) ≡ Ok (kits.Fir (record { up = up; down = down; taps = taps; shift = shift }))
+pub filter_passes : (up down shift : ℕ) (taps : List ℤ) → (1 ≤ up) × (up ≤ MOST_FACTOR) →
+    (1 ≤ down) × (down ≤ MOST_FACTOR) → shift ≤ MOST_SHIFT → IsTrue (is_list MOST_TAPS width.Bits16 taps)
+    → kit_of kits.Fir (filter_of up down taps shift) ≡
+    Ok (kits.Fir (record { up = up; down = down; taps = taps; shift = shift }))
 filter_passes up down shift taps u d s t =
     let b1 : is_between 1 MOST_FACTOR up ≡ true = between 1 MOST_FACTOR up u in
     let b2 : is_between 1 MOST_FACTOR down ≡ true = between 1 MOST_FACTOR down d in
     let b3 : nat_le shift MOST_SHIFT ≡ true = le_test shift MOST_SHIFT s in
-    let b4 : is_between 1 MOST_TAPS (length taps) ≡ true = first (nat_le 1 (length taps) && nat_le (length taps) MOST_TAPS) (list_all (fits width.Bits16) taps) t in
+    let b4 : is_between 1 MOST_TAPS (length taps) ≡ true =
+    first (nat_le 1 (length taps) && nat_le (length taps) MOST_TAPS) (list_all (fits width.Bits16) taps) t in
     let b5 : list_all has_16_bits taps ≡ true = taps_pass taps t in
     rw (b1, b2, b3, b4, b5) refl

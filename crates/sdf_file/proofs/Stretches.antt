@@ -1,5 +1,6 @@
 -- Longest stretches, from their first firing on.
-use Rattle.std.proofs.Common.{◌≡◌, ◌∙◌, ◌+◌, ◌≤◌, ◌<◌, ℕ, zero, suc, Bool, true, false, List, [], ◌∷◌, ◌-◌, drop, length, get_or, refl, sym, ap, arith}
+use Rattle.std.proofs.Common.{◌≡◌, ◌∙◌, ◌+◌, ◌≤◌, ◌<◌, ℕ, zero, suc, Bool, true, false, List, [], ◌∷◌, ◌-◌, drop}
+use Rattle.std.proofs.Common.{length, get_or, refl, sym, ap, arith}
 use Rattle.std.specs.Prelude.{◌==◌, if◌then◌else◌, T}
 use Rattle.std.proofs.Math.Dec.{eqb_refl}
 use Rattle.std.proofs.lemmas.Bool.{eqb-true}
@@ -56,32 +57,41 @@ stretched_begins a b (s ∷ ss) differ = stretched_by (b == s.actor)
     stretched_by true = differ
     stretched_by false = differ
 
-pub begins_with : (order : List ℕ) (past : ℕ) → past < length order → stretches (drop past order) ≡ stretched (get_or order past 0) (stretches (drop (past + 1) order))
+pub begins_with : (order : List ℕ) (past : ℕ) → past < length order →
+    stretches (drop past order) ≡ stretched (get_or order past 0) (stretches (drop (past + 1) order))
 begins_with order past within = ap stretches (drop_more order past 0 within)
 
 -- a stretch of actor a goes on
 pub goes_on : (order : List ℕ) (at past a : ℕ) → at < past → past < length order → a ≡ get_or order past 0
-    → stretches (drop at order) ≡ grown (past - at) a (stretches (drop past order)) → stretches (drop at order) ≡ grown (past + 1 - at) a (stretches (drop (past + 1) order))
+    → stretches (drop at order) ≡ grown (past - at) a (stretches (drop past order)) →
+    stretches (drop at order) ≡ grown (past + 1 - at) a (stretches (drop (past + 1) order))
 goes_on order at past a after within is so_far =
     let on : suc (past - at) ≡ past + 1 - at = omega arith in
     let rest = stretches (drop (past + 1) order) in
-    so_far ∙ (ap (grown (past - at) a) (begins_with order past within ∙ ap (λ x. stretched x rest) (sym is)) ∙ ap (λ n. grown n a rest) on)
+    so_far ∙ (ap (grown (past - at) a) (begins_with order past within ∙ ap (λ x. stretched x rest) (sym is))
+    ∙ ap (λ n. grown n a rest) on)
 
 ended : (order : List ℕ) (at past a : ℕ) → at < past → BeginOther a (stretches (drop past order))
-    → stretches (drop at order) ≡ grown (past - at) a (stretches (drop past order)) → stretches (drop at order) ≡ stretch a (past - at) ∷ stretches (drop (at + (past - at)) order)
+    → stretches (drop at order) ≡ grown (past - at) a (stretches (drop past order)) →
+    stretches (drop at order) ≡ stretch a (past - at) ∷ stretches (drop (at + (past - at)) order)
 ended order at past a after other so_far =
     let n : past - at ≡ suc (past - at - 1) = omega arith in
     let on : past ≡ at + (past - at) = omega arith in
-    so_far ∙ (ap (λ m. grown m a (stretches (drop past order))) n ∙ (grown_other (past - at - 1) a (stretches (drop past order)) other
-    ∙ (ap (λ m. stretch a m ∷ stretches (drop past order)) (sym n) ∙ ap (λ m. stretch a (past - at) ∷ stretches (drop m order)) on)))
+    so_far ∙ (ap (λ m. grown m a (stretches (drop past order))) n
+    ∙ (grown_other (past - at - 1) a (stretches (drop past order)) other
+    ∙ (ap (λ m. stretch a m ∷ stretches (drop past order)) (sym n)
+    ∙ ap (λ m. stretch a (past - at) ∷ stretches (drop m order)) on)))
 
 -- it ends where another actor fires, and where the order does
 pub ends_before : (order : List ℕ) (at past a : ℕ) → at < past → past < length order → (a ≡ get_or order past 0 → ⊥)
-    → stretches (drop at order) ≡ grown (past - at) a (stretches (drop past order)) → stretches (drop at order) ≡ stretch a (past - at) ∷ stretches (drop (at + (past - at)) order)
+    → stretches (drop at order) ≡ grown (past - at) a (stretches (drop past order)) →
+    stretches (drop at order) ≡ stretch a (past - at) ∷ stretches (drop (at + (past - at)) order)
 ends_before order at past a after within other so_far =
     let differ : (a == get_or order past 0) ≡ false = differs a (get_or order past 0) other in
-    ended order at past a after (rw (begins_with order past within) (stretched_begins a (get_or order past 0) (stretches (drop (past + 1) order)) differ)) so_far
+    ended order at past a after (rw (begins_with order past within)
+    (stretched_begins a (get_or order past 0) (stretches (drop (past + 1) order)) differ)) so_far
 
 pub ends_last : (order : List ℕ) (at past a : ℕ) → at < past → length order ≤ past
-    → stretches (drop at order) ≡ grown (past - at) a (stretches (drop past order)) → stretches (drop at order) ≡ stretch a (past - at) ∷ stretches (drop (at + (past - at)) order)
+    → stretches (drop at order) ≡ grown (past - at) a (stretches (drop past order)) →
+    stretches (drop at order) ≡ stretch a (past - at) ∷ stretches (drop (at + (past - at)) order)
 ends_last order at past a after all so_far = ended order at past a after (rw (drop_all past order all) tt) so_far

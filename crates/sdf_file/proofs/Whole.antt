@@ -1,6 +1,7 @@
 -- What holds of every design holds of the design of a document.
 use Rattle.sdf_limits.specs.declared.TheConstants.{MOST_CHANNEL}
-use Rattle.std.proofs.Common.{◌≡◌, ◌≤◌, ◌<◌, ◌+◌, ℕ, zero, suc, ℤ, List, [], ◌∷◌, map, max, length, true, refl, ap, arith}
+use Rattle.std.proofs.Common.{◌≡◌, ◌≤◌, ◌<◌, ◌+◌, ℕ, zero, suc, ℤ, List, [], ◌∷◌, map, max, length, true, refl, ap}
+use Rattle.std.proofs.Common.{arith}
 use Rattle.std.specs.Prelude.{slice_index}
 use Rattle.std.specs.List.{All, fold}
 use Rattle.std.specs.Option.{option_map_or}
@@ -8,7 +9,9 @@ use Rattle.std.proofs.Math.Nat.{max-le}
 use Rattle.std.proofs.lemmas.List.Elements.{All-head, All-tail}
 use Rattle.sdf_document.specs.declared.entry.ActorEntry.{ActorEntry}
 use Rattle.sdf_document.specs.declared.entry.KindEntry.{KindEntry}
-use Rattle.sdf_document.specs.declared.entry.KindEntry.TheVariants.{Input as InputEntry, Output as OutputEntry, Fir, Decimate, Interpolate, Add, Fork, Gain, Delay, Table, Deal, Gather}
+use Rattle.sdf_document.specs.declared.entry.KindEntry.TheVariants.{Input as InputEntry, Output as OutputEntry, Fir}
+use Rattle.sdf_document.specs.declared.entry.KindEntry.TheVariants.{Decimate, Interpolate, Add, Fork, Gain, Delay}
+use Rattle.sdf_document.specs.declared.entry.KindEntry.TheVariants.{Table, Deal, Gather}
 use Rattle.sdf_document.specs.Kinds.{IsWithin}
 use Rattle.sdf_document.specs.Actors.{ActorValue, actor_view, IsActorWithin}
 use Rattle.sdf_actor.specs.declared.node.Node.{Node}
@@ -56,7 +59,8 @@ small_list Outputs (Deal ways run) h = omega arith
 small_list Outputs (Gather ways run) h = omega arith
 
 small_lists : (lists : Lists) (es : List ActorEntry) (m : ℕ) → m ≤ MOST_CHANNEL + 1 → All (IsActorWithin true) es
-    → fold (λ n x. max n (list_room lists x)) m (map (λ (a : ActorValue). node_of a.kind) (map actor_view es)) ≤ MOST_CHANNEL + 1
+    → fold (λ n x. max n (list_room lists x)) m (map (λ (a : ActorValue). node_of a.kind) (map actor_view es)) ≤
+    MOST_CHANNEL + 1
 small_lists lists [] m h all = h
 small_lists lists (e ∷ es) m h all =
     small_lists lists es (max m (list_room lists (node_of e.kind)))
@@ -70,7 +74,8 @@ few_lists lists es all = small_lists lists es 0 (omega arith) all
 abbrev pub costs_of : List ActorEntry → List ℕ
 costs_of es = map (λ (a : ActorValue). a.cost) (map actor_view es)
 
-each_costs : (es : List ActorEntry) → All (IsActorWithin true) es → (a : ℕ) → a < length es → IsCost (slice_index (costs_of es) a)
+each_costs : (es : List ActorEntry) → All (IsActorWithin true) es → (a : ℕ) → a < length es →
+    IsCost (slice_index (costs_of es) a)
 each_costs [] all a h = absurd (omega arith)
 each_costs (e ∷ es) all zero h = (All-head (IsActorWithin true) e es all).1.1.0
 each_costs (e ∷ es) all (suc a) h = each_costs es (All-tail (IsActorWithin true) e es all) a (omega arith)

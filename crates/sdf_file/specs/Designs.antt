@@ -36,7 +36,8 @@ pub record DesignValue : Type 0 where
 abbrev pub node_of : KindEntry → Node Kit
 node_of (entry.Input channel block) = Source channel block
 node_of (entry.Output channel block) = Sink channel block
-node_of (entry.Fir up down shift taps) = Inner (kits.Fir (record { up = up; down = down; taps = taps.values; shift = shift }))
+node_of (entry.Fir up down shift taps) = Inner (kits.Fir
+    (record { up = up; down = down; taps = taps.values; shift = shift }))
 node_of (entry.Decimate factor) = Inner (kits.Decimate factor)
 node_of (entry.Interpolate factor) = Inner (kits.Interpolate factor)
 node_of (entry.Add ways) = Inner (kits.Add ways)
@@ -77,11 +78,13 @@ IsMadeFault n OutOfMemory = Unit {0}
 IsMadeFault n (Document fault) = ⊥
 IsMadeFault n (Net fault) = HasNetFault n fault
 
--- the first test that files fail: those of the document come before those of the net. Memory may be refused at any place
+-- the first test that files fail: those of the document come before those of the net. Memory may be refused at any
+-- place
 abbrev pub IsFileFault : List ℕ → Files → FileFault → Type 0
 IsFileFault graph files OutOfMemory = Unit {0}
 IsFileFault graph files (Document fault) = document_of graph files ≡ Err (fault_view fault)
-IsFileFault graph files (Net fault) = (d : DocumentValue) × (document_of graph files ≡ Ok d) × HasNetFault (design_of d).net fault
+IsFileFault graph files (Net fault) = (d : DocumentValue) × (document_of graph files ≡ Ok d)
+    × HasNetFault (design_of d).net fault
 
 -- ---- the files that a graph file names
 

@@ -1,5 +1,6 @@
 -- The text of a schedule: one period's order of firings, and a table of a block.
-use Rattle.std.specs.Prelude.{◌≡◌, ℕ, ◌+◌, ◌/◌, List, [], ◌∷◌, ◌++◌, ◌==◌, if◌then◌else◌, length, codes, decimal, slice_index, slice_index_or, Option, Some, None}
+use Rattle.std.specs.Prelude.{◌≡◌, ℕ, ◌+◌, ◌/◌, List, [], ◌∷◌, ◌++◌, ◌==◌, if◌then◌else◌, length, codes, decimal}
+use Rattle.std.specs.Prelude.{slice_index, slice_index_or, Option, Some, None}
 use Rattle.std.specs.List.{flat_map, range_with_len}
 use Rattle.sdf_graph.specs.Rates.{rates}
 use Rattle.sdf_graph.specs.Periods.{IsLeastPeriod}
@@ -20,7 +21,8 @@ pub record Stretch : Type 0 where
 abbrev pub stretched : ℕ → List Stretch → List Stretch
 stretched a [] = record { actor = a; firings = 1 } ∷ []
 stretched a (s ∷ ss) =
-    if a == s.actor then record { actor = a; firings = s.firings + 1 } ∷ ss else record { actor = a; firings = 1 } ∷ s ∷ ss
+    if a == s.actor then record { actor = a; firings = s.firings + 1 }
+    ∷ ss else record { actor = a; firings = 1 } ∷ s ∷ ss
 
 -- the longest stretches of an order of firings
 abbrev pub stretches : List ℕ → List Stretch
@@ -55,7 +57,8 @@ end_text d e = name_of d e.0 ++ codes ":" ++ decimal e.1
 
 abbrev pub capacity_line : DesignValue → List ℕ → ℕ → List ℕ
 capacity_line d caps c =
-    codes "capacity " ++ end_text d (wire d.net c).from ++ codes " " ++ end_text d (wire d.net c).to ++ codes " " ++ decimal (slice_index caps c) ++ end
+    codes "capacity " ++ end_text d (wire d.net c).from ++ codes " " ++ end_text d (wire d.net c).to ++ codes " "
+    ++ decimal (slice_index caps c) ++ end
 
 -- how often the order of a period makes a table's block, and how many columns each of its rows has
 abbrev pub blocking_of : List ℕ → Tabled → ℕ
@@ -74,7 +77,8 @@ size_lines order t =
 -- a table: its sizes, its rows, and the capacities of the links in file order
 abbrev pub table_text : DesignValue → List ℕ → Tabled → List ℕ
 table_text d order t =
-    size_lines order t ++ flat_map (row_line d) t.rows ++ flat_map (capacity_line d t.caps) (range_with_len 0 (length d.net.wires))
+    size_lines order t ++ flat_map (row_line d) t.rows
+    ++ flat_map (capacity_line d t.caps) (range_with_len 0 (length d.net.wires))
 
 -- what `schedule` prints of a design with period vector q, whose period has this order of firings, with this table
 abbrev pub schedule_text : DesignValue → List ℕ → List ℕ → Tabled → List ℕ

@@ -31,7 +31,8 @@ check_text d q =
     codes "actors " ++ decimal (length d.net.nodes) ++ end
     ++ codes "links " ++ decimal (length d.net.wires) ++ end
     ++ period_text d q
-    ++ codes "input " ++ decimal (period_samples d.net.nodes Inputs q) ++ codes " output " ++ decimal (period_samples d.net.nodes Outputs q) ++ end
+    ++ codes "input " ++ decimal (period_samples d.net.nodes Inputs q) ++ codes " output "
+    ++ decimal (period_samples d.net.nodes Outputs q) ++ end
 
 -- the text of a design, whose period vector is the least
 pub record IsCheckText (d : DesignValue) (text : List ℕ) : Type 0 where

@@ -1,5 +1,6 @@
 //! Designs.
-ghost use Rattle.std.specs.Prelude.{◌≡◌, ◌<◌, ℕ, List, [], true, map, length, string_bytes, slice_index_or, MatchResult};
+ghost use Rattle.std.specs.Prelude.{◌≡◌, ◌<◌, ℕ, List, [], true, map, length, string_bytes, slice_index_or};
+ghost use Rattle.std.specs.Prelude.{MatchResult};
 ghost use Rattle.std.specs.List.{All};
 ghost use Rattle.sdf_document.specs.Lists.{files_view};
 ghost use Rattle.sdf_document.specs.Actors.{IsActorWithin};
@@ -7,7 +8,8 @@ ghost use Rattle.sdf_document.specs.Document.{document_view, file_names_of};
 ghost use Rattle.sdf_document.specs.Names.{names_of};
 ghost use Rattle.sdf_actor.specs.NetFaults.{IsAccepted};
 ghost use Rattle.sdf_kit.specs.Kit.{kit_steps};
-ghost use Rattle.sdf_file.specs.Designs.{design_of, IsDesign, IsDesignOf, IsFileFault, IsMadeFault, AreFileNames, IsNamesFault};
+ghost use Rattle.sdf_file.specs.Designs.{design_of, IsDesign, IsDesignOf, IsFileFault, IsMadeFault, AreFileNames};
+ghost use Rattle.sdf_file.specs.Designs.{IsNamesFault};
 
 use crate::fault::FileFault;
 use crate::parts::{links_of, parts_of};
@@ -33,9 +35,19 @@ impl Model for Design {
 
     ghost Value = { DesignValue };
 
-    ghost view = { λ d. record { net = d.net; names = map string_bytes d.names.items; homes = d.homes.items; costs = d.costs.items } };
+    ghost view = { λ d. record {
+      net = d.net;
+      names = map string_bytes d.names.items;
+      homes = d.homes.items;
+      costs = d.costs.items;
+    } };
 
-    ghost invariant = { λ d. IsDesign (record { net = d.net; names = map string_bytes d.names.items; homes = d.homes.items; costs = d.costs.items }) };
+    ghost invariant = { λ d. IsDesign (record {
+      net = d.net;
+      names = map string_bytes d.names.items;
+      homes = d.homes.items;
+      costs = d.costs.items;
+    }) };
 }
 
 impl Design {
@@ -115,7 +127,8 @@ pub fn read_design(
     graph: &[u8],
     files: &[(String, Vec<u8>)],
 ) -> Result<Design, FileFault>
-    ensures { MatchResult result (IsDesignOf graph.now (files_view files.now)) (IsFileFault graph.now (files_view files.now)) }
+    ensures { MatchResult result (IsDesignOf graph.now (files_view files.now))
+        (IsFileFault graph.now (files_view files.now)) }
 {
     let document = read_document(alloc, graph, files)?;
     design_of(alloc, document)

@@ -1,5 +1,6 @@
 //! Entries as the nodes and links of a net.
-ghost use Rattle.std.specs.Prelude.{◌≡◌, ◌≤◌, ◌+◌, ◌++◌, ◌∷◌, [], true, length, IsTrue, map, Ok, IfOk, OnOk, string_bytes};
+ghost use Rattle.std.specs.Prelude.{◌≡◌, ◌≤◌, ◌+◌, ◌++◌, ◌∷◌, [], true, length, IsTrue, map, Ok, IfOk, OnOk};
+ghost use Rattle.std.specs.Prelude.{string_bytes};
 ghost use Rattle.std.specs.List.{All};
 ghost use Rattle.sdf_document.specs.declared.row.Width.TheVariants as width;
 ghost use Rattle.sdf_limits.specs.declared.TheConstants.{MOST_CHANNEL, MOST_FACTOR, MOST_SHIFT, MOST_TAPS};
@@ -95,7 +96,8 @@ impl Parts {
     fn push(&mut self, actor: ActorEntry) -> Result<(), AllocError>
         requires { IsActorWithin true actor }
         ensures nodes { OnOk result (self.new.nodes.items ≡ self.old.nodes.items ++ node_of actor.kind ∷ []) }
-        ensures names { OnOk result (map string_bytes self.new.names.items ≡ map string_bytes self.old.names.items ++ string_bytes actor.name ∷ []) }
+        ensures names { OnOk result (map string_bytes self.new.names.items ≡
+            map string_bytes self.old.names.items ++ string_bytes actor.name ∷ []) }
         ensures homes { OnOk result (self.new.homes.items ≡ self.old.homes.items ++ actor.processor ∷ []) }
         ensures costs { OnOk result (self.new.costs.items ≡ self.old.costs.items ++ actor.cost ∷ []) }
     {
@@ -109,9 +111,12 @@ impl Parts {
 /// The parts of actors, in their order.
 pub(crate) fn parts_of(alloc: Global, actors: Vec<ActorEntry>) -> Result<Parts, AllocError>
     requires { All (IsActorWithin true) actors.items }
-    ensures nodes { IfOk result (λ p. p.nodes.items ≡ map (λ (a : ActorValue). node_of a.kind) (map actor_view actors.items)) }
-    ensures names { IfOk result (λ p. map string_bytes p.names.items ≡ map (λ (a : ActorValue). a.name) (map actor_view actors.items)) }
-    ensures homes { IfOk result (λ p. p.homes.items ≡ map (λ (a : ActorValue). a.processor) (map actor_view actors.items)) }
+    ensures nodes { IfOk result (λ p. p.nodes.items ≡
+        map (λ (a : ActorValue). node_of a.kind) (map actor_view actors.items)) }
+    ensures names { IfOk result (λ p. map string_bytes p.names.items ≡
+        map (λ (a : ActorValue). a.name) (map actor_view actors.items)) }
+    ensures homes { IfOk result (λ p. p.homes.items ≡
+        map (λ (a : ActorValue). a.processor) (map actor_view actors.items)) }
     ensures costs { IfOk result (λ p. p.costs.items ≡ map (λ (a : ActorValue). a.cost) (map actor_view actors.items)) }
     ensures priced { IfOk result (λ p. AreCosts (length actors.items) p.costs.items) }
     ensures inputs { IfOk result (λ p. list_count Inputs p.nodes.items ≤ MOST_CHANNEL + 1) }

@@ -1,8 +1,11 @@
 //! The text of a schedule.
-ghost use Rattle.std.specs.Prelude.{◌≡◌, ◌+◌, ◌≤◌, ◌<◌, ◌++◌, ◌∷◌, IfOk, OnOk, length, drop, slice_index, string_bytes, codes};
+ghost use Rattle.std.specs.Prelude.{◌≡◌, ◌+◌, ◌≤◌, ◌<◌, ◌++◌, ◌∷◌, IfOk, OnOk, length, drop, slice_index, string_bytes};
+ghost use Rattle.std.specs.Prelude.{codes};
 ghost use Rattle.std.specs.List.{flat_map, range_with_len};
 ghost use Rattle.sdf_actor.specs.Nets.{wire};
-ghost use Rattle.sdf_file.specs.Schedules.{Stretch, stretches, stretch_text, order_items, order_line, cell_text, row_line, end_text, capacity_line, blocking_of, workers_of, size_lines, table_text, schedule_text, IsScheduleText};
+ghost use Rattle.sdf_file.specs.Schedules.{Stretch, stretches, stretch_text, order_items, order_line, cell_text};
+ghost use Rattle.sdf_file.specs.Schedules.{row_line, end_text, capacity_line, blocking_of, workers_of, size_lines};
+ghost use Rattle.sdf_file.specs.Schedules.{table_text, schedule_text, IsScheduleText};
 
 use crate::design::Design;
 use crate::texts::push_period;
@@ -14,7 +17,8 @@ use std::alloc::{AllocError, Global};
 /// How many firings of one actor stand in an order from a place on.
 fn stretch_at(order: &[usize], at: usize) -> usize
     requires { at < length order.now }
-    ensures stretch { stretches (drop at order.now) ≡ record { actor = slice_index order.now at; firings = result } ∷ stretches (drop (at + result) order.now) }
+    ensures stretch { stretches (drop at order.now) ≡
+        record { actor = slice_index order.now at; firings = result } ∷ stretches (drop (at + result) order.now) }
     ensures some { 0 < result }
     ensures within { at + result ≤ length order.now }
 {
@@ -32,7 +36,8 @@ fn push_stretch(
     actor: usize,
     firings: usize,
 ) -> Result<(), AllocError>
-    ensures { OnOk result (string_bytes text.new ≡ string_bytes text.old ++ codes " " ++ stretch_text design.now (record { actor = actor; firings = firings })) }
+    ensures { OnOk result (string_bytes text.new ≡
+        string_bytes text.old ++ codes " " ++ stretch_text design.now (record { actor = actor; firings = firings })) }
 {
     let name = design.name_of(actor);
     if firings == 1 {
@@ -91,7 +96,8 @@ fn push_row(text: &mut String, design: &Design, cells: &[Option<Firing>]) -> Res
 
 /// Adds the lines of a table's rows.
 fn push_rows(text: &mut String, design: &Design, table: &Table) -> Result<(), AllocError>
-    ensures { OnOk result (string_bytes text.new ≡ string_bytes text.old ++ flat_map (row_line design.now) table.now.rows) }
+    ensures { OnOk result (string_bytes text.new ≡
+        string_bytes text.old ++ flat_map (row_line design.now) table.now.rows) }
 {
     for row in 0..table.rows() {
         push_row(text, design, table.row(row))?;
@@ -128,7 +134,8 @@ fn push_capacity(
 ) -> Result<(), AllocError>
     requires link { link < length design.now.net.wires }
     requires capacities { length table.now.caps ≡ length design.now.net.wires }
-    ensures { OnOk result (string_bytes text.new ≡ string_bytes text.old ++ capacity_line design.now table.now.caps link) }
+    ensures { OnOk result (string_bytes text.new ≡
+        string_bytes text.old ++ capacity_line design.now table.now.caps link) }
 {
     let (from, to) = ends_of(design, link);
     let capacity = table.cap(link);
@@ -143,7 +150,9 @@ fn push_capacity(
 /// Adds the lines of the links' capacities, in file order.
 fn push_capacities(text: &mut String, design: &Design, table: &Table) -> Result<(), AllocError>
     requires { length table.now.caps ≡ length design.now.net.wires }
-    ensures { OnOk result (string_bytes text.new ≡ string_bytes text.old ++ flat_map (capacity_line design.now table.now.caps) (range_with_len 0 (length design.now.net.wires))) }
+    ensures { OnOk result (string_bytes text.new ≡
+        string_bytes text.old ++ flat_map (capacity_line design.now table.now.caps)
+        (range_with_len 0 (length design.now.net.wires))) }
 {
     for link in 0..design.net().channels() {
         push_capacity(text, design, table, link)?;
@@ -212,8 +221,8 @@ fn text_with(
     Ok(text)
 }
 
-/// What a schedule is: the period and how often each actor fires in it, the order of its firings, and a table: its periods, its
-/// columns, the firings of each row, and the capacity of each link.
+/// What a schedule is: the period and how often each actor fires in it, the order of its firings, and a table: its
+/// periods, its columns, the firings of each row, and the capacity of each link.
 pub fn schedule_text(
     alloc: Global,
     design: &Design,

@@ -24,7 +24,8 @@ fn push_q_lines(
     repetitions: &Repetitions,
 ) -> Result<(), AllocError>
     requires { length repetitions.now ≡ length design.now.net.nodes }
-    ensures { OnOk result (string_bytes text.new ≡ string_bytes text.old ++ q_lines design.now repetitions.now (length design.now.net.nodes)) }
+    ensures { OnOk result (string_bytes text.new ≡
+        string_bytes text.old ++ q_lines design.now repetitions.now (length design.now.net.nodes)) }
 {
     for actor in 0..design.net().len() {
         push_q_line(text, design.name(actor), repetitions.of(actor))?;

@@ -1,5 +1,6 @@
 -- Sums: of lists, and of the rates of a cycle, which begins anew after its last firing.
-use Rattle.std.proofs.Common.{◌≡◌, ℕ, zero, suc, ◌+◌, ◌*◌, ◌%◌, ◌≤◌, ◌<◌, List, [], ◌∷◌, length, get_or, sum, take, refl, ap, ◌∙◌, subst, inl, inr, ◌⊎◌, arith, add-one}
+use Rattle.std.proofs.Common.{◌≡◌, ℕ, zero, suc, ◌+◌, ◌*◌, ◌%◌, ◌≤◌, ◌<◌, List, [], ◌∷◌, length, get_or, sum, take}
+use Rattle.std.proofs.Common.{refl, ap, ◌∙◌, subst, inl, inr, ◌⊎◌, arith, add-one}
 use Rattle.std.proofs.Math.Nat.{add-mul-mod_self_left, mod-eq_of_lt}
 use Rattle.std.proofs.lemmas.List.{take_all}
 use Rattle.std.proofs.lemmas.List.Sums.{sum_by_more, sum_by-cons}
@@ -29,12 +30,18 @@ sum_to_same f g (suc n) same = omega (arith, sum_to_same f g n (λ i l. same i (
 
 sum_to_add : (f : ℕ → ℕ) (i j : ℕ) → sum_to f (i + j) ≡ sum_to f i + sum_to (λ n. f (i + n)) j
 sum_to_add f i zero = let e : i + zero ≡ i = omega arith in ap (sum_to f) e ∙ omega arith
-sum_to_add f i (suc j) = let e : i + suc j ≡ suc (i + j) = omega arith in ap (sum_to f) e ∙ omega (arith, sum_to_add f i j)
+sum_to_add f i (suc j) = let e : i + suc j ≡ suc (i + j) = omega arith in
+    ap (sum_to f) e ∙ omega (arith, sum_to_add f i j)
 
 -- a list's own sum
 sum_to_listed : (xs : List ℕ) (n : ℕ) → n ≤ length xs → sum_to (λ i. get_or xs i 0) n ≡ sum (take n xs)
 sum_to_listed xs zero h = refl
-sum_to_listed xs (suc n) h = omega (arith, sum_to_listed xs n (omega arith), sum_by_more (λ x. x) xs n 0 (omega arith), ap (λ m. sum (take m xs)) (add-one n))
+sum_to_listed xs (suc n) h = omega (
+  arith,
+  sum_to_listed xs n (omega arith),
+  sum_by_more (λ x. x) xs n 0 (omega arith),
+  ap (λ m. sum (take m xs)) (add-one n),
+)
 
 -- a cycle's firings move its sum
 pub sum_to_cycle : (xs : List ℕ) → sum_to (rate_at xs) (length xs) ≡ sum xs
@@ -44,22 +51,31 @@ sum_to_cycle xs =
 
 -- and so do those of each later cycle
 pub rates_anew : (xs : List ℕ) (k i : ℕ) → rate_at xs (length xs * k + i) ≡ rate_at xs i
-rates_anew xs k i = ap (λ n. get_or xs n 0) (ap (λ n. n % length xs) (let e : length xs * k + i ≡ i + length xs * k = omega arith in e) ∙ add-mul-mod_self_left i (length xs) k)
+rates_anew xs k i = ap (λ n. get_or xs n 0) (ap (λ n. n % length xs)
+    (let e : length xs * k + i ≡ i + length xs * k = omega arith in e) ∙ add-mul-mod_self_left i (length xs) k)
 
 pub sum_to_cycles : (xs : List ℕ) (k : ℕ) → sum_to (rate_at xs) (k * length xs) ≡ k * sum xs
 sum_to_cycles xs zero = let e : zero * length xs ≡ 0 = omega arith in ap (sum_to (rate_at xs)) e ∙ omega arith
 sum_to_cycles xs (suc k) =
     let e : suc k * length xs ≡ length xs * k + length xs = omega arith in
     let f : length xs * k ≡ k * length xs = omega arith in
-    let last : sum_to (λ n. rate_at xs (length xs * k + n)) (length xs) ≡ sum xs = sum_to_same _ (rate_at xs) (length xs) (λ i l. rates_anew xs k i) ∙ sum_to_cycle xs in
-    ap (sum_to (rate_at xs)) e ∙ (sum_to_add (rate_at xs) (length xs * k) (length xs) ∙ omega (arith, ap (sum_to (rate_at xs)) f, sum_to_cycles xs k, last))
+    let last : sum_to (λ n. rate_at xs (length xs * k + n)) (length xs) ≡ sum xs =
+    sum_to_same _ (rate_at xs) (length xs) (λ i l. rates_anew xs k i) ∙ sum_to_cycle xs in
+    ap (sum_to (rate_at xs)) e ∙ (sum_to_add (rate_at xs) (length xs * k) (length xs)
+    ∙ omega (arith, ap (sum_to (rate_at xs)) f, sum_to_cycles xs k, last))
 
 -- after whole cycles the sums begin anew
 pub sum_to_anew : (xs : List ℕ) (k i : ℕ) → sum_to (rate_at xs) (i + k * length xs) ≡ sum_to (rate_at xs) i + k * sum xs
 sum_to_anew xs k i =
     let e : i + k * length xs ≡ length xs * k + i = omega arith in
     let f : length xs * k ≡ k * length xs = omega arith in
-    ap (sum_to (rate_at xs)) e ∙ (sum_to_add (rate_at xs) (length xs * k) i ∙ omega (arith, ap (sum_to (rate_at xs)) f, sum_to_cycles xs k, sum_to_same (λ n. rate_at xs (length xs * k + n)) (rate_at xs) i (λ j l. rates_anew xs k j)))
+    ap (sum_to (rate_at xs)) e ∙ (sum_to_add (rate_at xs) (length xs * k) i
+    ∙ omega (
+      arith,
+      ap (sum_to (rate_at xs)) f,
+      sum_to_cycles xs k,
+      sum_to_same (λ n. rate_at xs (length xs * k + n)) (rate_at xs) i (λ j l. rates_anew xs k j),
+    ))
 
 -- sums follow their terms
 pub sum_within : ListsSumWithin

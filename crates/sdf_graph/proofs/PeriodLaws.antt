@@ -1,6 +1,7 @@
--- Whole cycles and their firings: the period vectors of a graph are the vectors that balance what cycles move, by the lengths of
--- the cycles.
-use Rattle.std.proofs.Common.{◌≡◌, ℕ, ◌*◌, ◌/◌, ◌≤◌, ◌<◌, List, length, get_or, map, sum, sym, ap, ◌∙◌, subst, inl, inr, ◌⊎◌, arith, zero-add}
+-- Whole cycles and their firings: the period vectors of a graph are the vectors that balance what cycles move, by the
+-- lengths of the cycles.
+use Rattle.std.proofs.Common.{◌≡◌, ℕ, ◌*◌, ◌/◌, ◌≤◌, ◌<◌, List, length, get_or, map, sum, sym, ap, ◌∙◌, subst, inl, inr}
+use Rattle.std.proofs.Common.{◌⊎◌, arith, zero-add}
 use Rattle.std.specs.List.{range_with_len}
 use Rattle.std.proofs.Math.Nat.{mul-div_cancel, mul-le-mul_left}
 use Rattle.std.proofs.lemmas.List.{get_or_past}
@@ -11,7 +12,8 @@ use Rattle.sdf_graph.specs.Periods.{IsPeriodVector, IsLeastPeriod, IsMultiple, I
 use Rattle.sdf_graph.specs.declared.fault.GraphFault.{GraphFault}
 use Rattle.sdf_graph.specs.declared.fault.GraphFault.TheVariants.{OutOfMemory, PeriodTooLong}
 use Rattle.sdf_graph.specs.declared.repetitions.Ratio.{Ratio}
-use Rattle.sdf_graph.specs.Shares.{IsCycleVector, AreShares, IsCommon, IsEven, IsScaleFault, ratio, firings, turns, totals}
+use Rattle.sdf_graph.specs.Shares.{IsCycleVector, AreShares, IsCommon, IsEven, IsScaleFault, ratio, firings, turns}
+use Rattle.sdf_graph.specs.Shares.{totals}
 use Rattle.sdf_graph.proofs.Cycles.{sum_within}
 use Rattle.sdf_graph.proofs.Shapes.{whole_cycles}
 use Rattle.sdf_graph.proofs.Faultless.{cycle_some}
@@ -26,24 +28,30 @@ module _ (g : Shape) (shape : IsShape g) where
   unfolding cycles_in
   cycles_all p = length-map-range_with_len (λ a. get_or p a 0 / cycle g a) 0 g.actors
 
-  whole_in : (p : List ℕ) → IsPeriodVector (rates g) p → (a : ℕ) → a < g.actors → get_or p a 0 ≡ get_or (cycles_in p) a 0 * cycle g a
+  whole_in : (p : List ℕ) → IsPeriodVector (rates g) p → (a : ℕ) → a < g.actors →
+      get_or p a 0 ≡ get_or (cycles_in p) a 0 * cycle g a
   unfolding cycles_in
   whole_in p period a l =
       let d = period.whole a l in
-      let is : get_or p a 0 / cycle g a ≡ d.0 = ap (λ n. n / cycle g a) d.1 ∙ mul-div_cancel d.0 (cycle_some g shape a) in
-      d.1 ∙ ap (λ k. k * cycle g a) (sym (get_or-map-range_with_len (λ a. get_or p a 0 / cycle g a) 0 g.actors a a 0 l (zero-add a) ∙ is))
+      let is : get_or p a 0 / cycle g a ≡ d.0 = ap (λ n. n / cycle g a) d.1
+      ∙ mul-div_cancel d.0 (cycle_some g shape a) in
+      d.1 ∙ ap (λ k. k * cycle g a) (sym (get_or-map-range_with_len (λ a. get_or p a 0 / cycle g a) 0 g.actors a a 0 l
+      (zero-add a) ∙ is))
 
   pub in_cycles : (p : List ℕ) → IsPeriodVector (rates g) p → IsCycleVector g (cycles_in p)
   in_cycles p period = record {
     all = cycles_all p;
-    positive = λ a l. some_scale (get_or (cycles_in p) a 0) (cycle g a) (get_or p a 0) (period.positive a l) (whole_in p period a l);
+    positive = λ a l. some_scale (get_or (cycles_in p) a 0) (cycle g a) (get_or p a 0) (period.positive a l)
+        (whole_in p period a l);
     balanced = λ c l.
         let from = (channel g c).from in
         let to = (channel g c).to in
         omega (
           arith,
-          whole_cycles _ _ (shape.put c l) (get_or (cycles_in p) from 0) (get_or p from 0) (whole_in p period from (shape.from_in c l)),
-          whole_cycles _ _ (shape.take c l) (get_or (cycles_in p) to 0) (get_or p to 0) (whole_in p period to (shape.to_in c l)),
+          whole_cycles _ _ (shape.put c l) (get_or (cycles_in p) from 0) (get_or p from 0)
+              (whole_in p period from (shape.from_in c l)),
+          whole_cycles _ _ (shape.take c l) (get_or (cycles_in p) to 0) (get_or p to 0)
+              (whole_in p period to (shape.to_in c l)),
           period.balanced c l,
         );
   }
@@ -53,14 +61,22 @@ module _ (g : Shape) (shape : IsShape g) where
   sum_in p period = sum_within (cycles_in p) p (cycles_all p ∙ sym period.all) (λ a. go a (cases_lt a g.actors))
     where
       go : (a : ℕ) → (a < g.actors) ⊎ (g.actors ≤ a) → get_or (cycles_in p) a 0 ≤ get_or p a 0
-      go a (inl l) = omega (arith, whole_in p period a l, mul-le-mul_left (get_or (cycles_in p) a 0) (let h : 1 ≤ cycle g a = omega (arith, cycle_some g shape a) in h))
-      go a (inr past) = let none : get_or (cycles_in p) a 0 ≡ 0 = get_or_past (cycles_in p) a 0 (omega (arith, cycles_all p)) in omega arith
+      go a (inl l) = omega (
+        arith,
+        whole_in p period a l,
+        mul-le-mul_left (get_or (cycles_in p) a 0) (let h : 1 ≤ cycle g a =
+            omega (arith, cycle_some g shape a) in h),
+      )
+      go a (inr past) = let none : get_or (cycles_in p) a 0 ≡ 0 =
+          get_or_past (cycles_in p) a 0 (omega (arith, cycles_all p)) in omega arith
 
   -- where no cycles balance, no firings do
-  pub none_long : ((p : List ℕ) → IsCycleVector g p → 65536 < sum p) → (p : List ℕ) → IsPeriodVector (rates g) p → 65536 < sum p
+  pub none_long : ((p : List ℕ) → IsCycleVector g p → 65536 < sum p) → (p : List ℕ) → IsPeriodVector (rates g) p →
+      65536 < sum p
   none_long long p period = omega (arith, long (cycles_in p) (in_cycles p period), sum_in p period)
 
-  module _ (cycles : List ℕ) (same : (a : ℕ) → a < g.actors → get_or cycles a 0 ≡ cycle g a) (parts : List Ratio) (walk : AreShares g parts)
+  module _ (cycles : List ℕ) (same : (a : ℕ) → a < g.actors → get_or cycles a 0 ≡ cycle g a) (parts : List Ratio)
+      (walk : AreShares g parts)
       (m : ℕ) (common : IsCommon parts (length parts) m)
       (evens : (c : ℕ) → c < length g.channels → IsEven parts (totals (channel g c))) where
     fired : List ℕ
@@ -80,20 +96,27 @@ module _ (g : Shape) (shape : IsShape g) where
     fired_at : (a : ℕ) → a < g.actors → get_or fired a 0 ≡ get_or turned a 0 * cycle g a
     unfolding fired turned
     fired_at a l =
-        get_or-map-range_with_len (firings cycles parts m) 0 (length parts) a a 0 (omega (arith, walk.all)) (zero-add a) ∙
-        omega (arith, ap (λ n. n * turns m (ratio parts a)) (same a l), ap (λ n. n * cycle g a) (entry g parts walk m common a l))
+        get_or-map-range_with_len (firings cycles parts m) 0 (length parts) a a 0
+        (omega (arith, walk.all)) (zero-add a) ∙
+        omega (
+          arith,
+          ap (λ n. n * turns m (ratio parts a)) (same a l),
+          ap (λ n. n * cycle g a) (entry g parts walk m common a l),
+        )
 
     are_period : IsPeriodVector (rates g) fired
     are_period = record {
       all = fired_all;
-      positive = λ a l. subst (λ n. 0 < n) (sym (fired_at a l)) (some_product (get_or turned a 0) (cycle g a) (turned_are.positive a l) (cycle_some g shape a));
+      positive = λ a l. subst (λ n. 0 < n) (sym (fired_at a l))
+          (some_product (get_or turned a 0) (cycle g a) (turned_are.positive a l) (cycle_some g shape a));
       whole = λ a l. (get_or turned a 0, fired_at a l);
       balanced = λ c l.
           let from = (channel g c).from in
           let to = (channel g c).to in
           omega (
             arith,
-            whole_cycles _ _ (shape.put c l) (get_or turned from 0) (get_or fired from 0) (fired_at from (shape.from_in c l)),
+            whole_cycles _ _ (shape.put c l) (get_or turned from 0) (get_or fired from 0)
+                (fired_at from (shape.from_in c l)),
             whole_cycles _ _ (shape.take c l) (get_or turned to 0) (get_or fired to 0) (fired_at to (shape.to_in c l)),
             turned_are.balanced c l,
           );
@@ -107,7 +130,12 @@ module _ (g : Shape) (shape : IsShape g) where
         k = multiple g parts walk m common (cycles_in p) (in_cycles p period) shape.some
 
         go : (a : ℕ) → (a < g.actors) ⊎ (g.actors ≤ a) → get_or p a 0 ≡ k.0 * get_or fired a 0
-        go a (inl l) = omega (arith, whole_in p period a l, ap (λ n. n * cycle g a) (k.1 a), ap (λ n. k.0 * n) (fired_at a l))
+        go a (inl l) = omega (
+          arith,
+          whole_in p period a l,
+          ap (λ n. n * cycle g a) (k.1 a),
+          ap (λ n. k.0 * n) (fired_at a l),
+        )
         go a (inr past) =
             let none : get_or p a 0 ≡ 0 = get_or_past p a 0 (omega (arith, period.all)) in
             let none' : get_or fired a 0 ≡ 0 = get_or_past fired a 0 (omega (arith, fired_all)) in
@@ -116,13 +144,17 @@ module _ (g : Shape) (shape : IsShape g) where
     least : IsLeastPeriod (rates g) fired
     least = record {
       is = are_period;
-      least = λ p period. sum_within fired p (fired_all ∙ sym period.all) (λ a. no_less p period a (cases_lt a g.actors));
+      least = λ p period. sum_within fired p (fired_all ∙ sym period.all)
+          (λ a. no_less p period a (cases_lt a g.actors));
       divides = multiple_of;
     }
       where
-        no_less : (p : List ℕ) → IsPeriodVector (rates g) p → (a : ℕ) → (a < g.actors) ⊎ (g.actors ≤ a) → get_or fired a 0 ≤ get_or p a 0
-        no_less p period a (inl l) = let k = multiple_of p period in no_greater (get_or fired a 0) (get_or p a 0) (period.positive a l) (k.0, k.1 a)
-        no_less p period a (inr past) = let none : get_or fired a 0 ≡ 0 = get_or_past fired a 0 (omega (arith, fired_all)) in omega arith
+        no_less : (p : List ℕ) → IsPeriodVector (rates g) p → (a : ℕ) → (a < g.actors) ⊎ (g.actors ≤ a) →
+            get_or fired a 0 ≤ get_or p a 0
+        no_less p period a (inl l) = let k = multiple_of p period in
+            no_greater (get_or fired a 0) (get_or p a 0) (period.positive a l) (k.0, k.1 a)
+        no_less p period a (inr past) = let none : get_or fired a 0 ≡ 0 =
+            get_or_past fired a 0 (omega (arith, fired_all)) in omega arith
 
     pub least_period : IsLeastPeriod (rates g) (map (firings cycles parts m) (range_with_len 0 (length parts)))
     unfolding fired

@@ -29,13 +29,17 @@ cycle_small n xs ok = omega (arith, moved_small n xs ok (length xs), sum_to_cycl
 pub whole_cycles : (n : ℕ) (xs : List ℕ) → IsCycle n xs → (k q : ℕ) → q ≡ k * n → sum_to (rate_at xs) q ≡ k * sum xs
 whole_cycles n xs ok k q e = ap (sum_to (rate_at xs)) (e ∙ ap (λ m. k * m) (sym ok.all)) ∙ sum_to_cycles xs k
 
-anew : (n : ℕ) (xs : List ℕ) → IsCycle n xs → (k q i : ℕ) → q ≡ k * n → sum_to (rate_at xs) (i + q) ≡ sum_to (rate_at xs) i + sum_to (rate_at xs) q
+anew : (n : ℕ) (xs : List ℕ) → IsCycle n xs → (k q i : ℕ) → q ≡ k * n →
+    sum_to (rate_at xs) (i + q) ≡ sum_to (rate_at xs) i + sum_to (rate_at xs) q
 anew n xs ok k q i e =
-    ap (λ m. sum_to (rate_at xs) (i + m)) (e ∙ ap (λ m. k * m) (sym ok.all)) ∙ omega (arith, sum_to_anew xs k i, whole_cycles n xs ok k q e)
+    ap (λ m. sum_to (rate_at xs) (i + m)) (e ∙ ap (λ m. k * m) (sym ok.all))
+    ∙ omega (arith, sum_to_anew xs k i, whole_cycles n xs ok k q e)
 
 pub period_of : GraphsHavePeriods
 period_of g q ok period = record {
   balanced = period.balanced;
-  produced_anew = λ c i l. let d = period.whole (channel g c).from (ok.from_in c l) in anew _ _ (ok.put c l) d.0 (get_or q (channel g c).from 0) i d.1;
-  consumed_anew = λ c i l. let d = period.whole (channel g c).to (ok.to_in c l) in anew _ _ (ok.take c l) d.0 (get_or q (channel g c).to 0) i d.1;
+  produced_anew = λ c i l. let d = period.whole (channel g c).from (ok.from_in c l) in
+      anew _ _ (ok.put c l) d.0 (get_or q (channel g c).from 0) i d.1;
+  consumed_anew = λ c i l. let d = period.whole (channel g c).to (ok.to_in c l) in
+      anew _ _ (ok.take c l) d.0 (get_or q (channel g c).to 0) i d.1;
 }

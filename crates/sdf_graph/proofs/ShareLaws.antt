@@ -1,7 +1,9 @@
 -- Shares, common denominators, and the vector that they give.
-use Rattle.std.proofs.Common.{◌≡◌, ℕ, zero, suc, ◌+◌, ◌*◌, ◌/◌, ◌≤◌, ◌<◌, Bool, true, false, List, length, get_or, map, sum, set, replicate, sym, ap, ◌∙◌, subst, inl, inr, ◌⊎◌, refl, arith}
+use Rattle.std.proofs.Common.{◌≡◌, ℕ, zero, suc, ◌+◌, ◌*◌, ◌/◌, ◌≤◌, ◌<◌, Bool, true, false, List, length, get_or, map}
+use Rattle.std.proofs.Common.{sum, set, replicate, sym, ap, ◌∙◌, subst, inl, inr, ◌⊎◌, refl, arith}
 use Rattle.std.proofs.Math.Nat.{mul-div_cancel, eq_of_mul-eq-mul_left, mul-le-mul_right}
-use Rattle.std.proofs.lemmas.List.{get_or-map, get_or_past, length-map, get_or-set_same, get_or-set_other, length-set, length-replicate, get_or-replicate}
+use Rattle.std.proofs.lemmas.List.{get_or-map, get_or_past, length-map, get_or-set_same, get_or-set_other, length-set}
+use Rattle.std.proofs.lemmas.List.{length-replicate, get_or-replicate}
 use Rattle.std.proofs.lemmas.List.Sums.{get_or-le-sum_by}
 use Rattle.std.proofs.lemmas.Bool.{cases_lt, cases_eq}
 use Rattle.sdf_graph.specs.Rates.{Shape, Edge, IsShape, channel, no_channel}
@@ -10,21 +12,30 @@ use Rattle.sdf_graph.specs.Marks.{is_marked, IsClosed}
 use Rattle.sdf_graph.proofs.Marks.{is_marked-kept, only_first, all_marked}
 use Rattle.sdf_graph.specs.declared.channel.Totals.{Totals}
 use Rattle.sdf_graph.specs.declared.repetitions.Ratio.{Ratio}
-use Rattle.sdf_graph.specs.Shares.{IsReduced, IsShare, IsSmall, IsWalk, AreShares, IsCommon, IsEven, IsCycleVector, ratio, unreached, turns, totals, no_totals}
+use Rattle.sdf_graph.specs.Shares.{IsReduced, IsShare, IsSmall, IsWalk, AreShares, IsCommon, IsEven, IsCycleVector}
+use Rattle.sdf_graph.specs.Shares.{ratio, unreached, turns, totals, no_totals}
 
 -- what channels move in a cycle, read by number
-pub totals_read : (chs : List Edge) (c : ℕ) → c < length chs → get_or (map totals chs) c no_totals ≡ totals (get_or chs c no_channel)
+pub totals_read : (chs : List Edge) (c : ℕ) → c < length chs →
+    get_or (map totals chs) c no_totals ≡ totals (get_or chs c no_channel)
 totals_read chs c l = get_or-map totals chs c no_channel no_totals l
 
-pub each_totals : (P : Totals → Type 0) (chs : List Edge) → ((c : ℕ) → c < length (map totals chs) → P (get_or (map totals chs) c no_totals)) → (c : ℕ) → c < length chs → P (totals (get_or chs c no_channel))
+pub each_totals : (P : Totals → Type 0) (chs : List Edge) →
+    ((c : ℕ) → c < length (map totals chs) → P (get_or (map totals chs) c no_totals)) → (c : ℕ) → c < length chs →
+    P (totals (get_or chs c no_channel))
 each_totals P chs all c l = subst P (totals_read chs c l) (all c (omega (arith, length-map chs totals)))
 
-pub all_totals : (P : Totals → Type 0) (chs : List Edge) → ((c : ℕ) → c < length chs → P (totals (get_or chs c no_channel))) → (c : ℕ) → c < length (map totals chs) → P (get_or (map totals chs) c no_totals)
-all_totals P chs all c l = let k : c < length chs = omega (arith, length-map chs totals) in subst P (sym (totals_read chs c k)) (all c k)
+pub all_totals : (P : Totals → Type 0) (chs : List Edge) →
+    ((c : ℕ) → c < length chs → P (totals (get_or chs c no_channel))) → (c : ℕ) → c < length (map totals chs) →
+    P (get_or (map totals chs) c no_totals)
+all_totals P chs all c l = let k : c < length chs = omega (arith, length-map chs totals) in
+    subst P (sym (totals_read chs c k)) (all c k)
 
 -- what a channel moves in a cycle, where it is read of the sums that a graph keeps
-pub totals_kept : (chs : List Edge) (kept : List Totals) (c : ℕ) (t : Totals) → kept ≡ map totals chs → c < length chs → t ≡ get_or kept c no_totals → totals (get_or chs c no_channel) ≡ t
-totals_kept chs kept c t sums l read = sym (totals_read chs c l) ∙ (ap (λ (xs : List Totals). get_or xs c no_totals) (sym sums) ∙ sym read)
+pub totals_kept : (chs : List Edge) (kept : List Totals) (c : ℕ) (t : Totals) → kept ≡ map totals chs → c < length chs →
+    t ≡ get_or kept c no_totals → totals (get_or chs c no_channel) ≡ t
+totals_kept chs kept c t sums l read = sym (totals_read chs c l)
+    ∙ (ap (λ (xs : List Totals). get_or xs c no_totals) (sym sums) ∙ sym read)
 
 -- a product of numbers above nothing is above nothing, and so are its factors
 pub some_factor : (s a n : ℕ) → 0 < n → n ≡ s * a → 0 < a
@@ -46,13 +57,21 @@ no_greater d n some (zero, e) = omega arith
 no_greater d n some (suc k, e) = omega (arith, mul-le-mul_right d (let h : 1 ≤ suc k = omega arith in h))
 
 -- a share goes over a channel: near is x turns, far is y
-pub share_over : (x y z gives takes num den a b : ℕ) → x * den ≡ z * num → gives * x ≡ takes * y → 0 < num * gives → IsReduced (num * gives) (den * takes) a b → y * b ≡ z * a
+pub share_over : (x y z gives takes num den a b : ℕ) → x * den ≡ z * num → gives * x ≡ takes * y → 0 < num * gives →
+    IsReduced (num * gives) (den * takes) a b → y * b ≡ z * a
 share_over x y z gives takes num den a b near even some red =
     eq_of_mul-eq-mul_left red.scale (some_scale red.scale a (num * gives) some red.top) (y * b) (z * a)
-    (omega (arith, ap (λ m. y * m) red.bottom, ap (λ m. z * m) red.top, ap (λ m. m * den) even, ap (λ m. m * gives) near))
+    (omega (
+      arith,
+      ap (λ m. y * m) red.bottom,
+      ap (λ m. z * m) red.top,
+      ap (λ m. m * den) even,
+      ap (λ m. m * gives) near,
+    ))
 
 -- one denominator more
-pub common_more : (parts : List Ratio) (i m a b : ℕ) → IsCommon parts i m → 0 < (ratio parts i).den → IsReduced m (ratio parts i).den a b → IsCommon parts (i + 1) (m * b)
+pub common_more : (parts : List Ratio) (i m a b : ℕ) → IsCommon parts i m → 0 < (ratio parts i).den →
+    IsReduced m (ratio parts i).den a b → IsCommon parts (i + 1) (m * b)
 common_more parts i m a b before some red = record {
   some = some_product m b before.some (some_factor red.scale b (ratio parts i).den some red.bottom);
   each = λ c h. go c (cases_lt c i) h;
@@ -63,7 +82,8 @@ common_more parts i m a b before some red = record {
     go c (inl early) h = let d = before.each c early in (d.0 * b, omega (arith, ap (λ m. m * b) d.1))
     go c (inr here) h =
         let is : i ≡ c = omega arith in
-        subst (λ c. Divides (ratio parts c).den (m * b)) is (a, omega (arith, ap (λ m. m * b) red.top, ap (λ m. a * m) red.bottom))
+        subst (λ c. Divides (ratio parts c).den (m * b)) is
+        (a, omega (arith, ap (λ m. m * b) red.top, ap (λ m. a * m) red.bottom))
 
     over : (x : ℕ) → Divides m x → Divides (ratio parts i).den x → Divides (m * b) x
     over x (u, eu) (v, ev) =
@@ -74,13 +94,16 @@ common_more parts i m a b before some red = record {
         (w.0, omega (arith, ap (λ n. n * m) w.1))
 
 -- a share that is over the limit makes each period longer
-pub too_long : (g : Shape) (a : ℕ) (f : Ratio) → a < g.actors → 0 < g.actors → IsShare g a f → (65536 < f.num) ⊎ (65536 < f.den) →
+pub too_long : (g : Shape) (a : ℕ) (f : Ratio) → a < g.actors → 0 < g.actors → IsShare g a f →
+    (65536 < f.num) ⊎ (65536 < f.den) →
     (p : List ℕ) → IsCycleVector g p → 65536 < sum p
 too_long g a f known any s (inl top) p period =
-    let d : f.num ≤ get_or p a 0 = no_greater f.num (get_or p a 0) (period.positive a known) (s.lowest.top (get_or p a 0) (get_or p 0 0) (s.share p period)) in
+    let d : f.num ≤ get_or p a 0 = no_greater f.num (get_or p a 0) (period.positive a known)
+    (s.lowest.top (get_or p a 0) (get_or p 0 0) (s.share p period)) in
     omega (arith, get_or-le-sum_by (λ x. x) p a 0 (omega (arith, period.all)))
 too_long g a f known any s (inr bottom) p period =
-    let d : f.den ≤ get_or p 0 0 = no_greater f.den (get_or p 0 0) (period.positive 0 any) (s.lowest.bottom (get_or p a 0) (get_or p 0 0) (s.share p period)) in
+    let d : f.den ≤ get_or p 0 0 = no_greater f.den (get_or p 0 0) (period.positive 0 any)
+    (s.lowest.bottom (get_or p a 0) (get_or p 0 0) (s.share p period)) in
     omega (arith, get_or-le-sum_by (λ x. x) p 0 0 (omega (arith, period.all)))
 
 module _ (g : Shape) (parts : List Ratio) (walk : AreShares g parts) where
@@ -88,14 +111,16 @@ module _ (g : Shape) (parts : List Ratio) (walk : AreShares g parts) where
   share_of a h = (walk.each a h).0
 
   -- what balances in some period balances by the shares
-  pub must_even : (p : List ℕ) → IsCycleVector g p → IsShape g → (c : ℕ) → c < length g.channels → IsEven parts (totals (channel g c))
+  pub must_even : (p : List ℕ) → IsCycleVector g p → IsShape g → (c : ℕ) → c < length g.channels →
+      IsEven parts (totals (channel g c))
   must_even p period shape c h =
       let s = totals (channel g c) in
       let near = (share_of s.from (shape.from_in c h)).share p period in
       let far = (share_of s.to (shape.to_in c h)).share p period in
       let even : s.put * get_or p s.from 0 ≡ s.take * get_or p s.to 0 = period.balanced c h in
       eq_of_mul-eq-mul_left (get_or p 0 0) (period.positive 0 shape.some)
-      ((ratio parts s.from).num * s.put * (ratio parts s.to).den) ((ratio parts s.to).num * s.take * (ratio parts s.from).den)
+      ((ratio parts s.from).num * s.put * (ratio parts s.to).den)
+      ((ratio parts s.to).num * s.take * (ratio parts s.from).den)
       (omega (
         arith,
         ap (λ m. m * (s.put * (ratio parts s.to).den)) near,
@@ -111,83 +136,121 @@ module _ (g : Shape) (parts : List Ratio) (walk : AreShares g parts) where
     is_turns a h = refl
 
     over : (a : ℕ) (h : a < g.actors) → m / (ratio parts a).den ≡ (factor a h).0
-    over a h = ap (λ n. n / (ratio parts a).den) (factor a h).1 ∙ mul-div_cancel (factor a h).0 (share_of a h).bottom_some
+    over a h = ap (λ n. n / (ratio parts a).den) (factor a h).1
+        ∙ mul-div_cancel (factor a h).0 (share_of a h).bottom_some
 
     times_den : (a : ℕ) → a < g.actors → turns m (ratio parts a) * (ratio parts a).den ≡ m * (ratio parts a).num
     times_den a h =
-        omega (arith, ap (λ n. n * (ratio parts a).num * (ratio parts a).den) (over a h), ap (λ n. n * (ratio parts a).num) (factor a h).1)
+        omega (
+          arith,
+          ap (λ n. n * (ratio parts a).num * (ratio parts a).den) (over a h),
+          ap (λ n. n * (ratio parts a).num) (factor a h).1,
+        )
 
     pub entry : (a : ℕ) → a < g.actors → get_or (map (turns m) parts) a 0 ≡ turns m (ratio parts a)
     entry a h = get_or-map (turns m) parts a unreached 0 (omega (arith, walk.all))
 
-    pub is_period : IsShape g → ((c : ℕ) → c < length g.channels → IsEven parts (totals (channel g c))) → IsCycleVector g (map (turns m) parts)
+    pub is_period : IsShape g → ((c : ℕ) → c < length g.channels → IsEven parts (totals (channel g c))) →
+        IsCycleVector g (map (turns m) parts)
     is_period shape evens = record {
       all = length-map parts (turns m) ∙ walk.all;
-      positive = λ a h. rw (entry a h, over a h) (some_product (factor a h).0 (ratio parts a).num (some_scale (factor a h).0 (ratio parts a).den m common.some (factor a h).1) (share_of a h).top_some);
+      positive = λ a h. rw (entry a h, over a h) (some_product (factor a h).0 (ratio parts a).num
+          (some_scale (factor a h).0 (ratio parts a).den m common.some (factor a h).1) (share_of a h).top_some);
       balanced = λ c h.
           let s = totals (channel g c) in
           let from = shape.from_in c h in
           let to = shape.to_in c h in
           rw (entry s.from from, entry s.to to)
-          (eq_of_mul-eq-mul_left ((ratio parts s.from).den * (ratio parts s.to).den) (some_product (ratio parts s.from).den (ratio parts s.to).den (share_of s.from from).bottom_some (share_of s.to to).bottom_some)
+          (eq_of_mul-eq-mul_left ((ratio parts s.from).den * (ratio parts s.to).den)
+          (some_product (ratio parts s.from).den (ratio parts s.to).den (share_of s.from from).bottom_some
+          (share_of s.to to).bottom_some)
           (s.put * turns m (ratio parts s.from)) (s.take * turns m (ratio parts s.to))
-          (omega (arith, ap (λ n. n * (s.put * (ratio parts s.to).den)) (times_den s.from from), ap (λ n. n * (s.take * (ratio parts s.from).den)) (times_den s.to to), ap (λ n. m * n) (evens c h))));
+          (omega (
+            arith,
+            ap (λ n. n * (s.put * (ratio parts s.to).den)) (times_den s.from from),
+            ap (λ n. n * (s.take * (ratio parts s.from).den)) (times_den s.to to),
+            ap (λ n. m * n) (evens c h),
+          )));
     }
 
     pub multiple : (p : List ℕ) → IsCycleVector g p → 0 < g.actors → IsMultiple p (map (turns m) parts)
     multiple p period any = (k.0, λ a. go a (cases_lt a g.actors))
       where
         k : Divides m (get_or p 0 0)
-        k = common.least (get_or p 0 0) (λ a h. let l : a < g.actors = omega (arith, walk.all) in (share_of a l).lowest.bottom (get_or p a 0) (get_or p 0 0) ((share_of a l).share p period))
+        k = common.least (get_or p 0 0) (λ a h. let l : a < g.actors = omega (arith, walk.all) in
+            (share_of a l).lowest.bottom (get_or p a 0) (get_or p 0 0) ((share_of a l).share p period))
 
         go : (a : ℕ) → (a < g.actors) ⊎ (g.actors ≤ a) → get_or p a 0 ≡ k.0 * get_or (map (turns m) parts) a 0
         go a (inl l) = rw entry
-            (eq_of_mul-eq-mul_left (ratio parts a).den (share_of a l).bottom_some (get_or p a 0) (k.0 * turns m (ratio parts a))
-            (omega (arith, (share_of a l).share p period, ap (λ n. n * (ratio parts a).num) k.1, ap (λ n. k.0 * n) (times_den a l))))
+            (eq_of_mul-eq-mul_left (ratio parts a).den (share_of a l).bottom_some (get_or p a 0)
+            (k.0 * turns m (ratio parts a))
+            (omega (
+              arith,
+              (share_of a l).share p period,
+              ap (λ n. n * (ratio parts a).num) k.1,
+              ap (λ n. k.0 * n) (times_den a l),
+            )))
         go a (inr past) =
             let none : get_or p a 0 ≡ 0 = get_or_past p a 0 (omega (arith, period.all)) in
-            let none' : get_or (map (turns m) parts) a 0 ≡ 0 = get_or_past (map (turns m) parts) a 0 (omega (arith, length-map parts (turns m), walk.all)) in
+            let none' : get_or (map (turns m) parts) a 0 ≡ 0 =
+            get_or_past (map (turns m) parts) a 0 (omega (arith, length-map parts (turns m), walk.all)) in
             none ∙ sym (ap (λ n. k.0 * n) none' ∙ omega arith)
 
 -- the share of the end that is not reached
-module _ (g : Shape) (shape : IsShape g) (parts : List Ratio) (marked : List Bool) (walk : IsWalk g parts marked) (c : ℕ) (h : c < length g.channels) (ch : Totals) (is : totals (channel g c) ≡ ch) (f : Ratio) where
+module _ (g : Shape) (shape : IsShape g) (parts : List Ratio) (marked : List Bool) (walk : IsWalk g parts marked)
+    (c : ℕ) (h : c < length g.channels) (ch : Totals) (is : totals (channel g c) ≡ ch) (f : Ratio) where
   even_on : (p : List ℕ) → IsCycleVector g p → ch.put * get_or p ch.from 0 ≡ ch.take * get_or p ch.to 0
-  even_on p period = subst (λ (ch : Totals). ch.put * get_or p ch.from 0 ≡ ch.take * get_or p ch.to 0) is (period.balanced c h)
+  even_on p period = subst (λ (ch : Totals). ch.put * get_or p ch.from 0 ≡ ch.take * get_or p ch.to 0) is
+      (period.balanced c h)
 
-  pub share_to : is_marked marked ch.from ≡ true → IsReduced ((ratio parts ch.from).num * ch.put) ((ratio parts ch.from).den * ch.take) f.num f.den → IsShare g ch.to f
+  pub share_to : is_marked marked ch.from ≡ true →
+      IsReduced ((ratio parts ch.from).num * ch.put) ((ratio parts ch.from).den * ch.take) f.num f.den →
+      IsShare g ch.to f
   share_to on red =
       let near = (walk.each ch.from (subst (λ (ch : Totals). ch.from < g.actors) is (shape.from_in c h)) on).0 in
       let put_some : 0 < ch.put = subst (λ (ch : Totals). 0 < ch.put) is (shape.put c h).moves in
       let take_some : 0 < ch.take = subst (λ (ch : Totals). 0 < ch.take) is (shape.take c h).moves in
-      let top : 0 < (ratio parts ch.from).num * ch.put = some_product (ratio parts ch.from).num ch.put near.top_some put_some in
-      let bottom : 0 < (ratio parts ch.from).den * ch.take = some_product (ratio parts ch.from).den ch.take near.bottom_some take_some in
+      let top : 0 < (ratio parts ch.from).num * ch.put =
+      some_product (ratio parts ch.from).num ch.put near.top_some put_some in
+      let bottom : 0 < (ratio parts ch.from).den * ch.take =
+      some_product (ratio parts ch.from).den ch.take near.bottom_some take_some in
       record {
         top_some = some_factor red.scale f.num ((ratio parts ch.from).num * ch.put) top red.top;
         bottom_some = some_factor red.scale f.den ((ratio parts ch.from).den * ch.take) bottom red.bottom;
         lowest = red.lowest;
-        share = λ p period. share_over (get_or p ch.from 0) (get_or p ch.to 0) (get_or p 0 0) ch.put ch.take (ratio parts ch.from).num (ratio parts ch.from).den f.num f.den (near.share p period) (even_on p period) top red;
+        share = λ p period. share_over (get_or p ch.from 0) (get_or p ch.to 0) (get_or p 0 0) ch.put ch.take
+            (ratio parts ch.from).num (ratio parts ch.from).den f.num f.den (near.share p period)
+            (even_on p period) top red;
       }
 
-  pub share_from : is_marked marked ch.to ≡ true → IsReduced ((ratio parts ch.to).num * ch.take) ((ratio parts ch.to).den * ch.put) f.num f.den → IsShare g ch.from f
+  pub share_from : is_marked marked ch.to ≡ true →
+      IsReduced ((ratio parts ch.to).num * ch.take) ((ratio parts ch.to).den * ch.put) f.num f.den → IsShare g ch.from f
   share_from on red =
       let near = (walk.each ch.to (subst (λ (ch : Totals). ch.to < g.actors) is (shape.to_in c h)) on).0 in
       let put_some : 0 < ch.put = subst (λ (ch : Totals). 0 < ch.put) is (shape.put c h).moves in
       let take_some : 0 < ch.take = subst (λ (ch : Totals). 0 < ch.take) is (shape.take c h).moves in
-      let top : 0 < (ratio parts ch.to).num * ch.take = some_product (ratio parts ch.to).num ch.take near.top_some take_some in
-      let bottom : 0 < (ratio parts ch.to).den * ch.put = some_product (ratio parts ch.to).den ch.put near.bottom_some put_some in
+      let top : 0 < (ratio parts ch.to).num * ch.take =
+      some_product (ratio parts ch.to).num ch.take near.top_some take_some in
+      let bottom : 0 < (ratio parts ch.to).den * ch.put =
+      some_product (ratio parts ch.to).den ch.put near.bottom_some put_some in
       record {
         top_some = some_factor red.scale f.num ((ratio parts ch.to).num * ch.take) top red.top;
         bottom_some = some_factor red.scale f.den ((ratio parts ch.to).den * ch.put) bottom red.bottom;
         lowest = red.lowest;
-        share = λ p period. share_over (get_or p ch.to 0) (get_or p ch.from 0) (get_or p 0 0) ch.take ch.put (ratio parts ch.to).num (ratio parts ch.to).den f.num f.den (near.share p period) (sym (even_on p period)) top red;
+        share = λ p period. share_over (get_or p ch.to 0) (get_or p ch.from 0) (get_or p 0 0) ch.take ch.put
+            (ratio parts ch.to).num (ratio parts ch.to).den f.num f.den (near.share p period)
+            (sym (even_on p period)) top red;
       }
 
 -- at first actor 0 alone has its share, which is one
-pub first_share : (g : Shape) (parts : List Ratio) (n : ℕ) → parts ≡ replicate g.actors (record { num = 1; den = 1 }) → 0 < g.actors → 0 < n → IsWalk g parts (set (replicate n false) 0 true)
+pub first_share : (g : Shape) (parts : List Ratio) (n : ℕ) → parts ≡ replicate g.actors (record { num = 1; den = 1 }) →
+    0 < g.actors → 0 < n → IsWalk g parts (set (replicate n false) 0 true)
 first_share g parts n are some marks = record {
   all = ap length are ∙ length-replicate g.actors _;
   begun = get_or-set_same (replicate n false) 0 true false (omega (arith, length-replicate n false));
-  each = λ a h on. subst (λ a. IsShare g a (ratio parts a) × IsSmall (ratio parts a)) (sym (only_first n a on)) (subst (λ (x : Ratio). IsShare g 0 x × IsSmall x) (sym one) (share, record { top = omega arith; bottom = omega arith }));
+  each = λ a h on. subst (λ a. IsShare g a (ratio parts a) × IsSmall (ratio parts a)) (sym (only_first n a on))
+      (subst (λ (x : Ratio). IsShare g 0 x × IsSmall x) (sym one)
+      (share, record { top = omega arith; bottom = omega arith }));
 }
   where
     one : ratio parts 0 ≡ record { num = 1; den = 1 }
@@ -202,29 +265,40 @@ first_share g parts n are some marks = record {
     }
 
 -- one actor more
-pub walk_more : (g : Shape) (parts : List Ratio) (marked : List Bool) (a : ℕ) (f : Ratio) → IsWalk g parts marked → a < length marked → IsShare g a f → IsSmall f → IsWalk g (set parts a f) (set marked a true)
+pub walk_more : (g : Shape) (parts : List Ratio) (marked : List Bool) (a : ℕ) (f : Ratio) → IsWalk g parts marked →
+    a < length marked → IsShare g a f → IsSmall f → IsWalk g (set parts a f) (set marked a true)
 walk_more g parts marked a f walk within share small = record {
   all = length-set parts a f ∙ walk.all;
   begun = is_marked-kept marked a 0 within walk.begun;
   each = λ b h on. each b h (cases_eq b a) on;
 }
   where
-    each : (b : ℕ) → b < g.actors → (b ≡ a) ⊎ (b ≡ a → ⊥) → is_marked (set marked a true) b ≡ true → IsShare g b (ratio (set parts a f) b) × IsSmall (ratio (set parts a f) b)
+    each : (b : ℕ) → b < g.actors → (b ≡ a) ⊎ (b ≡ a → ⊥) → is_marked (set marked a true) b ≡ true →
+        IsShare g b (ratio (set parts a f) b) × IsSmall (ratio (set parts a f) b)
     each b h (inl e) on =
-        let at : ratio (set parts a f) b ≡ f = ap (ratio (set parts a f)) e ∙ get_or-set_same parts a f unreached (omega (arith, walk.all)) in
+        let at : ratio (set parts a f) b ≡ f = ap (ratio (set parts a f)) e
+        ∙ get_or-set_same parts a f unreached (omega (arith, walk.all)) in
         subst (λ (x : Ratio). IsShare g b x × IsSmall x) (sym at) (subst (λ b. IsShare g b f) (sym e) share, small)
     each b h (inr ne) on =
         let same : ratio (set parts a f) b ≡ ratio parts b = get_or-set_other parts a b f unreached ne in
-        subst (λ (x : Ratio). IsShare g b x × IsSmall x) (sym same) (walk.each b h (sym (get_or-set_other marked a b true false ne) ∙ on))
+        subst (λ (x : Ratio). IsShare g b x × IsSmall x) (sym same)
+        (walk.each b h (sym (get_or-set_other marked a b true false ne) ∙ on))
 
 -- where no channel has one end marked and one not, all actors have their shares
-pub walked : (g : Shape) (shape : IsShape g) (parts : List Ratio) (marked : List Bool) → IsWalk g parts marked → IsClosed g.channels marked → AreShares g parts
-walked g shape parts marked walk closed = record { all = walk.all; each = λ a h. walk.each a h (all_marked g marked walk.begun closed a (shape.connected a h)) }
+pub walked : (g : Shape) (shape : IsShape g) (parts : List Ratio) (marked : List Bool) → IsWalk g parts marked →
+    IsClosed g.channels marked → AreShares g parts
+walked g shape parts marked walk closed = record {
+  all = walk.all;
+  each = λ a h. walk.each a h (all_marked g marked walk.begun closed a (shape.connected a h));
+}
 
 module _ (g : Shape) (shape : IsShape g) (parts : List Ratio) (walk : AreShares g parts) where
   -- no period where the common denominator is over the limit
-  pub no_common : ((n : ℕ) → 0 < n → ((a : ℕ) → a < length parts → Divides (ratio parts a).den n) → 65536 < n) → (p : List ℕ) → IsCycleVector g p → 65536 < sum p
+  pub no_common : ((n : ℕ) → 0 < n → ((a : ℕ) → a < length parts → Divides (ratio parts a).den n) → 65536 < n) →
+      (p : List ℕ) → IsCycleVector g p → 65536 < sum p
   no_common over p period =
       let first : 65536 < get_or p 0 0 = over (get_or p 0 0) (period.positive 0 shape.some)
-      (λ a h. let l : a < g.actors = omega (arith, walk.all) in (share_of g parts walk a l).lowest.bottom (get_or p a 0) (get_or p 0 0) ((share_of g parts walk a l).share p period)) in
+      (λ a h. let l : a < g.actors = omega (arith, walk.all) in
+      (share_of g parts walk a l).lowest.bottom (get_or p a 0) (get_or p 0 0)
+      ((share_of g parts walk a l).share p period)) in
       omega (arith, get_or-le-sum_by (λ x. x) p 0 0 (let l : 0 < length p = omega (arith, period.all, shape.some) in l))

@@ -1,9 +1,11 @@
 -- The faults of a graph, in the order of their tests. The first one that holds is the one that is answered.
-use Rattle.std.specs.Prelude.{◌≡◌, ℕ, ◌+◌, ◌<◌, ◌==◌, ◌&&◌, ◌||◌, Bool, true, List, [], ◌∷◌, length, sum, nat_le, nat_lt, Option, Some, None, if◌then◌else◌}
+use Rattle.std.specs.Prelude.{◌≡◌, ℕ, ◌+◌, ◌<◌, ◌==◌, ◌&&◌, ◌||◌, Bool, true, List, [], ◌∷◌, length, sum, nat_le}
+use Rattle.std.specs.Prelude.{nat_lt, Option, Some, None, if◌then◌else◌}
 use Rattle.sdf_limits.specs.declared.TheConstants.{MOST_ACTORS, MOST_LINKS, MOST_RATE, MOST_CYCLE, MOST_INITIAL}
 use Rattle.sdf_graph.specs.Rates.{Shape, Edge, IsReached, cycle_among}
 use Rattle.sdf_graph.specs.declared.fault.GraphFault.{GraphFault}
-use Rattle.sdf_graph.specs.declared.fault.GraphFault.TheVariants.{OutOfMemory, ActorCount, ChannelCount, BadEnd, BadRate, CycleLength, InitialCount, NotConnected}
+use Rattle.sdf_graph.specs.declared.fault.GraphFault.TheVariants.{OutOfMemory, ActorCount, ChannelCount, BadEnd}
+use Rattle.sdf_graph.specs.declared.fault.GraphFault.TheVariants.{BadRate, CycleLength, InitialCount, NotConnected}
 
 abbrev pub is_within : ℕ → ℕ → ℕ → Bool
 is_within least most n = nat_le least n && nat_le n most
@@ -50,7 +52,8 @@ or_else None next = next
 -- the first fault of the rest of some channels, the first of which is channel c
 abbrev pub channels_fault : ℕ → List Edge → ℕ → List Edge → Option GraphFault
 channels_fault actors channels c [] = None
-channels_fault actors channels c (e ∷ es) = or_else (channel_fault actors channels c e) (channels_fault actors channels (c + 1) es)
+channels_fault actors channels c (e ∷ es) = or_else (channel_fault actors channels c e)
+    (channels_fault actors channels (c + 1) es)
 
 -- the first fault of the numbers of a graph: how many actors, how many channels, and then each channel's in order
 abbrev pub numbers_fault : Shape → Option GraphFault

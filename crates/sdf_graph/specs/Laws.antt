@@ -10,7 +10,8 @@ GraphsAreSound = (g : Shape) → IsShape g → IsSound (rates g)
 
 -- its period vectors are periods
 abbrev pub GraphsHavePeriods : Type 0
-GraphsHavePeriods = (g : Shape) (q : List ℕ) → IsShape g → IsPeriodVector (rates g) q → IsPeriod (rates g) (slice_index q)
+GraphsHavePeriods = (g : Shape) (q : List ℕ) → IsShape g → IsPeriodVector (rates g) q →
+    IsPeriod (rates g) (slice_index q)
 
 -- there is one least period vector
 abbrev pub OneLeastPeriod : Type 0
@@ -18,11 +19,13 @@ OneLeastPeriod = (r : Rates) (p q : List ℕ) → IsLeastPeriod r p → IsLeastP
 
 -- the actor that fires last counts one more
 abbrev pub LastCountsMore : Type 0
-LastCountsMore = (w : List ℕ) (i a : ℕ) → i < length w → slice_index w i ≡ a → times (take (i + 1) w) a ≡ times (take i w) a + 1
+LastCountsMore = (w : List ℕ) (i a : ℕ) → i < length w → slice_index w i ≡ a →
+    times (take (i + 1) w) a ≡ times (take i w) a + 1
 
 -- and every other counts the same
 abbrev pub OthersCountSame : Type 0
-OthersCountSame = (w : List ℕ) (i a : ℕ) → i < length w → (slice_index w i ≡ a → ⊥) → times (take (i + 1) w) a ≡ times (take i w) a
+OthersCountSame = (w : List ℕ) (i a : ℕ) → i < length w → (slice_index w i ≡ a → ⊥) →
+    times (take (i + 1) w) a ≡ times (take i w) a
 
 -- the front of a sequence counts no more than the whole
 abbrev pub FrontsCountWithin : Type 0
@@ -46,7 +49,8 @@ CyclesBeginAnew = (xs : List ℕ) (k i : ℕ) → sum_to (rate_at xs) (i + k * l
 
 -- a list of numbers that are no greater has no greater sum
 abbrev pub ListsSumWithin : Type 0
-ListsSumWithin = (xs ys : List ℕ) → length xs ≡ length ys → ((a : ℕ) → slice_index xs a ≤ slice_index ys a) → sum xs ≤ sum ys
+ListsSumWithin = (xs ys : List ℕ) → length xs ≡ length ys → ((a : ℕ) → slice_index xs a ≤ slice_index ys a) →
+    sum xs ≤ sum ys
 
 -- a period's schedule can be repeated
 abbrev pub PeriodsRepeat : Type 0

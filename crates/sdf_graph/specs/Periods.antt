@@ -14,7 +14,8 @@ pub record IsPeriodVector (r : Rates) (q : List ℕ) : Type 0 where
   pub all : length q ≡ r.actors
   pub positive : (a : ℕ) → a < r.actors → 0 < slice_index q a
   pub whole : (a : ℕ) → a < r.actors → Divides (r.cycle a) (slice_index q a)
-  pub balanced : (c : ℕ) → c < r.channels → r.produced c (slice_index q (r.source c)) ≡ r.consumed c (slice_index q (r.target c))
+  pub balanced : (c : ℕ) → c < r.channels → r.produced c (slice_index q (r.source c)) ≡
+      r.consumed c (slice_index q (r.target c))
 
 -- p is some multiple of q
 abbrev pub IsMultiple : List ℕ → List ℕ → Type 0

@@ -1,5 +1,6 @@
 -- What the definitions and laws see of a graph: its shape, and how many samples firings move.
-use Rattle.std.specs.Prelude.{◌≡◌, ℕ, zero, suc, ◌+◌, ◌%◌, ◌≤◌, ◌<◌, ◌==◌, if◌then◌else◌, List, [], ◌∷◌, length, slice_index, slice_index_or, sum}
+use Rattle.std.specs.Prelude.{◌≡◌, ℕ, zero, suc, ◌+◌, ◌%◌, ◌≤◌, ◌<◌, ◌==◌, if◌then◌else◌, List, [], ◌∷◌, length}
+use Rattle.std.specs.Prelude.{slice_index, slice_index_or, sum}
 use Rattle.sdf_limits.specs.declared.TheConstants.{MOST_ACTORS, MOST_LINKS, MOST_RATE, MOST_CYCLE, MOST_INITIAL}
 
 -- the sum of the first i values
@@ -35,7 +36,8 @@ pub record IsSound (r : Rates) : Type 0 where
   pub produced_rises : (c i j : ℕ) → i ≤ j → r.produced c i ≤ r.produced c j
   pub consumed_rises : (c i j : ℕ) → i ≤ j → r.consumed c i ≤ r.consumed c j
 
--- a channel: the actors at its ends, what each firing of their cycles puts and takes, and how many samples it begins with
+-- a channel: the actors at its ends, what each firing of their cycles puts and takes, and how many samples it begins
+-- with
 pub record Edge : Type 0 where
   pub from : ℕ
   pub put : List ℕ
@@ -90,7 +92,8 @@ pub record IsCycle (n : ℕ) (rates : List ℕ) : Type 0 where
   pub moves : 0 < sum rates
   pub small : (i : ℕ) → slice_index rates i ≤ MOST_RATE
 
--- each channel's ends are actors, with a rate for each firing of their cycles, its numbers are small, and the graph is connected
+-- each channel's ends are actors, with a rate for each firing of their cycles, its numbers are small, and the graph is
+-- connected
 pub record IsShape (g : Shape) : Type 0 where
   pub some : 0 < g.actors
   pub few : g.actors ≤ MOST_ACTORS

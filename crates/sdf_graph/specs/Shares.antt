@@ -1,5 +1,6 @@
 -- What the walk over the channels knows: each reached actor's share of actor 0's cycles.
-use Rattle.std.specs.Prelude.{◌≡◌, ℕ, ◌*◌, ◌/◌, ◌≤◌, ◌<◌, Bool, true, List, length, map, sum, slice_index, slice_index_or}
+use Rattle.std.specs.Prelude.{◌≡◌, ℕ, ◌*◌, ◌/◌, ◌≤◌, ◌<◌, Bool, true, List, length, map, sum, slice_index}
+use Rattle.std.specs.Prelude.{slice_index_or}
 use Rattle.std.specs.List.{range_with_len}
 use Rattle.sdf_limits.specs.declared.TheConstants.{MOST_PERIOD}
 use Rattle.sdf_graph.specs.Rates.{Shape, Edge, channel}
@@ -21,7 +22,8 @@ no_totals = record { from = 0; put = 0; to = 0; take = 0 }
 pub record IsCycleVector (g : Shape) (p : List ℕ) : Type 0 where
   pub all : length p ≡ g.actors
   pub positive : (a : ℕ) → a < g.actors → 0 < slice_index p a
-  pub balanced : (c : ℕ) → c < length g.channels → sum (channel g c).put * slice_index p (channel g c).from ≡ sum (channel g c).take * slice_index p (channel g c).to
+  pub balanced : (c : ℕ) → c < length g.channels →
+      sum (channel g c).put * slice_index p (channel g c).from ≡ sum (channel g c).take * slice_index p (channel g c).to
 
 abbrev pub unreached : Ratio
 unreached = record { num = 0; den = 0 }
@@ -65,7 +67,8 @@ pub record IsWalk (g : Shape) (parts : List Ratio) (marked : List Bool) : Type 0
 
 -- the shares at the channel's ends balance it
 abbrev pub IsEven : List Ratio → Totals → Type 0
-IsEven parts c = (ratio parts c.from).num * c.put * (ratio parts c.to).den ≡ (ratio parts c.to).num * c.take * (ratio parts c.from).den
+IsEven parts c = (ratio parts c.from).num * c.put * (ratio parts c.to).den ≡
+    (ratio parts c.to).num * c.take * (ratio parts c.from).den
 
 -- m is the least number that the denominators of the first n parts divide: it divides every other
 pub record IsCommon (parts : List Ratio) (n m : ℕ) : Type 0 where
@@ -84,5 +87,6 @@ firings cycles parts m a = slice_index cycles a * turns m (ratio parts a)
 -- why the firings can't be given
 abbrev pub IsScaleFault : List ℕ → List Ratio → ℕ → GraphFault → Type 0
 IsScaleFault cycles parts m OutOfMemory = Unit {0}
-IsScaleFault cycles parts m PeriodTooLong = MOST_PERIOD < sum (map (firings cycles parts m) (range_with_len 0 (length parts)))
+IsScaleFault cycles parts m PeriodTooLong = MOST_PERIOD <
+    sum (map (firings cycles parts m) (range_with_len 0 (length parts)))
 IsScaleFault cycles parts m _ = ⊥

@@ -11,9 +11,9 @@ use crate::fault::GraphFault;
 use sdf_limits::{MOST_CYCLE, MOST_INITIAL, MOST_RATE};
 use std::marker::Model;
 
-/// A channel from an actor to another one or to itself. Each actor has a cycle of firings, and firing `i` of a cycle of `n`
-/// moves what stands at `i % n` in a list of `n` rates: of `put` what `from` puts, of `take` what `to` takes. The channel
-/// begins with `initial` samples (the delays of Lee and Messerschmitt).
+/// A channel from an actor to another one or to itself. Each actor has a cycle of firings, and firing `i` of a cycle of
+/// `n` moves what stands at `i % n` in a list of `n` rates: of `put` what `from` puts, of `take` what `to` takes. The
+/// channel begins with `initial` samples (the delays of Lee and Messerschmitt).
 #[derive(Drop)]
 pub struct Channel {
     pub from: usize,
@@ -28,7 +28,13 @@ impl Model for Channel {
 
     ghost Value = { Edge };
 
-    ghost view = { λ c. record { from = c.from; put = c.put.items; to = c.to; take = c.take.items; initial = c.initial } };
+    ghost view = { λ c. record {
+      from = c.from;
+      put = c.put.items;
+      to = c.to;
+      take = c.take.items;
+      initial = c.initial;
+    } };
 }
 
 /// What a channel moves in a cycle of the actor at each end.

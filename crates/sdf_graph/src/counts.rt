@@ -1,6 +1,7 @@
 //! Token counts: how many samples each channel holds after some firings.
 
-ghost use Rattle.std.specs.Prelude.{◌≡◌, ℕ, ◌+◌, ◌-◌, ◌^◌, ◌≤◌, ◌<◌, ◌↔◌, length, replicate, slice_index, slice_index_or, slice_set, IfOk, MatchOption, IsTrue};
+ghost use Rattle.std.specs.Prelude.{◌≡◌, ℕ, ◌+◌, ◌-◌, ◌^◌, ◌≤◌, ◌<◌, ◌↔◌, length, replicate, slice_index};
+ghost use Rattle.std.specs.Prelude.{slice_index_or, slice_set, IfOk, MatchOption, IsTrue};
 ghost use Rattle.sdf_graph.specs.Rates.{rates, channel, no_channel, rate_at, IsCycle};
 ghost use Rattle.sdf_graph.specs.Sequences.{tokens, IsEnabled, IsShortChannel};
 ghost use Rattle.sdf_graph.specs.Tally.{counts};
@@ -72,7 +73,8 @@ impl<'a> Counts<'a> {
     /// The lowest channel into an actor that holds less than it takes.
     pub fn short_channel(&self, actor: usize) -> Option<usize>
         requires { actor < self.now.graph.actors }
-        ensures { MatchOption result (IsEnabled (rates self.now.graph) (counts self.now) actor) (IsShortChannel (rates self.now.graph) (counts self.now) actor) }
+        ensures { MatchOption result (IsEnabled (rates self.now.graph) (counts self.now) actor)
+            (IsShortChannel (rates self.now.graph) (counts self.now) actor) }
     {
         let graph = self.graph;
         first_short(
@@ -101,7 +103,8 @@ fn first_short(channels: &[Channel], i: u32, numbers: &[usize], held: &[u64]) ->
     requires all { length held.now ≡ length channels.now }
     requires known { (j : ℕ) → j < length numbers.now → slice_index numbers.now j < length channels.now }
     requires cycles { (c : ℕ) → c < length channels.now → 0 < length (slice_index_or channels.now c no_channel).take }
-    ensures { MatchOption result (HoldEnough channels.now i held.now numbers.now (length numbers.now)) (IsFirstShort channels.now i held.now numbers.now) }
+    ensures { MatchOption result (HoldEnough channels.now i held.now numbers.now (length numbers.now))
+        (IsFirstShort channels.now i held.now numbers.now) }
 {
     for &number in numbers {
         let channel = &channels[number];
@@ -116,9 +119,12 @@ fn first_short(channels: &[Channel], i: u32, numbers: &[usize], held: &[u64]) ->
 fn move_all(graph: &Graph, actor: usize, i: u32, held: &mut [u64])
     requires known { actor < graph.now.actors }
     requires all { length held.old ≡ length graph.now.channels }
-    requires room { (c : ℕ) → c < length graph.now.channels → slice_index held.old c + rate_at (channel graph.now c).put i < 2 ^ 64 }
-    requires enough { (c : ℕ) → c < length graph.now.channels → (channel graph.now c).to ≡ actor → rate_at (channel graph.now c).take i ≤ slice_index held.old c }
-    ensures { (c : ℕ) → c < length graph.now.channels → slice_index held.new c ≡ moved (channel graph.now c) actor i (slice_index held.old c) }
+    requires room { (c : ℕ) → c < length graph.now.channels →
+        slice_index held.old c + rate_at (channel graph.now c).put i < 2 ^ 64 }
+    requires enough { (c : ℕ) → c < length graph.now.channels → (channel graph.now c).to ≡ actor →
+        rate_at (channel graph.now c).take i ≤ slice_index held.old c }
+    ensures { (c : ℕ) → c < length graph.now.channels →
+        slice_index held.new c ≡ moved (channel graph.now c) actor i (slice_index held.old c) }
 {
     let channels = graph.channels();
     move_tokens(channels, graph.incoming(actor), End::Target, i, held);
@@ -132,7 +138,9 @@ fn move_tokens(channels: &[Channel], numbers: &[usize], end: End, i: u32, held: 
     requires known { (j : ℕ) → j < length numbers.now → slice_index numbers.now j < length channels.now }
     requires puts { (c : ℕ) → c < length channels.now → 0 < length (slice_index_or channels.now c no_channel).put }
     requires takes { (c : ℕ) → c < length channels.now → 0 < length (slice_index_or channels.now c no_channel).take }
-    requires can { (j : ℕ) → j < length numbers.now → CanMove end (slice_index_or channels.now (slice_index numbers.now j) no_channel) i (slice_index held.old (slice_index numbers.now j)) }
+    requires can { (j : ℕ) → j < length numbers.now →
+        CanMove end (slice_index_or channels.now (slice_index numbers.now j) no_channel) i
+        (slice_index held.old (slice_index numbers.now j)) }
     ensures { AreMoved channels.now end i numbers.now (length numbers.now) held.old held.new }
 {
     for &number in numbers {

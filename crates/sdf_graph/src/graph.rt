@@ -38,15 +38,17 @@ impl Model for Graph {
 
     ghost view = { λ g. record { actors = g.actors; channels = g.channels.items } };
 
-    ghost invariant = { λ g. IsGraph (record { actors = g.actors; channels = g.channels.items }) g.totals.items g.cycles.items (map (λ list. list.items) g.outgoing.items) (map (λ list. list.items) g.incoming.items) };
+    ghost invariant = { λ g. IsGraph (record { actors = g.actors; channels = g.channels.items }) g.totals.items
+        g.cycles.items (map (λ list. list.items) g.outgoing.items) (map (λ list. list.items) g.incoming.items) };
 }
 
 impl Graph {
     /// A graph of 1 to 64 actors and at most 256 channels.
     ///
     /// A fault is the first in this order: the number of actors, the number of channels, then for each channel in order
-    /// its ends, its rates (at most 1,024, and not all 0), the lengths of its lists (1 to 64, and that of the first list of
-    /// the same actor) and its initial samples (at most 65,536), and then the lowest actor that is not joined to actor 0.
+    /// its ends, its rates (at most 1,024, and not all 0), the lengths of its lists (1 to 64, and that of the first
+    /// list of the same actor) and its initial samples (at most 65,536), and then the lowest actor that is not joined
+    /// to actor 0.
     pub fn new(alloc: Global, actors: usize, channels: Vec<Channel>) -> Result<Graph, GraphFault>
         ensures { let shape : Shape = record { actors = actors; channels = channels.items } in
             MatchResult result (λ graph. (graph ≡ shape) × IsFaultless shape) (IsFirstFault shape) }
@@ -94,7 +96,8 @@ impl Graph {
         self.cycles[actor]
     }
 
-    /// The numbers of the channels that come from an actor, in rising order. One from the actor to itself is among them.
+    /// The numbers of the channels that come from an actor, in rising order. One from the actor to itself is among
+    /// them.
     pub fn outgoing(&self, actor: usize) -> &[usize]
         requires { actor < self.now.actors }
         ensures { AreOutgoing (rates self.now) actor result.now }
@@ -137,8 +140,12 @@ fn numbers_fault(actors: usize, channels: &[Channel]) -> Option<GraphFault>
 
 /// What each channel moves in a cycle of the actor at each end.
 fn totals_of(alloc: Global, channels: &[Channel]) -> Result<Vec<Totals>, AllocError>
-    requires put { (c : ℕ) → c < length channels.now → IsCycle (cycle_among channels.now (slice_index_or channels.now c no_channel).from) (slice_index_or channels.now c no_channel).put }
-    requires take { (c : ℕ) → c < length channels.now → IsCycle (cycle_among channels.now (slice_index_or channels.now c no_channel).to) (slice_index_or channels.now c no_channel).take }
+    requires put { (c : ℕ) → c < length channels.now →
+        IsCycle (cycle_among channels.now (slice_index_or channels.now c no_channel).from)
+        (slice_index_or channels.now c no_channel).put }
+    requires take { (c : ℕ) → c < length channels.now →
+        IsCycle (cycle_among channels.now (slice_index_or channels.now c no_channel).to)
+        (slice_index_or channels.now c no_channel).take }
     ensures { IfOk result (λ v. v.items ≡ map totals channels.now) }
 {
     let mut all = Vec::new(alloc);
@@ -153,7 +160,8 @@ fn totals_of(alloc: Global, channels: &[Channel]) -> Result<Vec<Totals>, AllocEr
 /// How many firings the cycle of each actor has.
 fn cycles_of(alloc: Global, actors: usize, channels: &[Channel]) -> Result<Vec<u32>, AllocError>
     requires { (a : ℕ) → cycle_among channels.now a < 2 ^ 32 }
-    ensures { IfOk result (λ v. (length v.items ≡ actors) × ((a : ℕ) → a < actors → slice_index v.items a ≡ cycle_among channels.now a)) }
+    ensures { IfOk result (λ v. (length v.items ≡ actors)
+        × ((a : ℕ) → a < actors → slice_index v.items a ≡ cycle_among channels.now a)) }
 {
     let mut cycles = Vec::new(alloc);
     for actor in 0..actors {

@@ -11,7 +11,8 @@ use sdf_limits::MOST_ACTORS;
 /// The lowest actor that channels, walked both ways, do not join to actor 0.
 pub(crate) fn lowest_unreached(actors: usize, channels: &[Channel]) -> Option<usize>
     requires { numbers_fault (record { actors = actors; channels = channels.now }) ≡ None }
-    ensures { let shape : Shape = record { actors = actors; channels = channels.now } in MatchOption result (IsConnected shape) (IsLowestUnreached shape) }
+    ensures { let shape : Shape = record { actors = actors; channels = channels.now } in
+        MatchOption result (IsConnected shape) (IsLowestUnreached shape) }
 {
     let marked = reached(actors, channels);
     for actor in 0..actors {
@@ -38,8 +39,11 @@ fn reached(actors: usize, channels: &[Channel]) -> [bool; MOST_ACTORS]
 
 /// The number of a channel with one end that is marked and one that is not, and the actor that is not.
 pub(crate) fn border(channels: &[Channel], marked: &[bool]) -> Option<(usize, usize)>
-    requires { (c : ℕ) → c < length channels.now → IsJoin (length marked.now) (slice_index_or channels.now c no_channel).from (slice_index_or channels.now c no_channel).to }
-    ensures { MatchOption result (IsClosed channels.now marked.now) (λ found. IsBorder channels.now marked.now found.0 found.1) }
+    requires { (c : ℕ) → c < length channels.now →
+        IsJoin (length marked.now) (slice_index_or channels.now c no_channel).from
+        (slice_index_or channels.now c no_channel).to }
+    ensures { MatchOption result (IsClosed channels.now marked.now)
+        (λ found. IsBorder channels.now marked.now found.0 found.1) }
 {
     for (number, channel) in channels.iter().enumerate() {
         if marked[channel.from] && !marked[channel.to] {

@@ -1,12 +1,14 @@
 // The least period vector: fractions of actor 0's firings, walked over the channels.
 
-ghost use Rattle.std.specs.Prelude.{◌≡◌, ℕ, ◌*◌, ◌≤◌, ◌<◌, ◌≢◌, ◌↔◌, List, length, map, sum, sum_by, slice_index, slice_index_or, IsTrue, MatchOption, MatchResult, IfOk};
+ghost use Rattle.std.specs.Prelude.{◌≡◌, ℕ, ◌*◌, ◌≤◌, ◌<◌, ◌≢◌, ◌↔◌, List, length, map, sum, sum_by, slice_index};
+ghost use Rattle.std.specs.Prelude.{slice_index_or, IsTrue, MatchOption, MatchResult, IfOk};
 ghost use Rattle.std.specs.Int.{IsGcd};
 ghost use Rattle.sdf_graph.specs.Rates.{Shape, IsShape, rates};
 ghost use Rattle.sdf_graph.specs.Periods.{Divides, IsPeriodFault, IsLeastPeriod};
 ghost use Rattle.std.specs.List.{range_with_len};
 ghost use Rattle.sdf_graph.specs.Marks.{IsBorder};
-ghost use Rattle.sdf_graph.specs.Shares.{ratio, IsReduced, IsShare, IsSmall, IsWalk, AreShares, IsEven, IsCommon, firings, IsScaleFault, no_totals};
+ghost use Rattle.sdf_graph.specs.Shares.{ratio, IsReduced, IsShare, IsSmall, IsWalk, AreShares, IsEven, IsCommon};
+ghost use Rattle.sdf_graph.specs.Shares.{firings, IsScaleFault, no_totals};
 
 use crate::channel::Totals;
 use crate::fault::GraphFault;
@@ -54,11 +56,15 @@ fn reduced(num: u64, den: u64) -> Ratio
 
 /// The lowest channel that the fractions do not balance.
 fn uneven(channels: &[Totals], parts: &[Ratio]) -> Option<usize>
-    requires from_in { (c : ℕ) → c < length channels.now → (slice_index_or channels.now c no_totals).from < length parts.now }
-    requires to_in { (c : ℕ) → c < length channels.now → (slice_index_or channels.now c no_totals).to < length parts.now }
+    requires from_in { (c : ℕ) → c < length channels.now →
+        (slice_index_or channels.now c no_totals).from < length parts.now }
+    requires to_in { (c : ℕ) → c < length channels.now →
+        (slice_index_or channels.now c no_totals).to < length parts.now }
     requires small { (a : ℕ) → a < length parts.now → IsSmall (ratio parts.now a) }
-    requires put_small { (c : ℕ) → c < length channels.now → (slice_index_or channels.now c no_totals).put ≤ MOST_RATE * MOST_CYCLE }
-    requires take_small { (c : ℕ) → c < length channels.now → (slice_index_or channels.now c no_totals).take ≤ MOST_RATE * MOST_CYCLE }
+    requires put_small { (c : ℕ) → c < length channels.now →
+        (slice_index_or channels.now c no_totals).put ≤ MOST_RATE * MOST_CYCLE }
+    requires take_small { (c : ℕ) → c < length channels.now →
+        (slice_index_or channels.now c no_totals).take ≤ MOST_RATE * MOST_CYCLE }
     ensures { MatchOption result
         ((c : ℕ) → c < length channels.now → IsEven parts.now (slice_index_or channels.now c no_totals))
         (λ c. (c < length channels.now) × (IsEven parts.now (slice_index_or channels.now c no_totals) → ⊥)) }
@@ -126,7 +132,8 @@ fn scaled(
     requires short { (a : ℕ) → slice_index cycles.now a ≤ MOST_CYCLE }
     requires each { (a : ℕ) → a < length parts.now → (0 < (ratio parts.now a).den) × IsSmall (ratio parts.now a) }
     ensures { MatchResult result
-        (λ q. (q ≡ map (firings cycles.now parts.now all) (range_with_len 0 (length parts.now))) × (sum q ≤ MOST_PERIOD))
+        (λ q. (q ≡ map (firings cycles.now parts.now all) (range_with_len 0 (length parts.now)))
+        × (sum q ≤ MOST_PERIOD))
         (IsScaleFault cycles.now parts.now all) }
 {
     let mut of = Vec::with_capacity(alloc, parts.len())?;

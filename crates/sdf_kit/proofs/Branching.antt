@@ -1,5 +1,6 @@
 -- Tables of branches, and sums of absolute values.
-use Rattle.std.proofs.Common.{◌≡◌, ℕ, zero, suc, ◌+◌, ◌-◌, ◌*◌, ◌/◌, ◌%◌, ◌<◌, ◌≤◌, ℤ, pos, List, [], ◌∷◌, length, map, take, drop, get_or, unsigned_abs, FitsSigned, refl, sym, ap, subst, ◌∙◌, arith, ⊎_elim}
+use Rattle.std.proofs.Common.{◌≡◌, ℕ, zero, suc, ◌+◌, ◌-◌, ◌*◌, ◌/◌, ◌%◌, ◌<◌, ◌≤◌, ℤ, pos, List, [], ◌∷◌, length, map}
+use Rattle.std.proofs.Common.{take, drop, get_or, unsigned_abs, FitsSigned, refl, sym, ap, subst, ◌∙◌, arith, ⊎_elim}
 use Rattle.std.specs.Int.{w16}
 use Rattle.std.specs.List.{range_with_len}
 use Rattle.std.specs.Simd.Lanes.{Each1}
@@ -21,19 +22,23 @@ module _ (taps : List ℤ) (up width p n : ℕ) where
   abbrev table : List ℤ
   table = map (place_tap taps up width) (range_with_len 0 n)
 
-  place : (k : ℕ) → p * width + width ≤ n → k < width → get_or (take width (drop (p * width) table)) k (pos 0) ≡ get_or taps (p + (width - 1 - k) * up) (pos 0)
+  place : (k : ℕ) → p * width + width ≤ n → k < width →
+      get_or (take width (drop (p * width) table)) k (pos 0) ≡ get_or taps (p + (width - 1 - k) * up) (pos 0)
   place k room l =
       let row : (p * width + k) / width ≡ p = div-mul-add p width k l in
       let column : (p * width + k) % width ≡ k = mod-mul-add p width k l in
-      let same : place_tap taps up width (p * width + k) ≡ get_or taps (p + (width - 1 - k) * up) (pos 0) = rw (row, column) refl in
+      let same : place_tap taps up width (p * width + k) ≡ get_or taps (p + (width - 1 - k) * up) (pos 0) =
+      rw (row, column) refl in
       get_or-take width (drop (p * width) table) k (pos 0) l ∙ (get_or-drop (p * width) table k (pos 0) ∙
-      (get_or-map-range_with_len (place_tap taps up width) 0 n (p * width + k) (p * width + k) (pos 0) (omega arith) (omega arith) ∙ same))
+      (get_or-map-range_with_len (place_tap taps up width) 0 n (p * width + k) (p * width + k) (pos 0) (omega arith)
+      (omega arith) ∙ same))
 
   pub slice_is : p * width + width ≤ n → take width (drop (p * width) table) ≡ branch taps up p width
   slice_is room =
       let whole : length table ≡ n = length-map-range_with_len (place_tap taps up width) 0 n in
       let rest : length (drop (p * width) table) ≡ length table - p * width = length-drop (p * width) table in
-      fill_by_all (λ i. get_or taps (p + (width - 1 - i) * up) (pos 0)) (take width (drop (p * width) table)) width (pos 0) (length-take-le width (drop (p * width) table) (omega arith)) (λ k l. place k room l)
+      fill_by_all (λ i. get_or taps (p + (width - 1 - i) * up) (pos 0)) (take width (drop (p * width) table)) width
+      (pos 0) (length-take-le width (drop (p * width) table) (omega arith)) (λ k l. place k room l)
 
 pub each1 : (P : ℤ → Type 0) (xs : List ℤ) → ((k : ℕ) → k < length xs → P (get_or xs k (pos 0))) → Each1 P xs
 each1 P [] each = tt
@@ -41,22 +46,28 @@ each1 P (x ∷ xs) each = (each 0 (omega arith), each1 P xs (λ k l. each (suc k
 
 -- a tap, or none, has 16 bits
 pub tap_short : (taps : List ℤ) (at : ℕ) → AreTaps taps → FitsSigned w16 (get_or taps at (pos 0))
-tap_short taps at are = ⊎_elim (λ l. are.small at l) (λ l. let none = get_or_past taps at (pos 0) l in subst (λ z. FitsSigned w16 z) (sym none) (record { sfits = omega arith })) (cases_lt at (length taps))
+tap_short taps at are = ⊎_elim (λ l. are.small at l)
+    (λ l. let none = get_or_past taps at (pos 0) l in
+    subst (λ z. FitsSigned w16 z) (sym none) (record { sfits = omega arith })) (cases_lt at (length taps))
 
 pub branch_short : (taps : List ℤ) (up p n : ℕ) → AreTaps taps → Each1 (FitsSigned w16) (branch taps up p n)
 branch_short taps up p n are =
     each1 (FitsSigned w16) (branch taps up p n) (λ k l.
-    let long : length (branch taps up p n) ≡ n = length-map-range_with_len (λ i. get_or taps (p + (n - 1 - i) * up) (pos 0)) 0 n in
-    let is = get_or-map-range_with_len (λ i. get_or taps (p + (n - 1 - i) * up) (pos 0)) 0 n k k (pos 0) (omega arith) (omega arith) in
+    let long : length (branch taps up p n) ≡ n = length-map-range_with_len
+    (λ i. get_or taps (p + (n - 1 - i) * up) (pos 0)) 0 n in
+    let is = get_or-map-range_with_len (λ i. get_or taps (p + (n - 1 - i) * up) (pos 0)) 0 n k k (pos 0) (omega arith)
+    (omega arith) in
     subst (λ z. FitsSigned w16 z) (sym is) (tap_short taps (p + (n - 1 - k) * up) are))
 
 -- one number more
-pub total_abs_more : (xs : List ℤ) (i : ℕ) → i < length xs → total_abs (take (i + 1) xs) ≡ total_abs (take i xs) + unsigned_abs (get_or xs i (pos 0))
+pub total_abs_more : (xs : List ℤ) (i : ℕ) → i < length xs →
+    total_abs (take (i + 1) xs) ≡ total_abs (take i xs) + unsigned_abs (get_or xs i (pos 0))
 total_abs_more [] i l = absurd (omega arith)
 total_abs_more (x ∷ xs) zero l = omega arith
 total_abs_more (x ∷ xs) (suc i) l =
     let e : suc i + 1 ≡ suc (i + 1) = omega arith in
-    let ih : total_abs (take (i + 1) xs) ≡ total_abs (take i xs) + unsigned_abs (get_or xs i (pos 0)) = total_abs_more xs i (omega arith) in
+    let ih : total_abs (take (i + 1) xs) ≡ total_abs (take i xs) + unsigned_abs (get_or xs i (pos 0)) =
+    total_abs_more xs i (omega arith) in
     rw e (omega arith)
 
 -- so many lanes hold each branch, and so many places all branches
@@ -66,7 +77,8 @@ pub record Fits (kept up width : ℕ) : Type 0 where
   pub few : width ≤ 1024
   pub room : up * width ≤ 1536
 
-pub width_fits : (len up : ℕ) → 1 ≤ len → len ≤ 1024 → 1 ≤ up → up ≤ 64 → Fits ((len - 1) / up) up (((len - 1) / up + 8) / 8 * 8)
+pub width_fits : (len up : ℕ) → 1 ≤ len → len ≤ 1024 → 1 ≤ up → up ≤ 64 →
+    Fits ((len - 1) / up) up (((len - 1) / up + 8) / 8 * 8)
 width_fits len up some few up_some up_few =
     let kept : ℕ = (len - 1) / up in
     let back : kept * up + (len - 1) % up ≡ len - 1 = div-add-mod' (len - 1) up in
@@ -78,8 +90,10 @@ width_fits len up some few up_some up_few =
     let parts : (kept + 8) * up ≡ kept * up + 8 * up = add-mul kept 8 up in
     record { lanes = omega arith; more = omega arith; few = omega arith; room = omega arith }
 
-pub branches_are : (taps table : List ℤ) (up width peak gain : ℕ) → AreTaps taps → Fits ((length taps - 1) / up) up width → table ≡ map (place_tap taps up width) (range_with_len 0 1536) →
-    ((p : ℕ) → p < up → total_abs (take width (drop (p * width) table)) ≤ gain) → gain * peak ≤ 2147467263 → peak ≤ 32767 →
+pub branches_are : (taps table : List ℤ) (up width peak gain : ℕ) → AreTaps taps →
+    Fits ((length taps - 1) / up) up width → table ≡ map (place_tap taps up width) (range_with_len 0 1536) →
+    ((p : ℕ) → p < up → total_abs (take width (drop (p * width) table)) ≤ gain) → gain * peak ≤ 2147467263 →
+    peak ≤ 32767 →
     AreBranches taps up (record { table = table; width = width; peak = peak })
 branches_are taps table up width peak gain are fits is greatest quiet small =
     let long : length table ≡ 1536 = ap length is ∙ length-map-range_with_len (place_tap taps up width) 0 1536 in
@@ -90,7 +104,8 @@ branches_are taps table up width peak gain are fits is greatest quiet small =
         few = fits.few;
         room = let room = fits.room in omega arith;
         short = λ p l. subst (λ xs. Each1 (FitsSigned w16) xs) (sym (slice p l)) (branch_short taps up p width are);
-        quiet = λ p l. let g : total_abs (take width (drop (p * width) table)) * peak ≤ gain * peak = mul-le-mul_right peak (greatest p l) in omega arith;
+        quiet = λ p l. let g : total_abs (take width (drop (p * width) table)) * peak ≤ gain * peak =
+            mul-le-mul_right peak (greatest p l) in omega arith;
         peak = small;
       };
       reach = fits.more;

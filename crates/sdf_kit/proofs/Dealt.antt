@@ -1,5 +1,6 @@
 -- What a firing of a deal or a gather puts is what it takes.
-use Rattle.std.proofs.Common.{◌≡◌, ℕ, zero, suc, ◌<◌, ◌≤◌, cond, ltb, eqb, ℤ, pos, List, [], ◌++◌, length, map, refl, ◌∙◌, ap, arith, ⊎_elim}
+use Rattle.std.proofs.Common.{◌≡◌, ℕ, zero, suc, ◌<◌, ◌≤◌, cond, ltb, eqb, ℤ, pos, List, [], ◌++◌, length, map, refl}
+use Rattle.std.proofs.Common.{◌∙◌, ap, arith, ⊎_elim}
 use Rattle.std.specs.List.{flat_map, range_with_len}
 use Rattle.std.proofs.lemmas.Bool.{cases_lt, lt-ltb, le-ltb, eq-eqb, ne_eqb}
 use Rattle.std.proofs.lemmas.List.{append-nil}
@@ -14,7 +15,8 @@ module _ (xs : List ℤ) (j : ℕ) where
   dealt_below : (n : ℕ) → flat_map dealt (range_with_len 0 n) ≡ cond (ltb j n) xs []
   dealt_below zero = rw (le-ltb j zero (omega arith)) refl
   dealt_below (suc n) =
-      flat_suc dealt n ∙ (ap (λ ys. ys ++ dealt n) (dealt_below n) ∙ ⊎_elim low (λ h. ⊎_elim (here h) high (cases_lt j (suc n))) (cases_lt j n))
+      flat_suc dealt n ∙ (ap (λ ys. ys ++ dealt n) (dealt_below n)
+      ∙ ⊎_elim low (λ h. ⊎_elim (here h) high (cases_lt j (suc n))) (cases_lt j n))
     where
       low : j < n → cond (ltb j n) xs [] ++ dealt n ≡ cond (ltb j (suc n)) xs []
       low h = rw (lt-ltb j n h, ne_eqb n j (λ e. absurd (omega arith)), lt-ltb j (suc n) (omega arith)) (append-nil xs)

@@ -1,5 +1,6 @@
 -- Where a sum of products is within 32 bits.
-use Rattle.std.proofs.Common.{refl, sym, ap, ◌∙◌, zero, negsuc, ◌≡◌, ◌≤◌, ℕ, suc, pos, length, ◌+◌, ◌*◌, ℤ, ◌+ℤ◌, ◌*ℤ◌, List, [], ◌∷◌, unsigned_abs, w32, arith}
+use Rattle.std.proofs.Common.{refl, sym, ap, ◌∙◌, zero, negsuc, ◌≡◌, ◌≤◌, ℕ, suc, pos, length, ◌+◌, ◌*◌, ℤ, ◌+ℤ◌, ◌*ℤ◌}
+use Rattle.std.proofs.Common.{List, [], ◌∷◌, unsigned_abs, w32, arith}
 use Rattle.std.proofs.Math.IntN.{suc_ℤ, pred_ℤ, suc_ℤ-*ℤ, pred_ℤ-*ℤ, zero-*ℤ}
 use Rattle.std.proofs.lemmas.Int.{ints, int_wrap_fits, fits_signed_from_abs, unsigned_abs-mul}
 use Rattle.std.proofs.Math.Nat.{mul-le-mul_left, add-mul}
@@ -15,7 +16,8 @@ bound (h ∷ hs) (x ∷ xs) m w =
     let low : unsigned_abs h * unsigned_abs x ≤ unsigned_abs h * m = mul-le-mul_left (unsigned_abs h) x_low in
     let rest : unsigned_abs (dot hs xs) ≤ total_abs hs * m = bound hs xs m (λ k l. w (suc k) (omega arith)) in
     let both = abs_add (h *ℤ x) (dot hs xs) in
-    let parts : (unsigned_abs h + total_abs hs) * m ≡ unsigned_abs h * m + total_abs hs * m = add-mul (unsigned_abs h) (total_abs hs) m in
+    let parts : (unsigned_abs h + total_abs hs) * m ≡ unsigned_abs h * m + total_abs hs * m =
+    add-mul (unsigned_abs h) (total_abs hs) m in
     omega arith
 
 pub exact : (h x : List ℤ) (peak : ℕ) → AreWithin peak x → total_abs h * peak ≤ 2147483647 → wrap (dot h x) ≡ dot h x
@@ -28,14 +30,16 @@ module _ (a b : ℤ) where
   abbrev whole : ℤ
   whole = (pos 256 *ℤ a) +ℤ b
 
-  one_more : (h : ℤ) → h *ℤ whole ≡ (pos 256 *ℤ (h *ℤ a)) +ℤ (h *ℤ b) → suc_ℤ h *ℤ whole ≡ (pos 256 *ℤ (suc_ℤ h *ℤ a)) +ℤ (suc_ℤ h *ℤ b)
+  one_more : (h : ℤ) → h *ℤ whole ≡ (pos 256 *ℤ (h *ℤ a)) +ℤ (h *ℤ b) →
+      suc_ℤ h *ℤ whole ≡ (pos 256 *ℤ (suc_ℤ h *ℤ a)) +ℤ (suc_ℤ h *ℤ b)
   one_more h ih =
       let x = suc_ℤ-*ℤ h whole in
       let y = suc_ℤ-*ℤ h a in
       let z = suc_ℤ-*ℤ h b in
       rw (x, y, z) (omega (arith, ints, ih))
 
-  one_fewer : (h : ℤ) → h *ℤ whole ≡ (pos 256 *ℤ (h *ℤ a)) +ℤ (h *ℤ b) → pred_ℤ h *ℤ whole ≡ (pos 256 *ℤ (pred_ℤ h *ℤ a)) +ℤ (pred_ℤ h *ℤ b)
+  one_fewer : (h : ℤ) → h *ℤ whole ≡ (pos 256 *ℤ (h *ℤ a)) +ℤ (h *ℤ b) →
+      pred_ℤ h *ℤ whole ≡ (pos 256 *ℤ (pred_ℤ h *ℤ a)) +ℤ (pred_ℤ h *ℤ b)
   one_fewer h ih =
       let x = pred_ℤ-*ℤ h whole in
       let y = pred_ℤ-*ℤ h a in
@@ -62,7 +66,8 @@ split (h ∷ hs) (a ∷ more) (b ∷ bs) e =
     let spread : h *ℤ ((pos 256 *ℤ a) +ℤ b) ≡ (pos 256 *ℤ (h *ℤ a)) +ℤ (h *ℤ b) = spread a b h in
     omega (arith, ints)
 
-pub split_exact : (h a b : List ℤ) (peak : ℕ) → length a ≡ length b → AreWithin peak a → AreWithin peak b → total_abs h * peak ≤ 2147483647 →
+pub split_exact : (h a b : List ℤ) (peak : ℕ) → length a ≡ length b → AreWithin peak a → AreWithin peak b →
+    total_abs h * peak ≤ 2147483647 →
     (pos 256 *ℤ wrap (dot h a)) +ℤ wrap (dot h b) ≡ dot h (joined a b)
 split_exact h a b peak e wa wb room =
     let ea = exact h a peak wa room in

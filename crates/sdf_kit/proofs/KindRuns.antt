@@ -1,8 +1,10 @@
 -- The kinds of one phase: what many firings leave and put.
-use Rattle.std.proofs.Common.{◌≡◌, ℕ, zero, suc, ◌+◌, ◌*◌, ◌/◌, ◌≤◌, ◌<◌, List, [], ◌∷◌, ◌++◌, length, map, replicate, take, drop, ℤ, pos, refl, sym, ◌∙◌, ap, subst, arith}
+use Rattle.std.proofs.Common.{◌≡◌, ℕ, zero, suc, ◌+◌, ◌*◌, ◌/◌, ◌≤◌, ◌<◌, List, [], ◌∷◌, ◌++◌, length, map, replicate}
+use Rattle.std.proofs.Common.{take, drop, ℤ, pos, refl, sym, ◌∙◌, ap, subst, arith}
 use Rattle.std.specs.List.{range_with_len}
 use Rattle.std.proofs.lemmas.Nat.{div_below, div-mul-add}
-use Rattle.std.proofs.lemmas.List.{length-append, length-drop, append_assoc, append-nil, map-append, drop-drop, take-append-le, drop-append-le, get_or-drop, get_or_append_left, get_or-append-add}
+use Rattle.std.proofs.lemmas.List.{length-append, length-drop, append_assoc, append-nil, map-append, drop-drop}
+use Rattle.std.proofs.lemmas.List.{take-append-le, drop-append-le, get_or-drop, get_or_append_left, get_or-append-add}
 use Rattle.std.proofs.lemmas.List.FromFn.{length-map-range_with_len, get_or-map-range_with_len}
 use Rattle.std.proofs.Math.Nat.{zero-mul, suc-mul, mul-le-mul_right}
 use Rattle.std.proofs.Math.Seq.{take-add}
@@ -39,7 +41,8 @@ gain_run g kept = record {
   more = λ _ _ xs b _ one. map_more (scaled g) xs b one;
 }
 
-pub table_run : (t : Lookup) (kept : List ℤ) → IsRun kit_steps (Table t) 1 kept (λ _. kept) (λ _ xs. map (looked_up t) xs)
+pub table_run : (t : Lookup) (kept : List ℤ) → IsRun kit_steps (Table t) 1 kept (λ _. kept)
+    (λ _ xs. map (looked_up t) xs)
 table_run t kept = record {
   rate = λ _. refl;
   begins = refl;
@@ -48,7 +51,8 @@ table_run t kept = record {
   more = λ _ _ xs b _ one. map_more (looked_up t) xs b one;
 }
 
-decimate_run : (m : ℕ) (kept : List ℤ) → 1 ≤ m → IsRun kit_steps (Decimate m) m kept (λ _. kept) (λ i xs. map (λ n. sample xs (n * m)) (range_with_len 0 i))
+decimate_run : (m : ℕ) (kept : List ℤ) → 1 ≤ m →
+    IsRun kit_steps (Decimate m) m kept (λ _. kept) (λ i xs. map (λ n. sample xs (n * m)) (range_with_len 0 i))
 decimate_run m kept some = record {
   rate = λ _. omega arith;
   begins = refl;
@@ -63,7 +67,8 @@ decimate_run m kept some = record {
       sym (ap (sample (xs ++ b)) place ∙ get_or-append-add xs b 0 (pos 0)));
 }
 
-interpolate_run : (up : ℕ) (kept : List ℤ) → 1 ≤ up → IsRun kit_steps (Interpolate up) 1 kept (λ _. kept) (λ i xs. map (upsampled up xs) (range_with_len 0 (i * up)))
+interpolate_run : (up : ℕ) (kept : List ℤ) → 1 ≤ up →
+    IsRun kit_steps (Interpolate up) 1 kept (λ _. kept) (λ i xs. map (upsampled up xs) (range_with_len 0 (i * up)))
 interpolate_run up kept some = record {
   rate = λ _. refl;
   begins = refl;
@@ -74,7 +79,8 @@ interpolate_run up kept some = record {
       (λ n l.
       let same : n / up ≡ n / up + 0 = omega arith in
       upsampled_moved xs (xs ++ b) up 0 n n some (omega (arith, zero-mul up))
-      (sym (get_or_append_left xs b (pos 0) (n / up) (omega (arith, long, div_below n up i some l))) ∙ ap (sample (xs ++ b)) same))
+      (sym (get_or_append_left xs b (pos 0) (n / up) (omega (arith, long, div_below n up i some l)))
+      ∙ ap (sample (xs ++ b)) same))
       (λ q l.
       let place : length xs + q / up ≡ q / up + i = omega (arith, long) in
       upsampled_moved b (xs ++ b) up i q (i * up + q) some (omega arith)
@@ -82,17 +88,20 @@ interpolate_run up kept some = record {
 }
 
 -- sums of a part of the samples, firing by firing
-pub add_run : (ways : ℕ) (kept : List ℤ) → IsRun kit_steps (Add ways) ways kept (λ _. kept) (λ i xs. map (sum_at ways xs) (range_with_len 0 i))
+pub add_run : (ways : ℕ) (kept : List ℤ) → IsRun kit_steps (Add ways) ways kept (λ _. kept)
+    (λ i xs. map (sum_at ways xs) (range_with_len 0 i))
 add_run ways kept = record {
   rate = λ _. sum_ones 0 ways;
   begins = refl;
   none = refl;
   next = λ _ _ _ _ _ _. refl;
   more = λ _ i xs b long one.
-      seam (sum_at ways xs) (sum_at ways (xs ++ b)) (λ _. saturated (sum_below ways (sample b))) i 1 (suc i) (omega arith)
+      seam (sum_at ways xs) (sum_at ways (xs ++ b)) (λ _. saturated (sum_below ways (sample b))) i 1
+      (suc i) (omega arith)
       (λ n l.
       ap saturated (sum_below_same ways (λ q. sample xs (n * ways + q)) (λ q. sample (xs ++ b) (n * ways + q))
-      (λ q h. sym (get_or_append_left xs b (pos 0) (n * ways + q) (omega (arith, h, long, suc-mul n ways, mul-le-mul_right ways l))))))
+      (λ q h. sym (get_or_append_left xs b (pos 0) (n * ways + q)
+      (omega (arith, h, long, suc-mul n ways, mul-le-mul_right ways l))))))
       (λ r l.
       let here : i + r ≡ i = omega arith in
       ap saturated (sum_below_same ways (sample b) (λ q. sample (xs ++ b) ((i + r) * ways + q))
@@ -110,7 +119,8 @@ some_of : (n i ways : ℕ) → n < i * ways → 0 < ways
 some_of n i zero l = let none : i * 0 ≡ 0 = omega arith in absurd (omega (arith, l, none))
 some_of n i (suc ways) l = omega arith
 
-pub fork_run : (ways : ℕ) (kept : List ℤ) → IsRun kit_steps (Fork ways) 1 kept (λ _. kept) (λ i xs. map (λ n. sample xs (n / ways)) (range_with_len 0 (i * ways)))
+pub fork_run : (ways : ℕ) (kept : List ℤ) → IsRun kit_steps (Fork ways) 1 kept (λ _. kept)
+    (λ i xs. map (λ n. sample xs (n / ways)) (range_with_len 0 (i * ways)))
 fork_run ways kept = record {
   rate = λ _. refl;
   begins = refl;
@@ -118,8 +128,10 @@ fork_run ways kept = record {
   next = λ _ _ _ _ _ _. refl;
   more = λ _ i xs b long one.
       ap (λ ys. map (λ n. sample xs (n / ways)) (range_with_len 0 (i * ways)) ++ ys) (same_all (sample b 0) 0 ways) ∙
-      seam (λ n. sample xs (n / ways)) (λ n. sample (xs ++ b) (n / ways)) (λ _. sample b 0) (i * ways) ways (suc i * ways) (suc-mul i ways)
-      (λ n l. sym (get_or_append_left xs b (pos 0) (n / ways) (omega (arith, long, div_below n ways i (some_of n i ways l) l))))
+      seam (λ n. sample xs (n / ways)) (λ n. sample (xs ++ b) (n / ways)) (λ _. sample b 0) (i * ways) ways
+      (suc i * ways) (suc-mul i ways)
+      (λ n l. sym (get_or_append_left xs b (pos 0) (n / ways)
+      (omega (arith, long, div_below n ways i (some_of n i ways l) l))))
       (λ q l.
       let row : (i * ways + q) / ways ≡ i = div-mul-add i ways q l in
       let place : (i * ways + q) / ways ≡ length xs + 0 = omega (arith, long, row) in
@@ -130,9 +142,11 @@ fork_run ways kept = record {
 slides_on : (kept xs b : List ℤ) → kept_next (kept_next kept xs) b ≡ kept_next kept (xs ++ b)
 slides_on kept xs b =
     ap (drop (length b)) (sym (drop-append-le (length xs) (kept ++ xs) b (omega (arith, length-append kept xs)))) ∙
-    (drop-drop (length b) (length xs) ((kept ++ xs) ++ b) ∙ λ k. drop (sym (length-append xs b) k) (append_assoc kept xs b k))
+    (drop-drop (length b) (length xs) ((kept ++ xs) ++ b)
+    ∙ λ k. drop (sym (length-append xs b) k) (append_assoc kept xs b k))
 
-pub delay_run : (d : ℕ) (kept : List ℤ) → IsRun kit_steps (Delay d) 1 kept (kept_next kept) (λ _ xs. take (length xs) (kept ++ xs))
+pub delay_run : (d : ℕ) (kept : List ℤ) → IsRun kit_steps (Delay d) 1 kept (kept_next kept)
+    (λ _ xs. take (length xs) (kept ++ xs))
 delay_run d kept = record {
   rate = λ _. refl;
   begins = append-nil kept;
@@ -142,11 +156,13 @@ delay_run d kept = record {
       let w : List ℤ = (kept ++ xs) ++ b in
       let reach : length xs ≤ length (kept ++ xs) = omega (arith, length-append kept xs) in
       let count : length xs + 1 ≡ length (xs ++ b) = omega (arith, one, length-append xs b) in
-      (λ k. sym (take-append-le (length xs) (kept ++ xs) b reach) k ++ take 1 (sym (drop-append-le (length xs) (kept ++ xs) b reach) k)) ∙
+      (λ k. sym (take-append-le (length xs) (kept ++ xs) b reach) k
+      ++ take 1 (sym (drop-append-le (length xs) (kept ++ xs) b reach) k)) ∙
       (sym (take-add (length xs) 1 w) ∙ λ k. take (count k) (append_assoc kept xs b k));
 }
 
-module _ (f : Filter) (kept : List ℤ) (some_up : 1 ≤ f.up) (some_down : 1 ≤ f.down) (keeps : length kept ≡ kept_len f) where
+module _ (f : Filter) (kept : List ℤ) (some_up : 1 ≤ f.up) (some_down : 1 ≤ f.down)
+    (keeps : length kept ≡ kept_len f) where
   module _ (i : ℕ) (xs b : List ℤ) (long : length xs ≡ i * f.down) (one : length b ≡ f.down) where
     abbrev outputs : ℕ → List ℤ
     outputs many = map (output f kept (xs ++ b)) (range_with_len 0 (many * f.up))
@@ -156,8 +172,10 @@ module _ (f : Filter) (kept : List ℤ) (some_up : 1 ≤ f.up) (some_down : 1 �
     earlier n l =
         let place : 0 * f.up + n ≡ n = omega (arith, zero-mul f.up) in
         output_is f some_up some_down kept (xs ++ b) kept (outputs i) xs i 0 i n
-        (done_begins f some_up some_down kept (xs ++ b) (outputs i) i keeps (length-map-range_with_len (output f kept (xs ++ b)) 0 (i * f.up))) keeps long
-        (λ q h. let there : q ≡ 0 * f.down + q = omega (arith, zero-mul f.down) in sym (get_or_append_left xs b (pos 0) q (omega (arith, long))) ∙ ap (sample (xs ++ b)) there) l ∙
+        (done_begins f some_up some_down kept (xs ++ b) (outputs i) i keeps
+        (length-map-range_with_len (output f kept (xs ++ b)) 0 (i * f.up))) keeps long
+        (λ q h. let there : q ≡ 0 * f.down + q = omega (arith, zero-mul f.down) in
+        sym (get_or_append_left xs b (pos 0) q (omega (arith, long))) ∙ ap (sample (xs ++ b)) there) l ∙
         ap (output f kept (xs ++ b)) place
 
     -- i firings are done
@@ -169,16 +187,21 @@ module _ (f : Filter) (kept : List ℤ) (some_up : 1 ≤ f.up) (some_down : 1 �
       kept_are = λ r l.
           let place : length xs + r ≡ r + i * f.down = omega (arith, long) in
           get_or-drop (length xs) (kept ++ xs) r (pos 0) ∙
-          (sym (get_or_append_left (kept ++ xs) b (pos 0) (length xs + r) (omega (arith, keeps, length-append kept xs))) ∙ λ k. sample (append_assoc kept xs b k) (place k));
-      put_are = λ n l. get_or-map-range_with_len (output f kept (xs ++ b)) 0 (suc i * f.up) n n (pos 0) (omega (arith, suc-mul i f.up)) (omega arith);
+          (sym (get_or_append_left (kept ++ xs) b (pos 0) (length xs + r) (omega (arith, keeps, length-append kept xs)))
+          ∙ λ k. sample (append_assoc kept xs b k) (place k));
+      put_are = λ n l. get_or-map-range_with_len (output f kept (xs ++ b)) 0 (suc i * f.up) n n (pos 0)
+          (omega (arith, suc-mul i f.up)) (omega arith);
     }
 
     fir_more : run_put f i kept xs ++ block_put f (kept_next kept xs) b ≡ run_put f (suc i) kept (xs ++ b)
     fir_more =
-        seam (output f kept xs) (output f kept (xs ++ b)) (output f (kept_next kept xs) b) (i * f.up) f.up (suc i * f.up) (suc-mul i f.up) earlier
+        seam (output f kept xs) (output f kept (xs ++ b)) (output f (kept_next kept xs) b) (i * f.up) f.up
+        (suc i * f.up) (suc-mul i f.up) earlier
         (λ q l.
-        output_is f some_up some_down kept (xs ++ b) (kept_next kept xs) (outputs (suc i)) b (suc i) i 1 q done keeps (omega (arith, one))
-        (λ r h. sym (ap (sample (xs ++ b)) (let place : i * f.down + r ≡ length xs + r = omega (arith, long) in place) ∙ get_or-append-add xs b r (pos 0))) (omega arith))
+        output_is f some_up some_down kept (xs ++ b) (kept_next kept xs) (outputs (suc i)) b (suc i) i 1 q done keeps
+        (omega (arith, one))
+        (λ r h. sym (ap (sample (xs ++ b)) (let place : i * f.down + r ≡ length xs + r = omega (arith, long) in place)
+        ∙ get_or-append-add xs b r (pos 0))) (omega arith))
 
   fir_run : IsRun kit_steps (Fir f) f.down kept (kept_next kept) (λ i xs. run_put f i kept xs)
   fir_run = record {
@@ -193,20 +216,28 @@ module _ (f : Filter) (kept : List ℤ) (some_up : 1 ≤ f.up) (some_down : 1 �
 module _ (k x : Kit) (is : k ≡ x) (j many : ℕ) where
   pub takes : (r n : ℕ) → ((i : ℕ) → total_in kit_steps x i ≡ r) → n ≡ sum_in kit_steps k j many → n ≡ many * r
   takes r n rate e =
-      e ∙ (ap (λ y. sum_in kit_steps y j many) is ∙ same_sums (λ i. total_in kit_steps x (phase kit_steps x (j + i))) r (λ i. rate (phase kit_steps x (j + i))) many)
+      e ∙ (ap (λ y. sum_in kit_steps y j many) is ∙ same_sums (λ i. total_in kit_steps x (phase kit_steps x (j + i))) r
+      (λ i. rate (phase kit_steps x (j + i))) many)
 
   pub gives : (r n : ℕ) → ((i : ℕ) → total_out kit_steps x i ≡ r) → n ≡ sum_out kit_steps k j many → n ≡ many * r
   gives r n rate e =
-      e ∙ (ap (λ y. sum_out kit_steps y j many) is ∙ same_sums (λ i. total_out kit_steps x (phase kit_steps x (j + i))) r (λ i. rate (phase kit_steps x (j + i))) many)
+      e ∙ (ap (λ y. sum_out kit_steps y j many) is ∙ same_sums (λ i. total_out kit_steps x (phase kit_steps x (j + i)))
+      r (λ i. rate (phase kit_steps x (j + i))) many)
 
-  module _ {size : ℕ} {kept : List ℤ} {after : List ℤ → List ℤ} {all : ℕ → List ℤ → List ℤ} (run : IsRun kit_steps x size kept after all) (taken : List ℤ) (long : length taken ≡ sum_in kit_steps k j many) where
+  module _ {size : ℕ} {kept : List ℤ} {after : List ℤ → List ℤ} {all : ℕ → List ℤ → List ℤ}
+      (run : IsRun kit_steps x size kept after all) (taken : List ℤ)
+      (long : length taken ≡ sum_in kit_steps k j many) where
     pub leaves : after taken ≡ state_at kit_steps k j kept taken many
     leaves =
-        sym (ap (λ y. state_at kit_steps y j kept taken many) is ∙ run_state kit_steps x size kept after all run j taken many (long ∙ ap (λ y. sum_in kit_steps y j many) is))
+        sym (ap (λ y. state_at kit_steps y j kept taken many) is
+        ∙ run_state kit_steps x size kept after all run j taken many
+        (long ∙ ap (λ y. sum_in kit_steps y j many) is))
 
     pub puts : all many taken ≡ puts_to kit_steps k j kept taken many
     puts =
-        sym (ap (λ y. puts_to kit_steps y j kept taken many) is ∙ run_puts kit_steps x size kept after all run j taken many (long ∙ ap (λ y. sum_in kit_steps y j many) is))
+        sym (ap (λ y. puts_to kit_steps y j kept taken many) is
+        ∙ run_puts kit_steps x size kept after all run j taken many
+        (long ∙ ap (λ y. sum_in kit_steps y j many) is))
 
 -- the runs of kinds whose rates are known by the ports of a kit
 module _ (k x : Kit) (is : k ≡ x) (p : Ports) (same : p ≡ (behaviour k).ports) (are : ArePorts p) where
@@ -214,11 +245,15 @@ module _ (k x : Kit) (is : k ≡ x) (p : Ports) (same : p ≡ (behaviour k).port
   ports = subst (λ y. ArePorts (behaviour y).ports) is (subst ArePorts same are)
 
 module _ (k : Kit) (p : Ports) (same : p ≡ (behaviour k).ports) (are : ArePorts p) (kept : List ℤ) where
-  pub fir_runs : (f : Filter) → k ≡ Fir f → length kept ≡ (behaviour k).kept → IsRun kit_steps (Fir f) f.down kept (kept_next kept) (λ i xs. run_put f i kept xs)
-  fir_runs f is keeps = let x = ports k (Fir f) is p same are in fir_run f kept x.outputs.some x.inputs.some (keeps ∙ ap (λ y. (behaviour y).kept) is)
+  pub fir_runs : (f : Filter) → k ≡ Fir f → length kept ≡ (behaviour k).kept →
+      IsRun kit_steps (Fir f) f.down kept (kept_next kept) (λ i xs. run_put f i kept xs)
+  fir_runs f is keeps = let x = ports k (Fir f) is p same are in
+      fir_run f kept x.outputs.some x.inputs.some (keeps ∙ ap (λ y. (behaviour y).kept) is)
 
-  pub decimate_runs : (m : ℕ) → k ≡ Decimate m → IsRun kit_steps (Decimate m) m kept (λ _. kept) (λ i xs. map (λ n. sample xs (n * m)) (range_with_len 0 i))
+  pub decimate_runs : (m : ℕ) → k ≡ Decimate m → IsRun kit_steps (Decimate m) m kept (λ _. kept)
+      (λ i xs. map (λ n. sample xs (n * m)) (range_with_len 0 i))
   decimate_runs m is = let x = ports k (Decimate m) is p same are in decimate_run m kept x.inputs.some
 
-  pub interpolate_runs : (up : ℕ) → k ≡ Interpolate up → IsRun kit_steps (Interpolate up) 1 kept (λ _. kept) (λ i xs. map (upsampled up xs) (range_with_len 0 (i * up)))
+  pub interpolate_runs : (up : ℕ) → k ≡ Interpolate up →
+      IsRun kit_steps (Interpolate up) 1 kept (λ _. kept) (λ i xs. map (upsampled up xs) (range_with_len 0 (i * up)))
   interpolate_runs up is = let x = ports k (Interpolate up) is p same are in interpolate_run up kept x.outputs.some

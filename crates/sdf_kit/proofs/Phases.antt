@@ -1,7 +1,9 @@
 -- One branch of a polyphase filter: the taps of one phase against the newest samples.
-use Rattle.std.proofs.Common.{[], ◌∷◌, ◌++◌, sym, refl, ◌≡◌, ℕ, zero, suc, ◌+◌, ◌*◌, ◌/◌, ◌%◌, ◌<◌, ◌≤◌, ◌-◌, ℤ, pos, ◌+ℤ◌, ◌*ℤ◌, List, length, get_or, take, drop, replicate, ◌∙◌, ap, arith, ◌⊎◌, inl, inr}
+use Rattle.std.proofs.Common.{[], ◌∷◌, ◌++◌, sym, refl, ◌≡◌, ℕ, zero, suc, ◌+◌, ◌*◌, ◌/◌, ◌%◌, ◌<◌, ◌≤◌, ◌-◌, ℤ, pos}
+use Rattle.std.proofs.Common.{◌+ℤ◌, ◌*ℤ◌, List, length, get_or, take, drop, replicate, ◌∙◌, ap, arith, ◌⊎◌, inl, inr}
 use Rattle.std.proofs.lemmas.Int.{ints}
-use Rattle.std.proofs.lemmas.List.{get_or_past, length-take-le, length-drop, length-append, length-replicate, get_or-take, get_or-drop, get_or-append-add}
+use Rattle.std.proofs.lemmas.List.{get_or_past, length-take-le, length-drop, length-append, length-replicate}
+use Rattle.std.proofs.lemmas.List.{get_or-take, get_or-drop, get_or-append-add}
 use Rattle.std.proofs.lemmas.List.FromFn.{length-map-range_with_len, get_or-map-range_with_len}
 use Rattle.std.proofs.lemmas.Nat.{div-add-mod', mod_below}
 use Rattle.std.proofs.Math.IntN.{zero-*ℤ}
@@ -25,10 +27,12 @@ less_or (suc m) zero = inr (omega arith)
 less_or (suc m) (suc n) = elim (less_or m n) [ inl h ↦ inl (omega (arith, h)) | inr h ↦ inr (omega (arith, h)) ]
 
 -- one tap of the phase more, also past the taps' end
-more : (taps w : List ℤ) (up k t : ℕ) → 0 < up → rest (drop k taps) up w (suc t) ≡ (get_or taps k (pos 0) *ℤ get_or w t (pos 0)) +ℤ rest (drop (k + up) taps) up w t
+more : (taps w : List ℤ) (up k t : ℕ) → 0 < up →
+    rest (drop k taps) up w (suc t) ≡ (get_or taps k (pos 0) *ℤ get_or w t (pos 0)) +ℤ rest (drop (k + up) taps) up w t
 more taps w up k t some = elim (less_or k (length taps)) [ inl h ↦ rest_step taps up w k t some h | inr h ↦ over h ]
   where
-    over : length taps ≤ k → rest (drop k taps) up w (suc t) ≡ (get_or taps k (pos 0) *ℤ get_or w t (pos 0)) +ℤ rest (drop (k + up) taps) up w t
+    over : length taps ≤ k → rest (drop k taps) up w (suc t) ≡
+        (get_or taps k (pos 0) *ℤ get_or w t (pos 0)) +ℤ rest (drop (k + up) taps) up w t
     over h =
         let none : rest (drop k taps) up w (suc t) ≡ pos 0 = rest_none taps up w k (suc t) h in
         let later : rest (drop (k + up) taps) up w t ≡ pos 0 = rest_none taps up w (k + up) t (omega arith) in
@@ -36,16 +40,19 @@ more taps w up k t some = elim (less_or k (length taps)) [ inl h ↦ rest_step t
         rw (none, later, past) (omega (arith, ints))
 
 partial : (taps w : List ℤ) (up at n : ℕ) → 0 < up → n ≤ at / up + 1 →
-    sum_below n (branch_term taps w up at) +ℤ rest (drop (at % up + n * up) taps) up w (at / up + 1 - n) ≡ weighted taps (upsampled up w) at
+    sum_below n (branch_term taps w up at) +ℤ rest (drop (at % up + n * up) taps) up w (at / up + 1 - n) ≡
+    weighted taps (upsampled up w) at
 partial taps w up at zero some few =
     let none : zero * up ≡ zero = zero-mul up in
     let same : at % up + zero ≡ at % up = omega arith in
     let all : at / up + 1 - zero ≡ at / up + 1 = omega arith in
-    let begins : rest (drop (at % up) taps) up w (at / up + 1) ≡ weighted taps (upsampled up w) at = rest_begins taps up w at some in
+    let begins : rest (drop (at % up) taps) up w (at / up + 1) ≡ weighted taps (upsampled up w) at =
+    rest_begins taps up w at some in
     let empty : sum_below zero (branch_term taps w up at) ≡ pos 0 = sum_below-zero (branch_term taps w up at) in
     rw (none, same, all, empty) (omega (arith, ints))
 partial taps w up at (suc n) some few =
-    let ih : sum_below n (branch_term taps w up at) +ℤ rest (drop (at % up + n * up) taps) up w (at / up + 1 - n) ≡ weighted taps (upsampled up w) at = partial taps w up at n some (omega arith) in
+    let ih : sum_below n (branch_term taps w up at) +ℤ rest (drop (at % up + n * up) taps) up w (at / up + 1 - n) ≡
+    weighted taps (upsampled up w) at = partial taps w up at n some (omega arith) in
     let left : at / up + 1 - n ≡ suc (at / up - n) = omega arith in
     let now : at / up + 1 - suc n ≡ at / up - n = omega arith in
     let wide : suc n * up ≡ n * up + up = suc-mul n up in
@@ -53,24 +60,31 @@ partial taps w up at (suc n) some few =
     let step = more taps w up (at % up + n * up) (at / up - n) some in
     let was = rw left at ih in
     let one : suc n ≡ n + 1 = omega arith in
-    let sum : sum_below (suc n) (branch_term taps w up at) ≡ sum_below n (branch_term taps w up at) +ℤ branch_term taps w up at n = ap (λ m. sum_below m (branch_term taps w up at)) one ∙ sum_below_more n (branch_term taps w up at) in
+    let sum : sum_below (suc n) (branch_term taps w up at) ≡
+    sum_below n (branch_term taps w up at) +ℤ branch_term taps w up at n =
+    ap (λ m. sum_below m (branch_term taps w up at)) one ∙ sum_below_more n (branch_term taps w up at) in
     rw (place, now, sum) (omega (arith, ints, step, was))
 
 -- so many taps of the phase as there are are the whole sum
-pub branch_is : (taps w : List ℤ) (up at n : ℕ) → 0 < up → n ≤ at / up + 1 → length taps ≤ at % up + n * up → sum_below n (branch_term taps w up at) ≡ convolved taps (upsampled up w) at
+pub branch_is : (taps w : List ℤ) (up at n : ℕ) → 0 < up → n ≤ at / up + 1 → length taps ≤ at % up + n * up →
+    sum_below n (branch_term taps w up at) ≡ convolved taps (upsampled up w) at
 branch_is taps w up at n some few over =
     let p = partial taps w up at n some few in
-    let none : rest (drop (at % up + n * up) taps) up w (at / up + 1 - n) ≡ pos 0 = rest_none taps up w (at % up + n * up) (at / up + 1 - n) over in
-    let written : convolved taps (upsampled up w) at ≡ weighted taps (upsampled up w) at = convolved_is taps (upsampled up w) at in
+    let none : rest (drop (at % up + n * up) taps) up w (at / up + 1 - n) ≡ pos 0 =
+    rest_none taps up w (at % up + n * up) (at / up + 1 - n) over in
+    let written : convolved taps (upsampled up w) at ≡ weighted taps (upsampled up w) at =
+    convolved_is taps (upsampled up w) at in
     rw written (omega (arith, ints, p, none))
 
-dot_sum : (n : ℕ) (h x : List ℤ) → length h ≡ n → length x ≡ n → dot h x ≡ sum_below n (λ i. get_or h i (pos 0) *ℤ get_or x i (pos 0))
+dot_sum : (n : ℕ) (h x : List ℤ) → length h ≡ n → length x ≡ n →
+    dot h x ≡ sum_below n (λ i. get_or h i (pos 0) *ℤ get_or x i (pos 0))
 dot_sum zero [] x e f = sym (sum_below-zero (λ i. get_or [] i (pos 0) *ℤ get_or x i (pos 0)))
 dot_sum zero (h ∷ hs) x e f = absurd (omega (arith, e))
 dot_sum (suc n) [] x e f = absurd (omega (arith, e))
 dot_sum (suc n) (h ∷ hs) [] e f = absurd (omega (arith, f))
 dot_sum (suc n) (h ∷ hs) (x ∷ xs) e f =
-    ap (λ z. (h *ℤ x) +ℤ z) (dot_sum n hs xs (omega (arith, e)) (omega (arith, f))) ∙ sym (sum_below-suc n (λ i. get_or (h ∷ hs) i (pos 0) *ℤ get_or (x ∷ xs) i (pos 0)))
+    ap (λ z. (h *ℤ x) +ℤ z) (dot_sum n hs xs (omega (arith, e)) (omega (arith, f)))
+    ∙ sym (sum_below-suc n (λ i. get_or (h ∷ hs) i (pos 0) *ℤ get_or (x ∷ xs) i (pos 0)))
 
 reversed : (n : ℕ) (f : ℕ → ℤ) → sum_below n f ≡ sum_below n (λ k. f (n - 1 - k))
 reversed zero f = sum_below-zero f ∙ sym (sum_below-zero (λ k. f (zero - 1 - k)))
@@ -78,9 +92,11 @@ reversed (suc n) f =
     let one : suc n ≡ n + 1 = omega arith in
     let first : sum_below (suc n) f ≡ sum_below n f +ℤ f n = ap (λ m. sum_below m f) one ∙ sum_below_more n f in
     let ih : sum_below n f ≡ sum_below n (λ k. f (n - 1 - k)) = reversed n f in
-    let apart : sum_below (suc n) (λ k. f (suc n - 1 - k)) ≡ f (suc n - 1 - 0) +ℤ sum_below n (λ k. f (suc n - 1 - suc k)) = sum_below-suc n (λ k. f (suc n - 1 - k)) in
+    let apart : sum_below (suc n) (λ k. f (suc n - 1 - k)) ≡
+    f (suc n - 1 - 0) +ℤ sum_below n (λ k. f (suc n - 1 - suc k)) = sum_below-suc n (λ k. f (suc n - 1 - k)) in
     let head : f (suc n - 1 - 0) ≡ f n = ap f (omega arith) in
-    let tail : sum_below n (λ k. f (suc n - 1 - suc k)) ≡ sum_below n (λ k. f (n - 1 - k)) = sum_below_same n (λ k. f (suc n - 1 - suc k)) (λ k. f (n - 1 - k)) (λ k l. ap f (omega arith)) in
+    let tail : sum_below n (λ k. f (suc n - 1 - suc k)) ≡ sum_below n (λ k. f (n - 1 - k)) =
+    sum_below_same n (λ k. f (suc n - 1 - suc k)) (λ k. f (n - 1 - k)) (λ k l. ap f (omega arith)) in
     omega (arith, ints, first, ih, apart, head, tail)
 
 zero_terms : (n m : ℕ) (f : ℕ → ℤ) → ((k : ℕ) → n ≤ k → k < n + m → f k ≡ pos 0) → sum_below (n + m) f ≡ sum_below n f
@@ -91,9 +107,11 @@ zero_terms n (suc m) f none =
     let before : sum_below (n + m) f ≡ sum_below n f = zero_terms n m f (λ k l r. none k l (omega arith)) in
     ap (λ k. sum_below k f) e ∙ (sum_below_more (n + m) f ∙ rw (last, before) (omega (arith, ints)))
 
--- The taps of the phase of a place, the last one first, against a window that ends at its newest sample: `keep` samples before
--- it are enough, and zeros stand before those.
-module _ (taps : List ℤ) (up : ℕ) (some_up : 1 ≤ up) (x : List ℤ) (pad width at t : ℕ) (wide : pad + (length taps - 1) / up + 1 ≡ width) (place : t + (length taps - 1) / up * up ≡ at) (room : t / up + (length taps - 1) / up < length x) where
+-- The taps of the phase of a place, the last one first, against a window that ends at its newest sample: `keep` samples
+-- before it are enough, and zeros stand before those.
+module _ (taps : List ℤ) (up : ℕ) (some_up : 1 ≤ up) (x : List ℤ) (pad width at t : ℕ)
+    (wide : pad + (length taps - 1) / up + 1 ≡ width) (place : t + (length taps - 1) / up * up ≡ at)
+    (room : t / up + (length taps - 1) / up < length x) where
   abbrev keep : ℕ
   keep = (length taps - 1) / up
 
@@ -134,12 +152,14 @@ module _ (taps : List ℤ) (up : ℕ) (some_up : 1 ≤ up) (x : List ℤ) (pad w
   h_long = length-map-range_with_len (λ i. get_or taps (p + (width - 1 - i) * up) (pos 0)) 0 width
 
   w_long : length w ≡ width
-  w_long = length-take-le width (drop (t / up) (padded pad x)) (omega (arith, length-drop (t / up) (padded pad x), size, wide, room))
+  w_long = length-take-le width (drop (t / up) (padded pad x))
+      (omega (arith, length-drop (t / up) (padded pad x), size, wide, room))
 
   tap : (k : ℕ) → k < width → get_or h (width - 1 - k) (pos 0) ≡ get_or taps (at % up + k * up) (pos 0)
   tap k l =
       let back : width - 1 - (width - 1 - k) ≡ k = omega arith in
-      let is = get_or-map-range_with_len (λ i. get_or taps (p + (width - 1 - i) * up) (pos 0)) 0 width (width - 1 - k) (width - 1 - k) (pos 0) (omega arith) (omega arith) in
+      let is = get_or-map-range_with_len (λ i. get_or taps (p + (width - 1 - i) * up) (pos 0)) 0 width (width - 1 - k)
+      (width - 1 - k) (pos 0) (omega arith) (omega arith) in
       is ∙ (ap (λ n. get_or taps (p + n * up) (pos 0)) back ∙ ap (λ n. get_or taps (n + k * up) (pos 0)) (sym column))
 
   past : (k : ℕ) → keep + 1 ≤ k → get_or taps (at % up + k * up) (pos 0) ≡ pos 0
@@ -154,21 +174,28 @@ module _ (taps : List ℤ) (up : ℕ) (some_up : 1 ≤ up) (x : List ℤ) (pad w
   seen : (k : ℕ) → k ≤ keep → get_or w (width - 1 - k) (pos 0) ≡ get_or x (at / up - k) (pos 0)
   seen k l =
       let zs : length (replicate pad (pos 0)) ≡ pad = length-replicate pad (pos 0) in
-      let there : t / up + (width - 1 - k) ≡ length (replicate pad (pos 0)) + (at / up - k) = omega (arith, row, wide) in
+      let there : t / up + (width - 1 - k) ≡ length (replicate pad (pos 0)) + (at / up - k) =
+      omega (arith, row, wide) in
       get_or-take width (drop (t / up) (padded pad x)) (width - 1 - k) (pos 0) (omega (arith, wide)) ∙
       (get_or-drop (t / up) (padded pad x) (width - 1 - k) (pos 0) ∙
-      (ap (λ n. get_or (padded pad x) n (pos 0)) there ∙ get_or-append-add (replicate pad (pos 0)) x (at / up - k) (pos 0)))
+      (ap (λ n. get_or (padded pad x) n (pos 0)) there
+      ∙ get_or-append-add (replicate pad (pos 0)) x (at / up - k) (pos 0)))
 
-  same : (k : ℕ) → k < width → get_or h (width - 1 - k) (pos 0) *ℤ get_or w (width - 1 - k) (pos 0) ≡ branch_term taps x up at k
+  same : (k : ℕ) → k < width → get_or h (width - 1 - k) (pos 0) *ℤ get_or w (width - 1 - k) (pos 0) ≡
+      branch_term taps x up at k
   same k l = elim (less_or k (keep + 1)) [
     | inl m ↦ (let a = tap k l in let b = seen k (omega arith) in rw (a, b) refl)
-    | inr m ↦ (ap (λ z. z *ℤ get_or w (width - 1 - k) (pos 0)) (tap k l ∙ past k m) ∙ zero-*ℤ (get_or w (width - 1 - k) (pos 0))) ∙
+    | inr m ↦ (ap (λ z. z *ℤ get_or w (width - 1 - k) (pos 0)) (tap k l ∙ past k m)
+        ∙ zero-*ℤ (get_or w (width - 1 - k) (pos 0))) ∙
         sym (ap (λ z. z *ℤ get_or x (at / up - k) (pos 0)) (past k m) ∙ zero-*ℤ (get_or x (at / up - k) (pos 0)))
   ]
 
-  pub window_dot : dot (branch taps up (t % up) width) (take width (drop (t / up) (padded pad x))) ≡ convolved taps (upsampled up x) at
+  pub window_dot : dot (branch taps up (t % up) width) (take width (drop (t / up) (padded pad x))) ≡
+      convolved taps (upsampled up x) at
   window_dot =
       dot_sum width h w h_long w_long ∙ (reversed width (λ i. get_or h i (pos 0) *ℤ get_or w i (pos 0)) ∙
-      (sum_below_same width (λ k. get_or h (width - 1 - k) (pos 0) *ℤ get_or w (width - 1 - k) (pos 0)) (branch_term taps x up at) same ∙
-      (ap (λ n. sum_below n (branch_term taps x up at)) parts ∙ (zero_terms (keep + 1) pad (branch_term taps x up at) none ∙
+      (sum_below_same width (λ k. get_or h (width - 1 - k) (pos 0) *ℤ get_or w (width - 1 - k) (pos 0))
+      (branch_term taps x up at) same ∙
+      (ap (λ n. sum_below n (branch_term taps x up at)) parts
+      ∙ (zero_terms (keep + 1) pad (branch_term taps x up at) none ∙
       branch_is taps x up at (keep + 1) some_up (omega (arith, row)) (omega (arith, reach))))))

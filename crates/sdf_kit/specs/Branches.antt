@@ -1,5 +1,6 @@
 -- Branches of a polyphase filter: the taps of each phase by themselves.
-use Rattle.std.specs.Prelude.{ℕ, ◌≡◌, ◌+◌, ◌-◌, ◌*◌, ◌/◌, ◌%◌, ◌<◌, ◌≤◌, ℤ, pos, List, ◌++◌, length, map, take, drop, replicate, FitsSigned}
+use Rattle.std.specs.Prelude.{ℕ, ◌≡◌, ◌+◌, ◌-◌, ◌*◌, ◌/◌, ◌%◌, ◌<◌, ◌≤◌, ℤ, pos, List, ◌++◌, length, map, take, drop}
+use Rattle.std.specs.Prelude.{replicate, FitsSigned}
 use Rattle.std.specs.Int.{w16}
 use Rattle.std.specs.List.{range_with_len}
 use Rattle.std.specs.Simd.Lanes.{Each1}
@@ -16,8 +17,8 @@ branch taps up p n = map (λ i. sample taps (p + (n - 1 - i) * up)) (range_with_
 abbrev pub branch_at : Branches → ℕ → List ℤ
 branch_at b p = take b.width (drop (p * b.width) b.table)
 
--- so many branches that vectors of eight can be used on, and that stay within 32 bits on samples within the peak, also where
--- half of 2^15 is added to round
+-- so many branches that vectors of eight can be used on, and that stay within 32 bits on samples within the peak, also
+-- where half of 2^15 is added to round
 pub record AreQuiet (up : ℕ) (b : Branches) : Type 0 where
   pub lanes : b.width % 8 ≡ 0
   pub some : 1 ≤ b.width
@@ -38,9 +39,12 @@ abbrev pub branch_output : Branches → ℕ → ℕ → ℕ → List ℤ → ℕ
 branch_output b up down shift samples n =
     settled (dot (branch_at b (n * down % up)) (take b.width (drop (n * down / up) samples))) shift
 
--- An output of a filter at place t, counted from the first input that is taken, is the dot product of the branch of its phase with as
--- many samples up to its newest one: of the inputs before, the last (K - 1) / up of K taps are met, and zeros stand before those.
+-- An output of a filter at place t, counted from the first input that is taken, is the dot product of the branch of its
+-- phase with as many samples up to its newest one: of the inputs before, the last (K - 1) / up of K taps are met, and
+-- zeros stand before those.
 abbrev pub BranchesAreTheFilter : Type 0
 BranchesAreTheFilter =
-    (taps : List ℤ) (up : ℕ) → 1 ≤ up → (x : List ℤ) (pad n t : ℕ) → pad + (length taps - 1) / up + 1 ≡ n → t / up + (length taps - 1) / up < length x →
-    dot (branch taps up (t % up) n) (take n (drop (t / up) (replicate pad (pos 0) ++ x))) ≡ convolved taps (upsampled up x) (t + (length taps - 1) / up * up)
+    (taps : List ℤ) (up : ℕ) → 1 ≤ up → (x : List ℤ) (pad n t : ℕ) → pad + (length taps - 1) / up + 1 ≡ n →
+    t / up + (length taps - 1) / up < length x →
+    dot (branch taps up (t % up) n) (take n (drop (t / up) (replicate pad (pos 0) ++ x))) ≡
+    convolved taps (upsampled up x) (t + (length taps - 1) / up * up)

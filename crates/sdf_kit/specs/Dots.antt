@@ -1,5 +1,6 @@
 -- Lanes of vectors, and dot products.
-use Rattle.std.specs.Prelude.{ℕ, ◌≡◌, ◌<◌, ◌≤◌, List, [], ◌∷◌, ℤ, pos, ◌+◌, ◌*◌, unsigned_abs, ◌+ℤ◌, ◌*ℤ◌, length, FitsSigned}
+use Rattle.std.specs.Prelude.{ℕ, ◌≡◌, ◌<◌, ◌≤◌, List, [], ◌∷◌, ℤ, pos, ◌+◌, ◌*◌, unsigned_abs, ◌+ℤ◌, ◌*ℤ◌, length}
+use Rattle.std.specs.Prelude.{FitsSigned}
 use Rattle.std.specs.Int.{int_wrap, Width, w32}
 use Rattle.std.specs.Simd.Lanes.{Each1, zip2}
 use Rattle.sdf_kit.specs.Samples.{sample}
@@ -44,10 +45,12 @@ joined high low = zip2 (λ a b. (pos 256 *ℤ a) +ℤ b) high low
 
 -- a sum that wraps on the way comes out right where the numbers are within a peak that the taps allow
 abbrev pub QuietSumsAreExact : Type 0
-QuietSumsAreExact = (taps x : List ℤ) (peak : ℕ) → AreWithin peak x → total_abs taps * peak ≤ 2147483647 → wrap (dot taps x) ≡ dot taps x
+QuietSumsAreExact = (taps x : List ℤ) (peak : ℕ) → AreWithin peak x → total_abs taps * peak ≤ 2147483647 →
+    wrap (dot taps x) ≡ dot taps x
 
 -- so do two such sums, one of upper bits and one of lowest ones
 abbrev pub SplitSumsAreExact : Type 0
 SplitSumsAreExact =
-    (taps high low : List ℤ) (peak : ℕ) → length high ≡ length low → AreWithin peak high → AreWithin peak low → total_abs taps * peak ≤ 2147483647 →
+    (taps high low : List ℤ) (peak : ℕ) → length high ≡ length low → AreWithin peak high → AreWithin peak low →
+    total_abs taps * peak ≤ 2147483647 →
     (pos 256 *ℤ wrap (dot taps high)) +ℤ wrap (dot taps low) ≡ dot taps (joined high low)

@@ -52,7 +52,8 @@ fn table_of(taps: &[i32], up: u32, width: usize) -> [i16; PLACES]
     requires up { up ≤ 64 }
     requires some { 1 ≤ width }
     requires few { width ≤ 1024 }
-    ensures { result ≡ map (λ place. sample taps.now (place / width + (width - 1 - place % width) * up)) (range_with_len 0 1536) }
+    ensures { result ≡ map (λ place. sample taps.now (place / width + (width - 1 - place % width) * up))
+        (range_with_len 0 1536) }
 {
     let mut table = [0; PLACES];
     for place in 0..PLACES {

@@ -79,7 +79,8 @@ pub(crate) fn dots(h: &[i16], x: &[i16], y: &[i16], z: &[i16], w: &[i16]) -> i32
     requires y { length y.now ≡ length h.now }
     requires z { length z.now ≡ length h.now }
     requires w { length w.now ≡ length h.now }
-    ensures { result ≡ wrap (dot h.now x.now) ∷ wrap (dot h.now y.now) ∷ wrap (dot h.now z.now) ∷ wrap (dot h.now w.now) ∷ [] }
+    ensures { result ≡ wrap (dot h.now x.now) ∷ wrap (dot h.now y.now) ∷ wrap (dot h.now z.now)
+        ∷ wrap (dot h.now w.now) ∷ [] }
 {
     let mut a = i32x4::splat(0);
     let mut b = i32x4::splat(0);

@@ -5,8 +5,10 @@
 //! 2. a module here with its struct, whose `new`, `ports` and `fire` have that as their contracts;
 //! 3. its name, and those of its new keys, in `fault.rt` and `specs/Fault.antt`;
 //! 4. a variant, a constructor and an arm of each `match` below, and a row of `specs/Kit.antt`;
-//! 5. a case in `specs/PutsFit.antt` (its blocks have their lengths) and in `proofs/Formulas.antt` (it puts its formula);
-//! 6. where many firings in one call are worth it, a `run`, its arm in `fire_at_once`, and its lemma in `proofs/KindRuns.antt`.
+//! 5. a case in `specs/PutsFit.antt` (its blocks have their lengths) and in `proofs/Formulas.antt` (it puts its
+//!   formula);
+//! 6. where many firings in one call are worth it, a `run`, its arm in `fire_at_once`, and its lemma in
+//!   `proofs/KindRuns.antt`.
 
 ghost use Rattle.std.specs.Prelude.{◌≡◌, ◌≤◌};
 ghost use Rattle.sdf_actor.specs.Steps.{Steps, total_in, total_out, PutsFit};

@@ -1,6 +1,7 @@
 //! Outputs of many firings, branch by branch.
 
-ghost use Rattle.std.specs.Prelude.{ℕ, ◌≡◌, ◌≢◌, ◌+◌, ◌-◌, ◌*◌, ◌/◌, ◌%◌, ◌<◌, ◌≤◌, length, map, take, drop, set, slice_index, FitsSigned};
+ghost use Rattle.std.specs.Prelude.{ℕ, ◌≡◌, ◌≢◌, ◌+◌, ◌-◌, ◌*◌, ◌/◌, ◌%◌, ◌<◌, ◌≤◌, length, map, take, drop, set};
+ghost use Rattle.std.specs.Prelude.{slice_index, FitsSigned};
 ghost use Rattle.std.specs.Int.{w16};
 ghost use Rattle.std.specs.List.{range_with_len};
 ghost use Rattle.std.specs.Simd.Lanes.{Each1};
@@ -32,7 +33,8 @@ pub(crate) fn put_branches(
     requires many { many ≤ 1024 }
     requires window { many * down + branches.now.width ≤ length window.now.samples + 1 }
     requires put { length put.old ≡ many * up }
-    ensures { put.new ≡ map (branch_output branches.now up down shift window.now.samples) (range_with_len 0 (many * up)) }
+    ensures { put.new ≡ map (branch_output branches.now up down shift window.now.samples)
+        (range_with_len 0 (many * up)) }
 {
     for j in 0..up {
         let at = j * down;
@@ -66,7 +68,8 @@ fn put_branch(
     requires window { many * down + length branch.now ≤ length window.now.samples + 1 }
     requires put { length put.old ≡ many * up }
     ensures len { length put.new ≡ length put.old }
-    ensures done { (i : ℕ) → i < many → sample put.new (at + i * up) ≡ settled (dot branch.now (take (length branch.now) (drop (first + i * down) window.now.samples))) shift }
+    ensures done { (i : ℕ) → i < many → sample put.new (at + i * up) ≡
+        settled (dot branch.now (take (length branch.now) (drop (first + i * down) window.now.samples))) shift }
     ensures others { (n : ℕ) → n % up ≢ at → sample put.new n ≡ sample put.old n }
 {
     let step = down as usize;
@@ -86,7 +89,8 @@ fn put_branch(
 /// Puts four samples, so many places apart.
 fn put_four(put: &mut [i32], at: usize, step: usize, samples: [i32; 4])
     requires room { at + 3 * step < length put.old }
-    ensures { put.new ≡ set (set (set (set put.old at (sample samples 0)) (at + step) (sample samples 1)) (at + 2 * step) (sample samples 2)) (at + 3 * step) (sample samples 3) }
+    ensures { put.new ≡ set (set (set (set put.old at (sample samples 0)) (at + step) (sample samples 1))
+        (at + 2 * step) (sample samples 2)) (at + 3 * step) (sample samples 3) }
 {
     put[at] = samples[0];
     put[at + step] = samples[1];

@@ -1,6 +1,7 @@
 //! The samples that a block of firings sees, as 16-bit numbers.
 
-ghost use Rattle.std.specs.Prelude.{ℕ, ◌≡◌, ◌+◌, ◌*◌, ◌%◌, ◌<◌, ◌≤◌, ℤ, pos, true, [], ◌∷◌, ◌++◌, length, take, drop, replicate, FitsSigned, ◌*ℤ◌, ◌+ℤ◌, map};
+ghost use Rattle.std.specs.Prelude.{ℕ, ◌≡◌, ◌+◌, ◌*◌, ◌%◌, ◌<◌, ◌≤◌, ℤ, pos, true, [], ◌∷◌, ◌++◌, length, take, drop};
+ghost use Rattle.std.specs.Prelude.{replicate, FitsSigned, ◌*ℤ◌, ◌+ℤ◌, map};
 ghost use Rattle.std.specs.Int.{w16};
 ghost use Rattle.std.specs.Simd.Lanes.{Each1};
 ghost use Rattle.sdf_kit.specs.Samples.{sample, settled};
@@ -81,7 +82,10 @@ impl Window {
         requires quiet { total_abs h.now * self.now.peak ≤ 2147467263 }
         requires room { at + 3 * step + length h.now ≤ length self.now.samples }
         requires shift { shift ≤ MOST_SHIFT }
-        ensures { result ≡ settled (dot_of h.now (take (length h.now) (drop at self.now.samples))) shift ∷ settled (dot_of h.now (take (length h.now) (drop (at + step) self.now.samples))) shift ∷ settled (dot_of h.now (take (length h.now) (drop (at + 2 * step) self.now.samples))) shift ∷ settled (dot_of h.now (take (length h.now) (drop (at + 3 * step) self.now.samples))) shift ∷ [] }
+        ensures { result ≡ settled (dot_of h.now (take (length h.now) (drop at self.now.samples))) shift
+            ∷ settled (dot_of h.now (take (length h.now) (drop (at + step) self.now.samples))) shift
+            ∷ settled (dot_of h.now (take (length h.now) (drop (at + 2 * step) self.now.samples))) shift
+            ∷ settled (dot_of h.now (take (length h.now) (drop (at + 3 * step) self.now.samples))) shift ∷ [] }
     {
         let high = front(&self.high, self.len);
         let a = four_dots(h, high, at, step);
@@ -131,7 +135,10 @@ fn four_dots(h: &[i16], x: &[i16], at: usize, step: usize) -> [i32; 4]
     requires short { Each1 (FitsSigned w16) h.now }
     requires samples { Each1 (FitsSigned w16) x.now }
     requires room { at + 3 * step + length h.now ≤ length x.now }
-    ensures { result ≡ wrap (dot_of h.now (take (length h.now) (drop at x.now))) ∷ wrap (dot_of h.now (take (length h.now) (drop (at + step) x.now))) ∷ wrap (dot_of h.now (take (length h.now) (drop (at + 2 * step) x.now))) ∷ wrap (dot_of h.now (take (length h.now) (drop (at + 3 * step) x.now))) ∷ [] }
+    ensures { result ≡ wrap (dot_of h.now (take (length h.now) (drop at x.now)))
+        ∷ wrap (dot_of h.now (take (length h.now) (drop (at + step) x.now)))
+        ∷ wrap (dot_of h.now (take (length h.now) (drop (at + 2 * step) x.now)))
+        ∷ wrap (dot_of h.now (take (length h.now) (drop (at + 3 * step) x.now))) ∷ [] }
 {
     let len = h.len();
     let (b, c, d) = (at + step, at + 2 * step, at + 3 * step);
@@ -234,7 +241,8 @@ fn write_all(to: &mut [i16], part: Part, pad: usize, kept: &[i32], taken: &[i32]
     requires kept { AreFit part kept.now }
     requires taken { AreFit part taken.now }
     ensures len { length to.new ≡ length to.old }
-    ensures written { take (pad + (length kept.now + length taken.now)) to.new ≡ map (part_as part) (replicate pad (pos 0) ++ (kept.now ++ taken.now)) }
+    ensures written { take (pad + (length kept.now + length taken.now)) to.new ≡
+        map (part_as part) (replicate pad (pos 0) ++ (kept.now ++ taken.now)) }
 {
     clear(to, pad);
     write(to, part, pad, kept);

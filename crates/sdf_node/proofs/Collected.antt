@@ -17,18 +17,22 @@ number_of (node.Sink ext block) = ext
 number_of (node.Inner x) = 0
 
 -- the list of a sink comes to its place
-pub collected_sink : {A S T : Type 0} (x : Node A) (w : NodeState T S) (outputs : List (Vec T Global)) (ext block : ℕ) (v : Vec T Global) → x ≡ node.Sink ext block → ext < length outputs →
+pub collected_sink : {A S T : Type 0} (x : Node A) (w : NodeState T S) (outputs : List (Vec T Global)) (ext block : ℕ)
+    (v : Vec T Global) → x ≡ node.Sink ext block → ext < length outputs →
     ((made : Vec T Global) → w ≡ Sink made → v ≡ made) → IsCollected x w outputs (set outputs ext v)
 collected_sink {A} {S} {T} x w outputs ext block v is within own = record {
   all = length-set outputs ext v;
   own = λ e b made at made_is.
       let here : get_or (lists (set outputs ext v)) ext [] ≡ v.items =
       ap (λ xs. get_or xs ext []) (map-set (λ (y : Vec T Global). y.items) outputs ext v) ∙
-      get_or-set_same (map (λ (y : Vec T Global). y.items) outputs) ext v.items [] (omega (arith, within, length-map outputs (λ (y : Vec T Global). y.items))) in
-      ap (λ i. get_or (lists (set outputs ext v)) i []) (ap number_of (sym at ∙ is)) ∙ (here ∙ ap (λ (y : Vec T Global). y.items) (own made made_is));
+      get_or-set_same (map (λ (y : Vec T Global). y.items) outputs) ext v.items []
+      (omega (arith, within, length-map outputs (λ (y : Vec T Global). y.items))) in
+      ap (λ i. get_or (lists (set outputs ext v)) i []) (ap number_of (sym at ∙ is))
+      ∙ (here ∙ ap (λ (y : Vec T Global). y.items) (own made made_is));
   others = λ e none.
       ap (λ xs. get_or xs e []) (map-set (λ (y : Vec T Global). y.items) outputs ext v) ∙
-      get_or-set_other (map (λ (y : Vec T Global). y.items) outputs) ext e v.items [] (λ same. none block (is ∙ ap (λ i. node.Sink i block) (sym same)));
+      get_or-set_other (map (λ (y : Vec T Global). y.items) outputs) ext e v.items []
+      (λ same. none block (is ∙ ap (λ i. node.Sink i block) (sym same)));
 }
 
 pub hold_lists : {A S T : Type 0} (s : Steps A S T) → SinksHoldLists s

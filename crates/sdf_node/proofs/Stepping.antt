@@ -11,7 +11,8 @@ use Rattle.sdf_node.specs.declared.node.NodeState.TheVariants.{Source, Sink, Inn
 use Rattle.sdf_node.specs.Nodes.{phase_at, takes_of, puts_of, CanStep, IsAt}
 
 module _ {A S T : Type 0} (s : Steps A S T) (inputs : List (List T)) where
-  pub keeps_phase : (x : Node A) (many : ℕ) (past : List (List T)) (w : NodeState T S) → IsAt s inputs many x past w → phase_at w ≡ length past % cycle_of s x
+  pub keeps_phase : (x : Node A) (many : ℕ) (past : List (List T)) (w : NodeState T S) → IsAt s inputs many x past w →
+      phase_at w ≡ length past % cycle_of s x
   keeps_phase (node.Source ext block) many past (Source next) is = sym (mod-one (length past))
   keeps_phase (node.Sink ext block) many past (Sink list) is = sym (mod-one (length past))
   keeps_phase (node.Inner x) many past (Inner j state) is = is.0
@@ -22,7 +23,8 @@ module _ {A S T : Type 0} (s : Steps A S T) (inputs : List (List T)) where
   keeps_phase (node.Inner x) many past (Source next) is = absurd is
   keeps_phase (node.Inner x) many past (Sink list) is = absurd is
 
-  pub can_step : (x : Node A) (many : ℕ) (past : List (List T)) (w : NodeState T S) → IsAt s inputs many x past w → 0 < cycle_of s x → length past < many →
+  pub can_step : (x : Node A) (many : ℕ) (past : List (List T)) (w : NodeState T S) → IsAt s inputs many x past w →
+      0 < cycle_of s x → length past < many →
       CanStep s inputs x w (takes_of s x (phase_at w)) (puts_of s x (phase_at w))
   can_step (node.Source ext block) many past (Source next) is some left =
       let within : block * (length past + 1) ≤ block * many = mul-le-mul_left block (omega arith) in

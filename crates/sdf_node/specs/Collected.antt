@@ -12,13 +12,17 @@ use Rattle.sdf_node.specs.declared.node.NodeState.TheVariants.{Sink}
 use Rattle.sdf_node.specs.Nodes.{IsAt}
 
 -- the list that a node made, where it is a sink, has its number among some lists, and the others are as they were
-pub record IsCollected {A S T : Type 0} (x : Node A) (w : NodeState T S) (outputs outputs' : List (Vec T Global)) : Type 0 where
+pub record IsCollected {A S T : Type 0} (x : Node A) (w : NodeState T S)
+    (outputs outputs' : List (Vec T Global)) : Type 0 where
   pub all : length outputs' ≡ length outputs
-  pub own : (ext block : ℕ) (made : Vec T Global) → x ≡ node.Sink ext block → w ≡ Sink made → slice_index_or (lists outputs') ext [] ≡ made.items
-  pub others : (e : ℕ) → ((block : ℕ) → x ≡ node.Sink e block → ⊥) → slice_index_or (lists outputs') e [] ≡ slice_index_or (lists outputs) e []
+  pub own : (ext block : ℕ) (made : Vec T Global) → x ≡ node.Sink ext block → w ≡ Sink made →
+      slice_index_or (lists outputs') ext [] ≡ made.items
+  pub others : (e : ℕ) → ((block : ℕ) → x ≡ node.Sink e block → ⊥) →
+      slice_index_or (lists outputs') e [] ≡ slice_index_or (lists outputs) e []
 
 -- a sink has a list, of all that it took
 abbrev pub SinksHoldLists : {A S T : Type 0} → Steps A S T → Type 0
 SinksHoldLists {A} {S} {T} s =
-    (inputs : List (List T)) (many ext block : ℕ) (past : List (List T)) (w : NodeState T S) → IsAt s inputs many (node.Sink ext block) past w →
+    (inputs : List (List T)) (many ext block : ℕ) (past : List (List T)) (w : NodeState T S) →
+    IsAt s inputs many (node.Sink ext block) past w →
     (made : Vec T Global) × (w ≡ Sink made) × (made.items ≡ flat_map (λ b. b) past)

@@ -15,5 +15,6 @@ kept_of x w = None
 -- an actor keeps the state after all that it took
 abbrev pub ActorsKeepStates : {A S T : Type 0} → Steps A S T → Type 0
 ActorsKeepStates {A} {S} {T} s =
-    (inputs : List (List T)) (many : ℕ) (x : A) (past : List (List T)) (w : NodeState T S) → IsAt s inputs many (node.Inner x) past w →
+    (inputs : List (List T)) (many : ℕ) (x : A) (past : List (List T)) (w : NodeState T S) →
+    IsAt s inputs many (node.Inner x) past w →
     kept_of (node.Inner x) w ≡ Some (state_after s x past)

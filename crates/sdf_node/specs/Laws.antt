@@ -10,20 +10,24 @@ use Rattle.sdf_node.specs.Many.{nth_block, joined, CanStepMany}
 -- a node that has firings left can do the next one, with blocks of the lengths of its phase
 abbrev pub NodesCanStep : {A S T : Type 0} → Steps A S T → Type 0
 NodesCanStep {A} {S} {T} s =
-    (inputs : List (List T)) (x : Node A) (many : ℕ) (past : List (List T)) (w : NodeState T S) → IsAt s inputs many x past w →
+    (inputs : List (List T)) (x : Node A) (many : ℕ) (past : List (List T)) (w : NodeState T S) →
+    IsAt s inputs many x past w →
     0 < cycle_of s x → length past < many → CanStep s inputs x w (takes_of s x (phase_at w)) (puts_of s x (phase_at w))
 
 -- its phase is that of the number of its next firing
 abbrev pub NodesKeepPhase : {A S T : Type 0} → Steps A S T → Type 0
 NodesKeepPhase {A} {S} {T} s =
-    (inputs : List (List T)) (x : Node A) (many : ℕ) (past : List (List T)) (w : NodeState T S) → IsAt s inputs many x past w →
+    (inputs : List (List T)) (x : Node A) (many : ℕ) (past : List (List T)) (w : NodeState T S) →
+    IsAt s inputs many x past w →
     phase_at w ≡ length past % cycle_of s x
 
 -- a node of one phase that has so many firings left can do them in one piece of work
 abbrev pub NodesCanStepMany : {A S T : Type 0} → Steps A S T → Type 0
 NodesCanStepMany {A} {S} {T} s =
-    (inputs : List (List T)) (x : Node A) (all many : ℕ) (past : List (List T)) (w : NodeState T S) → IsAt s inputs all x past w →
-    cycle_of s x ≡ 1 → length past + many ≤ all → CanStepMany s inputs x w many (takes_of s x 0 * many) (puts_of s x 0 * many)
+    (inputs : List (List T)) (x : Node A) (all many : ℕ) (past : List (List T)) (w : NodeState T S) →
+    IsAt s inputs all x past w →
+    cycle_of s x ≡ 1 → length past + many ≤ all → CanStepMany s inputs x w many (takes_of s x 0 * many)
+    (puts_of s x 0 * many)
 
 -- consecutive blocks of one size that make a whole list: each has that length, and joined they are the list
 abbrev pub BlocksJoin : Type 0 → Type 0

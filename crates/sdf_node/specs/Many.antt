@@ -1,5 +1,7 @@
--- Many firings of a node of one phase in one piece of work: the block of a firing stands behind that of the one before it.
-use Rattle.std.specs.Prelude.{◌≡◌, ℕ, zero, suc, ◌+◌, ◌*◌, ◌≤◌, ◌<◌, List, [], ◌∷◌, ◌++◌, length, slice_index_or, vec_capacity}
+-- Many firings of a node of one phase in one piece of work: the block of a firing stands behind that of the one before
+-- it.
+use Rattle.std.specs.Prelude.{◌≡◌, ℕ, zero, suc, ◌+◌, ◌*◌, ◌≤◌, ◌<◌, List, [], ◌∷◌, ◌++◌, length, slice_index_or}
+use Rattle.std.specs.Prelude.{vec_capacity}
 use Rattle.std.specs.List.{between}
 use Rattle.sdf_actor.specs.Steps.{Steps, total_in, total_out}
 use Rattle.sdf_actor.specs.declared.node.Node.{Node}
@@ -29,7 +31,8 @@ AreWhole s x past = (i : ℕ) → i < length past → length (slice_index_or pas
 abbrev pub CanStepMany : {A S T : Type 0} → Steps A S T → List (List T) → Node A → NodeState T S → ℕ → ℕ → ℕ → Type 0
 CanStepMany s inputs (node.Source ext block) (Source next) many taken put =
     (ext < length inputs) × (next + put ≤ length (slice_index_or inputs ext [])) × (put ≡ block * many)
-CanStepMany s inputs (node.Sink ext block) (Sink list) many taken put = (length list.items + taken ≤ vec_capacity list) × (taken ≡ block * many) × (put ≡ 0)
+CanStepMany s inputs (node.Sink ext block) (Sink list) many taken put =
+    (length list.items + taken ≤ vec_capacity list) × (taken ≡ block * many) × (put ≡ 0)
 CanStepMany s inputs (node.Inner x) (Inner j state) many taken put =
     (s.cycle x ≡ 1) × (j < s.cycle x) × (taken ≡ total_in s x 0 * many) × (put ≡ total_out s x 0 * many)
 CanStepMany s inputs x w many taken put = ⊥

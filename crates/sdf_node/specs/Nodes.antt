@@ -28,8 +28,10 @@ puts_of s (node.Inner x) j = total_out s x j
 abbrev pub CanStep : {A S T : Type 0} → Steps A S T → List (List T) → Node A → NodeState T S → ℕ → ℕ → Type 0
 CanStep s inputs (node.Source ext block) (Source next) taken put =
     (ext < length inputs) × (next + put ≤ length (slice_index_or inputs ext [])) × (put ≡ block)
-CanStep s inputs (node.Sink ext block) (Sink list) taken put = (length list.items + taken ≤ vec_capacity list) × (taken ≡ block) × (put ≡ 0)
-CanStep s inputs (node.Inner x) (Inner j state) taken put = (j < s.cycle x) × (taken ≡ total_in s x j) × (put ≡ total_out s x j)
+CanStep s inputs (node.Sink ext block) (Sink list) taken put =
+    (length list.items + taken ≤ vec_capacity list) × (taken ≡ block) × (put ≡ 0)
+CanStep s inputs (node.Inner x) (Inner j state) taken put =
+    (j < s.cycle x) × (taken ≡ total_in s x j) × (put ≡ total_out s x j)
 CanStep s inputs x w taken put = ⊥
 
 -- a node's state after it took the blocks past, where it fires so many times in all
@@ -37,12 +39,14 @@ abbrev pub IsAt : {A S T : Type 0} → Steps A S T → List (List T) → ℕ →
 IsAt s inputs many (node.Source ext block) past (Source next) =
     (next ≡ block * length past) × (ext < length inputs) × (block * many ≤ length (slice_index_or inputs ext []))
 IsAt s inputs many (node.Sink ext block) past (Sink list) =
-    (list.items ≡ flat_map (λ b. b) past) × (length list.items ≡ block * length past) × (block * many ≤ vec_capacity list)
+    (list.items ≡ flat_map (λ b. b) past) × (length list.items ≡ block * length past)
+    × (block * many ≤ vec_capacity list)
 IsAt s inputs many (node.Inner x) past (Inner j state) = (j ≡ phase s x (length past)) × (state ≡ state_after s x past)
 IsAt s inputs many x past w = ⊥
 
 -- a node finds what it reads in so many firings, or its list of so much room has room for what it makes
 abbrev pub CanBegin : {A T : Type 0} → List (List T) → ℕ → ℕ → Node A → Type 0
-CanBegin inputs many room (node.Source ext block) = (ext < length inputs) × (block * many ≤ length (slice_index_or inputs ext []))
+CanBegin inputs many room (node.Source ext block) =
+    (ext < length inputs) × (block * many ≤ length (slice_index_or inputs ext []))
 CanBegin inputs many room (node.Sink ext block) = block * many ≤ room
 CanBegin inputs many room (node.Inner x) = Unit {0}

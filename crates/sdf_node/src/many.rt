@@ -20,11 +20,16 @@ pub fn step_many<A: Actor>(
 )
     requires { CanStepMany A.steps (lists inputs.now) node.now state.old many (length taken.now) (length put.old) }
     ensures len { length put.new ≡ length put.old }
-    ensures state { (all : ℕ) (past : List (List A.Token)) → IsAt A.steps (lists inputs.now) all node.now past state.old →
-        IsAt A.steps (lists inputs.now) all node.now (past ++ listed (nth_block (takes_of A.steps node.now 0) taken.now) many) state.new }
-    ensures put { (all : ℕ) (past : List (List A.Token)) → IsAt A.steps (lists inputs.now) all node.now past state.old → AreWhole A.steps node.now past →
+    ensures state { (all : ℕ) (past : List (List A.Token)) →
+        IsAt A.steps (lists inputs.now) all node.now past state.old →
+        IsAt A.steps (lists inputs.now) all node.now
+        (past ++ listed (nth_block (takes_of A.steps node.now 0) taken.now) many) state.new }
+    ensures put { (all : ℕ) (past : List (List A.Token)) → IsAt A.steps (lists inputs.now) all node.now past state.old →
+        AreWhole A.steps node.now past →
         (i : ℕ) → i < many → nth_block (puts_of A.steps node.now 0) put.new i ≡
-        answer_of A.steps (lists inputs.now) node.now (past ++ listed (nth_block (takes_of A.steps node.now 0) taken.now) i) (nth_block (takes_of A.steps node.now 0) taken.now i) }
+        answer_of A.steps (lists inputs.now) node.now
+        (past ++ listed (nth_block (takes_of A.steps node.now 0) taken.now) i)
+        (nth_block (takes_of A.steps node.now 0) taken.now i) }
 {
     match node {
         Node::Source { ext, .. } => match state {

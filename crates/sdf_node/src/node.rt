@@ -1,6 +1,7 @@
 //! Nodes at work, whatever holds their channels: queues, rings, or the blocks of a row.
 
-ghost use Rattle.std.specs.Prelude.{◌≡◌, ◌+◌, ◌≤◌, ◌<◌, ◌++◌, ◌∷◌, [], ℕ, List, length, slice_range, slice_index_or, vec_len, vec_capacity, IfOk};
+ghost use Rattle.std.specs.Prelude.{◌≡◌, ◌+◌, ◌≤◌, ◌<◌, ◌++◌, ◌∷◌, [], ℕ, List, length, slice_range, slice_index_or};
+ghost use Rattle.std.specs.Prelude.{vec_len, vec_capacity, IfOk};
 ghost use Rattle.sdf_actor.specs.Nets.{answer_of, cycle_of};
 ghost use Rattle.sdf_actor.specs.Wires.{lists};
 ghost use Rattle.sdf_node.specs.Nodes.{phase_at, takes_of, puts_of, CanStep, CanBegin, IsAt};
@@ -62,7 +63,8 @@ pub fn begin<A: Actor>(
     node: &Node<A>,
     room: usize,
 ) -> Result<NodeState<A::Token, A::State>, AllocError>
-    ensures { IfOk result (λ w. (inputs : List (List A.Token)) (many : ℕ) → CanBegin inputs many room node.now → IsAt A.steps inputs many node.now [] w) }
+    ensures { IfOk result (λ w. (inputs : List (List A.Token)) (many : ℕ) → CanBegin inputs many room node.now →
+        IsAt A.steps inputs many node.now [] w) }
 {
     match node {
         Node::Source { .. } => Ok(NodeState::Source(0)),
@@ -118,8 +120,12 @@ pub fn step<A: Actor>(
 )
     requires { CanStep A.steps (lists inputs.now) node.now state.old (length taken.now) (length put.old) }
     ensures len { length put.new ≡ length put.old }
-    ensures state { (many : ℕ) (past : List (List A.Token)) → IsAt A.steps (lists inputs.now) many node.now past state.old → IsAt A.steps (lists inputs.now) many node.now (past ++ taken.now ∷ []) state.new }
-    ensures put { (many : ℕ) (past : List (List A.Token)) → IsAt A.steps (lists inputs.now) many node.now past state.old → put.new ≡ answer_of A.steps (lists inputs.now) node.now past taken.now }
+    ensures state { (many : ℕ) (past : List (List A.Token)) →
+        IsAt A.steps (lists inputs.now) many node.now past state.old →
+        IsAt A.steps (lists inputs.now) many node.now (past ++ taken.now ∷ []) state.new }
+    ensures put { (many : ℕ) (past : List (List A.Token)) →
+        IsAt A.steps (lists inputs.now) many node.now past state.old →
+        put.new ≡ answer_of A.steps (lists inputs.now) node.now past taken.now }
 {
     match node {
         Node::Source { ext, .. } => match state {

@@ -1,5 +1,6 @@
 -- The row that a crew makes, and sums of what has ended.
-use Rattle.std.proofs.Common.{◌≡◌, ℕ, zero, suc, ◌+◌, ◌*◌, ◌≤◌, ◌<◌, ◌⊎◌, List, [], ◌∷◌, ◌++◌, length, get_or, sum, ap, inl, inr, arith, refl, Option, Some, None, Bool, true, false}
+use Rattle.std.proofs.Common.{◌≡◌, ℕ, zero, suc, ◌+◌, ◌*◌, ◌≤◌, ◌<◌, ◌⊎◌, List, [], ◌∷◌, ◌++◌, length, get_or, sum, ap}
+use Rattle.std.proofs.Common.{inl, inr, arith, refl, Option, Some, None, Bool, true, false}
 use Rattle.std.proofs.lemmas.Option.{none-some}
 use Rattle.std.proofs.lemmas.Bool.{false≢true}
 use Rattle.std.proofs.lemmas.List.Sums.{sum_by-cons}
@@ -13,65 +14,96 @@ use Rattle.sdf_prec.specs.Floor.{IsNextReady, IsFilling, AreStarted, IsDue, IsDo
 use Rattle.sdf_prec.specs.Placing.{IsPlacing, AreWaiting}
 use Rattle.sdf_prec.specs.Crew.{IsRowAt}
 use Rattle.sdf_prec.proofs.Starts.{starting_none}
-use Rattle.sdf_prec.proofs.Rules.{free_row, filled_each, filled_apart, free_stuck, homed_row, placed_each, placed_apart, homes_then, homed_stuck}
+use Rattle.sdf_prec.proofs.Rules.{free_row, filled_each, filled_apart, free_stuck, homed_row, placed_each, placed_apart}
+use Rattle.sdf_prec.proofs.Rules.{homes_then, homed_stuck}
 use Rattle.sdf_prec.proofs.Turns.{done_row, done_none, settled_more}
 
 -- where the list of a row's firings is empty nothing stands in it
-pub nothing_stands : (cells : List (Option Firing)) → firings cells ≡ [] → (j : ℕ) (f : Firing) → get_or cells j None ≡ Some f → ⊥
+pub nothing_stands : (cells : List (Option Firing)) → firings cells ≡ [] → (j : ℕ) (f : Firing) →
+    get_or cells j None ≡ Some f → ⊥
 nothing_stands [] e j f is = none-some f is
 nothing_stands (None ∷ cells) e zero f is = none-some f is
 nothing_stands (None ∷ cells) e (suc j) f is = nothing_stands cells e j f is
 nothing_stands (Some g ∷ cells) e j f is = let l : suc (length (firings cells)) ≡ 0 = ap length e in omega arith
 
-module _ (r : Rates) (n cost : ℕ → ℕ) (level : Firing → ℕ) (width : ℕ) (past : List Timed) (now : ℕ) (ended started ends : ℕ → ℕ) (u : List ℕ) (s : IsSound r) (dear : (a : ℕ) → a < r.actors → 1 ≤ cost a)
+module _ (r : Rates) (n cost : ℕ → ℕ) (level : Firing → ℕ) (width : ℕ) (past : List Timed) (now : ℕ)
+    (ended started ends : ℕ → ℕ) (u : List ℕ) (s : IsSound r) (dear : (a : ℕ) → a < r.actors → 1 ≤ cost a)
     (queue : List Firing) (q : IsQueue level (IsNextReady r n ended started) queue) (cells : List (Option Firing)) where
-  pub row_free : (homes : ℕ → Option ℕ) → IsDue r n cost level width false past now ended started ends (λ j. get_or u j 0) homes → (next : ℕ) → IsFilling u now width queue next cells →
+  pub row_free : (homes : ℕ → Option ℕ) → IsDue r n cost level width false past now ended started ends
+      (λ j. get_or u j 0) homes → (next : ℕ) → IsFilling u now width queue next cells →
       IsRowAt r n cost level width false past now ended started ends (λ j. get_or u j 0) homes cells
   row_free homes d next fill = record {
     wide = fill.wide;
-    by_rule = free_row r n cost level width past now ended started ends (λ j. get_or u j 0) d.floor s queue q cells u (λ j _. get_or u j 0) next fill;
-    each = filled_each r n cost level width past now ended started ends (λ j. get_or u j 0) d.floor s queue q cells u (λ j _. get_or u j 0) next fill;
-    apart = filled_apart r n cost level width past now ended started ends (λ j. get_or u j 0) d.floor s queue q cells u (λ j _. get_or u j 0) next fill;
+    by_rule = free_row r n cost level width past now ended started ends (λ j. get_or u j 0) d.floor s queue q cells u
+        (λ j _. get_or u j 0) next fill;
+    each = filled_each r n cost level width past now ended started ends (λ j. get_or u j 0) d.floor s queue q cells u
+        (λ j _. get_or u j 0) next fill;
+    apart = filled_apart r n cost level width past now ended started ends (λ j. get_or u j 0) d.floor s queue q cells u
+        (λ j _. get_or u j 0) next fill;
     homes_then = λ never. absurd (false≢true never);
-    stuck = λ started' ends' until' b f h. inr (free_stuck r n cost level width past now ended started ends (λ j. get_or u j 0) d.floor s queue q cells started' ends' until' dear
-        (filled_each r n cost level width past now ended started ends (λ j. get_or u j 0) d.floor s queue q cells u (λ j _. get_or u j 0) next fill) b u (λ j _. get_or u j 0) next fill f h);
+    stuck = λ started' ends' until' b f h. inr (free_stuck r n cost level width past now ended started ends
+        (λ j. get_or u j 0) d.floor s queue q cells started' ends' until' dear
+        (filled_each r n cost level width past now ended started ends (λ j. get_or u j 0) d.floor s queue q cells u
+        (λ j _. get_or u j 0) next fill) b u (λ j _. get_or u j 0) next fill f h);
   }
 
-  pub row_homed : (homes homes' : List (Option ℕ)) → IsDue r n cost level width true past now ended started ends (λ j. get_or u j 0) (λ a. get_or homes a None) → (weight : ℕ → ℕ) → weight ≡ (λ a. n a * cost a) → length u ≡ width →
-      IsPlacing r.actors width weight (λ j. get_or u j 0 ≤ now) (λ a. get_or homes a None) queue (length queue) cells homes' → AreWaiting u now queue (length queue) cells homes' →
-      IsRowAt r n cost level width true past now ended started ends (λ j. get_or u j 0) (λ a. get_or homes' a None) cells
+  pub row_homed : (homes homes' : List (Option ℕ)) →
+      IsDue r n cost level width true past now ended started ends (λ j. get_or u j 0) (λ a. get_or homes a None) →
+      (weight : ℕ → ℕ) → weight ≡ (λ a. n a * cost a) → length u ≡ width →
+      IsPlacing r.actors width weight (λ j. get_or u j 0 ≤ now) (λ a. get_or homes a None) queue (length queue) cells
+      homes' → AreWaiting u now queue (length queue) cells homes' →
+      IsRowAt r n cost level width true past now ended started ends (λ j. get_or u j 0)
+      (λ a. get_or homes' a None) cells
   row_homed homes homes' d weight weight_is wide placed waiting = record {
     wide = placed.wide;
-    by_rule = homed_row r n cost level width past now ended started ends (λ j. get_or u j 0) d.floor s queue q cells weight weight_is u (λ j _. get_or u j 0) homes homes' (d.homes_are refl) placed;
-    each = placed_each r n cost level width past now ended started ends (λ j. get_or u j 0) d.floor s queue q cells weight weight_is u (λ j _. get_or u j 0) homes homes' (d.homes_are refl) placed;
-    apart = placed_apart r n cost level width past now ended started ends (λ j. get_or u j 0) d.floor s queue q cells weight weight_is u (λ j _. get_or u j 0) homes homes' (d.homes_are refl) placed;
-    homes_then = λ _. homes_then r n cost level width past now ended started ends (λ j. get_or u j 0) d.floor s queue q cells weight weight_is u (λ j _. get_or u j 0) homes homes' (d.homes_are refl) placed;
-    stuck = λ started' ends' until' b. homed_stuck r n cost level width past now ended started ends (λ j. get_or u j 0) d.floor s queue q cells started' ends' until' dear
-        (placed_each r n cost level width past now ended started ends (λ j. get_or u j 0) d.floor s queue q cells weight weight_is u (λ j _. get_or u j 0) homes homes' (d.homes_are refl) placed) b u (λ j _. get_or u j 0) homes' wide waiting;
+    by_rule = homed_row r n cost level width past now ended started ends (λ j. get_or u j 0) d.floor s queue q cells
+        weight weight_is u (λ j _. get_or u j 0) homes homes' (d.homes_are refl) placed;
+    each = placed_each r n cost level width past now ended started ends (λ j. get_or u j 0) d.floor s queue q cells
+        weight weight_is u (λ j _. get_or u j 0) homes homes' (d.homes_are refl) placed;
+    apart = placed_apart r n cost level width past now ended started ends (λ j. get_or u j 0) d.floor s queue q cells
+        weight weight_is u (λ j _. get_or u j 0) homes homes' (d.homes_are refl) placed;
+    homes_then = λ _. homes_then r n cost level width past now ended started ends (λ j. get_or u j 0) d.floor s queue q
+        cells weight weight_is u (λ j _. get_or u j 0) homes homes' (d.homes_are refl) placed;
+    stuck = λ started' ends' until' b. homed_stuck r n cost level width past now ended started ends (λ j. get_or u j 0)
+        d.floor s queue q cells started' ends' until' dear
+        (placed_each r n cost level width past now ended started ends (λ j. get_or u j 0) d.floor s queue q cells weight
+        weight_is u (λ j _. get_or u j 0) homes homes' (d.homes_are refl) placed) b u (λ j _. get_or u j 0)
+        homes' wide waiting;
   }
 
-module _ (r : Rates) (n cost : ℕ → ℕ) (level : Firing → ℕ) (width : ℕ) (homed : Bool) (past : List Timed) (now : ℕ) (ended started ends until : ℕ → ℕ) (homes homes' : ℕ → Option ℕ) (s : IsSound r)
-    (d : IsDue r n cost level width homed past now ended started ends until homes) (cells : List (Option Firing)) (row : IsRowAt r n cost level width homed past now ended started ends until homes' cells) where
+module _ (r : Rates) (n cost : ℕ → ℕ) (level : Firing → ℕ) (width : ℕ) (homed : Bool) (past : List Timed) (now : ℕ)
+    (ended started ends until : ℕ → ℕ) (homes homes' : ℕ → Option ℕ) (s : IsSound r)
+    (d : IsDue r n cost level width homed past now ended started ends until homes) (cells : List (Option Firing))
+    (row : IsRowAt r n cost level width homed past now ended started ends until homes' cells) where
   -- a row with a firing is added
-  pub row_added : (dear : (a : ℕ) → a < r.actors → 1 ≤ cost a) → (firings cells ≡ [] → ⊥) → (started' ends' until' : ℕ → ℕ) → AreStarted cost now (length cells) cells started ends until started' ends' until' →
-      IsDone r n cost level width homed (past ++ record { start = now; cells = cells } ∷ []) now ended started' ends' until' homes'
+  pub row_added : (dear : (a : ℕ) → a < r.actors → 1 ≤ cost a) → (firings cells ≡ [] → ⊥) →
+      (started' ends' until' : ℕ → ℕ) → AreStarted cost now (length cells) cells started ends until
+      started' ends' until' →
+      IsDone r n cost level width homed (past ++ record { start = now; cells = cells } ∷ []) now ended started'
+      ends' until' homes'
   row_added dear some started' ends' until' b =
-      done_row r n cost level width s homed past now ended started ends until homes d started' ends' until' homes' cells row.by_rule row.wide some dear row.each row.apart b
-      (λ h. row.homes_then h (past ++ record { start = now; cells = cells } ∷ []) (settled_more past (record { start = now; cells = cells })))
+      done_row r n cost level width s homed past now ended started ends until homes d started' ends' until' homes' cells
+      row.by_rule row.wide some dear row.each row.apart b
+      (λ h. row.homes_then h (past ++ record { start = now; cells = cells } ∷ [])
+      (settled_more past (record { start = now; cells = cells })))
       (row.stuck started' ends' until' b)
 
   -- an empty one is not
   pub row_left : firings cells ≡ [] → IsDone r n cost level width homed past now ended started ends until homes'
   row_left none =
-      done_none r n cost level width s homed past now ended started ends until homes d started ends until homes' cells row.by_rule none
+      done_none r n cost level width s homed past now ended started ends until homes d started ends until homes' cells
+      row.by_rule none
       (λ h. row.homes_then h past (λ a j. (λ x. inl x, back a j)))
-      (row.stuck started ends until (starting_none cost now (length cells) cells started ends until (λ j f l e. nothing_stands cells none j f e)))
+      (row.stuck started ends until (starting_none cost now (length cells) cells started ends until
+      (λ j f l e. nothing_stands cells none j f e)))
     where
-      back : (a j : ℕ) → IsSettled past a j ⊎ ((f : Firing) × (get_or cells j None ≡ Some f) × (f.actor ≡ a)) → IsSettled past a j
+      back : (a j : ℕ) → IsSettled past a j ⊎ ((f : Firing) × (get_or cells j None ≡ Some f) × (f.actor ≡ a)) →
+          IsSettled past a j
       back a j (inl x) = x
       back a j (inr (f, e, is)) = absurd (nothing_stands cells none j f e)
 
-pub sum_less : ListsSumWithin → (xs ys : List ℕ) (b : ℕ) → length xs ≡ length ys → ((a : ℕ) → get_or xs a 0 ≤ get_or ys a 0) → get_or xs b 0 < get_or ys b 0 → sum xs < sum ys
+pub sum_less : ListsSumWithin → (xs ys : List ℕ) (b : ℕ) → length xs ≡ length ys →
+    ((a : ℕ) → get_or xs a 0 ≤ get_or ys a 0) → get_or xs b 0 < get_or ys b 0 → sum xs < sum ys
 sum_less lists [] [] b e h l = absurd (omega arith)
 sum_less lists [] (y ∷ ys) b e h l = absurd (omega arith)
 sum_less lists (x ∷ xs) [] b e h l = absurd (omega arith)

@@ -1,8 +1,11 @@
 -- When nothing is at work any more each firing stands, and the rows are a valid table.
-use Rattle.std.proofs.Common.{◌≡◌, ℕ, zero, suc, ◌+◌, ◌-◌, ◌≤◌, ◌<◌, ◌⊎◌, List, [], ◌∷◌, ◌++◌, length, get_or, take, sym, ap, ◌∙◌, subst, inl, inr, arith, refl, add-one, Option, Some, None, Bool, true, false}
+use Rattle.std.proofs.Common.{◌≡◌, ℕ, zero, suc, ◌+◌, ◌-◌, ◌≤◌, ◌<◌, ◌⊎◌, List, [], ◌∷◌, ◌++◌, length, get_or, take}
+use Rattle.std.proofs.Common.{sym, ap, ◌∙◌, subst, inl, inr, arith, refl, add-one, Option, Some, None, Bool, true}
+use Rattle.std.proofs.Common.{false}
 use Rattle.std.specs.Prelude.{IsTrue, slice_get}
 use Rattle.std.specs.List.{Contains}
-use Rattle.std.proofs.lemmas.List.{take_all, get_or-take, length-take, get_or_append_left, get_or-append_right, length-append, length-map, get_or_default}
+use Rattle.std.proofs.lemmas.List.{take_all, get_or-take, length-take, get_or_append_left, get_or-append_right}
+use Rattle.std.proofs.lemmas.List.{length-append, length-map, get_or_default}
 use Rattle.std.proofs.lemmas.Option.{slice_get_within, get_or_from_slice_get}
 use Rattle.std.proofs.lemmas.Bool.{cases_lt}
 use Rattle.sdf_graph.specs.Rates.{Rates, IsSound}
@@ -26,30 +29,56 @@ wide_cap r w c = r.initial c + r.produced c (times w (r.source c))
 
 -- where all that started has ended and a firing is left, some firing is ready
 module _ (some : SomeIsNext) (may_fire : NextMayFire) (last : LastCountsMore) (front : FrontsCountWithin) where
-  pub some_ready : (r : Rates) (n ended started : ℕ → ℕ) (w : List ℕ) → IsSound r → IsPass r n w → ((a : ℕ) → a < r.actors → ended a ≡ started a) → (a : ℕ) → a < r.actors → started a < n a → (f : Firing) × IsNextReady r n ended started f
+  pub some_ready : (r : Rates) (n ended started : ℕ → ℕ) (w : List ℕ) → IsSound r → IsPass r n w →
+      ((a : ℕ) → a < r.actors → ended a ≡ started a) → (a : ℕ) → a < r.actors → started a < n a →
+      (f : Firing) × IsNextReady r n ended started f
   some_ready r n ended started w s pass all a l left = go (some ended w a (omega (arith, pass.1 a l, all a l)))
     where
       fits : FitsIn r (wide_cap r w) w
-      fits m h c k = omega (arith, s.produced_rises c (times (take m w) (r.source c)) (times w (r.source c)) (front w m (r.source c)))
+      fits m h c k = omega (
+        arith,
+        s.produced_rises c (times (take m w) (r.source c)) (times w (r.source c))
+            (front w m (r.source c)),
+      )
 
       go : (p : ℕ) × IsNext ended w p → (f : Firing) × IsNextReady r n ended started f
       go (p, next) =
           let fires = may_fire r ended (wide_cap r w) w p s pass.0 fits next in
           let b = get_or w p 0 in
           let known : get_or w p 0 < r.actors = (pass.0 p next.within).0 in
-          let more : times (take (p + 1) w) (get_or w p 0) ≡ times (take p w) (get_or w p 0) + 1 = last w p (get_or w p 0) next.within refl in
-          let within : started (get_or w p 0) < n (get_or w p 0) = omega (arith, front w (p + 1) (get_or w p 0), pass.1 (get_or w p 0) known, all (get_or w p 0) known, fires.0) in
-          (record { actor = get_or w p 0; number = started (get_or w p 0) }, record { known = known; within = within; next = refl; through = all (get_or w p 0) known; on = fires.1 })
+          let more : times (take (p + 1) w) (get_or w p 0) ≡ times (take p w) (get_or w p 0) + 1 =
+          last w p (get_or w p 0) next.within refl in
+          let within : started (get_or w p 0) < n (get_or w p 0) =
+          omega (
+            arith,
+            front w (p + 1) (get_or w p 0),
+            pass.1 (get_or w p 0) known,
+            all (get_or w p 0) known,
+            fires.0,
+          ) in (
+            record { actor = get_or w p 0; number = started (get_or w p 0) },
+            record {
+              known = known;
+              within = within;
+              next = refl;
+              through = all (get_or w p 0) known;
+              on = fires.1;
+            },
+          )
 
   -- so where none can start none is left
-  pub all_stand : (r : Rates) (n cost : ℕ → ℕ) (width : ℕ) (homed : Bool) (past : List Timed) (now : ℕ) (ended started ends until : ℕ → ℕ) (homes : ℕ → Option ℕ) (w : List ℕ) → IsSound r → 0 < width → IsPass r n w →
-      IsFloor r n cost width past now ended started ends until → IsStuck r n ended started until homes width now homed → ((a : ℕ) → a < r.actors → ends a ≤ now) → (f : Firing) → IsOfBlock r n f → Occurs past f
-  all_stand r n cost width homed past now ended started ends until homes w s some_column pass floor stuck none f of = go (cases_lt f.number (started f.actor))
+  pub all_stand : (r : Rates) (n cost : ℕ → ℕ) (width : ℕ) (homed : Bool) (past : List Timed) (now : ℕ)
+      (ended started ends until : ℕ → ℕ) (homes : ℕ → Option ℕ) (w : List ℕ) → IsSound r → 0 < width → IsPass r n w →
+      IsFloor r n cost width past now ended started ends until → IsStuck r n ended started until homes width now homed →
+      ((a : ℕ) → a < r.actors → ends a ≤ now) → (f : Firing) → IsOfBlock r n f → Occurs past f
+  all_stand r n cost width homed past now ended started ends until homes w s some_column pass floor stuck none f of =
+      go (cases_lt f.number (started f.actor))
     where
       through : (a : ℕ) → a < r.actors → ended a ≡ started a
       through a l = at (floor.through a l)
         where
-          at : ((ended a ≡ started a) × (ends a ≤ now)) ⊎ ((ended a + 1 ≡ started a) × (now < ends a)) → ended a ≡ started a
+          at : ((ended a ≡ started a) × (ends a ≤ now)) ⊎ ((ended a + 1 ≡ started a) × (now < ends a)) →
+              ended a ≡ started a
           at (inl x) = x.0
           at (inr x) = let h = none a l in absurd (omega (arith, x.1))
 
@@ -63,7 +92,8 @@ module _ (some : SomeIsNext) (may_fire : NextMayFire) (last : LastCountsMore) (f
           at : (g : Firing) × IsNextReady r n ended started g → Occurs past f
           at (g, ready) = none_left (stuck g ready)
             where
-              none_left : ((k : ℕ) × IsTrue homed × (homes g.actor ≡ Some k) × (now < until k)) ⊎ ((j : ℕ) → j < width → now < until j) → Occurs past f
+              none_left : ((k : ℕ) × IsTrue homed × (homes g.actor ≡ Some k) × (now < until k))
+                  ⊎ ((j : ℕ) → j < width → now < until j) → Occurs past f
               none_left (inl (k, _, _, b)) = absurd (busy k b)
               none_left (inr all) = absurd (busy 0 (all 0 some_column))
 
@@ -74,7 +104,8 @@ row_of (x ∷ past) zero = refl
 row_of (x ∷ past) (suc i) = row_of past i
 
 -- a firing of a row stands at a cell
-pub cell_where : (cells : List (Option Firing)) (f : Firing) → Stands (firings cells) f → (j : ℕ) × (get_or cells j None ≡ Some f)
+pub cell_where : (cells : List (Option Firing)) (f : Firing) → Stands (firings cells) f →
+    (j : ℕ) × (get_or cells j None ≡ Some f)
 cell_where [] f (p, l, e) = absurd (omega arith)
 cell_where (None ∷ cells) f st = let at = cell_where cells f st in (suc at.0, at.1)
 cell_where (Some g ∷ cells) f (zero, l, e) = (0, ap Some e)
@@ -85,34 +116,41 @@ module _ (past : List Timed) where
   rows_length = length-map past (λ (x : Timed). x.cells)
 
   pub at_of : (i : ℕ) (f : Firing) → Stands (firings (row (cells_of past) i)) f → (j : ℕ) × IsAt past i j f
-  at_of i f st = let at = cell_where (row (cells_of past) i) f st in (at.0, ap (λ (cs : List (Option Firing)). get_or cs at.0 None) (sym (row_of past i)) ∙ at.1)
+  at_of i f st = let at = cell_where (row (cells_of past) i) f st in
+      (at.0, ap (λ (cs : List (Option Firing)). get_or cs at.0 None) (sym (row_of past i)) ∙ at.1)
 
   pub stands_of : (i j : ℕ) (f : Firing) → IsAt past i j f → Stands (firings (row (cells_of past) i)) f
-  stands_of i j f at = stands_at (row (cells_of past) i) j f (ap (λ (cs : List (Option Firing)). get_or cs j None) (row_of past i) ∙ at)
+  stands_of i j f at = stands_at (row (cells_of past) i) j f
+      (ap (λ (cs : List (Option Firing)). get_or cs j None) (row_of past i) ∙ at)
 
-  pub occurs_of : (m : ℕ) (f : Firing) → Stands (order (take m (cells_of past))) f → (i : ℕ) × (j : ℕ) × (i < m) × IsAt past i j f
+  pub occurs_of : (m : ℕ) (f : Firing) → Stands (order (take m (cells_of past))) f →
+      (i : ℕ) × (j : ℕ) × (i < m) × IsAt past i j f
   occurs_of m f st =
       let in' = stands_in (cells_of past) m f st in
       let at = at_of in'.0 f in'.3 in
       (in'.0, at.0, in'.1, at.1)
 
   pub order_of : (m i j : ℕ) (f : Firing) → i < m → IsAt past i j f → Stands (order (take m (cells_of past))) f
-  order_of m i j f h at = in_order (cells_of past) i m f h (let l = row_known past i j f at in omega (arith, rows_length)) (stands_of i j f at)
+  order_of m i j f h at = in_order (cells_of past) i m f h
+      (let l = row_known past i j f at in omega (arith, rows_length)) (stands_of i j f at)
 
   whole : take (length (cells_of past)) (cells_of past) ≡ cells_of past
   whole = take_all (length (cells_of past)) (cells_of past) (omega arith)
 
   pub occurs_all : (f : Firing) → Stands (order (cells_of past)) f → Occurs past f
-  occurs_all f st = let at = occurs_of (length (cells_of past)) f (subst (λ rs. Stands (order rs) f) (sym whole) st) in (at.0, at.1, at.3)
+  occurs_all f st = let at = occurs_of (length (cells_of past)) f (subst (λ rs. Stands (order rs) f) (sym whole) st) in
+      (at.0, at.1, at.3)
 
   pub order_all : (f : Firing) → Occurs past f → Stands (order (cells_of past)) f
-  order_all f (i, j, at) = subst (λ rs. Stands (order rs) f) whole (order_of (length (cells_of past)) i j f (let l = row_known past i j f at in omega (arith, rows_length)) at)
+  order_all f (i, j, at) = subst (λ rs. Stands (order rs) f) whole
+      (order_of (length (cells_of past)) i j f (let l = row_known past i j f at in omega (arith, rows_length)) at)
 
 -- no firing stands twice in a list
 abbrev Distinct : List Firing → Type 0
 Distinct fs = (p m : ℕ) → p < length fs → m < length fs → firing fs p ≡ firing fs m → p ≡ m
 
-distinct_append : (xs ys : List Firing) → Distinct xs → Distinct ys → ((f : Firing) → Stands xs f → Stands ys f → ⊥) → Distinct (xs ++ ys)
+distinct_append : (xs ys : List Firing) → Distinct xs → Distinct ys → ((f : Firing) → Stands xs f → Stands ys f → ⊥) →
+    Distinct (xs ++ ys)
 distinct_append xs ys dx dy none p m l k e = go (cases_lt p (length xs)) (cases_lt m (length xs))
   where
     left : (p : ℕ) → p < length xs → firing (xs ++ ys) p ≡ firing xs p
@@ -123,14 +161,20 @@ distinct_append xs ys dx dy none p m l k e = go (cases_lt p (length xs)) (cases_
 
     go : (p < length xs) ⊎ (length xs ≤ p) → (m < length xs) ⊎ (length xs ≤ m) → p ≡ m
     go (inl a) (inl b) = dx p m a b (sym (left p a) ∙ (e ∙ left m b))
-    go (inl a) (inr b) = absurd (none (firing xs p) (p, a, refl) (m - length xs, omega (arith, length-append xs ys), sym (right m b) ∙ (sym e ∙ left p a)))
-    go (inr a) (inl b) = absurd (none (firing xs m) (m, b, refl) (p - length xs, omega (arith, length-append xs ys), sym (right p a) ∙ (e ∙ left m b)))
-    go (inr a) (inr b) = let same = dy (p - length xs) (m - length xs) (omega (arith, length-append xs ys)) (omega (arith, length-append xs ys)) (sym (right p a) ∙ (e ∙ right m b)) in omega arith
+    go (inl a) (inr b) = absurd (none (firing xs p) (p, a, refl)
+        (m - length xs, omega (arith, length-append xs ys), sym (right m b) ∙ (sym e ∙ left p a)))
+    go (inr a) (inl b) = absurd (none (firing xs m) (m, b, refl)
+        (p - length xs, omega (arith, length-append xs ys), sym (right p a) ∙ (e ∙ left m b)))
+    go (inr a) (inr b) = let same = dy (p - length xs) (m - length xs) (omega (arith, length-append xs ys))
+        (omega (arith, length-append xs ys)) (sym (right p a) ∙ (e ∙ right m b)) in omega arith
 
-distinct_row : (cells : List (Option Firing)) → ((j m : ℕ) (f : Firing) → get_or cells j None ≡ Some f → get_or cells m None ≡ Some f → j ≡ m) → Distinct (firings cells)
+distinct_row : (cells : List (Option Firing)) → ((j m : ℕ) (f : Firing) → get_or cells j None ≡ Some f →
+    get_or cells m None ≡ Some f → j ≡ m) → Distinct (firings cells)
 distinct_row [] once = λ p m l. absurd (omega arith)
-distinct_row (None ∷ cells) once = distinct_row cells (λ j m f e g. let same = once (suc j) (suc m) f e g in omega arith)
-distinct_row (Some h ∷ cells) once = λ p m l k e. go (distinct_row cells (λ j m f e g. let same = once (suc j) (suc m) f e g in omega arith)) p m l k e
+distinct_row (None ∷ cells) once = distinct_row cells
+    (λ j m f e g. let same = once (suc j) (suc m) f e g in omega arith)
+distinct_row (Some h ∷ cells) once = λ p m l k e. go
+    (distinct_row cells (λ j m f e g. let same = once (suc j) (suc m) f e g in omega arith)) p m l k e
   where
     -- the first does not stand again
     again : (p : ℕ) → p < length (firings cells) → h ≡ firing (firings cells) p → ⊥
@@ -139,14 +183,16 @@ distinct_row (Some h ∷ cells) once = λ p m l k e. go (distinct_row cells (λ 
         let same = once 0 (suc at.0) h refl at.1 in
         omega arith
 
-    go : Distinct (firings cells) → (p m : ℕ) → p < length (h ∷ firings cells) → m < length (h ∷ firings cells) → firing (h ∷ firings cells) p ≡ firing (h ∷ firings cells) m → p ≡ m
+    go : Distinct (firings cells) → (p m : ℕ) → p < length (h ∷ firings cells) → m < length (h ∷ firings cells) →
+        firing (h ∷ firings cells) p ≡ firing (h ∷ firings cells) m → p ≡ m
     go rest zero zero l k e = refl
     go rest zero (suc m) l k e = absurd (again m (omega arith) e)
     go rest (suc p) zero l k e = absurd (again p (omega arith) (sym e))
     go rest (suc p) (suc m) l k e = let same = rest p m (omega arith) (omega arith) e in omega arith
 
 -- a firing of a row by the rule was ready
-pub row_ready : (r : Rates) (n cost : ℕ → ℕ) (level : Firing → ℕ) (width : ℕ) (homed : Bool) (past : List Timed) (t : ℕ) (cells : List (Option Firing)) → hu_rule r n cost level width homed past t cells →
+pub row_ready : (r : Rates) (n cost : ℕ → ℕ) (level : Firing → ℕ) (width : ℕ) (homed : Bool) (past : List Timed) (t : ℕ)
+    (cells : List (Option Firing)) → hu_rule r n cost level width homed past t cells →
     (j : ℕ) (f : Firing) → get_or cells j None ≡ Some f → IsReadyAt r n cost past t f
 row_ready r n cost level width true past t cells rule j f e = go (rule.placed.only j f e)
   where
@@ -157,16 +203,23 @@ row_ready r n cost level width false past t cells rule j f e = go (rule.filled.o
     go : Contains rule.columns j → IsReadyAt r n cost past t f
     go (p, l, is) =
         let column : get_or rule.columns p 0 ≡ j = get_or_default rule.columns p 0 j l ∙ is in
-        let here : slice_get rule.queue p ≡ Some f = sym (rule.filled.filled p l) ∙ (ap (λ c. get_or cells c None) column ∙ e) in
-        subst (IsReadyAt r n cost past t) (get_or_from_slice_get rule.queue p f no_firing here) (rule.ready.each p (slice_get_within rule.queue p f here))
+        let here : slice_get rule.queue p ≡ Some f =
+        sym (rule.filled.filled p l) ∙ (ap (λ c. get_or cells c None) column ∙ e) in
+        subst (IsReadyAt r n cost past t) (get_or_from_slice_get rule.queue p f no_firing here)
+        (rule.ready.each p (slice_get_within rule.queue p f here))
 
 -- the rows are a valid table
-pub rows_valid : (r : Rates) (n cost : ℕ → ℕ) (level : Firing → ℕ) (width : ℕ) (homed : Bool) (past : List Timed) (now : ℕ) (ended started ends until : ℕ → ℕ) → IsFloor r n cost width past now ended started ends until →
-    AreTimed width (hu_rule r n cost level width homed) past → ((f : Firing) → IsOfBlock r n f → Occurs past f) → IsValid r n (cells_of past)
+pub rows_valid : (r : Rates) (n cost : ℕ → ℕ) (level : Firing → ℕ) (width : ℕ) (homed : Bool) (past : List Timed)
+    (now : ℕ) (ended started ends until : ℕ → ℕ) → IsFloor r n cost width past now ended started ends until →
+    AreTimed width (hu_rule r n cost level width homed) past → ((f : Firing) → IsOfBlock r n f → Occurs past f) →
+    IsValid r n (cells_of past)
 rows_valid r n cost level width homed past now ended started ends until floor rows all = record {
-  known = λ p l. known (firing (order (cells_of past)) p) (occurs_all past (firing (order (cells_of past)) p) (p, l, refl));
+  known = λ p l. known (firing (order (cells_of past)) p)
+      (occurs_all past (firing (order (cells_of past)) p) (p, l, refl));
   all = λ f of. order_all past f (all f of);
-  once = subst (λ rs. (p m : ℕ) → p < length (order rs) → m < length (order rs) → firing (order rs) p ≡ firing (order rs) m → p ≡ m) (whole past) (distinct_front (length (cells_of past)) (omega arith));
+  once = subst (λ rs. (p m : ℕ) → p < length (order rs) → m < length (order rs) →
+      firing (order rs) p ≡ firing (order rs) m → p ≡ m) (whole past)
+      (distinct_front (length (cells_of past)) (omega arith));
   earlier = λ i l f g st waits. earlier i (omega (arith, rows_length past)) f g (at_of past i f st) waits;
 }
   where
@@ -176,21 +229,30 @@ rows_valid r n cost level width homed past now ended started ends until floor ro
         let low = (floor.occurs f k).1 (i, j, at) in
         (k, omega (arith, floor.within f.actor k))
 
-    earlier : (i : ℕ) → i < length past → (f g : Firing) → (j : ℕ) × IsAt past i j f → WaitsFor r f g → Stands (order (take i (cells_of past))) g
+    earlier : (i : ℕ) → i < length past → (f g : Firing) → (j : ℕ) × IsAt past i j f → WaitsFor r f g →
+        Stands (order (take i (cells_of past))) g
     earlier i l f g (j, at) waits =
-        let ready = row_ready r n cost level width homed (take i past) (timed past i).start (timed past i).cells (rows i l).by_rule j f at in
+        let ready = row_ready r n cost level width homed (take i past) (timed past i).start (timed past i).cells
+        (rows i l).by_rule j f at in
         let ended = ready.waits g waits in
         let m : ended.0 < i = go ended.0 (row_known (take i past) ended.0 ended.1 g ended.2) in
-        order_of past i ended.0 ended.1 g m (sym (ap (λ (x : Timed). get_or x.cells ended.1 None) (get_or-take i past ended.0 no_row m)) ∙ ended.2)
+        order_of past i ended.0 ended.1 g m (sym (ap (λ (x : Timed). get_or x.cells ended.1 None)
+        (get_or-take i past ended.0 no_row m)) ∙ ended.2)
       where
         go : (m : ℕ) → m < length (take i past) → m < i
         go m h = omega (arith, length-take i past)
 
     distinct_front : (m : ℕ) → m ≤ length (cells_of past) → Distinct (order (take m (cells_of past)))
     distinct_front zero h = λ p q l. absurd (omega arith)
-    distinct_front (suc m) h = subst Distinct (sym (let e : order (take (m + 1) (cells_of past)) ≡ order (take m (cells_of past)) ++ firings (row (cells_of past) m) = row_order (cells_of past) m (omega arith) in rw add-one at e))
-        (distinct_append (order (take m (cells_of past))) (firings (row (cells_of past) m)) (distinct_front m (omega arith))
-        (distinct_row (row (cells_of past) m) (λ j k f e g. (floor.once m j m k f (ap (λ (cs : List (Option Firing)). get_or cs j None) (sym (row_of past m)) ∙ e) (ap (λ (cs : List (Option Firing)). get_or cs k None) (sym (row_of past m)) ∙ g)).1))
+    distinct_front (suc m) h = subst Distinct (sym
+        (let e : order (take (m + 1) (cells_of past)) ≡
+        order (take m (cells_of past)) ++ firings (row (cells_of past) m) =
+        row_order (cells_of past) m (omega arith) in rw add-one at e))
+        (distinct_append (order (take m (cells_of past))) (firings (row (cells_of past) m))
+        (distinct_front m (omega arith))
+        (distinct_row (row (cells_of past) m) (λ j k f e g.
+        (floor.once m j m k f (ap (λ (cs : List (Option Firing)). get_or cs j None) (sym (row_of past m)) ∙ e)
+        (ap (λ (cs : List (Option Firing)). get_or cs k None) (sym (row_of past m)) ∙ g)).1))
         (λ f st here.
         let before = occurs_of past m f st in
         let at = at_of past m f here in

@@ -1,5 +1,6 @@
 -- One more column is filled, or left.
-use Rattle.std.proofs.Common.{◌≡◌, ℕ, ◌+◌, ◌≤◌, ◌<◌, ◌⊎◌, List, [], ◌∷◌, ◌++◌, length, get_or, sym, ap, ◌∙◌, subst, inl, inr, arith, Option, Some, None}
+use Rattle.std.proofs.Common.{◌≡◌, ℕ, ◌+◌, ◌≤◌, ◌<◌, ◌⊎◌, List, [], ◌∷◌, ◌++◌, length, get_or, sym, ap, ◌∙◌, subst, inl}
+use Rattle.std.proofs.Common.{inr, arith, Option, Some, None}
 use Rattle.std.specs.Prelude.{slice_get}
 use Rattle.std.specs.List.{Contains}
 use Rattle.std.specs.List.Sorted.{IsStrictlyIncreasing}
@@ -25,7 +26,8 @@ filling_begins until now queue = record {
   wide = omega arith;
 }
 
-module _ (until : List ℕ) (now i : ℕ) (queue : List Firing) (next : ℕ) (cells : List (Option Firing)) (s : IsFilling until now i queue next cells) (x : Option Firing) where
+module _ (until : List ℕ) (now i : ℕ) (queue : List Firing) (next : ℕ) (cells : List (Option Firing))
+    (s : IsFilling until now i queue next cells) (x : Option Firing) where
   early : (j : ℕ) → j < i → get_or (cells ++ x ∷ []) j None ≡ get_or cells j None
   early j l = get_or_append_left cells (x ∷ []) None j (omega (arith, s.wide))
 
@@ -59,13 +61,16 @@ module _ (until : List ℕ) (now i : ℕ) (queue : List Firing) (next : ℕ) (ce
       all j l h (inl e) = let same = ap (λ j. get_or until j 0) e in absurd (omega arith)
       all j l h (inr ne) = s.idle.all j (omega arith) h
 
-      only : (j : ℕ) (f : Firing) → get_or (cells ++ x ∷ []) j None ≡ Some f → (j ≡ i) ⊎ ((j < i) ⊎ (i < j)) → Contains s.columns j
-      only j f e (inl same) = absurd (none-some f (sym none ∙ (sym here ∙ (ap (λ j. get_or (cells ++ x ∷ []) j None) (sym same) ∙ e))))
+      only : (j : ℕ) (f : Firing) → get_or (cells ++ x ∷ []) j None ≡ Some f → (j ≡ i) ⊎ ((j < i) ⊎ (i < j)) →
+          Contains s.columns j
+      only j f e (inl same) = absurd (none-some f (sym none
+          ∙ (sym here ∙ (ap (λ j. get_or (cells ++ x ∷ []) j None) (sym same) ∙ e))))
       only j f e (inr (inl l)) = s.filled.only j f (sym (early j l) ∙ e)
       only j f e (inr (inr l)) = absurd (none-some f (sym (late j l) ∙ e))
 
   -- it gets the next firing, where there is one
-  pub filling_takes : get_or until i 0 ≤ now → x ≡ slice_get queue next → IsFilling until now (i + 1) queue (next + 1) (cells ++ x ∷ [])
+  pub filling_takes : get_or until i 0 ≤ now → x ≡ slice_get queue next →
+      IsFilling until now (i + 1) queue (next + 1) (cells ++ x ∷ [])
   filling_takes free is = record {
     columns = s.columns ++ i ∷ [];
     idle = record {
@@ -93,16 +98,22 @@ module _ (until : List ℕ) (now i : ℕ) (queue : List Firing) (next : ℕ) (ce
           within : k < length s.columns
           within = omega (arith, length_push s.columns i)
 
-          go : (k + 1 < length s.columns) ⊎ (length s.columns ≤ k + 1) → get_or (s.columns ++ i ∷ []) k 0 < get_or (s.columns ++ i ∷ []) (k + 1) 0
+          go : (k + 1 < length s.columns) ⊎ (length s.columns ≤ k + 1) →
+              get_or (s.columns ++ i ∷ []) k 0 < get_or (s.columns ++ i ∷ []) (k + 1) 0
           go (inl l) = omega (arith, old k within, old (k + 1) l, s.idle.rising k l)
           go (inr l) = omega (arith, old k within, new (k + 1) (omega (arith, within)), (s.idle.each k within).0)
 
-      each : (k : ℕ) → (k < length s.columns) ⊎ (length s.columns ≤ k) → k < length s.columns + 1 → (get_or (s.columns ++ i ∷ []) k 0 < i + 1) × (get_or until (get_or (s.columns ++ i ∷ []) k 0) 0 ≤ now)
-      each k (inl l) h = let e = s.idle.each k l in subst (λ c. (c < i + 1) × (get_or until c 0 ≤ now)) (sym (old k l)) (omega (arith, e.0), e.1)
-      each k (inr l) h = subst (λ c. (c < i + 1) × (get_or until c 0 ≤ now)) (sym (new k (omega arith))) (omega arith, free)
+      each : (k : ℕ) → (k < length s.columns) ⊎ (length s.columns ≤ k) → k < length s.columns + 1 →
+          (get_or (s.columns ++ i ∷ []) k 0 < i + 1) × (get_or until (get_or (s.columns ++ i ∷ []) k 0) 0 ≤ now)
+      each k (inl l) h = let e = s.idle.each k l in
+          subst (λ c. (c < i + 1) × (get_or until c 0 ≤ now)) (sym (old k l)) (omega (arith, e.0), e.1)
+      each k (inr l) h = subst (λ c. (c < i + 1) × (get_or until c 0 ≤ now)) (sym (new k (omega arith)))
+          (omega arith, free)
 
-      stands : (j k : ℕ) → k < length s.columns + 1 → get_or (s.columns ++ i ∷ []) k 0 ≡ j → Contains (s.columns ++ i ∷ []) j
-      stands j k l e = let m : k < length (s.columns ++ i ∷ []) = omega (arith, length_push s.columns i) in (k, m, get_or_default (s.columns ++ i ∷ []) k j 0 m ∙ e)
+      stands : (j k : ℕ) → k < length s.columns + 1 → get_or (s.columns ++ i ∷ []) k 0 ≡ j →
+          Contains (s.columns ++ i ∷ []) j
+      stands j k l e = let m : k < length (s.columns ++ i ∷ []) = omega (arith, length_push s.columns i) in
+          (k, m, get_or_default (s.columns ++ i ∷ []) k j 0 m ∙ e)
 
       kept : (j : ℕ) → Contains s.columns j → Contains (s.columns ++ i ∷ []) j
       kept j (k, l, e) = stands j k (omega arith) (old k l ∙ (get_or_default s.columns k 0 j l ∙ e))
@@ -111,13 +122,17 @@ module _ (until : List ℕ) (now i : ℕ) (queue : List Firing) (next : ℕ) (ce
       all j l h (inl e) = stands j (length s.columns) (omega arith) (new (length s.columns) (omega arith) ∙ sym e)
       all j l h (inr ne) = kept j (s.idle.all j (omega arith) h)
 
-      filled : (p : ℕ) → (p < length s.columns) ⊎ (length s.columns ≤ p) → p < length s.columns + 1 → get_or (cells ++ x ∷ []) (get_or (s.columns ++ i ∷ []) p 0) None ≡ slice_get queue p
-      filled p (inl l) h = ap (λ c. get_or (cells ++ x ∷ []) c None) (old p l) ∙ (early (get_or s.columns p 0) (s.idle.each p l).0 ∙ s.filled.filled p l)
+      filled : (p : ℕ) → (p < length s.columns) ⊎ (length s.columns ≤ p) → p < length s.columns + 1 →
+          get_or (cells ++ x ∷ []) (get_or (s.columns ++ i ∷ []) p 0) None ≡ slice_get queue p
+      filled p (inl l) h = ap (λ c. get_or (cells ++ x ∷ []) c None) (old p l)
+          ∙ (early (get_or s.columns p 0) (s.idle.each p l).0 ∙ s.filled.filled p l)
       filled p (inr l) h =
           let same : next ≡ p = omega (arith, s.count) in
           ap (λ c. get_or (cells ++ x ∷ []) c None) (new p (omega arith)) ∙ (here ∙ (is ∙ ap (slice_get queue) same))
 
-      only : (j : ℕ) (f : Firing) → get_or (cells ++ x ∷ []) j None ≡ Some f → (j ≡ i) ⊎ ((j < i) ⊎ (i < j)) → Contains (s.columns ++ i ∷ []) j
-      only j f e (inl same) = stands j (length s.columns) (omega arith) (new (length s.columns) (omega arith) ∙ sym same)
+      only : (j : ℕ) (f : Firing) → get_or (cells ++ x ∷ []) j None ≡ Some f → (j ≡ i) ⊎ ((j < i) ⊎ (i < j)) →
+          Contains (s.columns ++ i ∷ []) j
+      only j f e (inl same) = stands j (length s.columns) (omega arith)
+          (new (length s.columns) (omega arith) ∙ sym same)
       only j f e (inr (inl l)) = kept j (s.filled.only j f (sym (early j l) ∙ e))
       only j f e (inr (inr l)) = absurd (none-some f (sym (late j l) ∙ e))

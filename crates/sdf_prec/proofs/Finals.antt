@@ -16,14 +16,18 @@ some_firing : (fs : List Firing) → (fs ≡ [] → ⊥) → 0 < length fs
 some_firing [] none = absurd (none refl)
 some_firing (f ∷ fs) none = omega arith
 
-pub hu_table : (r : Rates) (n cost : ℕ → ℕ) (level : Firing → ℕ) (width : ℕ) (homed : Bool) (past : List Timed) (t : Tabled) → AreTimedRows r n width (hu_rule r n cost level width homed) past → IsValid r n (cells_of past) →
-    t.rows ≡ cells_of past → IsExact r t → ((f : Firing) → IsOfBlock r n f → IsLevel r n cost f (level f)) → IsHuTable r n cost width homed t
+pub hu_table : (r : Rates) (n cost : ℕ → ℕ) (level : Firing → ℕ) (width : ℕ) (homed : Bool) (past : List Timed)
+    (t : Tabled) → AreTimedRows r n width (hu_rule r n cost level width homed) past → IsValid r n (cells_of past) →
+    t.rows ≡ cells_of past → IsExact r t → ((f : Firing) → IsOfBlock r n f → IsLevel r n cost f (level f)) →
+    IsHuTable r n cost width homed t
 hu_table r n cost level width homed past t are valid same exact levels = record {
   table = record {
     valid = subst (IsValid r n) (sym same) valid;
-    wide = subst (λ rows. (i : ℕ) → i < length rows → length (row rows i) ≡ width) (sym same) (λ i l. ap length (row_of past i) ∙ (are.rows_are i (known i l)).wide);
+    wide = subst (λ rows. (i : ℕ) → i < length rows → length (row rows i) ≡ width) (sym same)
+        (λ i l. ap length (row_of past i) ∙ (are.rows_are i (known i l)).wide);
     some = subst (λ rows. (i : ℕ) → i < length rows → 0 < length (firings (row rows i))) (sym same)
-        (λ i l. some_firing (firings (row (cells_of past) i)) (λ none. (are.rows_are i (known i l)).some (ap firings (sym (row_of past i)) ∙ none)));
+        (λ i l. some_firing (firings (row (cells_of past) i))
+        (λ none. (are.rows_are i (known i l)).some (ap firings (sym (row_of past i)) ∙ none)));
     exact = exact;
   };
   level = level;
@@ -35,7 +39,8 @@ hu_table r n cost level width homed past t are valid same exact levels = record 
     known i l = let e : length (cells_of past) ≡ length past = length-map past (λ (x : Timed). x.cells) in omega arith
 
 -- where the width may be, a block's fault is a table's
-pub fault_size : (j m : ℕ) (reps : List ℕ) (e : PrecFault) → IsWorkers m → IsBlockFault j reps e → IsSizeFault j m reps e
+pub fault_size : (j m : ℕ) (reps : List ℕ) (e : PrecFault) → IsWorkers m → IsBlockFault j reps e →
+    IsSizeFault j m reps e
 fault_size j m reps OutOfMemory w h = tt
 fault_size j m reps BlockingFactor w h = h
 fault_size j m reps BlockTooLong w h = (h.0, w, h.1)

@@ -8,7 +8,8 @@ use Rattle.sdf_prec.specs.Numbers.{Numbered}
 use Rattle.sdf_prec.specs.Crew.{IsJob}
 use Rattle.sdf_prec.proofs.Shifts.{within_sum}
 
-module _ (actors : ℕ) (firings : List ℕ) (levels : Numbered) (costs weights : List ℕ) (job : IsJob actors firings levels costs weights) where
+module _ (actors : ℕ) (firings : List ℕ) (levels : Numbered) (costs weights : List ℕ)
+    (job : IsJob actors firings levels costs weights) where
   pub job_dear : (a : ℕ) → a < actors → 1 ≤ get_or costs a 0
   job_dear a l = (job.costs_are.each a l).0
 
@@ -21,5 +22,10 @@ module _ (actors : ℕ) (firings : List ℕ) (levels : Numbered) (costs weights 
       go : (a < actors) ⊎ (actors ≤ a) → get_or weights a 0 ≤ MOST_BLOCK * MOST_COST
       go (inl l) =
           let low : get_or firings a 0 ≤ MOST_BLOCK = omega (arith, within_sum firings a, job.few) in
-          omega (arith, job.weights_are a, mul-le (get_or firings a 0) (get_or costs a 0) MOST_BLOCK MOST_COST low (job_cheap a l))
+          omega (
+            arith,
+            job.weights_are a,
+            mul-le (get_or firings a 0) (get_or costs a 0) MOST_BLOCK MOST_COST low
+                (job_cheap a l),
+          )
       go (inr h) = omega (arith, get_or_past weights a 0 (omega (arith, job.weights_all)))

@@ -1,5 +1,6 @@
 -- What stays when rows are filled up and empty ones are left out.
-use Rattle.std.proofs.Common.{◌≡◌, ℕ, zero, suc, ◌+◌, ◌-◌, ◌≤◌, ◌<◌, List, [], ◌∷◌, ◌++◌, length, take, replicate, map, cond, sym, ap, ◌∙◌, subst, inl, inr, ◌⊎◌, arith, refl, Bool, false, Option, None}
+use Rattle.std.proofs.Common.{◌≡◌, ℕ, zero, suc, ◌+◌, ◌-◌, ◌≤◌, ◌<◌, List, [], ◌∷◌, ◌++◌, length, take, replicate, map}
+use Rattle.std.proofs.Common.{cond, sym, ap, ◌∙◌, subst, inl, inr, ◌⊎◌, arith, refl, Bool, false, Option, None}
 use Rattle.std.specs.Prelude.{filter, IsTrue}
 use Rattle.std.proofs.lemmas.List.{append-nil, length-append, length-replicate, map-append}
 use Rattle.std.proofs.lemmas.List.Elements.{filter_more}
@@ -14,23 +15,30 @@ use Rattle.sdf_prec.specs.Tidied.{filled, has_firing, tidied}
 use Rattle.sdf_prec.proofs.Marks.{firings_append}
 
 -- one row more
-pub tidied_some : (width : ℕ) (rows : List (List (Option Firing))) (i : ℕ) → i < length rows → 0 < length (firings (row rows i)) →
+pub tidied_some : (width : ℕ) (rows : List (List (Option Firing))) (i : ℕ) → i < length rows →
+    0 < length (firings (row rows i)) →
     tidied width (take (i + 1) rows) ≡ tidied width (take i rows) ++ filled width (row rows i) ∷ []
 tidied_some width rows i l some =
-    ap (map (filled width)) (filter_more has_firing rows i [] l ∙ ap (λ b. filter has_firing (take i rows) ++ cond b (row rows i ∷ []) []) (lt-ltb 0 (length (firings (row rows i))) some)) ∙
+    ap (map (filled width)) (filter_more has_firing rows i [] l
+    ∙ ap (λ b. filter has_firing (take i rows) ++ cond b (row rows i ∷ []) [])
+    (lt-ltb 0 (length (firings (row rows i))) some)) ∙
     map-append (filled width) (filter has_firing (take i rows)) (row rows i ∷ [])
 
-pub tidied_none : (width : ℕ) (rows : List (List (Option Firing))) (i : ℕ) → i < length rows → length (firings (row rows i)) ≤ 0 →
+pub tidied_none : (width : ℕ) (rows : List (List (Option Firing))) (i : ℕ) → i < length rows →
+    length (firings (row rows i)) ≤ 0 →
     tidied width (take (i + 1) rows) ≡ tidied width (take i rows)
 tidied_none width rows i l none =
-    ap (map (filled width)) (filter_more has_firing rows i [] l ∙ (ap (λ b. filter has_firing (take i rows) ++ cond b (row rows i ∷ []) []) (le-ltb 0 (length (firings (row rows i))) none) ∙ append-nil (filter has_firing (take i rows))))
+    ap (map (filled width)) (filter_more has_firing rows i [] l
+    ∙ (ap (λ b. filter has_firing (take i rows) ++ cond b (row rows i ∷ []) [])
+    (le-ltb 0 (length (firings (row rows i))) none) ∙ append-nil (filter has_firing (take i rows))))
 
 pub firings_empty : (n : ℕ) → firings (replicate n None) ≡ []
 firings_empty zero = refl
 firings_empty (suc n) = firings_empty n
 
 firings_filled : (width : ℕ) (cells : List (Option Firing)) → firings (filled width cells) ≡ firings cells
-firings_filled width cells = firings_append cells (replicate (width - length cells) None) ∙ (ap (λ fs. firings cells ++ fs) (firings_empty (width - length cells)) ∙ append-nil (firings cells))
+firings_filled width cells = firings_append cells (replicate (width - length cells) None)
+    ∙ (ap (λ fs. firings cells ++ fs) (firings_empty (width - length cells)) ∙ append-nil (firings cells))
 
 empty : (fs : List Firing) → length fs ≤ 0 → fs ≡ []
 empty [] h = refl
@@ -46,14 +54,22 @@ pub record WasRow (width : ℕ) (rows : List (List (Option Firing))) (i : ℕ) :
 
 module _ (width : ℕ) (cells : List (Option Firing)) (rows : List (List (Option Firing))) where
   kept_first : 0 < length (firings cells) → tidied width (cells ∷ rows) ≡ filled width cells ∷ tidied width rows
-  kept_first some = ap (λ b. map (filled width) (cond b (cells ∷ filter has_firing rows) (filter has_firing rows))) (lt-ltb 0 (length (firings cells)) some)
+  kept_first some = ap (λ b. map (filled width) (cond b (cells ∷ filter has_firing rows) (filter has_firing rows)))
+      (lt-ltb 0 (length (firings cells)) some)
 
   left_out : length (firings cells) ≤ 0 → tidied width (cells ∷ rows) ≡ tidied width rows
-  left_out none = ap (λ b. map (filled width) (cond b (cells ∷ filter has_firing rows) (filter has_firing rows))) (le-ltb 0 (length (firings cells)) none)
+  left_out none = ap (λ b. map (filled width) (cond b (cells ∷ filter has_firing rows) (filter has_firing rows)))
+      (le-ltb 0 (length (firings cells)) none)
 
   was_first : 0 < length (firings cells) → ((i : ℕ) → i < length (tidied width rows) → WasRow width rows i) →
       (i : ℕ) → i < length (filled width cells ∷ tidied width rows) → WasRow width (cells ∷ rows) i
-  was_first some was zero l = record { place = 0; known = omega arith; is = ap (λ ts. row ts 0) (kept_first some); some = some; earlier = refl }
+  was_first some was zero l = record {
+    place = 0;
+    known = omega arith;
+    is = ap (λ ts. row ts 0) (kept_first some);
+    some = some;
+    earlier = refl;
+  }
   was_first some was (suc i) l =
       let w = was i (omega arith) in
       record {
@@ -61,7 +77,8 @@ module _ (width : ℕ) (cells : List (Option Firing)) (rows : List (List (Option
         known = omega (arith, w.known);
         is = ap (λ ts. row ts (suc i)) (kept_first some) ∙ w.is;
         some = w.some;
-        earlier = ap (λ ts. order (take (suc i) ts)) (kept_first some) ∙ (λ n. firings_filled width cells n ++ w.earlier n);
+        earlier = ap (λ ts. order (take (suc i) ts)) (kept_first some)
+            ∙ (λ n. firings_filled width cells n ++ w.earlier n);
       }
 
   was_later : length (firings cells) ≤ 0 → (i : ℕ) → WasRow width rows i → WasRow width (cells ∷ rows) i
@@ -70,36 +87,56 @@ module _ (width : ℕ) (cells : List (Option Firing)) (rows : List (List (Option
     known = omega (arith, w.known);
     is = ap (λ ts. row ts i) (left_out none) ∙ w.is;
     some = w.some;
-    earlier = ap (λ ts. order (take i ts)) (left_out none) ∙ (w.earlier ∙ ap (λ fs. fs ++ order (take w.place rows)) (sym (empty (firings cells) none)));
+    earlier = ap (λ ts. order (take i ts)) (left_out none)
+        ∙ (w.earlier ∙ ap (λ fs. fs ++ order (take w.place rows)) (sym (empty (firings cells) none)));
   }
 
-  order_with : order (tidied width rows) ≡ order rows → (0 < length (firings cells)) ⊎ (length (firings cells) ≤ 0) → order (tidied width (cells ∷ rows)) ≡ order (cells ∷ rows)
+  order_with : order (tidied width rows) ≡ order rows → (0 < length (firings cells)) ⊎ (length (firings cells) ≤ 0) →
+      order (tidied width (cells ∷ rows)) ≡ order (cells ∷ rows)
   order_with same (inl some) = ap order (kept_first some) ∙ (λ n. firings_filled width cells n ++ same n)
-  order_with same (inr none) = ap order (left_out none) ∙ (same ∙ ap (λ fs. fs ++ order rows) (sym (empty (firings cells) none)))
+  order_with same (inr none) = ap order (left_out none)
+      ∙ (same ∙ ap (λ fs. fs ++ order rows) (sym (empty (firings cells) none)))
 
-was_row : (width : ℕ) (rows : List (List (Option Firing))) (i : ℕ) → i < length (tidied width rows) → WasRow width rows i
+was_row : (width : ℕ) (rows : List (List (Option Firing))) (i : ℕ) → i < length (tidied width rows) →
+    WasRow width rows i
 was_row width [] i l = absurd (omega arith)
 was_row width (cells ∷ rows) i l = go (cases_lt 0 (length (firings cells))) (was_row width rows)
   where
-    go : (0 < length (firings cells)) ⊎ (length (firings cells) ≤ 0) → ((i : ℕ) → i < length (tidied width rows) → WasRow width rows i) → WasRow width (cells ∷ rows) i
-    go (inl some) was = was_first width cells rows some was i (subst (λ ts. i < length ts) (kept_first width cells rows some) l)
-    go (inr none) was = was_later width cells rows none i (was i (subst (λ ts. i < length ts) (left_out width cells rows none) l))
+    go : (0 < length (firings cells)) ⊎ (length (firings cells) ≤ 0) →
+        ((i : ℕ) → i < length (tidied width rows) → WasRow width rows i) → WasRow width (cells ∷ rows) i
+    go (inl some) was = was_first width cells rows some was i
+        (subst (λ ts. i < length ts) (kept_first width cells rows some) l)
+    go (inr none) was = was_later width cells rows none i
+        (was i (subst (λ ts. i < length ts) (left_out width cells rows none) l))
 
 order_tidied : (width : ℕ) (rows : List (List (Option Firing))) → order (tidied width rows) ≡ order rows
 order_tidied width [] = refl
-order_tidied width (cells ∷ rows) = order_with width cells rows (order_tidied width rows) (cases_lt 0 (length (firings cells)))
+order_tidied width (cells ∷ rows) = order_with width cells rows (order_tidied width rows)
+    (cases_lt 0 (length (firings cells)))
 
 module _ (width : ℕ) (rows : List (List (Option Firing))) where
-  pub tidied_wide : AreNarrow width rows (length rows) → (i : ℕ) → i < length (tidied width rows) → length (row (tidied width rows) i) ≡ width
+  pub tidied_wide : AreNarrow width rows (length rows) → (i : ℕ) → i < length (tidied width rows) →
+      length (row (tidied width rows) i) ≡ width
   tidied_wide narrow i l =
       let w = was_row width rows i l in
       let cells = row rows w.place in
-      omega (arith, ap length w.is, length-append cells (replicate {A = Option Firing} (width - length cells) None), length-replicate {A = Option Firing} (width - length cells) None, narrow w.place w.known)
+      omega (
+        arith,
+        ap length w.is,
+        length-append cells (replicate {A = Option Firing} (width - length cells) None),
+        length-replicate {A = Option Firing} (width - length cells) None,
+        narrow w.place w.known,
+      )
 
   pub tidied_filled : (i : ℕ) → i < length (tidied width rows) → 0 < length (firings (row (tidied width rows) i))
   tidied_filled i l =
       let w = was_row width rows i l in
-      omega (arith, ap (λ cells. length (firings cells)) w.is, ap length (firings_filled width (row rows w.place)), w.some)
+      omega (
+        arith,
+        ap (λ cells. length (firings cells)) w.is,
+        ap length (firings_filled width (row rows w.place)),
+        w.some,
+      )
 
   pub tidied_valid : (r : Rates) (n : ℕ → ℕ) → IsValid r n rows → IsValid r n (tidied width rows)
   tidied_valid r n v = record {
@@ -112,13 +149,18 @@ module _ (width : ℕ) (rows : List (List (Option Firing))) where
       same : order rows ≡ order (tidied width rows)
       same = sym (order_tidied width rows)
 
-      early : (i : ℕ) → i < length (tidied width rows) → (f g : Firing) → Stands (firings (row (tidied width rows) i)) f → WaitsFor r f g → Stands (order (take i (tidied width rows))) g
+      early : (i : ℕ) → i < length (tidied width rows) → (f g : Firing) →
+          Stands (firings (row (tidied width rows) i)) f → WaitsFor r f g →
+          Stands (order (take i (tidied width rows))) g
       early i l f g st waits =
           let w = was_row width rows i l in
-          let was : firings (row (tidied width rows) i) ≡ firings (row rows w.place) = ap firings w.is ∙ firings_filled width (row rows w.place) in
-          subst (λ fs. Stands fs g) (sym w.earlier) (v.earlier w.place w.known f g (subst (λ fs. Stands fs f) was st) waits)
+          let was : firings (row (tidied width rows) i) ≡ firings (row rows w.place) =
+          ap firings w.is ∙ firings_filled width (row rows w.place) in
+          subst (λ fs. Stands fs g) (sym w.earlier) (v.earlier w.place w.known f g
+          (subst (λ fs. Stands fs f) was st) waits)
 
-pub accepted : (r : Rates) (n : ℕ → ℕ) (width : ℕ) (rows : List (List (Option Firing))) (t : Tabled) → AreNarrow width rows (length rows) → IsValid r n rows → t.rows ≡ tidied width rows → IsExact r t →
+pub accepted : (r : Rates) (n : ℕ → ℕ) (width : ℕ) (rows : List (List (Option Firing))) (t : Tabled) →
+    AreNarrow width rows (length rows) → IsValid r n rows → t.rows ≡ tidied width rows → IsExact r t →
     IsAccepted r n width rows t
 accepted r n width rows t narrow valid is exact = record {
   narrow = narrow;

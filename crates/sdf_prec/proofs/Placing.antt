@@ -1,6 +1,8 @@
 -- One firing a row makes a valid table of an admissible sequence.
-use Rattle.std.proofs.Common.{◌≡◌, ℕ, zero, suc, ◌+◌, ◌≤◌, ◌<◌, List, [], ◌∷◌, ◌++◌, length, get_or, set, take, replicate, sym, ap, ◌∙◌, subst, inl, inr, ◌⊎◌, arith, add-one, refl, Option, Some, None}
-use Rattle.std.proofs.lemmas.List.{take_all, take-take, length-append, length-set, length-replicate, length-take-le, get_or-take, get_or_append_left}
+use Rattle.std.proofs.Common.{◌≡◌, ℕ, zero, suc, ◌+◌, ◌≤◌, ◌<◌, List, [], ◌∷◌, ◌++◌, length, get_or, set, take}
+use Rattle.std.proofs.Common.{replicate, sym, ap, ◌∙◌, subst, inl, inr, ◌⊎◌, arith, add-one, refl, Option, Some, None}
+use Rattle.std.proofs.lemmas.List.{take_all, take-take, length-append, length-set, length-replicate, length-take-le}
+use Rattle.std.proofs.lemmas.List.{get_or-take, get_or_append_left}
 use Rattle.std.proofs.lemmas.Bool.{cases_lt, cases_eq, cases_order}
 use Rattle.sdf_graph.specs.Rates.{Rates, IsSound}
 use Rattle.sdf_graph.specs.Sequences.{times, IsPass}
@@ -20,16 +22,20 @@ firings_set zero j f l = absurd (omega arith)
 firings_set (suc m) zero f l = ap (λ fs. f ∷ fs) (firings_empty m)
 firings_set (suc m) (suc j) f l = firings_set m j f (omega arith)
 
-module _ (laws : GraphLaws) (r : Rates) (n : ℕ → ℕ) (w : List ℕ) (s : IsSound r) (pass : IsPass r n w) (homes : List (Option ℕ)) (m : ℕ)
-    (homed : (a : ℕ) → a < r.actors → HasHome homes m a) (rows : List (List (Option Firing))) (by : AreByHomes homes m w rows) where
+module _ (laws : GraphLaws) (r : Rates) (n : ℕ → ℕ) (w : List ℕ) (s : IsSound r) (pass : IsPass r n w)
+    (homes : List (Option ℕ)) (m : ℕ)
+    (homed : (a : ℕ) → a < r.actors → HasHome homes m a) (rows : List (List (Option Firing)))
+    (by : AreByHomes homes m w rows) where
   row_firings : (p : ℕ) → p < length w → firings (row rows p) ≡ firing_at w p ∷ []
-  row_firings p l = let home = homed (get_or w p 0) (pass.0 p l).0 in ap firings (by.each p home.0 l home.1) ∙ firings_set m home.0 (firing_at w p) home.2
+  row_firings p l = let home = homed (get_or w p 0) (pass.0 p l).0 in
+      ap firings (by.each p home.0 l home.1) ∙ firings_set m home.0 (firing_at w p) home.2
 
   pub rows_wide : (p : ℕ) → p < length rows → length (row rows p) ≡ m
   rows_wide p l =
       let k : p < length w = omega (arith, by.all) in
       let home = homed (get_or w p 0) (pass.0 p k).0 in
-      ap length (by.each p home.0 k home.1) ∙ (length-set (replicate m None) home.0 (Some (firing_at w p)) ∙ length-replicate m None)
+      ap length (by.each p home.0 k home.1) ∙ (length-set (replicate m None) home.0 (Some (firing_at w p))
+      ∙ length-replicate m None)
 
   pub rows_some : (p : ℕ) → p < length rows → 0 < length (firings (row rows p))
   rows_some p l = let k : p < length w = omega (arith, by.all) in omega (arith, ap length (row_firings p k))
@@ -44,7 +50,8 @@ module _ (laws : GraphLaws) (r : Rates) (n : ℕ → ℕ) (w : List ℕ) (s : Is
   begins (suc i) h = rw add-one at (more (begins i (omega arith)))
     where
       parts : order (take (i + 1) rows) ≡ order (take i rows) ++ firing_at w i ∷ []
-      parts = row_order rows i (omega (arith, by.all)) ∙ ap (λ fs. order (take i rows) ++ fs) (row_firings i (omega arith))
+      parts = row_order rows i (omega (arith, by.all))
+          ∙ ap (λ fs. order (take i rows) ++ fs) (row_firings i (omega arith))
 
       more : Begins i → Begins (i + 1)
       more b = record {
@@ -52,12 +59,15 @@ module _ (laws : GraphLaws) (r : Rates) (n : ℕ → ℕ) (w : List ℕ) (s : Is
         are = λ p l. ap (λ fs. firing fs p) parts ∙ one p l (cases_lt p i);
       }
         where
-          one : (p : ℕ) → p < i + 1 → (p < i) ⊎ (i ≤ p) → firing (order (take i rows) ++ firing_at w i ∷ []) p ≡ firing_at w p
-          one p l (inl low) = get_or_append_left (order (take i rows)) (firing_at w i ∷ []) no_firing p (omega (arith, b.long)) ∙ b.are p low
+          one : (p : ℕ) → p < i + 1 → (p < i) ⊎ (i ≤ p) →
+              firing (order (take i rows) ++ firing_at w i ∷ []) p ≡ firing_at w p
+          one p l (inl low) = get_or_append_left (order (take i rows)) (firing_at w i ∷ []) no_firing p
+              (omega (arith, b.long)) ∙ b.are p low
           one p l (inr high) =
               let is : length (order (take i rows)) ≡ p = omega (arith, b.long) in
               let same : i ≡ p = omega arith in
-              ap (firing (order (take i rows) ++ firing_at w i ∷ [])) (sym is) ∙ (last_is (order (take i rows)) (firing_at w i) ∙ ap (firing_at w) same)
+              ap (firing (order (take i rows) ++ firing_at w i ∷ [])) (sym is)
+              ∙ (last_is (order (take i rows)) (firing_at w i) ∙ ap (firing_at w) same)
 
   whole : order (take (length w) rows) ≡ order rows
   whole = ap order (take_all (length w) rows (omega (arith, by.all)))
@@ -69,7 +79,8 @@ module _ (laws : GraphLaws) (r : Rates) (n : ℕ → ℕ) (w : List ℕ) (s : Is
   are p l = ap (λ fs. firing fs p) (sym whole) ∙ (begins (length w) (omega arith)).are p l
 
   -- a firing of the first i stands in the first i rows
-  stands_before : (i : ℕ) → i ≤ length w → (g : Firing) → g.number < times (take i w) g.actor → Stands (order (take i rows)) g
+  stands_before : (i : ℕ) → i ≤ length w → (g : Firing) → g.number < times (take i w) g.actor →
+      Stands (order (take i rows)) g
   stands_before i h g l =
       let at = place_of laws w g.actor g.number i h l in
       let b = begins i h in
@@ -80,7 +91,8 @@ module _ (laws : GraphLaws) (r : Rates) (n : ℕ → ℕ) (w : List ℕ) (s : Is
   rises p q a l h e =
       let more = laws.last w p a (omega arith) e in
       let within : times (take (p + 1) (take q w)) a ≤ times (take q w) a = laws.front (take q w) (p + 1) a in
-      let same : times (take (p + 1) (take q w)) a ≡ times (take (p + 1) w) a = ap (λ v. times v a) (take-take (p + 1) q w (omega arith)) in
+      let same : times (take (p + 1) (take q w)) a ≡ times (take (p + 1) w) a =
+      ap (λ v. times v a) (take-take (p + 1) q w (omega arith)) in
       omega arith
 
   pub rows_valid : IsValid r n rows
@@ -98,18 +110,21 @@ module _ (laws : GraphLaws) (r : Rates) (n : ℕ → ℕ) (w : List ℕ) (s : Is
       all : (f : Firing) → IsOfBlock r n f → Stands (order rows) f
       all f (k, low) =
           let total = pass.1 f.actor k in
-          let same : times (take (length w) w) f.actor ≡ times w f.actor = ap (λ v. times v f.actor) (take_all (length w) w (omega arith)) in
+          let same : times (take (length w) w) f.actor ≡ times w f.actor =
+          ap (λ v. times v f.actor) (take_all (length w) w (omega arith)) in
           subst (λ fs. Stands fs f) whole (stands_before (length w) (omega arith) f (omega arith))
 
       apart : (p q : ℕ) → p < q → q < length w → firing_at w p ≡ firing_at w q → ⊥
       apart p q l h e =
           let actor : get_or w p 0 ≡ get_or w q 0 = ap (λ (f : Firing). f.actor) e in
-          let number : times (take p w) (get_or w p 0) ≡ times (take q w) (get_or w q 0) = ap (λ (f : Firing). f.number) e in
+          let number : times (take p w) (get_or w p 0) ≡ times (take q w) (get_or w q 0) =
+          ap (λ (f : Firing). f.number) e in
           let more = rises p q (get_or w q 0) l (omega arith) actor in
           let same : times (take p w) (get_or w p 0) ≡ times (take p w) (get_or w q 0) = ap (times (take p w)) actor in
           omega arith
 
-      once : (p q : ℕ) → p < length (order rows) → q < length (order rows) → firing (order rows) p ≡ firing (order rows) q → p ≡ q
+      once : (p q : ℕ) → p < length (order rows) → q < length (order rows) →
+          firing (order rows) p ≡ firing (order rows) q → p ≡ q
       once p q l h e = go (cases_order p q)
         where
           same : firing_at w p ≡ firing_at w q
@@ -120,7 +135,8 @@ module _ (laws : GraphLaws) (r : Rates) (n : ℕ → ℕ) (w : List ℕ) (s : Is
           go (inr (inl low)) = absurd (apart p q low (omega (arith, long)) same)
           go (inr (inr low)) = absurd (apart q p low (omega (arith, long)) (sym same))
 
-      early : (i : ℕ) → i < length rows → (f g : Firing) → Stands (firings (row rows i)) f → WaitsFor r f g → Stands (order (take i rows)) g
+      early : (i : ℕ) → i < length rows → (f g : Firing) → Stands (firings (row rows i)) f → WaitsFor r f g →
+          Stands (order (take i rows)) g
       early i h f g st waits = stands_before i (omega (arith, by.all)) g (low waits)
         where
           l : i < length w
@@ -140,23 +156,32 @@ module _ (laws : GraphLaws) (r : Rates) (n : ℕ → ℕ) (w : List ℕ) (s : Is
           number = ap (times (take i w)) (sym actor) ∙ ap (λ (h : Firing). h.number) is
 
           low : WaitsFor r f g → g.number < times (take i w) g.actor
-          low (inl (same, e)) = let there : times (take i w) g.actor ≡ times (take i w) f.actor = ap (times (take i w)) same in omega (arith, number)
-          low (inr (c, k, into, from, lacks)) = subst (λ a. g.number < times (take i w) a) from (go (cases_lt g.number (times (take i w) (r.source c))))
+          low (inl (same, e)) = let there : times (take i w) g.actor ≡ times (take i w) f.actor =
+              ap (times (take i w)) same in omega (arith, number)
+          low (inr (c, k, into, from, lacks)) = subst (λ a. g.number < times (take i w) a) from
+              (go (cases_lt g.number (times (take i w) (r.source c))))
             where
-              ready : r.consumed c (times (take i w) (r.target c) + 1) ≤ r.initial c + r.produced c (times (take i w) (r.source c))
+              ready : r.consumed c (times (take i w) (r.target c) + 1) ≤
+                  r.initial c + r.produced c (times (take i w) (r.source c))
               ready = (pass.0 i l).1 c k (into ∙ sym actor)
 
               its : r.consumed c (times (take i w) (r.target c) + 1) ≡ r.consumed c (f.number + 1)
               its = ap (λ t. r.consumed c (t + 1)) (ap (times (take i w)) into ∙ number)
 
-              go : (g.number < times (take i w) (r.source c)) ⊎ (times (take i w) (r.source c) ≤ g.number) → g.number < times (take i w) (r.source c)
+              go : (g.number < times (take i w) (r.source c)) ⊎ (times (take i w) (r.source c) ≤ g.number) →
+                  g.number < times (take i w) (r.source c)
               go (inl is) = is
-              go (inr high) = let more = s.produced_rises c (times (take i w) (r.source c)) g.number high in absurd (omega (arith, its, ready, lacks))
+              go (inr high) = let more = s.produced_rises c (times (take i w) (r.source c)) g.number high in
+                  absurd (omega (arith, its, ready, lacks))
 
 firing_same : (w : List ℕ) (i p : ℕ) → p < i → firing_at (take i w) p ≡ firing_at w p
-firing_same w i p l k = record { actor = get_or-take i w p 0 l k; number = times (take-take p i w (omega arith) k) (get_or-take i w p 0 l k) }
+firing_same w i p l k = record {
+  actor = get_or-take i w p 0 l k;
+  number = times (take-take p i w (omega arith) k) (get_or-take i w p 0 l k);
+}
 
-last_row : (rows : List (List (Option Firing))) (new : List (Option Firing)) → row (rows ++ new ∷ []) (length rows) ≡ new
+last_row : (rows : List (List (Option Firing))) (new : List (Option Firing)) →
+    row (rows ++ new ∷ []) (length rows) ≡ new
 last_row [] new = refl
 last_row (x ∷ rows) new = last_row rows new
 
@@ -170,11 +195,19 @@ times_small laws w (suc i) a h = rw add-one at (go (times_small laws w i a (omeg
     go low (inr ne) = omega (arith, laws.others w i a h ne)
 
 -- one row more
-pub by_homes_more : (homes : List (Option ℕ)) (m : ℕ) (w : List ℕ) (i home : ℕ) (rows : List (List (Option Firing))) (new : List (Option Firing)) → i < length w →
-    AreByHomes homes m (take i w) rows → get_or homes (get_or w i 0) None ≡ Some home → new ≡ set (replicate m None) home (Some (firing_at w i)) →
+pub by_homes_more : (homes : List (Option ℕ)) (m : ℕ) (w : List ℕ) (i home : ℕ) (rows : List (List (Option Firing)))
+    (new : List (Option Firing)) → i < length w →
+    AreByHomes homes m (take i w) rows → get_or homes (get_or w i 0) None ≡ Some home →
+    new ≡ set (replicate m None) home (Some (firing_at w i)) →
     AreByHomes homes m (take (i + 1) w) (rows ++ new ∷ [])
 by_homes_more homes m w i home rows new l by at is = record {
-  all = omega (arith, length-append rows (new ∷ []), by.all, length-take-le i w (omega arith), length-take-le (i + 1) w (omega arith));
+  all = omega (
+    arith,
+    length-append rows (new ∷ []),
+    by.all,
+    length-take-le i w (omega arith),
+    length-take-le (i + 1) w (omega arith),
+  );
   each = λ p j h e. one p j (omega (arith, h, length-take-le (i + 1) w (omega arith))) e (cases_lt p i);
 }
   where
@@ -184,15 +217,20 @@ by_homes_more homes m w i home rows new l by at is = record {
     one : (p j : ℕ) → p < i + 1 → get_or homes (get_or (take (i + 1) w) p 0) None ≡ Some j → (p < i) ⊎ (i ≤ p) →
         row (rows ++ new ∷ []) p ≡ set (replicate m None) j (Some (firing_at (take (i + 1) w) p))
     one p j h e (inl low) =
-        let actor : get_or (take (i + 1) w) p 0 ≡ get_or (take i w) p 0 = get_or-take (i + 1) w p 0 h ∙ sym (get_or-take i w p 0 low) in
-        let same : firing_at (take i w) p ≡ firing_at (take (i + 1) w) p = firing_same w i p low ∙ sym (firing_same w (i + 1) p h) in
+        let actor : get_or (take (i + 1) w) p 0 ≡ get_or (take i w) p 0 =
+        get_or-take (i + 1) w p 0 h ∙ sym (get_or-take i w p 0 low) in
+        let same : firing_at (take i w) p ≡ firing_at (take (i + 1) w) p =
+        firing_same w i p low ∙ sym (firing_same w (i + 1) p h) in
         get_or_append_left rows (new ∷ []) [] p (omega (arith, count)) ∙
         (by.each p j (omega (arith, length-take-le i w (omega arith))) (ap (λ a. get_or homes a None) (sym actor) ∙ e) ∙
         ap (λ f. set (replicate m None) j (Some f)) same)
     one p j h e (inr high) =
         let this : i ≡ p = omega arith in
-        let actor : get_or (take (i + 1) w) p 0 ≡ get_or w i 0 = get_or-take (i + 1) w p 0 h ∙ ap (λ q. get_or w q 0) (sym this) in
+        let actor : get_or (take (i + 1) w) p 0 ≡ get_or w i 0 =
+        get_or-take (i + 1) w p 0 h ∙ ap (λ q. get_or w q 0) (sym this) in
         let its : home ≡ j = some_is (sym at ∙ (ap (λ a. get_or homes a None) (sym actor) ∙ e)) in
-        let same : firing_at w i ≡ firing_at (take (i + 1) w) p = ap (firing_at w) this ∙ sym (firing_same w (i + 1) p h) in
+        let same : firing_at w i ≡ firing_at (take (i + 1) w) p =
+        ap (firing_at w) this ∙ sym (firing_same w (i + 1) p h) in
         let place : length rows ≡ p = count ∙ this in
-        ap (λ q. row (rows ++ new ∷ []) q) (sym place) ∙ (last_row rows new ∙ (is ∙ (λ k. set (replicate m None) (its k) (Some (same k)))))
+        ap (λ q. row (rows ++ new ∷ []) q) (sym place)
+        ∙ (last_row rows new ∙ (is ∙ (λ k. set (replicate m None) (its k) (Some (same k)))))

@@ -11,7 +11,8 @@ use Rattle.sdf_prec.specs.Trying.{IsTriedBefore, IsQueue}
 abbrev pub Among : (Firing → Type 0) → ℕ → Firing → Type 0
 Among ready i f = (f.actor < i) × ready f
 
-module _ (level : Firing → ℕ) (ready : Firing → Type 0) (next : ℕ → ℕ) (own : (f : Firing) → ready f → f.number ≡ next f.actor) where
+module _ (level : Firing → ℕ) (ready : Firing → Type 0) (next : ℕ → ℕ)
+    (own : (f : Firing) → ready f → f.number ≡ next f.actor) where
   pub queue_none : IsQueue level (Among ready 0) []
   queue_none = record {
     each = λ p l. absurd (omega arith);
@@ -24,7 +25,8 @@ module _ (level : Firing → ℕ) (ready : Firing → Type 0) (next : ℕ → �
       let number : f.number ≡ next i = own f h ∙ ap next e in
       (λ k. record { actor = e k; number = number k })
 
-  pub queue_skip : (i : ℕ) (q : List Firing) → (ready (record { actor = i; number = next i }) → ⊥) → IsQueue level (Among ready i) q → IsQueue level (Among ready (i + 1)) q
+  pub queue_skip : (i : ℕ) (q : List Firing) → (ready (record { actor = i; number = next i }) → ⊥) →
+      IsQueue level (Among ready i) q → IsQueue level (Among ready (i + 1)) q
   queue_skip i q not s = record {
     each = λ p l. let h = s.each p l in (omega (arith, h.0), h.1);
     all = λ f h. go f h (cases_lt f.actor i);
@@ -35,8 +37,10 @@ module _ (level : Firing → ℕ) (ready : Firing → Type 0) (next : ℕ → �
       go f h (inl low) = s.all f (low, h.1)
       go f h (inr high) = absurd (not (subst ready (its_next f i (omega (arith, h.0)) h.1) h.1))
 
-  module _ (i : ℕ) (q : List Firing) (x : Firing) (k : ℕ) (s : IsQueue level (Among ready i) q) (is : x.actor ≡ i) (on : ready x) (fits : k ≤ length q)
-      (before : (p : ℕ) → p < k → level x ≤ level (firing q p)) (after : k < length q → level (firing q k) < level x) where
+  module _ (i : ℕ) (q : List Firing) (x : Firing) (k : ℕ) (s : IsQueue level (Among ready i) q) (is : x.actor ≡ i)
+      (on : ready x) (fits : k ≤ length q)
+      (before : (p : ℕ) → p < k → level x ≤ level (firing q p))
+      (after : k < length q → level (firing q k) < level x) where
     longer : length (insert q k x) ≡ length q + 1
     longer = length-insert q k x fits
 
@@ -51,10 +55,21 @@ module _ (level : Firing → ℕ) (ready : Firing → Type 0) (next : ℕ → �
       where
         go : (m < k) ⊎ (k ≤ m) → (m ≡ k) ⊎ (m ≡ k → ⊥) → At m
         go (inl low) _ = inl (low, get_or-insert_below q k x no_firing m low fits)
-        go (inr high) (inl e) = inr (inl (e, ap (λ m. firing (insert q k x) m) e ∙ get_or-insert_at q k x no_firing fits))
+        go (inr high) (inl e) = inr (inl (
+          e,
+          ap (λ m. firing (insert q k x) m) e
+              ∙ get_or-insert_at q k x no_firing fits,
+        ))
         go (inr high) (inr ne) =
             let back : m ≡ m - 1 + 1 = omega arith in
-            inr (inr (m - 1, back, omega arith, omega arith, ap (λ m. firing (insert q k x) m) back ∙ get_or-insert_above q k x no_firing (m - 1) (omega arith) fits))
+            inr (inr (
+              m - 1,
+              back,
+              omega arith,
+              omega arith,
+              ap (λ m. firing (insert q k x) m) back ∙ get_or-insert_above q k x no_firing (m - 1)
+                  (omega arith) fits,
+            ))
 
     first : (f : Firing) → f.actor < i → level x ≤ level f → IsTriedBefore level f x
     first f low h = go (cases_lt (level x) (level f))
@@ -76,20 +91,31 @@ module _ (level : Firing → ℕ) (ready : Firing → Type 0) (next : ℕ → �
         go (inr ne) = let here = after (omega arith) in let less = falls (s.sorted k p (omega arith) l) in omega arith
 
     sorted : (p m : ℕ) → p < m → At p → At m → IsTriedBefore level (firing (insert q k x) p) (firing (insert q k x) m)
-    sorted p m h (inl (a, e)) (inl (b, g)) = subst (λ f. IsTriedBefore level f (firing (insert q k x) m)) (sym e) (subst (IsTriedBefore level (firing q p)) (sym g) (s.sorted p m h (omega arith)))
-    sorted p m h (inl (a, e)) (inr (inl (b, g))) = subst (λ f. IsTriedBefore level f (firing (insert q k x) m)) (sym e) (subst (IsTriedBefore level (firing q p)) (sym g) (first (firing q p) (s.each p (omega arith)).0 (before p a)))
-    sorted p m h (inl (a, e)) (inr (inr (n, b, c, d, g))) = subst (λ f. IsTriedBefore level f (firing (insert q k x) m)) (sym e) (subst (IsTriedBefore level (firing q p)) (sym g) (s.sorted p n (omega arith) d))
+    sorted p m h (inl (a, e)) (inl (b, g)) = subst (λ f. IsTriedBefore level f (firing (insert q k x) m)) (sym e)
+        (subst (IsTriedBefore level (firing q p)) (sym g) (s.sorted p m h (omega arith)))
+    sorted p m h (inl (a, e)) (inr (inl (b, g))) =
+        subst (λ f. IsTriedBefore level f (firing (insert q k x) m)) (sym e)
+        (subst (IsTriedBefore level (firing q p)) (sym g) (first (firing q p) (s.each p (omega arith)).0 (before p a)))
+    sorted p m h (inl (a, e)) (inr (inr (n, b, c, d, g))) =
+        subst (λ f. IsTriedBefore level f (firing (insert q k x) m)) (sym e)
+        (subst (IsTriedBefore level (firing q p)) (sym g) (s.sorted p n (omega arith) d))
     sorted p m h (inr (inl (a, e))) (inl (b, g)) = absurd (omega arith)
     sorted p m h (inr (inl (a, e))) (inr (inl (b, g))) = absurd (omega arith)
-    sorted p m h (inr (inl (a, e))) (inr (inr (n, b, c, d, g))) = subst (λ f. IsTriedBefore level f (firing (insert q k x) m)) (sym e) (subst (IsTriedBefore level x) (sym g) (inl (behind n c d)))
+    sorted p m h (inr (inl (a, e))) (inr (inr (n, b, c, d, g))) =
+        subst (λ f. IsTriedBefore level f (firing (insert q k x) m)) (sym e)
+        (subst (IsTriedBefore level x) (sym g) (inl (behind n c d)))
     sorted p m h (inr (inr (n, b, c, d, g))) (inl (a, e)) = absurd (omega arith)
     sorted p m h (inr (inr (n, b, c, d, g))) (inr (inl (a, e))) = absurd (omega arith)
-    sorted p m h (inr (inr (n, b, c, d, g))) (inr (inr (o, u, v, w, e))) = subst (λ f. IsTriedBefore level f (firing (insert q k x) m)) (sym g) (subst (IsTriedBefore level (firing q n)) (sym e) (s.sorted n o (omega arith) w))
+    sorted p m h (inr (inr (n, b, c, d, g))) (inr (inr (o, u, v, w, e))) =
+        subst (λ f. IsTriedBefore level f (firing (insert q k x) m)) (sym g)
+        (subst (IsTriedBefore level (firing q n)) (sym e) (s.sorted n o (omega arith) w))
 
     each : (m : ℕ) → At m → Among ready (i + 1) (firing (insert q k x) m)
-    each m (inl (a, e)) = let h = s.each m (omega arith) in subst (Among ready (i + 1)) (sym e) (omega (arith, h.0), h.1)
+    each m (inl (a, e)) = let h = s.each m (omega arith) in
+        subst (Among ready (i + 1)) (sym e) (omega (arith, h.0), h.1)
     each m (inr (inl (a, e))) = subst (Among ready (i + 1)) (sym e) (omega arith, on)
-    each m (inr (inr (n, b, c, d, g))) = let h = s.each n d in subst (Among ready (i + 1)) (sym g) (omega (arith, h.0), h.1)
+    each m (inr (inr (n, b, c, d, g))) = let h = s.each n d in
+        subst (Among ready (i + 1)) (sym g) (omega (arith, h.0), h.1)
 
     kept : (f : Firing) → Stands q f → Stands (insert q k x) f
     kept f (p, l, e) = go (cases_lt p k)
@@ -112,7 +138,8 @@ module _ (level : Firing → ℕ) (ready : Firing → Type 0) (next : ℕ → �
     }
 
 -- the queue of all actors
-pub queue_all : (level : Firing → ℕ) (ready : Firing → Type 0) (actors i : ℕ) (q : List Firing) → ((f : Firing) → ready f → f.actor < actors) → actors ≤ i → IsQueue level (Among ready i) q → IsQueue level ready q
+pub queue_all : (level : Firing → ℕ) (ready : Firing → Type 0) (actors i : ℕ) (q : List Firing) →
+    ((f : Firing) → ready f → f.actor < actors) → actors ≤ i → IsQueue level (Among ready i) q → IsQueue level ready q
 queue_all level ready actors i q known h s = record {
   each = λ p l. (s.each p l).1;
   all = λ f on. let k = known f on in s.all f (omega arith, on);

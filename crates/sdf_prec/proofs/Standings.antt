@@ -1,6 +1,8 @@
 -- Where actors stand, cell by cell.
-use Rattle.std.proofs.Common.{◌≡◌, ℕ, ◌+◌, ◌≤◌, ◌<◌, List, length, get_or, set, replicate, cond, eqb, sym, ap, ◌∙◌, subst, inl, inr, ◌⊎◌, ◌↔◌, arith, rules, refl, Option, Some, None}
-use Rattle.std.proofs.lemmas.List.{get_or-set_same, get_or-set_other, get_or_past, get_or-replicate, length-set, length-replicate}
+use Rattle.std.proofs.Common.{◌≡◌, ℕ, ◌+◌, ◌≤◌, ◌<◌, List, length, get_or, set, replicate, cond, eqb, sym, ap, ◌∙◌}
+use Rattle.std.proofs.Common.{subst, inl, inr, ◌⊎◌, ◌↔◌, arith, rules, refl, Option, Some, None}
+use Rattle.std.proofs.lemmas.List.{get_or-set_same, get_or-set_other, get_or_past, get_or-replicate, length-set}
+use Rattle.std.proofs.lemmas.List.{length-replicate}
 use Rattle.std.proofs.lemmas.Bool.{cases_lt, cases_eq, eq-eqb, ne_eqb}
 use Rattle.sdf_prec.specs.declared.firing.Firing.{Firing}
 use Rattle.sdf_prec.specs.declared.homes.Standing.{Standing}
@@ -29,12 +31,14 @@ row_within rows k m f e = go (cases_lt k (length rows))
     go (inl l) = l
     go (inr past) = absurd (none_some (ap (λ cells. get_or cells m None) (sym (get_or_past rows k _ past)) ∙ e))
 
-standing_same : (P Q : ℕ → Type 0) (s : Standing) → ((m : ℕ) → P m → Q m) → ((m : ℕ) → Q m → P m) → IsStanding P s → IsStanding Q s
+standing_same : (P Q : ℕ → Type 0) (s : Standing) → ((m : ℕ) → P m → Q m) → ((m : ℕ) → Q m → P m) → IsStanding P s →
+    IsStanding Q s
 standing_same P Q Nowhere to from none = λ m q. none m (from m q)
 standing_same P Q (In j) to from (p, only) = (to j p, λ m q. only m (from m q))
 standing_same P Q Apart to from (j, m, p, q, ne) = (j, m, to j p, to m q, ne)
 
-standing_more : (P Q : ℕ → Type 0) (s : Standing) (j : ℕ) → ((m : ℕ) → P m → Q m) → Q j → ((m : ℕ) → Q m → P m ⊎ (m ≡ j)) → IsStanding P s → IsStanding Q (also s j)
+standing_more : (P Q : ℕ → Type 0) (s : Standing) (j : ℕ) → ((m : ℕ) → P m → Q m) → Q j →
+    ((m : ℕ) → Q m → P m ⊎ (m ≡ j)) → IsStanding P s → IsStanding Q (also s j)
 standing_more P Q Nowhere j to q from none = (q, λ m h. one m (from m h))
   where
     one : (m : ℕ) → P m ⊎ (m ≡ j) → m ≡ j
@@ -56,11 +60,13 @@ module _ (rows : List (List (Option Firing))) (i j a : ℕ) where
   among_rises m (k, f, is, its, inl low) = (k, f, is, its, inl low)
   among_rises m (k, f, is, its, inr (e, low)) = (k, f, is, its, inr (e, omega arith))
 
-  among_last : (m : ℕ) → IsAmong rows i (j + 1) a m → IsAmong rows i j a m ⊎ ((m ≡ j) × ((f : Firing) × (cell rows i j ≡ Some f) × (f.actor ≡ a)))
+  among_last : (m : ℕ) → IsAmong rows i (j + 1) a m →
+      IsAmong rows i j a m ⊎ ((m ≡ j) × ((f : Firing) × (cell rows i j ≡ Some f) × (f.actor ≡ a)))
   among_last m (k, f, is, its, inl low) = inl (k, f, is, its, inl low)
   among_last m (k, f, is, its, inr (e, low)) = go (cases_eq m j)
     where
-      go : (m ≡ j) ⊎ (m ≡ j → ⊥) → IsAmong rows i j a m ⊎ ((m ≡ j) × ((f : Firing) × (cell rows i j ≡ Some f) × (f.actor ≡ a)))
+      go : (m ≡ j) ⊎ (m ≡ j → ⊥) → IsAmong rows i j a m
+          ⊎ ((m ≡ j) × ((f : Firing) × (cell rows i j ≡ Some f) × (f.actor ≡ a)))
       go (inl same) = inr (same, (f, ap (λ x. cell rows i x) (sym same) ∙ (ap (λ x. cell rows x m) (sym e) ∙ is), its))
       go (inr ne) = inl (k, f, is, its, inr (e, omega arith))
 
@@ -81,14 +87,16 @@ module _ (rows : List (List (Option Firing))) (i j a : ℕ) where
 
 -- before the first cell
 pub standing_none : (rows : List (List (Option Firing))) (n : ℕ) → AreStanding rows 0 0 (replicate n Nowhere)
-standing_none rows n a l = subst (IsStanding (IsAmong rows 0 0 a)) (sym (get_or-replicate n a Nowhere Nowhere (omega (arith, length-replicate n Nowhere)))) (λ m h. none m h)
+standing_none rows n a l = subst (IsStanding (IsAmong rows 0 0 a))
+    (sym (get_or-replicate n a Nowhere Nowhere (omega (arith, length-replicate n Nowhere)))) (λ m h. none m h)
   where
     none : (m : ℕ) → IsAmong rows 0 0 a m → ⊥
     none m (k, f, is, its, inl low) = omega arith
     none m (k, f, is, its, inr (e, low)) = omega arith
 
 module _ (rows : List (List (Option Firing))) (i j : ℕ) (all : List Standing) (are : AreStanding rows i j all) where
-  pub standing_some : (f : Firing) → cell rows i j ≡ Some f → f.actor < length all → AreStanding rows i (j + 1) (set all f.actor (also (standing_of all f.actor) j))
+  pub standing_some : (f : Firing) → cell rows i j ≡ Some f → f.actor < length all →
+      AreStanding rows i (j + 1) (set all f.actor (also (standing_of all f.actor) j))
   standing_some f is known a l = go (cases_eq a f.actor)
     where
       new : Standing
@@ -97,39 +105,50 @@ module _ (rows : List (List (Option Firing))) (i j : ℕ) (all : List Standing) 
       here : a ≡ f.actor → (m : ℕ) → IsAmong rows i (j + 1) a m → IsAmong rows i j a m ⊎ (m ≡ j)
       here e m h = pick (among_last rows i j a m h)
         where
-          pick : IsAmong rows i j a m ⊎ ((m ≡ j) × ((g : Firing) × (cell rows i j ≡ Some g) × (g.actor ≡ a))) → IsAmong rows i j a m ⊎ (m ≡ j)
+          pick : IsAmong rows i j a m ⊎ ((m ≡ j) × ((g : Firing) × (cell rows i j ≡ Some g) × (g.actor ≡ a))) →
+              IsAmong rows i j a m ⊎ (m ≡ j)
           pick (inl old) = inl old
           pick (inr (same, g)) = inr same
 
       other : (a ≡ f.actor → ⊥) → (m : ℕ) → IsAmong rows i (j + 1) a m → IsAmong rows i j a m
       other ne m h = pick (among_last rows i j a m h)
         where
-          pick : IsAmong rows i j a m ⊎ ((m ≡ j) × ((g : Firing) × (cell rows i j ≡ Some g) × (g.actor ≡ a))) → IsAmong rows i j a m
+          pick : IsAmong rows i j a m ⊎ ((m ≡ j) × ((g : Firing) × (cell rows i j ≡ Some g) × (g.actor ≡ a))) →
+              IsAmong rows i j a m
           pick (inl old) = old
-          pick (inr (same, (g, held, its))) = absurd (ne (sym its ∙ ap (λ (h : Firing). h.actor) (some_is (sym held ∙ is))))
+          pick (inr (same, (g, held, its))) = absurd (ne
+              (sym its ∙ ap (λ (h : Firing). h.actor) (some_is (sym held ∙ is))))
 
-      go : (a ≡ f.actor) ⊎ (a ≡ f.actor → ⊥) → IsStanding (IsAmong rows i (j + 1) a) (standing_of (set all f.actor new) a)
+      go : (a ≡ f.actor) ⊎ (a ≡ f.actor → ⊥) → IsStanding (IsAmong rows i (j + 1) a)
+          (standing_of (set all f.actor new) a)
       go (inl e) =
           let at : standing_of (set all f.actor new) a ≡ also (standing_of all a) j =
-          ap (standing_of (set all f.actor new)) e ∙ (get_or-set_same all f.actor new Nowhere known ∙ ap (λ b. also (standing_of all b) j) (sym e)) in
+          ap (standing_of (set all f.actor new)) e ∙ (get_or-set_same all f.actor new Nowhere known
+          ∙ ap (λ b. also (standing_of all b) j) (sym e)) in
           subst (IsStanding (IsAmong rows i (j + 1) a)) (sym at)
-          (standing_more (IsAmong rows i j a) (IsAmong rows i (j + 1) a) (standing_of all a) j (among_rises rows i j a) (i, f, is, sym e, inr (refl, omega arith)) (here e) (are a (omega (arith, length-set all f.actor new))))
+          (standing_more (IsAmong rows i j a) (IsAmong rows i (j + 1) a) (standing_of all a) j (among_rises rows i j a)
+          (i, f, is, sym e, inr (refl, omega arith)) (here e) (are a (omega (arith, length-set all f.actor new))))
       go (inr ne) =
           subst (IsStanding (IsAmong rows i (j + 1) a)) (sym (get_or-set_other all f.actor a new Nowhere ne))
-          (standing_same (IsAmong rows i j a) (IsAmong rows i (j + 1) a) (standing_of all a) (among_rises rows i j a) (other ne) (are a (omega (arith, length-set all f.actor new))))
+          (standing_same (IsAmong rows i j a) (IsAmong rows i (j + 1) a) (standing_of all a) (among_rises rows i j a)
+          (other ne) (are a (omega (arith, length-set all f.actor new))))
 
   pub standing_skip : cell rows i j ≡ None → AreStanding rows i (j + 1) all
-  standing_skip none a l = standing_same (IsAmong rows i j a) (IsAmong rows i (j + 1) a) (standing_of all a) (among_rises rows i j a) (λ m h. pick m (among_last rows i j a m h)) (are a l)
+  standing_skip none a l = standing_same (IsAmong rows i j a) (IsAmong rows i (j + 1) a) (standing_of all a)
+      (among_rises rows i j a) (λ m h. pick m (among_last rows i j a m h)) (are a l)
     where
-      pick : (m : ℕ) → IsAmong rows i j a m ⊎ ((m ≡ j) × ((g : Firing) × (cell rows i j ≡ Some g) × (g.actor ≡ a))) → IsAmong rows i j a m
+      pick : (m : ℕ) → IsAmong rows i j a m ⊎ ((m ≡ j) × ((g : Firing) × (cell rows i j ≡ Some g) × (g.actor ≡ a))) →
+          IsAmong rows i j a m
       pick m (inl old) = old
       pick m (inr (same, (g, held, its))) = absurd (none_some (sym none ∙ held))
 
   pub standing_row : length (row rows i) ≤ j → AreStanding rows (i + 1) 0 all
-  standing_row past a l = standing_same (IsAmong rows i j a) (IsAmong rows (i + 1) 0 a) (standing_of all a) (among_on rows i j a past) (among_off rows i j a past) (are a l)
+  standing_row past a l = standing_same (IsAmong rows i j a) (IsAmong rows (i + 1) 0 a) (standing_of all a)
+      (among_on rows i j a past) (among_off rows i j a past) (are a l)
 
 -- after the last one
-pub standing_all : (rows : List (List (Option Firing))) (a j : ℕ) (s : Standing) → IsStanding (IsAmong rows (length rows) 0 a) s → (home_of s ≡ Some j) ↔ IsHome rows a j
+pub standing_all : (rows : List (List (Option Firing))) (a j : ℕ) (s : Standing) →
+    IsStanding (IsAmong rows (length rows) 0 a) s → (home_of s ≡ Some j) ↔ IsHome rows a j
 standing_all rows a j s are = (there s are, back s are)
   where
     among : (i m : ℕ) (f : Firing) → cell rows i m ≡ Some f → f.actor ≡ a → IsAmong rows (length rows) 0 a m
@@ -148,4 +167,5 @@ standing_all rows a j s are = (there s are, back s are)
     back : (s : Standing) → IsStanding (IsAmong rows (length rows) 0 a) s → IsHome rows a j → home_of s ≡ Some j
     back Nowhere none home = let at = home.some in absurd (none j (among at.0 j at.1 at.3 at.4))
     back (In i) (at, only) home = ap Some (home.all at.0 i at.1 at.2 at.3)
-    back Apart (i, m, at, too, ne) home = absurd (ne (home.all at.0 i at.1 at.2 at.3 ∙ sym (home.all too.0 m too.1 too.2 too.3)))
+    back Apart (i, m, at, too, ne) home = absurd (ne
+        (home.all at.0 i at.1 at.2 at.3 ∙ sym (home.all too.0 m too.1 too.2 too.3)))

@@ -1,5 +1,6 @@
 -- Where each firing costs 1, all of the rows before has ended when a row starts.
-use Rattle.std.proofs.Common.{◌≡◌, ℕ, zero, suc, ◌+◌, ◌*◌, ◌≤◌, ◌<◌, ◌⊎◌, ◌↔◌, List, length, get_or, take, sym, ap, ◌∙◌, subst, inl, inr, arith, refl, add-one, [], true, false, Option, Some, None}
+use Rattle.std.proofs.Common.{◌≡◌, ℕ, zero, suc, ◌+◌, ◌*◌, ◌≤◌, ◌<◌, ◌⊎◌, ◌↔◌, List, length, get_or, take, sym, ap, ◌∙◌}
+use Rattle.std.proofs.Common.{subst, inl, inr, arith, refl, add-one, [], true, false, Option, Some, None}
 use Rattle.std.specs.Prelude.{slice_get}
 use Rattle.std.specs.List.{Contains}
 use Rattle.std.specs.List.Sorted.{IsStrictlyIncreasing}
@@ -10,7 +11,8 @@ use Rattle.sdf_prec.specs.declared.firing.Firing.{Firing}
 use Rattle.sdf_prec.specs.Tables.{firing, firings, row, cell}
 use Rattle.sdf_prec.specs.Trying.{IsLeft, IsPlace, IsPlaced, ArePlaced, load, weight_at}
 use Rattle.sdf_prec.specs.PlainRows.{IsReadyFor, IsFreePlain, IsHomedPlain}
-use Rattle.sdf_prec.specs.TimedRows.{Timed, no_row, timed, cells_of, IsAt, IsBusy, IsReadyAt, IsSettled, Rule, IsNextRow, AreTimed, AreTimedRows, IsFreeRow, IsHomedRow, end_at}
+use Rattle.sdf_prec.specs.TimedRows.{Timed, no_row, timed, cells_of, IsAt, IsBusy, IsReadyAt, IsSettled, Rule}
+use Rattle.sdf_prec.specs.TimedRows.{IsNextRow, AreTimed, AreTimedRows, IsFreeRow, IsHomedRow, end_at}
 use Rattle.sdf_prec.specs.UnitRows.{UnitFreeRowsArePlain, UnitHomedRowsArePlain}
 use Rattle.sdf_prec.proofs.Floors.{row_known}
 use Rattle.sdf_prec.proofs.Trial.{placed_idle}
@@ -18,16 +20,20 @@ use Rattle.sdf_prec.proofs.Rules.{queue_alike}
 use Rattle.sdf_prec.proofs.Ends.{row_of, row_ready, occurs_of, order_of, order_all}
 
 -- a rising list of all columns below a width is the columns
-all_columns : (n : ℕ) (xs : List ℕ) → IsStrictlyIncreasing xs → ((x : ℕ) → x < n → Contains xs x) → (b j : ℕ) → j < b → j < n → (j < length xs) × (get_or xs j 0 ≡ j)
+all_columns : (n : ℕ) (xs : List ℕ) → IsStrictlyIncreasing xs → ((x : ℕ) → x < n → Contains xs x) → (b j : ℕ) → j < b →
+    j < n → (j < length xs) × (get_or xs j 0 ≡ j)
 all_columns n xs rising all zero j l k = absurd (omega arith)
-all_columns n xs rising all (suc b) j l k = at (all j k) (λ q h. all_columns n xs rising all b q (omega arith) (omega arith))
+all_columns n xs rising all (suc b) j l k = at (all j k)
+    (λ q h. all_columns n xs rising all b q (omega arith) (omega arith))
   where
     -- a number of the list is no less than its place
     above : (q : ℕ) → q < length xs → q ≤ get_or xs q 0
     above zero h = omega arith
-    above (suc q) h = let x = above q (omega arith) in let y : get_or xs q 0 < get_or xs (q + 1) 0 = rising q (omega arith) in let z : get_or xs q 0 < get_or xs (suc q) 0 = rw add-one at y in omega arith
+    above (suc q) h = let x = above q (omega arith) in let y : get_or xs q 0 < get_or xs (q + 1) 0 =
+        rising q (omega arith) in let z : get_or xs q 0 < get_or xs (suc q) 0 = rw add-one at y in omega arith
 
-    at : Contains xs j → ((q : ℕ) → q < j → (q < length xs) × (get_or xs q 0 ≡ q)) → (j < length xs) × (get_or xs j 0 ≡ j)
+    at : Contains xs j → ((q : ℕ) → q < j → (q < length xs) × (get_or xs q 0 ≡ q)) →
+        (j < length xs) × (get_or xs j 0 ≡ j)
     at (q, h, e) before = go (cases_lt q j)
       where
         is : get_or xs q 0 ≡ j
@@ -41,7 +47,8 @@ all_columns n xs rising all (suc b) j l k = at (all j k) (λ q h. all_columns n 
 
 sum_same : (f g : ℕ → ℕ) (k : ℕ) → ((a : ℕ) → a < k → f a ≡ g a) → sum_to f k ≡ sum_to g k
 sum_same f g zero h = refl
-sum_same f g (suc k) h = let rest = sum_same f g k (λ a l. h a (omega arith)) in let one = h k (omega arith) in omega arith
+sum_same f g (suc k) h = let rest = sum_same f g k (λ a l. h a (omega arith)) in let one = h k (omega arith) in
+    omega arith
 
 module _ (past : List Timed) (i : ℕ) where
   front_at : (m j : ℕ) (f : Firing) → IsAt (take i past) m j f → (m < i) × IsAt past m j f
@@ -53,7 +60,8 @@ module _ (past : List Timed) (i : ℕ) where
   front_of : (m j : ℕ) (f : Firing) → m < i → IsAt past m j f → IsAt (take i past) m j f
   front_of m j f low at = ap (λ (x : Timed). get_or x.cells j None) (get_or-take i past m no_row low) ∙ at
 
-module _ (r : Rates) (n cost : ℕ → ℕ) (level : Firing → ℕ) (width : ℕ) (rule : Rule) (rows : List Timed) (unit : (a : ℕ) → a < r.actors → cost a ≡ 1) (are : AreTimedRows r n width rule rows)
+module _ (r : Rates) (n cost : ℕ → ℕ) (level : Firing → ℕ) (width : ℕ) (rule : Rule) (rows : List Timed)
+    (unit : (a : ℕ) → a < r.actors → cost a ≡ 1) (are : AreTimedRows r n width rule rows)
     (known : (i j : ℕ) (f : Firing) → IsAt rows i j f → f.actor < r.actors) (i : ℕ) (here : i < length rows) where
   abbrev t : ℕ
   t = (timed rows i).start
@@ -73,18 +81,22 @@ module _ (r : Rates) (n cost : ℕ → ℕ) (level : Firing → ℕ) (width : �
   pub idle : (j : ℕ) → IsBusy cost (take i rows) (timed rows i).start j → ⊥
   idle j (m, f, at, late) = let h = over m j f at in omega arith
 
-  pub ready_plain : (f : Firing) → IsReadyAt r n cost (take i rows) (timed rows i).start f → IsReadyFor r n (cells_of rows) i f
+  pub ready_plain : (f : Firing) → IsReadyAt r n cost (take i rows) (timed rows i).start f →
+      IsReadyFor r n (cells_of rows) i f
   ready_plain f h = record {
     of_block = h.of_block;
     left = λ st. let at = occurs_of rows i f st in h.left (at.0, at.1, front_of rows i at.0 at.1 f at.2 at.3);
-    waits = λ g w. let ended = h.waits g w in let front = front_at rows i ended.0 ended.1 g ended.2 in order_of rows i ended.0 ended.1 g front.0 front.1;
+    waits = λ g w. let ended = h.waits g w in let front = front_at rows i ended.0 ended.1 g ended.2 in
+        order_of rows i ended.0 ended.1 g front.0 front.1;
   }
 
-  pub plain_ready : (f : Firing) → IsReadyFor r n (cells_of rows) i f → IsReadyAt r n cost (take i rows) (timed rows i).start f
+  pub plain_ready : (f : Firing) → IsReadyFor r n (cells_of rows) i f →
+      IsReadyAt r n cost (take i rows) (timed rows i).start f
   plain_ready f h = record {
     of_block = h.of_block;
     left = λ o. let front = front_at rows i o.0 o.1 f o.2 in h.left (order_of rows i o.0 o.1 f front.0 front.1);
-    waits = λ g w. let at = occurs_of rows i g (h.waits g w) in let x = front_of rows i at.0 at.1 g at.2 at.3 in (at.0, at.1, x, over at.0 at.1 g x);
+    waits = λ g w. let at = occurs_of rows i g (h.waits g w) in let x = front_of rows i at.0 at.1 g at.2 at.3 in
+        (at.0, at.1, x, over at.0 at.1 g x);
   }
 
   pub wide_plain : length (row (cells_of rows) i) ≡ width
@@ -93,22 +105,35 @@ module _ (r : Rates) (n cost : ℕ → ℕ) (level : Firing → ℕ) (width : �
   pub some_plain : firings (row (cells_of rows) i) ≡ [] → ⊥
   some_plain e = next.some (ap firings (sym (row_of rows i)) ∙ e)
 
-  pub settled_plain : (a j : ℕ) → IsSettled (take i rows) a j ↔ ((m : ℕ) × (f : Firing) × (m < i) × (cell (cells_of rows) m j ≡ Some f) × (f.actor ≡ a))
+  pub settled_plain : (a j : ℕ) → IsSettled (take i rows) a j ↔
+      ((m : ℕ) × (f : Firing) × (m < i) × (cell (cells_of rows) m j ≡ Some f) × (f.actor ≡ a))
   settled_plain a j = (
-    λ h. let front = front_at rows i h.0 j h.1 h.2 in (h.0, h.1, front.0, ap (λ (cs : List (Option Firing)). get_or cs j None) (row_of rows h.0) ∙ front.1, h.3),
-    λ h. (h.0, h.1, front_of rows i h.0 j h.1 h.2 (sym (ap (λ (cs : List (Option Firing)). get_or cs j None) (row_of rows h.0)) ∙ h.3), h.4),
+    λ h. let front = front_at rows i h.0 j h.1 h.2 in
+        (h.0, h.1, front.0, ap (λ (cs : List (Option Firing)). get_or cs j None) (row_of rows h.0) ∙ front.1, h.3),
+    λ h. (
+      h.0,
+      h.1,
+      front_of rows i h.0 j h.1 h.2 (sym
+          (ap (λ (cs : List (Option Firing)). get_or cs j None) (row_of rows h.0)) ∙ h.3),
+      h.4,
+    ),
   )
 
 -- in rows by a rule whose firings are ready, each firing is of an actor
 module _ (r : Rates) (n cost : ℕ → ℕ) (level : Firing → ℕ) (width : ℕ) (rows : List Timed) where
-  free_known : AreTimed width (IsFreeRow r n cost level width) rows → (i j : ℕ) (f : Firing) → IsAt rows i j f → f.actor < r.actors
-  free_known are i j f at = (row_ready r n cost level width false (take i rows) (timed rows i).start (timed rows i).cells (are i (row_known rows i j f at)).by_rule j f at).of_block.0
+  free_known : AreTimed width (IsFreeRow r n cost level width) rows → (i j : ℕ) (f : Firing) → IsAt rows i j f →
+      f.actor < r.actors
+  free_known are i j f at = (row_ready r n cost level width false (take i rows) (timed rows i).start
+      (timed rows i).cells (are i (row_known rows i j f at)).by_rule j f at).of_block.0
 
-  homed_known : AreTimed width (IsHomedRow r n cost level width) rows → (i j : ℕ) (f : Firing) → IsAt rows i j f → f.actor < r.actors
-  homed_known are i j f at = (row_ready r n cost level width true (take i rows) (timed rows i).start (timed rows i).cells (are i (row_known rows i j f at)).by_rule j f at).of_block.0
+  homed_known : AreTimed width (IsHomedRow r n cost level width) rows → (i j : ℕ) (f : Firing) → IsAt rows i j f →
+      f.actor < r.actors
+  homed_known are i j f at = (row_ready r n cost level width true (take i rows) (timed rows i).start
+      (timed rows i).cells (are i (row_known rows i j f at)).by_rule j f at).of_block.0
 
   rows_known : (i : ℕ) → i < length (cells_of rows) → i < length rows
-  rows_known i l = let e : length (cells_of rows) ≡ length rows = length-map rows (λ (x : Timed). x.cells) in omega arith
+  rows_known i l = let e : length (cells_of rows) ≡ length rows = length-map rows (λ (x : Timed). x.cells) in
+      omega arith
 
 pub free_plain : UnitFreeRowsArePlain
 free_plain r n cost level width rows unit are = record {
@@ -127,8 +152,10 @@ free_plain r n cost level width rows unit are = record {
     each : (i : ℕ) → i < length rows → IsFreePlain r n level width (cells_of rows) i
     each i l = (
       rule.queue,
-      queue_alike level (IsReadyAt r n cost (take i rows) (timed rows i).start) (IsReadyFor r n (cells_of rows) i) rule.queue
-          (ready_plain r n cost level width (IsFreeRow r n cost level width) rows unit are known i l) (plain_ready r n cost level width (IsFreeRow r n cost level width) rows unit are known i l) rule.ready,
+      queue_alike level (IsReadyAt r n cost (take i rows) (timed rows i).start)
+          (IsReadyFor r n (cells_of rows) i) rule.queue
+          (ready_plain r n cost level width (IsFreeRow r n cost level width) rows unit are known i l)
+          (plain_ready r n cost level width (IsFreeRow r n cost level width) rows unit are known i l) rule.ready,
       stands,
     )
       where
@@ -137,8 +164,11 @@ free_plain r n cost level width rows unit are = record {
 
         stands : (j : ℕ) → j < width → cell (cells_of rows) i j ≡ slice_get rule.queue j
         stands j k =
-            let c = all_columns width rule.columns rule.idle.rising (λ x h. rule.idle.all x h (idle r n cost level width (IsFreeRow r n cost level width) rows unit are known i l x)) (suc j) j (omega arith) k in
-            ap (λ (cs : List (Option Firing)). get_or cs j None) (row_of rows i) ∙ (ap (λ q. get_or (timed rows i).cells q None) (sym c.1) ∙ rule.filled.filled j c.0)
+            let c = all_columns width rule.columns rule.idle.rising
+            (λ x h. rule.idle.all x h (idle r n cost level width (IsFreeRow r n cost level width) rows unit are
+            known i l x)) (suc j) j (omega arith) k in
+            ap (λ (cs : List (Option Firing)). get_or cs j None) (row_of rows i)
+            ∙ (ap (λ q. get_or (timed rows i).cells q None) (sym c.1) ∙ rule.filled.filled j c.0)
 
 pub homed_plain : UnitHomedRowsArePlain
 homed_plain r n cost level width rows unit are = record {
@@ -158,35 +188,47 @@ homed_plain r n cost level width rows unit are = record {
     one a l = ap (λ c. n a * c) (unit a l) ∙ (let e : n a * 1 ≡ n a = omega arith in e)
 
     loads : (home : ℕ → Option ℕ) → load r.actors (λ a. n a * cost a) home ≡ load r.actors n home
-    loads home = λ k j. sum_same (λ a. weight_at (n a * cost a) (home a) j) (λ a. weight_at (n a) (home a) j) r.actors (λ a l. ap (λ x. weight_at x (home a) j) (one a l)) k
+    loads home = λ k j. sum_same (λ a. weight_at (n a * cost a) (home a) j) (λ a. weight_at (n a) (home a) j) r.actors
+        (λ a l. ap (λ x. weight_at x (home a) j) (one a l)) k
 
     each : (i : ℕ) → i < length rows → IsHomedPlain r n level width (cells_of rows) i
     each i l = (
       rule.queue,
       rule.homes,
-      queue_alike level (IsReadyAt r n cost (take i rows) (timed rows i).start) (IsReadyFor r n (cells_of rows) i) rule.queue
-          (ready_plain r n cost level width (IsHomedRow r n cost level width) rows unit are known i l) (plain_ready r n cost level width (IsHomedRow r n cost level width) rows unit are known i l) rule.ready,
+      queue_alike level (IsReadyAt r n cost (take i rows) (timed rows i).start)
+          (IsReadyFor r n (cells_of rows) i) rule.queue
+          (ready_plain r n cost level width (IsHomedRow r n cost level width) rows unit are known i l)
+          (plain_ready r n cost level width (IsHomedRow r n cost level width) rows unit are known i l) rule.ready,
       λ a j k. (
         λ e. (settled a j).0 ((rule.homes_are a j k).0 e),
         λ h. (rule.homes_are a j k).1 ((settled a j).1 h),
       ),
-      subst (ArePlaced r.actors width n (λ _. Unit {0}) rule.homes rule.queue) (sym (row_of rows i)) (record { each = λ p k. placed p (rule.placed.each p k); only = rule.placed.only }),
+      subst (ArePlaced r.actors width n (λ _. Unit {0}) rule.homes rule.queue) (sym (row_of rows i))
+          (record { each = λ p k. placed p (rule.placed.each p k); only = rule.placed.only }),
     )
       where
         rule : IsHomedRow r n cost level width (take i rows) (timed rows i).start (timed rows i).cells
         rule = (are.rows_are i l).by_rule
 
-        settled : (a j : ℕ) → IsSettled (take i rows) a j ↔ ((m : ℕ) × (f : Firing) × (m < i) × (cell (cells_of rows) m j ≡ Some f) × (f.actor ≡ a))
+        settled : (a j : ℕ) → IsSettled (take i rows) a j ↔
+            ((m : ℕ) × (f : Firing) × (m < i) × (cell (cells_of rows) m j ≡ Some f) × (f.actor ≡ a))
         settled = settled_plain r n cost level width (IsHomedRow r n cost level width) rows unit are known i l
 
-        placed : (p : ℕ) → IsPlaced r.actors width (λ a. n a * cost a) (λ j. IsBusy cost (take i rows) (timed rows i).start j → ⊥) rule.homes rule.queue (timed rows i).cells p →
+        placed : (p : ℕ) → IsPlaced r.actors width (λ a. n a * cost a)
+            (λ j. IsBusy cost (take i rows) (timed rows i).start j → ⊥) rule.homes rule.queue (timed rows i).cells p →
             IsPlaced r.actors width n (λ _. Unit {0}) rule.homes rule.queue (timed rows i).cells p
         placed p pl =
-            let free = placed_idle r.actors width (λ a. n a * cost a) (λ j. IsBusy cost (take i rows) (timed rows i).start j → ⊥) (λ _. Unit {0}) rule.homes rule.queue (timed rows i).cells p
-            (λ j h. tt) (λ j h. idle r n cost level width (IsHomedRow r n cost level width) rows unit are known i l j) pl in
+            let free = placed_idle r.actors width (λ a. n a * cost a)
+            (λ j. IsBusy cost (take i rows) (timed rows i).start j → ⊥) (λ _. Unit {0}) rule.homes rule.queue
+            (timed rows i).cells p
+            (λ j h. tt) (λ j h. idle r n cost level width (IsHomedRow r n cost level width) rows unit are
+            known i l j) pl in
             record {
               home = free.home;
               home_is = free.home_is;
-              stands = λ j. subst (λ (weigh : ℕ → ℕ). (get_or (timed rows i).cells j None ≡ Some (firing rule.queue p)) ↔ IsPlace width (λ m. Unit {0} × IsLeft rule.queue (timed rows i).cells p m) weigh (free.home (firing rule.queue p).actor) j)
+              stands = λ j. subst (λ (weigh : ℕ → ℕ). (get_or (timed rows i).cells j None ≡
+                  Some (firing rule.queue p)) ↔ IsPlace width
+                  (λ m. Unit {0} × IsLeft rule.queue (timed rows i).cells p m) weigh
+                  (free.home (firing rule.queue p).actor) j)
                   (loads free.home) (free.stands j);
             }

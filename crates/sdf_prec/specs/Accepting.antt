@@ -15,7 +15,8 @@ pub record IsSize (j m : ℕ) (reps : List ℕ) : Type 0 where
   pub short : IsShort j reps
 
 -- the rows are a valid table, within the width, and t is it
-pub record IsAccepted (r : Rates) (n : ℕ → ℕ) (width : ℕ) (rows : List (List (Option Firing))) (t : Tabled) : Type 0 where
+pub record IsAccepted (r : Rates) (n : ℕ → ℕ) (width : ℕ) (rows : List (List (Option Firing)))
+    (t : Tabled) : Type 0 where
   pub narrow : AreNarrow width rows (length rows)
   pub valid : IsValid r n rows
   pub kept : t.rows ≡ tidied width rows
@@ -23,4 +24,5 @@ pub record IsAccepted (r : Rates) (n : ℕ → ℕ) (width : ℕ) (rows : List (
 
 -- why there is none: the size, or else the first test of the rows that fails
 abbrev pub IsTableFault : Rates → ℕ → ℕ → List ℕ → List (List (Option Firing)) → PrecFault → Type 0
-IsTableFault r j m reps rows e = IsSizeFault j m reps e ⊎ (IsSize j m reps × StandsFirst r (slice_index (block j reps)) m rows e)
+IsTableFault r j m reps rows e = IsSizeFault j m reps e
+    ⊎ (IsSize j m reps × StandsFirst r (slice_index (block j reps)) m rows e)

@@ -1,5 +1,6 @@
 -- One firing a row, each in its actor's home.
-use Rattle.std.specs.Prelude.{◌≡◌, ℕ, ◌<◌, ◌⊎◌, List, length, take, replicate, slice_index, slice_index_or, slice_set, Option, Some, None}
+use Rattle.std.specs.Prelude.{◌≡◌, ℕ, ◌<◌, ◌⊎◌, List, length, take, replicate, slice_index, slice_index_or, slice_set}
+use Rattle.std.specs.Prelude.{Option, Some, None}
 use Rattle.sdf_graph.specs.Rates.{Rates}
 use Rattle.sdf_graph.specs.Sequences.{times}
 use Rattle.sdf_sched.specs.Runs.{IsInRuns}
@@ -30,12 +31,15 @@ pub record AreByHomes (homes : List (Option ℕ)) (m : ℕ) (w : List ℕ) (rows
   pub each : (p j : ℕ) → p < length w → slice_index_or homes (slice_index w p) None ≡ Some j →
       row rows p ≡ slice_set (replicate m None) j (Some (firing_at w p))
 
--- row by row the firings of n of each actor in runs: an actor fires on while it is runnable, and then the next one in file order
-pub record AreRunsByHomes (r : Rates) (n : ℕ → ℕ) (homes : List (Option ℕ)) (m : ℕ) (rows : List (List (Option Firing))) : Type 0 where
+-- row by row the firings of n of each actor in runs: an actor fires on while it is runnable, and then the next one in
+-- file order
+pub record AreRunsByHomes (r : Rates) (n : ℕ → ℕ) (homes : List (Option ℕ)) (m : ℕ)
+    (rows : List (List (Option Firing))) : Type 0 where
   pub order : List ℕ
   pub in_runs : IsInRuns r n order
   pub by : AreByHomes homes m order rows
 
 -- why there is no such table: the size, or else the lowest actor without a home
 abbrev pub IsHomesFault : ℕ → ℕ → List ℕ → List (Option ℕ) → PrecFault → Type 0
-IsHomesFault j m reps homes e = IsSizeFault j m reps e ⊎ (IsSize j m reps × ((a : ℕ) × (e ≡ BadHome a) × IsBadHome homes m (length reps) a))
+IsHomesFault j m reps homes e = IsSizeFault j m reps e
+    ⊎ (IsSize j m reps × ((a : ℕ) × (e ≡ BadHome a) × IsBadHome homes m (length reps) a))

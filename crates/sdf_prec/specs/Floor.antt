@@ -1,5 +1,7 @@
--- What is known while rows are made: counts of started and of ended firings, when each actor and each column is through.
-use Rattle.std.specs.Prelude.{◌≡◌, ℕ, ◌+◌, ◌≤◌, ◌<◌, ◌⊎◌, ◌↔◌, List, [], length, slice_index, Option, Some, None, Bool, IsTrue}
+-- What is known while rows are made: counts of started and of ended firings, when each actor and each column is
+-- through.
+use Rattle.std.specs.Prelude.{◌≡◌, ℕ, ◌+◌, ◌≤◌, ◌<◌, ◌⊎◌, ◌↔◌, List, [], length, slice_index, Option, Some, None, Bool}
+use Rattle.std.specs.Prelude.{IsTrue}
 use Rattle.sdf_graph.specs.Rates.{Rates}
 use Rattle.sdf_graph.specs.Sequences.{IsEnabled}
 use Rattle.sdf_graph.specs.Adjacency.{ListsExactly}
@@ -8,7 +10,8 @@ use Rattle.sdf_prec.specs.Tables.{cell_of, firings}
 use Rattle.sdf_prec.specs.Trying.{AreFilled}
 use Rattle.sdf_prec.specs.TimedRows.{Timed, timed, IsAt, Occurs, end_at, IsSettled, IsLater, AreTimed, hu_rule}
 
--- the firing is its actor's next one, those before it have ended, and the actor is enabled at the counts of ended firings
+-- the firing is its actor's next one, those before it have ended, and the actor is enabled at the counts of ended
+-- firings
 pub record IsNextReady (r : Rates) (n ended started : ℕ → ℕ) (f : Firing) : Type 0 where
   pub known : f.actor < r.actors
   pub within : f.number < n f.actor
@@ -17,7 +20,8 @@ pub record IsNextReady (r : Rates) (n ended started : ℕ → ℕ) (f : Firing) 
   pub on : IsEnabled r ended f.actor
 
 -- the columns that are through by time now, filled
-pub record IsFilling (until : List ℕ) (now i : ℕ) (queue : List Firing) (next : ℕ) (cells : List (Option Firing)) : Type 0 where
+pub record IsFilling (until : List ℕ) (now i : ℕ) (queue : List Firing) (next : ℕ)
+    (cells : List (Option Firing)) : Type 0 where
   pub columns : List ℕ
   pub idle : ListsExactly (λ j. slice_index until j ≤ now) i columns
   pub filled : AreFilled queue columns cells
@@ -25,38 +29,47 @@ pub record IsFilling (until : List ℕ) (now i : ℕ) (queue : List Firing) (nex
   pub wide : length cells ≡ i
 
 -- after some rows, at time now
-pub record IsFloor (r : Rates) (n cost : ℕ → ℕ) (width : ℕ) (past : List Timed) (now : ℕ) (ended started ends until : ℕ → ℕ) : Type 0 where
+pub record IsFloor (r : Rates) (n cost : ℕ → ℕ) (width : ℕ) (past : List Timed) (now : ℕ)
+    (ended started ends until : ℕ → ℕ) : Type 0 where
   pub occurs : (f : Firing) → f.actor < r.actors → (f.number < started f.actor) ↔ Occurs past f
-  pub known : (i j : ℕ) (f : Firing) → IsAt past i j f → (f.actor < r.actors) × (j < width) × ((timed past i).start ≤ now)
+  pub known : (i j : ℕ) (f : Firing) → IsAt past i j f →
+      (f.actor < r.actors) × (j < width) × ((timed past i).start ≤ now)
   pub within : (a : ℕ) → a < r.actors → started a ≤ n a
   pub once : (i j k m : ℕ) (f : Firing) → IsAt past i j f → IsAt past k m f → (i ≡ k) × (j ≡ m)
   -- a firing has ended exactly where its number is among those that have
   pub ended_is : (i j : ℕ) (f : Firing) → IsAt past i j f → (end_at cost past i f ≤ now) ↔ (f.number < ended f.actor)
   -- an actor's last firing ends where the actor is through
-  pub last : (i j : ℕ) (f : Firing) → IsAt past i j f → f.number + 1 ≡ started f.actor → ends f.actor ≡ end_at cost past i f
-  pub through : (a : ℕ) → a < r.actors → ((ended a ≡ started a) × (ends a ≤ now)) ⊎ ((ended a + 1 ≡ started a) × (now < ends a))
+  pub last : (i j : ℕ) (f : Firing) → IsAt past i j f → f.number + 1 ≡ started f.actor →
+      ends f.actor ≡ end_at cost past i f
+  pub through : (a : ℕ) → a < r.actors → ((ended a ≡ started a) × (ends a ≤ now))
+      ⊎ ((ended a + 1 ≡ started a) × (now < ends a))
   pub on : (a : ℕ) → a < r.actors → ended a < started a → IsEnabled r ended a
   -- a column is through where the last firing in it ends
   pub until_above : (i j : ℕ) (f : Firing) → IsAt past i j f → end_at cost past i f ≤ until j
   pub until_at : (j : ℕ) → (until j ≡ 0) ⊎ ((i : ℕ) × (f : Firing) × IsAt past i j f × (until j ≡ end_at cost past i f))
 
 -- the firings of a row have started at time now
-pub record AreStarted (cost : ℕ → ℕ) (now i : ℕ) (cells : List (Option Firing)) (started ends until started' ends' until' : ℕ → ℕ) : Type 0 where
+pub record AreStarted (cost : ℕ → ℕ) (now i : ℕ) (cells : List (Option Firing))
+    (started ends until started' ends' until' : ℕ → ℕ) : Type 0 where
   pub each : (j : ℕ) (f : Firing) → j < i → cell_of cells j ≡ Some f →
       (started' f.actor ≡ f.number + 1) × (ends' f.actor ≡ now + cost f.actor) × (until' j ≡ now + cost f.actor)
-  pub others : (a : ℕ) → ((j : ℕ) (f : Firing) → j < i → cell_of cells j ≡ Some f → f.actor ≡ a → ⊥) → (started' a ≡ started a) × (ends' a ≡ ends a)
+  pub others : (a : ℕ) → ((j : ℕ) (f : Firing) → j < i → cell_of cells j ≡ Some f → f.actor ≡ a → ⊥) →
+      (started' a ≡ started a) × (ends' a ≡ ends a)
   pub columns : (j : ℕ) → ((f : Firing) → j < i → cell_of cells j ≡ Some f → ⊥) → until' j ≡ until j
 
 -- the least of the first i ends that is later than now
 abbrev pub IsNextEnd : List ℕ → ℕ → ℕ → Option ℕ → Type 0
 IsNextEnd ends now i None = (a : ℕ) → a < i → slice_index ends a ≤ now
-IsNextEnd ends now i (Some t) = (now < t) × ((a : ℕ) × (a < i) × (slice_index ends a ≡ t)) × ((a : ℕ) → a < i → now < slice_index ends a → t ≤ slice_index ends a)
+IsNextEnd ends now i (Some t) = (now < t) × ((a : ℕ) × (a < i) × (slice_index ends a ≡ t))
+    × ((a : ℕ) → a < i → now < slice_index ends a → t ≤ slice_index ends a)
 
--- of the first i actors those that are through by time now have ended all that they started, the others as much as before
+-- of the first i actors those that are through by time now have ended all that they started, the others as much as
+-- before
 pub record AreEnded (r : Rates) (now i : ℕ) (started ends : ℕ → ℕ) (old new : List ℕ) : Type 0 where
   pub all : length new ≡ length old
   pub through : (a : ℕ) → a < i → ends a ≤ now → slice_index old a < started a → slice_index new a ≡ started a
-  pub same : (a : ℕ) → (a < i → ends a ≤ now → slice_index old a < started a → ⊥) → slice_index new a ≡ slice_index old a
+  pub same : (a : ℕ) → (a < i → ends a ≤ now → slice_index old a < started a → ⊥) →
+      slice_index new a ≡ slice_index old a
   pub rises : (a : ℕ) → slice_index old a ≤ slice_index new a
   pub on : (a : ℕ) → a < r.actors → slice_index new a < started a → IsEnabled r (slice_index new) a
 
@@ -66,19 +79,23 @@ IsStuck r n ended started until homes width now homed = (f : Firing) → IsNextR
     ((k : ℕ) × IsTrue homed × (homes f.actor ≡ Some k) × (now < until k)) ⊎ ((j : ℕ) → j < width → now < until j)
 
 -- a row is due at time now: all earlier times are behind, and at none of them since the last row was there another one
-pub record IsDue (r : Rates) (n cost : ℕ → ℕ) (level : Firing → ℕ) (width : ℕ) (homed : Bool) (past : List Timed) (now : ℕ) (ended started ends until : ℕ → ℕ) (homes : ℕ → Option ℕ) : Type 0 where
+pub record IsDue (r : Rates) (n cost : ℕ → ℕ) (level : Firing → ℕ) (width : ℕ) (homed : Bool) (past : List Timed)
+    (now : ℕ) (ended started ends until : ℕ → ℕ) (homes : ℕ → Option ℕ) : Type 0 where
   pub floor : IsFloor r n cost width past now ended started ends until
   pub rows : AreTimed width (hu_rule r n cost level width homed) past
   pub later : IsLater past now
-  pub gap : (t : ℕ) → IsLater past t → t < now → (cells : List (Option Firing)) → length cells ≡ width → hu_rule r n cost level width homed past t cells → firings cells ≡ []
+  pub gap : (t : ℕ) → IsLater past t → t < now → (cells : List (Option Firing)) → length cells ≡ width →
+      hu_rule r n cost level width homed past t cells → firings cells ≡ []
   pub begins : past ≡ [] → now ≡ 0
   pub homes_are : IsTrue homed → (a j : ℕ) → a < r.actors → (homes a ≡ Some j) ↔ IsSettled past a j
 
 -- time now is done: its row stands, or it has none, and no ready firing can start
-pub record IsDone (r : Rates) (n cost : ℕ → ℕ) (level : Firing → ℕ) (width : ℕ) (homed : Bool) (past : List Timed) (now : ℕ) (ended started ends until : ℕ → ℕ) (homes : ℕ → Option ℕ) : Type 0 where
+pub record IsDone (r : Rates) (n cost : ℕ → ℕ) (level : Firing → ℕ) (width : ℕ) (homed : Bool) (past : List Timed)
+    (now : ℕ) (ended started ends until : ℕ → ℕ) (homes : ℕ → Option ℕ) : Type 0 where
   pub floor : IsFloor r n cost width past now ended started ends until
   pub rows : AreTimed width (hu_rule r n cost level width homed) past
   pub starts : (i : ℕ) → i < length past → (timed past i).start ≤ now
-  pub gap : (t : ℕ) → IsLater past t → t ≤ now → (cells : List (Option Firing)) → length cells ≡ width → hu_rule r n cost level width homed past t cells → firings cells ≡ []
+  pub gap : (t : ℕ) → IsLater past t → t ≤ now → (cells : List (Option Firing)) → length cells ≡ width →
+      hu_rule r n cost level width homed past t cells → firings cells ≡ []
   pub homes_are : IsTrue homed → (a j : ℕ) → a < r.actors → (homes a ≡ Some j) ↔ IsSettled past a j
   pub stuck : IsStuck r n ended started until homes width now homed

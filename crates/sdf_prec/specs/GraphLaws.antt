@@ -1,5 +1,6 @@
 -- What the laws of graphs and of schedules say, in one.
-use Rattle.sdf_graph.specs.Laws.{GraphsAreSound, GraphsHavePeriods, LastCountsMore, OthersCountSame, FrontsCountWithin, PeriodsRepeat}
+use Rattle.sdf_graph.specs.Laws.{GraphsAreSound, GraphsHavePeriods, LastCountsMore, OthersCountSame, FrontsCountWithin}
+use Rattle.sdf_graph.specs.Laws.{PeriodsRepeat}
 use Rattle.sdf_sched.specs.Laws.{EnabledStays}
 
 pub record GraphLaws : Type 0 where

@@ -25,7 +25,8 @@ home_of Apart = None
 
 -- a firing of actor a stands in column m of one of the first i rows, or among the first j columns of row i
 abbrev pub IsAmong : List (List (Option Firing)) → ℕ → ℕ → ℕ → ℕ → Type 0
-IsAmong rows i j a m = (k : ℕ) × (f : Firing) × (cell rows k m ≡ Some f) × (f.actor ≡ a) × ((k < i) ⊎ ((k ≡ i) × (m < j)))
+IsAmong rows i j a m = (k : ℕ) × (f : Firing) × (cell rows k m ≡ Some f) × (f.actor ≡ a)
+    × ((k < i) ⊎ ((k ≡ i) × (m < j)))
 
 abbrev pub standing_of : List Standing → ℕ → Standing
 standing_of all a = slice_index_or all a Nowhere

@@ -1,5 +1,6 @@
 -- Firings of a queue placed one after the other.
-use Rattle.std.specs.Prelude.{◌≡◌, ℕ, ◌*◌, ◌≤◌, ◌<◌, ◌⊎◌, ◌↔◌, List, length, slice_index, slice_index_or, Option, Some, None}
+use Rattle.std.specs.Prelude.{◌≡◌, ℕ, ◌*◌, ◌≤◌, ◌<◌, ◌⊎◌, ◌↔◌, List, length, slice_index, slice_index_or, Option, Some}
+use Rattle.std.specs.Prelude.{None}
 use Rattle.sdf_limits.specs.declared.TheConstants.{MOST_ACTORS, MOST_BLOCK, MOST_COST}
 use Rattle.sdf_prec.specs.declared.firing.Firing.{Firing}
 use Rattle.sdf_prec.specs.Tables.{firing, cell_of}
@@ -25,7 +26,8 @@ IsBest i free load None = (j : ℕ) → j < i → free j → ⊥
 IsBest i free load (Some b) = (b < i) × free b × IsLeast i free load b
 
 -- the first i firings of the queue are placed, and these are the homes then
-pub record IsPlacing (actors width : ℕ) (weight : ℕ → ℕ) (idle : ℕ → Type 0) (before : ℕ → Option ℕ) (queue : List Firing) (i : ℕ) (cells : List (Option Firing)) (homes : List (Option ℕ)) : Type 0 where
+pub record IsPlacing (actors width : ℕ) (weight : ℕ → ℕ) (idle : ℕ → Type 0) (before : ℕ → Option ℕ)
+    (queue : List Firing) (i : ℕ) (cells : List (Option Firing)) (homes : List (Option ℕ)) : Type 0 where
   pub each : (p : ℕ) → p < i → IsPlaced actors width weight idle before queue cells p
   pub only : (j : ℕ) (f : Firing) → cell_of cells j ≡ Some f → (p : ℕ) × (p < i) × (firing queue p ≡ f)
   pub homes_are : (a j : ℕ) → a < actors → (slice_index_or homes a None ≡ Some j) ↔ IsHomeFor before queue cells i a j
@@ -42,5 +44,6 @@ IsNowhere width open' (Some k) = (k < width) × (open' k → ⊥)
 abbrev pub AreWaiting : List ℕ → ℕ → List Firing → ℕ → List (Option Firing) → List (Option ℕ) → Type 0
 AreWaiting until now queue i cells homes = (p : ℕ) → p < i →
     ((j : ℕ) × (cell_of cells j ≡ Some (firing queue p))) ⊎
-    (((k : ℕ) × (slice_index_or homes (firing queue p).actor None ≡ Some k) × (k < length until) × (IsOpen until now cells k → ⊥)) ⊎
+    (((k : ℕ) × (slice_index_or homes (firing queue p).actor None ≡ Some k) × (k < length until)
+    × (IsOpen until now cells k → ⊥)) ⊎
     ((j : ℕ) → j < length until → IsOpen until now cells j → ⊥))

@@ -7,10 +7,12 @@ use Rattle.sdf_prec.specs.TimedRows.{Timed, cells_of, AreTimedRows, IsFreeRow, I
 
 abbrev pub UnitFreeRowsArePlain : Type 0
 UnitFreeRowsArePlain =
-    (r : Rates) (n cost : ℕ → ℕ) (level : Firing → ℕ) (width : ℕ) (rows : List Timed) → ((a : ℕ) → a < r.actors → cost a ≡ 1) →
+    (r : Rates) (n cost : ℕ → ℕ) (level : Firing → ℕ) (width : ℕ) (rows : List Timed) →
+    ((a : ℕ) → a < r.actors → cost a ≡ 1) →
     AreTimedRows r n width (IsFreeRow r n cost level width) rows → AreFreeRows r n level width (cells_of rows)
 
 abbrev pub UnitHomedRowsArePlain : Type 0
 UnitHomedRowsArePlain =
-    (r : Rates) (n cost : ℕ → ℕ) (level : Firing → ℕ) (width : ℕ) (rows : List Timed) → ((a : ℕ) → a < r.actors → cost a ≡ 1) →
+    (r : Rates) (n cost : ℕ → ℕ) (level : Firing → ℕ) (width : ℕ) (rows : List Timed) →
+    ((a : ℕ) → a < r.actors → cost a ≡ 1) →
     AreTimedRows r n width (IsHomedRow r n cost level width) rows → AreHomedRows r n level width (cells_of rows)

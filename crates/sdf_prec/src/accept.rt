@@ -1,6 +1,7 @@
 //! Tables from given rows.
 
-ghost use Rattle.std.specs.Prelude.{◌≡◌, ℕ, ◌+◌, ◌≤◌, ◌<◌, List, length, map, sum, slice_index, IfOk, MatchOption, MatchResult, Option};
+ghost use Rattle.std.specs.Prelude.{◌≡◌, ℕ, ◌+◌, ◌≤◌, ◌<◌, List, length, map, sum, slice_index, IfOk, MatchOption};
+ghost use Rattle.std.specs.Prelude.{MatchResult, Option};
 ghost use Rattle.sdf_graph.specs.Rates.{rates};
 ghost use Rattle.sdf_graph.specs.Periods.{IsPeriodVector};
 ghost use Rattle.sdf_prec.specs.declared.firing.Firing.{Firing};
@@ -33,7 +34,10 @@ fn rows_fault(
 ) -> Result<Option<PrecFault>, AllocError>
     requires each { length firings.items ≡ graph.now.actors }
     requires few { sum firings.items ≤ MOST_BLOCK }
-    requires enough { (c : ℕ) → c < length graph.now.channels → (rates graph.now).consumed c (slice_index firings.items ((rates graph.now).target c)) ≤ (rates graph.now).initial c + (rates graph.now).produced c (slice_index firings.items ((rates graph.now).source c)) }
+    requires enough { (c : ℕ) → c < length graph.now.channels →
+        (rates graph.now).consumed c (slice_index firings.items ((rates graph.now).target c)) ≤
+        (rates graph.now).initial c + (rates graph.now).produced c
+        (slice_index firings.items ((rates graph.now).source c)) }
     ensures { IfOk result (λ o. MatchOption o
         (AllPass (rates graph.now) (slice_index firings.items) width (map (λ r. r.items) rows.now))
         (StandsFirst (rates graph.now) (slice_index firings.items) width (map (λ r. r.items) rows.now))) }
@@ -50,13 +54,13 @@ fn rows_fault(
 }
 
 impl Table {
-    /// The table with these rows, for a block of `j` periods in which the actors fire `reps` times each, and `m` workers. A
-    /// shorter row is filled up, and one in which no firing stands is left out.
+    /// The table with these rows, for a block of `j` periods in which the actors fire `reps` times each, and `m`
+    /// workers. A shorter row is filled up, and one in which no firing stands is left out.
     ///
-    /// A fault is the first in this order: `BlockingFactor`, `WorkerCount`, `BlockTooLong`; then row by row `RowTooWide`, and
-    /// column by column `FiringTwice` and `FiringUnknown`; then `FiringMissing` with the least actor and its least missing
-    /// firing; then in row order `TooEarly`, with the firing before of the same actor, or else by channel number with the last
-    /// one that is waited for.
+    /// A fault is the first in this order: `BlockingFactor`, `WorkerCount`, `BlockTooLong`; then row by row
+    /// `RowTooWide`, and column by column `FiringTwice` and `FiringUnknown`; then `FiringMissing` with the least actor
+    /// and its least missing firing; then in row order `TooEarly`, with the firing before of the same actor, or else by
+    /// channel number with the last one that is waited for.
     pub fn accept(
         alloc: Global,
         graph: &Graph,

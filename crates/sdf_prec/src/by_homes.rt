@@ -1,6 +1,7 @@
 //! Tables by given homes: one firing a row.
 
-ghost use Rattle.std.specs.Prelude.{◌≡◌, ℕ, ◌≤◌, ◌<◌, ◌^◌, ◌↔◌, length, map, replicate, slice_index, slice_index_or, slice_set, IfOk, IsTrue, MatchOption, MatchResult, Some, None};
+ghost use Rattle.std.specs.Prelude.{◌≡◌, ℕ, ◌≤◌, ◌<◌, ◌^◌, ◌↔◌, length, map, replicate, slice_index, slice_index_or};
+ghost use Rattle.std.specs.Prelude.{slice_set, IfOk, IsTrue, MatchOption, MatchResult, Some, None};
 ghost use Rattle.sdf_graph.specs.Rates.{rates};
 ghost use Rattle.sdf_graph.specs.Sequences.{repeated, IsPass};
 ghost use Rattle.sdf_sched.specs.Period.{IsPeriodOf};
@@ -123,7 +124,8 @@ fn by_order(
     requires pass { (n : ℕ → ℕ) × IsPass (rates graph.now) n order.now × ((a : ℕ) → n a ≤ MOST_BLOCK) }
     requires few { length order.now ≤ MOST_BLOCK }
     requires homed { (a : ℕ) → a < graph.now.actors → HasHome homes.now m a }
-    ensures table { IfOk result (λ t. (n : ℕ → ℕ) → IsPass (rates graph.now) n order.now → IsTable (rates graph.now) n m t) }
+    ensures table { IfOk result (λ t. (n : ℕ → ℕ) → IsPass (rates graph.now) n order.now →
+        IsTable (rates graph.now) n m t) }
     ensures rows { IfOk result (λ t. AreByHomes homes.now m order.now t.rows) }
 {
     graph.channels();
@@ -136,8 +138,8 @@ fn by_order(
 impl Table {
     /// The period's order `j` times, one firing a row, each in its actor's home, of `m` workers.
     ///
-    /// A fault is the first of `BlockingFactor`, `WorkerCount`, `BlockTooLong`, and `BadHome` with the lowest actor that has no
-    /// home among the `m` columns.
+    /// A fault is the first of `BlockingFactor`, `WorkerCount`, `BlockTooLong`, and `BadHome` with the lowest actor
+    /// that has no home among the `m` columns.
     pub fn by_homes(
         alloc: Global,
         graph: &Graph,
@@ -163,8 +165,8 @@ impl Table {
         Ok(table)
     }
 
-    /// The firings of `j` periods in runs, one a row, each in its actor's home, of `m` workers: an actor fires on while it is
-    /// runnable in the block, and then the next runnable one in file order.
+    /// The firings of `j` periods in runs, one a row, each in its actor's home, of `m` workers: an actor fires on while
+    /// it is runnable in the block, and then the next runnable one in file order.
     ///
     /// The faults are those of `by_homes`.
     pub fn by_homes_in_runs(

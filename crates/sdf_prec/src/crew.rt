@@ -1,6 +1,7 @@
 //! Rows made one after the other, at the times at which an actor is through.
 
-ghost use Rattle.std.specs.Prelude.{◌≡◌, ℕ, ◌+◌, ◌*◌, ◌<◌, ◌≤◌, ◌^◌, List, length, sum, slice_index, slice_index_or, replicate, IfOk, Some, None};
+ghost use Rattle.std.specs.Prelude.{◌≡◌, ℕ, ◌+◌, ◌*◌, ◌<◌, ◌≤◌, ◌^◌, List, length, sum, slice_index, slice_index_or};
+ghost use Rattle.std.specs.Prelude.{replicate, IfOk, Some, None};
 ghost use Rattle.sdf_graph.specs.Rates.{rates, IsSound};
 ghost use Rattle.sdf_graph.specs.Sequences.{IsPass};
 ghost use Rattle.sdf_prec.specs.Tables.{IsValid};
@@ -22,8 +23,8 @@ use sdf_graph::laws::{counts_grow, graphs_are_sound, sums_rise};
 use sdf_graph::{Counts, Graph};
 use std::alloc::{AllocError, Global};
 
-/// What rows are made of: how often each actor fires, levels, costs, what each actor's firings cost together, and whether
-/// actors have homes.
+/// What rows are made of: how often each actor fires, levels, costs, what each actor's firings cost together, and
+/// whether actors have homes.
 #[derive(Drop)]
 pub(crate) struct Job<'a> {
     pub(crate) firings: &'a [u32],
@@ -57,8 +58,10 @@ fn next_cells(
     ensures started { crew.new.started ≡ crew.old.started }
     ensures ends { crew.new.ends ≡ crew.old.ends }
     ensures until { crew.new.until ≡ crew.old.until }
-    ensures homes { IfOk result (λ _. (length crew.new.homes.items ≡ length crew.old.homes.items) × ((a j : ℕ) → slice_index_or crew.new.homes.items a None ≡ Some j → j < length crew.old.until.items)) }
-    ensures row { IfOk result (λ cells. IsRowOf crew.old.counts.graph job.now (length crew.old.until.items) crew.old crew.new now cells.items) }
+    ensures homes { IfOk result (λ _. (length crew.new.homes.items ≡ length crew.old.homes.items)
+        × ((a j : ℕ) → slice_index_or crew.new.homes.items a None ≡ Some j → j < length crew.old.until.items)) }
+    ensures row { IfOk result (λ cells. IsRowOf crew.old.counts.graph job.now (length crew.old.until.items) crew.old
+        crew.new now cells.items) }
 {
     let queue = ready_queue(alloc, &crew.counts, &crew.started, job.firings, job.levels)?;
     if job.homed {
@@ -91,7 +94,8 @@ fn add_row(
     requires due { IsDueTo crew.old.counts.graph job.now (length crew.old.until.items) crew.old rows.old.items now }
     ensures counts { crew.new.counts ≡ crew.old.counts }
     ensures crew { IfOk result (λ _. IsCrewAt (length crew.old.until.items) now crew.new) }
-    ensures done { IfOk result (λ _. IsDoneBy crew.old.counts.graph job.now (length crew.old.until.items) crew.new rows.new.items now) }
+    ensures done { IfOk result (λ _. IsDoneBy crew.old.counts.graph job.now (length crew.old.until.items) crew.new
+        rows.new.items now) }
 {
     sums_rise();
     let cells = next_cells(alloc, job, now, crew)?;
@@ -145,7 +149,8 @@ fn turn(
     ensures columns { IfOk result (λ _. length crew.new.until.items ≡ length crew.old.until.items) }
     ensures more { sum crew.old.counts.fired < sum crew.new.counts.fired }
     ensures crew { IfOk result (λ _. IsCrewAt (length crew.old.until.items) next crew.new) }
-    ensures done { IfOk result (λ _. IsDoneBy crew.old.counts.graph job.now (length crew.old.until.items) crew.new rows.new.items next) }
+    ensures done { IfOk result (λ _. IsDoneBy crew.old.counts.graph job.now (length crew.old.until.items) crew.new
+        rows.new.items next) }
 {
     sums_rise();
     end_by(next, &crew.started, &crew.ends, &mut crew.counts);
@@ -162,8 +167,10 @@ pub(crate) fn timed_rows(
     requires job { IsJobFor graph.now job.now }
     requires width { 0 < width }
     requires pass { (w : List ℕ) × IsPass (rates graph.now) (slice_index job.now.firings.now) w }
-    ensures rows { IfOk result (λ rows. AreTimedRows (rates graph.now) (slice_index job.now.firings.now) width (rule_of graph.now job.now width) rows.items) }
-    ensures valid { IfOk result (λ rows. IsValid (rates graph.now) (slice_index job.now.firings.now) (cells_of rows.items)) }
+    ensures rows { IfOk result (λ rows. AreTimedRows (rates graph.now) (slice_index job.now.firings.now) width
+        (rule_of graph.now job.now width) rows.items) }
+    ensures valid { IfOk result (λ rows. IsValid (rates graph.now) (slice_index job.now.firings.now)
+        (cells_of rows.items)) }
 {
     graph.channels();
     graphs_are_sound();

@@ -21,7 +21,8 @@ pub(crate) fn fill(
     until: &[u64],
     now: u64,
 ) -> Result<Vec<Option<Firing>>, AllocError>
-    ensures { IfOk result (λ cells. (next : ℕ) × IsFilling until.now now (length until.now) queue.now next cells.items) }
+    ensures { IfOk result (λ cells. (next : ℕ) × IsFilling until.now now (length until.now) queue.now
+        next cells.items) }
 {
     let mut cells = Vec::new(alloc);
     let mut next = 0;

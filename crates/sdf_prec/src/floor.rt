@@ -28,8 +28,11 @@ pub(crate) fn start(
     requires early { now < 2 ^ 60 }
     requires known { (j : ℕ) (f : Firing) → cell_of cells.now j ≡ Some f → f.actor < length started.old }
     requires room { (j : ℕ) (f : Firing) → cell_of cells.now j ≡ Some f → f.number + 1 < 2 ^ 32 }
-    requires once { (j m : ℕ) (f g : Firing) → cell_of cells.now j ≡ Some f → cell_of cells.now m ≡ Some g → f.actor ≡ g.actor → j ≡ m }
-    ensures started { AreStarted (slice_index costs.now) now (length cells.now) cells.now (slice_index started.old) (slice_index ends.old) (slice_index until.old) (slice_index started.new) (slice_index ends.new) (slice_index until.new) }
+    requires once { (j m : ℕ) (f g : Firing) → cell_of cells.now j ≡ Some f → cell_of cells.now m ≡ Some g →
+        f.actor ≡ g.actor → j ≡ m }
+    ensures started { AreStarted (slice_index costs.now) now (length cells.now) cells.now (slice_index started.old)
+        (slice_index ends.old) (slice_index until.old) (slice_index started.new) (slice_index ends.new)
+        (slice_index until.new) }
     ensures actors { length started.new ≡ length started.old }
     ensures all { length ends.new ≡ length ends.old }
     ensures columns { length until.new ≡ length until.old }
@@ -73,10 +76,14 @@ pub(crate) fn end_by(now: u64, started: &[u32], ends: &[u64], counts: &mut Count
     requires started { length started.now ≡ counts.old.graph.actors }
     requires ends { length ends.now ≡ counts.old.graph.actors }
     requires each { length counts.old.fired ≡ counts.old.graph.actors }
-    requires behind { (a : ℕ) → a < counts.old.graph.actors → (slice_index counts.old.fired a ≡ slice_index started.now a) ⊎ (slice_index counts.old.fired a + 1 ≡ slice_index started.now a) }
-    requires on { (a : ℕ) → a < counts.old.graph.actors → slice_index counts.old.fired a < slice_index started.now a → IsEnabled (rates counts.old.graph) (slice_index counts.old.fired) a }
+    requires behind { (a : ℕ) → a < counts.old.graph.actors →
+        (slice_index counts.old.fired a ≡ slice_index started.now a)
+        ⊎ (slice_index counts.old.fired a + 1 ≡ slice_index started.now a) }
+    requires on { (a : ℕ) → a < counts.old.graph.actors → slice_index counts.old.fired a < slice_index started.now a →
+        IsEnabled (rates counts.old.graph) (slice_index counts.old.fired) a }
     ensures same { counts.new.graph ≡ counts.old.graph }
-    ensures ended { AreEnded (rates counts.old.graph) now counts.old.graph.actors (slice_index started.now) (slice_index ends.now) counts.old.fired counts.new.fired }
+    ensures ended { AreEnded (rates counts.old.graph) now counts.old.graph.actors (slice_index started.now)
+        (slice_index ends.now) counts.old.fired counts.new.fired }
 {
     enabled_stays();
     for actor in 0..started.len() {

@@ -56,7 +56,8 @@ fn see(standing: &mut [Standing], firing: Firing, column: usize)
 /// Where each actor stands once row `i` is seen too.
 fn see_row(rows: &[Vec<Option<Firing>>], i: usize, standing: &mut [Standing])
     requires within { i < length rows.now }
-    requires known { (f : Firing) → Stands (firings (row (map (λ r. r.items) rows.now) i)) f → f.actor < length standing.old }
+    requires known { (f : Firing) → Stands (firings (row (map (λ r. r.items) rows.now) i)) f →
+        f.actor < length standing.old }
     requires before { AreStanding (map (λ r. r.items) rows.now) i 0 standing.old }
     ensures { AreStanding (map (λ r. r.items) rows.now) (i + 1) 0 standing.new }
 {
@@ -84,9 +85,11 @@ pub(crate) fn homes(
     actors: usize,
     rows: &[Vec<Option<Firing>>],
 ) -> Result<Vec<Option<usize>>, AllocError>
-    requires { (i : ℕ) (f : Firing) → i < length rows.now → Stands (firings (row (map (λ r. r.items) rows.now) i)) f → f.actor < actors }
+    requires { (i : ℕ) (f : Firing) → i < length rows.now → Stands (firings (row (map (λ r. r.items) rows.now) i)) f →
+        f.actor < actors }
     ensures all { IfOk result (λ v. length v.items ≡ actors) }
-    ensures each { IfOk result (λ v. (a j : ℕ) → a < actors → (slice_index_or v.items a None ≡ Some j) ↔ IsHome (map (λ r. r.items) rows.now) a j) }
+    ensures each { IfOk result (λ v. (a j : ℕ) → a < actors →
+        (slice_index_or v.items a None ≡ Some j) ↔ IsHome (map (λ r. r.items) rows.now) a j) }
 {
     let mut standing = vec![in alloc; Standing::Nowhere; actors]?;
     for i in 0..rows.len() {

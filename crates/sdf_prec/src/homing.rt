@@ -1,6 +1,7 @@
 //! Rows in which each actor's firings stand in its home.
 
-ghost use Rattle.std.specs.Prelude.{◌≡◌, ℕ, ◌<◌, ◌≤◌, ◌*◌, ◌↔◌, List, length, slice_index, slice_index_or, MatchOption, IfOk, Option, Some, None, IsTrue};
+ghost use Rattle.std.specs.Prelude.{◌≡◌, ℕ, ◌<◌, ◌≤◌, ◌*◌, ◌↔◌, List, length, slice_index, slice_index_or, MatchOption};
+ghost use Rattle.std.specs.Prelude.{IfOk, Option, Some, None, IsTrue};
 ghost use Rattle.sdf_prec.specs.declared.firing.Firing.{Firing};
 ghost use Rattle.sdf_prec.specs.Tables.{firing};
 ghost use Rattle.sdf_prec.specs.Trying.{IsPlace};
@@ -37,7 +38,8 @@ fn is_open(until: &[u64], now: u64, cells: &[Option<Firing>], column: usize) -> 
 /// Whether a column has less load than the best one so far.
 fn is_lighter(weights: &[u64], homes: &[Option<usize>], column: usize, best: Option<usize>) -> bool
     requires weights { AreWeights weights.now homes.now }
-    ensures { IsTrue result ↔ ((b : ℕ) → best ≡ Some b → load_by weights.now homes.now column < load_by weights.now homes.now b) }
+    ensures { IsTrue result ↔ ((b : ℕ) → best ≡ Some b →
+        load_by weights.now homes.now column < load_by weights.now homes.now b) }
 {
     match best {
         Some(other) => load_of(weights, homes, column) < load_of(weights, homes, other),
@@ -94,8 +96,8 @@ fn column_for(
     }
 }
 
-/// A row in which each firing of a queue stands in its actor's home, where that is open. An actor without a home gets the
-/// open column of least load when its first firing is tried.
+/// A row in which each firing of a queue stands in its actor's home, where that is open. An actor without a home gets
+/// the open column of least load when its first firing is tried.
 pub(crate) fn place(
     alloc: Global,
     queue: &[Firing],
@@ -108,8 +110,11 @@ pub(crate) fn place(
     requires known { (p : ℕ) → p < length queue.now → (firing queue.now p).actor < length homes.old }
     requires once { (p m : ℕ) → p < m → m < length queue.now → firing queue.now p ≡ firing queue.now m → ⊥ }
     requires inside { (a j : ℕ) → slice_index_or homes.old a None ≡ Some j → j < length until.now }
-    ensures placed { IfOk result (λ cells. IsPlacing (length homes.old) (length until.now) (slice_index weights.now) (λ j. slice_index until.now j ≤ now) (λ a. slice_index_or homes.old a None) queue.now (length queue.now) cells.items homes.new) }
-    ensures waiting { IfOk result (λ cells. AreWaiting until.now now queue.now (length queue.now) cells.items homes.new) }
+    ensures placed { IfOk result (λ cells. IsPlacing (length homes.old) (length until.now) (slice_index weights.now)
+        (λ j. slice_index until.now j ≤ now) (λ a. slice_index_or homes.old a None) queue.now (length queue.now)
+        cells.items homes.new) }
+    ensures waiting { IfOk result (λ cells. AreWaiting until.now now queue.now (length queue.now)
+        cells.items homes.new) }
 {
     let mut cells = vec![in alloc; None; until.len()]?;
     for firing in queue {

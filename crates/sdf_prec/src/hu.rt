@@ -24,7 +24,8 @@ use std::alloc::{AllocError, Global};
 fn weights_of(alloc: Global, firings: &[u32], costs: &Costs) -> Result<Vec<u64>, AllocError>
     requires costs { AreCosts (length firings.now) costs.now }
     ensures all { IfOk result (λ w. length w.items ≡ length firings.now) }
-    ensures each { IfOk result (λ w. (a : ℕ) → slice_index w.items a ≡ slice_index firings.now a * slice_index costs.now a) }
+    ensures each { IfOk result (λ w. (a : ℕ) → slice_index w.items a ≡
+        slice_index firings.now a * slice_index costs.now a) }
 {
     let mut weights = Vec::new(alloc);
     for actor in 0..firings.len() {
@@ -35,8 +36,8 @@ fn weights_of(alloc: Global, firings: &[u32], costs: &Costs) -> Result<Vec<u64>,
 
 /// The table of Hu's rule with costs for a block of `j` periods and `m` workers, free or with a home for each actor.
 ///
-/// A fault is the first of `BlockingFactor`, `WorkerCount`, `BlockTooLong`. The time is linear in the firings, each times the
-/// actors and links of the graph. (Hu 1961; costs, columns, homes and ties are the profile's.)
+/// A fault is the first of `BlockingFactor`, `WorkerCount`, `BlockTooLong`. The time is linear in the firings, each
+/// times the actors and links of the graph. (Hu 1961; costs, columns, homes and ties are the profile's.)
 #[tactic(auto, using(crate::proofs::Finals::fault_size))]
 pub fn hu(
     alloc: Global,
@@ -50,7 +51,8 @@ pub fn hu(
     requires period { IsPeriodOf (rates graph.now) period.now }
     requires costs { AreCosts graph.now.actors costs.now }
     ensures { MatchResult result
-        (λ t. IsSize j m period.now.repetitions × IsHuTable (rates graph.now) (slice_index (block j period.now.repetitions)) (slice_index costs.now) m homed t)
+        (λ t. IsSize j m period.now.repetitions × IsHuTable (rates graph.now)
+        (slice_index (block j period.now.repetitions)) (slice_index costs.now) m homed t)
         (IsSizeFault j m period.now.repetitions) }
 {
     graph.channels();

@@ -18,7 +18,9 @@ fn is_ready(counts: &Counts, started: &[u32], firings: &[u32], actor: usize) -> 
     requires known { actor < counts.now.graph.actors }
     requires started { length started.now ≡ counts.now.graph.actors }
     requires firings { length firings.now ≡ counts.now.graph.actors }
-    ensures { IsTrue result ↔ IsNextReady (rates counts.now.graph) (slice_index firings.now) (slice_index counts.now.fired) (slice_index started.now) (record { actor = actor; number = slice_index started.now actor }) }
+    ensures { IsTrue result ↔ IsNextReady (rates counts.now.graph) (slice_index firings.now)
+        (slice_index counts.now.fired) (slice_index started.now)
+        (record { actor = actor; number = slice_index started.now actor }) }
 {
     started[actor] < firings[actor]
         && counts.fired(actor) == started[actor]
@@ -51,7 +53,9 @@ pub(crate) fn ready_queue(
     requires started { length started.now ≡ counts.now.graph.actors }
     requires firings { length firings.now ≡ counts.now.graph.actors }
     requires levels { levels.now.firings ≡ firings.now }
-    ensures { IfOk result (λ q. IsQueue (number levels.now) (IsNextReady (rates counts.now.graph) (slice_index firings.now) (slice_index counts.now.fired) (slice_index started.now)) q.items) }
+    ensures { IfOk result (λ q. IsQueue (number levels.now)
+        (IsNextReady (rates counts.now.graph) (slice_index firings.now) (slice_index counts.now.fired)
+        (slice_index started.now)) q.items) }
 {
     let mut queue = Vec::new(alloc);
     for actor in 0..started.len() {

@@ -1,5 +1,6 @@
 -- A run that reads and writes as it goes, from its first block to its last.
-use Rattle.std.proofs.Common.{◌≡◌, ◌≢◌, inl, inr, Result, Ok, Err, ℕ, ◌+◌, ◌-◌, ◌*◌, ◌/◌, ◌%◌, ◌≤◌, ◌<◌, ℤ, List, [], ◌++◌, length, drop, Option, None, append-nil, refl, sym, ap, ◌∙◌, subst, arith}
+use Rattle.std.proofs.Common.{◌≡◌, ◌≢◌, inl, inr, Result, Ok, Err, ℕ, ◌+◌, ◌-◌, ◌*◌, ◌/◌, ◌%◌, ◌≤◌, ◌<◌, ℤ, List, []}
+use Rattle.std.proofs.Common.{◌++◌, length, drop, Option, None, append-nil, refl, sym, ap, ◌∙◌, subst, arith}
 use Rattle.std.specs.Io.KnownBytes.{Appends}
 use Rattle.std.proofs.Math.Nat.{mul-div_left, mul-le-mul_right, mul-mod_left}
 use Rattle.std.proofs.Math.Seq.{drop-nil}
@@ -19,14 +20,16 @@ use Rattle.sdf_process.specs.declared.exchange.Exchange.{Exchange}
 use Rattle.sdf_process.specs.declared.fault.Fault.{Fault}
 use Rattle.sdf_process.specs.Output.{exchange_of, periods_for, periods_of}
 use Rattle.sdf_process.specs.Stages.{ReadsContent}
-use Rattle.sdf_process.specs.Streams.{AreBehind, IsStream, PutsBlocks, PutsWhole, ReadsMore, StandsAt, StandsWhole, Streams}
+use Rattle.sdf_process.specs.Streams.{AreBehind, IsStream, PutsBlocks, PutsWhole, ReadsMore, StandsAt, StandsWhole}
+use Rattle.sdf_process.specs.Streams.{Streams}
 use Rattle.sdf_process.proofs.Pieces.{appends_none}
 use Rattle.sdf_process.proofs.Sizes.{below_by, cancel, less_twice, minus, periods_end, periods_fit, positive}
 use Rattle.sdf_process.proofs.Outcomes.{appends_join, front_join, keeps_same}
 use Rattle.sdf_process.proofs.Streamed.{behind_on, stands_on}
 use Rattle.sdf_process.proofs.Flow.{came_to, reads_lose, stood, CanFlow, Flows}
 
-module _ (n : Netlist Kit ℤ) (p : Schedule) (j : ℕ) (c : Reading) (frames all : ℕ) (can : CanFlow n p j c frames all) where
+module _ (n : Netlist Kit ℤ) (p : Schedule) (j : ℕ) (c : Reading) (frames all : ℕ)
+    (can : CanFlow n p j c frames all) where
   abbrev x : Exchange
   x = exchange_of n p.repetitions
 
@@ -42,24 +45,44 @@ module _ (n : Netlist Kit ℤ) (p : Schedule) (j : ℕ) (c : Reading) (frames al
   size : 2 * (frames * c.channels) ≡ c.size
   size = can.size
 
-  abbrev Here : (unread : ℕ) (old now before after : Option (List ℕ)) (r r' w w' : ℕ) (kept : List ℤ) (content : Reading) (o : Owed) (v : SessionValue Kit (List ℤ) ℤ) → Type 0
-  Here unread old now before after r r' w w' kept content o v = Flows n p j c frames all unread old now before after r r' w w' kept content o v
+  abbrev Here : (unread : ℕ) (old now before after : Option (List ℕ)) (r r' w w' : ℕ) (kept : List ℤ)
+      (content : Reading) (o : Owed) (v : SessionValue Kit (List ℤ) ℤ) → Type 0
+  Here unread old now before after r r' w w' kept content o v =
+      Flows n p j c frames all unread old now before after r r' w w' kept content o v
 
   -- nothing was read
-  pub flows_first : (old before : Option (List ℕ)) (r w : ℕ) (kept : List ℤ) (o : Owed) (v : SessionValue Kit (List ℤ) ℤ) → kept ≡ [] → o.missing ≡ all → StandsAt n p j (sound_read c []) 0 0 [] v → Here frames old old before before r r w w kept c o v
+  pub flows_first : (old before : Option (List ℕ)) (r w : ℕ) (kept : List ℤ) (o : Owed)
+      (v : SessionValue Kit (List ℤ) ℤ) → kept ≡ [] → o.missing ≡ all → StandsAt n p j (sound_read c []) 0 0 [] v →
+      Here frames old old before before r r w w kept c o v
   flows_first old before r w kept o v empty owed at =
       let none : 0 ≡ 0 * j * x.made = omega arith in
-      let start : record c { gone = c.gone + 2 * 0 } ≡ c = ap (λ (k : ℕ). record c { gone = k }) (let z : c.gone + 2 * 0 ≡ c.gone = omega arith in z) in
+      let start : record c { gone = c.gone + 2 * 0 } ≡ c =
+      ap (λ (k : ℕ). record c { gone = k }) (let z : c.gone + 2 * 0 ≡ c.gone = omega arith in z) in
       record {
         samples = [];
         few = 0;
         bytes = [];
-        read = record { at = λ bytes known. (bytes, known, ((λ input is. subst (λ (y : Reading). IsReadTo input y [] bytes) (sym start) is), (0, refl))) };
+        read = record {
+          at = λ bytes known. (
+            bytes,
+            known,
+            ((λ input is. subst (λ (y : Reading). IsReadTo input y [] bytes) (sym start) is), (0, refl)),
+          );
+        };
         content_is = sym start;
-        count = (let z : 0 ≡ 0 * c.channels = omega arith in z) ∙ ap (λ (k : ℕ). k * c.channels) (let y : 0 ≡ frames - frames = omega arith in y);
+        count = (let z : 0 ≡ 0 * c.channels = omega arith in z) ∙ ap (λ (k : ℕ). k * c.channels)
+            (let y : 0 ≡ frames - frames = omega arith in y);
         stands = subst (λ (k : ℕ). StandsAt n p j (sound_read c []) 0 k [] v) none at;
-        behind = ((let z : 0 * j * x.taken * c.channels ≤ 0 = omega arith in z), empty ∙ nothing (0 * j * x.taken * c.channels));
-        less = omega (arith, ap length empty, positive (j * x.taken) c.channels (positive j x.taken can.some can.taken) one);
+        behind = (
+          (let z : 0 * j * x.taken * c.channels ≤ 0 = omega arith in z),
+          empty ∙ nothing (0 * j * x.taken * c.channels),
+        );
+        less = omega (
+          arith,
+          ap length empty,
+          positive (j * x.taken) c.channels
+              (positive j x.taken can.some can.taken) one,
+        );
         written = appends_none before before (keeps_same before);
         missing = owed ∙ (let z : all ≡ all - 0 * j * x.made = omega arith in z);
         reader = refl;
@@ -69,19 +92,25 @@ module _ (n : Netlist Kit ℤ) (p : Schedule) (j : ℕ) (c : Reading) (frames al
       nothing : (k : ℕ) → ◌≡◌ {A = List ℤ} [] (drop k [])
       nothing k = sym (drop-nil k)
 
-  module _ (unread : ℕ) (some_left : unread ≤ frames) (old now before after : Option (List ℕ)) (r r1 w w1 : ℕ) (kept : List ℤ) (content : Reading) (o : Owed) (v : SessionValue Kit (List ℤ) ℤ)
+  module _ (unread : ℕ) (some_left : unread ≤ frames) (old now before after : Option (List ℕ)) (r r1 w w1 : ℕ)
+      (kept : List ℤ) (content : Reading) (o : Owed) (v : SessionValue Kit (List ℤ) ℤ)
       (here : Here unread old now before after r r1 w w1 kept content o v) where
     within : 2 * length here.samples ≤ c.size
     within =
-        let some : (frames - unread) * c.channels ≤ frames * c.channels = mul-le-mul_right c.channels (let z : frames - unread ≤ frames = omega arith in z) in
+        let some : (frames - unread) * c.channels ≤ frames * c.channels =
+        mul-le-mul_right c.channels (let z : frames - unread ≤ frames = omega arith in z) in
         omega (arith, here.count, size, some)
 
     -- what may be read
     pub asks_enough : (many : ℕ) → many ≤ unread → content.gone + 2 * (many * content.channels) ≤ content.size
     asks_enough many less =
-        let fits : (frames - unread + many) * c.channels ≤ frames * c.channels = mul-le-mul_right c.channels (let z : frames - unread + many ≤ frames = omega (arith, some_left, less) in z) in
-        let split : (frames - unread + many) * c.channels ≡ (frames - unread) * c.channels + many * c.channels = omega arith in
-        subst (λ (y : Reading). y.gone + 2 * (many * y.channels) ≤ y.size) (sym here.content_is) (omega (arith, can.unread, here.count, size, fits, split))
+        let fits : (frames - unread + many) * c.channels ≤ frames * c.channels =
+        mul-le-mul_right c.channels (let z : frames - unread + many ≤ frames =
+        omega (arith, some_left, less) in z) in
+        let split : (frames - unread + many) * c.channels ≡ (frames - unread) * c.channels + many * c.channels =
+        omega arith in
+        subst (λ (y : Reading). y.gone + 2 * (many * y.channels) ≤ y.size) (sym here.content_is)
+        (omega (arith, can.unread, here.count, size, fits, split))
 
     pub unspoilt : c.fault ≡ None → content.fault ≡ None
     unspoilt none = ap (λ (y : Reading). y.fault) here.content_is ∙ none
@@ -93,39 +122,59 @@ module _ (n : Netlist Kit ℤ) (p : Schedule) (j : ℕ) (c : Reading) (frames al
     came_here = came_to can.runs n p can.has j c here.samples here.few here.bytes v within one here.behind.0 here.stands
 
     -- the reading failed
-    pub reading_failed : (new : Option (List ℕ)) (r2 : ℕ) (e f : Fault) → f ≡ e → ReadsContent c old new r r2 (Err e) → Streams n p.repetitions c old new before after r r2 w w1 (Err f)
-    reading_failed new r2 e f same reads =
-        (here.samples, here.few * j, here.bytes, now, came_here, here.read, inr (subst (λ (g : Fault). ReadsContent c old new r r2 (Err g)) (sym same) reads, here.written, here.writer))
+    pub reading_failed : (new : Option (List ℕ)) (r2 : ℕ) (e f : Fault) → f ≡ e → ReadsContent c old new r r2 (Err e) →
+        Streams n p.repetitions c old new before after r r2 w w1 (Err f)
+    reading_failed new r2 e f same reads = (
+      here.samples,
+      here.few * j,
+      here.bytes,
+      now,
+      came_here,
+      here.read,
+      inr (
+        subst (λ (g : Fault). ReadsContent c old new r r2 (Err g)) (sym same) reads,
+        here.written,
+        here.writer,
+      ),
+    )
 
     -- some more was read
-    module _ (many : ℕ) (fewer : many ≤ unread) (new : Option (List ℕ)) (r2 : ℕ) (next : Reading) (held : List ℤ) (reads : ReadsMore c here.samples many kept old new r r2 next (Ok held)) where
+    module _ (many : ℕ) (fewer : many ≤ unread) (new : Option (List ℕ)) (r2 : ℕ) (next : Reading) (held : List ℤ)
+        (reads : ReadsMore c here.samples many kept old new r r2 next (Ok held)) where
       abbrev all_read : List ℤ
       all_read = here.samples ++ reads.0
 
       pub count_more : length all_read ≡ (frames - (unread - many)) * c.channels
       count_more =
           let split : (frames - (unread - many)) * c.channels ≡ (frames - unread) * c.channels + many * c.channels =
-          ap (λ (k : ℕ). k * c.channels) (let z : frames - (unread - many) ≡ frames - unread + many = omega (arith, some_left, fewer) in z) ∙ (let z : (frames - unread + many) * c.channels ≡ (frames - unread) * c.channels + many * c.channels = omega arith in z) in
+          ap (λ (k : ℕ). k * c.channels) (let z : frames - (unread - many) ≡ frames - unread + many =
+          omega (arith, some_left, fewer) in z) ∙ (let z : (frames - unread + many) * c.channels ≡
+          (frames - unread) * c.channels + many * c.channels = omega arith in z) in
           omega (arith, length-append here.samples reads.0, here.count, reads.2, split)
 
       within_more : 2 * length all_read ≤ c.size
       within_more =
-          let some : (frames - (unread - many)) * c.channels ≤ frames * c.channels = mul-le-mul_right c.channels (let z : frames - (unread - many) ≤ frames = omega arith in z) in
+          let some : (frames - (unread - many)) * c.channels ≤ frames * c.channels =
+          mul-le-mul_right c.channels (let z : frames - (unread - many) ≤ frames = omega arith in z) in
           omega (arith, count_more, size, some)
 
       pub behind_held : AreBehind x c all_read (here.few * j) held
       behind_held = let b = behind_on x c here.samples reads.0 kept (here.few * j) here.behind in (b.0, reads.1 ∙ b.1)
 
       pub stands_held : StandsWhole n p j (sound_read c all_read) here.few here.bytes v
-      stands_held = stands_on n p j c here.samples reads.0 here.few (here.few * j * x.made) here.bytes v can.lower here.behind.0 here.stands
+      stands_held = stands_on n p j c here.samples reads.0 here.few (here.few * j * x.made) here.bytes v can.lower
+          here.behind.0 here.stands
 
       held_long : length held ≡ length all_read - here.few * j * x.taken * c.channels
       held_long = ap length behind_held.1 ∙ length-drop (here.few * j * x.taken * c.channels) all_read
 
       pub held_whole : length held % c.channels ≡ 0
       held_whole =
-          let factored : (frames - (unread - many)) * c.channels - here.few * j * x.taken * c.channels ≡ (frames - (unread - many) - here.few * j * x.taken) * c.channels = minus (frames - (unread - many)) (here.few * j * x.taken) c.channels in
-          ap (λ (k : ℕ). k % c.channels) (held_long ∙ (ap (λ (k : ℕ). k - here.few * j * x.taken * c.channels) count_more ∙ factored)) ∙ mul-mod_left (frames - (unread - many) - here.few * j * x.taken) c.channels
+          let factored : (frames - (unread - many)) * c.channels - here.few * j * x.taken * c.channels ≡
+          (frames - (unread - many) - here.few * j * x.taken) * c.channels =
+          minus (frames - (unread - many)) (here.few * j * x.taken) c.channels in
+          ap (λ (k : ℕ). k % c.channels) (held_long ∙ (ap (λ (k : ℕ). k - here.few * j * x.taken * c.channels)
+          count_more ∙ factored)) ∙ mul-mod_left (frames - (unread - many) - here.few * j * x.taken) c.channels
 
       pub held_few : length held ≤ 4294967295
       held_few = omega (arith, held_long, within_more, can.fits)
@@ -133,16 +182,23 @@ module _ (n : Netlist Kit ℤ) (p : Schedule) (j : ℕ) (c : Reading) (frames al
       -- what is kept makes no more than is missing
       pub held_missing : (periods : ℕ) → periods * x.taken * c.channels ≤ length held → periods * x.made ≤ o.missing
       held_missing periods there =
-          let split : (here.few * j + periods) * x.taken * c.channels ≡ here.few * j * x.taken * c.channels + periods * x.taken * c.channels = omega arith in
-          let read : (frames - (unread - many)) * c.channels ≤ frames * c.channels = mul-le-mul_right c.channels (let z : frames - (unread - many) ≤ frames = omega arith in z) in
-          let fit : (here.few * j + periods) * x.taken ≤ frames = cancel ((here.few * j + periods) * x.taken) frames c.channels one (omega (arith, split, there, held_long, behind_held.0, count_more, read)) in
-          let made : (here.few * j + periods) * x.made ≤ periods_for x frames * x.made = mul-le-mul_right x.made (periods_fit (here.few * j + periods) x.taken frames can.taken fit) in
+          let split : (here.few * j + periods) * x.taken * c.channels ≡
+          here.few * j * x.taken * c.channels + periods * x.taken * c.channels = omega arith in
+          let read : (frames - (unread - many)) * c.channels ≤ frames * c.channels =
+          mul-le-mul_right c.channels (let z : frames - (unread - many) ≤ frames = omega arith in z) in
+          let fit : (here.few * j + periods) * x.taken ≤ frames =
+          cancel ((here.few * j + periods) * x.taken) frames c.channels one
+          (omega (arith, split, there, held_long, behind_held.0, count_more, read)) in
+          let made : (here.few * j + periods) * x.made ≤ periods_for x frames * x.made =
+          mul-le-mul_right x.made (periods_fit (here.few * j + periods) x.taken frames can.taken fit) in
           let parts : (here.few * j + periods) * x.made ≡ here.few * j * x.made + periods * x.made = omega arith in
           omega (arith, made, parts, here.missing, can.all_is)
 
       -- its whole blocks were not written
-      pub putting_failed : (last : Option (List ℕ)) (w2 : ℕ) (o' : Owed) (v' : SessionValue Kit (List ℤ) ℤ) (e f : Fault) → f ≡ e →
-          PutsWhole n p j c all_read here.few here.bytes after last w1 w2 o o' v' (Err e) → Streams n p.repetitions c old new before last r r2 w w2 (Err f)
+      pub putting_failed : (last : Option (List ℕ)) (w2 : ℕ) (o' : Owed) (v' : SessionValue Kit (List ℤ) ℤ)
+          (e f : Fault) → f ≡ e →
+          PutsWhole n p j c all_read here.few here.bytes after last w1 w2 o o' v' (Err e) →
+          Streams n p.repetitions c old new before last r r2 w w2 (Err f)
       putting_failed last w2 o' v' e f same (inl (is, (blocks, more, at, front, failed, there))) = (
         all_read,
         (here.few + blocks) * j,
@@ -150,7 +206,13 @@ module _ (n : Netlist Kit ℤ) (p : Schedule) (j : ℕ) (c : Reading) (frames al
         new,
         came_to runs n p has j c all_read (here.few + blocks) (here.bytes ++ more) v' within_more one there at,
         reads.3,
-        inl (same ∙ is, refl, front_join before after last here.bytes more here.written front, reads.5, failed ∙ ap one_more here.writer),
+        inl (
+          same ∙ is,
+          refl,
+          front_join before after last here.bytes more here.written front,
+          reads.5,
+          failed ∙ ap one_more here.writer,
+        ),
       )
       putting_failed last w2 o' v' e f same (inr (is, keeps, fine)) = (
         here.samples,
@@ -161,14 +223,16 @@ module _ (n : Netlist Kit ℤ) (p : Schedule) (j : ℕ) (c : Reading) (frames al
         here.read,
         inr (
           inl (same ∙ is, reads_lose c all_read old new reads.3, reads.5),
-          subst (Appends before last) (append-nil here.bytes) (appends_join before after last here.bytes [] here.written (appends_none after last keeps)),
+          subst (Appends before last) (append-nil here.bytes)
+              (appends_join before after last here.bytes [] here.written (appends_none after last keeps)),
           fine ∙ here.writer,
         ),
       )
 
       -- they were
       pub flows_on : (last : Option (List ℕ)) (w2 : ℕ) (o' : Owed) (v' : SessionValue Kit (List ℤ) ℤ) (rest : List ℤ) →
-          PutsWhole n p j c all_read here.few here.bytes after last w1 w2 o o' v' (Ok rest) → Here (unread - many) old new before last r r2 w w2 rest next o' v'
+          PutsWhole n p j c all_read here.few here.bytes after last w1 w2 o o' v' (Ok rest) →
+          Here (unread - many) old new before last r r2 w w2 rest next o' v'
       flows_on last w2 o' v' rest (blocks, more, at, written, fine, behind, less, owed) = record {
         samples = all_read;
         few = here.few + blocks;
@@ -181,7 +245,9 @@ module _ (n : Netlist Kit ℤ) (p : Schedule) (j : ℕ) (c : Reading) (frames al
         less = less;
         written = appends_join before after last here.bytes more here.written written;
         missing = ap (λ (y : Owed). y.missing) owed ∙ (ap (λ (k : ℕ). k - blocks * j * x.made) here.missing
-            ∙ (let z : all - here.few * j * x.made - blocks * j * x.made ≡ all - (here.few + blocks) * j * x.made = less_twice all (here.few * j * x.made) (blocks * j * x.made) ((here.few + blocks) * j * x.made) (omega arith) in z));
+            ∙ (let z : all - here.few * j * x.made - blocks * j * x.made ≡ all - (here.few + blocks) * j * x.made =
+            less_twice all (here.few * j * x.made) (blocks * j * x.made) ((here.few + blocks) * j * x.made)
+            (omega arith) in z));
         reader = reads.5;
         writer = fine ∙ here.writer;
       }
@@ -190,12 +256,15 @@ module _ (n : Netlist Kit ℤ) (p : Schedule) (j : ℕ) (c : Reading) (frames al
 
     module _ (end : unread ≡ 0) where
       all_there : length here.samples ≡ frames * c.channels
-      all_there = here.count ∙ ap (λ (k : ℕ). k * c.channels) (let z : frames - unread ≡ frames = omega (arith, end) in z)
+      all_there = here.count ∙ ap (λ (k : ℕ). k * c.channels)
+          (let z : frames - unread ≡ frames = omega (arith, end) in z)
 
       pub kept_whole : length kept % c.channels ≡ 0
       kept_whole =
-          let factored : frames * c.channels - here.few * j * x.taken * c.channels ≡ (frames - here.few * j * x.taken) * c.channels = minus frames (here.few * j * x.taken) c.channels in
-          ap (λ (k : ℕ). k % c.channels) (kept_long ∙ (ap (λ (k : ℕ). k - here.few * j * x.taken * c.channels) all_there ∙ factored)) ∙ mul-mod_left (frames - here.few * j * x.taken) c.channels
+          let factored : frames * c.channels - here.few * j * x.taken * c.channels ≡
+          (frames - here.few * j * x.taken) * c.channels = minus frames (here.few * j * x.taken) c.channels in
+          ap (λ (k : ℕ). k % c.channels) (kept_long ∙ (ap (λ (k : ℕ). k - here.few * j * x.taken * c.channels) all_there
+          ∙ factored)) ∙ mul-mod_left (frames - here.few * j * x.taken) c.channels
         where
           kept_long : length kept ≡ length here.samples - here.few * j * x.taken * c.channels
           kept_long = ap length here.behind.1 ∙ length-drop (here.few * j * x.taken * c.channels) here.samples
@@ -209,7 +278,17 @@ module _ (n : Netlist Kit ℤ) (p : Schedule) (j : ℕ) (c : Reading) (frames al
           at = λ bytes is. let y = here.read.at bytes is in (
             y.0,
             y.1,
-            ((λ input q. record { read = y.2.0 input q; ended = inl (can.known, (let z : c.gone + 2 * length here.samples ≡ c.size = omega (arith, can.unread, all_there, size) in z)) }), y.2.1),
+            (
+              (λ input q. record {
+                read = y.2.0 input q;
+                ended = inl (
+                  can.known,
+                  (let z : c.gone + 2 * length here.samples ≡
+                      c.size = omega (arith, can.unread, all_there, size) in z),
+                );
+              }),
+              y.2.1,
+            ),
           );
         },
         here.reader,
@@ -230,37 +309,51 @@ module _ (n : Netlist Kit ℤ) (p : Schedule) (j : ℕ) (c : Reading) (frames al
       few_periods : here.few * j * x.made ≤ periods_for x frames * x.made
       few_periods = mul-le-mul_right x.made (periods_fit (here.few * j) x.taken frames can.taken few_enough)
 
-      ended_by : (blocks many : ℕ) (bytes : List ℕ) (v' : SessionValue Kit (List ℤ) ℤ) (last : Option (List ℕ)) (w2 : ℕ) → StandsAt n p j (sound_read c here.samples) blocks many bytes v' → periods_for x frames ≤ blocks * j →
-          many ≡ periods_for x frames * x.made → Appends before last bytes → w2 ≡ w → Streams n p.repetitions c old now before last r r1 w w2 (Ok tt)
+      ended_by : (blocks many : ℕ) (bytes : List ℕ) (v' : SessionValue Kit (List ℤ) ℤ) (last : Option (List ℕ))
+          (w2 : ℕ) → StandsAt n p j (sound_read c here.samples) blocks many bytes v' →
+          periods_for x frames ≤ blocks * j →
+          many ≡ periods_for x frames * x.made → Appends before last bytes → w2 ≡ w →
+          Streams n p.repetitions c old now before last r r1 w w2 (Ok tt)
       ended_by blocks many bytes v' last w2 at less same written fine =
-          let s = stood runs n p has j (sound_read c here.samples) blocks many (periods_of x (sound_read c here.samples)) bytes v' at
-          (subst (λ (k : ℕ). k ≤ blocks * j) (sym periods_are) less) (same ∙ ap (λ (k : ℕ). k * x.made) (sym periods_are)) in
+          let s = stood runs n p has j (sound_read c here.samples) blocks many
+          (periods_of x (sound_read c here.samples)) bytes v' at
+          (subst (λ (k : ℕ). k ≤ blocks * j) (sym periods_are) less)
+          (same ∙ ap (λ (k : ℕ). k * x.made) (sym periods_are)) in
           (sound_read c here.samples, heard, (s.0, s.1, subst (Appends before last) s.2 written, fine))
 
       -- nothing is missing
       pub ended_whole : o.missing ≡ 0 → Streams n p.repetitions c old now before after r r1 w w1 (Ok tt)
       ended_whole none =
-          let made : here.few * j * x.made ≡ periods_for x frames * x.made = omega (arith, few_periods, here.missing, can.all_is, none) in
-          let less : periods_for x frames ≤ here.few * j = cancel (periods_for x frames) (here.few * j) x.made can.made (omega (arith, made)) in
+          let made : here.few * j * x.made ≡ periods_for x frames * x.made =
+          omega (arith, few_periods, here.missing, can.all_is, none) in
+          let less : periods_for x frames ≤ here.few * j =
+          cancel (periods_for x frames) (here.few * j) x.made can.made (omega (arith, made)) in
           ended_by here.few (here.few * j * x.made) here.bytes v after w1 here.stands less made here.written here.writer
 
       -- the last block
       last_block : periods_for x frames ≤ (here.few + 1) * j
       last_block =
-          let past : (here.few + 1) * j * x.taken * c.channels ≡ here.few * j * x.taken * c.channels + j * x.taken * c.channels = omega arith in
-          let long : length kept ≡ length here.samples - here.few * j * x.taken * c.channels = ap length here.behind.1 ∙ length-drop (here.few * j * x.taken * c.channels) here.samples in
-          let below : frames * c.channels < (here.few + 1) * j * x.taken * c.channels = omega (arith, here.less, long, here.behind.0, all_there, past) in
-          periods_end ((here.few + 1) * j) x.taken frames can.taken (below_by frames ((here.few + 1) * j * x.taken) c.channels below)
+          let past : (here.few + 1) * j * x.taken * c.channels ≡
+          here.few * j * x.taken * c.channels + j * x.taken * c.channels = omega arith in
+          let long : length kept ≡ length here.samples - here.few * j * x.taken * c.channels =
+          ap length here.behind.1 ∙ length-drop (here.few * j * x.taken * c.channels) here.samples in
+          let below : frames * c.channels < (here.few + 1) * j * x.taken * c.channels =
+          omega (arith, here.less, long, here.behind.0, all_there, past) in
+          periods_end ((here.few + 1) * j) x.taken frames can.taken
+          (below_by frames ((here.few + 1) * j * x.taken) c.channels below)
 
       filled : here.few * j * x.made + o.missing ≡ periods_for x frames * x.made
       filled = omega (arith, few_periods, here.missing, can.all_is)
 
-      pub ended_put : (last : Option (List ℕ)) (w2 : ℕ) (v' : SessionValue Kit (List ℤ) ℤ) → PutsBlocks n p j (sound_read c here.samples) here.few 1 o.missing here.bytes after last w1 w2 v' (Ok tt) →
+      pub ended_put : (last : Option (List ℕ)) (w2 : ℕ) (v' : SessionValue Kit (List ℤ) ℤ) →
+          PutsBlocks n p j (sound_read c here.samples) here.few 1 o.missing here.bytes after last w1 w2 v' (Ok tt) →
           Streams n p.repetitions c old now before last r r1 w w2 (Ok tt)
       ended_put last w2 v' (more, at, written, fine) =
-          ended_by (here.few + 1) (here.few * j * x.made + o.missing) (here.bytes ++ more) v' last w2 at last_block filled (appends_join before after last here.bytes more here.written written) (fine ∙ here.writer)
+          ended_by (here.few + 1) (here.few * j * x.made + o.missing) (here.bytes ++ more) v' last w2 at last_block
+          filled (appends_join before after last here.bytes more here.written written) (fine ∙ here.writer)
 
-      pub ended_failed : (last : Option (List ℕ)) (w2 : ℕ) (v' : SessionValue Kit (List ℤ) ℤ) (f : Fault) → PutsBlocks n p j (sound_read c here.samples) here.few 1 o.missing here.bytes after last w1 w2 v' (Err f) →
+      pub ended_failed : (last : Option (List ℕ)) (w2 : ℕ) (v' : SessionValue Kit (List ℤ) ℤ) (f : Fault) →
+          PutsBlocks n p j (sound_read c here.samples) here.few 1 o.missing here.bytes after last w1 w2 v' (Err f) →
           Streams n p.repetitions c old now before last r r1 w w2 (Err f)
       ended_failed last w2 v' f (inl (is_write, (more, at, front, failed))) =
           let periods = periods_of x (sound_read c here.samples) in (
@@ -270,12 +363,24 @@ module _ (n : Netlist Kit ℤ) (p : Schedule) (j : ℕ) (c : Reading) (frames al
             now,
             record {
               within = within;
-              are_read = inr ((let y : 2 * length here.samples ≡ c.size = omega (arith, all_there, size) in y), omega arith);
-              are_frames = inr (stood runs n p has j (sound_read c here.samples) (here.few + 1) (here.few * j * x.made + o.missing) periods (here.bytes ++ more) v' at
-                  (subst (λ (k : ℕ). k ≤ (here.few + 1) * j) (sym periods_are) last_block) (filled ∙ ap (λ (k : ℕ). k * x.made) (sym periods_are)));
+              are_read = inr (
+                (let y : 2 * length here.samples ≡ c.size = omega (arith, all_there, size) in
+                    y),
+                omega arith,
+              );
+              are_frames = inr (stood runs n p has j (sound_read c here.samples) (here.few + 1)
+                  (here.few * j * x.made + o.missing) periods (here.bytes ++ more) v' at
+                  (subst (λ (k : ℕ). k ≤ (here.few + 1) * j) (sym periods_are) last_block)
+                  (filled ∙ ap (λ (k : ℕ). k * x.made) (sym periods_are)));
             },
             here.read,
-            inl (is_write, refl, front_join before after last here.bytes more here.written front, here.reader, failed ∙ ap one_more here.writer),
+            inl (
+              is_write,
+              refl,
+              front_join before after last here.bytes more here.written front,
+              here.reader,
+              failed ∙ ap one_more here.writer,
+            ),
           )
       ended_failed last w2 v' f (inr (is_memory, keeps, fine)) = (
         here.samples,
@@ -286,13 +391,16 @@ module _ (n : Netlist Kit ℤ) (p : Schedule) (j : ℕ) (c : Reading) (frames al
         here.read,
         inr (
           inl (is_memory, reads_lose c here.samples old now here.read, here.reader),
-          subst (Appends before last) (append-nil here.bytes) (appends_join before after last here.bytes [] here.written (appends_none after last keeps)),
+          subst (Appends before last) (append-nil here.bytes)
+              (appends_join before after last here.bytes [] here.written (appends_none after last keeps)),
           fine ∙ here.writer,
         ),
       )
 
       -- so the run ended
-      pub ended : (last : Option (List ℕ)) (w2 : ℕ) (v' : SessionValue Kit (List ℤ) ℤ) (result : Result (Unit {0}) Fault) →
-          PutsBlocks n p j (sound_read c here.samples) here.few 1 o.missing here.bytes after last w1 w2 v' result → Streams n p.repetitions c old now before last r r1 w w2 result
+      pub ended : (last : Option (List ℕ)) (w2 : ℕ) (v' : SessionValue Kit (List ℤ) ℤ)
+          (result : Result (Unit {0}) Fault) →
+          PutsBlocks n p j (sound_read c here.samples) here.few 1 o.missing here.bytes after last w1 w2 v' result →
+          Streams n p.repetitions c old now before last r r1 w w2 result
       ended last w2 v' (Ok y) puts = ended_put last w2 v' puts
       ended last w2 v' (Err f) puts = ended_failed last w2 v' f puts

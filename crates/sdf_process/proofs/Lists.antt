@@ -30,7 +30,8 @@ range_more a n k is =
     ∙ ap (λ xs. xs ++ k ∷ []) (map-id (range_with_len a n))
 
 -- frames from a place on, and one more
-pub frames_more : (a at : ℕ) (xs : List (List ℤ)) → a ≤ at → interleaved_from a (at - a) xs ++ frame xs at ≡ interleaved_from a (at + 1 - a) xs
+pub frames_more : (a at : ℕ) (xs : List (List ℤ)) → a ≤ at →
+    interleaved_from a (at - a) xs ++ frame xs at ≡ interleaved_from a (at + 1 - a) xs
 frames_more a at xs less =
     let next : at - a + 1 ≡ at + 1 - a = omega arith in
     flat_map_more (frame xs) [] (range_with_len a (at - a)) at

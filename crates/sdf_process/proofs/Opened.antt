@@ -1,5 +1,6 @@
 -- What is known where a file has opened: what it announces, and what each stage behind says.
-use Rattle.std.proofs.Common.{false, ◌≡◌, ◌≢◌, ◌⊎◌, inl, inr, ℕ, ◌+◌, ◌*◌, ◌/◌, ◌≤◌, ℤ, List, [], ◌∷◌, ◌++◌, length, Option, Some, None, Ok, Err, refl, sym, ap, ◌∙◌, subst, arith, append-nil}
+use Rattle.std.proofs.Common.{false, ◌≡◌, ◌≢◌, ◌⊎◌, inl, inr, ℕ, ◌+◌, ◌*◌, ◌/◌, ◌≤◌, ℤ, List, [], ◌∷◌, ◌++◌, length}
+use Rattle.std.proofs.Common.{Option, Some, None, Ok, Err, refl, sym, ap, ◌∙◌, subst, arith, append-nil}
 use Rattle.std.specs.Prelude.{if◌then◌else◌, ◌==◌}
 use Rattle.std.specs.Io.KnownBytes.{Appends}
 use Rattle.std.proofs.Math.Nat.{mul-div-mul_left}
@@ -11,7 +12,8 @@ use Rattle.sdf_wav.specs.Sound.{Sound, frames_of}
 use Rattle.sdf_wav.specs.Grammar.{IsWav}
 use Rattle.sdf_wav.specs.Fault.{HasFault}
 use Rattle.sdf_wav.specs.Device.{AppendsFront, Known, LosesFront, one_more}
-use Rattle.sdf_wav.specs.PiecesIn.{Reading, Opens, OpensTo, IsReadTo, IsEnded, AnswersOpening, at_start, format_read, sound_read, known_frames}
+use Rattle.sdf_wav.specs.PiecesIn.{Reading, Opens, OpensTo, IsReadTo, IsEnded, AnswersOpening, at_start, format_read}
+use Rattle.sdf_wav.specs.PiecesIn.{sound_read, known_frames}
 use Rattle.sdf_wav.specs.PiecesOut.{Owed, file_header}
 use Rattle.sdf_wav.specs.declared.fault.FormatFault.{FormatFault}
 use Rattle.sdf_wav.specs.declared.format.Format.{Format}
@@ -20,32 +22,40 @@ use Rattle.sdf_process.specs.declared.exchange.Exchange.{Exchange}
 use Rattle.sdf_process.specs.declared.exchange.Extent.{Extent}
 use Rattle.sdf_process.specs.declared.fault.Fault.{Fault}
 use Rattle.sdf_process.specs.declared.fault.Fault.TheVariants.{Write}
-use Rattle.sdf_process.specs.Output.{announced_by, announced_fault, exchange_of, output_frames, output_header, IsExchange, IsExtent}
+use Rattle.sdf_process.specs.Output.{announced_by, announced_fault, exchange_of, output_frames, output_header}
+use Rattle.sdf_process.specs.Output.{IsExchange, IsExtent}
 use Rattle.sdf_process.specs.Run.{announced_size, AreRead, IsAllowed, IsRun, IsText, IsUnsized}
 use Rattle.sdf_process.specs.Stages.{Hears, IsHeard, ReadsContent, PutsHeader, WavLaws}
 use Rattle.sdf_process.specs.Streams.{IsStream, ReadsBy}
 use Rattle.sdf_process.proofs.Outcomes.{appends_join, front_join, lost_twice}
 use Rattle.sdf_process.proofs.Sizes.{fewer_frames, fewer_periods, periods_fit}
-use Rattle.sdf_process.proofs.Refusals.{some_no_none, AnnouncedAt, Begins, refused, writer_failed, memory_failed, reader_failed, content_cut, unheard_by_memory, unheard_by_reader, unheard_by_fault}
+use Rattle.sdf_process.proofs.Refusals.{some_no_none, AnnouncedAt, Begins, refused, writer_failed, memory_failed}
+use Rattle.sdf_process.proofs.Refusals.{reader_failed, content_cut, unheard_by_memory, unheard_by_reader}
+use Rattle.sdf_process.proofs.Refusals.{unheard_by_fault}
 use Rattle.sdf_process.proofs.Texts.{header_is, text_begins}
 
 -- ---- how many frames are known
 
-pub frames_known : (size channels frames : ℕ) → (if size == 0xFFFFFFFF then None else Some (size / (2 * channels))) ≡ Some frames → (size ≢ 0xFFFFFFFF) × (frames ≡ size / (2 * channels))
+pub frames_known : (size channels frames : ℕ) → (if size == 0xFFFFFFFF then None else Some (size / (2 * channels))) ≡
+    Some frames → (size ≢ 0xFFFFFFFF) × (frames ≡ size / (2 * channels))
 frames_known size channels frames is = elim (eqb_tells size 4294967295) [
   | inl e ↦
-      let none : (if size == 0xFFFFFFFF then None else Some (size / (2 * channels))) ≡ None = rw (eq-eqb size 4294967295 e.1) refl in
+      let none : (if size == 0xFFFFFFFF then None else Some (size / (2 * channels))) ≡ None =
+      rw (eq-eqb size 4294967295 e.1) refl in
       absurd (let no : None ≡ Some frames = sym none ∙ is in cc)
   | inr e ↦
-      let some : (if size == 0xFFFFFFFF then None else Some (size / (2 * channels))) ≡ Some (size / (2 * channels)) = rw (ne_eqb size 4294967295 e.1) refl in
+      let some : (if size == 0xFFFFFFFF then None else Some (size / (2 * channels))) ≡ Some (size / (2 * channels)) =
+      rw (ne_eqb size 4294967295 e.1) refl in
       (e.1, let same : Some (size / (2 * channels)) ≡ Some frames = sym some ∙ is in cc)
 ]
 
-pub frames_unknown : (size channels : ℕ) → (if size == 0xFFFFFFFF then None else Some (size / (2 * channels))) ≡ None → size ≡ 0xFFFFFFFF
+pub frames_unknown : (size channels : ℕ) → (if size == 0xFFFFFFFF then None else Some (size / (2 * channels))) ≡ None →
+    size ≡ 0xFFFFFFFF
 frames_unknown size channels is = elim (eqb_tells size 4294967295) [
   | inl e ↦ e.1
   | inr e ↦
-      let some : (if size == 0xFFFFFFFF then None else Some (size / (2 * channels))) ≡ Some (size / (2 * channels)) = rw (ne_eqb size 4294967295 e.1) refl in
+      let some : (if size == 0xFFFFFFFF then None else Some (size / (2 * channels))) ≡ Some (size / (2 * channels)) =
+      rw (ne_eqb size 4294967295 e.1) refl in
       absurd (let no : Some (size / (2 * channels)) ≡ None = sym some ∙ is in cc)
 ]
 
@@ -53,24 +63,33 @@ no_gone : (gone left : List ℕ) → length gone ≡ 0 → gone ++ left ≡ left
 no_gone [] left e = refl
 no_gone (x ∷ xs) left e = absurd (omega arith)
 
-pub announced_same : (r h f u v w : ℕ) → r ≡ u → h ≡ v → f ≡ w → ◌≡◌ {A = Announced} (record { rate = r; channels = h; frames = f }) (record { rate = u; channels = v; frames = w })
+pub announced_same : (r h f u v w : ℕ) → r ≡ u → h ≡ v → f ≡ w →
+    ◌≡◌ {A = Announced} (record { rate = r; channels = h; frames = f }) (record { rate = u; channels = v; frames = w })
 announced_same r h f u v w x y z = rw (x, y, z) refl
 
 -- a sound of so many samples has the frames that are known
-pub sound_announced : (c : Reading) (frames : ℕ) → known_frames c ≡ Some frames → (s : Sound) → s.rate ≡ c.rate → s.channels ≡ c.channels → 2 * length s.samples ≡ c.size →
+pub sound_announced : (c : Reading) (frames : ℕ) → known_frames c ≡ Some frames → (s : Sound) → s.rate ≡ c.rate →
+    s.channels ≡ c.channels → 2 * length s.samples ≡ c.size →
     announced_by s ≡ record { rate = c.rate; channels = c.channels; frames = frames }
 sound_announced c frames is s rate channels size =
     announced_same s.rate s.channels (frames_of s) c.rate c.channels frames rate channels
     (sym (mul-div-mul_left {m = 2} (length s.samples) s.channels (omega arith))
-    ∙ (ap (λ (z : ℕ). z / (2 * s.channels)) size ∙ (ap (λ (z : ℕ). c.size / (2 * z)) channels ∙ sym (frames_known c.size c.channels frames is).1)))
+    ∙ (ap (λ (z : ℕ). z / (2 * s.channels)) size ∙ (ap (λ (z : ℕ). c.size / (2 * z)) channels
+    ∙ sym (frames_known c.size c.channels frames is).1)))
 
-then_lost : (a b c : Option (List ℕ)) (P : List ℕ → List ℕ → Type 0) → Known a b (λ x y. P x y × LosesFront x y) → Known b c LosesFront → Known a c LosesFront
-then_lost a b c P p q = record { at = λ input known. let y = p.at input known in let z = q.at y.0 y.1 in (z.0, z.1, lost_twice input y.0 z.0 y.2.1 z.2) }
+then_lost : (a b c : Option (List ℕ)) (P : List ℕ → List ℕ → Type 0) → Known a b (λ x y. P x y × LosesFront x y) →
+    Known b c LosesFront → Known a c LosesFront
+then_lost a b c P p q = record {
+  at = λ input known. let y = p.at input known in let z = q.at y.0 y.1 in
+      (z.0, z.1, lost_twice input y.0 z.0 y.2.1 z.2);
+}
 
-owed_is : {y : Exchange} (x : Exchange) (s : Sound) (e : Extent) (o : Owed) → x ≡ y → IsExtent y (announced_by s) e → o ≡ record { channels = x.outputs; missing = e.periods * x.made; spent = false } →
+owed_is : {y : Exchange} (x : Exchange) (s : Sound) (e : Extent) (o : Owed) → x ≡ y → IsExtent y (announced_by s) e →
+    o ≡ record { channels = x.outputs; missing = e.periods * x.made; spent = false } →
     o ≡ record { channels = y.outputs; missing = output_frames y s; spent = false }
 owed_is {y} x s e o same extent is =
-    is ∙ (ap (λ (z : Exchange). record { channels = z.outputs; missing = e.periods * z.made; spent = false }) same ∙ ap (λ (p : ℕ). record { channels = y.outputs; missing = p * y.made; spent = false }) extent.periods)
+    is ∙ (ap (λ (z : Exchange). record { channels = z.outputs; missing = e.periods * z.made; spent = false }) same
+    ∙ ap (λ (p : ℕ). record { channels = y.outputs; missing = p * y.made; spent = false }) extent.periods)
 
 -- what was heard to its end is a file
 pub wav_of_heard : WavLaws → (input : List ℕ) (s : Sound) (rest : List ℕ) → IsHeard input s rest → IsWav input s rest
@@ -78,9 +97,11 @@ wav_of_heard laws input s rest h =
     let made : sound_read h.reading s.samples ≡ s = rw (← h.rate, ← h.channels) refl in
     subst (λ (t : Sound). IsWav input t rest) made (laws.ends input h.reading s.samples rest h.read h.ended)
 
-module _ (laws : WavLaws) (n : Netlist Kit ℤ) (q : List ℕ) (x : Exchange) (same : x ≡ exchange_of n q) (limits : IsExchange x)
+module _ (laws : WavLaws) (n : Netlist Kit ℤ) (q : List ℕ) (x : Exchange) (same : x ≡ exchange_of n q)
+    (limits : IsExchange x)
     (read mid : Option (List ℕ)) (c : Reading) (said : AnswersOpening read mid (Ok c)) (gone : c.gone ≡ 0)
-    (only : (input : List ℕ) (f : Format) (size : ℕ) (rest : List ℕ) → read ≡ Some input → Opens input f size rest → OpensTo mid f size rest (Ok c)) where
+    (only : (input : List ℕ) (f : Format) (size : ℕ) (rest : List ℕ) → read ≡ Some input → Opens input f size rest →
+    OpensTo mid f size rest (Ok c)) where
   abbrev Fails : (left before after : Option (List ℕ)) (r r' w w' : ℕ) → Fault → Type 0
   Fails left before after r r' w w' f = IsRun n q read left before after r r' w w' (Err f)
 
@@ -90,17 +111,21 @@ module _ (laws : WavLaws) (n : Netlist Kit ℤ) (q : List ℕ) (x : Exchange) (s
       let y = said.at input known in
       subst (Opens input (format_read c) c.size) (no_gone y.2.0.gone y.0 (y.2.0.count ∙ gone)) y.2.0.opens
 
-  same_start : (input : List ℕ) (f : Format) (size : ℕ) (rest : List ℕ) → read ≡ Some input → Opens input f size rest → c ≡ at_start f size
+  same_start : (input : List ℕ) (f : Format) (size : ℕ) (rest : List ℕ) → read ≡ Some input → Opens input f size rest →
+      c ≡ at_start f size
   same_start input f size rest known o = (only input f size rest known o).0
 
   limited : IsExchange (exchange_of n q)
   limited = subst IsExchange same limits
 
   -- a fault of the content is the input's
-  content_has : (g : FormatFault) (left : Option (List ℕ)) → Known mid left (λ bytes rest. ((input : List ℕ) → IsReadTo input c [] bytes → HasFault input g) × LosesFront bytes rest) →
+  content_has : (g : FormatFault) (left : Option (List ℕ)) →
+      Known mid left (λ bytes rest. ((input : List ℕ) → IsReadTo input c [] bytes → HasFault input g)
+      × LosesFront bytes rest) →
       Known read left (λ input rest. HasFault input g × LosesFront input rest)
   content_has g left has = record {
-    at = λ input known. let y = said.at input known in let z = has.at y.0 y.1 in (z.0, z.1, (z.2.0 input y.2.0, lost_twice input y.0 z.0 y.2.1 z.2.1));
+    at = λ input known. let y = said.at input known in let z = has.at y.0 y.1 in
+        (z.0, z.1, (z.2.0 input y.2.0, lost_twice input y.0 z.0 y.2.1 z.2.1));
   }
 
   -- ---- the size of the data is filled in
@@ -112,40 +137,58 @@ module _ (laws : WavLaws) (n : Netlist Kit ℤ) (q : List ℕ) (x : Exchange) (s
     sized : c.size ≢ 0xFFFFFFFF
     sized = (frames_known c.size c.channels frames is).0
 
-    announced_here : (f : Format) (size : ℕ) → c.rate ≡ f.rate → c.channels ≡ f.channels → c.size ≡ size → announced_size f size ≡ announced
+    announced_here : (f : Format) (size : ℕ) → c.rate ≡ f.rate → c.channels ≡ f.channels → c.size ≡ size →
+        announced_size f size ≡ announced
     announced_here f size rate channels count =
         sym (announced_same c.rate c.channels frames f.rate f.channels (size / (2 * f.channels)) rate channels
-        ((frames_known c.size c.channels frames is).1 ∙ (ap (λ (z : ℕ). z / (2 * c.channels)) count ∙ ap (λ (z : ℕ). size / (2 * z)) channels)))
+        ((frames_known c.size c.channels frames is).1
+        ∙ (ap (λ (z : ℕ). z / (2 * c.channels)) count ∙ ap (λ (z : ℕ). size / (2 * z)) channels)))
 
-    announced_sound : (s : Sound) → s.rate ≡ c.rate → s.channels ≡ c.channels → 2 * length s.samples ≡ c.size → announced_by s ≡ announced
+    announced_sound : (s : Sound) → s.rate ≡ c.rate → s.channels ≡ c.channels → 2 * length s.samples ≡ c.size →
+        announced_by s ≡ announced
     announced_sound s rate channels size = sound_announced c frames is s rate channels size
 
-    sounds : (input : List ℕ) (s : Sound) (rest : List ℕ) → read ≡ Some input → IsWav input s rest → announced_by s ≡ announced
+    sounds : (input : List ℕ) (s : Sound) (rest : List ℕ) → read ≡ Some input → IsWav input s rest →
+        announced_by s ≡ announced
     sounds input s rest known wav =
         let o = laws.announces input s rest wav in
         let e = same_start input (record { rate = s.rate; channels = s.channels }) o.size o.rest known o.opens in
         let size : c.size ≡ o.size = ap (λ (z : Reading). z.size) e in
-        announced_sound s (sym (ap (λ (z : Reading). z.rate) e)) (sym (ap (λ (z : Reading). z.channels) e)) (sym (size ∙ o.sized (λ z. sized (size ∙ z))))
+        announced_sound s (sym (ap (λ (z : Reading). z.rate) e)) (sym (ap (λ (z : Reading). z.channels) e))
+        (sym (size ∙ o.sized (λ z. sized (size ∙ z))))
 
-    sizes : (input : List ℕ) (f : Format) (size : ℕ) (rest : List ℕ) → read ≡ Some input → Opens input f size rest → size ≢ 0xFFFFFFFF → announced_size f size ≡ announced
+    sizes : (input : List ℕ) (f : Format) (size : ℕ) (rest : List ℕ) → read ≡ Some input → Opens input f size rest →
+        size ≢ 0xFFFFFFFF → announced_size f size ≡ announced
     sizes input f size rest known o filled =
         let e = same_start input f size rest known o in
-        announced_here f size (ap (λ (z : Reading). z.rate) e) (ap (λ (z : Reading). z.channels) e) (ap (λ (z : Reading). z.size) e)
+        announced_here f size (ap (λ (z : Reading). z.rate) e) (ap (λ (z : Reading). z.channels) e)
+        (ap (λ (z : Reading). z.size) e)
 
     at_content : Known read mid (AnnouncedAt announced)
     at_content = record {
       at = λ input known. let y = said.at input known in (
         y.0,
         y.1,
-        record { reading = c; samples = []; read = y.2.0; announces = (refl, refl, inl is); least = ((λ z. gone), (λ z. absurd (sized z))) },
+        record {
+          reading = c;
+          samples = [];
+          read = y.2.0;
+          announces = (refl, refl, inl is);
+          least = ((λ z. gone), (λ z. absurd (sized z)));
+        },
       );
     }
 
-    pub refused_ahead : (held : Option (List ℕ)) (r r' w : ℕ) (g : Fault) → announced_fault x announced ≡ Some g → r' ≡ r → Fails mid held held r r' w w g
+    pub refused_ahead : (held : Option (List ℕ)) (r r' w : ℕ) (g : Fault) → announced_fault x announced ≡ Some g →
+        r' ≡ r → Fails mid held held r r' w w g
     refused_ahead held r r' w g why counted =
-        let here : announced_fault (exchange_of n q) announced ≡ Some g = ap (λ (z : Exchange). announced_fault z announced) (sym same) ∙ why in
+        let here : announced_fault (exchange_of n q) announced ≡ Some g =
+        ap (λ (z : Exchange). announced_fault z announced) (sym same) ∙ why in
         refused n q read mid held r r' w announced at_content counted sounds sizes g here
-        (λ input f known has allowed. some_no_none g (sym here ∙ (sym (ap (announced_fault (exchange_of n q)) (announced_here (format_read c) c.size refl refl refl)) ∙ allowed (format_read c) c.size (said.at input known).0 (opens_here input known) sized)))
+        (λ input f known has allowed. some_no_none g
+        (sym here ∙ (sym (ap (announced_fault (exchange_of n q))
+        (announced_here (format_read c) c.size refl refl refl))
+        ∙ allowed (format_read c) c.size (said.at input known).0 (opens_here input known) sized)))
 
     module _ (e : Extent) (extent : IsExtent x announced e) where
       extent_of : IsExtent (exchange_of n q) announced e
@@ -173,87 +216,121 @@ module _ (laws : WavLaws) (n : Netlist Kit ℤ) (q : List ℕ) (x : Exchange) (s
           }
 
       begins : Begins text
-      begins = text_begins laws n q announced e limited extent_of (sound_read c []) 0 [] (omega arith) (inl (refl, refl))
+      begins = text_begins laws n q announced e limited extent_of (sound_read c []) 0 [] (omega arith)
+          (inl (refl, refl))
 
       header_same : file_header e.rate x.outputs (e.periods * x.made) ≡ text
-      header_same = header_is x announced e extent ∙ (ap (λ (z : Exchange). output_header z announced) same ∙ sym (append-nil (output_header (exchange_of n q) announced)))
+      header_same = header_is x announced e extent ∙ (ap (λ (z : Exchange). output_header z announced) same
+          ∙ sym (append-nil (output_header (exchange_of n q) announced)))
 
       allowed_by : (input : List ℕ) → read ≡ Some input → IsAllowed (exchange_of n q) input
-      allowed_by input known f size rest o filled = ap (announced_fault (exchange_of n q)) (sizes input f size rest known o filled) ∙ extent_of.is_allowed
+      allowed_by input known f size rest o filled =
+          ap (announced_fault (exchange_of n q)) (sizes input f size rest known o filled) ∙ extent_of.is_allowed
 
-      pub header_failed_ahead : (before after : Option (List ℕ)) (r r' w w' : ℕ) (f : Fault) → PutsHeader {X = Unit {0}} before after w w' (file_header e.rate x.outputs (e.periods * x.made)) (Err f) → r' ≡ r → Fails mid before after r r' w w' f
+      pub header_failed_ahead : (before after : Option (List ℕ)) (r r' w w' : ℕ) (f : Fault) →
+          PutsHeader {X = Unit {0}} before after w w' (file_header e.rate x.outputs (e.periods * x.made)) (Err f) →
+          r' ≡ r → Fails mid before after r r' w w' f
       header_failed_ahead before after r r' w w' f puts counted =
           subst (Fails mid before after r r' w w') (sym puts.0)
-          (writer_failed n q read mid before after r r' w w' text is_text begins (subst (AppendsFront before after) header_same puts.1)
+          (writer_failed n q read mid before after r r' w w' text is_text begins
+          (subst (AppendsFront before after) header_same puts.1)
           (record { at = λ input known. let y = said.at input known in (y.0, y.1, (c, [], y.2.0)) }) counted puts.2)
 
       -- the reading failed behind some text
-      module _ (text : List ℕ) (is_text : (input : List ℕ) → read ≡ Some input → IsText n q input text) (begins : Begins text) (left before after : Option (List ℕ)) (r r1 r' w w' : ℕ) (counted : r1 ≡ r) (put : Appends before after text)
+      module _ (text : List ℕ) (is_text : (input : List ℕ) → read ≡ Some input → IsText n q input text)
+          (begins : Begins text) (left before after : Option (List ℕ)) (r r1 r' w w' : ℕ) (counted : r1 ≡ r)
+          (put : Appends before after text)
           (fine : w' ≡ w) where
         pub reading_failed : (f : Fault) → ReadsContent c mid left r1 r' (Err f) → Fails left before after r r' w w' f
         reading_failed f (inl reads) =
             subst (Fails left before after r r' w w') (sym reads.0)
-            (memory_failed n q read left before after r r' w w' text is_text begins put (then_lost read mid left _ said reads.1) (reads.2 ∙ counted) fine)
+            (memory_failed n q read left before after r r' w w' text is_text begins put
+            (then_lost read mid left _ said reads.1) (reads.2 ∙ counted) fine)
         reading_failed f (inr (inl reads)) =
             subst (Fails left before after r r' w w') (sym reads.0)
-            (reader_failed n q read left before after r r' w w' text is_text begins put (then_lost read mid left _ said reads.1) (reads.2 ∙ ap one_more counted) fine)
+            (reader_failed n q read left before after r r' w w' text is_text begins put
+            (then_lost read mid left _ said reads.1) (reads.2 ∙ ap one_more counted) fine)
         reading_failed f (inr (inr reads)) =
             subst (Fails left before after r r' w w') (sym reads.1)
-            (content_cut n q read left before after r r' w w' text is_text begins laws reads.0 (reads.4 sized) put (content_has reads.0 left reads.2) allowed_by (reads.3 ∙ counted) fine)
+            (content_cut n q read left before after r r' w w' text is_text begins laws reads.0 (reads.4 sized) put
+            (content_has reads.0 left reads.2) allowed_by (reads.3 ∙ counted) fine)
 
       -- the content failed behind the header
-      module _ (left before after : Option (List ℕ)) (r r1 r' w w' : ℕ) (counted : r1 ≡ r) (written : Appends before after (file_header e.rate x.outputs (e.periods * x.made))) (fine : w' ≡ w) where
-        pub content_failed_ahead : (f : Fault) → ReadsContent c mid left r1 r' (Err f) → Fails left before after r r' w w' f
-        content_failed_ahead f reads = reading_failed text is_text begins left before after r r1 r' w w' counted (subst (Appends before after) header_same written) fine f reads
+      module _ (left before after : Option (List ℕ)) (r r1 r' w w' : ℕ) (counted : r1 ≡ r)
+          (written : Appends before after (file_header e.rate x.outputs (e.periods * x.made))) (fine : w' ≡ w) where
+        pub content_failed_ahead : (f : Fault) → ReadsContent c mid left r1 r' (Err f) →
+            Fails left before after r r' w w' f
+        content_failed_ahead f reads = reading_failed text is_text begins left before after r r1 r' w w' counted
+            (subst (Appends before after) header_same written) fine f reads
 
         -- all was heard
-        pub heard_ahead : (s : Sound) (o : Owed) → ReadsContent c mid left r1 r' (Ok s) → o ≡ record { channels = x.outputs; missing = e.periods * x.made; spent = false } →
+        pub heard_ahead : (s : Sound) (o : Owed) → ReadsContent c mid left r1 r' (Ok s) →
+            o ≡ record { channels = x.outputs; missing = e.periods * x.made; spent = false } →
             Hears (exchange_of n q) read left before after r r' w w' s e o
         heard_ahead s o reads owed =
             let a = announced_sound s reads.2 reads.3 (reads.4 sized) in
-            let here : IsExtent (exchange_of n q) (announced_by s) e = subst (λ (z : Announced). IsExtent (exchange_of n q) z e) (sym a) extent_of in
+            let here : IsExtent (exchange_of n q) (announced_by s) e =
+            subst (λ (z : Announced). IsExtent (exchange_of n q) z e) (sym a) extent_of in
             record {
               heard = record {
-                at = λ input known. let y = said.at input known in let z = reads.0.at y.0 y.1 in let h = z.2.0 input y.2.0 in (
-                  z.0,
-                  z.1,
-                  (
-                    record {
-                      reading = record c { gone = c.gone + 2 * length s.samples };
-                      read = h.read;
-                      ended = h.ended;
-                      rate = reads.2;
-                      channels = reads.3;
-                      announces = (reads.2, reads.3, inl (is ∙ sym (ap (λ (z : Announced). Some z.frames) a)));
-                    },
-                    lost_twice input y.0 z.0 y.2.1 z.2.1,
-                  ),
-                );
+                at = λ input known. let y = said.at input known in let z = reads.0.at y.0 y.1 in let h =
+                    z.2.0 input y.2.0 in (
+                      z.0,
+                      z.1,
+                      (
+                        record {
+                          reading = record c { gone = c.gone + 2 * length s.samples };
+                          read = h.read;
+                          ended = h.ended;
+                          rate = reads.2;
+                          channels = reads.3;
+                          announces = (reads.2, reads.3, inl (is ∙ sym (ap (λ (z : Announced). Some z.frames) a)));
+                        },
+                        lost_twice input y.0 z.0 y.2.1 z.2.1,
+                      ),
+                    );
               };
               allowed = allowed_by;
               extent = here;
-              header = subst (λ (z : Announced). Appends before after (output_header (exchange_of n q) z)) (sym a) (subst (Appends before after) (header_is x announced e extent ∙ ap (λ (z : Exchange). output_header z announced) same) written);
+              header = subst (λ (z : Announced). Appends before after (output_header (exchange_of n q) z)) (sym a)
+                  (subst (Appends before after) (header_is x announced e extent
+                  ∙ ap (λ (z : Exchange). output_header z announced) same) written);
               owed = owed_is x s e o same here owed;
               reader = reads.1 ∙ counted;
               writer = fine;
             }
 
       -- a run that reads and writes as it goes
-      module _ (left before begun after : Option (List ℕ)) (r r' w w1 w' : ℕ) (one : 1 ≤ c.channels) (written : Appends before begun (file_header e.rate x.outputs (e.periods * x.made))) (fine : w1 ≡ w) where
+      module _ (left before begun after : Option (List ℕ)) (r r' w w1 w' : ℕ) (one : 1 ≤ c.channels)
+          (written : Appends before begun (file_header e.rate x.outputs (e.periods * x.made))) (fine : w1 ≡ w) where
         begun_by : Appends before begun (output_header (exchange_of n q) announced)
-        begun_by = subst (Appends before begun) (header_is x announced e extent ∙ ap (λ (z : Exchange). output_header z announced) same) written
+        begun_by = subst (Appends before begun) (header_is x announced e extent
+            ∙ ap (λ (z : Exchange). output_header z announced) same) written
 
-        module _ (samples : List ℤ) (periods : ℕ) (bytes : List ℕ) (last : Option (List ℕ)) (st : IsStream n q c samples periods bytes) (reads : ReadsBy c samples mid last) where
-          here_read : (input : List ℕ) → read ≡ Some input → (rest : List ℕ) × (last ≡ Some rest) × IsReadTo input (record c { gone = c.gone + 2 * length samples }) samples rest
-          here_read input known = let y = said.at input known in let z = reads.at y.0 y.1 in (z.0, z.1, z.2.0 input y.2.0)
+        module _ (samples : List ℤ) (periods : ℕ) (bytes : List ℕ) (last : Option (List ℕ))
+            (st : IsStream n q c samples periods bytes) (reads : ReadsBy c samples mid last) where
+          here_read : (input : List ℕ) → read ≡ Some input →
+              (rest : List ℕ) × (last ≡ Some rest) × IsReadTo input
+              (record c { gone = c.gone + 2 * length samples }) samples rest
+          here_read input known = let y = said.at input known in let z = reads.at y.0 y.1 in
+              (z.0, z.1, z.2.0 input y.2.0)
 
-          are_read_of : (rest : List ℕ) → AreRead (exchange_of n q) (record c { gone = c.gone + 2 * length samples }) samples rest periods
+          are_read_of : (rest : List ℕ) → AreRead (exchange_of n q) (record c { gone = c.gone + 2 * length samples })
+              samples rest periods
           are_read_of rest = elim st.are_read [
             | inl less ↦ inl less
-            | inr y ↦ inr (inl (sized, (let z : c.gone + 2 * length samples ≡ c.size = omega (arith, gone, y.0) in z)), y.1)
+            | inr y ↦ inr (
+              inl (
+                sized,
+                (let z : c.gone + 2 * length samples ≡ c.size =
+                    omega (arith, gone, y.0) in z),
+              ),
+              y.1,
+            )
           ]
 
-          text_so_far : (input : List ℕ) → read ≡ Some input → IsText n q input (output_header (exchange_of n q) announced ++ bytes)
+          text_so_far : (input : List ℕ) → read ≡ Some input →
+              IsText n q input (output_header (exchange_of n q) announced ++ bytes)
           text_so_far input known =
               let y = here_read input known in
               record {
@@ -272,44 +349,71 @@ module _ (laws : WavLaws) (n : Netlist Kit ℤ) (q : List ℕ) (x : Exchange) (s
               }
 
           frames_read : frames_of (sound_read c samples) ≤ frames
-          frames_read = subst (λ (k : ℕ). frames_of (sound_read c samples) ≤ k) (sym (frames_known c.size c.channels frames is).1) (fewer_frames (length samples) c.channels c.size one st.within)
+          frames_read = subst (λ (k : ℕ). frames_of (sound_read c samples) ≤ k)
+              (sym (frames_known c.size c.channels frames is).1)
+              (fewer_frames (length samples) c.channels c.size one st.within)
 
           few_periods : periods ≤ e.periods
           few_periods = subst (λ (k : ℕ). periods ≤ k) (sym extent_of.periods) (elim st.are_read [
-            | inl less ↦ periods_fit periods (exchange_of n q).taken frames limited.some_taken (omega (arith, less, frames_read))
-            | inr y ↦ omega (arith, y.1, fewer_periods (frames_of (sound_read c samples)) frames (exchange_of n q).taken limited.some_taken frames_read)
+            | inl less ↦ periods_fit periods (exchange_of n q).taken frames limited.some_taken
+                (omega (arith, less, frames_read))
+            | inr y ↦ omega (
+              arith,
+              y.1,
+              fewer_periods (frames_of (sound_read c samples)) frames (exchange_of n q).taken
+                  limited.some_taken frames_read,
+            )
           ])
 
           begins_so_far : Begins (output_header (exchange_of n q) announced ++ bytes)
-          begins_so_far = text_begins laws n q announced e limited extent_of (sound_read c samples) periods bytes few_periods st.are_frames
+          begins_so_far = text_begins laws n q announced e limited extent_of (sound_read c samples) periods bytes
+              few_periods st.are_frames
 
-          pub stream_stopped : (f : Fault) → (((f ≡ Write) × (last ≡ left) × AppendsFront begun after bytes × (r' ≡ r) × (w' ≡ one_more w1)) ⊎ (ReadsContent c mid left r r' (Err f) × Appends begun after bytes × (w' ≡ w1))) →
+          pub stream_stopped : (f : Fault) → (((f ≡ Write) × (last ≡ left) × AppendsFront begun after bytes × (r' ≡ r)
+              × (w' ≡ one_more w1)) ⊎ (ReadsContent c mid left r r' (Err f) × Appends begun after bytes
+              × (w' ≡ w1))) →
               Fails left before after r r' w w' f
           stream_stopped f (inl (is_write, here, front, counted, failed)) =
               subst (Fails left before after r r' w w') (sym is_write)
-              (writer_failed n q read left before after r r' w w' (output_header (exchange_of n q) announced ++ bytes) text_so_far begins_so_far
+              (writer_failed n q read left before after r r' w w' (output_header (exchange_of n q) announced ++ bytes)
+              text_so_far begins_so_far
               (front_join before begun after (output_header (exchange_of n q) announced) bytes begun_by front)
-              (record { at = λ input known. let y = here_read input known in (y.0, sym here ∙ y.1, (record c { gone = c.gone + 2 * length samples }, samples, y.2)) }) counted (failed ∙ ap one_more fine))
+              (record {
+                at = λ input known. let y = here_read input known in
+                    (y.0, sym here ∙ y.1, (record c { gone = c.gone + 2 * length samples }, samples, y.2));
+              }) counted
+              (failed ∙ ap one_more fine))
           stream_stopped f (inr (failed, all, same_count)) =
-              reading_failed (output_header (exchange_of n q) announced ++ bytes) text_so_far begins_so_far left before after r r r' w w' refl
-              (appends_join before begun after (output_header (exchange_of n q) announced) bytes begun_by all) (same_count ∙ fine) f failed
+              reading_failed (output_header (exchange_of n q) announced ++ bytes) text_so_far begins_so_far left before
+              after r r r' w w' refl
+              (appends_join before begun after (output_header (exchange_of n q) announced) bytes begun_by all)
+              (same_count ∙ fine) f failed
 
   -- ---- the size of the data was not filled in
 
   module _ (is : known_frames c ≡ None) where
     unsized : (input : List ℕ) → read ≡ Some input → IsUnsized input
-    unsized input known f size rest o = sym (ap (λ (z : Reading). z.size) (same_start input f size rest known o)) ∙ frames_unknown c.size c.channels is
+    unsized input known f size rest o = sym (ap (λ (z : Reading). z.size) (same_start input f size rest known o))
+        ∙ frames_unknown c.size c.channels is
 
-    pub content_failed_behind : (left held : Option (List ℕ)) (r r1 r' w : ℕ) (f : Fault) → r1 ≡ r → ReadsContent c mid left r1 r' (Err f) → Fails left held held r r' w w f
+    pub content_failed_behind : (left held : Option (List ℕ)) (r r1 r' w : ℕ) (f : Fault) → r1 ≡ r →
+        ReadsContent c mid left r1 r' (Err f) → Fails left held held r r' w w f
     content_failed_behind left held r r1 r' w f counted (inl reads) =
-        subst (Fails left held held r r' w w) (sym reads.0) (unheard_by_memory laws n q read left held r r' w unsized (then_lost read mid left _ said reads.1) (reads.2 ∙ counted))
+        subst (Fails left held held r r' w w) (sym reads.0)
+        (unheard_by_memory laws n q read left held r r' w unsized (then_lost read mid left _ said reads.1)
+        (reads.2 ∙ counted))
     content_failed_behind left held r r1 r' w f counted (inr (inl reads)) =
-        subst (Fails left held held r r' w w) (sym reads.0) (unheard_by_reader laws n q read left held r r' w unsized (then_lost read mid left _ said reads.1) (reads.2 ∙ ap one_more counted))
+        subst (Fails left held held r r' w w) (sym reads.0)
+        (unheard_by_reader laws n q read left held r r' w unsized (then_lost read mid left _ said reads.1)
+        (reads.2 ∙ ap one_more counted))
     content_failed_behind left held r r1 r' w f counted (inr (inr reads)) =
-        subst (Fails left held held r r' w w) (sym reads.1) (unheard_by_fault laws n q read left held r r' w unsized reads.0 (content_has reads.0 left reads.2) (reads.3 ∙ counted))
+        subst (Fails left held held r r' w w) (sym reads.1)
+        (unheard_by_fault laws n q read left held r r' w unsized reads.0 (content_has reads.0 left reads.2)
+        (reads.3 ∙ counted))
 
     -- the sound was heard, and its output is not begun
-    module _ (left : Option (List ℕ)) (r r1 r' : ℕ) (counted : r1 ≡ r) (s : Sound) (reads : ReadsContent c mid left r1 r' (Ok s)) where
+    module _ (left : Option (List ℕ)) (r r1 r' : ℕ) (counted : r1 ≡ r) (s : Sound)
+        (reads : ReadsContent c mid left r1 r' (Ok s)) where
       heard_whole : Known read left (λ input rest. IsHeard input s rest × LosesFront input rest)
       heard_whole = record {
         at = λ input known. let y = said.at input known in let z = reads.0.at y.0 y.1 in let h = z.2.0 input y.2.0 in (
@@ -351,10 +455,12 @@ module _ (laws : WavLaws) (n : Netlist Kit ℤ) (q : List ℕ) (x : Exchange) (s
       is_wav : (input : List ℕ) (known : read ≡ Some input) → (rest : List ℕ) × IsWav input s rest
       is_wav input known = let y = heard_whole.at input known in (y.0, wav_of_heard laws input s y.0 y.2.0)
 
-      pub refused_behind : (held : Option (List ℕ)) (w : ℕ) (g : Fault) → announced_fault x (announced_by s) ≡ Some g → Fails left held held r r' w w g
+      pub refused_behind : (held : Option (List ℕ)) (w : ℕ) (g : Fault) → announced_fault x (announced_by s) ≡ Some g →
+          Fails left held held r r' w w g
       refused_behind held w g why =
           refused n q read left held r r' w (announced_by s) at_end (reads.1 ∙ counted)
-          (λ input t rest known wav. let y = is_wav input known in ap announced_by (laws.one_sound input t s rest y.0 wav y.1).0)
+          (λ input t rest known wav. let y = is_wav input known in
+          ap announced_by (laws.one_sound input t s rest y.0 wav y.1).0)
           (λ input f size rest known o filled. absurd (filled (unsized input known f size rest o)))
           g (ap (λ (z : Exchange). announced_fault z (announced_by s)) (sym same) ∙ why)
           (λ input f known has allowed. let y = is_wav input known in laws.not_both input s y.0 f y.1 has)
@@ -366,8 +472,10 @@ module _ (laws : WavLaws) (n : Netlist Kit ℤ) (q : List ℕ) (x : Exchange) (s
         abbrev text_behind : List ℕ
         text_behind = output_header (exchange_of n q) (announced_by s) ++ []
 
-        header_behind : file_header e.rate x.outputs (e.periods * x.made) ≡ output_header (exchange_of n q) (announced_by s)
-        header_behind = header_is x (announced_by s) e extent ∙ ap (λ (z : Exchange). output_header z (announced_by s)) same
+        header_behind : file_header e.rate x.outputs (e.periods * x.made) ≡
+            output_header (exchange_of n q) (announced_by s)
+        header_behind = header_is x (announced_by s) e extent
+            ∙ ap (λ (z : Exchange). output_header z (announced_by s)) same
 
         is_text_behind : (input : List ℕ) → read ≡ Some input → IsText n q input text_behind
         is_text_behind input known =
@@ -387,16 +495,24 @@ module _ (laws : WavLaws) (n : Netlist Kit ℤ) (q : List ℕ) (x : Exchange) (s
               text_is = refl;
             }
 
-        pub header_failed_behind : (before after : Option (List ℕ)) (w w' : ℕ) (f : Fault) → PutsHeader {X = Unit {0}} before after w w' (file_header e.rate x.outputs (e.periods * x.made)) (Err f) → Fails left before after r r' w w' f
+        pub header_failed_behind : (before after : Option (List ℕ)) (w w' : ℕ) (f : Fault) →
+            PutsHeader {X = Unit {0}} before after w w' (file_header e.rate x.outputs (e.periods * x.made)) (Err f) →
+            Fails left before after r r' w w' f
         header_failed_behind before after w w' f puts =
             subst (Fails left before after r r' w w') (sym puts.0)
             (writer_failed n q read left before after r r' w w' text_behind is_text_behind
             (text_begins laws n q (announced_by s) e limited extent_behind s 0 [] (omega arith) (inl (refl, refl)))
-            (subst (AppendsFront before after) (header_behind ∙ sym (append-nil (output_header (exchange_of n q) (announced_by s)))) puts.1)
-            (record { at = λ input known. let y = heard_whole.at input known in (y.0, y.1, (y.2.0.reading, s.samples, y.2.0.read)) }) (reads.1 ∙ counted) puts.2)
+            (subst (AppendsFront before after) (header_behind
+            ∙ sym (append-nil (output_header (exchange_of n q) (announced_by s)))) puts.1)
+            (record {
+              at = λ input known. let y = heard_whole.at input known in
+                  (y.0, y.1, (y.2.0.reading, s.samples, y.2.0.read));
+            }) (reads.1 ∙ counted) puts.2)
 
-        pub heard_behind : (before after : Option (List ℕ)) (w w' : ℕ) (o : Owed) → Appends before after (file_header e.rate x.outputs (e.periods * x.made)) → w' ≡ w →
-            o ≡ record { channels = x.outputs; missing = e.periods * x.made; spent = false } → Hears (exchange_of n q) read left before after r r' w w' s e o
+        pub heard_behind : (before after : Option (List ℕ)) (w w' : ℕ) (o : Owed) →
+            Appends before after (file_header e.rate x.outputs (e.periods * x.made)) → w' ≡ w →
+            o ≡ record { channels = x.outputs; missing = e.periods * x.made; spent = false } →
+            Hears (exchange_of n q) read left before after r r' w w' s e o
         heard_behind before after w w' o written fine owed = record {
           heard = heard_whole;
           allowed = λ input known f size rest opens filled. absurd (filled (unsized input known f size rest opens));

@@ -1,5 +1,6 @@
 -- What is common to all answers of a run.
-use Rattle.std.proofs.Common.{◌≡◌, ◌⊎◌, inl, inr, ℕ, ◌+◌, ◌*◌, ◌%◌, nat_lt, eqb, not, true, false, Bool, List, ◌++◌, Option, Some, None, Err, refl, sym, ap, ◌∙◌, append_assoc}
+use Rattle.std.proofs.Common.{◌≡◌, ◌⊎◌, inl, inr, ℕ, ◌+◌, ◌*◌, ◌%◌, nat_lt, eqb, not, true, false, Bool, List, ◌++◌}
+use Rattle.std.proofs.Common.{Option, Some, None, Err, refl, sym, ap, ◌∙◌, append_assoc}
 use Rattle.std.specs.Prelude.{if◌then◌else◌, option_map, drop}
 use Rattle.std.specs.Io.KnownBytes.{Appends, Keeps}
 use Rattle.std.proofs.lemmas.List.{drop-drop}
@@ -26,7 +27,8 @@ appends_join (Some l) None c x y p q = absurd p
 appends_join (Some l) (Some m) None x y p q = absurd q
 appends_join (Some l) (Some m) (Some z) x y p q = q ∙ (ap (λ v. v ++ y) p ∙ append_assoc l x y)
 
-pub front_join : (a b c : Option (List ℕ)) (x y : List ℕ) → Appends a b x → AppendsFront b c y → AppendsFront a c (x ++ y)
+pub front_join : (a b c : Option (List ℕ)) (x y : List ℕ) → Appends a b x → AppendsFront b c y →
+    AppendsFront a c (x ++ y)
 front_join a b c x y p f = record {
   front = x ++ f.front;
   rest = f.rest;
@@ -59,7 +61,8 @@ abbrev pub IsOfOutput : Fault → Type 0
 IsOfOutput e = (e ≡ fault.ChannelsMissing) ⊎ ((e ≡ fault.RateNotWhole) ⊎ ((g : FormatFault) × (e ≡ fault.Wav g)))
 
 of_output : (b c : Bool) (o : Option FormatFault) (e : Fault) →
-    (if b then Some fault.ChannelsMissing else (if c then Some fault.RateNotWhole else option_map fault.Wav o)) ≡ Some e → IsOfOutput e
+    (if b then Some fault.ChannelsMissing else (if c then Some fault.RateNotWhole else option_map fault.Wav o)) ≡
+    Some e → IsOfOutput e
 of_output true c o e is = inl (let same : Some fault.ChannelsMissing ≡ Some e = is in cc)
 of_output false true o e is = inr (inl (let same : Some fault.RateNotWhole ≡ Some e = is in cc))
 of_output false false (Some g) e is = inr (inr (g, let same : Some (fault.Wav g) ≡ Some e = is in cc))
@@ -67,7 +70,8 @@ of_output false false None e is = absurd (let none : None ≡ Some e = is in cc)
 
 pub fault_of_announced : (x : Exchange) (a : Announced) (e : Fault) → announced_fault x a ≡ Some e → IsOfOutput e
 fault_of_announced x a e is =
-    of_output (nat_lt a.channels x.inputs) (not (eqb (a.rate * x.made % x.taken) 0)) (size_fault (rate_for x a.rate) x.outputs (frames_for x a.frames * x.outputs)) e is
+    of_output (nat_lt a.channels x.inputs) (not (eqb (a.rate * x.made % x.taken) 0))
+    (size_fault (rate_for x a.rate) x.outputs (frames_for x a.frames * x.outputs)) e is
 
 -- a fault from outside fits any answer
 pub refuses_outside : (o : Option Fault) (f : Fault) → IsFromOutside f → Refuses o (Err f)

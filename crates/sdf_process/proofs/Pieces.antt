@@ -1,5 +1,7 @@
 -- Frames that are written some at a time.
-use Rattle.std.proofs.Common.{◌≡◌, inl, inr, ℕ, zero, suc, ◌+◌, ◌-◌, ◌*◌, ◌/◌, ◌%◌, ◌≤◌, ◌<◌, ℤ, List, [], ◌++◌, map, take, Option, Some, None, append-nil, Result, Ok, Err, refl, sym, ap, ◌∙◌, subst, arith, append_assoc}
+use Rattle.std.proofs.Common.{◌≡◌, inl, inr, ℕ, zero, suc, ◌+◌, ◌-◌, ◌*◌, ◌/◌, ◌%◌, ◌≤◌, ◌<◌, ℤ, List, [], ◌++◌, map}
+use Rattle.std.proofs.Common.{take, Option, Some, None, append-nil, Result, Ok, Err, refl, sym, ap, ◌∙◌, subst, arith}
+use Rattle.std.proofs.Common.{append_assoc}
 use Rattle.std.specs.Prelude.{IsErrAnd}
 use Rattle.std.specs.List.{range_with_len}
 use Rattle.std.specs.Io.KnownBytes.{Appends, Keeps}
@@ -24,7 +26,8 @@ use Rattle.sdf_process.proofs.Outcomes.{front_join, keeps_same}
 use Rattle.sdf_process.proofs.Texts.{bytes_append}
 
 -- frames from two places on, one behind the other
-pub frames_joined : (xs : List (List ℤ)) (a n m : ℕ) → interleaved_from a n xs ++ interleaved_from (a + n) m xs ≡ interleaved_from a (n + m) xs
+pub frames_joined : (xs : List (List ℤ)) (a n m : ℕ) →
+    interleaved_from a n xs ++ interleaved_from (a + n) m xs ≡ interleaved_from a (n + m) xs
 frames_joined xs a zero m =
     let here : a + zero ≡ a = omega arith in
     let all : m ≡ zero + m = omega arith in
@@ -32,8 +35,10 @@ frames_joined xs a zero m =
 frames_joined xs a (suc n) m =
     let past : a + suc n ≡ a + 1 + n = omega arith in
     let all : suc (n + m) ≡ suc n + m = omega arith in
-    let next : interleaved_from (a + suc n) m xs ≡ interleaved_from (a + 1 + n) m xs = ap (λ (k : ℕ). interleaved_from k m xs) past in
-    let end : interleaved_from a (suc (n + m)) xs ≡ interleaved_from a (suc n + m) xs = ap (λ (k : ℕ). interleaved_from a k xs) all in
+    let next : interleaved_from (a + suc n) m xs ≡ interleaved_from (a + 1 + n) m xs =
+    ap (λ (k : ℕ). interleaved_from k m xs) past in
+    let end : interleaved_from a (suc (n + m)) xs ≡ interleaved_from a (suc n + m) xs =
+    ap (λ (k : ℕ). interleaved_from a k xs) all in
     ap (λ (l : List ℤ). l ++ interleaved_from (a + suc n) m xs) (flat_map-cons (frame xs) a (range_with_len (a + 1) n))
     ∙ (append_assoc (frame xs a) (interleaved_from (a + 1) n xs) (interleaved_from (a + suc n) m xs)
     ∙ (ap (λ (l : List ℤ). frame xs a ++ (interleaved_from (a + 1) n xs ++ l)) next
@@ -41,25 +46,32 @@ frames_joined xs a (suc n) m =
     ∙ (sym (flat_map-cons (frame xs) a (range_with_len (a + 1) (n + m))) ∙ end))))
 
 -- so are the first ones and those behind
-pub frames_on : (xs : List (List ℤ)) (at end : ℕ) → at ≤ end → interleaved at xs ++ interleaved_from at (end - at) xs ≡ interleaved end xs
+pub frames_on : (xs : List (List ℤ)) (at end : ℕ) → at ≤ end →
+    interleaved at xs ++ interleaved_from at (end - at) xs ≡ interleaved end xs
 frames_on xs at end less =
     let here : at ≡ 0 + at = omega arith in
     let all : at + (end - at) ≡ end = omega arith in
-    ap (λ (k : ℕ). interleaved at xs ++ interleaved_from k (end - at) xs) here ∙ (frames_joined xs 0 at (end - at) ∙ ap (λ (k : ℕ). interleaved k xs) all)
+    ap (λ (k : ℕ). interleaved at xs ++ interleaved_from k (end - at) xs) here
+    ∙ (frames_joined xs 0 at (end - at) ∙ ap (λ (k : ℕ). interleaved k xs) all)
 
-module _ (joins : SamplesJoin) (a b c : Option (List ℕ)) (w w1 w2 : ℕ) (xs : List (List ℤ)) (frames at end : ℕ) (less : at ≤ end) (within : end ≤ frames)
+module _ (joins : SamplesJoin) (a b c : Option (List ℕ)) (w w1 w2 : ℕ) (xs : List (List ℤ)) (frames at end : ℕ)
+    (less : at ≤ end) (within : end ≤ frames)
     (before : Appends a b (sample_bytes (interleaved at xs))) (counted : w1 ≡ w) where
   -- the writer failed among the next ones
-  pub put_failed : {X : Type 0} (e : WavFault) (r : Result X Fault) → Puts {X = Unit {0}} b c (sample_bytes (interleaved_from at (end - at) xs)) (Err e) → w2 ≡ failures_after {X = Unit {0}} (Err e) w1 →
+  pub put_failed : {X : Type 0} (e : WavFault) (r : Result X Fault) →
+      Puts {X = Unit {0}} b c (sample_bytes (interleaved_from at (end - at) xs)) (Err e) →
+      w2 ≡ failures_after {X = Unit {0}} (Err e) w1 →
       IsErrAnd r (λ f. f ≡ of_wav e) → PutsFrames a c w w2 (sample_bytes (interleaved frames xs)) r
   put_failed wav.Write (Err f) puts failed is =
       let more = sample_bytes (interleaved_from end (frames - end) xs) in
       let here = sample_bytes (interleaved_from at (end - at) xs) in
       let f = front_join a b c (sample_bytes (interleaved at xs)) here before puts in
       let split : sample_bytes (interleaved at xs) ++ here ≡ sample_bytes (interleaved end xs) =
-      sym (bytes_append joins (interleaved at xs) (interleaved_from at (end - at) xs)) ∙ ap sample_bytes (frames_on xs at end less) in
+      sym (bytes_append joins (interleaved at xs) (interleaved_from at (end - at) xs))
+      ∙ ap sample_bytes (frames_on xs at end less) in
       let all : sample_bytes (interleaved end xs) ++ more ≡ sample_bytes (interleaved frames xs) =
-      sym (bytes_append joins (interleaved end xs) (interleaved_from end (frames - end) xs)) ∙ ap sample_bytes (frames_on xs end frames within) in
+      sym (bytes_append joins (interleaved end xs) (interleaved_from end (frames - end) xs))
+      ∙ ap sample_bytes (frames_on xs end frames within) in
       inl (
         is,
         record {
@@ -77,19 +89,25 @@ module _ (joins : SamplesJoin) (a b c : Option (List ℕ)) (w w1 w2 : ℕ) (xs :
 
 -- whole frames of n channels
 pub whole_frames : (n k samples channels : ℕ) → samples ≡ n * k → channels ≡ k → samples % channels ≡ 0
-whole_frames n k samples channels is same = ap (λ (z : ℕ). z % channels) (is ∙ ap (λ (z : ℕ). n * z) (sym same)) ∙ mul-mod_left n channels
+whole_frames n k samples channels is same = ap (λ (z : ℕ). z % channels) (is ∙ ap (λ (z : ℕ). n * z) (sym same))
+    ∙ mul-mod_left n channels
 
 pub fewer_missing : (n k m samples channels : ℕ) → samples ≡ n * k → channels ≡ k → n ≤ m → samples ≤ m * channels
 fewer_missing n k m samples channels is same less =
     subst (λ (z : ℕ). samples ≤ m * z) (sym same) (subst (λ (z : ℕ). z ≤ m * k) (sym is) (mul-le-mul_right k less))
 
 -- what is owed behind so many frames
-pub owed_on : (o p : Owed) (at end k samples : ℕ) → p ≡ record o { missing = o.missing - at } → samples ≡ (end - at) * k → o.channels ≡ k → 1 ≤ k → at ≤ end →
+pub owed_on : (o p : Owed) (at end k samples : ℕ) → p ≡ record o { missing = o.missing - at } →
+    samples ≡ (end - at) * k → o.channels ≡ k → 1 ≤ k → at ≤ end →
     record p { missing = p.missing - samples / p.channels } ≡ record o { missing = o.missing - end }
 owed_on o p at end k samples is count same some less =
-    let here : samples / o.channels ≡ end - at = ap (λ (z : ℕ). samples / z) same ∙ (ap (λ (z : ℕ). z / k) count ∙ mul-div_cancel (end - at) some) in
-    let left : o.missing - at - samples / o.channels ≡ o.missing - end = ap (λ (z : ℕ). o.missing - at - z) here ∙ (let e : o.missing - at - (end - at) ≡ o.missing - end = omega arith in e) in
-    ap (λ (z : Owed). record z { missing = z.missing - samples / z.channels }) is ∙ ap (λ (m : ℕ). record o { missing = m }) left
+    let here : samples / o.channels ≡ end - at = ap (λ (z : ℕ). samples / z) same
+    ∙ (ap (λ (z : ℕ). z / k) count ∙ mul-div_cancel (end - at) some) in
+    let left : o.missing - at - samples / o.channels ≡ o.missing - end =
+    ap (λ (z : ℕ). o.missing - at - z) here ∙ (let e : o.missing - at - (end - at) ≡ o.missing - end =
+    omega arith in e) in
+    ap (λ (z : Owed). record z { missing = z.missing - samples / z.channels }) is
+    ∙ ap (λ (m : ℕ). record o { missing = m }) left
 
 -- ---- what the last stage wrote
 
@@ -99,29 +117,52 @@ appends_none (Some x) None p = absurd p
 appends_none (Some x) (Some y) p = p ∙ sym (append-nil x)
 
 -- the lists were not made
-pub unrun : (n : Netlist Kit ℤ) (q : List ℕ) (s : Sound) (held : Option (List ℕ)) (w : ℕ) (e : Fault) (r : Result (Unit {0}) Fault) → e ≡ OutOfMemory → IsErrAnd r (λ f. f ≡ e) → PutsOutput n q s held held w w r
-unrun n q s held w e (Err f) memory is = (0, [], omega arith, inl (refl, refl), inr (is ∙ memory, appends_none held held (keeps_same held), refl))
+pub unrun : (n : Netlist Kit ℤ) (q : List ℕ) (s : Sound) (held : Option (List ℕ)) (w : ℕ) (e : Fault)
+    (r : Result (Unit {0}) Fault) → e ≡ OutOfMemory → IsErrAnd r (λ f. f ≡ e) → PutsOutput n q s held held w w r
+unrun n q s held w e (Err f) memory is = (
+  0,
+  [],
+  omega arith,
+  inl (refl, refl),
+  inr (is ∙ memory, appends_none held held (keeps_same held), refl),
+)
 unrun n q s held w e (Ok x) memory is = absurd is
 
 -- they were made and written
-pub puts_output : (n : Netlist Kit ℤ) (q : List ℕ) (s : Sound) (lists : List (List ℤ)) (frames : ℕ) → frames ≡ output_frames (exchange_of n q) s → BeginWithOutput n q s lists →
-    (before after : Option (List ℕ)) (w w' : ℕ) (r : Result (Unit {0}) Fault) → PutsFrames before after w w' (sample_bytes (interleaved frames lists)) r → PutsOutput n q s before after w w' r
+pub puts_output : (n : Netlist Kit ℤ) (q : List ℕ) (s : Sound) (lists : List (List ℤ)) (frames : ℕ) →
+    frames ≡ output_frames (exchange_of n q) s → BeginWithOutput n q s lists →
+    (before after : Option (List ℕ)) (w w' : ℕ) (r : Result (Unit {0}) Fault) →
+    PutsFrames before after w w' (sample_bytes (interleaved frames lists)) r → PutsOutput n q s before after w w' r
 puts_output n q s lists frames all begins before after w w' r puts = go r puts
   where
     cut : List (List ℤ)
     cut = map (take (output_frames (exchange_of n q) s)) lists
 
     same : sample_bytes (interleaved frames lists) ≡ sample_bytes (interleaved (output_frames (exchange_of n q) s) cut)
-    same = ap (λ (k : ℕ). sample_bytes (interleaved k lists)) all ∙ ap sample_bytes (sym (interleaved_cut lists (output_frames (exchange_of n q) s)))
+    same = ap (λ (k : ℕ). sample_bytes (interleaved k lists)) all
+        ∙ ap sample_bytes (sym (interleaved_cut lists (output_frames (exchange_of n q) s)))
 
-    go : (r : Result (Unit {0}) Fault) → PutsFrames before after w w' (sample_bytes (interleaved frames lists)) r → PutsOutput n q s before after w w' r
+    go : (r : Result (Unit {0}) Fault) → PutsFrames before after w w' (sample_bytes (interleaved frames lists)) r →
+        PutsOutput n q s before after w w' r
     go (Ok x) (written, fine) = (cut, begins, subst (Appends before after) same written, fine)
-    go (Err f) (inl (is, front, failed)) =
-        (periods_of (exchange_of n q) s, sample_bytes (interleaved frames lists), omega arith, inr (cut, begins, same), inl (is, front, failed))
-    go (Err f) (inr (is, kept, fine)) = (0, [], omega arith, inl (refl, refl), inr (is, appends_none before after kept, fine))
+    go (Err f) (inl (is, front, failed)) = (
+      periods_of (exchange_of n q) s,
+      sample_bytes (interleaved frames lists),
+      omega arith,
+      inr (cut, begins, same),
+      inl (is, front, failed),
+    )
+    go (Err f) (inr (is, kept, fine)) = (
+      0,
+      [],
+      omega arith,
+      inl (refl, refl),
+      inr (is, appends_none before after kept, fine),
+    )
 
 -- a failed run
-pub run_fails : (P : Result (Unit {0}) Fault → Type 0) (f : Fault) (r : Result (Unit {0}) Fault) → IsErrAnd r (λ e. e ≡ f) → P (Err f) → P r
+pub run_fails : (P : Result (Unit {0}) Fault → Type 0) (f : Fault) (r : Result (Unit {0}) Fault) →
+    IsErrAnd r (λ e. e ≡ f) → P (Err f) → P r
 run_fails P f (Err e) is p = subst (λ (z : Fault). P (Err z)) (sym is) p
 run_fails P f (Ok x) is p = absurd is
 

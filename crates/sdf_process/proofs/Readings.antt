@@ -1,5 +1,6 @@
 -- A content that is read on.
-use Rattle.std.proofs.Common.{◌≡◌, ◌≢◌, inl, inr, ℕ, ◌+◌, ◌*◌, ◌≤◌, ℤ, List, [], ◌++◌, length, Option, Result, Ok, Err, MatchResult, sym, ap, ◌∙◌, subst, arith}
+use Rattle.std.proofs.Common.{◌≡◌, ◌≢◌, inl, inr, ℕ, ◌+◌, ◌*◌, ◌≤◌, ℤ, List, [], ◌++◌, length, Option, Result, Ok, Err}
+use Rattle.std.proofs.Common.{MatchResult, sym, ap, ◌∙◌, subst, arith}
 use Rattle.std.specs.Prelude.{IsErrAnd}
 use Rattle.std.proofs.lemmas.List.{length-append}
 use Rattle.sdf_wav.specs.Device.{Known, LosesFront, failures_after, one_more}
@@ -15,22 +16,31 @@ use Rattle.sdf_process.specs.Stages.{ReadsContent}
 use Rattle.sdf_process.specs.Streams.{ReadsBy, ReadsMore}
 use Rattle.sdf_process.proofs.Outcomes.{lost_twice}
 
-module _ (c now : Reading) (before : List ℤ) (here : now ≡ record c { gone = c.gone + 2 * length before }) (frames : ℕ) (old mid new : Option (List ℕ)) (r r1 r2 : ℕ) (reads : ReadsBy c before old mid) (counted : r1 ≡ r) where
+module _ (c now : Reading) (before : List ℤ) (here : now ≡ record c { gone = c.gone + 2 * length before }) (frames : ℕ)
+    (old mid new : Option (List ℕ)) (r r1 r2 : ℕ) (reads : ReadsBy c before old mid) (counted : r1 ≡ r) where
   both_lost : Known mid new LosesFront → Known old new LosesFront
-  both_lost lost = record { at = λ bytes known. let y = reads.at bytes known in let z = lost.at y.0 y.1 in (z.0, z.1, lost_twice bytes y.0 z.0 y.2.1 z.2) }
+  both_lost lost = record {
+    at = λ bytes known. let y = reads.at bytes known in let z = lost.at y.0 y.1 in
+        (z.0, z.1, lost_twice bytes y.0 z.0 y.2.1 z.2);
+  }
 
-  stood_there : (input bytes left : List ℕ) → IsReadTo input (record c { gone = c.gone + 2 * length before }) before left → IsReadTo input now before left
+  stood_there : (input bytes left : List ℕ) → IsReadTo input (record c { gone = c.gone + 2 * length before }) before
+      left → IsReadTo input now before left
   stood_there input bytes left is = subst (λ (y : Reading). IsReadTo input y before left) (sym here) is
 
   -- memory was refused behind it
-  pub more_refused : {Y : Type 0} (e : Fault) (x : Result Y Fault) (P : Y → Type 0) → e ≡ OutOfMemory → Known mid new LosesFront → r2 ≡ r1 → IsErrAnd x (λ f. f ≡ e) → MatchResult x P (λ f. ReadsContent c old new r r2 (Err f))
+  pub more_refused : {Y : Type 0} (e : Fault) (x : Result Y Fault) (P : Y → Type 0) → e ≡ OutOfMemory →
+      Known mid new LosesFront → r2 ≡ r1 → IsErrAnd x (λ f. f ≡ e) →
+      MatchResult x P (λ f. ReadsContent c old new r r2 (Err f))
   more_refused e (Err f) P memory lost same is = inl (is ∙ memory, both_lost lost, same ∙ counted)
   more_refused e (Ok y) P memory lost same is = absurd is
 
   -- it failed
   pub more_failed : {Y : Type 0} (e : WavFault) (x : Result Y Fault) (P : Y → Type 0) →
-      ((input : List ℕ) (d : Reading) (first : List ℤ) (bytes : List ℕ) (many : ℕ) (f : FormatFault) → IsReadTo input d first bytes → next_at d many bytes ≡ Err f → HasFault input f) →
-      AnswersBy {X = Unit {0}} {Y = List ℤ} (λ x. []) mid new (next_at now frames) (Err e) → r2 ≡ failures_after {X = Unit {0}} (Err e) r1 → IsSizedFault e → IsErrAnd x (λ f. f ≡ of_wav e) →
+      ((input : List ℕ) (d : Reading) (first : List ℤ) (bytes : List ℕ) (many : ℕ) (f : FormatFault) →
+      IsReadTo input d first bytes → next_at d many bytes ≡ Err f → HasFault input f) →
+      AnswersBy {X = Unit {0}} {Y = List ℤ} (λ x. []) mid new (next_at now frames) (Err e) →
+      r2 ≡ failures_after {X = Unit {0}} (Err e) r1 → IsSizedFault e → IsErrAnd x (λ f. f ≡ of_wav e) →
       MatchResult x P (λ f. ReadsContent c old new r r2 (Err f))
   more_failed wav.OutOfMemory (Err f) P falls said same cut is = inl (is, both_lost said, same ∙ counted)
   more_failed wav.Read (Err f) P falls said same cut is = inr (inl (is, both_lost said, same ∙ ap one_more counted))
@@ -38,8 +48,15 @@ module _ (c now : Reading) (before : List ℤ) (here : now ≡ record c { gone =
     g,
     is,
     record {
-      at = λ bytes known. let y = reads.at bytes known in let z = said.at y.0 y.1 in
-          (z.0, z.1, ((λ input q. falls input now before y.0 frames g (stood_there input bytes y.0 (y.2.0 input q)) z.2.0), lost_twice bytes y.0 z.0 y.2.1 z.2.1));
+      at = λ bytes known. let y = reads.at bytes known in let z = said.at y.0 y.1 in (
+        z.0,
+        z.1,
+        (
+          (λ input q. falls input now before y.0 frames g (stood_there input bytes y.0 (y.2.0 input q))
+              z.2.0),
+          lost_twice bytes y.0 z.0 y.2.1 z.2.1,
+        ),
+      );
     },
     same ∙ counted,
     λ known. cut,
@@ -48,10 +65,15 @@ module _ (c now : Reading) (before : List ℤ) (here : now ≡ record c { gone =
   more_failed e (Ok y) P falls said same cut is = absurd is
 
   -- some more was read
-  pub more_read : ((input : List ℕ) (d : Reading) (first : List ℤ) (bytes : List ℕ) (many : ℕ) (samples : List ℤ) (rest : List ℕ) → IsReadTo input d first bytes
-      → next_at d many bytes ≡ Ok (samples, rest) → IsReadTo input (record d { gone = d.gone + 2 * length samples }) (first ++ samples) rest) →
-      (samples kept all : List ℤ) → Known mid new (λ input left. (next_at now frames input ≡ Ok (samples, left)) × LosesFront input left) → r2 ≡ r1 → IsPiece now frames (length samples) → now.size ≢ 0xFFFFFFFF →
-      now.gone + 2 * (frames * now.channels) ≤ now.size → (last : Reading) → last ≡ record now { gone = now.gone + 2 * length samples } → all ≡ kept ++ samples → ReadsMore c before frames kept old new r r2 last (Ok all)
+  pub more_read : ((input : List ℕ) (d : Reading) (first : List ℤ) (bytes : List ℕ) (many : ℕ) (samples : List ℤ)
+      (rest : List ℕ) → IsReadTo input d first bytes
+      → next_at d many bytes ≡ Ok (samples, rest) →
+      IsReadTo input (record d { gone = d.gone + 2 * length samples }) (first ++ samples) rest) →
+      (samples kept all : List ℤ) → Known mid new (λ input left. (next_at now frames input ≡ Ok (samples, left))
+      × LosesFront input left) → r2 ≡ r1 → IsPiece now frames (length samples) → now.size ≢ 0xFFFFFFFF →
+      now.gone + 2 * (frames * now.channels) ≤ now.size → (last : Reading) →
+      last ≡ record now { gone = now.gone + 2 * length samples } → all ≡ kept ++ samples →
+      ReadsMore c before frames kept old new r r2 last (Ok all)
   more_read on samples kept all said same piece sized enough last goes joined = (
     samples,
     joined,
@@ -61,7 +83,8 @@ module _ (c now : Reading) (before : List ℤ) (here : now ≡ record c { gone =
         z.0,
         z.1,
         (
-          (λ input q. subst (λ (d : Reading). IsReadTo input d (before ++ samples) z.0) there (on input now before y.0 frames samples z.0 (stood_there input bytes y.0 (y.2.0 input q)) z.2.0)),
+          (λ input q. subst (λ (d : Reading). IsReadTo input d (before ++ samples) z.0) there
+              (on input now before y.0 frames samples z.0 (stood_there input bytes y.0 (y.2.0 input q)) z.2.0)),
           lost_twice bytes y.0 z.0 y.2.1 z.2.1,
         ),
       );
@@ -73,6 +96,8 @@ module _ (c now : Reading) (before : List ℤ) (here : now ≡ record c { gone =
       count : length samples ≡ frames * now.channels
       count = omega (arith, piece.sized sized, enough)
 
-      there : record now { gone = now.gone + 2 * length samples } ≡ record c { gone = c.gone + 2 * length (before ++ samples) }
+      there : record now { gone = now.gone + 2 * length samples } ≡
+          record c { gone = c.gone + 2 * length (before ++ samples) }
       there = ap (λ (y : Reading). record y { gone = y.gone + 2 * length samples }) here
-          ∙ ap (λ (k : ℕ). record c { gone = k }) (let z : c.gone + 2 * length before + 2 * length samples ≡ c.gone + 2 * length (before ++ samples) = omega (arith, length-append before samples) in z)
+          ∙ ap (λ (k : ℕ). record c { gone = k }) (let z : c.gone + 2 * length before + 2 * length samples ≡
+          c.gone + 2 * length (before ++ samples) = omega (arith, length-append before samples) in z)

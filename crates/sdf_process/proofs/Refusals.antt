@@ -1,5 +1,6 @@
 -- The first stages of a run: what is known where one of them fails, and once all are done.
-use Rattle.std.proofs.Common.{append_assoc, ◌≡◌, ◌≢◌, inl, inr, ℕ, ℤ, List, [], ◌++◌, Option, Some, None, Result, Ok, Err, MatchResult, refl, sym, ap, ◌∙◌, subst}
+use Rattle.std.proofs.Common.{append_assoc, ◌≡◌, ◌≢◌, inl, inr, ℕ, ℤ, List, [], ◌++◌, Option, Some, None, Result, Ok}
+use Rattle.std.proofs.Common.{Err, MatchResult, refl, sym, ap, ◌∙◌, subst}
 use Rattle.std.specs.Prelude.{IsErrAnd}
 use Rattle.std.specs.Io.KnownBytes.{Appends}
 use Rattle.sdf_actor.specs.Nets.{Netlist}
@@ -17,15 +18,18 @@ use Rattle.sdf_wav.specs.declared.fault.WavFault.TheVariants as wav
 use Rattle.sdf_wav.specs.declared.format.Format.{Format}
 use Rattle.sdf_process.specs.declared.exchange.Announced.{Announced}
 use Rattle.sdf_process.specs.declared.fault.Fault.{Fault}
-use Rattle.sdf_process.specs.declared.fault.Fault.TheVariants.{OutOfMemory, Wav, Read, Write, ChannelsMissing, RateNotWhole}
+use Rattle.sdf_process.specs.declared.fault.Fault.TheVariants.{OutOfMemory, Wav, Read, Write, ChannelsMissing}
+use Rattle.sdf_process.specs.declared.fault.Fault.TheVariants.{RateNotWhole}
 use Rattle.sdf_process.specs.Faults.{of_wav}
 use Rattle.sdf_process.specs.Output.{announced_by, announced_fault, exchange_of, output_fault}
-use Rattle.sdf_process.specs.Run.{Announces, announced_size, HasOutputFault, Handles, IsAllowed, IsRun, IsText, IsUnsized, ReadsAnnounced, ReadsInto, Refuses, Runs, WritesFile, WritesSome}
+use Rattle.sdf_process.specs.Run.{Announces, announced_size, HasOutputFault, Handles, IsAllowed, IsRun, IsText}
+use Rattle.sdf_process.specs.Run.{IsUnsized, ReadsAnnounced, ReadsInto, Refuses, Runs, WritesFile, WritesSome}
 use Rattle.sdf_process.specs.Stages.{WavLaws}
 use Rattle.sdf_process.proofs.Outcomes.{IsOfOutput, fault_of_announced, keeps_same, kept, refuses_outside}
 
 -- the fault of a call that failed
-pub fails_by : {X : Type 0} (r : Result X Fault) (f : Fault) (P : X → Type 0) (Q : Fault → Type 0) → IsErrAnd r (λ e. e ≡ f) → Q f → MatchResult r P Q
+pub fails_by : {X : Type 0} (r : Result X Fault) (f : Fault) (P : X → Type 0) (Q : Fault → Type 0) →
+    IsErrAnd r (λ e. e ≡ f) → Q f → MatchResult r P Q
 fails_by (Err e) f P Q is q = subst Q (sym is) q
 fails_by (Ok x) f P Q is q = absurd is
 
@@ -33,7 +37,8 @@ fails_by (Ok x) f P Q is q = absurd is
 
 module _ (laws : WavLaws) (n : Netlist Kit ℤ) (q : List ℕ) (read mid held : Option (List ℕ)) (r r' w : ℕ) where
   pub unopened : (e : WavFault) → AnswersOpening read mid (Err e) → r' ≡ failures_after {X = Unit {0}} (Err e) r →
-      ((input : List ℕ) (f : Format) (size : ℕ) (rest : List ℕ) → read ≡ Some input → Opens input f size rest → OpensTo mid f size rest (Err e)) →
+      ((input : List ℕ) (f : Format) (size : ℕ) (rest : List ℕ) → read ≡ Some input → Opens input f size rest →
+      OpensTo mid f size rest (Err e)) →
       IsRun n q read mid held held r r' w w (Err (of_wav e))
   unopened wav.OutOfMemory said counted only = record {
     runs = λ input known. inl (keeps_same held);
@@ -50,8 +55,10 @@ module _ (laws : WavLaws) (n : Netlist Kit ℤ) (q : List ℕ) (read mid held : 
     devices = record { faults = tt; leaves = said; writes = inl (keeps_same held); reader = counted; writer = refl };
   }
   unopened (wav.Format g) said counted only = record {
-    runs = λ input known. let y = said.at input known in inl (y.2.0.has, (λ f size rest o. absurd (y.2.0.opens_not f size rest o)), keeps_same held);
-    accepts = λ input s rest known is. let o = laws.announces input s rest is in absurd ((said.at input known).2.0.opens_not _ o.size o.rest o.opens);
+    runs = λ input known. let y = said.at input known in
+        inl (y.2.0.has, (λ f size rest o. absurd (y.2.0.opens_not f size rest o)), keeps_same held);
+    accepts = λ input s rest known is. let o = laws.announces input s rest is in
+        absurd ((said.at input known).2.0.opens_not _ o.size o.rest o.opens);
     foresees = λ input f size rest e known o sized is. absurd ((said.at input known).2.0.opens_not f size rest o);
     refuses = λ input f known has allowed. inl (ap Wav (laws.one_fault input g f (said.at input known).2.0.has has));
     devices = record {
@@ -80,28 +87,49 @@ some_same x y e = cc
 pub some_no_none : {X : Type 0} (x : X) → Some x ≡ None → ⊥
 some_no_none x e = cc
 
-module _ (n : Netlist Kit ℤ) (q : List ℕ) (read mid held : Option (List ℕ)) (r r' w : ℕ) (a : Announced) (at : Known read mid (AnnouncedAt a)) (counted : r' ≡ r)
-    (sounds : (input : List ℕ) (s : Sound) (rest : List ℕ) → read ≡ Some input → IsWav input s rest → announced_by s ≡ a)
-    (sizes : (input : List ℕ) (f : Format) (size : ℕ) (rest : List ℕ) → read ≡ Some input → Opens input f size rest → size ≢ 0xFFFFFFFF → announced_size f size ≡ a) where
+module _ (n : Netlist Kit ℤ) (q : List ℕ) (read mid held : Option (List ℕ)) (r r' w : ℕ) (a : Announced)
+    (at : Known read mid (AnnouncedAt a)) (counted : r' ≡ r)
+    (sounds : (input : List ℕ) (s : Sound) (rest : List ℕ) → read ≡ Some input → IsWav input s rest →
+    announced_by s ≡ a)
+    (sizes : (input : List ℕ) (f : Format) (size : ℕ) (rest : List ℕ) → read ≡ Some input → Opens input f size rest →
+    size ≢ 0xFFFFFFFF → announced_size f size ≡ a) where
   stands : Known read mid ReadsAnnounced
-  stands = record { at = λ input known. let y = at.at input known in (y.0, y.1, (y.2.reading, y.2.samples, y.2.read, y.2.least)) }
+  stands = record {
+    at = λ input known. let y = at.at input known in
+        (y.0, y.1, (y.2.reading, y.2.samples, y.2.read, y.2.least));
+  }
 
-  module _ (g : Fault) (why : announced_fault (exchange_of n q) a ≡ Some g) (no_fault : (input : List ℕ) (f : FormatFault) → read ≡ Some input → HasFault input f → IsAllowed (exchange_of n q) input → ⊥) where
+  module _ (g : Fault) (why : announced_fault (exchange_of n q) a ≡ Some g)
+      (no_fault : (input : List ℕ) (f : FormatFault) → read ≡ Some input → HasFault input f →
+      IsAllowed (exchange_of n q) input → ⊥) where
     has : (input : List ℕ) → read ≡ Some input → HasOutputFault n q input g
     has input known =
         let y = at.at input known in
-        record { reading = y.2.reading; samples = y.2.samples; rest = y.0; announced = a; read = y.2.read; announces = y.2.announces; fault = why }
+        record {
+          reading = y.2.reading;
+          samples = y.2.samples;
+          rest = y.0;
+          announced = a;
+          read = y.2.read;
+          announces = y.2.announces;
+          fault = why;
+        }
 
-    accepts_it : (input : List ℕ) (s : Sound) (rest : List ℕ) → read ≡ Some input → IsWav input s rest → Refuses (output_fault (exchange_of n q) s) (Err g)
+    accepts_it : (input : List ℕ) (s : Sound) (rest : List ℕ) → read ≡ Some input → IsWav input s rest →
+        Refuses (output_fault (exchange_of n q) s) (Err g)
     accepts_it input s rest known is =
-        subst (λ o. Refuses o (Err g)) (sym (ap (announced_fault (exchange_of n q)) (sounds input s rest known is) ∙ why)) (inl refl)
+        subst (λ o. Refuses o (Err g)) (sym (ap (announced_fault (exchange_of n q)) (sounds input s rest known is)
+        ∙ why)) (inl refl)
 
-    foresees_it : (input : List ℕ) (f : Format) (size : ℕ) (rest : List ℕ) (e : Fault) → read ≡ Some input → Opens input f size rest → size ≢ 0xFFFFFFFF →
+    foresees_it : (input : List ℕ) (f : Format) (size : ℕ) (rest : List ℕ) (e : Fault) → read ≡ Some input →
+        Opens input f size rest → size ≢ 0xFFFFFFFF →
         announced_fault (exchange_of n q) (announced_size f size) ≡ Some e → Refuses (Some e) (Err g)
     foresees_it input f size rest e known o sized is =
-        inl (some_same g e (sym why ∙ (sym (ap (announced_fault (exchange_of n q)) (sizes input f size rest known o sized)) ∙ is)))
+        inl (some_same g e (sym why ∙ (sym (ap (announced_fault (exchange_of n q))
+        (sizes input f size rest known o sized)) ∙ is)))
 
-    refuses_it : (input : List ℕ) (f : FormatFault) → read ≡ Some input → HasFault input f → IsAllowed (exchange_of n q) input → Refuses (Some (Wav f)) (Err g)
+    refuses_it : (input : List ℕ) (f : FormatFault) → read ≡ Some input → HasFault input f →
+        IsAllowed (exchange_of n q) input → Refuses (Some (Wav f)) (Err g)
     refuses_it input f known has allowed = absurd (no_fault input f known has allowed)
 
     abbrev Refused : Fault → Type 0
@@ -110,21 +138,27 @@ module _ (n : Netlist Kit ℤ) (q : List ℕ) (read mid held : Option (List ℕ)
     pub refused : IsRun n q read mid held held r r' w w (Err g)
     refused = go (fault_of_announced (exchange_of n q) a g why)
       where
-        run : (e : Fault) → g ≡ e → ((input : List ℕ) → read ≡ Some input → HasOutputFault n q input e → Runs n q input held held (Err e)) → Handles {X = Unit {0}} read mid held held r r' w w (Err e) →
+        run : (e : Fault) → g ≡ e → ((input : List ℕ) → read ≡ Some input → HasOutputFault n q input e →
+            Runs n q input held held (Err e)) → Handles {X = Unit {0}} read mid held held r r' w w (Err e) →
             IsRun n q read mid held held r r' w w (Err g)
         run e same runs devices =
             subst (λ (f : Fault). IsRun n q read mid held held r r' w w (Err f)) (sym same)
             (record {
               runs = λ input known. runs input known (subst (HasOutputFault n q input) same (has input known));
-              accepts = λ input s rest known is. subst (λ (f : Fault). Refuses (output_fault (exchange_of n q) s) (Err f)) same (accepts_it input s rest known is);
-              foresees = λ input f size rest h known o sized is. subst (λ (y : Fault). Refuses (Some h) (Err y)) same (foresees_it input f size rest h known o sized is);
-              refuses = λ input f known has allowed. subst (λ (y : Fault). Refuses (Some (Wav f)) (Err y)) same (refuses_it input f known has allowed);
+              accepts = λ input s rest known is. subst (λ (f : Fault). Refuses (output_fault (exchange_of n q) s)
+                  (Err f)) same (accepts_it input s rest known is);
+              foresees = λ input f size rest h known o sized is. subst (λ (y : Fault). Refuses (Some h) (Err y)) same
+                  (foresees_it input f size rest h known o sized is);
+              refuses = λ input f known has allowed. subst (λ (y : Fault). Refuses (Some (Wav f)) (Err y)) same
+                  (refuses_it input f known has allowed);
               devices = devices;
             })
 
         go : IsOfOutput g → IsRun n q read mid held held r r' w w (Err g)
-        go (inl same) = run ChannelsMissing same (λ input known h. (h, keeps_same held)) (record { faults = tt; leaves = stands; writes = keeps_same held; reader = counted; writer = refl })
-        go (inr (inl same)) = run RateNotWhole same (λ input known h. (h, keeps_same held)) (record { faults = tt; leaves = stands; writes = keeps_same held; reader = counted; writer = refl })
+        go (inl same) = run ChannelsMissing same (λ input known h. (h, keeps_same held))
+            (record { faults = tt; leaves = stands; writes = keeps_same held; reader = counted; writer = refl })
+        go (inr (inl same)) = run RateNotWhole same (λ input known h. (h, keeps_same held))
+            (record { faults = tt; leaves = stands; writes = keeps_same held; reader = counted; writer = refl })
         go (inr (inr (f, same))) =
             run (Wav f) same (λ input known h. inr (inl (h, keeps_same held)))
             (record {
@@ -144,7 +178,8 @@ pub record Begins (text : List ℕ) : Type 0 where
   pub canonical : IsCanonical file
   pub whole : file ≡ text ++ more
 
-front_of : (before after : Option (List ℕ)) (text : List ℕ) (b : Begins text) → AppendsFront before after text → AppendsFront before after b.file
+front_of : (before after : Option (List ℕ)) (text : List ℕ) (b : Begins text) → AppendsFront before after text →
+    AppendsFront before after b.file
 front_of before after text b f = record {
   front = f.front;
   rest = f.rest ++ b.more;
@@ -152,23 +187,33 @@ front_of before after text b f = record {
   written = f.written;
 }
 
-all_of : (before after : Option (List ℕ)) (text : List ℕ) (b : Begins text) → Appends before after text → AppendsFront before after b.file
+all_of : (before after : Option (List ℕ)) (text : List ℕ) (b : Begins text) → Appends before after text →
+    AppendsFront before after b.file
 all_of before after text b a = record { front = text; rest = b.more; whole = b.whole; written = a }
 
-module _ (n : Netlist Kit ℤ) (q : List ℕ) (read left before after : Option (List ℕ)) (r r' w w' : ℕ) (text : List ℕ) (is : (input : List ℕ) → read ≡ Some input → IsText n q input text) (begins : Begins text) where
-  pub writer_failed : AppendsFront before after text → Known read left ReadsInto → r' ≡ r → w' ≡ one_more w → IsRun n q read left before after r r' w w' (Err Write)
+module _ (n : Netlist Kit ℤ) (q : List ℕ) (read left before after : Option (List ℕ)) (r r' w w' : ℕ) (text : List ℕ)
+    (is : (input : List ℕ) → read ≡ Some input → IsText n q input text) (begins : Begins text) where
+  pub writer_failed : AppendsFront before after text → Known read left ReadsInto → r' ≡ r → w' ≡ one_more w →
+      IsRun n q read left before after r r' w w' (Err Write)
   writer_failed written stands counted failed = record {
     runs = λ input known. (text, is input known, written);
     accepts = λ input s rest known wav. refuses_outside (output_fault (exchange_of n q) s) Write (inr (inr refl));
     foresees = λ input f size rest e known o sized why. inr (inr (inr refl));
     refuses = λ input f known has allowed. inr (inr (inr refl));
-    devices = record { faults = tt; leaves = stands; writes = (begins.file, begins.canonical, front_of before after text begins written); reader = counted; writer = failed };
+    devices = record {
+      faults = tt;
+      leaves = stands;
+      writes = (begins.file, begins.canonical, front_of before after text begins written);
+      reader = counted;
+      writer = failed;
+    };
   }
 
   some_written : Appends before after text → WritesSome before after
   some_written written = inr (begins.file, begins.canonical, all_of before after text begins written)
 
-  pub memory_failed : Appends before after text → Known read left LosesFront → r' ≡ r → w' ≡ w → IsRun n q read left before after r r' w w' (Err OutOfMemory)
+  pub memory_failed : Appends before after text → Known read left LosesFront → r' ≡ r → w' ≡ w →
+      IsRun n q read left before after r r' w w' (Err OutOfMemory)
   memory_failed written lost counted fine = record {
     runs = λ input known. inr (text, is input known, written);
     accepts = λ input s rest known wav. refuses_outside (output_fault (exchange_of n q) s) OutOfMemory (inl refl);
@@ -177,7 +222,8 @@ module _ (n : Netlist Kit ℤ) (q : List ℕ) (read left before after : Option (
     devices = record { faults = tt; leaves = lost; writes = some_written written; reader = counted; writer = fine };
   }
 
-  pub reader_failed : Appends before after text → Known read left LosesFront → r' ≡ one_more r → w' ≡ w → IsRun n q read left before after r r' w w' (Err Read)
+  pub reader_failed : Appends before after text → Known read left LosesFront → r' ≡ one_more r → w' ≡ w →
+      IsRun n q read left before after r r' w w' (Err Read)
   reader_failed written lost failed fine = record {
     runs = λ input known. inr (text, is input known, written);
     accepts = λ input s rest known wav. refuses_outside (output_fault (exchange_of n q) s) Read (inr (inl refl));
@@ -187,17 +233,21 @@ module _ (n : Netlist Kit ℤ) (q : List ℕ) (read left before after : Option (
   }
 
   -- the content is cut off
-  pub content_cut : WavLaws → (g : FormatFault) → g ≡ Truncated → Appends before after text → Known read left (λ input rest. HasFault input g × LosesFront input rest) →
-      ((input : List ℕ) → read ≡ Some input → IsAllowed (exchange_of n q) input) → r' ≡ r → w' ≡ w → IsRun n q read left before after r r' w w' (Err (Wav g))
+  pub content_cut : WavLaws → (g : FormatFault) → g ≡ Truncated → Appends before after text →
+      Known read left (λ input rest. HasFault input g × LosesFront input rest) →
+      ((input : List ℕ) → read ≡ Some input → IsAllowed (exchange_of n q) input) → r' ≡ r → w' ≡ w →
+      IsRun n q read left before after r r' w w' (Err (Wav g))
   content_cut laws g cut written has allowed counted fine = record {
     runs = λ input known. inr (inr ((has.at input known).2.0, (text, is input known, written)));
     accepts = λ input s rest known wav. absurd (laws.not_both input s rest g wav (has.at input known).2.0);
-    foresees = λ input f size rest e known o sized why. absurd (some_no_none e (sym why ∙ allowed input known f size rest o sized));
+    foresees = λ input f size rest e known o sized why. absurd
+        (some_no_none e (sym why ∙ allowed input known f size rest o sized));
     refuses = λ input f known h allowed. inl (ap Wav (laws.one_fault input g f (has.at input known).2.0 h));
     devices = record {
       faults = tt;
       leaves = record { at = λ input known. let y = has.at input known in (y.0, y.1, inl y.2) };
-      writes = subst (λ (f : FormatFault). WritesFile {X = Unit {0}} before after (Err (Wav f))) (sym cut) (some_written written);
+      writes = subst (λ (f : FormatFault). WritesFile {X = Unit {0}} before after (Err (Wav f))) (sym cut)
+          (some_written written);
       reader = counted;
       writer = fine;
     };
@@ -205,7 +255,8 @@ module _ (n : Netlist Kit ℤ) (q : List ℕ) (read left before after : Option (
 
 -- ---- the content of a size that was not filled in failed
 
-module _ (laws : WavLaws) (n : Netlist Kit ℤ) (q : List ℕ) (read left held : Option (List ℕ)) (r r' w : ℕ) (unsized : (input : List ℕ) → read ≡ Some input → IsUnsized input) where
+module _ (laws : WavLaws) (n : Netlist Kit ℤ) (q : List ℕ) (read left held : Option (List ℕ)) (r r' w : ℕ)
+    (unsized : (input : List ℕ) → read ≡ Some input → IsUnsized input) where
   pub unheard_by_memory : Known read left LosesFront → r' ≡ r → IsRun n q read left held held r r' w w (Err OutOfMemory)
   unheard_by_memory lost counted = record {
     runs = λ input known. inl (keeps_same held);
@@ -215,7 +266,8 @@ module _ (laws : WavLaws) (n : Netlist Kit ℤ) (q : List ℕ) (read left held :
     devices = record { faults = tt; leaves = lost; writes = inl (keeps_same held); reader = counted; writer = refl };
   }
 
-  pub unheard_by_reader : Known read left LosesFront → r' ≡ one_more r → IsRun n q read left held held r r' w w (Err Read)
+  pub unheard_by_reader : Known read left LosesFront → r' ≡ one_more r →
+      IsRun n q read left held held r r' w w (Err Read)
   unheard_by_reader lost failed = record {
     runs = λ input known. inl (keeps_same held);
     accepts = λ input s rest known wav. refuses_outside (output_fault (exchange_of n q) s) Read (inr (inl refl));
@@ -224,7 +276,8 @@ module _ (laws : WavLaws) (n : Netlist Kit ℤ) (q : List ℕ) (read left held :
     devices = record { faults = tt; leaves = lost; writes = inl (keeps_same held); reader = failed; writer = refl };
   }
 
-  pub unheard_by_fault : (g : FormatFault) → Known read left (λ input rest. HasFault input g × LosesFront input rest) → r' ≡ r → IsRun n q read left held held r r' w w (Err (Wav g))
+  pub unheard_by_fault : (g : FormatFault) → Known read left (λ input rest. HasFault input g × LosesFront input rest) →
+      r' ≡ r → IsRun n q read left held held r r' w w (Err (Wav g))
   unheard_by_fault g has counted = record {
     runs = λ input known. inl ((has.at input known).2.0, unsized input known, keeps_same held);
     accepts = λ input s rest known wav. absurd (laws.not_both input s rest g wav (has.at input known).2.0);

@@ -1,5 +1,6 @@
 -- What a net makes of a sound, by what the runners gave.
-use Rattle.std.proofs.Common.{◌≡◌, ◌⊎◌, inl, inr, ℕ, zero, suc, ◌+◌, ◌*◌, ◌≤◌, ◌<◌, ℤ, pos, List, [], ◌∷◌, ◌++◌, length, map, take, get_or, MatchResult, Result, Ok, Err, refl, sym, ap, ◌∙◌, subst, arith}
+use Rattle.std.proofs.Common.{◌≡◌, ◌⊎◌, inl, inr, ℕ, zero, suc, ◌+◌, ◌*◌, ◌≤◌, ◌<◌, ℤ, pos, List, [], ◌∷◌, ◌++◌, length}
+use Rattle.std.proofs.Common.{map, take, get_or, MatchResult, Result, Ok, Err, refl, sym, ap, ◌∙◌, subst, arith}
 use Rattle.std.specs.Int.{w16, saturate_signed}
 use Rattle.std.specs.Prelude.{IsErrAnd}
 use Rattle.std.specs.List.{flat_map, range_with_len}
@@ -22,26 +23,33 @@ use Rattle.sdf_process.specs.declared.exchange.Exchange.{Exchange}
 use Rattle.sdf_process.specs.declared.fault.Fault.{Fault}
 use Rattle.sdf_process.specs.declared.fault.Fault.TheVariants as fault
 use Rattle.sdf_process.specs.Faults.{of_run}
-use Rattle.sdf_process.specs.Output.{exchange_of, periods_of, sample, channel_samples, lists_to, input_lists, frame, interleaved}
+use Rattle.sdf_process.specs.Output.{exchange_of, periods_of, sample, channel_samples, lists_to, input_lists, frame}
+use Rattle.sdf_process.specs.Output.{interleaved}
 use Rattle.sdf_process.specs.Run.{BeginWithOutput}
 
 -- ---- what the runners are given
 
 -- each input list has the samples of so many periods
-list_at : (periods : ℕ) (x : Exchange) (s : Sound) (e : ℕ) → e < x.inputs → get_or (lists_to periods x s) e [] ≡ channel_samples s (periods * x.taken) e
-list_at periods x s e here = get_or-map-range_with_len (channel_samples s (periods * x.taken)) 0 x.inputs e e [] here (omega arith)
+list_at : (periods : ℕ) (x : Exchange) (s : Sound) (e : ℕ) → e < x.inputs →
+    get_or (lists_to periods x s) e [] ≡ channel_samples s (periods * x.taken) e
+list_at periods x s e here = get_or-map-range_with_len (channel_samples s (periods * x.taken)) 0 x.inputs e e []
+    here (omega arith)
 
 count_of : (periods : ℕ) (x : Exchange) (s : Sound) → length (lists_to periods x s) ≡ x.inputs
 count_of periods x s = length-map-range_with_len (channel_samples s (periods * x.taken)) 0 x.inputs
 
-pub list_length : (periods : ℕ) (x : Exchange) (s : Sound) (e : ℕ) → e < length (lists_to periods x s) → length (get_or (lists_to periods x s) e []) ≡ periods * x.taken
+pub list_length : (periods : ℕ) (x : Exchange) (s : Sound) (e : ℕ) → e < length (lists_to periods x s) →
+    length (get_or (lists_to periods x s) e []) ≡ periods * x.taken
 list_length periods x s e here =
-    ap length (list_at periods x s e (omega (arith, here, count_of periods x s))) ∙ length-map-range_with_len (sample s e) 0 (periods * x.taken)
+    ap length (list_at periods x s e (omega (arith, here, count_of periods x s)))
+    ∙ length-map-range_with_len (sample s e) 0 (periods * x.taken)
 
-pub are_inputs : (n : Netlist Kit ℤ) (q : List ℕ) (s : Sound) (periods : ℕ) → HasInputs n q periods (lists_to periods (exchange_of n q) s)
+pub are_inputs : (n : Netlist Kit ℤ) (q : List ℕ) (s : Sound) (periods : ℕ) →
+    HasInputs n q periods (lists_to periods (exchange_of n q) s)
 are_inputs n q s periods = record {
   count = count_of periods (exchange_of n q) s;
-  even = λ e here. list_length periods (exchange_of n q) s e here ∙ sym (list_length periods (exchange_of n q) s 0 (omega (arith, here)));
+  even = λ e here. list_length periods (exchange_of n q) s e here
+      ∙ sym (list_length periods (exchange_of n q) s 0 (omega (arith, here)));
   enough = λ e here. omega (arith, list_length periods (exchange_of n q) s e here);
 }
 
@@ -49,19 +57,24 @@ are_inputs n q s periods = record {
 pub begin : (few many : ℕ) (x : Exchange) (s : Sound) → few ≤ many → Begin (lists_to few x s) (lists_to many x s)
 begin few many x s less e = go (cases_lt e x.inputs)
   where
-    go : (e < x.inputs) ⊎ (x.inputs ≤ e) → get_or (lists_to few x s) e [] ≡ take (length (get_or (lists_to few x s) e [])) (get_or (lists_to many x s) e [])
+    go : (e < x.inputs) ⊎ (x.inputs ≤ e) → get_or (lists_to few x s) e [] ≡
+        take (length (get_or (lists_to few x s) e [])) (get_or (lists_to many x s) e [])
     go (inl here) =
-        let long : length (get_or (lists_to few x s) e []) ≡ few * x.taken = list_length few x s e (omega (arith, here, count_of few x s)) in
+        let long : length (get_or (lists_to few x s) e []) ≡ few * x.taken =
+        list_length few x s e (omega (arith, here, count_of few x s)) in
         list_at few x s e here
         ∙ (sym (take-map-range_with_len (sample s e) 0 (many * x.taken) (few * x.taken) (mul-le-mul_right x.taken less))
         ∙ (ap (take (few * x.taken)) (sym (list_at many x s e here))
         ∙ ap (λ k. take k (get_or (lists_to many x s) e [])) (sym long)))
     go (inr past) =
-        let none : get_or (lists_to few x s) e [] ≡ [] = get_or_past (lists_to few x s) e [] (omega (arith, past, count_of few x s)) in
-        none ∙ ap (λ k. take k (get_or (lists_to many x s) e [])) (let z : 0 ≡ length (get_or (lists_to few x s) e []) = sym (ap length none) in z)
+        let none : get_or (lists_to few x s) e [] ≡ [] =
+        get_or_past (lists_to few x s) e [] (omega (arith, past, count_of few x s)) in
+        none ∙ ap (λ k. take k (get_or (lists_to many x s) e []))
+        (let z : 0 ≡ length (get_or (lists_to few x s) e []) = sym (ap length none) in z)
 
 -- so the runners fail by memory alone
-pub run_fault_by : (n : Netlist Kit ℤ) (q : List ℕ) (periods : ℕ) (inputs : List (List ℤ)) (e : RunFault) → HasInputs n q periods inputs → IsRunFault n q periods inputs e → of_run e ≡ fault.OutOfMemory
+pub run_fault_by : (n : Netlist Kit ℤ) (q : List ℕ) (periods : ℕ) (inputs : List (List ℤ)) (e : RunFault) →
+    HasInputs n q periods inputs → IsRunFault n q periods inputs e → of_run e ≡ fault.OutOfMemory
 run_fault_by n q periods inputs run.OutOfMemory given why = refl
 run_fault_by n q periods inputs run.InputLength given why = absurd (why given)
 run_fault_by n q periods inputs run.NotHomed given why = absurd why
@@ -71,27 +84,36 @@ run_fault_by n q periods inputs run.SessionFailed given why = absurd why
 
 run_fault_is : (n : Netlist Kit ℤ) (q : List ℕ) (s : Sound) (periods : ℕ) (inputs : List (List ℤ)) (e : RunFault) →
     inputs ≡ lists_to periods (exchange_of n q) s → IsRunFault n q periods inputs e → of_run e ≡ fault.OutOfMemory
-run_fault_is n q s periods inputs e given why = run_fault_by n q periods inputs e (subst (HasInputs n q periods) (sym given) (are_inputs n q s periods)) why
+run_fault_is n q s periods inputs e given why = run_fault_by n q periods inputs e
+    (subst (HasInputs n q periods) (sym given) (are_inputs n q s periods)) why
 
 -- and what they give begins with the output
-pub begins_with_output : RunsGoOn kit_steps → (n : Netlist Kit ℤ) (p : Schedule) → HasPeriod kit_steps n p → (s : Sound) (many : ℕ) (inputs lists : List (List ℤ)) →
+pub begins_with_output : RunsGoOn kit_steps → (n : Netlist Kit ℤ) (p : Schedule) → HasPeriod kit_steps n p →
+    (s : Sound) (many : ℕ) (inputs lists : List (List ℤ)) →
     periods_of (exchange_of n p.repetitions) s ≤ many → inputs ≡ lists_to many (exchange_of n p.repetitions) s →
     AreOutputs kit_steps n inputs (firings p.repetitions many) lists → BeginWithOutput n p.repetitions s lists
 begins_with_output runs n p has s many inputs lists less given made =
     let x = exchange_of n p.repetitions in
-    runs n p (periods_of x s) many (input_lists x s) (lists_to many x s) lists has less (are_inputs n p.repetitions s (periods_of x s)) (begin (periods_of x s) many x s less)
+    runs n p (periods_of x s) many (input_lists x s) (lists_to many x s) lists has less
+    (are_inputs n p.repetitions s (periods_of x s)) (begin (periods_of x s) many x s less)
     (subst (λ ins. AreOutputs kit_steps n ins (firings p.repetitions many) lists) given made)
 
 -- the same where what was read off is not yet known to be it
-pub run_begins : RunsGoOn kit_steps → (n : Netlist Kit ℤ) (p : Schedule) → HasPeriod kit_steps n p → (s : Sound) (x : Exchange) → x ≡ exchange_of n p.repetitions →
-    (periods many : ℕ) → periods ≡ periods_of (exchange_of n p.repetitions) s → periods ≤ many → (inputs lists : List (List ℤ)) → inputs ≡ lists_to many x s →
+pub run_begins : RunsGoOn kit_steps → (n : Netlist Kit ℤ) (p : Schedule) → HasPeriod kit_steps n p →
+    (s : Sound) (x : Exchange) → x ≡ exchange_of n p.repetitions →
+    (periods many : ℕ) → periods ≡ periods_of (exchange_of n p.repetitions) s → periods ≤ many →
+    (inputs lists : List (List ℤ)) → inputs ≡ lists_to many x s →
     AreOutputs kit_steps n inputs (firings p.repetitions many) lists → BeginWithOutput n p.repetitions s lists
 run_begins runs n p has s x is periods many all less inputs lists given made =
-    begins_with_output runs n p has s many inputs lists (subst (λ k. k ≤ many) all less) (given ∙ ap (λ y. lists_to many y s) is) made
+    begins_with_output runs n p has s many inputs lists (subst (λ k. k ≤ many) all less)
+    (given ∙ ap (λ y. lists_to many y s) is) made
 
-pub run_refused : {X : Type 0} (n : Netlist Kit ℤ) (q : List ℕ) (s : Sound) (x : Exchange) → x ≡ exchange_of n q → (periods : ℕ) (inputs : List (List ℤ)) → inputs ≡ lists_to periods x s →
-    (e : RunFault) (r : Result X Fault) (P : X → Type 0) → IsRunFault n q periods inputs e → IsErrAnd r (λ f. f ≡ of_run e) → MatchResult r P (λ f. f ≡ fault.OutOfMemory)
-run_refused n q s x is periods inputs given e (Err f) P why from = from ∙ run_fault_is n q s periods inputs e (given ∙ ap (λ y. lists_to periods y s) is) why
+pub run_refused : {X : Type 0} (n : Netlist Kit ℤ) (q : List ℕ) (s : Sound) (x : Exchange) → x ≡ exchange_of n q →
+    (periods : ℕ) (inputs : List (List ℤ)) → inputs ≡ lists_to periods x s →
+    (e : RunFault) (r : Result X Fault) (P : X → Type 0) → IsRunFault n q periods inputs e →
+    IsErrAnd r (λ f. f ≡ of_run e) → MatchResult r P (λ f. f ≡ fault.OutOfMemory)
+run_refused n q s x is periods inputs given e (Err f) P why from =
+    from ∙ run_fault_is n q s periods inputs e (given ∙ ap (λ y. lists_to periods y s) is) why
 run_refused n q s x is periods inputs given e (Ok v) P why from = absurd from
 
 -- ---- what is made of their lists
@@ -99,9 +121,11 @@ run_refused n q s x is periods inputs given e (Ok v) P why from = absurd from
 frame_cut : (xs : List (List ℤ)) (n i : ℕ) → i < n → frame (map (take n) xs) i ≡ frame xs i
 frame_cut [] n i h = refl
 frame_cut (x ∷ xs) n i h =
-    ap (λ v. saturate_signed w16 v ∷ frame (map (take n) xs) i) (get_or-take n x i (pos 0) h) ∙ ap (λ vs. saturate_signed w16 (get_or x i (pos 0)) ∷ vs) (frame_cut xs n i h)
+    ap (λ v. saturate_signed w16 v ∷ frame (map (take n) xs) i) (get_or-take n x i (pos 0) h)
+    ∙ ap (λ vs. saturate_signed w16 (get_or x i (pos 0)) ∷ vs) (frame_cut xs n i h)
 
-frames_cut : (xs : List (List ℤ)) (n a m : ℕ) → a + m ≤ n → flat_map (frame (map (take n) xs)) (range_with_len a m) ≡ flat_map (frame xs) (range_with_len a m)
+frames_cut : (xs : List (List ℤ)) (n a m : ℕ) → a + m ≤ n →
+    flat_map (frame (map (take n) xs)) (range_with_len a m) ≡ flat_map (frame xs) (range_with_len a m)
 frames_cut xs n a zero h = refl
 frames_cut xs n a (suc m) h =
     flat_map-cons (frame (map (take n) xs)) a (range_with_len (a + 1) m)

@@ -1,6 +1,7 @@
 -- Tests of sizes by a division, in place of a product that could wrap.
 use Rattle.std.proofs.Common.{◌≡◌, ℕ, ◌+◌, ◌-◌, ◌*◌, ◌/◌, ◌≤◌, ◌<◌, nat_lt, sym, ap, ◌∙◌, inl, inr, ◌⊎◌, arith}
-use Rattle.std.proofs.Math.Nat.{mul_assoc, mul-div_left, mul-le-mul_left, mul-le-mul_right, div-mul-le_self, lt-div-mul-add}
+use Rattle.std.proofs.Math.Nat.{mul_assoc, mul-div_left, mul-le-mul_left, mul-le-mul_right, div-mul-le_self}
+use Rattle.std.proofs.Math.Nat.{lt-div-mul-add}
 use Rattle.std.proofs.lemmas.Nat.{div_below, le-div}
 use Rattle.std.proofs.lemmas.Bool.{cases_lt, lt-ltb, le-ltb}
 
@@ -29,7 +30,8 @@ data_too_long periods made outputs some =
     ∙ ap (λ x. nat_lt 4294967259 (2 * x)) (sym (mul_assoc periods made outputs))
 
 -- the frames of so many periods behind so many
-pub frames_fit : (at periods taken : ℕ) → at ≤ 4294967295 → periods ≤ 4294967295 → taken ≤ 67108864 → at * taken + periods * taken < 576460752303423488
+pub frames_fit : (at periods taken : ℕ) → at ≤ 4294967295 → periods ≤ 4294967295 → taken ≤ 67108864 →
+    at * taken + periods * taken < 576460752303423488
 frames_fit at periods taken few more small =
     let one : at * taken ≤ 4294967295 * taken = mul-le-mul_right taken few in
     let other : periods * taken ≤ 4294967295 * taken = mul-le-mul_right taken more in
@@ -41,11 +43,13 @@ pub cancel : (a b k : ℕ) → 0 < k → a * k ≤ b * k → a ≤ b
 cancel a b k some less = omega (arith, le-div a (b * k) k some less, mul-div_left b some)
 
 -- so many periods lie in the frames of which they take samples
-pub periods_fit : (periods taken frames : ℕ) → 0 < taken → periods * taken ≤ frames → periods ≤ (frames + (taken - 1)) / taken
+pub periods_fit : (periods taken frames : ℕ) → 0 < taken → periods * taken ≤ frames →
+    periods ≤ (frames + (taken - 1)) / taken
 periods_fit periods taken frames some less = le-div periods (frames + (taken - 1)) taken some (omega (arith, less))
 
 -- and no more than so many, where the frames do not fill another one
-pub periods_end : (periods taken frames : ℕ) → 0 < taken → frames < periods * taken → (frames + (taken - 1)) / taken ≤ periods
+pub periods_end : (periods taken frames : ℕ) → 0 < taken → frames < periods * taken →
+    (frames + (taken - 1)) / taken ≤ periods
 periods_end periods taken frames some less =
     let past : (periods + 1) * taken ≡ periods * taken + taken = omega arith in
     omega (arith, div_below (frames + (taken - 1)) taken (periods + 1) some (omega (arith, less, past, some)))
@@ -75,14 +79,16 @@ pub less_twice : (a b c d : ℕ) → b + c ≡ d → a - b - c ≡ a - d
 less_twice a b c d is = omega (arith, is)
 
 -- fewer bytes have no more frames
-pub fewer_frames : (samples channels size : ℕ) → 1 ≤ channels → 2 * samples ≤ size → samples / channels ≤ size / (2 * channels)
+pub fewer_frames : (samples channels size : ℕ) → 1 ≤ channels → 2 * samples ≤ size →
+    samples / channels ≤ size / (2 * channels)
 fewer_frames samples channels size one fits =
     let part : samples / channels * channels ≤ samples = div-mul-le_self samples channels in
     let double : samples / channels * (2 * channels) ≡ 2 * (samples / channels * channels) = omega arith in
     le-div (samples / channels) size (2 * channels) (omega (arith, one)) (omega (arith, part, double, fits))
 
 -- and take no more periods
-pub fewer_periods : (few many taken : ℕ) → 0 < taken → few ≤ many → (few + (taken - 1)) / taken ≤ (many + (taken - 1)) / taken
+pub fewer_periods : (few many taken : ℕ) → 0 < taken → few ≤ many →
+    (few + (taken - 1)) / taken ≤ (many + (taken - 1)) / taken
 fewer_periods few many taken some less =
     let part : (few + (taken - 1)) / taken * taken ≤ few + (taken - 1) = div-mul-le_self (few + (taken - 1)) taken in
     le-div ((few + (taken - 1)) / taken) (many + (taken - 1)) taken some (omega (arith, part, less))
@@ -92,7 +98,8 @@ positive a b l m = let z : 1 * b ≤ a * b = mul-le-mul_right b l in omega (arit
 
 -- ---- blocks of what is kept
 
-module _ (j taken made f channels len : ℕ) (some_j : 0 < j) (some_taken : 0 < taken) (few_made : made ≤ 67108864) (same : f ≡ channels) (one : 1 ≤ channels) (few : len ≤ 4294967295) where
+module _ (j taken made f channels len : ℕ) (some_j : 0 < j) (some_taken : 0 < taken) (few_made : made ≤ 67108864)
+    (same : f ≡ channels) (one : 1 ≤ channels) (few : len ≤ 4294967295) where
   some_f : 0 < f
   some_f = omega (arith, one, same)
 
@@ -107,7 +114,8 @@ module _ (j taken made f channels len : ℕ) (some_j : 0 < j) (some_taken : 0 < 
 
   pub periods_small : blocks * j ≤ 4294967295
   periods_small =
-      let more : blocks * j * 1 ≤ blocks * j * (taken * f) = mul-le-mul_left (blocks * j) (let z : 1 ≤ taken * f = positive taken f some_taken some_f in z) in
+      let more : blocks * j * 1 ≤ blocks * j * (taken * f) =
+      mul-le-mul_left (blocks * j) (let z : 1 ≤ taken * f = positive taken f some_taken some_f in z) in
       let all : blocks * j * (taken * f) ≡ blocks * (j * taken * f) = omega arith in
       omega (arith, more, all, blocks_there, few)
 
@@ -118,12 +126,16 @@ module _ (j taken made f channels len : ℕ) (some_j : 0 < j) (some_taken : 0 < 
 
   pub periods_there : blocks * j * taken * channels ≤ len
   periods_there =
-      let here : blocks * j * taken * channels ≡ blocks * j * taken * f = ap (λ (k : ℕ). blocks * j * taken * k) (sym same) in
+      let here : blocks * j * taken * channels ≡ blocks * j * taken * f =
+      ap (λ (k : ℕ). blocks * j * taken * k) (sym same) in
       let all : blocks * j * taken * f ≡ blocks * (j * taken * f) = omega arith in
       omega (arith, here, all, blocks_there)
 
   pub rest_short : len - blocks * (j * taken * f) < j * taken * f
-  rest_short = let past : len < blocks * (j * taken * f) + j * taken * f = lt-div-mul-add block_some in omega (arith, past, block_some)
+  rest_short = let past : len < blocks * (j * taken * f) + j * taken * f = lt-div-mul-add block_some in
+      omega (arith, past, block_some)
 
   pub no_block : blocks ≡ 0 → len < j * taken * f
-  no_block none = let past : len < blocks * (j * taken * f) + j * taken * f = lt-div-mul-add block_some in let zero : blocks * (j * taken * f) ≡ 0 = ap (λ (k : ℕ). k * (j * taken * f)) none ∙ (let z : 0 * (j * taken * f) ≡ 0 = omega arith in z) in omega (arith, past, zero)
+  no_block none = let past : len < blocks * (j * taken * f) + j * taken * f = lt-div-mul-add block_some in
+      let zero : blocks * (j * taken * f) ≡ 0 = ap (λ (k : ℕ). k * (j * taken * f)) none ∙
+      (let z : 0 * (j * taken * f) ≡ 0 = omega arith in z) in omega (arith, past, zero)

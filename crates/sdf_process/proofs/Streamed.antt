@@ -1,5 +1,6 @@
 -- A run that reads and writes as it goes: its blocks joined, and its end.
-use Rattle.std.proofs.Common.{◌≡◌, inl, inr, Ok, Err, ℕ, ◌+◌, ◌-◌, ◌*◌, ◌≤◌, ◌<◌, ℤ, List, [], ◌++◌, length, drop, Option, refl, sym, ap, ◌∙◌, subst, arith, append-nil}
+use Rattle.std.proofs.Common.{◌≡◌, inl, inr, Ok, Err, ℕ, ◌+◌, ◌-◌, ◌*◌, ◌≤◌, ◌<◌, ℤ, List, [], ◌++◌, length, drop}
+use Rattle.std.proofs.Common.{Option, refl, sym, ap, ◌∙◌, subst, arith, append-nil}
 use Rattle.std.proofs.lemmas.List.{drop-append-le, drop-drop, length-append, length-drop}
 use Rattle.sdf_actor.specs.Nets.{Netlist}
 use Rattle.sdf_kit.specs.declared.kit.Kit.{Kit}
@@ -21,31 +22,39 @@ use Rattle.sdf_process.proofs.Outcomes.{keeps_same}
 -- ---- what a session stands after, as the sound is read on
 
 -- more samples change nothing of it
-pub stands_on : (n : Netlist Kit ℤ) (p : Schedule) (j : ℕ) (c : Reading) (xs ys : List ℤ) (blocks frames : ℕ) (bytes : List ℕ) (v : SessionValue Kit (List ℤ) ℤ) →
-    (exchange_of n p.repetitions).inputs ≤ c.channels → blocks * j * (exchange_of n p.repetitions).taken * c.channels ≤ length xs →
-    StandsAt n p j (sound_read c xs) blocks frames bytes v → StandsAt n p j (sound_read c (xs ++ ys)) blocks frames bytes v
+pub stands_on : (n : Netlist Kit ℤ) (p : Schedule) (j : ℕ) (c : Reading) (xs ys : List ℤ) (blocks frames : ℕ)
+    (bytes : List ℕ) (v : SessionValue Kit (List ℤ) ℤ) →
+    (exchange_of n p.repetitions).inputs ≤ c.channels →
+    blocks * j * (exchange_of n p.repetitions).taken * c.channels ≤ length xs →
+    StandsAt n p j (sound_read c xs) blocks frames bytes v →
+    StandsAt n p j (sound_read c (xs ++ ys)) blocks frames bytes v
 stands_on n p j c xs ys blocks frames bytes v lower there at = record {
   net = at.net;
   period = at.period;
   factor = at.factor;
   made = at.made;
-  stands = subst (λ (l : List (List ℤ)). StandsAfter kit_steps v blocks l at.made) (sym (lists_stay (blocks * j) (exchange_of n p.repetitions) c xs ys lower there)) at.stands;
+  stands = subst (λ (l : List (List ℤ)). StandsAfter kit_steps v blocks l at.made)
+      (sym (lists_stay (blocks * j) (exchange_of n p.repetitions) c xs ys lower there)) at.stands;
   bytes_are = at.bytes_are;
 }
 
 -- and they stand behind what is kept
-pub behind_on : (x : Exchange) (c : Reading) (xs ys kept : List ℤ) (periods : ℕ) → AreBehind x c xs periods kept → AreBehind x c (xs ++ ys) periods (kept ++ ys)
+pub behind_on : (x : Exchange) (c : Reading) (xs ys kept : List ℤ) (periods : ℕ) → AreBehind x c xs periods kept →
+    AreBehind x c (xs ++ ys) periods (kept ++ ys)
 behind_on x c xs ys kept periods (there, is) = (
   omega (arith, there, length-append xs ys),
   ap (λ (l : List ℤ). l ++ ys) is ∙ sym (drop-append-le (periods * x.taken * c.channels) xs ys there),
 )
 
-frames_as : (n : Netlist Kit ℤ) (p : Schedule) (j : ℕ) (s : Sound) (blocks frames many : ℕ) (bytes : List ℕ) (v : SessionValue Kit (List ℤ) ℤ) → frames ≡ many → StandsAt n p j s blocks frames bytes v → StandsAt n p j s blocks many bytes v
+frames_as : (n : Netlist Kit ℤ) (p : Schedule) (j : ℕ) (s : Sound) (blocks frames many : ℕ) (bytes : List ℕ)
+    (v : SessionValue Kit (List ℤ) ℤ) → frames ≡ many → StandsAt n p j s blocks frames bytes v →
+    StandsAt n p j s blocks many bytes v
 frames_as n p j s blocks frames many bytes v same at = subst (λ (k : ℕ). StandsAt n p j s blocks k bytes v) same at
 
 -- ---- whole blocks of what is kept
 
-module _ (n : Netlist Kit ℤ) (p : Schedule) (j : ℕ) (c : Reading) (samples kept : List ℤ) (few : ℕ) (bytes : List ℕ) (behind : AreBehind (exchange_of n p.repetitions) c samples (few * j) kept) where
+module _ (n : Netlist Kit ℤ) (p : Schedule) (j : ℕ) (c : Reading) (samples kept : List ℤ) (few : ℕ) (bytes : List ℕ)
+    (behind : AreBehind (exchange_of n p.repetitions) c samples (few * j) kept) where
   abbrev x : Exchange
   x = exchange_of n p.repetitions
 
@@ -53,7 +62,8 @@ module _ (n : Netlist Kit ℤ) (p : Schedule) (j : ℕ) (c : Reading) (samples k
   long = ap length behind.1 ∙ length-drop (few * j * x.taken * c.channels) samples
 
   module _ (blocks : ℕ) (some : blocks * (j * x.taken * c.channels) ≤ length kept) where
-    past : few * j * x.taken * c.channels + blocks * (j * x.taken * c.channels) ≡ (few + blocks) * j * x.taken * c.channels
+    past : few * j * x.taken * c.channels + blocks * (j * x.taken * c.channels) ≡
+        (few + blocks) * j * x.taken * c.channels
     past = omega arith
 
     pub there : (few + blocks) * j * x.taken * c.channels ≤ length samples
@@ -63,20 +73,23 @@ module _ (n : Netlist Kit ℤ) (p : Schedule) (j : ℕ) (c : Reading) (samples k
     behind_more = (
       there,
       ap (drop (blocks * (j * x.taken * c.channels))) behind.1
-          ∙ (drop-drop (blocks * (j * x.taken * c.channels)) (few * j * x.taken * c.channels) samples ∙ ap (λ (k : ℕ). drop k samples) past),
+          ∙ (drop-drop (blocks * (j * x.taken * c.channels)) (few * j * x.taken * c.channels) samples
+          ∙ ap (λ (k : ℕ). drop k samples) past),
     )
 
     pub frames_all : few * j * x.made + blocks * j * x.made ≡ (few + blocks) * j * x.made
     frames_all = omega arith
 
   -- there is none
-  pub whole_none : (held : Option (List ℕ)) (w : ℕ) (o : Owed) (v : SessionValue Kit (List ℤ) ℤ) → length kept < j * x.taken * c.channels → StandsWhole n p j (sound_read c samples) few bytes v →
+  pub whole_none : (held : Option (List ℕ)) (w : ℕ) (o : Owed) (v : SessionValue Kit (List ℤ) ℤ) →
+      length kept < j * x.taken * c.channels → StandsWhole n p j (sound_read c samples) few bytes v →
       PutsWhole n p j c samples few bytes held held w w o o v (Ok kept)
   whole_none held w o v less at =
       let none : few ≡ few + 0 = omega arith in (
         0,
         [],
-        subst (λ (k : ℕ). StandsWhole n p j (sound_read c samples) k (bytes ++ []) v) none (subst (λ (b : List ℕ). StandsWhole n p j (sound_read c samples) few b v) (sym (append-nil bytes)) at),
+        subst (λ (k : ℕ). StandsWhole n p j (sound_read c samples) k (bytes ++ []) v) none
+            (subst (λ (b : List ℕ). StandsWhole n p j (sound_read c samples) few b v) (sym (append-nil bytes)) at),
         appends_none held held (keeps_same held),
         refl,
         subst (λ (k : ℕ). AreBehind x c samples (k * j) kept) none behind,
@@ -84,17 +97,22 @@ module _ (n : Netlist Kit ℤ) (p : Schedule) (j : ℕ) (c : Reading) (samples k
         ap (λ (k : ℕ). record o { missing = k }) (let z : o.missing ≡ o.missing - 0 * j * x.made = omega arith in z),
       )
 
-  module _ (blocks frames : ℕ) (some : blocks * (j * x.taken * c.channels) ≤ length kept) (all : frames ≡ blocks * j * x.made) (before after : Option (List ℕ)) (w w' : ℕ) (o o' : Owed) (v : SessionValue Kit (List ℤ) ℤ) where
+  module _ (blocks frames : ℕ) (some : blocks * (j * x.taken * c.channels) ≤ length kept)
+      (all : frames ≡ blocks * j * x.made) (before after : Option (List ℕ)) (w w' : ℕ) (o o' : Owed)
+      (v : SessionValue Kit (List ℤ) ℤ) where
     full : few * j * x.made + frames ≡ (few + blocks) * j * x.made
     full = ap (λ (k : ℕ). few * j * x.made + k) all ∙ frames_all blocks some
 
     -- they were written
-    pub whole_put : (rest : List ℤ) → rest ≡ drop (blocks * (j * x.taken * c.channels)) kept → length rest < j * x.taken * c.channels → o' ≡ record o { missing = o.missing - frames } →
-        PutsBlocks n p j (sound_read c samples) few blocks frames bytes before after w w' v (Ok tt) → PutsWhole n p j c samples few bytes before after w w' o o' v (Ok rest)
+    pub whole_put : (rest : List ℤ) → rest ≡ drop (blocks * (j * x.taken * c.channels)) kept →
+        length rest < j * x.taken * c.channels → o' ≡ record o { missing = o.missing - frames } →
+        PutsBlocks n p j (sound_read c samples) few blocks frames bytes before after w w' v (Ok tt) →
+        PutsWhole n p j c samples few bytes before after w w' o o' v (Ok rest)
     whole_put rest is less owed (more, at, written, fine) = (
       blocks,
       more,
-      frames_as n p j (sound_read c samples) (few + blocks) (few * j * x.made + frames) ((few + blocks) * j * x.made) (bytes ++ more) v full at,
+      frames_as n p j (sound_read c samples) (few + blocks) (few * j * x.made + frames) ((few + blocks) * j * x.made)
+          (bytes ++ more) v full at,
       written,
       fine,
       subst (AreBehind x c samples ((few + blocks) * j)) (sym is) (behind_more blocks some),
@@ -103,13 +121,15 @@ module _ (n : Netlist Kit ℤ) (p : Schedule) (j : ℕ) (c : Reading) (samples k
     )
 
     -- they were not
-    pub whole_failed : (e f : Fault) → f ≡ e → PutsBlocks n p j (sound_read c samples) few blocks frames bytes before after w w' v (Err e) → PutsWhole n p j c samples few bytes before after w w' o o' v (Err f)
+    pub whole_failed : (e f : Fault) → f ≡ e → PutsBlocks n p j (sound_read c samples) few blocks frames bytes before
+        after w w' v (Err e) → PutsWhole n p j c samples few bytes before after w w' o o' v (Err f)
     whole_failed e f same (inl (is, (more, at, front, failed))) = inl (
       same ∙ is,
       (
         blocks,
         more,
-        frames_as n p j (sound_read c samples) (few + blocks) (few * j * x.made + frames) ((few + blocks) * j * x.made) (bytes ++ more) v full at,
+        frames_as n p j (sound_read c samples) (few + blocks) (few * j * x.made + frames) ((few + blocks) * j * x.made)
+            (bytes ++ more) v full at,
         front,
         failed,
         there blocks some,
@@ -118,6 +138,8 @@ module _ (n : Netlist Kit ℤ) (p : Schedule) (j : ℕ) (c : Reading) (samples k
     whole_failed e f same (inr (is, kept, fine)) = inr (same ∙ is, kept, fine)
 
 -- memory was refused before
-pub whole_refused : (n : Netlist Kit ℤ) (p : Schedule) (j : ℕ) (c : Reading) (samples : List ℤ) (few : ℕ) (bytes : List ℕ) (held : Option (List ℕ)) (w : ℕ) (o o' : Owed) (v : SessionValue Kit (List ℤ) ℤ) (f : Fault) → f ≡ OutOfMemory →
+pub whole_refused : (n : Netlist Kit ℤ) (p : Schedule) (j : ℕ) (c : Reading) (samples : List ℤ) (few : ℕ)
+    (bytes : List ℕ) (held : Option (List ℕ)) (w : ℕ) (o o' : Owed) (v : SessionValue Kit (List ℤ) ℤ) (f : Fault) →
+    f ≡ OutOfMemory →
     PutsWhole n p j c samples few bytes held held w w o o' v (Err f)
 whole_refused n p j c samples few bytes held w o o' v f is = inr (is, keeps_same held, refl)

@@ -8,12 +8,32 @@ use Rattle.sdf_process.specs.declared.fault.Fault.{Fault}
 use Rattle.sdf_process.specs.declared.fault.Fault.TheVariants as fault
 use Rattle.sdf_process.specs.Plans.{ArePassed, IsPlanFault, IsScheduleBy, IsTableFault}
 
-pub untabled : (d : DesignValue) (o : Options) (s : Schedule) (f : Fault) → ArePassed o → IsScheduleBy o.policy (graph_of kit_steps d.net) s → IsTableFault d o s f → IsPlanFault d o f
+pub untabled : (d : DesignValue) (o : Options) (s : Schedule) (f : Fault) → ArePassed o →
+    IsScheduleBy o.policy (graph_of kit_steps d.net) s → IsTableFault d o s f → IsPlanFault d o f
 untabled d o s fault.OutOfMemory passed schedule is = (passed, tt)
-untabled d o s (fault.Table f) passed schedule is =
-    (is.0, passed.patience, record { sizes = passed.sizes; period = s; by_policy = schedule; fault = is.1; no_memory = is.2 })
-untabled d o s fault.NotHomed passed schedule is =
-    (is.0, passed.patience, record { sizes = passed.sizes; period = s; by_policy = schedule; table = is.1.0; by_placement = is.1.1; scattered = is.1.2 })
+untabled d o s (fault.Table f) passed schedule is = (
+  is.0,
+  passed.patience,
+  record {
+    sizes = passed.sizes;
+    period = s;
+    by_policy = schedule;
+    fault = is.1;
+    no_memory = is.2;
+  },
+)
+untabled d o s fault.NotHomed passed schedule is = (
+  is.0,
+  passed.patience,
+  record {
+    sizes = passed.sizes;
+    period = s;
+    by_policy = schedule;
+    table = is.1.0;
+    by_placement = is.1.1;
+    scattered = is.1.2;
+  },
+)
 untabled d o s fault.Patience passed schedule is = absurd is
 untabled d o s fault.BlockingFactor passed schedule is = absurd is
 untabled d o s fault.WorkerCount passed schedule is = absurd is

@@ -1,5 +1,6 @@
 -- The texts that a run writes begin a canonical file.
-use Rattle.std.proofs.Common.{◌≡◌, inl, inr, ℕ, ◌-◌, ◌*◌, ◌%◌, ◌≤◌, ◌<◌, ◌^◌, ℤ, pos, List, [], ◌++◌, length, replicate, Some, None, refl, sym, ap, ◌∙◌, subst, arith, append_assoc, length-append}
+use Rattle.std.proofs.Common.{◌≡◌, inl, inr, ℕ, ◌-◌, ◌*◌, ◌%◌, ◌≤◌, ◌<◌, ◌^◌, ℤ, pos, List, [], ◌++◌, length, replicate}
+use Rattle.std.proofs.Common.{Some, None, refl, sym, ap, ◌∙◌, subst, arith, append_assoc, length-append}
 use Rattle.std.proofs.Math.Nat.{mul-mod_left, mul-le-mul_left, mul-le-mul_right}
 use Rattle.std.proofs.lemmas.List.{length-replicate}
 use Rattle.sdf_actor.specs.Nets.{Netlist}
@@ -17,21 +18,27 @@ use Rattle.sdf_process.proofs.Refusals.{Begins}
 use Rattle.sdf_process.proofs.Sounds.{length-interleaved, size_fits}
 
 pub bytes_append : SamplesJoin → (xs ys : List ℤ) → sample_bytes (xs ++ ys) ≡ sample_bytes xs ++ sample_bytes ys
-bytes_append joins xs ys = sym (joins (Some []) (Some (sample_bytes xs)) (Some (sample_bytes xs ++ sample_bytes ys)) xs ys refl refl)
+bytes_append joins xs ys = sym (joins (Some []) (Some (sample_bytes xs)) (Some (sample_bytes xs ++ sample_bytes ys))
+    xs ys refl refl)
 
 -- the header that is written is that of the output of what is announced
-pub header_is : (x : Exchange) (a : Announced) (e : Extent) → IsExtent x a e → file_header e.rate x.outputs (e.periods * x.made) ≡ output_header x a
-header_is x a e is = ap (λ (r : ℕ). file_header r x.outputs (e.periods * x.made)) is.rate ∙ ap (λ (p : ℕ). file_header (rate_for x a.rate) x.outputs (p * x.made)) is.periods
+pub header_is : (x : Exchange) (a : Announced) (e : Extent) → IsExtent x a e →
+    file_header e.rate x.outputs (e.periods * x.made) ≡ output_header x a
+header_is x a e is = ap (λ (r : ℕ). file_header r x.outputs (e.periods * x.made)) is.rate
+    ∙ ap (λ (p : ℕ). file_header (rate_for x a.rate) x.outputs (p * x.made)) is.periods
 
-module _ (laws : WavLaws) (x : Exchange) (a : Announced) (e : Extent) (limits : IsExchange x) (is : IsExtent x a e) where
+module _ (laws : WavLaws) (x : Exchange) (a : Announced) (e : Extent) (limits : IsExchange x)
+    (is : IsExtent x a e) where
   abbrev frames : ℕ
   frames = e.periods * x.made
 
   -- so many samples are a file behind its header
-  file_of : (samples : List ℤ) → length samples ≡ frames * x.outputs → IsCanonical (file_header e.rate x.outputs frames ++ sample_bytes samples)
+  file_of : (samples : List ℤ) → length samples ≡ frames * x.outputs →
+      IsCanonical (file_header e.rate x.outputs frames ++ sample_bytes samples)
   file_of samples long =
       let s : Sound = record { rate = e.rate; channels = x.outputs; samples = samples } in
-      let fits : write_fault s ≡ None = size_fits e.rate x.outputs (length samples) is.few_bytes_a_second (subst (λ (k : ℕ). 2 * k ≤ 4294967259) (sym long) is.few_bytes) in
+      let fits : write_fault s ≡ None = size_fits e.rate x.outputs (length samples) is.few_bytes_a_second
+      (subst (λ (k : ℕ). 2 * k ≤ 4294967259) (sym long) is.few_bytes) in
       let whole : length samples % x.outputs ≡ 0 = ap (λ (k : ℕ). k % x.outputs) long ∙ mul-mod_left frames x.outputs in
       let small : e.rate < 2 ^ 32 = rate_small e.rate x.outputs limits.one_output is.few_bytes_a_second in
       subst (λ (k : ℕ). IsCanonical (header e.rate x.outputs (2 * k) ++ sample_bytes samples)) long
@@ -41,30 +48,41 @@ module _ (laws : WavLaws) (x : Exchange) (a : Announced) (e : Extent) (limits : 
       rate_small r o one few = let more : r * 2 ≤ r * (2 * o) = mul-le-mul_left r (omega arith) in omega arith
 
   -- and fewer begin one
-  begins_of : (samples : List ℤ) → length samples ≤ frames * x.outputs → Begins (output_header x a ++ sample_bytes samples)
+  begins_of : (samples : List ℤ) → length samples ≤ frames * x.outputs →
+      Begins (output_header x a ++ sample_bytes samples)
   begins_of samples few =
       let zeros = replicate (frames * x.outputs - length samples) (pos 0) in
-      let long : length (samples ++ zeros) ≡ frames * x.outputs = omega (arith, length-append samples zeros, length-replicate (frames * x.outputs - length samples) (pos 0)) in
+      let long : length (samples ++ zeros) ≡ frames * x.outputs =
+      omega (arith, length-append samples zeros, length-replicate (frames * x.outputs - length samples) (pos 0)) in
       record {
         file = file_header e.rate x.outputs frames ++ sample_bytes (samples ++ zeros);
         more = sample_bytes zeros;
         canonical = file_of (samples ++ zeros) long;
         whole = ap (λ (h : List ℕ). h ++ sample_bytes (samples ++ zeros)) (header_is x a e is)
-            ∙ (ap (λ (b : List ℕ). output_header x a ++ b) (bytes_append laws.joins samples zeros) ∙ sym (append_assoc (output_header x a) (sample_bytes samples) (sample_bytes zeros)));
+            ∙ (ap (λ (b : List ℕ). output_header x a ++ b) (bytes_append laws.joins samples zeros)
+            ∙ sym (append_assoc (output_header x a) (sample_bytes samples) (sample_bytes zeros)));
       }
 
   -- all of them
-  pub whole_file : (samples : List ℤ) → length samples ≡ frames * x.outputs → IsCanonical (output_header x a ++ sample_bytes samples)
-  whole_file samples long = subst (λ (h : List ℕ). IsCanonical (h ++ sample_bytes samples)) (header_is x a e is) (file_of samples long)
+  pub whole_file : (samples : List ℤ) → length samples ≡ frames * x.outputs →
+      IsCanonical (output_header x a ++ sample_bytes samples)
+  whole_file samples long = subst (λ (h : List ℕ). IsCanonical (h ++ sample_bytes samples)) (header_is x a e is)
+      (file_of samples long)
 
 -- the frames of some periods behind the header
-pub text_begins : WavLaws → (n : Netlist Kit ℤ) (q : List ℕ) (a : Announced) (e : Extent) → IsExchange (exchange_of n q) → IsExtent (exchange_of n q) a e →
-    (s : Sound) (periods : ℕ) (bytes : List ℕ) → periods ≤ e.periods → AreFrames n q s periods bytes → Begins (output_header (exchange_of n q) a ++ bytes)
+pub text_begins : WavLaws → (n : Netlist Kit ℤ) (q : List ℕ) (a : Announced) (e : Extent) →
+    IsExchange (exchange_of n q) → IsExtent (exchange_of n q) a e →
+    (s : Sound) (periods : ℕ) (bytes : List ℕ) → periods ≤ e.periods → AreFrames n q s periods bytes →
+    Begins (output_header (exchange_of n q) a ++ bytes)
 text_begins laws n q a e limits is s periods bytes few (inl (none, no_bytes)) =
-    subst (λ (b : List ℕ). Begins (output_header (exchange_of n q) a ++ b)) (sym no_bytes) (begins_of laws (exchange_of n q) a e limits is [] (omega arith))
+    subst (λ (b : List ℕ). Begins (output_header (exchange_of n q) a ++ b)) (sym no_bytes)
+    (begins_of laws (exchange_of n q) a e limits is [] (omega arith))
 text_begins laws n q a e limits is s periods bytes few (inr (lists, made, same)) =
     let x = exchange_of n q in
     let frames = interleaved (periods * x.made) lists in
-    let long : length frames ≡ periods * x.made * x.outputs = length-interleaved (periods * x.made) lists ∙ ap (λ (k : ℕ). periods * x.made * k) made.count in
-    let fewer : periods * x.made * x.outputs ≤ e.periods * x.made * x.outputs = mul-le-mul_right x.outputs (mul-le-mul_right x.made few) in
-    subst (λ (b : List ℕ). Begins (output_header x a ++ b)) (sym same) (begins_of laws x a e limits is frames (subst (λ (k : ℕ). k ≤ e.periods * x.made * x.outputs) (sym long) fewer))
+    let long : length frames ≡ periods * x.made * x.outputs =
+    length-interleaved (periods * x.made) lists ∙ ap (λ (k : ℕ). periods * x.made * k) made.count in
+    let fewer : periods * x.made * x.outputs ≤ e.periods * x.made * x.outputs =
+    mul-le-mul_right x.outputs (mul-le-mul_right x.made few) in
+    subst (λ (b : List ℕ). Begins (output_header x a ++ b)) (sym same)
+    (begins_of laws x a e limits is frames (subst (λ (k : ℕ). k ≤ e.periods * x.made * x.outputs) (sym long) fewer))

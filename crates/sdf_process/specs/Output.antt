@@ -1,5 +1,6 @@
 -- The output of a design and a WAV file.
-use Rattle.std.specs.Prelude.{◌≡◌, ℕ, ◌+◌, ◌-◌, ◌*◌, ◌/◌, ◌%◌, ◌<◌, ◌≤◌, nat_lt, not, ◌==◌, if◌then◌else◌, ℤ, pos, List, map, option_map, slice_index_or, Option, Some, None}
+use Rattle.std.specs.Prelude.{◌≡◌, ℕ, ◌+◌, ◌-◌, ◌*◌, ◌/◌, ◌%◌, ◌<◌, ◌≤◌, nat_lt, not, ◌==◌, if◌then◌else◌, ℤ, pos, List}
+use Rattle.std.specs.Prelude.{map, option_map, slice_index_or, Option, Some, None}
 use Rattle.std.specs.Int.{w16, saturate_signed}
 use Rattle.std.specs.List.{flat_map, range_with_len}
 use Rattle.sdf_wav.specs.Sound.{Sound, frames_of}

@@ -25,14 +25,15 @@ rates_of d = rates (graph_of kit_steps d.net)
 abbrev pub firings_of : ℕ → Schedule → ℕ → ℕ
 firings_of j s = slice_index (block j s.repetitions)
 
--- one firing a row at the homes of the design: the period's order so many times, and by the policy of runs the whole block in runs
+-- one firing a row at the homes of the design: the period's order so many times, and by the policy of runs the whole
+-- block in runs
 abbrev pub AreAtHome : Policy → DesignValue → ℕ → ℕ → Schedule → Tabled → Type 0
 AreAtHome Round d j m s t = AreByHomes d.homes m (repeated j s.order) t.rows
 AreAtHome Lean d j m s t = AreByHomes d.homes m (repeated j s.order) t.rows
 AreAtHome Runs d j m s t = AreRunsByHomes (rates_of d) (firings_of j s) d.homes m t.rows
 
--- the table by a placement for blocks of j periods and m workers: by Hu's rule with the costs of the design, free or homed, or one
--- firing a row at the homes of the design
+-- the table by a placement for blocks of j periods and m workers: by Hu's rule with the costs of the design, free or
+-- homed, or one firing a row at the homes of the design
 abbrev pub IsPlaced : Placement → Policy → DesignValue → ℕ → ℕ → Schedule → Tabled → Type 0
 IsPlaced Hu policy d j m s t = IsHuTable (rates_of d) (firings_of j s) (slice_index d.costs) m false t
 IsPlaced Homed policy d j m s t = IsHuTable (rates_of d) (firings_of j s) (slice_index d.costs) m true t

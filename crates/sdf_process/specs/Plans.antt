@@ -1,5 +1,6 @@
 -- The plan of a design, or why it has none.
-use Rattle.std.specs.Prelude.{◌≡◌, ◌≢◌, ◌⊎◌, ℕ, ℤ, ◌≤◌, ◌==◌, List, [], map, length, Option, option_map, Result, Ok, Err, slice_index, slice_index_or, find, Some, None, IfSome, string_bytes}
+use Rattle.std.specs.Prelude.{◌≡◌, ◌≢◌, ◌⊎◌, ℕ, ℤ, ◌≤◌, ◌==◌, List, [], map, length, Option, option_map, Result, Ok}
+use Rattle.std.specs.Prelude.{Err, slice_index, slice_index_or, find, Some, None, IfSome, string_bytes}
 use Rattle.std.specs.List.{range_with_len}
 use Rattle.sdf_limits.specs.declared.TheConstants.{MOST_BLOCKING, MOST_PATIENCE, MOST_WORKERS}
 use Rattle.sdf_graph.specs.Rates.{Shape, rates}
@@ -31,10 +32,12 @@ use Rattle.sdf_words.specs.declared.options.Runner.{Runner}
 use Rattle.sdf_words.specs.declared.options.Runner.TheVariants.{One, Rows, Rings}
 use Rattle.sdf_process.specs.declared.fault.Progress.{Progress}
 use Rattle.sdf_process.specs.declared.fault.Fault.{Fault}
-use Rattle.sdf_process.specs.declared.fault.Fault.TheVariants.{OutOfMemory, Patience, BlockingFactor, WorkerCount, Deadlock, Table, NotHomed}
+use Rattle.sdf_process.specs.declared.fault.Fault.TheVariants.{OutOfMemory, Patience, BlockingFactor, WorkerCount}
+use Rattle.sdf_process.specs.declared.fault.Fault.TheVariants.{Deadlock, Table, NotHomed}
 use Rattle.sdf_process.specs.Placements.{IsTableBy, IsPlaceFault}
 
--- what runs a design, the periods of a block, a worker's repeated tests, the order of one period, and the table of a block
+-- what runs a design, the periods of a block, a worker's repeated tests, the order of one period, and the table of a
+-- block
 pub record PlanValue : Type 0 where
   pub blocking : ℕ
   pub runner : Runner
@@ -92,7 +95,8 @@ IsOptionFault o BlockingFactor = HasPatience o.runner o.patience × IsSizeFault 
 IsOptionFault o WorkerCount = HasPatience o.runner o.patience × IsSizeFault o WorkerCount
 IsOptionFault o f = ⊥
 
--- The runner on one thread has no table. Each other one has that of the placement; over rings each actor has a home in it.
+-- The runner on one thread has no table. Each other one has that of the placement; over rings each actor has a home in
+-- it.
 abbrev pub IsTableFor : Runner → DesignValue → Options → Schedule → Option Tabled → Type 0
 IsTableFor One d o s t = t ≡ None
 IsTableFor Rows d o s (Some t) = IsTableBy d o s t
@@ -113,14 +117,16 @@ abbrev pub SuitsRunner : Runner → Tabled → Type 0
 SuitsRunner Rings t = IsHomed t
 SuitsRunner runner t = Unit {0}
 
--- a plan is one of a net's: its order is one of the net's period, and its table, where it has one, is one of the net's blocks
+-- a plan is one of a net's: its order is one of the net's period, and its table, where it has one, is one of the net's
+-- blocks
 pub record Suits (n : Netlist Kit ℤ) (p : PlanValue) : Type 0 where
   pub period : IsPeriodOf (rates (graph_of kit_steps n)) p.period
   pub table : IfSome p.table (IsTableOf (rates (graph_of kit_steps n)) p.period.repetitions p.blocking)
   pub homes : IfSome p.table (SuitsRunner p.runner)
   pub patience : HasPatience p.runner p.patience
 
--- how far an actor came: its name, its firings, those of a period, and for an unfinished one its first link that holds too little
+-- how far an actor came: its name, its firings, those of a period, and for an unfinished one its first link that holds
+-- too little
 pub record ProgressValue : Type 0 where
   pub name : List ℕ
   pub done : ℕ
@@ -175,7 +181,8 @@ pub record IsUnplaced (d : DesignValue) (o : Options) (f : PrecFault) : Type 0 w
 -- why there is no table of a period that the runner takes
 abbrev pub IsTableFault : DesignValue → Options → Schedule → Fault → Type 0
 IsTableFault d o s OutOfMemory = Unit {0}
-IsTableFault d o s (Table f) = (o.runner ≢ One) × IsPlaceFault o.placement d o.blocking o.workers s f × (f ≡ prec.OutOfMemory → ⊥)
+IsTableFault d o s (Table f) = (o.runner ≢ One) × IsPlaceFault o.placement d o.blocking o.workers s f
+    × (f ≡ prec.OutOfMemory → ⊥)
 IsTableFault d o s NotHomed = (o.runner ≡ Rings) × ((t : Tabled) × IsTableBy d o s t × (IsHomed t → ⊥))
 IsTableFault d o s f = ⊥
 
@@ -197,8 +204,9 @@ IsPlanFault d o (Table f) = (o.runner ≢ One) × HasPatience o.runner o.patienc
 IsPlanFault d o NotHomed = (o.runner ≡ Rings) × HasPatience o.runner o.patience × IsScattered d o
 IsPlanFault d o f = ArePassed o × IsScheduleFault d f
 
--- What the answer for options that pass says of a design: a plan, or a reason why there is no table that serves, stands where some
--- sequence of enabled firings completes its least period, and 10 where none does. Memory may be refused in both cases, and there is no third.
+-- What the answer for options that pass says of a design: a plan, or a reason why there is no table that serves, stands
+-- where some sequence of enabled firings completes its least period, and 10 where none does. Memory may be refused in
+-- both cases, and there is no third.
 abbrev pub Decides : {X : Type 0} → DesignValue → Result X Fault → Type 0
 Decides d (Ok plan) = IsLive d
 Decides d (Err (Table f)) = IsLive d

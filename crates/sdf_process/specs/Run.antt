@@ -1,5 +1,6 @@
 -- What a run of the program reads, answers and writes.
-use Rattle.std.specs.Prelude.{◌≡◌, ◌≢◌, ℕ, ◌*◌, ◌/◌, ◌≤◌, ◌⊎◌, [], ◌++◌, ℤ, List, Option, Some, None, Result, Ok, Err, IfErr, map, take}
+use Rattle.std.specs.Prelude.{◌≡◌, ◌≢◌, ℕ, ◌*◌, ◌/◌, ◌≤◌, ◌⊎◌, [], ◌++◌, ℤ, List, Option, Some, None, Result, Ok, Err}
+use Rattle.std.specs.Prelude.{IfErr, map, take}
 use Rattle.std.specs.Io.KnownBytes.{Appends, Keeps}
 use Rattle.sdf_actor.specs.Nets.{Netlist}
 use Rattle.sdf_answer.specs.Answer.{AreOutputs, periods_of as firings}
@@ -10,7 +11,8 @@ use Rattle.sdf_wav.specs.Grammar.{IsWav}
 use Rattle.sdf_wav.specs.Fault.{HasFault}
 use Rattle.sdf_wav.specs.Device.{AppendsFront, Known, LosesFront, one_more}
 use Rattle.sdf_wav.specs.Canonical.{canonical_wav, sample_bytes, IsCanonical}
-use Rattle.sdf_process.specs.Output.{exchange_of, announced_fault, output_header, periods_of, lists_to, input_lists, interleaved, output_frames, output_of, output_fault}
+use Rattle.sdf_process.specs.Output.{exchange_of, announced_fault, output_header, periods_of, lists_to, input_lists}
+use Rattle.sdf_process.specs.Output.{interleaved, output_frames, output_of, output_fault}
 use Rattle.sdf_wav.specs.PiecesIn.{Reading, Opens, IsReadTo, IsEnded, sound_read, known_frames}
 use Rattle.sdf_wav.specs.declared.fault.FormatFault.{FormatFault}
 use Rattle.sdf_wav.specs.declared.fault.FormatFault.TheVariants.{Truncated}
@@ -18,19 +20,22 @@ use Rattle.sdf_wav.specs.declared.format.Format.{Format}
 use Rattle.sdf_process.specs.declared.exchange.Announced.{Announced}
 use Rattle.sdf_process.specs.declared.exchange.Exchange.{Exchange}
 use Rattle.sdf_process.specs.declared.fault.Fault.{Fault}
-use Rattle.sdf_process.specs.declared.fault.Fault.TheVariants.{OutOfMemory, Wav, Read, Write, ChannelsMissing, RateNotWhole}
+use Rattle.sdf_process.specs.declared.fault.Fault.TheVariants.{OutOfMemory, Wav, Read, Write, ChannelsMissing}
+use Rattle.sdf_process.specs.declared.fault.Fault.TheVariants.{RateNotWhole}
 
--- the sound that a net of period vector q makes of a sound: that of the lists that reach the sinks, in the histories of as many
--- periods as it takes to read the sound. By the law of histories there is only one
+-- the sound that a net of period vector q makes of a sound: that of the lists that reach the sinks, in the histories of
+-- as many periods as it takes to read the sound. By the law of histories there is only one
 pub record IsOutput (n : Netlist Kit ℤ) (q : List ℕ) (s out : Sound) : Type 0 where
   pub lists : List (List ℤ)
-  pub are_outputs : AreOutputs kit_steps n (input_lists (exchange_of n q) s) (firings q (periods_of (exchange_of n q) s)) lists
+  pub are_outputs : AreOutputs kit_steps n (input_lists (exchange_of n q) s)
+      (firings q (periods_of (exchange_of n q) s)) lists
   pub output : out ≡ output_of (exchange_of n q) s lists
 
 -- Lists whose first samples reach the sinks. A runner by whole blocks may make more of them.
 abbrev pub BeginWithOutput : Netlist Kit ℤ → List ℕ → Sound → List (List ℤ) → Type 0
 BeginWithOutput n q s lists =
-    AreOutputs kit_steps n (input_lists (exchange_of n q) s) (firings q (periods_of (exchange_of n q) s)) (map (take (output_frames (exchange_of n q) s)) lists)
+    AreOutputs kit_steps n (input_lists (exchange_of n q) s) (firings q (periods_of (exchange_of n q) s))
+    (map (take (output_frames (exchange_of n q) s)) lists)
 
 -- a WAV file stood in the input, and there is an output of it
 pub record HasOutput (n : Netlist Kit ℤ) (q : List ℕ) (input : List ℕ) (out : Sound) : Type 0 where
@@ -40,12 +45,13 @@ pub record HasOutput (n : Netlist Kit ℤ) (q : List ℕ) (input : List ℕ) (ou
   pub is_allowed : output_fault (exchange_of n q) sound ≡ None
   pub is_output : IsOutput n q sound out
 
--- What is announced of a content that was read as far as this: as many frames as the size of its data says, or, where that was not
--- filled in, as many as there are once nothing of it is left.
+-- What is announced of a content that was read as far as this: as many frames as the size of its data says, or, where
+-- that was not filled in, as many as there are once nothing of it is left.
 abbrev pub Announces : Reading → List ℤ → List ℕ → Announced → Type 0
 Announces r samples rest a =
     (a.rate ≡ r.rate) × (a.channels ≡ r.channels)
-    × ((known_frames r ≡ Some a.frames) ⊎ ((known_frames r ≡ None) × IsEnded r rest × (a.frames ≡ frames_of (sound_read r samples))))
+    × ((known_frames r ≡ Some a.frames) ⊎ ((known_frames r ≡ None) × IsEnded r rest
+    × (a.frames ≡ frames_of (sound_read r samples))))
 
 -- a size of data that was filled in announces so many frames
 abbrev pub announced_size : Format → ℕ → Announced
@@ -57,7 +63,8 @@ IsUnsized input = (f : Format) (size : ℕ) (rest : List ℕ) → Opens input f 
 
 -- of what the size of the data announces there is an output, if the input opens and the size was filled in
 abbrev pub IsAllowed : Exchange → List ℕ → Type 0
-IsAllowed x input = (f : Format) (size : ℕ) (rest : List ℕ) → Opens input f size rest → size ≢ 0xFFFFFFFF → announced_fault x (announced_size f size) ≡ None
+IsAllowed x input = (f : Format) (size : ℕ) (rest : List ℕ) → Opens input f size rest → size ≢ 0xFFFFFFFF →
+    announced_fault x (announced_size f size) ≡ None
 
 -- of what the input announces there is no output
 pub record HasOutputFault (n : Netlist Kit ℤ) (q : List ℕ) (input : List ℕ) (f : Fault) : Type 0 where
@@ -72,17 +79,19 @@ pub record HasOutputFault (n : Netlist Kit ℤ) (q : List ℕ) (input : List ℕ
 -- so many whole periods were read of a content, the last one filled up with zeros once nothing is left
 abbrev pub AreRead : Exchange → Reading → List ℤ → List ℕ → ℕ → Type 0
 AreRead x r samples rest periods =
-    (periods * x.taken ≤ frames_of (sound_read r samples)) ⊎ (IsEnded r rest × (periods ≤ periods_of x (sound_read r samples)))
+    (periods * x.taken ≤ frames_of (sound_read r samples))
+    ⊎ (IsEnded r rest × (periods ≤ periods_of x (sound_read r samples)))
 
--- the bytes of the frames that a net makes in the first periods of a sound: none, or those of the lists that reach the sinks
+-- the bytes of the frames that a net makes in the first periods of a sound: none, or those of the lists that reach the
+-- sinks
 abbrev pub AreFrames : Netlist Kit ℤ → List ℕ → Sound → ℕ → List ℕ → Type 0
 AreFrames n q s periods bytes =
     ((periods ≡ 0) × (bytes ≡ []))
     ⊎ ((lists : List (List ℤ)) × AreOutputs kit_steps n (lists_to periods (exchange_of n q) s) (firings q periods) lists
     × (bytes ≡ sample_bytes (interleaved (periods * (exchange_of n q).made) lists)))
 
--- What a run may have written of an input by now: the header of the output, which what is announced says, and behind it the frames
--- of whole periods that were read.
+-- What a run may have written of an input by now: the header of the output, which what is announced says, and behind it
+-- the frames of whole periods that were read.
 pub record IsText (n : Netlist Kit ℤ) (q : List ℕ) (input text : List ℕ) : Type 0 where
   pub reading : Reading
   pub samples : List ℤ
@@ -107,9 +116,10 @@ WritesFront n q input before after = (text : List ℕ) × IsText n q input text 
 abbrev pub WhereKnown : Option (List ℕ) → (List ℕ → Type 0) → Type 0
 WhereKnown bytes P = (input : List ℕ) → bytes ≡ Some input → P input
 
--- What a run's answer says of the input, and of what was written. On Ok that is the output's canonical file. A fault of the input before its
--- content, or anywhere where the size of its data was never filled in, and a fault of the output leave nothing written; a content
--- that is cut off leaves a text whole, the writer's failure a front of one, and memory and the reader nothing or a text.
+-- What a run's answer says of the input, and of what was written. On Ok that is the output's canonical file. A fault of
+-- the input before its content, or anywhere where the size of its data was never filled in, and a fault of the output
+-- leave nothing written; a content that is cut off leaves a text whole, the writer's failure a front of one, and memory
+-- and the reader nothing or a text.
 abbrev pub Runs : Netlist Kit ℤ → List ℕ → List ℕ → Option (List ℕ) → Option (List ℕ) → Result (Unit {0}) Fault → Type 0
 Runs n q input before after (Ok x) = (out : Sound) × HasOutput n q input out × Appends before after (canonical_wav out)
 Runs n q input before after (Err Write) = WritesFront n q input before after
@@ -139,17 +149,20 @@ ReadsFile input left = (s : Sound) × IsWav input s left
 abbrev pub ReadsInto : List ℕ → List ℕ → Type 0
 ReadsInto input left = (r : Reading) × (samples : List ℤ) × IsReadTo input r samples left
 
--- the input was read as far as it takes to know its frames: not into its content, where the size of the data was filled in, and else to its end
+-- the input was read as far as it takes to know its frames: not into its content, where the size of the data was filled
+-- in, and else to its end
 abbrev pub ReadsAnnounced : List ℕ → List ℕ → Type 0
 ReadsAnnounced input left =
-    (r : Reading) × (samples : List ℤ) × IsReadTo input r samples left × ((r.size ≢ 0xFFFFFFFF → r.gone ≡ 0) × (r.size ≡ 0xFFFFFFFF → left ≡ []))
+    (r : Reading) × (samples : List ℤ) × IsReadTo input r samples left
+    × ((r.size ≢ 0xFFFFFFFF → r.gone ≡ 0) × (r.size ≡ 0xFFFFFFFF → left ≡ []))
 
 -- the input has this fault and lost a front, or the fault is of its output
 abbrev pub IsRefused : FormatFault → List ℕ → List ℕ → Type 0
 IsRefused f input left = (HasFault input f × LosesFront input left) ⊎ ReadsAnnounced input left
 
--- What is left in the reader: what stands behind the WAV file, once it is known to be one; behind what was read of it, where the writer
--- failed; the content, where there is no output of as many frames as the size of the data says; or else the input without some front.
+-- What is left in the reader: what stands behind the WAV file, once it is known to be one; behind what was read of it,
+-- where the writer failed; the content, where there is no output of as many frames as the size of the data says; or
+-- else the input without some front.
 abbrev pub Leaves : {X : Type 0} → Option (List ℕ) → Option (List ℕ) → Result X Fault → Type 0
 Leaves old new (Ok x) = Known old new ReadsFile
 Leaves old new (Err Write) = Known old new ReadsInto
@@ -162,8 +175,8 @@ Leaves old new (Err f) = Known old new LosesFront
 abbrev pub WritesSome : Option (List ℕ) → Option (List ℕ) → Type 0
 WritesSome old new = Keeps old new ⊎ ((file : List ℕ) × IsCanonical file × AppendsFront old new file)
 
--- What was written, whatever the reader tells: one canonical file, a front of one where the writer failed, nothing or a front where memory or the
--- reader failed or the content is cut off, and else nothing.
+-- What was written, whatever the reader tells: one canonical file, a front of one where the writer failed, nothing or a
+-- front where memory or the reader failed or the content is cut off, and else nothing.
 abbrev pub WritesFile : {X : Type 0} → Option (List ℕ) → Option (List ℕ) → Result X Fault → Type 0
 WritesFile old new (Ok x) = (file : List ℕ) × IsCanonical file × Appends old new file
 WritesFile old new (Err Write) = (file : List ℕ) × IsCanonical file × AppendsFront old new file
@@ -183,7 +196,8 @@ writer_failures (Err Write) failures = one_more failures
 writer_failures result failures = failures
 
 -- all that a run's answer says of the two devices, whatever was to be run
-pub record Handles {X : Type 0} (read left before after : Option (List ℕ)) (r r' w w' : ℕ) (result : Result X Fault) : Type 0 where
+pub record Handles {X : Type 0} (read left before after : Option (List ℕ)) (r r' w w' : ℕ)
+    (result : Result X Fault) : Type 0 where
   pub faults : IfErr result IsProcessFault
   pub leaves : Leaves read left result
   pub writes : WritesFile before after result
@@ -201,11 +215,16 @@ Refuses None (Err e) = IsFromOutside e
 Refuses (Some f) (Ok x) = ⊥
 Refuses (Some f) (Err e) = (e ≡ f) ⊎ IsFromOutside e
 
--- All that a run's answer says: what is answered is so; what is so is answered, unless memory or a device failed; and the devices.
-pub record IsRun (n : Netlist Kit ℤ) (q : List ℕ) (read left before after : Option (List ℕ)) (r r' w w' : ℕ) (result : Result (Unit {0}) Fault) : Type 0 where
+-- All that a run's answer says: what is answered is so; what is so is answered, unless memory or a device failed; and
+-- the devices.
+pub record IsRun (n : Netlist Kit ℤ) (q : List ℕ) (read left before after : Option (List ℕ)) (r r' w w' : ℕ)
+    (result : Result (Unit {0}) Fault) : Type 0 where
   pub runs : WhereKnown read (λ input. Runs n q input before after result)
-  pub accepts : (input : List ℕ) (s : Sound) (rest : List ℕ) → read ≡ Some input → IsWav input s rest → Refuses (output_fault (exchange_of n q) s) result
-  pub foresees : (input : List ℕ) (f : Format) (size : ℕ) (rest : List ℕ) (e : Fault) → read ≡ Some input → Opens input f size rest → size ≢ 0xFFFFFFFF →
+  pub accepts : (input : List ℕ) (s : Sound) (rest : List ℕ) → read ≡ Some input → IsWav input s rest →
+      Refuses (output_fault (exchange_of n q) s) result
+  pub foresees : (input : List ℕ) (f : Format) (size : ℕ) (rest : List ℕ) (e : Fault) → read ≡ Some input →
+      Opens input f size rest → size ≢ 0xFFFFFFFF →
       announced_fault (exchange_of n q) (announced_size f size) ≡ Some e → Refuses (Some e) result
-  pub refuses : (input : List ℕ) (f : FormatFault) → read ≡ Some input → HasFault input f → IsAllowed (exchange_of n q) input → Refuses (Some (Wav f)) result
+  pub refuses : (input : List ℕ) (f : FormatFault) → read ≡ Some input → HasFault input f →
+      IsAllowed (exchange_of n q) input → Refuses (Some (Wav f)) result
   pub devices : Handles read left before after r r' w w' result

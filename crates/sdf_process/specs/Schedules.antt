@@ -8,7 +8,8 @@ use Rattle.sdf_file.specs.Designs.{DesignValue}
 use Rattle.sdf_file.specs.Schedules.{IsScheduleText}
 use Rattle.sdf_words.specs.declared.options.Options.{Options}
 use Rattle.sdf_process.specs.declared.fault.Fault.{Fault}
-use Rattle.sdf_process.specs.declared.fault.Fault.TheVariants.{OutOfMemory, BlockingFactor, WorkerCount, Deadlock, Table}
+use Rattle.sdf_process.specs.declared.fault.Fault.TheVariants.{OutOfMemory, BlockingFactor, WorkerCount, Deadlock}
+use Rattle.sdf_process.specs.declared.fault.Fault.TheVariants.{Table}
 use Rattle.sdf_process.specs.Placements.{IsTableBy}
 use Rattle.sdf_process.specs.Plans.{AreSizes, IsSizeFault, IsScheduleBy, IsScheduleFault, IsUnplaced}
 

@@ -1,5 +1,6 @@
 -- The stages of a run: what each of them says of the devices.
-use Rattle.std.specs.Prelude.{◌≡◌, ◌≢◌, ◌⊎◌, ℕ, ◌+◌, ◌*◌, ◌%◌, ◌^◌, ◌<◌, ◌≤◌, ℤ, List, [], ◌++◌, length, Option, Some, None, Result, Ok, Err, false}
+use Rattle.std.specs.Prelude.{◌≡◌, ◌≢◌, ◌⊎◌, ℕ, ◌+◌, ◌*◌, ◌%◌, ◌^◌, ◌<◌, ◌≤◌, ℤ, List, [], ◌++◌, length, Option, Some}
+use Rattle.std.specs.Prelude.{None, Result, Ok, Err, false}
 use Rattle.std.specs.Io.KnownBytes.{Appends, Keeps}
 use Rattle.sdf_actor.specs.Nets.{Netlist}
 use Rattle.sdf_actor.specs.declared.rest.Rest.{Rest}
@@ -22,7 +23,8 @@ use Rattle.sdf_process.specs.declared.exchange.Exchange.{Exchange}
 use Rattle.sdf_process.specs.declared.exchange.Extent.{Extent}
 use Rattle.sdf_process.specs.declared.fault.Fault.{Fault}
 use Rattle.sdf_process.specs.declared.fault.Fault.TheVariants.{OutOfMemory, Wav, Read, Write}
-use Rattle.sdf_process.specs.Output.{announced_by, exchange_of, input_lists, interleaved, lists_to, output_frames, output_header, periods_of, IsExtent}
+use Rattle.sdf_process.specs.Output.{announced_by, exchange_of, input_lists, interleaved, lists_to, output_frames}
+use Rattle.sdf_process.specs.Output.{output_header, periods_of, IsExtent}
 use Rattle.sdf_process.specs.Run.{Announces, AreFrames, IsAllowed, IsRun}
 
 -- What a call did that is to write these bytes: all of them, or a front where the writer failed.
@@ -34,17 +36,21 @@ PutsHeader before after w w' bytes (Err f) = (f ≡ Write) × AppendsFront befor
 abbrev pub PutsFrames : {X : Type 0} → Option (List ℕ) → Option (List ℕ) → ℕ → ℕ → List ℕ → Result X Fault → Type 0
 PutsFrames before after w w' bytes (Ok x) = Appends before after bytes × (w' ≡ w)
 PutsFrames before after w w' bytes (Err f) =
-    ((f ≡ Write) × AppendsFront before after bytes × (w' ≡ one_more w)) ⊎ ((f ≡ OutOfMemory) × Keeps before after × (w' ≡ w))
+    ((f ≡ Write) × AppendsFront before after bytes × (w' ≡ one_more w))
+    ⊎ ((f ≡ OutOfMemory) × Keeps before after × (w' ≡ w))
 
--- The frames of a net on a sound were written: all of them, or a front of those of some periods where the writer failed, or those
--- of some periods where memory was refused.
-abbrev pub PutsOutput : Netlist Kit ℤ → List ℕ → Sound → Option (List ℕ) → Option (List ℕ) → ℕ → ℕ → Result (Unit {0}) Fault → Type 0
+-- The frames of a net on a sound were written: all of them, or a front of those of some periods where the writer
+-- failed, or those of some periods where memory was refused.
+abbrev pub PutsOutput : Netlist Kit ℤ → List ℕ → Sound → Option (List ℕ) → Option (List ℕ) → ℕ → ℕ →
+    Result (Unit {0}) Fault → Type 0
 PutsOutput n q s before after w w' (Ok x) =
-    (lists : List (List ℤ)) × AreOutputs kit_steps n (input_lists (exchange_of n q) s) (firings q (periods_of (exchange_of n q) s)) lists
+    (lists : List (List ℤ)) × AreOutputs kit_steps n (input_lists (exchange_of n q) s)
+    (firings q (periods_of (exchange_of n q) s)) lists
     × Appends before after (sample_bytes (interleaved (output_frames (exchange_of n q) s) lists)) × (w' ≡ w)
 PutsOutput n q s before after w w' (Err f) =
     (periods : ℕ) × (frames : List ℕ) × (periods ≤ periods_of (exchange_of n q) s) × AreFrames n q s periods frames
-    × (((f ≡ Write) × AppendsFront before after frames × (w' ≡ one_more w)) ⊎ ((f ≡ OutOfMemory) × Appends before after frames × (w' ≡ w)))
+    × (((f ≡ Write) × AppendsFront before after frames × (w' ≡ one_more w))
+    ⊎ ((f ≡ OutOfMemory) × Appends before after frames × (w' ≡ w)))
 
 -- The first periods of a sound were run: these are the bytes of their frames, and this is what the run leaves.
 abbrev pub PlaysTo : Netlist Kit ℤ → List ℕ → Sound → ℕ → List ℕ → Rest ℤ (List ℤ) → Type 0
@@ -52,13 +58,15 @@ PlaysTo n q s periods frames rest =
     (made : List (List ℤ)) × HasRun kit_steps n (lists_to periods (exchange_of n q) s) (firings q periods) made rest
     × (frames ≡ sample_bytes (interleaved (periods * (exchange_of n q).made) made))
 
--- Behind the frames of the first periods those of so many more were written: all of them, or a front where the writer failed, or
--- none where memory was refused.
-abbrev pub PutsPiece : Netlist Kit ℤ → List ℕ → Sound → ℕ → ℕ → List ℕ → Option (List ℕ) → Option (List ℕ) → ℕ → ℕ → Result (Rest ℤ (List ℤ)) Fault → Type 0
+-- Behind the frames of the first periods those of so many more were written: all of them, or a front where the writer
+-- failed, or none where memory was refused.
+abbrev pub PutsPiece : Netlist Kit ℤ → List ℕ → Sound → ℕ → ℕ → List ℕ → Option (List ℕ) → Option (List ℕ) → ℕ → ℕ →
+    Result (Rest ℤ (List ℤ)) Fault → Type 0
 PutsPiece n q s at many frames before after w w' (Ok rest) =
     (more : List ℕ) × PlaysTo n q s (at + many) (frames ++ more) rest × Appends before after more × (w' ≡ w)
 PutsPiece n q s at many frames before after w w' (Err f) =
-    ((f ≡ Write) × ((more : List ℕ) × (rest : Rest ℤ (List ℤ)) × PlaysTo n q s (at + many) (frames ++ more) rest × AppendsFront before after more × (w' ≡ one_more w)))
+    ((f ≡ Write) × ((more : List ℕ) × (rest : Rest ℤ (List ℤ)) × PlaysTo n q s (at + many) (frames ++ more) rest
+    × AppendsFront before after more × (w' ≡ one_more w)))
     ⊎ ((f ≡ OutOfMemory) × Keeps before after × (w' ≡ w))
 
 -- where the content c of an input was read from its start on, to its end, and this is its sound
@@ -69,12 +77,14 @@ pub record IsHeardFrom (c : Reading) (input : List ℕ) (s : Sound) (left : List
 -- what the reading of a whole content says of the bytes before it and behind it
 abbrev pub ReadsContent : Reading → Option (List ℕ) → Option (List ℕ) → ℕ → ℕ → Result Sound Fault → Type 0
 ReadsContent c old new r r' (Ok s) =
-    Known old new (λ bytes left. ((input : List ℕ) → IsReadTo input c [] bytes → IsHeardFrom c input s left) × LosesFront bytes left) × (r' ≡ r)
+    Known old new (λ bytes left. ((input : List ℕ) → IsReadTo input c [] bytes → IsHeardFrom c input s left)
+    × LosesFront bytes left) × (r' ≡ r)
     × (s.rate ≡ c.rate) × (s.channels ≡ c.channels) × (c.size ≢ 0xFFFFFFFF → 2 * length s.samples ≡ c.size)
 ReadsContent c old new r r' (Err f) =
     ((f ≡ OutOfMemory) × Known old new LosesFront × (r' ≡ r))
     ⊎ (((f ≡ Read) × Known old new LosesFront × (r' ≡ one_more r))
-    ⊎ ((g : FormatFault) × (f ≡ Wav g) × Known old new (λ bytes left. ((input : List ℕ) → IsReadTo input c [] bytes → HasFault input g) × LosesFront bytes left)
+    ⊎ ((g : FormatFault) × (f ≡ Wav g) × Known old new
+    (λ bytes left. ((input : List ℕ) → IsReadTo input c [] bytes → HasFault input g) × LosesFront bytes left)
     × (r' ≡ r) × (c.size ≢ 0xFFFFFFFF → g ≡ Truncated)))
 
 -- an input was read to the end of its content, this is its sound, and its frames are those that it announced
@@ -86,9 +96,10 @@ pub record IsHeard (input : List ℕ) (s : Sound) (left : List ℕ) : Type 0 whe
   pub channels : s.channels ≡ reading.channels
   pub announces : Announces reading s.samples left (announced_by s)
 
--- All that is known once a sound was heard and the header of its output is written: of an output of this rate and length nothing is
--- there but the header.
-pub record Hears (x : Exchange) (read left before after : Option (List ℕ)) (r r' w w' : ℕ) (s : Sound) (e : Extent) (o : Owed) : Type 0 where
+-- All that is known once a sound was heard and the header of its output is written: of an output of this rate and
+-- length nothing is there but the header.
+pub record Hears (x : Exchange) (read left before after : Option (List ℕ)) (r r' w w' : ℕ) (s : Sound) (e : Extent)
+    (o : Owed) : Type 0 where
   pub heard : Known read left (λ input rest. IsHeard input s rest × LosesFront input rest)
   pub allowed : (input : List ℕ) → read ≡ Some input → IsAllowed x input
   pub extent : IsExtent x (announced_by s) e
@@ -100,22 +111,28 @@ pub record Hears (x : Exchange) (read left before after : Option (List ℕ)) (r 
 -- a content that was opened from an input of which this is left
 pub record IsOpened (read left : Option (List ℕ)) (c : Reading) : Type 0 where
   pub answers : AnswersOpening read left (Ok c)
-  pub only : (input : List ℕ) (f : Format) (size : ℕ) (rest : List ℕ) → read ≡ Some input → Opens input f size rest → OpensTo left f size rest (Ok c)
+  pub only : (input : List ℕ) (f : Format) (size : ℕ) (rest : List ℕ) → read ≡ Some input → Opens input f size rest →
+      OpensTo left f size rest (Ok c)
 
 -- what the stages behind an opening say of the run, whatever was opened
-abbrev pub RunsOn : Netlist Kit ℤ → List ℕ → Reading → Option (List ℕ) → Option (List ℕ) → Option (List ℕ) → Option (List ℕ) → ℕ → ℕ → ℕ → ℕ → Result (Unit {0}) Fault → Type 0
-RunsOn n q c mid left before after r r' w w' result = (read : Option (List ℕ)) → IsOpened read mid c → IsRun n q read left before after r r' w w' result
+abbrev pub RunsOn : Netlist Kit ℤ → List ℕ → Reading → Option (List ℕ) → Option (List ℕ) → Option (List ℕ) →
+    Option (List ℕ) → ℕ → ℕ → ℕ → ℕ → Result (Unit {0}) Fault → Type 0
+RunsOn n q c mid left before after r r' w w' result = (read : Option (List ℕ)) → IsOpened read mid c →
+    IsRun n q read left before after r r' w w' result
 
 -- samples that are written in turn are written as one list
 abbrev pub SamplesJoin : Type 0
-SamplesJoin = (a b c : Option (List ℕ)) (x y : List ℤ) → Appends a b (sample_bytes x) → Appends b c (sample_bytes y) → Appends a c (sample_bytes (x ++ y))
+SamplesJoin = (a b c : Option (List ℕ)) (x y : List ℤ) → Appends a b (sample_bytes x) → Appends b c (sample_bytes y) →
+    Appends a c (sample_bytes (x ++ y))
 
 -- The laws of WAV files that a run stands on.
 pub record WavLaws : Type 0 where
   pub announces : (input : List ℕ) (s : Sound) (rest : List ℕ) → IsWav input s rest → OpensAs input s
-  pub ends : (input : List ℕ) (r : Reading) (samples : List ℤ) (rest : List ℕ) → IsReadTo input r samples rest → IsEnded r rest → IsWav input (sound_read r samples) rest
+  pub ends : (input : List ℕ) (r : Reading) (samples : List ℤ) (rest : List ℕ) → IsReadTo input r samples rest →
+      IsEnded r rest → IsWav input (sound_read r samples) rest
   pub one_sound : (bytes : List ℕ) (s t : Sound) (x y : List ℕ) → IsWav bytes s x → IsWav bytes t y → (s ≡ t) × (x ≡ y)
   pub one_fault : (bytes : List ℕ) (f g : FormatFault) → HasFault bytes f → HasFault bytes g → f ≡ g
   pub not_both : (bytes : List ℕ) (s : Sound) (x : List ℕ) (f : FormatFault) → IsWav bytes s x → HasFault bytes f → ⊥
   pub joins : SamplesJoin
-  pub canonical : (s : Sound) → 1 ≤ s.rate → s.rate < 2 ^ 32 → 1 ≤ s.channels → s.channels ≤ MOST_CHANNELS → length s.samples % s.channels ≡ 0 → write_fault s ≡ None → IsCanonical (canonical_wav s)
+  pub canonical : (s : Sound) → 1 ≤ s.rate → s.rate < 2 ^ 32 → 1 ≤ s.channels → s.channels ≤ MOST_CHANNELS →
+      length s.samples % s.channels ≡ 0 → write_fault s ≡ None → IsCanonical (canonical_wav s)

@@ -1,5 +1,6 @@
 -- A run with workers that reads its input and writes its output as it goes.
-use Rattle.std.specs.Prelude.{◌≡◌, ◌⊎◌, ℕ, ◌+◌, ◌-◌, ◌*◌, ◌<◌, ◌≤◌, ℤ, List, [], ◌++◌, length, drop, Option, Result, Ok, Err, false}
+use Rattle.std.specs.Prelude.{◌≡◌, ◌⊎◌, ℕ, ◌+◌, ◌-◌, ◌*◌, ◌<◌, ◌≤◌, ℤ, List, [], ◌++◌, length, drop, Option, Result, Ok}
+use Rattle.std.specs.Prelude.{Err, false}
 use Rattle.std.specs.Io.KnownBytes.{Appends, Keeps}
 use Rattle.sdf_actor.specs.Nets.{Netlist}
 use Rattle.sdf_answer.specs.Periods.{HasPeriod}
@@ -27,12 +28,16 @@ use Rattle.sdf_process.specs.Stages.{PutsOutput, ReadsContent}
 -- the content c of an input was read on from its start by these samples
 abbrev pub ReadsBy : Reading → List ℤ → Option (List ℕ) → Option (List ℕ) → Type 0
 ReadsBy c samples old new =
-    Known old new (λ bytes left. ((input : List ℕ) → IsReadTo input c [] bytes → IsReadTo input (record c { gone = c.gone + 2 * length samples }) samples left) × LosesFront bytes left)
+    Known old new (λ bytes left. ((input : List ℕ) → IsReadTo input c [] bytes →
+    IsReadTo input (record c { gone = c.gone + 2 * length samples }) samples left) × LosesFront bytes left)
 
 -- So many frames behind these samples were read, and are kept behind others; or the reading of the content failed.
-abbrev pub ReadsMore : Reading → List ℤ → ℕ → List ℤ → Option (List ℕ) → Option (List ℕ) → ℕ → ℕ → Reading → Result (List ℤ) Fault → Type 0
+abbrev pub ReadsMore : Reading → List ℤ → ℕ → List ℤ → Option (List ℕ) → Option (List ℕ) → ℕ → ℕ → Reading →
+    Result (List ℤ) Fault → Type 0
 ReadsMore c before frames kept old new r r' now (Ok all) =
-    (samples : List ℤ) × (all ≡ kept ++ samples) × (length samples ≡ frames * c.channels) × ReadsBy c (before ++ samples) old new × (now ≡ record c { gone = c.gone + 2 * length (before ++ samples) }) × (r' ≡ r)
+    (samples : List ℤ) × (all ≡ kept ++ samples) × (length samples ≡ frames * c.channels)
+    × ReadsBy c (before ++ samples) old new × (now ≡
+    record c { gone = c.gone + 2 * length (before ++ samples) }) × (r' ≡ r)
 ReadsMore c before frames kept old new r r' now (Err f) = ReadsContent c old new r r' (Err f)
 
 -- how a session goes on that a runner with workers has
@@ -40,9 +45,10 @@ abbrev pub mode_of : Runner → ℕ → Mode
 mode_of runners.Rings patience = Rings patience
 mode_of runner patience = Rows
 
--- A session of net n stands after the first blocks of j periods of a sound, and these are the bytes of the first frames of what it
--- made of them.
-pub record StandsAt (n : Netlist Kit ℤ) (p : Schedule) (j : ℕ) (s : Sound) (blocks frames : ℕ) (bytes : List ℕ) (v : SessionValue Kit (List ℤ) ℤ) : Type 0 where
+-- A session of net n stands after the first blocks of j periods of a sound, and these are the bytes of the first frames
+-- of what it made of them.
+pub record StandsAt (n : Netlist Kit ℤ) (p : Schedule) (j : ℕ) (s : Sound) (blocks frames : ℕ) (bytes : List ℕ)
+    (v : SessionValue Kit (List ℤ) ℤ) : Type 0 where
   pub net : v.net ≡ n
   pub period : v.period ≡ p
   pub factor : v.factor ≡ j
@@ -69,43 +75,57 @@ pub record IsReady (n : Netlist Kit ℤ) (p : Schedule) (t : Stream) : Type 0 wh
   pub channels : t.output.channels ≡ t.exchange.outputs
   pub few : 2 * (t.output.missing * t.exchange.outputs) ≤ 4294967259
 
--- So many more blocks were fed, and so many frames of what they made were written behind all before: all of them, or a front where the
--- writer failed, or none where memory was refused.
-abbrev pub PutsBlocks : Netlist Kit ℤ → Schedule → ℕ → Sound → ℕ → ℕ → ℕ → List ℕ → Option (List ℕ) → Option (List ℕ) → ℕ → ℕ → SessionValue Kit (List ℤ) ℤ → Result (Unit {0}) Fault → Type 0
+-- So many more blocks were fed, and so many frames of what they made were written behind all before: all of them, or a
+-- front where the writer failed, or none where memory was refused.
+abbrev pub PutsBlocks : Netlist Kit ℤ → Schedule → ℕ → Sound → ℕ → ℕ → ℕ → List ℕ → Option (List ℕ) → Option (List ℕ) →
+    ℕ → ℕ → SessionValue Kit (List ℤ) ℤ → Result (Unit {0}) Fault → Type 0
 PutsBlocks n p j s few blocks frames bytes before after w w' v (Ok x) =
-    (more : List ℕ) × StandsAt n p j s (few + blocks) (few * j * (exchange_of n p.repetitions).made + frames) (bytes ++ more) v × Appends before after more × (w' ≡ w)
+    (more : List ℕ) × StandsAt n p j s (few + blocks) (few * j * (exchange_of n p.repetitions).made + frames)
+    (bytes ++ more) v × Appends before after more × (w' ≡ w)
 PutsBlocks n p j s few blocks frames bytes before after w w' v (Err f) =
-    ((f ≡ Write) × ((more : List ℕ) × StandsAt n p j s (few + blocks) (few * j * (exchange_of n p.repetitions).made + frames) (bytes ++ more) v × AppendsFront before after more × (w' ≡ one_more w)))
+    ((f ≡ Write) × ((more : List ℕ) × StandsAt n p j s (few + blocks)
+    (few * j * (exchange_of n p.repetitions).made + frames) (bytes ++ more) v × AppendsFront before after more
+    × (w' ≡ one_more w)))
     ⊎ ((f ≡ OutOfMemory) × Keeps before after × (w' ≡ w))
 
 -- samples in which so many periods stand, and the others behind them
 abbrev pub AreBehind : Exchange → Reading → List ℤ → ℕ → List ℤ → Type 0
-AreBehind x c samples periods kept = (periods * x.taken * c.channels ≤ length samples) × (kept ≡ drop (periods * x.taken * c.channels) samples)
+AreBehind x c samples periods kept = (periods * x.taken * c.channels ≤ length samples)
+    × (kept ≡ drop (periods * x.taken * c.channels) samples)
 
 -- All whole blocks of what is kept were fed, and what they made was written; what is kept now is no block.
-abbrev pub PutsWhole : Netlist Kit ℤ → Schedule → ℕ → Reading → List ℤ → ℕ → List ℕ → Option (List ℕ) → Option (List ℕ) → ℕ → ℕ → Owed → Owed → SessionValue Kit (List ℤ) ℤ → Result (List ℤ) Fault → Type 0
+abbrev pub PutsWhole : Netlist Kit ℤ → Schedule → ℕ → Reading → List ℤ → ℕ → List ℕ → Option (List ℕ) →
+    Option (List ℕ) → ℕ → ℕ → Owed → Owed → SessionValue Kit (List ℤ) ℤ → Result (List ℤ) Fault → Type 0
 PutsWhole n p j c samples few bytes before after w w' o o' v (Ok kept) =
-    (blocks : ℕ) × (more : List ℕ) × StandsWhole n p j (sound_read c samples) (few + blocks) (bytes ++ more) v × Appends before after more × (w' ≡ w)
-    × AreBehind (exchange_of n p.repetitions) c samples ((few + blocks) * j) kept × (length kept < j * (exchange_of n p.repetitions).taken * c.channels)
+    (blocks : ℕ) × (more : List ℕ) × StandsWhole n p j (sound_read c samples) (few + blocks) (bytes ++ more) v
+    × Appends before after more × (w' ≡ w)
+    × AreBehind (exchange_of n p.repetitions) c samples ((few + blocks) * j) kept
+    × (length kept < j * (exchange_of n p.repetitions).taken * c.channels)
     × (o' ≡ record o { missing = o.missing - blocks * j * (exchange_of n p.repetitions).made })
 PutsWhole n p j c samples few bytes before after w w' o o' v (Err f) =
-    ((f ≡ Write) × ((blocks : ℕ) × (more : List ℕ) × StandsWhole n p j (sound_read c samples) (few + blocks) (bytes ++ more) v × AppendsFront before after more × (w' ≡ one_more w)
+    ((f ≡ Write) × ((blocks : ℕ) × (more : List ℕ)
+    × StandsWhole n p j (sound_read c samples) (few + blocks) (bytes ++ more) v × AppendsFront before after more
+    × (w' ≡ one_more w)
     × ((few + blocks) * j * (exchange_of n p.repetitions).taken * c.channels ≤ length samples)))
     ⊎ ((f ≡ OutOfMemory) × Keeps before after × (w' ≡ w))
 
--- So far a run came that reads and writes as it goes: these samples were read, and these are the bytes of the frames of so many
--- periods of them.
-pub record IsStream (n : Netlist Kit ℤ) (q : List ℕ) (c : Reading) (samples : List ℤ) (periods : ℕ) (frames : List ℕ) : Type 0 where
+-- So far a run came that reads and writes as it goes: these samples were read, and these are the bytes of the frames of
+-- so many periods of them.
+pub record IsStream (n : Netlist Kit ℤ) (q : List ℕ) (c : Reading) (samples : List ℤ) (periods : ℕ)
+    (frames : List ℕ) : Type 0 where
   pub within : 2 * length samples ≤ c.size
-  pub are_read : (periods * (exchange_of n q).taken ≤ frames_of (sound_read c samples)) ⊎ ((2 * length samples ≡ c.size) × (periods ≤ periods_of (exchange_of n q) (sound_read c samples)))
+  pub are_read : (periods * (exchange_of n q).taken ≤ frames_of (sound_read c samples))
+      ⊎ ((2 * length samples ≡ c.size) × (periods ≤ periods_of (exchange_of n q) (sound_read c samples)))
   pub are_frames : AreFrames n q (sound_read c samples) periods frames
 
--- The content was read to its end and its whole output written; or the writer failed among the frames of what was read; or the
--- reading failed, or memory was refused, behind some frames that were written.
-abbrev pub Streams : Netlist Kit ℤ → List ℕ → Reading → Option (List ℕ) → Option (List ℕ) → Option (List ℕ) → Option (List ℕ) → ℕ → ℕ → ℕ → ℕ → Result (Unit {0}) Fault → Type 0
+-- The content was read to its end and its whole output written; or the writer failed among the frames of what was read;
+-- or the reading failed, or memory was refused, behind some frames that were written.
+abbrev pub Streams : Netlist Kit ℤ → List ℕ → Reading → Option (List ℕ) → Option (List ℕ) → Option (List ℕ) →
+    Option (List ℕ) → ℕ → ℕ → ℕ → ℕ → Result (Unit {0}) Fault → Type 0
 Streams n q c old new before after r r' w w' (Ok x) =
     (s : Sound) × ReadsContent c old new r r' (Ok s) × PutsOutput n q s before after w w' (Ok x)
 Streams n q c old new before after r r' w w' (Err f) =
-    (samples : List ℤ) × (periods : ℕ) × (frames : List ℕ) × (mid : Option (List ℕ)) × IsStream n q c samples periods frames × ReadsBy c samples old mid
+    (samples : List ℤ) × (periods : ℕ) × (frames : List ℕ) × (mid : Option (List ℕ))
+    × IsStream n q c samples periods frames × ReadsBy c samples old mid
     × (((f ≡ Write) × (mid ≡ new) × AppendsFront before after frames × (r' ≡ r) × (w' ≡ one_more w))
     ⊎ (ReadsContent c old new r r' (Err f) × Appends before after frames × (w' ≡ w)))

@@ -8,7 +8,8 @@ ghost use Rattle.sdf_actor.specs.Graphs.{graph_of};
 ghost use Rattle.sdf_actor.specs.Sides.{list_count};
 ghost use Rattle.sdf_actor.specs.Wires.{lists as items_of};
 ghost use Rattle.sdf_kit.specs.Kit.{kit_steps};
-ghost use Rattle.sdf_process.specs.Output.{exchange_of, announced_by, announced_fault, periods_for, rate_for, lists_from, lists_to, IsExchange, IsExtent};
+ghost use Rattle.sdf_process.specs.Output.{exchange_of, announced_by, announced_fault, periods_for, rate_for};
+ghost use Rattle.sdf_process.specs.Output.{lists_from, lists_to, IsExchange, IsExtent};
 
 use crate::fault::Fault;
 use crate::samples::channel_lists;
@@ -72,7 +73,8 @@ impl Exchange {
     pub(crate) fn of_net(net: &Net<Kit>) -> Exchange
         requires inputs { list_count Inputs net.now.nodes ≤ MOST_CHANNELS }
         requires outputs { list_count Outputs net.now.nodes ≤ MOST_CHANNELS }
-        ensures value { (q : List ℕ) → IsLeastPeriod (rates (graph_of kit_steps net.now)) q → result ≡ exchange_of net.now q }
+        ensures value { (q : List ℕ) → IsLeastPeriod (rates (graph_of kit_steps net.now)) q →
+            result ≡ exchange_of net.now q }
         ensures limits { IsExchange result }
     {
         let _ = net.repetitions();

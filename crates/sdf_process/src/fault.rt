@@ -16,8 +16,8 @@ use std::alloc::{AllocError, AllocFailed, Global};
 use std::fmt;
 use thiserror::Error;
 
-/// How far an actor of a deadlocked design came: `done` firings of the `of` that a period has, and for an unfinished actor its
-/// first link that holds too little.
+/// How far an actor of a deadlocked design came: `done` firings of the `of` that a period has, and for an unfinished
+/// actor its first link that holds too little.
 #[derive(Debug, Drop)]
 pub struct Progress {
     pub name: String,
@@ -194,8 +194,8 @@ impl From<RunFault> for Fault {
     }
 }
 
-/// The exit status of a fault: 2 usage (0 where help or the version was asked for), 3 the design or the plan, 4 the WAV file,
-/// 5 a device, 6 memory, a worker or a session.
+/// The exit status of a fault: 2 usage (0 where help or the version was asked for), 3 the design or the plan, 4 the WAV
+/// file, 5 a device, 6 memory, a worker or a session.
 pub fn status(fault: &Fault) -> u8
     ensures { result ≡ status_of fault.now }
 {
@@ -221,8 +221,8 @@ pub fn status(fault: &Fault) -> u8
     }
 }
 
-/// What the program prints of a fault on standard error: one line, and of a deadlock one more for each actor. A character that
-/// would begin another line or reach the terminal's controls is written as `\u{a}`, in a key too.
+/// What the program prints of a fault on standard error: one line, and of a deadlock one more for each actor. A
+/// character that would begin another line or reach the terminal's controls is written as `\u{a}`, in a key too.
 pub fn fault_text(alloc: Global, fault: &Fault) -> Result<String, AllocError>
     ensures { IfOk result (λ text. IsFaultText fault.now (string_bytes text)) }
 {

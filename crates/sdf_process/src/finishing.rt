@@ -47,7 +47,8 @@ fn run_blocks<T: Threads + AllocGlobal + Sync, G: Gate>(
     requires plan { Suits net.now plan.now }
     requires table { plan.now.table ≡ Some table.now }
     ensures { let q = plan.now.period.repetitions in let periods = blocks * plan.now.blocking in MatchResult result
-        (λ ran. HasInputs net.now q periods (items_of inputs.now) × AreOutputs kit_steps net.now (items_of inputs.now) (firings q periods) (items_of ran.outputs.items))
+        (λ ran. HasInputs net.now q periods (items_of inputs.now)
+        × AreOutputs kit_steps net.now (items_of inputs.now) (firings q periods) (items_of ran.outputs.items))
         (IsRunFault net.now q periods (items_of inputs.now)) }
 {
     let period = plan.period();
@@ -61,7 +62,8 @@ fn run_blocks<T: Threads + AllocGlobal + Sync, G: Gate>(
     }
 }
 
-/// The output lists of a net on a sound, or longer ones that begin with them: workers run whole blocks, on zeros past the sound's end.
+/// The output lists of a net on a sound, or longer ones that begin with them: workers run whole blocks, on zeros past
+/// the sound's end.
 fn lists_of<T: Threads + AllocGlobal + Sync, G: Gate>(
     rt: &T,
     net: &Net<Kit>,
@@ -77,7 +79,8 @@ fn lists_of<T: Threads + AllocGlobal + Sync, G: Gate>(
     requires outputs { list_count Outputs net.now.nodes ≤ MOST_CHANNELS }
     requires periods { periods ≡ periods_of (exchange_of net.now plan.now.period.repetitions) input }
     requires few { periods ≤ 2147483629 }
-    ensures { MatchResult result (λ lists. BeginWithOutput net.now plan.now.period.repetitions input (items_of lists.items)) (λ e. e ≡ OutOfMemory) }
+    ensures { MatchResult result (λ lists. BeginWithOutput net.now plan.now.period.repetitions input
+        (items_of lists.items)) (λ e. e ≡ OutOfMemory) }
 {
     let alloc = rt.alloc();
     nets_have_periods(net);
@@ -101,9 +104,12 @@ pub(crate) fn finish<T: Threads + AllocGlobal + Sync, W: Writer, G: Gate>(
     requires plan { Suits net.now plan.now }
     requires inputs { list_count Inputs net.now.nodes ≤ MOST_CHANNELS }
     requires outputs { list_count Outputs net.now.nodes ≤ MOST_CHANNELS }
-    requires extent { IsExtent (exchange_of net.now plan.now.period.repetitions) (announced_by heard.input) heard.extent }
-    requires owed { let x = exchange_of net.now plan.now.period.repetitions in heard.output ≡ record { channels = x.outputs; missing = output_frames x heard.input; spent = false } }
-    ensures { PutsOutput net.now plan.now.period.repetitions heard.input (W.contents writer.old) (W.contents writer.new) (W.failures writer.old) (W.failures writer.new) result }
+    requires extent { IsExtent (exchange_of net.now plan.now.period.repetitions)
+        (announced_by heard.input) heard.extent }
+    requires owed { let x = exchange_of net.now plan.now.period.repetitions in
+        heard.output ≡ record { channels = x.outputs; missing = output_frames x heard.input; spent = false } }
+    ensures { PutsOutput net.now plan.now.period.repetitions heard.input (W.contents writer.old) (W.contents writer.new)
+        (W.failures writer.old) (W.failures writer.new) result }
 {
     let Heard {
         input,

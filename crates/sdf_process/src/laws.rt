@@ -10,8 +10,8 @@ use sdf_graph::laws::{
 use sdf_kit::Kit;
 use sdf_wav::laws::one_outcome;
 
-/// There is one output: whatever runs a design on a WAV file, by whatever order of firings, it makes the same sound. It stands
-/// on the uniqueness of channel histories (Kahn 1974) and of the sound that a file says.
+/// There is one output: whatever runs a design on a WAV file, by whatever order of firings, it makes the same sound. It
+/// stands on the uniqueness of channel histories (Kahn 1974) and of the sound that a file says.
 pub fn one_output(design: &Design)
     ensures { OneOutput design.now }
 {

@@ -22,13 +22,25 @@ impl Model for Plan {
 
     ghost Value = { PlanValue };
 
-    ghost view = { λ p. record { blocking = p.blocking; runner = p.runner; patience = p.patience; period = p.period; table = p.table } };
+    ghost view = { λ p. record {
+      blocking = p.blocking;
+      runner = p.runner;
+      patience = p.patience;
+      period = p.period;
+      table = p.table;
+    } };
 }
 
 impl Plan {
     /// A plan of these.
     pub(crate) fn new(options: &Options, period: Period, table: Option<Table>) -> Plan
-        ensures { result ≡ record { blocking = options.now.blocking; runner = options.now.runner; patience = options.now.patience; period = period; table = table } }
+        ensures { result ≡ record {
+          blocking = options.now.blocking;
+          runner = options.now.runner;
+          patience = options.now.patience;
+          period = period;
+          table = table;
+        } }
     {
         Plan {
             blocking: options.blocking,

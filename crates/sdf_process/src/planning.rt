@@ -8,7 +8,9 @@ ghost use Rattle.sdf_actor.specs.Graphs.{graph_of};
 ghost use Rattle.sdf_kit.specs.Kit.{kit_steps};
 ghost use Rattle.sdf_sched.specs.Period.{IsPeriodOf};
 ghost use Rattle.sdf_process.specs.Placements.{rates_of};
-ghost use Rattle.sdf_process.specs.Plans.{AreSizes, IsSizeFault, ArePassed, IsOptionFault, IsPlanOf, IsPlanFault, IsTableFor, IsTableFault, Suits, Decides, IsScheduleBy, IsStuckFault, IsScheduleFault, progress_of, progress_view, short_of};
+ghost use Rattle.sdf_process.specs.Plans.{AreSizes, IsSizeFault, ArePassed, IsOptionFault, IsPlanOf, IsPlanFault};
+ghost use Rattle.sdf_process.specs.Plans.{IsTableFor, IsTableFault, Suits, Decides, IsScheduleBy, IsStuckFault};
+ghost use Rattle.sdf_process.specs.Plans.{IsScheduleFault, progress_of, progress_view, short_of};
 
 use crate::fault::{Fault, Progress, Stalled};
 use crate::placement::table_by;
@@ -64,7 +66,8 @@ fn progress(
 ) -> Result<Vec<Progress>, AllocError>
     requires all { length reps.now ≡ length design.now.net.nodes }
     requires done { length stuck.now.done.items ≡ length design.now.net.nodes }
-    ensures { IfOk result (λ all. map progress_view all.items ≡ map (progress_of design.now reps.now stuck.now) (range_with_len 0 (length design.now.net.nodes))) }
+    ensures { IfOk result (λ all. map progress_view all.items ≡
+        map (progress_of design.now reps.now stuck.now) (range_with_len 0 (length design.now.net.nodes))) }
 {
     let mut all = Vec::new(alloc);
     for actor in 0..design.net().len() {
@@ -92,7 +95,8 @@ fn class_s_by(
 
 /// One period of a design by a policy.
 pub(crate) fn period_by(alloc: Global, design: &Design, policy: Policy) -> Result<Period, Fault>
-    ensures { MatchResult result (IsScheduleBy policy (graph_of kit_steps design.now.net)) (IsScheduleFault design.now) }
+    ensures { MatchResult result (IsScheduleBy policy (graph_of kit_steps design.now.net))
+        (IsScheduleFault design.now) }
 {
     let net = design.net();
     let graph = net.graph();
@@ -138,7 +142,8 @@ fn table_for(
     options: &Options,
 ) -> Result<Option<Table>, Fault>
     requires { IsPeriodOf (rates_of design.now) period.now }
-    ensures { MatchResult result (IsTableFor options.now.runner design.now options.now period.now) (IsTableFault design.now options.now period.now) }
+    ensures { MatchResult result (IsTableFor options.now.runner design.now options.now period.now)
+        (IsTableFault design.now options.now period.now) }
 {
     if options.runner == Runner::One {
         return Ok(None);
@@ -163,9 +168,10 @@ fn planned(alloc: Global, design: &Design, options: &Options) -> Result<Plan, Fa
     Ok(Plan::new(options, period, table))
 }
 
-/// Plans a run. The tests in order: for the runner `rings` the patience is within its limit; the blocking factor and the workers
-/// are within theirs; the design has a schedule; for a runner with workers a block is not too long, and with the placement `file`
-/// each actor has a home among the workers; and for the runner `rings` each actor has a home in the table.
+/// Plans a run. The tests in order: for the runner `rings` the patience is within its limit; the blocking factor and
+/// the workers are within theirs; the design has a schedule; for a runner with workers a block is not too long, and
+/// with the placement `file` each actor has a home among the workers; and for the runner `rings` each actor has a home
+/// in the table.
 pub fn plan(alloc: Global, design: &Design, options: &Options) -> Result<Plan, Fault>
     // What is answered is so.
     ensures answers { MatchResult result (IsPlanOf design.now options.now) (IsPlanFault design.now options.now) }
@@ -173,7 +179,8 @@ pub fn plan(alloc: Global, design: &Design, options: &Options) -> Result<Plan, F
     // The plan is one of the design's.
     ensures suits { IfOk result (Suits design.now.net) }
 
-    // 10 is answered exactly where no sequence of enabled firings completes the least period, unless memory was refused.
+    // 10 is answered exactly where no sequence of enabled firings completes the least period, unless memory was
+    // refused.
     ensures decides { ArePassed options.now → Decides design.now result }
 {
     let net = design.net();

@@ -57,7 +57,8 @@ fn play(
     requires outputs { list_count Outputs net.now.nodes ≤ MOST_CHANNELS }
     requires played { (frames : List ℕ) × PlaysTo net.now period.now.repetitions input.now at frames rest.now }
     ensures { let q = period.now.repetitions in MatchResult result
-        (λ r. GoesOnBy kit_steps net.now q rest.now many (lists_from at many (exchange_of net.now q) input.now) (items_of r.0.items) r.1) (λ e. e ≡ OutOfMemory) }
+        (λ r. GoesOnBy kit_steps net.now q rest.now many (lists_from at many (exchange_of net.now q) input.now)
+        (items_of r.0.items) r.1) (λ e. e ≡ OutOfMemory) }
 {
     let exchange = Exchange::of_net(net);
     let inputs = exchange.inputs_from(alloc, input, at, many)?;
@@ -84,10 +85,13 @@ fn put_piece<W: Writer>(
     requires unspent { output.old.spent ≡ false }
     requires channels { output.old.channels ≡ list_count Outputs net.now.nodes }
     requires missing { many * (exchange_of net.now period.now.repetitions).made ≤ output.old.missing }
-    requires few { 2 * (many * (exchange_of net.now period.now.repetitions).made * (exchange_of net.now period.now.repetitions).outputs) ≤ 4294967259 }
+    requires few { 2 * (many * (exchange_of net.now period.now.repetitions).made
+        * (exchange_of net.now period.now.repetitions).outputs) ≤ 4294967259 }
     ensures puts { (frames : List ℕ) → PlaysTo net.now period.now.repetitions input.now at frames rest.now →
-        PutsPiece net.now period.now.repetitions input.now at many frames (W.contents writer.old) (W.contents writer.new) (W.failures writer.old) (W.failures writer.new) result }
-    ensures owed { IfOk result (λ x. output.new ≡ record output.old { missing = output.old.missing - many * (exchange_of net.now period.now.repetitions).made }) }
+        PutsPiece net.now period.now.repetitions input.now at many frames (W.contents writer.old)
+        (W.contents writer.new) (W.failures writer.old) (W.failures writer.new) result }
+    ensures owed { IfOk result (λ x. output.new ≡ record output.old
+        { missing = output.old.missing - many * (exchange_of net.now period.now.repetitions).made }) }
 {
     puts_join();
     nets_have_periods(net);
@@ -113,9 +117,12 @@ pub(crate) fn put_pieces<W: Writer>(
     requires inputs { list_count Inputs net.now.nodes ≤ MOST_CHANNELS }
     requires outputs { list_count Outputs net.now.nodes ≤ MOST_CHANNELS }
     requires periods { periods ≡ periods_of (exchange_of net.now period.now.repetitions) input.now }
-    requires few { 2 * (periods * (exchange_of net.now period.now.repetitions).made * (exchange_of net.now period.now.repetitions).outputs) ≤ 4294967259 }
-    requires owed { let x = exchange_of net.now period.now.repetitions in output.old ≡ record { channels = x.outputs; missing = periods * x.made; spent = false } }
-    ensures { PutsOutput net.now period.now.repetitions input.now (W.contents writer.old) (W.contents writer.new) (W.failures writer.old) (W.failures writer.new) result }
+    requires few { 2 * (periods * (exchange_of net.now period.now.repetitions).made
+        * (exchange_of net.now period.now.repetitions).outputs) ≤ 4294967259 }
+    requires owed { let x = exchange_of net.now period.now.repetitions in
+        output.old ≡ record { channels = x.outputs; missing = periods * x.made; spent = false } }
+    ensures { PutsOutput net.now period.now.repetitions input.now (W.contents writer.old) (W.contents writer.new)
+        (W.failures writer.old) (W.failures writer.new) result }
 {
     net_facts(net);
     histories_make_runs::<Kit>();

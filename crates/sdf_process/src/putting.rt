@@ -28,7 +28,8 @@ pub(crate) fn put_frames<W: Writer>(
     requires some { 1 ≤ output.old.channels }
     requires missing { frames ≤ output.old.missing }
     requires few { frames * length lists.now < 2 ^ 32 }
-    ensures puts { PutsFrames (W.contents writer.old) (W.contents writer.new) (W.failures writer.old) (W.failures writer.new) (sample_bytes (interleaved frames (items_of lists.now))) result }
+    ensures puts { PutsFrames (W.contents writer.old) (W.contents writer.new) (W.failures writer.old)
+        (W.failures writer.new) (sample_bytes (interleaved frames (items_of lists.now))) result }
     ensures owed { IfOk result (λ x. output.new ≡ record output.old { missing = output.old.missing - frames }) }
 {
     puts_join();

@@ -21,7 +21,8 @@ use sdf_run::Gate;
 use sdf_wav::{ContentIn, MOST_CHANNELS, Reader, Writer};
 use std::thread::Threads;
 
-/// Runs a net on a content whose size is filled in: the output is tested, and its header written, before the content is read.
+/// Runs a net on a content whose size is filled in: the output is tested, and its header written, before the content is
+/// read.
 fn run_ahead<T: Threads + AllocGlobal + Sync, R: Reader, W: Writer, G: Gate>(
     rt: &T,
     reader: &mut R,
@@ -39,7 +40,8 @@ fn run_ahead<T: Threads + AllocGlobal + Sync, R: Reader, W: Writer, G: Gate>(
     requires unread { content.gone ≡ 0 }
     requires unspoilt { content.fault ≡ None }
     requires known { known_frames content ≡ Some frames }
-    ensures { RunsOn net.now plan.now.period.repetitions content (R.remaining reader.old) (R.remaining reader.new) (W.contents writer.old) (W.contents writer.new)
+    ensures { RunsOn net.now plan.now.period.repetitions content (R.remaining reader.old) (R.remaining reader.new)
+        (W.contents writer.old) (W.contents writer.new)
         (R.failures reader.old) (R.failures reader.new) (W.failures writer.old) (W.failures writer.new) result }
 {
     wav_laws();
@@ -86,7 +88,8 @@ fn run_behind<T: Threads + AllocGlobal + Sync, R: Reader, W: Writer, G: Gate>(
     requires unread { content.gone ≡ 0 }
     requires unspoilt { content.fault ≡ None }
     requires unknown { known_frames content ≡ None }
-    ensures { RunsOn net.now plan.now.period.repetitions content (R.remaining reader.old) (R.remaining reader.new) (W.contents writer.old) (W.contents writer.new)
+    ensures { RunsOn net.now plan.now.period.repetitions content (R.remaining reader.old) (R.remaining reader.new)
+        (W.contents writer.old) (W.contents writer.new)
         (R.failures reader.old) (R.failures reader.new) (W.failures writer.old) (W.failures writer.new) result }
 {
     wav_laws();
@@ -114,7 +117,8 @@ pub(crate) fn run_net<T: Threads + AllocGlobal + Sync, R: Reader, W: Writer, G: 
     requires plan { Suits net.now plan.now }
     requires inputs { list_count Inputs net.now.nodes ≤ MOST_CHANNELS }
     requires outputs { list_count Outputs net.now.nodes ≤ MOST_CHANNELS }
-    ensures { IsRun net.now plan.now.period.repetitions (R.remaining reader.old) (R.remaining reader.new) (W.contents writer.old) (W.contents writer.new)
+    ensures { IsRun net.now plan.now.period.repetitions (R.remaining reader.old) (R.remaining reader.new)
+        (W.contents writer.old) (W.contents writer.new)
         (R.failures reader.old) (R.failures reader.new) (W.failures writer.old) (W.failures writer.new) result }
 {
     wav_laws();

@@ -1,6 +1,7 @@
 //! Samples between a sound and the lists of a net.
 
-ghost use Rattle.std.specs.Prelude.{◌≡◌, ◌*◌, ◌-◌, ◌+◌, ◌++◌, ◌≤◌, ◌<◌, ◌^◌, length, map, IfOk, vec_capacity, vec_len, slice_index_or, pos};
+ghost use Rattle.std.specs.Prelude.{◌≡◌, ◌*◌, ◌-◌, ◌+◌, ◌++◌, ◌≤◌, ◌<◌, ◌^◌, length, map, IfOk, vec_capacity, vec_len};
+ghost use Rattle.std.specs.Prelude.{slice_index_or, pos};
 ghost use Rattle.std.specs.Int.{saturate_signed, w16};
 ghost use Rattle.std.specs.List.{range_with_len};
 ghost use Rattle.sdf_actor.specs.Wires.{lists as items_of};
@@ -49,7 +50,8 @@ pub(crate) fn channel_lists(
 ) -> Result<Vec<Vec<i32>>, AllocError>
     requires channels { channels < 2 ^ 32 }
     requires len { from + len < 2 ^ 59 }
-    ensures { IfOk result (λ found. items_of found.items ≡ map (channel_samples_from input.now from len) (range_with_len 0 channels)) }
+    ensures { IfOk result (λ found. items_of found.items ≡
+        map (channel_samples_from input.now from len) (range_with_len 0 channels)) }
 {
     let mut all = Vec::new(alloc);
     for channel in 0..channels {

@@ -1,6 +1,8 @@
-//! A run with workers that reads its input and writes its output as it goes: what is held is what a piece of the input and a block need.
+//! A run with workers that reads its input and writes its output as it goes: what is held is what a piece of the input
+//! and a block need.
 
-ghost use Rattle.std.specs.Prelude.{◌≡◌, ◌≢◌, ◌+◌, ◌-◌, ◌*◌, ◌%◌, ◌≤◌, ◌<◌, ℕ, ℤ, List, [], length, drop, Option, Some, None, Ok, Err, MatchResult, IfOk, false};
+ghost use Rattle.std.specs.Prelude.{◌≡◌, ◌≢◌, ◌+◌, ◌-◌, ◌*◌, ◌%◌, ◌≤◌, ◌<◌, ℕ, ℤ, List, [], length, drop, Option, Some};
+ghost use Rattle.std.specs.Prelude.{None, Ok, Err, MatchResult, IfOk, false};
 ghost use Rattle.sdf_actor.specs.declared.sides.Lists.TheVariants.{Inputs, Outputs};
 ghost use Rattle.sdf_actor.specs.Nets.{Netlist};
 ghost use Rattle.sdf_actor.specs.Sides.{list_count};
@@ -12,7 +14,8 @@ ghost use Rattle.sdf_process.specs.declared.exchange.Extent.{Extent};
 ghost use Rattle.sdf_process.specs.declared.fault.Fault.TheVariants.{OutOfMemory};
 ghost use Rattle.sdf_process.specs.Output.{exchange_of, lists_from, IsExtent};
 ghost use Rattle.sdf_process.specs.Plans.{Suits};
-ghost use Rattle.sdf_process.specs.Streams.{AreBehind, IsReady, PutsBlocks, PutsWhole, mode_of, ReadsBy, ReadsMore, StandsAt, StandsWhole, Streams};
+ghost use Rattle.sdf_process.specs.Streams.{AreBehind, IsReady, PutsBlocks, PutsWhole, mode_of, ReadsBy, ReadsMore};
+ghost use Rattle.sdf_process.specs.Streams.{StandsAt, StandsWhole, Streams};
 
 use crate::exchange::Exchange;
 use crate::fault::Fault;
@@ -54,7 +57,8 @@ fn open_session<'a>(
 ) -> Result<Session<'a, Kit>, Fault>
     requires plan { Suits net.now plan.now }
     requires table { plan.now.table ≡ Some table.now }
-    ensures { MatchResult result (λ v. (s : Sound) → StandsAt net.now plan.now.period plan.now.blocking s 0 0 [] v) (λ e. e ≡ OutOfMemory) }
+    ensures { MatchResult result (λ v. (s : Sound) → StandsAt net.now plan.now.period plan.now.blocking s 0 0 [] v)
+        (λ e. e ≡ OutOfMemory) }
 {
     let session = Session::open(
         alloc,
@@ -78,10 +82,14 @@ fn read_more<R: Reader>(
     requires unspoilt { content.old.fault ≡ None }
     requires sized { content.old.size ≢ 0xFFFFFFFF }
     requires enough { content.old.gone + 2 * (frames * content.old.channels) ≤ content.old.size }
-    ensures { (c : Reading) (before : List ℤ) (old : Option (List ℕ)) (r : ℕ) → content.old ≡ record c { gone = c.gone + 2 * length before } → ReadsBy c before old (R.remaining reader.old) → R.failures reader.old ≡ r →
+    ensures { (c : Reading) (before : List ℤ) (old : Option (List ℕ)) (r : ℕ) →
+        content.old ≡ record c { gone = c.gone + 2 * length before } → ReadsBy c before old (R.remaining reader.old) →
+        R.failures reader.old ≡ r →
         MatchResult result
-        (λ all. ReadsMore c before frames kept.items old (R.remaining reader.new) r (R.failures reader.new) content.new (Ok all.items))
-        (λ f. ReadsMore c before frames kept.items old (R.remaining reader.new) r (R.failures reader.new) content.new (Err f)) }
+        (λ all. ReadsMore c before frames kept.items old (R.remaining reader.new) r (R.failures reader.new) content.new
+        (Ok all.items))
+        (λ f. ReadsMore c before frames kept.items old (R.remaining reader.new) r (R.failures reader.new)
+        content.new (Err f)) }
 {
     pieces_join();
     let samples = content.next(alloc, reader, frames)?;
@@ -123,12 +131,18 @@ impl<'a> Stream<'a> {
         requires ready { (n : Netlist KitValue ℤ) × (p : Schedule) × IsReady n p self.old }
         requires periods { blocks * self.old.blocking ≤ 4294967295 }
         requires missing { frames ≤ self.old.output.missing }
-        ensures puts { (n : Netlist KitValue ℤ) (p : Schedule) (s : Sound) (few : ℕ) (bytes : List ℕ) → IsReady n p self.old →
+        ensures puts { (n : Netlist KitValue ℤ) (p : Schedule) (s : Sound) (few : ℕ) (bytes : List ℕ) →
+            IsReady n p self.old →
             StandsWhole n p self.old.blocking s few bytes self.old.session →
-            lists_from (few * self.old.blocking) (blocks * self.old.blocking) (exchange_of n p.repetitions) s ≡ lists_from 0 (blocks * self.old.blocking) (exchange_of n p.repetitions) input.now →
-            PutsBlocks n p self.old.blocking s few blocks frames bytes (W.contents writer.old) (W.contents writer.new) (W.failures writer.old) (W.failures writer.new) self.new.session result }
-        ensures ready { (n : Netlist KitValue ℤ) (p : Schedule) → IsReady n p self.old → IfOk result (λ x. IsReady n p self.new) }
-        ensures owed { IfOk result (λ x. (self.new.output ≡ record self.old.output { missing = self.old.output.missing - frames }) × (self.new.blocking ≡ self.old.blocking)) }
+            lists_from (few * self.old.blocking) (blocks * self.old.blocking) (exchange_of n p.repetitions) s ≡
+            lists_from 0 (blocks * self.old.blocking) (exchange_of n p.repetitions) input.now →
+            PutsBlocks n p self.old.blocking s few blocks frames bytes (W.contents writer.old) (W.contents writer.new)
+            (W.failures writer.old) (W.failures writer.new) self.new.session result }
+        ensures ready { (n : Netlist KitValue ℤ) (p : Schedule) → IsReady n p self.old →
+            IfOk result (λ x. IsReady n p self.new) }
+        ensures owed { IfOk result (λ x. (self.new.output ≡
+            record self.old.output { missing = self.old.output.missing - frames })
+            × (self.new.blocking ≡ self.old.blocking)) }
     {
         puts_join();
         nets_can_run::<Kit>();
@@ -156,14 +170,21 @@ impl<'a> Stream<'a> {
         requires few_channels { channels ≤ MOST_CHANNELS }
         requires whole { length kept.items % channels ≡ 0 }
         requires few { length kept.items ≤ 4294967295 }
-        requires missing { (periods : ℕ) → periods * self.old.exchange.taken * channels ≤ length kept.items → periods * self.old.exchange.made ≤ self.old.output.missing }
-        ensures puts { (n : Netlist KitValue ℤ) (p : Schedule) (c : Reading) (samples : List ℤ) (few : ℕ) (bytes : List ℕ) → IsReady n p self.old → c.channels ≡ channels →
+        requires missing { (periods : ℕ) → periods * self.old.exchange.taken * channels ≤ length kept.items →
+            periods * self.old.exchange.made ≤ self.old.output.missing }
+        ensures puts { (n : Netlist KitValue ℤ) (p : Schedule) (c : Reading) (samples : List ℤ) (few : ℕ)
+            (bytes : List ℕ) → IsReady n p self.old → c.channels ≡ channels →
             StandsWhole n p self.old.blocking (sound_read c samples) few bytes self.old.session →
             AreBehind (exchange_of n p.repetitions) c samples (few * self.old.blocking) kept.items →
             MatchResult result
-            (λ rest. PutsWhole n p self.old.blocking c samples few bytes (W.contents writer.old) (W.contents writer.new) (W.failures writer.old) (W.failures writer.new) self.old.output self.new.output self.new.session (Ok rest.items))
-            (λ f. PutsWhole n p self.old.blocking c samples few bytes (W.contents writer.old) (W.contents writer.new) (W.failures writer.old) (W.failures writer.new) self.old.output self.new.output self.new.session (Err f)) }
-        ensures ready { (n : Netlist KitValue ℤ) (p : Schedule) → IsReady n p self.old → IfOk result (λ x. IsReady n p self.new × (self.new.blocking ≡ self.old.blocking)) }
+            (λ rest. PutsWhole n p self.old.blocking c samples few bytes (W.contents writer.old) (W.contents writer.new)
+            (W.failures writer.old) (W.failures writer.new) self.old.output self.new.output self.new.session
+            (Ok rest.items))
+            (λ f. PutsWhole n p self.old.blocking c samples few bytes (W.contents writer.old) (W.contents writer.new)
+            (W.failures writer.old) (W.failures writer.new) self.old.output self.new.output
+            self.new.session (Err f)) }
+        ensures ready { (n : Netlist KitValue ℤ) (p : Schedule) → IsReady n p self.old →
+            IfOk result (λ x. IsReady n p self.new × (self.new.blocking ≡ self.old.blocking)) }
     {
         let block = self.blocking as usize * self.exchange.taken * usize::from(channels);
         let blocks = kept.len() / block;
@@ -193,10 +214,14 @@ impl<'a> Stream<'a> {
         requires few_channels { channels ≤ MOST_CHANNELS }
         requires whole { length kept.items % channels ≡ 0 }
         ensures none { self.old.output.missing ≡ 0 → (result ≡ Ok tt) × (writer.new ≡ writer.old) }
-        ensures puts { 0 < self.old.output.missing → (n : Netlist KitValue ℤ) (p : Schedule) (c : Reading) (samples : List ℤ) (few : ℕ) (bytes : List ℕ) → IsReady n p self.old → c.channels ≡ channels →
+        ensures puts { 0 < self.old.output.missing →
+            (n : Netlist KitValue ℤ) (p : Schedule) (c : Reading) (samples : List ℤ) (few : ℕ) (bytes : List ℕ) →
+            IsReady n p self.old → c.channels ≡ channels →
             StandsWhole n p self.old.blocking (sound_read c samples) few bytes self.old.session →
             AreBehind (exchange_of n p.repetitions) c samples (few * self.old.blocking) kept.items →
-            PutsBlocks n p self.old.blocking (sound_read c samples) few 1 self.old.output.missing bytes (W.contents writer.old) (W.contents writer.new) (W.failures writer.old) (W.failures writer.new) self.new.session result }
+            PutsBlocks n p self.old.blocking (sound_read c samples) few 1 self.old.output.missing bytes
+            (W.contents writer.old) (W.contents writer.new) (W.failures writer.old) (W.failures writer.new)
+            self.new.session result }
     {
         let frames = self.output.missing() as usize;
         if frames == 0 {
@@ -207,8 +232,8 @@ impl<'a> Stream<'a> {
     }
 }
 
-/// Runs a net on a content of so many frames: reads some frames, feeds all whole blocks that there are, writes what they make, and so
-/// on; the last block is filled up with zeros.
+/// Runs a net on a content of so many frames: reads some frames, feeds all whole blocks that there are, writes what
+/// they make, and so on; the last block is filled up with zeros.
 pub(crate) fn run_stream<T: Threads + AllocGlobal + Sync, R: Reader, W: Writer, G: Gate>(
     rt: &T,
     reader: &mut R,
@@ -230,8 +255,10 @@ pub(crate) fn run_stream<T: Threads + AllocGlobal + Sync, R: Reader, W: Writer, 
     requires unspoilt { content.fault ≡ None }
     requires known { known_frames content ≡ Some frames }
     requires owed { let x = exchange_of net.now plan.now.period.repetitions in
-        (e : Extent) × IsExtent x (record { rate = content.rate; channels = content.channels; frames = frames }) e × (output ≡ record { channels = x.outputs; missing = e.periods * x.made; spent = false }) }
-    ensures { Streams net.now plan.now.period.repetitions content (R.remaining reader.old) (R.remaining reader.new) (W.contents writer.old) (W.contents writer.new)
+        (e : Extent) × IsExtent x (record { rate = content.rate; channels = content.channels; frames = frames }) e
+        × (output ≡ record { channels = x.outputs; missing = e.periods * x.made; spent = false }) }
+    ensures { Streams net.now plan.now.period.repetitions content (R.remaining reader.old) (R.remaining reader.new)
+        (W.contents writer.old) (W.contents writer.new)
         (R.failures reader.old) (R.failures reader.new) (W.failures writer.old) (W.failures writer.new) result }
 {
     let alloc = rt.alloc();

@@ -1,5 +1,6 @@
 -- Nodes before their first firing.
-use Rattle.std.proofs.Common.{◌≡◌, ℕ, zero, suc, ◌∷◌, true, false, rules, ◌%◌, ◌≤◌, ◌<◌, List, [], length, get_or, take, Option, Some, None, sym, ap, ◌∙◌, refl, subst, arith, vec_len}
+use Rattle.std.proofs.Common.{◌≡◌, ℕ, zero, suc, ◌∷◌, true, false, rules, ◌%◌, ◌≤◌, ◌<◌, List, [], length, get_or, take}
+use Rattle.std.proofs.Common.{Option, Some, None, sym, ap, ◌∙◌, refl, subst, arith, vec_len}
 use Rattle.std.specs.Global.{Global}
 use Rattle.std.specs.Option.{IfSome, IsSome}
 use Rattle.std.specs.declared.vec.Vec.{Vec}
@@ -26,50 +27,77 @@ use Rattle.sdf_rings.proofs.Known.{out_channel, in_channel, port_at}
 use Rattle.sdf_rings.proofs.PortBlocks.{ins_long, outs_long}
 
 -- fillers are long enough where firings are asked
-filled : {T : Type 0} (filler : Option T) (asked many : ℕ) (v : Vec T Global) → IfSome filler (λ _. vec_len v ≡ many) → (filler ≡ None → asked ≡ 0) → 0 < asked → many ≤ length v.items
+filled : {T : Type 0} (filler : Option T) (asked many : ℕ) (v : Vec T Global) → IfSome filler (λ _. vec_len v ≡ many) →
+    (filler ≡ None → asked ≡ 0) → 0 < asked → many ≤ length v.items
 filled (Some x) asked many v is none some = omega arith
 filled None asked many v is none some = let e = none refl in absurd (omega arith)
 
-module _ {A S T : Type 0} (s : Steps A S T) (begins : LocalsBegin s) (n : Netlist A T) (net : IsNet s n) (wired : IsWired (wiring s n)) (inputs : List (List T)) (a : ℕ) (known : a < length n.nodes) where
+module _ {A S T : Type 0} (s : Steps A S T) (begins : LocalsBegin s) (n : Netlist A T) (net : IsNet s n)
+    (wired : IsWired (wiring s n)) (inputs : List (List T)) (a : ℕ) (known : a < length n.nodes) where
   -- what has not fired knows what its channels begin with
-  pub stand_begun : (state : NodeState T S) (ins : Vec (Consumer T Global AnyItems) Global) (outs : Vec (Producer T Global AnyItems) Global) (takes puts : Vec (Vec ℕ Global) Global) (taken put : Vec T Global)
+  pub stand_begun : (state : NodeState T S) (ins : Vec (Consumer T Global AnyItems) Global)
+      (outs : Vec (Producer T Global AnyItems) Global) (takes puts : Vec (Vec ℕ Global) Global)
+      (taken put : Vec T Global)
       (asked : ℕ) (filler : Option T) (many : ℕ) →
-      HasIns s n a ins.items → HasOuts s n a outs.items → OwnArePairs n a ins.items outs.items → 0 < cycle_of s (node n a) → IsAt s inputs asked (node n a) [] state →
+      HasIns s n a ins.items → HasOuts s n a outs.items → OwnArePairs n a ins.items outs.items →
+      0 < cycle_of s (node n a) → IsAt s inputs asked (node n a) [] state →
       AreRows s Input (node n a) (lists takes.items) → AreRows s Output (node n a) (lists puts.items) →
       ((j : ℕ) → j < cycle_of s (node n a) → (takes_of s (node n a) j ≤ many) × (puts_of s (node n a) j ≤ many)) →
-      IfSome filler (λ _. vec_len taken ≡ many) → IfSome filler (λ _. vec_len put ≡ many) → (filler ≡ None → asked ≡ 0) →
-      IsStand s n inputs (record { actor = a; state = state; ins = ins; outs = outs; takes = takes; puts = puts; taken = taken; put = put; done = 0; asked = asked })
-  stand_begun state ins outs takes puts taken put asked filler many has_ins has_outs own some at take_rows put_rows most long_taken long_put none = record {
-    known = known;
-    own_pairs = own;
-    within = omega arith;
-    own = (wiring s n).starts;
-    local = begins n inputs a net;
-    at = at;
-    ins_all = let e = has_ins.all in omega arith;
-    outs_all = let e = has_outs.all in omega arith;
-    took = λ i d h. has_ins.untaken i d (omega arith) ∙
-        ap (λ m. take m ((wiring s n).starts (get_or ((wiring s n).ins a) i 0))) (sym (wired.sound.consumed_none (get_or ((wiring s n).ins a) i 0)));
-    gave = λ i d h. has_outs.put i d (omega arith);
-    phases = some;
-    takes = take_rows;
-    puts = put_rows;
-    taken_long = λ left k. let m = (most (k % cycle_of s (node n a)) (mod_below k (cycle_of s (node n a)) some)).0 in let l = filled filler asked many taken long_taken none left in omega arith;
-    put_long = λ left k. let m = (most (k % cycle_of s (node n a)) (mod_below k (cycle_of s (node n a)) some)).1 in let l = filled filler asked many put long_put none left in omega arith;
-  }
+      IfSome filler (λ _. vec_len taken ≡ many) → IfSome filler (λ _. vec_len put ≡ many) →
+      (filler ≡ None → asked ≡ 0) →
+      IsStand s n inputs (record {
+        actor = a;
+        state = state;
+        ins = ins;
+        outs = outs;
+        takes = takes;
+        puts = puts;
+        taken = taken;
+        put = put;
+        done = 0;
+        asked = asked;
+      })
+  stand_begun state ins outs takes puts taken put asked filler many has_ins has_outs own some at take_rows put_rows most
+      long_taken long_put none = record {
+        known = known;
+        own_pairs = own;
+        within = omega arith;
+        own = (wiring s n).starts;
+        local = begins n inputs a net;
+        at = at;
+        ins_all = let e = has_ins.all in omega arith;
+        outs_all = let e = has_outs.all in omega arith;
+        took = λ i d h. has_ins.untaken i d (omega arith) ∙
+            ap (λ m. take m ((wiring s n).starts (get_or ((wiring s n).ins a) i 0)))
+            (sym (wired.sound.consumed_none (get_or ((wiring s n).ins a) i 0)));
+        gave = λ i d h. has_outs.put i d (omega arith);
+        phases = some;
+        takes = take_rows;
+        puts = put_rows;
+        taken_long = λ left k. let m = (most (k % cycle_of s (node n a))
+            (mod_below k (cycle_of s (node n a)) some)).0 in
+            let l = filled filler asked many taken long_taken none left in omega arith;
+        put_long = λ left k. let m = (most (k % cycle_of s (node n a)) (mod_below k (cycle_of s (node n a)) some)).1 in
+            let l = filled filler asked many put long_put none left in omega arith;
+      }
 
 -- the ends that were taken out for a node are its own
-module _ {A S T : Type 0} (s : Steps A S T) (ports : PortsHaveChannels s) (n : Netlist A T) (good : IsNet s n) (wired : IsWired (wiring s n)) (a : ℕ) (known : a < length n.nodes)
-    (ps : List (Option (Producer T Global AnyItems))) (xs : List (Option (Consumer T Global AnyItems))) (has : HasEnds n a ps xs) where
+module _ {A S T : Type 0} (s : Steps A S T) (ports : PortsHaveChannels s) (n : Netlist A T) (good : IsNet s n)
+    (wired : IsWired (wiring s n)) (a : ℕ) (known : a < length n.nodes)
+    (ps : List (Option (Producer T Global AnyItems))) (xs : List (Option (Consumer T Global AnyItems)))
+    (has : HasEnds n a ps xs) where
   -- the channel of a port ends there
-  pub into_here : (i : ℕ) → i < length ((wiring s n).ins a) → (get_or ((wiring s n).ins a) i 0 < length n.wires) × ((wire n (get_or ((wiring s n).ins a) i 0)).to.0 ≡ a)
+  pub into_here : (i : ℕ) → i < length ((wiring s n).ins a) →
+      (get_or ((wiring s n).ins a) i 0 < length n.wires) × ((wire n (get_or ((wiring s n).ins a) i 0)).to.0 ≡ a)
   into_here i h = wired.ins_are a i known h
 
-  pub out_here : (i : ℕ) → i < length ((wiring s n).outs a) → (get_or ((wiring s n).outs a) i 0 < length n.wires) × ((wire n (get_or ((wiring s n).outs a) i 0)).from.0 ≡ a)
+  pub out_here : (i : ℕ) → i < length ((wiring s n).outs a) →
+      (get_or ((wiring s n).outs a) i 0 < length n.wires) × ((wire n (get_or ((wiring s n).outs a) i 0)).from.0 ≡ a)
   out_here i h = wired.outs_are a i known h
 
   module _ (ins : List (Consumer T Global AnyItems)) (all_in : length ins ≡ length ((wiring s n).ins a))
-      (taken_in : (i : ℕ) (d : Consumer T Global AnyItems) → i < length ((wiring s n).ins a) → end_at xs (get_or ((wiring s n).ins a) i 0) ≡ Some (get_or ins i d)) where
+      (taken_in : (i : ℕ) (d : Consumer T Global AnyItems) → i < length ((wiring s n).ins a) →
+      end_at xs (get_or ((wiring s n).ins a) i 0) ≡ Some (get_or ins i d)) where
     pub has_ins : HasIns s n a ins
     has_ins = record {
       all = all_in ∙ ins_long s ports n good wired a known;
@@ -80,15 +108,20 @@ module _ {A S T : Type 0} (s : Steps A S T) (ports : PortsHaveChannels s) (n : N
           ap (λ x. received x) (same_Some (get_or ins i d) e.0 (sym (taken_in i d l) ∙ e.1)) ∙ e.2;
     }
 
-    pub ins_at : (c : ℕ) (d : Consumer T Global AnyItems) → c < length n.wires → (wire n c).to.0 ≡ a → end_at xs c ≡ Some (get_or ins (wire n c).to.1 d)
+    pub ins_at : (c : ℕ) (d : Consumer T Global AnyItems) → c < length n.wires → (wire n c).to.0 ≡ a →
+        end_at xs c ≡ Some (get_or ins (wire n c).to.1 d)
     ins_at c d l e =
-        let at : get_or ((wiring s n).ins a) (wire n c).to.1 0 ≡ c = ap (λ b. get_or ((wiring s n).ins b) (wire n c).to.1 0) (sym e) ∙ in_channel s ports n good c l in
-        let long : (wire n c).to.1 < inputs_of s (node n a) = subst (λ b. (wire n c).to.1 < inputs_of s (node n b)) e (good.to_in c l).1 in
-        let inside : (wire n c).to.1 < length ((wiring s n).ins a) = let m = ins_long s ports n good wired a known in omega arith in
+        let at : get_or ((wiring s n).ins a) (wire n c).to.1 0 ≡ c =
+        ap (λ b. get_or ((wiring s n).ins b) (wire n c).to.1 0) (sym e) ∙ in_channel s ports n good c l in
+        let long : (wire n c).to.1 < inputs_of s (node n a) =
+        subst (λ b. (wire n c).to.1 < inputs_of s (node n b)) e (good.to_in c l).1 in
+        let inside : (wire n c).to.1 < length ((wiring s n).ins a) = let m = ins_long s ports n good wired a known in
+        omega arith in
         subst (λ k. end_at xs k ≡ Some (get_or ins (wire n c).to.1 d)) at (taken_in (wire n c).to.1 d inside)
 
   module _ (outs : List (Producer T Global AnyItems)) (all_out : length outs ≡ length ((wiring s n).outs a))
-      (taken_out : (i : ℕ) (d : Producer T Global AnyItems) → i < length ((wiring s n).outs a) → end_at ps (get_or ((wiring s n).outs a) i 0) ≡ Some (get_or outs i d)) where
+      (taken_out : (i : ℕ) (d : Producer T Global AnyItems) → i < length ((wiring s n).outs a) →
+      end_at ps (get_or ((wiring s n).outs a) i 0) ≡ Some (get_or outs i d)) where
     pub has_outs : HasOuts s n a outs
     has_outs = record {
       all = all_out ∙ outs_long s ports n good wired a known;
@@ -99,20 +132,28 @@ module _ {A S T : Type 0} (s : Steps A S T) (ports : PortsHaveChannels s) (n : N
           ap (λ x. sent x) (same_Some (get_or outs i d) e.0 (sym (taken_out i d l) ∙ e.1)) ∙ e.2;
     }
 
-    pub outs_at : (c : ℕ) (d : Producer T Global AnyItems) → c < length n.wires → (wire n c).from.0 ≡ a → end_at ps c ≡ Some (get_or outs (wire n c).from.1 d)
+    pub outs_at : (c : ℕ) (d : Producer T Global AnyItems) → c < length n.wires → (wire n c).from.0 ≡ a →
+        end_at ps c ≡ Some (get_or outs (wire n c).from.1 d)
     outs_at c d l e =
-        let at : get_or ((wiring s n).outs a) (wire n c).from.1 0 ≡ c = ap (λ b. get_or ((wiring s n).outs b) (wire n c).from.1 0) (sym e) ∙ out_channel s ports n good c l in
-        let long : (wire n c).from.1 < outputs_of s (node n a) = subst (λ b. (wire n c).from.1 < outputs_of s (node n b)) e (good.from_in c l).1 in
-        let inside : (wire n c).from.1 < length ((wiring s n).outs a) = let m = outs_long s ports n good wired a known in omega arith in
+        let at : get_or ((wiring s n).outs a) (wire n c).from.1 0 ≡ c =
+        ap (λ b. get_or ((wiring s n).outs b) (wire n c).from.1 0) (sym e) ∙ out_channel s ports n good c l in
+        let long : (wire n c).from.1 < outputs_of s (node n a) =
+        subst (λ b. (wire n c).from.1 < outputs_of s (node n b)) e (good.from_in c l).1 in
+        let inside : (wire n c).from.1 < length ((wiring s n).outs a) = let m =
+        outs_long s ports n good wired a known in omega arith in
         subst (λ k. end_at ps k ≡ Some (get_or outs (wire n c).from.1 d)) at (taken_out (wire n c).from.1 d inside)
 
     pub own_are_pairs : (ins : List (Consumer T Global AnyItems)) →
-        ((c : ℕ) (d : Consumer T Global AnyItems) → c < length n.wires → (wire n c).to.0 ≡ a → end_at xs c ≡ Some (get_or ins (wire n c).to.1 d)) → OwnArePairs n a ins outs
-    own_are_pairs ins at c d e l from to = has.own c (get_or outs (wire n c).from.1 e) (get_or ins (wire n c).to.1 d) l from to (outs_at c e l from) (at c d l to)
+        ((c : ℕ) (d : Consumer T Global AnyItems) → c < length n.wires → (wire n c).to.0 ≡ a →
+        end_at xs c ≡ Some (get_or ins (wire n c).to.1 d)) → OwnArePairs n a ins outs
+    own_are_pairs ins at c d e l from to = has.own c (get_or outs (wire n c).from.1 e) (get_or ins (wire n c).to.1 d) l
+        from to (outs_at c e l from) (at c d l to)
 
 -- no end stands at two ports
-pub ins_once : {A S T : Type 0} (s : Steps A S T) (ports : PortsHaveChannels s) (n : Netlist A T) (good : IsNet s n) (wired : IsWired (wiring s n)) (a i k : ℕ) → a < length n.nodes →
-    i < length ((wiring s n).ins a) → k < length ((wiring s n).ins a) → get_or ((wiring s n).ins a) i 0 ≡ get_or ((wiring s n).ins a) k 0 → i ≡ k
+pub ins_once : {A S T : Type 0} (s : Steps A S T) (ports : PortsHaveChannels s) (n : Netlist A T) (good : IsNet s n)
+    (wired : IsWired (wiring s n)) (a i k : ℕ) → a < length n.nodes →
+    i < length ((wiring s n).ins a) → k < length ((wiring s n).ins a) →
+    get_or ((wiring s n).ins a) i 0 ≡ get_or ((wiring s n).ins a) k 0 → i ≡ k
 ins_once s ports n good wired a i k known hi hk e =
     let long = ins_long s ports n good wired a known in
     let at_i = port_at s ports n good a i known (omega arith) in

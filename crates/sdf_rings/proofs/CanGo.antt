@@ -1,8 +1,10 @@
 -- Where all ends have met and firings are left, the first firing of some seat is known to be possible.
-use Rattle.std.proofs.Common.{◌≡◌, ℕ, ◌+◌, ◌-◌, ◌≤◌, ◌<◌, ◌⊎◌, List, length, get_or, take, map, cond, eqb, refl, sym, ap, ◌∙◌, subst, arith, vec_len, inl, inr}
+use Rattle.std.proofs.Common.{◌≡◌, ℕ, ◌+◌, ◌-◌, ◌≤◌, ◌<◌, ◌⊎◌, List, length, get_or, take, map, cond, eqb, refl, sym}
+use Rattle.std.proofs.Common.{ap, ◌∙◌, subst, arith, vec_len, inl, inr}
 use Rattle.std.specs.Global.{Global}
 use Rattle.std.proofs.lemmas.Bool.{cases_eq, ne_eqb, cond-false}
-use Rattle.std.proofs.lemmas.List.{get_or_default, get_or-map, get_or-take, take-map, take_all, length-take-le, length-map, length-drop}
+use Rattle.std.proofs.lemmas.List.{get_or_default, get_or-map, get_or-take, take-map, take_all, length-take-le}
+use Rattle.std.proofs.lemmas.List.{length-map, length-drop}
 use Rattle.std.proofs.lemmas.Slice.{between_from_start}
 use Rattle.rtrb.specs.Ring.{known_items, known_free}
 use Rattle.rtrb.specs.declared.producer.Producer.{Producer}
@@ -12,7 +14,8 @@ use Rattle.sdf_graph.specs.Sequences.{times, IsEnabled, tokens}
 use Rattle.sdf_prec.specs.Next.{HasRoom}
 use Rattle.sdf_prec.specs.Laws.{NextMayFire}
 use Rattle.sdf_actor.specs.Steps.{Steps}
-use Rattle.sdf_actor.specs.Nets.{Netlist, wire, node, wiring, inputs_of, outputs_of, consumed_at, produced_at, to_port, from_port}
+use Rattle.sdf_actor.specs.Nets.{Netlist, wire, node, wiring, inputs_of, outputs_of, consumed_at, produced_at, to_port}
+use Rattle.sdf_actor.specs.Nets.{from_port}
 use Rattle.sdf_actor.specs.Laws.{NetsAreWired, PortsHaveChannels}
 use Rattle.sdf_actor.specs.declared.sides.Side.TheVariants.{Input, Output}
 use Rattle.sdf_answer.specs.Sizes.{sizes}
@@ -30,8 +33,11 @@ use Rattle.sdf_rings.proofs.Looking.{vec_in}
 use Rattle.sdf_rings.proofs.Tells.{some}
 use Rattle.sdf_rings.proofs.Placed.{outs_of, ins_of, one_node}
 
-module _ {A S T : Type 0} (s : Steps A S T) (wired : NetsAreWired s) (ports : PortsHaveChannels s) (may_fire : NextMayFire) (n : Netlist A T) (inputs : List (List T)) (seats : List (Seat A T S)) (places : List (ℕ × ℕ))
-    (r : AreRings s (record { net = n; inputs = inputs; seats = seats; places = places })) (met : HaveMet n seats places) (at_rest : AreAtRest s n inputs seats places)
+module _ {A S T : Type 0} (s : Steps A S T) (wired : NetsAreWired s) (ports : PortsHaveChannels s)
+    (may_fire : NextMayFire) (n : Netlist A T) (inputs : List (List T)) (seats : List (Seat A T S))
+    (places : List (ℕ × ℕ))
+    (r : AreRings s (record { net = n; inputs = inputs; seats = seats; places = places }))
+    (met : HaveMet n seats places) (at_rest : AreAtRest s n inputs seats places)
     (order : List ℕ) (cap : ℕ → ℕ) (plan : IsPlanned s n seats places order cap) where
   abbrev home : ℕ → ℕ
   home a = (get_or places a (0, 0)).0
@@ -47,17 +53,21 @@ module _ {A S T : Type 0} (s : Steps A S T) (wired : NetsAreWired s) (ports : Po
     abbrev past : ℕ → ℕ
     past b = done home order next b
 
-    part_apart : (b : ℕ) → Stand A T S → b < length n.nodes → (j : ℕ) → j < length (part home order (home b)) → stand (get_or (part home order (home b)) j 0) ≡ stand b → get_or (part home order (home b)) j 0 ≡ b
+    part_apart : (b : ℕ) → Stand A T S → b < length n.nodes → (j : ℕ) → j < length (part home order (home b)) →
+        stand (get_or (part home order (home b)) j 0) ≡ stand b → get_or (part home order (home b)) j 0 ≡ b
     part_apart b d l j h e =
         let is = part_all home order (home b) (λ a. a < length n.nodes) (λ i m. (plan.admissible i m).0) j h in
         one_node n seats places r.placed (get_or (part home order (home b)) j 0) b e0 d is.0 l is.1 e
 
     -- so many of the firings of b stand in the first m of its seat's list
-    counted : (b : ℕ) → Stand A T S → b < length n.nodes → (m : ℕ) → m ≤ length (part home order (home b)) → times_between (stand b) (get_or seats (home b) e0).left.items 0 m ≡ times (take m (part home order (home b))) b
+    counted : (b : ℕ) → Stand A T S → b < length n.nodes → (m : ℕ) → m ≤ length (part home order (home b)) →
+        times_between (stand b) (get_or seats (home b) e0).left.items 0 m ≡ times (take m (part home order (home b))) b
     counted b d l m fits =
         let P = part home order (home b) in
-        let is : (get_or seats (home b) e0).left.items ≡ map stand P = plan.asks.lists (home b) e0 (r.placed.seat_in b l) in
-        ap (λ xs. times xs (stand b)) (between_from_start (get_or seats (home b) e0).left.items m ∙ ap (take m) is ∙ take-map stand m P) ∙
+        let is : (get_or seats (home b) e0).left.items ≡ map stand P =
+        plan.asks.lists (home b) e0 (r.placed.seat_in b l) in
+        ap (λ xs. times xs (stand b)) (between_from_start (get_or seats (home b) e0).left.items m ∙ ap (take m) is
+        ∙ take-map stand m P) ∙
         times_map stand b (take m P) (λ j h e.
         let len = length-take-le m P fits in
         let same : get_or (take m P) j 0 ≡ get_or P j 0 = get_or-take m P j 0 (omega arith) in
@@ -77,10 +87,12 @@ module _ {A S T : Type 0} (s : Steps A S T) (wired : NetsAreWired s) (ports : Po
           let len : length x.left.items ≡ length P = ap (λ (xs : List ℕ). length xs) is ∙ length-map P stand in
           let fits = ok.next_fits in
           let c = ok.counts (stand b) d0 (r.placed.stand_in b e0 l) in
-          let all = times_to (stand b) x.left.items 0 x.next (vec_len x.left) (omega arith) (omega arith) (omega arith) in
+          let all = times_to (stand b) x.left.items 0 x.next (vec_len x.left) (omega arith) (omega arith)
+          (omega arith) in
           let some_done = counted b d0 l x.next (omega arith) in
           let every = counted b d0 l (vec_len x.left) (omega arith) in
-          let whole = ap (λ xs. times xs b) (take_all (vec_len x.left) P (omega arith)) ∙ part_times home order (home b) b refl in
+          let whole = ap (λ xs. times xs b) (take_all (vec_len x.left) P (omega arith))
+          ∙ part_times home order (home b) b refl in
           let asked = plan.asks.asked b e0 d0 l in
           omega arith
 
@@ -91,37 +103,49 @@ module _ {A S T : Type 0} (s : Steps A S T) (wired : NetsAreWired s) (ports : Po
         known : first < length n.nodes
         known = (plan.admissible f.at f.is.within).0
 
-        fires : (past first ≡ times (take f.at order) first) × IsEnabled (wiring s n).rates past first × HasRoom (wiring s n).rates cap past first
+        fires : (past first ≡ times (take f.at order) first) × IsEnabled (wiring s n).rates past first
+            × HasRoom (wiring s n).rates cap past first
         fires = may_fire (wiring s n).rates past cap order f.at (wired n r.is_net).sound plan.admissible plan.fits f.is
 
         -- a channel holds what was put on it and not taken
         held : (c : ℕ) (x : Consumer T Global AnyItems) (y : Producer T Global AnyItems) → c < length n.wires →
-            length (known_items (consumer_of n seats places e0 d0 x c)) + (wiring s n).rates.consumed c (k (wire n c).to.0) ≡ (wiring s n).rates.initial c + (wiring s n).rates.produced c (k (wire n c).from.0)
+            length (known_items (consumer_of n seats places e0 d0 x c))
+            + (wiring s n).rates.consumed c (k (wire n c).to.0) ≡
+            (wiring s n).rates.initial c + (wiring s n).rates.produced c (k (wire n c).from.0)
         held c x y l =
             let rest = at_rest e0 d0 x y k (λ a m. refl) in
-            let left = ap length (rest.left c e0 d0 x l) ∙ length-drop ((wiring s n).rates.consumed c (k (wire n c).to.0)) (rest.history c) in
+            let left = ap length (rest.left c e0 d0 x l)
+            ∙ length-drop ((wiring s n).rates.consumed c (k (wire n c).to.0)) (rest.history c) in
             let long = rest.is.lengths c l in
             let enough = rest.is.enough c l in
             omega arith
 
         -- what channel c holds where the first is its target
         hold_at : (c : ℕ) (x : Consumer T Global AnyItems) → c < length n.wires → (wire n c).to.0 ≡ first →
-            (wiring s n).rates.consumed c (k (wire n c).to.0 + 1) - (wiring s n).rates.consumed c (k (wire n c).to.0) ≤ length (known_items (consumer_of n seats places e0 d0 x c))
+            (wiring s n).rates.consumed c (k (wire n c).to.0 + 1) - (wiring s n).rates.consumed c (k (wire n c).to.0) ≤
+            length (known_items (consumer_of n seats places e0 d0 x c))
         hold_at c x l e =
             let from = r.is_net.from_in c l in
             let to = r.is_net.to_in c l in
             let outs = stand_of n seats places e0 d0 (wire n c).from.0 in
             let all = outs_of s n inputs seats places r (wire n c).from.0 e0 d0 from.0 in
-            let y = some outs.outs.items (wire n c).from.1 (vec_in outs.outs (wire n c).from.1 (omega (arith, from.1))) in
+            let y = some outs.outs.items (wire n c).from.1
+            (vec_in outs.outs (wire n c).from.1 (omega (arith, from.1))) in
             let there = held c x y l in
             let can = fires.1 c l e in
-            let t : (wiring s n).rates.consumed c (k (wire n c).to.0 + 1) ≡ (wiring s n).rates.consumed c (past (wire n c).to.0 + 1) = ap (λ (i : ℕ). (wiring s n).rates.consumed c (i + 1)) (done_is (wire n c).to.0 to.0) in
-            let u : (wiring s n).rates.produced c (k (wire n c).from.0) ≡ (wiring s n).rates.produced c (past (wire n c).from.0) = ap ((wiring s n).rates.produced c) (done_is (wire n c).from.0 from.0) in
+            let t : (wiring s n).rates.consumed c (k (wire n c).to.0 + 1) ≡
+            (wiring s n).rates.consumed c (past (wire n c).to.0 + 1) =
+            ap (λ (i : ℕ). (wiring s n).rates.consumed c (i + 1)) (done_is (wire n c).to.0 to.0) in
+            let u : (wiring s n).rates.produced c (k (wire n c).from.0) ≡
+            (wiring s n).rates.produced c (past (wire n c).from.0) =
+            ap ((wiring s n).rates.produced c) (done_is (wire n c).from.0 from.0) in
             omega arith
 
         -- and what room it has where the first is its source
         room_at : (c : ℕ) (y : Producer T Global AnyItems) → c < length n.wires → (wire n c).from.0 ≡ first →
-            (wiring s n).rates.produced c (k (wire n c).from.0 + 1) - (wiring s n).rates.produced c (k (wire n c).from.0) ≤ known_free (producer_of n seats places e0 d0 y c)
+            (wiring s n).rates.produced c (k (wire n c).from.0 + 1)
+            - (wiring s n).rates.produced c (k (wire n c).from.0) ≤
+            known_free (producer_of n seats places e0 d0 y c)
         room_at c y l e = go (cases_eq (wire n c).from.0 (wire n c).to.0)
           where
             from : (wire n c).from.0 < length n.nodes
@@ -137,16 +161,24 @@ module _ {A S T : Type 0} (s : Steps A S T) (wired : NetsAreWired s) (ports : Po
                 some ins.items (wire n c).to.1 (vec_in ins (wire n c).to.1 (omega (arith, (r.is_net.to_in c l).1)))
 
             go : ((wire n c).from.0 ≡ (wire n c).to.0) ⊎ ((wire n c).from.0 ≡ (wire n c).to.0 → ⊥) →
-                (wiring s n).rates.produced c (k (wire n c).from.0 + 1) - (wiring s n).rates.produced c (k (wire n c).from.0) ≤ known_free (producer_of n seats places e0 d0 y c)
+                (wiring s n).rates.produced c (k (wire n c).from.0 + 1)
+                - (wiring s n).rates.produced c (k (wire n c).from.0) ≤
+                known_free (producer_of n seats places e0 d0 y c)
             go (inr ne) =
                 let there = held c x y l in
                 let can = fires.2 c l e in
                 let free = (met c e0 d0 x y l).all_free in
                 let size = (plan.capacities c e0 d0 y l).between_two ne in
                 let other : eqb (wire n c).to.0 first ≡ _ = ne_eqb (wire n c).to.0 first (λ z. ne (e ∙ sym z)) in
-                let drawn : (wiring s n).rates.consumed c (cond (eqb (wire n c).to.0 first) (past first + 1) (past (wire n c).to.0)) ≡ (wiring s n).rates.consumed c (k (wire n c).to.0) =
-                ap ((wiring s n).rates.consumed c) (cond-false (eqb (wire n c).to.0 first) (past first + 1) (past (wire n c).to.0) other ∙ sym (done_is (wire n c).to.0 to)) in
-                let t : (wiring s n).rates.produced c (k (wire n c).from.0 + 1) ≡ (wiring s n).rates.produced c (past first + 1) = ap (λ (i : ℕ). (wiring s n).rates.produced c (i + 1)) (done_is (wire n c).from.0 from ∙ ap past e) in
+                let drawn : (wiring s n).rates.consumed c
+                (cond (eqb (wire n c).to.0 first) (past first + 1) (past (wire n c).to.0)) ≡
+                (wiring s n).rates.consumed c (k (wire n c).to.0) =
+                ap ((wiring s n).rates.consumed c) (cond-false (eqb (wire n c).to.0 first) (past first + 1)
+                (past (wire n c).to.0) other ∙ sym (done_is (wire n c).to.0 to)) in
+                let t : (wiring s n).rates.produced c (k (wire n c).from.0 + 1) ≡
+                (wiring s n).rates.produced c (past first + 1) =
+                ap (λ (i : ℕ). (wiring s n).rates.produced c (i + 1))
+                (done_is (wire n c).from.0 from ∙ ap past e) in
                 omega arith
             -- one to itself has room for a block more than it may hold
             go (inl own) =
@@ -155,10 +187,15 @@ module _ {A S T : Type 0} (s : Steps A S T) (wired : NetsAreWired s) (ports : Po
                 let size = (plan.capacities c e0 d0 y l).own own in
                 let most = size.1.above (k (wire n c).from.0) in
                 let places_are = size.2 in
-                let fits : tokens (wiring s n).rates (times (take f.at order)) c ≤ cap c = plan.fits f.at (let h = f.is.within in omega arith) c l in
-                let here : k (wire n c).from.0 ≡ times (take f.at order) (wire n c).from.0 = done_is (wire n c).from.0 from ∙ subst (λ b. past b ≡ times (take f.at order) b) (sym e) fires.0 in
-                let put : (wiring s n).rates.produced c (k (wire n c).from.0) ≡ (wiring s n).rates.produced c (times (take f.at order) (wire n c).from.0) = ap ((wiring s n).rates.produced c) here in
-                let taken : (wiring s n).rates.consumed c (k (wire n c).to.0) ≡ (wiring s n).rates.consumed c (times (take f.at order) (wire n c).to.0) =
+                let fits : tokens (wiring s n).rates (times (take f.at order)) c ≤ cap c =
+                plan.fits f.at (let h = f.is.within in omega arith) c l in
+                let here : k (wire n c).from.0 ≡ times (take f.at order) (wire n c).from.0 =
+                done_is (wire n c).from.0 from ∙ subst (λ b. past b ≡ times (take f.at order) b) (sym e) fires.0 in
+                let put : (wiring s n).rates.produced c (k (wire n c).from.0) ≡
+                (wiring s n).rates.produced c (times (take f.at order) (wire n c).from.0) =
+                ap ((wiring s n).rates.produced c) here in
+                let taken : (wiring s n).rates.consumed c (k (wire n c).to.0) ≡
+                (wiring s n).rates.consumed c (times (take f.at order) (wire n c).to.0) =
                 ap ((wiring s n).rates.consumed c) (subst (λ b. k b ≡ times (take f.at order) b) own here) in
                 omega arith
 
@@ -168,30 +205,44 @@ module _ {A S T : Type 0} (s : Steps A S T) (wired : NetsAreWired s) (ports : Po
             let is : z.actor ≡ first = r.placed.is first e0 d0 known in
             record {
               holds = λ p x h.
-                  let l : p < inputs_of s (node n first) = let all = ins_of s n inputs seats places r first e0 d0 known in omega arith in
+                  let l : p < inputs_of s (node n first) = let all =
+                  ins_of s n inputs seats places r first e0 d0 known in omega arith in
                   let c : ℕ = to_port n first p in
                   let at = (ports n first p r.is_net known).0 l in
                   let h' = hold_at c x (r.is_net.to_all first p known l) at.0 in
-                  let moved : consumed_at s (node n first) p (k first + 1) - consumed_at s (node n first) p (k first) ≤ length (known_items (get_or z.ins.items p x)) =
-                  subst (λ (q : ℕ × ℕ). consumed_at s (node n q.0) q.1 (k q.0 + 1) - consumed_at s (node n q.0) q.1 (k q.0) ≤ length (known_items (get_or (stand_of n seats places e0 d0 q.0).ins.items q.1 x))) (λ i. (at.0 i, at.1 i)) h' in
-                  subst (λ (b : ℕ). sizes s Input (node n b) z.done p ≤ length (known_items (get_or z.ins.items p x))) (sym is) moved;
+                  let moved : consumed_at s (node n first) p (k first + 1) - consumed_at s (node n first) p (k first) ≤
+                  length (known_items (get_or z.ins.items p x)) =
+                  subst (λ (q : ℕ × ℕ). consumed_at s (node n q.0) q.1 (k q.0 + 1)
+                  - consumed_at s (node n q.0) q.1 (k q.0) ≤
+                  length (known_items (get_or (stand_of n seats places e0 d0 q.0).ins.items q.1 x)))
+                  (λ i. (at.0 i, at.1 i)) h' in
+                  subst (λ (b : ℕ). sizes s Input (node n b) z.done p ≤ length (known_items (get_or z.ins.items p x)))
+                  (sym is) moved;
               has_room = λ p y h.
-                  let l : p < outputs_of s (node n first) = let all = outs_of s n inputs seats places r first e0 d0 known in omega arith in
+                  let l : p < outputs_of s (node n first) = let all =
+                  outs_of s n inputs seats places r first e0 d0 known in omega arith in
                   let c : ℕ = from_port n first p in
                   let at = (ports n first p r.is_net known).1 l in
                   let h' = room_at c y (r.is_net.from_all first p known l) at.0 in
-                  let moved : produced_at s (node n first) p (k first + 1) - produced_at s (node n first) p (k first) ≤ known_free (get_or z.outs.items p y) =
-                  subst (λ (q : ℕ × ℕ). produced_at s (node n q.0) q.1 (k q.0 + 1) - produced_at s (node n q.0) q.1 (k q.0) ≤ known_free (get_or (stand_of n seats places e0 d0 q.0).outs.items q.1 y)) (λ i. (at.0 i, at.1 i)) h' in
-                  subst (λ (b : ℕ). sizes s Output (node n b) z.done p ≤ known_free (get_or z.outs.items p y)) (sym is) moved;
+                  let moved : produced_at s (node n first) p (k first + 1) - produced_at s (node n first) p (k first) ≤
+                  known_free (get_or z.outs.items p y) =
+                  subst (λ (q : ℕ × ℕ). produced_at s (node n q.0) q.1 (k q.0 + 1)
+                  - produced_at s (node n q.0) q.1 (k q.0) ≤
+                  known_free (get_or (stand_of n seats places e0 d0 q.0).outs.items q.1 y))
+                  (λ i. (at.0 i, at.1 i)) h' in
+                  subst (λ (b : ℕ). sizes s Output (node n b) z.done p ≤ known_free (get_or z.outs.items p y))
+                  (sym is) moved;
             }
 
     -- the next in its seat's list is its stand
-    named : (f : IsFirst home order next) → get_or (get_or seats (home (get_or order f.at 0)) e0).left.items (next (home (get_or order f.at 0))) 0 ≡ stand (get_or order f.at 0)
+    named : (f : IsFirst home order next) → get_or (get_or seats (home (get_or order f.at 0)) e0).left.items
+        (next (home (get_or order f.at 0))) 0 ≡ stand (get_or order f.at 0)
     named f =
         let a : ℕ = get_or order f.at 0 in
         let l = (plan.admissible f.at f.is.within).0 in
         let P = part home order (home a) in
-        ap (λ xs. get_or xs (next (home a)) 0) (plan.asks.lists (home a) e0 (r.placed.seat_in a l)) ∙ get_or-map stand P (next (home a)) 0 0 f.left ∙ ap stand f.names
+        ap (λ xs. get_or xs (next (home a)) 0) (plan.asks.lists (home a) e0 (r.placed.seat_in a l))
+        ∙ get_or-map stand P (next (home a)) 0 0 f.left ∙ ap stand f.names
 
     some_at : IsFirst home order next → SomeFirst s n seats
     some_at f =
@@ -199,14 +250,19 @@ module _ {A S T : Type 0} (s : Steps A S T) (wired : NetsAreWired s) (ports : Po
         let l = (plan.admissible f.at f.is.within).0 in
         let inside = r.placed.seat_in a l in
         let P = part home order (home a) in
-        let same : (e : Seat A T S) → get_or seats (home a) e0 ≡ get_or seats (home a) e = λ e. get_or_default seats (home a) e0 e inside in
-        let len : length (get_or seats (home a) e0).left.items ≡ length P = ap (λ (xs : List ℕ). length xs) (plan.asks.lists (home a) e0 inside) ∙ length-map P stand in
-        let more : (get_or seats (home a) e0).next < vec_len (get_or seats (home a) e0).left = let h = f.left in let v = len_is (get_or seats (home a) e0).left in omega arith in
+        let same : (e : Seat A T S) → get_or seats (home a) e0 ≡ get_or seats (home a) e =
+        λ e. get_or_default seats (home a) e0 e inside in
+        let len : length (get_or seats (home a) e0).left.items ≡ length P =
+        ap (λ (xs : List ℕ). length xs) (plan.asks.lists (home a) e0 inside) ∙ length-map P stand in
+        let more : (get_or seats (home a) e0).next < vec_len (get_or seats (home a) e0).left = let h = f.left in let v =
+        len_is (get_or seats (home a) e0).left in omega arith in
         record {
           which = home a;
           which_in = inside;
           which_left = λ e. subst (λ (z : Seat A T S). z.next < vec_len z.left) (same e) more;
-          which_can = λ e. subst (HasFirst s n) (same e) (λ d. subst (λ (j : ℕ). CanFire s n (get_or (get_or seats (home a) e0).stands.items j d)) (sym (named f)) (can_fire d f));
+          which_can = λ e. subst (HasFirst s n) (same e)
+              (λ d. subst (λ (j : ℕ). CanFire s n (get_or (get_or seats (home a) e0).stands.items j d)) (sym (named f))
+              (can_fire d f));
         }
 
   pub can_go_on : 0 < total_left seats → SomeFirst s n seats
@@ -214,7 +270,8 @@ module _ {A S T : Type 0} (s : Steps A S T) (wired : NetsAreWired s) (ports : Po
       let w = which_left seats more in
       let e0 = some seats w.0 w.1 in
       let P = part home order w.0 in
-      let len : length (get_or seats w.0 e0).left.items ≡ length P = ap (λ (xs : List ℕ). length xs) (plan.asks.lists w.0 e0 w.1) ∙ length-map P stand in
+      let len : length (get_or seats w.0 e0).left.items ≡ length P =
+      ap (λ (xs : List ℕ). length xs) (plan.asks.lists w.0 e0 w.1) ∙ length-map P stand in
       let h = w.2 e0 in
       let v = len_is (get_or seats w.0 e0).left in
       some_at e0 (first_left home order (λ i. (get_or seats i e0).next) w.0 (omega arith))

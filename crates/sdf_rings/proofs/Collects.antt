@@ -1,5 +1,6 @@
 -- The lists of the sinks are given out, one after another.
-use Rattle.std.proofs.Common.{◌≡◌, ℕ, ◌+◌, ◌<◌, ◌≤◌, ◌⊎◌, List, [], length, get_or, sym, ap, ◌∙◌, subst, arith, Vec, vec_len, inl, inr}
+use Rattle.std.proofs.Common.{◌≡◌, ℕ, ◌+◌, ◌<◌, ◌≤◌, ◌⊎◌, List, [], length, get_or, sym, ap, ◌∙◌, subst, arith, Vec}
+use Rattle.std.proofs.Common.{vec_len, inl, inr}
 use Rattle.std.specs.Global.{Global}
 use Rattle.std.proofs.lemmas.Bool.{cases_lt}
 use Rattle.sdf_actor.specs.declared.node.Node.TheVariants as kind
@@ -17,35 +18,47 @@ use Rattle.sdf_rings.proofs.Tells.{some}
 use Rattle.sdf_rings.proofs.Placed.{one_node}
 
 -- the lists of the sinks among the first m nodes stand among the outputs
-abbrev pub AreGiven : {A S T : Type 0} → Netlist A T → List (Seat A T S) → List (ℕ × ℕ) → ℕ → List (Vec T Global) → Type 0
+abbrev pub AreGiven : {A S T : Type 0} → Netlist A T → List (Seat A T S) → List (ℕ × ℕ) → ℕ → List (Vec T Global) →
+    Type 0
 AreGiven {A} {S} {T} n seats places m outputs =
-    (a ext block : ℕ) (made : Vec T Global) (e : Seat A T S) (d : Stand A T S) → a < m → node n a ≡ kind.Sink ext block →
+    (a ext block : ℕ) (made : Vec T Global) (e : Seat A T S) (d : Stand A T S) → a < m →
+    node n a ≡ kind.Sink ext block →
     (stand_of n seats places e d a).state ≡ Sink made → get_or (lists outputs) ext [] ≡ made.items
 
-module _ {A S T : Type 0} (n : Netlist A T) (sinks : HasSinks n) (seats : List (Seat A T S)) (places : List (ℕ × ℕ)) (placed : IsPlaced n seats places)
+module _ {A S T : Type 0} (n : Netlist A T) (sinks : HasSinks n) (seats : List (Seat A T S)) (places : List (ℕ × ℕ))
+    (placed : IsPlaced n seats places)
     (cur new : List (Seat A T S)) (a : ℕ) (known : a < length n.nodes)
     (stands : (j : ℕ) (e : Seat A T S) → vec_len (get_or cur j e).stands ≡ vec_len (get_or seats j e).stands)
-    (rest : (b : ℕ) (e : Seat A T S) (d : Stand A T S) → a ≤ b → b < length n.nodes → stand_of n cur places e d b ≡ stand_of n seats places e d b)
-    (u : (e : Seat A T S) (d : Stand A T S) → IsUpdated cur new (get_or places a (0, 0)).0 (get_or places a (0, 0)).1 (stand_at new (get_or places a (0, 0)).0 (get_or places a (0, 0)).1 e d)) where
+    (rest : (b : ℕ) (e : Seat A T S) (d : Stand A T S) → a ≤ b → b < length n.nodes →
+    stand_of n cur places e d b ≡ stand_of n seats places e d b)
+    (u : (e : Seat A T S) (d : Stand A T S) → IsUpdated cur new (get_or places a (0, 0)).0 (get_or places a (0, 0)).1
+    (stand_at new (get_or places a (0, 0)).0 (get_or places a (0, 0)).1 e d)) where
   pub stands_more : (j : ℕ) (e : Seat A T S) → vec_len (get_or new j e).stands ≡ vec_len (get_or seats j e).stands
   stands_more j e =
       let x = get_or seats (get_or places a (0, 0)).0 e in
-      let d = some x.stands.items (get_or places a (0, 0)).1 (vec_in x.stands (get_or places a (0, 0)).1 (placed.stand_in a e known)) in
+      let d = some x.stands.items (get_or places a (0, 0)).1
+      (vec_in x.stands (get_or places a (0, 0)).1 (placed.stand_in a e known)) in
       ((u e d).seats j e).stands_same ∙ stands j e
 
-  pub rest_more : (b : ℕ) (e : Seat A T S) (d : Stand A T S) → a + 1 ≤ b → b < length n.nodes → stand_of n new places e d b ≡ stand_of n seats places e d b
+  pub rest_more : (b : ℕ) (e : Seat A T S) (d : Stand A T S) → a + 1 ≤ b → b < length n.nodes →
+      stand_of n new places e d b ≡ stand_of n seats places e d b
   rest_more b e d h l =
-      (u e d).others (get_or places b (0, 0)).0 (get_or places b (0, 0)).1 e d (λ z. let same = one_node n seats places placed b a e d l known z.0 z.1 in omega arith) ∙
+      (u e d).others (get_or places b (0, 0)).0 (get_or places b (0, 0)).1 e d
+      (λ z. let same = one_node n seats places placed b a e d l known z.0 z.1 in omega arith) ∙
       rest b e d (omega arith) l
 
   pub given_more : (outputs outputs' : List (Vec T Global)) →
-      ((e : Seat A T S) (d : Stand A T S) → IsCollected (node n a) (stand_of n cur places e d a).state outputs outputs') →
+      ((e : Seat A T S) (d : Stand A T S) → IsCollected (node n a) (stand_of n cur places e d a).state
+      outputs outputs') →
       AreGiven n seats places a outputs → AreGiven n seats places (a + 1) outputs'
   given_more outputs outputs' one before b ext block made e d h is at = go (cases_lt b a)
     where
       go : (b < a) ⊎ (a ≤ b) → get_or (lists outputs') ext [] ≡ made.items
-      go (inl less) = (one e d).others ext (λ other here. absurd (let same : b ≡ a = sinks.apart b a ext block other (omega arith) known is here in omega arith)) ∙ before b ext block made e d less is at
+      go (inl less) = (one e d).others ext (λ other here. absurd
+          (let same : b ≡ a = sinks.apart b a ext block other (omega arith) known is here in omega arith))
+          ∙ before b ext block made e d less is at
       go (inr more) =
           let same : b ≡ a = omega arith in
           (one e d).own ext block made (subst (λ i. node n i ≡ kind.Sink ext block) same is)
-          (ap (λ (z : Stand A T S). z.state) (rest a e d (omega arith) known) ∙ (ap (λ i. (stand_of n seats places e d i).state) (sym same) ∙ at))
+          (ap (λ (z : Stand A T S). z.state) (rest a e d (omega arith) known)
+          ∙ (ap (λ i. (stand_of n seats places e d i).state) (sym same) ∙ at))

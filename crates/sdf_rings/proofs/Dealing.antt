@@ -1,5 +1,6 @@
 -- Places on seats, and the firings of a sequence that are dealt to a seat.
-use Rattle.std.proofs.Common.{◌≡◌, ℕ, ◌+◌, ◌≤◌, ◌<◌, ◌⊎◌, inl, inr, List, [], ◌∷◌, ◌++◌, Bool, true, false, length, map, cond, get_or, take, eqb, refl, sym, ap, ◌∙◌, add-one, arith}
+use Rattle.std.proofs.Common.{◌≡◌, ℕ, ◌+◌, ◌≤◌, ◌<◌, ◌⊎◌, inl, inr, List, [], ◌∷◌, ◌++◌, Bool, true, false, length, map}
+use Rattle.std.proofs.Common.{cond, get_or, take, eqb, refl, sym, ap, ◌∙◌, add-one, arith}
 use Rattle.std.proofs.lemmas.Bool.{cases_lt}
 use Rattle.std.proofs.lemmas.List.{map-append, get_or_append_left, get_or_push, take-append-le, take_all, length_push}
 use Rattle.std.proofs.lemmas.List.Elements.{filter_more, filter-append}
@@ -16,14 +17,18 @@ module _ (places : List (ℕ × ℕ)) (seat : ℕ) where
   stand a = (place places a).1
 
   pub dealt_more : (order : List ℕ) (i : ℕ) → i < length order →
-      map stand (dealt places (take (i + 1) order) seat) ≡ map stand (dealt places (take i order) seat) ++ cond (eqb (place places (get_or order i 0)).0 seat) (stand (get_or order i 0) ∷ []) []
+      map stand (dealt places (take (i + 1) order) seat) ≡
+      map stand (dealt places (take i order) seat)
+      ++ cond (eqb (place places (get_or order i 0)).0 seat) (stand (get_or order i 0) ∷ []) []
   dealt_more order i h =
       let here : List ℕ = cond (eqb (place places (get_or order i 0)).0 seat) (get_or order i 0 ∷ []) [] in
       ap (map stand) (filter_more (λ a. eqb (place places a).0 seat) order i 0 h) ∙
       (map-append stand (dealt places (take i order) seat) here ∙
-      ap (λ ys. map stand (dealt places (take i order) seat) ++ ys) (map_cond stand (eqb (place places (get_or order i 0)).0 seat) (get_or order i 0)))
+      ap (λ ys. map stand (dealt places (take i order) seat) ++ ys)
+      (map_cond stand (eqb (place places (get_or order i 0)).0 seat) (get_or order i 0)))
 
-  pub dealt_again : (order : List ℕ) (b : ℕ) → map stand (dealt places (repeated (b + 1) order) seat) ≡ map stand (dealt places (repeated b order) seat) ++ map stand (dealt places order seat)
+  pub dealt_again : (order : List ℕ) (b : ℕ) → map stand (dealt places (repeated (b + 1) order) seat) ≡
+      map stand (dealt places (repeated b order) seat) ++ map stand (dealt places order seat)
   dealt_again order b =
       ap (λ m. map stand (dealt places (repeated m order) seat)) (add-one b) ∙
       (ap (map stand) (filter-append (λ a. eqb (place places a).0 seat) (repeated b order) order) ∙
@@ -33,13 +38,17 @@ module _ (places : List (ℕ × ℕ)) (seat : ℕ) where
 pub next_more : (xs : List (ℕ × ℕ)) (p : ℕ × ℕ) → AreNext xs → p.1 ≡ standing xs p.0 → AreNext (xs ++ p ∷ [])
 next_more xs p next is = λ a h. go a h (cases_lt a (length xs))
   where
-    go : (a : ℕ) → a < length (xs ++ p ∷ []) → (a < length xs) ⊎ (length xs ≤ a) → (place (xs ++ p ∷ []) a).1 ≡ standing (take a (xs ++ p ∷ [])) (place (xs ++ p ∷ []) a).0
+    go : (a : ℕ) → a < length (xs ++ p ∷ []) → (a < length xs) ⊎ (length xs ≤ a) →
+        (place (xs ++ p ∷ []) a).1 ≡ standing (take a (xs ++ p ∷ [])) (place (xs ++ p ∷ []) a).0
     go a h (inl below) =
         let at : place (xs ++ p ∷ []) a ≡ place xs a = get_or_append_left xs (p ∷ []) (0, 0) a below in
         let front : take a (xs ++ p ∷ []) ≡ take a xs = take-append-le a xs (p ∷ []) (omega arith) in
-        ap (λ q. q.1) at ∙ (next a below ∙ (ap (λ ys. standing ys (place xs a).0) (sym front) ∙ ap (λ q. standing (take a (xs ++ p ∷ [])) q.0) (sym at)))
+        ap (λ q. q.1) at ∙ (next a below ∙ (ap (λ ys. standing ys (place xs a).0) (sym front)
+        ∙ ap (λ q. standing (take a (xs ++ p ∷ [])) q.0) (sym at)))
     go a h (inr above) =
         let long : length xs ≡ a = (let m = length_push xs p in omega arith) in
         let at : place (xs ++ p ∷ []) a ≡ p = get_or_push xs p (0, 0) a long in
-        let front : take a (xs ++ p ∷ []) ≡ xs = take-append-le a xs (p ∷ []) (omega arith) ∙ take_all a xs (omega arith) in
-        ap (λ q. q.1) at ∙ (is ∙ (ap (λ ys. standing ys p.0) (sym front) ∙ ap (λ q. standing (take a (xs ++ p ∷ [])) q.0) (sym at)))
+        let front : take a (xs ++ p ∷ []) ≡ xs = take-append-le a xs (p ∷ []) (omega arith)
+        ∙ take_all a xs (omega arith) in
+        ap (λ q. q.1) at ∙ (is ∙ (ap (λ ys. standing ys p.0) (sym front)
+        ∙ ap (λ q. standing (take a (xs ++ p ∷ [])) q.0) (sym at)))

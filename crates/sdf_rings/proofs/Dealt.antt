@@ -1,5 +1,6 @@
 -- Of a sequence dealt out to seats, each of which has done the first of its part: the first firing that is left.
-use Rattle.std.proofs.Common.{◌≡◌, ℕ, zero, suc, ◌+◌, ◌-◌, ◌<◌, List, [], ◌∷◌, length, Bool, false, eqb, cond, get_or, take, map, filter, refl, sym, ap, ◌∙◌, subst, arith, inl, inr}
+use Rattle.std.proofs.Common.{◌≡◌, ℕ, zero, suc, ◌+◌, ◌-◌, ◌<◌, List, [], ◌∷◌, length, Bool, false, eqb, cond, get_or}
+use Rattle.std.proofs.Common.{take, map, filter, refl, sym, ap, ◌∙◌, subst, arith, inl, inr}
 use Rattle.std.proofs.lemmas.Bool.Decides.{eqb_tells}
 use Rattle.std.proofs.lemmas.Bool.{eq-eqb, ne_eqb, cases_lt}
 use Rattle.std.proofs.lemmas.List.Sums.{sum_by-cons}
@@ -37,22 +38,26 @@ module _ (home : ℕ → ℕ) where
   behind_other : (a : ℕ) (next : ℕ → ℕ) (i : ℕ) → (home a ≡ i → ⊥) → behind a next i ≡ next i
   behind_other a next i e = ap (λ (t : Bool). cond t (next i - 1) (next i)) (ne_eqb (home a) i e)
 
-  done_more : (a : ℕ) (w : List ℕ) (next : ℕ → ℕ) (b : ℕ) → 0 < next (home a) → done (a ∷ w) next b ≡ cond (eqb a b) 1 0 + done w (behind a next) b
-  done_more a w next b some = elim (eqb_tells (home a) (home b)) as (λ _. done (a ∷ w) next b ≡ cond (eqb a b) 1 0 + done w (behind a next) b) [
-    | inl h ↦
-        let more : 0 < next (home b) = subst (λ (i : ℕ). 0 < next i) h.1 some in
-        let k : next (home b) ≡ suc (next (home b) - 1) = omega arith in
-        ap (λ xs. times (take (next (home b)) xs) b) (part_same a w (home b) h.1) ∙
-        ap (λ (j : ℕ). times (take j (a ∷ part w (home b))) b) k ∙
-        times_cons a (take (next (home b) - 1) (part w (home b))) b ∙
-        ap (λ (j : ℕ). cond (eqb a b) 1 0 + times (take j (part w (home b))) b) (sym (behind_same a next (home b) h.1))
-    | inr h ↦
-        let apart : eqb a b ≡ false = ne_eqb a b (λ e. h.1 (ap home e)) in
-        let same : done (a ∷ w) next b ≡ done w (behind a next) b = ap (λ xs. times (take (next (home b)) xs) b) (part_other a w (home b) h.1) ∙
-        ap (λ (j : ℕ). times (take j (part w (home b))) b) (sym (behind_other a next (home b) h.1)) in
-        let none : bit (eqb a b) ≡ 0 = ap bit apart in
-        omega arith
-  ]
+  done_more : (a : ℕ) (w : List ℕ) (next : ℕ → ℕ) (b : ℕ) → 0 < next (home a) →
+      done (a ∷ w) next b ≡ cond (eqb a b) 1 0 + done w (behind a next) b
+  done_more a w next b some = elim (eqb_tells (home a) (home b)) as (λ _. done (a ∷ w) next b ≡
+      cond (eqb a b) 1 0 + done w (behind a next) b) [
+        | inl h ↦
+            let more : 0 < next (home b) = subst (λ (i : ℕ). 0 < next i) h.1 some in
+            let k : next (home b) ≡ suc (next (home b) - 1) = omega arith in
+            ap (λ xs. times (take (next (home b)) xs) b) (part_same a w (home b) h.1) ∙
+            ap (λ (j : ℕ). times (take j (a ∷ part w (home b))) b) k ∙
+            times_cons a (take (next (home b) - 1) (part w (home b))) b ∙
+            ap (λ (j : ℕ). cond (eqb a b) 1 0 + times (take j (part w (home b))) b)
+            (sym (behind_same a next (home b) h.1))
+        | inr h ↦
+            let apart : eqb a b ≡ false = ne_eqb a b (λ e. h.1 (ap home e)) in
+            let same : done (a ∷ w) next b ≡ done w (behind a next) b =
+            ap (λ xs. times (take (next (home b)) xs) b) (part_other a w (home b) h.1) ∙
+            ap (λ (j : ℕ). times (take j (part w (home b))) b) (sym (behind_other a next (home b) h.1)) in
+            let none : bit (eqb a b) ≡ 0 = ap bit apart in
+            omega arith
+      ]
 
   -- the first firing of the sequence that is left is the next of its seat
   pub record IsFirst (w : List ℕ) (next : ℕ → ℕ) : Type 0 where
@@ -66,11 +71,13 @@ module _ (home : ℕ → ℕ) where
     at = 0;
     is = record {
       within = omega arith;
-      left = let z : done (a ∷ w) next a ≡ 0 = ap (λ (j : ℕ). times (take j (part (a ∷ w) (home a))) a) e in omega arith;
+      left = let z : done (a ∷ w) next a ≡ 0 = ap (λ (j : ℕ). times (take j (part (a ∷ w) (home a))) a) e in
+          omega arith;
       done = λ i h. absurd (omega arith);
     };
     left = let l = ap (λ (xs : List ℕ). length xs) (part_same a w (home a) refl) in omega arith;
-    names = ap (λ xs. get_or xs (next (home a)) 0) (part_same a w (home a) refl) ∙ ap (λ (j : ℕ). get_or (a ∷ part w (home a)) j 0) e;
+    names = ap (λ xs. get_or xs (next (home a)) 0) (part_same a w (home a) refl)
+        ∙ ap (λ (j : ℕ). get_or (a ∷ part w (home a)) j 0) e;
   }
 
   some_done : (a : ℕ) (w : List ℕ) (next : ℕ → ℕ) → 0 < next (home a) → IsFirst w (behind a next) → IsFirst (a ∷ w) next
@@ -80,7 +87,8 @@ module _ (home : ℕ → ℕ) where
         at = suc f.at;
         is = record {
           within = let h = f.is.within in omega arith;
-          left = let z = times_cons a (take f.at w) x in let m = done_more a w next x some in let h = f.is.left in omega arith;
+          left = let z = times_cons a (take f.at w) x in let m = done_more a w next x some in let h = f.is.left in
+              omega arith;
           done = earlier;
         };
         left = elim (eqb_tells (home a) (home x)) as (λ _. next (home x) < length (part (a ∷ w) (home x))) [
@@ -103,12 +111,15 @@ module _ (home : ℕ → ℕ) where
               ap (λ xs. get_or xs (next (home x)) 0) (part_same a w (home x) h.1) ∙
               ap (λ (j : ℕ). get_or (a ∷ part w (home x)) j 0) k ∙
               ap (λ (j : ℕ). get_or (part w (home x)) j 0) (sym (behind_same a next (home x) h.1)) ∙ f.names
-          | inr h ↦ ap (λ xs. get_or xs (next (home x)) 0) (part_other a w (home x) h.1) ∙ ap (λ (j : ℕ). get_or (part w (home x)) j 0) (sym (behind_other a next (home x) h.1)) ∙ f.names
+          | inr h ↦ ap (λ xs. get_or xs (next (home x)) 0) (part_other a w (home x) h.1)
+              ∙ ap (λ (j : ℕ). get_or (part w (home x)) j 0) (sym (behind_other a next (home x) h.1)) ∙ f.names
         ];
       }
     where
-      earlier : (i : ℕ) → i < suc f.at → times (take i (a ∷ w)) (get_or (a ∷ w) i 0) < done (a ∷ w) next (get_or (a ∷ w) i 0)
-      earlier zero h = let m = done_more a w next a some in let one : bit (eqb a a) ≡ 1 = ap bit (eq-eqb a a refl) in omega arith
+      earlier : (i : ℕ) → i < suc f.at → times (take i (a ∷ w)) (get_or (a ∷ w) i 0) <
+          done (a ∷ w) next (get_or (a ∷ w) i 0)
+      earlier zero h = let m = done_more a w next a some in let one : bit (eqb a a) ≡ 1 = ap bit (eq-eqb a a refl) in
+          omega arith
       earlier (suc i) h =
           let b : ℕ = get_or w i 0 in
           let before : times (take i w) b < done w (behind a next) b = f.is.done i (omega arith) in
@@ -116,7 +127,8 @@ module _ (home : ℕ → ℕ) where
           let m = done_more a w next b some in
           omega arith
 
-  left_behind : (a : ℕ) (w : List ℕ) (next : ℕ → ℕ) (i : ℕ) → 0 < next (home a) → next i < length (part (a ∷ w) i) → behind a next i < length (part w i)
+  left_behind : (a : ℕ) (w : List ℕ) (next : ℕ → ℕ) (i : ℕ) → 0 < next (home a) → next i < length (part (a ∷ w) i) →
+      behind a next i < length (part w i)
   left_behind a w next i some h = elim (eqb_tells (home a) i) as (λ _. behind a next i < length (part w i)) [
     | inl t ↦
         let more : 0 < next i = subst (λ (i : ℕ). 0 < next i) t.1 some in
@@ -142,7 +154,8 @@ module _ (home : ℕ → ℕ) where
   part_times (a ∷ w) i b e =
       let t = part_times w i b e in
       elim (eqb_tells (home a) i) as (λ _. times (part (a ∷ w) i) b ≡ times (a ∷ w) b) [
-        | inl h ↦ let p = ap (λ xs. times xs b) (part_same a w i h.1) in p ∙ times_cons a (part w i) b ∙ ap (λ (m : ℕ). cond (eqb a b) 1 0 + m) t ∙ sym (times_cons a w b)
+        | inl h ↦ let p = ap (λ xs. times xs b) (part_same a w i h.1) in
+            p ∙ times_cons a (part w i) b ∙ ap (λ (m : ℕ). cond (eqb a b) 1 0 + m) t ∙ sym (times_cons a w b)
         | inr h ↦
             let p = ap (λ xs. times xs b) (part_other a w i h.1) in
             let apart : eqb a b ≡ false = ne_eqb a b (λ z. h.1 (ap home z ∙ e)) in
@@ -152,22 +165,30 @@ module _ (home : ℕ → ℕ) where
       ]
 
   -- and no others
-  pub part_all : (w : List ℕ) (i : ℕ) (P : ℕ → Type 0) → ((j : ℕ) → j < length w → P (get_or w j 0)) → (j : ℕ) → j < length (part w i) → P (get_or (part w i) j 0) × (home (get_or (part w i) j 0) ≡ i)
+  pub part_all : (w : List ℕ) (i : ℕ) (P : ℕ → Type 0) → ((j : ℕ) → j < length w → P (get_or w j 0)) → (j : ℕ) →
+      j < length (part w i) → P (get_or (part w i) j 0) × (home (get_or (part w i) j 0) ≡ i)
   part_all [] i P all j h = absurd (omega arith)
-  part_all (a ∷ w) i P all j h = elim (eqb_tells (home a) i) as (λ _. P (get_or (part (a ∷ w) i) j 0) × (home (get_or (part (a ∷ w) i) j 0) ≡ i)) [
-    | inl t ↦ subst (λ xs. P (get_or xs j 0) × (home (get_or xs j 0) ≡ i)) (sym (part_same a w i t.1))
-        (heads a w i P all t.1 (λ k l. part_all w i P (λ m z. all (suc m) (omega arith)) k l) j (let l = ap (λ (xs : List ℕ). length xs) (part_same a w i t.1) in omega arith))
-    | inr t ↦ subst (λ xs. P (get_or xs j 0) × (home (get_or xs j 0) ≡ i)) (sym (part_other a w i t.1))
-        (part_all w i P (λ m z. all (suc m) (omega arith)) j (let l = ap (λ (xs : List ℕ). length xs) (part_other a w i t.1) in omega arith))
-  ]
+  part_all (a ∷ w) i P all j h = elim (eqb_tells (home a) i) as (λ _. P (get_or (part (a ∷ w) i) j 0)
+      × (home (get_or (part (a ∷ w) i) j 0) ≡ i)) [
+        | inl t ↦ subst (λ xs. P (get_or xs j 0) × (home (get_or xs j 0) ≡ i)) (sym (part_same a w i t.1))
+            (heads a w i P all t.1 (λ k l. part_all w i P (λ m z. all (suc m) (omega arith)) k l) j
+            (let l = ap (λ (xs : List ℕ). length xs) (part_same a w i t.1) in omega arith))
+        | inr t ↦ subst (λ xs. P (get_or xs j 0) × (home (get_or xs j 0) ≡ i)) (sym (part_other a w i t.1))
+            (part_all w i P (λ m z. all (suc m) (omega arith)) j
+            (let l = ap (λ (xs : List ℕ). length xs) (part_other a w i t.1) in omega arith))
+      ]
     where
-      heads : (a : ℕ) (w : List ℕ) (i : ℕ) (P : ℕ → Type 0) → ((j : ℕ) → j < length (a ∷ w) → P (get_or (a ∷ w) j 0)) → home a ≡ i →
-          ((k : ℕ) → k < length (part w i) → P (get_or (part w i) k 0) × (home (get_or (part w i) k 0) ≡ i)) → (j : ℕ) → j < length (a ∷ part w i) → P (get_or (a ∷ part w i) j 0) × (home (get_or (a ∷ part w i) j 0) ≡ i)
+      heads : (a : ℕ) (w : List ℕ) (i : ℕ) (P : ℕ → Type 0) → ((j : ℕ) → j < length (a ∷ w) → P (get_or (a ∷ w) j 0)) →
+          home a ≡ i →
+          ((k : ℕ) → k < length (part w i) → P (get_or (part w i) k 0) × (home (get_or (part w i) k 0) ≡ i)) → (j : ℕ) →
+          j < length (a ∷ part w i) → P (get_or (a ∷ part w i) j 0) × (home (get_or (a ∷ part w i) j 0) ≡ i)
       heads a w i P all e rest zero h = (all 0 (omega arith), e)
       heads a w i P all e rest (suc j) h = rest j (omega arith)
 
 -- counted by stand or by actor, where no two share a stand
-pub times_map : (stand : ℕ → ℕ) (b : ℕ) (xs : List ℕ) → ((j : ℕ) → j < length xs → stand (get_or xs j 0) ≡ stand b → get_or xs j 0 ≡ b) → times (map stand xs) (stand b) ≡ times xs b
+pub times_map : (stand : ℕ → ℕ) (b : ℕ) (xs : List ℕ) →
+    ((j : ℕ) → j < length xs → stand (get_or xs j 0) ≡ stand b → get_or xs j 0 ≡ b) →
+    times (map stand xs) (stand b) ≡ times xs b
 times_map stand b [] apart = refl
 times_map stand b (x ∷ xs) apart =
     let t = times_map stand b xs (λ j h e. apart (suc j) (omega arith) e) in
@@ -176,6 +197,7 @@ times_map stand b (x ∷ xs) apart =
       | inr h ↦ ne_eqb (stand x) (stand b) (λ e. h.1 (apart 0 (omega arith) e)) ∙ sym h.0
     ] in
     let c : bit (eqb (stand x) (stand b)) ≡ bit (eqb x b) = ap bit same in
-    let y : times (map stand (x ∷ xs)) (stand b) ≡ cond (eqb (stand x) (stand b)) 1 0 + times (map stand xs) (stand b) = times_cons (stand x) (map stand xs) (stand b) in
+    let y : times (map stand (x ∷ xs)) (stand b) ≡ cond (eqb (stand x) (stand b)) 1 0 + times (map stand xs) (stand b) =
+    times_cons (stand x) (map stand xs) (stand b) in
     let z = times_cons x xs b in
     omega arith

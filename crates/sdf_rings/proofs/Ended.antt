@@ -1,4 +1,5 @@
--- Where nothing is left of a plan, each node has done its firings of the sequence, and the lists of the sinks are the outputs.
+-- Where nothing is left of a plan, each node has done its firings of the sequence, and the lists of the sinks are the
+-- outputs.
 use Rattle.std.proofs.Common.{◌≡◌, ℕ, ◌<◌, List, [], length, get_or, sym, ap, ◌∙◌, subst, arith, Vec, vec_len, inl, inr}
 use Rattle.std.specs.Global.{Global}
 use Rattle.std.proofs.lemmas.Bool.{cases_lt}
@@ -30,10 +31,12 @@ use Rattle.sdf_rings.proofs.Reading.{state_is, a_seat, a_stand, taker, rest_at}
 use Rattle.sdf_rings.proofs.Times.{times_none}
 use Rattle.sdf_rings.proofs.Totals.{total_some}
 
-module _ {A S T : Type 0} (s : Steps A S T) (n : Netlist A T) (inputs : List (List T)) (seats : List (Seat A T S)) (places : List (ℕ × ℕ))
+module _ {A S T : Type 0} (s : Steps A S T) (n : Netlist A T) (inputs : List (List T)) (seats : List (Seat A T S))
+    (places : List (ℕ × ℕ))
     (r : AreRings s (record { net = n; inputs = inputs; seats = seats; places = places }))
     (order : List ℕ) (cap : ℕ → ℕ) (plan : IsPlanned s n seats places order cap) (none : total_left seats ≡ 0) where
-  ended : (a : ℕ) (e : Seat A T S) (d : Stand A T S) → a < length n.nodes → (stand_of n seats places e d a).done ≡ times order a
+  ended : (a : ℕ) (e : Seat A T S) (d : Stand A T S) → a < length n.nodes →
+      (stand_of n seats places e d a).done ≡ times order a
   ended a e d l =
       let i : ℕ = (get_or places a (0, 0)).0 in
       let k : ℕ = (get_or places a (0, 0)).1 in
@@ -45,28 +48,40 @@ module _ {A S T : Type 0} (s : Steps A S T) (n : Netlist A T) (inputs : List (Li
         | inr h ↦ let f = ok.next_fits in omega arith
       ] in
       let c = ok.counts k d (r.placed.stand_in a e l) in
-      let z : times_between k x.left.items x.next (vec_len x.left) ≡ 0 = ap (times_between k x.left.items x.next) over ∙ times_none k x.left.items x.next in
+      let z : times_between k x.left.items x.next (vec_len x.left) ≡ 0 =
+      ap (times_between k x.left.items x.next) over ∙ times_none k x.left.items x.next in
       let asked = plan.asks.asked a e d l in
       omega arith
 
-  module _ (at_rest : AreAtRest s n inputs seats places) (q : List ℕ) (accepted : IsAccepted s n q) (k : ℕ → ℕ) (counts : AreCountsOf n order k) where
+  module _ (at_rest : AreAtRest s n inputs seats places) (q : List ℕ) (accepted : IsAccepted s n q) (k : ℕ → ℕ)
+      (counts : AreCountsOf n order k) where
     -- all that was asked is done
     at_end : IsRest s n inputs seats places k
     at_end = rest_at s n inputs seats places r at_rest q accepted k (λ a e d l. ended a e d l ∙ sym (counts a l))
 
-    module _ (hold : SinksHoldLists s) (take_all : SinksTakeAll s) (outputs : List (Vec T Global)) (count : length outputs ≡ list_count Outputs n.nodes) (given : AreGiven n seats places (length n.nodes) outputs) where
-      sink_given : (a ext block : ℕ) → a < length n.nodes → node n a ≡ kind.Sink ext block → get_or (lists outputs) ext [] ≡ arrived s n k at_end.history a
+    module _ (hold : SinksHoldLists s) (take_all : SinksTakeAll s) (outputs : List (Vec T Global))
+        (count : length outputs ≡ list_count Outputs n.nodes)
+        (given : AreGiven n seats places (length n.nodes) outputs) where
+      sink_given : (a ext block : ℕ) → a < length n.nodes → node n a ≡ kind.Sink ext block →
+          get_or (lists outputs) ext [] ≡ arrived s n k at_end.history a
       sink_given a ext block l is =
           let e = a_seat s n inputs seats places r a l in
           let d = a_stand s n inputs seats places r a l in
           let z = stand_of n seats places e d a in
-          let at : IsAt s inputs z.asked (kind.Sink ext block) (taken_before (wiring s n) at_end.history a (k a)) z.state =
-          subst (λ x. IsAt s inputs z.asked x (taken_before (wiring s n) at_end.history a (k a)) z.state) is (at_end.states a e d l) in
+          let at : IsAt s inputs z.asked (kind.Sink ext block)
+          (taken_before (wiring s n) at_end.history a (k a)) z.state =
+          subst (λ x. IsAt s inputs z.asked x (taken_before (wiring s n) at_end.history a (k a)) z.state) is
+          (at_end.states a e d l) in
           let found = hold inputs z.asked ext block (taken_before (wiring s n) at_end.history a (k a)) z.state at in
           given a ext block found.0 e d l is found.1 ∙ (found.2 ∙ take_all n at_end.history k a ext block r.is_net is)
 
       pub outputs_given : AreOutputs s n inputs k (lists outputs)
-      outputs_given = record { history = at_end.history; is = at_end.is; count = length-map outputs (λ v. v.items) ∙ count; each = sink_given }
+      outputs_given = record {
+        history = at_end.history;
+        is = at_end.is;
+        count = length-map outputs (λ v. v.items) ∙ count;
+        each = sink_given;
+      }
 
       -- and what the seats hold is left
       pub run_given : (rest : Rest T S) → HoldRest n seats places rest → HasRun s n inputs k (lists outputs) rest
@@ -83,12 +98,14 @@ module _ {A S T : Type 0} (s : Steps A S T) (n : Netlist A T) (inputs : List (Li
               let z = stand_of n seats places e d a in
               held.states_held a x e d l is ∙
               state_is s inputs z.asked x (taken_before (wiring s n) at_end.history a (k a)) z.state
-              (subst (λ y. IsAt s inputs z.asked y (taken_before (wiring s n) at_end.history a (k a)) z.state) is (at_end.states a e d l));
+              (subst (λ y. IsAt s inputs z.asked y (taken_before (wiring s n) at_end.history a (k a)) z.state) is
+              (at_end.states a e d l));
           channels = held.channels;
           held = λ c l.
               let to = r.is_net.to_in c l in
               let e = a_seat s n inputs seats places r (wire n c).to.0 to.0 in
               let d = a_stand s n inputs seats places r (wire n c).to.0 to.0 in
-              held.items_held c e d (taker s n inputs seats places r c l e d) l ∙ at_end.left c e d (taker s n inputs seats places r c l e d) l;
+              held.items_held c e d (taker s n inputs seats places r c l e d) l
+              ∙ at_end.left c e d (taker s n inputs seats places r c l e d) l;
         };
       }

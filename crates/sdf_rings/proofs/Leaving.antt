@@ -1,5 +1,6 @@
 -- Rings are emptied, one after another.
-use Rattle.std.proofs.Common.{◌≡◌, ◌≢◌, ℕ, ◌<◌, List, length, Vec, vec_len, get_or, get_or-set_other, refl, arith, ◌∙◌, ap, inl, inr}
+use Rattle.std.proofs.Common.{◌≡◌, ◌≢◌, ℕ, ◌<◌, List, length, Vec, vec_len, get_or, get_or-set_other, refl, arith, ◌∙◌}
+use Rattle.std.proofs.Common.{ap, inl, inr}
 use Rattle.std.specs.Vec.{with_item}
 use Rattle.std.specs.Global.{Global}
 use Rattle.rtrb.specs.declared.consumer.Consumer.{Consumer}
@@ -18,40 +19,68 @@ use Rattle.sdf_rings.proofs.Tells.{some}
 
 module _ {A T S : Type 0} where
   -- the consumers of a stand are taken out, one is changed, and they are put back
-  pub emptied : (s0 s1 s2 : List (Seat A T S)) (at : Spot) (v0 v1 : Vec (Consumer T Global AnyItems) Global) (c : Consumer T Global AnyItems)
+  pub emptied : (s0 s1 s2 : List (Seat A T S)) (at : Spot) (v0 v1 : Vec (Consumer T Global AnyItems) Global)
+      (c : Consumer T Global AnyItems)
       → TakesAt s0 at
-      → ((e : Seat A T S) (d : Stand A T S) → IsUpdated s0 s1 at.seat at.stand (record (stand_at s0 at.seat at.stand e d) { ins = v0 }))
+      → ((e : Seat A T S) (d : Stand A T S) → IsUpdated s0 s1 at.seat at.stand
+      (record (stand_at s0 at.seat at.stand e d) { ins = v0 }))
       → ((e : Seat A T S) (d : Stand A T S) → v1 ≡ (stand_at s0 at.seat at.stand e d).ins)
-      → ((e : Seat A T S) (d : Stand A T S) → IsUpdated s1 s2 at.seat at.stand (record (stand_at s1 at.seat at.stand e d) { ins = with_item v1 at.port c }))
+      → ((e : Seat A T S) (d : Stand A T S) → IsUpdated s1 s2 at.seat at.stand
+      (record (stand_at s1 at.seat at.stand e d) { ins = with_item v1 at.port c }))
       → IsEmptied s0 s2 at
   emptied s0 s1 s2 at v0 v1 c there u1 had u2 =
       let e0 = some s0 at.seat there.seat_in in
-      let d0 = some (get_or s0 at.seat e0).stands.items at.stand (in_vec (get_or s0 at.seat e0).stands at.stand (there.stand_in e0)) in
+      let d0 = some (get_or s0 at.seat e0).stands.items at.stand
+      (in_vec (get_or s0 at.seat e0).stands at.stand (there.stand_in e0)) in
       let a = ins_changed s0 s1 at.seat at.stand v0 u1 in
       let z = ins_changed s1 s2 at.seat at.stand (with_item v1 at.port c) u2 in
-      let but : (j l : ℕ) (e : Seat A T S) (d : Stand A T S) → ButEnds (stand_at s0 j l e d) (stand_at s2 j l e d) = λ j l e d. ends_join _ _ _ (a.but j l e d) (z.but j l e d) in
+      let but : (j l : ℕ) (e : Seat A T S) (d : Stand A T S) → ButEnds (stand_at s0 j l e d) (stand_at s2 j l e d) =
+      λ j l e d. ends_join _ _ _ (a.but j l e d) (z.but j l e d) in
       record {
         but_ends = record {
           all_same = (u2 e0 d0).len ∙ (u1 e0 d0).len;
           each_seat = λ j e. seat_join_same _ _ _ ((u1 e d0).seats j e) ((u2 e d0).seats j e);
           each_stand = λ j l e d. same_stand_of (stand_at s0 j l e d) (stand_at s2 j l e d) (but j l e d)
-              (elim (same_place j l at.seat at.stand) as (λ _. vec_len (stand_at s2 j l e d).ins ≡ vec_len (stand_at s0 j l e d).ins) [
-                | inl h ↦ rw (h.0, h.1, z.ins_here e d) (ap (λ (v : Vec (Consumer T Global AnyItems) Global). vec_len v) (had e d))
-                | inr h ↦ ap (λ (v : Vec (Consumer T Global AnyItems) Global). vec_len v) (z.ins_other j l e d h ∙ a.ins_other j l e d h)
+              (elim (same_place j l at.seat at.stand) as (λ _. vec_len (stand_at s2 j l e d).ins ≡
+              vec_len (stand_at s0 j l e d).ins) [
+                | inl h ↦ rw (h.0, h.1, z.ins_here e d) (ap
+                    (λ (v : Vec (Consumer T Global AnyItems) Global). vec_len v) (had e d))
+                | inr h ↦ ap (λ (v : Vec (Consumer T Global AnyItems) Global). vec_len v)
+                    (z.ins_other j l e d h ∙ a.ins_other j l e d h)
               ]) (ap (λ (v : Vec _ Global). vec_len v) (z.outs_is j l e d ∙ a.outs_is j l e d));
         };
-        others_kept = λ q e d x apart. elim (same_place q.seat q.stand at.seat at.stand) as (λ _. consumer_at s2 q e d x ≡ consumer_at s0 q e d x) [
-          | inl h ↦ let ne : q.port ≢ at.port = λ k. apart (h.0, h.1, k) in
-              rw (h.0, h.1) (ap (λ (v : Vec (Consumer T Global AnyItems) Global). get_or v.items q.port x) (z.ins_here e d) ∙ get_or-set_other v1.items at.port q.port c x ne ∙ ap (λ (v : Vec (Consumer T Global AnyItems) Global). get_or v.items q.port x) (had e d))
-          | inr h ↦ ap (λ (v : Vec (Consumer T Global AnyItems) Global). get_or v.items q.port x) (z.ins_other q.seat q.stand e d h ∙ a.ins_other q.seat q.stand e d h)
-        ];
+        others_kept = λ q e d x apart. elim (same_place q.seat q.stand at.seat at.stand) as (λ _. consumer_at s2 q e d
+            x ≡ consumer_at s0 q e d x) [
+              | inl h ↦ let ne : q.port ≢ at.port = λ k. apart (h.0, h.1, k) in
+                  rw (h.0, h.1) (ap (λ (v : Vec (Consumer T Global AnyItems) Global). get_or v.items q.port x)
+                  (z.ins_here e d) ∙ get_or-set_other v1.items at.port q.port c x ne
+                  ∙ ap (λ (v : Vec (Consumer T Global AnyItems) Global). get_or v.items q.port x) (had e d))
+              | inr h ↦ ap (λ (v : Vec (Consumer T Global AnyItems) Global). get_or v.items q.port x)
+                  (z.ins_other q.seat q.stand e d h ∙ a.ins_other q.seat q.stand e d h)
+            ];
       }
 
   same_stand : (x : Stand A T S) → SameStand x x
-  same_stand x = record { actor_same = refl; state_same = refl; takes_same = refl; puts_same = refl; taken_same = refl; put_same = refl; done_same = refl; asked_same = refl; ins_len_same = refl; outs_len_same = refl }
+  same_stand x = record {
+    actor_same = refl;
+    state_same = refl;
+    takes_same = refl;
+    puts_same = refl;
+    taken_same = refl;
+    put_same = refl;
+    done_same = refl;
+    asked_same = refl;
+    ins_len_same = refl;
+    outs_len_same = refl;
+  }
 
   pub same_none : (seats : List (Seat A T S)) → SameButEnds seats seats
-  same_none seats = record { all_same = refl; each_seat = λ j e. record { processor_same = refl; left_same = refl; next_same = refl; stands_same = refl }; each_stand = λ j l e d. same_stand (stand_at seats j l e d) }
+  same_none seats = record {
+    all_same = refl;
+    each_seat = λ j e.
+        record { processor_same = refl; left_same = refl; next_same = refl; stands_same = refl };
+    each_stand = λ j l e d. same_stand (stand_at seats j l e d);
+  }
 
   pub same_join : (s0 s1 s2 : List (Seat A T S)) → SameButEnds s0 s1 → SameButEnds s1 s2 → SameButEnds s0 s2
   same_join s0 s1 s2 p q = record {
@@ -71,20 +100,28 @@ module _ {A T S : Type 0} where
     };
   }
 
-  module _ (n : Netlist A T) (seats new : List (Seat A T S)) (places : List (ℕ × ℕ)) (placed : IsPlaced n seats places) (same : SameButEnds seats new) where
+  module _ (n : Netlist A T) (seats new : List (Seat A T S)) (places : List (ℕ × ℕ)) (placed : IsPlaced n seats places)
+      (same : SameButEnds seats new) where
     pub placed_kept : IsPlaced n new places
     placed_kept = record {
       seat_in = λ a l. let h = placed.seat_in a l in let m = same.all_same in omega (arith, h, m);
-      stand_in = λ a e l. let h = placed.stand_in a e l in let m = (same.each_seat (get_or places a (0, 0)).0 e).stands_same in omega (arith, h, m);
-      is = λ a e d l. (same.each_stand (get_or places a (0, 0)).0 (get_or places a (0, 0)).1 e d).actor_same ∙ placed.is a e d l;
+      stand_in = λ a e l. let h = placed.stand_in a e l in let m =
+          (same.each_seat (get_or places a (0, 0)).0 e).stands_same in omega (arith, h, m);
+      is = λ a e d l. (same.each_stand (get_or places a (0, 0)).0 (get_or places a (0, 0)).1 e d).actor_same
+          ∙ placed.is a e d l;
     }
 
     -- the lists of the sinks are the same
-    pub given_kept : (m : ℕ) (outputs : List (Vec T Global)) → AreGiven n new places m outputs → AreGiven n seats places m outputs
-    given_kept m outputs given a ext block made e d l is at = given a ext block made e d l is ((same.each_stand (get_or places a (0, 0)).0 (get_or places a (0, 0)).1 e d).state_same ∙ at)
+    pub given_kept : (m : ℕ) (outputs : List (Vec T Global)) → AreGiven n new places m outputs →
+        AreGiven n seats places m outputs
+    given_kept m outputs given a ext block made e d l is at =
+        given a ext block made e d l is ((same.each_stand (get_or places a (0, 0)).0 (get_or places a (0, 0)).1 e
+        d).state_same ∙ at)
 
-  module _ (s : Steps A S T) (n : Netlist A T) (inputs : List (List T)) (seats : List (Seat A T S)) (places : List (ℕ × ℕ))
-      (r : AreRings s (record { net = n; inputs = inputs; seats = seats; places = places })) (cur : List (Seat A T S)) (same : SameButEnds seats cur) (m : ℕ) (known : m < length n.wires) where
+  module _ (s : Steps A S T) (n : Netlist A T) (inputs : List (List T)) (seats : List (Seat A T S))
+      (places : List (ℕ × ℕ))
+      (r : AreRings s (record { net = n; inputs = inputs; seats = seats; places = places })) (cur : List (Seat A T S))
+      (same : SameButEnds seats cur) (m : ℕ) (known : m < length n.wires) where
     -- the ring of a channel has a place for its consumer
     pub takes_at : TakesAt cur (spot_of places (wire n m).to)
     takes_at =
@@ -96,13 +133,16 @@ module _ {A T S : Type 0} where
         record {
           seat_in = placed.seat_in b to.0;
           stand_in = λ e. placed.stand_in b e to.0;
-          port_in = λ e d. let h = ins_of s n inputs seats places r b e d to.0 in let j = (same.each_stand i k e d).ins_len_same in omega (arith, h, j, to.1);
+          port_in = λ e d. let h = ins_of s n inputs seats places r b e d to.0 in let j =
+              (same.each_stand i k e d).ins_len_same in omega (arith, h, j, to.1);
         }
 
     -- the rings of other channels stay as they are
-    pub others_kept : (new : List (Seat A T S)) → IsEmptied cur new (spot_of places (wire n m).to) → (c : ℕ) (e : Seat A T S) (d : Stand A T S) (x : Consumer T Global AnyItems) → m < c → c < length n.wires →
+    pub others_kept : (new : List (Seat A T S)) → IsEmptied cur new (spot_of places (wire n m).to) →
+        (c : ℕ) (e : Seat A T S) (d : Stand A T S) (x : Consumer T Global AnyItems) → m < c → c < length n.wires →
         consumer_of n new places e d x c ≡ consumer_of n cur places e d x c
     others_kept new gone c e d x more l =
         gone.others_kept (spot_of places (wire n c).to) e d x (λ z.
-        let node = one_node n seats places r.placed (wire n c).to.0 (wire n m).to.0 e d (r.is_net.to_in c l).0 (r.is_net.to_in m known).0 z.0 z.1 in
+        let node = one_node n seats places r.placed (wire n c).to.0 (wire n m).to.0 e d (r.is_net.to_in c l).0
+        (r.is_net.to_in m known).0 z.0 z.1 in
         let one = r.is_net.to_once c m l known (λ i. (node i, z.2 i)) in omega (arith, one, more))

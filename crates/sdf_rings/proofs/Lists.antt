@@ -1,5 +1,6 @@
 -- Vectors as lists, and what holds of each element.
-use Rattle.std.proofs.Common.{◌≡◌, ℕ, ◌+◌, ◌<◌, List, [], ◌∷◌, ◌++◌, length, get_or, sym, ◌∙◌, subst, inl, inr, ◌⊎◌, ◌≤◌, vec_len, arith}
+use Rattle.std.proofs.Common.{◌≡◌, ℕ, ◌+◌, ◌<◌, List, [], ◌∷◌, ◌++◌, length, get_or, sym, ◌∙◌, subst, inl, inr, ◌⊎◌}
+use Rattle.std.proofs.Common.{◌≤◌, vec_len, arith}
 use Rattle.std.proofs.lemmas.List.{get_or_append_left, get_or_push}
 use Rattle.std.proofs.lemmas.Bool.{cases_lt}
 use Rattle.std.specs.declared.vec.Vec.{Vec}
@@ -21,6 +22,7 @@ push_each P xs ys x i is long before here k d h = subst (λ zs. P k (get_or zs k
         subst (P k) (sym (get_or_push xs x d k (long ∙ at))) (subst (λ j. P j x) at here)
 
 -- what holds of a value, where there is one
-pub if_ok : {X E : Type 0} (r : Result X E) (P Q R W : X → Type 0) → IfOk r P → IfOk r Q → IfOk r R → ((x : X) → P x → Q x → R x → W x) → IfOk r W
+pub if_ok : {X E : Type 0} (r : Result X E) (P Q R W : X → Type 0) → IfOk r P → IfOk r Q → IfOk r R →
+    ((x : X) → P x → Q x → R x → W x) → IfOk r W
 if_ok (Ok x) P Q R W p q r f = f x p q r
 if_ok (Err e) P Q R W p q r f = tt

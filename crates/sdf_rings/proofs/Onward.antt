@@ -1,5 +1,6 @@
 -- A stand whose node went on by some firings.
-use Rattle.std.proofs.Common.{◌≡◌, ℕ, ◌+◌, ◌≤◌, ◌<◌, List, ◌++◌, length, get_or, take, refl, sym, ap, ◌∙◌, arith, vec_len}
+use Rattle.std.proofs.Common.{◌≡◌, ℕ, ◌+◌, ◌≤◌, ◌<◌, List, ◌++◌, length, get_or, take, refl, sym, ap, ◌∙◌, arith}
+use Rattle.std.proofs.Common.{vec_len}
 use Rattle.std.specs.Global.{Global}
 use Rattle.std.specs.declared.vec.Vec.{Vec}
 use Rattle.rtrb.specs.Ring.{received}
@@ -23,33 +24,59 @@ use Rattle.sdf_rings.proofs.OwnEnds.{own_pairs_kept}
 use Rattle.sdf_rings.proofs.Looking.{vec_in, items_long}
 
 -- from own to W the node has fired more times: at each port it took and put so much more
-pub record HasGoneOn {A S T : Type 0} (s : Steps A S T) (n : Netlist A T) (inputs : List (List T)) (x : Stand A T S) (own W : ℕ → List T) (more : ℕ) (taken put : ℕ → List T) : Type 0 where
+pub record HasGoneOn {A S T : Type 0} (s : Steps A S T) (n : Netlist A T) (inputs : List (List T)) (x : Stand A T S)
+    (own W : ℕ → List T) (more : ℕ) (taken put : ℕ → List T) : Type 0 where
   pub local : IsLocal (wiring s n) (answers s n inputs) x.actor (x.done + more) W
   pub into : (c : ℕ) → c < length n.wires → (wire n c).to.0 ≡ x.actor →
-      take ((wiring s n).rates.consumed c (x.done + more)) (W c) ≡ take ((wiring s n).rates.consumed c x.done) (own c) ++ taken (wire n c).to.1
-  pub out : (i : ℕ) → i < outputs_of s (node n x.actor) → W (get_or ((wiring s n).outs x.actor) i 0) ≡ own (get_or ((wiring s n).outs x.actor) i 0) ++ put i
-  pub taken_count : (i : ℕ) → i < inputs_of s (node n x.actor) → length (taken i) + moved_at s Input (node n x.actor) i x.done ≡ moved_at s Input (node n x.actor) i (x.done + more)
-  pub put_count : (i : ℕ) → i < outputs_of s (node n x.actor) → length (put i) + moved_at s Output (node n x.actor) i x.done ≡ moved_at s Output (node n x.actor) i (x.done + more)
+      take ((wiring s n).rates.consumed c (x.done + more)) (W c) ≡
+      take ((wiring s n).rates.consumed c x.done) (own c) ++ taken (wire n c).to.1
+  pub out : (i : ℕ) → i < outputs_of s (node n x.actor) →
+      W (get_or ((wiring s n).outs x.actor) i 0) ≡ own (get_or ((wiring s n).outs x.actor) i 0) ++ put i
+  pub taken_count : (i : ℕ) → i < inputs_of s (node n x.actor) →
+      length (taken i) + moved_at s Input (node n x.actor) i x.done ≡
+      moved_at s Input (node n x.actor) i (x.done + more)
+  pub put_count : (i : ℕ) → i < outputs_of s (node n x.actor) →
+      length (put i) + moved_at s Output (node n x.actor) i x.done ≡
+      moved_at s Output (node n x.actor) i (x.done + more)
 
-module _ {A S T : Type 0} (s : Steps A S T) (laws : FiringLaws s) (n : Netlist A T) (good : IsNet s n) (inputs : List (List T)) (x : Stand A T S) (st : IsStand s n inputs x)
-    (more : ℕ) (left : x.done + more ≤ x.asked) (W : ℕ → List T) (taken put : ℕ → List T) (on : HasGoneOn s n inputs x st.own W more taken put)
-    (w : NodeState T S) (at : IsAt s inputs x.asked (node n x.actor) (taken_before (wiring s n) W x.actor (x.done + more)) w)
-    (ins : Vec (Consumer T Global AnyItems) Global) (outs : Vec (Producer T Global AnyItems) Global) (tv pv : Vec T Global)
+module _ {A S T : Type 0} (s : Steps A S T) (laws : FiringLaws s) (n : Netlist A T) (good : IsNet s n)
+    (inputs : List (List T)) (x : Stand A T S) (st : IsStand s n inputs x)
+    (more : ℕ) (left : x.done + more ≤ x.asked) (W : ℕ → List T) (taken put : ℕ → List T)
+    (on : HasGoneOn s n inputs x st.own W more taken put)
+    (w : NodeState T S) (at : IsAt s inputs x.asked (node n x.actor)
+    (taken_before (wiring s n) W x.actor (x.done + more)) w)
+    (ins : Vec (Consumer T Global AnyItems) Global) (outs : Vec (Producer T Global AnyItems) Global)
+    (tv pv : Vec T Global)
     (drew : DrewEach x.ins.items ins.items taken) (gave : GaveEach x.outs.items outs.items put)
-    (ins_is : vec_len ins ≡ vec_len x.ins) (outs_is : vec_len outs ≡ vec_len x.outs) (tv_is : length tv.items ≡ length x.taken.items) (pv_is : length pv.items ≡ length x.put.items) where
+    (ins_is : vec_len ins ≡ vec_len x.ins) (outs_is : vec_len outs ≡ vec_len x.outs)
+    (tv_is : length tv.items ≡ length x.taken.items) (pv_is : length pv.items ≡ length x.put.items) where
   wired : IsWired (wiring s n)
   wired = laws.wired n good
 
   took_then : (c : ℕ) (d : Consumer T Global AnyItems) → c < length n.wires → (wire n c).to.0 ≡ x.actor →
       received (get_or ins.items (wire n c).to.1 d) ≡ take ((wiring s n).rates.consumed c (x.done + more)) (W c)
   took_then c d l e =
-      let h : (wire n c).to.1 < length x.ins.items = vec_in x.ins (wire n c).to.1 (in_in s laws.ports n good inputs x st x.actor refl c l e) in
-      (drew (wire n c).to.1 d h).received_then ∙ (ap (λ r. r ++ taken (wire n c).to.1) (received_at s laws.ports n good inputs x st x.actor refl c d l e) ∙ sym (on.into c l e))
+      let h : (wire n c).to.1 < length x.ins.items =
+      vec_in x.ins (wire n c).to.1 (in_in s laws.ports n good inputs x st x.actor refl c l e) in
+      (drew (wire n c).to.1 d h).received_then ∙ (ap (λ r. r ++ taken (wire n c).to.1)
+      (received_at s laws.ports n good inputs x st x.actor refl c d l e) ∙ sym (on.into c l e))
 
-  on_stand : IsStand s n inputs (record { actor = x.actor; state = w; ins = ins; outs = outs; takes = x.takes; puts = x.puts; taken = tv; put = pv; done = x.done + more; asked = x.asked })
+  on_stand : IsStand s n inputs (record {
+    actor = x.actor;
+    state = w;
+    ins = ins;
+    outs = outs;
+    takes = x.takes;
+    puts = x.puts;
+    taken = tv;
+    put = pv;
+    done = x.done + more;
+    asked = x.asked;
+  })
   on_stand = record {
     known = st.known;
-    own_pairs = own_pairs_kept n x.actor x.ins.items ins.items x.outs.items outs.items taken put (items_long ins x.ins ins_is) (items_long outs x.outs outs_is) drew gave st.own_pairs;
+    own_pairs = own_pairs_kept n x.actor x.ins.items ins.items x.outs.items outs.items taken put
+        (items_long ins x.ins ins_is) (items_long outs x.outs outs_is) drew gave st.own_pairs;
     within = left;
     own = W;
     local = on.local;
@@ -72,7 +99,18 @@ module _ {A S T : Type 0} (s : Steps A S T) (laws : FiringLaws s) (n : Netlist A
     put_long = λ few k. let long = st.put_long (omega arith) k in omega arith;
   }
 
-  on_moved : HasMoved s n x (record { actor = x.actor; state = w; ins = ins; outs = outs; takes = x.takes; puts = x.puts; taken = tv; put = pv; done = x.done + more; asked = x.asked })
+  on_moved : HasMoved s n x (record {
+    actor = x.actor;
+    state = w;
+    ins = ins;
+    outs = outs;
+    takes = x.takes;
+    puts = x.puts;
+    taken = tv;
+    put = pv;
+    done = x.done + more;
+    asked = x.asked;
+  })
   on_moved = record {
     actor_kept = refl;
     asked_kept = refl;
@@ -87,6 +125,28 @@ module _ {A S T : Type 0} (s : Steps A S T) (laws : FiringLaws s) (n : Netlist A
     put_count = λ i h. on.put_count i (omega (arith, st.outs_all));
   }
 
-  pub gone_on : IsStand s n inputs (record { actor = x.actor; state = w; ins = ins; outs = outs; takes = x.takes; puts = x.puts; taken = tv; put = pv; done = x.done + more; asked = x.asked }) ×
-      HasMoved s n x (record { actor = x.actor; state = w; ins = ins; outs = outs; takes = x.takes; puts = x.puts; taken = tv; put = pv; done = x.done + more; asked = x.asked })
+  pub gone_on : IsStand s n inputs (record {
+    actor = x.actor;
+    state = w;
+    ins = ins;
+    outs = outs;
+    takes = x.takes;
+    puts = x.puts;
+    taken = tv;
+    put = pv;
+    done = x.done + more;
+    asked = x.asked;
+  }) ×
+      HasMoved s n x (record {
+        actor = x.actor;
+        state = w;
+        ins = ins;
+        outs = outs;
+        takes = x.takes;
+        puts = x.puts;
+        taken = tv;
+        put = pv;
+        done = x.done + more;
+        asked = x.asked;
+      })
   gone_on = (on_stand, on_moved)

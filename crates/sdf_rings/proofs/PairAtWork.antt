@@ -7,7 +7,8 @@ use Rattle.sdf_rings.specs.MachineLaws.{firings, capacity}
 use Rattle.sdf_rings.specs.Pair.{pair, plan, PairFills, PairGoesOn}
 
 module _ {A S T : Type 0} (s : Steps A S T) where
-  can_put : (m : Machine T) → m.gave 0 < 6 → 2 * (m.gave 0 + 1) ≤ 6 + 3 * m.took 0 → CanPut (wiring s pair) (firings (plan s) 2) (capacity (plan s)) m 0
+  can_put : (m : Machine T) → m.gave 0 < 6 → 2 * (m.gave 0 + 1) ≤ 6 + 3 * m.took 0 →
+      CanPut (wiring s pair) (firings (plan s) 2) (capacity (plan s)) m 0
   can_put m left room = record {
     known = omega arith;
     left = left;
@@ -29,7 +30,8 @@ module _ {A S T : Type 0} (s : Steps A S T) where
       kept zero l e t = omega arith
       kept (suc c) l e t = omega arith
 
-  can_take : (m : Machine T) → m.took 0 < 4 → 3 * (m.took 0 + 1) ≤ 2 * m.gave 0 → CanTake (wiring s pair) (firings (plan s) 2) m 0
+  can_take : (m : Machine T) → m.took 0 < 4 → 3 * (m.took 0 + 1) ≤ 2 * m.gave 0 →
+      CanTake (wiring s pair) (firings (plan s) 2) m 0
   can_take m left holds = record {
     known = omega arith;
     left = left;
@@ -49,14 +51,26 @@ module _ {A S T : Type 0} (s : Steps A S T) where
 
   pub pair_fills : PairFills s
   pair_fills inputs = record {
-    run = (can_put _ (omega arith) (omega arith), (can_put _ (omega arith) (omega arith), (can_put _ (omega arith) (omega arith), tt)));
+    run = (
+      can_put _ (omega arith) (omega arith),
+      (
+        can_put _ (omega arith) (omega arith),
+        (can_put _ (omega arith) (omega arith), tt),
+      ),
+    );
     full = refl;
     no_more = λ h. omega (arith, h.room);
   }
 
   pub pair_goes_on : PairGoesOn s
   pair_goes_on inputs = record {
-    run = (can_put _ (omega arith) (omega arith), (can_put _ (omega arith) (omega arith), (can_put _ (omega arith) (omega arith), (can_take _ (omega arith) (omega arith), tt))));
+    run = (
+      can_put _ (omega arith) (omega arith),
+      (
+        can_put _ (omega arith) (omega arith),
+        (can_put _ (omega arith) (omega arith), (can_take _ (omega arith) (omega arith), tt)),
+      ),
+    );
     half = refl;
     more = can_put _ (omega arith) (omega arith);
   }

@@ -1,11 +1,13 @@
 -- The pair's table is a valid one.
-use Rattle.std.proofs.Common.{◌≡◌, ℕ, zero, suc, ◌+◌, ◌*◌, ◌≤◌, ◌<◌, ◌↔◌, List, [], ◌∷◌, length, take, get_or, Option, Some, None, refl, sym, ap, ◌∙◌, subst, inl, inr, arith, rules}
+use Rattle.std.proofs.Common.{◌≡◌, ℕ, zero, suc, ◌+◌, ◌*◌, ◌≤◌, ◌<◌, ◌↔◌, List, [], ◌∷◌, length, take, get_or, Option}
+use Rattle.std.proofs.Common.{Some, None, refl, sym, ap, ◌∙◌, subst, inl, inr, arith, rules}
 use Rattle.std.proofs.lemmas.Option.{none-some}
 use Rattle.sdf_graph.specs.Sequences.{times, tokens, IsPeriod}
 use Rattle.sdf_prec.specs.Blocks.{block}
 use Rattle.sdf_prec.specs.declared.firing.Firing.{Firing}
 use Rattle.sdf_prec.specs.Precedence.{WaitsFor}
-use Rattle.sdf_prec.specs.Tables.{firing, firings, row, cell_of, cell, order, Stands, IsOfBlock, IsValid, IsGreatestHeld, IsHome, IsTable}
+use Rattle.sdf_prec.specs.Tables.{firing, firings, row, cell_of, cell, order, Stands, IsOfBlock, IsValid}
+use Rattle.sdf_prec.specs.Tables.{IsGreatestHeld, IsHome, IsTable}
 use Rattle.sdf_actor.specs.Steps.{Steps}
 use Rattle.sdf_actor.specs.Nets.{wiring, IsNet, node, wire, from_port, to_port, inputs_of, outputs_of}
 use Rattle.sdf_actor.specs.Laws.{NetsAreWired}
@@ -24,7 +26,8 @@ some_is : {X : Type 0} {x y : X} → Some x ≡ Some y → x ≡ y
 some_is e = search rules
 
 -- one of the three puts
-one_of_three : (rest : List Firing) (g : Firing) → 0 ≡ g.actor → (k : ℕ) → k ≡ g.number → k < 3 → Stands (put_firing 0 ∷ put_firing 1 ∷ put_firing 2 ∷ rest) g
+one_of_three : (rest : List Firing) (g : Firing) → 0 ≡ g.actor → (k : ℕ) → k ≡ g.number → k < 3 →
+    Stands (put_firing 0 ∷ put_firing 1 ∷ put_firing 2 ∷ rest) g
 one_of_three rest g e zero h l = (0, omega arith, same_firing 0 0 g e h)
 one_of_three rest g e (suc zero) h l = (1, omega arith, same_firing 0 1 g e h)
 one_of_three rest g e (suc (suc zero)) h l = (2, omega arith, same_firing 0 2 g e h)
@@ -57,21 +60,27 @@ module _ {A S T : Type 0} (s : Steps A S T) where
     to_all = λ a p l m. to_all a p l m;
   }
     where
-      from_in : (c : ℕ) → c < 1 → ((wiring s (pair {A = A} {T = T})).rates.source c < 2) × ((wire (pair {A = A} {T = T}) c).from.1 < outputs_of s (node (pair {A = A} {T = T}) ((wiring s (pair {A = A} {T = T})).rates.source c)))
+      from_in : (c : ℕ) → c < 1 → ((wiring s (pair {A = A} {T = T})).rates.source c < 2)
+          × ((wire (pair {A = A} {T = T}) c).from.1 < outputs_of s
+          (node (pair {A = A} {T = T}) ((wiring s (pair {A = A} {T = T})).rates.source c)))
       from_in zero l = (omega arith, omega arith)
       from_in (suc c) l = absurd (omega arith)
 
-      to_in : (c : ℕ) → c < 1 → ((wiring s (pair {A = A} {T = T})).rates.target c < 2) × ((wire (pair {A = A} {T = T}) c).to.1 < inputs_of s (node (pair {A = A} {T = T}) ((wiring s (pair {A = A} {T = T})).rates.target c)))
+      to_in : (c : ℕ) → c < 1 → ((wiring s (pair {A = A} {T = T})).rates.target c < 2)
+          × ((wire (pair {A = A} {T = T}) c).to.1 < inputs_of s
+          (node (pair {A = A} {T = T}) ((wiring s (pair {A = A} {T = T})).rates.target c)))
       to_in zero l = (omega arith, omega arith)
       to_in (suc c) l = absurd (omega arith)
 
-      from_all : (a p : ℕ) → a < 2 → p < outputs_of s (node (pair {A = A} {T = T}) a) → from_port (pair {A = A} {T = T}) a p < 1
+      from_all : (a p : ℕ) → a < 2 → p < outputs_of s (node (pair {A = A} {T = T}) a) →
+          from_port (pair {A = A} {T = T}) a p < 1
       from_all zero zero l m = omega arith
       from_all zero (suc p) l m = absurd (omega arith)
       from_all (suc zero) p l m = absurd (omega arith)
       from_all (suc (suc a)) p l m = absurd (omega arith)
 
-      to_all : (a p : ℕ) → a < 2 → p < inputs_of s (node (pair {A = A} {T = T}) a) → to_port (pair {A = A} {T = T}) a p < 1
+      to_all : (a p : ℕ) → a < 2 → p < inputs_of s (node (pair {A = A} {T = T}) a) →
+          to_port (pair {A = A} {T = T}) a p < 1
       to_all zero p l m = absurd (omega arith)
       to_all (suc zero) zero l m = omega arith
       to_all (suc zero) (suc p) l m = absurd (omega arith)
@@ -84,15 +93,26 @@ module _ {A S T : Type 0} (s : Steps A S T) where
     consumed_anew = consumed_anew;
   }
     where
-      balanced : (c : ℕ) → c < 1 → (wiring s (pair {A = A} {T = T})).rates.produced c (get_or (3 ∷ 2 ∷ []) ((wiring s (pair {A = A} {T = T})).rates.source c) 0) ≡ (wiring s (pair {A = A} {T = T})).rates.consumed c (get_or (3 ∷ 2 ∷ []) ((wiring s (pair {A = A} {T = T})).rates.target c) 0)
+      balanced : (c : ℕ) → c < 1 → (wiring s (pair {A = A} {T = T})).rates.produced c
+          (get_or (3 ∷ 2 ∷ []) ((wiring s (pair {A = A} {T = T})).rates.source c) 0) ≡
+          (wiring s (pair {A = A} {T = T})).rates.consumed c
+          (get_or (3 ∷ 2 ∷ []) ((wiring s (pair {A = A} {T = T})).rates.target c) 0)
       balanced zero l = refl
       balanced (suc c) l = absurd (omega arith)
 
-      produced_anew : (c i : ℕ) → c < 1 → (wiring s (pair {A = A} {T = T})).rates.produced c (i + get_or (3 ∷ 2 ∷ []) ((wiring s (pair {A = A} {T = T})).rates.source c) 0) ≡ (wiring s (pair {A = A} {T = T})).rates.produced c i + (wiring s (pair {A = A} {T = T})).rates.produced c (get_or (3 ∷ 2 ∷ []) ((wiring s (pair {A = A} {T = T})).rates.source c) 0)
+      produced_anew : (c i : ℕ) → c < 1 → (wiring s (pair {A = A} {T = T})).rates.produced c
+          (i + get_or (3 ∷ 2 ∷ []) ((wiring s (pair {A = A} {T = T})).rates.source c) 0) ≡
+          (wiring s (pair {A = A} {T = T})).rates.produced c i
+          + (wiring s (pair {A = A} {T = T})).rates.produced c
+          (get_or (3 ∷ 2 ∷ []) ((wiring s (pair {A = A} {T = T})).rates.source c) 0)
       produced_anew zero i l = let e : 2 * (i + 3) ≡ 2 * i + 2 * 3 = omega arith in e
       produced_anew (suc c) i l = absurd (omega arith)
 
-      consumed_anew : (c i : ℕ) → c < 1 → (wiring s (pair {A = A} {T = T})).rates.consumed c (i + get_or (3 ∷ 2 ∷ []) ((wiring s (pair {A = A} {T = T})).rates.target c) 0) ≡ (wiring s (pair {A = A} {T = T})).rates.consumed c i + (wiring s (pair {A = A} {T = T})).rates.consumed c (get_or (3 ∷ 2 ∷ []) ((wiring s (pair {A = A} {T = T})).rates.target c) 0)
+      consumed_anew : (c i : ℕ) → c < 1 → (wiring s (pair {A = A} {T = T})).rates.consumed c
+          (i + get_or (3 ∷ 2 ∷ []) ((wiring s (pair {A = A} {T = T})).rates.target c) 0) ≡
+          (wiring s (pair {A = A} {T = T})).rates.consumed c i
+          + (wiring s (pair {A = A} {T = T})).rates.consumed c
+          (get_or (3 ∷ 2 ∷ []) ((wiring s (pair {A = A} {T = T})).rates.target c) 0)
       consumed_anew zero i l = let e : 3 * (i + 2) ≡ 3 * i + 3 * 2 = omega arith in e
       consumed_anew (suc c) i l = absurd (omega arith)
 
@@ -130,35 +150,45 @@ module _ {A S T : Type 0} (s : Steps A S T) where
   all f (suc (suc a)) k e h l m = absurd (omega arith)
 
   -- what the puts wait for, and what the takes wait for
-  put_waits : (i : ℕ) (g : Firing) → WaitsFor (wiring s (pair {A = A} {T = T})).rates (put_firing i) g → (0 ≡ g.actor) × (g.number + 1 ≡ i)
+  put_waits : (i : ℕ) (g : Firing) → WaitsFor (wiring s (pair {A = A} {T = T})).rates (put_firing i) g →
+      (0 ≡ g.actor) × (g.number + 1 ≡ i)
   put_waits i g (inl (e, h)) = (sym e, h)
   put_waits i g (inr (zero, l, t, o, w)) = absurd (omega arith)
   put_waits i g (inr (suc c, l, t, o, w)) = absurd (omega arith)
 
-  first_take_waits : (g : Firing) → WaitsFor (wiring s (pair {A = A} {T = T})).rates (take_firing 0) g → (0 ≡ g.actor) × (g.number < 3)
+  first_take_waits : (g : Firing) → WaitsFor (wiring s (pair {A = A} {T = T})).rates (take_firing 0) g →
+      (0 ≡ g.actor) × (g.number < 3)
   first_take_waits g (inl (e, h)) = absurd (omega arith)
   first_take_waits g (inr (zero, l, t, o, w)) = (o, omega arith)
   first_take_waits g (inr (suc c, l, t, o, w)) = absurd (omega arith)
 
-  second_take_stands : (g : Firing) → WaitsFor (wiring s (pair {A = A} {T = T})).rates (take_firing 1) g → Stands (order (take 4 rows)) g
-  second_take_stands g (inl (e, h)) = let k : 0 ≡ g.number = omega arith in (3, omega arith, same_firing 1 0 g (sym e) k)
+  second_take_stands : (g : Firing) → WaitsFor (wiring s (pair {A = A} {T = T})).rates (take_firing 1) g →
+      Stands (order (take 4 rows)) g
+  second_take_stands g (inl (e, h)) = let k : 0 ≡ g.number = omega arith in
+      (3, omega arith, same_firing 1 0 g (sym e) k)
   second_take_stands g (inr (zero, l, t, o, w)) = one_of_three (take_firing 0 ∷ []) g o g.number refl (omega arith)
   second_take_stands g (inr (suc c, l, t, o, w)) = absurd (omega arith)
 
-  earlier : (i : ℕ) → i < 5 → (f g : Firing) → Stands (firings (row rows i)) f → WaitsFor (wiring s (pair {A = A} {T = T})).rates f g → Stands (order (take i rows)) g
+  earlier : (i : ℕ) → i < 5 → (f g : Firing) → Stands (firings (row rows i)) f →
+      WaitsFor (wiring s (pair {A = A} {T = T})).rates f g → Stands (order (take i rows)) g
   earlier zero l f g st w =
-      let is = put_waits 0 g (subst (λ x. WaitsFor (wiring s (pair {A = A} {T = T})).rates x g) (sym (only (put_firing 0) f st)) w) in absurd (omega (arith, is.1))
+      let is = put_waits 0 g (subst (λ x. WaitsFor (wiring s (pair {A = A} {T = T})).rates x g)
+      (sym (only (put_firing 0) f st)) w) in absurd (omega (arith, is.1))
   earlier (suc zero) l f g st w =
-      let is = put_waits 1 g (subst (λ x. WaitsFor (wiring s (pair {A = A} {T = T})).rates x g) (sym (only (put_firing 1) f st)) w) in
+      let is = put_waits 1 g (subst (λ x. WaitsFor (wiring s (pair {A = A} {T = T})).rates x g)
+      (sym (only (put_firing 1) f st)) w) in
       let k : 0 ≡ g.number = omega (arith, is.1) in (0, omega arith, same_firing 0 0 g is.0 k)
   earlier (suc (suc zero)) l f g st w =
-      let is = put_waits 2 g (subst (λ x. WaitsFor (wiring s (pair {A = A} {T = T})).rates x g) (sym (only (put_firing 2) f st)) w) in
+      let is = put_waits 2 g (subst (λ x. WaitsFor (wiring s (pair {A = A} {T = T})).rates x g)
+      (sym (only (put_firing 2) f st)) w) in
       let k : 1 ≡ g.number = omega (arith, is.1) in (1, omega arith, same_firing 0 1 g is.0 k)
   earlier (suc (suc (suc zero))) l f g st w =
-      let is = first_take_waits g (subst (λ x. WaitsFor (wiring s (pair {A = A} {T = T})).rates x g) (sym (only (take_firing 0) f st)) w) in
+      let is = first_take_waits g (subst (λ x. WaitsFor (wiring s (pair {A = A} {T = T})).rates x g)
+      (sym (only (take_firing 0) f st)) w) in
       one_of_three [] g is.0 g.number refl is.1
   earlier (suc (suc (suc (suc zero)))) l f g st w =
-      second_take_stands g (subst (λ x. WaitsFor (wiring s (pair {A = A} {T = T})).rates x g) (sym (only (take_firing 1) f st)) w)
+      second_take_stands g (subst (λ x. WaitsFor (wiring s (pair {A = A} {T = T})).rates x g)
+      (sym (only (take_firing 1) f st)) w)
   earlier (suc (suc (suc (suc (suc i))))) l f g st w = absurd (omega arith)
 
   valid : IsValid (wiring s (pair {A = A} {T = T})).rates n rows
@@ -194,8 +224,14 @@ module _ {A S T : Type 0} (s : Steps A S T) where
   own_column (suc (suc (suc (suc (suc i))))) m f e = absurd (none-some f e)
 
   home_of : (a : ℕ) → a < 2 → IsHome rows a a
-  home_of zero l = record { some = (0, put_firing 0, omega arith, refl, refl); all = λ i m f e h. sym (own_column i m f e) ∙ h }
-  home_of (suc zero) l = record { some = (3, take_firing 0, omega arith, refl, refl); all = λ i m f e h. sym (own_column i m f e) ∙ h }
+  home_of zero l = record {
+    some = (0, put_firing 0, omega arith, refl, refl);
+    all = λ i m f e h. sym (own_column i m f e) ∙ h;
+  }
+  home_of (suc zero) l = record {
+    some = (3, take_firing 0, omega arith, refl, refl);
+    all = λ i m f e h. sym (own_column i m f e) ∙ h;
+  }
   home_of (suc (suc a)) l = absurd (omega arith)
 
   home_is : (a : ℕ) → a < 2 → get_or (plan s).table.homes a None ≡ Some a
@@ -218,7 +254,8 @@ module _ {A S T : Type 0} (s : Steps A S T) where
   held_to (suc (suc (suc (suc (suc zero))))) l = omega arith
   held_to (suc (suc (suc (suc (suc (suc m)))))) l = absurd (omega arith)
 
-  caps_each : (c : ℕ) → c < 1 → IsGreatestHeld (wiring s (pair {A = A} {T = T})).rates (plan s).table.order c (get_or (6 ∷ []) c 0)
+  caps_each : (c : ℕ) → c < 1 → IsGreatestHeld (wiring s (pair {A = A} {T = T})).rates (plan s).table.order c
+      (get_or (6 ∷ []) c 0)
   caps_each zero l = record { above = held_to; reached = (3, omega arith, refl) }
   caps_each (suc c) l = absurd (omega arith)
 
@@ -227,7 +264,13 @@ module _ {A S T : Type 0} (s : Steps A S T) where
     valid = valid;
     wide = wide;
     some = some;
-    exact = record { order_is = refl; homes_all = refl; homes_each = homes_each; caps_all = refl; caps_each = caps_each };
+    exact = record {
+      order_is = refl;
+      homes_all = refl;
+      homes_each = homes_each;
+      caps_all = refl;
+      caps_each = caps_each;
+    };
   }
 
   pub pair_is_planned : NetsAreWired s → PairIsPlanned s

@@ -9,21 +9,27 @@ use Rattle.sdf_rings.specs.Asks.{IsRoomOf, IsPlanned}
 use Rattle.sdf_rings.proofs.Looking.{vec_in}
 use Rattle.sdf_rings.proofs.Placed.{outs_of}
 
-module _ {A S T : Type 0} (s : Steps A S T) (n : Netlist A T) (inputs : List (List T)) (seats new : List (Seat A T S)) (places : List (ℕ × ℕ))
-    (r : AreRings s (record { net = n; inputs = inputs; seats = seats; places = places })) (len : length new ≡ length seats)
+module _ {A S T : Type 0} (s : Steps A S T) (n : Netlist A T) (inputs : List (List T)) (seats new : List (Seat A T S))
+    (places : List (ℕ × ℕ))
+    (r : AreRings s (record { net = n; inputs = inputs; seats = seats; places = places }))
+    (len : length new ≡ length seats)
     (worked : (j : ℕ) (e : Seat A T S) → j < length seats → HasWorked s n (get_or seats j e) (get_or new j e)) where
-  pub planned_kept : (order : List ℕ) (cap : ℕ → ℕ) → IsPlanned s n seats places order cap → IsPlanned s n new places order cap
+  pub planned_kept : (order : List ℕ) (cap : ℕ → ℕ) → IsPlanned s n seats places order cap →
+      IsPlanned s n new places order cap
   planned_kept order cap p = record {
     admissible = p.admissible;
     fits = p.fits;
     asks = record {
       lists = λ i e h. let l : i < length seats = omega arith in (worked i e l).left_kept ∙ p.asks.lists i e l;
-      asked = λ a e d l. ((worked (get_or places a (0, 0)).0 e (r.placed.seat_in a l)).moved (get_or places a (0, 0)).1 d (r.placed.stand_in a e l)).asked_kept ∙ p.asks.asked a e d l;
+      asked = λ a e d l. ((worked (get_or places a (0, 0)).0 e (r.placed.seat_in a l)).moved (get_or places a (0, 0)).1
+          d (r.placed.stand_in a e l)).asked_kept ∙ p.asks.asked a e d l;
     };
     capacities = λ c e d y l.
         let from = r.is_net.from_in c l in
         let a : ℕ = (wire n c).from.0 in
         let outs = outs_of s n inputs seats places r a e d from.0 in
-        let gave = ((worked (get_or places a (0, 0)).0 e (r.placed.seat_in a from.0)).moved (get_or places a (0, 0)).1 d (r.placed.stand_in a e from.0)).gave (wire n c).from.1 y (vec_in (stand_of n seats places e d a).outs (wire n c).from.1 (omega (arith, from.1))) in
+        let gave = ((worked (get_or places a (0, 0)).0 e (r.placed.seat_in a from.0)).moved (get_or places a (0, 0)).1 d
+        (r.placed.stand_in a e from.0)).gave (wire n c).from.1 y
+        (vec_in (stand_of n seats places e d a).outs (wire n c).from.1 (omega (arith, from.1))) in
         subst (IsRoomOf (wiring s n).rates cap c) (sym gave.ring.1) (p.capacities c e d y l);
   }

@@ -12,29 +12,36 @@ use Rattle.sdf_rings.specs.Prepared.{IsAsked}
 use Rattle.sdf_rings.proofs.Begun.{some_in, is_some}
 use Rattle.sdf_rings.proofs.Plans.{IsSequence, plan_sequence, room_first}
 
-module _ (alike : AlikeSequences) (repeats : TablesRepeat) {A S T : Type 0} (s : Steps A S T) (n : Netlist A T) (wired : IsWired (wiring s n)) (t : Tabled) (blocks : ℕ) (asked : ℕ → ℕ) (is : IsAsked s n t blocks asked) where
-  sequence : (b : ℕ) → IsSequence (wiring s n).rates (firings is.plan b) (capacity is.plan) (repeated b is.plan.table.order)
+module _ (alike : AlikeSequences) (repeats : TablesRepeat) {A S T : Type 0} (s : Steps A S T) (n : Netlist A T)
+    (wired : IsWired (wiring s n)) (t : Tabled) (blocks : ℕ) (asked : ℕ → ℕ) (is : IsAsked s n t blocks asked) where
+  sequence : (b : ℕ) → IsSequence (wiring s n).rates (firings is.plan b) (capacity is.plan)
+      (repeated b is.plan.table.order)
   sequence b = plan_sequence alike repeats s n is.plan b is.is
 
   pub admissible : IsAdmissible (wiring s n).rates (repeated blocks t.order)
-  admissible = subst (λ (z : Tabled). IsAdmissible (wiring s n).rates (repeated blocks z.order)) is.table_is (sequence blocks).admissible
+  admissible = subst (λ (z : Tabled). IsAdmissible (wiring s n).rates (repeated blocks z.order)) is.table_is
+      (sequence blocks).admissible
 
   pub fits : FitsIn (wiring s n).rates (λ c. get_or t.caps c 0) (repeated blocks t.order)
-  fits = subst (λ (z : Tabled). FitsIn (wiring s n).rates (λ c. get_or z.caps c 0) (repeated blocks z.order)) is.table_is (λ m h c l. let r = (sequence blocks).room m h c l in omega arith)
+  fits = subst (λ (z : Tabled). FitsIn (wiring s n).rates (λ c. get_or z.caps c 0) (repeated blocks z.order))
+      is.table_is (λ m h c l. let r = (sequence blocks).room m h c l in omega arith)
 
   pub known : (i : ℕ) → i < length (repeated blocks t.order) → get_or (repeated blocks t.order) i 0 < length n.nodes
   known i h = (admissible i h).0
 
   pub counts : (a : ℕ) → a < length n.nodes → times (repeated blocks t.order) a ≡ asked a
-  counts a l = ap (λ (z : Tabled). times (repeated blocks z.order) a) (sym is.table_is) ∙ ((sequence blocks).counts a l ∙ sym (is.asked_are a l))
+  counts a l = ap (λ (z : Tabled). times (repeated blocks z.order) a) (sym is.table_is)
+      ∙ ((sequence blocks).counts a l ∙ sym (is.asked_are a l))
 
   -- the firings of one block
   pub order_known : (i : ℕ) → i < length t.order → get_or t.order i 0 < length n.nodes
-  order_known = subst (λ (z : Tabled). (i : ℕ) → i < length z.order → get_or z.order i 0 < length n.nodes) is.table_is (λ i h. ((sequence 1).admissible i h).0)
+  order_known = subst (λ (z : Tabled). (i : ℕ) → i < length z.order → get_or z.order i 0 < length n.nodes) is.table_is
+      (λ i h. ((sequence 1).admissible i h).0)
 
   pub held : (c : ℕ) → c < length n.wires → length (wire n c).initial ≤ get_or t.caps c 0
   held c l = subst (λ (z : Tabled). length (wire n c).initial ≤ get_or z.caps c 0) is.table_is
-      (room_first (wiring s n).rates (firings is.plan 0) (capacity is.plan) (repeated 0 is.plan.table.order) wired.sound (sequence 0) c l)
+      (room_first (wiring s n).rates (firings is.plan 0) (capacity is.plan) (repeated 0 is.plan.table.order) wired.sound
+      (sequence 0) c l)
 
   pub caps_all : length t.caps ≡ length n.wires
   caps_all = ap (λ (z : Tabled). length z.caps) (sym is.table_is) ∙ (is.is.table.exact.caps_all ∙ is.is.alike.channels)
@@ -43,10 +50,12 @@ module _ (alike : AlikeSequences) (repeats : TablesRepeat) {A S T : Type 0} (s :
   homes_all = ap (λ (z : Tabled). length z.homes) (sym is.table_is) ∙ (is.is.table.exact.homes_all ∙ is.is.alike.actors)
 
   pub wide : (i : ℕ) → i < length t.rows → length (row t.rows i) ≡ is.plan.width
-  wide = subst (λ (z : Tabled). (i : ℕ) → i < length z.rows → length (row z.rows i) ≡ is.plan.width) is.table_is is.is.table.wide
+  wide = subst (λ (z : Tabled). (i : ℕ) → i < length z.rows → length (row z.rows i) ≡ is.plan.width) is.table_is
+      is.is.table.wide
 
   -- a home is a column
-  pub home_below : (width : ℕ) → ((i : ℕ) → i < length t.rows → length (row t.rows i) ≡ width) → (a j : ℕ) → a < length n.nodes → home_in t a ≡ Some j → j < width
+  pub home_below : (width : ℕ) → ((i : ℕ) → i < length t.rows → length (row t.rows i) ≡ width) → (a j : ℕ) →
+      a < length n.nodes → home_in t a ≡ Some j → j < width
   home_below width all a j l at =
       let l' : a < is.plan.rates.actors = omega (arith, is.is.alike.actors, l) in
       let home = (is.is.table.exact.homes_each a j l').0 (ap (λ (z : Tabled). home_in z a) is.table_is ∙ at) in

@@ -1,5 +1,6 @@
 -- Seats that are begun, all in one hand.
-use Rattle.std.proofs.Common.{◌≡◌, ℕ, ◌+◌, ◌-◌, ◌<◌, List, length, map, get_or, Option, refl, sym, ap, ◌∙◌, subst, arith, vec_len}
+use Rattle.std.proofs.Common.{◌≡◌, ℕ, ◌+◌, ◌-◌, ◌<◌, List, length, map, get_or, Option, refl, sym, ap, ◌∙◌, subst}
+use Rattle.std.proofs.Common.{arith, vec_len}
 use Rattle.std.specs.Global.{Global}
 use Rattle.std.specs.declared.vec.Vec.{Vec}
 use Rattle.std.proofs.lemmas.List.{get_or-map, take_all, length-map}
@@ -31,29 +32,38 @@ in_items v i h = omega arith
 -- all of a list
 times_all : (v : Vec ℕ Global) (from k : ℕ) → from ≡ 0 → times_between k v.items from (vec_len v) ≡ times v.items k
 times_all v from k none =
-    ap (λ m. times_between k v.items m (vec_len v)) none ∙ ap (λ w. times w k) (take_all (vec_len v - 0) v.items (omega arith))
+    ap (λ m. times_between k v.items m (vec_len v)) none
+    ∙ ap (λ w. times w k) (take_all (vec_len v - 0) v.items (omega arith))
 
-module _ {A S T : Type 0} (s : Steps A S T) (n : Netlist A T) (good : IsNet s n) (inputs : List (List T)) (asked : ℕ → ℕ)
-    (ps : List (Option (Producer T Global AnyItems))) (xs : List (Option (Consumer T Global AnyItems))) (cap : ℕ → ℕ) (rings : HaveRings s n cap ps xs)
-    (places : List (ℕ × ℕ)) (all : length places ≡ length n.nodes) (order : List ℕ) (known : (j : ℕ) → j < length order → get_or order j 0 < length n.nodes)
+module _ {A S T : Type 0} (s : Steps A S T) (n : Netlist A T) (good : IsNet s n) (inputs : List (List T))
+    (asked : ℕ → ℕ)
+    (ps : List (Option (Producer T Global AnyItems))) (xs : List (Option (Consumer T Global AnyItems))) (cap : ℕ → ℕ)
+    (rings : HaveRings s n cap ps xs)
+    (places : List (ℕ × ℕ)) (all : length places ≡ length n.nodes) (order : List ℕ)
+    (known : (j : ℕ) → j < length order → get_or order j 0 < length n.nodes)
     (counts : (a : ℕ) → a < length n.nodes → times order a ≡ asked a)
     (seats : List (Seat A T S)) (seated : (a : ℕ) → a < length n.nodes → (place places a).0 < length seats)
-    (each : (i : ℕ) (e : Seat A T S) → i < length seats → IsBegun s n inputs asked ps xs places order i (get_or seats i e)) where
+    (each : (i : ℕ) (e : Seat A T S) → i < length seats →
+    IsBegun s n inputs asked ps xs places order i (get_or seats i e)) where
   -- the stand of a node
-  here : (a : ℕ) (e : Seat A T S) (d : Stand A T S) → a < length n.nodes → HasBegun s n inputs asked ps xs a (stand_of n seats places e d a)
+  here : (a : ℕ) (e : Seat A T S) (d : Stand A T S) → a < length n.nodes →
+      HasBegun s n inputs asked ps xs a (stand_of n seats places e d a)
   here a e d l = (each (place places a).0 e (seated a l)).stands_are.here a d l refl
 
   pub placed : IsPlaced n seats places
   placed = record {
     seat_in = seated;
-    stand_in = λ a e l. in_vec (get_or seats (place places a).0 e).stands (place places a).1 ((each (place places a).0 e (seated a l)).stands_are.known a l refl);
+    stand_in = λ a e l. in_vec (get_or seats (place places a).0 e).stands (place places a).1
+        ((each (place places a).0 e (seated a l)).stands_are.known a l refl);
     is = λ a e d l. (here a e d l).actor_is;
   }
 
   -- one place is one node's
-  one : (a b : ℕ) (e : Seat A T S) (d : Stand A T S) → a < length n.nodes → b < length n.nodes → (place places a).0 ≡ (place places b).0 → (place places a).1 ≡ (place places b).1 → a ≡ b
+  one : (a b : ℕ) (e : Seat A T S) (d : Stand A T S) → a < length n.nodes → b < length n.nodes →
+      (place places a).0 ≡ (place places b).0 → (place places a).1 ≡ (place places b).1 → a ≡ b
   one a b e d la lb p q =
-      let same : stand_of n seats places e d a ≡ stand_of n seats places e d b = λ k. get_or (get_or seats (p k) e).stands.items (q k) d in
+      let same : stand_of n seats places e d a ≡ stand_of n seats places e d b =
+      λ k. get_or (get_or seats (p k) e).stands.items (q k) d in
       sym (here a e d la).actor_is ∙ (ap (λ (z : Stand A T S). z.actor) same ∙ (here b e d lb).actor_is)
 
   abbrev home : ℕ → ℕ
@@ -63,13 +73,17 @@ module _ {A S T : Type 0} (s : Steps A S T) (n : Netlist A T) (good : IsNet s n)
   stand a = (place places a).1
 
   -- the firings of a seat are those of nodes that stand there
-  dealt_here : (i j : ℕ) → j < length (dealt places order i) → (get_or (dealt places order i) j 0 < length n.nodes) × (home (get_or (dealt places order i) j 0) ≡ i)
+  dealt_here : (i j : ℕ) → j < length (dealt places order i) →
+      (get_or (dealt places order i) j 0 < length n.nodes) × (home (get_or (dealt places order i) j 0) ≡ i)
   dealt_here i = part_all home order i (λ a. a < length n.nodes) known
 
   -- how often the seat's list names the stand of a node
-  named : (a : ℕ) (e : Seat A T S) (d : Stand A T S) → a < length n.nodes → times (map stand (dealt places order (home a))) (stand a) ≡ asked a
+  named : (a : ℕ) (e : Seat A T S) (d : Stand A T S) → a < length n.nodes →
+      times (map stand (dealt places order (home a))) (stand a) ≡ asked a
   named a e d l =
-      times_map stand a (dealt places order (home a)) (λ j h same. let is = dealt_here (home a) j h in one (get_or (dealt places order (home a)) j 0) a e d is.0 l is.1 same) ∙
+      times_map stand a (dealt places order (home a))
+      (λ j h same. let is = dealt_here (home a) j h in
+      one (get_or (dealt places order (home a)) j 0) a e d is.0 l is.1 same) ∙
       (part_times home order (home a) a refl ∙ counts a l)
 
   module _ (i : ℕ) (e : Seat A T S) (inside : i < length seats) where
@@ -80,18 +94,26 @@ module _ {A S T : Type 0} (s : Steps A S T) (n : Netlist A T) (good : IsNet s n)
     begun = each i e inside
 
     -- a stand is a node's
-    at_stand : (k : ℕ) (d : Stand A T S) → k < length x.stands.items → (a : ℕ) × (a < length n.nodes) × (home a ≡ i) × (stand a ≡ k)
+    at_stand : (k : ℕ) (d : Stand A T S) → k < length x.stands.items →
+        (a : ℕ) × (a < length n.nodes) × (home a ≡ i) × (stand a ≡ k)
     at_stand k d h = begun.stands_are.only k h
 
     counted : (k : ℕ) (d : Stand A T S) → k < length x.stands.items →
-        (get_or x.stands.items k d).done + times_between k x.left.items x.next (vec_len x.left) ≡ (get_or x.stands.items k d).asked
+        (get_or x.stands.items k d).done + times_between k x.left.items x.next (vec_len x.left) ≡
+        (get_or x.stands.items k d).asked
     counted k d h =
         let o = at_stand k d h in
         let a : ℕ = o.0 in
-        let b : HasBegun s n inputs asked ps xs a (get_or x.stands.items k d) = subst (λ m. HasBegun s n inputs asked ps xs a (get_or x.stands.items m d)) o.3 (begun.stands_are.here a d o.1 o.2) in
-        let whole : times_between k x.left.items x.next (vec_len x.left) ≡ times x.left.items k = times_all x.left x.next k begun.first in
-        let list : times x.left.items k ≡ times (map stand (dealt places order i)) k = ap (λ w. times w k) begun.left_is in
-        let turned : times (map stand (dealt places order i)) k ≡ times (map stand (dealt places order (home a))) (stand a) = λ m. times (map stand (dealt places order (sym o.2 m))) (sym o.3 m) in
+        let b : HasBegun s n inputs asked ps xs a (get_or x.stands.items k d) =
+        subst (λ m. HasBegun s n inputs asked ps xs a (get_or x.stands.items m d)) o.3
+        (begun.stands_are.here a d o.1 o.2) in
+        let whole : times_between k x.left.items x.next (vec_len x.left) ≡ times x.left.items k =
+        times_all x.left x.next k begun.first in
+        let list : times x.left.items k ≡ times (map stand (dealt places order i)) k =
+        ap (λ w. times w k) begun.left_is in
+        let turned : times (map stand (dealt places order i)) k ≡
+        times (map stand (dealt places order (home a))) (stand a) =
+        λ m. times (map stand (dealt places order (sym o.2 m))) (sym o.3 m) in
         let is = named a e d o.1 in
         let none = b.undone in
         let want = b.asked_is in
@@ -104,8 +126,10 @@ module _ {A S T : Type 0} (s : Steps A S T) (n : Netlist A T) (good : IsNet s n)
         let many = length-map firings stand in
         let l : j < length firings = (let m = in_items x.left j h in omega (arith, m, long, many)) in
         let is = dealt_here i j l in
-        let at : get_or x.left.items j 0 ≡ stand (get_or firings j 0) = ap (λ w. get_or w j 0) begun.left_is ∙ get_or-map stand firings j 0 0 l in
-        in_vec x.stands (get_or x.left.items j 0) (subst (λ k. k < length x.stands.items) (sym at) (begun.stands_are.known (get_or firings j 0) is.0 is.1))
+        let at : get_or x.left.items j 0 ≡ stand (get_or firings j 0) =
+        ap (λ w. get_or w j 0) begun.left_is ∙ get_or-map stand firings j 0 0 l in
+        in_vec x.stands (get_or x.left.items j 0) (subst (λ k. k < length x.stands.items) (sym at)
+        (begun.stands_are.known (get_or firings j 0) is.0 is.1))
 
     pub is_seat : IsSeat s n inputs x
     is_seat = record {
@@ -118,18 +142,22 @@ module _ {A S T : Type 0} (s : Steps A S T) (n : Netlist A T) (good : IsNet s n)
     }
 
   -- the ends of a channel are those that were opened
-  module _ (c : ℕ) (e : Seat A T S) (d : Stand A T S) (v : Consumer T Global AnyItems) (w : Producer T Global AnyItems) (l : c < length n.wires) where
+  module _ (c : ℕ) (e : Seat A T S) (d : Stand A T S) (v : Consumer T Global AnyItems) (w : Producer T Global AnyItems)
+      (l : c < length n.wires) where
     ring : HasRing s n cap c ps xs
     ring = rings.each c l
 
     producer_is : producer_of n seats places e d w c ≡ ring.producer
-    producer_is = same_Some (producer_of n seats places e d w c) ring.producer (sym ((here (wire n c).from.0 e d (good.from_in c l).0).outs_are c w l refl) ∙ ring.puts)
+    producer_is = same_Some (producer_of n seats places e d w c) ring.producer
+        (sym ((here (wire n c).from.0 e d (good.from_in c l).0).outs_are c w l refl) ∙ ring.puts)
 
     consumer_is : consumer_of n seats places e d v c ≡ ring.consumer
-    consumer_is = same_Some (consumer_of n seats places e d v c) ring.consumer (sym ((here (wire n c).to.0 e d (good.to_in c l).0).ins_are c v l refl) ∙ ring.takes)
+    consumer_is = same_Some (consumer_of n seats places e d v c) ring.consumer
+        (sym ((here (wire n c).to.0 e d (good.to_in c l).0).ins_are c v l refl) ∙ ring.takes)
 
     is_met : IsMet (producer_of n seats places e d w c) (consumer_of n seats places e d v c)
-    is_met = subst (λ p. IsMet p (consumer_of n seats places e d v c)) (sym producer_is) (subst (IsMet ring.producer) (sym consumer_is) ring.opened.met)
+    is_met = subst (λ p. IsMet p (consumer_of n seats places e d v c)) (sym producer_is)
+        (subst (IsMet ring.producer) (sym consumer_is) ring.opened.met)
 
   pub have_met : HaveMet n seats places
   have_met c e d v w l = is_met c e d v w l
@@ -142,7 +170,8 @@ module _ {A S T : Type 0} (s : Steps A S T) (n : Netlist A T) (good : IsNet s n)
     paired = record { all = all; pair = λ c e d v w l. (is_met c e d v w l).pair };
   }
 
-  pub is_planned : IsAdmissible (wiring s n).rates order → FitsIn (wiring s n).rates cap order → IsPlanned s n seats places order cap
+  pub is_planned : IsAdmissible (wiring s n).rates order → FitsIn (wiring s n).rates cap order →
+      IsPlanned s n seats places order cap
   is_planned admissible fits = record {
     admissible = admissible;
     fits = fits;
@@ -152,9 +181,11 @@ module _ {A S T : Type 0} (s : Steps A S T) (n : Netlist A T) (good : IsNet s n)
     };
     capacities = λ c e d w l.
         let r = rings.each c l in
-        let same = same_Some (producer_of n seats places e d w c) r.producer (sym ((here (wire n c).from.0 e d (good.from_in c l).0).outs_are c w l refl) ∙ r.puts) in
+        let same = same_Some (producer_of n seats places e d w c) r.producer
+        (sym ((here (wire n c).from.0 e d (good.from_in c l).0).outs_are c w l refl) ∙ r.puts) in
         subst (λ p. IsRoomOf (wiring s n).rates cap c (producer_capacity p)) (sym same) r.room;
   }
 
-  pub undone : (a : ℕ) (e : Seat A T S) (d : Stand A T S) → a < length n.nodes → (stand_of n seats places e d a).done ≡ 0
+  pub undone : (a : ℕ) (e : Seat A T S) (d : Stand A T S) → a < length n.nodes →
+      (stand_of n seats places e d a).done ≡ 0
   undone a e d l = (here a e d l).undone

@@ -1,5 +1,6 @@
 -- Where all ends have met, the state of the ring machine that is made of the stands is quiescent.
-use Rattle.std.proofs.Common.{◌≡◌, ◌≢◌, ℕ, zero, suc, ◌+◌, ◌-◌, ◌≤◌, ◌<◌, List, [], ◌∷◌, length, get_or, take, eqb, Some, inl, inr, refl, sym, ap, ◌∙◌, subst, arith, length-drop}
+use Rattle.std.proofs.Common.{◌≡◌, ◌≢◌, ℕ, zero, suc, ◌+◌, ◌-◌, ◌≤◌, ◌<◌, List, [], ◌∷◌, length, get_or, take, eqb}
+use Rattle.std.proofs.Common.{Some, inl, inr, refl, sym, ap, ◌∙◌, subst, arith, length-drop}
 use Rattle.std.specs.Global.{Global}
 use Rattle.std.proofs.lemmas.Bool.Decides.{eqb_tells}
 use Rattle.std.proofs.lemmas.List.{take_all}
@@ -32,25 +33,27 @@ use Rattle.sdf_rings.proofs.Reading.{state_is, a_seat, a_stand, taker, putter, r
 front_times : (a : ℕ) (w : List ℕ) (m : ℕ) → m ≤ times w a → (i : ℕ) × (i ≤ length w) × (times (take i w) a ≡ m)
 front_times a w zero h = (0, omega arith, refl)
 front_times a [] (suc m) h = absurd (omega (arith, h))
-front_times a (b ∷ w) (suc m) h = elim (eqb_tells b a) as (λ _. (i : ℕ) × (i ≤ length (b ∷ w)) × (times (take i (b ∷ w)) a ≡ suc m)) [
-  | inl e ↦
-      let one : bit (eqb b a) ≡ 1 = ap bit e.0 in
-      let all = times_cons b w a in
-      let ih = front_times a w m (omega (arith, h, all, one)) in
-      let more = times_cons b (take ih.0 w) a in
-      let is = ih.2 in
-      (suc ih.0, (let l = ih.1 in omega (arith, l)), omega (arith, more, one, is))
-  | inr e ↦
-      let none : bit (eqb b a) ≡ 0 = ap bit e.0 in
-      let all = times_cons b w a in
-      let ih = front_times a w (suc m) (omega (arith, h, all, none)) in
-      let more = times_cons b (take ih.0 w) a in
-      let is = ih.2 in
-      (suc ih.0, (let l = ih.1 in omega (arith, l)), omega (arith, more, none, is))
-]
+front_times a (b ∷ w) (suc m) h = elim (eqb_tells b a) as (λ _. (i : ℕ) × (i ≤ length (b ∷ w))
+    × (times (take i (b ∷ w)) a ≡ suc m)) [
+      | inl e ↦
+          let one : bit (eqb b a) ≡ 1 = ap bit e.0 in
+          let all = times_cons b w a in
+          let ih = front_times a w m (omega (arith, h, all, one)) in
+          let more = times_cons b (take ih.0 w) a in
+          let is = ih.2 in
+          (suc ih.0, (let l = ih.1 in omega (arith, l)), omega (arith, more, one, is))
+      | inr e ↦
+          let none : bit (eqb b a) ≡ 0 = ap bit e.0 in
+          let all = times_cons b w a in
+          let ih = front_times a w (suc m) (omega (arith, h, all, none)) in
+          let more = times_cons b (take ih.0 w) a in
+          let is = ih.2 in
+          (suc ih.0, (let l = ih.1 in omega (arith, l)), omega (arith, more, none, is))
+    ]
 
 -- what a ring holds, its channel may hold
-held_few : {T : Type 0} (p : Producer T Global AnyItems) (x : Consumer T Global AnyItems) → IsMet p x → length (known_items x) ≤ producer_capacity p
+held_few : {T : Type 0} (p : Producer T Global AnyItems) (x : Consumer T Global AnyItems) → IsMet p x →
+    length (known_items x) ≤ producer_capacity p
 held_few p x met =
     let one : x.capacity ≡ p.capacity = x.reads.2 ∙ (ap (λ (m : _). m.0) met.pair.2 ∙ sym p.writes.2) in
     omega (arith, x.counts, one)
@@ -62,15 +65,20 @@ state_none s (kind.Sink ext size) i state = refl
 state_none s (kind.Inner x) i state = refl
 
 -- the state of an actor at work is that after all that it took
-state_made : {A S T : Type 0} (s : Steps A S T) (inputs : List (List T)) (many : ℕ) (x : Node A) (past : List (List T)) (w : NodeState T S) (state : S) →
+state_made : {A S T : Type 0} (s : Steps A S T) (inputs : List (List T)) (many : ℕ) (x : Node A) (past : List (List T))
+    (w : NodeState T S) (state : S) →
     IsAt s inputs many x past w → ((z : A) → x ≡ kind.Inner z → state_in w ≡ Some state) → IsStateOf s x past state
 state_made s inputs many (kind.Source ext size) past w state at is = tt
 state_made s inputs many (kind.Sink ext size) past w state at is = tt
-state_made s inputs many (kind.Inner z) past w state at is = same_Some state (state_after s z past) (sym (is z refl) ∙ state_is s inputs many z past w at)
+state_made s inputs many (kind.Inner z) past w state at is =
+    same_Some state (state_after s z past) (sym (is z refl) ∙ state_is s inputs many z past w at)
 
-module _ {A S T : Type 0} (s : Steps A S T) (laws : NetLaws s) (n : Netlist A T) (inputs : List (List T)) (seats : List (Seat A T S)) (places : List (ℕ × ℕ))
-    (r : AreRings s (record { net = n; inputs = inputs; seats = seats; places = places })) (met : HaveMet n seats places) (at_rest : AreAtRest s n inputs seats places)
-    (q : List ℕ) (accepted : IsAccepted s n q) (order : List ℕ) (cap : ℕ → ℕ) (plan : IsPlanned s n seats places order cap) (x : Rest S T) (made : IsMadeOf n seats places x) where
+module _ {A S T : Type 0} (s : Steps A S T) (laws : NetLaws s) (n : Netlist A T) (inputs : List (List T))
+    (seats : List (Seat A T S)) (places : List (ℕ × ℕ))
+    (r : AreRings s (record { net = n; inputs = inputs; seats = seats; places = places }))
+    (met : HaveMet n seats places) (at_rest : AreAtRest s n inputs seats places)
+    (q : List ℕ) (accepted : IsAccepted s n q) (order : List ℕ) (cap : ℕ → ℕ)
+    (plan : IsPlanned s n seats places order cap) (x : Rest S T) (made : IsMadeOf n seats places x) where
   at : IsRest s n inputs seats places x.done
   at = rest_at s n inputs seats places r at_rest q accepted x.done (λ a e d l. sym (made.dones a e d l))
 
@@ -79,7 +87,8 @@ module _ {A S T : Type 0} (s : Steps A S T) (laws : NetLaws s) (n : Netlist A T)
   done_few a l =
       let e = a_seat s n inputs seats places r a l in
       let d = a_stand s n inputs seats places r a l in
-      let stand = (r.each (get_or places a (0, 0)).0 e (r.placed.seat_in a l)).each (get_or places a (0, 0)).1 d (r.placed.stand_in a e l) in
+      let stand = (r.each (get_or places a (0, 0)).0 e (r.placed.seat_in a l)).each (get_or places a (0, 0)).1 d
+      (r.placed.stand_in a e l) in
       omega (arith, stand.within, made.dones a e d l, plan.asks.asked a e d l)
 
   module _ (c : ℕ) (l : c < length n.wires) where
@@ -105,9 +114,12 @@ module _ {A S T : Type 0} (s : Steps A S T) (laws : NetLaws s) (n : Netlist A T)
     own_within same =
         let front = front_times a order (x.done a) (done_few a (r.is_net.from_in c l).0) in
         let fits = plan.fits front.0 front.1 c l in
-        let put : (wiring s n).rates.produced c (times (take front.0 order) a) ≡ (wiring s n).rates.produced c (x.done a) = ap ((wiring s n).rates.produced c) front.2 in
-        let taken : (wiring s n).rates.consumed c (times (take front.0 order) b) ≡ (wiring s n).rates.consumed c (x.done b) =
-        subst (λ z. (wiring s n).rates.consumed c (times (take front.0 order) z) ≡ (wiring s n).rates.consumed c (x.done z)) same (ap ((wiring s n).rates.consumed c) front.2) in
+        let put : (wiring s n).rates.produced c (times (take front.0 order) a) ≡
+        (wiring s n).rates.produced c (x.done a) = ap ((wiring s n).rates.produced c) front.2 in
+        let taken : (wiring s n).rates.consumed c (times (take front.0 order) b) ≡
+        (wiring s n).rates.consumed c (x.done b) =
+        subst (λ z. (wiring s n).rates.consumed c (times (take front.0 order) z) ≡
+        (wiring s n).rates.consumed c (x.done z)) same (ap ((wiring s n).rates.consumed c) front.2) in
         omega (arith, long, fits, put, taken)
 
     -- between two actors: a ring holds no more than it takes
@@ -119,14 +131,17 @@ module _ {A S T : Type 0} (s : Steps A S T) (laws : NetLaws s) (n : Netlist A T)
         let db = a_stand s n inputs seats places r b to.0 in
         let w = taker s n inputs seats places r c l eb db in
         let y = putter s n inputs seats places r c l eb db in
-        let few = held_few (producer_of n seats places eb db y c) (consumer_of n seats places eb db w c) (met c eb db w y l) in
+        let few = held_few (producer_of n seats places eb db y c) (consumer_of n seats places eb db w c)
+        (met c eb db w y l) in
         let room = (plan.capacities c eb db y l).between_two apart in
-        let left = ap length (at.left c eb db w l) ∙ length-drop ((wiring s n).rates.consumed c (x.done b)) (at.history c) in
+        let left = ap length (at.left c eb db w l) ∙ length-drop ((wiring s n).rates.consumed c (x.done b))
+        (at.history c) in
         let same = ap length list_is in
         omega (arith, few, room, left, same)
 
     within_one : length (x.lists c) ≤ cap c + (wiring s n).rates.consumed c (x.done b)
-    within_one = elim (eqb_tells a b) as (λ _. length (x.lists c) ≤ cap c + (wiring s n).rates.consumed c (x.done b)) [ inl e ↦ own_within e.1 | inr e ↦ other_within e.1 ]
+    within_one = elim (eqb_tells a b) as (λ _. length (x.lists c) ≤ cap c + (wiring s n).rates.consumed c (x.done b))
+        [ inl e ↦ own_within e.1 | inr e ↦ other_within e.1 ]
 
   pub within : IsWithin s n cap (resting s n x)
   within c l = within_one c l
@@ -142,19 +157,23 @@ module _ {A S T : Type 0} (s : Steps A S T) (laws : NetLaws s) (n : Netlist A T)
         let e = a_seat s n inputs seats places r a l in
         let d = a_stand s n inputs seats places r a l in
         let z = stand_of n seats places e d a in
-        state_made s inputs z.asked (node n a) (taken_before (wiring s n) at.history a (x.done a)) z.state (x.states a) (at.states a e d l) (λ y is. made.states a y e d l is);
-    within = λ c l. subst (λ (v : List T). length v ≤ cap c + (wiring s n).rates.consumed c (x.done (wire n c).to.0)) (list_is c l) (within c l);
+        state_made s inputs z.asked (node n a) (taken_before (wiring s n) at.history a (x.done a)) z.state (x.states a)
+        (at.states a e d l) (λ y is. made.states a y e d l is);
+    within = λ c l. subst (λ (v : List T). length v ≤ cap c + (wiring s n).rates.consumed c (x.done (wire n c).to.0))
+        (list_is c l) (within c l);
   }
 
   grown : HasGrown s n inputs past x
   grown = record {
     more = λ a l. omega arith;
-    kept = λ c l. sym (ap (take (length (at.history c))) (list_is c l) ∙ take_all (length (at.history c)) (at.history c) (omega arith));
+    kept = λ c l. sym (ap (take (length (at.history c))) (list_is c l)
+        ∙ take_all (length (at.history c)) (at.history c) (omega arith));
     lengths = λ c l. long c l;
     enough = λ c l. omega (arith, long c l, at.is.enough c l);
     states = λ a l.
         let none : x.done a - x.done a ≡ 0 = omega arith in
-        sym (ap (λ j. state_on s (node n a) (x.done a) (x.states a) (taken_on (wiring s n) x.lists a (x.done a) j)) none ∙ state_none s (node n a) (x.done a) (x.states a));
+        sym (ap (λ j. state_on s (node n a) (x.done a) (x.states a) (taken_on (wiring s n) x.lists a (x.done a) j)) none
+        ∙ state_none s (node n a) (x.done a) (x.states a));
     puts = λ a j l h. absurd (omega (arith, h));
   }
 

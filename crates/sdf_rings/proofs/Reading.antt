@@ -28,42 +28,51 @@ takes_one s (kind.Sink ext block) e is = omega arith
 takes_one s (kind.Inner x) e is = absurd (none-some e is)
 
 -- an actor at work is in the state after all that it took
-pub state_is : {A S T : Type 0} (s : Steps A S T) (inputs : List (List T)) (many : ℕ) (x : A) (past : List (List T)) (w : NodeState T S) →
+pub state_is : {A S T : Type 0} (s : Steps A S T) (inputs : List (List T)) (many : ℕ) (x : A) (past : List (List T))
+    (w : NodeState T S) →
     IsAt s inputs many (kind.Inner x) past w → state_in w ≡ Some (state_after s x past)
 state_is s inputs many x past (Source next) is = absurd is
 state_is s inputs many x past (Sink list) is = absurd is
 state_is s inputs many x past (Inner j state) is = ap Some is.1
 
 -- a net has a sink, and a sink has a channel
-some_wire : {A S T : Type 0} (s : Steps A S T) (n : Netlist A T) (q : List ℕ) → IsAccepted s n q → IsNet s n → 0 < length n.wires
+some_wire : {A S T : Type 0} (s : Steps A S T) (n : Netlist A T) (q : List ℕ) → IsAccepted s n q → IsNet s n →
+    0 < length n.wires
 some_wire s n q accepted good =
     let found = accepted.lists.outputs 0 accepted.lists.output in
     let l = good.to_all found.0 0 found.1 (takes_one s (node n found.0) 0 found.2) in
     omega arith
 
-module _ {A S T : Type 0} (s : Steps A S T) (n : Netlist A T) (inputs : List (List T)) (seats : List (Seat A T S)) (places : List (ℕ × ℕ))
+module _ {A S T : Type 0} (s : Steps A S T) (n : Netlist A T) (inputs : List (List T)) (seats : List (Seat A T S))
+    (places : List (ℕ × ℕ))
     (r : AreRings s (record { net = n; inputs = inputs; seats = seats; places = places })) where
   -- a seat, a stand and an end to read lists with
   pub a_seat : (a : ℕ) → a < length n.nodes → Seat A T S
   a_seat a l = some seats (get_or places a (0, 0)).0 (r.placed.seat_in a l)
 
   pub a_stand : (a : ℕ) → a < length n.nodes → Stand A T S
-  a_stand a l = some (get_or seats (get_or places a (0, 0)).0 (a_seat a l)).stands.items (get_or places a (0, 0)).1 (vec_in (get_or seats (get_or places a (0, 0)).0 (a_seat a l)).stands (get_or places a (0, 0)).1 (r.placed.stand_in a (a_seat a l) l))
+  a_stand a l = some (get_or seats (get_or places a (0, 0)).0 (a_seat a l)).stands.items (get_or places a (0, 0)).1
+      (vec_in (get_or seats (get_or places a (0, 0)).0 (a_seat a l)).stands (get_or places a (0, 0)).1
+      (r.placed.stand_in a (a_seat a l) l))
 
   pub taker : (c : ℕ) → c < length n.wires → Seat A T S → Stand A T S → Consumer T Global AnyItems
   taker c l e d =
       let to = r.is_net.to_in c l in
       let ins_all = ins_of s n inputs seats places r (wire n c).to.0 e d to.0 in
-      some (stand_of n seats places e d (wire n c).to.0).ins.items (wire n c).to.1 (vec_in (stand_of n seats places e d (wire n c).to.0).ins (wire n c).to.1 (omega (arith, to.1, ins_all)))
+      some (stand_of n seats places e d (wire n c).to.0).ins.items (wire n c).to.1
+      (vec_in (stand_of n seats places e d (wire n c).to.0).ins (wire n c).to.1 (omega (arith, to.1, ins_all)))
 
   pub putter : (c : ℕ) → c < length n.wires → Seat A T S → Stand A T S → Producer T Global AnyItems
   putter c l e d =
       let from = r.is_net.from_in c l in
       let outs_all = outs_of s n inputs seats places r (wire n c).from.0 e d from.0 in
-      some (stand_of n seats places e d (wire n c).from.0).outs.items (wire n c).from.1 (vec_in (stand_of n seats places e d (wire n c).from.0).outs (wire n c).from.1 (omega (arith, from.1, outs_all)))
+      some (stand_of n seats places e d (wire n c).from.0).outs.items (wire n c).from.1
+      (vec_in (stand_of n seats places e d (wire n c).from.0).outs (wire n c).from.1
+      (omega (arith, from.1, outs_all)))
 
   pub rest_at : AreAtRest s n inputs seats places → (q : List ℕ) → IsAccepted s n q → (k : ℕ → ℕ) →
-      ((a : ℕ) (e : Seat A T S) (d : Stand A T S) → a < length n.nodes → (stand_of n seats places e d a).done ≡ k a) → IsRest s n inputs seats places k
+      ((a : ℕ) (e : Seat A T S) (d : Stand A T S) → a < length n.nodes → (stand_of n seats places e d a).done ≡ k a) →
+      IsRest s n inputs seats places k
   rest_at at_rest q accepted k counts =
       let wires : 0 < length n.wires = some_wire s n q accepted r.is_net in
       let from = r.is_net.from_in 0 wires in

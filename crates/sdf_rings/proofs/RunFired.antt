@@ -1,5 +1,6 @@
 -- A run of firings of a node at its ends of rings.
-use Rattle.std.proofs.Common.{◌≡◌, ℕ, zero, suc, ◌+◌, ◌*◌, ◌%◌, ◌≤◌, ◌<◌, ◌⊎◌, inl, inr, List, [], ◌∷◌, ◌++◌, length, get_or, sym, ap, ◌∙◌, subst, arith, vec_len, length-append}
+use Rattle.std.proofs.Common.{◌≡◌, ℕ, zero, suc, ◌+◌, ◌*◌, ◌%◌, ◌≤◌, ◌<◌, ◌⊎◌, inl, inr, List, [], ◌∷◌, ◌++◌, length}
+use Rattle.std.proofs.Common.{get_or, sym, ap, ◌∙◌, subst, arith, vec_len, length-append}
 use Rattle.std.specs.Global.{Global}
 use Rattle.std.specs.List.{between}
 use Rattle.std.specs.declared.vec.Vec.{Vec}
@@ -39,7 +40,8 @@ use Rattle.sdf_rings.proofs.PortBlocks.{sizes_taken, sizes_put, ins_long, consum
 use Rattle.sdf_rings.proofs.Running.{IsManyMore, many_more}
 
 -- the blocks of a port out of those of many firings have its size
-part_long : {T : Type 0} (g : ℕ → ℕ) (p ports size many : ℕ) (xs : List T) → BlocksJoin T → p < ports → size ≡ start_at g ports → length xs ≡ size * many → (i : ℕ) → i < many →
+part_long : {T : Type 0} (g : ℕ → ℕ) (p ports size many : ℕ) (xs : List T) → BlocksJoin T → p < ports →
+    size ≡ start_at g ports → length xs ≡ size * many → (i : ℕ) → i < many →
     length (block_of g p (nth_block size xs i)) ≡ g p
 part_long g p ports size many xs join l size_is long i h =
     let each = (join size many xs long).0 i h in
@@ -47,20 +49,28 @@ part_long g p ports size many xs join l size_is long i h =
     length-between (nth_block size xs i) (start_at g p) (start_at g p + g p) (omega arith) ∙ omega arith
 
 -- so many more are moved
-count_on : {T : Type 0} (moved : ℕ → ℕ) (size from : ℕ) (f : ℕ → List T) (many : ℕ) → ((k : ℕ) → moved (k + 1) ≡ moved k + size) → ((i : ℕ) → i < many → length (f i) ≡ size) →
+count_on : {T : Type 0} (moved : ℕ → ℕ) (size from : ℕ) (f : ℕ → List T) (many : ℕ) →
+    ((k : ℕ) → moved (k + 1) ≡ moved k + size) → ((i : ℕ) → i < many → length (f i) ≡ size) →
     length (joined f many) + moved from ≡ moved (from + many)
-count_on moved size from f zero rise long = let e : from ≡ from + 0 = omega arith in let m = ap moved e in omega (arith, m)
+count_on moved size from f zero rise long = let e : from ≡ from + 0 = omega arith in let m = ap moved e in
+    omega (arith, m)
 count_on moved size from f (suc many) rise long =
     let before = count_on moved size from f many rise (λ i l. long i (omega arith)) in
-    let next : moved (from + suc many) ≡ moved (from + many + 1) = ap moved (let e : from + suc many ≡ from + many + 1 = omega arith in e) in
+    let next : moved (from + suc many) ≡ moved (from + many + 1) =
+    ap moved (let e : from + suc many ≡ from + many + 1 = omega arith in e) in
     omega (arith, before, next, rise (from + many), length-append (joined f many) (f many), long many (omega arith))
 
 -- a node of one phase moves the same in each firing
-module _ {A S T : Type 0} (s : Steps A S T) (n : Netlist A T) (inputs : List (List T)) (x : Stand A T S) (st : IsStand s n inputs x) (one : phase_of s (node n x.actor) ≡ λ i. 0) where
-  pub sizes_same : (side : Side) (rows : List (List ℕ)) → AreRows s side (node n x.actor) rows → (k p : ℕ) → p < ports_of s side (node n x.actor) → sizes s side (node n x.actor) k p ≡ sizes s side (node n x.actor) x.done p
-  sizes_same side rows are k p l = sym (are.each k p l) ∙ ((λ i. get_or (at_phase rows (one i k)) p 0) ∙ ((λ i. get_or (at_phase rows (sym one i x.done)) p 0) ∙ are.each x.done p l))
+module _ {A S T : Type 0} (s : Steps A S T) (n : Netlist A T) (inputs : List (List T)) (x : Stand A T S)
+    (st : IsStand s n inputs x) (one : phase_of s (node n x.actor) ≡ λ i. 0) where
+  pub sizes_same : (side : Side) (rows : List (List ℕ)) → AreRows s side (node n x.actor) rows → (k p : ℕ) →
+      p < ports_of s side (node n x.actor) → sizes s side (node n x.actor) k p ≡ sizes s side (node n x.actor) x.done p
+  sizes_same side rows are k p l = sym (are.each k p l)
+      ∙ ((λ i. get_or (at_phase rows (one i k)) p 0)
+      ∙ ((λ i. get_or (at_phase rows (sym one i x.done)) p 0) ∙ are.each x.done p l))
 
-module _ {A S T : Type 0} (s : Steps A S T) (laws : FiringLaws s) (join : BlocksJoin T) (n : Netlist A T) (good : IsNet s n) (inputs : List (List T)) (x : Stand A T S) (st : IsStand s n inputs x)
+module _ {A S T : Type 0} (s : Steps A S T) (laws : FiringLaws s) (join : BlocksJoin T) (n : Netlist A T)
+    (good : IsNet s n) (inputs : List (List T)) (x : Stand A T S) (st : IsStand s n inputs x)
     (many : ℕ) (can : CanRun s n x many) where
   wired : IsWired (wiring s n)
   wired = laws.wired n good
@@ -86,7 +96,8 @@ module _ {A S T : Type 0} (s : Steps A S T) (laws : FiringLaws s) (join : Blocks
   taken_long : (i : ℕ) → i < x.done → length (taken (wiring s n) st.own x.actor i) ≡ takes_of s (node n x.actor) 0
   taken_long i l =
       let ins : List ℕ = (wiring s n).ins x.actor in
-      let part : ℕ → List T = λ c. between ((wiring s n).rates.consumed c i) ((wiring s n).rates.consumed c (i + 1)) (st.own c) in
+      let part : ℕ → List T = λ c. between ((wiring s n).rates.consumed c i)
+      ((wiring s n).rates.consumed c (i + 1)) (st.own c) in
       let all = ins_long s laws.ports n good wired x.actor st.known in
       length-flat_map part ins ∙ (sym (start_at_all (λ c. length (part c)) ins) ∙
       (start_at_same (λ p. length (part (get_or ins p 0))) g (length ins) (λ p m.
@@ -95,24 +106,32 @@ module _ {A S T : Type 0} (s : Steps A S T) (laws : FiringLaws s) (join : Blocks
       let is = wired.ins_are x.actor p st.known m in
       let before = consumed_in s laws.ports n good wired x.actor st.known p i q in
       let after = consumed_in s laws.ports n good wired x.actor st.known p (i + 1) q in
-      let within : (wiring s n).rates.consumed c (i + 1) ≤ (wiring s n).rates.consumed c x.done = wired.sound.consumed_rises c (i + 1) x.done (omega arith) in
+      let within : (wiring s n).rates.consumed c (i + 1) ≤ (wiring s n).rates.consumed c x.done =
+      wired.sound.consumed_rises c (i + 1) x.done (omega arith) in
       let got = st.local.got c is.0 is.1 in
       let same = sizes_same s n inputs x st one Input _ st.takes i p q in
-      length-between (st.own c) ((wiring s n).rates.consumed c i) ((wiring s n).rates.consumed c (i + 1)) (omega (arith, within, got)) ∙ omega (arith, before, after, same)) ∙
+      length-between (st.own c) ((wiring s n).rates.consumed c i) ((wiring s n).rates.consumed c (i + 1))
+      (omega (arith, within, got)) ∙ omega (arith, before, after, same)) ∙
       (ap (start_at g) all ∙ sym in_all)))
 
-  whole_to : (k : ℕ) → k ≤ x.done → (i : ℕ) → i < length (taken_before (wiring s n) st.own x.actor k) → length (get_or (taken_before (wiring s n) st.own x.actor k) i []) ≡ takes_of s (node n x.actor) 0
+  whole_to : (k : ℕ) → k ≤ x.done → (i : ℕ) → i < length (taken_before (wiring s n) st.own x.actor k) →
+      length (get_or (taken_before (wiring s n) st.own x.actor k) i []) ≡ takes_of s (node n x.actor) 0
   whole_to zero le i l = absurd (omega arith)
-  whole_to (suc k) le i l = go (λ less. whole_to k (omega arith) i less) (taken_long k (omega arith)) (cases_lt i (length (taken_before (wiring s n) st.own x.actor k)))
+  whole_to (suc k) le i l = go (λ less. whole_to k (omega arith) i less) (taken_long k (omega arith))
+      (cases_lt i (length (taken_before (wiring s n) st.own x.actor k)))
     where
-      go : (i < length (taken_before (wiring s n) st.own x.actor k) → length (get_or (taken_before (wiring s n) st.own x.actor k) i []) ≡ takes_of s (node n x.actor) 0) →
+      go : (i < length (taken_before (wiring s n) st.own x.actor k) →
+          length (get_or (taken_before (wiring s n) st.own x.actor k) i []) ≡ takes_of s (node n x.actor) 0) →
           length (taken (wiring s n) st.own x.actor k) ≡ takes_of s (node n x.actor) 0 →
-          (i < length (taken_before (wiring s n) st.own x.actor k)) ⊎ (length (taken_before (wiring s n) st.own x.actor k) ≤ i) →
+          (i < length (taken_before (wiring s n) st.own x.actor k))
+          ⊎ (length (taken_before (wiring s n) st.own x.actor k) ≤ i) →
           length (get_or (taken_before (wiring s n) st.own x.actor (suc k)) i []) ≡ takes_of s (node n x.actor) 0
-      go before last (inl less) = ap length (get_or_append_left (taken_before (wiring s n) st.own x.actor k) (taken (wiring s n) st.own x.actor k ∷ []) [] i less) ∙ before less
+      go before last (inl less) = ap length (get_or_append_left (taken_before (wiring s n) st.own x.actor k)
+          (taken (wiring s n) st.own x.actor k ∷ []) [] i less) ∙ before less
       go before last (inr above) =
           let count = length_push (taken_before (wiring s n) st.own x.actor k) (taken (wiring s n) st.own x.actor k) in
-          ap length (get_or_push (taken_before (wiring s n) st.own x.actor k) (taken (wiring s n) st.own x.actor k) [] i (omega (arith, count))) ∙ last
+          ap length (get_or_push (taken_before (wiring s n) st.own x.actor k) (taken (wiring s n) st.own x.actor k) [] i
+          (omega (arith, count))) ∙ last
 
   pub whole : AreWhole s (node n x.actor) past
   whole = whole_to x.done (omega arith)
@@ -120,7 +139,8 @@ module _ {A S T : Type 0} (s : Steps A S T) (laws : FiringLaws s) (join : Blocks
   pub past_long : length past ≡ x.done
   past_long = length_taken_before (wiring s n) st.own x.actor x.done
 
-  rise_in : (p : ℕ) → p < inputs_of s (node n x.actor) → (k : ℕ) → moved_at s Input (node n x.actor) p (k + 1) ≡ moved_at s Input (node n x.actor) p k + g p
+  rise_in : (p : ℕ) → p < inputs_of s (node n x.actor) → (k : ℕ) →
+      moved_at s Input (node n x.actor) p (k + 1) ≡ moved_at s Input (node n x.actor) p k + g p
   rise_in p l k =
       let c : ℕ = get_or ((wiring s n).ins x.actor) p 0 in
       let up = wired.sound.consumed_rises c k (k + 1) (omega arith) in
@@ -129,7 +149,8 @@ module _ {A S T : Type 0} (s : Steps A S T) (laws : FiringLaws s) (join : Blocks
       let same = sizes_same s n inputs x st one Input _ st.takes k p l in
       omega (arith, up, before, after, same)
 
-  rise_out : (p : ℕ) → p < outputs_of s (node n x.actor) → (k : ℕ) → moved_at s Output (node n x.actor) p (k + 1) ≡ moved_at s Output (node n x.actor) p k + h p
+  rise_out : (p : ℕ) → p < outputs_of s (node n x.actor) → (k : ℕ) →
+      moved_at s Output (node n x.actor) p (k + 1) ≡ moved_at s Output (node n x.actor) p k + h p
   rise_out p l k =
       let c : ℕ = get_or ((wiring s n).outs x.actor) p 0 in
       let up = wired.sound.produced_rises c k (k + 1) (omega arith) in
@@ -144,137 +165,222 @@ module _ {A S T : Type 0} (s : Steps A S T) (laws : FiringLaws s) (join : Blocks
     zero_phase = sym (phase_is s keep n inputs x st ∙ (λ k. one k x.done))
 
     module _ (z : Node A) (z_is : z ≡ node n x.actor) (size : ℕ) (row : List ℕ) where
-      pub in_size : size ≡ takes_of s z 0 → row ≡ at_phase (lists x.takes.items) 0 → (ports : ℕ) → ports ≡ inputs_of s (node n x.actor) → size ≡ start_at (λ p. get_or row p 0) ports
+      pub in_size : size ≡ takes_of s z 0 → row ≡ at_phase (lists x.takes.items) 0 → (ports : ℕ) →
+          ports ≡ inputs_of s (node n x.actor) → size ≡ start_at (λ p. get_or row p 0) ports
       in_size size_is row_is ports all =
-          size_is ∙ (ap (λ v. takes_of s v 0) z_is ∙ (in_all ∙ (sym (row_sum s keep n inputs x st Input (lists x.takes.items) st.takes 0 zero_phase row row_is) ∙ ap (start_at (λ p. get_or row p 0)) (sym all))))
+          size_is ∙ (ap (λ v. takes_of s v 0) z_is ∙ (in_all
+          ∙ (sym (row_sum s keep n inputs x st Input (lists x.takes.items) st.takes 0 zero_phase row row_is)
+          ∙ ap (start_at (λ p. get_or row p 0)) (sym all))))
 
-      pub out_size : size ≡ puts_of s z 0 → row ≡ at_phase (lists x.puts.items) 0 → (ports : ℕ) → ports ≡ outputs_of s (node n x.actor) → size ≡ start_at (λ p. get_or row p 0) ports
+      pub out_size : size ≡ puts_of s z 0 → row ≡ at_phase (lists x.puts.items) 0 → (ports : ℕ) →
+          ports ≡ outputs_of s (node n x.actor) → size ≡ start_at (λ p. get_or row p 0) ports
       out_size size_is row_is ports all =
-          size_is ∙ (ap (λ v. puts_of s v 0) z_is ∙ (out_all ∙ (sym (row_sum s keep n inputs x st Output (lists x.puts.items) st.puts 0 zero_phase row row_is) ∙ ap (start_at (λ p. get_or row p 0)) (sym all))))
+          size_is ∙ (ap (λ v. puts_of s v 0) z_is ∙ (out_all
+          ∙ (sym (row_sum s keep n inputs x st Output (lists x.puts.items) st.puts 0 zero_phase row row_is)
+          ∙ ap (start_at (λ p. get_or row p 0)) (sym all))))
 
-    pub holds_run : (row : List ℕ) → row ≡ at_phase (lists x.takes.items) 0 → (ends : List (Consumer T Global AnyItems)) → ends ≡ x.ins.items → HoldsEach (λ i. many * get_or row i 0) ends
+    pub holds_run : (row : List ℕ) → row ≡ at_phase (lists x.takes.items) 0 →
+        (ends : List (Consumer T Global AnyItems)) → ends ≡ x.ins.items → HoldsEach (λ i. many * get_or row i 0) ends
     holds_run row row_is ends ends_is = subst (HoldsEach (λ i. many * get_or row i 0)) (sym ends_is) (λ i d h.
-        let size = ap (λ v. many * v) (row_size s keep n inputs x st Input (lists x.takes.items) st.takes 0 zero_phase row row_is i (omega (arith, st.ins_all))) in
+        let size = ap (λ v. many * v) (row_size s keep n inputs x st Input (lists x.takes.items) st.takes 0 zero_phase
+        row row_is i (omega (arith, st.ins_all))) in
         let l = can.holds i d h in
         omega (arith, size, l))
 
-    pub room_run : (row : List ℕ) → row ≡ at_phase (lists x.puts.items) 0 → (ends : List (Producer T Global AnyItems)) → ends ≡ x.outs.items → HasRoomEach (λ i. many * get_or row i 0) ends
+    pub room_run : (row : List ℕ) → row ≡ at_phase (lists x.puts.items) 0 → (ends : List (Producer T Global AnyItems)) →
+        ends ≡ x.outs.items → HasRoomEach (λ i. many * get_or row i 0) ends
     room_run row row_is ends ends_is = subst (HasRoomEach (λ i. many * get_or row i 0)) (sym ends_is) (λ i d h.
-        let size = ap (λ v. many * v) (row_size s keep n inputs x st Output (lists x.puts.items) st.puts 0 zero_phase row row_is i (omega (arith, st.outs_all))) in
+        let size = ap (λ v. many * v) (row_size s keep n inputs x st Output (lists x.puts.items) st.puts 0 zero_phase
+        row row_is i (omega (arith, st.outs_all))) in
         let l = can.has_room i d h in
         omega (arith, size, l))
 
     -- what moved by the rows is what the firings move
-    pub drew_run : (row : List ℕ) → row ≡ at_phase (lists x.takes.items) 0 → (size : ℕ) → size ≡ takes_of s (node n x.actor) 0 → (ends after : List (Consumer T Global AnyItems)) → ends ≡ x.ins.items → (t : List T) →
+    pub drew_run : (row : List ℕ) → row ≡ at_phase (lists x.takes.items) 0 → (size : ℕ) →
+        size ≡ takes_of s (node n x.actor) 0 → (ends after : List (Consumer T Global AnyItems)) → ends ≡ x.ins.items →
+        (t : List T) →
         DrewEach ends after (λ p. joined (λ i. block_of (λ q. get_or row q 0) p (nth_block size t i)) many) →
-        DrewEach x.ins.items after (λ p. joined (λ i. block_of g p (nth_block (takes_of s (node n x.actor) 0) t i)) many)
+        DrewEach x.ins.items after (λ p. joined (λ i. block_of g p
+        (nth_block (takes_of s (node n x.actor) 0) t i)) many)
     drew_run row row_is size size_is ends after ends_is t all = λ p d h.
         subst (Drew (get_or x.ins.items p d) (get_or after p d))
-        (same_joined (λ i. block_of (λ q. get_or row q 0) p (nth_block size t i)) (λ i. block_of g p (nth_block (takes_of s (node n x.actor) 0) t i)) many (λ i l.
-        row_part s keep n inputs x st Input (lists x.takes.items) st.takes 0 zero_phase row row_is p (nth_block size t i) (omega (arith, st.ins_all)) ∙ ap (λ m. block_of g p (nth_block m t i)) size_is))
-        (subst (λ es. DrewEach es after (λ r. joined (λ i. block_of (λ q. get_or row q 0) r (nth_block size t i)) many)) ends_is all p d h)
+        (same_joined (λ i. block_of (λ q. get_or row q 0) p (nth_block size t i))
+        (λ i. block_of g p (nth_block (takes_of s (node n x.actor) 0) t i)) many (λ i l.
+        row_part s keep n inputs x st Input (lists x.takes.items) st.takes 0 zero_phase row row_is p
+        (nth_block size t i) (omega (arith, st.ins_all)) ∙ ap (λ m. block_of g p (nth_block m t i)) size_is))
+        (subst (λ es. DrewEach es after (λ r. joined (λ i. block_of (λ q. get_or row q 0) r (nth_block size t i)) many))
+        ends_is all p d h)
 
-    pub gave_run : (row : List ℕ) → row ≡ at_phase (lists x.puts.items) 0 → (size : ℕ) → size ≡ puts_of s (node n x.actor) 0 → (ends after : List (Producer T Global AnyItems)) → ends ≡ x.outs.items → (b : List T) →
+    pub gave_run : (row : List ℕ) → row ≡ at_phase (lists x.puts.items) 0 → (size : ℕ) →
+        size ≡ puts_of s (node n x.actor) 0 → (ends after : List (Producer T Global AnyItems)) → ends ≡ x.outs.items →
+        (b : List T) →
         GaveEach ends after (λ p. joined (λ i. block_of (λ q. get_or row q 0) p (nth_block size b i)) many) →
-        GaveEach x.outs.items after (λ p. joined (λ i. block_of h p (nth_block (puts_of s (node n x.actor) 0) b i)) many)
+        GaveEach x.outs.items after (λ p. joined (λ i. block_of h p
+        (nth_block (puts_of s (node n x.actor) 0) b i)) many)
     gave_run row row_is size size_is ends after ends_is b all = λ p d l.
         subst (Gave (get_or x.outs.items p d) (get_or after p d))
-        (same_joined (λ i. block_of (λ q. get_or row q 0) p (nth_block size b i)) (λ i. block_of h p (nth_block (puts_of s (node n x.actor) 0) b i)) many (λ i m.
-        row_part s keep n inputs x st Output (lists x.puts.items) st.puts 0 zero_phase row row_is p (nth_block size b i) (omega (arith, st.outs_all)) ∙ ap (λ k. block_of h p (nth_block k b i)) size_is))
-        (subst (λ es. GaveEach es after (λ r. joined (λ i. block_of (λ q. get_or row q 0) r (nth_block size b i)) many)) ends_is all p d l)
+        (same_joined (λ i. block_of (λ q. get_or row q 0) p (nth_block size b i))
+        (λ i. block_of h p (nth_block (puts_of s (node n x.actor) 0) b i)) many (λ i m.
+        row_part s keep n inputs x st Output (lists x.puts.items) st.puts 0 zero_phase row row_is p (nth_block size b i)
+        (omega (arith, st.outs_all)) ∙ ap (λ k. block_of h p (nth_block k b i)) size_is))
+        (subst (λ es. GaveEach es after (λ r. joined (λ i. block_of (λ q. get_or row q 0) r (nth_block size b i)) many))
+        ends_is all p d l)
 
-  pub can_step_run : NodesCanStepMany s → (z : Node A) → z ≡ node n x.actor → (size made all put : ℕ) → size ≡ takes_of s z 0 → made ≡ puts_of s z 0 → all ≡ size * many → put ≡ made * many →
+  pub can_step_run : NodesCanStepMany s → (z : Node A) → z ≡ node n x.actor → (size made all put : ℕ) →
+      size ≡ takes_of s z 0 → made ≡ puts_of s z 0 → all ≡ size * many → put ≡ made * many →
       CanStepMany s inputs z x.state many all put
   can_step_run can_many z z_is size made all put size_is made_is all_is put_is =
       subst (λ m. CanStepMany s inputs z x.state many m put) (ap (λ m. m * many) (sym size_is) ∙ sym all_is)
-      (subst (λ m. CanStepMany s inputs z x.state many (takes_of s z 0 * many) m) (ap (λ m. m * many) (sym made_is) ∙ sym put_is)
+      (subst (λ m. CanStepMany s inputs z x.state many (takes_of s z 0 * many) m)
+      (ap (λ m. m * many) (sym made_is) ∙ sym put_is)
       (subst (λ v. CanStepMany s inputs v x.state many (takes_of s v 0 * many) (puts_of s v 0 * many)) (sym z_is)
-      (can_many inputs (node n x.actor) x.asked many past x.state st.at can.goes.one_phase (omega (arith, past_long, can.left)))))
+      (can_many inputs (node n x.actor) x.asked many past x.state st.at can.goes.one_phase
+      (omega (arith, past_long, can.left)))))
 
-  pub taken_within : (z : Node A) → z ≡ node n x.actor → (size : ℕ) → size ≡ takes_of s z 0 → size * many ≤ length x.taken.items
-  taken_within z z_is size size_is = let e : size * many ≡ takes_of s (node n x.actor) 0 * many = ap (λ m. m * many) (size_is ∙ ap (λ v. takes_of s v 0) z_is) in omega (arith, e, can.taken_fits)
+  pub taken_within : (z : Node A) → z ≡ node n x.actor → (size : ℕ) → size ≡ takes_of s z 0 →
+      size * many ≤ length x.taken.items
+  taken_within z z_is size size_is = let e : size * many ≡ takes_of s (node n x.actor) 0 * many =
+      ap (λ m. m * many) (size_is ∙ ap (λ v. takes_of s v 0) z_is) in omega (arith, e, can.taken_fits)
 
-  pub put_within : (z : Node A) → z ≡ node n x.actor → (size : ℕ) → size ≡ puts_of s z 0 → size * many ≤ length x.put.items
-  put_within z z_is size size_is = let e : size * many ≡ puts_of s (node n x.actor) 0 * many = ap (λ m. m * many) (size_is ∙ ap (λ v. puts_of s v 0) z_is) in omega (arith, e, can.put_fits)
+  pub put_within : (z : Node A) → z ≡ node n x.actor → (size : ℕ) → size ≡ puts_of s z 0 →
+      size * many ≤ length x.put.items
+  put_within z z_is size size_is = let e : size * many ≡ puts_of s (node n x.actor) 0 * many =
+      ap (λ m. m * many) (size_is ∙ ap (λ v. puts_of s v 0) z_is) in omega (arith, e, can.put_fits)
 
-  module _ (t b : List T) (t_long : length t ≡ takes_of s (node n x.actor) 0 * many) (b_long : length b ≡ puts_of s (node n x.actor) 0 * many)
+  module _ (t b : List T) (t_long : length t ≡ takes_of s (node n x.actor) 0 * many)
+      (b_long : length b ≡ puts_of s (node n x.actor) 0 * many)
       (w : NodeState T S)
-      (moved : (all : ℕ) (past : List (List T)) → IsAt s inputs all (node n x.actor) past x.state → IsAt s inputs all (node n x.actor) (past ++ listed (nth_block (takes_of s (node n x.actor) 0) t) many) w)
-      (puts : (all : ℕ) (past : List (List T)) → IsAt s inputs all (node n x.actor) past x.state → AreWhole s (node n x.actor) past → (i : ℕ) → i < many →
+      (moved : (all : ℕ) (past : List (List T)) → IsAt s inputs all (node n x.actor) past x.state →
+      IsAt s inputs all (node n x.actor) (past ++ listed (nth_block (takes_of s (node n x.actor) 0) t) many) w)
+      (puts : (all : ℕ) (past : List (List T)) → IsAt s inputs all (node n x.actor) past x.state →
+      AreWhole s (node n x.actor) past → (i : ℕ) → i < many →
       nth_block (puts_of s (node n x.actor) 0) b i ≡
-      answer_of s inputs (node n x.actor) (past ++ listed (nth_block (takes_of s (node n x.actor) 0) t) i) (nth_block (takes_of s (node n x.actor) 0) t i)) where
-    more : (W : ℕ → List T) × IsManyMore s n inputs x.actor x.done g h st.own W (nth_block (takes_of s (node n x.actor) 0) t) (nth_block (puts_of s (node n x.actor) 0) b) many
+      answer_of s inputs (node n x.actor) (past ++ listed (nth_block (takes_of s (node n x.actor) 0) t) i)
+      (nth_block (takes_of s (node n x.actor) 0) t i)) where
+    more : (W : ℕ → List T) × IsManyMore s n inputs x.actor x.done g h st.own W
+        (nth_block (takes_of s (node n x.actor) 0) t) (nth_block (puts_of s (node n x.actor) 0) b) many
     more =
-        many_more s laws n good inputs x.actor st.known can.goes.apart g h (sizes_same s n inputs x st one Input _ st.takes) (sizes_same s n inputs x st one Output _ st.puts)
-        x.done st.own st.local (nth_block (takes_of s (node n x.actor) 0) t) (nth_block (puts_of s (node n x.actor) 0) b) many
-        (λ i l. (join (takes_of s (node n x.actor) 0) many t t_long).0 i l ∙ in_all) (λ i l. (join (puts_of s (node n x.actor) 0) many b b_long).0 i l ∙ out_all)
+        many_more s laws n good inputs x.actor st.known can.goes.apart g h
+        (sizes_same s n inputs x st one Input _ st.takes) (sizes_same s n inputs x st one Output _ st.puts)
+        x.done st.own st.local (nth_block (takes_of s (node n x.actor) 0) t)
+        (nth_block (puts_of s (node n x.actor) 0) b) many
+        (λ i l. (join (takes_of s (node n x.actor) 0) many t t_long).0 i l ∙ in_all)
+        (λ i l. (join (puts_of s (node n x.actor) 0) many b b_long).0 i l ∙ out_all)
         (puts x.asked past st.at whole)
 
-    on : HasGoneOn s n inputs x st.own more.0 many (λ p. joined (λ i. block_of g p (nth_block (takes_of s (node n x.actor) 0) t i)) many) (λ p. joined (λ i. block_of h p (nth_block (puts_of s (node n x.actor) 0) b i)) many)
+    on : HasGoneOn s n inputs x st.own more.0 many
+        (λ p. joined (λ i. block_of g p (nth_block (takes_of s (node n x.actor) 0) t i)) many)
+        (λ p. joined (λ i. block_of h p (nth_block (puts_of s (node n x.actor) 0) b i)) many)
     on = record {
       local = more.1.local;
       into = more.1.into;
       out = more.1.out;
-      taken_count = λ p l. count_on (moved_at s Input (node n x.actor) p) (g p) x.done (λ i. block_of g p (nth_block (takes_of s (node n x.actor) 0) t i)) many (rise_in p l)
+      taken_count = λ p l. count_on (moved_at s Input (node n x.actor) p) (g p) x.done
+          (λ i. block_of g p (nth_block (takes_of s (node n x.actor) 0) t i)) many (rise_in p l)
           (part_long g p (inputs_of s (node n x.actor)) (takes_of s (node n x.actor) 0) many t join l in_all t_long);
-      put_count = λ p l. count_on (moved_at s Output (node n x.actor) p) (h p) x.done (λ i. block_of h p (nth_block (puts_of s (node n x.actor) 0) b i)) many (rise_out p l)
+      put_count = λ p l. count_on (moved_at s Output (node n x.actor) p) (h p) x.done
+          (λ i. block_of h p (nth_block (puts_of s (node n x.actor) 0) b i)) many (rise_out p l)
           (part_long h p (outputs_of s (node n x.actor)) (puts_of s (node n x.actor) 0) many b join l out_all b_long);
     }
 
-    pub run_fired : (ins : Vec (Consumer T Global AnyItems) Global) (outs : Vec (Producer T Global AnyItems) Global) (tv pv : Vec T Global) →
-        DrewEach x.ins.items ins.items (λ p. joined (λ i. block_of g p (nth_block (takes_of s (node n x.actor) 0) t i)) many) →
-        GaveEach x.outs.items outs.items (λ p. joined (λ i. block_of h p (nth_block (puts_of s (node n x.actor) 0) b i)) many) →
-        vec_len ins ≡ vec_len x.ins → vec_len outs ≡ vec_len x.outs → length tv.items ≡ length x.taken.items → length pv.items ≡ length x.put.items →
-        IsStand s n inputs (record { actor = x.actor; state = w; ins = ins; outs = outs; takes = x.takes; puts = x.puts; taken = tv; put = pv; done = x.done + many; asked = x.asked }) ×
-        HasMoved s n x (record { actor = x.actor; state = w; ins = ins; outs = outs; takes = x.takes; puts = x.puts; taken = tv; put = pv; done = x.done + many; asked = x.asked })
+    pub run_fired : (ins : Vec (Consumer T Global AnyItems) Global) (outs : Vec (Producer T Global AnyItems) Global)
+        (tv pv : Vec T Global) →
+        DrewEach x.ins.items ins.items (λ p. joined (λ i. block_of g p
+        (nth_block (takes_of s (node n x.actor) 0) t i)) many) →
+        GaveEach x.outs.items outs.items (λ p. joined
+        (λ i. block_of h p (nth_block (puts_of s (node n x.actor) 0) b i)) many) →
+        vec_len ins ≡ vec_len x.ins → vec_len outs ≡ vec_len x.outs → length tv.items ≡ length x.taken.items →
+        length pv.items ≡ length x.put.items →
+        IsStand s n inputs (record {
+          actor = x.actor;
+          state = w;
+          ins = ins;
+          outs = outs;
+          takes = x.takes;
+          puts = x.puts;
+          taken = tv;
+          put = pv;
+          done = x.done + many;
+          asked = x.asked;
+        }) ×
+        HasMoved s n x (record {
+          actor = x.actor;
+          state = w;
+          ins = ins;
+          outs = outs;
+          takes = x.takes;
+          puts = x.puts;
+          taken = tv;
+          put = pv;
+          done = x.done + many;
+          asked = x.asked;
+        })
     run_fired ins outs tv pv drew gave ins_is outs_is tv_is pv_is =
         gone_on s laws n good inputs x st many can.left more.0
-        (λ p. joined (λ i. block_of g p (nth_block (takes_of s (node n x.actor) 0) t i)) many) (λ p. joined (λ i. block_of h p (nth_block (puts_of s (node n x.actor) 0) b i)) many) on
-        w (subst (λ p. IsAt s inputs x.asked (node n x.actor) p w) (sym more.1.past) (moved x.asked past st.at)) ins outs tv pv drew gave ins_is outs_is tv_is pv_is
+        (λ p. joined (λ i. block_of g p (nth_block (takes_of s (node n x.actor) 0) t i)) many)
+        (λ p. joined (λ i. block_of h p (nth_block (puts_of s (node n x.actor) 0) b i)) many) on
+        w (subst (λ p. IsAt s inputs x.asked (node n x.actor) p w) (sym more.1.past) (moved x.asked past st.at)) ins
+        outs tv pv drew gave ins_is outs_is tv_is pv_is
 
 -- as many firings can run as each of the tests leaves
-module _ {A S T : Type 0} (s : Steps A S T) (keep : NodesKeepPhase s) (n : Netlist A T) (inputs : List (List T)) (x : Stand A T S) (st : IsStand s n inputs x) (goes : GoesInRuns s n x.actor)
-    (z : Node A) (z_is : z ≡ node n x.actor) (takes puts : List ℕ) (takes_is : takes ≡ at_phase (lists x.takes.items) 0) (puts_is : puts ≡ at_phase (lists x.puts.items) 0) where
+module _ {A S T : Type 0} (s : Steps A S T) (keep : NodesKeepPhase s) (n : Netlist A T) (inputs : List (List T))
+    (x : Stand A T S) (st : IsStand s n inputs x) (goes : GoesInRuns s n x.actor)
+    (z : Node A) (z_is : z ≡ node n x.actor) (takes puts : List ℕ) (takes_is : takes ≡ at_phase (lists x.takes.items) 0)
+    (puts_is : puts ≡ at_phase (lists x.puts.items) 0) where
   at_zero : (i : ℕ) → phase_of s (node n x.actor) i ≡ 0
   at_zero i = ap (λ c. i % c) goes.one_phase ∙ mod-one i
 
   first : 0 ≡ phase_at x.state
   first = sym (phase_is s keep n inputs x st ∙ at_zero x.done)
 
-  pub can_run : (size made by_taken by_put held free most : ℕ) → size ≡ takes_of s z 0 → made ≡ puts_of s z 0 → x.done + most ≤ x.asked → by_taken ≤ most → by_taken * size ≤ length x.taken.items → by_put ≤ by_taken → by_put * made ≤ length x.put.items →
-      held ≤ by_put → free ≤ held → (ins : List (Consumer T Global AnyItems)) → ins ≡ x.ins.items → HoldsEach (λ i. held * get_or takes i 0) ins → (outs : List (Producer T Global AnyItems)) → outs ≡ x.outs.items → HasRoomEach (λ i. free * get_or puts i 0) outs →
+  pub can_run : (size made by_taken by_put held free most : ℕ) → size ≡ takes_of s z 0 → made ≡ puts_of s z 0 →
+      x.done + most ≤ x.asked → by_taken ≤ most → by_taken * size ≤ length x.taken.items → by_put ≤ by_taken →
+      by_put * made ≤ length x.put.items →
+      held ≤ by_put → free ≤ held → (ins : List (Consumer T Global AnyItems)) → ins ≡ x.ins.items →
+      HoldsEach (λ i. held * get_or takes i 0) ins → (outs : List (Producer T Global AnyItems)) → outs ≡ x.outs.items →
+      HasRoomEach (λ i. free * get_or puts i 0) outs →
       CanRun s n x free
-  can_run size made by_taken by_put held free most size_is made_is left a taken b put c d ins ins_is holds outs outs_is room = record {
-    goes = goes;
-    left = omega arith;
-    holds = λ i e h.
-        let row = row_size s keep n inputs x st Input (lists x.takes.items) st.takes 0 first takes takes_is i (omega (arith, st.ins_all)) in
-        let there = subst (HoldsEach (λ i. held * get_or takes i 0)) ins_is holds i e h in
-        let few = few_kept free held (get_or takes i 0) _ d there in
-        let same = ap (λ v. free * v) row in
-        omega (arith, same, few);
-    has_room = λ i e h.
-        let row = row_size s keep n inputs x st Output (lists x.puts.items) st.puts 0 first puts puts_is i (omega (arith, st.outs_all)) in
-        let there = subst (HasRoomEach (λ i. free * get_or puts i 0)) outs_is room i e h in
-        let same = ap (λ v. free * v) row in
-        omega (arith, same, there);
-    taken_fits =
-        let few = few_kept free by_taken size _ (omega arith) taken in
-        let same : takes_of s (node n x.actor) 0 * free ≡ free * size = mul_comm (takes_of s (node n x.actor) 0) free ∙ ap (λ v. free * v) (sym (size_is ∙ ap (λ v. takes_of s v 0) z_is)) in
-        omega (arith, same, few);
-    put_fits =
-        let few = few_kept free by_put made _ (omega arith) put in
-        let same : puts_of s (node n x.actor) 0 * free ≡ free * made = mul_comm (puts_of s (node n x.actor) 0) free ∙ ap (λ v. free * v) (sym (made_is ∙ ap (λ v. puts_of s v 0) z_is)) in
-        omega (arith, same, few);
-  }
+  can_run size made by_taken by_put held free most size_is made_is left a taken b put c d ins ins_is holds outs outs_is
+      room = record {
+        goes = goes;
+        left = omega arith;
+        holds = λ i e h.
+            let row = row_size s keep n inputs x st Input (lists x.takes.items) st.takes 0 first takes takes_is i
+            (omega (arith, st.ins_all)) in
+            let there = subst (HoldsEach (λ i. held * get_or takes i 0)) ins_is holds i e h in
+            let few = few_kept free held (get_or takes i 0) _ d there in
+            let same = ap (λ v. free * v) row in
+            omega (arith, same, few);
+        has_room = λ i e h.
+            let row = row_size s keep n inputs x st Output (lists x.puts.items) st.puts 0 first puts puts_is i
+            (omega (arith, st.outs_all)) in
+            let there = subst (HasRoomEach (λ i. free * get_or puts i 0)) outs_is room i e h in
+            let same = ap (λ v. free * v) row in
+            omega (arith, same, there);
+        taken_fits =
+            let few = few_kept free by_taken size _ (omega arith) taken in
+            let same : takes_of s (node n x.actor) 0 * free ≡ free * size =
+            mul_comm (takes_of s (node n x.actor) 0) free
+            ∙ ap (λ v. free * v) (sym (size_is ∙ ap (λ v. takes_of s v 0) z_is)) in
+            omega (arith, same, few);
+        put_fits =
+            let few = few_kept free by_put made _ (omega arith) put in
+            let same : puts_of s (node n x.actor) 0 * free ≡ free * made =
+            mul_comm (puts_of s (node n x.actor) 0) free
+            ∙ ap (λ v. free * v) (sym (made_is ∙ ap (λ v. puts_of s v 0) z_is)) in
+            omega (arith, same, few);
+      }
 
 -- fewer firings can run too
-pub fewer_run : {A S T : Type 0} (s : Steps A S T) (n : Netlist A T) (x : Stand A T S) (few many : ℕ) → few ≤ many → CanRun s n x many → CanRun s n x few
+pub fewer_run : {A S T : Type 0} (s : Steps A S T) (n : Netlist A T) (x : Stand A T S) (few many : ℕ) → few ≤ many →
+    CanRun s n x many → CanRun s n x few
 fewer_run s n x few many l can = record {
   goes = can.goes;
   left = let a = can.left in omega arith;
   holds = λ i d h. few_kept few many (sizes s Input (node n x.actor) x.done i) _ l (can.holds i d h);
   has_room = λ i d h. few_kept few many (sizes s Output (node n x.actor) x.done i) _ l (can.has_room i d h);
-  taken_fits = let a = can.taken_fits in let m : takes_of s (node n x.actor) 0 * few ≤ takes_of s (node n x.actor) 0 * many = mul-le-mul_left _ l in omega arith;
-  put_fits = let a = can.put_fits in let m : puts_of s (node n x.actor) 0 * few ≤ puts_of s (node n x.actor) 0 * many = mul-le-mul_left _ l in omega arith;
+  taken_fits = let a = can.taken_fits in let m : takes_of s (node n x.actor) 0 * few ≤
+      takes_of s (node n x.actor) 0 * many = mul-le-mul_left _ l in omega arith;
+  put_fits = let a = can.put_fits in let m : puts_of s (node n x.actor) 0 * few ≤ puts_of s (node n x.actor) 0 * many =
+      mul-le-mul_left _ l in omega arith;
 }

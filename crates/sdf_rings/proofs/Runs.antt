@@ -7,7 +7,8 @@ use Rattle.sdf_actor.specs.Steps.{Steps}
 use Rattle.sdf_actor.specs.Nets.{Netlist, wiring, IsHistoryOf}
 use Rattle.sdf_actor.specs.Laws.{HistoryExists}
 use Rattle.sdf_rings.specs.Machine.{Event, at_start}
-use Rattle.sdf_rings.specs.MachineLaws.{Plan, IsPlan, IsRunOf, firings, capacity, reached, RunsPutPrefixes, RunsKeepWithin, RunsEndInHistories}
+use Rattle.sdf_rings.specs.MachineLaws.{Plan, IsPlan, IsRunOf, firings, capacity, reached, RunsPutPrefixes}
+use Rattle.sdf_rings.specs.MachineLaws.{RunsKeepWithin, RunsEndInHistories}
 use Rattle.sdf_rings.proofs.Kept.{NetLaws, Keeps, keeps_start, keeps_run, long, begins}
 use Rattle.sdf_rings.proofs.Plans.{plan_sequence, sequence_of, room_first}
 
@@ -18,7 +19,8 @@ module _ (alike : AlikeSequences) (repeats : TablesRepeat) {A S T : Type 0} (s :
   kept n inputs p b V es plan history run =
       keeps_run s laws n plan.net inputs (firings p b) (capacity p) V history (at_start (wiring s n)) es
       (keeps_start s laws n plan.net inputs (firings p b) (capacity p) V history
-      (room_first (wiring s n).rates (firings p b) (capacity p) (sequence_of p b) (laws.wired n plan.net).sound (plan_sequence alike repeats s n p b plan))) run
+      (room_first (wiring s n).rates (firings p b) (capacity p) (sequence_of p b) (laws.wired n plan.net).sound
+      (plan_sequence alike repeats s n p b plan))) run
 
   pub runs_put_prefixes : RunsPutPrefixes s
   runs_put_prefixes n inputs p b V es plan history run c l =
@@ -30,13 +32,22 @@ module _ (alike : AlikeSequences) (repeats : TablesRepeat) {A S T : Type 0} (s :
   pub runs_keep_within : HistoryExists s → RunsKeepWithin s
   runs_keep_within exists n inputs p b es plan reach run c l =
       let is = plan_sequence alike repeats s n p b plan in
-      let V = exists n inputs (sequence_of p b) (firings p b) plan.net is.admissible (λ a k. sym (is.counts a k)) reach in
+      let V = exists n inputs (sequence_of p b) (firings p b) plan.net is.admissible
+      (λ a k. sym (is.counts a k)) reach in
       let keep = kept n inputs p b V.0 es plan V.1 run in
-      omega (arith, keep.counts.room c l, long s laws n plan.net inputs (firings p b) (capacity p) V.0 V.1 (reached s n inputs es) keep c l)
+      omega (
+        arith,
+        keep.counts.room c l,
+        long s laws n plan.net inputs (firings p b) (capacity p) V.0 V.1
+            (reached s n inputs es) keep c l,
+      )
 
   pub runs_end_in_histories : RunsEndInHistories s
   runs_end_in_histories n inputs p b V es plan history run over c l =
       let keep = kept n inputs p b V es plan history run in
       let gave = (over c l).1 in
-      let size : (wiring s n).rates.produced c ((reached s n inputs es).gave c) ≡ (wiring s n).rates.produced c (firings p b ((wiring s n).rates.source c)) = ap ((wiring s n).rates.produced c) gave in
-      keep.lists c l ∙ take_all ((wiring s n).rates.initial c + (wiring s n).rates.produced c ((reached s n inputs es).gave c)) (V c) (omega (arith, history.lengths c l))
+      let size : (wiring s n).rates.produced c ((reached s n inputs es).gave c) ≡
+      (wiring s n).rates.produced c (firings p b ((wiring s n).rates.source c)) =
+      ap ((wiring s n).rates.produced c) gave in
+      keep.lists c l ∙ take_all ((wiring s n).rates.initial c
+      + (wiring s n).rates.produced c ((reached s n inputs es).gave c)) (V c) (omega (arith, history.lengths c l))

@@ -23,27 +23,34 @@ use Rattle.sdf_rings.proofs.Deals.{start_at_same, block_same}
 use Rattle.sdf_rings.proofs.PortBlocks.{sizes_taken, sizes_put}
 use Rattle.sdf_rings.proofs.Knowing.{length_taken_before}
 
-module _ {A S T : Type 0} (s : Steps A S T) (keep : NodesKeepPhase s) (n : Netlist A T) (inputs : List (List T)) (x : Stand A T S) (st : IsStand s n inputs x) where
+module _ {A S T : Type 0} (s : Steps A S T) (keep : NodesKeepPhase s) (n : Netlist A T) (inputs : List (List T))
+    (x : Stand A T S) (st : IsStand s n inputs x) where
   pub phase_is : phase_at x.state ≡ x.done % cycle_of s (node n x.actor)
   phase_is =
       keep inputs (node n x.actor) x.asked (taken_before (wiring s n) st.own x.actor x.done) x.state st.at ∙
       ap (λ k. k % cycle_of s (node n x.actor)) (length_taken_before (wiring s n) st.own x.actor x.done)
 
   -- the node has a next firing
-  pub can_step : NodesCanStep s → x.done < x.asked → (y : Node A) (j many more : ℕ) → y ≡ node n x.actor → j ≡ phase_at x.state → many ≡ takes_of s y j → more ≡ puts_of s y j →
+  pub can_step : NodesCanStep s → x.done < x.asked → (y : Node A) (j many more : ℕ) → y ≡ node n x.actor →
+      j ≡ phase_at x.state → many ≡ takes_of s y j → more ≡ puts_of s y j →
       CanStep s inputs y x.state many more
   can_step can left y j many more y_is j_is many_is more_is =
       let past = taken_before (wiring s n) st.own x.actor x.done in
       let long = length_taken_before (wiring s n) st.own x.actor x.done in
-      let all : CanStep s inputs (node n x.actor) x.state (takes_of s (node n x.actor) (phase_at x.state)) (puts_of s (node n x.actor) (phase_at x.state)) =
+      let all : CanStep s inputs (node n x.actor) x.state (takes_of s (node n x.actor) (phase_at x.state))
+      (puts_of s (node n x.actor) (phase_at x.state)) =
       can inputs (node n x.actor) x.asked past x.state st.at st.phases (omega arith) in
-      let many_as : takes_of s (node n x.actor) (phase_at x.state) ≡ many = sym (many_is ∙ (λ i. takes_of s (y_is i) (j_is i))) in
-      let more_as : puts_of s (node n x.actor) (phase_at x.state) ≡ more = sym (more_is ∙ (λ i. puts_of s (y_is i) (j_is i))) in
+      let many_as : takes_of s (node n x.actor) (phase_at x.state) ≡ many =
+      sym (many_is ∙ (λ i. takes_of s (y_is i) (j_is i))) in
+      let more_as : puts_of s (node n x.actor) (phase_at x.state) ≡ more =
+      sym (more_is ∙ (λ i. puts_of s (y_is i) (j_is i))) in
       subst (λ z. CanStep s inputs z x.state many more) (sym y_is)
       (subst (λ m. CanStep s inputs (node n x.actor) x.state many m) more_as
-      (subst (λ m. CanStep s inputs (node n x.actor) x.state m (puts_of s (node n x.actor) (phase_at x.state))) many_as all))
+      (subst (λ m. CanStep s inputs (node n x.actor) x.state m
+      (puts_of s (node n x.actor) (phase_at x.state))) many_as all))
 
-  module _ (side : Side) (rows : List (List ℕ)) (are : AreRows s side (node n x.actor) rows) (j : ℕ) (j_is : j ≡ phase_at x.state) where
+  module _ (side : Side) (rows : List (List ℕ)) (are : AreRows s side (node n x.actor) rows) (j : ℕ)
+      (j_is : j ≡ phase_at x.state) where
     pub row_known : j < length rows
     row_known = let k = are.known x.done in omega (arith, j_is, phase_is)
 
@@ -54,32 +61,41 @@ module _ {A S T : Type 0} (s : Steps A S T) (keep : NodesKeepPhase s) (n : Netli
       pub row_all : length row ≡ ports_of s side (node n x.actor)
       row_all = ap length row_as ∙ are.long x.done
 
-      pub row_size : (p : ℕ) → p < ports_of s side (node n x.actor) → get_or row p 0 ≡ sizes s side (node n x.actor) x.done p
+      pub row_size : (p : ℕ) → p < ports_of s side (node n x.actor) →
+          get_or row p 0 ≡ sizes s side (node n x.actor) x.done p
       row_size p h = ap (λ r. get_or r p 0) row_as ∙ are.each x.done p h
 
-      pub row_sum : start_at (λ p. get_or row p 0) (ports_of s side (node n x.actor)) ≡ start_at (sizes s side (node n x.actor) x.done) (ports_of s side (node n x.actor))
-      row_sum = start_at_same (λ p. get_or row p 0) (sizes s side (node n x.actor) x.done) (ports_of s side (node n x.actor)) row_size
+      pub row_sum : start_at (λ p. get_or row p 0) (ports_of s side (node n x.actor)) ≡
+          start_at (sizes s side (node n x.actor) x.done) (ports_of s side (node n x.actor))
+      row_sum = start_at_same (λ p. get_or row p 0) (sizes s side (node n x.actor) x.done)
+          (ports_of s side (node n x.actor)) row_size
 
-      pub row_part : {X : Type 0} (i : ℕ) (b : List X) → i < ports_of s side (node n x.actor) → block_of (λ p. get_or row p 0) i b ≡ block_of (sizes s side (node n x.actor) x.done) i b
-      row_part i b h = block_same (λ p. get_or row p 0) (sizes s side (node n x.actor) x.done) i b (λ p l. row_size p (omega arith))
+      pub row_part : {X : Type 0} (i : ℕ) (b : List X) → i < ports_of s side (node n x.actor) →
+          block_of (λ p. get_or row p 0) i b ≡ block_of (sizes s side (node n x.actor) x.done) i b
+      row_part i b h = block_same (λ p. get_or row p 0) (sizes s side (node n x.actor) x.done) i b
+          (λ p l. row_size p (omega arith))
 
   -- the length of the blocks of its next firing, over all ports
   module _ (y : Node A) (y_is : y ≡ node n x.actor) (j : ℕ) (j_is : j ≡ phase_at x.state) (many : ℕ) where
-    pub taken_is : many ≡ takes_of s y j → many ≡ start_at (sizes s Input (node n x.actor) x.done) (ports_of s Input (node n x.actor))
+    pub taken_is : many ≡ takes_of s y j → many ≡ start_at (sizes s Input (node n x.actor) x.done)
+        (ports_of s Input (node n x.actor))
     taken_is e = e ∙ ((λ i. takes_of s (y_is i) ((j_is ∙ phase_is) i)) ∙ sym (sizes_taken s (node n x.actor) x.done))
 
-    pub put_is : many ≡ puts_of s y j → many ≡ start_at (sizes s Output (node n x.actor) x.done) (ports_of s Output (node n x.actor))
+    pub put_is : many ≡ puts_of s y j → many ≡ start_at (sizes s Output (node n x.actor) x.done)
+        (ports_of s Output (node n x.actor))
     put_is e = e ∙ ((λ i. puts_of s (y_is i) ((j_is ∙ phase_is) i)) ∙ sym (sizes_put s (node n x.actor) x.done))
 
     pub taken_fits : x.done < x.asked → many ≡ takes_of s y j → many ≤ length x.taken.items
     taken_fits left e =
-        let same : many ≡ takes_of s (node n x.actor) (x.done % cycle_of s (node n x.actor)) = e ∙ (λ i. takes_of s (y_is i) ((j_is ∙ phase_is) i)) in
+        let same : many ≡ takes_of s (node n x.actor) (x.done % cycle_of s (node n x.actor)) =
+        e ∙ (λ i. takes_of s (y_is i) ((j_is ∙ phase_is) i)) in
         let long = st.taken_long left x.done in
         omega arith
 
     pub put_fits : x.done < x.asked → many ≡ puts_of s y j → many ≤ length x.put.items
     put_fits left e =
-        let same : many ≡ puts_of s (node n x.actor) (x.done % cycle_of s (node n x.actor)) = e ∙ (λ i. puts_of s (y_is i) ((j_is ∙ phase_is) i)) in
+        let same : many ≡ puts_of s (node n x.actor) (x.done % cycle_of s (node n x.actor)) =
+        e ∙ (λ i. puts_of s (y_is i) ((j_is ∙ phase_is) i)) in
         let long = st.put_long left x.done in
         omega arith
 
@@ -101,10 +117,12 @@ module _ {A S T : Type 0} (s : Steps A S T) (keep : NodesKeepPhase s) (n : Netli
         let l = all i d h in
         omega arith
 
-    pub drew_by_firing : (after : List (Consumer T Global AnyItems)) (t : List T) → DrewEach ends after (λ i. block_of (λ p. get_or row p 0) i t) →
+    pub drew_by_firing : (after : List (Consumer T Global AnyItems)) (t : List T) →
+        DrewEach ends after (λ i. block_of (λ p. get_or row p 0) i t) →
         DrewEach ends after (λ i. block_of (sizes s Input (node n x.actor) x.done) i t)
     drew_by_firing after t all = λ i d h.
-        subst (λ b. Drew (get_or ends i d) (get_or after i d) b) (row_part Input (lists x.takes.items) st.takes j j_is row row_is i t (omega arith)) (all i d h)
+        subst (λ b. Drew (get_or ends i d) (get_or after i d) b)
+        (row_part Input (lists x.takes.items) st.takes j j_is row row_is i t (omega arith)) (all i d h)
 
   module _ (j : ℕ) (j_is : j ≡ phase_at x.state) (row : List ℕ) (row_is : row ≡ at_phase (lists x.puts.items) j)
       (ends : List (Producer T Global AnyItems)) (long : length ends ≡ ports_of s Output (node n x.actor)) where
@@ -117,13 +135,16 @@ module _ {A S T : Type 0} (s : Steps A S T) (keep : NodesKeepPhase s) (n : Netli
         let l = all i d h in
         omega arith
 
-    pub room_by_firing : HasRoomEach (λ p. get_or row p 0) ends → HasRoomEach (sizes s Output (node n x.actor) x.done) ends
+    pub room_by_firing : HasRoomEach (λ p. get_or row p 0) ends →
+        HasRoomEach (sizes s Output (node n x.actor) x.done) ends
     room_by_firing all = λ i d h.
         let size = row_size Output (lists x.puts.items) st.puts j j_is row row_is i (omega arith) in
         let l = all i d h in
         omega arith
 
-    pub gave_by_firing : (after : List (Producer T Global AnyItems)) (b : List T) → GaveEach ends after (λ i. block_of (λ p. get_or row p 0) i b) →
+    pub gave_by_firing : (after : List (Producer T Global AnyItems)) (b : List T) →
+        GaveEach ends after (λ i. block_of (λ p. get_or row p 0) i b) →
         GaveEach ends after (λ i. block_of (sizes s Output (node n x.actor) x.done) i b)
     gave_by_firing after b all = λ i d h.
-        subst (λ y. Gave (get_or ends i d) (get_or after i d) y) (row_part Output (lists x.puts.items) st.puts j j_is row row_is i b (omega arith)) (all i d h)
+        subst (λ y. Gave (get_or ends i d) (get_or after i d) y)
+        (row_part Output (lists x.puts.items) st.puts j j_is row row_is i b (omega arith)) (all i d h)

@@ -1,5 +1,6 @@
 -- What a run of blocks begins with.
-use Rattle.std.proofs.Common.{◌≡◌, ℕ, ◌*◌, ◌≤◌, ◌<◌, List, [], length, map, get_or, Option, refl, sym, ap, ◌∙◌, subst, arith}
+use Rattle.std.proofs.Common.{◌≡◌, ℕ, ◌*◌, ◌≤◌, ◌<◌, List, [], length, map, get_or, Option, refl, sym, ap, ◌∙◌, subst}
+use Rattle.std.proofs.Common.{arith}
 use Rattle.std.specs.Option.{IfNone}
 use Rattle.std.proofs.Math.Nat.{mul-le-mul_left}
 use Rattle.std.proofs.lemmas.List.{get_or-map, length-map}
@@ -22,7 +23,8 @@ use Rattle.sdf_node.specs.Nodes.{CanBegin}
 use Rattle.sdf_rings.specs.Begun.{CanStart}
 use Rattle.sdf_rings.specs.Prepared.{IsAsked}
 
-module _ {A S T : Type 0} (s : Steps A S T) (can : NetsCanRun s) (n : Netlist A T) (p : Schedule) (period : HasPeriod s n p) (blocks j : ℕ)
+module _ {A S T : Type 0} (s : Steps A S T) (can : NetsCanRun s) (n : Netlist A T) (p : Schedule)
+    (period : HasPeriod s n p) (blocks j : ℕ)
     (asked : List ℕ) (asked_are : asked ≡ map (λ q. blocks * (j * q)) p.repetitions) where
   all : length p.repetitions ≡ length n.nodes
   all = period.period.least.is.all
@@ -31,14 +33,19 @@ module _ {A S T : Type 0} (s : Steps A S T) (can : NetsCanRun s) (n : Netlist A 
   asked_long = ap length asked_are ∙ (length-map p.repetitions (λ (q : ℕ). blocks * (j * q)) ∙ all)
 
   many : (a : ℕ) → a < length n.nodes → get_or asked a 0 ≡ blocks * (j * get_or p.repetitions a 0)
-  many a l = ap (λ w. get_or w a 0) asked_are ∙ get_or-map (λ (q : ℕ). blocks * (j * q)) p.repetitions a 0 0 (omega (arith, all))
+  many a l = ap (λ w. get_or w a 0) asked_are ∙ get_or-map (λ (q : ℕ). blocks * (j * q)) p.repetitions a 0 0
+      (omega (arith, all))
 
   -- of so many periods
   counted : (a : ℕ) → a < length n.nodes → get_or asked a 0 ≡ blocks * j * get_or p.repetitions a 0
-  counted a l = let e = many a l in let turn : blocks * (j * get_or p.repetitions a 0) ≡ blocks * j * get_or p.repetitions a 0 = omega arith in e ∙ turn
+  counted a l = let e = many a l in let turn : blocks * (j * get_or p.repetitions a 0) ≡
+      blocks * j * get_or p.repetitions a 0 = omega arith in e ∙ turn
 
-  pub can_start : (inputs : List (List T)) (room : ℕ) (filler : Option T) → ((a : ℕ) → a < length n.nodes → 0 < cycle_of s (node n a)) → HasInputs n p.repetitions (blocks * j) inputs →
-      room ≡ blocks * j * period_samples n.nodes Outputs p.repetitions → IfNone filler (length (get_or inputs 0 []) ≡ 0) → 0 < period_samples n.nodes Inputs p.repetitions → 0 < length inputs →
+  pub can_start : (inputs : List (List T)) (room : ℕ) (filler : Option T) →
+      ((a : ℕ) → a < length n.nodes → 0 < cycle_of s (node n a)) → HasInputs n p.repetitions (blocks * j) inputs →
+      room ≡ blocks * j * period_samples n.nodes Outputs p.repetitions →
+      IfNone filler (length (get_or inputs 0 []) ≡ 0) → 0 < period_samples n.nodes Inputs p.repetitions →
+      0 < length inputs →
       CanStart s n inputs (λ a. get_or asked a 0) room filler
   can_start inputs room filler phases has room_is empty some first = record {
     net = period.net;
@@ -47,9 +54,11 @@ module _ {A S T : Type 0} (s : Steps A S T) (can : NetsCanRun s) (n : Netlist A 
     fillers = λ a l none.
         let e : length (get_or inputs 0 []) ≡ 0 = subst (λ f. IfNone f (length (get_or inputs 0 []) ≡ 0)) none empty in
         let least = has.enough 0 first in
-        let one : blocks * j * 1 ≤ blocks * j * period_samples n.nodes Inputs p.repetitions = mul-le-mul_left (blocks * j) (omega (arith, some)) in
+        let one : blocks * j * 1 ≤ blocks * j * period_samples n.nodes Inputs p.repetitions =
+        mul-le-mul_left (blocks * j) (omega (arith, some)) in
         let zero : blocks * j ≡ 0 = omega (arith, least, e, one) in
-        let nothing : blocks * j * get_or p.repetitions a 0 ≡ 0 * get_or p.repetitions a 0 = ap (λ m. m * get_or p.repetitions a 0) zero in
+        let nothing : blocks * j * get_or p.repetitions a 0 ≡ 0 * get_or p.repetitions a 0 =
+        ap (λ m. m * get_or p.repetitions a 0) zero in
         omega (arith, counted a l, nothing);
   }
     where
@@ -63,7 +72,8 @@ module _ {A S T : Type 0} (s : Steps A S T) (can : NetsCanRun s) (n : Netlist A 
       go a l (Sink ext block) x = omega (arith, run.makes a ext block l x, ap (λ m. block * m) (counted a l), room_is)
       go a l (Inner y) x = tt
 
-  pub is_asked : GraphsAreSound → GraphsHavePeriods → (t : Tabled) → IsTableOf (rates (graph_of s n)) p.repetitions j t → IsAsked s n t blocks (λ a. get_or asked a 0)
+  pub is_asked : GraphsAreSound → GraphsHavePeriods → (t : Tabled) →
+      IsTableOf (rates (graph_of s n)) p.repetitions j t → IsAsked s n t blocks (λ a. get_or asked a 0)
   is_asked sound periods t table = record {
     plan = record { rates = rates (graph_of s n); period = p.repetitions; factor = j; width = table.width; table = t };
     is = record {
@@ -74,5 +84,6 @@ module _ {A S T : Type 0} (s : Steps A S T) (can : NetsCanRun s) (n : Netlist A 
       table = table.table;
     };
     table_is = refl;
-    asked_are = λ a l. many a l ∙ ap (λ m. blocks * m) (sym (get_or-map (λ (q : ℕ). j * q) p.repetitions a 0 0 (omega (arith, all))));
+    asked_are = λ a l. many a l ∙ ap (λ m. blocks * m)
+        (sym (get_or-map (λ (q : ℕ). j * q) p.repetitions a 0 0 (omega (arith, all))));
   }

@@ -1,5 +1,6 @@
 -- Both ends of a ring are told, where they stand.
-use Rattle.std.proofs.Common.{◌≡◌, ◌≢◌, ℕ, ◌<◌, List, [], ◌∷◌, length, Vec, vec_len, slice_index_or, get_or-set_other, get_or-set_same, arith, ◌∙◌, ap, sym, inl, inr}
+use Rattle.std.proofs.Common.{◌≡◌, ◌≢◌, ℕ, ◌<◌, List, [], ◌∷◌, length, Vec, vec_len, slice_index_or, get_or-set_other}
+use Rattle.std.proofs.Common.{get_or-set_same, arith, ◌∙◌, ap, sym, inl, inr}
 use Rattle.std.proofs.lemmas.List.{get_or_default}
 use Rattle.std.specs.Vec.{with_item}
 use Rattle.std.specs.Global.{Global}
@@ -12,54 +13,92 @@ use Rattle.sdf_rings.specs.declared.seat.Seat.{Seat}
 use Rattle.sdf_rings.specs.declared.meet.Spot.{Spot}
 use Rattle.sdf_rings.specs.Ends.{IsMet}
 use Rattle.sdf_rings.specs.Places.{stand_at, IsUpdated, IsRing, IsTold, consumer_at}
-use Rattle.sdf_rings.proofs.Swaps.{ins_changed, out_changed, ends_join, seat_join_same, same_place, ButEnds, in_vec, same_stand_of}
+use Rattle.sdf_rings.proofs.Swaps.{ins_changed, out_changed, ends_join, seat_join_same, same_place, ButEnds, in_vec}
+use Rattle.sdf_rings.proofs.Swaps.{same_stand_of}
 
 pub some : {X : Type 0} (xs : List X) (i : ℕ) → i < length xs → X
 some [] i h = absurd (omega arith)
 some (x ∷ xs) i h = x
 
 module _ {A T S : Type 0} where
-  pub told : (s0 s1 s2 s3 : List (Seat A T S)) (from to : Spot) (v0 v1 : Vec (Consumer T Global AnyItems) Global) (c c' : Consumer T Global AnyItems)
+  pub told : (s0 s1 s2 s3 : List (Seat A T S)) (from to : Spot) (v0 v1 : Vec (Consumer T Global AnyItems) Global)
+      (c c' : Consumer T Global AnyItems)
       → IsRing s0 from to
-      → ((e : Seat A T S) (d : Stand A T S) → IsUpdated s0 s1 to.seat to.stand (record (stand_at s0 to.seat to.stand e d) { ins = v0 }))
+      → ((e : Seat A T S) (d : Stand A T S) → IsUpdated s0 s1 to.seat to.stand
+      (record (stand_at s0 to.seat to.stand e d) { ins = v0 }))
       → ((e : Seat A T S) (d : Stand A T S) → v1 ≡ (stand_at s0 to.seat to.stand e d).ins)
       → c ≡ slice_index_or v1.items to.port c
-      → ((e : Seat A T S) (d : Stand A T S) (x : Producer T Global AnyItems) → IsUpdated s1 s2 from.seat from.stand (record (stand_at s1 from.seat from.stand e d) { outs = with_item (stand_at s1 from.seat from.stand e d).outs from.port (slice_index_or (stand_at s2 from.seat from.stand e d).outs.items from.port x) }))
+      → ((e : Seat A T S) (d : Stand A T S) (x : Producer T Global AnyItems) →
+      IsUpdated s1 s2 from.seat from.stand (record (stand_at s1 from.seat from.stand e d) {
+        outs = with_item (stand_at s1 from.seat from.stand e d).outs from.port
+            (slice_index_or (stand_at s2 from.seat from.stand e d).outs.items from.port x);
+      }))
       → ConsumerLooked c c'
-      → ((e : Seat A T S) (d : Stand A T S) (x : Producer T Global AnyItems) → ProducerLooked (slice_index_or (stand_at s1 from.seat from.stand e d).outs.items from.port x) (slice_index_or (stand_at s2 from.seat from.stand e d).outs.items from.port x))
-      → ((e : Seat A T S) (d : Stand A T S) (x : Producer T Global AnyItems) → IsMet (slice_index_or (stand_at s2 from.seat from.stand e d).outs.items from.port x) c')
-      → ((e : Seat A T S) (d : Stand A T S) → IsUpdated s2 s3 to.seat to.stand (record (stand_at s2 to.seat to.stand e d) { ins = with_item v1 to.port c' }))
+      → ((e : Seat A T S) (d : Stand A T S) (x : Producer T Global AnyItems) →
+      ProducerLooked (slice_index_or (stand_at s1 from.seat from.stand e d).outs.items from.port x)
+      (slice_index_or (stand_at s2 from.seat from.stand e d).outs.items from.port x))
+      → ((e : Seat A T S) (d : Stand A T S) (x : Producer T Global AnyItems) →
+      IsMet (slice_index_or (stand_at s2 from.seat from.stand e d).outs.items from.port x) c')
+      → ((e : Seat A T S) (d : Stand A T S) → IsUpdated s2 s3 to.seat to.stand
+      (record (stand_at s2 to.seat to.stand e d) { ins = with_item v1 to.port c' }))
       → IsTold s0 s3 from to
   told s0 s1 s2 s3 from to v0 v1 c c' ring u1 had is u2 looked plooked met u3 =
       let e0 = some s0 to.seat ring.takes_there.seat_in in
-      let d0 = some (slice_index_or s0 to.seat e0).stands.items to.stand (in_vec (slice_index_or s0 to.seat e0).stands to.stand (ring.takes_there.stand_in e0)) in
-      let f0 = some (slice_index_or s0 from.seat e0).stands.items from.stand (in_vec (slice_index_or s0 from.seat e0).stands from.stand (ring.puts_there.stand_in e0)) in
-      let y0 = some (stand_at s0 from.seat from.stand e0 f0).outs.items from.port (in_vec (stand_at s0 from.seat from.stand e0 f0).outs from.port (ring.puts_there.port_in e0 f0)) in
+      let d0 = some (slice_index_or s0 to.seat e0).stands.items to.stand
+      (in_vec (slice_index_or s0 to.seat e0).stands to.stand (ring.takes_there.stand_in e0)) in
+      let f0 = some (slice_index_or s0 from.seat e0).stands.items from.stand
+      (in_vec (slice_index_or s0 from.seat e0).stands from.stand (ring.puts_there.stand_in e0)) in
+      let y0 = some (stand_at s0 from.seat from.stand e0 f0).outs.items from.port
+      (in_vec (stand_at s0 from.seat from.stand e0 f0).outs from.port (ring.puts_there.port_in e0 f0)) in
       let a = ins_changed s0 s1 to.seat to.stand v0 u1 in
       let b = out_changed s1 s2 from.seat from.stand from.port u2 y0 in
       let z = ins_changed s2 s3 to.seat to.stand (with_item v1 to.port c') u3 in
-      let but : (j l : ℕ) (e : Seat A T S) (d : Stand A T S) → ButEnds (stand_at s0 j l e d) (stand_at s3 j l e d) = λ j l e d. ends_join _ _ _ (ends_join _ _ _ (a.but j l e d) (b.but j l e d)) (z.but j l e d) in
-      let outs : (j l p : ℕ) (e : Seat A T S) (d : Stand A T S) (y : Producer T Global AnyItems) → slice_index_or (stand_at s3 j l e d).outs.items p y ≡ slice_index_or (stand_at s2 j l e d).outs.items p y = λ j l p e d y. ap (λ (v : Vec (Producer T Global AnyItems) Global). slice_index_or v.items p y) (z.outs_is j l e d) in
-      let outs1 : (j l p : ℕ) (e : Seat A T S) (d : Stand A T S) (y : Producer T Global AnyItems) → slice_index_or (stand_at s1 j l e d).outs.items p y ≡ slice_index_or (stand_at s0 j l e d).outs.items p y = λ j l p e d y. ap (λ (v : Vec (Producer T Global AnyItems) Global). slice_index_or v.items p y) (a.outs_is j l e d) in
+      let but : (j l : ℕ) (e : Seat A T S) (d : Stand A T S) → ButEnds (stand_at s0 j l e d) (stand_at s3 j l e d) =
+      λ j l e d. ends_join _ _ _ (ends_join _ _ _ (a.but j l e d) (b.but j l e d)) (z.but j l e d) in
+      let outs : (j l p : ℕ) (e : Seat A T S) (d : Stand A T S) (y : Producer T Global AnyItems) →
+      slice_index_or (stand_at s3 j l e d).outs.items p y ≡ slice_index_or (stand_at s2 j l e d).outs.items p y =
+      λ j l p e d y. ap (λ (v : Vec (Producer T Global AnyItems) Global). slice_index_or v.items p y)
+      (z.outs_is j l e d) in
+      let outs1 : (j l p : ℕ) (e : Seat A T S) (d : Stand A T S) (y : Producer T Global AnyItems) →
+      slice_index_or (stand_at s1 j l e d).outs.items p y ≡ slice_index_or (stand_at s0 j l e d).outs.items p y =
+      λ j l p e d y. ap (λ (v : Vec (Producer T Global AnyItems) Global). slice_index_or v.items p y)
+      (a.outs_is j l e d) in
       let port : to.port < length v1.items = in_vec v1 to.port (rw (had e0 d0) (ring.takes_there.port_in e0 d0)) in
-      let here : (e : Seat A T S) (d : Stand A T S) (x : Consumer T Global AnyItems) → consumer_at s3 to e d x ≡ c' = λ e d x. ap (λ (v : Vec (Consumer T Global AnyItems) Global). slice_index_or v.items to.port x) (z.ins_here e d) ∙ get_or-set_same v1.items to.port c' x port in
-      let was : (e : Seat A T S) (d : Stand A T S) (x : Consumer T Global AnyItems) → consumer_at s0 to e d x ≡ c = λ e d x. ap (λ (v : Vec (Consumer T Global AnyItems) Global). slice_index_or v.items to.port x) (sym (had e d)) ∙ get_or_default v1.items to.port x c port ∙ sym is in
+      let here : (e : Seat A T S) (d : Stand A T S) (x : Consumer T Global AnyItems) → consumer_at s3 to e d x ≡ c' =
+      λ e d x. ap (λ (v : Vec (Consumer T Global AnyItems) Global). slice_index_or v.items to.port x)
+      (z.ins_here e d) ∙ get_or-set_same v1.items to.port c' x port in
+      let was : (e : Seat A T S) (d : Stand A T S) (x : Consumer T Global AnyItems) → consumer_at s0 to e d x ≡ c =
+      λ e d x. ap (λ (v : Vec (Consumer T Global AnyItems) Global). slice_index_or v.items to.port x)
+      (sym (had e d)) ∙ get_or_default v1.items to.port x c port ∙ sym is in
       record {
         told_len = (u3 e0 d0).len ∙ (u2 e0 d0 y0).len ∙ (u1 e0 d0).len;
-        told_seats = λ j e. seat_join_same _ _ _ (seat_join_same _ _ _ ((u1 e d0).seats j e) ((u2 e d0 y0).seats j e)) ((u3 e d0).seats j e);
+        told_seats = λ j e. seat_join_same _ _ _ (seat_join_same _ _ _ ((u1 e d0).seats j e) ((u2 e d0 y0).seats j e))
+            ((u3 e d0).seats j e);
         told_stands = λ j l e d. same_stand_of (stand_at s0 j l e d) (stand_at s3 j l e d) (but j l e d)
-            (elim (same_place j l to.seat to.stand) as (λ _. vec_len (stand_at s3 j l e d).ins ≡ vec_len (stand_at s0 j l e d).ins) [
-              | inl h ↦ rw (h.0, h.1, z.ins_here e d) (ap (λ (v : Vec (Consumer T Global AnyItems) Global). vec_len v) (had e d))
-              | inr h ↦ ap (λ (v : Vec (Consumer T Global AnyItems) Global). vec_len v) (z.ins_other j l e d h ∙ b.ins_is j l e d ∙ a.ins_other j l e d h)
+            (elim (same_place j l to.seat to.stand) as (λ _. vec_len (stand_at s3 j l e d).ins ≡
+            vec_len (stand_at s0 j l e d).ins) [
+              | inl h ↦ rw (h.0, h.1, z.ins_here e d) (ap
+                  (λ (v : Vec (Consumer T Global AnyItems) Global). vec_len v) (had e d))
+              | inr h ↦ ap (λ (v : Vec (Consumer T Global AnyItems) Global). vec_len v)
+                  (z.ins_other j l e d h ∙ b.ins_is j l e d ∙ a.ins_other j l e d h)
             ])
-            (ap (λ (v : Vec (Producer T Global AnyItems) Global). vec_len v) (z.outs_is j l e d) ∙ b.outs_len j l e d ∙ ap (λ (v : Vec (Producer T Global AnyItems) Global). vec_len v) (a.outs_is j l e d));
+            (ap (λ (v : Vec (Producer T Global AnyItems) Global). vec_len v) (z.outs_is j l e d) ∙ b.outs_len j l e d
+            ∙ ap (λ (v : Vec (Producer T Global AnyItems) Global). vec_len v) (a.outs_is j l e d));
         told_consumer = λ e d x. rw (here e d x, was e d x) looked;
-        told_producer = λ e d y. rw (outs from.seat from.stand from.port e d y, ← outs1 from.seat from.stand from.port e d y) (plooked e d y);
+        told_producer = λ e d y. rw (
+          outs from.seat from.stand from.port e d y,
+          ← outs1 from.seat from.stand from.port e d y,
+        ) (plooked e d y);
         met = λ e d x y. rw (here e d x, outs from.seat from.stand from.port e d y) (met e d y);
-        other_consumers = λ q e d x apart. elim (same_place q.seat q.stand to.seat to.stand) as (λ _. consumer_at s3 q e d x ≡ consumer_at s0 q e d x) [
-          | inl h ↦ let ne : q.port ≢ to.port = λ k. apart (h.0, h.1, k) in
-              rw (h.0, h.1) (ap (λ (v : Vec (Consumer T Global AnyItems) Global). slice_index_or v.items q.port x) (z.ins_here e d) ∙ get_or-set_other v1.items to.port q.port c' x ne ∙ ap (λ (v : Vec (Consumer T Global AnyItems) Global). slice_index_or v.items q.port x) (had e d))
-          | inr h ↦ ap (λ (v : Vec (Consumer T Global AnyItems) Global). slice_index_or v.items q.port x) (z.ins_other q.seat q.stand e d h ∙ b.ins_is q.seat q.stand e d ∙ a.ins_other q.seat q.stand e d h)
-        ];
-        other_producers = λ q e d y apart. outs q.seat q.stand q.port e d y ∙ b.out_other q.seat q.stand q.port e d y apart ∙ outs1 q.seat q.stand q.port e d y;
+        other_consumers = λ q e d x apart. elim (same_place q.seat q.stand to.seat to.stand) as (λ _. consumer_at s3 q e
+            d x ≡ consumer_at s0 q e d x) [
+              | inl h ↦ let ne : q.port ≢ to.port = λ k. apart (h.0, h.1, k) in
+                  rw (h.0, h.1) (ap (λ (v : Vec (Consumer T Global AnyItems) Global). slice_index_or v.items q.port x)
+                  (z.ins_here e d) ∙ get_or-set_other v1.items to.port q.port c' x ne
+                  ∙ ap (λ (v : Vec (Consumer T Global AnyItems) Global). slice_index_or v.items q.port x) (had e d))
+              | inr h ↦ ap (λ (v : Vec (Consumer T Global AnyItems) Global). slice_index_or v.items q.port x)
+                  (z.ins_other q.seat q.stand e d h ∙ b.ins_is q.seat q.stand e d ∙ a.ins_other q.seat q.stand e d h)
+            ];
+        other_producers = λ q e d y apart. outs q.seat q.stand q.port e d y
+            ∙ b.out_other q.seat q.stand q.port e d y apart ∙ outs1 q.seat q.stand q.port e d y;
       }

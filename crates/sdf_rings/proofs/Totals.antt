@@ -1,5 +1,6 @@
 -- How many firings are left.
-use Rattle.std.proofs.Common.{◌≡◌, ℕ, zero, suc, ◌+◌, ◌-◌, ◌<◌, ◌≤◌, List, [], ◌∷◌, length, Vec, vec_len, get_or, refl, arith, inl, inr}
+use Rattle.std.proofs.Common.{◌≡◌, ℕ, zero, suc, ◌+◌, ◌-◌, ◌<◌, ◌≤◌, List, [], ◌∷◌, length, Vec, vec_len, get_or, refl}
+use Rattle.std.proofs.Common.{arith, inl, inr}
 use Rattle.std.proofs.lemmas.Bool.{cases_lt}
 use Rattle.std.proofs.lemmas.List.Sums.{sum_by-cons}
 use Rattle.sdf_rings.specs.declared.seat.Seat.{Seat}
@@ -13,7 +14,9 @@ module _ {A T S : Type 0} where
   cons x xs = sum_by-cons (λ z. vec_len z.left - z.next) x xs
 
   pub total_le : (old new : List (Seat A T S)) → length new ≡ length old
-      → ((i : ℕ) (s : Seat A T S) → i < length old → vec_len (get_or new i s).left - (get_or new i s).next ≤ vec_len (get_or old i s).left - (get_or old i s).next)
+      → ((i : ℕ) (s : Seat A T S) → i < length old →
+      vec_len (get_or new i s).left - (get_or new i s).next ≤
+      vec_len (get_or old i s).left - (get_or old i s).next)
       → total_left new ≤ total_left old
   total_le [] [] e p = omega arith
   total_le [] (n ∷ ns) e p = absurd (omega arith)
@@ -26,8 +29,11 @@ module _ {A T S : Type 0} where
       omega arith
 
   pub total_lt : (old new : List (Seat A T S)) (j : ℕ) → j < length old → length new ≡ length old
-      → ((i : ℕ) (s : Seat A T S) → i < length old → vec_len (get_or new i s).left - (get_or new i s).next ≤ vec_len (get_or old i s).left - (get_or old i s).next)
-      → ((s : Seat A T S) → vec_len (get_or new j s).left - (get_or new j s).next < vec_len (get_or old j s).left - (get_or old j s).next)
+      → ((i : ℕ) (s : Seat A T S) → i < length old →
+      vec_len (get_or new i s).left - (get_or new i s).next ≤
+      vec_len (get_or old i s).left - (get_or old i s).next)
+      → ((s : Seat A T S) → vec_len (get_or new j s).left - (get_or new j s).next <
+      vec_len (get_or old j s).left - (get_or old j s).next)
       → total_left new < total_left old
   total_lt [] new j h e p q = absurd (omega arith)
   total_lt (o ∷ os) [] j h e p q = absurd (omega arith)
@@ -45,19 +51,25 @@ module _ {A T S : Type 0} where
       omega arith
 
   -- nothing is left where nothing is left at each seat
-  pub total_none : (seats : List (Seat A T S)) → ((i : ℕ) (s : Seat A T S) → i < length seats → vec_len (get_or seats i s).left ≤ (get_or seats i s).next) → total_left seats ≡ 0
+  pub total_none : (seats : List (Seat A T S)) → ((i : ℕ) (s : Seat A T S) → i < length seats →
+      vec_len (get_or seats i s).left ≤ (get_or seats i s).next) → total_left seats ≡ 0
   total_none [] p = refl
-  total_none (s ∷ ss) p = let h = p 0 s (omega arith) in let t = total_none ss (λ i x l. p (suc i) x (omega arith)) in let a = cons s ss in omega arith
+  total_none (s ∷ ss) p = let h = p 0 s (omega arith) in let t = total_none ss (λ i x l. p (suc i) x (omega arith)) in
+      let a = cons s ss in omega arith
 
-  pub total_some : (seats : List (Seat A T S)) (j : ℕ) (s : Seat A T S) → j < length seats → (get_or seats j s).next < vec_len (get_or seats j s).left → 0 < total_left seats
+  pub total_some : (seats : List (Seat A T S)) (j : ℕ) (s : Seat A T S) → j < length seats →
+      (get_or seats j s).next < vec_len (get_or seats j s).left → 0 < total_left seats
   total_some [] j s h l = absurd (omega arith)
   total_some (x ∷ xs) zero s h l = let a = cons x xs in omega arith
   total_some (x ∷ xs) (suc j) s h l = let t = total_some xs j s (omega arith) l in let a = cons x xs in omega arith
 
   -- a seat with firings left
-  pub which_left : (seats : List (Seat A T S)) → 0 < total_left seats → (i : ℕ) × (i < length seats) × ((s : Seat A T S) → (get_or seats i s).next < vec_len (get_or seats i s).left)
+  pub which_left : (seats : List (Seat A T S)) → 0 < total_left seats →
+      (i : ℕ) × (i < length seats) × ((s : Seat A T S) → (get_or seats i s).next < vec_len (get_or seats i s).left)
   which_left [] h = absurd (omega arith)
-  which_left (x ∷ xs) h = elim (cases_lt x.next (vec_len x.left)) as (λ _. (i : ℕ) × (i < length (x ∷ xs)) × ((s : Seat A T S) → (get_or (x ∷ xs) i s).next < vec_len (get_or (x ∷ xs) i s).left)) [
-    | inl l ↦ (0, omega arith, λ s. l)
-    | inr l ↦ let a = cons x xs in let t = which_left xs (omega arith) in (suc t.0, (let z = t.1 in omega arith), t.2)
-  ]
+  which_left (x ∷ xs) h = elim (cases_lt x.next (vec_len x.left)) as (λ _. (i : ℕ) × (i < length (x ∷ xs))
+      × ((s : Seat A T S) → (get_or (x ∷ xs) i s).next < vec_len (get_or (x ∷ xs) i s).left)) [
+        | inl l ↦ (0, omega arith, λ s. l)
+        | inr l ↦ let a = cons x xs in let t = which_left xs (omega arith) in
+            (suc t.0, (let z = t.1 in omega arith), t.2)
+      ]

@@ -22,8 +22,8 @@ pub record IsGreatestPut (r : Rates) (c m : ℕ) : Type 0 where
   pub above : (k : ℕ) → r.produced c (k + 1) - r.produced c k ≤ m
   pub reached : (k : ℕ) × (r.produced c (k + 1) - r.produced c k ≡ m)
 
--- how many samples the ring of channel c takes: as many as the channel may hold. From an actor to itself it has room for one more
--- block, since an actor looks for room before it has taken
+-- how many samples the ring of channel c takes: as many as the channel may hold. From an actor to itself it has room
+-- for one more block, since an actor looks for room before it has taken
 pub record IsRoomOf (r : Rates) (cap : ℕ → ℕ) (c room : ℕ) : Type 0 where
   pub between_two : r.source c ≢ r.target c → room ≡ cap c
   pub own : r.source c ≡ r.target c → (m : ℕ) × IsGreatestPut r c m × (room ≡ cap c + m)
@@ -33,7 +33,8 @@ module _ {A S T : Type 0} (n : Netlist A T) (seats : List (Seat A T S)) (places 
   pub record AsksFor (order : List ℕ) : Type 0 where
     pub lists : (i : ℕ) (e : Seat A T S) → i < length seats →
         (slice_index_or seats i e).left.items ≡ map (λ a. (slice_index_or places a (0, 0)).1) (dealt places order i)
-    pub asked : (a : ℕ) (e : Seat A T S) (d : Stand A T S) → a < length n.nodes → (stand_of n seats places e d a).asked ≡ times order a
+    pub asked : (a : ℕ) (e : Seat A T S) (d : Stand A T S) → a < length n.nodes →
+        (stand_of n seats places e d a).asked ≡ times order a
 
   -- each ring takes as many samples as the capacity of its channel says
   abbrev pub HaveCapacities : Steps A S T → (ℕ → ℕ) → Type 0
@@ -42,7 +43,8 @@ module _ {A S T : Type 0} (n : Netlist A T) (seats : List (Seat A T S)) (places 
       IsRoomOf (wiring s n).rates cap c (producer_capacity (producer_of n seats places e d y c))
 
 -- what is asked is an admissible sequence that keeps within the rings
-pub record IsPlanned {A S T : Type 0} (s : Steps A S T) (n : Netlist A T) (seats : List (Seat A T S)) (places : List (ℕ × ℕ)) (order : List ℕ) (cap : ℕ → ℕ) : Type 0 where
+pub record IsPlanned {A S T : Type 0} (s : Steps A S T) (n : Netlist A T) (seats : List (Seat A T S))
+    (places : List (ℕ × ℕ)) (order : List ℕ) (cap : ℕ → ℕ) : Type 0 where
   pub admissible : IsAdmissible (wiring s n).rates order
   pub fits : FitsIn (wiring s n).rates cap order
   pub asks : AsksFor n seats places order

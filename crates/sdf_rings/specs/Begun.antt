@@ -1,5 +1,6 @@
 -- Nodes and seats before their first firing.
-use Rattle.std.specs.Prelude.{ℕ, ◌≡◌, ◌<◌, ◌==◌, List, [], length, map, slice_index, slice_index_or, take, Option, Some, None}
+use Rattle.std.specs.Prelude.{ℕ, ◌≡◌, ◌<◌, ◌==◌, List, [], length, map, slice_index, slice_index_or, take, Option, Some}
+use Rattle.std.specs.Prelude.{None}
 use Rattle.std.specs.Global.{Global}
 use Rattle.rtrb.specs.declared.producer.Producer.{Producer}
 use Rattle.rtrb.specs.declared.consumer.Consumer.{Consumer}
@@ -27,38 +28,48 @@ standing places seat = count_by (λ p. p.0 == seat) places
 abbrev pub AreNext : List (ℕ × ℕ) → Type 0
 AreNext places = (a : ℕ) → a < length places → (place places a).1 ≡ standing (take a places) (place places a).0
 
--- each node can do the firings that are asked of it, where a sink has so much room, and there are samples to fill blocks with where any is asked
-pub record CanStart {A S T : Type 0} (s : Steps A S T) (n : Netlist A T) (inputs : List (List T)) (asked : ℕ → ℕ) (room : ℕ) (filler : Option T) : Type 0 where
+-- each node can do the firings that are asked of it, where a sink has so much room, and there are samples to fill
+-- blocks with where any is asked
+pub record CanStart {A S T : Type 0} (s : Steps A S T) (n : Netlist A T) (inputs : List (List T)) (asked : ℕ → ℕ)
+    (room : ℕ) (filler : Option T) : Type 0 where
   pub net : IsNet s n
   pub phases : (a : ℕ) → a < length n.nodes → 0 < cycle_of s (node n a)
   pub begin : (a : ℕ) → a < length n.nodes → CanBegin inputs (asked a) room (node n a)
   pub fillers : (a : ℕ) → a < length n.nodes → filler ≡ None → asked a ≡ 0
 
 -- the ends of rings at the ports of node a
-pub record HasIns {A S T : Type 0} (s : Steps A S T) (n : Netlist A T) (a : ℕ) (ins : List (Consumer T Global AnyItems)) : Type 0 where
+pub record HasIns {A S T : Type 0} (s : Steps A S T) (n : Netlist A T) (a : ℕ)
+    (ins : List (Consumer T Global AnyItems)) : Type 0 where
   pub all : length ins ≡ inputs_of s (node n a)
   pub untaken : (i : ℕ) (d : Consumer T Global AnyItems) → i < length ins → received (slice_index_or ins i d) ≡ []
 
-pub record HasOuts {A S T : Type 0} (s : Steps A S T) (n : Netlist A T) (a : ℕ) (outs : List (Producer T Global AnyItems)) : Type 0 where
+pub record HasOuts {A S T : Type 0} (s : Steps A S T) (n : Netlist A T) (a : ℕ)
+    (outs : List (Producer T Global AnyItems)) : Type 0 where
   pub all : length outs ≡ outputs_of s (node n a)
-  pub put : (i : ℕ) (d : Producer T Global AnyItems) → i < length outs → sent (slice_index_or outs i d) ≡ (wiring s n).starts (slice_index ((wiring s n).outs a) i)
+  pub put : (i : ℕ) (d : Producer T Global AnyItems) → i < length outs →
+      sent (slice_index_or outs i d) ≡ (wiring s n).starts (slice_index ((wiring s n).outs a) i)
 
 module _ {A S T : Type 0} (s : Steps A S T) (n : Netlist A T) (inputs : List (List T)) (asked : ℕ → ℕ)
-    (producers : List (Option (Producer T Global AnyItems))) (consumers : List (Option (Consumer T Global AnyItems))) where
+    (producers : List (Option (Producer T Global AnyItems)))
+    (consumers : List (Option (Consumer T Global AnyItems))) where
   -- node a has not fired, and so many firings are asked of it. It has its ends of these rings
   pub record HasBegun (a : ℕ) (x : Stand A T S) : Type 0 where
     pub is : IsStand s n inputs x
     pub actor_is : x.actor ≡ a
     pub undone : x.done ≡ 0
     pub asked_is : x.asked ≡ asked a
-    pub ins_are : (c : ℕ) (d : Consumer T Global AnyItems) → c < length n.wires → (wire n c).to.0 ≡ a → end_at consumers c ≡ Some (slice_index_or x.ins.items (wire n c).to.1 d)
-    pub outs_are : (c : ℕ) (d : Producer T Global AnyItems) → c < length n.wires → (wire n c).from.0 ≡ a → end_at producers c ≡ Some (slice_index_or x.outs.items (wire n c).from.1 d)
+    pub ins_are : (c : ℕ) (d : Consumer T Global AnyItems) → c < length n.wires → (wire n c).to.0 ≡ a →
+        end_at consumers c ≡ Some (slice_index_or x.ins.items (wire n c).to.1 d)
+    pub outs_are : (c : ℕ) (d : Producer T Global AnyItems) → c < length n.wires → (wire n c).from.0 ≡ a →
+        end_at producers c ≡ Some (slice_index_or x.outs.items (wire n c).from.1 d)
 
   -- the nodes of seat i stand there, each at its place, and nothing else does
   pub record AreBegun (places : List (ℕ × ℕ)) (i : ℕ) (stands : List (Stand A T S)) : Type 0 where
     pub known : (a : ℕ) → a < length n.nodes → (place places a).0 ≡ i → (place places a).1 < length stands
-    pub here : (a : ℕ) (d : Stand A T S) → a < length n.nodes → (place places a).0 ≡ i → HasBegun a (slice_index_or stands (place places a).1 d)
-    pub only : (k : ℕ) → k < length stands → (a : ℕ) × (a < length n.nodes) × ((place places a).0 ≡ i) × ((place places a).1 ≡ k)
+    pub here : (a : ℕ) (d : Stand A T S) → a < length n.nodes → (place places a).0 ≡ i →
+        HasBegun a (slice_index_or stands (place places a).1 d)
+    pub only : (k : ℕ) → k < length stands → (a : ℕ) × (a < length n.nodes) × ((place places a).0 ≡ i)
+        × ((place places a).1 ≡ k)
 
   -- seat i before its first firing: its list has its firings of the sequence
   pub record IsBegun (places : List (ℕ × ℕ)) (order : List ℕ) (i : ℕ) (x : Seat A T S) : Type 0 where

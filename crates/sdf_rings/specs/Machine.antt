@@ -1,10 +1,12 @@
--- The ring machine: actors that fire when they can, over channels of bounded capacity. A block is what one firing moves at one
--- channel, as long as the rate of that firing says; where the rate is 0 it is empty, and moves all the same. Blocks move one at a time
--- and in any order that is allowed: an actor takes one block from each channel into it, computes, and puts one on each channel out of it.
+-- The ring machine: actors that fire when they can, over channels of bounded capacity. A block is what one firing moves
+-- at one channel, as long as the rate of that firing says; where the rate is 0 it is empty, and moves all the same.
+-- Blocks move one at a time and in any order that is allowed: an actor takes one block from each channel into it,
+-- computes, and puts one on each channel out of it.
 --
--- What an actor is about follows from how many blocks have moved at its channels. It has completed i firings where all of them have moved i
--- blocks at its end. It is idle where none has moved more; taking, where some channels into it have given block i, and others have not; putting,
--- where all have. Its state and the blocks that it is putting are what its steps make of all that it took.
+-- What an actor is about follows from how many blocks have moved at its channels. It has completed i firings where all
+-- of them have moved i blocks at its end. It is idle where none has moved more; taking, where some channels into it
+-- have given block i, and others have not; putting, where all have. Its state and the blocks that it is putting are
+-- what its steps make of all that it took.
 use Rattle.std.specs.Prelude.{◌≡◌, ◌≢◌, ℕ, ◌+◌, ◌-◌, ◌≤◌, ◌<◌, cond, List, [], ◌∷◌, ◌++◌, ◌==◌}
 use Rattle.sdf_actor.specs.Histories.{Wiring, Answers, taken, taken_before, spread}
 
@@ -37,7 +39,11 @@ abbrev pub at_start : {A : Type 0} → Wiring A → Machine A
 at_start f = record { took = λ _. 0; gave = λ _. 0; lists = f.starts }
 
 abbrev pub happens : {A : Type 0} → Wiring A → Answers A → Machine A → Event → Machine A
-happens f answer s (Take c) = record { took = λ d. cond (c == d) (s.took d + 1) (s.took d); gave = s.gave; lists = s.lists }
+happens f answer s (Take c) = record {
+  took = λ d. cond (c == d) (s.took d + 1) (s.took d);
+  gave = s.gave;
+  lists = s.lists;
+}
 happens f answer s (Put c) = record {
   took = s.took;
   gave = λ d. cond (c == d) (s.gave d + 1) (s.gave d);
@@ -58,8 +64,8 @@ HasPut f s a i = (c : ℕ) → c < f.rates.channels → f.rates.source c ≡ a �
 abbrev pub HasKept : {A : Type 0} → Wiring A → Machine A → ℕ → ℕ → Type 0
 HasKept f s a i = (c : ℕ) → c < f.rates.channels → f.rates.source c ≡ a → f.rates.target c ≡ a → i ≤ s.gave c
 
--- the target of channel c, which has fired less than k times, takes its next block there: it has completed all earlier firings, and the block
--- is there. From itself it takes last of all, as it computes
+-- the target of channel c, which has fired less than k times, takes its next block there: it has completed all earlier
+-- firings, and the block is there. From itself it takes last of all, as it computes
 pub record CanTake {A : Type 0} (f : Wiring A) (k : ℕ → ℕ) (s : Machine A) (c : ℕ) : Type 0 where
   pub known : c < f.rates.channels
   pub left : s.took c < k (f.rates.target c)
@@ -68,8 +74,8 @@ pub record CanTake {A : Type 0} (f : Wiring A) (k : ℕ → ℕ) (s : Machine A)
   pub holds : f.rates.consumed c (s.took c + 1) ≤ put_on f s c
   pub own : f.rates.source c ≡ f.rates.target c → HasReceived f s (f.rates.target c) (s.took c + 1)
 
--- the source of channel c puts its next block there: it has taken all blocks of this firing, completed all earlier ones, and there is room.
--- To itself it puts first of all, as it computes
+-- the source of channel c puts its next block there: it has taken all blocks of this firing, completed all earlier
+-- ones, and there is room. To itself it puts first of all, as it computes
 pub record CanPut {A : Type 0} (f : Wiring A) (k cap : ℕ → ℕ) (s : Machine A) (c : ℕ) : Type 0 where
   pub known : c < f.rates.channels
   pub left : s.gave c < k (f.rates.source c)

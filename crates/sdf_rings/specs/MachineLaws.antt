@@ -1,5 +1,6 @@
 -- The laws of the ring machine, of every net and every valid table of its firings.
-use Rattle.std.specs.Prelude.{◌≡◌, ℕ, ◌+◌, ◌-◌, ◌*◌, ◌⊎◌, ◌≤◌, ◌<◌, List, [], ◌∷◌, ◌++◌, length, take, slice_index, slice_index_or, zero, suc}
+use Rattle.std.specs.Prelude.{◌≡◌, ℕ, ◌+◌, ◌-◌, ◌*◌, ◌⊎◌, ◌≤◌, ◌<◌, List, [], ◌∷◌, ◌++◌, length, take, slice_index}
+use Rattle.std.specs.Prelude.{slice_index_or, zero, suc}
 use Rattle.std.specs.List.{between}
 use Rattle.sdf_graph.specs.Rates.{Rates, IsAlike, IsSound}
 use Rattle.sdf_graph.specs.Sequences.{IsPeriod}
@@ -20,7 +21,8 @@ pub record Plan : Type 0 where
   pub width : ℕ
   pub table : Tabled
 
--- the graph is the net's, and the table is valid. Where its actors are at home is not asked: the laws hold of each valid table
+-- the graph is the net's, and the table is valid. Where its actors are at home is not asked: the laws hold of each
+-- valid table
 pub record IsPlan {A S T : Type 0} (s : Steps A S T) (n : Netlist A T) (p : Plan) : Type 0 where
   pub net : IsNet s n
   pub alike : IsAlike p.rates (wiring s n).rates
@@ -37,7 +39,8 @@ capacity p c = slice_index p.table.caps c
 
 -- a run of b blocks, and where it leads
 abbrev pub IsRunOf : {A S T : Type 0} → Steps A S T → Netlist A T → List (List T) → Plan → ℕ → List Event → Type 0
-IsRunOf s n inputs p b es = IsRun (wiring s n) (answers s n inputs) (firings p b) (capacity p) (at_start (wiring s n)) es
+IsRunOf s n inputs p b es = IsRun (wiring s n) (answers s n inputs) (firings p b) (capacity p)
+    (at_start (wiring s n)) es
 
 abbrev pub reached : {A S T : Type 0} → Steps A S T → Netlist A T → List (List T) → List Event → Machine T
 reached s n inputs es = after (wiring s n) (answers s n inputs) (at_start (wiring s n)) es
@@ -57,29 +60,34 @@ IsWithin s n cap m = (c : ℕ) → c < length n.wires → length (m.lists c) ≤
 abbrev pub RunsKeepWithin : {A S T : Type 0} → Steps A S T → Type 0
 RunsKeepWithin {A} {S} {T} s =
     (n : Netlist A T) (inputs : List (List T)) (p : Plan) (b : ℕ) (es : List Event) →
-    IsPlan s n p → InputsReach n inputs (firings p b) → IsRunOf s n inputs p b es → IsWithin s n (capacity p) (reached s n inputs es)
+    IsPlan s n p → InputsReach n inputs (firings p b) → IsRunOf s n inputs p b es →
+    IsWithin s n (capacity p) (reached s n inputs es)
 
 -- each channel has moved all the blocks of k firings
 abbrev pub IsOver : {A S T : Type 0} → Steps A S T → Netlist A T → (ℕ → ℕ) → Machine T → Type 0
 IsOver s n k m =
-    (c : ℕ) → c < length n.wires → (m.took c ≡ k ((wiring s n).rates.target c)) × (m.gave c ≡ k ((wiring s n).rates.source c))
+    (c : ℕ) → c < length n.wires → (m.took c ≡ k ((wiring s n).rates.target c))
+    × (m.gave c ≡ k ((wiring s n).rates.source c))
 
 -- all blocks have moved, or some event is allowed
 abbrev pub RunsGoOn : {A S T : Type 0} → Steps A S T → Type 0
 RunsGoOn {A} {S} {T} s =
     (n : Netlist A T) (inputs : List (List T)) (p : Plan) (b : ℕ) (es : List Event) →
     IsPlan s n p → IsRunOf s n inputs p b es →
-    IsOver s n (firings p b) (reached s n inputs es) ⊎ ((e : Event) × IsAllowed (wiring s n) (firings p b) (capacity p) (reached s n inputs es) e)
+    IsOver s n (firings p b) (reached s n inputs es)
+    ⊎ ((e : Event) × IsAllowed (wiring s n) (firings p b) (capacity p) (reached s n inputs es) e)
 
 -- how many blocks of k firings have still to move at the first so many channels
 abbrev pub blocks_left : {A : Type 0} → Wiring A → (ℕ → ℕ) → Machine A → ℕ → ℕ
 blocks_left f k m zero = 0
-blocks_left f k m (suc c) = blocks_left f k m c + ((k (f.rates.target c) - m.took c) + (k (f.rates.source c) - m.gave c))
+blocks_left f k m (suc c) = blocks_left f k m c + ((k (f.rates.target c) - m.took c)
+    + (k (f.rates.source c) - m.gave c))
 
 -- each event moves one of them, so no run has more events than there are blocks
 abbrev pub RunsMoveBlocks : {A S T : Type 0} → Steps A S T → Type 0
 RunsMoveBlocks {A} {S} {T} s =
-    (n : Netlist A T) (inputs : List (List T)) (p : Plan) (b : ℕ) (es : List Event) → IsPlan s n p → IsRunOf s n inputs p b es →
+    (n : Netlist A T) (inputs : List (List T)) (p : Plan) (b : ℕ) (es : List Event) → IsPlan s n p →
+    IsRunOf s n inputs p b es →
     length es + blocks_left (wiring s n) (firings p b) (reached s n inputs es) (length n.wires) ≡
     blocks_left (wiring s n) (firings p b) (at_start (wiring s n)) (length n.wires)
 
@@ -87,18 +95,21 @@ RunsMoveBlocks {A} {S} {T} s =
 abbrev pub RunsEndInHistories : {A S T : Type 0} → Steps A S T → Type 0
 RunsEndInHistories {A} {S} {T} s =
     (n : Netlist A T) (inputs : List (List T)) (p : Plan) (b : ℕ) (V : ℕ → List T) (es : List Event) →
-    IsPlan s n p → IsHistoryOf s n inputs (firings p b) V → IsRunOf s n inputs p b es → IsOver s n (firings p b) (reached s n inputs es) →
+    IsPlan s n p → IsHistoryOf s n inputs (firings p b) V → IsRunOf s n inputs p b es →
+    IsOver s n (firings p b) (reached s n inputs es) →
     (c : ℕ) → c < length n.wires → (reached s n inputs es).lists c ≡ V c
 
--- a channel from an actor to itself is never waited for: once the turn of a block has come, its samples are there for the take, and
--- the room for the put
+-- a channel from an actor to itself is never waited for: once the turn of a block has come, its samples are there for
+-- the take, and the room for the put
 abbrev pub OwnNeverWaits : {A S T : Type 0} → Steps A S T → Type 0
 OwnNeverWaits {A} {S} {T} s =
     (n : Netlist A T) (p : Plan) (b : ℕ) (m : Machine T) (c : ℕ) →
     IsPlan s n p → c < length n.wires → (wiring s n).rates.source c ≡ (wiring s n).rates.target c →
-    (m.took c < firings p b ((wiring s n).rates.target c) → m.took c ≤ m.gave c → (wiring s n).rates.consumed c (m.took c + 1) ≤ put_on (wiring s n) m c) ×
+    (m.took c < firings p b ((wiring s n).rates.target c) → m.took c ≤ m.gave c →
+    (wiring s n).rates.consumed c (m.took c + 1) ≤ put_on (wiring s n) m c) ×
     (m.gave c < firings p b ((wiring s n).rates.source c) → m.gave c < m.took c →
-    (wiring s n).rates.initial c + (wiring s n).rates.produced c (m.gave c + 1) ≤ capacity p c + taken_from (wiring s n) m c)
+    (wiring s n).rates.initial c + (wiring s n).rates.produced c (m.gave c + 1) ≤
+    capacity p c + taken_from (wiring s n) m c)
 
 -- all actors are idle: how often each has fired, its state, and what each channel was given
 pub record Rest (S T : Type 0) : Type 0 where
@@ -114,7 +125,8 @@ resting s n x = record {
   lists = x.lists;
 }
 
--- the state of a node after it took these blocks, a firing each, from firing i and a state on. Sources and sinks have none
+-- the state of a node after it took these blocks, a firing each, from firing i and a state on. Sources and sinks have
+-- none
 abbrev pub state_on : {A S T : Type 0} → Steps A S T → Node A → ℕ → S → List (List T) → S
 state_on s (Source ext size) i state blocks = state
 state_on s (Sink ext size) i state blocks = state
@@ -133,9 +145,11 @@ IsStateOf s (Sink ext size) past state = Unit {0}
 IsStateOf s (Inner x) past state = state ≡ state_after s x past
 
 -- quiescent: the lists and the states are those of the history at the counts, and no channel is above its capacity
-pub record IsQuiescent {A S T : Type 0} (s : Steps A S T) (n : Netlist A T) (inputs : List (List T)) (cap : ℕ → ℕ) (x : Rest S T) : Type 0 where
+pub record IsQuiescent {A S T : Type 0} (s : Steps A S T) (n : Netlist A T) (inputs : List (List T)) (cap : ℕ → ℕ)
+    (x : Rest S T) : Type 0 where
   pub history : IsHistoryOf s n inputs x.done x.lists
-  pub states : (a : ℕ) → a < length n.nodes → IsStateOf s (node n a) (taken_before (wiring s n) x.lists a (x.done a)) (x.states a)
+  pub states : (a : ℕ) → a < length n.nodes → IsStateOf s (node n a)
+      (taken_before (wiring s n) x.lists a (x.done a)) (x.states a)
   pub within : IsWithin s n cap (resting s n x)
 
 -- what j firings of an actor take, from firing i on
@@ -143,8 +157,10 @@ abbrev pub taken_on : {A : Type 0} → Wiring A → (ℕ → List A) → ℕ →
 taken_on f V a i zero = []
 taken_on f V a i (suc j) = taken_on f V a i j ++ taken f V a (i + j) ∷ []
 
--- from x to y each node has made of the whole blocks that it took what its steps make of them, and knows no more than its own channels
-pub record HasGrown {A S T : Type 0} (s : Steps A S T) (n : Netlist A T) (inputs : List (List T)) (x y : Rest S T) : Type 0 where
+-- from x to y each node has made of the whole blocks that it took what its steps make of them, and knows no more than
+-- its own channels
+pub record HasGrown {A S T : Type 0} (s : Steps A S T) (n : Netlist A T) (inputs : List (List T))
+    (x y : Rest S T) : Type 0 where
   pub more : (a : ℕ) → a < length n.nodes → x.done a ≤ y.done a
   -- each list has grown by a block a firing
   pub kept : (c : ℕ) → c < length n.wires → x.lists c ≡ take (length (x.lists c)) (y.lists c)
@@ -153,10 +169,12 @@ pub record HasGrown {A S T : Type 0} (s : Steps A S T) (n : Netlist A T) (inputs
   pub enough : (c : ℕ) → c < length n.wires → taken_from (wiring s n) (resting s n y) c ≤ length (y.lists c)
   -- the state, and what each firing put
   pub states : (a : ℕ) → a < length n.nodes →
-      y.states a ≡ state_on s (node n a) (x.done a) (x.states a) (taken_on (wiring s n) y.lists a (x.done a) (y.done a - x.done a))
+      y.states a ≡ state_on s (node n a) (x.done a) (x.states a)
+      (taken_on (wiring s n) y.lists a (x.done a) (y.done a - x.done a))
   pub puts : (a j : ℕ) → a < length n.nodes → x.done a + j < y.done a →
       put (wiring s n) y.lists a (x.done a + j) ≡
-      put_from s inputs (node n a) (x.done a + j) (state_on s (node n a) (x.done a) (x.states a) (taken_on (wiring s n) y.lists a (x.done a) j)) (taken (wiring s n) y.lists a (x.done a + j))
+      put_from s inputs (node n a) (x.done a + j) (state_on s (node n a) (x.done a) (x.states a)
+      (taken_on (wiring s n) y.lists a (x.done a) j)) (taken (wiring s n) y.lists a (x.done a + j))
 
 -- the channels of two machines are alike
 pub record IsLike {A T : Type 0} (n : Netlist A T) (d e : Machine T) : Type 0 where
@@ -164,7 +182,8 @@ pub record IsLike {A T : Type 0} (n : Netlist A T) (d e : Machine T) : Type 0 wh
   pub gave : (c : ℕ) → c < length n.wires → d.gave c ≡ e.gave c
   pub lists : (c : ℕ) → c < length n.wires → d.lists c ≡ e.lists c
 
--- from a quiescent state, what each node knows of itself suffices for the next one to be quiescent, and a run of the machine leads to it
+-- from a quiescent state, what each node knows of itself suffices for the next one to be quiescent, and a run of the
+-- machine leads to it
 abbrev pub QuiescentReached : {A S T : Type 0} → Steps A S T → Type 0
 QuiescentReached {A} {S} {T} s =
     (n : Netlist A T) (inputs : List (List T)) (p : Plan) (b : ℕ) (x y : Rest S T) →
@@ -176,10 +195,12 @@ QuiescentReached {A} {S} {T} s =
 
 -- a run of b blocks leads to a state where all actors are idle
 abbrev pub IsReached : {A S T : Type 0} → Steps A S T → Netlist A T → List (List T) → Plan → ℕ → Rest S T → Type 0
-IsReached s n inputs p b x = (es : List Event) × IsRunOf s n inputs p b es × IsLike n (reached s n inputs es) (resting s n x)
+IsReached s n inputs p b x = (es : List Event) × IsRunOf s n inputs p b es
+    × IsLike n (reached s n inputs es) (resting s n x)
 
 -- a run from the start leads to each quiescent state with no more firings than those of the blocks
 abbrev pub QuiescentIsReached : {A S T : Type 0} → Steps A S T → Type 0
 QuiescentIsReached {A} {S} {T} s =
     (n : Netlist A T) (inputs : List (List T)) (p : Plan) (b : ℕ) (x : Rest S T) →
-    IsPlan s n p → IsQuiescent s n inputs (capacity p) x → ((a : ℕ) → a < length n.nodes → x.done a ≤ firings p b a) → IsReached s n inputs p b x
+    IsPlan s n p → IsQuiescent s n inputs (capacity p) x → ((a : ℕ) → a < length n.nodes → x.done a ≤ firings p b a) →
+    IsReached s n inputs p b x

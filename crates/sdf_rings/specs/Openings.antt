@@ -11,7 +11,8 @@ use Rattle.sdf_rings.specs.Asks.{IsRoomOf}
 use Rattle.sdf_rings.specs.Ends.{IsMet}
 
 -- both ends of a ring know all that is in it: samples that nobody has taken
-pub record IsOpened {T : Type 0} (p : Producer T Global AnyItems) (x : Consumer T Global AnyItems) (samples : List T) : Type 0 where
+pub record IsOpened {T : Type 0} (p : Producer T Global AnyItems) (x : Consumer T Global AnyItems)
+    (samples : List T) : Type 0 where
   pub met : IsMet p x
   pub put : sent p ≡ samples
   pub untaken : received x ≡ []
@@ -26,7 +27,9 @@ abbrev pub end_at : {E : Type 0} → List (Option E) → ℕ → Option E
 end_at ends c = slice_index_or ends c None
 
 -- the ring of channel c is open
-pub record HasRing {A S T : Type 0} (s : Steps A S T) (n : Netlist A T) (cap : ℕ → ℕ) (c : ℕ) (producers : List (Option (Producer T Global AnyItems))) (consumers : List (Option (Consumer T Global AnyItems))) : Type 0 where
+pub record HasRing {A S T : Type 0} (s : Steps A S T) (n : Netlist A T) (cap : ℕ → ℕ) (c : ℕ)
+    (producers : List (Option (Producer T Global AnyItems)))
+    (consumers : List (Option (Consumer T Global AnyItems))) : Type 0 where
   pub producer : Producer T Global AnyItems
   pub consumer : Consumer T Global AnyItems
   pub puts : end_at producers c ≡ Some producer
@@ -35,14 +38,20 @@ pub record HasRing {A S T : Type 0} (s : Steps A S T) (n : Netlist A T) (cap : �
   pub room : IsRoomOf (wiring s n).rates cap c (producer_capacity producer)
 
 -- so are those of all channels
-pub record HaveRings {A S T : Type 0} (s : Steps A S T) (n : Netlist A T) (cap : ℕ → ℕ) (producers : List (Option (Producer T Global AnyItems))) (consumers : List (Option (Consumer T Global AnyItems))) : Type 0 where
+pub record HaveRings {A S T : Type 0} (s : Steps A S T) (n : Netlist A T) (cap : ℕ → ℕ)
+    (producers : List (Option (Producer T Global AnyItems)))
+    (consumers : List (Option (Consumer T Global AnyItems))) : Type 0 where
   pub producers_all : length producers ≡ length n.wires
   pub consumers_all : length consumers ≡ length n.wires
   pub each : (c : ℕ) → c < length n.wires → HasRing s n cap c producers consumers
 
 -- the ends at node a are there still, and as they were opened
-pub record HasEnds {A T : Type 0} (n : Netlist A T) (a : ℕ) (producers : List (Option (Producer T Global AnyItems))) (consumers : List (Option (Consumer T Global AnyItems))) : Type 0 where
-  pub into : (c : ℕ) → c < length n.wires → (wire n c).to.0 ≡ a → (x : Consumer T Global AnyItems) × (end_at consumers c ≡ Some x) × (received x ≡ [])
-  pub out_of : (c : ℕ) → c < length n.wires → (wire n c).from.0 ≡ a → (p : Producer T Global AnyItems) × (end_at producers c ≡ Some p) × (sent p ≡ (wire n c).initial)
-  pub own : (c : ℕ) (p : Producer T Global AnyItems) (x : Consumer T Global AnyItems) → c < length n.wires → (wire n c).from.0 ≡ a → (wire n c).to.0 ≡ a →
+pub record HasEnds {A T : Type 0} (n : Netlist A T) (a : ℕ) (producers : List (Option (Producer T Global AnyItems)))
+    (consumers : List (Option (Consumer T Global AnyItems))) : Type 0 where
+  pub into : (c : ℕ) → c < length n.wires → (wire n c).to.0 ≡ a →
+      (x : Consumer T Global AnyItems) × (end_at consumers c ≡ Some x) × (received x ≡ [])
+  pub out_of : (c : ℕ) → c < length n.wires → (wire n c).from.0 ≡ a →
+      (p : Producer T Global AnyItems) × (end_at producers c ≡ Some p) × (sent p ≡ (wire n c).initial)
+  pub own : (c : ℕ) (p : Producer T Global AnyItems) (x : Consumer T Global AnyItems) → c < length n.wires →
+      (wire n c).from.0 ≡ a → (wire n c).to.0 ≡ a →
       end_at producers c ≡ Some p → end_at consumers c ≡ Some x → IsPair p x

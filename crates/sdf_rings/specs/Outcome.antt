@@ -13,10 +13,12 @@ use Rattle.sdf_rings.specs.Rests.{InHand, HaveMet}
 use Rattle.sdf_rings.specs.Totals.{total_left}
 use Rattle.sdf_answer.specs.Answer.{HasInputs, AreOutputs, periods_of}
 use Rattle.sdf_answer.specs.declared.fault.RunFault.{RunFault}
-use Rattle.sdf_answer.specs.declared.fault.RunFault.TheVariants.{OutOfMemory, InputLength, NotHomed, Patience, NoWorker, SessionFailed}
+use Rattle.sdf_answer.specs.declared.fault.RunFault.TheVariants.{OutOfMemory, InputLength, NotHomed, Patience, NoWorker}
+use Rattle.sdf_answer.specs.declared.fault.RunFault.TheVariants.{SessionFailed}
 
 -- what the run gives, where no test fails: the outputs, and in how many rounds. Each round does some firing
-pub record HasRun {A S T : Type 0} (s : Steps A S T) (n : Netlist A T) (q : List ℕ) (j : ℕ) (t : Tabled) (blocks : ℕ) (inputs : List (List T)) (patience : ℕ) (outputs : List (List T)) (rounds : ℕ) : Type 0 where
+pub record HasRun {A S T : Type 0} (s : Steps A S T) (n : Netlist A T) (q : List ℕ) (j : ℕ) (t : Tabled) (blocks : ℕ)
+    (inputs : List (List T)) (patience : ℕ) (outputs : List (List T)) (rounds : ℕ) : Type 0 where
   pub homed : IsHomed t
   pub patient : patience ≤ MOST_PATIENCE
   pub has : HasInputs n q (blocks * j) inputs
@@ -25,7 +27,9 @@ pub record HasRun {A S T : Type 0} (s : Steps A S T) (n : Netlist A T) (q : List
   pub rounds_some : 0 < blocks → 0 < rounds
 
 -- what a run gives that goes on from a rest, where no test fails. Its rounds are as many as those of any run
-pub record HasGoneOn {A S T : Type 0} (s : Steps A S T) (n : Netlist A T) (q : List ℕ) (j : ℕ) (t : Tabled) (rest : Rest T S) (blocks : ℕ) (inputs : List (List T)) (patience : ℕ) (outputs : List (List T)) (rounds : ℕ) (last : Rest T S) : Type 0 where
+pub record HasGoneOn {A S T : Type 0} (s : Steps A S T) (n : Netlist A T) (q : List ℕ) (j : ℕ) (t : Tabled)
+    (rest : Rest T S) (blocks : ℕ) (inputs : List (List T)) (patience : ℕ) (outputs : List (List T)) (rounds : ℕ)
+    (last : Rest T S) : Type 0 where
   pub homed : IsHomed t
   pub patient : patience ≤ MOST_PATIENCE
   pub goes_on : GoesOnBy s n q rest (blocks * j) inputs outputs last
@@ -33,7 +37,8 @@ pub record HasGoneOn {A S T : Type 0} (s : Steps A S T) (n : Netlist A T) (q : L
   pub rounds_some : 0 < blocks → 0 < rounds
 
 -- after the rounds of a run, where no test fails: nothing is left of the blocks of the table, and all ends have met
-pub record HasEnded {A S T : Type 0} (s : Steps A S T) (n : Netlist A T) (q : List ℕ) (j : ℕ) (t : Tabled) (blocks : ℕ) (inputs : List (List T)) (patience : ℕ) (r : InHand A S T) (rounds : ℕ) : Type 0 where
+pub record HasEnded {A S T : Type 0} (s : Steps A S T) (n : Netlist A T) (q : List ℕ) (j : ℕ) (t : Tabled) (blocks : ℕ)
+    (inputs : List (List T)) (patience : ℕ) (r : InHand A S T) (rounds : ℕ) : Type 0 where
   pub homed : IsHomed t
   pub patient : patience ≤ MOST_PATIENCE
   pub has : HasInputs n q (blocks * j) inputs
@@ -51,6 +56,7 @@ abbrev pub IsRingsFault : {A T : Type 0} → Netlist A T → List ℕ → ℕ �
 IsRingsFault n q periods inputs t patience OutOfMemory = Unit {0}
 IsRingsFault n q periods inputs t patience NotHomed = IsHomed t → ⊥
 IsRingsFault n q periods inputs t patience Patience = IsHomed t × (MOST_PATIENCE < patience)
-IsRingsFault n q periods inputs t patience InputLength = IsHomed t × (patience ≤ MOST_PATIENCE) × (HasInputs n q periods inputs → ⊥)
+IsRingsFault n q periods inputs t patience InputLength =
+    IsHomed t × (patience ≤ MOST_PATIENCE) × (HasInputs n q periods inputs → ⊥)
 IsRingsFault n q periods inputs t patience NoWorker = ⊥
 IsRingsFault n q periods inputs t patience SessionFailed = ⊥

@@ -45,13 +45,15 @@ and_a_take = Put 0 ∷ Put 0 ∷ Put 0 ∷ Take 0 ∷ []
 pub record ThreePutsFill {A S T : Type 0} (s : Steps A S T) (inputs : List (List T)) : Type 0 where
   pub run : IsRunOf s pair inputs (plan s) 2 three_puts
   pub full : held s (reached s pair inputs three_puts) ≡ 6
-  pub no_more : IsAllowed (wiring s pair) (firings (plan s) 2) (capacity (plan s)) (reached s pair inputs three_puts) (Put 0) → ⊥
+  pub no_more : IsAllowed (wiring s pair) (firings (plan s) 2) (capacity (plan s))
+      (reached s pair inputs three_puts) (Put 0) → ⊥
 
 -- after one take there is room for a put again
 pub record ATakeMakesRoom {A S T : Type 0} (s : Steps A S T) (inputs : List (List T)) : Type 0 where
   pub run : IsRunOf s pair inputs (plan s) 2 and_a_take
   pub half : held s (reached s pair inputs and_a_take) ≡ 3
-  pub more : IsAllowed (wiring s pair) (firings (plan s) 2) (capacity (plan s)) (reached s pair inputs and_a_take) (Put 0)
+  pub more : IsAllowed (wiring s pair) (firings (plan s) 2) (capacity (plan s))
+      (reached s pair inputs and_a_take) (Put 0)
 
 abbrev pub PairIsPlanned : {A S T : Type 0} → Steps A S T → Type 0
 PairIsPlanned s = IsPlan s pair (plan s)

@@ -16,4 +16,5 @@ HoldsParts s width many xs = (i : ℕ) → i < many → part_at s i + width ≤ 
 
 -- what touches none of them is as it was
 abbrev pub KeepsOthers : {T : Type 0} → Stride → ℕ → ℕ → List T → List T → Type 0
-KeepsOthers s width many xs ys = (a b : ℕ) → ((i : ℕ) → i < many → (b ≤ part_at s i) ⊎ (part_at s i + width ≤ a)) → slice_range ys a b ≡ slice_range xs a b
+KeepsOthers s width many xs ys = (a b : ℕ) → ((i : ℕ) → i < many → (b ≤ part_at s i) ⊎ (part_at s i + width ≤ a)) →
+    slice_range ys a b ≡ slice_range xs a b

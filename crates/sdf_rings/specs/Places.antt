@@ -26,12 +26,15 @@ module _ {A T S : Type 0} where
     pub len : length new ≡ length old
     pub seats : (j : ℕ) (e : Seat A T S) → SameSeat (slice_index_or old j e) (slice_index_or new j e)
     pub here : (e : Seat A T S) (d : Stand A T S) → stand_at new i k e d ≡ x
-    pub others : (j l : ℕ) (e : Seat A T S) (d : Stand A T S) → ((j ≡ i) × (l ≡ k) → ⊥) → stand_at new j l e d ≡ stand_at old j l e d
+    pub others : (j l : ℕ) (e : Seat A T S) (d : Stand A T S) → ((j ≡ i) × (l ≡ k) → ⊥) →
+        stand_at new j l e d ≡ stand_at old j l e d
 
-  abbrev pub consumer_at : List (Seat A T S) → Spot → Seat A T S → Stand A T S → Consumer T Global AnyItems → Consumer T Global AnyItems
+  abbrev pub consumer_at : List (Seat A T S) → Spot → Seat A T S → Stand A T S → Consumer T Global AnyItems →
+      Consumer T Global AnyItems
   consumer_at seats q e d x = slice_index_or (stand_at seats q.seat q.stand e d).ins.items q.port x
 
-  abbrev pub producer_at : List (Seat A T S) → Spot → Seat A T S → Stand A T S → Producer T Global AnyItems → Producer T Global AnyItems
+  abbrev pub producer_at : List (Seat A T S) → Spot → Seat A T S → Stand A T S → Producer T Global AnyItems →
+      Producer T Global AnyItems
   producer_at seats q e d x = slice_index_or (stand_at seats q.seat q.stand e d).outs.items q.port x
 
   -- all but the ends
@@ -63,26 +66,38 @@ module _ {A T S : Type 0} where
   pub record IsRing (seats : List (Seat A T S)) (from to : Spot) : Type 0 where
     pub puts_there : PutsAt seats from
     pub takes_there : TakesAt seats to
-    pub pair_there : (e : Seat A T S) (d : Stand A T S) (x : Consumer T Global AnyItems) (y : Producer T Global AnyItems) → IsPair (producer_at seats from e d y) (consumer_at seats to e d x)
+    pub pair_there : (e : Seat A T S) (d : Stand A T S) (x : Consumer T Global AnyItems)
+        (y : Producer T Global AnyItems) → IsPair (producer_at seats from e d y) (consumer_at seats to e d x)
 
   -- the ends of one ring were told, and nothing else is changed
   pub record IsTold (old new : List (Seat A T S)) (from to : Spot) : Type 0 where
     pub told_len : length new ≡ length old
     pub told_seats : (j : ℕ) (e : Seat A T S) → SameSeat (slice_index_or old j e) (slice_index_or new j e)
-    pub told_stands : (j l : ℕ) (e : Seat A T S) (d : Stand A T S) → SameStand (stand_at old j l e d) (stand_at new j l e d)
-    pub told_consumer : (e : Seat A T S) (d : Stand A T S) (x : Consumer T Global AnyItems) → ConsumerLooked (consumer_at old to e d x) (consumer_at new to e d x)
-    pub told_producer : (e : Seat A T S) (d : Stand A T S) (y : Producer T Global AnyItems) → ProducerLooked (producer_at old from e d y) (producer_at new from e d y)
-    pub met : (e : Seat A T S) (d : Stand A T S) (x : Consumer T Global AnyItems) (y : Producer T Global AnyItems) → IsMet (producer_at new from e d y) (consumer_at new to e d x)
-    pub other_consumers : (q : Spot) (e : Seat A T S) (d : Stand A T S) (x : Consumer T Global AnyItems) → ((q.seat ≡ to.seat) × (q.stand ≡ to.stand) × (q.port ≡ to.port) → ⊥) → consumer_at new q e d x ≡ consumer_at old q e d x
-    pub other_producers : (q : Spot) (e : Seat A T S) (d : Stand A T S) (y : Producer T Global AnyItems) → ((q.seat ≡ from.seat) × (q.stand ≡ from.stand) × (q.port ≡ from.port) → ⊥) → producer_at new q e d y ≡ producer_at old q e d y
+    pub told_stands : (j l : ℕ) (e : Seat A T S) (d : Stand A T S) →
+        SameStand (stand_at old j l e d) (stand_at new j l e d)
+    pub told_consumer : (e : Seat A T S) (d : Stand A T S) (x : Consumer T Global AnyItems) →
+        ConsumerLooked (consumer_at old to e d x) (consumer_at new to e d x)
+    pub told_producer : (e : Seat A T S) (d : Stand A T S) (y : Producer T Global AnyItems) →
+        ProducerLooked (producer_at old from e d y) (producer_at new from e d y)
+    pub met : (e : Seat A T S) (d : Stand A T S) (x : Consumer T Global AnyItems) (y : Producer T Global AnyItems) →
+        IsMet (producer_at new from e d y) (consumer_at new to e d x)
+    pub other_consumers : (q : Spot) (e : Seat A T S) (d : Stand A T S) (x : Consumer T Global AnyItems) →
+        ((q.seat ≡ to.seat) × (q.stand ≡ to.stand) × (q.port ≡ to.port) → ⊥) →
+        consumer_at new q e d x ≡ consumer_at old q e d x
+    pub other_producers : (q : Spot) (e : Seat A T S) (d : Stand A T S) (y : Producer T Global AnyItems) →
+        ((q.seat ≡ from.seat) × (q.stand ≡ from.stand) × (q.port ≡ from.port) → ⊥) →
+        producer_at new q e d y ≡ producer_at old q e d y
 
   -- all but the ends is as it was
   pub record SameButEnds (old new : List (Seat A T S)) : Type 0 where
     pub all_same : length new ≡ length old
     pub each_seat : (j : ℕ) (e : Seat A T S) → SameSeat (slice_index_or old j e) (slice_index_or new j e)
-    pub each_stand : (j l : ℕ) (e : Seat A T S) (d : Stand A T S) → SameStand (stand_at old j l e d) (stand_at new j l e d)
+    pub each_stand : (j l : ℕ) (e : Seat A T S) (d : Stand A T S) →
+        SameStand (stand_at old j l e d) (stand_at new j l e d)
 
   -- the items of one ring may be gone, and nothing else is changed
   pub record IsEmptied (old new : List (Seat A T S)) (at : Spot) : Type 0 where
     pub but_ends : SameButEnds old new
-    pub others_kept : (q : Spot) (e : Seat A T S) (d : Stand A T S) (x : Consumer T Global AnyItems) → ((q.seat ≡ at.seat) × (q.stand ≡ at.stand) × (q.port ≡ at.port) → ⊥) → consumer_at new q e d x ≡ consumer_at old q e d x
+    pub others_kept : (q : Spot) (e : Seat A T S) (d : Stand A T S) (x : Consumer T Global AnyItems) →
+        ((q.seat ≡ at.seat) × (q.stand ≡ at.stand) × (q.port ≡ at.port) → ⊥) →
+        consumer_at new q e d x ≡ consumer_at old q e d x

@@ -14,21 +14,24 @@ use Rattle.sdf_rings.specs.Asks.{IsPlanned}
 use Rattle.sdf_rings.specs.MachineLaws.{Plan, IsPlan, firings}
 use Rattle.sdf_rings.specs.Begun.{place}
 
--- there is a seat for each column of the table and each node stands at home. Nothing has fired, all ends have met, and so many blocks
--- of the table are asked
-pub record IsPrepared {A S T : Type 0} (s : Steps A S T) (n : Netlist A T) (inputs : List (List T)) (t : Tabled) (blocks : ℕ) (r : InHand A S T) : Type 0 where
+-- there is a seat for each column of the table and each node stands at home. Nothing has fired, all ends have met, and
+-- so many blocks of the table are asked
+pub record IsPrepared {A S T : Type 0} (s : Steps A S T) (n : Netlist A T) (inputs : List (List T)) (t : Tabled)
+    (blocks : ℕ) (r : InHand A S T) : Type 0 where
   pub net_is : r.net ≡ n
   pub inputs_are : r.inputs ≡ inputs
   pub columns : (i : ℕ) → i < length t.rows → length (row t.rows i) ≡ length r.seats
   pub processors : (i : ℕ) (e : Seat A T S) → i < length r.seats → (slice_index_or r.seats i e).processor ≡ i
   pub homes : (a : ℕ) → a < length n.nodes → home_in t a ≡ Some (place r.places a).0
-  pub undone : (a : ℕ) (e : Seat A T S) (d : Stand A T S) → a < length n.nodes → (stand_of n r.seats r.places e d a).done ≡ 0
+  pub undone : (a : ℕ) (e : Seat A T S) (d : Stand A T S) → a < length n.nodes →
+      (stand_of n r.seats r.places e d a).done ≡ 0
   pub first : (i : ℕ) (e : Seat A T S) → i < length r.seats → (slice_index_or r.seats i e).next ≡ 0
   pub met : HaveMet n r.seats r.places
   pub planned : IsPlanned s n r.seats r.places (repeated blocks t.order) (slice_index t.caps)
 
 -- the table is one of a plan of the net, and so many blocks of it are asked
-pub record IsAsked {A S T : Type 0} (s : Steps A S T) (n : Netlist A T) (t : Tabled) (blocks : ℕ) (asked : ℕ → ℕ) : Type 0 where
+pub record IsAsked {A S T : Type 0} (s : Steps A S T) (n : Netlist A T) (t : Tabled) (blocks : ℕ)
+    (asked : ℕ → ℕ) : Type 0 where
   pub plan : Plan
   pub is : IsPlan s n plan
   pub table_is : plan.table ≡ t

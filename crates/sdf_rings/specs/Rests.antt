@@ -28,7 +28,8 @@ module _ {A S T : Type 0} (n : Netlist A T) (seats : List (Seat A T S)) (places 
 
   pub record IsPlaced : Type 0 where
     pub seat_in : (a : ℕ) → a < length n.nodes → (slice_index_or places a (0, 0)).0 < length seats
-    pub stand_in : (a : ℕ) (e : Seat A T S) → a < length n.nodes → (slice_index_or places a (0, 0)).1 < vec_len (slice_index_or seats (slice_index_or places a (0, 0)).0 e).stands
+    pub stand_in : (a : ℕ) (e : Seat A T S) → a < length n.nodes →
+        (slice_index_or places a (0, 0)).1 < vec_len (slice_index_or seats (slice_index_or places a (0, 0)).0 e).stands
     pub is : (a : ℕ) (e : Seat A T S) (d : Stand A T S) → a < length n.nodes → (stand_of e d a).actor ≡ a
 
   -- the two ends of channel c
@@ -39,29 +40,37 @@ module _ {A S T : Type 0} (n : Netlist A T) (seats : List (Seat A T S)) (places 
   consumer_of e d x c = slice_index_or (stand_of e d (wire n c).to.0).ins.items (wire n c).to.1 x
 
   abbrev pub HaveMet : Type 0
-  HaveMet = (c : ℕ) (e : Seat A T S) (d : Stand A T S) (x : Consumer T Global AnyItems) (y : Producer T Global AnyItems) → c < length n.wires → IsMet (producer_of e d y c) (consumer_of e d x c)
+  HaveMet = (c : ℕ) (e : Seat A T S) (d : Stand A T S) (x : Consumer T Global AnyItems)
+      (y : Producer T Global AnyItems) → c < length n.wires → IsMet (producer_of e d y c) (consumer_of e d x c)
 
 module _ {A S T : Type 0} (n : Netlist A T) (seats : List (Seat A T S)) (places : List (ℕ × ℕ)) where
   -- the two ends of each channel are of one ring
   pub record HavePairs : Type 0 where
     pub all : length places ≡ length n.nodes
-    pub pair : (c : ℕ) (e : Seat A T S) (d : Stand A T S) (x : Consumer T Global AnyItems) (y : Producer T Global AnyItems) → c < length n.wires →
+    pub pair : (c : ℕ) (e : Seat A T S) (d : Stand A T S) (x : Consumer T Global AnyItems)
+        (y : Producer T Global AnyItems) → c < length n.wires →
         IsPair (producer_of n seats places e d y c) (consumer_of n seats places e d x c)
 
--- at rest after done a firings of each node a: what was put is the history, each ring holds what is left of it, and each node's state
--- is the one after what it took
-pub record IsRest {A S T : Type 0} (s : Steps A S T) (n : Netlist A T) (inputs : List (List T)) (seats : List (Seat A T S)) (places : List (ℕ × ℕ)) (done : ℕ → ℕ) : Type 0 where
+-- at rest after done a firings of each node a: what was put is the history, each ring holds what is left of it, and
+-- each node's state is the one after what it took
+pub record IsRest {A S T : Type 0} (s : Steps A S T) (n : Netlist A T) (inputs : List (List T))
+    (seats : List (Seat A T S)) (places : List (ℕ × ℕ)) (done : ℕ → ℕ) : Type 0 where
   pub history : ℕ → List T
   pub is : IsHistoryOf s n inputs done history
-  pub dones : (a : ℕ) (e : Seat A T S) (d : Stand A T S) → a < length n.nodes → (stand_of n seats places e d a).done ≡ done a
-  pub put : (c : ℕ) (e : Seat A T S) (d : Stand A T S) (y : Producer T Global AnyItems) → c < length n.wires → sent (producer_of n seats places e d y c) ≡ history c
+  pub dones : (a : ℕ) (e : Seat A T S) (d : Stand A T S) → a < length n.nodes →
+      (stand_of n seats places e d a).done ≡ done a
+  pub put : (c : ℕ) (e : Seat A T S) (d : Stand A T S) (y : Producer T Global AnyItems) → c < length n.wires →
+      sent (producer_of n seats places e d y c) ≡ history c
   pub left : (c : ℕ) (e : Seat A T S) (d : Stand A T S) (x : Consumer T Global AnyItems) → c < length n.wires →
-      known_items (consumer_of n seats places e d x c) ≡ drop ((wiring s n).rates.consumed c (done ((wiring s n).rates.target c))) (history c)
+      known_items (consumer_of n seats places e d x c) ≡
+      drop ((wiring s n).rates.consumed c (done ((wiring s n).rates.target c))) (history c)
   pub states : (a : ℕ) (e : Seat A T S) (d : Stand A T S) → a < length n.nodes →
-      IsAt s inputs (stand_of n seats places e d a).asked (node n a) (taken_before (wiring s n) history a (done a)) (stand_of n seats places e d a).state
+      IsAt s inputs (stand_of n seats places e d a).asked (node n a) (taken_before (wiring s n) history a (done a))
+      (stand_of n seats places e d a).state
 
 -- the same at whatever counts are those of the firings done, read by any seat, stand and ends
-abbrev pub AreAtRest : {A S T : Type 0} → Steps A S T → Netlist A T → List (List T) → List (Seat A T S) → List (ℕ × ℕ) → Type 0
+abbrev pub AreAtRest : {A S T : Type 0} → Steps A S T → Netlist A T → List (List T) → List (Seat A T S) → List (ℕ × ℕ) →
+    Type 0
 AreAtRest {A} {S} {T} s n inputs seats places =
     (e : Seat A T S) (d : Stand A T S) (x : Consumer T Global AnyItems) (y : Producer T Global AnyItems) (k : ℕ → ℕ) →
     ((a : ℕ) → a < length n.nodes → (stand_of n seats places e d a).done ≡ k a) → IsRest s n inputs seats places k
@@ -81,7 +90,11 @@ pub record AreRings {A S T : Type 0} (s : Steps A S T) (r : InHand A S T) : Type
 
 -- the place of an end of a link
 abbrev pub spot_of : List (ℕ × ℕ) → ℕ × ℕ → Spot
-spot_of places end = record { seat = (slice_index_or places end.0 (0, 0)).0; stand = (slice_index_or places end.0 (0, 0)).1; port = end.1 }
+spot_of places end = record {
+  seat = (slice_index_or places end.0 (0, 0)).0;
+  stand = (slice_index_or places end.0 (0, 0)).1;
+  port = end.1;
+}
 
 -- the state of an actor at work
 abbrev pub state_in : {T S : Type 0} → NodeState T S → Option S
@@ -90,9 +103,11 @@ state_in (Sink list) = None
 state_in (Inner j state) = Some state
 
 -- a rest of what the seats hold: each actor's state, and the items that are known of each ring
-pub record HoldRest {A S T : Type 0} (n : Netlist A T) (seats : List (Seat A T S)) (places : List (ℕ × ℕ)) (rest : Rest T S) : Type 0 where
+pub record HoldRest {A S T : Type 0} (n : Netlist A T) (seats : List (Seat A T S)) (places : List (ℕ × ℕ))
+    (rest : Rest T S) : Type 0 where
   pub nodes : length rest.states.items ≡ length n.nodes
-  pub states_held : (a : ℕ) (x : A) (e : Seat A T S) (d : Stand A T S) → a < length n.nodes → node n a ≡ node_of.Inner x →
+  pub states_held : (a : ℕ) (x : A) (e : Seat A T S) (d : Stand A T S) → a < length n.nodes →
+      node n a ≡ node_of.Inner x →
       slice_index_or rest.states.items a None ≡ state_in (stand_of n seats places e d a).state
   pub channels : length rest.held.items ≡ length n.wires
   pub items_held : (c : ℕ) (e : Seat A T S) (d : Stand A T S) (x : Consumer T Global AnyItems) → c < length n.wires →

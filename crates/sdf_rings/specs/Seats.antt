@@ -18,7 +18,8 @@ module _ {A S T : Type 0} (s : Steps A S T) (n : Netlist A T) where
     pub names : (j : ℕ) → j < vec_len x.left → slice_index x.left.items j < vec_len x.stands
     pub each : (k : ℕ) (d : Stand A T S) → k < vec_len x.stands → IsStand s n inputs (slice_index_or x.stands.items k d)
     pub counts : (k : ℕ) (d : Stand A T S) → k < vec_len x.stands →
-        (slice_index_or x.stands.items k d).done + times_between k x.left.items x.next (vec_len x.left) ≡ (slice_index_or x.stands.items k d).asked
+        (slice_index_or x.stands.items k d).done + times_between k x.left.items x.next (vec_len x.left) ≡
+        (slice_index_or x.stands.items k d).asked
 
   -- the first firing of the list is known to be possible
   abbrev pub HasFirst : Seat A T S → Type 0
@@ -32,12 +33,14 @@ module _ {A S T : Type 0} (s : Steps A S T) (n : Netlist A T) where
     pub next_grows : x.next ≤ y.next
     pub next_fits : y.next ≤ vec_len x.left
     pub stands_kept : vec_len y.stands ≡ vec_len x.stands
-    pub moved : (k : ℕ) (d : Stand A T S) → k < vec_len x.stands → HasMoved s n (slice_index_or x.stands.items k d) (slice_index_or y.stands.items k d)
+    pub moved : (k : ℕ) (d : Stand A T S) → k < vec_len x.stands →
+        HasMoved s n (slice_index_or x.stands.items k d) (slice_index_or y.stands.items k d)
     pub dones : (k : ℕ) (d : Stand A T S) → k < vec_len x.stands →
-        (slice_index_or y.stands.items k d).done ≡ (slice_index_or x.stands.items k d).done + times_between k x.left.items x.next y.next
+        (slice_index_or y.stands.items k d).done ≡ (slice_index_or x.stands.items k d).done
+        + times_between k x.left.items x.next y.next
 
-  -- one worker's round: it ends where its list is empty or by what its ends know its first firing lacks samples or room, and
-  -- does that where it was known to be possible
+  -- one worker's round: it ends where its list is empty or by what its ends know its first firing lacks samples or
+  -- room, and does that where it was known to be possible
   pub record HasRounded (inputs : List (List T)) (x y : Seat A T S) : Type 0 where
     pub seat : IsSeat inputs y
     pub worked : HasWorked x y

@@ -19,10 +19,12 @@ use Rattle.sdf_rings.specs.Ends.{DrewEach, GaveEach, HoldsEach, HasRoomEach}
 use Rattle.sdf_answer.specs.Sizes.{sizes, AreRows}
 
 -- channels from node a to itself, by its ends of rings
-module _ {A T : Type 0} (n : Netlist A T) (a : ℕ) (ins : List (Consumer T Global AnyItems)) (outs : List (Producer T Global AnyItems)) where
+module _ {A T : Type 0} (n : Netlist A T) (a : ℕ) (ins : List (Consumer T Global AnyItems))
+    (outs : List (Producer T Global AnyItems)) where
   -- what holds of the two ends of each
   abbrev HoldsOfOwn : (Consumer T Global AnyItems → Producer T Global AnyItems → Type 0) → Type 0
-  HoldsOfOwn R = (c : ℕ) (d : Consumer T Global AnyItems) (e : Producer T Global AnyItems) → c < length n.wires → (wire n c).from.0 ≡ a → (wire n c).to.0 ≡ a →
+  HoldsOfOwn R = (c : ℕ) (d : Consumer T Global AnyItems) (e : Producer T Global AnyItems) → c < length n.wires →
+      (wire n c).from.0 ≡ a → (wire n c).to.0 ≡ a →
       R (slice_index_or ins (wire n c).to.1 d) (slice_index_or outs (wire n c).from.1 e)
 
   -- both ends of each are one ring's
@@ -34,8 +36,8 @@ module _ {A T : Type 0} (n : Netlist A T) (a : ℕ) (ins : List (Consumer T Glob
   OwnBegin = HoldsOfOwn (λ x y. IsPrefix (received x) (sent y))
 
 module _ {A S T : Type 0} (s : Steps A S T) (n : Netlist A T) where
-  -- it has its ends of rings by port, and what went through them is what it knows of its own channels: its firings done answer what
-  -- they took, and its state is the one after them
+  -- it has its ends of rings by port, and what went through them is what it knows of its own channels: its firings done
+  -- answer what they took, and its state is the one after them
   pub record IsStand (inputs : List (List T)) (x : Stand A T S) : Type 0 where
     pub known : x.actor < length n.nodes
     pub own_pairs : OwnArePairs n x.actor x.ins.items x.outs.items
@@ -46,15 +48,20 @@ module _ {A S T : Type 0} (s : Steps A S T) (n : Netlist A T) where
     pub ins_all : vec_len x.ins ≡ inputs_of s (node n x.actor)
     pub outs_all : vec_len x.outs ≡ outputs_of s (node n x.actor)
     pub took : (i : ℕ) (d : Consumer T Global AnyItems) → i < vec_len x.ins →
-        received (slice_index_or x.ins.items i d) ≡ take ((wiring s n).rates.consumed (slice_index ((wiring s n).ins x.actor) i) x.done) (own (slice_index ((wiring s n).ins x.actor) i))
+        received (slice_index_or x.ins.items i d) ≡ take
+        ((wiring s n).rates.consumed (slice_index ((wiring s n).ins x.actor) i) x.done)
+        (own (slice_index ((wiring s n).ins x.actor) i))
     pub gave : (i : ℕ) (d : Producer T Global AnyItems) → i < vec_len x.outs →
         sent (slice_index_or x.outs.items i d) ≡ own (slice_index ((wiring s n).outs x.actor) i)
     pub phases : 0 < cycle_of s (node n x.actor)
     pub takes : AreRows s Input (node n x.actor) (lists x.takes.items)
     pub puts : AreRows s Output (node n x.actor) (lists x.puts.items)
-    -- its working blocks are long enough while firings are left. Where none was asked there may be no sample to fill them with
-    pub taken_long : x.done < x.asked → (k : ℕ) → takes_of s (node n x.actor) (k % cycle_of s (node n x.actor)) ≤ length x.taken.items
-    pub put_long : x.done < x.asked → (k : ℕ) → puts_of s (node n x.actor) (k % cycle_of s (node n x.actor)) ≤ length x.put.items
+    -- its working blocks are long enough while firings are left. Where none was asked there may be no sample to fill
+    -- them with
+    pub taken_long : x.done < x.asked → (k : ℕ) → takes_of s (node n x.actor) (k % cycle_of s (node n x.actor)) ≤
+        length x.taken.items
+    pub put_long : x.done < x.asked → (k : ℕ) → puts_of s (node n x.actor) (k % cycle_of s (node n x.actor)) ≤
+        length x.put.items
 
   -- the samples of its next firing and the room for what that puts are known at its ends
   pub record CanFire (x : Stand A T S) : Type 0 where
@@ -72,5 +79,7 @@ module _ {A S T : Type 0} (s : Steps A S T) (n : Netlist A T) where
     pub put : ℕ → List T
     pub drew : DrewEach x.ins.items y.ins.items taken
     pub gave : GaveEach x.outs.items y.outs.items put
-    pub taken_count : (i : ℕ) → i < vec_len x.ins → length (taken i) + moved_at s Input (node n x.actor) i x.done ≡ moved_at s Input (node n x.actor) i y.done
-    pub put_count : (i : ℕ) → i < vec_len x.outs → length (put i) + moved_at s Output (node n x.actor) i x.done ≡ moved_at s Output (node n x.actor) i y.done
+    pub taken_count : (i : ℕ) → i < vec_len x.ins →
+        length (taken i) + moved_at s Input (node n x.actor) i x.done ≡ moved_at s Input (node n x.actor) i y.done
+    pub put_count : (i : ℕ) → i < vec_len x.outs →
+        length (put i) + moved_at s Output (node n x.actor) i x.done ≡ moved_at s Output (node n x.actor) i y.done

@@ -36,7 +36,8 @@ pub fn feed_rings<R: Threads + AllocGlobal + Sync, A: Actor, G: Gate>(
     requires period { IsPeriodOf (rates (graph_of A.steps net.now)) period.now }
     requires table { IsTableOf (rates (graph_of A.steps net.now)) period.now.repetitions j table.now }
     ensures { let q = period.now.repetitions in MatchResult result
-        (λ fed. HasRun A.steps net.now q j table.now blocks (lists inputs.now) patience (lists fed.0.outputs.items) fed.0.rounds ×
+        (λ fed. HasRun A.steps net.now q j table.now blocks (lists inputs.now) patience
+        (lists fed.0.outputs.items) fed.0.rounds ×
         feeds.HasRun A.steps net.now (lists inputs.now) (periods_of q (blocks * j)) (lists fed.0.outputs.items) fed.1)
         (IsRingsFault net.now q (blocks * j) (lists inputs.now) table.now patience) }
 {
@@ -45,8 +46,8 @@ pub fn feed_rings<R: Threads + AllocGlobal + Sync, A: Actor, G: Gate>(
     Ok((Ran { outputs, rounds }, rest))
 }
 
-/// Goes on from where runs of a net left it, with all samples read: by further blocks on further inputs. What it makes, joined to
-/// what they made, is what one run on all inputs makes.
+/// Goes on from where runs of a net left it, with all samples read: by further blocks on further inputs. What it makes,
+/// joined to what they made, is what one run on all inputs makes.
 pub fn resume_rings<R: Threads + AllocGlobal + Sync, A: Actor, G: Gate>(
     rt: &R,
     net: &Net<A>,
@@ -61,9 +62,11 @@ pub fn resume_rings<R: Threads + AllocGlobal + Sync, A: Actor, G: Gate>(
 ) -> Result<(Ran<A::Token>, Rest<A::Token, A::State>), RunFault>
     requires period { IsPeriodOf (rates (graph_of A.steps net.now)) period.now }
     requires table { IsTableOf (rates (graph_of A.steps net.now)) period.now.repetitions j table.now }
-    requires rest { (first : List (List A.Token)) × (few : ℕ) × IsRest A.steps net.now first (periods_of period.now.repetitions few) rest.now }
+    requires rest { (first : List (List A.Token)) × (few : ℕ)
+        × IsRest A.steps net.now first (periods_of period.now.repetitions few) rest.now }
     ensures { let q = period.now.repetitions in MatchResult result
-        (λ fed. HasGoneOn A.steps net.now q j table.now rest.now blocks (lists inputs.now) patience (lists fed.0.outputs.items) fed.0.rounds fed.1)
+        (λ fed. HasGoneOn A.steps net.now q j table.now rest.now blocks (lists inputs.now) patience
+        (lists fed.0.outputs.items) fed.0.rounds fed.1)
         (IsRingsFault net.now q (blocks * j) (lists inputs.now) table.now patience) }
 {
     nets_have_periods(net);

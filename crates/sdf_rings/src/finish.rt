@@ -29,7 +29,8 @@ fn collect_from<A: Actor>(
     requires seat { seat < length seats.old }
     requires stand { (e : _) → stand < vec_len (slice_index_or seats.old seat e).stands }
     requires list { (ext block : ℕ) → node.now ≡ kind.Sink ext block → ext < length outputs.old }
-    ensures list { (e : _) (d : _) → IsCollected node.now (stand_at seats.old seat stand e d).state outputs.old outputs.new }
+    ensures list { (e : _) (d : _) → IsCollected node.now (stand_at seats.old seat stand e d).state
+        outputs.old outputs.new }
     ensures seats { (e : _) (d : _) → IsUpdated seats.old seats.new seat stand (stand_at seats.new seat stand e d) }
 {
     collect_at(node, &mut seats[seat].stands[stand].state, outputs);
@@ -46,8 +47,10 @@ pub fn collect<A: Actor>(
     requires all { length places.now ≡ length net.now.nodes }
     requires outputs { length outputs.old ≡ list_count Outputs net.now.nodes }
     ensures count { length outputs.new ≡ length outputs.old }
-    ensures each { (a ext block : ℕ) (made : Vec A.Token Global) (e : _) (d : _) → a < length net.now.nodes → node net.now a ≡ kind.Sink ext block →
-        (stand_of net.now seats.old places.now e d a).state ≡ Sink made → slice_index_or (lists outputs.new) ext [] ≡ made.items }
+    ensures each { (a ext block : ℕ) (made : Vec A.Token Global) (e : _) (d : _) → a < length net.now.nodes →
+        node net.now a ≡ kind.Sink ext block →
+        (stand_of net.now seats.old places.now e d a).state ≡ Sink made →
+        slice_index_or (lists outputs.new) ext [] ≡ made.items }
 {
     net_facts(net);
     for a in 0..net.len() {

@@ -1,6 +1,7 @@
 //! Laws of the ring machine, each the contract of a function that does nothing but call laws.
 
-ghost use Rattle.sdf_rings.specs.MachineLaws.{RunsPutPrefixes, RunsKeepWithin, RunsGoOn, RunsMoveBlocks, RunsEndInHistories, OwnNeverWaits, QuiescentReached, QuiescentIsReached};
+ghost use Rattle.sdf_rings.specs.MachineLaws.{RunsPutPrefixes, RunsKeepWithin, RunsGoOn, RunsMoveBlocks};
+ghost use Rattle.sdf_rings.specs.MachineLaws.{RunsEndInHistories, OwnNeverWaits, QuiescentReached, QuiescentIsReached};
 
 use sdf_actor::Actor;
 

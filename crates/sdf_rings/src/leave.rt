@@ -42,7 +42,8 @@ fn states_of<A: Actor>(
     requires placed { IsPlaced net.now seats.now places.now }
     requires all { length places.now ≡ length net.now.nodes }
     ensures all { IfOk result (λ v. length v.items ≡ length net.now.nodes) }
-    ensures each { IfOk result (λ v. (a : ℕ) (x : A) (e : _) (d : _) → a < length net.now.nodes → node net.now a ≡ kind.Inner x →
+    ensures each { IfOk result (λ v. (a : ℕ) (x : A) (e : _) (d : _) → a < length net.now.nodes →
+        node net.now a ≡ kind.Inner x →
         slice_index_or v.items a None ≡ state_in (stand_of net.now seats.now places.now e d a).state) }
 {
     let mut states = Vec::with_capacity(alloc, net.len())?;
@@ -72,7 +73,8 @@ fn empty_at<A: Actor>(
     at: Spot,
 ) -> Result<Vec<A::Token>, AllocError>
     requires there { TakesAt seats.old at }
-    ensures items { IfOk result (λ v. (e : _) (d : _) (x : _) → v.items ≡ known_items (consumer_at seats.old at e d x)) }
+    ensures items { IfOk result (λ v. (e : _) (d : _) (x : _) →
+        v.items ≡ known_items (consumer_at seats.old at e d x)) }
     ensures kept { OnOk result (IsEmptied seats.old seats.new at) }
 {
     let mut ins = Vec::new(alloc);
@@ -89,7 +91,8 @@ fn empty_all<A: Actor>(
     seats: &mut [Seat<A>],
     places: &[(usize, usize)],
 ) -> Result<Vec<Vec<A::Token>>, AllocError>
-    requires rings { (inputs : List (List A.Token)) × AreRings A.steps (record { net = net.now; inputs = inputs; seats = seats.old; places = places.now }) }
+    requires rings { (inputs : List (List A.Token))
+        × AreRings A.steps (record { net = net.now; inputs = inputs; seats = seats.old; places = places.now }) }
     ensures all { IfOk result (λ v. length v.items ≡ length net.now.wires) }
     ensures each { IfOk result (λ v. (c : ℕ) (e : _) (d : _) (x : _) → c < length net.now.wires →
         slice_index_or (lists v.items) c [] ≡ known_items (consumer_of net.now seats.old places.now e d x c)) }
@@ -103,14 +106,16 @@ fn empty_all<A: Actor>(
     Ok(held)
 }
 
-/// What the seats hold: copies of the states of all actors, and the samples on all channels, which are taken out of their rings.
+/// What the seats hold: copies of the states of all actors, and the samples on all channels, which are taken out of
+/// their rings.
 pub fn leave<A: Actor>(
     alloc: Global,
     net: &Net<A>,
     seats: &mut [Seat<A>],
     places: &[(usize, usize)],
 ) -> Result<Rest<A::Token, A::State>, AllocError>
-    requires rings { (inputs : List (List A.Token)) × AreRings A.steps (record { net = net.now; inputs = inputs; seats = seats.old; places = places.now }) }
+    requires rings { (inputs : List (List A.Token))
+        × AreRings A.steps (record { net = net.now; inputs = inputs; seats = seats.old; places = places.now }) }
     ensures rest { IfOk result (λ rest. HoldRest net.now seats.old places.now rest) }
     ensures kept { OnOk result (SameButEnds seats.old seats.new) }
 {

@@ -45,7 +45,8 @@ pub(crate) fn swap_ins<A: Actor>(
     requires seat { seat < length seats.old }
     requires stand { (e : _) → stand < vec_len (slice_index_or seats.old seat e).stands }
     ensures ins { (e : _) (d : _) → ins.new ≡ (stand_at seats.old seat stand e d).ins }
-    ensures seats { (e : _) (d : _) → IsUpdated seats.old seats.new seat stand (record (stand_at seats.old seat stand e d) { ins = ins.old }) }
+    ensures seats { (e : _) (d : _) → IsUpdated seats.old seats.new seat stand
+        (record (stand_at seats.old seat stand e d) { ins = ins.old }) }
 {
     mem::swap(&mut seats[seat].stands[stand].ins, ins);
 }
@@ -61,11 +62,19 @@ fn tell_producer<A: Actor>(
     requires seat { seat < length seats.old }
     requires stand { (e : _) → stand < vec_len (slice_index_or seats.old seat e).stands }
     requires port { (e : _) (d : _) → port < vec_len (stand_at seats.old seat stand e d).outs }
-    requires pair { (e : _) (d : _) (x : _) → IsPair (slice_index_or (stand_at seats.old seat stand e d).outs.items port x) consumer.old }
+    requires pair { (e : _) (d : _) (x : _) → IsPair
+        (slice_index_or (stand_at seats.old seat stand e d).outs.items port x) consumer.old }
     ensures consumer { ConsumerLooked consumer.old consumer.new }
-    ensures producer { (e : _) (d : _) (x : _) → ProducerLooked (slice_index_or (stand_at seats.old seat stand e d).outs.items port x) (slice_index_or (stand_at seats.new seat stand e d).outs.items port x) }
-    ensures met { (e : _) (d : _) (x : _) → IsMet (slice_index_or (stand_at seats.new seat stand e d).outs.items port x) consumer.new }
-    ensures seats { (e : _) (d : _) (x : _) → IsUpdated seats.old seats.new seat stand (record (stand_at seats.old seat stand e d) { outs = with_item (stand_at seats.old seat stand e d).outs port (slice_index_or (stand_at seats.new seat stand e d).outs.items port x) }) }
+    ensures producer { (e : _) (d : _) (x : _) → ProducerLooked
+        (slice_index_or (stand_at seats.old seat stand e d).outs.items port x)
+        (slice_index_or (stand_at seats.new seat stand e d).outs.items port x) }
+    ensures met { (e : _) (d : _) (x : _) → IsMet (slice_index_or (stand_at seats.new seat stand e d).outs.items port
+        x) consumer.new }
+    ensures seats { (e : _) (d : _) (x : _) → IsUpdated seats.old seats.new seat stand
+        (record (stand_at seats.old seat stand e d) {
+          outs = with_item (stand_at seats.old seat stand e d).outs port
+              (slice_index_or (stand_at seats.new seat stand e d).outs.items port x);
+        }) }
 {
     tell(consumer, &mut seats[seat].stands[stand].outs[port]);
 }
@@ -102,10 +111,22 @@ pub fn meet_all<A: Actor>(
     seats: &mut [Seat<A>],
     places: &[(usize, usize)],
 )
-    requires rings { AreRings A.steps (record { net = net.now; inputs = lists inputs.now; seats = seats.old; places = places.now }) }
-    ensures rings { AreRings A.steps (record { net = net.now; inputs = lists inputs.now; seats = seats.new; places = places.now }) }
+    requires rings { AreRings A.steps (record {
+      net = net.now;
+      inputs = lists inputs.now;
+      seats = seats.old;
+      places = places.now;
+    }) }
+    ensures rings { AreRings A.steps (record {
+      net = net.now;
+      inputs = lists inputs.now;
+      seats = seats.new;
+      places = places.now;
+    }) }
     ensures met { HaveMet net.now seats.new places.now }
-    ensures idle { (i : ℕ) (e : _) → i < length seats.old → HasWorked A.steps net.now (slice_index_or seats.old i e) (slice_index_or seats.new i e) × ((slice_index_or seats.new i e).next ≡ (slice_index_or seats.old i e).next) }
+    ensures idle { (i : ℕ) (e : _) → i < length seats.old →
+        HasWorked A.steps net.now (slice_index_or seats.old i e) (slice_index_or seats.new i e)
+        × ((slice_index_or seats.new i e).next ≡ (slice_index_or seats.old i e).next) }
 {
     for c in 0..net.channels() {
         let link = net.link(c);

@@ -1,5 +1,6 @@
-//! Channels from a node to itself. Such a channel is a ring too, and both its ends stand on the node's stand. The room for what a firing puts is known
-//! before it takes, so the ring wants as many places more than the channel's capacity as the greatest block that is put there.
+//! Channels from a node to itself. Such a channel is a ring too, and both its ends stand on the node's stand. The room
+//! for what a firing puts is known before it takes, so the ring wants as many places more than the channel's capacity
+//! as the greatest block that is put there.
 
 ghost use Rattle.std.specs.Prelude.{◌≡◌, ◌<◌, [], length};
 ghost use Rattle.sdf_actor.specs.Nets.{IsNet, node, inputs_of, outputs_of};

@@ -48,7 +48,8 @@ fn lay_out<'a, A: Actor>(
     table: &Table,
     blocks: u32,
 ) -> Result<Rings<'a, A>, AllocError>
-    requires start { CanStart A.steps start.now.net.now (lists start.now.inputs.now) (slice_index start.now.asked.items) start.now.room start.now.filler }
+    requires start { CanStart A.steps start.now.net.now (lists start.now.inputs.now) (slice_index start.now.asked.items)
+        start.now.room start.now.filler }
     requires sizes { AreSizes A.steps start.now.net.now start.now.sizes }
     requires asked { vec_len start.now.asked ≡ length start.now.net.now.nodes }
     requires plan { IsAsked A.steps start.now.net.now table.now blocks (slice_index start.now.asked.items) }
@@ -106,8 +107,9 @@ fn prepare_homed<'a, A: Actor>(
     lay_out(alloc, &start, table, blocks)
 }
 
-/// What a run of so many blocks of `j` periods holds before its first round: a seat for each column of its table, each actor at
-/// home, each channel with what it begins with, and each seat's list of firings. First of all 30 where an actor has no home.
+/// What a run of so many blocks of `j` periods holds before its first round: a seat for each column of its table, each
+/// actor at home, each channel with what it begins with, and each seat's list of firings. First of all 30 where an
+/// actor has no home.
 pub fn prepare<'a, A: Actor>(
     alloc: Global,
     net: &'a Net<A>,
@@ -120,7 +122,8 @@ pub fn prepare<'a, A: Actor>(
     requires period { IsPeriodOf (rates (graph_of A.steps net.now)) period.now }
     requires table { IsTableOf (rates (graph_of A.steps net.now)) period.now.repetitions j table.now }
     ensures { let q = period.now.repetitions in MatchResult result
-        (λ r. IsHomed table.now × HasInputs net.now q (blocks * j) (lists inputs.now) × IsPrepared A.steps net.now (lists inputs.now) table.now blocks r)
+        (λ r. IsHomed table.now × HasInputs net.now q (blocks * j) (lists inputs.now)
+        × IsPrepared A.steps net.now (lists inputs.now) table.now blocks r)
         (IsPrepareFault net.now q (blocks * j) (lists inputs.now) table.now) }
 {
     if !table.homed() {

@@ -14,8 +14,8 @@ use crate::seat::Seat;
 use sdf_actor::{Actor, Net};
 use sdf_answer::laws::net_facts;
 
-/// Where all ends have met, what was put is the history at the firings done, each ring holds what is left of it, and each state is the
-/// one after what its node took.
+/// Where all ends have met, what was put is the history at the firings done, each ring holds what is left of it, and
+/// each state is the one after what its node took.
 pub fn met_is_rest<A: Actor>(
     net: &Net<A>,
     inputs: &[Vec<A::Token>],
@@ -23,7 +23,8 @@ pub fn met_is_rest<A: Actor>(
     places: &[(usize, usize)],
 )
     requires net { IsNet A.steps net.now }
-    requires seats { (i : ℕ) (e : _) → i < length seats.now → IsSeat A.steps net.now (lists inputs.now) (slice_index_or seats.now i e) }
+    requires seats { (i : ℕ) (e : _) → i < length seats.now →
+        IsSeat A.steps net.now (lists inputs.now) (slice_index_or seats.now i e) }
     requires placed { IsPlaced net.now seats.now places.now }
     requires met { HaveMet net.now seats.now places.now }
     ensures { AreAtRest A.steps net.now (lists inputs.now) seats.now places.now }
@@ -33,16 +34,27 @@ pub fn met_is_rest<A: Actor>(
     sdf_actor::laws::locals_are_history::<A>();
 }
 
-/// Where all ends have met, the state of the ring machine that is made of the stands is quiescent, and a run leads to it.
+/// Where all ends have met, the state of the ring machine that is made of the stands is quiescent, and a run leads to
+/// it.
 pub fn met_is_quiescent<A: Actor>(
     net: &Net<A>,
     inputs: &[Vec<A::Token>],
     seats: &[Seat<A>],
     places: &[(usize, usize)],
 )
-    requires rings { AreRings A.steps (record { net = net.now; inputs = lists inputs.now; seats = seats.now; places = places.now }) }
+    requires rings { AreRings A.steps (record {
+      net = net.now;
+      inputs = lists inputs.now;
+      seats = seats.now;
+      places = places.now;
+    }) }
     requires met { HaveMet net.now seats.now places.now }
-    ensures { AreQuiescent A.steps (record { net = net.now; inputs = lists inputs.now; seats = seats.now; places = places.now }) }
+    ensures { AreQuiescent A.steps (record {
+      net = net.now;
+      inputs = lists inputs.now;
+      seats = seats.now;
+      places = places.now;
+    }) }
 {
     sdf_actor::laws::nets_are_wired::<A>();
     sdf_actor::laws::taken_stays::<A>();
@@ -61,7 +73,12 @@ pub fn met_goes_on<A: Actor>(
     seats: &[Seat<A>],
     places: &[(usize, usize)],
 )
-    requires rings { AreRings A.steps (record { net = net.now; inputs = lists inputs.now; seats = seats.now; places = places.now }) }
+    requires rings { AreRings A.steps (record {
+      net = net.now;
+      inputs = lists inputs.now;
+      seats = seats.now;
+      places = places.now;
+    }) }
     requires met { HaveMet net.now seats.now places.now }
     requires planned { (order : List ℕ) × ((cap : ℕ → ℕ) × IsPlanned A.steps net.now seats.now places.now order cap) }
     requires some { 0 < total_left seats.now }

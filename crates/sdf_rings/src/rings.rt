@@ -1,6 +1,7 @@
 //! Rounds by hand: the seats of a run, and all their ends in one hand between two rounds.
 
-ghost use Rattle.std.specs.Prelude.{◌≡◌, ◌+◌, ◌<◌, ◌≤◌, ◌⊎◌, ◌^◌, ◌-◌, ℕ, List, length, min, vec_len, slice_index_or, IfOk};
+ghost use Rattle.std.specs.Prelude.{◌≡◌, ◌+◌, ◌<◌, ◌≤◌, ◌⊎◌, ◌^◌, ◌-◌, ℕ, List, length, min, vec_len, slice_index_or};
+ghost use Rattle.std.specs.Prelude.{IfOk};
 ghost use Rattle.rtrb.specs.Ring.{known_items};
 ghost use Rattle.sdf_rings.specs.Seats.{HasFirst, HasWorked, HasRounded};
 ghost use Rattle.sdf_rings.specs.Rests.{stand_of, consumer_of, AreRings, HaveMet, AreAtRest};
@@ -49,9 +50,20 @@ impl<'a, A: Actor> Model for Rings<'a, A> {
 
     ghost Value = { InHand A A.State A.Token };
 
-    ghost view = { λ r. record { net = r.net.now; inputs = lists r.inputs.now; seats = r.seats.items; places = r.places.items } };
+    ghost view = { λ r. record {
+      net = r.net.now;
+      inputs = lists r.inputs.now;
+      seats = r.seats.items;
+      places = r.places.items;
+    } };
 
-    ghost invariant = { λ r. AreRings A.steps (record { net = r.net.now; inputs = lists r.inputs.now; seats = r.seats.items; places = r.places.items }) × (length r.outputs.items ≡ list_count Outputs r.net.now.nodes) };
+    ghost invariant = { λ r. AreRings A.steps (record {
+      net = r.net.now;
+      inputs = lists r.inputs.now;
+      seats = r.seats.items;
+      places = r.places.items;
+    })
+        × (length r.outputs.items ≡ list_count Outputs r.net.now.nodes) };
 }
 
 impl<'a, A: Actor> Rings<'a, A> {
@@ -64,9 +76,19 @@ impl<'a, A: Actor> Rings<'a, A> {
         places: Vec<(usize, usize)>,
         outputs: Vec<Vec<A::Token>>,
     ) -> Rings<'a, A>
-        requires rings { AreRings A.steps (record { net = net.now; inputs = lists inputs.now; seats = seats.items; places = places.items }) }
+        requires rings { AreRings A.steps (record {
+          net = net.now;
+          inputs = lists inputs.now;
+          seats = seats.items;
+          places = places.items;
+        }) }
         requires outputs { length outputs.items ≡ list_count Outputs net.now.nodes }
-        ensures { result ≡ record { net = net.now; inputs = lists inputs.now; seats = seats.items; places = places.items } }
+        ensures { result ≡ record {
+          net = net.now;
+          inputs = lists inputs.now;
+          seats = seats.items;
+          places = places.items;
+        } }
     {
         Rings {
             alloc,
@@ -104,13 +126,23 @@ impl<'a, A: Actor> Rings<'a, A> {
     /// One worker's round in the caller's thread.
     pub fn work_one<G: Gate>(&mut self, seat: usize, patience: u32, gate: &G) -> u64
         requires { seat < length self.old.seats }
-        ensures worked { (e : _) → HasWorked A.steps self.new.net (slice_index_or self.old.seats seat e) (slice_index_or self.new.seats seat e) }
-        ensures count { (e : _) → (slice_index_or self.new.seats seat e).next ≡ (slice_index_or self.old.seats seat e).next + result }
-        ensures stopped { (e : _) → ((slice_index_or self.new.seats seat e).next ≡ vec_len (slice_index_or self.new.seats seat e).left) ⊎ (HasFirst A.steps self.new.net (slice_index_or self.new.seats seat e) → ⊥) }
-        ensures progress { (e : _) → (slice_index_or self.old.seats seat e).next < vec_len (slice_index_or self.old.seats seat e).left → HasFirst A.steps self.old.net (slice_index_or self.old.seats seat e) → 0 < result }
-        ensures same { (self.new.net ≡ self.old.net) × (self.new.inputs ≡ self.old.inputs) × (self.new.places ≡ self.old.places) × (length self.new.seats ≡ length self.old.seats) }
-        ensures planned { (order : List ℕ) (cap : ℕ → ℕ) → IsPlanned A.steps self.old.net self.old.seats self.old.places order cap → IsPlanned A.steps self.new.net self.new.seats self.new.places order cap }
-        ensures others { (i : ℕ) (e : _) → (seat ≡ i → ⊥) → slice_index_or self.new.seats i e ≡ slice_index_or self.old.seats i e }
+        ensures worked { (e : _) → HasWorked A.steps self.new.net (slice_index_or self.old.seats seat e)
+            (slice_index_or self.new.seats seat e) }
+        ensures count { (e : _) → (slice_index_or self.new.seats seat e).next ≡
+            (slice_index_or self.old.seats seat e).next + result }
+        ensures stopped { (e : _) → ((slice_index_or self.new.seats seat e).next ≡
+            vec_len (slice_index_or self.new.seats seat e).left)
+            ⊎ (HasFirst A.steps self.new.net (slice_index_or self.new.seats seat e) → ⊥) }
+        ensures progress { (e : _) → (slice_index_or self.old.seats seat e).next <
+            vec_len (slice_index_or self.old.seats seat e).left →
+            HasFirst A.steps self.old.net (slice_index_or self.old.seats seat e) → 0 < result }
+        ensures same { (self.new.net ≡ self.old.net) × (self.new.inputs ≡ self.old.inputs)
+            × (self.new.places ≡ self.old.places) × (length self.new.seats ≡ length self.old.seats) }
+        ensures planned { (order : List ℕ) (cap : ℕ → ℕ) →
+            IsPlanned A.steps self.old.net self.old.seats self.old.places order cap →
+            IsPlanned A.steps self.new.net self.new.seats self.new.places order cap }
+        ensures others { (i : ℕ) (e : _) → (seat ≡ i → ⊥) →
+            slice_index_or self.new.seats i e ≡ slice_index_or self.old.seats i e }
     {
         let net = self.net;
         let inputs = self.inputs;
@@ -120,9 +152,14 @@ impl<'a, A: Actor> Rings<'a, A> {
 
     /// A round of all workers, each in a thread of its own.
     pub fn work_all<R: Threads + Sync, G: Gate>(&mut self, rt: &R, patience: u32, gate: &G)
-        ensures rounded { (i : ℕ) (e : _) → i < length self.old.seats → HasRounded A.steps self.new.net self.new.inputs (slice_index_or self.old.seats i e) (slice_index_or self.new.seats i e) }
-        ensures planned { (order : List ℕ) (cap : ℕ → ℕ) → IsPlanned A.steps self.old.net self.old.seats self.old.places order cap → IsPlanned A.steps self.new.net self.new.seats self.new.places order cap }
-        ensures same { (self.new.net ≡ self.old.net) × (self.new.inputs ≡ self.old.inputs) × (self.new.places ≡ self.old.places) × (length self.new.seats ≡ length self.old.seats) }
+        ensures rounded { (i : ℕ) (e : _) → i < length self.old.seats →
+            HasRounded A.steps self.new.net self.new.inputs (slice_index_or self.old.seats i e)
+            (slice_index_or self.new.seats i e) }
+        ensures planned { (order : List ℕ) (cap : ℕ → ℕ) →
+            IsPlanned A.steps self.old.net self.old.seats self.old.places order cap →
+            IsPlanned A.steps self.new.net self.new.seats self.new.places order cap }
+        ensures same { (self.new.net ≡ self.old.net) × (self.new.inputs ≡ self.old.inputs)
+            × (self.new.places ≡ self.old.places) × (length self.new.seats ≡ length self.old.seats) }
     {
         let net = self.net;
         let inputs = self.inputs;
@@ -146,7 +183,8 @@ impl<'a, A: Actor> Rings<'a, A> {
     pub fn held(&self, channel: usize) -> usize
         requires known { channel < length self.now.net.wires }
         requires met { HaveMet self.now.net self.now.seats self.now.places }
-        ensures { (e : _) (d : _) (x : _) → result ≡ length (known_items (consumer_of self.now.net self.now.seats self.now.places e d x channel)) }
+        ensures { (e : _) (d : _) (x : _) → result ≡
+            length (known_items (consumer_of self.now.net self.now.seats self.now.places e d x channel)) }
     {
         let to = self.net.link(channel).to;
         let place = self.places[to.0];
@@ -158,9 +196,14 @@ impl<'a, A: Actor> Rings<'a, A> {
         ensures met { HaveMet self.new.net self.new.seats self.new.places }
         ensures rest { AreAtRest A.steps self.new.net self.new.inputs self.new.seats self.new.places }
         ensures quiescent { AreQuiescent A.steps self.new }
-        ensures idle { (i : ℕ) (e : _) → i < length self.old.seats → HasWorked A.steps self.new.net (slice_index_or self.old.seats i e) (slice_index_or self.new.seats i e) × ((slice_index_or self.new.seats i e).next ≡ (slice_index_or self.old.seats i e).next) }
-        ensures planned { (order : List ℕ) (cap : ℕ → ℕ) → IsPlanned A.steps self.old.net self.old.seats self.old.places order cap → IsPlanned A.steps self.new.net self.new.seats self.new.places order cap }
-        ensures same { (self.new.net ≡ self.old.net) × (self.new.inputs ≡ self.old.inputs) × (self.new.places ≡ self.old.places) × (length self.new.seats ≡ length self.old.seats) }
+        ensures idle { (i : ℕ) (e : _) → i < length self.old.seats →
+            HasWorked A.steps self.new.net (slice_index_or self.old.seats i e) (slice_index_or self.new.seats i e)
+            × ((slice_index_or self.new.seats i e).next ≡ (slice_index_or self.old.seats i e).next) }
+        ensures planned { (order : List ℕ) (cap : ℕ → ℕ) →
+            IsPlanned A.steps self.old.net self.old.seats self.old.places order cap →
+            IsPlanned A.steps self.new.net self.new.seats self.new.places order cap }
+        ensures same { (self.new.net ≡ self.old.net) × (self.new.inputs ≡ self.old.inputs)
+            × (self.new.places ≡ self.old.places) × (length self.new.seats ≡ length self.old.seats) }
     {
         let net = self.net;
         let inputs = self.inputs;
@@ -170,8 +213,8 @@ impl<'a, A: Actor> Rings<'a, A> {
         met_is_quiescent(net, inputs, &self.seats, &self.places);
     }
 
-    /// Where all ends have met, as `prepare` and `meet` leave them, what was put is the history at the firings done, and the state of
-    /// the ring machine that is made of the stands is quiescent and reached by a run.
+    /// Where all ends have met, as `prepare` and `meet` leave them, what was put is the history at the firings done,
+    /// and the state of the ring machine that is made of the stands is quiescent and reached by a run.
     pub fn at_rest(&self)
         requires met { HaveMet self.now.net self.now.seats self.now.places }
         ensures rest { AreAtRest A.steps self.now.net self.now.inputs self.now.seats self.now.places }
@@ -184,11 +227,15 @@ impl<'a, A: Actor> Rings<'a, A> {
     /// Rounds until nothing is left of a plan, and how many there were. Each does at least one firing.
     pub fn run<R: Threads + Sync, G: Gate>(&mut self, rt: &R, patience: u32, gate: &G) -> u64
         requires met { HaveMet self.old.net self.old.seats self.old.places }
-        requires planned { (order : List ℕ) × ((cap : ℕ → ℕ) × IsPlanned A.steps self.old.net self.old.seats self.old.places order cap) }
+        requires planned { (order : List ℕ) × ((cap : ℕ → ℕ)
+            × IsPlanned A.steps self.old.net self.old.seats self.old.places order cap) }
         requires count { total_left self.old.seats < 2 ^ 64 }
         ensures met { HaveMet self.new.net self.new.seats self.new.places }
-        ensures planned { (order : List ℕ) (cap : ℕ → ℕ) → IsPlanned A.steps self.old.net self.old.seats self.old.places order cap → IsPlanned A.steps self.new.net self.new.seats self.new.places order cap }
-        ensures same { (self.new.net ≡ self.old.net) × (self.new.inputs ≡ self.old.inputs) × (self.new.places ≡ self.old.places) }
+        ensures planned { (order : List ℕ) (cap : ℕ → ℕ) →
+            IsPlanned A.steps self.old.net self.old.seats self.old.places order cap →
+            IsPlanned A.steps self.new.net self.new.seats self.new.places order cap }
+        ensures same { (self.new.net ≡ self.old.net) × (self.new.inputs ≡ self.old.inputs)
+            × (self.new.places ≡ self.old.places) }
         ensures done { total_left self.new.seats ≡ 0 }
         ensures rounds { result ≤ total_left self.old.seats }
         ensures some { 0 < total_left self.old.seats → 0 < result }
@@ -211,7 +258,9 @@ impl<'a, A: Actor> Rings<'a, A> {
     pub fn finish(self) -> Vec<Vec<A::Token>>
         requires left { total_left self.seats ≡ 0 }
         requires met { HaveMet self.net self.seats self.places }
-        ensures { (order : List ℕ) (cap k : ℕ → ℕ) → IsPlanned A.steps self.entry.net self.entry.seats self.entry.places order cap → AreCountsOf self.entry.net order k →
+        ensures { (order : List ℕ) (cap k : ℕ → ℕ) →
+            IsPlanned A.steps self.entry.net self.entry.seats self.entry.places order cap →
+            AreCountsOf self.entry.net order k →
             AreOutputs A.steps self.entry.net self.entry.inputs k (lists result.items) }
     {
         let Rings {
@@ -230,12 +279,14 @@ impl<'a, A: Actor> Rings<'a, A> {
         outputs
     }
 
-    /// The output lists, and what is left beside them: the states of the actors and the samples on the channels. Another run
-    /// goes on from there.
+    /// The output lists, and what is left beside them: the states of the actors and the samples on the channels.
+    /// Another run goes on from there.
     pub fn leave(self) -> Result<(Vec<Vec<A::Token>>, Rest<A::Token, A::State>), AllocError>
         requires left { total_left self.seats ≡ 0 }
         requires met { HaveMet self.net self.seats self.places }
-        ensures { IfOk result (λ made. (order : List ℕ) (cap k : ℕ → ℕ) → IsPlanned A.steps self.entry.net self.entry.seats self.entry.places order cap → AreCountsOf self.entry.net order k →
+        ensures { IfOk result (λ made. (order : List ℕ) (cap k : ℕ → ℕ) →
+            IsPlanned A.steps self.entry.net self.entry.seats self.entry.places order cap →
+            AreCountsOf self.entry.net order k →
             HasRun A.steps self.entry.net self.entry.inputs k (lists made.0.items) made.1) }
     {
         let Rings {

@@ -22,7 +22,8 @@ pub fn run_round<R: Threads + Sync, A: Actor, G: Gate>(
 )
     requires net { IsNet A.steps net.now }
     requires seats { All (IsSeat A.steps net.now (lists inputs.now)) seats.old }
-    ensures { (i : ℕ) (s : _) → i < length seats.old → HasRounded A.steps net.now (lists inputs.now) (slice_index_or seats.old i s) (slice_index_or seats.new i s) }
+    ensures { (i : ℕ) (s : _) → i < length seats.old →
+        HasRounded A.steps net.now (lists inputs.now) (slice_index_or seats.old i s) (slice_index_or seats.new i s) }
 {
     let threads = seats.len();
     if threads > 0 {

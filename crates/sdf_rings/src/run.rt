@@ -39,10 +39,21 @@ fn round_once<R: Threads + Sync, A: Actor, G: Gate>(
     patience: u32,
     gate: &G,
 )
-    requires rings { AreRings A.steps (record { net = net.now; inputs = lists inputs.now; seats = seats.old; places = places.now }) }
-    ensures rings { AreRings A.steps (record { net = net.now; inputs = lists inputs.now; seats = seats.new; places = places.now }) }
+    requires rings { AreRings A.steps (record {
+      net = net.now;
+      inputs = lists inputs.now;
+      seats = seats.old;
+      places = places.now;
+    }) }
+    ensures rings { AreRings A.steps (record {
+      net = net.now;
+      inputs = lists inputs.now;
+      seats = seats.new;
+      places = places.now;
+    }) }
     ensures met { HaveMet net.now seats.new places.now }
-    ensures worked { (i : ℕ) (e : _) → i < length seats.old → HasWorked A.steps net.now (slice_index_or seats.old i e) (slice_index_or seats.new i e) }
+    ensures worked { (i : ℕ) (e : _) → i < length seats.old →
+        HasWorked A.steps net.now (slice_index_or seats.old i e) (slice_index_or seats.new i e) }
     ensures progress { SomeFirst A.steps net.now seats.old → total_left seats.new < total_left seats.old }
 {
     let _whole = net.graph();
@@ -61,13 +72,24 @@ pub fn run_all<R: Threads + Sync, A: Actor, G: Gate>(
     patience: u32,
     gate: &G,
 ) -> u64
-    requires rings { AreRings A.steps (record { net = net.now; inputs = lists inputs.now; seats = seats.old; places = places.now }) }
+    requires rings { AreRings A.steps (record {
+      net = net.now;
+      inputs = lists inputs.now;
+      seats = seats.old;
+      places = places.now;
+    }) }
     requires met { HaveMet net.now seats.old places.now }
     requires planned { (order : List ℕ) × ((cap : ℕ → ℕ) × IsPlanned A.steps net.now seats.old places.now order cap) }
     requires count { total_left seats.old < 2 ^ 64 }
-    ensures rings { AreRings A.steps (record { net = net.now; inputs = lists inputs.now; seats = seats.new; places = places.now }) }
+    ensures rings { AreRings A.steps (record {
+      net = net.now;
+      inputs = lists inputs.now;
+      seats = seats.new;
+      places = places.now;
+    }) }
     ensures met { HaveMet net.now seats.new places.now }
-    ensures worked { (i : ℕ) (e : _) → i < length seats.old → HasWorked A.steps net.now (slice_index_or seats.old i e) (slice_index_or seats.new i e) }
+    ensures worked { (i : ℕ) (e : _) → i < length seats.old →
+        HasWorked A.steps net.now (slice_index_or seats.old i e) (slice_index_or seats.new i e) }
     ensures done { total_left seats.new ≡ 0 }
     ensures rounds { result ≤ total_left seats.old }
     ensures some { 0 < total_left seats.old → 0 < result }

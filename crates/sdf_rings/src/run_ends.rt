@@ -1,5 +1,5 @@
-//! The blocks of many firings at the ends of rings. In a working block those of one firing stand behind those of the one before it, and within a
-//! firing's they are by port; a ring has one port's.
+//! The blocks of many firings at the ends of rings. In a working block those of one firing stand behind those of the
+//! one before it, and within a firing's they are by port; a ring has one port's.
 
 ghost use Rattle.std.specs.Prelude.{◌≡◌, ◌≤◌, ◌<◌, ◌+◌, ◌*◌, length, ℕ, take, slice_range, slice_index};
 ghost use Rattle.rtrb.specs.Ring.{known_items, known_free};
@@ -62,7 +62,8 @@ fn take_each_at<T: Copy>(
     requires size { size ≡ start_at (slice_index sizes.now) (length ends.old) }
     requires inside { at + size ≤ length taken.old }
     requires known { HoldsEach (slice_index sizes.now) ends.old }
-    ensures drew { DrewEach ends.old ends.new (λ p. block_of (slice_index sizes.now) p (slice_range taken.new at (at + size))) }
+    ensures drew { DrewEach ends.old ends.new (λ p. block_of (slice_index sizes.now) p
+        (slice_range taken.new at (at + size))) }
     ensures before { (n : ℕ) → n ≤ at → take n taken.new ≡ take n taken.old }
 {
     take_each(sizes, ends, &mut taken[at..at + size]);
@@ -80,7 +81,8 @@ fn take_by_firing<T: Copy>(
     requires size { size ≡ start_at (slice_index sizes.now) (length ends.old) }
     requires length { length taken.old ≡ size * many }
     requires known { HoldsEach (λ i. many * slice_index sizes.now i) ends.old }
-    ensures { DrewEach ends.old ends.new (λ p. joined (λ i. block_of (slice_index sizes.now) p (nth_block size taken.new i)) many) }
+    ensures { DrewEach ends.old ends.new (λ p. joined
+        (λ i. block_of (slice_index sizes.now) p (nth_block size taken.new i)) many) }
 {
     let mut at = 0;
     for _ in 0..many {
@@ -104,7 +106,8 @@ fn take_part<T: Copy>(
     requires long { length taken.old ≤ length scratch.old }
     requires known { many * width ≤ length (known_items end.old) }
     ensures drew { Drew end.old end.new (joined (λ i. slice_range (nth_block size taken.new i) at (at + width)) many) }
-    ensures before { (i a w : ℕ) → i < many → a + w ≤ at → slice_range (nth_block size taken.new i) a (a + w) ≡ slice_range (nth_block size taken.old i) a (a + w) }
+    ensures before { (i a w : ℕ) → i < many → a + w ≤ at →
+        slice_range (nth_block size taken.new i) a (a + w) ≡ slice_range (nth_block size taken.old i) a (a + w) }
 {
     let row = Stride {
         first: 0,
@@ -118,7 +121,8 @@ fn take_part<T: Copy>(
     copy_parts(scratch, row, taken, column, width, many);
 }
 
-/// Takes the blocks of so many firings, at each port in one call. A list as long as all of them holds those of a port until they are dealt out.
+/// Takes the blocks of so many firings, at each port in one call. A list as long as all of them holds those of a port
+/// until they are dealt out.
 #[tactic(auto, using(crate::proofs::Blocks::block_in))]
 fn take_by_port<T: Copy>(
     sizes: &[usize],
@@ -133,7 +137,8 @@ fn take_by_port<T: Copy>(
     requires length { length taken.old ≡ size * many }
     requires long { length taken.old ≤ length scratch.old }
     requires known { HoldsEach (λ i. many * slice_index sizes.now i) ends.old }
-    ensures { DrewEach ends.old ends.new (λ p. joined (λ i. block_of (slice_index sizes.now) p (nth_block size taken.new i)) many) }
+    ensures { DrewEach ends.old ends.new (λ p. joined
+        (λ i. block_of (slice_index sizes.now) p (nth_block size taken.new i)) many) }
 {
     let mut at = 0;
     for i in 0..ends.len() {
@@ -156,7 +161,8 @@ pub(crate) fn take_run<T: Copy>(
     requires size { size ≡ start_at (slice_index sizes.now) (length ends.old) }
     requires length { length taken.old ≡ size * many }
     requires known { HoldsEach (λ i. many * slice_index sizes.now i) ends.old }
-    ensures { DrewEach ends.old ends.new (λ p. joined (λ i. block_of (slice_index sizes.now) p (nth_block size taken.new i)) many) }
+    ensures { DrewEach ends.old ends.new (λ p. joined
+        (λ i. block_of (slice_index sizes.now) p (nth_block size taken.new i)) many) }
 {
     sdf_node::laws::blocks_join::<T>();
     if ends.len() == 1 {
@@ -180,7 +186,8 @@ fn put_each_at<T: Copy>(
     requires size { size ≡ start_at (slice_index sizes.now) (length ends.old) }
     requires inside { at + size ≤ length put.now }
     requires room { HasRoomEach (slice_index sizes.now) ends.old }
-    ensures { GaveEach ends.old ends.new (λ p. block_of (slice_index sizes.now) p (slice_range put.now at (at + size))) }
+    ensures { GaveEach ends.old ends.new (λ p. block_of (slice_index sizes.now) p
+        (slice_range put.now at (at + size))) }
 {
     put_each(sizes, ends, &put[at..at + size]);
 }
@@ -197,7 +204,8 @@ fn put_by_firing<T: Copy>(
     requires size { size ≡ start_at (slice_index sizes.now) (length ends.old) }
     requires length { length put.now ≡ size * many }
     requires room { HasRoomEach (λ i. many * slice_index sizes.now i) ends.old }
-    ensures { GaveEach ends.old ends.new (λ p. joined (λ i. block_of (slice_index sizes.now) p (nth_block size put.now i)) many) }
+    ensures { GaveEach ends.old ends.new (λ p. joined
+        (λ i. block_of (slice_index sizes.now) p (nth_block size put.now i)) many) }
 {
     let mut at = 0;
     for _ in 0..many {
@@ -249,7 +257,8 @@ fn put_by_port<T: Copy>(
     requires length { length put.now ≡ size * many }
     requires long { length put.now ≤ length scratch.old }
     requires room { HasRoomEach (λ i. many * slice_index sizes.now i) ends.old }
-    ensures { GaveEach ends.old ends.new (λ p. joined (λ i. block_of (slice_index sizes.now) p (nth_block size put.now i)) many) }
+    ensures { GaveEach ends.old ends.new (λ p. joined
+        (λ i. block_of (slice_index sizes.now) p (nth_block size put.now i)) many) }
 {
     let mut at = 0;
     for i in 0..ends.len() {
@@ -272,7 +281,8 @@ pub(crate) fn put_run<T: Copy>(
     requires size { size ≡ start_at (slice_index sizes.now) (length ends.old) }
     requires length { length put.now ≡ size * many }
     requires room { HasRoomEach (λ i. many * slice_index sizes.now i) ends.old }
-    ensures { GaveEach ends.old ends.new (λ p. joined (λ i. block_of (slice_index sizes.now) p (nth_block size put.now i)) many) }
+    ensures { GaveEach ends.old ends.new (λ p. joined
+        (λ i. block_of (slice_index sizes.now) p (nth_block size put.now i)) many) }
 {
     sdf_node::laws::blocks_join::<T>();
     if ends.len() == 1 {

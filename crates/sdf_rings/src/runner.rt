@@ -55,9 +55,10 @@ pub(crate) fn run_through<'a, R: Threads + AllocGlobal + Sync, A: Actor, G: Gate
     Ok((rings, rounds))
 }
 
-/// Runs a net for a number of blocks of `j` periods. There is a worker for each column of the table, which does the firings of the
-/// actors at home there in the table's order, as samples and room come; each channel has a ring of the table's capacity. In each round
-/// the workers run at once, until their lists are empty or a test has failed more often than `patience` says.
+/// Runs a net for a number of blocks of `j` periods. There is a worker for each column of the table, which does the
+/// firings of the actors at home there in the table's order, as samples and room come; each channel has a ring of the
+/// table's capacity. In each round the workers run at once, until their lists are empty or a test has failed more often
+/// than `patience` says.
 ///
 /// All room is taken before the first firing. The faults, in this order: 30 NotHomed, 31 Patience, 29 InputLength.
 pub fn run_rings<R: Threads + AllocGlobal + Sync, A: Actor, G: Gate>(
@@ -74,7 +75,8 @@ pub fn run_rings<R: Threads + AllocGlobal + Sync, A: Actor, G: Gate>(
     requires period { IsPeriodOf (rates (graph_of A.steps net.now)) period.now }
     requires table { IsTableOf (rates (graph_of A.steps net.now)) period.now.repetitions j table.now }
     ensures { let q = period.now.repetitions in MatchResult result
-        (λ ran. HasRun A.steps net.now q j table.now blocks (lists inputs.now) patience (lists ran.outputs.items) ran.rounds)
+        (λ ran. HasRun A.steps net.now q j table.now blocks (lists inputs.now) patience
+        (lists ran.outputs.items) ran.rounds)
         (IsRingsFault net.now q (blocks * j) (lists inputs.now) table.now patience) }
 {
     let (rings, rounds) = run_through(rt, net, period, j, table, blocks, inputs, patience, gate)?;

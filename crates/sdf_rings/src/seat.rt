@@ -79,7 +79,8 @@ fn fire_known<A: Actor, G: Gate>(
     requires stand { IsStand A.steps net.now (lists inputs.now) stand.old }
     requires can { CanFire A.steps net.now stand.old }
     requires some { next < length left.now }
-    requires counts { stand.old.done + times_between (slice_index left.now next) left.now next (length left.now) ≡ stand.old.asked }
+    requires counts { stand.old.done + times_between (slice_index left.now next) left.now next (length left.now) ≡
+        stand.old.asked }
     ensures stand { IsStand A.steps net.now (lists inputs.now) stand.new }
     ensures moved { HasMoved A.steps net.now stand.old stand.new }
     ensures done { stand.new.done ≡ stand.old.done + result }
@@ -113,7 +114,8 @@ fn fire_next<A: Actor, G: Gate>(
     requires net { IsNet A.steps net.now }
     requires stand { IsStand A.steps net.now (lists inputs.now) stand.old }
     requires some { next < length left.now }
-    requires counts { stand.old.done + times_between (slice_index left.now next) left.now next (length left.now) ≡ stand.old.asked }
+    requires counts { stand.old.done + times_between (slice_index left.now next) left.now next (length left.now) ≡
+        stand.old.asked }
     ensures stand { IsStand A.steps net.now (lists inputs.now) stand.new }
     ensures moved { HasMoved A.steps net.now stand.old stand.new }
     ensures done { stand.new.done ≡ stand.old.done + result }
@@ -159,7 +161,8 @@ fn work_next<A: Actor, G: Gate>(
     fired
 }
 
-/// One worker's round: fires from its list until it is empty, or a test fails with no try left. The answer is the number of firings done.
+/// One worker's round: fires from its list until it is empty, or a test fails with no try left. The answer is the
+/// number of firings done.
 pub fn work<A: Actor, G: Gate>(
     net: &Net<A>,
     inputs: &[Vec<A::Token>],

@@ -1,6 +1,7 @@
 //! A node at work, with its ends of rings.
 
-ghost use Rattle.std.specs.Prelude.{◌≡◌, ◌+◌, ◌<◌, ◌≤◌, ◌++◌, ◌∷◌, [], ℕ, List, length, take, slice_index, IsTrue, IsFalse};
+ghost use Rattle.std.specs.Prelude.{◌≡◌, ◌+◌, ◌<◌, ◌≤◌, ◌++◌, ◌∷◌, [], ℕ, List, length, take, slice_index, IsTrue};
+ghost use Rattle.std.specs.Prelude.{IsFalse};
 ghost use Rattle.sdf_actor.specs.Nets.{answer_of, node, inputs_of, outputs_of, IsNet};
 ghost use Rattle.sdf_actor.specs.Wires.{lists};
 ghost use Rattle.sdf_node.specs.Nodes.{CanStep, IsAt};
@@ -70,8 +71,11 @@ fn step_front<A: Actor>(
 )
     requires can { CanStep A.steps (lists inputs.now) node.now state.old (length taken.now) many }
     requires long { many ≤ length put.old }
-    ensures state { (all : ℕ) (past : List (List A.Token)) → IsAt A.steps (lists inputs.now) all node.now past state.old → IsAt A.steps (lists inputs.now) all node.now (past ++ taken.now ∷ []) state.new }
-    ensures put { (all : ℕ) (past : List (List A.Token)) → IsAt A.steps (lists inputs.now) all node.now past state.old → take many put.new ≡ answer_of A.steps (lists inputs.now) node.now past taken.now }
+    ensures state { (all : ℕ) (past : List (List A.Token)) →
+        IsAt A.steps (lists inputs.now) all node.now past state.old →
+        IsAt A.steps (lists inputs.now) all node.now (past ++ taken.now ∷ []) state.new }
+    ensures put { (all : ℕ) (past : List (List A.Token)) → IsAt A.steps (lists inputs.now) all node.now past state.old →
+        take many put.new ≡ answer_of A.steps (lists inputs.now) node.now past taken.now }
 {
     let (front, _) = put.split_at_mut(many);
     step(node, inputs, state, taken, front);
@@ -108,7 +112,8 @@ fn fire_blocks<A: Actor>(net: &Net<A>, inputs: &[Vec<A::Token>], stand: &mut Sta
     requires stand { IsStand A.steps net.now (lists inputs.now) stand.old }
     requires can { CanFire A.steps net.now stand.old }
     requires left { stand.old.done < stand.old.asked }
-    ensures fired { IsStand A.steps net.now (lists inputs.now) (record stand.new { done = stand.old.done + 1 }) × HasMoved A.steps net.now stand.old (record stand.new { done = stand.old.done + 1 }) }
+    ensures fired { IsStand A.steps net.now (lists inputs.now) (record stand.new { done = stand.old.done + 1 })
+        × HasMoved A.steps net.now stand.old (record stand.new { done = stand.old.done + 1 }) }
     ensures done { stand.new.done ≡ stand.old.done }
 {
     sdf_actor::laws::nets_are_wired::<A>();

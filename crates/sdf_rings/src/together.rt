@@ -22,7 +22,8 @@ use std::alloc::Global;
 fn is_apart<A: Actor>(net: &Net<A>, actor: ActorId) -> bool
     requires net { IsNet A.steps net.now }
     requires known { actor < length net.now.nodes }
-    ensures { IsTrue result → (c : ℕ) → c < length net.now.wires → (wire net.now c).from.0 ≡ actor → (wire net.now c).to.0 ≡ actor → ⊥ }
+    ensures { IsTrue result → (c : ℕ) → c < length net.now.wires → (wire net.now c).from.0 ≡ actor →
+        (wire net.now c).to.0 ≡ actor → ⊥ }
 {
     sdf_actor::laws::nets_are_wired::<A>();
     let channels = net.channels_in(actor);
@@ -67,7 +68,8 @@ fn take_front_run<T: Copy>(
     requires all { all ≡ size * many }
     requires long { all ≤ length taken.old }
     requires known { HoldsEach (λ i. many * slice_index sizes.now i) ends.old }
-    ensures { DrewEach ends.old ends.new (λ p. joined (λ i. block_of (slice_index sizes.now) p (nth_block size (take all taken.new) i)) many) }
+    ensures { DrewEach ends.old ends.new (λ p. joined
+        (λ i. block_of (slice_index sizes.now) p (nth_block size (take all taken.new) i)) many) }
 {
     let (front, _) = taken.split_at_mut(all);
     take_run(sizes, ends, front, scratch, many, size);
@@ -85,11 +87,16 @@ fn step_front_many<A: Actor>(
 )
     requires can { CanStepMany A.steps (lists inputs.now) node.now state.old many (length taken.now) all }
     requires long { all ≤ length put.old }
-    ensures state { (asked : ℕ) (past : List (List A.Token)) → IsAt A.steps (lists inputs.now) asked node.now past state.old →
-        IsAt A.steps (lists inputs.now) asked node.now (past ++ listed (nth_block (takes_of A.steps node.now 0) taken.now) many) state.new }
-    ensures put { (asked : ℕ) (past : List (List A.Token)) → IsAt A.steps (lists inputs.now) asked node.now past state.old → AreWhole A.steps node.now past →
+    ensures state { (asked : ℕ) (past : List (List A.Token)) →
+        IsAt A.steps (lists inputs.now) asked node.now past state.old →
+        IsAt A.steps (lists inputs.now) asked node.now
+        (past ++ listed (nth_block (takes_of A.steps node.now 0) taken.now) many) state.new }
+    ensures put { (asked : ℕ) (past : List (List A.Token)) →
+        IsAt A.steps (lists inputs.now) asked node.now past state.old → AreWhole A.steps node.now past →
         (i : ℕ) → i < many → nth_block (puts_of A.steps node.now 0) (take all put.new) i ≡
-        answer_of A.steps (lists inputs.now) node.now (past ++ listed (nth_block (takes_of A.steps node.now 0) taken.now) i) (nth_block (takes_of A.steps node.now 0) taken.now i) }
+        answer_of A.steps (lists inputs.now) node.now
+        (past ++ listed (nth_block (takes_of A.steps node.now 0) taken.now) i)
+        (nth_block (takes_of A.steps node.now 0) taken.now i) }
 {
     let (front, _) = put.split_at_mut(all);
     step_many(node, inputs, state, many, taken, front);
@@ -105,7 +112,8 @@ fn fire_run_blocks<A: Actor>(
     requires net { IsNet A.steps net.now }
     requires stand { IsStand A.steps net.now (lists inputs.now) stand.old }
     requires can { CanRun A.steps net.now stand.old many }
-    ensures fired { IsStand A.steps net.now (lists inputs.now) (record stand.new { done = stand.old.done + many }) × HasMoved A.steps net.now stand.old (record stand.new { done = stand.old.done + many }) }
+    ensures fired { IsStand A.steps net.now (lists inputs.now) (record stand.new { done = stand.old.done + many })
+        × HasMoved A.steps net.now stand.old (record stand.new { done = stand.old.done + many }) }
     ensures done { stand.new.done ≡ stand.old.done }
     ensures asked { stand.new.asked ≡ stand.old.asked }
 {

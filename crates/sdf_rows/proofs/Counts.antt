@@ -10,18 +10,28 @@ use Rattle.sdf_prec.specs.Counts.{TablesCount}
 use Rattle.sdf_answer.specs.Rows.{IsTableOf}
 
 -- rows with some firing are no more than their firings
-some_each : (rows : List (List (Option Firing))) → ((i : ℕ) → i < length rows → 0 < length (firings (row rows i))) → length rows ≤ length (order rows)
+some_each : (rows : List (List (Option Firing))) → ((i : ℕ) → i < length rows → 0 < length (firings (row rows i))) →
+    length rows ≤ length (order rows)
 some_each [] some = omega arith
 some_each (cells ∷ rows) some =
     let ih = some_each rows (λ i h. some (suc i) (omega arith)) in
     omega (arith, ih, some 0 (omega arith), length-append (firings cells) (order rows))
 
 -- a table has no more rows than its block has firings
-pub rows_few : TablesCount → (r : Rates) (q : List ℕ) (j : ℕ) (t : Tabled) → length q ≡ r.actors → IsTableOf r q j t → length t.rows ≤ MOST_BLOCK
+pub rows_few : TablesCount → (r : Rates) (q : List ℕ) (j : ℕ) (t : Tabled) → length q ≡ r.actors → IsTableOf r q j t →
+    length t.rows ≤ MOST_BLOCK
 rows_few counts r q j t all is =
     let once : repeated 1 t.order ≡ t.order = refl in
     let order_is : t.order ≡ sequence t.rows = is.table.exact.order_is in
-    omega (arith, counts r q j is.width t 1 all is.table, ap length once, ap length order_is, is.size.short, some_each t.rows is.table.some, length-map (order t.rows) (λ (f : Firing). f.actor))
+    omega (
+      arith,
+      counts r q j is.width t 1 all is.table,
+      ap length once,
+      ap length order_is,
+      is.size.short,
+      some_each t.rows is.table.some,
+      length-map (order t.rows) (λ (f : Firing). f.actor),
+    )
 
 -- a row has no more firings than columns
 pub firings_few : (cells : List (Option Firing)) → length (firings cells) ≤ length cells

@@ -1,5 +1,6 @@
 -- A run by rows before its first block and after its last.
-use Rattle.std.proofs.Common.{◌≡◌, ℕ, ◌+◌, ◌*◌, ◌≤◌, ◌<◌, ◌^◌, List, [], length, map, get_or, drop, None, refl, sym, ap, ◌∙◌, subst, arith}
+use Rattle.std.proofs.Common.{◌≡◌, ℕ, ◌+◌, ◌*◌, ◌≤◌, ◌<◌, ◌^◌, List, [], length, map, get_or, drop, None, refl, sym, ap}
+use Rattle.std.proofs.Common.{◌∙◌, subst, arith}
 use Rattle.std.specs.Prelude.{sum}
 use Rattle.std.specs.List.{flat_map}
 use Rattle.std.specs.Global.{Global}
@@ -41,14 +42,18 @@ use Rattle.sdf_answer.specs.Laws.{HistoriesBegin, SinksMakeOutputs}
 use Rattle.sdf_answer.specs.Periods.{CanRun}
 
 -- the blocks of a job, firing by firing
-pub have_blocks : {A S T : Type 0} (s : Steps A S T) (n : Netlist A T) (z : Rows) → AreSizes s n z → (jobs : List (Job A T S)) (width : ℕ) → length jobs ≡ width →
+pub have_blocks : {A S T : Type 0} (s : Steps A S T) (n : Netlist A T) (z : Rows) → AreSizes s n z →
+    (jobs : List (Job A T S)) (width : ℕ) → length jobs ≡ width →
     ((i : ℕ) (d : Job A T S) → i < width → HasPlaces s n (get_or jobs i d)) → HaveBlocks s n jobs
 have_blocks s n z sizes jobs width all places i d h = record {
-  taken = λ a f l. (places i d (omega (arith, all)) a (phase_of s (nets.node n a) f) l (mod_below f (cycle_of s (nets.node n a)) (sizes.some a l))).0;
-  put = λ a f l. (places i d (omega (arith, all)) a (phase_of s (nets.node n a) f) l (mod_below f (cycle_of s (nets.node n a)) (sizes.some a l))).1;
+  taken = λ a f l. (places i d (omega (arith, all)) a (phase_of s (nets.node n a) f) l
+      (mod_below f (cycle_of s (nets.node n a)) (sizes.some a l))).0;
+  put = λ a f l. (places i d (omega (arith, all)) a (phase_of s (nets.node n a) f) l
+      (mod_below f (cycle_of s (nets.node n a)) (sizes.some a l))).1;
 }
 
-module _ {A S T : Type 0} (s : Steps A S T) (begin : HistoriesBegin s) (n : Netlist A T) (good : IsNet s n) (wired : IsWired (wiring s n)) (q : List ℕ) (j blocks : ℕ) (inputs : List (List T))
+module _ {A S T : Type 0} (s : Steps A S T) (begin : HistoriesBegin s) (n : Netlist A T) (good : IsNet s n)
+    (wired : IsWired (wiring s n)) (q : List ℕ) (j blocks : ℕ) (inputs : List (List T))
     (can : CanRun s n q (blocks * j) inputs) (short : j * sum q ≤ MOST_BLOCK) (few : blocks < 2 ^ 32) where
   abbrev many : ℕ → ℕ
   many a = blocks * (j * get_or q a 0)
@@ -60,10 +65,12 @@ module _ {A S T : Type 0} (s : Steps A S T) (begin : HistoriesBegin s) (n : Netl
   all_small a l =
       let one : get_or q a 0 ≤ sum q = get_or-le-sum_by (λ x. x) q a 0 (omega (arith, can.paced.all)) in
       let within : j * get_or q a 0 ≤ j * sum q = mul-le-mul_left j one in
-      let all : blocks * (j * get_or q a 0) ≤ blocks * MOST_BLOCK = mul-le-mul_left blocks (omega (arith, within, short)) in
+      let all : blocks * (j * get_or q a 0) ≤ blocks * MOST_BLOCK =
+      mul-le-mul_left blocks (omega (arith, within, short)) in
       omega (arith, all, few)
 
-  can_begin : (space a : ℕ) → space ≡ blocks * j * period_samples n.nodes Outputs q → a < length n.nodes → CanBegin inputs (many a) space (nets.node n a)
+  can_begin : (space a : ℕ) → space ≡ blocks * j * period_samples n.nodes Outputs q → a < length n.nodes →
+      CanBegin inputs (many a) space (nets.node n a)
   can_begin space a all l = go (nets.node n a) refl
     where
       go : (x : Node A) → nets.node n a ≡ x → CanBegin inputs (many a) space x
@@ -85,9 +92,16 @@ module _ {A S T : Type 0} (s : Steps A S T) (begin : HistoriesBegin s) (n : Netl
       go (node.Inner y) x = tt
 
   -- nothing has fired
-  pub begins : (space : ℕ) → space ≡ blocks * j * period_samples n.nodes Outputs q → (done : List ℕ) → ((a : ℕ) → get_or done a 0 ≡ 0) → (states : List (NodeState T S)) (ls : List (Held T)) →
-      length states ≡ length n.nodes → ((a : ℕ) (w : NodeState T S) → a < length n.nodes → HasBegun s space (nets.node n a) (get_or states a w)) → length ls ≡ length n.wires →
-      ((c : ℕ) → c < length n.wires → get_or ls c nothing ≡ record { samples = (wire n c).initial; room = length (wire n c).initial + j * (rates (graph_of s n)).produced c (get_or q ((rates (graph_of s n)).source c) 0) }) →
+  pub begins : (space : ℕ) → space ≡ blocks * j * period_samples n.nodes Outputs q → (done : List ℕ) →
+      ((a : ℕ) → get_or done a 0 ≡ 0) → (states : List (NodeState T S)) (ls : List (Held T)) →
+      length states ≡ length n.nodes → ((a : ℕ) (w : NodeState T S) → a < length n.nodes →
+      HasBegun s space (nets.node n a) (get_or states a w)) → length ls ≡ length n.wires →
+      ((c : ℕ) → c < length n.wires → get_or ls c nothing ≡
+      record {
+        samples = (wire n c).initial;
+        room = length (wire n c).initial
+            + j * (rates (graph_of s n)).produced c (get_or q ((rates (graph_of s n)).source c) 0);
+      }) →
       IsResting s n inputs q j blocks 0 (λ a. get_or done a 0) states ls
   begins space space_is done none states ls all begun channels queues = record {
     counts = λ a l. omega (arith, none a);
@@ -100,15 +114,23 @@ module _ {A S T : Type 0} (s : Steps A S T) (begin : HistoriesBegin s) (n : Netl
       is = begin n inputs (λ a. get_or done a 0) good (λ a l. none a);
       channels = channels;
       left = λ c l. ap (λ x. x.samples) (queues c l) ∙
-          (ap (λ i. drop i (wire n c).initial) (sym (wired.sound.consumed_none c)) ∙ ap (λ i. drop ((wiring s n).rates.consumed c i) (wire n c).initial) (sym (none ((wiring s n).rates.target c))));
+          (ap (λ i. drop i (wire n c).initial) (sym (wired.sound.consumed_none c))
+          ∙ ap (λ i. drop ((wiring s n).rates.consumed c i) (wire n c).initial)
+          (sym (none ((wiring s n).rates.target c))));
       above = λ a l. omega arith;
       below = λ a l. omega arith;
-      fits = λ c l. omega (arith, rooms c l, ap ((wiring s n).rates.produced c) (none ((wiring s n).rates.source c)), wired.sound.produced_none c);
+      fits = λ c l. omega (
+        arith,
+        rooms c l,
+        ap ((wiring s n).rates.produced c) (none ((wiring s n).rates.source c)),
+        wired.sound.produced_none c,
+      );
       nodes = all;
       known = λ i h. absurd (omega arith);
       apart = λ i m h. absurd (omega arith);
       idle = λ a w l free.
-          subst (λ i. IsAt s inputs (many a) (nets.node n a) (taken_before (wiring s n) (wiring s n).starts a i) (get_or states a w)) (sym (none a))
+          subst (λ i. IsAt s inputs (many a) (nets.node n a) (taken_before (wiring s n) (wiring s n).starts a i)
+          (get_or states a w)) (sym (none a))
           (begun a w l inputs (many a) (can_begin space a space_is l));
       jobs_are = λ i d f h. absurd (omega arith);
       able = λ i f h. absurd (omega arith);
@@ -116,18 +138,21 @@ module _ {A S T : Type 0} (s : Steps A S T) (begin : HistoriesBegin s) (n : Netl
     };
   }
     where
-      rooms : (c : ℕ) → c < length n.wires → (wiring s n).rates.initial c + (wiring s n).rates.produced c (j * get_or q ((wiring s n).rates.source c) 0) ≤ room ls c
+      rooms : (c : ℕ) → c < length n.wires → (wiring s n).rates.initial c
+          + (wiring s n).rates.produced c (j * get_or q ((wiring s n).rates.source c) 0) ≤ room ls c
       rooms c l =
           omega (arith, ap (λ x. x.room) (queues c l), ap (λ m. j * m) (can.put c l), can.paced.put j c l)
 
 -- the list that stands in a sink's state
-sink_list : {A S T : Type 0} (s : Steps A S T) (inputs : List (List T)) (many ext block : ℕ) (past : List (List T)) (w : NodeState T S) → IsAt s inputs many (node.Sink ext block) past w →
+sink_list : {A S T : Type 0} (s : Steps A S T) (inputs : List (List T)) (many ext block : ℕ) (past : List (List T))
+    (w : NodeState T S) → IsAt s inputs many (node.Sink ext block) past w →
     (made : Vec T Global) × (w ≡ Sink made) × (made.items ≡ flat_map (λ b. b) past)
 sink_list s inputs many ext block past (Sink made) is = (made, refl, is.0)
 sink_list s inputs many ext block past (Source next) is = absurd is
 sink_list s inputs many ext block past (Inner phase state) is = absurd is
 
-module _ {A S T : Type 0} (s : Steps A S T) (n : Netlist A T) (inputs : List (List T)) (q : List ℕ) (j blocks : ℕ) (k : ℕ → ℕ) (states : List (NodeState T S)) (ls : List (Held T))
+module _ {A S T : Type 0} (s : Steps A S T) (n : Netlist A T) (inputs : List (List T)) (q : List ℕ) (j blocks : ℕ)
+    (k : ℕ → ℕ) (states : List (NodeState T S)) (ls : List (Held T))
     (over : IsResting s n inputs q j blocks blocks k states ls) where
   -- all firings are done
   all_done : (a : ℕ) → a < length n.nodes → k a ≡ periods_of q (blocks * j) a
@@ -135,48 +160,65 @@ module _ {A S T : Type 0} (s : Steps A S T) (n : Netlist A T) (inputs : List (Li
 
   -- each node is where all that it took brought it
   node_at : (a : ℕ) (x : Node A) (w : NodeState T S) → a < length n.nodes → nets.node n a ≡ x →
-      IsAt s inputs (blocks * (j * get_or q a 0)) x (taken_before (wiring s n) over.between.history a (k a)) (get_or states a w)
+      IsAt s inputs (blocks * (j * get_or q a 0)) x (taken_before (wiring s n) over.between.history a (k a))
+      (get_or states a w)
   node_at a x w l is =
-      subst (λ y. IsAt s inputs (blocks * (j * get_or q a 0)) y (taken_before (wiring s n) over.between.history a (k a)) (get_or states a w)) is
+      subst (λ y. IsAt s inputs (blocks * (j * get_or q a 0)) y (taken_before (wiring s n) over.between.history a (k a))
+      (get_or states a w)) is
       (over.between.idle a w l (λ i f h. absurd (omega arith)))
 
   -- so the list of each sink is what it took
-  sinks_took : (outputs : List (Vec T Global)) → AreCollected n (length n.nodes) states outputs → (a e block : ℕ) → a < length n.nodes → nets.node n a ≡ node.Sink e block →
-      get_or (lists outputs) e [] ≡ flat_map (λ (b : List T). b) (taken_before (wiring s n) over.between.history a (k a))
+  sinks_took : (outputs : List (Vec T Global)) → AreCollected n (length n.nodes) states outputs → (a e block : ℕ) →
+      a < length n.nodes → nets.node n a ≡ node.Sink e block →
+      get_or (lists outputs) e [] ≡ flat_map (λ (b : List T). b)
+      (taken_before (wiring s n) over.between.history a (k a))
   sinks_took outputs collected a e block l x =
       let w : NodeState T S = some_of states a (omega (arith, over.between.nodes)) in
-      let found = sink_list s inputs (blocks * (j * get_or q a 0)) e block (taken_before (wiring s n) over.between.history a (k a)) (get_or states a w) (node_at a (node.Sink e block) w l x) in
+      let found = sink_list s inputs (blocks * (j * get_or q a 0)) e block
+      (taken_before (wiring s n) over.between.history a (k a)) (get_or states a w)
+      (node_at a (node.Sink e block) w l x) in
       collected a e block found.0 w l x found.1 ∙ found.2
 
   -- after the last block the lists of the sinks are the outputs
-  pub row_outputs : SinksMakeOutputs s → IsNet s n → (outputs : List (Vec T Global)) → AreCollected n (length n.nodes) states outputs → length outputs ≡ list_count Outputs n.nodes →
+  pub row_outputs : SinksMakeOutputs s → IsNet s n → (outputs : List (Vec T Global)) →
+      AreCollected n (length n.nodes) states outputs → length outputs ≡ list_count Outputs n.nodes →
       AreOutputs s n inputs (periods_of q (blocks * j)) (lists outputs)
   row_outputs make good outputs collected count =
-      make n inputs q (blocks * j) k over.between.history (lists outputs) good over.between.is all_done (length-map outputs (λ v. v.items) ∙ count) (sinks_took outputs collected)
+      make n inputs q (blocks * j) k over.between.history (lists outputs) good over.between.is all_done
+      (length-map outputs (λ v. v.items) ∙ count) (sinks_took outputs collected)
 
   -- copies of the actors' states and of the samples on the channels are what is left
   leaves : ActorsKeepStates s → (rest : Rest T S) → length rest.states.items ≡ length n.nodes →
-      ((a : ℕ) (w : NodeState T S) → a < length n.nodes → get_or rest.states.items a None ≡ kept_of (nets.node n a) (get_or states a w)) → lists rest.held.items ≡ map (λ queue. queue.samples) ls →
+      ((a : ℕ) (w : NodeState T S) → a < length n.nodes →
+      get_or rest.states.items a None ≡ kept_of (nets.node n a) (get_or states a w)) →
+      lists rest.held.items ≡ map (λ queue. queue.samples) ls →
       Leaves s n k over.between.history rest
   leaves keep rest all copies held = record {
     nodes = all;
     states = λ a x l is.
         let w : NodeState T S = some_of states a (omega (arith, over.between.nodes)) in
         copies a w l ∙ (ap (λ y. kept_of y (get_or states a w)) is ∙
-        keep inputs (blocks * (j * get_or q a 0)) x (taken_before (wiring s n) over.between.history a (k a)) (get_or states a w) (node_at a (node.Inner x) w l is));
-    channels = sym (length-map rest.held.items (λ v. v.items)) ∙ (ap length held ∙ (length-map ls (λ (q : Held T). q.samples) ∙ over.between.channels));
+        keep inputs (blocks * (j * get_or q a 0)) x (taken_before (wiring s n) over.between.history a (k a))
+        (get_or states a w) (node_at a (node.Inner x) w l is));
+    channels = sym (length-map rest.held.items (λ v. v.items))
+        ∙ (ap length held ∙ (length-map ls (λ (q : Held T). q.samples) ∙ over.between.channels));
     held = λ c l.
         ap (λ v. get_or v c []) held ∙
-        (get_or-map (λ (q : Held T). q.samples) ls c nothing [] (omega (arith, over.between.channels, l)) ∙ over.between.left c l);
+        (get_or-map (λ (q : Held T). q.samples) ls c nothing [] (omega (arith, over.between.channels, l))
+        ∙ over.between.left c l);
   }
 
   -- and that is a run
-  pub row_run : SinksMakeRuns s → ActorsKeepStates s → IsNet s n → (outputs : List (Vec T Global)) → AreCollected n (length n.nodes) states outputs → length outputs ≡ list_count Outputs n.nodes →
+  pub row_run : SinksMakeRuns s → ActorsKeepStates s → IsNet s n → (outputs : List (Vec T Global)) →
+      AreCollected n (length n.nodes) states outputs → length outputs ≡ list_count Outputs n.nodes →
       (rest : Rest T S) → length rest.states.items ≡ length n.nodes →
-      ((a : ℕ) (w : NodeState T S) → a < length n.nodes → get_or rest.states.items a None ≡ kept_of (nets.node n a) (get_or states a w)) → lists rest.held.items ≡ map (λ queue. queue.samples) ls →
+      ((a : ℕ) (w : NodeState T S) → a < length n.nodes →
+      get_or rest.states.items a None ≡ kept_of (nets.node n a) (get_or states a w)) →
+      lists rest.held.items ≡ map (λ queue. queue.samples) ls →
       HasRun s n inputs (periods_of q (blocks * j)) (lists outputs) rest
   row_run make keep good outputs collected count rest all copies held =
-      make n inputs q (blocks * j) k over.between.history (lists outputs) rest good over.between.is all_done (length-map outputs (λ v. v.items) ∙ count) (sinks_took outputs collected)
+      make n inputs q (blocks * j) k over.between.history (lists outputs) rest good over.between.is all_done
+      (length-map outputs (λ v. v.items) ∙ count) (sinks_took outputs collected)
       (leaves keep rest all copies held)
 
 -- nobody has fired

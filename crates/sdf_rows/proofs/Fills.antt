@@ -20,12 +20,15 @@ use Rattle.sdf_rows.proofs.Known.{Known}
 use Rattle.sdf_rows.proofs.Settles.{plan, held, ports_in, in_cycle, takes_in, takes_are}
 
 -- all elements, each with a default of its own
-pub all_from : {X : Type 0} (P : X → Type 0) (xs : List X) → ((i : ℕ) (d : X) → i < length xs → P (get_or xs i d)) → All P xs
+pub all_from : {X : Type 0} (P : X → Type 0) (xs : List X) → ((i : ℕ) (d : X) → i < length xs → P (get_or xs i d)) →
+    All P xs
 all_from P [] each = All-nil P
 all_from P (x ∷ xs) each = All-from_get_or P (x ∷ xs) x (λ i h. each i x h)
 
-module _ {A S T : Type 0} (s : Steps A S T) (n : Netlist A T) (net : Known s n) (z : Rows) (sizes : AreSizes s n z) (inputs : List (List T)) (steps : NodesCanStep s) (phases : NodesKeepPhase s)
-    (many low high : ℕ → ℕ) (acts : List ℕ) (k : ℕ → ℕ) (states : List (NodeState T S)) (ls : List (Held T)) (jobs : List (Job A T S)) (st : IsFilling s n inputs many low high acts 0 k states ls jobs)
+module _ {A S T : Type 0} (s : Steps A S T) (n : Netlist A T) (net : Known s n) (z : Rows) (sizes : AreSizes s n z)
+    (inputs : List (List T)) (steps : NodesCanStep s) (phases : NodesKeepPhase s)
+    (many low high : ℕ → ℕ) (acts : List ℕ) (k : ℕ → ℕ) (states : List (NodeState T S)) (ls : List (Held T))
+    (jobs : List (Job A T S)) (st : IsFilling s n inputs many low high acts 0 k states ls jobs)
     (i : ℕ) (h : i < length acts) (d : Job A T S) where
   abbrev pub who : ℕ
   who = get_or acts i 0
@@ -57,19 +60,33 @@ module _ {A S T : Type 0} (s : Steps A S T) (n : Netlist A T) (net : Known s n) 
   fits_at : JobFits s n inputs z ls (record job { actor = who })
   fits_at =
       let total : ℕ = sum_by (λ c. get_or (at_phase z.takes job.phase) c 0) ((wiring s n).ins who) in
-      let total_is : total ≡ takes_of s (node n who) job.phase = takes_are s n net z sizes inputs many low high acts 0 i k states ls jobs (IsLoaded s n inputs many) st first h job.phase has.phase in
-      let can : CanStep s inputs (node n who) job.state (takes_of s (node n who) (phase_at job.state)) (puts_of s (node n who) (phase_at job.state)) =
-      steps inputs (node n who) (many who) (taken_before (wiring s n) st.history who (k who)) job.state has.state (sizes.some who (st.known i h)) (omega (arith, count, left)) in
+      let total_is : total ≡ takes_of s (node n who) job.phase =
+      takes_are s n net z sizes inputs many low high acts 0 i k states ls jobs (IsLoaded s n inputs many) st first h
+      job.phase has.phase in
+      let can : CanStep s inputs (node n who) job.state (takes_of s (node n who) (phase_at job.state))
+      (puts_of s (node n who) (phase_at job.state)) =
+      steps inputs (node n who) (many who) (taken_before (wiring s n) st.history who (k who)) job.state has.state
+      (sizes.some who (st.known i h)) (omega (arith, count, left)) in
       record {
         known = st.known i h;
-        in_cycle = in_cycle s n net z sizes inputs many low high acts 0 i k states ls jobs (IsLoaded s n inputs many) st first h job.phase has.phase;
-        sized = takes_in s n net z sizes inputs many low high acts 0 i k states ls jobs (IsLoaded s n inputs many) st first h job.phase has.phase;
-        ports = ports_in s n net z sizes inputs many low high acts 0 i k states ls jobs (IsLoaded s n inputs many) st first h job.phase has.phase;
-        held = held s n net z sizes inputs many low high acts 0 i k states ls jobs (IsLoaded s n inputs many) st first h job.phase has.phase;
-        room = omega (arith, total_is, ap (takes_of s (node n who)) has.phase, has.blocks.taken who (k who) (st.known i h));
+        in_cycle = in_cycle s n net z sizes inputs many low high acts 0 i k states ls jobs (IsLoaded s n inputs many) st
+            first h job.phase has.phase;
+        sized = takes_in s n net z sizes inputs many low high acts 0 i k states ls jobs (IsLoaded s n inputs many) st
+            first h job.phase has.phase;
+        ports = ports_in s n net z sizes inputs many low high acts 0 i k states ls jobs (IsLoaded s n inputs many) st
+            first h job.phase has.phase;
+        held = held s n net z sizes inputs many low high acts 0 i k states ls jobs (IsLoaded s n inputs many) st first h
+            job.phase has.phase;
+        room = omega (
+          arith,
+          total_is,
+          ap (takes_of s (node n who)) has.phase,
+          has.blocks.taken who (k who) (st.known i h),
+        );
         long = omega (arith, ap (puts_of s (node n who)) has.phase, has.blocks.put who (k who) (st.known i h));
         can = subst (λ m. CanStep s inputs (node n who) job.state m (puts_of s (node n who) job.phase)) (sym total_is)
-            (subst (λ p. CanStep s inputs (node n who) job.state (takes_of s (node n who) p) (puts_of s (node n who) p)) at_phase_is can);
+            (subst (λ p. CanStep s inputs (node n who) job.state (takes_of s (node n who) p) (puts_of s (node n who) p))
+            at_phase_is can);
       }
 
   pub job_fits : JobFits s n inputs z ls job
@@ -78,32 +95,47 @@ module _ {A S T : Type 0} (s : Steps A S T) (n : Netlist A T) (net : Known s n) 
   -- what it takes is the node's next block
   block_is : front (at_phase z.takes job.phase) ((wiring s n).ins who) ls ≡ taken (wiring s n) st.history who (k who)
   block_is =
-      net.stand n k who st.history (at_phase z.takes job.phase) (at_phase z.puts job.phase) (samples ls) net.good (st.known i h)
-      (plan s n net z sizes inputs many low high acts 0 i k states ls jobs (IsLoaded s n inputs many) st first h job.phase has.phase) st.left
+      net.stand n k who st.history (at_phase z.takes job.phase) (at_phase z.puts job.phase) (samples ls)
+      net.good (st.known i h)
+      (plan s n net z sizes inputs many low high acts 0 i k states ls jobs (IsLoaded s n inputs many) st first h
+      job.phase has.phase) st.left
 
   pub is_back : (job' : Job A T S) → HasFired s n inputs z ls job job' → IsBack s n inputs many k st.history who job'
   is_back job' fired =
       let past : List (List T) = taken_before (wiring s n) st.history who (k who) in
-      let at : HasFired s n inputs z ls (record job { actor = who }) job' = subst (λ j. HasFired s n inputs z ls j job') (sym same_job) fired in
+      let at : HasFired s n inputs z ls (record job { actor = who }) job' =
+      subst (λ j. HasFired s n inputs z ls j job') (sym same_job) fired in
       let phase : job'.phase ≡ phase_of s (node n who) (k who) = at.phase_kept ∙ has.phase in
       record {
         actor = at.actor_kept;
         phase = phase;
-        long = omega (arith, ap (puts_of s (node n who)) phase, at.long_kept, has.blocks.put who (k who) (st.known i h));
-        state = subst (λ b. IsAt s inputs (many who) (node n who) (past ++ b ∷ []) job'.state) block_is (at.at (many who) past has.state);
+        long = omega (
+          arith,
+          ap (puts_of s (node n who)) phase,
+          at.long_kept,
+          has.blocks.put who (k who) (st.known i h),
+        );
+        state = subst (λ b. IsAt s inputs (many who) (node n who) (past ++ b ∷ []) job'.state) block_is
+            (at.at (many who) past has.state);
         put = ap (λ m. take (puts_of s (node n who) m) job'.put.items) at.phase_kept ∙
             (at.put (many who) past has.state ∙ ap (answer_of s inputs (node n who) past) block_is);
       }
 
-module _ {A S T : Type 0} (s : Steps A S T) (n : Netlist A T) (net : Known s n) (z : Rows) (sizes : AreSizes s n z) (inputs : List (List T)) (steps : NodesCanStep s) (phases : NodesKeepPhase s)
-    (many low high : ℕ → ℕ) (k : ℕ → ℕ) (states : List (NodeState T S)) (ls : List (Held T)) (jobs : List (Job A T S)) (st : IsFilling s n inputs many low high (actors_of jobs) 0 k states ls jobs) where
+module _ {A S T : Type 0} (s : Steps A S T) (n : Netlist A T) (net : Known s n) (z : Rows) (sizes : AreSizes s n z)
+    (inputs : List (List T)) (steps : NodesCanStep s) (phases : NodesKeepPhase s)
+    (many low high : ℕ → ℕ) (k : ℕ → ℕ) (states : List (NodeState T S)) (ls : List (Held T)) (jobs : List (Job A T S))
+    (st : IsFilling s n inputs many low high (actors_of jobs) 0 k states ls jobs) where
   acts_long : length (actors_of jobs) ≡ length jobs
   acts_long = length-map jobs (λ j. j.actor)
 
   pub all_fit : All (JobFits s n inputs z ls) jobs
-  all_fit = all_from (JobFits s n inputs z ls) jobs (λ i d h. job_fits s n net z sizes inputs steps phases many low high (actors_of jobs) k states ls jobs st i (omega (arith, acts_long)) d)
+  all_fit = all_from (JobFits s n inputs z ls) jobs
+      (λ i d h. job_fits s n net z sizes inputs steps phases many low high (actors_of jobs) k states ls jobs st i
+      (omega (arith, acts_long)) d)
 
-  module _ (jobs' : List (Job A T S)) (all : length jobs' ≡ length jobs) (fired : (i : ℕ) (j : Job A T S) → i < length jobs → HasFired s n inputs z ls (get_or jobs i j) (get_or jobs' i j)) where
+  module _ (jobs' : List (Job A T S)) (all : length jobs' ≡ length jobs)
+      (fired : (i : ℕ) (j : Job A T S) → i < length jobs →
+      HasFired s n inputs z ls (get_or jobs i j) (get_or jobs' i j)) where
     pub same_actors : actors_of jobs' ≡ actors_of jobs
     same_actors =
         same_lists (actors_of jobs') (actors_of jobs) (length-map jobs' (λ j. j.actor) ∙ (all ∙ sym acts_long))
@@ -111,7 +143,8 @@ module _ {A S T : Type 0} (s : Steps A S T) (n : Netlist A T) (net : Known s n) 
         let h' : i < length jobs' = omega (arith, length-map jobs' (λ j. j.actor)) in
         let j : Job A T S = some_job jobs' i h' in
         get_or-map (λ (j : Job A T S). j.actor) jobs' i j d h' ∙
-        ((fired i j (omega (arith, all))).actor_kept ∙ sym (get_or-map (λ (j : Job A T S). j.actor) jobs i j d (omega (arith, all)))))
+        ((fired i j (omega (arith, all))).actor_kept
+        ∙ sym (get_or-map (λ (j : Job A T S). j.actor) jobs i j d (omega (arith, all)))))
       where
         some_job : (js : List (Job A T S)) (i : ℕ) → i < length js → Job A T S
         some_job [] i h = absurd (omega arith)
@@ -134,13 +167,15 @@ module _ {A S T : Type 0} (s : Steps A S T) (n : Netlist A T) (net : Known s n) 
       apart = st.apart;
       idle = st.idle;
       jobs_are = λ i j from h.
-          is_back s n net z sizes inputs steps phases many low high (actors_of jobs) k states ls jobs st i h j (get_or jobs' i j) (fired i j (omega (arith, acts_long)));
+          is_back s n net z sizes inputs steps phases many low high (actors_of jobs) k states ls jobs st i h j
+          (get_or jobs' i j) (fired i j (omega (arith, acts_long)));
       able = st.able;
       within = st.within;
     }
 
     pub all_back_here : IsSettling s n inputs many low high (actors_of jobs') 0 k states ls jobs'
-    all_back_here = subst (λ acts. IsSettling s n inputs many low high acts 0 k states ls jobs') (sym same_actors) all_back
+    all_back_here = subst (λ acts. IsSettling s n inputs many low high acts 0 k states ls jobs')
+        (sym same_actors) all_back
 
     pub fired_keep : KeepBlocks jobs jobs'
     fired_keep = record {
@@ -150,8 +185,11 @@ module _ {A S T : Type 0} (s : Steps A S T) (n : Netlist A T) (net : Known s n) 
     }
 
 -- when all are settled, the row is over
-pub row_over : {A S T : Type 0} (s : Steps A S T) (n : Netlist A T) (inputs : List (List T)) (many low high : ℕ → ℕ) (acts : List ℕ) (from : ℕ) (k : ℕ → ℕ) (states : List (NodeState T S)) (ls : List (Held T)) (jobs : List (Job A T S)) →
-    length acts ≤ from → IsSettling s n inputs many low high acts from k states ls jobs → IsBetween s n inputs many low high k states ls
+pub row_over : {A S T : Type 0} (s : Steps A S T) (n : Netlist A T) (inputs : List (List T)) (many low high : ℕ → ℕ)
+    (acts : List ℕ) (from : ℕ) (k : ℕ → ℕ) (states : List (NodeState T S)) (ls : List (Held T))
+    (jobs : List (Job A T S)) →
+    length acts ≤ from → IsSettling s n inputs many low high acts from k states ls jobs →
+    IsBetween s n inputs many low high k states ls
 row_over s n inputs many low high acts from k states ls jobs over st = record {
   small = st.small;
   reach = st.reach;
@@ -179,7 +217,8 @@ keep_twice x y z one two = record {
   put = λ i j h. two.put i j (omega (arith, one.all)) ∙ one.put i j h;
 }
 
-pub keep_have : {A S T : Type 0} (s : Steps A S T) (n : Netlist A T) (x y : List (Job A T S)) → HaveBlocks s n x → KeepBlocks x y → HaveBlocks s n y
+pub keep_have : {A S T : Type 0} (s : Steps A S T) (n : Netlist A T) (x y : List (Job A T S)) → HaveBlocks s n x →
+    KeepBlocks x y → HaveBlocks s n y
 keep_have s n x y have keeps i j h =
     let l : i < length x = omega (arith, keeps.all) in
     let was = have i j l in

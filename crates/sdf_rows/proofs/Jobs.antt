@@ -14,23 +14,35 @@ use Rattle.sdf_answer.specs.Sizes.{Rows, at_phase}
 use Rattle.sdf_rows.specs.Jobs.{JobFits}
 
 -- a block at the front has its length
-pub length_fronts : {T : Type 0} (takes ins : List ℕ) (ls : List (Held T)) → HoldBlocks ins takes ls → length (front takes ins ls) ≡ sum_by (λ c. get_or takes c 0) ins
+pub length_fronts : {T : Type 0} (takes ins : List ℕ) (ls : List (Held T)) → HoldBlocks ins takes ls →
+    length (front takes ins ls) ≡ sum_by (λ c. get_or takes c 0) ins
 length_fronts takes [] ls held = refl
 length_fronts takes (c ∷ cs) ls held =
-    let one : length (take (get_or takes c 0) (samples ls c)) ≡ get_or takes c 0 = length-take-le (get_or takes c 0) (samples ls c) (held 0 (omega arith)) in
-    let rest : length (front takes cs ls) ≡ sum_by (λ c. get_or takes c 0) cs = length_fronts takes cs ls (λ n l. held (suc n) (omega arith)) in
-    omega (arith, length-append (take (get_or takes c 0) (samples ls c)) (front takes cs ls), sum_by-cons (λ c. get_or takes c 0) c cs)
+    let one : length (take (get_or takes c 0) (samples ls c)) ≡ get_or takes c 0 =
+    length-take-le (get_or takes c 0) (samples ls c) (held 0 (omega arith)) in
+    let rest : length (front takes cs ls) ≡ sum_by (λ c. get_or takes c 0) cs =
+    length_fronts takes cs ls (λ n l. held (suc n) (omega arith)) in
+    omega (
+      arith,
+      length-append (take (get_or takes c 0) (samples ls c)) (front takes cs ls),
+      sum_by-cons (λ c. get_or takes c 0) c cs,
+    )
 
 -- what is read is the block that the firing takes
-pub read_is : {T : Type 0} (ins ins' takes takes' : List ℕ) (ls : List (Held T)) (was items : List T) → ins ≡ ins' → takes ≡ takes' → was ≡ [] → items ≡ was ++ front takes ins ls → items ≡ front takes' ins' ls
-read_is ins ins' takes takes' ls was items is ts none all = all ∙ (ap (λ xs. xs ++ front takes ins ls) none ∙ (λ i. front (ts i) (is i) ls))
+pub read_is : {T : Type 0} (ins ins' takes takes' : List ℕ) (ls : List (Held T)) (was items : List T) → ins ≡ ins' →
+    takes ≡ takes' → was ≡ [] → items ≡ was ++ front takes ins ls → items ≡ front takes' ins' ls
+read_is ins ins' takes takes' ls was items is ts none all =
+    all ∙ (ap (λ xs. xs ++ front takes ins ls) none ∙ (λ i. front (ts i) (is i) ls))
 
-module _ {A S T : Type 0} (s : Steps A S T) (n : Netlist A T) (inputs : List (List T)) (z : Rows) (ls : List (Held T)) (j : Job A T S) (fits : JobFits s n inputs z ls j) where
-  pub can_here : (x : Node A) (items : List T) (many : ℕ) → x ≡ node n j.actor → items ≡ front (at_phase z.takes j.phase) ((wiring s n).ins j.actor) ls → many ≡ puts_of s x j.phase →
+module _ {A S T : Type 0} (s : Steps A S T) (n : Netlist A T) (inputs : List (List T)) (z : Rows) (ls : List (Held T))
+    (j : Job A T S) (fits : JobFits s n inputs z ls j) where
+  pub can_here : (x : Node A) (items : List T) (many : ℕ) → x ≡ node n j.actor →
+      items ≡ front (at_phase z.takes j.phase) ((wiring s n).ins j.actor) ls → many ≡ puts_of s x j.phase →
       CanStep s inputs x j.state (length items) many
   can_here x items many x_is items_is many_is =
       let total : ℕ = sum_by (λ c. get_or (at_phase z.takes j.phase) c 0) ((wiring s n).ins j.actor) in
-      let long : total ≡ length items = sym (ap length items_is ∙ length_fronts (at_phase z.takes j.phase) ((wiring s n).ins j.actor) ls fits.held) in
+      let long : total ≡ length items = sym (ap length items_is
+      ∙ length_fronts (at_phase z.takes j.phase) ((wiring s n).ins j.actor) ls fits.held) in
       let more : puts_of s (node n j.actor) j.phase ≡ many = sym (many_is ∙ ap (λ y. puts_of s y j.phase) x_is) in
       subst (λ y. CanStep s inputs y j.state (length items) many) (sym x_is)
       (subst (λ l. CanStep s inputs (node n j.actor) j.state l many) long

@@ -1,5 +1,6 @@
 -- Lists that are read and pushed on.
-use Rattle.std.proofs.Common.{◌≡◌, ℕ, ◌+◌, ◌*◌, ◌<◌, List, [], ◌∷◌, ◌++◌, length, get_or, sym, ap, ◌∙◌, subst, inl, inr, ◌⊎◌, ◌≤◌, vec_len, arith}
+use Rattle.std.proofs.Common.{◌≡◌, ℕ, ◌+◌, ◌*◌, ◌<◌, List, [], ◌∷◌, ◌++◌, length, get_or, sym, ap, ◌∙◌, subst, inl, inr}
+use Rattle.std.proofs.Common.{◌⊎◌, ◌≤◌, vec_len, arith}
 use Rattle.std.proofs.lemmas.List.{get_or_append_left, get_or_push}
 use Rattle.std.proofs.lemmas.Bool.{cases_lt}
 use Rattle.std.specs.declared.vec.Vec.{Vec}
@@ -33,13 +34,17 @@ pub push_each : {X : Type 0} (P : ℕ → X → Type 0) (xs ys : List X) (x : X)
 push_each P xs ys x i is long before here k d = push_at P xs ys x d i is long (λ j h. before j d h) here k
 
 -- lists that pass the test of their number and length are what so many periods read
-pub given : {A T : Type 0} (n : Netlist A T) (q : List ℕ) (periods many least samples : ℕ) (inputs : List (List T)) → AreInputs many least inputs → many ≡ list_count Inputs n.nodes →
+pub given : {A T : Type 0} (n : Netlist A T) (q : List ℕ) (periods many least samples : ℕ) (inputs : List (List T)) →
+    AreInputs many least inputs → many ≡ list_count Inputs n.nodes →
     least ≡ periods * samples → samples ≡ period_samples n.nodes Inputs q → HasInputs n q periods inputs
 given n q periods many least samples inputs are count long each =
-    subst (λ m. AreInputs m (periods * period_samples n.nodes Inputs q) inputs) count (subst (λ l. AreInputs many l inputs) (long ∙ ap (λ m. periods * m) each) are)
+    subst (λ m. AreInputs m (periods * period_samples n.nodes Inputs q) inputs) count
+    (subst (λ l. AreInputs many l inputs) (long ∙ ap (λ m. periods * m) each) are)
 
 -- and the other way
-pub asked : {A T : Type 0} (n : Netlist A T) (q : List ℕ) (periods many least samples : ℕ) (inputs : List (List T)) → HasInputs n q periods inputs → many ≡ list_count Inputs n.nodes →
+pub asked : {A T : Type 0} (n : Netlist A T) (q : List ℕ) (periods many least samples : ℕ) (inputs : List (List T)) →
+    HasInputs n q periods inputs → many ≡ list_count Inputs n.nodes →
     least ≡ periods * samples → samples ≡ period_samples n.nodes Inputs q → AreInputs many least inputs
 asked n q periods many least samples inputs has count long each =
-    subst (λ l. AreInputs many l inputs) (sym (long ∙ ap (λ m. periods * m) each)) (subst (λ m. AreInputs m (periods * period_samples n.nodes Inputs q) inputs) (sym count) has)
+    subst (λ l. AreInputs many l inputs) (sym (long ∙ ap (λ m. periods * m) each))
+    (subst (λ m. AreInputs m (periods * period_samples n.nodes Inputs q) inputs) (sym count) has)

@@ -1,5 +1,6 @@
 -- A row's firings settled, one by one.
-use Rattle.std.proofs.Common.{◌≡◌, ℕ, ◌+◌, ◌*◌, ◌^◌, ◌≤◌, ◌<◌, List, [], ◌∷◌, ◌++◌, length, get_or, set, take, drop, vec_capacity, refl, sym, ap, ◌∙◌, subst, inl, inr, ◌⊎◌, arith}
+use Rattle.std.proofs.Common.{◌≡◌, ℕ, ◌+◌, ◌*◌, ◌^◌, ◌≤◌, ◌<◌, List, [], ◌∷◌, ◌++◌, length, get_or, set, take, drop}
+use Rattle.std.proofs.Common.{vec_capacity, refl, sym, ap, ◌∙◌, subst, inl, inr, ◌⊎◌, arith}
 use Rattle.std.specs.List.{sum_by}
 use Rattle.std.proofs.Math.Nat.{mul-le-mul_left}
 use Rattle.std.proofs.lemmas.List.{length-drop, get_or-set_same, get_or-set_other, get_or_default, length-set}
@@ -37,19 +38,27 @@ out_is s (Sink ext block) i = refl
 out_is s (Inner x) i = refl
 
 -- inputs that are long enough are so for fewer firings
-reach_within : {A T : Type 0} (inputs : List (List T)) (k m : ℕ → ℕ) (a : ℕ) (x : Node A) → k a ≤ m a → SourceReaches inputs m a x → SourceReaches inputs k a x
-reach_within inputs k m a (Source ext block) less is = let more : block * k a ≤ block * m a = mul-le-mul_left block less in omega arith
+reach_within : {A T : Type 0} (inputs : List (List T)) (k m : ℕ → ℕ) (a : ℕ) (x : Node A) → k a ≤ m a →
+    SourceReaches inputs m a x → SourceReaches inputs k a x
+reach_within inputs k m a (Source ext block) less is = let more : block * k a ≤ block * m a =
+    mul-le-mul_left block less in omega arith
 reach_within inputs k m a (Sink ext block) less is = tt
 reach_within inputs k m a (Inner x) less is = tt
 
 -- an enabled actor takes what has come
-enabled_within : (r : Rates) (k : ℕ → ℕ) (a : ℕ) → IsEnabled r k a → (c : ℕ) → c < r.channels → r.target c ≡ a → r.consumed c (k a + 1) ≤ r.initial c + r.produced c (k (r.source c))
-enabled_within r k a on c l e = subst (λ n. r.consumed c (n + 1) ≤ r.initial c + r.produced c (k (r.source c))) (ap k e) (on c l e)
+enabled_within : (r : Rates) (k : ℕ → ℕ) (a : ℕ) → IsEnabled r k a → (c : ℕ) → c < r.channels → r.target c ≡ a →
+    r.consumed c (k a + 1) ≤ r.initial c + r.produced c (k (r.source c))
+enabled_within r k a on c l e = subst (λ n. r.consumed c (n + 1) ≤ r.initial c + r.produced c (k (r.source c)))
+    (ap k e) (on c l e)
 
 -- the actor at place i of a row, whose next firing is at phase p
-module _ {A S T : Type 0} (s : Steps A S T) (n : Netlist A T) (net : Known s n) (z : Rows) (sizes : AreSizes s n z) (inputs : List (List T)) (many low high : ℕ → ℕ) (acts : List ℕ) (from i : ℕ) (k : ℕ → ℕ)
-    (states : List (NodeState T S)) (ls : List (Held T)) (jobs : List (Job A T S)) (P : (ℕ → ℕ) → (ℕ → List T) → ℕ → Job A T S → Type 0) (st : IsStage s n inputs many P low high acts from k states ls jobs)
-    (first : from ≤ i) (h : i < length acts) (phase : ℕ) (phase_is : phase ≡ phase_of s (node n (get_or acts i 0)) (k (get_or acts i 0))) where
+module _ {A S T : Type 0} (s : Steps A S T) (n : Netlist A T) (net : Known s n) (z : Rows) (sizes : AreSizes s n z)
+    (inputs : List (List T)) (many low high : ℕ → ℕ) (acts : List ℕ) (from i : ℕ) (k : ℕ → ℕ)
+    (states : List (NodeState T S)) (ls : List (Held T)) (jobs : List (Job A T S))
+    (P : (ℕ → ℕ) → (ℕ → List T) → ℕ → Job A T S → Type 0)
+    (st : IsStage s n inputs many P low high acts from k states ls jobs)
+    (first : from ≤ i) (h : i < length acts) (phase : ℕ)
+    (phase_is : phase ≡ phase_of s (node n (get_or acts i 0)) (k (get_or acts i 0))) where
   abbrev pub who : ℕ
   who = get_or acts i 0
 
@@ -60,32 +69,55 @@ module _ {A S T : Type 0} (s : Steps A S T) (n : Netlist A T) (net : Known s n) 
   who_on = st.able i first h
 
   pub plan : IsPlan s n who (k who) (at_phase z.takes phase) (at_phase z.puts phase)
-  plan = subst (λ p. IsPlan s n who (k who) (at_phase z.takes p) (at_phase z.puts p)) (sym phase_is) (sizes.plan who (k who) who_known)
+  plan = subst (λ p. IsPlan s n who (k who) (at_phase z.takes p) (at_phase z.puts p)) (sym phase_is)
+      (sizes.plan who (k who) who_known)
 
   -- what stands on a channel
-  standing : (c : ℕ) → c < length n.wires → length (samples ls c) + (wiring s n).rates.consumed c (k ((wiring s n).rates.target c)) ≡ (wiring s n).rates.initial c + (wiring s n).rates.produced c (k ((wiring s n).rates.source c))
+  standing : (c : ℕ) → c < length n.wires → length (samples ls c)
+      + (wiring s n).rates.consumed c (k ((wiring s n).rates.target c)) ≡
+      (wiring s n).rates.initial c + (wiring s n).rates.produced c (k ((wiring s n).rates.source c))
   standing c l =
-      let q : length (samples ls c) ≡ length (drop ((wiring s n).rates.consumed c (k ((wiring s n).rates.target c))) (st.history c)) = ap length (st.left c l) in
-      omega (arith, length-drop ((wiring s n).rates.consumed c (k ((wiring s n).rates.target c))) (st.history c), st.is.enough c l, st.is.lengths c l)
+      let q : length (samples ls c) ≡ length (drop ((wiring s n).rates.consumed c (k ((wiring s n).rates.target c)))
+      (st.history c)) = ap length (st.left c l) in
+      omega (
+        arith,
+        length-drop ((wiring s n).rates.consumed c (k ((wiring s n).rates.target c))) (st.history c),
+        st.is.enough c l,
+        st.is.lengths c l,
+      )
 
   pub held : HoldBlocks ((wiring s n).ins who) (at_phase z.takes phase) ls
   held p l =
       let c : ℕ = get_or ((wiring s n).ins who) p 0 in
       let is = net.wired.ins_are who p who_known l in
-      let own : (wiring s n).rates.consumed c (k ((wiring s n).rates.target c)) ≡ (wiring s n).rates.consumed c (k who) = ap (λ b. (wiring s n).rates.consumed c (k b)) is.1 in
-      omega (arith, own, standing c is.0, enabled_within (wiring s n).rates k who who_on c is.0 is.1, plan.taken c is.0 is.1)
+      let own : (wiring s n).rates.consumed c (k ((wiring s n).rates.target c)) ≡
+      (wiring s n).rates.consumed c (k who) = ap (λ b. (wiring s n).rates.consumed c (k b)) is.1 in
+      omega (
+        arith,
+        own,
+        standing c is.0,
+        enabled_within (wiring s n).rates k who who_on c is.0 is.1,
+        plan.taken c is.0 is.1,
+      )
 
   pub fits : (p : ℕ) → p < length ((wiring s n).outs who) →
-      length (samples ls (get_or ((wiring s n).outs who) p 0)) + get_or (at_phase z.puts phase) (get_or ((wiring s n).outs who) p 0) 0 ≤ room ls (get_or ((wiring s n).outs who) p 0)
+      length (samples ls (get_or ((wiring s n).outs who) p 0))
+      + get_or (at_phase z.puts phase) (get_or ((wiring s n).outs who) p 0) 0 ≤
+      room ls (get_or ((wiring s n).outs who) p 0)
   fits p l =
       let c : ℕ = get_or ((wiring s n).outs who) p 0 in
       let is = net.wired.outs_are who p who_known l in
-      let was : (wiring s n).rates.produced c (k ((wiring s n).rates.source c)) ≡ (wiring s n).rates.produced c (k who) = ap (λ b. (wiring s n).rates.produced c (k b)) is.1 in
-      let end : (wiring s n).rates.produced c (high ((wiring s n).rates.source c)) ≡ (wiring s n).rates.produced c (high who) = ap (λ b. (wiring s n).rates.produced c (high b)) is.1 in
+      let was : (wiring s n).rates.produced c (k ((wiring s n).rates.source c)) ≡
+      (wiring s n).rates.produced c (k who) = ap (λ b. (wiring s n).rates.produced c (k b)) is.1 in
+      let end : (wiring s n).rates.produced c (high ((wiring s n).rates.source c)) ≡
+      (wiring s n).rates.produced c (high who) = ap (λ b. (wiring s n).rates.produced c (high b)) is.1 in
       let left = st.within i first h in
-      let rise : (wiring s n).rates.produced c (k who + 1) ≤ (wiring s n).rates.produced c (high who) = net.wired.sound.produced_rises c (k who + 1) (high who) (omega arith) in
-      let drawn : (wiring s n).rates.consumed c (low ((wiring s n).rates.target c)) ≤ (wiring s n).rates.consumed c (k ((wiring s n).rates.target c)) =
-      net.wired.sound.consumed_rises c (low ((wiring s n).rates.target c)) (k ((wiring s n).rates.target c)) (st.above ((wiring s n).rates.target c) (net.wired.sound.target_in c is.0)) in
+      let rise : (wiring s n).rates.produced c (k who + 1) ≤ (wiring s n).rates.produced c (high who) =
+      net.wired.sound.produced_rises c (k who + 1) (high who) (omega arith) in
+      let drawn : (wiring s n).rates.consumed c (low ((wiring s n).rates.target c)) ≤
+      (wiring s n).rates.consumed c (k ((wiring s n).rates.target c)) =
+      net.wired.sound.consumed_rises c (low ((wiring s n).rates.target c)) (k ((wiring s n).rates.target c))
+      (st.above ((wiring s n).rates.target c) (net.wired.sound.target_in c is.0)) in
       omega (arith, was, end, rise, drawn, standing c is.0, st.fits c is.0, plan.put c is.0 is.1)
 
   own_ports : FitsPorts s n who (k who) (at_phase z.takes phase) (at_phase z.puts phase)
@@ -107,14 +139,17 @@ module _ {A S T : Type 0} (s : Steps A S T) (n : Netlist A T) (net : Known s n) 
   puts_in = omega (arith, phase_is, sizes.puts_known who (k who) who_known)
 
   -- a whole block has the length of its phase
-  pub takes_are : sum_by (λ c. get_or (at_phase z.takes phase) c 0) ((wiring s n).ins who) ≡ takes_of s (node n who) phase
+  pub takes_are : sum_by (λ c. get_or (at_phase z.takes phase) c 0) ((wiring s n).ins who) ≡
+      takes_of s (node n who) phase
   takes_are = own_ports.taken ∙ (in_is s (node n who) (k who) ∙ ap (takes_of s (node n who)) (sym phase_is))
 
   pub puts_are : sum_by (λ c. get_or (at_phase z.puts phase) c 0) ((wiring s n).outs who) ≡ puts_of s (node n who) phase
   puts_are = own_ports.put ∙ (out_is s (node n who) (k who) ∙ ap (puts_of s (node n who)) (sym phase_is))
 
-module _ {A S T : Type 0} (s : Steps A S T) (n : Netlist A T) (net : Known s n) (z : Rows) (sizes : AreSizes s n z) (inputs : List (List T)) (many low high : ℕ → ℕ) (acts : List ℕ) (i : ℕ) (k : ℕ → ℕ)
-    (states : List (NodeState T S)) (ls : List (Held T)) (jobs : List (Job A T S)) (st : IsSettling s n inputs many low high acts i k states ls jobs) (h : i < length acts) (d : Job A T S) where
+module _ {A S T : Type 0} (s : Steps A S T) (n : Netlist A T) (net : Known s n) (z : Rows) (sizes : AreSizes s n z)
+    (inputs : List (List T)) (many low high : ℕ → ℕ) (acts : List ℕ) (i : ℕ) (k : ℕ → ℕ)
+    (states : List (NodeState T S)) (ls : List (Held T)) (jobs : List (Job A T S))
+    (st : IsSettling s n inputs many low high acts i k states ls jobs) (h : i < length acts) (d : Job A T S) where
   abbrev pub a : ℕ
   a = get_or acts i 0
 
@@ -134,22 +169,34 @@ module _ {A S T : Type 0} (s : Steps A S T) (n : Netlist A T) (net : Known s n) 
   back = st.jobs_are i d (omega arith) h
 
   sized : IsPlan s n a (k a) (at_phase z.takes job.phase) (at_phase z.puts job.phase)
-  sized = plan s n net z sizes inputs many low high acts i i k states ls jobs (IsBack s n inputs many) st (omega arith) h job.phase back.phase
+  sized = plan s n net z sizes inputs many low high acts i i k states ls jobs (IsBack s n inputs many) st (omega arith)
+      h job.phase back.phase
 
   can_at : CanSettle s n z (record job { actor = a }) ls
   can_at =
       let first : i ≤ i = omega arith in
       record {
         known = known;
-        in_cycle = in_cycle s n net z sizes inputs many low high acts i i k states ls jobs (IsBack s n inputs many) st first h job.phase back.phase;
-        takes_known = takes_in s n net z sizes inputs many low high acts i i k states ls jobs (IsBack s n inputs many) st first h job.phase back.phase;
-        puts_known = puts_in s n net z sizes inputs many low high acts i i k states ls jobs (IsBack s n inputs many) st first h job.phase back.phase;
-        ins_are = ports_in s n net z sizes inputs many low high acts i i k states ls jobs (IsBack s n inputs many) st first h job.phase back.phase;
-        outs_are = ports_out s n net z sizes inputs many low high acts i i k states ls jobs (IsBack s n inputs many) st first h job.phase back.phase;
-        held = held s n net z sizes inputs many low high acts i i k states ls jobs (IsBack s n inputs many) st first h job.phase back.phase;
-        fits = λ p l. omega (arith, fits s n net z sizes inputs many low high acts i i k states ls jobs (IsBack s n inputs many) st first h job.phase back.phase p l);
+        in_cycle = in_cycle s n net z sizes inputs many low high acts i i k states ls jobs (IsBack s n inputs many) st
+            first h job.phase back.phase;
+        takes_known = takes_in s n net z sizes inputs many low high acts i i k states ls jobs (IsBack s n inputs many)
+            st first h job.phase back.phase;
+        puts_known = puts_in s n net z sizes inputs many low high acts i i k states ls jobs (IsBack s n inputs many) st
+            first h job.phase back.phase;
+        ins_are = ports_in s n net z sizes inputs many low high acts i i k states ls jobs (IsBack s n inputs many) st
+            first h job.phase back.phase;
+        outs_are = ports_out s n net z sizes inputs many low high acts i i k states ls jobs (IsBack s n inputs many) st
+            first h job.phase back.phase;
+        held = held s n net z sizes inputs many low high acts i i k states ls jobs (IsBack s n inputs many) st first h
+            job.phase back.phase;
+        fits = λ p l. omega (
+          arith,
+          fits s n net z sizes inputs many low high acts i i k states ls jobs
+              (IsBack s n inputs many) st first h job.phase back.phase p l,
+        );
         long = back.long;
-        whole = sym (puts_are s n net z sizes inputs many low high acts i i k states ls jobs (IsBack s n inputs many) st first h job.phase back.phase);
+        whole = sym (puts_are s n net z sizes inputs many low high acts i i k states ls jobs (IsBack s n inputs many) st
+            first h job.phase back.phase);
       }
 
   same_job : record job { actor = a } ≡ job
@@ -168,8 +215,10 @@ module _ {A S T : Type 0} (s : Steps A S T) (n : Netlist A T) (net : Known s n) 
   pub number_small : k a < 2 ^ 63
   number_small = let left = st.within i (omega arith) h in omega (arith, left, st.top a known, st.small a known)
 
-  module _ (m : ℕ → ℕ) (one : m a ≡ k a + 1) (others : (b : ℕ) → (a ≡ b → ⊥) → m b ≡ k b) (ls' : List (Held T)) (done : HasSettled s n z job ls ls')
-      (states' : List (NodeState T S)) (jobs' : List (Job A T S)) (states_all : length states' ≡ length states) (own : (w : NodeState T S) → get_or states' a w ≡ job.state)
+  module _ (m : ℕ → ℕ) (one : m a ≡ k a + 1) (others : (b : ℕ) → (a ≡ b → ⊥) → m b ≡ k b) (ls' : List (Held T))
+      (done : HasSettled s n z job ls ls')
+      (states' : List (NodeState T S)) (jobs' : List (Job A T S)) (states_all : length states' ≡ length states)
+      (own : (w : NodeState T S) → get_or states' a w ≡ job.state)
       (rest : (b : ℕ) (w : NodeState T S) → (a ≡ b → ⊥) → get_or states' b w ≡ get_or states b w)
       (jobs_rest : (p : ℕ) (j : Job A T S) → (i ≡ p → ⊥) → get_or jobs' p j ≡ get_or jobs p j) where
     less : (b : ℕ) → b < length n.nodes → m b ≤ high b
@@ -193,17 +242,24 @@ module _ {A S T : Type 0} (s : Steps A S T) (n : Netlist A T) (net : Known s n) 
     W = after_firing s n inputs k V a
 
     moves : MovesOn s n inputs k m a V (at_phase z.takes job.phase) (at_phase z.puts job.phase) (samples ls)
-    moves = net.moves n inputs k m a V (at_phase z.takes job.phase) (at_phase z.puts job.phase) (samples ls) net.good known on one others reach st.is sized st.left
+    moves = net.moves n inputs k m a V (at_phase z.takes job.phase) (at_phase z.puts job.phase) (samples ls) net.good
+        known on one others reach st.is sized st.left
 
-    left_then : (c : ℕ) → c < length n.wires → samples ls' c ≡ drop ((wiring s n).rates.consumed c (m ((wiring s n).rates.target c))) (W c)
+    left_then : (c : ℕ) → c < length n.wires → samples ls' c ≡
+        drop ((wiring s n).rates.consumed c (m ((wiring s n).rates.target c))) (W c)
     left_then c l =
         let size : ℕ = get_or (at_phase z.takes job.phase) c 0 in
         let shares : ℕ → ℕ = λ e. get_or (at_phase z.puts job.phase) e 0 in
-        let all : samples ls' c ≡ drop (at_ports ((wiring s n).ins a) size c) (samples ls c) ++ spread shares ((wiring s n).outs a) (take (puts_of s (node n a) job.phase) job.put.items) c =
-        subst (λ b. samples ls' c ≡ drop (at_ports ((wiring s n).ins b) size c) (samples ls c) ++ spread shares ((wiring s n).outs b) (take (puts_of s (node n b) job.phase) job.put.items) c) back.actor (done.left c (omega (arith, st.channels))) in
-        all ∙ (ap (λ ys. drop (at_ports ((wiring s n).ins a) size c) (samples ls c) ++ spread shares ((wiring s n).outs a) ys c) back.put ∙ moves.left c l)
+        let all : samples ls' c ≡ drop (at_ports ((wiring s n).ins a) size c) (samples ls c)
+        ++ spread shares ((wiring s n).outs a) (take (puts_of s (node n a) job.phase) job.put.items) c =
+        subst (λ b. samples ls' c ≡ drop (at_ports ((wiring s n).ins b) size c) (samples ls c)
+        ++ spread shares ((wiring s n).outs b) (take (puts_of s (node n b) job.phase) job.put.items) c) back.actor
+        (done.left c (omega (arith, st.channels))) in
+        all ∙ (ap (λ ys. drop (at_ports ((wiring s n).ins a) size c) (samples ls c)
+        ++ spread shares ((wiring s n).outs a) ys c) back.put ∙ moves.left c l)
 
-    idle_then : (b : ℕ) (w : NodeState T S) → b < length n.nodes → ((p : ℕ) → i + 1 ≤ p → p < length acts → get_or acts p 0 ≡ b → ⊥) → (a ≡ b) ⊎ (a ≡ b → ⊥) →
+    idle_then : (b : ℕ) (w : NodeState T S) → b < length n.nodes →
+        ((p : ℕ) → i + 1 ≤ p → p < length acts → get_or acts p 0 ≡ b → ⊥) → (a ≡ b) ⊎ (a ≡ b → ⊥) →
         IsAt s inputs (many b) (node n b) (taken_before (wiring s n) W b (m b)) (get_or states' b w)
     idle_then b w l none (inl e) =
         subst (λ b. IsAt s inputs (many b) (node n b) (taken_before (wiring s n) W b (m b)) (get_or states' b w)) e
@@ -235,25 +291,32 @@ module _ {A S T : Type 0} (s : Steps A S T) (n : Netlist A T) (net : Known s n) 
       back_then : (j : Job A T S) → IsBack s n inputs many m W b (get_or jobs' p j)
       back_then j =
           let was = st.jobs_are p j (omega arith) q in
-          let e : taken_before (wiring s n) V b (k b) ≡ taken_before (wiring s n) W b (m b) = sym (moves.others b b_known ne) in
+          let e : taken_before (wiring s n) V b (k b) ≡ taken_before (wiring s n) W b (m b) =
+          sym (moves.others b b_known ne) in
           let t : taken (wiring s n) V b (k b) ≡ taken (wiring s n) W b (m b) = sym (moves.ahead b b_known ne b_on) in
           subst (IsBack s n inputs many m W b) (sym (jobs_rest p j (λ f. absurd (omega arith))))
           (record {
             actor = was.actor;
             phase = was.phase ∙ ap (phase_of s (node n b)) (sym (others b ne));
             long = was.long;
-            state = subst (λ past. IsAt s inputs (many b) (node n b) past (get_or jobs p j).state) (λ x. e x ++ t x ∷ []) was.state;
+            state = subst (λ past. IsAt s inputs (many b) (node n b) past (get_or jobs p j).state)
+                (λ x. e x ++ t x ∷ []) was.state;
             put = was.put ∙ (λ x. answers s n inputs b (e x) (t x));
           })
 
       able_then : IsEnabled (wiring s n).rates m b
       able_then c l e =
           let source_in = net.wired.sound.source_in c l in
-          let rise : (wiring s n).rates.produced c (k ((wiring s n).rates.source c)) ≤ (wiring s n).rates.produced c (m ((wiring s n).rates.source c)) =
-          net.wired.sound.produced_rises c (k ((wiring s n).rates.source c)) (m ((wiring s n).rates.source c)) (more ((wiring s n).rates.source c) source_in) in
-          let same : m ((wiring s n).rates.target c) ≡ k ((wiring s n).rates.target c) = ap m e ∙ (others b ne ∙ ap k (sym e)) in
+          let rise : (wiring s n).rates.produced c (k ((wiring s n).rates.source c)) ≤
+          (wiring s n).rates.produced c (m ((wiring s n).rates.source c)) =
+          net.wired.sound.produced_rises c (k ((wiring s n).rates.source c)) (m ((wiring s n).rates.source c))
+          (more ((wiring s n).rates.source c) source_in) in
+          let same : m ((wiring s n).rates.target c) ≡ k ((wiring s n).rates.target c) =
+          ap m e ∙ (others b ne ∙ ap k (sym e)) in
           let was = b_on c l e in
-          let at : (wiring s n).rates.consumed c (m ((wiring s n).rates.target c) + 1) ≡ (wiring s n).rates.consumed c (k ((wiring s n).rates.target c) + 1) = ap (λ x. (wiring s n).rates.consumed c (x + 1)) same in
+          let at : (wiring s n).rates.consumed c (m ((wiring s n).rates.target c) + 1) ≡
+          (wiring s n).rates.consumed c (k ((wiring s n).rates.target c) + 1) =
+          ap (λ x. (wiring s n).rates.consumed c (x + 1)) same in
           omega (arith, was, rise, at)
 
     pub settled : IsSettling s n inputs many low high acts (i + 1) m states' ls' jobs'
@@ -277,8 +340,11 @@ module _ {A S T : Type 0} (s : Steps A S T) (n : Netlist A T) (net : Known s n) 
       within = λ p from q. omega (arith, others (get_or acts p 0) (ne p from q), st.within p (omega arith) q);
     }
 
-module _ {A S T : Type 0} (s : Steps A S T) (n : Netlist A T) (net : Known s n) (z : Rows) (sizes : AreSizes s n z) (inputs : List (List T)) (many low high : ℕ → ℕ) (acts : List ℕ) (i : ℕ) (done : List ℕ)
-    (states : List (NodeState T S)) (ls : List (Held T)) (jobs : List (Job A T S)) (st : IsSettling s n inputs many low high acts i (λ b. get_or done b 0) states ls jobs) (h : i < length acts) (d : Job A T S)
+module _ {A S T : Type 0} (s : Steps A S T) (n : Netlist A T) (net : Known s n) (z : Rows) (sizes : AreSizes s n z)
+    (inputs : List (List T)) (many low high : ℕ → ℕ) (acts : List ℕ) (i : ℕ) (done : List ℕ)
+    (states : List (NodeState T S)) (ls : List (Held T)) (jobs : List (Job A T S))
+    (st : IsSettling s n inputs many low high acts i (λ b. get_or done b 0) states ls jobs) (h : i < length acts)
+    (d : Job A T S)
     (counted : length done ≡ length n.nodes) where
   name : (get_or jobs i d).actor ≡ get_or acts i 0
   name = actor_is s n net z sizes inputs many low high acts i (λ b. get_or done b 0) states ls jobs st h d
@@ -293,10 +359,16 @@ module _ {A S T : Type 0} (s : Steps A S T) (n : Netlist A T) (net : Known s n) 
   has_count = omega (arith, name, named, counted)
 
   pub count_small : get_or done (get_or jobs i d).actor 0 < 2 ^ 63
-  count_small = omega (arith, ap (λ b. get_or done b 0) name, number_small s n net z sizes inputs many low high acts i (λ b. get_or done b 0) states ls jobs st h d)
+  count_small = omega (
+    arith,
+    ap (λ b. get_or done b 0) name,
+    number_small s n net z sizes inputs many low high acts i (λ b. get_or done b 0) states ls jobs st h d,
+  )
 
-  module _ (ls' : List (Held T)) (settles : HasSettled s n z (get_or jobs i d) ls ls') (states' : List (NodeState T S)) (done' : List ℕ) (job' : Job A T S)
-      (states_are : states' ≡ set states (get_or jobs i d).actor (get_or jobs i d).state) (done_is : done' ≡ set done (get_or jobs i d).actor (get_or done (get_or jobs i d).actor 0 + 1)) where
+  module _ (ls' : List (Held T)) (settles : HasSettled s n z (get_or jobs i d) ls ls') (states' : List (NodeState T S))
+      (done' : List ℕ) (job' : Job A T S)
+      (states_are : states' ≡ set states (get_or jobs i d).actor (get_or jobs i d).state)
+      (done_is : done' ≡ set done (get_or jobs i d).actor (get_or done (get_or jobs i d).actor 0 + 1)) where
     states_at : states' ≡ set states (get_or acts i 0) (get_or jobs i d).state
     states_at = states_are ∙ ap (λ b. set states b (get_or jobs i d).state) name
 
@@ -304,31 +376,41 @@ module _ {A S T : Type 0} (s : Steps A S T) (n : Netlist A T) (net : Known s n) 
     done_at = done_is ∙ ap (λ b. set done b (get_or done b 0 + 1)) name
 
     one : get_or done' (get_or acts i 0) 0 ≡ get_or done (get_or acts i 0) 0 + 1
-    one = ap (λ xs. get_or xs (get_or acts i 0) 0) done_at ∙ get_or-set_same done (get_or acts i 0) (get_or done (get_or acts i 0) 0 + 1) 0 (omega (arith, named, counted))
+    one = ap (λ xs. get_or xs (get_or acts i 0) 0) done_at
+        ∙ get_or-set_same done (get_or acts i 0) (get_or done (get_or acts i 0) 0 + 1) 0 (omega (arith, named, counted))
 
     others : (b : ℕ) → (get_or acts i 0 ≡ b → ⊥) → get_or done' b 0 ≡ get_or done b 0
-    others b ne = ap (λ xs. get_or xs b 0) done_at ∙ get_or-set_other done (get_or acts i 0) b (get_or done (get_or acts i 0) 0 + 1) 0 (λ e. ne (sym e))
+    others b ne = ap (λ xs. get_or xs b 0) done_at
+        ∙ get_or-set_other done (get_or acts i 0) b (get_or done (get_or acts i 0) 0 + 1) 0 (λ e. ne (sym e))
 
-    pub settled_next : IsSettling s n inputs many low high acts (i + 1) (λ b. get_or done' b 0) states' ls' (set jobs i job')
+    pub settled_next : IsSettling s n inputs many low high acts (i + 1) (λ b. get_or done' b 0) states' ls'
+        (set jobs i job')
     settled_next =
-        settled s n net z sizes inputs many low high acts i (λ b. get_or done b 0) states ls jobs st h d (λ b. get_or done' b 0) one others ls' settles states' (set jobs i job')
+        settled s n net z sizes inputs many low high acts i (λ b. get_or done b 0) states ls jobs st h d
+        (λ b. get_or done' b 0) one others ls' settles states' (set jobs i job')
         (ap length states_are ∙ length-set states (get_or jobs i d).actor (get_or jobs i d).state)
-        (λ w. ap (λ xs. get_or xs (get_or acts i 0) w) states_at ∙ get_or-set_same states (get_or acts i 0) (get_or jobs i d).state w (omega (arith, named, st.nodes)))
-        (λ b w ne. ap (λ xs. get_or xs b w) states_at ∙ get_or-set_other states (get_or acts i 0) b (get_or jobs i d).state w (λ e. ne (sym e)))
+        (λ w. ap (λ xs. get_or xs (get_or acts i 0) w) states_at
+        ∙ get_or-set_same states (get_or acts i 0) (get_or jobs i d).state w (omega (arith, named, st.nodes)))
+        (λ b w ne. ap (λ xs. get_or xs b w) states_at
+        ∙ get_or-set_other states (get_or acts i 0) b (get_or jobs i d).state w (λ e. ne (sym e)))
         (λ p j ne. get_or-set_other jobs i p job' j (λ e. ne (sym e)))
 
-    pub counts_next : LastCountsMore → OthersCountSame → (was : List ℕ) → ((b : ℕ) → get_or done b 0 ≡ get_or was b 0 + times (take i acts) b) →
+    pub counts_next : LastCountsMore → OthersCountSame → (was : List ℕ) →
+        ((b : ℕ) → get_or done b 0 ≡ get_or was b 0 + times (take i acts) b) →
         (b : ℕ) → get_or done' b 0 ≡ get_or was b 0 + times (take (i + 1) acts) b
     counts_next last same was before b = go (cases_eq (get_or acts i 0) b)
       where
-        go : (get_or acts i 0 ≡ b) ⊎ (get_or acts i 0 ≡ b → ⊥) → get_or done' b 0 ≡ get_or was b 0 + times (take (i + 1) acts) b
+        go : (get_or acts i 0 ≡ b) ⊎ (get_or acts i 0 ≡ b → ⊥) →
+            get_or done' b 0 ≡ get_or was b 0 + times (take (i + 1) acts) b
         go (inl e) =
-            let here : get_or done' b 0 ≡ get_or done b 0 + 1 = subst (λ b. get_or done' b 0 ≡ get_or done b 0 + 1) e one in
+            let here : get_or done' b 0 ≡ get_or done b 0 + 1 =
+            subst (λ b. get_or done' b 0 ≡ get_or done b 0 + 1) e one in
             omega (arith, here, last acts i b h e, before b)
         go (inr ne) = omega (arith, others b ne, same acts i b h ne, before b)
 
 -- a job that keeps its blocks
-pub kept_set : {A S T : Type 0} (was jobs : List (Job A T S)) (i : ℕ) (job' d : Job A T S) → KeepBlocks was jobs → i < length jobs → job'.taken ≡ (get_or jobs i d).taken → job'.put ≡ (get_or jobs i d).put →
+pub kept_set : {A S T : Type 0} (was jobs : List (Job A T S)) (i : ℕ) (job' d : Job A T S) → KeepBlocks was jobs →
+    i < length jobs → job'.taken ≡ (get_or jobs i d).taken → job'.put ≡ (get_or jobs i d).put →
     KeepBlocks was (set jobs i job')
 kept_set {A} {S} {T} was jobs i job' d keeps h taken_is put_is = record {
   all = length-set jobs i job' ∙ keeps.all;
@@ -336,14 +418,20 @@ kept_set {A} {S} {T} was jobs i job' d keeps h taken_is put_is = record {
   put = λ p j l. long p j (cases_eq i p) ∙ keeps.put p j l;
 }
   where
-    cap : (p : ℕ) (j : Job A T S) → (i ≡ p) ⊎ (i ≡ p → ⊥) → vec_capacity (get_or (set jobs i job') p j).taken ≡ vec_capacity (get_or jobs p j).taken
+    cap : (p : ℕ) (j : Job A T S) → (i ≡ p) ⊎ (i ≡ p → ⊥) →
+        vec_capacity (get_or (set jobs i job') p j).taken ≡ vec_capacity (get_or jobs p j).taken
     cap p j (inl e) =
         subst (λ p. vec_capacity (get_or (set jobs i job') p j).taken ≡ vec_capacity (get_or jobs p j).taken) e
-        (ap (λ (x : Job A T S). vec_capacity x.taken) (get_or-set_same jobs i job' j h) ∙ (ap (λ v. vec_capacity v) taken_is ∙ ap (λ (x : Job A T S). vec_capacity x.taken) (get_or_default jobs i d j h)))
+        (ap (λ (x : Job A T S). vec_capacity x.taken) (get_or-set_same jobs i job' j h)
+        ∙ (ap (λ v. vec_capacity v) taken_is ∙ ap (λ (x : Job A T S). vec_capacity x.taken)
+        (get_or_default jobs i d j h)))
     cap p j (inr ne) = ap (λ (x : Job A T S). vec_capacity x.taken) (get_or-set_other jobs i p job' j (λ e. ne (sym e)))
 
-    long : (p : ℕ) (j : Job A T S) → (i ≡ p) ⊎ (i ≡ p → ⊥) → length (get_or (set jobs i job') p j).put.items ≡ length (get_or jobs p j).put.items
+    long : (p : ℕ) (j : Job A T S) → (i ≡ p) ⊎ (i ≡ p → ⊥) →
+        length (get_or (set jobs i job') p j).put.items ≡ length (get_or jobs p j).put.items
     long p j (inl e) =
         subst (λ p. length (get_or (set jobs i job') p j).put.items ≡ length (get_or jobs p j).put.items) e
-        (ap (λ (x : Job A T S). length x.put.items) (get_or-set_same jobs i job' j h) ∙ (ap (λ v. length v.items) put_is ∙ ap (λ (x : Job A T S). length x.put.items) (get_or_default jobs i d j h)))
+        (ap (λ (x : Job A T S). length x.put.items) (get_or-set_same jobs i job' j h)
+        ∙ (ap (λ v. length v.items) put_is ∙ ap (λ (x : Job A T S). length x.put.items)
+        (get_or_default jobs i d j h)))
     long p j (inr ne) = ap (λ (x : Job A T S). length x.put.items) (get_or-set_other jobs i p job' j (λ e. ne (sym e)))

@@ -11,23 +11,29 @@ use Rattle.sdf_rows.specs.Stands.{IsBetween}
 -- counts of whole periods: the firings after them move what the first ones move, and channels hold what they began with
 pub record IsRound {A S T : Type 0} (s : Steps A S T) (n : Netlist A T) (k : ℕ → ℕ) : Type 0 where
   pub produced : (c i : ℕ) → c < length n.wires →
-      (wiring s n).rates.produced c (k ((wiring s n).rates.source c) + i) ≡ (wiring s n).rates.produced c (k ((wiring s n).rates.source c)) + (wiring s n).rates.produced c i
+      (wiring s n).rates.produced c (k ((wiring s n).rates.source c) + i) ≡
+      (wiring s n).rates.produced c (k ((wiring s n).rates.source c)) + (wiring s n).rates.produced c i
   pub consumed : (c i : ℕ) → c < length n.wires →
-      (wiring s n).rates.consumed c (k ((wiring s n).rates.target c) + i) ≡ (wiring s n).rates.consumed c (k ((wiring s n).rates.target c)) + (wiring s n).rates.consumed c i
+      (wiring s n).rates.consumed c (k ((wiring s n).rates.target c) + i) ≡
+      (wiring s n).rates.consumed c (k ((wiring s n).rates.target c)) + (wiring s n).rates.consumed c i
   pub balanced : (c : ℕ) → c < length n.wires →
-      (wiring s n).rates.produced c (k ((wiring s n).rates.source c)) ≡ (wiring s n).rates.consumed c (k ((wiring s n).rates.target c))
+      (wiring s n).rates.produced c (k ((wiring s n).rates.source c)) ≡
+      (wiring s n).rates.consumed c (k ((wiring s n).rates.target c))
 
 -- how often each node has fired when a block of j periods of q follows on k
 abbrev pub block_after : List ℕ → ℕ → (ℕ → ℕ) → ℕ → ℕ
 block_after q j k a = k a + slice_index (block j q) a
 
 -- between blocks, after b of so many: each channel has room for what it begins with and what a block puts there
-pub record IsResting {A S T : Type 0} (s : Steps A S T) (n : Netlist A T) (inputs : List (List T)) (q : List ℕ) (j blocks b : ℕ) (k : ℕ → ℕ) (states : List (NodeState T S)) (ls : List (Held T)) : Type 0 where
+pub record IsResting {A S T : Type 0} (s : Steps A S T) (n : Netlist A T) (inputs : List (List T)) (q : List ℕ)
+    (j blocks b : ℕ) (k : ℕ → ℕ) (states : List (NodeState T S)) (ls : List (Held T)) : Type 0 where
   pub counts : (a : ℕ) → a < length n.nodes → k a ≡ b * (j * slice_index q a)
   pub rooms : (c : ℕ) → c < length n.wires →
-      (wiring s n).rates.initial c + (wiring s n).rates.produced c (j * slice_index q ((wiring s n).rates.source c)) ≤ room ls c
+      (wiring s n).rates.initial c + (wiring s n).rates.produced c
+      (j * slice_index q ((wiring s n).rates.source c)) ≤ room ls c
   pub between : IsBetween s n inputs (λ a. blocks * (j * slice_index q a)) k k k states ls
 
 -- after all blocks
-abbrev pub IsOver : {A S T : Type 0} → Steps A S T → Netlist A T → List (List T) → List ℕ → ℕ → ℕ → List (NodeState T S) → List (Held T) → Type 0
+abbrev pub IsOver : {A S T : Type 0} → Steps A S T → Netlist A T → List (List T) → List ℕ → ℕ → ℕ →
+    List (NodeState T S) → List (Held T) → Type 0
 IsOver s n inputs q j blocks states ls = (k : ℕ → ℕ) × IsResting s n inputs q j blocks blocks k states ls

@@ -12,4 +12,5 @@ use Rattle.sdf_answer.specs.Lists.{list}
 -- the list of each of the first m nodes, where it is a sink, has its number
 abbrev pub AreCollected : {A S T : Type 0} → Netlist A T → ℕ → List (NodeState T S) → List (Vec T Global) → Type 0
 AreCollected {A} {S} {T} n m states outputs =
-    (a ext block : ℕ) (made : Vec T Global) (w : NodeState T S) → a < m → nets.node n a ≡ node.Sink ext block → slice_index_or states a w ≡ Sink made → list outputs ext ≡ made.items
+    (a ext block : ℕ) (made : Vec T Global) (w : NodeState T S) → a < m → nets.node n a ≡ node.Sink ext block →
+    slice_index_or states a w ≡ Sink made → list outputs ext ≡ made.items

@@ -9,7 +9,8 @@ use Rattle.sdf_answer.specs.Held.{Held}
 use Rattle.sdf_answer.specs.Blocks.{front, ArePorts, HoldBlocks}
 use Rattle.sdf_answer.specs.Sizes.{Rows, at_phase}
 
-module _ {A S T : Type 0} (s : Steps A S T) (n : Netlist A T) (inputs : List (List T)) (z : Rows) (ls : List (Held T)) where
+module _ {A S T : Type 0} (s : Steps A S T) (n : Netlist A T) (inputs : List (List T)) (z : Rows)
+    (ls : List (Held T)) where
   -- the block that a firing takes
   abbrev pub block_of : Job A T S → List T
   block_of j = front (at_phase z.takes j.phase) ((wiring s n).ins j.actor) ls
@@ -23,7 +24,9 @@ module _ {A S T : Type 0} (s : Steps A S T) (n : Netlist A T) (inputs : List (Li
     pub held : HoldBlocks ((wiring s n).ins j.actor) (at_phase z.takes j.phase) ls
     pub room : sum_by (slice_index (at_phase z.takes j.phase)) ((wiring s n).ins j.actor) ≤ vec_capacity j.taken
     pub long : puts_of s (node n j.actor) j.phase ≤ length j.put.items
-    pub can : CanStep s inputs (node n j.actor) j.state (sum_by (slice_index (at_phase z.takes j.phase)) ((wiring s n).ins j.actor)) (puts_of s (node n j.actor) j.phase)
+    pub can : CanStep s inputs (node n j.actor) j.state
+        (sum_by (slice_index (at_phase z.takes j.phase)) ((wiring s n).ins j.actor))
+        (puts_of s (node n j.actor) j.phase)
 
   -- the node's answer to its block, and its state after it
   pub record HasFired (j k : Job A T S) : Type 0 where
@@ -31,6 +34,7 @@ module _ {A S T : Type 0} (s : Steps A S T) (n : Netlist A T) (inputs : List (Li
     pub phase_kept : k.phase ≡ j.phase
     pub room_kept : vec_capacity k.taken ≡ vec_capacity j.taken
     pub long_kept : length k.put.items ≡ length j.put.items
-    pub at : (many : ℕ) (past : List (List T)) → IsAt s inputs many (node n j.actor) past j.state → IsAt s inputs many (node n j.actor) (past ++ block_of j ∷ []) k.state
+    pub at : (many : ℕ) (past : List (List T)) → IsAt s inputs many (node n j.actor) past j.state →
+        IsAt s inputs many (node n j.actor) (past ++ block_of j ∷ []) k.state
     pub put : (many : ℕ) (past : List (List T)) → IsAt s inputs many (node n j.actor) past j.state →
         take (puts_of s (node n j.actor) j.phase) k.put.items ≡ answer_of s inputs (node n j.actor) past (block_of j)

@@ -1,5 +1,6 @@
 -- A row's jobs filled and settled.
-use Rattle.std.specs.Prelude.{◌≡◌, ℕ, ◌+◌, ◌-◌, ◌≤◌, ◌<◌, List, ◌++◌, length, map, take, drop, slice_index, slice_index_or, Option, Some, None}
+use Rattle.std.specs.Prelude.{◌≡◌, ℕ, ◌+◌, ◌-◌, ◌≤◌, ◌<◌, List, ◌++◌, length, map, take, drop, slice_index}
+use Rattle.std.specs.Prelude.{slice_index_or, Option, Some, None}
 use Rattle.std.specs.List.{sum_by}
 use Rattle.sdf_actor.specs.Steps.{Steps}
 use Rattle.sdf_actor.specs.Histories.{spread}
@@ -35,25 +36,33 @@ pub record IsFilled {A S T : Type 0} (a : ℕ) (w : NodeState T S) (j k : Job A 
   pub put : k.put ≡ j.put
 
 -- what a cell fills
-abbrev pub HasLoaded : {A S T : Type 0} → Option Firing → List (NodeState T S) → List (NodeState T S) → List (Job A T S) → List (Job A T S) → ℕ → ℕ → Type 0
+abbrev pub HasLoaded : {A S T : Type 0} → Option Firing → List (NodeState T S) → List (NodeState T S) →
+    List (Job A T S) → List (Job A T S) → ℕ → ℕ → Type 0
 HasLoaded None states states' jobs jobs' many more = (more ≡ many) × (states' ≡ states) × (jobs' ≡ jobs)
 HasLoaded {A} {S} {T} (Some f) states states' jobs jobs' many more =
     (more ≡ many + 1) × (length states' ≡ length states) × (length jobs' ≡ length jobs) ×
-    ((w : NodeState T S) (j : Job A T S) → IsFilled f.actor (slice_index_or states f.actor w) (slice_index_or jobs many j) (slice_index_or jobs' many j)) ×
+    ((w : NodeState T S) (j : Job A T S) → IsFilled f.actor (slice_index_or states f.actor w)
+    (slice_index_or jobs many j) (slice_index_or jobs' many j)) ×
     ((a : ℕ) (w : NodeState T S) → (f.actor ≡ a → ⊥) → slice_index_or states' a w ≡ slice_index_or states a w) ×
     ((i : ℕ) (j : Job A T S) → (many ≡ i → ⊥) → slice_index_or jobs' i j ≡ slice_index_or jobs i j)
 
 -- a job is filled for each of some firings, of an actor each; every other state and job is as it was
-pub record AreLoaded {A S T : Type 0} (fs : List Firing) (states states' : List (NodeState T S)) (jobs jobs' : List (Job A T S)) : Type 0 where
+pub record AreLoaded {A S T : Type 0} (fs : List Firing) (states states' : List (NodeState T S))
+    (jobs jobs' : List (Job A T S)) : Type 0 where
   pub states_all : length states' ≡ length states
   pub jobs_all : length jobs' ≡ length jobs
   pub each : ((i m : ℕ) → i < length fs → m < length fs → (firing fs i).actor ≡ (firing fs m).actor → i ≡ m) →
-      (i : ℕ) (w : NodeState T S) (j : Job A T S) → i < length fs → IsFilled (firing fs i).actor (slice_index_or states (firing fs i).actor w) (slice_index_or jobs i j) (slice_index_or jobs' i j)
-  pub idle : (a : ℕ) (w : NodeState T S) → ((i : ℕ) → i < length fs → (firing fs i).actor ≡ a → ⊥) → slice_index_or states' a w ≡ slice_index_or states a w
+      (i : ℕ) (w : NodeState T S) (j : Job A T S) → i < length fs →
+      IsFilled (firing fs i).actor (slice_index_or states (firing fs i).actor w) (slice_index_or jobs i j)
+      (slice_index_or jobs' i j)
+  pub idle : (a : ℕ) (w : NodeState T S) → ((i : ℕ) → i < length fs → (firing fs i).actor ≡ a → ⊥) →
+      slice_index_or states' a w ≡ slice_index_or states a w
   pub rest : (i : ℕ) (j : Job A T S) → length fs ≤ i → slice_index_or jobs' i j ≡ slice_index_or jobs i j
 
--- what a job took stands on its channels, there is room for what it made once that is gone, and it made as much as it puts
-pub record CanSettle {A S T : Type 0} (s : Steps A S T) (n : Netlist A T) (z : Rows) (j : Job A T S) (ls : List (Held T)) : Type 0 where
+-- what a job took stands on its channels, there is room for what it made once that is gone, and it made as much as it
+-- puts
+pub record CanSettle {A S T : Type 0} (s : Steps A S T) (n : Netlist A T) (z : Rows) (j : Job A T S)
+    (ls : List (Held T)) : Type 0 where
   pub known : j.actor < length n.nodes
   pub in_cycle : j.phase < cycle_of s (node n j.actor)
   pub takes_known : j.phase < length z.takes
@@ -63,14 +72,19 @@ pub record CanSettle {A S T : Type 0} (s : Steps A S T) (n : Netlist A T) (z : R
   pub held : HoldBlocks ((wiring s n).ins j.actor) (at_phase z.takes j.phase) ls
   pub fits : (i : ℕ) → i < length ((wiring s n).outs j.actor) →
       let c = slice_index ((wiring s n).outs j.actor) i in
-      length (samples ls c) - at_ports ((wiring s n).ins j.actor) (slice_index (at_phase z.takes j.phase) c) c + slice_index (at_phase z.puts j.phase) c ≤ room ls c
+      length (samples ls c) - at_ports ((wiring s n).ins j.actor) (slice_index (at_phase z.takes j.phase) c) c
+      + slice_index (at_phase z.puts j.phase) c ≤ room ls c
   pub long : puts_of s (node n j.actor) j.phase ≤ length j.put.items
-  pub whole : puts_of s (node n j.actor) j.phase ≡ sum_by (slice_index (at_phase z.puts j.phase)) ((wiring s n).outs j.actor)
+  pub whole : puts_of s (node n j.actor) j.phase ≡
+      sum_by (slice_index (at_phase z.puts j.phase)) ((wiring s n).outs j.actor)
 
 -- and that is what became of the channels
-pub record HasSettled {A S T : Type 0} (s : Steps A S T) (n : Netlist A T) (z : Rows) (j : Job A T S) (ls ls' : List (Held T)) : Type 0 where
+pub record HasSettled {A S T : Type 0} (s : Steps A S T) (n : Netlist A T) (z : Rows) (j : Job A T S)
+    (ls ls' : List (Held T)) : Type 0 where
   pub all : length ls' ≡ length ls
   pub left : (c : ℕ) → c < length ls →
-      samples ls' c ≡ drop (at_ports ((wiring s n).ins j.actor) (slice_index (at_phase z.takes j.phase) c) c) (samples ls c) ++
-      spread (slice_index (at_phase z.puts j.phase)) ((wiring s n).outs j.actor) (take (puts_of s (node n j.actor) j.phase) j.put.items) c
+      samples ls' c ≡ drop (at_ports ((wiring s n).ins j.actor) (slice_index (at_phase z.takes j.phase) c) c)
+      (samples ls c) ++
+      spread (slice_index (at_phase z.puts j.phase)) ((wiring s n).outs j.actor)
+      (take (puts_of s (node n j.actor) j.phase) j.put.items) c
   pub rooms : (c : ℕ) → c < length ls → room ls' c ≡ room ls c

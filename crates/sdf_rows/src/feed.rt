@@ -38,7 +38,8 @@ fn kept_by<A: Actor>(
 ) -> Result<Vec<Option<A::State>>, AllocError>
     requires { length states.now ≡ length net.now.nodes }
     ensures all { IfOk result (λ v. length v.items ≡ length net.now.nodes) }
-    ensures each { IfOk result (λ v. (a : ℕ) (d : _) → a < length net.now.nodes → slice_index_or v.items a None ≡ kept_of (node net.now a) (slice_index_or states.now a d)) }
+    ensures each { IfOk result (λ v. (a : ℕ) (d : _) → a < length net.now.nodes →
+        slice_index_or v.items a None ≡ kept_of (node net.now a) (slice_index_or states.now a d)) }
 {
     let mut copies = Vec::new(alloc);
     for a in 0..net.len() {
@@ -56,10 +57,13 @@ fn fill<R: Threads + AllocGlobal + Sync, A: Actor, G: Gate>(
     gate: &G,
 ) -> Result<(Vec<Vec<A::Token>>, Rest<A::Token, A::State>), AllocError>
     requires period { IsPeriodOf (rates (graph_of A.steps net.now)) plan.now.period.now }
-    requires table { IsTableOf (rates (graph_of A.steps net.now)) plan.now.period.now.repetitions plan.now.j plan.now.table.now }
-    requires inputs { HasInputs net.now plan.now.period.now.repetitions (plan.now.blocks * plan.now.j) (lists inputs.now) }
+    requires table { IsTableOf (rates (graph_of A.steps net.now)) plan.now.period.now.repetitions plan.now.j
+        plan.now.table.now }
+    requires inputs { HasInputs net.now plan.now.period.now.repetitions (plan.now.blocks * plan.now.j)
+        (lists inputs.now) }
     requires some { 0 < period_samples net.now.nodes Inputs plan.now.period.now.repetitions }
-    ensures { IfOk result (λ made. HasRun A.steps net.now (lists inputs.now) (periods_of plan.now.period.now.repetitions (plan.now.blocks * plan.now.j)) (lists made.0.items) made.1) }
+    ensures { IfOk result (λ made. HasRun A.steps net.now (lists inputs.now)
+        (periods_of plan.now.period.now.repetitions (plan.now.blocks * plan.now.j)) (lists made.0.items) made.1) }
 {
     net_facts(net);
     histories_make_runs::<A>();
@@ -94,7 +98,9 @@ pub fn feed_rows<R: Threads + AllocGlobal + Sync, A: Actor, G: Gate>(
     requires period { IsPeriodOf (rates (graph_of A.steps net.now)) period.now }
     requires table { IsTableOf (rates (graph_of A.steps net.now)) period.now.repetitions j table.now }
     ensures { let q = period.now.repetitions in MatchResult result
-        (λ fed. HasInputs net.now q (blocks * j) (lists inputs.now) × HasRun A.steps net.now (lists inputs.now) (periods_of q (blocks * j)) (lists fed.0.outputs.items) fed.1 × (fed.0.rounds ≡ blocks * length table.now.rows))
+        (λ fed. HasInputs net.now q (blocks * j) (lists inputs.now)
+        × HasRun A.steps net.now (lists inputs.now) (periods_of q (blocks * j)) (lists fed.0.outputs.items) fed.1
+        × (fed.0.rounds ≡ blocks * length table.now.rows))
         (IsRunFault net.now q (blocks * j) (lists inputs.now)) }
 {
     sdf_prec::laws::tables_count();
@@ -113,8 +119,8 @@ pub fn feed_rows<R: Threads + AllocGlobal + Sync, A: Actor, G: Gate>(
     Ok((Ran { outputs, rounds }, rest))
 }
 
-/// Goes on from where runs of a net left it, with all samples read: by further blocks on further inputs. What it makes, joined to
-/// what they made, is what one run on all inputs makes.
+/// Goes on from where runs of a net left it, with all samples read: by further blocks on further inputs. What it makes,
+/// joined to what they made, is what one run on all inputs makes.
 pub fn resume_rows<R: Threads + AllocGlobal + Sync, A: Actor, G: Gate>(
     rt: &R,
     net: &Net<A>,
@@ -128,9 +134,11 @@ pub fn resume_rows<R: Threads + AllocGlobal + Sync, A: Actor, G: Gate>(
 ) -> Result<(Ran<A::Token>, Rest<A::Token, A::State>), RunFault>
     requires period { IsPeriodOf (rates (graph_of A.steps net.now)) period.now }
     requires table { IsTableOf (rates (graph_of A.steps net.now)) period.now.repetitions j table.now }
-    requires rest { (first : List (List A.Token)) × (few : ℕ) × IsRest A.steps net.now first (periods_of period.now.repetitions few) rest.now }
+    requires rest { (first : List (List A.Token)) × (few : ℕ)
+        × IsRest A.steps net.now first (periods_of period.now.repetitions few) rest.now }
     ensures { let q = period.now.repetitions in MatchResult result
-        (λ fed. GoesOnBy A.steps net.now q rest.now (blocks * j) (lists inputs.now) (lists fed.0.outputs.items) fed.1 × (fed.0.rounds ≡ blocks * length table.now.rows))
+        (λ fed. GoesOnBy A.steps net.now q rest.now (blocks * j) (lists inputs.now) (lists fed.0.outputs.items) fed.1
+        × (fed.0.rounds ≡ blocks * length table.now.rows))
         (IsRunFault net.now q (blocks * j) (lists inputs.now)) }
 {
     nets_have_periods(net);

@@ -37,8 +37,11 @@ fn step_into<A: Actor>(
 )
     requires can { CanStep A.steps (lists inputs.now) node.now state.old (length taken.now.items) many }
     requires long { many ≤ length put.old.items }
-    ensures state { (all : ℕ) (past : List (List A.Token)) → IsAt A.steps (lists inputs.now) all node.now past state.old → IsAt A.steps (lists inputs.now) all node.now (past ++ taken.now.items ∷ []) state.new }
-    ensures put { (all : ℕ) (past : List (List A.Token)) → IsAt A.steps (lists inputs.now) all node.now past state.old → take many put.new.items ≡ answer_of A.steps (lists inputs.now) node.now past taken.now.items }
+    ensures state { (all : ℕ) (past : List (List A.Token)) →
+        IsAt A.steps (lists inputs.now) all node.now past state.old →
+        IsAt A.steps (lists inputs.now) all node.now (past ++ taken.now.items ∷ []) state.new }
+    ensures put { (all : ℕ) (past : List (List A.Token)) → IsAt A.steps (lists inputs.now) all node.now past state.old →
+        take many put.new.items ≡ answer_of A.steps (lists inputs.now) node.now past taken.now.items }
     ensures len { length put.new.items ≡ length put.old.items }
 {
     let (front, _) = put.as_mut_slice().split_at_mut(many);
@@ -81,7 +84,9 @@ pub(crate) fn fire_jobs<R: Threads + Sync, A: Actor, G: Gate>(
     gate: &G,
 )
     requires { All (JobFits A.steps net.now (lists inputs.now) sizes.now queues.now) jobs.old }
-    ensures { (i : ℕ) (j : _) → i < length jobs.old → HasFired A.steps net.now (lists inputs.now) sizes.now queues.now (slice_index_or jobs.old i j) (slice_index_or jobs.new i j) }
+    ensures { (i : ℕ) (j : _) → i < length jobs.old →
+        HasFired A.steps net.now (lists inputs.now) sizes.now queues.now (slice_index_or jobs.old i j)
+        (slice_index_or jobs.new i j) }
 {
     let threads = jobs.len();
     if threads > 0 {
@@ -91,7 +96,8 @@ pub(crate) fn fire_jobs<R: Threads + Sync, A: Actor, G: Gate>(
             threads,
             &|_: usize, job: &mut Job<A>|
                 requires { JobFits A.steps net.now (lists inputs.now) sizes.now queues.now job.now }
-                ensures { HasFired A.steps net.entry.now (lists inputs.entry.now) sizes.entry.now queues.entry.now job.entry.now job.exit.now }
+                ensures { HasFired A.steps net.entry.now (lists inputs.entry.now) sizes.entry.now queues.entry.now
+                    job.entry.now job.exit.now }
             {
                 fire_job(net, inputs, sizes, queues, job, gate);
             },

@@ -74,9 +74,12 @@ pub(crate) fn fire<R: Threads + AllocGlobal + Sync, A: Actor, G: Gate>(
     gate: &G,
 ) -> Result<Fired<A>, AllocError>
     requires period { IsPeriodOf (rates (graph_of A.steps net.now)) plan.now.period.now }
-    requires table { IsTableOf (rates (graph_of A.steps net.now)) plan.now.period.now.repetitions plan.now.j plan.now.table.now }
-    requires inputs { HasInputs net.now plan.now.period.now.repetitions (plan.now.blocks * plan.now.j) (lists inputs.now) }
-    ensures { IfOk result (λ run. IsOver A.steps net.now (lists inputs.now) plan.now.period.now.repetitions plan.now.j plan.now.blocks run.states.items run.queues.items) }
+    requires table { IsTableOf (rates (graph_of A.steps net.now)) plan.now.period.now.repetitions plan.now.j
+        plan.now.table.now }
+    requires inputs { HasInputs net.now plan.now.period.now.repetitions (plan.now.blocks * plan.now.j)
+        (lists inputs.now) }
+    ensures { IfOk result (λ run. IsOver A.steps net.now (lists inputs.now) plan.now.period.now.repetitions plan.now.j
+        plan.now.blocks run.states.items run.queues.items) }
 {
     net_facts(net);
     nets_have_periods(net);
@@ -120,10 +123,13 @@ fn fill<R: Threads + AllocGlobal + Sync, A: Actor, G: Gate>(
     gate: &G,
 ) -> Result<Vec<Vec<A::Token>>, AllocError>
     requires period { IsPeriodOf (rates (graph_of A.steps net.now)) plan.now.period.now }
-    requires table { IsTableOf (rates (graph_of A.steps net.now)) plan.now.period.now.repetitions plan.now.j plan.now.table.now }
-    requires inputs { HasInputs net.now plan.now.period.now.repetitions (plan.now.blocks * plan.now.j) (lists inputs.now) }
+    requires table { IsTableOf (rates (graph_of A.steps net.now)) plan.now.period.now.repetitions plan.now.j
+        plan.now.table.now }
+    requires inputs { HasInputs net.now plan.now.period.now.repetitions (plan.now.blocks * plan.now.j)
+        (lists inputs.now) }
     requires some { 0 < period_samples net.now.nodes Inputs plan.now.period.now.repetitions }
-    ensures { IfOk result (λ made. AreOutputs A.steps net.now (lists inputs.now) (periods_of plan.now.period.now.repetitions (plan.now.blocks * plan.now.j)) (lists made.items)) }
+    ensures { IfOk result (λ made. AreOutputs A.steps net.now (lists inputs.now)
+        (periods_of plan.now.period.now.repetitions (plan.now.blocks * plan.now.j)) (lists made.items)) }
 {
     net_facts(net);
     histories_make_outputs::<A>();
@@ -146,11 +152,12 @@ pub(crate) fn rounds_of(blocks: u32, rows: usize) -> u64
     u64::from(blocks) * rows as u64
 }
 
-/// Runs a net for a number of blocks of `j` periods, as its table says: the firings of a row run at once, each in a worker of
-/// its own, and are joined before the next row begins. The processor that the gate is told is the firing's column.
+/// Runs a net for a number of blocks of `j` periods, as its table says: the firings of a row run at once, each in a
+/// worker of its own, and are joined before the next row begins. The processor that the gate is told is the firing's
+/// column.
 ///
-/// All room is taken before the first firing. A channel has room for what it begins with and what one block puts on it. Where
-/// the system starts no thread, the firings of a row run one after another.
+/// All room is taken before the first firing. A channel has room for what it begins with and what one block puts on it.
+/// Where the system starts no thread, the firings of a row run one after another.
 pub fn run_rows<R: Threads + AllocGlobal + Sync, A: Actor, G: Gate>(
     rt: &R,
     net: &Net<A>,
@@ -164,7 +171,9 @@ pub fn run_rows<R: Threads + AllocGlobal + Sync, A: Actor, G: Gate>(
     requires period { IsPeriodOf (rates (graph_of A.steps net.now)) period.now }
     requires table { IsTableOf (rates (graph_of A.steps net.now)) period.now.repetitions j table.now }
     ensures { let q = period.now.repetitions in MatchResult result
-        (λ ran. HasInputs net.now q (blocks * j) (lists inputs.now) × AreOutputs A.steps net.now (lists inputs.now) (periods_of q (blocks * j)) (lists ran.outputs.items) × (ran.rounds ≡ blocks * length table.now.rows))
+        (λ ran. HasInputs net.now q (blocks * j) (lists inputs.now)
+        × AreOutputs A.steps net.now (lists inputs.now) (periods_of q (blocks * j)) (lists ran.outputs.items)
+        × (ran.rounds ≡ blocks * length table.now.rows))
         (IsRunFault net.now q (blocks * j) (lists inputs.now)) }
 {
     sdf_prec::laws::tables_count();

@@ -41,15 +41,24 @@ pub(crate) fn run_block<R: Threads + Sync, A: Actor, G: Gate>(
     requires scene { IsScene A.steps scene.now.net.now scene.now.sizes }
     requires graph { IsShape (graph_of A.steps scene.now.net.now) }
     requires alike { IsAlike (rates (graph_of A.steps scene.now.net.now)) (wiring A.steps scene.now.net.now).rates }
-    requires table { IsTableOf (rates (graph_of A.steps scene.now.net.now)) course.now.repetitions.now course.now.j course.now.table.now }
-    requires start { (many : ℕ → ℕ) × IsBetween A.steps scene.now.net.now (lists scene.now.inputs.now) many (slice_index done.old) (block_after course.now.repetitions.now course.now.j (slice_index done.old)) (slice_index done.old) states.old queues.old }
+    requires table { IsTableOf (rates (graph_of A.steps scene.now.net.now)) course.now.repetitions.now course.now.j
+        course.now.table.now }
+    requires start { (many : ℕ → ℕ) × IsBetween A.steps scene.now.net.now (lists scene.now.inputs.now) many
+        (slice_index done.old) (block_after course.now.repetitions.now course.now.j (slice_index done.old))
+        (slice_index done.old) states.old queues.old }
     requires round { IsRound A.steps scene.now.net.now (slice_index done.old) }
     requires counted { length done.old ≡ length scene.now.net.now.nodes }
     requires blocks { HaveBlocks A.steps scene.now.net.now jobs.old }
-    requires wide { (i : ℕ) → i < length course.now.table.now.rows → length (firings (row course.now.table.now.rows i)) ≤ length jobs.old }
-    ensures over { (many : ℕ → ℕ) → IsBetween A.steps scene.now.net.now (lists scene.now.inputs.now) many (slice_index done.old) (block_after course.now.repetitions.now course.now.j (slice_index done.old)) (slice_index done.old) states.old queues.old →
-        IsBetween A.steps scene.now.net.now (lists scene.now.inputs.now) many (slice_index done.old) (block_after course.now.repetitions.now course.now.j (slice_index done.old)) (slice_index done.new) states.new queues.new }
-    ensures done { (a : ℕ) → a < length scene.now.net.now.nodes → slice_index done.new a ≡ block_after course.now.repetitions.now course.now.j (slice_index done.old) a }
+    requires wide { (i : ℕ) → i < length course.now.table.now.rows →
+        length (firings (row course.now.table.now.rows i)) ≤ length jobs.old }
+    ensures over { (many : ℕ → ℕ) → IsBetween A.steps scene.now.net.now (lists scene.now.inputs.now) many
+        (slice_index done.old) (block_after course.now.repetitions.now course.now.j (slice_index done.old))
+        (slice_index done.old) states.old queues.old →
+        IsBetween A.steps scene.now.net.now (lists scene.now.inputs.now) many (slice_index done.old)
+        (block_after course.now.repetitions.now course.now.j (slice_index done.old)) (slice_index done.new)
+        states.new queues.new }
+    ensures done { (a : ℕ) → a < length scene.now.net.now.nodes →
+        slice_index done.new a ≡ block_after course.now.repetitions.now course.now.j (slice_index done.old) a }
     ensures counts { length done.new ≡ length done.old }
     ensures blocks { KeepBlocks jobs.old jobs.new }
 {
@@ -86,12 +95,16 @@ pub(crate) fn run_blocks<R: Threads + Sync, A: Actor, G: Gate>(
     requires graph { IsShape (graph_of A.steps scene.now.net.now) }
     requires alike { IsAlike (rates (graph_of A.steps scene.now.net.now)) (wiring A.steps scene.now.net.now).rates }
     requires period { IsLeastPeriod (rates (graph_of A.steps scene.now.net.now)) course.now.repetitions.now }
-    requires table { IsTableOf (rates (graph_of A.steps scene.now.net.now)) course.now.repetitions.now course.now.j course.now.table.now }
-    requires start { IsResting A.steps scene.now.net.now (lists scene.now.inputs.now) course.now.repetitions.now course.now.j blocks 0 (slice_index done.old) states.old queues.old }
+    requires table { IsTableOf (rates (graph_of A.steps scene.now.net.now)) course.now.repetitions.now course.now.j
+        course.now.table.now }
+    requires start { IsResting A.steps scene.now.net.now (lists scene.now.inputs.now) course.now.repetitions.now
+        course.now.j blocks 0 (slice_index done.old) states.old queues.old }
     requires counted { length done.old ≡ length scene.now.net.now.nodes }
     requires blocks { HaveBlocks A.steps scene.now.net.now jobs.old }
-    requires wide { (i : ℕ) → i < length course.now.table.now.rows → length (firings (row course.now.table.now.rows i)) ≤ length jobs.old }
-    ensures over { IsResting A.steps scene.now.net.now (lists scene.now.inputs.now) course.now.repetitions.now course.now.j blocks blocks (slice_index done.new) states.new queues.new }
+    requires wide { (i : ℕ) → i < length course.now.table.now.rows →
+        length (firings (row course.now.table.now.rows i)) ≤ length jobs.old }
+    ensures over { IsResting A.steps scene.now.net.now (lists scene.now.inputs.now) course.now.repetitions.now
+        course.now.j blocks blocks (slice_index done.new) states.new queues.new }
 {
     sdf_graph::laws::graphs_are_sound();
     sdf_graph::laws::graphs_have_periods();

@@ -15,7 +15,9 @@ pub(crate) fn make_states<A: Actor>(
     net: &Net<A>,
     room: usize,
 ) -> Result<Vec<NodeState<A::Token, A::State>>, AllocError>
-    ensures { IfOk result (λ v. (vec_len v ≡ length net.now.nodes) × ((a : ℕ) (d : _) → a < length net.now.nodes → HasBegun A.steps room (node net.now a) (slice_index_or v.items a d))) }
+    ensures { IfOk result (λ v. (vec_len v ≡ length net.now.nodes)
+        × ((a : ℕ) (d : _) → a < length net.now.nodes →
+        HasBegun A.steps room (node net.now a) (slice_index_or v.items a d))) }
 {
     let mut states = Vec::with_capacity(alloc, net.len())?;
     for a in 0..net.len() {
@@ -80,7 +82,8 @@ pub(crate) fn make_jobs<A: Actor>(
     width: usize,
     filler: A::Token,
 ) -> Result<Vec<Job<A>>, AllocError>
-    ensures { IfOk result (λ v. (vec_len v ≡ width) × ((i : ℕ) (d : _) → i < width → HasPlaces A.steps net.now (slice_index_or v.items i d))) }
+    ensures { IfOk result (λ v. (vec_len v ≡ width)
+        × ((i : ℕ) (d : _) → i < width → HasPlaces A.steps net.now (slice_index_or v.items i d))) }
 {
     let places = most(net);
     let mut jobs = Vec::with_capacity(alloc, width)?;

@@ -29,7 +29,13 @@ fn load<A: Actor>(
     actor: ActorId,
     firing: u64,
 )
-    ensures { job.new ≡ record job.old { processor = processor; actor = actor; firing = firing; phase = phase_at state.old; state = state.old } }
+    ensures { job.new ≡ record job.old {
+      processor = processor;
+      actor = actor;
+      firing = firing;
+      phase = phase_at state.old;
+      state = state.old;
+    } }
 {
     job.processor = processor;
     job.actor = actor;
@@ -73,7 +79,8 @@ pub(crate) fn load_row<A: Actor>(
     states: &mut [NodeState<A::Token, A::State>],
     jobs: &mut [Job<A>],
 ) -> usize
-    requires counted { (j : ℕ) (f : Firing) → j < length row.now → cell_of row.now j ≡ Some f → (f.actor < length done.now) × (f.actor < length states.old) }
+    requires counted { (j : ℕ) (f : Firing) → j < length row.now → cell_of row.now j ≡ Some f →
+        (f.actor < length done.now) × (f.actor < length states.old) }
     requires few { length (firings row.now) ≤ length jobs.old }
     ensures many { result ≡ length (firings row.now) }
     ensures loaded { AreLoaded (firings row.now) states.old states.new jobs.old jobs.new }
@@ -170,10 +177,13 @@ pub(crate) fn settle_row<A: Actor>(
     done: &mut [u64],
 )
     requires scene { IsScene A.steps scene.now.net.now scene.now.sizes }
-    requires back { (many low high : ℕ → ℕ) × IsSettling A.steps scene.now.net.now (lists scene.now.inputs.now) many low high (actors_of jobs.old) 0 (slice_index done.old) states.old queues.old jobs.old }
+    requires back { (many low high : ℕ → ℕ) × IsSettling A.steps scene.now.net.now (lists scene.now.inputs.now) many low
+        high (actors_of jobs.old) 0 (slice_index done.old) states.old queues.old jobs.old }
     requires counted { length done.old ≡ length scene.now.net.now.nodes }
-    ensures settled { (many low high : ℕ → ℕ) → IsSettling A.steps scene.now.net.now (lists scene.now.inputs.now) many low high (actors_of jobs.old) 0 (slice_index done.old) states.old queues.old jobs.old →
-        IsSettling A.steps scene.now.net.now (lists scene.now.inputs.now) many low high (actors_of jobs.old) (length jobs.old) (slice_index done.new) states.new queues.new jobs.new }
+    ensures settled { (many low high : ℕ → ℕ) → IsSettling A.steps scene.now.net.now (lists scene.now.inputs.now) many
+        low high (actors_of jobs.old) 0 (slice_index done.old) states.old queues.old jobs.old →
+        IsSettling A.steps scene.now.net.now (lists scene.now.inputs.now) many low high (actors_of jobs.old)
+        (length jobs.old) (slice_index done.new) states.new queues.new jobs.new }
     ensures done { (a : ℕ) → slice_index done.new a ≡ slice_index done.old a + times (actors_of jobs.old) a }
     ensures counts { length done.new ≡ length done.old }
     ensures blocks { KeepBlocks jobs.old jobs.new }
@@ -196,10 +206,13 @@ pub(crate) fn fire_row<R: Threads + Sync, A: Actor, G: Gate>(
     gate: &G,
 )
     requires scene { IsScene A.steps scene.now.net.now scene.now.sizes }
-    requires filled { (many low high : ℕ → ℕ) × IsFilling A.steps scene.now.net.now (lists scene.now.inputs.now) many low high (actors_of jobs.old) 0 (slice_index done.old) states.old queues.old jobs.old }
+    requires filled { (many low high : ℕ → ℕ) × IsFilling A.steps scene.now.net.now (lists scene.now.inputs.now) many
+        low high (actors_of jobs.old) 0 (slice_index done.old) states.old queues.old jobs.old }
     requires counted { length done.old ≡ length scene.now.net.now.nodes }
-    ensures settled { (many low high : ℕ → ℕ) → IsFilling A.steps scene.now.net.now (lists scene.now.inputs.now) many low high (actors_of jobs.old) 0 (slice_index done.old) states.old queues.old jobs.old →
-        IsBetween A.steps scene.now.net.now (lists scene.now.inputs.now) many low high (slice_index done.new) states.new queues.new }
+    ensures settled { (many low high : ℕ → ℕ) → IsFilling A.steps scene.now.net.now (lists scene.now.inputs.now) many
+        low high (actors_of jobs.old) 0 (slice_index done.old) states.old queues.old jobs.old →
+        IsBetween A.steps scene.now.net.now (lists scene.now.inputs.now) many low high (slice_index done.new)
+        states.new queues.new }
     ensures done { (a : ℕ) → slice_index done.new a ≡ slice_index done.old a + times (actors_of jobs.old) a }
     ensures counts { length done.new ≡ length done.old }
     ensures blocks { KeepBlocks jobs.old jobs.new }
@@ -229,13 +242,17 @@ pub(crate) fn run_row<R: Threads + Sync, A: Actor, G: Gate>(
     gate: &G,
 )
     requires scene { IsScene A.steps scene.now.net.now scene.now.sizes }
-    requires between { (many low high : ℕ → ℕ) × IsBetween A.steps scene.now.net.now (lists scene.now.inputs.now) many low high (slice_index done.old) states.old queues.old × IsRow A.steps scene.now.net.now (slice_index done.old) high (row_actors row.now) }
+    requires between { (many low high : ℕ → ℕ) × IsBetween A.steps scene.now.net.now (lists scene.now.inputs.now) many
+        low high (slice_index done.old) states.old queues.old
+        × IsRow A.steps scene.now.net.now (slice_index done.old) high (row_actors row.now) }
     requires counted { length done.old ≡ length scene.now.net.now.nodes }
     requires blocks { HaveBlocks A.steps scene.now.net.now jobs.old }
     requires few { length (firings row.now) ≤ length jobs.old }
-    ensures between { (many low high : ℕ → ℕ) → IsBetween A.steps scene.now.net.now (lists scene.now.inputs.now) many low high (slice_index done.old) states.old queues.old →
+    ensures between { (many low high : ℕ → ℕ) → IsBetween A.steps scene.now.net.now (lists scene.now.inputs.now) many
+        low high (slice_index done.old) states.old queues.old →
         IsRow A.steps scene.now.net.now (slice_index done.old) high (row_actors row.now) →
-        IsBetween A.steps scene.now.net.now (lists scene.now.inputs.now) many low high (slice_index done.new) states.new queues.new }
+        IsBetween A.steps scene.now.net.now (lists scene.now.inputs.now) many low high (slice_index done.new)
+        states.new queues.new }
     ensures done { (a : ℕ) → slice_index done.new a ≡ slice_index done.old a + times (row_actors row.now) a }
     ensures counts { length done.new ≡ length done.old }
     ensures blocks { KeepBlocks jobs.old jobs.new }

@@ -1,56 +1,70 @@
 -- Blocks one after another.
-use Rattle.std.proofs.Common.{◌≡◌, ℕ, zero, suc, ◌+◌, ◌*◌, ◌≤◌, ◌<◌, List, [], ◌++◌, length, take, drop, refl, sym, ap, ◌∙◌, inl, inr, ◌⊎◌, arith}
+use Rattle.std.proofs.Common.{◌≡◌, ℕ, zero, suc, ◌+◌, ◌*◌, ◌≤◌, ◌<◌, List, [], ◌++◌, length, take, drop, refl, sym, ap}
+use Rattle.std.proofs.Common.{◌∙◌, inl, inr, ◌⊎◌, arith}
 use Rattle.std.proofs.Math.Nat.{zero-mul, suc-mul}
-use Rattle.std.proofs.lemmas.List.{append-nil, take_all, drop_at, drop-append-le, take-append-le, length-append, length-drop}
+use Rattle.std.proofs.lemmas.List.{append-nil, take_all, drop_at, drop-append-le, take-append-le, length-append}
+use Rattle.std.proofs.lemmas.List.{length-drop}
 use Rattle.std.proofs.lemmas.Bool.{cases_lt}
 use Rattle.sdf_run.specs.Many.{chained}
 
-pub chained_same : {T : Type 0} (f g : ℕ → List T) (many : ℕ) → ((i : ℕ) → i < many → f i ≡ g i) → chained f many ≡ chained g many
+pub chained_same : {T : Type 0} (f g : ℕ → List T) (many : ℕ) → ((i : ℕ) → i < many → f i ≡ g i) →
+    chained f many ≡ chained g many
 chained_same f g zero same = refl
-chained_same f g (suc many) same = λ k. chained_same f g many (λ i l. same i (omega arith)) k ++ same many (omega arith) k
+chained_same f g (suc many) same = λ k. chained_same f g many (λ i l. same i (omega arith)) k
+    ++ same many (omega arith) k
 
 pub chained_none : {T : Type 0} (f : ℕ → List T) (many : ℕ) → ((i : ℕ) → i < many → f i ≡ []) → chained f many ≡ []
 chained_none f zero none = refl
-chained_none f (suc many) none = (λ k. chained f many ++ none many (omega arith) k) ∙ (append-nil (chained f many) ∙ chained_none f many (λ i l. none i (omega arith)))
+chained_none f (suc many) none = (λ k. chained f many ++ none many (omega arith) k)
+    ∙ (append-nil (chained f many) ∙ chained_none f many (λ i l. none i (omega arith)))
 
-pub length_chained : {T : Type 0} (f : ℕ → List T) (size many : ℕ) → ((i : ℕ) → i < many → length (f i) ≡ size) → length (chained f many) ≡ many * size
+pub length_chained : {T : Type 0} (f : ℕ → List T) (size many : ℕ) → ((i : ℕ) → i < many → length (f i) ≡ size) →
+    length (chained f many) ≡ many * size
 length_chained f size zero long = sym (zero-mul size)
 length_chained f size (suc many) long =
     let before : length (chained f many) ≡ many * size = length_chained f size many (λ i l. long i (omega arith)) in
     omega (arith, length-append (chained f many) (f many), long many (omega arith), suc-mul many size)
 
-pub chained_short : {T : Type 0} (f : ℕ → List T) (size many : ℕ) → ((i : ℕ) → length (f i) ≤ size) → length (chained f many) ≤ many * size
+pub chained_short : {T : Type 0} (f : ℕ → List T) (size many : ℕ) → ((i : ℕ) → length (f i) ≤ size) →
+    length (chained f many) ≤ many * size
 chained_short f size zero short = omega (arith, zero-mul size)
 chained_short f size (suc many) short =
     let before : length (chained f many) ≤ many * size = chained_short f size many short in
     omega (arith, length-append (chained f many) (f many), short many, suc-mul many size)
 
 -- one of them, where it and those before it have a size
-reach : {T : Type 0} (f : ℕ → List T) (size many j : ℕ) → ((i : ℕ) → i ≤ j → length (f i) ≡ size) → j < many → suc j * size ≤ length (chained f many)
+reach : {T : Type 0} (f : ℕ → List T) (size many j : ℕ) → ((i : ℕ) → i ≤ j → length (f i) ≡ size) → j < many →
+    suc j * size ≤ length (chained f many)
 reach f size zero j long l = absurd (omega arith)
 reach f size (suc many) j long l = go (λ less. reach f size many j long less) (cases_lt j many)
   where
-    go : (j < many → suc j * size ≤ length (chained f many)) → (j < many) ⊎ (many ≤ j) → suc j * size ≤ length (chained f many ++ f many)
+    go : (j < many → suc j * size ≤ length (chained f many)) → (j < many) ⊎ (many ≤ j) →
+        suc j * size ≤ length (chained f many ++ f many)
     go before (inl less) = omega (arith, before less, length-append (chained f many) (f many))
     go before (inr last) =
         let same : many ≡ j = omega arith in
-        let all : length (chained f (suc many)) ≡ suc many * size = length_chained f size (suc many) (λ i h. long i (omega arith)) in
+        let all : length (chained f (suc many)) ≡ suc many * size =
+        length_chained f size (suc many) (λ i h. long i (omega arith)) in
         let count : suc many * size ≡ suc j * size = ap (λ i. suc i * size) same in
         omega (arith, all, count)
 
-pub chained_part : {T : Type 0} (f : ℕ → List T) (size many j : ℕ) → ((i : ℕ) → i ≤ j → length (f i) ≡ size) → j < many → take size (drop (j * size) (chained f many)) ≡ f j
+pub chained_part : {T : Type 0} (f : ℕ → List T) (size many j : ℕ) → ((i : ℕ) → i ≤ j → length (f i) ≡ size) →
+    j < many → take size (drop (j * size) (chained f many)) ≡ f j
 chained_part f size zero j long l = absurd (omega arith)
 chained_part f size (suc many) j long l = go (λ less. chained_part f size many j long less) (cases_lt j many)
   where
-    go : (j < many → take size (drop (j * size) (chained f many)) ≡ f j) → (j < many) ⊎ (many ≤ j) → take size (drop (j * size) (chained f many ++ f many)) ≡ f j
+    go : (j < many → take size (drop (j * size) (chained f many)) ≡ f j) → (j < many) ⊎ (many ≤ j) →
+        take size (drop (j * size) (chained f many ++ f many)) ≡ f j
     go before (inl less) =
         let there : suc j * size ≤ length (chained f many) = reach f size many j long less in
         let next : suc j * size ≡ j * size + size = omega (arith, suc-mul j size) in
         ap (take size) (drop-append-le (j * size) (chained f many) (f many) (omega (arith, there, next))) ∙
-        (take-append-le size (drop (j * size) (chained f many)) (f many) (omega (arith, there, next, length-drop (j * size) (chained f many))) ∙
+        (take-append-le size (drop (j * size) (chained f many)) (f many)
+        (omega (arith, there, next, length-drop (j * size) (chained f many))) ∙
         before less)
     go before (inr last) =
         let same : j ≡ many = omega arith in
-        let place : length (chained f many) ≡ j * size = length_chained f size many (λ i h. long i (omega arith)) ∙ ap (λ i. i * size) (sym same) in
+        let place : length (chained f many) ≡ j * size =
+        length_chained f size many (λ i h. long i (omega arith)) ∙ ap (λ i. i * size) (sym same) in
         ap (take size) (drop_at (chained f many) (f many) (j * size) place) ∙
         (take_all size (f many) (omega (arith, long many (omega arith))) ∙ ap f (sym same))

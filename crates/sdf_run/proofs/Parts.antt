@@ -1,5 +1,6 @@
 -- Parts of lists.
-use Rattle.std.proofs.Common.{◌≡◌, ℕ, suc, ◌+◌, ◌-◌, ◌≤◌, ◌<◌, List, [], ◌∷◌, ◌++◌, length, get_or, take, drop, cond, refl, sym, ap, ◌∙◌, arith}
+use Rattle.std.proofs.Common.{◌≡◌, ℕ, suc, ◌+◌, ◌-◌, ◌≤◌, ◌<◌, List, [], ◌∷◌, ◌++◌, length, get_or, take, drop, cond}
+use Rattle.std.proofs.Common.{refl, sym, ap, ◌∙◌, arith}
 use Rattle.std.specs.List.{between, flat_map}
 use Rattle.std.proofs.lemmas.List.{drop-drop, take-take}
 use Rattle.std.proofs.lemmas.Bool.{ne_eqb}
@@ -12,7 +13,8 @@ pub take_on : {X : Type 0} (xs : List X) (i j : ℕ) → i ≤ j → take j xs �
 take_on xs i j h = ap (λ k. take k xs) (let e : j ≡ i + (j - i) = omega arith in e) ∙ take-add i (j - i) xs
 
 -- pieces that are the same, joined
-pub flat_map_same : {X : Type 0} (f g : ℕ → List X) (cs : List ℕ) → ((n : ℕ) → n < length cs → f (get_or cs n 0) ≡ g (get_or cs n 0)) → flat_map f cs ≡ flat_map g cs
+pub flat_map_same : {X : Type 0} (f g : ℕ → List X) (cs : List ℕ) →
+    ((n : ℕ) → n < length cs → f (get_or cs n 0) ≡ g (get_or cs n 0)) → flat_map f cs ≡ flat_map g cs
 flat_map_same f g [] h = refl
 flat_map_same f g (c ∷ cs) h =
     let e : f c ≡ g c = h 0 (omega arith) in
@@ -30,7 +32,8 @@ joined xs i j k h g =
     (ap (take ((k - i) - (j - i))) (drop-drop (j - i) i xs) ∙ (λ l. take (rest l) (drop (from l) xs)))
 
 -- a part of a part
-pub inner : {X : Type 0} (xs : List X) (i j k l : ℕ) → i + l ≤ j → between k l (between i j xs) ≡ between (i + k) (i + l) xs
+pub inner : {X : Type 0} (xs : List X) (i j k l : ℕ) → i + l ≤ j →
+    between k l (between i j xs) ≡ between (i + k) (i + l) xs
 inner xs i j k l h =
     let short : l ≤ j - i = omega arith in
     let long : l - k ≡ (i + l) - (i + k) = omega arith in
@@ -50,7 +53,8 @@ one_of [] e = absurd (omega arith)
 one_of (x ∷ xs) e = ap (λ ys. x ∷ ys) (none_of xs (omega arith))
 
 -- nothing goes to a channel at none of the ports
-pub spread_none : {T : Type 0} (size : ℕ → ℕ) (ds : List ℕ) (b : List T) (c : ℕ) → ((n : ℕ) → n < length ds → get_or ds n 0 ≡ c → ⊥) → spread size ds b c ≡ []
+pub spread_none : {T : Type 0} (size : ℕ → ℕ) (ds : List ℕ) (b : List T) (c : ℕ) →
+    ((n : ℕ) → n < length ds → get_or ds n 0 ≡ c → ⊥) → spread size ds b c ≡ []
 spread_none size [] b c none = refl
 spread_none size (d ∷ ds) b c none =
     ap (λ t. cond t (take (size d) b) (spread size ds (drop (size d) b) c)) (ne_eqb d c (none 0 (omega arith))) ∙

@@ -1,7 +1,10 @@
 -- Firings of a block of periods in whatever order they come: each can be done, and they stop only at the block's end.
-use Rattle.std.proofs.Common.{◌≡◌, ℕ, zero, suc, ◌+◌, ◌-◌, ◌*◌, ◌^◌, ◌≤◌, ◌<◌, List, [], ◌∷◌, length, map, get_or, set, sum, cond, Bool, true, false, true≢false, IsTrue, refl, sym, ap, ◌∙◌, subst, inl, inr, ◌⊎◌, arith}
+use Rattle.std.proofs.Common.{◌≡◌, ℕ, zero, suc, ◌+◌, ◌-◌, ◌*◌, ◌^◌, ◌≤◌, ◌<◌, List, [], ◌∷◌, length, map, get_or, set}
+use Rattle.std.proofs.Common.{sum, cond, Bool, true, false, true≢false, IsTrue, refl, sym, ap, ◌∙◌, subst, inl, inr}
+use Rattle.std.proofs.Common.{◌⊎◌, arith}
 use Rattle.std.proofs.Math.Nat.{mul-le-mul}
-use Rattle.std.proofs.lemmas.List.{length-map, length-set, get_or-set_same, get_or-set_other, get_or_default, get_or-map}
+use Rattle.std.proofs.lemmas.List.{length-map, length-set, get_or-set_same, get_or-set_other, get_or_default}
+use Rattle.std.proofs.lemmas.List.{get_or-map}
 use Rattle.std.proofs.lemmas.List.Sums.{sum_by-set}
 use Rattle.std.proofs.lemmas.Bool.{cases_lt, cases_eq}
 use Rattle.sdf_graph.specs.Sequences.{tokens, IsRunnable}
@@ -43,7 +46,15 @@ keeps_on r r' r'' one other = record {
 }
 
 pub keeps_all : {A S T : Type 0} (r : Run A T S) → Keeps r r
-keeps_all r = record { net = refl; inputs = refl; repetitions = refl; periods = refl; outputs = refl; queues = refl; rooms = λ c l. refl }
+keeps_all r = record {
+  net = refl;
+  inputs = refl;
+  repetitions = refl;
+  periods = refl;
+  outputs = refl;
+  queues = refl;
+  rooms = λ c l. refl;
+}
 
 pub moved_none : {A S T : Type 0} (r : Run A T S) → IsMoved r r false
 moved_none r = record {
@@ -54,7 +65,8 @@ moved_none r = record {
   stays = λ e. refl;
 }
 
-pub moved_on : {A S T : Type 0} (r r' r'' : Run A T S) (x y z : Bool) → (IsTrue z → IsTrue x ⊎ IsTrue y) → (z ≡ false → (x ≡ false) × (y ≡ false)) → IsMoved r r' x → IsMoved r' r'' y → IsMoved r r'' z
+pub moved_on : {A S T : Type 0} (r r' r'' : Run A T S) (x y z : Bool) → (IsTrue z → IsTrue x ⊎ IsTrue y) →
+    (z ≡ false → (x ≡ false) × (y ≡ false)) → IsMoved r r' x → IsMoved r' r'' y → IsMoved r r'' z
 moved_on r r' r'' x y z tells still one other = record {
   keeps = keeps_on r r' r'' one.keeps other.keeps;
   high = other.high ∙ one.high;
@@ -68,16 +80,23 @@ moved_on r r' r'' x y z tells still one other = record {
     go (inr t) = omega (arith, one.rises, other.moves t)
 
 -- a node may fire where it might before, as long as nothing has fired
-may_along : {A S T : Type 0} (s : Steps A S T) (r r' : Run A T S) (a : ℕ) → r.net ≡ r'.net → r.repetitions ≡ r'.repetitions → r.high ≡ r'.high → r.done.items ≡ r'.done.items → MayFire s r a → MayFire s r' a
+may_along : {A S T : Type 0} (s : Steps A S T) (r r' : Run A T S) (a : ℕ) → r.net ≡ r'.net →
+    r.repetitions ≡ r'.repetitions → r.high ≡ r'.high → r.done.items ≡ r'.done.items → MayFire s r a → MayFire s r' a
 may_along s r r' a net repetitions high done may =
-    subst (λ x. IsRunnable (wiring s x.now).rates (periods_of r'.repetitions.now r'.high) (λ b. get_or r'.done.items b 0) a) net
-    (subst (λ x. IsRunnable (wiring s r.net.now).rates (periods_of x.now r'.high) (λ b. get_or r'.done.items b 0) a) repetitions
-    (subst (λ x. IsRunnable (wiring s r.net.now).rates (periods_of r.repetitions.now x) (λ b. get_or r'.done.items b 0) a) high
-    (subst (λ x. IsRunnable (wiring s r.net.now).rates (periods_of r.repetitions.now r.high) (λ b. get_or x b 0) a) done may)))
+    subst (λ x. IsRunnable (wiring s x.now).rates (periods_of r'.repetitions.now r'.high)
+    (λ b. get_or r'.done.items b 0) a) net
+    (subst (λ x. IsRunnable (wiring s r.net.now).rates (periods_of x.now r'.high)
+    (λ b. get_or r'.done.items b 0) a) repetitions
+    (subst (λ x. IsRunnable (wiring s r.net.now).rates (periods_of r.repetitions.now x)
+    (λ b. get_or r'.done.items b 0) a) high
+    (subst (λ x. IsRunnable (wiring s r.net.now).rates (periods_of r.repetitions.now r.high)
+    (λ b. get_or x b 0) a) done may)))
 
 -- a node of a sweep after those before it
-pub sweep_on : {A S T : Type 0} (s : Steps A S T) (r r' : Run A T S) (x y z : Bool) (i : ℕ) → (z ≡ false → (x ≡ false) × (y ≡ false)) →
-    (x ≡ false → (b : ℕ) → b < i → MayFire s r b → ⊥) → IsMoved r r' y → (y ≡ false → MayFire s r i → ⊥) → z ≡ false → (b : ℕ) → b < i + 1 → MayFire s r' b → ⊥
+pub sweep_on : {A S T : Type 0} (s : Steps A S T) (r r' : Run A T S) (x y z : Bool) (i : ℕ) →
+    (z ≡ false → (x ≡ false) × (y ≡ false)) →
+    (x ≡ false → (b : ℕ) → b < i → MayFire s r b → ⊥) → IsMoved r r' y → (y ≡ false → MayFire s r i → ⊥) → z ≡ false →
+    (b : ℕ) → b < i + 1 → MayFire s r' b → ⊥
 sweep_on s r r' x y z i still before moved here none b l may = go (cases_lt b i)
   where
     back : MayFire s r b
@@ -92,29 +111,48 @@ pub net_known : {A S T : Type 0} (s : Steps A S T) → FiringLaws s → (r : Run
 net_known s laws r sw = record { good = sw.good; wired = laws.wired r.net.now sw.good; laws = laws }
 
 -- at the same ports and queues
-pub holds_along : {T : Type 0} (ins ins' sizes sizes' : List ℕ) (qs qs' : List (Held T)) → ins ≡ ins' → sizes ≡ sizes' → qs ≡ qs' → HoldBlocks ins sizes qs → HoldBlocks ins' sizes' qs'
+pub holds_along : {T : Type 0} (ins ins' sizes sizes' : List ℕ) (qs qs' : List (Held T)) → ins ≡ ins' → sizes ≡ sizes' →
+    qs ≡ qs' → HoldBlocks ins sizes qs → HoldBlocks ins' sizes' qs'
 holds_along ins ins' sizes sizes' qs qs' i s q h =
-    subst (λ x. HoldBlocks x sizes' qs') i (subst (λ x. HoldBlocks ins x qs') s (subst (λ x. HoldBlocks ins sizes x) q h))
+    subst (λ x. HoldBlocks x sizes' qs') i (subst (λ x. HoldBlocks ins x qs') s
+    (subst (λ x. HoldBlocks ins sizes x) q h))
 
 -- node a of a run may fire exactly where it has firings left and its channels hold what the next one takes
-module _ {A S T : Type 0} (s : Steps A S T) (r : Run A T S) (sw : IsSwept s r) (net : Known s r.net.now) (a : ℕ) (known : a < length r.net.now.nodes) (d : Work A T S) where
+module _ {A S T : Type 0} (s : Steps A S T) (r : Run A T S) (sw : IsSwept s r) (net : Known s r.net.now) (a : ℕ)
+    (known : a < length r.net.now.nodes) (d : Work A T S) where
   pub phase_in : phase_at (get_or r.works.items a d) < length r.sizes.takes
   phase_in =
-      let at = standing.at s r.net.now net r.sizes sw.sizes (lists r.inputs.now) (periods_of r.repetitions.now r.periods) (λ b. get_or r.done.items b 0) a known r.works.items r.queues.items r.outputs.items sw.stands d in
+      let at = standing.at s r.net.now net r.sizes sw.sizes (lists r.inputs.now)
+      (periods_of r.repetitions.now r.periods) (λ b. get_or r.done.items b 0) a known r.works.items r.queues.items
+      r.outputs.items sw.stands d in
       omega (arith, at, sw.sizes.takes_known a (get_or r.done.items a 0) known)
 
-  pub ports_in : ArePorts ((wiring s r.net.now).ins a) (at_phase r.sizes.takes (phase_at (get_or r.works.items a d))) (length r.queues.items)
-  ports_in = standing.ports_in s r.net.now net r.sizes sw.sizes (lists r.inputs.now) (periods_of r.repetitions.now r.periods) (λ b. get_or r.done.items b 0) a known r.works.items r.queues.items r.outputs.items sw.stands d
+  pub ports_in : ArePorts ((wiring s r.net.now).ins a) (at_phase r.sizes.takes (phase_at (get_or r.works.items a d)))
+      (length r.queues.items)
+  ports_in = standing.ports_in s r.net.now net r.sizes sw.sizes (lists r.inputs.now)
+      (periods_of r.repetitions.now r.periods) (λ b. get_or r.done.items b 0) a known r.works.items r.queues.items
+      r.outputs.items sw.stands d
 
-  pub may_from : get_or r.done.items a 0 < r.high * get_or r.repetitions.now a 0 → HoldBlocks ((wiring s r.net.now).ins a) (at_phase r.sizes.takes (phase_at (get_or r.works.items a d))) r.queues.items → MayFire s r a
-  may_from left holds =
-      (known, left, standing.enabled s r.net.now net r.sizes sw.sizes (lists r.inputs.now) (periods_of r.repetitions.now r.periods) (λ b. get_or r.done.items b 0) a known r.works.items r.queues.items r.outputs.items sw.stands d holds)
+  pub may_from : get_or r.done.items a 0 < r.high * get_or r.repetitions.now a 0 →
+      HoldBlocks ((wiring s r.net.now).ins a) (at_phase r.sizes.takes (phase_at (get_or r.works.items a d)))
+      r.queues.items → MayFire s r a
+  may_from left holds = (
+    known,
+    left,
+    standing.enabled s r.net.now net r.sizes sw.sizes (lists r.inputs.now)
+        (periods_of r.repetitions.now r.periods) (λ b. get_or r.done.items b 0) a known r.works.items r.queues.items
+        r.outputs.items sw.stands d holds,
+  )
 
-  pub may_holds : MayFire s r a → HoldBlocks ((wiring s r.net.now).ins a) (at_phase r.sizes.takes (phase_at (get_or r.works.items a d))) r.queues.items
-  may_holds may = standing.held s r.net.now net r.sizes sw.sizes (lists r.inputs.now) (periods_of r.repetitions.now r.periods) (λ b. get_or r.done.items b 0) a known r.works.items r.queues.items r.outputs.items sw.stands d may.2
+  pub may_holds : MayFire s r a → HoldBlocks ((wiring s r.net.now).ins a)
+      (at_phase r.sizes.takes (phase_at (get_or r.works.items a d))) r.queues.items
+  may_holds may = standing.held s r.net.now net r.sizes sw.sizes (lists r.inputs.now)
+      (periods_of r.repetitions.now r.periods) (λ b. get_or r.done.items b 0) a known r.works.items r.queues.items
+      r.outputs.items sw.stands d may.2
 
 -- so many firings of node a of a run stay within the block
-module _ {A S T : Type 0} (s : Steps A S T) (r : Run A T S) (sw : IsSwept s r) (net : Known s r.net.now) (a : ℕ) (known : a < length r.net.now.nodes) (times : ℕ)
+module _ {A S T : Type 0} (s : Steps A S T) (r : Run A T S) (sw : IsSwept s r) (net : Known s r.net.now) (a : ℕ)
+    (known : a < length r.net.now.nodes) (times : ℕ)
     (inside : get_or r.done.items a 0 + times ≤ r.high * get_or r.repetitions.now a 0) where
   abbrev before : ℕ → ℕ
   before b = get_or r.done.items b 0
@@ -157,7 +195,9 @@ module _ {A S T : Type 0} (s : Steps A S T) (r : Run A T S) (sw : IsSwept s r) (
 
   within : (b : ℕ) → b < length r.net.now.nodes → after b ≤ periods_of r.repetitions.now r.periods b
   within b l =
-      let up : r.high * get_or r.repetitions.now b 0 ≤ r.periods * get_or r.repetitions.now b 0 = mul-le-mul sw.under (let e : get_or r.repetitions.now b 0 ≤ get_or r.repetitions.now b 0 = omega arith in e) in
+      let up : r.high * get_or r.repetitions.now b 0 ≤ r.periods * get_or r.repetitions.now b 0 =
+      mul-le-mul sw.under (let e : get_or r.repetitions.now b 0 ≤ get_or r.repetitions.now b 0 =
+      omega arith in e) in
       omega (arith, below b l)
 
   reached : InputsReach r.net.now (lists r.inputs.now) after
@@ -169,24 +209,32 @@ module _ {A S T : Type 0} (s : Steps A S T) (r : Run A T S) (sw : IsSwept s r) (
       let w = (wiring s r.net.now).rates in
       let x : ℕ = w.source c in
       let y : ℕ = w.target c in
-      let up : w.produced c (after x) ≤ w.produced c (r.high * get_or r.repetitions.now x 0) = net.wired.sound.produced_rises c (after x) (r.high * get_or r.repetitions.now x 0) (below x (net.wired.sound.source_in c l)) in
+      let up : w.produced c (after x) ≤ w.produced c (r.high * get_or r.repetitions.now x 0) =
+      net.wired.sound.produced_rises c (after x) (r.high * get_or r.repetitions.now x 0)
+      (below x (net.wired.sound.source_in c l)) in
       let down : w.consumed c (sw.low * get_or r.repetitions.now y 0) ≤ w.consumed c (after y) =
-      net.wired.sound.consumed_rises c (sw.low * get_or r.repetitions.now y 0) (after y) (above y (net.wired.sound.target_in c l)) in
+      net.wired.sound.consumed_rises c (sw.low * get_or r.repetitions.now y 0) (after y)
+      (above y (net.wired.sound.target_in c l)) in
       omega (arith, sw.fits c l)
 
   few : before a + times < 2 ^ 63
   few =
       let short : r.high ≤ 4294967295 = omega (arith, sw.under, sw.short) in
-      let all : r.high * get_or r.repetitions.now a 0 ≤ 4294967295 * 65536 = mul-le-mul short (let e : get_or r.repetitions.now a 0 ≤ 65536 = sw.paced.small a known in e) in
+      let all : r.high * get_or r.repetitions.now a 0 ≤ 4294967295 * 65536 =
+      mul-le-mul short (let e : get_or r.repetitions.now a 0 ≤ 65536 = sw.paced.small a known in e) in
       omega (arith, inside)
 
   at : (d : Work A T S) → phase_at (get_or r.works.items a d) ≡ phase_of s (node r.net.now a) (before a)
-  at d = standing.at s r.net.now net r.sizes sw.sizes (lists r.inputs.now) (periods_of r.repetitions.now r.periods) before a known r.works.items r.queues.items r.outputs.items sw.stands d
+  at d = standing.at s r.net.now net r.sizes sw.sizes (lists r.inputs.now) (periods_of r.repetitions.now r.periods)
+      before a known r.works.items r.queues.items r.outputs.items sw.stands d
 
   -- where the runner stands at the counts after them, it is swept
-  module _ (r' : Run A T S) (alone : FiresAlone r r' a times) (kept_rooms : (c : ℕ) → c < length r.queues.items → room r'.queues.items c ≡ room r.queues.items c)
-      (stands : Stands s r.net.now (lists r.inputs.now) (periods_of r.repetitions.now r.periods) after r'.works.items r'.queues.items r'.outputs.items) where
-    sweeps : Sweeps s r.net.now (lists r.inputs.now) r.sizes r.repetitions.now r.periods r.high (set r.done.items a (get_or r.done.items a 0 + times)) r'.works.items r'.queues.items r'.outputs.items
+  module _ (r' : Run A T S) (alone : FiresAlone r r' a times)
+      (kept_rooms : (c : ℕ) → c < length r.queues.items → room r'.queues.items c ≡ room r.queues.items c)
+      (stands : Stands s r.net.now (lists r.inputs.now) (periods_of r.repetitions.now r.periods) after r'.works.items
+      r'.queues.items r'.outputs.items) where
+    sweeps : Sweeps s r.net.now (lists r.inputs.now) r.sizes r.repetitions.now r.periods r.high
+        (set r.done.items a (get_or r.done.items a 0 + times)) r'.works.items r'.queues.items r'.outputs.items
     sweeps = record {
       good = sw.good;
       apart = sw.apart;
@@ -200,25 +248,42 @@ module _ {A S T : Type 0} (s : Steps A S T) (r : Run A T S) (sw : IsSwept s r) (
       low = sw.low;
       from = above;
       to = below;
-      fits = λ c l. let same : room r'.queues.items c ≡ room r.queues.items c = kept_rooms c (omega (arith, sw.stands.channels)) in omega (arith, sw.fits c l);
+      fits = λ c l. let same : room r'.queues.items c ≡ room r.queues.items c =
+          kept_rooms c (omega (arith, sw.stands.channels)) in omega (arith, sw.fits c l);
     }
 
     swept_on : IsSwept s r'
     swept_on =
-        subst (λ x. Sweeps s x.now (lists r'.inputs.now) r'.sizes r'.repetitions.now r'.periods r'.high r'.done.items r'.works.items r'.queues.items r'.outputs.items) (sym alone.net)
-        (subst (λ x. Sweeps s r.net.now (lists x.now) r'.sizes r'.repetitions.now r'.periods r'.high r'.done.items r'.works.items r'.queues.items r'.outputs.items) (sym alone.inputs)
-        (subst (λ x. Sweeps s r.net.now (lists r.inputs.now) x r'.repetitions.now r'.periods r'.high r'.done.items r'.works.items r'.queues.items r'.outputs.items) (sym alone.sizes)
-        (subst (λ x. Sweeps s r.net.now (lists r.inputs.now) r.sizes x.now r'.periods r'.high r'.done.items r'.works.items r'.queues.items r'.outputs.items) (sym alone.repetitions)
-        (subst (λ x. Sweeps s r.net.now (lists r.inputs.now) r.sizes r.repetitions.now x r'.high r'.done.items r'.works.items r'.queues.items r'.outputs.items) (sym alone.periods)
-        (subst (λ x. Sweeps s r.net.now (lists r.inputs.now) r.sizes r.repetitions.now r.periods x r'.done.items r'.works.items r'.queues.items r'.outputs.items) (sym alone.high)
-        (subst (λ x. Sweeps s r.net.now (lists r.inputs.now) r.sizes r.repetitions.now r.periods r.high x r'.works.items r'.queues.items r'.outputs.items) (sym alone.done) sweeps))))))
+        subst (λ x. Sweeps s x.now (lists r'.inputs.now) r'.sizes r'.repetitions.now r'.periods r'.high r'.done.items
+        r'.works.items r'.queues.items r'.outputs.items) (sym alone.net)
+        (subst (λ x. Sweeps s r.net.now (lists x.now) r'.sizes r'.repetitions.now r'.periods r'.high r'.done.items
+        r'.works.items r'.queues.items r'.outputs.items) (sym alone.inputs)
+        (subst (λ x. Sweeps s r.net.now (lists r.inputs.now) x r'.repetitions.now r'.periods r'.high r'.done.items
+        r'.works.items r'.queues.items r'.outputs.items) (sym alone.sizes)
+        (subst (λ x. Sweeps s r.net.now (lists r.inputs.now) r.sizes x.now r'.periods r'.high r'.done.items
+        r'.works.items r'.queues.items r'.outputs.items) (sym alone.repetitions)
+        (subst (λ x. Sweeps s r.net.now (lists r.inputs.now) r.sizes r.repetitions.now x r'.high r'.done.items
+        r'.works.items r'.queues.items r'.outputs.items) (sym alone.periods)
+        (subst (λ x. Sweeps s r.net.now (lists r.inputs.now) r.sizes r.repetitions.now r.periods x r'.done.items
+        r'.works.items r'.queues.items r'.outputs.items) (sym alone.high)
+        (subst (λ x. Sweeps s r.net.now (lists r.inputs.now) r.sizes r.repetitions.now r.periods r.high x r'.works.items
+        r'.queues.items r'.outputs.items) (sym alone.done) sweeps))))))
 
     more : sum r'.done.items ≡ sum r.done.items + times
-    more = ap sum alone.done ∙ (let e = sum_by-set (λ x. x) r.done.items a (get_or r.done.items a 0 + times) 0 place in omega arith)
+    more = ap sum alone.done ∙ (let e = sum_by-set (λ x. x) r.done.items a (get_or r.done.items a 0 + times) 0
+        place in omega arith)
 
     moved_by : 0 < times → IsMoved r r' true
     moved_by some = record {
-      keeps = record { net = alone.net; inputs = alone.inputs; repetitions = alone.repetitions; periods = alone.periods; outputs = alone.outputs; queues = alone.queues; rooms = kept_rooms };
+      keeps = record {
+        net = alone.net;
+        inputs = alone.inputs;
+        repetitions = alone.repetitions;
+        periods = alone.periods;
+        outputs = alone.outputs;
+        queues = alone.queues;
+        rooms = kept_rooms;
+      };
       high = alone.high;
       rises = omega (arith, more);
       moves = λ t. omega (arith, more, some);
@@ -226,7 +291,8 @@ module _ {A S T : Type 0} (s : Steps A S T) (r : Run A T S) (sw : IsSwept s r) (
     }
 
 -- a firing of an actor that may fire
-module _ {A S T : Type 0} (s : Steps A S T) (r : Run A T S) (sw : IsSwept s r) (net : Known s r.net.now) (a : ℕ) (may : MayFire s r a)
+module _ {A S T : Type 0} (s : Steps A S T) (r : Run A T S) (sw : IsSwept s r) (net : Known s r.net.now) (a : ℕ)
+    (may : MayFire s r a)
     (actor : (d : Work A T S) → IsActor (get_or r.works.items a d)) where
   next : get_or r.done.items a 0 + 1 ≤ r.high * get_or r.repetitions.now a 0
   next = omega (arith, may.1)
@@ -235,26 +301,43 @@ module _ {A S T : Type 0} (s : Steps A S T) (r : Run A T S) (sw : IsSwept s r) (
   can_fire = record {
     known = may.0;
     worked = omega (arith, sw.stands.nodes, may.0);
-    takes_known = λ d. omega (arith, at s r sw net a may.0 1 next d, sw.sizes.takes_known a (get_or r.done.items a 0) may.0);
-    puts_known = λ d. omega (arith, at s r sw net a may.0 1 next d, sw.sizes.puts_known a (get_or r.done.items a 0) may.0);
+    takes_known = λ d. omega (
+      arith,
+      at s r sw net a may.0 1 next d,
+      sw.sizes.takes_known a (get_or r.done.items a 0) may.0,
+    );
+    puts_known = λ d. omega (
+      arith,
+      at s r sw net a may.0 1 next d,
+      sw.sizes.puts_known a (get_or r.done.items a 0) may.0,
+    );
     counted = place s r sw net a may.0 1 next;
     few = omega (arith, few s r sw net a may.0 1 next);
     can = λ d.
-        standing.can_fire s r.net.now net r.sizes sw.sizes (lists r.inputs.now) (periods_of r.repetitions.now r.periods) (λ b. get_or r.done.items b 0) a may.0 r.works.items r.queues.items r.outputs.items sw.stands d
-        (after s r sw net a may.0 1 next) may.2 (own s r sw net a may.0 1 next) (others s r sw net a may.0 1 next) (reached s r sw net a may.0 1 next) (actor d) (rooms s r sw net a may.0 1 next);
+        standing.can_fire s r.net.now net r.sizes sw.sizes (lists r.inputs.now) (periods_of r.repetitions.now r.periods)
+        (λ b. get_or r.done.items b 0) a may.0 r.works.items r.queues.items r.outputs.items sw.stands d
+        (after s r sw net a may.0 1 next) may.2 (own s r sw net a may.0 1 next) (others s r sw net a may.0 1 next)
+        (reached s r sw net a may.0 1 next) (actor d) (rooms s r sw net a may.0 1 next);
   }
 
   module _ (r' : Run A T S) (fired : IsFiredAt s r r' a) where
     filler : Work A T S
     filler = some_of r.works.items a (omega (arith, sw.stands.nodes, may.0))
 
-    stands : Stands s r.net.now (lists r.inputs.now) (periods_of r.repetitions.now r.periods) (after s r sw net a may.0 1 next) r'.works.items r'.queues.items r'.outputs.items
+    stands : Stands s r.net.now (lists r.inputs.now) (periods_of r.repetitions.now r.periods)
+        (after s r sw net a may.0 1 next) r'.works.items r'.queues.items r'.outputs.items
     stands =
-        subst (λ x. Stands s r.net.now (lists r.inputs.now) (periods_of r.repetitions.now r.periods) (after s r sw net a may.0 1 next) r'.works.items r'.queues.items x.items) (sym fired.lists)
-        (standing.fired_stands s r.net.now net r.sizes sw.sizes (lists r.inputs.now) (periods_of r.repetitions.now r.periods) (λ b. get_or r.done.items b 0) a may.0 r.works.items r.queues.items r.outputs.items sw.stands filler
-        (after s r sw net a may.0 1 next) may.2 (own s r sw net a may.0 1 next) (others s r sw net a may.0 1 next) (reached s r sw net a may.0 1 next) (actor filler)
-        (get_or r'.works.items a filler) r'.queues.items (fired.fired filler) fired.alone.queues r'.works.items fired.alone.works
-        (λ e. get_or_default r'.works.items a e filler (omega (arith, fired.alone.works, sw.stands.nodes, may.0))) fired.alone.others)
+        subst (λ x. Stands s r.net.now (lists r.inputs.now) (periods_of r.repetitions.now r.periods)
+        (after s r sw net a may.0 1 next) r'.works.items r'.queues.items x.items) (sym fired.lists)
+        (standing.fired_stands s r.net.now net r.sizes sw.sizes (lists r.inputs.now)
+        (periods_of r.repetitions.now r.periods) (λ b. get_or r.done.items b 0) a may.0 r.works.items
+        r.queues.items r.outputs.items sw.stands filler
+        (after s r sw net a may.0 1 next) may.2 (own s r sw net a may.0 1 next) (others s r sw net a may.0 1 next)
+        (reached s r sw net a may.0 1 next) (actor filler)
+        (get_or r'.works.items a filler) r'.queues.items (fired.fired filler) fired.alone.queues r'.works.items
+        fired.alone.works
+        (λ e. get_or_default r'.works.items a e filler (omega (arith, fired.alone.works, sw.stands.nodes, may.0)))
+        fired.alone.others)
 
     pub swept : IsSwept s r'
     swept = swept_on s r sw net a may.0 1 next r' fired.alone (fired.fired filler).rooms stands
@@ -263,53 +346,80 @@ module _ {A S T : Type 0} (s : Steps A S T) (r : Run A T S) (sw : IsSwept s r) (
     moved = moved_by s r sw net a may.0 1 next r' fired.alone (fired.fired filler).rooms stands (omega arith)
 
 -- the work of a node of a run, as it is read
-pub goes_at : {A S T : Type 0} (s : Steps A S T) (r : Run A T S) (a : ℕ) → a < length r.works.items → (w : Work A T S) (ins outs : List ℕ) → w ≡ get_or r.works.items a w → ins ≡ (wiring s r.net.now).ins a → outs ≡ (wiring s r.net.now).outs a →
-    GoesAtOnce s w ins outs → (d : Work A T S) → GoesAtOnce s (get_or r.works.items a d) ((wiring s r.net.now).ins a) ((wiring s r.net.now).outs a)
+pub goes_at : {A S T : Type 0} (s : Steps A S T) (r : Run A T S) (a : ℕ) → a < length r.works.items →
+    (w : Work A T S) (ins outs : List ℕ) → w ≡ get_or r.works.items a w → ins ≡ (wiring s r.net.now).ins a →
+    outs ≡ (wiring s r.net.now).outs a →
+    GoesAtOnce s w ins outs → (d : Work A T S) → GoesAtOnce s (get_or r.works.items a d) ((wiring s r.net.now).ins a)
+    ((wiring s r.net.now).outs a)
 goes_at s r a known w ins outs is into from goes d =
-    subst (λ x. GoesAtOnce s x ((wiring s r.net.now).ins a) ((wiring s r.net.now).outs a)) (is ∙ get_or_default r.works.items a w d known)
+    subst (λ x. GoesAtOnce s x ((wiring s r.net.now).ins a) ((wiring s r.net.now).outs a))
+    (is ∙ get_or_default r.works.items a w d known)
     (subst (λ x. GoesAtOnce s w x ((wiring s r.net.now).outs a)) into (subst (λ x. GoesAtOnce s w ins x) from goes))
 
-pub actor_at : {A S T : Type 0} (works : List (Work A T S)) (a : ℕ) → a < length works → (w : Work A T S) → w ≡ get_or works a w → IsActor w → (d : Work A T S) → IsActor (get_or works a d)
+pub actor_at : {A S T : Type 0} (works : List (Work A T S)) (a : ℕ) → a < length works → (w : Work A T S) →
+    w ≡ get_or works a w → IsActor w → (d : Work A T S) → IsActor (get_or works a d)
 actor_at works a known w is actor d = subst IsActor (is ∙ get_or_default works a w d known) actor
 
 -- so many firings at once of one whose firings can be done so
-module _ {A S T : Type 0} (s : Steps A S T) (r : Run A T S) (sw : IsSwept s r) (net : Known s r.net.now) (a : ℕ) (known : a < length r.net.now.nodes) (times : ℕ)
+module _ {A S T : Type 0} (s : Steps A S T) (r : Run A T S) (sw : IsSwept s r) (net : Known s r.net.now) (a : ℕ)
+    (known : a < length r.net.now.nodes) (times : ℕ)
     (inside : get_or r.done.items a 0 + times ≤ r.high * get_or r.repetitions.now a 0)
-    (goes : (d : Work A T S) → GoesAtOnce s (get_or r.works.items a d) ((wiring s r.net.now).ins a) ((wiring s r.net.now).outs a)) (held : AreHeld s r a times) where
+    (goes : (d : Work A T S) → GoesAtOnce s (get_or r.works.items a d) ((wiring s r.net.now).ins a)
+    ((wiring s r.net.now).outs a)) (held : AreHeld s r a times) where
   pub can_fire_at_once : CanFireAtOnceAt s r a times
   can_fire_at_once = record {
     known = known;
     worked = omega (arith, sw.stands.nodes, known);
-    takes_known = λ d. omega (arith, at s r sw net a known times inside d, sw.sizes.takes_known a (get_or r.done.items a 0) known);
-    puts_known = λ d. omega (arith, at s r sw net a known times inside d, sw.sizes.puts_known a (get_or r.done.items a 0) known);
+    takes_known = λ d. omega (
+      arith,
+      at s r sw net a known times inside d,
+      sw.sizes.takes_known a (get_or r.done.items a 0) known,
+    );
+    puts_known = λ d. omega (
+      arith,
+      at s r sw net a known times inside d,
+      sw.sizes.puts_known a (get_or r.done.items a 0) known,
+    );
     counted = place s r sw net a known times inside;
     few = few s r sw net a known times inside;
     can = λ d.
-        at_once.can_fire s r.net.now net r.sizes sw.sizes (lists r.inputs.now) (periods_of r.repetitions.now r.periods) (λ b. get_or r.done.items b 0) a known r.works.items r.queues.items r.outputs.items sw.stands d (goes d)
-        times (after s r sw net a known times inside) (own s r sw net a known times inside) (others s r sw net a known times inside) (within s r sw net a known times inside) (held d 0) sw.reach (rooms s r sw net a known times inside);
+        at_once.can_fire s r.net.now net r.sizes sw.sizes (lists r.inputs.now) (periods_of r.repetitions.now r.periods)
+        (λ b. get_or r.done.items b 0) a known r.works.items r.queues.items r.outputs.items sw.stands d (goes d)
+        times (after s r sw net a known times inside) (own s r sw net a known times inside)
+        (others s r sw net a known times inside) (within s r sw net a known times inside) (held d 0) sw.reach
+        (rooms s r sw net a known times inside);
   }
 
   module _ (r' : Run A T S) (fired : AreFiredAt s r r' a times) where
     first : Work A T S
     first = some_of r.works.items a (omega (arith, sw.stands.nodes, known))
 
-    all_stand : Stands s r.net.now (lists r.inputs.now) (periods_of r.repetitions.now r.periods) (after s r sw net a known times inside) r'.works.items r'.queues.items r'.outputs.items
+    all_stand : Stands s r.net.now (lists r.inputs.now) (periods_of r.repetitions.now r.periods)
+        (after s r sw net a known times inside) r'.works.items r'.queues.items r'.outputs.items
     all_stand =
-        at_once.fired_stands s r.net.now net r.sizes sw.sizes (lists r.inputs.now) (periods_of r.repetitions.now r.periods) (λ b. get_or r.done.items b 0) a known r.works.items r.queues.items r.outputs.items sw.stands first (goes first)
-        times (after s r sw net a known times inside) (own s r sw net a known times inside) (others s r sw net a known times inside) (within s r sw net a known times inside) (held first 0) sw.reach
-        sw.apart (get_or r'.works.items a first) r'.queues.items r'.outputs.items (fired.fired first) fired.alone.queues fired.alone.outputs r'.works.items fired.alone.works
-        (λ e. get_or_default r'.works.items a e first (omega (arith, fired.alone.works, sw.stands.nodes, known))) fired.alone.others
+        at_once.fired_stands s r.net.now net r.sizes sw.sizes (lists r.inputs.now)
+        (periods_of r.repetitions.now r.periods) (λ b. get_or r.done.items b 0) a known r.works.items r.queues.items
+        r.outputs.items sw.stands first (goes first)
+        times (after s r sw net a known times inside) (own s r sw net a known times inside)
+        (others s r sw net a known times inside) (within s r sw net a known times inside) (held first 0) sw.reach
+        sw.apart (get_or r'.works.items a first) r'.queues.items r'.outputs.items (fired.fired first) fired.alone.queues
+        fired.alone.outputs r'.works.items fired.alone.works
+        (λ e. get_or_default r'.works.items a e first (omega (arith, fired.alone.works, sw.stands.nodes, known)))
+        fired.alone.others
 
     pub swept_at_once : IsSwept s r'
     swept_at_once = swept_on s r sw net a known times inside r' fired.alone (fired.fired first).rooms all_stand
 
     pub moved_at_once : 0 < times → IsMoved r r' true
-    moved_at_once some = moved_by s r sw net a known times inside r' fired.alone (fired.fired first).rooms all_stand some
+    moved_at_once some = moved_by s r sw net a known times inside r' fired.alone
+        (fired.fired first).rooms all_stand some
 
 -- so many firings of an actor through its blocks
-module _ {A S T : Type 0} (s : Steps A S T) (fits : (x : A) → PutsFit s x) (r : Run A T S) (sw : IsSwept s r) (net : Known s r.net.now) (a : ℕ) (known : a < length r.net.now.nodes) (times : ℕ)
+module _ {A S T : Type 0} (s : Steps A S T) (fits : (x : A) → PutsFit s x) (r : Run A T S) (sw : IsSwept s r)
+    (net : Known s r.net.now) (a : ℕ) (known : a < length r.net.now.nodes) (times : ℕ)
     (inside : get_or r.done.items a 0 + times ≤ r.high * get_or r.repetitions.now a 0)
-    (goes : (d : Work A T S) → GoesByMany s (get_or r.works.items a d) ((wiring s r.net.now).ins a) ((wiring s r.net.now).outs a)) (held : AreHeld s r a times) where
+    (goes : (d : Work A T S) → GoesByMany s (get_or r.works.items a d) ((wiring s r.net.now).ins a)
+    ((wiring s r.net.now).outs a)) (held : AreHeld s r a times) where
   does : (d e : Work A T S) → get_or r.works.items a e ≡ get_or r.works.items a d
   does d e = get_or_default r.works.items a e d (omega (arith, sw.stands.nodes, known))
 
@@ -317,13 +427,24 @@ module _ {A S T : Type 0} (s : Steps A S T) (fits : (x : A) → PutsFit s x) (r 
   can_fire_many_at fit = record {
     known = known;
     worked = omega (arith, sw.stands.nodes, known);
-    takes_known = λ d. omega (arith, at s r sw net a known times inside d, sw.sizes.takes_known a (get_or r.done.items a 0) known);
-    puts_known = λ d. omega (arith, at s r sw net a known times inside d, sw.sizes.puts_known a (get_or r.done.items a 0) known);
+    takes_known = λ d. omega (
+      arith,
+      at s r sw net a known times inside d,
+      sw.sizes.takes_known a (get_or r.done.items a 0) known,
+    );
+    puts_known = λ d. omega (
+      arith,
+      at s r sw net a known times inside d,
+      sw.sizes.puts_known a (get_or r.done.items a 0) known,
+    );
     counted = place s r sw net a known times inside;
     few = few s r sw net a known times inside;
     can = λ d.
-        can_fire_many s fits r.net.now net r.sizes sw.sizes (lists r.inputs.now) (periods_of r.repetitions.now r.periods) (λ b. get_or r.done.items b 0) a known r.works.items r.queues.items r.outputs.items sw.stands
-        times (after s r sw net a known times inside) (own s r sw net a known times inside) (others s r sw net a known times inside) (within s r sw net a known times inside)
+        can_fire_many s fits r.net.now net r.sizes sw.sizes (lists r.inputs.now)
+        (periods_of r.repetitions.now r.periods) (λ b. get_or r.done.items b 0) a known r.works.items r.queues.items
+        r.outputs.items sw.stands
+        times (after s r sw net a known times inside) (own s r sw net a known times inside)
+        (others s r sw net a known times inside) (within s r sw net a known times inside)
         (get_or r.works.items a d) (does d) (goes d) (held d) (fit d) (rooms s r sw net a known times inside);
   }
 
@@ -331,14 +452,20 @@ module _ {A S T : Type 0} (s : Steps A S T) (fits : (x : A) → PutsFit s x) (r 
     its : Work A T S
     its = some_of r.works.items a (omega (arith, sw.stands.nodes, known))
 
-    many_stand : Stands s r.net.now (lists r.inputs.now) (periods_of r.repetitions.now r.periods) (after s r sw net a known times inside) r'.works.items r'.queues.items r'.outputs.items
+    many_stand : Stands s r.net.now (lists r.inputs.now) (periods_of r.repetitions.now r.periods)
+        (after s r sw net a known times inside) r'.works.items r'.queues.items r'.outputs.items
     many_stand =
-        subst (λ x. Stands s r.net.now (lists r.inputs.now) (periods_of r.repetitions.now r.periods) (after s r sw net a known times inside) r'.works.items r'.queues.items x.items) (sym fired.lists)
-        (stands_many s fits r.net.now net r.sizes sw.sizes (lists r.inputs.now) (periods_of r.repetitions.now r.periods) (λ b. get_or r.done.items b 0) a known r.works.items r.queues.items r.outputs.items sw.stands
-        times (after s r sw net a known times inside) (own s r sw net a known times inside) (others s r sw net a known times inside) (within s r sw net a known times inside)
+        subst (λ x. Stands s r.net.now (lists r.inputs.now) (periods_of r.repetitions.now r.periods)
+        (after s r sw net a known times inside) r'.works.items r'.queues.items x.items) (sym fired.lists)
+        (stands_many s fits r.net.now net r.sizes sw.sizes (lists r.inputs.now) (periods_of r.repetitions.now r.periods)
+        (λ b. get_or r.done.items b 0) a known r.works.items r.queues.items r.outputs.items sw.stands
+        times (after s r sw net a known times inside) (own s r sw net a known times inside)
+        (others s r sw net a known times inside) (within s r sw net a known times inside)
         (get_or r.works.items a its) (does its) (goes its) (held its) sw.reach
-        (get_or r'.works.items a its) r'.queues.items (fired.fired its) fired.alone.queues r'.works.items fired.alone.works
-        (λ e. get_or_default r'.works.items a e its (omega (arith, fired.alone.works, sw.stands.nodes, known))) fired.alone.others)
+        (get_or r'.works.items a its) r'.queues.items (fired.fired its) fired.alone.queues r'.works.items
+        fired.alone.works
+        (λ e. get_or_default r'.works.items a e its (omega (arith, fired.alone.works, sw.stands.nodes, known)))
+        fired.alone.others)
 
     pub swept_many : IsSwept s r'
     swept_many = swept_on s r sw net a known times inside r' fired.alone (fired.fired its).rooms many_stand
@@ -347,24 +474,36 @@ module _ {A S T : Type 0} (s : Steps A S T) (fits : (x : A) → PutsFit s x) (r 
     moved_many some = moved_by s r sw net a known times inside r' fired.alone (fired.fired its).rooms many_stand some
 
 -- a node that fired has fired more often
-pub further : {A S T : Type 0} (s : Steps A S T) (r r' : Run A T S) (a times : ℕ) → IsSwept s r → a < length r.net.now.nodes → FiresAlone r r' a times → 0 < times → get_or r.done.items a 0 < get_or r'.done.items a 0
+pub further : {A S T : Type 0} (s : Steps A S T) (r r' : Run A T S) (a times : ℕ) → IsSwept s r →
+    a < length r.net.now.nodes → FiresAlone r r' a times → 0 < times →
+    get_or r.done.items a 0 < get_or r'.done.items a 0
 further s r r' a times sw known alone some =
-    let now : get_or r'.done.items a 0 ≡ get_or r.done.items a 0 + times = ap (λ xs. get_or xs a 0) alone.done ∙ get_or-set_same r.done.items a (get_or r.done.items a 0 + times) 0 (omega (arith, sw.all, known)) in
+    let now : get_or r'.done.items a 0 ≡ get_or r.done.items a 0 + times =
+    ap (λ xs. get_or xs a 0) alone.done ∙ get_or-set_same r.done.items a (get_or r.done.items a 0 + times) 0
+    (omega (arith, sw.all, known)) in
     omega (arith, now, some)
 
 -- the blocks of a node of a run
-pub blocks_at : {A S T : Type 0} (s : Steps A S T) (r : Run A T S) → IsSwept s r → (a : ℕ) → a < length r.net.now.nodes → (d : Work A T S) → HasItsBlocks s (get_or r.works.items a d)
+pub blocks_at : {A S T : Type 0} (s : Steps A S T) (r : Run A T S) → IsSwept s r → (a : ℕ) →
+    a < length r.net.now.nodes → (d : Work A T S) → HasItsBlocks s (get_or r.works.items a d)
 blocks_at s r sw a known d =
-    its_blocks s (lists r.inputs.now) r.outputs.items (periods_of r.repetitions.now r.periods a) (node r.net.now a) (taken_before (wiring s r.net.now) sw.stands.history a (get_or r.done.items a 0)) (get_or r.works.items a d) (sw.stands.each a d known)
+    its_blocks s (lists r.inputs.now) r.outputs.items (periods_of r.repetitions.now r.periods a) (node r.net.now a)
+    (taken_before (wiring s r.net.now) sw.stands.history a (get_or r.done.items a 0)) (get_or r.works.items a d)
+    (sw.stands.each a d known)
 
-pub many_at : {A S T : Type 0} (s : Steps A S T) (r : Run A T S) (a : ℕ) → a < length r.works.items → (w : Work A T S) (ins outs : List ℕ) → w ≡ get_or r.works.items a w → ins ≡ (wiring s r.net.now).ins a → outs ≡ (wiring s r.net.now).outs a →
-    GoesByMany s w ins outs → (d : Work A T S) → GoesByMany s (get_or r.works.items a d) ((wiring s r.net.now).ins a) ((wiring s r.net.now).outs a)
+pub many_at : {A S T : Type 0} (s : Steps A S T) (r : Run A T S) (a : ℕ) → a < length r.works.items →
+    (w : Work A T S) (ins outs : List ℕ) → w ≡ get_or r.works.items a w → ins ≡ (wiring s r.net.now).ins a →
+    outs ≡ (wiring s r.net.now).outs a →
+    GoesByMany s w ins outs → (d : Work A T S) → GoesByMany s (get_or r.works.items a d) ((wiring s r.net.now).ins a)
+    ((wiring s r.net.now).outs a)
 many_at s r a known w ins outs is into from goes d =
-    subst (λ x. GoesByMany s x ((wiring s r.net.now).ins a) ((wiring s r.net.now).outs a)) (is ∙ get_or_default r.works.items a w d known)
+    subst (λ x. GoesByMany s x ((wiring s r.net.now).ins a) ((wiring s r.net.now).outs a))
+    (is ∙ get_or_default r.works.items a w d known)
     (subst (λ x. GoesByMany s w x ((wiring s r.net.now).outs a)) into (subst (λ x. GoesByMany s w ins x) from goes))
 
 -- a sweep that fires leaves less, and one that does not is the last
-goes_less : (a b : Bool) (all x y : ℕ) → IsTrue a → x ≤ y → y ≤ all → (IsTrue b → x < y) → cond b 1 0 + (all - y) < cond a 1 0 + (all - x)
+goes_less : (a b : Bool) (all x y : ℕ) → IsTrue a → x ≤ y → y ≤ all → (IsTrue b → x < y) →
+    cond b 1 0 + (all - y) < cond a 1 0 + (all - x)
 goes_less true true all x y t rise within more = let m : x < y = more refl in omega arith
 goes_less true false all x y t rise within more = omega arith
 goes_less false b all x y t rise within more = absurd (let e : false ≡ true = t in true≢false (sym e))
@@ -373,7 +512,8 @@ goes_less false b all x y t rise within more = absurd (let e : false ≡ true = 
 abbrev pub in_block : {A S T : Type 0} → Run A T S → ℕ
 in_block r = sum (map (λ x. r.high * x) r.repetitions.now)
 
-sum_below : ListsSumWithin → (xs q : List ℕ) (high : ℕ) → length xs ≡ length q → ((i : ℕ) → i < length xs → get_or xs i 0 ≤ high * get_or q i 0) → sum xs ≤ sum (map (λ x. high * x) q)
+sum_below : ListsSumWithin → (xs q : List ℕ) (high : ℕ) → length xs ≡ length q →
+    ((i : ℕ) → i < length xs → get_or xs i 0 ≤ high * get_or q i 0) → sum xs ≤ sum (map (λ x. high * x) q)
 sum_below law xs q high e h = law xs (map (λ x. high * x) q) (e ∙ sym (length-map q (λ x. high * x))) each
   where
     each : (i : ℕ) → get_or xs i 0 ≤ get_or (map (λ x. high * x) q) i 0
@@ -388,39 +528,57 @@ sum_below law xs q high e h = law xs (map (λ x. high * x) q) (e ∙ sym (length
             beyond (y ∷ ys) zero p = absurd (omega arith)
             beyond (y ∷ ys) (suc j) p = beyond ys j (omega arith)
 
-pub smaller : {A S T : Type 0} (s : Steps A S T) → ListsSumWithin → (r r' : Run A T S) (goes goes' : Bool) → IsTrue goes → IsSwept s r' → IsMoved r r' goes' →
+pub smaller : {A S T : Type 0} (s : Steps A S T) → ListsSumWithin → (r r' : Run A T S) (goes goes' : Bool) →
+    IsTrue goes → IsSwept s r' → IsMoved r r' goes' →
     cond goes' 1 0 + (in_block r' - sum r'.done.items) < cond goes 1 0 + (in_block r - sum r.done.items)
 smaller s law r r' goes goes' t sw moved =
     let same : in_block r' ≡ in_block r = λ i. sum (map (λ x. moved.high i * x) (moved.keeps.repetitions i).now) in
-    let all : sum r'.done.items ≤ in_block r' = sum_below law r'.done.items r'.repetitions.now r'.high (sw.all ∙ sym sw.paced.all) (λ i l. sw.to i (omega (arith, sw.all))) in
-    let less = goes_less goes goes' (in_block r) (sum r.done.items) (sum r'.done.items) t moved.rises (omega arith) moved.moves in
+    let all : sum r'.done.items ≤ in_block r' = sum_below law r'.done.items r'.repetitions.now r'.high
+    (sw.all ∙ sym sw.paced.all) (λ i l. sw.to i (omega (arith, sw.all))) in
+    let less = goes_less goes goes' (in_block r) (sum r.done.items) (sum r'.done.items) t moved.rises
+    (omega arith) moved.moves in
     omega (arith, same)
 
 -- where none may fire, all have fired the block
-pub all_fired : {A S T : Type 0} (s : Steps A S T) → StuckCountsMeanDeadlock → (r : Run A T S) → IsSwept s r → IsSound (wiring s r.net.now).rates → ((a : ℕ) → MayFire s r a → ⊥) →
+pub all_fired : {A S T : Type 0} (s : Steps A S T) → StuckCountsMeanDeadlock → (r : Run A T S) → IsSwept s r →
+    IsSound (wiring s r.net.now).rates → ((a : ℕ) → MayFire s r a → ⊥) →
     (a : ℕ) → a < length r.net.now.nodes → get_or r.done.items a 0 ≡ r.high * get_or r.repetitions.now a 0
 all_fired s law r sw sound still a l = go (cases_lt (get_or r.done.items a 0) (r.high * get_or r.repetitions.now a 0))
   where
     to : get_or r.done.items a 0 ≤ r.high * get_or r.repetitions.now a 0
     to = sw.to a l
 
-    go : (get_or r.done.items a 0 < r.high * get_or r.repetitions.now a 0) ⊎ (r.high * get_or r.repetitions.now a 0 ≤ get_or r.done.items a 0) → get_or r.done.items a 0 ≡ r.high * get_or r.repetitions.now a 0
+    go : (get_or r.done.items a 0 < r.high * get_or r.repetitions.now a 0)
+        ⊎ (r.high * get_or r.repetitions.now a 0 ≤ get_or r.done.items a 0) →
+        get_or r.done.items a 0 ≡ r.high * get_or r.repetitions.now a 0
     go (inl less) =
         let pass = sw.paced.passes r.high in
-        absurd (law (wiring s r.net.now).rates (periods_of r.repetitions.now r.high) (λ b. get_or r.done.items b 0) sound still a l less pass.0 pass.1)
+        absurd (law (wiring s r.net.now).rates (periods_of r.repetitions.now r.high) (λ b. get_or r.done.items b 0)
+        sound still a l less pass.0 pass.1)
     go (inr all) = omega (arith, to, all)
 
 -- queues keep their room
-pub room_along : {A S T : Type 0} (s : Steps A S T) (size : ℕ) (r r' : Run A T S) → Keeps r r' → length r.queues.items ≡ length r.net.now.wires → HasRoom s size r → HasRoom s size r'
+pub room_along : {A S T : Type 0} (s : Steps A S T) (size : ℕ) (r r' : Run A T S) → Keeps r r' →
+    length r.queues.items ≡ length r.net.now.wires → HasRoom s size r → HasRoom s size r'
 room_along s size r r' keeps channels has =
-    subst (λ x. (c : ℕ) → c < length x.now.wires → (wiring s x.now).rates.initial c + size * (wiring s x.now).rates.produced c (get_or r'.repetitions.now ((wiring s x.now).rates.source c) 0) ≤ room r'.queues.items c) (sym keeps.net)
-    (subst (λ x. (c : ℕ) → c < length r.net.now.wires → (wiring s r.net.now).rates.initial c + size * (wiring s r.net.now).rates.produced c (get_or x.now ((wiring s r.net.now).rates.source c) 0) ≤ room r'.queues.items c) (sym keeps.repetitions)
-    (λ c l. subst (λ m. (wiring s r.net.now).rates.initial c + size * (wiring s r.net.now).rates.produced c (get_or r.repetitions.now ((wiring s r.net.now).rates.source c) 0) ≤ m) (sym (keeps.rooms c (omega (arith, channels)))) (has c l)))
+    subst (λ x. (c : ℕ) → c < length x.now.wires →
+    (wiring s x.now).rates.initial c + size * (wiring s x.now).rates.produced c
+    (get_or r'.repetitions.now ((wiring s x.now).rates.source c) 0) ≤ room r'.queues.items c) (sym keeps.net)
+    (subst (λ x. (c : ℕ) → c < length r.net.now.wires →
+    (wiring s r.net.now).rates.initial c + size
+    * (wiring s r.net.now).rates.produced c (get_or x.now ((wiring s r.net.now).rates.source c) 0) ≤
+    room r'.queues.items c) (sym keeps.repetitions)
+    (λ c l. subst (λ m. (wiring s r.net.now).rates.initial c
+    + size * (wiring s r.net.now).rates.produced c
+    (get_or r.repetitions.now ((wiring s r.net.now).rates.source c) 0) ≤ m)
+    (sym (keeps.rooms c (omega (arith, channels)))) (has c l)))
 
 -- the next block may begin
-pub block_begins : {A S T : Type 0} (s : Steps A S T) (r : Run A T S) → IsSwept s r → (next size : ℕ) → r.high ≤ next → next ≤ r.periods → next ≤ r.high + size →
+pub block_begins : {A S T : Type 0} (s : Steps A S T) (r : Run A T S) → IsSwept s r → (next size : ℕ) → r.high ≤ next →
+    next ≤ r.periods → next ≤ r.high + size →
     ((a : ℕ) → a < length r.net.now.nodes → get_or r.done.items a 0 ≡ r.high * get_or r.repetitions.now a 0) →
-    HasRoom s size r → Sweeps s r.net.now (lists r.inputs.now) r.sizes r.repetitions.now r.periods next r.done.items r.works.items r.queues.items r.outputs.items
+    HasRoom s size r → Sweeps s r.net.now (lists r.inputs.now) r.sizes r.repetitions.now r.periods next r.done.items
+    r.works.items r.queues.items r.outputs.items
 block_begins s r sw next size rise under step at rooms = record {
   good = sw.good;
   apart = sw.apart;
@@ -433,7 +591,9 @@ block_begins s r sw next size rise under step at rooms = record {
   all = sw.all;
   low = r.high;
   from = λ a l. omega (arith, at a l);
-  to = λ a l. let m : r.high * get_or r.repetitions.now a 0 ≤ next * get_or r.repetitions.now a 0 = mul-le-mul rise (let e : get_or r.repetitions.now a 0 ≤ get_or r.repetitions.now a 0 = omega arith in e) in omega (arith, at a l);
+  to = λ a l. let m : r.high * get_or r.repetitions.now a 0 ≤ next * get_or r.repetitions.now a 0 =
+      mul-le-mul rise (let e : get_or r.repetitions.now a 0 ≤ get_or r.repetitions.now a 0 = omega arith in e) in
+      omega (arith, at a l);
   fits = λ c l.
       let w = (wiring s r.net.now).rates in
       let p : ℕ = w.produced c (get_or r.repetitions.now (w.source c) 0) in

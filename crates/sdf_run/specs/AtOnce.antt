@@ -1,5 +1,6 @@
 -- So many firings of a node at once: when they can be done, and what they do.
-use Rattle.std.specs.Prelude.{◌≡◌, ℕ, ◌+◌, ◌*◌, ◌^◌, ◌≤◌, ◌<◌, List, [], ◌++◌, length, take, drop, slice_index, slice_index_or}
+use Rattle.std.specs.Prelude.{◌≡◌, ℕ, ◌+◌, ◌*◌, ◌^◌, ◌≤◌, ◌<◌, List, [], ◌++◌, length, take, drop, slice_index}
+use Rattle.std.specs.Prelude.{slice_index_or}
 use Rattle.std.specs.List.{flat_map, between}
 use Rattle.std.specs.declared.vec.Vec.{Vec}
 use Rattle.sdf_actor.specs.Steps.{Steps, sum_in, sum_out, state_at, puts_to}
@@ -37,12 +38,15 @@ all_made s inputs times (Inner actor phase state taken put lengths) b = puts_to 
 abbrev pub HaveWorked : {A S T : Type 0} → Steps A S T → ℕ → Work A T S → List T → Work A T S → Type 0
 HaveWorked s times (Source ext next block) b w = w ≡ Source ext (next + block * times) block
 HaveWorked s times (Sink ext) b w = w ≡ Sink ext
-HaveWorked s times (Inner actor phase state taken put lengths) b w = w ≡ Inner actor phase (state_at s actor.now phase state b times) taken put lengths
+HaveWorked s times (Inner actor phase state taken put lengths) b w =
+    w ≡ Inner actor phase (state_at s actor.now phase state b times) taken put lengths
 
 -- they take so many samples and put more: they find what they read, and have the lengths of their blocks
-abbrev pub CanWorkAtOnce : {A S T Z : Type 0} → Steps A S T → List (List T) → ℕ → Work A T S → List ℕ → List ℕ → ℕ → ℕ → List (Vec T Z) → Type 0
+abbrev pub CanWorkAtOnce : {A S T Z : Type 0} → Steps A S T → List (List T) → ℕ → Work A T S → List ℕ → List ℕ → ℕ → ℕ →
+    List (Vec T Z) → Type 0
 CanWorkAtOnce s inputs times (Source ext next block) ins outs many more outputs =
-    (ins ≡ []) × (length outs ≡ 1) × (more ≡ block * times) × (ext < length inputs) × (next + block * times ≤ length (slice_index_or inputs ext []))
+    (ins ≡ []) × (length outs ≡ 1) × (more ≡ block * times) × (ext < length inputs)
+    × (next + block * times ≤ length (slice_index_or inputs ext []))
 CanWorkAtOnce s inputs times (Sink ext) ins outs many more outputs =
     (outs ≡ []) × (length ins ≡ 1) × (ext < length outputs) × (length (list outputs ext) + many ≤ capacity outputs ext)
 CanWorkAtOnce s inputs times (Inner actor phase state taken put lengths) ins outs many more outputs =
@@ -50,16 +54,22 @@ CanWorkAtOnce s inputs times (Inner actor phase state taken put lengths) ins out
     (many ≡ sum_in s actor.now phase times) × (more ≡ sum_out s actor.now phase times)
 
 -- a node that takes from the channels ins and puts on the channels outs can fire so many times at once
-pub record CanFireAtOnce {A S T Z : Type 0} (s : Steps A S T) (inputs : List (List T)) (times : ℕ) (ins outs takes puts : List ℕ) (w : Work A T S) (qs : List (Held T)) (outputs : List (Vec T Z)) : Type 0 where
+pub record CanFireAtOnce {A S T Z : Type 0} (s : Steps A S T) (inputs : List (List T)) (times : ℕ)
+    (ins outs takes puts : List ℕ) (w : Work A T S) (qs : List (Held T)) (outputs : List (Vec T Z)) : Type 0 where
   pub ins_are : ArePorts ins takes (length qs)
   pub outs_are : ArePorts outs puts (length qs)
-  pub held : (n : ℕ) → n < length ins → times * slice_index takes (slice_index ins n) ≤ length (samples qs (slice_index ins n))
+  pub held : (n : ℕ) → n < length ins → times * slice_index takes (slice_index ins n) ≤
+      length (samples qs (slice_index ins n))
   pub room : (n : ℕ) → n < length outs →
-      length (samples qs (slice_index outs n)) + times * slice_index puts (slice_index outs n) ≤ room qs (slice_index outs n)
-  pub work : CanWorkAtOnce s inputs times w ins outs (times * slice_index takes (slice_index ins 0)) (times * slice_index puts (slice_index outs 0)) outputs
+      length (samples qs (slice_index outs n)) + times * slice_index puts (slice_index outs n) ≤
+      room qs (slice_index outs n)
+  pub work : CanWorkAtOnce s inputs times w ins outs (times * slice_index takes (slice_index ins 0))
+      (times * slice_index puts (slice_index outs 0)) outputs
 
 -- and this is what they do
-pub record AreFired {A S T Z : Type 0} (s : Steps A S T) (inputs : List (List T)) (times : ℕ) (ins outs takes puts : List ℕ) (w w' : Work A T S) (qs qs' : List (Held T)) (outputs outputs' : List (Vec T Z)) : Type 0 where
+pub record AreFired {A S T Z : Type 0} (s : Steps A S T) (inputs : List (List T)) (times : ℕ)
+    (ins outs takes puts : List ℕ) (w w' : Work A T S) (qs qs' : List (Held T))
+    (outputs outputs' : List (Vec T Z)) : Type 0 where
   pub work : HaveWorked s times w (fronts times takes ins qs) w'
   pub queues : (c : ℕ) → c < length qs →
       samples qs' c ≡ drop (at_ports ins (times * slice_index takes c) c) (samples qs c) ++

@@ -1,5 +1,6 @@
 -- One firing of an actor by copies: when it can be done, and what it does.
-use Rattle.std.specs.Prelude.{◌≡◌, ℕ, ◌+◌, ◌-◌, ◌%◌, ◌≤◌, ◌<◌, ◌==◌, cond, List, [], ◌++◌, length, drop, slice_index, vec_capacity}
+use Rattle.std.specs.Prelude.{◌≡◌, ℕ, ◌+◌, ◌-◌, ◌%◌, ◌≤◌, ◌<◌, ◌==◌, cond, List, [], ◌++◌, length, drop, slice_index}
+use Rattle.std.specs.Prelude.{vec_capacity}
 use Rattle.std.specs.List.{sum_by}
 use Rattle.sdf_actor.specs.Steps.{Steps, total_in, total_out}
 use Rattle.sdf_actor.specs.Histories.{spread}
@@ -40,12 +41,14 @@ HasWorked s w b w' = ⊥
 -- many samples are taken and more are put: its blocks have their lengths
 abbrev pub CanWork : {A S T : Type 0} → Steps A S T → Work A T S → ℕ → ℕ → Type 0
 CanWork s (Inner actor phase state taken put lengths) many more =
-    (phase < s.cycle actor.now) × (many ≡ total_in s actor.now phase) × (more ≡ total_out s actor.now phase) × (many ≤ vec_capacity taken) ×
+    (phase < s.cycle actor.now) × (many ≡ total_in s actor.now phase) × (more ≡ total_out s actor.now phase)
+    × (many ≤ vec_capacity taken) ×
     (length lengths.items ≡ s.cycle actor.now) × (slice_index lengths.items phase ≡ more) × (more ≤ length put.items)
 CanWork s w many more = ⊥
 
 -- an actor can fire that takes from the channels ins and puts on the channels outs
-pub record CanFire {A S T : Type 0} (s : Steps A S T) (ins outs takes puts : List ℕ) (w : Work A T S) (qs : List (Held T)) : Type 0 where
+pub record CanFire {A S T : Type 0} (s : Steps A S T) (ins outs takes puts : List ℕ) (w : Work A T S)
+    (qs : List (Held T)) : Type 0 where
   pub ins_are : ArePorts ins takes (length qs)
   pub outs_are : ArePorts outs puts (length qs)
   pub held : HoldBlocks ins takes qs
@@ -56,8 +59,10 @@ pub record CanFire {A S T : Type 0} (s : Steps A S T) (ins outs takes puts : Lis
   pub work : CanWork s w (sum_by (slice_index takes) ins) (sum_by (slice_index puts) outs)
 
 -- and this is what its firing does
-pub record IsFired {A S T : Type 0} (s : Steps A S T) (ins outs takes puts : List ℕ) (w w' : Work A T S) (qs qs' : List (Held T)) : Type 0 where
+pub record IsFired {A S T : Type 0} (s : Steps A S T) (ins outs takes puts : List ℕ) (w w' : Work A T S)
+    (qs qs' : List (Held T)) : Type 0 where
   pub work : HasWorked s w (front takes ins qs) w'
   pub queues : (c : ℕ) → c < length qs →
-      samples qs' c ≡ drop (at_ports ins (slice_index takes c) c) (samples qs c) ++ spread (slice_index puts) outs (made s w (front takes ins qs)) c
+      samples qs' c ≡ drop (at_ports ins (slice_index takes c) c) (samples qs c)
+      ++ spread (slice_index puts) outs (made s w (front takes ins qs)) c
   pub rooms : (c : ℕ) → c < length qs → room qs' c ≡ room qs c

@@ -1,5 +1,6 @@
 -- So many firings of an actor with several ports, through its blocks: when they can be done, and what they do.
-use Rattle.std.specs.Prelude.{◌≡◌, ℕ, zero, suc, ◌+◌, ◌*◌, ◌^◌, ◌≤◌, ◌<◌, List, [], ◌++◌, length, take, drop, slice_index, slice_index_or, vec_capacity}
+use Rattle.std.specs.Prelude.{◌≡◌, ℕ, zero, suc, ◌+◌, ◌*◌, ◌^◌, ◌≤◌, ◌<◌, List, [], ◌++◌, length, take, drop}
+use Rattle.std.specs.Prelude.{slice_index, slice_index_or, vec_capacity}
 use Rattle.std.specs.List.{flat_map, sum_by}
 use Rattle.sdf_actor.specs.Steps.{Steps, total_in, sum_in, sum_out, state_at, puts_to}
 use Rattle.sdf_actor.specs.Histories.{spread}
@@ -29,18 +30,21 @@ dealt puts outs more b c times = chained (λ i. spread (slice_index puts) outs (
 -- an actor of one phase that puts on no channel that it takes from
 abbrev pub GoesByMany : {A S T : Type 0} → Steps A S T → Work A T S → List ℕ → List ℕ → Type 0
 GoesByMany s (Inner actor phase state taken put lengths) ins outs =
-    (s.cycle actor.now ≡ 1) × ((i j : ℕ) → i < length ins → j < length outs → slice_index ins i ≡ slice_index outs j → ⊥)
+    (s.cycle actor.now ≡ 1) × ((i j : ℕ) → i < length ins → j < length outs →
+    slice_index ins i ≡ slice_index outs j → ⊥)
 GoesByMany s w ins outs = ⊥
 
 -- its blocks have room for a firing
 abbrev pub HasItsBlocks : {A S T : Type 0} → Steps A S T → Work A T S → Type 0
-HasItsBlocks s (Inner actor phase state taken put lengths) = (phase < s.cycle actor.now) × HasBlocks s actor.now taken put lengths
+HasItsBlocks s (Inner actor phase state taken put lengths) =
+    (phase < s.cycle actor.now) × HasBlocks s actor.now taken put lengths
 HasItsBlocks s w = Unit {0}
 
 -- and for so many
 abbrev pub Fit : {A S T : Type 0} → Steps A S T → Work A T S → ℕ → Type 0
 Fit s (Inner actor phase state taken put lengths) times =
-    (times * total_in s actor.now phase ≤ vec_capacity taken) × (times * slice_index lengths.items phase ≤ length put.items)
+    (times * total_in s actor.now phase ≤ vec_capacity taken)
+    × (times * slice_index lengths.items phase ≤ length put.items)
 Fit s w times = Unit {0}
 
 -- what they put, where they take b
@@ -58,25 +62,32 @@ HaveManyWorked s times w b w' = ⊥
 -- each takes many samples and puts more: its blocks have room for all of them
 abbrev pub CanWorkMany : {A S T : Type 0} → Steps A S T → ℕ → Work A T S → ℕ → ℕ → Type 0
 CanWorkMany s times (Inner actor phase state taken put lengths) many more =
-    (phase < s.cycle actor.now) × (times * many ≡ sum_in s actor.now phase times) × (times * more ≡ sum_out s actor.now phase times) ×
-    (times * many ≤ vec_capacity taken) × (phase < length lengths.items) × (slice_index lengths.items phase ≡ more) × (times * more ≤ length put.items)
+    (phase < s.cycle actor.now) × (times * many ≡ sum_in s actor.now phase times)
+    × (times * more ≡ sum_out s actor.now phase times) ×
+    (times * many ≤ vec_capacity taken) × (phase < length lengths.items) × (slice_index lengths.items phase ≡ more)
+    × (times * more ≤ length put.items)
 CanWorkMany s times w many more = ⊥
 
 -- an actor that takes from the channels ins and puts on the channels outs can fire so many times
-pub record CanFireMany {A S T : Type 0} (s : Steps A S T) (times : ℕ) (ins outs takes puts : List ℕ) (w : Work A T S) (qs : List (Held T)) : Type 0 where
+pub record CanFireMany {A S T : Type 0} (s : Steps A S T) (times : ℕ) (ins outs takes puts : List ℕ) (w : Work A T S)
+    (qs : List (Held T)) : Type 0 where
   pub ins_are : ArePorts ins takes (length qs)
   pub outs_are : ArePorts outs puts (length qs)
-  pub held : (n : ℕ) → n < length ins → times * slice_index takes (slice_index ins n) ≤ length (samples qs (slice_index ins n))
+  pub held : (n : ℕ) → n < length ins → times * slice_index takes (slice_index ins n) ≤
+      length (samples qs (slice_index ins n))
   pub room : (n : ℕ) → n < length outs →
-      length (samples qs (slice_index outs n)) + times * slice_index puts (slice_index outs n) ≤ room qs (slice_index outs n)
+      length (samples qs (slice_index outs n)) + times * slice_index puts (slice_index outs n) ≤
+      room qs (slice_index outs n)
   pub work : CanWorkMany s times w (sum_by (slice_index takes) ins) (sum_by (slice_index puts) outs)
 
 -- and this is what they do
-pub record AreManyFired {A S T : Type 0} (s : Steps A S T) (times : ℕ) (ins outs takes puts : List ℕ) (w w' : Work A T S) (qs qs' : List (Held T)) : Type 0 where
+pub record AreManyFired {A S T : Type 0} (s : Steps A S T) (times : ℕ) (ins outs takes puts : List ℕ)
+    (w w' : Work A T S) (qs qs' : List (Held T)) : Type 0 where
   pub work : HaveManyWorked s times w (chained (front_at takes ins qs) times) w'
   pub queues : (c : ℕ) → c < length qs →
       samples qs' c ≡ drop (at_ports ins (times * slice_index takes c) c) (samples qs c) ++
-      dealt puts outs (sum_by (slice_index puts) outs) (all_put s w (chained (front_at takes ins qs) times) times) c times
+      dealt puts outs (sum_by (slice_index puts) outs)
+      (all_put s w (chained (front_at takes ins qs) times) times) c times
   pub rooms : (c : ℕ) → c < length qs → room qs' c ≡ room qs c
 
 -- node a of a run can fire so many times

@@ -1,5 +1,6 @@
 -- Runs that are fed in pieces, whole blocks at a time.
-use Rattle.std.specs.Prelude.{◌≡◌, ℕ, ◌+◌, ◌*◌, ◌-◌, ◌^◌, ◌≤◌, ◌<◌, min, List, [], ◌∷◌, ◌++◌, length, sum, Option, Some, None, slice_index_or}
+use Rattle.std.specs.Prelude.{◌≡◌, ℕ, ◌+◌, ◌*◌, ◌-◌, ◌^◌, ◌≤◌, ◌<◌, min, List, [], ◌∷◌, ◌++◌, length, sum, Option, Some}
+use Rattle.std.specs.Prelude.{None, slice_index_or}
 use Rattle.std.specs.List.{flat_map, sum_by}
 use Rattle.sdf_limits.specs.declared.TheConstants.{MOST_PATIENCE}
 use Rattle.sdf_graph.specs.Rates.{rates}
@@ -16,7 +17,8 @@ use Rattle.sdf_answer.specs.Answer.{HasInputs, periods_of}
 use Rattle.sdf_answer.specs.Feeds.{HasRun, AreFull}
 use Rattle.sdf_answer.specs.Rows.{IsTableOf}
 use Rattle.sdf_answer.specs.declared.fault.RunFault.{RunFault}
-use Rattle.sdf_answer.specs.declared.fault.RunFault.TheVariants.{OutOfMemory, InputLength, NotHomed, Patience, NoWorker, SessionFailed}
+use Rattle.sdf_answer.specs.declared.fault.RunFault.TheVariants.{OutOfMemory, InputLength, NotHomed, Patience, NoWorker}
+use Rattle.sdf_answer.specs.declared.fault.RunFault.TheVariants.{SessionFailed}
 use Rattle.sdf_run.specs.declared.mode.Mode.{Mode}
 use Rattle.sdf_run.specs.declared.mode.Mode.TheVariants.{Rows, Rings}
 
@@ -26,7 +28,8 @@ pub record AreBlocks {T : Type 0} (many samples blocks : ℕ) (inputs : List (Li
   pub count : length inputs ≡ many
   pub each : (e : ℕ) → e < length inputs → length (slice_index_or inputs e []) ≡ blocks * samples
 
--- a net, a period of it, and a table for blocks of so many periods; what the feeds left, where none has failed, and what was counted
+-- a net, a period of it, and a table for blocks of so many periods; what the feeds left, where none has failed, and
+-- what was counted
 pub record SessionValue (A S T : Type 0) : Type 0 where
   pub net : Netlist A T
   pub period : Schedule
@@ -65,10 +68,12 @@ IsLive {A} {S} {T} v = (rest : Rest T S) × (v.rest ≡ Some rest)
 
 -- the lists are so many blocks for it
 abbrev pub FeedsBlocks : {A S T : Type 0} → SessionValue A S T → ℕ → List (List T) → Type 0
-FeedsBlocks v blocks inputs = AreBlocks (list_count Inputs v.net.nodes) (v.factor * period_samples v.net.nodes Inputs v.period.repetitions) blocks inputs
+FeedsBlocks v blocks inputs = AreBlocks (list_count Inputs v.net.nodes)
+    (v.factor * period_samples v.net.nodes Inputs v.period.repetitions) blocks inputs
 
 -- it stands after the input lists of so many blocks, of which a run makes these lists: it holds what that run leaves
-pub record StandsAfter {A S T : Type 0} (s : Steps A S T) (v : SessionValue A S T) (blocks : ℕ) (fed made : List (List T)) : Type 0 where
+pub record StandsAfter {A S T : Type 0} (s : Steps A S T) (v : SessionValue A S T) (blocks : ℕ)
+    (fed made : List (List T)) : Type 0 where
   pub given : HasInputs v.net v.period.repetitions (blocks * v.factor) fed
   pub full : AreFull v.net v.period.repetitions (blocks * v.factor) fed
   pub rest : Rest T S
@@ -80,19 +85,26 @@ pub record IsSession {A S T : Type 0} (s : Steps A S T) (v : SessionValue A S T)
   pub period : IsPeriodOf (rates (graph_of s v.net)) v.period
   pub table : IsTableOf (rates (graph_of s v.net)) v.period.repetitions v.factor v.table
   pub may : MayRun v.table v.mode
-  pub stands : IsLive v → (blocks : ℕ) × (fed : List (List T)) × (made : List (List T)) × StandsAfter s v blocks fed made
+  pub stands : IsLive v → (blocks : ℕ) × (fed : List (List T)) × (made : List (List T))
+      × StandsAfter s v blocks fed made
 
--- so many blocks are fed to session v, which is w then: whatever it stood after, it stands after that and these, and what it made
--- of these, behind what a run makes of that, is what one run makes of both
-pub record HasFed {A S T : Type 0} (s : Steps A S T) (v w : SessionValue A S T) (blocks : ℕ) (fed made : List (List T)) (rounds : ℕ) : Type 0 where
+-- so many blocks are fed to session v, which is w then: whatever it stood after, it stands after that and these, and
+-- what it made of these, behind what a run makes of that, is what one run makes of both
+pub record HasFed {A S T : Type 0} (s : Steps A S T) (v w : SessionValue A S T) (blocks : ℕ) (fed made : List (List T))
+    (rounds : ℕ) : Type 0 where
   pub live : IsLive v
   pub whole : FeedsBlocks v blocks fed
   pub count : length made ≡ list_count Outputs v.net.nodes
   pub taken : HasRounds v.table v.period.repetitions v.factor v.mode blocks rounds
   pub rest : Rest T S
-  pub now : w ≡ record v { rest = Some rest; blocks = counted (v.blocks + blocks); rounds = counted (v.rounds + rounds) }
+  pub now : w ≡ record v {
+    rest = Some rest;
+    blocks = counted (v.blocks + blocks);
+    rounds = counted (v.rounds + rounds);
+  }
   pub stands : (few : ℕ) (first all before joined : List (List T)) → StandsAfter s v few first before →
-      AreJoined first fed all → length all ≡ length first → AreJoined before made joined → length joined ≡ length before →
+      AreJoined first fed all → length all ≡ length first → AreJoined before made joined →
+      length joined ≡ length before →
       StandsAfter s w (few + blocks) all joined
 
 -- why lists are not taken: the session is spent, they are no blocks, or memory was refused
@@ -125,12 +137,16 @@ pub record Feed (T : Type 0) : Type 0 where
 -- feeds one after another, from session v to session w
 abbrev pub AreFed : {A S T : Type 0} → Steps A S T → SessionValue A S T → List (Feed T) → SessionValue A S T → Type 0
 AreFed s v [] w = w ≡ v
-AreFed {A} {S} {T} s v (f ∷ feeds) w = (u : SessionValue A S T) × HasFed s v u f.blocks f.fed f.made f.rounds × AreFed s u feeds w
+AreFed {A} {S} {T} s v (f ∷ feeds) w = (u : SessionValue A S T) × HasFed s v u f.blocks f.fed f.made f.rounds
+    × AreFed s u feeds w
 
 -- the outputs of any feeds, one behind the other, are those of one run on all that was fed
 abbrev pub FeedsAreOneRun : {A S T : Type 0} → Steps A S T → Type 0
 FeedsAreOneRun {A} {S} {T} s =
-    (v w : SessionValue A S T) (few : ℕ) (first before all joined : List (List T)) (feeds : List (Feed T)) → StandsAfter s v few first before → AreFed s v feeds w →
-    length all ≡ length first → ((e : ℕ) → slice_index_or all e [] ≡ slice_index_or first e [] ++ flat_map (λ f. slice_index_or f.fed e []) feeds) →
-    length joined ≡ length before → ((e : ℕ) → slice_index_or joined e [] ≡ slice_index_or before e [] ++ flat_map (λ f. slice_index_or f.made e []) feeds) →
+    (v w : SessionValue A S T) (few : ℕ) (first before all joined : List (List T)) (feeds : List (Feed T)) →
+    StandsAfter s v few first before → AreFed s v feeds w →
+    length all ≡ length first → ((e : ℕ) → slice_index_or all e [] ≡
+    slice_index_or first e [] ++ flat_map (λ f. slice_index_or f.fed e []) feeds) →
+    length joined ≡ length before → ((e : ℕ) → slice_index_or joined e [] ≡
+    slice_index_or before e [] ++ flat_map (λ f. slice_index_or f.made e []) feeds) →
     StandsAfter s w (few + sum_by (λ f. f.blocks) feeds) all joined

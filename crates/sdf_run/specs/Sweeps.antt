@@ -1,5 +1,6 @@
 -- A run in blocks of periods, whose nodes fire in whatever order their samples come.
-use Rattle.std.specs.Prelude.{◌≡◌, ℕ, ◌+◌, ◌*◌, ◌^◌, ◌≤◌, ◌<◌, Bool, false, IsTrue, List, length, slice_index, slice_index_or, sum}
+use Rattle.std.specs.Prelude.{◌≡◌, ℕ, ◌+◌, ◌*◌, ◌^◌, ◌≤◌, ◌<◌, Bool, false, IsTrue, List, length, slice_index}
+use Rattle.std.specs.Prelude.{slice_index_or, sum}
 use Rattle.std.specs.declared.vec.Vec.{Vec}
 use Rattle.sdf_graph.specs.Sequences.{IsRunnable}
 use Rattle.sdf_actor.specs.Steps.{Steps}
@@ -15,8 +16,11 @@ use Rattle.sdf_answer.specs.Periods.{AreApart, IsPaced}
 use Rattle.sdf_run.specs.Runs.{Stands}
 use Rattle.sdf_answer.specs.Answer.{periods_of}
 
--- each node a has fired done a times, at least low and at most high periods, and the queues have room for all up to high
-pub record Sweeps {A S T Z : Type 0} (s : Steps A S T) (n : Netlist A T) (inputs : List (List T)) (z : Rows) (q : List ℕ) (periods high : ℕ) (done : List ℕ) (works : List (Work A T S)) (qs : List (Held T)) (outputs : List (Vec T Z)) : Type 0 where
+-- each node a has fired done a times, at least low and at most high periods, and the queues have room for all up to
+-- high
+pub record Sweeps {A S T Z : Type 0} (s : Steps A S T) (n : Netlist A T) (inputs : List (List T)) (z : Rows)
+    (q : List ℕ) (periods high : ℕ) (done : List ℕ) (works : List (Work A T S)) (qs : List (Held T))
+    (outputs : List (Vec T Z)) : Type 0 where
   pub good : IsNet s n
   pub apart : AreApart n
   pub sizes : AreSizes s n z
@@ -31,11 +35,13 @@ pub record Sweeps {A S T Z : Type 0} (s : Steps A S T) (n : Netlist A T) (inputs
   pub to : (a : ℕ) → a < length n.nodes → slice_index done a ≤ high * slice_index q a
   pub fits : (c : ℕ) → c < length n.wires →
       let r = (wiring s n).rates in
-      r.initial c + r.produced c (high * slice_index q (r.source c)) ≤ room qs c + r.consumed c (low * slice_index q (r.target c))
+      r.initial c + r.produced c (high * slice_index q (r.source c)) ≤
+      room qs c + r.consumed c (low * slice_index q (r.target c))
 
 -- so it is in a run
 abbrev pub IsSwept : {A S T : Type 0} → Steps A S T → Run A T S → Type 0
-IsSwept s r = Sweeps s r.net.now (lists r.inputs.now) r.sizes r.repetitions.now r.periods r.high r.done.items r.works.items r.queues.items r.outputs.items
+IsSwept s r = Sweeps s r.net.now (lists r.inputs.now) r.sizes r.repetitions.now r.periods r.high r.done.items
+    r.works.items r.queues.items r.outputs.items
 
 -- a node may fire within the block
 abbrev pub MayFire : {A S T : Type 0} → Steps A S T → Run A T S → ℕ → Type 0
@@ -49,13 +55,15 @@ IsLeft r a many = slice_index r.done.items a + many ≡ r.high * slice_index r.r
 abbrev pub AreHeld : {A S T : Type 0} → Steps A S T → Run A T S → ℕ → ℕ → Type 0
 AreHeld {A} {S} {T} s r a times =
     (d : Work A T S) (n : ℕ) → let ins = (wiring s r.net.now).ins a in let c = slice_index ins n in
-    n < length ins → times * slice_index (at_phase r.sizes.takes (phase_at (slice_index_or r.works.items a d))) c ≤ length (samples r.queues.items c)
+    n < length ins → times * slice_index (at_phase r.sizes.takes (phase_at (slice_index_or r.works.items a d))) c ≤
+    length (samples r.queues.items c)
 
 -- the queues have room for a block of so many periods
 abbrev pub HasRoom : {A S T : Type 0} → Steps A S T → ℕ → Run A T S → Type 0
 HasRoom s size r =
     (c : ℕ) → c < length r.net.now.wires →
-    (wiring s r.net.now).rates.initial c + size * (wiring s r.net.now).rates.produced c (slice_index r.repetitions.now ((wiring s r.net.now).rates.source c)) ≤ room r.queues.items c
+    (wiring s r.net.now).rates.initial c + size * (wiring s r.net.now).rates.produced c
+    (slice_index r.repetitions.now ((wiring s r.net.now).rates.source c)) ≤ room r.queues.items c
 
 -- what firings leave as it was
 pub record Keeps {A S T : Type 0} (r r' : Run A T S) : Type 0 where

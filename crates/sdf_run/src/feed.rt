@@ -60,8 +60,10 @@ fn run<A: Actor>(
 ) -> Result<(Vec<Vec<A::Token>>, Rest<A::Token, A::State>), AllocError>
     requires period { IsPeriodOf (rates (graph_of A.steps net.now)) period.now }
     requires inputs { HasInputs net.now period.now.repetitions periods (lists inputs.now) }
-    requires outputs { AreEmpty outputs.items (list_count Outputs net.now.nodes) (periods * period_samples net.now.nodes Outputs period.now.repetitions) }
-    ensures { IfOk result (λ made. HasRun A.steps net.now (lists inputs.now) (periods_of period.now.repetitions periods) (lists made.0.items) made.1) }
+    requires outputs { AreEmpty outputs.items (list_count Outputs net.now.nodes)
+        (periods * period_samples net.now.nodes Outputs period.now.repetitions) }
+    ensures { IfOk result (λ made. HasRun A.steps net.now (lists inputs.now) (periods_of period.now.repetitions periods)
+        (lists made.0.items) made.1) }
 {
     net_facts(net);
     histories_make_runs::<A>();
@@ -86,8 +88,10 @@ fn fill<A: Actor>(
     requires period { IsPeriodOf (rates (graph_of A.steps net.now)) period.now }
     requires inputs { HasInputs net.now period.now.repetitions periods (lists inputs.now) }
     requires some { 0 < period_samples net.now.nodes Inputs period.now.repetitions }
-    requires outputs { AreEmpty outputs.items (list_count Outputs net.now.nodes) (periods * period_samples net.now.nodes Outputs period.now.repetitions) }
-    ensures { IfOk result (λ made. HasRun A.steps net.now (lists inputs.now) (periods_of period.now.repetitions periods) (lists made.0.items) made.1) }
+    requires outputs { AreEmpty outputs.items (list_count Outputs net.now.nodes)
+        (periods * period_samples net.now.nodes Outputs period.now.repetitions) }
+    ensures { IfOk result (λ made. HasRun A.steps net.now (lists inputs.now) (periods_of period.now.repetitions periods)
+        (lists made.0.items) made.1) }
 {
     net_facts(net);
     histories_make_runs::<A>();
@@ -107,7 +111,9 @@ pub fn feed_one<A: Actor>(
 ) -> Result<(Ran<A::Token>, Rest<A::Token, A::State>), RunFault>
     requires period { IsPeriodOf (rates (graph_of A.steps net.now)) period.now }
     ensures { let q = period.now.repetitions in MatchResult result
-        (λ fed. HasInputs net.now q periods (lists inputs.now) × HasRun A.steps net.now (lists inputs.now) (periods_of q periods) (lists fed.0.outputs.items) fed.1 × (fed.0.rounds ≡ 0))
+        (λ fed. HasInputs net.now q periods (lists inputs.now)
+        × HasRun A.steps net.now (lists inputs.now) (periods_of q periods) (lists fed.0.outputs.items) fed.1
+        × (fed.0.rounds ≡ 0))
         (IsRunFault net.now q periods (lists inputs.now)) }
 {
     let least = periods as usize * net.samples_in();
@@ -120,8 +126,8 @@ pub fn feed_one<A: Actor>(
     Ok((Ran { outputs, rounds: 0 }, rest))
 }
 
-/// Goes on from where runs of a net left it, with all samples read: by further periods on further inputs. What it makes, joined to
-/// what they made, is what one run on all inputs makes.
+/// Goes on from where runs of a net left it, with all samples read: by further periods on further inputs. What it
+/// makes, joined to what they made, is what one run on all inputs makes.
 pub fn resume_one<A: Actor>(
     alloc: Global,
     net: &Net<A>,
@@ -131,9 +137,11 @@ pub fn resume_one<A: Actor>(
     inputs: &[Vec<A::Token>],
 ) -> Result<(Ran<A::Token>, Rest<A::Token, A::State>), RunFault>
     requires period { IsPeriodOf (rates (graph_of A.steps net.now)) period.now }
-    requires rest { (first : List (List A.Token)) × (few : ℕ) × IsRest A.steps net.now first (periods_of period.now.repetitions few) rest.now }
+    requires rest { (first : List (List A.Token)) × (few : ℕ)
+        × IsRest A.steps net.now first (periods_of period.now.repetitions few) rest.now }
     ensures { let q = period.now.repetitions in MatchResult result
-        (λ fed. GoesOnBy A.steps net.now q rest.now periods (lists inputs.now) (lists fed.0.outputs.items) fed.1 × (fed.0.rounds ≡ 0))
+        (λ fed. GoesOnBy A.steps net.now q rest.now periods (lists inputs.now) (lists fed.0.outputs.items) fed.1
+        × (fed.0.rounds ≡ 0))
         (IsRunFault net.now q periods (lists inputs.now)) }
 {
     nets_have_periods(net);

@@ -1,6 +1,7 @@
 //! The runner on one thread.
 
-ghost use Rattle.std.specs.Prelude.{◌≡◌, ◌*◌, ◌≤◌, ◌<◌, ◌↔◌, ℕ, List, [], length, map, slice_index_or, IsTrue, MatchResult, IfOk, IfNone};
+ghost use Rattle.std.specs.Prelude.{◌≡◌, ◌*◌, ◌≤◌, ◌<◌, ◌↔◌, ℕ, List, [], length, map, slice_index_or, IsTrue};
+ghost use Rattle.std.specs.Prelude.{MatchResult, IfOk, IfNone};
 ghost use Rattle.sdf_graph.specs.Rates.{rates, IsShape, IsAlike};
 ghost use Rattle.sdf_actor.specs.Nets.{wiring, IsNet};
 ghost use Rattle.sdf_actor.specs.NetFaults.{IsAccepted};
@@ -59,7 +60,8 @@ pub(crate) fn fired<'a, A: Actor>(
 ) -> Result<Run<'a, A>, AllocError>
     requires period { IsPeriodOf (rates (graph_of A.steps net.now)) period.now }
     requires inputs { HasInputs net.now period.now.repetitions periods (lists inputs.now) }
-    requires outputs { AreEmpty outputs.items (list_count Outputs net.now.nodes) (periods * period_samples net.now.nodes Outputs period.now.repetitions) }
+    requires outputs { AreEmpty outputs.items (list_count Outputs net.now.nodes)
+        (periods * period_samples net.now.nodes Outputs period.now.repetitions) }
     ensures { IfOk result (λ run. HasFired A.steps net.now (lists inputs.now) period.now.repetitions periods run) }
 {
     net_facts(net);
@@ -102,8 +104,10 @@ fn run<A: Actor>(
 ) -> Result<Vec<Vec<A::Token>>, AllocError>
     requires period { IsPeriodOf (rates (graph_of A.steps net.now)) period.now }
     requires inputs { HasInputs net.now period.now.repetitions periods (lists inputs.now) }
-    requires outputs { AreEmpty outputs.items (list_count Outputs net.now.nodes) (periods * period_samples net.now.nodes Outputs period.now.repetitions) }
-    ensures { IfOk result (λ made. AreOutputs A.steps net.now (lists inputs.now) (periods_of period.now.repetitions periods) (lists made.items)) }
+    requires outputs { AreEmpty outputs.items (list_count Outputs net.now.nodes)
+        (periods * period_samples net.now.nodes Outputs period.now.repetitions) }
+    ensures { IfOk result (λ made. AreOutputs A.steps net.now (lists inputs.now)
+        (periods_of period.now.repetitions periods) (lists made.items)) }
 {
     net_facts(net);
     histories_make_outputs::<A>();
@@ -124,8 +128,10 @@ fn fill<A: Actor>(
     requires period { IsPeriodOf (rates (graph_of A.steps net.now)) period.now }
     requires inputs { HasInputs net.now period.now.repetitions periods (lists inputs.now) }
     requires some { 0 < period_samples net.now.nodes Inputs period.now.repetitions }
-    requires outputs { AreEmpty outputs.items (list_count Outputs net.now.nodes) (periods * period_samples net.now.nodes Outputs period.now.repetitions) }
-    ensures { IfOk result (λ made. AreOutputs A.steps net.now (lists inputs.now) (periods_of period.now.repetitions periods) (lists made.items)) }
+    requires outputs { AreEmpty outputs.items (list_count Outputs net.now.nodes)
+        (periods * period_samples net.now.nodes Outputs period.now.repetitions) }
+    ensures { IfOk result (λ made. AreOutputs A.steps net.now (lists inputs.now)
+        (periods_of period.now.repetitions periods) (lists made.items)) }
 {
     net_facts(net);
     histories_make_outputs::<A>();
@@ -148,7 +154,9 @@ pub fn run_one<A: Actor>(
 ) -> Result<Ran<A::Token>, RunFault>
     requires period { IsPeriodOf (rates (graph_of A.steps net.now)) period.now }
     ensures { let q = period.now.repetitions in MatchResult result
-        (λ ran. HasInputs net.now q periods (lists inputs.now) × AreOutputs A.steps net.now (lists inputs.now) (periods_of q periods) (lists ran.outputs.items) × (ran.rounds ≡ 0))
+        (λ ran. HasInputs net.now q periods (lists inputs.now)
+        × AreOutputs A.steps net.now (lists inputs.now) (periods_of q periods) (lists ran.outputs.items)
+        × (ran.rounds ≡ 0))
         (IsRunFault net.now q periods (lists inputs.now)) }
 {
     let least = periods as usize * net.samples_in();

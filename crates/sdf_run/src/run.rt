@@ -1,6 +1,7 @@
 //! A run on one thread.
 
-ghost use Rattle.std.specs.Prelude.{◌≡◌, ◌+◌, ◌*◌, ◌≤◌, ◌<◌, ◌↔◌, ℕ, true, false, length, slice_index, slice_index_or, IsTrue};
+ghost use Rattle.std.specs.Prelude.{◌≡◌, ◌+◌, ◌*◌, ◌≤◌, ◌<◌, ◌↔◌, ℕ, true, false, length, slice_index, slice_index_or};
+ghost use Rattle.std.specs.Prelude.{IsTrue};
 ghost use Rattle.sdf_actor.specs.Steps.{PutsFit};
 ghost use Rattle.sdf_run.specs.AtOnce.{CanFireAtOnceAt, AreFiredAt};
 ghost use Rattle.sdf_run.specs.Many.{Fit, CanFireManyAt, AreManyFiredAt};
@@ -141,7 +142,8 @@ impl<'a, A: Actor> Run<'a, A> {
         requires may { MayFire A.steps self.now a }
         requires swept { IsSwept A.steps self.now }
         ensures some { 0 < result }
-        ensures left { slice_index self.now.done.items a + result ≤ self.now.high * slice_index self.now.repetitions.now a }
+        ensures left { slice_index self.now.done.items a + result ≤
+            self.now.high * slice_index self.now.repetitions.now a }
         ensures held { AreHeld A.steps self.now a result }
     {
         step_laws::<A>();
@@ -155,7 +157,8 @@ impl<'a, A: Actor> Run<'a, A> {
         requires may { MayFire A.steps self.now a }
         requires swept { IsSwept A.steps self.now }
         ensures some { 0 < result }
-        ensures left { slice_index self.now.done.items a + result ≤ self.now.high * slice_index self.now.repetitions.now a }
+        ensures left { slice_index self.now.done.items a + result ≤
+            self.now.high * slice_index self.now.repetitions.now a }
         ensures held { AreHeld A.steps self.now a result }
         ensures fit { (d : _) → Fit A.steps (slice_index_or self.now.works.items a d) result }
     {
@@ -223,7 +226,8 @@ impl<'a, A: Actor> Run<'a, A> {
         ensures swept { IsSwept A.steps self.new }
         ensures keeps { Keeps self.old self.new }
         ensures high { self.new.high ≡ self.old.high }
-        ensures done { (a : ℕ) → a < length self.old.net.now.nodes → slice_index self.new.done.items a ≡ self.old.high * slice_index self.old.repetitions.now a }
+        ensures done { (a : ℕ) → a < length self.old.net.now.nodes →
+            slice_index self.new.done.items a ≡ self.old.high * slice_index self.old.repetitions.now a }
     {
         sdf_actor::laws::nets_are_wired::<A>();
         sdf_graph::laws::sums_rise();
@@ -242,7 +246,8 @@ impl<'a, A: Actor> Run<'a, A> {
         requires room { HasRoom A.steps size self.old }
         ensures keeps { Keeps self.old self.new }
         ensures swept { IsSwept A.steps self.new }
-        ensures done { (a : ℕ) → a < length self.old.net.now.nodes → slice_index self.new.done.items a ≡ self.old.periods * slice_index self.old.repetitions.now a }
+        ensures done { (a : ℕ) → a < length self.old.net.now.nodes →
+            slice_index self.new.done.items a ≡ self.old.periods * slice_index self.old.repetitions.now a }
     {
         while self.high < self.periods {
             self.high = next_block(self.high, size, self.periods);

@@ -12,7 +12,8 @@ ghost use Rattle.sdf_answer.specs.Answer.{periods_of, IsRunFault};
 ghost use Rattle.sdf_answer.specs.Feeds.{GoesOnBy};
 ghost use Rattle.sdf_answer.specs.Rows.{IsTableOf};
 ghost use Rattle.sdf_answer.specs.declared.fault.RunFault.TheVariants.{SessionFailed};
-ghost use Rattle.sdf_run.specs.Sessions.{AreBlocks, AreNone, SessionValue, MayRun, IsModeFault, HasRounds, IsLive, StandsAfter, HasFed, IsSession, IsFeedFault, after_fault, FeedsAreOneRun};
+ghost use Rattle.sdf_run.specs.Sessions.{AreBlocks, AreNone, SessionValue, MayRun, IsModeFault, HasRounds, IsLive};
+ghost use Rattle.sdf_run.specs.Sessions.{StandsAfter, HasFed, IsSession, IsFeedFault, after_fault, FeedsAreOneRun};
 
 use crate::mode::Mode;
 use sdf_actor::{Actor, Net, Rest};
@@ -29,8 +30,9 @@ use std::alloc::Global;
 use std::marker::Model;
 use std::thread::Threads;
 
-/// A run of a net that is fed in pieces, each of whole blocks: what its feeds make, joined, is what one run makes of all that was fed.
-/// It holds the states of the actors and the samples on the channels, and nothing that was fed before.
+/// A run of a net that is fed in pieces, each of whole blocks: what its feeds make, joined, is what one run makes of
+/// all that was fed. It holds the states of the actors and the samples on the channels, and nothing that was fed
+/// before.
 #[derive(Drop)]
 pub struct Session<'a, A: Actor> {
     net: &'a Net<A>,
@@ -49,12 +51,31 @@ impl<'a, A: Actor> Model for Session<'a, A> {
 
     ghost Value = { SessionValue A A.State A.Token };
 
-    ghost view = { λ s. record { net = s.net.now; period = s.period.now; factor = s.j; table = s.table.now; mode = s.mode; rest = s.rest; blocks = s.blocks; rounds = s.rounds } };
+    ghost view = { λ s. record {
+      net = s.net.now;
+      period = s.period.now;
+      factor = s.j;
+      table = s.table.now;
+      mode = s.mode;
+      rest = s.rest;
+      blocks = s.blocks;
+      rounds = s.rounds;
+    } };
 
-    ghost invariant = { λ s. IsSession A.steps (record { net = s.net.now; period = s.period.now; factor = s.j; table = s.table.now; mode = s.mode; rest = s.rest; blocks = s.blocks; rounds = s.rounds }) };
+    ghost invariant = { λ s. IsSession A.steps (record {
+      net = s.net.now;
+      period = s.period.now;
+      factor = s.j;
+      table = s.table.now;
+      mode = s.mode;
+      rest = s.rest;
+      blocks = s.blocks;
+      rounds = s.rounds;
+    }) };
 }
 
-/// What was counted over all feeds of a session that were answered. A count that would pass its greatest number stays there.
+/// What was counted over all feeds of a session that were answered. A count that would pass its greatest number stays
+/// there.
 #[derive(Debug, Clone, Copy, PartialEq, Eq)]
 pub struct Closed {
     pub blocks: u64,
@@ -116,9 +137,11 @@ fn go_on<R: Threads + AllocGlobal + Sync, A: Actor, G: Gate>(
     requires period { IsPeriodOf (rates (graph_of A.steps net.now)) period.now }
     requires table { IsTableOf (rates (graph_of A.steps net.now)) period.now.repetitions j table.now }
     requires may { MayRun table.now mode }
-    requires rest { (first : List (List A.Token)) × (few : ℕ) × IsRest A.steps net.now first (periods_of period.now.repetitions few) rest.now }
+    requires rest { (first : List (List A.Token)) × (few : ℕ)
+        × IsRest A.steps net.now first (periods_of period.now.repetitions few) rest.now }
     ensures { let q = period.now.repetitions in MatchResult result
-        (λ fed. GoesOnBy A.steps net.now q rest.now (blocks * j) (lists inputs.now) (lists fed.0.outputs.items) fed.1 × HasRounds table.now q j mode blocks fed.0.rounds)
+        (λ fed. GoesOnBy A.steps net.now q rest.now (blocks * j) (lists inputs.now) (lists fed.0.outputs.items) fed.1
+        × HasRounds table.now q j mode blocks fed.0.rounds)
         (IsRunFault net.now q (blocks * j) (lists inputs.now)) }
 {
     match mode {
@@ -144,8 +167,20 @@ impl<'a, A: Actor> Session<'a, A> {
         requires period { IsPeriodOf (rates (graph_of A.steps net.now)) period.now }
         requires table { IsTableOf (rates (graph_of A.steps net.now)) period.now.repetitions j table.now }
         ensures tests { MatchResult result (λ _. MayRun table.now mode) (IsModeFault table.now mode) }
-        ensures value { IfOk result (λ v. IsLive v × (v ≡ record { net = net.now; period = period.now; factor = j; table = table.now; mode = mode; rest = v.rest; blocks = 0; rounds = 0 })) }
-        ensures stands { IfOk result (λ v. (fed made : List (List A.Token)) → AreNone (list_count Inputs net.now.nodes) fed → AreNone (list_count Outputs net.now.nodes) made → StandsAfter A.steps v 0 fed made) }
+        ensures value { IfOk result (λ v. IsLive v × (v ≡
+            record {
+              net = net.now;
+              period = period.now;
+              factor = j;
+              table = table.now;
+              mode = mode;
+              rest = v.rest;
+              blocks = 0;
+              rounds = 0;
+            })) }
+        ensures stands { IfOk result (λ v. (fed made : List (List A.Token)) →
+            AreNone (list_count Inputs net.now.nodes) fed → AreNone (list_count Outputs net.now.nodes) made →
+            StandsAfter A.steps v 0 fed made) }
     {
         net_facts(net);
         histories_make_runs::<A>();
@@ -170,11 +205,11 @@ impl<'a, A: Actor> Session<'a, A> {
         let _ = &self.net;
     }
 
-    /// Runs the blocks of the lists, of which each has as many samples of each as a block reads, and gives what they make beyond what
-    /// was made before. No sample is no block, and makes empty lists.
+    /// Runs the blocks of the lists, of which each has as many samples of each as a block reads, and gives what they
+    /// make beyond what was made before. No sample is no block, and makes empty lists.
     ///
-    /// Lists that are no blocks are 29 InputLength, and leave the session as it was. After 1 OutOfMemory or 32 NoWorker it is spent, and answers
-    /// 33 SessionFailed.
+    /// Lists that are no blocks are 29 InputLength, and leave the session as it was. After 1 OutOfMemory or 32 NoWorker
+    /// it is spent, and answers 33 SessionFailed.
     pub fn feed<R: Threads + AllocGlobal + Sync, G: Gate>(
         &mut self,
         rt: &R,
@@ -182,7 +217,8 @@ impl<'a, A: Actor> Session<'a, A> {
         gate: &G,
     ) -> Result<Ran<A::Token>, RunFault>
         ensures { MatchResult result
-            (λ ran. (blocks : ℕ) × HasFed A.steps self.old self.new blocks (lists inputs.now) (lists ran.outputs.items) ran.rounds)
+            (λ ran. (blocks : ℕ) × HasFed A.steps self.old self.new blocks (lists inputs.now)
+            (lists ran.outputs.items) ran.rounds)
             (λ fault. IsFeedFault self.old (lists inputs.now) fault × (self.new ≡ after_fault self.old fault)) }
     {
         net_facts(self.net);
@@ -219,7 +255,8 @@ impl<'a, A: Actor> Session<'a, A> {
         }
     }
 
-    /// Ends a session, and tells how many blocks and rounds the feeds had that were answered. A spent one is 33 SessionFailed.
+    /// Ends a session, and tells how many blocks and rounds the feeds had that were answered. A spent one is 33
+    /// SessionFailed.
     pub fn close(self) -> Result<Closed, RunFault>
         ensures { MatchResult result
             (λ closed. IsLive self.entry × (closed.blocks ≡ self.entry.blocks) × (closed.rounds ≡ self.entry.rounds))

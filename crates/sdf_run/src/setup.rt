@@ -49,7 +49,8 @@ fn longer<T: Copy>(one: Vec<T>, other: Vec<T>) -> Vec<T>
 /// So many fillers more than a firing needs have the blocks of an actor, so that many firings fit.
 const MORE: usize = 1024;
 
-/// A block with a place for each sample that a firing at any phase moves at some ports and some more, and the length at each phase.
+/// A block with a place for each sample that a firing at any phase moves at some ports and some more, and the length at
+/// each phase.
 fn make_blocks<T: Copy>(
     alloc: Global,
     ports: &[usize],
@@ -59,7 +60,8 @@ fn make_blocks<T: Copy>(
     filler: T,
 ) -> Result<(Vec<T>, Vec<usize>), AllocError>
     requires phases { (j : ℕ) → j < cycle → j < length (rows_on side sizes.now) }
-    requires ports { (j i : ℕ) → j < cycle → i < length ports.now → slice_index ports.now i < length (at_phase (rows_on side sizes.now) j) }
+    requires ports { (j i : ℕ) → j < cycle → i < length ports.now →
+        slice_index ports.now i < length (at_phase (rows_on side sizes.now) j) }
     ensures { IfOk result (λ b. (vec_len b.1 ≡ cycle) × ((j : ℕ) → j < cycle →
         (slice_index b.1.items j ≡ sum_by (slice_index (at_phase (rows_on side sizes.now) j)) ports.now)
         × (sum_by (slice_index (at_phase (rows_on side sizes.now) j)) ports.now ≤ vec_len b.0))) }
@@ -138,7 +140,9 @@ pub(crate) fn make_works<'a, A: Actor>(
 ) -> Result<Vec<Work<'a, A>>, AllocError>
     requires net { IsNet A.steps net.now }
     requires sizes { AreSizes A.steps net.now sizes.now }
-    ensures { IfOk result (λ v. (vec_len v ≡ length net.now.nodes) × ((a : ℕ) (d : _) → a < length net.now.nodes → BeginsWork A.steps (node net.now a) (slice_index_or v.items a d))) }
+    ensures { IfOk result (λ v. (vec_len v ≡ length net.now.nodes)
+        × ((a : ℕ) (d : _) → a < length net.now.nodes →
+        BeginsWork A.steps (node net.now a) (slice_index_or v.items a d))) }
 {
     let mut works = Vec::with_capacity(alloc, net.len())?;
     for a in 0..net.len() {

@@ -95,7 +95,9 @@ fn put_front<T: Copy>(ports: &Ports, block: &Vec<T>, many: usize, queues: &mut [
     requires room { HaveRoom ports.now.channels.now ports.now.sizes.now queues.old }
     requires long { many ≤ length block.now.items }
     requires many { many ≡ sum_by (slice_index ports.now.sizes.now) ports.now.channels.now }
-    ensures queues { (c : ℕ) → c < length queues.old → samples queues.new c ≡ samples queues.old c ++ spread (slice_index ports.now.sizes.now) ports.now.channels.now (take many block.now.items) c }
+    ensures queues { (c : ℕ) → c < length queues.old →
+        samples queues.new c ≡ samples queues.old c ++ spread (slice_index ports.now.sizes.now) ports.now.channels.now
+        (take many block.now.items) c }
     ensures rooms { (c : ℕ) → c < length queues.old → room queues.new c ≡ room queues.old c }
 {
     put_block(ports.channels, ports.sizes, &block[..many], queues);
@@ -111,11 +113,16 @@ fn put_fronts<T: Copy>(
     queues: &mut [Queue<T>],
 )
     requires ports { ArePorts ports.now.channels.now ports.now.sizes.now (length queues.old) }
-    requires room { (n : ℕ) → n < length ports.now.channels.now → length (samples queues.old (slice_index ports.now.channels.now n)) + times * slice_index ports.now.sizes.now (slice_index ports.now.channels.now n) ≤ room queues.old (slice_index ports.now.channels.now n) }
+    requires room { (n : ℕ) → n < length ports.now.channels.now →
+        length (samples queues.old (slice_index ports.now.channels.now n))
+        + times * slice_index ports.now.sizes.now (slice_index ports.now.channels.now n) ≤
+        room queues.old (slice_index ports.now.channels.now n) }
     requires long { many ≤ length block.now.items }
     requires many { many ≡ times * size }
     requires size { size ≡ sum_by (slice_index ports.now.sizes.now) ports.now.channels.now }
-    ensures queues { (c : ℕ) → c < length queues.old → samples queues.new c ≡ samples queues.old c ++ dealt ports.now.sizes.now ports.now.channels.now size (take many block.now.items) c times }
+    ensures queues { (c : ℕ) → c < length queues.old →
+        samples queues.new c ≡ samples queues.old c ++ dealt ports.now.sizes.now ports.now.channels.now size
+        (take many block.now.items) c times }
     ensures rooms { (c : ℕ) → c < length queues.old → room queues.new c ≡ room queues.old c }
 {
     put_blocks(
@@ -130,7 +137,8 @@ fn put_fronts<T: Copy>(
 
 /// Whether no channel is on both sides.
 fn are_apart(ins: &[usize], outs: &[usize]) -> bool
-    ensures { IsTrue result → (i j : ℕ) → i < length ins.now → j < length outs.now → slice_index ins.now i ≡ slice_index outs.now j → ⊥ }
+    ensures { IsTrue result → (i j : ℕ) → i < length ins.now → j < length outs.now →
+        slice_index ins.now i ≡ slice_index outs.now j → ⊥ }
 {
     for from in ins {
         if has(outs, *from) {
@@ -177,13 +185,23 @@ fn fire_through<A: Actor>(
     requires one_in { length ins.now.channels.now ≡ 1 }
     requires one_out { length outs.now.channels.now ≡ 1 }
     requires apart { slice_index ins.now.channels.now 0 ≡ slice_index outs.now.channels.now 0 → ⊥ }
-    requires taken { times * slice_index ins.now.sizes.now (slice_index ins.now.channels.now 0) ≡ sum_in A.steps actor.now phase times }
-    requires put { times * slice_index outs.now.sizes.now (slice_index outs.now.channels.now 0) ≡ sum_out A.steps actor.now phase times }
-    requires held { times * slice_index ins.now.sizes.now (slice_index ins.now.channels.now 0) ≤ length (samples queues.old (slice_index ins.now.channels.now 0)) }
-    requires room { length (samples queues.old (slice_index outs.now.channels.now 0)) + times * slice_index outs.now.sizes.now (slice_index outs.now.channels.now 0) ≤ room queues.old (slice_index outs.now.channels.now 0) }
-    ensures state { state.new ≡ state_at A.steps actor.now phase state.old (fronts times ins.now.sizes.now ins.now.channels.now queues.old) times }
-    ensures queues { (c : ℕ) → c < length queues.old → samples queues.new c ≡ drop (at_ports ins.now.channels.now (times * slice_index ins.now.sizes.now c) c) (samples queues.old c) ++
-        spread (λ d. times * slice_index outs.now.sizes.now d) outs.now.channels.now (puts_to A.steps actor.now phase state.old (fronts times ins.now.sizes.now ins.now.channels.now queues.old) times) c }
+    requires taken { times * slice_index ins.now.sizes.now (slice_index ins.now.channels.now 0) ≡
+        sum_in A.steps actor.now phase times }
+    requires put { times * slice_index outs.now.sizes.now (slice_index outs.now.channels.now 0) ≡
+        sum_out A.steps actor.now phase times }
+    requires held { times * slice_index ins.now.sizes.now (slice_index ins.now.channels.now 0) ≤
+        length (samples queues.old (slice_index ins.now.channels.now 0)) }
+    requires room { length (samples queues.old (slice_index outs.now.channels.now 0))
+        + times * slice_index outs.now.sizes.now (slice_index outs.now.channels.now 0) ≤
+        room queues.old (slice_index outs.now.channels.now 0) }
+    ensures state { state.new ≡ state_at A.steps actor.now phase state.old
+        (fronts times ins.now.sizes.now ins.now.channels.now queues.old) times }
+    ensures queues { (c : ℕ) → c < length queues.old →
+        samples queues.new c ≡ drop (at_ports ins.now.channels.now (times * slice_index ins.now.sizes.now c) c)
+        (samples queues.old c) ++
+        spread (λ d. times * slice_index outs.now.sizes.now d) outs.now.channels.now
+        (puts_to A.steps actor.now phase state.old (fronts times ins.now.sizes.now ins.now.channels.now
+        queues.old) times) c }
     ensures rooms { (c : ℕ) → c < length queues.old → room queues.new c ≡ room queues.old c }
 {
     let from = ins.channels[0];
@@ -219,10 +237,13 @@ impl<'a, A: Actor> Work<'a, A> {
         }
     }
 
-    /// One firing of an actor: from each channel into it its block is taken, and on each channel out of it a block is put.
+    /// One firing of an actor: from each channel into it its block is taken, and on each channel out of it a block is
+    /// put.
     pub(crate) fn fire(&mut self, ins: &Ports, outs: &Ports, queues: &mut [Queue<A::Token>])
-        requires { CanFire A.steps ins.now.channels.now outs.now.channels.now ins.now.sizes.now outs.now.sizes.now self.old queues.old }
-        ensures { IsFired A.steps ins.now.channels.now outs.now.channels.now ins.now.sizes.now outs.now.sizes.now self.old self.new queues.old queues.new }
+        requires { CanFire A.steps ins.now.channels.now outs.now.channels.now ins.now.sizes.now outs.now.sizes.now
+            self.old queues.old }
+        ensures { IsFired A.steps ins.now.channels.now outs.now.channels.now ins.now.sizes.now outs.now.sizes.now
+            self.old self.new queues.old queues.new }
     {
         if let Work::Inner {
             actor,
@@ -255,8 +276,8 @@ impl<'a, A: Actor> Work<'a, A> {
         }
     }
 
-    /// So many firings at once: from the channel into the node all that they take is taken, and on the channel out of it all
-    /// that they put is put.
+    /// So many firings at once: from the channel into the node all that they take is taken, and on the channel out of
+    /// it all that they put is put.
     pub(crate) fn fire_at_once(
         &mut self,
         times: usize,
@@ -267,8 +288,10 @@ impl<'a, A: Actor> Work<'a, A> {
         queues: &mut [Queue<A::Token>],
         outputs: &mut [Vec<A::Token>],
     )
-        requires { CanFireAtOnce A.steps (lists inputs.now) times ins.now.channels.now outs.now.channels.now ins.now.sizes.now outs.now.sizes.now self.old queues.old outputs.old }
-        ensures { AreFired A.steps (lists inputs.now) times ins.now.channels.now outs.now.channels.now ins.now.sizes.now outs.now.sizes.now self.old self.new queues.old queues.new outputs.old outputs.new }
+        requires { CanFireAtOnce A.steps (lists inputs.now) times ins.now.channels.now outs.now.channels.now
+            ins.now.sizes.now outs.now.sizes.now self.old queues.old outputs.old }
+        ensures { AreFired A.steps (lists inputs.now) times ins.now.channels.now outs.now.channels.now ins.now.sizes.now
+            outs.now.sizes.now self.old self.new queues.old queues.new outputs.old outputs.new }
     {
         match self {
             Work::Source { ext, next, block } => {
@@ -325,8 +348,8 @@ impl<'a, A: Actor> Work<'a, A> {
         }
     }
 
-    /// So many firings of an actor of one phase: from each channel into it their blocks are taken, and on each channel out of it
-    /// their blocks are put.
+    /// So many firings of an actor of one phase: from each channel into it their blocks are taken, and on each channel
+    /// out of it their blocks are put.
     pub(crate) fn fire_many(
         &mut self,
         times: usize,
@@ -334,8 +357,10 @@ impl<'a, A: Actor> Work<'a, A> {
         outs: &Ports,
         queues: &mut [Queue<A::Token>],
     )
-        requires { CanFireMany A.steps times ins.now.channels.now outs.now.channels.now ins.now.sizes.now outs.now.sizes.now self.old queues.old }
-        ensures { AreManyFired A.steps times ins.now.channels.now outs.now.channels.now ins.now.sizes.now outs.now.sizes.now self.old self.new queues.old queues.new }
+        requires { CanFireMany A.steps times ins.now.channels.now outs.now.channels.now ins.now.sizes.now
+            outs.now.sizes.now self.old queues.old }
+        ensures { AreManyFired A.steps times ins.now.channels.now outs.now.channels.now ins.now.sizes.now
+            outs.now.sizes.now self.old self.new queues.old queues.new }
     {
         if let Work::Inner {
             actor,

@@ -7,7 +7,8 @@ use Rattle.sdf_graph.specs.Sequences.{IsRunnable}
 use Rattle.sdf_sched.specs.Pick.{Chooses, IsChoice}
 use Rattle.sdf_sched.proofs.Updates.{place_of, not_falling}
 
-module _ (P : Type 0) (chooses : Chooses P) (g : Shape) (q k : ℕ → ℕ) (p p' : P) (a : ℕ) (c : IsChoice chooses g q p k a p') where
+module _ (P : Type 0) (chooses : Chooses P) (g : Shape) (q k : ℕ → ℕ) (p p' : P) (a : ℕ)
+    (c : IsChoice chooses g q p k a p') where
   pub is_runnable : IsRunnable (rates g) q k a
   is_runnable = (c.runnable.each a).0 (c.at, c.below, get_or_default c.among c.at a 0 c.below ∙ c.is)
 

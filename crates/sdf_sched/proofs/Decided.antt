@@ -1,5 +1,6 @@
 -- Some sequence of enabled firings completes a period, or none does: a greedy schedule is fired to where it stops.
-use Rattle.std.proofs.Common.{◌≡◌, ℕ, zero, suc, ◌+◌, ◌-◌, ◌≤◌, ◌<◌, List, [], ◌∷◌, ◌++◌, length, get_or, take, sym, subst, inl, inr, ◌⊎◌, arith}
+use Rattle.std.proofs.Common.{◌≡◌, ℕ, zero, suc, ◌+◌, ◌-◌, ◌≤◌, ◌<◌, List, [], ◌∷◌, ◌++◌, length, get_or, take, sym}
+use Rattle.std.proofs.Common.{subst, inl, inr, ◌⊎◌, arith}
 use Rattle.std.proofs.lemmas.Bool.{cases_lt, cases_eq}
 use Rattle.sdf_graph.specs.Rates.{Rates, IsSound, sum_to}
 use Rattle.sdf_graph.specs.Sequences.{times, IsReady, IsEnabled, IsRunnable, IsPass, IsDeadlocked}
@@ -15,7 +16,8 @@ look_below P Q test (suc m) = go (look_below P Q test m) (test m)
     next before here c h (inl early) = before c early
     next before here c h (inr late) = subst P (let e : m ≡ c = omega arith in e) here
 
-    go : ((c : ℕ) → c < m → P c) ⊎ ((c : ℕ) × (c < m) × Q c) → P m ⊎ Q m → ((c : ℕ) → c < suc m → P c) ⊎ ((c : ℕ) × (c < suc m) × Q c)
+    go : ((c : ℕ) → c < m → P c) ⊎ ((c : ℕ) × (c < m) × Q c) → P m ⊎ Q m →
+        ((c : ℕ) → c < suc m → P c) ⊎ ((c : ℕ) × (c < suc m) × Q c)
     go (inr found) here = inr (found.0, omega (arith, found.1), found.2)
     go (inl before) (inr here) = inr (m, omega arith, here)
     go (inl before) (inl here) = inl (λ c h. next before here c (omega arith) (cases_lt c m))
@@ -41,29 +43,35 @@ module _ (r : Rates) (q : ℕ → ℕ) where
   ready : (k : ℕ → ℕ) (c : ℕ) → IsReady r k c ⊎ (IsReady r k c → ⊥)
   ready k c = go (cases_lt (r.initial c + r.produced c (k (r.source c))) (r.consumed c (k (r.target c) + 1)))
     where
-      go : (r.initial c + r.produced c (k (r.source c)) < r.consumed c (k (r.target c) + 1)) ⊎ (r.consumed c (k (r.target c) + 1) ≤ r.initial c + r.produced c (k (r.source c))) → IsReady r k c ⊎ (IsReady r k c → ⊥)
+      go : (r.initial c + r.produced c (k (r.source c)) < r.consumed c (k (r.target c) + 1))
+          ⊎ (r.consumed c (k (r.target c) + 1) ≤ r.initial c + r.produced c (k (r.source c))) →
+          IsReady r k c ⊎ (IsReady r k c → ⊥)
       go (inl short) = inr (λ on. omega (arith, on, short))
       go (inr enough) = inl enough
 
   ready_into : (k : ℕ → ℕ) (a c : ℕ) → (r.target c ≡ a → IsReady r k c) ⊎ ((r.target c ≡ a → IsReady r k c) → ⊥)
   ready_into k a c = go (cases_eq (r.target c) a) (ready k c)
     where
-      go : (r.target c ≡ a) ⊎ (r.target c ≡ a → ⊥) → IsReady r k c ⊎ (IsReady r k c → ⊥) → (r.target c ≡ a → IsReady r k c) ⊎ ((r.target c ≡ a → IsReady r k c) → ⊥)
+      go : (r.target c ≡ a) ⊎ (r.target c ≡ a → ⊥) → IsReady r k c ⊎ (IsReady r k c → ⊥) →
+          (r.target c ≡ a → IsReady r k c) ⊎ ((r.target c ≡ a → IsReady r k c) → ⊥)
       go (inr other) _ = inl (λ same. absurd (other same))
       go (inl same) (inl on) = inl (λ _. on)
       go (inl same) (inr off) = inr (λ all. off (all same))
 
   enabled : (k : ℕ → ℕ) (a : ℕ) → IsEnabled r k a ⊎ (IsEnabled r k a → ⊥)
-  enabled k a = go (look_below (λ c. r.target c ≡ a → IsReady r k c) (λ c. (r.target c ≡ a → IsReady r k c) → ⊥) (ready_into k a) r.channels)
+  enabled k a = go (look_below (λ c. r.target c ≡ a → IsReady r k c) (λ c. (r.target c ≡ a → IsReady r k c) → ⊥)
+      (ready_into k a) r.channels)
     where
-      go : IsEnabled r k a ⊎ ((c : ℕ) × (c < r.channels) × ((r.target c ≡ a → IsReady r k c) → ⊥)) → IsEnabled r k a ⊎ (IsEnabled r k a → ⊥)
+      go : IsEnabled r k a ⊎ ((c : ℕ) × (c < r.channels) × ((r.target c ≡ a → IsReady r k c) → ⊥)) →
+          IsEnabled r k a ⊎ (IsEnabled r k a → ⊥)
       go (inl on) = inl on
       go (inr (c, h, off)) = inr (λ on. off (on c h))
 
   runnable : (k : ℕ → ℕ) (a : ℕ) → a < r.actors → IsRunnable r q k a ⊎ (IsRunnable r q k a → ⊥)
   runnable k a h = go (cases_lt (k a) (q a)) (enabled k a)
     where
-      go : (k a < q a) ⊎ (q a ≤ k a) → IsEnabled r k a ⊎ (IsEnabled r k a → ⊥) → IsRunnable r q k a ⊎ (IsRunnable r q k a → ⊥)
+      go : (k a < q a) ⊎ (q a ≤ k a) → IsEnabled r k a ⊎ (IsEnabled r k a → ⊥) →
+          IsRunnable r q k a ⊎ (IsRunnable r q k a → ⊥)
       go (inr full) _ = inr (λ on. omega (arith, on.1))
       go (inl less) (inl on) = inl (h, less, on)
       go (inl less) (inr off) = inr (λ on. off on.2)
@@ -99,7 +107,8 @@ module _ (r : Rates) (q : ℕ → ℕ) where
     }
 
     fewer : (b : ℕ) → (a ≡ b) ⊎ (a ≡ b → ⊥) → q b - times (w ++ a ∷ []) b ≤ q b - times w b
-    fewer b (inl same) = subst (λ b. q b - times (w ++ a ∷ []) b ≤ q b - times w b) same (omega (arith, times-last_same w a))
+    fewer b (inl same) = subst (λ b. q b - times (w ++ a ∷ []) b ≤ q b - times w b) same
+        (omega (arith, times-last_same w a))
     fewer b (inr other) = omega (arith, times-last_other w a b (λ e. other (sym e)))
 
     left_falls : left (w ++ a ∷ []) < left w
@@ -115,18 +124,23 @@ module _ (r : Rates) (q : ℕ → ℕ) where
   abbrev Outcome : Type 0
   Outcome = ((w : List ℕ) × IsPass r q w) ⊎ IsDeadlocked r q
 
-  runs_or_stops : (w : List ℕ) → ((a : ℕ) → a < r.actors → IsRunnable r q (times w) a → ⊥) ⊎ ((a : ℕ) × (a < r.actors) × IsRunnable r q (times w) a)
-  runs_or_stops w = look_below (λ a. IsRunnable r q (times w) a → ⊥) (IsRunnable r q (times w)) (idle_or_not (times w)) r.actors
+  runs_or_stops : (w : List ℕ) → ((a : ℕ) → a < r.actors → IsRunnable r q (times w) a → ⊥)
+      ⊎ ((a : ℕ) × (a < r.actors) × IsRunnable r q (times w) a)
+  runs_or_stops w = look_below (λ a. IsRunnable r q (times w) a → ⊥) (IsRunnable r q (times w))
+      (idle_or_not (times w)) r.actors
 
   go_on : (n : ℕ) (w : List ℕ) → IsGreedy w → left w ≤ n → (v : List ℕ) × StopsAt v
   go_on zero w greedy most = go (runs_or_stops w)
     where
-      go : ((a : ℕ) → a < r.actors → IsRunnable r q (times w) a → ⊥) ⊎ ((a : ℕ) × (a < r.actors) × IsRunnable r q (times w) a) → (v : List ℕ) × StopsAt v
+      go : ((a : ℕ) → a < r.actors → IsRunnable r q (times w) a → ⊥)
+          ⊎ ((a : ℕ) × (a < r.actors) × IsRunnable r q (times w) a) → (v : List ℕ) × StopsAt v
       go (inl none) = (w, record { greedy = greedy; none = none })
       go (inr (a, h, on)) = absurd (omega (arith, left_falls w greedy a on))
-  go_on (suc n) w greedy most = go (runs_or_stops w) (λ a on. go_on n (w ++ a ∷ []) (fired w greedy a on) (omega (arith, left_falls w greedy a on)))
+  go_on (suc n) w greedy most = go (runs_or_stops w)
+      (λ a on. go_on n (w ++ a ∷ []) (fired w greedy a on) (omega (arith, left_falls w greedy a on)))
     where
-      go : ((a : ℕ) → a < r.actors → IsRunnable r q (times w) a → ⊥) ⊎ ((a : ℕ) × (a < r.actors) × IsRunnable r q (times w) a) →
+      go : ((a : ℕ) → a < r.actors → IsRunnable r q (times w) a → ⊥)
+          ⊎ ((a : ℕ) × (a < r.actors) × IsRunnable r q (times w) a) →
           ((a : ℕ) → IsRunnable r q (times w) a → (v : List ℕ) × StopsAt v) → (v : List ℕ) × StopsAt v
       go (inl none) next = (w, record { greedy = greedy; none = none })
       go (inr (a, h, on)) next = next a on
@@ -147,7 +161,8 @@ module _ (r : Rates) (q : ℕ → ℕ) where
 
     ends : ((a : ℕ) → a < r.actors → times v a ≡ q a) ⊎ ((a : ℕ) × (a < r.actors) × (times v a < q a)) → Outcome
     ends (inl all) = inl (v, completes all)
-    ends (inr (a, h, less)) = inr (law r q v sound (record { each = stops.greedy.each; none = λ b on. stops.none b on.0 on }) a h less)
+    ends (inr (a, h, less)) = inr (law r q v sound
+        (record { each = stops.greedy.each; none = λ b on. stops.none b on.0 on }) a h less)
 
     outcome : Outcome
     outcome = ends (look_below (λ a. times v a ≡ q a) (λ a. times v a < q a) (full_or_not v stops.greedy) r.actors)

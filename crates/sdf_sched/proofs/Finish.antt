@@ -1,5 +1,6 @@
 -- What a schedule shows where it stops.
-use Rattle.std.proofs.Common.{◌≡◌, ℕ, zero, suc, ◌≤◌, ◌<◌, List, [], length, get_or, slice_index, take, sum, eqb, true, false, sym, ap, ◌∙◌, subst, inl, inr, ◌⊎◌, arith}
+use Rattle.std.proofs.Common.{◌≡◌, ℕ, zero, suc, ◌≤◌, ◌<◌, List, [], length, get_or, slice_index, take, sum, eqb, true}
+use Rattle.std.proofs.Common.{false, sym, ap, ◌∙◌, subst, inl, inr, ◌⊎◌, arith}
 use Rattle.std.proofs.lemmas.List.{ext_get_or}
 use Rattle.std.proofs.lemmas.Bool.{cases_lt, eqb-true, false≢true}
 use Rattle.sdf_graph.specs.Rates.{Shape, IsSound, rates}
@@ -17,9 +18,12 @@ use Rattle.sdf_sched.proofs.Choices.{is_runnable}
 
 -- each firing that a pick chooses is of a runnable actor
 module _ (P : Type 0) (chooses : Chooses P) (g : Shape) (q : ℕ → ℕ) (p : P) where
-  pub each_runs : (w : List ℕ) (p' : P) → IsPicked chooses g q p w p' → (i : ℕ) → i < length w → IsRunnable (rates g) q (times (take i w)) (get_or w i 0)
+  pub each_runs : (w : List ℕ) (p' : P) → IsPicked chooses g q p w p' → (i : ℕ) → i < length w →
+      IsRunnable (rates g) q (times (take i w)) (get_or w i 0)
   each_runs _ _ begins i h = absurd (omega arith)
-  each_runs _ _ (fires w a p' p'' picked choice) i h = each_more (λ v b. IsRunnable (rates g) q (times v) b) w a (each_runs w p' picked) (is_runnable P chooses g q (times w) p' p'' a choice) i h
+  each_runs _ _ (fires w a p' p'' picked choice) i h =
+      each_more (λ v b. IsRunnable (rates g) q (times v) b) w a (each_runs w p' picked)
+      (is_runnable P chooses g q (times w) p' p'' a choice) i h
 
 module _ (P : Type 0) (chooses : Chooses P) (g : Shape) (q : List ℕ) (p : P) where
   module _ (t : Tally) (w : List ℕ) (p' : P) (now : IsGoing chooses g q p t w p' []) where
@@ -36,11 +40,13 @@ module _ (P : Type 0) (chooses : Chooses P) (g : Shape) (q : List ℕ) (p : P) w
     count_of a = ap (λ (k : ℕ → ℕ). k a) now.counted
 
     -- where some sequence does all firings, this one does
-    module _ (sound : IsSound (rates g)) (stuck : StuckCountsMeanDeadlock) (v : List ℕ) (pass : IsPass (rates g) (slice_index q) v) where
+    module _ (sound : IsSound (rates g)) (stuck : StuckCountsMeanDeadlock) (v : List ℕ)
+        (pass : IsPass (rates g) (slice_index q) v) where
       done : (a : ℕ) → a < g.actors → get_or t.fired a 0 ≡ get_or q a 0
       done a h = go (cases_lt (get_or t.fired a 0) (get_or q a 0))
         where
-          go : (get_or t.fired a 0 < get_or q a 0) ⊎ (get_or q a 0 ≤ get_or t.fired a 0) → get_or t.fired a 0 ≡ get_or q a 0
+          go : (get_or t.fired a 0 < get_or q a 0) ⊎ (get_or q a 0 ≤ get_or t.fired a 0) →
+              get_or t.fired a 0 ≡ get_or q a 0
           go (inl less) = absurd (stuck (rates g) (slice_index q) (slice_index t.fired) sound none_left a h less v pass)
           go (inr full) = omega (arith, now.within a)
 
@@ -48,22 +54,26 @@ module _ (P : Type 0) (chooses : Chooses P) (g : Shape) (q : List ℕ) (p : P) w
       is_pass = (admissible, λ a h. omega (arith, done a h, count_of a))
 
       pub is_whole : length q ≡ g.actors → length w ≡ sum q
-      is_whole len = sym now.total ∙ ap sum (ext_get_or 0 t.fired q now.all (λ a h. done a (omega (arith, now.all, len))))
+      is_whole len = sym now.total ∙ ap sum (ext_get_or 0 t.fired q now.all
+          (λ a h. done a (omega (arith, now.all, len))))
 
-    module _ (short : List (ℕ × ℕ)) (lacks : IsShortList (rates g) (slice_index q) (slice_index t.fired) short) (len : length q ≡ g.actors) where
+    module _ (short : List (ℕ × ℕ)) (lacks : IsShortList (rates g) (slice_index q) (slice_index t.fired) short)
+        (len : length q ≡ g.actors) where
       -- with no actor unfinished the period is over
       module _ (none : length short ≡ 0) where
         full : (a : ℕ) → a < g.actors → get_or t.fired a 0 ≡ get_or q a 0
         full a h = go (cases_lt (get_or t.fired a 0) (get_or q a 0))
           where
-            go : (get_or t.fired a 0 < get_or q a 0) ⊎ (get_or q a 0 ≤ get_or t.fired a 0) → get_or t.fired a 0 ≡ get_or q a 0
+            go : (get_or t.fired a 0 < get_or q a 0) ⊎ (get_or q a 0 ≤ get_or t.fired a 0) →
+                get_or t.fired a 0 ≡ get_or q a 0
             go (inl less) = let i = lacks.all a h less in absurd (omega (arith, i.1.0))
             go (inr done) = omega (arith, now.within a)
 
         pub all_fired : t.fired ≡ q
         all_fired = ext_get_or 0 t.fired q now.all (λ a h. full a (omega (arith, now.all)))
 
-        pub is_period : IsLeastPeriod (rates g) q → sum q ≤ 65536 → IsPeriodOf (rates g) (record { order = w; repetitions = q })
+        pub is_period : IsLeastPeriod (rates g) q → sum q ≤ 65536 →
+            IsPeriodOf (rates g) (record { order = w; repetitions = q })
         is_period least small = record {
           least = least;
           pass = (admissible, λ a h. omega (arith, full a h, count_of a));
@@ -74,15 +84,18 @@ module _ (P : Type 0) (chooses : Chooses P) (g : Shape) (q : List ℕ) (p : P) w
       -- else there is none
       module _ (sound : IsSound (rates g)) (stuck : StuckCountsMeanDeadlock) (some : 0 < length short) where
         pub is_deadlocked : IsDeadlocked (rates g) (slice_index q)
-        is_deadlocked = let first = lacks.each 0 some in stuck (rates g) (slice_index q) (slice_index t.fired) sound none_left _ first.known first.unfinished
+        is_deadlocked = let first = lacks.each 0 some in
+            stuck (rates g) (slice_index q) (slice_index t.fired) sound none_left _ first.known first.unfinished
 
-      pub is_stuck : (s : Stuck) → s.done.items ≡ t.fired → s.short.items ≡ short → IsStuckAt (rates g) (slice_index q) w s
+      pub is_stuck : (s : Stuck) → s.done.items ≡ t.fired → s.short.items ≡ short →
+          IsStuckAt (rates g) (slice_index q) w s
       is_stuck s done same = record {
         admissible = admissible;
         all = ap length done ∙ now.all ∙ len;
         counts = λ a h. ap (λ (k : List ℕ). get_or k a 0) done ∙ count_of a;
         within = λ a h. omega (arith, now.within a, count_of a);
-        short = subst (IsShortList (rates g) (slice_index q) (times w)) (sym same) (subst (λ (k : ℕ → ℕ). IsShortList (rates g) (slice_index q) k short) now.counted lacks);
+        short = subst (IsShortList (rates g) (slice_index q) (times w)) (sym same)
+            (subst (λ (k : ℕ → ℕ). IsShortList (rates g) (slice_index q) k short) now.counted lacks);
       }
 
 -- what is_empty's answer says of a list

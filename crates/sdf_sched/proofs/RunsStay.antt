@@ -1,5 +1,6 @@
 -- The firings of runs go round the actors.
-use Rattle.std.proofs.Common.{◌≡◌, ℕ, ◌≤◌, ◌<◌, List, [], ◌∷◌, ◌++◌, length, get_or, take, refl, sym, ◌∙◌, subst, inl, inr, ◌⊎◌, arith}
+use Rattle.std.proofs.Common.{◌≡◌, ℕ, ◌≤◌, ◌<◌, List, [], ◌∷◌, ◌++◌, length, get_or, take, refl, sym, ◌∙◌, subst, inl}
+use Rattle.std.proofs.Common.{inr, ◌⊎◌, arith}
 use Rattle.std.proofs.lemmas.List.{get_or_push}
 use Rattle.std.proofs.lemmas.Bool.{cases_lt}
 use Rattle.sdf_graph.specs.Rates.{Rates, Shape, rates}
@@ -21,7 +22,8 @@ first_is_itself r q k a b next on = go (cases_lt a b) (cases_lt b a)
     go (inr h) (inr l) = omega arith
 
 module _ (g : Shape) (q : ℕ → ℕ) where
-  chosen_is_next : (k : ℕ → ℕ) (last last' a : ℕ) → IsChoice IsRunsChoice g q last k a last' → IsNextFrom (rates g) q k last a
+  chosen_is_next : (k : ℕ → ℕ) (last last' a : ℕ) → IsChoice IsRunsChoice g q last k a last' →
+      IsNextFrom (rates g) q k last a
   chosen_is_next k last last' a c = record {
     runnable = is_runnable ℕ IsRunsChoice g q k last last' a c;
     first = λ b on h. none b on h c.chosen.next;
@@ -43,16 +45,20 @@ module _ (g : Shape) (q : ℕ → ℕ) where
   -- the state is the actor that fired last
   fired_last : (w : List ℕ) (last : ℕ) → IsPicked IsRunsChoice g q 0 w last → last ≡ last_fired w
   fired_last _ _ begins = refl
-  fired_last _ _ (fires w a last last' picked c) = c.chosen.after ∙ (c.is ∙ sym (get_or_push (0 ∷ w) a 0 (length (w ++ a ∷ [])) (omega (arith, length-last w a))))
+  fired_last _ _ (fires w a last last' picked c) =
+      c.chosen.after ∙ (c.is ∙ sym (get_or_push (0 ∷ w) a 0 (length (w ++ a ∷ [])) (omega (arith, length-last w a))))
 
-  each_next : (w : List ℕ) (last : ℕ) → IsPicked IsRunsChoice g q 0 w last → (i : ℕ) → i < length w → IsNextFrom (rates g) q (times (take i w)) (last_fired (take i w)) (get_or w i 0)
+  each_next : (w : List ℕ) (last : ℕ) → IsPicked IsRunsChoice g q 0 w last → (i : ℕ) → i < length w →
+      IsNextFrom (rates g) q (times (take i w)) (last_fired (take i w)) (get_or w i 0)
   each_next _ _ begins i h = absurd (omega arith)
   each_next _ _ (fires w a last last' picked c) i h =
       each_more (λ v b. IsNextFrom (rates g) q (times v) (last_fired v) b) w a (each_next w last picked)
-      (subst (λ l. IsNextFrom (rates g) q (times w) l a) (fired_last w last picked) (chosen_is_next (times w) last last' a c)) i h
+      (subst (λ l. IsNextFrom (rates g) q (times w) l a) (fired_last w last picked)
+      (chosen_is_next (times w) last last' a c)) i h
 
 pub runs_stay : RunsStay
 runs_stay g q w last picked = record {
   next = each_next g q w last picked;
-  stays = λ i h on. first_is_itself (rates g) q (times (take i w)) (last_fired (take i w)) (get_or w i 0) (each_next g q w last picked i h) on;
+  stays = λ i h on. first_is_itself (rates g) q (times (take i w)) (last_fired (take i w)) (get_or w i 0)
+      (each_next g q w last picked i h) on;
 }

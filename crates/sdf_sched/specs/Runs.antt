@@ -1,10 +1,12 @@
--- The policy of runs: it stays with an actor while that is runnable, and then goes to the next runnable one in file order.
+-- The policy of runs: it stays with an actor while that is runnable, and then goes to the next runnable one in file
+-- order.
 use Rattle.std.specs.Prelude.{◌≡◌, ℕ, ◌≤◌, ◌<◌, List, ◌∷◌, length, slice_index, take, ◌⊎◌}
 use Rattle.sdf_graph.specs.Rates.{Rates, Shape}
 use Rattle.sdf_graph.specs.Sequences.{times, IsRunnable}
 use Rattle.sdf_sched.specs.Round.{IsNextInPass}
 
--- the state of runs is the actor that fired last: the first runnable one from there on fires, or with none left the first of all
+-- the state of runs is the actor that fired last: the first runnable one from there on fires, or with none left the
+-- first of all
 pub record IsRunsChoice (last : ℕ) (g : Shape) (k : ℕ → ℕ) (xs : List ℕ) (at : ℕ) (last' : ℕ) : Type 0 where
   pub next : IsNextInPass last xs at
   pub after : last' ≡ slice_index xs at
@@ -22,7 +24,9 @@ pub record IsNextFrom (r : Rates) (q k : ℕ → ℕ) (a b : ℕ) : Type 0 where
 abbrev pub last_fired : List ℕ → ℕ
 last_fired w = slice_index (0 ∷ w) (length w)
 
--- each firing is of the first runnable actor going round from the one before it, so an actor that is still runnable fires again
+-- each firing is of the first runnable actor going round from the one before it, so an actor that is still runnable
+-- fires again
 pub record IsInRuns (r : Rates) (q : ℕ → ℕ) (w : List ℕ) : Type 0 where
   pub next : (i : ℕ) → i < length w → IsNextFrom r q (times (take i w)) (last_fired (take i w)) (slice_index w i)
-  pub stays : (i : ℕ) → i < length w → IsRunnable r q (times (take i w)) (last_fired (take i w)) → slice_index w i ≡ last_fired (take i w)
+  pub stays : (i : ℕ) → i < length w → IsRunnable r q (times (take i w)) (last_fired (take i w)) →
+      slice_index w i ≡ last_fired (take i w)

@@ -1,6 +1,7 @@
 //! Class S: while some actor is runnable, one of them fires.
 
-ghost use Rattle.std.specs.Prelude.{◌≡◌, ℕ, ◌+◌, ◌≤◌, ◌<◌, List, length, sum, slice_index, slice_set, IfOk, IfErr, MatchResult, MatchOption, vec_capacity, IsTrue, ◌↔◌, []};
+ghost use Rattle.std.specs.Prelude.{◌≡◌, ℕ, ◌+◌, ◌≤◌, ◌<◌, List, length, sum, slice_index, slice_set, IfOk, IfErr};
+ghost use Rattle.std.specs.Prelude.{MatchResult, MatchOption, vec_capacity, IsTrue, ◌↔◌, []};
 ghost use Rattle.std.specs.List.{Contains};
 ghost use Rattle.std.specs.List.Sorted.{IsStrictlyIncreasing};
 ghost use Rattle.sdf_graph.specs.Rates.{rates};
@@ -25,7 +26,8 @@ use std::alloc::{AllocError, Global};
 fn is_runnable(counts: &Counts, firings: &[u32], actor: usize) -> bool
     requires all { length firings.now ≡ counts.now.graph.actors }
     requires known { actor < length firings.now }
-    ensures { IsTrue result ↔ IsRunnable (rates counts.now.graph) (slice_index firings.now) (slice_index counts.now.fired) actor }
+    ensures { IsTrue result ↔ IsRunnable (rates counts.now.graph) (slice_index firings.now)
+        (slice_index counts.now.fired) actor }
 {
     counts.fired(actor) < firings[actor] && counts.enabled(actor)
 }
@@ -37,7 +39,9 @@ fn update(counts: &Counts, firings: &[u32], actor: usize, runnable: &mut Vec<usi
     requires rising { IsStrictlyIncreasing runnable.old.items }
     requires below { (a : ℕ) → Contains runnable.old.items a → a < length firings.now }
     requires room { length firings.now ≤ vec_capacity runnable.old }
-    ensures list { IsUpdated runnable.old.items actor (IsRunnable (rates counts.now.graph) (slice_index firings.now) (slice_index counts.now.fired) actor) runnable.new.items }
+    ensures list { IsUpdated runnable.old.items actor
+        (IsRunnable (rates counts.now.graph) (slice_index firings.now) (slice_index counts.now.fired) actor)
+        runnable.new.items }
     ensures capacity { vec_capacity runnable.new ≡ vec_capacity runnable.old }
 {
     let fires = is_runnable(counts, firings, actor);
@@ -60,7 +64,8 @@ fn collect(counts: &Counts, firings: &[u32], runnable: &mut Vec<usize>)
     requires all { length firings.now ≡ counts.now.graph.actors }
     requires empty { runnable.old.items ≡ [] }
     requires room { length firings.now ≤ vec_capacity runnable.old }
-    ensures list { IsRunnableList (rates counts.now.graph) (slice_index firings.now) (slice_index counts.now.fired) runnable.new.items }
+    ensures list { IsRunnableList (rates counts.now.graph) (slice_index firings.now) (slice_index counts.now.fired)
+        runnable.new.items }
     ensures capacity { vec_capacity runnable.new ≡ vec_capacity runnable.old }
 {
     for actor in 0..firings.len() {
@@ -81,10 +86,13 @@ fn fire(
     requires each { length counts.old.fired ≡ graph.now.actors }
     requires short { sum firings.now ≤ MOST_PERIOD }
     requires room { length firings.now ≤ vec_capacity runnable.old }
-    requires list { IsRunnableList (rates graph.now) (slice_index firings.now) (slice_index counts.old.fired) runnable.old.items }
+    requires list { IsRunnableList (rates graph.now) (slice_index firings.now) (slice_index counts.old.fired)
+        runnable.old.items }
     requires fires { Contains runnable.old.items actor }
-    ensures fired { counts.new ≡ record counts.old { fired = slice_set counts.old.fired actor (slice_index counts.old.fired actor + 1) } }
-    ensures list { IsRunnableList (rates graph.now) (slice_index firings.now) (slice_index counts.new.fired) runnable.new.items }
+    ensures fired { counts.new ≡ record counts.old
+        { fired = slice_set counts.old.fired actor (slice_index counts.old.fired actor + 1) } }
+    ensures list { IsRunnableList (rates graph.now) (slice_index firings.now) (slice_index counts.new.fired)
+        runnable.new.items }
     ensures capacity { vec_capacity runnable.new ≡ vec_capacity runnable.old }
 {
     graphs_are_sound();
@@ -110,7 +118,8 @@ fn fire_all<P: Pick>(
     requires short { sum firings.now ≤ MOST_PERIOD }
     requires room { sum firings.now ≤ vec_capacity order.old }
     requires places { length firings.now ≤ vec_capacity runnable.old }
-    requires begun { IsGoing P.chooses graph.now firings.now pick.old counts.old order.old.items pick.old runnable.old.items }
+    requires begun { IsGoing P.chooses graph.now firings.now pick.old counts.old order.old.items pick.old
+        runnable.old.items }
     ensures { IsGoing P.chooses graph.now firings.now pick.old counts.new order.new.items pick.new [] }
 {
     sums_rise();
@@ -126,7 +135,8 @@ fn fire_all<P: Pick>(
 fn short_of(counts: &Counts, reps: &Repetitions, actor: usize) -> Option<usize>
     requires all { length reps.now ≡ counts.now.graph.actors }
     requires known { actor < length reps.now }
-    requires stopped { IsRunnable (rates counts.now.graph) (slice_index reps.now) (slice_index counts.now.fired) actor → ⊥ }
+    requires stopped { IsRunnable (rates counts.now.graph) (slice_index reps.now) (slice_index counts.now.fired) actor →
+        ⊥ }
     ensures { MatchOption result
         (slice_index reps.now actor ≤ slice_index counts.now.fired actor)
         (IsShort (rates counts.now.graph) (slice_index reps.now) (slice_index counts.now.fired) actor) }
@@ -142,8 +152,10 @@ fn collect_short(counts: &Counts, reps: &Repetitions, short: &mut Vec<(usize, us
     requires all { length reps.now ≡ counts.now.graph.actors }
     requires empty { short.old.items ≡ [] }
     requires room { length reps.now ≤ vec_capacity short.old }
-    requires stopped { (a : ℕ) → IsRunnable (rates counts.now.graph) (slice_index reps.now) (slice_index counts.now.fired) a → ⊥ }
-    ensures { IsShortList (rates counts.now.graph) (slice_index reps.now) (slice_index counts.now.fired) short.new.items }
+    requires stopped { (a : ℕ) → IsRunnable (rates counts.now.graph) (slice_index reps.now)
+        (slice_index counts.now.fired) a → ⊥ }
+    ensures { IsShortList (rates counts.now.graph) (slice_index reps.now) (slice_index counts.now.fired)
+        short.new.items }
 {
     for actor in 0..reps.len() {
         if let Some(channel) = short_of(counts, reps, actor) {
@@ -189,7 +201,8 @@ fn total(firings: &[u32]) -> usize
     total
 }
 
-/// Fires what the pick chooses, from the start until no actor is runnable. It takes all its memory before the first choice.
+/// Fires what the pick chooses, from the start until no actor is runnable. It takes all its memory before the first
+/// choice.
 fn fire_greedily<'a, P: Pick>(
     alloc: Global,
     graph: &'a Graph,
@@ -210,8 +223,8 @@ fn fire_greedily<'a, P: Pick>(
     Ok((counts, order))
 }
 
-/// A schedule of one period, made by a pick's choices among the runnable actors. It takes all its memory before the first
-/// choice; after an error the pick is in the state that its last choice left.
+/// A schedule of one period, made by a pick's choices among the runnable actors. It takes all its memory before the
+/// first choice; after an error the pick is in the state that its last choice left.
 ///
 /// (Lee and Messerschmitt 1987, class S algorithms: any of them finds a schedule where one exists.)
 pub fn class_s<P: Pick>(
@@ -222,7 +235,8 @@ pub fn class_s<P: Pick>(
 ) -> Result<Period, SchedFault>
     requires { IsLeastPeriod (rates graph.now) reps.now }
     ensures { MatchResult result
-        (λ s. IsPeriodOf (rates graph.now) s × (s.repetitions ≡ reps.now) × IsPicked P.chooses graph.now (slice_index reps.now) pick.old s.order pick.new)
+        (λ s. IsPeriodOf (rates graph.now) s × (s.repetitions ≡ reps.now)
+        × IsPicked P.chooses graph.now (slice_index reps.now) pick.old s.order pick.new)
         (IsSchedFault P.chooses graph.now (slice_index reps.now) pick.old pick.new) }
 {
     // the graph has a shape, so its rates are sound, and counts that are stuck mean a deadlock
@@ -245,8 +259,8 @@ pub fn class_s<P: Pick>(
     })
 }
 
-/// A schedule of so many firings of each actor, as of several periods, made by a pick's choices. There is one wherever any sequence
-/// of enabled firings does them all.
+/// A schedule of so many firings of each actor, as of several periods, made by a pick's choices. There is one wherever
+/// any sequence of enabled firings does them all.
 pub fn class_s_of<P: Pick>(
     alloc: Global,
     graph: &Graph,
@@ -258,7 +272,8 @@ pub fn class_s_of<P: Pick>(
     requires some { (v : List ℕ) × IsPass (rates graph.now) (slice_index firings.now) v }
     ensures pass { IfOk result (λ order. IsPass (rates graph.now) (slice_index firings.now) order.items) }
     ensures all { IfOk result (λ order. length order.items ≡ sum firings.now) }
-    ensures picked { IfOk result (λ order. IsPicked P.chooses graph.now (slice_index firings.now) pick.old order.items pick.new) }
+    ensures picked { IfOk result (λ order. IsPicked P.chooses graph.now (slice_index firings.now) pick.old
+        order.items pick.new) }
     ensures unmoved { IfErr result (λ _. pick.new ≡ pick.old) }
 {
     graph.channels();

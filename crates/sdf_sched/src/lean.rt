@@ -29,8 +29,11 @@ fn leanest(graph: &Graph, counts: &Counts, runnable: &[usize]) -> usize
     requires some { 0 < length runnable.now }
     requires known { (i : ℕ) → i < length runnable.now → slice_index runnable.now i < graph.now.actors }
     ensures below { result < length runnable.now }
-    ensures least { (i : ℕ) → i < length runnable.now → IsLeaner (rates graph.now) (slice_index counts.now.fired) (slice_index runnable.now i) (slice_index runnable.now result) → ⊥ }
-    ensures first { (i : ℕ) → i < result → IsLeaner (rates graph.now) (slice_index counts.now.fired) (slice_index runnable.now result) (slice_index runnable.now i) }
+    ensures least { (i : ℕ) → i < length runnable.now →
+        IsLeaner (rates graph.now) (slice_index counts.now.fired) (slice_index runnable.now i)
+        (slice_index runnable.now result) → ⊥ }
+    ensures first { (i : ℕ) → i < result → IsLeaner (rates graph.now) (slice_index counts.now.fired)
+        (slice_index runnable.now result) (slice_index runnable.now i) }
 {
     let mut best = 0;
     for (i, actor) in runnable.iter().enumerate() {
@@ -54,8 +57,8 @@ fn is_leaner(graph: &Graph, counts: &Counts, one: usize, other: usize) -> bool
         < moved_by(graph, other, End::Source, other_at) + moved_by(graph, one, End::Target, one_at)
 }
 
-/// The samples that firing `i` of an actor moves: what it puts on the channels of which it is the source, or what it takes from
-/// those of which it is the target.
+/// The samples that firing `i` of an actor moves: what it puts on the channels of which it is the source, or what it
+/// takes from those of which it is the target.
 fn moved_by(graph: &Graph, actor: usize, end: End, i: u32) -> u64
     requires { actor < graph.now.actors }
     ensures sum { (k : ℕ → ℕ) → k actor ≡ i → result ≡ moved_by end (rates graph.now) k actor }

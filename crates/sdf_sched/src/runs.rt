@@ -8,7 +8,8 @@ use crate::round::next_in_pass;
 use sdf_graph::{Counts, Graph};
 use std::marker::Model;
 
-/// Stays with an actor while that is runnable, and then goes to the next runnable one in file order, from the last back to the first.
+/// Stays with an actor while that is runnable, and then goes to the next runnable one in file order, from the last back
+/// to the first.
 #[derive(Drop)]
 pub struct Runs {
     actor: usize,

@@ -57,7 +57,8 @@ fn few_rounds_by_hand(rt: HostRuntime) -> Result<(), Fail> {
     Ok(())
 }
 
-/// How many firings are left after each of three rounds without patience, where two blocks are run and the seats are worked in turn.
+/// How many firings are left after each of three rounds without patience, where two blocks are run and the seats are
+/// worked in turn.
 fn left_by_rounds(rt: &impl Abort, alloc: Global, turn: [usize; 2]) -> Result<Vec<u64>, Fail> {
     let net = pair(alloc, 2, 3, &[])?;
     let (period, table) = planned(alloc, &net, 1, 2, true)?;
@@ -75,8 +76,8 @@ fn left_by_rounds(rt: &impl Abort, alloc: Global, turn: [usize; 2]) -> Result<Ve
     Ok(left)
 }
 
-/// The ring has room for a block's three firings of the source. The sink first: nothing; then its two, whose room the source sees and
-/// fires three more; then its last two. The source first: three and two, twice.
+/// The ring has room for a block's three firings of the source. The sink first: nothing; then its two, whose room the
+/// source sees and fires three more; then its last two. The source first: three and two, twice.
 #[test]
 fn rounds_in_turn(rt: HostRuntime) -> Result<(), Fail> {
     let alloc = rt.alloc();

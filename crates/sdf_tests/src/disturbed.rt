@@ -13,8 +13,8 @@ use test_actors::gates::Delay;
 /// A processor is held for so many turns before each of its firings: a firing takes fewer.
 const TURNS: u32 = 1_000;
 
-/// Whether workers make of some periods what one thread makes, by rows and over rings, where a processor is held up: for all its turns, or
-/// no longer than until another has passed a firing.
+/// Whether workers make of some periods what one thread makes, by rows and over rings, where a processor is held up:
+/// for all its turns, or no longer than until another has passed a firing.
 fn disturbed<R: Abort + Threads + AllocGlobal + Sync>(
     rt: &R,
     net: &Net<Kit>,

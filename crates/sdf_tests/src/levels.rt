@@ -1,4 +1,5 @@
-//! Worked levels: a source of 2 to a sink of 3, a channel whose rates change from firing to firing, and a fork of two ways.
+//! Worked levels: a source of 2 to a sink of 3, a channel whose rates change from firing to firing, and a fork of two
+//! ways.
 
 ghost use Rattle.std.specs.Prelude.{◌≡◌};
 ghost use Rattle.sdf_prec.specs.Blocks.{block};

@@ -1,7 +1,8 @@
 //! What no clause says of schedules, tables and runs of nets: worked nets, run by each runner, by hand and in pieces.
 //!
-//! It stands on the libraries below `sdf_process` and on `test_actors`, and has no functions: tests stand in a crate of their own, since the functions of a
-//! crate are proved once more with its tests. Begin at `nets`, the nets of the tests and their tables.
+//! It stands on the libraries below `sdf_process` and on `test_actors`, and has no functions: tests stand in a crate of
+//! their own, since the functions of a crate are proved once more with its tests. Begin at `nets`, the nets of the
+//! tests and their tables.
 #![tactic(auto)]
 
 #[cfg(test)]

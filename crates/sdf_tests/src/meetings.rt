@@ -13,8 +13,9 @@ const PATIENT: Mode = Mode::Rings {
     patience: 1_000_000,
 };
 
-/// Holds the second firing of the actor that deals until the source has begun its fourth, which stands in the next block: it wants
-/// the room that the first of those made, and the sample that the first of those put for a sink of the source's worker.
+/// Holds the second firing of the actor that deals until the source has begun its fourth, which stands in the next
+/// block: it wants the room that the first of those made, and the sample that the first of those put for a sink of the
+/// source's worker.
 const ACROSS: Hold<'static> = Hold {
     held: &[1],
     first: 1,
@@ -69,7 +70,8 @@ fn in_feeds_blocks_overlap(rt: HostRuntime) -> Result<(), Fail> {
     Ok(())
 }
 
-/// Whether so many firings of a row, or of workers over rings, are at work at once: the first of each branch, the second and the third.
+/// Whether so many firings of a row, or of workers over rings, are at work at once: the first of each branch, the
+/// second and the third.
 fn all_meet<R: Abort + Threads + AllocGlobal + Sync>(
     rt: &R,
     branched: &[usize],

@@ -9,7 +9,8 @@ use std::process::Abort;
 use std::test::Fail;
 use std::thread::Threads;
 
-/// Whether workers make of 294 samples, two periods of the converter, what one thread makes, each round doing some firing.
+/// Whether workers make of 294 samples, two periods of the converter, what one thread makes, each round doing some
+/// firing.
 fn makes_as_one<R: Abort + Threads + AllocGlobal + Sync>(
     rt: &R,
     workers: usize,

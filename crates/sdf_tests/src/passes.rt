@@ -31,7 +31,8 @@ fn actor<'a>(watch: &'a Watch<'a>, number: usize, cycle: u32, two: bool) -> Node
     })
 }
 
-/// The net whose firings are watched: in a period the source fires twice, the sink once, and the actors between four times each.
+/// The net whose firings are watched: in a period the source fires twice, the sink once, and the actors between four
+/// times each.
 fn watched<'a>(alloc: Global, watch: &'a Watch<'a>) -> Result<Net<Watched<'a>>, Fail> {
     let mut nodes = Vec::new(alloc);
     nodes.push(source(0, 2))?;

@@ -15,7 +15,8 @@ const TURNS: u32 = 2_000_000;
 /// A worker whose firing has begun does that firing and tests for the next one within so many turns of another.
 const PAUSE: u32 = 50_000;
 
-/// Holds the source's first firing until the sink's has begun, and for a while: so long there is nothing more for the sink.
+/// Holds the source's first firing until the sink's has begun, and for a while: so long there is nothing more for the
+/// sink.
 #[derive(Drop)]
 struct Late {
     sunk: AtomicBool,
@@ -47,8 +48,8 @@ impl Gate for Late {
     }
 }
 
-/// In how many rounds a source and a sink fire twice, where a sample for the sink's first firing is there, and that for its second
-/// comes after it has tested for it.
+/// In how many rounds a source and a sink fire twice, where a sample for the sink's first firing is there, and that for
+/// its second comes after it has tested for it.
 fn rounds<R: Abort + Threads + AllocGlobal + Sync>(rt: &R, patience: u32) -> Result<u64, Fail> {
     let alloc = rt.alloc();
     let net = pair(alloc, 1, 1, &[7])?;

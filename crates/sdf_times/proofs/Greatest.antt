@@ -11,7 +11,8 @@ greatest_least P t v g h = go g.reached
     go (inl z) = omega arith
     go (inr p) = h t p
 
-pub greatest_same : (P Q : ℕ → Type 0) (t : ℕ) → ((u : ℕ) → P u → Q u) → ((u : ℕ) → Q u → P u) → IsGreatest P t → IsGreatest Q t
+pub greatest_same : (P Q : ℕ → Type 0) (t : ℕ) → ((u : ℕ) → P u → Q u) → ((u : ℕ) → Q u → P u) → IsGreatest P t →
+    IsGreatest Q t
 greatest_same P Q t to from g = record { above = λ u q. g.above u (from u q); reached = go g.reached }
   where
     go : (t ≡ 0) ⊎ P t → (t ≡ 0) ⊎ Q t
@@ -22,7 +23,8 @@ pub greatest_none : (P : ℕ → Type 0) (t : ℕ) → t ≡ 0 → ((u : ℕ) �
 greatest_none P t z none = record { above = λ u p. absurd (none u p); reached = inl z }
 
 -- with one number more, where the others are no greater than it
-pub greatest_more : (P Q : ℕ → Type 0) (t x : ℕ) → IsGreatest P t → ((u : ℕ) → P u → Q u) → ((x ≡ 0) ⊎ Q x) → ((u : ℕ) → Q u → P u ⊎ (u ≤ x)) → IsGreatest Q (max t x)
+pub greatest_more : (P Q : ℕ → Type 0) (t x : ℕ) → IsGreatest P t → ((u : ℕ) → P u → Q u) → ((x ≡ 0) ⊎ Q x) →
+    ((u : ℕ) → Q u → P u ⊎ (u ≤ x)) → IsGreatest Q (max t x)
 greatest_more P Q t x g to new from = record { above = λ u q. above u (from u q); reached = pick (cases_lt t x) }
   where
     above : (u : ℕ) → P u ⊎ (u ≤ x) → u ≤ max t x
@@ -38,13 +40,16 @@ greatest_more P Q t x g to new from = record { above = λ u q. above u (from u q
     pick (inr high) = let is : t ≡ max t x = omega arith in subst (λ m. (m ≡ 0) ⊎ Q m) is (old g.reached)
 
 -- the greatest of a list, one place on
-pub greatest_place : (xs : List ℕ) (i t x : ℕ) → get_or xs i 0 ≡ x → IsGreatest (λ u. (j : ℕ) × (j < i) × (get_or xs j 0 ≡ u)) t →
+pub greatest_place : (xs : List ℕ) (i t x : ℕ) → get_or xs i 0 ≡ x →
+    IsGreatest (λ u. (j : ℕ) × (j < i) × (get_or xs j 0 ≡ u)) t →
     IsGreatest (λ u. (j : ℕ) × (j < i + 1) × (get_or xs j 0 ≡ u)) (max t x)
 greatest_place xs i t x is g =
-    greatest_more (λ u. (j : ℕ) × (j < i) × (get_or xs j 0 ≡ u)) (λ u. (j : ℕ) × (j < i + 1) × (get_or xs j 0 ≡ u)) t x g
+    greatest_more (λ u. (j : ℕ) × (j < i) × (get_or xs j 0 ≡ u))
+    (λ u. (j : ℕ) × (j < i + 1) × (get_or xs j 0 ≡ u)) t x g
     (λ u w. (w.0, omega (arith, w.1), w.2)) (inr (i, omega arith, is)) (λ u w. back u w.0 w.1 w.2 (cases_lt w.0 i))
   where
-    back : (u j : ℕ) → j < i + 1 → get_or xs j 0 ≡ u → (j < i) ⊎ (i ≤ j) → ((j : ℕ) × (j < i) × (get_or xs j 0 ≡ u)) ⊎ (u ≤ x)
+    back : (u j : ℕ) → j < i + 1 → get_or xs j 0 ≡ u → (j < i) ⊎ (i ≤ j) →
+        ((j : ℕ) × (j < i) × (get_or xs j 0 ≡ u)) ⊎ (u ≤ x)
     back u j l e (inl low) = inl (j, low, e)
     back u j l e (inr high) =
         let same : j ≡ i = omega arith in

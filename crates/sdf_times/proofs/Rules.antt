@@ -1,5 +1,6 @@
 -- In rows by Hu's rule no firing starts later than its row.
-use Rattle.std.proofs.Common.{◌≡◌, ℕ, zero, suc, ◌+◌, ◌≤◌, ◌<◌, ◌⊎◌, List, [], ◌∷◌, length, get_or, take, map, inl, inr, sym, ap, ◌∙◌, subst, arith, refl, Option, Some, None, Bool, true, false}
+use Rattle.std.proofs.Common.{◌≡◌, ℕ, zero, suc, ◌+◌, ◌≤◌, ◌<◌, ◌⊎◌, List, [], ◌∷◌, length, get_or, take, map, inl, inr}
+use Rattle.std.proofs.Common.{sym, ap, ◌∙◌, subst, arith, refl, Option, Some, None, Bool, true, false}
 use Rattle.std.specs.Prelude.{slice_get}
 use Rattle.std.proofs.lemmas.List.{get_or-take, get_or_default, get_or_past, length-take}
 use Rattle.std.proofs.lemmas.Option.{none-some, same_Some}
@@ -8,7 +9,8 @@ use Rattle.sdf_graph.specs.Rates.{Rates}
 use Rattle.sdf_prec.specs.declared.firing.Firing.{Firing}
 use Rattle.sdf_prec.specs.Precedence.{WaitsFor}
 use Rattle.sdf_prec.specs.Tables.{firing, no_firing, row, cell_of, cell, IsValid}
-use Rattle.sdf_prec.specs.TimedRows.{Timed, no_row, timed, cells_of, IsAt, end_at, HasEnded, IsBusy, IsReadyAt, AreTimedRows, hu_rule}
+use Rattle.sdf_prec.specs.TimedRows.{Timed, no_row, timed, cells_of, IsAt, end_at, HasEnded, IsBusy, IsReadyAt}
+use Rattle.sdf_prec.specs.TimedRows.{AreTimedRows, hu_rule}
 use Rattle.sdf_times.specs.Times.{IsGreatest, IsAbove, ComesBefore, IsStart, AreStarts, end_of}
 use Rattle.sdf_times.specs.Laws.{RowsAreNoSooner}
 use Rattle.sdf_times.proofs.Greatest.{greatest_least}
@@ -37,12 +39,14 @@ at_take rows i k j g e = go (cases_lt k i)
     go : (k < i) ⊎ (i ≤ k) → (k < i) × IsAt rows k j g
     go (inl low) = (low, subst (λ (x : Timed). cell_of x.cells j ≡ Some g) (timed_take rows i k low) e)
     go (inr high) =
-        let none : timed (take i rows) k ≡ no_row = get_or_past (take i rows) k no_row (omega (arith, length-take i rows)) in
+        let none : timed (take i rows) k ≡ no_row = get_or_past (take i rows) k no_row
+        (omega (arith, length-take i rows)) in
         absurd (none-some g (subst (λ (x : Timed). cell_of x.cells j ≡ Some g) none e))
 
 module _ (r : Rates) (n cost : ℕ → ℕ) (level : Firing → ℕ) (width : ℕ) where
   -- a firing of the rule's row is ready, and its column is not busy
-  by_rule : (homed : Bool) (past : List Timed) (t : ℕ) (cells : List (Option Firing)) (j : ℕ) (f : Firing) → hu_rule r n cost level width homed past t cells → cell_of cells j ≡ Some f →
+  by_rule : (homed : Bool) (past : List Timed) (t : ℕ) (cells : List (Option Firing)) (j : ℕ) (f : Firing) →
+      hu_rule r n cost level width homed past t cells → cell_of cells j ≡ Some f →
       IsReadyAt r n cost past t f × (IsBusy cost past t j → ⊥)
   by_rule true past t cells j f h e =
       let st = h.placed.only j f e in
@@ -53,35 +57,49 @@ module _ (r : Rates) (n cost : ℕ → ℕ) (level : Firing → ℕ) (width : �
       let in_columns = h.filled.only j f e in
       let p : ℕ = in_columns.0 in
       let is : get_or h.columns p 0 ≡ j = get_or_default h.columns p 0 j in_columns.1 ∙ in_columns.2 in
-      let at = got h.queue p f (sym (h.filled.filled p in_columns.1) ∙ (ap (cell_of cells) is ∙ e)) in
-      (subst (IsReadyAt r n cost past t) at.1 (h.ready.each p at.0), subst (λ m. IsBusy cost past t m → ⊥) is (h.idle.each p in_columns.1).1)
+      let at = got h.queue p f (sym (h.filled.filled p in_columns.1) ∙ (ap (cell_of cells) is ∙ e)) in (
+        subst (IsReadyAt r n cost past t) at.1 (h.ready.each p at.0),
+        subst (λ m. IsBusy cost past t m → ⊥) is (h.idle.each p in_columns.1).1,
+      )
 
-  module _ (homed : Bool) (rows : List Timed) (start : Firing → ℕ) (are : AreTimedRows r n width (hu_rule r n cost level width homed) rows) (cells : AreCells r n (cells_of rows)) (starts : AreStarts r cost (cells_of rows) start) where
+  module _ (homed : Bool) (rows : List Timed) (start : Firing → ℕ)
+      (are : AreTimedRows r n width (hu_rule r n cost level width homed) rows) (cells : AreCells r n (cells_of rows))
+      (starts : AreStarts r cost (cells_of rows) start) where
     within : (i j : ℕ) (f : Firing) → IsAt rows i j f → i < length rows
     within i j f e = go (cases_lt i (length rows))
       where
         go : (i < length rows) ⊎ (length rows ≤ i) → i < length rows
         go (inl low) = low
-        go (inr past) = absurd (none-some f (subst (λ (x : Timed). cell_of x.cells j ≡ Some f) (get_or_past rows i no_row past) e))
+        go (inr past) = absurd (none-some f (subst (λ (x : Timed). cell_of x.cells j ≡ Some f)
+            (get_or_past rows i no_row past) e))
 
-    no_later_at : (i j : ℕ) (f : Firing) → IsAt rows i j f → ((k m : ℕ) (g : Firing) → k < i → IsAt rows k m g → start g ≤ (timed rows k).start) → start f ≤ (timed rows i).start
+    no_later_at : (i j : ℕ) (f : Firing) → IsAt rows i j f →
+        ((k m : ℕ) (g : Firing) → k < i → IsAt rows k m g → start g ≤ (timed rows k).start) →
+        start f ≤ (timed rows i).start
     no_later_at i j f e before =
-        greatest_least (λ t. (g : Firing) × ComesBefore r (cells_of rows) g f × (end_of cost start g ≡ t)) (start f) (timed rows i).start (starts f (i, j, here)) (λ u w. low u w.0 w.1 w.2)
+        greatest_least (λ t. (g : Firing) × ComesBefore r (cells_of rows) g f × (end_of cost start g ≡ t)) (start f)
+        (timed rows i).start (starts f (i, j, here)) (λ u w. low u w.0 w.1 w.2)
       where
         here : cell (cells_of rows) i j ≡ Some f
         here = cell_at rows i j ∙ e
 
-        rule : IsReadyAt r n cost (take i rows) (timed rows i).start f × (IsBusy cost (take i rows) (timed rows i).start j → ⊥)
-        rule = by_rule homed (take i rows) (timed rows i).start (timed rows i).cells j f (are.rows_are i (within i j f e)).by_rule e
+        rule : IsReadyAt r n cost (take i rows) (timed rows i).start f
+            × (IsBusy cost (take i rows) (timed rows i).start j → ⊥)
+        rule = by_rule homed (take i rows) (timed rows i).start (timed rows i).cells j f
+            (are.rows_are i (within i j f e)).by_rule e
 
         -- a firing of an earlier row has ended where the rule says so
-        ended : (k m : ℕ) (g : Firing) → IsAt (take i rows) k m g → end_at cost (take i rows) k g ≤ (timed rows i).start → end_of cost start g ≤ (timed rows i).start
+        ended : (k m : ℕ) (g : Firing) → IsAt (take i rows) k m g →
+            end_at cost (take i rows) k g ≤ (timed rows i).start → end_of cost start g ≤ (timed rows i).start
         ended k m g at l =
             let x = at_take rows i k m g at in
-            let same : (timed (take i rows) k).start ≡ (timed rows k).start = ap (λ (x : Timed). x.start) (timed_take rows i k x.0) in
+            let same : (timed (take i rows) k).start ≡ (timed rows k).start =
+            ap (λ (x : Timed). x.start) (timed_take rows i k x.0) in
             omega (arith, before k m g x.0 x.1, same, l)
 
-        column : (k : ℕ) (g : Firing) → IsAt (take i rows) k j g → (end_at cost (take i rows) k g ≤ (timed rows i).start) ⊎ ((timed rows i).start < end_at cost (take i rows) k g) → end_of cost start g ≤ (timed rows i).start
+        column : (k : ℕ) (g : Firing) → IsAt (take i rows) k j g →
+            (end_at cost (take i rows) k g ≤ (timed rows i).start)
+            ⊎ ((timed rows i).start < end_at cost (take i rows) k g) → end_of cost start g ≤ (timed rows i).start
         column k g at (inl l) = ended k j g at l
         column k g at (inr late) = absurd (rule.1 (k, g, at, late))
 
@@ -89,14 +107,21 @@ module _ (r : Rates) (n cost : ℕ → ℕ) (level : Firing → ℕ) (width : �
         turn m k (inl l) = inr l
         turn m k (inr l) = inl l
 
-        low : (u : ℕ) (g : Firing) → ComesBefore r (cells_of rows) g f → end_of cost start g ≡ u → u ≤ (timed rows i).start
+        low : (u : ℕ) (g : Firing) → ComesBefore r (cells_of rows) g f → end_of cost start g ≡ u →
+            u ≤ (timed rows i).start
         low u g (inl waits) is = let at = rule.0.waits g waits in omega (arith, ended at.0 at.1 g at.2 at.3, is)
         low u g (inr (k, x, y, l, up, at)) is =
             let same = cells.once x y i j f at here in
             let less : k < i = omega (arith, same.0) in
             let there : IsAt rows k j g = sym (cell_at rows k j) ∙ (ap (cell (cells_of rows) k) (sym same.1) ∙ up) in
-            let past : IsAt (take i rows) k j g = subst (λ (x : Timed). cell_of x.cells j ≡ Some g) (sym (timed_take rows i k less)) there in
-            omega (arith, column k g past (turn (timed rows i).start (end_at cost (take i rows) k g) (cases_lt (timed rows i).start (end_at cost (take i rows) k g))), is)
+            let past : IsAt (take i rows) k j g = subst (λ (x : Timed). cell_of x.cells j ≡ Some g)
+            (sym (timed_take rows i k less)) there in
+            omega (
+              arith,
+              column k g past (turn (timed rows i).start (end_at cost (take i rows) k g)
+                  (cases_lt (timed rows i).start (end_at cost (take i rows) k g))),
+              is,
+            )
 
     no_later_to : (i k m : ℕ) (f : Firing) → k < i → IsAt rows k m f → start f ≤ (timed rows k).start
     no_later_to zero k m f l e = absurd (omega arith)
@@ -106,4 +131,5 @@ module _ (r : Rates) (n cost : ℕ → ℕ) (level : Firing → ℕ) (width : �
     no_later i j f e = no_later_to (i + 1) i j f (omega arith) e
 
 pub rows_are_no_sooner : RowsAreNoSooner
-rows_are_no_sooner r n cost level width homed rows start are v starts = no_later r n cost level width homed rows start are (are_cells r n (cells_of rows) v) starts
+rows_are_no_sooner r n cost level width homed rows start are v starts =
+    no_later r n cost level width homed rows start are (are_cells r n (cells_of rows) v) starts

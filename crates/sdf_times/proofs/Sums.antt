@@ -1,5 +1,6 @@
 -- What the cells of a table cost together: column by column, and actor by actor.
-use Rattle.std.proofs.Common.{◌≡◌, ℕ, zero, suc, ◌+◌, ◌*◌, ◌≤◌, ◌<◌, ◌⊎◌, List, [], ◌∷◌, ◌++◌, length, get_or, map, cond, eqb, inl, inr, sym, ap, ◌∙◌, arith, refl, Option, Some, None}
+use Rattle.std.proofs.Common.{◌≡◌, ℕ, zero, suc, ◌+◌, ◌*◌, ◌≤◌, ◌<◌, ◌⊎◌, List, [], ◌∷◌, ◌++◌, length, get_or, map}
+use Rattle.std.proofs.Common.{cond, eqb, inl, inr, sym, ap, ◌∙◌, arith, refl, Option, Some, None}
 use Rattle.std.proofs.lemmas.Bool.{cases_eq, eq-eqb, ne_eqb}
 use Rattle.std.proofs.lemmas.List.Sums.{sum_by-cons}
 use Rattle.sdf_graph.specs.Rates.{Rates, sum_to}
@@ -11,7 +12,8 @@ use Rattle.sdf_times.specs.Times.{cost_in, load_of, work_of}
 
 sum_same : (f g : ℕ → ℕ) (m : ℕ) → ((i : ℕ) → i < m → f i ≡ g i) → sum_to f m ≡ sum_to g m
 sum_same f g zero same = refl
-sum_same f g (suc m) same = let ih = sum_same f g m (λ i h. same i (omega arith)) in omega (arith, ih, same m (omega arith))
+sum_same f g (suc m) same = let ih = sum_same f g m (λ i h. same i (omega arith)) in
+    omega (arith, ih, same m (omega arith))
 
 sum_both : (f g : ℕ → ℕ) (m : ℕ) → sum_to (λ i. f i + g i) m ≡ sum_to f m + sum_to g m
 sum_both f g zero = omega arith
@@ -34,7 +36,8 @@ only_here b x a e = ap (λ t. cond t x 0) (eq-eqb b a e)
 only_there : (b x a : ℕ) → (b ≡ a → ⊥) → only_at b x a ≡ 0
 only_there b x a ne = ap (λ t. cond t x 0) (ne_eqb b a ne)
 
-sum_only_step : (b x m : ℕ) → b < suc m → (b < m → sum_to (only_at b x) m ≡ x) → (b ≡ m) ⊎ (b ≡ m → ⊥) → sum_to (only_at b x) (suc m) ≡ x
+sum_only_step : (b x m : ℕ) → b < suc m → (b < m → sum_to (only_at b x) m ≡ x) → (b ≡ m) ⊎ (b ≡ m → ⊥) →
+    sum_to (only_at b x) (suc m) ≡ x
 sum_only_step b x m l ih (inl e) =
     let none = sum_none (only_at b x) m (λ i h. only_there b x i (λ d. omega (arith, d, e, h))) in
     omega (arith, none, only_here b x m e)
@@ -55,7 +58,8 @@ module _ (cost : ℕ → ℕ) where
   worth_append (f ∷ fs) gs = let ih = worth_append fs gs in omega (arith, ih)
 
   -- column by column
-  cells_worth : (cells : List (Option Firing)) (width : ℕ) → length cells ≤ width → sum_to (λ j. cost_in cost (get_or cells j None)) width ≡ worth (firings cells)
+  cells_worth : (cells : List (Option Firing)) (width : ℕ) → length cells ≤ width →
+      sum_to (λ j. cost_in cost (get_or cells j None)) width ≡ worth (firings cells)
   cells_worth [] width l = sum_none (λ j. cost_in cost (get_or [] j None)) width (λ i h. refl)
   cells_worth (x ∷ cells) zero l = absurd (omega arith)
   cells_worth (None ∷ cells) (suc width) l =
@@ -67,12 +71,14 @@ module _ (cost : ℕ → ℕ) where
       let front = sum_front (λ j. cost_in cost (get_or (Some f ∷ cells) j None)) width in
       omega (arith, ih, front)
 
-  pub rows_worth : (rows : List (List (Option Firing))) (width : ℕ) → ((i : ℕ) → i < length rows → length (row rows i) ≤ width) → sum_to (load_of cost rows) width ≡ worth (order rows)
+  pub rows_worth : (rows : List (List (Option Firing))) (width : ℕ) →
+      ((i : ℕ) → i < length rows → length (row rows i) ≤ width) → sum_to (load_of cost rows) width ≡ worth (order rows)
   rows_worth [] width wide = sum_none (load_of cost []) width (λ i h. refl)
   rows_worth (cells ∷ rows) width wide =
       let ih = rows_worth rows width (λ i h. wide (suc i) (omega arith)) in
       let first = cells_worth cells width (wide 0 (omega arith)) in
-      let same = sum_same (load_of cost (cells ∷ rows)) (λ j. cost_in cost (get_or cells j None) + load_of cost rows j) width (λ j h. sum_front (λ i. cost_in cost (cell (cells ∷ rows) i j)) (length rows)) in
+      let same = sum_same (load_of cost (cells ∷ rows)) (λ j. cost_in cost (get_or cells j None) + load_of cost rows j)
+      width (λ j h. sum_front (λ i. cost_in cost (cell (cells ∷ rows) i j)) (length rows)) in
       let both = sum_both (λ j. cost_in cost (get_or cells j None)) (load_of cost rows) width in
       let joined = worth_append (firings cells) (order rows) in
       omega (arith, ih, first, same, both, joined)
@@ -91,22 +97,28 @@ module _ (cost : ℕ → ℕ) where
       let rest : (0 + t) * cost a ≡ t * cost a = ap (λ x. x * cost a) (let e : 0 + t ≡ t = omega arith in e) in
       omega (arith, none, rest, only_there b (cost b) a ne)
 
-  actors_worth : (fs : List Firing) (m : ℕ) → ((p : ℕ) → p < length fs → (firing fs p).actor < m) → sum_to (λ a. times (map (λ f. f.actor) fs) a * cost a) m ≡ worth fs
+  actors_worth : (fs : List Firing) (m : ℕ) → ((p : ℕ) → p < length fs → (firing fs p).actor < m) →
+      sum_to (λ a. times (map (λ f. f.actor) fs) a * cost a) m ≡ worth fs
   actors_worth [] m known = sum_none (λ a. times [] a * cost a) m (λ a h. omega arith)
   actors_worth (f ∷ fs) m known =
       let w = map (λ (f : Firing). f.actor) fs in
       let ih = actors_worth fs m (λ p h. known (suc p) (omega arith)) in
-      let step = sum_same (λ a. times (f.actor ∷ w) a * cost a) (λ a. only_at f.actor (cost f.actor) a + times w a * cost a) m
-      (λ a h. ap (λ t. t * cost a) (sum_by-cons (λ b. cond (eqb b a) 1 0) f.actor w) ∙ one_more f.actor a (times w a) (cases_eq f.actor a)) in
+      let step = sum_same (λ a. times (f.actor ∷ w) a * cost a)
+      (λ a. only_at f.actor (cost f.actor) a + times w a * cost a) m
+      (λ a h. ap (λ t. t * cost a) (sum_by-cons (λ b. cond (eqb b a) 1 0) f.actor w)
+      ∙ one_more f.actor a (times w a) (cases_eq f.actor a)) in
       let both = sum_both (only_at f.actor (cost f.actor)) (λ a. times w a * cost a) m in
       let one = sum_only f.actor (cost f.actor) m (known 0 (omega arith)) in
       omega (arith, ih, step, both, one)
 
   -- what the columns do together is the work of the block
-  pub columns_do_work : OrdersAreAdmissible → (r : Rates) (n : ℕ → ℕ) (rows : List (List (Option Firing))) (width : ℕ) → IsValid r n rows →
-      ((i : ℕ) → i < length rows → length (row rows i) ≤ width) → sum_to (load_of cost rows) width ≡ work_of r.actors n cost
+  pub columns_do_work : OrdersAreAdmissible → (r : Rates) (n : ℕ → ℕ) (rows : List (List (Option Firing))) (width : ℕ) →
+      IsValid r n rows →
+      ((i : ℕ) → i < length rows → length (row rows i) ≤ width) →
+      sum_to (load_of cost rows) width ≡ work_of r.actors n cost
   columns_do_work passes r n rows width v wide =
       let pass = passes r n rows v in
       let by_actor = actors_worth (order rows) r.actors (λ p h. (v.known p h).0) in
-      let same = sum_same (λ a. times (sequence rows) a * cost a) (λ a. n a * cost a) r.actors (λ a h. ap (λ t. t * cost a) (pass.1 a h)) in
+      let same = sum_same (λ a. times (sequence rows) a * cost a) (λ a. n a * cost a) r.actors
+      (λ a h. ap (λ t. t * cost a) (pass.1 a h)) in
       rows_worth rows width wide ∙ (sym by_actor ∙ same)

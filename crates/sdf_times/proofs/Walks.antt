@@ -1,6 +1,9 @@
 -- One cell more of a table.
-use Rattle.std.proofs.Common.{◌≡◌, ℕ, ◌+◌, ◌-◌, ◌*◌, ◌^◌, ◌≤◌, ◌<◌, ◌⊎◌, List, [], ◌∷◌, ◌++◌, length, get_or, set, replicate, inl, inr, sym, ap, ◌∙◌, subst, arith, refl, Option, Some, None}
-use Rattle.std.proofs.lemmas.List.{get_or_append_left, get_or-append_right, get_or_push, get_or-set_same, get_or-set_other, get_or_past, length-set, length_push, length-replicate, get_or-replicate}
+use Rattle.std.proofs.Common.{◌≡◌, ℕ, ◌+◌, ◌-◌, ◌*◌, ◌^◌, ◌≤◌, ◌<◌, ◌⊎◌, List, [], ◌∷◌, ◌++◌, length, get_or, set}
+use Rattle.std.proofs.Common.{replicate, inl, inr, sym, ap, ◌∙◌, subst, arith, refl, Option, Some, None}
+use Rattle.std.proofs.lemmas.List.{get_or_append_left, get_or-append_right, get_or_push, get_or-set_same}
+use Rattle.std.proofs.lemmas.List.{get_or-set_other, get_or_past, length-set, length_push, length-replicate}
+use Rattle.std.proofs.lemmas.List.{get_or-replicate}
 use Rattle.std.proofs.lemmas.Option.{none-some, same_Some}
 use Rattle.std.proofs.lemmas.Bool.{cases_lt, cases_eq}
 use Rattle.sdf_limits.specs.declared.TheConstants.{MOST_COST, MOST_BLOCK}
@@ -9,13 +12,15 @@ use Rattle.sdf_prec.specs.declared.firing.Firing.{Firing}
 use Rattle.sdf_prec.specs.Precedence.{WaitsFor}
 use Rattle.sdf_prec.specs.Tables.{row, cell}
 use Rattle.sdf_prec.specs.Costs.{AreCosts}
-use Rattle.sdf_times.specs.Times.{IsGreatest, IsInTable, IsAbove, ComesBefore, IsStart, AreStarts, IsMakespan, end_of, start_in, HasStart}
+use Rattle.sdf_times.specs.Times.{IsGreatest, IsInTable, IsAbove, ComesBefore, IsStart, AreStarts, IsMakespan, end_of}
+use Rattle.sdf_times.specs.Times.{start_in, HasStart}
 use Rattle.sdf_times.specs.Walks.{IsPast, IsColumnEnd, IsWalk, IsNeedEnd, IsPrepared, IsFired}
 use Rattle.sdf_times.proofs.Greatest.{greatest_same, greatest_none, greatest_least}
 use Rattle.sdf_times.proofs.Cells.{AreCells, column_in, row_in}
 
 -- what comes before a firing stands in an earlier row
-pub before_earlier : (r : Rates) (n : ℕ → ℕ) (rows : List (List (Option Firing))) → AreCells r n rows → (k m : ℕ) (f g : Firing) → cell rows k m ≡ Some f → ComesBefore r rows g f →
+pub before_earlier : (r : Rates) (n : ℕ → ℕ) (rows : List (List (Option Firing))) → AreCells r n rows →
+    (k m : ℕ) (f g : Firing) → cell rows k m ≡ Some f → ComesBefore r rows g f →
     (i : ℕ) × (j : ℕ) × (i < k) × (cell rows i j ≡ Some g)
 before_earlier r n rows cells k m f g e (inl waits) = cells.earlier k m f g e waits
 before_earlier r n rows cells k m f g e (inr (i, x, j, low, above, at)) =
@@ -23,8 +28,10 @@ before_earlier r n rows cells k m f g e (inr (i, x, j, low, above, at)) =
     (i, j, omega (arith, same.0), above)
 
 -- a walk by other cells that are passed, which are the same where firings stand
-pub walk_same : (r : Rates) (cost : ℕ → ℕ) (rows : List (List (Option Firing))) (Past Past' : ℕ → ℕ → Type 0) (starts : List (List ℕ)) (until : List ℕ) →
-    ((k m : ℕ) (f : Firing) → cell rows k m ≡ Some f → Past k m → Past' k m) → ((k m : ℕ) (f : Firing) → cell rows k m ≡ Some f → Past' k m → Past k m) →
+pub walk_same : (r : Rates) (cost : ℕ → ℕ) (rows : List (List (Option Firing))) (Past Past' : ℕ → ℕ → Type 0)
+    (starts : List (List ℕ)) (until : List ℕ) →
+    ((k m : ℕ) (f : Firing) → cell rows k m ≡ Some f → Past k m → Past' k m) →
+    ((k m : ℕ) (f : Firing) → cell rows k m ≡ Some f → Past' k m → Past k m) →
     IsWalk r cost rows Past starts until → IsWalk r cost rows Past' starts until
 walk_same r cost rows Past Past' starts until to from w = record {
   actors = w.actors;
@@ -32,14 +39,18 @@ walk_same r cost rows Past Past' starts until to from w = record {
   only = λ f h. let at = w.only f h in (at.0, at.1, at.2, to at.0 at.1 f at.2 at.3);
   each = λ k m f e p. w.each k m f e (from k m f e p);
   early = λ k m f e p. w.early k m f e (from k m f e p);
-  through = λ m l. greatest_same (IsColumnEnd cost rows Past (start_in starts) m) (IsColumnEnd cost rows Past' (start_in starts) m) (get_or until m 0)
-      (λ u x. (x.0, x.1, x.2, to x.0 m x.1 x.2 x.3, x.4)) (λ u x. (x.0, x.1, x.2, from x.0 m x.1 x.2 x.3, x.4)) (w.through m l);
+  through = λ m l. greatest_same (IsColumnEnd cost rows Past (start_in starts) m)
+      (IsColumnEnd cost rows Past' (start_in starts) m) (get_or until m 0)
+      (λ u x. (x.0, x.1, x.2, to x.0 m x.1 x.2 x.3, x.4)) (λ u x. (x.0, x.1, x.2, from x.0 m x.1 x.2 x.3, x.4))
+      (w.through m l);
 }
 
 -- an empty cell is passed
-pub walk_skip : (r : Rates) (cost : ℕ → ℕ) (rows : List (List (Option Firing))) (i j : ℕ) (starts : List (List ℕ)) (until : List ℕ) → cell rows i j ≡ None →
+pub walk_skip : (r : Rates) (cost : ℕ → ℕ) (rows : List (List (Option Firing))) (i j : ℕ) (starts : List (List ℕ))
+    (until : List ℕ) → cell rows i j ≡ None →
     IsWalk r cost rows (IsPast i j) starts until → IsWalk r cost rows (IsPast i (j + 1)) starts until
-walk_skip r cost rows i j starts until none = walk_same r cost rows (IsPast i j) (IsPast i (j + 1)) starts until (λ k m f e p. to k m p) (λ k m f e p. from k m f e p)
+walk_skip r cost rows i j starts until none = walk_same r cost rows (IsPast i j) (IsPast i (j + 1)) starts until
+    (λ k m f e p. to k m p) (λ k m f e p. from k m f e p)
   where
     to : (k m : ℕ) → IsPast i j k m → IsPast i (j + 1) k m
     to k m (inl low) = inl low
@@ -56,9 +67,11 @@ walk_skip r cost rows i j starts until none = walk_same r cost rows (IsPast i j)
         go (inr ne) = inr (same, omega arith)
 
 -- and so is the end of a row
-pub walk_row : (r : Rates) (cost : ℕ → ℕ) (rows : List (List (Option Firing))) (i j : ℕ) (starts : List (List ℕ)) (until : List ℕ) → length (row rows i) ≤ j →
+pub walk_row : (r : Rates) (cost : ℕ → ℕ) (rows : List (List (Option Firing))) (i j : ℕ) (starts : List (List ℕ))
+    (until : List ℕ) → length (row rows i) ≤ j →
     IsWalk r cost rows (IsPast i j) starts until → IsWalk r cost rows (IsPast (i + 1) 0) starts until
-walk_row r cost rows i j starts until past = walk_same r cost rows (IsPast i j) (IsPast (i + 1) 0) starts until (λ k m f e p. to k m p) (λ k m f e p. from k m f e p)
+walk_row r cost rows i j starts until past = walk_same r cost rows (IsPast i j) (IsPast (i + 1) 0) starts until
+    (λ k m f e p. to k m p) (λ k m f e p. from k m f e p)
   where
     to : (k m : ℕ) → IsPast i j k m → IsPast (i + 1) 0 k m
     to k m (inl low) = inl (omega arith)
@@ -73,15 +86,18 @@ walk_row r cost rows i j starts until past = walk_same r cost rows (IsPast i j) 
         go (inr ne) = inl (omega arith)
 
 -- before the first cell
-pub walk_first : (r : Rates) (cost : ℕ → ℕ) (rows : List (List (Option Firing))) (starts : List (List ℕ)) (until : List ℕ) → length starts ≡ r.actors →
-    ((a : ℕ) → get_or starts a [] ≡ []) → ((m : ℕ) → get_or until m 0 ≡ 0) → IsWalk r cost rows (IsPast 0 0) starts until
+pub walk_first : (r : Rates) (cost : ℕ → ℕ) (rows : List (List (Option Firing))) (starts : List (List ℕ))
+    (until : List ℕ) → length starts ≡ r.actors →
+    ((a : ℕ) → get_or starts a [] ≡ []) → ((m : ℕ) → get_or until m 0 ≡ 0) →
+    IsWalk r cost rows (IsPast 0 0) starts until
 walk_first r cost rows starts until all none zero = record {
   actors = all;
   known = λ k m f e p. absurd (no k m p);
   only = λ f h. absurd (empty f h);
   each = λ k m f e p. absurd (no k m p);
   early = λ k m f e p. absurd (no k m p);
-  through = λ m l. greatest_none (IsColumnEnd cost rows (IsPast 0 0) (start_in starts) m) (get_or until m 0) (zero m) (λ u x. no x.0 m x.3);
+  through = λ m l. greatest_none (IsColumnEnd cost rows (IsPast 0 0) (start_in starts) m) (get_or until m 0) (zero m)
+      (λ u x. no x.0 m x.3);
 }
   where
     no : (k m : ℕ) → IsPast 0 0 k m → ⊥
@@ -91,8 +107,10 @@ walk_first r cost rows starts until all none zero = record {
     empty : (f : Firing) → HasStart starts f → ⊥
     empty f h = omega (arith, ap (λ (xs : List ℕ). length xs) (none f.actor))
 
-module _ (r : Rates) (n cost : ℕ → ℕ) (rows : List (List (Option Firing))) (i j : ℕ) (f : Firing) (starts : List (List ℕ)) (until : List ℕ) (cells : AreCells r n rows)
-    (cheap : (a : ℕ) → a < r.actors → cost a ≤ MOST_COST) (here : cell rows i j ≡ Some f) (w : IsWalk r cost rows (IsPast i j) starts until) where
+module _ (r : Rates) (n cost : ℕ → ℕ) (rows : List (List (Option Firing))) (i j : ℕ) (f : Firing)
+    (starts : List (List ℕ)) (until : List ℕ) (cells : AreCells r n rows)
+    (cheap : (a : ℕ) → a < r.actors → cost a ≤ MOST_COST) (here : cell rows i j ≡ Some f)
+    (w : IsWalk r cost rows (IsPast i j) starts until) where
   abbrev old : Firing → ℕ
   old = start_in starts
 
@@ -118,11 +136,13 @@ module _ (r : Rates) (n cost : ℕ → ℕ) (rows : List (List (Option Firing)))
   next : f.number ≡ length (get_or starts f.actor [])
   next = go (cases_lt 0 f.number) (cases_lt f.number (length (get_or starts f.actor [])))
     where
-      go : (0 < f.number) ⊎ (f.number ≤ 0) → (f.number < length (get_or starts f.actor [])) ⊎ (length (get_or starts f.actor []) ≤ f.number) → f.number ≡ length (get_or starts f.actor [])
+      go : (0 < f.number) ⊎ (f.number ≤ 0) → (f.number < length (get_or starts f.actor []))
+          ⊎ (length (get_or starts f.actor []) ≤ f.number) → f.number ≡ length (get_or starts f.actor [])
       go z (inl low) = absurd (new_here low)
       go (inr z) (inr high) = omega arith
       go (inl some) (inr high) =
-          let h : f.number - 1 < length (get_or starts f.actor []) = waited (record { actor = f.actor; number = f.number - 1 }) (inl (refl, omega arith)) in
+          let h : f.number - 1 < length (get_or starts f.actor []) =
+          waited (record { actor = f.actor; number = f.number - 1 }) (inl (refl, omega arith)) in
           omega arith
 
   known_here : f.actor < length starts
@@ -142,11 +162,13 @@ module _ (r : Rates) (n cost : ℕ → ℕ) (rows : List (List (Option Firing)))
     rise = λ a k l. rise a k l;
   }
     where
-      rise : (a k : ℕ) → k + 1 < length (get_or starts a []) → get_or (get_or starts a []) k 0 ≤ get_or (get_or starts a []) (k + 1) 0
+      rise : (a k : ℕ) → k + 1 < length (get_or starts a []) →
+          get_or (get_or starts a []) k 0 ≤ get_or (get_or starts a []) (k + 1) 0
       rise a k l =
           let at = w.only (record { actor = a; number = k + 1 }) l in
           let is = w.each at.0 at.1 (record { actor = a; number = k + 1 }) at.2 at.3 in
-          let low = is.above (get_or (get_or starts a []) k 0 + cost a) (record { actor = a; number = k }, inl (inl (refl, refl)), refl) in
+          let low = is.above (get_or (get_or starts a []) k 0 + cost a)
+          (record { actor = a; number = k }, inl (inl (refl, refl)), refl) in
           omega (arith, low)
 
   -- the column is through by then
@@ -161,7 +183,8 @@ module _ (r : Rates) (n cost : ℕ → ℕ) (rows : List (List (Option Firing)))
   pub until_small : i < MOST_BLOCK → j < length until → get_or until j 0 < 2 ^ 40
   until_small l known = omega (arith, through_early (get_or until j 0) (w.through j known).reached, small_of l)
 
-  module _ (starts' : List (List ℕ)) (until' : List ℕ) (column : j < length until) (fired : IsFired r cost f j starts until starts' until') where
+  module _ (starts' : List (List ℕ)) (until' : List ℕ) (column : j < length until)
+      (fired : IsFired r cost f j starts until starts' until') where
     abbrev new : Firing → ℕ
     new = start_in starts'
 
@@ -169,13 +192,16 @@ module _ (r : Rates) (n cost : ℕ → ℕ) (rows : List (List (Option Firing)))
     line = get_or starts f.actor [] ++ fired.start ∷ []
 
     own_line : get_or starts' f.actor [] ≡ line
-    own_line = ap (λ (xs : List (List ℕ)). get_or xs f.actor []) fired.starts_are ∙ get_or-set_same starts f.actor line [] known_here
+    own_line = ap (λ (xs : List (List ℕ)). get_or xs f.actor []) fired.starts_are
+        ∙ get_or-set_same starts f.actor line [] known_here
 
     other_line : (a : ℕ) → (a ≡ f.actor → ⊥) → get_or starts' a [] ≡ get_or starts a []
-    other_line a ne = ap (λ (xs : List (List ℕ)). get_or xs a []) fired.starts_are ∙ get_or-set_other starts f.actor a line [] ne
+    other_line a ne = ap (λ (xs : List (List ℕ)). get_or xs a []) fired.starts_are
+        ∙ get_or-set_other starts f.actor a line [] ne
 
     own_start : new f ≡ fired.start
-    own_start = ap (λ (xs : List ℕ). get_or xs f.number 0) own_line ∙ get_or_push (get_or starts f.actor []) fired.start 0 f.number (sym next)
+    own_start = ap (λ (xs : List ℕ). get_or xs f.number 0) own_line
+        ∙ get_or_push (get_or starts f.actor []) fired.start 0 f.number (sym next)
 
     kept : (g : Firing) → HasStart starts g → new g ≡ old g
     kept g h = go (cases_eq g.actor f.actor)
@@ -185,11 +211,19 @@ module _ (r : Rates) (n cost : ℕ → ℕ) (rows : List (List (Option Firing)))
         go (inl e) =
             let was : get_or starts g.actor [] ≡ get_or starts f.actor [] = ap (λ a. get_or starts a []) e in
             let is : get_or starts' g.actor [] ≡ line = ap (λ a. get_or starts' a []) e ∙ own_line in
-            let low : g.number < length (get_or starts f.actor []) = omega (arith, h, ap (λ (xs : List ℕ). length xs) was) in
-            ap (λ (xs : List ℕ). get_or xs g.number 0) is ∙ (get_or_append_left (get_or starts f.actor []) (fired.start ∷ []) 0 g.number low ∙ ap (λ (xs : List ℕ). get_or xs g.number 0) (sym was))
+            let low : g.number < length (get_or starts f.actor []) =
+            omega (arith, h, ap (λ (xs : List ℕ). length xs) was) in
+            ap (λ (xs : List ℕ). get_or xs g.number 0) is
+            ∙ (get_or_append_left (get_or starts f.actor []) (fired.start ∷ []) 0 g.number low
+            ∙ ap (λ (xs : List ℕ). get_or xs g.number 0) (sym was))
 
     has_own : HasStart starts' f
-    has_own = omega (arith, ap (λ (xs : List ℕ). length xs) own_line, length_push (get_or starts f.actor []) fired.start, next)
+    has_own = omega (
+      arith,
+      ap (λ (xs : List ℕ). length xs) own_line,
+      length_push (get_or starts f.actor []) fired.start,
+      next,
+    )
 
     has_kept : (g : Firing) → HasStart starts g → HasStart starts' g
     has_kept g h = go (cases_eq g.actor f.actor)
@@ -199,18 +233,26 @@ module _ (r : Rates) (n cost : ℕ → ℕ) (rows : List (List (Option Firing)))
         go (inl e) =
             let was : get_or starts g.actor [] ≡ get_or starts f.actor [] = ap (λ a. get_or starts a []) e in
             let is : get_or starts' g.actor [] ≡ line = ap (λ a. get_or starts' a []) e ∙ own_line in
-            omega (arith, h, ap (λ (xs : List ℕ). length xs) was, ap (λ (xs : List ℕ). length xs) is, length_push (get_or starts f.actor []) fired.start)
+            omega (
+              arith,
+              h,
+              ap (λ (xs : List ℕ). length xs) was,
+              ap (λ (xs : List ℕ). length xs) is,
+              length_push (get_or starts f.actor []) fired.start,
+            )
 
     has_only : (g : Firing) → HasStart starts' g → HasStart starts g ⊎ (g ≡ f)
     has_only g h = go (cases_eq g.actor f.actor) (cases_eq g.number f.number)
       where
-        go : (g.actor ≡ f.actor) ⊎ (g.actor ≡ f.actor → ⊥) → (g.number ≡ f.number) ⊎ (g.number ≡ f.number → ⊥) → HasStart starts g ⊎ (g ≡ f)
+        go : (g.actor ≡ f.actor) ⊎ (g.actor ≡ f.actor → ⊥) → (g.number ≡ f.number) ⊎ (g.number ≡ f.number → ⊥) →
+            HasStart starts g ⊎ (g ≡ f)
         go (inr ne) d = inl (omega (arith, h, ap (λ (xs : List ℕ). length xs) (other_line g.actor ne)))
         go (inl e) (inl d) = inr (λ x. record { actor = e x; number = d x })
         go (inl e) (inr ne) =
             let was : get_or starts g.actor [] ≡ get_or starts f.actor [] = ap (λ a. get_or starts a []) e in
             let is : get_or starts' g.actor [] ≡ line = ap (λ a. get_or starts' a []) e ∙ own_line in
-            let long : length line ≡ length (get_or starts f.actor []) + 1 = length_push (get_or starts f.actor []) fired.start in
+            let long : length line ≡ length (get_or starts f.actor []) + 1 =
+            length_push (get_or starts f.actor []) fired.start in
             inl (omega (arith, h, ap (λ (xs : List ℕ). length xs) was, ap (λ (xs : List ℕ). length xs) is, long, next))
 
     -- which cells are passed now
@@ -236,21 +278,26 @@ module _ (r : Rates) (n cost : ℕ → ℕ) (rows : List (List (Option Firing)))
 
     -- what comes before a firing that is passed was kept
     ended : (k m : ℕ) (g h : Firing) → cell rows k m ≡ Some g → IsPast i j k m → ComesBefore r rows h g → new h ≡ old h
-    ended k m g h e p b = let at = before_earlier r n rows cells k m g h e b in kept h (w.known at.0 at.1 h at.3 (past_before k m at.0 at.1 p at.2))
+    ended k m g h e p b = let at = before_earlier r n rows cells k m g h e b in
+        kept h (w.known at.0 at.1 h at.3 (past_before k m at.0 at.1 p at.2))
 
     ended_here : (h : Firing) → ComesBefore r rows h f → new h ≡ old h
-    ended_here h b = let at = before_earlier r n rows cells i j f h here b in kept h (w.known at.0 at.1 h at.3 (inl at.2))
+    ended_here h b = let at = before_earlier r n rows cells i j f h here b in
+        kept h (w.known at.0 at.1 h at.3 (inl at.2))
 
-    known_more : (k m : ℕ) (g : Firing) → cell rows k m ≡ Some g → IsPast i j k m ⊎ ((k ≡ i) × (m ≡ j)) → HasStart starts' g
+    known_more : (k m : ℕ) (g : Firing) → cell rows k m ≡ Some g → IsPast i j k m ⊎ ((k ≡ i) × (m ≡ j)) →
+        HasStart starts' g
     known_more k m g e (inl p) = has_kept g (w.known k m g e p)
     known_more k m g e (inr q) = subst (HasStart starts') (at_here k m g e q) has_own
 
-    only_more : (g : Firing) → HasStart starts g ⊎ (g ≡ f) → (k : ℕ) × (m : ℕ) × (cell rows k m ≡ Some g) × IsPast i (j + 1) k m
+    only_more : (g : Firing) → HasStart starts g ⊎ (g ≡ f) →
+        (k : ℕ) × (m : ℕ) × (cell rows k m ≡ Some g) × IsPast i (j + 1) k m
     only_more g (inl h) = let at = w.only g h in (at.0, at.1, at.2, past_more at.0 at.1 at.3)
     only_more g (inr e) = (i, j, here ∙ ap Some (sym e), inr (refl, omega arith))
 
     start_here : IsStart r cost rows new f
-    start_here = subst (IsGreatest (λ t. (g : Firing) × ComesBefore r rows g f × (end_of cost new g ≡ t))) (sym own_start) (record { above = λ u x. above u x.0 x.1 x.2; reached = reach fired.is.reached })
+    start_here = subst (IsGreatest (λ t. (g : Firing) × ComesBefore r rows g f × (end_of cost new g ≡ t)))
+        (sym own_start) (record { above = λ u x. above u x.0 x.1 x.2; reached = reach fired.is.reached })
       where
         above : (u : ℕ) (g : Firing) → ComesBefore r rows g f → end_of cost new g ≡ u → u ≤ fired.start
         above u g b e = go b
@@ -263,18 +310,21 @@ module _ (r : Rates) (n cost : ℕ → ℕ) (rows : List (List (Option Firing)))
             go (inr (k, x, y, low, up, at)) =
                 let same = cells.once x y i j f at here in
                 let there : cell rows k j ≡ Some g = ap (cell rows k) (sym same.1) ∙ up in
-                let high : u ≤ get_or until j 0 = (w.through j column).above u (k, g, there, inl (omega (arith, same.0)), was) in
+                let high : u ≤ get_or until j 0 = (w.through j column).above u
+                (k, g, there, inl (omega (arith, same.0)), was) in
                 let more : get_or until j 0 ≤ fired.start = fired.is.above (get_or until j 0) (inl refl) in
                 omega arith
 
-        by_column : (k : ℕ) (g : Firing) → cell rows k j ≡ Some g → IsPast i j k j → end_of cost old g ≡ get_or until j 0 → fired.start ≡ get_or until j 0 →
+        by_column : (k : ℕ) (g : Firing) → cell rows k j ≡ Some g → IsPast i j k j →
+            end_of cost old g ≡ get_or until j 0 → fired.start ≡ get_or until j 0 →
             (g : Firing) × ComesBefore r rows g f × (end_of cost new g ≡ fired.start)
         by_column k g e (inr (same, low)) is at = absurd (omega arith)
         by_column k g e (inl low) is at =
             let b : ComesBefore r rows g f = inr (k, i, j, low, e, here) in
             (g, b, ap (λ t. t + cost g.actor) (ended_here g b) ∙ (is ∙ sym at))
 
-        by_until : fired.start ≡ get_or until j 0 → (get_or until j 0 ≡ 0) ⊎ IsColumnEnd cost rows (IsPast i j) old j (get_or until j 0) →
+        by_until : fired.start ≡ get_or until j 0 → (get_or until j 0 ≡ 0)
+            ⊎ IsColumnEnd cost rows (IsPast i j) old j (get_or until j 0) →
             (fired.start ≡ 0) ⊎ ((g : Firing) × ComesBefore r rows g f × (end_of cost new g ≡ fired.start))
         by_until at (inl z) = inl (at ∙ z)
         by_until at (inr (k, g, e, p, is)) = inr (by_column k g e p is at)
@@ -285,22 +335,28 @@ module _ (r : Rates) (n cost : ℕ → ℕ) (rows : List (List (Option Firing)))
         reach (inr (inl at)) = by_until at (w.through j column).reached
         reach (inr (inr (g, waits, e))) = inr (g, inl waits, ap (λ t. t + cost g.actor) (ended_here g (inl waits)) ∙ e)
 
-    each_more : (k m : ℕ) (g : Firing) → cell rows k m ≡ Some g → IsPast i j k m ⊎ ((k ≡ i) × (m ≡ j)) → IsStart r cost rows new g
+    each_more : (k m : ℕ) (g : Firing) → cell rows k m ≡ Some g → IsPast i j k m ⊎ ((k ≡ i) × (m ≡ j)) →
+        IsStart r cost rows new g
     each_more k m g e (inr q) = subst (IsStart r cost rows new) (at_here k m g e q) start_here
     each_more k m g e (inl p) =
-        subst (IsGreatest (λ t. (h : Firing) × ComesBefore r rows h g × (end_of cost new h ≡ t))) (sym (kept g (w.known k m g e p)))
-        (greatest_same (λ t. (h : Firing) × ComesBefore r rows h g × (end_of cost old h ≡ t)) (λ t. (h : Firing) × ComesBefore r rows h g × (end_of cost new h ≡ t)) (old g)
+        subst (IsGreatest (λ t. (h : Firing) × ComesBefore r rows h g × (end_of cost new h ≡ t)))
+        (sym (kept g (w.known k m g e p)))
+        (greatest_same (λ t. (h : Firing) × ComesBefore r rows h g × (end_of cost old h ≡ t))
+        (λ t. (h : Firing) × ComesBefore r rows h g × (end_of cost new h ≡ t)) (old g)
         (λ u x. (x.0, x.1, ap (λ t. t + cost x.0.actor) (ended k m g x.0 e p x.1) ∙ x.2))
         (λ u x. (x.0, x.1, ap (λ t. t + cost x.0.actor) (sym (ended k m g x.0 e p x.1)) ∙ x.2)) (w.each k m g e p))
 
     start_early : fired.start ≤ MOST_COST * i
-    start_early = greatest_least (λ u. (u ≡ get_or until j 0) ⊎ IsNeedEnd r cost old f u) fired.start (MOST_COST * i) fired.is low
+    start_early = greatest_least (λ u. (u ≡ get_or until j 0) ⊎ IsNeedEnd r cost old f u) fired.start
+        (MOST_COST * i) fired.is low
       where
         low : (u : ℕ) → (u ≡ get_or until j 0) ⊎ IsNeedEnd r cost old f u → u ≤ MOST_COST * i
         low u (inl e) = omega (arith, e, through_early (get_or until j 0) (w.through j column).reached)
-        low u (inr (g, waits, e)) = let at = cells.earlier i j f g here waits in omega (arith, end_early at.0 at.1 g at.3 at.2, e)
+        low u (inr (g, waits, e)) = let at = cells.earlier i j f g here waits in
+            omega (arith, end_early at.0 at.1 g at.3 at.2, e)
 
-    early_more : (k m : ℕ) (g : Firing) → cell rows k m ≡ Some g → IsPast i j k m ⊎ ((k ≡ i) × (m ≡ j)) → new g ≤ MOST_COST * k
+    early_more : (k m : ℕ) (g : Firing) → cell rows k m ≡ Some g → IsPast i j k m ⊎ ((k ≡ i) × (m ≡ j)) →
+        new g ≤ MOST_COST * k
     early_more k m g e (inl p) = omega (arith, w.early k m g e p, kept g (w.known k m g e p))
     early_more k m g e (inr q) =
         let its : new f ≡ new g = ap new (at_here k m g e q) in
@@ -313,7 +369,8 @@ module _ (r : Rates) (n cost : ℕ → ℕ) (rows : List (List (Option Firing)))
       reached = inr (i, f, here, inr (refl, omega arith), ap (λ t. t + cost f.actor) own_start);
     }
       where
-        above : (u k : ℕ) (g : Firing) → cell rows k j ≡ Some g → end_of cost new g ≡ u → IsPast i j k j ⊎ ((k ≡ i) × (j ≡ j)) → u ≤ fired.start + cost f.actor
+        above : (u k : ℕ) (g : Firing) → cell rows k j ≡ Some g → end_of cost new g ≡ u →
+            IsPast i j k j ⊎ ((k ≡ i) × (j ≡ j)) → u ≤ fired.start + cost f.actor
         above u k g e is (inr q) =
             let its : end_of cost new f ≡ end_of cost new g = ap (end_of cost new) (at_here k j g e q) in
             omega (arith, its, own_start, is)
@@ -323,26 +380,39 @@ module _ (r : Rates) (n cost : ℕ → ℕ) (rows : List (List (Option Firing)))
             let more : get_or until j 0 ≤ fired.start = fired.is.above (get_or until j 0) (inl refl) in
             omega arith
 
-    through_other : (m : ℕ) → (m ≡ j → ⊥) → m < length until → IsGreatest (IsColumnEnd cost rows (IsPast i (j + 1)) new m) (get_or until m 0)
+    through_other : (m : ℕ) → (m ≡ j → ⊥) → m < length until →
+        IsGreatest (IsColumnEnd cost rows (IsPast i (j + 1)) new m) (get_or until m 0)
     through_other m ne l =
-        greatest_same (IsColumnEnd cost rows (IsPast i j) old m) (IsColumnEnd cost rows (IsPast i (j + 1)) new m) (get_or until m 0)
-        (λ u x. (x.0, x.1, x.2, past_more x.0 m x.3, ap (λ t. t + cost x.1.actor) (kept x.1 (w.known x.0 m x.1 x.2 x.3)) ∙ x.4))
+        greatest_same (IsColumnEnd cost rows (IsPast i j) old m) (IsColumnEnd cost rows (IsPast i (j + 1)) new m)
+        (get_or until m 0)
+        (λ u x. (
+          x.0,
+          x.1,
+          x.2,
+          past_more x.0 m x.3,
+          ap (λ t. t + cost x.1.actor) (kept x.1 (w.known x.0 m x.1 x.2 x.3)) ∙ x.4,
+        ))
         (λ u x. back u x.0 x.1 x.2 x.4 (past_less x.0 m x.3)) (w.through m l)
       where
-        back : (u k : ℕ) (g : Firing) → cell rows k m ≡ Some g → end_of cost new g ≡ u → IsPast i j k m ⊎ ((k ≡ i) × (m ≡ j)) → IsColumnEnd cost rows (IsPast i j) old m u
+        back : (u k : ℕ) (g : Firing) → cell rows k m ≡ Some g → end_of cost new g ≡ u →
+            IsPast i j k m ⊎ ((k ≡ i) × (m ≡ j)) → IsColumnEnd cost rows (IsPast i j) old m u
         back u k g e is (inr q) = absurd (ne q.1)
         back u k g e is (inl p) = (k, g, e, p, ap (λ t. t + cost g.actor) (sym (kept g (w.known k m g e p))) ∙ is)
 
-    through_more : (m : ℕ) → m < length until' → (m ≡ j) ⊎ (m ≡ j → ⊥) → IsGreatest (IsColumnEnd cost rows (IsPast i (j + 1)) new m) (get_or until' m 0)
+    through_more : (m : ℕ) → m < length until' → (m ≡ j) ⊎ (m ≡ j → ⊥) →
+        IsGreatest (IsColumnEnd cost rows (IsPast i (j + 1)) new m) (get_or until' m 0)
     through_more m l (inl e) =
         let is : get_or until' j 0 ≡ fired.start + cost f.actor =
-        ap (λ (xs : List ℕ). get_or xs j 0) fired.until_are ∙ get_or-set_same until j (fired.start + cost f.actor) 0 column in
+        ap (λ (xs : List ℕ). get_or xs j 0) fired.until_are
+        ∙ get_or-set_same until j (fired.start + cost f.actor) 0 column in
         subst (λ m. IsGreatest (IsColumnEnd cost rows (IsPast i (j + 1)) new m) (get_or until' m 0)) (sym e)
         (subst (IsGreatest (IsColumnEnd cost rows (IsPast i (j + 1)) new j)) (sym is) through_here)
     through_more m l (inr ne) =
         let is : get_or until' m 0 ≡ get_or until m 0 =
-        ap (λ (xs : List ℕ). get_or xs m 0) fired.until_are ∙ get_or-set_other until j m (fired.start + cost f.actor) 0 ne in
-        let long : length until' ≡ length until = ap (λ (xs : List ℕ). length xs) fired.until_are ∙ length-set until j (fired.start + cost f.actor) in
+        ap (λ (xs : List ℕ). get_or xs m 0) fired.until_are
+        ∙ get_or-set_other until j m (fired.start + cost f.actor) 0 ne in
+        let long : length until' ≡ length until = ap (λ (xs : List ℕ). length xs) fired.until_are
+        ∙ length-set until j (fired.start + cost f.actor) in
         subst (IsGreatest (IsColumnEnd cost rows (IsPast i (j + 1)) new m)) (sym is) (through_other m ne (omega arith))
 
     pub walk_fire : IsWalk r cost rows (IsPast i (j + 1)) starts' until'
@@ -359,14 +429,16 @@ module _ (r : Rates) (n cost : ℕ → ℕ) (rows : List (List (Option Firing)))
     wide_fire = ap (λ (xs : List ℕ). length xs) fired.until_are ∙ length-set until j (fired.start + cost f.actor)
 
 -- after the last cell: the times of the table
-module _ (r : Rates) (cost : ℕ → ℕ) (rows : List (List (Option Firing))) (starts : List (List ℕ)) (until : List ℕ) (w : IsWalk r cost rows (IsPast (length rows) 0) starts until) where
+module _ (r : Rates) (cost : ℕ → ℕ) (rows : List (List (Option Firing))) (starts : List (List ℕ)) (until : List ℕ)
+    (w : IsWalk r cost rows (IsPast (length rows) 0) starts until) where
   pub walk_starts : AreStarts r cost rows (start_in starts)
   walk_starts f (i, j, e) = w.each i j f e (inl (row_in rows i j f e))
 
   pub walk_has : (f : Firing) → IsInTable rows f → HasStart starts f
   walk_has f (i, j, e) = w.known i j f e (inl (row_in rows i j f e))
 
-  pub walk_makespan : ((i : ℕ) → i < length rows → length (row rows i) ≡ length until) → (t : ℕ) → IsGreatest (λ u. (j : ℕ) × (j < length until) × (get_or until j 0 ≡ u)) t →
+  pub walk_makespan : ((i : ℕ) → i < length rows → length (row rows i) ≡ length until) → (t : ℕ) →
+      IsGreatest (λ u. (j : ℕ) × (j < length until) × (get_or until j 0 ≡ u)) t →
       IsMakespan cost rows (start_in starts) t
   walk_makespan wide t g = record { above = λ u x. above u x.0 x.1.0 x.1.1 x.1.2 x.2; reached = reach g.reached }
     where
@@ -378,12 +450,14 @@ module _ (r : Rates) (cost : ℕ → ℕ) (rows : List (List (Option Firing))) (
           let high : get_or until j 0 ≤ t = g.above (get_or until j 0) (j, known, refl) in
           omega arith
 
-      by : (j : ℕ) → get_or until j 0 ≡ t → (get_or until j 0 ≡ 0) ⊎ IsColumnEnd cost rows (IsPast (length rows) 0) (start_in starts) j (get_or until j 0) →
+      by : (j : ℕ) → get_or until j 0 ≡ t → (get_or until j 0 ≡ 0)
+          ⊎ IsColumnEnd cost rows (IsPast (length rows) 0) (start_in starts) j (get_or until j 0) →
           (t ≡ 0) ⊎ ((f : Firing) × IsInTable rows f × (end_of cost (start_in starts) f ≡ t))
       by j is (inl z) = inl (sym is ∙ z)
       by j is (inr (k, f, e, p, at)) = inr (f, (k, j, e), at ∙ is)
 
-      reach : (t ≡ 0) ⊎ ((j : ℕ) × (j < length until) × (get_or until j 0 ≡ t)) → (t ≡ 0) ⊎ ((f : Firing) × IsInTable rows f × (end_of cost (start_in starts) f ≡ t))
+      reach : (t ≡ 0) ⊎ ((j : ℕ) × (j < length until) × (get_or until j 0 ≡ t)) →
+          (t ≡ 0) ⊎ ((f : Firing) × IsInTable rows f × (end_of cost (start_in starts) f ≡ t))
       reach (inl z) = inl z
       reach (inr (j, l, is)) = by j is (w.through j l).reached
 

@@ -1,5 +1,6 @@
 -- When the firings of a table start and end, and how short any table of its block may be.
-use Rattle.std.specs.Prelude.{◌≡◌, ℕ, ◌+◌, ◌*◌, ◌≤◌, ◌<◌, ◌⊎◌, List, [], length, slice_index, slice_index_or, Option, Some, None}
+use Rattle.std.specs.Prelude.{◌≡◌, ℕ, ◌+◌, ◌*◌, ◌≤◌, ◌<◌, ◌⊎◌, List, [], length, slice_index, slice_index_or, Option}
+use Rattle.std.specs.Prelude.{Some, None}
 use Rattle.sdf_graph.specs.Rates.{Rates, sum_to}
 use Rattle.sdf_prec.specs.declared.firing.Firing.{Firing}
 use Rattle.sdf_prec.specs.Precedence.{WaitsFor}
@@ -30,7 +31,8 @@ end_of cost start f = start f + cost f.actor
 
 -- f starts when all firings have ended that come before it: at the greatest of their ends, or at 0 where there is none
 abbrev pub IsStart : Rates → (ℕ → ℕ) → List (List (Option Firing)) → (Firing → ℕ) → Firing → Type 0
-IsStart r cost rows start f = IsGreatest (λ t. (g : Firing) × ComesBefore r rows g f × (end_of cost start g ≡ t)) (start f)
+IsStart r cost rows start f = IsGreatest (λ t. (g : Firing) × ComesBefore r rows g f
+    × (end_of cost start g ≡ t)) (start f)
 
 -- the times of a table: each of its firings starts so
 abbrev pub AreStarts : Rates → (ℕ → ℕ) → List (List (Option Firing)) → (Firing → ℕ) → Type 0
@@ -57,7 +59,8 @@ work_of actors n cost = sum_to (λ a. n a * cost a) actors
 abbrev pub IsSpan : Rates → (ℕ → ℕ) → (ℕ → ℕ) → ℕ → Type 0
 IsSpan r n cost t = IsGreatest (λ u. (f : Firing) × IsOfBlock r n f × IsLevel r n cost f u) t
 
--- the greater of the span and of the work over the workers, rounded up: the least time in which the costliest chain ends and so many workers can do the work
+-- the greater of the span and of the work over the workers, rounded up: the least time in which the costliest chain
+-- ends and so many workers can do the work
 pub record IsBound (span work workers t : ℕ) : Type 0 where
   pub chains : span ≤ t
   pub shares : work ≤ t * workers
@@ -71,7 +74,8 @@ pub record IsBlockTable (r : Rates) (m : ℕ) (t : Tabled) : Type 0 where
   pub short : IsShort periods reps
   pub table : IsTable r (slice_index (block periods reps)) m t
 
--- times as they are kept: of each actor the starts of its first firings, when the last firing of all ends, and the load of each column
+-- times as they are kept: of each actor the starts of its first firings, when the last firing of all ends, and the load
+-- of each column
 pub record Timing : Type 0 where
   pub starts : List (List ℕ)
   pub makespan : ℕ

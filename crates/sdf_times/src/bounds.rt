@@ -34,7 +34,8 @@ pub fn work(reps: &[u32], j: u32, costs: &Costs) -> u64
 fn first_levels(of: &Levels, reps: &[u32], j: u32) -> u64
     requires some { 1 ≤ j }
     requires block { of.now.firings ≡ block j reps.now }
-    ensures { IsGreatest (λ u. (a : ℕ) × (0 < slice_index reps.now a) × (number of.now (record { actor = a; number = 0 }) ≡ u)) result }
+    ensures { IsGreatest (λ u. (a : ℕ) × (0 < slice_index reps.now a)
+        × (number of.now (record { actor = a; number = 0 }) ≡ u)) result }
 {
     let mut most = 0;
     for actor in 0..reps.len() {
@@ -64,8 +65,8 @@ pub fn span(
     Ok(first_levels(&of, period.repetitions(), j))
 }
 
-/// The least time in which the costliest chain ends and so many workers can do the work: no table of the block in as many
-/// columns ends sooner (`laws::bounds_hold`).
+/// The least time in which the costliest chain ends and so many workers can do the work: no table of the block in as
+/// many columns ends sooner (`laws::bounds_hold`).
 pub fn bound(span: u64, work: u64, workers: usize) -> u64
     requires { 0 < workers }
     ensures { IsBound span work workers result }

@@ -46,7 +46,8 @@ pub(crate) fn loads(
     requires known { (i j : ℕ) (f : Firing) → cell table.now.rows i j ≡ Some f → f.actor < length costs.now }
     requires short { length table.now.rows ≤ MOST_BLOCK }
     ensures all { IfOk result (λ v. length v.items ≡ m) }
-    ensures each { IfOk result (λ v. (j : ℕ) → j < m → slice_index v.items j ≡ load_of (slice_index costs.now) table.now.rows j) }
+    ensures each { IfOk result (λ v. (j : ℕ) → j < m →
+        slice_index v.items j ≡ load_of (slice_index costs.now) table.now.rows j) }
 {
     let mut loads = Vec::new(alloc);
     for column in 0..m {

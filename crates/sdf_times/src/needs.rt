@@ -16,9 +16,11 @@ fn ended(starts: &[Starts], costs: &Costs, actor: usize, count: u64) -> u64
     requires known { actor < length starts.now }
     requires costs { AreCosts (length starts.now) costs.now }
     requires started { count ≤ length (slice_index_or starts.now actor []) }
-    requires small { 0 < count → slice_index (slice_index_or starts.now actor []) (count - 1) + slice_index costs.now actor < 2 ^ 40 }
+    requires small { 0 < count → slice_index (slice_index_or starts.now actor []) (count - 1)
+        + slice_index costs.now actor < 2 ^ 40 }
     ensures none { count ≡ 0 → result ≡ 0 }
-    ensures last { 0 < count → result ≡ slice_index (slice_index_or starts.now actor []) (count - 1) + slice_index costs.now actor }
+    ensures last { 0 < count → result ≡ slice_index (slice_index_or starts.now actor []) (count - 1)
+        + slice_index costs.now actor }
 {
     if count == 0 {
         return 0;

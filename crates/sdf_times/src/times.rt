@@ -4,7 +4,8 @@ ghost use Rattle.std.specs.Prelude.{◌≡◌, ℕ, ◌≤◌, ◌<◌, length, 
 ghost use Rattle.sdf_graph.specs.Rates.{rates};
 ghost use Rattle.sdf_prec.specs.declared.firing.Firing.{Firing};
 ghost use Rattle.sdf_prec.specs.Costs.{AreCosts};
-ghost use Rattle.sdf_times.specs.Times.{IsGreatest, IsInTable, AreStarts, IsMakespan, IsBlockTable, load_of, start_in, HasStart};
+ghost use Rattle.sdf_times.specs.Times.{IsGreatest, IsInTable, AreStarts, IsMakespan, IsBlockTable, load_of, start_in};
+ghost use Rattle.sdf_times.specs.Times.{HasStart};
 
 use crate::loads::loads;
 use crate::starts::{Starts, no_starts};
@@ -44,8 +45,8 @@ fn greatest(times: &[u64]) -> u64
 
 impl Times {
     /// The times of a table in `m` columns: each firing starts when the firing before it in its column and all that it
-    /// waits for have ended, and ends its cost later. It takes time linear in the firings, each times the links into its
-    /// actor, and in the cells.
+    /// waits for have ended, and ends its cost later. It takes time linear in the firings, each times the links into
+    /// its actor, and in the cells.
     pub fn of(
         alloc: Global,
         graph: &Graph,
@@ -55,11 +56,14 @@ impl Times {
     ) -> Result<Times, AllocError>
         requires costs { AreCosts graph.now.actors costs.now }
         requires table { IsBlockTable (rates graph.now) m table.now }
-        ensures starts { IfOk result (λ t. AreStarts (rates graph.now) (slice_index costs.now) table.now.rows (start_in t.starts)) }
+        ensures starts { IfOk result (λ t. AreStarts (rates graph.now) (slice_index costs.now) table.now.rows
+            (start_in t.starts)) }
         ensures has { IfOk result (λ t. (f : Firing) → IsInTable table.now.rows f → HasStart t.starts f) }
-        ensures makespan { IfOk result (λ t. IsMakespan (slice_index costs.now) table.now.rows (start_in t.starts) t.makespan) }
+        ensures makespan { IfOk result (λ t. IsMakespan (slice_index costs.now) table.now.rows
+            (start_in t.starts) t.makespan) }
         ensures columns { IfOk result (λ t. length t.loads ≡ m) }
-        ensures loads { IfOk result (λ t. (j : ℕ) → j < m → slice_index t.loads j ≡ load_of (slice_index costs.now) table.now.rows j) }
+        ensures loads { IfOk result (λ t. (j : ℕ) → j < m →
+            slice_index t.loads j ≡ load_of (slice_index costs.now) table.now.rows j) }
     {
         tables_count();
         let mut starts = no_starts(alloc, graph.actors())?;

@@ -26,7 +26,8 @@ fn fire(
     requires prepared { IsPrepared (rates graph.now) (slice_index costs.now) starts.old.items firing }
     requires column { column < length until.old.items }
     requires small { slice_index until.old.items column < 2 ^ 40 }
-    ensures { IfOk result (λ _. IsFired (rates graph.now) (slice_index costs.now) firing column starts.old.items until.old.items starts.new.items until.new.items) }
+    ensures { IfOk result (λ _. IsFired (rates graph.now) (slice_index costs.now) firing column starts.old.items
+        until.old.items starts.new.items until.new.items) }
 {
     let start = until[column].max(ready(graph, starts, costs, firing));
     until[column] = start + u64::from(costs.of(firing.actor));
@@ -47,8 +48,10 @@ pub(crate) fn fire_row(
     requires table { (n : ℕ → ℕ) × IsTable (rates graph.now) n (length until.old.items) table.now }
     requires within { i < length table.now.rows }
     requires short { i < MOST_BLOCK }
-    requires walk { IsWalk (rates graph.now) (slice_index costs.now) table.now.rows (IsPast i 0) starts.old.items until.old.items }
-    ensures walk { IfOk result (λ _. IsWalk (rates graph.now) (slice_index costs.now) table.now.rows (IsPast (i + 1) 0) starts.new.items until.new.items) }
+    requires walk { IsWalk (rates graph.now) (slice_index costs.now) table.now.rows (IsPast i 0) starts.old.items
+        until.old.items }
+    ensures walk { IfOk result (λ _. IsWalk (rates graph.now) (slice_index costs.now) table.now.rows (IsPast (i + 1) 0)
+        starts.new.items until.new.items) }
     ensures wide { IfOk result (λ _. length until.new.items ≡ length until.old.items) }
 {
     for (column, cell) in table.row(i).iter().enumerate() {

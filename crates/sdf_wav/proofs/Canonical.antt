@@ -1,5 +1,6 @@
 -- What the numbers of a sound give is the canonical file of a sound, whatever their samples.
-use Rattle.std.proofs.Common.{◌≡◌, ℕ, ◌/◌, ◌%◌, ◌^◌, ◌<◌, ◌≤◌, ℤ, List, [], ◌∷◌, ◌++◌, length, None, refl, ap, ◌∙◌, arith}
+use Rattle.std.proofs.Common.{◌≡◌, ℕ, ◌/◌, ◌%◌, ◌^◌, ◌<◌, ◌≤◌, ℤ, List, [], ◌∷◌, ◌++◌, length, None, refl, ap, ◌∙◌}
+use Rattle.std.proofs.Common.{arith}
 use Rattle.std.specs.Prelude.{FitsSigned}
 use Rattle.std.specs.List.{AllByRecursion}
 use Rattle.std.specs.Int.{w16, byte_at, cast_signed, cast_unsigned}
@@ -36,9 +37,11 @@ narrowed_bytes (z ∷ zs) =
     let n = cast_unsigned w16 z % 65536 in
     let same : little_bytes 2 (cast_unsigned w16 (cast_signed w16 n)) ≡ little_bytes 2 (cast_unsigned w16 z) =
     ap (little_bytes 2) (of_z-to_z w16 n (omega arith)) ∙ low_bytes (cast_unsigned w16 z) in
-    ap (λ (l : List ℕ). l ++ sample_bytes (narrowed zs)) same ∙ ap (λ (l : List ℕ). little_bytes 2 (cast_unsigned w16 z) ++ l) (narrowed_bytes zs)
+    ap (λ (l : List ℕ). l ++ sample_bytes (narrowed zs)) same
+    ∙ ap (λ (l : List ℕ). little_bytes 2 (cast_unsigned w16 z) ++ l) (narrowed_bytes zs)
 
-pub is_canonical : (s : Sound) → 1 ≤ s.rate → s.rate < 2 ^ 32 → 1 ≤ s.channels → s.channels ≤ 8 → length s.samples % s.channels ≡ 0
+pub is_canonical : (s : Sound) → 1 ≤ s.rate → s.rate < 2 ^ 32 → 1 ≤ s.channels → s.channels ≤ 8 →
+    length s.samples % s.channels ≡ 0
     → write_fault s ≡ None → IsCanonical (canonical_wav s)
 is_canonical s some fits low high whole e = record {
   sound = record { rate = s.rate; channels = s.channels; samples = narrowed s.samples };

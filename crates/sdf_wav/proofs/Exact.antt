@@ -18,14 +18,16 @@ abbrev fault : FormatFault → Result (Sound × List ℕ) FormatFault
 fault f = Err f
 
 pub fault_of : (bytes : List ℕ) (r : FormatFault) → Outcome bytes → wav_at bytes ≡ Err r → HasFault bytes r
-fault_of bytes r (sounds t after is) e = let h : answer t after ≡ fault r = sym (wav_reads bytes t after is) ∙ e in absurd cc
+fault_of bytes r (sounds t after is) e = let h : answer t after ≡ fault r = sym (wav_reads bytes t after is) ∙ e in
+    absurd cc
 fault_of bytes r (faulty x at) e =
     let h : fault x ≡ fault r = sym (fault_reads bytes x at) ∙ e in
     let same : x ≡ r = cc in
     subst (HasFault bytes) same at
 
 -- every input has one outcome
-pub some_outcome : (bytes : List ℕ) → ((s : Sound) × (rest : List ℕ) × IsWav bytes s rest) ⊎ ((f : FormatFault) × HasFault bytes f)
+pub some_outcome : (bytes : List ℕ) → ((s : Sound) × (rest : List ℕ) × IsWav bytes s rest)
+    ⊎ ((f : FormatFault) × HasFault bytes f)
 some_outcome bytes =
     elim (outcome bytes) [
       | faulty f has ↦ inr (f, has)

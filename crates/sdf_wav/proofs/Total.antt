@@ -1,5 +1,8 @@
 -- Each list of bytes is a WAV file with a rest behind it, or has a fault.
-use Rattle.std.proofs.Common.{◌≡◌, ◌≢◌, ◌⊎◌, inl, inr, ℕ, zero, suc, ◌+◌, ◌*◌, ◌%◌, ◌<◌, ◌≤◌, min, Bool, true, false, not, ◌&&◌, ◌||◌, cond, ltb, eqb, List, [], ◌∷◌, ◌++◌, length, take, drop, Option, Some, None, Result, Ok, Err, refl, sym, ap, subst, ◌∙◌, arith, length-take, length-drop, append-nil}
+use Rattle.std.proofs.Common.{◌≡◌, ◌≢◌, ◌⊎◌, inl, inr, ℕ, zero, suc, ◌+◌, ◌*◌, ◌%◌, ◌<◌, ◌≤◌, min, Bool, true, false}
+use Rattle.std.proofs.Common.{not, ◌&&◌, ◌||◌, cond, ltb, eqb, List, [], ◌∷◌, ◌++◌, length, take, drop, Option, Some}
+use Rattle.std.proofs.Common.{None, Result, Ok, Err, refl, sym, ap, subst, ◌∙◌, arith, length-take, length-drop}
+use Rattle.std.proofs.Common.{append-nil}
 use Rattle.std.specs.Prelude.{codes}
 use Rattle.std.specs.List.{AllByRecursion}
 use Rattle.std.specs.Str.{bytes_eq}
@@ -9,19 +12,24 @@ use Rattle.std.proofs.lemmas.Bool.Decides.{eqb_tells}
 use Rattle.std.proofs.lemmas.List.{drop-drop, take-append-drop, take-take, drop-take, nil_from_length}
 use Rattle.byteorder.specs.Endian.{little_number}
 use Rattle.sdf_wav.specs.declared.fault.FormatFault.{FormatFault}
-use Rattle.sdf_wav.specs.declared.fault.FormatFault.TheVariants.{NotRiff, NotWave, NoFormat, NoData, Truncated, TooLong, ShortFormat, PartialFrame}
+use Rattle.sdf_wav.specs.declared.fault.FormatFault.TheVariants.{NotRiff, NotWave, NoFormat, NoData, Truncated, TooLong}
+use Rattle.sdf_wav.specs.declared.fault.FormatFault.TheVariants.{ShortFormat, PartialFrame}
 use Rattle.sdf_wav.specs.declared.format.Format.{Format}
 use Rattle.sdf_wav.specs.declared.parts.Fields.{Fields}
 use Rattle.sdf_wav.specs.Sound.{Sound, pcm_samples}
 use Rattle.sdf_wav.specs.Parts.{pcm_guid, fields_of, checked, format_of}
-use Rattle.sdf_wav.specs.Grammar.{Chunk, IsChunk, IsOther, IsNoData, IsContentOf, IsFormatChunk, Parts, Behind, Place, Content, IsWav}
-use Rattle.sdf_wav.specs.Fault.{IsHeader, PlaceFault, HasFault, ends_early, ends_before_data, header_cut, too_many, data_too_early, format_short, format_cut, format_bad, content_cut, data_partial, data_cut, open_long, open_partial, riff_cut, not_riff, wave_cut, not_wave, at_place}
+use Rattle.sdf_wav.specs.Grammar.{Chunk, IsChunk, IsOther, IsNoData, IsContentOf, IsFormatChunk, Parts, Behind, Place}
+use Rattle.sdf_wav.specs.Grammar.{Content, IsWav}
+use Rattle.sdf_wav.specs.Fault.{IsHeader, PlaceFault, HasFault, ends_early, ends_before_data, header_cut, too_many}
+use Rattle.sdf_wav.specs.Fault.{data_too_early, format_short, format_cut, format_bad, content_cut, data_partial}
+use Rattle.sdf_wav.specs.Fault.{data_cut, open_long, open_partial, riff_cut, not_riff, wave_cut, not_wave, at_place}
 use Rattle.sdf_wav.proofs.StepReads.{id_cases}
 use Rattle.sdf_wav.proofs.Formats.{fields_of-take}
 
 -- ---- tests
 
-guard_ok : {A : Type 0} (b : Bool) (d : FormatFault) (x : Result A FormatFault) (y : A) → cond b (Err d) x ≡ Ok y → (b ≡ false) × (x ≡ Ok y)
+guard_ok : {A : Type 0} (b : Bool) (d : FormatFault) (x : Result A FormatFault) (y : A) → cond b (Err d) x ≡ Ok y →
+    (b ≡ false) × (x ≡ Ok y)
 guard_ok true d x y e = absurd cc
 guard_ok false d x y e = (refl, e)
 
@@ -78,7 +86,12 @@ checked_passes t front f e =
         | inl plain ↦ inl (eqb-true t.tag 1 plain)
         | inr ext ↦
             let x = and_true (eqb t.tag 65534) (bytes_eq (take 16 (drop 24 front)) pcm_guid) ext in
-            inr (eqb-true t.tag 65534 x.0, ltb-false (length front) 40 (and_false (eqb t.tag 65534) (ltb (length front) 40) a.0 x.0), (bytes_eq-Decides (take 16 (drop 24 front)) pcm_guid).0 x.1)
+            inr (
+              eqb-true t.tag 65534 x.0,
+              ltb-false (length front) 40
+                  (and_false (eqb t.tag 65534) (ltb (length front) 40) a.0 x.0),
+              (bytes_eq-Decides (take 16 (drop 24 front)) pcm_guid).0 x.1,
+            )
       ];
       bits = eqb-true t.bits 16 pcm.0;
       one_channel = omega arith;
@@ -89,19 +102,26 @@ checked_passes t front f e =
       rate = ap (λ (x : Format). x.rate) is;
     }
 
-content_of : (content : List ℕ) (f : Format) (size : ℕ) → length content ≡ size → 16 ≤ size → format_of (take (min size 40) content) ≡ Ok f → IsContentOf content f
+content_of : (content : List ℕ) (f : Format) (size : ℕ) → length content ≡ size → 16 ≤ size →
+    format_of (take (min size 40) content) ≡ Ok f → IsContentOf content f
 unfolding format_of
 content_of content f size e long h =
     let front = take (min size 40) content in
     let m : 16 ≤ min size 40 = omega arith in
-    let p : Passed (fields_of content) front f = subst (λ (t : Fields). Passed t front f) (fields_of-take (min size 40) content m) (checked_passes (fields_of front) front f h) in
+    let p : Passed (fields_of content) front f = subst (λ (t : Fields). Passed t front f)
+    (fields_of-take (min size 40) content m) (checked_passes (fields_of front) front f h) in
     record {
       long = omega arith;
       tag = elim p.tag [
         | inl plain ↦ inl plain
         | inr ext ↦
             let k : min size 40 ≡ 40 = omega (arith, length-take (min size 40) content, ext.1) in
-            inr (ext.0, omega (arith, length-take (min size 40) content, ext.1), sym (ap (λ (j : ℕ). take 16 (drop 24 (take j content))) k ∙ ap (take 16) (drop-take 24 16 content) ∙ take-take 16 16 (drop 24 content) (omega arith)) ∙ ext.2)
+            inr (
+              ext.0,
+              omega (arith, length-take (min size 40) content, ext.1),
+              sym (ap (λ (j : ℕ). take 16 (drop 24 (take j content))) k ∙ ap (take 16) (drop-take 24 16 content)
+                  ∙ take-take 16 16 (drop 24 content) (omega arith)) ∙ ext.2,
+            )
       ];
       bits = p.bits;
       channels = p.channels;
@@ -123,7 +143,8 @@ whole_header : (rest : List ℕ) → 8 ≤ length rest → IsHeader rest (take 4
 whole_header rest h = record {
   id_is_four = omega (arith, length-take 4 rest);
   size_is_four = omega (arith, length-take 4 (drop 4 rest), length-drop 4 rest);
-  whole = sym (ap (λ l. take 4 rest ++ l) (ap (λ l. take 4 (drop 4 rest) ++ l) (sym (drop-drop 4 4 rest)) ∙ take-append-drop 4 (drop 4 rest)) ∙ take-append-drop 4 rest);
+  whole = sym (ap (λ l. take 4 rest ++ l) (ap (λ l. take 4 (drop 4 rest) ++ l) (sym (drop-drop 4 4 rest))
+      ∙ take-append-drop 4 (drop 4 rest)) ∙ take-append-drop 4 rest);
 }
 
 header_case : (rest : List ℕ) → HeaderCase rest
@@ -143,21 +164,31 @@ One (Some g) c now = IsNoData c × (now ≡ Some g)
 
 data ChunkCase (seen : Option Format) (rest : List ℕ) : Type 0 where
   faulty : (r : FormatFault) → ((passed : ℕ) → passed < 65536 → PlaceFault seen passed rest r) → ChunkCase seen rest
-  goes : (c : Chunk) (after : List ℕ) (now : Option Format) → rest ≡ c.id ++ (c.size ++ (c.content ++ after)) → One seen c now → ChunkCase seen rest
+  goes : (c : Chunk) (after : List ℕ) (now : Option Format) → rest ≡ c.id ++ (c.size ++ (c.content ++ after)) →
+      One seen c now → ChunkCase seen rest
 
 -- the chunk that a header and bytes enough behind it make
 abbrev chunk_of : List ℕ → List ℕ → List ℕ → Chunk
 chunk_of id size after = record { id = id; size = size; content = take (little_number 4 size) after }
 
-is_chunk : (rest id size after : List ℕ) → IsHeader rest id size after → little_number 4 size ≤ length after → IsChunk (chunk_of id size after)
-is_chunk rest id size after h long = record { id_is_four = h.id_is_four; size_is_four = h.size_is_four; content_is_size = omega (arith, length-take (little_number 4 size) after) }
+is_chunk : (rest id size after : List ℕ) → IsHeader rest id size after → little_number 4 size ≤ length after →
+    IsChunk (chunk_of id size after)
+is_chunk rest id size after h long = record {
+  id_is_four = h.id_is_four;
+  size_is_four = h.size_is_four;
+  content_is_size = omega (arith, length-take (little_number 4 size) after);
+}
 
-chunk_whole : (rest id size after : List ℕ) → IsHeader rest id size after → rest ≡ id ++ (size ++ (take (little_number 4 size) after ++ drop (little_number 4 size) after))
-chunk_whole rest id size after h = h.whole ∙ ap (λ l. id ++ (size ++ l)) (sym (take-append-drop (little_number 4 size) after))
+chunk_whole : (rest id size after : List ℕ) → IsHeader rest id size after →
+    rest ≡ id ++ (size ++ (take (little_number 4 size) after ++ drop (little_number 4 size) after))
+chunk_whole rest id size after h = h.whole ∙ ap (λ l. id ++ (size ++ l))
+    (sym (take-append-drop (little_number 4 size) after))
 
-by_format : (rest size after : List ℕ) → IsHeader rest (codes "fmt ") size after → 16 ≤ little_number 4 size → little_number 4 size ≤ length after
+by_format : (rest size after : List ℕ) → IsHeader rest (codes "fmt ") size after → 16 ≤ little_number 4 size →
+    little_number 4 size ≤ length after
     → (r : Result Format FormatFault) → format_of (take (min (little_number 4 size) 40) after) ≡ r → ChunkCase None rest
-by_format rest size after h long enough (Err r) e = faulty r (λ passed more. format_bad size after r h refl more long enough e)
+by_format rest size after h long enough (Err r) e =
+    faulty r (λ passed more. format_bad size after r h refl more long enough e)
 by_format rest size after h long enough (Ok f) e =
     let n = little_number 4 size in
     let len : length (take n after) ≡ n = omega (arith, length-take n after) in
@@ -179,41 +210,49 @@ format_case rest size after h =
     ]
 
 -- any other chunk before the data
-skip_case : (seen : Option Format) (rest id size after : List ℕ) → IsHeader rest id size after → id ≢ codes "data" → (seen ≡ None → id ≢ codes "fmt ")
+skip_case : (seen : Option Format) (rest id size after : List ℕ) → IsHeader rest id size after → id ≢ codes "data" →
+    (seen ≡ None → id ≢ codes "fmt ")
     → ((c : Chunk) → c ≡ chunk_of id size after → IsChunk c → One seen c seen) → ChunkCase seen rest
 skip_case seen rest id size after h d f one =
     let n = little_number 4 size in
     elim (cases_lt (length after) n) [
       | inl few ↦ faulty Truncated (λ passed more. content_cut id size after h d f more few)
-      | inr enough ↦ goes (chunk_of id size after) (drop n after) seen (chunk_whole rest id size after h) (one (chunk_of id size after) refl (is_chunk rest id size after h enough))
+      | inr enough ↦ goes (chunk_of id size after) (drop n after) seen (chunk_whole rest id size after h)
+          (one (chunk_of id size after) refl (is_chunk rest id size after h enough))
     ]
 
-chunk_case : (seen : Option Format) (rest id size after : List ℕ) → IsHeader rest id size after → id ≢ codes "data" → ChunkCase seen rest
+chunk_case : (seen : Option Format) (rest id size after : List ℕ) → IsHeader rest id size after → id ≢ codes "data" →
+    ChunkCase seen rest
 chunk_case None rest id size after h d =
     elim (id_cases id (codes "fmt ")) [
       | inl e ↦ format_case rest size after (subst (λ (x : List ℕ). IsHeader rest x size after) e h)
-      | inr f ↦ skip_case None rest id size after h d (λ x. f) (λ c e is. inl (record { chunk = is; not_data = rw e d; not_format = rw e f }, refl))
+      | inr f ↦ skip_case None rest id size after h d (λ x. f)
+          (λ c e is. inl (record { chunk = is; not_data = rw e d; not_format = rw e f }, refl))
     ]
 chunk_case (Some g) rest id size after h d =
-    skip_case (Some g) rest id size after h d (λ x. absurd cc) (λ c e is. (record { chunk = is; not_data = rw e d }, refl))
+    skip_case (Some g) rest id size after h d (λ x. absurd cc)
+    (λ c e is. (record { chunk = is; not_data = rw e d }, refl))
 
 -- ---- over all chunks
 
 abbrev Passes : Option Format → List Chunk → Option Format → Type 0
 Passes (Some g) cs now = (now ≡ Some g) × AllByRecursion IsNoData cs
 Passes None [] now = now ≡ None
-Passes None (c ∷ cs) now = (IsOther c × Passes None cs now) ⊎ ((f : Format) × IsFormatChunk c f × (now ≡ Some f) × AllByRecursion IsNoData cs)
+Passes None (c ∷ cs) now = (IsOther c × Passes None cs now)
+    ⊎ ((f : Format) × IsFormatChunk c f × (now ≡ Some f) × AllByRecursion IsNoData cs)
 
 Behind-cons : (c : Chunk) (cs : List Chunk) (now : Option Format) → IsOther c → Behind cs now → Behind (c ∷ cs) now
 Behind-cons c cs None o b = (o, b)
-Behind-cons c cs (Some f) o (before, format, between, split, others, is, later) = (c ∷ before, format, between, ap (λ l. c ∷ l) split, (o, others), is, later)
+Behind-cons c cs (Some f) o (before, format, between, split, others, is, later) =
+    (c ∷ before, format, between, ap (λ l. c ∷ l) split, (o, others), is, later)
 
 Behind-passes : (cs : List Chunk) (now : Option Format) → Passes None cs now → Behind cs now
 Behind-passes [] now e = rw e tt
 Behind-passes (c ∷ cs) now (inl p) = Behind-cons c cs now p.0 (Behind-passes cs now p.1)
 Behind-passes (c ∷ cs) now (inr p) = rw p.2 ([], c, cs, refl, tt, p.1, p.3)
 
-Passes-cons : (seen mid now : Option Format) (c : Chunk) (cs : List Chunk) → One seen c mid → Passes mid cs now → Passes seen (c ∷ cs) now
+Passes-cons : (seen mid now : Option Format) (c : Chunk) (cs : List Chunk) → One seen c mid → Passes mid cs now →
+    Passes seen (c ∷ cs) now
 Passes-cons None mid now c cs (inl o) p = inl (o.0, subst (λ (m : Option Format). Passes m cs now) o.1 p)
 Passes-cons None mid now c cs (inr o) p =
     let q : Passes (Some o.0) cs now = subst (λ (m : Option Format). Passes m cs now) o.2 p in
@@ -251,13 +290,22 @@ record Reach (m passed : ℕ) (seen : Option Format) (bytes : List ℕ) : Type 0
   end : End now (passed + length cs) rest
 
 here : (m passed : ℕ) (seen : Option Format) (bytes : List ℕ) → End seen passed bytes → Reach m passed seen bytes
-here m passed seen bytes e = record { cs = []; now = seen; rest = bytes; parts = refl; passes = Passes-nil seen; few = omega arith; end = subst (λ k. End seen k bytes) {y = passed + 0} (omega arith) e }
+here m passed seen bytes e = record {
+  cs = [];
+  now = seen;
+  rest = bytes;
+  parts = refl;
+  passes = Passes-nil seen;
+  few = omega arith;
+  end = subst (λ k. End seen k bytes) {y = passed + 0} (omega arith) e;
+}
 
 ends : (passed : ℕ) (seen : Option Format) (rest : List ℕ) → rest ≡ [] → End seen passed rest
 ends passed None rest e = inl (NoFormat, ends_early refl e)
 ends passed (Some f) rest e = inl (NoData, ends_before_data f refl e)
 
-data_case : (passed : ℕ) (seen : Option Format) (rest size after : List ℕ) → IsHeader rest (codes "data") size after → End seen passed rest
+data_case : (passed : ℕ) (seen : Option Format) (rest size after : List ℕ) → IsHeader rest (codes "data") size after →
+    End seen passed rest
 data_case passed None rest size after h = inl (NoFormat, data_too_early size after h refl)
 data_case passed (Some f) rest size after h =
     let n = little_number 4 size in
@@ -266,7 +314,17 @@ data_case passed (Some f) rest size after h =
       | inl unsized ↦ elim (cases_lt 4294967294 (length after)) [
         | inl long ↦ inl (TooLong, open_long f size after h refl unsized.1 long)
         | inr fits ↦ elim (eqb_tells (length after % align) 0) [
-          | inl whole ↦ inr (record { format = f; size = size; content = after; after = []; known = refl; bytes = h.whole ∙ ap (λ l. codes "data" ++ (size ++ l)) (sym (append-nil after)); size_is_four = h.size_is_four; content_is = inr (unsized.1, fits, refl); whole = whole.1 })
+          | inl whole ↦ inr (record {
+            format = f;
+            size = size;
+            content = after;
+            after = [];
+            known = refl;
+            bytes = h.whole ∙ ap (λ l. codes "data" ++ (size ++ l)) (sym (append-nil after));
+            size_is_four = h.size_is_four;
+            content_is = inr (unsized.1, fits, refl);
+            whole = whole.1;
+          })
           | inr partial ↦ inl (PartialFrame, open_partial f size after h refl unsized.1 fits partial.1)
         ]
       ]
@@ -275,14 +333,25 @@ data_case passed (Some f) rest size after h =
           | inl few ↦ inl (Truncated, data_cut f size after h refl sized.1 whole.1 few)
           | inr enough ↦
               let len : length (take n after) ≡ n = omega (arith, length-take n after) in
-              inr (record { format = f; size = size; content = take n after; after = drop n after; known = refl; bytes = chunk_whole rest (codes "data") size after h; size_is_four = h.size_is_four; content_is = inl (sized.1, len); whole = rw len whole.1 })
+              inr (record {
+                format = f;
+                size = size;
+                content = take n after;
+                after = drop n after;
+                known = refl;
+                bytes = chunk_whole rest (codes "data") size after h;
+                size_is_four = h.size_is_four;
+                content_is = inl (sized.1, len);
+                whole = rw len whole.1;
+              })
         ]
         | inr partial ↦ inl (PartialFrame, data_partial f size after h refl sized.1 partial.1)
       ]
     ]
 
 -- one chunk more
-more : (m passed : ℕ) (seen now : Option Format) (bytes after : List ℕ) (c : Chunk) → bytes ≡ c.id ++ (c.size ++ (c.content ++ after)) → One seen c now
+more : (m passed : ℕ) (seen now : Option Format) (bytes after : List ℕ) (c : Chunk) →
+    bytes ≡ c.id ++ (c.size ++ (c.content ++ after)) → One seen c now
     → Reach m (passed + 1) now (drop (length c.content % 2) after) → Reach (suc m) passed seen bytes
 more m passed seen now bytes after c split one r = record {
   cs = c ∷ r.cs;
@@ -294,7 +363,8 @@ more m passed seen now bytes after c split one r = record {
   end = subst (λ k. End r.now k r.rest) {x = passed + 1 + length r.cs} (omega arith) r.end;
 }
 
-reach_last : (passed : ℕ) (seen : Option Format) (bytes : List ℕ) → passed ≡ 65536 → HeaderCase bytes → Reach 0 passed seen bytes
+reach_last : (passed : ℕ) (seen : Option Format) (bytes : List ℕ) → passed ≡ 65536 → HeaderCase bytes →
+    Reach 0 passed seen bytes
 reach_last passed seen bytes e (empty n) = here 0 passed seen bytes (ends passed seen bytes n)
 reach_last passed seen bytes e (cut a b) = here 0 passed seen bytes (inl (Truncated, header_cut a b))
 reach_last passed seen bytes e (header id size after h) =
@@ -303,22 +373,29 @@ reach_last passed seen bytes e (header id size after h) =
       | inr d ↦ inl (TooLong, too_many id size after h d e)
     ])
 
-go_on : (m passed : ℕ) (seen : Option Format) (bytes : List ℕ) → passed < 65536 → ((now : Option Format) (after : List ℕ) → Reach m (passed + 1) now after) → ChunkCase seen bytes → Reach (suc m) passed seen bytes
+go_on : (m passed : ℕ) (seen : Option Format) (bytes : List ℕ) → passed < 65536 →
+    ((now : Option Format) (after : List ℕ) → Reach m (passed + 1) now after) → ChunkCase seen bytes →
+    Reach (suc m) passed seen bytes
 go_on m passed seen bytes lt next (faulty r fault) = here (suc m) passed seen bytes (inl (r, fault passed lt))
-go_on m passed seen bytes lt next (goes c after now split one) = more m passed seen now bytes after c split one (next now (drop (length c.content % 2) after))
+go_on m passed seen bytes lt next (goes c after now split one) =
+    more m passed seen now bytes after c split one (next now (drop (length c.content % 2) after))
 
-reach_next : (m passed : ℕ) (seen : Option Format) (bytes : List ℕ) → passed < 65536 → ((now : Option Format) (after : List ℕ) → Reach m (passed + 1) now after) → HeaderCase bytes → Reach (suc m) passed seen bytes
+reach_next : (m passed : ℕ) (seen : Option Format) (bytes : List ℕ) → passed < 65536 →
+    ((now : Option Format) (after : List ℕ) → Reach m (passed + 1) now after) → HeaderCase bytes →
+    Reach (suc m) passed seen bytes
 reach_next m passed seen bytes lt next (empty n) = here (suc m) passed seen bytes (ends passed seen bytes n)
 reach_next m passed seen bytes lt next (cut a b) = here (suc m) passed seen bytes (inl (Truncated, header_cut a b))
 reach_next m passed seen bytes lt next (header id size after h) =
     elim (id_cases id (codes "data")) [
-      | inl d ↦ here (suc m) passed seen bytes (data_case passed seen bytes size after (subst (λ (x : List ℕ). IsHeader bytes x size after) d h))
+      | inl d ↦ here (suc m) passed seen bytes (data_case passed seen bytes size after
+          (subst (λ (x : List ℕ). IsHeader bytes x size after) d h))
       | inr d ↦ go_on m passed seen bytes lt next (chunk_case seen bytes id size after h d)
     ]
 
 reach : (m passed : ℕ) (seen : Option Format) (bytes : List ℕ) → passed + m ≡ 65536 → Reach m passed seen bytes
 reach zero passed seen bytes e = reach_last passed seen bytes (omega arith) (header_case bytes)
-reach (suc m) passed seen bytes e = reach_next m passed seen bytes (omega arith) (λ now after. reach m (passed + 1) now after (omega arith)) (header_case bytes)
+reach (suc m) passed seen bytes e = reach_next m passed seen bytes (omega arith)
+    (λ now after. reach m (passed + 1) now after (omega arith)) (header_case bytes)
 
 -- ---- all bytes
 
@@ -326,24 +403,35 @@ pub data Outcome (bytes : List ℕ) : Type 0 where
   faulty : (r : FormatFault) → HasFault bytes r → Outcome bytes
   sounds : (s : Sound) (rest : List ℕ) → IsWav bytes s rest → Outcome bytes
 
-at_body : (bytes riff_size body : List ℕ) → bytes ≡ codes "RIFF" ++ (riff_size ++ (codes "WAVE" ++ body)) → length riff_size ≡ 4 → Reach 65536 0 None body → Outcome bytes
+at_body : (bytes riff_size body : List ℕ) → bytes ≡ codes "RIFF" ++ (riff_size ++ (codes "WAVE" ++ body)) →
+    length riff_size ≡ 4 → Reach 65536 0 None body → Outcome bytes
 at_body bytes riff_size body start four r =
-    let place : Place bytes r.cs r.now r.rest = record { riff_size = riff_size; body = body; start = start; size_is_four = four; parts = r.parts; known = Behind-passes r.cs r.now r.passes; few = r.few } in
+    let place : Place bytes r.cs r.now r.rest = record {
+      riff_size = riff_size;
+      body = body;
+      start = start;
+      size_is_four = four;
+      parts = r.parts;
+      known = Behind-passes r.cs r.now r.passes;
+      few = r.few;
+    } in
     elim r.end [
-      | inl fault ↦ faulty fault.0 (at_place r.cs r.now r.rest fault.0 place (subst (λ k. PlaceFault r.now k r.rest fault.0) {x = 0 + length r.cs} (omega arith) fault.1))
-      | inr d ↦ sounds (record { rate = d.format.rate; channels = d.format.channels; samples = pcm_samples d.content }) d.after (record {
-        chunks = r.cs;
-        format = d.format;
-        size = d.size;
-        content = d.content;
-        place = subst (λ (x : Option Format × List ℕ). Place bytes r.cs x.0 x.1) (rw (d.known, d.bytes) refl) place;
-        size_is_four = d.size_is_four;
-        content_is = d.content_is;
-        rate = refl;
-        channels = refl;
-        samples = refl;
-        whole = d.whole;
-      })
+      | inl fault ↦ faulty fault.0 (at_place r.cs r.now r.rest fault.0 place
+          (subst (λ k. PlaceFault r.now k r.rest fault.0) {x = 0 + length r.cs} (omega arith) fault.1))
+      | inr d ↦ sounds (record { rate = d.format.rate; channels = d.format.channels; samples = pcm_samples d.content })
+          d.after (record {
+            chunks = r.cs;
+            format = d.format;
+            size = d.size;
+            content = d.content;
+            place = subst (λ (x : Option Format × List ℕ). Place bytes r.cs x.0 x.1) (rw (d.known, d.bytes) refl) place;
+            size_is_four = d.size_is_four;
+            content_is = d.content_is;
+            rate = refl;
+            channels = refl;
+            samples = refl;
+            whole = d.whole;
+          })
     ]
 
 pub outcome : (bytes : List ℕ) → Outcome bytes
@@ -358,8 +446,13 @@ outcome bytes =
             | inr no_wave ↦ faulty NotWave (not_wave riff twelve no_wave)
             | inl wave ↦
                 at_body bytes (take 4 (drop 4 bytes)) (drop 12 bytes)
-                (sym (ap (λ l. codes "RIFF" ++ (take 4 (drop 4 bytes) ++ l)) (ap (λ l. l ++ drop 12 bytes) (sym wave) ∙ ap (λ l. take 4 (drop 8 bytes) ++ l) (sym (drop-drop 4 8 bytes)) ∙ take-append-drop 4 (drop 8 bytes))
-                ∙ ap (λ l. codes "RIFF" ++ (take 4 (drop 4 bytes) ++ l)) (sym (drop-drop 4 4 bytes)) ∙ ap (λ l. codes "RIFF" ++ l) (take-append-drop 4 (drop 4 bytes)) ∙ ap (λ l. l ++ drop 4 bytes) (sym riff) ∙ take-append-drop 4 bytes))
+                (sym (ap (λ l. codes "RIFF" ++ (take 4 (drop 4 bytes) ++ l))
+                (ap (λ l. l ++ drop 12 bytes) (sym wave)
+                ∙ ap (λ l. take 4 (drop 8 bytes) ++ l) (sym (drop-drop 4 8 bytes))
+                ∙ take-append-drop 4 (drop 8 bytes))
+                ∙ ap (λ l. codes "RIFF" ++ (take 4 (drop 4 bytes) ++ l)) (sym (drop-drop 4 4 bytes))
+                ∙ ap (λ l. codes "RIFF" ++ l) (take-append-drop 4 (drop 4 bytes))
+                ∙ ap (λ l. l ++ drop 4 bytes) (sym riff) ∙ take-append-drop 4 bytes))
                 (omega (arith, length-take 4 (drop 4 bytes), length-drop 4 bytes))
                 (reach 65536 0 None (drop 12 bytes) refl)
           ]

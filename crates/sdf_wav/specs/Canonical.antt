@@ -1,5 +1,6 @@
 -- The canonical file of a sound, and which sounds have none.
-use Rattle.std.specs.Prelude.{◌≡◌, ◌⊎◌, ℕ, ◌+◌, ◌*◌, nat_lt, if◌then◌else◌, ℤ, List, ◌++◌, length, Option, Some, None, Result, Ok, Err, codes}
+use Rattle.std.specs.Prelude.{◌≡◌, ◌⊎◌, ℕ, ◌+◌, ◌*◌, nat_lt, if◌then◌else◌, ℤ, List, ◌++◌, length, Option, Some, None}
+use Rattle.std.specs.Prelude.{Result, Ok, Err, codes}
 use Rattle.std.specs.Int.{w16, cast_unsigned}
 use Rattle.std.specs.List.{flat_map}
 use Rattle.std.specs.Io.KnownBytes.{Appends, Keeps}
@@ -16,7 +17,8 @@ unfoldable pub header : ℕ → ℕ → ℕ → List ℕ
 header rate channels size =
     codes "RIFF" ++ little_bytes 4 (36 + size) ++ codes "WAVE"
     ++ codes "fmt " ++ little_bytes 4 16 ++ little_bytes 2 1 ++ little_bytes 2 channels
-    ++ little_bytes 4 rate ++ little_bytes 4 (rate * (2 * channels)) ++ little_bytes 2 (2 * channels) ++ little_bytes 2 16
+    ++ little_bytes 4 rate ++ little_bytes 4 (rate * (2 * channels)) ++ little_bytes 2 (2 * channels)
+    ++ little_bytes 2 16
     ++ codes "data" ++ little_bytes 4 size
 
 -- two bytes for each sample, the low one first
@@ -27,8 +29,8 @@ sample_bytes samples = flat_map (λ z. little_bytes 2 (cast_unsigned w16 z)) sam
 abbrev pub canonical_wav : Sound → List ℕ
 canonical_wav s = header s.rate s.channels (2 * length s.samples) ++ sample_bytes s.samples
 
--- why no file has this rate, so many channels and so many samples, if there is none: the bytes of a second, or those of the
--- file behind its first eight, pass 32 bits
+-- why no file has this rate, so many channels and so many samples, if there is none: the bytes of a second, or those of
+-- the file behind its first eight, pass 32 bits
 abbrev pub size_fault : ℕ → ℕ → ℕ → Option FormatFault
 size_fault rate channels samples =
     if nat_lt 4294967295 (rate * (2 * channels)) then Some RateTooLarge
@@ -53,9 +55,10 @@ IsWritingFault faults.Write = Unit {0}
 IsWritingFault faults.Read = ⊥
 IsWritingFault faults.OutOfMemory = ⊥
 
--- What a call did that is to write this file, unless this fault forbids it: the whole of it, or nothing at a fault of the
--- sound, or a front of it where the device failed. It never fails by memory or by a reader.
-abbrev pub Writes : {X : Type 0} → Option (List ℕ) → Option (List ℕ) → Option FormatFault → List ℕ → Result X WavFault → Type 0
+-- What a call did that is to write this file, unless this fault forbids it: the whole of it, or nothing at a fault of
+-- the sound, or a front of it where the device failed. It never fails by memory or by a reader.
+abbrev pub Writes : {X : Type 0} → Option (List ℕ) → Option (List ℕ) → Option FormatFault → List ℕ → Result X WavFault →
+    Type 0
 Writes old new fault file (Ok x) = (fault ≡ None) × Appends old new file
 Writes old new fault file (Err (faults.Format f)) = (fault ≡ Some f) × Keeps old new
 Writes old new fault file (Err faults.Write) = (fault ≡ None) × AppendsFront old new file

@@ -1,5 +1,6 @@
 -- The data of a file: its samples, and what is behind them.
-use Rattle.std.specs.Prelude.{◌≡◌, ℕ, ◌%◌, min, not, if◌then◌else◌, nat_lt, ◌==◌, ℤ, List, [], length, take, drop, Result, Ok, Err}
+use Rattle.std.specs.Prelude.{◌≡◌, ℕ, ◌%◌, min, not, if◌then◌else◌, nat_lt, ◌==◌, ℤ, List, [], length, take, drop}
+use Rattle.std.specs.Prelude.{Result, Ok, Err}
 use Rattle.sdf_wav.specs.declared.fault.FormatFault.{FormatFault}
 use Rattle.sdf_wav.specs.declared.fault.FormatFault.TheVariants.{Truncated, PartialFrame, TooLong}
 use Rattle.sdf_wav.specs.Sound.{pcm_samples}
@@ -25,4 +26,5 @@ sized_content_at align size bytes =
     else Ok (pcm_samples (take size bytes), drop size bytes))
 
 unfoldable pub content_at : ℕ → ℕ → List ℕ → Result (List ℤ × List ℕ) FormatFault
-content_at align size bytes = if size == 0xFFFFFFFF then open_content_at align bytes else sized_content_at align size bytes
+content_at align size bytes = if size == 0xFFFFFFFF then open_content_at align bytes else sized_content_at
+    align size bytes

@@ -1,8 +1,11 @@
--- Which fault an input has that is no WAV file: one rule for each way, of which no two hold of one input with different faults.
-use Rattle.std.specs.Prelude.{◌≡◌, ◌≢◌, ◌⊎◌, ℕ, ◌*◌, ◌%◌, ◌≤◌, ◌<◌, min, List, [], ◌++◌, length, take, drop, Option, Some, None, Result, Ok, Err, codes}
+-- Which fault an input has that is no WAV file: one rule for each way, of which no two hold of one input with different
+-- faults.
+use Rattle.std.specs.Prelude.{◌≡◌, ◌≢◌, ◌⊎◌, ℕ, ◌*◌, ◌%◌, ◌≤◌, ◌<◌, min, List, [], ◌++◌, length, take, drop, Option}
+use Rattle.std.specs.Prelude.{Some, None, Result, Ok, Err, codes}
 use Rattle.byteorder.specs.Endian.{little_number}
 use Rattle.sdf_wav.specs.declared.fault.FormatFault.{FormatFault}
-use Rattle.sdf_wav.specs.declared.fault.FormatFault.TheVariants.{NotRiff, NotWave, NoFormat, NoData, Truncated, TooLong, ShortFormat, PartialFrame, RateTooLarge}
+use Rattle.sdf_wav.specs.declared.fault.FormatFault.TheVariants.{NotRiff, NotWave, NoFormat, NoData, Truncated, TooLong}
+use Rattle.sdf_wav.specs.declared.fault.FormatFault.TheVariants.{ShortFormat, PartialFrame, RateTooLarge}
 use Rattle.sdf_wav.specs.declared.format.Format.{Format}
 use Rattle.sdf_wav.specs.Parts.{format_of}
 use Rattle.sdf_wav.specs.declared.fault.WavFault.{WavFault}
@@ -35,12 +38,14 @@ pub data PlaceFault (seen : Option Format) (passed : ℕ) (rest : List ℕ) : Fo
   format_cut : (size after : List ℕ) → IsHeader rest (codes "fmt ") size after → seen ≡ None → passed < 65536
       → 16 ≤ little_number 4 size → length after < little_number 4 size
       → PlaceFault seen passed rest Truncated
-  format_bad : (size after : List ℕ) (f : FormatFault) → IsHeader rest (codes "fmt ") size after → seen ≡ None → passed < 65536
+  format_bad : (size after : List ℕ) (f : FormatFault) → IsHeader rest (codes "fmt ") size after → seen ≡ None →
+      passed < 65536
       → 16 ≤ little_number 4 size → little_number 4 size ≤ length after
       → format_of (take (min (little_number 4 size) 40) after) ≡ Err f
       → PlaceFault seen passed rest f
   -- a chunk that is skipped is cut off
-  content_cut : (id size after : List ℕ) → IsHeader rest id size after → id ≢ codes "data" → (seen ≡ None → id ≢ codes "fmt ") → passed < 65536
+  content_cut : (id size after : List ℕ) → IsHeader rest id size after → id ≢ codes "data" →
+      (seen ≡ None → id ≢ codes "fmt ") → passed < 65536
       → length after < little_number 4 size
       → PlaceFault seen passed rest Truncated
   -- data of a known size has no whole frames, or is cut off
@@ -48,7 +53,8 @@ pub data PlaceFault (seen : Option Format) (passed : ℕ) (rest : List ℕ) : Fo
       → little_number 4 size ≢ 0xFFFFFFFF → little_number 4 size % (2 * f.channels) ≢ 0
       → PlaceFault seen passed rest PartialFrame
   data_cut : (f : Format) (size after : List ℕ) → IsHeader rest (codes "data") size after → seen ≡ Some f
-      → little_number 4 size ≢ 0xFFFFFFFF → little_number 4 size % (2 * f.channels) ≡ 0 → length after < little_number 4 size
+      → little_number 4 size ≢ 0xFFFFFFFF → little_number 4 size % (2 * f.channels) ≡ 0 →
+      length after < little_number 4 size
       → PlaceFault seen passed rest Truncated
   -- data to the end of the input is too long, or has no whole frames
   open_long : (f : Format) (size after : List ℕ) → IsHeader rest (codes "data") size after → seen ≡ Some f
@@ -63,7 +69,8 @@ pub data HasFault (bytes : List ℕ) : FormatFault → Type 0 where
   riff_cut : length bytes < 4 → HasFault bytes Truncated
   not_riff : 4 ≤ length bytes → take 4 bytes ≢ codes "RIFF" → HasFault bytes NotRiff
   wave_cut : 4 ≤ length bytes → take 4 bytes ≡ codes "RIFF" → length bytes < 12 → HasFault bytes Truncated
-  not_wave : take 4 bytes ≡ codes "RIFF" → 12 ≤ length bytes → take 4 (drop 8 bytes) ≢ codes "WAVE" → HasFault bytes NotWave
+  not_wave : take 4 bytes ≡ codes "RIFF" → 12 ≤ length bytes → take 4 (drop 8 bytes) ≢ codes "WAVE" →
+      HasFault bytes NotWave
   at_place : (cs : List Chunk) (seen : Option Format) (rest : List ℕ) (f : FormatFault)
       → Place bytes cs seen rest → PlaceFault seen (length cs) rest f
       → HasFault bytes f

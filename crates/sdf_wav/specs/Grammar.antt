@@ -1,5 +1,6 @@
 -- WAV files, part by part (RIFF/WAVE, PCM of 16 bits). Numbers are little-endian.
-use Rattle.std.specs.Prelude.{◌≡◌, ◌≢◌, ◌⊎◌, ℕ, ◌*◌, ◌%◌, ◌≤◌, List, [], ◌∷◌, ◌++◌, length, take, drop, Option, Some, None, codes}
+use Rattle.std.specs.Prelude.{◌≡◌, ◌≢◌, ◌⊎◌, ℕ, ◌*◌, ◌%◌, ◌≤◌, List, [], ◌∷◌, ◌++◌, length, take, drop, Option, Some}
+use Rattle.std.specs.Prelude.{None, codes}
 use Rattle.std.specs.List.{AllByRecursion}
 use Rattle.byteorder.specs.Endian.{little_number}
 use Rattle.sdf_wav.specs.declared.format.Format.{Format}
@@ -47,11 +48,13 @@ pub record IsFormatChunk (c : Chunk) (f : Format) : Type 0 where
   pub format : c.id ≡ codes "fmt "
   pub content_of : IsContentOf c.content f
 
--- The bytes are these chunks, and then the rest. The byte behind a last odd content may be missing where the bytes end there.
+-- The bytes are these chunks, and then the rest. The byte behind a last odd content may be missing where the bytes end
+-- there.
 abbrev pub Parts : List ℕ → List Chunk → List ℕ → Type 0
 Parts bytes [] rest = bytes ≡ rest
 Parts bytes (c ∷ cs) rest =
-    (after : List ℕ) × (bytes ≡ c.id ++ (c.size ++ (c.content ++ after))) × Parts (drop (length c.content % 2) after) cs rest
+    (after : List ℕ) × (bytes ≡ c.id ++ (c.size ++ (c.content ++ after)))
+    × Parts (drop (length c.content % 2) after) cs rest
 
 -- what is known of the format behind chunks that are not the data: nothing, or what the first format chunk says
 abbrev pub Behind : List Chunk → Option Format → Type 0
@@ -73,7 +76,8 @@ pub record Place (bytes : List ℕ) (cs : List Chunk) (seen : Option Format) (re
 -- a content of the size that its chunk gives, or to the end where the size was never filled in
 abbrev pub Content : ℕ → List ℕ → List ℕ → Type 0
 Content size content rest =
-    ((size ≢ 0xFFFFFFFF) × (length content ≡ size)) ⊎ ((size ≡ 0xFFFFFFFF) × (length content ≤ 4294967294) × (rest ≡ []))
+    ((size ≢ 0xFFFFFFFF) × (length content ≡ size))
+    ⊎ ((size ≡ 0xFFFFFFFF) × (length content ≤ 4294967294) × (rest ≡ []))
 
 -- The bytes are a WAV file of the sound, with the rest behind it.
 pub record IsWav (bytes : List ℕ) (s : Sound) (rest : List ℕ) : Type 0 where

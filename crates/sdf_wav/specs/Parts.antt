@@ -1,9 +1,11 @@
 -- The parts of a WAV file as functions of their bytes, each with the first fault that it has.
-use Rattle.std.specs.Prelude.{ℕ, ◌*◌, Bool, not, ◌&&◌, ◌||◌, if◌then◌else◌, nat_lt, ◌==◌, List, [], ◌∷◌, length, take, drop, Option, Some, None, Result, Ok, Err, codes}
+use Rattle.std.specs.Prelude.{ℕ, ◌*◌, Bool, not, ◌&&◌, ◌||◌, if◌then◌else◌, nat_lt, ◌==◌, List, [], ◌∷◌, length, take}
+use Rattle.std.specs.Prelude.{drop, Option, Some, None, Result, Ok, Err, codes}
 use Rattle.std.specs.Str.{bytes_eq}
 use Rattle.byteorder.specs.Endian.{little_number}
 use Rattle.sdf_wav.specs.declared.fault.FormatFault.{FormatFault}
-use Rattle.sdf_wav.specs.declared.fault.FormatFault.TheVariants.{NotRiff, NotWave, NoFormat, ShortFormat, NotPcm16, Channels, RateZero, BadAlign, NoData, Truncated}
+use Rattle.sdf_wav.specs.declared.fault.FormatFault.TheVariants.{NotRiff, NotWave, NoFormat, ShortFormat, NotPcm16}
+use Rattle.sdf_wav.specs.declared.fault.FormatFault.TheVariants.{Channels, RateZero, BadAlign, NoData, Truncated}
 use Rattle.sdf_wav.specs.declared.parts.ChunkKind.{ChunkKind}
 use Rattle.sdf_wav.specs.declared.parts.ChunkKind.TheVariants as kinds
 use Rattle.sdf_wav.specs.declared.parts.ChunkHeader.{ChunkHeader}
@@ -22,7 +24,8 @@ riff_of front =
     else Ok tt)))
 
 abbrev pub kind_of : List ℕ → ChunkKind
-kind_of id = if bytes_eq id (codes "data") then kinds.Data else (if bytes_eq id (codes "fmt ") then kinds.Format else kinds.Other)
+kind_of id = if bytes_eq id (codes "data") then kinds.Data else
+    (if bytes_eq id (codes "fmt ") then kinds.Format else kinds.Other)
 
 -- the first eight bytes at the place of a chunk, or all where there are fewer
 abbrev pub header_of : Bool → List ℕ → Result ChunkHeader FormatFault
@@ -32,7 +35,8 @@ header_of has_format front =
     else Ok (record { kind = kind_of (take 4 front); size = little_number 4 (drop 4 front) }))
 
 abbrev pub pcm_guid : List ℕ
-pcm_guid = 0x01 ∷ 0x00 ∷ 0x00 ∷ 0x00 ∷ 0x00 ∷ 0x00 ∷ 0x10 ∷ 0x00 ∷ 0x80 ∷ 0x00 ∷ 0x00 ∷ 0xAA ∷ 0x00 ∷ 0x38 ∷ 0x9B ∷ 0x71 ∷ []
+pcm_guid = 0x01 ∷ 0x00 ∷ 0x00 ∷ 0x00 ∷ 0x00 ∷ 0x00 ∷ 0x10 ∷ 0x00 ∷ 0x80 ∷ 0x00 ∷ 0x00 ∷ 0xAA ∷ 0x00 ∷ 0x38
+    ∷ 0x9B ∷ 0x71 ∷ []
 
 abbrev pub fields_of : List ℕ → Fields
 fields_of content = record {
@@ -46,7 +50,8 @@ fields_of content = record {
 -- 16 bits, and the tag of PCM or the extended one with PCM behind it
 abbrev pub is_pcm16 : Fields → List ℕ → Bool
 is_pcm16 fields content =
-    (fields.bits == 16) && ((fields.tag == 1) || ((fields.tag == 0xFFFE) && bytes_eq (take 16 (drop 24 content)) pcm_guid))
+    (fields.bits == 16) && ((fields.tag == 1) || ((fields.tag == 0xFFFE)
+    && bytes_eq (take 16 (drop 24 content)) pcm_guid))
 
 abbrev pub checked : Fields → List ℕ → Result Format FormatFault
 checked fields content =

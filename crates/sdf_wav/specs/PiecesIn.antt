@@ -1,5 +1,6 @@
 -- Reading a file in pieces: its parts up to the size of its data first, then its content, some frames at a time.
-use Rattle.std.specs.Prelude.{◌≡◌, ◌≢◌, ◌⊎◌, ℕ, ◌+◌, ◌-◌, ◌*◌, ◌/◌, ◌%◌, ◌≤◌, min, not, if◌then◌else◌, nat_lt, ◌==◌, ℤ, List, [], ◌++◌, length, take, drop, Option, Some, None, IfSome, Result, Ok, Err, codes}
+use Rattle.std.specs.Prelude.{◌≡◌, ◌≢◌, ◌⊎◌, ℕ, ◌+◌, ◌-◌, ◌*◌, ◌/◌, ◌%◌, ◌≤◌, min, not, if◌then◌else◌, nat_lt, ◌==◌, ℤ}
+use Rattle.std.specs.Prelude.{List, [], ◌++◌, length, take, drop, Option, Some, None, IfSome, Result, Ok, Err, codes}
 use Rattle.byteorder.specs.Endian.{little_number}
 use Rattle.sdf_wav.specs.declared.fault.FormatFault.{FormatFault}
 use Rattle.sdf_wav.specs.declared.fault.FormatFault.TheVariants.{Truncated, PartialFrame, TooLong}
@@ -84,16 +85,16 @@ open_piece align gone n bytes =
     else (if not (n % align == 0) then Err PartialFrame
     else Ok (pcm_samples (take n bytes), drop n bytes))
 
--- the samples of the next frames and the bytes behind them, or the fault that stands among these frames: as many frames as
--- were asked for, or all up to the content's end
+-- the samples of the next frames and the bytes behind them, or the fault that stands among these frames: as many frames
+-- as were asked for, or all up to the content's end
 unfoldable pub next_at : Reading → ℕ → List ℕ → Result (List ℤ × List ℕ) FormatFault
 next_at r frames bytes =
     let asked = 2 * (frames * r.channels) in
     if r.size == 0xFFFFFFFF then open_piece (2 * r.channels) r.gone (min asked (length bytes)) bytes
     else sized_piece (min asked (r.size - r.gone)) bytes
 
--- So many samples are those of the next frames: no more than were asked for, and of a known size exactly as many as are left or
--- were asked for, whatever is known of the bytes.
+-- So many samples are those of the next frames: no more than were asked for, and of a known size exactly as many as are
+-- left or were asked for, whatever is known of the bytes.
 pub record IsPiece (r : Reading) (frames samples : ℕ) : Type 0 where
   pub most : samples ≤ frames * r.channels
   pub whole : samples % r.channels ≡ 0
@@ -113,11 +114,14 @@ pub record OpensAs (input : List ℕ) (s : Sound) : Type 0 where
   pub opens : Opens input (record { rate = s.rate; channels = s.channels }) size rest
   pub sized : size ≢ 0xFFFFFFFF → size ≡ 2 * length s.samples
 
--- What a call answered, seen by view, is what `read` gives for the bytes before it, and the bytes after it are those that
--- `read` leaves, where the bytes are known; unless memory or the reader failed. It never fails by a writer.
-abbrev pub AnswersBy : {X Y : Type 0} → (X → Y) → Option (List ℕ) → Option (List ℕ) → (List ℕ → Result (Y × List ℕ) FormatFault) → Result X WavFault → Type 0
-AnswersBy view old new read (Ok x) = Known old new (λ input left. (read input ≡ Ok (view x, left)) × LosesFront input left)
-AnswersBy view old new read (Err (faults.Format f)) = Known old new (λ input left. (read input ≡ Err f) × LosesFront input left)
+-- What a call answered, seen by view, is what `read` gives for the bytes before it, and the bytes after it are those
+-- that `read` leaves, where the bytes are known; unless memory or the reader failed. It never fails by a writer.
+abbrev pub AnswersBy : {X Y : Type 0} → (X → Y) → Option (List ℕ) → Option (List ℕ) →
+    (List ℕ → Result (Y × List ℕ) FormatFault) → Result X WavFault → Type 0
+AnswersBy view old new read (Ok x) = Known old new
+    (λ input left. (read input ≡ Ok (view x, left)) × LosesFront input left)
+AnswersBy view old new read (Err (faults.Format f)) =
+    Known old new (λ input left. (read input ≡ Err f) × LosesFront input left)
 AnswersBy view old new read (Err faults.OutOfMemory) = Known old new LosesFront
 AnswersBy view old new read (Err faults.Read) = Known old new LosesFront
 AnswersBy view old new read (Err faults.Write) = ⊥
@@ -131,7 +135,8 @@ pub record FailsToOpen (input : List ℕ) (f : FormatFault) : Type 0 where
 -- content stands before the reader, or it fails to open and lost a front, or only a front is gone.
 abbrev pub AnswersOpening : Option (List ℕ) → Option (List ℕ) → Result Reading WavFault → Type 0
 AnswersOpening old new (Ok r) = Known old new (λ input left. IsReadTo input r [] left × LosesFront input left)
-AnswersOpening old new (Err (faults.Format f)) = Known old new (λ input left. FailsToOpen input f × LosesFront input left)
+AnswersOpening old new (Err (faults.Format f)) =
+    Known old new (λ input left. FailsToOpen input f × LosesFront input left)
 AnswersOpening old new (Err faults.OutOfMemory) = Known old new LosesFront
 AnswersOpening old new (Err faults.Read) = Known old new LosesFront
 AnswersOpening old new (Err faults.Write) = ⊥

@@ -1,5 +1,6 @@
 -- What a WAV file says: a rate, a number of channels, and samples, interleaved by frame.
-use Rattle.std.specs.Prelude.{◌≡◌, ℕ, ◌≤◌, ◌<◌, ◌^◌, FitsSigned, ◌/◌, ◌%◌, ◌||◌, nat_lt, ◌==◌, not, if◌then◌else◌, ℤ, List, [], ◌∷◌, length, Result, Ok, Err}
+use Rattle.std.specs.Prelude.{◌≡◌, ℕ, ◌≤◌, ◌<◌, ◌^◌, FitsSigned, ◌/◌, ◌%◌, ◌||◌, nat_lt, ◌==◌, not, if◌then◌else◌, ℤ}
+use Rattle.std.specs.Prelude.{List, [], ◌∷◌, length, Result, Ok, Err}
 use Rattle.std.specs.List.{AllByRecursion}
 use Rattle.std.specs.Int.{w16, cast_signed}
 use Rattle.byteorder.specs.Endian.{little_number}

@@ -1,6 +1,7 @@
--- What each part of the reader gives, for the crate's own functions: a value and the bytes after it, or the first fault.
--- What a file is, and which faults an input has, is said apart from it in Grammar and Fault.
-use Rattle.std.specs.Prelude.{◌≡◌, ℕ, zero, suc, ◌+◌, ◌*◌, ◌%◌, min, Bool, true, false, not, ◌&&◌, if◌then◌else◌, nat_lt, ◌==◌, List, length, take, drop, Option, Some, None, Result, Ok, Err}
+-- What each part of the reader gives, for the crate's own functions: a value and the bytes after it, or the first
+-- fault. What a file is, and which faults an input has, is said apart from it in Grammar and Fault.
+use Rattle.std.specs.Prelude.{◌≡◌, ℕ, zero, suc, ◌+◌, ◌*◌, ◌%◌, min, Bool, true, false, not, ◌&&◌, if◌then◌else◌}
+use Rattle.std.specs.Prelude.{nat_lt, ◌==◌, List, length, take, drop, Option, Some, None, Result, Ok, Err}
 use Rattle.sdf_wav.specs.declared.fault.FormatFault.{FormatFault}
 use Rattle.sdf_wav.specs.declared.fault.FormatFault.TheVariants.{ShortFormat, Truncated, PartialFrame, TooLong}
 use Rattle.sdf_wav.specs.declared.fault.ReadFault.{ReadFault}
@@ -30,7 +31,8 @@ Explains read_faults.Device read = Unit {0}
 
 -- What a call returned, seen by view, is what `read` gives for the bytes before it, and the bytes after it are those
 -- that `read` leaves. In any case a front of the bytes is gone.
-abbrev pub Reads : {X Y : Type 0} → (X → Y) → Option (List ℕ) → Option (List ℕ) → (List ℕ → Result (Y × List ℕ) FormatFault) → Result X ReadFault → Type 0
+abbrev pub Reads : {X Y : Type 0} → (X → Y) → Option (List ℕ) → Option (List ℕ) →
+    (List ℕ → Result (Y × List ℕ) FormatFault) → Result X ReadFault → Type 0
 Reads view old new read (Ok x) = Known old new (λ input left. (read input ≡ Ok (view x, left)) × LosesFront input left)
 Reads view old new read (Err e) = Known old new (λ input left. Explains e (read input) × LosesFront input left)
 
@@ -69,7 +71,8 @@ pcm_at size bytes = looked_at (min size 40) size bytes >>= λ x. format_of x.0 >
 
 -- the same, and the pad byte
 unfoldable pub format_at : ℕ → List ℕ → Result (Format × List ℕ) FormatFault
-format_at size bytes = if nat_lt size 16 then Err ShortFormat else (pcm_at size bytes >>= λ x. Ok (x.0, drop (size % 2) x.1))
+format_at size bytes = if nat_lt size 16 then Err ShortFormat else
+    (pcm_at size bytes >>= λ x. Ok (x.0, drop (size % 2) x.1))
 
 -- a chunk before the data: the first format chunk is read
 abbrev pub passed_at : ChunkKind → ℕ → Option Format → List ℕ → Result (Option Format × List ℕ) FormatFault

@@ -4,7 +4,8 @@ ghost use Rattle.std.specs.Prelude.{◌≡◌, ◌≤◌, ◌*◌, ◌%◌, ℕ,
 ghost use Rattle.sdf_wav.specs.Device.{failures_after, widened};
 ghost use Rattle.sdf_wav.specs.Fault.{IsOpeningFault};
 ghost use Rattle.sdf_wav.specs.Format.{IsFormat, IsKnown, IsStep};
-ghost use Rattle.sdf_wav.specs.Steps.{Reads, riff_at, header_at, front_at, skip_at, pad_at, skipped_at, looked_at, pcm_at, format_at, passed_at, is_some, step_at, last_at, data_at, open_at};
+ghost use Rattle.sdf_wav.specs.Steps.{Reads, riff_at, header_at, front_at, skip_at, pad_at, skipped_at, looked_at};
+ghost use Rattle.sdf_wav.specs.Steps.{pcm_at, format_at, passed_at, is_some, step_at, last_at, data_at, open_at};
 ghost use Rattle.sdf_wav.specs.PiecesIn.{IsWithin};
 
 use crate::content::UNKNOWN;
@@ -39,7 +40,8 @@ fn read_header<R: Reader>(reader: &mut R, has_format: bool) -> Result<ChunkHeade
 
 /// Fills `buf`.
 fn read_front<R: Reader>(reader: &mut R, buf: &mut [u8]) -> Result<(), ReadFault>
-    ensures bytes { Reads (λ _. buf.new) (R.remaining reader.old) (R.remaining reader.new) (front_at (length buf.old)) result }
+    ensures bytes { Reads (λ _. buf.new) (R.remaining reader.old) (R.remaining reader.new)
+        (front_at (length buf.old)) result }
     ensures counted { R.failures reader.new ≡ failures_after (widened result) (R.failures reader.old) }
     ensures fault { IfErr (widened result) IsOpeningFault }
 {
@@ -87,7 +89,8 @@ fn skip_content<R: Reader>(reader: &mut R, size: u32) -> Result<(), ReadFault>
 #[tactic(auto, unfolding(crate::specs::Steps::looked_at))]
 fn read_looked<R: Reader>(reader: &mut R, front: &mut [u8], size: u32) -> Result<(), ReadFault>
     requires { length front.old ≤ size }
-    ensures bytes { Reads (λ _. front.new) (R.remaining reader.old) (R.remaining reader.new) (looked_at (length front.old) size) result }
+    ensures bytes { Reads (λ _. front.new) (R.remaining reader.old) (R.remaining reader.new)
+        (looked_at (length front.old) size) result }
     ensures counted { R.failures reader.new ≡ failures_after (widened result) (R.failures reader.old) }
     ensures fault { IfErr (widened result) IsOpeningFault }
 {
@@ -138,7 +141,8 @@ fn pass<R: Reader>(
     seen: Option<Format>,
 ) -> Result<Option<Format>, ReadFault>
     requires { IsKnown seen }
-    ensures bytes { Reads (λ x. x) (R.remaining reader.old) (R.remaining reader.new) (passed_at header.kind header.size seen) result }
+    ensures bytes { Reads (λ x. x) (R.remaining reader.old) (R.remaining reader.new)
+        (passed_at header.kind header.size seen) result }
     ensures counted { R.failures reader.new ≡ failures_after (widened result) (R.failures reader.old) }
     ensures fault { IfErr (widened result) IsOpeningFault }
     ensures valid { IfOk result IsKnown }

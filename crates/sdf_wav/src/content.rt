@@ -40,7 +40,8 @@ const READ_PIECE: usize = 16_384;
 /// Reads at most so many bytes in pieces, fewer only where the input ends. Memory grows with what has come alone.
 fn read_samples<R: Reader>(alloc: Global, reader: &mut R, limit: u64) -> Result<Content, ReadFault>
     requires { limit % 2 ≡ 0 }
-    ensures ok { IfOk result (λ x. Known (R.remaining reader.old) (R.remaining reader.new) (λ input left. Holds input left limit x.bytes x.samples.items)) }
+    ensures ok { IfOk result (λ x. Known (R.remaining reader.old) (R.remaining reader.new)
+        (λ input left. Holds input left limit x.bytes x.samples.items)) }
     ensures err { OnErr result (Known (R.remaining reader.old) (R.remaining reader.new) LosesFront) }
     ensures fits { IfOk result (λ x. x.bytes ≤ limit) }
     ensures count { IfOk result (λ x. length x.samples.items ≡ x.bytes / 2) }
@@ -85,7 +86,8 @@ pub(crate) fn read_open<R: Reader>(
     requires within { gone ≤ 4294967294 }
     requires whole { gone % 2 ≡ 0 }
     requires even { asked % 2 ≡ 0 }
-    ensures bytes { Reads (λ v. v.items) (R.remaining reader.old) (R.remaining reader.new) (λ bytes. open_piece (2 * channels) gone (min asked (length bytes)) bytes) result }
+    ensures bytes { Reads (λ v. v.items) (R.remaining reader.old) (R.remaining reader.new)
+        (λ bytes. open_piece (2 * channels) gone (min asked (length bytes)) bytes) result }
     ensures whole { IfOk result (λ v. length v.items % channels ≡ 0) }
     ensures most { IfOk result (λ v. 2 * length v.items ≤ asked) }
     ensures fits { IfOk result (λ v. gone + 2 * length v.items ≤ 4294967294) }

@@ -1,13 +1,15 @@
 //! The content of a file that is read in pieces.
 
-ghost use Rattle.std.specs.Prelude.{◌≡◌, ◌≢◌, ◌≤◌, ◌+◌, ◌*◌, ◌%◌, ℕ, List, Option, Some, None, length, IfOk, IfErr, IsErrOf, Err};
+ghost use Rattle.std.specs.Prelude.{◌≡◌, ◌≢◌, ◌≤◌, ◌+◌, ◌*◌, ◌%◌, ℕ, List, Option, Some, None, length, IfOk, IfErr};
+ghost use Rattle.std.specs.Prelude.{IsErrOf, Err};
 ghost use Rattle.sdf_wav.specs.declared.fault.FormatFault.{FormatFault};
 ghost use Rattle.sdf_wav.specs.declared.fault.WavFault.{WavFault};
 ghost use Rattle.sdf_wav.specs.declared.format.Format.{Format};
 ghost use Rattle.sdf_wav.specs.declared.wav.TheConstants.{MOST_CHANNELS};
 ghost use Rattle.sdf_wav.specs.Device.{failures_after, widened, Failed};
 ghost use Rattle.sdf_wav.specs.Fault.{HasFault, IsOpeningFault, IsReadingFault};
-ghost use Rattle.sdf_wav.specs.PiecesIn.{IsReading, IsPiece, IsWithin, IsSizedFault, Opens, AnswersOpening, OpensTo, RefusesToOpen, AnswersBy, known_frames, next_at};
+ghost use Rattle.sdf_wav.specs.PiecesIn.{IsReading, IsPiece, IsWithin, IsSizedFault, Opens, AnswersOpening, OpensTo};
+ghost use Rattle.sdf_wav.specs.PiecesIn.{RefusesToOpen, AnswersBy, known_frames, next_at};
 ghost use Rattle.sdf_wav.specs.Steps.{Reads};
 
 use crate::chunks::open_data;
@@ -18,8 +20,8 @@ use crate::format::Format;
 use std::alloc::Global;
 use std::marker::Model;
 
-/// How far the content of a file was read, and the fault that came. It holds no reader: each call is handed the one that
-/// the file was opened from.
+/// How far the content of a file was read, and the fault that came. It holds no reader: each call is handed the one
+/// that the file was opened from.
 #[derive(Debug, Drop)]
 pub struct ContentIn {
     format: Format,
@@ -33,24 +35,39 @@ impl Model for ContentIn {
 
     ghost Value = { Reading };
 
-    ghost view = { λ c. record { rate = c.format.rate; channels = c.format.channels; size = c.size; gone = c.gone; fault = c.fault } };
+    ghost view = { λ c. record {
+      rate = c.format.rate;
+      channels = c.format.channels;
+      size = c.size;
+      gone = c.gone;
+      fault = c.fault;
+    } };
 
-    ghost invariant = { λ c. IsReading (record { rate = c.format.rate; channels = c.format.channels; size = c.size; gone = c.gone; fault = c.fault }) };
+    ghost invariant = { λ c. IsReading (record {
+      rate = c.format.rate;
+      channels = c.format.channels;
+      size = c.size;
+      gone = c.gone;
+      fault = c.fault;
+    }) };
 }
 
 /// More samples than any content has.
 const MOST_SAMPLES: u64 = 2_147_483_648;
 
 impl ContentIn {
-    /// Reads a file up to the size of its data, and leaves the content unread. Fails by each fault that stands before, and
-    /// by `PartialFrame` where that size is known and no whole number of frames.
+    /// Reads a file up to the size of its data, and leaves the content unread. Fails by each fault that stands before,
+    /// and by `PartialFrame` where that size is known and no whole number of frames.
     pub fn open<R: Reader>(reader: &mut R) -> Result<ContentIn, WavFault>
         // What is answered is so: the input opens and its content is left, or it has this fault before its content.
         ensures answers { AnswersOpening (R.remaining reader.old) (R.remaining reader.new) result }
 
         // What is so is answered, unless the reader failed.
-        ensures accepts { (input : List ℕ) (f : Format) (size : ℕ) (rest : List ℕ) → R.remaining reader.old ≡ Some input → Opens input f size rest → OpensTo (R.remaining reader.new) f size rest result }
-        ensures refuses { (input : List ℕ) (f : FormatFault) → R.remaining reader.old ≡ Some input → HasFault input f → ((g : Format) (size : ℕ) (rest : List ℕ) → Opens input g size rest → ⊥) → RefusesToOpen f result }
+        ensures accepts { (input : List ℕ) (f : Format) (size : ℕ) (rest : List ℕ) →
+            R.remaining reader.old ≡ Some input → Opens input f size rest →
+            OpensTo (R.remaining reader.new) f size rest result }
+        ensures refuses { (input : List ℕ) (f : FormatFault) → R.remaining reader.old ≡ Some input → HasFault input f →
+            ((g : Format) (size : ℕ) (rest : List ℕ) → Opens input g size rest → ⊥) → RefusesToOpen f result }
 
         // Whatever is known of the bytes, it is at a start, and no other fault comes. It takes no memory.
         ensures start { IfOk result (λ c. (c.gone ≡ 0) × (c.fault ≡ None)) }
@@ -112,9 +129,11 @@ impl ContentIn {
         reader: &mut R,
         frames: usize,
     ) -> Result<Vec<i16>, ReadFault>
-        ensures bytes { Reads (λ v. v.items) (R.remaining reader.old) (R.remaining reader.new) (next_at self.now frames) result }
+        ensures bytes { Reads (λ v. v.items) (R.remaining reader.old) (R.remaining reader.new)
+            (next_at self.now frames) result }
         ensures piece { IfOk result (λ v. IsPiece self.now frames (length v.items)) }
-        ensures within { IfOk result (λ v. IsWithin (2 * self.now.channels) self.now.size (self.now.gone + 2 * length v.items)) }
+        ensures within { IfOk result (λ v. IsWithin (2 * self.now.channels) self.now.size
+            (self.now.gone + 2 * length v.items)) }
         ensures counted { R.failures reader.new ≡ failures_after (widened result) (R.failures reader.old) }
         ensures fault { IfErr (widened result) IsReadingFault }
         ensures cut { self.now.size ≢ 0xFFFFFFFF → IfErr (widened result) IsSizedFault }
@@ -129,18 +148,21 @@ impl ContentIn {
     }
 
     /// The samples of the next frames, interleaved: fewer than were asked for only at the content's end, and none after
-    /// it. Fails by `Truncated` where the input ends within these frames of a known size; where the size is not known, by
-    /// `TooLong` where a byte of them stands past the 4,294,967,294 that are taken, else by `PartialFrame` where the input
-    /// ends within one of them. After a fault nothing more is read, and the fault comes again.
+    /// it. Fails by `Truncated` where the input ends within these frames of a known size; where the size is not known,
+    /// by `TooLong` where a byte of them stands past the 4,294,967,294 that are taken, else by `PartialFrame` where the
+    /// input ends within one of them. After a fault nothing more is read, and the fault comes again.
     pub fn next<R: Reader>(
         &mut self,
         alloc: Global,
         reader: &mut R,
         frames: usize,
     ) -> Result<Vec<i16>, WavFault>
-        // These are the samples before the reader, or the fault that stands among them, and what is behind them is left.
-        ensures bytes { self.old.fault ≡ None → AnswersBy (λ v. v.items) (R.remaining reader.old) (R.remaining reader.new) (next_at self.old frames) result }
-        ensures counted { self.old.fault ≡ None → R.failures reader.new ≡ failures_after result (R.failures reader.old) }
+        // These are the samples before the reader, or the fault that stands among them, and what is behind them is
+        // left.
+        ensures bytes { self.old.fault ≡ None → AnswersBy (λ v. v.items) (R.remaining reader.old)
+            (R.remaining reader.new) (next_at self.old frames) result }
+        ensures counted { self.old.fault ≡ None → R.failures reader.new ≡
+            failures_after result (R.failures reader.old) }
         ensures piece { IfOk result (λ v. IsPiece self.old frames (length v.items)) }
 
         // A fault is repeated, and the reader left alone.

@@ -12,8 +12,8 @@ use crate::wav::MOST_CHANNELS;
 use crate::writing::{MAX_BYTES_A_SECOND, MAX_DATA, header, put_samples};
 use std::marker::Model;
 
-/// What of a file is still to be written behind its header, and whether its writer failed. It holds no writer: each call
-/// is handed the one that took the header.
+/// What of a file is still to be written behind its header, and whether its writer failed. It holds no writer: each
+/// call is handed the one that took the header.
 #[derive(Debug, Drop)]
 pub struct ContentOut {
     channels: u16,
@@ -42,7 +42,8 @@ impl ContentOut {
         channels: u16,
         frames: u64,
     ) -> Result<ContentOut, WavFault>
-        ensures writes { Writes (W.contents writer.old) (W.contents writer.new) (start_fault rate channels frames) (file_header rate channels frames) result }
+        ensures writes { Writes (W.contents writer.old) (W.contents writer.new) (start_fault rate channels frames)
+            (file_header rate channels frames) result }
         ensures owed { IfOk result (λ c. c ≡ record { channels = channels; missing = frames; spent = false }) }
         ensures counted { W.failures writer.new ≡ failures_after result (W.failures writer.old) }
         ensures device { IsErrOf result WavFault.Write → Failed (W.failures writer.old) (W.failures writer.new) }
@@ -84,8 +85,10 @@ impl ContentOut {
         requires missing { length samples.now ≤ self.old.missing * self.old.channels }
 
         // The samples are written, or a front of their bytes where the writer fails.
-        ensures writes { self.old.spent ≡ false → Puts (W.contents writer.old) (W.contents writer.new) (sample_bytes samples.now) result }
-        ensures counted { self.old.spent ≡ false → W.failures writer.new ≡ failures_after result (W.failures writer.old) }
+        ensures writes { self.old.spent ≡ false → Puts (W.contents writer.old) (W.contents writer.new)
+            (sample_bytes samples.now) result }
+        ensures counted { self.old.spent ≡ false → W.failures writer.new ≡
+            failures_after result (W.failures writer.old) }
 
         // A failure is repeated, and the writer left alone.
         ensures repeats { self.old.spent ≡ true → (result ≡ Err WavFault.Write) × (writer.new ≡ writer.old) }

@@ -19,7 +19,8 @@ pub trait Reader {
     // How many of its calls failed, up to the greatest u64.
     ghost failures: { Self → ℕ };
 
-    /// Moves bytes to the front of `buf`, and says how many: none only at the end of the input, or where `buf` is empty.
+    /// Moves bytes to the front of `buf`, and says how many: none only at the end of the input, or where `buf` is
+    /// empty.
     fn read(&mut self, buf: &mut [u8]) -> Result<usize, DeviceFault>
         ensures bound { ReadsAtMost result buf.new }
         ensures bytes { ReadConsumes (remaining self.old) (remaining self.new) result buf.new }

@@ -9,7 +9,8 @@ use crate::device::{DeviceFault, Reader, Writer};
 /// Fills `buf` from the reader, and says with how many bytes: fewer than it holds only where the input ends.
 pub(crate) fn fill<R: Reader>(reader: &mut R, buf: &mut [u8]) -> Result<usize, DeviceFault>
     ensures fits { IfOk result (λ n. n ≤ length buf.new) }
-    ensures ok { IfOk result (λ n. Known (R.remaining reader.old) (R.remaining reader.new) (λ input left. Fills input left buf.new n)) }
+    ensures ok { IfOk result (λ n. Known (R.remaining reader.old) (R.remaining reader.new)
+        (λ input left. Fills input left buf.new n)) }
     ensures err { OnErr result (Known (R.remaining reader.old) (R.remaining reader.new) LosesFront) }
     ensures counted { R.failures reader.new ≡ failures_after_read result (R.failures reader.old) }
 {
@@ -30,7 +31,8 @@ const SKIP_PIECE: usize = 4096;
 /// Reads this many bytes and drops them, and says how many there were: fewer only where the input ends.
 pub(crate) fn skip<R: Reader>(reader: &mut R, size: u64) -> Result<u64, DeviceFault>
     ensures fits { IfOk result (λ n. n ≤ size) }
-    ensures ok { IfOk result (λ n. Known (R.remaining reader.old) (R.remaining reader.new) (λ input left. Skips input left size n)) }
+    ensures ok { IfOk result (λ n. Known (R.remaining reader.old) (R.remaining reader.new)
+        (λ input left. Skips input left size n)) }
     ensures err { OnErr result (Known (R.remaining reader.old) (R.remaining reader.new) LosesFront) }
     ensures counted { R.failures reader.new ≡ failures_after_read result (R.failures reader.old) }
 {

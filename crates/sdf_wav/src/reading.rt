@@ -22,7 +22,8 @@ fn read_content<R: Reader>(
     content: ContentIn,
 ) -> Result<Wav, WavFault>
     requires { content.fault ≡ None }
-    ensures bytes { AnswersBy (λ w. w.samples) (R.remaining reader.old) (R.remaining reader.new) (next_at content 18446744073709551615) result }
+    ensures bytes { AnswersBy (λ w. w.samples) (R.remaining reader.old) (R.remaining reader.new)
+        (next_at content 18446744073709551615) result }
     ensures format { IfOk result (λ w. (w.rate ≡ content.rate) × (w.channels ≡ content.channels)) }
     ensures counted { R.failures reader.new ≡ failures_after result (R.failures reader.old) }
     ensures fault { IfErr result IsReadingFault }
@@ -36,15 +37,17 @@ fn read_content<R: Reader>(
 /// Reads a WAV file up to the end of its data, and leaves what follows unread. After a fault a front of the input has
 /// been read. Memory grows with the samples that have come, whatever size the file announces.
 ///
-/// RIFF/WAVE with 16-bit PCM samples, by the plain tag or the extensible one; a data size of 0xFFFFFFFF, which its writer
-/// never filled in, goes to the end of the input.
+/// RIFF/WAVE with 16-bit PCM samples, by the plain tag or the extensible one; a data size of 0xFFFFFFFF, which its
+/// writer never filled in, goes to the end of the input.
 pub fn read_wav<R: Reader>(alloc: Global, reader: &mut R) -> Result<Wav, WavFault>
     // What is answered is so: the input is a file of this sound and the rest is left, or the input has this fault.
     ensures answers { Answers (R.remaining reader.old) (R.remaining reader.new) result }
 
     // What is so is answered, unless memory or the reader failed.
-    ensures accepts { (input : List ℕ) (s : Sound) (rest : List ℕ) → R.remaining reader.old ≡ Some input → IsWav input s rest → Accepts (R.remaining reader.new) s rest result }
-    ensures refuses { (input : List ℕ) (f : FormatFault) → R.remaining reader.old ≡ Some input → HasFault input f → Refuses f result }
+    ensures accepts { (input : List ℕ) (s : Sound) (rest : List ℕ) → R.remaining reader.old ≡ Some input →
+        IsWav input s rest → Accepts (R.remaining reader.new) s rest result }
+    ensures refuses { (input : List ℕ) (f : FormatFault) → R.remaining reader.old ≡ Some input → HasFault input f →
+        Refuses f result }
 
     // Whatever is known of the bytes, no other fault comes.
     ensures fault { IfErr result IsReadingFault }

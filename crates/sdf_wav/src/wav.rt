@@ -28,7 +28,8 @@ impl Model for Wav {
 
     ghost view = { λ w. record { rate = w.rate; channels = w.channels; samples = w.samples.items } };
 
-    ghost invariant = { λ w. (1 ≤ w.rate) × (1 ≤ w.channels) × (w.channels ≤ MOST_CHANNELS) × (length w.samples.items % w.channels ≡ 0) };
+    ghost invariant = { λ w. (1 ≤ w.rate) × (1 ≤ w.channels) × (w.channels ≤ MOST_CHANNELS)
+        × (length w.samples.items % w.channels ≡ 0) };
 }
 
 impl Wav {

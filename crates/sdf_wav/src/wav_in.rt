@@ -1,6 +1,7 @@
 //! A file that is read in pieces.
 
-ghost use Rattle.std.specs.Prelude.{◌≡◌, ◌≤◌, ◌+◌, ◌*◌, ◌%◌, ℕ, List, Option, Some, None, [], length, IfOk, IfErr, IsErrOf, Err};
+ghost use Rattle.std.specs.Prelude.{◌≡◌, ◌≤◌, ◌+◌, ◌*◌, ◌%◌, ℕ, List, Option, Some, None, [], length, IfOk, IfErr};
+ghost use Rattle.std.specs.Prelude.{IsErrOf, Err};
 ghost use Rattle.sdf_wav.specs.declared.fault.WavFault.{WavFault};
 ghost use Rattle.sdf_wav.specs.declared.wav.TheConstants.{MOST_CHANNELS};
 ghost use Rattle.sdf_wav.specs.Device.{failures_after, one_more, Known, LosesFront};
@@ -22,20 +23,23 @@ pub struct WavIn<'a, R> {
 }
 
 impl<'a, R: Reader> WavIn<'a, R> {
-    /// Reads a file up to the size of its data, and fails as [`ContentIn::open`] does. Whoever must know what the reader
-    /// lost before a fault calls that, which reads the same, and then [`WavIn::over`]. Memory for the pieces is taken from
-    /// `alloc`, and none here.
+    /// Reads a file up to the size of its data, and fails as [`ContentIn::open`] does. Whoever must know what the
+    /// reader lost before a fault calls that, which reads the same, and then [`WavIn::over`]. Memory for the pieces is
+    /// taken from `alloc`, and none here.
     pub fn open(alloc: Global, reader: &'a mut R) -> Result<WavIn<'a, R>, WavFault>
         ensures same_reader { IfOk result (λ w. reader_name w ≡ reader.entry.ghost_name) }
-        ensures opens { IfOk result (λ w. Known (R.remaining reader.old) (R.remaining (reader_of w)) (λ input left. IsReadTo input (reading w) [] left × LosesFront input left)) }
+        ensures opens { IfOk result (λ w. Known (R.remaining reader.old) (R.remaining (reader_of w))
+            (λ input left. IsReadTo input (reading w) [] left × LosesFront input left)) }
         ensures start { IfOk result (λ w. ((reading w).gone ≡ 0) × ((reading w).fault ≡ None)) }
         ensures counted { IfOk result (λ w. R.failures (reader_of w) ≡ R.failures reader.old) }
         ensures sound { IfOk result (λ w. IsReading (reading w)) }
         ensures refuses { IfErr result (OpenFails (R.remaining reader.old)) }
         ensures fault { IfErr result IsOpeningFault }
 
-        // Where the reader is blamed, some reader was left that had failed once more: a body that reads nothing has none.
-        ensures device { IsErrOf result WavFault.Read → (left : R) × (R.failures left ≡ one_more (R.failures reader.old)) }
+        // Where the reader is blamed, some reader was left that had failed once more: a body that reads nothing has
+        // none.
+        ensures device { IsErrOf result WavFault.Read →
+            (left : R) × (R.failures left ≡ one_more (R.failures reader.old)) }
     {
         let content = ContentIn::open(reader)?;
         Ok(WavIn::over(alloc, reader, content))
@@ -83,16 +87,22 @@ impl<'a, R: Reader> WavIn<'a, R> {
     pub fn next(&mut self, frames: usize) -> Result<Vec<i16>, WavFault>
         ensures same_reader { reader_name self.new ≡ reader_name self.old }
 
-        // These are the samples before the reader, or the fault that stands among them, and what is behind them is left.
-        ensures bytes { (reading self.old).fault ≡ None → AnswersBy (λ v. v.items) (R.remaining (reader_of self.old)) (R.remaining (reader_of self.new)) (next_at (reading self.old) frames) result }
-        ensures counted { (reading self.old).fault ≡ None → R.failures (reader_of self.new) ≡ failures_after result (R.failures (reader_of self.old)) }
+        // These are the samples before the reader, or the fault that stands among them, and what is behind them is
+        // left.
+        ensures bytes { (reading self.old).fault ≡ None →
+            AnswersBy (λ v. v.items) (R.remaining (reader_of self.old)) (R.remaining (reader_of self.new))
+            (next_at (reading self.old) frames) result }
+        ensures counted { (reading self.old).fault ≡ None →
+            R.failures (reader_of self.new) ≡ failures_after result (R.failures (reader_of self.old)) }
         ensures piece { IfOk result (λ v. IsPiece (reading self.old) frames (length v.items)) }
 
         // A fault is repeated, and the reader left alone.
-        ensures repeats { (e : WavFault) → (reading self.old).fault ≡ Some e → (result ≡ Err e) × (reader_of self.new ≡ reader_of self.old) }
+        ensures repeats { (e : WavFault) → (reading self.old).fault ≡ Some e →
+            (result ≡ Err e) × (reader_of self.new ≡ reader_of self.old) }
 
         // What was read is gone, and a fault stays.
-        ensures goes_on { IfOk result (λ v. reading self.new ≡ record (reading self.old) { gone = (reading self.old).gone + 2 * length v.items }) }
+        ensures goes_on { IfOk result (λ v. reading self.new ≡
+            record (reading self.old) { gone = (reading self.old).gone + 2 * length v.items }) }
         ensures stops { IfErr result (λ e. reading self.new ≡ record (reading self.old) { fault = Some e }) }
         ensures fault { IfErr result IsReadingFault }
         ensures sound { IsReading (reading self.new) }

@@ -19,9 +19,9 @@ pub struct WavOut<'a, W> {
 }
 
 impl<'a, W: Writer> WavOut<'a, W> {
-    /// Writes the header of a file of so many frames. Fails by `Channels`, `RateZero`, `RateTooLarge` or `TooLong`, tested
-    /// in this order and before the first byte, and by `Write`. Whoever must know what the writer took before that fault
-    /// calls [`ContentOut::start`], which writes the same, and then [`WavOut::over`].
+    /// Writes the header of a file of so many frames. Fails by `Channels`, `RateZero`, `RateTooLarge` or `TooLong`,
+    /// tested in this order and before the first byte, and by `Write`. Whoever must know what the writer took before
+    /// that fault calls [`ContentOut::start`], which writes the same, and then [`WavOut::over`].
     pub fn start(
         writer: &'a mut W,
         rate: u64,
@@ -29,14 +29,17 @@ impl<'a, W: Writer> WavOut<'a, W> {
         frames: u64,
     ) -> Result<WavOut<'a, W>, WavFault>
         ensures same_writer { IfOk result (λ o. writer_name o ≡ writer.entry.ghost_name) }
-        ensures header { IfOk result (λ o. Appends (W.contents writer.old) (W.contents (writer_of o)) (file_header rate channels frames)) }
+        ensures header { IfOk result (λ o. Appends (W.contents writer.old) (W.contents (writer_of o))
+            (file_header rate channels frames)) }
         ensures counted { IfOk result (λ o. W.failures (writer_of o) ≡ W.failures writer.old) }
         ensures owed { IfOk result (λ o. owed o ≡ record { channels = channels; missing = frames; spent = false }) }
         ensures fits { IfOk result (λ _. start_fault rate channels frames ≡ None) }
         ensures fault { IfErr result (StartFails rate channels frames) }
 
-        // Where the writer is blamed, some writer was left that had failed once more: a body that writes nothing has none.
-        ensures device { IsErrOf result WavFault.Write → (left : W) × (W.failures left ≡ one_more (W.failures writer.old)) }
+        // Where the writer is blamed, some writer was left that had failed once more: a body that writes nothing has
+        // none.
+        ensures device { IsErrOf result WavFault.Write →
+            (left : W) × (W.failures left ≡ one_more (W.failures writer.old)) }
     {
         let content = ContentOut::start(writer, rate, channels, frames)?;
         Ok(WavOut::over(writer, content))
@@ -65,11 +68,14 @@ impl<'a, W: Writer> WavOut<'a, W> {
         ensures same_writer { writer_name self.new ≡ writer_name self.old }
 
         // The samples are written, or a front of their bytes where the writer fails.
-        ensures writes { (owed self.old).spent ≡ false → Puts (W.contents (writer_of self.old)) (W.contents (writer_of self.new)) (sample_bytes samples.now) result }
-        ensures counted { (owed self.old).spent ≡ false → W.failures (writer_of self.new) ≡ failures_after result (W.failures (writer_of self.old)) }
+        ensures writes { (owed self.old).spent ≡ false →
+            Puts (W.contents (writer_of self.old)) (W.contents (writer_of self.new)) (sample_bytes samples.now) result }
+        ensures counted { (owed self.old).spent ≡ false →
+            W.failures (writer_of self.new) ≡ failures_after result (W.failures (writer_of self.old)) }
 
         // A failure is repeated, and the writer left alone.
-        ensures repeats { (owed self.old).spent ≡ true → (result ≡ Err WavFault.Write) × (writer_of self.new ≡ writer_of self.old) }
+        ensures repeats { (owed self.old).spent ≡ true →
+            (result ≡ Err WavFault.Write) × (writer_of self.new ≡ writer_of self.old) }
         ensures owed { owed self.new ≡ owed_after (owed self.old) (length samples.now) result }
         ensures fault { IfErr result (λ e. e ≡ WavFault.Write) }
     {

@@ -1,9 +1,11 @@
 //! Writing a WAV file.
 
-ghost use Rattle.std.specs.Prelude.{◌≡◌, ◌≤◌, ◌*◌, ◌/◌, ◌%◌, ◌<◌, ◌^◌, length, false, None, OnOk, OnErr, IfErr, IsErrOf};
+ghost use Rattle.std.specs.Prelude.{◌≡◌, ◌≤◌, ◌*◌, ◌/◌, ◌%◌, ◌<◌, ◌^◌, length, false, None, OnOk, OnErr, IfErr};
+ghost use Rattle.std.specs.Prelude.{IsErrOf};
 ghost use Rattle.std.specs.Io.KnownBytes.{Appends};
 ghost use Rattle.byteorder.specs.Endian.{little_bytes};
-ghost use Rattle.sdf_wav.specs.Canonical.{header, sample_bytes, canonical_wav, write_fault, Writes, IsWritingFault, IsCanonical};
+ghost use Rattle.sdf_wav.specs.Canonical.{header, sample_bytes, canonical_wav, write_fault, Writes, IsWritingFault};
+ghost use Rattle.sdf_wav.specs.Canonical.{IsCanonical};
 ghost use Rattle.sdf_wav.specs.PiecesOut.{Puts};
 ghost use Rattle.sdf_wav.specs.Device.{failures_after, failures_after_read, AppendsFront, Failed};
 
@@ -58,7 +60,8 @@ const WRITE_PIECE: usize = 8192;
 /// Writes the samples, a piece at a time.
 pub(crate) fn put_samples<W: Writer>(writer: &mut W, samples: &[i16]) -> Result<(), DeviceFault>
     ensures ok { OnOk result (Appends (W.contents writer.old) (W.contents writer.new) (sample_bytes samples.now)) }
-    ensures err { OnErr result (AppendsFront (W.contents writer.old) (W.contents writer.new) (sample_bytes samples.now)) }
+    ensures err { OnErr result (AppendsFront (W.contents writer.old) (W.contents writer.new)
+        (sample_bytes samples.now)) }
     ensures counted { W.failures writer.new ≡ failures_after_read result (W.failures writer.old) }
 {
     let mut piece = [0u8; 2 * WRITE_PIECE];
@@ -100,7 +103,8 @@ fn put_content<W: Writer>(
 /// Writes the canonical file of a sound: RIFF/WAVE with one `fmt ` chunk of 16 bytes and one `data` chunk. Fails by
 /// `RateTooLarge`, or else `TooLong`, before the first byte; after `Write` a front of the file is written.
 pub fn write_wav<W: Writer>(writer: &mut W, wav: &Wav) -> Result<(), WavFault>
-    ensures writes { Writes (W.contents writer.old) (W.contents writer.new) (write_fault wav.now) (canonical_wav wav.now) result }
+    ensures writes { Writes (W.contents writer.old) (W.contents writer.new) (write_fault wav.now)
+        (canonical_wav wav.now) result }
 
     // That is the canonical file of a sound, and whatever is known of the bytes, no other fault comes.
     ensures canonical { write_fault wav.now ≡ None → IsCanonical (canonical_wav wav.now) }

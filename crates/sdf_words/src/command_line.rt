@@ -76,7 +76,8 @@ fn place_of(words: &[&str], word: &str) -> Option<usize>
 
 /// What a word means: what stands at its place among the words.
 fn meant<T: Copy>(words: &[&str], values: &[T], word: &str) -> Option<T>
-    ensures { result ≡ option_and_then (slice_get values.now) (position (λ known. bytes_eq known.now word.now) words.now) }
+    ensures { result ≡ option_and_then (slice_get values.now)
+        (position (λ known. bytes_eq known.now word.now) words.now) }
 {
     values.get(place_of(words, word)?).copied()
 }

@@ -17,8 +17,8 @@ fn push_printable(shown: &mut String, character: char) -> Result<(), AllocError>
     }
 }
 
-/// A text with each control character (below U+0020, or from U+007F to U+009F) written as `\u{a}`: its number in lower-case
-/// hexadecimal, without leading zeros.
+/// A text with each control character (below U+0020, or from U+007F to U+009F) written as `\u{a}`: its number in
+/// lower-case hexadecimal, without leading zeros.
 pub fn printable(alloc: Global, text: &str) -> Result<String, AllocError>
     ensures { IfOk result (λ shown. string_bytes shown ≡ printable_text text.now) }
 {

@@ -14,13 +14,15 @@ use std::test::Fail;
 use std::thread::Threads;
 use test_actors::gates::{Hold, Watch};
 
-/// Blocks of two samples, dealt by threes to two outputs. The source and `left` are at home with one of two workers, the others with the other.
+/// Blocks of two samples, dealt by threes to two outputs. The source and `left` are at home with one of two workers,
+/// the others with the other.
 const DEALT: &str = r#"format = 2
 actor = [{ name = "in", kind = "input", channel = 0, block = 2 }, { name = "deal", kind = "deal", ways = 2, run = 3 },
     { name = "left", kind = "output", channel = 0, block = 3 }, { name = "right", kind = "output", channel = 1, block = 3 }]
 link = [{ from = "in", to = "deal" }, { from = "deal:0", to = "left" }, { from = "deal:1", to = "right" }]"#;
 
-/// Holds the second firing of `deal` until `in` has begun its fourth, which stands in the next block and wants what the first of `deal` did.
+/// Holds the second firing of `deal` until `in` has begun its fourth, which stands in the next block and wants what the
+/// first of `deal` did.
 const ACROSS: Hold<'static> = Hold {
     held: &[1],
     first: 1,
@@ -93,7 +95,8 @@ fn over_rings_blocks_overlap(rt: HostRuntime) -> Result<(), Fail> {
     Ok(())
 }
 
-/// Whether all firings of so many blocks passed: three of `in` and one of `left` on one worker, two of `deal` and one of `right` on the other.
+/// Whether all firings of so many blocks passed: three of `in` and one of `left` on one worker, two of `deal` and one
+/// of `right` on the other.
 fn passed(rt: &impl Abort, watch: &Watch, blocks: u64) {
     for (processor, actor, firings) in [
         (0, 0, 3),
@@ -124,8 +127,8 @@ fn each_firing_passes(rt: HostRuntime) -> Result<(), Fail> {
     Ok(())
 }
 
-/// A sound shorter than a block, which is filled up and run at the end: `left` meets the second firing of `deal` in a row, and over
-/// rings `right` begins after `left`, whose worker looks at its neighbour.
+/// A sound shorter than a block, which is filled up and run at the end: `left` meets the second firing of `deal` in a
+/// row, and over rings `right` begins after `left`, whose worker looks at its neighbour.
 #[test]
 fn firings_of_a_last_block_meet(rt: HostRuntime) -> Result<(), Fail> {
     let in_a_row = Hold {

@@ -10,4 +10,8 @@ edges rows = map (λ row. record { from = row.0; put = row.1.now; to = row.3; ta
 
 -- wires by their ends, each a node and a port, that begin with no samples
 abbrev pub empty_wires : {T : Type 0} → List (List ℕ) → List (Wire T)
-empty_wires ends = map (λ e. record { from = (slice_index e 0, slice_index e 1); to = (slice_index e 2, slice_index e 3); initial = [] }) ends
+empty_wires ends = map (λ e. record {
+  from = (slice_index e 0, slice_index e 1);
+  to = (slice_index e 2, slice_index e 3);
+  initial = [];
+}) ends

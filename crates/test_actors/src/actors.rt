@@ -1,6 +1,7 @@
 //! The actors: each is as small as what a test wants of it.
 
-ghost use Rattle.std.specs.Prelude.{[], ◌∷◌, ◌≡◌, ◌+◌, ◌==◌, ◌+ℤ◌, ◌%◌, length, pos, refl, slice_index, slice_index_or, if◌then◌else◌};
+ghost use Rattle.std.specs.Prelude.{[], ◌∷◌, ◌≡◌, ◌+◌, ◌==◌, ◌+ℤ◌, ◌%◌, length, pos, refl, slice_index, slice_index_or};
+ghost use Rattle.std.specs.Prelude.{if◌then◌else◌};
 ghost use Rattle.std.specs.Int.{int_wrap, w64};
 ghost use Rattle.sdf_actor.specs.Steps.{total_in, total_out};
 
@@ -181,8 +182,8 @@ impl Actor for Twice {
     ghost puts_fit = { λ x past now blocks e. twice_fits (length past % 2) _ };
 }
 
-/// At phase 0 of its cycle it takes `first + middle` and `last` samples, and puts them on as `first` and `middle + last`. At its
-/// other phases it moves none.
+/// At phase 0 of its cycle it takes `first + middle` and `last` samples, and puts them on as `first` and `middle +
+/// last`. At its other phases it moves none.
 #[derive(Drop)]
 pub struct Deal {
     pub cycle: u32,

@@ -10,8 +10,8 @@ use std::thread;
 /// A firing is held for so many turns at most.
 const TURNS: u32 = 2_000_000;
 
-/// Which firings are held, and until when: firing `first` of each actor that is held, and the `many` from there on, until each actor
-/// that is awaited has begun its firing of that number, `ahead` more.
+/// Which firings are held, and until when: firing `first` of each actor that is held, and the `many` from there on,
+/// until each actor that is awaited has begun its firing of that number, `ahead` more.
 #[derive(Drop, Clone, Copy)]
 pub struct Hold<'a> {
     pub held: &'a [ActorId],
@@ -128,7 +128,8 @@ impl<'a> Watch<'a> {
         }
     }
 
-    /// How many firings did not pass in the order of their numbers, or passed on a processor that there is not, or fired before they passed.
+    /// How many firings did not pass in the order of their numbers, or passed on a processor that there is not, or
+    /// fired before they passed.
     pub fn odd(&self) -> u64 {
         self.odd.load(Ordering::SeqCst)
     }
@@ -189,7 +190,8 @@ impl<'a> Gate for Watch<'a> {
     }
 }
 
-/// Holds a processor before each of its firings: for so many turns, or no longer than until a firing has passed on another.
+/// Holds a processor before each of its firings: for so many turns, or no longer than until a firing has passed on
+/// another.
 #[derive(Drop)]
 pub struct Delay {
     processor: usize,

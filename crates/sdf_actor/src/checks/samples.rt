@@ -1,6 +1,7 @@
 //! 24, 25: the samples of a period.
 
-ghost use Rattle.std.specs.Prelude.{◌≡◌, ◌*◌, ◌<◌, ◌≤◌, ◌↔◌, ◌^◌, ℕ, length, slice_index, slice_index_or, IsTrue, MatchOption, MatchResult};
+ghost use Rattle.std.specs.Prelude.{◌≡◌, ◌*◌, ◌<◌, ◌≤◌, ◌↔◌, ◌^◌, ℕ, length, slice_index, slice_index_or, IsTrue};
+ghost use Rattle.std.specs.Prelude.{MatchOption, MatchResult};
 ghost use Rattle.sdf_actor.specs.declared.node.Node.TheVariants.{Sink};
 ghost use Rattle.sdf_actor.specs.declared.sides.Lists.TheVariants.{Inputs, Outputs};
 ghost use Rattle.sdf_actor.specs.Sides.{list_of, block_of, first_on, period_samples};
@@ -18,8 +19,10 @@ pub(crate) fn samples<A>(
 ) -> Result<(usize, usize), NetFault>
     requires { length nodes.now ≡ length repetitions.now }
     ensures { MatchResult result
-        (λ k. Agree nodes.now repetitions.now Inputs (length nodes.now) × Agree nodes.now repetitions.now Outputs (length nodes.now)
-        × (k.0 ≡ period_samples nodes.now Inputs repetitions.now) × (k.1 ≡ period_samples nodes.now Outputs repetitions.now))
+        (λ k. Agree nodes.now repetitions.now Inputs (length nodes.now)
+        × Agree nodes.now repetitions.now Outputs (length nodes.now)
+        × (k.0 ≡ period_samples nodes.now Inputs repetitions.now)
+        × (k.1 ≡ period_samples nodes.now Outputs repetitions.now))
         (RateFault nodes.now repetitions.now) }
 {
     let samples_in = node_samples(nodes, repetitions, first_on(nodes, Lists::Inputs));
@@ -54,7 +57,8 @@ fn differing<A>(
 ) -> Option<usize>
     requires each { length nodes.now ≡ length repetitions.now }
     requires samples { samples ≡ period_samples nodes.now lists repetitions.now }
-    ensures { MatchOption result (Agree nodes.now repetitions.now lists (length nodes.now)) (Differs nodes.now repetitions.now lists) }
+    ensures { MatchOption result (Agree nodes.now repetitions.now lists (length nodes.now))
+        (Differs nodes.now repetitions.now lists) }
 {
     for (a, node) in nodes.iter().enumerate() {
         if node.list(lists).is_some() && node_samples(nodes, repetitions, a) != samples {

@@ -1,6 +1,7 @@
 //! The firings of a table dealt out to seats.
 
-ghost use Rattle.std.specs.Prelude.{◌≡◌, ◌<◌, ◌==◌, ◌++◌, ◌∷◌, [], ℕ, if◌then◌else◌, length, map, slice_index, OnOk, IfOk};
+ghost use Rattle.std.specs.Prelude.{◌≡◌, ◌<◌, ◌==◌, ◌++◌, ◌∷◌, [], ℕ, if◌then◌else◌, length, map, slice_index, OnOk};
+ghost use Rattle.std.specs.Prelude.{IfOk};
 ghost use Rattle.sdf_graph.specs.Sequences.{repeated};
 ghost use Rattle.sdf_rings.specs.Asks.{dealt};
 ghost use Rattle.sdf_rings.specs.Begun.{place};
@@ -43,7 +44,8 @@ pub(crate) fn deal(
     seat: usize,
 ) -> Result<Vec<usize>, AllocError>
     requires { (i : ℕ) → i < length order.now → slice_index order.now i < length places.now }
-    ensures { IfOk result (λ left. left.items ≡ map (λ a. (place places.now a).1) (dealt places.now (repeated blocks order.now) seat)) }
+    ensures { IfOk result (λ left. left.items ≡ map (λ a. (place places.now a).1)
+        (dealt places.now (repeated blocks order.now) seat)) }
 {
     let block = deal_block(alloc, places, order, seat)?;
     let mut left = Vec::with_capacity(alloc, block.len().saturating_mul(blocks as usize))?;

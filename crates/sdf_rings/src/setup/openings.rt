@@ -58,8 +58,8 @@ fn greatest_put(channel: &Channel) -> u32
     greatest(&channel.put)
 }
 
-/// How many samples the ring of a channel takes: as many as the table says that it may hold, and where it leads from an actor to
-/// itself another block. More than a memory has can't be reserved.
+/// How many samples the ring of a channel takes: as many as the table says that it may hold, and where it leads from an
+/// actor to itself another block. More than a memory has can't be reserved.
 fn room_of<A: Actor>(net: &Net<A>, table: &Table, c: usize) -> Result<usize, AllocError>
     requires known { c < length net.now.wires }
     requires caps { length table.now.caps ≡ length net.now.wires }
@@ -85,8 +85,10 @@ pub(crate) fn open_rings<A: Actor>(
     table: &Table,
 ) -> Result<Ends<A::Token>, AllocError>
     requires caps { length table.now.caps ≡ length net.now.wires }
-    requires held { (c : ℕ) → c < length net.now.wires → length (wire net.now c).initial ≤ slice_index table.now.caps c }
-    ensures { IfOk result (λ ends. HaveRings A.steps net.now (slice_index table.now.caps) ends.producers.items ends.consumers.items) }
+    requires held { (c : ℕ) → c < length net.now.wires →
+        length (wire net.now c).initial ≤ slice_index table.now.caps c }
+    ensures { IfOk result (λ ends. HaveRings A.steps net.now (slice_index table.now.caps) ends.producers.items
+        ends.consumers.items) }
 {
     let mut producers = Vec::with_capacity(alloc, net.channels())?;
     let mut consumers = Vec::with_capacity(alloc, net.channels())?;

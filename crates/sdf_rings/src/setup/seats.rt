@@ -24,15 +24,21 @@ fn stands<A: Actor>(
     ends: &mut Ends<A::Token>,
     seat: usize,
 ) -> Result<Vec<Stand<A>>, AllocError>
-    requires start { CanStart A.steps start.now.net.now (lists start.now.inputs.now) (slice_index start.now.asked.items) start.now.room start.now.filler }
+    requires start { CanStart A.steps start.now.net.now (lists start.now.inputs.now) (slice_index start.now.asked.items)
+        start.now.room start.now.filler }
     requires sizes { AreSizes A.steps start.now.net.now start.now.sizes }
     requires asked { vec_len start.now.asked ≡ length start.now.net.now.nodes }
     requires all { length places.now ≡ length start.now.net.now.nodes }
     requires next { AreNext places.now }
-    requires ends { (a : ℕ) → a < length places.now → (place places.now a).0 ≡ seat → HasEnds start.now.net.now a ends.old.producers.items ends.old.consumers.items }
-    ensures begun { IfOk result (λ v. AreBegun A.steps start.now.net.now (lists start.now.inputs.now) (slice_index start.now.asked.items) ends.old.producers.items ends.old.consumers.items places.now seat v.items) }
-    ensures producers { OnOk result ((c : ℕ) → ((place places.now (wire start.now.net.now c).from.0).0 ≡ seat → ⊥) → end_at ends.new.producers.items c ≡ end_at ends.old.producers.items c) }
-    ensures consumers { OnOk result ((c : ℕ) → ((place places.now (wire start.now.net.now c).to.0).0 ≡ seat → ⊥) → end_at ends.new.consumers.items c ≡ end_at ends.old.consumers.items c) }
+    requires ends { (a : ℕ) → a < length places.now → (place places.now a).0 ≡ seat →
+        HasEnds start.now.net.now a ends.old.producers.items ends.old.consumers.items }
+    ensures begun { IfOk result (λ v. AreBegun A.steps start.now.net.now (lists start.now.inputs.now)
+        (slice_index start.now.asked.items) ends.old.producers.items ends.old.consumers.items places.now
+        seat v.items) }
+    ensures producers { OnOk result ((c : ℕ) → ((place places.now (wire start.now.net.now c).from.0).0 ≡ seat → ⊥) →
+        end_at ends.new.producers.items c ≡ end_at ends.old.producers.items c) }
+    ensures consumers { OnOk result ((c : ℕ) → ((place places.now (wire start.now.net.now c).to.0).0 ≡ seat → ⊥) →
+        end_at ends.new.consumers.items c ≡ end_at ends.old.consumers.items c) }
 {
     sdf_graph::laws::counts_grow();
     let mut stands = Vec::new(alloc);
@@ -54,16 +60,22 @@ fn begin_seat<A: Actor>(
     ends: &mut Ends<A::Token>,
     seat: usize,
 ) -> Result<Seat<A>, AllocError>
-    requires start { CanStart A.steps start.now.net.now (lists start.now.inputs.now) (slice_index start.now.asked.items) start.now.room start.now.filler }
+    requires start { CanStart A.steps start.now.net.now (lists start.now.inputs.now) (slice_index start.now.asked.items)
+        start.now.room start.now.filler }
     requires sizes { AreSizes A.steps start.now.net.now start.now.sizes }
     requires asked { vec_len start.now.asked ≡ length start.now.net.now.nodes }
     requires all { length places.now ≡ length start.now.net.now.nodes }
     requires next { AreNext places.now }
     requires order { (i : ℕ) → i < length order.now → slice_index order.now i < length places.now }
-    requires ends { (a : ℕ) → a < length places.now → (place places.now a).0 ≡ seat → HasEnds start.now.net.now a ends.old.producers.items ends.old.consumers.items }
-    ensures begun { IfOk result (IsBegun A.steps start.now.net.now (lists start.now.inputs.now) (slice_index start.now.asked.items) ends.old.producers.items ends.old.consumers.items places.now (repeated blocks order.now) seat) }
-    ensures producers { OnOk result ((c : ℕ) → ((place places.now (wire start.now.net.now c).from.0).0 ≡ seat → ⊥) → end_at ends.new.producers.items c ≡ end_at ends.old.producers.items c) }
-    ensures consumers { OnOk result ((c : ℕ) → ((place places.now (wire start.now.net.now c).to.0).0 ≡ seat → ⊥) → end_at ends.new.consumers.items c ≡ end_at ends.old.consumers.items c) }
+    requires ends { (a : ℕ) → a < length places.now → (place places.now a).0 ≡ seat →
+        HasEnds start.now.net.now a ends.old.producers.items ends.old.consumers.items }
+    ensures begun { IfOk result (IsBegun A.steps start.now.net.now (lists start.now.inputs.now)
+        (slice_index start.now.asked.items) ends.old.producers.items ends.old.consumers.items places.now
+        (repeated blocks order.now) seat) }
+    ensures producers { OnOk result ((c : ℕ) → ((place places.now (wire start.now.net.now c).from.0).0 ≡ seat → ⊥) →
+        end_at ends.new.producers.items c ≡ end_at ends.old.producers.items c) }
+    ensures consumers { OnOk result ((c : ℕ) → ((place places.now (wire start.now.net.now c).to.0).0 ≡ seat → ⊥) →
+        end_at ends.new.consumers.items c ≡ end_at ends.old.consumers.items c) }
 {
     let stands = stands(alloc, start, places, ends, seat)?;
     let left = deal(alloc, places, order, blocks, seat)?;
@@ -85,15 +97,20 @@ pub(crate) fn seats<A: Actor>(
     ends: &mut Ends<A::Token>,
     many: usize,
 ) -> Result<Vec<Seat<A>>, AllocError>
-    requires start { CanStart A.steps start.now.net.now (lists start.now.inputs.now) (slice_index start.now.asked.items) start.now.room start.now.filler }
+    requires start { CanStart A.steps start.now.net.now (lists start.now.inputs.now) (slice_index start.now.asked.items)
+        start.now.room start.now.filler }
     requires sizes { AreSizes A.steps start.now.net.now start.now.sizes }
     requires asked { vec_len start.now.asked ≡ length start.now.net.now.nodes }
     requires all { length places.now ≡ length start.now.net.now.nodes }
     requires next { AreNext places.now }
     requires order { (i : ℕ) → i < length order.now → slice_index order.now i < length places.now }
-    requires ends { (a : ℕ) → a < length places.now → HasEnds start.now.net.now a ends.old.producers.items ends.old.consumers.items }
+    requires ends { (a : ℕ) → a < length places.now →
+        HasEnds start.now.net.now a ends.old.producers.items ends.old.consumers.items }
     ensures all { IfOk result (λ v. vec_len v ≡ many) }
-    ensures each { IfOk result (λ v. (i : ℕ) (e : _) → i < many → IsBegun A.steps start.now.net.now (lists start.now.inputs.now) (slice_index start.now.asked.items) ends.old.producers.items ends.old.consumers.items places.now (repeated blocks order.now) i (slice_index_or v.items i e)) }
+    ensures each { IfOk result (λ v. (i : ℕ) (e : _) → i < many →
+        IsBegun A.steps start.now.net.now (lists start.now.inputs.now) (slice_index start.now.asked.items)
+        ends.old.producers.items ends.old.consumers.items places.now (repeated blocks order.now) i
+        (slice_index_or v.items i e)) }
 {
     let mut seats = Vec::with_capacity(alloc, many)?;
     for seat in 0..many {

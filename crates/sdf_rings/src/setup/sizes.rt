@@ -19,7 +19,8 @@ pub(crate) fn cycle<A: Actor>(node: &Node<A>) -> u32
 
 /// The greatest number of samples that a firing of a node takes at all ports, or puts there.
 pub(crate) fn most<A: Actor>(node: &Node<A>) -> usize
-    ensures { (j : ℕ) → j < cycle_of A.steps node.now → (takes_of A.steps node.now j ≤ result) × (puts_of A.steps node.now j ≤ result) }
+    ensures { (j : ℕ) → j < cycle_of A.steps node.now →
+        (takes_of A.steps node.now j ≤ result) × (puts_of A.steps node.now j ≤ result) }
 {
     let mut most = 0;
     for phase in 0..cycle(node) {

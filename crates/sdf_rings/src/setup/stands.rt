@@ -1,6 +1,7 @@
 //! A node before its first firing.
 
-ghost use Rattle.std.specs.Prelude.{◌≡◌, ◌<◌, ℕ, None, length, slice_index, slice_index_or, vec_len, IsSome, IfSome, IfOk, OnOk};
+ghost use Rattle.std.specs.Prelude.{◌≡◌, ◌<◌, ℕ, None, length, slice_index, slice_index_or, vec_len, IsSome, IfSome};
+ghost use Rattle.std.specs.Prelude.{IfOk, OnOk};
 ghost use Rattle.sdf_actor.specs.Nets.{wire, node};
 ghost use Rattle.sdf_actor.specs.Wires.{lists};
 ghost use Rattle.sdf_answer.specs.Sizes.{AreSizes};
@@ -56,10 +57,13 @@ fn take_ends<E: Drop>(
     channels: &[usize],
 ) -> Result<Vec<E>, AllocError>
     requires there { (i : ℕ) → i < length channels.now → IsSome (end_at ends.old.items (slice_index channels.now i)) }
-    requires once { (i k : ℕ) → i < length channels.now → k < length channels.now → slice_index channels.now i ≡ slice_index channels.now k → i ≡ k }
+    requires once { (i k : ℕ) → i < length channels.now → k < length channels.now →
+        slice_index channels.now i ≡ slice_index channels.now k → i ≡ k }
     ensures all { IfOk result (λ v. vec_len v ≡ length channels.now) }
-    ensures each { IfOk result (λ v. (i : ℕ) (d : E) → i < length channels.now → end_at ends.old.items (slice_index channels.now i) ≡ Some (slice_index_or v.items i d)) }
-    ensures others { OnOk result ((c : ℕ) → ((i : ℕ) → i < length channels.now → slice_index channels.now i ≡ c → ⊥) → end_at ends.new.items c ≡ end_at ends.old.items c) }
+    ensures each { IfOk result (λ v. (i : ℕ) (d : E) → i < length channels.now →
+        end_at ends.old.items (slice_index channels.now i) ≡ Some (slice_index_or v.items i d)) }
+    ensures others { OnOk result ((c : ℕ) → ((i : ℕ) → i < length channels.now → slice_index channels.now i ≡ c → ⊥) →
+        end_at ends.new.items c ≡ end_at ends.old.items c) }
 {
     let mut taken = Vec::with_capacity(alloc, channels.len())?;
     for channel in channels {
@@ -87,7 +91,8 @@ fn make_stand<A: Actor>(
     outs: Vec<Producer<A::Token, Global>>,
 ) -> Result<Stand<A>, AllocError>
     requires known { a < length start.now.net.now.nodes }
-    requires start { CanStart A.steps start.now.net.now (lists start.now.inputs.now) (slice_index start.now.asked.items) start.now.room start.now.filler }
+    requires start { CanStart A.steps start.now.net.now (lists start.now.inputs.now) (slice_index start.now.asked.items)
+        start.now.room start.now.filler }
     requires sizes { AreSizes A.steps start.now.net.now start.now.sizes }
     requires asked { vec_len start.now.asked ≡ length start.now.net.now.nodes }
     requires ins { HasIns A.steps start.now.net.now a ins.items }
@@ -123,13 +128,17 @@ pub(crate) fn begin_stand<A: Actor>(
     a: usize,
 ) -> Result<Stand<A>, AllocError>
     requires known { a < length start.now.net.now.nodes }
-    requires start { CanStart A.steps start.now.net.now (lists start.now.inputs.now) (slice_index start.now.asked.items) start.now.room start.now.filler }
+    requires start { CanStart A.steps start.now.net.now (lists start.now.inputs.now) (slice_index start.now.asked.items)
+        start.now.room start.now.filler }
     requires sizes { AreSizes A.steps start.now.net.now start.now.sizes }
     requires asked { vec_len start.now.asked ≡ length start.now.net.now.nodes }
     requires ends { HasEnds start.now.net.now a ends.old.producers.items ends.old.consumers.items }
-    ensures begun { IfOk result (HasBegun A.steps start.now.net.now (lists start.now.inputs.now) (slice_index start.now.asked.items) ends.old.producers.items ends.old.consumers.items a) }
-    ensures producers { OnOk result ((c : ℕ) → ((wire start.now.net.now c).from.0 ≡ a → ⊥) → end_at ends.new.producers.items c ≡ end_at ends.old.producers.items c) }
-    ensures consumers { OnOk result ((c : ℕ) → ((wire start.now.net.now c).to.0 ≡ a → ⊥) → end_at ends.new.consumers.items c ≡ end_at ends.old.consumers.items c) }
+    ensures begun { IfOk result (HasBegun A.steps start.now.net.now (lists start.now.inputs.now)
+        (slice_index start.now.asked.items) ends.old.producers.items ends.old.consumers.items a) }
+    ensures producers { OnOk result ((c : ℕ) → ((wire start.now.net.now c).from.0 ≡ a → ⊥) →
+        end_at ends.new.producers.items c ≡ end_at ends.old.producers.items c) }
+    ensures consumers { OnOk result ((c : ℕ) → ((wire start.now.net.now c).to.0 ≡ a → ⊥) →
+        end_at ends.new.consumers.items c ≡ end_at ends.old.consumers.items c) }
 {
     sdf_actor::laws::nets_are_wired::<A>();
     let ins = take_ends(alloc, &mut ends.consumers, start.net.channels_in(a))?;

@@ -9,8 +9,10 @@ loop-firing-preserved g c =
     let n : ℕ = c.loop-firing.firing in
     let here : n ≡ 0 + n = omega arith in
     let at : n % c.cycle.result ≡ phase s x (0 + n) = (λ k. here k % c.cycle.ensures k) in
-    let reads : c.samples_in-reads.result ≡ total_in s x (phase s x (0 + n)) = c.samples_in-reads.ensures ∙ ap (total_in s x) at in
-    let writes : c.samples_out-writes.result ≡ total_out s x (phase s x (0 + n)) = c.samples_out-writes.ensures ∙ ap (total_out s x) at in
+    let reads : c.samples_in-reads.result ≡ total_in s x (phase s x (0 + n)) =
+    c.samples_in-reads.ensures ∙ ap (total_in s x) at in
+    let writes : c.samples_out-writes.result ≡ total_out s x (phase s x (0 + n)) =
+    c.samples_out-writes.ensures ∙ ap (total_out s x) at in
     record {
       taken = omega (arith, c.loop-firing.invariant.taken, reads, ap (sum_in s x 0) (add-one n));
       put = omega (arith, c.loop-firing.invariant.put, writes, ap (sum_out s x 0) (add-one n));

@@ -6,5 +6,10 @@ use Rattle.sdf_actor.proofs.begun_nets.links_with.Given as goal
 abbrev pub invariant-loop-c : goal.invariant-loop-c
 invariant-loop-c g l = record {
   all : length l.begun.items ≡ l.c;
-  each : (d : ℕ) → d < l.c → get_or (wires l.begun.items) d no_wire ≡ record { from = (get_or (wires l.links) d no_wire).from; to = (get_or (wires l.links) d no_wire).to; initial = get_or (lists l.held) d [] };
+  each : (d : ℕ) → d < l.c → get_or (wires l.begun.items) d no_wire ≡
+      record {
+        from = (get_or (wires l.links) d no_wire).from;
+        to = (get_or (wires l.links) d no_wire).to;
+        initial = get_or (lists l.held) d [];
+      };
 }

@@ -12,21 +12,31 @@ pub node_in-requires-after_bounds : goal.node_in-requires-after_bounds
 node_in-requires-after_bounds g c κs within =
     let low = c.loop-a-test.true in
     let node = node_read c.args.nodes.now c.loop-a.a c.index-nodes-a.result low c.index-nodes-a.is in
-    let state = sym (get_or_read c.args.states.now c.loop-a.a c.index-states-a.result (omega (arith, c.requires.all, low)) c.index-states-a.is None) in
+    let state = sym (get_or_read c.args.states.now c.loop-a.a c.index-states-a.result
+    (omega (arith, c.requires.all, low)) c.index-states-a.is None) in
     subst (λ x. MayBegin g.A.Actor.steps c.index-states-a.result x) node
-    (subst (λ t. MayBegin g.A.Actor.steps t (get_or c.args.nodes.now c.loop-a.a (Sink 0 0))) state (c.requires.each c.loop-a.a low))
+    (subst (λ t. MayBegin g.A.Actor.steps t (get_or c.args.nodes.now c.loop-a.a (Sink 0 0))) state
+    (c.requires.each c.loop-a.a low))
 
 pub loop-a-preserved : goal.loop-a-preserved
 loop-a-preserved g c =
     let low = c.loop-a-test.true in
     let node = node_read c.args.nodes.now c.loop-a.a c.index-nodes-a.result low c.index-nodes-a.is in
-    let state = sym (get_or_read c.args.states.now c.loop-a.a c.index-states-a.result (omega (arith, c.requires.all, low)) c.index-states-a.is None) in
+    let state = sym (get_or_read c.args.states.now c.loop-a.a c.index-states-a.result
+    (omega (arith, c.requires.all, low)) c.index-states-a.is None) in
     let items = c.in_ok-push.ensures.items in
     record {
-      all = ap length items ∙ (length_push c.loop-a.begun.items c.in_ok-node_in.field-0 ∙ ap (λ n. n + 1) c.loop-a.invariant.all);
-      each = subst (λ v. (b : ℕ) → b < c.loop-a.a + 1 → IsNodeIn g.A.Actor.steps (begun_steps g.A.Actor) (get_or c.args.states.now b None) (get_or c.args.nodes.now b (Sink 0 0)) (get_or v b (Sink 0 0))) (sym items)
-          (each_pushed (λ b y. IsNodeIn g.A.Actor.steps (begun_steps g.A.Actor) (get_or c.args.states.now b None) (get_or c.args.nodes.now b (Sink 0 0)) y)
-          c.loop-a.begun.items c.in_ok-node_in.field-0 (Sink 0 0) c.loop-a.a c.loop-a.invariant.all c.loop-a.invariant.each
-          (subst (λ x. IsNodeIn g.A.Actor.steps (begun_steps g.A.Actor) (get_or c.args.states.now c.loop-a.a None) x c.in_ok-node_in.field-0) (sym node)
-          (subst (λ t. IsNodeIn g.A.Actor.steps (begun_steps g.A.Actor) t c.index-nodes-a.result c.in_ok-node_in.field-0) (sym state) c.in_ok-node_in.ensures)));
+      all = ap length items ∙ (length_push c.loop-a.begun.items c.in_ok-node_in.field-0
+          ∙ ap (λ n. n + 1) c.loop-a.invariant.all);
+      each = subst (λ v. (b : ℕ) → b < c.loop-a.a + 1 →
+          IsNodeIn g.A.Actor.steps (begun_steps g.A.Actor) (get_or c.args.states.now b None)
+          (get_or c.args.nodes.now b (Sink 0 0)) (get_or v b (Sink 0 0))) (sym items)
+          (each_pushed (λ b y. IsNodeIn g.A.Actor.steps (begun_steps g.A.Actor) (get_or c.args.states.now b None)
+          (get_or c.args.nodes.now b (Sink 0 0)) y)
+          c.loop-a.begun.items c.in_ok-node_in.field-0 (Sink 0 0) c.loop-a.a c.loop-a.invariant.all
+          c.loop-a.invariant.each
+          (subst (λ x. IsNodeIn g.A.Actor.steps (begun_steps g.A.Actor) (get_or c.args.states.now c.loop-a.a None) x
+          c.in_ok-node_in.field-0) (sym node)
+          (subst (λ t. IsNodeIn g.A.Actor.steps (begun_steps g.A.Actor) t c.index-nodes-a.result
+          c.in_ok-node_in.field-0) (sym state) c.in_ok-node_in.ensures)));
     }

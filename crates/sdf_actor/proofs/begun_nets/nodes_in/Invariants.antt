@@ -7,5 +7,6 @@ use Rattle.sdf_actor.proofs.begun_nets.nodes_in.Given as goal
 abbrev pub invariant-loop-a : goal.invariant-loop-a
 invariant-loop-a g l = record {
   all : length l.begun.items ≡ l.a;
-  each : (b : ℕ) → b < l.a → IsNodeIn g.A.Actor.steps (begun_steps g.A.Actor) (get_or l.states b None) (get_or l.nodes b (Sink 0 0)) (get_or l.begun.items b (Sink 0 0));
+  each : (b : ℕ) → b < l.a → IsNodeIn g.A.Actor.steps (begun_steps g.A.Actor) (get_or l.states b None)
+      (get_or l.nodes b (Sink 0 0)) (get_or l.begun.items b (Sink 0 0));
 }

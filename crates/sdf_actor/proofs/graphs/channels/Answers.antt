@@ -23,4 +23,5 @@ loop-link-preserved g c =
     (ap (λ xs. xs ++ c.in_ok-channel.field-0 ∷ []) c.loop-link.invariant ∙
     (ap (λ x. map (channel_of s c.args.nodes.now) (take c.loop-link.link-index (wires c.args.links.now)) ++ x ∷ [])
     (c.in_ok-channel.ensures ∙ ap (channel_of s c.args.nodes.now) (sym read)) ∙
-    sym (map_more (channel_of s c.args.nodes.now) (wires c.args.links.now) c.loop-link.link-index no_wire (omega arith))))
+    sym (map_more (channel_of s c.args.nodes.now) (wires c.args.links.now) c.loop-link.link-index no_wire
+    (omega arith))))

@@ -5,4 +5,7 @@ pub returns-clause-wired : goal.returns-clause-wired
 returns-clause-wired g c = λ n good. wired g.A.Actor.steps n good c.sums_rise.ensures.all
 
 pub returns-clause-ports : goal.returns-clause-ports
-returns-clause-ports g c = λ n a p good known. (to_port_is g.A.Actor.steps n good a p known, from_port_is g.A.Actor.steps n good a p known)
+returns-clause-ports g c = λ n a p good known. (
+  to_port_is g.A.Actor.steps n good a p known,
+  from_port_is g.A.Actor.steps n good a p known,
+)

@@ -10,7 +10,8 @@ oldest-requires g c =
     let ports = c.args.ports.now in
     let ls = c.args.queues.now in
     let i = c.loop-c.c-index in
-    let x = same_x ports c.args.sizes.now (length ls) c.requires.ports ls ls i c.loop-c-test.true c.index-queues-c.result c.index-queues-c.result refl in
+    let x = same_x ports c.args.sizes.now (length ls) c.requires.ports ls ls i c.loop-c-test.true
+    c.index-queues-c.result c.index-queues-c.result refl in
     let e = ap (λ q. q.samples) c.index-queues-c.is in
     omega (arith, c.requires.held i c.loop-c-test.true, ap length (x ∙ sym e))
 
@@ -22,15 +23,19 @@ loop-c-preserved g c =
     let i = c.loop-c.c-index in
     let l = c.loop-c-test.true in
     let size : ℕ = get_or sizes (get_or ports i 0) 0 in
-    let x = same_x ports sizes (length ls) c.requires.ports ls ls i l c.index-queues-c.result c.index-queues-c.result refl in
+    let x = same_x ports sizes (length ls) c.requires.ports ls ls i l c.index-queues-c.result
+    c.index-queues-c.result refl in
     let e = ap (λ q. q.samples) c.index-queues-c.is in
     let read = c.oldest.ensures ∙ ap (take size) (e ∙ sym x) in
-    let long : length c.oldest.result.now ≡ size = ap length read ∙ length-take-le size (samples ls (get_or ports i 0)) (c.requires.held i l) in
+    let long : length c.oldest.result.now ≡ size =
+    ap length read ∙ length-take-le size (samples ls (get_or ports i 0)) (c.requires.held i l) in
     let all = front sizes (take i ports) ls in
     record {
-      block = block_more (λ e. take (get_or sizes e 0) (samples ls e)) ports i c.args.block.now.items c.append.new.list.items l
+      block = block_more (λ e. take (get_or sizes e 0) (samples ls e)) ports i c.args.block.now.items
+          c.append.new.list.items l
           (c.append.ensures.items ∙ (ap (λ xs. xs ++ c.oldest.result.now) c.loop-c.invariant.block ∙
           ap (λ b. (c.args.block.now.items ++ all) ++ b) read));
-      len = let more = sum_by-drop_more (λ d. get_or sizes d 0) ports i 0 l in omega (arith, c.append.ensures.len, c.append.ensures.capacity, long);
+      len = let more = sum_by-drop_more (λ d. get_or sizes d 0) ports i 0 l in
+          omega (arith, c.append.ensures.len, c.append.ensures.capacity, long);
       capacity = c.append.ensures.capacity ∙ c.loop-c.invariant.capacity;
     }

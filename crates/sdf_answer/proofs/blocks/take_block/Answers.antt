@@ -7,7 +7,9 @@ use Rattle.sdf_answer.proofs.blocks.take_block.Goals as goal
 
 pub take-requires-clause-held : goal.take-requires-clause-held
 take-requires-clause-held g c =
-    holds c.args.ports.now c.args.sizes.now (length c.args.queues.now) c.requires.ports c.args.queues.now c.loop-c.queues c.loop-c.c-index c.loop-c-test.true c.index-queues-c.result c.index-queues-c.result c.loop-c.auto.queues
+    holds c.args.ports.now c.args.sizes.now (length c.args.queues.now) c.requires.ports c.args.queues.now
+    c.loop-c.queues c.loop-c.c-index c.loop-c-test.true c.index-queues-c.result c.index-queues-c.result
+    c.loop-c.auto.queues
     c.requires.held c.loop-c.invariant.queues
 
 pub loop-c-preserved : goal.loop-c-preserved
@@ -19,15 +21,22 @@ loop-c-preserved g c =
     let l = c.loop-c-test.true in
     let d : ℕ = get_or ports i 0 in
     let size : ℕ = get_or sizes d 0 in
-    let old = whole ports sizes (length was) c.requires.ports was c.loop-c.queues i l c.index-queues-c.result c.take.new.self c.loop-c.auto.queues c.loop-c.invariant.queues in
+    let old = whole ports sizes (length was) c.requires.ports was c.loop-c.queues i l c.index-queues-c.result
+    c.take.new.self c.loop-c.auto.queues c.loop-c.invariant.queues in
     record {
-      block = block_more (λ e. take (get_or sizes e 0) (samples was e)) ports i c.args.block.now.items c.take.new.list.items l
-          (c.take.ensures.list ∙ (ap (λ xs. xs ++ take size (get_or c.loop-c.queues d c.index-queues-c.result).samples) c.loop-c.invariant.block ∙
-          ap (λ q. (c.args.block.now.items ++ flat_map (λ e. take (get_or sizes e 0) (samples was e)) (take i ports)) ++ take size q) old));
-      len = let more = sum_by-drop_more (λ d. get_or sizes d 0) ports i 0 l in omega (arith, c.take.ensures.len, c.take.ensures.capacity);
+      block = block_more (λ e. take (get_or sizes e 0) (samples was e)) ports i c.args.block.now.items
+          c.take.new.list.items l
+          (c.take.ensures.list ∙ (ap (λ xs. xs ++ take size (get_or c.loop-c.queues d c.index-queues-c.result).samples)
+          c.loop-c.invariant.block ∙
+          ap (λ q. (c.args.block.now.items ++ flat_map (λ e. take (get_or sizes e 0) (samples was e)) (take i ports))
+          ++ take size q) old));
+      len = let more = sum_by-drop_more (λ d. get_or sizes d 0) ports i 0 l in
+          omega (arith, c.take.ensures.len, c.take.ensures.capacity);
       capacity = c.take.ensures.capacity ∙ c.loop-c.invariant.capacity;
-      queues = taken_more ports sizes (length was) c.requires.ports was c.loop-c.queues i l c.index-queues-c.result c.take.new.self c.loop-c.auto.queues
+      queues = taken_more ports sizes (length was) c.requires.ports was c.loop-c.queues i l c.index-queues-c.result
+          c.take.new.self c.loop-c.auto.queues
           (ap (λ q. q.samples) c.take.ensures.queue) c.loop-c.invariant.queues;
-      rooms = rooms_more ports sizes (length was) c.requires.ports was c.loop-c.queues i l c.index-queues-c.result c.take.new.self c.loop-c.auto.queues
+      rooms = rooms_more ports sizes (length was) c.requires.ports was c.loop-c.queues i l c.index-queues-c.result
+          c.take.new.self c.loop-c.auto.queues
           (ap (λ q. q.room) c.take.ensures.queue) c.loop-c.invariant.rooms;
     }

@@ -4,6 +4,7 @@ use Rattle.sdf_answer.proofs.inputs.are_inputs.Given as goal
 
 abbrev pub invariant-loop-list : goal.invariant-loop-list
 invariant-loop-list g l = record {
-  even : (e : ℕ) → e < l.list-index → length (slice_index_or (lists l.inputs) e []) ≡ length (slice_index_or (lists l.inputs) 0 []);
+  even : (e : ℕ) → e < l.list-index → length (slice_index_or (lists l.inputs) e []) ≡
+      length (slice_index_or (lists l.inputs) 0 []);
   enough : (e : ℕ) → e < l.list-index → l.least ≤ length (slice_index_or (lists l.inputs) e []);
 }

@@ -5,7 +5,8 @@ pub returns-clause-whole : goal.returns-clause-whole
 returns-clause-whole g c = periods_may_leave c.graph_laws.ensures g.A.Actor.steps c.periods_are_whole.ensures
 
 pub returns-clause-runs : goal.returns-clause-runs
-returns-clause-runs g c = begun_runs_go_on g.A.Actor.steps g.B.Actor.steps c.feeds_go_on.ensures.runs c.feeds_go_on.ensures.inputs c.feeds_go_on.ensures.outputs
+returns-clause-runs g c = begun_runs_go_on g.A.Actor.steps g.B.Actor.steps c.feeds_go_on.ensures.runs
+    c.feeds_go_on.ensures.inputs c.feeds_go_on.ensures.outputs
 
 pub returns-clause-faults : goal.returns-clause-faults
 returns-clause-faults g c = begun_runs_fail g.A.Actor.steps g.B.Actor.steps c.feeds_go_on.ensures.inputs

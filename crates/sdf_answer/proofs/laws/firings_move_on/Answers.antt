@@ -9,4 +9,5 @@ returns-clause-stand g c = blocks_stand g.A.Actor.steps c.nets_are_wired.ensures
 
 pub returns-clause-moves : goal.returns-clause-moves
 returns-clause-moves g c =
-    firings_move_on g.A.Actor.steps c.nets_are_wired.ensures.wired c.nets_are_wired.ensures.ports c.history_grows_by_firing.ensures c.taken_stays.ensures
+    firings_move_on g.A.Actor.steps c.nets_are_wired.ensures.wired c.nets_are_wired.ensures.ports
+    c.history_grows_by_firing.ensures c.taken_stays.ensures

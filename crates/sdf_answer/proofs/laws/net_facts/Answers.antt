@@ -9,8 +9,10 @@ pub returns-clause-phases : goal.returns-clause-phases
 returns-clause-phases g c =
     let s = g.A.Actor.steps in
     let n = c.args.net.now in
-    phases s c.periods_are_whole.ensures n c.repetitions-repetitions.result.now c.graph.ensures.whole (subst IsShape c.graph.ensures.value c.channels-channels.ensures.shape)
-    (subst (λ (x : Shape). IsAlike (rates x) (wiring s n).rates) c.graph.ensures.value c.graph.ensures.rates) c.repetitions-repetitions.ensures.accepted
+    phases s c.periods_are_whole.ensures n c.repetitions-repetitions.result.now c.graph.ensures.whole
+    (subst IsShape c.graph.ensures.value c.channels-channels.ensures.shape)
+    (subst (λ (x : Shape). IsAlike (rates x) (wiring s n).rates) c.graph.ensures.value c.graph.ensures.rates)
+    c.repetitions-repetitions.ensures.accepted
 
 pub returns-clause-sinks : goal.returns-clause-sinks
 returns-clause-sinks g c = has_sinks c.args.net.now c.repetitions-repetitions.ensures.accepted.lists

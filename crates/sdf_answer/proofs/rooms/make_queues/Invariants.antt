@@ -10,6 +10,8 @@ invariant-loop-c g l = record {
   len : vec_len l.queues ≡ l.c;
   each : (k : ℕ) → k < l.c → slice_index_or l.queues.items k nothing ≡ record {
     samples = (wire l.net k).initial;
-    room = length (wire l.net k).initial + l.periods * (rates (graph_of g.A.Actor.steps l.net)).produced k (slice_index l.repetitions ((rates (graph_of g.A.Actor.steps l.net)).source k));
+    room = length (wire l.net k).initial + l.periods
+        * (rates (graph_of g.A.Actor.steps l.net)).produced k
+        (slice_index l.repetitions ((rates (graph_of g.A.Actor.steps l.net)).source k));
   };
 }

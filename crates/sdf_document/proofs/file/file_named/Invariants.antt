@@ -3,4 +3,5 @@ use Rattle.sdf_document.specs.Lists.{file_named, files_view}
 use Rattle.sdf_document.proofs.file.file_named.Given as goal
 
 abbrev pub invariant-loop-file : goal.invariant-loop-file
-invariant-loop-file l = file_named l.name (files_view (drop l.file-index l.files)) ≡ file_named l.name (files_view l.files)
+invariant-loop-file l = file_named l.name (files_view (drop l.file-index l.files)) ≡
+    file_named l.name (files_view l.files)

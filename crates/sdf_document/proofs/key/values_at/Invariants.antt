@@ -9,6 +9,8 @@ use Rattle.sdf_document.proofs.key.values_at.Given as goal
 
 abbrev pub invariant-loop-key : goal.invariant-loop-key
 invariant-loop-key l = record {
-  given : values_after l.values.items (values_at l.actor (lookup_of l.files) (keys_view (drop l.key-index l.keys)) (table_view l.table)) ≡ values_at l.actor (lookup_of l.files) (keys_view l.keys) (table_view l.table);
-  within : (left : List KeyValue) → HaveForms (are_read l.files) (keys_view (drop l.key-index l.keys)) left → HaveForms (are_read l.files) (keys_view l.keys) (l.values.items ++ left);
+  given : values_after l.values.items (values_at l.actor (lookup_of l.files) (keys_view (drop l.key-index l.keys))
+      (table_view l.table)) ≡ values_at l.actor (lookup_of l.files) (keys_view l.keys) (table_view l.table);
+  within : (left : List KeyValue) → HaveForms (are_read l.files) (keys_view (drop l.key-index l.keys)) left →
+      HaveForms (are_read l.files) (keys_view l.keys) (l.values.items ++ left);
 }

@@ -6,4 +6,5 @@ use Rattle.sdf_document.proofs.link.port_of.Goals as goal
 
 pub returns : goal.returns
 returns c =
-    c.position_of.ensures ∙ sym (position_texts c.args.text.now c.ports.result.now) ∙ ap (position (bytes_eq c.args.text.now)) c.ports.ensures
+    c.position_of.ensures ∙ sym (position_texts c.args.text.now c.ports.result.now)
+    ∙ ap (position (bytes_eq c.args.text.now)) c.ports.ensures

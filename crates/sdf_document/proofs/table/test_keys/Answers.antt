@@ -8,9 +8,11 @@ use Rattle.sdf_document.proofs.table.test_keys.Goals as goal
 pub returns-then-not-is_known : goal.returns-then-not-is_known
 unfolding known_keys
 returns-then-not-is_known c =
-    let same = sym c.loop-key.invariant ∙ stranger_found c.args.known.now c.loop-key.key-iterator c.next.new.self c.in-Some.key.now c.in-Some.field-0-1.now (search rules) (search rules) in
+    let same = sym c.loop-key.invariant ∙ stranger_found c.args.known.now c.loop-key.key-iterator c.next.new.self
+    c.in-Some.key.now c.in-Some.field-0-1.now (search rules) (search rules) in
     ap (none_of (unknown_key (spot_view c.args.spot))) same ∙ search rules
 
 pub loop-key-preserved : goal.loop-key-preserved
 loop-key-preserved c =
-    sym (stranger_known c.args.known.now c.loop-key.key-iterator c.next.new.self c.in-Some.key.now c.in-Some.field-0-1.now (search rules) (search rules)) ∙ c.loop-key.invariant
+    sym (stranger_known c.args.known.now c.loop-key.key-iterator c.next.new.self c.in-Some.key.now
+    c.in-Some.field-0-1.now (search rules) (search rules)) ∙ c.loop-key.invariant

@@ -4,4 +4,5 @@ use Rattle.sdf_document.specs.Tables.{stranger, texts_of}
 use Rattle.sdf_document.proofs.table.test_keys.Given as goal
 
 abbrev pub invariant-loop-key : goal.invariant-loop-key
-invariant-loop-key l = stranger (texts_of l.known) (members_view l.key-iterator) ≡ stranger (texts_of l.known) (members_view l.table.entries)
+invariant-loop-key l = stranger (texts_of l.known) (members_view l.key-iterator) ≡
+    stranger (texts_of l.known) (members_view l.table.entries)

@@ -13,21 +13,29 @@ loop-actor-preserved c =
     let at = c.loop-actor in
     let x = c.in-Some.actor in
     let steps : into_iter_items at.actor-iterator ≡ x ∷ into_iter_items c.next.new.self = c.in-Some.ensures.steps.0 in
-    let seen : map actor_view (into_iter_items at.actor-iterator) ≡ actor_view x ∷ map actor_view (into_iter_items c.next.new.self) = ap (map actor_view) steps in
+    let seen : map actor_view (into_iter_items at.actor-iterator) ≡
+    actor_view x ∷ map actor_view (into_iter_items c.next.new.self) = ap (map actor_view) steps in
     record {
-      left = let was = at.invariant.left in let gone = c.in-Some.ensures.steps.1 in let short = ap length steps in omega arith;
+      left = let was = at.invariant.left in let gone = c.in-Some.ensures.steps.1 in let short = ap length steps in
+          omega arith;
       within = All-tail (IsActorWithin true) x (into_iter_items c.next.new.self) (rw steps at at.invariant.within);
-      nodes = moved_more (λ (a : ActorValue). node_of a.kind) _ _ _ _ _ (actor_view x) seen c.in_ok-push.ensures.nodes at.invariant.nodes;
-      names = moved_more (λ (a : ActorValue). a.name) _ _ _ _ _ (actor_view x) seen c.in_ok-push.ensures.names at.invariant.names;
-      homes = moved_more (λ (a : ActorValue). a.processor) _ _ _ _ _ (actor_view x) seen c.in_ok-push.ensures.homes at.invariant.homes;
-      costs = moved_more (λ (a : ActorValue). a.cost) _ _ _ _ _ (actor_view x) seen c.in_ok-push.ensures.costs at.invariant.costs;
+      nodes = moved_more (λ (a : ActorValue). node_of a.kind) _ _ _ _ _ (actor_view x) seen c.in_ok-push.ensures.nodes
+          at.invariant.nodes;
+      names = moved_more (λ (a : ActorValue). a.name) _ _ _ _ _ (actor_view x) seen c.in_ok-push.ensures.names
+          at.invariant.names;
+      homes = moved_more (λ (a : ActorValue). a.processor) _ _ _ _ _ (actor_view x) seen c.in_ok-push.ensures.homes
+          at.invariant.homes;
+      costs = moved_more (λ (a : ActorValue). a.cost) _ _ _ _ _ (actor_view x) seen c.in_ok-push.ensures.costs
+          at.invariant.costs;
     }
 
 pub returns-clause-inputs : goal.returns-clause-inputs
 returns-clause-inputs c =
     let at = c.loop-actor in
-    let empty : into_iter_items at.actor-iterator ≡ [] = nothing_left _ (sym at.invariant.left ∙ c.in-None.ensures.steps.0) in
-    let all : into_iter_items c.into_iter-actor-iterator.result ≡ c.args.actors.items = c.into_iter-actor-iterator.ensures.into_iter_gives.0 in
+    let empty : into_iter_items at.actor-iterator ≡ [] =
+    nothing_left _ (sym at.invariant.left ∙ c.in-None.ensures.steps.0) in
+    let all : into_iter_items c.into_iter-actor-iterator.result ≡ c.args.actors.items =
+    c.into_iter-actor-iterator.ensures.into_iter_gives.0 in
     let made : at.parts.nodes.items ≡ map (λ (a : ActorValue). node_of a.kind) (map actor_view c.args.actors.items) =
     sym (append-nil at.parts.nodes.items) ∙ (rw (empty, all) at at.invariant.nodes) in
     rw made (few_lists Inputs c.args.actors.items c.requires)
@@ -35,8 +43,10 @@ returns-clause-inputs c =
 pub returns-clause-outputs : goal.returns-clause-outputs
 returns-clause-outputs c =
     let at = c.loop-actor in
-    let empty : into_iter_items at.actor-iterator ≡ [] = nothing_left _ (sym at.invariant.left ∙ c.in-None.ensures.steps.0) in
-    let all : into_iter_items c.into_iter-actor-iterator.result ≡ c.args.actors.items = c.into_iter-actor-iterator.ensures.into_iter_gives.0 in
+    let empty : into_iter_items at.actor-iterator ≡ [] =
+    nothing_left _ (sym at.invariant.left ∙ c.in-None.ensures.steps.0) in
+    let all : into_iter_items c.into_iter-actor-iterator.result ≡ c.args.actors.items =
+    c.into_iter-actor-iterator.ensures.into_iter_gives.0 in
     let made : at.parts.nodes.items ≡ map (λ (a : ActorValue). node_of a.kind) (map actor_view c.args.actors.items) =
     sym (append-nil at.parts.nodes.items) ∙ (rw (empty, all) at at.invariant.nodes) in
     rw made (few_lists Outputs c.args.actors.items c.requires)
@@ -44,8 +54,10 @@ returns-clause-outputs c =
 pub returns-clause-priced : goal.returns-clause-priced
 returns-clause-priced c =
     let at = c.loop-actor in
-    let empty : into_iter_items at.actor-iterator ≡ [] = nothing_left _ (sym at.invariant.left ∙ c.in-None.ensures.steps.0) in
-    let all : into_iter_items c.into_iter-actor-iterator.result ≡ c.args.actors.items = c.into_iter-actor-iterator.ensures.into_iter_gives.0 in
+    let empty : into_iter_items at.actor-iterator ≡ [] =
+    nothing_left _ (sym at.invariant.left ∙ c.in-None.ensures.steps.0) in
+    let all : into_iter_items c.into_iter-actor-iterator.result ≡ c.args.actors.items =
+    c.into_iter-actor-iterator.ensures.into_iter_gives.0 in
     let made : at.parts.costs.items ≡ map (λ (a : ActorValue). a.cost) (map actor_view c.args.actors.items) =
     sym (append-nil at.parts.costs.items) ∙ (rw (empty, all) at at.invariant.costs) in
     rw made (have_costs c.args.actors.items c.requires)

@@ -9,8 +9,15 @@ abbrev pub invariant-loop-actor : goal.invariant-loop-actor
 invariant-loop-actor l = record {
   left : into_iter_len l.actor-iterator ≡ length (into_iter_items l.actor-iterator);
   within : All (IsActorWithin true) (into_iter_items l.actor-iterator);
-  nodes : l.parts.nodes.items ++ map (λ (a : ActorValue). node_of a.kind) (map actor_view (into_iter_items l.actor-iterator)) ≡ map (λ (a : ActorValue). node_of a.kind) (map actor_view (into_iter_items l.initial.actor-iterator));
-  names : map string_bytes l.parts.names.items ++ map (λ (a : ActorValue). a.name) (map actor_view (into_iter_items l.actor-iterator)) ≡ map (λ (a : ActorValue). a.name) (map actor_view (into_iter_items l.initial.actor-iterator));
-  homes : l.parts.homes.items ++ map (λ (a : ActorValue). a.processor) (map actor_view (into_iter_items l.actor-iterator)) ≡ map (λ (a : ActorValue). a.processor) (map actor_view (into_iter_items l.initial.actor-iterator));
-  costs : l.parts.costs.items ++ map (λ (a : ActorValue). a.cost) (map actor_view (into_iter_items l.actor-iterator)) ≡ map (λ (a : ActorValue). a.cost) (map actor_view (into_iter_items l.initial.actor-iterator));
+  nodes : l.parts.nodes.items ++ map (λ (a : ActorValue). node_of a.kind)
+      (map actor_view (into_iter_items l.actor-iterator)) ≡
+      map (λ (a : ActorValue). node_of a.kind) (map actor_view (into_iter_items l.initial.actor-iterator));
+  names : map string_bytes l.parts.names.items ++ map (λ (a : ActorValue). a.name)
+      (map actor_view (into_iter_items l.actor-iterator)) ≡
+      map (λ (a : ActorValue). a.name) (map actor_view (into_iter_items l.initial.actor-iterator));
+  homes : l.parts.homes.items ++ map (λ (a : ActorValue). a.processor)
+      (map actor_view (into_iter_items l.actor-iterator)) ≡
+      map (λ (a : ActorValue). a.processor) (map actor_view (into_iter_items l.initial.actor-iterator));
+  costs : l.parts.costs.items ++ map (λ (a : ActorValue). a.cost) (map actor_view (into_iter_items l.actor-iterator)) ≡
+      map (λ (a : ActorValue). a.cost) (map actor_view (into_iter_items l.initial.actor-iterator));
 }

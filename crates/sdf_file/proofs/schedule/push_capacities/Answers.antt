@@ -5,5 +5,6 @@ use Rattle.sdf_file.proofs.schedule.push_capacities.Goals as goal
 
 pub loop-link-preserved : goal.loop-link-preserved
 loop-link-preserved c =
-    line_added (capacity_line c.args.design.now c.args.table.now.caps) c.loop-link.link (string_bytes c.args.text.now) (string_bytes c.loop-link.text) _
+    line_added (capacity_line c.args.design.now c.args.table.now.caps) c.loop-link.link (string_bytes c.args.text.now)
+    (string_bytes c.loop-link.text) _
     c.loop-link.invariant c.in_ok-push_capacity.ensures

@@ -5,4 +5,5 @@ use Rattle.sdf_file.specs.Schedules.{cell_text}
 use Rattle.sdf_file.proofs.schedule.push_row.Given as goal
 
 abbrev pub invariant-loop-cell : goal.invariant-loop-cell
-invariant-loop-cell l = string_bytes l.text ≡ string_bytes l.initial.text ++ flat_map (λ cell. codes " " ++ cell_text l.design cell) (take l.cell-index l.cells)
+invariant-loop-cell l = string_bytes l.text ≡ string_bytes l.initial.text
+    ++ flat_map (λ cell. codes " " ++ cell_text l.design cell) (take l.cell-index l.cells)

@@ -4,4 +4,5 @@ use Rattle.sdf_file.specs.Schedules.{row_line}
 use Rattle.sdf_file.proofs.schedule.push_rows.Given as goal
 
 abbrev pub invariant-loop-row : goal.invariant-loop-row
-invariant-loop-row l = string_bytes l.text ≡ string_bytes l.initial.text ++ flat_map (row_line l.design) (take l.row l.table.rows)
+invariant-loop-row l = string_bytes l.text ≡ string_bytes l.initial.text
+    ++ flat_map (row_line l.design) (take l.row l.table.rows)

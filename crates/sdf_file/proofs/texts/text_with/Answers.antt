@@ -6,6 +6,9 @@ use Rattle.sdf_file.proofs.texts.text_with.Goals as goal
 
 pub returns : goal.returns
 returns c =
-    let input : c.samples_in-input.result ≡ period_samples c.args.design.now.net.nodes Inputs c.args.repetitions.now = (rw c.net-net.ensures.value at c.samples_in-input.ensures.value c.args.repetitions.now) c.requires in
-    let output : c.samples_out-output.result ≡ period_samples c.args.design.now.net.nodes Outputs c.args.repetitions.now = (rw c.net-net.ensures.value at c.samples_out-output.ensures.value c.args.repetitions.now) c.requires in
+    let input : c.samples_in-input.result ≡ period_samples c.args.design.now.net.nodes Inputs c.args.repetitions.now =
+    (rw c.net-net.ensures.value at c.samples_in-input.ensures.value c.args.repetitions.now) c.requires in
+    let output : c.samples_out-output.result ≡ period_samples c.args.design.now.net.nodes Outputs
+    c.args.repetitions.now = (rw c.net-net.ensures.value at c.samples_out-output.ensures.value
+    c.args.repetitions.now) c.requires in
     grind (arith, common_steps, input, output)

@@ -16,12 +16,17 @@ loop-number-preserved c =
     let P : ℕ → Type 0 = λ d. actor_at c.args.end (get_or c.args.channels.now d no_channel) ≡ c.args.actor in
     let n : ℕ = c.loop-number.number in
     let xs : List ℕ = c.loop-number.list.items in
-    let read = get_or_read c.args.channels.now n c.index-channels-number.result c.loop-number-test.true c.index-channels-number.is no_channel in
-    let at : actor_at c.args.end (get_or c.args.channels.now n no_channel) ≡ c.actor_at.result = ap (actor_at c.args.end) (sym read) ∙ sym c.actor_at.ensures in
+    let read = get_or_read c.args.channels.now n c.index-channels-number.result c.loop-number-test.true
+    c.index-channels-number.is no_channel in
+    let at : actor_at c.args.end (get_or c.args.channels.now n no_channel) ≡ c.actor_at.result =
+    ap (actor_at c.args.end) (sym read) ∙ sym c.actor_at.ensures in
     let items : Vec ℕ Global → List ℕ = λ v. v.items in
     elim c.if-actor_at-actor.branch [
-      | then-actor_at-actor+in_ok-push w ↦ subst (λ (xs : List ℕ). ListsExactly P (n + 1) xs) (sym (ap items w.list-is ∙ w.in_ok-push.ensures.items)) (lists_push P n xs c.loop-number.invariant (at ∙ w.if-actor_at-actor.true))
-      | else-actor_at-actor w ↦ subst (λ (xs : List ℕ). ListsExactly P (n + 1) xs) (sym (ap items w.list-is)) (lists_skip P n xs c.loop-number.invariant (λ e. w.if-actor_at-actor.false (sym at ∙ e)))
+      | then-actor_at-actor+in_ok-push w ↦ subst (λ (xs : List ℕ). ListsExactly P (n + 1) xs)
+          (sym (ap items w.list-is ∙ w.in_ok-push.ensures.items))
+          (lists_push P n xs c.loop-number.invariant (at ∙ w.if-actor_at-actor.true))
+      | else-actor_at-actor w ↦ subst (λ (xs : List ℕ). ListsExactly P (n + 1) xs) (sym (ap items w.list-is))
+          (lists_skip P n xs c.loop-number.invariant (λ e. w.if-actor_at-actor.false (sym at ∙ e)))
     ]
 
 pub returns : goal.returns

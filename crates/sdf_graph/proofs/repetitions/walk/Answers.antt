@@ -7,58 +7,88 @@ use Rattle.sdf_graph.proofs.Marks.{border_in, fewer}
 use Rattle.sdf_graph.proofs.ShareLaws.{too_long, first_share, walk_more, walked}
 use Rattle.sdf_graph.proofs.PeriodLaws.{none_long}
 use Rattle.sdf_graph.proofs.repetitions.walk.Goals as goal
-use Rattle.sdf_graph.proofs.repetitions.walk.Goals.{then-part-gt-MOST_PERIOD-via-then-part-gt-MOST_PERIOD, then-part-gt-MOST_PERIOD-via-else-part-gt-MOST_PERIOD+then-part-gt-MOST_PERIOD-2}
+use Rattle.sdf_graph.proofs.repetitions.walk.Goals.{then-part-gt-MOST_PERIOD-via-then-part-gt-MOST_PERIOD}
+use Rattle.sdf_graph.proofs.repetitions.walk.Goals.{then-part-gt-MOST_PERIOD-via-else-part-gt-MOST_PERIOD+then-part-gt-MOST_PERIOD-2}
 
 pub loop-channel-init : goal.loop-channel-init
 loop-channel-init c =
     let shape = c.graph.invariant.shape in
-    first_share _ c.in_ok-parts.parts.items 64 (c.in_ok-parts.ensures.items_if_clones_equal (λ y e. e)) shape.some (omega arith)
+    first_share _ c.in_ok-parts.parts.items 64 (c.in_ok-parts.ensures.items_if_clones_equal (λ y e. e))
+    shape.some (omega arith)
 
 pub returns-then-part-gt-MOST_PERIOD : goal.returns-then-part-gt-MOST_PERIOD
 returns-then-part-gt-MOST_PERIOD c =
     let shape = subst IsShape c.graph.view_is c.graph.invariant.shape in
-    let border = subst (λ (chs : List Edge). IsBorder chs c.loop-channel.marked c.in-Some.channel c.in-Some.actor) (c.deref.ensures.value ∙ ap (λ (s : Shape). s.channels) c.graph.view_is) c.in-Some.ensures in
-    none_long c.args.graph.now shape (too_long c.args.graph.now c.in-Some.actor c.beyond-part.result (border_in c.args.graph.now shape c.loop-channel.marked c.in-Some.channel c.in-Some.actor border) shape.some
+    let border = subst (λ (chs : List Edge). IsBorder chs c.loop-channel.marked c.in-Some.channel c.in-Some.actor)
+    (c.deref.ensures.value ∙ ap (λ (s : Shape). s.channels) c.graph.view_is) c.in-Some.ensures in
+    none_long c.args.graph.now shape (too_long c.args.graph.now c.in-Some.actor c.beyond-part.result
+    (border_in c.args.graph.now shape c.loop-channel.marked c.in-Some.channel c.in-Some.actor border) shape.some
     (c.beyond-part.ensures c.in-Some.actor border)
-    (elim c.then-part-gt-MOST_PERIOD.branch [ then-part-gt-MOST_PERIOD-via-then-part-gt-MOST_PERIOD w ↦ inl w.if-part-gt-MOST_PERIOD.true | then-part-gt-MOST_PERIOD-via-else-part-gt-MOST_PERIOD+then-part-gt-MOST_PERIOD-2 w ↦ inr w.if-part-gt-MOST_PERIOD-2.true ]))
+    (elim c.then-part-gt-MOST_PERIOD.branch [
+      | then-part-gt-MOST_PERIOD-via-then-part-gt-MOST_PERIOD w ↦ inl
+          w.if-part-gt-MOST_PERIOD.true
+      | then-part-gt-MOST_PERIOD-via-else-part-gt-MOST_PERIOD+then-part-gt-MOST_PERIOD-2 w ↦ inr
+          w.if-part-gt-MOST_PERIOD-2.true
+    ]))
 
 pub loop-channel-preserved : goal.loop-channel-preserved
 loop-channel-preserved c =
-    let border = subst (λ (chs : List Edge). IsBorder chs c.loop-channel.marked c.in-Some.channel c.in-Some.actor) (c.deref.ensures.value ∙ ap (λ (s : Shape). s.channels) c.graph.view_is) c.in-Some.ensures in
-    walk_more _ c.loop-channel.parts.items c.loop-channel.marked c.in-Some.actor c.beyond-part.result c.loop-channel.invariant border.within
-    (subst (λ (s : Shape). IsShare s c.in-Some.actor c.beyond-part.result) (sym c.graph.view_is) (c.beyond-part.ensures c.in-Some.actor border))
+    let border = subst (λ (chs : List Edge). IsBorder chs c.loop-channel.marked c.in-Some.channel c.in-Some.actor)
+    (c.deref.ensures.value ∙ ap (λ (s : Shape). s.channels) c.graph.view_is) c.in-Some.ensures in
+    walk_more _ c.loop-channel.parts.items c.loop-channel.marked c.in-Some.actor c.beyond-part.result
+    c.loop-channel.invariant border.within
+    (subst (λ (s : Shape). IsShare s c.in-Some.actor c.beyond-part.result) (sym c.graph.view_is)
+    (c.beyond-part.ensures c.in-Some.actor border))
     (record { top = omega arith; bottom = omega arith })
 
 pub returns : goal.returns
 returns c =
-    walked c.args.graph.now (subst IsShape c.graph.view_is c.graph.invariant.shape) c.loop-channel.parts.items c.loop-channel.marked
-    (subst (λ (s : Shape). IsWalk s c.loop-channel.parts.items c.loop-channel.marked) c.graph.view_is c.loop-channel.invariant)
-    (subst (λ (chs : List Edge). IsClosed chs c.loop-channel.marked) (c.deref.ensures.value ∙ ap (λ (s : Shape). s.channels) c.graph.view_is) c.in_default.ensures)
+    walked c.args.graph.now (subst IsShape c.graph.view_is c.graph.invariant.shape) c.loop-channel.parts.items
+    c.loop-channel.marked
+    (subst (λ (s : Shape). IsWalk s c.loop-channel.parts.items c.loop-channel.marked) c.graph.view_is
+    c.loop-channel.invariant)
+    (subst (λ (chs : List Edge). IsClosed chs c.loop-channel.marked)
+    (c.deref.ensures.value ∙ ap (λ (s : Shape). s.channels) c.graph.view_is) c.in_default.ensures)
 
 pub border-requires : goal.border-requires
 border-requires c =
     let shape = c.graph.invariant.shape in
-    subst (λ (chs : List Edge). (d : ℕ) → d < length chs → IsJoin (length c.loop-channel.marked) (get_or chs d no_channel).from (get_or chs d no_channel).to) (sym c.deref.ensures.value)
-    (λ d l. record { from_in = omega (arith, shape.from_in d l, shape.few); to_in = omega (arith, shape.to_in d l, shape.few) })
+    subst (λ (chs : List Edge). (d : ℕ) → d < length chs →
+    IsJoin (length c.loop-channel.marked) (get_or chs d no_channel).from (get_or chs d no_channel).to)
+    (sym c.deref.ensures.value)
+    (λ d l. record {
+      from_in = omega (arith, shape.from_in d l, shape.few);
+      to_in = omega (arith, shape.to_in d l, shape.few);
+    })
 
 pub beyond-part-requires-clause-walk : goal.beyond-part-requires-clause-walk
 beyond-part-requires-clause-walk c =
-    subst (λ (parts : List Ratio). IsWalk c.args.graph.now parts c.loop-channel.marked) (sym c.deref-in-Some.ensures.value)
-    (subst (λ (s : Shape). IsWalk s c.loop-channel.parts.items c.loop-channel.marked) c.graph.view_is c.loop-channel.invariant)
+    subst (λ (parts : List Ratio). IsWalk c.args.graph.now parts c.loop-channel.marked)
+    (sym c.deref-in-Some.ensures.value)
+    (subst (λ (s : Shape). IsWalk s c.loop-channel.parts.items c.loop-channel.marked) c.graph.view_is
+    c.loop-channel.invariant)
 
 pub beyond-part-requires-clause-border : goal.beyond-part-requires-clause-border
 beyond-part-requires-clause-border c =
-    let border = subst (λ (chs : List Edge). IsBorder chs c.loop-channel.marked c.in-Some.channel c.in-Some.actor) (c.deref.ensures.value ∙ ap (λ (s : Shape). s.channels) c.graph.view_is) c.in-Some.ensures in
+    let border = subst (λ (chs : List Edge). IsBorder chs c.loop-channel.marked c.in-Some.channel c.in-Some.actor)
+    (c.deref.ensures.value ∙ ap (λ (s : Shape). s.channels) c.graph.view_is) c.in-Some.ensures in
     (c.in-Some.actor, border)
 
 pub index_mut-requires : goal.index_mut-requires
 index_mut-requires c =
     let shape = c.graph.invariant.shape in
-    let border = subst (λ (chs : List Edge). IsBorder chs c.loop-channel.marked c.in-Some.channel c.in-Some.actor) c.deref.ensures.value c.in-Some.ensures in
-    omega (arith, border_in _ shape c.loop-channel.marked c.in-Some.channel c.in-Some.actor border, c.loop-channel.invariant.all, c.loop-channel.parts.ok.0)
+    let border = subst (λ (chs : List Edge). IsBorder chs c.loop-channel.marked c.in-Some.channel c.in-Some.actor)
+    c.deref.ensures.value c.in-Some.ensures in
+    omega (
+      arith,
+      border_in _ shape c.loop-channel.marked c.in-Some.channel c.in-Some.actor border,
+      c.loop-channel.invariant.all,
+      c.loop-channel.parts.ok.0,
+    )
 
 pub bounds-marked-actor : goal.bounds-marked-actor
 bounds-marked-actor c = omega (arith, c.in-Some.ensures.within)
 
 pub loop-channel-smaller : goal.loop-channel-smaller
-loop-channel-smaller c = fewer c.deref.result.now c.loop-channel.marked c.in-Some.channel c.in-Some.actor c.in-Some.ensures
+loop-channel-smaller c = fewer c.deref.result.now c.loop-channel.marked c.in-Some.channel c.in-Some.actor
+    c.in-Some.ensures

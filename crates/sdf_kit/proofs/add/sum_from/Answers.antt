@@ -8,4 +8,6 @@ pub returns : goal.returns
 returns c =
     let fits : FitsSigned w32 c.saturate.result = search rules in
     let wide : FitsSigned w64 c.sum.result = search rules in
-    to_z-of_z w32 c.saturate.result fits ∙ (c.saturate.ensures ∙ ap saturated (to_z-of_z w64 c.sum.result wide ∙ (c.sum.ensures ∙ sum_of_part c.args.samples.now c.args.at c.args.many c.requires.room)))
+    to_z-of_z w32 c.saturate.result fits ∙ (c.saturate.ensures
+    ∙ ap saturated (to_z-of_z w64 c.sum.result wide
+    ∙ (c.sum.ensures ∙ sum_of_part c.args.samples.now c.args.at c.args.many c.requires.room)))

@@ -4,18 +4,31 @@ use Rattle.sdf_kit.proofs.LaneTotals.{nothing, next, whole_dot, four_wrapped}
 use Rattle.sdf_kit.proofs.dots.dots.Goals as goal
 
 pub chunks-init : goal.chunks-init
-chunks-init c = (nothing c.args.h.now c.args.x.now, nothing c.args.h.now c.args.y.now, nothing c.args.h.now c.args.z.now, nothing c.args.h.now c.args.w.now)
+chunks-init c = (
+  nothing c.args.h.now c.args.x.now,
+  nothing c.args.h.now c.args.y.now,
+  nothing c.args.h.now c.args.z.now,
+  nothing c.args.h.now c.args.w.now,
+)
 
 pub chunks-preserved : goal.chunks-preserved
 chunks-preserved c = (
-  next c.args.h.now c.args.x.now (map (to_z w32) c.chunks.a) c.load-taps.result c.load.result c.more-a.result c.chunks.k c.chunks.invariant.0
-      c.load-taps.ensures.lanes c.load-taps.ensures.value c.load.ensures.lanes c.load.ensures.value c.more-a.ensures.lanes c.more-a.ensures.value,
-  next c.args.h.now c.args.y.now (map (to_z w32) c.chunks.b) c.load-taps.result c.load-in-chunks.result c.more-b.result c.chunks.k c.chunks.invariant.1
-      c.load-taps.ensures.lanes c.load-taps.ensures.value c.load-in-chunks.ensures.lanes c.load-in-chunks.ensures.value c.more-b.ensures.lanes c.more-b.ensures.value,
-  next c.args.h.now c.args.z.now (map (to_z w32) c.chunks.c) c.load-taps.result c.load-in-chunks-2.result c.more-c.result c.chunks.k c.chunks.invariant.2
-      c.load-taps.ensures.lanes c.load-taps.ensures.value c.load-in-chunks-2.ensures.lanes c.load-in-chunks-2.ensures.value c.more-c.ensures.lanes c.more-c.ensures.value,
-  next c.args.h.now c.args.w.now (map (to_z w32) c.chunks.d) c.load-taps.result c.load-in-chunks-3.result c.more-d.result c.chunks.k c.chunks.invariant.3
-      c.load-taps.ensures.lanes c.load-taps.ensures.value c.load-in-chunks-3.ensures.lanes c.load-in-chunks-3.ensures.value c.more-d.ensures.lanes c.more-d.ensures.value,
+  next c.args.h.now c.args.x.now (map (to_z w32) c.chunks.a) c.load-taps.result c.load.result c.more-a.result c.chunks.k
+      c.chunks.invariant.0
+      c.load-taps.ensures.lanes c.load-taps.ensures.value c.load.ensures.lanes c.load.ensures.value
+      c.more-a.ensures.lanes c.more-a.ensures.value,
+  next c.args.h.now c.args.y.now (map (to_z w32) c.chunks.b) c.load-taps.result c.load-in-chunks.result c.more-b.result
+      c.chunks.k c.chunks.invariant.1
+      c.load-taps.ensures.lanes c.load-taps.ensures.value c.load-in-chunks.ensures.lanes c.load-in-chunks.ensures.value
+      c.more-b.ensures.lanes c.more-b.ensures.value,
+  next c.args.h.now c.args.z.now (map (to_z w32) c.chunks.c) c.load-taps.result c.load-in-chunks-2.result
+      c.more-c.result c.chunks.k c.chunks.invariant.2
+      c.load-taps.ensures.lanes c.load-taps.ensures.value c.load-in-chunks-2.ensures.lanes
+      c.load-in-chunks-2.ensures.value c.more-c.ensures.lanes c.more-c.ensures.value,
+  next c.args.h.now c.args.w.now (map (to_z w32) c.chunks.d) c.load-taps.result c.load-in-chunks-3.result
+      c.more-d.result c.chunks.k c.chunks.invariant.3
+      c.load-taps.ensures.lanes c.load-taps.ensures.value c.load-in-chunks-3.ensures.lanes
+      c.load-in-chunks-3.ensures.value c.more-d.ensures.lanes c.more-d.ensures.value,
 )
 
 pub more-a-requires-clause-sums : goal.more-a-requires-clause-sums
@@ -45,9 +58,14 @@ totals-requires-clause-d c = c.chunks.invariant.3.lanes
 pub returns : goal.returns
 returns c =
     let over : length c.args.h.now ≤ 8 * c.chunks.k = omega (arith, c.requires.whole, c.chunks-test.false) in
-    let a = whole_dot c.args.h.now c.args.x.now (map (to_z w32) c.chunks.a) (8 * c.chunks.k) c.chunks.invariant.0 over c.requires.x in
-    let b = whole_dot c.args.h.now c.args.y.now (map (to_z w32) c.chunks.b) (8 * c.chunks.k) c.chunks.invariant.1 over c.requires.y in
-    let d = whole_dot c.args.h.now c.args.z.now (map (to_z w32) c.chunks.c) (8 * c.chunks.k) c.chunks.invariant.2 over c.requires.z in
-    let e = whole_dot c.args.h.now c.args.w.now (map (to_z w32) c.chunks.d) (8 * c.chunks.k) c.chunks.invariant.3 over c.requires.w in
+    let a = whole_dot c.args.h.now c.args.x.now (map (to_z w32) c.chunks.a) (8 * c.chunks.k) c.chunks.invariant.0 over
+    c.requires.x in
+    let b = whole_dot c.args.h.now c.args.y.now (map (to_z w32) c.chunks.b) (8 * c.chunks.k) c.chunks.invariant.1 over
+    c.requires.y in
+    let d = whole_dot c.args.h.now c.args.z.now (map (to_z w32) c.chunks.c) (8 * c.chunks.k) c.chunks.invariant.2 over
+    c.requires.z in
+    let e = whole_dot c.args.h.now c.args.w.now (map (to_z w32) c.chunks.d) (8 * c.chunks.k) c.chunks.invariant.3 over
+    c.requires.w in
     ap (λ r. map (to_z w32) (map (of_z w32) r)) c.totals.ensures ∙
-    (four_wrapped (total (map (to_z w32) c.chunks.a)) (total (map (to_z w32) c.chunks.b)) (total (map (to_z w32) c.chunks.c)) (total (map (to_z w32) c.chunks.d)) ∙ rw (a, b, d, e) refl)
+    (four_wrapped (total (map (to_z w32) c.chunks.a)) (total (map (to_z w32) c.chunks.b))
+    (total (map (to_z w32) c.chunks.c)) (total (map (to_z w32) c.chunks.d)) ∙ rw (a, b, d, e) refl)

@@ -14,15 +14,18 @@ pub plus-requires-clause-a : goal.plus-requires-clause-a
 plus-requires-clause-a c = passed w32 4 c.args.sums c.requires.sums
 
 pub plus-requires-clause-b : goal.plus-requires-clause-b
-plus-requires-clause-b c = passed w32 4 c.products.result (made c.args.h c.args.x c.products.result c.requires.h c.requires.x c.products.ensures).0
+plus-requires-clause-b c = passed w32 4 c.products.result
+    (made c.args.h c.args.x c.products.result c.requires.h c.requires.x c.products.ensures).0
 
 pub returns-clause-lanes : goal.returns-clause-lanes
 returns-clause-lanes c =
     let m = made c.args.h c.args.x c.products.result c.requires.h c.requires.x c.products.ensures in
-    passed w32 4 c.plus.result (joined c.args.sums c.products.result c.plus.result (dot c.args.h c.args.x) c.requires.sums m.0 m.1 c.plus.ensures).0
+    passed w32 4 c.plus.result (joined c.args.sums c.products.result c.plus.result (dot c.args.h c.args.x)
+    c.requires.sums m.0 m.1 c.plus.ensures).0
 
 pub returns-clause-value : goal.returns-clause-value
 returns-clause-value c =
     let m = made c.args.h c.args.x c.products.result c.requires.h c.requires.x c.products.ensures in
-    let j = joined c.args.sums c.products.result c.plus.result (dot c.args.h c.args.x) c.requires.sums m.0 m.1 c.plus.ensures in
+    let j = joined c.args.sums c.products.result c.plus.result (dot c.args.h c.args.x) c.requires.sums m.0 m.1
+    c.plus.ensures in
     ap (λ z. wrap (total z)) (same_lanes w32 c.plus.result j.0.fits) ∙ j.1

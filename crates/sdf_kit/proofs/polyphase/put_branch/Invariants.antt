@@ -6,7 +6,8 @@ use Rattle.sdf_kit.proofs.polyphase.put_branch.Given as goal
 
 abbrev pub invariant-fours : goal.invariant-fours
 invariant-fours l = record {
-  put : IsPut (λ i. settled (dot l.branch (take (length l.branch) (drop (l.first + i * l.down) l.window.samples))) l.shift) l.up l.at l.initial.put l.put l.done;
+  put : IsPut (λ i. settled (dot l.branch (take (length l.branch) (drop (l.first + i * l.down) l.window.samples)))
+      l.shift) l.up l.at l.initial.put l.put l.done;
   few : l.done ≤ l.many;
 }
 
@@ -15,7 +16,8 @@ decreases-fours l = l.many - l.done
 
 abbrev pub invariant-ones : goal.invariant-ones
 invariant-ones l = record {
-  put : IsPut (λ i. settled (dot l.branch (take (length l.branch) (drop (l.first + i * l.down) l.window.samples))) l.shift) l.up l.at l.fn.put l.put l.done;
+  put : IsPut (λ i. settled (dot l.branch (take (length l.branch) (drop (l.first + i * l.down) l.window.samples)))
+      l.shift) l.up l.at l.fn.put l.put l.done;
   few : l.done ≤ l.many;
 }
 

@@ -3,7 +3,9 @@ use Rattle.std.proofs.lemmas.Int.{ints, to_z-of_z}
 use Rattle.sdf_kit.specs.Samples.{settled}
 use Rattle.sdf_kit.proofs.window.join.Goals as goal
 
-sum_is : (a b : ℤ) → FitsSigned w32 a → FitsSigned w32 b → to_z w64 (of_z w64 (to_z w64 (of_z w64 (pos 256 *ℤ to_z w64 (of_z w64 a))) +ℤ to_z w64 (of_z w64 b))) ≡ (pos 256 *ℤ a) +ℤ b
+sum_is : (a b : ℤ) → FitsSigned w32 a → FitsSigned w32 b →
+    to_z w64 (of_z w64 (to_z w64 (of_z w64 (pos 256 *ℤ to_z w64 (of_z w64 a))) +ℤ to_z w64 (of_z w64 b))) ≡
+    (pos 256 *ℤ a) +ℤ b
 sum_is a b f g = omega (arith, ints, f.sfits, g.sfits)
 
 pub returns : goal.returns
@@ -11,4 +13,5 @@ returns c =
     let high : c.from.result ≡ c.args.high = c.from.ensures ∙ to_z-of_z w32 c.args.high c.ranges.high in
     let low : c.from-2.result ≡ c.args.low = c.from-2.ensures ∙ to_z-of_z w32 c.args.low c.ranges.low in
     let fits : FitsSigned w32 c.settle.result = record { sfits = c.settle.type_inv } in
-    to_z-of_z w32 c.settle.result fits ∙ (rw (high, low) at c.settle.ensures ∙ ap (λ z. settled z c.args.shift) (sum_is c.args.high c.args.low c.ranges.high c.ranges.low))
+    to_z-of_z w32 c.settle.result fits ∙ (rw (high, low) at c.settle.ensures
+    ∙ ap (λ z. settled z c.args.shift) (sum_is c.args.high c.args.low c.ranges.high c.ranges.low))

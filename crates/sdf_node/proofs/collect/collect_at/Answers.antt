@@ -6,4 +6,5 @@ use Rattle.sdf_node.proofs.collect.collect_at.Goals as goal
 pub returns-in-Sink : goal.returns-in-Sink
 returns-in-Sink g c =
     let is = c.in-Sink.is ∙ ap (λ i. kind.Sink i c.in-Sink.block) (sym c.from.ensures) in
-    collected_sink c.args.node.now c.args.state.now c.args.outputs.now c.from.result c.in-Sink.block c.swap_list.new.list is (c.requires c.from.result c.in-Sink.block is) c.swap_list.ensures
+    collected_sink c.args.node.now c.args.state.now c.args.outputs.now c.from.result c.in-Sink.block
+    c.swap_list.new.list is (c.requires c.from.result c.in-Sink.block is) c.swap_list.ensures

@@ -4,4 +4,7 @@ use Rattle.sdf_node.proofs.Joined.{length_nth, joined_blocks}
 use Rattle.sdf_node.proofs.laws.blocks_join.Goals as goal
 
 pub returns : goal.returns
-returns g c = λ size many xs long. (λ i l. length_nth size xs i many l long, joined_blocks size xs many ∙ take_all (size * many) xs (omega arith))
+returns g c = λ size many xs long. (
+  λ i l. length_nth size xs i many l long,
+  joined_blocks size xs many ∙ take_all (size * many) xs (omega arith),
+)

@@ -14,7 +14,8 @@ returns-in-Some c =
     let rs : List (List (Option Firing)) = map (λ r. r.items) c.args.rows.now in
     let s = c.mark_rows.new.marks in
     let fs = c.mark_rows.new.order.items in
-    let fault = subst (λ o. MatchOption o (AreMarked c.args.width rs (length c.args.rows.now) s fs) (IsCellsFault c.in_ok-marks.marks.firings c.args.width rs)) c.in-Some.is c.in_ok-fault.ensures.marked in
+    let fault = subst (λ o. MatchOption o (AreMarked c.args.width rs (length c.args.rows.now) s fs)
+    (IsCellsFault c.in_ok-marks.marks.firings c.args.width rs)) c.in-Some.is c.in_ok-fault.ensures.marked in
     cells_fault (rates c.args.graph.now) c.args.firings.items c.requires.each c.args.width rs c.in-Some.fault
     (subst (λ n. IsCellsFault n c.args.width rs c.in-Some.fault) c.in_ok-marks.ensures.0 fault)
 
@@ -24,8 +25,10 @@ returns-in-Some-first_missing c =
     let s = c.mark_rows.new.marks in
     let fs = c.mark_rows.new.order.items in
     let e = c.in-Some-first_missing.ensures in
-    let marked = subst (λ o. MatchOption o (AreMarked c.args.width rs (length c.args.rows.now) s fs) (IsCellsFault c.in_ok-marks.marks.firings c.args.width rs)) c.in_default.is c.in_ok-fault.ensures.marked in
-    missing_fault (rates c.args.graph.now) c.args.firings.items c.requires.each c.args.width rs s (c.in_ok-fault.ensures.same ∙ c.in_ok-marks.ensures.0) fs
+    let marked = subst (λ o. MatchOption o (AreMarked c.args.width rs (length c.args.rows.now) s fs)
+    (IsCellsFault c.in_ok-marks.marks.firings c.args.width rs)) c.in_default.is c.in_ok-fault.ensures.marked in
+    missing_fault (rates c.args.graph.now) c.args.firings.items c.requires.each c.args.width rs s
+    (c.in_ok-fault.ensures.same ∙ c.in_ok-marks.ensures.0) fs
     (subst (λ n. AreMarked c.args.width rs n s fs) (sym (length-map c.args.rows.now (λ r. r.items))) marked)
     c.in-Some-first_missing.firing e.0 e.1 e.2
 
@@ -34,8 +37,10 @@ first_late_in-requires-clause-known c =
     let rs : List (List (Option Firing)) = map (λ r. r.items) c.args.rows.now in
     let s = c.mark_rows.new.marks in
     let fs = c.mark_rows.new.order.items in
-    let marked = subst (λ o. MatchOption o (AreMarked c.args.width rs (length c.args.rows.now) s fs) (IsCellsFault c.in_ok-marks.marks.firings c.args.width rs)) c.in_default.is c.in_ok-fault.ensures.marked in
-    λ i f l st. known_in (rates c.args.graph.now) c.args.firings.items c.requires.each c.args.width rs s (c.in_ok-fault.ensures.same ∙ c.in_ok-marks.ensures.0) fs
+    let marked = subst (λ o. MatchOption o (AreMarked c.args.width rs (length c.args.rows.now) s fs)
+    (IsCellsFault c.in_ok-marks.marks.firings c.args.width rs)) c.in_default.is c.in_ok-fault.ensures.marked in
+    λ i f l st. known_in (rates c.args.graph.now) c.args.firings.items c.requires.each c.args.width rs s
+    (c.in_ok-fault.ensures.same ∙ c.in_ok-marks.ensures.0) fs
     (subst (λ n. AreMarked c.args.width rs n s fs) (sym (length-map c.args.rows.now (λ r. r.items))) marked)
     i f (omega (arith, l, length-map c.args.rows.now (λ r. r.items))) st
 
@@ -45,8 +50,10 @@ returns c =
     let r = rates c.args.graph.now in
     let s = c.mark_rows.new.marks in
     let fs = c.mark_rows.new.order.items in
-    let marked = subst (λ o. MatchOption o (AreMarked c.args.width rs (length c.args.rows.now) s fs) (IsCellsFault c.in_ok-marks.marks.firings c.args.width rs)) c.in_default.is c.in_ok-fault.ensures.marked in
-    late_or_pass r c.args.firings.items c.requires.each c.args.width rs s (c.in_ok-fault.ensures.same ∙ c.in_ok-marks.ensures.0) fs
+    let marked = subst (λ o. MatchOption o (AreMarked c.args.width rs (length c.args.rows.now) s fs)
+    (IsCellsFault c.in_ok-marks.marks.firings c.args.width rs)) c.in_default.is c.in_ok-fault.ensures.marked in
+    late_or_pass r c.args.firings.items c.requires.each c.args.width rs s
+    (c.in_ok-fault.ensures.same ∙ c.in_ok-marks.ensures.0) fs
     (subst (λ n. AreMarked c.args.width rs n s fs) (sym (length-map c.args.rows.now (λ r. r.items))) marked)
     c.in_default-first_missing.ensures c.first_late_in.result
     (subst (λ n. MatchOption c.first_late_in.result

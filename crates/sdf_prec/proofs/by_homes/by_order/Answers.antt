@@ -12,7 +12,9 @@ pub of_rows-requires : goal.of_rows-requires
 of_rows-requires c =
     let rs : List (List (Option Firing)) = map (λ r. r.items) c.in_ok-rows.rows.items in (
       c.requires.pass.0,
-      rows_valid c.graph_laws.ensures (rates c.args.graph.now) c.requires.pass.0 c.args.order.now (c.graph_laws.ensures.sound c.args.graph.now c.channels.ensures.shape) c.requires.pass.1 c.args.homes.now c.args.m c.requires.homed rs c.in_ok-rows.ensures,
+      rows_valid c.graph_laws.ensures (rates c.args.graph.now) c.requires.pass.0 c.args.order.now
+          (c.graph_laws.ensures.sound c.args.graph.now c.channels.ensures.shape) c.requires.pass.1 c.args.homes.now
+          c.args.m c.requires.homed rs c.in_ok-rows.ensures,
       c.requires.pass.2,
     )
 
@@ -23,8 +25,13 @@ returns-clause-table c = λ n pass.
     let sound = c.graph_laws.ensures.sound c.args.graph.now c.channels.ensures.shape in
     let kept : rs ≡ c.in_ok-table.table.rows = sym c.in_ok-table.ensures.rows in
     record {
-      valid = subst (IsValid r n) kept (rows_valid c.graph_laws.ensures r n c.args.order.now sound pass c.args.homes.now c.args.m c.requires.homed rs c.in_ok-rows.ensures);
-      wide = subst (λ rs. (i : ℕ) → i < length rs → length (row rs i) ≡ c.args.m) kept (rows_wide c.graph_laws.ensures r n c.args.order.now sound pass c.args.homes.now c.args.m c.requires.homed rs c.in_ok-rows.ensures);
-      some = subst (λ rs. (i : ℕ) → i < length rs → 0 < length (firings (row rs i))) kept (rows_some c.graph_laws.ensures r n c.args.order.now sound pass c.args.homes.now c.args.m c.requires.homed rs c.in_ok-rows.ensures);
+      valid = subst (IsValid r n) kept (rows_valid c.graph_laws.ensures r n c.args.order.now sound pass c.args.homes.now
+          c.args.m c.requires.homed rs c.in_ok-rows.ensures);
+      wide = subst (λ rs. (i : ℕ) → i < length rs → length (row rs i) ≡ c.args.m) kept
+          (rows_wide c.graph_laws.ensures r n c.args.order.now sound pass c.args.homes.now c.args.m c.requires.homed rs
+          c.in_ok-rows.ensures);
+      some = subst (λ rs. (i : ℕ) → i < length rs → 0 < length (firings (row rs i))) kept
+          (rows_some c.graph_laws.ensures r n c.args.order.now sound pass c.args.homes.now c.args.m c.requires.homed rs
+          c.in_ok-rows.ensures);
       exact = c.in_ok-table.ensures.exact;
     }

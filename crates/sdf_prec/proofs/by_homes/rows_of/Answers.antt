@@ -13,17 +13,27 @@ overflow_add-number c =
     let i : ℕ = c.loop-actor.actor-index in
     let a : ℕ = get_or w i 0 in
     let known = c.requires.known i c.loop-actor-test.true in
-    let read = get_or_read c.loop-actor.done.items a c.index-number.result.now (omega (arith, known, c.loop-actor.invariant.each)) c.index-number.ensures 0 in
-    omega (arith, read, c.loop-actor.invariant.done a known, times_small c.graph_laws.ensures w i a (omega (arith, c.loop-actor-test.true)), c.loop-actor-test.true, c.requires.few)
+    let read = get_or_read c.loop-actor.done.items a c.index-number.result.now
+    (omega (arith, known, c.loop-actor.invariant.each)) c.index-number.ensures 0 in
+    omega (
+      arith,
+      read,
+      c.loop-actor.invariant.done a known,
+      times_small c.graph_laws.ensures w i a (omega (arith, c.loop-actor-test.true)),
+      c.loop-actor-test.true,
+      c.requires.few,
+    )
 
 pub home_of-home-requires : goal.home_of-home-requires
 home_of-home-requires c =
-    let home = c.requires.homed (get_or c.args.order.now c.loop-actor.actor-index 0) (c.requires.known c.loop-actor.actor-index c.loop-actor-test.true) in
+    let home = c.requires.homed (get_or c.args.order.now c.loop-actor.actor-index 0)
+    (c.requires.known c.loop-actor.actor-index c.loop-actor-test.true) in
     some_within c.args.homes.now (get_or c.args.order.now c.loop-actor.actor-index 0) home.0 home.1
 
 pub row_of-requires : goal.row_of-requires
 row_of-requires c =
-    let home = c.requires.homed (get_or c.args.order.now c.loop-actor.actor-index 0) (c.requires.known c.loop-actor.actor-index c.loop-actor-test.true) in
+    let home = c.requires.homed (get_or c.args.order.now c.loop-actor.actor-index 0)
+    (c.requires.known c.loop-actor.actor-index c.loop-actor-test.true) in
     omega (arith, c.home_of-home.ensures home.0 home.1, home.2)
 
 pub loop-actor-preserved : goal.loop-actor-preserved
@@ -36,12 +46,20 @@ loop-actor-preserved c =
     let known = c.requires.known i c.loop-actor-test.true in
     let home = c.requires.homed a known in
     let read = get_or_read done a number (omega (arith, known, c.loop-actor.invariant.each)) c.index-number.ensures 0 in
-    let its : record { actor = a; number = number } ≡ firing_at w i = (λ k. record { actor = a; number = (read ∙ c.loop-actor.invariant.done a known) k }) in
+    let its : record { actor = a; number = number } ≡ firing_at w i =
+    (λ k. record { actor = a; number = (read ∙ c.loop-actor.invariant.done a known) k }) in
     let at = c.home_of-home.ensures home.0 home.1 in
-    let is : c.in_ok-row.row.items ≡ set (replicate c.args.m None) home.0 (Some (firing_at w i)) = c.in_ok-row.ensures ∙ (λ k. set (replicate c.args.m None) (at k) (Some (its k))) in
+    let is : c.in_ok-row.row.items ≡ set (replicate c.args.m None) home.0 (Some (firing_at w i)) =
+    c.in_ok-row.ensures ∙ (λ k. set (replicate c.args.m None) (at k) (Some (its k))) in
     record {
       each = length-set done a (number + 1) ∙ c.loop-actor.invariant.each;
-      done = counts_more c.graph_laws.ensures w done i c.args.actors (number + 1) c.loop-actor-test.true known c.loop-actor.invariant.each c.loop-actor.invariant.done (ap (λ k. k + 1) read);
-      rows = rw (c.in_ok-push.ensures.items, map_push (λ (r : Vec (Option Firing) Global). r.items) c.loop-actor.rows.items c.in_ok-row.row)
-          (by_homes_more c.args.homes.now c.args.m w i home.0 (map (λ r. r.items) c.loop-actor.rows.items) c.in_ok-row.row.items c.loop-actor-test.true c.loop-actor.invariant.rows home.1 is);
+      done = counts_more c.graph_laws.ensures w done i c.args.actors (number + 1) c.loop-actor-test.true known
+          c.loop-actor.invariant.each c.loop-actor.invariant.done (ap (λ k. k + 1) read);
+      rows = rw (
+        c.in_ok-push.ensures.items,
+        map_push (λ (r : Vec (Option Firing) Global). r.items)
+            c.loop-actor.rows.items c.in_ok-row.row,
+      )
+          (by_homes_more c.args.homes.now c.args.m w i home.0 (map (λ r. r.items) c.loop-actor.rows.items)
+          c.in_ok-row.row.items c.loop-actor-test.true c.loop-actor.invariant.rows home.1 is);
     }

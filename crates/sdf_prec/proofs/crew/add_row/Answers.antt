@@ -9,17 +9,25 @@ use Rattle.sdf_prec.proofs.crew.add_row.Goals as goal
 
 pub start-requires-clause-early : goal.start-requires-clause-early
 start-requires-clause-early c =
-    omega (arith, c.requires.crew.early, c.requires.job.few, few_ended _ _ _ _ _ _ _ _ _ _ c.requires.due.floor c.requires.crew.fired_all c.requires.job.firings_all c.sums_rise.ensures.lists)
+    omega (
+      arith,
+      c.requires.crew.early,
+      c.requires.job.few,
+      few_ended _ _ _ _ _ _ _ _ _ _ c.requires.due.floor c.requires.crew.fired_all c.requires.job.firings_all
+          c.sums_rise.ensures.lists,
+    )
 
 pub start-requires-clause-known : goal.start-requires-clause-known
 start-requires-clause-known c =
     let row = c.in_ok-cells.ensures.row c.args.rows.now.items c.requires.due in
-    rw (c.deref-then-has_firing.ensures.value, c.deref_mut.ensures.value, c.in_ok-cells.ensures.started) (λ j f h. let k = (row.each j f h).0.known in omega (arith, c.requires.crew.started_all))
+    rw (c.deref-then-has_firing.ensures.value, c.deref_mut.ensures.value, c.in_ok-cells.ensures.started)
+    (λ j f h. let k = (row.each j f h).0.known in omega (arith, c.requires.crew.started_all))
 
 pub start-requires-clause-room : goal.start-requires-clause-room
 start-requires-clause-room c =
     let row = c.in_ok-cells.ensures.row c.args.rows.now.items c.requires.due in
-    rw c.deref-then-has_firing.ensures.value (λ j f h. let k = (row.each j f h).0.within in omega (arith, c.requires.job.few, within_sum c.args.job.now.firings.now f.actor))
+    rw c.deref-then-has_firing.ensures.value (λ j f h. let k = (row.each j f h).0.within in
+    omega (arith, c.requires.job.few, within_sum c.args.job.now.firings.now f.actor))
 
 pub returns-in_ok-push-clause-crew : goal.returns-in_ok-push-clause-crew
 returns-in_ok-push-clause-crew c =
@@ -36,12 +44,23 @@ returns-in_ok-push-clause-crew c =
     let n_is : new.ends.items ≡ crew.ends.items = ap (λ (v : Vec ℕ Global). v.items) e.ends in
     let u_is : new.until.items ≡ crew.until.items = ap (λ (v : Vec ℕ Global). v.items) e.until in
     let s_len : length s ≡ length new.started.items = c.start.ensures.actors ∙ ap length c.deref_mut.ensures.value in
-    let n_len : length n ≡ length new.ends.items = c.start.ensures.all ∙ ap length c.deref_mut-then-has_firing.ensures.value in
-    let u_len : length u ≡ length new.until.items = c.start.ensures.columns ∙ ap length c.deref_mut-then-has_firing-2.ensures.value in
+    let n_len : length n ≡ length new.ends.items =
+    c.start.ensures.all ∙ ap length c.deref_mut-then-has_firing.ensures.value in
+    let u_len : length u ≡ length new.until.items =
+    c.start.ensures.columns ∙ ap length c.deref_mut-then-has_firing-2.ensures.value in
     let st = take_at s (drop (length s) new.started.items) new.started.len (s_len ∙ sym new.started.ok.0) in
     let nt = take_at n (drop (length n) new.ends.items) new.ends.len (n_len ∙ sym new.ends.ok.0) in
     let ut = take_at u (drop (length u) new.until.items) new.until.len (u_len ∙ sym new.until.ok.0) in
-    let begun = rw (c.deref-then-has_firing.ensures.value, c.deref_mut.ensures.value, c.deref_mut-then-has_firing.ensures.value, c.deref_mut-then-has_firing-2.ensures.value, s_is, n_is, u_is) at c.start.ensures.started in
+    let begun = rw (
+      c.deref-then-has_firing.ensures.value,
+      c.deref_mut.ensures.value,
+      c.deref_mut-then-has_firing.ensures.value,
+      c.deref_mut-then-has_firing-2.ensures.value,
+      s_is,
+      n_is,
+      u_is,
+    ) at
+    c.start.ensures.started in
     rw (st, nt, ut, e.counts) (record {
       fired_all = k.fired_all;
       started_all = s_len ∙ (ap length s_is ∙ k.started_all);
@@ -50,7 +69,8 @@ returns-in_ok-push-clause-crew c =
       homes_all = e.homes.0 ∙ k.homes_all;
       inside = e.homes.1;
       early = k.early;
-      soon = soon_then _ _ _ _ _ _ _ _ _ begun (λ j f h. job_cheap _ _ _ _ _ c.requires.job f.actor (row.each j f h).0.known) k.soon;
+      soon = soon_then _ _ _ _ _ _ _ _ _ begun (λ j f h. job_cheap _ _ _ _ _ c.requires.job f.actor
+          (row.each j f h).0.known) k.soon;
     })
 
 pub returns-in_ok-push-clause-done : goal.returns-in_ok-push-clause-done
@@ -67,21 +87,38 @@ returns-in_ok-push-clause-done c =
     let n_is : new.ends.items ≡ crew.ends.items = ap (λ (v : Vec ℕ Global). v.items) e.ends in
     let u_is : new.until.items ≡ crew.until.items = ap (λ (v : Vec ℕ Global). v.items) e.until in
     let s_len : length s ≡ length new.started.items = c.start.ensures.actors ∙ ap length c.deref_mut.ensures.value in
-    let n_len : length n ≡ length new.ends.items = c.start.ensures.all ∙ ap length c.deref_mut-then-has_firing.ensures.value in
-    let u_len : length u ≡ length new.until.items = c.start.ensures.columns ∙ ap length c.deref_mut-then-has_firing-2.ensures.value in
+    let n_len : length n ≡ length new.ends.items =
+    c.start.ensures.all ∙ ap length c.deref_mut-then-has_firing.ensures.value in
+    let u_len : length u ≡ length new.until.items =
+    c.start.ensures.columns ∙ ap length c.deref_mut-then-has_firing-2.ensures.value in
     let st = take_at s (drop (length s) new.started.items) new.started.len (s_len ∙ sym new.started.ok.0) in
     let nt = take_at n (drop (length n) new.ends.items) new.ends.len (n_len ∙ sym new.ends.ok.0) in
     let ut = take_at u (drop (length u) new.until.items) new.until.len (u_len ∙ sym new.until.ok.0) in
-    let begun = rw (c.deref-then-has_firing.ensures.value, c.deref_mut.ensures.value, c.deref_mut-then-has_firing.ensures.value, c.deref_mut-then-has_firing-2.ensures.value, s_is, n_is, u_is) at c.start.ensures.started in
+    let begun = rw (
+      c.deref-then-has_firing.ensures.value,
+      c.deref_mut.ensures.value,
+      c.deref_mut-then-has_firing.ensures.value,
+      c.deref_mut-then-has_firing-2.ensures.value,
+      s_is,
+      n_is,
+      u_is,
+    ) at
+    c.start.ensures.started in
     rw (st, nt, ut, e.counts, c.in_ok-push.ensures.items)
     (row_added _ _ _ _ _ _ _ _ _ _ _ _ _ _ c.requires.sound c.requires.due cells row (job_dear _ _ _ _ _ c.requires.job)
-    (λ none. absurd (omega (arith, c.has_firing.ensures.0 c.if-has_firing.true, ap length (ap firings c.deref.ensures.value ∙ none)))) _ _ _ begun)
+    (λ none. absurd (omega (
+      arith,
+      c.has_firing.ensures.0 c.if-has_firing.true,
+      ap length (ap firings c.deref.ensures.value ∙ none),
+    ))) _ _ _ begun)
 
 pub returns-else-has_firing-clause-done : goal.returns-else-has_firing-clause-done
 returns-else-has_firing-clause-done c =
     let e = c.in_ok-cells.ensures in
     let row = e.row c.args.rows.now.items c.requires.due in
     let fs = firings c.in_ok-cells.cells.items in
-    let few : length fs ≤ 0 = not_some c.has_firing.result (length fs) c.if-has_firing.false (λ l. c.has_firing.ensures.1 (subst (λ cs. 0 < length (firings cs)) (sym c.deref.ensures.value) l)) in
+    let few : length fs ≤ 0 = not_some c.has_firing.result (length fs) c.if-has_firing.false
+    (λ l. c.has_firing.ensures.1 (subst (λ cs. 0 < length (firings cs)) (sym c.deref.ensures.value) l)) in
     let none : fs ≡ [] = nil_from_length fs (omega arith) in
-    rw (e.counts, e.started, e.ends, e.until) (row_left _ _ _ _ _ _ _ _ _ _ _ _ _ _ c.requires.sound c.requires.due c.in_ok-cells.cells.items row none)
+    rw (e.counts, e.started, e.ends, e.until) (row_left _ _ _ _ _ _ _ _ _ _ _ _ _ _ c.requires.sound c.requires.due
+    c.in_ok-cells.cells.items row none)

@@ -33,14 +33,20 @@ returns-then-job-clause-row c =
     let cells = c.in_ok-cells.cells.items in
     let new = c.place.new.homes in
     let q = rw c.deref.ensures.value at c.in_ok-queue.ensures in
-    let found = rw (c.deref-then-job.ensures.value, c.deref-then-job-2.ensures.value, c.deref_mut.ensures.value) at c.in_ok-cells.ensures.placed in
-    let placed = subst (λ m. IsPlacing m width weight (λ j. get_or crew.until.items j 0 ≤ c.args.now) (λ a. get_or crew.homes.items a None) queue (length queue) cells new) k.homes_all found in
-    let waiting = rw (c.deref-then-job.ensures.value, c.deref-then-job-2.ensures.value) at c.in_ok-cells.ensures.waiting in
+    let found = rw (c.deref-then-job.ensures.value, c.deref-then-job-2.ensures.value, c.deref_mut.ensures.value) at
+    c.in_ok-cells.ensures.placed in
+    let placed = subst (λ m. IsPlacing m width weight (λ j. get_or crew.until.items j 0 ≤ c.args.now)
+    (λ a. get_or crew.homes.items a None) queue (length queue) cells new) k.homes_all found in
+    let waiting = rw (c.deref-then-job.ensures.value, c.deref-then-job-2.ensures.value) at
+    c.in_ok-cells.ensures.waiting in
     let len : length new ≡ crew.homes.len = placed.all ∙ (sym k.homes_all ∙ sym crew.homes.ok.0) in
     let is = take_at new (drop (length new) crew.homes.items) crew.homes.len len in
-    rw is (λ past d. subst (λ (h : Bool). IsRowAt r n cost level width h past c.args.now ended started ends until (λ a. get_or new a None) cells) (sym c.if-job.true)
-    (row_homed r n cost level width past c.args.now ended started ends crew.until.items c.requires.sound (job_dear _ _ _ _ _ c.requires.job) queue q cells crew.homes.items new
-    (subst (λ (h : Bool). IsDue r n cost level width h past c.args.now ended started ends until (λ a. get_or crew.homes.items a None)) c.if-job.true d) weight weight_is refl placed waiting))
+    rw is (λ past d. subst (λ (h : Bool). IsRowAt r n cost level width h past c.args.now ended started ends until
+    (λ a. get_or new a None) cells) (sym c.if-job.true)
+    (row_homed r n cost level width past c.args.now ended started ends crew.until.items c.requires.sound
+    (job_dear _ _ _ _ _ c.requires.job) queue q cells crew.homes.items new
+    (subst (λ (h : Bool). IsDue r n cost level width h past c.args.now ended started ends until
+    (λ a. get_or crew.homes.items a None)) c.if-job.true d) weight weight_is refl placed waiting))
 
 pub returns-clause-row : goal.returns-clause-row
 returns-clause-row c =
@@ -59,6 +65,9 @@ returns-clause-row c =
     let cells = c.in_ok-cells-2.cells.items in
     let q = rw c.deref.ensures.value at c.in_ok-queue.ensures in
     let fill = rw (c.deref-else-job.ensures.value, c.deref-else-job-2.ensures.value) at c.in_ok-cells-2.ensures in
-    (λ past d. subst (λ (h : Bool). IsRowAt r n cost level width h past c.args.now ended started ends until (λ a. get_or crew.homes.items a None) cells) (sym c.if-job.false)
-    (row_free r n cost level width past c.args.now ended started ends crew.until.items c.requires.sound (job_dear _ _ _ _ _ c.requires.job) queue q cells (λ a. get_or crew.homes.items a None)
-    (subst (λ (h : Bool). IsDue r n cost level width h past c.args.now ended started ends until (λ a. get_or crew.homes.items a None)) c.if-job.false d) fill.0 fill.1))
+    (λ past d. subst (λ (h : Bool). IsRowAt r n cost level width h past c.args.now ended started ends until
+    (λ a. get_or crew.homes.items a None) cells) (sym c.if-job.false)
+    (row_free r n cost level width past c.args.now ended started ends crew.until.items c.requires.sound
+    (job_dear _ _ _ _ _ c.requires.job) queue q cells (λ a. get_or crew.homes.items a None)
+    (subst (λ (h : Bool). IsDue r n cost level width h past c.args.now ended started ends until
+    (λ a. get_or crew.homes.items a None)) c.if-job.false d) fill.0 fill.1))

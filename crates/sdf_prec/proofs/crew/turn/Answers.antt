@@ -10,7 +10,9 @@ add_row-requires-clause-crew c =
     let r = rates crew.counts.graph in
     let ended = rw (c.deref.ensures.value, c.deref-2.ensures.value) at c.end_by.ensures.ended in
     let ends_all : length crew.ends.items ≡ r.actors = k.ends_all in
-    let early = shift_early r _ _ _ _ _ _ c.args.now c.args.next crew.counts.fired c.end_by.new.counts.fired crew.ends.items _ _ _ c.requires.sound c.requires.done ends_all c.requires.next ended c.sums_rise.ensures.lists k.fired_all k.early k.soon in
+    let early = shift_early r _ _ _ _ _ _ c.args.now c.args.next crew.counts.fired c.end_by.new.counts.fired
+    crew.ends.items _ _ _ c.requires.sound c.requires.done ends_all c.requires.next ended c.sums_rise.ensures.lists
+    k.fired_all k.early k.soon in
     let same = ap (λ (g : Shape). g.actors) (sym c.end_by.ensures.same) in
     record {
       fired_all = ended.all ∙ (k.fired_all ∙ same);
@@ -29,7 +31,8 @@ add_row-requires-clause-due c =
     let k = c.requires.crew in
     let r = rates crew.counts.graph in
     let ended = rw (c.deref.ensures.value, c.deref-2.ensures.value) at c.end_by.ensures.ended in
-    let due = shift_due r _ _ _ _ _ _ c.args.now c.args.next crew.counts.fired c.end_by.new.counts.fired crew.ends.items _ _ _ c.requires.sound c.requires.done k.ends_all c.requires.next ended in
+    let due = shift_due r _ _ _ _ _ _ c.args.now c.args.next crew.counts.fired c.end_by.new.counts.fired crew.ends.items
+    _ _ _ c.requires.sound c.requires.done k.ends_all c.requires.next ended in
     rw c.end_by.ensures.same due
 
 pub returns-clause-more : goal.returns-clause-more
@@ -38,7 +41,9 @@ returns-clause-more c =
     let k = c.requires.crew in
     let r = rates crew.counts.graph in
     let ended = rw (c.deref.ensures.value, c.deref-2.ensures.value) at c.end_by.ensures.ended in
-    let more = shift_sum r _ _ _ _ _ _ c.args.now c.args.next crew.counts.fired c.end_by.new.counts.fired crew.ends.items _ _ _ c.requires.sound c.requires.done k.ends_all c.requires.next ended c.sums_rise.ensures.lists k.fired_all in
+    let more = shift_sum r _ _ _ _ _ _ c.args.now c.args.next crew.counts.fired c.end_by.new.counts.fired
+    crew.ends.items _ _ _ c.requires.sound c.requires.done k.ends_all c.requires.next ended
+    c.sums_rise.ensures.lists k.fired_all in
     rw c.add_row.ensures.counts more
 
 pub returns-clause-done : goal.returns-clause-done

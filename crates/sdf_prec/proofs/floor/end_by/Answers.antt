@@ -2,14 +2,17 @@ use Rattle.std.proofs.Common.{◌≡◌, ℕ, ◌+◌, ◌<◌, length, get_or, 
 use Rattle.std.proofs.lemmas.List.{length-set}
 use Rattle.sdf_graph.specs.Rates.{rates}
 use Rattle.sdf_prec.proofs.Starts.{ending_begins, ending_more, ending_skips}
-use Rattle.sdf_prec.proofs.floor.end_by.Goals.{then-fired-started+then-ends-actor, else-fired-started, else-fired-started-via-then-fired-started+else-ends-actor, else-fired-started-via-else-fired-started}
+use Rattle.sdf_prec.proofs.floor.end_by.Goals.{then-fired-started+then-ends-actor, else-fired-started}
+use Rattle.sdf_prec.proofs.floor.end_by.Goals.{else-fired-started-via-then-fired-started+else-ends-actor}
+use Rattle.sdf_prec.proofs.floor.end_by.Goals.{else-fired-started-via-else-fired-started}
 use Rattle.sdf_prec.proofs.floor.end_by.Goals as goal
 
 pub loop-actor-init : goal.loop-actor-init
 loop-actor-init c = record {
   same = refl;
   each = c.requires.each;
-  ended = ending_begins (rates c.args.counts.now.graph) c.args.now (λ a. get_or c.args.started.now a 0) (λ a. get_or c.args.ends.now a 0) c.args.counts.now.fired c.requires.on;
+  ended = ending_begins (rates c.args.counts.now.graph) c.args.now (λ a. get_or c.args.started.now a 0)
+      (λ a. get_or c.args.ends.now a 0) c.args.counts.now.fired c.requires.on;
 }
 
 pub loop-actor-preserved : goal.loop-actor-preserved
@@ -25,13 +28,16 @@ loop-actor-preserved c =
     elim c.if-fired-started.branch [
       | then-fired-started+then-ends-actor w ↦
           let l : i < length fired = omega (arith, c.loop-actor-test.true, v.each, c.requires.started) in
-          let low : get_or fired i 0 < get_or c.args.started.now i 0 = omega (arith, c.fired.ensures, w.if-fired-started.true) in
+          let low : get_or fired i 0 < get_or c.args.started.now i 0 =
+          omega (arith, c.fired.ensures, w.if-fired-started.true) in
           let last : get_or old i 0 + 1 ≡ get_or c.args.started.now i 0 =
-          elim (c.requires.behind i (omega (arith, c.loop-actor-test.true, c.requires.started))) as (λ _. get_or old i 0 + 1 ≡ get_or c.args.started.now i 0) [ inl e ↦ absurd (omega arith) | inr e ↦ e ] in
+          elim (c.requires.behind i (omega (arith, c.loop-actor-test.true, c.requires.started))) as (λ _. get_or old i 0
+          + 1 ≡ get_or c.args.started.now i 0) [ inl e ↦ absurd (omega arith) | inr e ↦ e ] in
           rw (w.counts-is, w.fire.ensures) (record {
             same = v.same;
             each = length-set fired i (get_or fired i 0 + 1) ∙ v.each;
-            ended = ending_more r c.args.now i started ends old fired v.ended c.enabled_stays.ensures c.requires.sound l last w.if-ends-actor.true;
+            ended = ending_more r c.args.now i started ends old fired v.ended c.enabled_stays.ensures c.requires.sound l
+                last w.if-ends-actor.true;
           })
       | else-fired-started w ↦
           rw w.counts-is (record {
@@ -39,8 +45,10 @@ loop-actor-preserved c =
             each = v.each;
             ended = ending_skips r c.args.now i started ends old fired v.ended
                 (elim w.else-fired-started.branch [
-                  | else-fired-started-via-then-fired-started+else-ends-actor u ↦ λ h k. (let no' = u.if-ends-actor.false in omega arith)
-                  | else-fired-started-via-else-fired-started u ↦ λ h k. (let no' = u.if-fired-started.false in omega (arith, c.fired.ensures))
+                  | else-fired-started-via-then-fired-started+else-ends-actor u ↦ λ h k.
+                      (let no' = u.if-ends-actor.false in omega arith)
+                  | else-fired-started-via-else-fired-started u ↦ λ h k.
+                      (let no' = u.if-fired-started.false in omega (arith, c.fired.ensures))
                 ]);
           })
     ]

@@ -8,5 +8,6 @@ abbrev pub invariant-loop-actor : goal.invariant-loop-actor
 invariant-loop-actor l = record {
   same : l.counts.graph ≡ l.initial.counts.graph;
   each : length l.counts.fired ≡ l.initial.counts.graph.actors;
-  ended : AreEnded (rates l.initial.counts.graph) l.now l.actor (slice_index l.started) (slice_index l.ends) l.initial.counts.fired l.counts.fired;
+  ended : AreEnded (rates l.initial.counts.graph) l.now l.actor (slice_index l.started) (slice_index l.ends)
+      l.initial.counts.fired l.counts.fired;
 }

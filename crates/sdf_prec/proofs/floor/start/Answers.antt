@@ -15,9 +15,12 @@ loop-column-preserved c =
     elim c.match-cells-column.branch [
       | in-Some w ↦
           let known = c.requires.known i w.in-Some.firing w.in-Some.is in
-          let end : c.args.now + w.from.result ≡ c.args.now + cost w.in-Some.firing.actor = omega (arith, w.from.ensures, w.of.ensures.is) in
-          let begun = starting_more cost c.args.now i c.args.cells.now s0 e0 u0 c.loop-column.started c.loop-column.ends c.loop-column.until v.begun w.in-Some.firing (c.args.now + w.from.result) w.in-Some.is end
-          (omega (arith, known, v.actors)) (omega (arith, known, v.all, c.requires.ends)) (omega (arith, c.loop-column-test.true, v.columns, c.requires.wide)) c.requires.once in
+          let end : c.args.now + w.from.result ≡ c.args.now + cost w.in-Some.firing.actor =
+          omega (arith, w.from.ensures, w.of.ensures.is) in
+          let begun = starting_more cost c.args.now i c.args.cells.now s0 e0 u0 c.loop-column.started c.loop-column.ends
+          c.loop-column.until v.begun w.in-Some.firing (c.args.now + w.from.result) w.in-Some.is end
+          (omega (arith, known, v.actors)) (omega (arith, known, v.all, c.requires.ends))
+          (omega (arith, c.loop-column-test.true, v.columns, c.requires.wide)) c.requires.once in
           rw (w.started-is, w.ends-is, w.until-is) (record {
             begun = begun;
             actors = length-set c.loop-column.started w.in-Some.firing.actor (w.in-Some.firing.number + 1) ∙ v.actors;
@@ -26,7 +29,8 @@ loop-column-preserved c =
           })
       | in_default w ↦
           rw (w.started-is, w.ends-is, w.until-is) (record {
-            begun = starting_skips cost c.args.now i c.args.cells.now s0 e0 u0 c.loop-column.started c.loop-column.ends c.loop-column.until v.begun w.in_default.is;
+            begun = starting_skips cost c.args.now i c.args.cells.now s0 e0 u0 c.loop-column.started c.loop-column.ends
+                c.loop-column.until v.begun w.in_default.is;
             actors = v.actors;
             all = v.all;
             columns = v.columns;

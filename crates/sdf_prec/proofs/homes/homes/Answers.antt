@@ -1,4 +1,5 @@
-use Rattle.std.proofs.Common.{◌≡◌, ℕ, ◌<◌, ◌↔◌, List, length, get_or, map, Option, Some, None, sym, ap, ◌∙◌, subst, arith}
+use Rattle.std.proofs.Common.{◌≡◌, ℕ, ◌<◌, ◌↔◌, List, length, get_or, map, Option, Some, None, sym, ap, ◌∙◌, subst}
+use Rattle.std.proofs.Common.{arith}
 use Rattle.std.proofs.lemmas.List.{get_or-map, length-map}
 use Rattle.std.proofs.lemmas.Result.{IfOk-weaker}
 use Rattle.sdf_prec.specs.declared.firing.Firing.{Firing}
@@ -9,18 +10,30 @@ use Rattle.sdf_prec.proofs.Standings.{standing_all}
 use Rattle.sdf_prec.proofs.homes.homes.Goals as goal
 
 pub see_row-requires-clause-known : goal.see_row-requires-clause-known
-see_row-requires-clause-known c = λ f st. omega (arith, c.requires c.loop-i.i f c.loop-i-test.true st, ap length c.deref_mut.ensures.value, c.loop-i.invariant.all)
+see_row-requires-clause-known c = λ f st. omega (
+  arith,
+  c.requires c.loop-i.i f c.loop-i-test.true st,
+  ap length c.deref_mut.ensures.value,
+  c.loop-i.invariant.all,
+)
 
 pub returns-clause-each : goal.returns-clause-each
 returns-clause-each c =
     let rs : List (List (Option Firing)) = map (λ r. r.items) c.args.rows.now in
     let all = c.deref.result.now in
-    let whole : c.loop-i.i ≡ length rs = omega (arith, c.loop-i-test.false, length-map c.args.rows.now (λ r. r.items)) in
-    let are : AreStanding rs (length rs) 0 all = subst (λ i. AreStanding rs i 0 all) whole (subst (AreStanding rs c.loop-i.i 0) (sym c.deref.ensures.value) c.loop-i.invariant.are) in
+    let whole : c.loop-i.i ≡ length rs = omega (
+      arith,
+      c.loop-i-test.false,
+      length-map c.args.rows.now (λ r. r.items),
+    ) in
+    let are : AreStanding rs (length rs) 0 all = subst (λ i. AreStanding rs i 0 all) whole
+    (subst (AreStanding rs c.loop-i.i 0) (sym c.deref.ensures.value) c.loop-i.invariant.are) in
     let long : length all ≡ c.args.actors = ap length c.deref.ensures.value ∙ c.loop-i.invariant.all in
-    IfOk-weaker c.homes_of.result (λ v. v.items ≡ map home_of all) (λ v. (a j : ℕ) → a < c.args.actors → (get_or v.items a None ≡ Some j) ↔ IsHome rs a j)
+    IfOk-weaker c.homes_of.result (λ v. v.items ≡ map home_of all)
+    (λ v. (a j : ℕ) → a < c.args.actors → (get_or v.items a None ≡ Some j) ↔ IsHome rs a j)
     (λ v is a j l.
     let known : a < length all = omega arith in
-    let at : get_or v.items a None ≡ home_of (standing_of all a) = ap (λ xs. get_or xs a None) is ∙ get_or-map home_of all a Nowhere None known in
+    let at : get_or v.items a None ≡ home_of (standing_of all a) =
+    ap (λ xs. get_or xs a None) is ∙ get_or-map home_of all a Nowhere None known in
     subst (λ h. (h ≡ Some j) ↔ IsHome rs a j) (sym at) (standing_all rs a j (standing_of all a) (are a known)))
     c.homes_of.ensures

@@ -12,9 +12,17 @@ use Rattle.sdf_prec.proofs.homes.see_row.Goals as goal
 pub see-requires : goal.see-requires
 see-requires c =
     let rs : List (List (Option Firing)) = map (λ r. r.items) c.args.rows.now in
-    let cells : c.deref-cell-items.result.now ≡ row rs c.args.i = c.deref-cell-items.ensures.value ∙ sym (row_read c.args.rows.now c.args.i c.index-rows-i.result c.requires.within c.index-rows-i.is) in
-    let is : cell rs c.args.i c.loop-column.column ≡ Some c.in-Some.firing = ap (λ r. get_or r c.loop-column.column None) (sym cells) ∙ c.in-Some.is in
-    omega (arith, c.requires.known c.in-Some.firing (stands_at (row rs c.args.i) c.loop-column.column c.in-Some.firing is), c.loop-column.invariant.same)
+    let cells : c.deref-cell-items.result.now ≡ row rs c.args.i =
+    c.deref-cell-items.ensures.value ∙ sym (row_read c.args.rows.now c.args.i c.index-rows-i.result
+    c.requires.within c.index-rows-i.is) in
+    let is : cell rs c.args.i c.loop-column.column ≡ Some c.in-Some.firing =
+    ap (λ r. get_or r c.loop-column.column None) (sym cells) ∙ c.in-Some.is in
+    omega (
+      arith,
+      c.requires.known c.in-Some.firing
+          (stands_at (row rs c.args.i) c.loop-column.column c.in-Some.firing is),
+      c.loop-column.invariant.same,
+    )
 
 pub loop-column-preserved : goal.loop-column-preserved
 loop-column-preserved c =
@@ -22,21 +30,37 @@ loop-column-preserved c =
     let i : ℕ = c.args.i in
     let j : ℕ = c.loop-column.column in
     let all = c.loop-column.standing in
-    let cells : c.deref-cell-items.result.now ≡ row rs i = c.deref-cell-items.ensures.value ∙ sym (row_read c.args.rows.now i c.index-rows-i.result c.requires.within c.index-rows-i.is) in
+    let cells : c.deref-cell-items.result.now ≡ row rs i =
+    c.deref-cell-items.ensures.value ∙ sym (row_read c.args.rows.now i c.index-rows-i.result c.requires.within
+    c.index-rows-i.is) in
     elim c.match-cell.branch [
       | in-Some w ↦
           let f = w.in-Some.firing in
           let is : cell rs i j ≡ Some f = ap (λ r. get_or r j None) (sym cells) ∙ w.in-Some.is in
-          let known : f.actor < length all = omega (arith, c.requires.known f (stands_at (row rs i) j f is), c.loop-column.invariant.same) in
+          let known : f.actor < length all = omega (
+            arith,
+            c.requires.known f (stands_at (row rs i) j f is),
+            c.loop-column.invariant.same,
+          ) in
           rw (w.standing-is, w.see.ensures)
-          (record { same = length-set all f.actor (also (standing_of all f.actor) j) ∙ c.loop-column.invariant.same; are = standing_some rs i j all c.loop-column.invariant.are f is known })
+          (record {
+            same = length-set all f.actor (also (standing_of all f.actor) j) ∙ c.loop-column.invariant.same;
+            are = standing_some rs i j all c.loop-column.invariant.are f is known;
+          })
       | in_default w ↦
           rw (w.standing-is)
-          (record { same = c.loop-column.invariant.same; are = standing_skip rs i j all c.loop-column.invariant.are (ap (λ r. get_or r j None) (sym cells) ∙ w.in_default.is) })
+          (record {
+            same = c.loop-column.invariant.same;
+            are = standing_skip rs i j all c.loop-column.invariant.are
+                (ap (λ r. get_or r j None) (sym cells) ∙ w.in_default.is);
+          })
     ]
 
 pub returns : goal.returns
 returns c =
     let rs : List (List (Option Firing)) = map (λ r. r.items) c.args.rows.now in
-    let cells : c.deref-cell-items.result.now ≡ row rs c.args.i = c.deref-cell-items.ensures.value ∙ sym (row_read c.args.rows.now c.args.i c.index-rows-i.result c.requires.within c.index-rows-i.is) in
-    standing_row rs c.args.i c.loop-column.column c.loop-column.standing c.loop-column.invariant.are (omega (arith, ap length cells, c.loop-column-test.false))
+    let cells : c.deref-cell-items.result.now ≡ row rs c.args.i =
+    c.deref-cell-items.ensures.value ∙ sym (row_read c.args.rows.now c.args.i c.index-rows-i.result
+    c.requires.within c.index-rows-i.is) in
+    standing_row rs c.args.i c.loop-column.column c.loop-column.standing c.loop-column.invariant.are
+    (omega (arith, ap length cells, c.loop-column-test.false))

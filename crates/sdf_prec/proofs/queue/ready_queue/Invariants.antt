@@ -7,4 +7,6 @@ use Rattle.sdf_prec.proofs.Queues.{Among}
 use Rattle.sdf_prec.proofs.queue.ready_queue.Given as goal
 
 abbrev pub invariant-loop-actor : goal.invariant-loop-actor
-invariant-loop-actor l = IsQueue (number l.levels) (Among (IsNextReady (rates l.counts.graph) (slice_index l.firings) (slice_index l.counts.fired) (slice_index l.started)) l.actor) l.queue.items
+invariant-loop-actor l = IsQueue (number l.levels)
+    (Among (IsNextReady (rates l.counts.graph) (slice_index l.firings) (slice_index l.counts.fired)
+    (slice_index l.started)) l.actor) l.queue.items

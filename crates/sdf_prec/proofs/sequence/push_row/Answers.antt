@@ -12,11 +12,15 @@ loop-cell-preserved c = elim c.match-cell.branch [
       rw (w.order-is)
       (w.in_ok-push.ensures.items ∙
       (ap (λ xs. xs ++ w.in-Some.firing.actor ∷ []) c.loop-cell.invariant ∙
-      (append_assoc c.args.order.now.items (map (λ (f : Firing). f.actor) (firings (take c.loop-cell.cell-index c.args.row.now))) (w.in-Some.firing.actor ∷ []) ∙
+      (append_assoc c.args.order.now.items (map (λ (f : Firing). f.actor)
+      (firings (take c.loop-cell.cell-index c.args.row.now))) (w.in-Some.firing.actor ∷ []) ∙
       ap (λ xs. c.args.order.now.items ++ xs)
-      (sym (map_push (λ (f : Firing). f.actor) (firings (take c.loop-cell.cell-index c.args.row.now)) w.in-Some.firing) ∙
-      ap (map (λ (f : Firing). f.actor)) (sym (firings_some c.args.row.now c.loop-cell.cell-index w.in-Some.firing c.loop-cell-test.true w.in-Some.is))))))
+      (sym (map_push (λ (f : Firing). f.actor) (firings (take c.loop-cell.cell-index c.args.row.now))
+      w.in-Some.firing) ∙
+      ap (map (λ (f : Firing). f.actor)) (sym (firings_some c.args.row.now c.loop-cell.cell-index w.in-Some.firing
+      c.loop-cell-test.true w.in-Some.is))))))
   | in_default w ↦
       rw (w.order-is)
-      (c.loop-cell.invariant ∙ ap (λ fs. c.args.order.now.items ++ map (λ (f : Firing). f.actor) fs) (sym (firings_none c.args.row.now c.loop-cell.cell-index c.loop-cell-test.true w.in_default.is)))
+      (c.loop-cell.invariant ∙ ap (λ fs. c.args.order.now.items ++ map (λ (f : Firing). f.actor) fs)
+      (sym (firings_none c.args.row.now c.loop-cell.cell-index c.loop-cell-test.true w.in_default.is)))
 ]

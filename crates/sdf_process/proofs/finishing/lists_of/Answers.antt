@@ -8,9 +8,11 @@ pub returns-in_err-ran : goal.returns-in_err-ran
 returns-in_err-ran g c =
     let same = c.blocking-2.ensures in
     let q = c.args.plan.now.period.repetitions in
-    run_refused c.args.net.now q c.args.input c.of_net-exchange.result (c.of_net-exchange.ensures.value q c.requires.plan.period.least)
+    run_refused c.args.net.now q c.args.input c.of_net-exchange.result
+    (c.of_net-exchange.ensures.value q c.requires.plan.period.least)
     (c.blocks_for-blocks.result * c.args.plan.now.blocking) (lists c.deref.result.now)
-    (ap lists c.deref.ensures.value ∙ (c.in_ok-inputs.ensures ∙ ap (λ j. lists_to (c.blocks_for-blocks.result * j) c.of_net-exchange.result c.args.input) same))
+    (ap lists c.deref.ensures.value ∙ (c.in_ok-inputs.ensures
+    ∙ ap (λ j. lists_to (c.blocks_for-blocks.result * j) c.of_net-exchange.result c.args.input) same))
     c.in_err-ran.field-0.0 c.from_residual-in_err-ran.result _ c.in_err-ran.ensures
     c.from_residual-in_err-ran.ensures.1
 
@@ -20,8 +22,10 @@ returns g c =
     let first = c.blocking.ensures in
     let p = c.args.plan.now.period in
     run_begins c.runs_go_on.ensures c.args.net.now p (c.nets_have_periods.ensures p c.requires.plan.period)
-    c.args.input c.of_net-exchange.result (c.of_net-exchange.ensures.value p.repetitions c.requires.plan.period.least) c.args.periods (c.blocks_for-blocks.result * c.args.plan.now.blocking) c.requires.periods
+    c.args.input c.of_net-exchange.result (c.of_net-exchange.ensures.value p.repetitions c.requires.plan.period.least)
+    c.args.periods (c.blocks_for-blocks.result * c.args.plan.now.blocking) c.requires.periods
     (subst (λ j. c.args.periods ≤ c.blocks_for-blocks.result * j) first c.blocks_for-blocks.ensures.enough)
     (lists c.deref.result.now) (lists c.in_ok-ran.ran.outputs.items)
-    (ap lists c.deref.ensures.value ∙ (c.in_ok-inputs.ensures ∙ ap (λ j. lists_to (c.blocks_for-blocks.result * j) c.of_net-exchange.result c.args.input) same))
+    (ap lists c.deref.ensures.value ∙ (c.in_ok-inputs.ensures
+    ∙ ap (λ j. lists_to (c.blocks_for-blocks.result * j) c.of_net-exchange.result c.args.input) same))
     c.in_ok-ran.ensures.1

@@ -5,9 +5,12 @@ use Rattle.sdf_process.proofs.hearing.begin.Goals as goal
 
 pub returns-in_err-start-clause-puts : goal.returns-in_err-start-clause-puts
 returns-in_err-start-clause-puts g c =
-    begin_failed_as (g.W.Writer.contents c.args.writer.now) (g.W.Writer.contents c.start.new.writer) (g.W.Writer.failures c.args.writer.now) (g.W.Writer.failures c.start.new.writer)
-    c.args.extent.rate c.from-2.result c.args.exchange.outputs (c.args.extent.periods * c.args.exchange.made) (c.from.result * c.args.exchange.made) c.in_err-start.field-0.0 c.from_residual.result
+    begin_failed_as (g.W.Writer.contents c.args.writer.now) (g.W.Writer.contents c.start.new.writer)
+    (g.W.Writer.failures c.args.writer.now) (g.W.Writer.failures c.start.new.writer)
+    c.args.extent.rate c.from-2.result c.args.exchange.outputs (c.args.extent.periods * c.args.exchange.made)
+    (c.from.result * c.args.exchange.made) c.in_err-start.field-0.0 c.from_residual.result
     (search rules) (search rules)
-    (start_allowed c.args.extent.rate c.args.exchange.outputs (c.args.extent.periods * c.args.exchange.made) c.requires.some_rate c.requires.limits.one_output c.requires.limits.few_outputs
+    (start_allowed c.args.extent.rate c.args.exchange.outputs (c.args.extent.periods * c.args.exchange.made)
+    c.requires.some_rate c.requires.limits.one_output c.requires.limits.few_outputs
     c.requires.few_bytes_a_second c.requires.few_bytes)
     c.in_err-start.ensures.writes c.in_err-start.ensures.counted c.from_residual.ensures.1

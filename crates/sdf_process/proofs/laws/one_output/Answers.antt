@@ -13,6 +13,11 @@ returns c =
     let accepted = subst (λ n. IsAccepted kit_steps n c.repetitions.result.now) same c.repetitions.ensures.accepted in
     one_output_of c.args.design.now
     (subst (λ n. IsNet kit_steps n) same c.graph-graph.ensures.whole)
-    (subst (λ n. IsShape (graph_of kit_steps n)) same (subst IsShape c.graph-graph.ensures.value c.channels.ensures.shape))
-    (subst (λ n. IsAlike (rates (graph_of kit_steps n)) (wiring kit_steps n).rates) same (subst (λ g. IsAlike (rates g) (wiring kit_steps c.net-net.result.now).rates) c.graph-graph.ensures.value c.graph-graph.ensures.rates))
-    accepted.lists c.graphs_are_sound.ensures c.graphs_have_periods.ensures c.one_least_period.ensures c.periods_repeat.ensures.words c.alike_sequences.ensures c.one_history.ensures.is_unique c.one_outcome.ensures.one_sound
+    (subst (λ n. IsShape (graph_of kit_steps n)) same
+    (subst IsShape c.graph-graph.ensures.value c.channels.ensures.shape))
+    (subst (λ n. IsAlike (rates (graph_of kit_steps n)) (wiring kit_steps n).rates) same
+    (subst (λ g. IsAlike (rates g) (wiring kit_steps c.net-net.result.now).rates) c.graph-graph.ensures.value
+    c.graph-graph.ensures.rates))
+    accepted.lists c.graphs_are_sound.ensures c.graphs_have_periods.ensures c.one_least_period.ensures
+    c.periods_repeat.ensures.words c.alike_sequences.ensures c.one_history.ensures.is_unique
+    c.one_outcome.ensures.one_sound

@@ -4,4 +4,5 @@ use Rattle.sdf_process.specs.Plans.{progress_view, progress_of}
 use Rattle.sdf_process.proofs.planning.progress.Given as goal
 
 abbrev pub invariant-loop-actor : goal.invariant-loop-actor
-invariant-loop-actor l = map progress_view l.all.items ≡ map (progress_of l.design l.reps l.stuck) (range_with_len 0 l.actor)
+invariant-loop-actor l = map progress_view l.all.items ≡
+    map (progress_of l.design l.reps l.stuck) (range_with_len 0 l.actor)

@@ -15,22 +15,33 @@ put-requires-clause-whole g c =
     let xs = items_of c.args.lists.now in
     let at = c.loop-at.at in
     let end = c.loop-at.at + c.min-in-loop-at.result in
-    let slice : c.deref.result.now ≡ interleaved_from at (end - at) xs = c.deref.ensures.value ∙ (c.push_frames.ensures.appended ∙ ap (λ l. l ++ interleaved_from at (end - at) xs) c.clear.ensures.items) in
-    let count : length c.deref.result.now ≡ (end - at) * length c.args.lists.now = ap length slice ∙ (frames_length xs at (end - at) ∙ ap (λ k. (end - at) * k) (length-lists c.args.lists.now)) in
-    whole_frames (end - at) (length c.args.lists.now) (length c.deref.result.now) c.loop-at.output.channels count (ap (λ (o : Owed). o.channels) c.loop-at.invariant.owed ∙ c.requires.channels)
+    let slice : c.deref.result.now ≡ interleaved_from at (end - at) xs =
+    c.deref.ensures.value ∙ (c.push_frames.ensures.appended
+    ∙ ap (λ l. l ++ interleaved_from at (end - at) xs) c.clear.ensures.items) in
+    let count : length c.deref.result.now ≡ (end - at) * length c.args.lists.now =
+    ap length slice ∙ (frames_length xs at (end - at) ∙ ap (λ k. (end - at) * k) (length-lists c.args.lists.now)) in
+    whole_frames (end - at) (length c.args.lists.now) (length c.deref.result.now) c.loop-at.output.channels count
+    (ap (λ (o : Owed). o.channels) c.loop-at.invariant.owed ∙ c.requires.channels)
 
 pub returns-in_err-put-clause-puts : goal.returns-in_err-put-clause-puts
 returns-in_err-put-clause-puts g c =
     let xs = items_of c.args.lists.now in
     let at = c.loop-at.at in
     let end = c.loop-at.at + c.min-in-loop-at.result in
-    let slice : c.deref.result.now ≡ interleaved_from at (end - at) xs = c.deref.ensures.value ∙ (c.push_frames.ensures.appended ∙ ap (λ l. l ++ interleaved_from at (end - at) xs) c.clear.ensures.items) in
-    let count : length c.deref.result.now ≡ (end - at) * length c.args.lists.now = ap length slice ∙ (frames_length xs at (end - at) ∙ ap (λ k. (end - at) * k) (length-lists c.args.lists.now)) in
-    let unspent : c.loop-at.output.spent ≡ false = ap (λ (o : Owed). o.spent) c.loop-at.invariant.owed ∙ c.requires.unspent in
-    put_failed c.puts_join.ensures (g.W.Writer.contents c.args.writer.now) (g.W.Writer.contents c.loop-at.writer) (g.W.Writer.contents c.put.new.writer)
-    (g.W.Writer.failures c.args.writer.now) (g.W.Writer.failures c.loop-at.writer) (g.W.Writer.failures c.put.new.writer) xs c.args.frames at end (omega arith) (search rules)
+    let slice : c.deref.result.now ≡ interleaved_from at (end - at) xs =
+    c.deref.ensures.value ∙ (c.push_frames.ensures.appended
+    ∙ ap (λ l. l ++ interleaved_from at (end - at) xs) c.clear.ensures.items) in
+    let count : length c.deref.result.now ≡ (end - at) * length c.args.lists.now =
+    ap length slice ∙ (frames_length xs at (end - at) ∙ ap (λ k. (end - at) * k) (length-lists c.args.lists.now)) in
+    let unspent : c.loop-at.output.spent ≡ false =
+    ap (λ (o : Owed). o.spent) c.loop-at.invariant.owed ∙ c.requires.unspent in
+    put_failed c.puts_join.ensures (g.W.Writer.contents c.args.writer.now) (g.W.Writer.contents c.loop-at.writer)
+    (g.W.Writer.contents c.put.new.writer)
+    (g.W.Writer.failures c.args.writer.now) (g.W.Writer.failures c.loop-at.writer)
+    (g.W.Writer.failures c.put.new.writer) xs c.args.frames at end (omega arith) (search rules)
     c.loop-at.invariant.written c.loop-at.invariant.counted c.in_err-put.field-0.0 c.from_residual-in_err-put.result
-    (subst (λ l. Puts {X = Unit {0}} (g.W.Writer.contents c.loop-at.writer) (g.W.Writer.contents c.put.new.writer) (sample_bytes l) (Err c.in_err-put.field-0.0)) slice (c.in_err-put.ensures.writes unspent))
+    (subst (λ l. Puts {X = Unit {0}} (g.W.Writer.contents c.loop-at.writer) (g.W.Writer.contents c.put.new.writer)
+    (sample_bytes l) (Err c.in_err-put.field-0.0)) slice (c.in_err-put.ensures.writes unspent))
     (c.in_err-put.ensures.counted unspent) c.from_residual-in_err-put.ensures.1
 
 pub loop-at-preserved : goal.loop-at-preserved
@@ -38,16 +49,24 @@ loop-at-preserved g c =
     let xs = items_of c.args.lists.now in
     let at = c.loop-at.at in
     let end = c.loop-at.at + c.min-in-loop-at.result in
-    let slice : c.deref.result.now ≡ interleaved_from at (end - at) xs = c.deref.ensures.value ∙ (c.push_frames.ensures.appended ∙ ap (λ l. l ++ interleaved_from at (end - at) xs) c.clear.ensures.items) in
-    let count : length c.deref.result.now ≡ (end - at) * length c.args.lists.now = ap length slice ∙ (frames_length xs at (end - at) ∙ ap (λ k. (end - at) * k) (length-lists c.args.lists.now)) in
-    let unspent : c.loop-at.output.spent ≡ false = ap (λ (o : Owed). o.spent) c.loop-at.invariant.owed ∙ c.requires.unspent in
+    let slice : c.deref.result.now ≡ interleaved_from at (end - at) xs =
+    c.deref.ensures.value ∙ (c.push_frames.ensures.appended
+    ∙ ap (λ l. l ++ interleaved_from at (end - at) xs) c.clear.ensures.items) in
+    let count : length c.deref.result.now ≡ (end - at) * length c.args.lists.now =
+    ap length slice ∙ (frames_length xs at (end - at) ∙ ap (λ k. (end - at) * k) (length-lists c.args.lists.now)) in
+    let unspent : c.loop-at.output.spent ≡ false =
+    ap (λ (o : Owed). o.spent) c.loop-at.invariant.owed ∙ c.requires.unspent in
     record {
       within = search rules;
       room = search rules;
-      written = subst (λ l. Appends (g.W.Writer.contents c.args.writer.now) (g.W.Writer.contents c.put.new.writer) (sample_bytes l)) (frames_on xs at end (omega arith))
-          (c.puts_join.ensures (g.W.Writer.contents c.args.writer.now) (g.W.Writer.contents c.loop-at.writer) (g.W.Writer.contents c.put.new.writer) (interleaved at xs) (interleaved_from at (end - at) xs)
-          c.loop-at.invariant.written (subst (λ l. Appends (g.W.Writer.contents c.loop-at.writer) (g.W.Writer.contents c.put.new.writer) (sample_bytes l)) slice (c.in_ok-put.ensures.writes unspent)));
+      written = subst (λ l. Appends (g.W.Writer.contents c.args.writer.now) (g.W.Writer.contents c.put.new.writer)
+          (sample_bytes l)) (frames_on xs at end (omega arith))
+          (c.puts_join.ensures (g.W.Writer.contents c.args.writer.now) (g.W.Writer.contents c.loop-at.writer)
+          (g.W.Writer.contents c.put.new.writer) (interleaved at xs) (interleaved_from at (end - at) xs)
+          c.loop-at.invariant.written (subst (λ l. Appends (g.W.Writer.contents c.loop-at.writer)
+          (g.W.Writer.contents c.put.new.writer) (sample_bytes l)) slice (c.in_ok-put.ensures.writes unspent)));
       counted = c.in_ok-put.ensures.counted unspent ∙ c.loop-at.invariant.counted;
-      owed = c.in_ok-put.ensures.owed ∙ owed_on c.args.output.now c.loop-at.output at end (length c.args.lists.now) (length c.deref.result.now) c.loop-at.invariant.owed count c.requires.channels
+      owed = c.in_ok-put.ensures.owed ∙ owed_on c.args.output.now c.loop-at.output at end (length c.args.lists.now)
+          (length c.deref.result.now) c.loop-at.invariant.owed count c.requires.channels
           (subst (λ k. 1 ≤ k) c.requires.channels c.requires.some) (omega arith);
     }

@@ -9,7 +9,8 @@ abbrev pub invariant-loop-at : goal.invariant-loop-at
 invariant-loop-at g l = record {
   within : l.at ≤ l.frames;
   room : min 4096 l.frames * length l.lists ≤ vec_capacity l.piece;
-  written : Appends (g.W.Writer.contents l.initial.writer) (g.W.Writer.contents l.writer) (sample_bytes (interleaved l.at (items_of l.lists)));
+  written : Appends (g.W.Writer.contents l.initial.writer) (g.W.Writer.contents l.writer)
+      (sample_bytes (interleaved l.at (items_of l.lists)));
   counted : g.W.Writer.failures l.writer ≡ g.W.Writer.failures l.initial.writer;
   owed : l.output ≡ record l.initial.output { missing = l.initial.output.missing - l.at };
 }

@@ -5,4 +5,5 @@ use Rattle.sdf_process.specs.Output.{channel_samples_from}
 use Rattle.sdf_process.proofs.samples.channel_lists.Given as goal
 
 abbrev pub invariant-loop-channel : goal.invariant-loop-channel
-invariant-loop-channel l = items_of l.all.items ≡ map (channel_samples_from l.input l.from l.len) (range_with_len 0 l.channel)
+invariant-loop-channel l = items_of l.all.items ≡
+    map (channel_samples_from l.input l.from l.len) (range_with_len 0 l.channel)

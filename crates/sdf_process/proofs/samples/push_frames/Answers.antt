@@ -12,7 +12,9 @@ loop-at-preserved c =
     let from = c.args.from in
     record {
       made = c.push_frame.ensures.appended ∙ (ap (λ l. l ++ frame xs at) c.loop-at.invariant.made
-          ∙ (append_assoc old (interleaved_from from (at - from) xs) (frame xs at) ∙ ap (λ l. old ++ l) (frames_more from at xs (search rules))));
-      count = c.push_frame.ensures.count ∙ (ap (λ k. k + length c.args.lists.now) c.loop-at.invariant.count ∙ count_more (vec_len c.args.samples.now) from at (length c.args.lists.now) (search rules));
+          ∙ (append_assoc old (interleaved_from from (at - from) xs) (frame xs at)
+          ∙ ap (λ l. old ++ l) (frames_more from at xs (search rules))));
+      count = c.push_frame.ensures.count ∙ (ap (λ k. k + length c.args.lists.now) c.loop-at.invariant.count
+          ∙ count_more (vec_len c.args.samples.now) from at (length c.args.lists.now) (search rules));
       capacity = c.push_frame.ensures.capacity ∙ c.loop-at.invariant.capacity;
     }

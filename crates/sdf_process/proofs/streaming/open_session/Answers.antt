@@ -12,9 +12,13 @@ returns-in_err-session c =
     let t = c.args.table.now in
     let homes = subst (λ o. IfSome o (SuitsRunner c.args.plan.now.runner)) c.requires.table c.requires.plan.homes in
     fails_by c.from_residual.result (of_run c.in_err-session.field-0.0) _ _ c.from_residual.ensures.1
-    (opened_refused t c.args.plan.now.runner c.args.plan.now.patience homes c.requires.plan.patience c.in_err-session.field-0.0 (subst (λ m. IsModeFault t m c.in_err-session.field-0.0) c.mode.ensures c.in_err-session.ensures.tests))
+    (opened_refused t c.args.plan.now.runner c.args.plan.now.patience homes c.requires.plan.patience
+    c.in_err-session.field-0.0 (subst (λ m. IsModeFault t m c.in_err-session.field-0.0) c.mode.ensures
+    c.in_err-session.ensures.tests))
 
 pub returns : goal.returns
 returns c = λ s. stands_first c.args.net.now c.args.plan.now.period c.args.plan.now.blocking c.in_ok-session.session
-    (ap (λ z. z.net) c.in_ok-session.ensures.value.1) (ap (λ z. z.period) c.in_ok-session.ensures.value.1 ∙ c.period.ensures) (ap (λ z. z.factor) c.in_ok-session.ensures.value.1 ∙ c.blocking.ensures)
+    (ap (λ z. z.net) c.in_ok-session.ensures.value.1)
+    (ap (λ z. z.period) c.in_ok-session.ensures.value.1 ∙ c.period.ensures)
+    (ap (λ z. z.factor) c.in_ok-session.ensures.value.1 ∙ c.blocking.ensures)
     c.in_ok-session.ensures.stands s

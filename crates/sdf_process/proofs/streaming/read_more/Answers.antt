@@ -4,12 +4,19 @@ use Rattle.sdf_process.proofs.streaming.read_more.Goals as goal
 
 pub returns-in_err-samples : goal.returns-in_err-samples
 returns-in_err-samples g c = λ d before old r here reads counted.
-    more_failed d c.args.content.now before here c.args.frames old (g.R.Reader.remaining c.args.reader.now) (g.R.Reader.remaining c.next.new.reader) r (g.R.Reader.failures c.args.reader.now) (g.R.Reader.failures c.next.new.reader) reads counted
-    c.in_err-samples.field-0.0 c.from_residual.result _ c.pieces_join.ensures.falls (c.in_err-samples.ensures.bytes c.requires.unspoilt) (c.in_err-samples.ensures.counted c.requires.unspoilt)
+    more_failed d c.args.content.now before here c.args.frames old (g.R.Reader.remaining c.args.reader.now)
+    (g.R.Reader.remaining c.next.new.reader) r (g.R.Reader.failures c.args.reader.now)
+    (g.R.Reader.failures c.next.new.reader) reads counted
+    c.in_err-samples.field-0.0 c.from_residual.result _ c.pieces_join.ensures.falls
+    (c.in_err-samples.ensures.bytes c.requires.unspoilt) (c.in_err-samples.ensures.counted c.requires.unspoilt)
     (c.in_err-samples.ensures.cut c.requires.unspoilt c.requires.sized) c.from_residual.ensures.1
 
 pub returns : goal.returns
 returns g c = λ d before old r here reads counted.
-    more_read d c.args.content.now before here c.args.frames old (g.R.Reader.remaining c.args.reader.now) (g.R.Reader.remaining c.next.new.reader) r (g.R.Reader.failures c.args.reader.now) (g.R.Reader.failures c.next.new.reader) reads counted
-    c.pieces_join.ensures.goes_on c.in_ok-samples.samples.items c.args.kept.items c.extend_from_slice.new.self.items (c.in_ok-samples.ensures.bytes c.requires.unspoilt) (c.in_ok-samples.ensures.counted c.requires.unspoilt)
-    c.in_ok-samples.ensures.piece c.requires.sized c.requires.enough c.next.new.self c.in_ok-samples.ensures.goes_on (search rules)
+    more_read d c.args.content.now before here c.args.frames old (g.R.Reader.remaining c.args.reader.now)
+    (g.R.Reader.remaining c.next.new.reader) r (g.R.Reader.failures c.args.reader.now)
+    (g.R.Reader.failures c.next.new.reader) reads counted
+    c.pieces_join.ensures.goes_on c.in_ok-samples.samples.items c.args.kept.items c.extend_from_slice.new.self.items
+    (c.in_ok-samples.ensures.bytes c.requires.unspoilt) (c.in_ok-samples.ensures.counted c.requires.unspoilt)
+    c.in_ok-samples.ensures.piece c.requires.sized c.requires.enough c.next.new.self
+    c.in_ok-samples.ensures.goes_on (search rules)

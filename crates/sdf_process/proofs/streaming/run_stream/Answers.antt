@@ -1,20 +1,28 @@
-use Rattle.std.proofs.Common.{◌≡◌, ◌≤◌, ◌%◌, Result, Ok, Err, length, [], ◌++◌, ◌*◌, refl, rules, arith, sym, ◌∙◌, subst, inl, inr}
+use Rattle.std.proofs.Common.{◌≡◌, ◌≤◌, ◌%◌, Result, Ok, Err, length, [], ◌++◌, ◌*◌, refl, rules, arith, sym, ◌∙◌}
+use Rattle.std.proofs.Common.{subst, inl, inr}
 use Rattle.std.proofs.lemmas.Bool.{cases_lt}
 use Rattle.sdf_wav.specs.PiecesIn.{sound_read}
 use Rattle.sdf_process.specs.declared.fault.Fault.{Fault}
 use Rattle.sdf_process.specs.Output.{exchange_of}
 use Rattle.sdf_process.specs.Streams.{AreBehind, PutsBlocks, PutsWhole, StandsWhole, Streams}
 use Rattle.sdf_process.proofs.Flow.{can_flow, ready_first, unopened}
-use Rattle.sdf_process.proofs.Flowing.{asks_enough, behind_held, ended, ended_whole, flows_first, flows_on, held_few, held_missing, held_whole, kept_whole, putting_failed, reading_failed, sized, stands_held, unspoilt}
+use Rattle.sdf_process.proofs.Flowing.{asks_enough, behind_held, ended, ended_whole, flows_first, flows_on, held_few}
+use Rattle.sdf_process.proofs.Flowing.{held_missing, held_whole, kept_whole, putting_failed, reading_failed, sized}
+use Rattle.sdf_process.proofs.Flowing.{stands_held, unspoilt}
 use Rattle.sdf_process.proofs.Pieces.{run_fails}
 use Rattle.sdf_process.proofs.streaming.run_stream.Goals as goal
 
 pub returns-in_err-open_session : goal.returns-in_err-open_session
 returns-in_err-open_session g c =
-    run_fails (λ (r : Result (Unit {0}) Fault). Streams c.args.net.now c.args.plan.now.period.repetitions c.args.content (g.R.Reader.remaining c.args.reader.now) (g.R.Reader.remaining c.args.reader.now) (g.W.Writer.contents c.args.writer.now) (g.W.Writer.contents c.args.writer.now)
-    (g.R.Reader.failures c.args.reader.now) (g.R.Reader.failures c.args.reader.now) (g.W.Writer.failures c.args.writer.now) (g.W.Writer.failures c.args.writer.now) r)
+    run_fails (λ (r : Result (Unit {0}) Fault). Streams c.args.net.now c.args.plan.now.period.repetitions c.args.content
+    (g.R.Reader.remaining c.args.reader.now) (g.R.Reader.remaining c.args.reader.now)
+    (g.W.Writer.contents c.args.writer.now) (g.W.Writer.contents c.args.writer.now)
+    (g.R.Reader.failures c.args.reader.now) (g.R.Reader.failures c.args.reader.now)
+    (g.W.Writer.failures c.args.writer.now) (g.W.Writer.failures c.args.writer.now) r)
     c.in_err-open_session.field-0.0 c.from_residual.result c.from_residual.ensures.1
-    (unopened c.args.net.now c.args.plan.now.period.repetitions c.args.content (g.R.Reader.remaining c.args.reader.now) (g.W.Writer.contents c.args.writer.now) (g.R.Reader.failures c.args.reader.now) (g.W.Writer.failures c.args.writer.now)
+    (unopened c.args.net.now c.args.plan.now.period.repetitions c.args.content (g.R.Reader.remaining c.args.reader.now)
+    (g.W.Writer.contents c.args.writer.now) (g.R.Reader.failures c.args.reader.now)
+    (g.W.Writer.failures c.args.writer.now)
     c.in_err-open_session.field-0.0 c.in_err-open_session.field-0.0 c.in_err-open_session.ensures refl)
 
 pub loop-unread-init : goal.loop-unread-init
@@ -23,16 +31,22 @@ loop-unread-init g c =
     let p = c.args.plan.now.period in
     let j = c.args.plan.now.blocking in
     let d = c.args.content in
-    let can = can_flow n c.args.plan.now c.args.table.now c.requires.table c.requires.plan c.nets_have_periods.ensures d c.args.frames c.args.output
-    c.of_net-exchange.result c.of_net-exchange.ensures.value c.of_net-exchange.ensures.limits c.requires.owed c.runs_go_on.ensures c.requires.sound c.requires.unread c.requires.known in
+    let can = can_flow n c.args.plan.now c.args.table.now c.requires.table c.requires.plan c.nets_have_periods.ensures d
+    c.args.frames c.args.output
+    c.of_net-exchange.result c.of_net-exchange.ensures.value c.of_net-exchange.ensures.limits c.requires.owed
+    c.runs_go_on.ensures c.requires.sound c.requires.unread c.requires.known in
     let v = c.in_ok-open_session.field-0 in
     let sound = sound_read d [] in
     record {
       within = omega arith;
-      ready = ready_first n c.args.plan.now c.args.table.now c.requires.table c.requires.plan c.nets_have_periods.ensures d c.args.frames c.args.output
-          c.of_net-exchange.result c.of_net-exchange.ensures.value c.of_net-exchange.ensures.limits c.requires.owed c.blocking.result c.blocking.ensures v sound (c.in_ok-open_session.ensures sound);
+      ready = ready_first n c.args.plan.now c.args.table.now c.requires.table c.requires.plan
+          c.nets_have_periods.ensures d c.args.frames c.args.output
+          c.of_net-exchange.result c.of_net-exchange.ensures.value c.of_net-exchange.ensures.limits c.requires.owed
+          c.blocking.result c.blocking.ensures v sound (c.in_ok-open_session.ensures sound);
       blocking = c.blocking.ensures;
-      flows = flows_first n p j d c.args.frames c.args.output.missing can (g.R.Reader.remaining c.args.reader.now) (g.W.Writer.contents c.args.writer.now) (g.R.Reader.failures c.args.reader.now) (g.W.Writer.failures c.args.writer.now)
+      flows = flows_first n p j d c.args.frames c.args.output.missing can (g.R.Reader.remaining c.args.reader.now)
+          (g.W.Writer.contents c.args.writer.now) (g.R.Reader.failures c.args.reader.now)
+          (g.W.Writer.failures c.args.writer.now)
           c.new-kept.result.items c.args.output v (search rules) refl (c.in_ok-open_session.ensures sound);
     }
 
@@ -42,11 +56,17 @@ read_more-requires-clause-unspoilt g c =
     let p = c.args.plan.now.period in
     let j = c.args.plan.now.blocking in
     let d = c.args.content in
-    let can = can_flow n c.args.plan.now c.args.table.now c.requires.table c.requires.plan c.nets_have_periods.ensures d c.args.frames c.args.output
-    c.of_net-exchange.result c.of_net-exchange.ensures.value c.of_net-exchange.ensures.limits c.requires.owed c.runs_go_on.ensures c.requires.sound c.requires.unread c.requires.known in
+    let can = can_flow n c.args.plan.now c.args.table.now c.requires.table c.requires.plan c.nets_have_periods.ensures d
+    c.args.frames c.args.output
+    c.of_net-exchange.result c.of_net-exchange.ensures.value c.of_net-exchange.ensures.limits c.requires.owed
+    c.runs_go_on.ensures c.requires.sound c.requires.unread c.requires.known in
     let at = c.loop-unread.invariant in
-    unspoilt n p j d c.args.frames c.args.output.missing can c.loop-unread.unread at.within (g.R.Reader.remaining c.args.reader.now) (g.R.Reader.remaining c.loop-unread.reader) (g.W.Writer.contents c.args.writer.now) (g.W.Writer.contents c.loop-unread.writer)
-    (g.R.Reader.failures c.args.reader.now) (g.R.Reader.failures c.loop-unread.reader) (g.W.Writer.failures c.args.writer.now) (g.W.Writer.failures c.loop-unread.writer) c.loop-unread.kept.items c.loop-unread.content c.loop-unread.stream.output c.loop-unread.stream.session at.flows c.requires.unspoilt
+    unspoilt n p j d c.args.frames c.args.output.missing can c.loop-unread.unread at.within
+    (g.R.Reader.remaining c.args.reader.now) (g.R.Reader.remaining c.loop-unread.reader)
+    (g.W.Writer.contents c.args.writer.now) (g.W.Writer.contents c.loop-unread.writer)
+    (g.R.Reader.failures c.args.reader.now) (g.R.Reader.failures c.loop-unread.reader)
+    (g.W.Writer.failures c.args.writer.now) (g.W.Writer.failures c.loop-unread.writer) c.loop-unread.kept.items
+    c.loop-unread.content c.loop-unread.stream.output c.loop-unread.stream.session at.flows c.requires.unspoilt
 
 pub read_more-requires-clause-sized : goal.read_more-requires-clause-sized
 read_more-requires-clause-sized g c =
@@ -54,11 +74,17 @@ read_more-requires-clause-sized g c =
     let p = c.args.plan.now.period in
     let j = c.args.plan.now.blocking in
     let d = c.args.content in
-    let can = can_flow n c.args.plan.now c.args.table.now c.requires.table c.requires.plan c.nets_have_periods.ensures d c.args.frames c.args.output
-    c.of_net-exchange.result c.of_net-exchange.ensures.value c.of_net-exchange.ensures.limits c.requires.owed c.runs_go_on.ensures c.requires.sound c.requires.unread c.requires.known in
+    let can = can_flow n c.args.plan.now c.args.table.now c.requires.table c.requires.plan c.nets_have_periods.ensures d
+    c.args.frames c.args.output
+    c.of_net-exchange.result c.of_net-exchange.ensures.value c.of_net-exchange.ensures.limits c.requires.owed
+    c.runs_go_on.ensures c.requires.sound c.requires.unread c.requires.known in
     let at = c.loop-unread.invariant in
-    sized n p j d c.args.frames c.args.output.missing can c.loop-unread.unread at.within (g.R.Reader.remaining c.args.reader.now) (g.R.Reader.remaining c.loop-unread.reader) (g.W.Writer.contents c.args.writer.now) (g.W.Writer.contents c.loop-unread.writer)
-    (g.R.Reader.failures c.args.reader.now) (g.R.Reader.failures c.loop-unread.reader) (g.W.Writer.failures c.args.writer.now) (g.W.Writer.failures c.loop-unread.writer) c.loop-unread.kept.items c.loop-unread.content c.loop-unread.stream.output c.loop-unread.stream.session at.flows
+    sized n p j d c.args.frames c.args.output.missing can c.loop-unread.unread at.within
+    (g.R.Reader.remaining c.args.reader.now) (g.R.Reader.remaining c.loop-unread.reader)
+    (g.W.Writer.contents c.args.writer.now) (g.W.Writer.contents c.loop-unread.writer)
+    (g.R.Reader.failures c.args.reader.now) (g.R.Reader.failures c.loop-unread.reader)
+    (g.W.Writer.failures c.args.writer.now) (g.W.Writer.failures c.loop-unread.writer) c.loop-unread.kept.items
+    c.loop-unread.content c.loop-unread.stream.output c.loop-unread.stream.session at.flows
 
 pub read_more-requires-clause-enough : goal.read_more-requires-clause-enough
 read_more-requires-clause-enough g c =
@@ -66,11 +92,18 @@ read_more-requires-clause-enough g c =
     let p = c.args.plan.now.period in
     let j = c.args.plan.now.blocking in
     let d = c.args.content in
-    let can = can_flow n c.args.plan.now c.args.table.now c.requires.table c.requires.plan c.nets_have_periods.ensures d c.args.frames c.args.output
-    c.of_net-exchange.result c.of_net-exchange.ensures.value c.of_net-exchange.ensures.limits c.requires.owed c.runs_go_on.ensures c.requires.sound c.requires.unread c.requires.known in
+    let can = can_flow n c.args.plan.now c.args.table.now c.requires.table c.requires.plan c.nets_have_periods.ensures d
+    c.args.frames c.args.output
+    c.of_net-exchange.result c.of_net-exchange.ensures.value c.of_net-exchange.ensures.limits c.requires.owed
+    c.runs_go_on.ensures c.requires.sound c.requires.unread c.requires.known in
     let at = c.loop-unread.invariant in
-    asks_enough n p j d c.args.frames c.args.output.missing can c.loop-unread.unread at.within (g.R.Reader.remaining c.args.reader.now) (g.R.Reader.remaining c.loop-unread.reader) (g.W.Writer.contents c.args.writer.now) (g.W.Writer.contents c.loop-unread.writer)
-    (g.R.Reader.failures c.args.reader.now) (g.R.Reader.failures c.loop-unread.reader) (g.W.Writer.failures c.args.writer.now) (g.W.Writer.failures c.loop-unread.writer) c.loop-unread.kept.items c.loop-unread.content c.loop-unread.stream.output c.loop-unread.stream.session at.flows c.min-many.result (search rules)
+    asks_enough n p j d c.args.frames c.args.output.missing can c.loop-unread.unread at.within
+    (g.R.Reader.remaining c.args.reader.now) (g.R.Reader.remaining c.loop-unread.reader)
+    (g.W.Writer.contents c.args.writer.now) (g.W.Writer.contents c.loop-unread.writer)
+    (g.R.Reader.failures c.args.reader.now) (g.R.Reader.failures c.loop-unread.reader)
+    (g.W.Writer.failures c.args.writer.now) (g.W.Writer.failures c.loop-unread.writer) c.loop-unread.kept.items
+    c.loop-unread.content c.loop-unread.stream.output c.loop-unread.stream.session at.flows
+    c.min-many.result (search rules)
 
 pub returns-in_err-samples : goal.returns-in_err-samples
 returns-in_err-samples g c =
@@ -78,15 +111,27 @@ returns-in_err-samples g c =
     let p = c.args.plan.now.period in
     let j = c.args.plan.now.blocking in
     let d = c.args.content in
-    let can = can_flow n c.args.plan.now c.args.table.now c.requires.table c.requires.plan c.nets_have_periods.ensures d c.args.frames c.args.output
-    c.of_net-exchange.result c.of_net-exchange.ensures.value c.of_net-exchange.ensures.limits c.requires.owed c.runs_go_on.ensures c.requires.sound c.requires.unread c.requires.known in
+    let can = can_flow n c.args.plan.now c.args.table.now c.requires.table c.requires.plan c.nets_have_periods.ensures d
+    c.args.frames c.args.output
+    c.of_net-exchange.result c.of_net-exchange.ensures.value c.of_net-exchange.ensures.limits c.requires.owed
+    c.runs_go_on.ensures c.requires.sound c.requires.unread c.requires.known in
     let at = c.loop-unread.invariant in
-    run_fails (λ (r : Result (Unit {0}) Fault). Streams c.args.net.now c.args.plan.now.period.repetitions c.args.content (g.R.Reader.remaining c.args.reader.now) (g.R.Reader.remaining c.read_more.new.reader) (g.W.Writer.contents c.args.writer.now) (g.W.Writer.contents c.loop-unread.writer)
-    (g.R.Reader.failures c.args.reader.now) (g.R.Reader.failures c.read_more.new.reader) (g.W.Writer.failures c.args.writer.now) (g.W.Writer.failures c.loop-unread.writer) r)
+    run_fails (λ (r : Result (Unit {0}) Fault). Streams c.args.net.now c.args.plan.now.period.repetitions c.args.content
+    (g.R.Reader.remaining c.args.reader.now) (g.R.Reader.remaining c.read_more.new.reader)
+    (g.W.Writer.contents c.args.writer.now) (g.W.Writer.contents c.loop-unread.writer)
+    (g.R.Reader.failures c.args.reader.now) (g.R.Reader.failures c.read_more.new.reader)
+    (g.W.Writer.failures c.args.writer.now) (g.W.Writer.failures c.loop-unread.writer) r)
     c.in_err-samples.field-0.0 c.from_residual-in_err-samples.result c.from_residual-in_err-samples.ensures.1
-    (reading_failed n p j d c.args.frames c.args.output.missing can c.loop-unread.unread at.within (g.R.Reader.remaining c.args.reader.now) (g.R.Reader.remaining c.loop-unread.reader) (g.W.Writer.contents c.args.writer.now) (g.W.Writer.contents c.loop-unread.writer)
-    (g.R.Reader.failures c.args.reader.now) (g.R.Reader.failures c.loop-unread.reader) (g.W.Writer.failures c.args.writer.now) (g.W.Writer.failures c.loop-unread.writer) c.loop-unread.kept.items c.loop-unread.content c.loop-unread.stream.output c.loop-unread.stream.session at.flows (g.R.Reader.remaining c.read_more.new.reader) (g.R.Reader.failures c.read_more.new.reader) c.in_err-samples.field-0.0 c.in_err-samples.field-0.0 refl
-    (c.in_err-samples.ensures d at.flows.samples (g.R.Reader.remaining c.args.reader.now) (g.R.Reader.failures c.args.reader.now) at.flows.content_is at.flows.read at.flows.reader))
+    (reading_failed n p j d c.args.frames c.args.output.missing can c.loop-unread.unread at.within
+    (g.R.Reader.remaining c.args.reader.now) (g.R.Reader.remaining c.loop-unread.reader)
+    (g.W.Writer.contents c.args.writer.now) (g.W.Writer.contents c.loop-unread.writer)
+    (g.R.Reader.failures c.args.reader.now) (g.R.Reader.failures c.loop-unread.reader)
+    (g.W.Writer.failures c.args.writer.now) (g.W.Writer.failures c.loop-unread.writer) c.loop-unread.kept.items
+    c.loop-unread.content c.loop-unread.stream.output c.loop-unread.stream.session at.flows
+    (g.R.Reader.remaining c.read_more.new.reader) (g.R.Reader.failures c.read_more.new.reader)
+    c.in_err-samples.field-0.0 c.in_err-samples.field-0.0 refl
+    (c.in_err-samples.ensures d at.flows.samples (g.R.Reader.remaining c.args.reader.now)
+    (g.R.Reader.failures c.args.reader.now) at.flows.content_is at.flows.read at.flows.reader))
 
 pub put_whole-requires-clause-ready : goal.put_whole-requires-clause-ready
 put_whole-requires-clause-ready g c κs within = (c.args.net.now, c.args.plan.now.period, c.loop-unread.invariant.ready)
@@ -97,14 +142,22 @@ put_whole-requires-clause-whole g c κs within =
     let p = c.args.plan.now.period in
     let j = c.args.plan.now.blocking in
     let d = c.args.content in
-    let can = can_flow n c.args.plan.now c.args.table.now c.requires.table c.requires.plan c.nets_have_periods.ensures d c.args.frames c.args.output
-    c.of_net-exchange.result c.of_net-exchange.ensures.value c.of_net-exchange.ensures.limits c.requires.owed c.runs_go_on.ensures c.requires.sound c.requires.unread c.requires.known in
+    let can = can_flow n c.args.plan.now c.args.table.now c.requires.table c.requires.plan c.nets_have_periods.ensures d
+    c.args.frames c.args.output
+    c.of_net-exchange.result c.of_net-exchange.ensures.value c.of_net-exchange.ensures.limits c.requires.owed
+    c.runs_go_on.ensures c.requires.sound c.requires.unread c.requires.known in
     let at = c.loop-unread.invariant in
     subst (λ k. length c.in_ok-samples.samples.items % k ≡ 0) (sym c.channels-channels.ensures.value)
-    (held_whole n p j d c.args.frames c.args.output.missing can c.loop-unread.unread at.within (g.R.Reader.remaining c.args.reader.now) (g.R.Reader.remaining c.loop-unread.reader) (g.W.Writer.contents c.args.writer.now) (g.W.Writer.contents c.loop-unread.writer)
-    (g.R.Reader.failures c.args.reader.now) (g.R.Reader.failures c.loop-unread.reader) (g.W.Writer.failures c.args.writer.now) (g.W.Writer.failures c.loop-unread.writer) c.loop-unread.kept.items c.loop-unread.content c.loop-unread.stream.output c.loop-unread.stream.session at.flows
-    c.min-many.result (search rules) (g.R.Reader.remaining c.read_more.new.reader) (g.R.Reader.failures c.read_more.new.reader) c.read_more.new.content c.in_ok-samples.samples.items
-    (c.in_ok-samples.ensures d at.flows.samples (g.R.Reader.remaining c.args.reader.now) (g.R.Reader.failures c.args.reader.now) at.flows.content_is at.flows.read at.flows.reader))
+    (held_whole n p j d c.args.frames c.args.output.missing can c.loop-unread.unread at.within
+    (g.R.Reader.remaining c.args.reader.now) (g.R.Reader.remaining c.loop-unread.reader)
+    (g.W.Writer.contents c.args.writer.now) (g.W.Writer.contents c.loop-unread.writer)
+    (g.R.Reader.failures c.args.reader.now) (g.R.Reader.failures c.loop-unread.reader)
+    (g.W.Writer.failures c.args.writer.now) (g.W.Writer.failures c.loop-unread.writer) c.loop-unread.kept.items
+    c.loop-unread.content c.loop-unread.stream.output c.loop-unread.stream.session at.flows
+    c.min-many.result (search rules) (g.R.Reader.remaining c.read_more.new.reader)
+    (g.R.Reader.failures c.read_more.new.reader) c.read_more.new.content c.in_ok-samples.samples.items
+    (c.in_ok-samples.ensures d at.flows.samples (g.R.Reader.remaining c.args.reader.now)
+    (g.R.Reader.failures c.args.reader.now) at.flows.content_is at.flows.read at.flows.reader))
 
 pub put_whole-requires-clause-few : goal.put_whole-requires-clause-few
 put_whole-requires-clause-few g c κs within =
@@ -112,13 +165,21 @@ put_whole-requires-clause-few g c κs within =
     let p = c.args.plan.now.period in
     let j = c.args.plan.now.blocking in
     let d = c.args.content in
-    let can = can_flow n c.args.plan.now c.args.table.now c.requires.table c.requires.plan c.nets_have_periods.ensures d c.args.frames c.args.output
-    c.of_net-exchange.result c.of_net-exchange.ensures.value c.of_net-exchange.ensures.limits c.requires.owed c.runs_go_on.ensures c.requires.sound c.requires.unread c.requires.known in
+    let can = can_flow n c.args.plan.now c.args.table.now c.requires.table c.requires.plan c.nets_have_periods.ensures d
+    c.args.frames c.args.output
+    c.of_net-exchange.result c.of_net-exchange.ensures.value c.of_net-exchange.ensures.limits c.requires.owed
+    c.runs_go_on.ensures c.requires.sound c.requires.unread c.requires.known in
     let at = c.loop-unread.invariant in
-    held_few n p j d c.args.frames c.args.output.missing can c.loop-unread.unread at.within (g.R.Reader.remaining c.args.reader.now) (g.R.Reader.remaining c.loop-unread.reader) (g.W.Writer.contents c.args.writer.now) (g.W.Writer.contents c.loop-unread.writer)
-    (g.R.Reader.failures c.args.reader.now) (g.R.Reader.failures c.loop-unread.reader) (g.W.Writer.failures c.args.writer.now) (g.W.Writer.failures c.loop-unread.writer) c.loop-unread.kept.items c.loop-unread.content c.loop-unread.stream.output c.loop-unread.stream.session at.flows
-    c.min-many.result (search rules) (g.R.Reader.remaining c.read_more.new.reader) (g.R.Reader.failures c.read_more.new.reader) c.read_more.new.content c.in_ok-samples.samples.items
-    (c.in_ok-samples.ensures d at.flows.samples (g.R.Reader.remaining c.args.reader.now) (g.R.Reader.failures c.args.reader.now) at.flows.content_is at.flows.read at.flows.reader)
+    held_few n p j d c.args.frames c.args.output.missing can c.loop-unread.unread at.within
+    (g.R.Reader.remaining c.args.reader.now) (g.R.Reader.remaining c.loop-unread.reader)
+    (g.W.Writer.contents c.args.writer.now) (g.W.Writer.contents c.loop-unread.writer)
+    (g.R.Reader.failures c.args.reader.now) (g.R.Reader.failures c.loop-unread.reader)
+    (g.W.Writer.failures c.args.writer.now) (g.W.Writer.failures c.loop-unread.writer) c.loop-unread.kept.items
+    c.loop-unread.content c.loop-unread.stream.output c.loop-unread.stream.session at.flows
+    c.min-many.result (search rules) (g.R.Reader.remaining c.read_more.new.reader)
+    (g.R.Reader.failures c.read_more.new.reader) c.read_more.new.content c.in_ok-samples.samples.items
+    (c.in_ok-samples.ensures d at.flows.samples (g.R.Reader.remaining c.args.reader.now)
+    (g.R.Reader.failures c.args.reader.now) at.flows.content_is at.flows.read at.flows.reader)
 
 pub put_whole-requires-clause-missing : goal.put_whole-requires-clause-missing
 put_whole-requires-clause-missing g c κs within =
@@ -126,17 +187,26 @@ put_whole-requires-clause-missing g c κs within =
     let p = c.args.plan.now.period in
     let j = c.args.plan.now.blocking in
     let d = c.args.content in
-    let can = can_flow n c.args.plan.now c.args.table.now c.requires.table c.requires.plan c.nets_have_periods.ensures d c.args.frames c.args.output
-    c.of_net-exchange.result c.of_net-exchange.ensures.value c.of_net-exchange.ensures.limits c.requires.owed c.runs_go_on.ensures c.requires.sound c.requires.unread c.requires.known in
+    let can = can_flow n c.args.plan.now c.args.table.now c.requires.table c.requires.plan c.nets_have_periods.ensures d
+    c.args.frames c.args.output
+    c.of_net-exchange.result c.of_net-exchange.ensures.value c.of_net-exchange.ensures.limits c.requires.owed
+    c.runs_go_on.ensures c.requires.sound c.requires.unread c.requires.known in
     let at = c.loop-unread.invariant in
     λ periods there.
     subst (λ y. periods * y.made ≤ c.loop-unread.stream.output.missing) (sym at.ready.exchange)
-    (held_missing n p j d c.args.frames c.args.output.missing can c.loop-unread.unread at.within (g.R.Reader.remaining c.args.reader.now) (g.R.Reader.remaining c.loop-unread.reader) (g.W.Writer.contents c.args.writer.now) (g.W.Writer.contents c.loop-unread.writer)
-    (g.R.Reader.failures c.args.reader.now) (g.R.Reader.failures c.loop-unread.reader) (g.W.Writer.failures c.args.writer.now) (g.W.Writer.failures c.loop-unread.writer) c.loop-unread.kept.items c.loop-unread.content c.loop-unread.stream.output c.loop-unread.stream.session at.flows
-    c.min-many.result (search rules) (g.R.Reader.remaining c.read_more.new.reader) (g.R.Reader.failures c.read_more.new.reader) c.read_more.new.content c.in_ok-samples.samples.items
-    (c.in_ok-samples.ensures d at.flows.samples (g.R.Reader.remaining c.args.reader.now) (g.R.Reader.failures c.args.reader.now) at.flows.content_is at.flows.read at.flows.reader)
+    (held_missing n p j d c.args.frames c.args.output.missing can c.loop-unread.unread at.within
+    (g.R.Reader.remaining c.args.reader.now) (g.R.Reader.remaining c.loop-unread.reader)
+    (g.W.Writer.contents c.args.writer.now) (g.W.Writer.contents c.loop-unread.writer)
+    (g.R.Reader.failures c.args.reader.now) (g.R.Reader.failures c.loop-unread.reader)
+    (g.W.Writer.failures c.args.writer.now) (g.W.Writer.failures c.loop-unread.writer) c.loop-unread.kept.items
+    c.loop-unread.content c.loop-unread.stream.output c.loop-unread.stream.session at.flows
+    c.min-many.result (search rules) (g.R.Reader.remaining c.read_more.new.reader)
+    (g.R.Reader.failures c.read_more.new.reader) c.read_more.new.content c.in_ok-samples.samples.items
+    (c.in_ok-samples.ensures d at.flows.samples (g.R.Reader.remaining c.args.reader.now)
+    (g.R.Reader.failures c.args.reader.now) at.flows.content_is at.flows.read at.flows.reader)
     periods (subst (λ y. periods * y.taken * d.channels ≤ length c.in_ok-samples.samples.items) at.ready.exchange
-    (subst (λ k. periods * c.loop-unread.stream.exchange.taken * k ≤ length c.in_ok-samples.samples.items) c.channels-channels.ensures.value there)))
+    (subst (λ k. periods * c.loop-unread.stream.exchange.taken * k ≤ length c.in_ok-samples.samples.items)
+    c.channels-channels.ensures.value there)))
 
 pub returns-in_err-kept : goal.returns-in_err-kept
 returns-in_err-kept g c =
@@ -144,29 +214,62 @@ returns-in_err-kept g c =
     let p = c.args.plan.now.period in
     let j = c.args.plan.now.blocking in
     let d = c.args.content in
-    let can = can_flow n c.args.plan.now c.args.table.now c.requires.table c.requires.plan c.nets_have_periods.ensures d c.args.frames c.args.output
-    c.of_net-exchange.result c.of_net-exchange.ensures.value c.of_net-exchange.ensures.limits c.requires.owed c.runs_go_on.ensures c.requires.sound c.requires.unread c.requires.known in
+    let can = can_flow n c.args.plan.now c.args.table.now c.requires.table c.requires.plan c.nets_have_periods.ensures d
+    c.args.frames c.args.output
+    c.of_net-exchange.result c.of_net-exchange.ensures.value c.of_net-exchange.ensures.limits c.requires.owed
+    c.runs_go_on.ensures c.requires.sound c.requires.unread c.requires.known in
     let at = c.loop-unread.invariant in
-    let more = c.in_ok-samples.ensures d at.flows.samples (g.R.Reader.remaining c.args.reader.now) (g.R.Reader.failures c.args.reader.now) at.flows.content_is at.flows.read at.flows.reader in
-    run_fails (λ (r : Result (Unit {0}) Fault). Streams c.args.net.now c.args.plan.now.period.repetitions c.args.content (g.R.Reader.remaining c.args.reader.now) (g.R.Reader.remaining c.read_more.new.reader) (g.W.Writer.contents c.args.writer.now) (g.W.Writer.contents c.put_whole.new.writer)
-    (g.R.Reader.failures c.args.reader.now) (g.R.Reader.failures c.read_more.new.reader) (g.W.Writer.failures c.args.writer.now) (g.W.Writer.failures c.put_whole.new.writer) r)
+    let more = c.in_ok-samples.ensures d at.flows.samples (g.R.Reader.remaining c.args.reader.now)
+    (g.R.Reader.failures c.args.reader.now) at.flows.content_is at.flows.read at.flows.reader in
+    run_fails (λ (r : Result (Unit {0}) Fault). Streams c.args.net.now c.args.plan.now.period.repetitions c.args.content
+    (g.R.Reader.remaining c.args.reader.now) (g.R.Reader.remaining c.read_more.new.reader)
+    (g.W.Writer.contents c.args.writer.now) (g.W.Writer.contents c.put_whole.new.writer)
+    (g.R.Reader.failures c.args.reader.now) (g.R.Reader.failures c.read_more.new.reader)
+    (g.W.Writer.failures c.args.writer.now) (g.W.Writer.failures c.put_whole.new.writer) r)
     c.in_err-kept.field-0.0 c.from_residual-in_err-kept.result c.from_residual-in_err-kept.ensures.1
-    (putting_failed n p j d c.args.frames c.args.output.missing can c.loop-unread.unread at.within (g.R.Reader.remaining c.args.reader.now) (g.R.Reader.remaining c.loop-unread.reader) (g.W.Writer.contents c.args.writer.now) (g.W.Writer.contents c.loop-unread.writer)
-    (g.R.Reader.failures c.args.reader.now) (g.R.Reader.failures c.loop-unread.reader) (g.W.Writer.failures c.args.writer.now) (g.W.Writer.failures c.loop-unread.writer) c.loop-unread.kept.items c.loop-unread.content c.loop-unread.stream.output c.loop-unread.stream.session at.flows
-    c.min-many.result (search rules) (g.R.Reader.remaining c.read_more.new.reader) (g.R.Reader.failures c.read_more.new.reader) c.read_more.new.content c.in_ok-samples.samples.items
-    (c.in_ok-samples.ensures d at.flows.samples (g.R.Reader.remaining c.args.reader.now) (g.R.Reader.failures c.args.reader.now) at.flows.content_is at.flows.read at.flows.reader)
-    (g.W.Writer.contents c.put_whole.new.writer) (g.W.Writer.failures c.put_whole.new.writer) c.put_whole.new.self.output c.put_whole.new.self.session c.in_err-kept.field-0.0 c.in_err-kept.field-0.0 refl
-    (subst (λ k. PutsWhole n p k d (at.flows.samples ++ more.0) at.flows.few at.flows.bytes (g.W.Writer.contents c.loop-unread.writer) (g.W.Writer.contents c.put_whole.new.writer) (g.W.Writer.failures c.loop-unread.writer) (g.W.Writer.failures c.put_whole.new.writer)
-    c.loop-unread.stream.output c.put_whole.new.self.output c.put_whole.new.self.session (Err c.in_err-kept.field-0.0)) at.blocking
-    (c.in_err-kept.ensures.puts n p d (at.flows.samples ++ more.0) at.flows.few at.flows.bytes at.ready (sym c.channels-channels.ensures.value)
-    (subst (λ k. StandsWhole n p k (sound_read d (at.flows.samples ++ more.0)) at.flows.few at.flows.bytes c.loop-unread.stream.session) (sym at.blocking) (stands_held n p j d c.args.frames c.args.output.missing can c.loop-unread.unread at.within (g.R.Reader.remaining c.args.reader.now) (g.R.Reader.remaining c.loop-unread.reader) (g.W.Writer.contents c.args.writer.now) (g.W.Writer.contents c.loop-unread.writer)
-    (g.R.Reader.failures c.args.reader.now) (g.R.Reader.failures c.loop-unread.reader) (g.W.Writer.failures c.args.writer.now) (g.W.Writer.failures c.loop-unread.writer) c.loop-unread.kept.items c.loop-unread.content c.loop-unread.stream.output c.loop-unread.stream.session at.flows
-    c.min-many.result (search rules) (g.R.Reader.remaining c.read_more.new.reader) (g.R.Reader.failures c.read_more.new.reader) c.read_more.new.content c.in_ok-samples.samples.items
-    (c.in_ok-samples.ensures d at.flows.samples (g.R.Reader.remaining c.args.reader.now) (g.R.Reader.failures c.args.reader.now) at.flows.content_is at.flows.read at.flows.reader)))
-    (subst (λ k. AreBehind (exchange_of n p.repetitions) d (at.flows.samples ++ more.0) (at.flows.few * k) c.in_ok-samples.samples.items) (sym at.blocking) (behind_held n p j d c.args.frames c.args.output.missing can c.loop-unread.unread at.within (g.R.Reader.remaining c.args.reader.now) (g.R.Reader.remaining c.loop-unread.reader) (g.W.Writer.contents c.args.writer.now) (g.W.Writer.contents c.loop-unread.writer)
-    (g.R.Reader.failures c.args.reader.now) (g.R.Reader.failures c.loop-unread.reader) (g.W.Writer.failures c.args.writer.now) (g.W.Writer.failures c.loop-unread.writer) c.loop-unread.kept.items c.loop-unread.content c.loop-unread.stream.output c.loop-unread.stream.session at.flows
-    c.min-many.result (search rules) (g.R.Reader.remaining c.read_more.new.reader) (g.R.Reader.failures c.read_more.new.reader) c.read_more.new.content c.in_ok-samples.samples.items
-    (c.in_ok-samples.ensures d at.flows.samples (g.R.Reader.remaining c.args.reader.now) (g.R.Reader.failures c.args.reader.now) at.flows.content_is at.flows.read at.flows.reader))))))
+    (putting_failed n p j d c.args.frames c.args.output.missing can c.loop-unread.unread at.within
+    (g.R.Reader.remaining c.args.reader.now) (g.R.Reader.remaining c.loop-unread.reader)
+    (g.W.Writer.contents c.args.writer.now) (g.W.Writer.contents c.loop-unread.writer)
+    (g.R.Reader.failures c.args.reader.now) (g.R.Reader.failures c.loop-unread.reader)
+    (g.W.Writer.failures c.args.writer.now) (g.W.Writer.failures c.loop-unread.writer) c.loop-unread.kept.items
+    c.loop-unread.content c.loop-unread.stream.output c.loop-unread.stream.session at.flows
+    c.min-many.result (search rules) (g.R.Reader.remaining c.read_more.new.reader)
+    (g.R.Reader.failures c.read_more.new.reader) c.read_more.new.content c.in_ok-samples.samples.items
+    (c.in_ok-samples.ensures d at.flows.samples (g.R.Reader.remaining c.args.reader.now)
+    (g.R.Reader.failures c.args.reader.now) at.flows.content_is at.flows.read at.flows.reader)
+    (g.W.Writer.contents c.put_whole.new.writer) (g.W.Writer.failures c.put_whole.new.writer)
+    c.put_whole.new.self.output c.put_whole.new.self.session c.in_err-kept.field-0.0 c.in_err-kept.field-0.0 refl
+    (subst (λ k. PutsWhole n p k d (at.flows.samples ++ more.0) at.flows.few at.flows.bytes
+    (g.W.Writer.contents c.loop-unread.writer) (g.W.Writer.contents c.put_whole.new.writer)
+    (g.W.Writer.failures c.loop-unread.writer) (g.W.Writer.failures c.put_whole.new.writer)
+    c.loop-unread.stream.output c.put_whole.new.self.output c.put_whole.new.self.session
+    (Err c.in_err-kept.field-0.0)) at.blocking
+    (c.in_err-kept.ensures.puts n p d (at.flows.samples ++ more.0) at.flows.few at.flows.bytes at.ready
+    (sym c.channels-channels.ensures.value)
+    (subst (λ k. StandsWhole n p k (sound_read d (at.flows.samples ++ more.0)) at.flows.few at.flows.bytes
+    c.loop-unread.stream.session) (sym at.blocking)
+    (stands_held n p j d c.args.frames c.args.output.missing can c.loop-unread.unread at.within
+    (g.R.Reader.remaining c.args.reader.now) (g.R.Reader.remaining c.loop-unread.reader)
+    (g.W.Writer.contents c.args.writer.now) (g.W.Writer.contents c.loop-unread.writer)
+    (g.R.Reader.failures c.args.reader.now) (g.R.Reader.failures c.loop-unread.reader)
+    (g.W.Writer.failures c.args.writer.now) (g.W.Writer.failures c.loop-unread.writer) c.loop-unread.kept.items
+    c.loop-unread.content c.loop-unread.stream.output c.loop-unread.stream.session at.flows
+    c.min-many.result (search rules) (g.R.Reader.remaining c.read_more.new.reader)
+    (g.R.Reader.failures c.read_more.new.reader) c.read_more.new.content c.in_ok-samples.samples.items
+    (c.in_ok-samples.ensures d at.flows.samples (g.R.Reader.remaining c.args.reader.now)
+    (g.R.Reader.failures c.args.reader.now) at.flows.content_is at.flows.read at.flows.reader)))
+    (subst (λ k. AreBehind (exchange_of n p.repetitions) d (at.flows.samples ++ more.0) (at.flows.few * k)
+    c.in_ok-samples.samples.items) (sym at.blocking)
+    (behind_held n p j d c.args.frames c.args.output.missing can c.loop-unread.unread at.within
+    (g.R.Reader.remaining c.args.reader.now) (g.R.Reader.remaining c.loop-unread.reader)
+    (g.W.Writer.contents c.args.writer.now) (g.W.Writer.contents c.loop-unread.writer)
+    (g.R.Reader.failures c.args.reader.now) (g.R.Reader.failures c.loop-unread.reader)
+    (g.W.Writer.failures c.args.writer.now) (g.W.Writer.failures c.loop-unread.writer) c.loop-unread.kept.items
+    c.loop-unread.content c.loop-unread.stream.output c.loop-unread.stream.session at.flows
+    c.min-many.result (search rules) (g.R.Reader.remaining c.read_more.new.reader)
+    (g.R.Reader.failures c.read_more.new.reader) c.read_more.new.content c.in_ok-samples.samples.items
+    (c.in_ok-samples.ensures d at.flows.samples (g.R.Reader.remaining c.args.reader.now)
+    (g.R.Reader.failures c.args.reader.now) at.flows.content_is at.flows.read at.flows.reader))))))
 
 pub loop-unread-preserved : goal.loop-unread-preserved
 loop-unread-preserved g c =
@@ -174,31 +277,64 @@ loop-unread-preserved g c =
     let p = c.args.plan.now.period in
     let j = c.args.plan.now.blocking in
     let d = c.args.content in
-    let can = can_flow n c.args.plan.now c.args.table.now c.requires.table c.requires.plan c.nets_have_periods.ensures d c.args.frames c.args.output
-    c.of_net-exchange.result c.of_net-exchange.ensures.value c.of_net-exchange.ensures.limits c.requires.owed c.runs_go_on.ensures c.requires.sound c.requires.unread c.requires.known in
+    let can = can_flow n c.args.plan.now c.args.table.now c.requires.table c.requires.plan c.nets_have_periods.ensures d
+    c.args.frames c.args.output
+    c.of_net-exchange.result c.of_net-exchange.ensures.value c.of_net-exchange.ensures.limits c.requires.owed
+    c.runs_go_on.ensures c.requires.sound c.requires.unread c.requires.known in
     let at = c.loop-unread.invariant in
-    let more = c.in_ok-samples.ensures d at.flows.samples (g.R.Reader.remaining c.args.reader.now) (g.R.Reader.failures c.args.reader.now) at.flows.content_is at.flows.read at.flows.reader in
+    let more = c.in_ok-samples.ensures d at.flows.samples (g.R.Reader.remaining c.args.reader.now)
+    (g.R.Reader.failures c.args.reader.now) at.flows.content_is at.flows.read at.flows.reader in
     let ready = c.in_ok-kept.ensures.ready n p at.ready in
     record {
       within = search rules;
       ready = ready.0;
       blocking = ready.1 ∙ at.blocking;
-      flows = flows_on n p j d c.args.frames c.args.output.missing can c.loop-unread.unread at.within (g.R.Reader.remaining c.args.reader.now) (g.R.Reader.remaining c.loop-unread.reader) (g.W.Writer.contents c.args.writer.now) (g.W.Writer.contents c.loop-unread.writer)
-          (g.R.Reader.failures c.args.reader.now) (g.R.Reader.failures c.loop-unread.reader) (g.W.Writer.failures c.args.writer.now) (g.W.Writer.failures c.loop-unread.writer) c.loop-unread.kept.items c.loop-unread.content c.loop-unread.stream.output c.loop-unread.stream.session at.flows
-          c.min-many.result (search rules) (g.R.Reader.remaining c.read_more.new.reader) (g.R.Reader.failures c.read_more.new.reader) c.read_more.new.content c.in_ok-samples.samples.items
-          (c.in_ok-samples.ensures d at.flows.samples (g.R.Reader.remaining c.args.reader.now) (g.R.Reader.failures c.args.reader.now) at.flows.content_is at.flows.read at.flows.reader)
-          (g.W.Writer.contents c.put_whole.new.writer) (g.W.Writer.failures c.put_whole.new.writer) c.put_whole.new.self.output c.put_whole.new.self.session c.in_ok-kept.kept.items
-          (subst (λ k. PutsWhole n p k d (at.flows.samples ++ more.0) at.flows.few at.flows.bytes (g.W.Writer.contents c.loop-unread.writer) (g.W.Writer.contents c.put_whole.new.writer) (g.W.Writer.failures c.loop-unread.writer) (g.W.Writer.failures c.put_whole.new.writer)
-          c.loop-unread.stream.output c.put_whole.new.self.output c.put_whole.new.self.session (Ok c.in_ok-kept.kept.items)) at.blocking
-          (c.in_ok-kept.ensures.puts n p d (at.flows.samples ++ more.0) at.flows.few at.flows.bytes at.ready (sym c.channels-channels.ensures.value)
-          (subst (λ k. StandsWhole n p k (sound_read d (at.flows.samples ++ more.0)) at.flows.few at.flows.bytes c.loop-unread.stream.session) (sym at.blocking) (stands_held n p j d c.args.frames c.args.output.missing can c.loop-unread.unread at.within (g.R.Reader.remaining c.args.reader.now) (g.R.Reader.remaining c.loop-unread.reader) (g.W.Writer.contents c.args.writer.now) (g.W.Writer.contents c.loop-unread.writer)
-          (g.R.Reader.failures c.args.reader.now) (g.R.Reader.failures c.loop-unread.reader) (g.W.Writer.failures c.args.writer.now) (g.W.Writer.failures c.loop-unread.writer) c.loop-unread.kept.items c.loop-unread.content c.loop-unread.stream.output c.loop-unread.stream.session at.flows
-          c.min-many.result (search rules) (g.R.Reader.remaining c.read_more.new.reader) (g.R.Reader.failures c.read_more.new.reader) c.read_more.new.content c.in_ok-samples.samples.items
-          (c.in_ok-samples.ensures d at.flows.samples (g.R.Reader.remaining c.args.reader.now) (g.R.Reader.failures c.args.reader.now) at.flows.content_is at.flows.read at.flows.reader)))
-          (subst (λ k. AreBehind (exchange_of n p.repetitions) d (at.flows.samples ++ more.0) (at.flows.few * k) c.in_ok-samples.samples.items) (sym at.blocking) (behind_held n p j d c.args.frames c.args.output.missing can c.loop-unread.unread at.within (g.R.Reader.remaining c.args.reader.now) (g.R.Reader.remaining c.loop-unread.reader) (g.W.Writer.contents c.args.writer.now) (g.W.Writer.contents c.loop-unread.writer)
-          (g.R.Reader.failures c.args.reader.now) (g.R.Reader.failures c.loop-unread.reader) (g.W.Writer.failures c.args.writer.now) (g.W.Writer.failures c.loop-unread.writer) c.loop-unread.kept.items c.loop-unread.content c.loop-unread.stream.output c.loop-unread.stream.session at.flows
-          c.min-many.result (search rules) (g.R.Reader.remaining c.read_more.new.reader) (g.R.Reader.failures c.read_more.new.reader) c.read_more.new.content c.in_ok-samples.samples.items
-          (c.in_ok-samples.ensures d at.flows.samples (g.R.Reader.remaining c.args.reader.now) (g.R.Reader.failures c.args.reader.now) at.flows.content_is at.flows.read at.flows.reader)))));
+      flows = flows_on n p j d c.args.frames c.args.output.missing can c.loop-unread.unread at.within
+          (g.R.Reader.remaining c.args.reader.now) (g.R.Reader.remaining c.loop-unread.reader)
+          (g.W.Writer.contents c.args.writer.now) (g.W.Writer.contents c.loop-unread.writer)
+          (g.R.Reader.failures c.args.reader.now) (g.R.Reader.failures c.loop-unread.reader)
+          (g.W.Writer.failures c.args.writer.now) (g.W.Writer.failures c.loop-unread.writer)
+          c.loop-unread.kept.items c.loop-unread.content c.loop-unread.stream.output
+          c.loop-unread.stream.session at.flows
+          c.min-many.result (search rules) (g.R.Reader.remaining c.read_more.new.reader)
+          (g.R.Reader.failures c.read_more.new.reader) c.read_more.new.content c.in_ok-samples.samples.items
+          (c.in_ok-samples.ensures d at.flows.samples (g.R.Reader.remaining c.args.reader.now)
+          (g.R.Reader.failures c.args.reader.now) at.flows.content_is at.flows.read at.flows.reader)
+          (g.W.Writer.contents c.put_whole.new.writer) (g.W.Writer.failures c.put_whole.new.writer)
+          c.put_whole.new.self.output c.put_whole.new.self.session c.in_ok-kept.kept.items
+          (subst (λ k. PutsWhole n p k d (at.flows.samples ++ more.0) at.flows.few at.flows.bytes
+          (g.W.Writer.contents c.loop-unread.writer) (g.W.Writer.contents c.put_whole.new.writer)
+          (g.W.Writer.failures c.loop-unread.writer) (g.W.Writer.failures c.put_whole.new.writer)
+          c.loop-unread.stream.output c.put_whole.new.self.output c.put_whole.new.self.session
+          (Ok c.in_ok-kept.kept.items)) at.blocking
+          (c.in_ok-kept.ensures.puts n p d (at.flows.samples ++ more.0) at.flows.few at.flows.bytes at.ready
+          (sym c.channels-channels.ensures.value)
+          (subst (λ k. StandsWhole n p k (sound_read d (at.flows.samples ++ more.0)) at.flows.few at.flows.bytes
+          c.loop-unread.stream.session) (sym at.blocking)
+          (stands_held n p j d c.args.frames c.args.output.missing can c.loop-unread.unread at.within
+          (g.R.Reader.remaining c.args.reader.now) (g.R.Reader.remaining c.loop-unread.reader)
+          (g.W.Writer.contents c.args.writer.now) (g.W.Writer.contents c.loop-unread.writer)
+          (g.R.Reader.failures c.args.reader.now) (g.R.Reader.failures c.loop-unread.reader)
+          (g.W.Writer.failures c.args.writer.now) (g.W.Writer.failures c.loop-unread.writer)
+          c.loop-unread.kept.items c.loop-unread.content c.loop-unread.stream.output
+          c.loop-unread.stream.session at.flows
+          c.min-many.result (search rules) (g.R.Reader.remaining c.read_more.new.reader)
+          (g.R.Reader.failures c.read_more.new.reader) c.read_more.new.content c.in_ok-samples.samples.items
+          (c.in_ok-samples.ensures d at.flows.samples (g.R.Reader.remaining c.args.reader.now)
+          (g.R.Reader.failures c.args.reader.now) at.flows.content_is at.flows.read at.flows.reader)))
+          (subst (λ k. AreBehind (exchange_of n p.repetitions) d (at.flows.samples ++ more.0) (at.flows.few * k)
+          c.in_ok-samples.samples.items) (sym at.blocking)
+          (behind_held n p j d c.args.frames c.args.output.missing can c.loop-unread.unread at.within
+          (g.R.Reader.remaining c.args.reader.now) (g.R.Reader.remaining c.loop-unread.reader)
+          (g.W.Writer.contents c.args.writer.now) (g.W.Writer.contents c.loop-unread.writer)
+          (g.R.Reader.failures c.args.reader.now) (g.R.Reader.failures c.loop-unread.reader)
+          (g.W.Writer.failures c.args.writer.now) (g.W.Writer.failures c.loop-unread.writer)
+          c.loop-unread.kept.items c.loop-unread.content c.loop-unread.stream.output
+          c.loop-unread.stream.session at.flows
+          c.min-many.result (search rules) (g.R.Reader.remaining c.read_more.new.reader)
+          (g.R.Reader.failures c.read_more.new.reader) c.read_more.new.content c.in_ok-samples.samples.items
+          (c.in_ok-samples.ensures d at.flows.samples (g.R.Reader.remaining c.args.reader.now)
+          (g.R.Reader.failures c.args.reader.now) at.flows.content_is at.flows.read at.flows.reader)))));
     }
 
 pub put_rest-requires-clause-ready : goal.put_rest-requires-clause-ready
@@ -210,12 +346,19 @@ put_rest-requires-clause-whole g c κs within =
     let p = c.args.plan.now.period in
     let j = c.args.plan.now.blocking in
     let d = c.args.content in
-    let can = can_flow n c.args.plan.now c.args.table.now c.requires.table c.requires.plan c.nets_have_periods.ensures d c.args.frames c.args.output
-    c.of_net-exchange.result c.of_net-exchange.ensures.value c.of_net-exchange.ensures.limits c.requires.owed c.runs_go_on.ensures c.requires.sound c.requires.unread c.requires.known in
+    let can = can_flow n c.args.plan.now c.args.table.now c.requires.table c.requires.plan c.nets_have_periods.ensures d
+    c.args.frames c.args.output
+    c.of_net-exchange.result c.of_net-exchange.ensures.value c.of_net-exchange.ensures.limits c.requires.owed
+    c.runs_go_on.ensures c.requires.sound c.requires.unread c.requires.known in
     let at = c.loop-unread.invariant in
     let end : c.loop-unread.unread ≡ 0 = search rules in
-    subst (λ k. length c.loop-unread.kept.items % k ≡ 0) (sym c.channels-channels.ensures.value) (kept_whole n p j d c.args.frames c.args.output.missing can c.loop-unread.unread at.within (g.R.Reader.remaining c.args.reader.now) (g.R.Reader.remaining c.loop-unread.reader) (g.W.Writer.contents c.args.writer.now) (g.W.Writer.contents c.loop-unread.writer)
-    (g.R.Reader.failures c.args.reader.now) (g.R.Reader.failures c.loop-unread.reader) (g.W.Writer.failures c.args.writer.now) (g.W.Writer.failures c.loop-unread.writer) c.loop-unread.kept.items c.loop-unread.content c.loop-unread.stream.output c.loop-unread.stream.session at.flows end)
+    subst (λ k. length c.loop-unread.kept.items % k ≡ 0) (sym c.channels-channels.ensures.value)
+    (kept_whole n p j d c.args.frames c.args.output.missing can c.loop-unread.unread at.within
+    (g.R.Reader.remaining c.args.reader.now) (g.R.Reader.remaining c.loop-unread.reader)
+    (g.W.Writer.contents c.args.writer.now) (g.W.Writer.contents c.loop-unread.writer)
+    (g.R.Reader.failures c.args.reader.now) (g.R.Reader.failures c.loop-unread.reader)
+    (g.W.Writer.failures c.args.writer.now) (g.W.Writer.failures c.loop-unread.writer) c.loop-unread.kept.items
+    c.loop-unread.content c.loop-unread.stream.output c.loop-unread.stream.session at.flows end)
 
 pub returns : goal.returns
 returns g c =
@@ -223,24 +366,50 @@ returns g c =
     let p = c.args.plan.now.period in
     let j = c.args.plan.now.blocking in
     let d = c.args.content in
-    let can = can_flow n c.args.plan.now c.args.table.now c.requires.table c.requires.plan c.nets_have_periods.ensures d c.args.frames c.args.output
-    c.of_net-exchange.result c.of_net-exchange.ensures.value c.of_net-exchange.ensures.limits c.requires.owed c.runs_go_on.ensures c.requires.sound c.requires.unread c.requires.known in
+    let can = can_flow n c.args.plan.now c.args.table.now c.requires.table c.requires.plan c.nets_have_periods.ensures d
+    c.args.frames c.args.output
+    c.of_net-exchange.result c.of_net-exchange.ensures.value c.of_net-exchange.ensures.limits c.requires.owed
+    c.runs_go_on.ensures c.requires.sound c.requires.unread c.requires.known in
     let at = c.loop-unread.invariant in
     let end : c.loop-unread.unread ≡ 0 = search rules in
     elim (cases_lt 0 c.loop-unread.stream.output.missing) [
-      | inl some ↦ ended n p j d c.args.frames c.args.output.missing can c.loop-unread.unread at.within (g.R.Reader.remaining c.args.reader.now) (g.R.Reader.remaining c.loop-unread.reader) (g.W.Writer.contents c.args.writer.now) (g.W.Writer.contents c.loop-unread.writer)
-          (g.R.Reader.failures c.args.reader.now) (g.R.Reader.failures c.loop-unread.reader) (g.W.Writer.failures c.args.writer.now) (g.W.Writer.failures c.loop-unread.writer) c.loop-unread.kept.items c.loop-unread.content c.loop-unread.stream.output c.loop-unread.stream.session at.flows end
-          (g.W.Writer.contents c.put_rest.new.writer) (g.W.Writer.failures c.put_rest.new.writer) c.put_rest.new.self.session c.put_rest.result (subst (λ k. PutsBlocks n p k (sound_read d at.flows.samples) at.flows.few 1 c.loop-unread.stream.output.missing at.flows.bytes (g.W.Writer.contents c.loop-unread.writer) (g.W.Writer.contents c.put_rest.new.writer)
-          (g.W.Writer.failures c.loop-unread.writer) (g.W.Writer.failures c.put_rest.new.writer) c.put_rest.new.self.session c.put_rest.result) at.blocking
-          (c.put_rest.ensures.puts some n p d at.flows.samples at.flows.few at.flows.bytes at.ready (sym c.channels-channels.ensures.value)
-          (subst (λ k. StandsWhole n p k (sound_read d at.flows.samples) at.flows.few at.flows.bytes c.loop-unread.stream.session) (sym at.blocking) at.flows.stands)
-          (subst (λ k. AreBehind (exchange_of n p.repetitions) d at.flows.samples (at.flows.few * k) c.loop-unread.kept.items) (sym at.blocking) at.flows.behind)))
+      | inl some ↦ ended n p j d c.args.frames c.args.output.missing can c.loop-unread.unread at.within
+          (g.R.Reader.remaining c.args.reader.now) (g.R.Reader.remaining c.loop-unread.reader)
+          (g.W.Writer.contents c.args.writer.now) (g.W.Writer.contents c.loop-unread.writer)
+          (g.R.Reader.failures c.args.reader.now) (g.R.Reader.failures c.loop-unread.reader)
+          (g.W.Writer.failures c.args.writer.now) (g.W.Writer.failures c.loop-unread.writer)
+          c.loop-unread.kept.items c.loop-unread.content c.loop-unread.stream.output
+          c.loop-unread.stream.session at.flows end
+          (g.W.Writer.contents c.put_rest.new.writer) (g.W.Writer.failures c.put_rest.new.writer)
+          c.put_rest.new.self.session c.put_rest.result
+          (subst (λ k. PutsBlocks n p k (sound_read d at.flows.samples) at.flows.few 1
+          c.loop-unread.stream.output.missing at.flows.bytes (g.W.Writer.contents c.loop-unread.writer)
+          (g.W.Writer.contents c.put_rest.new.writer)
+          (g.W.Writer.failures c.loop-unread.writer) (g.W.Writer.failures c.put_rest.new.writer)
+          c.put_rest.new.self.session c.put_rest.result) at.blocking
+          (c.put_rest.ensures.puts some n p d at.flows.samples at.flows.few at.flows.bytes at.ready
+          (sym c.channels-channels.ensures.value)
+          (subst (λ k. StandsWhole n p k (sound_read d at.flows.samples) at.flows.few at.flows.bytes
+          c.loop-unread.stream.session) (sym at.blocking) at.flows.stands)
+          (subst (λ k. AreBehind (exchange_of n p.repetitions) d at.flows.samples (at.flows.few * k)
+          c.loop-unread.kept.items) (sym at.blocking) at.flows.behind)))
       | inr none ↦
           let nothing = c.put_rest.ensures.none (omega (arith, none)) in
-          subst (λ r. Streams n p.repetitions d (g.R.Reader.remaining c.args.reader.now) (g.R.Reader.remaining c.loop-unread.reader) (g.W.Writer.contents c.args.writer.now) (g.W.Writer.contents c.put_rest.new.writer)
-          (g.R.Reader.failures c.args.reader.now) (g.R.Reader.failures c.loop-unread.reader) (g.W.Writer.failures c.args.writer.now) (g.W.Writer.failures c.put_rest.new.writer) r) (sym nothing.0)
-          (subst (λ y. Streams n p.repetitions d (g.R.Reader.remaining c.args.reader.now) (g.R.Reader.remaining c.loop-unread.reader) (g.W.Writer.contents c.args.writer.now) (g.W.Writer.contents y)
-          (g.R.Reader.failures c.args.reader.now) (g.R.Reader.failures c.loop-unread.reader) (g.W.Writer.failures c.args.writer.now) (g.W.Writer.failures y) (Ok tt)) (sym nothing.1)
-          (ended_whole n p j d c.args.frames c.args.output.missing can c.loop-unread.unread at.within (g.R.Reader.remaining c.args.reader.now) (g.R.Reader.remaining c.loop-unread.reader) (g.W.Writer.contents c.args.writer.now) (g.W.Writer.contents c.loop-unread.writer)
-          (g.R.Reader.failures c.args.reader.now) (g.R.Reader.failures c.loop-unread.reader) (g.W.Writer.failures c.args.writer.now) (g.W.Writer.failures c.loop-unread.writer) c.loop-unread.kept.items c.loop-unread.content c.loop-unread.stream.output c.loop-unread.stream.session at.flows end (omega (arith, none))))
+          subst (λ r. Streams n p.repetitions d (g.R.Reader.remaining c.args.reader.now)
+          (g.R.Reader.remaining c.loop-unread.reader) (g.W.Writer.contents c.args.writer.now)
+          (g.W.Writer.contents c.put_rest.new.writer)
+          (g.R.Reader.failures c.args.reader.now) (g.R.Reader.failures c.loop-unread.reader)
+          (g.W.Writer.failures c.args.writer.now) (g.W.Writer.failures c.put_rest.new.writer) r) (sym nothing.0)
+          (subst (λ y. Streams n p.repetitions d (g.R.Reader.remaining c.args.reader.now)
+          (g.R.Reader.remaining c.loop-unread.reader) (g.W.Writer.contents c.args.writer.now)
+          (g.W.Writer.contents y)
+          (g.R.Reader.failures c.args.reader.now) (g.R.Reader.failures c.loop-unread.reader)
+          (g.W.Writer.failures c.args.writer.now) (g.W.Writer.failures y) (Ok tt)) (sym nothing.1)
+          (ended_whole n p j d c.args.frames c.args.output.missing can c.loop-unread.unread at.within
+          (g.R.Reader.remaining c.args.reader.now) (g.R.Reader.remaining c.loop-unread.reader)
+          (g.W.Writer.contents c.args.writer.now) (g.W.Writer.contents c.loop-unread.writer)
+          (g.R.Reader.failures c.args.reader.now) (g.R.Reader.failures c.loop-unread.reader)
+          (g.W.Writer.failures c.args.writer.now) (g.W.Writer.failures c.loop-unread.writer)
+          c.loop-unread.kept.items c.loop-unread.content c.loop-unread.stream.output c.loop-unread.stream.session
+          at.flows end (omega (arith, none))))
     ]

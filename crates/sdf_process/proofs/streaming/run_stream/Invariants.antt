@@ -8,8 +8,10 @@ invariant-loop-unread g l = record {
   within : l.unread ≤ l.frames;
   ready : IsReady l.net l.plan.period l.stream;
   blocking : l.stream.blocking ≡ l.plan.blocking;
-  flows : Flows l.net l.plan.period l.plan.blocking l.initial.content l.frames l.initial.stream.output.missing l.unread (g.R.Reader.remaining l.initial.reader) (g.R.Reader.remaining l.reader)
-      (g.W.Writer.contents l.initial.writer) (g.W.Writer.contents l.writer) (g.R.Reader.failures l.initial.reader) (g.R.Reader.failures l.reader) (g.W.Writer.failures l.initial.writer) (g.W.Writer.failures l.writer)
+  flows : Flows l.net l.plan.period l.plan.blocking l.initial.content l.frames l.initial.stream.output.missing l.unread
+      (g.R.Reader.remaining l.initial.reader) (g.R.Reader.remaining l.reader)
+      (g.W.Writer.contents l.initial.writer) (g.W.Writer.contents l.writer) (g.R.Reader.failures l.initial.reader)
+      (g.R.Reader.failures l.reader) (g.W.Writer.failures l.initial.writer) (g.W.Writer.failures l.writer)
       l.kept.items l.content l.stream.output l.stream.session;
 }
 

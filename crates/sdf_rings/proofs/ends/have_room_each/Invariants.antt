@@ -5,6 +5,7 @@ use Rattle.sdf_rings.proofs.ends.have_room_each.Given as goal
 
 abbrev pub invariant-loop-i : goal.invariant-loop-i
 invariant-loop-i g l = record {
-  done : (k : ℕ) (d : _) → k < l.i → Gave (slice_index_or l.initial.ends k d) (slice_index_or l.ends k d) [] × ((slice_index l.sizes) k ≤ known_free (slice_index_or l.ends k d));
+  done : (k : ℕ) (d : _) → k < l.i → Gave (slice_index_or l.initial.ends k d) (slice_index_or l.ends k d) []
+      × ((slice_index l.sizes) k ≤ known_free (slice_index_or l.ends k d));
   rest : (k : ℕ) (d : _) → l.i ≤ k → slice_index_or l.ends k d ≡ slice_index_or l.initial.ends k d;
 }

@@ -5,6 +5,7 @@ use Rattle.sdf_rings.proofs.ends.hold_each.Given as goal
 
 abbrev pub invariant-loop-i : goal.invariant-loop-i
 invariant-loop-i g l = record {
-  done : (k : ℕ) (d : _) → k < l.i → Drew (slice_index_or l.initial.ends k d) (slice_index_or l.ends k d) [] × ((slice_index l.sizes) k ≤ length (known_items (slice_index_or l.ends k d)));
+  done : (k : ℕ) (d : _) → k < l.i → Drew (slice_index_or l.initial.ends k d) (slice_index_or l.ends k d) []
+      × ((slice_index l.sizes) k ≤ length (known_items (slice_index_or l.ends k d)));
   rest : (k : ℕ) (d : _) → l.i ≤ k → slice_index_or l.ends k d ≡ slice_index_or l.initial.ends k d;
 }

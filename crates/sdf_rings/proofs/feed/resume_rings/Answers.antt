@@ -8,24 +8,35 @@ use Rattle.sdf_actor.specs.Wires.{lists}
 use Rattle.sdf_answer.specs.Answer.{HasInputs, periods_of}
 use Rattle.sdf_answer.specs.Rows.{IsTableOf}
 use Rattle.sdf_answer.specs.declared.fault.RunFault.{RunFault}
-use Rattle.sdf_answer.specs.declared.fault.RunFault.TheVariants.{OutOfMemory, InputLength, NotHomed, Patience, NoWorker, SessionFailed}
+use Rattle.sdf_answer.specs.declared.fault.RunFault.TheVariants.{OutOfMemory, InputLength, NotHomed, Patience, NoWorker}
+use Rattle.sdf_answer.specs.declared.fault.RunFault.TheVariants.{SessionFailed}
 use Rattle.sdf_rings.specs.Outcome.{IsRingsFault}
 use Rattle.sdf_rings.proofs.feed.resume_rings.Goals as goal
 
 pub begun-requires-clause-rest : goal.begun-requires-clause-rest
 begun-requires-clause-rest g c κs within =
-    let q = c.args.period.now.repetitions in
-    (c.requires.rest.0, periods_of q c.requires.rest.1, c.begun_nets_go_on.ensures.whole c.args.net.now c.args.period.now c.requires.rest.1 (c.nets_have_periods.ensures c.args.period.now c.requires.period), c.requires.rest.2)
+    let q = c.args.period.now.repetitions in (
+      c.requires.rest.0,
+      periods_of q c.requires.rest.1,
+      c.begun_nets_go_on.ensures.whole c.args.net.now c.args.period.now c.requires.rest.1
+          (c.nets_have_periods.ensures c.args.period.now c.requires.period),
+      c.requires.rest.2,
+    )
 
 pub feed_rings-requires-clause-period : goal.feed_rings-requires-clause-period
-feed_rings-requires-clause-period g c κs within = subst (λ x. IsPeriodOf (rates x) c.args.period.now) (sym c.in_ok-begun.ensures.graph) c.requires.period
+feed_rings-requires-clause-period g c κs within =
+    subst (λ x. IsPeriodOf (rates x) c.args.period.now) (sym c.in_ok-begun.ensures.graph) c.requires.period
 
 pub feed_rings-requires-clause-table : goal.feed_rings-requires-clause-table
-feed_rings-requires-clause-table g c κs within = subst (λ x. IsTableOf (rates x) c.args.period.now.repetitions c.args.j c.args.table.now) (sym c.in_ok-begun.ensures.graph) c.requires.table
+feed_rings-requires-clause-table g c κs within =
+    subst (λ x. IsTableOf (rates x) c.args.period.now.repetitions c.args.j c.args.table.now)
+    (sym c.in_ok-begun.ensures.graph) c.requires.table
 
 -- a fault of the one net is one of the other, where they are given the same inputs
-fault_of : {A B T : Type 0} (m : Netlist B T) (n : Netlist A T) (q : List ℕ) (periods : ℕ) (inputs : List (List T)) (t : Tabled) (patience : ℕ) → (HasInputs n q periods inputs → HasInputs m q periods inputs) →
-    (fault : RunFault) → IsRingsFault m q periods inputs t patience fault → IsRingsFault n q periods inputs t patience fault
+fault_of : {A B T : Type 0} (m : Netlist B T) (n : Netlist A T) (q : List ℕ) (periods : ℕ) (inputs : List (List T))
+    (t : Tabled) (patience : ℕ) → (HasInputs n q periods inputs → HasInputs m q periods inputs) →
+    (fault : RunFault) → IsRingsFault m q periods inputs t patience fault →
+    IsRingsFault n q periods inputs t patience fault
 fault_of m n q periods inputs t patience back OutOfMemory h = tt
 fault_of m n q periods inputs t patience back InputLength h = (h.0, h.1, λ given. h.2 (back given))
 fault_of m n q periods inputs t patience back NotHomed h = h
@@ -46,7 +57,9 @@ returns g c =
     (λ fed made. record {
       homed = made.0.homed;
       patient = made.0.patient;
-      goes_on = c.begun_nets_go_on.ensures.runs n m c.args.period.now periods later (lists fed.0.outputs.items) c.args.rest.now fed.1 (c.nets_have_periods.ensures c.args.period.now c.requires.period) begins made.0.has made.1;
+      goes_on = c.begun_nets_go_on.ensures.runs n m c.args.period.now periods later (lists fed.0.outputs.items)
+          c.args.rest.now fed.1 (c.nets_have_periods.ensures c.args.period.now c.requires.period) begins
+          made.0.has made.1;
       rounds_few = made.0.rounds_few;
       rounds_some = made.0.rounds_some;
     })

@@ -15,11 +15,16 @@ loop-a-preserved g c =
     let outputs = c.collect_from.new.outputs in
     record {
       all = c.collect_from.auto.outputs ∙ was.all;
-      stands = stands_more n sinks c.args.seats.now c.args.places.now c.requires.placed c.loop-a.seats new a known was.stands was.rest c.collect_from.ensures.seats;
-      rest = rest_more n sinks c.args.seats.now c.args.places.now c.requires.placed c.loop-a.seats new a known was.stands was.rest c.collect_from.ensures.seats;
-      given = given_more n sinks c.args.seats.now c.args.places.now c.requires.placed c.loop-a.seats new a known was.stands was.rest c.collect_from.ensures.seats c.loop-a.outputs outputs
-          (λ e d. subst (λ x. IsCollected x (stand_of n c.loop-a.seats c.args.places.now e d a).state c.loop-a.outputs outputs) c.node.ensures (c.collect_from.ensures.list e d)) was.given;
+      stands = stands_more n sinks c.args.seats.now c.args.places.now c.requires.placed c.loop-a.seats new a known
+          was.stands was.rest c.collect_from.ensures.seats;
+      rest = rest_more n sinks c.args.seats.now c.args.places.now c.requires.placed c.loop-a.seats new a known
+          was.stands was.rest c.collect_from.ensures.seats;
+      given = given_more n sinks c.args.seats.now c.args.places.now c.requires.placed c.loop-a.seats new a known
+          was.stands was.rest c.collect_from.ensures.seats c.loop-a.outputs outputs
+          (λ e d. subst (λ x. IsCollected x (stand_of n c.loop-a.seats c.args.places.now e d a).state c.loop-a.outputs
+          outputs) c.node.ensures (c.collect_from.ensures.list e d)) was.given;
     }
 
 pub returns-clause-each : goal.returns-clause-each
-returns-clause-each g c = λ a ext block made e d l is at. c.loop-a.invariant.given a ext block made e d (omega arith) is at
+returns-clause-each g c = λ a ext block made e d l is at. c.loop-a.invariant.given a ext block made e d
+    (omega arith) is at

@@ -16,7 +16,8 @@ returns-clause-seats g c = λ e d.
     let y = record now { state = c.collect_at.new.state } in
     let u = updated c.args.seats.now c.args.seat c.args.stand f y c.requires.seat is below in
     let new = slice_set c.args.seats.now c.args.seat (record f { stands = with_item f.stands c.args.stand y }) in
-    update_as c.args.seats.now new c.args.seat c.args.stand y (stand_at new c.args.seat c.args.stand e d) (sym (u.here e d)) u
+    update_as c.args.seats.now new c.args.seat c.args.stand y (stand_at new c.args.seat c.args.stand e d)
+    (sym (u.here e d)) u
 
 pub returns-clause-list : goal.returns-clause-list
 returns-clause-list g c = λ e d.
@@ -25,5 +26,7 @@ returns-clause-list g c = λ e d.
     let is = seat_is c.args.seats.now c.args.seat r c.requires.seat in
     let below : c.args.stand < length f.stands.items = let h = c.requires.stand r in omega arith in
     let now = c.index_mut.result.now in
-    let same = stand_is c.args.seats.now c.args.seat c.args.stand f now e d c.requires.seat is below c.index_mut.ensures.value in
-    subst (λ (z : Stand _ _ _). IsCollected c.args.node.now z.state c.args.outputs.now c.collect_at.new.outputs) (sym same) c.collect_at.ensures
+    let same = stand_is c.args.seats.now c.args.seat c.args.stand f now e d c.requires.seat is below
+    c.index_mut.ensures.value in
+    subst (λ (z : Stand _ _ _). IsCollected c.args.node.now z.state c.args.outputs.now c.collect_at.new.outputs)
+    (sym same) c.collect_at.ensures

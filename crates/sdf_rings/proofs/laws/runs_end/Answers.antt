@@ -8,9 +8,15 @@ use Rattle.sdf_rings.proofs.laws.runs_end.Goals as goal
 
 pub returns-clause-count : goal.returns-clause-count
 returns-clause-count g c = λ n inputs p b es plan run.
-    run_moves (wiring g.A.Actor.steps n) (answers g.A.Actor.steps n inputs) (firings p b) (capacity p) (at_start (wiring g.A.Actor.steps n)) es run
+    run_moves (wiring g.A.Actor.steps n) (answers g.A.Actor.steps n inputs) (firings p b) (capacity p)
+    (at_start (wiring g.A.Actor.steps n)) es run
 
 pub returns-clause-histories : goal.returns-clause-histories
 returns-clause-histories g c =
-    let laws : NetLaws g.A.Actor.steps = record { wired = c.nets_are_wired.ensures.wired; taken = c.taken_stays.ensures; dealt = c.put_stays.ensures.dealt; puts = c.put_stays.ensures.stays } in
+    let laws : NetLaws g.A.Actor.steps = record {
+      wired = c.nets_are_wired.ensures.wired;
+      taken = c.taken_stays.ensures;
+      dealt = c.put_stays.ensures.dealt;
+      puts = c.put_stays.ensures.stays;
+    } in
     runs_end_in_histories c.alike_sequences.ensures c.tables_repeat.ensures g.A.Actor.steps laws

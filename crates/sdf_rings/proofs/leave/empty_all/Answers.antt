@@ -24,7 +24,8 @@ empty_at-requires-clause-there g c κs within =
     let known : c.loop-c.c < length n.wires = omega (arith, c.loop-c-test.true, c.channels-c-end.ensures) in
     let at = c.end_at-at.ensures ∙ ap (λ w. spot_of places w.to) c.link.ensures in
     subst (λ q. TakesAt c.loop-c.seats q) (sym at)
-    (takes_at g.A.Actor.steps n c.requires.rings.0 c.args.seats.now places c.requires.rings.1 c.loop-c.seats c.loop-c.invariant.kept c.loop-c.c known)
+    (takes_at g.A.Actor.steps n c.requires.rings.0 c.args.seats.now places c.requires.rings.1 c.loop-c.seats
+    c.loop-c.invariant.kept c.loop-c.c known)
 
 pub loop-c-preserved : goal.loop-c-preserved
 loop-c-preserved g c =
@@ -36,15 +37,20 @@ loop-c-preserved g c =
     let known : m < length n.wires = omega (arith, c.loop-c-test.true, c.channels-c-end.ensures) in
     let at = c.end_at-at.ensures ∙ ap (λ w. spot_of places w.to) c.link.ensures in
     let new = c.empty_at.new.seats in
-    let gone : IsEmptied c.loop-c.seats new (spot_of places (wire n m).to) = subst (λ q. IsEmptied c.loop-c.seats new q) at c.in_ok-empty_at.ensures.kept in
+    let gone : IsEmptied c.loop-c.seats new (spot_of places (wire n m).to) =
+    subst (λ q. IsEmptied c.loop-c.seats new q) at c.in_ok-empty_at.ensures.kept in
     let was = c.loop-c.invariant in
     let got = c.in_ok-empty_at.field-0 in
-    let items : lists c.push.new.self.items ≡ lists c.loop-c.held.items ++ got.items ∷ [] = ap lists c.in_ok-push.ensures.items ∙ map-append (λ v. v.items) c.loop-c.held.items (got ∷ []) in
+    let items : lists c.push.new.self.items ≡ lists c.loop-c.held.items ++ got.items ∷ [] =
+    ap lists c.in_ok-push.ensures.items ∙ map-append (λ v. v.items) c.loop-c.held.items (got ∷ []) in
     record {
       all = omega (arith, c.in_ok-push.ensures.len, vec_long c.loop-c.held, vec_long c.push.new.self, was.all);
-      each = λ k z e d x h. push_each (λ j (y : List _). y ≡ known_items (consumer_of n seats places e d x j)) (lists c.loop-c.held.items) (lists c.push.new.self.items) got.items m items
+      each = λ k z e d x h. push_each (λ j (y : List _). y ≡ known_items (consumer_of n seats places e d x j))
+          (lists c.loop-c.held.items) (lists c.push.new.self.items) got.items m items
           (length-map c.loop-c.held.items (λ v. v.items) ∙ was.all) (λ j w l. was.each j w e d x l)
-          (c.in_ok-empty_at.ensures.items e d x ∙ ap (λ q. known_items (consumer_at c.loop-c.seats q e d x)) at ∙ ap known_items (was.ahead m e d x (omega arith) known)) k z h;
-      ahead = λ k e d x h l. others_kept s n c.requires.rings.0 seats places c.requires.rings.1 c.loop-c.seats was.kept m known new gone k e d x (omega (arith, h)) l ∙ was.ahead k e d x (omega (arith, h)) l;
+          (c.in_ok-empty_at.ensures.items e d x ∙ ap (λ q. known_items (consumer_at c.loop-c.seats q e d x)) at
+          ∙ ap known_items (was.ahead m e d x (omega arith) known)) k z h;
+      ahead = λ k e d x h l. others_kept s n c.requires.rings.0 seats places c.requires.rings.1 c.loop-c.seats was.kept
+          m known new gone k e d x (omega (arith, h)) l ∙ was.ahead k e d x (omega (arith, h)) l;
       kept = same_join seats c.loop-c.seats new was.kept gone.but_ends;
     }

@@ -8,7 +8,9 @@ use Rattle.sdf_rings.proofs.leave.empty_all.Given as goal
 abbrev pub invariant-loop-c : goal.invariant-loop-c
 invariant-loop-c g l = record {
   all : length l.held.items ≡ l.c;
-  each : (k : ℕ) (z : _) (e : _) (d : _) (x : _) → k < l.c → get_or (lists l.held.items) k z ≡ known_items (consumer_of l.net l.initial.seats l.places e d x k);
-  ahead : (k : ℕ) (e : _) (d : _) (x : _) → l.c ≤ k → k < length l.net.wires → consumer_of l.net l.seats l.places e d x k ≡ consumer_of l.net l.initial.seats l.places e d x k;
+  each : (k : ℕ) (z : _) (e : _) (d : _) (x : _) → k < l.c →
+      get_or (lists l.held.items) k z ≡ known_items (consumer_of l.net l.initial.seats l.places e d x k);
+  ahead : (k : ℕ) (e : _) (d : _) (x : _) → l.c ≤ k → k < length l.net.wires →
+      consumer_of l.net l.seats l.places e d x k ≡ consumer_of l.net l.initial.seats l.places e d x k;
   kept : SameButEnds l.initial.seats l.seats;
 }

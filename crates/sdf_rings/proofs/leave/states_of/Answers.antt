@@ -18,12 +18,23 @@ loop-a-preserved g c =
     let f = slice_index_or seats (slice_index_or places a (0, 0)).0 c.index-seats-place.result in
     let r = c.index-stand.result.now in
     let inside = c.requires.placed.seat_in a l in
-    let below = vec_in f.stands (slice_index_or places a (0, 0)).1 (c.requires.placed.stand_in a c.index-seats-place.result l) in
+    let below = vec_in f.stands (slice_index_or places a (0, 0)).1
+    (c.requires.placed.stand_in a c.index-seats-place.result l) in
     record {
-      all = omega (arith, c.in_ok-push.ensures.len, vec_long c.loop-a.states, vec_long c.push.new.self, c.loop-a.invariant.all);
-      each = λ b z x e d h is. push_each (λ k (y : Option _). node n k ≡ Inner x → y ≡ state_in (stand_of n seats places e d k).state)
-          c.loop-a.states.items c.push.new.self.items c.in_ok-state_of.field-0 a c.in_ok-push.ensures.items c.loop-a.invariant.all (λ k w m i. c.loop-a.invariant.each k w x e d m i)
+      all = omega (
+        arith,
+        c.in_ok-push.ensures.len,
+        vec_long c.loop-a.states,
+        vec_long c.push.new.self,
+        c.loop-a.invariant.all,
+      );
+      each = λ b z x e d h is. push_each (λ k (y : Option _). node n k ≡ Inner x →
+          y ≡ state_in (stand_of n seats places e d k).state)
+          c.loop-a.states.items c.push.new.self.items c.in_ok-state_of.field-0 a c.in_ok-push.ensures.items
+          c.loop-a.invariant.all (λ k w m i. c.loop-a.invariant.each k w x e d m i)
           (λ i. c.in_ok-state_of.ensures x (c.node.ensures ∙ i) ∙
           ap (λ (y : Stand _ _ _). state_in y.state)
-          (sym (stand_is seats (slice_index_or places a (0, 0)).0 (slice_index_or places a (0, 0)).1 f r e d inside (seat_is seats (slice_index_or places a (0, 0)).0 c.index-seats-place.result inside) below c.index-stand.ensures))) b z h is;
+          (sym (stand_is seats (slice_index_or places a (0, 0)).0 (slice_index_or places a (0, 0)).1 f r e d inside
+          (seat_is seats (slice_index_or places a (0, 0)).0 c.index-seats-place.result inside) below
+          c.index-stand.ensures))) b z h is;
     }

@@ -7,5 +7,6 @@ use Rattle.sdf_rings.proofs.leave.states_of.Given as goal
 abbrev pub invariant-loop-a : goal.invariant-loop-a
 invariant-loop-a g l = record {
   all : length l.states.items ≡ l.a;
-  each : (b : ℕ) (z : _) (x : _) (e : _) (d : _) → b < l.a → node l.net b ≡ Inner x → get_or l.states.items b z ≡ state_in (stand_of l.net l.seats l.places e d b).state;
+  each : (b : ℕ) (z : _) (x : _) (e : _) (d : _) → b < l.a → node l.net b ≡ Inner x →
+      get_or l.states.items b z ≡ state_in (stand_of l.net l.seats l.places e d b).state;
 }

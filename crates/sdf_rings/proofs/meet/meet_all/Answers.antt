@@ -11,7 +11,11 @@ pub loop-c-init : goal.loop-c-init
 loop-c-init g c = record {
   rings = c.requires.rings;
   met = λ k e d x y h. absurd (omega arith);
-  idle = λ i e h. (worked_none g.A.Actor.steps c.args.net.now (slice_index_or c.args.seats.now i e) (c.requires.rings.each i e h).next_fits, refl);
+  idle = λ i e h. (
+    worked_none g.A.Actor.steps c.args.net.now (slice_index_or c.args.seats.now i e)
+        (c.requires.rings.each i e h).next_fits,
+    refl,
+  );
 }
 
 pub loop-c-preserved : goal.loop-c-preserved
@@ -24,15 +28,20 @@ loop-c-preserved g c =
     let known : m < length n.wires = omega arith in
     let from = c.end_at-from.ensures ∙ ap (λ w. spot_of places w.from) c.link-link.ensures in
     let to = c.end_at-to.ensures ∙ ap (λ w. spot_of places w.to) c.link-link.ensures in
-    let t : IsTold old new (spot_of places (wire n m).from) (spot_of places (wire n m).to) = subst (λ f. IsTold old new f (spot_of places (wire n m).to)) from (subst (λ f. IsTold old new c.end_at-from.result f) to c.tell_at.ensures) in
+    let t : IsTold old new (spot_of places (wire n m).from) (spot_of places (wire n m).to) =
+    subst (λ f. IsTold old new f (spot_of places (wire n m).to)) from
+    (subst (λ f. IsTold old new c.end_at-from.result f) to c.tell_at.ensures) in
     record {
       rings = rings_told g.A.Actor.steps n (lists c.args.inputs.now) old new places c.loop-c.invariant.rings m known t;
-      met = λ k e d x y h. met_told g.A.Actor.steps n (lists c.args.inputs.now) old new places c.loop-c.invariant.rings m known t k e d x y (omega arith) (c.loop-c.invariant.met k e d x y);
+      met = λ k e d x y h. met_told g.A.Actor.steps n (lists c.args.inputs.now) old new places c.loop-c.invariant.rings
+          m known t k e d x y (omega arith) (c.loop-c.invariant.met k e d x y);
       idle = λ i e h.
           let was = c.loop-c.invariant.idle i e h in
           let inside : i < length old = let l = c.loop-c.auto.seats in omega arith in (
-            worked_join g.A.Actor.steps n (slice_index_or c.args.seats.now i e) (slice_index_or old i e) (slice_index_or new i e) was.0
-                (told_worked g.A.Actor.steps n old new (spot_of places (wire n m).from) (spot_of places (wire n m).to) t i e (c.loop-c.invariant.rings.each i e inside).next_fits),
+            worked_join g.A.Actor.steps n (slice_index_or c.args.seats.now i e) (slice_index_or old i e)
+                (slice_index_or new i e) was.0
+                (told_worked g.A.Actor.steps n old new (spot_of places (wire n m).from) (spot_of places (wire n m).to) t
+                i e (c.loop-c.invariant.rings.each i e inside).next_fits),
             (t.told_seats i e).next_same ∙ was.1,
           );
     }

@@ -8,16 +8,22 @@ use Rattle.sdf_rings.proofs.prepare.prepare.Goals as goal
 pub prepare_homed-requires-clause-inputs : goal.prepare_homed-requires-clause-inputs
 prepare_homed-requires-clause-inputs g c κs within =
     let q = c.args.period.now.repetitions in
-    let least = c.samples_of_blocks-least.ensures ∙ ap (λ m. c.args.blocks * c.args.j * m) (c.samples_in.ensures.value q c.requires.period.least) in
-    let has = subst (λ m. AreInputs c.inputs.result m (lists c.args.inputs.now)) least (c.if-not-are_inputs.ensures.0 refl) in
-    subst (λ many. AreInputs many (c.args.blocks * c.args.j * period_samples c.args.net.now.nodes Inputs q) (lists c.args.inputs.now)) c.inputs.ensures has
+    let least = c.samples_of_blocks-least.ensures ∙ ap (λ m. c.args.blocks * c.args.j * m)
+    (c.samples_in.ensures.value q c.requires.period.least) in
+    let has = subst (λ m. AreInputs c.inputs.result m (lists c.args.inputs.now)) least
+    (c.if-not-are_inputs.ensures.0 refl) in
+    subst (λ many. AreInputs many (c.args.blocks * c.args.j * period_samples c.args.net.now.nodes Inputs q)
+    (lists c.args.inputs.now)) c.inputs.ensures has
 
 pub returns : goal.returns
 returns g c =
     let q = c.args.period.now.repetitions in
-    let least = c.samples_of_blocks-least.ensures ∙ ap (λ m. c.args.blocks * c.args.j * m) (c.samples_in.ensures.value q c.requires.period.least) in
-    let has = subst (λ m. AreInputs c.inputs.result m (lists c.args.inputs.now)) least (c.if-not-are_inputs.ensures.0 refl) in (
+    let least = c.samples_of_blocks-least.ensures ∙ ap (λ m. c.args.blocks * c.args.j * m)
+    (c.samples_in.ensures.value q c.requires.period.least) in
+    let has = subst (λ m. AreInputs c.inputs.result m (lists c.args.inputs.now)) least
+    (c.if-not-are_inputs.ensures.0 refl) in (
       c.if-not-homed.ensures.0 refl,
-      subst (λ many. AreInputs many (c.args.blocks * c.args.j * period_samples c.args.net.now.nodes Inputs q) (lists c.args.inputs.now)) c.inputs.ensures has,
+      subst (λ many. AreInputs many (c.args.blocks * c.args.j * period_samples c.args.net.now.nodes Inputs q)
+          (lists c.args.inputs.now)) c.inputs.ensures has,
       c.in_ok-prepare_homed.ensures,
     )

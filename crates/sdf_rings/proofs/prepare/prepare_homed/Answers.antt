@@ -13,9 +13,13 @@ lay_out-requires-clause-start g c κs within =
     let p = c.args.period.now in
     let b = c.args.blocks in
     let j = c.args.j in
-    can_start g.A.Actor.steps c.nets_can_run.ensures n p (c.nets_have_periods.ensures c.args.period.now c.requires.period) b j c.in_ok-asked.field-0.items (c.in_ok-asked.ensures ∙ ap (map (λ q. b * (j * q))) c.repetitions.ensures)
-    (lists c.args.inputs.now) c.samples_of_blocks.result c.first_sample.result c.net_facts.ensures.phases c.requires.inputs
-    (c.samples_of_blocks.ensures ∙ ap (λ m. b * j * m) (c.samples_out.ensures.value p.repetitions c.requires.period.least)) c.first_sample.ensures c.requires.some
+    can_start g.A.Actor.steps c.nets_can_run.ensures n p
+    (c.nets_have_periods.ensures c.args.period.now c.requires.period) b j c.in_ok-asked.field-0.items
+    (c.in_ok-asked.ensures ∙ ap (map (λ q. b * (j * q))) c.repetitions.ensures)
+    (lists c.args.inputs.now) c.samples_of_blocks.result c.first_sample.result c.net_facts.ensures.phases
+    c.requires.inputs
+    (c.samples_of_blocks.ensures ∙ ap (λ m. b * j * m)
+    (c.samples_out.ensures.value p.repetitions c.requires.period.least)) c.first_sample.ensures c.requires.some
     (omega (arith, c.requires.inputs.count, c.net_facts.ensures.accepted.1.lists.input))
 
 pub lay_out-requires-clause-plan : goal.lay_out-requires-clause-plan
@@ -24,5 +28,7 @@ lay_out-requires-clause-plan g c κs within =
     let p = c.args.period.now in
     let b = c.args.blocks in
     let j = c.args.j in
-    is_asked g.A.Actor.steps c.nets_can_run.ensures n p (c.nets_have_periods.ensures c.args.period.now c.requires.period) b j c.in_ok-asked.field-0.items (c.in_ok-asked.ensures ∙ ap (map (λ q. b * (j * q))) c.repetitions.ensures)
+    is_asked g.A.Actor.steps c.nets_can_run.ensures n p
+    (c.nets_have_periods.ensures c.args.period.now c.requires.period) b j c.in_ok-asked.field-0.items
+    (c.in_ok-asked.ensures ∙ ap (map (λ q. b * (j * q))) c.repetitions.ensures)
     c.graphs_are_sound.ensures c.graphs_have_periods.ensures c.args.table.now c.requires.table

@@ -6,4 +6,6 @@ use Rattle.sdf_rings.proofs.Walks.{Walked}
 use Rattle.sdf_rings.proofs.run_ends.put_by_port.Given as goal
 
 abbrev pub invariant-loop-i : goal.invariant-loop-i
-invariant-loop-i g l = Walked Gave (slice_index l.sizes) (λ k. joined (λ i. block_of (slice_index l.sizes) k (nth_block l.size l.put i)) l.many) l.initial.ends l.ends l.i l.at
+invariant-loop-i g l = Walked Gave (slice_index l.sizes)
+    (λ k. joined (λ i. block_of (slice_index l.sizes) k (nth_block l.size l.put i)) l.many) l.initial.ends
+    l.ends l.i l.at

@@ -10,16 +10,23 @@ use Rattle.sdf_rings.proofs.run_ends.take_by_firing.Goals as goal
 pub loop-preserved : goal.loop-preserved
 loop-preserved g c =
     let i = c.loop.counter in
-    let inside = fits c.args.size c.args.many i c.loop.at (length c.args.taken.now) (omega arith) c.loop.invariant.at c.requires.length in
+    let inside = fits c.args.size c.args.many i c.loop.at (length c.args.taken.now) (omega arith) c.loop.invariant.at
+    c.requires.length in
     record {
       at = place c.args.size i c.loop.at c.loop.invariant.at;
-      drew = moved_next Drew (slice_index c.args.sizes.now) c.args.size c.args.many i c.loop.at (omega arith) c.loop.invariant.at drew_join c.args.ends.now c.loop.ends c.take_each_at.new.ends
-          c.loop.taken c.take_each_at.new.taken (omega arith) c.loop.invariant.drew c.take_each_at.ensures.drew c.take_each_at.ensures.before;
-      holds = left_next Drew (slice_index c.args.sizes.now) c.args.size c.args.many i c.loop.at (omega arith) c.loop.invariant.at (λ e. length (known_items e)) drew_less c.loop.ends c.take_each_at.new.ends
-          c.take_each_at.new.taken (length c.args.ends.now) (omega arith) (omega arith) c.requires.size (omega arith) c.take_each_at.ensures.drew c.loop.invariant.holds;
+      drew = moved_next Drew (slice_index c.args.sizes.now) c.args.size c.args.many i c.loop.at (omega arith)
+          c.loop.invariant.at drew_join c.args.ends.now c.loop.ends c.take_each_at.new.ends
+          c.loop.taken c.take_each_at.new.taken (omega arith) c.loop.invariant.drew c.take_each_at.ensures.drew
+          c.take_each_at.ensures.before;
+      holds = left_next Drew (slice_index c.args.sizes.now) c.args.size c.args.many i c.loop.at (omega arith)
+          c.loop.invariant.at (λ e. length (known_items e)) drew_less c.loop.ends c.take_each_at.new.ends
+          c.take_each_at.new.taken (length c.args.ends.now) (omega arith) (omega arith) c.requires.size (omega arith)
+          c.take_each_at.ensures.drew c.loop.invariant.holds;
     }
 
 pub returns : goal.returns
 returns g c =
     let e : c.loop.counter ≡ c.args.many = omega arith in
-    subst (λ m. DrewEach c.args.ends.now c.loop.ends (λ p. joined (λ i. block_of (slice_index c.args.sizes.now) p (nth_block c.args.size c.loop.taken i)) m)) e c.loop.invariant.drew
+    subst (λ m. DrewEach c.args.ends.now c.loop.ends
+    (λ p. joined (λ i. block_of (slice_index c.args.sizes.now) p (nth_block c.args.size c.loop.taken i)) m)) e
+    c.loop.invariant.drew

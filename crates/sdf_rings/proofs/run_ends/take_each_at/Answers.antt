@@ -6,6 +6,8 @@ use Rattle.sdf_rings.proofs.run_ends.take_each_at.Goals as goal
 
 pub returns-clause-drew : goal.returns-clause-drew
 returns-clause-drew g c = λ i d h.
-    subst (λ b. Drew (slice_index_or c.args.ends.now i d) (slice_index_or c.take_each.new.ends i d) (block_of (slice_index c.args.sizes.now) i b))
-    (sym (between-put_mid c.args.at (c.args.at + c.args.size - c.args.at) c.args.taken.now c.take_each.new.taken (c.args.at + c.args.size) (omega arith) (omega arith)))
+    subst (λ b. Drew (slice_index_or c.args.ends.now i d) (slice_index_or c.take_each.new.ends i d)
+    (block_of (slice_index c.args.sizes.now) i b))
+    (sym (between-put_mid c.args.at (c.args.at + c.args.size - c.args.at) c.args.taken.now c.take_each.new.taken
+    (c.args.at + c.args.size) (omega arith) (omega arith)))
     (c.take_each.ensures i d h)

@@ -6,9 +6,12 @@ use Rattle.sdf_rings.proofs.run_ends.take_run.Goals as goal
 
 pub take_block-requires : goal.take_block-requires
 take_block-requires g c =
-    lone_fits (slice_index c.args.sizes.now) c.args.size c.args.many (length c.args.ends.now) _ (length c.args.taken.now) c.if-ends-eq1.true c.requires.size c.requires.length
+    lone_fits (slice_index c.args.sizes.now) c.args.size c.args.many (length c.args.ends.now)
+    _ (length c.args.taken.now) c.if-ends-eq1.true c.requires.size c.requires.length
     (c.requires.known 0 c.index-ends-0.result (omega arith))
 
 pub returns-then-ends-eq1 : goal.returns-then-ends-eq1
-returns-then-ends-eq1 g c = lone_end Drew c.args.ends.now c.index-ends-0.result c.take_block.new.end c.take_block.new.block _ c.if-ends-eq1.true c.take_block.ensures
-    (lone_port (slice_index c.args.sizes.now) c.args.size c.args.many c.take_block.new.block c.blocks_join.ensures (c.requires.size ∙ ap (start_at (slice_index c.args.sizes.now)) c.if-ends-eq1.true) (omega arith))
+returns-then-ends-eq1 g c = lone_end Drew c.args.ends.now c.index-ends-0.result c.take_block.new.end
+    c.take_block.new.block _ c.if-ends-eq1.true c.take_block.ensures
+    (lone_port (slice_index c.args.sizes.now) c.args.size c.args.many c.take_block.new.block c.blocks_join.ensures
+    (c.requires.size ∙ ap (start_at (slice_index c.args.sizes.now)) c.if-ends-eq1.true) (omega arith))

@@ -10,7 +10,8 @@ use Rattle.sdf_answer.specs.Sizes.{sizes}
 use Rattle.sdf_rings.proofs.Firing.{fired}
 use Rattle.sdf_rings.proofs.Looks.{drew_then, gave_none}
 use Rattle.sdf_rings.proofs.OwnEnds.{own_pairs_kept}
-use Rattle.sdf_rings.proofs.Standing.{can_step, row_known, row_sum, taken_is, put_is, taken_fits, put_fits, outs_row, holds_by_row, room_by_row, drew_by_firing, gave_by_firing}
+use Rattle.sdf_rings.proofs.Standing.{can_step, row_known, row_sum, taken_is, put_is, taken_fits, put_fits, outs_row}
+use Rattle.sdf_rings.proofs.Standing.{holds_by_row, room_by_row, drew_by_firing, gave_by_firing}
 use Rattle.sdf_rings.proofs.stand.fire_blocks.Goals as goal
 
 pub take_front-requires-clause-many : goal.take_front-requires-clause-many
@@ -21,8 +22,10 @@ take_front-requires-clause-many g c =
     let st = c.requires.stand in
     let inputs = lists c.args.inputs.now in
     let keep = c.nodes_can_step.ensures.phases in
-    taken_is s keep n inputs x st c.node-node.result.now c.node-node.ensures c.phase-phase.result c.phase-phase.ensures c.takes-many.result c.takes-many.ensures ∙
-    (sym (row_sum s keep n inputs x st Input (lists x.takes.items) st.takes c.phase-phase.result c.phase-phase.ensures c.row.result.now c.row.ensures) ∙
+    taken_is s keep n inputs x st c.node-node.result.now c.node-node.ensures c.phase-phase.result c.phase-phase.ensures
+    c.takes-many.result c.takes-many.ensures ∙
+    (sym (row_sum s keep n inputs x st Input (lists x.takes.items) st.takes c.phase-phase.result c.phase-phase.ensures
+    c.row.result.now c.row.ensures) ∙
     ap (start_at (slice_index c.row.result.now)) (sym (c.as_mut_slice.ensures.len ∙ st.ins_all)))
 
 pub take_front-requires-clause-known : goal.take_front-requires-clause-known
@@ -31,33 +34,44 @@ take_front-requires-clause-known g c =
     let n = c.args.net.now in
     let x = c.args.stand.now in
     let st = c.requires.stand in
-    holds_by_row s c.nodes_can_step.ensures.phases n (lists c.args.inputs.now) x st c.phase-phase.result c.phase-phase.ensures c.row.result.now c.row.ensures c.as_mut_slice.result.now (c.as_mut_slice.ensures.len ∙ st.ins_all)
+    holds_by_row s c.nodes_can_step.ensures.phases n (lists c.args.inputs.now) x st c.phase-phase.result
+    c.phase-phase.ensures c.row.result.now c.row.ensures c.as_mut_slice.result.now
+    (c.as_mut_slice.ensures.len ∙ st.ins_all)
     (subst (HoldsEach (sizes s Input (node n x.actor) x.done)) (sym c.as_mut_slice.ensures.value) c.requires.can.holds)
 
 pub slice_bounds-step_front-end : goal.slice_bounds-step_front-end
 slice_bounds-step_front-end g c =
     let x = c.args.stand.now in
-    let fits = taken_fits g.A.Actor.steps c.nodes_can_step.ensures.phases c.args.net.now (lists c.args.inputs.now) x c.requires.stand c.node-node.result.now c.node-node.ensures c.phase-phase.result c.phase-phase.ensures c.takes-many.result c.requires.left c.takes-many.ensures in
+    let fits = taken_fits g.A.Actor.steps c.nodes_can_step.ensures.phases c.args.net.now (lists c.args.inputs.now) x
+    c.requires.stand c.node-node.result.now c.node-node.ensures c.phase-phase.result c.phase-phase.ensures
+    c.takes-many.result c.requires.left c.takes-many.ensures in
     sym (length-take-le c.takes-many.result c.deref.result.now (omega arith))
 
 pub step_front-requires-clause-can : goal.step_front-requires-clause-can
 step_front-requires-clause-can g c = λ κs within.
     let x = c.args.stand.now in
-    let fits = taken_fits g.A.Actor.steps c.nodes_can_step.ensures.phases c.args.net.now (lists c.args.inputs.now) x c.requires.stand c.node-node.result.now c.node-node.ensures c.phase-phase.result c.phase-phase.ensures c.takes-many.result c.requires.left c.takes-many.ensures in
-    can_step g.A.Actor.steps c.nodes_can_step.ensures.phases c.args.net.now (lists c.args.inputs.now) x c.requires.stand c.nodes_can_step.ensures.steps c.requires.left
-    c.node-node.result.now c.phase-phase.result (length (take c.takes-many.result c.deref.result.now)) c.puts-more.result c.node-node.ensures c.phase-phase.ensures
+    let fits = taken_fits g.A.Actor.steps c.nodes_can_step.ensures.phases c.args.net.now (lists c.args.inputs.now) x
+    c.requires.stand c.node-node.result.now c.node-node.ensures c.phase-phase.result c.phase-phase.ensures
+    c.takes-many.result c.requires.left c.takes-many.ensures in
+    can_step g.A.Actor.steps c.nodes_can_step.ensures.phases c.args.net.now (lists c.args.inputs.now) x c.requires.stand
+    c.nodes_can_step.ensures.steps c.requires.left
+    c.node-node.result.now c.phase-phase.result (length (take c.takes-many.result c.deref.result.now))
+    c.puts-more.result c.node-node.ensures c.phase-phase.ensures
     (length-take-le c.takes-many.result c.deref.result.now (omega arith) ∙ c.takes-many.ensures) c.puts-more.ensures
 
 pub slice_bounds-put_told-end : goal.slice_bounds-put_told-end
 slice_bounds-put_told-end g c =
     let x = c.args.stand.now in
-    let fits = put_fits g.A.Actor.steps c.nodes_can_step.ensures.phases c.args.net.now (lists c.args.inputs.now) x c.requires.stand c.node-node.result.now c.node-node.ensures c.phase-phase.result c.phase-phase.ensures c.puts-more.result c.requires.left c.puts-more.ensures in
+    let fits = put_fits g.A.Actor.steps c.nodes_can_step.ensures.phases c.args.net.now (lists c.args.inputs.now) x
+    c.requires.stand c.node-node.result.now c.node-node.ensures c.phase-phase.result c.phase-phase.ensures
+    c.puts-more.result c.requires.left c.puts-more.ensures in
     sym (length-take-le c.puts-more.result c.deref-2.result.now (omega arith))
 
 pub put_told-requires-clause-ports : goal.put_told-requires-clause-ports
 put_told-requires-clause-ports g c = λ κs within.
     let x = c.args.stand.now in
-    outs_row g.A.Actor.steps c.nodes_can_step.ensures.phases c.args.net.now (lists c.args.inputs.now) x c.requires.stand c.phase-phase.result c.phase-phase.ensures c.row-2.result.now c.row-2.ensures c.as_mut_slice-5.result.now
+    outs_row g.A.Actor.steps c.nodes_can_step.ensures.phases c.args.net.now (lists c.args.inputs.now) x c.requires.stand
+    c.phase-phase.result c.phase-phase.ensures c.row-2.result.now c.row-2.ensures c.as_mut_slice-5.result.now
     (c.as_mut_slice-5.ensures.len ∙ c.requires.stand.outs_all)
 
 pub put_told-requires-clause-length : goal.put_told-requires-clause-length
@@ -68,10 +82,13 @@ put_told-requires-clause-length g c = λ κs within.
     let st = c.requires.stand in
     let inputs = lists c.args.inputs.now in
     let keep = c.nodes_can_step.ensures.phases in
-    let fits = put_fits s keep n inputs x st c.node-node.result.now c.node-node.ensures c.phase-phase.result c.phase-phase.ensures c.puts-more.result c.requires.left c.puts-more.ensures in
+    let fits = put_fits s keep n inputs x st c.node-node.result.now c.node-node.ensures c.phase-phase.result
+    c.phase-phase.ensures c.puts-more.result c.requires.left c.puts-more.ensures in
     length-take-le c.puts-more.result c.deref-2.result.now (omega arith) ∙
-    (put_is s keep n inputs x st c.node-node.result.now c.node-node.ensures c.phase-phase.result c.phase-phase.ensures c.puts-more.result c.puts-more.ensures ∙
-    (sym (row_sum s keep n inputs x st Output (lists x.puts.items) st.puts c.phase-phase.result c.phase-phase.ensures c.row-2.result.now c.row-2.ensures) ∙
+    (put_is s keep n inputs x st c.node-node.result.now c.node-node.ensures c.phase-phase.result c.phase-phase.ensures
+    c.puts-more.result c.puts-more.ensures ∙
+    (sym (row_sum s keep n inputs x st Output (lists x.puts.items) st.puts c.phase-phase.result c.phase-phase.ensures
+    c.row-2.result.now c.row-2.ensures) ∙
     ap (start_at (slice_index c.row-2.result.now)) (sym (c.as_mut_slice-5.ensures.len ∙ st.outs_all))))
 
 pub put_told-requires-clause-room : goal.put_told-requires-clause-room
@@ -80,8 +97,11 @@ put_told-requires-clause-room g c = λ κs within.
     let n = c.args.net.now in
     let x = c.args.stand.now in
     let st = c.requires.stand in
-    room_by_row s c.nodes_can_step.ensures.phases n (lists c.args.inputs.now) x st c.phase-phase.result c.phase-phase.ensures c.row-2.result.now c.row-2.ensures c.as_mut_slice-5.result.now (c.as_mut_slice-5.ensures.len ∙ st.outs_all)
-    (subst (HasRoomEach (sizes s Output (node n x.actor) x.done)) (sym c.as_mut_slice-5.ensures.value) c.requires.can.has_room)
+    room_by_row s c.nodes_can_step.ensures.phases n (lists c.args.inputs.now) x st c.phase-phase.result
+    c.phase-phase.ensures c.row-2.result.now c.row-2.ensures c.as_mut_slice-5.result.now
+    (c.as_mut_slice-5.ensures.len ∙ st.outs_all)
+    (subst (HasRoomEach (sizes s Output (node n x.actor) x.done)) (sym c.as_mut_slice-5.ensures.value)
+    c.requires.can.has_room)
 
 pub returns-clause-fired : goal.returns-clause-fired
 returns-clause-fired g c =
@@ -107,32 +127,56 @@ returns-clause-fired g c =
     let outs = with_items_is x.outs c.put_told.new.outs (omega arith) in
     let seen = ap (take many) (c.deref.ensures.value ∙ taken) in
     let out = ap (take more) (c.deref-2.ensures.value ∙ put) in
-    let took = drew_by_firing s keep n inputs x st j j_is c.row.result.now c.row.ensures c.as_mut_slice.result.now (c.as_mut_slice.ensures.len ∙ st.ins_all) c.take_front.new.ends (take many c.take_front.new.taken) c.take_front.ensures in
-    let drew = drew_then x.ins.items c.take_front.new.ends c.put_told.new.ins (λ i. block_of (sizes s Input (node n x.actor) x.done) i (take many c.take_front.new.taken)) (omega arith)
-    (rw c.as_mut_slice.ensures.value at took) (rw (c.as_mut_slice-4.ensures.value ∙ ins) at c.put_told.ensures.looked) in
-    let gave = gave_by_firing s keep n inputs x st j j_is c.row-2.result.now c.row-2.ensures c.as_mut_slice-5.result.now (c.as_mut_slice-5.ensures.len ∙ st.outs_all) c.put_told.new.outs (take more c.step_front.new.put) (rw out at c.put_told.ensures.gave) in
-    fired s (record { wired = c.nets_are_wired.ensures.wired; ports = c.nets_are_wired.ensures.ports; grows = c.locals_grow.ensures.grows; stays = c.taken_stays.ensures }) n c.requires.net inputs x st c.requires.left
-    (take many c.take_front.new.taken) (take more c.step_front.new.put) c.step_front.new.state (with_items mid c.put_told.new.ins) (with_items x.outs c.put_told.new.outs) (with_items x.taken c.take_front.new.taken) (with_items x.put c.step_front.new.put)
+    let took = drew_by_firing s keep n inputs x st j j_is c.row.result.now c.row.ensures c.as_mut_slice.result.now
+    (c.as_mut_slice.ensures.len ∙ st.ins_all) c.take_front.new.ends (take many c.take_front.new.taken)
+    c.take_front.ensures in
+    let drew = drew_then x.ins.items c.take_front.new.ends c.put_told.new.ins
+    (λ i. block_of (sizes s Input (node n x.actor) x.done) i (take many c.take_front.new.taken)) (omega arith)
+    (rw c.as_mut_slice.ensures.value at took) (rw (c.as_mut_slice-4.ensures.value ∙ ins) at
+    c.put_told.ensures.looked) in
+    let gave = gave_by_firing s keep n inputs x st j j_is c.row-2.result.now c.row-2.ensures c.as_mut_slice-5.result.now
+    (c.as_mut_slice-5.ensures.len ∙ st.outs_all) c.put_told.new.outs (take more c.step_front.new.put)
+    (rw out at c.put_told.ensures.gave) in
+    fired s (record {
+      wired = c.nets_are_wired.ensures.wired;
+      ports = c.nets_are_wired.ensures.ports;
+      grows = c.locals_grow.ensures.grows;
+      stays = c.taken_stays.ensures;
+    }) n c.requires.net inputs x st
+    c.requires.left
+    (take many c.take_front.new.taken) (take more c.step_front.new.put) c.step_front.new.state
+    (with_items mid c.put_told.new.ins) (with_items x.outs c.put_told.new.outs)
+    (with_items x.taken c.take_front.new.taken) (with_items x.put c.step_front.new.put)
     (rw told drew)
     (rw outs (rw c.as_mut_slice-5.ensures.value at gave))
-    (length-take-le many c.take_front.new.taken (omega arith) ∙ taken_is s keep n inputs x st y y_is j j_is many c.takes-many.ensures)
-    (length-take-le more c.step_front.new.put (omega arith) ∙ put_is s keep n inputs x st y y_is j j_is more c.puts-more.ensures)
+    (length-take-le many c.take_front.new.taken (omega arith)
+    ∙ taken_is s keep n inputs x st y y_is j j_is many c.takes-many.ensures)
+    (length-take-le more c.step_front.new.put (omega arith)
+    ∙ put_is s keep n inputs x st y y_is j j_is more c.puts-more.ensures)
     (rw (seen, y_is) at c.step_front.ensures.state)
     (rw (seen, y_is) at c.step_front.ensures.put)
-    (omega arith) (omega arith) (rw told (rw c.as_mut_slice-5.ensures.value at c.put_told.ensures.begin)) (ap length taken ∙ omega arith) (ap length put ∙ omega arith)
+    (omega arith) (omega arith) (rw told (rw c.as_mut_slice-5.ensures.value at c.put_told.ensures.begin))
+    (ap length taken ∙ omega arith) (ap length put ∙ omega arith)
 
 pub put_told-requires-clause-pairs : goal.put_told-requires-clause-pairs
 put_told-requires-clause-pairs g c = λ κs within.
     let x = c.args.stand.now in
     let ins = with_items_is x.ins c.take_front.new.ends (omega arith) in
     rw (c.as_mut_slice-4.ensures.value ∙ ins, c.as_mut_slice-5.ensures.value)
-    (own_pairs_kept c.args.net.now x.actor x.ins.items c.take_front.new.ends x.outs.items x.outs.items (λ i. block_of (slice_index c.row.result.now) i (take c.takes-many.result c.take_front.new.taken)) (λ _. []) (omega arith) refl
-    (rw c.as_mut_slice.ensures.value at c.take_front.ensures) (λ i d h. gave_none (get_or x.outs.items i d)) c.requires.stand.own_pairs)
+    (own_pairs_kept c.args.net.now x.actor x.ins.items c.take_front.new.ends x.outs.items x.outs.items
+    (λ i. block_of (slice_index c.row.result.now) i (take c.takes-many.result c.take_front.new.taken)) (λ _. [])
+    (omega arith) refl
+    (rw c.as_mut_slice.ensures.value at c.take_front.ensures) (λ i d h. gave_none (get_or x.outs.items i d))
+    c.requires.stand.own_pairs)
 
 pub row-requires : goal.row-requires
 row-requires g c =
-    row_known g.A.Actor.steps c.nodes_can_step.ensures.phases c.args.net.now (lists c.args.inputs.now) c.args.stand.now c.requires.stand Input (lists c.args.stand.now.takes.items) c.requires.stand.takes c.phase-phase.result c.phase-phase.ensures
+    row_known g.A.Actor.steps c.nodes_can_step.ensures.phases c.args.net.now (lists c.args.inputs.now) c.args.stand.now
+    c.requires.stand Input (lists c.args.stand.now.takes.items) c.requires.stand.takes c.phase-phase.result
+    c.phase-phase.ensures
 
 pub row-requires-2 : goal.row-requires-2
 row-requires-2 g c =
-    row_known g.A.Actor.steps c.nodes_can_step.ensures.phases c.args.net.now (lists c.args.inputs.now) c.args.stand.now c.requires.stand Output (lists c.args.stand.now.puts.items) c.requires.stand.puts c.phase-phase.result c.phase-phase.ensures
+    row_known g.A.Actor.steps c.nodes_can_step.ensures.phases c.args.net.now (lists c.args.inputs.now) c.args.stand.now
+    c.requires.stand Output (lists c.args.stand.now.puts.items) c.requires.stand.puts c.phase-phase.result
+    c.phase-phase.ensures

@@ -16,7 +16,8 @@ returns-then-not-hold_each-clause-stand g c =
     let x = c.args.stand.now in
     let ins = with_items_is x.ins c.hold_each.new.ends (omega arith) in
     looked_stand g.A.Actor.steps c.args.net.now x (with_items x.ins c.hold_each.new.ends) x.outs
-    (rw ins (rw c.as_mut_slice.ensures.value at c.hold_each.ensures.looked)) (λ i d h. gave_none _) refl refl (lists c.args.inputs.now) c.requires
+    (rw ins (rw c.as_mut_slice.ensures.value at c.hold_each.ensures.looked)) (λ i d h. gave_none _) refl refl
+    (lists c.args.inputs.now) c.requires
 
 pub returns-then-not-hold_each-clause-moved : goal.returns-then-not-hold_each-clause-moved
 returns-then-not-hold_each-clause-moved g c =
@@ -30,26 +31,35 @@ returns-clause-stand g c =
     let x = c.args.stand.now in
     let ins = with_items_is x.ins c.hold_each.new.ends (omega arith) in
     let outs = with_items_is x.outs c.have_room_each.new.ends (omega arith) in
-    looked_stand g.A.Actor.steps c.args.net.now x (with_items x.ins c.hold_each.new.ends) (with_items x.outs c.have_room_each.new.ends)
-    (rw ins (rw c.as_mut_slice.ensures.value at c.hold_each.ensures.looked)) (rw outs (rw c.as_mut_slice-2.ensures.value at c.have_room_each.ensures.looked)) refl refl (lists c.args.inputs.now) c.requires
+    looked_stand g.A.Actor.steps c.args.net.now x (with_items x.ins c.hold_each.new.ends)
+    (with_items x.outs c.have_room_each.new.ends)
+    (rw ins (rw c.as_mut_slice.ensures.value at c.hold_each.ensures.looked))
+    (rw outs (rw c.as_mut_slice-2.ensures.value at c.have_room_each.ensures.looked)) refl refl
+    (lists c.args.inputs.now) c.requires
 
 pub returns-clause-moved : goal.returns-clause-moved
 returns-clause-moved g c =
     let x = c.args.stand.now in
     let ins = with_items_is x.ins c.hold_each.new.ends (omega arith) in
     let outs = with_items_is x.outs c.have_room_each.new.ends (omega arith) in
-    looked_moved g.A.Actor.steps c.args.net.now x (with_items x.ins c.hold_each.new.ends) (with_items x.outs c.have_room_each.new.ends)
-    (rw ins (rw c.as_mut_slice.ensures.value at c.hold_each.ensures.looked)) (rw outs (rw c.as_mut_slice-2.ensures.value at c.have_room_each.ensures.looked)) refl refl
+    looked_moved g.A.Actor.steps c.args.net.now x (with_items x.ins c.hold_each.new.ends)
+    (with_items x.outs c.have_room_each.new.ends)
+    (rw ins (rw c.as_mut_slice.ensures.value at c.hold_each.ensures.looked))
+    (rw outs (rw c.as_mut_slice-2.ensures.value at c.have_room_each.ensures.looked)) refl refl
 
 pub hold_each-requires : goal.hold_each-requires
 hold_each-requires g c =
     let x = c.args.stand.now in
-    ins_row g.A.Actor.steps c.nodes_can_step.ensures.phases c.args.net.now (lists c.args.inputs.now) x c.requires c.phase-phase.result c.phase-phase.ensures c.row.result.now c.row.ensures c.as_mut_slice.result.now (c.as_mut_slice.ensures.len ∙ c.requires.ins_all)
+    ins_row g.A.Actor.steps c.nodes_can_step.ensures.phases c.args.net.now (lists c.args.inputs.now) x c.requires
+    c.phase-phase.result c.phase-phase.ensures c.row.result.now c.row.ensures c.as_mut_slice.result.now
+    (c.as_mut_slice.ensures.len ∙ c.requires.ins_all)
 
 pub have_room_each-requires : goal.have_room_each-requires
 have_room_each-requires g c =
     let x = c.args.stand.now in
-    outs_row g.A.Actor.steps c.nodes_can_step.ensures.phases c.args.net.now (lists c.args.inputs.now) x c.requires c.phase-phase.result c.phase-phase.ensures c.row-2.result.now c.row-2.ensures c.as_mut_slice-2.result.now (c.as_mut_slice-2.ensures.len ∙ c.requires.outs_all)
+    outs_row g.A.Actor.steps c.nodes_can_step.ensures.phases c.args.net.now (lists c.args.inputs.now) x c.requires
+    c.phase-phase.result c.phase-phase.ensures c.row-2.result.now c.row-2.ensures c.as_mut_slice-2.result.now
+    (c.as_mut_slice-2.ensures.len ∙ c.requires.outs_all)
 
 pub returns-then-not-hold_each-clause-no : goal.returns-then-not-hold_each-clause-no
 returns-then-not-hold_each-clause-no g c = λ f can.
@@ -58,7 +68,9 @@ returns-then-not-hold_each-clause-no g c = λ f can.
     let st = c.requires in
     let ins = with_items_is x.ins c.hold_each.new.ends (omega arith) in
     let no = c.hold_each.ensures.no (search rules) in
-    no (holds_by_row s c.nodes_can_step.ensures.phases c.args.net.now (lists c.args.inputs.now) x st c.phase-phase.result c.phase-phase.ensures c.row.result.now c.row.ensures c.hold_each.new.ends (omega (arith, st.ins_all, c.as_mut_slice.ensures.len))
+    no (holds_by_row s c.nodes_can_step.ensures.phases c.args.net.now (lists c.args.inputs.now) x st
+    c.phase-phase.result c.phase-phase.ensures c.row.result.now c.row.ensures c.hold_each.new.ends
+    (omega (arith, st.ins_all, c.as_mut_slice.ensures.len))
     (subst (HoldsEach (sizes s Input (node c.args.net.now x.actor) x.done)) ins can.holds))
 
 pub returns-clause-yes : goal.returns-clause-yes
@@ -73,9 +85,13 @@ returns-clause-yes g c = λ t.
     let outs = with_items_is x.outs c.have_room_each.new.ends (omega arith) in
     record {
       holds = subst (HoldsEach (sizes s Input (node n x.actor) x.done)) (sym ins)
-          (holds_by_firing s keep n inputs x st c.phase-phase.result c.phase-phase.ensures c.row.result.now c.row.ensures c.hold_each.new.ends (omega (arith, st.ins_all, c.as_mut_slice.ensures.len)) (c.hold_each.ensures.yes (search rules)));
+          (holds_by_firing s keep n inputs x st c.phase-phase.result c.phase-phase.ensures c.row.result.now
+          c.row.ensures c.hold_each.new.ends (omega (arith, st.ins_all, c.as_mut_slice.ensures.len))
+          (c.hold_each.ensures.yes (search rules)));
       has_room = subst (HasRoomEach (sizes s Output (node n x.actor) x.done)) (sym outs)
-          (room_by_firing s keep n inputs x st c.phase-phase.result c.phase-phase.ensures c.row-2.result.now c.row-2.ensures c.have_room_each.new.ends (omega (arith, st.outs_all, c.as_mut_slice-2.ensures.len)) (c.have_room_each.ensures.yes t));
+          (room_by_firing s keep n inputs x st c.phase-phase.result c.phase-phase.ensures c.row-2.result.now
+          c.row-2.ensures c.have_room_each.new.ends (omega (arith, st.outs_all, c.as_mut_slice-2.ensures.len))
+          (c.have_room_each.ensures.yes t));
     }
 
 pub returns-clause-no : goal.returns-clause-no
@@ -85,5 +101,7 @@ returns-clause-no g c = λ f can.
     let st = c.requires in
     let outs = with_items_is x.outs c.have_room_each.new.ends (omega arith) in
     c.have_room_each.ensures.no f
-    (room_by_row s c.nodes_can_step.ensures.phases c.args.net.now (lists c.args.inputs.now) x st c.phase-phase.result c.phase-phase.ensures c.row-2.result.now c.row-2.ensures c.have_room_each.new.ends (omega (arith, st.outs_all, c.as_mut_slice-2.ensures.len))
+    (room_by_row s c.nodes_can_step.ensures.phases c.args.net.now (lists c.args.inputs.now) x st c.phase-phase.result
+    c.phase-phase.ensures c.row-2.result.now c.row-2.ensures c.have_room_each.new.ends
+    (omega (arith, st.outs_all, c.as_mut_slice-2.ensures.len))
     (subst (HasRoomEach (sizes s Output (node c.args.net.now x.actor) x.done)) outs can.has_room))

@@ -12,12 +12,22 @@ loop-a-preserved g c =
     record {
       all = c.collect_at.ensures.all ∙ c.loop-a.invariant.all;
       nodes = length-set c.loop-a.states a c.collect_at.new.state ∙ c.loop-a.invariant.nodes;
-      rest = λ b w h. get_or-set_other c.loop-a.states a b c.collect_at.new.state w (λ e. absurd (omega arith)) ∙ c.loop-a.invariant.rest b w (omega arith);
-      lists = collected_more n c.net_facts.ensures.sinks.apart c.args.states.now c.loop-a.outputs c.collect_at.new.outputs a known (get_or c.loop-a.states a c.index-states-a.result)
-          (λ d. sym (c.loop-a.invariant.rest a d (omega arith)) ∙ get_or_default c.loop-a.states a d c.index-states-a.result (omega (arith, c.loop-a.invariant.nodes, c.requires.states, known)))
-          (subst (λ x. IsCollected x (get_or c.loop-a.states a c.index-states-a.result) c.loop-a.outputs c.collect_at.new.outputs) c.node.ensures c.collect_at.ensures) c.loop-a.invariant.lists;
+      rest = λ b w h. get_or-set_other c.loop-a.states a b c.collect_at.new.state w (λ e. absurd (omega arith))
+          ∙ c.loop-a.invariant.rest b w (omega arith);
+      lists = collected_more n c.net_facts.ensures.sinks.apart c.args.states.now c.loop-a.outputs
+          c.collect_at.new.outputs a known (get_or c.loop-a.states a c.index-states-a.result)
+          (λ d. sym (c.loop-a.invariant.rest a d (omega arith))
+          ∙ get_or_default c.loop-a.states a d c.index-states-a.result
+          (omega (arith, c.loop-a.invariant.nodes, c.requires.states, known)))
+          (subst (λ x. IsCollected x (get_or c.loop-a.states a c.index-states-a.result) c.loop-a.outputs
+          c.collect_at.new.outputs) c.node.ensures c.collect_at.ensures) c.loop-a.invariant.lists;
     }
 
 pub collect_at-requires-after_bounds : goal.collect_at-requires-after_bounds
 collect_at-requires-after_bounds g c κs within = λ ext block x.
-    omega (arith, c.net_facts.ensures.sinks.below c.loop-a.a ext block (omega arith) (sym c.node.ensures ∙ x), c.loop-a.invariant.all, c.requires.outputs)
+    omega (
+      arith,
+      c.net_facts.ensures.sinks.below c.loop-a.a ext block (omega arith) (sym c.node.ensures ∙ x),
+      c.loop-a.invariant.all,
+      c.requires.outputs,
+    )

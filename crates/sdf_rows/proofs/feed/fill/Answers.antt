@@ -24,16 +24,21 @@ returns-in_ok-held-in-Some g c =
     let items = c.in_ok-outputs.outputs.items in
     let run = c.in_ok-fired-in-Some.fired in
     let over = c.in_ok-fired-in-Some.ensures in
-    let rest : Rest g.row.A-Token.Denot g.row.A-State.Denot = record { states = c.in_ok-kept_by-in-Some.field-0; held = c.in_ok-held-in-Some.field-0 } in
+    let rest : Rest g.row.A-Token.Denot g.row.A-State.Denot =
+    record { states = c.in_ok-kept_by-in-Some.field-0; held = c.in_ok-held-in-Some.field-0 } in
     let same : length made ≡ length items = c.collect.ensures.all ∙ ap length c.deref_mut-in-Some.ensures.value in
     let count : length made ≡ list_count Outputs n.nodes = same ∙ (c.in_ok-outputs.ensures.0 ∙ c.outputs.ensures) in
     let long : c.in_ok-outputs.outputs.len ≡ length made = omega (arith, same, vec_long c.in_ok-outputs.outputs) in
-    let whole = ap (λ m. take m (made ++ drop (length made) items)) long ∙ take-append_seam made (drop (length made) items) in
-    let collected = subst (λ w. AreCollected n (length n.nodes) w made) c.deref_mut.ensures.value c.collect.ensures.lists in
+    let whole = ap (λ m. take m (made ++ drop (length made) items)) long
+    ∙ take-append_seam made (drop (length made) items) in
+    let collected = subst (λ w. AreCollected n (length n.nodes) w made) c.deref_mut.ensures.value
+    c.collect.ensures.lists in
     subst (λ v. HasRun s n (lists c.args.inputs.now) (periods_of q (p.blocks * p.j)) (lists v) rest) (sym whole)
-    (row_run s n (lists c.args.inputs.now) q p.j p.blocks over.0 run.states.items run.queues.items over.1 c.histories_make_runs.ensures.runs c.actors_keep_states.ensures c.net_facts.ensures.net
+    (row_run s n (lists c.args.inputs.now) q p.j p.blocks over.0 run.states.items run.queues.items over.1
+    c.histories_make_runs.ensures.runs c.actors_keep_states.ensures c.net_facts.ensures.net
     made collected count rest c.in_ok-kept_by-in-Some.ensures.all
-    (λ a w l. c.in_ok-kept_by-in-Some.ensures.each a w l ∙ ap (λ xs. kept_of (node n a) (get_or xs a w)) c.deref.ensures.value)
+    (λ a w l. c.in_ok-kept_by-in-Some.ensures.each a w l
+    ∙ ap (λ xs. kept_of (node n a) (get_or xs a w)) c.deref.ensures.value)
     (c.in_ok-held-in-Some.ensures ∙ ap (map (λ queue. queue.samples)) c.deref-in-Some.ensures.value))
 
 pub returns-in_ok-first_rest-in-None : goal.returns-in_ok-first_rest-in-None
@@ -41,7 +46,11 @@ returns-in_ok-first_rest-in-None g c =
     let n = c.args.net.now in
     let p = c.args.plan.now in
     let many_out = length-map c.in_ok-outputs.outputs.items (λ v. v.items) in
-    c.histories_make_runs.ensures.nothing n p.period.now.repetitions (p.blocks * p.j) (lists c.args.inputs.now) (lists c.in_ok-outputs.outputs.items) c.in_ok-first_rest-in-None.field-0
-    c.net_facts.ensures.net c.requires.inputs (omega (arith, c.requires.inputs.count, c.net_facts.ensures.accepted.1.lists.input)) c.requires.some (rw c.in-None.is at c.first_sample.ensures)
-    (many_out ∙ (c.in_ok-outputs.ensures.0 ∙ c.outputs.ensures)) (λ e l. (c.in_ok-outputs.ensures.1 e (omega (arith, many_out, c.in_ok-outputs.ensures.0))).0)
+    c.histories_make_runs.ensures.nothing n p.period.now.repetitions (p.blocks * p.j) (lists c.args.inputs.now)
+    (lists c.in_ok-outputs.outputs.items) c.in_ok-first_rest-in-None.field-0
+    c.net_facts.ensures.net c.requires.inputs (omega
+    (arith, c.requires.inputs.count, c.net_facts.ensures.accepted.1.lists.input)) c.requires.some
+    (rw c.in-None.is at c.first_sample.ensures)
+    (many_out ∙ (c.in_ok-outputs.ensures.0 ∙ c.outputs.ensures))
+    (λ e l. (c.in_ok-outputs.ensures.1 e (omega (arith, many_out, c.in_ok-outputs.ensures.0))).0)
     (c.in_ok-first_rest-in-None.ensures (lists c.args.inputs.now))

@@ -6,5 +6,6 @@ use Rattle.sdf_rows.proofs.feed.kept_by.Given as goal
 abbrev pub invariant-loop-a : goal.invariant-loop-a
 invariant-loop-a g l = record {
   all : length l.copies.items ≡ l.a;
-  each : (b : ℕ) (d : _) → b < l.a → slice_index_or l.copies.items b None ≡ kept_of (node l.net b) (slice_index_or l.states b d);
+  each : (b : ℕ) (d : _) → b < l.a → slice_index_or l.copies.items b None ≡
+      kept_of (node l.net b) (slice_index_or l.states b d);
 }

@@ -9,6 +9,9 @@ step_into-requires-clause-can g c = λ κs within.
     let s = g.A.Actor.steps in
     let n = c.args.net.now in
     let j = c.args.job.now in
-    can_here s n (lists c.args.inputs.now) c.args.sizes.now c.args.queues.now j c.requires c.node-node.result.now c.read_fronts.new.block.items c.puts-many.result c.node-node.ensures
-    (read_is c.channels_in.result.now ((wiring s n).ins j.actor) c.on.result.now (at_phase c.args.sizes.now.takes j.phase) c.args.queues.now c.clear.new.self.items c.read_fronts.new.block.items
+    can_here s n (lists c.args.inputs.now) c.args.sizes.now c.args.queues.now j c.requires c.node-node.result.now
+    c.read_fronts.new.block.items c.puts-many.result c.node-node.ensures
+    (read_is c.channels_in.result.now ((wiring s n).ins j.actor) c.on.result.now
+    (at_phase c.args.sizes.now.takes j.phase) c.args.queues.now c.clear.new.self.items
+    c.read_fronts.new.block.items
     c.channels_in.ensures c.on.ensures c.clear.ensures.items c.read_fronts.ensures.block) c.puts-many.ensures

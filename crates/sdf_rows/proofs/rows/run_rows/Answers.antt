@@ -9,12 +9,19 @@ use Rattle.sdf_rows.proofs.rows.run_rows.Goals as goal
 
 pub rounds_of-rounds-requires : goal.rounds_of-rounds-requires
 rounds_of-rounds-requires g c =
-    omega (arith, rows_few c.tables_count.ensures (rates (graph_of g.A.Actor.steps c.args.net.now)) c.args.period.now.repetitions c.args.j c.args.table.now c.requires.period.least.is.all c.requires.table, c.rows.ensures)
+    omega (
+      arith,
+      rows_few c.tables_count.ensures (rates (graph_of g.A.Actor.steps c.args.net.now))
+          c.args.period.now.repetitions c.args.j c.args.table.now c.requires.period.least.is.all c.requires.table,
+      c.rows.ensures,
+    )
 
 pub returns : goal.returns
 returns g c =
     let q = c.args.period.now.repetitions in (
-      given c.args.net.now q (c.args.blocks * c.args.j) c.inputs.result c.samples_of_blocks-least.result c.samples_in.result (lists c.args.inputs.now) (c.if-not-are_inputs.ensures.0 refl) c.inputs.ensures c.samples_of_blocks-least.ensures
+      given c.args.net.now q (c.args.blocks * c.args.j) c.inputs.result c.samples_of_blocks-least.result
+          c.samples_in.result (lists c.args.inputs.now) (c.if-not-are_inputs.ensures.0 refl) c.inputs.ensures
+          c.samples_of_blocks-least.ensures
           (c.samples_in.ensures.value q c.requires.period.least),
       c.in_ok-outputs.ensures,
       c.rounds_of-rounds.ensures ∙ ap (λ m. c.args.blocks * m) c.rows.ensures,
@@ -31,7 +38,8 @@ returns-then-not-are_inputs g c = λ has.
     let q = c.args.period.now.repetitions in
     both_ways false refl
     (c.if-not-are_inputs.ensures.1
-    (asked c.args.net.now q (c.args.blocks * c.args.j) c.inputs.result c.samples_of_blocks-least.result c.samples_in.result (lists c.args.inputs.now) has c.inputs.ensures c.samples_of_blocks-least.ensures
+    (asked c.args.net.now q (c.args.blocks * c.args.j) c.inputs.result c.samples_of_blocks-least.result
+    c.samples_in.result (lists c.args.inputs.now) has c.inputs.ensures c.samples_of_blocks-least.ensures
     (c.samples_in.ensures.value q c.requires.period.least)))
 
 pub fill-requires-clause-period : goal.fill-requires-clause-period
@@ -43,8 +51,11 @@ fill-requires-clause-table g c = λ κs within. c.requires.table
 pub fill-requires-clause-inputs : goal.fill-requires-clause-inputs
 fill-requires-clause-inputs g c = λ κs within.
     let q = c.args.period.now.repetitions in
-    given c.args.net.now q (c.args.blocks * c.args.j) c.inputs.result c.samples_of_blocks-least.result c.samples_in.result (lists c.args.inputs.now) (c.if-not-are_inputs.ensures.0 refl) c.inputs.ensures c.samples_of_blocks-least.ensures
+    given c.args.net.now q (c.args.blocks * c.args.j) c.inputs.result c.samples_of_blocks-least.result
+    c.samples_in.result (lists c.args.inputs.now) (c.if-not-are_inputs.ensures.0 refl) c.inputs.ensures
+    c.samples_of_blocks-least.ensures
     (c.samples_in.ensures.value q c.requires.period.least)
 
 pub fill-requires-clause-some : goal.fill-requires-clause-some
-fill-requires-clause-some g c = λ κs within. subst (λ m. 0 < m) (c.samples_in.ensures.value c.args.period.now.repetitions c.requires.period.least) c.samples_in.ensures.some
+fill-requires-clause-some g c = λ κs within. subst (λ m. 0 < m)
+    (c.samples_in.ensures.value c.args.period.now.repetitions c.requires.period.least) c.samples_in.ensures.some

@@ -13,10 +13,16 @@ use Rattle.sdf_rows.proofs.runs.run_block.Goals as goal
 use Rattle.sdf_rows.proofs.runs.run_block.Goals.{In-loop-i}
 
 next : (g : Rattle.sdf_rows.proofs.runs.run_block.Given.Over) (c : In-loop-i g) →
-    IsRow g.A.Actor.steps c.args.scene.now.net.now (λ a. get_or c.loop-i.done a 0) (block_after c.args.course.now.repetitions.now c.args.course.now.j (λ a. get_or c.args.done.now a 0)) (row_actors (row c.args.course.now.table.now.rows c.loop-i.i))
+    IsRow g.A.Actor.steps c.args.scene.now.net.now (λ a. get_or c.loop-i.done a 0)
+    (block_after c.args.course.now.repetitions.now c.args.course.now.j (λ a. get_or c.args.done.now a 0))
+    (row_actors (row c.args.course.now.table.now.rows c.loop-i.i))
 next g c =
-    row_is g.A.Actor.steps c.args.scene.now.net.now (rates (graph_of g.A.Actor.steps c.args.scene.now.net.now)) c.requires.alike (c.graphs_are_sound.ensures (graph_of g.A.Actor.steps c.args.scene.now.net.now) c.requires.graph)
-    c.rows_may_fire.ensures (λ a. get_or (block c.args.course.now.j c.args.course.now.repetitions.now) a 0) c.args.course.now.table.now.rows c.requires.table.table.valid (λ a. get_or c.args.done.now a 0) c.requires.round c.loop-i.i
+    row_is g.A.Actor.steps c.args.scene.now.net.now (rates (graph_of g.A.Actor.steps c.args.scene.now.net.now))
+    c.requires.alike (c.graphs_are_sound.ensures (graph_of g.A.Actor.steps c.args.scene.now.net.now)
+    c.requires.graph)
+    c.rows_may_fire.ensures (λ a. get_or (block c.args.course.now.j c.args.course.now.repetitions.now) a 0)
+    c.args.course.now.table.now.rows c.requires.table.table.valid (λ a. get_or c.args.done.now a 0)
+    c.requires.round c.loop-i.i
     (omega (arith, c.loop-i-test.true, c.rows-i-end.ensures)) (λ a. get_or c.loop-i.done a 0) c.loop-i.invariant.done
 
 pub run_row-requires-clause-between : goal.run_row-requires-clause-between
@@ -27,16 +33,23 @@ run_row-requires-clause-between g c = λ κs within.
       (λ a. get_or c.args.done.now a 0),
       high,
       c.loop-i.invariant.over b.0 b.1,
-      subst (λ r. IsRow g.A.Actor.steps c.args.scene.now.net.now (λ a. get_or c.loop-i.done a 0) high (row_actors r)) (sym c.row.ensures) (next g (goal.at.run_row-requires-clause-between g c).In-loop-i),
+      subst (λ r. IsRow g.A.Actor.steps c.args.scene.now.net.now (λ a. get_or c.loop-i.done a 0) high (row_actors r))
+          (sym c.row.ensures) (next g (goal.at.run_row-requires-clause-between g c).In-loop-i),
     )
 
 pub run_row-requires-clause-blocks : goal.run_row-requires-clause-blocks
 run_row-requires-clause-blocks g c = λ κs within.
-    keep_have g.A.Actor.steps c.args.scene.now.net.now c.args.jobs.now c.loop-i.jobs c.requires.blocks c.loop-i.invariant.blocks
+    keep_have g.A.Actor.steps c.args.scene.now.net.now c.args.jobs.now c.loop-i.jobs c.requires.blocks
+    c.loop-i.invariant.blocks
 
 pub run_row-requires-clause-few : goal.run_row-requires-clause-few
 run_row-requires-clause-few g c = λ κs within.
-    omega (arith, c.requires.wide c.loop-i.i (omega (arith, c.loop-i-test.true, c.rows-i-end.ensures)), ap (λ r. length (firings r)) c.row.ensures, c.loop-i.invariant.blocks.all)
+    omega (
+      arith,
+      c.requires.wide c.loop-i.i (omega (arith, c.loop-i-test.true, c.rows-i-end.ensures)),
+      ap (λ r. length (firings r)) c.row.ensures,
+      c.loop-i.invariant.blocks.all,
+    )
 
 pub loop-i-preserved : goal.loop-i-preserved
 loop-i-preserved g c =
@@ -46,15 +59,26 @@ loop-i-preserved g c =
     record {
       over = λ many st.
           c.run_row.ensures.between many low high (c.loop-i.invariant.over many st)
-          (subst (λ r. IsRow g.A.Actor.steps c.args.scene.now.net.now (λ a. get_or c.loop-i.done a 0) high (row_actors r)) (sym c.row.ensures) (next g (goal.at.loop-i-preserved g c).In-loop-i));
-      done = λ a. omega (arith, c.run_row.ensures.done a, c.loop-i.invariant.done a, row_counts rows c.loop-i.i a (omega (arith, c.loop-i-test.true, c.rows-i-end.ensures)), ap (λ r. times (row_actors r) a) c.row.ensures);
+          (subst (λ r. IsRow g.A.Actor.steps c.args.scene.now.net.now (λ a. get_or c.loop-i.done a 0) high
+          (row_actors r)) (sym c.row.ensures) (next g (goal.at.loop-i-preserved g c).In-loop-i));
+      done = λ a. omega (
+        arith,
+        c.run_row.ensures.done a,
+        c.loop-i.invariant.done a,
+        row_counts rows c.loop-i.i a (omega (arith, c.loop-i-test.true, c.rows-i-end.ensures)),
+        ap (λ r. times (row_actors r) a) c.row.ensures,
+      );
       counts = c.run_row.ensures.counts ∙ c.loop-i.invariant.counts;
-      blocks = keep_twice c.args.jobs.now c.loop-i.jobs c.run_row.new.jobs c.loop-i.invariant.blocks c.run_row.ensures.blocks;
+      blocks = keep_twice c.args.jobs.now c.loop-i.jobs c.run_row.new.jobs c.loop-i.invariant.blocks
+          c.run_row.ensures.blocks;
     }
 
 pub returns-clause-done : goal.returns-clause-done
 returns-clause-done g c = λ a l.
     let r = rates (graph_of g.A.Actor.steps c.args.scene.now.net.now) in
     c.loop-i.invariant.done a ∙ ap (λ t. get_or c.args.done.now a 0 + t)
-    (block_counts c.orders_are_passes.ensures.admissible r (λ a. get_or (block c.args.course.now.j c.args.course.now.repetitions.now) a 0) c.args.course.now.table.now.rows c.loop-i.i a
-    c.requires.table.table.valid (omega (arith, c.loop-i-test.false, c.rows-i-end.ensures)) (omega (arith, l, c.requires.alike.actors)))
+    (block_counts c.orders_are_passes.ensures.admissible r
+    (λ a. get_or (block c.args.course.now.j c.args.course.now.repetitions.now) a 0)
+    c.args.course.now.table.now.rows c.loop-i.i a
+    c.requires.table.table.valid (omega (arith, c.loop-i-test.false, c.rows-i-end.ensures))
+    (omega (arith, l, c.requires.alike.actors)))

@@ -6,7 +6,8 @@ use Rattle.sdf_rows.proofs.runs.run_blocks.Given as goal
 
 abbrev pub invariant-loop : goal.invariant-loop
 invariant-loop g l = record {
-  rests : IsResting g.A.Actor.steps l.scene.net.now (lists l.scene.inputs.now) l.course.repetitions.now l.course.j l.blocks l.counter (slice_index l.done) l.states l.queues;
+  rests : IsResting g.A.Actor.steps l.scene.net.now (lists l.scene.inputs.now) l.course.repetitions.now l.course.j
+      l.blocks l.counter (slice_index l.done) l.states l.queues;
   counts : length l.done ≡ length l.initial.done;
   blocks : KeepBlocks l.initial.jobs l.jobs;
 }

@@ -8,14 +8,25 @@ use Rattle.sdf_rows.proofs.Fills.{all_fit, same_actors, all_back_here, fired_kee
 use Rattle.sdf_rows.proofs.stage.fire_row.Goals as goal
 use Rattle.sdf_rows.proofs.stage.fire_row.Goals.{After-row_laws}
 
-net : (g : Rattle.sdf_rows.proofs.stage.fire_row.Given.Over) (c : After-row_laws g) → Known g.A.Actor.steps c.args.scene.now.net.now
-net g c = record { good = c.requires.scene.good; wired = c.row_laws.ensures.wired c.args.scene.now.net.now c.requires.scene.good; fit = c.row_laws.ensures.fit; counts = c.row_laws.ensures.counts; stand = c.row_laws.ensures.stand; moves = c.row_laws.ensures.moves }
+net : (g : Rattle.sdf_rows.proofs.stage.fire_row.Given.Over) (c : After-row_laws g) →
+    Known g.A.Actor.steps c.args.scene.now.net.now
+net g c = record {
+  good = c.requires.scene.good;
+  wired = c.row_laws.ensures.wired c.args.scene.now.net.now c.requires.scene.good;
+  fit = c.row_laws.ensures.fit;
+  counts = c.row_laws.ensures.counts;
+  stand = c.row_laws.ensures.stand;
+  moves = c.row_laws.ensures.moves;
+}
 
 pub fire_jobs-requires-after_bounds : goal.fire_jobs-requires-after_bounds
 fire_jobs-requires-after_bounds g c = λ κs within.
     let b = c.requires.filled in
-    all_fit g.A.Actor.steps c.args.scene.now.net.now (net g (goal.at.fire_jobs-requires-after_bounds g c).After-row_laws) c.args.scene.now.sizes c.requires.scene.sizes (lists c.args.scene.now.inputs.now)
-    c.row_laws.ensures.steps c.row_laws.ensures.phases b.0 b.1 b.2 (λ a. get_or c.args.done.now a 0) c.args.states.now c.args.queues.now c.args.jobs.now b.3
+    all_fit g.A.Actor.steps c.args.scene.now.net.now
+    (net g (goal.at.fire_jobs-requires-after_bounds g c).After-row_laws) c.args.scene.now.sizes
+    c.requires.scene.sizes (lists c.args.scene.now.inputs.now)
+    c.row_laws.ensures.steps c.row_laws.ensures.phases b.0 b.1 b.2 (λ a. get_or c.args.done.now a 0) c.args.states.now
+    c.args.queues.now c.args.jobs.now b.3
 
 pub settle_row-requires-clause-back : goal.settle_row-requires-clause-back
 settle_row-requires-clause-back g c = λ κs within.
@@ -23,8 +34,11 @@ settle_row-requires-clause-back g c = λ κs within.
       b.0,
       b.1,
       b.2,
-      all_back_here g.A.Actor.steps c.args.scene.now.net.now (net g (goal.at.settle_row-requires-clause-back g c).After-row_laws) c.args.scene.now.sizes c.requires.scene.sizes (lists c.args.scene.now.inputs.now)
-          c.row_laws.ensures.steps c.row_laws.ensures.phases b.0 b.1 b.2 (λ a. get_or c.args.done.now a 0) c.args.states.now c.args.queues.now c.args.jobs.now b.3
+      all_back_here g.A.Actor.steps c.args.scene.now.net.now
+          (net g (goal.at.settle_row-requires-clause-back g c).After-row_laws) c.args.scene.now.sizes
+          c.requires.scene.sizes (lists c.args.scene.now.inputs.now)
+          c.row_laws.ensures.steps c.row_laws.ensures.phases b.0 b.1 b.2 (λ a. get_or c.args.done.now a 0)
+          c.args.states.now c.args.queues.now c.args.jobs.now b.3
           c.fire_jobs.new.jobs c.fire_jobs.auto.jobs c.fire_jobs.ensures,
     )
 
@@ -34,18 +48,23 @@ returns-clause-settled g c = λ many low high was.
     let n = c.args.scene.now.net.now in
     let inputs = lists c.args.scene.now.inputs.now in
     let back =
-    all_back_here s n (net g (goal.at.returns-clause-settled g c).After-row_laws) c.args.scene.now.sizes c.requires.scene.sizes inputs
-    c.row_laws.ensures.steps c.row_laws.ensures.phases many low high (λ a. get_or c.args.done.now a 0) c.args.states.now c.args.queues.now c.args.jobs.now was
+    all_back_here s n (net g (goal.at.returns-clause-settled g c).After-row_laws) c.args.scene.now.sizes
+    c.requires.scene.sizes inputs
+    c.row_laws.ensures.steps c.row_laws.ensures.phases many low high (λ a. get_or c.args.done.now a 0) c.args.states.now
+    c.args.queues.now c.args.jobs.now was
     c.fire_jobs.new.jobs c.fire_jobs.auto.jobs c.fire_jobs.ensures in
-    row_over s n inputs many low high (actors_of c.fire_jobs.new.jobs) (length c.fire_jobs.new.jobs) (λ a. get_or c.settle_row.new.done a 0) c.settle_row.new.states c.settle_row.new.queues c.settle_row.new.jobs
+    row_over s n inputs many low high (actors_of c.fire_jobs.new.jobs) (length c.fire_jobs.new.jobs)
+    (λ a. get_or c.settle_row.new.done a 0) c.settle_row.new.states c.settle_row.new.queues c.settle_row.new.jobs
     (omega (arith, length-map c.fire_jobs.new.jobs (λ j. j.actor))) (c.settle_row.ensures.settled many low high back)
 
 pub returns-clause-done : goal.returns-clause-done
 returns-clause-done g c = λ a.
     let b = c.requires.filled in
     let same =
-    same_actors g.A.Actor.steps c.args.scene.now.net.now (net g (goal.at.returns-clause-done g c).After-row_laws) c.args.scene.now.sizes c.requires.scene.sizes (lists c.args.scene.now.inputs.now)
-    c.row_laws.ensures.steps c.row_laws.ensures.phases b.0 b.1 b.2 (λ a. get_or c.args.done.now a 0) c.args.states.now c.args.queues.now c.args.jobs.now b.3
+    same_actors g.A.Actor.steps c.args.scene.now.net.now (net g (goal.at.returns-clause-done g c).After-row_laws)
+    c.args.scene.now.sizes c.requires.scene.sizes (lists c.args.scene.now.inputs.now)
+    c.row_laws.ensures.steps c.row_laws.ensures.phases b.0 b.1 b.2 (λ a. get_or c.args.done.now a 0) c.args.states.now
+    c.args.queues.now c.args.jobs.now b.3
     c.fire_jobs.new.jobs c.fire_jobs.auto.jobs c.fire_jobs.ensures in
     c.settle_row.ensures.done a ∙ ap (λ w. get_or c.args.done.now a 0 + times w a) same
 
@@ -53,6 +72,8 @@ pub returns-clause-blocks : goal.returns-clause-blocks
 returns-clause-blocks g c =
     let b = c.requires.filled in
     keep_twice c.args.jobs.now c.fire_jobs.new.jobs c.settle_row.new.jobs
-    (fired_keep g.A.Actor.steps c.args.scene.now.net.now (net g (goal.at.returns-clause-blocks g c).After-row_laws) c.args.scene.now.sizes c.requires.scene.sizes (lists c.args.scene.now.inputs.now)
-    c.row_laws.ensures.steps c.row_laws.ensures.phases b.0 b.1 b.2 (λ a. get_or c.args.done.now a 0) c.args.states.now c.args.queues.now c.args.jobs.now b.3
+    (fired_keep g.A.Actor.steps c.args.scene.now.net.now (net g (goal.at.returns-clause-blocks g c).After-row_laws)
+    c.args.scene.now.sizes c.requires.scene.sizes (lists c.args.scene.now.inputs.now)
+    c.row_laws.ensures.steps c.row_laws.ensures.phases b.0 b.1 b.2 (λ a. get_or c.args.done.now a 0) c.args.states.now
+    c.args.queues.now c.args.jobs.now b.3
     c.fire_jobs.new.jobs c.fire_jobs.auto.jobs c.fire_jobs.ensures) c.settle_row.ensures.blocks

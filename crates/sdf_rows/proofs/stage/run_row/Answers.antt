@@ -8,7 +8,8 @@ use Rattle.sdf_rows.proofs.stage.run_row.Goals as goal
 pub load_row-many-requires-clause-counted : goal.load_row-many-requires-clause-counted
 load_row-many-requires-clause-counted g c = λ κs within j f h is.
     let b = c.requires.between in
-    let known = cells_known g.A.Actor.steps c.args.scene.now.net.now (λ a. get_or c.args.done.now a 0) b.2 c.args.row.now b.4 j f h is in
+    let known = cells_known g.A.Actor.steps c.args.scene.now.net.now (λ a. get_or c.args.done.now a 0) b.2
+    c.args.row.now b.4 j f h is in
     (omega (arith, known, c.requires.counted), omega (arith, known, b.3.nodes))
 
 pub fire_row-requires-clause-filled : goal.fire_row-requires-clause-filled
@@ -19,9 +20,14 @@ fire_row-requires-clause-filled g c = λ κs within.
       b.0,
       b.1,
       b.2,
-      filling_front s n (lists c.args.scene.now.inputs.now) c.row_laws.ensures.phases c.row_laws.ensures.counts b.0 b.1 b.2 (λ a. get_or c.args.done.now a 0) c.args.states.now c.load_row-many.new.states c.args.queues.now c.args.jobs.now c.load_row-many.new.jobs
-          c.args.row.now b.3 b.4 c.requires.blocks c.requires.few c.load_row-many.ensures.loaded c.split_at_mut-front.result.0.now (c.split_at_mut-front.ensures.front_len ∙ c.load_row-many.ensures.many)
-          (λ i d h. ap (λ xs. get_or xs i d) c.split_at_mut-front.ensures.front ∙ get_or-take c.load_row-many.result c.load_row-many.new.jobs i d (omega (arith, c.load_row-many.ensures.many, h))),
+      filling_front s n (lists c.args.scene.now.inputs.now) c.row_laws.ensures.phases c.row_laws.ensures.counts b.0 b.1
+          b.2 (λ a. get_or c.args.done.now a 0) c.args.states.now c.load_row-many.new.states c.args.queues.now
+          c.args.jobs.now c.load_row-many.new.jobs
+          c.args.row.now b.3 b.4 c.requires.blocks c.requires.few c.load_row-many.ensures.loaded
+          c.split_at_mut-front.result.0.now (c.split_at_mut-front.ensures.front_len ∙ c.load_row-many.ensures.many)
+          (λ i d h. ap (λ xs. get_or xs i d) c.split_at_mut-front.ensures.front
+          ∙ get_or-take c.load_row-many.result c.load_row-many.new.jobs i d
+          (omega (arith, c.load_row-many.ensures.many, h))),
     )
 
 pub returns-clause-between : goal.returns-clause-between
@@ -29,9 +35,14 @@ returns-clause-between g c = λ many low high st is.
     let s = g.A.Actor.steps in
     let n = c.args.scene.now.net.now in
     c.fire_row.ensures.settled many low high
-    (filling_front s n (lists c.args.scene.now.inputs.now) c.row_laws.ensures.phases c.row_laws.ensures.counts many low high (λ a. get_or c.args.done.now a 0) c.args.states.now c.load_row-many.new.states c.args.queues.now c.args.jobs.now c.load_row-many.new.jobs
-    c.args.row.now st is c.requires.blocks c.requires.few c.load_row-many.ensures.loaded c.split_at_mut-front.result.0.now (c.split_at_mut-front.ensures.front_len ∙ c.load_row-many.ensures.many)
-    (λ i d h. ap (λ xs. get_or xs i d) c.split_at_mut-front.ensures.front ∙ get_or-take c.load_row-many.result c.load_row-many.new.jobs i d (omega (arith, c.load_row-many.ensures.many, h))))
+    (filling_front s n (lists c.args.scene.now.inputs.now) c.row_laws.ensures.phases c.row_laws.ensures.counts many low
+    high (λ a. get_or c.args.done.now a 0) c.args.states.now c.load_row-many.new.states c.args.queues.now
+    c.args.jobs.now c.load_row-many.new.jobs
+    c.args.row.now st is c.requires.blocks c.requires.few c.load_row-many.ensures.loaded
+    c.split_at_mut-front.result.0.now (c.split_at_mut-front.ensures.front_len ∙ c.load_row-many.ensures.many)
+    (λ i d h. ap (λ xs. get_or xs i d) c.split_at_mut-front.ensures.front
+    ∙ get_or-take c.load_row-many.result c.load_row-many.new.jobs i d
+    (omega (arith, c.load_row-many.ensures.many, h))))
 
 pub returns-clause-done : goal.returns-clause-done
 returns-clause-done g c = λ a.
@@ -39,16 +50,28 @@ returns-clause-done g c = λ a.
     let s = g.A.Actor.steps in
     let n = c.args.scene.now.net.now in
     c.fire_row.ensures.done a ∙ ap (λ w. get_or c.args.done.now a 0 + times w a)
-    (front_actors s n (lists c.args.scene.now.inputs.now) c.row_laws.ensures.phases c.row_laws.ensures.counts b.0 b.1 b.2 (λ a. get_or c.args.done.now a 0) c.args.states.now c.load_row-many.new.states c.args.queues.now c.args.jobs.now c.load_row-many.new.jobs
-    c.args.row.now b.3 b.4 c.requires.blocks c.requires.few c.load_row-many.ensures.loaded c.split_at_mut-front.result.0.now (c.split_at_mut-front.ensures.front_len ∙ c.load_row-many.ensures.many)
-    (λ i d h. ap (λ xs. get_or xs i d) c.split_at_mut-front.ensures.front ∙ get_or-take c.load_row-many.result c.load_row-many.new.jobs i d (omega (arith, c.load_row-many.ensures.many, h))))
+    (front_actors s n (lists c.args.scene.now.inputs.now) c.row_laws.ensures.phases c.row_laws.ensures.counts b.0 b.1
+    b.2 (λ a. get_or c.args.done.now a 0) c.args.states.now c.load_row-many.new.states c.args.queues.now
+    c.args.jobs.now c.load_row-many.new.jobs
+    c.args.row.now b.3 b.4 c.requires.blocks c.requires.few c.load_row-many.ensures.loaded
+    c.split_at_mut-front.result.0.now (c.split_at_mut-front.ensures.front_len ∙ c.load_row-many.ensures.many)
+    (λ i d h. ap (λ xs. get_or xs i d) c.split_at_mut-front.ensures.front
+    ∙ get_or-take c.load_row-many.result c.load_row-many.new.jobs i d
+    (omega (arith, c.load_row-many.ensures.many, h))))
 
 pub returns-clause-blocks : goal.returns-clause-blocks
 returns-clause-blocks g c =
     let b = c.requires.between in
     let s = g.A.Actor.steps in
     let n = c.args.scene.now.net.now in
-    row_keeps s n (lists c.args.scene.now.inputs.now) c.row_laws.ensures.phases c.row_laws.ensures.counts b.0 b.1 b.2 (λ a. get_or c.args.done.now a 0) c.args.states.now c.load_row-many.new.states c.args.queues.now c.args.jobs.now c.load_row-many.new.jobs
-    c.args.row.now b.3 b.4 c.requires.blocks c.requires.few c.load_row-many.ensures.loaded c.split_at_mut-front.result.0.now (c.split_at_mut-front.ensures.front_len ∙ c.load_row-many.ensures.many)
-    (λ i d h. ap (λ xs. get_or xs i d) c.split_at_mut-front.ensures.front ∙ get_or-take c.load_row-many.result c.load_row-many.new.jobs i d (omega (arith, c.load_row-many.ensures.many, h)))
-    c.fire_row.new.jobs c.split_at_mut-front.result.1.now (c.split_at_mut-front.ensures.back ∙ ap (λ m. drop m c.load_row-many.new.jobs) c.load_row-many.ensures.many) c.fire_row.ensures.blocks
+    row_keeps s n (lists c.args.scene.now.inputs.now) c.row_laws.ensures.phases c.row_laws.ensures.counts b.0 b.1 b.2
+    (λ a. get_or c.args.done.now a 0) c.args.states.now c.load_row-many.new.states c.args.queues.now c.args.jobs.now
+    c.load_row-many.new.jobs
+    c.args.row.now b.3 b.4 c.requires.blocks c.requires.few c.load_row-many.ensures.loaded
+    c.split_at_mut-front.result.0.now (c.split_at_mut-front.ensures.front_len ∙ c.load_row-many.ensures.many)
+    (λ i d h. ap (λ xs. get_or xs i d) c.split_at_mut-front.ensures.front
+    ∙ get_or-take c.load_row-many.result c.load_row-many.new.jobs i d
+    (omega (arith, c.load_row-many.ensures.many, h)))
+    c.fire_row.new.jobs c.split_at_mut-front.result.1.now
+    (c.split_at_mut-front.ensures.back ∙ ap (λ m. drop m c.load_row-many.new.jobs) c.load_row-many.ensures.many)
+    c.fire_row.ensures.blocks

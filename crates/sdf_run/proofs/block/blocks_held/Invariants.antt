@@ -6,5 +6,6 @@ abbrev pub invariant-loop-c : goal.invariant-loop-c
 invariant-loop-c g l = record {
   some : 0 < l.times;
   within : l.times ≤ l.most;
-  held : (n : ℕ) → n < l.c-index → l.times * slice_index l.sizes (slice_index l.ports n) ≤ length (samples l.queues (slice_index l.ports n));
+  held : (n : ℕ) → n < l.c-index → l.times * slice_index l.sizes (slice_index l.ports n) ≤
+      length (samples l.queues (slice_index l.ports n));
 }

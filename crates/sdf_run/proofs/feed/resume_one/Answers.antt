@@ -8,14 +8,21 @@ use Rattle.sdf_run.proofs.feed.resume_one.Goals as goal
 
 pub begun-requires-clause-rest : goal.begun-requires-clause-rest
 begun-requires-clause-rest g c κs within =
-    let q = c.args.period.now.repetitions in
-    (c.requires.rest.0, periods_of q c.requires.rest.1, c.begun_nets_go_on.ensures.whole c.args.net.now c.args.period.now c.requires.rest.1 (c.nets_have_periods.ensures c.args.period.now c.requires.period), c.requires.rest.2)
+    let q = c.args.period.now.repetitions in (
+      c.requires.rest.0,
+      periods_of q c.requires.rest.1,
+      c.begun_nets_go_on.ensures.whole c.args.net.now c.args.period.now c.requires.rest.1
+          (c.nets_have_periods.ensures c.args.period.now c.requires.period),
+      c.requires.rest.2,
+    )
 
 pub feed_one-requires-clause-period : goal.feed_one-requires-clause-period
-feed_one-requires-clause-period g c κs within = subst (λ x. IsPeriodOf (rates x) c.args.period.now) (sym c.in_ok-begun.ensures.graph) c.requires.period
+feed_one-requires-clause-period g c κs within = subst (λ x. IsPeriodOf (rates x) c.args.period.now)
+    (sym c.in_ok-begun.ensures.graph) c.requires.period
 
 -- what holds of a result's parts
-matched : {X E : Type 0} (P Q : X → Type 0) (F G : E → Type 0) → ((x : X) → P x → Q x) → ((e : E) → F e → G e) → (r : Result X E) → MatchResult r P F → MatchResult r Q G
+matched : {X E : Type 0} (P Q : X → Type 0) (F G : E → Type 0) → ((x : X) → P x → Q x) → ((e : E) → F e → G e) →
+    (r : Result X E) → MatchResult r P F → MatchResult r Q G
 matched P Q F G ok err (Ok x) h = ok x h
 matched P Q F G ok err (Err e) h = err e h
 
@@ -27,8 +34,10 @@ returns g c =
     let begins = c.in_ok-begun.ensures.begins in
     matched _ _ _ _
     (λ fed made. (
-      c.begun_nets_go_on.ensures.runs n m c.args.period.now c.args.periods later (lists fed.0.outputs.items) c.args.rest.now fed.1 (c.nets_have_periods.ensures c.args.period.now c.requires.period) begins made.0 made.1,
+      c.begun_nets_go_on.ensures.runs n m c.args.period.now c.args.periods later (lists fed.0.outputs.items)
+          c.args.rest.now fed.1 (c.nets_have_periods.ensures c.args.period.now c.requires.period) begins made.0 made.1,
       made.2,
     ))
-    (λ fault. c.begun_nets_go_on.ensures.faults n c.args.rest.now m c.args.period.now.repetitions c.args.periods later fault begins)
+    (λ fault. c.begun_nets_go_on.ensures.faults n c.args.rest.now m c.args.period.now.repetitions c.args.periods
+    later fault begins)
     c.feed_one.result c.feed_one.ensures

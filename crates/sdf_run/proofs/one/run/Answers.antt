@@ -12,7 +12,9 @@ returns g c =
     let q = c.args.period.now.repetitions in
     let made = c.in_ok-finished.finished in
     let has = c.in_ok-finished.ensures in
-    c.histories_make_outputs.ensures.outputs n (lists c.args.inputs.now) q c.args.periods (λ a. get_or made.done.items a 0) has.stands.history (lists made.outputs.items)
+    c.histories_make_outputs.ensures.outputs n (lists c.args.inputs.now) q c.args.periods
+    (λ a. get_or made.done.items a 0) has.stands.history (lists made.outputs.items)
     c.net_facts.ensures.net has.stands.is has.done (length-map made.outputs.items (λ v. v.items) ∙ has.outputs)
-    (all_taken s n (c.nets_are_wired.ensures.wired n c.net_facts.ensures.net) (lists c.args.inputs.now) (periods_of q c.args.periods) (λ a. get_or made.done.items a 0)
+    (all_taken s n (c.nets_are_wired.ensures.wired n c.net_facts.ensures.net) (lists c.args.inputs.now)
+    (periods_of q c.args.periods) (λ a. get_or made.done.items a 0)
     made.works.items made.queues.items made.outputs.items has.stands)

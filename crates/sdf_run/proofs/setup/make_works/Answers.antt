@@ -7,6 +7,8 @@ use Rattle.sdf_run.proofs.setup.make_works.Goals as goal
 pub loop-a-preserved : goal.loop-a-preserved
 loop-a-preserved g c = record {
   len = omega (arith, c.in_ok-push.ensures.len);
-  each = push_each (λ k w. BeginsWork g.A.Actor.steps (node c.args.net.now k) w) c.loop-a.works.items c.push.new.self.items c.in_ok-make_work.field-0 c.loop-a.a
-      c.in_ok-push.ensures.items (vec_long c.loop-a.works ∙ c.loop-a.invariant.len) c.loop-a.invariant.each c.in_ok-make_work.ensures;
+  each = push_each (λ k w. BeginsWork g.A.Actor.steps (node c.args.net.now k) w) c.loop-a.works.items
+      c.push.new.self.items c.in_ok-make_work.field-0 c.loop-a.a
+      c.in_ok-push.ensures.items (vec_long c.loop-a.works ∙ c.loop-a.invariant.len) c.loop-a.invariant.each
+      c.in_ok-make_work.ensures;
 }

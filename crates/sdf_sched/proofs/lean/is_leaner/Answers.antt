@@ -8,7 +8,21 @@ returns c =
     let one : k c.args.one ≡ c.fired-one_at.result = sym c.fired-one_at.ensures in
     let other : k c.args.other ≡ c.fired-other_at.result = sym c.fired-other_at.ensures in (
       λ t.
-          let less : c.moved_by.result + c.moved_by-2.result < c.moved_by-3.result + c.moved_by-4.result = ltb-true _ _ t in
-          omega (arith, c.moved_by.ensures.sum k one, c.moved_by-2.ensures.sum k other, c.moved_by-3.ensures.sum k other, c.moved_by-4.ensures.sum k one),
-      λ h. lt-ltb _ _ (let less : c.moved_by.result + c.moved_by-2.result < c.moved_by-3.result + c.moved_by-4.result = omega (arith, c.moved_by.ensures.sum k one, c.moved_by-2.ensures.sum k other, c.moved_by-3.ensures.sum k other, c.moved_by-4.ensures.sum k one) in less),
+          let less : c.moved_by.result + c.moved_by-2.result < c.moved_by-3.result + c.moved_by-4.result =
+          ltb-true _ _ t in
+          omega (
+            arith,
+            c.moved_by.ensures.sum k one,
+            c.moved_by-2.ensures.sum k other,
+            c.moved_by-3.ensures.sum k other,
+            c.moved_by-4.ensures.sum k one,
+          ),
+      λ h. lt-ltb _ _ (let less : c.moved_by.result + c.moved_by-2.result < c.moved_by-3.result + c.moved_by-4.result =
+          omega (
+            arith,
+            c.moved_by.ensures.sum k one,
+            c.moved_by-2.ensures.sum k other,
+            c.moved_by-3.ensures.sum k other,
+            c.moved_by-4.ensures.sum k one,
+          ) in less),
     )

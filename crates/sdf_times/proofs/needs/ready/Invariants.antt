@@ -5,4 +5,5 @@ use Rattle.sdf_times.specs.Walks.{IsAmongEnd}
 use Rattle.sdf_times.proofs.needs.ready.Given as goal
 
 abbrev pub invariant-loop-number : goal.invariant-loop-number
-invariant-loop-number l = IsGreatest (IsAmongEnd (rates l.graph) (slice_index l.costs) (start_in l.starts) l.firing l.number-items l.number-index) l.time
+invariant-loop-number l = IsGreatest (IsAmongEnd (rates l.graph) (slice_index l.costs) (start_in l.starts) l.firing
+    l.number-items l.number-index) l.time

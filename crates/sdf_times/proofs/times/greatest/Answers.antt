@@ -4,7 +4,8 @@ use Rattle.sdf_times.proofs.Greatest.{greatest_none, greatest_place}
 use Rattle.sdf_times.proofs.times.greatest.Goals as goal
 
 pub loop-time-init : goal.loop-time-init
-loop-time-init c = greatest_none (λ u. (j : ℕ) × (j < 0) × (get_or c.args.times.now j 0 ≡ u)) 0 refl (λ u w. omega (arith, w.1))
+loop-time-init c = greatest_none (λ u. (j : ℕ) × (j < 0) × (get_or c.args.times.now j 0 ≡ u)) 0 refl
+    (λ u w. omega (arith, w.1))
 
 pub loop-time-preserved : goal.loop-time-preserved
 loop-time-preserved c =
@@ -15,4 +16,5 @@ loop-time-preserved c =
 pub returns : goal.returns
 returns c =
     let end : c.loop-time.time-index ≡ length c.args.times.now = omega arith in
-    subst (λ (i : ℕ). IsGreatest (λ u. (j : ℕ) × (j < i) × (get_or c.args.times.now j 0 ≡ u)) c.loop-time.most) end c.loop-time.invariant
+    subst (λ (i : ℕ). IsGreatest (λ u. (j : ℕ) × (j < i) × (get_or c.args.times.now j 0 ≡ u)) c.loop-time.most) end
+    c.loop-time.invariant

@@ -14,6 +14,8 @@ returns-clause-ok c =
     let at_end : c.len-start.result ≡ length old = search rules in
     let new_count : length new ≡ count = search rules in
     let filled : c.deref_mut.result.now ≡ old ++ zeros =
-    c.deref_mut.ensures.value ∙ c.in_ok-resize.ensures.items ∙ ap (λ l. l ++ zeros) (take_all (c.len-start.result + count) old (omega (arith, at_end))) in
-    tail_written old zeros new c.deref_mut.result.now c.len-start.result c.resize.new.self.len _ _ filled at_end (search rules)
+    c.deref_mut.ensures.value ∙ c.in_ok-resize.ensures.items
+    ∙ ap (λ l. l ++ zeros) (take_all (c.len-start.result + count) old (omega (arith, at_end))) in
+    tail_written old zeros new c.deref_mut.result.now c.len-start.result c.resize.new.self.len _ _ filled
+    at_end (search rules)
     ∙ ap (λ l. old ++ l) (samples_read bytes new new_count c.read_i16_into.ensures)

@@ -6,7 +6,8 @@ use Rattle.sdf_wav.proofs.writing.put_samples.Given as goal
 abbrev pub invariant-loop-at : goal.invariant-loop-at
 invariant-loop-at g l = record {
   within : l.at ≤ length l.samples;
-  written : Appends (g.W.Writer.contents l.initial.writer) (g.W.Writer.contents l.writer) (sample_bytes (take l.at l.samples));
+  written : Appends (g.W.Writer.contents l.initial.writer) (g.W.Writer.contents l.writer)
+      (sample_bytes (take l.at l.samples));
   counted : g.W.Writer.failures l.writer ≡ g.W.Writer.failures l.initial.writer;
 }
 

@@ -7,8 +7,10 @@ pub loop-character-preserved : goal.loop-character-preserved
 loop-character-preserved c =
     let held = c.loop-character.invariant in
     let parts = c.in-Some.ensures.steps.0 in
-    let step = printable_step _ _ c.in-Some.character held.0 parts in
-    (IsUtf8-past_char _ _ c.in-Some.character held.0 parts, rw (c.in_ok-push_printable.ensures, append_assoc) (rw step at held.1))
+    let step = printable_step _ _ c.in-Some.character held.0 parts in (
+      IsUtf8-past_char _ _ c.in-Some.character held.0 parts,
+      rw (c.in_ok-push_printable.ensures, append_assoc) (rw step at held.1),
+    )
 
 pub returns : goal.returns
 returns c = sym (append-nil _) ∙ rw (printable_empty _ c.in-None.ensures.steps.0.0) at c.loop-character.invariant.1

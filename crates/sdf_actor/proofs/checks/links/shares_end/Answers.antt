@@ -12,7 +12,8 @@ loop-d-preserved g c =
       here = here;
       from = below_more _ _ c.loop-d.invariant.from
           (λ e. ends_apart c.index-links-d.result.from c.index-links-c.result.from c.if-eq.ensures
-          (sym (ap (λ (w : Wire g.row.T.Denot). w.from) read) ∙ (e ∙ sym (ap (λ (w : Wire g.row.T.Denot). w.from) here))));
+          (sym (ap (λ (w : Wire g.row.T.Denot). w.from) read)
+          ∙ (e ∙ sym (ap (λ (w : Wire g.row.T.Denot). w.from) here))));
       to = below_more _ _ c.loop-d.invariant.to
           (λ e. ends_apart c.index-links-d.result.to c.index-links-c.result.to c.if-eq-2.ensures
           (sym (ap (λ (w : Wire g.row.T.Denot). w.to) read) ∙ (e ∙ sym (ap (λ (w : Wire g.row.T.Denot). w.to) here))));

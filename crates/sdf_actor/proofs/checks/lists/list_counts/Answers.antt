@@ -13,7 +13,8 @@ returns g c =
         once = c.in_default.ensures;
         input = omega (arith, c.list_count-inputs.ensures);
         output = omega (arith, list_below c.args.nodes.now Outputs zero.0 0 zero.1 zero.2);
-        outputs = λ e h. c.loop-channel.invariant e (omega (arith, c.max-channel-end.ensures, c.list_count-outputs.ensures));
+        outputs = λ e h. c.loop-channel.invariant e (omega
+            (arith, c.max-channel-end.ensures, c.list_count-outputs.ensures));
       },
       c.list_count-inputs.ensures,
       c.list_count-outputs.ensures,

@@ -8,13 +8,16 @@ use Rattle.sdf_actor.proofs.checks.ports.channels_at.Goals as goal
 
 pub loop-port-preserved : goal.loop-port-preserved
 loop-port-preserved g c =
-    let at : c.first_at-channel.result ≡ channel_at (netlist {A = ℕ} [] c.args.links.now) c.args.side c.args.node c.loop-port.port = c.first_at-channel.ensures in
+    let at : c.first_at-channel.result ≡ channel_at (netlist {A = ℕ} [] c.args.links.now) c.args.side c.args.node
+    c.loop-port.port = c.first_at-channel.ensures in
     record {
       made =
           c.in_ok-push.ensures.items ∙
           (ap (λ xs. xs ++ c.first_at-channel.result ∷ []) c.loop-port.invariant.made ∙
-          (ap (λ x. Rattle.std.proofs.Common.map (channel_at (netlist {A = ℕ} [] c.args.links.now) c.args.side c.args.node) (Rattle.std.specs.List.range_with_len 0 c.loop-port.port) ++ x ∷ []) at ∙
-          sym (map-range_with_len_more (channel_at (netlist {A = ℕ} [] c.args.links.now) c.args.side c.args.node) 0 c.loop-port.port c.loop-port.port (omega arith))));
+          (ap (λ x. Rattle.std.proofs.Common.map (channel_at (netlist {A = ℕ} [] c.args.links.now) c.args.side
+          c.args.node) (Rattle.std.specs.List.range_with_len 0 c.loop-port.port) ++ x ∷ []) at ∙
+          sym (map-range_with_len_more (channel_at (netlist {A = ℕ} [] c.args.links.now) c.args.side c.args.node) 0
+          c.loop-port.port c.loop-port.port (omega arith))));
       joined = below_more _ _ c.loop-port.invariant.joined
           (found_below (netlist {A = ℕ} [] c.args.links.now) c.args.side c.args.node c.loop-port.port
           (λ e. c.if-channel-links.false (at ∙ (e ∙ length-wires c.args.links.now))));

@@ -16,8 +16,10 @@ returns-in_err-ins g c =
     let read = node_read c.args.nodes.now c.loop-a.a c.index-nodes-a.result c.loop-a-test.true c.index-nodes-a.is in
     let ins = c.ports.ensures ∙ ap (inputs_of g.A.Actor.steps) (sym read) in
     let p = err_from_is_err_and c.from_residual.result c.from_residual.ensures.1 in
-    rw (p.1, p.2) (open_input g.A.Actor.steps (netlist c.args.nodes.now c.args.links.now) c.loop-a.a c.in_err-ins.field-0.0 c.loop-a-test.true c.loop-a.invariant.joined
-    (subst (λ k. OpenFault (netlist c.args.nodes.now c.args.links.now) c.loop-a.a Input k c.in_err-ins.field-0.0) ins c.in_err-ins.ensures))
+    rw (p.1, p.2) (open_input g.A.Actor.steps (netlist c.args.nodes.now c.args.links.now) c.loop-a.a
+    c.in_err-ins.field-0.0 c.loop-a-test.true c.loop-a.invariant.joined
+    (subst (λ k. OpenFault (netlist c.args.nodes.now c.args.links.now) c.loop-a.a Input k c.in_err-ins.field-0.0) ins
+    c.in_err-ins.ensures))
 
 pub returns-in_err-outs : goal.returns-in_err-outs
 returns-in_err-outs g c =
@@ -25,9 +27,11 @@ returns-in_err-outs g c =
     let ins = c.ports.ensures ∙ ap (inputs_of g.A.Actor.steps) (sym read) in
     let outs = c.ports-in-loop-a.ensures ∙ ap (outputs_of g.A.Actor.steps) (sym read) in
     let p = err_from_is_err_and c.from_residual-in_err-outs.result c.from_residual-in_err-outs.ensures.1 in
-    rw (p.1, p.2) (open_output g.A.Actor.steps (netlist c.args.nodes.now c.args.links.now) c.loop-a.a c.in_err-outs.field-0.0 c.loop-a-test.true c.loop-a.invariant.joined
+    rw (p.1, p.2) (open_output g.A.Actor.steps (netlist c.args.nodes.now c.args.links.now) c.loop-a.a
+    c.in_err-outs.field-0.0 c.loop-a-test.true c.loop-a.invariant.joined
     (subst (HasChannels (netlist c.args.nodes.now c.args.links.now) c.loop-a.a Input) ins c.in_ok-ins.ensures.1)
-    (subst (λ k. OpenFault (netlist c.args.nodes.now c.args.links.now) c.loop-a.a Output k c.in_err-outs.field-0.0) outs c.in_err-outs.ensures))
+    (subst (λ k. OpenFault (netlist c.args.nodes.now c.args.links.now) c.loop-a.a Output k c.in_err-outs.field-0.0) outs
+    c.in_err-outs.ensures))
 
 pub loop-a-preserved : goal.loop-a-preserved
 loop-a-preserved g c =
@@ -40,19 +44,27 @@ loop-a-preserved g c =
         subst (HasChannels (netlist c.args.nodes.now c.args.links.now) c.loop-a.a Output) outs c.in_ok-outs.ensures.1,
       );
       into =
-          subst (λ vs. IsPortTable g.A.Actor.steps (netlist c.args.nodes.now c.args.links.now) Input (c.loop-a.a + 1) (lists vs)) (sym c.in_ok-push.ensures.items)
-          (table_push g.A.Actor.steps (netlist c.args.nodes.now c.args.links.now) Input c.loop-a.a c.loop-a.into.items c.in_ok-ins.ins c.loop-a.invariant.into
-          (c.in_ok-ins.ensures.0 ∙ ap (λ k. map (channel_at (netlist c.args.nodes.now c.args.links.now) Input c.loop-a.a) (range_with_len 0 k)) ins));
+          subst (λ vs. IsPortTable g.A.Actor.steps (netlist c.args.nodes.now c.args.links.now) Input (c.loop-a.a + 1)
+          (lists vs)) (sym c.in_ok-push.ensures.items)
+          (table_push g.A.Actor.steps (netlist c.args.nodes.now c.args.links.now) Input c.loop-a.a c.loop-a.into.items
+          c.in_ok-ins.ins c.loop-a.invariant.into
+          (c.in_ok-ins.ensures.0 ∙ ap (λ k. map (channel_at (netlist c.args.nodes.now c.args.links.now) Input
+          c.loop-a.a) (range_with_len 0 k)) ins));
       out_of =
-          subst (λ vs. IsPortTable g.A.Actor.steps (netlist c.args.nodes.now c.args.links.now) Output (c.loop-a.a + 1) (lists vs)) (sym c.in_ok-push-2.ensures.items)
-          (table_push g.A.Actor.steps (netlist c.args.nodes.now c.args.links.now) Output c.loop-a.a c.loop-a.out_of.items c.in_ok-outs.outs c.loop-a.invariant.out_of
-          (c.in_ok-outs.ensures.0 ∙ ap (λ k. map (channel_at (netlist c.args.nodes.now c.args.links.now) Output c.loop-a.a) (range_with_len 0 k)) outs));
+          subst (λ vs. IsPortTable g.A.Actor.steps (netlist c.args.nodes.now c.args.links.now) Output (c.loop-a.a + 1)
+          (lists vs)) (sym c.in_ok-push-2.ensures.items)
+          (table_push g.A.Actor.steps (netlist c.args.nodes.now c.args.links.now) Output c.loop-a.a
+          c.loop-a.out_of.items c.in_ok-outs.outs c.loop-a.invariant.out_of
+          (c.in_ok-outs.ensures.0 ∙ ap (λ k. map (channel_at (netlist c.args.nodes.now c.args.links.now) Output
+          c.loop-a.a) (range_with_len 0 k)) outs));
     }
 
 pub returns : goal.returns
 returns g c =
     let all : c.loop-a.a ≡ length c.args.nodes.now = omega arith in (
       subst (HasPorts g.A.Actor.steps (netlist c.args.nodes.now c.args.links.now)) all c.loop-a.invariant.joined,
-      subst (λ m. IsPortTable g.A.Actor.steps (netlist c.args.nodes.now c.args.links.now) Input m (lists c.loop-a.into.items)) all c.loop-a.invariant.into,
-      subst (λ m. IsPortTable g.A.Actor.steps (netlist c.args.nodes.now c.args.links.now) Output m (lists c.loop-a.out_of.items)) all c.loop-a.invariant.out_of,
+      subst (λ m. IsPortTable g.A.Actor.steps (netlist c.args.nodes.now c.args.links.now) Input m
+          (lists c.loop-a.into.items)) all c.loop-a.invariant.into,
+      subst (λ m. IsPortTable g.A.Actor.steps (netlist c.args.nodes.now c.args.links.now) Output m
+          (lists c.loop-a.out_of.items)) all c.loop-a.invariant.out_of,
     )

@@ -17,7 +17,8 @@ nodes_in-requires-clause-each g c κs within = λ a h.
     let fits = (g.met.A.Actor g.world.𝓛 g.world.𝓜 g.world.𝓡 ((λ s x. x), (λ x. x), (λ x. x), (λ x. x))).puts_fit in
     subst (λ v. MayBegin s (get_or c.deref-2.result.now a None) (get_or v a (Sink 0 0))) (sym nodes)
     (subst (λ v. MayBegin s (get_or v a None) (get_or c.args.self.now.nodes a (Sink 0 0))) (sym c.deref-2.ensures.value)
-    (may_begin c.sums_rise.ensures.all s fits c.args.self.now good c.requires.rest.0 c.requires.rest.1 c.requires.rest.2 c.args.rest.now c.requires.rest.3 a (subst (λ v. a < length v) nodes h)))
+    (may_begin c.sums_rise.ensures.all s fits c.args.self.now good c.requires.rest.0 c.requires.rest.1 c.requires.rest.2
+    c.args.rest.now c.requires.rest.3 a (subst (λ v. a < length v) nodes h)))
 
 pub returns-in-Ok-clause-begins : goal.returns-in-Ok-clause-begins
 returns-in-Ok-clause-begins g c =
@@ -28,15 +29,25 @@ returns-in-Ok-clause-begins g c =
     let made = c.in_ok-nodes.nodes.items in
     let joined = c.in_ok-links.links.items in
     subst (λ m. BeginsWith s r c.args.self.now c.args.rest.now m) (sym c.in-Ok.ensures.0)
-    (subst (λ v. BeginsWith s r v c.args.rest.now (netlist made joined)) ((λ κ. netlist (nodes κ) (links κ)) ∙ c.self.view_is)
+    (subst (λ v. BeginsWith s r v c.args.rest.now (netlist made joined))
+    ((λ κ. netlist (nodes κ) (links κ)) ∙ c.self.view_is)
     (begins_with s r c.deref.result.now c.deref-3.result.now c.args.rest.now made joined c.in_ok-nodes.ensures.all
-    (subst (λ v. (a : ℕ) → a < length c.deref.result.now → IsNodeIn s r (get_or v a None) (get_or c.deref.result.now a (Sink 0 0)) (get_or made a (Sink 0 0))) c.deref-2.ensures.value c.in_ok-nodes.ensures.each)
+    (subst (λ v. (a : ℕ) → a < length c.deref.result.now →
+    IsNodeIn s r (get_or v a None) (get_or c.deref.result.now a (Sink 0 0)) (get_or made a (Sink 0 0)))
+    c.deref-2.ensures.value c.in_ok-nodes.ensures.each)
     c.in_ok-links.ensures.all
-    (subst (λ v. (d : ℕ) → d < length c.deref-3.result.now → get_or (wires joined) d no_wire ≡ record { from = (get_or (wires c.deref-3.result.now) d no_wire).from; to = (get_or (wires c.deref-3.result.now) d no_wire).to; initial = get_or (lists v) d [] }) c.deref-4.ensures.value c.in_ok-links.ensures.each)))
+    (subst (λ v. (d : ℕ) → d < length c.deref-3.result.now →
+    get_or (wires joined) d no_wire ≡ record {
+      from = (get_or (wires c.deref-3.result.now) d no_wire).from;
+      to = (get_or (wires c.deref-3.result.now) d no_wire).to;
+      initial = get_or (lists v) d [];
+    })
+    c.deref-4.ensures.value c.in_ok-links.ensures.each)))
 
 pub returns-in-Ok-clause-graph : goal.returns-in-Ok-clause-graph
 returns-in-Ok-clause-graph g c =
     let s = g.A.Actor.steps in
     let good = subst (IsNet s) c.self.view_is c.self.invariant.is_net in
     let is = c.requires.rest.3 in
-    graph_same s (begun_steps g.A.Actor) c.args.self.now good c.requires.rest.0 c.requires.rest.1 c.requires.rest.2.period is.history is.is c.args.rest.now is.left c.in-Ok.net (returns-in-Ok-clause-begins g c)
+    graph_same s (begun_steps g.A.Actor) c.args.self.now good c.requires.rest.0 c.requires.rest.1
+    c.requires.rest.2.period is.history is.is c.args.rest.now is.left c.in-Ok.net (returns-in-Ok-clause-begins g c)

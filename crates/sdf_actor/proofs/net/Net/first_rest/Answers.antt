@@ -16,16 +16,23 @@ returns g c = λ inputs.
     let good = c.self.invariant.is_net in
     let begins = λ (w : Wire g.row.A-Token.Denot). w.initial in
     let nodes = c.deref.ensures.value in
-    let held : lists c.in_ok-first_held.field-0.items ≡ map begins (wires c.self.inside.links.items) = c.in_ok-first_held.ensures ∙ ap (λ ls. map begins (wires ls)) c.deref-2.ensures.value in
+    let held : lists c.in_ok-first_held.field-0.items ≡ map begins (wires c.self.inside.links.items) =
+    c.in_ok-first_held.ensures ∙ ap (λ ls. map begins (wires ls)) c.deref-2.ensures.value in
     let none = (wired s n good rise).sound.consumed_none in
-    subst (λ v. IsRest s v inputs (λ _. 0) (record { states = c.in_ok-first_states.field-0; held = c.in_ok-first_held.field-0 })) c.self.view_is
+    subst (λ v. IsRest s v inputs (λ _. 0) (record {
+      states = c.in_ok-first_states.field-0;
+      held = c.in_ok-first_held.field-0;
+    })) c.self.view_is
     (record {
       history = (wiring s n).starts;
       is = no_firing rise s n good inputs;
       left = record {
         nodes = c.in_ok-first_states.ensures.all ∙ ap length nodes;
-        states = λ a x l is. c.in_ok-first_states.ensures.each a (subst (λ v. a < length v) (sym nodes) l) x (ap (λ v. get_or v a (Sink 0 0)) nodes ∙ is);
-        channels = sym (length-map c.in_ok-first_held.field-0.items (λ v. v.items)) ∙ (ap length held ∙ length-map (wires c.self.inside.links.items) begins);
-        held = λ d l. ap (λ v. get_or v d []) held ∙ (get_or-map begins (wires c.self.inside.links.items) d no_wire [] l ∙ ap (λ i. drop i ((wiring s n).starts d)) (sym (none d)));
+        states = λ a x l is. c.in_ok-first_states.ensures.each a (subst (λ v. a < length v) (sym nodes) l) x
+            (ap (λ v. get_or v a (Sink 0 0)) nodes ∙ is);
+        channels = sym (length-map c.in_ok-first_held.field-0.items (λ v. v.items))
+            ∙ (ap length held ∙ length-map (wires c.self.inside.links.items) begins);
+        held = λ d l. ap (λ v. get_or v d []) held ∙ (get_or-map begins (wires c.self.inside.links.items) d no_wire [] l
+            ∙ ap (λ i. drop i ((wiring s n).starts d)) (sym (none d)));
       };
     })

@@ -8,4 +8,5 @@ pub loop-phase-preserved : goal.loop-phase-preserved
 loop-phase-preserved g c =
     let f = rate_of g.A.Actor.steps c.args.side c.args.self.now c.args.port in
     c.in_ok-push.ensures.items ∙ (ap (λ xs. xs ++ c.rate.result ∷ []) c.loop-phase.invariant ∙
-    (ap (λ x. map f (range_with_len 0 c.loop-phase.phase) ++ x ∷ []) c.rate.ensures ∙ sym (map-range_with_len_more f 0 c.loop-phase.phase c.loop-phase.phase (zero-add c.loop-phase.phase))))
+    (ap (λ x. map f (range_with_len 0 c.loop-phase.phase) ++ x ∷ []) c.rate.ensures
+    ∙ sym (map-range_with_len_more f 0 c.loop-phase.phase c.loop-phase.phase (zero-add c.loop-phase.phase))))

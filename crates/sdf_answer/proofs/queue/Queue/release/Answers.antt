@@ -5,4 +5,5 @@ use Rattle.sdf_answer.proofs.queue.Queue.release.Goals as goal
 pub returns : goal.returns
 returns g c =
     let i = c.self.inside in
-    ap (λ xs. record { samples = xs; room = i.room }) (released i.items.items i.start i.end c.args.many) ∙ ap (λ q. record { samples = drop c.args.many q.samples; room = q.room }) c.self.view_is
+    ap (λ xs. record { samples = xs; room = i.room }) (released i.items.items i.start i.end c.args.many)
+    ∙ ap (λ q. record { samples = drop c.args.many q.samples; room = q.room }) c.self.view_is

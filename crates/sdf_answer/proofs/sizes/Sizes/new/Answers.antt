@@ -11,8 +11,10 @@ pub returns : goal.returns
 returns g c =
     let s = g.A.Actor.steps in
     let n = c.args.net.now in
-    let chans : c.channels-channels.result.now ≡ (graph_of s n).channels = c.channels-channels.ensures.list ∙ ap (λ (x : Shape). x.channels) c.graph.ensures.value in
-    are_sizes s n c.net_facts.ensures.alike c.net_facts.ensures.phases c.longest_cycle-phases.result c.longest_cycle-phases.ensures (lists c.in_ok-takes.takes.items) (lists c.in_ok-puts.puts.items)
+    let chans : c.channels-channels.result.now ≡ (graph_of s n).channels =
+    c.channels-channels.ensures.list ∙ ap (λ (x : Shape). x.channels) c.graph.ensures.value in
+    are_sizes s n c.net_facts.ensures.alike c.net_facts.ensures.phases c.longest_cycle-phases.result
+    c.longest_cycle-phases.ensures (lists c.in_ok-takes.takes.items) (lists c.in_ok-puts.puts.items)
     (length-map c.in_ok-takes.takes.items (λ v. v.items) ∙ (vec_long c.in_ok-takes.takes ∙ c.in_ok-takes.ensures.0))
     (length-map c.in_ok-puts.puts.items (λ v. v.items) ∙ (vec_long c.in_ok-puts.puts ∙ c.in_ok-puts.ensures.0))
     (λ j h. c.in_ok-takes.ensures.1 j h ∙ ap (map (λ (e : Edge). rate_at e.take j)) chans)

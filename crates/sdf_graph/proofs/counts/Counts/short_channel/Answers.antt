@@ -10,8 +10,20 @@ use Rattle.sdf_graph.proofs.counts.Counts.short_channel.Goals as goal
 pub returns : goal.returns
 returns c =
     let mine = get_or_read c.self.inside.fired.items c.args.actor c.index.result.now (search rules) c.index.ensures 0 in
-    let first = subst (λ n. MatchOption c.first_short.result (HoldEnough c.channels.result.now n c.deref.result.now c.incoming.result.now (length c.incoming.result.now)) (IsFirstShort c.channels.result.now n c.deref.result.now c.incoming.result.now)) mine c.first_short.ensures in
-    let found = subst (λ (held : List ℕ). MatchOption c.first_short.result (HoldEnough c.channels.result.now (get_or c.self.inside.fired.items c.args.actor 0) held c.incoming.result.now (length c.incoming.result.now)) (IsFirstShort c.channels.result.now (get_or c.self.inside.fired.items c.args.actor 0) held c.incoming.result.now)) c.deref.ensures.value first in
-    subst (λ (t : Tally). MatchOption c.first_short.result (IsEnabled (rates t.graph) (counts t) c.args.actor) (IsShortChannel (rates t.graph) (counts t) c.args.actor)) c.self.view_is
-    (short_or_enabled _ c.self.inside.held.items c.self.invariant c.args.actor c.incoming.result.now c.incoming.ensures c.first_short.result
-    (subst (λ (chs : List Edge). MatchOption c.first_short.result (HoldEnough chs (get_or c.self.inside.fired.items c.args.actor 0) c.self.inside.held.items c.incoming.result.now (length c.incoming.result.now)) (IsFirstShort chs (get_or c.self.inside.fired.items c.args.actor 0) c.self.inside.held.items c.incoming.result.now)) c.channels.ensures.list found))
+    let first = subst (λ n. MatchOption c.first_short.result
+    (HoldEnough c.channels.result.now n c.deref.result.now c.incoming.result.now (length c.incoming.result.now))
+    (IsFirstShort c.channels.result.now n c.deref.result.now c.incoming.result.now)) mine c.first_short.ensures in
+    let found = subst (λ (held : List ℕ). MatchOption c.first_short.result
+    (HoldEnough c.channels.result.now (get_or c.self.inside.fired.items c.args.actor 0) held c.incoming.result.now
+    (length c.incoming.result.now)) (IsFirstShort c.channels.result.now
+    (get_or c.self.inside.fired.items c.args.actor 0) held c.incoming.result.now))
+    c.deref.ensures.value first in
+    subst (λ (t : Tally). MatchOption c.first_short.result (IsEnabled (rates t.graph) (counts t) c.args.actor)
+    (IsShortChannel (rates t.graph) (counts t) c.args.actor)) c.self.view_is
+    (short_or_enabled _ c.self.inside.held.items c.self.invariant c.args.actor c.incoming.result.now c.incoming.ensures
+    c.first_short.result
+    (subst (λ (chs : List Edge). MatchOption c.first_short.result
+    (HoldEnough chs (get_or c.self.inside.fired.items c.args.actor 0) c.self.inside.held.items
+    c.incoming.result.now (length c.incoming.result.now))
+    (IsFirstShort chs (get_or c.self.inside.fired.items c.args.actor 0) c.self.inside.held.items
+    c.incoming.result.now)) c.channels.ensures.list found))

@@ -18,13 +18,20 @@ pub returns-in-Some : goal.returns-in-Some
 returns-in-Some c =
     let shape = subst IsShape c.self.view_is c.self.invariant.shape in
     let walk = c.in_ok-parts.ensures in
-    let sums : c.deref.result.now ≡ map totals c.args.self.now.channels = c.deref.ensures.value ∙ (c.self.invariant.sums ∙ ap (λ (s : Shape). map totals s.channels) c.self.view_is) in
-    let uneven = subst (λ (xs : List Totals). (c.in-Some.channel < length xs) × (IsEven c.in_ok-parts.parts.items (get_or xs c.in-Some.channel no_totals) → ⊥)) sums
-    (subst (λ (ps : List Ratio). (c.in-Some.channel < length c.deref.result.now) × (IsEven ps (get_or c.deref.result.now c.in-Some.channel no_totals) → ⊥)) c.deref-2.ensures.value c.in-Some.ensures) in
-    let within : c.in-Some.channel < length c.args.self.now.channels = omega (arith, uneven.0, length-map c.args.self.now.channels totals) in (
+    let sums : c.deref.result.now ≡ map totals c.args.self.now.channels =
+    c.deref.ensures.value ∙ (c.self.invariant.sums ∙ ap (λ (s : Shape). map totals s.channels) c.self.view_is) in
+    let uneven = subst (λ (xs : List Totals). (c.in-Some.channel < length xs)
+    × (IsEven c.in_ok-parts.parts.items (get_or xs c.in-Some.channel no_totals) → ⊥)) sums
+    (subst (λ (ps : List Ratio). (c.in-Some.channel < length c.deref.result.now)
+    × (IsEven ps (get_or c.deref.result.now c.in-Some.channel no_totals) → ⊥)) c.deref-2.ensures.value
+    c.in-Some.ensures) in
+    let within : c.in-Some.channel < length c.args.self.now.channels =
+    omega (arith, uneven.0, length-map c.args.self.now.channels totals) in (
       within,
-      λ p period. uneven.1 (subst (IsEven c.in_ok-parts.parts.items) (sym (totals_read c.args.self.now.channels c.in-Some.channel within))
-          (must_even c.args.self.now c.in_ok-parts.parts.items walk (cycles_in c.args.self.now shape p) (in_cycles c.args.self.now shape p period) shape c.in-Some.channel within)),
+      λ p period. uneven.1 (subst (IsEven c.in_ok-parts.parts.items)
+          (sym (totals_read c.args.self.now.channels c.in-Some.channel within))
+          (must_even c.args.self.now c.in_ok-parts.parts.items walk (cycles_in c.args.self.now shape p)
+          (in_cycles c.args.self.now shape p period) shape c.in-Some.channel within)),
     )
 
 pub returns-in_default-common : goal.returns-in_default-common
@@ -32,56 +39,81 @@ returns-in_default-common c =
     let walk = c.in_ok-parts.ensures in
     let shape = subst IsShape c.self.view_is c.self.invariant.shape in
     none_long c.args.self.now shape (no_common c.args.self.now shape c.in_ok-parts.parts.items walk
-    (subst (λ (ps : List Ratio). (n : ℕ) → 0 < n → ((a : ℕ) → a < length ps → Divides (ratio ps a).den n) → 65536 < n) c.deref-3.ensures.value (c.in_default-common.ensures)))
+    (subst (λ (ps : List Ratio). (n : ℕ) → 0 < n → ((a : ℕ) → a < length ps → Divides (ratio ps a).den n) → 65536 < n)
+    c.deref-3.ensures.value (c.in_default-common.ensures)))
 
 pub uneven-requires-clause-from_in : goal.uneven-requires-clause-from_in
 uneven-requires-clause-from_in c =
     let shape = subst IsShape c.self.view_is c.self.invariant.shape in
-    let sums : c.deref.result.now ≡ map totals c.args.self.now.channels = c.deref.ensures.value ∙ (c.self.invariant.sums ∙ ap (λ (s : Shape). map totals s.channels) c.self.view_is) in
-    subst (λ (xs : List Totals). (d : ℕ) → d < length xs → (get_or xs d no_totals).from < length c.deref-2.result.now) (sym sums)
+    let sums : c.deref.result.now ≡ map totals c.args.self.now.channels =
+    c.deref.ensures.value ∙ (c.self.invariant.sums ∙ ap (λ (s : Shape). map totals s.channels) c.self.view_is) in
+    subst (λ (xs : List Totals). (d : ℕ) → d < length xs →
+    (get_or xs d no_totals).from < length c.deref-2.result.now) (sym sums)
     (all_totals (λ t. t.from < length c.deref-2.result.now) c.args.self.now.channels
     (λ d l. omega (arith, shape.from_in d l, c.in_ok-parts.ensures.all, ap length c.deref-2.ensures.value)))
 
 pub uneven-requires-clause-to_in : goal.uneven-requires-clause-to_in
 uneven-requires-clause-to_in c =
     let shape = subst IsShape c.self.view_is c.self.invariant.shape in
-    let sums : c.deref.result.now ≡ map totals c.args.self.now.channels = c.deref.ensures.value ∙ (c.self.invariant.sums ∙ ap (λ (s : Shape). map totals s.channels) c.self.view_is) in
-    subst (λ (xs : List Totals). (d : ℕ) → d < length xs → (get_or xs d no_totals).to < length c.deref-2.result.now) (sym sums)
+    let sums : c.deref.result.now ≡ map totals c.args.self.now.channels =
+    c.deref.ensures.value ∙ (c.self.invariant.sums ∙ ap (λ (s : Shape). map totals s.channels) c.self.view_is) in
+    subst (λ (xs : List Totals). (d : ℕ) → d < length xs →
+    (get_or xs d no_totals).to < length c.deref-2.result.now) (sym sums)
     (all_totals (λ t. t.to < length c.deref-2.result.now) c.args.self.now.channels
     (λ d l. omega (arith, shape.to_in d l, c.in_ok-parts.ensures.all, ap length c.deref-2.ensures.value)))
 
 pub uneven-requires-clause-put_small : goal.uneven-requires-clause-put_small
 uneven-requires-clause-put_small c =
     let shape = subst IsShape c.self.view_is c.self.invariant.shape in
-    let sums : c.deref.result.now ≡ map totals c.args.self.now.channels = c.deref.ensures.value ∙ (c.self.invariant.sums ∙ ap (λ (s : Shape). map totals s.channels) c.self.view_is) in
+    let sums : c.deref.result.now ≡ map totals c.args.self.now.channels =
+    c.deref.ensures.value ∙ (c.self.invariant.sums ∙ ap (λ (s : Shape). map totals s.channels) c.self.view_is) in
     subst (λ (xs : List Totals). (d : ℕ) → d < length xs → (get_or xs d no_totals).put ≤ 65536) (sym sums)
     (all_totals (λ t. t.put ≤ 65536) c.args.self.now.channels (λ d l. cycle_small _ _ (shape.put d l)))
 
 pub uneven-requires-clause-take_small : goal.uneven-requires-clause-take_small
 uneven-requires-clause-take_small c =
     let shape = subst IsShape c.self.view_is c.self.invariant.shape in
-    let sums : c.deref.result.now ≡ map totals c.args.self.now.channels = c.deref.ensures.value ∙ (c.self.invariant.sums ∙ ap (λ (s : Shape). map totals s.channels) c.self.view_is) in
+    let sums : c.deref.result.now ≡ map totals c.args.self.now.channels =
+    c.deref.ensures.value ∙ (c.self.invariant.sums ∙ ap (λ (s : Shape). map totals s.channels) c.self.view_is) in
     subst (λ (xs : List Totals). (d : ℕ) → d < length xs → (get_or xs d no_totals).take ≤ 65536) (sym sums)
     (all_totals (λ t. t.take ≤ 65536) c.args.self.now.channels (λ d l. cycle_small _ _ (shape.take d l)))
 
 pub scaled-requires-clause-short : goal.scaled-requires-clause-short
 scaled-requires-clause-short c =
     subst (λ (xs : List ℕ). (a : ℕ) → get_or xs a 0 ≤ 64) (sym c.deref-4.ensures.value)
-    (cycles_few _ c.self.invariant.shape c.self.inside.cycles.items c.self.invariant.cycles_all c.self.invariant.cycles_each)
+    (cycles_few _ c.self.invariant.shape c.self.inside.cycles.items c.self.invariant.cycles_all
+    c.self.invariant.cycles_each)
 
 pub returns : goal.returns
 returns c =
     let shape = subst IsShape c.self.view_is c.self.invariant.shape in
     let walk = c.in_ok-parts.ensures in
-    let sums : c.deref.result.now ≡ map totals c.args.self.now.channels = c.deref.ensures.value ∙ (c.self.invariant.sums ∙ ap (λ (s : Shape). map totals s.channels) c.self.view_is) in
-    let evens = subst (λ (xs : List Totals). (i : ℕ) → i < length xs → IsEven c.in_ok-parts.parts.items (get_or xs i no_totals)) sums
-    (subst (λ (ps : List Ratio). (i : ℕ) → i < length c.deref.result.now → IsEven ps (get_or c.deref.result.now i no_totals)) c.deref-2.ensures.value (c.in_default.ensures)) in
+    let sums : c.deref.result.now ≡ map totals c.args.self.now.channels =
+    c.deref.ensures.value ∙ (c.self.invariant.sums ∙ ap (λ (s : Shape). map totals s.channels) c.self.view_is) in
+    let evens = subst (λ (xs : List Totals). (i : ℕ) → i < length xs →
+    IsEven c.in_ok-parts.parts.items (get_or xs i no_totals)) sums
+    (subst (λ (ps : List Ratio). (i : ℕ) → i < length c.deref.result.now →
+    IsEven ps (get_or c.deref.result.now i no_totals)) c.deref-2.ensures.value (c.in_default.ensures)) in
     let even = each_totals (IsEven c.in_ok-parts.parts.items) c.args.self.now.channels evens in
-    let common = subst (λ (ps : List Ratio). IsCommon ps (length ps) c.in-Some-common.all) c.deref-3.ensures.value c.in-Some-common.ensures.1 in
+    let common = subst (λ (ps : List Ratio). IsCommon ps (length ps) c.in-Some-common.all) c.deref-3.ensures.value
+    c.in-Some-common.ensures.1 in
     let same : (a : ℕ) → a < c.args.self.now.actors → get_or c.self.inside.cycles.items a 0 ≡ cycle c.args.self.now a =
-    subst (λ (s : Shape). (a : ℕ) → a < s.actors → get_or c.self.inside.cycles.items a 0 ≡ cycle s a) c.self.view_is c.self.invariant.cycles_each in
-    let made = subst (λ (cs : List ℕ). MatchResult c.scaled.result (λ q. (q ≡ map (firings cs c.in_ok-parts.parts.items c.in-Some-common.all) (range_with_len 0 (length c.in_ok-parts.parts.items))) × (sum q ≤ 65536)) (IsScaleFault cs c.in_ok-parts.parts.items c.in-Some-common.all)) c.deref-4.ensures.value
-    (subst (λ (ps : List Ratio). MatchResult c.scaled.result (λ q. (q ≡ map (firings c.deref-4.result.now ps c.in-Some-common.all) (range_with_len 0 (length ps))) × (sum q ≤ 65536)) (IsScaleFault c.deref-4.result.now ps c.in-Some-common.all)) c.deref-5.ensures.value c.scaled.ensures) in
+    subst (λ (s : Shape). (a : ℕ) → a < s.actors → get_or c.self.inside.cycles.items a 0 ≡ cycle s a) c.self.view_is
+    c.self.invariant.cycles_each in
+    let made = subst (λ (cs : List ℕ). MatchResult c.scaled.result
+    (λ q. (q ≡ map (firings cs c.in_ok-parts.parts.items c.in-Some-common.all)
+    (range_with_len 0 (length c.in_ok-parts.parts.items))) × (sum q ≤ 65536))
+    (IsScaleFault cs c.in_ok-parts.parts.items c.in-Some-common.all)) c.deref-4.ensures.value
+    (subst (λ (ps : List Ratio). MatchResult c.scaled.result
+    (λ q. (q ≡ map (firings c.deref-4.result.now ps c.in-Some-common.all) (range_with_len 0 (length ps)))
+    × (sum q ≤ 65536)) (IsScaleFault c.deref-4.result.now ps c.in-Some-common.all)) c.deref-5.ensures.value
+    c.scaled.ensures) in
     MatchResult-weaker c.scaled.result made
-    (λ q (e, small). (subst (IsLeastPeriod (rates c.args.self.now)) (sym e) (least_period c.args.self.now shape c.self.inside.cycles.items same c.in_ok-parts.parts.items walk c.in-Some-common.all common even), small))
-    (fault_of c.args.self.now shape c.self.inside.cycles.items same c.in_ok-parts.parts.items walk c.in-Some-common.all common even)
+    (λ q (e, small). (
+      subst (IsLeastPeriod (rates c.args.self.now)) (sym e)
+          (least_period c.args.self.now shape c.self.inside.cycles.items same c.in_ok-parts.parts.items walk
+          c.in-Some-common.all common even),
+      small,
+    ))
+    (fault_of c.args.self.now shape c.self.inside.cycles.items same c.in_ok-parts.parts.items walk
+    c.in-Some-common.all common even)

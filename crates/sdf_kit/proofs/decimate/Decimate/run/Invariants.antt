@@ -3,4 +3,5 @@ use Rattle.sdf_kit.specs.Samples.{sample}
 use Rattle.sdf_kit.proofs.decimate.Decimate.run.Given as goal
 
 abbrev pub invariant-loop-i : goal.invariant-loop-i
-invariant-loop-i l = (length l.put ≡ length l.fn.put) × ((k : ℕ) → k < l.i → sample l.put k ≡ sample l.taken (k * l.self))
+invariant-loop-i l = (length l.put ≡ length l.fn.put)
+    × ((k : ℕ) → k < l.i → sample l.put k ≡ sample l.taken (k * l.self))

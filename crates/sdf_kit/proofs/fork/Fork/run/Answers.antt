@@ -1,4 +1,5 @@
-use Rattle.std.proofs.Common.{◌≡◌, ◌+◌, ◌-◌, ◌*◌, ◌/◌, ◌≤◌, ◌<◌, ◌∙◌, ◌⊎◌, inl, inr, ℕ, ℤ, length, FitsSigned, w32, pos, sym, ap, arith, rules}
+use Rattle.std.proofs.Common.{◌≡◌, ◌+◌, ◌-◌, ◌*◌, ◌/◌, ◌≤◌, ◌<◌, ◌∙◌, ◌⊎◌, inl, inr, ℕ, ℤ, length, FitsSigned, w32, pos}
+use Rattle.std.proofs.Common.{sym, ap, arith, rules}
 use Rattle.std.proofs.lemmas.Bool.{cases_lt}
 use Rattle.std.proofs.lemmas.Int.{to_z-of_z}
 use Rattle.std.proofs.lemmas.List.FromFn.{fill_by_all}
@@ -31,7 +32,8 @@ loop-i-preserved c = (c.put_same.ensures.len ∙ c.loop-i.invariant.0, λ k l. g
     place : i * c.self.inside.ways ≡ i * ways
     place = ap (λ n. i * n) same
 
-    go : (k : ℕ) → k < (i + 1) * ways → (k < i * ways) ⊎ (i * ways ≤ k) → sample c.put_same.new.to k ≡ sample c.args.taken.now (k / ways)
+    go : (k : ℕ) → k < (i + 1) * ways → (k < i * ways) ⊎ (i * ways ≤ k) →
+        sample c.put_same.new.to k ≡ sample c.args.taken.now (k / ways)
     go k l (inl before) = c.put_same.ensures.before k (omega (arith, place)) ∙ c.loop-i.invariant.1 k before
     go k l (inr later) =
         let x : ℤ = sample c.args.taken.now i in
@@ -42,9 +44,11 @@ loop-i-preserved c = (c.put_same.ensures.len ∙ c.loop-i.invariant.0, λ k l. g
         let at : i * c.self.inside.ways + q ≡ k = omega (arith, place) in
         let turn : k ≡ i * ways + q = omega arith in
         let row : k / ways ≡ i = ap (λ n. n / ways) turn ∙ div-mul-add i ways q inside in
-        ap (sample c.put_same.new.to) (sym at) ∙ (c.put_same.ensures.put q (omega (arith, same)) ∙ (to_z-of_z w32 x fits ∙ ap (sample c.args.taken.now) (sym row)))
+        ap (sample c.put_same.new.to) (sym at) ∙ (c.put_same.ensures.put q (omega (arith, same))
+        ∙ (to_z-of_z w32 x fits ∙ ap (sample c.args.taken.now) (sym row)))
 
 pub returns : goal.returns
 returns c =
-    fill_by_all (λ n. sample c.args.taken.now (n / c.args.self.now)) c.loop-i.put (length c.args.put.now) (pos 0) c.loop-i.invariant.0
+    fill_by_all (λ n. sample c.args.taken.now (n / c.args.self.now)) c.loop-i.put (length c.args.put.now) (pos 0)
+    c.loop-i.invariant.0
     (λ n l. c.loop-i.invariant.1 n (omega (arith, l, c.requires, mul-le-mul_right c.args.self.now c.loop-i-test.false)))

@@ -4,4 +4,5 @@ use Rattle.sdf_kit.specs.Gain.{scaled}
 use Rattle.sdf_kit.proofs.gain.Gain.run.Given as goal
 
 abbrev pub invariant-loop-i : goal.invariant-loop-i
-invariant-loop-i l = (length l.put ≡ length l.taken) × ((k : ℕ) → k < l.i → sample l.put k ≡ scaled l.self (sample l.taken k))
+invariant-loop-i l = (length l.put ≡ length l.taken)
+    × ((k : ℕ) → k < l.i → sample l.put k ≡ scaled l.self (sample l.taken k))

@@ -12,14 +12,21 @@ use Rattle.sdf_prec.proofs.Keeping.{tidied_valid, accepted}
 use Rattle.sdf_prec.proofs.table.Table.accept.Goals as goal
 
 pub rows_fault-requires-clause-few : goal.rows_fault-requires-clause-few
-rows_fault-requires-clause-few c = omega (arith, ap sum c.in_ok-firings.ensures, block_sum c.args.j c.args.reps.now, c.in_default.ensures.2)
+rows_fault-requires-clause-few c = omega (
+  arith,
+  ap sum c.in_ok-firings.ensures,
+  block_sum c.args.j c.args.reps.now,
+  c.in_default.ensures.2,
+)
 
 pub rows_fault-requires-clause-enough : goal.rows_fault-requires-clause-enough
 rows_fault-requires-clause-enough c =
     let g = c.args.graph.now in
     let r = rates g in
-    λ d l. subst (λ n. r.consumed d (get_or n (r.target d) 0) ≤ r.initial d + r.produced d (get_or n (r.source d) 0)) (sym c.in_ok-firings.ensures)
-    (block_balanced r (c.graphs_are_sound.ensures g c.channels.ensures.shape) c.args.reps.now (c.graphs_have_periods.ensures g c.args.reps.now c.channels.ensures.shape c.requires) c.args.j d l)
+    λ d l. subst (λ n. r.consumed d (get_or n (r.target d) 0) ≤ r.initial d + r.produced d (get_or n (r.source d) 0))
+    (sym c.in_ok-firings.ensures)
+    (block_balanced r (c.graphs_are_sound.ensures g c.channels.ensures.shape) c.args.reps.now
+    (c.graphs_have_periods.ensures g c.args.reps.now c.channels.ensures.shape c.requires) c.args.j d l)
 
 pub of_rows-requires : goal.of_rows-requires
 of_rows-requires c =
@@ -28,10 +35,16 @@ of_rows-requires c =
     let reps = c.args.reps.now in
     let n : ℕ → ℕ = λ a. get_or (block c.args.j reps) a 0 in
     let rs : List (List (Option Firing)) = map (λ r. r.items) c.args.rows.items in
-    let valid = valid_if_none c.tests_suffice.ensures c.needs_exist.ensures g c.channels.ensures.shape (c.graphs_are_sound.ensures g c.channels.ensures.shape) reps c.args.j m
-    c.in_ok-fault.field-0 (map (λ r. r.items) c.deref.result.now) rs c.in_ok-firings.firings.items c.in_default-2.is (ap (map (λ r. r.items)) c.deref.ensures.value) c.in_ok-firings.ensures c.in_ok-fault.ensures in
-    let kept : map (λ r. r.items) c.in_ok-kept.kept.items ≡ tidied m rs = c.in_ok-kept.ensures ∙ ap (λ xs. tidied m (map (λ r. r.items) xs)) c.deref-2.ensures.value in
-    (n, subst (IsValid (rates g) n) (sym kept) (tidied_valid m rs (rates g) n valid.1), one_of_all (block c.args.j reps) MOST_BLOCK (omega (arith, block_sum c.args.j reps, c.in_default.ensures.2)))
+    let valid = valid_if_none c.tests_suffice.ensures c.needs_exist.ensures g c.channels.ensures.shape
+    (c.graphs_are_sound.ensures g c.channels.ensures.shape) reps c.args.j m
+    c.in_ok-fault.field-0 (map (λ r. r.items) c.deref.result.now) rs c.in_ok-firings.firings.items c.in_default-2.is
+    (ap (map (λ r. r.items)) c.deref.ensures.value) c.in_ok-firings.ensures c.in_ok-fault.ensures in
+    let kept : map (λ r. r.items) c.in_ok-kept.kept.items ≡ tidied m rs =
+    c.in_ok-kept.ensures ∙ ap (λ xs. tidied m (map (λ r. r.items) xs)) c.deref-2.ensures.value in (
+      n,
+      subst (IsValid (rates g) n) (sym kept) (tidied_valid m rs (rates g) n valid.1),
+      one_of_all (block c.args.j reps) MOST_BLOCK (omega (arith, block_sum c.args.j reps, c.in_default.ensures.2)),
+    )
 
 pub returns : goal.returns
 returns c =
@@ -40,9 +53,13 @@ returns c =
     let reps = c.args.reps.now in
     let n : ℕ → ℕ = λ a. get_or (block c.args.j reps) a 0 in
     let rs : List (List (Option Firing)) = map (λ r. r.items) c.args.rows.items in
-    let valid = valid_if_none c.tests_suffice.ensures c.needs_exist.ensures g c.channels.ensures.shape (c.graphs_are_sound.ensures g c.channels.ensures.shape) reps c.args.j m
-    c.in_ok-fault.field-0 (map (λ r. r.items) c.deref.result.now) rs c.in_ok-firings.firings.items c.in_default-2.is (ap (map (λ r. r.items)) c.deref.ensures.value) c.in_ok-firings.ensures c.in_ok-fault.ensures in
-    let kept : map (λ r. r.items) c.in_ok-kept.kept.items ≡ tidied m rs = c.in_ok-kept.ensures ∙ ap (λ xs. tidied m (map (λ r. r.items) xs)) c.deref-2.ensures.value in (
+    let valid = valid_if_none c.tests_suffice.ensures c.needs_exist.ensures g c.channels.ensures.shape
+    (c.graphs_are_sound.ensures g c.channels.ensures.shape) reps c.args.j m
+    c.in_ok-fault.field-0 (map (λ r. r.items) c.deref.result.now) rs c.in_ok-firings.firings.items c.in_default-2.is
+    (ap (map (λ r. r.items)) c.deref.ensures.value) c.in_ok-firings.ensures c.in_ok-fault.ensures in
+    let kept : map (λ r. r.items) c.in_ok-kept.kept.items ≡ tidied m rs =
+    c.in_ok-kept.ensures ∙ ap (λ xs. tidied m (map (λ r. r.items) xs)) c.deref-2.ensures.value in (
       record { factor = c.in_default.ensures.0; workers = c.in_default.ensures.1; short = c.in_default.ensures.2 },
-      accepted (rates g) n m rs c.in_ok-table.table valid.0 valid.1 (c.in_ok-table.ensures.rows ∙ kept) c.in_ok-table.ensures.exact,
+      accepted (rates g) n m rs c.in_ok-table.table valid.0 valid.1 (c.in_ok-table.ensures.rows ∙ kept)
+          c.in_ok-table.ensures.exact,
     )

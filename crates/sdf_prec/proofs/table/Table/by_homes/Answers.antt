@@ -13,28 +13,43 @@ pub by_order-requires-clause-pass : goal.by_order-requires-clause-pass
 by_order-requires-clause-pass c =
     let r = rates c.args.graph.now in
     let n : ℕ → ℕ = λ a. get_or (block c.args.j c.args.period.now.repetitions) a 0 in
-    let order_is : c.deref.result.now ≡ repeated c.args.j c.args.period.now.order = c.deref.ensures.value ∙ (c.in_ok-order.ensures ∙ ap (λ w. repeated c.args.j w) c.order.ensures) in
-    let size : IsSize c.args.j c.args.m c.args.period.now.repetitions = subst (IsSize c.args.j c.args.m) c.repetitions.ensures c.in_default.ensures.0 in
-    let pass = block_pass c.graph_laws.ensures c.args.graph.now c.channels.ensures.shape c.args.period.now c.requires c.args.j in (
+    let order_is : c.deref.result.now ≡ repeated c.args.j c.args.period.now.order =
+    c.deref.ensures.value ∙ (c.in_ok-order.ensures ∙ ap (λ w. repeated c.args.j w) c.order.ensures) in
+    let size : IsSize c.args.j c.args.m c.args.period.now.repetitions =
+    subst (IsSize c.args.j c.args.m) c.repetitions.ensures c.in_default.ensures.0 in
+    let pass = block_pass c.graph_laws.ensures c.args.graph.now c.channels.ensures.shape c.args.period.now
+    c.requires c.args.j in (
       n,
       subst (IsPass r n) (sym order_is) pass,
-      one_of_all (block c.args.j c.args.period.now.repetitions) MOST_BLOCK (omega (arith, block_sum c.args.j c.args.period.now.repetitions, size.short)),
+      one_of_all (block c.args.j c.args.period.now.repetitions) MOST_BLOCK
+          (omega (arith, block_sum c.args.j c.args.period.now.repetitions, size.short)),
     )
 
 pub by_order-requires-clause-few : goal.by_order-requires-clause-few
 by_order-requires-clause-few c =
-    let order_is : c.deref.result.now ≡ repeated c.args.j c.args.period.now.order = c.deref.ensures.value ∙ (c.in_ok-order.ensures ∙ ap (λ w. repeated c.args.j w) c.order.ensures) in
-    let size : IsSize c.args.j c.args.m c.args.period.now.repetitions = subst (IsSize c.args.j c.args.m) c.repetitions.ensures c.in_default.ensures.0 in
-    omega (arith, ap length order_is, repeated_length c.args.j c.args.period.now.order, ap (λ n. c.args.j * n) c.requires.all, size.short)
+    let order_is : c.deref.result.now ≡ repeated c.args.j c.args.period.now.order =
+    c.deref.ensures.value ∙ (c.in_ok-order.ensures ∙ ap (λ w. repeated c.args.j w) c.order.ensures) in
+    let size : IsSize c.args.j c.args.m c.args.period.now.repetitions =
+    subst (IsSize c.args.j c.args.m) c.repetitions.ensures c.in_default.ensures.0 in
+    omega (
+      arith,
+      ap length order_is,
+      repeated_length c.args.j c.args.period.now.order,
+      ap (λ n. c.args.j * n) c.requires.all,
+      size.short,
+    )
 
 pub by_order-requires-clause-homed : goal.by_order-requires-clause-homed
-by_order-requires-clause-homed c = λ a l. c.in_default.ensures.1 a (omega (arith, l, c.requires.least.is.all, ap length c.repetitions.ensures))
+by_order-requires-clause-homed c = λ a l. c.in_default.ensures.1 a
+    (omega (arith, l, c.requires.least.is.all, ap length c.repetitions.ensures))
 
 pub returns : goal.returns
 returns c =
     let n : ℕ → ℕ = λ a. get_or (block c.args.j c.args.period.now.repetitions) a 0 in
-    let order_is : c.deref.result.now ≡ repeated c.args.j c.args.period.now.order = c.deref.ensures.value ∙ (c.in_ok-order.ensures ∙ ap (λ w. repeated c.args.j w) c.order.ensures) in
-    let pass = block_pass c.graph_laws.ensures c.args.graph.now c.channels.ensures.shape c.args.period.now c.requires c.args.j in (
+    let order_is : c.deref.result.now ≡ repeated c.args.j c.args.period.now.order =
+    c.deref.ensures.value ∙ (c.in_ok-order.ensures ∙ ap (λ w. repeated c.args.j w) c.order.ensures) in
+    let pass = block_pass c.graph_laws.ensures c.args.graph.now c.channels.ensures.shape c.args.period.now
+    c.requires c.args.j in (
       subst (IsSize c.args.j c.args.m) c.repetitions.ensures c.in_default.ensures.0,
       c.in_ok-table.ensures.table n (subst (IsPass (rates c.args.graph.now) n) (sym order_is) pass),
       subst (λ w. AreByHomes c.args.homes.now c.args.m w c.in_ok-table.table.rows) order_is c.in_ok-table.ensures.rows,

@@ -13,35 +13,52 @@ use Rattle.sdf_prec.proofs.table.Table.by_homes_in_runs.Goals as goal
 
 pub class_s_of-requires-clause-short : goal.class_s_of-requires-clause-short
 class_s_of-requires-clause-short c =
-    let size : IsSize c.args.j c.args.m c.args.period.now.repetitions = subst (IsSize c.args.j c.args.m) c.repetitions-reps.ensures c.in_default.ensures.0 in
-    let firings_are : c.deref.result.now ≡ block c.args.j c.args.period.now.repetitions = c.deref.ensures.value ∙ (c.in_ok-firings.ensures ∙ ap (block c.args.j) c.repetitions-reps.ensures) in
+    let size : IsSize c.args.j c.args.m c.args.period.now.repetitions =
+    subst (IsSize c.args.j c.args.m) c.repetitions-reps.ensures c.in_default.ensures.0 in
+    let firings_are : c.deref.result.now ≡ block c.args.j c.args.period.now.repetitions =
+    c.deref.ensures.value ∙ (c.in_ok-firings.ensures ∙ ap (block c.args.j) c.repetitions-reps.ensures) in
     omega (arith, ap sum firings_are, block_sum c.args.j c.args.period.now.repetitions, size.short)
 
 pub class_s_of-requires-clause-some : goal.class_s_of-requires-clause-some
 class_s_of-requires-clause-some c =
     let r = rates c.args.graph.now in
     let w = repeated c.args.j c.args.period.now.order in
-    let firings_are : c.deref.result.now ≡ block c.args.j c.args.period.now.repetitions = c.deref.ensures.value ∙ (c.in_ok-firings.ensures ∙ ap (block c.args.j) c.repetitions-reps.ensures) in (
+    let firings_are : c.deref.result.now ≡ block c.args.j c.args.period.now.repetitions =
+    c.deref.ensures.value ∙ (c.in_ok-firings.ensures ∙ ap (block c.args.j) c.repetitions-reps.ensures) in (
       w,
-      subst (λ q. IsPass r (slice_index q) w) (sym firings_are) (block_pass c.graph_laws.ensures c.args.graph.now c.channels.ensures.shape c.args.period.now c.requires c.args.j),
+      subst (λ q. IsPass r (slice_index q) w) (sym firings_are)
+          (block_pass c.graph_laws.ensures c.args.graph.now c.channels.ensures.shape c.args.period.now
+          c.requires c.args.j),
     )
 
 pub by_order-requires-clause-pass : goal.by_order-requires-clause-pass
 by_order-requires-clause-pass c =
     let r = rates c.args.graph.now in
     let q = block c.args.j c.args.period.now.repetitions in
-    let size : IsSize c.args.j c.args.m c.args.period.now.repetitions = subst (IsSize c.args.j c.args.m) c.repetitions-reps.ensures c.in_default.ensures.0 in
-    let firings_are : c.deref.result.now ≡ q = c.deref.ensures.value ∙ (c.in_ok-firings.ensures ∙ ap (block c.args.j) c.repetitions-reps.ensures) in (
+    let size : IsSize c.args.j c.args.m c.args.period.now.repetitions =
+    subst (IsSize c.args.j c.args.m) c.repetitions-reps.ensures c.in_default.ensures.0 in
+    let firings_are : c.deref.result.now ≡ q = c.deref.ensures.value
+    ∙ (c.in_ok-firings.ensures ∙ ap (block c.args.j) c.repetitions-reps.ensures) in (
       slice_index q,
-      subst (IsPass r (slice_index q)) (sym c.deref-2.ensures.value) (subst (λ q. IsPass r (slice_index q) c.in_ok-order.order.items) firings_are c.in_ok-order.ensures.pass),
+      subst (IsPass r (slice_index q)) (sym c.deref-2.ensures.value)
+          (subst (λ q. IsPass r (slice_index q) c.in_ok-order.order.items) firings_are c.in_ok-order.ensures.pass),
       one_of_all q MOST_BLOCK (omega (arith, block_sum c.args.j c.args.period.now.repetitions, size.short)),
     )
 
 pub by_order-requires-clause-few : goal.by_order-requires-clause-few
 by_order-requires-clause-few c =
-    let size : IsSize c.args.j c.args.m c.args.period.now.repetitions = subst (IsSize c.args.j c.args.m) c.repetitions-reps.ensures c.in_default.ensures.0 in
-    let firings_are : c.deref.result.now ≡ block c.args.j c.args.period.now.repetitions = c.deref.ensures.value ∙ (c.in_ok-firings.ensures ∙ ap (block c.args.j) c.repetitions-reps.ensures) in
-    omega (arith, ap length c.deref-2.ensures.value, c.in_ok-order.ensures.all, ap sum firings_are, block_sum c.args.j c.args.period.now.repetitions, size.short)
+    let size : IsSize c.args.j c.args.m c.args.period.now.repetitions =
+    subst (IsSize c.args.j c.args.m) c.repetitions-reps.ensures c.in_default.ensures.0 in
+    let firings_are : c.deref.result.now ≡ block c.args.j c.args.period.now.repetitions =
+    c.deref.ensures.value ∙ (c.in_ok-firings.ensures ∙ ap (block c.args.j) c.repetitions-reps.ensures) in
+    omega (
+      arith,
+      ap length c.deref-2.ensures.value,
+      c.in_ok-order.ensures.all,
+      ap sum firings_are,
+      block_sum c.args.j c.args.period.now.repetitions,
+      size.short,
+    )
 
 pub returns : goal.returns
 returns c =
@@ -50,15 +67,20 @@ returns c =
     let q = block c.args.j c.args.period.now.repetitions in
     let order = c.in_ok-order.order.items in
     let last = c.class_s_of.new.pick in
-    let firings_are : c.deref.result.now ≡ q = c.deref.ensures.value ∙ (c.in_ok-firings.ensures ∙ ap (block c.args.j) c.repetitions-reps.ensures) in
-    let pass : IsPass r (slice_index q) order = subst (λ q. IsPass r (slice_index q) order) firings_are c.in_ok-order.ensures.pass in
+    let firings_are : c.deref.result.now ≡ q = c.deref.ensures.value
+    ∙ (c.in_ok-firings.ensures ∙ ap (block c.args.j) c.repetitions-reps.ensures) in
+    let pass : IsPass r (slice_index q) order = subst (λ q. IsPass r (slice_index q) order) firings_are
+    c.in_ok-order.ensures.pass in
     let picked : IsPicked IsRunsChoice g (slice_index q) 0 order last =
-    subst (λ (first : ℕ). IsPicked IsRunsChoice g (slice_index q) first order last) c.new.ensures (subst (λ q. IsPicked IsRunsChoice g (slice_index q) c.new.result order last) firings_are c.in_ok-order.ensures.picked) in (
+    subst (λ (first : ℕ). IsPicked IsRunsChoice g (slice_index q) first order last) c.new.ensures
+    (subst (λ q. IsPicked IsRunsChoice g (slice_index q) c.new.result order last) firings_are
+    c.in_ok-order.ensures.picked) in (
       subst (IsSize c.args.j c.args.m) c.repetitions-reps.ensures c.in_default.ensures.0,
       c.in_ok-table.ensures.table (slice_index q) (subst (IsPass r (slice_index q)) (sym c.deref-2.ensures.value) pass),
       record {
         order = order;
         in_runs = c.runs_stay.ensures g (slice_index q) order last picked;
-        by = subst (λ w. AreByHomes c.args.homes.now c.args.m w c.in_ok-table.table.rows) c.deref-2.ensures.value c.in_ok-table.ensures.rows;
+        by = subst (λ w. AreByHomes c.args.homes.now c.args.m w c.in_ok-table.table.rows) c.deref-2.ensures.value
+            c.in_ok-table.ensures.rows;
       },
     )

@@ -12,7 +12,8 @@ use Rattle.sdf_rings.proofs.rings.Rings.finish.Goals as goal
 
 pub met_is_rest-requires-clause-met : goal.met_is_rest-requires-clause-met
 met_is_rest-requires-clause-met g c κs within =
-    rw (c.deref.ensures.value, c.deref-2.ensures.value) (subst (λ (v : InHand _ _ _). HaveMet v.net v.seats v.places) (sym c.self.view_is) c.requires.met)
+    rw (c.deref.ensures.value, c.deref-2.ensures.value)
+    (subst (λ (v : InHand _ _ _). HaveMet v.net v.seats v.places) (sym c.self.view_is) c.requires.met)
 
 pub returns : goal.returns
 returns g c = λ order cap k plan counts.
@@ -26,9 +27,13 @@ returns g c = λ order cap k plan counts.
     let mine = subst (λ (v : InHand _ _ _). IsPlanned s v.net v.seats v.places order cap) (sym c.self.view_is) plan in
     let left = subst (λ (v : InHand _ _ _). total_left v.seats ≡ 0) (sym c.self.view_is) c.requires.left in
     let asked = subst (λ (v : InHand _ _ _). AreCountsOf v.net order k) (sym c.self.view_is) counts in
-    let rest : AreAtRest s n (lists x.inputs.now) x.seats.items x.places.items = rw (← c.deref.ensures.value, ← c.deref-2.ensures.value) c.met_is_rest.ensures in
-    let given : AreGiven n x.seats.items x.places.items (length n.nodes) c.collect.new.outputs = rw (← c.deref_mut.ensures.value, ← c.deref-3.ensures.value) c.collect.ensures.each in
+    let rest : AreAtRest s n (lists x.inputs.now) x.seats.items x.places.items =
+    rw (← c.deref.ensures.value, ← c.deref-2.ensures.value) c.met_is_rest.ensures in
+    let given : AreGiven n x.seats.items x.places.items (length n.nodes) c.collect.new.outputs =
+    rw (← c.deref_mut.ensures.value, ← c.deref-3.ensures.value) c.collect.ensures.each in
     let count = l ∙ (ap length v ∙ c.self.invariant.1) in
     let accepted = c.net_facts.ensures.accepted in
     rw same (subst (λ (v : InHand _ _ _). AreOutputs s v.net v.inputs k (lists c.collect.new.outputs)) c.self.view_is
-    (outputs_given s n (lists x.inputs.now) x.seats.items x.places.items c.self.invariant.0 order cap mine left rest accepted.0 accepted.1 k asked c.sinks_hold_lists.ensures c.histories_make_outputs.ensures.took c.collect.new.outputs count given))
+    (outputs_given s n (lists x.inputs.now) x.seats.items x.places.items c.self.invariant.0 order cap mine left rest
+    accepted.0 accepted.1 k asked c.sinks_hold_lists.ensures c.histories_make_outputs.ensures.took
+    c.collect.new.outputs count given))

@@ -14,7 +14,8 @@ use Rattle.sdf_rings.proofs.rings.Rings.leave.Goals as goal
 
 pub met_is_rest-requires-clause-met : goal.met_is_rest-requires-clause-met
 met_is_rest-requires-clause-met g c κs within =
-    rw (c.deref.ensures.value, c.deref-2.ensures.value) (subst (λ (v : InHand _ _ _). HaveMet v.net v.seats v.places) (sym c.self.view_is) c.requires.met)
+    rw (c.deref.ensures.value, c.deref-2.ensures.value)
+    (subst (λ (v : InHand _ _ _). HaveMet v.net v.seats v.places) (sym c.self.view_is) c.requires.met)
 
 pub collect-requires-clause-placed : goal.collect-requires-clause-placed
 collect-requires-clause-placed g c κs within =
@@ -23,9 +24,11 @@ collect-requires-clause-placed g c κs within =
     let l = c.leave.auto.seats in
     let m = c.deref_mut.ensures.len in
     let same = with_items_is x.seats c.leave.new.seats (omega arith) in
-    let kept : SameButEnds x.seats.items c.leave.new.seats = subst (λ ss. SameButEnds ss c.leave.new.seats) c.deref_mut.ensures.value c.in_ok-rest.ensures.kept in
+    let kept : SameButEnds x.seats.items c.leave.new.seats =
+    subst (λ ss. SameButEnds ss c.leave.new.seats) c.deref_mut.ensures.value c.in_ok-rest.ensures.kept in
     let placed = placed_kept n x.seats.items c.leave.new.seats x.places.items c.self.invariant.0.placed kept in
-    subst (λ ps. IsPlaced n c.deref_mut-2.result.now ps) (sym c.deref-4.ensures.value) (subst (λ ss. IsPlaced n ss x.places.items) (sym (c.deref_mut-2.ensures.value ∙ same)) placed)
+    subst (λ ps. IsPlaced n c.deref_mut-2.result.now ps) (sym c.deref-4.ensures.value)
+    (subst (λ ss. IsPlaced n ss x.places.items) (sym (c.deref_mut-2.ensures.value ∙ same)) placed)
 
 pub returns : goal.returns
 returns g c = λ order cap k plan counts.
@@ -35,8 +38,12 @@ returns g c = λ order cap k plan counts.
     let l = c.leave.auto.seats in
     let m = c.deref_mut.ensures.len in
     let moved = with_items_is x.seats c.leave.new.seats (omega arith) in
-    let kept : SameButEnds x.seats.items c.leave.new.seats = subst (λ ss. SameButEnds ss c.leave.new.seats) c.deref_mut.ensures.value c.in_ok-rest.ensures.kept in
-    let held : HoldRest n x.seats.items x.places.items c.in_ok-rest.rest = subst (λ ps. HoldRest n x.seats.items ps c.in_ok-rest.rest) c.deref-3.ensures.value (subst (λ ss. HoldRest n ss c.deref-3.result.now c.in_ok-rest.rest) c.deref_mut.ensures.value c.in_ok-rest.ensures.rest) in
+    let kept : SameButEnds x.seats.items c.leave.new.seats =
+    subst (λ ss. SameButEnds ss c.leave.new.seats) c.deref_mut.ensures.value c.in_ok-rest.ensures.kept in
+    let held : HoldRest n x.seats.items x.places.items c.in_ok-rest.rest =
+    subst (λ ps. HoldRest n x.seats.items ps c.in_ok-rest.rest) c.deref-3.ensures.value
+    (subst (λ ss. HoldRest n ss c.deref-3.result.now c.in_ok-rest.rest) c.deref_mut.ensures.value
+    c.in_ok-rest.ensures.rest) in
     let many = c.collect.ensures.count in
     let long = c.deref_mut-3.ensures.len in
     let same = with_items_is x.outputs c.collect.new.outputs (omega arith) in
@@ -44,11 +51,17 @@ returns g c = λ order cap k plan counts.
     let mine = subst (λ (v : InHand _ _ _). IsPlanned s v.net v.seats v.places order cap) (sym c.self.view_is) plan in
     let left = subst (λ (v : InHand _ _ _). total_left v.seats ≡ 0) (sym c.self.view_is) c.requires.left in
     let asked = subst (λ (v : InHand _ _ _). AreCountsOf v.net order k) (sym c.self.view_is) counts in
-    let rest : AreAtRest s n (lists x.inputs.now) x.seats.items x.places.items = rw (← c.deref.ensures.value, ← c.deref-2.ensures.value) c.met_is_rest.ensures in
+    let rest : AreAtRest s n (lists x.inputs.now) x.seats.items x.places.items =
+    rw (← c.deref.ensures.value, ← c.deref-2.ensures.value) c.met_is_rest.ensures in
     let collected : AreGiven n c.leave.new.seats x.places.items (length n.nodes) c.collect.new.outputs =
     subst (λ ps. AreGiven n c.leave.new.seats ps (length n.nodes) c.collect.new.outputs) c.deref-4.ensures.value
-    (subst (λ ss. AreGiven n ss c.deref-4.result.now (length n.nodes) c.collect.new.outputs) (c.deref_mut-2.ensures.value ∙ moved) c.collect.ensures.each) in
-    let given = given_kept n x.seats.items c.leave.new.seats x.places.items c.self.invariant.0.placed kept (length n.nodes) c.collect.new.outputs collected in
+    (subst (λ ss. AreGiven n ss c.deref-4.result.now (length n.nodes) c.collect.new.outputs)
+    (c.deref_mut-2.ensures.value ∙ moved) c.collect.ensures.each) in
+    let given = given_kept n x.seats.items c.leave.new.seats x.places.items c.self.invariant.0.placed kept
+    (length n.nodes) c.collect.new.outputs collected in
     let accepted = c.net_facts.ensures.accepted in
-    rw same (subst (λ (v : InHand _ _ _). HasRun s v.net v.inputs k (lists c.collect.new.outputs) c.in_ok-rest.rest) c.self.view_is
-    (run_given s n (lists x.inputs.now) x.seats.items x.places.items c.self.invariant.0 order cap mine left rest accepted.0 accepted.1 k asked c.sinks_hold_lists.ensures c.histories_make_outputs.ensures.took c.collect.new.outputs count given c.in_ok-rest.rest held))
+    rw same (subst (λ (v : InHand _ _ _). HasRun s v.net v.inputs k (lists c.collect.new.outputs)
+    c.in_ok-rest.rest) c.self.view_is
+    (run_given s n (lists x.inputs.now) x.seats.items x.places.items c.self.invariant.0 order cap mine left rest
+    accepted.0 accepted.1 k asked c.sinks_hold_lists.ensures c.histories_make_outputs.ensures.took
+    c.collect.new.outputs count given c.in_ok-rest.rest held))

@@ -1,4 +1,5 @@
-use Rattle.std.proofs.Common.{◌≡◌, ◌<◌, ◌⊎◌, length, vec_len, slice_index_or, get_or-set_same, ap, sym, ◌∙◌, subst, arith}
+use Rattle.std.proofs.Common.{◌≡◌, ◌<◌, ◌⊎◌, length, vec_len, slice_index_or, get_or-set_same, ap, sym, ◌∙◌, subst}
+use Rattle.std.proofs.Common.{arith}
 use Rattle.std.proofs.lemmas.List.{get_or_default}
 use Rattle.sdf_actor.specs.Wires.{lists}
 use Rattle.sdf_rings.specs.declared.seat.Seat.{Seat}
@@ -13,7 +14,8 @@ use Rattle.sdf_rings.proofs.rings.Rings.work_one.Goals as goal
 pub invariant_of-self : goal.invariant_of-self
 invariant_of-self g c =
     let l = ap (λ (v : InHand _ _ _). length v.seats) c.self.view_is in (
-      rings_worked g.A.Actor.steps c.self.inside.net.now (lists c.self.inside.inputs.now) c.self.inside.seats.items c.self.inside.places.items c.self.invariant.0 c.args.seat c.index_mut.result.now c.work.new.seat
+      rings_worked g.A.Actor.steps c.self.inside.net.now (lists c.self.inside.inputs.now) c.self.inside.seats.items
+          c.self.inside.places.items c.self.invariant.0 c.args.seat c.index_mut.result.now c.work.new.seat
           (omega (arith, l, c.requires)) c.index_mut.ensures.value c.work.ensures.worked c.work.ensures.seat,
       c.self.invariant.1,
     )
@@ -23,17 +25,22 @@ returns-clause-stopped g c = λ e.
     let l = ap (λ (v : InHand _ _ _). length v.seats) c.self.view_is in
     let items = c.self.inside.seats.items in
     let inside : c.args.seat < length items = omega (arith, l, c.requires) in
-    subst (λ (z : Seat _ _ _). (z.next ≡ vec_len z.left) ⊎ (HasFirst g.A.Actor.steps c.self.inside.net.now z → ⊥)) (sym (get_or-set_same items c.args.seat c.work.new.seat e inside)) c.work.ensures.stopped
+    subst (λ (z : Seat _ _ _). (z.next ≡ vec_len z.left) ⊎ (HasFirst g.A.Actor.steps c.self.inside.net.now z → ⊥))
+    (sym (get_or-set_same items c.args.seat c.work.new.seat e inside)) c.work.ensures.stopped
 
 pub returns-clause-progress : goal.returns-clause-progress
 returns-clause-progress g c =
     let l = ap (λ (v : InHand _ _ _). length v.seats) c.self.view_is in
     let items = c.self.inside.seats.items in
     let inside : c.args.seat < length items = omega (arith, l, c.requires) in
-    subst (λ (v : InHand _ _ _). (e : Seat _ _ _) → (slice_index_or v.seats c.args.seat e).next < vec_len (slice_index_or v.seats c.args.seat e).left → HasFirst g.A.Actor.steps v.net (slice_index_or v.seats c.args.seat e) → 0 < c.work.result)
+    subst (λ (v : InHand _ _ _). (e : Seat _ _ _) →
+    (slice_index_or v.seats c.args.seat e).next < vec_len (slice_index_or v.seats c.args.seat e).left →
+    HasFirst g.A.Actor.steps v.net (slice_index_or v.seats c.args.seat e) → 0 < c.work.result)
     c.self.view_is
-    (λ e. subst (λ (z : Seat _ _ _). z.next < vec_len z.left → HasFirst g.A.Actor.steps c.self.inside.net.now z → 0 < c.work.result)
-    (c.index_mut.ensures.value ∙ get_or_default items c.args.seat c.index_mut.result.now e inside) c.work.ensures.progress)
+    (λ e. subst (λ (z : Seat _ _ _). z.next < vec_len z.left → HasFirst g.A.Actor.steps c.self.inside.net.now z →
+    0 < c.work.result)
+    (c.index_mut.ensures.value ∙ get_or_default items c.args.seat c.index_mut.result.now e inside)
+    c.work.ensures.progress)
 
 pub returns-clause-planned : goal.returns-clause-planned
 returns-clause-planned g c = λ order cap plan.
@@ -42,5 +49,7 @@ returns-clause-planned g c = λ order cap plan.
     let s = g.A.Actor.steps in
     let inside : c.args.seat < length x.seats.items = omega (arith, l, c.requires) in
     let mine = subst (λ (v : InHand _ _ _). IsPlanned s v.net v.seats v.places order cap) (sym c.self.view_is) plan in
-    planned_kept s x.net.now (lists x.inputs.now) x.seats.items _ x.places.items c.self.invariant.0 (length-set x.seats.items c.args.seat c.work.new.seat)
-    (one_worked s x.net.now (lists x.inputs.now) x.seats.items x.places.items c.self.invariant.0 c.args.seat c.index_mut.result.now c.work.new.seat inside c.index_mut.ensures.value c.work.ensures.worked) order cap mine
+    planned_kept s x.net.now (lists x.inputs.now) x.seats.items _ x.places.items c.self.invariant.0
+    (length-set x.seats.items c.args.seat c.work.new.seat)
+    (one_worked s x.net.now (lists x.inputs.now) x.seats.items x.places.items c.self.invariant.0 c.args.seat
+    c.index_mut.result.now c.work.new.seat inside c.index_mut.ensures.value c.work.ensures.worked) order cap mine

@@ -7,6 +7,7 @@ use Rattle.sdf_rings.proofs.setup.asked.asked.Goals as goal
 pub firings-requires : goal.firings-requires
 firings-requires c =
     let q = get_or c.args.repetitions.now c.loop-repetition.repetition-index 0 in
-    let one : q ≤ sum c.args.repetitions.now = get_or-le-sum_by (λ x. x) c.args.repetitions.now c.loop-repetition.repetition-index 0 c.loop-repetition-test.true in
+    let one : q ≤ sum c.args.repetitions.now = get_or-le-sum_by (λ x. x) c.args.repetitions.now
+    c.loop-repetition.repetition-index 0 c.loop-repetition-test.true in
     let all : c.args.j * q ≤ c.args.j * sum c.args.repetitions.now = mul-le-mul_left c.args.j one in
     omega (arith, all, c.requires)

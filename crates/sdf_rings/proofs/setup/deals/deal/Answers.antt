@@ -10,5 +10,6 @@ loop-preserved c =
     let places = c.args.places.now in
     c.in_ok-extend_from_slice.ensures.items ∙
     (ap (λ xs. xs ++ c.deref.result.now) c.loop.invariant ∙
-    (ap (λ ys. map (λ a. (place places a).1) (dealt places (repeated c.loop.counter c.args.order.now) c.args.seat) ++ ys) (c.deref.ensures.value ∙ c.in_ok-block.ensures) ∙
+    (ap (λ ys. map (λ a. (place places a).1) (dealt places (repeated c.loop.counter c.args.order.now) c.args.seat)
+    ++ ys) (c.deref.ensures.value ∙ c.in_ok-block.ensures) ∙
     sym (dealt_again places c.args.seat c.args.order.now c.loop.counter)))

@@ -8,6 +8,7 @@ loop-actor-preserved c =
     let places = c.args.places.now in
     let order = c.args.order.now in
     let i = c.loop-actor.actor-index in
-    let more = cond (eqb (place places (get_or order i 0)).0 c.args.seat) ((place places (get_or order i 0)).1 ∷ []) [] in
+    let more = cond (eqb (place places (get_or order i 0)).0 c.args.seat)
+    ((place places (get_or order i 0)).1 ∷ []) [] in
     c.in_ok-deal_one.ensures ∙
     (ap (λ xs. xs ++ more) c.loop-actor.invariant ∙ sym (dealt_more places c.args.seat order i c.loop-actor-test.true))

@@ -4,4 +4,5 @@ use Rattle.sdf_rings.specs.Begun.{place}
 use Rattle.sdf_rings.proofs.setup.deals.deal_block.Given as goal
 
 abbrev pub invariant-loop-actor : goal.invariant-loop-actor
-invariant-loop-actor l = l.left.items ≡ map (λ a. (place l.places a).1) (dealt l.places (take l.actor-index l.order) l.seat)
+invariant-loop-actor l = l.left.items ≡ map (λ a. (place l.places a).1)
+    (dealt l.places (take l.actor-index l.order) l.seat)

@@ -12,14 +12,17 @@ returns-in-Some g c =
     let shape = c.graph.result.now in
     let inside : c.args.c < length shape.channels = omega (arith, c.graph.ensures.rates.channels, c.requires.known) in
     let put = c.channels.ensures.shape.put c.args.c inside in
-    let at = c.index-channels-c.is ∙ (ap (λ xs. get_or xs c.args.c c.index-channels-c.result) c.channels.ensures.list ∙ get_or_default shape.channels c.args.c c.index-channels-c.result no_channel inside) in
-    let greatest = subst (λ (e : Edge). IsGreatestOf e.put c.greatest_put-block.result) at c.greatest_put-block.ensures in
+    let at = c.index-channels-c.is ∙ (ap (λ xs. get_or xs c.args.c c.index-channels-c.result) c.channels.ensures.list
+    ∙ get_or_default shape.channels c.args.c c.index-channels-c.result no_channel inside) in
+    let greatest = subst (λ (e : Edge). IsGreatestOf e.put c.greatest_put-block.result) at
+    c.greatest_put-block.ensures in
     let own = ap (λ w. w.from.0) (sym c.link-link.ensures) ∙ (c.if-link.false ∙ ap (λ w. w.to.0) c.link-link.ensures) in
     record {
       between_two = λ ne. absurd (ne own);
       own = λ e. (
         c.greatest_put-block.result,
-        greatest_is c.sums_rise.ensures.one shape (wiring g.A.Actor.steps n).rates c.graph.ensures.rates c.args.c c.greatest_put-block.result inside (omega (arith, put.all, put.some)) greatest,
+        greatest_is c.sums_rise.ensures.one shape (wiring g.A.Actor.steps n).rates c.graph.ensures.rates c.args.c
+            c.greatest_put-block.result inside (omega (arith, put.all, put.some)) greatest,
         omega (arith, c.in-Some.ensures.1, c.cap-held.ensures),
       );
     }

@@ -11,7 +11,10 @@ loop-actor-preserved c =
     let p : ℕ × ℕ = (c.home-seat.result, c.standing-before.result) in
     record {
       len = omega (arith, c.in_ok-push.ensures.len, c.loop-actor.invariant.len);
-      homes = push_each (λ k q. home_in c.args.table.now k ≡ Some q.0) xs c.push.new.self.items p c.loop-actor.actor c.in_ok-push.ensures.items (vec_long c.loop-actor.places ∙ c.loop-actor.invariant.len)
+      homes = push_each (λ k q. home_in c.args.table.now k ≡ Some q.0) xs c.push.new.self.items p c.loop-actor.actor
+          c.in_ok-push.ensures.items (vec_long c.loop-actor.places ∙ c.loop-actor.invariant.len)
           c.loop-actor.invariant.homes c.home-seat.ensures;
-      next = subst AreNext (sym c.in_ok-push.ensures.items) (next_more xs p c.loop-actor.invariant.next (c.standing-before.ensures ∙ ap (λ ys. standing ys c.home-seat.result) c.deref.ensures.value));
+      next = subst AreNext (sym c.in_ok-push.ensures.items)
+          (next_more xs p c.loop-actor.invariant.next (c.standing-before.ensures
+          ∙ ap (λ ys. standing ys c.home-seat.result) c.deref.ensures.value));
     }

@@ -13,8 +13,10 @@ take_ends-requires-clause-once g c =
     let s = g.A.Actor.steps in
     let n = c.args.start.now.net.now in
     let good = c.requires.start.net in
-    subst (λ cs. (i k : ℕ) → i < length cs → k < length cs → slice_index cs i ≡ slice_index cs k → i ≡ k) (sym c.channels_in.ensures)
-    (λ i k hi hk e. ins_once s c.nets_are_wired.ensures.ports n good (c.nets_are_wired.ensures.wired n good) c.args.a i k c.requires.known hi hk e)
+    subst (λ cs. (i k : ℕ) → i < length cs → k < length cs → slice_index cs i ≡ slice_index cs k → i ≡ k)
+    (sym c.channels_in.ensures)
+    (λ i k hi hk e. ins_once s c.nets_are_wired.ensures.ports n good (c.nets_are_wired.ensures.wired n good) c.args.a i
+    k c.requires.known hi hk e)
 
 pub make_stand-requires-clause-ins : goal.make_stand-requires-clause-ins
 make_stand-requires-clause-ins g c κs within =
@@ -23,9 +25,12 @@ make_stand-requires-clause-ins g c κs within =
     let good = c.requires.start.net in
     let ends = c.args.ends.now in
     let ins = c.in_ok-ins.ins in
-    has_ins s c.nets_are_wired.ensures.ports n good (c.nets_are_wired.ensures.wired n good) c.args.a c.requires.known ends.producers.items ends.consumers.items c.requires.ends ins.items
+    has_ins s c.nets_are_wired.ensures.ports n good (c.nets_are_wired.ensures.wired n good) c.args.a c.requires.known
+    ends.producers.items ends.consumers.items c.requires.ends ins.items
     (vec_long ins ∙ (c.in_ok-ins.ensures.all ∙ ap length c.channels_in.ensures))
-    (subst (λ cs. (i : ℕ) (d : _) → i < length cs → end_at ends.consumers.items (slice_index cs i) ≡ Some (get_or ins.items i d)) c.channels_in.ensures c.in_ok-ins.ensures.each)
+    (subst (λ cs. (i : ℕ) (d : _) → i < length cs →
+    end_at ends.consumers.items (slice_index cs i) ≡ Some (get_or ins.items i d)) c.channels_in.ensures
+    c.in_ok-ins.ensures.each)
 
 pub make_stand-requires-clause-outs : goal.make_stand-requires-clause-outs
 make_stand-requires-clause-outs g c κs within =
@@ -34,9 +39,12 @@ make_stand-requires-clause-outs g c κs within =
     let good = c.requires.start.net in
     let ends = c.args.ends.now in
     let outs = c.in_ok-outs.outs in
-    has_outs s c.nets_are_wired.ensures.ports n good (c.nets_are_wired.ensures.wired n good) c.args.a c.requires.known ends.producers.items ends.consumers.items c.requires.ends outs.items
+    has_outs s c.nets_are_wired.ensures.ports n good (c.nets_are_wired.ensures.wired n good) c.args.a c.requires.known
+    ends.producers.items ends.consumers.items c.requires.ends outs.items
     (vec_long outs ∙ (c.in_ok-outs.ensures.all ∙ ap length c.channels_out.ensures))
-    (subst (λ cs. (i : ℕ) (d : _) → i < length cs → end_at ends.producers.items (slice_index cs i) ≡ Some (get_or outs.items i d)) c.channels_out.ensures c.in_ok-outs.ensures.each)
+    (subst (λ cs. (i : ℕ) (d : _) → i < length cs →
+    end_at ends.producers.items (slice_index cs i) ≡ Some (get_or outs.items i d)) c.channels_out.ensures
+    c.in_ok-outs.ensures.each)
 
 pub make_stand-requires-clause-own : goal.make_stand-requires-clause-own
 make_stand-requires-clause-own g c κs within =
@@ -48,13 +56,19 @@ make_stand-requires-clause-own g c κs within =
     let ends = c.args.ends.now in
     let ins = c.in_ok-ins.ins in
     let outs = c.in_ok-outs.outs in
-    own_are_pairs s ports n good wired c.args.a c.requires.known ends.producers.items ends.consumers.items c.requires.ends outs.items
+    own_are_pairs s ports n good wired c.args.a c.requires.known ends.producers.items ends.consumers.items
+    c.requires.ends outs.items
     (vec_long outs ∙ (c.in_ok-outs.ensures.all ∙ ap length c.channels_out.ensures))
-    (subst (λ cs. (i : ℕ) (d : _) → i < length cs → end_at ends.producers.items (slice_index cs i) ≡ Some (get_or outs.items i d)) c.channels_out.ensures c.in_ok-outs.ensures.each)
+    (subst (λ cs. (i : ℕ) (d : _) → i < length cs →
+    end_at ends.producers.items (slice_index cs i) ≡ Some (get_or outs.items i d)) c.channels_out.ensures
+    c.in_ok-outs.ensures.each)
     ins.items
-    (ins_at s ports n good wired c.args.a c.requires.known ends.producers.items ends.consumers.items c.requires.ends ins.items
+    (ins_at s ports n good wired c.args.a c.requires.known ends.producers.items ends.consumers.items
+    c.requires.ends ins.items
     (vec_long ins ∙ (c.in_ok-ins.ensures.all ∙ ap length c.channels_in.ensures))
-    (subst (λ cs. (i : ℕ) (d : _) → i < length cs → end_at ends.consumers.items (slice_index cs i) ≡ Some (get_or ins.items i d)) c.channels_in.ensures c.in_ok-ins.ensures.each))
+    (subst (λ cs. (i : ℕ) (d : _) → i < length cs →
+    end_at ends.consumers.items (slice_index cs i) ≡ Some (get_or ins.items i d)) c.channels_in.ensures
+    c.in_ok-ins.ensures.each))
 
 pub returns-clause-begun : goal.returns-clause-begun
 returns-clause-begun g c =
@@ -68,14 +82,23 @@ returns-clause-begun g c =
     let ends = c.args.ends.now in
     let ins = c.in_ok-ins.ins in
     let outs = c.in_ok-outs.outs in
-    let at_in = ins_at s ports n good wired a c.requires.known ends.producers.items ends.consumers.items c.requires.ends ins.items
+    let at_in = ins_at s ports n good wired a c.requires.known ends.producers.items ends.consumers.items
+    c.requires.ends ins.items
     (vec_long ins ∙ (c.in_ok-ins.ensures.all ∙ ap length c.channels_in.ensures))
-    (subst (λ cs. (i : ℕ) (d : _) → i < length cs → end_at ends.consumers.items (slice_index cs i) ≡ Some (get_or ins.items i d)) c.channels_in.ensures c.in_ok-ins.ensures.each) in
-    let at_out = outs_at s ports n good wired a c.requires.known ends.producers.items ends.consumers.items c.requires.ends outs.items
+    (subst (λ cs. (i : ℕ) (d : _) → i < length cs →
+    end_at ends.consumers.items (slice_index cs i) ≡ Some (get_or ins.items i d)) c.channels_in.ensures
+    c.in_ok-ins.ensures.each) in
+    let at_out = outs_at s ports n good wired a c.requires.known ends.producers.items ends.consumers.items
+    c.requires.ends outs.items
     (vec_long outs ∙ (c.in_ok-outs.ensures.all ∙ ap length c.channels_out.ensures))
-    (subst (λ cs. (i : ℕ) (d : _) → i < length cs → end_at ends.producers.items (slice_index cs i) ≡ Some (get_or outs.items i d)) c.channels_out.ensures c.in_ok-outs.ensures.each) in
-    if_ok c.make_stand.result (IsStand s n (lists start.inputs.now)) (λ x. (x.actor ≡ a) × (x.done ≡ 0) × (x.asked ≡ slice_index start.asked.items a)) (λ x. (x.ins ≡ ins) × (x.outs ≡ outs))
-    (HasBegun s n (lists start.inputs.now) (slice_index start.asked.items) ends.producers.items ends.consumers.items a) c.make_stand.ensures.stand c.make_stand.ensures.begun c.make_stand.ensures.ends
+    (subst (λ cs. (i : ℕ) (d : _) → i < length cs →
+    end_at ends.producers.items (slice_index cs i) ≡ Some (get_or outs.items i d)) c.channels_out.ensures
+    c.in_ok-outs.ensures.each) in
+    if_ok c.make_stand.result (IsStand s n (lists start.inputs.now))
+    (λ x. (x.actor ≡ a) × (x.done ≡ 0) × (x.asked ≡ slice_index start.asked.items a))
+    (λ x. (x.ins ≡ ins) × (x.outs ≡ outs))
+    (HasBegun s n (lists start.inputs.now) (slice_index start.asked.items) ends.producers.items ends.consumers.items a)
+    c.make_stand.ensures.stand c.make_stand.ensures.begun c.make_stand.ensures.ends
     (λ x is begun same. record {
       is = is;
       actor_is = begun.0;

@@ -5,6 +5,8 @@ use Rattle.sdf_rings.proofs.setup.stands.take_ends.Given as goal
 abbrev pub invariant-loop-channel : goal.invariant-loop-channel
 invariant-loop-channel g l = record {
   len : vec_len l.taken ≡ l.channel-index;
-  each : (i : ℕ) (d : _) → i < l.channel-index → end_at l.initial.ends.items (slice_index l.channels i) ≡ Some (slice_index_or l.taken.items i d);
-  others : (c : ℕ) → ((i : ℕ) → i < l.channel-index → slice_index l.channels i ≡ c → ⊥) → end_at l.ends.items c ≡ end_at l.initial.ends.items c;
+  each : (i : ℕ) (d : _) → i < l.channel-index → end_at l.initial.ends.items (slice_index l.channels i) ≡
+      Some (slice_index_or l.taken.items i d);
+  others : (c : ℕ) → ((i : ℕ) → i < l.channel-index → slice_index l.channels i ≡ c → ⊥) →
+      end_at l.ends.items c ≡ end_at l.initial.ends.items c;
 }

@@ -7,7 +7,8 @@ invariant-loop-self g l = record {
   swept : IsSwept g.A.Actor.steps l.self;
   keeps : Keeps l.initial.self l.self;
   room : HasRoom g.A.Actor.steps l.size l.self;
-  done : (a : ℕ) → a < length l.self.net.now.nodes → slice_index l.self.done.items a ≡ l.self.high * slice_index l.self.repetitions.now a;
+  done : (a : ℕ) → a < length l.self.net.now.nodes →
+      slice_index l.self.done.items a ≡ l.self.high * slice_index l.self.repetitions.now a;
 }
 
 abbrev pub decreases-loop-self : goal.decreases-loop-self

@@ -8,25 +8,31 @@ use Rattle.sdf_run.proofs.Sweeping.{net_known, phase_in, ports_in, may_holds, ho
 use Rattle.sdf_run.proofs.run.Run.times.Goals as goal
 use Rattle.sdf_run.proofs.run.Run.times.Goals.{After-phase}
 
-known : (g : Rattle.sdf_run.proofs.run.Run.times.Given.Over) (c : After-phase g) → Known g.A.Actor.steps c.args.self.now.net.now
+known : (g : Rattle.sdf_run.proofs.run.Run.times.Given.Over) (c : After-phase g) →
+    Known g.A.Actor.steps c.args.self.now.net.now
 known g c = net_known g.A.Actor.steps c.step_laws.ensures.laws c.args.self.now c.requires.swept
 
-at : (g : Rattle.sdf_run.proofs.run.Run.times.Given.Over) (c : After-phase g) → phase_at (get_or c.args.self.now.works.items c.args.a c.index.result.now) ≡ c.phase.result
+at : (g : Rattle.sdf_run.proofs.run.Run.times.Given.Over) (c : After-phase g) →
+    phase_at (get_or c.args.self.now.works.items c.args.a c.index.result.now) ≡ c.phase.result
 at g c = ap phase_at (sym c.index.ensures) ∙ sym c.phase.ensures
 
 pub on-sizes-requires : goal.on-sizes-requires
 on-sizes-requires g c =
-    let k = phase_in g.A.Actor.steps c.args.self.now c.requires.swept (known g c) c.args.a c.requires.may.0 c.index.result.now in
+    let k = phase_in g.A.Actor.steps c.args.self.now c.requires.swept (known g c) c.args.a c.requires.may.0
+    c.index.result.now in
     subst (λ j. j < length c.args.self.now.sizes.takes) (at g c) k
 
 pub blocks_held-requires-clause-ports : goal.blocks_held-requires-clause-ports
 blocks_held-requires-clause-ports g c =
     let p = (goal.at.blocks_held-requires-clause-ports g c).After-phase in
     let r = c.args.self.now in
-    let sizes : at_phase r.sizes.takes (phase_at (get_or r.works.items c.args.a c.index.result.now)) ≡ c.on-sizes.result.now = ap (at_phase r.sizes.takes) (at g p) ∙ sym c.on-sizes.ensures in
+    let sizes : at_phase r.sizes.takes (phase_at (get_or r.works.items c.args.a c.index.result.now)) ≡
+    c.on-sizes.result.now = ap (at_phase r.sizes.takes) (at g p) ∙ sym c.on-sizes.ensures in
     subst (λ x. ArePorts x c.on-sizes.result.now (length c.deref.result.now)) (sym c.channels_in.ensures)
     (subst (λ x. ArePorts ((wiring g.A.Actor.steps r.net.now).ins c.args.a) x (length c.deref.result.now)) sizes
-    (subst (λ x. ArePorts ((wiring g.A.Actor.steps r.net.now).ins c.args.a) (at_phase r.sizes.takes (phase_at (get_or r.works.items c.args.a c.index.result.now))) x) (ap length (sym c.deref.ensures.value))
+    (subst (λ x. ArePorts ((wiring g.A.Actor.steps r.net.now).ins c.args.a)
+    (at_phase r.sizes.takes (phase_at (get_or r.works.items c.args.a c.index.result.now))) x)
+    (ap length (sym c.deref.ensures.value))
     (ports_in g.A.Actor.steps r c.requires.swept (known g p) c.args.a c.requires.may.0 c.index.result.now)))
 
 pub blocks_held-requires-clause-held : goal.blocks_held-requires-clause-held
@@ -35,6 +41,10 @@ blocks_held-requires-clause-held g c =
     let s = g.A.Actor.steps in
     let r = c.args.self.now in
     let w = c.index.result.now in
-    let sizes : at_phase r.sizes.takes (phase_at (get_or r.works.items c.args.a w)) ≡ c.on-sizes.result.now = ap (at_phase r.sizes.takes) (at g p) ∙ sym c.on-sizes.ensures in
-    holds_along ((wiring s r.net.now).ins c.args.a) c.channels_in.result.now (at_phase r.sizes.takes (phase_at (get_or r.works.items c.args.a w))) c.on-sizes.result.now r.queues.items c.deref.result.now
-    (sym c.channels_in.ensures) sizes (sym c.deref.ensures.value) (may_holds s r c.requires.swept (known g p) c.args.a c.requires.may.0 w c.requires.may)
+    let sizes : at_phase r.sizes.takes (phase_at (get_or r.works.items c.args.a w)) ≡ c.on-sizes.result.now =
+    ap (at_phase r.sizes.takes) (at g p) ∙ sym c.on-sizes.ensures in
+    holds_along ((wiring s r.net.now).ins c.args.a) c.channels_in.result.now
+    (at_phase r.sizes.takes (phase_at (get_or r.works.items c.args.a w))) c.on-sizes.result.now r.queues.items
+    c.deref.result.now
+    (sym c.channels_in.ensures) sizes (sym c.deref.ensures.value)
+    (may_holds s r c.requires.swept (known g p) c.args.a c.requires.may.0 w c.requires.may)

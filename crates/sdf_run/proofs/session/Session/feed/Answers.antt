@@ -15,15 +15,21 @@ returns-in_default-blocks_in g c =
       (
         (c.in-Some.rest, sym (ap (λ v. v.rest) c.self.view_is) ∙ c.in-Some.is),
         λ blocks are. c.in_default-blocks_in.ensures.none blocks (subst (λ X. X)
-            (sym (blocks_same c.inputs.result (list_count Inputs n.nodes) c.self.inside.j c.samples_in.result (period_samples n.nodes Inputs q) blocks inputs c.inputs.ensures each)) (subst (λ v. FeedsBlocks v blocks inputs) (sym c.self.view_is) are)),
+            (sym (blocks_same c.inputs.result (list_count Inputs n.nodes) c.self.inside.j c.samples_in.result
+            (period_samples n.nodes Inputs q) blocks inputs c.inputs.ensures each))
+            (subst (λ v. FeedsBlocks v blocks inputs) (sym c.self.view_is) are)),
       ),
       refl,
     )
 
 pub go_on-fed-requires-clause-rest : goal.go_on-fed-requires-clause-rest
 go_on-fed-requires-clause-rest g c κs within =
-    let stood = c.self.invariant.stands (c.in-Some.rest, c.in-Some.is) in
-    (stood.1, stood.0 * c.self.inside.j, rest_of g.A.Actor.steps _ c.in-Some.rest c.in-Some.is stood.0 stood.1 stood.2 stood.3)
+    let stood = c.self.invariant.stands (c.in-Some.rest, c.in-Some.is) in (
+      stood.1,
+      stood.0 * c.self.inside.j,
+      rest_of g.A.Actor.steps _ c.in-Some.rest c.in-Some.is stood.0 stood.1
+          stood.2 stood.3,
+    )
 
 pub invariant_of-self : goal.invariant_of-self
 invariant_of-self g c =
@@ -32,13 +38,17 @@ invariant_of-self g c =
     let each = c.samples_in.ensures.value q c.self.invariant.period.least in
     let blocks = c.in-Some-blocks_in.blocks in
     let inputs = lists c.args.inputs.now in
-    let are = subst (λ X. X) (blocks_same c.inputs.result (list_count Inputs n.nodes) c.self.inside.j c.samples_in.result (period_samples n.nodes Inputs q) blocks inputs c.inputs.ensures each) c.in-Some-blocks_in.ensures.some in
+    let are = subst (λ X. X) (blocks_same c.inputs.result (list_count Inputs n.nodes) c.self.inside.j
+    c.samples_in.result (period_samples n.nodes Inputs q) blocks inputs c.inputs.ensures each)
+    c.in-Some-blocks_in.ensures.some in
     record {
       period = c.self.invariant.period;
       table = c.self.invariant.table;
       may = c.self.invariant.may;
-      stands = λ live. stands_still g.A.Actor.steps _ c.in-Some.rest c.in-Ok.last c.in-Some.is blocks inputs (lists c.in-Ok.ran.outputs.items) are c.in-Ok.ensures.0
-          c.saturating_add-self-inside.result c.saturating_add-self-inside-in-Ok.result (c.self.invariant.stands (c.in-Some.rest, c.in-Some.is));
+      stands = λ live. stands_still g.A.Actor.steps _ c.in-Some.rest c.in-Ok.last c.in-Some.is blocks inputs
+          (lists c.in-Ok.ran.outputs.items) are c.in-Ok.ensures.0
+          c.saturating_add-self-inside.result c.saturating_add-self-inside-in-Ok.result
+          (c.self.invariant.stands (c.in-Some.rest, c.in-Some.is));
     }
 
 pub returns-in-Ok : goal.returns-in-Ok
@@ -49,7 +59,9 @@ returns-in-Ok g c =
     let blocks = c.in-Some-blocks_in.blocks in
     let inputs = lists c.args.inputs.now in
     let made = lists c.in-Ok.ran.outputs.items in
-    let are = subst (λ X. X) (blocks_same c.inputs.result (list_count Inputs n.nodes) c.self.inside.j c.samples_in.result (period_samples n.nodes Inputs q) blocks inputs c.inputs.ensures each) c.in-Some-blocks_in.ensures.some in
+    let are = subst (λ X. X) (blocks_same c.inputs.result (list_count Inputs n.nodes) c.self.inside.j
+    c.samples_in.result (period_samples n.nodes Inputs q) blocks inputs c.inputs.ensures each)
+    c.in-Some-blocks_in.ensures.some in
     let v : SessionValue g.row.A.Denot g.row.A-State.Denot g.row.A-Token.Denot = record {
       net = n;
       period = c.self.inside.period.now;
@@ -61,10 +73,17 @@ returns-in-Ok g c =
       rounds = c.self.inside.rounds;
     } in (
       blocks,
-      subst (λ u. HasFed g.A.Actor.steps u (record v { rest = Some c.in-Ok.last; blocks = c.saturating_add-self-inside.result; rounds = c.saturating_add-self-inside-in-Ok.result }) blocks inputs made c.in-Ok.ran.rounds)
+      subst (λ u. HasFed g.A.Actor.steps u (record v {
+        rest = Some c.in-Ok.last;
+        blocks = c.saturating_add-self-inside.result;
+        rounds = c.saturating_add-self-inside-in-Ok.result;
+      }) blocks inputs made c.in-Ok.ran.rounds)
           c.self.view_is
-          (has_fed g.A.Actor.steps v c.in-Some.rest c.in-Ok.last c.in-Some.is blocks c.in-Ok.ran.rounds c.saturating_add-self-inside.result c.saturating_add-self-inside-in-Ok.result inputs made are
-          c.in-Ok.ensures.0 c.in-Ok.ensures.1 (c.saturating_add-self-inside.ensures ∙ ap (λ b. counted (c.self.inside.blocks + b)) c.from.ensures) c.saturating_add-self-inside-in-Ok.ensures),
+          (has_fed g.A.Actor.steps v c.in-Some.rest c.in-Ok.last c.in-Some.is blocks c.in-Ok.ran.rounds
+          c.saturating_add-self-inside.result c.saturating_add-self-inside-in-Ok.result inputs made are
+          c.in-Ok.ensures.0 c.in-Ok.ensures.1 (c.saturating_add-self-inside.ensures
+          ∙ ap (λ b. counted (c.self.inside.blocks + b)) c.from.ensures)
+          c.saturating_add-self-inside-in-Ok.ensures),
     )
 
 pub returns-in-Err : goal.returns-in-Err
@@ -74,7 +93,9 @@ returns-in-Err g c =
     let each = c.samples_in.ensures.value q c.self.invariant.period.least in
     let blocks = c.in-Some-blocks_in.blocks in
     let inputs = lists c.args.inputs.now in
-    let are = subst (λ X. X) (blocks_same c.inputs.result (list_count Inputs n.nodes) c.self.inside.j c.samples_in.result (period_samples n.nodes Inputs q) blocks inputs c.inputs.ensures each) c.in-Some-blocks_in.ensures.some in
+    let are = subst (λ X. X) (blocks_same c.inputs.result (list_count Inputs n.nodes) c.self.inside.j
+    c.samples_in.result (period_samples n.nodes Inputs q) blocks inputs c.inputs.ensures each)
+    c.in-Some-blocks_in.ensures.some in
     let v : SessionValue g.row.A.Denot g.row.A-State.Denot g.row.A-Token.Denot = record {
       net = n;
       period = c.self.inside.period.now;
@@ -85,5 +106,6 @@ returns-in-Err g c =
       blocks = c.self.inside.blocks;
       rounds = c.self.inside.rounds;
     } in
-    subst (λ u. IsFeedFault u inputs c.in-Err.fault × (record v { rest = None } ≡ after_fault u c.in-Err.fault)) c.self.view_is
+    subst (λ u. IsFeedFault u inputs c.in-Err.fault
+    × (record v { rest = None } ≡ after_fault u c.in-Err.fault)) c.self.view_is
     (feed_fault v blocks inputs (c.in-Some.rest, c.in-Some.is) are c.in-Err.fault c.in-Err.ensures)

@@ -13,13 +13,16 @@ use Rattle.sdf_run.proofs.work.Work.fire_at_once.Goals as goal
 pub overflow_mul-last : goal.overflow_mul-last
 overflow_mul-last g c =
     let can = rw c.in-Source.is at c.requires.work in
-    let less : c.in-Source.block * c.args.times ≤ length (list c.args.inputs.now c.in-Source.ext) = omega (arith, can.4) in
-    Fits-le less (list_fits c.args.inputs.now c.in-Source.ext (omega (arith, can.3, length-map c.args.inputs.now (λ v. v.items))))
+    let less : c.in-Source.block * c.args.times ≤ length (list c.args.inputs.now c.in-Source.ext) =
+    omega (arith, can.4) in
+    Fits-le less (list_fits c.args.inputs.now c.in-Source.ext
+    (omega (arith, can.3, length-map c.args.inputs.now (λ v. v.items))))
 
 pub overflow_add-last : goal.overflow_add-last
 overflow_add-last g c =
     let can = rw c.in-Source.is at c.requires.work in
-    Fits-le can.4 (list_fits c.args.inputs.now c.in-Source.ext (omega (arith, can.3, length-map c.args.inputs.now (λ v. v.items))))
+    Fits-le can.4 (list_fits c.args.inputs.now c.in-Source.ext
+    (omega (arith, can.3, length-map c.args.inputs.now (λ v. v.items))))
 
 pub put-requires : goal.put-requires
 put-requires g c =
@@ -28,11 +31,16 @@ put-requires g c =
     let last : ℕ = c.in-Source.next + c.in-Source.block * c.args.times in
     let known : to < length c.args.queues.now = c.requires.outs_are.known 0 (omega (arith, can.1)) in
     let x = get_or_default c.args.queues.now to nothing c.index-queues-outs.result known in
-    let fits : length (get_or c.args.queues.now to c.index-queues-outs.result).samples + c.args.times * get_or c.args.outs.now.sizes.now to 0 ≤ (get_or c.args.queues.now to c.index-queues-outs.result).room =
+    let fits : length (get_or c.args.queues.now to c.index-queues-outs.result).samples
+    + c.args.times * get_or c.args.outs.now.sizes.now to 0 ≤
+    (get_or c.args.queues.now to c.index-queues-outs.result).room =
     rw (sym x) (c.requires.room 0 (omega (arith, can.1))) in
     let items : list c.args.inputs.now c.in-Source.ext ≡ c.deref.result.now =
-    list_is c.args.inputs.now c.in-Source.ext c.index-inputs-ext.result (omega (arith, can.3, length-map c.args.inputs.now (λ v. v.items))) ∙ (ap (λ v. v.items) (sym c.index-inputs-ext.is) ∙ sym c.deref.ensures.value) in
-    let long : length (between c.in-Source.next last c.deref.result.now) ≡ last - c.in-Source.next = length-between c.deref.result.now c.in-Source.next last (omega (arith, can.4, ap length items)) in
+    list_is c.args.inputs.now c.in-Source.ext c.index-inputs-ext.result
+    (omega (arith, can.3, length-map c.args.inputs.now (λ v. v.items)))
+    ∙ (ap (λ v. v.items) (sym c.index-inputs-ext.is) ∙ sym c.deref.ensures.value) in
+    let long : length (between c.in-Source.next last c.deref.result.now) ≡ last - c.in-Source.next =
+    length-between c.deref.result.now c.in-Source.next last (omega (arith, can.4, ap length items)) in
     omega (arith, fits, can.2)
 
 pub returns-in-Source : goal.returns-in-Source
@@ -40,18 +48,31 @@ returns-in-Source g c =
     let can = rw c.in-Source.is at c.requires.work in
     let last : ℕ = c.in-Source.next + c.in-Source.block * c.args.times in
     let items : list c.args.inputs.now c.in-Source.ext ≡ c.deref.result.now =
-    list_is c.args.inputs.now c.in-Source.ext c.index-inputs-ext.result (omega (arith, can.3, length-map c.args.inputs.now (λ v. v.items))) ∙ (ap (λ v. v.items) (sym c.index-inputs-ext.is) ∙ sym c.deref.ensures.value) in
-    fired_source g.A.Actor.steps (lists c.args.inputs.now) c.args.times c.args.ins.now.channels.now c.args.outs.now.channels.now c.args.ins.now.sizes.now c.args.outs.now.sizes.now c.args.queues.now c.args.outputs.now
-    c.args.self.now c.in-Source.ext c.in-Source.next c.in-Source.block c.put.new.self c.index-queues-outs.result c.in-Source.is c.requires
-    (ap (λ q. q.samples) c.put.ensures ∙ ap (λ ys. (get_or c.args.queues.now (get_or c.args.outs.now.channels.now 0 0) c.index-queues-outs.result).samples ++ between c.in-Source.next last ys) (sym items))
+    list_is c.args.inputs.now c.in-Source.ext c.index-inputs-ext.result
+    (omega (arith, can.3, length-map c.args.inputs.now (λ v. v.items)))
+    ∙ (ap (λ v. v.items) (sym c.index-inputs-ext.is) ∙ sym c.deref.ensures.value) in
+    fired_source g.A.Actor.steps (lists c.args.inputs.now) c.args.times c.args.ins.now.channels.now
+    c.args.outs.now.channels.now c.args.ins.now.sizes.now c.args.outs.now.sizes.now c.args.queues.now
+    c.args.outputs.now
+    c.args.self.now c.in-Source.ext c.in-Source.next c.in-Source.block c.put.new.self c.index-queues-outs.result
+    c.in-Source.is c.requires
+    (ap (λ q. q.samples) c.put.ensures ∙ ap (λ ys.
+    (get_or c.args.queues.now (get_or c.args.outs.now.channels.now 0 0) c.index-queues-outs.result).samples
+    ++ between c.in-Source.next last ys) (sym items))
     (ap (λ q. q.room) c.put.ensures)
 
 pub returns-in-Sink : goal.returns-in-Sink
 returns-in-Sink g c =
     let from : ℕ = get_or c.args.ins.now.channels.now 0 0 in
-    fired_sink g.A.Actor.steps (lists c.args.inputs.now) c.args.times c.args.ins.now.channels.now c.args.outs.now.channels.now c.args.ins.now.sizes.now c.args.outs.now.sizes.now c.args.queues.now c.args.outputs.now
-    c.args.self.now c.in-Sink.ext c.take.new.list c.index-outputs-ext.result c.take.new.self c.index-queues-from-in-Sink.result c.in-Sink.is c.requires
-    (c.take.ensures.list ∙ ap (λ n. (get_or c.args.outputs.now c.in-Sink.ext c.index-outputs-ext.result).items ++ take n (get_or c.args.queues.now from c.index-queues-from-in-Sink.result).samples) c.blocks-many.ensures)
+    fired_sink g.A.Actor.steps (lists c.args.inputs.now) c.args.times c.args.ins.now.channels.now
+    c.args.outs.now.channels.now c.args.ins.now.sizes.now c.args.outs.now.sizes.now c.args.queues.now
+    c.args.outputs.now
+    c.args.self.now c.in-Sink.ext c.take.new.list c.index-outputs-ext.result c.take.new.self
+    c.index-queues-from-in-Sink.result c.in-Sink.is c.requires
+    (c.take.ensures.list ∙ ap (λ n. (get_or c.args.outputs.now c.in-Sink.ext c.index-outputs-ext.result).items
+    ++ take n (get_or c.args.queues.now from c.index-queues-from-in-Sink.result).samples) c.blocks-many.ensures)
     c.take.ensures.capacity
-    (ap (λ q. q.samples) c.take.ensures.queue ∙ ap (λ n. drop n (get_or c.args.queues.now from c.index-queues-from-in-Sink.result).samples) c.blocks-many.ensures)
+    (ap (λ q. q.samples) c.take.ensures.queue ∙ ap
+    (λ n. drop n (get_or c.args.queues.now from c.index-queues-from-in-Sink.result).samples)
+    c.blocks-many.ensures)
     (ap (λ q. q.room) c.take.ensures.queue)

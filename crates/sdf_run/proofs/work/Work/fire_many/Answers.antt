@@ -9,5 +9,7 @@ fire_many_into-requires-clause-taken g c =
     let ports = c.args.ins.now.channels.now in
     let sizes = c.args.ins.now.sizes.now in
     let b = chained (front_at sizes ports c.args.queues.now) c.args.times in
-    let taken : c.take_blocks.new.block.items ≡ b = c.take_blocks.ensures.block ∙ ap (λ xs. xs ++ b) c.clear.ensures.items in
-    λ κs within. ap length taken ∙ (fronts_long ports sizes c.args.times c.args.queues.now c.requires.ins_are c.requires.held ∙ can.1)
+    let taken : c.take_blocks.new.block.items ≡ b =
+    c.take_blocks.ensures.block ∙ ap (λ xs. xs ++ b) c.clear.ensures.items in
+    λ κs within. ap length taken ∙ (fronts_long ports sizes c.args.times c.args.queues.now c.requires.ins_are
+    c.requires.held ∙ can.1)

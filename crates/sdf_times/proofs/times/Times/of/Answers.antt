@@ -14,7 +14,9 @@ pub loop-i-init : goal.loop-i-init
 loop-i-init c =
     let zero = c.in_ok-until.ensures.items_if_clones_equal (λ y e. e) in
     record {
-      walk = walk_first (rates c.args.graph.now) (λ a. get_or c.args.costs.now a 0) c.args.table.now.rows c.in_ok-starts.starts.items c.in_ok-until.until.items (c.in_ok-starts.ensures.all ∙ c.actors.ensures) c.in_ok-starts.ensures.none
+      walk = walk_first (rates c.args.graph.now) (λ a. get_or c.args.costs.now a 0) c.args.table.now.rows
+          c.in_ok-starts.starts.items c.in_ok-until.until.items (c.in_ok-starts.ensures.all ∙ c.actors.ensures)
+          c.in_ok-starts.ensures.none
           (λ m. ap (λ (xs : List ℕ). get_or xs m 0) zero ∙ zeros c.args.m m);
       wide = ap length zero ∙ length-replicate c.args.m 0;
     }
@@ -26,13 +28,19 @@ fire_row-requires-clause-table c =
     (n, subst (λ k. IsTable (rates c.args.graph.now) n k c.args.table.now) (sym c.loop-i.invariant.wide) b.table)
 
 pub fire_row-requires-clause-short : goal.fire_row-requires-clause-short
-fire_row-requires-clause-short c = omega (arith, rows_small c.tables_count.ensures (rates c.args.graph.now) c.args.m c.args.table.now c.requires.table, c.loop-i-test.true)
+fire_row-requires-clause-short c = omega (
+  arith,
+  rows_small c.tables_count.ensures (rates c.args.graph.now) c.args.m c.args.table.now c.requires.table,
+  c.loop-i-test.true,
+)
 
 pub loads-requires-clause-known : goal.loads-requires-clause-known
 loads-requires-clause-known c =
     let b = c.requires.table in
-    let cells = are_cells (rates c.args.graph.now) (λ a. get_or (block b.periods b.reps) a 0) c.args.table.now.rows b.table.valid in
+    let cells = are_cells (rates c.args.graph.now) (λ a. get_or (block b.periods b.reps) a 0) c.args.table.now.rows
+    b.table.valid in
     λ i j f e. omega (arith, (cells.known i j f e).0, c.requires.costs.all)
 
 pub loads-requires-clause-short : goal.loads-requires-clause-short
-loads-requires-clause-short c = rows_small c.tables_count.ensures (rates c.args.graph.now) c.args.m c.args.table.now c.requires.table
+loads-requires-clause-short c = rows_small c.tables_count.ensures (rates c.args.graph.now) c.args.m c.args.table.now
+    c.requires.table

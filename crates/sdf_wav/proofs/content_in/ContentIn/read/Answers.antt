@@ -6,11 +6,25 @@ use Rattle.sdf_wav.proofs.content_in.ContentIn.read.Goals as goal
 pub returns-then-self-clause-bytes : goal.returns-then-self-clause-bytes
 returns-then-self-clause-bytes g c =
     let f = c.self.inside in
-    let r : Reading = record { rate = f.format.rate; channels = f.format.channels; size = f.size; gone = f.gone; fault = f.fault } in
-    rw (← c.self.view_is) (next_by_open (λ v. v.items) _ _ r c.args.frames c.min-asked.result c.read_open.result (search rules) (search rules) c.read_open.ensures.bytes)
+    let r : Reading = record {
+      rate = f.format.rate;
+      channels = f.format.channels;
+      size = f.size;
+      gone = f.gone;
+      fault = f.fault;
+    } in
+    rw (← c.self.view_is) (next_by_open (λ v. v.items) _ _ r c.args.frames c.min-asked.result c.read_open.result
+    (search rules) (search rules) c.read_open.ensures.bytes)
 
 pub returns-clause-bytes : goal.returns-clause-bytes
 returns-clause-bytes g c =
     let f = c.self.inside in
-    let r : Reading = record { rate = f.format.rate; channels = f.format.channels; size = f.size; gone = f.gone; fault = f.fault } in
-    rw (← c.self.view_is) (next_by_sized (λ v. v.items) _ _ r c.args.frames c.min-asked.result c.min.result c.read_sized.result (search rules) (search rules) (search rules) (search rules) c.read_sized.ensures.bytes)
+    let r : Reading = record {
+      rate = f.format.rate;
+      channels = f.format.channels;
+      size = f.size;
+      gone = f.gone;
+      fault = f.fault;
+    } in
+    rw (← c.self.view_is) (next_by_sized (λ v. v.items) _ _ r c.args.frames c.min-asked.result c.min.result
+    c.read_sized.result (search rules) (search rules) (search rules) (search rules) c.read_sized.ensures.bytes)

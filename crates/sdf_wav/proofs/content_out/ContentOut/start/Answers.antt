@@ -10,5 +10,6 @@ returns-in-Ok-clause-writes g c =
     let few : c.args.frames * c.args.channels ≤ 2147483629 = search rules in
     let count : c.saturating_mul-samples.result ≡ c.args.frames * c.args.channels = search rules in (
       no_start_fault c.args.rate c.args.channels c.args.frames (search rules) (search rules) (search rules) fits few,
-      subst (Appends _ _) (c.header-header.ensures ∙ ap (λ n. header c.args.rate c.args.channels (2 * n)) count) c.in-Ok.ensures.ok,
+      subst (Appends _ _) (c.header-header.ensures ∙ ap (λ n. header c.args.rate c.args.channels (2 * n)) count)
+          c.in-Ok.ensures.ok,
     )

@@ -12,4 +12,5 @@ returns c =
     let within : place < length samples = search rules in
     let fits : SFits w16 c.index.result.now = search rules in
     rw (← c.self.view_is)
-    (slice_get-get_or samples place c.index.result.now within ∙ ap Some (sym c.index.ensures ∙ sym (to_z-of_z w16 c.index.result.now fits)))
+    (slice_get-get_or samples place c.index.result.now within
+    ∙ ap Some (sym c.index.ensures ∙ sym (to_z-of_z w16 c.index.result.now fits)))
