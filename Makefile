@@ -39,12 +39,14 @@ install:
 	install -D -m 644 docs/completions/_sdfw $(DESTDIR)$(PREFIX)/share/zsh/site-functions/_sdfw
 	install -D -m 644 docs/completions/sdfw.fish $(DESTDIR)$(PREFIX)/share/fish/vendor_completions.d/sdfw.fish
 
-# Whether the documents say what the program and the sources say: kinds, faults, functions without an edit, pages (wants python3).
+# Whether the documents say what the program and the sources say: kinds, faults, functions without an edit, pages
+# (wants python3).
 documents: build
 	python3 docs/tables.py
 	scripts/pages --check
 
-# Whether each design of examples/ makes the bytes that Python's own arithmetic makes (wants python3.11; about a minute).
+# Whether each design of examples/ makes the bytes that Python's own arithmetic makes (wants python3.11; about a
+# minute).
 examples: build
 	scripts/examples
 

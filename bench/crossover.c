@@ -26,7 +26,10 @@ int main(int count, char **words) {
     int32_t *low = filter(x, n, low300, 6), *both = filter(x, n, low3000, 2);
     out.channels = 3;
     out.samples = zeros(2 * 3 * n);
-    for (long i = 0; i < n; i++) mid[i] = settled((int64_t)27570 * saturated((int64_t)at(both, i - 384) + saturated(-(int64_t)low[i])), 15);
+    for (long i = 0; i < n; i++) {
+        int32_t rest = saturated((int64_t)at(both, i - 384) + saturated(-(int64_t)low[i]));
+        mid[i] = settled((int64_t)27570 * rest, 15);
+    }
     for (long i = 0; i < n; i++) {
         int32_t high = saturated((int64_t)at(x, i - 511) + saturated(-(int64_t)at(both, i - 384)));
         out.samples[3 * i] = clamped(at(low, i - 29));

@@ -1,8 +1,9 @@
 #!/usr/bin/env python3
 """Times the built program on noise, side by side with C, and with sox and ffmpeg where they are installed.
 
-The programs take turns, so that what else the machine does falls on all of them. Of each it prints the least and the median seconds,
-the least over that of the fastest C, the greatest memory, and whether it wrote the bytes of the plain loop in C. It asserts nothing.
+The programs take turns, so that what else the machine does falls on all of them. Of each it prints the least and the
+median seconds, the least over that of the fastest C, the greatest memory, and whether it wrote the bytes of the plain
+loop in C. It asserts nothing.
 """
 import array, pathlib, random, shutil, statistics, struct, subprocess, sys, tempfile, tomllib
 
@@ -13,10 +14,8 @@ ONE = {"sdfw": []}
 ROWS = {"sdfw, rows": ["--runner", "rows", "--workers", "2", "--blocking", "16"]}
 WORKERS = (1, 2, 4)
 RINGS = {f"rings {m}": ["--runner", "rings", "--workers", str(m)] for m in WORKERS}
-HOMES = {
-    f"rings {m}, at home": [*words, "--policy", "runs", "--placement", "file", "--blocking", "64", "--patience", "100000"]
-    for m, words in zip(WORKERS, RINGS.values())
-}
+IN_RUNS = ["--policy", "runs", "--placement", "file", "--blocking", "64", "--patience", "100000"]
+HOMES = {f"rings {m}, at home": [*words, *IN_RUNS] for m, words in zip(WORKERS, RINGS.values())}
 ALONE = {"rings 1, at home": HOMES["rings 1, at home"]}
 BANK, BANK_TAPS = 8, 1024
 # Of four workers, on which each actor of the crossover is at home; those not named are on the last.
@@ -32,7 +31,8 @@ def noise(path, seconds, channels, halvings):
     samples = array.array("h", random.Random(1).randbytes(2 * seconds * RATE * channels))
     data = array.array("h", (sample >> halvings for sample in samples)).tobytes()
     form = struct.pack("<IHHIIHH", 16, 1, channels, RATE, 2 * channels * RATE, 2 * channels, 16)
-    path.write_bytes(b"RIFF" + struct.pack("<I", 36 + len(data)) + b"WAVEfmt " + form + b"data" + struct.pack("<I", len(data)) + data)
+    head = b"RIFF" + struct.pack("<I", 36 + len(data)) + b"WAVEfmt " + form + b"data" + struct.pack("<I", len(data))
+    path.write_bytes(head + data)
 
 
 def values(path):
@@ -42,19 +42,22 @@ def values(path):
 def taps(path):
     """What the C programs know of the designs: the filters of the converter, and the crossover's two."""
     lines = ["enum { PERIOD_IN = 147, PERIOD_OUT = 160 };"]
-    stages = [actor for actor in tomllib.loads((CONVERTER / "graph.toml").read_text())["actor"] if actor["kind"] == "fir"]
+    actors = tomllib.loads((CONVERTER / "graph.toml").read_text())["actor"]
+    stages = [actor for actor in actors if actor["kind"] == "fir"]
     entries = []
     for stage in stages:
         numbers = values(CONVERTER / stage["file"])
         lines.append(f"static const int taps_{stage['name']}[] = {{{','.join(map(str, numbers))}}};")
         entries.append(f"{{{stage['up']}, {stage['down']}, {stage['shift']}, {len(numbers)}, taps_{stage['name']}}}")
-    lines.append(f"enum {{ STAGES = {len(entries)} }};\n__attribute__((unused)) static const Filter stages[] = {{{', '.join(entries)}}};")
+    lines.append(f"enum {{ STAGES = {len(entries)} }};")
+    lines.append(f"__attribute__((unused)) static const Filter stages[] = {{{', '.join(entries)}}};")
     for name in ("low300", "low3000"):
         numbers = values(CROSSOVER / f"{name}.toml")
         lines.append(f"static const int taps_{name}[] = {{{','.join(map(str, numbers))}}};")
         lines.append(f"__attribute__((unused)) static const Filter {name} = {{1, 1, 15, {len(numbers)}, taps_{name}}};")
     rows = ",".join("{" + ",".join(map(str, bank_taps(p))) + "}" for p in range(BANK))
-    lines.append(f"enum {{ BANK = {BANK}, BANK_TAPS = {BANK_TAPS} }};\n__attribute__((unused)) static const int taps_bank[BANK][BANK_TAPS] = {{{rows}}};")
+    lines.append(f"enum {{ BANK = {BANK}, BANK_TAPS = {BANK_TAPS} }};")
+    lines.append(f"__attribute__((unused)) static const int taps_bank[BANK][BANK_TAPS] = {{{rows}}};")
     path.write_text("\n".join(lines) + "\n")
 
 
@@ -127,25 +130,34 @@ def measure(meter, title, seconds, commands, made):
     print(f"{title}, {seconds} s")
     for name, runs in seen.items():
         middle, memory = statistics.median(took for took, _ in runs), max(memory for _, memory in runs)
-        same = "" if name in ("sox", "ffmpeg") else "the same bytes" if made[name].read_bytes() == plain else "OTHER BYTES"
-        print(f"  {name:14} {least[name]:8.3f} {middle:8.3f} s {least[name] / fastest:7.2f} times {memory / 1024:7.1f} MB  {same}")
+        same = "the same bytes" if made[name].read_bytes() == plain else "OTHER BYTES"
+        same = "" if name in ("sox", "ffmpeg") else same
+        times, size = least[name] / fastest, memory / 1024
+        print(f"  {name:14} {least[name]:8.3f} {middle:8.3f} s {times:7.2f} times {size:7.1f} MB  {same}")
 
 
-def compare(folder, title, graph, programs, channels=1, rate=False, halvings=1, runners=ONE, lengths=(10, 60), homes=None):
+OTHERS = {
+    "sox": ["sox", None, "-b", "16", "-r", "48000", None],
+    "ffmpeg": ["ffmpeg", "-v", "error", "-y", "-i", None, "-ar", "48000", None],
+}
+
+
+def compare(
+    folder, title, graph, programs, channels=1, rate=False, halvings=1, runners=ONE, lengths=(10, 60), homes=None
+):
     """Measures a design by some runners beside programs, on noise of some seconds."""
-    others = {"sox": ["sox", None, "-b", "16", "-r", "48000", None], "ffmpeg": ["ffmpeg", "-v", "error", "-y", "-i", None, "-ar", "48000", None]}
     for seconds in lengths:
         source = folder / f"{seconds}-{channels}-{halvings}.wav"
         if not source.exists():
             noise(source, seconds, channels, halvings)
-        made = {name: folder / f"{place}.wav" for place, name in enumerate([*runners, *programs, *others])}
-        commands = {
-            name: [str(TOP / "build/sdfw"), "run", str((homes or {}).get(name, graph)), str(source), str(made[name]), *options]
-            for name, options in runners.items()
-        }
+        made = {name: folder / f"{place}.wav" for place, name in enumerate([*runners, *programs, *OTHERS])}
+        commands = {}
+        for name, options in runners.items():
+            files = [(homes or {}).get(name, graph), source, made[name]]
+            commands[name] = [str(TOP / "build/sdfw"), "run", *map(str, files), *options]
         for name, program in programs.items():
             commands[name] = [program, str(source), str(made[name])]
-        for name, words in others.items():
+        for name, words in OTHERS.items():
             if rate and shutil.which(name):
                 paths = iter((str(source), str(made[name])))
                 commands[name] = [word or next(paths) for word in words]
@@ -163,14 +175,22 @@ def main():
         compare(folder, "44,100 to 48,000, stereo", CONVERTER / "graph-stereo.toml", chain, channels=2, rate=True)
         compare(folder, "crossover", CROSSOVER / "graph.toml", {"C, plain loop": compiled(folder, "crossover")})
         converter, crossover = CONVERTER / "graph.toml", CROSSOVER / "graph.toml"
-        compare(folder, "44,100 to 48,000, mono, by workers", converter, chain, runners={**ONE, **ROWS, **RINGS}, lengths=(1,))
-        compare(folder, "44,100 to 48,000, mono, one worker in runs", converter, chain, runners={**ONE, **ALONE}, lengths=(10, 60, 600))
-        compare(folder, "44,100 to 48,000, stereo, by workers", CONVERTER / "graph-stereo.toml", chain, channels=2, runners={**ONE, **RINGS}, lengths=(1,))
+        title = "44,100 to 48,000"
+        by_all, by_rings, in_runs = {**ONE, **ROWS, **RINGS}, {**ONE, **RINGS}, {**ONE, **HOMES}
+        compare(folder, f"{title}, mono, by workers", converter, chain, runners=by_all, lengths=(1,))
+        alone = {**ONE, **ALONE}
+        compare(folder, f"{title}, mono, one worker in runs", converter, chain, runners=alone, lengths=(10, 60, 600))
+        stereo = CONVERTER / "graph-stereo.toml"
+        compare(folder, f"{title}, stereo, by workers", stereo, chain, channels=2, runners=by_rings, lengths=(1,))
         graph, places = bank(folder / "filters")
-        for title, design, program, homes in (("crossover", crossover, "crossover", CROSSOVER_HOMES), ("a bank of eight filters", graph, "bank", places)):
+        for title, design, program, homes in (
+            ("crossover", crossover, "crossover", CROSSOVER_HOMES),
+            ("a bank of eight filters", graph, "bank", places),
+        ):
             plain = {"C, plain loop": compiled(folder, program)}
-            compare(folder, f"{title}, by workers", design, plain, runners={**ONE, **RINGS}, lengths=(1,))
-            compare(folder, f"{title}, by workers in runs", design, plain, runners={**ONE, **HOMES}, lengths=(10,), homes=at_homes(folder, design, homes))
+            compare(folder, f"{title}, by workers", design, plain, runners=by_rings, lengths=(1,))
+            at_home = at_homes(folder, design, homes)
+            compare(folder, f"{title}, by workers in runs", design, plain, runners=in_runs, lengths=(10,), homes=at_home)
         compare(folder, "echo", ECHO / "graph.toml", {"C, plain loop": compiled(folder, "echo")})
 
 

@@ -1,5 +1,6 @@
 /* The filters of a chain in blocks that stay in the cache, each branch of taps against eight 16-bit samples at a time.
- * Where a sample leaves 16 bits, its block and those that still see it are done with 32-bit samples, so the output is exact. */
+ * Where a sample leaves 16 bits, its block and those that still see it are done with 32-bit samples, so the output is
+ * exact. */
 #include <immintrin.h>
 #include "wav.h"
 #include "taps.h"
@@ -13,7 +14,8 @@ typedef struct {
     int16_t *taps;
 } Branches;
 
-/* The samples between two filters: `width` older ones, and a block. Those of 32 bits are there only where one is loud. */
+/* The samples between two filters: `width` older ones, and a block. Those of 32 bits are there only where one is
+ * loud. */
 typedef struct {
     int width, past_loud, loud;
     int16_t *narrow;
@@ -41,7 +43,8 @@ static inline __m128i halves(__m128i a) {
 static inline __m128i two_sums(__m128i a, __m128i b, __m128i half, int shift) {
     a = halves(a);
     b = halves(b);
-    return _mm_srli_epi64(_mm_add_epi64(_mm_add_epi64(_mm_unpacklo_epi64(a, b), _mm_unpackhi_epi64(a, b)), half), shift);
+    __m128i sums = _mm_add_epi64(_mm_unpacklo_epi64(a, b), _mm_unpackhi_epi64(a, b));
+    return _mm_srli_epi64(_mm_add_epi64(sums, half), shift);
 }
 
 static inline __m128i more(__m128i sum, const int16_t *x, const int16_t *h) {
@@ -64,7 +67,8 @@ static int run_narrow(const Branches *b, const int16_t *x, int16_t *y, long outp
                 s3 = more(s3, p + 3 * down + j, h + j);
             }
             __m128i a = two_sums(s0, s1, half, shift), c = two_sums(s2, s3, half, shift);
-            int32_t r0 = _mm_cvtsi128_si32(a), r1 = _mm_extract_epi32(a, 2), r2 = _mm_cvtsi128_si32(c), r3 = _mm_extract_epi32(c, 2);
+            int32_t r0 = _mm_cvtsi128_si32(a), r1 = _mm_extract_epi32(a, 2);
+            int32_t r2 = _mm_cvtsi128_si32(c), r3 = _mm_extract_epi32(c, 2);
             loud |= ((r0 + 32768) | (r1 + 32768) | (r2 + 32768) | (r3 + 32768)) & ~65535;
             y[n] = r0;
             y[n + up] = r1;
@@ -127,16 +131,22 @@ int main(int count, char **words) {
         long size = (long)PERIODS * PERIOD_IN;
         for (int s = 0; s <= STAGES; s++) {
             int width = s < STAGES ? b[s].width : 0;
-            links[s] = (Link){.width = width, .narrow = zeros(2 * (width + size + 8)), .wide = zeros(4 * (width + size + 8))};
+            long room = width + size + 8;
+            links[s] = (Link){.width = width, .narrow = zeros(2 * room), .wide = zeros(4 * room)};
             if (s < STAGES) size = size / stages[s].down * stages[s].up;
         }
         long done = 0;
         for (long p = 0; p < periods; p += PERIODS) {
             long first = p * PERIOD_IN, n = (periods - p < PERIODS ? periods - p : PERIODS) * PERIOD_IN;
-            for (long i = 0; i < n; i++) links[0].narrow[links[0].width + i] = first + i < in.frames ? in.samples[(first + i) * in.channels + c] : 0;
+            for (long i = 0; i < n; i++) {
+                int16_t sample = first + i < in.frames ? in.samples[(first + i) * in.channels + c] : 0;
+                links[0].narrow[links[0].width + i] = sample;
+            }
             for (int s = 0; s < STAGES; s++) n = run_block(&b[s], &links[s], &links[s + 1], n);
             Link *last = &links[STAGES];
-            for (long i = 0; i < n; i++) out.samples[(done + i) * out.channels + c] = last->loud ? clamped(last->wide[i]) : last->narrow[i];
+            for (long i = 0; i < n; i++) {
+                out.samples[(done + i) * out.channels + c] = last->loud ? clamped(last->wide[i]) : last->narrow[i];
+            }
             done += n;
         }
         for (int s = 0; s <= STAGES; s++) {

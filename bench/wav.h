@@ -55,7 +55,9 @@ static void write_sound(const char *path, Sound sound) {
     memcpy(head + 36, "data", 4);
     memcpy(head + 40, &size, 4);
     FILE *file = fopen(path, "wb");
-    if (!file || fwrite(head, 1, 44, file) != 44 || fwrite(sound.samples, 1, size, file) != size || fclose(file)) fail("not written");
+    if (!file || fwrite(head, 1, 44, file) != 44 || fwrite(sound.samples, 1, size, file) != size || fclose(file)) {
+        fail("not written");
+    }
 }
 
 static inline int32_t saturated(int64_t sum) {

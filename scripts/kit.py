@@ -1,5 +1,6 @@
-"""What the scripts take from the kit's own command `rt`: its crates and its checks. `rt` works on one crate at a time and
-holds the folders below it, so that two of them wait for each other; here crates are proved side by side in one process."""
+"""What the scripts take from the kit's own command `rt`: its crates and its checks. `rt` works on one crate at a time
+and holds the folders below it, so that two of them wait for each other; here crates are proved side by side in one
+process."""
 import importlib.machinery
 import importlib.util
 import os
@@ -58,8 +59,9 @@ def memory(crate, jobs):
 
 
 def side_by_side(crates, work, lanes, jobs_for_one):
-    """Calls work(crate, jobs) for each crate once all below it are done, the longest chain of crates above it first, and
-    returns the names of those that failed or were not tried. Lanes that no crate waits for go to those that begin."""
+    """Calls work(crate, jobs) for each crate once all below it are done, the longest chain of crates above it first,
+    and returns the names of those that failed or were not tried. Lanes that no crate waits for go to those that
+    begin."""
     behind = {it.name: it.count(rb"\n") for it in crates}
     for crate in reversed(crates):
         for below in crate.below():

@@ -1,4 +1,4 @@
-//! What no clause says of schedules, tables and runs of nets: worked nets, run by each runner, by hand and in pieces.
+//! What no clause says of runs of nets: worked nets, run by each runner, by hand and in pieces.
 //!
 //! It stands on the libraries below `sdf_process` and on `test_actors`, and has no functions: tests stand in a crate of
 //! their own, since the functions of a crate are proved once more with its tests. Begin at `nets`, the nets of the
@@ -14,13 +14,7 @@ mod faults;
 #[cfg(test)]
 mod feeds;
 #[cfg(test)]
-mod graphs;
-#[cfg(test)]
-mod hu_rows;
-#[cfg(test)]
 mod kits;
-#[cfg(test)]
-mod levels;
 #[cfg(test)]
 mod meetings;
 #[cfg(test)]
@@ -37,7 +31,5 @@ mod rows;
 mod runs;
 #[cfg(test)]
 mod sessions;
-#[cfg(test)]
-mod tables;
 #[cfg(test)]
 mod turns;
