@@ -17,11 +17,11 @@ use Rattle.sdf_times.proofs.Walks.{before_earlier}
 find_step : (P : ℕ → Type 0) (m : ℕ) → P m ⊎ (P m → ⊥) → ((i : ℕ) × (i < m) × P i) ⊎ ((i : ℕ) → i < m → P i → ⊥) →
     ((i : ℕ) × (i < suc m) × P i) ⊎ ((i : ℕ) → i < suc m → P i → ⊥)
 find_step P m (inl p) before = inl (m, omega arith, p)
-find_step P m (inr no) (inl x) = inl (x.0, omega (arith, x.1), x.2)
-find_step P m (inr no) (inr none) = inr (λ i l p. at i l p (cases_eq i m))
+find_step P m (inr not) (inl x) = inl (x.0, omega (arith, x.1), x.2)
+find_step P m (inr not) (inr none) = inr (λ i l p. at i l p (cases_eq i m))
   where
     at : (i : ℕ) → i < suc m → P i → (i ≡ m) ⊎ (i ≡ m → ⊥) → ⊥
-    at i l p (inl e) = no (subst P e p)
+    at i l p (inl e) = not (subst P e p)
     at i l p (inr ne) = none i (omega arith) p
 
 find : (P : ℕ → Type 0) → ((i : ℕ) → P i ⊎ (P i → ⊥)) → (m : ℕ) →
@@ -139,10 +139,10 @@ module _ (r : Rates) (n cost : ℕ → ℕ) (rows : List (List (Option Firing)))
       reached = inr (g, e, b, refl);
     },
   )
-  cell_pick start f k m g e (inr no) = (
+  cell_pick start f k m g e (inr not) = (
     0,
     greatest_none (CellEnds start f k m) 0 refl
-        (λ u x. no (subst (λ h. ComesBefore r rows h f) (same_Some x.0 g (sym x.1 ∙ e)) x.2)),
+        (λ u x. not (subst (λ h. ComesBefore r rows h f) (same_Some x.0 g (sym x.1 ∙ e)) x.2)),
   )
 
   cell_greatest : (start : Firing → ℕ) (f : Firing) (i j k m : ℕ) → cell rows i j ≡ Some f → (o : Option Firing) →

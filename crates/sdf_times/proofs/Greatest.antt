@@ -39,6 +39,19 @@ greatest_more P Q t x g to new from = record { above = λ u q. above u (from u q
     pick (inl low) = let is : x ≡ max t x = omega arith in subst (λ m. (m ≡ 0) ⊎ Q m) is new
     pick (inr high) = let is : t ≡ max t x = omega arith in subst (λ m. (m ≡ 0) ⊎ Q m) is (old g.reached)
 
+-- of a number and those with a property
+pub greatest_or : (B : ℕ → Type 0) (s x : ℕ) → IsGreatest B x → IsGreatest (λ u. (u ≡ s) ⊎ B u) (max s x)
+greatest_or B s x g =
+    greatest_more (λ u. u ≡ s) (λ u. (u ≡ s) ⊎ B u) s x (record { above = λ u e. omega (arith, e); reached = inr refl }) (λ u e. inl e) (new g.reached) (λ u q. back u q)
+  where
+    new : (x ≡ 0) ⊎ B x → (x ≡ 0) ⊎ ((x ≡ s) ⊎ B x)
+    new (inl z) = inl z
+    new (inr b) = inr (inr b)
+
+    back : (u : ℕ) → (u ≡ s) ⊎ B u → (u ≡ s) ⊎ (u ≤ x)
+    back u (inl e) = inl e
+    back u (inr b) = inr (g.above u b)
+
 -- the greatest of a list, one place on
 pub greatest_place : (xs : List ℕ) (i t x : ℕ) → get_or xs i 0 ≡ x →
     IsGreatest (λ u. (j : ℕ) × (j < i) × (get_or xs j 0 ≡ u)) t →

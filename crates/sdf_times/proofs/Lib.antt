@@ -1,9 +1,9 @@
 pub mod Greatest
 pub mod Cells
-pub mod Needs
+pub mod Waits
 pub mod Walks
 pub mod Sums
-pub mod Bounds
+pub mod Least
 pub mod Spans
 pub mod Exists
 pub mod Caps

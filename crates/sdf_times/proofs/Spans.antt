@@ -51,7 +51,7 @@ first_in j reps n a is some fires = subst (λ n. InBlock n (record { actor = a; 
     known (inl l) = omega (arith, block_length j reps)
     known (inr past) = absurd (omega (arith, get_or_past reps a 0 past))
 
-abbrev FirstLevel : Numbered → List ℕ → ℕ → ℕ → Type 0
+abbrev pub FirstLevel : Numbered → List ℕ → ℕ → ℕ → Type 0
 FirstLevel s reps i u = (a : ℕ) × (a < i) × (0 < get_or reps a 0) × (number s (record { actor = a; number = 0 }) ≡ u)
 
 pub first_more : (s : Numbered) (reps : List ℕ) (i t x : ℕ) → 0 < get_or reps i 0 →

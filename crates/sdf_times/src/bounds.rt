@@ -37,7 +37,7 @@ fn first_levels(of: &Levels, reps: &[u32], j: u32) -> u64
     ensures { IsGreatest (λ u. (a : ℕ) × (0 < slice_index reps.now a)
         × (number of.now (record { actor = a; number = 0 }) ≡ u)) result }
 {
-    let mut most = 0;
+    let mut most = 0u64;
     for actor in 0..reps.len() {
         if reps[actor] > 0 {
             most = most.max(of.of(Firing { actor, number: 0 }));

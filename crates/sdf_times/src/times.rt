@@ -36,7 +36,7 @@ impl Model for Times {
 fn greatest(times: &[u64]) -> u64
     ensures { IsGreatest (λ u. (j : ℕ) × (j < length times.now) × (slice_index times.now j ≡ u)) result }
 {
-    let mut most = 0;
+    let mut most = 0u64;
     for time in times {
         most = most.max(*time);
     }
@@ -71,10 +71,11 @@ impl Times {
         for i in 0..table.rows() {
             fire_row(graph, costs, table, i, &mut starts, &mut until)?;
         }
+        let makespan = greatest(&until);
         let loads = loads(alloc, table, costs, m)?;
         Ok(Times {
             starts,
-            makespan: greatest(&until),
+            makespan,
             loads,
         })
     }

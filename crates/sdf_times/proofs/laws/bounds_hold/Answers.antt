@@ -1,4 +1,4 @@
-use Rattle.sdf_times.proofs.Bounds.{bounds_hold}
+use Rattle.sdf_times.proofs.Least.{bounds_hold}
 use Rattle.sdf_times.proofs.laws.bounds_hold.Goals as goal
 
 pub returns : goal.returns

@@ -1,4 +1,4 @@
-use Rattle.sdf_times.proofs.Bounds.{starts_are_least, starts_are_one}
+use Rattle.sdf_times.proofs.Least.{starts_are_least, starts_are_one}
 use Rattle.sdf_times.proofs.Exists.{starts_exist}
 use Rattle.sdf_times.proofs.laws.starts_are_decided.Goals as goal
 
