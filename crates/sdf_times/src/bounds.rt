@@ -67,6 +67,7 @@ pub fn span(
 
 /// The least time in which the costliest chain ends and so many workers can do the work: no table of the block in as
 /// many columns ends sooner (`laws::bounds_hold`).
+#[tactic(auto, using(crate::proofs::Spans::bound_is))]
 pub fn bound(span: u64, work: u64, workers: usize) -> u64
     requires { 0 < workers }
     ensures { IsBound span work workers result }
