@@ -1,6 +1,6 @@
 -- How many rows a table has, and how much its channels hold, at most.
-use Rattle.std.proofs.Common.{◌≡◌, ℕ, zero, suc, ◌+◌, ◌-◌, ◌*◌, ◌%◌, ◌≤◌, ◌<◌, ◌⊎◌, List, [], ◌∷◌, length, get_or, take}
-use Rattle.std.proofs.Common.{cond, eqb, min, sum, inl, inr, sym, ap, ◌∙◌, arith, refl, Bool, true, false}
+use Rattle.std.proofs.Common.{◌≡◌, ℕ, ◌+◌, ◌*◌, ◌%◌, ◌≤◌, ◌<◌, List, [], ◌∷◌, length, get_or, take}
+use Rattle.std.proofs.Common.{cond, eqb, sum, ap, ◌∙◌, arith, refl, Bool, true, false}
 use Rattle.std.proofs.lemmas.List.{length-map, length-take}
 use Rattle.std.proofs.lemmas.List.Sums.{sum_by-cons, sum_by_more}
 use Rattle.sdf_limits.specs.declared.TheConstants.{MOST_INITIAL, MOST_RATE, MOST_BLOCK}

@@ -1,5 +1,5 @@
 -- A valid table has times: row by row, of each firing the greatest end of those that come before it.
-use Rattle.std.proofs.Common.{◌≡◌, ℕ, zero, suc, ◌+◌, ◌≤◌, ◌<◌, ◌⊎◌, List, length, get_or, max, inl, inr, sym, ap, ◌∙◌}
+use Rattle.std.proofs.Common.{◌≡◌, ℕ, zero, suc, ◌+◌, ◌≤◌, ◌<◌, ◌⊎◌, List, length, max, inl, inr, sym, ap, ◌∙◌}
 use Rattle.std.proofs.Common.{subst, arith, refl, Option, Some, None}
 use Rattle.std.proofs.lemmas.Option.{none-some, same_Some}
 use Rattle.std.proofs.lemmas.Bool.{cases_lt, cases_eq}
@@ -7,7 +7,7 @@ use Rattle.sdf_graph.specs.Rates.{Rates}
 use Rattle.sdf_prec.specs.declared.firing.Firing.{Firing}
 use Rattle.sdf_prec.specs.Precedence.{WaitsFor}
 use Rattle.sdf_prec.specs.Tables.{row, cell}
-use Rattle.sdf_times.specs.Times.{IsGreatest, IsInTable, IsAbove, ComesBefore, IsStart, AreStarts, end_of}
+use Rattle.sdf_times.specs.Times.{IsGreatest, ComesBefore, IsStart, AreStarts, end_of}
 use Rattle.sdf_times.specs.Laws.{StartsExist}
 use Rattle.sdf_times.proofs.Greatest.{greatest_same, greatest_none, greatest_more}
 use Rattle.sdf_times.proofs.Cells.{AreCells, are_cells, column_in, row_in}

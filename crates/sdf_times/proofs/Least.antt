@@ -1,5 +1,5 @@
 -- Times are the least, and no table ends before the bound.
-use Rattle.std.proofs.Common.{◌≡◌, ℕ, zero, suc, ◌+◌, ◌*◌, ◌≤◌, ◌<◌, ◌⊎◌, List, [], ◌∷◌, length, inl, inr, ap, arith}
+use Rattle.std.proofs.Common.{◌≡◌, ℕ, zero, suc, ◌+◌, ◌≤◌, ◌<◌, ◌⊎◌, List, [], ◌∷◌, length, inl, inr, ap, arith}
 use Rattle.std.proofs.Common.{refl, Option, Some, None}
 use Rattle.sdf_graph.specs.Rates.{Rates, sum_to}
 use Rattle.sdf_graph.specs.Laws.{SumsAreSmall}
@@ -8,7 +8,6 @@ use Rattle.sdf_prec.specs.Levels.{IsChain, total, IsLevel}
 use Rattle.sdf_prec.specs.Tables.{cell, IsOfBlock}
 use Rattle.sdf_prec.specs.Laws.{OrdersAreAdmissible}
 use Rattle.sdf_times.specs.Times.{IsInTable, ComesBefore, end_of, AreStarts, IsMakespan, IsSpan, cost_in, load_of}
-use Rattle.sdf_times.specs.Times.{work_of}
 use Rattle.sdf_times.specs.Laws.{StartsAreLeast, StartsAreOne, BoundsHold}
 use Rattle.sdf_times.proofs.Greatest.{greatest_least}
 use Rattle.sdf_times.proofs.Cells.{AreCells, are_cells}

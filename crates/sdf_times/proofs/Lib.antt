@@ -2,6 +2,7 @@ pub mod Greatest
 pub mod Cells
 pub mod Waits
 pub mod Walks
+pub mod Fired
 pub mod Sums
 pub mod Least
 pub mod Spans

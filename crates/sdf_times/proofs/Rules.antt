@@ -1,17 +1,16 @@
 -- In rows by Hu's rule no firing starts later than its row.
-use Rattle.std.proofs.Common.{◌≡◌, ℕ, zero, suc, ◌+◌, ◌≤◌, ◌<◌, ◌⊎◌, List, [], ◌∷◌, length, get_or, take, map, inl, inr}
-use Rattle.std.proofs.Common.{sym, ap, ◌∙◌, subst, arith, refl, Option, Some, None, Bool, true, false}
+use Rattle.std.proofs.Common.{◌≡◌, ℕ, zero, suc, ◌+◌, ◌≤◌, ◌<◌, ◌⊎◌, List, [], ◌∷◌, length, get_or, take, inl, inr}
+use Rattle.std.proofs.Common.{sym, ap, ◌∙◌, subst, arith, refl, Option, Some, Bool, true, false}
 use Rattle.std.specs.Prelude.{slice_get}
 use Rattle.std.proofs.lemmas.List.{get_or-take, get_or_default, get_or_past, length-take}
 use Rattle.std.proofs.lemmas.Option.{none-some, same_Some}
 use Rattle.std.proofs.lemmas.Bool.{cases_lt}
 use Rattle.sdf_graph.specs.Rates.{Rates}
 use Rattle.sdf_prec.specs.declared.firing.Firing.{Firing}
-use Rattle.sdf_prec.specs.Precedence.{WaitsFor}
-use Rattle.sdf_prec.specs.Tables.{firing, no_firing, row, cell_of, cell, IsValid}
-use Rattle.sdf_prec.specs.TimedRows.{Timed, no_row, timed, cells_of, IsAt, end_at, HasEnded, IsBusy, IsReadyAt}
+use Rattle.sdf_prec.specs.Tables.{firing, row, cell_of, cell}
+use Rattle.sdf_prec.specs.TimedRows.{Timed, no_row, timed, cells_of, IsAt, end_at, IsBusy, IsReadyAt}
 use Rattle.sdf_prec.specs.TimedRows.{AreTimedRows, hu_rule}
-use Rattle.sdf_times.specs.Times.{IsGreatest, IsAbove, ComesBefore, IsStart, AreStarts, end_of}
+use Rattle.sdf_times.specs.Times.{ComesBefore, AreStarts, end_of}
 use Rattle.sdf_times.specs.Laws.{RowsAreNoSooner}
 use Rattle.sdf_times.proofs.Greatest.{greatest_least}
 use Rattle.sdf_times.proofs.Cells.{AreCells, are_cells}

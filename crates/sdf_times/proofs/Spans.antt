@@ -1,6 +1,6 @@
 -- The work, the span and the bound as they are found.
 use Rattle.std.proofs.Common.{◌≡◌, ℕ, zero, suc, ◌+◌, ◌*◌, ◌/◌, ◌%◌, ◌≤◌, ◌<◌, ◌⊎◌, List, [], ◌∷◌, length, get_or, max}
-use Rattle.std.proofs.Common.{min, sum, inl, inr, sym, ap, ◌∙◌, subst, arith, refl}
+use Rattle.std.proofs.Common.{min, sum, inl, inr, sym, ap, subst, arith, refl}
 use Rattle.std.proofs.lemmas.Bool.{cases_lt}
 use Rattle.std.proofs.lemmas.Grind.{div_ceil_times}
 use Rattle.std.proofs.lemmas.List.{get_or_past}

@@ -1,4 +1,4 @@
-use Rattle.std.proofs.Common.{ℕ, ◌+◌, get_or, sym, subst, arith}
+use Rattle.std.proofs.Common.{ℕ, ◌+◌, sym, subst, arith}
 use Rattle.sdf_times.specs.Times.{IsGreatest}
 use Rattle.sdf_times.proofs.Spans.{FirstLevel, first_more, first_skip, first_all}
 use Rattle.sdf_times.proofs.bounds.first_levels.Goals.{then-reps-actor-gt0, else-reps-actor-gt0}

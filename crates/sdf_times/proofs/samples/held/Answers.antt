@@ -1,5 +1,4 @@
-use Rattle.std.proofs.Common.{◌≡◌, ℕ, ◌<◌, length, ap, arith}
-use Rattle.std.proofs.lemmas.List.{length-take}
+use Rattle.std.proofs.Common.{ℕ, ◌<◌, length, ap, arith}
 use Rattle.sdf_times.proofs.Caps.{cap_small, sum_more}
 use Rattle.sdf_times.proofs.samples.held.Goals as goal
 

@@ -1,10 +1,9 @@
-use Rattle.std.proofs.Common.{◌≡◌, ◌≤◌, ◌<◌, ℕ, List, length, get_or, Option, Some, None, sym, ap, ◌∙◌, subst, arith}
-use Rattle.sdf_limits.specs.declared.TheConstants.{MOST_COST}
+use Rattle.std.proofs.Common.{◌≡◌, ◌<◌, ℕ, length, get_or, Some, None, sym, ap, ◌∙◌, arith}
 use Rattle.sdf_graph.specs.Rates.{rates}
-use Rattle.sdf_prec.specs.declared.firing.Firing.{Firing}
 use Rattle.sdf_prec.specs.Tables.{row, cell}
-use Rattle.sdf_times.proofs.Cells.{AreCells, are_cells, column_in}
-use Rattle.sdf_times.proofs.Walks.{prepared, until_small, walk_skip, walk_row, walk_fire, wide_fire}
+use Rattle.sdf_times.proofs.Cells.{are_cells, column_in}
+use Rattle.sdf_times.proofs.Fired.{prepared, until_small, walk_fire, wide_fire}
+use Rattle.sdf_times.proofs.Walks.{walk_skip, walk_row}
 use Rattle.sdf_times.proofs.walk.fire_row.Goals.{in-Some+in_ok-fire, in_default}
 use Rattle.sdf_times.proofs.walk.fire_row.Goals as goal
 
