@@ -42,7 +42,8 @@ greatest_more P Q t x g to new from = record { above = λ u q. above u (from u q
 -- of a number and those with a property
 pub greatest_or : (B : ℕ → Type 0) (s x : ℕ) → IsGreatest B x → IsGreatest (λ u. (u ≡ s) ⊎ B u) (max s x)
 greatest_or B s x g =
-    greatest_more (λ u. u ≡ s) (λ u. (u ≡ s) ⊎ B u) s x (record { above = λ u e. omega (arith, e); reached = inr refl }) (λ u e. inl e) (new g.reached) (λ u q. back u q)
+    greatest_more (λ u. u ≡ s) (λ u. (u ≡ s) ⊎ B u) s x (record { above = λ u e. omega (arith, e); reached = inr refl })
+    (λ u e. inl e) (new g.reached) (λ u q. back u q)
   where
     new : (x ≡ 0) ⊎ B x → (x ≡ 0) ⊎ ((x ≡ s) ⊎ B x)
     new (inl z) = inl z

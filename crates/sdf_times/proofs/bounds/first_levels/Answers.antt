@@ -12,9 +12,13 @@ loop-actor-preserved c =
     elim c.if-reps-actor-gt0.branch [
       | then-reps-actor-gt0 w ↦
           rw (w.most-is)
-          (subst (IsGreatest (FirstLevel s reps (i + 1))) (sym w.max-most.ensures) (first_more s reps i c.loop-actor.most w.of.result (omega (arith, w.if-reps-actor-gt0.true)) w.of.ensures c.loop-actor.invariant))
-      | else-reps-actor-gt0 w ↦ rw (w.most-is) (first_skip s reps i c.loop-actor.most (λ h. omega (arith, h, w.if-reps-actor-gt0.false)) c.loop-actor.invariant)
+          (subst (IsGreatest (FirstLevel s reps (i + 1))) (sym w.max-most.ensures)
+          (first_more s reps i c.loop-actor.most w.of.result (omega (arith, w.if-reps-actor-gt0.true))
+          w.of.ensures c.loop-actor.invariant))
+      | else-reps-actor-gt0 w ↦ rw (w.most-is) (first_skip s reps i c.loop-actor.most
+          (λ h. omega (arith, h, w.if-reps-actor-gt0.false)) c.loop-actor.invariant)
     ]
 
 pub returns : goal.returns
-returns c = first_all c.args.of.now c.args.reps.now c.loop-actor.actor c.loop-actor.most (omega (arith, c.loop-actor-test.false)) c.loop-actor.invariant
+returns c = first_all c.args.of.now c.args.reps.now c.loop-actor.actor c.loop-actor.most
+    (omega (arith, c.loop-actor-test.false)) c.loop-actor.invariant

@@ -10,5 +10,7 @@ returns c =
     let s = c.in_ok-of.of in
     let t : ℕ = c.first_levels.result in
     let e = c.in_ok-of.ensures in
-    let most = subst (λ q. IsGreatest (λ u. (a : ℕ) × (0 < get_or q a 0) × (number s (record { actor = a; number = 0 }) ≡ u)) t) c.repetitions.ensures c.first_levels.ensures in
-    span_is (rates c.args.graph.now) (λ a. get_or c.args.costs.now a 0) s c.args.j c.args.period.now.repetitions t e.0.0 c.requires.period.least.is.all e.2 most
+    let most = subst (λ q. IsGreatest (λ u. (a : ℕ) × (0 < get_or q a 0)
+    × (number s (record { actor = a; number = 0 }) ≡ u)) t) c.repetitions.ensures c.first_levels.ensures in
+    span_is (rates c.args.graph.now) (λ a. get_or c.args.costs.now a 0) s c.args.j c.args.period.now.repetitions t e.0.0
+    c.requires.period.least.is.all e.2 most

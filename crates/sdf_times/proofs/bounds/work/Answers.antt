@@ -14,10 +14,14 @@ loop-actor-preserved c =
     let step : i + 1 ≡ suc i = omega arith in
     let more : sum_to f (i + 1) ≡ sum_to f i + f i = ap (sum_to f) step in
     let at : get_or (block j reps) i 0 ≡ j * get_or reps i 0 = block_at j reps i in
-    let fires : c.from.result * c.from-in-loop-actor.result ≡ get_or (block j reps) i 0 = (λ k. c.from.ensures k * c.from-in-loop-actor.ensures k) ∙ sym at in
+    let fires : c.from.result * c.from-in-loop-actor.result ≡ get_or (block j reps) i 0 =
+    (λ k. c.from.ensures k * c.from-in-loop-actor.ensures k) ∙ sym at in
     let paid : c.from-in-loop-actor-2.result ≡ get_or costs i 0 = c.from-in-loop-actor-2.ensures ∙ c.of.ensures.is in
-    let term : c.from.result * c.from-in-loop-actor.result * c.from-in-loop-actor-2.result ≡ f i = (λ k. fires k * paid k) in
-    let low = term_small (get_or (block j reps) i 0) (get_or costs i 0) (omega (arith, at, firings_few j reps i c.requires.short)) (omega (arith, c.of.ensures.is, c.of.ensures.cost.1)) in
+    let term : c.from.result * c.from-in-loop-actor.result * c.from-in-loop-actor-2.result ≡ f i =
+    (λ k. fires k * paid k) in
+    let low = term_small (get_or (block j reps) i 0) (get_or costs i 0)
+    (omega (arith, at, firings_few j reps i c.requires.short))
+    (omega (arith, c.of.ensures.is, c.of.ensures.cost.1)) in
     record {
       work = omega (arith, c.loop-actor.invariant.work, more, term);
       small = omega (arith, c.loop-actor.invariant.small, term, low);

@@ -6,8 +6,15 @@ pub overflow_add-held : goal.overflow_add-held
 overflow_add-held c =
     let g = c.args.graph.now in
     let shape = c.channels-channel-end.ensures.shape in
-    let known : c.loop-channel.channel < length g.channels = omega (arith, c.loop-channel-test.true, c.loop-channel.auto.channel-end, ap length c.channels-channel-end.ensures.list) in
-    let low = cap_small c.cycles_begin_anew.ensures.small c.tables_count.ensures g shape c.requires.0 c.args.table.now c.requires.1 c.loop-channel.channel known in
+    let known : c.loop-channel.channel < length g.channels =
+    omega (
+      arith,
+      c.loop-channel-test.true,
+      c.loop-channel.auto.channel-end,
+      ap length c.channels-channel-end.ensures.list,
+    ) in
+    let low = cap_small c.cycles_begin_anew.ensures.small c.tables_count.ensures g shape c.requires.0 c.args.table.now
+    c.requires.1 c.loop-channel.channel known in
     omega (arith, low, c.cap-held.ensures, c.loop-channel.invariant.small, shape.narrow, known)
 
 pub loop-channel-preserved : goal.loop-channel-preserved
@@ -15,8 +22,14 @@ loop-channel-preserved c =
     let g = c.args.graph.now in
     let i : ℕ = c.loop-channel.channel in
     let shape = c.channels-channel-end.ensures.shape in
-    let known : i < length g.channels = omega (arith, c.loop-channel-test.true, c.loop-channel.auto.channel-end, ap length c.channels-channel-end.ensures.list) in
-    let low = cap_small c.cycles_begin_anew.ensures.small c.tables_count.ensures g shape c.requires.0 c.args.table.now c.requires.1 i known in
+    let known : i < length g.channels = omega (
+      arith,
+      c.loop-channel-test.true,
+      c.loop-channel.auto.channel-end,
+      ap length c.channels-channel-end.ensures.list,
+    ) in
+    let low = cap_small c.cycles_begin_anew.ensures.small c.tables_count.ensures g shape c.requires.0 c.args.table.now
+    c.requires.1 i known in
     let more = sum_more c.args.table.now.caps i (omega (arith, known, c.requires.1.table.exact.caps_all)) in
     record {
       held = omega (arith, c.loop-channel.invariant.held, c.cap-held.ensures, more);

@@ -47,21 +47,28 @@ loads-requires-clause-short c = rows_small c.tables_count.ensures (rates c.args.
     c.requires.table
 
 -- the walk at the end of the table
-done : (c : In_ok-loads) → IsWalk (rates c.args.graph.now) (λ a. get_or c.args.costs.now a 0) c.args.table.now.rows (IsPast (length c.args.table.now.rows) 0) c.loop-i.starts.items c.loop-i.until.items
+done : (c : In_ok-loads) → IsWalk (rates c.args.graph.now) (λ a. get_or c.args.costs.now a 0) c.args.table.now.rows
+    (IsPast (length c.args.table.now.rows) 0) c.loop-i.starts.items c.loop-i.until.items
 done c =
-    let end : c.loop-i.i ≡ length c.args.table.now.rows = omega (arith, c.loop-i-test.false, c.loop-i.auto.i-end, c.rows-i-end.ensures) in
-    subst (λ i. IsWalk (rates c.args.graph.now) (λ a. get_or c.args.costs.now a 0) c.args.table.now.rows (IsPast i 0) c.loop-i.starts.items c.loop-i.until.items) end c.loop-i.invariant.walk
+    let end : c.loop-i.i ≡ length c.args.table.now.rows =
+    omega (arith, c.loop-i-test.false, c.loop-i.auto.i-end, c.rows-i-end.ensures) in
+    subst (λ i. IsWalk (rates c.args.graph.now) (λ a. get_or c.args.costs.now a 0) c.args.table.now.rows (IsPast i 0)
+    c.loop-i.starts.items c.loop-i.until.items) end c.loop-i.invariant.walk
 
 pub returns-clause-starts : goal.returns-clause-starts
 returns-clause-starts c =
-    walk_starts (rates c.args.graph.now) (λ a. get_or c.args.costs.now a 0) c.args.table.now.rows c.loop-i.starts.items c.loop-i.until.items (done (goal.at.returns-clause-starts c).In_ok-loads)
+    walk_starts (rates c.args.graph.now) (λ a. get_or c.args.costs.now a 0) c.args.table.now.rows c.loop-i.starts.items
+    c.loop-i.until.items (done (goal.at.returns-clause-starts c).In_ok-loads)
 
 pub returns-clause-has : goal.returns-clause-has
 returns-clause-has c =
-    walk_has (rates c.args.graph.now) (λ a. get_or c.args.costs.now a 0) c.args.table.now.rows c.loop-i.starts.items c.loop-i.until.items (done (goal.at.returns-clause-has c).In_ok-loads)
+    walk_has (rates c.args.graph.now) (λ a. get_or c.args.costs.now a 0) c.args.table.now.rows c.loop-i.starts.items
+    c.loop-i.until.items (done (goal.at.returns-clause-has c).In_ok-loads)
 
 pub returns-clause-makespan : goal.returns-clause-makespan
 returns-clause-makespan c =
-    let most = subst (λ xs. IsGreatest (λ u. (j : ℕ) × (j < length xs) × (get_or xs j 0 ≡ u)) c.greatest-makespan.result) c.deref.ensures.value c.greatest-makespan.ensures in
-    walk_makespan (rates c.args.graph.now) (λ a. get_or c.args.costs.now a 0) c.args.table.now.rows c.loop-i.starts.items c.loop-i.until.items (done (goal.at.returns-clause-makespan c).In_ok-loads)
+    let most = subst (λ xs. IsGreatest (λ u. (j : ℕ) × (j < length xs) × (get_or xs j 0 ≡ u))
+    c.greatest-makespan.result) c.deref.ensures.value c.greatest-makespan.ensures in
+    walk_makespan (rates c.args.graph.now) (λ a. get_or c.args.costs.now a 0) c.args.table.now.rows
+    c.loop-i.starts.items c.loop-i.until.items (done (goal.at.returns-clause-makespan c).In_ok-loads)
     (λ i l. c.requires.table.table.wide i l ∙ sym c.loop-i.invariant.wide) c.greatest-makespan.result most
