@@ -98,6 +98,7 @@ fn by_rule(alloc: Global, graph: &Graph, costs: &[u32]) -> Result<Vec<u64>, Fail
     Ok(all)
 }
 
+/// A `Times::of` or a `span` that always says that there is no memory fails here.
 #[test]
 fn times_of_a_fork(rt: HostRuntime) -> Result<(), Fail> {
     let alloc = rt.alloc();
@@ -136,7 +137,8 @@ fn cells(alloc: Global, row: &[(usize, u32)]) -> Result<Vec<Option<Firing>>, All
     Ok(cells)
 }
 
-/// Firings of one row start at times of their own: the sink's second one waits for its first, which costs 10.
+/// A firing starts at a time of its own: the sink's second one waits for its first, which costs 10. A `Times::of` that
+/// always says that there is no memory fails here.
 #[test]
 fn times_of_other_rows(rt: HostRuntime) -> Result<(), Fail> {
     let alloc = rt.alloc();
