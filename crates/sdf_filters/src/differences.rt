@@ -1,6 +1,7 @@
 //! High-passes and band-passes, as differences of taps.
 
-ghost use Rattle.std.specs.Prelude.{◌≡◌, ◌<◌, ◌≤◌, ◌/◌, ◌^◌, ◌-ℤ◌, pos, length, replicate, slice_set, unsigned_abs, FitsSigned, IfOk, OnOk, MatchResult};
+ghost use Rattle.std.specs.Prelude.{◌≡◌, ◌<◌, ◌≤◌, ◌/◌, ◌^◌, ◌-ℤ◌, pos, length, replicate, slice_set, unsigned_abs};
+ghost use Rattle.std.specs.Prelude.{FitsSigned, IfOk, OnOk, MatchResult};
 ghost use Rattle.std.specs.Prelude.{◌++◌, ◌∷◌, []};
 ghost use Rattle.std.specs.Int.{w16};
 ghost use Rattle.sdf_filters.specs.Lowpass.{IsTapFault};

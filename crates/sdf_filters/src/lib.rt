@@ -2,9 +2,9 @@
 //!
 //! It stands on `sdf_limits` alone, and no command of the program uses it yet. Begin at `lowpass`, what can be asked
 //! for and the taps that come, then `phases`, which makes each phase's sum exact, `differences`, high-passes and
-//! band-passes, `split`, which finds stages, and `coefficients`, the text of taps. `sinc` and `cost` compute with floats, of which no clause says anything. The
-//! definitions are in `specs/Lowpass.antt`, `specs/Phases.antt` (what the taps of a phase come to) and
-//! `specs/Stages.antt`.
+//! band-passes, `split`, which finds stages, and `coefficients`, the text of taps. `sinc` and `cost` compute with
+//! floats, of which no clause says anything. The definitions are in `specs/Lowpass.antt`, `specs/Phases.antt` (what the
+//! taps of a phase come to) and `specs/Stages.antt`.
 #![tactic(auto)]
 
 mod coefficients;

@@ -107,8 +107,8 @@ impl Lowpass {
         Ok(taps)
     }
 
-    /// The high-pass that passes what this stops, and stops what this passes: `2^shift` at the middle less this one's taps.
-    /// Its taps come to 0, so of a constant nothing is left.
+    /// The high-pass that passes what this stops, and stops what this passes: `2^shift` at the middle less this one's
+    /// taps. Its taps come to 0, so of a constant nothing is left.
     pub fn highpass(&self, alloc: Global, count: usize) -> Result<Vec<i32>, FilterFault>
         requires few { count ≤ MOST_TAPS }
         requires odd { count % 2 ≡ 1 }

@@ -4,7 +4,8 @@ use Rattle.sdf_filters.proofs.differences.differences.Goals as goal
 
 pub loop-place-preserved : goal.loop-place-preserved
 loop-place-preserved c =
-    difference_step c.args.from.now c.args.taps.now c.loop-place.left.items c.add_tap.new.taps.items c.loop-place.place _ _
+    difference_step c.args.from.now c.args.taps.now c.loop-place.left.items c.add_tap.new.taps.items
+    c.loop-place.place _ _
     c.in_ok-tap.tap _ c.loop-place.invariant.0 (search rules) (search rules) (search rules) c.in_ok-tap.ensures
     c.in_ok-add_tap.ensures c.loop-place.invariant.1
 

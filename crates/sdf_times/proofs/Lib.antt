@@ -1,0 +1,11 @@
+pub mod Greatest
+pub mod Cells
+pub mod Waits
+pub mod Walks
+pub mod Fired
+pub mod Sums
+pub mod Least
+pub mod Spans
+pub mod Exists
+pub mod Caps
+pub mod Rules

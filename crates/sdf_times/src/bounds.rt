@@ -1,0 +1,76 @@
+//! How short a table of a block may be.
+
+ghost use Rattle.std.specs.Prelude.{◌≡◌, ℕ, ◌≤◌, ◌<◌, length, slice_index, MatchResult};
+ghost use Rattle.sdf_graph.specs.Rates.{rates};
+ghost use Rattle.sdf_sched.specs.Period.{IsPeriodOf};
+ghost use Rattle.sdf_prec.specs.Blocks.{block, IsShort, IsBlockFault};
+ghost use Rattle.sdf_prec.specs.Costs.{AreCosts};
+ghost use Rattle.sdf_prec.specs.Numbers.{number};
+ghost use Rattle.sdf_times.specs.Times.{IsGreatest, work_of, IsSpan, IsBound};
+
+use sdf_graph::Graph;
+use sdf_limits::MOST_ACTORS;
+use sdf_prec::levels::levels;
+use sdf_prec::{Costs, Firing, Levels, PrecFault};
+use sdf_sched::Period;
+use std::alloc::Global;
+
+/// What the firings of a block of `j` periods cost together, in which the actors fire `reps` times each.
+pub fn work(reps: &[u32], j: u32, costs: &Costs) -> u64
+    requires few { length reps.now ≤ MOST_ACTORS }
+    requires short { IsShort j reps.now }
+    requires costs { AreCosts (length reps.now) costs.now }
+    ensures { result ≡ work_of (length reps.now) (slice_index (block j reps.now)) (slice_index costs.now) }
+{
+    let mut work = 0;
+    for actor in 0..reps.len() {
+        let firings = u64::from(j) * u64::from(reps[actor]);
+        work += firings * u64::from(costs.of(actor));
+    }
+    work
+}
+
+/// The greatest level of the actors' first firings.
+fn first_levels(of: &Levels, reps: &[u32], j: u32) -> u64
+    requires some { 1 ≤ j }
+    requires block { of.now.firings ≡ block j reps.now }
+    ensures { IsGreatest (λ u. (a : ℕ) × (0 < slice_index reps.now a)
+        × (number of.now (record { actor = a; number = 0 }) ≡ u)) result }
+{
+    let mut most = 0u64;
+    for actor in 0..reps.len() {
+        if reps[actor] > 0 {
+            most = most.max(of.of(Firing { actor, number: 0 }));
+        }
+    }
+    most
+}
+
+/// The greatest level of the firings of a block of `j` periods: what its costliest chain costs. A fault is one of
+/// `BlockingFactor` and `BlockTooLong`.
+pub fn span(
+    alloc: Global,
+    graph: &Graph,
+    period: &Period,
+    j: u32,
+    costs: &Costs,
+) -> Result<u64, PrecFault>
+    requires period { IsPeriodOf (rates graph.now) period.now }
+    requires costs { AreCosts graph.now.actors costs.now }
+    ensures { MatchResult result
+        (IsSpan (rates graph.now) (slice_index (block j period.now.repetitions)) (slice_index costs.now))
+        (IsBlockFault j period.now.repetitions) }
+{
+    let of = levels(alloc, graph, period, j, costs)?;
+    Ok(first_levels(&of, period.repetitions(), j))
+}
+
+/// The least time in which the costliest chain ends and so many workers can do the work: no table of the block in as
+/// many columns ends sooner (`laws::bounds_hold`).
+#[tactic(auto, using(crate::proofs::Spans::bound_is))]
+pub fn bound(span: u64, work: u64, workers: usize) -> u64
+    requires { 0 < workers }
+    ensures { IsBound span work workers result }
+{
+    span.max(work.div_ceil(workers as u64))
+}

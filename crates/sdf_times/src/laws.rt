@@ -1,0 +1,26 @@
+//! Laws over the definitions, each the contract of a function that does nothing but call laws.
+
+ghost use Rattle.sdf_times.specs.Laws.{StartsExist, StartsAreLeast, StartsAreOne, BoundsHold, RowsAreNoSooner};
+
+use sdf_graph::laws::cycles_begin_anew;
+use sdf_prec::laws::orders_are_passes;
+
+/// A valid table has times, and only one: the least at which each firing starts after those that come before it.
+pub fn starts_are_decided()
+    ensures exist { StartsExist }
+    ensures least { StartsAreLeast }
+    ensures one { StartsAreOne }
+{}
+
+/// No table of a block in so many columns ends before the bound.
+pub fn bounds_hold()
+    ensures { BoundsHold }
+{
+    cycles_begin_anew();
+    orders_are_passes();
+}
+
+/// In a table by Hu's rule no firing starts later than the rule starts its row.
+pub fn rows_are_no_sooner()
+    ensures { RowsAreNoSooner }
+{}

@@ -1,0 +1,20 @@
+//! When the firings of a table start and end, what its columns do, and how short any table of its block may be.
+//!
+//! It stands on `sdf_graph`, `sdf_sched`, `sdf_prec` and `sdf_limits`. Begin at `times`, then `bounds`; `laws` has what
+//! is true of all tables. The definitions are in `specs/Times.antt`, the statements in `specs/Laws.antt`.
+#![tactic(auto)]
+
+pub mod bounds;
+pub mod laws;
+mod loads;
+mod needs;
+pub mod samples;
+mod starts;
+#[cfg(test)]
+mod tests;
+pub mod times;
+mod walk;
+
+pub use bounds::{bound, span, work};
+pub use samples::held;
+pub use times::Times;

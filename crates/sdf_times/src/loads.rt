@@ -1,0 +1,57 @@
+//! What the columns of a table do.
+
+ghost use Rattle.std.specs.Prelude.{◌≡◌, ℕ, ◌≤◌, ◌<◌, length, slice_index, IfOk, Option, Some};
+ghost use Rattle.sdf_prec.specs.declared.firing.Firing.{Firing};
+ghost use Rattle.sdf_prec.specs.Tables.{row, cell};
+ghost use Rattle.sdf_times.specs.Times.{cost_in, load_of};
+
+use sdf_limits::{MOST_BLOCK, MOST_COST};
+use sdf_prec::{Costs, Firing, Table};
+use std::alloc::{AllocError, Global};
+
+/// What the firing in a cell costs, or 0 where none stands there.
+fn cost_at(costs: &Costs, cell: Option<Firing>) -> u64
+    requires { (f : Firing) → cell ≡ Some f → f.actor < length costs.now }
+    ensures is { result ≡ cost_in (slice_index costs.now) cell }
+    ensures small { result ≤ MOST_COST }
+{
+    match cell {
+        Some(firing) => u64::from(costs.of(firing.actor)),
+        None => 0,
+    }
+}
+
+/// What the firings of a column cost together.
+fn load(table: &Table, costs: &Costs, column: usize) -> u64
+    requires wide { (i : ℕ) → i < length table.now.rows → column < length (row table.now.rows i) }
+    requires known { (i : ℕ) (f : Firing) → cell table.now.rows i column ≡ Some f → f.actor < length costs.now }
+    requires short { length table.now.rows ≤ MOST_BLOCK }
+    ensures { result ≡ load_of (slice_index costs.now) table.now.rows column }
+{
+    let mut load = 0;
+    for i in 0..table.rows() {
+        load += cost_at(costs, table.row(i)[column]);
+    }
+    load
+}
+
+/// The load of each of so many columns.
+pub(crate) fn loads(
+    alloc: Global,
+    table: &Table,
+    costs: &Costs,
+    m: usize,
+) -> Result<Vec<u64>, AllocError>
+    requires wide { (i : ℕ) → i < length table.now.rows → length (row table.now.rows i) ≡ m }
+    requires known { (i j : ℕ) (f : Firing) → cell table.now.rows i j ≡ Some f → f.actor < length costs.now }
+    requires short { length table.now.rows ≤ MOST_BLOCK }
+    ensures all { IfOk result (λ v. length v.items ≡ m) }
+    ensures each { IfOk result (λ v. (j : ℕ) → j < m →
+        slice_index v.items j ≡ load_of (slice_index costs.now) table.now.rows j) }
+{
+    let mut loads = Vec::new(alloc);
+    for column in 0..m {
+        loads.push(load(table, costs, column))?;
+    }
+    Ok(loads)
+}

@@ -1,0 +1,47 @@
+//! When all have ended that a firing waits for.
+
+ghost use Rattle.std.specs.Prelude.{◌≡◌, ℕ, ◌+◌, ◌-◌, ◌≤◌, ◌<◌, ◌^◌, [], length, slice_index, slice_index_or};
+ghost use Rattle.sdf_graph.specs.Rates.{rates};
+ghost use Rattle.sdf_prec.specs.Costs.{AreCosts};
+ghost use Rattle.sdf_times.specs.Times.{IsGreatest, end_of, start_in};
+ghost use Rattle.sdf_times.specs.Walks.{IsNeedEnd, IsPrepared};
+
+use crate::starts::Starts;
+use sdf_graph::Graph;
+use sdf_graph::laws::graphs_are_sound;
+use sdf_prec::{Costs, Firing, needed};
+
+/// When the last of an actor's first `count` firings ends, or 0 where there is none.
+fn ended(starts: &[Starts], costs: &Costs, actor: usize, count: u64) -> u64
+    requires known { actor < length starts.now }
+    requires costs { AreCosts (length starts.now) costs.now }
+    requires started { count ≤ length (slice_index_or starts.now actor []) }
+    requires small { 0 < count → slice_index (slice_index_or starts.now actor []) (count - 1)
+        + slice_index costs.now actor < 2 ^ 40 }
+    ensures none { count ≡ 0 → result ≡ 0 }
+    ensures last { 0 < count → result ≡ slice_index (slice_index_or starts.now actor []) (count - 1)
+        + slice_index costs.now actor }
+{
+    if count == 0 {
+        return 0;
+    }
+    starts[actor].of((count - 1) as usize) + u64::from(costs.of(actor))
+}
+
+/// When all have ended that a firing waits for: the one before it of its actor, and on each channel into the actor the
+/// last one that it waits for of the source.
+pub(crate) fn ready(graph: &Graph, starts: &[Starts], costs: &Costs, firing: Firing) -> u64
+    requires costs { AreCosts graph.now.actors costs.now }
+    requires prepared { IsPrepared (rates graph.now) (slice_index costs.now) starts.now firing }
+    ensures { IsGreatest (IsNeedEnd (rates graph.now) (slice_index costs.now) (start_in starts.now) firing) result }
+{
+    graphs_are_sound();
+    let channels = graph.channels();
+    let mut time = ended(starts, costs, firing.actor, u64::from(firing.number));
+    for number in graph.incoming(firing.actor) {
+        let channel = &channels[*number];
+        let count = needed(graph, *number, firing.number);
+        time = time.max(ended(starts, costs, channel.from, count));
+    }
+    time
+}
