@@ -1,6 +1,8 @@
 # The gate, the proved program, and the programs that show it at work.
 
-.PHONY: help build demo announced try install documents examples test mutants times allocations bench clean
+.PHONY: help build demo announced try install documents examples test mutants times allocations bench hostile clean
+
+PREFIX ?= /usr/local
 
 # Lists these targets.
 help:
@@ -30,7 +32,6 @@ try:
 	@scripts/try
 
 # Copies the built program, its man page and its completions below PREFIX (/usr/local).
-PREFIX ?= /usr/local
 install:
 	@test -x build/sdfw || { echo "there is no build/sdfw: make build"; exit 1; }
 	install -D -m 755 build/sdfw $(DESTDIR)$(PREFIX)/bin/sdfw
@@ -72,7 +73,6 @@ bench: build
 	python3 bench/run.py
 
 # Memory, reads, writes and threads refused, one call at a time, and devices that fail (wants python3 and gcc).
-.PHONY: hostile
 hostile: build
 	gcc -O2 -Wall -Wextra -shared -fPIC -o build/refuse.so hostile/refuse.c
 	python3 hostile/run.py
