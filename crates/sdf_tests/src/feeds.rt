@@ -26,65 +26,48 @@ fn in_pieces<A: Actor>(
     Ok(made)
 }
 
+/// The same of two lists of samples, as a text.
+fn told<A: Actor<Token = i64>>(
+    alloc: Global,
+    net: &Net<A>,
+    periods: (u32, u32),
+    first: &[i64],
+    later: &[i64],
+) -> Result<String, Fail> {
+    let first = list(alloc, first)?;
+    let later = list(alloc, later)?;
+    let made = in_pieces(alloc, net, periods, &first, &later)?;
+    Ok(format!(in alloc; "{made:?}")?)
+}
+
 #[test]
 fn a_state_goes_on(rt: HostRuntime) -> Result<(), Fail> {
-    let alloc = rt.alloc();
-    let net = chain(alloc, Sum)?;
-    let made = in_pieces(
-        alloc,
-        &net,
-        (2, 1),
-        &list(alloc, &[1, 2])?,
-        &list(alloc, &[3])?,
-    )?;
-    assert_eq!(rt;
-        format!(in alloc; "{made:?}")?.as_str(),
-        "[[[1, 3]], [[6]]]"
-    );
+    let net = chain(rt.alloc(), Sum)?;
+    let told = told(rt.alloc(), &net, (2, 1), &[1, 2], &[3])?;
+    assert_eq!(rt; told.as_str(), "[[[1, 3]], [[6]]]");
     Ok(())
 }
 
 #[test]
 fn phases_begin_anew(rt: HostRuntime) -> Result<(), Fail> {
-    let alloc = rt.alloc();
-    let net = chain(alloc, Twice)?;
-    let made = in_pieces(
-        alloc,
-        &net,
-        (1, 2),
-        &list(alloc, &[1])?,
-        &list(alloc, &[2, 3])?,
-    )?;
-    assert_eq!(rt;
-        format!(in alloc; "{made:?}")?.as_str(),
-        "[[[1, 1]], [[2, 2, 3, 3]]]"
-    );
+    let net = chain(rt.alloc(), Twice)?;
+    let told = told(rt.alloc(), &net, (1, 2), &[1], &[2, 3])?;
+    assert_eq!(rt; told.as_str(), "[[[1, 1]], [[2, 2, 3, 3]]]");
     Ok(())
 }
 
 #[test]
 fn held_samples_come_first(rt: HostRuntime) -> Result<(), Fail> {
-    let alloc = rt.alloc();
-    let net = pair(alloc, 1, 1, &[7, 8])?;
-    let made = in_pieces(
-        alloc,
-        &net,
-        (3, 2),
-        &list(alloc, &[1, 2, 3])?,
-        &list(alloc, &[4, 5])?,
-    )?;
-    assert_eq!(rt;
-        format!(in alloc; "{made:?}")?.as_str(),
-        "[[[7, 8, 1]], [[2, 3]]]"
-    );
+    let net = pair(rt.alloc(), 1, 1, &[7, 8])?;
+    let told = told(rt.alloc(), &net, (3, 2), &[1, 2, 3], &[4, 5])?;
+    assert_eq!(rt; told.as_str(), "[[[7, 8, 1]], [[2, 3]]]");
     Ok(())
 }
 
 #[test]
 fn an_empty_feed(rt: HostRuntime) -> Result<(), Fail> {
-    let alloc = rt.alloc();
-    let net = pair(alloc, 1, 1, &[7, 8])?;
-    let made = in_pieces(alloc, &net, (0, 1), &list(alloc, &[])?, &list(alloc, &[4])?)?;
-    assert_eq!(rt; format!(in alloc; "{made:?}")?.as_str(), "[[[]], [[7]]]");
+    let net = pair(rt.alloc(), 1, 1, &[7, 8])?;
+    let told = told(rt.alloc(), &net, (0, 1), &[], &[4])?;
+    assert_eq!(rt; told.as_str(), "[[[]], [[7]]]");
     Ok(())
 }

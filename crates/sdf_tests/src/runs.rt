@@ -22,56 +22,53 @@ fn outputs_of<A: Actor, P: Pick>(
     Ok(ran.outputs)
 }
 
+/// The same of one list of samples, as a text.
+fn told<A: Actor<Token = i64>, P: Pick>(
+    alloc: Global,
+    net: &Net<A>,
+    pick: &mut P,
+    periods: u32,
+    samples: &[i64],
+) -> Result<String, Fail> {
+    let inputs = list(alloc, samples)?;
+    let outputs = outputs_of(alloc, net, pick, periods, &inputs)?;
+    Ok(format!(in alloc; "{outputs:?}")?)
+}
+
 #[test]
 fn blocks_of_two_and_three(rt: HostRuntime) -> Result<(), Fail> {
-    let alloc = rt.alloc();
-    let net = pair(alloc, 2, 3, &[])?;
-    let inputs = list(alloc, &[1, 2, 3, 4, 5, 6, 7, 0, 0, 0, 0, 0])?;
-    let outputs = outputs_of(alloc, &net, &mut Round::new(), 2, &inputs)?;
-    assert_eq!(rt;
-        format!(in alloc; "{outputs:?}")?.as_str(),
-        "[[1, 2, 3, 4, 5, 6, 7, 0, 0, 0, 0, 0]]"
-    );
+    let net = pair(rt.alloc(), 2, 3, &[])?;
+    let samples = [1, 2, 3, 4, 5, 6, 7, 0, 0, 0, 0, 0];
+    let told = told(rt.alloc(), &net, &mut Round::new(), 2, &samples)?;
+    assert_eq!(rt; told.as_str(), "[[1, 2, 3, 4, 5, 6, 7, 0, 0, 0, 0, 0]]");
     Ok(())
 }
 
 #[test]
 fn initial_samples_come_first(rt: HostRuntime) -> Result<(), Fail> {
-    let alloc = rt.alloc();
-    let net = pair(alloc, 1, 1, &[7, 8])?;
-    let inputs = list(alloc, &[1, 2, 3])?;
-    let by_rounds = outputs_of(alloc, &net, &mut Round::new(), 3, &inputs)?;
-    assert_eq!(rt; format!(in alloc; "{by_rounds:?}")?.as_str(), "[[7, 8, 1]]");
-    let lean = outputs_of(alloc, &net, &mut Lean, 3, &inputs)?;
-    assert_eq!(rt; format!(in alloc; "{lean:?}")?.as_str(), "[[7, 8, 1]]");
+    let net = pair(rt.alloc(), 1, 1, &[7, 8])?;
+    let by_rounds = told(rt.alloc(), &net, &mut Round::new(), 3, &[1, 2, 3])?;
+    assert_eq!(rt; by_rounds.as_str(), "[[7, 8, 1]]");
+    let lean = told(rt.alloc(), &net, &mut Lean, 3, &[1, 2, 3])?;
+    assert_eq!(rt; lean.as_str(), "[[7, 8, 1]]");
     Ok(())
 }
 
 #[test]
 fn a_state_lasts(rt: HostRuntime) -> Result<(), Fail> {
-    let alloc = rt.alloc();
-    let net = chain(alloc, Sum)?;
-    let inputs = list(alloc, &[1, 2, 3])?;
-    let outputs = outputs_of(alloc, &net, &mut Round::new(), 3, &inputs)?;
-    assert_eq!(rt; format!(in alloc; "{outputs:?}")?.as_str(), "[[1, 3, 6]]");
+    let net = chain(rt.alloc(), Sum)?;
+    let told = told(rt.alloc(), &net, &mut Round::new(), 3, &[1, 2, 3])?;
+    assert_eq!(rt; told.as_str(), "[[1, 3, 6]]");
     Ok(())
 }
 
 #[test]
 fn phases_go_on_from_period_to_period(rt: HostRuntime) -> Result<(), Fail> {
-    let alloc = rt.alloc();
-    let net = chain(alloc, Twice)?;
-    let inputs = list(alloc, &[1, 2, 3])?;
-    let by_rounds = outputs_of(alloc, &net, &mut Round::new(), 3, &inputs)?;
-    assert_eq!(rt;
-        format!(in alloc; "{by_rounds:?}")?.as_str(),
-        "[[1, 1, 2, 2, 3, 3]]"
-    );
-    let lean = outputs_of(alloc, &net, &mut Lean, 3, &inputs)?;
-    assert_eq!(rt;
-        format!(in alloc; "{lean:?}")?.as_str(),
-        "[[1, 1, 2, 2, 3, 3]]"
-    );
+    let net = chain(rt.alloc(), Twice)?;
+    let by_rounds = told(rt.alloc(), &net, &mut Round::new(), 3, &[1, 2, 3])?;
+    assert_eq!(rt; by_rounds.as_str(), "[[1, 1, 2, 2, 3, 3]]");
+    let lean = told(rt.alloc(), &net, &mut Lean, 3, &[1, 2, 3])?;
+    assert_eq!(rt; lean.as_str(), "[[1, 1, 2, 2, 3, 3]]");
     Ok(())
 }
 
