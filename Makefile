@@ -64,7 +64,8 @@ mutants:
 times:
 	scripts/times $(CRATE)
 
-# How many allocations a short run and a long one make on one thread: as many.
+# How many requests for memory a short run and a long one make, by each runner, and schedules: as many, but for threads
+# (wants python3 and gcc).
 allocations:
 	scripts/allocations
 
@@ -72,8 +73,11 @@ allocations:
 bench: build
 	python3 bench/run.py
 
-# Memory, reads, writes and threads refused, one call at a time, and devices that fail (wants python3 and gcc).
+# Memory, reads, writes and threads refused, one call at a time, devices that fail, and workers that are held up
+# (wants python3 and gcc).
 hostile: build
+	scripts/prove hostile_calls
+	cp crates/hostile_calls/out/hostile_calls build/hostile_calls
 	gcc -O2 -Wall -Wextra -shared -fPIC -o build/refuse.so hostile/refuse.c
 	python3 hostile/run.py
 

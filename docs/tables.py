@@ -1,7 +1,7 @@
 """Compares what the documents repeat with where it comes from.
 
-- docs/FORMATS.md: the list of faults is what `sdfw explain` prints (`--write` writes it anew); the table of kinds
-  stands in `format_tests`, which proves that it is the rows that the reader follows.
+- docs/FORMATS.md: the list of faults is what `sdfw explain` prints (`--write` writes it anew); the table of kinds is
+  what `sdfw kinds` prints, which is proved to be the rows that the reader follows.
 - docs/PROOFS.md: the list of public functions without a must-fail edit is the repository's.
 - The head of each crate's root file names the crates that crates.txt says it stands on, and where to begin; so does
   the list of crates in docs/ARCHITECTURE.md.
@@ -53,15 +53,15 @@ def faults(program, write):
     return ["docs/FORMATS.md: its list of faults is not the program's (python3 docs/tables.py --write)"]
 
 
-def kinds():
-    """Whether the document's kinds are those of the test."""
+def kinds(program):
+    """Whether the document's kinds are those that the program lists: a row of the table as a line, without its marks."""
     page = PAGE.read_text()
     rows = page[page.index("| kind | keys") :].split("\n\n", 1)[0].splitlines()[2:]
-    test = (TOP / "crates" / "format_tests" / "src" / "document_kinds.rt").read_text()
-    table = test[test.index('const TABLE: &str = "') + 21 :].split('";', 1)[0]
-    if rows == [row for row in table.splitlines() if row]:
+    lines = [row.strip("| ").replace("`", "").replace(" | ", ": ", 1) for row in rows]
+    said = subprocess.run([program, "kinds"], check=True, capture_output=True, text=True).stdout.splitlines()
+    if lines == said:
         return []
-    return ["docs/FORMATS.md: its table of kinds is not that of crates/format_tests/src/document_kinds.rt"]
+    return ["docs/FORMATS.md: its table of kinds is not what `sdfw kinds` prints"]
 
 
 class Function:
@@ -218,7 +218,7 @@ def main():
     words = [word for word in sys.argv[1:] if word != "--write"]
     program = words[0] if words else os.path.relpath(TOP / "build" / "sdfw", TOP)
     os.chdir(TOP)
-    wrong = faults(program, "--write" in sys.argv) + kinds() + unedited() + heads() + stands_on() + designs()
+    wrong = faults(program, "--write" in sys.argv) + kinds(program) + unedited() + heads() + stands_on() + designs()
     wrong += consoles(program) + widths()
     print("\n".join(wrong) or "the documents say what the program and the sources say")
     sys.exit(1 if wrong else 0)

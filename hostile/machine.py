@@ -73,7 +73,8 @@ class Folder:
         return cls.own.path
 
 
-def run(words, kind=None, at=0, how="error", one=False, window=None, printed=subprocess.PIPE, told=subprocess.PIPE):
+def run(words, kind=None, at=0, how="error", one=False, window=None, printed=subprocess.PIPE, told=subprocess.PIPE,
+        seconds=SECONDS):
     """Runs a program with a call refused. `printed` and `told` may be other ends for its standard output and error."""
     folder = Folder.here()
     counts = folder / "counts"
@@ -89,7 +90,7 @@ def run(words, kind=None, at=0, how="error", one=False, window=None, printed=sub
         setting["HOSTILE_WINDOW"] = window
     process = subprocess.Popen(words, cwd=folder, env=setting, stdin=subprocess.DEVNULL, stdout=printed, stderr=told)
     try:
-        said, faults = process.communicate(timeout=SECONDS)
+        said, faults = process.communicate(timeout=seconds)
         status = process.returncode
     except subprocess.TimeoutExpired:
         process.kill()

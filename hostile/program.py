@@ -3,6 +3,7 @@ import os
 import struct
 import threading
 
+import largest
 from judges import NO_MEMORY, NO_READ, NO_WORKER, NO_WRITE, ample_or, is_text, only, printed_or
 from machine import BUILD, HERE, SOUNDS, Folder, describe, run
 
@@ -27,7 +28,9 @@ RUNS = [("chain", "chain.toml", "short.wav", [], 320), ("loop", "loop.toml", "fe
 PRINTED = [
     ("check", ["check", "chain.toml"]),
     ("schedule", ["schedule", "chain.toml", "--workers", "2"]),
+    ("kinds", ["kinds"]),
     ("explain", ["explain", "10"]),
+    ("help", ["help"]),
     ("--help", ["--help"]),
     ("run --help", ["run", "--help"]),
     ("--version", ["--version"]),
@@ -166,6 +169,70 @@ def sizes_of_sdfw(lists):
     lists.cases("sdfw: sizes that lie ask for less than 1 MB", cases)
 
 
+def begun(samples):
+    """A design whose one channel begins with so many samples."""
+    ends = ", ".join(f'{{ name = "{kind}", kind = "{kind}", channel = 0 }}' for kind in ("input", "output"))
+    ones = ", ".join(["1"] * samples)
+    return f'format = 1\nactor = [{ends}]\nlink = [{{ from = "input", to = "output", initial = [{ones}] }}]\n'
+
+
+# What a run asks for beside that: at most so many bytes, and so many for each frame.
+BESIDE, FRAME = 1 << 17, 64
+
+# For each piece that is run, how often room for all that the channel begins with is asked for: for the net that begins
+# there, for the channel (the queues of `one` and `rows` have twice their room, rings have it once) and for what the
+# piece leaves. Before the first piece it is asked for once more.
+COPIES = {"one": 4, "rows": 4, "rings": 3}
+
+
+def rooms(runner, samples, frames):
+    """The bytes that a run needs of a design whose channel begins with so many samples of four bytes."""
+    pieces = 1 if runner == "one" else -(-frames // 4096)
+    return 4 * samples * (1 + COPIES[runner] * pieces) + BESIDE + FRAME * frames
+
+
+def fits(runner, samples, sound, frames):
+    """Whether a run asks for no more than it needs."""
+    asked, most = asked_by_run(runner, samples, sound), rooms(runner, samples, frames)
+    return True if isinstance(asked, int) and asked <= most else f"{asked} bytes asked for, and not {most}"
+
+
+def rooms_of_sdfw(lists):
+    cases = []
+    for runner in RUNNERS:
+        for sound, frames in (("few.wav", 4), ("long.wav", 9000)):
+            for samples in (1, 65536):
+                cases.append((f"{samples} samples at first, {sound}, {runner}",
+                              lambda given=(runner, samples, sound, frames): fits(*given)))
+    lists.cases("sdfw: what is asked for is what is needed", cases)
+
+
+def is_answered(words):
+    """Whether a command is done, and with no fault."""
+    ended = run([SDFW, *words])
+    return True if ended.status == 0 and not ended.told else describe(ended)
+
+
+def limits_of_sdfw(lists):
+    """A design at each limit at once is never refused for want of memory."""
+    largest.write(Folder.here())
+    cases = [("check", lambda: is_answered(["check", "largest.toml"]))]
+    for more in (["hu"], ["homed"], ["file"], ["file", "--policy", "runs"]):
+        words = ["largest.toml", "--workers", "16", "--placement", *more]
+        cases.append((f"schedule {more}", lambda words=words: is_answered(["schedule", *words])))
+    for runner in RUNNERS:
+        words = ["run", "largest.toml", "three.wav", "out.wav", "--runner", runner, "--workers", "16"]
+        cases.append((f"run by {runner}", lambda words=words: is_answered(words)))
+    lists.cases("sdfw: a design at each limit", cases)
+
+
+def asked_by_run(runner, samples, sound):
+    """The bytes that a run of such a design asks for beyond those of reading the design, or how it ended."""
+    (Folder.here() / "begun.toml").write_text(begun(samples))
+    read, ran = run([SDFW, "check", "begun.toml"]), run(run_words("begun.toml", sound, runner))
+    return ran.asked() - read.asked() if ran.status == 0 else describe(ran)
+
+
 def to_closed_pipe(words, which):
     """Runs with standard output or error, as `which` says, a pipe that nobody reads."""
     reading, writing = os.pipe()
@@ -267,4 +334,6 @@ def all_lists(lists):
     writes_of_sdfw(lists)
     bytes_of_sdfw(lists)
     sizes_of_sdfw(lists)
+    rooms_of_sdfw(lists)
+    limits_of_sdfw(lists)
     devices_of_sdfw(lists)

@@ -8,6 +8,7 @@ import shutil
 import sys
 import time
 
+import calls
 import program
 from machine import Folder, Lists
 
@@ -17,6 +18,7 @@ def main():
     begun = time.monotonic()
     try:
         program.all_lists(lists)
+        calls.all_lists(lists)
     finally:
         shutil.rmtree(Folder.top, ignore_errors=True)
     print(f"{time.monotonic() - begun:.0f} s")

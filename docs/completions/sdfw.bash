@@ -3,10 +3,11 @@ _sdfw() {
   local word=${COMP_WORDS[COMP_CWORD]} before=${COMP_WORDS[COMP_CWORD-1]}
   COMPREPLY=()
   if [ "$COMP_CWORD" -eq 1 ]; then
-    mapfile -t COMPREPLY < <(compgen -W "check schedule run explain --help --version" -- "$word")
+    mapfile -t COMPREPLY < <(compgen -W "check schedule run kinds explain help --help --version" -- "$word")
     return
   fi
   case ${COMP_WORDS[1]}:$before in
+    help:help) mapfile -t COMPREPLY < <(compgen -W "check schedule run kinds explain" -- "$word"); return ;;
     schedule:--blocking) :; return ;;
     schedule:--workers) :; return ;;
     schedule:--policy) mapfile -t COMPREPLY < <(compgen -W "round lean runs" -- "$word"); return ;;
@@ -22,6 +23,7 @@ _sdfw() {
     check:-*) mapfile -t COMPREPLY < <(compgen -W "--help" -- "$word") ;;
     schedule:-*) mapfile -t COMPREPLY < <(compgen -W "--blocking --workers --policy --placement --help" -- "$word") ;;
     run:-*) mapfile -t COMPREPLY < <(compgen -W "--blocking --workers --policy --placement --runner --patience --help" -- "$word") ;;
+    kinds:-*) mapfile -t COMPREPLY < <(compgen -W "--help" -- "$word") ;;
     explain:-*) mapfile -t COMPREPLY < <(compgen -W "--help" -- "$word") ;;
     check:*|schedule:*|run:*)
       compopt -o filenames

@@ -3,7 +3,6 @@
 //!
 //! It stands on `sdf_wav`, `sdf_document`, `sdf_file` and `test_devices`, and has no functions: tests stand in a crate
 //! of their own, since a crate's functions are proved once more with its tests. Begin at `wav_files` and `documents`.
-//! The table of kinds in `docs/FORMATS.md` is proved to be the reader's: `document_kinds`, by `specs/KindTable.antt`.
 #![tactic(auto)]
 
 #[cfg(test)]
@@ -14,8 +13,6 @@ mod designs;
 mod devices;
 #[cfg(test)]
 mod document_formats;
-#[cfg(test)]
-mod document_kinds;
 #[cfg(test)]
 mod documents;
 #[cfg(test)]

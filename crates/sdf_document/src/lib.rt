@@ -1,9 +1,10 @@
 //! Graph files and coefficient files: TOML tables, tested in order, as entries.
 //!
 //! `read_document` gives what a graph file says, or the first test that it fails; `file_names` the coefficient files
-//! that it names. It stands on `toml`, `indexmap` and `sdf_limits` alone. Begin at `entry`, `row` and `document`; the
-//! definitions, in the order of the tests, are in `specs/Document.antt`, `specs/Actors.antt`, `specs/Rows.antt`,
-//! `specs/Kinds.antt` and `specs/Links.antt`.
+//! that it names; `kinds_text` the table of kinds as a text. It stands on `toml`, `indexmap` and `sdf_limits` alone.
+//! Begin at `entry`, `row` and `document`; the definitions, in the order of the tests, are in `specs/Document.antt`,
+//! `specs/Actors.antt`, `specs/Rows.antt`, `specs/Kinds.antt` and `specs/Links.antt`, and that of the text in
+//! `specs/Listing.antt`.
 #![tactic(auto)]
 
 mod actor;
@@ -15,6 +16,7 @@ mod key;
 mod kind;
 mod link;
 mod list;
+mod listing;
 mod name;
 mod row;
 mod table;
@@ -23,3 +25,4 @@ mod value;
 pub use document::{file_names, read_document};
 pub use entry::{ActorEntry, Document, KindEntry, LinkEntry, ListEntry};
 pub use fault::{DocumentFault, Place, ReadFault};
+pub use listing::kinds_text;

@@ -7,7 +7,7 @@
 //! 3. an equation of `entry_of` and one of `kind_values` in `specs/Kinds.antt`;
 //! 4. where it has a list, an arm of `file_of` in `document.rt` and an equation of `kind_file` in
 //!   `specs/Document.antt`;
-//! 5. its line in the table of `docs/FORMATS.md` and in `document_kinds.rt` of `format_tests`.
+//! 5. its line in the table of `docs/FORMATS.md`, as `kinds_text` in `listing.rt` lists it.
 ghost use Rattle.std.specs.Prelude.{◌≡◌};
 ghost use Rattle.sdf_document.specs.Rows.{keys_view, row_view, shared_keys, row_of, kinds};
 

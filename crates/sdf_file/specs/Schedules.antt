@@ -55,10 +55,12 @@ row_line d cells = codes "row" ++ flat_map (λ cell. codes " " ++ cell_text d ce
 abbrev pub end_text : DesignValue → ℕ × ℕ → List ℕ
 end_text d e = name_of d e.0 ++ codes ":" ++ decimal e.1
 
+-- the ends of link c
+abbrev pub link_text : DesignValue → ℕ → List ℕ
+link_text d c = end_text d (wire d.net c).from ++ codes " " ++ end_text d (wire d.net c).to
+
 abbrev pub capacity_line : DesignValue → List ℕ → ℕ → List ℕ
-capacity_line d caps c =
-    codes "capacity " ++ end_text d (wire d.net c).from ++ codes " " ++ end_text d (wire d.net c).to ++ codes " "
-    ++ decimal (slice_index caps c) ++ end
+capacity_line d caps c = codes "capacity " ++ link_text d c ++ codes " " ++ decimal (slice_index caps c) ++ end
 
 -- how often the order of a period makes a table's block, and how many columns each of its rows has
 abbrev pub blocking_of : List ℕ → Tabled → ℕ

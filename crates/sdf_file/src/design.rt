@@ -1,6 +1,6 @@
 //! Designs.
 ghost use Rattle.std.specs.Prelude.{◌≡◌, ◌<◌, ℕ, List, [], true, map, length, string_bytes, slice_index_or};
-ghost use Rattle.std.specs.Prelude.{MatchResult};
+ghost use Rattle.std.specs.Prelude.{IfOk, MatchResult};
 ghost use Rattle.std.specs.List.{All};
 ghost use Rattle.sdf_document.specs.Lists.{files_view};
 ghost use Rattle.sdf_document.specs.Actors.{IsActorWithin};
@@ -17,7 +17,8 @@ use indexmap::IndexSet;
 use sdf_actor::Net;
 use sdf_document::{Document, file_names, read_document};
 use sdf_kit::Kit;
-use std::alloc::Global;
+use sdf_prec::Costs;
+use std::alloc::{AllocError, Global};
 use std::marker::Model;
 
 /// A design: a net, and of each of its actors the name, the home processor and the cost of a firing.
@@ -89,6 +90,17 @@ impl Design {
         ensures { result.now ≡ self.now.costs }
     {
         &self.costs
+    }
+
+    /// The same as the costs of a table's firings.
+    pub fn firing_costs(&self, alloc: Global) -> Result<Costs, AllocError>
+        ensures { IfOk result (λ c. c ≡ self.now.costs) }
+    {
+        let costs = Vec::from_slice(alloc, self.costs())?;
+        match Costs::new(self.net().graph(), costs) {
+            Ok(costs) => Ok(costs),
+            Err(_) => unreachable!(),
+        }
     }
 }
 

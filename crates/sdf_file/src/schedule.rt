@@ -4,8 +4,8 @@ ghost use Rattle.std.specs.Prelude.{codes};
 ghost use Rattle.std.specs.List.{flat_map, range_with_len};
 ghost use Rattle.sdf_actor.specs.Nets.{wire};
 ghost use Rattle.sdf_file.specs.Schedules.{Stretch, stretches, stretch_text, order_items, order_line, cell_text};
-ghost use Rattle.sdf_file.specs.Schedules.{row_line, end_text, capacity_line, blocking_of, workers_of, size_lines};
-ghost use Rattle.sdf_file.specs.Schedules.{table_text, schedule_text, IsScheduleText};
+ghost use Rattle.sdf_file.specs.Schedules.{row_line, end_text, link_text, capacity_line, blocking_of, workers_of};
+ghost use Rattle.sdf_file.specs.Schedules.{size_lines, table_text, schedule_text, IsScheduleText};
 
 use crate::design::Design;
 use crate::texts::push_period;
@@ -125,6 +125,17 @@ fn push_end(text: &mut String, design: &Design, end: (usize, usize)) -> Result<(
     Ok(())
 }
 
+/// Adds the ends of a link, each its actor's name and its port, the end that it comes from first.
+pub fn push_link(text: &mut String, design: &Design, link: usize) -> Result<(), AllocError>
+    requires { link < length design.now.net.wires }
+    ensures { OnOk result (string_bytes text.new ≡ string_bytes text.old ++ link_text design.now link) }
+{
+    let (from, to) = ends_of(design, link);
+    push_end(text, design, from)?;
+    text.push_str(" ")?;
+    push_end(text, design, to)
+}
+
 /// Adds the line of a link's capacity.
 fn push_capacity(
     text: &mut String,
@@ -137,12 +148,9 @@ fn push_capacity(
     ensures { OnOk result (string_bytes text.new ≡
         string_bytes text.old ++ capacity_line design.now table.now.caps link) }
 {
-    let (from, to) = ends_of(design, link);
     let capacity = table.cap(link);
     text.push_str("capacity ")?;
-    push_end(text, design, from)?;
-    text.push_str(" ")?;
-    push_end(text, design, to)?;
+    push_link(text, design, link)?;
     writeln!(text, " {capacity}")?;
     Ok(())
 }

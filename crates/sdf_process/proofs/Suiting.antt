@@ -15,7 +15,7 @@ use Rattle.sdf_words.specs.declared.options.Runner.TheVariants.{One, Rows, Rings
 use Rattle.sdf_process.specs.Placements.{rates_of, firings_of, IsPlaced, IsTableBy}
 use Rattle.sdf_process.specs.Plans.{PlanValue, IsPlanOf, IsPlanFault, IsTableFor, HasPatience, SuitsRunner, Suits}
 
-placed_table : (placement : Placement) (policy : Policy) (d : DesignValue) (j m : ℕ) (s : Schedule) (t : Tabled) →
+pub placed_table : (placement : Placement) (policy : Policy) (d : DesignValue) (j m : ℕ) (s : Schedule) (t : Tabled) →
     IsPlaced placement policy d j m s t → IsTable (rates_of d) (firings_of j s) m t
 placed_table Hu policy d j m s t is = is.table
 placed_table Homed policy d j m s t is = is.table

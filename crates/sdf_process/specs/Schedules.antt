@@ -1,4 +1,4 @@
--- What the command `schedule` prints of a design, or why it prints nothing.
+-- The schedule of a design by options and what the command `schedule` prints of it, or why there is none.
 use Rattle.std.specs.Prelude.{ℕ, List}
 use Rattle.sdf_actor.specs.Graphs.{graph_of}
 use Rattle.sdf_kit.specs.Kit.{kit_steps}
@@ -13,13 +13,17 @@ use Rattle.sdf_process.specs.declared.fault.Fault.TheVariants.{Table}
 use Rattle.sdf_process.specs.Placements.{IsTableBy}
 use Rattle.sdf_process.specs.Plans.{AreSizes, IsSizeFault, IsScheduleBy, IsScheduleFault, IsUnplaced}
 
--- the text is of the order of the policy, and of the table of the placement
-pub record IsShown (d : DesignValue) (o : Options) (text : List ℕ) : Type 0 where
+-- the order of the policy, and the table of the placement
+pub record IsScheduled (d : DesignValue) (o : Options) (period : Schedule) (table : Tabled) : Type 0 where
   pub sizes : AreSizes o
-  pub period : Schedule
   pub by_policy : IsScheduleBy o.policy (graph_of kit_steps d.net) period
-  pub table : Tabled
   pub by_placement : IsTableBy d o period table
+
+-- the text is of these
+pub record IsShown (d : DesignValue) (o : Options) (text : List ℕ) : Type 0 where
+  pub period : Schedule
+  pub table : Tabled
+  pub scheduled : IsScheduled d o period table
   pub is : IsScheduleText d period.order table text
 
 -- the first test that fails: of the numbers, of the schedule, of the table

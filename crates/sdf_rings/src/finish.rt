@@ -37,7 +37,7 @@ fn collect_from<A: Actor>(
 }
 
 /// Takes the lists of all sinks, each to its number. It takes no memory.
-pub fn collect<A: Actor>(
+pub(crate) fn collect<A: Actor>(
     net: &Net<A>,
     seats: &mut [Seat<A>],
     places: &[(usize, usize)],

@@ -108,7 +108,7 @@ fn empty_all<A: Actor>(
 
 /// What the seats hold: copies of the states of all actors, and the samples on all channels, which are taken out of
 /// their rings.
-pub fn leave<A: Actor>(
+pub(crate) fn leave<A: Actor>(
     alloc: Global,
     net: &Net<A>,
     seats: &mut [Seat<A>],

@@ -14,18 +14,18 @@
 
 mod ends;
 pub mod feed;
-pub mod finish;
+mod finish;
 pub mod laws;
-pub mod leave;
-pub mod meet;
+mod leave;
+mod meet;
 mod own_rings;
 pub mod pair;
 mod parts;
 pub mod prepare;
-pub mod rest;
+mod rest;
 pub mod rings;
-pub mod round;
-pub mod run;
+mod round;
+mod run;
 mod run_ends;
 pub mod runner;
 pub mod seat;
@@ -35,7 +35,6 @@ mod together;
 
 pub use feed::{feed_rings, resume_rings};
 pub use rings::Rings;
-pub use round::run_round;
 pub use runner::run_rings;
 pub use seat::{Seat, work};
 pub use stand::Stand;

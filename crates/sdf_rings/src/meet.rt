@@ -24,7 +24,10 @@ pub struct Spot {
 }
 
 /// Tells both ends of a ring what is in it, and answers how many items it holds.
-pub fn tell<T>(consumer: &mut Consumer<T, Global>, producer: &mut Producer<T, Global>) -> usize
+pub(crate) fn tell<T>(
+    consumer: &mut Consumer<T, Global>,
+    producer: &mut Producer<T, Global>,
+) -> usize
     requires { IsPair producer.old consumer.old }
     ensures held { result ≡ length (known_items consumer.new) }
     ensures consumer { ConsumerLooked consumer.old consumer.new }
@@ -104,7 +107,7 @@ pub(crate) fn end_at(places: &[(usize, usize)], end: (usize, usize)) -> Spot
 }
 
 /// Tells both ends of each ring all of it. It takes no memory.
-pub fn meet_all<A: Actor>(
+pub(crate) fn meet_all<A: Actor>(
     alloc: Global,
     net: &Net<A>,
     inputs: &[Vec<A::Token>],

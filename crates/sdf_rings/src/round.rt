@@ -12,7 +12,7 @@ use std::thread;
 use std::thread::Threads;
 
 /// Each seat works in a thread of its own.
-pub fn run_round<R: Threads + Sync, A: Actor, G: Gate>(
+pub(crate) fn run_round<R: Threads + Sync, A: Actor, G: Gate>(
     rt: &R,
     net: &Net<A>,
     inputs: &[Vec<A::Token>],

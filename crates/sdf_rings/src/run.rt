@@ -62,7 +62,7 @@ fn round_once<R: Threads + Sync, A: Actor, G: Gate>(
 }
 
 /// Rounds until nothing is left of a plan, and how many there were. Each does at least one firing.
-pub fn run_all<R: Threads + Sync, A: Actor, G: Gate>(
+pub(crate) fn run_all<R: Threads + Sync, A: Actor, G: Gate>(
     rt: &R,
     alloc: Global,
     net: &Net<A>,

@@ -149,7 +149,7 @@ fn fire_blocks<A: Actor>(net: &Net<A>, inputs: &[Vec<A::Token>], stand: &mut Sta
 }
 
 /// Takes all blocks, fires and puts all blocks.
-pub fn fire_one<A: Actor>(net: &Net<A>, inputs: &[Vec<A::Token>], stand: &mut Stand<A>)
+pub(crate) fn fire_one<A: Actor>(net: &Net<A>, inputs: &[Vec<A::Token>], stand: &mut Stand<A>)
     requires net { IsNet A.steps net.now }
     requires stand { IsStand A.steps net.now (lists inputs.now) stand.old }
     requires can { CanFire A.steps net.now stand.old }
@@ -163,7 +163,11 @@ pub fn fire_one<A: Actor>(net: &Net<A>, inputs: &[Vec<A::Token>], stand: &mut St
 }
 
 /// Whether the next firing is known to be possible.
-pub fn is_ready<A: Actor>(net: &Net<A>, inputs: &[Vec<A::Token>], stand: &mut Stand<A>) -> bool
+pub(crate) fn is_ready<A: Actor>(
+    net: &Net<A>,
+    inputs: &[Vec<A::Token>],
+    stand: &mut Stand<A>,
+) -> bool
     requires { IsStand A.steps net.now (lists inputs.now) stand.old }
     ensures stand { IsStand A.steps net.now (lists inputs.now) stand.new }
     ensures moved { HasMoved A.steps net.now stand.old stand.new }

@@ -15,7 +15,7 @@ ghost use Rattle.sdf_answer.specs.Rows.{IsTableOf};
 ghost use Rattle.sdf_node.specs.Kept.{kept_of};
 
 use crate::collect::collect;
-use crate::rows::{Plan, fire, rounds_of};
+use crate::fired::{Plan, fire, rounds_of};
 use sdf_actor::{Actor, Begun, Net, Rest};
 use sdf_answer::inputs::{are_inputs, first_sample};
 use sdf_answer::laws::{begun_nets_go_on, histories_make_runs, net_facts, nets_have_periods};

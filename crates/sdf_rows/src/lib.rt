@@ -1,13 +1,14 @@
 //! Runs of nets by the rows of a table: all firings of a row at once.
 //!
-//! It stands on `sdf_answer`, `sdf_graph`, `sdf_sched`, `sdf_prec`, `sdf_actor` and `sdf_node`. Begin at `rows`, the
-//! runner, then `runs`, its rows and blocks, `stage`, one row, `job`, its firings at once, and `collect`, the lists
-//! that sinks made; `feed`, a run that another one goes on from. What a row is between two others is in
-//! `specs/Stands.antt`.
+//! It stands on `sdf_answer`, `sdf_graph`, `sdf_sched`, `sdf_prec`, `sdf_actor` and `sdf_node`. Begin at `feed`, a
+//! run and what it leaves, from which another one goes on; `rows` gives the run alone. Then `fired`, its blocks,
+//! `runs`, their rows, `stage`, one row, `job`, its firings at once, and `collect`, the lists that sinks made. What a
+//! row is between two others is in `specs/Stands.antt`.
 #![tactic(auto)]
 
 mod collect;
 pub mod feed;
+mod fired;
 mod job;
 pub mod rows;
 mod runs;

@@ -13,7 +13,7 @@ ghost use Rattle.sdf_answer.specs.Feeds.{HasRun, GoesOnBy};
 ghost use Rattle.sdf_answer.specs.Lists.{AreEmpty};
 ghost use Rattle.sdf_run.specs.Fired.{state_in};
 
-use crate::one::fired;
+use crate::fired::fired;
 use crate::work::Work;
 use sdf_actor::{Actor, Begun, Net, Rest};
 use sdf_answer::inputs::{are_inputs, first_sample};

@@ -1,13 +1,15 @@
 //! Runs of nets.
 //!
 //! It stands on `sdf_answer`, `sdf_rows`, `sdf_rings`, `sdf_graph`, `sdf_sched`, `sdf_prec`, `sdf_actor` and
-//! `sdf_node`. Begin at `one`, the runner on one thread, then `run`, what it holds, `work`, a node at work, and
-//! `block`, the blocks of its firings; `feed`, a run that another one goes on from; `session`, a run that is fed in
-//! pieces, by rows (`sdf_rows`) or over rings (`sdf_rings`). What all runners are given and give is in `sdf_answer`.
+//! `sdf_node`. Begin at `feed`, a run on one thread and what it leaves, from which another one goes on; `one` gives
+//! the run alone. Then `fired`, its firings, `run`, what it holds, `work`, a node at work, and `block`, the blocks of
+//! its firings; `session`, a run that is fed in pieces, by rows (`sdf_rows`) or over rings (`sdf_rings`). What all
+//! runners are given and give is in `sdf_answer`.
 #![tactic(auto)]
 
 mod block;
 pub mod feed;
+mod fired;
 pub mod mode;
 pub mod one;
 mod run;

@@ -6,7 +6,7 @@ use Rattle.clap.specs.declared.error.kind.ErrorKind.TheVariants.{OutOfMemory}
 use Rattle.sdf_words.specs.declared.options.TheConstants.{MOST_FAULT}
 use Rattle.sdf_words.specs.declared.options.Options.{Options}
 use Rattle.sdf_words.specs.declared.options.Words.{Words}
-use Rattle.sdf_words.specs.declared.options.Words.TheVariants.{Check, Schedule, Run, Explain}
+use Rattle.sdf_words.specs.declared.options.Words.TheVariants.{Check, Schedule, Run, Kinds, Explain}
 use Rattle.sdf_words.specs.declared.command_line.WordFault.{WordFault}
 use Rattle.sdf_words.specs.declared.command_line.WordFault.TheVariants as fault
 
@@ -21,6 +21,7 @@ abbrev pub IsWithinLimits : Words → Type 0
 IsWithinLimits (Check graph) = Unit {0}
 IsWithinLimits (Schedule graph options) = AreWithinLimits options
 IsWithinLimits (Run graph input output options) = AreWithinLimits options
+IsWithinLimits Kinds = Unit {0}
 IsWithinLimits (Explain number) = (1 ≤ number) × (number ≤ MOST_FAULT)
 
 -- a mistake of usage is never a refused allocation

@@ -138,6 +138,7 @@ fn asked<'a>(name: &str, matches: &ArgMatches<'a>) -> Option<Words<'a>>
         }),
         "schedule" => schedule_of(matches),
         "run" => run_of(matches),
+        "kinds" => Some(Words::Kinds),
         "explain" => Some(Words::Explain {
             number: number_of(matches, "NUMBER", 1, MOST_FAULT)?,
         }),

@@ -1,10 +1,11 @@
-//! The commands, and what each takes: tables that the parser is made of.
+//! The commands: the parser is made of the rows of their table.
 
-use crate::options::{MOST_FAULT, PLACEMENT_WORDS, POLICY_WORDS, RUNNER_WORDS};
+mod table;
+
 use clap::builder::ValueParser;
 use clap::{Arg, Command};
-use sdf_limits::{MOST_BLOCKING, MOST_PATIENCE, MOST_WORKERS};
 use std::alloc::{AllocError, Global};
+use table::{COMMANDS, EXAMPLES};
 
 /// What a value has to be.
 #[derive(Clone, Copy)]
@@ -17,11 +18,12 @@ enum Values {
     OneOf(&'static [&'static str]),
 }
 
-/// What a command is given by its place.
+/// What a command is given by its place. `help` is what `-h` says of it and `more` what `--help` does, here and below.
 #[derive(Clone, Copy)]
 struct Place {
     name: &'static str,
     help: &'static str,
+    more: &'static str,
     values: Values,
 }
 
@@ -31,117 +33,21 @@ struct Choice {
     name: &'static str,
     value_name: &'static str,
     help: &'static str,
+    more: &'static str,
     values: Values,
     default: &'static str,
 }
 
-/// A command, what it is given by place, and what by name.
+/// A command, what it is given by place, and what by name. Its help ends with the examples.
 #[derive(Clone, Copy)]
 struct Row {
     name: &'static str,
-    about: &'static str,
+    help: &'static str,
+    more: &'static str,
     places: &'static [Place],
     choices: &'static [Choice],
+    examples: &'static str,
 }
-
-const GRAPH: Place = Place {
-    name: "GRAPH",
-    help: "The graph file",
-    values: Values::Text,
-};
-
-const IN: Place = Place {
-    name: "IN",
-    help: "The WAV file to read",
-    values: Values::Text,
-};
-
-const OUT: Place = Place {
-    name: "OUT",
-    help: "The WAV file to write, none that is read",
-    values: Values::Text,
-};
-
-const NUMBER: Place = Place {
-    name: "NUMBER",
-    help: "The number of a fault, 1 to 63, or its name",
-    values: Values::Signed(1, MOST_FAULT as i64),
-};
-
-const BLOCKING: Choice = Choice {
-    name: "blocking",
-    value_name: "J",
-    help: "Periods in a block, 1 to 64",
-    values: Values::Signed(1, MOST_BLOCKING as i64),
-    default: "1",
-};
-
-const WORKERS: Choice = Choice {
-    name: "workers",
-    value_name: "M",
-    help: "Workers, 1 to 16",
-    values: Values::Unsigned(1, MOST_WORKERS as u64),
-    default: "1",
-};
-
-const POLICY: Choice = Choice {
-    name: "policy",
-    value_name: "P",
-    help: "Which actor fires next",
-    values: Values::OneOf(POLICY_WORDS),
-    default: "round",
-};
-
-const PLACEMENT: Choice = Choice {
-    name: "placement",
-    value_name: "L",
-    help: "How firings come to workers",
-    values: Values::OneOf(PLACEMENT_WORDS),
-    default: "homed",
-};
-
-const RUNNER: Choice = Choice {
-    name: "runner",
-    value_name: "R",
-    help: "How firings are run",
-    values: Values::OneOf(RUNNER_WORDS),
-    default: "one",
-};
-
-const PATIENCE: Choice = Choice {
-    name: "patience",
-    value_name: "T",
-    help: "Repeated tests in a round, at most 1000000",
-    values: Values::Signed(0, MOST_PATIENCE as i64),
-    default: "1000",
-};
-
-static COMMANDS: [Row; 4] = [
-    Row {
-        name: "check",
-        about: "Checks a graph file and prints its period",
-        places: &[GRAPH],
-        choices: &[],
-    },
-    Row {
-        name: "schedule",
-        about: "Prints a schedule of a graph file for some workers",
-        places: &[GRAPH],
-        choices: &[BLOCKING, WORKERS, POLICY, PLACEMENT],
-    },
-    Row {
-        name: "run",
-        about: "Processes a WAV file",
-        places: &[GRAPH, IN, OUT],
-        choices: &[BLOCKING, WORKERS, POLICY, PLACEMENT, RUNNER, PATIENCE],
-    },
-    Row {
-        name: "explain",
-        about: "Says what a fault means and what to do about it",
-        places: &[NUMBER],
-        choices: &[],
-    },
-];
 
 fn parser_of<'a>(values: Values) -> ValueParser<'a> {
     match values {
@@ -156,6 +62,7 @@ fn argument<'a>(alloc: Global, place: Place) -> Arg<'a> {
     Arg::new(alloc, place.name)
         .required(true)
         .help(place.help)
+        .long_help(place.more)
         .value_parser(parser_of(place.values))
 }
 
@@ -164,6 +71,7 @@ fn option<'a>(alloc: Global, choice: Choice) -> Arg<'a> {
         .long(choice.name)
         .value_name(choice.value_name)
         .help(choice.help)
+        .long_help(choice.more)
         .value_parser(parser_of(choice.values))
         .default_value(choice.default)
 }
@@ -191,7 +99,10 @@ fn with_choices<'a>(
 }
 
 fn command_of<'a>(alloc: Global, row: Row) -> Result<Command<'a>, AllocError> {
-    let command = Command::new(alloc, row.name).about(row.about);
+    let command = Command::new(alloc, row.name)
+        .about(row.help)
+        .long_about(row.more)
+        .after_help(row.examples);
     with_choices(alloc, with_places(alloc, command, row.places)?, row.choices)
 }
 
@@ -200,8 +111,8 @@ pub(crate) fn sdfw_command<'a>(alloc: Global) -> Result<Command<'a>, AllocError>
     let mut command = Command::new(alloc, "sdfw")
         .about("A workbench for synchronous dataflow graphs over WAV files")
         .version("0.1.0")
-        .subcommand_required(true)
-        .disable_help_subcommand(true);
+        .after_help(EXAMPLES)
+        .subcommand_required(true);
     for row in &COMMANDS {
         command = command.subcommand(command_of(alloc, *row)?)?;
     }

@@ -94,6 +94,8 @@ pub enum Words<'a> {
         output: &'a str,
         options: Options,
     },
+    /// The table of kinds.
+    Kinds,
     /// What a fault is, by its number, 1 to 63.
     Explain {
         number: u32,

@@ -1,5 +1,6 @@
 //! What a run would destroy: OUT is emptied before IN is read, so it may be no file that the run reads.
 
+use crate::program::STANDARD;
 use crate::storage::Storage;
 use sdf_process::Fault;
 use sdf_words::mistake;
@@ -52,7 +53,8 @@ fn keep_coefficients<S: Storage>(
     Ok(())
 }
 
-/// Refuses an OUT that is the same file as IN, GRAPH or one of the coefficient files that `names` has.
+/// Refuses an OUT that is the same file as IN, GRAPH or one of the coefficient files that `names` has. Standard input
+/// and standard output are no files here.
 pub(crate) fn keep_what_is_read<S: Storage>(
     alloc: Global,
     storage: &S,
@@ -61,10 +63,13 @@ pub(crate) fn keep_what_is_read<S: Storage>(
     input: &str,
     output: &str,
 ) -> Result<(), Fault> {
+    if output == STANDARD {
+        return Ok(());
+    }
     let Some(out) = only_path(alloc, storage, output)? else {
         return Ok(());
     };
-    if leads_to(alloc, storage, input, out.as_str())? {
+    if input != STANDARD && leads_to(alloc, storage, input, out.as_str())? {
         return Err(same_file(alloc, "IN"));
     }
     if leads_to(alloc, storage, graph, out.as_str())? {

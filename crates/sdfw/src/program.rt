@@ -1,22 +1,27 @@
 //! What the program does for each command.
 
 ghost use Rattle.std.specs.Prelude.{◌≡◌, ◌⊎◌};
+ghost use Rattle.sdf_process.specs.Plans.{Suits};
 ghost use Rattle.sdf_process.specs.Statuses.{status_of};
 ghost use Rattle.sdf_process.specs.declared.fault.Fault.TheVariants.{OutOfMemory};
 
 use crate::files::{Loaded, device_fault, load};
 use crate::overwriting::keep_what_is_read;
 use crate::storage::Storage;
-use sdf_file::check_text;
+use sdf_document::kinds_text;
+use sdf_file::{Design, check_text};
 use sdf_process::planning::plan;
 use sdf_process::process::process;
 use sdf_process::schedule::schedule;
-use sdf_process::{Fault, fault_text, status};
+use sdf_process::{Fault, Plan, fault_text, status};
 use sdf_wav::{FromRead, ToWrite};
 use sdf_words::{Options, WordFault, Words, explained, words};
 use std::alloc::{AllocError, Global};
-use std::io::Write;
+use std::io::{Read, Write};
 use std::thread::Threads;
+
+/// The word that names standard input in the place of IN, and standard output in that of OUT.
+pub(crate) const STANDARD: &str = "-";
 
 /// What commands are done with. The threads are for a run with workers, and bring the memory.
 #[derive_where(Clone, Copy)]
@@ -61,39 +66,86 @@ fn print_schedule<S: Storage, T: AllocGlobal, O: Write>(
     show(out, text.as_str())
 }
 
-/// Runs a design on a WAV file. OUT is made or emptied once the plan stands, IN is open, and none of the files that
-/// are read is OUT.
-fn run<S: Storage, T: Threads + AllocGlobal + Sync>(
-    world: &World<S, T>,
-    graph: &str,
-    input: &str,
-    output: &str,
-    options: &Options,
-) -> Result<(), Fault> {
-    let alloc = world.threads.alloc();
-    let Loaded { design, names } = load(alloc, world.storage, graph, world.most)?;
-    let plan = plan(alloc, &design, options)?;
-    let from = match world.storage.open(input) {
-        Ok(file) => file,
-        Err(error) => return Err(device_fault(&error, Fault::Read)),
-    };
-    keep_what_is_read(alloc, world.storage, graph, &names, input, output)?;
-    let to = match world.storage.create(output) {
-        Ok(file) => file,
-        Err(error) => return Err(device_fault(&error, Fault::Write)),
-    };
+/// What a run reads and writes, by their paths.
+#[derive(Clone, Copy)]
+struct Paths<'a> {
+    graph: &'a str,
+    input: &'a str,
+    output: &'a str,
+}
+
+/// Runs a plan from the first byte of one stream to the last of another.
+fn run_between<T: Threads + AllocGlobal + Sync, R: Read + Drop, W: Write + Drop>(
+    threads: &T,
+    from: R,
+    to: W,
+    design: &Design,
+    plan: &Plan,
+) -> Result<(), Fault>
+    requires { Suits design.now.net plan.now }
+{
     process(
-        world.threads,
+        threads,
         &mut FromRead::new(from),
         &mut ToWrite::new(to),
-        &design,
-        &plan,
+        design,
+        plan,
     )
 }
 
-/// Does what the words ask for, of which the first is the program's name.
-fn obey<S: Storage, T: Threads + AllocGlobal + Sync, O: Write>(
+/// Runs a plan on a stream that is open. OUT is made or emptied where none of the files that are read is OUT.
+fn run_from<S: Storage, T: Threads + AllocGlobal + Sync, R: Read + Drop, O: Write>(
     world: &World<S, T>,
+    from: R,
+    out: &mut O,
+    paths: Paths<'_>,
+    loaded: &Loaded,
+    plan: &Plan,
+) -> Result<(), Fault>
+    requires { Suits loaded.now.design.net plan.now }
+{
+    keep_what_is_read(
+        world.threads.alloc(),
+        world.storage,
+        paths.graph,
+        &loaded.names,
+        paths.input,
+        paths.output,
+    )?;
+    if paths.output == STANDARD {
+        return run_between(world.threads, from, out, &loaded.design, plan);
+    }
+    match world.storage.create(paths.output) {
+        Ok(to) => run_between(world.threads, from, to, &loaded.design, plan),
+        Err(error) => Err(device_fault(&error, Fault::Write)),
+    }
+}
+
+/// Runs a design on a WAV file. OUT is made or emptied once the plan stands, IN is open, and none of the files that
+/// are read is OUT.
+fn run<S: Storage, T: Threads + AllocGlobal + Sync, I: Read, O: Write>(
+    world: &World<S, T>,
+    stdin: &mut I,
+    out: &mut O,
+    paths: Paths<'_>,
+    options: &Options,
+) -> Result<(), Fault> {
+    let alloc = world.threads.alloc();
+    let loaded = load(alloc, world.storage, paths.graph, world.most)?;
+    let plan = plan(alloc, &loaded.design, options)?;
+    if paths.input == STANDARD {
+        return run_from(world, stdin, out, paths, &loaded, &plan);
+    }
+    match world.storage.open(paths.input) {
+        Ok(from) => run_from(world, from, out, paths, &loaded, &plan),
+        Err(error) => Err(device_fault(&error, Fault::Read)),
+    }
+}
+
+/// Does what the words ask for, of which the first is the program's name.
+fn obey<S: Storage, T: Threads + AllocGlobal + Sync, I: Read, O: Write>(
+    world: &World<S, T>,
+    stdin: &mut I,
     out: &mut O,
     line: &[&str],
 ) -> Result<(), Fault> {
@@ -108,7 +160,15 @@ fn obey<S: Storage, T: Threads + AllocGlobal + Sync, O: Write>(
                 output,
                 options,
             },
-        ) => run(world, graph, input, output, &options),
+        ) => {
+            let paths = Paths {
+                graph,
+                input,
+                output,
+            };
+            run(world, stdin, out, paths, &options)
+        }
+        Ok(Words::Kinds) => show(out, kinds_text(alloc)?.as_str()),
         Ok(Words::Explain { number }) => show(out, explained(alloc, number)?.as_str()),
         // Help or the version is an answer.
         Err(WordFault::Usage(told)) if !told.use_stderr() => {
@@ -143,8 +203,9 @@ fn tell<E: Write>(alloc: Global, err: &mut E, fault: &Fault) -> u8
 }
 
 /// Does what the program was started for, if its words could be read.
-fn answer<S: Storage, T: Threads + AllocGlobal + Sync, O: Write>(
+fn answer<S: Storage, T: Threads + AllocGlobal + Sync, I: Read, O: Write>(
     world: &World<S, T>,
+    stdin: &mut I,
     out: &mut O,
     given: Result<Vec<String>, WordFault>,
 ) -> Result<(), Fault> {
@@ -153,18 +214,19 @@ fn answer<S: Storage, T: Threads + AllocGlobal + Sync, O: Write>(
     for word in &given {
         line.push(word.as_str())?;
     }
-    obey(world, out, line.as_slice())
+    obey(world, stdin, out, line.as_slice())
 }
 
-/// The whole program: what it was started with and what it works on come in, what it prints and its exit status come
-/// out.
-pub(crate) fn serve<S: Storage, T: Threads + AllocGlobal + Sync, O: Write, E: Write>(
+/// The whole program: what it was started with, what it works on and standard input come in, what it prints and
+/// its exit status come out.
+pub(crate) fn serve<S: Storage, T: Threads + AllocGlobal + Sync, I: Read, O: Write, E: Write>(
     world: &World<S, T>,
+    stdin: &mut I,
     out: &mut O,
     err: &mut E,
     given: Result<Vec<String>, WordFault>,
 ) -> u8 {
-    match answer(world, out, given) {
+    match answer(world, stdin, out, given) {
         Ok(()) => 0,
         Err(fault) => tell(world.threads.alloc(), err, &fault),
     }

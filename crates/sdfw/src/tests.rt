@@ -3,4 +3,6 @@
 mod files;
 mod overwriting;
 mod refused;
+mod shelf;
+mod standard;
 mod streams;

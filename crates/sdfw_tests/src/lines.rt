@@ -44,6 +44,7 @@ fn keys_forge_no_lines(rt: HostRuntime) -> Result<(), Fail> {
     Ok(())
 }
 
+/// Actors in one line, or without their short links, are refused here.
 #[test]
 fn deadlocks_keep_their_lines(rt: HostRuntime) -> Result<(), Fail> {
     let alloc = rt.alloc();

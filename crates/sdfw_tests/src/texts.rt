@@ -322,6 +322,7 @@ fn documents(alloc: Global) -> Result<Vec<(DocumentFault, &'static str)>, Fail> 
     )?)
 }
 
+/// A fault without its line's end, or with another's number, is refused here.
 #[test]
 fn each_fault_has_its_line(rt: HostRuntime) -> Result<(), Fail> {
     let alloc = rt.alloc();

@@ -146,6 +146,10 @@ fn commands_have_their_arguments(rt: HostRuntime) -> Result<(), Fail> {
         }
         Err(_) => assert!(rt; false),
     }
+    match words(alloc, &["sdfw", "kinds"]) {
+        Ok(read) => assert_eq!(rt; read, Words::Kinds),
+        Err(_) => assert!(rt; false),
+    }
     for (word, number) in [("1", 1), ("10", 10), ("63", 63)] {
         match words(alloc, &["sdfw", "explain", word]) {
             Ok(read) => assert_eq!(rt; read, Words::Explain { number }),
@@ -184,6 +188,8 @@ fn mistakes_are_usage(rt: HostRuntime) {
     assert_eq!(rt; refused(&rt, alloc, &["sdfw", "check"]), 2);
     assert_eq!(rt; refused(&rt, alloc, &["sdfw", "run", "g", "i"]), 2);
     assert_eq!(rt; refused(&rt, alloc, &["sdfw", "explain"]), 2);
+    assert_eq!(rt; refused(&rt, alloc, &["sdfw", "kinds", "fir"]), 2);
+    assert_eq!(rt; refused(&rt, alloc, &["sdfw", "help", "play"]), 2);
 }
 
 #[test]
@@ -191,5 +197,7 @@ fn help_is_no_mistake(rt: HostRuntime) {
     let alloc = rt.alloc();
     assert_eq!(rt; refused(&rt, alloc, &["sdfw", "--help"]), 0);
     assert_eq!(rt; refused(&rt, alloc, &["sdfw", "run", "-h"]), 0);
+    assert_eq!(rt; refused(&rt, alloc, &["sdfw", "help"]), 0);
+    assert_eq!(rt; refused(&rt, alloc, &["sdfw", "help", "run"]), 0);
     assert_eq!(rt; refused(&rt, alloc, &["sdfw", "--version"]), 0);
 }

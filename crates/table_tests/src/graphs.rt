@@ -1,6 +1,14 @@
-//! The graphs of the tests.
+//! The graphs of the tests, their periods and the costs of their firings.
+
+ghost use Rattle.std.specs.Prelude.{IfOk};
+ghost use Rattle.sdf_graph.specs.Rates.{rates};
+ghost use Rattle.sdf_sched.specs.Period.{IsPeriodOf};
+ghost use Rattle.sdf_prec.specs.Costs.{AreCosts};
 
 use sdf_graph::Graph;
+use sdf_prec::Costs;
+use sdf_sched::class_s::class_s;
+use sdf_sched::{Period, Round};
 use std::alloc::Global;
 use std::test::Fail;
 use test_actors::graphs::{Row, graph};
@@ -37,4 +45,19 @@ pub(crate) fn longer_fork(alloc: Global) -> Result<Graph, Fail> {
         7,
         &[(0, 1), (1, 2), (1, 3), (2, 5), (3, 4), (4, 5), (5, 6)],
     )
+}
+
+/// A period of a graph, its actors in rounds.
+pub(crate) fn period_of(alloc: Global, graph: &Graph) -> Result<Period, Fail>
+    ensures { IfOk result (IsPeriodOf (rates graph.now)) }
+{
+    let reps = graph.repetitions(alloc)?;
+    Ok(class_s(alloc, graph, &reps, &mut Round::new())?)
+}
+
+/// What a firing of each actor costs.
+pub(crate) fn costs_of(alloc: Global, graph: &Graph, costs: &[u32]) -> Result<Costs, Fail>
+    ensures { IfOk result (AreCosts graph.now.actors) }
+{
+    Ok(Costs::new(graph, Vec::from_slice(alloc, costs)?)?)
 }

@@ -4,17 +4,16 @@ ghost use Rattle.std.specs.Prelude.{IfOk};
 ghost use Rattle.sdf_graph.specs.Rates.{rates};
 ghost use Rattle.sdf_prec.specs.Tables.{IsExact};
 
-use crate::graphs::{fork, longer_fork, pair};
+use crate::graphs::{costs_of, fork, longer_fork, pair, period_of};
 use sdf_graph::Graph;
 use sdf_prec::hu::hu;
 use sdf_prec::{Costs, PrecFault, Table};
-use sdf_sched::Round;
-use sdf_sched::class_s::class_s;
 use std::alloc::Global;
+use std::process::Abort;
 use std::test::Fail;
 
 /// The table of one period, or of more.
-fn table(
+pub(crate) fn table(
     alloc: Global,
     graph: &Graph,
     j: u32,
@@ -24,10 +23,16 @@ fn table(
 ) -> Result<Table, Fail>
     ensures { IfOk result (IsExact (rates graph.now)) }
 {
-    let reps = graph.repetitions(alloc)?;
-    let period = class_s(alloc, graph, &reps, &mut Round::new())?;
-    let costs = Costs::new(graph, Vec::from_slice(alloc, costs)?)?;
+    let costs = costs_of(alloc, graph, costs)?;
+    let period = period_of(alloc, graph)?;
     Ok(hu(alloc, graph, &period, j, m, homed, &costs)?)
+}
+
+/// The fault of a table of one period for so many workers, whose firings each cost 1.
+fn refused(alloc: Global, graph: &Graph, m: usize) -> Result<Option<PrecFault>, Fail> {
+    let costs = Costs::unit(alloc, graph)?;
+    let period = period_of(alloc, graph)?;
+    Ok(hu(alloc, graph, &period, 1, m, true, &costs).err())
 }
 
 /// The cells, row by row, each as its actor, and 9 where nothing stands.
@@ -54,23 +59,45 @@ fn cap_of(graph: &Graph, table: &Table) -> u64
     table.cap(0)
 }
 
+/// The rows of a table, and the capacity of channel 0.
+fn size(
+    alloc: Global,
+    graph: &Graph,
+    j: u32,
+    m: usize,
+    homed: bool,
+    costs: &[u32],
+) -> Result<(usize, u64), Fail> {
+    let table = table(alloc, graph, j, m, homed, costs)?;
+    Ok((table.rows(), cap_of(graph, &table)))
+}
+
+/// The cells of a table of one period for two workers.
+fn cells(alloc: Global, graph: &Graph, homed: bool, costs: &[u32]) -> Result<Vec<usize>, Fail> {
+    let table = table(alloc, graph, 1, 2, homed, costs)?;
+    Ok(actors_of(alloc, &table)?)
+}
+
+/// Whether they are these.
+fn fills(
+    rt: &(impl Abort + AllocGlobal),
+    graph: &Graph,
+    homed: bool,
+    costs: &[u32],
+    expected: &[usize],
+) -> Result<(), Fail> {
+    let cells = cells(rt.alloc(), graph, homed, costs)?;
+    assert_eq!(rt; cells.as_slice(), expected);
+    Ok(())
+}
+
 #[test]
 fn fills_rows(rt: HostRuntime) -> Result<(), Fail> {
-    let alloc = rt.alloc();
-    let graph = pair(alloc, &[2], &[3], 0)?;
-    let homed = table(alloc, &graph, 1, 2, true, &[1, 1])?;
-    assert_eq!(rt;
-        actors_of(alloc, &homed)?.as_slice(),
-        [0, 9, 0, 9, 0, 1, 9, 1].as_slice()
-    );
-    assert_eq!(rt; cap_of(&graph, &homed), 6);
-    let free = table(alloc, &graph, 1, 2, false, &[1, 1])?;
-    assert_eq!(rt;
-        actors_of(alloc, &free)?.as_slice(),
-        [0, 9, 0, 9, 0, 1, 1, 9].as_slice()
-    );
-    let twice = table(alloc, &graph, 2, 2, true, &[1, 1])?;
-    assert_eq!(rt; (twice.rows(), cap_of(&graph, &twice)), (7, 6));
+    let graph = pair(rt.alloc(), &[2], &[3], 0)?;
+    fills(&rt, &graph, true, &[1, 1], &[0, 9, 0, 9, 0, 1, 9, 1])?;
+    fills(&rt, &graph, false, &[1, 1], &[0, 9, 0, 9, 0, 1, 1, 9])?;
+    assert_eq!(rt; size(rt.alloc(), &graph, 1, 2, true, &[1, 1])?, (4, 6));
+    assert_eq!(rt; size(rt.alloc(), &graph, 2, 2, true, &[1, 1])?, (7, 6));
     Ok(())
 }
 
@@ -78,37 +105,31 @@ fn fills_rows(rt: HostRuntime) -> Result<(), Fail> {
 fn columns_have_a_limit(rt: HostRuntime) -> Result<(), Fail> {
     let alloc = rt.alloc();
     let graph = pair(alloc, &[2], &[3], 0)?;
-    let reps = graph.repetitions(alloc)?;
-    let period = class_s(alloc, &graph, &reps, &mut Round::new())?;
-    let costs = Costs::unit(alloc, &graph)?;
-    let refused = hu(alloc, &graph, &period, 1, 17, true, &costs);
-    assert!(rt; matches!(refused, Err(PrecFault::WorkerCount)));
+    assert_eq!(rt; refused(alloc, &graph, 17)?, Some(PrecFault::WorkerCount));
     Ok(())
 }
 
 #[test]
 fn weighs_costs(rt: HostRuntime) -> Result<(), Fail> {
-    let alloc = rt.alloc();
-    let short = table(alloc, &fork(alloc)?, 1, 2, true, &[1, 1, 1, 1, 1, 1])?;
-    assert_eq!(rt;
-        actors_of(alloc, &short)?.as_slice(),
-        [0, 9, 9, 1, 2, 3, 4, 9, 9, 5].as_slice()
-    );
-    let graph = longer_fork(alloc)?;
-    let even = table(alloc, &graph, 1, 2, true, &[1, 1, 1, 1, 1, 1, 1])?;
-    assert_eq!(rt;
-        actors_of(alloc, &even)?.as_slice(),
-        [0, 9, 9, 1, 3, 2, 4, 9, 9, 5, 6, 9].as_slice()
-    );
-    let dear = table(alloc, &graph, 1, 2, true, &[1, 1, 3, 1, 1, 1, 1])?;
-    assert_eq!(rt;
-        actors_of(alloc, &dear)?.as_slice(),
-        [0, 9, 9, 1, 2, 3, 9, 4, 9, 5, 6, 9].as_slice()
-    );
-    let dearer = table(alloc, &graph, 1, 2, true, &[1, 4, 3, 1, 1, 1, 1])?;
-    assert_eq!(rt;
-        actors_of(alloc, &dearer)?.as_slice(),
-        [0, 9, 9, 1, 2, 3, 9, 4, 5, 9, 6, 9].as_slice()
-    );
+    let short = fork(rt.alloc())?;
+    fills(
+        &rt,
+        &short,
+        true,
+        &[1, 1, 1, 1, 1, 1],
+        &[0, 9, 9, 1, 2, 3, 4, 9, 9, 5],
+    )
+}
+
+#[test]
+fn weighs_costs_of_ways(rt: HostRuntime) -> Result<(), Fail> {
+    let graph = longer_fork(rt.alloc())?;
+    for (costs, expected) in [
+        ([1, 1, 1, 1, 1, 1, 1], [0, 9, 9, 1, 3, 2, 4, 9, 9, 5, 6, 9]),
+        ([1, 1, 3, 1, 1, 1, 1], [0, 9, 9, 1, 2, 3, 9, 4, 9, 5, 6, 9]),
+        ([1, 4, 3, 1, 1, 1, 1], [0, 9, 9, 1, 2, 3, 9, 4, 5, 9, 6, 9]),
+    ] {
+        fills(&rt, &graph, true, &costs, &expected)?;
+    }
     Ok(())
 }

@@ -4,13 +4,12 @@
 ghost use Rattle.std.specs.Prelude.{◌≡◌};
 ghost use Rattle.sdf_prec.specs.Blocks.{block};
 
-use crate::graphs::{fork, longer_fork, pair};
+use crate::graphs::{costs_of, fork, longer_fork, pair, period_of};
 use sdf_graph::Graph;
 use sdf_prec::levels::levels;
 use sdf_prec::{Costs, Firing, Levels, PrecFault, needed};
-use sdf_sched::Round;
-use sdf_sched::class_s::class_s;
-use std::alloc::Global;
+use std::alloc::{AllocError, Global};
+use std::process::Abort;
 use std::test::Fail;
 use test_actors::graphs::graph;
 
@@ -48,55 +47,74 @@ fn level(of: &Levels, times: &[u32], actor: usize, number: u32) -> u64
 }
 
 /// The level of each actor's firing with a number, and 0 where it has none.
-fn levels_of(alloc: Global, graph: &Graph, costs: &[u32], number: u32) -> Result<Vec<u64>, Fail> {
-    let reps = graph.repetitions(alloc)?;
-    let period = class_s(alloc, graph, &reps, &mut Round::new())?;
-    let costs = Costs::new(graph, Vec::from_slice(alloc, costs)?)?;
-    let of = levels(alloc, graph, &period, 1, &costs)?;
+fn numbered(alloc: Global, of: &Levels, times: &[u32], number: u32) -> Result<Vec<u64>, AllocError>
+    requires { of.now.firings ≡ block 1 times.now }
+{
     let mut found = Vec::new(alloc);
-    for actor in 0..graph.actors() {
-        found.push(level(&of, period.repetitions(), actor, number))?;
+    for actor in 0..times.len() {
+        found.push(level(of, times, actor, number))?;
     }
     Ok(found)
 }
 
+/// The same of a graph.
+fn levels_of(alloc: Global, graph: &Graph, costs: &[u32], number: u32) -> Result<Vec<u64>, Fail> {
+    let costs = costs_of(alloc, graph, costs)?;
+    let period = period_of(alloc, graph)?;
+    let of = levels(alloc, graph, &period, 1, &costs)?;
+    Ok(numbered(alloc, &of, period.repetitions(), number)?)
+}
+
+/// Whether they are these.
+fn has_levels(
+    rt: &(impl Abort + AllocGlobal),
+    graph: &Graph,
+    costs: &[u32],
+    number: u32,
+    expected: &[u64],
+) -> Result<(), Fail> {
+    let found = levels_of(rt.alloc(), graph, costs, number)?;
+    assert_eq!(rt; found.as_slice(), expected);
+    Ok(())
+}
+
 #[test]
 fn gives_levels(rt: HostRuntime) -> Result<(), Fail> {
-    let alloc = rt.alloc();
-    let graph = pair(alloc, &[2], &[3], 0)?;
+    let graph = pair(rt.alloc(), &[2], &[3], 0)?;
     for (number, even, dear) in [
         (0, [4, 2], [22, 20]),
         (1, [3, 1], [21, 10]),
         (2, [2, 0], [11, 0]),
     ] {
-        let of = levels_of(alloc, &graph, &[1, 1], number)?;
-        assert_eq!(rt; of.as_slice(), even.as_slice());
-        let of = levels_of(alloc, &graph, &[1, 10], number)?;
-        assert_eq!(rt; of.as_slice(), dear.as_slice());
+        has_levels(&rt, &graph, &[1, 1], number, &even)?;
+        has_levels(&rt, &graph, &[1, 10], number, &dear)?;
     }
     Ok(())
 }
 
 #[test]
 fn sums_costs_along_ways(rt: HostRuntime) -> Result<(), Fail> {
-    let alloc = rt.alloc();
-    let even = levels_of(alloc, &fork(alloc)?, &[1, 1, 1, 1, 1, 1], 0)?;
-    assert_eq!(rt; even.as_slice(), [5, 4, 3, 3, 2, 1].as_slice());
-    let graph = longer_fork(alloc)?;
-    let longer = levels_of(alloc, &graph, &[1, 1, 1, 1, 1, 1, 1], 0)?;
-    assert_eq!(rt; longer.as_slice(), [6, 5, 3, 4, 3, 2, 1].as_slice());
-    let dear = levels_of(alloc, &graph, &[1, 1, 3, 1, 1, 1, 1], 0)?;
-    assert_eq!(rt; dear.as_slice(), [7, 6, 5, 4, 3, 2, 1].as_slice());
-    let dearer = levels_of(alloc, &graph, &[1, 4, 3, 1, 1, 1, 1], 0)?;
-    assert_eq!(rt; dearer.as_slice(), [10, 9, 5, 4, 3, 2, 1].as_slice());
+    let even = fork(rt.alloc())?;
+    has_levels(&rt, &even, &[1, 1, 1, 1, 1, 1], 0, &[5, 4, 3, 3, 2, 1])
+}
+
+#[test]
+fn sums_costs_along_a_longer_way(rt: HostRuntime) -> Result<(), Fail> {
+    let graph = longer_fork(rt.alloc())?;
+    for (costs, expected) in [
+        ([1, 1, 1, 1, 1, 1, 1], [6, 5, 3, 4, 3, 2, 1]),
+        ([1, 1, 3, 1, 1, 1, 1], [7, 6, 5, 4, 3, 2, 1]),
+        ([1, 4, 3, 1, 1, 1, 1], [10, 9, 5, 4, 3, 2, 1]),
+    ] {
+        has_levels(&rt, &graph, &costs, 0, &expected)?;
+    }
     Ok(())
 }
 
 /// The fault of a block of some periods, whose firings each cost 1.
 fn fault_of(alloc: Global, graph: &Graph, j: u32) -> Result<Option<PrecFault>, Fail> {
-    let reps = graph.repetitions(alloc)?;
-    let period = class_s(alloc, graph, &reps, &mut Round::new())?;
     let costs = Costs::unit(alloc, graph)?;
+    let period = period_of(alloc, graph)?;
     Ok(levels(alloc, graph, &period, j, &costs).err())
 }
 
@@ -112,7 +130,7 @@ fn blocks_have_limits(rt: HostRuntime) -> Result<(), Fail> {
     let long = graph(
         alloc,
         3,
-        &[(0, &[255], &[1], 1, 0), (1, &[256], &[1], 2, 0)],
+        &[(0, &[128], &[1], 1, 0), (1, &[255], &[1], 2, 0)],
     )?;
     assert_eq!(rt; fault_of(alloc, &long, 2)?, Some(PrecFault::BlockTooLong));
     Ok(())

@@ -1,5 +1,5 @@
-//! What no clause says of tables: worked graphs, their levels, their tables by homes and by Hu's rule, and what `accept`
-//! refuses.
+//! What no clause says of tables: worked graphs, their levels, their tables by homes and by Hu's rule, and what
+//! `accept` refuses.
 //!
 //! It stands on `sdf_graph`, `sdf_sched`, `sdf_prec` and on `test_actors`, and has no functions: tests stand in a crate
 //! of their own, since the functions of a crate are proved once more with its tests. Begin at `graphs`, the graphs of
@@ -12,5 +12,7 @@ mod graphs;
 mod hu_rows;
 #[cfg(test)]
 mod levels;
+#[cfg(test)]
+mod limits;
 #[cfg(test)]
 mod tables;

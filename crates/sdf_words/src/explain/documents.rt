@@ -24,9 +24,9 @@ pub(super) static MEANINGS: [Meaning; 15] = [
         number: 51,
         name: "UnknownKey",
         place: "PLACE key K",
-        means: "A key does not belong there.",
-        limits: "the keys of the kind, `name`, `kind`, `processor` and `cost`",
-        remedy: "Take it away, or mend its spelling.",
+        means: "A key does not belong there, or it is `file` beside `taps` or `values`, in place of which it stands.",
+        limits: "the keys of the kind (`sdfw kinds`), `name`, `kind`, `processor` and `cost`",
+        remedy: "Take it away, or mend its spelling; of a list and `file` keep one.",
     },
     Meaning {
         number: 52,
@@ -66,7 +66,7 @@ pub(super) static MEANINGS: [Meaning; 15] = [
         place: "actor A",
         means: "No kind has this word, or `format = 1` has it not.",
         limits: "",
-        remedy: "Look the kinds up; `deal` and `gather` want `format = 2`.",
+        remedy: "Look the kinds up by `sdfw kinds`; `deal` and `gather` want `format = 2`.",
     },
     Meaning {
         number: 57,

@@ -82,7 +82,7 @@ pub(super) static MEANINGS: [Meaning; 12] = [
         place: "",
         means: "No sequence of firings completes a period: each actor that has not finished waits for samples. A line for each actor says how often it fired and its first link that holds too little.",
         limits: "",
-        remedy: "Give a link of each loop that is named initial samples (`initial = [0]`).",
+        remedy: "Give a link of each loop that is named initial samples: `initial = [0]`, or more zeros where its target takes several in a firing.",
     },
     Meaning {
         number: 11,

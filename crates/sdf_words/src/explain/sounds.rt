@@ -80,9 +80,9 @@ pub(super) static MEANINGS: [Meaning; 15] = [
         number: 43,
         name: "Truncated",
         place: "",
-        means: "The WAV file ends within one of its parts. OUT is left empty, or ends early too.",
+        means: "The WAV file is empty or ends within one of its parts. OUT is left empty, or ends early too.",
         limits: "",
-        remedy: "Get the whole file; a copy was cut off.",
+        remedy: "Get the whole file: a copy was cut off, or nothing was written to it.",
     },
     Meaning {
         number: 44,

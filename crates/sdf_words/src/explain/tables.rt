@@ -129,7 +129,7 @@ pub(super) static MEANINGS: [Meaning; 21] = [
         name: "KitValue",
         place: "PLACE key K",
         means: "A value is outside its limits, or a list is empty or too long.",
-        limits: "those of the key, in the table of kinds",
+        limits: "those of the key, as `sdfw kinds` lists them",
         remedy: "Change the value.",
     },
     Meaning {

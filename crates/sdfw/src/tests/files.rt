@@ -37,9 +37,11 @@ pub(super) fn folder(rt: &HostRuntime, name: &str) -> Result<String, Fail> {
     }
 }
 
-/// What the words print to `out`, and how they end: the exit status, and what stands on standard error.
-pub(super) fn ends_into<S: Storage, T: Threads + AllocGlobal + Sync, O: Write>(
+/// What the words print to `out` where this is standard input, and how they end: the exit status, and what stands on
+/// standard error.
+pub(super) fn ends_between<S: Storage, T: Threads + AllocGlobal + Sync, O: Write>(
     world: &World<S, T>,
+    mut stdin: &[u8],
     out: &mut O,
     line: &[&str],
 ) -> Result<(u8, String), Fail> {
@@ -49,8 +51,17 @@ pub(super) fn ends_into<S: Storage, T: Threads + AllocGlobal + Sync, O: Write>(
         given.push(format!(in alloc; "{word}")?)?;
     }
     let mut err = Vec::new(alloc);
-    let status = serve(world, out, &mut err, Ok(given));
+    let status = serve(world, &mut stdin, out, &mut err, Ok(given));
     Ok((status, String::from_utf8(err)?))
+}
+
+/// The same where standard input is empty.
+pub(super) fn ends_into<S: Storage, T: Threads + AllocGlobal + Sync, O: Write>(
+    world: &World<S, T>,
+    out: &mut O,
+    line: &[&str],
+) -> Result<(u8, String), Fail> {
+    ends_between(world, b"", out, line)
 }
 
 /// How a command over real files ends: its exit status, and what stands on standard error.
@@ -80,6 +91,7 @@ fn fails(
     Ok(())
 }
 
+/// A program that looks for coefficient files where it runs, and not beside GRAPH, is refused here.
 #[test]
 fn makes_out_from_in(rt: HostRuntime) -> Result<(), Fail> {
     let alloc = rt.alloc();
@@ -112,6 +124,7 @@ fn makes_out_from_in(rt: HostRuntime) -> Result<(), Fail> {
     Ok(())
 }
 
+/// A program that blames an OUT that can't be made on the reader is refused here.
 #[test]
 fn files_that_are_not_there(rt: HostRuntime) -> Result<(), Fail> {
     let alloc = rt.alloc();
@@ -169,6 +182,7 @@ fn files_that_are_not_there(rt: HostRuntime) -> Result<(), Fail> {
     )
 }
 
+/// A program that cuts a longer file is refused here.
 #[test]
 fn long_files_are_refused(rt: HostRuntime) -> Result<(), Fail> {
     let alloc = rt.alloc();

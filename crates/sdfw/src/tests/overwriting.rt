@@ -70,6 +70,7 @@ fn ends_at(
     ends(rt, rt, line.as_slice())
 }
 
+/// A program that makes OUT before it compares, or that keeps no coefficient file, is refused here.
 #[test]
 fn what_is_read_is_not_written(rt: HostRuntime) -> Result<(), Fail> {
     let alloc = rt.alloc();

@@ -222,13 +222,14 @@ fn refused_answers(rt: HostRuntime) -> Result<(), Fail> {
     fs::write(&rt, graph.as_str(), PLAIN)?;
     answer_is_refused(&rt, &["sdfw", "check", graph.as_str()])?;
     answer_is_refused(&rt, &["sdfw", "schedule", graph.as_str()])?;
+    answer_is_refused(&rt, &["sdfw", "kinds"])?;
     answer_is_refused(&rt, &["sdfw", "explain", "5"])?;
     answer_is_refused(&rt, &["sdfw", "--help"])?;
     answer_is_refused(&rt, &["sdfw", "run", "--help"])?;
     answer_is_refused(&rt, &["sdfw", "--version"])
 }
 
-/// A fault that can't be told has its status none the less.
+/// A fault that can't be told has its status none the less; a program that takes each for help is refused here.
 #[test]
 fn refused_faults(rt: HostRuntime) -> Result<(), Fail> {
     let alloc = rt.alloc();
@@ -242,8 +243,15 @@ fn refused_faults(rt: HostRuntime) -> Result<(), Fail> {
         let mut given = Vec::new(alloc);
         given.push(format!(in alloc; "sdfw")?)?;
         given.push(format!(in alloc; "{word}")?)?;
+        let mut stdin = b"".as_slice();
         let mut out = Vec::new(alloc);
-        let status = serve(&world, &mut out, &mut Closed { kind }, Ok(given));
+        let status = serve(
+            &world,
+            &mut stdin,
+            &mut out,
+            &mut Closed { kind },
+            Ok(given),
+        );
         assert_eq!(rt; (status, out.len()), (code, 0), "{word}");
     }
     Ok(())

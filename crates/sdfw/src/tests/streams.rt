@@ -1,132 +1,29 @@
 //! What the program prints, on which stream, and its exit status, over files in memory.
 
-use super::files::{FILTERED, PLAIN, SOUND, ends_into};
+use super::files::{FILTERED, ends_into};
+use super::shelf::{PADDED, Shelf, TAPS};
 use crate::files::MOST_BYTES;
 use crate::program::World;
-use crate::storage::Storage;
-use std::alloc::Global;
 use std::cell::RefCell;
-use std::io::{self, Error, ErrorKind, Write};
-use std::path::{Path, PathBuf};
 use std::process::Abort;
 use std::test::Fail;
 use std::thread::Threads;
 
-/// Two samples stand on the link, and each actor has a processor of its own.
-const BEGUN: &str = r#"format = 1
-actor = [{ name = "in", kind = "input", channel = 0, processor = 1 },
-    { name = "out", kind = "output", channel = 0, processor = 0 }]
-link = [{ from = "in", to = "out", initial = [7, 8] }]"#;
-
-/// Each end of the one link moves other numbers of samples.
-const BLOCKS: &str = r#"format = 1
-actor = [{ name = "in", kind = "input", channel = 0, block = 2 },
-    { name = "out", kind = "output", channel = 0, block = 3 }]
-link = [{ from = "in", to = "out" }]"#;
-
-/// A period of 2,047 firings.
-const LONG: &str = r#"format = 1
-actor = [{ name = "in", kind = "input", channel = 0, block = 1023 },
-    { name = "out", kind = "output", channel = 0, block = 1024 }]
-link = [{ from = "in", to = "out" }]"#;
-
-/// A loop on which no sample stands.
-const STUCK: &str = r#"format = 1
-actor = [{ name = "in", kind = "input", channel = 0 }, { name = "add", kind = "add", ways = 2 },
-    { name = "fork", kind = "fork", ways = 2 },
-    { name = "out", kind = "output", channel = 0 }]
-link = [{ from = "in", to = "add:0" }, { from = "add", to = "fork" },
-    { from = "fork:0", to = "out" }, { from = "fork:1", to = "add:1" }]"#;
-
-const TAPS: &str = "format = 1\nvalues = [1]\n";
-
-/// The same taps in a file that is longer than the graph file.
-const PADDED: &str = "format = 1
-# The taps of a filter that hands on what it takes: it has one tap, which is 1, and divides by nothing. What else is said
-# here makes the file longer than the graph file that names it, so that a limit can stand between the two: no graph file
-# of this test is as long as this one, which is read after it, and is refused where it is a byte longer than may be.
-# What is past the limit is not looked at, so it does not matter what would stand there.
-values = [1]
+/// The table of kinds of `docs/FORMATS.md`, and the keys that every actor may have.
+const KINDS: &str = "input: channel 0..7, block 1..1024 (1)
+output: channel 0..7, block 1..1024 (1)
+fir: up 1..64 (1), down 1..64 (1), shift 0..15, taps or file: 1..1024 values of -32768..32767
+decimate: factor 1..64
+interpolate: factor 1..64
+add: ways 2..16
+fork: ways 2..16
+gain: gain -32768..32767, shift 0..15
+delay: length 0..65536
+table: offset of 32 bits, values or file: 1..65536 values of 32 bits
+deal, format 2: ways 2..16, run 1..64 (1)
+gather, format 2: ways 2..16, run 1..64 (1)
+every kind: processor 0..15 or absent, cost 1..1000000 (1)
 ";
-
-/// The graph files and coefficient files of the tests.
-const TEXTS: [(&str, &str); 9] = [
-    ("plain.toml", PLAIN),
-    ("begun.toml", BEGUN),
-    ("blocks.toml", BLOCKS),
-    ("long.toml", LONG),
-    ("stuck.toml", STUCK),
-    ("filtered.toml", FILTERED),
-    ("one.toml", TAPS),
-    ("padded/filtered.toml", FILTERED),
-    ("padded/one.toml", PADDED),
-];
-
-/// The bytes of a file of the tests.
-fn bytes_of(path: &str) -> Option<&'static [u8]> {
-    if path == "in.wav" {
-        return Some(SOUND.as_slice());
-    }
-    for (name, text) in TEXTS {
-        if path == name {
-            return Some(text.as_bytes());
-        }
-    }
-    None
-}
-
-/// Files in memory, and what was written. Only out.wav can be made.
-#[derive(Clone, Copy)]
-struct Shelf<'a> {
-    written: &'a RefCell<Vec<u8>>,
-}
-
-/// The file that is written.
-#[derive(Clone, Copy)]
-struct Slot<'a> {
-    written: &'a RefCell<Vec<u8>>,
-}
-
-impl Write for Slot<'_> {
-    fn write(&mut self, bytes: &[u8]) -> io::Result<usize> {
-        match self.written.try_borrow_mut() {
-            Ok(mut written) => written.write(bytes),
-            Err(_) => Err(Error::from(ErrorKind::ResourceBusy)),
-        }
-    }
-
-    fn flush(&mut self) -> io::Result<()> {
-        Ok(())
-    }
-}
-
-impl<'a> Storage for Shelf<'a> {
-    type Source = &'static [u8];
-
-    type Sink = Slot<'a>;
-
-    fn open(&self, path: &str) -> io::Result<&'static [u8]> {
-        if path == "no-memory" {
-            return Err(Error::from(ErrorKind::OutOfMemory));
-        }
-        bytes_of(path).ok_or(Error::from(ErrorKind::NotFound))
-    }
-
-    fn create(&self, path: &str) -> io::Result<Slot<'a>> {
-        if path == "out.wav" {
-            Ok(Slot {
-                written: self.written,
-            })
-        } else {
-            Err(Error::from(ErrorKind::PermissionDenied))
-        }
-    }
-
-    fn only_path(&self, alloc: Global, path: &str) -> io::Result<PathBuf> {
-        self.open(path)?;
-        Ok(Path::new(path).to_path_buf(alloc)?)
-    }
-}
 
 /// Whether a command over these files ends so: its exit status, what stands on the two streams, and in the file that is
 /// written.
@@ -159,6 +56,7 @@ fn ends_with<T: Abort + Threads + AllocGlobal + Sync>(
 const BEFORE: &[u8; 48] =
     b"RIFF\x28\0\0\0WAVEfmt \x10\0\0\0\x01\0\x01\0\x44\xAC\0\0\x88\x58\x01\0\x02\0\x10\0data\x04\0\0\0\x07\0\x08\0";
 
+/// A program that schedules by the default options, or that takes help for a fault, is refused here.
 #[test]
 fn answers_stand_on_standard_output(rt: HostRuntime) -> Result<(), Fail> {
     for (line, text) in [
@@ -197,16 +95,26 @@ fn answers_stand_on_standard_output(rt: HostRuntime) -> Result<(), Fail> {
         (
             &["sdfw", "check", "-h"],
             "Checks a graph file and prints its period\n\nUsage: sdfw check <GRAPH>\n\n\
-             Arguments:\n  <GRAPH>  The graph file\n\nOptions:\n  -h, --help  Print help\n",
+             Arguments:\n  <GRAPH>  The graph file\n\n\
+             Options:\n  -h, --help  Print help (see more with '--help')\n\n\
+             Examples:\n  sdfw check graph.toml\n  sdfw check examples/44100-to-48000/graph.toml\n",
         ),
+        (
+            &["sdfw", "help", "kinds"],
+            "Lists the kinds of actors, their keys and limits: a line for each kind, and a last one for the keys\n\
+             that every actor may have. A number in parentheses stands where the key is absent.\n\n\
+             Usage: sdfw kinds\n\nOptions:\n  -h, --help\n          Print help (see a summary with '-h')\n\n\
+             Examples:\n  sdfw kinds\n  sdfw kinds | grep fir\n",
+        ),
+        (&["sdfw", "kinds"], KINDS),
     ] {
         ends_with(&rt, MOST_BYTES, line, (0, text, "", b""))?;
     }
     Ok(())
 }
 
-/// With `in` on processor 1 a plan for one worker has a fault, and so has one by rings without homes, or of a long
-/// block.
+/// A program that plans by the default options is refused here. With `in` on processor 1 a plan for one worker has a
+/// fault, and so has one by rings without homes, or of a long block.
 #[test]
 fn runs_follow_their_options(rt: HostRuntime) -> Result<(), Fail> {
     let all = [
@@ -274,6 +182,8 @@ fn runs_follow_their_options(rt: HostRuntime) -> Result<(), Fail> {
     Ok(())
 }
 
+/// A program that checks without a plan, that tells a mistake as a fault, or whose status is always that of memory, is
+/// refused here.
 #[test]
 fn faults_stand_on_standard_error(rt: HostRuntime) -> Result<(), Fail> {
     for (line, code, text) in [
@@ -315,7 +225,8 @@ fn faults_stand_on_standard_error(rt: HostRuntime) -> Result<(), Fail> {
     Ok(())
 }
 
-/// The longest file that is read is as long as the limit.
+/// The longest file that is read is as long as the limit. A program that cuts longer ones, or looks for coefficient
+/// files where it runs, is refused here.
 #[test]
 fn files_fit_their_limit(rt: HostRuntime) -> Result<(), Fail> {
     let text =

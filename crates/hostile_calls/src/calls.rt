@@ -1,0 +1,81 @@
+//! Which call is made, by its name.
+
+ghost use Rattle.std.specs.Prelude.{◌≡◌, Some};
+ghost use Rattle.sdf_process.specs.Plans.{Suits};
+
+use crate::by_hand::finish_twice;
+use crate::designs::{files_twice, plan_twice, read_twice};
+use crate::files::Sources;
+use crate::runs::run_twice;
+use crate::sessions::{feed_twice, open_twice};
+use crate::sounds::process_twice;
+use anyhow::{Result, bail};
+use sdf_actor::Net;
+use sdf_file::{Design, read_design};
+use sdf_kit::Kit;
+use sdf_prec::Table;
+use sdf_process::Plan;
+use sdf_process::planning::plan;
+use sdf_words::Options;
+use std::fs;
+use std::rt::Files;
+use std::thread::Threads;
+
+/// Makes a call that needs a table.
+fn make_tabled<R: AllocGlobal + Print + Sync + Threads>(
+    rt: &R,
+    call: &str,
+    net: &Net<Kit>,
+    plan: &Plan,
+    table: &Table,
+) -> Result<()>
+    requires plan { Suits net.now plan.now }
+    requires table { plan.now.table ≡ Some table.now }
+{
+    match call {
+        "open" => open_twice(rt, net, plan, table),
+        "feed" => feed_twice(rt, net, plan, table),
+        "finish" => finish_twice(rt, net, plan, table),
+        _ => bail!("there is no such call"),
+    }
+}
+
+/// Makes a call that needs a plan.
+fn make_planned<R: AllocGlobal + Files + Print + Sync + Threads>(
+    rt: &R,
+    call: &str,
+    design: &Design,
+    plan: &Plan,
+    input: &str,
+) -> Result<()>
+    requires { Suits design.now.net plan.now }
+{
+    match call {
+        "run" => return run_twice(rt, design.net(), plan),
+        "process" => return process_twice(rt, design, plan, &fs::read(rt, input)?),
+        _ => {}
+    }
+    match plan.table() {
+        Some(table) => make_tabled(rt, call, design.net(), plan, table),
+        None => bail!("this call needs workers"),
+    }
+}
+
+/// Makes a call with the files and the options of a run.
+pub(crate) fn make<R: AllocGlobal + Files + Print + Sync + Threads>(
+    rt: &R,
+    call: &str,
+    sources: &Sources,
+    input: &str,
+    options: &Options,
+) -> Result<()> {
+    match call {
+        "design_files" => return files_twice(rt, sources),
+        "read_design" => return read_twice(rt, sources),
+        "plan" => return plan_twice(rt, sources, options),
+        _ => {}
+    }
+    let design = read_design(rt.alloc(), &sources.graph, &sources.beside)?;
+    let plan = plan(rt.alloc(), &design, options)?;
+    make_planned(rt, call, &design, &plan, input)
+}

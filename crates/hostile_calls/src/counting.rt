@@ -1,0 +1,132 @@
+//! One run in memory of a chain of all kinds of actor, or one schedule, between the lines `begin` and `end`: what is
+//! asked for between the two is the run's own. `scripts/allocations` counts it.
+
+use anyhow::{Context, Result};
+use sdf_actor::Net;
+use sdf_file::read_design;
+use sdf_kit::Kit;
+use sdf_prec::Costs;
+use sdf_prec::hu::hu;
+use sdf_run::{NoGate, run_one, run_rings, run_rows};
+use sdf_sched::class_s::class_s;
+use sdf_sched::{Lean, Pick, Round, Runs};
+use std::thread::Threads;
+
+/// Each kind, and filters between rates.
+const CHAIN: &str = r#"format = 2
+actor = [
+    { name = "in", kind = "input", channel = 0 },
+    { name = "gain", kind = "gain", gain = -3, shift = 1 },
+    { name = "delay", kind = "delay", length = 5 },
+    { name = "table", kind = "table", offset = 2, values = [1, 2, 4, 8, 16] },
+    { name = "up", kind = "interpolate", factor = 2 },
+    { name = "short", kind = "fir", shift = 1, taps = [1, 2, 1] },
+    { name = "down", kind = "decimate", factor = 2 },
+    { name = "long", kind = "fir", up = 3, down = 2, shift = 0, taps = [1, 2, 3, 4, 5, 6, 7, 8, 9, 10, 11, 12] },
+    { name = "back", kind = "fir", up = 2, down = 3, shift = 0, taps = [1, 1] },
+    { name = "fork", kind = "fork", ways = 2 },
+    { name = "add", kind = "add", ways = 2 },
+    { name = "deal", kind = "deal", ways = 2 },
+    { name = "gather", kind = "gather", ways = 2 },
+    { name = "out", kind = "output", channel = 0 },
+]
+link = [
+    { from = "in", to = "gain" },
+    { from = "gain", to = "delay" },
+    { from = "delay", to = "table" },
+    { from = "table", to = "up" },
+    { from = "up", to = "short" },
+    { from = "short", to = "down" },
+    { from = "down", to = "long" },
+    { from = "long", to = "back" },
+    { from = "back", to = "fork" },
+    { from = "fork:0", to = "add:0" },
+    { from = "fork:1", to = "add:1" },
+    { from = "add", to = "deal" },
+    { from = "deal:0", to = "gather:0" },
+    { from = "deal:1", to = "gather:1" },
+    { from = "gather", to = "out" },
+]
+"#;
+
+/// How large a run is: on how many workers, of how many periods in a block, and of how many blocks.
+#[derive(Clone, Copy)]
+struct Sizes {
+    workers: usize,
+    j: u32,
+    blocks: u32,
+}
+
+/// Runs the net, and gives how many samples come out.
+fn run<R: AllocGlobal + Print + Sync + Threads>(
+    rt: &R,
+    what: &str,
+    net: &Net<Kit>,
+    sizes: Sizes,
+) -> Result<usize> {
+    let alloc = rt.alloc();
+    let Sizes { workers, j, blocks } = sizes;
+    let graph = net.graph();
+    let period = class_s(alloc, graph, net.repetitions(), &mut Round::new())?;
+    let costs = Costs::unit(alloc, graph)?;
+    let table = hu(alloc, graph, &period, j, workers, true, &costs)?;
+    let periods = j.saturating_mul(blocks);
+    let samples = net.samples_in().saturating_mul(periods as usize);
+    let inputs = vec![in alloc; vec![in alloc; 7; samples]?]?;
+    println!(rt; "begin")?;
+    let ran = match what {
+        "one" => run_one(alloc, net, &period, periods, &inputs)?,
+        "rows" => run_rows(rt, net, &period, j, &table, blocks, &inputs, &NoGate)?,
+        _ => run_rings(rt, net, &period, j, &table, blocks, &inputs, 1000, &NoGate)?,
+    };
+    println!(rt; "end")?;
+    Ok(ran.outputs.first().context("an output")?.len())
+}
+
+/// Schedules a chain whose second actor fires `blocks` times for each firing of the first, and gives how long its
+/// period is.
+fn schedule<R: AllocGlobal + Print, P: Pick>(rt: &R, blocks: u32, pick: &mut P) -> Result<usize> {
+    let alloc = rt.alloc();
+    let text = format!(in alloc;
+        "format = 1
+actor = [{{ name = \"in\", kind = \"input\", channel = 0, block = {blocks} }},
+    {{ name = \"up\", kind = \"interpolate\", factor = 64 }}, {{ name = \"out\", kind = \"output\", channel = 0 }}]
+link = [{{ from = \"in\", to = \"up\" }}, {{ from = \"up\", to = \"out\" }}]
+"
+    )?;
+    let design = read_design(alloc, text.as_bytes(), &[])?;
+    println!(rt; "begin")?;
+    let period = class_s(
+        alloc,
+        design.net().graph(),
+        design.net().repetitions(),
+        pick,
+    )?;
+    println!(rt; "end")?;
+    Ok(period.order().len())
+}
+
+/// Makes what is named: a run by a runner, or a schedule by a policy. The words are on how many workers, how many
+/// periods a block has, and how many blocks there are.
+pub(crate) fn count<R: AllocGlobal + Print + Sync + Threads>(
+    rt: &R,
+    what: &str,
+    words: [&str; 3],
+) -> Result<()> {
+    let [workers, j, blocks] = words;
+    let sizes = Sizes {
+        workers: workers.parse::<usize>().context("workers")?,
+        j: j.parse::<u32>().context("periods")?,
+        blocks: blocks.parse::<u32>().context("blocks")?,
+    };
+    let made = match what {
+        "round" => schedule(rt, sizes.blocks, &mut Round::new())?,
+        "lean" => schedule(rt, sizes.blocks, &mut Lean)?,
+        "runs" => schedule(rt, sizes.blocks, &mut Runs::new())?,
+        _ => {
+            let design = read_design(rt.alloc(), CHAIN.as_bytes(), &[])?;
+            run(rt, what, design.net(), sizes)?
+        }
+    };
+    Ok(println!(rt; "{made}")?)
+}

@@ -1,0 +1,89 @@
+//! Calls that end in a design or a plan.
+
+use crate::TURNS;
+use crate::files::Sources;
+use anyhow::Result;
+use indexmap::IndexSet;
+use sdf_file::{Design, FileFault, check_text, design_files, read_design};
+use sdf_prec::Table;
+use sdf_process::planning::plan;
+use sdf_process::{Fault, Plan};
+use sdf_words::Options;
+
+fn show_names(rt: &impl Print, answer: Result<IndexSet<String>, FileFault>) -> Result<()> {
+    match answer {
+        Ok(names) => {
+            for name in &names {
+                println!(rt; "file {name}")?;
+            }
+        }
+        Err(fault) => println!(rt; "{fault}")?,
+    }
+    Ok(())
+}
+
+fn show_design<R: AllocGlobal + Print>(rt: &R, answer: Result<Design, FileFault>) -> Result<()> {
+    match answer {
+        Ok(design) => {
+            println!(rt; "design")?;
+            let text = check_text(rt.alloc(), &design)?;
+            print!(rt; "{text}")?;
+        }
+        Err(fault) => println!(rt; "{fault}")?,
+    }
+    Ok(())
+}
+
+fn show_table(rt: &impl Print, table: &Table) -> Result<()> {
+    for i in 0..table.rows() {
+        let row = table.row(i);
+        println!(rt; "row {row:?}")?;
+    }
+    Ok(())
+}
+
+fn show_plan(rt: &impl Print, answer: Result<Plan, Fault>) -> Result<()> {
+    match answer {
+        Ok(plan) => {
+            let order = plan.period().order();
+            println!(rt; "order {order:?}")?;
+            if let Some(table) = plan.table() {
+                show_table(rt, table)?;
+            }
+        }
+        Err(fault) => println!(rt; "{fault}")?,
+    }
+    Ok(())
+}
+
+/// The names of the coefficient files.
+pub(crate) fn files_twice<R: AllocGlobal + Print>(rt: &R, sources: &Sources) -> Result<()> {
+    for turn in TURNS {
+        println!(rt; "{turn}")?;
+        show_names(rt, design_files(rt.alloc(), &sources.graph))?;
+    }
+    Ok(())
+}
+
+/// The design.
+pub(crate) fn read_twice<R: AllocGlobal + Print>(rt: &R, sources: &Sources) -> Result<()> {
+    for turn in TURNS {
+        println!(rt; "{turn}")?;
+        show_design(rt, read_design(rt.alloc(), &sources.graph, &sources.beside))?;
+    }
+    Ok(())
+}
+
+/// The plan of a design.
+pub(crate) fn plan_twice<R: AllocGlobal + Print>(
+    rt: &R,
+    sources: &Sources,
+    options: &Options,
+) -> Result<()> {
+    let design = read_design(rt.alloc(), &sources.graph, &sources.beside)?;
+    for turn in TURNS {
+        println!(rt; "{turn}")?;
+        show_plan(rt, plan(rt.alloc(), &design, options))?;
+    }
+    Ok(())
+}

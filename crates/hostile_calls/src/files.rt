@@ -1,0 +1,30 @@
+//! The files of a design.
+
+use anyhow::Result;
+use sdf_file::{Design, design_files, read_design};
+use std::fs;
+use std::rt::Files;
+
+/// A graph file and the coefficient files that it names.
+#[derive(Drop)]
+pub(crate) struct Sources {
+    pub(crate) graph: Vec<u8>,
+    pub(crate) beside: Vec<(String, Vec<u8>)>,
+}
+
+/// Reads a graph file and the coefficient files that it names, which lie where the program runs.
+pub(crate) fn load<R: AllocGlobal + Files>(rt: &R, graph: &str) -> Result<Sources> {
+    let graph = fs::read(rt, graph)?;
+    let mut beside = Vec::new(rt.alloc());
+    for name in design_files(rt.alloc(), &graph)? {
+        let bytes = fs::read(rt, name.as_str())?;
+        beside.push((name, bytes))?;
+    }
+    Ok(Sources { graph, beside })
+}
+
+/// The design of a graph file.
+pub(crate) fn design_at<R: AllocGlobal + Files>(rt: &R, graph: &str) -> Result<Design> {
+    let sources = load(rt, graph)?;
+    Ok(read_design(rt.alloc(), &sources.graph, &sources.beside)?)
+}

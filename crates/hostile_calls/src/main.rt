@@ -1,0 +1,76 @@
+//! Makes one call of the libraries, prints what it answers, and makes the same call again.
+//!
+//! `hostile_calls CALL run GRAPH IN OUT [OPTIONS]` calls with the files and the options of a run of `sdfw`; OUT is not
+//! made. A line `call` stands before the call and a line `again` before the same one. `hostile/calls.py` refuses memory
+//! or threads from the line `call` to the next one, so the second call has both.
+//!
+//! `hostile_calls disturb RUNS SEED GRAPH..` runs designs on workers that gates hold up, and counts the runs that make
+//! what one thread makes.
+//!
+//! `hostile_calls count RUNNER WORKERS PERIODS BLOCKS`, or a policy in place of the runner, makes one run or one
+//! schedule between two lines, for `scripts/allocations`.
+//!
+//! It stands on `sdf_words`, `sdf_process`, `sdf_file`, `sdf_wav`, `sdf_run`, `sdf_rings`, `sdf_prec`, `sdf_sched`,
+//! `sdf_kit` and `sdf_actor`. Begin at `main`, then `calls`, which names them: `designs` has those that end in a design
+//! or a plan, `runs`, `sessions`, `by_hand` and `sounds` those that begin with a plan; `disturbing` has the gates, and
+//! `counting` what is counted.
+#![tactic(auto)]
+
+mod by_hand;
+mod calls;
+mod counting;
+mod designs;
+mod disturbing;
+mod files;
+mod runs;
+mod sessions;
+mod sounds;
+
+use anyhow::{Context, Result, bail};
+use calls::make;
+use counting::count;
+use disturbing::disturb;
+use files::load;
+use sdf_words::arguments::arguments;
+use sdf_words::{Words, words};
+use std::rt::Files;
+use std::thread::Threads;
+
+const USAGE: &str =
+    "hostile_calls CALL run GRAPH IN OUT [OPTIONS]\nhostile_calls disturb RUNS SEED GRAPH..\n\
+    hostile_calls count RUNNER WORKERS PERIODS BLOCKS";
+
+/// The lines before a call and before the same one again.
+pub(crate) const TURNS: [&str; 2] = ["call", "again"];
+
+/// Does what the words ask for, of which the first is the name of a call.
+fn obey<R: AllocGlobal + Files + Print + Sync + Threads>(rt: &R, line: &[&str]) -> Result<()> {
+    match line {
+        ["disturb", runs, seed, graphs @ ..] => {
+            let runs = runs.parse::<u32>().context("the number of runs")?;
+            let seed = seed.parse::<u64>().context("the seed")?;
+            disturb(rt, runs, seed, graphs)
+        }
+        ["count", what, workers, j, blocks] => count(rt, what, [workers, j, blocks]),
+        ["--help"] => Ok(println!(rt; "{USAGE}")?),
+        [call, ..] => match words(rt.alloc(), line)? {
+            Words::Run {
+                graph,
+                input,
+                options,
+                ..
+            } => make(rt, call, &load(rt, graph)?, input, &options),
+            _ => bail!("these are no words of a run"),
+        },
+        [] => bail!("no call is named"),
+    }
+}
+
+fn main(rt: HostRuntime) -> Result<()> {
+    let given = arguments(&rt, rt.alloc())?;
+    let mut line = Vec::new(rt.alloc());
+    for word in given.iter().skip(1) {
+        line.push(word.as_str())?;
+    }
+    obey(&rt, line.as_slice())
+}

@@ -1,0 +1,93 @@
+//! Calls that run a net whole, and the samples that runs are given.
+
+ghost use Rattle.std.specs.Prelude.{◌≡◌, Some};
+ghost use Rattle.sdf_process.specs.Plans.{Suits};
+
+use crate::TURNS;
+use anyhow::Result;
+use sdf_actor::Net;
+use sdf_kit::Kit;
+use sdf_prec::Table;
+use sdf_process::Plan;
+use sdf_run::{Gate, NoGate, Ran, RunFault, run_one, run_rings, run_rows};
+use sdf_words::Runner;
+use std::alloc::{AllocError, Global};
+use std::io;
+use std::thread::Threads;
+
+/// How many blocks a run has.
+pub(crate) const BLOCKS: u32 = 2;
+
+/// As many input lists as a net reads, each of the samples 0, 1, 2 and so on, as many as so many periods read.
+pub(crate) fn inputs_of(
+    alloc: Global,
+    net: &Net<Kit>,
+    periods: u32,
+) -> Result<Vec<Vec<i32>>, AllocError> {
+    let many = (periods as usize).saturating_mul(net.samples_in());
+    let mut lists = Vec::new(alloc);
+    for _ in 0..net.inputs() {
+        let mut samples = Vec::new(alloc);
+        for n in 0..many {
+            samples.push((n % 30_000) as i32)?;
+        }
+        lists.push(samples)?;
+    }
+    Ok(lists)
+}
+
+pub(crate) fn show_ran(rt: &impl Print, answer: Result<Ran<i32>, RunFault>) -> io::Result<()> {
+    match answer {
+        Ok(ran) => {
+            let outputs = ran.outputs;
+            println!(rt; "made {outputs:?}")
+        }
+        Err(fault) => println!(rt; "{fault}"),
+    }
+}
+
+/// A run by workers, as the plan says: over rings, or else by rows.
+pub(crate) fn run_blocks<R: AllocGlobal + Sync + Threads, G: Gate>(
+    rt: &R,
+    net: &Net<Kit>,
+    plan: &Plan,
+    table: &Table,
+    inputs: &[Vec<i32>],
+    gate: &G,
+) -> Result<Ran<i32>, RunFault>
+    requires plan { Suits net.now plan.now }
+    requires table { plan.now.table ≡ Some table.now }
+{
+    let period = plan.period();
+    let j = plan.blocking();
+    match plan.runner() {
+        Runner::Rings => {
+            let patience = plan.patience();
+            run_rings(rt, net, period, j, table, BLOCKS, inputs, patience, gate)
+        }
+        _ => run_rows(rt, net, period, j, table, BLOCKS, inputs, gate),
+    }
+}
+
+/// A run by the plan's runner.
+pub(crate) fn run_twice<R: AllocGlobal + Print + Sync + Threads>(
+    rt: &R,
+    net: &Net<Kit>,
+    plan: &Plan,
+) -> Result<()>
+    requires { Suits net.now plan.now }
+{
+    let periods = BLOCKS.saturating_mul(plan.blocking());
+    let inputs = inputs_of(rt.alloc(), net, periods)?;
+    for turn in TURNS {
+        println!(rt; "{turn}")?;
+        match plan.table() {
+            Some(table) => show_ran(rt, run_blocks(rt, net, plan, table, &inputs, &NoGate))?,
+            None => show_ran(
+                rt,
+                run_one(rt.alloc(), net, plan.period(), periods, &inputs),
+            )?,
+        }
+    }
+    Ok(())
+}

@@ -1,0 +1,93 @@
+//! Calls of sessions.
+
+ghost use Rattle.std.specs.Prelude.{◌≡◌, Some};
+ghost use Rattle.sdf_process.specs.Plans.{Suits};
+
+use crate::TURNS;
+use crate::runs::{BLOCKS, inputs_of, show_ran};
+use anyhow::Result;
+use sdf_actor::Net;
+use sdf_kit::Kit;
+use sdf_prec::Table;
+use sdf_process::Plan;
+use sdf_run::{Mode, NoGate, RunFault, Session};
+use sdf_words::Runner;
+use std::alloc::Global;
+use std::io;
+use std::thread::Threads;
+
+/// A session by the plan's runner.
+fn open<'a>(
+    alloc: Global,
+    net: &'a Net<Kit>,
+    plan: &'a Plan,
+    table: &'a Table,
+) -> Result<Session<'a, Kit>, RunFault>
+    requires plan { Suits net.now plan.now }
+    requires table { plan.now.table ≡ Some table.now }
+{
+    let mode = match plan.runner() {
+        Runner::Rings => Mode::Rings {
+            patience: plan.patience(),
+        },
+        _ => Mode::Rows,
+    };
+    Session::open(alloc, net, plan.period(), plan.blocking(), table, mode)
+}
+
+fn show_session(rt: &impl Print, answer: Result<Session<'_, Kit>, RunFault>) -> io::Result<()> {
+    match answer {
+        Ok(_) => println!(rt; "session"),
+        Err(fault) => println!(rt; "{fault}"),
+    }
+}
+
+fn show_closed(rt: &impl Print, session: Session<'_, Kit>) -> io::Result<()> {
+    match session.close() {
+        Ok(closed) => {
+            let blocks = closed.blocks;
+            println!(rt; "closed, {blocks} blocks")
+        }
+        Err(fault) => println!(rt; "{fault}"),
+    }
+}
+
+/// The opening of a session.
+pub(crate) fn open_twice<R: AllocGlobal + Print>(
+    rt: &R,
+    net: &Net<Kit>,
+    plan: &Plan,
+    table: &Table,
+) -> Result<()>
+    requires plan { Suits net.now plan.now }
+    requires table { plan.now.table ≡ Some table.now }
+{
+    for turn in TURNS {
+        println!(rt; "{turn}")?;
+        show_session(rt, open(rt.alloc(), net, plan, table))?;
+    }
+    Ok(())
+}
+
+/// The first feed of a session; then the same feed, one of no samples, and the end.
+pub(crate) fn feed_twice<R: AllocGlobal + Print + Sync + Threads>(
+    rt: &R,
+    net: &Net<Kit>,
+    plan: &Plan,
+    table: &Table,
+) -> Result<()>
+    requires plan { Suits net.now plan.now }
+    requires table { plan.now.table ≡ Some table.now }
+{
+    let inputs = inputs_of(rt.alloc(), net, BLOCKS.saturating_mul(plan.blocking()))?;
+    let none = inputs_of(rt.alloc(), net, 0)?;
+    for turn in TURNS {
+        let mut session = open(rt.alloc(), net, plan, table)?;
+        println!(rt; "{turn}")?;
+        show_ran(rt, session.feed(rt, &inputs, &NoGate))?;
+        show_ran(rt, session.feed(rt, &inputs, &NoGate))?;
+        show_ran(rt, session.feed(rt, &none, &NoGate))?;
+        show_closed(rt, session)?;
+    }
+    Ok(())
+}

@@ -1,0 +1,42 @@
+//! Calls that run a design on a sound.
+
+ghost use Rattle.sdf_process.specs.Plans.{Suits};
+
+use crate::TURNS;
+use anyhow::Result;
+use sdf_file::Design;
+use sdf_process::process::process;
+use sdf_process::{Fault, Plan};
+use sdf_wav::{FromRead, ToWrite};
+use std::io;
+use std::thread::Threads;
+
+/// Room for what is written, so that the writer asks for no memory.
+const MOST_WRITTEN: usize = 65_536;
+
+fn show_end(rt: &impl Print, answer: Result<(), Fault>, written: &[u8]) -> io::Result<()> {
+    match answer {
+        Ok(()) => println!(rt; "done")?,
+        Err(fault) => println!(rt; "{fault}")?,
+    }
+    println!(rt; "wrote {written:?}")
+}
+
+/// A run of a design from a file in memory to another.
+pub(crate) fn process_twice<R: AllocGlobal + Print + Sync + Threads>(
+    rt: &R,
+    design: &Design,
+    plan: &Plan,
+    sound: &[u8],
+) -> Result<()>
+    requires { Suits design.now.net plan.now }
+{
+    for turn in TURNS {
+        let mut reader = FromRead::new(sound);
+        let mut writer = ToWrite::new(Vec::with_capacity(rt.alloc(), MOST_WRITTEN)?);
+        println!(rt; "{turn}")?;
+        let ended = process(rt, &mut reader, &mut writer, design, plan);
+        show_end(rt, ended, writer.into_inner().as_slice())?;
+    }
+    Ok(())
+}

@@ -1,0 +1,3 @@
+pub mod Designs
+pub mod Crews
+pub mod Refusals

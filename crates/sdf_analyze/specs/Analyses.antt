@@ -1,0 +1,22 @@
+-- What the command `analyze` prints.
+use Rattle.std.specs.Prelude.{◌≡◌, ℕ, List}
+use Rattle.sdf_sched.specs.Period.{Schedule}
+use Rattle.sdf_prec.specs.Tables.{Tabled}
+use Rattle.sdf_file.specs.Designs.{DesignValue}
+use Rattle.sdf_words.specs.declared.options.Options.{Options}
+use Rattle.sdf_process.specs.Schedules.{IsScheduled}
+use Rattle.sdf_analyze.specs.Figures.{Figured, AreFiguresOf}
+use Rattle.sdf_analyze.specs.Texts.{analysis_text}
+
+-- the table that options give a design, and its figures
+pub record IsFigured (d : DesignValue) (o : Options) (t : Tabled) (f : Figured) : Type 0 where
+  pub period : Schedule
+  pub scheduled : IsScheduled d o period t
+  pub are : AreFiguresOf d o.blocking o.workers period t f
+
+-- the text is of these
+pub record IsAnalysis (d : DesignValue) (o : Options) (text : List ℕ) : Type 0 where
+  pub table : Tabled
+  pub figures : Figured
+  pub figured : IsFigured d o table figures
+  pub is : text ≡ analysis_text d figures table.caps

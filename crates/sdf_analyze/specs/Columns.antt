@@ -1,0 +1,109 @@
+-- The columns of a comparison.
+use Rattle.std.specs.Prelude.{ℕ, ◌-◌, Bool, true, not, nat_lt, List, [], ◌∷◌, ◌++◌, if◌then◌else◌, length, replicate}
+use Rattle.std.specs.Prelude.{codes, decimal}
+use Rattle.std.specs.List.{flat_map, list_all}
+use Rattle.sdf_file.specs.Texts.{end}
+use Rattle.sdf_words.specs.declared.options.Policy.{Policy}
+use Rattle.sdf_words.specs.declared.options.Policy.TheVariants.{Round, Lean, Runs}
+use Rattle.sdf_words.specs.declared.options.Placement.{Placement}
+use Rattle.sdf_words.specs.declared.options.Placement.TheVariants.{Hu, Homed, File}
+use Rattle.sdf_analyze.specs.declared.columns.Column.{Column}
+use Rattle.sdf_analyze.specs.declared.columns.Column.TheVariants.{Makespan, Speedup, Rows, Samples}
+use Rattle.sdf_analyze.specs.declared.columns.Measures.{Measures}
+use Rattle.sdf_analyze.specs.declared.columns.Outcome.{Outcome}
+use Rattle.sdf_analyze.specs.declared.columns.Outcome.TheVariants.{Made, Refused}
+use Rattle.sdf_analyze.specs.declared.columns.Entry.{Entry}
+use Rattle.sdf_analyze.specs.Texts.{with_point}
+
+abbrev pub policy_word : Policy → List ℕ
+policy_word Round = codes "round"
+policy_word Lean = codes "lean"
+policy_word Runs = codes "runs"
+
+abbrev pub placement_word : Placement → List ℕ
+placement_word Hu = codes "hu"
+placement_word Homed = codes "homed"
+placement_word File = codes "file"
+
+abbrev pub spaces : ℕ → List ℕ
+spaces n = replicate n 32
+
+-- a text at the left of so many places, and at their right; what is longer stands as it is
+abbrev pub left : ℕ → List ℕ → List ℕ
+left places text = text ++ spaces (places - length text)
+
+abbrev pub right : ℕ → List ℕ → List ℕ
+right places text = spaces (places - length text) ++ text
+
+-- what a schedule has in a column
+abbrev pub value_in : Column → Measures → ℕ
+value_in Makespan m = m.makespan
+value_in Speedup m = m.speedup
+value_in Rows m = m.rows
+value_in Samples m = m.held
+
+-- of speedups the greater is better, of all others the less
+abbrev pub beats : Column → Measures → Measures → Bool
+beats Speedup a b = nat_lt b.speedup a.speedup
+beats column a b = nat_lt (value_in column a) (value_in column b)
+
+-- the schedule, where there is one, does not beat this one
+abbrev pub lets : Column → Measures → Outcome → Bool
+lets column m (Made other) = not (beats column other m)
+lets column m (Refused number) = true
+
+-- no schedule beats it
+abbrev pub is_best : List Entry → Column → Measures → Bool
+is_best entries column m = list_all (λ (e : Entry). lets column m e.outcome) entries
+
+abbrev pub value_text : Column → Measures → List ℕ
+value_text Speedup m = with_point m.speedup
+value_text column m = decimal (value_in column m)
+
+abbrev pub places_of : Column → ℕ
+places_of Makespan = 13
+places_of Speedup = 9
+places_of Rows = 8
+places_of Samples = 15
+
+abbrev pub heading : Column → List ℕ
+heading Makespan = codes "makespan"
+heading Speedup = codes "speedup"
+heading Rows = codes "rows"
+heading Samples = codes "samples"
+
+-- the value, after a star where no schedule has a better one
+unfoldable pub cell : List Entry → Measures → Column → List ℕ
+cell entries m column =
+    right (places_of column) ((if is_best entries column m then codes "*" else []) ++ value_text column m)
+
+abbrev pub columns : List Column
+columns = Makespan ∷ Speedup ∷ Rows ∷ Samples ∷ []
+
+abbrev pub cells_text : List Entry → Measures → List ℕ
+cells_text entries m = flat_map (cell entries m) columns
+
+unfoldable pub refused_text : List ℕ → ℕ → List ℕ
+refused_text word number = right (places_of Makespan) word ++ codes " " ++ decimal number
+
+-- the columns of a schedule, or the number of the fault why there is none
+abbrev pub outcome_text : List Entry → Outcome → List ℕ
+outcome_text entries (Made m) = cells_text entries m
+outcome_text entries (Refused number) = refused_text (codes "refused") number
+
+abbrev pub way_text : List ℕ → List ℕ → List ℕ → List ℕ
+way_text policy placement workers = left 7 policy ++ left 10 placement ++ right 7 workers
+
+unfoldable pub entry_line : List Entry → Entry → List ℕ
+entry_line entries e =
+    way_text (policy_word e.options.policy) (placement_word e.options.placement) (decimal e.options.workers)
+    ++ outcome_text entries e.outcome ++ end
+
+abbrev pub head_line : List ℕ
+head_line =
+    way_text (codes "policy") (codes "placement") (codes "workers")
+    ++ flat_map (λ column. right (places_of column) (heading column)) columns ++ end
+
+-- a table with a line for each schedule
+abbrev pub comparison_text : List Entry → List ℕ
+comparison_text entries = head_line ++ flat_map (entry_line entries) entries

@@ -1,0 +1,65 @@
+-- What the command `analyze --compare` prints.
+use Rattle.std.specs.Prelude.{◌≡◌, ℕ, List, length, map}
+use Rattle.std.specs.List.{All}
+use Rattle.sdf_prec.specs.Tables.{Tabled}
+use Rattle.sdf_prec.specs.declared.fault.PrecFault.{PrecFault}
+use Rattle.sdf_prec.specs.declared.fault.PrecFault.TheVariants as prec
+use Rattle.sdf_file.specs.Designs.{DesignValue}
+use Rattle.sdf_words.specs.declared.options.Options.{Options}
+use Rattle.sdf_process.specs.Plans.{IsUnplaced}
+use Rattle.sdf_analyze.specs.declared.columns.Measures.{Measures}
+use Rattle.sdf_analyze.specs.declared.columns.Outcome.{Outcome}
+use Rattle.sdf_analyze.specs.declared.columns.Outcome.TheVariants.{Made, Refused}
+use Rattle.sdf_analyze.specs.declared.columns.Entry.{Entry}
+use Rattle.sdf_analyze.specs.Figures.{Figured}
+use Rattle.sdf_analyze.specs.Texts.{hundredths}
+use Rattle.sdf_analyze.specs.Analyses.{IsFigured}
+use Rattle.sdf_analyze.specs.Ways.{ways}
+use Rattle.sdf_analyze.specs.Columns.{comparison_text}
+
+-- what is compared of a table and its figures
+abbrev pub measures_of : Tabled → Figured → Measures
+measures_of t f = record {
+  makespan = f.makespan;
+  speedup = hundredths f.work f.makespan;
+  rows = length t.rows;
+  held = f.held;
+}
+
+-- the number that the text of a fault begins with
+abbrev pub number_of : PrecFault → ℕ
+number_of prec.OutOfMemory = 1
+number_of prec.BlockingFactor = 11
+number_of prec.WorkerCount = 12
+number_of prec.BlockTooLong = 13
+number_of (prec.FiringMissing firing) = 14
+number_of (prec.FiringTwice row firing) = 15
+number_of (prec.FiringUnknown row firing) = 16
+number_of (prec.RowTooWide row) = 17
+number_of (prec.TooEarly row firing needs) = 18
+number_of (prec.BadHome actor) = 19
+number_of (prec.BadCost actor) = 62
+
+-- the measures are those of the table that the options give
+pub record IsMade (d : DesignValue) (o : Options) (m : Measures) : Type 0 where
+  pub table : Tabled
+  pub figures : Figured
+  pub figured : IsFigured d o table figures
+  pub is : m ≡ measures_of table figures
+
+-- they give none, and the number is that of the fault
+pub record IsRefused (d : DesignValue) (o : Options) (number : ℕ) : Type 0 where
+  pub fault : PrecFault
+  pub unplaced : IsUnplaced d o fault
+  pub is : number ≡ number_of fault
+
+abbrev pub IsOutcome : DesignValue → Options → Outcome → Type 0
+IsOutcome d o (Made m) = IsMade d o m
+IsOutcome d o (Refused number) = IsRefused d o number
+
+-- a line for each schedule that is compared, in their order, with what becomes of it
+pub record IsComparison (d : DesignValue) (o : Options) (text : List ℕ) : Type 0 where
+  pub entries : List Entry
+  pub ways_are : map (λ (e : Entry). e.options) entries ≡ ways o
+  pub each : All (λ (e : Entry). IsOutcome d e.options e.outcome) entries
+  pub is : text ≡ comparison_text entries

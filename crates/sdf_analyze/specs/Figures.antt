@@ -1,0 +1,39 @@
+-- What a table does with its time and its channels, in numbers.
+use Rattle.std.specs.Prelude.{◌≡◌, ℕ, ◌<◌, List, length, slice_index, sum}
+use Rattle.sdf_graph.specs.Rates.{Rates}
+use Rattle.sdf_sched.specs.Period.{Schedule}
+use Rattle.sdf_prec.specs.declared.firing.Firing.{Firing}
+use Rattle.sdf_prec.specs.Tables.{Tabled}
+use Rattle.sdf_times.specs.Times.{AreStarts, IsMakespan, load_of, work_of, IsSpan, IsBound}
+use Rattle.sdf_file.specs.Designs.{DesignValue}
+use Rattle.sdf_process.specs.Placements.{rates_of, firings_of}
+
+-- when a table's last firing ends; of its block the work, the span and the bound; the load of each column; and the sum
+-- of the channels' capacities
+pub record Figured : Type 0 where
+  pub makespan : ℕ
+  pub work : ℕ
+  pub span : ℕ
+  pub bound : ℕ
+  pub loads : List ℕ
+  pub held : ℕ
+
+-- the makespan of a table
+pub record IsMakespanOf (r : Rates) (cost : ℕ → ℕ) (t : Tabled) (makespan : ℕ) : Type 0 where
+  pub start : Firing → ℕ
+  pub starts : AreStarts r cost t.rows start
+  pub is : IsMakespan cost t.rows start makespan
+
+-- the figures of a table in m columns, for a block of j periods, where each firing of actor a costs: cost a
+pub record AreFigures (r : Rates) (cost : ℕ → ℕ) (j m : ℕ) (s : Schedule) (t : Tabled) (f : Figured) : Type 0 where
+  pub makespan : IsMakespanOf r cost t f.makespan
+  pub work : f.work ≡ work_of r.actors (firings_of j s) cost
+  pub span : IsSpan r (firings_of j s) cost f.span
+  pub bound : IsBound f.span f.work m f.bound
+  pub columns : length f.loads ≡ m
+  pub loads : (k : ℕ) → k < m → slice_index f.loads k ≡ load_of cost t.rows k
+  pub held : f.held ≡ sum t.caps
+
+-- those of a table of a design
+abbrev pub AreFiguresOf : DesignValue → ℕ → ℕ → Schedule → Tabled → Figured → Type 0
+AreFiguresOf d j m s t f = AreFigures (rates_of d) (slice_index d.costs) j m s t f

@@ -1,0 +1,6 @@
+pub mod Figures
+pub mod Texts
+pub mod Analyses
+pub mod Ways
+pub mod Columns
+pub mod Comparisons

@@ -1,0 +1,41 @@
+//! What a schedule does with its time and its links, as a text.
+
+ghost use Rattle.std.specs.Prelude.{MatchResult, string_bytes};
+ghost use Rattle.sdf_process.specs.Schedules.{IsShowFault};
+ghost use Rattle.sdf_analyze.specs.Analyses.{IsFigured, IsAnalysis};
+
+use crate::figures::Figures;
+use crate::lines::analysis_text;
+use sdf_file::Design;
+use sdf_prec::Table;
+use sdf_process::Fault;
+use sdf_process::schedule::scheduled;
+use sdf_words::Options;
+use std::alloc::Global;
+
+/// The table that options give a design, and its figures.
+pub(crate) fn figured(
+    alloc: Global,
+    design: &Design,
+    options: &Options,
+) -> Result<(Table, Figures), Fault>
+    ensures { MatchResult result (λ r. IsFigured design.now options.now r.0 r.1)
+        (IsShowFault design.now options.now) }
+{
+    let (period, table) = scheduled(alloc, design, options)?;
+    let figures = Figures::of(alloc, design, options, &period, &table)?;
+    Ok((table, figures))
+}
+
+/// What the command `analyze` prints of the schedule that `schedule` prints: when its last firing ends, where each
+/// firing starts as soon as it may and takes its cost; the work, the span and the bound of its block; the speedup,
+/// which is the work over the makespan, and the part of the makespan in which each worker fires; what all links hold at
+/// most, and what each of them does. Hundredths are rounded down. The tests are those of `schedule`.
+pub fn analyze(alloc: Global, design: &Design, options: &Options) -> Result<String, Fault>
+    ensures { MatchResult result (λ s. IsAnalysis design.now options.now (string_bytes s))
+        (IsShowFault design.now options.now) }
+{
+    let (table, figures) = figured(alloc, design, options)?;
+    let text = analysis_text(alloc, design, &table, &figures, options.workers)?;
+    Ok(text)
+}

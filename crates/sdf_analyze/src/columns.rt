@@ -1,0 +1,295 @@
+//! The columns of a comparison.
+
+ghost use Rattle.std.specs.Prelude.{◌≡◌, ◌++◌, ◌-◌, IfOk, OnOk, length, string_bytes, codes};
+ghost use Rattle.std.specs.List.{flat_map};
+ghost use Rattle.sdf_analyze.specs.Columns.{policy_word, placement_word, spaces, left, right, value_in, beats, lets};
+ghost use Rattle.sdf_analyze.specs.Columns.{is_best, value_text, places_of, heading, cell, outcome_text, way_text};
+ghost use Rattle.sdf_analyze.specs.Columns.{cells_text, refused_text, entry_line, head_line, comparison_text};
+
+use crate::lines::push_with_point;
+use sdf_words::{Options, Placement, Policy};
+use std::alloc::{AllocError, Global};
+
+/// A column that schedules are compared in.
+#[derive(Clone, Copy)]
+pub(crate) enum Column {
+    Makespan,
+    Speedup,
+    Rows,
+    Samples,
+}
+
+/// What a schedule has in each column; the speedup in hundredths.
+#[derive(Clone, Copy)]
+pub(crate) struct Measures {
+    pub(crate) makespan: u64,
+    pub(crate) speedup: u128,
+    pub(crate) rows: usize,
+    pub(crate) held: u64,
+}
+
+/// A schedule's columns, or the number of the fault why there is none.
+#[derive(Clone, Copy)]
+pub(crate) enum Outcome {
+    Made(Measures),
+    Refused(u32),
+}
+
+/// A line of a comparison.
+#[derive(Clone, Copy)]
+pub(crate) struct Entry {
+    pub(crate) options: Options,
+    pub(crate) outcome: Outcome,
+}
+
+fn policy_word(policy: Policy) -> &'static str
+    ensures { result.now ≡ policy_word policy }
+{
+    match policy {
+        Policy::Round => "round",
+        Policy::Lean => "lean",
+        Policy::Runs => "runs",
+    }
+}
+
+fn placement_word(placement: Placement) -> &'static str
+    ensures { result.now ≡ placement_word placement }
+{
+    match placement {
+        Placement::Hu => "hu",
+        Placement::Homed => "homed",
+        Placement::File => "file",
+    }
+}
+
+impl Column {
+    /// What a schedule has in it.
+    fn value_in(self, measures: Measures) -> u128
+        ensures { result ≡ value_in self measures }
+    {
+        match self {
+            Column::Makespan => u128::from(measures.makespan),
+            Column::Speedup => measures.speedup,
+            Column::Rows => measures.rows as u128,
+            Column::Samples => u128::from(measures.held),
+        }
+    }
+
+    /// Whether the one schedule is better in it than the other.
+    fn beats(self, one: Measures, other: Measures) -> bool
+        ensures { result ≡ beats self one other }
+    {
+        match self {
+            Column::Speedup => other.speedup < one.speedup,
+            _ => self.value_in(one) < self.value_in(other),
+        }
+    }
+
+    /// Whether a line's schedule, where there is one, is no better in it than this one.
+    fn lets(self, measures: Measures, outcome: Outcome) -> bool
+        ensures { result ≡ lets self measures outcome }
+    {
+        match outcome {
+            Outcome::Made(other) => !self.beats(other, measures),
+            Outcome::Refused(_) => true,
+        }
+    }
+
+    /// Whether no schedule is better in it than this one.
+    fn is_best(self, entries: &[Entry], measures: Measures) -> bool
+        ensures { result ≡ is_best entries.now self measures }
+    {
+        entries
+            .iter()
+            .all(|entry| self.lets(measures, entry.outcome))
+    }
+
+    fn places(self) -> usize
+        ensures { result ≡ places_of self }
+    {
+        match self {
+            Column::Makespan => 13,
+            Column::Speedup => 9,
+            Column::Rows => 8,
+            Column::Samples => 15,
+        }
+    }
+
+    fn heading(self) -> &'static str
+        ensures { result.now ≡ heading self }
+    {
+        match self {
+            Column::Makespan => "makespan",
+            Column::Speedup => "speedup",
+            Column::Rows => "rows",
+            Column::Samples => "samples",
+        }
+    }
+}
+
+/// The columns in their order.
+const COLUMNS: [Column; 4] = [
+    Column::Makespan,
+    Column::Speedup,
+    Column::Rows,
+    Column::Samples,
+];
+
+fn push_spaces(text: &mut String, count: usize) -> Result<(), AllocError>
+    ensures { OnOk result (string_bytes text.new ≡ string_bytes text.old ++ spaces count) }
+{
+    for _ in 0..count {
+        text.push_str(" ")?;
+    }
+    Ok(())
+}
+
+/// Adds a text at the left of so many places.
+fn push_left(text: &mut String, places: usize, word: &str) -> Result<(), AllocError>
+    ensures { OnOk result (string_bytes text.new ≡ string_bytes text.old ++ left places word.now) }
+{
+    text.push_str(word)?;
+    push_spaces(text, places.saturating_sub(word.len()))
+}
+
+/// Adds a text at the right of so many places.
+fn push_right(text: &mut String, places: usize, word: &str) -> Result<(), AllocError>
+    ensures { OnOk result (string_bytes text.new ≡ string_bytes text.old ++ right places word.now) }
+{
+    push_spaces(text, places.saturating_sub(word.len()))?;
+    Ok(text.push_str(word)?)
+}
+
+/// Adds what a schedule has in a column.
+fn push_value(text: &mut String, measures: Measures, column: Column) -> Result<(), AllocError>
+    ensures { OnOk result (string_bytes text.new ≡ string_bytes text.old ++ value_text column measures) }
+{
+    match column {
+        Column::Speedup => push_with_point(text, measures.speedup),
+        _ => {
+            let value = column.value_in(measures);
+            write!(text, "{value}")?;
+            Ok(())
+        }
+    }
+}
+
+/// Adds a schedule's cell of a column.
+#[tactic(auto, unfolding(crate::specs::Columns::cell))]
+fn push_cell(
+    alloc: Global,
+    text: &mut String,
+    entries: &[Entry],
+    measures: Measures,
+    column: Column,
+) -> Result<(), AllocError>
+    ensures { OnOk result (string_bytes text.new ≡ string_bytes text.old ++ cell entries.now measures column) }
+{
+    let mut word = String::new(alloc);
+    if column.is_best(entries, measures) {
+        word.push_str("*")?;
+    }
+    push_value(&mut word, measures, column)?;
+    push_right(text, column.places(), word.as_str())
+}
+
+/// Adds a schedule's cells.
+fn push_cells(
+    alloc: Global,
+    text: &mut String,
+    entries: &[Entry],
+    measures: Measures,
+) -> Result<(), AllocError>
+    ensures { OnOk result (string_bytes text.new ≡ string_bytes text.old ++ cells_text entries.now measures) }
+{
+    for column in COLUMNS {
+        push_cell(alloc, text, entries, measures, column)?;
+    }
+    Ok(())
+}
+
+/// Adds that there is no schedule, in the first column, and the number of the fault why.
+#[tactic(auto, unfolding(crate::specs::Columns::refused_text))]
+fn push_refused(text: &mut String, word: &str, number: u32) -> Result<(), AllocError>
+    ensures { OnOk result (string_bytes text.new ≡ string_bytes text.old ++ refused_text word.now number) }
+{
+    push_right(text, Column::Makespan.places(), word)?;
+    write!(text, " {number}")?;
+    Ok(())
+}
+
+/// Adds what a line says behind its options.
+fn push_outcome(
+    alloc: Global,
+    text: &mut String,
+    entries: &[Entry],
+    outcome: Outcome,
+) -> Result<(), AllocError>
+    ensures { OnOk result (string_bytes text.new ≡ string_bytes text.old ++ outcome_text entries.now outcome) }
+{
+    match outcome {
+        Outcome::Made(measures) => push_cells(alloc, text, entries, measures),
+        Outcome::Refused(number) => push_refused(text, "refused", number),
+    }
+}
+
+/// Adds what a line begins with.
+fn push_way(
+    text: &mut String,
+    policy: &str,
+    placement: &str,
+    workers: &str,
+) -> Result<(), AllocError>
+    ensures { OnOk result (string_bytes text.new ≡
+        string_bytes text.old ++ way_text policy.now placement.now workers.now) }
+{
+    push_left(text, 7, policy)?;
+    push_left(text, 10, placement)?;
+    push_right(text, 7, workers)
+}
+
+/// Adds a line.
+#[tactic(auto, unfolding(crate::specs::Columns::entry_line))]
+fn push_entry(
+    alloc: Global,
+    text: &mut String,
+    entries: &[Entry],
+    entry: Entry,
+) -> Result<(), AllocError>
+    ensures { OnOk result (string_bytes text.new ≡ string_bytes text.old ++ entry_line entries.now entry) }
+{
+    let Entry { options, outcome } = entry;
+    let workers = options.workers;
+    let workers = format!(in alloc; "{workers}")?;
+    push_way(
+        text,
+        policy_word(options.policy),
+        placement_word(options.placement),
+        workers.as_str(),
+    )?;
+    push_outcome(alloc, text, entries, outcome)?;
+    text.push_str("\n")
+}
+
+/// Adds the line of headings.
+fn push_head(text: &mut String) -> Result<(), AllocError>
+    ensures { OnOk result (string_bytes text.new ≡ string_bytes text.old ++ head_line) }
+{
+    push_way(text, "policy", "placement", "workers")?;
+    for column in COLUMNS {
+        push_right(text, column.places(), column.heading())?;
+    }
+    text.push_str("\n")
+}
+
+/// A table with a line for each entry. The best of each column has a star, each of them where there are several.
+pub(crate) fn comparison_text(alloc: Global, entries: &[Entry]) -> Result<String, AllocError>
+    ensures { IfOk result (λ s. string_bytes s ≡ comparison_text entries.now) }
+{
+    let mut text = String::new(alloc);
+    push_head(&mut text)?;
+    for entry in entries {
+        push_entry(alloc, &mut text, entries, *entry)?;
+    }
+    Ok(text)
+}

@@ -1,0 +1,114 @@
+//! Worked designs: a fork of two ways with three rows of costs, and two actors that move blocks.
+
+use crate::{analyze, compare};
+use sdf_file::{Design, read_design};
+use sdf_words::{Options, Placement};
+use std::alloc::Global;
+use std::process::Abort;
+use std::test::Fail;
+
+/// Two ways from `two` to `sum`, over `a` and over `b` and `c`.
+fn fork(alloc: Global, two: u32, a: u32) -> Result<Design, Fail> {
+    let text = format!(in alloc;
+        "format = 1
+actor = [{{ name = \"in\", kind = \"input\", channel = 0 }},
+    {{ name = \"two\", kind = \"fork\", ways = 2, cost = {two} }},
+    {{ name = \"a\", kind = \"gain\", gain = 1, shift = 0, cost = {a} }},
+    {{ name = \"b\", kind = \"gain\", gain = 1, shift = 0 }},
+    {{ name = \"c\", kind = \"gain\", gain = 1, shift = 0 }},
+    {{ name = \"sum\", kind = \"add\", ways = 2 }},
+    {{ name = \"out\", kind = \"output\", channel = 0 }}]
+link = [{{ from = \"in\", to = \"two\" }}, {{ from = \"two:0\", to = \"a\" }},
+    {{ from = \"two:1\", to = \"b\" }}, {{ from = \"a\", to = \"sum:0\" }},
+    {{ from = \"b\", to = \"c\" }}, {{ from = \"c\", to = \"sum:1\" }},
+    {{ from = \"sum\", to = \"out\" }}]"
+    )?;
+    Ok(read_design(alloc, text.as_bytes(), &[])?)
+}
+
+/// Each link of the fork holds one sample.
+const LINKS: &str =
+    "samples held 7, 28 bytes\ncapacity in:0 two:0 1, 4 bytes\ncapacity two:0 a:0 1, 4 bytes\n\
+    capacity two:1 b:0 1, 4 bytes\ncapacity a:0 sum:0 1, 4 bytes\ncapacity b:0 c:0 1, 4 bytes\n\
+    capacity c:0 sum:1 1, 4 bytes\ncapacity sum:0 out:0 1, 4 bytes\n";
+
+/// Whether the fork with these costs on two workers has these figures.
+fn has_figures<R: Abort + AllocGlobal>(rt: &R, two: u32, a: u32, wanted: &str) -> Result<(), Fail> {
+    let alloc = rt.alloc();
+    let design = fork(alloc, two, a)?;
+    let options = Options {
+        workers: 2,
+        ..Options::DEFAULT
+    };
+    let text = analyze(alloc, &design, &options)?;
+    let all = format!(in alloc; "{wanted}{LINKS}")?;
+    assert_eq!(rt; text.as_str(), all.as_str(), "{two} {a}");
+    Ok(())
+}
+
+/// An `analyze` that always says that there is no memory fails here.
+#[test]
+fn figures_of_a_fork(rt: HostRuntime) -> Result<(), Fail> {
+    has_figures(
+        &rt,
+        1,
+        1,
+        "makespan 6\nwork 7\nspan 6\nbound 6\nspeedup 1.16 of 2\nworker 0 66 %\nworker 1 50 %\n",
+    )?;
+    has_figures(
+        &rt,
+        1,
+        3,
+        "makespan 7\nwork 9\nspan 7\nbound 7\nspeedup 1.28 of 2\nworker 0 71 %\nworker 1 57 %\n",
+    )?;
+    has_figures(
+        &rt,
+        4,
+        3,
+        "makespan 10\nwork 12\nspan 10\nbound 10\nspeedup 1.20 of 2\nworker 0 60 %\nworker 1 60 %\n",
+    )
+}
+
+/// Blocks of two samples go in, and blocks of three come out, on processors of their own.
+const BLOCKS: &str = "format = 1
+actor = [{ name = \"in\", kind = \"input\", channel = 0, block = 2, processor = 0 },
+    { name = \"out\", kind = \"output\", channel = 0, block = 3, processor = 1 }]
+link = [{ from = \"in\", to = \"out\" }]";
+
+/// With four workers there would be three lines of each. For one worker `file` has no table, and by `runs` the link of
+/// the other holds six samples where by the other policies it holds four.
+const COMPARED: &str = "policy placement workers     makespan  speedup    rows        samples
+round  hu              1            5     1.00       5              6
+round  hu              2           *4    *1.25      *4              6
+round  homed           1            5     1.00       5              6
+round  homed           2           *4    *1.25      *4              6
+round  file            1      refused 19
+round  file            2           *4    *1.25       5             *4
+lean   hu              1            5     1.00       5              6
+lean   hu              2           *4    *1.25      *4              6
+lean   homed           1            5     1.00       5              6
+lean   homed           2           *4    *1.25      *4              6
+lean   file            1      refused 19
+lean   file            2           *4    *1.25       5             *4
+runs   hu              1            5     1.00       5              6
+runs   hu              2           *4    *1.25      *4              6
+runs   homed           1            5     1.00       5              6
+runs   homed           2           *4    *1.25      *4              6
+runs   file            1      refused 19
+runs   file            2           *4    *1.25       5              6
+";
+
+/// A `compare` that always says that there is no memory fails here.
+#[test]
+fn blocks_compared(rt: HostRuntime) -> Result<(), Fail> {
+    let alloc = rt.alloc();
+    let design = read_design(alloc, BLOCKS.as_bytes(), &[])?;
+    let options = Options {
+        workers: 3,
+        placement: Placement::File,
+        ..Options::DEFAULT
+    };
+    let text = compare(alloc, &design, &options)?;
+    assert_eq!(rt; text.as_str(), COMPARED);
+    Ok(())
+}

@@ -1,0 +1,71 @@
+-- The kinds as a text: a line for each, and one for the keys that every actor may have.
+use Rattle.std.specs.Prelude.{◌==◌, ◌&&◌, ℕ, ℤ, pos, negsuc, List, [], ◌∷◌, ◌++◌, codes, decimal, Some, None}
+use Rattle.std.specs.Prelude.{if◌then◌else◌}
+use Rattle.std.specs.Fmt.{signed_decimal}
+use Rattle.std.specs.Ordering.{int_eq}
+use Rattle.std.specs.List.{flat_map}
+use Rattle.sdf_document.specs.declared.row.Form.{Form}
+use Rattle.sdf_document.specs.declared.row.Form.TheVariants.{Natural, Optional, Integer, List as ListForm}
+use Rattle.sdf_document.specs.declared.row.KindWord.{KindWord}
+use Rattle.sdf_document.specs.declared.row.Width.{Width}
+use Rattle.sdf_document.specs.declared.row.Width.TheVariants.{Bits16, Bits32}
+use Rattle.sdf_document.specs.Rows.{KeyRow, KindRow, row_of, kinds, shared_keys}
+
+-- a line feed
+abbrev pub end : List ℕ
+end = 10 ∷ []
+
+-- the numbers from one to another
+abbrev pub between : ℕ → ℕ → List ℕ
+between least most = codes " " ++ decimal least ++ codes ".." ++ decimal most
+
+-- the same of either sign, of which all of 32 bits have their own words
+abbrev pub integers : ℤ → ℤ → List ℕ
+integers least most = if int_eq least (negsuc 2147483647) && int_eq most (pos 2147483647)
+    then codes " of 32 bits" else codes " " ++ signed_decimal least ++ codes ".." ++ signed_decimal most
+
+-- what the values of a list fit into
+abbrev pub width_text : Width → List ℕ
+width_text Bits16 = codes "of -32768..32767"
+width_text Bits32 = codes "of 32 bits"
+
+-- so many values, in an array or in a file
+abbrev pub values_text : ℕ → Width → List ℕ
+values_text most width = codes " or file: 1.." ++ decimal most ++ codes " values " ++ width_text width
+
+-- what stands behind the name of a key. A number in parentheses stands where the key is absent
+abbrev pub form_text : Form → List ℕ
+form_text (Natural least most None) = between least most
+form_text (Natural least most (Some absent)) = between least most ++ codes " (" ++ decimal absent ++ codes ")"
+form_text (Optional least most) = between least most ++ codes " or absent"
+form_text (Integer least most) = integers least most
+form_text (ListForm most width) = values_text most width
+
+-- a key
+abbrev pub key_text : KeyRow → List ℕ
+key_text k = k.name ++ form_text k.form
+
+-- keys, in their order
+abbrev pub keys_text : List KeyRow → List ℕ
+keys_text [] = []
+keys_text (k ∷ ks) = key_text k ++ flat_map (λ l. codes ", " ++ key_text l) ks
+
+-- the first format that has a kind, where it is not the first of all
+abbrev pub since_text : ℕ → List ℕ
+since_text n = if n == 1 then [] else codes ", format " ++ decimal n
+
+-- a line: the word of a kind and its keys
+abbrev pub line : KindRow → List ℕ
+line row = row.word ++ since_text row.since ++ codes ": " ++ keys_text row.keys ++ end
+
+-- the line of a kind's row
+abbrev pub line_of : KindWord → List ℕ
+line_of k = line (row_of k)
+
+-- the lines of these kinds, and one of these keys, which every actor may have
+abbrev pub listing_of : List KindWord → List KeyRow → List ℕ
+listing_of ks shared = flat_map line_of ks ++ codes "every kind: " ++ keys_text shared ++ end
+
+-- all kinds and their keys
+abbrev pub kinds_text : List ℕ
+kinds_text = listing_of kinds shared_keys

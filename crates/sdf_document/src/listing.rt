@@ -1,0 +1,114 @@
+//! The table of kinds as a text.
+
+ghost use Rattle.std.specs.Prelude.{◌≡◌, ◌++◌, IfOk, OnOk, string_bytes};
+ghost use Rattle.sdf_document.specs.Rows.{key_view, keys_view};
+ghost use Rattle.sdf_document.specs.Listing.{integers, width_text, values_text, form_text, key_text, keys_text};
+ghost use Rattle.sdf_document.specs.Listing.{since_text, line_of, kinds_text};
+
+use crate::row::{Form, Key, KindWord, Width, kinds, row_of, shared_keys};
+use std::alloc::{AllocError, Global};
+
+/// Adds the numbers of either sign from one to another.
+fn push_integers(text: &mut String, least: i32, most: i32) -> Result<(), AllocError>
+    ensures { OnOk result (string_bytes text.new ≡ string_bytes text.old ++ integers least most) }
+{
+    if least == i32::MIN && most == i32::MAX {
+        text.push_str(" of 32 bits")
+    } else {
+        write!(text, " {least}..{most}")
+    }
+}
+
+/// What the values of a list fit into.
+fn width_text(width: Width) -> &'static str
+    ensures { result.now ≡ width_text width }
+{
+    match width {
+        Width::Bits16 => "of -32768..32767",
+        Width::Bits32 => "of 32 bits",
+    }
+}
+
+/// Adds how many values a list has, or the file in its place, and what they fit into.
+fn push_values(text: &mut String, most: usize, width: Width) -> Result<(), AllocError>
+    ensures { OnOk result (string_bytes text.new ≡ string_bytes text.old ++ values_text most width) }
+{
+    write!(text, " or file: 1..{most} values ")?;
+    text.push_str(width_text(width))?;
+    Ok(())
+}
+
+/// Adds what stands behind the name of a key.
+fn push_form(text: &mut String, form: Form) -> Result<(), AllocError>
+    ensures { OnOk result (string_bytes text.new ≡ string_bytes text.old ++ form_text form) }
+{
+    match form {
+        Form::Natural(least, most, None) => write!(text, " {least}..{most}"),
+        Form::Natural(least, most, Some(absent)) => write!(text, " {least}..{most} ({absent})"),
+        Form::Optional(least, most) => write!(text, " {least}..{most} or absent"),
+        Form::Integer(least, most) => push_integers(text, least, most),
+        Form::List(most, width) => push_values(text, most, width),
+    }
+}
+
+fn push_key(text: &mut String, key: &Key) -> Result<(), AllocError>
+    ensures { OnOk result (string_bytes text.new ≡ string_bytes text.old ++ key_text (key_view key.now)) }
+{
+    text.push_str(key.0)?;
+    push_form(text, key.1)
+}
+
+/// Adds keys, in their order.
+#[tactic(auto, using(std::proofs::lemmas::List::map_more, std::proofs::lemmas::List::flat_map_more))]
+fn push_keys(text: &mut String, keys: &[Key]) -> Result<(), AllocError>
+    ensures { OnOk result (string_bytes text.new ≡ string_bytes text.old ++ keys_text (keys_view keys.now)) }
+{
+    let [first, rest @ ..] = keys else {
+        return Ok(());
+    };
+    push_key(text, first)?;
+    for key in rest {
+        text.push_str(", ")?;
+        push_key(text, key)?;
+    }
+    Ok(())
+}
+
+/// Adds the first format that has a kind, where it is not the first of all.
+fn push_since(text: &mut String, since: u32) -> Result<(), AllocError>
+    ensures { OnOk result (string_bytes text.new ≡ string_bytes text.old ++ since_text since) }
+{
+    if since == 1 {
+        return Ok(());
+    }
+    write!(text, ", format {since}")
+}
+
+/// Adds the line of a kind.
+fn push_line(text: &mut String, kind: KindWord) -> Result<(), AllocError>
+    ensures { OnOk result (string_bytes text.new ≡ string_bytes text.old ++ line_of kind) }
+{
+    let row = row_of(kind);
+    text.push_str(row.word)?;
+    push_since(text, row.since)?;
+    text.push_str(": ")?;
+    push_keys(text, row.keys)?;
+    text.push_str("\n")?;
+    Ok(())
+}
+
+/// The table of kinds: a line for each, with its keys, their limits and in parentheses what a key is where it is
+/// absent; and a line for the keys that every actor may have.
+pub fn kinds_text(alloc: Global) -> Result<String, AllocError>
+    ensures { IfOk result (λ text. string_bytes text ≡ kinds_text) }
+{
+    let mut text = String::new(alloc);
+    let all = kinds();
+    for kind in all {
+        push_line(&mut text, *kind)?;
+    }
+    text.push_str("every kind: ")?;
+    push_keys(&mut text, shared_keys())?;
+    text.push_str("\n")?;
+    Ok(text)
+}

@@ -1,0 +1,136 @@
+use Rattle.std.proofs.Common.{◌≡◌, ◌*◌, ◌≤◌, ◌++◌, ℕ, length, get_or, take, drop, ap, sym, ◌∙◌, subst, arith}
+use Rattle.std.specs.Prelude.{sum}
+use Rattle.std.proofs.Math.ListN.{get_or-map}
+use Rattle.std.proofs.lemmas.List.{length-map}
+use Rattle.std.proofs.lemmas.List.Sums.{get_or-le-sum_by}
+use Rattle.std.proofs.Math.Seq.{take-append_seam}
+use Rattle.sdf_limits.specs.declared.TheConstants.{MOST_BLOCK}
+use Rattle.sdf_graph.specs.Rates.{rates}
+use Rattle.sdf_graph.specs.Periods.{IsLeastPeriod}
+use Rattle.sdf_actor.specs.Graphs.{graph_of}
+use Rattle.sdf_actor.specs.Wires.{lists}
+use Rattle.sdf_answer.specs.Periods.{CanRun}
+use Rattle.sdf_answer.specs.Rows.{IsTableOf}
+use Rattle.sdf_rows.specs.Blocks.{IsResting}
+use Rattle.sdf_rows.proofs.Readings.{vec_long}
+use Rattle.sdf_rows.proofs.Ends.{begins, have_blocks, the_none}
+use Rattle.sdf_rows.proofs.fired.fire.Goals as goal
+
+pub columns-requires : goal.columns-requires
+columns-requires g c = (c.requires.table.width, c.requires.table.table.wide)
+
+pub run_blocks-requires-clause-start : goal.run_blocks-requires-clause-start
+run_blocks-requires-clause-start g c = λ κs within.
+    let s = g.A.Actor.steps in
+    let n = c.args.net.now in
+    let p = c.args.plan.now in
+    let q = c.repetitions-repetitions.result.now in
+    let same = c.repetitions-repetitions.ensures in
+    let least = subst (IsLeastPeriod (rates (graph_of s n))) (sym same) c.requires.period.least in
+    let can = subst (λ r. CanRun s n r (p.blocks * p.j) (lists c.args.inputs.now)) (sym same)
+    (c.nets_can_run.ensures n p.period.now (p.blocks * p.j) (lists c.args.inputs.now)
+    (c.nets_have_periods.ensures p.period.now c.requires.period) c.requires.inputs) in
+    let short = subst (λ r. p.j * sum r ≤ MOST_BLOCK) (sym same) c.requires.table.size.short in
+    begins s c.histories_make_outputs.ensures.begin n c.net_facts.ensures.net
+    (c.nets_are_wired.ensures.wired n c.net_facts.ensures.net) q p.j p.blocks (lists c.args.inputs.now) can
+    short (omega arith)
+    c.samples_of_blocks-room.result (c.samples_of_blocks-room.ensures
+    ∙ ap (λ m. p.blocks * p.j * m) (c.samples_out.ensures.value q least))
+    c.deref_mut-4.result.now (λ a. ap (λ xs. get_or xs a 0) (c.deref_mut-4.ensures.value ∙ c.in_ok-done.ensures)
+    ∙ get_or-map (λ (x : ℕ). the_none) q a 0)
+    c.deref_mut-2.result.now c.deref_mut-3.result.now
+    (ap length c.deref_mut-2.ensures.value ∙ (vec_long c.in_ok-states.states ∙ c.in_ok-states.ensures.0))
+    (λ a w l. rw (c.deref_mut-2.ensures.value) (c.in_ok-states.ensures.1 a w l))
+    (ap length c.deref_mut-3.ensures.value ∙ (vec_long c.in_ok-queues.queues ∙ c.in_ok-queues.ensures.0))
+    (λ d l. rw (c.deref_mut-3.ensures.value) (c.in_ok-queues.ensures.1 d l))
+
+pub run_blocks-requires-clause-blocks : goal.run_blocks-requires-clause-blocks
+run_blocks-requires-clause-blocks g c = λ κs within.
+    have_blocks g.A.Actor.steps c.args.net.now c.in_ok-sizes.sizes c.in_ok-sizes.ensures c.deref_mut.result.now
+    c.columns.result
+    (ap length c.deref_mut.ensures.value ∙ (vec_long c.in_ok-jobs.jobs ∙ c.in_ok-jobs.ensures.0))
+    (λ i d h. rw (c.deref_mut.ensures.value) (c.in_ok-jobs.ensures.1 i d h))
+
+pub run_blocks-requires-clause-wide : goal.run_blocks-requires-clause-wide
+run_blocks-requires-clause-wide g c = λ κs within. λ i h.
+    omega (
+      arith,
+      c.columns.ensures i h,
+      ap length c.deref_mut.ensures.value,
+      vec_long c.in_ok-jobs.jobs,
+      c.in_ok-jobs.ensures.0,
+    )
+
+pub returns : goal.returns
+returns g c =
+    let s = g.A.Actor.steps in
+    let n = c.args.net.now in
+    let p = c.args.plan.now in
+    let k : ℕ → ℕ = (λ a. get_or c.run_blocks.new.done a 0) in
+    let made = c.run_blocks.new.states in
+    let rest = subst (λ r. IsResting s n (lists c.args.inputs.now) r p.j p.blocks p.blocks k made
+    c.run_blocks.new.queues) c.repetitions-repetitions.ensures c.run_blocks.ensures.over in
+    let long : c.in_ok-states.states.len ≡ length made = omega (arith, c.in_ok-states.ensures.0, rest.between.nodes) in
+    let whole = ap (λ m. take m (made ++ drop (length made) c.in_ok-states.states.items)) long
+    ∙ take-append_seam made (drop (length made) c.in_ok-states.states.items) in
+    let held = c.run_blocks.new.queues in
+    let held_long : c.in_ok-queues.queues.len ≡ length held =
+    omega (arith, c.in_ok-queues.ensures.0, rest.between.channels) in
+    let held_whole = ap (λ m. take m (held ++ drop (length held) c.in_ok-queues.queues.items)) held_long
+    ∙ take-append_seam held (drop (length held) c.in_ok-queues.queues.items) in (
+      k,
+      subst (λ v. IsResting s n (lists c.args.inputs.now) p.period.now.repetitions p.j p.blocks p.blocks k v
+          (take c.in_ok-queues.queues.len (held ++ drop (length held) c.in_ok-queues.queues.items))) (sym whole)
+          (subst (λ v. IsResting s n (lists c.args.inputs.now) p.period.now.repetitions p.j p.blocks p.blocks k made v)
+          (sym held_whole) rest),
+    )
+
+pub run_blocks-requires-clause-scene : goal.run_blocks-requires-clause-scene
+run_blocks-requires-clause-scene g c = λ κs within.
+    record { good = c.net_facts.ensures.net; sizes = c.in_ok-sizes.ensures }
+
+pub run_blocks-requires-clause-graph : goal.run_blocks-requires-clause-graph
+run_blocks-requires-clause-graph g c = λ κs within. c.net_facts.ensures.graph
+
+pub run_blocks-requires-clause-alike : goal.run_blocks-requires-clause-alike
+run_blocks-requires-clause-alike g c = λ κs within. c.net_facts.ensures.alike
+
+pub run_blocks-requires-clause-period : goal.run_blocks-requires-clause-period
+run_blocks-requires-clause-period g c = λ κs within. subst
+    (IsLeastPeriod (rates (graph_of g.A.Actor.steps c.args.net.now))) (sym c.repetitions-repetitions.ensures)
+    c.requires.period.least
+
+pub run_blocks-requires-clause-table : goal.run_blocks-requires-clause-table
+run_blocks-requires-clause-table g c = λ κs within.
+    subst (λ q. IsTableOf (rates (graph_of g.A.Actor.steps c.args.net.now)) q c.args.plan.now.j
+    c.args.plan.now.table.now) (sym c.repetitions-repetitions.ensures) c.requires.table
+
+pub run_blocks-requires-clause-counted : goal.run_blocks-requires-clause-counted
+run_blocks-requires-clause-counted g c = λ κs within.
+    ap length (c.deref_mut-4.ensures.value ∙ c.in_ok-done.ensures)
+    ∙ (length-map c.repetitions-repetitions.result.now (λ (x : ℕ). the_none)
+    ∙ (ap length c.repetitions-repetitions.ensures ∙ c.requires.period.least.is.all))
+
+pub make_queues-requires-clause-all : goal.make_queues-requires-clause-all
+make_queues-requires-clause-all g c = λ κs within. ap length c.repetitions-repetitions.ensures
+    ∙ c.requires.period.least.is.all
+
+pub make_queues-requires-clause-short : goal.make_queues-requires-clause-short
+make_queues-requires-clause-short g c = λ κs within. λ a l.
+    let q = c.repetitions-repetitions.result.now in
+    omega (
+      arith,
+      get_or-le-sum_by (λ x. x) q a 0 l,
+      ap sum c.repetitions-repetitions.ensures,
+      c.requires.period.all,
+      c.requires.period.within,
+    )
+
+pub make_queues-requires-clause-few : goal.make_queues-requires-clause-few
+make_queues-requires-clause-few g c = λ κs within. omega (arith, c.requires.table.size.factor.1)
+
+pub samples_of_blocks-room-requires-clause-short : goal.samples_of_blocks-room-requires-clause-short
+samples_of_blocks-room-requires-clause-short g c = c.requires.table.size.factor.1
+
+pub samples_of_blocks-room-requires-clause-few : goal.samples_of_blocks-room-requires-clause-few
+samples_of_blocks-room-requires-clause-few g c = c.samples_out.ensures.few

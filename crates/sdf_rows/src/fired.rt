@@ -1,0 +1,118 @@
+//! The firings of a run by rows.
+
+ghost use Rattle.std.specs.Prelude.{◌≡◌, ◌*◌, ◌≤◌, ◌<◌, ℕ, length, map, IfOk};
+ghost use Rattle.sdf_graph.specs.Rates.{rates};
+ghost use Rattle.sdf_sched.specs.Period.{IsPeriodOf};
+ghost use Rattle.sdf_actor.specs.Graphs.{graph_of};
+ghost use Rattle.sdf_actor.specs.Wires.{lists};
+ghost use Rattle.sdf_limits.specs.declared.TheConstants.{MOST_BLOCK};
+ghost use Rattle.sdf_prec.specs.Tables.{row, firings};
+ghost use Rattle.sdf_answer.specs.Answer.{HasInputs};
+ghost use Rattle.sdf_answer.specs.Rows.{IsTableOf};
+ghost use Rattle.sdf_rows.specs.Blocks.{IsOver};
+
+use crate::runs::{Course, run_blocks};
+use crate::setup::{make_jobs, make_states};
+use crate::stage::Scene;
+use sdf_actor::{Actor, Net};
+use sdf_answer::laws::{histories_make_outputs, net_facts, nets_can_run, nets_have_periods};
+use sdf_answer::rooms::make_queues;
+use sdf_answer::sizes::samples_of_blocks;
+use sdf_answer::{Queue, Sizes};
+use sdf_node::{Gate, NodeState};
+use sdf_prec::Table;
+use sdf_sched::Period;
+use std::alloc::{AllocError, Global};
+use std::thread::Threads;
+
+/// What is run: so many blocks of `j` periods, as a table says.
+#[derive(Drop)]
+pub(crate) struct Plan<'a> {
+    pub(crate) period: &'a Period,
+    pub(crate) j: u32,
+    pub(crate) table: &'a Table,
+    pub(crate) blocks: u32,
+}
+
+/// A run that has fired all its blocks.
+#[derive(Drop)]
+pub(crate) struct Fired<A: Actor> {
+    pub(crate) states: Vec<NodeState<A::Token, A::State>>,
+    pub(crate) queues: Vec<Queue<A::Token>>,
+}
+
+/// How many columns a table has, where all its rows have as many.
+fn columns(table: &Table) -> usize
+    requires { (width : ℕ) × ((i : ℕ) → i < length table.now.rows → length (row table.now.rows i) ≡ width) }
+    ensures { (i : ℕ) → i < length table.now.rows → length (firings (row table.now.rows i)) ≤ result }
+{
+    if table.rows() == 0 {
+        return 0;
+    }
+    table.row(0).len()
+}
+
+/// How often each node has fired before a run.
+fn none_done(alloc: Global, repetitions: &[u32]) -> Result<Vec<u64>, AllocError>
+    ensures { IfOk result (λ v. v.items ≡ map (λ _. 0) repetitions.now) }
+{
+    repetitions.iter().map(|_| 0u64).collect(alloc)
+}
+
+/// Fires all blocks.
+pub(crate) fn fire<R: Threads + AllocGlobal + Sync, A: Actor, G: Gate>(
+    rt: &R,
+    net: &Net<A>,
+    plan: &Plan,
+    inputs: &[Vec<A::Token>],
+    filler: A::Token,
+    gate: &G,
+) -> Result<Fired<A>, AllocError>
+    requires period { IsPeriodOf (rates (graph_of A.steps net.now)) plan.now.period.now }
+    requires table { IsTableOf (rates (graph_of A.steps net.now)) plan.now.period.now.repetitions plan.now.j
+        plan.now.table.now }
+    requires inputs { HasInputs net.now plan.now.period.now.repetitions (plan.now.blocks * plan.now.j)
+        (lists inputs.now) }
+    ensures { IfOk result (λ run. IsOver A.steps net.now (lists inputs.now) plan.now.period.now.repetitions plan.now.j
+        plan.now.blocks run.states.items run.queues.items) }
+{
+    net_facts(net);
+    nets_have_periods(net);
+    nets_can_run::<A>();
+    histories_make_outputs::<A>();
+    sdf_actor::laws::nets_are_wired::<A>();
+    let alloc = rt.alloc();
+    let repetitions = plan.period.repetitions();
+    let room = samples_of_blocks(plan.blocks, plan.j, net.samples_out());
+    let mut states = make_states(alloc, net, room)?;
+    let mut queues = make_queues(alloc, net, repetitions, plan.j)?;
+    let mut jobs = make_jobs(alloc, net, columns(plan.table), filler)?;
+    let mut done = none_done(alloc, repetitions)?;
+    let sizes = Sizes::new(alloc, net)?;
+    let scene = Scene { net, inputs, sizes };
+    let course = Course {
+        table: plan.table,
+        repetitions,
+        j: plan.j,
+    };
+    run_blocks(
+        rt,
+        &scene,
+        &course,
+        plan.blocks,
+        &mut jobs,
+        &mut states,
+        &mut queues,
+        &mut done,
+        gate,
+    );
+    Ok(Fired { states, queues })
+}
+
+/// How many rows are fired in so many blocks.
+pub(crate) fn rounds_of(blocks: u32, rows: usize) -> u64
+    requires { rows ≤ MOST_BLOCK }
+    ensures { result ≡ blocks * rows }
+{
+    u64::from(blocks) * rows as u64
+}

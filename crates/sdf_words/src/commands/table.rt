@@ -1,0 +1,173 @@
+//! The table of commands: what each takes, and what its help says.
+
+use super::{Choice, Place, Row, Values};
+use crate::options::{MOST_FAULT, PLACEMENT_WORDS, POLICY_WORDS, RUNNER_WORDS};
+use sdf_limits::{MOST_BLOCKING, MOST_PATIENCE, MOST_WORKERS};
+
+const GRAPH: Place = Place {
+    name: "GRAPH",
+    help: "The graph file",
+    more: "The graph file, a TOML document that names actors and links them. The coefficient files that it
+names lie in its folder",
+    values: Values::Text,
+};
+
+const IN: Place = Place {
+    name: "IN",
+    help: "The WAV file to read, `-` for standard input",
+    more: "The WAV file to read: 16-bit PCM, 1 to 8 channels.
+`-` is standard input, and a file of that name is `./-`",
+    values: Values::Text,
+};
+
+const OUT: Place = Place {
+    name: "OUT",
+    help: "The WAV file to write, none that is read, `-` for standard output",
+    more: "The WAV file to write, which may be none that is read. What was in it is gone.
+`-` is standard output, and a file of that name is `./-`",
+    values: Values::Text,
+};
+
+const NUMBER: Place = Place {
+    name: "NUMBER",
+    help: "The number of a fault, 1 to 63, or its name",
+    more: "The number of a fault, 1 to 63, or its name, as a fault's line has them: `sdfw: 10 Deadlock`",
+    values: Values::Signed(1, MOST_FAULT as i64),
+};
+
+const BLOCKING: Choice = Choice {
+    name: "blocking",
+    value_name: "J",
+    help: "Periods in a block, 1 to 64",
+    more: "Periods in a block, 1 to 64. The table has the firings of one block: in a longer block more of
+them can be done at the same time, and links hold more samples.
+In `run` it has no effect without `--runner rows` or `--runner rings`",
+    values: Values::Signed(1, MOST_BLOCKING as i64),
+    default: "1",
+};
+
+const WORKERS: Choice = Choice {
+    name: "workers",
+    value_name: "M",
+    help: "Workers, 1 to 16",
+    more: "Workers, 1 to 16: the columns of the table, each of which does its firings in a thread.
+In `run` it has no effect without `--runner rows` or `--runner rings`",
+    values: Values::Unsigned(1, MOST_WORKERS as u64),
+    default: "1",
+};
+
+const POLICY: Choice = Choice {
+    name: "policy",
+    value_name: "P",
+    help: "Which actor fires next",
+    more: "Which of the actors that may fire is next in the order of a period:
+- round: passes over the actors in file order, in which each that may fire fires once
+- lean: the one whose firing adds least to what the links hold
+- runs: the same one while it may, and then the next in file order
+The table does not go by it without `--placement file`.
+In `run` it has no effect without that and `--runner rows` or `--runner rings`",
+    values: Values::OneOf(POLICY_WORDS),
+    default: "round",
+};
+
+const PLACEMENT: Choice = Choice {
+    name: "placement",
+    value_name: "L",
+    help: "How firings come to workers",
+    more: "Which worker does a firing, and in which row of the table:
+- hu: any worker that is not busy; first those firings on which the longest chain of others waits
+- homed: the same, but each actor stays with the worker that its first firing went to
+- file: the worker that the key `processor` of the actor names; one firing a row
+In `run` it has no effect without `--runner rows` or `--runner rings`",
+    values: Values::OneOf(PLACEMENT_WORDS),
+    default: "homed",
+};
+
+const RUNNER: Choice = Choice {
+    name: "runner",
+    value_name: "R",
+    help: "How firings are run",
+    more: "How firings are run:
+- one: in one thread; `--blocking`, `--workers`, `--policy`, `--placement` and `--patience` have no effect
+- rows: the firings of a row of the table at once, then those of the next row
+- rings: each worker at its own pace, over a ring for each link; each actor needs one worker, as by
+  `--placement homed` or `--placement file`",
+    values: Values::OneOf(RUNNER_WORDS),
+    default: "one",
+};
+
+const PATIENCE: Choice = Choice {
+    name: "patience",
+    value_name: "T",
+    help: "Repeated tests in a round, at most 1000000",
+    more: "How often a worker whose next firing lacks samples or room tests again, in all, before its round
+ends; at most 1000000.
+It has no effect without `--runner rings`",
+    values: Values::Signed(0, MOST_PATIENCE as i64),
+    default: "1000",
+};
+
+/// The examples of the program itself.
+pub(super) const EXAMPLES: &str = "Examples:
+  sdfw check graph.toml
+  sdfw run graph.toml in.wav out.wav";
+
+pub(super) static COMMANDS: [Row; 5] = [
+    Row {
+        name: "check",
+        help: "Checks a graph file and prints its period",
+        more: "Checks a graph file and prints its period: how many actors and links there are, how many firings make
+a period, how many of them are each actor's, and how many samples an input puts and an output takes
+in one. A fault is a line on standard error, which `sdfw explain` explains.",
+        places: &[GRAPH],
+        choices: &[],
+        examples: "Examples:
+  sdfw check graph.toml
+  sdfw check examples/44100-to-48000/graph.toml",
+    },
+    Row {
+        name: "schedule",
+        help: "Prints a schedule of a graph file for some workers",
+        more: "Prints a schedule of a graph file for some workers: the order of a period's firings one by one, then
+the table of a block, a line for each row with the firing of each worker, and the most samples that
+each link holds.",
+        places: &[GRAPH],
+        choices: &[BLOCKING, WORKERS, POLICY, PLACEMENT],
+        examples: "Examples:
+  sdfw schedule graph.toml --policy lean
+  sdfw schedule graph.toml --workers 2 --blocking 4",
+    },
+    Row {
+        name: "run",
+        help: "Processes a WAV file",
+        more: "Processes a WAV file: runs as many periods of the design as it takes to read IN, and writes what its
+outputs take to OUT. The bytes are the same whatever the options are.",
+        places: &[GRAPH, IN, OUT],
+        choices: &[BLOCKING, WORKERS, POLICY, PLACEMENT, RUNNER, PATIENCE],
+        examples: "Examples:
+  sdfw run graph.toml in.wav out.wav
+  sdfw run graph.toml - - --runner rings --workers 2 --blocking 64 < in.wav > out.wav",
+    },
+    Row {
+        name: "kinds",
+        help: "Lists the kinds of actors, their keys and limits",
+        more: "Lists the kinds of actors, their keys and limits: a line for each kind, and a last one for the keys
+that every actor may have. A number in parentheses stands where the key is absent.",
+        places: &[],
+        choices: &[],
+        examples: "Examples:
+  sdfw kinds
+  sdfw kinds | grep fir",
+    },
+    Row {
+        name: "explain",
+        help: "Says what a fault means and what to do about it",
+        more: "Says what a fault means and what to do about it: how its line goes on, within which limits it does
+not come, and a remedy.",
+        places: &[NUMBER],
+        choices: &[],
+        examples: "Examples:
+  sdfw explain 10
+  sdfw explain Deadlock",
+    },
+];

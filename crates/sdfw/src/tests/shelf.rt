@@ -1,0 +1,125 @@
+//! Files in memory.
+
+use super::files::{FILTERED, PLAIN, SOUND};
+use crate::storage::Storage;
+use std::alloc::Global;
+use std::cell::RefCell;
+use std::io::{self, Error, ErrorKind, Write};
+use std::path::{Path, PathBuf};
+
+/// Two samples stand on the link, and each actor has a processor of its own.
+const BEGUN: &str = r#"format = 1
+actor = [{ name = "in", kind = "input", channel = 0, processor = 1 },
+    { name = "out", kind = "output", channel = 0, processor = 0 }]
+link = [{ from = "in", to = "out", initial = [7, 8] }]"#;
+
+/// Each end of the one link moves other numbers of samples.
+const BLOCKS: &str = r#"format = 1
+actor = [{ name = "in", kind = "input", channel = 0, block = 2 },
+    { name = "out", kind = "output", channel = 0, block = 3 }]
+link = [{ from = "in", to = "out" }]"#;
+
+/// A period of 2,047 firings.
+const LONG: &str = r#"format = 1
+actor = [{ name = "in", kind = "input", channel = 0, block = 1023 },
+    { name = "out", kind = "output", channel = 0, block = 1024 }]
+link = [{ from = "in", to = "out" }]"#;
+
+/// A loop on which no sample stands.
+const STUCK: &str = r#"format = 1
+actor = [{ name = "in", kind = "input", channel = 0 }, { name = "add", kind = "add", ways = 2 },
+    { name = "fork", kind = "fork", ways = 2 },
+    { name = "out", kind = "output", channel = 0 }]
+link = [{ from = "in", to = "add:0" }, { from = "add", to = "fork" },
+    { from = "fork:0", to = "out" }, { from = "fork:1", to = "add:1" }]"#;
+
+pub(super) const TAPS: &str = "format = 1\nvalues = [1]\n";
+
+/// The same taps in a file that is longer than the graph file.
+pub(super) const PADDED: &str = "format = 1
+# The taps of a filter that hands on what it takes: it has one tap, which is 1, and divides by nothing. What else is said
+# here makes the file longer than the graph file that names it, so that a limit can stand between the two: no graph file
+# of this test is as long as this one, which is read after it, and is refused where it is a byte longer than may be.
+# What is past the limit is not looked at, so it does not matter what would stand there.
+values = [1]
+";
+
+/// The graph files and coefficient files of the tests.
+const TEXTS: [(&str, &str); 10] = [
+    ("plain.toml", PLAIN),
+    ("-", PLAIN),
+    ("begun.toml", BEGUN),
+    ("blocks.toml", BLOCKS),
+    ("long.toml", LONG),
+    ("stuck.toml", STUCK),
+    ("filtered.toml", FILTERED),
+    ("one.toml", TAPS),
+    ("padded/filtered.toml", FILTERED),
+    ("padded/one.toml", PADDED),
+];
+
+/// The bytes of a file of the tests.
+fn bytes_of(path: &str) -> Option<&'static [u8]> {
+    if path == "in.wav" || path == "./-" {
+        return Some(SOUND.as_slice());
+    }
+    for (name, text) in TEXTS {
+        if path == name {
+            return Some(text.as_bytes());
+        }
+    }
+    None
+}
+
+/// Files in memory, and what was written. Only out.wav can be made. The file `-` is no sound, and `./-` is one.
+#[derive(Clone, Copy)]
+pub(super) struct Shelf<'a> {
+    pub(super) written: &'a RefCell<Vec<u8>>,
+}
+
+/// The file that is written.
+#[derive(Clone, Copy)]
+pub(super) struct Slot<'a> {
+    written: &'a RefCell<Vec<u8>>,
+}
+
+impl Write for Slot<'_> {
+    fn write(&mut self, bytes: &[u8]) -> io::Result<usize> {
+        match self.written.try_borrow_mut() {
+            Ok(mut written) => written.write(bytes),
+            Err(_) => Err(Error::from(ErrorKind::ResourceBusy)),
+        }
+    }
+
+    fn flush(&mut self) -> io::Result<()> {
+        Ok(())
+    }
+}
+
+impl<'a> Storage for Shelf<'a> {
+    type Source = &'static [u8];
+
+    type Sink = Slot<'a>;
+
+    fn open(&self, path: &str) -> io::Result<&'static [u8]> {
+        if path == "no-memory" {
+            return Err(Error::from(ErrorKind::OutOfMemory));
+        }
+        bytes_of(path).ok_or(Error::from(ErrorKind::NotFound))
+    }
+
+    fn create(&self, path: &str) -> io::Result<Slot<'a>> {
+        if path == "out.wav" {
+            Ok(Slot {
+                written: self.written,
+            })
+        } else {
+            Err(Error::from(ErrorKind::PermissionDenied))
+        }
+    }
+
+    fn only_path(&self, alloc: Global, path: &str) -> io::Result<PathBuf> {
+        self.open(path)?;
+        Ok(Path::new(path).to_path_buf(alloc)?)
+    }
+}

@@ -1,0 +1,58 @@
+//! Runs from standard input and to standard output, over files in memory.
+
+use super::files::{SOUND, ends_between};
+use super::shelf::Shelf;
+use crate::files::MOST_BYTES;
+use crate::program::World;
+use std::cell::RefCell;
+use std::process::Abort;
+use std::test::Fail;
+use std::thread::Threads;
+
+/// Whether a run of plain.toml ends so: its exit status, what stands on standard output and on standard error, and in
+/// the file that is written.
+fn ends_so<T: Abort + Threads + AllocGlobal + Sync>(
+    rt: &T,
+    stdin: &[u8],
+    words: &[&str],
+    wanted: (u8, &[u8], &str, &[u8]),
+) -> Result<(), Fail> {
+    let alloc = rt.alloc();
+    let written = RefCell::new(Vec::new(alloc));
+    let world = World {
+        storage: &Shelf { written: &written },
+        threads: rt,
+        most: MOST_BYTES,
+    };
+    let mut line = Vec::new(alloc);
+    line.extend_from_slice(["sdfw", "run", "plain.toml"].as_slice())?;
+    line.extend_from_slice(words)?;
+    let mut out = Vec::new(alloc);
+    let (status, err) = ends_between(&world, stdin, &mut out, line.as_slice())?;
+    assert_eq!(rt; (status, err.as_str()), (wanted.0, wanted.2), "{words:?}");
+    assert_eq!(rt; out.as_slice(), wanted.1, "{words:?}");
+    assert_eq!(rt; written.into_inner().as_slice(), wanted.3, "{words:?}");
+    Ok(())
+}
+
+/// The bytes of a sound are on standard output and nowhere else, and those of a file in the file alone. The file `-`
+/// is not looked at, and `./-` is one.
+#[test]
+fn dashes_are_streams(rt: HostRuntime) -> Result<(), Fail> {
+    let sound = SOUND.as_slice();
+    let rings = ["-", "-", "--runner", "rings"];
+    ends_so(&rt, sound, &["-", "-"], (0, sound, "", b""))?;
+    ends_so(&rt, sound, &rings, (0, sound, "", b""))?;
+    ends_so(&rt, sound, &["-", "out.wav"], (0, b"", "", sound))?;
+    ends_so(&rt, b"", &["in.wav", "-"], (0, sound, "", b""))?;
+    ends_so(&rt, b"", &["./-", "out.wav"], (0, b"", "", sound))?;
+    ends_so(&rt, sound, &["-", "./-"], (5, b"", "sdfw: 48 Write\n", b""))
+}
+
+/// What a fault left stands on standard output, and its line does not.
+#[test]
+fn faults_leave_streams(rt: HostRuntime) -> Result<(), Fail> {
+    let told = "sdfw: 43 Truncated\n";
+    ends_so(&rt, b"", &["-", "-"], (4, b"", told, b""))?;
+    ends_so(&rt, &SOUND[..47], &["-", "-"], (4, &SOUND[..44], told, b""))
+}

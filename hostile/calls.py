@@ -1,0 +1,139 @@
+"""The lists of the libraries' calls: `hostile_calls` makes a call, in which memory or a thread is refused, and then the
+same call again with both."""
+import re
+import time
+from itertools import product
+
+from judges import is_text
+from machine import BUILD, describe, run
+
+CALLS = BUILD / "hostile_calls"
+WORKERS = {"rows": ["--runner", "rows", "--workers", "2"],
+           "rings": ["--runner", "rings", "--workers", "2", "--patience", "0"]}
+RUNNERS = {"one": [], **WORKERS}
+POLICIES = ["round", "lean", "runs"]
+PLACEMENTS = ["hu", "homed", "file"]
+NO_MEMORY = b"1 OutOfMemory\n"
+NO_WORKER = b"32 NoWorker\n"
+SPENT = b"33 SessionFailed\n"
+
+# The designs whose workers are held up, and in how many runs on each number of workers from 1 to 16: 10,000 in all.
+HELD = {"chain.toml": 25, "blocks.toml": 150, "loop.toml": 150, "fork.toml": 150, "bank.toml": 150}
+HELD_SECONDS = 1800
+
+
+def call_words(call, design, *options):
+    return [CALLS, call, "run", design, "short.wav", "out.wav", *options]
+
+
+def parts(ended):
+    """What is printed of a call, and of the same call again."""
+    first, _, again = ended.printed.removeprefix(b"call\n").partition(b"again\n")
+    return first, again
+
+
+def ample_or(is_refusal):
+    """The ample answer or a refusal, and then the ample one: what was lent is as it was."""
+
+    def allowed(ended, ample, at):
+        first, again = parts(ended)
+        ample_first, wanted = parts(ample)
+        ended_well = ended.status == 0 and not ended.told and ample_first == again == wanted
+        return ended_well and (first == wanted or is_refusal(first, wanted))
+
+    return allowed
+
+
+def told(fault):
+    return lambda first, wanted: first == fault
+
+
+def told_and_spent(fault):
+    """A feed that was refused, and behind it a feed, an empty one and the end of the session."""
+    return told(fault + 3 * SPENT)
+
+
+def written(said):
+    """The bytes that are told to be written."""
+    numbers = re.search(rb"^wrote \[(.*)\]$", said, re.MULTILINE)
+    return bytes(int(number) for number in numbers[1].split(b",") if number)
+
+
+def told_with_text(fault, period):
+    """A run from bytes to bytes that was refused, and wrote nothing, the header, or it and whole periods."""
+
+    def is_refusal(first, wanted):
+        return first.startswith(fault + b"wrote ") and is_text(written(first), written(wanted), period)
+
+    return is_refusal
+
+
+def refuse(lists, name, words, kind, is_refusal, **how):
+    lists.refuse(f"{name}: {'memory' if kind == 'memory' else 'threads'}", words, kind, ample_or(is_refusal),
+                 window="call", **how)
+
+
+def both(lists, name, words, refusal_of):
+    """Refuses memory, and threads where the call starts some."""
+    refuse(lists, name, words, "memory", refusal_of(NO_MEMORY))
+    if lists.wants(f"{name}: threads") and run(words, window="call").calls("thread"):
+        refuse(lists, name, words, "thread", refusal_of(NO_WORKER))
+
+
+def designs(lists):
+    for call in ("design_files", "read_design"):
+        refuse(lists, call, call_words(call, "chain.toml"), "memory", told(NO_MEMORY))
+    for runner, policy, placement in product(RUNNERS, POLICIES, PLACEMENTS):
+        options = ["--workers", "2", "--runner", runner, "--policy", policy, "--placement", placement]
+        refuse(lists, f"plan {runner} {policy} {placement}", call_words("plan", "fork.toml", *options), "memory",
+               told(NO_MEMORY))
+    for policy in POLICIES:
+        options = ["--workers", "2", "--runner", "rings", "--policy", policy]
+        refuse(lists, f"plan of the chain {policy}", call_words("plan", "chain.toml", *options), "memory",
+               told(NO_MEMORY))
+
+
+def runs(lists):
+    for design, runner in product(("blocks", "loop"), RUNNERS):
+        both(lists, f"run_{runner} {design}", call_words("run", f"{design}.toml", *RUNNERS[runner]), told)
+    for design, mode in product(("blocks", "loop"), WORKERS):
+        options = WORKERS[mode]
+        refuse(lists, f"Session::open {mode} {design}", call_words("open", f"{design}.toml", *options), "memory",
+               told(NO_MEMORY))
+        both(lists, f"Session::feed {mode} {design}", call_words("feed", f"{design}.toml", *options), told_and_spent)
+    for design in ("blocks", "loop"):
+        refuse(lists, f"Rings {design}", call_words("finish", f"{design}.toml", *WORKERS["rings"]), "memory",
+               told(NO_MEMORY), none=True)
+
+
+def sounds(lists):
+    for runner in RUNNERS:
+        words = call_words("process", "chain.toml", *RUNNERS[runner])
+        refuse(lists, f"process {runner}", words, "memory", told_with_text(NO_MEMORY, 320))
+
+
+def held(lists):
+    """Runs whose workers are held up for turns of a seeded generator make what one thread makes."""
+    for seed, (design, each) in enumerate(HELD.items()):
+        name = f"held up: {design}"
+        if not lists.wants(name):
+            continue
+        begun = time.monotonic()
+        ended = run([CALLS, "disturb", str(each), str(seed), design], seconds=HELD_SECONDS)
+        lines = re.findall(r"^\S+ (\d+): (\d+) runs, (\d+) same, (\d+) refused, (\d+) turns$",
+                           ended.printed.decode(), re.MULTILINE)
+        counts = [[int(number) for number in line] for line in lines]
+        wrong = [f"workers, runs, same, refused, turns: {line}" for line in counts
+                 if line[1:4] != [each, each, 0] or line[4] == 0]
+        if ended.status != 0 or [line[0] for line in counts] != list(range(1, 17)):
+            wrong.append(describe(ended))
+        turns = sum(line[4] for line in counts)
+        lists.end(name, f"{ended.calls('thread')} threads, {turns} turns", sum(line[1] for line in counts), begun,
+                  wrong)
+
+
+def all_lists(lists):
+    designs(lists)
+    runs(lists)
+    sounds(lists)
+    held(lists)
