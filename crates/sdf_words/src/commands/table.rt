@@ -1,8 +1,9 @@
 //! The table of commands: what each takes, and what its help says.
 
 use super::{Choice, Place, Row, Values};
-use crate::options::{MOST_FAULT, PLACEMENT_WORDS, POLICY_WORDS, RUNNER_WORDS};
+use crate::asked::MOST_FAULT;
 use sdf_limits::{MOST_BLOCKING, MOST_PATIENCE, MOST_WORKERS};
+use sdf_options::{PLACEMENT_WORDS, POLICY_WORDS, RUNNER_WORDS};
 
 const GRAPH: Place = Place {
     name: "GRAPH",

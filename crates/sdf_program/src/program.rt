@@ -10,12 +10,13 @@ use crate::overwriting::keep_what_is_read;
 use crate::storage::Storage;
 use sdf_document::kinds_text;
 use sdf_file::{Design, check_text};
+use sdf_options::{Options, WordFault};
 use sdf_process::planning::plan;
 use sdf_process::process::process;
 use sdf_process::schedule::schedule;
 use sdf_process::{Fault, Plan, fault_text, status};
 use sdf_wav::{FromRead, ToWrite};
-use sdf_words::{Options, WordFault, Words, explained, words};
+use sdf_words::{Words, explained, words};
 use std::alloc::{AllocError, Global};
 use std::io::{Read, Write};
 use std::thread::Threads;
@@ -25,11 +26,11 @@ pub(crate) const STANDARD: &str = "-";
 
 /// What commands are done with. The threads are for a run with workers, and bring the memory.
 #[derive_where(Clone, Copy)]
-pub(crate) struct World<'a, S, T> {
-    pub(crate) storage: &'a S,
-    pub(crate) threads: &'a T,
+pub struct World<'a, S, T> {
+    pub storage: &'a S,
+    pub threads: &'a T,
     /// The most bytes of a graph file or a coefficient file.
-    pub(crate) most: u32,
+    pub most: u32,
 }
 
 /// Prints an answer.
@@ -219,7 +220,7 @@ fn answer<S: Storage, T: Threads + AllocGlobal + Sync, I: Read, O: Write>(
 
 /// The whole program: what it was started with, what it works on and standard input come in, what it prints and
 /// its exit status come out.
-pub(crate) fn serve<S: Storage, T: Threads + AllocGlobal + Sync, I: Read, O: Write, E: Write>(
+pub fn serve<S: Storage, T: Threads + AllocGlobal + Sync, I: Read, O: Write, E: Write>(
     world: &World<S, T>,
     stdin: &mut I,
     out: &mut O,

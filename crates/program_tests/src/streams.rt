@@ -1,9 +1,9 @@
 //! What the program prints, on which stream, and its exit status, over files in memory.
 
-use super::files::{FILTERED, ends_into};
-use super::shelf::{PADDED, Shelf, TAPS};
-use crate::files::MOST_BYTES;
-use crate::program::World;
+use crate::files::{FILTERED, ends_into};
+use crate::shelf::{PADDED, Shelf, TAPS};
+use sdf_program::files::MOST_BYTES;
+use sdf_program::program::World;
 use std::cell::RefCell;
 use std::process::Abort;
 use std::test::Fail;
