@@ -16,6 +16,12 @@ pub enum Words<'a> {
         graph: &'a str,
         options: Options,
     },
+    /// The options as of a schedule. With `compare` the policy and the placement mean nothing.
+    Analyze {
+        graph: &'a str,
+        options: Options,
+        compare: bool,
+    },
     Run {
         graph: &'a str,
         input: &'a str,

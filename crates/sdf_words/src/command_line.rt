@@ -76,6 +76,17 @@ fn schedule_of<'a>(matches: &ArgMatches<'a>) -> Option<Words<'a>>
     })
 }
 
+/// What `analyze` is asked for.
+fn analyze_of<'a>(matches: &ArgMatches<'a>) -> Option<Words<'a>>
+    ensures { IfSome result IsWithinLimits }
+{
+    Some(Words::Analyze {
+        graph: matches.get_str("GRAPH")?,
+        options: plan_options_of(matches)?,
+        compare: matches.get_flag("compare"),
+    })
+}
+
 /// What `run` is asked for.
 fn run_of<'a>(matches: &ArgMatches<'a>) -> Option<Words<'a>>
     ensures { IfSome result IsWithinLimits }
@@ -97,6 +108,7 @@ fn asked<'a>(name: &str, matches: &ArgMatches<'a>) -> Option<Words<'a>>
             graph: matches.get_str("GRAPH")?,
         }),
         "schedule" => schedule_of(matches),
+        "analyze" => analyze_of(matches),
         "run" => run_of(matches),
         "kinds" => Some(Words::Kinds),
         "explain" => Some(Words::Explain {
