@@ -18,18 +18,19 @@ fn cyclic(alloc: Global) -> Result<Graph, GraphFault> {
     )
 }
 
-/// The cycle of an actor and its channels, those out of it and then those into it, each told twice.
+/// The cycle of an actor among so many and its channels, those out of it and then those into it, each told twice.
 fn actor_of(alloc: Global, graph: &Graph, actor: usize) -> Result<String, Fail> {
     if actor >= graph.actors() {
         return Ok(String::new(alloc));
     }
+    let many = graph.actors();
     let cycle = graph.cycle(actor);
     let (outgoing, incoming) = (graph.outgoing(actor), graph.incoming(actor));
     let (from, to) = (
         graph.channels_at(actor, End::Source),
         graph.channels_at(actor, End::Target),
     );
-    Ok(format!(in alloc; "{cycle}: {outgoing:?} {from:?}, {incoming:?} {to:?}")?)
+    Ok(format!(in alloc; "{cycle} of {many}: {outgoing:?} {from:?}, {incoming:?} {to:?}")?)
 }
 
 /// What firings 2 and 3 at the ends of a channel put and take.
@@ -49,9 +50,8 @@ fn moved(alloc: Global, graph: &Graph, number: usize) -> Result<String, Fail> {
 fn channels_of_actors(rt: HostRuntime) -> Result<(), Fail> {
     let alloc = rt.alloc();
     let graph = cyclic(alloc)?;
-    assert_eq!(rt; graph.actors(), 2);
-    says(actor_of(alloc, &graph, 0), "1: [0] [0], [] []")?;
-    says(actor_of(alloc, &graph, 1), "2: [1] [1], [0, 1] [0, 1]")?;
+    says(actor_of(alloc, &graph, 0), "1 of 2: [0] [0], [] []")?;
+    says(actor_of(alloc, &graph, 1), "2 of 2: [1] [1], [0, 1] [0, 1]")?;
     says(moved(alloc, &graph, 1), "(1, 0) (0, 1)")
 }
 

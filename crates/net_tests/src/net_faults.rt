@@ -29,24 +29,16 @@ fn of_memory(rt: HostRuntime) -> Result<(), Fail> {
     says(of_no_memory(rt.alloc()), "1 OutOfMemory")
 }
 
-const COUNTS: &[Told] = &[
-    (
-        "no node and many links",
-        &[],
-        &[[0, 0, 0, 0]; 257],
-        "2 ActorCount",
-    ),
-    (
-        "before 20",
-        &[In(0, 1)],
-        &[[0, 0, 0, 0]; 257],
-        "3 ChannelCount",
-    ),
-];
+/// The text of what parts with many links are refused with.
+fn of_many_links(alloc: Global, parts: &[Part]) -> Result<String, Fail> {
+    refusal(alloc, parts, links(alloc, &[[0, 0, 0, 0]; 257])?)
+}
 
+/// Too few nodes before too many links, and these before 20.
 #[test]
 fn of_counts(rt: HostRuntime) -> Result<(), Fail> {
-    refuses(rt.alloc(), COUNTS)
+    says(of_many_links(rt.alloc(), &[]), "2 ActorCount")?;
+    says(of_many_links(rt.alloc(), &[In(0, 1)]), "3 ChannelCount")
 }
 
 const LINKS: &[Told] = &[
