@@ -40,9 +40,12 @@ fn link<A: Actor>(alloc: Global, net: &Net<A>, c: usize) -> Result<String, Fail>
     if c >= net.channels() || c >= channels.len() {
         return Ok(String::new(alloc));
     }
-    let (from, to) = (net.link(c).from, net.link(c).to);
-    let (put, taken) = (&channels[c].put, &channels[c].take);
-    Ok(format!(in alloc; "{from:?} {to:?}, {put:?} {taken:?}")?)
+    let link = net.link(c);
+    let channel = &channels[c];
+    Ok(format!(in alloc;
+        "{:?} {:?}, {:?} {:?}",
+        link.from, link.to, channel.put, channel.take
+    )?)
 }
 
 /// What a node is.
