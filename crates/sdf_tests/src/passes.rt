@@ -5,7 +5,7 @@ ghost use Rattle.sdf_sched.specs.Period.{IsPeriodOf};
 ghost use Rattle.sdf_actor.specs.Graphs.{graph_of};
 ghost use Rattle.sdf_answer.specs.Rows.{IsTableOf};
 
-use crate::nets::{feed_twice, in_runs, list, planned, run_by};
+use crate::nets::{Times, begun, feed_twice, in_runs, list, planned, run_by};
 use sdf_actor::{Actor, Net, Node};
 use sdf_prec::Table;
 use sdf_run::Mode;
@@ -16,7 +16,7 @@ use std::test::Fail;
 use std::thread::Threads;
 use test_actors::Watched;
 use test_actors::gates::{Hold, Watch};
-use test_actors::nets::{links, sink, source};
+use test_actors::nets::{sink, source};
 
 /// The source, an actor that goes in runs, one of two phases, one with a channel to itself, and the sink.
 const ACTORS: usize = 5;
@@ -34,26 +34,22 @@ fn actor<'a>(watch: &'a Watch<'a>, number: usize, cycle: u32, two: bool) -> Node
 /// The net whose firings are watched: in a period the source fires twice, the sink once, and the actors between four
 /// times each.
 fn watched<'a>(alloc: Global, watch: &'a Watch<'a>) -> Result<Net<Watched<'a>>, Fail> {
-    let mut nodes = Vec::new(alloc);
-    nodes.push(source(0, 2))?;
-    nodes.push(actor(watch, 1, 1, false))?;
-    nodes.push(actor(watch, 2, 2, false))?;
-    nodes.push(actor(watch, 3, 1, true))?;
-    nodes.push(sink(0, 4))?;
-    let mut links = links(
-        alloc,
-        &[
-            [0, 0, 1, 0],
-            [1, 0, 2, 0],
-            [2, 0, 3, 0],
-            [3, 0, 4, 0],
-            [3, 1, 3, 1],
-        ],
-    )?;
-    if let Some(own) = links.get_mut(4) {
-        own.initial.push(9)?;
-    }
-    Ok(Net::new(alloc, nodes, links)?)
+    let nodes = [
+        source(0, 2),
+        actor(watch, 1, 1, false),
+        actor(watch, 2, 2, false),
+        actor(watch, 3, 1, true),
+        sink(0, 4),
+    ];
+    let ends = [
+        [0, 0, 1, 0],
+        [1, 0, 2, 0],
+        [2, 0, 3, 0],
+        [3, 0, 4, 0],
+        [3, 1, 3, 1],
+    ];
+    let nodes = Vec::from_array(alloc, nodes)?;
+    Ok(Net::new(alloc, nodes, begun(alloc, &ends, 4, &[9])?)?)
 }
 
 /// How many firings of an actor stand in a column of a table.
@@ -80,22 +76,27 @@ fn all_passed(rt: &impl Abort, watch: &Watch, table: &Table, blocks: u64) {
     }
 }
 
-/// Whether each firing passes once, in a run and in feeds.
-fn all_pass<R: Abort + Threads + AllocGlobal + Sync, A: Actor>(
+/// Whether each firing passes once, in a run and in feeds of two blocks of two periods.
+fn all_pass<R: Abort + Threads + AllocGlobal + Sync, A: Actor<Token = i64>>(
     rt: &R,
     net: &Net<A>,
     plan: &(Period, Table),
     mode: Mode,
-    inputs: &[Vec<A::Token>],
     watch: &Watch,
 ) -> Result<(), Fail>
     requires period { IsPeriodOf (rates (graph_of A.steps net.now)) plan.now.0 }
     requires table { IsTableOf (rates (graph_of A.steps net.now)) plan.now.0.repetitions 2 plan.now.1 }
 {
-    run_by(rt, net, plan, 2, 2, inputs, mode, watch)?;
+    let times = Times {
+        j: 2,
+        blocks: 2,
+        mode,
+    };
+    let inputs = list(rt.alloc(), &[7; 16])?;
+    run_by(rt, net, plan, times, &inputs, watch)?;
     all_passed(rt, watch, &plan.1, 2);
     watch.anew();
-    feed_twice(rt, net, plan, 2, mode, inputs, watch)?;
+    feed_twice(rt, net, plan, 2, mode, &inputs, watch)?;
     all_passed(rt, watch, &plan.1, 6);
     Ok(())
 }
@@ -107,11 +108,10 @@ fn all_pass_on<R: Abort + Threads + AllocGlobal + Sync>(
     homed: bool,
     mode: Mode,
 ) -> Result<(), Fail> {
-    let alloc = rt.alloc();
-    let watch = Watch::new(alloc, 3, ACTORS, Hold::NONE)?;
-    let net = watched(alloc, &watch)?;
-    let plan = planned(alloc, &net, 2, workers, homed)?;
-    all_pass(rt, &net, &plan, mode, &list(alloc, &[7; 16])?, &watch)
+    let watch = Watch::new(rt.alloc(), 3, ACTORS, Hold::NONE)?;
+    let net = watched(rt.alloc(), &watch)?;
+    let plan = planned(rt.alloc(), &net, 2, workers, homed)?;
+    all_pass(rt, &net, &plan, mode, &watch)
 }
 
 /// The same for one worker, whose firings stand in runs.
@@ -119,11 +119,10 @@ fn all_pass_in_runs<R: Abort + Threads + AllocGlobal + Sync>(
     rt: &R,
     mode: Mode,
 ) -> Result<(), Fail> {
-    let alloc = rt.alloc();
-    let watch = Watch::new(alloc, 3, ACTORS, Hold::NONE)?;
-    let net = watched(alloc, &watch)?;
-    let plan = in_runs(alloc, &net)?;
-    all_pass(rt, &net, &plan, mode, &list(alloc, &[7; 16])?, &watch)
+    let watch = Watch::new(rt.alloc(), 3, ACTORS, Hold::NONE)?;
+    let net = watched(rt.alloc(), &watch)?;
+    let plan = in_runs(rt.alloc(), &net)?;
+    all_pass(rt, &net, &plan, mode, &watch)
 }
 
 #[test]
