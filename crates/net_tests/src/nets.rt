@@ -40,21 +40,21 @@ fn link<A: Actor>(alloc: Global, net: &Net<A>, c: usize) -> Result<String, Fail>
     if c >= net.channels() || c >= channels.len() {
         return Ok(String::new(alloc));
     }
-    let link = net.link(c);
+    let (from, to) = (net.link(c).from, net.link(c).to);
     let channel = &channels[c];
-    Ok(format!(in alloc;
-        "{:?} {:?}, {:?} {:?}",
-        link.from, link.to, channel.put, channel.take
-    )?)
+    Ok(format!(in alloc; "{from:?} {to:?}, {:?} {:?}", channel.put, channel.take)?)
 }
 
 /// What a node is.
-fn kind<A: Actor>(alloc: Global, node: &Node<A>) -> Result<String, Fail> {
-    Ok(match node {
-        Node::Source { ext, block } => format!(in alloc; "source {ext} of {block}")?,
-        Node::Sink { ext, block } => format!(in alloc; "sink {ext} of {block}")?,
-        Node::Inner(_) => String::new(alloc),
-    })
+fn kind<A: Actor>(alloc: Global, net: &Net<A>, a: usize) -> Result<String, Fail> {
+    if a >= net.len() {
+        return Ok(String::new(alloc));
+    }
+    match net.node(a) {
+        Node::Source { ext, block } => Ok(format!(in alloc; "source {ext} of {block}")?),
+        Node::Sink { ext, block } => Ok(format!(in alloc; "sink {ext} of {block}")?),
+        Node::Inner(_) => Ok(String::new(alloc)),
+    }
 }
 
 /// A net of parts and of links by their ends.
@@ -62,17 +62,19 @@ fn net(alloc: Global, parts: &[Part], ends: &[[usize; 4]]) -> Result<Net<Deal>, 
     Ok(Net::new(alloc, nodes(alloc, parts)?, links(alloc, ends)?)?)
 }
 
+fn is_two_to_three<A: Actor>(alloc: Global, net: &Net<A>) -> Result<(), Fail> {
+    says(sizes(alloc, net), "(2, 1) (1, 1) (6, 6) (2, 2)")?;
+    says(firings(alloc, net, 0), "3 of 1, [] [0]")?;
+    says(firings(alloc, net, 1), "2 of 1, [0] []")?;
+    says(link(alloc, net, 0), "(0, 0) (1, 0), [2] [3]")?;
+    says(kind(alloc, net, 0), "source 0 of 2")?;
+    says(kind(alloc, net, 1), "sink 0 of 3")
+}
+
 #[test]
 fn two_to_three(rt: HostRuntime) -> Result<(), Fail> {
-    let alloc = rt.alloc();
-    let net = net(alloc, &[In(0, 2), Out(0, 3)], &[[0, 0, 1, 0]])?;
-    says(sizes(alloc, &net), "(2, 1) (1, 1) (6, 6) (2, 2)")?;
-    says(firings(alloc, &net, 0), "3 of 1, [] [0]")?;
-    says(firings(alloc, &net, 1), "2 of 1, [0] []")?;
-    says(link(alloc, &net, 0), "(0, 0) (1, 0), [2] [3]")?;
-    assert!(rt; net.len() == 2);
-    says(kind(alloc, net.node(0)), "source 0 of 2")?;
-    says(kind(alloc, net.node(1)), "sink 0 of 3")
+    let net = net(rt.alloc(), &[In(0, 2), Out(0, 3)], &[[0, 0, 1, 0]])?;
+    is_two_to_three(rt.alloc(), &net)
 }
 
 #[test]
@@ -88,9 +90,15 @@ fn two_sources_of_different_rates(rt: HostRuntime) -> Result<(), Fail> {
     says(refused, "24 InputRates actor 1")
 }
 
+fn has_two_phases<A: Actor>(alloc: Global, net: &Net<A>) -> Result<(), Fail> {
+    says(sizes(alloc, net), "(5, 4) (2, 2) (2, 2) (5, 5)")?;
+    says(firings(alloc, net, 0), "1 of 1, [] [0]")?;
+    says(firings(alloc, net, 2), "2 of 2, [0, 1] [2, 3]")?;
+    says(link(alloc, net, 0), "(0, 0) (2, 0), [2] [2, 0]")
+}
+
 #[test]
 fn two_phases(rt: HostRuntime) -> Result<(), Fail> {
-    let alloc = rt.alloc();
     let parts = [
         In(0, 2),
         In(1, 2),
@@ -98,11 +106,7 @@ fn two_phases(rt: HostRuntime) -> Result<(), Fail> {
         Out(0, 2),
         Out(1, 2),
     ];
-    let net = net(alloc, &parts, THROUGH)?;
-    says(sizes(alloc, &net), "(5, 4) (2, 2) (2, 2) (5, 5)")?;
-    says(firings(alloc, &net, 0), "1 of 1, [] [0]")?;
-    says(firings(alloc, &net, 2), "2 of 2, [0, 1] [2, 3]")?;
-    says(link(alloc, &net, 0), "(0, 0) (2, 0), [2] [2, 0]")
+    has_two_phases(rt.alloc(), &net(rt.alloc(), &parts, THROUGH)?)
 }
 
 /// A net is made, or memory was refused.

@@ -17,7 +17,7 @@ use sdf_sched::Period;
 use std::alloc::Global;
 use std::process::Abort;
 use std::test::Fail;
-use test_texts::says;
+use test_texts::{row_says, says};
 
 /// A round of both seats in this order, without patience, and its end.
 fn both_and_meet<A: Actor>(rt: &impl Abort, rings: &mut Rings<A>, turn: [usize; 2])
@@ -32,7 +32,7 @@ fn both_and_meet<A: Actor>(rt: &impl Abort, rings: &mut Rings<A>, turn: [usize; 
 
 /// What is left before the first round, what each seat does in it, the sink's first, what the channel holds then, and
 /// what is left after a second round.
-fn seats<A: Actor<Token = i64>>(
+fn seats_by<A: Actor<Token = i64>>(
     rt: &impl Abort,
     alloc: Global,
     net: &Net<A>,
@@ -53,16 +53,21 @@ fn seats<A: Actor<Token = i64>>(
     Ok(format!(in alloc; "{left} {sunk} {put} {held} {}", rings.left())?)
 }
 
+fn seats<A: Actor<Token = i64>>(
+    rt: &(impl Abort + AllocGlobal),
+    net: &Net<A>,
+) -> Result<String, Fail> {
+    seats_by(rt, rt.alloc(), net, &planned(rt.alloc(), net, 1, 2, true)?)
+}
+
 #[test]
 fn seats_by_hand(rt: HostRuntime) -> Result<(), Fail> {
-    let net = pair(rt.alloc(), 2, 3, &[])?;
-    let plan = planned(rt.alloc(), &net, 1, 2, true)?;
-    says(seats(&rt, rt.alloc(), &net, &plan), "5 0 3 6 0")
+    says(seats(&rt, &pair(rt.alloc(), 2, 3, &[])?), "5 0 3 6 0")
 }
 
 /// How many firings are left where so many blocks are run, after each of so many rounds without patience, in which the
 /// seats are worked in turn.
-fn left<A: Actor<Token = i64>>(
+fn left_by<A: Actor<Token = i64>>(
     rt: &(impl Abort + AllocGlobal),
     net: &Net<A>,
     plan: &(Period, Table),
@@ -82,11 +87,19 @@ fn left<A: Actor<Token = i64>>(
     Ok(format!(in rt.alloc(); "{left:?}")?)
 }
 
+fn left<A: Actor<Token = i64>>(
+    rt: &(impl Abort + AllocGlobal),
+    net: &Net<A>,
+    times: (u32, u32),
+    turn: [usize; 2],
+) -> Result<String, Fail> {
+    left_by(rt, net, &planned(rt.alloc(), net, 1, 2, true)?, times, turn)
+}
+
 #[test]
 fn few_rounds_by_hand(rt: HostRuntime) -> Result<(), Fail> {
     let net = pair(rt.alloc(), 2, 3, &[])?;
-    let plan = planned(rt.alloc(), &net, 1, 2, true)?;
-    says(left(&rt, &net, &plan, (1, 5), [1, 0]), "[2, 0, 0, 0, 0]")
+    says(left(&rt, &net, (1, 5), [1, 0]), "[2, 0, 0, 0, 0]")
 }
 
 /// The ring has room for a block's three firings of the source. The sink first: nothing; then its two, whose room the
@@ -94,13 +107,20 @@ fn few_rounds_by_hand(rt: HostRuntime) -> Result<(), Fail> {
 #[test]
 fn rounds_in_turn(rt: HostRuntime) -> Result<(), Fail> {
     let net = pair(rt.alloc(), 2, 3, &[])?;
-    let plan = planned(rt.alloc(), &net, 1, 2, true)?;
-    says(left(&rt, &net, &plan, (2, 3), [1, 0]), "[7, 2, 0]")?;
-    says(left(&rt, &net, &plan, (2, 3), [0, 1]), "[5, 0, 0]")
+    row_says(
+        "the sink first",
+        left(&rt, &net, (2, 3), [1, 0]),
+        "[7, 2, 0]",
+    )?;
+    row_says(
+        "the source first",
+        left(&rt, &net, (2, 3), [0, 1]),
+        "[5, 0, 0]",
+    )
 }
 
 /// What rings make in two rounds.
-fn finished<A: Actor<Token = i64>>(
+fn finished_by<A: Actor<Token = i64>>(
     rt: &impl Abort,
     alloc: Global,
     net: &Net<A>,
@@ -117,18 +137,23 @@ fn finished<A: Actor<Token = i64>>(
     Ok(format!(in alloc; "{:?}", rings.finish())?)
 }
 
+fn finished<A: Actor<Token = i64>>(
+    rt: &(impl Abort + AllocGlobal),
+    net: &Net<A>,
+) -> Result<String, Fail> {
+    finished_by(rt, rt.alloc(), net, &planned(rt.alloc(), net, 1, 2, true)?)
+}
+
 #[test]
 fn what_is_finished(rt: HostRuntime) -> Result<(), Fail> {
-    let net = pair(rt.alloc(), 2, 3, &[])?;
-    let plan = planned(rt.alloc(), &net, 1, 2, true)?;
     says(
-        finished(&rt, rt.alloc(), &net, &plan),
+        finished(&rt, &pair(rt.alloc(), 2, 3, &[])?),
         "[[1, 2, 3, 4, 5, 6]]",
     )
 }
 
 /// The text of what rings are refused with.
-fn refusal<A: Actor<Token = i64>>(
+fn refusal_by<A: Actor<Token = i64>>(
     alloc: Global,
     net: &Net<A>,
     plan: &(Period, Table),
@@ -143,10 +168,15 @@ fn refusal<A: Actor<Token = i64>>(
     }
 }
 
+fn refusal<A: Actor<Token = i64>>(alloc: Global, net: &Net<A>) -> Result<String, Fail> {
+    refusal_by(alloc, net, &planned(alloc, net, 1, 2, false)?)
+}
+
 /// The sink fires in both columns.
 #[test]
 fn free_tables_have_no_seats(rt: HostRuntime) -> Result<(), Fail> {
-    let net = pair(rt.alloc(), 2, 3, &[])?;
-    let plan = planned(rt.alloc(), &net, 1, 2, false)?;
-    says(refusal(rt.alloc(), &net, &plan), "30 NotHomed")
+    says(
+        refusal(rt.alloc(), &pair(rt.alloc(), 2, 3, &[])?),
+        "30 NotHomed",
+    )
 }

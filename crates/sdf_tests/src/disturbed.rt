@@ -54,39 +54,28 @@ fn disturbed<R: Threads + AllocGlobal + Sync, A: Actor<Token = i32>>(
     Ok(())
 }
 
-/// On so many workers.
-fn disturbed_on<R: Threads + AllocGlobal + Sync>(
-    rt: &R,
-    worked: Worked,
-    periods: u32,
-    workers: usize,
-) -> Result<(), Fail> {
-    let net = worked.net(rt.alloc())?;
-    let plan = planned(rt.alloc(), &net, 1, workers, true)?;
-    disturbed(rt, &net, &plan, periods, workers / 2, false)?;
-    disturbed(rt, &net, &plan, periods, workers / 2, true)
-}
-
 /// On one, two, three and sixteen workers.
-fn disturbed_by_any<R: Threads + AllocGlobal + Sync>(
+fn disturbed_by_any<R: Threads + AllocGlobal + Sync, A: Actor<Token = i32>>(
     rt: &R,
-    worked: Worked,
+    net: &Net<A>,
     periods: u32,
 ) -> Result<(), Fail> {
     for workers in [1, 2, 3, 16] {
-        disturbed_on(rt, worked, periods, workers)?;
+        let plan = planned(rt.alloc(), net, 1, workers, true)?;
+        disturbed(rt, net, &plan, periods, workers / 2, false)?;
+        disturbed(rt, net, &plan, periods, workers / 2, true)?;
     }
     Ok(())
 }
 
 #[test]
 fn small_nets(rt: HostRuntime) -> Result<(), Fail> {
-    disturbed_by_any(&rt, Worked::Blocks, 2)?;
-    disturbed_by_any(&rt, Worked::Looped, 2)?;
-    disturbed_by_any(&rt, Worked::Branches(2), 2)
+    disturbed_by_any(&rt, &Worked::Blocks.net(rt.alloc())?, 2)?;
+    disturbed_by_any(&rt, &Worked::Looped.net(rt.alloc())?, 2)?;
+    disturbed_by_any(&rt, &Worked::Branches(2).net(rt.alloc())?, 2)
 }
 
 #[test]
 fn the_converter(rt: HostRuntime) -> Result<(), Fail> {
-    disturbed_by_any(&rt, Worked::Converter, 1)
+    disturbed_by_any(&rt, &Worked::Converter.net(rt.alloc())?, 1)
 }

@@ -76,7 +76,8 @@ pub(crate) enum Worked {
     Blocks,
     /// A loop: what comes out is fed back, turned round.
     Looped,
-    /// Blocks of two samples, dealt by threes to two sinks. The actor that deals has two phases, so it fires one by one.
+    /// Blocks of two samples, dealt by threes to two sinks. The actor that deals has two phases, so it fires one by
+    /// one.
     Dealt,
     /// A fork and an adder, and between them so many branches, each a gain that may fire from the start: actors 2 and
     /// on.

@@ -65,20 +65,30 @@ fn blocks(blocks: u32, mode: Mode) -> Times
 }
 
 /// What is held across two blocks that are run.
-fn across<R: Threads + AllocGlobal + Sync>(rt: &R, mode: Mode) -> Result<String, Fail> {
-    let net = Worked::Dealt.net(rt.alloc())?;
-    let plan = planned(rt.alloc(), &net, 1, 2, true)?;
+fn across<R: Threads + AllocGlobal + Sync, A: Actor<Token = i32>>(
+    rt: &R,
+    net: &Net<A>,
+    mode: Mode,
+) -> Result<String, Fail> {
+    let plan = planned(rt.alloc(), net, 1, 2, true)?;
     let watch = Watch::new(rt.alloc(), 2, 4, ACROSS)?;
-    told_of_run(rt, &net, &plan, blocks(2, mode), (0, 12), &watch)
+    told_of_run(rt, net, &plan, blocks(2, mode), (0, 12), &watch)
+}
+
+fn overlap<R: Threads + AllocGlobal + Sync, A: Actor<Token = i32>>(
+    rt: &R,
+    net: &Net<A>,
+) -> Result<(), Fail> {
+    for _ in 0..3 {
+        says(across(rt, net, PATIENT), "0 in vain, 0 odd")?;
+    }
+    says(across(rt, net, Mode::Rows), "1 in vain, 0 odd")
 }
 
 /// Over rings a worker is in the next block while another is in this one; by rows none is.
 #[test]
 fn over_rings_blocks_overlap(rt: HostRuntime) -> Result<(), Fail> {
-    for _ in 0..3 {
-        says(across(&rt, PATIENT), "0 in vain, 0 odd")?;
-    }
-    says(across(&rt, Mode::Rows), "1 in vain, 0 odd")
+    overlap(&rt, &Worked::Dealt.net(rt.alloc())?)
 }
 
 /// What is held where a session is fed two blocks, twice.
@@ -97,51 +107,60 @@ fn told_of_feeds<R: Threads + AllocGlobal + Sync, A: Actor<Token = i32>>(
     told(rt.alloc(), &watch)
 }
 
-fn across_in_feeds<R: Threads + AllocGlobal + Sync>(rt: &R, mode: Mode) -> Result<String, Fail> {
-    let net = Worked::Dealt.net(rt.alloc())?;
-    let plan = planned(rt.alloc(), &net, 1, 2, true)?;
-    told_of_feeds(rt, &net, &plan, mode)
+fn overlap_in_feeds<R: Threads + AllocGlobal + Sync, A: Actor<Token = i32>>(
+    rt: &R,
+    net: &Net<A>,
+) -> Result<(), Fail> {
+    let plan = planned(rt.alloc(), net, 1, 2, true)?;
+    says(told_of_feeds(rt, net, &plan, PATIENT), "0 in vain, 0 odd")?;
+    says(
+        told_of_feeds(rt, net, &plan, Mode::Rows),
+        "2 in vain, 0 odd",
+    )
 }
 
 #[test]
 fn in_feeds_blocks_overlap(rt: HostRuntime) -> Result<(), Fail> {
-    says(across_in_feeds(&rt, PATIENT), "0 in vain, 0 odd")?;
-    says(across_in_feeds(&rt, Mode::Rows), "2 in vain, 0 odd")
+    overlap_in_feeds(&rt, &Worked::Dealt.net(rt.alloc())?)
 }
 
-/// What is held where so many firings of a row, or of workers over rings, are at work at once: the first of each branch,
-/// the second and the third.
-fn together<R: Threads + AllocGlobal + Sync>(
+/// What is held where so many firings of a row, or of workers over rings, are at work at once: the first of each
+/// branch, the second and the third.
+fn together<R: Threads + AllocGlobal + Sync, A: Actor<Token = i32>>(
     rt: &R,
+    net: &Net<A>,
     branched: &[usize],
     mode: Mode,
 ) -> Result<String, Fail> {
     let ways = branched.len();
-    let net = Worked::Branches(ways).net(rt.alloc())?;
-    let plan = planned(rt.alloc(), &net, 1, ways, true)?;
+    let plan = planned(rt.alloc(), net, 1, ways, true)?;
     let watch = Watch::new(rt.alloc(), ways, net.len(), Hold::meeting(branched, 3))?;
-    told_of_run(rt, &net, &plan, blocks(3, mode), (1, 4), &watch)
+    told_of_run(rt, net, &plan, blocks(3, mode), (1, 4), &watch)
 }
 
-fn all_meet<R: Threads + AllocGlobal + Sync>(rt: &R, branched: &[usize]) -> Result<(), Fail> {
+fn all_meet<R: Threads + AllocGlobal + Sync, A: Actor<Token = i32>>(
+    rt: &R,
+    net: &Net<A>,
+    branched: &[usize],
+) -> Result<(), Fail> {
     row_says(
         "by rows",
-        together(rt, branched, Mode::Rows),
+        together(rt, net, branched, Mode::Rows),
         "0 in vain, 0 odd",
     )?;
     row_says(
         "over rings",
-        together(rt, branched, PATIENT),
+        together(rt, net, branched, PATIENT),
         "0 in vain, 0 odd",
     )
 }
 
 #[test]
 fn three_meet(rt: HostRuntime) -> Result<(), Fail> {
-    all_meet(&rt, &[2, 3, 4])
+    all_meet(&rt, &Worked::Branches(3).net(rt.alloc())?, &[2, 3, 4])
 }
 
 #[test]
 fn four_meet(rt: HostRuntime) -> Result<(), Fail> {
-    all_meet(&rt, &[2, 3, 4, 5])
+    all_meet(&rt, &Worked::Branches(4).net(rt.alloc())?, &[2, 3, 4, 5])
 }

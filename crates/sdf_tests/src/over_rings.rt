@@ -18,20 +18,30 @@ use test_texts::{row_says, says};
 
 /// Whether workers make of 294 samples, two periods of the converter, what one thread makes, each round doing some
 /// firing.
-fn makes_as_one<R: Threads + AllocGlobal + Sync>(
+fn makes_as_one<R: Threads + AllocGlobal + Sync, A: Actor<Token = i32>>(
     rt: &R,
+    net: &Net<A>,
     workers: usize,
     patience: u32,
 ) -> Result<(), Fail> {
-    let net = Worked::Converter.net(rt.alloc())?;
-    let plan = planned(rt.alloc(), &net, 1, workers, true)?;
+    let plan = planned(rt.alloc(), net, 1, workers, true)?;
     let inputs = ramp(rt.alloc(), 0, 294, 0)?;
     let times = Times {
         j: 1,
         blocks: 2,
         mode: Mode::Rings { patience },
     };
-    make_as_one(rt, &net, &plan, times, &inputs, &NoGate)
+    make_as_one(rt, net, &plan, times, &inputs, &NoGate)
+}
+
+/// The same without patience and with much.
+fn convert_as_one<R: Threads + AllocGlobal + Sync, A: Actor<Token = i32>>(
+    rt: &R,
+    net: &Net<A>,
+    workers: usize,
+) -> Result<(), Fail> {
+    makes_as_one(rt, net, workers, 0)?;
+    makes_as_one(rt, net, workers, 1_000_000)
 }
 
 /// In how many rounds a worker without patience does so many blocks of a net that reads a sample or more a period.
@@ -51,39 +61,46 @@ fn rounds<R: Threads + AllocGlobal + Sync, A: Actor<Token = i32>>(
 }
 
 /// Whether one worker wants one round for two blocks, and none for none.
-fn wants_one_round<R: Threads + AllocGlobal + Sync>(rt: &R, worked: Worked) -> Result<(), Fail> {
-    let net = worked.net(rt.alloc())?;
-    let plan = planned(rt.alloc(), &net, 1, 1, true)?;
-    row_says(worked.name(), rounds(rt, &net, &plan, 2), "1")?;
-    row_says(worked.name(), rounds(rt, &net, &plan, 0), "0")
+fn wants_one_round<R: Threads + AllocGlobal + Sync, A: Actor<Token = i32>>(
+    rt: &R,
+    name: &str,
+    net: &Net<A>,
+) -> Result<(), Fail> {
+    let plan = planned(rt.alloc(), net, 1, 1, true)?;
+    row_says(name, rounds(rt, net, &plan, 2), "1")?;
+    row_says(name, rounds(rt, net, &plan, 0), "0")
 }
+
+const WORKED: &[Worked] = &[
+    Worked::Blocks,
+    Worked::Looped,
+    Worked::Dealt,
+    Worked::Branches(3),
+    Worked::Converter,
+];
 
 /// In the table's order each firing finds its samples and its room.
 #[test]
 fn one_worker_wants_one_round(rt: HostRuntime) -> Result<(), Fail> {
-    wants_one_round(&rt, Worked::Blocks)?;
-    wants_one_round(&rt, Worked::Looped)?;
-    wants_one_round(&rt, Worked::Dealt)?;
-    wants_one_round(&rt, Worked::Branches(3))?;
-    wants_one_round(&rt, Worked::Converter)
+    for worked in WORKED {
+        wants_one_round(&rt, worked.name(), &worked.net(rt.alloc())?)?;
+    }
+    Ok(())
 }
 
 #[test]
 fn one_worker(rt: HostRuntime) -> Result<(), Fail> {
-    makes_as_one(&rt, 1, 0)?;
-    makes_as_one(&rt, 1, 1_000_000)
+    convert_as_one(&rt, &Worked::Converter.net(rt.alloc())?, 1)
 }
 
 #[test]
 fn three_workers(rt: HostRuntime) -> Result<(), Fail> {
-    makes_as_one(&rt, 3, 0)?;
-    makes_as_one(&rt, 3, 1_000_000)
+    convert_as_one(&rt, &Worked::Converter.net(rt.alloc())?, 3)
 }
 
 #[test]
 fn sixteen_workers(rt: HostRuntime) -> Result<(), Fail> {
-    makes_as_one(&rt, 16, 0)?;
-    makes_as_one(&rt, 16, 1_000_000)
+    convert_as_one(&rt, &Worked::Converter.net(rt.alloc())?, 16)
 }
 
 /// How many samples each output list has of a block of two periods of the converter.
@@ -104,18 +121,25 @@ fn lengths<R: Threads + AllocGlobal + Sync, A: Actor<Token = i32>>(
     Ok(format!(in rt.alloc(); "{lengths:?}")?)
 }
 
-#[test]
-fn a_block_of_two_periods(rt: HostRuntime) -> Result<(), Fail> {
-    let net = Worked::Converter.net(rt.alloc())?;
-    let plan = planned(rt.alloc(), &net, 2, 3, true)?;
+/// Whether that is what one thread makes, and so long.
+fn make_two_periods<R: Threads + AllocGlobal + Sync, A: Actor<Token = i32>>(
+    rt: &R,
+    net: &Net<A>,
+) -> Result<(), Fail> {
+    let plan = planned(rt.alloc(), net, 2, 3, true)?;
     let inputs = ramp(rt.alloc(), 0, 148, 146)?;
     let times = Times {
         j: 2,
         blocks: 1,
         mode: Mode::Rings { patience: 0 },
     };
-    make_as_one(&rt, &net, &plan, times, &inputs, &NoGate)?;
-    says(lengths(&rt, &net, &plan, &inputs), "[320]")
+    make_as_one(rt, net, &plan, times, &inputs, &NoGate)?;
+    says(lengths(rt, net, &plan, &inputs), "[320]")
+}
+
+#[test]
+fn a_block_of_two_periods(rt: HostRuntime) -> Result<(), Fail> {
+    make_two_periods(&rt, &Worked::Converter.net(rt.alloc())?)
 }
 
 /// The text of how a run is refused that has six samples.
@@ -138,20 +162,27 @@ fn refusal<R: Threads + AllocGlobal + Sync, A: Actor<Token = i64>>(
     }
 }
 
-/// The same of the source of two samples and the sink of three, which reads six samples in a period, for two periods.
-fn refused<R: Threads + AllocGlobal + Sync>(
+/// The same of a run of two periods on two workers.
+fn refused<R: Threads + AllocGlobal + Sync, A: Actor<Token = i64>>(
     rt: &R,
+    net: &Net<A>,
     homed: bool,
     patience: u32,
 ) -> Result<String, Fail> {
-    let net = pair(rt.alloc(), 2, 3, &[])?;
-    let plan = planned(rt.alloc(), &net, 1, 2, homed)?;
-    refusal(rt, &net, &plan, patience, 2)
+    refusal(
+        rt,
+        net,
+        &planned(rt.alloc(), net, 1, 2, homed)?,
+        patience,
+        2,
+    )
 }
 
+/// The source of two samples and the sink of three read six samples in a period.
 #[test]
 fn refusals_have_an_order(rt: HostRuntime) -> Result<(), Fail> {
-    says(refused(&rt, false, 1_000_001), "30 NotHomed")?;
-    says(refused(&rt, true, 1_000_001), "31 Patience")?;
-    says(refused(&rt, true, 1_000_000), "29 InputLength")
+    let net = pair(rt.alloc(), 2, 3, &[])?;
+    says(refused(&rt, &net, false, 1_000_001), "30 NotHomed")?;
+    says(refused(&rt, &net, true, 1_000_001), "31 Patience")?;
+    says(refused(&rt, &net, true, 1_000_000), "29 InputLength")
 }

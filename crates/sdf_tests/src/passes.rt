@@ -1,5 +1,6 @@
 //! The gate: each firing passes it once, on its processor, in its turn, and then fires.
 
+ghost use Rattle.std.specs.Prelude.{IfOk};
 ghost use Rattle.sdf_graph.specs.Rates.{rates};
 ghost use Rattle.sdf_sched.specs.Period.{IsPeriodOf};
 ghost use Rattle.sdf_actor.specs.Graphs.{graph_of};
@@ -101,43 +102,59 @@ fn all_pass<R: Abort + Threads + AllocGlobal + Sync, A: Actor<Token = i64>>(
     Ok(())
 }
 
-/// The same for so many workers, by a table free or homed.
-fn all_pass_on<R: Abort + Threads + AllocGlobal + Sync>(
-    rt: &R,
-    workers: usize,
-    homed: bool,
-    mode: Mode,
-) -> Result<(), Fail> {
-    let watch = Watch::new(rt.alloc(), 3, ACTORS, Hold::NONE)?;
-    let net = watched(rt.alloc(), &watch)?;
-    let plan = planned(rt.alloc(), &net, 2, workers, homed)?;
-    all_pass(rt, &net, &plan, mode, &watch)
+/// A table for so many workers, free or homed, or for one, whose firings stand in runs.
+#[derive(Clone, Copy)]
+enum Kind {
+    Free(usize),
+    Homed(usize),
+    InRuns,
 }
 
-/// The same for one worker, whose firings stand in runs.
-fn all_pass_in_runs<R: Abort + Threads + AllocGlobal + Sync>(
+fn plan<A: Actor>(alloc: Global, net: &Net<A>, kind: Kind) -> Result<(Period, Table), Fail>
+    ensures period { IfOk result (λ plan. IsPeriodOf (rates (graph_of A.steps net.now)) plan.0) }
+    ensures table { IfOk result (λ plan. IsTableOf (rates (graph_of A.steps net.now)) plan.0.repetitions 2 plan.1) }
+{
+    match kind {
+        Kind::Free(workers) => planned(alloc, net, 2, workers, false),
+        Kind::Homed(workers) => planned(alloc, net, 2, workers, true),
+        Kind::InRuns => in_runs(alloc, net),
+    }
+}
+
+/// The same by such a table.
+fn all_pass_by<R: Abort + Threads + AllocGlobal + Sync, A: Actor<Token = i64>>(
     rt: &R,
+    net: &Net<A>,
+    kind: Kind,
+    mode: Mode,
+    watch: &Watch,
+) -> Result<(), Fail> {
+    all_pass(rt, net, &plan(rt.alloc(), net, kind)?, mode, watch)
+}
+
+/// The same of the net.
+fn all_pass_on<R: Abort + Threads + AllocGlobal + Sync>(
+    rt: &R,
+    kind: Kind,
     mode: Mode,
 ) -> Result<(), Fail> {
     let watch = Watch::new(rt.alloc(), 3, ACTORS, Hold::NONE)?;
-    let net = watched(rt.alloc(), &watch)?;
-    let plan = in_runs(rt.alloc(), &net)?;
-    all_pass(rt, &net, &plan, mode, &watch)
+    all_pass_by(rt, &watched(rt.alloc(), &watch)?, kind, mode, &watch)
 }
 
 #[test]
 fn by_rows(rt: HostRuntime) -> Result<(), Fail> {
-    all_pass_in_runs(&rt, Mode::Rows)?;
-    all_pass_on(&rt, 2, true, Mode::Rows)?;
-    all_pass_on(&rt, 3, false, Mode::Rows)
+    all_pass_on(&rt, Kind::InRuns, Mode::Rows)?;
+    all_pass_on(&rt, Kind::Homed(2), Mode::Rows)?;
+    all_pass_on(&rt, Kind::Free(3), Mode::Rows)
 }
 
 #[test]
 fn over_rings(rt: HostRuntime) -> Result<(), Fail> {
     for patience in [0, 1000] {
-        all_pass_in_runs(&rt, Mode::Rings { patience })?;
-        all_pass_on(&rt, 2, true, Mode::Rings { patience })?;
-        all_pass_on(&rt, 3, true, Mode::Rings { patience })?;
+        all_pass_on(&rt, Kind::InRuns, Mode::Rings { patience })?;
+        all_pass_on(&rt, Kind::Homed(2), Mode::Rings { patience })?;
+        all_pass_on(&rt, Kind::Homed(3), Mode::Rings { patience })?;
     }
     Ok(())
 }

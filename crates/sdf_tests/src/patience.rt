@@ -76,24 +76,33 @@ fn told<R: Abort + Threads + AllocGlobal + Sync, A: Actor<Token = i64>>(
 
 /// What a source and a sink make that fire twice, and in how many rounds, where a sample for the sink's first firing is
 /// there, and that for its second comes after it has tested for it.
-fn rounds<R: Abort + Threads + AllocGlobal + Sync>(rt: &R, patience: u32) -> Result<String, Fail> {
-    let net = pair(rt.alloc(), 1, 1, &[7])?;
-    let plan = planned(rt.alloc(), &net, 1, 2, true)?;
+fn rounds<R: Abort + Threads + AllocGlobal + Sync, A: Actor<Token = i64>>(
+    rt: &R,
+    net: &Net<A>,
+    patience: u32,
+) -> Result<String, Fail> {
+    let plan = planned(rt.alloc(), net, 1, 2, true)?;
     let late = Late {
         sunk: AtomicBool::new(false),
         missed: AtomicBool::new(false),
     };
-    told(rt, &net, &plan, patience, &late)
+    told(rt, net, &plan, patience, &late)
 }
 
 /// The sink's worker, whose second test fails, ends its round.
 #[test]
 fn without_patience_a_failing_test_ends_a_round(rt: HostRuntime) -> Result<(), Fail> {
-    says(rounds(&rt, 0), "[[7, 1]] in 2")
+    says(
+        rounds(&rt, &pair(rt.alloc(), 1, 1, &[7])?, 0),
+        "[[7, 1]] in 2",
+    )
 }
 
 /// It tests again until its neighbour has moved, and goes on.
 #[test]
 fn with_patience_a_worker_goes_on(rt: HostRuntime) -> Result<(), Fail> {
-    says(rounds(&rt, 1_000_000), "[[7, 1]] in 1")
+    says(
+        rounds(&rt, &pair(rt.alloc(), 1, 1, &[7])?, 1_000_000),
+        "[[7, 1]] in 1",
+    )
 }

@@ -30,30 +30,32 @@ fn told<R: Threads + AllocGlobal + Sync, A: Actor<Token = i64>>(
     Ok(format!(in rt.alloc(); "{:?} in {}", ran.outputs, ran.rounds)?)
 }
 
-/// The same of the net, which reads them in two periods on two workers.
-fn printed<R: Threads + AllocGlobal + Sync>(rt: &R, j: u32, blocks: u32) -> Result<String, Fail> {
-    let net = pair(rt.alloc(), 2, 3, &[])?;
-    let plan = planned(rt.alloc(), &net, j, 2, false)?;
-    let times = Times {
-        j,
-        blocks,
-        mode: Mode::Rows,
-    };
-    told(rt, &net, &plan, times)
+/// The same in so many blocks of `j` periods on two workers.
+fn printed<R: Threads + AllocGlobal + Sync, A: Actor<Token = i64>>(
+    rt: &R,
+    net: &Net<A>,
+    j: u32,
+    blocks: u32,
+) -> Result<String, Fail> {
+    let mode = Mode::Rows;
+    let plan = planned(rt.alloc(), net, j, 2, false)?;
+    told(rt, net, &plan, Times { j, blocks, mode })
 }
 
 #[test]
 fn blocks_of_one_period(rt: HostRuntime) -> Result<(), Fail> {
+    let net = pair(rt.alloc(), 2, 3, &[])?;
     says(
-        printed(&rt, 1, 2),
+        printed(&rt, &net, 1, 2),
         "[[1, 2, 3, 4, 5, 6, 7, 8, 9, 10, 11, 12]] in 8",
     )
 }
 
 #[test]
 fn a_block_of_two_periods(rt: HostRuntime) -> Result<(), Fail> {
+    let net = pair(rt.alloc(), 2, 3, &[])?;
     says(
-        printed(&rt, 2, 1),
+        printed(&rt, &net, 2, 1),
         "[[1, 2, 3, 4, 5, 6, 7, 8, 9, 10, 11, 12]] in 7",
     )
 }

@@ -88,22 +88,22 @@ fn pieces_are_one<R: Abort + Threads + AllocGlobal + Sync, A: Actor<Token = i32>
     says(told(rt, net, plan, mode), one.as_str())
 }
 
-/// The same of the converter on two workers.
-fn converted_in_pieces<R: Abort + Threads + AllocGlobal + Sync>(
+/// The same on two workers.
+fn fed_in_pieces<R: Abort + Threads + AllocGlobal + Sync, A: Actor<Token = i32>>(
     rt: &R,
+    net: &Net<A>,
     mode: Mode,
 ) -> Result<(), Fail> {
-    let net = Worked::Converter.net(rt.alloc())?;
-    let plan = planned(rt.alloc(), &net, 1, 2, true)?;
-    pieces_are_one(rt, &net, &plan, mode)
+    pieces_are_one(rt, net, &planned(rt.alloc(), net, 1, 2, true)?, mode)
 }
 
 #[test]
 fn by_rows(rt: HostRuntime) -> Result<(), Fail> {
-    converted_in_pieces(&rt, Mode::Rows)
+    fed_in_pieces(&rt, &Worked::Converter.net(rt.alloc())?, Mode::Rows)
 }
 
 #[test]
 fn over_rings(rt: HostRuntime) -> Result<(), Fail> {
-    converted_in_pieces(&rt, Mode::Rings { patience: 0 })
+    let mode = Mode::Rings { patience: 0 };
+    fed_in_pieces(&rt, &Worked::Converter.net(rt.alloc())?, mode)
 }

@@ -176,24 +176,26 @@ fn done_by_each<A: Actor<Token = i32>>(
 }
 
 /// The same on so many workers.
-fn done_by_workers(
+fn done_by_workers<A: Actor<Token = i32>>(
     rt: &(impl Abort + AllocGlobal),
-    worked: Worked,
+    net: &Net<A>,
     periods: u32,
-    workers: usize,
 ) -> Result<(), Fail> {
-    let net = worked.net(rt.alloc())?;
-    let plan = planned(rt.alloc(), &net, 1, workers, true)?;
-    done_by_each(rt, &net, &plan, periods)
+    for workers in [1, 2, 3, 16] {
+        done_by_each(
+            rt,
+            net,
+            &planned(rt.alloc(), net, 1, workers, true)?,
+            periods,
+        )?;
+    }
+    Ok(())
 }
 
 #[test]
 fn in_any_order(rt: HostRuntime) -> Result<(), Fail> {
-    for workers in [1, 2, 3, 16] {
-        done_by_workers(&rt, Worked::Blocks, 2, workers)?;
-        done_by_workers(&rt, Worked::Looped, 2, workers)?;
-        done_by_workers(&rt, Worked::Branches(2), 2, workers)?;
-        done_by_workers(&rt, Worked::Converter, 1, workers)?;
-    }
-    Ok(())
+    done_by_workers(&rt, &Worked::Blocks.net(rt.alloc())?, 2)?;
+    done_by_workers(&rt, &Worked::Looped.net(rt.alloc())?, 2)?;
+    done_by_workers(&rt, &Worked::Branches(2).net(rt.alloc())?, 2)?;
+    done_by_workers(&rt, &Worked::Converter.net(rt.alloc())?, 1)
 }
