@@ -65,6 +65,41 @@ fn take_block<A: Actor>(
     Ok(true)
 }
 
+/// Fires an actor once at a phase on blocks, and gives what it puts at an output port.
+fn put_once<A: Actor>(
+    rt: &(impl Abort + AllocGlobal),
+    actor: &A,
+    phase: u32,
+    state: &mut A::State,
+    taken: &[A::Token],
+    blank: A::Token,
+) -> Result<Vec<A::Token>, AllocError>
+    requires { phase < A.steps.cycle actor.now }
+{
+    assert!(rt; taken.len() == actor.samples_in(phase));
+    let mut put = vec![in rt.alloc(); blank; actor.samples_out(phase)]?;
+    actor.fire(phase, state, taken, &mut put);
+    Ok(put)
+}
+
+/// Appends the samples of an output port in a block that is put.
+fn keep_port<A: Actor>(
+    rt: &(impl Abort + AllocGlobal),
+    actor: &A,
+    port: usize,
+    phase: u32,
+    put: &[A::Token],
+    all: &mut Vec<A::Token>,
+) -> Result<(), AllocError>
+    requires phase { phase < A.steps.cycle actor.now }
+    requires port { port < A.steps.outputs actor.now }
+{
+    let start = start_of(rt, actor, port, phase);
+    let rate = actor.put(port, phase) as usize;
+    assert!(rt; start <= put.len() && rate <= put.len() - start);
+    all.extend_from_slice(&put[start..start + rate])
+}
+
 /// Fires an actor on lists at its input ports as long as they last, and gives all that it puts at an output port.
 pub(crate) fn put_at<A: Actor>(
     rt: &(impl Abort + AllocGlobal),
@@ -83,15 +118,30 @@ pub(crate) fn put_at<A: Actor>(
         if !take_block(rt, actor, phase, lists, &mut taken)? {
             break;
         }
-        let mut put = vec![in rt.alloc(); blank; actor.samples_out(phase)]?;
-        assert!(rt; taken.len() == actor.samples_in(phase));
-        actor.fire(phase, &mut state, &taken, &mut put);
-        let start = start_of(rt, actor, port, phase);
-        let rate = actor.put(port, phase) as usize;
-        assert!(rt; start <= put.len() && rate <= put.len() - start);
-        all.extend_from_slice(&put[start..start + rate])?;
+        let put = put_once(rt, actor, phase, &mut state, &taken, blank)?;
+        keep_port(rt, actor, port, phase, &put, &mut all)?;
     }
     Ok(all)
+}
+
+/// Fires an actor with one phase so many times in a run, and gives what it puts.
+fn put_run<A: Actor>(
+    rt: &(impl Abort + AllocGlobal),
+    actor: &A,
+    many: u32,
+    state: &mut A::State,
+    rest: &mut &[A::Token],
+    blank: A::Token,
+) -> Result<Vec<A::Token>, AllocError>
+    requires { A.steps.cycle actor.now ≡ 1 }
+{
+    let (reads, writes) = moved(rt, actor, many);
+    assert!(rt; reads <= rest.len());
+    let (now, later) = rest.split_at(reads);
+    *rest = later;
+    let mut put = vec![in rt.alloc(); blank; writes]?;
+    actor.fire_many(0, many as usize, state, now, &mut put);
+    Ok(put)
 }
 
 /// Fires an actor with one phase in runs of so many firings, and gives all that it puts, block after block.
@@ -107,15 +157,31 @@ pub(crate) fn put_in_runs<A: Actor>(
     let mut all = Vec::new(rt.alloc());
     let mut rest = taken;
     for many in runs {
-        let (reads, writes) = moved(rt, actor, *many);
-        assert!(rt; reads <= rest.len());
-        let (now, later) = rest.split_at(reads);
-        let mut put = vec![in rt.alloc(); blank; writes]?;
-        actor.fire_many(0, *many as usize, &mut state, now, &mut put);
+        let put = put_run(rt, actor, *many, &mut state, &mut rest, blank)?;
         all.extend_from_slice(&put)?;
-        rest = later;
     }
     Ok(all)
+}
+
+/// Whether a kit puts a list in such runs.
+fn check_run(
+    rt: &(impl Abort + AllocGlobal),
+    kit: &Kit,
+    runs: &[u32],
+    taken: &[i32],
+    want: &[i32],
+) -> Result<(), Fail> {
+    let put = put_in_runs(rt, kit, runs, taken, 0)?;
+    assert_eq!(rt; put.as_slice(), want, "in runs of {runs:?}");
+    Ok(())
+}
+
+/// How many firings of a kit with one phase take so many samples.
+fn firings(rt: &impl Abort, kit: &Kit, samples: usize) -> u32 {
+    assert!(rt; kit.cycle() == 1);
+    let rate = kit.samples_in(0);
+    assert!(rt; 0 < rate && rate <= samples && samples <= 65_536);
+    (samples / rate) as u32
 }
 
 /// Fires a kit with one port a side in one run and in two, and compares what it puts.
@@ -125,14 +191,38 @@ fn check_runs(
     taken: &[i32],
     want: &[i32],
 ) -> Result<(), Fail> {
-    assert!(rt; kit.cycle() == 1);
-    let rate = kit.samples_in(0);
-    assert!(rt; 0 < rate && rate <= taken.len() && taken.len() <= 65_536);
-    let many = (taken.len() / rate) as u32;
-    let put = put_in_runs(rt, kit, &[many], taken, 0)?;
-    assert_eq!(rt; put.as_slice(), want);
-    let put = put_in_runs(rt, kit, &[many / 2, many - many / 2], taken, 0)?;
-    assert_eq!(rt; put.as_slice(), want);
+    let many = firings(rt, kit, taken.len());
+    check_run(rt, kit, &[many], taken, want)?;
+    check_run(rt, kit, &[many / 2, many - many / 2], taken, want)
+}
+
+/// Whether a kit with one input port puts a list at an output port, firing by firing.
+fn check_port(
+    rt: &(impl Abort + AllocGlobal),
+    kit: &Kit,
+    port: usize,
+    taken: &[i32],
+    want: &[i32],
+) -> Result<(), Fail> {
+    let put = put_at(rt, kit, port, &mut [taken], 0)?;
+    assert_eq!(rt; put.as_slice(), want, "at port {port}");
+    Ok(())
+}
+
+/// The same at all its output ports, and in runs where it has one.
+fn check_all(
+    rt: &(impl Abort + AllocGlobal),
+    kit: &Kit,
+    taken: &[i32],
+    want: &[&[i32]],
+) -> Result<(), Fail> {
+    assert!(rt; kit.outputs() == want.len());
+    for (port, list) in want.iter().enumerate() {
+        check_port(rt, kit, port, taken, list)?;
+        if want.len() == 1 {
+            check_runs(rt, kit, taken, list)?;
+        }
+    }
     Ok(())
 }
 
@@ -143,16 +233,7 @@ pub(crate) fn check(
     taken: &[i32],
     want: &[&[i32]],
 ) -> Result<(), Fail> {
-    let kit = kit?;
-    assert_eq!(rt; kit.outputs(), want.len());
-    for (port, list) in want.iter().enumerate() {
-        let put = put_at(rt, &kit, port, &mut [taken], 0)?;
-        assert_eq!(rt; put.as_slice(), *list);
-        if want.len() == 1 {
-            check_runs(rt, &kit, taken, list)?;
-        }
-    }
-    Ok(())
+    check_all(rt, &kit?, taken, want)
 }
 
 /// Compares what a kit puts in runs with what it puts firing by firing.

@@ -1,10 +1,12 @@
 //! What no clause says of graphs, schedules, nets and kinds of actor: worked ones, and the texts of their faults.
 //!
-//! It stands on `sdf_graph`, `sdf_sched`, `sdf_actor`, `sdf_kit` and on `test_actors`, and has no functions: tests
-//! stand in a crate of their own, since the functions of a crate are proved once more with its tests. Begin at
+//! It stands on `sdf_graph`, `sdf_sched`, `sdf_actor`, `sdf_kit`, `test_actors` and `test_texts`, and has no functions:
+//! tests stand in a crate of their own, since the functions of a crate are proved once more with its tests. Begin at
 //! `graphs`.
 #![tactic(auto)]
 
+#[cfg(test)]
+mod counts;
 #[cfg(test)]
 mod firing;
 #[cfg(test)]
@@ -15,5 +17,7 @@ mod kinds;
 mod net_faults;
 #[cfg(test)]
 mod nets;
+#[cfg(test)]
+mod parts;
 #[cfg(test)]
 mod schedules;

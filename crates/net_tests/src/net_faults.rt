@@ -1,264 +1,280 @@
 //! A net for each fault, in the order of the tests. Each net before the last has faults of the next test as well, where
 //! it can.
 
-use sdf_actor::{Actor, Link, Net, NetFault, Node};
+use crate::parts::Part::{In, Out, Turning};
+use crate::parts::{Part, THROUGH, refusal};
+use sdf_actor::NetFault;
 use std::alloc::{AllocError, Global};
 use std::test::Fail;
-use test_actors::Deal;
-use test_actors::nets::{dealer, links, sink, source, turning};
+use test_actors::nets::links;
+use test_texts::{row_says, says};
 
-/// The text of the fault of a net, and nothing where there is none.
-fn fault<A: Actor>(
-    alloc: Global,
-    nodes: Vec<Node<A>>,
-    links: Vec<Link<A::Token>>,
-) -> Result<String, Fail> {
-    match Net::new(alloc, nodes, links) {
-        Ok(_) => Ok(String::new(alloc)),
-        Err(fault) => Ok(fault.to_string(alloc)?),
+/// A net: its name, its nodes, the ends of its links, and what is told of it.
+type Told<'a> = (&'a str, &'a [Part], &'a [[usize; 4]], &'a str);
+
+fn refuses(alloc: Global, nets: &[Told]) -> Result<(), Fail> {
+    for (name, parts, ends, wanted) in nets {
+        row_says(name, refusal(alloc, parts, links(alloc, ends)?), wanted)?;
     }
+    Ok(())
 }
 
-/// Two sources, an actor between them and two sinks.
-const THROUGH: [[usize; 4]; 4] = [[0, 0, 2, 0], [1, 0, 2, 1], [2, 0, 3, 0], [2, 1, 4, 0]];
-
-/// Whether such a net has the fault of this text.
-fn tells(
-    alloc: Global,
-    nodes: [Node<Deal>; 5],
-    ends: &[[usize; 4]],
-    text: &str,
-) -> Result<bool, Fail> {
-    let nodes = Vec::from_array(alloc, nodes)?;
-    Ok(fault(alloc, nodes, links(alloc, ends)?)?.as_str() == text)
+/// The text of a refusal of memory.
+fn of_no_memory(alloc: Global) -> Result<String, Fail> {
+    Ok(NetFault::from(AllocError).to_string(alloc)?)
 }
 
 #[test]
 fn of_memory(rt: HostRuntime) -> Result<(), Fail> {
-    let alloc = rt.alloc();
-    let refused = NetFault::from(AllocError);
-    assert_eq!(rt; refused.to_string(alloc)?.as_str(), "1 OutOfMemory");
-    Ok(())
+    says(of_no_memory(rt.alloc()), "1 OutOfMemory")
 }
 
+/// The text of what parts with many links are refused with.
+fn of_many_links(alloc: Global, parts: &[Part]) -> Result<String, Fail> {
+    refusal(alloc, parts, links(alloc, &[[0, 0, 0, 0]; 257])?)
+}
+
+/// Too few nodes before too many links, and these before 20.
 #[test]
 fn of_counts(rt: HostRuntime) -> Result<(), Fail> {
-    let alloc = rt.alloc();
-    let text = fault::<Deal>(alloc, Vec::new(alloc), links(alloc, &[[0, 0, 0, 0]; 257])?)?;
-    assert_eq!(rt; text.as_str(), "2 ActorCount");
-    let nodes = Vec::from_array(alloc, [source::<Deal>(0, 1)])?;
-    let text = fault(alloc, nodes, links(alloc, &[[0, 0, 0, 0]; 257])?)?;
-    assert_eq!(rt; text.as_str(), "3 ChannelCount", "before 20");
-    Ok(())
+    says(of_many_links(rt.alloc(), &[]), "2 ActorCount")?;
+    says(of_many_links(rt.alloc(), &[In(0, 1)]), "3 ChannelCount")
 }
+
+const LINKS: &[Told] = &[
+    (
+        "before 21 of the same link",
+        &[In(0, 1), Out(0, 1)],
+        &[[0, 0, 1, 0], [0, 0, 1, 1]],
+        "20 NoPort link 1",
+    ),
+    (
+        "before 20 of a later link, and before 22",
+        &[In(0, 1), Out(0, 1), Out(1, 1)],
+        &[[0, 0, 1, 0], [0, 0, 2, 0], [3, 0, 1, 0]],
+        "21 PortTwice link 1",
+    ),
+];
 
 #[test]
 fn of_links(rt: HostRuntime) -> Result<(), Fail> {
-    let alloc = rt.alloc();
-    let nodes = Vec::from_array(alloc, [source::<Deal>(0, 1), sink(0, 1)])?;
-    let text = fault(alloc, nodes, links(alloc, &[[0, 0, 1, 0], [0, 0, 1, 1]])?)?;
-    assert_eq!(rt;
-        text.as_str(),
-        "20 NoPort link 1",
-        "before 21 of the same link"
-    );
-    let nodes = Vec::from_array(alloc, [source::<Deal>(0, 1), sink(0, 1), sink(1, 1)])?;
-    let ends = [[0, 0, 1, 0], [0, 0, 2, 0], [3, 0, 1, 0]];
-    let text = fault(alloc, nodes, links(alloc, &ends)?)?;
-    assert_eq!(rt;
-        text.as_str(),
-        "21 PortTwice link 1",
-        "before 20 of a later link, and before 22"
-    );
-    Ok(())
+    refuses(rt.alloc(), LINKS)
 }
+
+const PORTS: &[Told] = &[
+    (
+        "inputs before outputs, and before 23",
+        &[Turning(1, [1, 0, 1]), In(0, 1), In(0, 1)],
+        &[[1, 0, 0, 0]],
+        "22 PortOpen actor 0 input 1",
+    ),
+    (
+        "no link",
+        &[In(0, 1), Out(0, 1)],
+        &[],
+        "22 PortOpen actor 0 output 0",
+    ),
+];
 
 #[test]
 fn of_ports(rt: HostRuntime) -> Result<(), Fail> {
-    let alloc = rt.alloc();
-    let nodes = Vec::from_array(alloc, [dealer(1, 0, 1), source(0, 1), source(0, 1)])?;
-    let text = fault(alloc, nodes, links(alloc, &[[1, 0, 0, 0]])?)?;
-    assert_eq!(rt;
-        text.as_str(),
-        "22 PortOpen actor 0 input 1",
-        "inputs before outputs, and before 23"
-    );
-    let nodes = Vec::from_array(alloc, [source::<Deal>(0, 1), sink(0, 1)])?;
-    let text = fault(alloc, nodes, Vec::new(alloc))?;
-    assert_eq!(rt; text.as_str(), "22 PortOpen actor 0 output 0");
-    Ok(())
+    refuses(rt.alloc(), PORTS)
 }
+
+const LISTS: &[Told] = &[
+    (
+        "before 27",
+        &[
+            In(7, 1),
+            In(7, 1),
+            Turning(1, [1, 0, 1]),
+            Out(1, 1),
+            Out(3, 1),
+        ],
+        THROUGH,
+        "23 ExtTwice actor 1",
+    ),
+    (
+        "two sinks to one list",
+        &[
+            In(7, 1),
+            In(6, 1),
+            Turning(1, [1, 0, 1]),
+            Out(1, 1),
+            Out(1, 1),
+        ],
+        THROUGH,
+        "23 ExtTwice actor 4",
+    ),
+    (
+        "before 5",
+        &[
+            In(0, 0),
+            In(1, 1),
+            Turning(1, [1, 0, 1]),
+            Out(2, 1),
+            Out(0, 1),
+        ],
+        THROUGH,
+        "27 NoOutput channel 1",
+    ),
+    (
+        "before 27, of no source",
+        &[Turning(1, [1, 0, 1])],
+        &[[0, 0, 0, 0], [0, 1, 0, 1]],
+        "26 NoInput",
+    ),
+];
 
 #[test]
 fn of_lists(rt: HostRuntime) -> Result<(), Fail> {
-    let alloc = rt.alloc();
-    let twice = [
-        source(7, 1),
-        source(7, 1),
-        dealer(1, 0, 1),
-        sink(1, 1),
-        sink(3, 1),
+    refuses(rt.alloc(), LISTS)
+}
+
+const CHANNELS: &[Told] = &[
+    (
+        "before 5 of a later link",
+        &[
+            In(0, 1),
+            In(1, 1),
+            Turning(65, [1, 0, 0]),
+            Out(0, 1),
+            Out(1, 1),
+        ],
+        THROUGH,
+        "63 CycleLength link 0",
+    ),
+    (
+        "no list of all rates is made",
+        &[
+            In(0, 1),
+            In(1, 1),
+            Turning(u32::MAX, [1025, 0, 1]),
+            Out(0, 1),
+            Out(1, 1),
+        ],
+        THROUGH,
+        "5 BadRate link 0",
+    ),
+    (
+        "it has no rates",
+        &[
+            In(0, 1),
+            In(1, 1),
+            Turning(0, [1025, 0, 1]),
+            Out(0, 1),
+            Out(1, 1),
+        ],
+        THROUGH,
+        "63 CycleLength link 0",
+    ),
+    (
+        "a source that puts nothing",
+        &[
+            In(0, 1),
+            In(1, 0),
+            Turning(64, [1, 0, 1]),
+            Out(0, 1),
+            Out(1, 1),
+        ],
+        THROUGH,
+        "5 BadRate link 1",
+    ),
+];
+
+/// The same net, whose first link begins with so many samples, and whose actor has so many phases.
+fn of_full_link(alloc: Global, cycle: u32, many: usize) -> Result<String, Fail> {
+    let parts = [
+        In(0, 1),
+        Turning(cycle, [1, 0, 1]),
+        In(1, 1),
+        Out(0, 1),
+        Out(1, 1),
     ];
-    assert!(rt;
-        tells(alloc, twice, &THROUGH, "23 ExtTwice actor 1")?,
-        "before 27"
-    );
-    let twice = [
-        source(7, 1),
-        source(6, 1),
-        dealer(1, 0, 1),
-        sink(1, 1),
-        sink(1, 1),
-    ];
-    assert!(rt; tells(alloc, twice, &THROUGH, "23 ExtTwice actor 4")?);
-    let gap = [
-        source(0, 0),
-        source(1, 1),
-        dealer(1, 0, 1),
-        sink(2, 1),
-        sink(0, 1),
-    ];
-    assert!(rt;
-        tells(alloc, gap, &THROUGH, "27 NoOutput channel 1")?,
-        "before 5"
-    );
-    let nodes = Vec::from_array(alloc, [dealer(1, 0, 1)])?;
-    let text = fault(alloc, nodes, links(alloc, &[[0, 0, 0, 0], [0, 1, 0, 1]])?)?;
-    assert_eq!(rt; text.as_str(), "26 NoInput", "before 27");
-    Ok(())
+    let ends = [[0, 0, 1, 0], [2, 0, 1, 1], [1, 0, 3, 0], [1, 1, 4, 0]];
+    let mut links = links(alloc, &ends)?;
+    if let Some(first) = links.first_mut() {
+        first.initial = vec![in alloc; 0; many]?;
+    }
+    refusal(alloc, &parts, links)
 }
 
 #[test]
 fn of_channels(rt: HostRuntime) -> Result<(), Fail> {
-    let alloc = rt.alloc();
-    let still = [
-        source(0, 1),
-        source(1, 1),
-        turning(65, 1, 0, 0),
-        sink(0, 1),
-        sink(1, 1),
-    ];
-    assert!(rt;
-        tells(alloc, still, &THROUGH, "63 CycleLength link 0")?,
-        "before 5 of a later link"
-    );
-    let large = [
-        source(0, 1),
-        source(1, 1),
-        turning(u32::MAX, 1025, 0, 1),
-        sink(0, 1),
-        sink(1, 1),
-    ];
-    assert!(rt;
-        tells(alloc, large, &THROUGH, "5 BadRate link 0")?,
-        "no list of all rates is made"
-    );
-    let none = [
-        source(0, 1),
-        source(1, 1),
-        turning(0, 1025, 0, 1),
-        sink(0, 1),
-        sink(1, 1),
-    ];
-    assert!(rt;
-        tells(alloc, none, &THROUGH, "63 CycleLength link 0")?,
-        "it has no rates"
-    );
-    let last = [
-        source(0, 1),
-        source(1, 0),
-        turning(64, 1, 0, 1),
-        sink(0, 1),
-        sink(1, 1),
-    ];
-    assert!(rt; tells(alloc, last, &THROUGH, "5 BadRate link 1")?);
-    for (cycle, text) in [(65, "63 CycleLength link 0"), (1, "6 InitialCount link 0")] {
-        let mut full = Vec::new(alloc);
-        full.push(Link {
-            from: (0, 0),
-            to: (1, 0),
-            initial: vec![in alloc; 0; 65_537]?,
-        })?;
-        full.push(Link {
-            from: (2, 0),
-            to: (1, 1),
-            initial: Vec::new(alloc),
-        })?;
-        full.push(Link {
-            from: (1, 0),
-            to: (3, 0),
-            initial: Vec::new(alloc),
-        })?;
-        full.push(Link {
-            from: (1, 1),
-            to: (4, 0),
-            initial: Vec::new(alloc),
-        })?;
-        let nodes = Vec::from_array(
-            alloc,
-            [
-                source(0, 1),
-                turning(cycle, 1, 0, 1),
-                source(1, 1),
-                sink(0, 1),
-                sink(1, 1),
-            ],
-        )?;
-        assert_eq!(rt; fault(alloc, nodes, full)?.as_str(), text);
-    }
-    Ok(())
+    refuses(rt.alloc(), CHANNELS)?;
+    says(
+        of_full_link(rt.alloc(), 65, 65_537),
+        "63 CycleLength link 0",
+    )?;
+    says(of_full_link(rt.alloc(), 1, 65_537), "6 InitialCount link 0")
 }
+
+const PERIODS: &[Told] = &[
+    (
+        "two nets",
+        &[In(0, 1), Out(0, 1), In(1, 1), Out(1, 1)],
+        &[[0, 0, 1, 0], [2, 0, 3, 0]],
+        "7 NotConnected actor 2",
+    ),
+    (
+        "one of two comes back",
+        &[In(0, 1), Turning(1, [1, 1, 1]), Out(0, 1)],
+        &[[0, 0, 1, 0], [1, 0, 2, 0], [1, 1, 1, 1]],
+        "8 Inconsistent link 2",
+    ),
+    (
+        "two of three come back",
+        &[In(0, 1), Turning(1, [1, 1, 2]), Out(0, 1)],
+        &[[0, 0, 1, 0], [1, 0, 2, 0], [1, 1, 1, 1]],
+        "8 Inconsistent link 2",
+    ),
+    (
+        "before 24",
+        &[
+            In(0, 1),
+            In(1, 1),
+            Turning(1, [499, 1, 501]),
+            Out(0, 1000),
+            Out(1, 1001),
+        ],
+        THROUGH,
+        "9 PeriodTooLong",
+    ),
+];
 
 #[test]
 fn of_periods(rt: HostRuntime) -> Result<(), Fail> {
-    let alloc = rt.alloc();
-    let nodes = Vec::from_array(
-        alloc,
-        [source::<Deal>(0, 1), sink(0, 1), source(1, 1), sink(1, 1)],
-    )?;
-    let text = fault(alloc, nodes, links(alloc, &[[0, 0, 1, 0], [2, 0, 3, 0]])?)?;
-    assert_eq!(rt; text.as_str(), "7 NotConnected actor 2");
-    for (last, wanted) in [(1, "8 Inconsistent link 2"), (2, "8 Inconsistent link 2")] {
-        let nodes = Vec::from_array(alloc, [source(0, 1), dealer(1, 1, last), sink(0, 1)])?;
-        let ends = [[0, 0, 1, 0], [1, 0, 2, 0], [1, 1, 1, 1]];
-        let text = fault(alloc, nodes, links(alloc, &ends)?)?;
-        assert_eq!(rt; text.as_str(), wanted);
-    }
-    let long = [
-        source(0, 1),
-        source(1, 1),
-        dealer(499, 1, 501),
-        sink(0, 1000),
-        sink(1, 1001),
-    ];
-    assert!(rt;
-        tells(alloc, long, &THROUGH, "9 PeriodTooLong")?,
-        "before 24"
-    );
-    Ok(())
+    refuses(rt.alloc(), PERIODS)
 }
+
+const SAMPLES: &[Told] = &[
+    (
+        "before 25",
+        &[
+            In(0, 1),
+            In(1, 1),
+            Turning(1, [1, 0, 2]),
+            Out(0, 1),
+            Out(1, 1),
+        ],
+        THROUGH,
+        "24 InputRates actor 1",
+    ),
+    (
+        "two to one sink and three to the other",
+        &[
+            In(0, 1),
+            In(1, 2),
+            Turning(1, [1, 1, 2]),
+            Out(0, 1),
+            Out(1, 1),
+        ],
+        THROUGH,
+        "25 OutputRates actor 4",
+    ),
+];
 
 #[test]
 fn of_samples(rt: HostRuntime) -> Result<(), Fail> {
-    let alloc = rt.alloc();
-    let uneven = [
-        source(0, 1),
-        source(1, 1),
-        dealer(1, 0, 2),
-        sink(0, 1),
-        sink(1, 1),
-    ];
-    assert!(rt;
-        tells(alloc, uneven, &THROUGH, "24 InputRates actor 1")?,
-        "before 25"
-    );
-    let uneven = [
-        source(0, 1),
-        source(1, 2),
-        dealer(1, 1, 2),
-        sink(0, 1),
-        sink(1, 1),
-    ];
-    assert!(rt; tells(alloc, uneven, &THROUGH, "25 OutputRates actor 4")?);
-    Ok(())
+    refuses(rt.alloc(), SAMPLES)
 }

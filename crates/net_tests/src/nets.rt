@@ -3,86 +3,120 @@
 ghost use Rattle.std.specs.Prelude.{◌≡◌, ◌<◌, length};
 ghost use Rattle.sdf_actor.specs.Steps.{total_in, total_out};
 
+use crate::parts::Part::{In, Out, Turning};
+use crate::parts::{Part, THROUGH, nodes, refusal};
 use sdf_actor::laws::{
     histories_grow, history_grows_by_firing, nets_are_wired, one_history, taken_stays,
 };
-use sdf_actor::{Actor, Net, NetFault, Node};
+use sdf_actor::{Actor, Net, Node};
 use std::alloc::{AllocError, Global};
 use std::test::Fail;
-use test_actors::nets::{links, sink, source, turning};
+use test_actors::nets::{links, sink, source};
 use test_actors::{Deal, Sum, Swap};
+use test_texts::says;
+
+/// The nodes and links of a net, its lists, the samples of a period, and the actors of its graph.
+fn sizes<A: Actor>(alloc: Global, net: &Net<A>) -> Result<String, Fail> {
+    let parts = (net.len(), net.channels());
+    let lists = (net.inputs(), net.outputs());
+    let samples = (net.samples_in(), net.samples_out());
+    let actors = (net.graph().actors(), net.repetitions().len());
+    Ok(format!(in alloc; "{parts:?} {lists:?} {samples:?} {actors:?}")?)
+}
+
+/// How often a node fires in a period, how many firings its cycle has, and its channels in and out.
+fn firings<A: Actor>(alloc: Global, net: &Net<A>, a: usize) -> Result<String, Fail> {
+    if a >= net.len() || a >= net.graph().actors() || a >= net.repetitions().len() {
+        return Ok(String::new(alloc));
+    }
+    let (times, cycle) = (net.repetitions().of(a), net.graph().cycle(a));
+    let (into, out_of) = (net.channels_in(a), net.channels_out(a));
+    Ok(format!(in alloc; "{times} of {cycle}, {into:?} {out_of:?}")?)
+}
+
+/// Where a link goes from and to, and the rates of its channel.
+fn link<A: Actor>(alloc: Global, net: &Net<A>, c: usize) -> Result<String, Fail> {
+    let channels = net.graph().channels();
+    if c >= net.channels() || c >= channels.len() {
+        return Ok(String::new(alloc));
+    }
+    let (from, to) = (net.link(c).from, net.link(c).to);
+    let channel = &channels[c];
+    Ok(format!(in alloc; "{from:?} {to:?}, {:?} {:?}", channel.put, channel.take)?)
+}
+
+/// What a node is.
+fn kind<A: Actor>(alloc: Global, net: &Net<A>, a: usize) -> Result<String, Fail> {
+    if a >= net.len() {
+        return Ok(String::new(alloc));
+    }
+    match net.node(a) {
+        Node::Source { ext, block } => Ok(format!(in alloc; "source {ext} of {block}")?),
+        Node::Sink { ext, block } => Ok(format!(in alloc; "sink {ext} of {block}")?),
+        Node::Inner(_) => Ok(String::new(alloc)),
+    }
+}
+
+/// A net of parts and of links by their ends.
+fn net(alloc: Global, parts: &[Part], ends: &[[usize; 4]]) -> Result<Net<Deal>, Fail> {
+    Ok(Net::new(alloc, nodes(alloc, parts)?, links(alloc, ends)?)?)
+}
+
+fn is_two_to_three<A: Actor>(alloc: Global, net: &Net<A>) -> Result<(), Fail> {
+    says(sizes(alloc, net), "(2, 1) (1, 1) (6, 6) (2, 2)")?;
+    says(firings(alloc, net, 0), "3 of 1, [] [0]")?;
+    says(firings(alloc, net, 1), "2 of 1, [0] []")?;
+    says(link(alloc, net, 0), "(0, 0) (1, 0), [2] [3]")?;
+    says(kind(alloc, net, 0), "source 0 of 2")?;
+    says(kind(alloc, net, 1), "sink 0 of 3")
+}
 
 #[test]
 fn two_to_three(rt: HostRuntime) -> Result<(), Fail> {
-    let alloc = rt.alloc();
-    let nodes = Vec::from_array(alloc, [source::<Deal>(0, 2), sink(0, 3)])?;
-    let Ok(net) = Net::new(alloc, nodes, links(alloc, &[[0, 0, 1, 0]])?) else {
-        return Err(Fail::from("a net is made"));
-    };
-    assert_eq!(rt; net.repetitions().len(), 2);
-    assert_eq!(rt; (net.repetitions().of(0), net.repetitions().of(1)), (3, 2));
-    assert_eq!(rt; (net.samples_in(), net.samples_out()), (6, 6));
-    assert_eq!(rt; (net.inputs(), net.outputs()), (1, 1));
-    assert_eq!(rt; (net.len(), net.channels()), (2, 1));
-    assert_eq!(rt; net.graph().actors(), 2);
-    assert_eq!(rt; net.channels_in(1), [0].as_slice());
-    assert_eq!(rt; net.channels_out(1).len(), 0);
-    assert_eq!(rt; net.channels_out(0), [0].as_slice());
-    assert!(rt; matches!(net.node(0), Node::Source { ext: 0, block: 2 }));
-    assert_eq!(rt; net.link(0).to, (1, 0));
-    Ok(())
+    let net = net(rt.alloc(), &[In(0, 2), Out(0, 3)], &[[0, 0, 1, 0]])?;
+    is_two_to_three(rt.alloc(), &net)
+}
+
+#[test]
+fn two_sources_of_different_rates(rt: HostRuntime) -> Result<(), Fail> {
+    let parts = [
+        In(0, 2),
+        In(1, 3),
+        Turning(2, [1, 1, 3]),
+        Out(0, 1),
+        Out(1, 4),
+    ];
+    let refused = refusal(rt.alloc(), &parts, links(rt.alloc(), THROUGH)?);
+    says(refused, "24 InputRates actor 1")
+}
+
+fn has_two_phases<A: Actor>(alloc: Global, net: &Net<A>) -> Result<(), Fail> {
+    says(sizes(alloc, net), "(5, 4) (2, 2) (2, 2) (5, 5)")?;
+    says(firings(alloc, net, 0), "1 of 1, [] [0]")?;
+    says(firings(alloc, net, 2), "2 of 2, [0, 1] [2, 3]")?;
+    says(link(alloc, net, 0), "(0, 0) (2, 0), [2] [2, 0]")
 }
 
 #[test]
 fn two_phases(rt: HostRuntime) -> Result<(), Fail> {
-    let alloc = rt.alloc();
-    let nodes = Vec::from_array(
-        alloc,
-        [
-            source(0, 2),
-            source(1, 3),
-            turning(2, 1, 1, 3),
-            sink(0, 1),
-            sink(1, 4),
-        ],
-    )?;
-    let ends = [[0, 0, 2, 0], [1, 0, 2, 1], [2, 0, 3, 0], [2, 1, 4, 0]];
-    let fault = match Net::new(alloc, nodes, links(alloc, &ends)?) {
-        Ok(_) => return Err(Fail::from("two sources of different rates")),
-        Err(fault) => fault,
-    };
-    assert_eq!(rt; fault, NetFault::InputRates { actor: 1 });
-    let nodes = Vec::from_array(
-        alloc,
-        [
-            source(0, 2),
-            source(1, 2),
-            turning(2, 2, 0, 2),
-            sink(0, 2),
-            sink(1, 2),
-        ],
-    )?;
-    let Ok(net) = Net::new(alloc, nodes, links(alloc, &ends)?) else {
-        return Err(Fail::from("a net is made"));
-    };
-    assert_eq!(rt; (net.repetitions().of(0), net.repetitions().of(2)), (1, 2));
-    assert_eq!(rt; net.graph().cycle(2), 2);
-    let channel = &net.graph().channels()[0];
-    assert_eq!(rt; channel.take.as_slice(), [2, 0].as_slice());
-    assert_eq!(rt; (net.samples_in(), net.samples_out()), (2, 2));
-    Ok(())
+    let parts = [
+        In(0, 2),
+        In(1, 2),
+        Turning(2, [2, 0, 2]),
+        Out(0, 2),
+        Out(1, 2),
+    ];
+    has_two_phases(rt.alloc(), &net(rt.alloc(), &parts, THROUGH)?)
 }
 
+/// A net is made, or memory was refused.
 #[test]
 fn nothing_but_memory_is_wrong(rt: HostRuntime) -> Result<(), Fail> {
     let alloc = rt.alloc();
     let nodes = Vec::from_array(alloc, [source(0, 1), Node::Inner(Sum), sink(0, 1)])?;
     match Net::new(alloc, nodes, links(alloc, &[[0, 0, 1, 0], [1, 0, 2, 0]])?) {
         Ok(_) => Ok(()),
-        Err(fault) => {
-            assert_eq!(rt; fault.to_string(alloc)?.as_str(), "1 OutOfMemory");
-            Ok(())
-        }
+        Err(fault) => says(fault.to_string(alloc).map_err(Fail::from), "1 OutOfMemory"),
     }
 }
 
@@ -103,15 +137,22 @@ fn fire_once<A: Actor>(
     Ok(state)
 }
 
-#[test]
-fn fires_through_the_trait(rt: HostRuntime) -> Result<(), Fail> {
-    let alloc = rt.alloc();
+/// What a sum puts of 7, and its state then.
+fn sum_once(alloc: Global) -> Result<String, Fail> {
     let mut total = [0];
     let state = fire_once(alloc, &Sum, 0, &[7], &mut total)?;
-    assert_eq!(rt; (total, state), ([7], 7));
+    Ok(format!(in alloc; "{total:?} {state}")?)
+}
+
+/// What a pair is turned to.
+fn swap_once(alloc: Global) -> Result<String, Fail> {
     let mut turned = [[0, 0]];
     fire_once(alloc, &Swap, 0, &[[1, 2]], &mut turned)?;
-    assert_eq!(rt; turned, [[2, 1]]);
+    Ok(format!(in alloc; "{turned:?}")?)
+}
+
+/// What an actor of two phases puts of two samples, and what it moves at a port at its second phase.
+fn deal_twice(alloc: Global) -> Result<String, Fail> {
     let deal = Deal {
         cycle: 2,
         first: 1,
@@ -120,11 +161,17 @@ fn fires_through_the_trait(rt: HostRuntime) -> Result<(), Fail> {
     };
     let mut put = [0, 0];
     fire_once(alloc, &deal, 0, &[3, 4], &mut put)?;
-    assert_eq!(rt; put, [3, 4]);
     let mut none: [i32; 0] = [];
     fire_once(alloc, &deal, 1, &[], &mut none)?;
-    assert_eq!(rt; (deal.take(0, 1), deal.put(1, 1)), (0, 0));
-    Ok(())
+    let (taken, later) = (deal.take(0, 1), deal.put(1, 1));
+    Ok(format!(in alloc; "{put:?} {taken} {later}")?)
+}
+
+#[test]
+fn fires_through_the_trait(rt: HostRuntime) -> Result<(), Fail> {
+    says(sum_once(rt.alloc()), "[7] 7")?;
+    says(swap_once(rt.alloc()), "[[2, 1]]")?;
+    says(deal_twice(rt.alloc()), "[3, 4] 0 0")
 }
 
 #[test]

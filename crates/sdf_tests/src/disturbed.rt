@@ -1,11 +1,16 @@
 //! Runs whose workers are held up: the outputs are those of one thread, and the rounds are within their bounds.
 
-use crate::kits::{blocks, branches, looped};
-use crate::nets::{converter, planned, ramp};
-use sdf_actor::Net;
-use sdf_kit::Kit;
-use sdf_run::{run_one, run_rings, run_rows};
-use std::process::Abort;
+ghost use Rattle.sdf_graph.specs.Rates.{rates};
+ghost use Rattle.sdf_sched.specs.Period.{IsPeriodOf};
+ghost use Rattle.sdf_actor.specs.Graphs.{graph_of};
+ghost use Rattle.sdf_answer.specs.Rows.{IsTableOf};
+
+use crate::kits::Worked;
+use crate::nets::{Times, make_as_one, planned, ramp};
+use sdf_actor::{Actor, Net};
+use sdf_prec::Table;
+use sdf_run::Mode;
+use sdf_sched::Period;
 use std::test::Fail;
 use std::thread::Threads;
 use test_actors::gates::Delay;
@@ -13,57 +18,64 @@ use test_actors::gates::Delay;
 /// A processor is held for so many turns before each of its firings: a firing takes fewer.
 const TURNS: u32 = 1_000;
 
-/// Whether workers make of some periods what one thread makes, by rows and over rings, where a processor is held up:
-/// for all its turns, or no longer than until another has passed a firing.
-fn disturbed<R: Abort + Threads + AllocGlobal + Sync>(
+/// By rows and over rings.
+const MODES: &[Mode] = &[
+    Mode::Rows,
+    Mode::Rings { patience: 0 },
+    Mode::Rings { patience: 1 },
+    Mode::Rings {
+        patience: 1_000_000,
+    },
+];
+
+/// Whether workers make of some periods what one thread makes, where a processor is held up: for all its turns, or no
+/// longer than until another has passed a firing.
+fn disturbed<R: Threads + AllocGlobal + Sync, A: Actor<Token = i32>>(
     rt: &R,
-    net: &Net<Kit>,
+    net: &Net<A>,
+    plan: &(Period, Table),
     periods: u32,
-    workers: usize,
+    processor: usize,
     until_another: bool,
-) -> Result<(), Fail> {
-    let alloc = rt.alloc();
-    let (period, table) = planned(alloc, net, 1, workers, true)?;
-    let inputs = ramp(alloc, 1, 13, net.samples_in())?;
-    let one = run_one(alloc, net, &period, periods, &inputs)?;
-    let gate = Delay::new(workers / 2, TURNS, until_another);
-    let rows = run_rows(rt, net, &period, 1, &table, periods, &inputs, &gate)?;
-    assert_eq!(rt; rows.outputs.as_slice(), one.outputs.as_slice());
-    let firings = (period.order().len() as u64).wrapping_mul(u64::from(periods));
-    for patience in [0, 1, 1_000_000] {
-        let gate = Delay::new(workers / 2, TURNS, until_another);
-        let ran = run_rings(
-            rt, net, &period, 1, &table, periods, &inputs, patience, &gate,
-        )?;
-        assert_eq!(rt; ran.outputs.as_slice(), one.outputs.as_slice());
-        assert!(rt; 1 <= ran.rounds && ran.rounds <= firings);
+) -> Result<(), Fail>
+    requires period { IsPeriodOf (rates (graph_of A.steps net.now)) plan.now.0 }
+    requires table { IsTableOf (rates (graph_of A.steps net.now)) plan.now.0.repetitions 1 plan.now.1 }
+{
+    let inputs = ramp(rt.alloc(), 1, 13, net.samples_in())?;
+    for mode in MODES {
+        let times = Times {
+            j: 1,
+            blocks: periods,
+            mode: *mode,
+        };
+        let gate = Delay::new(processor, TURNS, until_another);
+        make_as_one(rt, net, plan, times, &inputs, &gate)?;
     }
     Ok(())
 }
 
 /// On one, two, three and sixteen workers.
-fn disturbed_by_any<R: Abort + Threads + AllocGlobal + Sync>(
+fn disturbed_by_any<R: Threads + AllocGlobal + Sync, A: Actor<Token = i32>>(
     rt: &R,
-    net: &Net<Kit>,
+    net: &Net<A>,
     periods: u32,
 ) -> Result<(), Fail> {
     for workers in [1, 2, 3, 16] {
-        disturbed(rt, net, periods, workers, false)?;
-        disturbed(rt, net, periods, workers, true)?;
+        let plan = planned(rt.alloc(), net, 1, workers, true)?;
+        disturbed(rt, net, &plan, periods, workers / 2, false)?;
+        disturbed(rt, net, &plan, periods, workers / 2, true)?;
     }
     Ok(())
 }
 
 #[test]
 fn small_nets(rt: HostRuntime) -> Result<(), Fail> {
-    let alloc = rt.alloc();
-    for net in [blocks(alloc)?, looped(alloc)?, branches(alloc, 2)?] {
-        disturbed_by_any(&rt, &net, 2)?;
-    }
-    Ok(())
+    disturbed_by_any(&rt, &Worked::Blocks.net(rt.alloc())?, 2)?;
+    disturbed_by_any(&rt, &Worked::Looped.net(rt.alloc())?, 2)?;
+    disturbed_by_any(&rt, &Worked::Branches(2).net(rt.alloc())?, 2)
 }
 
 #[test]
 fn the_converter(rt: HostRuntime) -> Result<(), Fail> {
-    disturbed_by_any(&rt, &converter(rt.alloc())?, 1)
+    disturbed_by_any(&rt, &Worked::Converter.net(rt.alloc())?, 1)
 }

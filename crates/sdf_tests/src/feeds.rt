@@ -8,6 +8,7 @@ use sdf_sched::class_s::class_s;
 use std::alloc::Global;
 use std::test::Fail;
 use test_actors::{Sum, Twice};
+use test_texts::says;
 
 /// What a run of some periods makes, and then what a further one makes.
 fn in_pieces<A: Actor>(
@@ -43,31 +44,32 @@ fn told<A: Actor<Token = i64>>(
 #[test]
 fn a_state_goes_on(rt: HostRuntime) -> Result<(), Fail> {
     let net = chain(rt.alloc(), Sum)?;
-    let told = told(rt.alloc(), &net, (2, 1), &[1, 2], &[3])?;
-    assert_eq!(rt; told.as_str(), "[[[1, 3]], [[6]]]");
-    Ok(())
+    says(
+        told(rt.alloc(), &net, (2, 1), &[1, 2], &[3]),
+        "[[[1, 3]], [[6]]]",
+    )
 }
 
 #[test]
 fn phases_begin_anew(rt: HostRuntime) -> Result<(), Fail> {
     let net = chain(rt.alloc(), Twice)?;
-    let told = told(rt.alloc(), &net, (1, 2), &[1], &[2, 3])?;
-    assert_eq!(rt; told.as_str(), "[[[1, 1]], [[2, 2, 3, 3]]]");
-    Ok(())
+    says(
+        told(rt.alloc(), &net, (1, 2), &[1], &[2, 3]),
+        "[[[1, 1]], [[2, 2, 3, 3]]]",
+    )
 }
 
 #[test]
 fn held_samples_come_first(rt: HostRuntime) -> Result<(), Fail> {
     let net = pair(rt.alloc(), 1, 1, &[7, 8])?;
-    let told = told(rt.alloc(), &net, (3, 2), &[1, 2, 3], &[4, 5])?;
-    assert_eq!(rt; told.as_str(), "[[[7, 8, 1]], [[2, 3]]]");
-    Ok(())
+    says(
+        told(rt.alloc(), &net, (3, 2), &[1, 2, 3], &[4, 5]),
+        "[[[7, 8, 1]], [[2, 3]]]",
+    )
 }
 
 #[test]
 fn an_empty_feed(rt: HostRuntime) -> Result<(), Fail> {
     let net = pair(rt.alloc(), 1, 1, &[7, 8])?;
-    let told = told(rt.alloc(), &net, (0, 1), &[], &[4])?;
-    assert_eq!(rt; told.as_str(), "[[[]], [[7]]]");
-    Ok(())
+    says(told(rt.alloc(), &net, (0, 1), &[], &[4]), "[[[]], [[7]]]")
 }

@@ -1,80 +1,177 @@
-//! Nets of kits, for workers: those that the gates of the tests hold up.
+//! Nets of kits, for workers: the rate converter, and those that the gates of the tests hold up.
 
-use sdf_actor::{Net, Node};
+use sdf_actor::{Link, Net, Node};
 use sdf_kit::Kit;
-use std::alloc::Global;
+use std::alloc::{AllocError, Global};
 use std::test::Fail;
 use test_actors::nets::{links, sink, source};
 
-/// A net of nodes and links, of which some begin with a zero.
-fn joined(
+/// A node: a source of a block, a sink of a list and its block, or a kit of these values.
+#[derive(Clone, Copy)]
+enum Part {
+    In(u32),
+    Out(u8, u32),
+    Add(usize),
+    Deal(usize, u32),
+    Fork(usize),
+    Gain(i32, u32),
+    /// A filter with as many taps of 1 as its first rate.
+    Ones(u32, u32),
+}
+
+use Part::{Add, Deal, Fork, Gain, In, Ones, Out};
+
+fn kit(alloc: Global, part: Part) -> Result<Node<Kit>, Fail> {
+    Ok(match part {
+        In(block) => source(0, block),
+        Out(ext, block) => sink(ext, block),
+        Add(ways) => Node::Inner(Kit::add(ways)?),
+        Deal(ways, run) => Node::Inner(Kit::deal(ways, run)?),
+        Fork(ways) => Node::Inner(Kit::fork(ways)?),
+        Gain(factor, shift) => Node::Inner(Kit::gain(factor, shift)?),
+        Ones(up, down) => {
+            Node::Inner(Kit::fir(up, down, vec![in alloc; 1i32; up as usize]?, 0)?)
+        }
+    })
+}
+
+fn nodes(alloc: Global, parts: &[Part]) -> Result<Vec<Node<Kit>>, Fail> {
+    let mut nodes = Vec::new(alloc);
+    for part in parts {
+        nodes.push(kit(alloc, *part)?)?;
+    }
+    Ok(nodes)
+}
+
+/// Links by their ends, of which some begin with a zero.
+fn waiting_links(
     alloc: Global,
-    nodes: Vec<Node<Kit>>,
     ends: &[[usize; 4]],
     waiting: &[usize],
-) -> Result<Net<Kit>, Fail> {
+) -> Result<Vec<Link<i32>>, AllocError> {
     let mut links = links(alloc, ends)?;
     for number in waiting {
         if let Some(link) = links.get_mut(*number) {
             link.initial.push(0)?;
         }
     }
-    Ok(Net::new(alloc, nodes, links)?)
+    Ok(links)
 }
 
-/// Blocks of two samples to blocks of three.
-pub(crate) fn blocks(alloc: Global) -> Result<Net<Kit>, Fail> {
-    let mut nodes = Vec::new(alloc);
-    nodes.push(source(0, 2))?;
-    nodes.push(sink(0, 3))?;
-    joined(alloc, nodes, &[[0, 0, 1, 0]], &[])
+/// A net of parts and of links by their ends, of which some begin with a zero.
+fn joined(
+    alloc: Global,
+    parts: &[Part],
+    ends: &[[usize; 4]],
+    waiting: &[usize],
+) -> Result<Net<Kit>, Fail> {
+    let nodes = nodes(alloc, parts)?;
+    Ok(Net::new(alloc, nodes, waiting_links(alloc, ends, waiting)?)?)
 }
 
-/// A loop: what comes out is fed back, turned round.
-pub(crate) fn looped(alloc: Global) -> Result<Net<Kit>, Fail> {
-    let mut nodes = Vec::new(alloc);
-    nodes.push(source(0, 1))?;
-    nodes.push(Node::Inner(Kit::add(2)?))?;
-    nodes.push(Node::Inner(Kit::fork(2)?))?;
-    nodes.push(Node::Inner(Kit::gain(-32_768, 15)?))?;
-    nodes.push(sink(0, 1))?;
-    let ends = [
-        [0, 0, 1, 0],
-        [1, 0, 2, 0],
-        [2, 0, 4, 0],
-        [2, 1, 3, 0],
-        [3, 0, 1, 1],
-    ];
-    joined(alloc, nodes, &ends, &[4])
+/// The nets of kits.
+#[derive(Clone, Copy)]
+pub(crate) enum Worked {
+    /// Blocks of two samples to blocks of three.
+    Blocks,
+    /// A loop: what comes out is fed back, turned round.
+    Looped,
+    /// Blocks of two samples, dealt by threes to two sinks. The actor that deals has two phases, so it fires one by
+    /// one.
+    Dealt,
+    /// A fork and an adder, and between them so many branches, each a gain that may fire from the start: actors 2 and
+    /// on.
+    Branches(usize),
+    /// 147 samples to 160, in four stages.
+    Converter,
 }
 
-/// A fork and an adder, and between them so many branches, each a gain that may fire from the start: actors 2 and on.
-pub(crate) fn branches(alloc: Global, ways: usize) -> Result<Net<Kit>, Fail> {
-    let mut nodes = Vec::new(alloc);
-    let mut ends = Vec::new(alloc);
-    let mut waiting = Vec::new(alloc);
-    nodes.push(source(0, 1))?;
-    nodes.push(Node::Inner(Kit::fork(ways)?))?;
-    for way in 0..ways {
-        nodes.push(Node::Inner(Kit::gain(1, 0)?))?;
-        waiting.push(ends.len())?;
-        ends.push([1, way, way.wrapping_add(2), 0])?;
-        ends.push([way.wrapping_add(2), 0, ways.wrapping_add(2), way])?;
+impl Worked {
+    pub(crate) fn name(self) -> &'static str {
+        match self {
+            Worked::Blocks => "blocks",
+            Worked::Looped => "a loop",
+            Worked::Dealt => "dealt",
+            Worked::Branches(_) => "branches",
+            Worked::Converter => "the converter",
+        }
     }
-    nodes.push(Node::Inner(Kit::add(ways)?))?;
-    nodes.push(sink(0, 1))?;
-    ends.push([0, 0, 1, 0])?;
-    ends.push([ways.wrapping_add(2), 0, ways.wrapping_add(3), 0])?;
-    joined(alloc, nodes, &ends, &waiting)
+
+    pub(crate) fn net(self, alloc: Global) -> Result<Net<Kit>, Fail> {
+        match self {
+            Worked::Blocks => joined(alloc, &[In(2), Out(0, 3)], &[[0, 0, 1, 0]], &[]),
+            Worked::Looped => joined(alloc, LOOPED, LOOPED_ENDS, &[4]),
+            Worked::Dealt => joined(alloc, DEALT, DEALT_ENDS, &[]),
+            Worked::Branches(ways) => branches(alloc, ways),
+            Worked::Converter => joined(alloc, CONVERTER, CHAINED, &[]),
+        }
+    }
 }
 
-/// Blocks of two samples, dealt by threes to two sinks. The actor that deals has two phases, so it fires one by one.
-pub(crate) fn dealt(alloc: Global) -> Result<Net<Kit>, Fail> {
-    let mut nodes = Vec::new(alloc);
-    nodes.push(source(0, 2))?;
-    nodes.push(Node::Inner(Kit::deal(2, 3)?))?;
-    nodes.push(sink(0, 3))?;
-    nodes.push(sink(1, 3))?;
-    let ends = [[0, 0, 1, 0], [1, 0, 2, 0], [1, 1, 3, 0]];
-    joined(alloc, nodes, &ends, &[])
+const LOOPED: &[Part] = &[In(1), Add(2), Fork(2), Gain(-32_768, 15), Out(0, 1)];
+
+const LOOPED_ENDS: &[[usize; 4]] = &[
+    [0, 0, 1, 0],
+    [1, 0, 2, 0],
+    [2, 0, 4, 0],
+    [2, 1, 3, 0],
+    [3, 0, 1, 1],
+];
+
+const DEALT: &[Part] = &[In(2), Deal(2, 3), Out(0, 3), Out(1, 3)];
+
+const DEALT_ENDS: &[[usize; 4]] = &[[0, 0, 1, 0], [1, 0, 2, 0], [1, 1, 3, 0]];
+
+const CONVERTER: &[Part] = &[
+    In(1),
+    Ones(2, 1),
+    Ones(2, 3),
+    Ones(8, 7),
+    Ones(5, 7),
+    Out(0, 1),
+];
+
+const CHAINED: &[[usize; 4]] = &[
+    [0, 0, 1, 0],
+    [1, 0, 2, 0],
+    [2, 0, 3, 0],
+    [3, 0, 4, 0],
+    [4, 0, 5, 0],
+];
+
+fn branch_parts(alloc: Global, ways: usize) -> Result<Vec<Part>, AllocError> {
+    let mut parts = Vec::from_slice(alloc, &[In(1), Fork(ways)])?;
+    for _ in 0..ways {
+        parts.push(Gain(1, 0))?;
+    }
+    parts.extend_from_slice(&[Add(ways), Out(0, 1)])?;
+    Ok(parts)
+}
+
+/// Two links for each branch, into it and out of it, and then that from the source and that to the sink.
+fn branch_ends(alloc: Global, ways: usize) -> Result<Vec<[usize; 4]>, AllocError> {
+    let mut ends = Vec::new(alloc);
+    let adder = ways.wrapping_add(2);
+    for way in 0..ways {
+        let branch = way.wrapping_add(2);
+        ends.extend_from_slice(&[[1, way, branch, 0], [branch, 0, adder, way]])?;
+    }
+    ends.extend_from_slice(&[[0, 0, 1, 0], [adder, 0, adder.wrapping_add(1), 0]])?;
+    Ok(ends)
+}
+
+/// The links into the branches.
+fn branch_waiting(alloc: Global, ways: usize) -> Result<Vec<usize>, AllocError> {
+    let mut waiting = Vec::new(alloc);
+    for way in 0..ways {
+        waiting.push(way.wrapping_mul(2))?;
+    }
+    Ok(waiting)
+}
+
+fn branches(alloc: Global, ways: usize) -> Result<Net<Kit>, Fail> {
+    let parts = branch_parts(alloc, ways)?;
+    let ends = branch_ends(alloc, ways)?;
+    let waiting = branch_waiting(alloc, ways)?;
+    joined(alloc, &parts, &ends, &waiting)
 }

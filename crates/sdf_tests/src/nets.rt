@@ -1,4 +1,4 @@
-//! The nets of the tests, their lists of samples, and tables.
+//! Small nets, lists of samples, tables, and runs whose makings are compared as texts.
 
 ghost use Rattle.std.specs.Prelude.{◌*◌, ◌<◌, IfOk};
 ghost use Rattle.sdf_graph.specs.Rates.{rates};
@@ -7,11 +7,10 @@ ghost use Rattle.sdf_actor.specs.Graphs.{graph_of};
 ghost use Rattle.sdf_answer.specs.Rows.{IsTableOf};
 
 use sdf_actor::{Actor, Link, Net, Node};
-use sdf_kit::Kit;
 use sdf_node::Gate;
 use sdf_prec::hu::hu;
 use sdf_prec::{Costs, Table};
-use sdf_run::{Mode, Ran, RunFault, Session, run_rings, run_rows};
+use sdf_run::{Mode, Ran, RunFault, Session, run_one, run_rings, run_rows};
 use sdf_sched::class_s::class_s;
 use sdf_sched::{Period, Round};
 use std::alloc::{AllocError, Global};
@@ -20,6 +19,7 @@ use std::thread::Threads;
 use test_actors::Sum;
 use test_actors::gates::Watch;
 use test_actors::nets::{links, sink, source};
+use test_texts::says;
 
 /// One list of samples.
 pub(crate) fn list<T: Copy>(alloc: Global, samples: &[T]) -> Result<Vec<Vec<T>>, AllocError> {
@@ -47,12 +47,18 @@ pub(crate) fn ramp(
     Ok(lists)
 }
 
-fn link<T>(from: usize, to: usize, initial: Vec<T>) -> Link<T> {
-    Link {
-        from: (from, 0),
-        to: (to, 0),
-        initial,
+/// Links by their ends, of which one begins with samples.
+pub(crate) fn begun<T: Copy>(
+    alloc: Global,
+    ends: &[[usize; 4]],
+    number: usize,
+    initial: &[T],
+) -> Result<Vec<Link<T>>, AllocError> {
+    let mut links = links(alloc, ends)?;
+    if let Some(link) = links.get_mut(number) {
+        link.initial.extend_from_slice(initial)?;
     }
+    Ok(links)
 }
 
 /// A source and a sink with one channel between them.
@@ -62,57 +68,22 @@ pub(crate) fn pair(
     taken: u32,
     initial: &[i64],
 ) -> Result<Net<Sum>, Fail> {
-    let mut nodes = Vec::new(alloc);
-    nodes.push(source(0, block))?;
-    nodes.push(sink(0, taken))?;
-    let mut links = Vec::new(alloc);
-    links.push(link(0, 1, Vec::from_slice(alloc, initial)?))?;
-    Ok(Net::new(alloc, nodes, links)?)
+    let nodes = Vec::from_array(alloc, [source(0, block), sink(0, taken)])?;
+    Ok(Net::new(alloc, nodes, begun(alloc, &[[0, 0, 1, 0]], 0, initial)?)?)
 }
 
 /// A source, an actor and a sink, in a chain.
 pub(crate) fn chain<A: Actor>(alloc: Global, actor: A) -> Result<Net<A>, Fail> {
-    let mut nodes = Vec::new(alloc);
-    nodes.push(source(0, 1))?;
-    nodes.push(Node::Inner(actor))?;
-    nodes.push(sink(0, 1))?;
-    let links = links(alloc, &[[0, 0, 1, 0], [1, 0, 2, 0]])?;
-    Ok(Net::new(alloc, nodes, links)?)
+    let nodes = Vec::from_array(alloc, [source(0, 1), Node::Inner(actor), sink(0, 1)])?;
+    Ok(Net::new(alloc, nodes, links(alloc, &[[0, 0, 1, 0], [1, 0, 2, 0]])?)?)
 }
 
 /// A source, two sums with five samples between them that are there at first, and a sink.
 pub(crate) fn two_sums(alloc: Global) -> Result<Net<Sum>, Fail> {
-    let mut nodes = Vec::new(alloc);
-    nodes.push(source(0, 3))?;
-    nodes.push(Node::Inner(Sum))?;
-    nodes.push(Node::Inner(Sum))?;
-    nodes.push(sink(0, 2))?;
-    let mut links = Vec::new(alloc);
-    links.push(link(0, 1, Vec::new(alloc)))?;
-    links.push(link(1, 2, Vec::from_slice(alloc, &[0; 5])?))?;
-    links.push(link(2, 3, Vec::new(alloc)))?;
-    Ok(Net::new(alloc, nodes, links)?)
-}
-
-/// A filter with as many taps of 1 as its `up`.
-fn of_ones(alloc: Global, up: u32, down: u32) -> Result<Node<Kit>, Fail> {
-    let ones = vec![in alloc; 1i32; up as usize]?;
-    Ok(Node::Inner(Kit::fir(up, down, ones, 0)?))
-}
-
-/// 147 samples to 160, in four stages.
-pub(crate) fn converter(alloc: Global) -> Result<Net<Kit>, Fail> {
-    let mut nodes = Vec::new(alloc);
-    nodes.push(source(0, 1))?;
-    for (up, down) in [(2, 1), (2, 3), (8, 7), (5, 7)] {
-        nodes.push(of_ones(alloc, up, down)?)?;
-    }
-    nodes.push(sink(0, 1))?;
-    let mut links = Vec::new(alloc);
-    for (from, to) in [(0, 1), (1, 2), (2, 3), (3, 4), (4, 5)] {
-        links.push(link(from, to, Vec::new(alloc)))?;
-    }
-    Ok(Net::new(alloc, nodes, links)?)
+    let sums = [source(0, 3), Node::Inner(Sum), Node::Inner(Sum), sink(0, 2)];
+    let nodes = Vec::from_array(alloc, sums)?;
+    let ends = [[0, 0, 1, 0], [1, 0, 2, 0], [2, 0, 3, 0]];
+    Ok(Net::new(alloc, nodes, begun(alloc, &ends, 1, &[0; 5])?)?)
 }
 
 /// A period of a net and a table of Hu's rule for `j` of them on `m` workers, free or with a home for each node.
@@ -143,20 +114,27 @@ pub(crate) fn in_runs<A: Actor>(alloc: Global, net: &Net<A>) -> Result<(Period, 
     Ok((period, table))
 }
 
-/// A run of so many blocks of `j` periods, by rows or over rings, with this gate.
+/// How often a plan is run, so many blocks of `j` periods, and how.
+#[derive(Clone, Copy)]
+pub(crate) struct Times {
+    pub(crate) j: u32,
+    pub(crate) blocks: u32,
+    pub(crate) mode: Mode,
+}
+
+/// A run by rows or over rings, with this gate.
 pub(crate) fn run_by<R: Threads + AllocGlobal + Sync, A: Actor, G: Gate>(
     rt: &R,
     net: &Net<A>,
     plan: &(Period, Table),
-    j: u32,
-    blocks: u32,
+    times: Times,
     inputs: &[Vec<A::Token>],
-    mode: Mode,
     gate: &G,
 ) -> Result<Ran<A::Token>, RunFault>
     requires period { IsPeriodOf (rates (graph_of A.steps net.now)) plan.now.0 }
-    requires table { IsTableOf (rates (graph_of A.steps net.now)) plan.now.0.repetitions j plan.now.1 }
+    requires table { IsTableOf (rates (graph_of A.steps net.now)) plan.now.0.repetitions times.j plan.now.1 }
 {
+    let Times { j, blocks, mode } = times;
     match mode {
         Mode::Rows => run_rows(rt, net, &plan.0, j, &plan.1, blocks, inputs, gate),
         Mode::Rings { patience } => {
@@ -183,4 +161,63 @@ pub(crate) fn feed_twice<R: Threads + AllocGlobal + Sync, A: Actor>(
     watch.anew();
     session.feed(rt, inputs, watch)?;
     Ok(())
+}
+
+/// What one thread makes of some periods.
+pub(crate) fn by_one<A: Actor<Token = i32>>(
+    alloc: Global,
+    net: &Net<A>,
+    period: &Period,
+    periods: u32,
+    inputs: &[Vec<i32>],
+) -> Result<String, Fail>
+    requires { IsPeriodOf (rates (graph_of A.steps net.now)) period.now }
+{
+    let ran = run_one(alloc, net, period, periods, inputs)?;
+    Ok(format!(in alloc; "{:?}", ran.outputs)?)
+}
+
+/// Whether a run took rounds, and no more than it did firings. By rows the table says how many there are.
+fn few_rounds(times: Times, firings: usize, rounds: u64) -> bool {
+    let periods = u64::from(times.j).wrapping_mul(u64::from(times.blocks));
+    match times.mode {
+        Mode::Rows => true,
+        Mode::Rings { .. } => 1 <= rounds && rounds <= (firings as u64).wrapping_mul(periods),
+    }
+}
+
+/// What workers make, or in how many rounds where these are too few or too many.
+fn by_workers<R: Threads + AllocGlobal + Sync, A: Actor<Token = i32>, G: Gate>(
+    rt: &R,
+    net: &Net<A>,
+    plan: &(Period, Table),
+    times: Times,
+    inputs: &[Vec<i32>],
+    gate: &G,
+) -> Result<String, Fail>
+    requires period { IsPeriodOf (rates (graph_of A.steps net.now)) plan.now.0 }
+    requires table { IsTableOf (rates (graph_of A.steps net.now)) plan.now.0.repetitions times.j plan.now.1 }
+{
+    let ran = run_by(rt, net, plan, times, inputs, gate)?;
+    if !few_rounds(times, plan.0.order().len(), ran.rounds) {
+        return Ok(format!(in rt.alloc(); "{} rounds", ran.rounds)?);
+    }
+    Ok(format!(in rt.alloc(); "{:?}", ran.outputs)?)
+}
+
+/// Whether workers make what one thread makes.
+pub(crate) fn make_as_one<R: Threads + AllocGlobal + Sync, A: Actor<Token = i32>, G: Gate>(
+    rt: &R,
+    net: &Net<A>,
+    plan: &(Period, Table),
+    times: Times,
+    inputs: &[Vec<i32>],
+    gate: &G,
+) -> Result<(), Fail>
+    requires period { IsPeriodOf (rates (graph_of A.steps net.now)) plan.now.0 }
+    requires table { IsTableOf (rates (graph_of A.steps net.now)) plan.now.0.repetitions times.j plan.now.1 }
+{
+    let periods = times.j.wrapping_mul(times.blocks);
+    let one = by_one(rt.alloc(), net, &plan.0, periods, inputs)?;
+    says(by_workers(rt, net, plan, times, inputs, gate), one.as_str())
 }

@@ -1,122 +1,188 @@
 //! Runs of the rate converter by workers over rings.
 
-use crate::kits::{blocks, branches, dealt, looped};
-use crate::nets::{converter, list, pair, planned, ramp};
-use sdf_actor::Net;
-use sdf_kit::Kit;
-use sdf_run::{NoGate, run_one, run_rings};
-use std::process::Abort;
+ghost use Rattle.sdf_graph.specs.Rates.{rates};
+ghost use Rattle.sdf_sched.specs.Period.{IsPeriodOf};
+ghost use Rattle.sdf_actor.specs.Graphs.{graph_of};
+ghost use Rattle.sdf_answer.specs.Rows.{IsTableOf};
+
+use crate::kits::Worked;
+use crate::nets::{Times, list, make_as_one, pair, planned, ramp};
+use sdf_actor::{Actor, Net};
+use sdf_prec::Table;
+use sdf_run::{Mode, NoGate, run_rings};
+use sdf_sched::Period;
+use std::alloc::Global;
 use std::test::Fail;
 use std::thread::Threads;
+use test_texts::{row_says, says};
 
 /// Whether workers make of 294 samples, two periods of the converter, what one thread makes, each round doing some
 /// firing.
-fn makes_as_one<R: Abort + Threads + AllocGlobal + Sync>(
+fn makes_as_one<R: Threads + AllocGlobal + Sync, A: Actor<Token = i32>>(
     rt: &R,
+    net: &Net<A>,
     workers: usize,
     patience: u32,
 ) -> Result<(), Fail> {
-    let alloc = rt.alloc();
-    let net = converter(alloc)?;
-    let (period, table) = planned(alloc, &net, 1, workers, true)?;
-    let inputs = ramp(alloc, 0, 294, 0)?;
-    let one = run_one(alloc, &net, &period, 2, &inputs)?;
-    let ran = run_rings(rt, &net, &period, 1, &table, 2, &inputs, patience, &NoGate)?;
-    assert_eq!(rt; ran.outputs.as_slice(), one.outputs.as_slice());
-    assert!(rt; 1 <= ran.rounds && ran.rounds <= 1224);
-    Ok(())
+    let plan = planned(rt.alloc(), net, 1, workers, true)?;
+    let inputs = ramp(rt.alloc(), 0, 294, 0)?;
+    let times = Times {
+        j: 1,
+        blocks: 2,
+        mode: Mode::Rings { patience },
+    };
+    make_as_one(rt, net, &plan, times, &inputs, &NoGate)
 }
 
-/// In how many rounds one worker without patience does some blocks of a net that reads a sample or more a period.
-fn rounds_of_one<R: Abort + Threads + AllocGlobal + Sync>(
+/// The same without patience and with much.
+fn convert_as_one<R: Threads + AllocGlobal + Sync, A: Actor<Token = i32>>(
     rt: &R,
-    net: &Net<Kit>,
-    blocks: u32,
-) -> Result<u64, Fail> {
-    let alloc = rt.alloc();
-    let (period, table) = planned(alloc, net, 1, 1, true)?;
-    let samples = net.samples_in().wrapping_mul(blocks as usize);
-    let inputs = ramp(alloc, 0, 0, samples)?;
-    let ran = run_rings(rt, net, &period, 1, &table, blocks, &inputs, 0, &NoGate)?;
-    Ok(ran.rounds)
+    net: &Net<A>,
+    workers: usize,
+) -> Result<(), Fail> {
+    makes_as_one(rt, net, workers, 0)?;
+    makes_as_one(rt, net, workers, 1_000_000)
 }
+
+/// In how many rounds a worker without patience does so many blocks of a net that reads a sample or more a period.
+fn rounds<R: Threads + AllocGlobal + Sync, A: Actor<Token = i32>>(
+    rt: &R,
+    net: &Net<A>,
+    plan: &(Period, Table),
+    blocks: u32,
+) -> Result<String, Fail>
+    requires period { IsPeriodOf (rates (graph_of A.steps net.now)) plan.now.0 }
+    requires table { IsTableOf (rates (graph_of A.steps net.now)) plan.now.0.repetitions 1 plan.now.1 }
+{
+    let samples = net.samples_in().wrapping_mul(blocks as usize);
+    let inputs = ramp(rt.alloc(), 0, 0, samples)?;
+    let ran = run_rings(rt, net, &plan.0, 1, &plan.1, blocks, &inputs, 0, &NoGate)?;
+    Ok(format!(in rt.alloc(); "{}", ran.rounds)?)
+}
+
+/// Whether one worker wants one round for two blocks, and none for none.
+fn wants_one_round<R: Threads + AllocGlobal + Sync, A: Actor<Token = i32>>(
+    rt: &R,
+    name: &str,
+    net: &Net<A>,
+) -> Result<(), Fail> {
+    let plan = planned(rt.alloc(), net, 1, 1, true)?;
+    row_says(name, rounds(rt, net, &plan, 2), "1")?;
+    row_says(name, rounds(rt, net, &plan, 0), "0")
+}
+
+const WORKED: &[Worked] = &[
+    Worked::Blocks,
+    Worked::Looped,
+    Worked::Dealt,
+    Worked::Branches(3),
+    Worked::Converter,
+];
 
 /// In the table's order each firing finds its samples and its room.
 #[test]
 fn one_worker_wants_one_round(rt: HostRuntime) -> Result<(), Fail> {
-    let alloc = rt.alloc();
-    for net in [
-        blocks(alloc)?,
-        looped(alloc)?,
-        dealt(alloc)?,
-        branches(alloc, 3)?,
-        converter(alloc)?,
-    ] {
-        assert_eq!(rt; rounds_of_one(&rt, &net, 2)?, 1);
-        assert_eq!(rt; rounds_of_one(&rt, &net, 0)?, 0);
+    for worked in WORKED {
+        wants_one_round(&rt, worked.name(), &worked.net(rt.alloc())?)?;
     }
     Ok(())
 }
 
 #[test]
 fn one_worker(rt: HostRuntime) -> Result<(), Fail> {
-    makes_as_one(&rt, 1, 0)?;
-    makes_as_one(&rt, 1, 1_000_000)
+    convert_as_one(&rt, &Worked::Converter.net(rt.alloc())?, 1)
 }
 
 #[test]
 fn three_workers(rt: HostRuntime) -> Result<(), Fail> {
-    makes_as_one(&rt, 3, 0)?;
-    makes_as_one(&rt, 3, 1_000_000)
+    convert_as_one(&rt, &Worked::Converter.net(rt.alloc())?, 3)
 }
 
 #[test]
 fn sixteen_workers(rt: HostRuntime) -> Result<(), Fail> {
-    makes_as_one(&rt, 16, 0)?;
-    makes_as_one(&rt, 16, 1_000_000)
+    convert_as_one(&rt, &Worked::Converter.net(rt.alloc())?, 16)
+}
+
+/// How many samples each output list has of a block of two periods of the converter.
+fn lengths<R: Threads + AllocGlobal + Sync, A: Actor<Token = i32>>(
+    rt: &R,
+    net: &Net<A>,
+    plan: &(Period, Table),
+    inputs: &[Vec<i32>],
+) -> Result<String, Fail>
+    requires period { IsPeriodOf (rates (graph_of A.steps net.now)) plan.now.0 }
+    requires table { IsTableOf (rates (graph_of A.steps net.now)) plan.now.0.repetitions 2 plan.now.1 }
+{
+    let ran = run_rings(rt, net, &plan.0, 2, &plan.1, 1, inputs, 0, &NoGate)?;
+    let mut lengths = Vec::new(rt.alloc());
+    for made in &ran.outputs {
+        lengths.push(made.len())?;
+    }
+    Ok(format!(in rt.alloc(); "{lengths:?}")?)
+}
+
+/// Whether that is what one thread makes, and so long.
+fn make_two_periods<R: Threads + AllocGlobal + Sync, A: Actor<Token = i32>>(
+    rt: &R,
+    net: &Net<A>,
+) -> Result<(), Fail> {
+    let plan = planned(rt.alloc(), net, 2, 3, true)?;
+    let inputs = ramp(rt.alloc(), 0, 148, 146)?;
+    let times = Times {
+        j: 2,
+        blocks: 1,
+        mode: Mode::Rings { patience: 0 },
+    };
+    make_as_one(rt, net, &plan, times, &inputs, &NoGate)?;
+    says(lengths(rt, net, &plan, &inputs), "[320]")
 }
 
 #[test]
 fn a_block_of_two_periods(rt: HostRuntime) -> Result<(), Fail> {
-    let alloc = rt.alloc();
-    let net = converter(alloc)?;
-    let (period, table) = planned(alloc, &net, 2, 3, true)?;
-    let inputs = ramp(alloc, 0, 148, 146)?;
-    let one = run_one(alloc, &net, &period, 2, &inputs)?;
-    let ran = run_rings(&rt, &net, &period, 2, &table, 1, &inputs, 0, &NoGate)?;
-    assert_eq!(rt; ran.outputs.as_slice(), one.outputs.as_slice());
-    for made in &ran.outputs {
-        assert_eq!(rt; made.len(), 320);
-    }
-    Ok(())
+    make_two_periods(&rt, &Worked::Converter.net(rt.alloc())?)
 }
 
-/// How a run of the source of two samples and the sink of three is refused, where there are samples for one period.
-fn refused<R: Threads + AllocGlobal + Sync>(
+/// The text of how a run is refused that has six samples.
+fn refusal<R: Threads + AllocGlobal + Sync, A: Actor<Token = i64>>(
     rt: &R,
-    homed: bool,
+    net: &Net<A>,
+    plan: &(Period, Table),
     patience: u32,
     periods: u32,
-) -> Result<String, Fail> {
-    let alloc = rt.alloc();
-    let net = pair(alloc, 2, 3, &[])?;
-    let (period, table) = planned(alloc, &net, 1, 2, homed)?;
-    let inputs = list(alloc, &[1, 2, 3, 4, 5, 6])?;
+) -> Result<String, Fail>
+    requires period { IsPeriodOf (rates (graph_of A.steps net.now)) plan.now.0 }
+    requires table { IsTableOf (rates (graph_of A.steps net.now)) plan.now.0.repetitions 1 plan.now.1 }
+{
+    let inputs = list(rt.alloc(), &[1, 2, 3, 4, 5, 6])?;
     match run_rings(
-        rt, &net, &period, 1, &table, periods, &inputs, patience, &NoGate,
+        rt, net, &plan.0, 1, &plan.1, periods, &inputs, patience, &NoGate,
     ) {
-        Ok(_) => Err(Fail::from("a run")),
-        Err(fault) => Ok(fault.to_string(alloc)?),
+        Ok(_) => Ok(String::new(rt.alloc())),
+        Err(fault) => Ok(fault.to_string(rt.alloc())?),
     }
 }
 
+/// The same of a run of two periods on two workers.
+fn refused<R: Threads + AllocGlobal + Sync, A: Actor<Token = i64>>(
+    rt: &R,
+    net: &Net<A>,
+    homed: bool,
+    patience: u32,
+) -> Result<String, Fail> {
+    refusal(
+        rt,
+        net,
+        &planned(rt.alloc(), net, 1, 2, homed)?,
+        patience,
+        2,
+    )
+}
+
+/// The source of two samples and the sink of three read six samples in a period.
 #[test]
 fn refusals_have_an_order(rt: HostRuntime) -> Result<(), Fail> {
-    assert_eq!(rt; refused(&rt, false, 1_000_001, 2)?.as_str(), "30 NotHomed");
-    assert_eq!(rt; refused(&rt, true, 1_000_001, 2)?.as_str(), "31 Patience");
-    assert_eq!(rt;
-        refused(&rt, true, 1_000_000, 2)?.as_str(),
-        "29 InputLength"
-    );
-    Ok(())
+    let net = pair(rt.alloc(), 2, 3, &[])?;
+    says(refused(&rt, &net, false, 1_000_001), "30 NotHomed")?;
+    says(refused(&rt, &net, true, 1_000_001), "31 Patience")?;
+    says(refused(&rt, &net, true, 1_000_000), "29 InputLength")
 }

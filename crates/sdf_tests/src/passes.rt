@@ -1,11 +1,12 @@
 //! The gate: each firing passes it once, on its processor, in its turn, and then fires.
 
+ghost use Rattle.std.specs.Prelude.{IfOk};
 ghost use Rattle.sdf_graph.specs.Rates.{rates};
 ghost use Rattle.sdf_sched.specs.Period.{IsPeriodOf};
 ghost use Rattle.sdf_actor.specs.Graphs.{graph_of};
 ghost use Rattle.sdf_answer.specs.Rows.{IsTableOf};
 
-use crate::nets::{feed_twice, in_runs, list, planned, run_by};
+use crate::nets::{Times, begun, feed_twice, in_runs, list, planned, run_by};
 use sdf_actor::{Actor, Net, Node};
 use sdf_prec::Table;
 use sdf_run::Mode;
@@ -16,7 +17,7 @@ use std::test::Fail;
 use std::thread::Threads;
 use test_actors::Watched;
 use test_actors::gates::{Hold, Watch};
-use test_actors::nets::{links, sink, source};
+use test_actors::nets::{sink, source};
 
 /// The source, an actor that goes in runs, one of two phases, one with a channel to itself, and the sink.
 const ACTORS: usize = 5;
@@ -34,26 +35,22 @@ fn actor<'a>(watch: &'a Watch<'a>, number: usize, cycle: u32, two: bool) -> Node
 /// The net whose firings are watched: in a period the source fires twice, the sink once, and the actors between four
 /// times each.
 fn watched<'a>(alloc: Global, watch: &'a Watch<'a>) -> Result<Net<Watched<'a>>, Fail> {
-    let mut nodes = Vec::new(alloc);
-    nodes.push(source(0, 2))?;
-    nodes.push(actor(watch, 1, 1, false))?;
-    nodes.push(actor(watch, 2, 2, false))?;
-    nodes.push(actor(watch, 3, 1, true))?;
-    nodes.push(sink(0, 4))?;
-    let mut links = links(
-        alloc,
-        &[
-            [0, 0, 1, 0],
-            [1, 0, 2, 0],
-            [2, 0, 3, 0],
-            [3, 0, 4, 0],
-            [3, 1, 3, 1],
-        ],
-    )?;
-    if let Some(own) = links.get_mut(4) {
-        own.initial.push(9)?;
-    }
-    Ok(Net::new(alloc, nodes, links)?)
+    let nodes = [
+        source(0, 2),
+        actor(watch, 1, 1, false),
+        actor(watch, 2, 2, false),
+        actor(watch, 3, 1, true),
+        sink(0, 4),
+    ];
+    let ends = [
+        [0, 0, 1, 0],
+        [1, 0, 2, 0],
+        [2, 0, 3, 0],
+        [3, 0, 4, 0],
+        [3, 1, 3, 1],
+    ];
+    let nodes = Vec::from_array(alloc, nodes)?;
+    Ok(Net::new(alloc, nodes, begun(alloc, &ends, 4, &[9])?)?)
 }
 
 /// How many firings of an actor stand in a column of a table.
@@ -80,65 +77,84 @@ fn all_passed(rt: &impl Abort, watch: &Watch, table: &Table, blocks: u64) {
     }
 }
 
-/// Whether each firing passes once, in a run and in feeds.
-fn all_pass<R: Abort + Threads + AllocGlobal + Sync, A: Actor>(
+/// Whether each firing passes once, in a run and in feeds of two blocks of two periods.
+fn all_pass<R: Abort + Threads + AllocGlobal + Sync, A: Actor<Token = i64>>(
     rt: &R,
     net: &Net<A>,
     plan: &(Period, Table),
     mode: Mode,
-    inputs: &[Vec<A::Token>],
     watch: &Watch,
 ) -> Result<(), Fail>
     requires period { IsPeriodOf (rates (graph_of A.steps net.now)) plan.now.0 }
     requires table { IsTableOf (rates (graph_of A.steps net.now)) plan.now.0.repetitions 2 plan.now.1 }
 {
-    run_by(rt, net, plan, 2, 2, inputs, mode, watch)?;
+    let times = Times {
+        j: 2,
+        blocks: 2,
+        mode,
+    };
+    let inputs = list(rt.alloc(), &[7; 16])?;
+    run_by(rt, net, plan, times, &inputs, watch)?;
     all_passed(rt, watch, &plan.1, 2);
     watch.anew();
-    feed_twice(rt, net, plan, 2, mode, inputs, watch)?;
+    feed_twice(rt, net, plan, 2, mode, &inputs, watch)?;
     all_passed(rt, watch, &plan.1, 6);
     Ok(())
 }
 
-/// The same for so many workers, by a table free or homed.
-fn all_pass_on<R: Abort + Threads + AllocGlobal + Sync>(
-    rt: &R,
-    workers: usize,
-    homed: bool,
-    mode: Mode,
-) -> Result<(), Fail> {
-    let alloc = rt.alloc();
-    let watch = Watch::new(alloc, 3, ACTORS, Hold::NONE)?;
-    let net = watched(alloc, &watch)?;
-    let plan = planned(alloc, &net, 2, workers, homed)?;
-    all_pass(rt, &net, &plan, mode, &list(alloc, &[7; 16])?, &watch)
+/// A table for so many workers, free or homed, or for one, whose firings stand in runs.
+#[derive(Clone, Copy)]
+enum Kind {
+    Free(usize),
+    Homed(usize),
+    InRuns,
 }
 
-/// The same for one worker, whose firings stand in runs.
-fn all_pass_in_runs<R: Abort + Threads + AllocGlobal + Sync>(
+fn plan<A: Actor>(alloc: Global, net: &Net<A>, kind: Kind) -> Result<(Period, Table), Fail>
+    ensures period { IfOk result (λ plan. IsPeriodOf (rates (graph_of A.steps net.now)) plan.0) }
+    ensures table { IfOk result (λ plan. IsTableOf (rates (graph_of A.steps net.now)) plan.0.repetitions 2 plan.1) }
+{
+    match kind {
+        Kind::Free(workers) => planned(alloc, net, 2, workers, false),
+        Kind::Homed(workers) => planned(alloc, net, 2, workers, true),
+        Kind::InRuns => in_runs(alloc, net),
+    }
+}
+
+/// The same by such a table.
+fn all_pass_by<R: Abort + Threads + AllocGlobal + Sync, A: Actor<Token = i64>>(
     rt: &R,
+    net: &Net<A>,
+    kind: Kind,
+    mode: Mode,
+    watch: &Watch,
+) -> Result<(), Fail> {
+    all_pass(rt, net, &plan(rt.alloc(), net, kind)?, mode, watch)
+}
+
+/// The same of the net.
+fn all_pass_on<R: Abort + Threads + AllocGlobal + Sync>(
+    rt: &R,
+    kind: Kind,
     mode: Mode,
 ) -> Result<(), Fail> {
-    let alloc = rt.alloc();
-    let watch = Watch::new(alloc, 3, ACTORS, Hold::NONE)?;
-    let net = watched(alloc, &watch)?;
-    let plan = in_runs(alloc, &net)?;
-    all_pass(rt, &net, &plan, mode, &list(alloc, &[7; 16])?, &watch)
+    let watch = Watch::new(rt.alloc(), 3, ACTORS, Hold::NONE)?;
+    all_pass_by(rt, &watched(rt.alloc(), &watch)?, kind, mode, &watch)
 }
 
 #[test]
 fn by_rows(rt: HostRuntime) -> Result<(), Fail> {
-    all_pass_in_runs(&rt, Mode::Rows)?;
-    all_pass_on(&rt, 2, true, Mode::Rows)?;
-    all_pass_on(&rt, 3, false, Mode::Rows)
+    all_pass_on(&rt, Kind::InRuns, Mode::Rows)?;
+    all_pass_on(&rt, Kind::Homed(2), Mode::Rows)?;
+    all_pass_on(&rt, Kind::Free(3), Mode::Rows)
 }
 
 #[test]
 fn over_rings(rt: HostRuntime) -> Result<(), Fail> {
     for patience in [0, 1000] {
-        all_pass_in_runs(&rt, Mode::Rings { patience })?;
-        all_pass_on(&rt, 2, true, Mode::Rings { patience })?;
-        all_pass_on(&rt, 3, true, Mode::Rings { patience })?;
+        all_pass_on(&rt, Kind::InRuns, Mode::Rings { patience })?;
+        all_pass_on(&rt, Kind::Homed(2), Mode::Rings { patience })?;
+        all_pass_on(&rt, Kind::Homed(3), Mode::Rings { patience })?;
     }
     Ok(())
 }

@@ -1,37 +1,61 @@
 //! The worked net of blocks of two and of three, row by row.
 
-use crate::nets::{list, pair, planned};
-use sdf_run::{NoGate, run_rows};
+ghost use Rattle.sdf_graph.specs.Rates.{rates};
+ghost use Rattle.sdf_sched.specs.Period.{IsPeriodOf};
+ghost use Rattle.sdf_actor.specs.Graphs.{graph_of};
+ghost use Rattle.sdf_answer.specs.Rows.{IsTableOf};
+
+use crate::nets::{Times, list, pair, planned, run_by};
+use sdf_actor::{Actor, Net};
+use sdf_prec::Table;
+use sdf_run::{Mode, NoGate};
+use sdf_sched::Period;
 use std::alloc::AllocGlobal;
 use std::test::Fail;
 use std::thread::Threads;
+use test_texts::says;
 
-/// The output lists and the rounds of a run of the net that reads 12 samples in two periods, on two workers.
-fn printed<R: Threads + AllocGlobal + Sync>(rt: &R, j: u32, blocks: u32) -> Result<String, Fail> {
-    let alloc = rt.alloc();
-    let net = pair(alloc, 2, 3, &[])?;
-    let inputs = list(alloc, &[1, 2, 3, 4, 5, 6, 7, 8, 9, 10, 11, 12])?;
-    let (period, table) = planned(alloc, &net, j, 2, false)?;
-    let ran = run_rows(rt, &net, &period, j, &table, blocks, &inputs, &NoGate)?;
-    let outputs = &ran.outputs;
-    let rounds = ran.rounds;
-    Ok(format!(in alloc; "{outputs:?} in {rounds}")?)
+/// The output lists and the rounds of a run that reads 12 samples.
+fn told<R: Threads + AllocGlobal + Sync, A: Actor<Token = i64>>(
+    rt: &R,
+    net: &Net<A>,
+    plan: &(Period, Table),
+    times: Times,
+) -> Result<String, Fail>
+    requires period { IsPeriodOf (rates (graph_of A.steps net.now)) plan.now.0 }
+    requires table { IsTableOf (rates (graph_of A.steps net.now)) plan.now.0.repetitions times.j plan.now.1 }
+{
+    let inputs = list(rt.alloc(), &[1, 2, 3, 4, 5, 6, 7, 8, 9, 10, 11, 12])?;
+    let ran = run_by(rt, net, plan, times, &inputs, &NoGate)?;
+    Ok(format!(in rt.alloc(); "{:?} in {}", ran.outputs, ran.rounds)?)
+}
+
+/// The same in so many blocks of `j` periods on two workers.
+fn printed<R: Threads + AllocGlobal + Sync, A: Actor<Token = i64>>(
+    rt: &R,
+    net: &Net<A>,
+    j: u32,
+    blocks: u32,
+) -> Result<String, Fail> {
+    let mode = Mode::Rows;
+    let plan = planned(rt.alloc(), net, j, 2, false)?;
+    told(rt, net, &plan, Times { j, blocks, mode })
 }
 
 #[test]
 fn blocks_of_one_period(rt: HostRuntime) -> Result<(), Fail> {
-    assert_eq!(rt;
-        printed(&rt, 1, 2)?.as_str(),
-        "[[1, 2, 3, 4, 5, 6, 7, 8, 9, 10, 11, 12]] in 8"
-    );
-    Ok(())
+    let net = pair(rt.alloc(), 2, 3, &[])?;
+    says(
+        printed(&rt, &net, 1, 2),
+        "[[1, 2, 3, 4, 5, 6, 7, 8, 9, 10, 11, 12]] in 8",
+    )
 }
 
 #[test]
 fn a_block_of_two_periods(rt: HostRuntime) -> Result<(), Fail> {
-    assert_eq!(rt;
-        printed(&rt, 2, 1)?.as_str(),
-        "[[1, 2, 3, 4, 5, 6, 7, 8, 9, 10, 11, 12]] in 7"
-    );
-    Ok(())
+    let net = pair(rt.alloc(), 2, 3, &[])?;
+    says(
+        printed(&rt, &net, 2, 1),
+        "[[1, 2, 3, 4, 5, 6, 7, 8, 9, 10, 11, 12]] in 7",
+    )
 }

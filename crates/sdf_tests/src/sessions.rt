@@ -1,32 +1,42 @@
 //! Sessions of the rate converter, which is fed in pieces.
 
-use crate::nets::{converter, planned, ramp};
-use sdf_kit::Kit;
-use sdf_run::{Mode, NoGate, RunFault, Session, run_one};
+ghost use Rattle.sdf_graph.specs.Rates.{rates};
+ghost use Rattle.sdf_sched.specs.Period.{IsPeriodOf};
+ghost use Rattle.sdf_actor.specs.Graphs.{graph_of};
+ghost use Rattle.sdf_answer.specs.Rows.{IsTableOf};
+
+use crate::kits::Worked;
+use crate::nets::{by_one, planned, ramp};
+use sdf_actor::{Actor, Net};
+use sdf_prec::Table;
+use sdf_run::{Mode, NoGate, RunFault, Session};
+use sdf_sched::Period;
 use std::process::Abort;
 use std::test::Fail;
 use std::thread::Threads;
+use test_texts::says;
 
-/// Feeds the samples from one number to another, and appends what is made of them.
-fn feed<R: Abort + Threads + AllocGlobal + Sync>(
+/// Feeds the samples from one number to another, appends what is made of them, and counts what there is then.
+fn feed<R: Abort + Threads + AllocGlobal + Sync, A: Actor<Token = i32>>(
     rt: &R,
-    session: &mut Session<Kit>,
-    from: i32,
-    to: i32,
+    session: &mut Session<A>,
+    (from, to): (i32, i32),
     joined: &mut Vec<i32>,
+    many: usize,
 ) -> Result<(), Fail> {
     let inputs = ramp(rt.alloc(), from, to, 0)?;
     let ran = session.feed(rt, &inputs, &NoGate)?;
     for made in &ran.outputs {
         joined.extend_from_slice(made)?;
     }
+    assert_eq!(rt; joined.len(), many);
     Ok(())
 }
 
 /// A feed that is no block leaves a session as it was.
-fn refuses<R: Abort + Threads + AllocGlobal + Sync>(
+fn refuses<R: Abort + Threads + AllocGlobal + Sync, A: Actor<Token = i32>>(
     rt: &R,
-    session: &mut Session<Kit>,
+    session: &mut Session<A>,
 ) -> Result<(), Fail> {
     let inputs = ramp(rt.alloc(), 147, 293, 0)?;
     let refused = session.feed(rt, &inputs, &NoGate);
@@ -35,42 +45,65 @@ fn refuses<R: Abort + Threads + AllocGlobal + Sync>(
 }
 
 /// Feeds two blocks, with nothing and too little between them.
-fn feeds<R: Abort + Threads + AllocGlobal + Sync>(
+fn feeds<R: Abort + Threads + AllocGlobal + Sync, A: Actor<Token = i32>>(
     rt: &R,
-    session: &mut Session<Kit>,
+    session: &mut Session<A>,
 ) -> Result<Vec<i32>, Fail> {
     let mut joined = Vec::new(rt.alloc());
-    feed(rt, session, 0, 147, &mut joined)?;
-    assert_eq!(rt; joined.len(), 160);
-    feed(rt, session, 147, 147, &mut joined)?;
-    assert_eq!(rt; joined.len(), 160);
+    feed(rt, session, (0, 147), &mut joined, 160)?;
+    feed(rt, session, (147, 147), &mut joined, 160)?;
     refuses(rt, session)?;
-    feed(rt, session, 147, 294, &mut joined)?;
+    feed(rt, session, (147, 294), &mut joined, 320)?;
     Ok(joined)
 }
 
-/// Whether two blocks that are fed make what one run makes of both.
-fn pieces_are_one<R: Abort + Threads + AllocGlobal + Sync>(rt: &R, mode: Mode) -> Result<(), Fail> {
-    let alloc = rt.alloc();
-    let net = converter(alloc)?;
-    let (period, table) = planned(alloc, &net, 1, 2, true)?;
-    let mut session = Session::open(alloc, &net, &period, 1, &table, mode)?;
+/// What two blocks make that are fed.
+fn told<R: Abort + Threads + AllocGlobal + Sync, A: Actor<Token = i32>>(
+    rt: &R,
+    net: &Net<A>,
+    plan: &(Period, Table),
+    mode: Mode,
+) -> Result<String, Fail>
+    requires period { IsPeriodOf (rates (graph_of A.steps net.now)) plan.now.0 }
+    requires table { IsTableOf (rates (graph_of A.steps net.now)) plan.now.0.repetitions 1 plan.now.1 }
+{
+    let mut session = Session::open(rt.alloc(), net, &plan.0, 1, &plan.1, mode)?;
     let joined = feeds(rt, &mut session)?;
-    let closed = session.close()?;
-    assert_eq!(rt; closed.blocks, 2);
-    let one = run_one(alloc, &net, &period, 2, &ramp(alloc, 0, 294, 0)?)?;
-    for made in &one.outputs {
-        assert_eq!(rt; joined.as_slice(), made.as_slice());
-    }
-    Ok(())
+    assert_eq!(rt; session.close()?.blocks, 2);
+    Ok(format!(in rt.alloc(); "[{joined:?}]")?)
+}
+
+/// Whether that is what one run makes of both.
+fn pieces_are_one<R: Abort + Threads + AllocGlobal + Sync, A: Actor<Token = i32>>(
+    rt: &R,
+    net: &Net<A>,
+    plan: &(Period, Table),
+    mode: Mode,
+) -> Result<(), Fail>
+    requires period { IsPeriodOf (rates (graph_of A.steps net.now)) plan.now.0 }
+    requires table { IsTableOf (rates (graph_of A.steps net.now)) plan.now.0.repetitions 1 plan.now.1 }
+{
+    let inputs = ramp(rt.alloc(), 0, 294, 0)?;
+    let one = by_one(rt.alloc(), net, &plan.0, 2, &inputs)?;
+    says(told(rt, net, plan, mode), one.as_str())
+}
+
+/// The same on two workers.
+fn fed_in_pieces<R: Abort + Threads + AllocGlobal + Sync, A: Actor<Token = i32>>(
+    rt: &R,
+    net: &Net<A>,
+    mode: Mode,
+) -> Result<(), Fail> {
+    pieces_are_one(rt, net, &planned(rt.alloc(), net, 1, 2, true)?, mode)
 }
 
 #[test]
 fn by_rows(rt: HostRuntime) -> Result<(), Fail> {
-    pieces_are_one(&rt, Mode::Rows)
+    fed_in_pieces(&rt, &Worked::Converter.net(rt.alloc())?, Mode::Rows)
 }
 
 #[test]
 fn over_rings(rt: HostRuntime) -> Result<(), Fail> {
-    pieces_are_one(&rt, Mode::Rings { patience: 0 })
+    let mode = Mode::Rings { patience: 0 };
+    fed_in_pieces(&rt, &Worked::Converter.net(rt.alloc())?, mode)
 }

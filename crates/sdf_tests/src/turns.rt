@@ -1,20 +1,23 @@
 //! Rounds by hand, whose seats are worked in any order: what channels hold after each, and that none is in vain.
 
 ghost use Rattle.std.specs.Prelude.{◌≡◌, length};
+ghost use Rattle.sdf_graph.specs.Rates.{rates};
+ghost use Rattle.sdf_sched.specs.Period.{IsPeriodOf};
+ghost use Rattle.sdf_actor.specs.Graphs.{graph_of};
+ghost use Rattle.sdf_answer.specs.Rows.{IsTableOf};
 ghost use Rattle.sdf_rings.specs.Rests.{HaveMet};
 
-use crate::kits::{blocks, branches, looped};
-use crate::nets::{converter, planned, ramp};
+use crate::kits::Worked;
+use crate::nets::{by_one, planned, ramp};
 use sdf_actor::{Actor, Net};
-use sdf_kit::Kit;
 use sdf_node::NoGate;
 use sdf_prec::Table;
 use sdf_rings::Rings;
 use sdf_rings::prepare::prepare;
-use sdf_run::run_one;
-use std::alloc::Global;
+use sdf_sched::Period;
 use std::process::Abort;
 use std::test::Fail;
+use test_texts::row_says;
 
 /// In which order the seats are worked in a round, from the first one or from the last.
 #[derive(Clone, Copy)]
@@ -122,41 +125,77 @@ fn rounds<A: Actor>(
     }
 }
 
-/// Whether some periods are done by rounds in any order of the seats, and what they make is what one thread makes.
-fn done_by_turns(
-    rt: &impl Abort,
-    alloc: Global,
-    net: &Net<Kit>,
+/// What some periods make that are done by rounds in an order of the seats.
+fn done_by<A: Actor<Token = i32>>(
+    rt: &(impl Abort + AllocGlobal),
+    net: &Net<A>,
+    plan: &(Period, Table),
     periods: u32,
-    workers: usize,
+    inputs: &[Vec<i32>],
+    turns: Turns,
+) -> Result<String, Fail>
+    requires period { IsPeriodOf (rates (graph_of A.steps net.now)) plan.now.0 }
+    requires table { IsTableOf (rates (graph_of A.steps net.now)) plan.now.0.repetitions 1 plan.now.1 }
+{
+    let mut rings = prepare(rt.alloc(), net, &plan.0, 1, &plan.1, periods, inputs)?;
+    rounds(rt, &mut rings, net, &plan.1, turns);
+    rings.meet();
+    assert!(rt; rings.left() == 0);
+    Ok(format!(in rt.alloc(); "{:?}", rings.finish())?)
+}
+
+/// The orders, by their names.
+const TURNS: &[(&str, Turns)] = &[
+    ("rising", Turns::Rising),
+    ("falling", Turns::Falling),
+    ("alternating", Turns::Alternating),
+    ("without the first", Turns::Without(0)),
+    ("without the second", Turns::Without(1)),
+];
+
+/// Whether in each order they make what one thread makes.
+fn done_by_each<A: Actor<Token = i32>>(
+    rt: &(impl Abort + AllocGlobal),
+    net: &Net<A>,
+    plan: &(Period, Table),
+    periods: u32,
+) -> Result<(), Fail>
+    requires period { IsPeriodOf (rates (graph_of A.steps net.now)) plan.now.0 }
+    requires table { IsTableOf (rates (graph_of A.steps net.now)) plan.now.0.repetitions 1 plan.now.1 }
+{
+    let inputs = ramp(rt.alloc(), 1, 13, net.samples_in())?;
+    let one = by_one(rt.alloc(), net, &plan.0, periods, &inputs)?;
+    for (name, turns) in TURNS {
+        row_says(
+            name,
+            done_by(rt, net, plan, periods, &inputs, *turns),
+            one.as_str(),
+        )?;
+    }
+    Ok(())
+}
+
+/// The same on so many workers.
+fn done_by_workers<A: Actor<Token = i32>>(
+    rt: &(impl Abort + AllocGlobal),
+    net: &Net<A>,
+    periods: u32,
 ) -> Result<(), Fail> {
-    let (period, table) = planned(alloc, net, 1, workers, true)?;
-    let inputs = ramp(alloc, 1, 13, net.samples_in())?;
-    let one = run_one(alloc, net, &period, periods, &inputs)?;
-    for turns in [
-        Turns::Rising,
-        Turns::Falling,
-        Turns::Alternating,
-        Turns::Without(0),
-        Turns::Without(1),
-    ] {
-        let mut rings = prepare(alloc, net, &period, 1, &table, periods, &inputs)?;
-        rounds(rt, &mut rings, net, &table, turns);
-        rings.meet();
-        assert!(rt; rings.left() == 0);
-        assert_eq!(rt; rings.finish().as_slice(), one.outputs.as_slice());
+    for workers in [1, 2, 3, 16] {
+        done_by_each(
+            rt,
+            net,
+            &planned(rt.alloc(), net, 1, workers, true)?,
+            periods,
+        )?;
     }
     Ok(())
 }
 
 #[test]
 fn in_any_order(rt: HostRuntime) -> Result<(), Fail> {
-    let alloc = rt.alloc();
-    for workers in [1, 2, 3, 16] {
-        for net in [blocks(alloc)?, looped(alloc)?, branches(alloc, 2)?] {
-            done_by_turns(&rt, alloc, &net, 2, workers)?;
-        }
-        done_by_turns(&rt, alloc, &converter(alloc)?, 1, workers)?;
-    }
-    Ok(())
+    done_by_workers(&rt, &Worked::Blocks.net(rt.alloc())?, 2)?;
+    done_by_workers(&rt, &Worked::Looped.net(rt.alloc())?, 2)?;
+    done_by_workers(&rt, &Worked::Branches(2).net(rt.alloc())?, 2)?;
+    done_by_workers(&rt, &Worked::Converter.net(rt.alloc())?, 1)
 }

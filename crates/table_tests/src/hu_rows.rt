@@ -7,10 +7,10 @@ ghost use Rattle.sdf_prec.specs.Tables.{IsExact};
 use crate::graphs::{costs_of, fork, longer_fork, pair, period_of};
 use sdf_graph::Graph;
 use sdf_prec::hu::hu;
-use sdf_prec::{Costs, PrecFault, Table};
+use sdf_prec::{Costs, Table};
 use std::alloc::Global;
-use std::process::Abort;
 use std::test::Fail;
+use test_texts::says;
 
 /// The table of one period, or of more.
 pub(crate) fn table(
@@ -29,14 +29,17 @@ pub(crate) fn table(
 }
 
 /// The fault of a table of one period for so many workers, whose firings each cost 1.
-fn refused(alloc: Global, graph: &Graph, m: usize) -> Result<Option<PrecFault>, Fail> {
+fn refusal(alloc: Global, graph: &Graph, m: usize) -> Result<String, Fail> {
     let costs = Costs::unit(alloc, graph)?;
     let period = period_of(alloc, graph)?;
-    Ok(hu(alloc, graph, &period, 1, m, true, &costs).err())
+    match hu(alloc, graph, &period, 1, m, true, &costs) {
+        Ok(_) => Ok(String::new(alloc)),
+        Err(fault) => Ok(fault.to_string(alloc)?),
+    }
 }
 
 /// The cells, row by row, each as its actor, and 9 where nothing stands.
-fn actors_of(alloc: Global, table: &Table) -> Result<Vec<usize>, Fail> {
+fn actors_of(alloc: Global, table: &Table) -> Result<String, Fail> {
     let mut actors = Vec::new(alloc);
     for i in 0..table.rows() {
         for cell in table.row(i) {
@@ -46,90 +49,79 @@ fn actors_of(alloc: Global, table: &Table) -> Result<Vec<usize>, Fail> {
             })?;
         }
     }
-    Ok(actors)
-}
-
-/// The capacity of channel 0.
-fn cap_of(graph: &Graph, table: &Table) -> u64
-    requires { IsExact (rates graph.now) table.now }
-{
-    if graph.channels().is_empty() {
-        return 0;
-    }
-    table.cap(0)
-}
-
-/// The rows of a table, and the capacity of channel 0.
-fn size(
-    alloc: Global,
-    graph: &Graph,
-    j: u32,
-    m: usize,
-    homed: bool,
-    costs: &[u32],
-) -> Result<(usize, u64), Fail> {
-    let table = table(alloc, graph, j, m, homed, costs)?;
-    Ok((table.rows(), cap_of(graph, &table)))
+    Ok(format!(in alloc; "{actors:?}")?)
 }
 
 /// The cells of a table of one period for two workers.
-fn cells(alloc: Global, graph: &Graph, homed: bool, costs: &[u32]) -> Result<Vec<usize>, Fail> {
-    let table = table(alloc, graph, 1, 2, homed, costs)?;
-    Ok(actors_of(alloc, &table)?)
+fn cells(alloc: Global, graph: &Graph, homed: bool, costs: &[u32]) -> Result<String, Fail> {
+    actors_of(alloc, &table(alloc, graph, 1, 2, homed, costs)?)
 }
 
-/// Whether they are these.
-fn fills(
-    rt: &(impl Abort + AllocGlobal),
-    graph: &Graph,
-    homed: bool,
-    costs: &[u32],
-    expected: &[usize],
-) -> Result<(), Fail> {
-    let cells = cells(rt.alloc(), graph, homed, costs)?;
-    assert_eq!(rt; cells.as_slice(), expected);
-    Ok(())
+/// How many rows a table has, and the capacity of channel 0.
+fn size_of(alloc: Global, graph: &Graph, table: &Table) -> Result<String, Fail>
+    requires { IsExact (rates graph.now) table.now }
+{
+    if graph.channels().is_empty() {
+        return Ok(String::new(alloc));
+    }
+    Ok(format!(in alloc; "{} {}", table.rows(), table.cap(0))?)
+}
+
+/// The same of a table of `j` periods for two workers, whose firings each cost 1.
+fn size(alloc: Global, graph: &Graph, j: u32) -> Result<String, Fail> {
+    size_of(alloc, graph, &table(alloc, graph, j, 2, true, &[1, 1])?)
 }
 
 #[test]
 fn fills_rows(rt: HostRuntime) -> Result<(), Fail> {
-    let graph = pair(rt.alloc(), &[2], &[3], 0)?;
-    fills(&rt, &graph, true, &[1, 1], &[0, 9, 0, 9, 0, 1, 9, 1])?;
-    fills(&rt, &graph, false, &[1, 1], &[0, 9, 0, 9, 0, 1, 1, 9])?;
-    assert_eq!(rt; size(rt.alloc(), &graph, 1, 2, true, &[1, 1])?, (4, 6));
-    assert_eq!(rt; size(rt.alloc(), &graph, 2, 2, true, &[1, 1])?, (7, 6));
-    Ok(())
+    let alloc = rt.alloc();
+    let graph = pair(alloc, &[2], &[3], 0)?;
+    says(
+        cells(alloc, &graph, true, &[1, 1]),
+        "[0, 9, 0, 9, 0, 1, 9, 1]",
+    )?;
+    says(
+        cells(alloc, &graph, false, &[1, 1]),
+        "[0, 9, 0, 9, 0, 1, 1, 9]",
+    )?;
+    says(size(alloc, &graph, 1), "4 6")?;
+    says(size(alloc, &graph, 2), "7 6")
 }
 
 #[test]
 fn columns_have_a_limit(rt: HostRuntime) -> Result<(), Fail> {
-    let alloc = rt.alloc();
-    let graph = pair(alloc, &[2], &[3], 0)?;
-    assert_eq!(rt; refused(alloc, &graph, 17)?, Some(PrecFault::WorkerCount));
-    Ok(())
+    let graph = pair(rt.alloc(), &[2], &[3], 0)?;
+    says(refusal(rt.alloc(), &graph, 17), "12 WorkerCount")
 }
 
 #[test]
 fn weighs_costs(rt: HostRuntime) -> Result<(), Fail> {
-    let short = fork(rt.alloc())?;
-    fills(
-        &rt,
-        &short,
-        true,
-        &[1, 1, 1, 1, 1, 1],
-        &[0, 9, 9, 1, 2, 3, 4, 9, 9, 5],
-    )
+    let graph = fork(rt.alloc())?;
+    let even = cells(rt.alloc(), &graph, true, &[1, 1, 1, 1, 1, 1]);
+    says(even, "[0, 9, 9, 1, 2, 3, 4, 9, 9, 5]")
 }
+
+/// What a firing of each actor costs, and the cells.
+const WAYS: &[(&[u32], &str)] = &[
+    (
+        &[1, 1, 1, 1, 1, 1, 1],
+        "[0, 9, 9, 1, 3, 2, 4, 9, 9, 5, 6, 9]",
+    ),
+    (
+        &[1, 1, 3, 1, 1, 1, 1],
+        "[0, 9, 9, 1, 2, 3, 9, 4, 9, 5, 6, 9]",
+    ),
+    (
+        &[1, 4, 3, 1, 1, 1, 1],
+        "[0, 9, 9, 1, 2, 3, 9, 4, 5, 9, 6, 9]",
+    ),
+];
 
 #[test]
 fn weighs_costs_of_ways(rt: HostRuntime) -> Result<(), Fail> {
     let graph = longer_fork(rt.alloc())?;
-    for (costs, expected) in [
-        ([1, 1, 1, 1, 1, 1, 1], [0, 9, 9, 1, 3, 2, 4, 9, 9, 5, 6, 9]),
-        ([1, 1, 3, 1, 1, 1, 1], [0, 9, 9, 1, 2, 3, 9, 4, 9, 5, 6, 9]),
-        ([1, 4, 3, 1, 1, 1, 1], [0, 9, 9, 1, 2, 3, 9, 4, 5, 9, 6, 9]),
-    ] {
-        fills(&rt, &graph, true, &costs, &expected)?;
+    for (costs, wanted) in WAYS {
+        says(cells(rt.alloc(), &graph, true, costs), wanted)?;
     }
     Ok(())
 }

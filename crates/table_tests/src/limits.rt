@@ -3,14 +3,15 @@
 //! No clause forbids that answer. Seen to fail here: a `hu`, a `Table::by_homes` and a `Table::by_homes_in_runs` that
 //! give it for blocks of more than 60,000 firings or for 16 workers, and a `Table::accept` for more than 4,000 rows.
 
-use crate::graphs::pair;
+use crate::graphs::{pair, period_of};
 use crate::hu_rows::table;
 use sdf_graph::{Channel, Graph};
-use sdf_prec::{Firing, PrecFault, Table};
+use sdf_prec::{Firing, Table};
 use sdf_sched::class_s::class_s;
 use sdf_sched::{Lean, Pick, Round, Runs};
 use std::alloc::{AllocError, Global};
 use std::test::Fail;
+use test_texts::{row_says, says};
 
 /// How often an actor fires in a period, which is 65,536 firings of 64 actors.
 fn times(actor: usize) -> u32 {
@@ -50,70 +51,89 @@ fn largest(alloc: Global) -> Result<Graph, Fail> {
     Ok(Graph::new(alloc, 64, channels)?)
 }
 
-/// The firings of a period's order by a policy.
-fn firings<P: Pick>(alloc: Global, graph: &Graph, pick: &mut P) -> Result<usize, Fail> {
+/// How many firings a period's order by a policy has.
+fn firings<P: Pick>(alloc: Global, graph: &Graph, pick: &mut P) -> Result<String, Fail> {
     let reps = graph.repetitions(alloc)?;
-    Ok(class_s(alloc, graph, &reps, pick)?.order().len())
+    let period = class_s(alloc, graph, &reps, pick)?;
+    Ok(format!(in alloc; "{}", period.order().len())?)
 }
 
 #[test]
 fn a_period(rt: HostRuntime) -> Result<(), Fail> {
     let graph = largest(rt.alloc())?;
-    assert_eq!(rt; firings(rt.alloc(), &graph, &mut Round::new())?, 65_536);
-    assert_eq!(rt; firings(rt.alloc(), &graph, &mut Lean)?, 65_536);
-    assert_eq!(rt; firings(rt.alloc(), &graph, &mut Runs::new())?, 65_536);
-    Ok(())
+    row_says(
+        "by rounds",
+        firings(rt.alloc(), &graph, &mut Round::new()),
+        "65536",
+    )?;
+    row_says("lean", firings(rt.alloc(), &graph, &mut Lean), "65536")?;
+    row_says(
+        "by runs",
+        firings(rt.alloc(), &graph, &mut Runs::new()),
+        "65536",
+    )
 }
 
-/// The firings of a table by Hu's rule on 16 workers.
-fn by_rule(alloc: Global, homed: bool) -> Result<usize, Fail> {
-    let graph = largest(alloc)?;
-    Ok(
-        table(alloc, &graph, 1, 16, homed, &[1_000_000; 64])?
-            .order()
-            .len(),
-    )
+/// How many firings a table has.
+fn many(alloc: Global, table: &Table) -> Result<String, Fail> {
+    Ok(format!(in alloc; "{}", table.order().len())?)
+}
+
+/// As much as a firing may cost, for each actor.
+const COSTS: &[u32] = &[1_000_000; 64];
+
+/// The same by Hu's rule on 16 workers.
+fn by_rule(alloc: Global, graph: &Graph, homed: bool) -> Result<String, Fail> {
+    many(alloc, &table(alloc, graph, 1, 16, homed, COSTS)?)
 }
 
 #[test]
 fn by_the_rule(rt: HostRuntime) -> Result<(), Fail> {
-    assert_eq!(rt; by_rule(rt.alloc(), false)?, 65_536);
-    Ok(())
+    says(by_rule(rt.alloc(), &largest(rt.alloc())?, false), "65536")
 }
 
 #[test]
 fn by_the_rule_homed(rt: HostRuntime) -> Result<(), Fail> {
-    assert_eq!(rt; by_rule(rt.alloc(), true)?, 65_536);
-    Ok(())
+    says(by_rule(rt.alloc(), &largest(rt.alloc())?, true), "65536")
 }
 
-/// The firings of a table of one firing a row on 16 workers.
-fn at_homes(alloc: Global, in_runs: bool) -> Result<usize, Fail> {
-    let graph = largest(alloc)?;
-    let reps = graph.repetitions(alloc)?;
-    let period = class_s(alloc, &graph, &reps, &mut Round::new())?;
+/// A home for each actor on 16 workers.
+fn homes(alloc: Global) -> Result<Vec<Option<usize>>, AllocError> {
     let mut homes = Vec::new(alloc);
     for actor in 0..64 {
         homes.push(Some(actor % 16))?;
     }
-    let table = if in_runs {
-        Table::by_homes_in_runs(alloc, &graph, &period, 1, 16, &homes)?
-    } else {
-        Table::by_homes(alloc, &graph, &period, 1, 16, &homes)?
-    };
-    Ok(table.order().len())
+    Ok(homes)
+}
+
+/// How many firings a table of one firing a row has.
+fn at_homes(alloc: Global, graph: &Graph) -> Result<String, Fail> {
+    let period = period_of(alloc, graph)?;
+    let homes = homes(alloc)?;
+    many(
+        alloc,
+        &Table::by_homes(alloc, graph, &period, 1, 16, &homes)?,
+    )
 }
 
 #[test]
 fn by_homes(rt: HostRuntime) -> Result<(), Fail> {
-    assert_eq!(rt; at_homes(rt.alloc(), false)?, 65_536);
-    Ok(())
+    says(at_homes(rt.alloc(), &largest(rt.alloc())?), "65536")
+}
+
+/// The same where the firings of an actor stand in runs.
+fn at_homes_in_runs(alloc: Global, graph: &Graph) -> Result<String, Fail> {
+    let period = period_of(alloc, graph)?;
+    let homes = homes(alloc)?;
+    many(
+        alloc,
+        &Table::by_homes_in_runs(alloc, graph, &period, 1, 16, &homes)?,
+    )
 }
 
 #[test]
 fn by_homes_in_runs(rt: HostRuntime) -> Result<(), Fail> {
-    assert_eq!(rt; at_homes(rt.alloc(), true)?, 65_536);
-    Ok(())
+    says(at_homes_in_runs(rt.alloc(), &largest(rt.alloc())?), "65536")
 }
 
 /// The rows of a table.
@@ -125,27 +145,33 @@ fn rows_of(alloc: Global, table: &Table) -> Result<Vec<Vec<Option<Firing>>>, All
     Ok(rows)
 }
 
-/// The firings of a table with these rows for 16 workers.
-fn accepted(alloc: Global, graph: &Graph, rows: Vec<Vec<Option<Firing>>>) -> Result<usize, Fail> {
-    let reps = graph.repetitions(alloc)?;
-    let period = class_s(alloc, graph, &reps, &mut Round::new())?;
-    let table = Table::accept(alloc, graph, period.repetitions(), 1, 16, rows)?;
-    Ok(table.order().len())
+/// How many firings a table has that is accepted for 16 workers with the rows of another one.
+fn accepted(alloc: Global, graph: &Graph, other: &Table) -> Result<String, Fail> {
+    let period = period_of(alloc, graph)?;
+    let rows = rows_of(alloc, other)?;
+    many(
+        alloc,
+        &Table::accept(alloc, graph, period.repetitions(), 1, 16, rows)?,
+    )
+}
+
+/// The same with the rows by Hu's rule, whose firings each cost 1.
+fn by_rule_again(alloc: Global, graph: &Graph) -> Result<String, Fail> {
+    accepted(alloc, graph, &table(alloc, graph, 1, 16, true, &[1; 64])?)
 }
 
 #[test]
 fn as_given(rt: HostRuntime) -> Result<(), Fail> {
-    let graph = largest(rt.alloc())?;
-    let by_rule = table(rt.alloc(), &graph, 1, 16, true, &[1; 64])?;
-    let rows = rows_of(rt.alloc(), &by_rule)?;
-    assert_eq!(rt; accepted(rt.alloc(), &graph, rows)?, 65_536);
-    Ok(())
+    says(by_rule_again(rt.alloc(), &largest(rt.alloc())?), "65536")
+}
+
+/// How many firings a table of 64 periods by Hu's rule has.
+fn of_periods(alloc: Global, graph: &Graph) -> Result<String, Fail> {
+    many(alloc, &table(alloc, graph, 64, 16, true, &[1_000_000; 2])?)
 }
 
 #[test]
 fn of_many_periods(rt: HostRuntime) -> Result<(), Fail> {
     let graph = pair(rt.alloc(), &[1023], &[1], 0)?;
-    let table = table(rt.alloc(), &graph, 64, 16, true, &[1_000_000; 2])?;
-    assert_eq!(rt; table.order().len(), 65_536);
-    Ok(())
+    says(of_periods(rt.alloc(), &graph), "65536")
 }

@@ -1,0 +1,101 @@
+//! The channels of a worked graph, and its counts after some firings.
+
+ghost use Rattle.std.specs.Prelude.{◌≡◌};
+
+use sdf_graph::{Counts, End, Graph, GraphFault};
+use std::alloc::Global;
+use std::process::Abort;
+use std::test::Fail;
+use test_actors::graphs::graph;
+use test_texts::says;
+
+/// Three samples to an actor of two firings, and a channel from it to itself.
+fn cyclic(alloc: Global) -> Result<Graph, GraphFault> {
+    graph(
+        alloc,
+        2,
+        &[(0, &[3], &[2, 0], 1, 0), (1, &[1, 0], &[0, 1], 1, 0)],
+    )
+}
+
+/// The cycle of an actor among so many and its channels, those out of it and then those into it, each told twice.
+fn actor_of(alloc: Global, graph: &Graph, actor: usize) -> Result<String, Fail> {
+    if actor >= graph.actors() {
+        return Ok(String::new(alloc));
+    }
+    let many = graph.actors();
+    let cycle = graph.cycle(actor);
+    let (outgoing, incoming) = (graph.outgoing(actor), graph.incoming(actor));
+    let (from, to) = (
+        graph.channels_at(actor, End::Source),
+        graph.channels_at(actor, End::Target),
+    );
+    Ok(format!(in alloc; "{cycle} of {many}: {outgoing:?} {from:?}, {incoming:?} {to:?}")?)
+}
+
+/// What firings 2 and 3 at the ends of a channel put and take.
+fn moved(alloc: Global, graph: &Graph, number: usize) -> Result<String, Fail> {
+    let Some(channel) = graph.channels().get(number) else {
+        return Ok(String::new(alloc));
+    };
+    if channel.put.is_empty() || channel.take.is_empty() {
+        return Ok(String::new(alloc));
+    }
+    let put = (channel.puts(2), channel.puts(3));
+    let taken = (channel.takes(2), channel.takes(3));
+    Ok(format!(in alloc; "{put:?} {taken:?}")?)
+}
+
+#[test]
+fn channels_of_actors(rt: HostRuntime) -> Result<(), Fail> {
+    let alloc = rt.alloc();
+    let graph = cyclic(alloc)?;
+    says(actor_of(alloc, &graph, 0), "1 of 2: [0] [0], [] []")?;
+    says(actor_of(alloc, &graph, 1), "2 of 2: [1] [1], [0, 1] [0, 1]")?;
+    says(moved(alloc, &graph, 1), "(1, 0) (0, 1)")
+}
+
+/// How often two actors have fired, what two channels hold, and the channel that each actor is short of.
+fn counted(alloc: Global, graph: &Graph, counts: &Counts) -> Result<String, Fail>
+    requires { counts.now.graph ≡ graph.now }
+{
+    if graph.actors() != 2 || graph.channels().len() != 2 {
+        return Ok(String::new(alloc));
+    }
+    let fired = (counts.fired(0), counts.fired(1));
+    let held = (counts.tokens(0), counts.tokens(1));
+    let short = (counts.short_channel(0), counts.short_channel(1));
+    Ok(format!(in alloc; "{fired:?} {held:?} {short:?}")?)
+}
+
+/// Fires an actor that is enabled.
+fn fire(rt: &impl Abort, graph: &Graph, counts: &mut Counts, actor: usize)
+    requires { counts.old.graph ≡ graph.now }
+    ensures { counts.new.graph ≡ graph.now }
+{
+    assert!(rt; actor < graph.actors());
+    assert!(rt; counts.enabled(actor));
+    assert!(rt; counts.fired(actor) < u32::MAX);
+    counts.fire(actor);
+}
+
+#[test]
+fn firings(rt: HostRuntime) -> Result<(), Fail> {
+    let alloc = rt.alloc();
+    let graph = cyclic(alloc)?;
+    let mut counts = Counts::new(alloc, &graph)?;
+    says(
+        counted(alloc, &graph, &counts),
+        "(0, 0) (0, 0) (None, Some(0))",
+    )?;
+    fire(&rt, &graph, &mut counts, 0);
+    says(
+        counted(alloc, &graph, &counts),
+        "(1, 0) (3, 0) (None, None)",
+    )?;
+    fire(&rt, &graph, &mut counts, 1);
+    says(
+        counted(alloc, &graph, &counts),
+        "(1, 1) (1, 1) (None, None)",
+    )
+}

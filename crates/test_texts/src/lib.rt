@@ -1,0 +1,28 @@
+//! What a test compares: the text that is told of what was made, and the text that is wanted.
+//!
+//! It stands on std alone, and has no tests: the crates of tests use it, so that the comparison is proved once, and a
+//! test holds no text of its own. Begin at `says`.
+#![tactic(auto)]
+
+ghost use Rattle.std.specs.Prelude.{◌≡◌, IfOk, string_bytes};
+ghost use Rattle.std.specs.Result.{IsOkAnd};
+
+use std::test::Fail;
+
+/// Fails where another text is told than the one wanted, or none.
+pub fn says(told: Result<String, Fail>, wanted: &str) -> Result<(), Fail>
+    ensures { IfOk result (λ _. IsOkAnd told (λ text. string_bytes text ≡ wanted.now)) }
+{
+    row_says("told", told, wanted)
+}
+
+/// As `says`, for a row of a table that has this name.
+pub fn row_says(name: &str, told: Result<String, Fail>, wanted: &str) -> Result<(), Fail>
+    ensures { IfOk result (λ _. IsOkAnd told (λ text. string_bytes text ≡ wanted.now)) }
+{
+    let text = told?;
+    if text.as_str() == wanted {
+        return Ok(());
+    }
+    Err(Fail::new(format_args!("{name}: {text:?} in place of {wanted:?}")))
+}
