@@ -4,3 +4,5 @@ pub mod Lowpass
 pub mod Differences
 pub mod Stages
 pub mod Coefficients
+pub mod Wanted
+pub mod Filters

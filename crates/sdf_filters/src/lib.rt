@@ -8,10 +8,14 @@
 #![tactic(auto)]
 
 mod coefficients;
+mod converter;
 mod cost;
 mod differences;
 mod fault;
+mod filter;
+mod graph;
 mod lowpass;
+mod measure;
 mod phases;
 mod ratio;
 mod sinc;
@@ -19,9 +23,16 @@ mod split;
 mod stage;
 #[cfg(test)]
 mod tests;
+mod texts;
+mod wanted;
 
 pub use coefficients::coefficient_text;
+pub use converter::{ConverterTexts, StageFile, converter_texts};
 pub use fault::FilterFault;
+pub use filter::taps_of;
+pub use texts::{FilterTexts, filter_texts};
 pub use lowpass::{Lowpass, MOST_ATTENUATION};
+pub use measure::Measured;
 pub use split::stages;
 pub use stage::Stage;
+pub use wanted::{Band, Wanted};

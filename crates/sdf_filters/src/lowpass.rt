@@ -184,7 +184,7 @@ fn whole_phases(count: usize, up: usize) -> Result<usize, FilterFault>
 }
 
 /// Whether a filter may have so many taps.
-fn test_few(taps: usize) -> Result<(), FilterFault>
+pub(crate) fn test_few(taps: usize) -> Result<(), FilterFault>
     ensures { MatchResult result (λ _. taps ≤ MOST_TAPS) IsCountFault }
 {
     if taps > MOST_TAPS {

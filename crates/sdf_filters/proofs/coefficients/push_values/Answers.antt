@@ -1,6 +1,6 @@
 use Rattle.std.proofs.Common.{string_bytes, rules}
 use Rattle.sdf_filters.proofs.Values.{no_values, value_added}
-use Rattle.sdf_filters.proofs.coefficients.coefficient_text.Goals as goal
+use Rattle.sdf_filters.proofs.coefficients.push_values.Goals as goal
 
 pub loop-place-init : goal.loop-place-init
 loop-place-init c = no_values c.args.taps.now (string_bytes c.in_ok-text.text)
