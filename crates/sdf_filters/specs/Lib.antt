@@ -6,3 +6,4 @@ pub mod Stages
 pub mod Coefficients
 pub mod Wanted
 pub mod Filters
+pub mod Graphs

@@ -50,17 +50,17 @@ fn stage_filter(rate: u32, pass: u32, attenuation: u32, stage: Stage) -> Result<
 }
 
 /// The name of a stage's coefficient file.
-fn file_name(alloc: Global, place: usize) -> Result<String, AllocError> {
+fn file_name(alloc: Global, number: usize) -> Result<String, AllocError> {
     let mut name = String::new(alloc);
-    push_stage_name(&mut name, place)?;
+    push_stage_name(&mut name, number)?;
     name.push_str(".toml")?;
     Ok(name)
 }
 
 /// The coefficient file of a stage.
-fn stage_file(alloc: Global, place: usize, wanted: Wanted) -> Result<StageFile, FilterFault> {
+fn stage_file(alloc: Global, number: usize, wanted: Wanted) -> Result<StageFile, FilterFault> {
     let texts = filter_texts(alloc, wanted)?;
-    let name = file_name(alloc, place)?;
+    let name = file_name(alloc, number)?;
     Ok(StageFile { name, text: texts.file, told: texts.told })
 }
 
@@ -87,7 +87,7 @@ fn stage_files(
     let mut rate = from;
     for place in 0..stages.len() {
         let wanted = stage_filter(rate, pass, attenuation, stages[place])?;
-        let file = stage_file(alloc, place, wanted)?;
+        let file = stage_file(alloc, place + 1, wanted)?;
         add_file(&mut files, file)?;
         rate = wanted.rate / stages[place].down;
     }
