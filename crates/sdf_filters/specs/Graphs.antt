@@ -115,11 +115,17 @@ unfoldable pub fork_text : ℕ → List ℕ
 fork_text channels =
     if channels == 1 then [] else actor_text channels Fork (codes "fork") ++ codes "ways = " ++ decimal channels ++ end
 
--- the first line
+-- a line of what was asked for
+unfoldable pub note : List ℕ → ℕ → List ℕ
+note word number = codes "# " ++ word ++ codes " " ++ decimal number ++ end
+
+-- between which rates
+unfoldable pub rates_text : ℕ → ℕ → List ℕ
+rates_text from to = note (codes "from") from ++ note (codes "to") to
+
+-- the first lines
 unfoldable pub title : ℕ → ℕ → ℕ → List ℕ
-title from to channels =
-    codes "# " ++ decimal from ++ codes " Hz to " ++ decimal to ++ codes " Hz, channels " ++ decimal channels
-    ++ codes "\nformat = 1\n"
+title from to channels = rates_text from to ++ note (codes "channels") channels ++ codes "format = 1\n"
 
 -- the graph file: for each channel these stages
 abbrev pub graph_text : ℕ → ℕ → ℕ → List Stage → List ℕ

@@ -5,7 +5,7 @@ ghost use Rattle.sdf_filters.specs.declared.graph.End.TheVariants.{SumSecond};
 ghost use Rattle.sdf_filters.specs.Graphs.{texts_to, mark, stage_name, end_text, key_text, link_text, actor_text};
 ghost use Rattle.sdf_filters.specs.Graphs.{channel_text, keys_text, stage_text, stages_text, silence_text, sum_text};
 ghost use Rattle.sdf_filters.specs.Graphs.{join_text, channel_actors, source, joining_text, behind, step_text};
-ghost use Rattle.sdf_filters.specs.Graphs.{channel_links, fork_text, title, graph_text};
+ghost use Rattle.sdf_filters.specs.Graphs.{channel_links, fork_text, note, rates_text, title, graph_text};
 
 use crate::stage::Stage;
 use std::alloc::{AllocError, Global};
@@ -342,13 +342,32 @@ fn push_all_links(text: &mut String, channels: u32, stages: usize) -> Result<(),
     Ok(())
 }
 
+/// Adds a line of what was asked for.
+#[tactic(auto, unfolding(crate::specs::Graphs::note))]
+fn push_note(text: &mut String, word: &str, number: u32) -> Result<(), AllocError>
+    ensures { OnOk result (string_bytes text.new ≡ string_bytes text.old ++ note word.now number) }
+{
+    writeln!(text, "# {word} {number}")?;
+    Ok(())
+}
+
+/// Adds between which rates.
+#[tactic(auto, unfolding(crate::specs::Graphs::rates_text))]
+fn push_rates(text: &mut String, from: u32, to: u32) -> Result<(), AllocError>
+    ensures { OnOk result (string_bytes text.new ≡ string_bytes text.old ++ rates_text from to) }
+{
+    push_note(text, "from", from)?;
+    push_note(text, "to", to)
+}
+
 /// Adds the first lines.
 #[tactic(auto, unfolding(crate::specs::Graphs::title))]
 fn push_title(text: &mut String, from: u32, to: u32, channels: u32) -> Result<(), AllocError>
     ensures { OnOk result (string_bytes text.new ≡ string_bytes text.old ++ title from to channels) }
 {
-    write!(text, "# {from} Hz to {to} Hz, ")?;
-    write!(text, "channels {channels}\nformat = 1\n")
+    push_rates(text, from, to)?;
+    push_note(text, "channels", channels)?;
+    text.push_str("format = 1\n")
 }
 
 /// The graph file of a converter with these stages. A graph must be connected, so to each channel but the first one the
