@@ -7,3 +7,4 @@ pub mod Coefficients
 pub mod Wanted
 pub mod Filters
 pub mod Graphs
+pub mod Converters
