@@ -1,5 +1,6 @@
 -- One coefficient file more.
-use Rattle.std.proofs.Common.{◌≡◌, ℕ, zero, suc, ◌+◌, ◌/◌, ◌<◌, ◌⊎◌, inl, inr, List, [], ◌∷◌, ◌++◌, length, Some, slice_get}
+use Rattle.std.proofs.Common.{◌≡◌, ℕ, zero, suc, ◌+◌, ◌/◌, ◌<◌, ◌⊎◌, inl, inr, List, [], ◌∷◌, ◌++◌, length, Some}
+use Rattle.std.proofs.Common.{slice_get}
 use Rattle.std.proofs.Common.{refl, sym, ap, subst, ◌∙◌, arith}
 use Rattle.std.specs.Prelude.{slice_index_or}
 use Rattle.std.proofs.lemmas.Bool.{cases_eq}
@@ -15,12 +16,14 @@ pub no_files : (from pass attenuation : ℕ) (stages : List Stage) (files : List
 unfolding rate_at
 no_files from pass attenuation stages files none = (none, (refl, λ k below. absurd (omega arith)))
 
-rate_behind : (from : ℕ) (stages : List Stage) (n : ℕ) → rate_at from stages (n + 1) ≡ put (rate_at from stages n) (slice_get stages n)
+rate_behind : (from : ℕ) (stages : List Stage) (n : ℕ) →
+    rate_at from stages (n + 1) ≡ put (rate_at from stages n) (slice_get stages n)
 unfolding rate_at
 rate_behind from stages n = let e : n + 1 ≡ suc n = omega arith in ap (rate_at from stages) e
 
 -- what stands before the end stays
-same_before : (xs : List StageFile) (f : StageFile) (k : ℕ) → k < length xs → slice_get (xs ++ f ∷ []) k ≡ slice_get xs k
+same_before : (xs : List StageFile) (f : StageFile) (k : ℕ) → k < length xs →
+    slice_get (xs ++ f ∷ []) k ≡ slice_get xs k
 same_before xs f k below =
     let long : length (xs ++ f ∷ []) ≡ length xs + 1 = length_push xs f in
     slice_get-get_or (xs ++ f ∷ []) k f (omega (arith, long))
@@ -36,8 +39,8 @@ file_added from pass attenuation stages xs ys n rate s w f long is_rate before g
   ap length added ∙ (length_push xs f ∙ ap (λ m. m + 1) long),
   (
     ap (λ (v : Wanted). v.rate / s.down) is_wanted
-    ∙ (ap (λ r. put r (Some s)) is_rate
-    ∙ (ap (put (rate_at from stages n)) (sym got) ∙ sym (rate_behind from stages n))),
+        ∙ (ap (λ r. put r (Some s)) is_rate
+        ∙ (ap (put (rate_at from stages n)) (sym got) ∙ sym (rate_behind from stages n))),
     λ k below. go k below (cases_eq k n),
   ),
 )
@@ -50,7 +53,8 @@ file_added from pass attenuation stages xs ys n rate s w f long is_rate before g
     here : IsFileOf (rate_at from stages n) pass attenuation (n + 1) (slice_get stages n) (slice_get ys n)
     here =
         subst (λ o. IsFileOf (rate_at from stages n) pass attenuation (n + 1) o (slice_get ys n)) (sym got)
-        (subst (λ (v : List StageFile). IsFileOf (rate_at from stages n) pass attenuation (n + 1) (Some s) (slice_get v n))
+        (subst (λ (v : List StageFile). IsFileOf (rate_at from stages n) pass attenuation (n + 1) (Some s)
+                (slice_get v n))
         (sym added)
         (subst (λ o. IsFileOf (rate_at from stages n) pass attenuation (n + 1) (Some s) o) (sym last)
         (subst (λ (v : Wanted). IsStageFile v (n + 1) f)
@@ -63,6 +67,6 @@ file_added from pass attenuation stages xs ys n rate s w f long is_rate before g
         (sym e) here
     go k below (inr other) =
         subst (λ (v : List StageFile). IsFileOf (rate_at from stages k) pass attenuation (k + 1) (slice_get stages k)
-            (slice_get v k)) (sym added)
+        (slice_get v k)) (sym added)
         (subst (λ o. IsFileOf (rate_at from stages k) pass attenuation (k + 1) (slice_get stages k) o)
         (sym (same_before xs f k (omega (arith, long)))) (before k (omega arith)))

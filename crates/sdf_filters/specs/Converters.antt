@@ -1,6 +1,6 @@
 -- The design that converts between two rates.
-use Rattle.std.specs.Prelude.{◌≡◌, ℕ, zero, suc, ◌+◌, ◌-◌, ◌*◌, ◌/◌, ◌≤◌, ◌<◌, ◌^◌, ◌⊎◌, ◌&&◌, nat_lt, nat_le, List, ◌++◌}
-use Rattle.std.specs.Prelude.{length, codes, string_bytes, slice_get, Option, Some, None, Result, Ok, Err, if◌then◌else◌}
+use Rattle.std.specs.Prelude.{◌≡◌, ℕ, zero, suc, ◌+◌, ◌-◌, ◌*◌, ◌/◌, ◌≤◌, ◌<◌, ◌^◌, ◌⊎◌, ◌&&◌, min, nat_le, List, ◌++◌}
+use Rattle.std.specs.Prelude.{length, codes, string_bytes, slice_get, Option, Some, None, Result, Ok, Err}
 use Rattle.sdf_limits.specs.declared.TheConstants.{MOST_CHANNEL}
 use Rattle.sdf_filters.specs.declared.graph.TheConstants.{STAGE_SHIFT}
 use Rattle.sdf_filters.specs.declared.fault.FilterFault.{FilterFault}
@@ -16,12 +16,9 @@ use Rattle.sdf_filters.specs.Filters.{AreFilterTexts}
 use Rattle.sdf_filters.specs.Stages.{IsSplit, IsSplitFault}
 use Rattle.sdf_filters.specs.Graphs.{stage_name, graph_text}
 
-abbrev pub lesser : ℕ → ℕ → ℕ
-lesser m n = if nat_lt m n then m else n
-
 -- what passes a conversion: up to ten elevenths of half the lower rate
 abbrev pub passed : ℕ → ℕ → ℕ
-passed from to = lesser from to * 5 / 11
+passed from to = min from to * 5 / 11
 
 -- the rate behind a stage
 abbrev pub put : ℕ → Option Stage → ℕ
@@ -37,7 +34,7 @@ rate_at from stages (suc n) = put (rate_at from stages n) (slice_get stages n)
 abbrev pub stage_wanted : ℕ → ℕ → ℕ → Stage → Wanted
 stage_wanted rate pass attenuation s = record {
   rate = rate * s.up;
-  band = Low pass (lesser rate (rate * s.up / s.down) - pass);
+  band = Low pass (min rate (rate * s.up / s.down) - pass);
   attenuation = attenuation;
   up = s.up;
   shift = STAGE_SHIFT;

@@ -3,7 +3,8 @@ use Rattle.std.specs.Prelude.{ℕ, zero, suc, ◌+◌, ◌==◌, List, [], ◌�
 use Rattle.std.specs.Prelude.{slice_get, Option, Some, None}
 use Rattle.sdf_filters.specs.declared.graph.TheConstants.{STAGE_SHIFT}
 use Rattle.sdf_filters.specs.declared.graph.End.{End}
-use Rattle.sdf_filters.specs.declared.graph.End.TheVariants.{Input, Fork, Branch, Silence, Sum, SumSecond, Filter, Output}
+use Rattle.sdf_filters.specs.declared.graph.End.TheVariants.{Input, Fork, Branch, Silence, Sum, SumSecond, Filter}
+use Rattle.sdf_filters.specs.declared.graph.End.TheVariants.{Output}
 use Rattle.sdf_filters.specs.declared.stage.Stage.{Stage}
 use Rattle.sdf_filters.specs.Filters.{end}
 

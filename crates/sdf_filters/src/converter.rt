@@ -3,7 +3,7 @@
 ghost use Rattle.std.specs.Prelude.{◌≡◌, ◌+◌, ◌*◌, ◌/◌, ◌<◌, ◌++◌, ◌∷◌, [], IfOk, OnOk, MatchResult, slice_get};
 ghost use Rattle.std.specs.Prelude.{string_bytes, codes, length};
 ghost use Rattle.sdf_filters.specs.Graphs.{stage_name};
-ghost use Rattle.sdf_filters.specs.Converters.{lesser, passed, stage_wanted, rate_at, IsStageFile, AreStageFiles};
+ghost use Rattle.sdf_filters.specs.Converters.{passed, stage_wanted, rate_at, IsStageFile, AreStageFiles};
 ghost use Rattle.sdf_filters.specs.Converters.{channels_test, IsRateFault, IsStageFault, IsConverter};
 ghost use Rattle.sdf_filters.specs.Converters.{IsConverterFault};
 
@@ -41,17 +41,11 @@ fn test_channels(channels: u32) -> Result<(), FilterFault>
     )
 }
 
-fn lesser(rate: u32, other: u32) -> u32
-    ensures { result ≡ lesser rate other }
-{
-    if rate < other { rate } else { other }
-}
-
 /// What passes a conversion: up to ten elevenths of half the lower rate.
 fn passed(from: u32, to: u32) -> u32
     ensures { result ≡ passed from to }
 {
-    (u64::from(lesser(from, to)) * 5 / 11) as u32
+    (u64::from(from.min(to)) * 5 / 11) as u32
 }
 
 /// A rate of 32 bits.
@@ -65,16 +59,11 @@ fn rate_of(rate: u64) -> Result<u32, FilterFault>
 }
 
 /// The filter of a stage that takes this rate: no image of what passes is left, and nothing comes to lie on it.
-fn stage_wanted(
-    rate: u32,
-    pass: u32,
-    attenuation: u32,
-    stage: Stage,
-) -> Result<Wanted, FilterFault>
+fn stage_wanted(rate: u32, pass: u32, attenuation: u32, stage: Stage) -> Result<Wanted, FilterFault>
     ensures { MatchResult result (λ wanted. wanted ≡ stage_wanted rate pass attenuation stage) IsRateFault }
 {
     let at = rate_of(u64::from(rate) * u64::from(stage.up))?;
-    let stop = lesser(rate, at / stage.down).saturating_sub(pass);
+    let stop = rate.min(at / stage.down).saturating_sub(pass);
     Ok(Wanted {
         rate: at,
         band: Band::Low { pass, stop },

@@ -7,7 +7,7 @@ ghost use Rattle.sdf_filters.specs.Wanted.{low, high_tests, middle_tests, AreLow
 ghost use Rattle.sdf_filters.specs.Wanted.{AreTaps, IsLowFault, IsFault};
 
 use crate::fault::{FilterFault, test};
-use crate::lowpass::{Lowpass, test_few};
+use crate::lowpass::{Lowpass, test_few, whole_phases};
 use crate::wanted::{Band, Wanted};
 use std::alloc::Global;
 
@@ -35,7 +35,10 @@ fn test_middle(low_stop: u32, low_pass: u32, pass: u32) -> Result<(), FilterFaul
             pass: low_pass,
         },
     )?;
-    test(low_pass < pass, FilterFault::NothingPasses { low_pass, pass })
+    test(
+        low_pass < pass,
+        FilterFault::NothingPasses { low_pass, pass },
+    )
 }
 
 /// The low-pass between these frequencies.
@@ -52,14 +55,30 @@ fn low(wanted: Wanted, pass: u32, stop: u32) -> Result<Lowpass, FilterFault>
     )
 }
 
-/// The taps of a low-pass, as many as it wants.
+/// The taps of a low-pass, with one in each phase more than it wants.
+fn more_taps(alloc: Global, filter: &Lowpass, count: usize) -> Result<Vec<i32>, FilterFault>
+    requires { count ≤ MOST_TAPS }
+    ensures { MatchResult result (λ taps. AreLowTaps filter.now taps.items)
+        (λ fault. IsCountFault fault ⊎ IsTapFault fault) }
+{
+    let more = whole_phases(count + 1, filter.up() as usize)?;
+    let taps = filter.taps(alloc, more)?;
+    Ok(taps)
+}
+
+/// The taps of a low-pass: as many as it wants, or one more in each phase where one of them has over 16 bits. In a
+/// filter that halves its height at half the rate before it, the middle tap is all of its phase; of an even number of
+/// taps none stands in the middle.
 fn low_taps(alloc: Global, filter: &Lowpass) -> Result<Vec<i32>, FilterFault>
     ensures { MatchResult result (λ taps. AreLowTaps filter.now taps.items)
         (λ fault. IsCountFault fault ⊎ IsTapFault fault) }
 {
     let count = filter.count()?;
-    let taps = filter.taps(alloc, count)?;
-    Ok(taps)
+    match filter.taps(alloc, count) {
+        Ok(taps) => Ok(taps),
+        Err(FilterFault::TapTooLarge { .. }) => more_taps(alloc, filter, count),
+        Err(fault) => Err(fault),
+    }
 }
 
 /// A number of taps, or one more where it is even.
@@ -86,11 +105,7 @@ fn high_taps(alloc: Global, filter: &Lowpass) -> Result<Vec<i32>, FilterFault>
 }
 
 /// The taps of the band-pass that passes what only the first of two low-passes does: as many as the steeper one wants.
-fn middle_taps(
-    alloc: Global,
-    wide: &Lowpass,
-    narrow: &Lowpass,
-) -> Result<Vec<i32>, FilterFault>
+fn middle_taps(alloc: Global, wide: &Lowpass, narrow: &Lowpass) -> Result<Vec<i32>, FilterFault>
     requires up { narrow.now.up ≡ wide.now.up }
     requires shift { narrow.now.shift ≡ wide.now.shift }
     ensures { MatchResult result (λ taps. AreMiddleTaps wide.now narrow.now taps.items)

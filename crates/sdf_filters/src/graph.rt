@@ -47,12 +47,7 @@ pub(crate) fn push_stage_name(text: &mut String, number: usize) -> Result<(), Al
 }
 
 /// Adds a word and the mark of a channel.
-fn push_marked(
-    text: &mut String,
-    word: &str,
-    channels: u32,
-    channel: u32,
-) -> Result<(), AllocError>
+fn push_marked(text: &mut String, word: &str, channels: u32, channel: u32) -> Result<(), AllocError>
     ensures { OnOk result (string_bytes text.new ≡ string_bytes text.old ++ (word.now ++ mark channels channel)) }
 {
     text.push_str(word)?;
@@ -145,7 +140,10 @@ fn push_keys(text: &mut String, number: usize, stage: Stage) -> Result<(), Alloc
 {
     let up = stage.up;
     let down = stage.down;
-    write!(text, "up = {up}\ndown = {down}\nshift = {STAGE_SHIFT}\nfile = \"")?;
+    write!(
+        text,
+        "up = {up}\ndown = {down}\nshift = {STAGE_SHIFT}\nfile = \""
+    )?;
     push_stage_name(text, number)?;
     text.push_str(".toml\"\n")
 }
@@ -256,8 +254,18 @@ fn push_joining(text: &mut String, channels: u32, channel: u32) -> Result<(), Al
         return push_link(text, channels, End::Input { channel }, End::Fork);
     }
     push_link(text, channels, End::Input { channel }, End::Sum { channel })?;
-    push_link(text, channels, End::Branch { channel }, End::Silence { channel })?;
-    push_link(text, channels, End::Silence { channel }, End::SumSecond { channel })
+    push_link(
+        text,
+        channels,
+        End::Branch { channel },
+        End::Silence { channel },
+    )?;
+    push_link(
+        text,
+        channels,
+        End::Silence { channel },
+        End::SumSecond { channel },
+    )
 }
 
 /// What stands behind so many stages of a channel.

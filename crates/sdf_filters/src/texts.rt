@@ -31,9 +31,7 @@ fn push_band(text: &mut String, band: Band) -> Result<(), AllocError>
             low_pass,
             pass,
             stop,
-        } => {
-            write!(text, "band-pass {low_stop}..{low_pass}..{pass}..{stop}")
-        }
+        } => { write!(text, "band-pass {low_stop}..{low_pass}..{pass}..{stop}") }
     }
 }
 

@@ -6,9 +6,15 @@ use crate::measure::{Measured, Range, Response};
 #[derive(Debug, Clone, Copy, PartialEq, Eq)]
 pub enum Band {
     /// A low-pass: what is up to `pass` passes, what is from `stop` on is stopped.
-    Low { pass: u32, stop: u32 },
+    Low {
+        pass: u32,
+        stop: u32,
+    },
     /// A high-pass: what is up to `stop` is stopped, what is from `pass` on passes.
-    High { stop: u32, pass: u32 },
+    High {
+        stop: u32,
+        pass: u32,
+    },
     /// A band-pass: what is up to `low_stop` is stopped, what is from `low_pass` to `pass` passes, and what is from
     /// `stop` on is stopped.
     Middle {
@@ -51,7 +57,12 @@ impl Wanted {
         match self.band {
             Band::Low { pass, stop } => response.measured(range(0, pass), &[range(stop, half)]),
             Band::High { stop, pass } => response.measured(range(pass, half), &[range(0, stop)]),
-            Band::Middle { low_stop, low_pass, pass, stop } => response.measured(
+            Band::Middle {
+                low_stop,
+                low_pass,
+                pass,
+                stop,
+            } => response.measured(
                 range(low_pass, pass),
                 &[range(0, low_stop), range(stop, half)],
             ),
