@@ -67,7 +67,7 @@ fn size(alloc: Global, channels: u32) -> Result<String, Fail> {
 #[test]
 fn channels(rt: HostRuntime) -> Result<(), Fail> {
     assert_eq!(rt; size(rt.alloc(), 1)?.as_str(), "4 3");
-    assert_eq!(rt; size(rt.alloc(), 2)?.as_str(), "11 11");
-    assert_eq!(rt; size(rt.alloc(), 8)?.as_str(), "47 53");
+    assert_eq!(rt; size(rt.alloc(), 2)?.as_str(), "11 10");
+    assert_eq!(rt; size(rt.alloc(), 8)?.as_str(), "47 46");
     Ok(())
 }

@@ -4,7 +4,7 @@ use std::f64::consts::TAU;
 use std::num::saturating_f64_to_u64;
 
 /// At how many frequencies more than one a band is looked at.
-const STEPS: u32 = 4096;
+const STEPS: u32 = 2048;
 
 /// A level below this is taken for it: -240 dB.
 const LEAST_LEVEL: f64 = 1e-12;
@@ -40,17 +40,19 @@ pub(crate) struct Response<'a> {
     pub(crate) unit: f64,
 }
 
-/// How loud taps are at an angle for each sample.
+/// How loud taps are at an angle for each sample, by Goertzel's recurrence.
 fn level(taps: &[i32], angle: f64) -> f64 {
-    let (sine, cosine) = angle.sin_cos();
-    let mut real = 0.0;
-    let mut imaginary = 0.0;
+    let turn = 2.0 * angle.cos();
+    let mut last = 0.0;
+    let mut before = 0.0;
     for &tap in taps {
-        let next = real * cosine - imaginary * sine + f64::from(tap);
-        imaginary = real * sine + imaginary * cosine;
-        real = next;
+        let next = turn * last - before + f64::from(tap);
+        before = last;
+        last = next;
     }
-    real.hypot(imaginary)
+    (last * last + before * before - turn * last * before)
+        .max(0.0)
+        .sqrt()
 }
 
 /// A level in dB.
