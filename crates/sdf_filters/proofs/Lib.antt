@@ -3,3 +3,4 @@ pub mod Splits
 pub mod Values
 pub mod Counts
 pub mod Differing
+pub mod Files

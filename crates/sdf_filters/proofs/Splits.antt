@@ -11,7 +11,9 @@ use Rattle.sdf_filters.specs.Stages.{IsPartFault, IsSplitFault}
 use Rattle.sdf_filters.specs.declared.fault.FilterFault.{FilterFault}
 use Rattle.sdf_filters.specs.declared.fault.FilterFault.TheVariants.{OutOfMemory, Up, Shift, Attenuation}
 use Rattle.sdf_filters.specs.declared.fault.FilterFault.TheVariants.{PassNotBelowStop, StopOverHalf, TooManyTaps}
-use Rattle.sdf_filters.specs.declared.fault.FilterFault.TheVariants.{TapTooLarge, NoRate, FactorTooLarge}
+use Rattle.sdf_filters.specs.declared.fault.FilterFault.TheVariants.{TapTooLarge, NoRate, FactorTooLarge, Channels}
+use Rattle.sdf_filters.specs.declared.fault.FilterFault.TheVariants.{StopNotBelowPass, PassOverHalf, NothingPasses}
+use Rattle.sdf_filters.specs.declared.fault.FilterFault.TheVariants.{UpOfHighpass, RateTooLarge}
 
 ups-push : (stages : List Stage) (s : Stage) → ups (stages ++ s ∷ []) ≡ ups stages * s.up
 ups-push [] s = omega arith
@@ -164,6 +166,12 @@ fault_of_all up down up_left down_left stages split (StopOverHalf m n) h = absur
 fault_of_all up down up_left down_left stages split (TooManyTaps n) h = absurd h
 fault_of_all up down up_left down_left stages split (TapTooLarge n) h = absurd h
 fault_of_all up down up_left down_left stages split NoRate h = absurd h
+fault_of_all up down up_left down_left stages split (StopNotBelowPass m n) h = absurd h
+fault_of_all up down up_left down_left stages split (PassOverHalf m n) h = absurd h
+fault_of_all up down up_left down_left stages split (NothingPasses m n) h = absurd h
+fault_of_all up down up_left down_left stages split (UpOfHighpass n) h = absurd h
+fault_of_all up down up_left down_left stages split (RateTooLarge n) h = absurd h
+fault_of_all up down up_left down_left stages split (Channels n) h = absurd h
 
 -- and one of the rates
 pub fault_of_rates : (from to up down : ℕ) → IsLowest from to up down → (e : FilterFault) → IsPartFault up down e →
@@ -178,3 +186,9 @@ fault_of_rates from to up down lowest (StopOverHalf m n) h = absurd h
 fault_of_rates from to up down lowest (TooManyTaps n) h = absurd h
 fault_of_rates from to up down lowest (TapTooLarge n) h = absurd h
 fault_of_rates from to up down lowest NoRate h = absurd h
+fault_of_rates from to up down lowest (StopNotBelowPass m n) h = absurd h
+fault_of_rates from to up down lowest (PassOverHalf m n) h = absurd h
+fault_of_rates from to up down lowest (NothingPasses m n) h = absurd h
+fault_of_rates from to up down lowest (UpOfHighpass n) h = absurd h
+fault_of_rates from to up down lowest (RateTooLarge n) h = absurd h
+fault_of_rates from to up down lowest (Channels n) h = absurd h

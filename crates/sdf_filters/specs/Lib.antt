@@ -4,3 +4,7 @@ pub mod Lowpass
 pub mod Differences
 pub mod Stages
 pub mod Coefficients
+pub mod Wanted
+pub mod Filters
+pub mod Graphs
+pub mod Converters

@@ -1,7 +1,7 @@
 //! The text of a coefficient file.
 
-ghost use Rattle.std.specs.Prelude.{◌≡◌, ◌++◌, IfOk, OnOk, string_bytes};
-ghost use Rattle.sdf_filters.specs.Coefficients.{separator, value_text, coefficient_text};
+ghost use Rattle.std.specs.Prelude.{◌≡◌, ◌++◌, IfOk, OnOk, length, string_bytes};
+ghost use Rattle.sdf_filters.specs.Coefficients.{separator, value_text, values_text, coefficient_text};
 
 use std::alloc::{AllocError, Global};
 
@@ -27,14 +27,30 @@ fn push_value(text: &mut String, place: usize, value: i32) -> Result<(), AllocEr
     Ok(())
 }
 
+/// Adds values.
+fn push_values(text: &mut String, taps: &[i32]) -> Result<(), AllocError>
+    ensures { OnOk result (string_bytes text.new ≡ string_bytes text.old ++ values_text taps.now (length taps.now)) }
+{
+    for (place, value) in taps.iter().enumerate() {
+        push_value(text, place, *value)?;
+    }
+    Ok(())
+}
+
+/// Adds the coefficient file of some taps.
+pub(crate) fn push_coefficients(text: &mut String, taps: &[i32]) -> Result<(), AllocError>
+    ensures { OnOk result (string_bytes text.new ≡ string_bytes text.old ++ coefficient_text taps.now) }
+{
+    text.push_str("format = 1\nvalues = [")?;
+    push_values(text, taps)?;
+    text.push_str("\n]\n")
+}
+
 /// The coefficient file of some taps, as an actor of kind `fir` reads it by its key `file`.
 pub fn coefficient_text(alloc: Global, taps: &[i32]) -> Result<String, AllocError>
     ensures { IfOk result (λ text. string_bytes text ≡ coefficient_text taps.now) }
 {
-    let mut text = String::from_str(alloc, "format = 1\nvalues = [")?;
-    for (place, value) in taps.iter().enumerate() {
-        push_value(&mut text, place, *value)?;
-    }
-    text.push_str("\n]\n")?;
+    let mut text = String::new(alloc);
+    push_coefficients(&mut text, taps)?;
     Ok(text)
 }

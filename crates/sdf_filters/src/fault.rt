@@ -33,6 +33,24 @@ pub enum FilterFault {
     /// A tap, of this size, has more than 16 bits.
     #[error("a tap of size {size} has over 16 bits: take a smaller `shift`, or what passes and what is stopped lower")]
     TapTooLarge { size: u32 },
+    /// What is stopped does not end below what passes.
+    #[error("what is stopped ends at {stop} Hz, what passes begins at {pass}: take `stop` lower, or `pass` higher")]
+    StopNotBelowPass { stop: u32, pass: u32 },
+    /// What passes begins over half the rate.
+    #[error("what passes begins at {pass} Hz, over half the rate of {rate}: take it lower, or a higher rate")]
+    PassOverHalf { pass: u32, rate: u32 },
+    /// What passes does not begin below its end.
+    #[error("what passes begins at {low_pass} Hz and ends at {pass}: take its begin lower, or its end higher")]
+    NothingPasses { low_pass: u32, pass: u32 },
+    /// A high-pass has no phases.
+    #[error("a high-pass with `up` {up}: take 1")]
+    UpOfHighpass { up: u32 },
+    /// A filter of a conversion would work at more than 32 bits say.
+    #[error("a filter at {rate} Hz, over 4294967295: take lower rates")]
+    RateTooLarge { rate: u64 },
+    /// There are as many channels as a WAV file may have.
+    #[error("{channels} channels: take 1 to 8")]
+    Channels { channels: u32 },
     /// A rate is 0.
     #[error("a rate is 0: take both from 1 on")]
     NoRate,

@@ -1,6 +1,7 @@
 //! Low-passes.
 
 ghost use Rattle.std.specs.Prelude.{◌≡◌, ◌<◌, ◌≤◌, ◌%◌, ◌^◌, pos, MatchResult};
+ghost use Rattle.sdf_limits.specs.declared.TheConstants.{MOST_FACTOR};
 ghost use Rattle.sdf_filters.specs.Lowpass.{is_factor, lowpass_of, AreLowpassTaps, IsCount, IsTapFault, IsCountFault};
 ghost use Rattle.sdf_filters.specs.Asked.{asked};
 ghost use Rattle.sdf_filters.specs.Differences.{AreHighpassTaps, AreBandpassTaps};
@@ -71,6 +72,15 @@ impl Lowpass {
             up,
             shift,
         })
+    }
+
+    /// How many phases its taps have.
+    pub(crate) fn up(&self) -> u32
+        ensures value { result ≡ self.now.up }
+        ensures some { 1 ≤ result }
+        ensures few { result ≤ MOST_FACTOR }
+    {
+        self.up
     }
 
     /// How many taps Kaiser's formula asks for, made up to whole phases.
@@ -171,7 +181,7 @@ fn height(shift: u32) -> i32
 }
 
 /// A number of taps, at least one, made up to whole phases.
-fn whole_phases(count: usize, up: usize) -> Result<usize, FilterFault>
+pub(crate) fn whole_phases(count: usize, up: usize) -> Result<usize, FilterFault>
     requires some { 1 ≤ up }
     requires few { up ≤ MOST_FACTOR }
     ensures { MatchResult result (IsCount up) IsCountFault }
@@ -184,7 +194,7 @@ fn whole_phases(count: usize, up: usize) -> Result<usize, FilterFault>
 }
 
 /// Whether a filter may have so many taps.
-fn test_few(taps: usize) -> Result<(), FilterFault>
+pub(crate) fn test_few(taps: usize) -> Result<(), FilterFault>
     ensures { MatchResult result (λ _. taps ≤ MOST_TAPS) IsCountFault }
 {
     if taps > MOST_TAPS {

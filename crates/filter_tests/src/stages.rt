@@ -1,6 +1,6 @@
 //! Stages of conversions between usual rates, which are cheap ones, and rates between which there are none.
 
-use crate::{FilterFault, Lowpass, Stage, stages};
+use sdf_filters::{FilterFault, Lowpass, Stage, stages};
 use std::process::Abort;
 use std::test::Fail;
 

@@ -1,6 +1,6 @@
 //! Taps against those that `scripts/coefficients` writes, in Python's own arithmetic.
 
-use crate::{FilterFault, Lowpass, coefficient_text};
+use sdf_filters::{FilterFault, Lowpass, coefficient_text};
 use std::process::Abort;
 use std::test::Fail;
 

@@ -1,0 +1,93 @@
+-- The design that converts between two rates.
+use Rattle.std.specs.Prelude.{◌≡◌, ℕ, zero, suc, ◌+◌, ◌-◌, ◌*◌, ◌/◌, ◌≤◌, ◌<◌, ◌^◌, ◌⊎◌, ◌&&◌, min, nat_le, List, ◌++◌}
+use Rattle.std.specs.Prelude.{length, codes, string_bytes, slice_get, Option, Some, None, Result, Ok, Err}
+use Rattle.sdf_limits.specs.declared.TheConstants.{MOST_CHANNEL}
+use Rattle.sdf_filters.specs.declared.graph.TheConstants.{STAGE_SHIFT}
+use Rattle.sdf_filters.specs.declared.fault.FilterFault.{FilterFault}
+use Rattle.sdf_filters.specs.declared.fault.FilterFault.TheVariants.{OutOfMemory, RateTooLarge, Channels}
+use Rattle.sdf_filters.specs.declared.stage.Stage.{Stage}
+use Rattle.sdf_filters.specs.declared.wanted.Band.TheVariants.{Low}
+use Rattle.sdf_filters.specs.declared.wanted.Wanted.{Wanted}
+use Rattle.sdf_filters.specs.declared.converter.StageFile.{StageFile}
+use Rattle.sdf_filters.specs.declared.converter.ConverterTexts.{ConverterTexts}
+use Rattle.sdf_filters.specs.Lowpass.{tested}
+use Rattle.sdf_filters.specs.Wanted.{IsFault}
+use Rattle.sdf_filters.specs.Filters.{AreFilterTexts}
+use Rattle.sdf_filters.specs.Stages.{IsSplit, IsSplitFault}
+use Rattle.sdf_filters.specs.Graphs.{stage_name, graph_text}
+
+-- what passes a conversion: up to ten elevenths of half the lower rate
+abbrev pub passed : ℕ → ℕ → ℕ
+passed from to = min from to * 5 / 11
+
+-- the rate behind a stage
+abbrev pub put : ℕ → Option Stage → ℕ
+put rate None = rate
+put rate (Some s) = rate * s.up / s.down
+
+-- the rate that the stage at a place takes
+unfoldable pub rate_at : ℕ → List Stage → ℕ → ℕ
+rate_at from stages zero = from
+rate_at from stages (suc n) = put (rate_at from stages n) (slice_get stages n)
+
+-- the filter of a stage that takes this rate: no image of what passes is left, and nothing comes to lie on it
+abbrev pub stage_wanted : ℕ → ℕ → ℕ → Stage → Wanted
+stage_wanted rate pass attenuation s = record {
+  rate = rate * s.up;
+  band = Low pass (min rate (rate * s.up / s.down) - pass);
+  attenuation = attenuation;
+  up = s.up;
+  shift = STAGE_SHIFT;
+}
+
+-- the coefficient file of a stage: the taps of its filter
+pub record IsStageFile (w : Wanted) (number : ℕ) (f : StageFile) : Type 0 where
+  pub name : string_bytes f.name ≡ stage_name number ++ codes ".toml"
+  pub texts : AreFilterTexts w (string_bytes f.text) (string_bytes f.told)
+
+-- a file is that of the stage with a number, which takes this rate
+abbrev pub IsFileOf : ℕ → ℕ → ℕ → ℕ → Option Stage → Option StageFile → Type 0
+IsFileOf rate pass attenuation number (Some s) (Some f) = IsStageFile (stage_wanted rate pass attenuation s) number f
+IsFileOf rate pass attenuation number stage file = ⊥
+
+-- the first n files are those of the stages
+abbrev pub AreFilesTo : ℕ → ℕ → ℕ → List Stage → List StageFile → ℕ → Type 0
+AreFilesTo from pass attenuation stages files n =
+    (k : ℕ) → k < n →
+    IsFileOf (rate_at from stages k) pass attenuation (k + 1) (slice_get stages k) (slice_get files k)
+
+-- a file for each stage, in order
+pub record AreStageFiles (from pass attenuation : ℕ) (stages : List Stage) (files : List StageFile) : Type 0 where
+  pub all : length files ≡ length stages
+  pub each : AreFilesTo from pass attenuation stages files (length stages)
+
+-- the graph file and the coefficient files are those of stages whose product is the ratio of the rates
+pub record IsConverter (from to channels attenuation : ℕ) (graph : List ℕ) (files : List StageFile) : Type 0 where
+  pub stages : List Stage
+  pub split : IsSplit from to stages
+  pub graph_is : graph ≡ graph_text from to channels stages
+  pub files_are : AreStageFiles from (passed from to) attenuation stages files
+
+-- whether there may be so many channels
+abbrev pub channels_test : ℕ → Result (Unit {0}) FilterFault
+channels_test channels = tested (nat_le 1 channels && nat_le channels (MOST_CHANNEL + 1)) (Channels channels) (Ok tt)
+
+-- a rate has over 32 bits
+pub record IsRateFault (fault : FilterFault) : Type 0 where
+  pub rate : ℕ
+  pub large : 2 ^ 32 ≤ rate
+  pub is : fault ≡ RateTooLarge rate
+
+-- there are no taps of a filter
+pub record IsFilterFault (fault : FilterFault) : Type 0 where
+  pub wanted : Wanted
+  pub is : IsFault wanted fault
+
+-- why there is no file of a stage
+abbrev pub IsStageFault : FilterFault → Type 0
+IsStageFault fault = (fault ≡ OutOfMemory) ⊎ (IsRateFault fault ⊎ IsFilterFault fault)
+
+-- why there is no design: the channels, the ratio of the rates, or a stage
+abbrev pub IsConverterFault : ℕ → ℕ → ℕ → FilterFault → Type 0
+IsConverterFault from to channels fault =
+    (channels_test channels ≡ Err fault) ⊎ (IsSplitFault from to fault ⊎ IsStageFault fault)

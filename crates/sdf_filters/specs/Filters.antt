@@ -1,0 +1,50 @@
+-- What is printed of a filter.
+use Rattle.std.specs.Prelude.{◌≡◌, ℕ, ◌/◌, ◌%◌, ℤ, List, [], ◌∷◌, ◌++◌, length, codes, decimal}
+use Rattle.sdf_filters.specs.declared.measure.Measured.{Measured}
+use Rattle.sdf_filters.specs.declared.wanted.Band.{Band}
+use Rattle.sdf_filters.specs.declared.wanted.Band.TheVariants.{Low, High, Middle}
+use Rattle.sdf_filters.specs.declared.wanted.Wanted.{Wanted}
+use Rattle.sdf_filters.specs.Coefficients.{coefficient_text}
+use Rattle.sdf_filters.specs.Wanted.{AreTaps}
+
+-- a line feed
+abbrev pub end : List ℕ
+end = 10 ∷ []
+
+-- which frequencies pass
+abbrev pub band_text : Band → List ℕ
+band_text (Low pass stop) = codes "low-pass " ++ decimal pass ++ codes ".." ++ decimal stop
+band_text (High stop pass) = codes "high-pass " ++ decimal stop ++ codes ".." ++ decimal pass
+band_text (Middle low_stop low_pass pass stop) =
+    codes "band-pass " ++ decimal low_stop ++ codes ".." ++ decimal low_pass ++ codes ".." ++ decimal pass
+    ++ codes ".." ++ decimal stop
+
+-- the first line of a coefficient file
+unfoldable pub head_text : Wanted → List ℕ
+head_text w =
+    codes "# fir up " ++ decimal w.up ++ codes " shift " ++ decimal w.shift ++ codes ", " ++ band_text w.band
+    ++ codes " Hz at " ++ decimal w.rate ++ codes " Hz, " ++ decimal w.attenuation ++ codes " dB" ++ end
+
+-- so many ten-thousandths, with four digits behind the point
+abbrev pub with_places : ℕ → List ℕ
+with_places n =
+    decimal (n / 10000) ++ codes "." ++ decimal (n / 1000 % 10) ++ decimal (n / 100 % 10) ++ decimal (n / 10 % 10)
+    ++ decimal (n % 10)
+
+-- so many tenths
+abbrev pub with_place : ℕ → List ℕ
+with_place n = decimal (n / 10) ++ codes "." ++ decimal (n % 10)
+
+-- how many taps there are, and what they do
+unfoldable pub told_text : ℕ → Measured → List ℕ
+told_text count m =
+    decimal count ++ codes " taps: " ++ with_places m.ripple ++ codes " dB of ripple, what is stopped at least "
+    ++ with_place m.attenuation ++ codes " dB down" ++ end
+
+-- the coefficient file of the filter's taps, and the line of what they do, in any numbers
+pub record AreFilterTexts (w : Wanted) (file told : List ℕ) : Type 0 where
+  pub taps : List ℤ
+  pub are : AreTaps w taps
+  pub file_is : file ≡ head_text w ++ coefficient_text taps
+  pub measured : Measured
+  pub told_is : told ≡ told_text (length taps) measured

@@ -1,0 +1,149 @@
+//! The design that converts between two rates, as texts.
+
+ghost use Rattle.std.specs.Prelude.{◌≡◌, ◌+◌, ◌*◌, ◌/◌, ◌<◌, ◌++◌, ◌∷◌, [], IfOk, OnOk, MatchResult, slice_get};
+ghost use Rattle.std.specs.Prelude.{string_bytes, codes, length};
+ghost use Rattle.sdf_filters.specs.Graphs.{stage_name};
+ghost use Rattle.sdf_filters.specs.Converters.{passed, stage_wanted, rate_at, IsStageFile, AreStageFiles};
+ghost use Rattle.sdf_filters.specs.Converters.{channels_test, IsRateFault, IsStageFault, IsConverter};
+ghost use Rattle.sdf_filters.specs.Converters.{IsConverterFault};
+
+use crate::fault::{FilterFault, test};
+use crate::graph::{STAGE_SHIFT, graph_text, push_stage_name};
+use crate::split::stages;
+use crate::stage::Stage;
+use crate::texts::filter_texts;
+use crate::wanted::{Band, Wanted};
+use sdf_limits::MOST_CHANNEL;
+use std::alloc::{AllocError, Global};
+
+/// The coefficient file of a stage: its name, its text, and the line of what its taps do.
+#[derive(Drop)]
+pub struct StageFile {
+    pub name: String,
+    pub text: String,
+    pub told: String,
+}
+
+/// A design that converts between two rates: its graph file, and the coefficient file of each stage, in order.
+#[derive(Drop)]
+pub struct ConverterTexts {
+    pub graph: String,
+    pub files: Vec<StageFile>,
+}
+
+/// Tests how many channels there are.
+fn test_channels(channels: u32) -> Result<(), FilterFault>
+    ensures { result ≡ channels_test channels }
+{
+    test(
+        1 <= channels && channels <= MOST_CHANNEL + 1,
+        FilterFault::Channels { channels },
+    )
+}
+
+/// What passes a conversion: up to ten elevenths of half the lower rate.
+fn passed(from: u32, to: u32) -> u32
+    ensures { result ≡ passed from to }
+{
+    (u64::from(from.min(to)) * 5 / 11) as u32
+}
+
+/// A rate of 32 bits.
+fn rate_of(rate: u64) -> Result<u32, FilterFault>
+    ensures { MatchResult result (λ given. given ≡ rate) IsRateFault }
+{
+    match u32::try_from(rate) {
+        Ok(rate) => Ok(rate),
+        Err(_) => Err(FilterFault::RateTooLarge { rate }),
+    }
+}
+
+/// The filter of a stage that takes this rate: no image of what passes is left, and nothing comes to lie on it.
+fn stage_wanted(rate: u32, pass: u32, attenuation: u32, stage: Stage) -> Result<Wanted, FilterFault>
+    ensures { MatchResult result (λ wanted. wanted ≡ stage_wanted rate pass attenuation stage) IsRateFault }
+{
+    let at = rate_of(u64::from(rate) * u64::from(stage.up))?;
+    let stop = rate.min(at / stage.down).saturating_sub(pass);
+    Ok(Wanted {
+        rate: at,
+        band: Band::Low { pass, stop },
+        attenuation,
+        up: stage.up,
+        shift: STAGE_SHIFT,
+    })
+}
+
+/// The name of a stage's coefficient file.
+fn file_name(alloc: Global, number: usize) -> Result<String, AllocError>
+    ensures { IfOk result (λ name. string_bytes name ≡ stage_name number ++ codes ".toml") }
+{
+    let mut name = String::new(alloc);
+    push_stage_name(&mut name, number)?;
+    name.push_str(".toml")?;
+    Ok(name)
+}
+
+/// The coefficient file of a stage.
+fn stage_file(alloc: Global, number: usize, wanted: Wanted) -> Result<StageFile, FilterFault>
+    ensures { MatchResult result (IsStageFile wanted number) IsStageFault }
+{
+    let texts = filter_texts(alloc, wanted)?;
+    let name = file_name(alloc, number)?;
+    Ok(StageFile {
+        name,
+        text: texts.file,
+        told: texts.told,
+    })
+}
+
+/// One file more.
+fn add_file(files: &mut Vec<StageFile>, file: StageFile) -> Result<(), AllocError>
+    ensures { OnOk result (files.new.items ≡ files.old.items ++ file ∷ []) }
+{
+    files.push(file)?;
+    Ok(())
+}
+
+/// The coefficient files of stages.
+fn stage_files(
+    alloc: Global,
+    from: u32,
+    pass: u32,
+    attenuation: u32,
+    stages: &[Stage],
+) -> Result<Vec<StageFile>, FilterFault>
+    ensures { MatchResult result (λ files. AreStageFiles from pass attenuation stages.now files.items) IsStageFault }
+{
+    let mut files = Vec::new(alloc);
+    let mut rate = from;
+    for place in 0..stages.len() {
+        let stage = stages[place];
+        let wanted = stage_wanted(rate, pass, attenuation, stage)?;
+        let file = stage_file(alloc, place + 1, wanted)?;
+        add_file(&mut files, file)?;
+        rate = wanted.rate / stage.down;
+    }
+    Ok(files)
+}
+
+/// The design that converts between two rates, with this attenuation in dB of what does not belong.
+///
+/// Its stages are those of `stages`, each with the taps of its filter. What is up to ten elevenths of half the lower
+/// rate passes, and nothing else comes to lie there; from there to half the rate images may be left.
+pub fn converter_texts(
+    alloc: Global,
+    from: u32,
+    to: u32,
+    channels: u32,
+    attenuation: u32,
+) -> Result<ConverterTexts, FilterFault>
+    ensures { MatchResult result
+        (λ texts. IsConverter from to channels attenuation (string_bytes texts.graph) texts.files.items)
+        (IsConverterFault from to channels) }
+{
+    test_channels(channels)?;
+    let stages = stages(alloc, from, to, attenuation)?;
+    let files = stage_files(alloc, from, passed(from, to), attenuation, &stages)?;
+    let graph = graph_text(alloc, from, to, channels, &stages)?;
+    Ok(ConverterTexts { graph, files })
+}

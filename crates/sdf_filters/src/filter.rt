@@ -1,0 +1,150 @@
+//! The taps of a filter that is asked for in plain numbers.
+
+ghost use Rattle.std.specs.Prelude.{◌≡◌, ◌%◌, ◌≤◌, ◌⊎◌, IfOk, MatchResult};
+ghost use Rattle.sdf_limits.specs.declared.TheConstants.{MOST_TAPS};
+ghost use Rattle.sdf_filters.specs.Lowpass.{lowpass_of, IsCountFault, IsTapFault};
+ghost use Rattle.sdf_filters.specs.Wanted.{low, high_tests, middle_tests, AreLowTaps, AreHighTaps, AreMiddleTaps};
+ghost use Rattle.sdf_filters.specs.Wanted.{AreTaps, IsLowFault, IsFault};
+
+use crate::fault::{FilterFault, test};
+use crate::lowpass::{Lowpass, test_few, whole_phases};
+use crate::wanted::{Band, Wanted};
+use std::alloc::Global;
+
+/// Tests what a high-pass wants beside what its low-pass does.
+fn test_high(wanted: Wanted, stop: u32, pass: u32) -> Result<(), FilterFault>
+    ensures { result ≡ high_tests wanted stop pass }
+{
+    let Wanted { rate, up, .. } = wanted;
+    test(stop < pass, FilterFault::StopNotBelowPass { stop, pass })?;
+    test(
+        2 * u64::from(pass) <= u64::from(rate),
+        FilterFault::PassOverHalf { pass, rate },
+    )?;
+    test(up == 1, FilterFault::UpOfHighpass { up })
+}
+
+/// Tests what a band-pass wants beside what its low-passes do.
+fn test_middle(low_stop: u32, low_pass: u32, pass: u32) -> Result<(), FilterFault>
+    ensures { result ≡ middle_tests low_stop low_pass pass }
+{
+    test(
+        low_stop < low_pass,
+        FilterFault::StopNotBelowPass {
+            stop: low_stop,
+            pass: low_pass,
+        },
+    )?;
+    test(
+        low_pass < pass,
+        FilterFault::NothingPasses { low_pass, pass },
+    )
+}
+
+/// The low-pass between these frequencies.
+fn low(wanted: Wanted, pass: u32, stop: u32) -> Result<Lowpass, FilterFault>
+    ensures { result ≡ lowpass_of (low wanted pass stop) }
+{
+    Lowpass::new(
+        wanted.rate,
+        pass,
+        stop,
+        wanted.attenuation,
+        wanted.up,
+        wanted.shift,
+    )
+}
+
+/// The taps of a low-pass, with one in each phase more than it wants.
+fn more_taps(alloc: Global, filter: &Lowpass, count: usize) -> Result<Vec<i32>, FilterFault>
+    requires { count ≤ MOST_TAPS }
+    ensures { MatchResult result (λ taps. AreLowTaps filter.now taps.items)
+        (λ fault. IsCountFault fault ⊎ IsTapFault fault) }
+{
+    let more = whole_phases(count + 1, filter.up() as usize)?;
+    let taps = filter.taps(alloc, more)?;
+    Ok(taps)
+}
+
+/// The taps of a low-pass: as many as it wants, or one more in each phase where one of them has over 16 bits. In a
+/// filter that halves its height at half the rate before it, the middle tap is all of its phase; of an even number of
+/// taps none stands in the middle.
+fn low_taps(alloc: Global, filter: &Lowpass) -> Result<Vec<i32>, FilterFault>
+    ensures { MatchResult result (λ taps. AreLowTaps filter.now taps.items)
+        (λ fault. IsCountFault fault ⊎ IsTapFault fault) }
+{
+    let count = filter.count()?;
+    match filter.taps(alloc, count) {
+        Ok(taps) => Ok(taps),
+        Err(FilterFault::TapTooLarge { .. }) => more_taps(alloc, filter, count),
+        Err(fault) => Err(fault),
+    }
+}
+
+/// A number of taps, or one more where it is even.
+fn odd(count: usize) -> Result<usize, FilterFault>
+    requires { count ≤ MOST_TAPS }
+    ensures odd { IfOk result (λ n. n % 2 ≡ 1) }
+    ensures few { MatchResult result (λ n. n ≤ MOST_TAPS) IsCountFault }
+{
+    let odd = if count % 2 == 1 { count } else { count + 1 };
+    test_few(odd)?;
+    Ok(odd)
+}
+
+/// The taps of the high-pass that passes what a low-pass stops: as many as that wants, or one more where that number is
+/// even.
+fn high_taps(alloc: Global, filter: &Lowpass) -> Result<Vec<i32>, FilterFault>
+    requires { filter.now.up ≡ 1 }
+    ensures { MatchResult result (λ taps. AreHighTaps filter.now taps.items)
+        (λ fault. IsCountFault fault ⊎ IsTapFault fault) }
+{
+    let count = odd(filter.count()?)?;
+    let taps = filter.highpass(alloc, count)?;
+    Ok(taps)
+}
+
+/// The taps of the band-pass that passes what only the first of two low-passes does: as many as the steeper one wants.
+fn middle_taps(alloc: Global, wide: &Lowpass, narrow: &Lowpass) -> Result<Vec<i32>, FilterFault>
+    requires up { narrow.now.up ≡ wide.now.up }
+    requires shift { narrow.now.shift ≡ wide.now.shift }
+    ensures { MatchResult result (λ taps. AreMiddleTaps wide.now narrow.now taps.items)
+        (λ fault. IsCountFault fault ⊎ IsTapFault fault) }
+{
+    let many = wide.count()?;
+    let more = narrow.count()?;
+    let count = if many < more { more } else { many };
+    let taps = wide.bandpass(alloc, narrow, count)?;
+    Ok(taps)
+}
+
+/// The taps of a filter: whole numbers of 16 bits. Those of each phase come to `2^shift` where a constant passes, else
+/// to 0.
+///
+/// How near the filter comes to what is asked for no clause says.
+pub fn taps_of(alloc: Global, wanted: Wanted) -> Result<Vec<i32>, FilterFault>
+    ensures { MatchResult result (λ taps. AreTaps wanted taps.items) (IsFault wanted) }
+{
+    match wanted.band {
+        Band::Low { pass, stop } => {
+            let filter = low(wanted, pass, stop)?;
+            low_taps(alloc, &filter)
+        }
+        Band::High { stop, pass } => {
+            test_high(wanted, stop, pass)?;
+            let filter = low(wanted, stop, pass)?;
+            high_taps(alloc, &filter)
+        }
+        Band::Middle {
+            low_stop,
+            low_pass,
+            pass,
+            stop,
+        } => {
+            test_middle(low_stop, low_pass, pass)?;
+            let wide = low(wanted, pass, stop)?;
+            let narrow = low(wanted, low_stop, low_pass)?;
+            middle_taps(alloc, &wide, &narrow)
+        }
+    }
+}

@@ -1,0 +1,97 @@
+//! What is printed of a filter.
+
+ghost use Rattle.std.specs.Prelude.{◌≡◌, ◌++◌, OnOk, MatchResult, string_bytes};
+ghost use Rattle.sdf_filters.specs.Wanted.{IsFault};
+ghost use Rattle.sdf_filters.specs.Filters.{band_text, head_text, with_places, with_place, told_text};
+ghost use Rattle.sdf_filters.specs.Filters.{AreFilterTexts};
+
+use crate::coefficients::push_coefficients;
+use crate::fault::FilterFault;
+use crate::filter::taps_of;
+use crate::measure::Measured;
+use crate::wanted::{Band, Wanted};
+use std::alloc::{AllocError, Global};
+
+/// What is printed of a filter: the coefficient file, and the line of what its taps do.
+#[derive(Drop)]
+pub struct FilterTexts {
+    pub file: String,
+    pub told: String,
+}
+
+/// Adds which frequencies pass.
+fn push_band(text: &mut String, band: Band) -> Result<(), AllocError>
+    ensures { OnOk result (string_bytes text.new ≡ string_bytes text.old ++ band_text band) }
+{
+    match band {
+        Band::Low { pass, stop } => write!(text, "low-pass {pass}..{stop}"),
+        Band::High { stop, pass } => write!(text, "high-pass {stop}..{pass}"),
+        Band::Middle {
+            low_stop,
+            low_pass,
+            pass,
+            stop,
+        } => { write!(text, "band-pass {low_stop}..{low_pass}..{pass}..{stop}") }
+    }
+}
+
+/// Adds the first line of a coefficient file.
+#[tactic(auto, unfolding(crate::specs::Filters::head_text))]
+fn push_wanted(text: &mut String, wanted: Wanted) -> Result<(), AllocError>
+    ensures { OnOk result (string_bytes text.new ≡ string_bytes text.old ++ head_text wanted) }
+{
+    let up = wanted.up;
+    let shift = wanted.shift;
+    write!(text, "# fir up {up} shift {shift}, ")?;
+    push_band(text, wanted.band)?;
+    let rate = wanted.rate;
+    let attenuation = wanted.attenuation;
+    writeln!(text, " Hz at {rate} Hz, {attenuation} dB")
+}
+
+/// Adds so many ten-thousandths.
+fn push_places(text: &mut String, number: u64) -> Result<(), AllocError>
+    ensures { OnOk result (string_bytes text.new ≡ string_bytes text.old ++ with_places number) }
+{
+    let whole = number / 10_000;
+    let first = number / 1000 % 10;
+    let second = number / 100 % 10;
+    let third = number / 10 % 10;
+    let fourth = number % 10;
+    write!(text, "{whole}.{first}{second}{third}{fourth}")
+}
+
+/// Adds so many tenths.
+fn push_place(text: &mut String, number: u64) -> Result<(), AllocError>
+    ensures { OnOk result (string_bytes text.new ≡ string_bytes text.old ++ with_place number) }
+{
+    let whole = number / 10;
+    let tenths = number % 10;
+    write!(text, "{whole}.{tenths}")
+}
+
+/// Adds the line of what so many taps do.
+#[tactic(auto, unfolding(crate::specs::Filters::told_text))]
+fn push_told(text: &mut String, count: usize, measured: Measured) -> Result<(), AllocError>
+    ensures { OnOk result (string_bytes text.new ≡ string_bytes text.old ++ told_text count measured) }
+{
+    write!(text, "{count} taps: ")?;
+    push_places(text, measured.ripple)?;
+    text.push_str(" dB of ripple, what is stopped at least ")?;
+    push_place(text, measured.attenuation)?;
+    text.push_str(" dB down\n")
+}
+
+/// The coefficient file of the taps of a filter, and the line of what they do, which is measured.
+pub fn filter_texts(alloc: Global, wanted: Wanted) -> Result<FilterTexts, FilterFault>
+    ensures { MatchResult result
+        (λ texts. AreFilterTexts wanted (string_bytes texts.file) (string_bytes texts.told)) (IsFault wanted) }
+{
+    let taps = taps_of(alloc, wanted)?;
+    let mut file = String::new(alloc);
+    push_wanted(&mut file, wanted)?;
+    push_coefficients(&mut file, &taps)?;
+    let mut told = String::new(alloc);
+    push_told(&mut told, taps.len(), wanted.measured(&taps))?;
+    Ok(FilterTexts { file, told })
+}
