@@ -9,6 +9,8 @@
 #[cfg(test)]
 mod files;
 #[cfg(test)]
+mod making;
+#[cfg(test)]
 mod overwriting;
 #[cfg(test)]
 mod refused;

@@ -4,6 +4,7 @@ ghost use Rattle.std.specs.Prelude.{◌≡◌, ◌⊎◌};
 ghost use Rattle.sdf_process.specs.Statuses.{status_of};
 ghost use Rattle.sdf_process.specs.declared.fault.Fault.TheVariants.{OutOfMemory};
 
+use crate::making::{fir, resample};
 use crate::printing::{check, print_analysis, print_schedule, show};
 use crate::running::{Paths, run};
 use crate::storage::Storage;
@@ -28,10 +29,11 @@ pub struct World<'a, S, T> {
 }
 
 /// Does what the words ask for, of which the first is the program's name.
-fn obey<S: Storage, T: Threads + AllocGlobal + Sync, I: Read, O: Write>(
+fn obey<S: Storage, T: Threads + AllocGlobal + Sync, I: Read, O: Write, E: Write>(
     world: &World<S, T>,
     stdin: &mut I,
     out: &mut O,
+    err: &mut E,
     line: &[&str],
 ) -> Result<(), Fault> {
     let alloc = world.threads.alloc();
@@ -60,6 +62,8 @@ fn obey<S: Storage, T: Threads + AllocGlobal + Sync, I: Read, O: Write>(
             };
             run(world, stdin, out, paths, &options)
         }
+        Ok(Words::Fir { wanted }) => fir(world, out, err, wanted),
+        Ok(Words::Resample { conversion }) => resample(world, err, conversion),
         Ok(Words::Kinds) => show(out, kinds_text(alloc)?.as_str()),
         Ok(Words::Explain { number }) => show(out, explained(alloc, number)?.as_str()),
         // Help or the version is an answer.
@@ -95,10 +99,11 @@ fn tell<E: Write>(alloc: Global, err: &mut E, fault: &Fault) -> u8
 }
 
 /// Does what the program was started for, if its words could be read.
-fn answer<S: Storage, T: Threads + AllocGlobal + Sync, I: Read, O: Write>(
+fn answer<S: Storage, T: Threads + AllocGlobal + Sync, I: Read, O: Write, E: Write>(
     world: &World<S, T>,
     stdin: &mut I,
     out: &mut O,
+    err: &mut E,
     given: Result<Vec<String>, WordFault>,
 ) -> Result<(), Fault> {
     let given = given?;
@@ -106,7 +111,7 @@ fn answer<S: Storage, T: Threads + AllocGlobal + Sync, I: Read, O: Write>(
     for word in &given {
         line.push(word.as_str())?;
     }
-    obey(world, stdin, out, line.as_slice())
+    obey(world, stdin, out, err, line.as_slice())
 }
 
 /// The whole program: what it was started with, what it works on and standard input come in, what it prints and
@@ -118,7 +123,7 @@ pub fn serve<S: Storage, T: Threads + AllocGlobal + Sync, I: Read, O: Write, E: 
     err: &mut E,
     given: Result<Vec<String>, WordFault>,
 ) -> u8 {
-    match answer(world, stdin, out, given) {
+    match answer(world, stdin, out, err, given) {
         Ok(()) => 0,
         Err(fault) => tell(world.threads.alloc(), err, &fault),
     }

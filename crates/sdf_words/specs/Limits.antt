@@ -3,7 +3,8 @@ use Rattle.std.specs.Prelude.{◌≤◌}
 use Rattle.sdf_options.specs.Limits.{AreWithinLimits}
 use Rattle.sdf_words.specs.declared.asked.TheConstants.{MOST_FAULT}
 use Rattle.sdf_words.specs.declared.asked.Words.{Words}
-use Rattle.sdf_words.specs.declared.asked.Words.TheVariants.{Check, Schedule, Analyze, Run, Kinds, Explain}
+use Rattle.sdf_words.specs.declared.asked.Words.TheVariants.{Check, Schedule, Analyze, Run, Fir, Resample}
+use Rattle.sdf_words.specs.declared.asked.Words.TheVariants.{Kinds, Explain}
 
 -- the numbers of a command are within their limits
 abbrev pub IsWithinLimits : Words → Type 0
@@ -11,5 +12,7 @@ IsWithinLimits (Check graph) = Unit {0}
 IsWithinLimits (Schedule graph options) = AreWithinLimits options
 IsWithinLimits (Analyze graph options compare) = AreWithinLimits options
 IsWithinLimits (Run graph input output options) = AreWithinLimits options
+IsWithinLimits (Fir wanted) = Unit {0}
+IsWithinLimits (Resample conversion) = Unit {0}
 IsWithinLimits Kinds = Unit {0}
 IsWithinLimits (Explain number) = (1 ≤ number) × (number ≤ MOST_FAULT)

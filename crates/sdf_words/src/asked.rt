@@ -1,9 +1,21 @@
 //! What a command line asks for.
 
+use sdf_filters::Wanted;
 use sdf_options::Options;
 
 /// The highest number of a fault.
 pub const MOST_FAULT: u32 = 63;
+
+/// A conversion between two rates: where its design is written, for how many channels, and the attenuation in dB of what
+/// does not belong.
+#[derive(Clone, Copy, Debug, PartialEq, Eq)]
+pub struct Conversion<'a> {
+    pub from: u32,
+    pub to: u32,
+    pub folder: &'a str,
+    pub channels: u32,
+    pub attenuation: u32,
+}
 
 /// A command, its files by their paths.
 #[derive(Clone, Copy, Debug, PartialEq, Eq)]
@@ -27,6 +39,14 @@ pub enum Words<'a> {
         input: &'a str,
         output: &'a str,
         options: Options,
+    },
+    /// The coefficient file of a filter.
+    Fir {
+        wanted: Wanted,
+    },
+    /// The design of a conversion.
+    Resample {
+        conversion: Conversion<'a>,
     },
     /// The table of kinds.
     Kinds,

@@ -6,11 +6,12 @@ ghost use Rattle.sdf_options.specs.Limits.{AreWithinLimits, IsUsage};
 ghost use Rattle.sdf_words.specs.Limits.{IsWithinLimits};
 ghost use Rattle.sdf_words.specs.declared.asked.TheConstants.{MOST_FAULT};
 
-use crate::asked::{MOST_FAULT, Words};
+use crate::asked::{Conversion, MOST_FAULT, Words};
 use crate::commands::sdfw_command;
 use crate::explain::number_named;
 use clap::ArgMatches;
 use clap::error::ErrorKind;
+use sdf_filters::{Band, Wanted};
 use sdf_limits::{MOST_BLOCKING, MOST_PATIENCE, MOST_WORKERS};
 use sdf_options::{
     Options, PLACEMENT_WORDS, PLACEMENTS, POLICIES, POLICY_WORDS, RUNNER_WORDS, RUNNERS, WordFault,
@@ -99,6 +100,55 @@ fn run_of<'a>(matches: &ArgMatches<'a>) -> Option<Words<'a>>
     })
 }
 
+/// A number of 32 bits.
+fn any_number_of(matches: &ArgMatches<'_>, id: &str) -> Option<u32> {
+    number_of(matches, id, 0, u32::MAX)
+}
+
+/// What `fir` is to pass.
+fn band_of(matches: &ArgMatches<'_>) -> Option<Band> {
+    let pass = any_number_of(matches, "pass")?;
+    let stop = any_number_of(matches, "stop")?;
+    match matches.get_str("SHAPE")? {
+        "lowpass" => Some(Band::Low { pass, stop }),
+        "highpass" => Some(Band::High { stop, pass }),
+        _ => Some(Band::Middle {
+            low_stop: any_number_of(matches, "low-stop")?,
+            low_pass: any_number_of(matches, "low-pass")?,
+            pass,
+            stop,
+        }),
+    }
+}
+
+/// What `fir` is asked for.
+fn fir_of<'a>(matches: &ArgMatches<'a>) -> Option<Words<'a>>
+    ensures { IfSome result IsWithinLimits }
+{
+    let wanted = Wanted {
+        rate: any_number_of(matches, "rate")?,
+        band: band_of(matches)?,
+        attenuation: any_number_of(matches, "attenuation")?,
+        up: any_number_of(matches, "up")?,
+        shift: any_number_of(matches, "shift")?,
+    };
+    Some(Words::Fir { wanted })
+}
+
+/// What `resample` is asked for.
+fn resample_of<'a>(matches: &ArgMatches<'a>) -> Option<Words<'a>>
+    ensures { IfSome result IsWithinLimits }
+{
+    let conversion = Conversion {
+        from: any_number_of(matches, "FROM")?,
+        to: any_number_of(matches, "TO")?,
+        folder: matches.get_str("FOLDER")?,
+        channels: any_number_of(matches, "channels")?,
+        attenuation: any_number_of(matches, "attenuation")?,
+    };
+    Some(Words::Resample { conversion })
+}
+
 /// What a command is asked for, by its name.
 fn asked<'a>(name: &str, matches: &ArgMatches<'a>) -> Option<Words<'a>>
     ensures { IfSome result IsWithinLimits }
@@ -110,6 +160,8 @@ fn asked<'a>(name: &str, matches: &ArgMatches<'a>) -> Option<Words<'a>>
         "schedule" => schedule_of(matches),
         "analyze" => analyze_of(matches),
         "run" => run_of(matches),
+        "fir" => fir_of(matches),
+        "resample" => resample_of(matches),
         "kinds" => Some(Words::Kinds),
         "explain" => Some(Words::Explain {
             number: number_of(matches, "NUMBER", 1, MOST_FAULT)?,

@@ -27,7 +27,7 @@ struct Place {
     values: Values,
 }
 
-/// What a command can be given by name, and what it is where it is not given.
+/// What a command can be given by name, and what it is where it is not given; without that it has to be given.
 #[derive(Clone, Copy)]
 struct Choice {
     name: &'static str,
@@ -35,7 +35,7 @@ struct Choice {
     help: &'static str,
     more: &'static str,
     values: Values,
-    default: &'static str,
+    default: Option<&'static str>,
 }
 
 /// What a command can be told by a name alone.
@@ -76,13 +76,16 @@ fn argument<'a>(alloc: Global, place: Place) -> Arg<'a> {
 }
 
 fn option<'a>(alloc: Global, choice: Choice) -> Arg<'a> {
-    Arg::new(alloc, choice.name)
+    let named = Arg::new(alloc, choice.name)
         .long(choice.name)
         .value_name(choice.value_name)
         .help(choice.help)
         .long_help(choice.more)
-        .value_parser(parser_of(choice.values))
-        .default_value(choice.default)
+        .value_parser(parser_of(choice.values));
+    match choice.default {
+        Some(default) => named.default_value(default),
+        None => named.required(true),
+    }
 }
 
 fn flag<'a>(alloc: Global, switch: Switch) -> Arg<'a> {

@@ -1,6 +1,7 @@
 //! The words of the program: what its command line asks for, and what it says of a fault.
 //!
-//! It stands on `clap`, on `sdf_options` for the options of a run, and on `sdf_limits`; it knows no graph and no sound.
+//! It stands on `clap`, on `sdf_options` for the options of a run, on `sdf_filters` for what a filter is asked for by,
+//! and on `sdf_limits`; it knows no graph and no sound.
 //! Begin at `asked`, what can be asked for, then `commands::table`, what each command takes and its help says, and
 //! `command_line`, which reads it; `explain` has what each fault means. The definitions are in `specs/Limits.antt`.
 #![tactic(auto)]
@@ -11,6 +12,6 @@ mod command_line;
 mod commands;
 mod explain;
 
-pub use asked::{MOST_FAULT, Words};
+pub use asked::{Conversion, MOST_FAULT, Words};
 pub use command_line::{mistake, words};
 pub use explain::explained;

@@ -1,0 +1,68 @@
+//! Filters and converters that the program makes, over files in memory.
+
+use crate::files::ends_between;
+use crate::shelf::Shelf;
+use sdf_program::files::MOST_BYTES;
+use sdf_program::program::World;
+use std::cell::RefCell;
+use std::test::Fail;
+use std::thread::Threads;
+
+/// The exit status of a line, and behind it what stands on standard output, on standard error and in files.
+fn made<T: Threads + AllocGlobal + Sync>(rt: &T, line: &[&str]) -> Result<String, Fail> {
+    let alloc = rt.alloc();
+    let written = RefCell::new(Vec::new(alloc));
+    let world = World {
+        storage: &Shelf { written: &written },
+        threads: rt,
+        most: MOST_BYTES,
+    };
+    let mut out = Vec::new(alloc);
+    let (status, err) = ends_between(&world, b"", &mut out, line)?;
+    let out = String::from_utf8(out)?;
+    let files = String::from_utf8(written.into_inner())?;
+    Ok(format!(in alloc; "{status}\n{out}--\n{err}--\n{files}")?)
+}
+
+/// Refuses a line of what taps do that stands on standard output, and a fault with another status.
+#[test]
+fn filters(rt: HostRuntime) -> Result<(), Fail> {
+    let text = made(
+        &rt,
+        &[
+            "sdfw", "fir", "lowpass", "--rate", "8000", "--pass", "1000", "--stop", "3000",
+        ],
+    )?;
+    assert!(rt;
+        text.as_str()
+            .starts_with("0\n# fir up 1 shift 15, low-pass 1000..3000 Hz")
+    );
+    assert!(rt; text.as_str().contains("--\n26 taps: "));
+    let text = made(
+        &rt,
+        &[
+            "sdfw", "fir", "lowpass", "--rate", "8000", "--pass", "3000", "--stop", "1000",
+        ],
+    )?;
+    assert!(rt;
+        text.as_str()
+            .starts_with("2\n--\nerror: what passes ends at 3000 Hz")
+    );
+    Ok(())
+}
+
+/// Refuses a graph file without its coefficient files, and one that is written where a folder may not be.
+#[test]
+fn converters(rt: HostRuntime) -> Result<(), Fail> {
+    let text = made(&rt, &["sdfw", "resample", "8000", "8000", "made"])?;
+    assert_eq!(rt;
+        text.as_str(),
+        "0\n--\n--\n# from 8000\n# to 8000\n# channels 1\nformat = 1\n\
+         \n[[actor]]\nname = \"in\"\nkind = \"input\"\nchannel = 0\n\
+         \n[[actor]]\nname = \"out\"\nkind = \"output\"\nchannel = 0\n\
+         \n[[link]]\nfrom = \"in\"\nto = \"out\"\n"
+    );
+    let text = made(&rt, &["sdfw", "resample", "8000", "8000", "elsewhere"])?;
+    assert_eq!(rt; text.as_str(), "5\n--\nsdfw: 48 Write\n--\n");
+    Ok(())
+}

@@ -1,0 +1,100 @@
+//! The commands that make filters and converters.
+
+use crate::files::device_fault;
+use crate::printing::show;
+use crate::program::World;
+use crate::storage::Storage;
+use sdf_file::{Design, read_design};
+use sdf_filters::{ConverterTexts, FilterFault, Wanted, converter_texts, filter_texts};
+use sdf_options::Options;
+use sdf_process::Fault;
+use sdf_process::planning::plan;
+use sdf_words::{Conversion, mistake};
+use std::alloc::Global;
+use std::io::Write;
+
+/// What is asked for is a mistake on the command line.
+fn filter_fault(alloc: Global, fault: FilterFault) -> Fault {
+    match fault.to_string(alloc) {
+        Ok(text) if fault != FilterFault::OutOfMemory => Fault::from(mistake(alloc, text.as_str())),
+        _ => Fault::OutOfMemory,
+    }
+}
+
+/// Prints the coefficient file of a filter, and on standard error what its taps do.
+pub(crate) fn fir<S, T: AllocGlobal, O: Write, E: Write>(
+    world: &World<S, T>,
+    out: &mut O,
+    err: &mut E,
+    wanted: Wanted,
+) -> Result<(), Fault> {
+    let alloc = world.threads.alloc();
+    match filter_texts(alloc, wanted) {
+        Ok(texts) => {
+            show(err, texts.told.as_str())?;
+            show(out, texts.file.as_str())
+        }
+        Err(fault) => Err(filter_fault(alloc, fault)),
+    }
+}
+
+/// The design that texts say.
+fn design_of(alloc: Global, texts: &ConverterTexts) -> Result<Design, Fault> {
+    let mut files = Vec::new(alloc);
+    for file in &texts.files {
+        let name = String::from_str(alloc, file.name.as_str())?;
+        files.push((name, Vec::from_slice(alloc, file.text.as_bytes())?))?;
+    }
+    Ok(read_design(alloc, texts.graph.as_bytes(), &files)?)
+}
+
+/// Writes a file into a folder.
+fn write_into<S: Storage, T: AllocGlobal>(
+    world: &World<S, T>,
+    folder: &str,
+    name: &str,
+    text: &str,
+) -> Result<(), Fault> {
+    let path = format!(in world.threads.alloc(); "{folder}/{name}")?;
+    match world.storage.create(path.as_str()) {
+        Ok(mut file) => show(&mut file, text),
+        Err(error) => Err(device_fault(&error, Fault::Write)),
+    }
+}
+
+/// Writes the files of a converter into a folder, and on standard error what the taps of each stage do.
+fn write_all<S: Storage, T: AllocGlobal, E: Write>(
+    world: &World<S, T>,
+    err: &mut E,
+    folder: &str,
+    texts: &ConverterTexts,
+) -> Result<(), Fault> {
+    for file in &texts.files {
+        write_into(world, folder, file.name.as_str(), file.text.as_str())?;
+        show(err, file.told.as_str())?;
+    }
+    write_into(world, folder, "graph.toml", texts.graph.as_str())
+}
+
+/// Writes the design of a conversion. It is read and planned before anything is written: what is written can be run.
+pub(crate) fn resample<S: Storage, T: AllocGlobal, E: Write>(
+    world: &World<S, T>,
+    err: &mut E,
+    conversion: Conversion<'_>,
+) -> Result<(), Fault> {
+    let alloc = world.threads.alloc();
+    let Conversion {
+        from,
+        to,
+        folder,
+        channels,
+        attenuation,
+    } = conversion;
+    match converter_texts(alloc, from, to, channels, attenuation) {
+        Ok(texts) => {
+            plan(alloc, &design_of(alloc, &texts)?, &Options::DEFAULT)?;
+            write_all(world, err, folder, &texts)
+        }
+        Err(fault) => Err(filter_fault(alloc, fault)),
+    }
+}
