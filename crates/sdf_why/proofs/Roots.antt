@@ -1,10 +1,10 @@
 -- The document that bytes are.
-use Rattle.std.proofs.Common.{◌≡◌, Bool, true, false, cond, Option, Some, None, ℕ, List, refl, ap, sym, ◌∙◌, BTreeMap, String}
+use Rattle.std.proofs.Common.{◌≡◌, Bool, true, false, cond, Some, None, ℕ, List, refl, ap, sym, BTreeMap, String}
 use Rattle.std.proofs.Common.{Global, option_map}
 use Rattle.std.specs.Prelude.{IsUtf8}
 use Rattle.std.specs.Str.{is_utf8}
 use Rattle.std.proofs.lemmas.Str.{is_utf8-from_IsUtf8, IsUtf8-from_is_utf8}
-use Rattle.toml.specs.Data.{Data, Members, table}
+use Rattle.toml.specs.Data.{table}
 use Rattle.toml.specs.Parse.{parse_document}
 use Rattle.toml.specs.View.{view, table_view}
 use Rattle.toml.specs.declared.value.Value.{Value, Table}

@@ -1,7 +1,6 @@
 -- What is told of a graph file that is not read, by the first test that it fails.
-use Rattle.std.specs.Prelude.{ℕ, List, [], ◌++◌, codes, decimal, Option, Some, None, option_map, option_and_then}
+use Rattle.std.specs.Prelude.{ℕ, List, [], ◌++◌, codes, decimal, Option, Some, None, option_and_then}
 use Rattle.std.specs.Prelude.{is_some, bytes_eq, if◌then◌else◌}
-use Rattle.std.specs.Option.{option_map_or}
 use Rattle.toml.specs.Data.{Data, get}
 use Rattle.sdf_limits.specs.declared.TheConstants.{MOST_ACTORS, MOST_LINKS}
 use Rattle.sdf_document.specs.Fault.{Place, top, actor, link, file, Fault, actor_count, channel_count, kit_value}
@@ -9,48 +8,17 @@ use Rattle.sdf_document.specs.Fault.{not_toml, bad_format, unknown_key, missing_
 use Rattle.sdf_document.specs.Fault.{unknown_kind, bad_port, no_file}
 use Rattle.sdf_document.specs.Listing.{kinds_text}
 use Rattle.sdf_document.specs.Lists.{Files, file_named}
-use Rattle.sdf_why.specs.Limits.{row_of, limits_of}
-use Rattle.sdf_why.specs.Words.{end, actor_line, link_line, key_line}
-use Rattle.sdf_why.specs.Tables.{root, text_at, entry, first_saying}
-
--- lines of what is there
-abbrev pub lines_of : {A : Type 0} → (A → List ℕ) → Option A → List ℕ
-lines_of line o = option_map_or line o []
-
--- ---- an actor
-
--- actor a, by the name and the kind in its table
-abbrev pub actor_is : ℕ → Data → List ℕ
-actor_is a d = actor_line a (text_at (codes "name") d) (text_at (codes "kind") d)
-
-unfoldable pub actor_told : Data → ℕ → List ℕ
-actor_told d a = lines_of (actor_is a) (entry (codes "actor") a d)
-
--- the limits of a key in an actor's table, by its kind
-unfoldable pub actor_limits : List ℕ → List ℕ → Data → Option (List ℕ)
-actor_limits kinds key d = option_and_then (λ kind. limits_of kinds kind key) (text_at (codes "kind") d)
-
-abbrev pub actor_key_is : List ℕ → ℕ → List ℕ → Data → List ℕ
-actor_key_is kinds a key d = actor_is a d ++ key_line key (get key d) (actor_limits kinds key d)
-
--- actor a, and what stands at a key of its table
-unfoldable pub actor_key : List ℕ → ℕ → List ℕ → Data → List ℕ
-actor_key kinds a key d = lines_of (actor_key_is kinds a key) (entry (codes "actor") a d)
-
--- ---- a link
-
-abbrev pub link_is : ℕ → List ℕ → Data → List ℕ
-link_is c key d = link_line c (text_at (codes "from") d) (text_at (codes "to") d) ++ key_line key (get key d) None
-
--- link c, and what stands at a key of its table
-unfoldable pub link_key : ℕ → List ℕ → Data → List ℕ
-link_key c key d = lines_of (link_is c key) (entry (codes "link") c d)
+use Rattle.sdf_why.specs.Limits.{row_of}
+use Rattle.sdf_why.specs.Words.{end, key_line}
+use Rattle.sdf_why.specs.Tables.{root, text_at, entry, actor_text, first_saying}
+use Rattle.sdf_why.specs.Actors.{lines_of, actor_told, actor_key, first_told}
+use Rattle.sdf_why.specs.Links.{link_key}
 
 -- ---- a coefficient file
 
 -- the actor that names it
-unfoldable pub file_user : List ℕ → Data → List ℕ
-file_user name d = lines_of (actor_told d) (first_saying (codes "file") name d MOST_ACTORS)
+abbrev pub file_user : List ℕ → Data → List ℕ
+file_user name d = first_told (codes "file") name d
 
 unfoldable pub file_key : List ℕ → List ℕ → Option (List ℕ) → Files → List ℕ
 file_key name key limits files =
@@ -62,7 +30,7 @@ file_key name key limits files =
 abbrev pub place_key : List ℕ → Place → List ℕ → Data → Files → List ℕ
 place_key kinds top key d files = key_line key (get key d) None
 place_key kinds (actor a) key d files = actor_key kinds a key d
-place_key kinds (link c) key d files = link_key c key d
+place_key kinds (link c) key d files = link_key c key None d
 place_key kinds (file name) key d files = file_user name d ++ file_key name key None files
 
 -- what the key `format` wants
@@ -76,15 +44,15 @@ place_format place d files = key_line (codes "format") (get (codes "format") d) 
 abbrev pub listed_at : List ℕ → Data → List ℕ
 listed_at key d = if is_some (get key d) then codes "  file stands beside " ++ key ++ end else []
 
-abbrev pub beside_is : List ℕ → Data → List ℕ
+unfoldable pub beside_is : List ℕ → Data → List ℕ
 beside_is key d =
     if bytes_eq key (codes "file") then listed_at (codes "taps") d ++ listed_at (codes "values") d else []
 
 -- what the table of kinds says of an actor's kind
-abbrev pub row_is : List ℕ → List ℕ → List ℕ
+unfoldable pub row_is : List ℕ → List ℕ → List ℕ
 row_is kinds kind = lines_of (λ row. codes "  " ++ kind ++ codes ":" ++ row ++ end) (row_of kinds kind)
 
-abbrev pub keys_are : List ℕ → List ℕ → Data → List ℕ
+unfoldable pub keys_are : List ℕ → List ℕ → Data → List ℕ
 keys_are kinds key d = beside_is key d ++ lines_of (row_is kinds) (text_at (codes "kind") d)
 
 -- the keys that an actor may have
@@ -98,7 +66,7 @@ same_name a d name = lines_of (actor_told d) (first_saying (codes "name") name d
 
 unfoldable pub twice : ℕ → Data → List ℕ
 twice a d = actor_told d a
-    ++ lines_of (same_name a d) (option_and_then (text_at (codes "name")) (entry (codes "actor") a d))
+    ++ lines_of (same_name a d) (actor_text (codes "name") d a)
 
 -- so many tables
 abbrev pub up_to : ℕ → ℕ → List ℕ
@@ -119,7 +87,7 @@ told kinds (wrong_type place key) d files = place_key kinds place key d files
 told kinds (bad_name place key) d files = place_key kinds place key d files
 told kinds (name_twice a) d files = twice a d
 told kinds (unknown_kind a) d files = actor_told d a ++ key_line (codes "format") (get (codes "format") d) None
-told kinds (bad_port c key) d files = link_key c key d
+told kinds (bad_port c key) d files = link_key c key None d
 told kinds (no_file name) d files = file_user name d
 
 -- what is told of the bytes of a graph file

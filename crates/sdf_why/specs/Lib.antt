@@ -1,4 +1,6 @@
 pub mod Limits
 pub mod Words
 pub mod Tables
+pub mod Actors
+pub mod Links
 pub mod Documents

@@ -4,6 +4,7 @@ use Rattle.std.specs.Prelude.{slice_index, if◌then◌else◌}
 use Rattle.std.specs.Fmt.{signed_decimal}
 use Rattle.toml.specs.Data.{Data, Items, no_items, item, as_str, as_integer, as_array, type_name}
 use Rattle.sdf_words.specs.Printable.{printable_text}
+use Rattle.sdf_why.specs.Limits.{has}
 
 -- a line feed
 abbrev pub end : List ℕ
@@ -42,10 +43,10 @@ abbrev pub kind_text : Option (List ℕ) → List ℕ
 kind_text None = codes "of no kind"
 kind_text (Some s) = article s ++ printable_text s
 
--- an end of a link as the file writes it
+-- an end of a link as the file writes it, with port 0 where it has no port
 abbrev pub end_text : Option (List ℕ) → List ℕ
 end_text None = codes "?"
-end_text (Some s) = printable_text s
+end_text (Some s) = printable_text s ++ (if has 58 s then [] else codes ":0")
 
 -- what an actor is, by its name and its kind
 unfoldable pub actor_line : ℕ → Option (List ℕ) → Option (List ℕ) → List ℕ

@@ -4,116 +4,18 @@ ghost use Rattle.std.specs.Prelude.{◌≡◌, ◌++◌, IfOk, OnOk, option_map,
 ghost use Rattle.toml.specs.View.{view};
 ghost use Rattle.sdf_document.specs.Fault.{place_view, fault_view};
 ghost use Rattle.sdf_document.specs.Lists.{files_view, file_named};
-ghost use Rattle.sdf_why.specs.Documents.{actor_is, actor_told, actor_limits, actor_key, link_key, file_user, file_key};
-ghost use Rattle.sdf_why.specs.Documents.{place_key, place_format, beside_is, listed_at, row_is, keys_are, known_keys};
-ghost use Rattle.sdf_why.specs.Documents.{same_name, twice, counted, told, document_text};
+ghost use Rattle.sdf_why.specs.Documents.{file_key, place_key, place_format, beside_is, listed_at, row_is, keys_are};
+ghost use Rattle.sdf_why.specs.Documents.{known_keys, same_name, twice, counted, told, document_text};
 
-use crate::limits::{limits_of, row_of};
-use crate::tables::{entry, first_saying, root, text_at, value_at};
-use crate::words::{push_actor, push_key, push_link};
+use crate::actors::{push_actor_key, push_actor_of, push_first};
+use crate::limits::row_of;
+use crate::links::push_link_key;
+use crate::tables::{Source, actor_text, entry, first_saying, root, text_at, value_at};
+use crate::words::push_key;
 use sdf_document::{DocumentFault, Place, kinds_text};
 use sdf_limits::{MOST_ACTORS, MOST_LINKS};
 use std::alloc::{AllocError, Global};
 use toml::Value;
-
-/// What is told of, and what it is told by: the graph file, its coefficient files and the table of kinds.
-#[derive(Clone, Copy)]
-struct Source<'a> {
-    graph: &'a Value,
-    files: &'a [(String, Vec<u8>)],
-    kinds: &'a str,
-}
-
-/// Adds an actor, by the name and the kind in its table.
-fn push_actor_table(
-    alloc: Global,
-    text: &mut String,
-    number: usize,
-    actor: &Value,
-) -> Result<(), AllocError>
-    ensures { OnOk result (string_bytes text.new ≡ string_bytes text.old ++ actor_is number (view actor.now)) }
-{
-    push_actor(alloc, text, number, text_at(actor, "name"), text_at(actor, "kind"))
-}
-
-/// Adds the actor of a number.
-#[tactic(auto, unfolding(crate::specs::Documents::actor_told))]
-fn push_actor_of(
-    alloc: Global,
-    text: &mut String,
-    graph: &Value,
-    number: usize,
-) -> Result<(), AllocError>
-    ensures { OnOk result (string_bytes text.new ≡ string_bytes text.old ++ actor_told (view graph.now) number) }
-{
-    match entry(graph, "actor", number) {
-        Some(actor) => push_actor_table(alloc, text, number, actor),
-        None => Ok(()),
-    }
-}
-
-/// The limits of a key in an actor's table, by its kind.
-#[tactic(auto, unfolding(crate::specs::Documents::actor_limits))]
-fn actor_limits<'a>(kinds: &'a str, key: &str, actor: &Value) -> Option<&'a str>
-    ensures { option_map (λ s. s.now) result ≡ actor_limits kinds.now key.now (view actor.now) }
-{
-    limits_of(kinds, text_at(actor, "kind")?, key)
-}
-
-/// Adds an actor, and what stands at a key of its table.
-#[tactic(auto, unfolding(crate::specs::Documents::actor_key))]
-fn push_actor_key(
-    alloc: Global,
-    text: &mut String,
-    source: Source<'_>,
-    number: usize,
-    key: &str,
-) -> Result<(), AllocError>
-    ensures { OnOk result (string_bytes text.new ≡ string_bytes text.old
-        ++ actor_key source.kinds.now number key.now (view source.graph.now)) }
-{
-    let Some(actor) = entry(source.graph, "actor", number) else {
-        return Ok(());
-    };
-    push_actor_table(alloc, text, number, actor)?;
-    let limits = actor_limits(source.kinds, key, actor);
-    push_key(alloc, text, key, value_at(actor, key), limits)
-}
-
-/// Adds a link, and what stands at a key of its table.
-#[tactic(auto, unfolding(crate::specs::Documents::link_key))]
-fn push_link_key(
-    alloc: Global,
-    text: &mut String,
-    graph: &Value,
-    number: usize,
-    key: &str,
-) -> Result<(), AllocError>
-    ensures { OnOk result (string_bytes text.new ≡ string_bytes text.old
-        ++ link_key number key.now (view graph.now)) }
-{
-    let Some(link) = entry(graph, "link", number) else {
-        return Ok(());
-    };
-    push_link(alloc, text, number, text_at(link, "from"), text_at(link, "to"))?;
-    push_key(alloc, text, key, value_at(link, key), None)
-}
-
-/// Adds the actor that names a coefficient file.
-#[tactic(auto, unfolding(crate::specs::Documents::file_user))]
-fn push_file_user(
-    alloc: Global,
-    text: &mut String,
-    graph: &Value,
-    name: &str,
-) -> Result<(), AllocError>
-    ensures { OnOk result (string_bytes text.new ≡ string_bytes text.old ++ file_user name.now (view graph.now)) }
-{
-    match first_saying(graph, "file", name, MOST_ACTORS) {
-        Some(actor) => push_actor_of(alloc, text, graph, actor),
-        None => Ok(()),
-    }
-}
 
 /// The bytes of the first file of a name.
 fn file_named<'a>(name: &str, files: &'a [(String, Vec<u8>)]) -> Option<&'a [u8]>
@@ -138,7 +40,7 @@ fn push_file_key(
     limits: Option<&str>,
 ) -> Result<(), AllocError>
     ensures { OnOk result (string_bytes text.new ≡ string_bytes text.old
-        ++ file_key name.now key.now (option_map (λ s. s.now) limits) (files_view files.now)) }
+        ++ file_key name.now key.now (option_map (λ s. s.now) limits.entry) (files_view files.now)) }
 {
     let Some(bytes) = file_named(name, files) else {
         return Ok(());
@@ -157,15 +59,15 @@ fn push_place(
     place: &Place,
     key: &str,
 ) -> Result<(), AllocError>
-    ensures { OnOk result (string_bytes text.new ≡ string_bytes text.old ++ place_key source.kinds.now
-        (place_view place.now) key.now (view source.graph.now) (files_view source.files.now)) }
+    ensures { OnOk result (string_bytes text.new ≡ string_bytes text.old ++ place_key source.entry.kinds.now
+        (place_view place.now) key.now (view source.entry.graph.now) (files_view source.entry.files.now)) }
 {
     match place {
         Place::Top => push_key(alloc, text, key, value_at(source.graph, key), None),
         Place::Actor(number) => push_actor_key(alloc, text, source, *number, key),
-        Place::Link(number) => push_link_key(alloc, text, source.graph, *number, key),
+        Place::Link(number) => push_link_key(alloc, text, source.graph, *number, key, None),
         Place::File(name) => {
-            push_file_user(alloc, text, source.graph, name.as_str())?;
+            push_first(alloc, text, source.graph, "file", name.as_str())?;
             push_file_key(alloc, text, source.files, name.as_str(), key, None)
         }
     }
@@ -179,12 +81,19 @@ fn push_format(
     place: &Place,
 ) -> Result<(), AllocError>
     ensures { OnOk result (string_bytes text.new ≡ string_bytes text.old ++ place_format
-        (place_view place.now) (view source.graph.now) (files_view source.files.now)) }
+        (place_view place.now) (view source.entry.graph.now) (files_view source.entry.files.now)) }
 {
     match place {
         Place::File(name) => {
-            push_file_user(alloc, text, source.graph, name.as_str())?;
-            push_file_key(alloc, text, source.files, name.as_str(), "format", Some("1"))
+            push_first(alloc, text, source.graph, "file", name.as_str())?;
+            push_file_key(
+                alloc,
+                text,
+                source.files,
+                name.as_str(),
+                "format",
+                Some("1"),
+            )
         }
         _ => {
             let format = value_at(source.graph, "format");
@@ -203,6 +112,7 @@ fn push_listed(text: &mut String, key: &str, actor: &Value) -> Result<(), AllocE
     writeln!(text, "  file stands beside {key}")
 }
 
+#[tactic(auto, unfolding(crate::specs::Documents::beside_is))]
 fn push_beside(text: &mut String, key: &str, actor: &Value) -> Result<(), AllocError>
     ensures { OnOk result (string_bytes text.new ≡ string_bytes text.old ++ beside_is key.now (view actor.now)) }
 {
@@ -214,6 +124,7 @@ fn push_beside(text: &mut String, key: &str, actor: &Value) -> Result<(), AllocE
 }
 
 /// Adds what the table of kinds says of a kind.
+#[tactic(auto, unfolding(crate::specs::Documents::row_is))]
 fn push_row(text: &mut String, kinds: &str, kind: &str) -> Result<(), AllocError>
     ensures { OnOk result (string_bytes text.new ≡ string_bytes text.old ++ row_is kinds.now kind.now) }
 {
@@ -223,6 +134,7 @@ fn push_row(text: &mut String, kinds: &str, kind: &str) -> Result<(), AllocError
     }
 }
 
+#[tactic(auto, unfolding(crate::specs::Documents::keys_are))]
 fn push_keys(text: &mut String, kinds: &str, key: &str, actor: &Value) -> Result<(), AllocError>
     ensures { OnOk result (string_bytes text.new ≡ string_bytes text.old
         ++ keys_are kinds.now key.now (view actor.now)) }
@@ -243,7 +155,7 @@ fn push_known(
     key: &str,
 ) -> Result<(), AllocError>
     ensures { OnOk result (string_bytes text.new ≡ string_bytes text.old
-        ++ known_keys source.kinds.now (place_view place.now) key.now (view source.graph.now)) }
+        ++ known_keys source.entry.kinds.now (place_view place.now) key.now (view source.entry.graph.now)) }
 {
     let Place::Actor(number) = place else {
         return Ok(());
@@ -282,17 +194,14 @@ fn push_twice(
     ensures { OnOk result (string_bytes text.new ≡ string_bytes text.old ++ twice number (view graph.now)) }
 {
     push_actor_of(alloc, text, graph, number)?;
-    let Some(actor) = entry(graph, "actor", number) else {
-        return Ok(());
-    };
-    match text_at(actor, "name") {
+    match actor_text(graph, "name", number) {
         Some(name) => push_same_name(alloc, text, graph, number, name),
         None => Ok(()),
     }
 }
 
 /// Adds how many tables an array has, and how many it wants.
-fn push_counted(
+pub(crate) fn push_counted(
     alloc: Global,
     text: &mut String,
     graph: &Value,
@@ -304,7 +213,13 @@ fn push_counted(
         ++ counted key.now least most (view graph.now)) }
 {
     let limits = format!(in alloc; "{least}..{most}")?;
-    push_key(alloc, text, key, value_at(graph, key), Some(limits.as_str()))
+    push_key(
+        alloc,
+        text,
+        key,
+        value_at(graph, key),
+        Some(limits.as_str()),
+    )
 }
 
 /// Adds the lines of a fault.
@@ -315,7 +230,7 @@ fn push_told(
     fault: &DocumentFault,
 ) -> Result<(), AllocError>
     ensures { OnOk result (string_bytes text.new ≡ string_bytes text.old
-        ++ told source.kinds.now (fault_view fault.now) (view source.graph.now) (files_view source.files.now)) }
+        ++ told source.entry.kinds.now (fault_view fault.now) (view source.entry.graph.now) (files_view source.entry.files.now)) }
 {
     let graph = source.graph;
     match fault {
@@ -336,8 +251,10 @@ fn push_told(
             push_actor_of(alloc, text, graph, *number)?;
             push_key(alloc, text, "format", value_at(graph, "format"), None)
         }
-        DocumentFault::BadPort(number, key) => push_link_key(alloc, text, graph, *number, key),
-        DocumentFault::NoFile(name) => push_file_user(alloc, text, graph, name.as_str()),
+        DocumentFault::BadPort(number, key) => {
+            push_link_key(alloc, text, graph, *number, key, None)
+        }
+        DocumentFault::NoFile(name) => push_first(alloc, text, graph, "file", name.as_str()),
     }
 }
 

@@ -4,8 +4,10 @@
 //! of kinds.
 #![tactic(auto)]
 
+mod actors;
 mod document;
 mod limits;
+mod links;
 mod marks;
 mod tables;
 mod words;

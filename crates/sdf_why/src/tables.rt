@@ -3,10 +3,18 @@
 ghost use Rattle.std.specs.Prelude.{◌≡◌, IfOk, option_map};
 ghost use Rattle.toml.specs.View.{view};
 ghost use Rattle.toml.specs.Data.{get};
-ghost use Rattle.sdf_why.specs.Tables.{root, text_at, entry, is_text, says, first_saying};
+ghost use Rattle.sdf_why.specs.Tables.{root, text_at, entry, actor_text, says, first_saying};
 
 use std::alloc::{AllocError, Global};
 use toml::Value;
+
+/// What is told of, and what it is told by: the graph file, its coefficient files and the table of kinds.
+#[derive(Clone, Copy)]
+pub(crate) struct Source<'a> {
+    pub(crate) graph: &'a Value,
+    pub(crate) files: &'a [(String, Vec<u8>)],
+    pub(crate) kinds: &'a str,
+}
 
 /// The document that the bytes are.
 #[tactic(auto, using(crate::proofs::Roots::root_found, crate::proofs::Roots::root_missing))]
@@ -44,7 +52,10 @@ pub(crate) fn entry<'a>(value: &'a Value, array: &str, number: usize) -> Option<
 }
 
 /// The text at a key of an actor.
-fn actor_text<'a>(value: &'a Value, key: &str, actor: usize) -> Option<&'a str> {
+#[tactic(auto, unfolding(crate::specs::Tables::actor_text))]
+pub(crate) fn actor_text<'a>(value: &'a Value, key: &str, actor: usize) -> Option<&'a str>
+    ensures { option_map (λ s. s.now) result ≡ actor_text key.now (view value.now) actor }
+{
     text_at(entry(value, "actor", actor)?, key)
 }
 

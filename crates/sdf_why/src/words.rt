@@ -6,6 +6,7 @@ ghost use Rattle.sdf_why.specs.Words.{quoted, value_text, article, name_text, ki
 ghost use Rattle.sdf_why.specs.Words.{limits_text, key_line, is_vowel};
 ghost use Rattle.sdf_words.specs.Printable.{printable_text};
 
+use crate::marks::has;
 use sdf_words::printable::printable;
 use std::alloc::{AllocError, Global};
 use toml::Value;
@@ -64,7 +65,7 @@ fn article(word: &str) -> &'static str
 
 fn push_name(alloc: Global, text: &mut String, name: Option<&str>) -> Result<(), AllocError>
     ensures { OnOk result (string_bytes text.new ≡
-        string_bytes text.old ++ name_text (option_map (λ s. s.now) name)) }
+        string_bytes text.old ++ name_text (option_map (λ s. s.now) name.entry)) }
 {
     match name {
         Some(name) => push_quoted(alloc, text, name),
@@ -74,7 +75,7 @@ fn push_name(alloc: Global, text: &mut String, name: Option<&str>) -> Result<(),
 
 fn push_kind(alloc: Global, text: &mut String, kind: Option<&str>) -> Result<(), AllocError>
     ensures { OnOk result (string_bytes text.new ≡
-        string_bytes text.old ++ kind_text (option_map (λ s. s.now) kind)) }
+        string_bytes text.old ++ kind_text (option_map (λ s. s.now) kind.entry)) }
 {
     match kind {
         Some(kind) => {
@@ -86,10 +87,13 @@ fn push_kind(alloc: Global, text: &mut String, kind: Option<&str>) -> Result<(),
 }
 
 fn push_end(alloc: Global, text: &mut String, end: Option<&str>) -> Result<(), AllocError>
-    ensures { OnOk result (string_bytes text.new ≡ string_bytes text.old ++ end_text (option_map (λ s. s.now) end)) }
+    ensures { OnOk result (string_bytes text.new ≡ string_bytes text.old ++ end_text (option_map (λ s. s.now) end.entry)) }
 {
     match end {
-        Some(end) => push_printable(alloc, text, end),
+        Some(end) => {
+            push_printable(alloc, text, end)?;
+            Ok(text.push_str(if has(end, ':') { "" } else { ":0" })?)
+        }
         None => Ok(text.push_str("?")?),
     }
 }
@@ -104,7 +108,7 @@ pub(crate) fn push_actor(
     kind: Option<&str>,
 ) -> Result<(), AllocError>
     ensures { OnOk result (string_bytes text.new ≡ string_bytes text.old
-        ++ actor_line number (option_map (λ s. s.now) name) (option_map (λ s. s.now) kind)) }
+        ++ actor_line number (option_map (λ s. s.now) name.entry) (option_map (λ s. s.now) kind.entry)) }
 {
     write!(text, "  actor {number} is ")?;
     push_name(alloc, text, name)?;
@@ -123,7 +127,7 @@ pub(crate) fn push_link(
     to: Option<&str>,
 ) -> Result<(), AllocError>
     ensures { OnOk result (string_bytes text.new ≡ string_bytes text.old
-        ++ link_line number (option_map (λ s. s.now) from) (option_map (λ s. s.now) to)) }
+        ++ link_line number (option_map (λ s. s.now) from.entry) (option_map (λ s. s.now) to.entry)) }
 {
     write!(text, "  link {number} is ")?;
     push_end(alloc, text, from)?;
@@ -134,7 +138,7 @@ pub(crate) fn push_link(
 
 fn push_limits(text: &mut String, limits: Option<&str>) -> Result<(), AllocError>
     ensures { OnOk result (string_bytes text.new ≡
-        string_bytes text.old ++ limits_text (option_map (λ s. s.now) limits)) }
+        string_bytes text.old ++ limits_text (option_map (λ s. s.now) limits.entry)) }
 {
     match limits {
         Some(limits) => write!(text, ", wants {limits}"),
@@ -152,7 +156,7 @@ pub(crate) fn push_key(
     limits: Option<&str>,
 ) -> Result<(), AllocError>
     ensures { OnOk result (string_bytes text.new ≡ string_bytes text.old
-        ++ key_line key.now (option_map (λ v. view v.now) value) (option_map (λ s. s.now) limits)) }
+        ++ key_line key.now (option_map (λ v. view v.now) value.entry) (option_map (λ s. s.now) limits.entry)) }
 {
     if value.is_none() && limits.is_none() {
         return Ok(());

@@ -75,7 +75,7 @@ static ROWS: [Row; 14] = [
     Row {
         graph: "format = 1\nactor = [{ name = \"a\", kind = \"fork\", ways = 2 }]\nlink = [{ from = \"a\", to = \"a:16\" }]\n",
         fault: "57 BadPort link 0 key to",
-        told: "  link 0 is a -> a:16\n  to = \"a:16\"\n",
+        told: "  link 0 is a:0 -> a:16\n  to = \"a:16\"\n",
     },
     Row {
         graph: "format = 3\n",
