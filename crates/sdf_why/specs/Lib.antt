@@ -4,3 +4,4 @@ pub mod Tables
 pub mod Actors
 pub mod Links
 pub mod Documents
+pub mod Nets

@@ -9,6 +9,7 @@ mod document;
 mod limits;
 mod links;
 mod marks;
+mod net;
 mod tables;
 mod words;
 

@@ -61,7 +61,7 @@ pub(crate) fn actor_text<'a>(value: &'a Value, key: &str, actor: usize) -> Optio
 
 /// Whether an actor has this text at a key.
 #[tactic(auto, unfolding(crate::specs::Tables::says))]
-fn says(value: &Value, key: &str, text: &str, actor: usize) -> bool
+pub(crate) fn says(value: &Value, key: &str, text: &str, actor: usize) -> bool
     ensures { result ≡ says key.now text.now (view value.now) actor }
 {
     match actor_text(value, key, actor) {
