@@ -5,3 +5,4 @@ pub mod Actors
 pub mod Links
 pub mod Documents
 pub mod Nets
+pub mod Cycles

@@ -54,9 +54,17 @@ actor_line number name kind =
     codes "  actor " ++ decimal number ++ codes " is " ++ name_text name ++ codes ", " ++ kind_text kind ++ end
 
 -- what a link is, by its two ends
-unfoldable pub link_line : ℕ → Option (List ℕ) → Option (List ℕ) → List ℕ
-link_line number from to =
-    codes "  link " ++ decimal number ++ codes " is " ++ end_text from ++ codes " -> " ++ end_text to ++ end
+unfoldable pub link_words : ℕ → Option (List ℕ) → Option (List ℕ) → List ℕ
+link_words number from to =
+    codes "  link " ++ decimal number ++ codes " is " ++ end_text from ++ codes " -> " ++ end_text to
+
+abbrev pub link_line : ℕ → Option (List ℕ) → Option (List ℕ) → List ℕ
+link_line number from to = link_words number from to ++ end
+
+-- and that it holds so many samples where its target takes so many
+abbrev pub lack_line : ℕ → Option (List ℕ) → Option (List ℕ) → ℕ → ℕ → List ℕ
+lack_line number from to holds wants =
+    link_words number from to ++ codes ", holds " ++ decimal holds ++ codes ", wants " ++ decimal wants ++ end
 
 abbrev pub limits_text : Option (List ℕ) → List ℕ
 limits_text None = []

@@ -2,8 +2,8 @@
 
 ghost use Rattle.std.specs.Prelude.{◌≡◌, ◌++◌, OnOk, option_map, string_bytes};
 ghost use Rattle.toml.specs.View.{view};
-ghost use Rattle.sdf_why.specs.Words.{quoted, value_text, article, name_text, kind_text, end_text, actor_line, link_line};
-ghost use Rattle.sdf_why.specs.Words.{limits_text, key_line, is_vowel};
+ghost use Rattle.sdf_why.specs.Words.{quoted, value_text, article, name_text, kind_text, end_text, actor_line, link_words};
+ghost use Rattle.sdf_why.specs.Words.{link_line, lack_line, limits_text, key_line, is_vowel};
 ghost use Rattle.sdf_words.specs.Printable.{printable_text};
 
 use crate::marks::has;
@@ -117,8 +117,25 @@ pub(crate) fn push_actor(
     Ok(text.push_str("\n")?)
 }
 
+/// Adds what a link is.
+#[tactic(auto, unfolding(crate::specs::Words::link_words))]
+fn push_link_words(
+    alloc: Global,
+    text: &mut String,
+    number: usize,
+    from: Option<&str>,
+    to: Option<&str>,
+) -> Result<(), AllocError>
+    ensures { OnOk result (string_bytes text.new ≡ string_bytes text.old
+        ++ link_words number (option_map (λ s. s.now) from.entry) (option_map (λ s. s.now) to.entry)) }
+{
+    write!(text, "  link {number} is ")?;
+    push_end(alloc, text, from)?;
+    text.push_str(" -> ")?;
+    push_end(alloc, text, to)
+}
+
 /// Adds the line of a link.
-#[tactic(auto, unfolding(crate::specs::Words::link_line))]
 pub(crate) fn push_link(
     alloc: Global,
     text: &mut String,
@@ -129,11 +146,33 @@ pub(crate) fn push_link(
     ensures { OnOk result (string_bytes text.new ≡ string_bytes text.old
         ++ link_line number (option_map (λ s. s.now) from.entry) (option_map (λ s. s.now) to.entry)) }
 {
-    write!(text, "  link {number} is ")?;
-    push_end(alloc, text, from)?;
-    text.push_str(" -> ")?;
-    push_end(alloc, text, to)?;
+    push_link_words(alloc, text, number, from, to)?;
     Ok(text.push_str("\n")?)
+}
+
+/// How many samples a link holds, and how many its target takes.
+#[derive(Clone, Copy)]
+pub(crate) struct Lack {
+    pub(crate) holds: u64,
+    pub(crate) wants: u32,
+}
+
+/// Adds the line of a link that holds too little.
+pub(crate) fn push_lack(
+    alloc: Global,
+    text: &mut String,
+    number: usize,
+    from: Option<&str>,
+    to: Option<&str>,
+    lack: Lack,
+) -> Result<(), AllocError>
+    ensures { OnOk result (string_bytes text.new ≡ string_bytes text.old ++ lack_line number
+        (option_map (λ s. s.now) from.entry) (option_map (λ s. s.now) to.entry) lack.holds lack.wants) }
+{
+    push_link_words(alloc, text, number, from, to)?;
+    let Lack { holds, wants } = lack;
+    writeln!(text, ", holds {holds}, wants {wants}")?;
+    Ok(())
 }
 
 fn push_limits(text: &mut String, limits: Option<&str>) -> Result<(), AllocError>
