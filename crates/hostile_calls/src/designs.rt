@@ -5,10 +5,10 @@ use crate::files::Sources;
 use anyhow::Result;
 use indexmap::IndexSet;
 use sdf_file::{Design, FileFault, check_text, design_files, read_design};
+use sdf_options::Options;
 use sdf_prec::Table;
 use sdf_process::planning::plan;
 use sdf_process::{Fault, Plan};
-use sdf_words::Options;
 
 fn show_names(rt: &impl Print, answer: Result<IndexSet<String>, FileFault>) -> Result<()> {
     match answer {

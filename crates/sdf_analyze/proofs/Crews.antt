@@ -3,11 +3,11 @@ use Rattle.std.proofs.Common.{ℕ, [], ◌∷◌, arith}
 use Rattle.std.specs.Prelude.{nat_le}
 use Rattle.std.specs.List.{All}
 use Rattle.std.proofs.lemmas.List.Elements.{All-nil, All-cons, All-append, All-map, All-weaker, All-filter}
-use Rattle.sdf_words.specs.declared.options.Options.{Options}
-use Rattle.sdf_words.specs.declared.options.Policy.{Policy}
-use Rattle.sdf_words.specs.declared.options.Policy.TheVariants.{Round, Lean, Runs}
-use Rattle.sdf_words.specs.declared.options.Placement.{Placement}
-use Rattle.sdf_words.specs.declared.options.Placement.TheVariants.{Hu, Homed, File}
+use Rattle.sdf_options.specs.declared.options.Options.{Options}
+use Rattle.sdf_options.specs.declared.options.Policy.{Policy}
+use Rattle.sdf_options.specs.declared.options.Policy.TheVariants.{Round, Lean, Runs}
+use Rattle.sdf_options.specs.declared.options.Placement.{Placement}
+use Rattle.sdf_options.specs.declared.options.Placement.TheVariants.{Hu, Homed, File}
 use Rattle.sdf_process.specs.Plans.{IsWorkers, AreSizes}
 use Rattle.sdf_analyze.specs.Ways.{way, crews, ways_placed, ways_by, ways}
 

@@ -2,7 +2,7 @@
 use Rattle.std.proofs.Common.{◌≡◌, refl}
 use Rattle.sdf_prec.specs.declared.fault.PrecFault.{PrecFault}
 use Rattle.sdf_file.specs.Designs.{DesignValue}
-use Rattle.sdf_words.specs.declared.options.Options.{Options}
+use Rattle.sdf_options.specs.declared.options.Options.{Options}
 use Rattle.sdf_process.specs.declared.fault.Fault.{Fault}
 use Rattle.sdf_process.specs.declared.fault.Fault.TheVariants as fault
 use Rattle.sdf_process.specs.Plans.{AreSizes, IsScheduleFault}

@@ -3,10 +3,10 @@ use Rattle.std.specs.Prelude.{ℕ, ◌-◌, Bool, true, not, nat_lt, List, [], �
 use Rattle.std.specs.Prelude.{codes, decimal}
 use Rattle.std.specs.List.{flat_map, list_all}
 use Rattle.sdf_file.specs.Texts.{end}
-use Rattle.sdf_words.specs.declared.options.Policy.{Policy}
-use Rattle.sdf_words.specs.declared.options.Policy.TheVariants.{Round, Lean, Runs}
-use Rattle.sdf_words.specs.declared.options.Placement.{Placement}
-use Rattle.sdf_words.specs.declared.options.Placement.TheVariants.{Hu, Homed, File}
+use Rattle.sdf_options.specs.declared.options.Policy.{Policy}
+use Rattle.sdf_options.specs.declared.options.Policy.TheVariants.{Round, Lean, Runs}
+use Rattle.sdf_options.specs.declared.options.Placement.{Placement}
+use Rattle.sdf_options.specs.declared.options.Placement.TheVariants.{Hu, Homed, File}
 use Rattle.sdf_analyze.specs.declared.columns.Column.{Column}
 use Rattle.sdf_analyze.specs.declared.columns.Column.TheVariants.{Makespan, Speedup, Rows, Samples}
 use Rattle.sdf_analyze.specs.declared.columns.Measures.{Measures}

@@ -1,11 +1,11 @@
 -- The schedules that are compared: by each policy and placement, for 1, 2, 4, .. workers.
 use Rattle.std.specs.Prelude.{ℕ, List, [], ◌∷◌, ◌++◌, map, nat_le}
 use Rattle.std.specs.List.{filter}
-use Rattle.sdf_words.specs.declared.options.Options.{Options}
-use Rattle.sdf_words.specs.declared.options.Policy.{Policy}
-use Rattle.sdf_words.specs.declared.options.Policy.TheVariants.{Round, Lean, Runs}
-use Rattle.sdf_words.specs.declared.options.Placement.{Placement}
-use Rattle.sdf_words.specs.declared.options.Placement.TheVariants.{Hu, Homed, File}
+use Rattle.sdf_options.specs.declared.options.Options.{Options}
+use Rattle.sdf_options.specs.declared.options.Policy.{Policy}
+use Rattle.sdf_options.specs.declared.options.Policy.TheVariants.{Round, Lean, Runs}
+use Rattle.sdf_options.specs.declared.options.Placement.{Placement}
+use Rattle.sdf_options.specs.declared.options.Placement.TheVariants.{Hu, Homed, File}
 
 -- the options with another policy, placement and number of workers
 abbrev pub way : Options → Policy → Placement → ℕ → Options

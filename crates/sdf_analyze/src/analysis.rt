@@ -7,10 +7,10 @@ ghost use Rattle.sdf_analyze.specs.Analyses.{IsFigured, IsAnalysis};
 use crate::figures::Figures;
 use crate::lines::analysis_text;
 use sdf_file::Design;
+use sdf_options::Options;
 use sdf_prec::Table;
 use sdf_process::Fault;
 use sdf_process::schedule::scheduled;
-use sdf_words::Options;
 use std::alloc::Global;
 
 /// The table that options give a design, and its figures.

@@ -7,7 +7,7 @@ ghost use Rattle.sdf_analyze.specs.Columns.{is_best, value_text, places_of, head
 ghost use Rattle.sdf_analyze.specs.Columns.{cells_text, refused_text, entry_line, head_line, comparison_text};
 
 use crate::lines::push_with_point;
-use sdf_words::{Options, Placement, Policy};
+use sdf_options::{Options, Placement, Policy};
 use std::alloc::{AllocError, Global};
 
 /// A column that schedules are compared in.

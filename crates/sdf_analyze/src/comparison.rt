@@ -15,9 +15,9 @@ use crate::figures::Figures;
 use crate::lines::hundredths;
 use crate::ways::ways;
 use sdf_file::Design;
+use sdf_options::Options;
 use sdf_prec::{PrecFault, Table};
 use sdf_process::Fault;
-use sdf_words::Options;
 use std::alloc::Global;
 
 /// What is compared of a table.

@@ -9,10 +9,10 @@ ghost use Rattle.sdf_process.specs.Placements.{rates_of, firings_of};
 ghost use Rattle.sdf_analyze.specs.Figures.{AreFiguresOf};
 
 use sdf_file::Design;
+use sdf_options::Options;
 use sdf_prec::{PrecFault, Table};
 use sdf_sched::Period;
 use sdf_times::{Times, bound, held, span, work};
-use sdf_words::Options;
 use std::alloc::Global;
 use std::marker::Model;
 

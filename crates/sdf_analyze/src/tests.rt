@@ -2,7 +2,7 @@
 
 use crate::{analyze, compare};
 use sdf_file::{Design, read_design};
-use sdf_words::{Options, Placement};
+use sdf_options::{Options, Placement};
 use std::alloc::Global;
 use std::process::Abort;
 use std::test::Fail;

@@ -4,7 +4,7 @@ ghost use Rattle.std.specs.Prelude.{◌≡◌, ◌++◌, IfOk};
 ghost use Rattle.std.specs.List.{All};
 ghost use Rattle.sdf_analyze.specs.Ways.{ways_placed, ways_by, ways};
 
-use sdf_words::{Options, Placement, Policy};
+use sdf_options::{Options, Placement, Policy};
 use std::alloc::{AllocError, Global};
 
 /// Adds those by a policy and a placement, for 1, 2, 4, .. workers.

@@ -13,7 +13,7 @@ use Rattle.sdf_sched.specs.declared.fault.SchedFault.TheVariants.{Deadlock}
 use Rattle.sdf_file.specs.Designs.{DesignValue}
 use Rattle.sdf_graph.specs.Laws.{OneLeastPeriod}
 use Rattle.sdf_sched.specs.Laws.{PeriodOrDeadlock}
-use Rattle.sdf_words.specs.declared.options.Options.{Options}
+use Rattle.sdf_options.specs.declared.options.Options.{Options}
 use Rattle.sdf_process.specs.declared.fault.Fault.{Fault}
 use Rattle.sdf_process.specs.declared.fault.Fault.TheVariants as fault
 use Rattle.sdf_process.specs.Plans.{PlanValue, ArePassed, IsPlanOf, IsPlanFault, IsLive, Decides, IsStuckFault}

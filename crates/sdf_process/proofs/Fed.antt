@@ -26,8 +26,8 @@ use Rattle.sdf_sched.specs.Period.{Schedule}
 use Rattle.sdf_wav.specs.Canonical.{sample_bytes}
 use Rattle.sdf_wav.specs.PiecesOut.{Owed}
 use Rattle.sdf_wav.specs.Sound.{Sound}
-use Rattle.sdf_words.specs.declared.options.Runner.{Runner}
-use Rattle.sdf_words.specs.declared.options.Runner.TheVariants as runners
+use Rattle.sdf_options.specs.declared.options.Runner.{Runner}
+use Rattle.sdf_options.specs.declared.options.Runner.TheVariants as runners
 use Rattle.sdf_process.specs.declared.exchange.Exchange.{Exchange}
 use Rattle.sdf_process.specs.declared.fault.Fault.{Fault}
 use Rattle.sdf_process.specs.declared.fault.Fault.TheVariants.{OutOfMemory}

@@ -6,12 +6,12 @@ use Rattle.sdf_prec.specs.Tables.{Tabled, IsTable}
 use Rattle.sdf_answer.specs.Rows.{IsTableOf}
 use Rattle.sdf_file.specs.Designs.{DesignValue}
 use Rattle.sdf_process.specs.declared.fault.Fault.{Fault}
-use Rattle.sdf_words.specs.declared.options.Options.{Options}
-use Rattle.sdf_words.specs.declared.options.Placement.{Placement}
-use Rattle.sdf_words.specs.declared.options.Placement.TheVariants.{Hu, Homed, File}
-use Rattle.sdf_words.specs.declared.options.Policy.{Policy}
-use Rattle.sdf_words.specs.declared.options.Runner.{Runner}
-use Rattle.sdf_words.specs.declared.options.Runner.TheVariants.{One, Rows, Rings}
+use Rattle.sdf_options.specs.declared.options.Options.{Options}
+use Rattle.sdf_options.specs.declared.options.Placement.{Placement}
+use Rattle.sdf_options.specs.declared.options.Placement.TheVariants.{Hu, Homed, File}
+use Rattle.sdf_options.specs.declared.options.Policy.{Policy}
+use Rattle.sdf_options.specs.declared.options.Runner.{Runner}
+use Rattle.sdf_options.specs.declared.options.Runner.TheVariants.{One, Rows, Rings}
 use Rattle.sdf_process.specs.Placements.{rates_of, firings_of, IsPlaced, IsTableBy}
 use Rattle.sdf_process.specs.Plans.{PlanValue, IsPlanOf, IsPlanFault, IsTableFor, HasPatience, SuitsRunner, Suits}
 

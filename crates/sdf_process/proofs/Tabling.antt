@@ -3,7 +3,7 @@ use Rattle.sdf_actor.specs.Graphs.{graph_of}
 use Rattle.sdf_kit.specs.Kit.{kit_steps}
 use Rattle.sdf_sched.specs.Period.{Schedule}
 use Rattle.sdf_file.specs.Designs.{DesignValue}
-use Rattle.sdf_words.specs.declared.options.Options.{Options}
+use Rattle.sdf_options.specs.declared.options.Options.{Options}
 use Rattle.sdf_process.specs.declared.fault.Fault.{Fault}
 use Rattle.sdf_process.specs.declared.fault.Fault.TheVariants as fault
 use Rattle.sdf_process.specs.Plans.{ArePassed, IsPlanFault, IsScheduleBy, IsTableFault}

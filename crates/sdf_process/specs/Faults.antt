@@ -8,11 +8,11 @@ use Rattle.sdf_answer.specs.declared.fault.RunFault.{RunFault}
 use Rattle.sdf_answer.specs.declared.fault.RunFault.TheVariants as run
 use Rattle.sdf_wav.specs.declared.fault.WavFault.{WavFault}
 use Rattle.sdf_wav.specs.declared.fault.WavFault.TheVariants as wav
-use Rattle.sdf_words.specs.declared.command_line.WordFault.{WordFault}
-use Rattle.sdf_words.specs.declared.command_line.WordFault.TheVariants as words
+use Rattle.sdf_options.specs.declared.fault.WordFault.{WordFault}
+use Rattle.sdf_options.specs.declared.fault.WordFault.TheVariants as words
 use Rattle.sdf_process.specs.declared.fault.Fault.{Fault}
 use Rattle.sdf_process.specs.declared.fault.Fault.TheVariants as fault
-use Rattle.sdf_words.specs.Printable.{printable_text}
+use Rattle.sdf_options.specs.Printable.{printable_text}
 
 abbrev pub of_words : WordFault → Fault
 of_words words.OutOfMemory = fault.OutOfMemory

@@ -12,11 +12,11 @@ use Rattle.sdf_prec.specs.ByHomes.{AreByHomes, AreRunsByHomes, IsHomesFault}
 use Rattle.sdf_prec.specs.HuTables.{IsHuTable}
 use Rattle.sdf_prec.specs.Tables.{Tabled, IsTable}
 use Rattle.sdf_file.specs.Designs.{DesignValue}
-use Rattle.sdf_words.specs.declared.options.Options.{Options}
-use Rattle.sdf_words.specs.declared.options.Placement.{Placement}
-use Rattle.sdf_words.specs.declared.options.Placement.TheVariants.{Hu, Homed, File}
-use Rattle.sdf_words.specs.declared.options.Policy.{Policy}
-use Rattle.sdf_words.specs.declared.options.Policy.TheVariants.{Round, Lean, Runs}
+use Rattle.sdf_options.specs.declared.options.Options.{Options}
+use Rattle.sdf_options.specs.declared.options.Placement.{Placement}
+use Rattle.sdf_options.specs.declared.options.Placement.TheVariants.{Hu, Homed, File}
+use Rattle.sdf_options.specs.declared.options.Policy.{Policy}
+use Rattle.sdf_options.specs.declared.options.Policy.TheVariants.{Round, Lean, Runs}
 
 abbrev pub rates_of : DesignValue → Rates
 rates_of d = rates (graph_of kit_steps d.net)

@@ -25,11 +25,11 @@ use Rattle.sdf_prec.specs.declared.fault.PrecFault.{PrecFault}
 use Rattle.sdf_prec.specs.declared.fault.PrecFault.TheVariants as prec
 use Rattle.sdf_prec.specs.Tables.{Tabled, IsHomed}
 use Rattle.sdf_file.specs.Designs.{DesignValue}
-use Rattle.sdf_words.specs.declared.options.Options.{Options}
-use Rattle.sdf_words.specs.declared.options.Policy.{Policy}
-use Rattle.sdf_words.specs.declared.options.Policy.TheVariants as policies
-use Rattle.sdf_words.specs.declared.options.Runner.{Runner}
-use Rattle.sdf_words.specs.declared.options.Runner.TheVariants.{One, Rows, Rings}
+use Rattle.sdf_options.specs.declared.options.Options.{Options}
+use Rattle.sdf_options.specs.declared.options.Policy.{Policy}
+use Rattle.sdf_options.specs.declared.options.Policy.TheVariants as policies
+use Rattle.sdf_options.specs.declared.options.Runner.{Runner}
+use Rattle.sdf_options.specs.declared.options.Runner.TheVariants.{One, Rows, Rings}
 use Rattle.sdf_process.specs.declared.fault.Progress.{Progress}
 use Rattle.sdf_process.specs.declared.fault.Fault.{Fault}
 use Rattle.sdf_process.specs.declared.fault.Fault.TheVariants.{OutOfMemory, Patience, BlockingFactor, WorkerCount}

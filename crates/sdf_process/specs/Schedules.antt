@@ -6,7 +6,7 @@ use Rattle.sdf_sched.specs.Period.{Schedule}
 use Rattle.sdf_prec.specs.Tables.{Tabled}
 use Rattle.sdf_file.specs.Designs.{DesignValue}
 use Rattle.sdf_file.specs.Schedules.{IsScheduleText}
-use Rattle.sdf_words.specs.declared.options.Options.{Options}
+use Rattle.sdf_options.specs.declared.options.Options.{Options}
 use Rattle.sdf_process.specs.declared.fault.Fault.{Fault}
 use Rattle.sdf_process.specs.declared.fault.Fault.TheVariants.{OutOfMemory, BlockingFactor, WorkerCount, Deadlock}
 use Rattle.sdf_process.specs.declared.fault.Fault.TheVariants.{Table}

@@ -15,8 +15,8 @@ use Rattle.sdf_wav.specs.Device.{AppendsFront, Known, LosesFront, one_more}
 use Rattle.sdf_wav.specs.PiecesIn.{Reading, IsReadTo, sound_read}
 use Rattle.sdf_wav.specs.PiecesOut.{Owed}
 use Rattle.sdf_wav.specs.Sound.{Sound, frames_of}
-use Rattle.sdf_words.specs.declared.options.Runner.{Runner}
-use Rattle.sdf_words.specs.declared.options.Runner.TheVariants as runners
+use Rattle.sdf_options.specs.declared.options.Runner.{Runner}
+use Rattle.sdf_options.specs.declared.options.Runner.TheVariants as runners
 use Rattle.sdf_process.specs.declared.exchange.Exchange.{Exchange}
 use Rattle.sdf_process.specs.declared.fault.Fault.{Fault}
 use Rattle.sdf_process.specs.declared.fault.Fault.TheVariants.{OutOfMemory, Write}

@@ -7,11 +7,11 @@ ghost use Rattle.sdf_process.specs.Statuses.{status_of};
 
 use clap::error::ErrorKind;
 use sdf_file::FileFault;
+use sdf_options::WordFault;
+use sdf_options::printable::printable;
 use sdf_prec::PrecFault;
 use sdf_run::RunFault;
 use sdf_wav::{FormatFault, WavFault};
-use sdf_words::WordFault;
-use sdf_words::printable::printable;
 use std::alloc::{AllocError, AllocFailed, Global};
 use std::fmt;
 use thiserror::Error;

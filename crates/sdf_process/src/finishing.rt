@@ -19,11 +19,11 @@ use crate::playing::put_pieces;
 use crate::putting::put_frames;
 use sdf_actor::Net;
 use sdf_kit::Kit;
+use sdf_options::Runner;
 use sdf_prec::Table;
 use sdf_run::laws::{nets_have_periods, runs_go_on};
 use sdf_run::{Gate, Ran, RunFault, run_rings, run_rows};
 use sdf_wav::{ContentOut, MOST_CHANNELS, Wav, Writer};
-use sdf_words::Runner;
 use std::thread::Threads;
 
 /// A sound that was read whole, and its output as far as it is begun.

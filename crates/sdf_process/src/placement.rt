@@ -5,10 +5,10 @@ ghost use Rattle.sdf_sched.specs.Period.{IsPeriodOf};
 ghost use Rattle.sdf_process.specs.Placements.{rates_of, IsTableBy, IsPlaceFault};
 
 use sdf_file::Design;
+use sdf_options::{Options, Placement, Policy};
 use sdf_prec::hu::hu;
 use sdf_prec::{PrecFault, Table};
 use sdf_sched::Period;
-use sdf_words::{Options, Placement, Policy};
 use std::alloc::Global;
 
 /// The table of a design's period by a placement.

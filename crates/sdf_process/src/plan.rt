@@ -2,9 +2,9 @@
 
 ghost use Rattle.std.specs.Prelude.{◌≡◌, option_map};
 
+use sdf_options::{Options, Runner};
 use sdf_prec::Table;
 use sdf_sched::Period;
-use sdf_words::{Options, Runner};
 use std::marker::Model;
 
 /// How a design is run: the firings of one period, and the table that a runner with workers needs.

@@ -19,11 +19,11 @@ use sdf_file::Design;
 use sdf_graph::laws::{graphs_are_sound, one_least_period};
 use sdf_graph::{Graph, Repetitions};
 use sdf_limits::{MOST_BLOCKING, MOST_PATIENCE, MOST_WORKERS};
+use sdf_options::{Options, Policy, Runner};
 use sdf_prec::Table;
 use sdf_sched::class_s::class_s;
 use sdf_sched::laws::period_or_deadlock;
 use sdf_sched::{Lean, Period, Round, Runs, SchedFault, Stuck};
-use sdf_words::{Options, Policy, Runner};
 use std::alloc::{AllocError, Global};
 
 /// The channel that is told of an actor.

@@ -9,9 +9,9 @@ use crate::fault::Fault;
 use crate::placement::table_by;
 use crate::planning::{period_by, size_fault};
 use sdf_file::{Design, schedule_text};
+use sdf_options::Options;
 use sdf_prec::Table;
 use sdf_sched::Period;
-use sdf_words::Options;
 use std::alloc::Global;
 
 /// One period of a design by the policy of options, and the table of its block by their placement. The tests in order:

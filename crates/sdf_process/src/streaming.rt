@@ -24,12 +24,12 @@ use crate::putting::put_frames;
 use sdf_actor::Net;
 use sdf_actor::laws::nets_are_wired;
 use sdf_kit::Kit;
+use sdf_options::Runner;
 use sdf_prec::Table;
 use sdf_run::laws::{nets_can_run, nets_have_periods, runs_go_on};
 use sdf_run::{Gate, Mode, Session};
 use sdf_wav::laws::{pieces_join, puts_join};
 use sdf_wav::{ContentIn, ContentOut, MOST_CHANNELS, Reader, Wav, Writer};
-use sdf_words::Runner;
 use std::alloc::{AllocError, Global};
 use std::thread::Threads;
 

@@ -1,6 +1,7 @@
 //! The words that the program was started with.
 
-use crate::command_line::{WordFault, mistake};
+use crate::command_line::mistake;
+use sdf_options::WordFault;
 use std::alloc::Global;
 use std::env::{Env, FillError};
 

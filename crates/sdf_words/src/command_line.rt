@@ -2,60 +2,20 @@
 
 ghost use Rattle.std.specs.Prelude.{◌≡◌, ◌≤◌, IfOk, IfErr, IfSome, option_and_then, position, slice_get};
 ghost use Rattle.std.specs.Str.{bytes_eq};
-ghost use Rattle.sdf_words.specs.Limits.{AreWithinLimits, IsWithinLimits, IsUsage};
-ghost use Rattle.sdf_words.specs.declared.command_line.WordFault.TheVariants as fault;
-ghost use Rattle.sdf_words.specs.declared.options.TheConstants.{MOST_FAULT};
+ghost use Rattle.sdf_options.specs.Limits.{AreWithinLimits, IsUsage};
+ghost use Rattle.sdf_words.specs.Limits.{IsWithinLimits};
+ghost use Rattle.sdf_words.specs.declared.asked.TheConstants.{MOST_FAULT};
 
+use crate::asked::{MOST_FAULT, Words};
 use crate::commands::sdfw_command;
 use crate::explain::number_named;
-use crate::options::{
-    MOST_FAULT, Options, PLACEMENT_WORDS, PLACEMENTS, POLICIES, POLICY_WORDS, RUNNER_WORDS,
-    RUNNERS, Words,
-};
 use clap::ArgMatches;
 use clap::error::ErrorKind;
 use sdf_limits::{MOST_BLOCKING, MOST_PATIENCE, MOST_WORKERS};
-use std::alloc::{AllocError, AllocFailed, Global};
-use thiserror::Error;
-
-/// Why a command line was not read.
-#[derive(Debug, Drop, Error)]
-pub enum WordFault {
-    #[error("1 OutOfMemory")]
-    OutOfMemory,
-    /// A mistake in the words, or a request for help or the version, with the text for the user.
-    #[error(transparent)]
-    Usage(clap::Error),
-}
-
-impl From<AllocError> for WordFault {
-    ghost from_gives = { λ _ e. e ≡ fault.OutOfMemory };
-
-    fn from(_error: AllocError) -> WordFault {
-        WordFault::OutOfMemory
-    }
-}
-
-impl<T: Drop> From<AllocFailed<T>> for WordFault {
-    ghost from_gives = { λ _ e. e ≡ fault.OutOfMemory };
-
-    fn from(_error: AllocFailed<T>) -> WordFault {
-        WordFault::OutOfMemory
-    }
-}
-
-impl From<clap::Error> for WordFault {
-    ghost use Rattle.sdf_words.specs.Faults.{of_clap};
-
-    ghost from_gives = { λ error e. e ≡ of_clap error };
-
-    fn from(error: clap::Error) -> WordFault {
-        match error.kind() {
-            ErrorKind::OutOfMemory => WordFault::OutOfMemory,
-            _ => WordFault::Usage(error),
-        }
-    }
-}
+use sdf_options::{
+    Options, PLACEMENT_WORDS, PLACEMENTS, POLICIES, POLICY_WORDS, RUNNER_WORDS, RUNNERS, WordFault,
+};
+use std::alloc::{AllocError, Global};
 
 // The option's parser keeps its number within these limits, so none is lost here.
 fn number_of(matches: &ArgMatches<'_>, id: &str, least: u32, most: u32) -> Option<u32>
@@ -116,6 +76,17 @@ fn schedule_of<'a>(matches: &ArgMatches<'a>) -> Option<Words<'a>>
     })
 }
 
+/// What `analyze` is asked for.
+fn analyze_of<'a>(matches: &ArgMatches<'a>) -> Option<Words<'a>>
+    ensures { IfSome result IsWithinLimits }
+{
+    Some(Words::Analyze {
+        graph: matches.get_str("GRAPH")?,
+        options: plan_options_of(matches)?,
+        compare: matches.get_flag("compare"),
+    })
+}
+
 /// What `run` is asked for.
 fn run_of<'a>(matches: &ArgMatches<'a>) -> Option<Words<'a>>
     ensures { IfSome result IsWithinLimits }
@@ -137,6 +108,7 @@ fn asked<'a>(name: &str, matches: &ArgMatches<'a>) -> Option<Words<'a>>
             graph: matches.get_str("GRAPH")?,
         }),
         "schedule" => schedule_of(matches),
+        "analyze" => analyze_of(matches),
         "run" => run_of(matches),
         "kinds" => Some(Words::Kinds),
         "explain" => Some(Words::Explain {

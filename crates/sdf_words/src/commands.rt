@@ -3,7 +3,7 @@
 mod table;
 
 use clap::builder::ValueParser;
-use clap::{Arg, Command};
+use clap::{Arg, ArgAction, Command};
 use std::alloc::{AllocError, Global};
 use table::{COMMANDS, EXAMPLES};
 
@@ -38,6 +38,14 @@ struct Choice {
     default: &'static str,
 }
 
+/// What a command can be told by a name alone.
+#[derive(Clone, Copy)]
+struct Switch {
+    name: &'static str,
+    help: &'static str,
+    more: &'static str,
+}
+
 /// A command, what it is given by place, and what by name. Its help ends with the examples.
 #[derive(Clone, Copy)]
 struct Row {
@@ -46,6 +54,7 @@ struct Row {
     more: &'static str,
     places: &'static [Place],
     choices: &'static [Choice],
+    switches: &'static [Switch],
     examples: &'static str,
 }
 
@@ -76,6 +85,14 @@ fn option<'a>(alloc: Global, choice: Choice) -> Arg<'a> {
         .default_value(choice.default)
 }
 
+fn flag<'a>(alloc: Global, switch: Switch) -> Arg<'a> {
+    Arg::new(alloc, switch.name)
+        .long(switch.name)
+        .help(switch.help)
+        .long_help(switch.more)
+        .action(ArgAction::SetTrue)
+}
+
 fn with_places<'a>(
     alloc: Global,
     mut command: Command<'a>,
@@ -98,12 +115,24 @@ fn with_choices<'a>(
     Ok(command)
 }
 
+fn with_switches<'a>(
+    alloc: Global,
+    mut command: Command<'a>,
+    switches: &[Switch],
+) -> Result<Command<'a>, AllocError> {
+    for switch in switches {
+        command = command.arg(flag(alloc, *switch))?;
+    }
+    Ok(command)
+}
+
 fn command_of<'a>(alloc: Global, row: Row) -> Result<Command<'a>, AllocError> {
     let command = Command::new(alloc, row.name)
         .about(row.help)
         .long_about(row.more)
         .after_help(row.examples);
-    with_choices(alloc, with_places(alloc, command, row.places)?, row.choices)
+    let command = with_choices(alloc, with_places(alloc, command, row.places)?, row.choices)?;
+    with_switches(alloc, command, row.switches)
 }
 
 /// The program's command, with each of its own.

@@ -1,14 +1,14 @@
 //! What the faults mean.
 
 ghost use Rattle.std.specs.Prelude.{◌≡◌, ◌≤◌, IfSome};
-ghost use Rattle.sdf_words.specs.declared.options.TheConstants.{MOST_FAULT};
+ghost use Rattle.sdf_words.specs.declared.asked.TheConstants.{MOST_FAULT};
 
 mod documents;
 mod graphs;
 mod sounds;
 mod tables;
 
-use crate::options::MOST_FAULT;
+use crate::asked::MOST_FAULT;
 use std::alloc::{AllocError, Global};
 
 /// What a fault means, within which limits it does not come, and what to do about it. `place` is how its line goes on.

@@ -3,11 +3,11 @@
 use crate::designs::HALF;
 use crate::running::file_of;
 use sdf_file::read_design;
+use sdf_options::{Options, Runner};
 use sdf_process::planning::plan;
 use sdf_process::process::process;
 use sdf_process::{Fault, fault_text, status};
 use sdf_wav::{FromRead, Reader, ToWrite, Writer};
-use sdf_words::{Options, Runner};
 use std::alloc::Global;
 use std::process::Abort;
 use std::test::Fail;

@@ -3,11 +3,11 @@
 use crate::designs::{HALF, SECOND, THREE_FOR_TWO};
 use crate::running::{file_of, run_file};
 use sdf_file::read_design;
+use sdf_options::{Options, Runner};
 use sdf_process::planning::plan;
 use sdf_process::process::process;
 use sdf_process::{Fault, fault_text, status};
 use sdf_wav::{FromRead, ToWrite};
-use sdf_words::{Options, Runner};
 use std::alloc::Global;
 use std::process::Abort;
 use std::test::Fail;

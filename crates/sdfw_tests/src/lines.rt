@@ -2,8 +2,8 @@
 
 use crate::designs::LOOP;
 use crate::running::{fails, run_mono};
+use sdf_options::printable::printable;
 use sdf_words::explained;
-use sdf_words::printable::printable;
 use std::test::Fail;
 
 #[test]

@@ -2,12 +2,12 @@
 
 use crate::running::file_of;
 use sdf_file::read_design;
+use sdf_options::{Options, Runner};
 use sdf_process::Fault;
 use sdf_process::planning::plan;
 use sdf_process::process::process_with;
 use sdf_run::Gate;
 use sdf_wav::{FromRead, ToWrite};
-use sdf_words::{Options, Runner};
 use std::alloc::Global;
 use std::process::Abort;
 use std::test::Fail;

@@ -5,7 +5,7 @@ use crate::faults::ends;
 use crate::rows::they_meet;
 use crate::running::{file_of, run_file};
 use crate::runs::ramp;
-use sdf_words::{Options, Placement, Runner};
+use sdf_options::{Options, Placement, Runner};
 use std::test::Fail;
 
 /// The options of a run over rings.

@@ -1,11 +1,11 @@
 //! Designs run over memory, from bytes to bytes.
 
 use sdf_file::read_design;
+use sdf_options::Options;
 use sdf_process::planning::plan;
 use sdf_process::process::process;
 use sdf_process::{Fault, fault_text, status};
 use sdf_wav::{FromRead, ToWrite, Wav, read_wav, write_wav};
-use sdf_words::Options;
 use std::alloc::Global;
 use std::process::Abort;
 use std::test::Fail;

@@ -5,10 +5,10 @@ use crate::designs::{
 };
 use crate::running::{fails, file_of, gives, run_file, run_mono};
 use sdf_file::read_design;
+use sdf_options::{Options, Policy};
 use sdf_process::Fault;
 use sdf_process::planning::plan;
 use sdf_run::{RunFault, run_one};
-use sdf_words::{Options, Policy};
 use std::alloc::Global;
 use std::test::Fail;
 use std::thread::Threads;

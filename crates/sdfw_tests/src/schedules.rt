@@ -2,9 +2,9 @@
 
 use crate::designs::{BLOCKS, INITIAL};
 use sdf_file::read_design;
+use sdf_options::{Options, Placement, Policy};
 use sdf_process::schedule::schedule;
 use sdf_process::{fault_text, status};
-use sdf_words::{Options, Placement, Policy};
 use std::alloc::Global;
 use std::process::Abort;
 use std::test::Fail;

@@ -3,11 +3,12 @@
 use sdf_actor::{NetFault, Side};
 use sdf_file::{DocumentFault, FileFault, Place};
 use sdf_graph::GraphFault;
+use sdf_options::WordFault;
 use sdf_prec::{Firing, PrecFault};
 use sdf_process::{Fault, Progress, Stalled, fault_text, status};
 use sdf_run::RunFault;
 use sdf_wav::{FormatFault, WavFault};
-use sdf_words::{WordFault, explained};
+use sdf_words::explained;
 use std::alloc::Global;
 use std::process::Abort;
 use std::test::Fail;

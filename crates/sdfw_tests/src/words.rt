@@ -1,7 +1,8 @@
 //! Which word of the command line means which field.
 
+use sdf_options::{Options, Placement, Policy, Runner};
 use sdf_process::{Fault, status};
-use sdf_words::{Options, Placement, Policy, Runner, Words, words};
+use sdf_words::{Words, words};
 use std::alloc::Global;
 use std::process::Abort;
 use std::test::Fail;

@@ -1,8 +1,9 @@
 //! The table of commands: what each takes, and what its help says.
 
-use super::{Choice, Place, Row, Values};
-use crate::options::{MOST_FAULT, PLACEMENT_WORDS, POLICY_WORDS, RUNNER_WORDS};
+use super::{Choice, Place, Row, Switch, Values};
+use crate::asked::MOST_FAULT;
 use sdf_limits::{MOST_BLOCKING, MOST_PATIENCE, MOST_WORKERS};
+use sdf_options::{PLACEMENT_WORDS, POLICY_WORDS, RUNNER_WORDS};
 
 const GRAPH: Place = Place {
     name: "GRAPH",
@@ -107,12 +108,20 @@ It has no effect without `--runner rings`",
     default: "1000",
 };
 
+const COMPARE: Switch = Switch {
+    name: "compare",
+    help: "Compares the schedules of all policies, placements and numbers of workers",
+    more: "Compares the schedules of all policies, placements and numbers of workers 1, 2, 4 and so on up to
+`--workers`: a line for each, with a star at the best of each column and the number of a fault where
+there is no schedule. `--policy` and `--placement` have no effect with it",
+};
+
 /// The examples of the program itself.
 pub(super) const EXAMPLES: &str = "Examples:
   sdfw check graph.toml
   sdfw run graph.toml in.wav out.wav";
 
-pub(super) static COMMANDS: [Row; 5] = [
+pub(super) static COMMANDS: [Row; 6] = [
     Row {
         name: "check",
         help: "Checks a graph file and prints its period",
@@ -121,6 +130,7 @@ a period, how many of them are each actor's, and how many samples an input puts 
 in one. A fault is a line on standard error, which `sdfw explain` explains.",
         places: &[GRAPH],
         choices: &[],
+        switches: &[],
         examples: "Examples:
   sdfw check graph.toml
   sdfw check examples/44100-to-48000/graph.toml",
@@ -133,9 +143,24 @@ the table of a block, a line for each row with the firing of each worker, and th
 each link holds.",
         places: &[GRAPH],
         choices: &[BLOCKING, WORKERS, POLICY, PLACEMENT],
+        switches: &[],
         examples: "Examples:
   sdfw schedule graph.toml --policy lean
   sdfw schedule graph.toml --workers 2 --blocking 4",
+    },
+    Row {
+        name: "analyze",
+        help: "Prints how long a schedule takes and what its links hold",
+        more: "Prints how long a schedule takes and what its links hold. A firing starts as soon as it may and takes
+the time that the key `cost` of its actor says, 1 where it has none. The makespan is when the last one
+ends, the work what all cost together, and no schedule of the block ends before the bound. The speedup
+is the work over the makespan; of each worker is said how much of the makespan it fires.",
+        places: &[GRAPH],
+        choices: &[BLOCKING, WORKERS, POLICY, PLACEMENT],
+        switches: &[COMPARE],
+        examples: "Examples:
+  sdfw analyze graph.toml --workers 2
+  sdfw analyze graph.toml --workers 8 --compare",
     },
     Row {
         name: "run",
@@ -144,6 +169,7 @@ each link holds.",
 outputs take to OUT. The bytes are the same whatever the options are.",
         places: &[GRAPH, IN, OUT],
         choices: &[BLOCKING, WORKERS, POLICY, PLACEMENT, RUNNER, PATIENCE],
+        switches: &[],
         examples: "Examples:
   sdfw run graph.toml in.wav out.wav
   sdfw run graph.toml - - --runner rings --workers 2 --blocking 64 < in.wav > out.wav",
@@ -155,6 +181,7 @@ outputs take to OUT. The bytes are the same whatever the options are.",
 that every actor may have. A number in parentheses stands where the key is absent.",
         places: &[],
         choices: &[],
+        switches: &[],
         examples: "Examples:
   sdfw kinds
   sdfw kinds | grep fir",
@@ -166,6 +193,7 @@ that every actor may have. A number in parentheses stands where the key is absen
 not come, and a remedy.",
         places: &[NUMBER],
         choices: &[],
+        switches: &[],
         examples: "Examples:
   sdfw explain 10
   sdfw explain Deadlock",

@@ -3,8 +3,8 @@ use Rattle.clap.specs.Words.{kind_of}
 use Rattle.clap.specs.declared.error.Error.{Error}
 use Rattle.clap.specs.declared.error.kind.ErrorKind.{ErrorKind}
 use Rattle.clap.specs.declared.error.kind.ErrorKind.TheVariants as kind
-use Rattle.sdf_words.specs.declared.command_line.WordFault.{WordFault}
-use Rattle.sdf_words.specs.declared.command_line.WordFault.TheVariants as words
+use Rattle.sdf_options.specs.declared.fault.WordFault.{WordFault}
+use Rattle.sdf_options.specs.declared.fault.WordFault.TheVariants as words
 
 abbrev pub of_kind : ErrorKind → Error → WordFault
 of_kind kind.OutOfMemory e = words.OutOfMemory

@@ -1,6 +1,6 @@
 //! A run leaves the files that it reads as they are, by whatever path OUT leads to them.
 
-use super::files::{FILTERED, SOUND, ends, folder};
+use crate::files::{FILTERED, SOUND, ends, folder};
 use std::fs;
 use std::io::ErrorKind;
 use std::os::unix::fs::symlink;

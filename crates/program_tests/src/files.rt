@@ -1,9 +1,9 @@
 //! Commands over real files.
 
-use crate::files::{MOST_BYTES, load, read_all};
-use crate::program::{World, serve};
-use crate::storage::{Disk, Storage};
 use sdf_process::fault_text;
+use sdf_program::files::{MOST_BYTES, load, read_all};
+use sdf_program::program::{World, serve};
+use sdf_program::storage::{Disk, Storage};
 use std::io::{ErrorKind, Write};
 use std::process::Abort;
 use std::rt::Files;
@@ -12,22 +12,22 @@ use std::thread::Threads;
 use std::{env, fs};
 
 /// A gain, and then a filter whose one tap stands in a file of its folder.
-pub(super) const FILTERED: &str = r#"format = 1
+pub(crate) const FILTERED: &str = r#"format = 1
 actor = [{ name = "in", kind = "input", channel = 0 }, { name = "half", kind = "gain", gain = 16384, shift = 15 },
     { name = "same", kind = "fir", shift = 0, file = "one.toml" }, { name = "out", kind = "output", channel = 0 }]
 link = [{ from = "in", to = "half" }, { from = "half", to = "same" }, { from = "same", to = "out" }]"#;
 
 /// What comes in goes out, and no other file is named.
-pub(super) const PLAIN: &str = r#"format = 1
+pub(crate) const PLAIN: &str = r#"format = 1
 actor = [{ name = "in", kind = "input", channel = 0 }, { name = "out", kind = "output", channel = 0 }]
 link = [{ from = "in", to = "out" }]"#;
 
 /// The samples 5 and -5, 44,100 a second.
-pub(super) const SOUND: &[u8; 48] =
+pub(crate) const SOUND: &[u8; 48] =
     b"RIFF\x28\0\0\0WAVEfmt \x10\0\0\0\x01\0\x01\0\x44\xAC\0\0\x88\x58\x01\0\x02\0\x10\0data\x04\0\0\0\x05\0\xFB\xFF";
 
 /// A folder of its own.
-pub(super) fn folder(rt: &HostRuntime, name: &str) -> Result<String, Fail> {
+pub(crate) fn folder(rt: &HostRuntime, name: &str) -> Result<String, Fail> {
     let above = env::temp_dir(rt)?;
     let above = above.as_str();
     let path = format!(in rt.alloc(); "{above}/sdfw-{name}")?;
@@ -39,7 +39,7 @@ pub(super) fn folder(rt: &HostRuntime, name: &str) -> Result<String, Fail> {
 
 /// What the words print to `out` where this is standard input, and how they end: the exit status, and what stands on
 /// standard error.
-pub(super) fn ends_between<S: Storage, T: Threads + AllocGlobal + Sync, O: Write>(
+pub(crate) fn ends_between<S: Storage, T: Threads + AllocGlobal + Sync, O: Write>(
     world: &World<S, T>,
     mut stdin: &[u8],
     out: &mut O,
@@ -56,7 +56,7 @@ pub(super) fn ends_between<S: Storage, T: Threads + AllocGlobal + Sync, O: Write
 }
 
 /// The same where standard input is empty.
-pub(super) fn ends_into<S: Storage, T: Threads + AllocGlobal + Sync, O: Write>(
+pub(crate) fn ends_into<S: Storage, T: Threads + AllocGlobal + Sync, O: Write>(
     world: &World<S, T>,
     out: &mut O,
     line: &[&str],
@@ -65,7 +65,7 @@ pub(super) fn ends_into<S: Storage, T: Threads + AllocGlobal + Sync, O: Write>(
 }
 
 /// How a command over real files ends: its exit status, and what stands on standard error.
-pub(super) fn ends<R: Files, T: Threads + AllocGlobal + Sync>(
+pub(crate) fn ends<R: Files, T: Threads + AllocGlobal + Sync>(
     rt: &R,
     threads: &T,
     line: &[&str],

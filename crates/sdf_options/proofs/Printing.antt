@@ -3,7 +3,7 @@ use Rattle.std.proofs.Common.{◌≡◌, ◌++◌, ℕ, List, [], length, chars,
 use Rattle.std.proofs.lemmas.Str.{chars_past_char, chars-nil}
 use Rattle.std.proofs.lemmas.List.{nil_from_length}
 use Rattle.std.specs.List.{flat_map}
-use Rattle.sdf_words.specs.Printable.{printable_char, printable_text}
+use Rattle.sdf_options.specs.Printable.{printable_char, printable_text}
 
 pub printable_step : (text rest : List ℕ) (c : ℕ) → IsUtf8 text → text ≡ encode_utf8 c ++ rest →
     printable_text text ≡ printable_char c ++ printable_text rest

@@ -1,7 +1,7 @@
 //! Texts that are safe to print on one line.
 
 ghost use Rattle.std.specs.Prelude.{◌≡◌, ◌++◌, IfOk, OnOk, string_bytes};
-ghost use Rattle.sdf_words.specs.Printable.{printable_char, printable_text};
+ghost use Rattle.sdf_options.specs.Printable.{printable_char, printable_text};
 
 use std::alloc::{AllocError, Global};
 

@@ -1,9 +1,9 @@
 //! Opens, writes and streams that are refused, for want of memory or for another cause.
 
-use super::files::{FILTERED, PLAIN, SOUND, ends, ends_into, folder};
-use crate::files::MOST_BYTES;
-use crate::program::{World, serve};
-use crate::storage::Disk;
+use crate::files::{FILTERED, PLAIN, SOUND, ends, ends_into, folder};
+use sdf_program::files::MOST_BYTES;
+use sdf_program::program::{World, serve};
+use sdf_program::storage::Disk;
 use std::alloc::Allocator;
 use std::fs;
 use std::fs::{File, Metadata, OpenOptions};

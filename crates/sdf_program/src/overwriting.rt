@@ -2,9 +2,9 @@
 
 use crate::program::STANDARD;
 use crate::storage::Storage;
+use sdf_options::printable::printable;
 use sdf_process::Fault;
 use sdf_words::mistake;
-use sdf_words::printable::printable;
 use std::alloc::Global;
 use std::io::ErrorKind;
 use std::path::{Path, PathBuf};

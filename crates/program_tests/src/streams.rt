@@ -1,9 +1,9 @@
 //! What the program prints, on which stream, and its exit status, over files in memory.
 
-use super::files::{FILTERED, ends_into};
-use super::shelf::{PADDED, Shelf, TAPS};
-use crate::files::MOST_BYTES;
-use crate::program::World;
+use crate::files::{FILTERED, ends_into};
+use crate::shelf::{PADDED, Shelf, TAPS};
+use sdf_program::files::MOST_BYTES;
+use sdf_program::program::World;
 use std::cell::RefCell;
 use std::process::Abort;
 use std::test::Fail;
@@ -23,6 +23,20 @@ table: offset of 32 bits, values or file: 1..65536 values of 32 bits
 deal, format 2: ways 2..16, run 1..64 (1)
 gather, format 2: ways 2..16, run 1..64 (1)
 every kind: processor 0..15 or absent, cost 1..1000000 (1)
+";
+
+/// The schedules of `begun.toml` for one worker. There is none with `in` on processor 1, and all others are alike: the
+/// tables don't go by the policy, and `in` comes first, as the lower of two actors of one level.
+const COMPARED: &str = "policy placement workers     makespan  speedup    rows        samples
+round  hu              1           *2    *1.00      *2             *3
+round  homed           1           *2    *1.00      *2             *3
+round  file            1      refused 19
+lean   hu              1           *2    *1.00      *2             *3
+lean   homed           1           *2    *1.00      *2             *3
+lean   file            1      refused 19
+runs   hu              1           *2    *1.00      *2             *3
+runs   homed           1           *2    *1.00      *2             *3
+runs   file            1      refused 19
 ";
 
 /// Whether a command over these files ends so: its exit status, what stands on the two streams, and in the file that is
@@ -81,6 +95,12 @@ fn answers_stand_on_standard_output(rt: HostRuntime) -> Result<(), Fail> {
             "period 2\nq in 1\nq out 1\norder out in\nblocking 3\nworkers 2\nrows 6\n\
              row out.0 -\nrow - in.0\nrow out.1 -\nrow - in.1\nrow out.2 -\nrow - in.2\ncapacity in:0 out:0 2\n",
         ),
+        (
+            &["sdfw", "analyze", "begun.toml", "--workers", "2"],
+            "makespan 1\nwork 2\nspan 1\nbound 1\nspeedup 2.00 of 2\nworker 0 100 %\nworker 1 100 %\n\
+             samples held 3, 12 bytes\ncapacity in:0 out:0 3, 12 bytes\n",
+        ),
+        (&["sdfw", "analyze", "begun.toml", "--compare"], COMPARED),
         (
             &["sdfw", "explain", "11"],
             "11 BlockingFactor\nmeans: The number of periods in a block is out of range.\n\

@@ -1,9 +1,9 @@
 //! Runs from standard input and to standard output, over files in memory.
 
-use super::files::{SOUND, ends_between};
-use super::shelf::Shelf;
-use crate::files::MOST_BYTES;
-use crate::program::World;
+use crate::files::{SOUND, ends_between};
+use crate::shelf::Shelf;
+use sdf_program::files::MOST_BYTES;
+use sdf_program::program::World;
 use std::cell::RefCell;
 use std::process::Abort;
 use std::test::Fail;

@@ -1,7 +1,7 @@
 use Rattle.std.proofs.Common.{◌≡◌, ◌++◌, IsUtf8, string_bytes}
 use Rattle.std.specs.Str.Iter.{chars_rest}
-use Rattle.sdf_words.specs.Printable.{printable_text}
-use Rattle.sdf_words.proofs.printable.printable.Given as goal
+use Rattle.sdf_options.specs.Printable.{printable_text}
+use Rattle.sdf_options.proofs.printable.printable.Given as goal
 
 abbrev pub invariant-loop-character : goal.invariant-loop-character
 invariant-loop-character l = IsUtf8 (chars_rest l.character-iterator)

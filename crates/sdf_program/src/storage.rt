@@ -7,7 +7,7 @@ use std::path::PathBuf;
 use std::rt::Files;
 
 /// Files by their paths.
-pub(crate) trait Storage {
+pub trait Storage {
     /// What a file is read by.
     type Source: Read + Drop;
 
@@ -25,8 +25,8 @@ pub(crate) trait Storage {
 
 /// The files of the system.
 #[derive_where(Clone, Copy)]
-pub(crate) struct Disk<'a, R> {
-    pub(crate) rt: &'a R,
+pub struct Disk<'a, R> {
+    pub rt: &'a R,
 }
 
 impl<R: Files> Storage for Disk<'_, R> {

@@ -1,7 +1,7 @@
 use Rattle.std.proofs.Common.{sym, ◌∙◌, append_assoc, append-nil}
 use Rattle.std.proofs.lemmas.Str.{IsUtf8-past_char}
-use Rattle.sdf_words.proofs.Printing.{printable_step, printable_empty}
-use Rattle.sdf_words.proofs.printable.printable.Goals as goal
+use Rattle.sdf_options.proofs.Printing.{printable_step, printable_empty}
+use Rattle.sdf_options.proofs.printable.printable.Goals as goal
 
 pub loop-character-preserved : goal.loop-character-preserved
 loop-character-preserved c =

@@ -1,7 +1,7 @@
 //! Files in memory.
 
-use super::files::{FILTERED, PLAIN, SOUND};
-use crate::storage::Storage;
+use crate::files::{FILTERED, PLAIN, SOUND};
+use sdf_program::storage::Storage;
 use std::alloc::Global;
 use std::cell::RefCell;
 use std::io::{self, Error, ErrorKind, Write};
@@ -33,11 +33,11 @@ actor = [{ name = "in", kind = "input", channel = 0 }, { name = "add", kind = "a
 link = [{ from = "in", to = "add:0" }, { from = "add", to = "fork" },
     { from = "fork:0", to = "out" }, { from = "fork:1", to = "add:1" }]"#;
 
-pub(super) const TAPS: &str = "format = 1\nvalues = [1]\n";
+pub(crate) const TAPS: &str = "format = 1\nvalues = [1]\n";
 
 /// The same taps in a file that is longer than the graph file.
-pub(super) const PADDED: &str = "format = 1
-# The taps of a filter that hands on what it takes: it has one tap, which is 1, and divides by nothing. What else is said
+pub(crate) const PADDED: &str = "format = 1
+# The taps of a filter that hands on what it takes: it has one tap, which is 1, and divides by nothing. What is said
 # here makes the file longer than the graph file that names it, so that a limit can stand between the two: no graph file
 # of this test is as long as this one, which is read after it, and is refused where it is a byte longer than may be.
 # What is past the limit is not looked at, so it does not matter what would stand there.
@@ -73,13 +73,13 @@ fn bytes_of(path: &str) -> Option<&'static [u8]> {
 
 /// Files in memory, and what was written. Only out.wav can be made. The file `-` is no sound, and `./-` is one.
 #[derive(Clone, Copy)]
-pub(super) struct Shelf<'a> {
-    pub(super) written: &'a RefCell<Vec<u8>>,
+pub(crate) struct Shelf<'a> {
+    pub(crate) written: &'a RefCell<Vec<u8>>,
 }
 
 /// The file that is written.
 #[derive(Clone, Copy)]
-pub(super) struct Slot<'a> {
+pub(crate) struct Slot<'a> {
     written: &'a RefCell<Vec<u8>>,
 }
 

@@ -13,7 +13,7 @@ use std::io::{self, ErrorKind, Read};
 use std::path::Path;
 
 /// The most bytes of a graph file or a coefficient file.
-pub(crate) const MOST_BYTES: u32 = 1_073_741_824;
+pub const MOST_BYTES: u32 = 1_073_741_824;
 
 /// The fault of a file: memory, or what its device is blamed with.
 pub(crate) fn device_fault(error: &io::Error, blamed: Fault) -> Fault
@@ -27,11 +27,7 @@ pub(crate) fn device_fault(error: &io::Error, blamed: Fault) -> Fault
 }
 
 /// All of a file's bytes, where they are at most `most`.
-pub(crate) fn read_all<F: Read + Drop>(
-    alloc: Global,
-    file: F,
-    most: u32,
-) -> Result<Vec<u8>, Fault> {
+pub fn read_all<F: Read + Drop>(alloc: Global, file: F, most: u32) -> Result<Vec<u8>, Fault> {
     let mut bytes = Vec::new(alloc);
     match file.take(u64::from(most) + 1).read_to_end(&mut bytes) {
         Ok(_) if bytes.len() <= most as usize => Ok(bytes),
@@ -75,9 +71,9 @@ fn read_files<S: Storage>(
 
 /// A design, and the names of the coefficient files that it was read with.
 #[derive(Drop)]
-pub(crate) struct Loaded {
-    pub(crate) design: Design,
-    pub(crate) names: Vec<String>,
+pub struct Loaded {
+    pub design: Design,
+    pub names: Vec<String>,
 }
 
 /// The names of files.
@@ -90,7 +86,7 @@ fn names_of(alloc: Global, files: Vec<(String, Vec<u8>)>) -> Result<Vec<String>,
 }
 
 /// The design of a graph file and the coefficient files that it names, none of which has over `most` bytes.
-pub(crate) fn load<S: Storage>(
+pub fn load<S: Storage>(
     alloc: Global,
     storage: &S,
     graph: &str,

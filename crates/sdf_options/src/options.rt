@@ -1,7 +1,4 @@
-//! What a command line asks for.
-
-/// The highest number of a fault.
-pub const MOST_FAULT: u32 = 63;
+//! The options of a schedule or a run, and the words for them.
 
 /// Which runnable actor fires next.
 #[derive(Clone, Copy, Debug, PartialEq, Eq)]
@@ -15,9 +12,9 @@ pub enum Policy {
 }
 
 /// The words of the policies, and the policies in the same order.
-pub(crate) const POLICY_WORDS: &[&str] = &["round", "lean", "runs"];
+pub const POLICY_WORDS: &[&str] = &["round", "lean", "runs"];
 
-pub(crate) static POLICIES: [Policy; 3] = [Policy::Round, Policy::Lean, Policy::Runs];
+pub static POLICIES: [Policy; 3] = [Policy::Round, Policy::Lean, Policy::Runs];
 
 /// How firings come to the processors of a table.
 #[derive(Clone, Copy, Debug, PartialEq, Eq)]
@@ -31,9 +28,9 @@ pub enum Placement {
 }
 
 /// The words of the placements, and the placements in the same order.
-pub(crate) const PLACEMENT_WORDS: &[&str] = &["hu", "homed", "file"];
+pub const PLACEMENT_WORDS: &[&str] = &["hu", "homed", "file"];
 
-pub(crate) static PLACEMENTS: [Placement; 3] = [Placement::Hu, Placement::Homed, Placement::File];
+pub static PLACEMENTS: [Placement; 3] = [Placement::Hu, Placement::Homed, Placement::File];
 
 /// What runs a plan.
 #[derive(Clone, Copy, Debug, PartialEq, Eq)]
@@ -47,9 +44,9 @@ pub enum Runner {
 }
 
 /// The words of the runners, and the runners in the same order.
-pub(crate) const RUNNER_WORDS: &[&str] = &["one", "rows", "rings"];
+pub const RUNNER_WORDS: &[&str] = &["one", "rows", "rings"];
 
-pub(crate) static RUNNERS: [Runner; 3] = [Runner::One, Runner::Rows, Runner::Rings];
+pub static RUNNERS: [Runner; 3] = [Runner::One, Runner::Rows, Runner::Rings];
 
 /// The options of a schedule or a run, within their limits.
 #[derive(Clone, Copy, Debug, PartialEq, Eq)]
@@ -75,29 +72,4 @@ impl Options {
         runner: Runner::One,
         patience: 1000,
     };
-}
-
-/// A command, its files by their paths.
-#[derive(Clone, Copy, Debug, PartialEq, Eq)]
-pub enum Words<'a> {
-    Check {
-        graph: &'a str,
-    },
-    /// The options but the runner and the patience.
-    Schedule {
-        graph: &'a str,
-        options: Options,
-    },
-    Run {
-        graph: &'a str,
-        input: &'a str,
-        output: &'a str,
-        options: Options,
-    },
-    /// The table of kinds.
-    Kinds,
-    /// What a fault is, by its number, 1 to 63.
-    Explain {
-        number: u32,
-    },
 }

@@ -1,0 +1,47 @@
+//! Why a command line was not read.
+
+ghost use Rattle.std.specs.Prelude.{◌≡◌};
+ghost use Rattle.sdf_options.specs.declared.fault.WordFault.TheVariants as fault;
+
+use clap::error::ErrorKind;
+use std::alloc::{AllocError, AllocFailed};
+use thiserror::Error;
+
+/// Why a command line was not read.
+#[derive(Debug, Drop, Error)]
+pub enum WordFault {
+    #[error("1 OutOfMemory")]
+    OutOfMemory,
+    /// A mistake in the words, or a request for help or the version, with the text for the user.
+    #[error(transparent)]
+    Usage(clap::Error),
+}
+
+impl From<AllocError> for WordFault {
+    ghost from_gives = { λ _ e. e ≡ fault.OutOfMemory };
+
+    fn from(_error: AllocError) -> WordFault {
+        WordFault::OutOfMemory
+    }
+}
+
+impl<T: Drop> From<AllocFailed<T>> for WordFault {
+    ghost from_gives = { λ _ e. e ≡ fault.OutOfMemory };
+
+    fn from(_error: AllocFailed<T>) -> WordFault {
+        WordFault::OutOfMemory
+    }
+}
+
+impl From<clap::Error> for WordFault {
+    ghost use Rattle.sdf_options.specs.Faults.{of_clap};
+
+    ghost from_gives = { λ error e. e ≡ of_clap error };
+
+    fn from(error: clap::Error) -> WordFault {
+        match error.kind() {
+            ErrorKind::OutOfMemory => WordFault::OutOfMemory,
+            _ => WordFault::Usage(error),
+        }
+    }
+}

@@ -1,0 +1,15 @@
+//! What a command line can ask of a schedule or a run, why one was not read, and texts that are safe to print.
+//!
+//! It stands on `clap`, whose mistakes it carries, and on `sdf_limits`; it knows no command. Begin at `options`. The
+//! definitions are in `specs/Limits.antt` and `specs/Printable.antt`.
+#![tactic(auto)]
+
+mod fault;
+mod options;
+pub mod printable;
+
+pub use fault::WordFault;
+pub use options::{
+    Options, PLACEMENT_WORDS, PLACEMENTS, POLICIES, POLICY_WORDS, Placement, Policy, RUNNER_WORDS,
+    RUNNERS, Runner,
+};

@@ -1,0 +1,125 @@
+//! The whole program, over what it works on.
+
+ghost use Rattle.std.specs.Prelude.{◌≡◌, ◌⊎◌};
+ghost use Rattle.sdf_process.specs.Statuses.{status_of};
+ghost use Rattle.sdf_process.specs.declared.fault.Fault.TheVariants.{OutOfMemory};
+
+use crate::printing::{check, print_analysis, print_schedule, show};
+use crate::running::{Paths, run};
+use crate::storage::Storage;
+use sdf_document::kinds_text;
+use sdf_options::WordFault;
+use sdf_process::{Fault, fault_text, status};
+use sdf_words::{Words, explained, words};
+use std::alloc::{AllocError, Global};
+use std::io::{Read, Write};
+use std::thread::Threads;
+
+/// The word that names standard input in the place of IN, and standard output in that of OUT.
+pub(crate) const STANDARD: &str = "-";
+
+/// What commands are done with. The threads are for a run with workers, and bring the memory.
+#[derive_where(Clone, Copy)]
+pub struct World<'a, S, T> {
+    pub storage: &'a S,
+    pub threads: &'a T,
+    /// The most bytes of a graph file or a coefficient file.
+    pub most: u32,
+}
+
+/// Does what the words ask for, of which the first is the program's name.
+fn obey<S: Storage, T: Threads + AllocGlobal + Sync, I: Read, O: Write>(
+    world: &World<S, T>,
+    stdin: &mut I,
+    out: &mut O,
+    line: &[&str],
+) -> Result<(), Fault> {
+    let alloc = world.threads.alloc();
+    match words(alloc, line) {
+        Ok(Words::Check { graph }) => check(world, out, graph),
+        Ok(Words::Schedule { graph, options }) => print_schedule(world, out, graph, &options),
+        Ok(
+            Words::Analyze {
+                graph,
+                options,
+                compare,
+            },
+        ) => print_analysis(world, out, graph, &options, compare),
+        Ok(
+            Words::Run {
+                graph,
+                input,
+                output,
+                options,
+            },
+        ) => {
+            let paths = Paths {
+                graph,
+                input,
+                output,
+            };
+            run(world, stdin, out, paths, &options)
+        }
+        Ok(Words::Kinds) => show(out, kinds_text(alloc)?.as_str()),
+        Ok(Words::Explain { number }) => show(out, explained(alloc, number)?.as_str()),
+        // Help or the version is an answer.
+        Err(WordFault::Usage(told)) if !told.use_stderr() => {
+            show(out, format!(in alloc; "{told}")?.as_str())
+        }
+        Err(fault) => Err(Fault::from(fault)),
+    }
+}
+
+/// The text of a fault, for standard error.
+fn told(alloc: Global, fault: &Fault) -> Result<String, AllocError> {
+    match fault {
+        Fault::Words(WordFault::Usage(told)) => format!(in alloc; "{told}"),
+        other => fault_text(alloc, other),
+    }
+}
+
+/// Tells a fault on standard error, and gives its exit status; that of memory where there is none for its text.
+fn tell<E: Write>(alloc: Global, err: &mut E, fault: &Fault) -> u8
+    ensures { (result ≡ status_of fault.now) ⊎ (result ≡ status_of OutOfMemory) }
+{
+    match told(alloc, fault) {
+        Ok(text) => {
+            let _ = err.write_all(text.as_bytes());
+            status(fault)
+        }
+        Err(_) => {
+            let _ = err.write_all(b"sdfw: 1 OutOfMemory\n");
+            status(&Fault::OutOfMemory)
+        }
+    }
+}
+
+/// Does what the program was started for, if its words could be read.
+fn answer<S: Storage, T: Threads + AllocGlobal + Sync, I: Read, O: Write>(
+    world: &World<S, T>,
+    stdin: &mut I,
+    out: &mut O,
+    given: Result<Vec<String>, WordFault>,
+) -> Result<(), Fault> {
+    let given = given?;
+    let mut line = Vec::new(world.threads.alloc());
+    for word in &given {
+        line.push(word.as_str())?;
+    }
+    obey(world, stdin, out, line.as_slice())
+}
+
+/// The whole program: what it was started with, what it works on and standard input come in, what it prints and
+/// its exit status come out.
+pub fn serve<S: Storage, T: Threads + AllocGlobal + Sync, I: Read, O: Write, E: Write>(
+    world: &World<S, T>,
+    stdin: &mut I,
+    out: &mut O,
+    err: &mut E,
+    given: Result<Vec<String>, WordFault>,
+) -> u8 {
+    match answer(world, stdin, out, given) {
+        Ok(()) => 0,
+        Err(fault) => tell(world.threads.alloc(), err, &fault),
+    }
+}

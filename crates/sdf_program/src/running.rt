@@ -1,0 +1,92 @@
+//! The command that makes a sound of another.
+
+ghost use Rattle.sdf_process.specs.Plans.{Suits};
+
+use crate::files::{Loaded, device_fault, load};
+use crate::overwriting::keep_what_is_read;
+use crate::program::{STANDARD, World};
+use crate::storage::Storage;
+use sdf_file::Design;
+use sdf_options::Options;
+use sdf_process::planning::plan;
+use sdf_process::process::process;
+use sdf_process::{Fault, Plan};
+use sdf_wav::{FromRead, ToWrite};
+use std::io::{Read, Write};
+use std::thread::Threads;
+
+/// What a run reads and writes, by their paths.
+#[derive(Clone, Copy)]
+pub(crate) struct Paths<'a> {
+    pub(crate) graph: &'a str,
+    pub(crate) input: &'a str,
+    pub(crate) output: &'a str,
+}
+
+/// Runs a plan from the first byte of one stream to the last of another.
+fn run_between<T: Threads + AllocGlobal + Sync, R: Read + Drop, W: Write + Drop>(
+    threads: &T,
+    from: R,
+    to: W,
+    design: &Design,
+    plan: &Plan,
+) -> Result<(), Fault>
+    requires { Suits design.now.net plan.now }
+{
+    process(
+        threads,
+        &mut FromRead::new(from),
+        &mut ToWrite::new(to),
+        design,
+        plan,
+    )
+}
+
+/// Runs a plan on a stream that is open. OUT is made or emptied where none of the files that are read is OUT.
+fn run_from<S: Storage, T: Threads + AllocGlobal + Sync, R: Read + Drop, O: Write>(
+    world: &World<S, T>,
+    from: R,
+    out: &mut O,
+    paths: Paths<'_>,
+    loaded: &Loaded,
+    plan: &Plan,
+) -> Result<(), Fault>
+    requires { Suits loaded.now.design.net plan.now }
+{
+    keep_what_is_read(
+        world.threads.alloc(),
+        world.storage,
+        paths.graph,
+        &loaded.names,
+        paths.input,
+        paths.output,
+    )?;
+    if paths.output == STANDARD {
+        return run_between(world.threads, from, out, &loaded.design, plan);
+    }
+    match world.storage.create(paths.output) {
+        Ok(to) => run_between(world.threads, from, to, &loaded.design, plan),
+        Err(error) => Err(device_fault(&error, Fault::Write)),
+    }
+}
+
+/// Runs a design on a WAV file. OUT is made or emptied once the plan stands, IN is open, and none of the files that
+/// are read is OUT.
+pub(crate) fn run<S: Storage, T: Threads + AllocGlobal + Sync, I: Read, O: Write>(
+    world: &World<S, T>,
+    stdin: &mut I,
+    out: &mut O,
+    paths: Paths<'_>,
+    options: &Options,
+) -> Result<(), Fault> {
+    let alloc = world.threads.alloc();
+    let loaded = load(alloc, world.storage, paths.graph, world.most)?;
+    let plan = plan(alloc, &loaded.design, options)?;
+    if paths.input == STANDARD {
+        return run_from(world, stdin, out, paths, &loaded, &plan);
+    }
+    match world.storage.open(paths.input) {
+        Ok(from) => run_from(world, from, out, paths, &loaded, &plan),
+        Err(error) => Err(device_fault(&error, Fault::Read)),
+    }
+}

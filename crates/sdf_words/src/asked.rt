@@ -1,0 +1,37 @@
+//! What a command line asks for.
+
+use sdf_options::Options;
+
+/// The highest number of a fault.
+pub const MOST_FAULT: u32 = 63;
+
+/// A command, its files by their paths.
+#[derive(Clone, Copy, Debug, PartialEq, Eq)]
+pub enum Words<'a> {
+    Check {
+        graph: &'a str,
+    },
+    /// The options but the runner and the patience.
+    Schedule {
+        graph: &'a str,
+        options: Options,
+    },
+    /// The options as of a schedule. With `compare` the policy and the placement mean nothing.
+    Analyze {
+        graph: &'a str,
+        options: Options,
+        compare: bool,
+    },
+    Run {
+        graph: &'a str,
+        input: &'a str,
+        output: &'a str,
+        options: Options,
+    },
+    /// The table of kinds.
+    Kinds,
+    /// What a fault is, by its number, 1 to 63.
+    Explain {
+        number: u32,
+    },
+}
