@@ -1,3 +1,4 @@
+pub mod Chains
 pub mod Items
 pub mod Lines
 pub mod Pieces

@@ -6,3 +6,4 @@ pub mod Links
 pub mod Documents
 pub mod Nets
 pub mod Cycles
+pub mod Sounds

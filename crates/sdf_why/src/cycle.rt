@@ -1,11 +1,11 @@
 //! What is told of a deadlock: a cycle of links that hold too little.
 
-ghost use Rattle.std.specs.Prelude.{◌≡◌, ℕ, ◌*◌, ◌+◌, ◌-◌, ◌^◌, ◌≤◌, ◌<◌, ◌++◌, List, [], length, IfOk, IfSome, OnOk};
+ghost use Rattle.std.specs.Prelude.{◌≡◌, ℕ, ◌*◌, ◌+◌, ◌-◌, ◌^◌, ◌≤◌, ◌<◌, ◌++◌, length, IfOk, IfSome, OnOk};
 ghost use Rattle.std.specs.Prelude.{string_bytes};
-ghost use Rattle.std.specs.List.{flat_map};
+ghost use Rattle.std.specs.List.{All, flat_map};
 ghost use Rattle.toml.specs.View.{view};
-ghost use Rattle.sdf_graph.specs.Rates.{channel, sum_to, rate_at};
-ghost use Rattle.sdf_why.specs.Cycles.{done_at, short_at, Waits, IsCycle, held, wanted, lack_is, lack_told, IsCycleText};
+ghost use Rattle.sdf_graph.specs.Rates.{sum_to, rate_at};
+ghost use Rattle.sdf_why.specs.Cycles.{done_at, short_at, Waits, IsCycle, held, wanted, lack_told, IsCycleText};
 
 use crate::tables::{entry, text_at};
 use crate::words::{Lack, push_lack};
@@ -41,8 +41,12 @@ fn next(graph: &Graph, halts: &[Halt], actor: usize) -> Option<(usize, usize)>
 {
     let number = short_at(halts, actor)?;
     let channels = graph.channels();
-    if number < channels.len() && channels[number].to == actor {
-        Some((number, channels[number].from))
+    if number >= channels.len() {
+        return None;
+    }
+    let channel = &channels[number];
+    if channel.to == actor {
+        Some((number, channel.from))
     } else {
         None
     }
@@ -97,9 +101,10 @@ fn cycle_of(
 
 /// How many samples the first firings of the source put.
 fn put_by(channel: &Channel, firings: u32) -> u64
-    requires { 0 < length channel.now.put }
+    requires some { 0 < length channel.now.put }
+    requires rates { (i : ℕ) → rate_at channel.now.put i ≤ 1024 }
     ensures value { result ≡ sum_to (rate_at channel.now.put) firings }
-    ensures small { result ≤ firings * 2 ^ 32 }
+    ensures small { result ≤ firings * 1024 }
 {
     let mut samples = 0;
     for firing in 0..firings {
@@ -110,7 +115,8 @@ fn put_by(channel: &Channel, firings: u32) -> u64
 
 /// And how many those of the target take.
 fn taken_by(channel: &Channel, firings: u32) -> u64
-    requires { 0 < length channel.now.take }
+    requires some { 0 < length channel.now.take }
+    requires rates { (i : ℕ) → rate_at channel.now.take i ≤ 1024 }
     ensures { result ≡ sum_to (rate_at channel.now.take) firings }
 {
     let mut samples = 0;
@@ -120,16 +126,83 @@ fn taken_by(channel: &Channel, firings: u32) -> u64
     samples
 }
 
-/// What a channel holds, and what the next firing of its target takes.
-fn lack_of(graph: &Graph, halts: &[Halt], number: usize) -> Option<Lack>
-    ensures { IfSome result (λ r. (r.holds ≡ held graph.now halts.now number)
-        × (r.wants ≡ wanted graph.now halts.now number)) }
+/// What a channel holds.
+fn held(channel: &Channel, put: u64, taken: u64) -> u64
+    requires initial { channel.now.initial ≤ 65536 }
+    requires put { put ≤ 2 ^ 63 }
+    ensures { result ≡ channel.now.initial + put - taken }
 {
-    let channel = graph.channels().get(number)?;
+    (channel.initial as u64 + put).saturating_sub(taken)
+}
+
+/// What a channel holds, and what the next firing of its target takes.
+fn lack_of(graph: &Graph, halts: &[Halt], number: usize) -> Lack
+    requires { number < length graph.now.channels }
+    ensures holds { result.holds ≡ held graph.now halts.now number }
+    ensures wants { result.wants ≡ wanted graph.now halts.now number }
+{
+    let channel = &graph.channels()[number];
     let put = put_by(channel, done_at(halts, channel.from));
     let done = done_at(halts, channel.to);
-    Some(Lack {
-        holds: put.checked_add(channel.initial as u64)?.saturating_sub(taken_by(channel, done)),
+    Lack {
+        holds: held(channel, put, taken_by(channel, done)),
         wants: channel.takes(done),
-    })
+    }
+}
+
+/// Adds a link of a cycle.
+#[tactic(auto, unfolding(crate::specs::Cycles::lack_told))]
+fn push_lack_of(
+    alloc: Global,
+    text: &mut String,
+    document: &Value,
+    graph: &Graph,
+    halts: &[Halt],
+    number: usize,
+) -> Result<(), AllocError>
+    requires { number < length graph.now.channels }
+    ensures { OnOk result (string_bytes text.new ≡ string_bytes text.old
+        ++ lack_told (view document.now) graph.now halts.now number) }
+{
+    let Some(link) = entry(document, "link", number) else {
+        return Ok(());
+    };
+    let lack = lack_of(graph, halts, number);
+    push_lack(alloc, text, number, text_at(link, "from"), text_at(link, "to"), lack)
+}
+
+/// Adds the links of a cycle.
+fn push_lacks(
+    alloc: Global,
+    text: &mut String,
+    document: &Value,
+    graph: &Graph,
+    halts: &[Halt],
+    links: &[usize],
+) -> Result<(), AllocError>
+    requires { All (λ c. c < length graph.now.channels) links.now }
+    ensures { OnOk result (string_bytes text.new ≡ string_bytes text.old
+        ++ flat_map (lack_told (view document.now) graph.now halts.now) links.now) }
+{
+    for link in links {
+        push_lack_of(alloc, text, document, graph, halts, *link)?;
+    }
+    Ok(())
+}
+
+/// What is told of a deadlock of a design's graph, whose actors came so far.
+pub fn cycle_text(
+    alloc: Global,
+    document: &Value,
+    graph: &Graph,
+    halts: &[Halt],
+) -> Result<String, AllocError>
+    ensures { IfOk result (λ text. IsCycleText (view document.now) graph.now halts.now (string_bytes text)) }
+{
+    let mut text = String::new(alloc);
+    let Some(links) = cycle_of(alloc, graph, halts)? else {
+        return Ok(text);
+    };
+    push_lacks(alloc, &mut text, document, graph, halts, &links)?;
+    Ok(text)
 }

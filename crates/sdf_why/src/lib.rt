@@ -5,11 +5,13 @@
 #![tactic(auto)]
 
 mod actors;
+pub mod cycle;
 mod document;
 mod limits;
 mod links;
 mod marks;
 mod net;
+mod sound;
 mod tables;
 mod words;
 

@@ -4,10 +4,10 @@ ghost use Rattle.std.specs.Prelude.{◌≡◌, ◌++◌, OnOk, option_map, strin
 ghost use Rattle.toml.specs.View.{view};
 ghost use Rattle.sdf_why.specs.Words.{quoted, value_text, article, name_text, kind_text, end_text, actor_line, link_words};
 ghost use Rattle.sdf_why.specs.Words.{link_line, lack_line, limits_text, key_line, is_vowel};
-ghost use Rattle.sdf_words.specs.Printable.{printable_text};
+ghost use Rattle.sdf_options.specs.Printable.{printable_text};
 
 use crate::marks::has;
-use sdf_words::printable::printable;
+use sdf_options::printable::printable;
 use std::alloc::{AllocError, Global};
 use toml::Value;
 
