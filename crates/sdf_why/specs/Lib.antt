@@ -7,3 +7,4 @@ pub mod Documents
 pub mod Nets
 pub mod Cycles
 pub mod Sounds
+pub mod Told

@@ -5,13 +5,16 @@ use Rattle.sdf_why.specs.Words.{end}
 use Rattle.sdf_why.specs.Nets.{all_of}
 
 -- how many channels the design reads, and how many the sound has
-unfoldable pub channels_line : ℕ → ℕ → List ℕ
-channels_line wanted channels =
-    codes "  the design reads " ++ decimal wanted ++ codes " channels, the sound has " ++ decimal channels ++ end
+unfoldable pub reads_text : ℕ → List ℕ
+reads_text wanted = codes "  the design reads " ++ decimal wanted ++ codes " channels"
+
+unfoldable pub has_text : ℕ → List ℕ
+has_text channels = codes ", the sound has " ++ decimal channels ++ end
 
 -- and which inputs read them
 unfoldable pub channels_told : List ℕ → Data → ℕ → ℕ → List ℕ
-channels_told kinds d wanted channels = channels_line wanted channels ++ all_of kinds (codes "input") (codes "channel") d
+channels_told kinds d wanted channels =
+    reads_text wanted ++ has_text channels ++ all_of kinds (codes "input") (codes "channel") d
 
 -- how a rate comes of another one
 unfoldable pub product_text : ℕ → ℕ → ℕ → List ℕ

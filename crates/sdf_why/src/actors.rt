@@ -12,7 +12,7 @@ use std::alloc::{AllocError, Global};
 use toml::Value;
 
 /// Adds an actor, by the name and the kind in its table.
-fn push_actor_table(
+pub(crate) fn push_actor_table(
     alloc: Global,
     text: &mut String,
     number: usize,

@@ -5,7 +5,7 @@
 #![tactic(auto)]
 
 mod actors;
-pub mod cycle;
+mod cycle;
 mod document;
 mod limits;
 mod links;
@@ -13,6 +13,10 @@ mod marks;
 mod net;
 mod sound;
 mod tables;
+mod told;
 mod words;
 
+pub use cycle::Halt;
 pub use document::document_text;
+pub use sound::Header;
+pub use told::{Sources, channels_text, file_text, home_text, net_text, rate_text, stall_text};

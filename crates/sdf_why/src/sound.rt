@@ -3,7 +3,7 @@
 ghost use Rattle.std.specs.Prelude.{◌≡◌, ◌++◌, ◌*◌, ◌<◌, ◌≤◌, OnOk, string_bytes};
 ghost use Rattle.toml.specs.View.{view};
 ghost use Rattle.sdf_limits.specs.declared.TheConstants.{MOST_PERIOD, MOST_RATE};
-ghost use Rattle.sdf_why.specs.Sounds.{channels_line, channels_told, product_text, quotient_text, rate_line};
+ghost use Rattle.sdf_why.specs.Sounds.{reads_text, has_text, channels_told, product_text, quotient_text, rate_line};
 
 use crate::net::push_all_of;
 use crate::tables::Source;
@@ -13,15 +13,24 @@ use std::alloc::{AllocError, Global};
 #[derive(Clone, Copy, Debug, PartialEq, Eq)]
 pub struct Header {
     pub rate: u32,
-    pub channels: u16,
+    pub channels: u32,
 }
 
-/// Adds how many channels a design reads, and how many a sound has.
-#[tactic(auto, unfolding(crate::specs::Sounds::channels_line))]
-fn push_both(text: &mut String, wanted: usize, channels: u16) -> Result<(), AllocError>
-    ensures { OnOk result (string_bytes text.new ≡ string_bytes text.old ++ channels_line wanted channels) }
+/// Adds how many channels a design reads.
+#[tactic(auto, unfolding(crate::specs::Sounds::reads_text))]
+fn push_reads(text: &mut String, wanted: usize) -> Result<(), AllocError>
+    ensures { OnOk result (string_bytes text.new ≡ string_bytes text.old ++ reads_text wanted) }
 {
-    writeln!(text, "  the design reads {wanted} channels, the sound has {channels}")?;
+    write!(text, "  the design reads {wanted} channels")?;
+    Ok(())
+}
+
+/// Adds how many channels a sound has.
+#[tactic(auto, unfolding(crate::specs::Sounds::has_text))]
+fn push_has(text: &mut String, channels: u32) -> Result<(), AllocError>
+    ensures { OnOk result (string_bytes text.new ≡ string_bytes text.old ++ has_text channels) }
+{
+    writeln!(text, ", the sound has {channels}")?;
     Ok(())
 }
 
@@ -37,7 +46,8 @@ pub(crate) fn push_channels(
     ensures { OnOk result (string_bytes text.new ≡ string_bytes text.old
         ++ channels_told source.entry.kinds.now (view source.entry.graph.now) wanted header.channels) }
 {
-    push_both(text, wanted, header.channels)?;
+    push_reads(text, wanted)?;
+    push_has(text, header.channels)?;
     push_all_of(alloc, text, source, "input", "channel")
 }
 

@@ -5,16 +5,18 @@ use sdf_options::Options;
 /// The highest number of a fault.
 pub const MOST_FAULT: u32 = 63;
 
-/// A command, its files by their paths.
+/// A command, its files by their paths. With `why` more is told of a fault.
 #[derive(Clone, Copy, Debug, PartialEq, Eq)]
 pub enum Words<'a> {
     Check {
         graph: &'a str,
+        why: bool,
     },
     /// The options but the runner and the patience.
     Schedule {
         graph: &'a str,
         options: Options,
+        why: bool,
     },
     /// The options as of a schedule. With `compare` the policy and the placement mean nothing.
     Analyze {
@@ -27,6 +29,7 @@ pub enum Words<'a> {
         input: &'a str,
         output: &'a str,
         options: Options,
+        why: bool,
     },
     /// The table of kinds.
     Kinds,
