@@ -18,3 +18,5 @@ mod shelf;
 mod standard;
 #[cfg(test)]
 mod streams;
+#[cfg(test)]
+mod why;

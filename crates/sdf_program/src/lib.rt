@@ -14,3 +14,4 @@ mod printing;
 pub mod program;
 mod running;
 pub mod storage;
+mod telling;

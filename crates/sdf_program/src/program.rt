@@ -4,11 +4,13 @@ ghost use Rattle.std.specs.Prelude.{◌≡◌, ◌⊎◌};
 ghost use Rattle.sdf_process.specs.Statuses.{status_of};
 ghost use Rattle.sdf_process.specs.declared.fault.Fault.TheVariants.{OutOfMemory};
 
+use crate::files::Sources;
 use crate::printing::{check, print_analysis, print_schedule, show};
 use crate::running::{Paths, run};
 use crate::storage::Storage;
+use crate::telling::tell_more;
 use sdf_document::kinds_text;
-use sdf_options::WordFault;
+use sdf_options::{Options, WordFault};
 use sdf_process::{Fault, fault_text, status};
 use sdf_words::{Words, explained, words};
 use std::alloc::{AllocError, Global};
@@ -27,17 +29,39 @@ pub struct World<'a, S, T> {
     pub most: u32,
 }
 
-/// Does what the words ask for, of which the first is the program's name.
+/// Does what the words ask for, of which the first is the program's name. What more is told of a fault, where that is
+/// asked for, goes to `more`.
 fn obey<S: Storage, T: Threads + AllocGlobal + Sync, I: Read, O: Write>(
     world: &World<S, T>,
     stdin: &mut I,
     out: &mut O,
     line: &[&str],
+    more: &mut String,
 ) -> Result<(), Fault> {
     let alloc = world.threads.alloc();
     match words(alloc, line) {
-        Ok(Words::Check { graph }) => check(world, out, graph),
-        Ok(Words::Schedule { graph, options }) => print_schedule(world, out, graph, &options),
+        Ok(Words::Check { graph, why }) => {
+            let mut sources = Sources::new(alloc);
+            let done = check(world, out, graph, &mut sources);
+            if why {
+                tell_more(alloc, &done, &Options::DEFAULT, &sources, more);
+            }
+            done
+        }
+        Ok(
+            Words::Schedule {
+                graph,
+                options,
+                why,
+            },
+        ) => {
+            let mut sources = Sources::new(alloc);
+            let done = print_schedule(world, out, graph, &options, &mut sources);
+            if why {
+                tell_more(alloc, &done, &options, &sources, more);
+            }
+            done
+        }
         Ok(
             Words::Analyze {
                 graph,
@@ -51,6 +75,7 @@ fn obey<S: Storage, T: Threads + AllocGlobal + Sync, I: Read, O: Write>(
                 input,
                 output,
                 options,
+                why,
             },
         ) => {
             let paths = Paths {
@@ -58,7 +83,12 @@ fn obey<S: Storage, T: Threads + AllocGlobal + Sync, I: Read, O: Write>(
                 input,
                 output,
             };
-            run(world, stdin, out, paths, &options)
+            let mut sources = Sources::new(alloc);
+            let done = run(world, stdin, out, paths, &options, &mut sources);
+            if why {
+                tell_more(alloc, &done, &options, &sources, more);
+            }
+            done
         }
         Ok(Words::Kinds) => show(out, kinds_text(alloc)?.as_str()),
         Ok(Words::Explain { number }) => show(out, explained(alloc, number)?.as_str()),
@@ -78,13 +108,15 @@ fn told(alloc: Global, fault: &Fault) -> Result<String, AllocError> {
     }
 }
 
-/// Tells a fault on standard error, and gives its exit status; that of memory where there is none for its text.
-fn tell<E: Write>(alloc: Global, err: &mut E, fault: &Fault) -> u8
+/// Tells a fault on standard error and what more is told of it, and gives its exit status; that of memory where there is
+/// none for its text.
+fn tell<E: Write>(alloc: Global, err: &mut E, fault: &Fault, more: &str) -> u8
     ensures { (result ≡ status_of fault.now) ⊎ (result ≡ status_of OutOfMemory) }
 {
     match told(alloc, fault) {
         Ok(text) => {
             let _ = err.write_all(text.as_bytes());
+            let _ = err.write_all(more.as_bytes());
             status(fault)
         }
         Err(_) => {
@@ -100,13 +132,14 @@ fn answer<S: Storage, T: Threads + AllocGlobal + Sync, I: Read, O: Write>(
     stdin: &mut I,
     out: &mut O,
     given: Result<Vec<String>, WordFault>,
+    more: &mut String,
 ) -> Result<(), Fault> {
     let given = given?;
     let mut line = Vec::new(world.threads.alloc());
     for word in &given {
         line.push(word.as_str())?;
     }
-    obey(world, stdin, out, line.as_slice())
+    obey(world, stdin, out, line.as_slice(), more)
 }
 
 /// The whole program: what it was started with, what it works on and standard input come in, what it prints and
@@ -118,8 +151,9 @@ pub fn serve<S: Storage, T: Threads + AllocGlobal + Sync, I: Read, O: Write, E: 
     err: &mut E,
     given: Result<Vec<String>, WordFault>,
 ) -> u8 {
-    match answer(world, stdin, out, given) {
+    let mut more = String::new(world.threads.alloc());
+    match answer(world, stdin, out, given, &mut more) {
         Ok(()) => 0,
-        Err(fault) => tell(world.threads.alloc(), err, &fault),
+        Err(fault) => tell(world.threads.alloc(), err, &fault, more.as_str()),
     }
 }

@@ -8,3 +8,4 @@ pub mod Nets
 pub mod Cycles
 pub mod Sounds
 pub mod Told
+pub mod Said

@@ -76,3 +76,7 @@ key_line key None None = []
 key_line key None (Some limits) = codes "  " ++ printable_text key ++ codes " wants " ++ limits ++ end
 key_line key (Some d) limits =
     codes "  " ++ printable_text key ++ codes " = " ++ value_text d ++ limits_text limits ++ end
+
+-- what was said of a file
+unfoldable pub said_line : List ℕ → List ℕ → List ℕ
+said_line name said = codes "  " ++ quoted name ++ codes ": " ++ printable_text said ++ end

@@ -11,6 +11,7 @@ mod limits;
 mod links;
 mod marks;
 mod net;
+mod said;
 mod sound;
 mod tables;
 mod told;
@@ -18,5 +19,6 @@ mod words;
 
 pub use cycle::Halt;
 pub use document::document_text;
+pub use said::{device_text, toml_text};
 pub use sound::Header;
 pub use told::{Sources, channels_text, file_text, home_text, net_text, rate_text, stall_text};

@@ -3,7 +3,7 @@
 ghost use Rattle.std.specs.Prelude.{◌≡◌, ◌++◌, OnOk, option_map, string_bytes};
 ghost use Rattle.toml.specs.View.{view};
 ghost use Rattle.sdf_why.specs.Words.{quoted, value_text, article, name_text, kind_text, end_text, actor_line, link_words};
-ghost use Rattle.sdf_why.specs.Words.{link_line, lack_line, limits_text, key_line, is_vowel};
+ghost use Rattle.sdf_why.specs.Words.{link_line, lack_line, limits_text, key_line, is_vowel, said_line};
 ghost use Rattle.sdf_options.specs.Printable.{printable_text};
 
 use crate::marks::has;
@@ -211,5 +211,22 @@ pub(crate) fn push_key(
         (None, Some(limits)) => write!(text, " wants {limits}")?,
         (None, None) => {}
     }
+    Ok(text.push_str("\n")?)
+}
+
+/// Adds what was said of a file.
+#[tactic(auto, unfolding(crate::specs::Words::said_line))]
+pub(crate) fn push_said(
+    alloc: Global,
+    text: &mut String,
+    name: &str,
+    said: &str,
+) -> Result<(), AllocError>
+    ensures { OnOk result (string_bytes text.new ≡ string_bytes text.old ++ said_line name.now said.now) }
+{
+    text.push_str("  ")?;
+    push_quoted(alloc, text, name)?;
+    text.push_str(": ")?;
+    push_printable(alloc, text, said)?;
     Ok(text.push_str("\n")?)
 }

@@ -6,3 +6,7 @@
 
 #[cfg(test)]
 mod documents;
+#[cfg(test)]
+mod nets;
+#[cfg(test)]
+mod sounds;
