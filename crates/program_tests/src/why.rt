@@ -34,12 +34,28 @@ fn ends_so<T: Abort + Threads + AllocGlobal + Sync>(
 fn deadlocks_are_told(rt: HostRuntime) -> Result<(), Fail> {
     let line = "sdfw: 10 Deadlock\nin 1 of 1\nadd 0 of 1 short link 3\nfork 0 of 1 short link 1\n\
         out 0 of 1 short link 2\n";
-    let cycle = "  link 3 is fork:1 -> add:1, holds 0, wants 1\n  link 1 is add:0 -> fork:0, holds 0, wants 1\n";
+    let cycle =
+        "  link 3 is fork:1 -> add:1, holds 0, wants 1\n  link 1 is add:0 -> fork:0, holds 0, wants 1\n";
     let told = format!(in rt.alloc(); "{line}{cycle}")?;
     ends_so(&rt, &["sdfw", "check", "stuck.toml"], 3, line)?;
-    ends_so(&rt, &["sdfw", "check", "stuck.toml", "--why"], 3, told.as_str())?;
-    ends_so(&rt, &["sdfw", "schedule", "stuck.toml", "--why"], 3, told.as_str())?;
-    ends_so(&rt, &["sdfw", "run", "stuck.toml", "in.wav", "out.wav", "--why"], 3, told.as_str())
+    ends_so(
+        &rt,
+        &["sdfw", "check", "stuck.toml", "--why"],
+        3,
+        told.as_str(),
+    )?;
+    ends_so(
+        &rt,
+        &["sdfw", "schedule", "stuck.toml", "--why"],
+        3,
+        told.as_str(),
+    )?;
+    ends_so(
+        &rt,
+        &["sdfw", "run", "stuck.toml", "in.wav", "out.wav", "--why"],
+        3,
+        told.as_str(),
+    )
 }
 
 /// An actor without a home is told by its name, and a fault of which no more is known by its line alone.
@@ -47,9 +63,21 @@ fn deadlocks_are_told(rt: HostRuntime) -> Result<(), Fail> {
 fn homes_are_told(rt: HostRuntime) -> Result<(), Fail> {
     ends_so(
         &rt,
-        &["sdfw", "schedule", "begun.toml", "--placement", "file", "--why"],
+        &[
+            "sdfw",
+            "schedule",
+            "begun.toml",
+            "--placement",
+            "file",
+            "--why",
+        ],
         3,
         "sdfw: 19 BadHome actor 0\n  actor 0 is \"in\", an input\n  processor = 1, wants 0..0\n",
     )?;
-    ends_so(&rt, &["sdfw", "check", "none.toml", "--why"], 5, "sdfw: 47 Read\n")
+    ends_so(
+        &rt,
+        &["sdfw", "check", "none.toml", "--why"],
+        5,
+        "sdfw: 47 Read\n",
+    )
 }

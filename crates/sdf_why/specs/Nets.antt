@@ -1,5 +1,5 @@
 -- What is told of a net that is refused, by the first test that it fails.
-use Rattle.std.specs.Prelude.{◌==◌, ◌&&◌, ℕ, ℤ, Bool, false, List, [], ◌++◌, codes, decimal, Option, Some, None, find}
+use Rattle.std.specs.Prelude.{◌&&◌, ℕ, ℤ, Bool, false, List, [], ◌++◌, codes, decimal, Option, Some, None, find}
 use Rattle.std.specs.Prelude.{option_and_then, bytes_eq, if◌then◌else◌}
 use Rattle.std.specs.Ordering.{int_eq}
 use Rattle.std.specs.List.{flat_map, range_with_len}

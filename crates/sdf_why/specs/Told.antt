@@ -1,5 +1,5 @@
 -- What is told of a fault, by the files of the design.
-use Rattle.std.specs.Prelude.{◌≡◌, ℕ, ◌-◌, List, [], ◌++◌, codes, Option, Some, None}
+use Rattle.std.specs.Prelude.{◌≡◌, ℕ, ◌-◌, List, [], ◌++◌, codes, Some}
 use Rattle.toml.specs.Data.{Data}
 use Rattle.sdf_graph.specs.Rates.{rates}
 use Rattle.sdf_graph.specs.Periods.{IsLeastPeriod}

@@ -26,6 +26,15 @@ fn said_of(alloc: Global, error: &Error) -> Result<String, AllocError> {
     format!(in alloc; "{place}: {message}")
 }
 
+/// What is told of a file by an error of its reader.
+fn error_text(alloc: Global, name: &str, error: &Error) -> Result<String, AllocError>
+    ensures { IfOk result (λ text. IsTomlText name.now (string_bytes text)) }
+{
+    let said = said_of(alloc, error)?;
+    let text = device_text(alloc, name, said.as_str())?;
+    Ok(text)
+}
+
 /// What is told of a file that is no TOML document: where it is none, and nothing where it is one.
 pub fn toml_text(alloc: Global, name: &str, bytes: &[u8]) -> Result<String, AllocError>
     ensures { IfOk result (λ text. IsTomlText name.now (string_bytes text)) }
@@ -33,9 +42,6 @@ pub fn toml_text(alloc: Global, name: &str, bytes: &[u8]) -> Result<String, Allo
     match toml::table_from_slice(alloc, bytes) {
         Ok(_) => Ok(String::new(alloc)),
         Err(error) if error.is_memory() => Err(AllocError),
-        Err(error) => {
-            let said = said_of(alloc, &error)?;
-            device_text(alloc, name, said.as_str())
-        }
+        Err(error) => error_text(alloc, name, &error),
     }
 }

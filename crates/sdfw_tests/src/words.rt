@@ -129,7 +129,13 @@ fn numbers_have_their_fields(rt: HostRuntime) {
 fn commands_have_their_arguments(rt: HostRuntime) -> Result<(), Fail> {
     let alloc = rt.alloc();
     match words(alloc, &["sdfw", "check", "a b"]) {
-        Ok(read) => assert_eq!(rt; read, Words::Check { graph: "a b", why: false }),
+        Ok(read) => assert_eq!(rt;
+            read,
+            Words::Check {
+                graph: "a b",
+                why: false
+            }
+        ),
         Err(_) => assert!(rt; false),
     }
     match words(alloc, &["sdfw", "schedule", "a b", "--workers", "2"]) {

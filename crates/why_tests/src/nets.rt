@@ -15,15 +15,18 @@ struct Row {
 }
 
 /// An input, a fork of two ways and an output.
-const FORKED: &str = "{ name = \"in\", kind = \"input\", channel = 0 }, { name = \"two\", kind = \"fork\", ways = 2 },
+const FORKED: &str =
+    "{ name = \"in\", kind = \"input\", channel = 0 }, { name = \"two\", kind = \"fork\", ways = 2 },
     { name = \"out\", kind = \"output\", channel = 0 }";
 
 /// A second output of channel 0, and two inputs and an output of which one has no partner.
-const RIVALS: &str = "{ name = \"in\", kind = \"input\", channel = 0 }, { name = \"two\", kind = \"fork\", ways = 2 },
+const RIVALS: &str =
+    "{ name = \"in\", kind = \"input\", channel = 0 }, { name = \"two\", kind = \"fork\", ways = 2 },
     { name = \"out\", kind = \"output\", channel = 0 }, { name = \"again\", kind = \"output\", channel = 0 }";
 
 /// An output of channel 1 alone.
-const SECOND: &str = "{ name = \"in\", kind = \"input\", channel = 0 }, { name = \"out\", kind = \"output\", channel = 1 }";
+const SECOND: &str =
+    "{ name = \"in\", kind = \"input\", channel = 0 }, { name = \"out\", kind = \"output\", channel = 1 }";
 
 static ROWS: [Row; 5] = [
     Row {

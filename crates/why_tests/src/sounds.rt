@@ -1,6 +1,8 @@
 //! Deadlocks, sounds that a design does not take, and files of which something was said.
 
-use sdf_why::{Halt, Header, Sources, channels_text, device_text, home_text, rate_text, stall_text, toml_text};
+use sdf_why::{
+    Halt, Header, Sources, channels_text, device_text, home_text, rate_text, stall_text, toml_text,
+};
 use std::process::Abort;
 use std::test::Fail;
 
@@ -29,10 +31,22 @@ fn sources(text: &str) -> Sources<'_> {
 
 /// Where the loop stops: the input has fired, and each other actor waits.
 static HALTS: [Halt; 4] = [
-    Halt { done: 1, short: None },
-    Halt { done: 0, short: Some(3) },
-    Halt { done: 0, short: Some(1) },
-    Halt { done: 0, short: Some(2) },
+    Halt {
+        done: 1,
+        short: None,
+    },
+    Halt {
+        done: 0,
+        short: Some(3),
+    },
+    Halt {
+        done: 0,
+        short: Some(1),
+    },
+    Halt {
+        done: 0,
+        short: Some(2),
+    },
 ];
 
 /// A text without a cycle fails here.
@@ -62,7 +76,10 @@ fn sounds_are_told(rt: HostRuntime) -> Result<(), Fail> {
     let told = rate_text(alloc, header, sources(DESIGN))?;
     assert_eq!(rt; told.as_str(), "  44101 * 2 / 3 = 29400 and 2/3\n");
     let told = home_text(alloc, 2, 4, DESIGN.as_bytes())?;
-    assert_eq!(rt; told.as_str(), "  actor 4 is \"out\", an output\n  processor = 2, wants 0..1\n");
+    assert_eq!(rt;
+        told.as_str(),
+        "  actor 4 is \"out\", an output\n  processor = 2, wants 0..1\n"
+    );
     Ok(())
 }
 
@@ -72,7 +89,10 @@ fn what_was_said_is_told(rt: HostRuntime) -> Result<(), Fail> {
     let told = device_text(alloc, "a\u{7}.toml", "not found")?;
     assert_eq!(rt; told.as_str(), "  \"a\\u{7}.toml\": not found\n");
     let told = toml_text(alloc, "a.toml", b"format = 1\nactor = [\n")?;
-    assert!(rt; told.as_str().contains("\"a.toml\": TOML parse error at line 3, column 1: "));
+    assert!(rt;
+        told.as_str()
+            .contains("\"a.toml\": TOML parse error at line 3, column 1: ")
+    );
     let told = toml_text(alloc, "a.toml", b"format = 1\n")?;
     assert_eq!(rt; told.as_str(), "");
     Ok(())
