@@ -20,3 +20,5 @@ mod shelf;
 mod standard;
 #[cfg(test)]
 mod streams;
+#[cfg(test)]
+mod why;

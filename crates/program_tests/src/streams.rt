@@ -114,10 +114,11 @@ fn answers_stand_on_standard_output(rt: HostRuntime) -> Result<(), Fail> {
         (&["sdfw", "--version"], "sdfw 0.1.0\n"),
         (
             &["sdfw", "check", "-h"],
-            "Checks a graph file and prints its period\n\nUsage: sdfw check <GRAPH>\n\n\
+            "Checks a graph file and prints its period\n\nUsage: sdfw check [OPTIONS] <GRAPH>\n\n\
              Arguments:\n  <GRAPH>  The graph file\n\n\
-             Options:\n  -h, --help  Print help (see more with '--help')\n\n\
-             Examples:\n  sdfw check graph.toml\n  sdfw check examples/44100-to-48000/graph.toml\n",
+             Options:\n      --why   Says more of a fault: names, values and limits\n  \
+             -h, --help  Print help (see more with '--help')\n\n\
+             Examples:\n  sdfw check graph.toml\n  sdfw check graph.toml --why\n",
         ),
         (
             &["sdfw", "help", "kinds"],

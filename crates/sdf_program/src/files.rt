@@ -69,6 +69,23 @@ fn read_files<S: Storage>(
     Ok(files)
 }
 
+/// What was read so far: the graph file, and its coefficient files that can be opened, each with its name.
+#[derive(Drop)]
+pub struct Sources {
+    pub graph: Vec<u8>,
+    pub files: Vec<(String, Vec<u8>)>,
+}
+
+impl Sources {
+    /// Before anything is read.
+    pub fn new(alloc: Global) -> Sources {
+        Sources {
+            graph: Vec::new(alloc),
+            files: Vec::new(alloc),
+        }
+    }
+}
+
 /// A design, and the names of the coefficient files that it was read with.
 #[derive(Drop)]
 pub struct Loaded {
@@ -77,29 +94,41 @@ pub struct Loaded {
 }
 
 /// The names of files.
-fn names_of(alloc: Global, files: Vec<(String, Vec<u8>)>) -> Result<Vec<String>, AllocError> {
+fn names_of(alloc: Global, files: &[(String, Vec<u8>)]) -> Result<Vec<String>, AllocError> {
     let mut names = Vec::new(alloc);
-    for (name, _) in files {
-        names.push(name)?;
+    for file in files {
+        names.push(file.0.clone()?)?;
     }
     Ok(names)
 }
 
-/// The design of a graph file and the coefficient files that it names, none of which has over `most` bytes.
+/// The design of a graph file and the coefficient files that it names, none of which has over `most` bytes. What is
+/// read stands in `sources`, also where there is a fault.
+pub(crate) fn load_into<S: Storage>(
+    alloc: Global,
+    storage: &S,
+    graph: &str,
+    most: u32,
+    sources: &mut Sources,
+) -> Result<Loaded, Fault> {
+    let file = match storage.open(graph) {
+        Ok(file) => file,
+        Err(error) => return Err(device_fault(&error, Fault::Read)),
+    };
+    sources.graph = read_all(alloc, file, most)?;
+    let names = design_files(alloc, &sources.graph)?;
+    sources.files = read_files(alloc, storage, graph, names, most)?;
+    let design = read_design(alloc, &sources.graph, &sources.files)?;
+    let names = names_of(alloc, &sources.files)?;
+    Ok(Loaded { design, names })
+}
+
+/// The same where what was read is wanted no more.
 pub fn load<S: Storage>(
     alloc: Global,
     storage: &S,
     graph: &str,
     most: u32,
 ) -> Result<Loaded, Fault> {
-    let file = match storage.open(graph) {
-        Ok(file) => file,
-        Err(error) => return Err(device_fault(&error, Fault::Read)),
-    };
-    let bytes = read_all(alloc, file, most)?;
-    let names = design_files(alloc, &bytes)?;
-    let files = read_files(alloc, storage, graph, names, most)?;
-    let design = read_design(alloc, &bytes, &files)?;
-    let names = names_of(alloc, files)?;
-    Ok(Loaded { design, names })
+    load_into(alloc, storage, graph, most, &mut Sources::new(alloc))
 }

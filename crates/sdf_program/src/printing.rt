@@ -2,7 +2,7 @@
 
 ghost use Rattle.sdf_options.specs.Limits.{AreWithinLimits};
 
-use crate::files::{Loaded, device_fault, load};
+use crate::files::{Loaded, Sources, device_fault, load, load_into};
 use crate::program::World;
 use crate::storage::Storage;
 use sdf_analyze::{analyze, compare};
@@ -26,9 +26,10 @@ pub(crate) fn check<S: Storage, T: AllocGlobal, O: Write>(
     world: &World<S, T>,
     out: &mut O,
     graph: &str,
+    sources: &mut Sources,
 ) -> Result<(), Fault> {
     let alloc = world.threads.alloc();
-    let Loaded { design, .. } = load(alloc, world.storage, graph, world.most)?;
+    let Loaded { design, .. } = load_into(alloc, world.storage, graph, world.most, sources)?;
     plan(alloc, &design, &Options::DEFAULT)?;
     let text = check_text(alloc, &design)?;
     show(out, text.as_str())
@@ -40,9 +41,10 @@ pub(crate) fn print_schedule<S: Storage, T: AllocGlobal, O: Write>(
     out: &mut O,
     graph: &str,
     options: &Options,
+    sources: &mut Sources,
 ) -> Result<(), Fault> {
     let alloc = world.threads.alloc();
-    let Loaded { design, .. } = load(alloc, world.storage, graph, world.most)?;
+    let Loaded { design, .. } = load_into(alloc, world.storage, graph, world.most, sources)?;
     let text = schedule(alloc, &design, options)?;
     show(out, text.as_str())
 }

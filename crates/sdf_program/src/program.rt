@@ -8,8 +8,9 @@ use crate::making::{fir, resample};
 use crate::printing::{check, print_analysis, print_schedule, show};
 use crate::running::{Paths, run};
 use crate::storage::Storage;
+use crate::telling::Background;
 use sdf_document::kinds_text;
-use sdf_options::WordFault;
+use sdf_options::{Options, WordFault};
 use sdf_process::{Fault, fault_text, status};
 use sdf_words::{Words, explained, words};
 use std::alloc::{AllocError, Global};
@@ -28,18 +29,32 @@ pub struct World<'a, S, T> {
     pub most: u32,
 }
 
-/// Does what the words ask for, of which the first is the program's name.
+/// Does what the words ask for, of which the first is the program's name. What a fault can be told by is left in
+/// `background`.
 fn obey<S: Storage, T: Threads + AllocGlobal + Sync, I: Read, O: Write, E: Write>(
     world: &World<S, T>,
     stdin: &mut I,
     out: &mut O,
     err: &mut E,
     line: &[&str],
+    background: &mut Background,
 ) -> Result<(), Fault> {
     let alloc = world.threads.alloc();
     match words(alloc, line) {
-        Ok(Words::Check { graph }) => check(world, out, graph),
-        Ok(Words::Schedule { graph, options }) => print_schedule(world, out, graph, &options),
+        Ok(Words::Check { graph, why }) => {
+            background.asked(why, &Options::DEFAULT);
+            check(world, out, graph, &mut background.sources)
+        }
+        Ok(
+            Words::Schedule {
+                graph,
+                options,
+                why,
+            },
+        ) => {
+            background.asked(why, &options);
+            print_schedule(world, out, graph, &options, &mut background.sources)
+        }
         Ok(
             Words::Analyze {
                 graph,
@@ -53,6 +68,7 @@ fn obey<S: Storage, T: Threads + AllocGlobal + Sync, I: Read, O: Write, E: Write
                 input,
                 output,
                 options,
+                why,
             },
         ) => {
             let paths = Paths {
@@ -60,7 +76,8 @@ fn obey<S: Storage, T: Threads + AllocGlobal + Sync, I: Read, O: Write, E: Write
                 input,
                 output,
             };
-            run(world, stdin, out, paths, &options)
+            background.asked(why, &options);
+            run(world, stdin, out, paths, &options, &mut background.sources)
         }
         Ok(Words::Fir { wanted }) => fir(world, out, err, wanted),
         Ok(Words::Resample { conversion }) => resample(world, err, conversion),
@@ -82,13 +99,15 @@ fn told(alloc: Global, fault: &Fault) -> Result<String, AllocError> {
     }
 }
 
-/// Tells a fault on standard error, and gives its exit status; that of memory where there is none for its text.
-fn tell<E: Write>(alloc: Global, err: &mut E, fault: &Fault) -> u8
+/// Tells a fault on standard error and what more is known of it, and gives its exit status; that of memory where there is
+/// none for its text.
+fn tell<E: Write>(alloc: Global, err: &mut E, fault: &Fault, background: &Background) -> u8
     ensures { (result ≡ status_of fault.now) ⊎ (result ≡ status_of OutOfMemory) }
 {
     match told(alloc, fault) {
         Ok(text) => {
             let _ = err.write_all(text.as_bytes());
+            background.tell(alloc, err, fault);
             status(fault)
         }
         Err(_) => {
@@ -105,13 +124,14 @@ fn answer<S: Storage, T: Threads + AllocGlobal + Sync, I: Read, O: Write, E: Wri
     out: &mut O,
     err: &mut E,
     given: Result<Vec<String>, WordFault>,
+    background: &mut Background,
 ) -> Result<(), Fault> {
     let given = given?;
     let mut line = Vec::new(world.threads.alloc());
     for word in &given {
         line.push(word.as_str())?;
     }
-    obey(world, stdin, out, err, line.as_slice())
+    obey(world, stdin, out, err, line.as_slice(), background)
 }
 
 /// The whole program: what it was started with, what it works on and standard input come in, what it prints and
@@ -123,8 +143,10 @@ pub fn serve<S: Storage, T: Threads + AllocGlobal + Sync, I: Read, O: Write, E: 
     err: &mut E,
     given: Result<Vec<String>, WordFault>,
 ) -> u8 {
-    match answer(world, stdin, out, err, given) {
+    let alloc = world.threads.alloc();
+    let mut background = Background::new(alloc);
+    match answer(world, stdin, out, err, given, &mut background) {
         Ok(()) => 0,
-        Err(fault) => tell(world.threads.alloc(), err, &fault),
+        Err(fault) => tell(alloc, err, &fault, &background),
     }
 }

@@ -2,7 +2,7 @@
 
 ghost use Rattle.sdf_process.specs.Plans.{Suits};
 
-use crate::files::{Loaded, device_fault, load};
+use crate::files::{Loaded, Sources, device_fault, load_into};
 use crate::overwriting::keep_what_is_read;
 use crate::program::{STANDARD, World};
 use crate::storage::Storage;
@@ -78,9 +78,10 @@ pub(crate) fn run<S: Storage, T: Threads + AllocGlobal + Sync, I: Read, O: Write
     out: &mut O,
     paths: Paths<'_>,
     options: &Options,
+    sources: &mut Sources,
 ) -> Result<(), Fault> {
     let alloc = world.threads.alloc();
-    let loaded = load(alloc, world.storage, paths.graph, world.most)?;
+    let loaded = load_into(alloc, world.storage, paths.graph, world.most, sources)?;
     let plan = plan(alloc, &loaded.design, options)?;
     if paths.input == STANDARD {
         return run_from(world, stdin, out, paths, &loaded, &plan);

@@ -8,10 +8,10 @@ use Rattle.sdf_words.specs.declared.asked.Words.TheVariants.{Kinds, Explain}
 
 -- the numbers of a command are within their limits
 abbrev pub IsWithinLimits : Words → Type 0
-IsWithinLimits (Check graph) = Unit {0}
-IsWithinLimits (Schedule graph options) = AreWithinLimits options
+IsWithinLimits (Check graph why) = Unit {0}
+IsWithinLimits (Schedule graph options why) = AreWithinLimits options
 IsWithinLimits (Analyze graph options compare) = AreWithinLimits options
-IsWithinLimits (Run graph input output options) = AreWithinLimits options
+IsWithinLimits (Run graph input output options why) = AreWithinLimits options
 IsWithinLimits (Fir wanted) = Unit {0}
 IsWithinLimits (Resample conversion) = Unit {0}
 IsWithinLimits Kinds = Unit {0}

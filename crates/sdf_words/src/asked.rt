@@ -17,16 +17,18 @@ pub struct Conversion<'a> {
     pub attenuation: u32,
 }
 
-/// A command, its files by their paths.
+/// A command, its files by their paths. With `why` more is told of a fault.
 #[derive(Clone, Copy, Debug, PartialEq, Eq)]
 pub enum Words<'a> {
     Check {
         graph: &'a str,
+        why: bool,
     },
     /// The options but the runner and the patience.
     Schedule {
         graph: &'a str,
         options: Options,
+        why: bool,
     },
     /// The options as of a schedule. With `compare` the policy and the placement mean nothing.
     Analyze {
@@ -39,6 +41,7 @@ pub enum Words<'a> {
         input: &'a str,
         output: &'a str,
         options: Options,
+        why: bool,
     },
     /// The coefficient file of a filter.
     Fir {

@@ -74,6 +74,7 @@ fn schedule_of<'a>(matches: &ArgMatches<'a>) -> Option<Words<'a>>
     Some(Words::Schedule {
         graph: matches.get_str("GRAPH")?,
         options: plan_options_of(matches)?,
+        why: matches.get_flag("why"),
     })
 }
 
@@ -97,6 +98,7 @@ fn run_of<'a>(matches: &ArgMatches<'a>) -> Option<Words<'a>>
         input: matches.get_str("IN")?,
         output: matches.get_str("OUT")?,
         options: options_of(matches)?,
+        why: matches.get_flag("why"),
     })
 }
 
@@ -156,6 +158,7 @@ fn asked<'a>(name: &str, matches: &ArgMatches<'a>) -> Option<Words<'a>>
     match name {
         "check" => Some(Words::Check {
             graph: matches.get_str("GRAPH")?,
+            why: matches.get_flag("why"),
         }),
         "schedule" => schedule_of(matches),
         "analyze" => analyze_of(matches),

@@ -16,6 +16,7 @@ fn options_of<'a>(rt: &impl Abort, alloc: Global, line: &'a [&'a str]) -> Option
                 input,
                 output,
                 options,
+                why: false,
             },
         ) => {
             assert_eq!(rt; (graph, input, output), ("g", "i", "o"));
@@ -128,7 +129,13 @@ fn numbers_have_their_fields(rt: HostRuntime) {
 fn commands_have_their_arguments(rt: HostRuntime) -> Result<(), Fail> {
     let alloc = rt.alloc();
     match words(alloc, &["sdfw", "check", "a b"]) {
-        Ok(read) => assert_eq!(rt; read, Words::Check { graph: "a b" }),
+        Ok(read) => assert_eq!(rt;
+            read,
+            Words::Check {
+                graph: "a b",
+                why: false
+            }
+        ),
         Err(_) => assert!(rt; false),
     }
     match words(alloc, &["sdfw", "schedule", "a b", "--workers", "2"]) {
@@ -141,7 +148,8 @@ fn commands_have_their_arguments(rt: HostRuntime) -> Result<(), Fail> {
                 read,
                 Words::Schedule {
                     graph: "a b",
-                    options
+                    options,
+                    why: false
                 }
             );
         }

@@ -233,6 +233,13 @@ const CHANNELS: Choice = Choice {
     default: Some("1"),
 };
 
+const WHY: Switch = Switch {
+    name: "why",
+    help: "Says more of a fault: names, values and limits",
+    more: "Says more of a fault: after its line come lines that begin with two blanks and have the names of
+actors and the ends of links, what stands at a key and what it wants, or a cycle that lacks samples",
+};
+
 /// The examples of the program itself.
 pub(super) const EXAMPLES: &str = "Examples:
   sdfw check graph.toml
@@ -247,10 +254,10 @@ a period, how many of them are each actor's, and how many samples an input puts 
 in one. A fault is a line on standard error, which `sdfw explain` explains.",
         places: &[GRAPH],
         choices: &[],
-        switches: &[],
+        switches: &[WHY],
         examples: "Examples:
   sdfw check graph.toml
-  sdfw check examples/44100-to-48000/graph.toml",
+  sdfw check graph.toml --why",
     },
     Row {
         name: "schedule",
@@ -260,7 +267,7 @@ the table of a block, a line for each row with the firing of each worker, and th
 each link holds.",
         places: &[GRAPH],
         choices: &[BLOCKING, WORKERS, POLICY, PLACEMENT],
-        switches: &[],
+        switches: &[WHY],
         examples: "Examples:
   sdfw schedule graph.toml --policy lean
   sdfw schedule graph.toml --workers 2 --blocking 4",
@@ -286,7 +293,7 @@ is the work over the makespan; of each worker is said how much of the makespan i
 outputs take to OUT. The bytes are the same whatever the options are.",
         places: &[GRAPH, IN, OUT],
         choices: &[BLOCKING, WORKERS, POLICY, PLACEMENT, RUNNER, PATIENCE],
-        switches: &[],
+        switches: &[WHY],
         examples: "Examples:
   sdfw run graph.toml in.wav out.wav
   sdfw run graph.toml - - --runner rings --workers 2 --blocking 64 < in.wav > out.wav",

@@ -1,0 +1,5 @@
+pub mod Chains
+pub mod Items
+pub mod Lines
+pub mod Pieces
+pub mod Roots

@@ -1,0 +1,19 @@
+use Rattle.std.proofs.Common.{◌≡◌, rules, string_bytes}
+use Rattle.std.specs.List.{flat_map}
+use Rattle.toml.specs.View.{view}
+use Rattle.sdf_why.specs.Cycles.{IsCycle, lack_told, cycle}
+use Rattle.sdf_why.proofs.Chains.{chain_known}
+use Rattle.sdf_why.proofs.cycle.cycle_text.Goals as goal
+
+pub push_lacks-requires : goal.push_lacks-requires
+push_lacks-requires c =
+    let round : IsCycle c.args.graph.now c.args.halts.now c.in-Some.links.items = search rules in
+    rw c.deref.ensures.value (chain_known c.args.graph.now c.args.halts.now round.actor _ round.actor round.round)
+
+pub returns : goal.returns
+returns c =
+    let round : IsCycle c.args.graph.now c.args.halts.now c.in-Some.links.items = search rules in
+    let told : string_bytes c.push_lacks.new.text ≡
+        flat_map (lack_told (view c.args.document.now) c.args.graph.now c.args.halts.now) c.in-Some.links.items =
+        search rules in
+    cycle c.in-Some.links.items round told

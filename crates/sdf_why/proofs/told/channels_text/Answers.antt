@@ -1,0 +1,12 @@
+use Rattle.std.proofs.Common.{rules}
+use Rattle.std.proofs.lemmas.Result.{IfOk-weaker}
+use Rattle.toml.specs.View.{view}
+use Rattle.sdf_document.specs.Lists.{files_view}
+use Rattle.sdf_why.specs.Told.{Says, told}
+use Rattle.sdf_why.proofs.told.channels_text.Goals as goal
+
+pub returns : goal.returns
+returns c =
+    let says : Says c.args.sources.graph.now (files_view c.args.sources.files.now) (view c.in-Some.basis.document)
+        c.in-Some.basis.design = search rules in
+    IfOk-weaker c.channels_of.result _ _ (λ text h. told _ _ says h) c.channels_of.ensures

@@ -1,0 +1,34 @@
+-- What is told of an actor, by its table.
+use Rattle.std.specs.Prelude.{ℕ, List, [], ◌++◌, codes, Option, option_and_then}
+use Rattle.std.specs.Option.{option_map_or}
+use Rattle.toml.specs.Data.{Data, get}
+use Rattle.sdf_limits.specs.declared.TheConstants.{MOST_ACTORS}
+use Rattle.sdf_why.specs.Limits.{limits_of}
+use Rattle.sdf_why.specs.Words.{actor_line, key_line}
+use Rattle.sdf_why.specs.Tables.{text_at, entry, first_saying}
+
+-- lines of what is there
+abbrev pub lines_of : {A : Type 0} → (A → List ℕ) → Option A → List ℕ
+lines_of line o = option_map_or line o []
+
+-- actor a, by the name and the kind in its table
+abbrev pub actor_is : ℕ → Data → List ℕ
+actor_is a d = actor_line a (text_at (codes "name") d) (text_at (codes "kind") d)
+
+unfoldable pub actor_told : Data → ℕ → List ℕ
+actor_told d a = lines_of (actor_is a) (entry (codes "actor") a d)
+
+-- the limits of a key in an actor's table, by its kind
+unfoldable pub actor_limits : List ℕ → List ℕ → Data → Option (List ℕ)
+actor_limits kinds key d = option_and_then (λ kind. limits_of kinds kind key) (text_at (codes "kind") d)
+
+abbrev pub actor_key_is : List ℕ → ℕ → List ℕ → Data → List ℕ
+actor_key_is kinds a key d = actor_is a d ++ key_line key (get key d) (actor_limits kinds key d)
+
+-- actor a, and what stands at a key of its table
+unfoldable pub actor_key : List ℕ → ℕ → List ℕ → Data → List ℕ
+actor_key kinds a key d = lines_of (actor_key_is kinds a key) (entry (codes "actor") a d)
+
+-- the first actor that has this text at a key
+unfoldable pub first_told : List ℕ → List ℕ → Data → List ℕ
+first_told key text d = lines_of (actor_told d) (first_saying key text d MOST_ACTORS)

@@ -1,0 +1,56 @@
+-- What is told of a deadlock: a cycle of links that hold too little.
+use Rattle.std.specs.Prelude.{◌≡◌, ℕ, ◌<◌, List, [], ◌∷◌, length, codes, Option, Some, option_and_then}
+use Rattle.std.specs.Prelude.{slice_get}
+use Rattle.std.specs.Option.{option_map_or}
+use Rattle.std.specs.List.{flat_map}
+use Rattle.toml.specs.Data.{Data}
+use Rattle.sdf_graph.specs.Rates.{Shape, channel, rates, rate_at}
+use Rattle.sdf_graph.specs.Sequences.{tokens}
+use Rattle.sdf_why.specs.declared.cycle.Halt.{Halt}
+use Rattle.sdf_why.specs.Words.{lack_line}
+use Rattle.sdf_why.specs.Tables.{text_at, entry}
+use Rattle.sdf_why.specs.Actors.{lines_of}
+
+-- how often actor a has fired, and the channel that it waits for
+abbrev pub done_at : List Halt → ℕ → ℕ
+done_at halts a = option_map_or (λ (h : Halt). h.done) (slice_get halts a) 0
+
+abbrev pub short_at : List Halt → ℕ → Option ℕ
+short_at halts a = option_and_then (λ (h : Halt). h.short) (slice_get halts a)
+
+-- actor a waits for channel c, which comes from actor b
+pub record Waits (g : Shape) (halts : List Halt) (a c b : ℕ) : Type 0 where
+  pub known : c < length g.channels
+  pub into : (channel g c).to ≡ a
+  pub told : short_at halts a ≡ Some c
+  pub source : (channel g c).from ≡ b
+
+-- so on, from channel to channel, from actor a to actor b
+abbrev pub IsChain : Shape → List Halt → ℕ → List ℕ → ℕ → Type 0
+IsChain g halts a [] b = a ≡ b
+IsChain g halts a (c ∷ cs) b = (m : ℕ) × Waits g halts a c m × IsChain g halts m cs b
+
+-- the channels of a cycle of actors that each wait for the next one
+pub record IsCycle (g : Shape) (halts : List Halt) (cs : List ℕ) : Type 0 where
+  pub actor : ℕ
+  pub some : 0 < length cs
+  pub round : IsChain g halts actor cs actor
+
+-- what channel c holds, and what the next firing of its target takes
+abbrev pub held : Shape → List Halt → ℕ → ℕ
+held g halts c = tokens (rates g) (done_at halts) c
+
+abbrev pub wanted : Shape → List Halt → ℕ → ℕ
+wanted g halts c = rate_at (channel g c).take (done_at halts (channel g c).to)
+
+abbrev pub lack_is : Shape → List Halt → ℕ → Data → List ℕ
+lack_is g halts c d =
+    lack_line c (text_at (codes "from") d) (text_at (codes "to") d) (held g halts c) (wanted g halts c)
+
+unfoldable pub lack_told : Data → Shape → List Halt → ℕ → List ℕ
+lack_told d g halts c = lines_of (lack_is g halts c) (entry (codes "link") c d)
+
+-- one cycle, or nothing where the walk finds none
+pub data IsCycleText (d : Data) (g : Shape) (halts : List Halt) (text : List ℕ) : Type 0 where
+  cycle : (cs : List ℕ) → IsCycle g halts cs → text ≡ flat_map (lack_told d g halts) cs → IsCycleText d g halts text
+  none : text ≡ [] → IsCycleText d g halts text

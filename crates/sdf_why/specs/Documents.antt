@@ -1,0 +1,95 @@
+-- What is told of a graph file that is not read, by the first test that it fails.
+use Rattle.std.specs.Prelude.{ℕ, List, [], ◌++◌, codes, decimal, Option, Some, None, option_and_then}
+use Rattle.std.specs.Prelude.{is_some, bytes_eq, if◌then◌else◌}
+use Rattle.toml.specs.Data.{Data, get}
+use Rattle.sdf_limits.specs.declared.TheConstants.{MOST_ACTORS, MOST_LINKS}
+use Rattle.sdf_document.specs.Fault.{Place, top, actor, link, file, Fault, actor_count, channel_count, kit_value}
+use Rattle.sdf_document.specs.Fault.{not_toml, bad_format, unknown_key, missing_key, wrong_type, bad_name, name_twice}
+use Rattle.sdf_document.specs.Fault.{unknown_kind, bad_port, no_file}
+use Rattle.sdf_document.specs.Listing.{kinds_text}
+use Rattle.sdf_document.specs.Lists.{Files, file_named}
+use Rattle.sdf_why.specs.Limits.{row_of}
+use Rattle.sdf_why.specs.Words.{end, key_line}
+use Rattle.sdf_why.specs.Tables.{root, text_at, entry, actor_text, first_saying}
+use Rattle.sdf_why.specs.Actors.{lines_of, actor_told, actor_key, first_told}
+use Rattle.sdf_why.specs.Links.{link_key}
+
+-- ---- a coefficient file
+
+-- the actor that names it
+abbrev pub file_user : List ℕ → Data → List ℕ
+file_user name d = first_told (codes "file") name d
+
+unfoldable pub file_key : List ℕ → List ℕ → Option (List ℕ) → Files → List ℕ
+file_key name key limits files =
+    lines_of (λ d. key_line key (get key d) limits) (option_and_then root (file_named name files))
+
+-- ---- by place
+
+-- what a place is, and what stands there at a key
+abbrev pub place_key : List ℕ → Place → List ℕ → Data → Files → List ℕ
+place_key kinds top key d files = key_line key (get key d) None
+place_key kinds (actor a) key d files = actor_key kinds a key d
+place_key kinds (link c) key d files = link_key c key None d
+place_key kinds (file name) key d files = file_user name d ++ file_key name key None files
+
+-- what the key `format` wants
+abbrev pub place_format : Place → Data → Files → List ℕ
+place_format (file name) d files = file_user name d ++ file_key name (codes "format") (Some (codes "1")) files
+place_format place d files = key_line (codes "format") (get (codes "format") d) (Some (codes "1 or 2"))
+
+-- ---- by fault
+
+-- the list that the key `file` stands beside
+abbrev pub listed_at : List ℕ → Data → List ℕ
+listed_at key d = if is_some (get key d) then codes "  file stands beside " ++ key ++ end else []
+
+unfoldable pub beside_is : List ℕ → Data → List ℕ
+beside_is key d =
+    if bytes_eq key (codes "file") then listed_at (codes "taps") d ++ listed_at (codes "values") d else []
+
+-- what the table of kinds says of an actor's kind
+unfoldable pub row_is : List ℕ → List ℕ → List ℕ
+row_is kinds kind = lines_of (λ row. codes "  " ++ kind ++ codes ":" ++ row ++ end) (row_of kinds kind)
+
+unfoldable pub keys_are : List ℕ → List ℕ → Data → List ℕ
+keys_are kinds key d = beside_is key d ++ lines_of (row_is kinds) (text_at (codes "kind") d)
+
+-- the keys that an actor may have
+unfoldable pub known_keys : List ℕ → Place → List ℕ → Data → List ℕ
+known_keys kinds (actor a) key d = lines_of (keys_are kinds key) (entry (codes "actor") a d)
+known_keys kinds place key d = []
+
+-- actor a, and the earlier one of its name
+abbrev pub same_name : ℕ → Data → List ℕ → List ℕ
+same_name a d name = lines_of (actor_told d) (first_saying (codes "name") name d a)
+
+unfoldable pub twice : ℕ → Data → List ℕ
+twice a d = actor_told d a
+    ++ lines_of (same_name a d) (actor_text (codes "name") d a)
+
+-- so many tables
+abbrev pub up_to : ℕ → ℕ → List ℕ
+up_to least most = decimal least ++ codes ".." ++ decimal most
+
+abbrev pub counted : List ℕ → ℕ → ℕ → Data → List ℕ
+counted key least most d = key_line key (get key d) (Some (up_to least most))
+
+abbrev pub told : List ℕ → Fault → Data → Files → List ℕ
+told kinds actor_count d files = counted (codes "actor") 1 MOST_ACTORS d
+told kinds channel_count d files = counted (codes "link") 0 MOST_LINKS d
+told kinds (kit_value place key) d files = place_key kinds place key d files
+told kinds (not_toml place) d files = []
+told kinds (bad_format place) d files = place_format place d files
+told kinds (unknown_key place key) d files = place_key kinds place key d files ++ known_keys kinds place key d
+told kinds (missing_key place key) d files = place_key kinds place key d files
+told kinds (wrong_type place key) d files = place_key kinds place key d files
+told kinds (bad_name place key) d files = place_key kinds place key d files
+told kinds (name_twice a) d files = twice a d
+told kinds (unknown_kind a) d files = actor_told d a ++ key_line (codes "format") (get (codes "format") d) None
+told kinds (bad_port c key) d files = link_key c key None d
+told kinds (no_file name) d files = file_user name d
+
+-- what is told of the bytes of a graph file
+unfoldable pub document_text : Fault → List ℕ → Files → List ℕ
+document_text fault graph files = lines_of (λ d. told kinds_text fault d files) (root graph)

@@ -1,0 +1,94 @@
+-- What is told of a net that is refused, by the first test that it fails.
+use Rattle.std.specs.Prelude.{◌&&◌, ℕ, ℤ, Bool, false, List, [], ◌++◌, codes, decimal, Option, Some, None, find}
+use Rattle.std.specs.Prelude.{option_and_then, bytes_eq, if◌then◌else◌}
+use Rattle.std.specs.Ordering.{int_eq}
+use Rattle.std.specs.List.{flat_map, range_with_len}
+use Rattle.toml.specs.Data.{Data, get, as_integer}
+use Rattle.sdf_limits.specs.declared.TheConstants.{MOST_ACTORS, MOST_INITIAL}
+use Rattle.sdf_graph.specs.declared.fault.GraphFault.{GraphFault}
+use Rattle.sdf_graph.specs.declared.fault.GraphFault.TheVariants as graph
+use Rattle.sdf_actor.specs.declared.fault.NetFault.{NetFault}
+use Rattle.sdf_actor.specs.declared.fault.NetFault.TheVariants.{OutOfMemory, Graph, NoPort, PortTwice, PortOpen}
+use Rattle.sdf_actor.specs.declared.fault.NetFault.TheVariants.{ExtTwice, InputRates, OutputRates, NoInput, NoOutput}
+use Rattle.sdf_why.specs.Tables.{entry, actor_text, says, first_saying}
+use Rattle.sdf_why.specs.Actors.{lines_of, actor_told, actor_key}
+use Rattle.sdf_why.specs.Links.{link_told, link_key, ends_told, first_meeting}
+
+-- ---- actors that are compared
+
+-- the first actor of a kind, and what stands at a key of its table
+unfoldable pub first_of : List ℕ → List ℕ → List ℕ → Data → List ℕ
+first_of kinds kind key d = lines_of (λ a. actor_key kinds a key d) (first_saying (codes "kind") kind d MOST_ACTORS)
+
+-- actor a where it is of a kind, and what stands at a key of its table
+unfoldable pub one_of : List ℕ → List ℕ → List ℕ → Data → ℕ → List ℕ
+one_of kinds kind key d a = if says (codes "kind") kind d a then actor_key kinds a key d else []
+
+-- all actors of a kind
+unfoldable pub all_of : List ℕ → List ℕ → List ℕ → Data → List ℕ
+all_of kinds kind key d = flat_map (one_of kinds kind key d) (range_with_len 0 MOST_ACTORS)
+
+-- the whole number at a key of actor a
+unfoldable pub number_at : List ℕ → Data → ℕ → Option ℤ
+number_at key d a = option_and_then (λ t. option_and_then as_integer (get key t)) (entry (codes "actor") a d)
+
+abbrev pub same_number : Option ℤ → Option ℤ → Bool
+same_number (Some x) (Some y) = int_eq x y
+same_number (Some x) None = false
+same_number None y = false
+
+abbrev pub same_text : Option (List ℕ) → Option (List ℕ) → Bool
+same_text (Some s) (Some t) = bytes_eq s t
+same_text (Some s) None = false
+same_text None t = false
+
+-- actors a and b are of one kind and of one channel
+unfoldable pub rival : Data → ℕ → ℕ → Bool
+rival d a b = same_text (actor_text (codes "kind") d a) (actor_text (codes "kind") d b)
+    && same_number (number_at (codes "channel") d a) (number_at (codes "channel") d b)
+
+-- the first of n actors that is of actor a's kind and channel
+unfoldable pub first_rival : Data → ℕ → ℕ → Option ℕ
+first_rival d a n = find (rival d a) (range_with_len 0 n)
+
+-- ---- by fault
+
+-- actor a, its channel, and the earlier actor that has the same
+unfoldable pub rivals : List ℕ → Data → ℕ → List ℕ
+rivals kinds d a = actor_key kinds a (codes "channel") d ++ lines_of (actor_told d) (first_rival d a a)
+
+-- actor a, its block, and the first actor of its kind
+unfoldable pub beside_first : List ℕ → List ℕ → Data → ℕ → List ℕ
+beside_first kinds kind d a = actor_key kinds a (codes "block") d ++ first_of kinds kind (codes "block") d
+
+-- link c, and the first before it that shares an end with it
+unfoldable pub meeting : Data → ℕ → List ℕ
+meeting d c = link_told d c ++ lines_of (link_told d) (first_meeting d c c)
+
+-- link c, and how many samples it begins with
+unfoldable pub begun : Data → ℕ → List ℕ
+begun d c = link_key c (codes "initial") (Some (codes "at most " ++ decimal MOST_INITIAL)) d
+
+abbrev pub graph_told : GraphFault → Data → List ℕ
+graph_told graph.OutOfMemory d = []
+graph_told graph.ActorCount d = []
+graph_told graph.ChannelCount d = []
+graph_told (graph.BadEnd c) d = ends_told d c
+graph_told (graph.BadRate c) d = ends_told d c
+graph_told (graph.InitialCount c) d = begun d c
+graph_told (graph.CycleLength c) d = ends_told d c
+graph_told (graph.NotConnected a) d = actor_told d a
+graph_told (graph.Inconsistent c) d = ends_told d c
+graph_told graph.PeriodTooLong d = []
+
+abbrev pub net_told : List ℕ → NetFault → Data → List ℕ
+net_told kinds OutOfMemory d = []
+net_told kinds (Graph fault) d = graph_told fault d
+net_told kinds (NoPort c) d = ends_told d c
+net_told kinds (PortTwice c) d = meeting d c
+net_told kinds (PortOpen a side port) d = actor_key kinds a (codes "ways") d
+net_told kinds (ExtTwice a) d = rivals kinds d a
+net_told kinds (InputRates a) d = beside_first kinds (codes "input") d a
+net_told kinds (OutputRates a) d = beside_first kinds (codes "output") d a
+net_told kinds NoInput d = []
+net_told kinds (NoOutput e) d = all_of kinds (codes "output") (codes "channel") d

@@ -1,0 +1,30 @@
+-- What is told of a sound that a design does not take.
+use Rattle.std.specs.Prelude.{ℕ, ◌*◌, ◌/◌, ◌%◌, List, ◌++◌, codes, decimal}
+use Rattle.toml.specs.Data.{Data}
+use Rattle.sdf_why.specs.Words.{end}
+use Rattle.sdf_why.specs.Nets.{all_of}
+
+-- how many channels the design reads, and how many the sound has
+unfoldable pub reads_text : ℕ → List ℕ
+reads_text wanted = codes "  the design reads " ++ decimal wanted ++ codes " channels"
+
+unfoldable pub has_text : ℕ → List ℕ
+has_text channels = codes ", the sound has " ++ decimal channels ++ end
+
+-- and which inputs read them
+unfoldable pub channels_told : List ℕ → Data → ℕ → ℕ → List ℕ
+channels_told kinds d wanted channels =
+    reads_text wanted ++ has_text channels ++ all_of kinds (codes "input") (codes "channel") d
+
+-- how a rate comes of another one
+unfoldable pub product_text : ℕ → ℕ → ℕ → List ℕ
+product_text rate made taken =
+    codes "  " ++ decimal rate ++ codes " * " ++ decimal made ++ codes " / " ++ decimal taken ++ codes " = "
+
+-- a whole number and a part
+unfoldable pub quotient_text : ℕ → ℕ → List ℕ
+quotient_text all by = decimal (all / by) ++ codes " and " ++ decimal (all % by) ++ codes "/" ++ decimal by ++ end
+
+-- the rate that would come of one, where so many samples are made of so many that are taken
+unfoldable pub rate_line : ℕ → ℕ → ℕ → List ℕ
+rate_line rate made taken = product_text rate made taken ++ quotient_text (rate * made) taken

@@ -1,0 +1,75 @@
+-- What is told of a fault, by the files of the design.
+use Rattle.std.specs.Prelude.{◌≡◌, ℕ, ◌-◌, List, [], ◌++◌, codes, Some}
+use Rattle.toml.specs.Data.{Data}
+use Rattle.sdf_graph.specs.Rates.{rates}
+use Rattle.sdf_graph.specs.Periods.{IsLeastPeriod}
+use Rattle.sdf_actor.specs.declared.fault.NetFault.{NetFault}
+use Rattle.sdf_actor.specs.declared.sides.Lists.TheVariants.{Inputs, Outputs}
+use Rattle.sdf_actor.specs.Sides.{list_count, period_samples}
+use Rattle.sdf_actor.specs.Graphs.{graph_of}
+use Rattle.sdf_kit.specs.Kit.{kit_steps}
+use Rattle.sdf_document.specs.Fault.{fault_view}
+use Rattle.sdf_document.specs.Lists.{Files}
+use Rattle.sdf_document.specs.Listing.{kinds_text}
+use Rattle.sdf_file.specs.declared.fault.FileFault.{FileFault}
+use Rattle.sdf_file.specs.declared.fault.FileFault.TheVariants.{OutOfMemory, Document, Net}
+use Rattle.sdf_file.specs.Designs.{DesignValue, IsDesignOf}
+use Rattle.sdf_why.specs.declared.cycle.Halt.{Halt}
+use Rattle.sdf_why.specs.declared.sound.Header.{Header}
+use Rattle.sdf_why.specs.Tables.{root, entry}
+use Rattle.sdf_why.specs.Actors.{lines_of, actor_is}
+use Rattle.sdf_why.specs.Documents.{document_text, counted}
+use Rattle.sdf_why.specs.Nets.{net_told}
+use Rattle.sdf_why.specs.Cycles.{IsCycleText}
+use Rattle.sdf_why.specs.Sounds.{channels_told, rate_line}
+
+-- of a net that is refused
+unfoldable pub net_text : NetFault → List ℕ → List ℕ
+net_text fault graph = lines_of (net_told kinds_text fault) (root graph)
+
+-- of files that give no design
+abbrev pub file_text : FileFault → List ℕ → Files → List ℕ
+file_text OutOfMemory graph files = []
+file_text (Document fault) graph files = document_text (fault_view fault) graph files
+file_text (Net fault) graph files = net_text fault graph
+
+-- the processor of an actor, and those that there are
+unfoldable pub processor_line : ℕ → Data → List ℕ
+processor_line workers d = counted (codes "processor") 0 (workers - 1) d
+
+-- of an actor without a home among so many workers
+abbrev pub home_is : ℕ → ℕ → Data → List ℕ
+home_is workers a d = actor_is a d ++ processor_line workers d
+
+unfoldable pub home_text : ℕ → ℕ → List ℕ → List ℕ
+home_text workers a graph = lines_of (λ d. lines_of (home_is workers a) (entry (codes "actor") a d)) (root graph)
+
+-- the tables and the design that files say
+pub record Says (graph : List ℕ) (files : Files) (document : Data) (d : DesignValue) : Type 0 where
+  pub tables : root graph ≡ Some document
+  pub design : IsDesignOf graph files d
+
+-- of a design: what holds of the text by its tables, or nothing where the files say none
+pub data IsDesignText (graph : List ℕ) (files : Files) (P : Data → DesignValue → Type 0) (text : List ℕ) : Type 0 where
+  told : (document : Data) (d : DesignValue) → Says graph files document d → P document d →
+      IsDesignText graph files P text
+  nothing : text ≡ [] → IsDesignText graph files P text
+
+-- a cycle of a deadlock whose actors came so far
+abbrev pub IsStallText : List ℕ → Files → List Halt → List ℕ → Type 0
+IsStallText graph files halts text =
+    IsDesignText graph files (λ document d. IsCycleText document (graph_of kit_steps d.net) halts text) text
+
+-- the channels that a sound lacks
+abbrev pub IsChannelsText : List ℕ → Files → Header → List ℕ → Type 0
+IsChannelsText graph files header text =
+    IsDesignText graph files
+    (λ document d. text ≡ channels_told kinds_text document (list_count Inputs d.net.nodes) header.channels) text
+
+-- the rate that would come of a sound
+abbrev pub IsRateOf : DesignValue → Header → List ℕ → Type 0
+IsRateOf d header text = (q : List ℕ) → IsLeastPeriod (rates (graph_of kit_steps d.net)) q → text ≡
+    rate_line header.rate (period_samples d.net.nodes Outputs q) (period_samples d.net.nodes Inputs q)
+
+abbrev pub IsRateText : List ℕ → Files → Header → List ℕ → Type 0
+IsRateText graph files header text = IsDesignText graph files (λ document d. IsRateOf d header text) text

@@ -1,0 +1,82 @@
+-- The words of what is told.
+use Rattle.std.specs.Prelude.{ℕ, ℤ, ◌==◌, ◌||◌, Bool, List, [], ◌∷◌, ◌++◌, codes, decimal, Option, Some, None, suc}
+use Rattle.std.specs.Prelude.{slice_index, if◌then◌else◌}
+use Rattle.std.specs.Fmt.{signed_decimal}
+use Rattle.toml.specs.Data.{Data, Items, no_items, item, as_str, as_integer, as_array, type_name}
+use Rattle.sdf_options.specs.Printable.{printable_text}
+use Rattle.sdf_why.specs.Limits.{has}
+
+-- a line feed
+abbrev pub end : List ℕ
+end = 10 ∷ []
+
+-- a text of the user's file
+abbrev pub quoted : List ℕ → List ℕ
+quoted s = codes "\"" ++ printable_text s ++ codes "\""
+
+abbrev pub item_count : Items → ℕ
+item_count no_items = 0
+item_count (item d ds) = suc (item_count ds)
+
+-- a text in quotes, a whole number in digits, of a list how long it is, and of anything else what it is
+abbrev pub spelled : Option (List ℕ) → Option ℤ → Option Items → List ℕ → List ℕ
+spelled (Some s) z ds other = quoted s
+spelled None (Some z) ds other = signed_decimal z
+spelled None None (Some ds) other = codes "a list of " ++ decimal (item_count ds)
+spelled None None None other = codes "a " ++ other
+
+abbrev pub value_text : Data → List ℕ
+value_text d = spelled (as_str d) (as_integer d) (as_array d) (type_name d)
+
+-- a e i o u
+abbrev pub is_vowel : ℕ → Bool
+is_vowel b = (b == 97) || ((b == 101) || ((b == 105) || ((b == 111) || (b == 117))))
+
+abbrev pub article : List ℕ → List ℕ
+article word = if is_vowel (slice_index word 0) then codes "an " else codes "a "
+
+abbrev pub name_text : Option (List ℕ) → List ℕ
+name_text None = codes "without a name"
+name_text (Some s) = quoted s
+
+abbrev pub kind_text : Option (List ℕ) → List ℕ
+kind_text None = codes "of no kind"
+kind_text (Some s) = article s ++ printable_text s
+
+-- an end of a link as the file writes it, with port 0 where it has no port
+abbrev pub end_text : Option (List ℕ) → List ℕ
+end_text None = codes "?"
+end_text (Some s) = printable_text s ++ (if has 58 s then [] else codes ":0")
+
+-- what an actor is, by its name and its kind
+unfoldable pub actor_line : ℕ → Option (List ℕ) → Option (List ℕ) → List ℕ
+actor_line number name kind =
+    codes "  actor " ++ decimal number ++ codes " is " ++ name_text name ++ codes ", " ++ kind_text kind ++ end
+
+-- what a link is, by its two ends
+unfoldable pub link_words : ℕ → Option (List ℕ) → Option (List ℕ) → List ℕ
+link_words number from to =
+    codes "  link " ++ decimal number ++ codes " is " ++ end_text from ++ codes " -> " ++ end_text to
+
+abbrev pub link_line : ℕ → Option (List ℕ) → Option (List ℕ) → List ℕ
+link_line number from to = link_words number from to ++ end
+
+-- and that it holds so many samples where its target takes so many
+abbrev pub lack_line : ℕ → Option (List ℕ) → Option (List ℕ) → ℕ → ℕ → List ℕ
+lack_line number from to holds wants =
+    link_words number from to ++ codes ", holds " ++ decimal holds ++ codes ", wants " ++ decimal wants ++ end
+
+abbrev pub limits_text : Option (List ℕ) → List ℕ
+limits_text None = []
+limits_text (Some limits) = codes ", wants " ++ limits
+
+-- what stands at a key, and what the key wants
+unfoldable pub key_line : List ℕ → Option Data → Option (List ℕ) → List ℕ
+key_line key None None = []
+key_line key None (Some limits) = codes "  " ++ printable_text key ++ codes " wants " ++ limits ++ end
+key_line key (Some d) limits =
+    codes "  " ++ printable_text key ++ codes " = " ++ value_text d ++ limits_text limits ++ end
+
+-- what was said of a file
+unfoldable pub said_line : List ℕ → List ℕ → List ℕ
+said_line name said = codes "  " ++ quoted name ++ codes ": " ++ printable_text said ++ end

@@ -1,0 +1,92 @@
+//! What is told of an actor, by its table.
+
+ghost use Rattle.std.specs.Prelude.{◌≡◌, ◌++◌, OnOk, option_map, string_bytes};
+ghost use Rattle.toml.specs.View.{view};
+ghost use Rattle.sdf_why.specs.Actors.{actor_is, actor_told, actor_limits, actor_key, first_told};
+
+use crate::limits::limits_of;
+use crate::tables::{Source, entry, first_saying, text_at, value_at};
+use crate::words::{push_actor, push_key};
+use sdf_limits::MOST_ACTORS;
+use std::alloc::{AllocError, Global};
+use toml::Value;
+
+/// Adds an actor, by the name and the kind in its table.
+pub(crate) fn push_actor_table(
+    alloc: Global,
+    text: &mut String,
+    number: usize,
+    actor: &Value,
+) -> Result<(), AllocError>
+    ensures { OnOk result (string_bytes text.new ≡ string_bytes text.old ++ actor_is number (view actor.now)) }
+{
+    push_actor(
+        alloc,
+        text,
+        number,
+        text_at(actor, "name"),
+        text_at(actor, "kind"),
+    )
+}
+
+/// Adds the actor of a number.
+#[tactic(auto, unfolding(crate::specs::Actors::actor_told))]
+pub(crate) fn push_actor_of(
+    alloc: Global,
+    text: &mut String,
+    graph: &Value,
+    number: usize,
+) -> Result<(), AllocError>
+    ensures { OnOk result (string_bytes text.new ≡ string_bytes text.old ++ actor_told (view graph.now) number) }
+{
+    match entry(graph, "actor", number) {
+        Some(actor) => push_actor_table(alloc, text, number, actor),
+        None => Ok(()),
+    }
+}
+
+/// The limits of a key in an actor's table, by its kind.
+#[tactic(auto, unfolding(crate::specs::Actors::actor_limits))]
+fn actor_limits<'a>(kinds: &'a str, key: &str, actor: &Value) -> Option<&'a str>
+    ensures { option_map (λ s. s.now) result ≡ actor_limits kinds.now key.now (view actor.now) }
+{
+    limits_of(kinds, text_at(actor, "kind")?, key)
+}
+
+/// Adds an actor, and what stands at a key of its table.
+#[tactic(auto, unfolding(crate::specs::Actors::actor_key))]
+pub(crate) fn push_actor_key(
+    alloc: Global,
+    text: &mut String,
+    source: Source<'_>,
+    number: usize,
+    key: &str,
+) -> Result<(), AllocError>
+    ensures { OnOk result (string_bytes text.new ≡ string_bytes text.old
+        ++ actor_key source.entry.kinds.now number key.now (view source.entry.graph.now)) }
+{
+    let Some(actor) = entry(source.graph, "actor", number) else {
+        return Ok(());
+    };
+    push_actor_table(alloc, text, number, actor)?;
+    let limits = actor_limits(source.kinds, key, actor);
+    push_key(alloc, text, key, value_at(actor, key), limits)
+}
+
+/// Adds the first actor that has this text at a key.
+#[tactic(auto, unfolding(crate::specs::Actors::first_told))]
+pub(crate) fn push_first(
+    alloc: Global,
+    text: &mut String,
+    graph: &Value,
+    key: &str,
+    said: &str,
+) -> Result<(), AllocError>
+    ensures { OnOk result (string_bytes text.new ≡ string_bytes text.old
+        ++ first_told key.now said.now (view graph.now)) }
+{
+    match first_saying(graph, key, said, MOST_ACTORS) {
+        Some(actor) => push_actor_of(alloc, text, graph, actor),
+        None => Ok(()),
+    }
+}

@@ -1,0 +1,208 @@
+//! What is told of a deadlock: a cycle of links that hold too little.
+
+ghost use Rattle.std.specs.Prelude.{◌≡◌, ℕ, ◌*◌, ◌+◌, ◌-◌, ◌^◌, ◌≤◌, ◌<◌, ◌++◌, length, IfOk, IfSome, OnOk};
+ghost use Rattle.std.specs.Prelude.{string_bytes};
+ghost use Rattle.std.specs.List.{All, flat_map};
+ghost use Rattle.toml.specs.View.{view};
+ghost use Rattle.sdf_graph.specs.Rates.{sum_to, rate_at};
+ghost use Rattle.sdf_why.specs.Cycles.{done_at, short_at, Waits, IsCycle, held, wanted, lack_told, IsCycleText};
+
+use crate::tables::{entry, text_at};
+use crate::words::{Lack, push_lack};
+use sdf_graph::{Channel, Graph};
+use std::alloc::{AllocError, Global};
+use toml::Value;
+
+/// How often an actor has fired, and the channel that it waits for.
+#[derive(Clone, Copy)]
+pub struct Halt {
+    pub done: u32,
+    pub short: Option<usize>,
+}
+
+fn done_at(halts: &[Halt], actor: usize) -> u32
+    ensures { result ≡ done_at halts.now actor }
+{
+    match halts.get(actor) {
+        Some(halt) => halt.done,
+        None => 0,
+    }
+}
+
+fn short_at(halts: &[Halt], actor: usize) -> Option<usize>
+    ensures { result ≡ short_at halts.now actor }
+{
+    halts.get(actor)?.short
+}
+
+/// The channel that an actor waits for, and the actor that it comes from.
+fn next(graph: &Graph, halts: &[Halt], actor: usize) -> Option<(usize, usize)>
+    ensures { IfSome result (λ r. Waits graph.now halts.now actor r.0 r.1) }
+{
+    let number = short_at(halts, actor)?;
+    let channels = graph.channels();
+    if number >= channels.len() {
+        return None;
+    }
+    let channel = &channels[number];
+    if channel.to == actor {
+        Some((number, channel.from))
+    } else {
+        None
+    }
+}
+
+/// An actor that waits for itself, over as many others as there are.
+fn waiting(graph: &Graph, halts: &[Halt]) -> Option<usize> {
+    let mut actor = halts.iter().position(|halt| halt.short.is_some())?;
+    for _ in 0..halts.len() {
+        let (_, source) = next(graph, halts, actor)?;
+        actor = source;
+    }
+    Some(actor)
+}
+
+/// The channels from an actor back to itself, where it waits for itself.
+fn cycle_from(
+    alloc: Global,
+    graph: &Graph,
+    halts: &[Halt],
+    start: usize,
+) -> Result<Option<Vec<usize>>, AllocError>
+    ensures { IfOk result (λ r. IfSome r (λ v. IsCycle graph.now halts.now v.items)) }
+{
+    let mut channels = Vec::new(alloc);
+    let mut actor = start;
+    for _ in 0..halts.len() {
+        let Some((number, source)) = next(graph, halts, actor) else {
+            return Ok(None);
+        };
+        channels.push(number)?;
+        actor = source;
+        if actor == start {
+            return Ok(Some(channels));
+        }
+    }
+    Ok(None)
+}
+
+fn cycle_of(
+    alloc: Global,
+    graph: &Graph,
+    halts: &[Halt],
+) -> Result<Option<Vec<usize>>, AllocError>
+    ensures { IfOk result (λ r. IfSome r (λ v. IsCycle graph.now halts.now v.items)) }
+{
+    match waiting(graph, halts) {
+        Some(actor) => cycle_from(alloc, graph, halts, actor),
+        None => Ok(None),
+    }
+}
+
+/// How many samples the first firings of the source put.
+fn put_by(channel: &Channel, firings: u32) -> u64
+    requires some { 0 < length channel.now.put }
+    requires rates { (i : ℕ) → rate_at channel.now.put i ≤ 1024 }
+    ensures value { result ≡ sum_to (rate_at channel.now.put) firings }
+    ensures small { result ≤ firings * 1024 }
+{
+    let mut samples = 0;
+    for firing in 0..firings {
+        samples += u64::from(channel.puts(firing));
+    }
+    samples
+}
+
+/// And how many those of the target take.
+fn taken_by(channel: &Channel, firings: u32) -> u64
+    requires some { 0 < length channel.now.take }
+    requires rates { (i : ℕ) → rate_at channel.now.take i ≤ 1024 }
+    ensures { result ≡ sum_to (rate_at channel.now.take) firings }
+{
+    let mut samples = 0;
+    for firing in 0..firings {
+        samples += u64::from(channel.takes(firing));
+    }
+    samples
+}
+
+/// What a channel holds.
+fn held(channel: &Channel, put: u64, taken: u64) -> u64
+    requires initial { channel.now.initial ≤ 65536 }
+    requires put { put ≤ 2 ^ 63 }
+    ensures { result ≡ channel.now.initial + put - taken }
+{
+    (channel.initial as u64 + put).saturating_sub(taken)
+}
+
+/// What a channel holds, and what the next firing of its target takes.
+fn lack_of(graph: &Graph, halts: &[Halt], number: usize) -> Lack
+    requires { number < length graph.now.channels }
+    ensures holds { result.holds ≡ held graph.now halts.now number }
+    ensures wants { result.wants ≡ wanted graph.now halts.now number }
+{
+    let channel = &graph.channels()[number];
+    let put = put_by(channel, done_at(halts, channel.from));
+    let done = done_at(halts, channel.to);
+    Lack {
+        holds: held(channel, put, taken_by(channel, done)),
+        wants: channel.takes(done),
+    }
+}
+
+/// Adds a link of a cycle.
+#[tactic(auto, unfolding(crate::specs::Cycles::lack_told))]
+fn push_lack_of(
+    alloc: Global,
+    text: &mut String,
+    document: &Value,
+    graph: &Graph,
+    halts: &[Halt],
+    number: usize,
+) -> Result<(), AllocError>
+    requires { number < length graph.now.channels }
+    ensures { OnOk result (string_bytes text.new ≡ string_bytes text.old
+        ++ lack_told (view document.now) graph.now halts.now number) }
+{
+    let Some(link) = entry(document, "link", number) else {
+        return Ok(());
+    };
+    let lack = lack_of(graph, halts, number);
+    push_lack(alloc, text, number, text_at(link, "from"), text_at(link, "to"), lack)
+}
+
+/// Adds the links of a cycle.
+fn push_lacks(
+    alloc: Global,
+    text: &mut String,
+    document: &Value,
+    graph: &Graph,
+    halts: &[Halt],
+    links: &[usize],
+) -> Result<(), AllocError>
+    requires { All (λ c. c < length graph.now.channels) links.now }
+    ensures { OnOk result (string_bytes text.new ≡ string_bytes text.old
+        ++ flat_map (lack_told (view document.now) graph.now halts.now) links.now) }
+{
+    for link in links {
+        push_lack_of(alloc, text, document, graph, halts, *link)?;
+    }
+    Ok(())
+}
+
+/// What is told of a deadlock of a design's graph, whose actors came so far.
+pub fn cycle_text(
+    alloc: Global,
+    document: &Value,
+    graph: &Graph,
+    halts: &[Halt],
+) -> Result<String, AllocError>
+    ensures { IfOk result (λ text. IsCycleText (view document.now) graph.now halts.now (string_bytes text)) }
+{
+    let mut text = String::new(alloc);
+    let Some(links) = cycle_of(alloc, graph, halts)? else {
+        return Ok(text);
+    };
+    push_lacks(alloc, &mut text, document, graph, halts, &links)?;
+    Ok(text)
+}

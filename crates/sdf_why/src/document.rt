@@ -1,0 +1,284 @@
+//! What is told of a graph file that is not read.
+
+ghost use Rattle.std.specs.Prelude.{◌≡◌, ◌++◌, IfOk, OnOk, option_map, string_bytes};
+ghost use Rattle.toml.specs.View.{view};
+ghost use Rattle.sdf_document.specs.Fault.{place_view, fault_view};
+ghost use Rattle.sdf_document.specs.Lists.{files_view, file_named};
+ghost use Rattle.sdf_why.specs.Documents.{file_key, place_key, place_format, beside_is, listed_at, row_is, keys_are};
+ghost use Rattle.sdf_why.specs.Documents.{known_keys, same_name, twice, counted, told, document_text};
+
+use crate::actors::{push_actor_key, push_actor_of, push_first};
+use crate::limits::row_of;
+use crate::links::push_link_key;
+use crate::tables::{Source, actor_text, entry, first_saying, root, text_at, value_at};
+use crate::words::push_key;
+use sdf_document::{DocumentFault, Place, kinds_text};
+use sdf_limits::{MOST_ACTORS, MOST_LINKS};
+use std::alloc::{AllocError, Global};
+use toml::Value;
+
+/// The bytes of the first file of a name.
+fn file_named<'a>(name: &str, files: &'a [(String, Vec<u8>)]) -> Option<&'a [u8]>
+    ensures { option_map (λ s. s.now) result ≡ file_named name.now (files_view files.now) }
+{
+    for file in files {
+        if name == file.0.as_str() {
+            return Some(file.1.as_slice());
+        }
+    }
+    None
+}
+
+/// Adds what stands at a key of a coefficient file.
+#[tactic(auto, unfolding(crate::specs::Documents::file_key))]
+fn push_file_key(
+    alloc: Global,
+    text: &mut String,
+    files: &[(String, Vec<u8>)],
+    name: &str,
+    key: &str,
+    limits: Option<&str>,
+) -> Result<(), AllocError>
+    ensures { OnOk result (string_bytes text.new ≡ string_bytes text.old
+        ++ file_key name.now key.now (option_map (λ s. s.now) limits.entry) (files_view files.now)) }
+{
+    let Some(bytes) = file_named(name, files) else {
+        return Ok(());
+    };
+    match root(alloc, bytes)? {
+        Some(table) => push_key(alloc, text, key, value_at(&table, key), limits),
+        None => Ok(()),
+    }
+}
+
+/// Adds what a place is, and what stands there at a key.
+fn push_place(
+    alloc: Global,
+    text: &mut String,
+    source: Source<'_>,
+    place: &Place,
+    key: &str,
+) -> Result<(), AllocError>
+    ensures { OnOk result (string_bytes text.new ≡ string_bytes text.old ++ place_key source.entry.kinds.now
+        (place_view place.now) key.now (view source.entry.graph.now) (files_view source.entry.files.now)) }
+{
+    match place {
+        Place::Top => push_key(alloc, text, key, value_at(source.graph, key), None),
+        Place::Actor(number) => push_actor_key(alloc, text, source, *number, key),
+        Place::Link(number) => push_link_key(alloc, text, source.graph, *number, key, None),
+        Place::File(name) => {
+            push_first(alloc, text, source.graph, "file", name.as_str())?;
+            push_file_key(alloc, text, source.files, name.as_str(), key, None)
+        }
+    }
+}
+
+/// Adds what the key `format` is and wants.
+fn push_format(
+    alloc: Global,
+    text: &mut String,
+    source: Source<'_>,
+    place: &Place,
+) -> Result<(), AllocError>
+    ensures { OnOk result (string_bytes text.new ≡ string_bytes text.old ++ place_format
+        (place_view place.now) (view source.entry.graph.now) (files_view source.entry.files.now)) }
+{
+    match place {
+        Place::File(name) => {
+            push_first(alloc, text, source.graph, "file", name.as_str())?;
+            push_file_key(
+                alloc,
+                text,
+                source.files,
+                name.as_str(),
+                "format",
+                Some("1"),
+            )
+        }
+        _ => {
+            let format = value_at(source.graph, "format");
+            push_key(alloc, text, "format", format, Some("1 or 2"))
+        }
+    }
+}
+
+/// Adds that the key `file` stands beside a list, where it does.
+fn push_listed(text: &mut String, key: &str, actor: &Value) -> Result<(), AllocError>
+    ensures { OnOk result (string_bytes text.new ≡ string_bytes text.old ++ listed_at key.now (view actor.now)) }
+{
+    if value_at(actor, key).is_none() {
+        return Ok(());
+    }
+    writeln!(text, "  file stands beside {key}")
+}
+
+#[tactic(auto, unfolding(crate::specs::Documents::beside_is))]
+fn push_beside(text: &mut String, key: &str, actor: &Value) -> Result<(), AllocError>
+    ensures { OnOk result (string_bytes text.new ≡ string_bytes text.old ++ beside_is key.now (view actor.now)) }
+{
+    if key != "file" {
+        return Ok(());
+    }
+    push_listed(text, "taps", actor)?;
+    push_listed(text, "values", actor)
+}
+
+/// Adds what the table of kinds says of a kind.
+#[tactic(auto, unfolding(crate::specs::Documents::row_is))]
+fn push_row(text: &mut String, kinds: &str, kind: &str) -> Result<(), AllocError>
+    ensures { OnOk result (string_bytes text.new ≡ string_bytes text.old ++ row_is kinds.now kind.now) }
+{
+    match row_of(kinds, kind) {
+        Some(row) => writeln!(text, "  {kind}:{row}"),
+        None => Ok(()),
+    }
+}
+
+#[tactic(auto, unfolding(crate::specs::Documents::keys_are))]
+fn push_keys(text: &mut String, kinds: &str, key: &str, actor: &Value) -> Result<(), AllocError>
+    ensures { OnOk result (string_bytes text.new ≡ string_bytes text.old
+        ++ keys_are kinds.now key.now (view actor.now)) }
+{
+    push_beside(text, key, actor)?;
+    match text_at(actor, "kind") {
+        Some(kind) => push_row(text, kinds, kind),
+        None => Ok(()),
+    }
+}
+
+/// Adds the keys that an actor may have, where the place is one.
+#[tactic(auto, unfolding(crate::specs::Documents::known_keys))]
+fn push_known(
+    text: &mut String,
+    source: Source<'_>,
+    place: &Place,
+    key: &str,
+) -> Result<(), AllocError>
+    ensures { OnOk result (string_bytes text.new ≡ string_bytes text.old
+        ++ known_keys source.entry.kinds.now (place_view place.now) key.now (view source.entry.graph.now)) }
+{
+    let Place::Actor(number) = place else {
+        return Ok(());
+    };
+    match entry(source.graph, "actor", *number) {
+        Some(actor) => push_keys(text, source.kinds, key, actor),
+        None => Ok(()),
+    }
+}
+
+/// Adds the first actor before another that has its name.
+fn push_same_name(
+    alloc: Global,
+    text: &mut String,
+    graph: &Value,
+    number: usize,
+    name: &str,
+) -> Result<(), AllocError>
+    ensures { OnOk result (string_bytes text.new ≡ string_bytes text.old
+        ++ same_name number (view graph.now) name.now) }
+{
+    match first_saying(graph, "name", name, number) {
+        Some(earlier) => push_actor_of(alloc, text, graph, earlier),
+        None => Ok(()),
+    }
+}
+
+/// Adds an actor, and the earlier one of its name.
+#[tactic(auto, unfolding(crate::specs::Documents::twice))]
+fn push_twice(
+    alloc: Global,
+    text: &mut String,
+    graph: &Value,
+    number: usize,
+) -> Result<(), AllocError>
+    ensures { OnOk result (string_bytes text.new ≡ string_bytes text.old ++ twice number (view graph.now)) }
+{
+    push_actor_of(alloc, text, graph, number)?;
+    match actor_text(graph, "name", number) {
+        Some(name) => push_same_name(alloc, text, graph, number, name),
+        None => Ok(()),
+    }
+}
+
+/// Adds how many tables an array has, and how many it wants.
+pub(crate) fn push_counted(
+    alloc: Global,
+    text: &mut String,
+    graph: &Value,
+    key: &str,
+    least: usize,
+    most: usize,
+) -> Result<(), AllocError>
+    ensures { OnOk result (string_bytes text.new ≡ string_bytes text.old
+        ++ counted key.now least most (view graph.now)) }
+{
+    let limits = format!(in alloc; "{least}..{most}")?;
+    push_key(
+        alloc,
+        text,
+        key,
+        value_at(graph, key),
+        Some(limits.as_str()),
+    )
+}
+
+/// Adds the lines of a fault.
+fn push_told(
+    alloc: Global,
+    text: &mut String,
+    source: Source<'_>,
+    fault: &DocumentFault,
+) -> Result<(), AllocError>
+    ensures { OnOk result (string_bytes text.new ≡ string_bytes text.old
+        ++ told source.entry.kinds.now (fault_view fault.now) (view source.entry.graph.now) (files_view source.entry.files.now)) }
+{
+    let graph = source.graph;
+    match fault {
+        DocumentFault::ActorCount => push_counted(alloc, text, graph, "actor", 1, MOST_ACTORS),
+        DocumentFault::ChannelCount => push_counted(alloc, text, graph, "link", 0, MOST_LINKS),
+        DocumentFault::KitValue(place, key)
+        | DocumentFault::MissingKey(place, key)
+        | DocumentFault::WrongType(place, key)
+        | DocumentFault::BadName(place, key) => push_place(alloc, text, source, place, key),
+        DocumentFault::NotToml(_) => Ok(()),
+        DocumentFault::Format(place) => push_format(alloc, text, source, place),
+        DocumentFault::UnknownKey(place, key) => {
+            push_place(alloc, text, source, place, key.as_str())?;
+            push_known(text, source, place, key.as_str())
+        }
+        DocumentFault::NameTwice(number) => push_twice(alloc, text, graph, *number),
+        DocumentFault::UnknownKind(number) => {
+            push_actor_of(alloc, text, graph, *number)?;
+            push_key(alloc, text, "format", value_at(graph, "format"), None)
+        }
+        DocumentFault::BadPort(number, key) => {
+            push_link_key(alloc, text, graph, *number, key, None)
+        }
+        DocumentFault::NoFile(name) => push_first(alloc, text, graph, "file", name.as_str()),
+    }
+}
+
+/// What is told of the first test that a graph file or one of its coefficient files fails: nothing where the graph file
+/// is no TOML document.
+#[tactic(auto, unfolding(crate::specs::Documents::document_text))]
+pub fn document_text(
+    alloc: Global,
+    fault: &DocumentFault,
+    graph: &[u8],
+    files: &[(String, Vec<u8>)],
+) -> Result<String, AllocError>
+    ensures { IfOk result (λ text. string_bytes text ≡
+        document_text (fault_view fault.now) graph.now (files_view files.now)) }
+{
+    let mut text = String::new(alloc);
+    let kinds = kinds_text(alloc)?;
+    if let Some(graph) = root(alloc, graph)? {
+        let source = Source {
+            graph: &graph,
+            files,
+            kinds: kinds.as_str(),
+        };
+        push_told(alloc, &mut text, source, fault)?;
+    }
+    Ok(text)
+}

@@ -1,0 +1,37 @@
+//! Texts before and behind a mark.
+
+ghost use Rattle.std.specs.Prelude.{◌≡◌, ◌<◌};
+ghost use Rattle.sdf_why.specs.Limits.{before, behind, has};
+
+/// What stands before the first mark, or all where there is none.
+#[tactic(auto, using(std::proofs::lemmas::Str::Pattern::split_once_first), unfolding(crate::specs::Limits::before))]
+pub(crate) fn before(text: &str, mark: char) -> &str
+    requires { mark < 128 }
+    ensures { result.now ≡ before mark text.now }
+{
+    match text.split_once(mark) {
+        Some((front, _)) => front,
+        None => text,
+    }
+}
+
+/// What stands behind the first mark, or nothing where there is none.
+#[tactic(auto, using(std::proofs::lemmas::Str::Pattern::split_once_first), unfolding(crate::specs::Limits::behind))]
+pub(crate) fn behind(text: &str, mark: char) -> &str
+    requires { mark < 128 }
+    ensures { result.now ≡ behind mark text.now }
+{
+    match text.split_once(mark) {
+        Some((_, rest)) => rest,
+        None => "",
+    }
+}
+
+/// Whether the mark stands in the text.
+#[tactic(auto, using(std::proofs::lemmas::Str::Pattern::split_once_first), unfolding(crate::specs::Limits::has))]
+pub(crate) fn has(text: &str, mark: char) -> bool
+    requires { mark < 128 }
+    ensures { result ≡ has mark text.now }
+{
+    text.split_once(mark).is_some()
+}

@@ -1,0 +1,233 @@
+//! What is told of a net that is refused.
+
+ghost use Rattle.std.specs.Prelude.{◌≡◌, ◌++◌, OnOk, option_map, string_bytes};
+ghost use Rattle.toml.specs.View.{view};
+ghost use Rattle.sdf_why.specs.Nets.{first_of, one_of, all_of, number_at, same_number, same_text, rival, first_rival};
+ghost use Rattle.sdf_why.specs.Nets.{rivals, beside_first, meeting, begun, graph_told, net_told};
+
+use crate::actors::{push_actor_key, push_actor_of};
+use crate::links::{first_meeting, push_ends, push_link_key, push_link_of};
+use crate::tables::{Source, actor_text, entry, first_saying, says, value_at};
+use sdf_actor::NetFault;
+use sdf_graph::GraphFault;
+use sdf_limits::{MOST_ACTORS, MOST_INITIAL};
+use std::alloc::{AllocError, Global};
+use toml::Value;
+
+/// Adds the first actor of a kind, and what stands at a key of its table.
+#[tactic(auto, unfolding(crate::specs::Nets::first_of))]
+fn push_first_of(
+    alloc: Global,
+    text: &mut String,
+    source: Source<'_>,
+    kind: &str,
+    key: &str,
+) -> Result<(), AllocError>
+    ensures { OnOk result (string_bytes text.new ≡ string_bytes text.old
+        ++ first_of source.entry.kinds.now kind.now key.now (view source.entry.graph.now)) }
+{
+    match first_saying(source.graph, "kind", kind, MOST_ACTORS) {
+        Some(actor) => push_actor_key(alloc, text, source, actor, key),
+        None => Ok(()),
+    }
+}
+
+/// Adds an actor where it is of a kind, and what stands at a key of its table.
+#[tactic(auto, unfolding(crate::specs::Nets::one_of))]
+fn push_one_of(
+    alloc: Global,
+    text: &mut String,
+    source: Source<'_>,
+    kind: &str,
+    key: &str,
+    actor: usize,
+) -> Result<(), AllocError>
+    ensures { OnOk result (string_bytes text.new ≡ string_bytes text.old
+        ++ one_of source.entry.kinds.now kind.now key.now (view source.entry.graph.now) actor) }
+{
+    if says(source.graph, "kind", kind, actor) {
+        push_actor_key(alloc, text, source, actor, key)
+    } else {
+        Ok(())
+    }
+}
+
+/// Adds all actors of a kind, and what stands at a key of their tables.
+#[tactic(auto, unfolding(crate::specs::Nets::all_of))]
+pub(crate) fn push_all_of(
+    alloc: Global,
+    text: &mut String,
+    source: Source<'_>,
+    kind: &str,
+    key: &str,
+) -> Result<(), AllocError>
+    ensures { OnOk result (string_bytes text.new ≡ string_bytes text.old
+        ++ all_of source.entry.kinds.now kind.now key.now (view source.entry.graph.now)) }
+{
+    for actor in 0..MOST_ACTORS {
+        push_one_of(alloc, text, source, kind, key, actor)?;
+    }
+    Ok(())
+}
+
+/// The whole number at a key of an actor.
+#[tactic(auto, unfolding(crate::specs::Nets::number_at))]
+fn number_at(graph: &Value, key: &str, actor: usize) -> Option<i64>
+    ensures { result ≡ number_at key.now (view graph.now) actor }
+{
+    value_at(entry(graph, "actor", actor)?, key)?.as_integer()
+}
+
+fn same_number(one: Option<i64>, other: Option<i64>) -> bool
+    ensures { result ≡ same_number one other }
+{
+    match (one, other) {
+        (Some(one), Some(other)) => one == other,
+        _ => false,
+    }
+}
+
+fn same_text(one: Option<&str>, other: Option<&str>) -> bool
+    ensures { result ≡ same_text (option_map (λ s. s.now) one.entry) (option_map (λ s. s.now) other.entry) }
+{
+    match (one, other) {
+        (Some(one), Some(other)) => one == other,
+        _ => false,
+    }
+}
+
+/// Whether two actors are of one kind and of one channel.
+#[tactic(auto, unfolding(crate::specs::Nets::rival))]
+fn rival(graph: &Value, actor: usize, other: usize) -> bool
+    ensures { result ≡ rival (view graph.now) actor other }
+{
+    same_text(
+        actor_text(graph, "kind", actor),
+        actor_text(graph, "kind", other),
+    ) && same_number(
+        number_at(graph, "channel", actor),
+        number_at(graph, "channel", other),
+    )
+}
+
+/// The first of so many actors that is of an actor's kind and channel.
+#[tactic(auto, unfolding(crate::specs::Nets::first_rival))]
+fn first_rival(graph: &Value, actor: usize, actors: usize) -> Option<usize>
+    ensures { result ≡ first_rival (view graph.now) actor actors }
+{
+    (0..actors).find(|other| rival(graph, actor, *other))
+}
+
+/// Adds an actor, its channel, and the earlier actor that has the same.
+#[tactic(auto, unfolding(crate::specs::Nets::rivals))]
+fn push_rivals(
+    alloc: Global,
+    text: &mut String,
+    source: Source<'_>,
+    actor: usize,
+) -> Result<(), AllocError>
+    ensures { OnOk result (string_bytes text.new ≡ string_bytes text.old
+        ++ rivals source.entry.kinds.now (view source.entry.graph.now) actor) }
+{
+    push_actor_key(alloc, text, source, actor, "channel")?;
+    match first_rival(source.graph, actor, actor) {
+        Some(earlier) => push_actor_of(alloc, text, source.graph, earlier),
+        None => Ok(()),
+    }
+}
+
+/// Adds an actor, its block, and the first actor of its kind.
+#[tactic(auto, unfolding(crate::specs::Nets::beside_first))]
+fn push_beside_first(
+    alloc: Global,
+    text: &mut String,
+    source: Source<'_>,
+    kind: &str,
+    actor: usize,
+) -> Result<(), AllocError>
+    ensures { OnOk result (string_bytes text.new ≡ string_bytes text.old
+        ++ beside_first source.entry.kinds.now kind.now (view source.entry.graph.now) actor) }
+{
+    push_actor_key(alloc, text, source, actor, "block")?;
+    push_first_of(alloc, text, source, kind, "block")
+}
+
+/// Adds a link, and the first before it that shares an end with it.
+#[tactic(auto, unfolding(crate::specs::Nets::meeting))]
+fn push_meeting(
+    alloc: Global,
+    text: &mut String,
+    graph: &Value,
+    link: usize,
+) -> Result<(), AllocError>
+    ensures { OnOk result (string_bytes text.new ≡ string_bytes text.old ++ meeting (view graph.now) link) }
+{
+    push_link_of(alloc, text, graph, link)?;
+    match first_meeting(graph, link, link) {
+        Some(earlier) => push_link_of(alloc, text, graph, earlier),
+        None => Ok(()),
+    }
+}
+
+/// Adds a link, and how many samples it begins with.
+#[tactic(auto, unfolding(crate::specs::Nets::begun))]
+fn push_begun(
+    alloc: Global,
+    text: &mut String,
+    graph: &Value,
+    link: usize,
+) -> Result<(), AllocError>
+    ensures { OnOk result (string_bytes text.new ≡ string_bytes text.old ++ begun (view graph.now) link) }
+{
+    let most = MOST_INITIAL;
+    let limits = format!(in alloc; "at most {most}")?;
+    push_link_key(alloc, text, graph, link, "initial", Some(limits.as_str()))
+}
+
+/// Adds the lines of a fault of the graph.
+fn push_graph(
+    alloc: Global,
+    text: &mut String,
+    graph: &Value,
+    fault: GraphFault,
+) -> Result<(), AllocError>
+    ensures { OnOk result (string_bytes text.new ≡ string_bytes text.old ++ graph_told fault (view graph.now)) }
+{
+    match fault {
+        GraphFault::OutOfMemory
+        | GraphFault::ActorCount
+        | GraphFault::ChannelCount
+        | GraphFault::PeriodTooLong => Ok(()),
+        GraphFault::BadEnd { channel }
+        | GraphFault::BadRate { channel }
+        | GraphFault::CycleLength { channel }
+        | GraphFault::Inconsistent { channel } => push_ends(alloc, text, graph, channel),
+        GraphFault::InitialCount { channel } => push_begun(alloc, text, graph, channel),
+        GraphFault::NotConnected { actor } => push_actor_of(alloc, text, graph, actor),
+    }
+}
+
+/// Adds the lines of a fault of the net.
+pub(crate) fn push_net(
+    alloc: Global,
+    text: &mut String,
+    source: Source<'_>,
+    fault: NetFault,
+) -> Result<(), AllocError>
+    ensures { OnOk result (string_bytes text.new ≡ string_bytes text.old
+        ++ net_told source.entry.kinds.now fault (view source.entry.graph.now)) }
+{
+    match fault {
+        NetFault::OutOfMemory | NetFault::NoInput => Ok(()),
+        NetFault::Graph(fault) => push_graph(alloc, text, source.graph, fault),
+        NetFault::NoPort { link } => push_ends(alloc, text, source.graph, link),
+        NetFault::PortTwice { link } => push_meeting(alloc, text, source.graph, link),
+        NetFault::PortOpen { actor, .. } => push_actor_key(alloc, text, source, actor, "ways"),
+        NetFault::ExtTwice { actor } => push_rivals(alloc, text, source, actor),
+        NetFault::InputRates { actor } => push_beside_first(alloc, text, source, "input", actor),
+        NetFault::OutputRates { actor } => {
+            push_beside_first(alloc, text, source, "output", actor)
+        }
+        NetFault::NoOutput { .. } => push_all_of(alloc, text, source, "output", "channel"),
+    }
+}

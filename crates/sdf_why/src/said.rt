@@ -1,0 +1,47 @@
+//! What the system or the reader of TOML said of a file.
+
+ghost use Rattle.std.specs.Prelude.{◌≡◌, IfOk, string_bytes};
+ghost use Rattle.sdf_why.specs.Words.{said_line};
+ghost use Rattle.sdf_why.specs.Said.{IsTomlText};
+
+use crate::marks::before;
+use crate::words::push_said;
+use std::alloc::{AllocError, Global};
+use toml::de::Error;
+
+/// What is told of a file by what was said of it, as that it is not there or is a folder.
+pub fn device_text(alloc: Global, name: &str, said: &str) -> Result<String, AllocError>
+    ensures { IfOk result (λ text. string_bytes text ≡ said_line name.now said.now) }
+{
+    let mut text = String::new(alloc);
+    push_said(alloc, &mut text, name, said)?;
+    Ok(text)
+}
+
+/// The line and the column of an error, and what is wrong there.
+fn said_of(alloc: Global, error: &Error) -> Result<String, AllocError> {
+    let whole = format!(in alloc; "{error}")?;
+    let place = before(whole.as_str(), '\n');
+    let message = error.message();
+    format!(in alloc; "{place}: {message}")
+}
+
+/// What is told of a file by an error of its reader.
+fn error_text(alloc: Global, name: &str, error: &Error) -> Result<String, AllocError>
+    ensures { IfOk result (λ text. IsTomlText name.now (string_bytes text)) }
+{
+    let said = said_of(alloc, error)?;
+    let text = device_text(alloc, name, said.as_str())?;
+    Ok(text)
+}
+
+/// What is told of a file that is no TOML document: where it is none, and nothing where it is one.
+pub fn toml_text(alloc: Global, name: &str, bytes: &[u8]) -> Result<String, AllocError>
+    ensures { IfOk result (λ text. IsTomlText name.now (string_bytes text)) }
+{
+    match toml::table_from_slice(alloc, bytes) {
+        Ok(_) => Ok(String::new(alloc)),
+        Err(error) if error.is_memory() => Err(AllocError),
+        Err(error) => error_text(alloc, name, &error),
+    }
+}

@@ -1,0 +1,89 @@
+//! What is told of a sound that a design does not take.
+
+ghost use Rattle.std.specs.Prelude.{◌≡◌, ◌++◌, ◌*◌, ◌<◌, ◌≤◌, OnOk, string_bytes};
+ghost use Rattle.toml.specs.View.{view};
+ghost use Rattle.sdf_limits.specs.declared.TheConstants.{MOST_PERIOD, MOST_RATE};
+ghost use Rattle.sdf_why.specs.Sounds.{reads_text, has_text, channels_told, product_text, quotient_text, rate_line};
+
+use crate::net::push_all_of;
+use crate::tables::Source;
+use std::alloc::{AllocError, Global};
+
+/// What the header of a sound says.
+#[derive(Clone, Copy, Debug, PartialEq, Eq)]
+pub struct Header {
+    pub rate: u32,
+    pub channels: u32,
+}
+
+/// Adds how many channels a design reads.
+#[tactic(auto, unfolding(crate::specs::Sounds::reads_text))]
+fn push_reads(text: &mut String, wanted: usize) -> Result<(), AllocError>
+    ensures { OnOk result (string_bytes text.new ≡ string_bytes text.old ++ reads_text wanted) }
+{
+    write!(text, "  the design reads {wanted} channels")?;
+    Ok(())
+}
+
+/// Adds how many channels a sound has.
+#[tactic(auto, unfolding(crate::specs::Sounds::has_text))]
+fn push_has(text: &mut String, channels: u32) -> Result<(), AllocError>
+    ensures { OnOk result (string_bytes text.new ≡ string_bytes text.old ++ has_text channels) }
+{
+    writeln!(text, ", the sound has {channels}")?;
+    Ok(())
+}
+
+/// Adds how many channels a design reads and a sound has, and the inputs of the design.
+#[tactic(auto, unfolding(crate::specs::Sounds::channels_told))]
+pub(crate) fn push_channels(
+    alloc: Global,
+    text: &mut String,
+    source: Source<'_>,
+    wanted: usize,
+    header: Header,
+) -> Result<(), AllocError>
+    ensures { OnOk result (string_bytes text.new ≡ string_bytes text.old
+        ++ channels_told source.entry.kinds.now (view source.entry.graph.now) wanted header.channels) }
+{
+    push_reads(text, wanted)?;
+    push_has(text, header.channels)?;
+    push_all_of(alloc, text, source, "input", "channel")
+}
+
+/// Adds how a rate comes of another one.
+#[tactic(auto, unfolding(crate::specs::Sounds::product_text))]
+fn push_product(text: &mut String, rate: u32, made: usize, taken: usize) -> Result<(), AllocError>
+    ensures { OnOk result (string_bytes text.new ≡ string_bytes text.old ++ product_text rate made taken) }
+{
+    write!(text, "  {rate} * {made} / {taken} = ")?;
+    Ok(())
+}
+
+/// Adds a quotient: a whole number and a part.
+#[tactic(auto, unfolding(crate::specs::Sounds::quotient_text))]
+fn push_quotient(text: &mut String, all: u64, by: u64) -> Result<(), AllocError>
+    requires { 0 < by }
+    ensures { OnOk result (string_bytes text.new ≡ string_bytes text.old ++ quotient_text all by) }
+{
+    let whole = all / by;
+    let rest = all % by;
+    writeln!(text, "{whole} and {rest}/{by}")?;
+    Ok(())
+}
+
+/// Adds the rate that would come of a sound, of which a design takes so many samples in a period where it makes others.
+#[tactic(auto, unfolding(crate::specs::Sounds::rate_line))]
+pub(crate) fn push_rate(
+    text: &mut String,
+    rate: u32,
+    made: usize,
+    taken: usize,
+) -> Result<(), AllocError>
+    requires made { made ≤ MOST_RATE * MOST_PERIOD }
+    requires taken { 0 < taken }
+    ensures { OnOk result (string_bytes text.new ≡ string_bytes text.old ++ rate_line rate made taken) }
+{
+    push_product(text, rate, made, taken)?;
+    push_quotient(text, u64::from(rate) * made as u64, taken as u64)
+}

@@ -1,0 +1,79 @@
+//! What stands in the tables of a graph file.
+
+ghost use Rattle.std.specs.Prelude.{◌≡◌, IfOk, option_map};
+ghost use Rattle.toml.specs.View.{view};
+ghost use Rattle.toml.specs.Data.{get};
+ghost use Rattle.sdf_why.specs.Tables.{root, text_at, entry, actor_text, says, first_saying};
+
+use std::alloc::{AllocError, Global};
+use toml::Value;
+
+/// What is told of, and what it is told by: the graph file, its coefficient files and the table of kinds.
+#[derive(Clone, Copy)]
+pub(crate) struct Source<'a> {
+    pub(crate) graph: &'a Value,
+    pub(crate) files: &'a [(String, Vec<u8>)],
+    pub(crate) kinds: &'a str,
+}
+
+/// The document that the bytes are.
+#[tactic(auto, using(crate::proofs::Roots::root_found, crate::proofs::Roots::root_missing))]
+pub(crate) fn root(alloc: Global, bytes: &[u8]) -> Result<Option<Value>, AllocError>
+    ensures { IfOk result (λ r. option_map view r ≡ root bytes.now) }
+{
+    match toml::table_from_slice(alloc, bytes) {
+        Ok(table) => Ok(Some(Value::Table(table))),
+        Err(error) if error.is_memory() => Err(AllocError),
+        Err(_) => Ok(None),
+    }
+}
+
+/// The value at a key.
+pub(crate) fn value_at<'a>(value: &'a Value, key: &str) -> Option<&'a Value>
+    ensures { option_map (λ v. view v.now) result ≡ get key.now (view value.now) }
+{
+    value.get(key)
+}
+
+/// The text at a key.
+#[tactic(auto, unfolding(crate::specs::Tables::text_at))]
+pub(crate) fn text_at<'a>(value: &'a Value, key: &str) -> Option<&'a str>
+    ensures { option_map (λ s. s.now) result ≡ text_at key.now (view value.now) }
+{
+    value_at(value, key)?.as_str()
+}
+
+/// A table of an array, by its number.
+#[tactic(auto, unfolding(crate::specs::Tables::entry))]
+pub(crate) fn entry<'a>(value: &'a Value, array: &str, number: usize) -> Option<&'a Value>
+    ensures { option_map (λ v. view v.now) result ≡ entry array.now number (view value.now) }
+{
+    value_at(value, array)?.get(number)
+}
+
+/// The text at a key of an actor.
+#[tactic(auto, unfolding(crate::specs::Tables::actor_text))]
+pub(crate) fn actor_text<'a>(value: &'a Value, key: &str, actor: usize) -> Option<&'a str>
+    ensures { option_map (λ s. s.now) result ≡ actor_text key.now (view value.now) actor }
+{
+    text_at(entry(value, "actor", actor)?, key)
+}
+
+/// Whether an actor has this text at a key.
+#[tactic(auto, unfolding(crate::specs::Tables::says))]
+pub(crate) fn says(value: &Value, key: &str, text: &str, actor: usize) -> bool
+    ensures { result ≡ says key.now text.now (view value.now) actor }
+{
+    match actor_text(value, key, actor) {
+        Some(said) => text == said,
+        None => false,
+    }
+}
+
+/// The first of so many actors that has this text at a key.
+#[tactic(auto, unfolding(crate::specs::Tables::first_saying))]
+pub(crate) fn first_saying(value: &Value, key: &str, text: &str, actors: usize) -> Option<usize>
+    ensures { result ≡ first_saying key.now text.now (view value.now) actors }
+{
+    (0..actors).find(|actor| says(value, key, text, *actor))
+}

@@ -1,0 +1,243 @@
+//! What is told of a fault, by the files of the design.
+
+ghost use Rattle.std.specs.Prelude.{◌≡◌, ◌++◌, IfOk, IfSome, OnOk, string_bytes};
+ghost use Rattle.toml.specs.View.{view};
+ghost use Rattle.sdf_document.specs.Lists.{files_view};
+ghost use Rattle.sdf_document.specs.Listing.{kinds_text};
+ghost use Rattle.sdf_file.specs.Designs.{IsDesignOf};
+ghost use Rattle.sdf_actor.specs.declared.sides.Lists.TheVariants.{Inputs};
+ghost use Rattle.sdf_actor.specs.Sides.{list_count};
+ghost use Rattle.sdf_actor.specs.Graphs.{graph_of};
+ghost use Rattle.sdf_kit.specs.Kit.{kit_steps};
+ghost use Rattle.sdf_why.specs.Sounds.{channels_told};
+ghost use Rattle.sdf_why.specs.Cycles.{IsCycleText};
+ghost use Rattle.sdf_why.specs.Told.{net_text, file_text, processor_line, home_is, home_text, Says, IsStallText};
+ghost use Rattle.sdf_why.specs.Told.{IsChannelsText, IsRateOf, IsRateText};
+
+use crate::actors::push_actor_table;
+use crate::cycle::{Halt, cycle_text};
+use crate::document::{document_text, push_counted};
+use crate::net::push_net;
+use crate::sound::{Header, push_channels, push_rate};
+use crate::tables::{Source, entry, root};
+use sdf_actor::NetFault;
+use sdf_document::kinds_text;
+use sdf_file::{Design, FileFault, read_design};
+use std::alloc::{AllocError, Global};
+use toml::Value;
+
+/// The files of a design: its graph file, and each coefficient file with its name.
+#[derive(Clone, Copy)]
+pub struct Sources<'a> {
+    pub graph: &'a [u8],
+    pub files: &'a [(String, Vec<u8>)],
+}
+
+/// What is told of the first test that a net fails.
+#[tactic(auto, unfolding(crate::specs::Told::net_text))]
+pub fn net_text(
+    alloc: Global,
+    fault: NetFault,
+    sources: Sources<'_>,
+) -> Result<String, AllocError>
+    ensures { IfOk result (λ text. string_bytes text ≡ net_text fault sources.entry.graph.now) }
+{
+    let mut text = String::new(alloc);
+    let kinds = kinds_text(alloc)?;
+    if let Some(graph) = root(alloc, sources.graph)? {
+        let source = Source {
+            graph: &graph,
+            files: sources.files,
+            kinds: kinds.as_str(),
+        };
+        push_net(alloc, &mut text, source, fault)?;
+    }
+    Ok(text)
+}
+
+/// What is told of the first test that files fail.
+pub fn file_text(
+    alloc: Global,
+    fault: &FileFault,
+    sources: Sources<'_>,
+) -> Result<String, AllocError>
+    ensures { IfOk result (λ text. string_bytes text ≡
+        file_text fault.now sources.entry.graph.now (files_view sources.entry.files.now)) }
+{
+    match fault {
+        FileFault::OutOfMemory => Ok(String::new(alloc)),
+        FileFault::Document(fault) => document_text(alloc, fault, sources.graph, sources.files),
+        FileFault::Net(fault) => net_text(alloc, *fault, sources),
+    }
+}
+
+/// Adds the processor of an actor, and those that there are.
+#[tactic(auto, unfolding(crate::specs::Told::processor_line))]
+fn push_processor(
+    alloc: Global,
+    text: &mut String,
+    workers: usize,
+    actor: &Value,
+) -> Result<(), AllocError>
+    ensures { OnOk result (string_bytes text.new ≡ string_bytes text.old ++ processor_line workers (view actor.now)) }
+{
+    push_counted(alloc, text, actor, "processor", 0, workers.saturating_sub(1))
+}
+
+/// Adds an actor without a home among so many workers.
+fn push_home(
+    alloc: Global,
+    text: &mut String,
+    workers: usize,
+    number: usize,
+    actor: &Value,
+) -> Result<(), AllocError>
+    ensures { OnOk result (string_bytes text.new ≡ string_bytes text.old
+        ++ home_is workers number (view actor.now)) }
+{
+    push_actor_table(alloc, text, number, actor)?;
+    push_processor(alloc, text, workers, actor)
+}
+
+/// What is told of an actor without a home among so many workers.
+#[tactic(auto, unfolding(crate::specs::Told::home_text))]
+pub fn home_text(
+    alloc: Global,
+    workers: usize,
+    number: usize,
+    graph: &[u8],
+) -> Result<String, AllocError>
+    ensures { IfOk result (λ text. string_bytes text ≡ home_text workers number graph.now) }
+{
+    let mut text = String::new(alloc);
+    let Some(graph) = root(alloc, graph)? else {
+        return Ok(text);
+    };
+    let Some(actor) = entry(&graph, "actor", number) else {
+        return Ok(text);
+    };
+    push_home(alloc, &mut text, workers, number, actor)?;
+    Ok(text)
+}
+
+/// The tables and the design of files, where they are a design's.
+#[derive(Drop)]
+struct Basis {
+    document: Value,
+    design: Design,
+}
+
+/// The design of files, if they give one.
+fn design_of(alloc: Global, sources: Sources<'_>) -> Result<Option<Design>, AllocError>
+    ensures { IfOk result (λ r. IfSome r
+        (IsDesignOf sources.entry.graph.now (files_view sources.entry.files.now))) }
+{
+    match read_design(alloc, sources.graph, sources.files) {
+        Ok(design) => Ok(Some(design)),
+        Err(FileFault::OutOfMemory) => Err(AllocError),
+        Err(_) => Ok(None),
+    }
+}
+
+/// The tables and the design of files, if they give one.
+fn read(alloc: Global, sources: Sources<'_>) -> Result<Option<Basis>, AllocError>
+    ensures { IfOk result (λ r. IfSome r (λ x. Says sources.entry.graph.now (files_view sources.entry.files.now)
+        (view x.document) x.design)) }
+{
+    let Some(document) = root(alloc, sources.graph)? else {
+        return Ok(None);
+    };
+    match design_of(alloc, sources)? {
+        Some(design) => Ok(Some(Basis { document, design })),
+        None => Ok(None),
+    }
+}
+
+/// A cycle of a deadlocked design.
+fn stall_of(
+    alloc: Global,
+    halts: &[Halt],
+    document: &Value,
+    design: &Design,
+) -> Result<String, AllocError>
+    ensures { IfOk result (λ text. IsCycleText (view document.now) (graph_of kit_steps design.now.net) halts.now
+        (string_bytes text)) }
+{
+    cycle_text(alloc, document, design.net().graph(), halts)
+}
+
+/// What is told of a deadlock whose actors came so far.
+pub fn stall_text(
+    alloc: Global,
+    halts: &[Halt],
+    sources: Sources<'_>,
+) -> Result<String, AllocError>
+    ensures { IfOk result (λ text. IsStallText sources.entry.graph.now (files_view sources.entry.files.now) halts.now
+        (string_bytes text)) }
+{
+    let Some(basis) = read(alloc, sources)? else {
+        return Ok(String::new(alloc));
+    };
+    stall_of(alloc, halts, &basis.document, &basis.design)
+}
+
+/// The channels of a design and of a sound.
+fn channels_of(
+    alloc: Global,
+    header: Header,
+    document: &Value,
+    design: &Design,
+) -> Result<String, AllocError>
+    ensures { IfOk result (λ text. string_bytes text ≡ channels_told kinds_text (view document.now)
+        (list_count Inputs design.now.net.nodes) header.channels) }
+{
+    let mut text = String::new(alloc);
+    let kinds = kinds_text(alloc)?;
+    let source = Source {
+        graph: document,
+        files: &[],
+        kinds: kinds.as_str(),
+    };
+    push_channels(alloc, &mut text, source, design.net().inputs(), header)?;
+    Ok(text)
+}
+
+/// What is told of a sound that has not the channels which a design reads.
+pub fn channels_text(
+    alloc: Global,
+    header: Header,
+    sources: Sources<'_>,
+) -> Result<String, AllocError>
+    ensures { IfOk result (λ text. IsChannelsText sources.entry.graph.now (files_view sources.entry.files.now) header
+        (string_bytes text)) }
+{
+    let Some(basis) = read(alloc, sources)? else {
+        return Ok(String::new(alloc));
+    };
+    channels_of(alloc, header, &basis.document, &basis.design)
+}
+
+/// The rate that a design would make of a sound's.
+fn rate_of(alloc: Global, header: Header, design: &Design) -> Result<String, AllocError>
+    ensures { IfOk result (λ text. IsRateOf design.now header (string_bytes text)) }
+{
+    let mut text = String::new(alloc);
+    let net = design.net();
+    push_rate(&mut text, header.rate, net.samples_out(), net.samples_in())?;
+    Ok(text)
+}
+
+/// What is told of a sound of which a design would make one whose rate is no whole number.
+pub fn rate_text(
+    alloc: Global,
+    header: Header,
+    sources: Sources<'_>,
+) -> Result<String, AllocError>
+    ensures { IfOk result (λ text. IsRateText sources.entry.graph.now (files_view sources.entry.files.now) header
+        (string_bytes text)) }
+{
+    let Some(basis) = read(alloc, sources)? else {
+        return Ok(String::new(alloc));
+    };
+    rate_of(alloc, header, &basis.design)
+}

@@ -1,0 +1,232 @@
+//! The words of what is told.
+
+ghost use Rattle.std.specs.Prelude.{◌≡◌, ◌++◌, OnOk, option_map, string_bytes};
+ghost use Rattle.toml.specs.View.{view};
+ghost use Rattle.sdf_why.specs.Words.{quoted, value_text, article, name_text, kind_text, end_text, actor_line, link_words};
+ghost use Rattle.sdf_why.specs.Words.{link_line, lack_line, limits_text, key_line, is_vowel, said_line};
+ghost use Rattle.sdf_options.specs.Printable.{printable_text};
+
+use crate::marks::has;
+use sdf_options::printable::printable;
+use std::alloc::{AllocError, Global};
+use toml::Value;
+
+/// Adds a text of the user's file.
+fn push_printable(alloc: Global, text: &mut String, said: &str) -> Result<(), AllocError>
+    ensures { OnOk result (string_bytes text.new ≡ string_bytes text.old ++ printable_text said.now) }
+{
+    let shown = printable(alloc, said)?;
+    Ok(text.push_str(shown.as_str())?)
+}
+
+/// Adds it in quotes.
+fn push_quoted(alloc: Global, text: &mut String, said: &str) -> Result<(), AllocError>
+    ensures { OnOk result (string_bytes text.new ≡ string_bytes text.old ++ quoted said.now) }
+{
+    text.push_str("\"")?;
+    push_printable(alloc, text, said)?;
+    Ok(text.push_str("\"")?)
+}
+
+/// Adds a value: a text in quotes, a whole number in digits, of a list how long it is, and of anything else what it is.
+#[tactic(auto, using(crate::proofs::Items::item_count_view))]
+fn push_value(alloc: Global, text: &mut String, value: &Value) -> Result<(), AllocError>
+    ensures { OnOk result (string_bytes text.new ≡ string_bytes text.old ++ value_text (view value.now)) }
+{
+    if let Some(said) = value.as_str() {
+        return push_quoted(alloc, text, said);
+    }
+    if let Some(number) = value.as_integer() {
+        write!(text, "{number}")?;
+        return Ok(());
+    }
+    match value.as_array() {
+        Some(items) => {
+            let count = items.len();
+            write!(text, "a list of {count}")?;
+        }
+        None => {
+            let other = value.type_str();
+            write!(text, "a {other}")?;
+        }
+    }
+    Ok(())
+}
+
+/// The article before a word.
+fn article(word: &str) -> &'static str
+    ensures { result.now ≡ article word.now }
+{
+    match word.as_bytes().first() {
+        Some(b'a' | b'e' | b'i' | b'o' | b'u') => "an ",
+        _ => "a ",
+    }
+}
+
+fn push_name(alloc: Global, text: &mut String, name: Option<&str>) -> Result<(), AllocError>
+    ensures { OnOk result (string_bytes text.new ≡
+        string_bytes text.old ++ name_text (option_map (λ s. s.now) name.entry)) }
+{
+    match name {
+        Some(name) => push_quoted(alloc, text, name),
+        None => Ok(text.push_str("without a name")?),
+    }
+}
+
+fn push_kind(alloc: Global, text: &mut String, kind: Option<&str>) -> Result<(), AllocError>
+    ensures { OnOk result (string_bytes text.new ≡
+        string_bytes text.old ++ kind_text (option_map (λ s. s.now) kind.entry)) }
+{
+    match kind {
+        Some(kind) => {
+            text.push_str(article(kind))?;
+            push_printable(alloc, text, kind)
+        }
+        None => Ok(text.push_str("of no kind")?),
+    }
+}
+
+fn push_end(alloc: Global, text: &mut String, end: Option<&str>) -> Result<(), AllocError>
+    ensures { OnOk result (string_bytes text.new ≡ string_bytes text.old ++ end_text (option_map (λ s. s.now) end.entry)) }
+{
+    match end {
+        Some(end) => {
+            push_printable(alloc, text, end)?;
+            Ok(text.push_str(if has(end, ':') { "" } else { ":0" })?)
+        }
+        None => Ok(text.push_str("?")?),
+    }
+}
+
+/// Adds the line of an actor.
+#[tactic(auto, unfolding(crate::specs::Words::actor_line))]
+pub(crate) fn push_actor(
+    alloc: Global,
+    text: &mut String,
+    number: usize,
+    name: Option<&str>,
+    kind: Option<&str>,
+) -> Result<(), AllocError>
+    ensures { OnOk result (string_bytes text.new ≡ string_bytes text.old
+        ++ actor_line number (option_map (λ s. s.now) name.entry) (option_map (λ s. s.now) kind.entry)) }
+{
+    write!(text, "  actor {number} is ")?;
+    push_name(alloc, text, name)?;
+    text.push_str(", ")?;
+    push_kind(alloc, text, kind)?;
+    Ok(text.push_str("\n")?)
+}
+
+/// Adds what a link is.
+#[tactic(auto, unfolding(crate::specs::Words::link_words))]
+fn push_link_words(
+    alloc: Global,
+    text: &mut String,
+    number: usize,
+    from: Option<&str>,
+    to: Option<&str>,
+) -> Result<(), AllocError>
+    ensures { OnOk result (string_bytes text.new ≡ string_bytes text.old
+        ++ link_words number (option_map (λ s. s.now) from.entry) (option_map (λ s. s.now) to.entry)) }
+{
+    write!(text, "  link {number} is ")?;
+    push_end(alloc, text, from)?;
+    text.push_str(" -> ")?;
+    push_end(alloc, text, to)
+}
+
+/// Adds the line of a link.
+pub(crate) fn push_link(
+    alloc: Global,
+    text: &mut String,
+    number: usize,
+    from: Option<&str>,
+    to: Option<&str>,
+) -> Result<(), AllocError>
+    ensures { OnOk result (string_bytes text.new ≡ string_bytes text.old
+        ++ link_line number (option_map (λ s. s.now) from.entry) (option_map (λ s. s.now) to.entry)) }
+{
+    push_link_words(alloc, text, number, from, to)?;
+    Ok(text.push_str("\n")?)
+}
+
+/// How many samples a link holds, and how many its target takes.
+#[derive(Clone, Copy)]
+pub(crate) struct Lack {
+    pub(crate) holds: u64,
+    pub(crate) wants: u32,
+}
+
+/// Adds the line of a link that holds too little.
+pub(crate) fn push_lack(
+    alloc: Global,
+    text: &mut String,
+    number: usize,
+    from: Option<&str>,
+    to: Option<&str>,
+    lack: Lack,
+) -> Result<(), AllocError>
+    ensures { OnOk result (string_bytes text.new ≡ string_bytes text.old ++ lack_line number
+        (option_map (λ s. s.now) from.entry) (option_map (λ s. s.now) to.entry) lack.holds lack.wants) }
+{
+    push_link_words(alloc, text, number, from, to)?;
+    let Lack { holds, wants } = lack;
+    writeln!(text, ", holds {holds}, wants {wants}")?;
+    Ok(())
+}
+
+fn push_limits(text: &mut String, limits: Option<&str>) -> Result<(), AllocError>
+    ensures { OnOk result (string_bytes text.new ≡
+        string_bytes text.old ++ limits_text (option_map (λ s. s.now) limits.entry)) }
+{
+    match limits {
+        Some(limits) => write!(text, ", wants {limits}"),
+        None => Ok(()),
+    }
+}
+
+/// Adds what stands at a key, and what the key wants.
+#[tactic(auto, unfolding(crate::specs::Words::key_line))]
+pub(crate) fn push_key(
+    alloc: Global,
+    text: &mut String,
+    key: &str,
+    value: Option<&Value>,
+    limits: Option<&str>,
+) -> Result<(), AllocError>
+    ensures { OnOk result (string_bytes text.new ≡ string_bytes text.old
+        ++ key_line key.now (option_map (λ v. view v.now) value.entry) (option_map (λ s. s.now) limits.entry)) }
+{
+    if value.is_none() && limits.is_none() {
+        return Ok(());
+    }
+    text.push_str("  ")?;
+    push_printable(alloc, text, key)?;
+    match (value, limits) {
+        (Some(value), _) => {
+            text.push_str(" = ")?;
+            push_value(alloc, text, value)?;
+            push_limits(text, limits)?;
+        }
+        (None, Some(limits)) => write!(text, " wants {limits}")?,
+        (None, None) => {}
+    }
+    Ok(text.push_str("\n")?)
+}
+
+/// Adds what was said of a file.
+#[tactic(auto, unfolding(crate::specs::Words::said_line))]
+pub(crate) fn push_said(
+    alloc: Global,
+    text: &mut String,
+    name: &str,
+    said: &str,
+) -> Result<(), AllocError>
+    ensures { OnOk result (string_bytes text.new ≡ string_bytes text.old ++ said_line name.now said.now) }
+{
+    text.push_str("  ")?;
+    push_quoted(alloc, text, name)?;
+    text.push_str(": ")?;
+    push_printable(alloc, text, said)?;
+    Ok(text.push_str("\n")?)
+}

@@ -1,0 +1,90 @@
+//! Graph files whose nets are refused.
+
+use sdf_file::read_design;
+use sdf_why::{Sources, file_text};
+use std::alloc::Global;
+use std::process::Abort;
+use std::test::Fail;
+
+/// Actors and links of a graph file, the fault that it has, and what is told of it.
+struct Row {
+    actors: &'static str,
+    links: &'static str,
+    fault: &'static str,
+    told: &'static str,
+}
+
+/// An input, a fork of two ways and an output.
+const FORKED: &str =
+    "{ name = \"in\", kind = \"input\", channel = 0 }, { name = \"two\", kind = \"fork\", ways = 2 },
+    { name = \"out\", kind = \"output\", channel = 0 }";
+
+/// A second output of channel 0, and two inputs and an output of which one has no partner.
+const RIVALS: &str =
+    "{ name = \"in\", kind = \"input\", channel = 0 }, { name = \"two\", kind = \"fork\", ways = 2 },
+    { name = \"out\", kind = \"output\", channel = 0 }, { name = \"again\", kind = \"output\", channel = 0 }";
+
+/// An output of channel 1 alone.
+const SECOND: &str =
+    "{ name = \"in\", kind = \"input\", channel = 0 }, { name = \"out\", kind = \"output\", channel = 1 }";
+
+static ROWS: [Row; 5] = [
+    Row {
+        actors: FORKED,
+        links: "{ from = \"in\", to = \"two\" }, { from = \"two:2\", to = \"out\" }",
+        fault: "20 NoPort link 1",
+        told: "  link 1 is two:2 -> out:0\n  actor 1 is \"two\", a fork\n  actor 2 is \"out\", an output\n",
+    },
+    Row {
+        actors: FORKED,
+        links: "{ from = \"in\", to = \"two\" }, { from = \"two:0\", to = \"out\" }, { from = \"two\", to = \"out\" }",
+        fault: "21 PortTwice link 2",
+        told: "  link 2 is two:0 -> out:0\n  link 1 is two:0 -> out:0\n",
+    },
+    Row {
+        actors: FORKED,
+        links: "{ from = \"in\", to = \"two\" }, { from = \"two:0\", to = \"out\" }",
+        fault: "22 PortOpen actor 1 output 1",
+        told: "  actor 1 is \"two\", a fork\n  ways = 2, wants 2..16\n",
+    },
+    Row {
+        actors: RIVALS,
+        links: "{ from = \"in\", to = \"two\" }, { from = \"two:0\", to = \"out\" }, { from = \"two:1\", to = \"again\" }",
+        fault: "23 ExtTwice actor 3",
+        told: "  actor 3 is \"again\", an output\n  channel = 0, wants 0..7\n  actor 2 is \"out\", an output\n",
+    },
+    Row {
+        actors: SECOND,
+        links: "{ from = \"in\", to = \"out\" }",
+        fault: "27 NoOutput channel 0",
+        told: "  actor 1 is \"out\", an output\n  channel = 1, wants 0..7\n",
+    },
+];
+
+/// Whether a graph file of these has this fault, and this is told of it.
+fn is_told<R: Abort + AllocGlobal>(rt: &R, row: &Row) -> Result<(), Fail> {
+    let alloc = rt.alloc();
+    let actors = row.actors;
+    let links = row.links;
+    let graph = format!(in alloc; "format = 1\nactor = [{actors}]\nlink = [{links}]\n")?;
+    let sources = Sources {
+        graph: graph.as_bytes(),
+        files: &[],
+    };
+    let Err(fault) = read_design(alloc, sources.graph, sources.files) else {
+        panic!(rt; "it is read");
+    };
+    let line = format!(in alloc; "{fault}")?;
+    assert_eq!(rt; line.as_str(), row.fault);
+    let told = file_text(alloc, &fault, sources)?;
+    assert_eq!(rt; told.as_str(), row.told);
+    Ok(())
+}
+
+#[test]
+fn faults_of_nets_are_told(rt: HostRuntime) -> Result<(), Fail> {
+    for row in &ROWS {
+        is_told(&rt, row)?;
+    }
+    Ok(())
+}

@@ -1,0 +1,99 @@
+//! Deadlocks, sounds that a design does not take, and files of which something was said.
+
+use sdf_why::{
+    Halt, Header, Sources, channels_text, device_text, home_text, rate_text, stall_text, toml_text,
+};
+use std::process::Abort;
+use std::test::Fail;
+
+/// A loop on which no sample stands: of four actors only the first can fire.
+const STUCK: &str = "format = 1
+actor = [{ name = \"in\", kind = \"input\", channel = 0 }, { name = \"add\", kind = \"add\", ways = 2 },
+    { name = \"fork\", kind = \"fork\", ways = 2 }, { name = \"out\", kind = \"output\", channel = 0 }]
+link = [{ from = \"in\", to = \"add:0\" }, { from = \"add\", to = \"fork\" },
+    { from = \"fork:0\", to = \"out\" }, { from = \"fork:1\", to = \"add:1\" }]";
+
+/// Three samples in, two out, of the second channel too.
+const DESIGN: &str = "format = 1
+actor = [{ name = \"left\", kind = \"input\", channel = 0, block = 3 },
+    { name = \"right\", kind = \"input\", channel = 1, block = 3 },
+    { name = \"sum\", kind = \"add\", ways = 2 }, { name = \"less\", kind = \"fir\", up = 2, down = 3, shift = 0, taps = [1] },
+    { name = \"out\", kind = \"output\", channel = 0, processor = 2 }]
+link = [{ from = \"left\", to = \"sum:0\" }, { from = \"right\", to = \"sum:1\" }, { from = \"sum\", to = \"less\" },
+    { from = \"less\", to = \"out\" }]";
+
+fn sources(text: &str) -> Sources<'_> {
+    Sources {
+        graph: text.as_bytes(),
+        files: &[],
+    }
+}
+
+/// Where the loop stops: the input has fired, and each other actor waits.
+static HALTS: [Halt; 4] = [
+    Halt {
+        done: 1,
+        short: None,
+    },
+    Halt {
+        done: 0,
+        short: Some(3),
+    },
+    Halt {
+        done: 0,
+        short: Some(1),
+    },
+    Halt {
+        done: 0,
+        short: Some(2),
+    },
+];
+
+/// A text without a cycle fails here.
+#[test]
+fn a_cycle_is_told(rt: HostRuntime) -> Result<(), Fail> {
+    let told = stall_text(rt.alloc(), &HALTS, sources(STUCK))?;
+    assert_eq!(rt;
+        told.as_str(),
+        "  link 3 is fork:1 -> add:1, holds 0, wants 1\n  link 1 is add:0 -> fork:0, holds 0, wants 1\n"
+    );
+    Ok(())
+}
+
+#[test]
+fn sounds_are_told(rt: HostRuntime) -> Result<(), Fail> {
+    let alloc = rt.alloc();
+    let header = Header {
+        rate: 44_101,
+        channels: 1,
+    };
+    let told = channels_text(alloc, header, sources(DESIGN))?;
+    assert_eq!(rt;
+        told.as_str(),
+        "  the design reads 2 channels, the sound has 1\n  actor 0 is \"left\", an input\n  channel = 0, wants 0..7\n  \
+        actor 1 is \"right\", an input\n  channel = 1, wants 0..7\n"
+    );
+    let told = rate_text(alloc, header, sources(DESIGN))?;
+    assert_eq!(rt; told.as_str(), "  44101 * 2 / 3 = 29400 and 2/3\n");
+    let told = home_text(alloc, 2, 4, DESIGN.as_bytes())?;
+    assert_eq!(rt;
+        told.as_str(),
+        "  actor 4 is \"out\", an output\n  processor = 2, wants 0..1\n"
+    );
+    Ok(())
+}
+
+#[test]
+fn what_was_said_is_told(rt: HostRuntime) -> Result<(), Fail> {
+    let alloc = rt.alloc();
+    let told = device_text(alloc, "a\u{7}.toml", "not found")?;
+    assert_eq!(rt; told.as_str(), "  \"a\\u{7}.toml\": not found\n");
+    let told = toml_text(alloc, "a.toml", b"format = 1\nactor = [\n")?;
+    assert!(rt;
+        told.as_str()
+            .contains("\"a.toml\": TOML parse error at line 3, column 1: ")
+    );
+    let told = toml_text(alloc, "a.toml", b"format = 1\n")?;
+    assert_eq!(rt; told.as_str(), "");
+    Ok(())
+}
