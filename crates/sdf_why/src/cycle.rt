@@ -86,11 +86,7 @@ fn cycle_from(
     Ok(None)
 }
 
-fn cycle_of(
-    alloc: Global,
-    graph: &Graph,
-    halts: &[Halt],
-) -> Result<Option<Vec<usize>>, AllocError>
+fn cycle_of(alloc: Global, graph: &Graph, halts: &[Halt]) -> Result<Option<Vec<usize>>, AllocError>
     ensures { IfOk result (λ r. IfSome r (λ v. IsCycle graph.now halts.now v.items)) }
 {
     match waiting(graph, halts) {
@@ -168,7 +164,14 @@ fn push_lack_of(
         return Ok(());
     };
     let lack = lack_of(graph, halts, number);
-    push_lack(alloc, text, number, text_at(link, "from"), text_at(link, "to"), lack)
+    push_lack(
+        alloc,
+        text,
+        number,
+        text_at(link, "from"),
+        text_at(link, "to"),
+        lack,
+    )
 }
 
 /// Adds the links of a cycle.

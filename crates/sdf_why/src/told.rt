@@ -35,11 +35,7 @@ pub struct Sources<'a> {
 
 /// What is told of the first test that a net fails.
 #[tactic(auto, unfolding(crate::specs::Told::net_text))]
-pub fn net_text(
-    alloc: Global,
-    fault: NetFault,
-    sources: Sources<'_>,
-) -> Result<String, AllocError>
+pub fn net_text(alloc: Global, fault: NetFault, sources: Sources<'_>) -> Result<String, AllocError>
     ensures { IfOk result (λ text. string_bytes text ≡ net_text fault sources.entry.graph.now) }
 {
     let mut text = String::new(alloc);
@@ -81,7 +77,14 @@ fn push_processor(
 ) -> Result<(), AllocError>
     ensures { OnOk result (string_bytes text.new ≡ string_bytes text.old ++ processor_line workers (view actor.now)) }
 {
-    push_counted(alloc, text, actor, "processor", 0, workers.saturating_sub(1))
+    push_counted(
+        alloc,
+        text,
+        actor,
+        "processor",
+        0,
+        workers.saturating_sub(1),
+    )
 }
 
 /// Adds an actor without a home among so many workers.
@@ -167,11 +170,7 @@ fn stall_of(
 }
 
 /// What is told of a deadlock whose actors came so far.
-pub fn stall_text(
-    alloc: Global,
-    halts: &[Halt],
-    sources: Sources<'_>,
-) -> Result<String, AllocError>
+pub fn stall_text(alloc: Global, halts: &[Halt], sources: Sources<'_>) -> Result<String, AllocError>
     ensures { IfOk result (λ text. IsStallText sources.entry.graph.now (files_view sources.entry.files.now) halts.now
         (string_bytes text)) }
 {
@@ -228,11 +227,7 @@ fn rate_of(alloc: Global, header: Header, design: &Design) -> Result<String, All
 }
 
 /// What is told of a sound of which a design would make one whose rate is no whole number.
-pub fn rate_text(
-    alloc: Global,
-    header: Header,
-    sources: Sources<'_>,
-) -> Result<String, AllocError>
+pub fn rate_text(alloc: Global, header: Header, sources: Sources<'_>) -> Result<String, AllocError>
     ensures { IfOk result (λ text. IsRateText sources.entry.graph.now (files_view sources.entry.files.now) header
         (string_bytes text)) }
 {

@@ -14,6 +14,6 @@ pub returns : goal.returns
 returns c =
     let round : IsCycle c.args.graph.now c.args.halts.now c.in-Some.links.items = search rules in
     let told : string_bytes c.push_lacks.new.text ≡
-        flat_map (lack_told (view c.args.document.now) c.args.graph.now c.args.halts.now) c.in-Some.links.items =
-        search rules in
+    flat_map (lack_told (view c.args.document.now) c.args.graph.now c.args.halts.now) c.in-Some.links.items =
+    search rules in
     cycle c.in-Some.links.items round told

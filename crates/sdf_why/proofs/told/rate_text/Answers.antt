@@ -8,5 +8,5 @@ use Rattle.sdf_why.proofs.told.rate_text.Goals as goal
 pub returns : goal.returns
 returns c =
     let says : Says c.args.sources.graph.now (files_view c.args.sources.files.now) (view c.in-Some.basis.document)
-        c.in-Some.basis.design = search rules in
+    c.in-Some.basis.design = search rules in
     IfOk-weaker c.rate_of.result _ _ (λ text h. told _ _ says h) c.rate_of.ensures
