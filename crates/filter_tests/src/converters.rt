@@ -57,7 +57,10 @@ fn usual_rates(rt: HostRuntime) -> Result<(), Fail> {
 
 /// How many actors and links a design of so many channels has.
 fn size(alloc: Global, channels: u32) -> Result<String, Fail> {
-    let design = design_of(alloc, &converter_texts(alloc, 48_000, 44_100, channels, 96)?)?;
+    let design = design_of(
+        alloc,
+        &converter_texts(alloc, 48_000, 44_100, channels, 96)?,
+    )?;
     let actors = design.net().len();
     let links = design.net().channels();
     Ok(format!(in alloc; "{actors} {links}")?)

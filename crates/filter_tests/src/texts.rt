@@ -78,8 +78,20 @@ fn refusals(alloc: Global) -> Result<String, Fail> {
     let mut text = String::new(alloc);
     for wanted in [
         wanted(HIGH, 2),
-        wanted(Band::High { stop: 2500, pass: 1000 }, 1),
-        wanted(Band::High { stop: 1000, pass: 4001 }, 1),
+        wanted(
+            Band::High {
+                stop: 2500,
+                pass: 1000,
+            },
+            1,
+        ),
+        wanted(
+            Band::High {
+                stop: 1000,
+                pass: 4001,
+            },
+            1,
+        ),
         wanted(
             Band::Middle {
                 low_stop: 200,
@@ -89,7 +101,13 @@ fn refusals(alloc: Global) -> Result<String, Fail> {
             },
             1,
         ),
-        wanted(Band::Low { pass: 3000, stop: 1000 }, 1),
+        wanted(
+            Band::Low {
+                pass: 3000,
+                stop: 1000,
+            },
+            1,
+        ),
     ] {
         text.push_str(printed(alloc, wanted)?.as_str())?;
         text.push_str("\n")?;
@@ -136,8 +154,14 @@ fn graph_of_one_channel(rt: HostRuntime) -> Result<(), Fail> {
 fn faults_of_converters(rt: HostRuntime) -> Result<(), Fail> {
     let alloc = rt.alloc();
     let fault = |from, to, channels| converter_texts(alloc, from, to, channels, 96).err();
-    assert_eq!(rt; fault(8000, 8000, 0), Some(FilterFault::Channels { channels: 0 }));
-    assert_eq!(rt; fault(8000, 8000, 9), Some(FilterFault::Channels { channels: 9 }));
+    assert_eq!(rt;
+        fault(8000, 8000, 0),
+        Some(FilterFault::Channels { channels: 0 })
+    );
+    assert_eq!(rt;
+        fault(8000, 8000, 9),
+        Some(FilterFault::Channels { channels: 9 })
+    );
     assert_eq!(rt; fault(0, 8000, 1), Some(FilterFault::NoRate));
     assert_eq!(rt; fault(8000, 8000, 8), None);
     Ok(())
