@@ -54,7 +54,7 @@ file_added from pass attenuation stages xs ys n rate s w f long is_rate before g
     here =
         subst (λ o. IsFileOf (rate_at from stages n) pass attenuation (n + 1) o (slice_get ys n)) (sym got)
         (subst (λ (v : List StageFile). IsFileOf (rate_at from stages n) pass attenuation (n + 1) (Some s)
-                (slice_get v n))
+        (slice_get v n))
         (sym added)
         (subst (λ o. IsFileOf (rate_at from stages n) pass attenuation (n + 1) (Some s) o) (sym last)
         (subst (λ (v : Wanted). IsStageFile v (n + 1) f)
