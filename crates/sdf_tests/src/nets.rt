@@ -72,9 +72,18 @@ pub(crate) fn pair(
     Ok(Net::new(alloc, nodes, begun(alloc, &[[0, 0, 1, 0]], 0, initial)?)?)
 }
 
+/// The nodes of a chain.
+fn chained<A: Actor>(alloc: Global, actor: A) -> Result<Vec<Node<A>>, AllocError> {
+    let mut nodes = Vec::new(alloc);
+    nodes.push(source(0, 1))?;
+    nodes.push(Node::Inner(actor))?;
+    nodes.push(sink(0, 1))?;
+    Ok(nodes)
+}
+
 /// A source, an actor and a sink, in a chain.
 pub(crate) fn chain<A: Actor>(alloc: Global, actor: A) -> Result<Net<A>, Fail> {
-    let nodes = Vec::from_array(alloc, [source(0, 1), Node::Inner(actor), sink(0, 1)])?;
+    let nodes = chained(alloc, actor)?;
     Ok(Net::new(alloc, nodes, links(alloc, &[[0, 0, 1, 0], [1, 0, 2, 0]])?)?)
 }
 
