@@ -15,12 +15,15 @@ def is_front(output, whole):
     return not output or (whole is not None and whole.startswith(output))
 
 
-def ample_or(fault, period=None, text=True):
-    """The ample answer, or the fault with nothing printed and a text in OUT, or at least a front of one."""
+def ample_or(fault, period=None, text=True, less=False):
+    """The ample answer, or the fault with nothing printed and a text in OUT, or at least a front of one. With `less`
+    the ample fault may lack what more is told of it, the lines that begin with two blanks."""
 
     def allowed(ended, ample, at):
         if ended.answer() == ample.answer():
             return True
+        if less and ended.fault() == (ample.status, ample.told.split(b"\n  ", 1)[0] + b"\n"):
+            return not ended.printed
         written = is_text(ended.output, ample.output, period or 2) if text else is_front(ended.output, ample.output)
         return ended.refused() == 1 and ended.fault() == fault and not ended.printed and written
 
@@ -31,6 +34,19 @@ def only(fault, period=None, text=True):
     """The fault alone: a refused call is never passed over."""
     allowed = ample_or(fault, period, text)
     return lambda ended, ample, at: ended.answer() != ample.answer() and allowed(ended, ample, at)
+
+
+def behind(fault, ample_too):
+    """The fault behind a front of what is told, and of what is printed."""
+
+    def allowed(ended, ample, at):
+        if ended.answer() == ample.answer():
+            return ample_too
+        front = ended.told[: -len(fault[1])]
+        told = ended.fault() == (fault[0], front + fault[1]) and ample.told.startswith(front)
+        return told and ample.printed.startswith(ended.printed)
+
+    return allowed
 
 
 def printed_or(fault, ample_too):

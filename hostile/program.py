@@ -4,7 +4,7 @@ import struct
 import threading
 
 import largest
-from judges import NO_MEMORY, NO_READ, NO_WORKER, NO_WRITE, ample_or, is_text, only, printed_or
+from judges import NO_MEMORY, NO_READ, NO_WORKER, NO_WRITE, ample_or, behind, is_text, only, printed_or
 from machine import BUILD, HERE, SOUNDS, Folder, describe, run
 
 SDFW = BUILD / "sdfw"
@@ -28,6 +28,8 @@ RUNS = [("chain", "chain.toml", "short.wav", [], 320), ("loop", "loop.toml", "fe
 PRINTED = [
     ("check", ["check", "chain.toml"]),
     ("schedule", ["schedule", "chain.toml", "--workers", "2"]),
+    ("analyze", ["analyze", "chain.toml", "--workers", "2"]),
+    ("analyze --compare", ["analyze", "chain.toml", "--workers", "2", "--compare"]),
     ("kinds", ["kinds"]),
     ("explain", ["explain", "10"]),
     ("help", ["help"]),
@@ -36,19 +38,27 @@ PRINTED = [
     ("--version", ["--version"]),
 ]
 
+# What is made of numbers, with a line on standard error for each filter.
+MADE = [
+    ("fir", ["fir", "lowpass", "--rate", "48000", "--pass", "8000", "--stop", "12000", "--attenuation", "40"]),
+    ("resample", ["resample", "8000", "12000", "."]),
+]
 
 # What is a fault, and the words that meet it.
 FAULTS = [
     ("no file", ["check", "none.toml"]),
     ("no command", ["play"]),
     ("a deadlock", ["check", "deadlock.toml"]),
+    ("a deadlock and why", ["check", "deadlock.toml", "--why"]),
     ("no sound", ["run", "loop.toml", "none.wav", "out.wav"]),
 ]
 
 
 def memory_of_sdfw(lists):
     for name, words in PRINTED + FAULTS:
-        lists.refuse(f"sdfw {name}: memory", [SDFW, *words], "memory", ample_or(NO_MEMORY))
+        lists.refuse(f"sdfw {name}: memory", [SDFW, *words], "memory", ample_or(NO_MEMORY, less=words[-1] == "--why"))
+    for name, words in MADE:
+        lists.refuse(f"sdfw {name}: memory", [SDFW, *words], "memory", behind(NO_MEMORY, True))
     for runner in RUNNERS:
         for name, design, sound, more, period in RUNS:
             words = run_words(design, sound, runner, *more)
@@ -109,6 +119,8 @@ def writes_of_sdfw(lists):
         for name, words in PRINTED:
             allowed = printed_or(NO_WRITE, ample_too)
             lists.refuse(f"sdfw {name}: writes, {how}", [SDFW, *words], "write", allowed, how=how)
+        for name, words in MADE:
+            lists.refuse(f"sdfw {name}: writes, {how}", [SDFW, *words], "write", behind(NO_WRITE, ample_too), how=how)
         lists.refuse(f"sdfw check: writes of a byte, {how}", [SDFW, "check", "chain.toml"], "write",
                      printed_or(NO_WRITE, ample_too), how=how, one=True)
         for runner in RUNNERS:
