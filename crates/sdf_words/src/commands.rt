@@ -1,11 +1,17 @@
-//! The commands: the parser is made of the rows of their table.
+//! The commands: the parser is made of the rows of their tables.
 
-mod table;
+mod designs;
+mod filters;
+mod told;
 
 use clap::builder::ValueParser;
 use clap::{Arg, ArgAction, Command};
 use std::alloc::{AllocError, Global};
-use table::{COMMANDS, EXAMPLES};
+
+/// The examples of the program itself.
+const EXAMPLES: &str = "Examples:
+  sdfw check graph.toml
+  sdfw run graph.toml in.wav out.wav";
 
 /// What a value has to be.
 #[derive(Clone, Copy)]
@@ -138,15 +144,25 @@ fn command_of<'a>(alloc: Global, row: Row) -> Result<Command<'a>, AllocError> {
     with_switches(alloc, command, row.switches)
 }
 
+fn with_commands<'a>(
+    alloc: Global,
+    mut command: Command<'a>,
+    rows: &[Row],
+) -> Result<Command<'a>, AllocError> {
+    for row in rows {
+        command = command.subcommand(command_of(alloc, *row)?)?;
+    }
+    Ok(command)
+}
+
 /// The program's command, with each of its own.
 pub(crate) fn sdfw_command<'a>(alloc: Global) -> Result<Command<'a>, AllocError> {
-    let mut command = Command::new(alloc, "sdfw")
+    let command = Command::new(alloc, "sdfw")
         .about("A workbench for synchronous dataflow graphs over WAV files")
         .version("0.1.0")
         .after_help(EXAMPLES)
         .subcommand_required(true);
-    for row in &COMMANDS {
-        command = command.subcommand(command_of(alloc, *row)?)?;
-    }
-    Ok(command)
+    let command = with_commands(alloc, command, designs::rows())?;
+    let command = with_commands(alloc, command, filters::rows())?;
+    with_commands(alloc, command, told::rows())
 }

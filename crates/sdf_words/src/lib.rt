@@ -2,7 +2,7 @@
 //!
 //! It stands on `clap`, on `sdf_options` for the options of a run, on `sdf_filters` for what a filter is asked for by,
 //! and on `sdf_limits`; it knows no graph and no sound.
-//! Begin at `asked`, what can be asked for, then `commands::table`, what each command takes and its help says, and
+//! Begin at `asked`, what can be asked for, then `commands`, what each command takes and its help says, and
 //! `command_line`, which reads it; `explain` has what each fault means. The definitions are in `specs/Limits.antt`.
 #![tactic(auto)]
 
