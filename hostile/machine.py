@@ -79,7 +79,7 @@ def run(words, kind=None, at=0, how="error", one=False, window=None, printed=sub
     folder = Folder.here()
     counts = folder / "counts"
     output = folder / "out.wav"
-    for old in (counts, output):
+    for old in (counts, output, *folder.glob("graph.toml"), *folder.glob("stage*.toml")):
         old.unlink(missing_ok=True)
     setting = {"LD_PRELOAD": str(SHARED), "HOSTILE_COUNTS": str(counts), "HOSTILE_HOW": how, "HOSTILE_AT": str(at)}
     if kind:

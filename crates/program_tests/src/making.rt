@@ -51,7 +51,8 @@ fn filters(rt: HostRuntime) -> Result<(), Fail> {
     Ok(())
 }
 
-/// Refuses a graph file without its coefficient files, and one that is written where a folder may not be.
+/// Refuses a graph file without its coefficient files, one that is written where a folder may not be, and one that is
+/// written over another.
 #[test]
 fn converters(rt: HostRuntime) -> Result<(), Fail> {
     let text = made(&rt, &["sdfw", "resample", "8000", "8000", "made"])?;
@@ -64,5 +65,10 @@ fn converters(rt: HostRuntime) -> Result<(), Fail> {
     );
     let text = made(&rt, &["sdfw", "resample", "8000", "8000", "elsewhere"])?;
     assert_eq!(rt; text.as_str(), "5\n--\nsdfw: 48 Write\n--\n");
+    let text = made(&rt, &["sdfw", "resample", "8000", "8000", "full"])?;
+    assert!(rt;
+        text.as_str()
+            .starts_with("2\n--\nerror: FOLDER has a file graph.toml already\n")
+    );
     Ok(())
 }

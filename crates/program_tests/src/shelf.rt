@@ -45,7 +45,7 @@ values = [1]
 ";
 
 /// The graph files and coefficient files of the tests.
-const TEXTS: [(&str, &str); 10] = [
+const TEXTS: [(&str, &str); 11] = [
     ("plain.toml", PLAIN),
     ("-", PLAIN),
     ("begun.toml", BEGUN),
@@ -54,6 +54,7 @@ const TEXTS: [(&str, &str); 10] = [
     ("stuck.toml", STUCK),
     ("filtered.toml", FILTERED),
     ("one.toml", TAPS),
+    ("full/graph.toml", PLAIN),
     ("padded/filtered.toml", FILTERED),
     ("padded/one.toml", PADDED),
 ];
@@ -71,8 +72,8 @@ fn bytes_of(path: &str) -> Option<&'static [u8]> {
     None
 }
 
-/// Files in memory, and what was written. Only out.wav can be made, and what lies in
-/// the folder `made`, one file behind the other. The file `-` is no sound, and `./-` is one.
+/// Files in memory, and what was written. Only out.wav can be made, and what lies in the folder `made`, one file behind
+/// the other. The file `-` is no sound, and `./-` is one.
 #[derive(Clone, Copy)]
 pub(crate) struct Shelf<'a> {
     pub(crate) written: &'a RefCell<Vec<u8>>,

@@ -1,6 +1,7 @@
 //! The commands that make filters and converters.
 
 use crate::files::device_fault;
+use crate::overwriting::keep_file;
 use crate::printing::show;
 use crate::program::World;
 use crate::storage::Storage;
@@ -12,6 +13,9 @@ use sdf_process::planning::plan;
 use sdf_words::{Conversion, mistake};
 use std::alloc::Global;
 use std::io::Write;
+
+/// The name of a converter's graph file.
+const GRAPH: &str = "graph.toml";
 
 /// What is asked for is a mistake on the command line.
 fn filter_fault(alloc: Global, fault: FilterFault) -> Fault {
@@ -48,6 +52,19 @@ fn design_of(alloc: Global, texts: &ConverterTexts) -> Result<Design, Fault> {
     Ok(read_design(alloc, texts.graph.as_bytes(), &files)?)
 }
 
+/// Refuses a folder that has one of the files of a converter.
+fn keep_all<S: Storage>(
+    alloc: Global,
+    storage: &S,
+    folder: &str,
+    texts: &ConverterTexts,
+) -> Result<(), Fault> {
+    for file in &texts.files {
+        keep_file(alloc, storage, folder, file.name.as_str())?;
+    }
+    keep_file(alloc, storage, folder, GRAPH)
+}
+
 /// Writes a file into a folder.
 fn write_into<S: Storage, T: AllocGlobal>(
     world: &World<S, T>,
@@ -73,10 +90,11 @@ fn write_all<S: Storage, T: AllocGlobal, E: Write>(
         write_into(world, folder, file.name.as_str(), file.text.as_str())?;
         show(err, file.told.as_str())?;
     }
-    write_into(world, folder, "graph.toml", texts.graph.as_str())
+    write_into(world, folder, GRAPH, texts.graph.as_str())
 }
 
-/// Writes the design of a conversion. It is read and planned before anything is written: what is written can be run.
+/// Writes the design of a conversion. It is read and planned before anything is written: what is written can be run, and
+/// no file that was there is gone.
 pub(crate) fn resample<S: Storage, T: AllocGlobal, E: Write>(
     world: &World<S, T>,
     err: &mut E,
@@ -93,6 +111,7 @@ pub(crate) fn resample<S: Storage, T: AllocGlobal, E: Write>(
     match converter_texts(alloc, from, to, channels, attenuation) {
         Ok(texts) => {
             plan(alloc, &design_of(alloc, &texts)?, &Options::DEFAULT)?;
+            keep_all(alloc, world.storage, folder, &texts)?;
             write_all(world, err, folder, &texts)
         }
         Err(fault) => Err(filter_fault(alloc, fault)),

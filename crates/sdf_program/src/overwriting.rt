@@ -1,4 +1,5 @@
-//! What a run would destroy: OUT is emptied before IN is read, so it may be no file that the run reads.
+//! What a command would destroy: OUT is emptied before IN is read, so it may be no file that a run reads, and a design is
+//! written into no folder that has one.
 
 use crate::program::STANDARD;
 use crate::storage::Storage;
@@ -76,4 +77,19 @@ pub(crate) fn keep_what_is_read<S: Storage>(
         return Err(same_file(alloc, "GRAPH"));
     }
     keep_coefficients(alloc, storage, graph, names, out.as_str())
+}
+
+/// Refuses a folder that has a file of this name.
+pub(crate) fn keep_file<S: Storage>(
+    alloc: Global,
+    storage: &S,
+    folder: &str,
+    name: &str,
+) -> Result<(), Fault> {
+    let path = format!(in alloc; "{folder}/{name}")?;
+    if only_path(alloc, storage, path.as_str())?.is_none() {
+        return Ok(());
+    }
+    let text = format!(in alloc; "FOLDER has a file {name} already")?;
+    Err(Fault::from(mistake(alloc, text.as_str())))
 }

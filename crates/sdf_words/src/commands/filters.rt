@@ -106,7 +106,7 @@ const FOLDER: Place = Place {
     name: "FOLDER",
     help: "The folder that the design is written into",
     more: "The folder that the design is written into, which has to be there: graph.toml, and a coefficient
-file for each stage. Files of these names that are in it are written anew",
+file for each stage. It may have none of these files already",
     values: Values::Text,
 };
 
