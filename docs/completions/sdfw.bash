@@ -3,29 +3,47 @@ _sdfw() {
   local word=${COMP_WORDS[COMP_CWORD]} before=${COMP_WORDS[COMP_CWORD-1]}
   COMPREPLY=()
   if [ "$COMP_CWORD" -eq 1 ]; then
-    mapfile -t COMPREPLY < <(compgen -W "check schedule run kinds explain help --help --version" -- "$word")
+    mapfile -t COMPREPLY < <(compgen -W "check schedule analyze run fir resample kinds explain help --help --version" -- "$word")
     return
   fi
   case ${COMP_WORDS[1]}:$before in
-    help:help) mapfile -t COMPREPLY < <(compgen -W "check schedule run kinds explain" -- "$word"); return ;;
+    help:help) mapfile -t COMPREPLY < <(compgen -W "check schedule analyze run fir resample kinds explain" -- "$word"); return ;;
     schedule:--blocking) :; return ;;
     schedule:--workers) :; return ;;
     schedule:--policy) mapfile -t COMPREPLY < <(compgen -W "round lean runs" -- "$word"); return ;;
     schedule:--placement) mapfile -t COMPREPLY < <(compgen -W "hu homed file" -- "$word"); return ;;
+    analyze:--blocking) :; return ;;
+    analyze:--workers) :; return ;;
+    analyze:--policy) mapfile -t COMPREPLY < <(compgen -W "round lean runs" -- "$word"); return ;;
+    analyze:--placement) mapfile -t COMPREPLY < <(compgen -W "hu homed file" -- "$word"); return ;;
     run:--blocking) :; return ;;
     run:--workers) :; return ;;
     run:--policy) mapfile -t COMPREPLY < <(compgen -W "round lean runs" -- "$word"); return ;;
     run:--placement) mapfile -t COMPREPLY < <(compgen -W "hu homed file" -- "$word"); return ;;
     run:--runner) mapfile -t COMPREPLY < <(compgen -W "one rows rings" -- "$word"); return ;;
     run:--patience) :; return ;;
+    fir:--rate) :; return ;;
+    fir:--pass) :; return ;;
+    fir:--stop) :; return ;;
+    fir:--low-stop) :; return ;;
+    fir:--low-pass) :; return ;;
+    fir:--attenuation) :; return ;;
+    fir:--up) :; return ;;
+    fir:--shift) :; return ;;
+    resample:--channels) :; return ;;
+    resample:--attenuation) :; return ;;
   esac
   case ${COMP_WORDS[1]}:$word in
-    check:-*) mapfile -t COMPREPLY < <(compgen -W "--help" -- "$word") ;;
-    schedule:-*) mapfile -t COMPREPLY < <(compgen -W "--blocking --workers --policy --placement --help" -- "$word") ;;
-    run:-*) mapfile -t COMPREPLY < <(compgen -W "--blocking --workers --policy --placement --runner --patience --help" -- "$word") ;;
+    check:-*) mapfile -t COMPREPLY < <(compgen -W "--why --help" -- "$word") ;;
+    schedule:-*) mapfile -t COMPREPLY < <(compgen -W "--blocking --workers --policy --placement --why --help" -- "$word") ;;
+    analyze:-*) mapfile -t COMPREPLY < <(compgen -W "--blocking --workers --policy --placement --compare --help" -- "$word") ;;
+    run:-*) mapfile -t COMPREPLY < <(compgen -W "--blocking --workers --policy --placement --runner --patience --why --help" -- "$word") ;;
+    fir:-*) mapfile -t COMPREPLY < <(compgen -W "--rate --pass --stop --low-stop --low-pass --attenuation --up --shift --help" -- "$word") ;;
+    fir:*) mapfile -t COMPREPLY < <(compgen -W "lowpass highpass bandpass" -- "$word") ;;
+    resample:-*) mapfile -t COMPREPLY < <(compgen -W "--channels --attenuation --help" -- "$word") ;;
     kinds:-*) mapfile -t COMPREPLY < <(compgen -W "--help" -- "$word") ;;
     explain:-*) mapfile -t COMPREPLY < <(compgen -W "--help" -- "$word") ;;
-    check:*|schedule:*|run:*)
+    check:*|schedule:*|analyze:*|run:*|resample:*)
       compopt -o filenames
       mapfile -t COMPREPLY < <(compgen -f -- "$word")
       ;;
