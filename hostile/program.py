@@ -29,7 +29,7 @@ PRINTED = [
     ("check", ["check", "chain.toml"]),
     ("schedule", ["schedule", "chain.toml", "--workers", "2"]),
     ("analyze", ["analyze", "chain.toml", "--workers", "2"]),
-    ("analyze --compare", ["analyze", "chain.toml", "--workers", "2", "--compare"]),
+    ("analyze --compare", ["analyze", "blocks.toml", "--compare"]),
     ("kinds", ["kinds"]),
     ("explain", ["explain", "10"]),
     ("help", ["help"]),
