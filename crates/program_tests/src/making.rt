@@ -7,9 +7,10 @@ use sdf_program::program::World;
 use std::cell::RefCell;
 use std::test::Fail;
 use std::thread::Threads;
+use std::time::Clock;
 
 /// The exit status of a line, and behind it what stands on standard output, on standard error and in files.
-fn made<T: Threads + AllocGlobal + Sync>(rt: &T, line: &[&str]) -> Result<String, Fail> {
+fn made<T: Threads + AllocGlobal + Clock + Sync>(rt: &T, line: &[&str]) -> Result<String, Fail> {
     let alloc = rt.alloc();
     let written = RefCell::new(Vec::new(alloc));
     let world = World {

@@ -8,6 +8,7 @@ use std::cell::RefCell;
 use std::process::Abort;
 use std::test::Fail;
 use std::thread::Threads;
+use std::time::Clock;
 
 /// The table of kinds of `docs/FORMATS.md`, and the keys that every actor may have.
 const KINDS: &str = "input: channel 0..7, block 1..1024 (1)
@@ -41,7 +42,7 @@ runs   file            1      refused 19
 
 /// Whether a command over these files ends so: its exit status, what stands on the two streams, and in the file that is
 /// written.
-fn ends_with<T: Abort + Threads + AllocGlobal + Sync>(
+fn ends_with<T: Abort + Threads + AllocGlobal + Clock + Sync>(
     rt: &T,
     most: u32,
     line: &[&str],

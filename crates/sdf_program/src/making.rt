@@ -93,8 +93,8 @@ fn write_all<S: Storage, T: AllocGlobal, E: Write>(
     write_into(world, folder, GRAPH, texts.graph.as_str())
 }
 
-/// Writes the design of a conversion. It is read and planned before anything is written: what is written can be run, and
-/// no file that was there is gone.
+/// Writes the design of a conversion. It is read and planned before anything is written: what is written can be run,
+/// and no file that was there is gone.
 pub(crate) fn resample<S: Storage, T: AllocGlobal, E: Write>(
     world: &World<S, T>,
     err: &mut E,
