@@ -117,7 +117,8 @@ fn answers_stand_on_standard_output(rt: HostRuntime) -> Result<(), Fail> {
             &["sdfw", "check", "-h"],
             "Checks a graph file and prints its period\n\nUsage: sdfw check [OPTIONS] <GRAPH>\n\n\
              Arguments:\n  <GRAPH>  The graph file\n\n\
-             Options:\n      --why   Says more of a fault: names, values and limits\n  \
+             Options:\n      --why   Says more of a fault: names, values and limits\n      \
+             --json  Answers in JSON, also of a fault\n  \
              -h, --help  Print help (see more with '--help')\n\n\
              Examples:\n  sdfw check graph.toml\n  sdfw check graph.toml --why\n",
         ),
