@@ -28,8 +28,9 @@ fn options_for(design: &Design) -> Options {
     }
 }
 
-/// Runs a design on a WAV file in one thread, and tells how much of the time passes in the firings of each actor, and at
-/// the files; how often each fired, and how long a firing takes; and what the keys `cost` would say, the least time as
+/// Runs a design on a WAV file in one thread, and tells how much of the time passes in the firings of each actor, and
+/// at the files; how often each fired, and how long a firing takes; and what the keys `cost` would say, the least time
+/// as
 /// 1. What the run makes is dropped. What is read off the clock between two firings belongs to the first of them, so
 /// a firing's time has that of a reading, some 30 ns. The tests are those of `run`.
 pub fn profile<T: Threads + AllocGlobal + Clock + Sync, R: Read + Drop>(

@@ -1,7 +1,7 @@
 //! The commands that make filters and converters.
 
 use crate::files::device_fault;
-use crate::overwriting::keep_file;
+use crate::overwriting::{keep_file, only_path};
 use crate::printing::show;
 use crate::program::World;
 use crate::storage::Storage;
@@ -65,6 +65,17 @@ fn keep_all<S: Storage>(
     keep_file(alloc, storage, folder, GRAPH)
 }
 
+/// Makes a folder that is not there.
+fn make_folder<S: Storage>(alloc: Global, storage: &S, folder: &str) -> Result<(), Fault> {
+    if only_path(alloc, storage, folder)?.is_some() {
+        return Ok(());
+    }
+    match storage.create_folder(folder) {
+        Ok(()) => Ok(()),
+        Err(error) => Err(device_fault(&error, Fault::Write)),
+    }
+}
+
 /// Writes a file into a folder.
 fn write_into<S: Storage, T: AllocGlobal>(
     world: &World<S, T>,
@@ -112,6 +123,7 @@ pub(crate) fn resample<S: Storage, T: AllocGlobal, E: Write>(
         Ok(texts) => {
             plan(alloc, &design_of(alloc, &texts)?, &Options::DEFAULT)?;
             keep_all(alloc, world.storage, folder, &texts)?;
+            make_folder(alloc, world.storage, folder)?;
             write_all(world, err, folder, &texts)
         }
         Err(fault) => Err(filter_fault(alloc, fault)),

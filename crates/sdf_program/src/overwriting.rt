@@ -11,7 +11,11 @@ use std::io::ErrorKind;
 use std::path::{Path, PathBuf};
 
 /// The one path of a file, without dots and links, where a file is there.
-fn only_path<S: Storage>(alloc: Global, storage: &S, path: &str) -> Result<Option<PathBuf>, Fault> {
+pub(crate) fn only_path<S: Storage>(
+    alloc: Global,
+    storage: &S,
+    path: &str,
+) -> Result<Option<PathBuf>, Fault> {
     match storage.only_path(alloc, path) {
         Ok(only) => Ok(Some(only)),
         Err(error) if error.kind() == ErrorKind::OutOfMemory => Err(Fault::OutOfMemory),

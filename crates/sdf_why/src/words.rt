@@ -2,8 +2,7 @@
 
 ghost use Rattle.std.specs.Prelude.{◌≡◌, ◌++◌, OnOk, option_map, string_bytes};
 ghost use Rattle.toml.specs.View.{view};
-ghost use Rattle.sdf_why.specs.Words.{quoted, value_text, article, name_text, kind_text, end_text, actor_line};
-ghost use Rattle.sdf_why.specs.Words.{link_words};
+ghost use Rattle.sdf_why.specs.Words.{quoted, value_text, article, name_text, kind_text, end_text, actor_line, link_words};
 ghost use Rattle.sdf_why.specs.Words.{link_line, lack_line, limits_text, key_line, is_vowel, said_line};
 ghost use Rattle.sdf_options.specs.Printable.{printable_text};
 
@@ -88,8 +87,7 @@ fn push_kind(alloc: Global, text: &mut String, kind: Option<&str>) -> Result<(),
 }
 
 fn push_end(alloc: Global, text: &mut String, end: Option<&str>) -> Result<(), AllocError>
-    ensures { OnOk result (string_bytes text.new ≡
-          string_bytes text.old ++ end_text (option_map (λ s. s.now) end.entry)) }
+    ensures { OnOk result (string_bytes text.new ≡ string_bytes text.old ++ end_text (option_map (λ s. s.now) end.entry)) }
 {
     match end {
         Some(end) => {

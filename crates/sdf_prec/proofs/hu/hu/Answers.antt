@@ -81,8 +81,7 @@ returns c =
     let are = subst (λ n. AreTimedRows r (λ a. get_or n a 0) c.args.m
     (hu_rule r (λ a. get_or n a 0) cost level c.args.m c.args.homed) c.in_ok-rows.rows.items)
     (firings_is here) rows in
-    let sure = subst (λ n. IsValid r (λ a. get_or n a 0) (cells_of c.in_ok-rows.rows.items)) (firings_is here) valid in
-        (
+    let sure = subst (λ n. IsValid r (λ a. get_or n a 0) (cells_of c.in_ok-rows.rows.items)) (firings_is here) valid in (
       record { factor = c.in_default.ensures.0; workers = c.in_default.ensures.1; short = short here },
       hu_table r (λ a. get_or (block c.args.j q) a 0) cost level c.args.m c.args.homed c.in_ok-rows.rows.items
           c.in_ok-table.table are sure (c.in_ok-table.ensures.rows ∙ c.in_ok-cells.ensures) c.in_ok-table.ensures.exact

@@ -23,8 +23,7 @@ can g c =
     (c.nets_can_run.ensures c.args.net.now c.args.period.now c.args.periods (lists c.args.inputs.now)
     (c.nets_have_periods.ensures c.args.period.now c.requires.period) c.requires.inputs)
 
-rooms : (g : Rattle.sdf_run.proofs.fired.fired.Given.Over) (c : After-run-1 g) (d : ℕ) →
-    d < length c.args.net.now.wires →
+rooms : (g : Rattle.sdf_run.proofs.fired.fired.Given.Over) (c : After-run-1 g) (d : ℕ) → d < length c.args.net.now.wires →
     (wiring g.A.Actor.steps c.args.net.now).rates.initial d
     + c.block_periods-size.result * (wiring g.A.Actor.steps c.args.net.now).rates.produced d
     (get_or c.repetitions-repetitions.result.now ((wiring g.A.Actor.steps c.args.net.now).rates.source d) 0) ≤

@@ -34,8 +34,7 @@ loop-phase-preserved g c =
 pub returns : goal.returns
 returns g c =
     let inv = c.loop-phase.invariant in
-    let all : c.loop-phase.phase ≡ c.args.cycle = omega (arith, c.loop-phase-test.false, c.loop-phase.auto.phase-end) in
-        (
+    let all : c.loop-phase.phase ≡ c.args.cycle = omega (arith, c.loop-phase-test.false, c.loop-phase.auto.phase-end) in (
       inv.len ∙ all,
       λ j h. (
         inv.each j (omega (arith, h, all)),
