@@ -82,7 +82,7 @@ fn folders_are_made(rt: HostRuntime) -> Result<(), Fail> {
     let alloc = rt.alloc();
     let above = folder(&rt, "making")?;
     let path = format!(in alloc; "{}/new", above.as_str())?;
-    let _ = fs::remove_dir_all(&rt, alloc, path.as_str());
+    let _ = fs::remove_dir_all(&rt, path.as_str());
     let (status, said) = ends(
         &rt,
         &rt,

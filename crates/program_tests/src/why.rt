@@ -102,7 +102,7 @@ const UNUSABLE: &[([&str; 3], u8, &str)] = &[
     (
         ["lacking.toml", "in.wav", "out.wav"],
         3,
-        "sdfw: 58 NoFile file two.toml\n  \"two.toml\": entity not found\n",
+        "sdfw: 58 NoFile file two.toml\n  actor 1 is \"same\", a fir\n  \"two.toml\": entity not found\n",
     ),
     (
         ["right.toml", "in.wav", "out.wav"],
