@@ -53,7 +53,7 @@ fn stand(rt: &(impl Abort + Files + AllocGlobal), folder: &str, what: &str) -> R
 
 /// How a run of the folder's files ends that is told to write here.
 fn ends_at(
-    rt: &(impl Files + Threads + AllocGlobal + Clock + Sync),
+    rt: &(impl Files + Threads + AllocGlobal + Clock + Clone + Drop + Sync),
     folder: &str,
     out: &str,
 ) -> Result<(u8, String), Fail> {

@@ -78,7 +78,7 @@ impl Files for Refusing<'_> {
 }
 
 /// How a command ends where files with this ending are refused by this kind of error.
-fn refused<T: Threads + AllocGlobal + Clock + Sync>(
+fn refused<T: Threads + AllocGlobal + Clock + Clone + Drop + Sync>(
     rt: &HostRuntime,
     threads: &T,
     ending: &str,
@@ -94,7 +94,7 @@ fn refused<T: Threads + AllocGlobal + Clock + Sync>(
 }
 
 /// Whether it ends so.
-fn ends_refused<T: Abort + Threads + AllocGlobal + Clock + Sync>(
+fn ends_refused<T: Abort + Threads + AllocGlobal + Clock + Clone + Drop + Sync>(
     rt: &HostRuntime,
     threads: &T,
     ending: &str,
@@ -109,7 +109,7 @@ fn ends_refused<T: Abort + Threads + AllocGlobal + Clock + Sync>(
 }
 
 /// Each file of a run refused in turn, for want of memory and for another cause.
-fn each_refused<T: Abort + Threads + AllocGlobal + Clock + Sync>(
+fn each_refused<T: Abort + Threads + AllocGlobal + Clock + Clone + Drop + Sync>(
     rt: &HostRuntime,
     threads: &T,
     line: &[&str],
@@ -184,7 +184,7 @@ impl Write for Closed {
 
 /// How a command ends whose answer is refused by this kind of error.
 fn ends_closed(
-    rt: &(impl Files + Threads + AllocGlobal + Clock + Sync),
+    rt: &(impl Files + Threads + AllocGlobal + Clock + Clone + Drop + Sync),
     kind: ErrorKind,
     line: &[&str],
 ) -> Result<(u8, String), Fail> {
@@ -198,7 +198,7 @@ fn ends_closed(
 
 /// Whether it ends by the fault that it has to, for want of memory and for another cause.
 fn answer_is_refused(
-    rt: &(impl Abort + Files + Threads + AllocGlobal + Clock + Sync),
+    rt: &(impl Abort + Files + Threads + AllocGlobal + Clock + Clone + Drop + Sync),
     line: &[&str],
 ) -> Result<(), Fail> {
     let (status, said) = ends_closed(rt, ErrorKind::BrokenPipe, line)?;

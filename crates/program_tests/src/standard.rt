@@ -12,7 +12,7 @@ use std::time::Clock;
 
 /// Whether a run of plain.toml ends so: its exit status, what stands on standard output and on standard error, and in
 /// the file that is written.
-fn ends_so<T: Abort + Threads + AllocGlobal + Clock + Sync>(
+fn ends_so<T: Abort + Threads + AllocGlobal + Clock + Clone + Drop + Sync>(
     rt: &T,
     stdin: &[u8],
     words: &[&str],

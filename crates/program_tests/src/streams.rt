@@ -42,7 +42,7 @@ runs   file            1      refused 19
 
 /// Whether a command over these files ends so: its exit status, what stands on the two streams, and in the file that is
 /// written.
-fn ends_with<T: Abort + Threads + AllocGlobal + Clock + Sync>(
+fn ends_with<T: Abort + Threads + AllocGlobal + Clock + Clone + Drop + Sync>(
     rt: &T,
     most: u32,
     line: &[&str],

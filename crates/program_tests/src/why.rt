@@ -11,7 +11,7 @@ use std::thread::Threads;
 use std::time::Clock;
 
 /// Whether words end with this status, and this stands on standard error.
-fn ends_so<T: Abort + Threads + AllocGlobal + Clock + Sync>(
+fn ends_so<T: Abort + Threads + AllocGlobal + Clock + Clone + Drop + Sync>(
     rt: &T,
     words: &[&str],
     status: u8,

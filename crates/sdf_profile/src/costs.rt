@@ -1,11 +1,10 @@
 //! What firings cost in terms of the cheapest.
 
-ghost use Rattle.std.specs.Prelude.{◌≡◌, IfOk, map};
+ghost use Rattle.std.specs.Prelude.{◌≡◌, ◌<◌};
 ghost use Rattle.sdf_limits.specs.declared.TheConstants.{MOST_COST};
 ghost use Rattle.sdf_profile.specs.Costs.{cost_of, IsLeastTime};
 
 use sdf_limits::MOST_COST;
-use std::alloc::{AllocError, Global};
 
 /// A firing's time in picoseconds, by the nanoseconds of so many firings; 0 where there is none.
 pub(crate) fn time_of(spent: u64, firings: u64) -> u64 {
@@ -16,7 +15,7 @@ pub(crate) fn time_of(spent: u64, firings: u64) -> u64 {
 }
 
 /// The least of the times above 0.
-fn least(times: &[u64]) -> u64
+pub(crate) fn least(times: &[u64]) -> u64
     ensures { IsLeastTime times.now result }
 {
     let mut least = u64::MAX;
@@ -29,24 +28,11 @@ fn least(times: &[u64]) -> u64
 }
 
 /// How often the least time goes into a time, to the nearest, within the limits of the key `cost`.
-fn cost_of(least: u64, time: u64) -> u32
-    requires { 1 ≤ least }
+pub(crate) fn cost_of(least: u64, time: u64) -> u32
+    requires { 0 < least }
     ensures { result ≡ cost_of MOST_COST least time }
 {
     let least = u128::from(least);
     let times = (2 * u128::from(time) + least) / (2 * least);
-    times.min(u128::from(MOST_COST)).max(1) as u32
-}
-
-/// The costs of firings that take these times.
-pub(crate) fn costs(alloc: Global, times: &[u64]) -> Result<Vec<u32>, AllocError>
-    ensures { IfOk result
-        (λ costs. (l : _) × IsLeastTime times.now l × (costs.items ≡ map (cost_of MOST_COST l) times.now)) }
-{
-    let least = least(times);
-    let mut costs = Vec::new(alloc);
-    for time in times {
-        costs.push(cost_of(least, *time))?;
-    }
-    Ok(costs)
+    times.max(1).min(u128::from(MOST_COST)) as u32
 }

@@ -1,16 +1,14 @@
 //! The lines of a profile.
 
-ghost use Rattle.std.specs.Prelude.{length, ◌<◌};
-
-use crate::costs::{costs, time_of};
+use crate::costs::{cost_of, least, time_of};
 use crate::stopwatch::Stopwatch;
 use sdf_file::Design;
 use std::alloc::{AllocError, Global};
 use std::time::Clock;
 
-/// The nanoseconds of the whole run.
-fn whole<C: Clock>(design: &Design, watch: &Stopwatch<C>) -> u64 {
-    let mut whole = watch.spent_at_devices();
+/// The nanoseconds of all firings.
+fn whole<C: Clock + Drop>(design: &Design, watch: &Stopwatch<C>) -> u64 {
+    let mut whole = 0u64;
     for actor in 0..design.net().len() {
         whole = whole.saturating_add(watch.spent(actor));
     }
@@ -38,7 +36,7 @@ fn push_time(text: &mut String, time: u64) -> Result<(), AllocError> {
 }
 
 /// Adds the line of an actor's share.
-fn push_actor<C: Clock>(
+fn push_actor<C: Clock + Drop>(
     text: &mut String,
     name: &str,
     actor: usize,
@@ -54,8 +52,8 @@ fn push_actor<C: Clock>(
     text.push_str("\n")
 }
 
-/// Adds the lines of shares: those of the actors in file order, and that of the files.
-fn push_shares<C: Clock>(
+/// Adds the lines of shares, those of the actors in file order.
+fn push_shares<C: Clock + Drop>(
     text: &mut String,
     design: &Design,
     watch: &Stopwatch<C>,
@@ -64,13 +62,11 @@ fn push_shares<C: Clock>(
     for actor in 0..design.net().len() {
         push_actor(text, design.name(actor), actor, whole, watch)?;
     }
-    text.push_str("files")?;
-    push_share(text, watch.spent_at_devices(), whole)?;
-    text.push_str("\n")
+    Ok(())
 }
 
 /// The time of a firing of each actor.
-fn times<C: Clock>(
+fn times<C: Clock + Drop>(
     alloc: Global,
     design: &Design,
     watch: &Stopwatch<C>,
@@ -82,25 +78,25 @@ fn times<C: Clock>(
     Ok(times)
 }
 
-/// Adds the lines of the costs.
-fn push_costs(text: &mut String, design: &Design, costs: &[u32]) -> Result<(), AllocError> {
+/// Adds the lines of what firings that take these times cost.
+fn push_costs(text: &mut String, design: &Design, times: &[u64]) -> Result<(), AllocError> {
+    let least = least(times);
     for actor in 0..design.net().len() {
         let name = design.name(actor);
-        let cost = costs.get(actor).copied().unwrap_or(1);
+        let cost = cost_of(least, times.get(actor).copied().unwrap_or(0));
         writeln!(text, "cost {name} {cost}")?;
     }
     Ok(())
 }
 
 /// The text of a profile.
-pub(crate) fn profile_text<C: Clock>(
+pub(crate) fn profile_text<C: Clock + Drop>(
     alloc: Global,
     design: &Design,
     watch: &Stopwatch<C>,
 ) -> Result<String, AllocError> {
     let mut text = String::new(alloc);
     push_shares(&mut text, design, watch)?;
-    let costs = costs(alloc, &times(alloc, design, watch)?)?;
-    push_costs(&mut text, design, &costs)?;
+    push_costs(&mut text, design, &times(alloc, design, watch)?)?;
     Ok(text)
 }

@@ -27,68 +27,49 @@ fn count(counts: &[AtomicU64], place: usize) -> u64 {
     }
 }
 
-/// Gives the time between two readings of a clock to what it passed in: a firing of an actor, or, behind the actors,
-/// the devices. One thread works at a time.
+/// Gives the time between two readings of a clock to the actor that fired in between. One thread works at a time.
 #[derive(Drop)]
-pub(crate) struct Stopwatch<'a, C> {
-    clock: &'a C,
-    actors: usize,
+pub(crate) struct Stopwatch<C> {
+    clock: C,
     /// The last reading, in nanoseconds.
     read: AtomicU64,
-    /// What the time passes in.
-    place: AtomicU64,
+    /// The actor that fires.
+    firing: AtomicU64,
     spent: Vec<AtomicU64>,
     begun: Vec<AtomicU64>,
 }
 
-impl<'a, C: Clock> Stopwatch<'a, C> {
-    /// At the devices, for so many actors.
-    pub(crate) fn new(
-        alloc: Global,
-        clock: &'a C,
-        actors: usize,
-    ) -> Result<Stopwatch<'a, C>, AllocError> {
-        let watch = Stopwatch {
+impl<C: Clock + Drop> Stopwatch<C> {
+    /// Before the first firing of so many actors.
+    pub(crate) fn new(alloc: Global, clock: C, actors: usize) -> Result<Stopwatch<C>, AllocError> {
+        Ok(Stopwatch {
             clock,
-            actors,
             read: AtomicU64::new(0),
-            place: AtomicU64::new(u64::MAX),
-            spent: counts(alloc, actors.saturating_add(1))?,
+            firing: AtomicU64::new(u64::MAX),
+            spent: counts(alloc, actors)?,
             begun: counts(alloc, actors)?,
-        };
-        watch.leave();
-        Ok(watch)
+        })
     }
 
     /// The clock in nanoseconds, or its last reading where it can't be read.
     fn now(&self) -> u64 {
         match self.clock.monotonic() {
-            Ok(time) => time.as_nanos() as u64,
+            Ok(time) => u64::try_from(time.as_nanos()).unwrap_or(u64::MAX),
             Err(_) => self.read.load(Ordering::SeqCst),
         }
     }
 
-    /// From here on the time passes elsewhere.
-    fn pass_to(&self, place: usize) {
+    /// From here on another actor fires, or none where there is no such actor.
+    pub(crate) fn pass_to(&self, actor: usize) {
         let now = self.now();
         let before = self.read.swap(now, Ordering::SeqCst);
-        let left = self.place.swap(place as u64, Ordering::SeqCst);
-        add(&self.spent, left as usize, now.saturating_sub(before));
-    }
-
-    /// From here on the time passes at the devices.
-    pub(crate) fn leave(&self) {
-        self.pass_to(self.actors);
+        let fired = self.firing.swap(actor as u64, Ordering::SeqCst);
+        add(&self.spent, fired as usize, now.saturating_sub(before));
     }
 
     /// The nanoseconds that passed in an actor's firings.
     pub(crate) fn spent(&self, actor: usize) -> u64 {
         count(&self.spent, actor)
-    }
-
-    /// The nanoseconds that passed at the devices.
-    pub(crate) fn spent_at_devices(&self) -> u64 {
-        count(&self.spent, self.actors)
     }
 
     /// How often an actor fired.
@@ -97,7 +78,7 @@ impl<'a, C: Clock> Stopwatch<'a, C> {
     }
 }
 
-impl<C: Clock + Sync> Gate for Stopwatch<'_, C> {
+impl<C: Clock + Drop + Sync> Gate for Stopwatch<C> {
     fn before(&self, _processor: usize, actor: usize, _firing: u64) {
         self.pass_to(actor);
         add(&self.begun, actor, 1);

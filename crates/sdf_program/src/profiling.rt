@@ -1,6 +1,6 @@
 //! The command that measures a run.
 
-use crate::files::{Loaded, device_fault, load};
+use crate::files::{Loaded, device_fault, load, read_all};
 use crate::printing::show;
 use crate::program::{STANDARD, World};
 use crate::storage::Storage;
@@ -9,6 +9,22 @@ use sdf_profile::profile;
 use std::io::{Read, Write};
 use std::thread::Threads;
 use std::time::Clock;
+
+/// The bytes of a file, or of standard input.
+fn bytes_at<S: Storage, T: AllocGlobal, I: Read>(
+    world: &World<S, T>,
+    stdin: &mut I,
+    path: &str,
+) -> Result<Vec<u8>, Fault> {
+    let alloc = world.threads.alloc();
+    if path == STANDARD {
+        return read_all(alloc, stdin, world.most);
+    }
+    match world.storage.open(path) {
+        Ok(file) => read_all(alloc, file, world.most),
+        Err(error) => Err(device_fault(&error, Fault::Read)),
+    }
+}
 
 /// Prints what each actor's firings take of the time of a run.
 pub(crate) fn print_profile<S: Storage, T, I: Read, O: Write>(
@@ -19,17 +35,10 @@ pub(crate) fn print_profile<S: Storage, T, I: Read, O: Write>(
     input: &str,
 ) -> Result<(), Fault>
 where
-    T: Threads + AllocGlobal + Clock + Sync,
+    T: Threads + AllocGlobal + Clock + Clone + Drop + Sync,
 {
-    let alloc = world.threads.alloc();
-    let Loaded { design, .. } = load(alloc, world.storage, graph, world.most)?;
-    let text = if input == STANDARD {
-        profile(world.threads, stdin, &design)?
-    } else {
-        match world.storage.open(input) {
-            Ok(from) => profile(world.threads, from, &design)?,
-            Err(error) => return Err(device_fault(&error, Fault::Read)),
-        }
-    };
+    let Loaded { design, .. } = load(world.threads.alloc(), world.storage, graph, world.most)?;
+    let input = bytes_at(world, stdin, input)?;
+    let text = profile(world.threads, &input, &design)?;
     show(out, text.as_str())
 }

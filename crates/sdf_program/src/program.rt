@@ -34,7 +34,13 @@ pub struct World<'a, S, T> {
 
 /// Does what the words ask for, of which the first is the program's name. What a fault can be told by is left in
 /// `background`.
-fn obey<S: Storage, T: Threads + AllocGlobal + Clock + Sync, I: Read, O: Write, E: Write>(
+fn obey<
+    S: Storage,
+    T: Threads + AllocGlobal + Clock + Clone + Drop + Sync,
+    I: Read,
+    O: Write,
+    E: Write,
+>(
     world: &World<S, T>,
     stdin: &mut I,
     out: &mut O,
@@ -147,7 +153,13 @@ fn tell<E: Write>(alloc: Global, err: &mut E, fault: &Fault, background: &Backgr
 }
 
 /// Does what the program was started for, if its words could be read.
-fn answer<S: Storage, T: Threads + AllocGlobal + Clock + Sync, I: Read, O: Write, E: Write>(
+fn answer<
+    S: Storage,
+    T: Threads + AllocGlobal + Clock + Clone + Drop + Sync,
+    I: Read,
+    O: Write,
+    E: Write,
+>(
     world: &World<S, T>,
     stdin: &mut I,
     out: &mut O,
@@ -165,7 +177,13 @@ fn answer<S: Storage, T: Threads + AllocGlobal + Clock + Sync, I: Read, O: Write
 
 /// The whole program: what it was started with, what it works on and standard input come in, what it prints and
 /// its exit status come out.
-pub fn serve<S: Storage, T: Threads + AllocGlobal + Clock + Sync, I: Read, O: Write, E: Write>(
+pub fn serve<
+    S: Storage,
+    T: Threads + AllocGlobal + Clock + Clone + Drop + Sync,
+    I: Read,
+    O: Write,
+    E: Write,
+>(
     world: &World<S, T>,
     stdin: &mut I,
     out: &mut O,

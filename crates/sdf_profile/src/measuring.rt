@@ -1,6 +1,5 @@
 //! A run whose firings are timed.
 
-use crate::devices::Timed;
 use crate::lines::profile_text;
 use crate::stopwatch::Stopwatch;
 use sdf_file::Design;
@@ -10,7 +9,7 @@ use sdf_process::Fault;
 use sdf_process::planning::plan;
 use sdf_process::process::process_with;
 use sdf_wav::{FromRead, ToWrite};
-use std::io::{self, Read};
+use std::io;
 use std::thread::Threads;
 use std::time::Clock;
 
@@ -28,35 +27,21 @@ fn options_for(design: &Design) -> Options {
     }
 }
 
-/// Runs a design on a WAV file in one thread, and tells how much of the time passes in the firings of each actor, and
-/// at the files; how often each fired, and how long a firing takes; and what the keys `cost` would say, the least time
-/// as
-/// 1. What the run makes is dropped. What is read off the clock between two firings belongs to the first of them, so
-/// a firing's time has that of a reading, some 30 ns. The tests are those of `run`.
-pub fn profile<T: Threads + AllocGlobal + Clock + Sync, R: Read + Drop>(
+/// Runs a design on the bytes of a WAV file in one thread, and tells how much of the time passes in the firings of each
+/// actor, how often each fired, and how long a firing takes; and what the keys `cost` would say, the least time as 1. What
+/// the run makes is dropped. What passes between two firings belongs to the first of them, so reading the clock does, some
+/// 30 ns, and at the end of a piece of sound what brings in the next one. The tests are those of `run`.
+pub fn profile<T: Threads + AllocGlobal + Clock + Clone + Drop + Sync>(
     rt: &T,
-    input: R,
+    input: &[u8],
     design: &Design,
 ) -> Result<String, Fault> {
     let alloc = rt.alloc();
     let plan = plan(alloc, design, &options_for(design))?;
-    let watch = Stopwatch::new(alloc, rt, design.net().len())?;
-    let reader = Timed {
-        device: input,
-        watch: &watch,
-    };
-    let writer = Timed {
-        device: io::sink(),
-        watch: &watch,
-    };
-    process_with(
-        rt,
-        &mut FromRead::new(reader),
-        &mut ToWrite::new(writer),
-        design,
-        &plan,
-        &watch,
-    )?;
-    watch.leave();
+    let watch = Stopwatch::new(alloc, rt.clone()?, design.net().len())?;
+    let reader = &mut FromRead::new(input);
+    let writer = &mut ToWrite::new(io::sink());
+    process_with(rt, reader, writer, design, &plan, &watch)?;
+    watch.pass_to(usize::MAX);
     Ok(profile_text(alloc, design, &watch)?)
 }
