@@ -1,0 +1,60 @@
+//! The JSON of a design, of its schedule and of its analysis.
+
+use sdf_file::{Design, read_design};
+use sdf_json::{analysis_json, check_json, schedule_json};
+use sdf_options::{Options, Placement};
+use std::alloc::Global;
+use std::process::Abort;
+use std::test::Fail;
+use test_texts::says;
+
+/// Blocks of two samples go in, and blocks of three come out.
+const BLOCKS: &str = "format = 1
+actor = [{ name = \"in\", kind = \"input\", channel = 0, block = 2 },
+    { name = \"out\", kind = \"output\", channel = 0, block = 3 }]
+link = [{ from = \"in\", to = \"out\" }]";
+
+fn design(alloc: Global) -> Result<Design, Fail> {
+    Ok(read_design(alloc, BLOCKS.as_bytes(), &[])?)
+}
+
+fn checked(alloc: Global) -> Result<String, Fail> {
+    let design = design(alloc)?;
+    Ok(check_json(alloc, &design)?)
+}
+
+/// A `check_json` that always says that there is no memory fails here.
+#[test]
+fn json_of_a_design(rt: HostRuntime) -> Result<(), Fail> {
+    says(
+        checked(rt.alloc()),
+        "{\"actors\":[{\"firings\":3,\"name\":\"in\"},{\"firings\":2,\"name\":\"out\"}],\"input\":6,\
+         \"links\":[{\"from\":{\"actor\":\"in\",\"port\":0},\"to\":{\"actor\":\"out\",\"port\":0}}],\"output\":6,\
+         \"period\":5}\n",
+    )
+}
+
+const OPTIONS: Options = Options {
+    workers: 2,
+    ..Options::DEFAULT
+};
+
+fn scheduled(alloc: Global) -> Result<String, Fail> {
+    let design = design(alloc)?;
+    Ok(schedule_json(alloc, &design, &OPTIONS)?)
+}
+
+#[test]
+fn json_of_a_schedule(rt: HostRuntime) -> Result<(), Fail> {
+    says(scheduled(rt.alloc()), "")
+}
+
+fn analyzed(alloc: Global) -> Result<String, Fail> {
+    let design = design(alloc)?;
+    Ok(analysis_json(alloc, &design, &OPTIONS)?)
+}
+
+#[test]
+fn json_of_an_analysis(rt: HostRuntime) -> Result<(), Fail> {
+    says(analyzed(rt.alloc()), "")
+}

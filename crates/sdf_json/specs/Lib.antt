@@ -1,0 +1,5 @@
+pub mod Values
+pub mod Faults
+pub mod Designs
+pub mod Schedules
+pub mod Analyses
