@@ -8,7 +8,8 @@ use Rattle.sdf_analyze.specs.Figures.{Figured}
 use Rattle.sdf_analyze.specs.Analyses.{IsFigured}
 use Rattle.sdf_analyze.specs.Texts.{hundredths}
 use Rattle.sdf_json.specs.Values.{natural, object_of, list_of, each_to, IsLineOf}
-use Rattle.sdf_json.specs.Schedules.{asked, capacity_value}
+use Rattle.sdf_json.specs.Tables.{capacity_value}
+use Rattle.sdf_json.specs.Schedules.{asked}
 
 -- how often the makespan goes into the work, in hundredths, is the speedup
 abbrev pub times_of : Figured → List (List ℕ × Data)

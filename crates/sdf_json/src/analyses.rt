@@ -9,7 +9,8 @@ ghost use Rattle.sdf_json.specs.Values.{natural, with};
 ghost use Rattle.sdf_json.specs.Analyses.{times_of, analysis_value, IsAnalysisJson};
 
 use crate::figures::Figures;
-use crate::schedules::{asked, capacities};
+use crate::schedules::asked;
+use crate::tables::capacities;
 use crate::values::{Members, line_of, put_number};
 use sdf_file::Design;
 use sdf_options::Options;

@@ -15,6 +15,7 @@ mod faults;
 mod figures;
 mod run_faults;
 mod schedules;
+mod tables;
 mod told;
 mod values;
 

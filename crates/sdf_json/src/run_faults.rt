@@ -4,7 +4,8 @@ ghost use Rattle.std.specs.Prelude.{◌≡◌, ◌∷◌, ◌++◌, [], IfOk, co
 ghost use Rattle.serde_json.specs.Data.{object};
 ghost use Rattle.serde_json.specs.View.{view, members_view};
 ghost use Rattle.sdf_json.specs.Values.{natural, with};
-ghost use Rattle.sdf_json.specs.Faults.{told, begun, in_row_members, in_row, firing_value, prec_value, format_value};
+ghost use Rattle.sdf_json.specs.Told.{told};
+ghost use Rattle.sdf_json.specs.RunFaults.{in_row_members, in_row, firing_value, prec_value, format_value};
 
 use crate::told::{at, begun, plain};
 use crate::values::{Members, put_number};

@@ -4,7 +4,7 @@ ghost use Rattle.std.specs.Prelude.{◌≡◌, ◌∷◌, [], IfOk, OnOk, codes}
 ghost use Rattle.serde_json.specs.Data.{string, put as with_member};
 ghost use Rattle.serde_json.specs.View.{view, members_view};
 ghost use Rattle.sdf_json.specs.Values.{natural, with};
-ghost use Rattle.sdf_json.specs.Faults.{begun, told, plain, at, place_member, at_place, at_key};
+ghost use Rattle.sdf_json.specs.Told.{begun, told, plain, at, place_member, at_place, at_key};
 
 use crate::values::{Members, put_number, put_text};
 use sdf_document::Place;
