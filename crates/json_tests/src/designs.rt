@@ -2,9 +2,8 @@
 
 use sdf_file::{Design, read_design};
 use sdf_json::{analysis_json, check_json, schedule_json};
-use sdf_options::{Options, Placement};
+use sdf_options::Options;
 use std::alloc::Global;
-use std::process::Abort;
 use std::test::Fail;
 use test_texts::says;
 
@@ -46,7 +45,17 @@ fn scheduled(alloc: Global) -> Result<String, Fail> {
 
 #[test]
 fn json_of_a_schedule(rt: HostRuntime) -> Result<(), Fail> {
-    says(scheduled(rt.alloc()), "")
+    says(
+        scheduled(rt.alloc()),
+        "{\"actors\":[{\"firings\":3,\"name\":\"in\",\"worker\":0},{\"firings\":2,\"name\":\"out\",\
+         \"worker\":1}],\"blocking\":1,\"links\":[{\"capacity\":6,\"from\":{\"actor\":\"in\",\"port\":0},\
+         \"to\":{\"actor\":\"out\",\"port\":0}}],\"order\":[{\"actor\":\"in\",\"firings\":2},\
+         {\"actor\":\"out\",\"firings\":1},{\"actor\":\"in\",\"firings\":1},{\"actor\":\"out\",\
+         \"firings\":1}],\"period\":5,\"placement\":\"homed\",\"policy\":\"round\",\
+         \"rows\":[[{\"actor\":\"in\",\"firing\":0},null],[{\"actor\":\"in\",\"firing\":1},null],\
+         [{\"actor\":\"in\",\"firing\":2},{\"actor\":\"out\",\"firing\":0}],[null,{\"actor\":\"out\",\
+         \"firing\":1}]],\"workers\":2}\n",
+    )
 }
 
 fn analyzed(alloc: Global) -> Result<String, Fail> {
@@ -56,5 +65,10 @@ fn analyzed(alloc: Global) -> Result<String, Fail> {
 
 #[test]
 fn json_of_an_analysis(rt: HostRuntime) -> Result<(), Fail> {
-    says(analyzed(rt.alloc()), "")
+    says(
+        analyzed(rt.alloc()),
+        "{\"blocking\":1,\"bound\":4,\"links\":[{\"capacity\":6,\"from\":{\"actor\":\"in\",\"port\":0},\
+         \"to\":{\"actor\":\"out\",\"port\":0}}],\"loads\":[3,2],\"makespan\":4,\"placement\":\"homed\",\
+         \"policy\":\"round\",\"samples\":6,\"span\":4,\"speedup_hundredths\":125,\"work\":5,\"workers\":2}\n",
+    )
 }
