@@ -1,5 +1,6 @@
 -- How deep values nest.
-use Rattle.std.proofs.Common.{◌≡◌, ◌≤◌, ◌+◌, ℕ, zero, suc, max, List, Option, Some, None, [], ◌∷◌, ◌++◌, map, Ordering, Less, Equal, Greater, arith}
+use Rattle.std.proofs.Common.{◌≤◌, ℕ, zero, suc, List, Option, Some, None, [], ◌∷◌, ◌++◌, map, Ordering}
+use Rattle.std.proofs.Common.{Less, Equal, Greater, arith}
 use Rattle.std.specs.List.{AllByRecursion}
 use Rattle.std.specs.Ordering.{nat_cmp, match_ordering}
 use Rattle.std.specs.Cmp.Lexicographic.{slice_cmp}

@@ -1,5 +1,5 @@
 -- The values of designs do not nest deep.
-use Rattle.std.proofs.Common.{◌≡◌, ◌≤◌, ℕ, suc, List, [], ◌∷◌, length, arith}
+use Rattle.std.proofs.Common.{◌≤◌, ℕ, suc, List, [], ◌∷◌, length, arith}
 use Rattle.std.specs.Prelude.{sum, codes, slice_index}
 use Rattle.std.specs.List.{AllByRecursion}
 use Rattle.serde_json.specs.Data.{Data, no_members, depth, string}
@@ -9,7 +9,7 @@ use Rattle.sdf_actor.specs.Sides.{period_samples}
 use Rattle.sdf_actor.specs.declared.sides.Lists.TheVariants.{Inputs, Outputs}
 use Rattle.sdf_file.specs.Designs.{DesignValue}
 use Rattle.sdf_file.specs.Schedules.{name_of}
-use Rattle.sdf_json.specs.Values.{natural, with, object_of, list_of, each_to}
+use Rattle.sdf_json.specs.Values.{natural, object_of, list_of, each_to}
 use Rattle.sdf_json.specs.Designs.{actor_value, end_value, ends_of, link_value, check_value}
 use Rattle.sdf_json.proofs.Depths.{IsFlat, with_flat, each_flat}
 
@@ -45,7 +45,8 @@ check_flat d q =
     let links = list_of (each_to (link_value d) (length d.net.wires)) in
     let flat = object_flat 3 ((codes "actors", actors) ∷ (codes "links", links) ∷ (codes "period", natural (sum q))
     ∷ (codes "input", natural (period_samples d.net.nodes Inputs q))
-    ∷ (codes "output", natural (period_samples d.net.nodes Outputs q)) ∷ [])
-    (weaker 2 3 actors (omega arith) (list_flat 1 (actor_value d q) (length d.net.nodes) (actor_flat d q)),
-    (list_flat 2 (link_value d) (length d.net.wires) (link_flat d), (omega arith, (omega arith, (omega arith, tt))))) in
+    ∷ (codes "output", natural (period_samples d.net.nodes Outputs q)) ∷ []) (
+      weaker 2 3 actors (omega arith) (list_flat 1 (actor_value d q) (length d.net.nodes) (actor_flat d q)),
+      (list_flat 2 (link_value d) (length d.net.wires) (link_flat d), (omega arith, (omega arith, (omega arith, tt)))),
+    ) in
     omega (arith, flat)

@@ -1,9 +1,8 @@
 -- The value of any fault does not nest deep.
-use Rattle.std.proofs.Common.{◌≡◌, ◌≤◌, ℕ, suc, List, [], ◌∷◌, map, subst, sym, arith}
+use Rattle.std.proofs.Common.{◌≡◌, ◌≤◌, ℕ, List, [], ◌∷◌, map, subst, sym, arith}
 use Rattle.std.specs.Prelude.{codes, string_bytes}
 use Rattle.serde_json.specs.Data.{Data, no_members, depth, string}
 use Rattle.serde_json.specs.Read.{max_depth}
-use Rattle.serde_json.specs.View.{items_of}
 use Rattle.sdf_options.specs.declared.fault.WordFault.{WordFault}
 use Rattle.sdf_options.specs.declared.fault.WordFault.TheVariants as words
 use Rattle.sdf_process.specs.declared.fault.Progress.{Progress}

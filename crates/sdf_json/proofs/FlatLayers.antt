@@ -1,8 +1,8 @@
 -- The values of faults do not nest deep.
-use Rattle.std.proofs.Common.{◌≡◌, ◌≤◌, ℕ, suc, List, [], ◌∷◌, map, subst, sym, arith}
-use Rattle.std.specs.Prelude.{codes, string_bytes, true}
+use Rattle.std.proofs.Common.{◌≤◌, ℕ, List, [], ◌∷◌, arith}
+use Rattle.std.specs.Prelude.{codes, string_bytes}
 use Rattle.std.specs.List.{AllByRecursion}
-use Rattle.serde_json.specs.Data.{Data, Members, no_members, members_depth, boolean, string}
+use Rattle.serde_json.specs.Data.{Data, no_members, members_depth, string}
 use Rattle.sdf_graph.specs.declared.fault.GraphFault.{GraphFault}
 use Rattle.sdf_graph.specs.declared.fault.GraphFault.TheVariants as graph
 use Rattle.sdf_actor.specs.declared.fault.NetFault.{NetFault}
@@ -18,7 +18,7 @@ use Rattle.sdf_prec.specs.declared.fault.PrecFault.{PrecFault}
 use Rattle.sdf_prec.specs.declared.fault.PrecFault.TheVariants as prec
 use Rattle.sdf_wav.specs.declared.fault.FormatFault.{FormatFault}
 use Rattle.sdf_wav.specs.declared.fault.FormatFault.TheVariants as format
-use Rattle.sdf_json.specs.Values.{natural, with, object_of}
+use Rattle.sdf_json.specs.Values.{natural}
 use Rattle.sdf_json.specs.Told.{begun, told, plain, at, place_member, at_place, at_key}
 use Rattle.sdf_json.specs.DesignFaults.{graph_value, side_word, open_value, net_value, document_value, file_value}
 use Rattle.sdf_json.specs.RunFaults.{firing_value, in_row_members, in_row, prec_value, format_value}
@@ -67,7 +67,8 @@ firing_flat f =
 in_row_flat : (number : ℕ) (name : List ℕ) (row : ℕ) (firing : Firing) (more : List (List ℕ × Data)) →
     AllByRecursion (λ (m : List ℕ × Data). IsFlat 2 m.1) more → IsFlat 3 (in_row number name row firing more)
 in_row_flat number name row firing more flat =
-    let members = with_flat 2 (begun number name) ((codes "row", natural row) ∷ (codes "firing", firing_value firing) ∷ [])
+    let members = with_flat 2 (begun number name) ((codes "row", natural row)
+    ∷ (codes "firing", firing_value firing) ∷ [])
     (begun_flat number name) (omega arith, (firing_flat firing, tt)) in
     let inner = with_flat 2 (in_row_members number name row firing) more members flat in omega (arith, inner)
 
@@ -107,8 +108,9 @@ document_flat (document.WrongType p key) = at_key_flat 53 (codes "WrongType") p 
 document_flat (document.BadName p key) = at_key_flat 54 (codes "BadName") p key.now
 document_flat (document.NameTwice actor) = at_flat 55 (codes "NameTwice") (codes "actor") actor
 document_flat (document.UnknownKind actor) = at_flat 56 (codes "UnknownKind") (codes "actor") actor
-document_flat (document.BadPort link key) = told_flat 57 (codes "BadPort") ((codes "link", natural link) ∷ (codes "key", string key.now) ∷ [])
-     (omega arith, (omega arith, tt))
+document_flat (document.BadPort link key) = told_flat 57 (codes "BadPort")
+    ((codes "link", natural link) ∷ (codes "key", string key.now) ∷ [])
+    (omega arith, (omega arith, tt))
 document_flat (document.NoFile name) = told_flat 58 (codes "NoFile") ((codes "file", string (string_bytes name)) ∷ [])
     (omega arith, tt)
 
@@ -122,12 +124,14 @@ prec_flat prec.OutOfMemory = plain_flat 1 (codes "OutOfMemory")
 prec_flat prec.BlockingFactor = plain_flat 11 (codes "BlockingFactor")
 prec_flat prec.WorkerCount = plain_flat 12 (codes "WorkerCount")
 prec_flat prec.BlockTooLong = plain_flat 13 (codes "BlockTooLong")
-prec_flat (prec.FiringMissing firing) = told_flat 14 (codes "FiringMissing") ((codes "firing", firing_value firing) ∷ [])
+prec_flat (prec.FiringMissing firing) = told_flat 14 (codes "FiringMissing")
+    ((codes "firing", firing_value firing) ∷ [])
     (firing_flat firing, tt)
 prec_flat (prec.FiringTwice row firing) = in_row_flat 15 (codes "FiringTwice") row firing [] tt
 prec_flat (prec.FiringUnknown row firing) = in_row_flat 16 (codes "FiringUnknown") row firing [] tt
 prec_flat (prec.RowTooWide row) = at_flat 17 (codes "RowTooWide") (codes "row") row
-prec_flat (prec.TooEarly row firing needs) = in_row_flat 18 (codes "TooEarly") row firing ((codes "needs", firing_value needs) ∷ [])
+prec_flat (prec.TooEarly row firing needs) = in_row_flat 18 (codes "TooEarly") row firing
+    ((codes "needs", firing_value needs) ∷ [])
     (firing_flat needs, tt)
 prec_flat (prec.BadHome actor) = at_flat 19 (codes "BadHome") (codes "actor") actor
 prec_flat (prec.BadCost actor) = at_flat 62 (codes "BadCost") (codes "actor") actor

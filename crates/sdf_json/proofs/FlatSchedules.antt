@@ -1,5 +1,5 @@
 -- The values of a schedule and of an analysis do not nest deep.
-use Rattle.std.proofs.Common.{◌≡◌, ◌≤◌, ℕ, suc, List, [], ◌∷◌, ◌++◌, map, length, arith}
+use Rattle.std.proofs.Common.{◌≤◌, ℕ, List, [], ◌∷◌, ◌++◌, map, length, arith}
 use Rattle.std.specs.Prelude.{codes}
 use Rattle.std.specs.List.{AllByRecursion}
 use Rattle.serde_json.specs.Data.{Data, depth}
@@ -36,9 +36,19 @@ schedule_flat d o s t =
     let links = list_of (each_to (capacity_value d t.caps) (length d.net.wires)) in
     let more : List (List ℕ × Data) = (codes "period", natural (length s.order)) ∷ (codes "actors", actors)
     ∷ (codes "order", order) ∷ (codes "rows", rows) ∷ (codes "links", links) ∷ [] in
-    let each : AreFlat more = (omega arith, (weaker 2 3 actors (omega arith) (actors_flat d s t (length d.net.nodes)),
-    (weaker 2 3 order (omega arith) (order_flat d s.order), (rows_flat d t.rows,
-    (links_flat d t.caps (length d.net.wires), tt))))) in
+    let each : AreFlat more = (
+      omega arith,
+      (
+        weaker 2 3 actors (omega arith) (actors_flat d s t (length d.net.nodes)),
+        (
+          weaker 2 3 order (omega arith) (order_flat d s.order),
+          (
+            rows_flat d t.rows,
+            (links_flat d t.caps (length d.net.wires), tt),
+          ),
+        ),
+      ),
+    ) in
     let flat = object_flat 3 (asked o ++ more) (both_flat (asked o) more (asked_flat o) each) in
     omega (arith, flat)
 

@@ -1,15 +1,13 @@
 -- The values of schedules and of analyses do not nest deep.
-use Rattle.std.proofs.Common.{◌≡◌, ◌≤◌, ℕ, suc, List, Option, Some, None, [], ◌∷◌, ◌++◌, map, length, arith}
+use Rattle.std.proofs.Common.{ℕ, List, Option, Some, None, [], ◌∷◌, ◌++◌, map, arith}
 use Rattle.std.specs.Prelude.{codes, slice_index}
-use Rattle.std.specs.List.{AllByRecursion}
-use Rattle.serde_json.specs.Data.{Data, depth, string}
-use Rattle.serde_json.specs.View.{items_of}
+use Rattle.serde_json.specs.Data.{string}
 use Rattle.sdf_sched.specs.Period.{Schedule}
 use Rattle.sdf_prec.specs.declared.firing.Firing.{Firing}
 use Rattle.sdf_prec.specs.Tables.{Tabled, home_in}
 use Rattle.sdf_file.specs.Designs.{DesignValue}
 use Rattle.sdf_file.specs.Schedules.{Stretch, stretches, name_of}
-use Rattle.sdf_json.specs.Values.{natural, perhaps, object_of, list_of, each_to}
+use Rattle.sdf_json.specs.Values.{natural, perhaps, list_of, each_to}
 use Rattle.sdf_json.specs.Designs.{ends_of}
 use Rattle.sdf_json.specs.Tables.{stretch_value, order_value, cell_value, row_value, homed_value, capacity_value}
 use Rattle.sdf_json.proofs.Depths.{IsFlat, map_flat, perhaps_flat}

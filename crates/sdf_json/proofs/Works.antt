@@ -1,15 +1,15 @@
 -- The work of a block is small, and figures by a net's graph and by the costs of a table are those of the design.
-use Rattle.std.proofs.Common.{◌≡◌, ◌≤◌, ◌<◌, ◌+◌, ◌*◌, ◌∙◌, ℕ, zero, suc, List, [], ◌∷◌, get_or, length}
-use Rattle.std.proofs.Common.{map, sum, subst, sym, ap, refl}
+use Rattle.std.proofs.Common.{◌≡◌, ◌≤◌, ◌*◌, ℕ, zero, suc, List, [], ◌∷◌, get_or}
+use Rattle.std.proofs.Common.{sum, subst, refl}
 use Rattle.std.proofs.Common.{arith}
 use Rattle.std.specs.Prelude.{slice_index}
 use Rattle.std.proofs.lemmas.List.Sums.{sum_by-cons}
 use Rattle.std.proofs.lemmas.Nat.{mul-le}
 use Rattle.sdf_limits.specs.declared.TheConstants.{MOST_BLOCK, MOST_COST}
-use Rattle.sdf_graph.specs.Rates.{Shape, rates, sum_to}
+use Rattle.sdf_graph.specs.Rates.{Shape, rates}
 use Rattle.sdf_sched.specs.Period.{Schedule}
 use Rattle.sdf_prec.specs.Blocks.{block, IsShort}
-use Rattle.sdf_prec.specs.Costs.{IsCost, AreCosts}
+use Rattle.sdf_prec.specs.Costs.{AreCosts}
 use Rattle.sdf_prec.specs.Tables.{Tabled}
 use Rattle.sdf_times.specs.Times.{work_of}
 use Rattle.sdf_analyze.specs.Figures.{Figured, AreFigures}

@@ -32,7 +32,8 @@ side_word side.Output = codes "output"
 
 abbrev pub open_value : ℕ → List ℕ → ℕ → Data
 open_value actor side port =
-    told 22 (codes "PortOpen") ((codes "actor", natural actor) ∷ (codes "side", string side) ∷ (codes "port", natural port)
+    told 22 (codes "PortOpen") ((codes "actor", natural actor) ∷ (codes "side", string side)
+    ∷ (codes "port", natural port)
     ∷ [])
 
 abbrev pub net_value : NetFault → Data

@@ -5,7 +5,8 @@ ghost use Rattle.serde_json.specs.Data.{string};
 ghost use Rattle.serde_json.specs.View.{view};
 ghost use Rattle.sdf_json.specs.Values.{natural};
 ghost use Rattle.sdf_json.specs.Told.{told};
-ghost use Rattle.sdf_json.specs.DesignFaults.{graph_value, side_word, open_value, net_value, document_value, file_value};
+ghost use Rattle.sdf_json.specs.DesignFaults.{graph_value, side_word, open_value, net_value, document_value};
+ghost use Rattle.sdf_json.specs.DesignFaults.{file_value};
 
 use crate::told::{at, at_key, at_place, begun, plain};
 use crate::values::{put_number, put_text};

@@ -39,7 +39,12 @@ fn actor_value(
 {
     let mut members = Map::new(alloc);
     put_text(&mut members, alloc, "name", name_of(design, actor))?;
-    put_number(&mut members, alloc, "firings", u64::from(repetitions.of(actor)))?;
+    put_number(
+        &mut members,
+        alloc,
+        "firings",
+        u64::from(repetitions.of(actor)),
+    )?;
     Ok(Value::Object(members))
 }
 
@@ -117,7 +122,12 @@ fn check_value(
     let mut members = Map::new(alloc);
     put(&mut members, alloc, "actors", Value::Array(actors))?;
     put(&mut members, alloc, "links", Value::Array(links))?;
-    put_number(&mut members, alloc, "period", u64::from(repetitions.period()))?;
+    put_number(
+        &mut members,
+        alloc,
+        "period",
+        u64::from(repetitions.period()),
+    )?;
     put_number(&mut members, alloc, "input", net.samples_in() as u64)?;
     put_number(&mut members, alloc, "output", net.samples_out() as u64)?;
     Ok(Value::Object(members))

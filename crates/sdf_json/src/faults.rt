@@ -4,7 +4,8 @@ ghost use Rattle.std.specs.Prelude.{◌≡◌, ◌∷◌, [], IfOk, map, take, c
 ghost use Rattle.serde_json.specs.Data.{string, array};
 ghost use Rattle.serde_json.specs.View.{view, items_view};
 ghost use Rattle.sdf_json.specs.Values.{list_of};
-ghost use Rattle.sdf_json.specs.Faults.{progress_value, stalled_value, usage_value, IsWordsValue, IsFaultValue, IsFaultJson};
+ghost use Rattle.sdf_json.specs.Faults.{progress_value, stalled_value, usage_value, IsWordsValue, IsFaultValue};
+ghost use Rattle.sdf_json.specs.Faults.{IsFaultJson};
 
 use crate::design_faults::file_value;
 use crate::run_faults::{format_value, prec_value};

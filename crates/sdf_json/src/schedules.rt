@@ -45,7 +45,12 @@ pub(crate) fn asked(alloc: Global, options: &Options) -> Result<Members, AllocEr
 {
     let mut members = Map::new(alloc);
     put_text(&mut members, alloc, "policy", policy_word(options.policy))?;
-    put_text(&mut members, alloc, "placement", placement_word(options.placement))?;
+    put_text(
+        &mut members,
+        alloc,
+        "placement",
+        placement_word(options.placement),
+    )?;
     put_number(&mut members, alloc, "blocking", u64::from(options.blocking))?;
     put_number(&mut members, alloc, "workers", options.workers as u64)?;
     Ok(members)

@@ -45,7 +45,11 @@ fn stretch_at(order: &[usize], at: usize) -> usize
 }
 
 /// An item for each longest stretch of one actor.
-pub(crate) fn order_items(alloc: Global, design: &Design, order: &[usize]) -> Result<Vec<Value>, AllocError>
+pub(crate) fn order_items(
+    alloc: Global,
+    design: &Design,
+    order: &[usize],
+) -> Result<Vec<Value>, AllocError>
     ensures { IfOk result (λ list. map view list.items ≡ map (stretch_value design.now) (stretches order.now)) }
 {
     let mut list = Vec::new(alloc);
@@ -58,11 +62,7 @@ pub(crate) fn order_items(alloc: Global, design: &Design, order: &[usize]) -> Re
     Ok(list)
 }
 
-fn cell_value(
-    alloc: Global,
-    design: &Design,
-    cell: Option<Firing>,
-) -> Result<Value, AllocError>
+fn cell_value(alloc: Global, design: &Design, cell: Option<Firing>) -> Result<Value, AllocError>
     ensures { IfOk result (λ v. view v ≡ cell_value design.now cell) }
 {
     let Some(Firing { actor, number }) = cell else {
@@ -74,11 +74,7 @@ fn cell_value(
     Ok(Value::Object(members))
 }
 
-fn cells(
-    alloc: Global,
-    design: &Design,
-    cells: &[Option<Firing>],
-) -> Result<Vec<Value>, AllocError>
+fn cells(alloc: Global, design: &Design, cells: &[Option<Firing>]) -> Result<Vec<Value>, AllocError>
     ensures { IfOk result (λ list. map view list.items ≡ map (cell_value design.now) cells.now) }
 {
     let mut list = Vec::new(alloc);

@@ -1,4 +1,4 @@
-use Rattle.std.proofs.Common.{◌≡◌, ◌≤◌, subst, sym}
+use Rattle.std.proofs.Common.{◌≤◌, subst, sym}
 use Rattle.serde_json.specs.Data.{depth}
 use Rattle.serde_json.specs.Read.{max_depth}
 use Rattle.sdf_json.proofs.FlatSchedules.{analysis_flat}
