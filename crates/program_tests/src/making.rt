@@ -12,7 +12,7 @@ use std::thread::Threads;
 use std::time::Clock;
 
 /// The exit status of a line, and behind it what stands on standard output, on standard error and in files.
-fn made<T: Threads + AllocGlobal + Clock + Clone + Drop + Sync>(
+pub(crate) fn made<T: Threads + AllocGlobal + Clock + Clone + Drop + Sync>(
     rt: &T,
     line: &[&str],
 ) -> Result<String, Fail> {
