@@ -24,11 +24,30 @@ const OTHER: Firing = Firing {
 
 /// A net's fault, and its line.
 const NETS: &[(NetFault, &str)] = &[
-    (NetFault::Graph(GraphFault::CycleLength { channel: 4 }), "{\"fault\":63,\"link\":4,\"name\":\"CycleLength\"}\n"),
-    (NetFault::Graph(GraphFault::NotConnected { actor: 2 }), "{\"actor\":2,\"fault\":7,\"name\":\"NotConnected\"}\n"),
-    (NetFault::NoPort { link: 0 }, "{\"fault\":20,\"link\":0,\"name\":\"NoPort\"}\n"),
-    (NetFault::PortOpen { actor: 1, side: Side::Output, port: 3 }, "{\"actor\":1,\"fault\":22,\"name\":\"PortOpen\",\"port\":3,\"side\":\"output\"}\n"),
-    (NetFault::NoOutput { channel: 6 }, "{\"channel\":6,\"fault\":27,\"name\":\"NoOutput\"}\n"),
+    (
+        NetFault::Graph(GraphFault::CycleLength { channel: 4 }),
+        "{\"fault\":63,\"link\":4,\"name\":\"CycleLength\"}\n",
+    ),
+    (
+        NetFault::Graph(GraphFault::NotConnected { actor: 2 }),
+        "{\"actor\":2,\"fault\":7,\"name\":\"NotConnected\"}\n",
+    ),
+    (
+        NetFault::NoPort { link: 0 },
+        "{\"fault\":20,\"link\":0,\"name\":\"NoPort\"}\n",
+    ),
+    (
+        NetFault::PortOpen {
+            actor: 1,
+            side: Side::Output,
+            port: 3,
+        },
+        "{\"actor\":1,\"fault\":22,\"name\":\"PortOpen\",\"port\":3,\"side\":\"output\"}\n",
+    ),
+    (
+        NetFault::NoOutput { channel: 6 },
+        "{\"channel\":6,\"fault\":27,\"name\":\"NoOutput\"}\n",
+    ),
 ];
 
 fn net(alloc: Global, fault: NetFault) -> Result<String, Fail> {
@@ -46,10 +65,27 @@ fn json_of_net_faults(rt: HostRuntime) -> Result<(), Fail> {
 
 /// A table's fault, and its line.
 const TABLES: &[(PrecFault, &str)] = &[
-    (PrecFault::FiringMissing { firing: FIRST }, "{\"fault\":14,\"firing\":{\"actor\":0,\"number\":1},\"name\":\"FiringMissing\"}\n"),
-    (PrecFault::TooEarly { row: 9, firing: FIRST, needs: OTHER }, "{\"fault\":18,\"firing\":{\"actor\":0,\"number\":1},\"name\":\"TooEarly\",\"needs\":{\"actor\":2,\"number\":3},\"row\":9}\n"),
-    (PrecFault::RowTooWide { row: 5 }, "{\"fault\":17,\"name\":\"RowTooWide\",\"row\":5}\n"),
-    (PrecFault::BadHome { actor: 7 }, "{\"actor\":7,\"fault\":19,\"name\":\"BadHome\"}\n"),
+    (
+        PrecFault::FiringMissing { firing: FIRST },
+        "{\"fault\":14,\"firing\":{\"actor\":0,\"number\":1},\"name\":\"FiringMissing\"}\n",
+    ),
+    (
+        PrecFault::TooEarly {
+            row: 9,
+            firing: FIRST,
+            needs: OTHER,
+        },
+        "{\"fault\":18,\"firing\":{\"actor\":0,\"number\":1},\"name\":\"TooEarly\",\
+            \"needs\":{\"actor\":2,\"number\":3},\"row\":9}\n",
+    ),
+    (
+        PrecFault::RowTooWide { row: 5 },
+        "{\"fault\":17,\"name\":\"RowTooWide\",\"row\":5}\n",
+    ),
+    (
+        PrecFault::BadHome { actor: 7 },
+        "{\"actor\":7,\"fault\":19,\"name\":\"BadHome\"}\n",
+    ),
 ];
 
 fn table(alloc: Global, fault: PrecFault) -> Result<String, Fail> {
@@ -110,8 +146,14 @@ const FILES: &[(&str, &str)] = &[
         "{\"fault\":57,\"key\":\"to\",\"link\":0,\"name\":\"BadPort\"}\n",
     ),
     (
-        "format = 1\nactor = [{ name = \"in\", kind = \"input\", channel = 0 },\n    { name = \"add\", kind = \"add\", ways = 2 }, { name = \"fork\", kind = \"fork\", ways = 2 },\n    { name = \"out\", kind = \"output\", channel = 0 }]\nlink = [{ from = \"in\", to = \"add:0\" }, { from = \"add\", to = \"fork\" },\n    { from = \"fork:0\", to = \"out\" }, { from = \"fork:1\", to = \"add:1\" }]",
-        "{\"actors\":[{\"done\":1,\"name\":\"in\",\"of\":1,\"short\":null},{\"done\":0,\"name\":\"add\",\"of\":1,\"short\":3},{\"done\":0,\"name\":\"fork\",\"of\":1,\"short\":1},{\"done\":0,\"name\":\"out\",\"of\":1,\"short\":2}],\"fault\":10,\"name\":\"Deadlock\"}\n",
+        "format = 1\nactor = [{ name = \"in\", kind = \"input\", channel = 0 },\n    { name = \"add\", \
+            kind = \"add\", ways = 2 }, { name = \"fork\", kind = \"fork\", ways = 2 },\n    \
+            { name = \"out\", kind = \"output\", channel = 0 }]\nlink = [{ from = \"in\", \
+            to = \"add:0\" }, { from = \"add\", to = \"fork\" },\n    { from = \"fork:0\", to = \"out\" }, \
+            { from = \"fork:1\", to = \"add:1\" }]",
+        "{\"actors\":[{\"done\":1,\"name\":\"in\",\"of\":1,\"short\":null},{\"done\":0,\"name\":\"add\",\
+            \"of\":1,\"short\":3},{\"done\":0,\"name\":\"fork\",\"of\":1,\"short\":1},{\"done\":0,\
+            \"name\":\"out\",\"of\":1,\"short\":2}],\"fault\":10,\"name\":\"Deadlock\"}\n",
     ),
 ];
 
