@@ -29,9 +29,9 @@ const IN_JSON: &[(&[&str], &str)] = &[
     ),
     (
         &["sdfw", "analyze", "plain.toml", "--json", "--blocking", "3"],
-        "0\n{\"blocking\":3,\"bound\":6,\"links\":[{\"capacity\":1,\"from\":{\"actor\":\"in\",\"port\":0},\
+        "0\n{\"blocking\":3,\"bound\":6,\"links\":[{\"capacity\":2,\"from\":{\"actor\":\"in\",\"port\":0},\
          \"to\":{\"actor\":\"out\",\"port\":0}}],\"loads\":[6],\"makespan\":6,\"placement\":\"homed\",\
-         \"policy\":\"round\",\"samples\":1,\"span\":4,\"speedup_hundredths\":100,\"work\":6,\"workers\":1}\n--\n--\n",
+         \"policy\":\"round\",\"samples\":2,\"span\":4,\"speedup_hundredths\":100,\"work\":6,\"workers\":1}\n--\n--\n",
     ),
     (
         &["sdfw", "check", "lacking.toml", "--json"],
@@ -83,7 +83,7 @@ fn pictures(rt: HostRuntime) -> Result<(), Fail> {
 fn profiles(rt: HostRuntime) -> Result<(), Fail> {
     let told = made(&rt, &["sdfw", "profile", "plain.toml", "in.wav"])?;
     assert!(rt; told.as_str().starts_with("0\nshare in "));
-    assert!(rt; told.as_str().contains(" %, 2 firings of "));
+    assert!(rt; told.as_str().contains(" %, 64 firings of "));
     assert!(rt; told.as_str().contains("\nshare out "));
     assert!(rt; told.as_str().contains("\ncost in "));
     assert!(rt; told.as_str().contains("\ncost out "));

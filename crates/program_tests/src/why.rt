@@ -107,7 +107,7 @@ const UNUSABLE: &[([&str; 3], u8, &str)] = &[
     (
         ["right.toml", "in.wav", "out.wav"],
         4,
-        "sdfw: 59 ChannelsMissing\n  the design reads 2 channels, the sound has 1\n  actor 0 is \"left\", an input\n  channel = 0\n  actor 1 is \"right\", an input\n  channel = 1\n",
+        "sdfw: 59 ChannelsMissing\n  the design reads 2 channels, the sound has 1\n  actor 0 is \"left\", an input\n  channel = 0, wants 0..7\n  actor 1 is \"right\", an input\n  channel = 1, wants 0..7\n",
     ),
     (
         ["eighth.toml", "in.wav", "out.wav"],
