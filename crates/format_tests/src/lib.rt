@@ -1,8 +1,9 @@
 //! What no clause says of files: worked WAV files, whole and in pieces, over devices that fail, and worked documents
 //! and designs.
 //!
-//! It stands on `sdf_wav`, `sdf_document`, `sdf_file` and `test_devices`, and has no functions: tests stand in a crate
-//! of their own, since a crate's functions are proved once more with its tests. Begin at `wav_files` and `documents`.
+//! It stands on `sdf_wav`, `sdf_document`, `sdf_file`, `test_devices` and `test_texts`, and has no functions: tests
+//! stand in a crate of their own, since a crate's functions are proved once more with its tests. Begin at `wav_files`
+//! and `documents`.
 #![tactic(auto)]
 
 #[cfg(test)]

@@ -25,13 +25,13 @@ pub(crate) fn file(alloc: Global, name: &str, text: &str) -> Result<Vec<File>, F
     Ok(files)
 }
 
-/// The text of the fault that a reading ends with.
+/// The text of the fault that a reading ends with, or `read`.
 pub(crate) fn refusal<T: Drop, F: fmt::Display + Drop>(
     alloc: Global,
     answer: Result<T, F>,
 ) -> Result<String, Fail> {
     match answer {
-        Ok(_) => Err(Fail::from("read")),
+        Ok(_) => Ok(String::from_str(alloc, "read")?),
         Err(fault) => Ok(fault.to_string(alloc)?),
     }
 }

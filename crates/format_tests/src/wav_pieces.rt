@@ -3,10 +3,11 @@
 ghost use Rattle.std.specs.Prelude.{◌≡◌, length};
 
 use crate::wav_answers::MOVES;
-use sdf_wav::{FromRead, ToWrite, Wav, WavFault, WavIn, WavOut, Writer, write_wav};
+use sdf_wav::{FromRead, Reader, ToWrite, Wav, WavFault, WavIn, WavOut, Writer, write_wav};
 use std::alloc::{AllocError, Global};
 use std::test::Fail;
 use test_devices::{Faulty, Slip};
+use test_texts::says;
 
 /// Six frames of two channels.
 pub(crate) const FRAMES: [i16; 12] = [1, -1, 2, -2, 3, -3, 4, -4, 5, -5, 6, -6];
@@ -22,66 +23,103 @@ pub(crate) fn put_pieces<W: Writer>(writer: &mut W, samples: &[i16]) -> Result<(
     out.end()
 }
 
-#[test]
-fn written_in_pieces(rt: HostRuntime) -> Result<(), Fail> {
-    let wav = Wav::new(8_000, 2, FRAMES.as_slice().to_vec(rt.alloc())?)?;
-    let mut whole = ToWrite::new(Vec::new(rt.alloc()));
-    write_wav(&mut whole, &wav)?;
-    let mut pieces = ToWrite::new(Vec::new(rt.alloc()));
-    put_pieces(&mut pieces, FRAMES.as_slice())?;
-    assert_eq!(rt;
-        pieces.into_inner().as_slice(),
-        whole.into_inner().as_slice()
-    );
-    Ok(())
+/// The file of these frames, written whole.
+pub(crate) fn whole_file(alloc: Global) -> Result<Vec<u8>, Fail> {
+    let wav = Wav::new(8_000, 2, FRAMES.as_slice().to_vec(alloc)?)?;
+    let mut writer = ToWrite::new(Vec::new(alloc));
+    write_wav(&mut writer, &wav)?;
+    Ok(writer.into_inner())
+}
+
+/// The same, written in pieces.
+fn file_in_pieces(alloc: Global) -> Result<Vec<u8>, Fail> {
+    let mut writer = ToWrite::new(Vec::new(alloc));
+    put_pieces(&mut writer, FRAMES.as_slice())?;
+    Ok(writer.into_inner())
+}
+
+/// How long both are, and whether they are the same.
+fn both_files(alloc: Global) -> Result<String, Fail> {
+    let whole = whole_file(alloc)?;
+    let pieces = file_in_pieces(alloc)?;
+    let same = whole.as_slice() == pieces.as_slice();
+    Ok(format!(in alloc; "{} {} {same}", whole.len(), pieces.len())?)
 }
 
 #[test]
+fn written_in_pieces(rt: HostRuntime) -> Result<(), Fail> {
+    says(both_files(rt.alloc()), "68 68 true")
+}
+
+/// How many bytes a header has, or the fault, and what stands before it.
+fn header_text(alloc: Global, rate: u64, channels: u16, frames: u64) -> Result<String, Fail> {
+    let mut writer = ToWrite::new(Vec::new(alloc));
+    let fault = WavOut::start(&mut writer, rate, channels, frames).err();
+    let len = writer.into_inner().len();
+    match fault {
+        None => Ok(format!(in alloc; "{len} bytes")?),
+        Some(fault) => Ok(format!(in alloc; "{len} bytes, {fault}")?),
+    }
+}
+
+/// A rate, channels, frames, and how many bytes the header has.
+const HEADERS: &[(u64, u16, u64, &str)] = &[
+    (0, 0, u64::MAX, "0 bytes, 39 Channels"),
+    (0, 9, 0, "0 bytes, 39 Channels"),
+    (0, 8, u64::MAX, "0 bytes, 40 RateZero"),
+    (2_147_483_648, 1, u64::MAX, "0 bytes, 46 RateTooLarge"),
+    (u64::MAX, 8, 0, "0 bytes, 46 RateTooLarge"),
+    (268_435_455, 8, 268_435_454, "0 bytes, 45 TooLong"),
+    (2_147_483_647, 1, 2_147_483_630, "0 bytes, 45 TooLong"),
+    (44_100, 1, u64::MAX, "0 bytes, 45 TooLong"),
+    (44_100, 1, 2_147_483_629, "44 bytes"),
+    (268_435_455, 8, 268_435_453, "44 bytes"),
+];
+
+#[test]
 fn headers_that_fit(rt: HostRuntime) -> Result<(), Fail> {
-    for (rate, channels, frames, answer) in [
-        (0, 0, u64::MAX, "39 Channels"),
-        (0, 9, 0, "39 Channels"),
-        (0, 8, u64::MAX, "40 RateZero"),
-        (2_147_483_648, 1, u64::MAX, "46 RateTooLarge"),
-        (u64::MAX, 8, 0, "46 RateTooLarge"),
-        (268_435_455, 8, 268_435_454, "45 TooLong"),
-        (2_147_483_647, 1, 2_147_483_630, "45 TooLong"),
-        (44_100, 1, u64::MAX, "45 TooLong"),
-        (44_100, 1, 2_147_483_629, "44 bytes"),
-        (268_435_455, 8, 268_435_453, "44 bytes"),
-    ] {
-        let mut writer = ToWrite::new(Vec::new(rt.alloc()));
-        let fault = WavOut::start(&mut writer, rate, channels, frames).err();
-        let len = writer.into_inner().len();
-        let text = match fault {
-            None => format!(in rt.alloc(); "{len} bytes")?,
-            Some(fault) => format!(in rt.alloc(); "{fault}")?,
-        };
-        assert_eq!(rt; text.as_str(), answer, "{rate} {channels} {frames}");
-        assert!(rt; fault.is_none() || len == 0);
+    for (rate, channels, frames, wanted) in HEADERS {
+        says(header_text(rt.alloc(), *rate, *channels, *frames), wanted)?;
     }
     Ok(())
+}
+
+/// What three puts of two frames each answer, the last two of the same samples, and what is missing after the first.
+fn three_puts<W: Writer>(alloc: Global, writer: &mut W, samples: &[i16]) -> Result<String, Fail>
+    requires { length samples.now ≡ 12 }
+{
+    let mut out = WavOut::start(writer, 8_000, 2, 6)?;
+    let first = out.put(&samples[..4]);
+    let missing = out.missing();
+    let second = out.put(&samples[4..8]);
+    if second.is_ok() {
+        return Ok(String::new(alloc));
+    }
+    let third = out.put(&samples[4..8]);
+    Ok(format!(in alloc; "{first:?} {missing} {second:?} {third:?}")?)
+}
+
+/// The same where the writer is full, how often it failed, what it took and how often it was asked.
+fn puts_of_full(alloc: Global) -> Result<String, Fail> {
+    let device = Faulty::slipping(alloc, Vec::new(alloc), 1, Slip::MovesNothing, 56);
+    let mut writer = ToWrite::new(device);
+    let puts = three_puts(alloc, &mut writer, FRAMES.as_slice())?;
+    let failed = writer.failed();
+    let device = writer.into_inner();
+    Ok(format!(in alloc;
+        "{puts} {failed} {} {}",
+        device.device.len(),
+        device.asked.len()
+    )?)
 }
 
 /// A writer that is full fails once, and is left alone from then on.
 #[test]
 fn spent_wav_out(rt: HostRuntime) -> Result<(), Fail> {
-    let taken = Vec::new(rt.alloc());
-    let device = Faulty::slipping(rt.alloc(), taken, 1, Slip::MovesNothing, 56);
-    let mut writer = ToWrite::new(device);
-    let samples = FRAMES.as_slice();
-    let mut out = WavOut::start(&mut writer, 8_000, 2, 6)?;
-    assert_eq!(rt; out.put(&samples[..4]), Ok(()));
-    assert_eq!(rt; out.missing(), 4);
-    let first = out.put(&samples[4..8]);
-    assert_eq!(rt; first, Err(WavFault::Write));
-    if first == Err(WavFault::Write) {
-        assert_eq!(rt; out.put(&samples[4..8]), Err(WavFault::Write));
-    }
-    assert_eq!(rt; writer.failed(), 1);
-    let device = writer.into_inner();
-    assert_eq!(rt; (device.device.len(), device.asked.len()), (55, 56));
-    Ok(())
+    says(
+        puts_of_full(rt.alloc()),
+        "Ok(()) 4 Err(Write) Err(Write) 1 55 56",
+    )
 }
 
 /// The parts before the data of a file of one channel at 8,000.
@@ -98,121 +136,174 @@ fn mono(alloc: Global, data: &[u8]) -> Result<Vec<u8>, AllocError> {
     Ok(bytes)
 }
 
-/// All that comes in pieces of so many frames, as one text: the numbers of samples, and a fault.
-fn pieces_of(alloc: Global, bytes: &[u8], frames: usize, most: usize) -> Result<String, Fail> {
-    let mut reader = FromRead::new(Faulty::moving(alloc, bytes, most));
-    let mut input = match WavIn::open(alloc, &mut reader) {
-        Ok(input) => input,
-        Err(fault) => return Ok(format!(in alloc; "{fault}")?),
-    };
-    let mut text = format!(in alloc; "{:?}:", input.frames())?;
-    for _ in 0..6 {
-        match input.next(frames) {
-            Ok(samples) => text.push_str(format!(in alloc; " {:?}", samples.as_slice())?.as_str())?,
-            Err(fault) => text.push_str(format!(in alloc; " {fault}")?.as_str())?,
-        }
+/// The samples of the next frames, or the fault.
+fn next_text<R: Reader>(
+    alloc: Global,
+    input: &mut WavIn<R>,
+    frames: usize,
+) -> Result<String, Fail> {
+    match input.next(frames) {
+        Ok(samples) => Ok(format!(in alloc; " {:?}", samples.as_slice())?),
+        Err(fault) => Ok(format!(in alloc; " {fault}")?),
+    }
+}
+
+/// All that comes in so many pieces of so many frames, as one text: the numbers of samples, and a fault.
+fn next_texts<R: Reader>(
+    alloc: Global,
+    input: &mut WavIn<R>,
+    frames: usize,
+    pieces: usize,
+) -> Result<String, Fail> {
+    let mut text = String::new(alloc);
+    for _ in 0..pieces {
+        text.push_str(next_text(alloc, input, frames)?.as_str())?;
     }
     Ok(text)
 }
 
+/// How many frames a file has, and what comes in pieces of so many frames.
+fn pieces_of(alloc: Global, bytes: &[u8], frames: usize, most: usize) -> Result<String, Fail> {
+    let mut reader = FromRead::new(Faulty::moving(alloc, bytes, most));
+    let mut input = match WavIn::open(alloc, &mut reader) {
+        Ok(input) => input,
+        Err(fault) => return Ok(fault.to_string(alloc)?),
+    };
+    let known = input.frames();
+    let texts = next_texts(alloc, &mut input, frames, 6)?;
+    Ok(format!(in alloc; "{known:?}:{texts}")?)
+}
+
+/// The same of a file of one channel.
+fn mono_pieces(alloc: Global, data: &[u8], frames: usize, most: usize) -> Result<String, Fail> {
+    pieces_of(alloc, &mono(alloc, data)?, frames, most)
+}
+
+/// Data, the frames of a piece, and what comes.
+const PIECES: &[(&[u8], usize, &str)] = &[
+    (THREE, 1, "Some(3): [1] [-1] [2] [] [] []"),
+    (THREE, 2, "Some(3): [1, -1] [2] [] [] [] []"),
+    (THREE, 3, "Some(3): [1, -1, 2] [] [] [] [] []"),
+    (THREE, usize::MAX, "Some(3): [1, -1, 2] [] [] [] [] []"),
+    (THREE, 0, "Some(3): [] [] [] [] [] []"),
+    (b"data\x05\0\0\0\x01\0\xFF\xFF\x02", 1, "44 PartialFrame"),
+    (
+        b"data\x08\0\0\0\x01\0\xFF\xFF\x02",
+        1,
+        "Some(4): [1] [-1] 43 Truncated 43 Truncated 43 Truncated 43 Truncated",
+    ),
+    (
+        b"data\xFE\xFF\xFF\xFF\x01\0\xFF\xFF",
+        2,
+        "Some(2147483647): [1, -1] 43 Truncated 43 Truncated 43 Truncated 43 Truncated 43 Truncated",
+    ),
+    (
+        b"data\xFF\xFF\xFF\xFF\x01\0\xFF\xFF",
+        1,
+        "None: [1] [-1] [] [] [] []",
+    ),
+    (
+        b"data\xFF\xFF\xFF\xFF\x01\0\xFF",
+        1,
+        "None: [1] 44 PartialFrame 44 PartialFrame 44 PartialFrame 44 PartialFrame 44 PartialFrame",
+    ),
+    (
+        b"data\xFF\xFF\xFF\xFF\x01\0\xFF",
+        2,
+        "None: 44 PartialFrame 44 PartialFrame 44 PartialFrame 44 PartialFrame 44 PartialFrame 44 PartialFrame",
+    ),
+    (b"", 1, "42 NoData"),
+];
+
 #[test]
 fn read_in_pieces(rt: HostRuntime) -> Result<(), Fail> {
-    let rows: [(&[u8], usize, &str); 12] = [
-        (THREE, 1, "Some(3): [1] [-1] [2] [] [] []"),
-        (THREE, 2, "Some(3): [1, -1] [2] [] [] [] []"),
-        (THREE, 3, "Some(3): [1, -1, 2] [] [] [] [] []"),
-        (THREE, usize::MAX, "Some(3): [1, -1, 2] [] [] [] [] []"),
-        (THREE, 0, "Some(3): [] [] [] [] [] []"),
-        (b"data\x05\0\0\0\x01\0\xFF\xFF\x02", 1, "44 PartialFrame"),
-        (
-            b"data\x08\0\0\0\x01\0\xFF\xFF\x02",
-            1,
-            "Some(4): [1] [-1] 43 Truncated 43 Truncated 43 Truncated 43 Truncated",
-        ),
-        (
-            b"data\xFE\xFF\xFF\xFF\x01\0\xFF\xFF",
-            2,
-            "Some(2147483647): [1, -1] 43 Truncated 43 Truncated 43 Truncated 43 Truncated 43 Truncated",
-        ),
-        (
-            b"data\xFF\xFF\xFF\xFF\x01\0\xFF\xFF",
-            1,
-            "None: [1] [-1] [] [] [] []",
-        ),
-        (
-            b"data\xFF\xFF\xFF\xFF\x01\0\xFF",
-            1,
-            "None: [1] 44 PartialFrame 44 PartialFrame 44 PartialFrame 44 PartialFrame 44 PartialFrame",
-        ),
-        (
-            b"data\xFF\xFF\xFF\xFF\x01\0\xFF",
-            2,
-            "None: 44 PartialFrame 44 PartialFrame 44 PartialFrame 44 PartialFrame 44 PartialFrame 44 PartialFrame",
-        ),
-        (b"", 1, "42 NoData"),
-    ];
-    for (data, frames, answer) in rows {
-        let bytes = mono(rt.alloc(), data)?;
+    for (data, frames, wanted) in PIECES {
         for most in MOVES {
-            assert_eq!(rt;
-                pieces_of(rt.alloc(), &bytes, frames, most)?.as_str(),
-                answer
-            );
+            says(mono_pieces(rt.alloc(), data, *frames, most), wanted)?;
         }
     }
     Ok(())
+}
+
+/// The rate and the channels of a file, and what three pieces of two frames are.
+fn three_pieces<R: Reader>(alloc: Global, reader: &mut R) -> Result<String, Fail> {
+    let mut input = WavIn::open(alloc, reader)?;
+    let (rate, channels) = (input.rate(), input.channels());
+    let texts = next_texts(alloc, &mut input, 2, 3)?;
+    Ok(format!(in alloc; "{rate} {channels}:{texts}")?)
+}
+
+/// The same of a file of three samples, and whether what is behind them is left.
+fn pieces_and_rest(alloc: Global) -> Result<String, Fail> {
+    let bytes = mono(alloc, THREE)?;
+    let mut reader = FromRead::new(bytes.as_slice());
+    let texts = three_pieces(alloc, &mut reader)?;
+    let left = reader.into_inner() == b"LI".as_slice();
+    Ok(format!(in alloc; "{texts} {left}")?)
 }
 
 /// What stands behind the content stays.
 #[test]
 fn pieces_leave_the_rest(rt: HostRuntime) -> Result<(), Fail> {
-    let bytes = mono(rt.alloc(), THREE)?;
-    let mut reader = FromRead::new(bytes.as_slice());
-    let mut input = WavIn::open(rt.alloc(), &mut reader)?;
-    assert_eq!(rt; (input.rate(), input.channels()), (8_000, 1));
-    assert_eq!(rt; input.next(2)?.as_slice(), [1i16, -1].as_slice());
-    assert_eq!(rt; input.next(2)?.as_slice(), [2i16].as_slice());
-    assert!(rt; input.next(2)?.is_empty());
-    assert_eq!(rt; reader.into_inner(), b"LI".as_slice());
-    Ok(())
+    says(pieces_and_rest(rt.alloc()), "8000 1: [1, -1] [2] [] true")
+}
+
+/// What four pieces of one frame are.
+fn four_pieces<R: Reader>(alloc: Global, reader: &mut R) -> Result<String, Fail> {
+    next_texts(alloc, &mut WavIn::open(alloc, reader)?, 1, 4)
+}
+
+/// The same of a reader that fails at its sixth call, how often it failed, and how often it was asked.
+fn pieces_until_fault(alloc: Global, bytes: &[u8]) -> Result<String, Fail> {
+    let device = Faulty::slipping(alloc, bytes, usize::MAX, Slip::Fails, 6);
+    let mut reader = FromRead::new(device);
+    let texts = four_pieces(alloc, &mut reader)?;
+    let failed = reader.failed();
+    let calls = reader.into_inner().asked.len();
+    Ok(format!(in alloc; "{texts} {failed} {calls}")?)
+}
+
+/// The same of a file of three samples.
+fn mono_until_fault(alloc: Global) -> Result<String, Fail> {
+    pieces_until_fault(alloc, &mono(alloc, THREE)?)
 }
 
 /// A reader that fails once is left alone from then on.
 #[test]
 fn spent_wav_in(rt: HostRuntime) -> Result<(), Fail> {
-    let bytes = mono(rt.alloc(), THREE)?;
-    let device = Faulty::slipping(rt.alloc(), bytes.as_slice(), usize::MAX, Slip::Fails, 6);
-    let mut reader = FromRead::new(device);
-    let mut input = WavIn::open(rt.alloc(), &mut reader)?;
-    assert_eq!(rt; input.next(1)?.as_slice(), [1i16].as_slice());
-    for _ in 0..3 {
-        assert_eq!(rt; input.next(1).err(), Some(WavFault::Read));
+    says(
+        mono_until_fault(rt.alloc()),
+        " [1] 47 Read 47 Read 47 Read 1 6",
+    )
+}
+
+/// The samples of six pieces, one behind another.
+fn joined<R: Reader>(alloc: Global, input: &mut WavIn<R>, frames: usize) -> Result<Vec<i16>, Fail> {
+    let mut joined = Vec::new(alloc);
+    for _ in 0..6 {
+        joined.extend_from_slice(&input.next(frames)?)?;
     }
-    assert_eq!(rt; reader.failed(), 1);
-    assert_eq!(rt; reader.into_inner().asked.len(), 6);
-    Ok(())
+    Ok(joined)
+}
+
+/// What a file is, of which a call gives as many bytes as a piece has frames.
+fn joined_text(alloc: Global, bytes: &[u8], frames: usize) -> Result<String, Fail> {
+    let mut reader = FromRead::new(Faulty::moving(alloc, bytes, frames));
+    let mut input = WavIn::open(alloc, &mut reader)?;
+    let (rate, channels, known) = (input.rate(), input.channels(), input.frames());
+    let samples = joined(alloc, &mut input, frames)?;
+    Ok(format!(in alloc; "{rate} {channels} {known:?} {samples:?}")?)
 }
 
 /// The pieces of one, two and three frames are the whole.
 #[test]
 fn pieces_are_the_whole(rt: HostRuntime) -> Result<(), Fail> {
-    let wav = Wav::new(8_000, 2, FRAMES.as_slice().to_vec(rt.alloc())?)?;
-    let mut writer = ToWrite::new(Vec::new(rt.alloc()));
-    write_wav(&mut writer, &wav)?;
-    let file = writer.into_inner();
-    for frames in [1usize, 2, 3, 4, 5, 6, 7] {
-        let device = Faulty::moving(rt.alloc(), file.as_slice(), frames);
-        let mut reader = FromRead::new(device);
-        let mut input = WavIn::open(rt.alloc(), &mut reader)?;
-        assert_eq!(rt;
-            (input.rate(), input.channels(), input.frames()),
-            (8_000, 2, Some(6))
-        );
-        let mut joined = Vec::new(rt.alloc());
-        for _ in 0..6 {
-            joined.extend_from_slice(&input.next(frames)?)?;
-        }
-        assert_eq!(rt; joined.as_slice(), FRAMES.as_slice(), "{frames}");
+    let file = whole_file(rt.alloc())?;
+    for frames in 1..=7 {
+        says(
+            joined_text(rt.alloc(), &file, frames),
+            "8000 2 Some(6) [1, -1, 2, -2, 3, -3, 4, -4, 5, -5, 6, -6]",
+        )?;
     }
     Ok(())
 }

@@ -133,7 +133,8 @@ fn commands_have_their_arguments(rt: HostRuntime) -> Result<(), Fail> {
             read,
             Words::Check {
                 graph: "a b",
-                why: false
+                why: false,
+                json: false
             }
         ),
         Err(_) => assert!(rt; false),
@@ -149,7 +150,8 @@ fn commands_have_their_arguments(rt: HostRuntime) -> Result<(), Fail> {
                 Words::Schedule {
                     graph: "a b",
                     options,
-                    why: false
+                    why: false,
+                    json: false
                 }
             );
         }
