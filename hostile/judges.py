@@ -1,6 +1,7 @@
 """What a run may answer whose call was refused."""
 
 NO_MEMORY = (6, b"sdfw: 1 OutOfMemory\n")
+NO_MEMORY_IN_JSON = (6, b'{"fault":1,"name":"OutOfMemory"}\n')
 NO_WORKER = (6, b"sdfw: 32 NoWorker\n")
 NO_READ = (5, b"sdfw: 47 Read\n")
 NO_WRITE = (5, b"sdfw: 48 Write\n")
@@ -28,6 +29,11 @@ def ample_or(fault, period=None, text=True, less=False):
         return ended.refused() == 1 and ended.fault() == fault and not ended.printed and written
 
     return allowed
+
+
+def any_of(*judges):
+    """What one of these allows."""
+    return lambda ended, ample, at: any(allowed(ended, ample, at) for allowed in judges)
 
 
 def only(fault, period=None, text=True):

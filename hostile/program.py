@@ -4,7 +4,8 @@ import struct
 import threading
 
 import largest
-from judges import NO_MEMORY, NO_READ, NO_WORKER, NO_WRITE, ample_or, behind, is_text, only, printed_or
+from judges import NO_MEMORY, NO_MEMORY_IN_JSON, NO_READ, NO_WORKER, NO_WRITE
+from judges import ample_or, any_of, behind, is_text, only, printed_or
 from machine import BUILD, HERE, SOUNDS, Folder, describe, run
 
 SDFW = BUILD / "sdfw"
@@ -30,6 +31,11 @@ PRINTED = [
     ("schedule", ["schedule", "chain.toml", "--workers", "2"]),
     ("analyze", ["analyze", "chain.toml", "--workers", "2"]),
     ("analyze --compare", ["analyze", "blocks.toml", "--compare"]),
+    ("draw", ["draw", "chain.toml", "--workers", "2"]),
+    ("draw --dot", ["draw", "chain.toml", "--dot"]),
+    ("check --json", ["check", "chain.toml", "--json"]),
+    ("schedule --json", ["schedule", "blocks.toml", "--json"]),
+    ("analyze --json", ["analyze", "blocks.toml", "--json"]),
     ("kinds", ["kinds"]),
     ("explain", ["explain", "10"]),
     ("help", ["help"]),
@@ -50,13 +56,20 @@ FAULTS = [
     ("no command", ["play"]),
     ("a deadlock", ["check", "deadlock.toml"]),
     ("a deadlock and why", ["check", "deadlock.toml", "--why"]),
+    ("a deadlock in JSON", ["check", "deadlock.toml", "--json"]),
     ("no sound", ["run", "loop.toml", "none.wav", "out.wav"]),
 ]
 
 
+def memory_or_ample(words):
+    """The ample answer, or the fault of memory: in JSON where that is asked for and the words could be read."""
+    plain = ample_or(NO_MEMORY, less=words[-1] == "--why")
+    return any_of(plain, ample_or(NO_MEMORY_IN_JSON)) if words[-1] == "--json" else plain
+
+
 def memory_of_sdfw(lists):
     for name, words in PRINTED + FAULTS:
-        lists.refuse(f"sdfw {name}: memory", [SDFW, *words], "memory", ample_or(NO_MEMORY, less=words[-1] == "--why"))
+        lists.refuse(f"sdfw {name}: memory", [SDFW, *words], "memory", memory_or_ample(words))
     for name, words in MADE:
         lists.refuse(f"sdfw {name}: memory", [SDFW, *words], "memory", behind(NO_MEMORY, True))
     for runner in RUNNERS:

@@ -9,6 +9,7 @@ use std::process::Abort;
 use std::rt::Files;
 use std::test::Fail;
 use std::thread::Threads;
+use std::time::Clock;
 use std::{env, fs};
 
 /// A gain, and then a filter whose one tap stands in a file of its folder.
@@ -39,12 +40,11 @@ pub(crate) fn folder(rt: &HostRuntime, name: &str) -> Result<String, Fail> {
 
 /// What the words print to `out` where this is standard input, and how they end: the exit status, and what stands on
 /// standard error.
-pub(crate) fn ends_between<S: Storage, T: Threads + AllocGlobal + Sync, O: Write>(
-    world: &World<S, T>,
-    mut stdin: &[u8],
-    out: &mut O,
-    line: &[&str],
-) -> Result<(u8, String), Fail> {
+pub(crate) fn ends_between<
+    S: Storage,
+    T: Threads + AllocGlobal + Clock + Clone + Drop + Sync,
+    O: Write,
+>(world: &World<S, T>, mut stdin: &[u8], out: &mut O, line: &[&str]) -> Result<(u8, String), Fail> {
     let alloc = world.threads.alloc();
     let mut given = Vec::new(alloc);
     for word in line {
@@ -56,16 +56,16 @@ pub(crate) fn ends_between<S: Storage, T: Threads + AllocGlobal + Sync, O: Write
 }
 
 /// The same where standard input is empty.
-pub(crate) fn ends_into<S: Storage, T: Threads + AllocGlobal + Sync, O: Write>(
-    world: &World<S, T>,
-    out: &mut O,
-    line: &[&str],
-) -> Result<(u8, String), Fail> {
+pub(crate) fn ends_into<
+    S: Storage,
+    T: Threads + AllocGlobal + Clock + Clone + Drop + Sync,
+    O: Write,
+>(world: &World<S, T>, out: &mut O, line: &[&str]) -> Result<(u8, String), Fail> {
     ends_between(world, b"", out, line)
 }
 
 /// How a command over real files ends: its exit status, and what stands on standard error.
-pub(crate) fn ends<R: Files, T: Threads + AllocGlobal + Sync>(
+pub(crate) fn ends<R: Files, T: Threads + AllocGlobal + Clock + Clone + Drop + Sync>(
     rt: &R,
     threads: &T,
     line: &[&str],
@@ -81,7 +81,7 @@ pub(crate) fn ends<R: Files, T: Threads + AllocGlobal + Sync>(
 
 /// Whether a command ends so.
 fn fails(
-    rt: &(impl Abort + Files + Threads + AllocGlobal + Sync),
+    rt: &(impl Abort + Files + Threads + AllocGlobal + Clock + Clone + Drop + Sync),
     line: &[&str],
     code: u8,
     text: &str,

@@ -21,4 +21,6 @@ mod standard;
 #[cfg(test)]
 mod streams;
 #[cfg(test)]
+mod views;
+#[cfg(test)]
 mod why;

@@ -1,15 +1,21 @@
 //! Filters and converters that the program makes, over files in memory.
 
-use crate::files::ends_between;
+use crate::files::{ends, ends_between, folder};
 use crate::shelf::Shelf;
 use sdf_program::files::MOST_BYTES;
 use sdf_program::program::World;
 use std::cell::RefCell;
+use std::fs;
+use std::process::Abort;
 use std::test::Fail;
 use std::thread::Threads;
+use std::time::Clock;
 
 /// The exit status of a line, and behind it what stands on standard output, on standard error and in files.
-fn made<T: Threads + AllocGlobal + Sync>(rt: &T, line: &[&str]) -> Result<String, Fail> {
+pub(crate) fn made<T: Threads + AllocGlobal + Clock + Clone + Drop + Sync>(
+    rt: &T,
+    line: &[&str],
+) -> Result<String, Fail> {
     let alloc = rt.alloc();
     let written = RefCell::new(Vec::new(alloc));
     let world = World {
@@ -70,5 +76,24 @@ fn converters(rt: HostRuntime) -> Result<(), Fail> {
         text.as_str()
             .starts_with("2\n--\nerror: FOLDER has a file graph.toml already\n")
     );
+    Ok(())
+}
+
+/// Refuses a folder that is not made, or that is made and has no design.
+#[test]
+fn folders_are_made(rt: HostRuntime) -> Result<(), Fail> {
+    let alloc = rt.alloc();
+    let above = folder(&rt, "making")?;
+    let path = format!(in alloc; "{}/new", above.as_str())?;
+    let _ = fs::remove_dir_all(&rt, path.as_str());
+    let (status, said) = ends(
+        &rt,
+        &rt,
+        &["sdfw", "resample", "8000", "8000", path.as_str()],
+    )?;
+    assert_eq!(rt; (status, said.as_str()), (0, ""));
+    let graph = format!(in alloc; "{}/graph.toml", path.as_str())?;
+    let (status, said) = ends(&rt, &rt, &["sdfw", "check", graph.as_str()])?;
+    assert_eq!(rt; (status, said.as_str()), (0, ""));
     Ok(())
 }

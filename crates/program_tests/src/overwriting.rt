@@ -8,6 +8,7 @@ use std::process::Abort;
 use std::rt::Files;
 use std::test::Fail;
 use std::thread::Threads;
+use std::time::Clock;
 
 const TAPS: &str = "format = 1\nvalues = [1]\n";
 
@@ -52,7 +53,7 @@ fn stand(rt: &(impl Abort + Files + AllocGlobal), folder: &str, what: &str) -> R
 
 /// How a run of the folder's files ends that is told to write here.
 fn ends_at(
-    rt: &(impl Files + Threads + AllocGlobal + Sync),
+    rt: &(impl Files + Threads + AllocGlobal + Clock + Clone + Drop + Sync),
     folder: &str,
     out: &str,
 ) -> Result<(u8, String), Fail> {

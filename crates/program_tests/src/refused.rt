@@ -12,6 +12,7 @@ use std::process::Abort;
 use std::rt::Files;
 use std::test::Fail;
 use std::thread::Threads;
+use std::time::Clock;
 
 /// A file system that refuses to open the files whose paths end so.
 #[derive(Clone, Copy)]
@@ -77,7 +78,7 @@ impl Files for Refusing<'_> {
 }
 
 /// How a command ends where files with this ending are refused by this kind of error.
-fn refused<T: Threads + AllocGlobal + Sync>(
+fn refused<T: Threads + AllocGlobal + Clock + Clone + Drop + Sync>(
     rt: &HostRuntime,
     threads: &T,
     ending: &str,
@@ -93,7 +94,7 @@ fn refused<T: Threads + AllocGlobal + Sync>(
 }
 
 /// Whether it ends so.
-fn ends_refused<T: Abort + Threads + AllocGlobal + Sync>(
+fn ends_refused<T: Abort + Threads + AllocGlobal + Clock + Clone + Drop + Sync>(
     rt: &HostRuntime,
     threads: &T,
     ending: &str,
@@ -108,7 +109,7 @@ fn ends_refused<T: Abort + Threads + AllocGlobal + Sync>(
 }
 
 /// Each file of a run refused in turn, for want of memory and for another cause.
-fn each_refused<T: Abort + Threads + AllocGlobal + Sync>(
+fn each_refused<T: Abort + Threads + AllocGlobal + Clock + Clone + Drop + Sync>(
     rt: &HostRuntime,
     threads: &T,
     line: &[&str],
@@ -183,7 +184,7 @@ impl Write for Closed {
 
 /// How a command ends whose answer is refused by this kind of error.
 fn ends_closed(
-    rt: &(impl Files + Threads + AllocGlobal + Sync),
+    rt: &(impl Files + Threads + AllocGlobal + Clock + Clone + Drop + Sync),
     kind: ErrorKind,
     line: &[&str],
 ) -> Result<(u8, String), Fail> {
@@ -197,7 +198,7 @@ fn ends_closed(
 
 /// Whether it ends by the fault that it has to, for want of memory and for another cause.
 fn answer_is_refused(
-    rt: &(impl Abort + Files + Threads + AllocGlobal + Sync),
+    rt: &(impl Abort + Files + Threads + AllocGlobal + Clock + Clone + Drop + Sync),
     line: &[&str],
 ) -> Result<(), Fail> {
     let (status, said) = ends_closed(rt, ErrorKind::BrokenPipe, line)?;

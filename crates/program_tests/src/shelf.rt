@@ -33,6 +33,27 @@ actor = [{ name = "in", kind = "input", channel = 0 }, { name = "add", kind = "a
 link = [{ from = "in", to = "add:0" }, { from = "add", to = "fork" },
     { from = "fork:0", to = "out" }, { from = "fork:1", to = "add:1" }]"#;
 
+/// A third actor that stands nowhere ends in the middle of a string.
+const BROKEN: &str = "format = 1\nactor = [{ name = \"in";
+
+/// Its one tap stands in a file that is not there.
+const LACKING: &str = r#"format = 1
+actor = [{ name = "in", kind = "input", channel = 0 }, { name = "same", kind = "fir", shift = 0, file = "two.toml" },
+    { name = "out", kind = "output", channel = 0 }]
+link = [{ from = "in", to = "same" }, { from = "same", to = "out" }]"#;
+
+/// It reads a channel that no sound of the tests has.
+const RIGHT: &str = r#"format = 1
+actor = [{ name = "left", kind = "input", channel = 0 }, { name = "right", kind = "input", channel = 1 },
+    { name = "sum", kind = "add", ways = 2 }, { name = "out", kind = "output", channel = 0 }]
+link = [{ from = "left", to = "sum:0" }, { from = "right", to = "sum:1" }, { from = "sum", to = "out" }]"#;
+
+/// It keeps one sample of eight.
+const EIGHTH: &str = r#"format = 1
+actor = [{ name = "in", kind = "input", channel = 0 }, { name = "less", kind = "decimate", factor = 8 },
+    { name = "out", kind = "output", channel = 0 }]
+link = [{ from = "in", to = "less" }, { from = "less", to = "out" }]"#;
+
 pub(crate) const TAPS: &str = "format = 1\nvalues = [1]\n";
 
 /// The same taps in a file that is longer than the graph file.
@@ -45,13 +66,17 @@ values = [1]
 ";
 
 /// The graph files and coefficient files of the tests.
-const TEXTS: [(&str, &str); 11] = [
+const TEXTS: [(&str, &str); 15] = [
     ("plain.toml", PLAIN),
     ("-", PLAIN),
     ("begun.toml", BEGUN),
     ("blocks.toml", BLOCKS),
     ("long.toml", LONG),
     ("stuck.toml", STUCK),
+    ("broken.toml", BROKEN),
+    ("lacking.toml", LACKING),
+    ("right.toml", RIGHT),
+    ("eighth.toml", EIGHTH),
     ("filtered.toml", FILTERED),
     ("one.toml", TAPS),
     ("full/graph.toml", PLAIN),
@@ -115,6 +140,14 @@ impl<'a> Storage for Shelf<'a> {
             Ok(Slot {
                 written: self.written,
             })
+        } else {
+            Err(Error::from(ErrorKind::PermissionDenied))
+        }
+    }
+
+    fn create_folder(&self, path: &str) -> io::Result<()> {
+        if path == "made" {
+            Ok(())
         } else {
             Err(Error::from(ErrorKind::PermissionDenied))
         }

@@ -8,10 +8,11 @@ use std::cell::RefCell;
 use std::process::Abort;
 use std::test::Fail;
 use std::thread::Threads;
+use std::time::Clock;
 
 /// Whether a run of plain.toml ends so: its exit status, what stands on standard output and on standard error, and in
 /// the file that is written.
-fn ends_so<T: Abort + Threads + AllocGlobal + Sync>(
+fn ends_so<T: Abort + Threads + AllocGlobal + Clock + Clone + Drop + Sync>(
     rt: &T,
     stdin: &[u8],
     words: &[&str],

@@ -8,6 +8,7 @@ use std::cell::RefCell;
 use std::process::Abort;
 use std::test::Fail;
 use std::thread::Threads;
+use std::time::Clock;
 
 /// The table of kinds of `docs/FORMATS.md`, and the keys that every actor may have.
 const KINDS: &str = "input: channel 0..7, block 1..1024 (1)
@@ -41,7 +42,7 @@ runs   file            1      refused 19
 
 /// Whether a command over these files ends so: its exit status, what stands on the two streams, and in the file that is
 /// written.
-fn ends_with<T: Abort + Threads + AllocGlobal + Sync>(
+fn ends_with<T: Abort + Threads + AllocGlobal + Clock + Clone + Drop + Sync>(
     rt: &T,
     most: u32,
     line: &[&str],
@@ -116,7 +117,8 @@ fn answers_stand_on_standard_output(rt: HostRuntime) -> Result<(), Fail> {
             &["sdfw", "check", "-h"],
             "Checks a graph file and prints its period\n\nUsage: sdfw check [OPTIONS] <GRAPH>\n\n\
              Arguments:\n  <GRAPH>  The graph file\n\n\
-             Options:\n      --why   Says more of a fault: names, values and limits\n  \
+             Options:\n      --why   Says more of a fault: names, values and limits\n      \
+             --json  Answers in JSON, also of a fault\n  \
              -h, --help  Print help (see more with '--help')\n\n\
              Examples:\n  sdfw check graph.toml\n  sdfw check graph.toml --why\n",
         ),

@@ -8,9 +8,10 @@ use std::cell::RefCell;
 use std::process::Abort;
 use std::test::Fail;
 use std::thread::Threads;
+use std::time::Clock;
 
 /// Whether words end with this status, and this stands on standard error.
-fn ends_so<T: Abort + Threads + AllocGlobal + Sync>(
+fn ends_so<T: Abort + Threads + AllocGlobal + Clock + Clone + Drop + Sync>(
     rt: &T,
     words: &[&str],
     status: u8,
@@ -58,7 +59,7 @@ fn deadlocks_are_told(rt: HostRuntime) -> Result<(), Fail> {
     )
 }
 
-/// An actor without a home is told by its name, and a fault of which no more is known by its line alone.
+/// An actor without a home is told by its name.
 #[test]
 fn homes_are_told(rt: HostRuntime) -> Result<(), Fail> {
     ends_so(
@@ -73,11 +74,59 @@ fn homes_are_told(rt: HostRuntime) -> Result<(), Fail> {
         ],
         3,
         "sdfw: 19 BadHome actor 0\n  actor 0 is \"in\", an input\n  processor = 1, wants 0..0\n",
-    )?;
-    ends_so(
-        &rt,
-        &["sdfw", "check", "none.toml", "--why"],
-        5,
-        "sdfw: 47 Read\n",
     )
+}
+
+/// Words of a run over files that can't be used, the exit status, and what is told.
+const UNUSABLE: &[([&str; 3], u8, &str)] = &[
+    (
+        ["none.toml", "in.wav", "out.wav"],
+        5,
+        "sdfw: 47 Read\n  \"none.toml\": entity not found\n",
+    ),
+    (
+        ["plain.toml", "none.wav", "out.wav"],
+        5,
+        "sdfw: 47 Read\n  \"none.wav\": entity not found\n",
+    ),
+    (
+        ["plain.toml", "in.wav", "else.wav"],
+        5,
+        "sdfw: 48 Write\n  \"else.wav\": permission denied\n",
+    ),
+    (
+        ["broken.toml", "in.wav", "out.wav"],
+        3,
+        "sdfw: 49 NotToml top\n  \"broken.toml\": TOML parse error at line 2, column 22: invalid string\n",
+    ),
+    (
+        ["lacking.toml", "in.wav", "out.wav"],
+        3,
+        "sdfw: 58 NoFile file two.toml\n  actor 1 is \"same\", a fir\n  \"two.toml\": entity not found\n",
+    ),
+    (
+        ["right.toml", "in.wav", "out.wav"],
+        4,
+        "sdfw: 59 ChannelsMissing\n  the design reads 2 channels, the sound has 1\n  actor 0 is \"left\", an input\n  channel = 0\n  actor 1 is \"right\", an input\n  channel = 1\n",
+    ),
+    (
+        ["eighth.toml", "in.wav", "out.wav"],
+        4,
+        "sdfw: 60 RateNotWhole\n  44100 * 1 / 8 = 5512 and 4/8\n",
+    ),
+];
+
+/// What the system or the reader of TOML said of a file is told, and what the header of a sound says.
+#[test]
+fn files_are_told(rt: HostRuntime) -> Result<(), Fail> {
+    for (names, status, told) in UNUSABLE {
+        let [graph, input, output] = names;
+        ends_so(
+            &rt,
+            &["sdfw", "run", graph, input, output, "--why"],
+            *status,
+            told,
+        )?;
+    }
+    Ok(())
 }

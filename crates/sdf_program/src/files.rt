@@ -8,6 +8,7 @@ use crate::storage::Storage;
 use indexmap::IndexSet;
 use sdf_file::{Design, design_files, read_design};
 use sdf_process::Fault;
+use sdf_why::Header;
 use std::alloc::{AllocError, Global};
 use std::io::{self, ErrorKind, Read};
 use std::path::Path;
@@ -27,12 +28,54 @@ pub(crate) fn device_fault(error: &io::Error, blamed: Fault) -> Fault
 }
 
 /// All of a file's bytes, where they are at most `most`.
-pub fn read_all<F: Read + Drop>(alloc: Global, file: F, most: u32) -> Result<Vec<u8>, Fault> {
+fn bytes_of<F: Read + Drop>(alloc: Global, file: F, most: u32) -> io::Result<Vec<u8>> {
     let mut bytes = Vec::new(alloc);
-    match file.take(u64::from(most) + 1).read_to_end(&mut bytes) {
-        Ok(_) if bytes.len() <= most as usize => Ok(bytes),
-        Ok(_) => Err(Fault::Read),
+    file.take(u64::from(most) + 1).read_to_end(&mut bytes)?;
+    if bytes.len() <= most as usize {
+        Ok(bytes)
+    } else {
+        Err(io::Error::from(ErrorKind::FileTooLarge))
+    }
+}
+
+/// The same, or the fault of the file.
+pub fn read_all<F: Read + Drop>(alloc: Global, file: F, most: u32) -> Result<Vec<u8>, Fault> {
+    match bytes_of(alloc, file, most) {
+        Ok(bytes) => Ok(bytes),
         Err(error) => Err(device_fault(&error, Fault::Read)),
+    }
+}
+
+/// A file that the system refused, as it was named, and what the system said.
+#[derive(Drop)]
+pub struct Refused {
+    pub name: String,
+    pub said: String,
+}
+
+/// Notes that the system refused a file.
+fn note(
+    alloc: Global,
+    refused: &mut Vec<Refused>,
+    name: &str,
+    error: &io::Error,
+) -> Result<(), AllocError> {
+    let name = format!(in alloc; "{name}")?;
+    let said = format!(in alloc; "{error}")?;
+    Ok(refused.push(Refused { name, said })?)
+}
+
+/// The fault of a file that the system refused, which is noted.
+pub(crate) fn refuse(
+    alloc: Global,
+    refused: &mut Vec<Refused>,
+    name: &str,
+    error: &io::Error,
+    blamed: Fault,
+) -> Fault {
+    match note(alloc, refused, name, error) {
+        Ok(()) => device_fault(error, blamed),
+        Err(_) => Fault::OutOfMemory,
     }
 }
 
@@ -43,12 +86,18 @@ fn read_beside<S: Storage>(
     graph: &str,
     name: &str,
     most: u32,
+    refused: &mut Vec<Refused>,
 ) -> Result<Option<Vec<u8>>, Fault> {
     let path = Path::new(graph).with_file_name(alloc, name)?;
     match storage.open(path.as_str()) {
-        Ok(file) => Ok(Some(read_all(alloc, file, most)?)),
-        Err(error) if error.kind() == ErrorKind::OutOfMemory => Err(Fault::OutOfMemory),
-        Err(_) => Ok(None),
+        Ok(file) => match bytes_of(alloc, file, most) {
+            Ok(bytes) => Ok(Some(bytes)),
+            Err(error) => Err(refuse(alloc, refused, name, &error, Fault::Read)),
+        },
+        Err(error) => match refuse(alloc, refused, name, &error, Fault::Read) {
+            Fault::OutOfMemory => Err(Fault::OutOfMemory),
+            _ => Ok(None),
+        },
     }
 }
 
@@ -59,29 +108,37 @@ fn read_files<S: Storage>(
     graph: &str,
     names: IndexSet<String>,
     most: u32,
+    refused: &mut Vec<Refused>,
 ) -> Result<Vec<(String, Vec<u8>)>, Fault> {
     let mut files = Vec::new(alloc);
     for name in names {
-        if let Some(bytes) = read_beside(alloc, storage, graph, name.as_str(), most)? {
+        if let Some(bytes) = read_beside(alloc, storage, graph, name.as_str(), most, refused)? {
             files.push((name, bytes))?;
         }
     }
     Ok(files)
 }
 
-/// What was read so far: the graph file, and its coefficient files that can be opened, each with its name.
+/// What was read so far: the graph file and its path, its coefficient files that can be opened, each with its name, the
+/// header of the sound where it does not suit the design, and the files that the system refused.
 #[derive(Drop)]
 pub struct Sources {
+    pub path: String,
     pub graph: Vec<u8>,
     pub files: Vec<(String, Vec<u8>)>,
+    pub header: Option<Header>,
+    pub refused: Vec<Refused>,
 }
 
 impl Sources {
     /// Before anything is read.
     pub fn new(alloc: Global) -> Sources {
         Sources {
+            path: String::new(alloc),
             graph: Vec::new(alloc),
             files: Vec::new(alloc),
+            header: None,
+            refused: Vec::new(alloc),
         }
     }
 }
@@ -102,6 +159,11 @@ fn names_of(alloc: Global, files: &[(String, Vec<u8>)]) -> Result<Vec<String>, A
     Ok(names)
 }
 
+/// The bytes of a file, where they are at most `most`.
+fn read_at<S: Storage>(alloc: Global, storage: &S, path: &str, most: u32) -> io::Result<Vec<u8>> {
+    bytes_of(alloc, storage.open(path)?, most)
+}
+
 /// The design of a graph file and the coefficient files that it names, none of which has over `most` bytes. What is
 /// read stands in `sources`, also where there is a fault.
 pub(crate) fn load_into<S: Storage>(
@@ -111,13 +173,16 @@ pub(crate) fn load_into<S: Storage>(
     most: u32,
     sources: &mut Sources,
 ) -> Result<Loaded, Fault> {
-    let file = match storage.open(graph) {
-        Ok(file) => file,
-        Err(error) => return Err(device_fault(&error, Fault::Read)),
+    sources.path = format!(in alloc; "{graph}")?;
+    sources.graph = match read_at(alloc, storage, graph, most) {
+        Ok(bytes) => bytes,
+        Err(error) => {
+            let refused = &mut sources.refused;
+            return Err(refuse(alloc, refused, graph, &error, Fault::Read));
+        }
     };
-    sources.graph = read_all(alloc, file, most)?;
     let names = design_files(alloc, &sources.graph)?;
-    sources.files = read_files(alloc, storage, graph, names, most)?;
+    sources.files = read_files(alloc, storage, graph, names, most, &mut sources.refused)?;
     let design = read_design(alloc, &sources.graph, &sources.files)?;
     let names = names_of(alloc, &sources.files)?;
     Ok(Loaded { design, names })

@@ -1,7 +1,7 @@
 //! The commands that make filters and converters.
 
 use crate::files::device_fault;
-use crate::overwriting::keep_file;
+use crate::overwriting::{keep_file, only_path};
 use crate::printing::show;
 use crate::program::World;
 use crate::storage::Storage;
@@ -65,6 +65,17 @@ fn keep_all<S: Storage>(
     keep_file(alloc, storage, folder, GRAPH)
 }
 
+/// Makes a folder that is not there.
+fn make_folder<S: Storage>(alloc: Global, storage: &S, folder: &str) -> Result<(), Fault> {
+    if only_path(alloc, storage, folder)?.is_some() {
+        return Ok(());
+    }
+    match storage.create_folder(folder) {
+        Ok(()) => Ok(()),
+        Err(error) => Err(device_fault(&error, Fault::Write)),
+    }
+}
+
 /// Writes a file into a folder.
 fn write_into<S: Storage, T: AllocGlobal>(
     world: &World<S, T>,
@@ -93,8 +104,8 @@ fn write_all<S: Storage, T: AllocGlobal, E: Write>(
     write_into(world, folder, GRAPH, texts.graph.as_str())
 }
 
-/// Writes the design of a conversion. It is read and planned before anything is written: what is written can be run, and
-/// no file that was there is gone.
+/// Writes the design of a conversion. It is read and planned before anything is written: what is written can be run,
+/// and no file that was there is gone.
 pub(crate) fn resample<S: Storage, T: AllocGlobal, E: Write>(
     world: &World<S, T>,
     err: &mut E,
@@ -112,6 +123,7 @@ pub(crate) fn resample<S: Storage, T: AllocGlobal, E: Write>(
         Ok(texts) => {
             plan(alloc, &design_of(alloc, &texts)?, &Options::DEFAULT)?;
             keep_all(alloc, world.storage, folder, &texts)?;
+            make_folder(alloc, world.storage, folder)?;
             write_all(world, err, folder, &texts)
         }
         Err(fault) => Err(filter_fault(alloc, fault)),

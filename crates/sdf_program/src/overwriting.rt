@@ -1,5 +1,5 @@
-//! What a command would destroy: OUT is emptied before IN is read, so it may be no file that a run reads, and a design is
-//! written into no folder that has one.
+//! What a command would destroy: OUT is emptied before IN is read, so it may be no file that a run reads, and a design
+//! is written into no folder that has one.
 
 use crate::program::STANDARD;
 use crate::storage::Storage;
@@ -11,7 +11,11 @@ use std::io::ErrorKind;
 use std::path::{Path, PathBuf};
 
 /// The one path of a file, without dots and links, where a file is there.
-fn only_path<S: Storage>(alloc: Global, storage: &S, path: &str) -> Result<Option<PathBuf>, Fault> {
+pub(crate) fn only_path<S: Storage>(
+    alloc: Global,
+    storage: &S,
+    path: &str,
+) -> Result<Option<PathBuf>, Fault> {
     match storage.only_path(alloc, path) {
         Ok(only) => Ok(Some(only)),
         Err(error) if error.kind() == ErrorKind::OutOfMemory => Err(Fault::OutOfMemory),

@@ -6,7 +6,9 @@ use crate::files::{Loaded, Sources, device_fault, load, load_into};
 use crate::program::World;
 use crate::storage::Storage;
 use sdf_analyze::{analyze, compare};
+use sdf_draw::{dot, svg};
 use sdf_file::check_text;
+use sdf_json::{analysis_json, check_json, schedule_json};
 use sdf_options::Options;
 use sdf_process::Fault;
 use sdf_process::planning::plan;
@@ -26,12 +28,17 @@ pub(crate) fn check<S: Storage, T: AllocGlobal, O: Write>(
     world: &World<S, T>,
     out: &mut O,
     graph: &str,
+    json: bool,
     sources: &mut Sources,
 ) -> Result<(), Fault> {
     let alloc = world.threads.alloc();
     let Loaded { design, .. } = load_into(alloc, world.storage, graph, world.most, sources)?;
     plan(alloc, &design, &Options::DEFAULT)?;
-    let text = check_text(alloc, &design)?;
+    let text = if json {
+        check_json(alloc, &design)?
+    } else {
+        check_text(alloc, &design)?
+    };
     show(out, text.as_str())
 }
 
@@ -41,11 +48,16 @@ pub(crate) fn print_schedule<S: Storage, T: AllocGlobal, O: Write>(
     out: &mut O,
     graph: &str,
     options: &Options,
+    json: bool,
     sources: &mut Sources,
 ) -> Result<(), Fault> {
     let alloc = world.threads.alloc();
     let Loaded { design, .. } = load_into(alloc, world.storage, graph, world.most, sources)?;
-    let text = schedule(alloc, &design, options)?;
+    let text = if json {
+        schedule_json(alloc, &design, options)?
+    } else {
+        schedule(alloc, &design, options)?
+    };
     show(out, text.as_str())
 }
 
@@ -56,15 +68,38 @@ pub(crate) fn print_analysis<S: Storage, T: AllocGlobal, O: Write>(
     graph: &str,
     options: &Options,
     compares: bool,
+    json: bool,
 ) -> Result<(), Fault>
     requires { AreWithinLimits options.now }
 {
     let alloc = world.threads.alloc();
     let Loaded { design, .. } = load(alloc, world.storage, graph, world.most)?;
-    let text = if compares {
+    let text = if json {
+        analysis_json(alloc, &design, options)?
+    } else if compares {
         compare(alloc, &design, options)?
     } else {
         analyze(alloc, &design, options)?
+    };
+    show(out, text.as_str())
+}
+
+/// Prints the picture of a design and its schedule, or its graph for Graphviz.
+pub(crate) fn print_picture<S: Storage, T: AllocGlobal, O: Write>(
+    world: &World<S, T>,
+    out: &mut O,
+    graph: &str,
+    options: &Options,
+    as_dot: bool,
+) -> Result<(), Fault>
+    requires { AreWithinLimits options.now }
+{
+    let alloc = world.threads.alloc();
+    let Loaded { design, .. } = load(alloc, world.storage, graph, world.most)?;
+    let text = if as_dot {
+        dot(alloc, &design)?
+    } else {
+        svg(alloc, &design, options)?
     };
     show(out, text.as_str())
 }

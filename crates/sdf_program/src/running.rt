@@ -2,7 +2,7 @@
 
 ghost use Rattle.sdf_process.specs.Plans.{Suits};
 
-use crate::files::{Loaded, Sources, device_fault, load_into};
+use crate::files::{Loaded, Refused, Sources, load_into, refuse};
 use crate::overwriting::keep_what_is_read;
 use crate::program::{STANDARD, World};
 use crate::storage::Storage;
@@ -11,7 +11,8 @@ use sdf_options::Options;
 use sdf_process::planning::plan;
 use sdf_process::process::process;
 use sdf_process::{Fault, Plan};
-use sdf_wav::{FromRead, ToWrite};
+use sdf_wav::{ContentIn, FromRead, ToWrite};
+use sdf_why::Header;
 use std::io::{Read, Write};
 use std::thread::Threads;
 
@@ -21,6 +22,23 @@ pub(crate) struct Paths<'a> {
     pub(crate) graph: &'a str,
     pub(crate) input: &'a str,
     pub(crate) output: &'a str,
+}
+
+/// A design and the plan of its run.
+#[derive(Drop)]
+struct Planned {
+    loaded: Loaded,
+    plan: Plan,
+}
+
+/// What the header of a sound says, where it can be read.
+fn header_at<S: Storage>(storage: &S, input: &str) -> Option<Header> {
+    let from = storage.open(input).ok()?;
+    let content = ContentIn::open(&mut FromRead::new(from)).ok()?;
+    Some(Header {
+        rate: content.rate(),
+        channels: u32::from(content.channels()),
+    })
 }
 
 /// Runs a plan from the first byte of one stream to the last of another.
@@ -48,13 +66,15 @@ fn run_from<S: Storage, T: Threads + AllocGlobal + Sync, R: Read + Drop, O: Writ
     from: R,
     out: &mut O,
     paths: Paths<'_>,
-    loaded: &Loaded,
-    plan: &Plan,
+    planned: &Planned,
+    refused: &mut Vec<Refused>,
 ) -> Result<(), Fault>
-    requires { Suits loaded.now.design.net plan.now }
+    requires { Suits planned.now.loaded.design.net planned.now.plan }
 {
+    let alloc = world.threads.alloc();
+    let Planned { loaded, plan } = planned;
     keep_what_is_read(
-        world.threads.alloc(),
+        alloc,
         world.storage,
         paths.graph,
         &loaded.names,
@@ -66,7 +86,7 @@ fn run_from<S: Storage, T: Threads + AllocGlobal + Sync, R: Read + Drop, O: Writ
     }
     match world.storage.create(paths.output) {
         Ok(to) => run_between(world.threads, from, to, &loaded.design, plan),
-        Err(error) => Err(device_fault(&error, Fault::Write)),
+        Err(error) => Err(refuse(alloc, refused, paths.output, &error, Fault::Write)),
     }
 }
 
@@ -83,11 +103,17 @@ pub(crate) fn run<S: Storage, T: Threads + AllocGlobal + Sync, I: Read, O: Write
     let alloc = world.threads.alloc();
     let loaded = load_into(alloc, world.storage, paths.graph, world.most, sources)?;
     let plan = plan(alloc, &loaded.design, options)?;
+    let planned = Planned { loaded, plan };
+    let refused = &mut sources.refused;
     if paths.input == STANDARD {
-        return run_from(world, stdin, out, paths, &loaded, &plan);
+        return run_from(world, stdin, out, paths, &planned, refused);
     }
-    match world.storage.open(paths.input) {
-        Ok(from) => run_from(world, from, out, paths, &loaded, &plan),
-        Err(error) => Err(device_fault(&error, Fault::Read)),
+    let ended = match world.storage.open(paths.input) {
+        Ok(from) => run_from(world, from, out, paths, &planned, refused),
+        Err(error) => Err(refuse(alloc, refused, paths.input, &error, Fault::Read)),
+    };
+    if let Err(Fault::ChannelsMissing | Fault::RateNotWhole) = &ended {
+        sources.header = header_at(world.storage, paths.input);
     }
+    ended
 }

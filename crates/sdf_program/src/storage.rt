@@ -19,6 +19,9 @@ pub trait Storage {
     /// Makes a file, or empties it.
     fn create(&self, path: &str) -> io::Result<Self::Sink>;
 
+    /// Makes a folder in one that is there.
+    fn create_folder(&self, path: &str) -> io::Result<()>;
+
     /// The one path of a file that is there, without dots and links.
     fn only_path(&self, alloc: Global, path: &str) -> io::Result<PathBuf>;
 }
@@ -40,6 +43,10 @@ impl<R: Files> Storage for Disk<'_, R> {
 
     fn create(&self, path: &str) -> io::Result<R::File> {
         fs::create(self.rt, path)
+    }
+
+    fn create_folder(&self, path: &str) -> io::Result<()> {
+        fs::create_dir(self.rt, path)
     }
 
     fn only_path(&self, alloc: Global, path: &str) -> io::Result<PathBuf> {

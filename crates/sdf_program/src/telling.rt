@@ -1,10 +1,14 @@
 //! What more is told of a fault.
 
 use crate::files::Sources;
+use sdf_document::DocumentFault;
+use sdf_file::FileFault;
 use sdf_options::Options;
 use sdf_prec::PrecFault;
 use sdf_process::{Fault, Stalled};
-use sdf_why::{Halt, file_text, home_text, stall_text};
+use sdf_why::{
+    Halt, channels_text, device_text, file_text, home_text, rate_text, stall_text, toml_text,
+};
 use std::alloc::{AllocError, Global};
 use std::io::Write;
 
@@ -20,6 +24,57 @@ fn halts_of(alloc: Global, stalled: &Stalled) -> Result<Vec<Halt>, AllocError> {
     Ok(halts)
 }
 
+/// What the system said of the files that it refused.
+fn refusals(alloc: Global, sources: &Sources) -> Result<String, AllocError> {
+    let mut text = String::new(alloc);
+    for refused in &sources.refused {
+        let line = device_text(alloc, refused.name.as_str(), refused.said.as_str())?;
+        text.push_str(line.as_str())?;
+    }
+    Ok(text)
+}
+
+/// What the reader of TOML said of the files that are no documents.
+fn no_documents(alloc: Global, sources: &Sources) -> Result<String, AllocError> {
+    let mut text = toml_text(alloc, sources.path.as_str(), &sources.graph)?;
+    for (name, bytes) in &sources.files {
+        let line = toml_text(alloc, name.as_str(), bytes)?;
+        text.push_str(line.as_str())?;
+    }
+    Ok(text)
+}
+
+/// What is told of the first test that files fail, with what the system and the reader of TOML said of them.
+fn design_text(
+    alloc: Global,
+    fault: &FileFault,
+    sources: &Sources,
+    given: sdf_why::Sources<'_>,
+) -> Result<String, AllocError> {
+    let told = file_text(alloc, fault, given)?;
+    let said = match fault {
+        FileFault::Document(DocumentFault::NotToml(_)) => no_documents(alloc, sources)?,
+        FileFault::Document(DocumentFault::NoFile(_)) => refusals(alloc, sources)?,
+        _ => String::new(alloc),
+    };
+    let (told, said) = (told.as_str(), said.as_str());
+    format!(in alloc; "{told}{said}")
+}
+
+/// What is told of a sound that does not suit a design.
+fn sound_text(
+    alloc: Global,
+    fault: &Fault,
+    sources: &Sources,
+    given: sdf_why::Sources<'_>,
+) -> Result<String, AllocError> {
+    match (fault, sources.header) {
+        (Fault::ChannelsMissing, Some(header)) => channels_text(alloc, header, given),
+        (Fault::RateNotWhole, Some(header)) => rate_text(alloc, header, given),
+        _ => Ok(String::new(alloc)),
+    }
+}
+
 /// What more is told of a fault, by what was read; nothing where no more is known.
 fn why(
     alloc: Global,
@@ -32,20 +87,29 @@ fn why(
         files: sources.files.as_slice(),
     };
     match fault {
-        Fault::File(fault) => file_text(alloc, fault, given),
+        Fault::File(fault) => design_text(alloc, fault, sources, given),
+        Fault::Read | Fault::Write => refusals(alloc, sources),
         Fault::Deadlock(stalled) => stall_text(alloc, &halts_of(alloc, stalled)?, given),
         Fault::Table(PrecFault::BadHome { actor }) => {
             home_text(alloc, options.workers, *actor, given.graph)
         }
-        _ => Ok(String::new(alloc)),
+        _ => sound_text(alloc, fault, sources, given),
     }
 }
 
-/// What a fault can be told by: what was read, and the options, where more is asked for.
+/// What is told of a fault: its line, with what more is known where these are the options, or JSON in its place.
+#[derive(Clone, Copy, PartialEq, Eq)]
+enum Telling {
+    Line,
+    Why(Options),
+    Json,
+}
+
+/// What a fault can be told by: what was read, and how it is to be told.
 #[derive(Drop)]
 pub(crate) struct Background {
     pub(crate) sources: Sources,
-    options: Option<Options>,
+    telling: Telling,
 }
 
 impl Background {
@@ -53,18 +117,32 @@ impl Background {
     pub(crate) fn new(alloc: Global) -> Background {
         Background {
             sources: Sources::new(alloc),
-            options: None,
+            telling: Telling::Line,
         }
     }
 
-    /// Whether more is asked for, of a command with these options.
-    pub(crate) fn asked(&mut self, why: bool, options: &Options) {
-        self.options = if why { Some(*options) } else { None };
+    /// More is asked for of a fault, or not, by a command with these options.
+    pub(crate) fn asked_why(&mut self, why: bool, options: &Options) {
+        if why {
+            self.telling = Telling::Why(*options);
+        }
+    }
+
+    /// JSON is asked for, or not.
+    pub(crate) fn asked_json(&mut self, json: bool) {
+        if json {
+            self.telling = Telling::Json;
+        }
+    }
+
+    /// Whether a fault is told in JSON.
+    pub(crate) fn is_json(&self) -> bool {
+        self.telling == Telling::Json
     }
 
     /// Tells what more is known of a fault, where that is asked for, unless memory is refused for it.
     pub(crate) fn tell<E: Write>(&self, alloc: Global, err: &mut E, fault: &Fault) {
-        let Some(options) = self.options else {
+        let Telling::Why(options) = self.telling else {
             return;
         };
         if let Ok(text) = why(alloc, fault, &options, &self.sources) {

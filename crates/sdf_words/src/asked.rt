@@ -6,8 +6,8 @@ use sdf_options::Options;
 /// The highest number of a fault.
 pub const MOST_FAULT: u32 = 63;
 
-/// A conversion between two rates: where its design is written, for how many channels, and the attenuation in dB of what
-/// does not belong.
+/// A conversion between two rates: where its design is written, for how many channels, and the attenuation in dB of
+/// what does not belong.
 #[derive(Clone, Copy, Debug, PartialEq, Eq)]
 pub struct Conversion<'a> {
     pub from: u32,
@@ -17,24 +17,35 @@ pub struct Conversion<'a> {
     pub attenuation: u32,
 }
 
-/// A command, its files by their paths. With `why` more is told of a fault.
+/// A command, its files by their paths. With `why` more is told of a fault; with `json` the answer and the fault are
+/// JSON.
 #[derive(Clone, Copy, Debug, PartialEq, Eq)]
 pub enum Words<'a> {
     Check {
         graph: &'a str,
         why: bool,
+        json: bool,
     },
     /// The options but the runner and the patience.
     Schedule {
         graph: &'a str,
         options: Options,
         why: bool,
+        json: bool,
     },
     /// The options as of a schedule. With `compare` the policy and the placement mean nothing.
     Analyze {
         graph: &'a str,
         options: Options,
         compare: bool,
+        json: bool,
+    },
+    /// The picture of a design and its schedule. The options as of a schedule. With `dot` the graph alone, for
+    /// Graphviz.
+    Draw {
+        graph: &'a str,
+        options: Options,
+        dot: bool,
     },
     Run {
         graph: &'a str,
@@ -42,6 +53,11 @@ pub enum Words<'a> {
         output: &'a str,
         options: Options,
         why: bool,
+    },
+    /// Each actor's share of the time of a run.
+    Profile {
+        graph: &'a str,
+        input: &'a str,
     },
     /// The coefficient file of a filter.
     Fir {

@@ -67,6 +67,17 @@ fn options_of(matches: &ArgMatches<'_>) -> Option<Options>
     })
 }
 
+/// What `check` is asked for.
+fn check_of<'a>(matches: &ArgMatches<'a>) -> Option<Words<'a>>
+    ensures { IfSome result IsWithinLimits }
+{
+    Some(Words::Check {
+        graph: matches.get_str("GRAPH")?,
+        why: matches.get_flag("why"),
+        json: matches.get_flag("json"),
+    })
+}
+
 /// What `schedule` is asked for.
 fn schedule_of<'a>(matches: &ArgMatches<'a>) -> Option<Words<'a>>
     ensures { IfSome result IsWithinLimits }
@@ -75,6 +86,7 @@ fn schedule_of<'a>(matches: &ArgMatches<'a>) -> Option<Words<'a>>
         graph: matches.get_str("GRAPH")?,
         options: plan_options_of(matches)?,
         why: matches.get_flag("why"),
+        json: matches.get_flag("json"),
     })
 }
 
@@ -86,6 +98,28 @@ fn analyze_of<'a>(matches: &ArgMatches<'a>) -> Option<Words<'a>>
         graph: matches.get_str("GRAPH")?,
         options: plan_options_of(matches)?,
         compare: matches.get_flag("compare"),
+        json: matches.get_flag("json"),
+    })
+}
+
+/// What `draw` is asked for.
+fn draw_of<'a>(matches: &ArgMatches<'a>) -> Option<Words<'a>>
+    ensures { IfSome result IsWithinLimits }
+{
+    Some(Words::Draw {
+        graph: matches.get_str("GRAPH")?,
+        options: plan_options_of(matches)?,
+        dot: matches.get_flag("dot"),
+    })
+}
+
+/// What `profile` is asked for.
+fn profile_of<'a>(matches: &ArgMatches<'a>) -> Option<Words<'a>>
+    ensures { IfSome result IsWithinLimits }
+{
+    Some(Words::Profile {
+        graph: matches.get_str("GRAPH")?,
+        input: matches.get_str("IN")?,
     })
 }
 
@@ -156,12 +190,11 @@ fn asked<'a>(name: &str, matches: &ArgMatches<'a>) -> Option<Words<'a>>
     ensures { IfSome result IsWithinLimits }
 {
     match name {
-        "check" => Some(Words::Check {
-            graph: matches.get_str("GRAPH")?,
-            why: matches.get_flag("why"),
-        }),
+        "check" => check_of(matches),
         "schedule" => schedule_of(matches),
         "analyze" => analyze_of(matches),
+        "draw" => draw_of(matches),
+        "profile" => profile_of(matches),
         "run" => run_of(matches),
         "fir" => fir_of(matches),
         "resample" => resample_of(matches),

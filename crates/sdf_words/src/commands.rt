@@ -3,6 +3,7 @@
 mod designs;
 mod filters;
 mod told;
+mod views;
 
 use clap::builder::ValueParser;
 use clap::{Arg, ArgAction, Command};
@@ -44,12 +45,13 @@ struct Choice {
     default: Option<&'static str>,
 }
 
-/// What a command can be told by a name alone.
+/// What a command can be told by a name alone, and another that can't be told beside it.
 #[derive(Clone, Copy)]
 struct Switch {
     name: &'static str,
     help: &'static str,
     more: &'static str,
+    against: Option<&'static str>,
 }
 
 /// A command, what it is given by place, and what by name. Its help ends with the examples.
@@ -94,12 +96,16 @@ fn option<'a>(alloc: Global, choice: Choice) -> Arg<'a> {
     }
 }
 
-fn flag<'a>(alloc: Global, switch: Switch) -> Arg<'a> {
-    Arg::new(alloc, switch.name)
+fn flag<'a>(alloc: Global, switch: Switch) -> Result<Arg<'a>, AllocError> {
+    let flag = Arg::new(alloc, switch.name)
         .long(switch.name)
         .help(switch.help)
         .long_help(switch.more)
-        .action(ArgAction::SetTrue)
+        .action(ArgAction::SetTrue);
+    match switch.against {
+        Some(other) => flag.conflicts_with(other),
+        None => Ok(flag),
+    }
 }
 
 fn with_places<'a>(
@@ -130,7 +136,7 @@ fn with_switches<'a>(
     switches: &[Switch],
 ) -> Result<Command<'a>, AllocError> {
     for switch in switches {
-        command = command.arg(flag(alloc, *switch))?;
+        command = command.arg(flag(alloc, *switch)?)?;
     }
     Ok(command)
 }
@@ -163,6 +169,7 @@ pub(crate) fn sdfw_command<'a>(alloc: Global) -> Result<Command<'a>, AllocError>
         .after_help(EXAMPLES)
         .subcommand_required(true);
     let command = with_commands(alloc, command, designs::rows())?;
+    let command = with_commands(alloc, command, views::rows())?;
     let command = with_commands(alloc, command, filters::rows())?;
     with_commands(alloc, command, told::rows())
 }

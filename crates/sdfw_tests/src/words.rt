@@ -112,11 +112,11 @@ type Line = (&'static [&'static str], &'static str);
 const COMMANDS: &[Line] = &[
     (
         &["sdfw", "check", "a b"],
-        "Check { graph: \"a b\", why: false }",
+        "Check { graph: \"a b\", why: false, json: false }",
     ),
     (
         &["sdfw", "schedule", "a b", "--workers", "2"],
-        "Schedule { graph: \"a b\", options: Options { blocking: 1, workers: 2, policy: Round, placement: Homed, runner: One, patience: 1000 }, why: false }",
+        "Schedule { graph: \"a b\", options: Options { blocking: 1, workers: 2, policy: Round, placement: Homed, runner: One, patience: 1000 }, why: false, json: false }",
     ),
     (&["sdfw", "kinds"], "Kinds"),
     (&["sdfw", "explain", "1"], "Explain { number: 1 }"),

@@ -1,10 +1,10 @@
-//! The commands over a design: what each takes, and what its help says.
+//! The commands that check, schedule and run a design: what each takes, and what its help says.
 
 use super::{Choice, Place, Row, Switch, Values};
 use sdf_limits::{MOST_BLOCKING, MOST_PATIENCE, MOST_WORKERS};
 use sdf_options::{PLACEMENT_WORDS, POLICY_WORDS, RUNNER_WORDS};
 
-const GRAPH: Place = Place {
+pub(super) const GRAPH: Place = Place {
     name: "GRAPH",
     help: "The graph file",
     more: "The graph file, a TOML document that names actors and links them. The coefficient files that it
@@ -12,7 +12,7 @@ names lie in its folder",
     values: Values::Text,
 };
 
-const IN: Place = Place {
+pub(super) const IN: Place = Place {
     name: "IN",
     help: "The WAV file to read, `-` for standard input",
     more: "The WAV file to read: 16-bit PCM, 1 to 8 channels.
@@ -28,7 +28,7 @@ const OUT: Place = Place {
     values: Values::Text,
 };
 
-const BLOCKING: Choice = Choice {
+pub(super) const BLOCKING: Choice = Choice {
     name: "blocking",
     value_name: "J",
     help: "Periods in a block, 1 to 64",
@@ -39,7 +39,7 @@ In `run` it has no effect without `--runner rows` or `--runner rings`",
     default: Some("1"),
 };
 
-const WORKERS: Choice = Choice {
+pub(super) const WORKERS: Choice = Choice {
     name: "workers",
     value_name: "M",
     help: "Workers, 1 to 16",
@@ -49,7 +49,7 @@ In `run` it has no effect without `--runner rows` or `--runner rings`",
     default: Some("1"),
 };
 
-const POLICY: Choice = Choice {
+pub(super) const POLICY: Choice = Choice {
     name: "policy",
     value_name: "P",
     help: "Which actor fires next",
@@ -63,7 +63,7 @@ In `run` it has no effect without that and `--runner rows` or `--runner rings`",
     default: Some("round"),
 };
 
-const PLACEMENT: Choice = Choice {
+pub(super) const PLACEMENT: Choice = Choice {
     name: "placement",
     value_name: "L",
     help: "How firings come to workers",
@@ -100,22 +100,23 @@ It has no effect without `--runner rings`",
     default: Some("1000"),
 };
 
-const COMPARE: Switch = Switch {
-    name: "compare",
-    help: "Compares the schedules of all policies, placements and numbers of workers",
-    more: "Compares the schedules of all policies, placements and numbers of workers 1, 2, 4 and so on up to
-`--workers`: a line for each, with a star at the best of each column and the number of a fault where
-there is no schedule. `--policy` and `--placement` have no effect with it",
-};
-
 const WHY: Switch = Switch {
     name: "why",
     help: "Says more of a fault: names, values and limits",
     more: "Says more of a fault: after its line come lines that begin with two blanks and have the names of
 actors and the ends of links, what stands at a key and what it wants, or a cycle that lacks samples",
+    against: None,
 };
 
-static ROWS: [Row; 4] = [
+pub(super) const JSON: Switch = Switch {
+    name: "json",
+    help: "Answers in JSON, also of a fault",
+    more: "Answers in JSON: one value on one line in place of the text. A fault is one too, on standard error, but
+for a mistake in the words",
+    against: Some("why"),
+};
+
+static ROWS: [Row; 3] = [
     Row {
         name: "check",
         help: "Checks a graph file and prints its period",
@@ -124,7 +125,7 @@ a period, how many of them are each actor's, and how many samples an input puts 
 in one. A fault is a line on standard error, which `sdfw explain` explains.",
         places: &[GRAPH],
         choices: &[],
-        switches: &[WHY],
+        switches: &[WHY, JSON],
         examples: "Examples:
   sdfw check graph.toml
   sdfw check graph.toml --why",
@@ -137,24 +138,10 @@ the table of a block, a line for each row with the firing of each worker, and th
 each link holds.",
         places: &[GRAPH],
         choices: &[BLOCKING, WORKERS, POLICY, PLACEMENT],
-        switches: &[WHY],
+        switches: &[WHY, JSON],
         examples: "Examples:
   sdfw schedule graph.toml --policy lean
   sdfw schedule graph.toml --workers 2 --blocking 4",
-    },
-    Row {
-        name: "analyze",
-        help: "Prints how long a schedule takes and what its links hold",
-        more: "Prints how long a schedule takes and what its links hold. A firing starts as soon as it may and takes
-the time that the key `cost` of its actor says, 1 where it has none. The makespan is when the last one
-ends, the work what all cost together, and no schedule of the block ends before the bound. The speedup
-is the work over the makespan; of each worker is said how much of the makespan it fires.",
-        places: &[GRAPH],
-        choices: &[BLOCKING, WORKERS, POLICY, PLACEMENT],
-        switches: &[COMPARE],
-        examples: "Examples:
-  sdfw analyze graph.toml --workers 2
-  sdfw analyze graph.toml --workers 8 --compare",
     },
     Row {
         name: "run",

@@ -105,8 +105,8 @@ const TO: Place = Place {
 const FOLDER: Place = Place {
     name: "FOLDER",
     help: "The folder that the design is written into",
-    more: "The folder that the design is written into, which has to be there: graph.toml, and a coefficient
-file for each stage. It may have none of these files already",
+    more: "The folder that the design is written into, which is made where it is not there: graph.toml, and a
+coefficient file for each stage. It may have none of these files already",
     values: Values::Text,
 };
 

@@ -1,0 +1,8 @@
+pub mod Stretches
+pub mod Depths
+pub mod FlatDesigns
+pub mod FlatTables
+pub mod FlatLayers
+pub mod FlatFaults
+pub mod FlatSchedules
+pub mod Works

@@ -1,0 +1,10 @@
+use Rattle.std.proofs.Common.{◌≤◌, subst, sym}
+use Rattle.serde_json.specs.Data.{depth}
+use Rattle.serde_json.specs.Read.{max_depth}
+use Rattle.sdf_json.proofs.FlatSchedules.{analysis_flat}
+use Rattle.sdf_json.proofs.analyses.analysis_json.Goals as goal
+
+pub line_of-requires : goal.line_of-requires
+line_of-requires c =
+    subst (λ v. depth v ≤ max_depth) (sym c.in_ok-value.ensures)
+    (analysis_flat c.args.design.now c.args.options.now c.in_ok-table.table c.in_ok-table.figures)

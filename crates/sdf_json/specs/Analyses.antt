@@ -1,0 +1,33 @@
+-- What the command `analyze --json` prints.
+use Rattle.std.specs.Prelude.{ℕ, List, [], ◌∷◌, ◌++◌, length, map, codes}
+use Rattle.serde_json.specs.Data.{Data}
+use Rattle.sdf_prec.specs.Tables.{Tabled}
+use Rattle.sdf_options.specs.declared.options.Options.{Options}
+use Rattle.sdf_file.specs.Designs.{DesignValue}
+use Rattle.sdf_analyze.specs.Figures.{Figured}
+use Rattle.sdf_analyze.specs.Analyses.{IsFigured}
+use Rattle.sdf_analyze.specs.Texts.{hundredths}
+use Rattle.sdf_json.specs.Values.{natural, object_of, list_of, each_to, IsLineOf}
+use Rattle.sdf_json.specs.Tables.{capacity_value}
+use Rattle.sdf_json.specs.Schedules.{asked}
+
+-- how often the makespan goes into the work, in hundredths, is the speedup
+abbrev pub times_of : Figured → List (List ℕ × Data)
+times_of f =
+    (codes "makespan", natural f.makespan) ∷ (codes "work", natural f.work) ∷ (codes "span", natural f.span)
+    ∷ (codes "bound", natural f.bound) ∷ (codes "speedup_hundredths", natural (hundredths f.work f.makespan)) ∷ []
+
+-- the options, the times, the load of each worker, the samples that all links hold, and the links in file order
+abbrev pub analysis_value : DesignValue → Options → Tabled → Figured → Data
+analysis_value d o t f = object_of (asked o ++ times_of f ++
+    (codes "loads", list_of (map natural f.loads))
+    ∷ (codes "samples", natural f.held)
+    ∷ (codes "links", list_of (each_to (capacity_value d t.caps) (length d.net.wires)))
+    ∷ [])
+
+-- the text is of the figures of the table that the options give
+pub record IsAnalysisJson (d : DesignValue) (o : Options) (text : List ℕ) : Type 0 where
+  pub table : Tabled
+  pub figures : Figured
+  pub figured : IsFigured d o table figures
+  pub is : IsLineOf (analysis_value d o table figures) text

@@ -1,0 +1,9 @@
+pub mod Values
+pub mod Told
+pub mod DesignFaults
+pub mod RunFaults
+pub mod Faults
+pub mod Designs
+pub mod Tables
+pub mod Schedules
+pub mod Analyses

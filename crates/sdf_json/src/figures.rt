@@ -1,0 +1,136 @@
+//! What a table does with its time and its channels.
+
+ghost use Rattle.std.specs.Prelude.{◌≡◌, ◌<◌, length, slice_index, MatchResult, IfOk};
+ghost use Rattle.sdf_sched.specs.Period.{IsPeriodOf};
+ghost use Rattle.sdf_prec.specs.Accepting.{IsSize};
+ghost use Rattle.sdf_prec.specs.Tables.{IsTable};
+ghost use Rattle.sdf_prec.specs.declared.fault.PrecFault.TheVariants.{OutOfMemory};
+ghost use Rattle.sdf_process.specs.Placements.{rates_of, firings_of};
+ghost use Rattle.sdf_analyze.specs.Figures.{AreFiguresOf};
+ghost use Rattle.sdf_analyze.specs.Texts.{hundredths};
+
+use sdf_file::Design;
+use sdf_limits::{MOST_ACTORS, MOST_BLOCK, MOST_COST};
+use sdf_options::Options;
+use sdf_prec::{PrecFault, Table};
+use sdf_sched::Period;
+use sdf_times::{Times, bound, held, span, work};
+use std::alloc::Global;
+use std::marker::Model;
+
+/// No block has more work.
+const MOST_WORK: u64 = MOST_ACTORS as u64 * MOST_BLOCK as u64 * MOST_COST as u64;
+
+/// The figures of a table.
+#[derive(Drop)]
+pub(crate) struct Figures {
+    times: Times,
+    work: u64,
+    span: u64,
+    bound: u64,
+    held: u64,
+}
+
+impl Model for Figures {
+    ghost use Rattle.std.specs.Prelude.{◌≤◌};
+    ghost use Rattle.sdf_analyze.specs.Figures.{Figured};
+    ghost use Rattle.sdf_json.specs.declared.figures.TheConstants.{MOST_WORK};
+
+    ghost Value = { Figured };
+
+    ghost view = { λ f. record {
+      makespan = f.times.makespan;
+      work = f.work;
+      span = f.span;
+      bound = f.bound;
+      loads = f.times.loads;
+      held = f.held;
+    } };
+
+    ghost invariant = { λ f. f.work ≤ MOST_WORK };
+}
+
+impl Figures {
+    /// Those of the table of a design's period for a block of the options.
+    pub(crate) fn of(
+        alloc: Global,
+        design: &Design,
+        options: &Options,
+        period: &Period,
+        table: &Table,
+    ) -> Result<Figures, PrecFault>
+        requires period { IsPeriodOf (rates_of design.now) period.now }
+        requires size { IsSize options.now.blocking options.now.workers period.now.repetitions }
+        requires table { IsTable (rates_of design.now) (firings_of options.now.blocking period.now)
+            options.now.workers table.now }
+        ensures { MatchResult result
+            (AreFiguresOf design.now options.now.blocking options.now.workers period.now table.now)
+            (λ f. f ≡ OutOfMemory) }
+    {
+        let graph = design.net().graph();
+        let _ = graph.channels();
+        let costs = design.firing_costs(alloc)?;
+        let times = Times::of(alloc, graph, table, options.workers, &costs)?;
+        let work = work(period.repetitions(), options.blocking, &costs);
+        let span = span(alloc, graph, period, options.blocking, &costs)?;
+        Ok(Figures {
+            times,
+            work,
+            span,
+            bound: bound(span, work, options.workers),
+            held: held(graph, table),
+        })
+    }
+
+    /// When the last firing ends.
+    pub(crate) fn makespan(&self) -> u64
+        ensures { result ≡ self.now.makespan }
+    {
+        self.times.makespan()
+    }
+
+    /// What the firings of the block cost together.
+    pub(crate) fn work(&self) -> u64
+        ensures { result ≡ self.now.work }
+    {
+        self.work
+    }
+
+    /// How often the makespan goes into the work, in hundredths, rounded down; of no time 0.
+    pub(crate) fn speedup(&self) -> u64
+        ensures { result ≡ hundredths self.now.work self.now.makespan }
+    {
+        (self.work * 100)
+            .checked_div(self.times.makespan())
+            .unwrap_or(0)
+    }
+
+    /// What the costliest chain of the block's firings costs.
+    pub(crate) fn span(&self) -> u64
+        ensures { result ≡ self.now.span }
+    {
+        self.span
+    }
+
+    /// The least time in which the costliest chain ends and the workers can do the work.
+    pub(crate) fn bound(&self) -> u64
+        ensures { result ≡ self.now.bound }
+    {
+        self.bound
+    }
+
+    /// What the firings of a column cost together.
+    pub(crate) fn load(&self, column: usize) -> u64
+        requires { column < length self.now.loads }
+        ensures { result ≡ slice_index self.now.loads column }
+    {
+        self.times.load(column)
+    }
+
+    /// The sum of the channels' capacities, in samples.
+    pub(crate) fn held(&self) -> u64
+        ensures { result ≡ self.now.held }
+    {
+        self.held
+    }
+}

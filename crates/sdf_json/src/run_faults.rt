@@ -1,0 +1,118 @@
+//! The faults of tables and of WAV files as values.
+
+ghost use Rattle.std.specs.Prelude.{◌≡◌, ◌∷◌, ◌++◌, [], IfOk, codes};
+ghost use Rattle.serde_json.specs.Data.{object};
+ghost use Rattle.serde_json.specs.View.{view, members_view};
+ghost use Rattle.sdf_json.specs.Values.{natural, with};
+ghost use Rattle.sdf_json.specs.Told.{told};
+ghost use Rattle.sdf_json.specs.RunFaults.{in_row_members, in_row, firing_value, prec_value, format_value};
+
+use crate::told::{at, begun, plain};
+use crate::values::{Members, put_number};
+use sdf_prec::{Firing, PrecFault};
+use sdf_wav::FormatFault;
+use serde_json::{Map, Value, put};
+use std::alloc::{AllocError, Global};
+
+fn firing_value(alloc: Global, firing: Firing) -> Result<Value, AllocError>
+    ensures { IfOk result (λ v. view v ≡ firing_value firing) }
+{
+    let mut members = Map::new(alloc);
+    put_number(&mut members, alloc, "actor", firing.actor as u64)?;
+    put_number(&mut members, alloc, "number", u64::from(firing.number))?;
+    Ok(Value::Object(members))
+}
+
+/// A fault of a firing.
+fn missing_value(alloc: Global, firing: Firing) -> Result<Value, AllocError>
+    ensures { IfOk result (λ v. view v ≡
+        told 14 (codes "FiringMissing") ((codes "firing", firing_value firing) ∷ [])) }
+{
+    let mut members = begun(alloc, 14, "FiringMissing")?;
+    put(&mut members, alloc, "firing", firing_value(alloc, firing)?)?;
+    Ok(Value::Object(members))
+}
+
+/// The members of a fault of a firing in a row.
+fn in_row(
+    alloc: Global,
+    number: u32,
+    name: &str,
+    row: usize,
+    firing: Firing,
+) -> Result<Members, AllocError>
+    ensures { IfOk result (λ m. members_view m.entries ≡ in_row_members number name.now row firing) }
+{
+    let mut members = begun(alloc, number, name)?;
+    put_number(&mut members, alloc, "row", row as u64)?;
+    put(&mut members, alloc, "firing", firing_value(alloc, firing)?)?;
+    Ok(members)
+}
+
+fn early_value(
+    alloc: Global,
+    row: usize,
+    firing: Firing,
+    needs: Firing,
+) -> Result<Value, AllocError>
+    ensures { IfOk result (λ v. view v ≡
+        in_row 18 (codes "TooEarly") row firing ((codes "needs", firing_value needs) ∷ [])) }
+{
+    let mut members = in_row(alloc, 18, "TooEarly", row, firing)?;
+    put(&mut members, alloc, "needs", firing_value(alloc, needs)?)?;
+    Ok(Value::Object(members))
+}
+
+fn row_value(
+    alloc: Global,
+    number: u32,
+    name: &str,
+    row: usize,
+    firing: Firing,
+) -> Result<Value, AllocError>
+    ensures { IfOk result (λ v. view v ≡ in_row number name.now row firing []) }
+{
+    Ok(Value::Object(in_row(alloc, number, name, row, firing)?))
+}
+
+pub(crate) fn prec_value(alloc: Global, fault: &PrecFault) -> Result<Value, AllocError>
+    ensures { IfOk result (λ v. view v ≡ prec_value fault.now) }
+{
+    match fault {
+        PrecFault::OutOfMemory => plain(alloc, 1, "OutOfMemory"),
+        PrecFault::BlockingFactor => plain(alloc, 11, "BlockingFactor"),
+        PrecFault::WorkerCount => plain(alloc, 12, "WorkerCount"),
+        PrecFault::BlockTooLong => plain(alloc, 13, "BlockTooLong"),
+        PrecFault::FiringMissing { firing } => missing_value(alloc, *firing),
+        PrecFault::FiringTwice { row, firing } => {
+            row_value(alloc, 15, "FiringTwice", *row, *firing)
+        }
+        PrecFault::FiringUnknown { row, firing } => {
+            row_value(alloc, 16, "FiringUnknown", *row, *firing)
+        }
+        PrecFault::RowTooWide { row } => at(alloc, 17, "RowTooWide", "row", *row),
+        PrecFault::TooEarly { row, firing, needs } => early_value(alloc, *row, *firing, *needs),
+        PrecFault::BadHome { actor } => at(alloc, 19, "BadHome", "actor", *actor),
+        PrecFault::BadCost { actor } => at(alloc, 62, "BadCost", "actor", *actor),
+    }
+}
+
+pub(crate) fn format_value(alloc: Global, fault: &FormatFault) -> Result<Value, AllocError>
+    ensures { IfOk result (λ v. view v ≡ format_value fault.now) }
+{
+    match fault {
+        FormatFault::NotRiff => plain(alloc, 34, "NotRiff"),
+        FormatFault::NotWave => plain(alloc, 35, "NotWave"),
+        FormatFault::NoFormat => plain(alloc, 36, "NoFormat"),
+        FormatFault::ShortFormat => plain(alloc, 37, "ShortFormat"),
+        FormatFault::NotPcm16 => plain(alloc, 38, "NotPcm16"),
+        FormatFault::Channels => plain(alloc, 39, "Channels"),
+        FormatFault::RateZero => plain(alloc, 40, "RateZero"),
+        FormatFault::BadAlign => plain(alloc, 41, "BadAlign"),
+        FormatFault::NoData => plain(alloc, 42, "NoData"),
+        FormatFault::Truncated => plain(alloc, 43, "Truncated"),
+        FormatFault::PartialFrame => plain(alloc, 44, "PartialFrame"),
+        FormatFault::TooLong => plain(alloc, 45, "TooLong"),
+        FormatFault::RateTooLarge => plain(alloc, 46, "RateTooLarge"),
+    }
+}

@@ -1,0 +1,15 @@
+-- What firings cost in terms of the cheapest.
+use Rattle.std.specs.Prelude.{ℕ, suc, ◌*◌, ◌+◌, ◌-◌, ◌/◌, ◌≤◌, ◌<◌, List, length, slice_index, min}
+
+-- how often the least time goes into a time, to the nearest
+abbrev pub times_of : ℕ → ℕ → ℕ
+times_of least time = (2 * time + least) / (2 * least)
+
+-- the same, from 1 to the most that a key may say
+abbrev pub cost_of : ℕ → ℕ → ℕ → ℕ
+cost_of most least time = min most (suc (times_of least time - 1))
+
+-- the least of the times above 0; any above 0 where there is none
+pub record IsLeastTime (times : List ℕ) (least : ℕ) : Type 0 where
+  pub some : 0 < least
+  pub below : (i : ℕ) → i < length times → 0 < slice_index times i → least ≤ slice_index times i

@@ -1,0 +1,38 @@
+//! What firings cost in terms of the cheapest.
+
+ghost use Rattle.std.specs.Prelude.{◌≡◌, ◌<◌};
+ghost use Rattle.sdf_limits.specs.declared.TheConstants.{MOST_COST};
+ghost use Rattle.sdf_profile.specs.Costs.{cost_of, IsLeastTime};
+
+use sdf_limits::MOST_COST;
+
+/// A firing's time in picoseconds, by the nanoseconds of so many firings; 0 where there is none.
+pub(crate) fn time_of(spent: u64, firings: u64) -> u64 {
+    let time = (u128::from(spent) * 1000)
+        .checked_div(u128::from(firings))
+        .unwrap_or(0);
+    u64::try_from(time).unwrap_or(u64::MAX)
+}
+
+/// The least of the times above 0.
+pub(crate) fn least(times: &[u64]) -> u64
+    ensures { IsLeastTime times.now result }
+{
+    let mut least = u64::MAX;
+    for time in times {
+        if 0 < *time && *time < least {
+            least = *time;
+        }
+    }
+    least
+}
+
+/// How often the least time goes into a time, to the nearest, within the limits of the key `cost`.
+pub(crate) fn cost_of(least: u64, time: u64) -> u32
+    requires { 0 < least }
+    ensures { result ≡ cost_of MOST_COST least time }
+{
+    let least = u128::from(least);
+    let times = (2 * u128::from(time) + least) / (2 * least);
+    times.max(1).min(u128::from(MOST_COST)) as u32
+}

@@ -1,0 +1,47 @@
+//! A run whose firings are timed.
+
+use crate::lines::profile_text;
+use crate::stopwatch::Stopwatch;
+use sdf_file::Design;
+use sdf_limits::{MOST_BLOCK, MOST_BLOCKING, MOST_PATIENCE};
+use sdf_options::{Options, Placement, Policy, Runner};
+use sdf_process::Fault;
+use sdf_process::planning::plan;
+use sdf_process::process::process_with;
+use sdf_wav::{FromRead, ToWrite};
+use std::io;
+use std::thread::Threads;
+use std::time::Clock;
+
+/// The options of a run over rings by one worker, in blocks as long as they may be, so that firings go in runs.
+fn options_for(design: &Design) -> Options {
+    let period = u64::from(design.net().repetitions().period());
+    let blocks = MOST_BLOCK.checked_div(period).unwrap_or(1);
+    Options {
+        blocking: blocks.clamp(1, u64::from(MOST_BLOCKING)) as u32,
+        workers: 1,
+        policy: Policy::Runs,
+        placement: Placement::Homed,
+        runner: Runner::Rings,
+        patience: MOST_PATIENCE,
+    }
+}
+
+/// Runs a design on the bytes of a WAV file in one thread, and tells how much of the time passes in the firings of each
+/// actor, how often each fired, and how long a firing takes; and what the keys `cost` would say, the least time as 1. What
+/// the run makes is dropped. What passes between two firings belongs to the first of them, so reading the clock does, some
+/// 30 ns, and at the end of a piece of sound what brings in the next one. The tests are those of `run`.
+pub fn profile<T: Threads + AllocGlobal + Clock + Clone + Drop + Sync>(
+    rt: &T,
+    input: &[u8],
+    design: &Design,
+) -> Result<String, Fault> {
+    let alloc = rt.alloc();
+    let plan = plan(alloc, design, &options_for(design))?;
+    let watch = Stopwatch::new(alloc, rt.clone()?, design.net().len())?;
+    let reader = &mut FromRead::new(input);
+    let writer = &mut ToWrite::new(io::sink());
+    process_with(rt, reader, writer, design, &plan, &watch)?;
+    watch.pass_to(usize::MAX);
+    Ok(profile_text(alloc, design, &watch)?)
+}

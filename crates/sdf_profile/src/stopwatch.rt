@@ -1,0 +1,86 @@
+//! The time that passes, by what it passes in.
+
+use sdf_run::Gate;
+use std::alloc::{AllocError, Global};
+use std::sync::atomic::{AtomicU64, Ordering};
+use std::time::Clock;
+
+/// Counts of 0.
+fn counts(alloc: Global, many: usize) -> Result<Vec<AtomicU64>, AllocError> {
+    let mut counts = Vec::new(alloc);
+    for _ in 0..many {
+        counts.push(AtomicU64::new(0))?;
+    }
+    Ok(counts)
+}
+
+fn add(counts: &[AtomicU64], place: usize, more: u64) {
+    if let Some(count) = counts.get(place) {
+        count.fetch_add(more, Ordering::SeqCst);
+    }
+}
+
+fn count(counts: &[AtomicU64], place: usize) -> u64 {
+    match counts.get(place) {
+        Some(count) => count.load(Ordering::SeqCst),
+        None => 0,
+    }
+}
+
+/// Gives the time between two readings of a clock to the actor that fired in between. One thread works at a time.
+#[derive(Drop)]
+pub(crate) struct Stopwatch<C> {
+    clock: C,
+    /// The last reading, in nanoseconds.
+    read: AtomicU64,
+    /// The actor that fires.
+    firing: AtomicU64,
+    spent: Vec<AtomicU64>,
+    begun: Vec<AtomicU64>,
+}
+
+impl<C: Clock + Drop> Stopwatch<C> {
+    /// Before the first firing of so many actors.
+    pub(crate) fn new(alloc: Global, clock: C, actors: usize) -> Result<Stopwatch<C>, AllocError> {
+        Ok(Stopwatch {
+            clock,
+            read: AtomicU64::new(0),
+            firing: AtomicU64::new(u64::MAX),
+            spent: counts(alloc, actors)?,
+            begun: counts(alloc, actors)?,
+        })
+    }
+
+    /// The clock in nanoseconds, or its last reading where it can't be read.
+    fn now(&self) -> u64 {
+        match self.clock.monotonic() {
+            Ok(time) => u64::try_from(time.as_nanos()).unwrap_or(u64::MAX),
+            Err(_) => self.read.load(Ordering::SeqCst),
+        }
+    }
+
+    /// From here on another actor fires, or none where there is no such actor.
+    pub(crate) fn pass_to(&self, actor: usize) {
+        let now = self.now();
+        let before = self.read.swap(now, Ordering::SeqCst);
+        let fired = self.firing.swap(actor as u64, Ordering::SeqCst);
+        add(&self.spent, fired as usize, now.saturating_sub(before));
+    }
+
+    /// The nanoseconds that passed in an actor's firings.
+    pub(crate) fn spent(&self, actor: usize) -> u64 {
+        count(&self.spent, actor)
+    }
+
+    /// How often an actor fired.
+    pub(crate) fn firings(&self, actor: usize) -> u64 {
+        count(&self.begun, actor)
+    }
+}
+
+impl<C: Clock + Drop + Sync> Gate for Stopwatch<C> {
+    fn before(&self, _processor: usize, actor: usize, _firing: u64) {
+        self.pass_to(actor);
+        add(&self.begun, actor, 1);
+    }
+}

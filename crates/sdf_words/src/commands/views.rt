@@ -1,0 +1,73 @@
+//! The commands that show what a schedule does and what a run costs: what each takes, and what its help says.
+
+use super::designs::{BLOCKING, GRAPH, IN, JSON, PLACEMENT, POLICY, WORKERS};
+use super::{Row, Switch};
+
+const COMPARE: Switch = Switch {
+    name: "compare",
+    help: "Compares the schedules of all policies, placements and numbers of workers",
+    more: "Compares the schedules of all policies, placements and numbers of workers 1, 2, 4 and so on up to
+`--workers`: a line for each, with a star at the best of each column and the number of a fault where
+there is no schedule. `--policy` and `--placement` have no effect with it",
+    against: None,
+};
+
+const FIGURES: Switch = Switch {
+    against: Some("compare"),
+    ..JSON
+};
+
+const DOT: Switch = Switch {
+    name: "dot",
+    help: "Writes the graph for Graphviz, without a schedule",
+    more: "Writes the graph in the language of Graphviz, without a schedule: its actors, and its links with their
+rates and initial samples",
+    against: None,
+};
+
+static ROWS: [Row; 3] = [
+    Row {
+        name: "analyze",
+        help: "Prints how long a schedule takes and what its links hold",
+        more: "Prints how long a schedule takes and what its links hold. A firing starts as soon as it may and takes
+the time that the key `cost` of its actor says, 1 where it has none. The makespan is when the last one
+ends, the work what all cost together, and no schedule of the block ends before the bound. The speedup
+is the work over the makespan; of each worker is said how much of the makespan it fires.",
+        places: &[GRAPH],
+        choices: &[BLOCKING, WORKERS, POLICY, PLACEMENT],
+        switches: &[COMPARE, FIGURES],
+        examples: "Examples:
+  sdfw analyze graph.toml --workers 2
+  sdfw analyze graph.toml --workers 8 --compare",
+    },
+    Row {
+        name: "draw",
+        help: "Draws a graph and its schedule",
+        more: "Draws a graph and its schedule as one SVG image on standard output, for a browser: the actors with
+their firings in a period, the links with their rates, initial samples and capacities, and below them
+the table against time, a lane for each worker.",
+        places: &[GRAPH],
+        choices: &[BLOCKING, WORKERS, POLICY, PLACEMENT],
+        switches: &[DOT],
+        examples: "Examples:
+  sdfw draw graph.toml --workers 2 > graph.svg
+  sdfw draw graph.toml --dot | dot -Tpdf > graph.pdf",
+    },
+    Row {
+        name: "profile",
+        help: "Measures the share of each actor in the time of a run",
+        more: "Measures the share of each actor in the time of a run over a WAV file in one thread, and the
+nanoseconds of a firing, and prints the keys `cost` to write into the graph file, of which the least
+is 1. What the run makes is not written.",
+        places: &[GRAPH, IN],
+        choices: &[],
+        switches: &[],
+        examples: "Examples:
+  sdfw profile graph.toml in.wav",
+    },
+];
+
+/// These commands, as the help lists them.
+pub(super) fn rows() -> &'static [Row] {
+    ROWS.as_slice()
+}
