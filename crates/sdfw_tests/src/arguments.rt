@@ -1,9 +1,12 @@
 //! The words that a program is started with.
 
+use sdf_options::WordFault;
 use sdf_process::{Fault, status};
 use sdf_words::arguments::arguments;
+use std::alloc::Global;
 use std::env::{Env, FillError};
 use std::test::Fail;
+use test_texts::says;
 
 /// The program's name and one argument.
 #[derive(Clone, Copy)]
@@ -36,40 +39,43 @@ impl Env for Given<'_> {
     }
 }
 
+/// How many words are read, the first, and whether the second is the one given; or whether the fault begins by its
+/// line, and its exit status.
+fn told(alloc: Global, argument: &[u8]) -> Result<String, Fail> {
+    match arguments(&Given { argument }, alloc) {
+        Ok(read) => words_told(alloc, &read, argument),
+        Err(fault) => fault_told(alloc, fault),
+    }
+}
+
+fn words_told(alloc: Global, read: &[String], argument: &[u8]) -> Result<String, Fail> {
+    match (read.get(0), read.get(1)) {
+        (Some(first), Some(second)) => {
+            let same = second.as_bytes() == argument;
+            Ok(format!(in alloc; "{} {first} {same}", read.len())?)
+        }
+        _ => Ok(String::new(alloc)),
+    }
+}
+
+fn fault_told(alloc: Global, fault: WordFault) -> Result<String, Fail> {
+    let text = fault.to_string(alloc)?;
+    let begins = text.starts_with("error: argument 1 is no UTF-8\n");
+    Ok(format!(in alloc; "{begins} {}", status(&Fault::from(fault)))?)
+}
+
+/// The same of an argument of 1,000 letters.
+fn long_told(alloc: Global) -> Result<String, Fail> {
+    let long = vec![in alloc; b'x'; 1000]?;
+    told(alloc, &long)
+}
+
 #[test]
 fn arguments_are_text(rt: HostRuntime) -> Result<(), Fail> {
-    let alloc = rt.alloc();
-    let long = vec![in alloc; b'x'; 1000]?;
-    let given = Given {
-        argument: long.as_slice(),
-    };
-    match arguments(&given, alloc) {
-        Ok(read) => {
-            assert_eq!(rt; read.len(), 2);
-            assert_eq!(rt; read[0].as_str(), "sdfw");
-            assert_eq!(rt; read[1].as_bytes(), long.as_slice());
-        }
-        Err(fault) => assert!(rt; false, "{fault}"),
-    }
-    Ok(())
+    says(long_told(rt.alloc()), "2 sdfw true")
 }
 
 #[test]
 fn other_arguments_are_mistakes(rt: HostRuntime) -> Result<(), Fail> {
-    let alloc = rt.alloc();
-    let given = Given {
-        argument: b"a\xFF".as_slice(),
-    };
-    match arguments(&given, alloc) {
-        Ok(_) => assert!(rt; false),
-        Err(fault) => {
-            let text = format!(in alloc; "{fault}")?;
-            assert!(rt;
-                text.starts_with("error: argument 1 is no UTF-8\n"),
-                "{text}"
-            );
-            assert_eq!(rt; status(&Fault::from(fault)), 2);
-        }
-    }
-    Ok(())
+    says(told(rt.alloc(), b"a\xFF"), "true 2")
 }

@@ -1,7 +1,8 @@
 //! Designs of format 2, whose actors go through cycles.
 
-use crate::running::{fails, gives, run_mono};
+use crate::running::mono;
 use std::test::Fail;
+use test_texts::says;
 
 /// Each second sample is doubled, on a way of its own.
 const SECOND_DOUBLED: &str = r#"format = 2
@@ -28,30 +29,21 @@ link = []"#;
 
 #[test]
 fn dealt_and_gathered(rt: HostRuntime) -> Result<(), Fail> {
-    let alloc = rt.alloc();
-    gives(
-        &rt,
-        SECOND_DOUBLED,
-        8000,
-        &[1, 2, 3, 4, 5],
-        8000,
-        &[1, 4, 3, 8, 5, 0],
+    says(
+        mono(&rt, SECOND_DOUBLED, 8000, &[1, 2, 3, 4, 5]),
+        "8000 [1, 4, 3, 8, 5, 0]",
     )?;
-    gives(
-        &rt,
-        PAIRS,
-        8000,
-        &[1, 2, 3, 4, 5, 6, 7, 8],
-        8000,
-        &[1, 3, 2, 4, 5, 7, 6, 8],
+    says(
+        mono(&rt, PAIRS, 8000, &[1, 2, 3, 4, 5, 6, 7, 8]),
+        "8000 [1, 3, 2, 4, 5, 7, 6, 8]",
     )
 }
 
 #[test]
 fn formats(rt: HostRuntime) -> Result<(), Fail> {
-    let alloc = rt.alloc();
-    let later = run_mono(&rt, LATER, 8000, &[1]);
-    fails(&rt, alloc, later, 3, "sdfw: 50 Format top\n")?;
-    let early = run_mono(&rt, EARLY, 8000, &[1]);
-    fails(&rt, alloc, early, 3, "sdfw: 56 UnknownKind actor 1\n")
+    says(mono(&rt, LATER, 8000, &[1]), "3 sdfw: 50 Format top\n")?;
+    says(
+        mono(&rt, EARLY, 8000, &[1]),
+        "3 sdfw: 56 UnknownKind actor 1\n",
+    )
 }

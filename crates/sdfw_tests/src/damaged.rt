@@ -1,25 +1,49 @@
 //! WAV files of which a front is kept, and sizes that lie, run by each runner.
 
 use crate::designs::HALF;
-use crate::running::file_of;
-use sdf_file::read_design;
+use crate::running::{fault_told, file_of};
+use sdf_file::{Design, read_design};
 use sdf_options::{Options, Runner};
+use sdf_process::Fault;
 use sdf_process::planning::plan;
 use sdf_process::process::process;
-use sdf_process::{Fault, fault_text, status};
 use sdf_wav::{FromRead, Reader, ToWrite, Writer};
 use std::alloc::Global;
-use std::process::Abort;
 use std::test::Fail;
 use std::thread::Threads;
 use test_devices::Faulty;
-use test_devices::files::{Answer, FILES, LIES};
+use test_devices::files::{Answer, FILES, LIES, Whole};
+use test_texts::says;
 
 /// Every second sample: the output of the longest file fits into one.
 const SECONDS: &str = r#"format = 1
 actor = [{ name = "in", kind = "input", channel = 0 }, { name = "dec", kind = "decimate", factor = 2 },
     { name = "out", kind = "output", channel = 0 }]
 link = [{ from = "in", to = "dec" }, { from = "dec", to = "out" }]"#;
+
+/// Runs a design that was read.
+fn run_design<T: Threads + AllocGlobal + Sync, R: Reader, W: Writer>(
+    rt: &T,
+    design: &Design,
+    options: &Options,
+    reader: &mut R,
+    writer: &mut W,
+) -> Result<(), Fault> {
+    let plan = plan(rt.alloc(), design, options)?;
+    process(rt, reader, writer, design, &plan)
+}
+
+/// Runs a design with these options.
+pub(crate) fn run_with<T: Threads + AllocGlobal + Sync, R: Reader, W: Writer>(
+    rt: &T,
+    graph: &str,
+    options: &Options,
+    reader: &mut R,
+    writer: &mut W,
+) -> Result<(), Fault> {
+    let design = read_design(rt.alloc(), graph.as_bytes(), &[])?;
+    run_design(rt, &design, options, reader, writer)
+}
 
 /// Runs a design by a runner.
 pub(crate) fn run_by<T: Threads + AllocGlobal + Sync, R: Reader, W: Writer>(
@@ -29,26 +53,51 @@ pub(crate) fn run_by<T: Threads + AllocGlobal + Sync, R: Reader, W: Writer>(
     reader: &mut R,
     writer: &mut W,
 ) -> Result<(), Fault> {
-    let design = read_design(rt.alloc(), graph.as_bytes(), &[])?;
     let options = Options {
         runner,
         ..Options::DEFAULT
     };
-    let plan = plan(rt.alloc(), &design, &options)?;
-    process(rt, reader, writer, &design, &plan)
+    run_with(rt, graph, &options, reader, writer)
 }
 
 /// The file of the halves of these samples, each rounded up.
-fn half_of(alloc: Global, samples: &[i16]) -> Result<Vec<u8>, Fail> {
+fn half_of(alloc: Global, samples: &[i16]) -> Result<Vec<u8>, Fault> {
     let mut halves = Vec::new(alloc);
     for sample in samples {
         halves.push(sample.saturating_add(1) >> 1)?;
     }
-    Ok(file_of(alloc, 44_100, 1, &halves)?)
+    file_of(alloc, 44_100, 1, &halves)
 }
 
-/// Whether a design answers a file so, where a call of a device moves so many bytes at most.
-fn is_answered<T: Abort + Threads + AllocGlobal + Sync>(
+/// What a design makes of a file, or the fault, where a call of a device moves so many bytes at most.
+fn answer_told<T: Threads + AllocGlobal + Sync>(
+    rt: &T,
+    graph: &str,
+    runner: Runner,
+    bytes: &[u8],
+    most: usize,
+) -> Result<String, Fail> {
+    let alloc = rt.alloc();
+    let mut reader = FromRead::new(Faulty::moving(alloc, bytes, most));
+    let mut writer = ToWrite::new(Faulty::moving(alloc, Vec::new(alloc), most));
+    let run = run_by(rt, graph, runner, &mut reader, &mut writer);
+    let output = writer.into_inner().device;
+    match run {
+        Ok(()) => Ok(format!(in alloc; "{:?}", output.as_slice())?),
+        Err(fault) => fault_told(alloc, &fault),
+    }
+}
+
+/// What it has to be.
+fn answer_wanted(alloc: Global, answer: Answer) -> Result<String, Fail> {
+    match answer {
+        Ok(samples) => Ok(format!(in alloc; "{:?}", half_of(alloc, samples)?.as_slice())?),
+        Err(fault) => Ok(format!(in alloc; "4 sdfw: {fault}\n")?),
+    }
+}
+
+/// Whether a design answers a file so.
+fn is_answered<T: Threads + AllocGlobal + Sync>(
     rt: &T,
     graph: &str,
     runner: Runner,
@@ -56,52 +105,48 @@ fn is_answered<T: Abort + Threads + AllocGlobal + Sync>(
     most: usize,
     answer: Answer,
 ) -> Result<(), Fail> {
-    let alloc = rt.alloc();
-    let mut reader = FromRead::new(Faulty::moving(alloc, bytes, most));
-    let mut writer = ToWrite::new(Faulty::moving(alloc, Vec::new(alloc), most));
-    let run = run_by(rt, graph, runner, &mut reader, &mut writer);
-    let output = writer.into_inner().device;
-    let len = bytes.len();
-    match (run, answer) {
-        (Ok(()), Ok(samples)) => {
-            let wanted = half_of(alloc, samples)?;
-            assert_eq!(rt;
-                output.as_slice(),
-                wanted.as_slice(),
-                "{len} bytes, {most} a call"
-            );
+    let wanted = answer_wanted(rt.alloc(), answer)?;
+    says(answer_told(rt, graph, runner, bytes, most), &wanted)
+}
+
+/// Whether each front of a file has its answer.
+fn fronts_by<T: Threads + AllocGlobal + Sync>(
+    rt: &T,
+    runner: Runner,
+    most: usize,
+    file: &Whole,
+) -> Result<(), Fail> {
+    for kept in 0..=file.bytes.len() {
+        match file.answer(kept) {
+            Some(answer) => is_answered(rt, HALF, runner, file.front(kept), most, answer)?,
+            None => return Err(Fail::from("no row")),
         }
-        (Err(fault), Err(wanted)) => {
-            let line = format!(in alloc; "sdfw: {wanted}\n")?;
-            assert_eq!(rt;
-                (fault_text(alloc, &fault)?.as_str(), status(&fault)),
-                (line.as_str(), 4),
-                "{len} bytes, {most} a call"
-            );
-        }
-        _ => assert!(rt; false, "{len} bytes, {most} a call"),
+    }
+    Ok(())
+}
+
+/// Whether each size that lies has its answer.
+fn lies_by<T: Threads + AllocGlobal + Sync>(
+    rt: &T,
+    runner: Runner,
+    most: usize,
+) -> Result<(), Fail> {
+    for lie in &LIES {
+        is_answered(rt, SECONDS, runner, lie.bytes, most, Err(lie.fault))?;
     }
     Ok(())
 }
 
 /// Whether each front of the three files and each size that lies have their answers.
-fn damaged_by<T: Abort + Threads + AllocGlobal + Sync>(
+fn damaged_by<T: Threads + AllocGlobal + Sync>(
     rt: &T,
     runner: Runner,
     most: usize,
 ) -> Result<(), Fail> {
-    for file in FILES {
-        for kept in 0..=file.bytes.len() {
-            match file.answer(kept) {
-                Some(answer) => is_answered(rt, HALF, runner, file.front(kept), most, answer)?,
-                None => return Err(Fail::from("no row")),
-            }
-        }
+    for file in &FILES {
+        fronts_by(rt, runner, most, file)?;
     }
-    for lie in LIES {
-        is_answered(rt, SECONDS, runner, lie.bytes, most, Err(lie.fault))?;
-    }
-    Ok(())
+    lies_by(rt, runner, most)
 }
 
 #[test]

@@ -17,6 +17,8 @@ mod designs;
 #[cfg(test)]
 mod devices;
 #[cfg(test)]
+mod document_texts;
+#[cfg(test)]
 mod faults;
 #[cfg(test)]
 mod lines;

@@ -1,18 +1,14 @@
 //! What workers do between a file and a file, seen by gates: the runner is the one that was asked for.
 
-use crate::running::file_of;
-use sdf_file::read_design;
+use crate::rows::run_gated;
+use crate::running::{file_of, makes};
 use sdf_options::{Options, Runner};
 use sdf_process::Fault;
-use sdf_process::planning::plan;
-use sdf_process::process::process_with;
-use sdf_run::Gate;
-use sdf_wav::{FromRead, ToWrite};
 use std::alloc::Global;
-use std::process::Abort;
 use std::test::Fail;
 use std::thread::Threads;
 use test_actors::gates::{Hold, Watch};
+use test_texts::says;
 
 /// Blocks of two samples, dealt by threes to two outputs. The source and `left` are at home with one of two workers,
 /// the others with the other.
@@ -41,23 +37,6 @@ fn by(runner: Runner) -> Options {
     }
 }
 
-/// What a design makes of a file, with this gate.
-fn run_gated<T: Threads + AllocGlobal + Sync, G: Gate>(
-    rt: &T,
-    graph: &str,
-    options: &Options,
-    input: &[u8],
-    gate: &G,
-) -> Result<Vec<u8>, Fault> {
-    let alloc = rt.alloc();
-    let design = read_design(alloc, graph.as_bytes(), &[])?;
-    let plan = plan(alloc, &design, options)?;
-    let mut reader = FromRead::new(input);
-    let mut writer = ToWrite::new(Vec::new(alloc));
-    process_with(rt, &mut reader, &mut writer, &design, &plan, gate)?;
-    Ok(writer.into_inner())
-}
-
 /// The file of so many samples, whose size is filled in or not.
 fn sound(alloc: Global, samples: &[i16], filled: bool) -> Result<Vec<u8>, Fault> {
     let mut file = file_of(alloc, 8000, 1, samples)?;
@@ -67,88 +46,113 @@ fn sound(alloc: Global, samples: &[i16], filled: bool) -> Result<Vec<u8>, Fault>
     Ok(file)
 }
 
-/// The gate of a run of `DEALT` on a file, which makes what one thread makes.
-fn watched<T: Abort + Threads + AllocGlobal + Sync>(
+/// Whether a run of `DEALT` with this gate makes of a file what one thread makes.
+fn as_one_thread<T: Threads + AllocGlobal + Sync>(
     rt: &T,
     options: &Options,
     input: &[u8],
+    watch: &Watch,
+) -> Result<(), Fail> {
+    let made = run_gated(rt, DEALT, options, input, watch)?;
+    makes(run_gated(rt, DEALT, &Options::DEFAULT, input, watch), &made)
+}
+
+/// How many firings missed another one in that run, how many passed out of turn, and how many of `deal` passed.
+fn watched<T: Threads + AllocGlobal + Sync>(
+    rt: &T,
+    runner: Runner,
+    input: &[u8],
     hold: Hold<'static>,
-) -> Result<Watch<'static>, Fail> {
+) -> Result<String, Fail> {
     let watch = Watch::new(rt.alloc(), 2, 4, hold)?;
-    let made = run_gated(rt, DEALT, options, input, &watch)?;
-    let one = run_gated(rt, DEALT, &Options::DEFAULT, input, &watch)?;
-    assert_eq!(rt; made.as_slice(), one.as_slice());
-    Ok(watch)
+    as_one_thread(rt, &by(runner), input, &watch)?;
+    Ok(format!(in rt.alloc(); "{} {} {}", watch.missed(), watch.odd(), watch.passed(1, 1))?)
+}
+
+/// Whether two blocks overlap over rings and do not by rows, where the size of the data is filled in or not.
+fn overlaps<T: Threads + AllocGlobal + Sync>(rt: &T, filled: bool) -> Result<(), Fail> {
+    let input = sound(rt.alloc(), &[1, 2, 3, 4, 5, 6, 7, 8, 9, 10, 11, 12], filled)?;
+    says(watched(rt, Runner::Rings, &input, ACROSS), "0 0 4")?;
+    says(watched(rt, Runner::Rows, &input, ACROSS), "1 0 4")
 }
 
 /// Two blocks: over rings a worker is in the second while another is in the first, by rows none is.
 #[test]
 fn over_rings_blocks_overlap(rt: HostRuntime) -> Result<(), Fail> {
-    let samples = [1, 2, 3, 4, 5, 6, 7, 8, 9, 10, 11, 12];
-    for filled in [true, false] {
-        let input = sound(rt.alloc(), &samples, filled)?;
-        let rings = watched(&rt, &by(Runner::Rings), &input, ACROSS)?;
-        assert_eq!(rt; (rings.missed(), rings.odd()), (0, 0));
-        let rows = watched(&rt, &by(Runner::Rows), &input, ACROSS)?;
-        assert_eq!(rt; (rows.missed(), rows.odd()), (1, 0));
-    }
-    Ok(())
+    overlaps(&rt, true)?;
+    overlaps(&rt, false)
 }
 
-/// Whether all firings of so many blocks passed: three of `in` and one of `left` on one worker, two of `deal` and one
-/// of `right` on the other.
-fn passed(rt: &impl Abort, watch: &Watch, blocks: u64) {
-    for (processor, actor, firings) in [
-        (0, 0, 3),
-        (0, 1, 0),
-        (0, 2, 1),
-        (0, 3, 0),
-        (1, 0, 0),
-        (1, 1, 2),
-        (1, 2, 0),
-        (1, 3, 1),
-    ] {
-        let all = blocks.wrapping_mul(firings);
-        assert_eq!(rt; watch.passed(processor, actor), all, "{actor}");
-    }
+/// How many firings of each actor passed on a worker.
+fn passed(alloc: Global, watch: &Watch, processor: usize) -> Result<String, Fail> {
+    let counts = [
+        watch.passed(processor, 0),
+        watch.passed(processor, 1),
+        watch.passed(processor, 2),
+        watch.passed(processor, 3),
+    ];
+    Ok(format!(in alloc; "{counts:?}")?)
+}
+
+/// The same of both workers, in a run of `DEALT` which makes what one thread makes.
+fn passings<T: Threads + AllocGlobal + Sync>(
+    rt: &T,
+    runner: Runner,
+    input: &[u8],
+) -> Result<String, Fail> {
+    let alloc = rt.alloc();
+    let watch = Watch::new(alloc, 2, 4, Hold::NONE)?;
+    as_one_thread(rt, &by(runner), input, &watch)?;
+    let first = passed(alloc, &watch, 0)?;
+    let second = passed(alloc, &watch, 1)?;
+    Ok(format!(in alloc; "{first} {second}")?)
+}
+
+/// Whether all firings of three blocks pass, where the size of the data is filled in or not: of each block three of
+/// `in` and one of `left` on one worker, two of `deal` and one of `right` on the other.
+fn each_passes<T: Threads + AllocGlobal + Sync>(rt: &T, filled: bool) -> Result<(), Fail> {
+    let input = sound(
+        rt.alloc(),
+        &[1, 2, 3, 4, 5, 6, 7, 8, 9, 10, 11, 12, 13],
+        filled,
+    )?;
+    let all = "[9, 0, 3, 0] [0, 6, 0, 3]";
+    says(
+        passings(rt, Runner::One, &input),
+        "[0, 0, 0, 0] [0, 0, 0, 0]",
+    )?;
+    says(passings(rt, Runner::Rows, &input), all)?;
+    says(passings(rt, Runner::Rings, &input), all)
 }
 
 /// Two blocks and a part of a third, which is filled up: each firing passes on its worker. On one thread none does.
 #[test]
 fn each_firing_passes(rt: HostRuntime) -> Result<(), Fail> {
-    let samples = [1, 2, 3, 4, 5, 6, 7, 8, 9, 10, 11, 12, 13];
-    for filled in [true, false] {
-        let input = sound(rt.alloc(), &samples, filled)?;
-        for (runner, blocks) in [(Runner::One, 0), (Runner::Rows, 3), (Runner::Rings, 3)] {
-            let watch = watched(&rt, &by(runner), &input, Hold::NONE)?;
-            passed(&rt, &watch, blocks);
-        }
-    }
-    Ok(())
+    each_passes(&rt, true)?;
+    each_passes(&rt, false)
 }
+
+const IN_A_ROW: Hold<'static> = Hold {
+    held: &[2],
+    first: 0,
+    many: 1,
+    awaited: &[1],
+    ahead: 1,
+};
+
+const BETWEEN: Hold<'static> = Hold {
+    held: &[3],
+    first: 0,
+    many: 1,
+    awaited: &[2],
+    ahead: 0,
+};
 
 /// A sound shorter than a block, which is filled up and run at the end: `left` meets the second firing of `deal` in a
 /// row, and over rings `right` begins after `left`, whose worker looks at its neighbour.
 #[test]
 fn firings_of_a_last_block_meet(rt: HostRuntime) -> Result<(), Fail> {
-    let in_a_row = Hold {
-        held: &[2],
-        first: 0,
-        many: 1,
-        awaited: &[1],
-        ahead: 1,
-    };
-    let between = Hold {
-        held: &[3],
-        first: 0,
-        many: 1,
-        awaited: &[2],
-        ahead: 0,
-    };
     let input = sound(rt.alloc(), &[1, 2, 3], true)?;
-    let rows = watched(&rt, &by(Runner::Rows), &input, in_a_row)?;
-    assert_eq!(rt; (rows.missed(), rows.passed(1, 1)), (0, 2));
-    let rings = watched(&rt, &by(Runner::Rings), &input, between)?;
-    assert_eq!(rt; (rings.missed(), rings.passed(1, 1)), (0, 2));
-    Ok(())
+    says(watched(&rt, Runner::Rows, &input, IN_A_ROW), "0 0 2")?;
+    says(watched(&rt, Runner::Rings, &input, BETWEEN), "0 0 2")
 }

@@ -1,18 +1,15 @@
 //! Sounds that workers read, run and write piece by piece.
 
+use crate::damaged::run_with;
 use crate::designs::CHAIN;
-use crate::faults::ends;
-use crate::running::{file_of, run_file};
-use crate::runs::ramp;
-use sdf_file::read_design;
+use crate::rows::on_one_thread;
+use crate::running::{end_of, makes, run_file};
+use crate::runs::ramp_file;
 use sdf_options::{Options, Runner};
-use sdf_process::Fault;
-use sdf_process::planning::plan;
-use sdf_process::process::process;
 use sdf_wav::{FromRead, ToWrite};
-use std::alloc::Global;
 use std::test::Fail;
 use std::thread::Threads;
+use test_texts::says;
 
 /// The options of a run with one worker.
 fn in_blocks(runner: Runner, blocking: u32) -> Options {
@@ -24,59 +21,72 @@ fn in_blocks(runner: Runner, blocking: u32) -> Options {
     }
 }
 
-/// The file of 5,000 frames.
-fn sound(alloc: Global) -> Result<Vec<u8>, Fault> {
-    file_of(alloc, 44_100, 1, &ramp(alloc, 5000)?)
+/// Whether the chain makes this of a sound by a runner with workers.
+fn made_in_blocks<T: Threads + AllocGlobal + Sync>(
+    rt: &T,
+    runner: Runner,
+    sound: &[u8],
+    wanted: &[u8],
+) -> Result<(), Fail> {
+    makes(run_file(rt, CHAIN, &in_blocks(runner, 1), sound), wanted)?;
+    makes(run_file(rt, CHAIN, &in_blocks(runner, 2), sound), wanted)
 }
 
 /// 4,096 frames and then 904 are read: whole blocks of each, and a last one.
 #[test]
 fn pieces_are_one_run(rt: HostRuntime) -> Result<(), Fail> {
-    let sound = sound(rt.alloc())?;
-    let one = run_file(&rt, CHAIN, &Options::DEFAULT, &sound)?;
-    assert_eq!(rt; one.len(), 44 + 2 * 5600);
-    for runner in [Runner::Rows, Runner::Rings] {
-        for blocking in [1, 2] {
-            let made = run_file(&rt, CHAIN, &in_blocks(runner, blocking), &sound)?;
-            assert_eq!(rt; made.as_slice(), one.as_slice());
-        }
-    }
-    Ok(())
+    let sound = ramp_file(rt.alloc(), 5000)?;
+    let one = on_one_thread(&rt, &sound, 44 + 2 * 5600)?;
+    made_in_blocks(&rt, Runner::Rows, &sound, &one)?;
+    made_in_blocks(&rt, Runner::Rings, &sound, &one)
 }
 
-/// What a run writes of a content that is cut off, and the fault that it ends by.
+/// How much a run writes of a content that is cut off, whether that is a front of the whole output, and the fault that
+/// it ends by.
 fn cut_off<T: Threads + AllocGlobal + Sync>(
     rt: &T,
     options: &Options,
-) -> Result<(Vec<u8>, Result<(), Fault>), Fault> {
+    cut: &[u8],
+    whole: &[u8],
+) -> Result<String, Fail> {
     let alloc = rt.alloc();
-    let mut file = sound(alloc)?;
-    file.truncate(44 + 2 * 4500);
-    let design = read_design(alloc, CHAIN.as_bytes(), &[])?;
-    let plan = plan(alloc, &design, options)?;
     let mut writer = ToWrite::new(Vec::new(alloc));
-    let mut reader = FromRead::new(file.as_slice());
-    let run = process(rt, &mut reader, &mut writer, &design, &plan);
-    Ok((writer.into_inner(), run))
+    let run = run_with(rt, CHAIN, options, &mut FromRead::new(cut), &mut writer);
+    let end = end_of(alloc, run)?;
+    let output = writer.into_inner();
+    let front = whole.starts_with(&output);
+    Ok(format!(in alloc; "{} {front} {end}", output.len())?)
+}
+
+/// A runner, the periods in a block, and what it writes.
+const CUTS: &[(Runner, u32, &str)] = &[
+    (Runner::One, 1, "44 true 4 sdfw: 43 Truncated\n"),
+    (Runner::Rows, 1, "8684 true 4 sdfw: 43 Truncated\n"),
+    (Runner::Rings, 1, "8684 true 4 sdfw: 43 Truncated\n"),
+    (Runner::Rows, 2, "8364 true 4 sdfw: 43 Truncated\n"),
+    (Runner::Rings, 2, "8364 true 4 sdfw: 43 Truncated\n"),
+];
+
+/// Whether each runner writes so much of a sound of which this front is there.
+fn each_writes<T: Threads + AllocGlobal + Sync>(
+    rt: &T,
+    cut: &[u8],
+    whole: &[u8],
+) -> Result<(), Fail> {
+    for (runner, blocking, wanted) in CUTS {
+        says(
+            cut_off(rt, &in_blocks(*runner, *blocking), cut, whole),
+            wanted,
+        )?;
+    }
+    Ok(())
 }
 
 /// The whole blocks of the 4,096 frames that were read before the fault: 27 of one period, or 13 of two.
 #[test]
 fn what_was_read_is_written(rt: HostRuntime) -> Result<(), Fail> {
-    let alloc = rt.alloc();
-    let sound = sound(alloc)?;
+    let mut sound = ramp_file(rt.alloc(), 5000)?;
     let whole = run_file(&rt, CHAIN, &Options::DEFAULT, &sound)?;
-    for (runner, blocking, written) in [
-        (Runner::One, 1, 44),
-        (Runner::Rows, 1, 44 + 8640),
-        (Runner::Rings, 1, 44 + 8640),
-        (Runner::Rows, 2, 44 + 8320),
-        (Runner::Rings, 2, 44 + 8320),
-    ] {
-        let (output, run) = cut_off(&rt, &in_blocks(runner, blocking))?;
-        assert_eq!(rt; output.len(), written);
-        assert!(rt; whole.starts_with(&output));
-        ends(&rt, alloc, run.map(|()| output), 4, "sdfw: 43 Truncated\n")?;
-    }
-    Ok(())
+    sound.truncate(44 + 2 * 4500);
+    each_writes(&rt, &sound, &whole)
 }

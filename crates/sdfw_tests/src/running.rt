@@ -1,13 +1,14 @@
-//! Designs run over memory, from bytes to bytes.
+//! Designs run over memory, from bytes to bytes, and what is told of it.
 
-use sdf_file::read_design;
+ghost use Rattle.sdf_process.specs.Plans.{Suits};
+
+use sdf_file::{Design, read_design};
 use sdf_options::Options;
 use sdf_process::planning::plan;
 use sdf_process::process::process;
-use sdf_process::{Fault, fault_text, status};
+use sdf_process::{Fault, Plan, fault_text, status};
 use sdf_wav::{FromRead, ToWrite, Wav, read_wav, write_wav};
 use std::alloc::Global;
-use std::process::Abort;
 use std::test::Fail;
 use std::thread::Threads;
 
@@ -18,12 +19,35 @@ pub(crate) fn file_of(
     channels: u16,
     samples: &[i16],
 ) -> Result<Vec<u8>, Fault> {
+    let wav = Wav::new(rate, channels, samples.to_vec(alloc)?)?;
     let mut writer = ToWrite::new(Vec::new(alloc));
-    write_wav(
-        &mut writer,
-        &Wav::new(rate, channels, samples.to_vec(alloc)?)?,
-    )?;
+    write_wav(&mut writer, &wav)?;
     Ok(writer.into_inner())
+}
+
+/// What a plan makes of a file.
+fn run_plan<T: Threads + AllocGlobal + Sync>(
+    rt: &T,
+    design: &Design,
+    plan: &Plan,
+    input: &[u8],
+) -> Result<Vec<u8>, Fault>
+    requires { Suits design.now.net plan.now }
+{
+    let mut writer = ToWrite::new(Vec::new(rt.alloc()));
+    process(rt, &mut FromRead::new(input), &mut writer, design, plan)?;
+    Ok(writer.into_inner())
+}
+
+/// What a design that was read makes of a file.
+fn run_design<T: Threads + AllocGlobal + Sync>(
+    rt: &T,
+    design: &Design,
+    options: &Options,
+    input: &[u8],
+) -> Result<Vec<u8>, Fault> {
+    let plan = plan(rt.alloc(), design, options)?;
+    run_plan(rt, design, &plan, input)
 }
 
 /// What a design makes of a file.
@@ -33,12 +57,8 @@ pub(crate) fn run_file<T: Threads + AllocGlobal + Sync>(
     options: &Options,
     input: &[u8],
 ) -> Result<Vec<u8>, Fault> {
-    let alloc = rt.alloc();
-    let design = read_design(alloc, graph.as_bytes(), &[])?;
-    let plan = plan(alloc, &design, options)?;
-    let mut writer = ToWrite::new(Vec::new(alloc));
-    process(rt, &mut FromRead::new(input), &mut writer, &design, &plan)?;
-    Ok(writer.into_inner())
+    let design = read_design(rt.alloc(), graph.as_bytes(), &[])?;
+    run_design(rt, &design, options, input)
 }
 
 /// What a design makes of a sound of one channel.
@@ -48,45 +68,50 @@ pub(crate) fn run_mono<T: Threads + AllocGlobal + Sync>(
     rate: u32,
     samples: &[i16],
 ) -> Result<Wav, Fault> {
-    let alloc = rt.alloc();
-    let output = run_file(
-        rt,
-        graph,
-        &Options::DEFAULT,
-        &file_of(alloc, rate, 1, samples)?,
-    )?;
-    Ok(read_wav(alloc, &mut FromRead::new(output.as_slice()))?)
+    let input = file_of(rt.alloc(), rate, 1, samples)?;
+    let output = run_file(rt, graph, &Options::DEFAULT, &input)?;
+    read(rt.alloc(), &output)
 }
 
-/// Whether a run gives these samples at this rate.
-pub(crate) fn gives<T: Abort + Threads + AllocGlobal + Sync>(
+/// The sound of a file.
+fn read(alloc: Global, bytes: &[u8]) -> Result<Wav, Fault> {
+    Ok(read_wav(alloc, &mut FromRead::new(bytes))?)
+}
+
+/// The exit status of a fault, and its line.
+pub(crate) fn fault_told(alloc: Global, fault: &Fault) -> Result<String, Fail> {
+    let text = fault_text(alloc, fault)?;
+    Ok(format!(in alloc; "{} {text}", status(fault))?)
+}
+
+/// The same of the fault that a run ends by, or `no fault`.
+pub(crate) fn end_of<T: Drop>(alloc: Global, run: Result<T, Fault>) -> Result<String, Fail> {
+    match run {
+        Ok(_) => Ok(String::from_str(alloc, "no fault")?),
+        Err(fault) => fault_told(alloc, &fault),
+    }
+}
+
+/// The rate and the samples of what a design makes of a sound of one channel, or the fault.
+pub(crate) fn mono<T: Threads + AllocGlobal + Sync>(
     rt: &T,
     graph: &str,
     rate: u32,
     samples: &[i16],
-    to: u32,
-    expected: &[i16],
-) -> Result<(), Fail> {
-    let output = run_mono(rt, graph, rate, samples)?;
-    assert_eq!(rt; output.rate(), to);
-    assert_eq!(rt; output.samples(), expected);
-    Ok(())
+) -> Result<String, Fail> {
+    let alloc = rt.alloc();
+    match run_mono(rt, graph, rate, samples) {
+        Ok(wav) => Ok(format!(in alloc; "{} {:?}", wav.rate(), wav.samples())?),
+        Err(fault) => fault_told(alloc, &fault),
+    }
 }
 
-/// Whether a run ends by this fault, told with this exit status.
-pub(crate) fn fails(
-    rt: &impl Abort,
-    alloc: Global,
-    run: Result<Wav, Fault>,
-    code: u8,
-    text: &str,
-) -> Result<(), Fail> {
-    match run {
-        Ok(_) => assert!(rt; false, "there is an output"),
-        Err(fault) => {
-            assert_eq!(rt; fault_text(alloc, &fault)?.as_str(), text);
-            assert_eq!(rt; status(&fault), code);
-        }
+/// Fails where a run makes another file than the one wanted, or none.
+pub(crate) fn makes(run: Result<Vec<u8>, Fault>, wanted: &[u8]) -> Result<(), Fail> {
+    let made = run?;
+    if made.as_slice() == wanted {
+        return Ok(());
     }
-    Ok(())
+    let made = made.as_slice();
+    Err(Fail::new(format_args!("{made:?} in place of {wanted:?}")))
 }

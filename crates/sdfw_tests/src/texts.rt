@@ -1,20 +1,22 @@
 //! The line and the exit status of each fault.
 
+use crate::document_texts::{documents, other_documents, text};
+use crate::running::fault_told;
 use sdf_actor::{NetFault, Side};
-use sdf_file::{DocumentFault, FileFault, Place};
+use sdf_file::FileFault;
 use sdf_graph::GraphFault;
 use sdf_options::WordFault;
 use sdf_prec::{Firing, PrecFault};
-use sdf_process::{Fault, Progress, Stalled, fault_text, status};
+use sdf_process::{Fault, Progress, Stalled};
 use sdf_run::RunFault;
 use sdf_wav::{FormatFault, WavFault};
 use sdf_words::explained;
 use std::alloc::Global;
-use std::process::Abort;
 use std::test::Fail;
+use test_texts::{row_says, says};
 
 /// Graphs and nets: status 3.
-const NETS: [(NetFault, &str); 18] = [
+const NETS: &[(NetFault, &str)] = &[
     (NetFault::Graph(GraphFault::ActorCount), "2 ActorCount"),
     (NetFault::Graph(GraphFault::ChannelCount), "3 ChannelCount"),
     (
@@ -79,7 +81,7 @@ const FIRING: Firing = Firing {
 };
 
 /// Tables: status 3.
-const TABLES: [(PrecFault, &str); 10] = [
+const TABLES: &[(PrecFault, &str)] = &[
     (PrecFault::BlockingFactor, "11 BlockingFactor"),
     (PrecFault::WorkerCount, "12 WorkerCount"),
     (PrecFault::BlockTooLong, "13 BlockTooLong"),
@@ -115,7 +117,7 @@ const TABLES: [(PrecFault, &str); 10] = [
 ];
 
 /// WAV files: status 4.
-const SOUNDS: [(FormatFault, &str); 13] = [
+const SOUNDS: &[(FormatFault, &str)] = &[
     (FormatFault::NotRiff, "34 NotRiff"),
     (FormatFault::NotWave, "35 NotWave"),
     (FormatFault::NoFormat, "36 NoFormat"),
@@ -132,7 +134,7 @@ const SOUNDS: [(FormatFault, &str); 13] = [
 ];
 
 /// Runs.
-const RUNS: [(RunFault, u8, &str); 6] = [
+const RUNS: &[(RunFault, u8, &str)] = &[
     (RunFault::OutOfMemory, 6, "1 OutOfMemory"),
     (RunFault::InputLength, 3, "29 InputLength"),
     (RunFault::NotHomed, 3, "30 NotHomed"),
@@ -141,186 +143,166 @@ const RUNS: [(RunFault, u8, &str); 6] = [
     (RunFault::SessionFailed, 6, "33 SessionFailed"),
 ];
 
+/// The number that a text begins with.
+fn number_of(text: &str) -> u32 {
+    match text.split(' ').next().map(|word| word.parse::<u32>()) {
+        Some(Ok(number)) => number,
+        _ => 0,
+    }
+}
+
+/// Whether a fault's text begins as what it means does, and names a place where that says how.
+fn agrees(text: &str, meaning: &str) -> bool {
+    match (text.split('\n').next(), meaning.split('\n').next()) {
+        (Some(first), Some(begins)) => {
+            let placed = first.len() > begins.len();
+            first.starts_with(begins) && placed == meaning.contains("\nwhere: ")
+        }
+        _ => false,
+    }
+}
+
+/// Whether a text agrees with what its number means.
+fn is_explained(alloc: Global, text: &str) -> Result<(), Fail> {
+    let meaning = explained(alloc, number_of(text))?;
+    if agrees(text, meaning.as_str()) {
+        return Ok(());
+    }
+    Err(Fail::new(format_args!("{text:?} is explained by {meaning:?}")))
+}
+
 /// Whether a fault has this line and status. Its number and name are those of its explanation, and it names a place
-/// where that says how.
-fn says(
-    rt: &impl Abort,
+/// where that says how. The number is added to the others.
+fn has_line(
     alloc: Global,
     fault: &Fault,
     code: u8,
     text: &str,
     numbers: &mut Vec<u32>,
 ) -> Result<(), Fail> {
-    let line = format!(in alloc; "sdfw: {text}\n")?;
-    assert_eq!(rt;
-        (fault_text(alloc, fault)?.as_str(), status(fault)),
-        (line.as_str(), code)
-    );
-    let number = match text.split(' ').next().map(|word| word.parse::<u32>()) {
-        Some(Ok(number)) => number,
-        _ => 0,
-    };
-    let meaning = explained(alloc, number)?;
-    let first = text.split('\n').next();
-    let begins = meaning.as_str().split('\n').next();
-    match (first, begins) {
-        (Some(first), Some(begins)) => {
-            assert!(rt; first.starts_with(begins), "{text}");
-            assert_eq!(rt;
-                first.len() > begins.len(),
-                meaning.contains("\nwhere: "),
-                "{text}"
-            );
-        }
-        _ => assert!(rt; false, "{text}"),
+    numbers.push(number_of(text))?;
+    let wanted = format!(in alloc; "{code} sdfw: {text}\n")?;
+    row_says(text, fault_told(alloc, fault), &wanted)?;
+    is_explained(alloc, text)
+}
+
+/// The same of a fault that is given.
+pub(crate) fn given(
+    alloc: Global,
+    fault: Fault,
+    code: u8,
+    text: &str,
+    numbers: &mut Vec<u32>,
+) -> Result<(), Fail> {
+    has_line(alloc, &fault, code, text, numbers)
+}
+
+/// How far an actor of a period of two firings came.
+fn progress(alloc: Global, name: &str, done: u32, short: Option<usize>) -> Result<Progress, Fail> {
+    Ok(Progress {
+        name: text(alloc, name)?,
+        done,
+        of: 2,
+        short,
+    })
+}
+
+fn stuck(alloc: Global) -> Result<Fault, Fail> {
+    let mut actors = Vec::new(alloc);
+    actors.push(progress(alloc, "in", 2, None)?)?;
+    actors.push(progress(alloc, "add", 0, Some(4))?)?;
+    Ok(Fault::Deadlock(Stalled { actors }))
+}
+
+fn nets(alloc: Global, numbers: &mut Vec<u32>) -> Result<(), Fail> {
+    for (fault, text) in NETS {
+        given(
+            alloc,
+            Fault::from(FileFault::from(*fault)),
+            3,
+            text,
+            numbers,
+        )?;
     }
-    Ok(numbers.push(number)?)
+    Ok(())
+}
+
+fn tables(alloc: Global, numbers: &mut Vec<u32>) -> Result<(), Fail> {
+    for (fault, text) in TABLES {
+        given(alloc, Fault::from(*fault), 3, text, numbers)?;
+    }
+    Ok(())
+}
+
+fn sounds(alloc: Global, numbers: &mut Vec<u32>) -> Result<(), Fail> {
+    for (fault, text) in SOUNDS {
+        given(alloc, Fault::Wav(*fault), 4, text, numbers)?;
+    }
+    Ok(())
+}
+
+fn runs(alloc: Global, numbers: &mut Vec<u32>) -> Result<(), Fail> {
+    for (fault, code, text) in RUNS {
+        given(alloc, Fault::from(*fault), *code, text, numbers)?;
+    }
+    Ok(())
 }
 
 /// The program's own faults.
-fn own_faults(alloc: Global) -> Result<Vec<(Fault, u8, &'static str)>, Fail> {
-    let mut actors = Vec::new(alloc);
-    for (name, done, short) in [("in", 2, None), ("add", 0, Some(4))] {
-        actors.push(Progress {
-            name: String::from_str(alloc, name)?,
-            done,
-            of: 2,
-            short,
-        })?;
-    }
+fn own_faults(alloc: Global, numbers: &mut Vec<u32>) -> Result<(), Fail> {
+    given(alloc, Fault::OutOfMemory, 6, "1 OutOfMemory", numbers)?;
+    let words = Fault::Words(WordFault::OutOfMemory);
+    given(alloc, words, 6, "1 OutOfMemory", numbers)?;
+    given(
+        alloc,
+        Fault::BlockingFactor,
+        3,
+        "11 BlockingFactor",
+        numbers,
+    )?;
+    given(alloc, Fault::WorkerCount, 3, "12 WorkerCount", numbers)?;
+    given(
+        alloc,
+        Fault::ChannelsMissing,
+        4,
+        "59 ChannelsMissing",
+        numbers,
+    )?;
+    given(alloc, Fault::RateNotWhole, 4, "60 RateNotWhole", numbers)
+}
+
+/// Faults of devices.
+fn devices(alloc: Global, numbers: &mut Vec<u32>) -> Result<(), Fail> {
+    let memory = Fault::from(WavFault::OutOfMemory);
+    given(alloc, memory, 6, "1 OutOfMemory", numbers)?;
+    given(alloc, Fault::from(WavFault::Read), 5, "47 Read", numbers)?;
+    given(alloc, Fault::from(WavFault::Write), 5, "48 Write", numbers)
+}
+
+/// Deadlocks, with no actors and with two.
+fn deadlocks(alloc: Global, numbers: &mut Vec<u32>) -> Result<(), Fail> {
     let none = Stalled {
         actors: Vec::new(alloc),
     };
-    let stuck = Stalled { actors };
-    Ok(Vec::from_array(
+    given(alloc, Fault::Deadlock(none), 3, "10 Deadlock", numbers)?;
+    given(
         alloc,
-        [
-            (Fault::OutOfMemory, 6, "1 OutOfMemory"),
-            (Fault::Words(WordFault::OutOfMemory), 6, "1 OutOfMemory"),
-            (Fault::Deadlock(none), 3, "10 Deadlock"),
-            (
-                Fault::Deadlock(stuck),
-                3,
-                "10 Deadlock\nin 2 of 2\nadd 0 of 2 short link 4",
-            ),
-            (Fault::BlockingFactor, 3, "11 BlockingFactor"),
-            (Fault::WorkerCount, 3, "12 WorkerCount"),
-            (Fault::from(WavFault::OutOfMemory), 6, "1 OutOfMemory"),
-            (Fault::from(WavFault::Read), 5, "47 Read"),
-            (Fault::from(WavFault::Write), 5, "48 Write"),
-            (Fault::ChannelsMissing, 4, "59 ChannelsMissing"),
-            (Fault::RateNotWhole, 4, "60 RateNotWhole"),
-        ],
-    )?)
+        stuck(alloc)?,
+        3,
+        "10 Deadlock\nin 2 of 2\nadd 0 of 2 short link 4",
+        numbers,
+    )
 }
 
-fn text(alloc: Global, text: &str) -> Result<String, Fail> {
-    Ok(String::from_str(alloc, text)?)
-}
-
-/// A place in a coefficient file.
-fn file(alloc: Global) -> Result<Place, Fail> {
-    Ok(Place::File(text(alloc, "a.toml")?))
-}
-
-/// Documents: status 3.
-fn documents(alloc: Global) -> Result<Vec<(DocumentFault, &'static str)>, Fail> {
-    Ok(Vec::from_array(
-        alloc,
-        [
-            (DocumentFault::ActorCount, "2 ActorCount"),
-            (DocumentFault::ChannelCount, "3 ChannelCount"),
-            (
-                DocumentFault::KitValue(Place::Top, "format"),
-                "28 KitValue top key format",
-            ),
-            (
-                DocumentFault::KitValue(Place::Actor(1), "gain"),
-                "28 KitValue actor 1 key gain",
-            ),
-            (
-                DocumentFault::KitValue(Place::Link(2), "initial"),
-                "28 KitValue link 2 key initial",
-            ),
-            (
-                DocumentFault::KitValue(file(alloc)?, "taps"),
-                "28 KitValue file a.toml key taps",
-            ),
-            (DocumentFault::NotToml(Place::Top), "49 NotToml top"),
-            (
-                DocumentFault::NotToml(file(alloc)?),
-                "49 NotToml file a.toml",
-            ),
-            (DocumentFault::Format(Place::Top), "50 Format top"),
-            (DocumentFault::Format(file(alloc)?), "50 Format file a.toml"),
-            (
-                DocumentFault::UnknownKey(Place::Top, text(alloc, "a")?),
-                "51 UnknownKey top key a",
-            ),
-            (
-                DocumentFault::UnknownKey(Place::Link(3), text(alloc, "")?),
-                "51 UnknownKey link 3 key ",
-            ),
-            (
-                DocumentFault::UnknownKey(file(alloc)?, text(alloc, "\n")?),
-                "51 UnknownKey file a.toml key \\u{a}",
-            ),
-            (
-                DocumentFault::MissingKey(Place::Top, "format"),
-                "52 MissingKey top key format",
-            ),
-            (
-                DocumentFault::MissingKey(Place::Actor(63), "kind"),
-                "52 MissingKey actor 63 key kind",
-            ),
-            (
-                DocumentFault::MissingKey(Place::Link(255), "to"),
-                "52 MissingKey link 255 key to",
-            ),
-            (
-                DocumentFault::MissingKey(file(alloc)?, "taps"),
-                "52 MissingKey file a.toml key taps",
-            ),
-            (
-                DocumentFault::WrongType(Place::Top, "actor"),
-                "53 WrongType top key actor",
-            ),
-            (
-                DocumentFault::WrongType(Place::Actor(4), "gain"),
-                "53 WrongType actor 4 key gain",
-            ),
-            (
-                DocumentFault::WrongType(Place::Link(5), "from"),
-                "53 WrongType link 5 key from",
-            ),
-            (
-                DocumentFault::WrongType(file(alloc)?, "shift"),
-                "53 WrongType file a.toml key shift",
-            ),
-            (
-                DocumentFault::BadName(Place::Actor(6), "name"),
-                "54 BadName actor 6 key name",
-            ),
-            (
-                DocumentFault::BadName(Place::Actor(7), "file"),
-                "54 BadName actor 7 key file",
-            ),
-            (DocumentFault::NameTwice(8), "55 NameTwice actor 8"),
-            (DocumentFault::UnknownKind(9), "56 UnknownKind actor 9"),
-            (
-                DocumentFault::BadPort(10, "from"),
-                "57 BadPort link 10 key from",
-            ),
-            (
-                DocumentFault::BadPort(11, "to"),
-                "57 BadPort link 11 key to",
-            ),
-            (
-                DocumentFault::NoFile(text(alloc, "a.toml")?),
-                "58 NoFile file a.toml",
-            ),
-        ],
-    )?)
+/// The numbers from 1 to 63 that are not among these.
+fn others(alloc: Global, numbers: &[u32]) -> Result<String, Fail> {
+    let mut others = Vec::new(alloc);
+    for number in 1..=63u32 {
+        if !numbers.contains(&number) {
+            others.push(number)?;
+        }
+    }
+    Ok(format!(in alloc; "{:?}", others.as_slice())?)
 }
 
 /// A fault without its line's end, or with another's number, is refused here.
@@ -328,29 +310,15 @@ fn documents(alloc: Global) -> Result<Vec<(DocumentFault, &'static str)>, Fail> 
 fn each_fault_has_its_line(rt: HostRuntime) -> Result<(), Fail> {
     let alloc = rt.alloc();
     let mut numbers = Vec::new(alloc);
-    for (fault, text) in NETS {
-        let fault = Fault::from(FileFault::from(fault));
-        says(&rt, alloc, &fault, 3, text, &mut numbers)?;
-    }
-    for (fault, text) in TABLES {
-        says(&rt, alloc, &Fault::from(fault), 3, text, &mut numbers)?;
-    }
-    for (fault, text) in SOUNDS {
-        says(&rt, alloc, &Fault::Wav(fault), 4, text, &mut numbers)?;
-    }
-    for (fault, code, text) in RUNS {
-        says(&rt, alloc, &Fault::from(fault), code, text, &mut numbers)?;
-    }
-    for (fault, text) in documents(alloc)? {
-        let fault = Fault::File(FileFault::Document(fault));
-        says(&rt, alloc, &fault, 3, text, &mut numbers)?;
-    }
-    for (fault, code, text) in own_faults(alloc)? {
-        says(&rt, alloc, &fault, code, text, &mut numbers)?;
-    }
-    for number in 1..=63u32 {
-        // 61 was answered by earlier versions alone.
-        assert_eq!(rt; numbers.contains(&number), number != 61, "{number}");
-    }
-    Ok(())
+    nets(alloc, &mut numbers)?;
+    tables(alloc, &mut numbers)?;
+    sounds(alloc, &mut numbers)?;
+    runs(alloc, &mut numbers)?;
+    documents(alloc, &mut numbers)?;
+    other_documents(alloc, &mut numbers)?;
+    own_faults(alloc, &mut numbers)?;
+    devices(alloc, &mut numbers)?;
+    deadlocks(alloc, &mut numbers)?;
+    // 61 was answered by earlier versions alone.
+    says(others(alloc, &numbers), "[61]")
 }
