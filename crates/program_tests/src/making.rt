@@ -9,7 +9,7 @@ use std::test::Fail;
 use std::thread::Threads;
 
 /// The exit status of a line, and behind it what stands on standard output, on standard error and in files.
-fn made<T: Threads + AllocGlobal + Sync>(rt: &T, line: &[&str]) -> Result<String, Fail> {
+pub(crate) fn made<T: Threads + AllocGlobal + Sync>(rt: &T, line: &[&str]) -> Result<String, Fail> {
     let alloc = rt.alloc();
     let written = RefCell::new(Vec::new(alloc));
     let world = World {
