@@ -8,6 +8,8 @@
 #[cfg(test)]
 mod converters;
 #[cfg(test)]
+mod fault_texts;
+#[cfg(test)]
 mod stages;
 #[cfg(test)]
 mod taps;

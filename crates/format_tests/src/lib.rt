@@ -7,6 +7,8 @@
 #![tactic(auto)]
 
 #[cfg(test)]
+mod chunk_pieces;
+#[cfg(test)]
 mod coefficient_files;
 #[cfg(test)]
 mod designs;

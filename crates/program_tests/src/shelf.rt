@@ -54,6 +54,19 @@ actor = [{ name = "in", kind = "input", channel = 0 }, { name = "less", kind = "
     { name = "out", kind = "output", channel = 0 }]
 link = [{ from = "in", to = "less" }, { from = "less", to = "out" }]"#;
 
+/// A factor that is too great.
+const WIDE: &str =
+    "format = 1\nlink = []\n[[actor]]\nname = \"half\"\nkind = \"fir\"\nup = 147\nshift = 0\ntaps = [1]\n";
+
+/// An actor on the fourth processor.
+const FAR: &str = r#"format = 1
+actor = [{ name = "in", kind = "input", channel = 0, processor = 3 },
+    { name = "out", kind = "output", channel = 0, processor = 0 }]
+link = [{ from = "in", to = "out" }]"#;
+
+/// Taps, and a key that none has.
+const ODD: &str = "format = 1\nvalues = [1]\ntap = 1\n";
+
 pub(crate) const TAPS: &str = "format = 1\nvalues = [1]\n";
 
 /// The same taps in a file that is longer than the graph file.
@@ -66,7 +79,7 @@ values = [1]
 ";
 
 /// The graph files and coefficient files of the tests.
-const TEXTS: [(&str, &str); 15] = [
+const TEXTS: [(&str, &str); 20] = [
     ("plain.toml", PLAIN),
     ("-", PLAIN),
     ("begun.toml", BEGUN),
@@ -80,6 +93,11 @@ const TEXTS: [(&str, &str); 15] = [
     ("filtered.toml", FILTERED),
     ("one.toml", TAPS),
     ("full/graph.toml", PLAIN),
+    ("begun/stage1.toml", TAPS),
+    ("wide.toml", WIDE),
+    ("far.toml", FAR),
+    ("odd/filtered.toml", FILTERED),
+    ("odd/one.toml", ODD),
     ("padded/filtered.toml", FILTERED),
     ("padded/one.toml", PADDED),
 ];
@@ -155,6 +173,10 @@ impl<'a> Storage for Shelf<'a> {
 
     fn only_path(&self, alloc: Global, path: &str) -> io::Result<PathBuf> {
         self.open(path)?;
-        Ok(Path::new(path).to_path_buf(alloc)?)
+        let plain = match path.strip_prefix("./") {
+            Some(plain) => plain,
+            None => path,
+        };
+        Ok(Path::new(plain).to_path_buf(alloc)?)
     }
 }

@@ -8,13 +8,19 @@
 #[cfg(test)]
 mod by_hand;
 #[cfg(test)]
+mod crowds;
+#[cfg(test)]
 mod disturbed;
 #[cfg(test)]
 mod faults;
 #[cfg(test)]
 mod feeds;
 #[cfg(test)]
+mod gate_by_hand;
+#[cfg(test)]
 mod kits;
+#[cfg(test)]
+mod long_runs;
 #[cfg(test)]
 mod meetings;
 #[cfg(test)]

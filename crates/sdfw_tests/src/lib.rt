@@ -23,7 +23,11 @@ mod faults;
 #[cfg(test)]
 mod lines;
 #[cfg(test)]
+mod long_sounds;
+#[cfg(test)]
 mod meetings;
+#[cfg(test)]
+mod more_arguments;
 #[cfg(test)]
 mod pieces;
 #[cfg(test)]
@@ -36,6 +40,10 @@ mod running;
 mod runs;
 #[cfg(test)]
 mod schedules;
+#[cfg(test)]
+mod short_sounds;
+#[cfg(test)]
+mod small_patience;
 #[cfg(test)]
 mod texts;
 #[cfg(test)]
