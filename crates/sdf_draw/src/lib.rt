@@ -16,8 +16,6 @@ pub mod graphviz;
 mod layout;
 pub mod page;
 mod ports;
-#[cfg(test)]
-mod tests;
 mod texts;
 mod timed;
 
