@@ -1,0 +1,104 @@
+-- Where the boxes of actors stand, and which way the arrows of links go.
+use Rattle.std.specs.Prelude.{◌≡◌, ℕ, ◌+◌, ◌*◌, ◌/◌, ◌<◌, ◌≤◌, ◌⊎◌, ◌==◌, if◌then◌else◌, List, length, take}
+use Rattle.std.specs.Prelude.{slice_index}
+use Rattle.std.specs.Prelude.{slice_index_or, max}
+use Rattle.std.specs.List.{sum_by}
+use Rattle.sdf_actor.specs.Nets.{wire, node, inputs_of, outputs_of}
+use Rattle.sdf_kit.specs.Kit.{kit_steps}
+use Rattle.sdf_file.specs.Designs.{DesignValue}
+use Rattle.sdf_process.specs.Placements.{rates_of}
+use Rattle.sdf_draw.specs.declared.layout.TheConstants.{WIDTH, PITCH, GAP, PORT, MARGIN, LANE, HEAD}
+use Rattle.sdf_draw.specs.declared.layout.Place.{Place}
+use Rattle.sdf_draw.specs.declared.layout.Route.{Route}
+use Rattle.sdf_draw.specs.declared.layout.Route.TheVariants.{Across, Above, Below}
+use Rattle.sdf_draw.specs.declared.arrows.Spot.{Spot}
+use Rattle.sdf_draw.specs.Depths.{AreDepths}
+
+abbrev pub no_place : Place
+no_place = record { depth = 0; y = 0; height = 0 }
+
+abbrev pub place : List Place → ℕ → Place
+place ps a = slice_index_or ps a no_place
+
+-- where a box begins from the left
+abbrev pub left_of : Place → ℕ
+left_of p = PITCH * p.depth
+
+-- and where it ends
+abbrev pub right_of : Place → ℕ
+right_of p = left_of p + WIDTH
+
+-- where it ends from above, and half way down
+abbrev pub bottom_of : Place → ℕ
+bottom_of p = p.y + p.height
+
+abbrev pub middle_of : Place → ℕ
+middle_of p = p.y + p.height / 2
+
+-- the room that a box takes in its column where that is the one of this depth
+abbrev pub room_in : ℕ → Place → ℕ
+room_in depth p = if p.depth == depth then p.height + GAP else 0
+
+-- and of all boxes together
+abbrev pub stacked : List Place → ℕ → ℕ
+stacked ps depth = sum_by (room_in depth) ps
+
+-- as high as its ports are at the side with more of them
+abbrev pub height_of : DesignValue → ℕ → ℕ
+height_of d a =
+    PORT * max (max (inputs_of kit_steps (node d.net a)) (outputs_of kit_steps (node d.net a))) 1 + MARGIN
+
+-- the box of actor a: in the column of its depth, below those of earlier actors there
+pub record IsPlaced (d : DesignValue) (depths : List ℕ) (top : ℕ) (ps : List Place) (a : ℕ) : Type 0 where
+  pub depth : (place ps a).depth ≡ slice_index depths a
+  pub y : (place ps a).y ≡ top + stacked (take a ps) (slice_index depths a)
+  pub height : (place ps a).height ≡ height_of d a
+
+-- a box for each actor, in order
+pub record ArePlaces (d : DesignValue) (depths : List ℕ) (top : ℕ) (ps : List Place) : Type 0 where
+  pub all : length ps ≡ length d.net.nodes
+  pub each : (a : ℕ) → a < length ps → IsPlaced d depths top ps a
+
+-- the one box is above the other or at its left, with space between
+abbrev pub IsClear : Place → Place → Type 0
+IsClear p q = (right_of p < left_of q) ⊎ (bottom_of p < q.y)
+
+-- no two boxes overlap
+abbrev pub AreApart : List Place → Type 0
+AreApart ps = (a b : ℕ) → a < b → b < length ps → IsClear (place ps a) (place ps b) ⊎ IsClear (place ps b) (place ps a)
+
+-- the way of an arrow between two depths: one that leads back goes below the boxes, one to the next depth across the
+-- gap, and one that goes farther above the boxes
+abbrev pub IsRoute : ℕ → ℕ → Route → Type 0
+IsRoute from to Across = to ≡ from + 1
+IsRoute from to (Above lane) = from + 1 < to
+IsRoute from to (Below lane) = to ≤ from
+
+-- there are so many lanes
+abbrev pub IsWithin : ℕ → ℕ → Route → Type 0
+IsWithin above below Across = Unit {0}
+IsWithin above below (Above lane) = lane < above
+IsWithin above below (Below lane) = lane < below
+
+abbrev pub route : List Route → ℕ → Route
+route rs c = slice_index_or rs c Across
+
+-- an arrow for each link, in order, each in one of the lanes of its side
+pub record AreRoutes (d : DesignValue) (depths : List ℕ) (above below : ℕ) (rs : List Route) : Type 0 where
+  pub all : length rs ≡ length d.net.wires
+  pub each : (c : ℕ) → c < length rs → IsRoute (slice_index depths (wire d.net c).from.0)
+      (slice_index depths (wire d.net c).to.0) (route rs c)
+  pub within : (c : ℕ) → c < length rs → IsWithin above below (route rs c)
+
+-- the layout of a design whose period has this order of firings: the highest boxes stand below the lanes above them
+pub record IsLayout (d : DesignValue) (order : List ℕ) (ps : List Place) (above below : ℕ) (rs : List Route) : Type 0
+  where
+    pub depths : List ℕ
+    pub are : AreDepths (rates_of d) order depths
+    pub boxes : ArePlaces d depths (HEAD + LANE * above + GAP) ps
+    pub apart : AreApart ps
+    pub arrows : AreRoutes d depths above below rs
+
+-- a point is in a picture of any design
+abbrev pub IsNear : Spot → Type 0
+IsNear s = (s.x < 10000000000000) × (s.y < 10000000000000)

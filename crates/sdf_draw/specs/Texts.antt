@@ -1,0 +1,33 @@
+-- Parts of the texts.
+use Rattle.std.specs.Prelude.{ℕ, zero, suc, List, [], ◌++◌, ◌==◌, if◌then◌else◌, length, sum, codes, decimal}
+use Rattle.std.specs.Prelude.{encode_utf8}
+use Rattle.std.specs.Prelude.{slice_index_or}
+use Rattle.std.specs.List.{flat_map}
+use Rattle.std.specs.Str.{chars}
+use Rattle.sdf_file.specs.Designs.{DesignValue}
+
+-- the texts of the first n
+abbrev pub texts_to : (ℕ → List ℕ) → ℕ → List ℕ
+texts_to text zero = []
+texts_to text (suc n) = texts_to text n ++ text n
+
+-- a text and a number
+abbrev pub number_text : List ℕ → ℕ → List ℕ
+number_text word n = word ++ decimal n
+
+-- a character as it stands in a document of marks: & < > " and ' by their names
+abbrev pub escaped_char : ℕ → List ℕ
+escaped_char c =
+    if c == 38 then codes "&amp;" else (if c == 60 then codes "&lt;" else (if c == 62 then codes "&gt;"
+    else (if c == 34 then codes "&quot;" else (if c == 39 then codes "&#39;" else encode_utf8 c))))
+
+abbrev pub escaped : List ℕ → List ℕ
+escaped text = flat_map escaped_char (chars text)
+
+unfoldable pub name_text : DesignValue → ℕ → List ℕ
+name_text d a = escaped (slice_index_or d.names a [])
+
+-- what firings move whose rates are these: the one rate, or what a cycle of so many moves
+unfoldable pub rate_text : List ℕ → List ℕ
+rate_text rates =
+    number_text [] (sum rates) ++ (if length rates == 1 then [] else number_text (codes "/") (length rates))

@@ -1,0 +1,112 @@
+//! The bars of a table against time.
+
+ghost use Rattle.std.specs.Prelude.{◌≡◌, ℕ, ◌++◌, ◌<◌, length, slice_index, IfOk, Some};
+ghost use Rattle.std.specs.List.{All};
+ghost use Rattle.sdf_prec.specs.declared.firing.Firing.{Firing};
+ghost use Rattle.sdf_prec.specs.Tables.{row, cell};
+ghost use Rattle.sdf_times.specs.Times.{start_in};
+ghost use Rattle.sdf_draw.specs.Bars.{IsDrawable, bar_of, goes_on, two_bars, with_bar, with_cell, bars_to};
+
+use sdf_prec::{Firing, Table};
+use sdf_times::Times;
+use std::alloc::{AllocError, Global};
+
+/// A firing of an actor, or several back to back, from its start to its end.
+#[derive(Clone, Copy, Debug, PartialEq, Eq)]
+pub(crate) struct Bar {
+    pub(crate) actor: usize,
+    pub(crate) start: u64,
+    pub(crate) end: u64,
+}
+
+impl Bar {
+    /// Whether another bar is of the same actor and begins where it ends.
+    fn goes_on(self, other: Bar) -> bool
+        ensures { result ≡ goes_on self other }
+    {
+        self.actor == other.actor && self.end == other.start
+    }
+}
+
+/// The bar of a firing.
+fn bar_of(times: &Times, costs: &[u32], firing: Firing) -> Bar
+    requires { IsDrawable costs.now times.now.starts firing }
+    ensures { result ≡ bar_of (slice_index costs.now) (start_in times.now.starts) firing }
+{
+    let start = times.start(firing);
+    Bar {
+        actor: firing.actor,
+        start,
+        end: start + u64::from(costs[firing.actor]),
+    }
+}
+
+/// Adds two bars, as one where bars are joined and the second goes on with the first.
+fn add_two(bars: &mut Vec<Bar>, joined: bool, last: Bar, bar: Bar) -> Result<(), AllocError>
+    ensures { IfOk result (λ _. bars.new.items ≡ bars.old.items ++ two_bars joined last bar) }
+{
+    if joined && last.goes_on(bar) {
+        let Bar { actor, start, .. } = last;
+        bars.push(Bar {
+            actor,
+            start,
+            end: bar.end,
+        })?;
+    } else {
+        bars.push(last)?;
+        bars.push(bar)?;
+    }
+    Ok(())
+}
+
+/// Adds a bar, or lengthens the last one where bars are joined and the new one goes on with it.
+#[tactic(auto, using(crate::proofs::Joined::with_bar_last))]
+fn add_bar(bars: &mut Vec<Bar>, joined: bool, bar: Bar) -> Result<(), AllocError>
+    ensures { IfOk result (λ _. bars.new.items ≡ with_bar joined bars.old.items bar) }
+{
+    match bars.pop() {
+        Some(last) => add_two(bars, joined, last, bar),
+        None => Ok(bars.push(bar)?),
+    }
+}
+
+/// Adds the bar of the firing in a cell, where there is one.
+fn add_cell(
+    bars: &mut Vec<Bar>,
+    joined: bool,
+    times: &Times,
+    costs: &[u32],
+    cell: Option<Firing>,
+) -> Result<(), AllocError>
+    requires { (f : Firing) → cell ≡ Some f → IsDrawable costs.now times.now.starts f }
+    ensures { IfOk result (λ _. bars.new.items ≡ with_cell joined
+        (bar_of (slice_index costs.now) (start_in times.now.starts)) bars.old.items cell) }
+{
+    match cell {
+        Some(firing) => add_bar(bars, joined, bar_of(times, costs, firing)),
+        None => Ok(()),
+    }
+}
+
+/// The bars of a column.
+pub(crate) fn bars_in(
+    alloc: Global,
+    table: &Table,
+    times: &Times,
+    costs: &[u32],
+    column: usize,
+    joined: bool,
+) -> Result<Vec<Bar>, AllocError>
+    requires wide { (i : ℕ) → i < length table.now.rows → column < length (row table.now.rows i) }
+    requires each { (i : ℕ) (f : Firing) → cell table.now.rows i column ≡ Some f →
+        IsDrawable costs.now times.now.starts f }
+    ensures actors { IfOk result (λ v. All (λ b. b.actor < length costs.now) v.items) }
+    ensures are { IfOk result (λ v. v.items ≡ bars_to joined
+        (bar_of (slice_index costs.now) (start_in times.now.starts)) table.now.rows column (length table.now.rows)) }
+{
+    let mut bars = Vec::new(alloc);
+    for i in 0..table.rows() {
+        add_cell(&mut bars, joined, times, costs, table.row(i)[column])?;
+    }
+    Ok(bars)
+}

@@ -1,0 +1,173 @@
+//! The text of a table against time.
+
+ghost use Rattle.std.specs.Prelude.{◌≡◌, ℕ, ◌<◌, ◌≤◌, length};
+ghost use Rattle.std.specs.List.{All};
+ghost use Rattle.sdf_limits.specs.declared.TheConstants.{MOST_WORKERS};
+ghost use Rattle.sdf_prec.specs.declared.firing.Firing.{Firing};
+ghost use Rattle.sdf_prec.specs.Tables.{row};
+ghost use Rattle.sdf_times.specs.Times.{IsInTable};
+ghost use Rattle.sdf_draw.specs.Bars.{IsDrawable, AreDrawable, scaled};
+
+use crate::bars::{Bar, bars_in};
+use crate::texts::{COLOURS, push_name, push_number};
+use crate::timed::Timed;
+use sdf_file::Design;
+use sdf_prec::Table;
+use std::alloc::{AllocError, Global};
+
+/// How wide the makespan is.
+pub(crate) const CHART: u64 = 1100;
+
+/// From one worker's lane to the next.
+pub(crate) const ROW: u64 = 30;
+
+/// More bars than these are joined.
+const MOST_BARS: usize = 400;
+
+/// How far from the left a time stands, where the makespan is as wide as the chart.
+fn scaled(time: u64, makespan: u64) -> u128
+    ensures { result ≡ scaled time makespan }
+{
+    (u128::from(time) * u128::from(CHART))
+        .checked_div(u128::from(makespan))
+        .unwrap_or(0)
+}
+
+/// Adds a bar: its place and its width are times.
+fn push_bar(text: &mut String, design: &Design, worker: usize, bar: Bar) -> Result<(), AllocError>
+    requires worker { worker < MOST_WORKERS }
+    requires actor { bar.actor < length design.now.net.nodes }
+{
+    push_number(text, "<rect class='f", (bar.actor % COLOURS) as u64)?;
+    push_number(text, "' x='", bar.start)?;
+    push_number(text, "' width='", bar.end.saturating_sub(bar.start))?;
+    push_number(text, "' y='", ROW * worker as u64 + 4)?;
+    text.push_str("' height='22'><title>")?;
+    push_name(text, design, bar.actor)?;
+    push_number(text, " ", bar.start)?;
+    push_number(text, " to ", bar.end)?;
+    text.push_str("</title></rect>\n")
+}
+
+/// Adds these bars of a worker.
+fn push_bars(
+    text: &mut String,
+    design: &Design,
+    worker: usize,
+    bars: &[Bar],
+) -> Result<(), AllocError>
+    requires worker { worker < MOST_WORKERS }
+    requires actors { All (λ b. b.actor < length design.now.net.nodes) bars.now }
+{
+    for bar in bars {
+        push_bar(text, design, worker, *bar)?;
+    }
+    Ok(())
+}
+
+/// Adds the bars of a worker.
+fn push_lane(
+    alloc: Global,
+    text: &mut String,
+    design: &Design,
+    table: &Table,
+    timed: &Timed,
+    worker: usize,
+) -> Result<(), AllocError>
+    requires few { worker < MOST_WORKERS }
+    requires wide { (i : ℕ) → i < length table.now.rows → worker < length (row table.now.rows i) }
+    requires each { (f : Firing) → IsInTable table.now.rows f →
+        IsDrawable design.now.costs timed.now.times.starts f }
+{
+    let _ = design.net();
+    let joined = table.order().len() > MOST_BARS;
+    let bars = bars_in(alloc, table, &timed.times, design.costs(), worker, joined)?;
+    push_bars(text, design, worker, bars.as_slice())
+}
+
+/// Adds the bars of all workers, in units of time.
+fn push_lanes(
+    alloc: Global,
+    text: &mut String,
+    design: &Design,
+    table: &Table,
+    timed: &Timed,
+    workers: usize,
+) -> Result<(), AllocError>
+    requires few { workers ≤ MOST_WORKERS }
+    requires bars { AreDrawable design.now workers table.now timed.now.times.starts }
+{
+    push_number(text, "<svg preserveAspectRatio='none' width='", CHART)?;
+    push_number(text, "' height='", ROW * workers as u64)?;
+    push_number(text, "' viewBox='0 0 ", timed.makespan)?;
+    push_number(text, " ", ROW * workers as u64)?;
+    text.push_str("'>\n")?;
+    for worker in 0..workers {
+        push_lane(alloc, text, design, table, timed, worker)?;
+    }
+    text.push_str("</svg>\n")
+}
+
+/// Adds the name of a worker's lane, and a line under it.
+fn push_worker(text: &mut String, worker: usize) -> Result<(), AllocError>
+    requires { worker < MOST_WORKERS }
+{
+    let below = ROW * worker as u64 + ROW;
+    push_number(text, "<text class='end' x='-10' y='", below - 10)?;
+    push_number(text, "'>worker ", worker as u64)?;
+    push_number(text, "</text><path class='rule' d='M0 ", below)?;
+    push_number(text, " H", CHART)?;
+    text.push_str("'/>\n")
+}
+
+/// Adds the names of all lanes.
+fn push_workers(text: &mut String, workers: usize) -> Result<(), AllocError>
+    requires { workers ≤ MOST_WORKERS }
+{
+    for worker in 0..workers {
+        push_worker(text, worker)?;
+    }
+    Ok(())
+}
+
+/// Adds the line of the bound, with its number above it.
+fn push_bound(text: &mut String, timed: &Timed, end: u64) -> Result<(), AllocError> {
+    let place = scaled(timed.bound, timed.makespan);
+    write!(text, "<path class='bound' d='M{place} -8 V{end}'/>")?;
+    write!(text, "<text class='end' x='{place}' y='-12'>")?;
+    push_number(text, "bound ", timed.bound)?;
+    text.push_str("</text>\n")
+}
+
+/// Adds the times at the ends.
+fn push_axis(text: &mut String, makespan: u64, end: u64) -> Result<(), AllocError>
+    requires { end < 100000 }
+{
+    push_number(text, "<path class='rule' d='M0 0 V", end)?;
+    push_number(text, " M", CHART)?;
+    push_number(text, " 0 V", end)?;
+    push_number(text, "'/><text y='", end + 16)?;
+    push_number(text, "'>0</text><text class='end' x='", CHART)?;
+    push_number(text, "' y='", end + 16)?;
+    push_number(text, "'>makespan ", makespan)?;
+    text.push_str("</text>\n")
+}
+
+/// Adds a table against time.
+pub(crate) fn push_chart(
+    alloc: Global,
+    text: &mut String,
+    design: &Design,
+    table: &Table,
+    timed: &Timed,
+    workers: usize,
+) -> Result<(), AllocError>
+    requires few { workers ≤ MOST_WORKERS }
+    requires bars { AreDrawable design.now workers table.now timed.now.times.starts }
+{
+    let end = ROW * workers as u64;
+    push_workers(text, workers)?;
+    push_lanes(alloc, text, design, table, timed, workers)?;
+    push_axis(text, timed.makespan, end)?;
+    push_bound(text, timed, end)
+}

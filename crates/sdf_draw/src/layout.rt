@@ -1,0 +1,276 @@
+//! Where the boxes of actors stand, and which way the arrows of links go. All lengths are pixels.
+
+ghost use Rattle.std.specs.Prelude.{◌≡◌, ℕ, ◌+◌, ◌*◌, ◌<◌, ◌≤◌, ◌^◌, length, slice_index, max, IfOk};
+ghost use Rattle.sdf_limits.specs.declared.TheConstants.{MOST_ACTORS, MOST_LINKS, MOST_PERIOD, MOST_PORTS};
+ghost use Rattle.sdf_actor.specs.Nets.{wire};
+ghost use Rattle.sdf_process.specs.Placements.{rates_of};
+ghost use Rattle.sdf_draw.specs.Layouts.{left_of, right_of, bottom_of, middle_of, stacked, place, ArePlaces, IsRoute, IsWithin, AreRoutes, IsLayout};
+
+use crate::depths::depths;
+use crate::ports::{PortCounts, ports_of};
+use sdf_file::Design;
+use std::alloc::{AllocError, Global};
+
+/// The width of a box.
+pub(crate) const WIDTH: u64 = 150;
+
+/// From the left side of a box to that of a box one deeper.
+pub(crate) const PITCH: u64 = 320;
+
+/// The space between a box and the one below it.
+pub(crate) const GAP: u64 = 26;
+
+/// The room of a port at the side of a box.
+pub(crate) const PORT: u64 = 30;
+
+/// The height of a box beside its ports.
+pub(crate) const MARGIN: u64 = 10;
+
+/// From one lane of arrows to the next.
+pub(crate) const LANE: u64 = 10;
+
+/// Where the highest lane is.
+pub(crate) const HEAD: u64 = 60;
+
+/// Where a box stands: its column, how far down it begins, and how high it is.
+#[derive(Clone, Copy, Debug, PartialEq, Eq)]
+pub(crate) struct Place {
+    pub(crate) depth: u32,
+    pub(crate) y: u32,
+    pub(crate) height: u16,
+}
+
+/// Which way an arrow goes: across the gap to the next boxes, in a lane above all boxes or in one below them.
+#[derive(Clone, Copy, Debug, PartialEq, Eq)]
+pub(crate) enum Route {
+    Across,
+    Above(u32),
+    Below(u32),
+}
+
+/// A box for each actor, a route for each link, and how many lanes there are above the boxes and below them.
+#[derive(Drop)]
+pub(crate) struct Layout {
+    pub(crate) places: Vec<Place>,
+    pub(crate) routes: Vec<Route>,
+    pub(crate) above: u32,
+    pub(crate) below: u32,
+}
+
+impl Place {
+    /// Where it begins from the left.
+    pub(crate) fn left(self) -> u64
+        ensures is { result ≡ left_of self }
+        ensures small { result < 1500000000000 }
+    {
+        PITCH * u64::from(self.depth)
+    }
+
+    /// Where it ends.
+    pub(crate) fn right(self) -> u64
+        ensures is { result ≡ right_of self }
+        ensures small { result < 1500000000000 }
+    {
+        self.left() + WIDTH
+    }
+
+    /// Where it begins from above.
+    pub(crate) fn top(self) -> u64
+        ensures { result ≡ self.y }
+    {
+        u64::from(self.y)
+    }
+
+    /// Where it ends.
+    pub(crate) fn bottom(self) -> u64
+        ensures { result ≡ bottom_of self }
+    {
+        self.top() + u64::from(self.height)
+    }
+
+    /// Half way down.
+    pub(crate) fn middle(self) -> u64
+        ensures { result ≡ middle_of self }
+    {
+        self.top() + u64::from(self.height) / 2
+    }
+}
+
+/// The height of a box with so many ports.
+fn height_of(ports: PortCounts) -> u16
+    requires { (ports.inputs ≤ MOST_PORTS) × (ports.outputs ≤ MOST_PORTS) }
+    ensures { result ≡ PORT * max (max ports.inputs ports.outputs) 1 + MARGIN }
+{
+    (PORT * ports.inputs.max(ports.outputs).max(1) as u64 + MARGIN) as u16
+}
+
+/// The room of the boxes of a depth.
+fn stacked(places: &[Place], depth: u32) -> u64
+    requires { length places.now ≤ MOST_ACTORS }
+    ensures is { result ≡ stacked places.now depth }
+    ensures small { result ≤ 100000 * length places.now }
+{
+    let mut room = 0;
+    for place in places {
+        if place.depth == depth {
+            room += u64::from(place.height) + GAP;
+        }
+    }
+    room
+}
+
+/// The boxes, the highest of them at this place from above.
+fn places_of(
+    alloc: Global,
+    design: &Design,
+    depths: &[u32],
+    top: u64,
+) -> Result<Vec<Place>, AllocError>
+    requires all { length depths.now ≡ length design.now.net.nodes }
+    requires few { length design.now.net.nodes ≤ MOST_ACTORS }
+    requires top { top ≤ 100000 }
+    ensures { IfOk result (λ v. ArePlaces design.now depths.now top v.items) }
+{
+    let mut places = Vec::new(alloc);
+    for actor in 0..design.net().len() {
+        let depth = depths[actor];
+        let y = top + stacked(places.as_slice(), depth);
+        let height = height_of(ports_of(design, actor));
+        places.push(Place {
+            depth,
+            y: y as u32,
+            height,
+        })?;
+    }
+    Ok(places)
+}
+
+/// The actors at the ends of a link.
+fn actors_of(design: &Design, link: usize) -> (usize, usize)
+    requires { link < length design.now.net.wires }
+    ensures from { result.0 ≡ (wire design.now.net link).from.0 }
+    ensures to { result.1 ≡ (wire design.now.net link).to.0 }
+    ensures known { (result.0 < length design.now.net.nodes) × (result.1 < length design.now.net.nodes) }
+{
+    let net = design.net();
+    let _ = net.graph();
+    let link = net.link(link);
+    (link.from.0, link.to.0)
+}
+
+/// How many lanes are taken above the boxes and below them.
+#[derive(Clone, Copy)]
+struct Lanes {
+    above: u32,
+    below: u32,
+}
+
+/// The route between two depths where so many lanes are taken, and how many are taken then.
+fn route_between(from: u32, to: u32, lanes: Lanes) -> (Route, Lanes)
+    requires { (lanes.above < MOST_LINKS) × (lanes.below < MOST_LINKS) }
+    ensures is { IsRoute from to result.0 }
+    ensures within { IsWithin result.1.above result.1.below result.0 }
+    ensures above { (lanes.above ≤ result.1.above) × (result.1.above ≤ lanes.above + 1) }
+    ensures below { (lanes.below ≤ result.1.below) × (result.1.below ≤ lanes.below + 1) }
+{
+    if to <= from {
+        let below = lanes.below + 1;
+        (Route::Below(lanes.below), Lanes { below, ..lanes })
+    } else if to - from == 1 {
+        (Route::Across, lanes)
+    } else {
+        let above = lanes.above + 1;
+        (Route::Above(lanes.above), Lanes { above, ..lanes })
+    }
+}
+
+/// The routes of all links, and the lanes that they take.
+fn routes_of(
+    alloc: Global,
+    design: &Design,
+    depths: &[u32],
+) -> Result<(Vec<Route>, Lanes), AllocError>
+    requires all { length depths.now ≡ length design.now.net.nodes }
+    requires few { length design.now.net.wires ≤ MOST_LINKS }
+    ensures is { IfOk result (λ r. AreRoutes design.now depths.now r.1.above r.1.below r.0.items) }
+    ensures few { IfOk result (λ r. (r.1.above ≤ MOST_LINKS) × (r.1.below ≤ MOST_LINKS)) }
+{
+    let mut routes = Vec::new(alloc);
+    let mut lanes = Lanes { above: 0, below: 0 };
+    for link in 0..design.net().channels() {
+        let (from, to) = actors_of(design, link);
+        let (route, taken) = route_between(depths[from], depths[to], lanes);
+        routes.push(route)?;
+        lanes = taken;
+    }
+    Ok((routes, lanes))
+}
+
+/// The layout of a design whose period has this order of firings.
+pub(crate) fn laid_out(
+    alloc: Global,
+    design: &Design,
+    order: &[usize],
+) -> Result<Layout, AllocError>
+    requires known { (i : ℕ) → i < length order.now → slice_index order.now i < (rates_of design.now).actors }
+    requires short { length order.now ≤ MOST_PERIOD }
+    ensures is { IfOk result (λ l. IsLayout design.now order.now l.places.items l.above l.below l.routes.items) }
+    ensures few { IfOk result (λ l. (l.above ≤ MOST_LINKS) × (l.below ≤ MOST_LINKS)) }
+{
+    let graph = design.net().graph();
+    let _ = graph.channels();
+    let depths = depths(alloc, graph, order)?;
+    let (routes, lanes) = routes_of(alloc, design, depths.as_slice())?;
+    let top = HEAD + LANE * u64::from(lanes.above) + GAP;
+    let places = places_of(alloc, design, depths.as_slice(), top)?;
+    Ok(Layout {
+        places,
+        routes,
+        above: lanes.above,
+        below: lanes.below,
+    })
+}
+
+impl Layout {
+    /// Where the lowest box ends, or the highest box may begin where there is none.
+    pub(crate) fn bottom(&self) -> u64
+        ensures below { (a : ℕ) → a < length self.now.places.items →
+            bottom_of (place self.now.places.items a) ≤ result }
+        ensures small { result < 1000000000000 }
+    {
+        let mut most = 0u64;
+        for place in &self.places {
+            most = most.max(u64::from(place.y) + u64::from(place.height));
+        }
+        most
+    }
+
+    /// Where the box farthest to the right ends.
+    pub(crate) fn right(&self) -> u64
+        ensures within { (a : ℕ) → a < length self.now.places.items →
+            right_of (place self.now.places.items a) ≤ result }
+        ensures small { result < 2000000000000 }
+    {
+        let mut most = 0u64;
+        for place in &self.places {
+            most = most.max(place.right());
+        }
+        most
+    }
+
+    /// How far down a lane below the boxes is.
+    pub(crate) fn lane_below(&self, lane: u32) -> u64
+        ensures below { (a : ℕ) → a < length self.now.places.items →
+            bottom_of (place self.now.places.items a) < result }
+        ensures small { result < 2000000000000 }
+    {
+        self.bottom() + GAP + LANE * u64::from(lane)
+    }
+}
+
+/// How far down a lane above the boxes is.
+pub(crate) fn lane_above(lane: u32) -> u64
+    ensures { result ≡ HEAD + LANE * lane }
+{
+    HEAD + LANE * u64::from(lane)
+}

@@ -1,0 +1,131 @@
+//! A design and its schedule as one picture.
+
+ghost use Rattle.std.specs.Prelude.{◌≡◌, ◌<◌, ◌≤◌, length, MatchResult};
+ghost use Rattle.sdf_limits.specs.declared.TheConstants.{MOST_WORKERS};
+ghost use Rattle.sdf_process.specs.Schedules.{IsShowFault};
+ghost use Rattle.sdf_draw.specs.Bars.{AreDrawable};
+ghost use Rattle.sdf_draw.specs.Drawings.{IsDrawing};
+
+use crate::arrows::push_arrows;
+use crate::boxes::push_boxes;
+use crate::chart::{CHART, ROW, push_chart};
+use crate::layout::{Layout, laid_out};
+use crate::texts::push_number;
+use crate::timed::Timed;
+use sdf_file::Design;
+use sdf_options::Options;
+use sdf_prec::Table;
+use sdf_process::Fault;
+use sdf_process::schedule::scheduled;
+use std::alloc::{AllocError, Global};
+
+/// The part left of the first boxes that is shown.
+const LEFT: u64 = 150;
+
+/// Where times begin.
+const ZERO: u64 = 250;
+
+const HEAD_TEXT: &str = "<svg xmlns='http://www.w3.org/2000/svg' font-size='12' \
+    font-family='ui-monospace, Menlo, Consolas, DejaVu Sans Mono, monospace'";
+
+/// The colours, which those that see few colours tell apart, in light and in dark.
+const STYLE: &str = "<style>
+.page{fill:#ffffff}text{fill:#1a1a1a}.soft{fill:#5a5a5a}.mid{text-anchor:middle}.end{text-anchor:end}
+.box{fill:#f3f3f1;stroke-width:2}.way{fill:none;stroke-width:1.4;marker-end:url(#head)}
+.dot{fill:#1a1a1a}.rule{fill:none;stroke:#bdbdbd}.bound{fill:none;stroke:#1a1a1a;stroke-width:1.6;stroke-dasharray:5 3}
+.s0{stroke:#0072b2}.s1{stroke:#d55e00}.s2{stroke:#009e73}.s3{stroke:#cc79a7}.s4{stroke:#e69f00}.s5{stroke:#56b4e9}
+.s6{stroke:#808080}
+.f0{fill:#0072b2}.f1{fill:#d55e00}.f2{fill:#009e73}.f3{fill:#cc79a7}.f4{fill:#e69f00}.f5{fill:#56b4e9}.f6{fill:#808080}
+@media (prefers-color-scheme:dark){.page{fill:#161618}text,.dot{fill:#ececec}.soft{fill:#a8a8a8}.box{fill:#242428}
+.rule{stroke:#55555c}.bound{stroke:#ececec}.s0{stroke:#3d9fdc}.f0{fill:#3d9fdc}}
+</style>
+<defs><marker id='head' viewBox='0 0 8 8' refX='7' refY='4' markerWidth='8' markerHeight='8' \
+markerUnits='userSpaceOnUse' orient='auto'><path class='dot' d='M0 0 L8 4 L0 8 z'/></marker></defs>
+";
+
+/// What the numbers are.
+const LEGEND: &str =
+    "Above an arrow's ends: samples of a firing, as 4 or as 4/16, which is 4 in 16 firings. \
+    Below its end: its capacity. A dot: samples that it begins with. q: firings of a period.";
+
+/// Adds what stands before the picture: it is so wide and so high.
+fn push_head(text: &mut String, width: u64, height: u64) -> Result<(), AllocError> {
+    text.push_str(HEAD_TEXT)?;
+    push_number(text, " width='", width)?;
+    push_number(text, "' height='", height)?;
+    push_number(text, "' viewBox='", LEFT)?;
+    push_number(text, " 0 ", width)?;
+    push_number(text, " ", height)?;
+    text.push_str("'>\n")?;
+    text.push_str(STYLE)?;
+    push_number(text, "<rect class='page' x='", LEFT)?;
+    push_number(text, "' width='", width)?;
+    push_number(text, "' height='", height)?;
+    text.push_str("'/>\n")
+}
+
+fn push_legend(text: &mut String) -> Result<(), AllocError> {
+    push_number(text, "<text class='soft' y='24' x='", LEFT + 20)?;
+    text.push_str("'>")?;
+    text.push_str(LEGEND)?;
+    text.push_str("</text>\n")
+}
+
+/// Where the times begin from above: below the lanes below the boxes.
+fn chart_top(layout: &Layout) -> u64
+    ensures { result < 3000000000000 }
+{
+    layout.lane_below(layout.below) + 80
+}
+
+/// The picture.
+fn picture(
+    alloc: Global,
+    design: &Design,
+    table: &Table,
+    timed: &Timed,
+    layout: &Layout,
+    workers: usize,
+) -> Result<String, AllocError>
+    requires few { workers ≤ MOST_WORKERS }
+    requires boxes { length layout.now.places.items ≡ length design.now.net.nodes }
+    requires routes { length layout.now.routes.items ≡ length design.now.net.wires }
+    requires capacities { length table.now.caps ≡ length design.now.net.wires }
+    requires bars { AreDrawable design.now workers table.now timed.now.times.starts }
+{
+    let top = chart_top(layout);
+    let right = layout.right().max(ZERO + CHART) + 100;
+    let mut text = String::new(alloc);
+    push_head(&mut text, right - LEFT, top + ROW * workers as u64 + 40)?;
+    push_legend(&mut text)?;
+    push_arrows(&mut text, design, layout, table)?;
+    push_boxes(&mut text, design, layout)?;
+    push_number(&mut text, "<g transform='translate(", ZERO)?;
+    push_number(&mut text, ",", top)?;
+    text.push_str(")'>\n")?;
+    push_chart(alloc, &mut text, design, table, timed, workers)?;
+    text.push_str("</g>\n</svg>\n")?;
+    Ok(text)
+}
+
+/// What is drawn of a design by options: the table of its schedule, its times, and the layout of its graph.
+fn drawn(alloc: Global, design: &Design, options: &Options) -> Result<(Table, Timed, Layout), Fault>
+    ensures { MatchResult result (λ p. IsDrawing design.now options.now p.0 p.1 p.2.places.items p.2.above
+        p.2.below p.2.routes.items) (IsShowFault design.now options.now) }
+{
+    let _ = design.net();
+    let (period, table) = scheduled(alloc, design, options)?;
+    let timed = Timed::of(alloc, design, options, &period, &table)?;
+    let layout = laid_out(alloc, design, period.order())?;
+    Ok((table, timed, layout))
+}
+
+/// What the command `draw` prints: one SVG of a design, its actors as boxes and its links as arrows, and below them the
+/// firings of its schedule against time. The tests are those of `schedule`.
+pub fn svg(alloc: Global, design: &Design, options: &Options) -> Result<String, Fault>
+    ensures { MatchResult result (λ s. Unit {0}) (IsShowFault design.now options.now) }
+{
+    let (table, timed, layout) = drawn(alloc, design, options)?;
+    let text = picture(alloc, design, &table, &timed, &layout, options.workers)?;
+    Ok(text)
+}

@@ -1,0 +1,69 @@
+//! The shapes of actors and their ports.
+
+ghost use Rattle.std.specs.Prelude.{◌≡◌, ◌<◌, ◌≤◌, length};
+ghost use Rattle.sdf_limits.specs.declared.TheConstants.{MOST_PORTS};
+ghost use Rattle.sdf_actor.specs.Nets.{node, inputs_of, outputs_of};
+ghost use Rattle.sdf_kit.specs.Kit.{kit_steps};
+
+use sdf_actor::Node;
+use sdf_file::Design;
+use sdf_kit::Kit;
+
+/// What is drawn for an actor.
+#[derive(Clone, Copy, Debug, PartialEq, Eq)]
+pub(crate) enum Shape {
+    Source,
+    Sink,
+    Filter,
+    Plain,
+}
+
+/// How many ports an actor has.
+#[derive(Clone, Copy)]
+pub(crate) struct PortCounts {
+    pub(crate) inputs: usize,
+    pub(crate) outputs: usize,
+}
+
+pub(crate) fn shape_of(design: &Design, actor: usize) -> Shape
+    requires { actor < length design.now.net.nodes }
+{
+    match design.net().node(actor) {
+        Node::Source { .. } => Shape::Source,
+        Node::Sink { .. } => Shape::Sink,
+        Node::Inner(Kit::Fir(_)) => Shape::Filter,
+        Node::Inner(_) => Shape::Plain,
+    }
+}
+
+/// How many ports one of the kinds has.
+fn kit_ports(kit: &Kit) -> PortCounts
+    ensures inputs { result.inputs ≡ kit_steps.inputs kit.now }
+    ensures outputs { result.outputs ≡ kit_steps.outputs kit.now }
+    ensures few { (result.inputs ≤ MOST_PORTS) × (result.outputs ≤ MOST_PORTS) }
+{
+    let ports = kit.ports();
+    PortCounts {
+        inputs: ports.inputs.count(),
+        outputs: ports.outputs.count(),
+    }
+}
+
+pub(crate) fn ports_of(design: &Design, actor: usize) -> PortCounts
+    requires { actor < length design.now.net.nodes }
+    ensures inputs { result.inputs ≡ inputs_of kit_steps (node design.now.net actor) }
+    ensures outputs { result.outputs ≡ outputs_of kit_steps (node design.now.net actor) }
+    ensures few { (result.inputs ≤ MOST_PORTS) × (result.outputs ≤ MOST_PORTS) }
+{
+    match design.net().node(actor) {
+        Node::Source { .. } => PortCounts {
+            inputs: 0,
+            outputs: 1,
+        },
+        Node::Sink { .. } => PortCounts {
+            inputs: 1,
+            outputs: 0,
+        },
+        Node::Inner(kit) => kit_ports(kit),
+    }
+}

@@ -1,0 +1,77 @@
+//! Parts of the texts.
+
+ghost use Rattle.std.specs.Prelude.{◌≡◌, ◌++◌, ◌<◌, ◌≤◌, length, string_bytes, sum, OnOk};
+ghost use Rattle.sdf_limits.specs.declared.TheConstants.{MOST_CYCLE};
+ghost use Rattle.sdf_draw.specs.Texts.{number_text, escaped_char, escaped, name_text, rate_text};
+
+use sdf_file::Design;
+use std::alloc::AllocError;
+
+/// How many colours there are.
+pub(crate) const COLOURS: usize = 7;
+
+/// Adds a text and a number.
+pub(crate) fn push_number(text: &mut String, word: &str, number: u64) -> Result<(), AllocError>
+    ensures { OnOk result (string_bytes text.new ≡ string_bytes text.old ++ number_text word.now number) }
+{
+    write!(text, "{word}{number}")?;
+    Ok(())
+}
+
+/// Adds a character as it stands in a document of marks.
+fn push_character(text: &mut String, character: char) -> Result<(), AllocError>
+    ensures { OnOk result (string_bytes text.new ≡ string_bytes text.old ++ escaped_char character) }
+{
+    match character {
+        '&' => text.push_str("&amp;"),
+        '<' => text.push_str("&lt;"),
+        '>' => text.push_str("&gt;"),
+        '"' => text.push_str("&quot;"),
+        '\'' => text.push_str("&#39;"),
+        other => text.push(other),
+    }
+}
+
+/// Adds a text as it stands there.
+pub(crate) fn push_escaped(text: &mut String, word: &str) -> Result<(), AllocError>
+    ensures { OnOk result (string_bytes text.new ≡ string_bytes text.old ++ escaped word.now) }
+{
+    for character in word.chars() {
+        push_character(text, character)?;
+    }
+    Ok(())
+}
+
+/// Adds the name of an actor.
+#[tactic(auto, unfolding(crate::specs::Texts::name_text))]
+pub(crate) fn push_name(text: &mut String, design: &Design, actor: usize) -> Result<(), AllocError>
+    requires { actor < length design.now.net.nodes }
+    ensures { OnOk result (string_bytes text.new ≡ string_bytes text.old ++ name_text design.now actor) }
+{
+    push_escaped(text, design.name(actor))
+}
+
+/// The sum of the rates of a cycle.
+fn total(rates: &[u32]) -> u64
+    requires { length rates.now ≤ MOST_CYCLE }
+    ensures { result ≡ sum rates.now }
+{
+    let mut total = 0;
+    for rate in rates {
+        total += u64::from(*rate);
+    }
+    total
+}
+
+/// Adds what firings move whose rates are these.
+#[tactic(auto, unfolding(crate::specs::Texts::rate_text))]
+pub(crate) fn push_rate(text: &mut String, rates: &[u32]) -> Result<(), AllocError>
+    requires { length rates.now ≤ MOST_CYCLE }
+    ensures { OnOk result (string_bytes text.new ≡ string_bytes text.old ++ rate_text rates.now) }
+{
+    push_number(text, "", total(rates))?;
+    if rates.len() == 1 {
+        return Ok(());
+    }
+    push_number(text, "/", rates.len() as u64)
+}
