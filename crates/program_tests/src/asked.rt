@@ -5,6 +5,7 @@ use std::alloc::Global;
 use std::process::Abort;
 use std::test::Fail;
 use std::thread::Threads;
+use std::time::Clock;
 use test_texts::row_says;
 
 /// The first lines of a text, behind one another.
@@ -18,7 +19,7 @@ fn first(alloc: Global, text: &str, many: usize) -> Result<String, Fail> {
 }
 
 /// The exit status of some words, and so many lines of what they print and write.
-fn told<T: Threads + AllocGlobal + Sync>(
+fn told<T: Threads + AllocGlobal + Clock + Clone + Drop + Sync>(
     rt: &T,
     words: &[&str],
     many: usize,
@@ -208,7 +209,10 @@ fn stages_are_written(rt: HostRuntime) -> Result<(), Fail> {
 }
 
 /// Whether a fault is explained by its name as by its number.
-fn is_named<T: Threads + AllocGlobal + Sync>(rt: &T, number: u32) -> Result<(), Fail> {
+fn is_named<T: Threads + AllocGlobal + Clock + Clone + Drop + Sync>(
+    rt: &T,
+    number: u32,
+) -> Result<(), Fail> {
     let digits = format!(in rt.alloc(); "{number}")?;
     let by_number = made(rt, &["sdfw", "explain", digits.as_str()])?;
     let mut words = by_number.as_str().split(&[' ', '\n']);

@@ -10,10 +10,14 @@ use std::io::{self, Error, ErrorKind, Write};
 use std::process::Abort;
 use std::test::Fail;
 use std::thread::Threads;
+use std::time::Clock;
 use test_texts::{row_says, says};
 
 /// The exit status of some words that read nothing, and what stands on standard error.
-fn told<T: Threads + AllocGlobal + Sync>(rt: &T, words: &[&str]) -> Result<String, Fail> {
+fn told<T: Threads + AllocGlobal + Clock + Clone + Drop + Sync>(
+    rt: &T,
+    words: &[&str],
+) -> Result<String, Fail> {
     let alloc = rt.alloc();
     let written = RefCell::new(Vec::new(alloc));
     let world = World {
@@ -118,7 +122,9 @@ impl Write for Closed {
 }
 
 /// The exit status of a filter that is not printed.
-fn unprinted<T: Threads + AllocGlobal + Sync>(rt: &T) -> Result<String, Fail> {
+fn unprinted<T: Threads + AllocGlobal + Clock + Clone + Drop + Sync>(
+    rt: &T,
+) -> Result<String, Fail> {
     let alloc = rt.alloc();
     let written = RefCell::new(Vec::new(alloc));
     let world = World {
@@ -140,7 +146,7 @@ fn filters_are_not_printed(rt: HostRuntime) -> Result<(), Fail> {
 }
 
 /// How the program ends whose words were refused for want of memory.
-fn unread<T: Threads + AllocGlobal + Sync>(rt: &T) -> Result<String, Fail> {
+fn unread<T: Threads + AllocGlobal + Clock + Clone + Drop + Sync>(rt: &T) -> Result<String, Fail> {
     let alloc = rt.alloc();
     let written = RefCell::new(Vec::new(alloc));
     let world = World {
