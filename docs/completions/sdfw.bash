@@ -3,25 +3,29 @@ _sdfw() {
   local word=${COMP_WORDS[COMP_CWORD]} before=${COMP_WORDS[COMP_CWORD-1]}
   COMPREPLY=()
   if [ "$COMP_CWORD" -eq 1 ]; then
-    mapfile -t COMPREPLY < <(compgen -W "check schedule analyze run fir resample kinds explain help --help --version" -- "$word")
+    mapfile -t COMPREPLY < <(compgen -W "check schedule run analyze draw profile fir resample kinds explain help --help --version" -- "$word")
     return
   fi
   case ${COMP_WORDS[1]}:$before in
-    help:help) mapfile -t COMPREPLY < <(compgen -W "check schedule analyze run fir resample kinds explain" -- "$word"); return ;;
+    help:help) mapfile -t COMPREPLY < <(compgen -W "check schedule run analyze draw profile fir resample kinds explain" -- "$word"); return ;;
     schedule:--blocking) :; return ;;
     schedule:--workers) :; return ;;
     schedule:--policy) mapfile -t COMPREPLY < <(compgen -W "round lean runs" -- "$word"); return ;;
     schedule:--placement) mapfile -t COMPREPLY < <(compgen -W "hu homed file" -- "$word"); return ;;
-    analyze:--blocking) :; return ;;
-    analyze:--workers) :; return ;;
-    analyze:--policy) mapfile -t COMPREPLY < <(compgen -W "round lean runs" -- "$word"); return ;;
-    analyze:--placement) mapfile -t COMPREPLY < <(compgen -W "hu homed file" -- "$word"); return ;;
     run:--blocking) :; return ;;
     run:--workers) :; return ;;
     run:--policy) mapfile -t COMPREPLY < <(compgen -W "round lean runs" -- "$word"); return ;;
     run:--placement) mapfile -t COMPREPLY < <(compgen -W "hu homed file" -- "$word"); return ;;
     run:--runner) mapfile -t COMPREPLY < <(compgen -W "one rows rings" -- "$word"); return ;;
     run:--patience) :; return ;;
+    analyze:--blocking) :; return ;;
+    analyze:--workers) :; return ;;
+    analyze:--policy) mapfile -t COMPREPLY < <(compgen -W "round lean runs" -- "$word"); return ;;
+    analyze:--placement) mapfile -t COMPREPLY < <(compgen -W "hu homed file" -- "$word"); return ;;
+    draw:--blocking) :; return ;;
+    draw:--workers) :; return ;;
+    draw:--policy) mapfile -t COMPREPLY < <(compgen -W "round lean runs" -- "$word"); return ;;
+    draw:--placement) mapfile -t COMPREPLY < <(compgen -W "hu homed file" -- "$word"); return ;;
     fir:--rate) :; return ;;
     fir:--pass) :; return ;;
     fir:--stop) :; return ;;
@@ -34,16 +38,18 @@ _sdfw() {
     resample:--attenuation) :; return ;;
   esac
   case ${COMP_WORDS[1]}:$word in
-    check:-*) mapfile -t COMPREPLY < <(compgen -W "--why --help" -- "$word") ;;
-    schedule:-*) mapfile -t COMPREPLY < <(compgen -W "--blocking --workers --policy --placement --why --help" -- "$word") ;;
-    analyze:-*) mapfile -t COMPREPLY < <(compgen -W "--blocking --workers --policy --placement --compare --help" -- "$word") ;;
+    check:-*) mapfile -t COMPREPLY < <(compgen -W "--why --json --help" -- "$word") ;;
+    schedule:-*) mapfile -t COMPREPLY < <(compgen -W "--blocking --workers --policy --placement --why --json --help" -- "$word") ;;
     run:-*) mapfile -t COMPREPLY < <(compgen -W "--blocking --workers --policy --placement --runner --patience --why --help" -- "$word") ;;
+    analyze:-*) mapfile -t COMPREPLY < <(compgen -W "--blocking --workers --policy --placement --compare --json --help" -- "$word") ;;
+    draw:-*) mapfile -t COMPREPLY < <(compgen -W "--blocking --workers --policy --placement --dot --help" -- "$word") ;;
+    profile:-*) mapfile -t COMPREPLY < <(compgen -W "--help" -- "$word") ;;
     fir:-*) mapfile -t COMPREPLY < <(compgen -W "--rate --pass --stop --low-stop --low-pass --attenuation --up --shift --help" -- "$word") ;;
     fir:*) mapfile -t COMPREPLY < <(compgen -W "lowpass highpass bandpass" -- "$word") ;;
     resample:-*) mapfile -t COMPREPLY < <(compgen -W "--channels --attenuation --help" -- "$word") ;;
     kinds:-*) mapfile -t COMPREPLY < <(compgen -W "--help" -- "$word") ;;
     explain:-*) mapfile -t COMPREPLY < <(compgen -W "--help" -- "$word") ;;
-    check:*|schedule:*|analyze:*|run:*|resample:*)
+    check:*|schedule:*|run:*|analyze:*|draw:*|profile:*|resample:*)
       compopt -o filenames
       mapfile -t COMPREPLY < <(compgen -f -- "$word")
       ;;

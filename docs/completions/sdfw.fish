@@ -2,8 +2,10 @@
 complete -c sdfw -f
 complete -c sdfw -n __fish_use_subcommand -a check -d 'Checks a graph file and prints its period'
 complete -c sdfw -n __fish_use_subcommand -a schedule -d 'Prints a schedule of a graph file for some workers'
-complete -c sdfw -n __fish_use_subcommand -a analyze -d 'Prints how long a schedule takes and what its links hold'
 complete -c sdfw -n __fish_use_subcommand -a run -d 'Processes a WAV file'
+complete -c sdfw -n __fish_use_subcommand -a analyze -d 'Prints how long a schedule takes and what its links hold'
+complete -c sdfw -n __fish_use_subcommand -a draw -d 'Draws a graph and its schedule'
+complete -c sdfw -n __fish_use_subcommand -a profile -d 'Measures the share of each actor in the time of a run'
 complete -c sdfw -n __fish_use_subcommand -a fir -d 'Prints a coefficient file for an actor of kind fir'
 complete -c sdfw -n __fish_use_subcommand -a resample -d 'Writes a design that converts between two rates'
 complete -c sdfw -n __fish_use_subcommand -a kinds -d 'Lists the kinds of actors, their keys and limits'
@@ -12,6 +14,7 @@ complete -c sdfw -n __fish_use_subcommand -a help -d 'Print this message or the 
 complete -c sdfw -n __fish_use_subcommand -l help -d 'Print help'
 complete -c sdfw -n __fish_use_subcommand -l version -d 'Print version'
 complete -c sdfw -n '__fish_seen_subcommand_from check' -l why -d 'Says more of a fault: names, values and limits'
+complete -c sdfw -n '__fish_seen_subcommand_from check' -l json -d 'Answers in JSON, also of a fault'
 complete -c sdfw -n '__fish_seen_subcommand_from check' -l help -d 'Print help (see more with \'--help\')'
 complete -c sdfw -n '__fish_seen_subcommand_from check' -F
 complete -c sdfw -n '__fish_seen_subcommand_from schedule' -l blocking -x -d 'Periods in a block, 1 to 64'
@@ -19,15 +22,9 @@ complete -c sdfw -n '__fish_seen_subcommand_from schedule' -l workers -x -d 'Wor
 complete -c sdfw -n '__fish_seen_subcommand_from schedule' -l policy -x -a 'round lean runs' -d 'Which actor fires next'
 complete -c sdfw -n '__fish_seen_subcommand_from schedule' -l placement -x -a 'hu homed file' -d 'How firings come to workers'
 complete -c sdfw -n '__fish_seen_subcommand_from schedule' -l why -d 'Says more of a fault: names, values and limits'
+complete -c sdfw -n '__fish_seen_subcommand_from schedule' -l json -d 'Answers in JSON, also of a fault'
 complete -c sdfw -n '__fish_seen_subcommand_from schedule' -l help -d 'Print help (see more with \'--help\')'
 complete -c sdfw -n '__fish_seen_subcommand_from schedule' -F
-complete -c sdfw -n '__fish_seen_subcommand_from analyze' -l blocking -x -d 'Periods in a block, 1 to 64'
-complete -c sdfw -n '__fish_seen_subcommand_from analyze' -l workers -x -d 'Workers, 1 to 16'
-complete -c sdfw -n '__fish_seen_subcommand_from analyze' -l policy -x -a 'round lean runs' -d 'Which actor fires next'
-complete -c sdfw -n '__fish_seen_subcommand_from analyze' -l placement -x -a 'hu homed file' -d 'How firings come to workers'
-complete -c sdfw -n '__fish_seen_subcommand_from analyze' -l compare -d 'Compares the schedules of all policies, placements and numbers of workers'
-complete -c sdfw -n '__fish_seen_subcommand_from analyze' -l help -d 'Print help (see more with \'--help\')'
-complete -c sdfw -n '__fish_seen_subcommand_from analyze' -F
 complete -c sdfw -n '__fish_seen_subcommand_from run' -l blocking -x -d 'Periods in a block, 1 to 64'
 complete -c sdfw -n '__fish_seen_subcommand_from run' -l workers -x -d 'Workers, 1 to 16'
 complete -c sdfw -n '__fish_seen_subcommand_from run' -l policy -x -a 'round lean runs' -d 'Which actor fires next'
@@ -37,6 +34,23 @@ complete -c sdfw -n '__fish_seen_subcommand_from run' -l patience -x -d 'Repeate
 complete -c sdfw -n '__fish_seen_subcommand_from run' -l why -d 'Says more of a fault: names, values and limits'
 complete -c sdfw -n '__fish_seen_subcommand_from run' -l help -d 'Print help (see more with \'--help\')'
 complete -c sdfw -n '__fish_seen_subcommand_from run' -F
+complete -c sdfw -n '__fish_seen_subcommand_from analyze' -l blocking -x -d 'Periods in a block, 1 to 64'
+complete -c sdfw -n '__fish_seen_subcommand_from analyze' -l workers -x -d 'Workers, 1 to 16'
+complete -c sdfw -n '__fish_seen_subcommand_from analyze' -l policy -x -a 'round lean runs' -d 'Which actor fires next'
+complete -c sdfw -n '__fish_seen_subcommand_from analyze' -l placement -x -a 'hu homed file' -d 'How firings come to workers'
+complete -c sdfw -n '__fish_seen_subcommand_from analyze' -l compare -d 'Compares the schedules of all policies, placements and numbers of workers'
+complete -c sdfw -n '__fish_seen_subcommand_from analyze' -l json -d 'Answers in JSON, also of a fault'
+complete -c sdfw -n '__fish_seen_subcommand_from analyze' -l help -d 'Print help (see more with \'--help\')'
+complete -c sdfw -n '__fish_seen_subcommand_from analyze' -F
+complete -c sdfw -n '__fish_seen_subcommand_from draw' -l blocking -x -d 'Periods in a block, 1 to 64'
+complete -c sdfw -n '__fish_seen_subcommand_from draw' -l workers -x -d 'Workers, 1 to 16'
+complete -c sdfw -n '__fish_seen_subcommand_from draw' -l policy -x -a 'round lean runs' -d 'Which actor fires next'
+complete -c sdfw -n '__fish_seen_subcommand_from draw' -l placement -x -a 'hu homed file' -d 'How firings come to workers'
+complete -c sdfw -n '__fish_seen_subcommand_from draw' -l dot -d 'Writes the graph for Graphviz, without a schedule'
+complete -c sdfw -n '__fish_seen_subcommand_from draw' -l help -d 'Print help (see more with \'--help\')'
+complete -c sdfw -n '__fish_seen_subcommand_from draw' -F
+complete -c sdfw -n '__fish_seen_subcommand_from profile' -l help -d 'Print help (see more with \'--help\')'
+complete -c sdfw -n '__fish_seen_subcommand_from profile' -F
 complete -c sdfw -n '__fish_seen_subcommand_from fir' -l rate -x -d 'Samples a second at the filter'
 complete -c sdfw -n '__fish_seen_subcommand_from fir' -l pass -x -d 'Where what passes ends, or begins'
 complete -c sdfw -n '__fish_seen_subcommand_from fir' -l stop -x -d 'Where what is stopped begins, or ends'
@@ -53,4 +67,4 @@ complete -c sdfw -n '__fish_seen_subcommand_from resample' -l help -d 'Print hel
 complete -c sdfw -n '__fish_seen_subcommand_from resample' -F
 complete -c sdfw -n '__fish_seen_subcommand_from kinds' -l help -d 'Print help (see more with \'--help\')'
 complete -c sdfw -n '__fish_seen_subcommand_from explain' -l help -d 'Print help (see more with \'--help\')'
-complete -c sdfw -n '__fish_seen_subcommand_from help' -a 'check schedule analyze run fir resample kinds explain'
+complete -c sdfw -n '__fish_seen_subcommand_from help' -a 'check schedule run analyze draw profile fir resample kinds explain'
