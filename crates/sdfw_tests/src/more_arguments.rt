@@ -35,7 +35,7 @@ impl Env for Given<'_> {
 }
 
 /// Whether each word is read as it stands.
-fn are_read<R: Abort + AllocGlobal>(rt: &R, words: &[&[u8]]) {
+fn are_read<'a, R: Abort + AllocGlobal>(rt: &R, words: &'a [&'a [u8]]) {
     match arguments(&Given { words }, rt.alloc()) {
         Ok(read) => {
             assert_eq!(rt; read.len(), words.len());
