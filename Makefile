@@ -40,11 +40,12 @@ install:
 	install -D -m 644 docs/completions/_sdfw $(DESTDIR)$(PREFIX)/share/zsh/site-functions/_sdfw
 	install -D -m 644 docs/completions/sdfw.fish $(DESTDIR)$(PREFIX)/share/fish/vendor_completions.d/sdfw.fish
 
-# Whether the documents say what the program and the sources say: kinds, faults, functions without an edit, pages
-# (wants python3).
+# Whether the documents say what the program and the sources say: kinds, faults, functions without an edit, pages,
+# the pictures of the examples (wants python3).
 documents: build
 	python3 docs/tables.py
 	scripts/pages --check
+	for it in examples/*/graph.svg; do build/sdfw draw $${it%.svg}.toml --workers 2 | cmp - $$it || exit 1; done
 
 # Whether each design of examples/ makes the bytes that Python's own arithmetic makes (wants python3.11; about a
 # minute).
