@@ -5,6 +5,7 @@ NO_MEMORY_IN_JSON = (6, b'{"fault":1,"name":"OutOfMemory"}\n')
 NO_WORKER = (6, b"sdfw: 32 NoWorker\n")
 NO_READ = (5, b"sdfw: 47 Read\n")
 NO_WRITE = (5, b"sdfw: 48 Write\n")
+NO_WRITE_IN_JSON = (5, b'{"fault":48,"name":"Write"}\n')
 
 
 def is_text(output, whole, period):

@@ -4,7 +4,7 @@ import struct
 import threading
 
 import largest
-from judges import NO_MEMORY, NO_MEMORY_IN_JSON, NO_READ, NO_WORKER, NO_WRITE
+from judges import NO_MEMORY, NO_MEMORY_IN_JSON, NO_READ, NO_WORKER, NO_WRITE, NO_WRITE_IN_JSON
 from judges import ample_or, any_of, behind, is_text, only, printed_or
 from machine import BUILD, HERE, SOUNDS, Folder, describe, run
 
@@ -127,10 +127,15 @@ def interrupted(period):
     return allowed
 
 
+def no_write(words):
+    """The fault of a writer, in JSON where that is asked for."""
+    return NO_WRITE_IN_JSON if words[-1] == "--json" else NO_WRITE
+
+
 def writes_of_sdfw(lists):
     for how, ample_too in (("error", False), ("zero", False), ("interrupt", True)):
         for name, words in PRINTED:
-            allowed = printed_or(NO_WRITE, ample_too)
+            allowed = printed_or(no_write(words), ample_too)
             lists.refuse(f"sdfw {name}: writes, {how}", [SDFW, *words], "write", allowed, how=how)
         for name, words in MADE:
             lists.refuse(f"sdfw {name}: writes, {how}", [SDFW, *words], "write", behind(NO_WRITE, ample_too), how=how)
@@ -322,7 +327,7 @@ def devices_of_sdfw(lists):
     for name, words in PRINTED:
         words = [SDFW, *words]
         for place, to_place in (("/dev/full", to_full), ("a closed pipe", to_closed_output)):
-            judged = lambda words=words, to_place=to_place: fails(to_place(words), NO_WRITE)
+            judged = lambda words=words, to_place=to_place: fails(to_place(words), no_write(words))
             cases.append((f"{name} to {place}", judged))
     untold = [SDFW, "check", "none.toml"]
     cases.append(("a fault told to a closed pipe", lambda: to_closed_pipe(untold, "told").status == 5))
