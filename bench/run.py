@@ -17,7 +17,10 @@ RINGS = {f"rings {m}": ["--runner", "rings", "--workers", str(m)] for m in WORKE
 IN_RUNS = ["--policy", "runs", "--placement", "file", "--blocking", "64", "--patience", "100000"]
 HOMES = {f"rings {m}, at home": [*words, *IN_RUNS] for m, words in zip(WORKERS, RINGS.values())}
 ALONE = {"rings 1, at home": HOMES["rings 1, at home"]}
-BANK, BANK_TAPS = 8, 1024
+PARALLEL = {f"parallel {m}": ["--parallel", str(m)] for m in WORKERS}
+OUTS, BANK_TAPS = 8, 1024
+# Filters of the two banks.
+BANK, GREAT_BANK = 8, 32
 # Of four workers, on which each actor of the crossover is at home; those not named are on the last.
 CROSSOVER_HOMES = {
     **dict.fromkeys(("in", "split", "dry"), 0),
@@ -39,8 +42,8 @@ def values(path):
     return tomllib.loads(path.read_text())["values"]
 
 
-def taps(path):
-    """What the C programs know of the designs: the filters of the converter, and the crossover's two."""
+def taps(path, filters):
+    """What the C programs know of the designs: the filters of the converter, the crossover's two, and those of a bank."""
     lines = ["enum { PERIOD_IN = 147, PERIOD_OUT = 160 };"]
     actors = tomllib.loads((CONVERTER / "graph.toml").read_text())["actor"]
     stages = [actor for actor in actors if actor["kind"] == "fir"]
@@ -55,8 +58,8 @@ def taps(path):
         numbers = values(CROSSOVER / f"{name}.toml")
         lines.append(f"static const int taps_{name}[] = {{{','.join(map(str, numbers))}}};")
         lines.append(f"__attribute__((unused)) static const Filter {name} = {{1, 1, 15, {len(numbers)}, taps_{name}}};")
-    rows = ",".join("{" + ",".join(map(str, bank_taps(p))) + "}" for p in range(BANK))
-    lines.append(f"enum {{ BANK = {BANK}, BANK_TAPS = {BANK_TAPS} }};")
+    rows = ",".join("{" + ",".join(map(str, bank_taps(p))) + "}" for p in range(filters))
+    lines.append(f"enum {{ OUTS = {OUTS}, BANK = {filters}, BANK_TAPS = {BANK_TAPS} }};")
     lines.append(f"__attribute__((unused)) static const int taps_bank[BANK][BANK_TAPS] = {{{rows}}};")
     path.write_text("\n".join(lines) + "\n")
 
@@ -67,19 +70,35 @@ def bank_taps(filter):
     return [numbers.randint(-200, 200) for _ in range(BANK_TAPS)]
 
 
-def bank(folder):
-    """A design of a bank of filters, one channel in, and where its actors are at home among four workers."""
+def forked(filters):
+    """Actors and links that lead one channel to so many filters: a fork has at most 16 ways."""
+    if filters <= 16:
+        return [("split", "fork", f"ways = {filters}")], [("in", "split")], [f"split:{p}" for p in range(filters)]
+    halves = [("half0", "fork", f"ways = {filters // 2}"), ("half1", "fork", f"ways = {filters // 2}")]
+    links = [("in", "split"), ("split:0", "half0"), ("split:1", "half1")]
+    return [("split", "fork", "ways = 2"), *halves], links, [f"half{h}:{p}" for h in (0, 1) for p in range(filters // 2)]
+
+
+def bank(folder, filters):
+    """A design of a bank of filters, one channel in and the sums of neighbours out, and where its actors are at home
+    among four workers."""
     folder.mkdir()
-    actors = [("in", "input", "channel = 0"), ("split", "fork", f"ways = {BANK}")]
-    links = [("in", "split")]
-    for p in range(BANK):
-        (folder / f"taps-{p}.toml").write_text(f"format = 1\nvalues = {bank_taps(p)}\n")
-        actors += [(f"f{p}", "fir", f'shift = 15\nfile = "taps-{p}.toml"'), (f"out{p}", "output", f"channel = {p}")]
-        links += [(f"split:{p}", f"f{p}"), (f"f{p}", f"out{p}")]
+    forks, links, ways = forked(filters)
+    actors = [("in", "input", "channel = 0"), *forks]
+    each = filters // OUTS
+    for p in range(OUTS):
+        for f in range(p * each, (p + 1) * each):
+            (folder / f"taps-{f}.toml").write_text(f"format = 1\nvalues = {bank_taps(f)}\n")
+            actors.append((f"f{f}", "fir", f'shift = 15\nfile = "taps-{f}.toml"'))
+            links += [(ways[f], f"f{f}"), (f"f{f}", f"sum{p}:{f % each}" if each > 1 else f"out{p}")]
+        if each > 1:
+            actors.append((f"sum{p}", "add", f"ways = {each}"))
+            links.append((f"sum{p}", f"out{p}"))
+        actors.append((f"out{p}", "output", f"channel = {p}"))
     tables = [f'[[actor]]\nname = "{name}"\nkind = "{kind}"\n{keys}\n' for name, kind, keys in actors]
     tables += [f'[[link]]\nfrom = "{one}"\nto = "{other}"\n' for one, other in links]
     (folder / "graph.toml").write_text("format = 1\n\n" + "\n".join(tables))
-    homes = {f"{kind}{p}": p * 4 // BANK for p in range(BANK) for kind in ("f", "out")}
+    homes = {f"{kind}{p}": p * 4 // OUTS for p in range(OUTS) for kind in ("f", "out")}
     return folder / "graph.toml", {"in": 0, "split": 0, **homes}
 
 
@@ -105,7 +124,7 @@ def compiled(folder, name):
     made = folder / name
     if made.exists():
         return str(made)
-    flags = ["-O3", "-march=native", "-Wall", "-Wextra", "-I", str(folder)]
+    flags = ["-O3", "-march=native", "-Wall", "-Wextra", "-pthread", "-I", str(folder)]
     subprocess.run(["gcc", *flags, "-o", str(made), str(TOP / "bench" / f"{name}.c")], check=True)
     return str(made)
 
@@ -156,7 +175,8 @@ def compare(
             files = [(homes or {}).get(name, graph), source, made[name]]
             commands[name] = [str(TOP / "build/sdfw"), "run", *map(str, files), *options]
         for name, program in programs.items():
-            commands[name] = [program, str(source), str(made[name])]
+            words = [program] if isinstance(program, str) else program
+            commands[name] = [*words, str(source), str(made[name])]
         for name, words in OTHERS.items():
             if rate and shutil.which(name):
                 paths = iter((str(source), str(made[name])))
@@ -167,7 +187,7 @@ def compare(
 def main():
     with tempfile.TemporaryDirectory() as folder:
         folder = pathlib.Path(folder)
-        taps(folder / "taps.h")
+        taps(folder / "taps.h", BANK)
         chain = {"C, plain loop": compiled(folder, "plain"), "C, SIMD": compiled(folder, "simd")}
         print("seconds: least, median; over the fastest C; greatest memory")
         compare(folder, "44,100 to 48,000, mono, half scale", CONVERTER / "graph.toml", chain, rate=True)
@@ -182,7 +202,7 @@ def main():
         compare(folder, f"{title}, mono, one worker in runs", converter, chain, runners=alone, lengths=(10, 60, 600))
         stereo = CONVERTER / "graph-stereo.toml"
         compare(folder, f"{title}, stereo, by workers", stereo, chain, channels=2, runners=by_rings, lengths=(1,))
-        graph, places = bank(folder / "filters")
+        graph, places = bank(folder / "filters", BANK)
         for title, design, program, homes in (
             ("crossover", crossover, "crossover", CROSSOVER_HOMES),
             ("a bank of eight filters", graph, "bank", places),
@@ -192,6 +212,28 @@ def main():
             at_home = at_homes(folder, design, homes)
             compare(folder, f"{title}, by workers in runs", design, plain, runners=in_runs, lengths=(10,), homes=at_home)
         compare(folder, "echo", ECHO / "graph.toml", {"C, plain loop": compiled(folder, "echo")})
+        workers(folder, graph)
+
+
+def threads(folder):
+    """The bank in C: a plain loop, and by so many threads."""
+    by_threads = {f"C, {m} threads": [compiled(folder, "bank-threads"), str(m)] for m in WORKERS}
+    return {"C, plain loop": compiled(folder, "bank"), **by_threads}
+
+
+def workers(folder, graph):
+    """What `--parallel` gains, beside one thread and beside what threads gain in C."""
+    great = folder / "great"
+    great.mkdir()
+    taps(great / "taps.h", GREAT_BANK)
+    many, _ = bank(great / "filters", GREAT_BANK)
+    runners = {**ONE, **PARALLEL}
+    compare(folder, "a bank of eight filters, --parallel", graph, threads(folder), runners=runners)
+    compare(great, "a bank of 32 filters, --parallel", many, threads(great), runners=runners)
+    plain = {"C, plain loop": compiled(folder, "crossover")}
+    compare(folder, "crossover, --parallel", CROSSOVER / "graph.toml", plain, runners=runners)
+    stereo, chain = CONVERTER / "graph-stereo.toml", {"C, plain loop": compiled(folder, "plain")}
+    compare(folder, "44,100 to 48,000, stereo, --parallel", stereo, chain, channels=2, runners=runners)
 
 
 if __name__ == "__main__":
