@@ -1,5 +1,5 @@
-/* The bank of filters by so many threads, which pass samples on over rings: what the machine gives to workers. The first
- * thread reads the sound and hands it on; each has its share of the outputs. It wants sums that stay within 16 bits. */
+/* The bank of filters by so many threads, which pass samples on over rings: what the machine gives to workers. The
+ * first thread hands the sound on; each has its share of the outputs. It wants sums that stay within 16 bits. */
 #include <pthread.h>
 #include <sched.h>
 #include <stdatomic.h>

@@ -43,7 +43,7 @@ def values(path):
 
 
 def taps(path, filters):
-    """What the C programs know of the designs: the filters of the converter, the crossover's two, and those of a bank."""
+    """What the C programs know of the designs: the filters of the converter, the crossover's two, a bank's."""
     lines = ["enum { PERIOD_IN = 147, PERIOD_OUT = 160 };"]
     actors = tomllib.loads((CONVERTER / "graph.toml").read_text())["actor"]
     stages = [actor for actor in actors if actor["kind"] == "fir"]
@@ -76,7 +76,8 @@ def forked(filters):
         return [("split", "fork", f"ways = {filters}")], [("in", "split")], [f"split:{p}" for p in range(filters)]
     halves = [("half0", "fork", f"ways = {filters // 2}"), ("half1", "fork", f"ways = {filters // 2}")]
     links = [("in", "split"), ("split:0", "half0"), ("split:1", "half1")]
-    return [("split", "fork", "ways = 2"), *halves], links, [f"half{h}:{p}" for h in (0, 1) for p in range(filters // 2)]
+    ways = [f"half{h}:{p}" for h in (0, 1) for p in range(filters // 2)]
+    return [("split", "fork", "ways = 2"), *halves], links, ways
 
 
 def bank(folder, filters):
