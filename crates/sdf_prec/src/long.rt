@@ -52,7 +52,7 @@ fn long_fault(j: u32, m: usize, reps: &[u32]) -> Option<PrecFault>
     if m < 1 || m > MOST_WORKERS {
         return Some(PrecFault::WorkerCount);
     }
-    if u64::from(j) * total(reps) > MOST_BLOCK {
+    if total(reps) > MOST_BLOCK / u64::from(j) {
         return Some(PrecFault::BlockTooLong);
     }
     None

@@ -29,8 +29,6 @@ fn leads_back(graph: &Graph, k: usize) -> bool
 fn is_fed_by_last(graph: &Graph, actor: usize) -> bool
     ensures { IsTrue result ↔ IsFedByLast (rates graph.now) actor }
 {
-    graph.channels();
-    graphs_are_sound();
     let mut fed = false;
     for channel in graph.channels() {
         if channel.to == actor {
@@ -122,6 +120,7 @@ pub fn spread(
     ensures spread { IfOk result (λ v. AreSpread (rates graph.now) weights.now m v.items) }
     ensures homed { IfOk result (λ v. (a : ℕ) → a < graph.now.actors → HasHome v.items m a) }
 {
+    sums_rise();
     let mut homes = Vec::new(alloc);
     for actor in 0..graph.actors() {
         let first = first_of(graph, actor);
