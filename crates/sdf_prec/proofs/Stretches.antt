@@ -1,6 +1,6 @@
 -- The middle of a stretch falls before the end of all weight, so its worker is one of m.
 use Rattle.std.proofs.Common.{◌≡◌, ℕ, ◌+◌, ◌*◌, ◌/◌, ◌≤◌, ◌<◌, ◌++◌, ◌∷◌, [], ◌⊎◌, inl, inr, List, Option, Some, None}
-use Rattle.std.proofs.Common.{mul-le-mul_left, length, get_or, arith, add-one, refl, subst, ap, ◌∙◌}
+use Rattle.std.proofs.Common.{mul-le-mul_left, length, get_or, arith, add-one, refl, subst, sym, ap, ◌∙◌}
 use Rattle.std.proofs.lemmas.Nat.{div_below}
 use Rattle.std.proofs.lemmas.Bool.{cases_lt}
 use Rattle.std.proofs.lemmas.List.{get_or_push, get_or_append_left, length_push}
@@ -51,7 +51,7 @@ spread_homed rise r weights m homes loads some spread a l =
     let all = loads.all in (
       share weights m e.0 e.1,
       e.4,
-      share_within rise weights (subst (λ n. AreLoads n weights) (λ k. all (~ k)) loads) m e.0 e.1 some
+      share_within rise weights (subst (λ n. AreLoads n weights) (sym all) loads) m e.0 e.1 some
           (omega (arith, e.2.within, e.3.behind)) (omega (arith, e.3.within, all)),
     )
 

@@ -9,9 +9,13 @@ use Rattle.sdf_prec.specs.Tables.{Tabled, IsTable, IsHomed}
 use Rattle.sdf_prec.specs.ByHomes.{AreRunsByHomes}
 use Rattle.sdf_prec.specs.Spread.{AreSpread}
 
--- a block of j periods, in which the actors fire q times each, is within the samples of each channel and the firings
+-- the samples that channel c moves in a period in which the actors fire q times each
+abbrev pub moved : Rates → List ℕ → ℕ → ℕ
+moved r q c = r.produced c (slice_index q (r.source c))
+
+-- a block of j such periods keeps within the samples of a channel, and within the firings of a block
 pub record IsWithinLong (r : Rates) (q : List ℕ) (j : ℕ) : Type 0 where
-  pub moved : (c : ℕ) → c < r.channels → j * r.produced c (slice_index q (r.source c)) ≤ MOST_MOVED
+  pub moves : (c : ℕ) → c < r.channels → j * moved r q c ≤ MOST_MOVED
   pub short : IsShort j q
 
 -- the greatest such j, or 1 where a single period passes them

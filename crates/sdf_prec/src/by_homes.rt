@@ -156,7 +156,8 @@ pub(crate) fn in_runs(
     runs_stay();
     let firings = block_firings(alloc, j, period.repetitions())?;
     let order = class_s_of(alloc, graph, &firings, &mut Runs::new())?;
-    by_order(alloc, graph, &order, m, homes)
+    let table = by_order(alloc, graph, &order, m, homes)?;
+    Ok(table)
 }
 
 impl Table {

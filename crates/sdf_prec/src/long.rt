@@ -1,13 +1,13 @@
 //! Tables of long blocks, by homes that are worked out from weights.
 
-ghost use Rattle.std.specs.Prelude.{◌≡◌, ℕ, ◌≤◌, ◌<◌, length, slice_index, sum, MatchOption, MatchResult};
+ghost use Rattle.std.specs.Prelude.{◌≡◌, ℕ, ◌≤◌, ◌<◌, ◌^◌, length, slice_index, sum, MatchOption, MatchResult};
 ghost use Rattle.sdf_limits.specs.declared.TheConstants.{MOST_BLOCK};
 ghost use Rattle.sdf_graph.specs.Rates.{rates};
 ghost use Rattle.sdf_graph.specs.Periods.{IsPeriodVector};
 ghost use Rattle.sdf_sched.specs.Period.{IsPeriodOf};
 ghost use Rattle.sdf_prec.specs.Blocks.{IsWorkers, IsShort};
 ghost use Rattle.sdf_prec.specs.Spread.{AreLoads};
-ghost use Rattle.sdf_prec.specs.Long.{IsLongest, IsLongSize, IsSpreadTable, IsSpreadFault};
+ghost use Rattle.sdf_prec.specs.Long.{moved, IsLongest, IsLongSize, IsSpreadTable, IsSpreadFault};
 
 use crate::block::total;
 use crate::by_homes::in_runs;
@@ -24,6 +24,19 @@ use std::alloc::Global;
 /// Samples that a long block moves on a channel, unless a single period moves more.
 pub const MOST_MOVED: u64 = 1024;
 
+/// What a channel moves in a period.
+#[tactic(auto, using(crate::proofs::Longest::channel_moves))]
+fn moved(graph: &Graph, repetitions: &[u32], channel: usize) -> u64
+    requires period { IsPeriodVector (rates graph.now) repetitions.now }
+    requires known { channel < length graph.now.channels }
+    ensures is { result ≡ moved (rates graph.now) repetitions.now channel }
+    ensures some { 0 < result }
+{
+    cycles_begin_anew();
+    let channel = &graph.channels()[channel];
+    moved_by(&channel.put, u64::from(repetitions[channel.from]))
+}
+
 /// How many periods make a long block: as many as keep it within `MOST_MOVED` samples on each channel and within the
 /// firings of a block, and at least one.
 pub fn long_block(graph: &Graph, repetitions: &[u32]) -> u32
@@ -31,17 +44,16 @@ pub fn long_block(graph: &Graph, repetitions: &[u32]) -> u32
     ensures longest { IsLongest (rates graph.now) repetitions.now result }
     ensures short { sum repetitions.now ≤ MOST_BLOCK → IsShort result repetitions.now }
 {
-    graph.channels();
-    cycles_begin_anew();
+    let channels = graph.channels().len();
     let mut periods = MOST_BLOCK / total(repetitions);
-    for channel in graph.channels() {
-        let moved = moved_by(&channel.put, u64::from(repetitions[channel.from]));
-        periods = periods.min(MOST_MOVED / moved);
+    for channel in 0..channels {
+        periods = periods.min(MOST_MOVED / moved(graph, repetitions, channel));
     }
     periods.max(1) as u32
 }
 
 /// Why `j` periods make no block for `m` workers.
+#[tactic(auto, using(crate::proofs::Longest::short_by, crate::proofs::Longest::not_short))]
 fn long_fault(j: u32, m: usize, reps: &[u32]) -> Option<PrecFault>
     requires few { length reps.now < 2 ^ 20 }
     ensures { MatchOption result (IsLongSize j m reps.now) (IsSpreadFault j m reps.now) }
@@ -77,6 +89,7 @@ impl Table {
             (IsSpreadTable (rates graph.now) period.now.repetitions j m weights.now)
             (IsSpreadFault j m period.now.repetitions) }
     {
+        graph.channels();
         if let Some(fault) = long_fault(j, m, period.repetitions()) {
             return Err(fault);
         }

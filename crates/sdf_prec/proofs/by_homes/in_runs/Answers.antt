@@ -53,8 +53,30 @@ by_order-requires-clause-few c =
       c.requires.short,
     )
 
-pub in_ok-returns-clause-table : goal.in_ok-returns-clause-table
-in_ok-returns-clause-table c = c.nothing
+pub returns-clause-table : goal.returns-clause-table
+returns-clause-table c =
+    let r = rates c.args.graph.now in
+    let q = block c.args.j c.args.period.now.repetitions in
+    let firings_are : c.deref.result.now ≡ q = c.deref.ensures.value
+    ∙ (c.in_ok-firings.ensures ∙ ap (block c.args.j) c.repetitions.ensures) in
+    c.in_ok-table.ensures.table (slice_index q) (subst (IsPass r (slice_index q)) (sym c.deref-2.ensures.value)
+    (subst (λ q. IsPass r (slice_index q) c.in_ok-order.order.items) firings_are c.in_ok-order.ensures.pass))
 
-pub in_ok-returns-clause-runs : goal.in_ok-returns-clause-runs
-in_ok-returns-clause-runs c = c.nothing
+pub returns-clause-runs : goal.returns-clause-runs
+returns-clause-runs c =
+    let g = c.args.graph.now in
+    let q = block c.args.j c.args.period.now.repetitions in
+    let order = c.in_ok-order.order.items in
+    let last = c.class_s_of.new.pick in
+    let firings_are : c.deref.result.now ≡ q = c.deref.ensures.value
+    ∙ (c.in_ok-firings.ensures ∙ ap (block c.args.j) c.repetitions.ensures) in
+    let picked : IsPicked IsRunsChoice g (slice_index q) 0 order last =
+    subst (λ (first : ℕ). IsPicked IsRunsChoice g (slice_index q) first order last) c.new.ensures
+    (subst (λ q. IsPicked IsRunsChoice g (slice_index q) c.new.result order last) firings_are
+    c.in_ok-order.ensures.picked) in
+    record {
+      order = order;
+      in_runs = c.runs_stay.ensures g (slice_index q) order last picked;
+      by = subst (λ w. AreByHomes c.args.homes.now c.args.m w c.in_ok-table.table.rows) c.deref-2.ensures.value
+          c.in_ok-table.ensures.rows;
+    }

@@ -1,16 +1,11 @@
-use Rattle.std.proofs.Common.{◌≡◌, ◌<◌, ◌≤◌, ◌*◌, ℕ}
-use Rattle.std.specs.Prelude.{slice_index}
+use Rattle.std.proofs.Common.{◌≤◌}
+use Rattle.sdf_limits.specs.declared.TheConstants.{MOST_BLOCK}
 use Rattle.sdf_graph.specs.Rates.{rates}
-use Rattle.sdf_prec.specs.Blocks.{IsShort}
-use Rattle.sdf_prec.specs.declared.long.TheConstants.{MOST_MOVED}
+use Rattle.sdf_prec.proofs.Longest.{IsMost}
 use Rattle.sdf_prec.proofs.long.long_block.Given as goal
 
 abbrev pub invariant-loop-channel : goal.invariant-loop-channel
 invariant-loop-channel l = record {
-  moved : (c : ℕ) → c < l.channel-index →
-      l.periods * (rates l.graph).produced c (slice_index l.repetitions ((rates l.graph).source c)) ≤ MOST_MOVED;
-  short : IsShort l.periods l.repetitions;
-  greatest : (k : ℕ) → IsShort k l.repetitions → ((c : ℕ) → c < l.channel-index →
-      k * (rates l.graph).produced c (slice_index l.repetitions ((rates l.graph).source c)) ≤ MOST_MOVED) →
-      k ≤ l.periods;
+  most : IsMost (rates l.graph) l.repetitions l.channel l.periods;
+  small : l.periods ≤ MOST_BLOCK;
 }
