@@ -9,7 +9,7 @@ pub nonzero_div-periods : goal.nonzero_div-periods
 nonzero_div-periods c = omega (
   arith,
   c.total-periods.ensures.is,
-  some_firings c.args.graph.now c.channels.ensures.shape c.args.repetitions.now c.requires,
+  some_firings c.args.graph.now c.channels-channels.ensures.shape c.args.repetitions.now c.requires,
 )
 
 pub loop-channel-init : goal.loop-channel-init
@@ -18,7 +18,7 @@ loop-channel-init c =
     record {
       most = subst (λ n. IsMost (rates c.args.graph.now) c.args.repetitions.now 0 (MOST_BLOCK / n)) same
           (most_firings (rates c.args.graph.now) c.args.repetitions.now
-          (some_firings c.args.graph.now c.channels.ensures.shape c.args.repetitions.now c.requires));
+          (some_firings c.args.graph.now c.channels-channels.ensures.shape c.args.repetitions.now c.requires));
       small = div-le_self MOST_BLOCK c.total-periods.result;
     }
 
