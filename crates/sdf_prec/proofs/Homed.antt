@@ -15,7 +15,7 @@ use Rattle.sdf_prec.proofs.Next.{place_of}
 use Rattle.sdf_prec.proofs.Periods.{block_at}
 use Rattle.sdf_prec.proofs.Standings.{some_is, row_within}
 
-empty_cell : (m k : ℕ) → get_or (replicate m (None {A = Firing})) k None ≡ None
+empty_cell : (m k : ℕ) → get_or (replicate {A = Option Firing} m None) k None ≡ None
 empty_cell zero k = refl
 empty_cell (suc m) zero = refl
 empty_cell (suc m) (suc k) = empty_cell m k
@@ -31,7 +31,7 @@ single m j k g f l e = go (cases_eq k j)
     go : (k ≡ j) ⊎ (k ≡ j → ⊥) → (k ≡ j) × (g ≡ f)
     go (inl same) = (
       same,
-      some_is (sym (get_or-set_same (replicate m None) j (Some g) None (omega (arith, length-replicate m (None {A = Firing}))))
+      some_is (sym (get_or-set_same (replicate m None) j (Some g) None (omega (arith, length-replicate {A = Option Firing} m None)))
           ∙ (ap (λ x. get_or cells x None) (sym same) ∙ e)),
     )
     go (inr ne) = absurd (none-some f
@@ -69,7 +69,7 @@ module _ (laws : GraphLaws) (r : Rates) (n : ℕ → ℕ) (w : List ℕ) (pass :
             ap (λ cells. cell_of cells home.0)
                 (by.each at.0 home.0 at.1 (ap (λ b. get_or homes b None) at.2 ∙ home.1))
                 ∙ get_or-set_same (replicate m None) home.0 (Some (firing_at w at.0)) None
-                (omega (arith, home.2, length-replicate m (None {A = Firing}))),
+                (omega (arith, home.2, length-replicate {A = Option Firing} m None)),
             at.2,
           )
 

@@ -42,6 +42,7 @@ IsSpreadFault j m reps _ = ⊥
 pub record IsSpreadTable (r : Rates) (q : List ℕ) (j m : ℕ) (weights : List ℕ) (t : Tabled) : Type 0 where
   pub size : IsLongSize j m q
   pub table : IsTable r (slice_index (block j q)) m t
+  pub homed : IsHomed t
   pub homes : List (Option ℕ)
   pub spread : AreSpread r weights m homes
   pub in_runs : AreRunsByHomes r (slice_index (block j q)) homes m t.rows

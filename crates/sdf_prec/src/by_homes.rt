@@ -6,7 +6,7 @@ ghost use Rattle.sdf_graph.specs.Rates.{rates};
 ghost use Rattle.sdf_graph.specs.Sequences.{repeated, IsPass};
 ghost use Rattle.sdf_sched.specs.Period.{IsPeriodOf};
 ghost use Rattle.sdf_prec.specs.Blocks.{block, IsShort};
-ghost use Rattle.sdf_prec.specs.Tables.{IsTable};
+ghost use Rattle.sdf_prec.specs.Tables.{IsTable, IsHomed};
 ghost use Rattle.sdf_prec.specs.Accepting.{IsSize};
 ghost use Rattle.sdf_prec.specs.ByHomes.{HasHome, IsBadHome, AreByHomes, AreRunsByHomes, IsHomesFault};
 
@@ -145,9 +145,11 @@ pub(crate) fn in_runs(
     homes: &[Option<usize>],
 ) -> Result<Table, AllocError>
     requires period { IsPeriodOf (rates graph.now) period.now }
+    requires some { 1 ≤ j }
     requires short { IsShort j period.now.repetitions }
     requires homed { (a : ℕ) → a < graph.now.actors → HasHome homes.now m a }
     ensures table { IfOk result (IsTable (rates graph.now) (slice_index (block j period.now.repetitions)) m) }
+    ensures homed { IfOk result IsHomed }
     ensures runs { IfOk result (λ t. AreRunsByHomes (rates graph.now) (slice_index (block j period.now.repetitions))
         homes.now m t.rows) }
 {

@@ -7,6 +7,7 @@ use Rattle.sdf_sched.specs.Runs.{IsRunsChoice}
 use Rattle.sdf_prec.specs.Blocks.{block}
 use Rattle.sdf_prec.specs.ByHomes.{AreByHomes}
 use Rattle.sdf_prec.proofs.Periods.{block_sum, block_pass}
+use Rattle.sdf_prec.proofs.Homed.{are_homed, block_fires}
 use Rattle.sdf_prec.proofs.Refusing.{one_of_all}
 use Rattle.sdf_prec.proofs.by_homes.in_runs.Goals as goal
 
@@ -80,3 +81,18 @@ returns-clause-runs c =
       by = subst (λ w. AreByHomes c.args.homes.now c.args.m w c.in_ok-table.table.rows) c.deref-2.ensures.value
           c.in_ok-table.ensures.rows;
     }
+
+pub returns-clause-homed : goal.returns-clause-homed
+returns-clause-homed c =
+    let r = rates c.args.graph.now in
+    let q = block c.args.j c.args.period.now.repetitions in
+    let firings_are : c.deref.result.now ≡ q = c.deref.ensures.value
+    ∙ (c.in_ok-firings.ensures ∙ ap (block c.args.j) c.repetitions.ensures) in
+    let pass : IsPass r (slice_index q) c.deref-2.result.now = subst (IsPass r (slice_index q))
+    (sym c.deref-2.ensures.value)
+    (subst (λ q. IsPass r (slice_index q) c.in_ok-order.order.items) firings_are c.in_ok-order.ensures.pass) in
+    are_homed c.graph_laws.ensures r (slice_index q) c.deref-2.result.now pass c.args.homes.now c.args.m
+    c.requires.homed c.in_ok-table.table c.in_ok-table.ensures.rows
+    (c.in_ok-table.ensures.table (slice_index q) pass).exact
+    (λ a l. block_fires c.args.j c.args.period.now.repetitions a c.requires.some
+    (c.requires.period.least.is.positive a l))

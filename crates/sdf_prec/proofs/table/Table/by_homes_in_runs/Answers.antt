@@ -2,6 +2,9 @@ use Rattle.std.proofs.Common.{◌≡◌, length, ap, subst, arith}
 use Rattle.sdf_prec.specs.Accepting.{IsSize}
 use Rattle.sdf_prec.proofs.table.Table.by_homes_in_runs.Goals as goal
 
+pub in_runs-requires-clause-some : goal.in_runs-requires-clause-some
+in_runs-requires-clause-some c = c.in_default.ensures.0.factor.0
+
 pub in_runs-requires-clause-short : goal.in_runs-requires-clause-short
 in_runs-requires-clause-short c =
     let size : IsSize c.args.j c.args.m c.args.period.now.repetitions =

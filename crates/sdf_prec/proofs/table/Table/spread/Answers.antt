@@ -5,6 +5,9 @@ use Rattle.sdf_prec.specs.ByHomes.{HasHome, AreRunsByHomes}
 use Rattle.sdf_prec.specs.Long.{IsLongSize}
 use Rattle.sdf_prec.proofs.table.Table.spread.Goals as goal
 
+pub in_runs-requires-clause-some : goal.in_runs-requires-clause-some
+in_runs-requires-clause-some c = c.in_default.ensures.some
+
 pub in_runs-requires-clause-short : goal.in_runs-requires-clause-short
 in_runs-requires-clause-short c =
     let size : IsLongSize c.args.j c.args.m c.args.period.now.repetitions =
@@ -19,6 +22,7 @@ pub returns : goal.returns
 returns c = record {
   size = subst (IsLongSize c.args.j c.args.m) c.repetitions.ensures c.in_default.ensures;
   table = c.in_ok-table.ensures.table;
+  homed = c.in_ok-table.ensures.homed;
   homes = c.in_ok-homes.homes.items;
   spread = c.in_ok-homes.ensures.spread;
   in_runs = subst (λ homes. AreRunsByHomes (rates c.args.graph.now)
