@@ -1,6 +1,6 @@
 -- A table by homes has a home for each actor.
-use Rattle.std.proofs.Common.{◌≡◌, ℕ, zero, suc, ◌*◌, ◌≤◌, ◌<◌, ◌⊎◌, inl, inr, List, length, get_or, set, take, replicate}
-use Rattle.std.proofs.Common.{ap, sym, ◌∙◌, arith, refl, Option, Some, None, mul-le-mul_left}
+use Rattle.std.proofs.Common.{◌≡◌, ℕ, zero, suc, ◌*◌, ◌≤◌, ◌<◌, ◌⊎◌, inl, inr, List, length, get_or, set, take}
+use Rattle.std.proofs.Common.{replicate, ap, sym, ◌∙◌, arith, refl, Option, Some, None, mul-le-mul_left}
 use Rattle.std.proofs.lemmas.Bool.{cases_eq}
 use Rattle.std.proofs.lemmas.List.{get_or-set_same, get_or-set_other, length-replicate, take_all}
 use Rattle.std.proofs.lemmas.Option.{none-some}
@@ -28,11 +28,14 @@ single m j k g f l e = go (cases_eq k j)
     cells : List (Option Firing)
     cells = set (replicate m None) j (Some g)
 
+    there : get_or cells j None ≡ Some g
+    there = get_or-set_same (replicate m None) j (Some g) None
+        (omega (arith, length-replicate {A = Option Firing} m None))
+
     go : (k ≡ j) ⊎ (k ≡ j → ⊥) → (k ≡ j) × (g ≡ f)
     go (inl same) = (
       same,
-      some_is (sym (get_or-set_same (replicate m None) j (Some g) None (omega (arith, length-replicate {A = Option Firing} m None)))
-          ∙ (ap (λ x. get_or cells x None) (sym same) ∙ e)),
+      some_is (sym there ∙ (ap (λ x. get_or cells x None) (sym same) ∙ e)),
     )
     go (inr ne) = absurd (none-some f
         (sym (empty_cell m k) ∙ (sym (get_or-set_other (replicate m None) j k (Some g) None ne) ∙ e)))

@@ -1,6 +1,6 @@
 -- As many periods as a channel's samples and a block's firings allow.
-use Rattle.std.proofs.Common.{◌≡◌, ℕ, zero, suc, ◌+◌, ◌*◌, ◌/◌, ◌≤◌, ◌<◌, ◌⊎◌, inl, inr, List, length, get_or, sum, arith}
-use Rattle.std.proofs.Common.{ap, sym, subst, ◌∙◌, mul-le-mul_left}
+use Rattle.std.proofs.Common.{◌≡◌, ℕ, zero, suc, ◌+◌, ◌*◌, ◌/◌, ◌≤◌, ◌<◌, ◌⊎◌, inl, inr, List, length, get_or, sum}
+use Rattle.std.proofs.Common.{arith, ap, sym, subst, ◌∙◌, mul-le-mul_left}
 use Rattle.std.specs.Prelude.{min, max}
 use Rattle.std.proofs.Math.Nat.{le-div_iff_mul-le}
 use Rattle.std.proofs.lemmas.Bool.{cases_lt}
@@ -99,5 +99,5 @@ pub not_short : (j : ℕ) (reps : List ℕ) (total : ℕ) → total ≡ sum reps
     IsShort j reps → ⊥
 not_short j reps total is some high short =
     let within = (le-div_iff_mul-le {k = j} {x = total} {y = MOST_BLOCK} some).1
-        (omega (arith, short, ap (λ n. j * n) is)) in
+    (omega (arith, short, ap (λ n. j * n) is)) in
     omega arith

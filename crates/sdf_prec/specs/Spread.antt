@@ -25,7 +25,8 @@ pub record IsFedByLast (r : Rates) (k : ℕ) : Type 0 where
   pub some : (c : ℕ) × (c < r.channels) × (r.target c ≡ k)
   pub all : (c : ℕ) → c < r.channels → r.target c ≡ k → r.source c + 1 ≡ k
 
--- the actors before k and those from k on may go to different workers: no loop is cut, and none from what alone feeds it
+-- the actors before k and those from k on may go to different workers: that cuts no loop, and parts no actor from the
+-- one that alone feeds it
 pub record MayPart (r : Rates) (k : ℕ) : Type 0 where
   pub ahead : LeadsBack r k → ⊥
   pub fed : IsFedByLast r k → ⊥

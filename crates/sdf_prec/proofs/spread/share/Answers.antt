@@ -17,7 +17,7 @@ overflow_add-middle c = omega (
 pub returns-clause-within : goal.returns-clause-within
 returns-clause-within c =
     let is : c.args.m * (c.weight_to.result + c.weight_to-2.result) / (2 * c.weight_to-all.result)
-        ≡ share c.args.weights.now c.args.m c.args.first c.args.past =
+    ≡ share c.args.weights.now c.args.m c.args.first c.args.past =
     λ k. c.args.m * (c.weight_to.ensures.is k + c.weight_to-2.ensures.is k) / (2 * c.weight_to-all.ensures.is k) in
     subst (λ j. j < c.args.m) (sym is)
     (share_within c.sums_rise.ensures.all c.args.weights.now c.requires.weights c.args.m c.args.first c.args.past
