@@ -1,8 +1,8 @@
-use Rattle.std.proofs.Common.{◌≡◌, ℕ, ◌/◌, ◌≤◌, sum, subst, sym, arith, ap, ◌∙◌}
+use Rattle.std.proofs.Common.{◌≡◌, ◌/◌, sum, subst, sym, arith}
 use Rattle.std.proofs.Math.Nat.{div-le_self}
 use Rattle.sdf_limits.specs.declared.TheConstants.{MOST_BLOCK}
 use Rattle.sdf_graph.specs.Rates.{rates}
-use Rattle.sdf_prec.proofs.Longest.{IsMost, most_firings, most_more, most_longest, longest_short, some_firings}
+use Rattle.sdf_prec.proofs.Longest.{IsMost, most_firings, most_more, some_firings}
 use Rattle.sdf_prec.proofs.long.long_block.Goals as goal
 
 pub nonzero_div-periods : goal.nonzero_div-periods

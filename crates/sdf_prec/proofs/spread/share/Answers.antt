@@ -1,5 +1,4 @@
-use Rattle.std.proofs.Common.{◌≡◌, ℕ, ◌+◌, ◌*◌, ◌/◌, ◌≤◌, ◌<◌, length, arith, sym, subst}
-use Rattle.sdf_limits.specs.declared.TheConstants.{MOST_BLOCK, MOST_COST, MOST_WORKERS}
+use Rattle.std.proofs.Common.{◌≡◌, ◌+◌, ◌*◌, ◌/◌, ◌<◌, arith, sym, subst}
 use Rattle.sdf_prec.specs.Spread.{share}
 use Rattle.sdf_prec.proofs.Stretches.{share_within}
 use Rattle.sdf_prec.proofs.spread.share.Goals as goal

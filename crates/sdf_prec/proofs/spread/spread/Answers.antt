@@ -1,4 +1,4 @@
-use Rattle.std.proofs.Common.{◌≡◌, ℕ, ◌+◌, ◌<◌, ◌∙◌, arith}
+use Rattle.std.proofs.Common.{◌≡◌, ◌∙◌, arith}
 use Rattle.sdf_graph.specs.Rates.{rates}
 use Rattle.sdf_prec.proofs.Stretches.{one_home_more, spread_homed}
 use Rattle.sdf_prec.proofs.spread.spread.Goals as goal

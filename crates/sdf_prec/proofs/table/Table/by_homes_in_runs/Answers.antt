@@ -1,4 +1,4 @@
-use Rattle.std.proofs.Common.{◌≡◌, length, ap, subst, arith}
+use Rattle.std.proofs.Common.{length, ap, subst, arith}
 use Rattle.sdf_prec.specs.Accepting.{IsSize}
 use Rattle.sdf_prec.proofs.table.Table.by_homes_in_runs.Goals as goal
 

@@ -1,4 +1,4 @@
-use Rattle.std.proofs.Common.{◌≡◌, ℕ, ◌<◌, slice_index, subst, sym}
+use Rattle.std.proofs.Common.{ℕ, ◌<◌, slice_index, subst, sym}
 use Rattle.sdf_graph.specs.Rates.{rates}
 use Rattle.sdf_prec.specs.Blocks.{block}
 use Rattle.sdf_prec.specs.ByHomes.{HasHome, AreRunsByHomes}
