@@ -57,8 +57,10 @@ fn open_session<'a>(
 ) -> Result<Session<'a, Kit>, Fault>
     requires plan { Suits net.now plan.now }
     requires table { plan.now.table ≡ Some table.now }
-    ensures { MatchResult result (λ v. (s : Sound) → StandsAt net.now plan.now.period plan.now.blocking s 0 0 [] v)
+    ensures stands { MatchResult result
+        (λ v. (s : Sound) → StandsAt net.now plan.now.period plan.now.blocking s 0 0 [] v)
         (λ e. e ≡ OutOfMemory) }
+    ensures mode { IfOk result (λ v. v.mode ≡ mode_of plan.now.runner plan.now.patience) }
 {
     let session = Session::open(
         alloc,

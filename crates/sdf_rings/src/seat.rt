@@ -24,7 +24,7 @@ pub struct Seat<A: Actor> {
     pub next: usize,
 }
 
-/// Tests again while tries are left.
+/// Tests again while tries are left: each test that fails takes one.
 fn becomes_ready<A: Actor>(
     net: &Net<A>,
     inputs: &[Vec<A::Token>],
@@ -37,6 +37,9 @@ fn becomes_ready<A: Actor>(
     ensures done { stand.new.done ≡ stand.old.done }
     ensures yes { IsTrue result → CanFire A.steps net.now stand.new }
     ensures no { IsFalse result → CanFire A.steps net.now stand.new → ⊥ }
+    ensures fewer { tries.new ≤ tries.old }
+    ensures spent { IsFalse result → tries.new ≡ 0 }
+    ensures at_once { CanFire A.steps net.now stand.old → tries.new ≡ tries.old }
 {
     let most = *tries;
     for _ in 0..most {
@@ -122,6 +125,9 @@ fn fire_next<A: Actor, G: Gate>(
     ensures inside { next + result ≤ length left.now }
     ensures same { (j : ℕ) → j < result → slice_index left.now next ≡ slice_index left.now (next + j) }
     ensures no { result ≡ 0 → CanFire A.steps net.now stand.new → ⊥ }
+    ensures fewer { tries.new ≤ tries.old }
+    ensures spent { result ≡ 0 → tries.new ≡ 0 }
+    ensures at_once { CanFire A.steps net.now stand.old → tries.new ≡ tries.old }
 {
     if !becomes_ready(net, inputs, stand, tries) {
         return 0;
@@ -144,6 +150,9 @@ fn work_next<A: Actor, G: Gate>(
     ensures worked { HasWorked A.steps net.now seat.old seat.new }
     ensures count { seat.new.next ≡ seat.old.next + result }
     ensures no { result ≡ 0 → HasFirst A.steps net.now seat.new → ⊥ }
+    ensures fewer { tries.new ≤ tries.old }
+    ensures spent { result ≡ 0 → tries.new ≡ 0 }
+    ensures at_once { HasFirst A.steps net.now seat.old → tries.new ≡ tries.old }
 {
     let number = seat.left[seat.next];
     let processor = seat.processor;

@@ -55,7 +55,7 @@ module _ {A S T : Type 0} (s : Steps A S T) (n : Netlist A T) (inputs : List (Li
     (jobs jobs' : List (Job A T S))
     (row : List (Option Firing)) (st : IsBetween s n inputs many low high k states ls)
     (is : IsRow s n k high (row_actors row)) (blocks : HaveBlocks s n jobs) (few : length (firings row) ≤ length jobs)
-    (loaded : AreLoaded (firings row) states states' jobs jobs') (front : List (Job A T S))
+    (done : List ℕ) (loaded : AreLoaded row done (firings row) states states' jobs jobs') (front : List (Job A T S))
     (all : length front ≡ length (firings row))
     (same : (i : ℕ) (d : Job A T S) → i < length (firings row) → get_or front i d ≡ get_or jobs' i d) where
   abbrev fs : List Firing
@@ -79,7 +79,7 @@ module _ {A S T : Type 0} (s : Steps A S T) (n : Netlist A T) (inputs : List (Li
       let known : a < length n.nodes = subst (λ a. a < length n.nodes) (actor_at fs i h)
       (is.known i (omega (arith, acts_long))) in
       let w : NodeState T S = (get_or jobs i j).state in
-      let fill = loaded.each apart i w j h in
+      let fill = (loaded.each apart i w j h).2 in
       let at : IsAt s inputs (many a) (node n a) (taken_before (wiring s n) st.history a (k a)) (get_or states a w) =
       idle a w known in
       let was = blocks i j (omega (arith, few)) in
@@ -177,12 +177,12 @@ module _ {A S T : Type 0} (s : Steps A S T) (n : Netlist A T) (inputs : List (Li
           vec_capacity (at_end i j b).taken ≡ vec_capacity (get_or jobs i j).taken
       cap i j l (inl h) =
           keeps.taken i j (omega (arith, all)) ∙ (ap (λ (x : Job A T S). vec_capacity x.taken) (same i j h) ∙
-          ap (λ v. vec_capacity v) (loaded.each apart i (get_or jobs i j).state j h).taken)
+          ap (λ v. vec_capacity v) (loaded.each apart i (get_or jobs i j).state j h).2.taken)
       cap i j l (inr h) = refl
 
       len : (i : ℕ) (j : Job A T S) → i < length jobs → (b : (i < length fs) ⊎ (length fs ≤ i)) →
           length (at_end i j b).put.items ≡ length (get_or jobs i j).put.items
       len i j l (inl h) =
           keeps.put i j (omega (arith, all)) ∙ (ap (λ (x : Job A T S). length x.put.items) (same i j h) ∙
-          ap (λ v. length v.items) (loaded.each apart i (get_or jobs i j).state j h).put)
+          ap (λ v. length v.items) (loaded.each apart i (get_or jobs i j).state j h).2.put)
       len i j l (inr h) = refl

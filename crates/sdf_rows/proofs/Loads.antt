@@ -1,6 +1,6 @@
 -- A row's jobs filled, cell by cell.
 use Rattle.std.proofs.Common.{◌≡◌, ℕ, ◌+◌, ◌≤◌, ◌<◌, List, [], ◌∷◌, ◌++◌, length, get_or, set, take, drop, refl, sym}
-use Rattle.std.proofs.Common.{ap, ◌∙◌, subst, inl, inr, ◌⊎◌, arith, Option, Some, None}
+use Rattle.std.proofs.Common.{ap, ◌∙◌, subst, inl, inr, ◌⊎◌, arith, Option, Some, None, slice_index}
 use Rattle.std.proofs.lemmas.List.{get_or_default, get_or-set_same, get_or-set_other, length-set, length-append}
 use Rattle.std.proofs.lemmas.List.{length_push, append-nil, take_more, take-append-drop, get_or_append_left}
 use Rattle.std.proofs.lemmas.List.{get_or_push}
@@ -14,36 +14,47 @@ use Rattle.sdf_rows.specs.Stage.{CanLoad, IsFilled, HasLoaded, AreLoaded}
 
 -- a job filled, whatever stands in its actor's place
 module _ {A S T : Type 0} (states : List (NodeState T S)) (jobs : List (Job A T S)) (f : Firing)
-    (many column number : ℕ) (v gone : NodeState T S) (k filled : Job A T S) (known : f.actor < length states)
+    (many column : ℕ) (done : List ℕ) (v gone : NodeState T S) (k filled : Job A T S) (known : f.actor < length states)
     (has : many < length jobs)
     (is : filled ≡ record (get_or jobs many k) {
       processor = column;
       actor = f.actor;
-      firing = number;
+      firing = slice_index done f.actor;
       phase = phase_at (get_or states f.actor v);
       state = get_or states f.actor v;
     }) where
-  here : (w : NodeState T S) (j : Job A T S) → IsFilled f.actor (get_or states f.actor w) (get_or jobs many j)
+  abbrev IsFull : NodeState T S → Job A T S → Job A T S → Type 0
+  IsFull u j k = IsFilled column (slice_index done f.actor) f.actor u j k
+
+  here : (w : NodeState T S) (j : Job A T S) → IsFull (get_or states f.actor w) (get_or jobs many j)
       (get_or (set jobs many filled) many j)
   here w j =
       let state = get_or_default states f.actor v w known in
       let job = get_or_default jobs many k j has in
       let put = get_or-set_same jobs many filled j has ∙ is in
-      let full : IsFilled f.actor (get_or states f.actor v) (get_or jobs many k)
+      let full : IsFull (get_or states f.actor v) (get_or jobs many k)
       (record (get_or jobs many k) {
         processor = column;
         actor = f.actor;
-        firing = number;
+        firing = slice_index done f.actor;
         phase = phase_at (get_or states f.actor v);
         state = get_or states f.actor v;
       }) =
-      record { actor = refl; phase = refl; state = refl; taken = refl; put = refl } in
-      let there = subst (IsFilled f.actor (get_or states f.actor v) (get_or jobs many k)) (sym put) full in
-      let of_job = subst (λ i. IsFilled f.actor (get_or states f.actor v) i
-      (get_or (set jobs many filled) many j)) job there in
-      subst (λ u. IsFilled f.actor u (get_or jobs many j) (get_or (set jobs many filled) many j)) state of_job
+      record {
+        processor = refl;
+        actor = refl;
+        firing = refl;
+        phase = refl;
+        state = refl;
+        taken = refl;
+        put = refl;
+      } in
+      let there = subst (IsFull (get_or states f.actor v) (get_or jobs many k)) (sym put) full in
+      let of_job = subst (λ i. IsFull (get_or states f.actor v) i (get_or (set jobs many filled) many j)) job there in
+      subst (λ u. IsFull u (get_or jobs many j) (get_or (set jobs many filled) many j)) state of_job
 
-  pub has_loaded : HasLoaded (Some f) states (set states f.actor gone) jobs (set jobs many filled) many (many + 1)
+  pub has_loaded : HasLoaded (Some f) column done states (set states f.actor gone) jobs (set jobs many filled) many
+      (many + 1)
   has_loaded = (
     refl,
     length-set states f.actor gone,
@@ -86,11 +97,17 @@ can_load row done states jobs e many counted few l many_is = go (cell_of row e) 
         ∙ length_push (firings (take e row)) f in
         (k.0, k.1, omega (arith, next, firings_within row (e + 1)))
 
-module _ {A S T : Type 0} (fs : List Firing) (states was states' : List (NodeState T S))
-    (jobs now jobs' : List (Job A T S)) (before : AreLoaded fs states was jobs now) where
-  one_more : (f : Firing) (more : ℕ) → HasLoaded (Some f) was states' now jobs' (length fs) more →
-      AreLoaded (fs ++ f ∷ []) states states' jobs jobs'
-  one_more f more put = record {
+module _ {A S T : Type 0} (row : List (Option Firing)) (done : List ℕ) (p : ℕ) (fs : List Firing)
+    (states was states' : List (NodeState T S)) (jobs now jobs' : List (Job A T S))
+    (before : AreLoaded row done fs states was jobs now) where
+  -- the job of a firing of the row is filled for its column
+  abbrev IsPlaced : Firing → NodeState T S → Job A T S → Job A T S → Type 0
+  IsPlaced f u j k = (c : ℕ) × (cell_of row c ≡ Some f) × IsFilled c (slice_index done f.actor) f.actor u j k
+
+  one_more : (f : Firing) (more : ℕ) → cell_of row p ≡ Some f →
+      HasLoaded (Some f) p done was states' now jobs' (length fs) more →
+      AreLoaded row done (fs ++ f ∷ []) states states' jobs jobs'
+  one_more f more stands put = record {
     states_all = put.1 ∙ before.states_all;
     jobs_all = put.2 ∙ before.jobs_all;
     each = λ apart i w j h. each apart i w j h (cases_lt i (length fs));
@@ -113,15 +130,15 @@ module _ {A S T : Type 0} (fs : List Firing) (states was states' : List (NodeSta
       each : ((i m : ℕ) → i < length (fs ++ f ∷ []) → m < length (fs ++ f ∷ []) →
           (firing (fs ++ f ∷ []) i).actor ≡ (firing (fs ++ f ∷ []) m).actor → i ≡ m) →
           (i : ℕ) (w : NodeState T S) (j : Job A T S) → i < length (fs ++ f ∷ []) → (i < length fs) ⊎ (length fs ≤ i) →
-          IsFilled (firing (fs ++ f ∷ []) i).actor (get_or states (firing (fs ++ f ∷ []) i).actor w) (get_or jobs i j)
+          IsPlaced (firing (fs ++ f ∷ []) i) (get_or states (firing (fs ++ f ∷ []) i).actor w) (get_or jobs i j)
           (get_or jobs' i j)
       each apart i w j h (inl below) =
           let old = before.each (λ i m hi hm e. apart i m (omega (arith, long)) (omega (arith, long))
           (ap (λ (x : Firing). x.actor) (front i hi) ∙ (e
           ∙ sym (ap (λ (x : Firing). x.actor) (front m hm))))) i w j below in
-          subst (λ (x : Firing). IsFilled x.actor (get_or states x.actor w) (get_or jobs i j) (get_or jobs' i j))
+          subst (λ (x : Firing). IsPlaced x (get_or states x.actor w) (get_or jobs i j) (get_or jobs' i j))
           (sym (front i below))
-          (subst (IsFilled (firing fs i).actor (get_or states (firing fs i).actor w) (get_or jobs i j))
+          (subst (IsPlaced (firing fs i) (get_or states (firing fs i).actor w) (get_or jobs i j))
           (sym (put.5 i j (λ e. absurd (omega arith)))) old)
       each apart i w j h (inr above) =
           let here : length fs ≡ i = omega (arith, long) in
@@ -132,36 +149,38 @@ module _ {A S T : Type 0} (fs : List Firing) (states was states' : List (NodeSta
           ∙ (e ∙ sym (ap (λ (x : Firing). x.actor) (last (length fs) refl)))) in
           absurd (omega arith)) in
           let job : get_or now i j ≡ get_or jobs i j = before.rest i j (omega arith) in
-          let new : IsFilled f.actor (get_or was f.actor w) (get_or now i j) (get_or jobs' i j) =
-          subst (λ i. IsFilled f.actor (get_or was f.actor w) (get_or now i j) (get_or jobs' i j))
-          here (put.3 w j) in
-          subst (λ (x : Firing). IsFilled x.actor (get_or states x.actor w) (get_or jobs i j) (get_or jobs' i j))
+          let new : IsPlaced f (get_or was f.actor w) (get_or now i j) (get_or jobs' i j) =
+          subst (λ i. IsPlaced f (get_or was f.actor w) (get_or now i j) (get_or jobs' i j))
+          here (p, stands, put.3 w j) in
+          subst (λ (x : Firing). IsPlaced x (get_or states x.actor w) (get_or jobs i j) (get_or jobs' i j))
           (sym (last i here))
-          (subst (λ w. IsFilled f.actor w (get_or jobs i j) (get_or jobs' i j)) fresh
-          (subst (λ k. IsFilled f.actor (get_or was f.actor w) k (get_or jobs' i j)) job new))
+          (subst (λ w. IsPlaced f w (get_or jobs i j) (get_or jobs' i j)) fresh
+          (subst (λ k. IsPlaced f (get_or was f.actor w) k (get_or jobs' i j)) job new))
 
-  loaded_cell : (cell : Option Firing) (many more : ℕ) → many ≡ length fs →
-      HasLoaded cell was states' now jobs' many more →
-      (more ≡ length (fs ++ firings (cell ∷ []))) × AreLoaded (fs ++ firings (cell ∷ [])) states states' jobs jobs'
-  loaded_cell None many more many_is put = (
+  loaded_cell : (cell : Option Firing) (many more : ℕ) → cell_of row p ≡ cell → many ≡ length fs →
+      HasLoaded cell p done was states' now jobs' many more →
+      (more ≡ length (fs ++ firings (cell ∷ [])))
+      × AreLoaded row done (fs ++ firings (cell ∷ [])) states states' jobs jobs'
+  loaded_cell None many more stands many_is put = (
     put.0 ∙ (many_is ∙ ap length (sym (append-nil fs))),
-    subst (λ xs. AreLoaded xs states states' jobs jobs') (sym (append-nil fs))
-        (subst (λ v. AreLoaded fs states v jobs jobs') (sym put.1)
-        (subst (λ v. AreLoaded fs states was jobs v) (sym put.2) before)),
+    subst (λ xs. AreLoaded row done xs states states' jobs jobs') (sym (append-nil fs))
+        (subst (λ v. AreLoaded row done fs states v jobs jobs') (sym put.1)
+        (subst (λ v. AreLoaded row done fs states was jobs v) (sym put.2) before)),
   )
-  loaded_cell (Some f) many more many_is put = (
+  loaded_cell (Some f) many more stands many_is put = (
     put.0 ∙ (ap (λ m. m + 1) many_is ∙ sym (length_push fs f)),
-    one_more f more (subst (λ m. HasLoaded (Some f) was states' now jobs' m more) many_is put),
+    one_more f more stands (subst (λ m. HasLoaded (Some f) p done was states' now jobs' m more) many_is put),
   )
 
 -- the jobs filled up to the next cell
-pub loaded_more : {A S T : Type 0} (row : List (Option Firing)) (e many more : ℕ)
+pub loaded_more : {A S T : Type 0} (row : List (Option Firing)) (done : List ℕ) (e many more : ℕ)
     (states was states' : List (NodeState T S)) (jobs now jobs' : List (Job A T S)) → e < length row →
-    many ≡ length (firings (take e row)) → AreLoaded (firings (take e row)) states was jobs now →
-    HasLoaded (cell_of row e) was states' now jobs' many more →
-    (more ≡ length (firings (take (e + 1) row))) × AreLoaded (firings (take (e + 1) row)) states states' jobs jobs'
-loaded_more row e many more states was states' jobs now jobs' l many_is before put =
-    let next = loaded_cell (firings (take e row)) states was states' jobs now jobs' before (cell_of row e) many
-    more many_is put in
+    many ≡ length (firings (take e row)) → AreLoaded row done (firings (take e row)) states was jobs now →
+    HasLoaded (cell_of row e) e done was states' now jobs' many more →
+    (more ≡ length (firings (take (e + 1) row)))
+    × AreLoaded row done (firings (take (e + 1) row)) states states' jobs jobs'
+loaded_more row done e many more states was states' jobs now jobs' l many_is before put =
+    let next = loaded_cell row done e (firings (take e row)) states was states' jobs now jobs' before (cell_of row e)
+    many more refl many_is put in
     let same = sym (firings_more row e l) in
-    (next.0 ∙ ap length same, subst (λ fs. AreLoaded fs states states' jobs jobs') same next.1)
+    (next.0 ∙ ap length same, subst (λ fs. AreLoaded row done fs states states' jobs jobs') same next.1)

@@ -8,7 +8,7 @@ use Rattle.sdf_actor.specs.Nets.{Netlist, node, wiring, cycle_of}
 use Rattle.sdf_node.specs.Nodes.{phase_at, puts_of}
 use Rattle.sdf_node.specs.declared.node.NodeState.{NodeState}
 use Rattle.sdf_prec.specs.declared.firing.Firing.{Firing}
-use Rattle.sdf_prec.specs.Tables.{firing, firings}
+use Rattle.sdf_prec.specs.Tables.{firing, firings, cell_of}
 use Rattle.sdf_rows.specs.declared.job.Job.{Job}
 use Rattle.sdf_answer.specs.Held.{Held}
 use Rattle.sdf_answer.specs.Blocks.{samples, room, at_ports, ArePorts, HoldBlocks}
@@ -27,34 +27,38 @@ abbrev pub CanLoad : Option Firing → ℕ → ℕ → ℕ → ℕ → Type 0
 CanLoad None done states jobs many = Unit {0}
 CanLoad (Some f) done states jobs many = (f.actor < done) × (f.actor < states) × (many < jobs)
 
--- job k is job j filled with the next firing of actor a, whose state is w
-pub record IsFilled {A S T : Type 0} (a : ℕ) (w : NodeState T S) (j k : Job A T S) : Type 0 where
+-- job k is job j filled for processor p with firing m of actor a, whose state is w
+pub record IsFilled {A S T : Type 0} (p m a : ℕ) (w : NodeState T S) (j k : Job A T S) : Type 0 where
+  pub processor : k.processor ≡ p
   pub actor : k.actor ≡ a
+  pub firing : k.firing ≡ m
   pub phase : k.phase ≡ phase_at w
   pub state : k.state ≡ w
   pub taken : k.taken ≡ j.taken
   pub put : k.put ≡ j.put
 
--- what a cell fills
-abbrev pub HasLoaded : {A S T : Type 0} → Option Firing → List (NodeState T S) → List (NodeState T S) →
+-- what a cell of column p fills, where so many firings of each actor are done
+abbrev pub HasLoaded : {A S T : Type 0} → Option Firing → ℕ → List ℕ → List (NodeState T S) → List (NodeState T S) →
     List (Job A T S) → List (Job A T S) → ℕ → ℕ → Type 0
-HasLoaded None states states' jobs jobs' many more = (more ≡ many) × (states' ≡ states) × (jobs' ≡ jobs)
-HasLoaded {A} {S} {T} (Some f) states states' jobs jobs' many more =
+HasLoaded None p done states states' jobs jobs' many more = (more ≡ many) × (states' ≡ states) × (jobs' ≡ jobs)
+HasLoaded {A} {S} {T} (Some f) p done states states' jobs jobs' many more =
     (more ≡ many + 1) × (length states' ≡ length states) × (length jobs' ≡ length jobs) ×
-    ((w : NodeState T S) (j : Job A T S) → IsFilled f.actor (slice_index_or states f.actor w)
-    (slice_index_or jobs many j) (slice_index_or jobs' many j)) ×
+    ((w : NodeState T S) (j : Job A T S) → IsFilled p (slice_index done f.actor) f.actor
+    (slice_index_or states f.actor w) (slice_index_or jobs many j) (slice_index_or jobs' many j)) ×
     ((a : ℕ) (w : NodeState T S) → (f.actor ≡ a → ⊥) → slice_index_or states' a w ≡ slice_index_or states a w) ×
     ((i : ℕ) (j : Job A T S) → (many ≡ i → ⊥) → slice_index_or jobs' i j ≡ slice_index_or jobs i j)
 
--- a job is filled for each of some firings, of an actor each; every other state and job is as it was
-pub record AreLoaded {A S T : Type 0} (fs : List Firing) (states states' : List (NodeState T S))
-    (jobs jobs' : List (Job A T S)) : Type 0 where
+-- a job is filled for each of some firings of a row, of an actor each, for the column in which it stands, where so many
+-- firings of each actor are done; every other state and job is as it was
+pub record AreLoaded {A S T : Type 0} (row : List (Option Firing)) (done : List ℕ) (fs : List Firing)
+    (states states' : List (NodeState T S)) (jobs jobs' : List (Job A T S)) : Type 0 where
   pub states_all : length states' ≡ length states
   pub jobs_all : length jobs' ≡ length jobs
   pub each : ((i m : ℕ) → i < length fs → m < length fs → (firing fs i).actor ≡ (firing fs m).actor → i ≡ m) →
       (i : ℕ) (w : NodeState T S) (j : Job A T S) → i < length fs →
-      IsFilled (firing fs i).actor (slice_index_or states (firing fs i).actor w) (slice_index_or jobs i j)
-      (slice_index_or jobs' i j)
+      (p : ℕ) × (cell_of row p ≡ Some (firing fs i))
+      × IsFilled p (slice_index done (firing fs i).actor) (firing fs i).actor
+      (slice_index_or states (firing fs i).actor w) (slice_index_or jobs i j) (slice_index_or jobs' i j)
   pub idle : (a : ℕ) (w : NodeState T S) → ((i : ℕ) → i < length fs → (firing fs i).actor ≡ a → ⊥) →
       slice_index_or states' a w ≡ slice_index_or states a w
   pub rest : (i : ℕ) (j : Job A T S) → length fs ≤ i → slice_index_or jobs' i j ≡ slice_index_or jobs i j

@@ -54,7 +54,7 @@ fn load_cell<A: Actor>(
     many: usize,
 ) -> usize
     requires { CanLoad cell.now (length done.now) (length states.old) (length jobs.old) many }
-    ensures { HasLoaded cell.now states.old states.new jobs.old jobs.new many result }
+    ensures { HasLoaded cell.now column done.now states.old states.new jobs.old jobs.new many result }
 {
     match cell {
         Some(firing) => {
@@ -83,7 +83,7 @@ pub(crate) fn load_row<A: Actor>(
         (f.actor < length done.now) × (f.actor < length states.old) }
     requires few { length (firings row.now) ≤ length jobs.old }
     ensures many { result ≡ length (firings row.now) }
-    ensures loaded { AreLoaded (firings row.now) states.old states.new jobs.old jobs.new }
+    ensures loaded { AreLoaded row.now done.now (firings row.now) states.old states.new jobs.old jobs.new }
 {
     let mut many = 0;
     for column in 0..row.len() {

@@ -17,7 +17,7 @@ use std::alloc::Global;
 use std::test::Fail;
 use std::thread;
 use std::thread::Threads;
-use test_actors::gates::{Hold, Watch};
+use test_actors::gates::{Hold, MANY_TURNS, Watch};
 use test_texts::{row_says, says};
 
 /// How many firings were held in vain, and how many did not pass in turn.
@@ -82,6 +82,7 @@ const SECOND: Hold<'static> = Hold {
     many: 1,
     awaited: &[2, 3],
     ahead: 0,
+    turns: MANY_TURNS,
 };
 
 /// A worker without patience ends its round within so many turns of another.

@@ -15,7 +15,7 @@ use sdf_sched::Period;
 use std::alloc::Global;
 use std::test::Fail;
 use std::thread::Threads;
-use test_actors::gates::{Hold, Watch};
+use test_actors::gates::{Hold, MANY_TURNS, Watch};
 use test_texts::{row_says, says};
 
 /// Tests again so often that a worker goes on once its neighbour has moved.
@@ -32,6 +32,7 @@ const ACROSS: Hold<'static> = Hold {
     many: 1,
     awaited: &[0],
     ahead: 2,
+    turns: MANY_TURNS,
 };
 
 /// How many firings were held in vain, and how many did not pass in turn.
@@ -69,9 +70,10 @@ fn across<R: Threads + AllocGlobal + Sync, A: Actor<Token = i32>>(
     rt: &R,
     net: &Net<A>,
     mode: Mode,
+    hold: Hold<'static>,
 ) -> Result<String, Fail> {
     let plan = planned(rt.alloc(), net, 1, 2, true)?;
-    let watch = Watch::new(rt.alloc(), 2, 4, ACROSS)?;
+    let watch = Watch::new(rt.alloc(), 2, 4, hold)?;
     told_of_run(rt, net, &plan, blocks(2, mode), (0, 12), &watch)
 }
 
@@ -80,9 +82,12 @@ fn overlap<R: Threads + AllocGlobal + Sync, A: Actor<Token = i32>>(
     net: &Net<A>,
 ) -> Result<(), Fail> {
     for _ in 0..3 {
-        says(across(rt, net, PATIENT), "0 in vain, 0 odd")?;
+        says(across(rt, net, PATIENT, ACROSS), "0 in vain, 0 odd")?;
     }
-    says(across(rt, net, Mode::Rows), "1 in vain, 0 odd")
+    says(
+        across(rt, net, Mode::Rows, ACROSS.in_vain()),
+        "1 in vain, 0 odd",
+    )
 }
 
 /// Over rings a worker is in the next block while another is in this one; by rows none is.
@@ -97,12 +102,13 @@ fn told_of_feeds<R: Threads + AllocGlobal + Sync, A: Actor<Token = i32>>(
     net: &Net<A>,
     plan: &(Period, Table),
     mode: Mode,
+    hold: Hold<'static>,
 ) -> Result<String, Fail>
     requires period { IsPeriodOf (rates (graph_of A.steps net.now)) plan.now.0 }
     requires table { IsTableOf (rates (graph_of A.steps net.now)) plan.now.0.repetitions 1 plan.now.1 }
 {
     let inputs = ramp(rt.alloc(), 0, 12, 0)?;
-    let watch = Watch::new(rt.alloc(), 2, 4, ACROSS)?;
+    let watch = Watch::new(rt.alloc(), 2, 4, hold)?;
     feed_twice(rt, net, plan, 1, mode, &inputs, &watch)?;
     told(rt.alloc(), &watch)
 }
@@ -112,9 +118,12 @@ fn overlap_in_feeds<R: Threads + AllocGlobal + Sync, A: Actor<Token = i32>>(
     net: &Net<A>,
 ) -> Result<(), Fail> {
     let plan = planned(rt.alloc(), net, 1, 2, true)?;
-    says(told_of_feeds(rt, net, &plan, PATIENT), "0 in vain, 0 odd")?;
     says(
-        told_of_feeds(rt, net, &plan, Mode::Rows),
+        told_of_feeds(rt, net, &plan, PATIENT, ACROSS),
+        "0 in vain, 0 odd",
+    )?;
+    says(
+        told_of_feeds(rt, net, &plan, Mode::Rows, ACROSS.in_vain()),
         "2 in vain, 0 odd",
     )
 }

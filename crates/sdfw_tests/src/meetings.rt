@@ -7,7 +7,7 @@ use sdf_process::Fault;
 use std::alloc::Global;
 use std::test::Fail;
 use std::thread::Threads;
-use test_actors::gates::{Hold, Watch};
+use test_actors::gates::{Hold, MANY_TURNS, Watch};
 use test_texts::says;
 
 /// Blocks of two samples, dealt by threes to two outputs. The source and `left` are at home with one of two workers,
@@ -25,6 +25,7 @@ const ACROSS: Hold<'static> = Hold {
     many: 1,
     awaited: &[0],
     ahead: 2,
+    turns: MANY_TURNS,
 };
 
 /// The runners, each on two workers that are patient.
@@ -73,7 +74,10 @@ fn watched<T: Threads + AllocGlobal + Sync>(
 fn overlaps<T: Threads + AllocGlobal + Sync>(rt: &T, filled: bool) -> Result<(), Fail> {
     let input = sound(rt.alloc(), &[1, 2, 3, 4, 5, 6, 7, 8, 9, 10, 11, 12], filled)?;
     says(watched(rt, Runner::Rings, &input, ACROSS), "0 0 4")?;
-    says(watched(rt, Runner::Rows, &input, ACROSS), "1 0 4")
+    says(
+        watched(rt, Runner::Rows, &input, ACROSS.in_vain()),
+        "1 0 4",
+    )
 }
 
 /// Two blocks: over rings a worker is in the second while another is in the first, by rows none is.
@@ -138,6 +142,7 @@ const IN_A_ROW: Hold<'static> = Hold {
     many: 1,
     awaited: &[1],
     ahead: 1,
+    turns: MANY_TURNS,
 };
 
 const BETWEEN: Hold<'static> = Hold {
@@ -146,6 +151,7 @@ const BETWEEN: Hold<'static> = Hold {
     many: 1,
     awaited: &[2],
     ahead: 0,
+    turns: MANY_TURNS,
 };
 
 /// A sound shorter than a block, which is filled up and run at the end: `left` meets the second firing of `deal` in a

@@ -7,11 +7,14 @@ use std::alloc::{AllocError, Global};
 use std::sync::atomic::{AtomicU64, Ordering};
 use std::thread;
 
-/// A firing is held for so many turns at most.
-const TURNS: u32 = 2_000_000;
+/// Turns of a firing that is held until others have begun: they come sooner, however busy the machine is.
+pub const MANY_TURNS: u32 = 2_000_000;
+
+/// Turns of a firing that is held in vain.
+const FEW_TURNS: u32 = 20_000;
 
 /// Which firings are held, and until when: firing `first` of each actor that is held, and the `many` from there on,
-/// until each actor that is awaited has begun its firing of that number, `ahead` more.
+/// until each actor that is awaited has begun its firing of that number, `ahead` more, or for so many turns.
 #[derive(Drop, Clone, Copy)]
 pub struct Hold<'a> {
     pub held: &'a [ActorId],
@@ -19,6 +22,7 @@ pub struct Hold<'a> {
     pub many: u64,
     pub awaited: &'a [ActorId],
     pub ahead: u64,
+    pub turns: u32,
 }
 
 impl<'a> Hold<'a> {
@@ -29,6 +33,7 @@ impl<'a> Hold<'a> {
         many: 0,
         awaited: &[],
         ahead: 0,
+        turns: 0,
     };
 
     /// The first firings of some actors, each held until all of them have begun theirs of its number.
@@ -39,6 +44,15 @@ impl<'a> Hold<'a> {
             many,
             awaited: actors,
             ahead: 0,
+            turns: MANY_TURNS,
+        }
+    }
+
+    /// The same in a run where those that are awaited do not begin: it is given up soon.
+    pub fn in_vain(self) -> Hold<'a> {
+        Hold {
+            turns: FEW_TURNS,
+            ..self
         }
     }
 
@@ -148,7 +162,7 @@ impl<'a> Watch<'a> {
 
     /// Whether an actor begins a firing within the turns.
     fn begins(&self, actor: ActorId, firing: u64) -> bool {
-        for _ in 0..TURNS {
+        for _ in 0..self.hold.turns {
             if count(&self.begun, actor) > firing {
                 return true;
             }

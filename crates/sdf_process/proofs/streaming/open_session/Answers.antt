@@ -7,8 +7,8 @@ use Rattle.sdf_process.proofs.Fed.{opened_refused, stands_first}
 use Rattle.sdf_process.proofs.Refusals.{fails_by}
 use Rattle.sdf_process.proofs.streaming.open_session.Goals as goal
 
-pub returns-in_err-session : goal.returns-in_err-session
-returns-in_err-session c =
+pub returns-in_err-session-clause-stands : goal.returns-in_err-session-clause-stands
+returns-in_err-session-clause-stands c =
     let t = c.args.table.now in
     let homes = subst (λ o. IfSome o (SuitsRunner c.args.plan.now.runner)) c.requires.table c.requires.plan.homes in
     fails_by c.from_residual.result (of_run c.in_err-session.field-0.0) _ _ c.from_residual.ensures.1
@@ -16,9 +16,13 @@ returns-in_err-session c =
     c.in_err-session.field-0.0 (subst (λ m. IsModeFault t m c.in_err-session.field-0.0) c.mode.ensures
     c.in_err-session.ensures.tests))
 
-pub returns : goal.returns
-returns c = λ s. stands_first c.args.net.now c.args.plan.now.period c.args.plan.now.blocking c.in_ok-session.session
+pub returns-clause-stands : goal.returns-clause-stands
+returns-clause-stands c = λ s.
+    stands_first c.args.net.now c.args.plan.now.period c.args.plan.now.blocking c.in_ok-session.session
     (ap (λ z. z.net) c.in_ok-session.ensures.value.1)
     (ap (λ z. z.period) c.in_ok-session.ensures.value.1 ∙ c.period.ensures)
     (ap (λ z. z.factor) c.in_ok-session.ensures.value.1 ∙ c.blocking.ensures)
     c.in_ok-session.ensures.stands s
+
+pub returns-clause-mode : goal.returns-clause-mode
+returns-clause-mode c = ap (λ z. z.mode) c.in_ok-session.ensures.value.1 ∙ c.mode.ensures

@@ -23,7 +23,7 @@ returns-in_err-open_session g c =
     (unopened c.args.net.now c.args.plan.now.period.repetitions c.args.content (g.R.Reader.remaining c.args.reader.now)
     (g.W.Writer.contents c.args.writer.now) (g.R.Reader.failures c.args.reader.now)
     (g.W.Writer.failures c.args.writer.now)
-    c.in_err-open_session.field-0.0 c.in_err-open_session.field-0.0 c.in_err-open_session.ensures refl)
+    c.in_err-open_session.field-0.0 c.in_err-open_session.field-0.0 c.in_err-open_session.ensures.stands refl)
 
 pub loop-unread-init : goal.loop-unread-init
 loop-unread-init g c =
@@ -42,12 +42,12 @@ loop-unread-init g c =
       ready = ready_first n c.args.plan.now c.args.table.now c.requires.table c.requires.plan
           c.nets_have_periods.ensures d c.args.frames c.args.output
           c.of_net-exchange.result c.of_net-exchange.ensures.value c.of_net-exchange.ensures.limits c.requires.owed
-          c.blocking.result c.blocking.ensures v sound (c.in_ok-open_session.ensures sound);
+          c.blocking.result c.blocking.ensures v sound (c.in_ok-open_session.ensures.stands sound);
       blocking = c.blocking.ensures;
       flows = flows_first n p j d c.args.frames c.args.output.missing can (g.R.Reader.remaining c.args.reader.now)
           (g.W.Writer.contents c.args.writer.now) (g.R.Reader.failures c.args.reader.now)
           (g.W.Writer.failures c.args.writer.now)
-          c.new-kept.result.items c.args.output v (search rules) refl (c.in_ok-open_session.ensures sound);
+          c.new-kept.result.items c.args.output v (search rules) refl (c.in_ok-open_session.ensures.stands sound);
     }
 
 pub read_more-requires-clause-unspoilt : goal.read_more-requires-clause-unspoilt

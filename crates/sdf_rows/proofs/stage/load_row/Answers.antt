@@ -14,8 +14,8 @@ load_cell-many-requires-after_bounds g c = λ κs within.
 pub loop-column-preserved : goal.loop-column-preserved
 loop-column-preserved g c =
     let next =
-    loaded_more c.args.row.now c.loop-column.column c.loop-column.many c.load_cell-many.result c.args.states.now
-    c.loop-column.states c.load_cell-many.new.states
+    loaded_more c.args.row.now c.args.done.now c.loop-column.column c.loop-column.many c.load_cell-many.result
+    c.args.states.now c.loop-column.states c.load_cell-many.new.states
     c.args.jobs.now c.loop-column.jobs c.load_cell-many.new.jobs c.loop-column-test.true c.loop-column.invariant.many
     c.loop-column.invariant.loaded c.load_cell-many.ensures in
     record { many = next.0; loaded = next.1 }

@@ -6,5 +6,5 @@ use Rattle.sdf_rows.proofs.stage.load_row.Given as goal
 abbrev pub invariant-loop-column : goal.invariant-loop-column
 invariant-loop-column g l = record {
   many : l.many ≡ length (firings (take l.column l.row));
-  loaded : AreLoaded (firings (take l.column l.row)) l.initial.states l.states l.initial.jobs l.jobs;
+  loaded : AreLoaded l.row l.done (firings (take l.column l.row)) l.initial.states l.states l.initial.jobs l.jobs;
 }

@@ -23,7 +23,7 @@ fire_row-requires-clause-filled g c = λ κs within.
       filling_front s n (lists c.args.scene.now.inputs.now) c.row_laws.ensures.phases c.row_laws.ensures.counts b.0 b.1
           b.2 (λ a. get_or c.args.done.now a 0) c.args.states.now c.load_row-many.new.states c.args.queues.now
           c.args.jobs.now c.load_row-many.new.jobs
-          c.args.row.now b.3 b.4 c.requires.blocks c.requires.few c.load_row-many.ensures.loaded
+          c.args.row.now b.3 b.4 c.requires.blocks c.requires.few c.args.done.now c.load_row-many.ensures.loaded
           c.split_at_mut-front.result.0.now (c.split_at_mut-front.ensures.front_len ∙ c.load_row-many.ensures.many)
           (λ i d h. ap (λ xs. get_or xs i d) c.split_at_mut-front.ensures.front
           ∙ get_or-take c.load_row-many.result c.load_row-many.new.jobs i d
@@ -38,7 +38,7 @@ returns-clause-between g c = λ many low high st is.
     (filling_front s n (lists c.args.scene.now.inputs.now) c.row_laws.ensures.phases c.row_laws.ensures.counts many low
     high (λ a. get_or c.args.done.now a 0) c.args.states.now c.load_row-many.new.states c.args.queues.now
     c.args.jobs.now c.load_row-many.new.jobs
-    c.args.row.now st is c.requires.blocks c.requires.few c.load_row-many.ensures.loaded
+    c.args.row.now st is c.requires.blocks c.requires.few c.args.done.now c.load_row-many.ensures.loaded
     c.split_at_mut-front.result.0.now (c.split_at_mut-front.ensures.front_len ∙ c.load_row-many.ensures.many)
     (λ i d h. ap (λ xs. get_or xs i d) c.split_at_mut-front.ensures.front
     ∙ get_or-take c.load_row-many.result c.load_row-many.new.jobs i d
@@ -53,7 +53,7 @@ returns-clause-done g c = λ a.
     (front_actors s n (lists c.args.scene.now.inputs.now) c.row_laws.ensures.phases c.row_laws.ensures.counts b.0 b.1
     b.2 (λ a. get_or c.args.done.now a 0) c.args.states.now c.load_row-many.new.states c.args.queues.now
     c.args.jobs.now c.load_row-many.new.jobs
-    c.args.row.now b.3 b.4 c.requires.blocks c.requires.few c.load_row-many.ensures.loaded
+    c.args.row.now b.3 b.4 c.requires.blocks c.requires.few c.args.done.now c.load_row-many.ensures.loaded
     c.split_at_mut-front.result.0.now (c.split_at_mut-front.ensures.front_len ∙ c.load_row-many.ensures.many)
     (λ i d h. ap (λ xs. get_or xs i d) c.split_at_mut-front.ensures.front
     ∙ get_or-take c.load_row-many.result c.load_row-many.new.jobs i d
@@ -67,7 +67,7 @@ returns-clause-blocks g c =
     row_keeps s n (lists c.args.scene.now.inputs.now) c.row_laws.ensures.phases c.row_laws.ensures.counts b.0 b.1 b.2
     (λ a. get_or c.args.done.now a 0) c.args.states.now c.load_row-many.new.states c.args.queues.now c.args.jobs.now
     c.load_row-many.new.jobs
-    c.args.row.now b.3 b.4 c.requires.blocks c.requires.few c.load_row-many.ensures.loaded
+    c.args.row.now b.3 b.4 c.requires.blocks c.requires.few c.args.done.now c.load_row-many.ensures.loaded
     c.split_at_mut-front.result.0.now (c.split_at_mut-front.ensures.front_len ∙ c.load_row-many.ensures.many)
     (λ i d h. ap (λ xs. get_or xs i d) c.split_at_mut-front.ensures.front
     ∙ get_or-take c.load_row-many.result c.load_row-many.new.jobs i d
