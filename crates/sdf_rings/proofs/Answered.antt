@@ -76,7 +76,8 @@ module _ (sound : GraphsAreSound) (periods : GraphsHavePeriods) (repeats : Table
         (sym prepared.net_is) prepared.planned
 
     few_left : total_left r.seats ≤ length (repeated b t.order)
-    few_left = left_few s r.net r.inputs r.seats r.places rings (repeated b t.order) (roomy rooms (λ c. get_or t.caps c 0)) asked
+    few_left = left_few s r.net r.inputs r.seats r.places rings (repeated b t.order)
+        (roomy rooms (λ c. get_or t.caps c 0)) asked
 
     pub few_rounds : b < 2 ^ 32 → total_left r.seats < 2 ^ 64
     few_rounds few = omega (arith, few_left, order_few few)
@@ -103,7 +104,8 @@ module _ (sound : GraphsAreSound) (periods : GraphsHavePeriods) (repeats : Table
           counts = subst (λ m. AreCountsOf m (repeated b t.order) (periods_of q (b * j))) (sym net) counts_are;
           rounds_few = omega (arith, most, few_left, order_long);
           rounds_some = λ more. least (left_some s r.net r.inputs r.seats r.places rings (repeated b t.order)
-              (roomy rooms (λ c. get_or t.caps c 0)) asked 0 (subst (λ m. 0 < length m.nodes) (sym prepared.net_is) some_node)
+              (roomy rooms (λ c. get_or t.caps c 0)) asked 0
+              (subst (λ m. 0 < length m.nodes) (sym prepared.net_is) some_node)
               (λ e d. prepared.undone 0 e d some_node) (some_asked more));
         }
 

@@ -20,6 +20,7 @@ open_rings-requires-clause-held g c κs within =
     let again = c.tables_repeat.ensures in
     let t = c.args.given.now.table.now in
     let rooms = c.args.given.now.rooms in
+    let caps : ℕ → ℕ = roomy rooms (slice_index t.caps) in
     let b = c.args.blocks in
     let asked = slice_index x.asked.items in
     let is = c.requires.plan in
@@ -35,6 +36,7 @@ columns-requires g c =
     let again = c.tables_repeat.ensures in
     let t = c.args.given.now.table.now in
     let rooms = c.args.given.now.rooms in
+    let caps : ℕ → ℕ = roomy rooms (slice_index t.caps) in
     let b = c.args.blocks in
     let asked = slice_index x.asked.items in
     let is = c.requires.plan in
@@ -50,6 +52,7 @@ seats-requires-clause-order g c κs within =
     let again = c.tables_repeat.ensures in
     let t = c.args.given.now.table.now in
     let rooms = c.args.given.now.rooms in
+    let caps : ℕ → ℕ = roomy rooms (slice_index t.caps) in
     let b = c.args.blocks in
     let asked = slice_index x.asked.items in
     let is = c.requires.plan in
@@ -68,10 +71,11 @@ seats-requires-clause-ends g c κs within =
     let again = c.tables_repeat.ensures in
     let t = c.args.given.now.table.now in
     let rooms = c.args.given.now.rooms in
+    let caps : ℕ → ℕ = roomy rooms (slice_index t.caps) in
     let b = c.args.blocks in
     let asked = slice_index x.asked.items in
     let is = c.requires.plan in
-    (λ a h. has_ends s n (roomy rooms (slice_index t.caps)) c.in_ok-ends.ends.producers.items c.in_ok-ends.ends.consumers.items
+    (λ a h. has_ends s n caps c.in_ok-ends.ends.producers.items c.in_ok-ends.ends.consumers.items
     c.in_ok-ends.ensures a)
 
 pub new-requires-clause-rings : goal.new-requires-clause-rings
@@ -84,6 +88,7 @@ new-requires-clause-rings g c κs within =
     let again = c.tables_repeat.ensures in
     let t = c.args.given.now.table.now in
     let rooms = c.args.given.now.rooms in
+    let caps : ℕ → ℕ = roomy rooms (slice_index t.caps) in
     let b = c.args.blocks in
     let asked = slice_index x.asked.items in
     let is = c.requires.plan in
@@ -110,7 +115,7 @@ new-requires-clause-rings g c κs within =
     c.order.ensures (c.in_ok-seats.ensures.each i e (omega (arith, many, h))))) in
     let known = plans.known alike again s n wired t rooms b asked is in
     let counts = plans.counts alike again s n wired t rooms b asked is in
-    begun.are_rings s n c.requires.start.net inputs asked ps xs (roomy rooms (slice_index t.caps)) c.in_ok-ends.ensures places all
+    begun.are_rings s n c.requires.start.net inputs asked ps xs caps c.in_ok-ends.ensures places all
     order known counts seats seated each
 
 pub returns : goal.returns
@@ -123,6 +128,7 @@ returns g c =
     let again = c.tables_repeat.ensures in
     let t = c.args.given.now.table.now in
     let rooms = c.args.given.now.rooms in
+    let caps : ℕ → ℕ = roomy rooms (slice_index t.caps) in
     let b = c.args.blocks in
     let asked = slice_index x.asked.items in
     let is = c.requires.plan in
@@ -156,12 +162,12 @@ returns g c =
       columns = λ i h. c.columns.ensures i h ∙ sym many;
       processors = λ i e h. (each i e h).processor_is;
       homes = λ a l. c.in_ok-places.ensures.homes a (omega (arith, c.len.ensures, l));
-      undone = begun.undone s n c.requires.start.net inputs asked ps xs (roomy rooms (slice_index t.caps)) c.in_ok-ends.ensures places
+      undone = begun.undone s n c.requires.start.net inputs asked ps xs caps c.in_ok-ends.ensures places
           all order known counts seats seated each;
       first = λ i e h. (each i e h).first;
-      met = begun.have_met s n c.requires.start.net inputs asked ps xs (roomy rooms (slice_index t.caps)) c.in_ok-ends.ensures places
+      met = begun.have_met s n c.requires.start.net inputs asked ps xs caps c.in_ok-ends.ensures places
           all order known counts seats seated each;
-      planned = begun.is_planned s n c.requires.start.net inputs asked ps xs (roomy rooms (slice_index t.caps)) c.in_ok-ends.ensures
+      planned = begun.is_planned s n c.requires.start.net inputs asked ps xs caps c.in_ok-ends.ensures
           places all order known counts seats seated each
           (plans.admissible alike again s n wired t rooms b asked is) (plans.fits alike again s n wired t rooms b asked is);
     })

@@ -7,6 +7,6 @@ abbrev pub invariant-loop-c : goal.invariant-loop-c
 invariant-loop-c g l = record {
   producers : vec_len l.producers ≡ l.c;
   consumers : vec_len l.consumers ≡ l.c;
-  each : (k : ℕ) → k < l.c → HasRing g.A.Actor.steps l.net (roomy l.given.rooms (slice_index l.given.table.caps)) k l.producers.items
-      l.consumers.items;
+  each : (k : ℕ) → k < l.c → HasRing g.A.Actor.steps l.net
+      (roomy l.given.rooms (slice_index l.given.table.caps)) k l.producers.items l.consumers.items;
 }
