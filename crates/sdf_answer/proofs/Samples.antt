@@ -1,17 +1,15 @@
 -- How many samples a block moves at a source or a sink.
-use Rattle.std.proofs.Common.{◌≡◌, ℕ, zero, suc, ◌+◌, ◌*◌, ◌≤◌, ◌<◌, ◌⊎◌, inl, inr, true, List, length, get_or, refl, sym}
-use Rattle.std.proofs.Common.{ap, ◌∙◌, subst, arith}
+use Rattle.std.proofs.Common.{◌≡◌, ℕ, ◌*◌, ◌%◌, ◌≤◌, ◌<◌, ◌⊎◌, inl, inr, true, length, get_or, refl, sym, ap, ◌∙◌}
+use Rattle.std.proofs.Common.{subst, arith}
 use Rattle.std.specs.Prelude.{is_some, sum}
-use Rattle.std.proofs.Math.Nat.{mul-le-mul_left, mul-le-mul_right}
+use Rattle.std.proofs.Math.Nat.{mul-le-mul, mul-le-mul_left}
 use Rattle.std.proofs.lemmas.Bool.{cases_lt, false≢true}
 use Rattle.std.proofs.lemmas.List.{get_or_past}
 use Rattle.std.proofs.lemmas.List.Sums.{passes_at_first, get_or-le-sum_by}
 use Rattle.sdf_limits.specs.declared.TheConstants.{MOST_RATE, MOST_BLOCK}
 use Rattle.sdf_graph.specs.Rates.{rates, channel, IsShape, IsAlike}
-use Rattle.sdf_graph.specs.Periods.{IsLeastPeriod}
-use Rattle.sdf_prec.specs.Blocks.{IsShort}
 use Rattle.sdf_actor.specs.declared.node.Node.{Node}
-use Rattle.sdf_actor.specs.declared.node.Node.TheVariants.{Source, Sink, Inner}
+use Rattle.sdf_actor.specs.declared.node.Node.TheVariants.{Source, Sink}
 use Rattle.sdf_actor.specs.declared.sides.Lists.{Lists}
 use Rattle.sdf_actor.specs.declared.sides.Lists.TheVariants.{Inputs, Outputs}
 use Rattle.sdf_actor.specs.Graphs.{graph_of}
@@ -74,7 +72,8 @@ module _ {A S T : Type 0} (s : Steps A S T) (n : Netlist A T) (net : IsNet s n) 
       go (inl low) =
           let on = passes_at_first (λ (x : Node A). is_some (list_of lists x)) n.nodes (Sink 0 0) low in
           let small : block_of (node n first) ≤ MOST_RATE = block_small lists first low on in
-          let each : get_or q first 0 ≤ sum q = get_or-le-sum_by (λ x. x) q first 0 (omega (arith, least.is.all, low)) in
+          let each : get_or q first 0 ≤ sum q =
+          get_or-le-sum_by (λ x. x) q first 0 (omega (arith, least.is.all, low)) in
           let period : block_of (node n first) * get_or q first 0 ≤ MOST_RATE * sum q = mul-le-mul small each in
           let block : j * (block_of (node n first) * get_or q first 0) ≤ j * (MOST_RATE * sum q) =
           mul-le-mul_left j period in
@@ -83,6 +82,6 @@ module _ {A S T : Type 0} (s : Steps A S T) (n : Netlist A T) (net : IsNet s n) 
       go (inr none) =
           let nothing : block_of (get_or n.nodes first (Sink 0 0)) ≡ 0 =
           ap block_of (get_or_past n.nodes first (Sink 0 0) none) in
-          let zero : j * (block_of (get_or n.nodes first (Sink 0 0)) * get_or q first 0) ≡ j * (0 * get_or q first 0) =
-          ap (λ m. j * (m * get_or q first 0)) nothing in
-          omega (arith, zero)
+          let none_moved : j * (block_of (get_or n.nodes first (Sink 0 0)) * get_or q first 0) ≡
+          j * (0 * get_or q first 0) = ap (λ m. j * (m * get_or q first 0)) nothing in
+          omega (arith, none_moved)
