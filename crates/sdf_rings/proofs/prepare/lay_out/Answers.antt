@@ -169,5 +169,6 @@ returns g c =
           all order known counts seats seated each;
       planned = begun.is_planned s n c.requires.start.net inputs asked ps xs caps c.in_ok-ends.ensures
           places all order known counts seats seated each
-          (plans.admissible alike again s n wired t rooms b asked is) (plans.fits alike again s n wired t rooms b asked is);
+          (plans.admissible alike again s n wired t rooms b asked is)
+          (plans.fits alike again s n wired t rooms b asked is);
     })
