@@ -74,10 +74,7 @@ fn watched<T: Threads + AllocGlobal + Sync>(
 fn overlaps<T: Threads + AllocGlobal + Sync>(rt: &T, filled: bool) -> Result<(), Fail> {
     let input = sound(rt.alloc(), &[1, 2, 3, 4, 5, 6, 7, 8, 9, 10, 11, 12], filled)?;
     says(watched(rt, Runner::Rings, &input, ACROSS), "0 0 4")?;
-    says(
-        watched(rt, Runner::Rows, &input, ACROSS.in_vain()),
-        "1 0 4",
-    )
+    says(watched(rt, Runner::Rows, &input, ACROSS.in_vain()), "1 0 4")
 }
 
 /// Two blocks: over rings a worker is in the second while another is in the first, by rows none is.
