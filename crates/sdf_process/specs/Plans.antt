@@ -30,18 +30,22 @@ use Rattle.sdf_options.specs.declared.options.Policy.{Policy}
 use Rattle.sdf_options.specs.declared.options.Policy.TheVariants as policies
 use Rattle.sdf_options.specs.declared.options.Runner.{Runner}
 use Rattle.sdf_options.specs.declared.options.Runner.TheVariants.{One, Rows, Rings}
+use Rattle.sdf_options.specs.declared.options.Placement.{Placement}
+use Rattle.sdf_options.specs.declared.options.Placement.TheVariants.{Spread}
+use Rattle.sdf_process.specs.declared.plan.TheConstants.{SPREAD_ROOMS}
 use Rattle.sdf_process.specs.declared.fault.Progress.{Progress}
 use Rattle.sdf_process.specs.declared.fault.Fault.{Fault}
 use Rattle.sdf_process.specs.declared.fault.Fault.TheVariants.{OutOfMemory, Patience, BlockingFactor, WorkerCount}
 use Rattle.sdf_process.specs.declared.fault.Fault.TheVariants.{Deadlock, Table, NotHomed}
-use Rattle.sdf_process.specs.Placements.{IsTableBy, IsPlaceFault}
+use Rattle.sdf_process.specs.Placements.{blocking_by, IsTableBy, IsPlaceFault}
 
--- what runs a design, the periods of a block, a worker's repeated tests, the order of one period, and the table of a
--- block
+-- what runs a design, the periods of a block, a worker's repeated tests, how many times the capacities of the table
+-- the rings hold, the order of one period, and the table of a block
 pub record PlanValue : Type 0 where
   pub blocking : ℕ
   pub runner : Runner
   pub patience : ℕ
+  pub rooms : ℕ
   pub period : Schedule
   pub table : Option Tabled
 
@@ -103,12 +107,22 @@ IsTableFor Rows d o s (Some t) = IsTableBy d o s t
 IsTableFor Rings d o s (Some t) = IsTableBy d o s t × IsHomed t
 IsTableFor runner d o s None = ⊥
 
+-- how many times the capacities of the table the rings hold by a placement
+abbrev pub rooms_of : Placement → ℕ
+rooms_of Spread = SPREAD_ROOMS
+rooms_of placement = 1
+
+-- the rings may hold so many times the capacities
+abbrev pub IsRooms : ℕ → Type 0
+IsRooms rooms = (1 ≤ rooms) × (rooms ≤ SPREAD_ROOMS)
+
 -- the plan of a design by options that pass all tests
 pub record IsPlanOf (d : DesignValue) (o : Options) (p : PlanValue) : Type 0 where
   pub options : ArePassed o
-  pub same_blocking : p.blocking ≡ o.blocking
+  pub same_blocking : p.blocking ≡ blocking_by d o p.period
   pub same_runner : p.runner ≡ o.runner
   pub same_patience : p.patience ≡ o.patience
+  pub rooms : p.rooms ≡ rooms_of o.placement
   pub schedule : IsScheduleBy o.policy (graph_of kit_steps d.net) p.period
   pub by_placement : IsTableFor o.runner d o p.period p.table
 
@@ -124,6 +138,7 @@ pub record Suits (n : Netlist Kit ℤ) (p : PlanValue) : Type 0 where
   pub table : IfSome p.table (IsTableOf (rates (graph_of kit_steps n)) p.period.repetitions p.blocking)
   pub homes : IfSome p.table (SuitsRunner p.runner)
   pub patience : HasPatience p.runner p.patience
+  pub rooms : IsRooms p.rooms
 
 -- how far an actor came: its name, its firings, those of a period, and for an unfinished one its first link that holds
 -- too little
@@ -175,13 +190,13 @@ pub record IsUnplaced (d : DesignValue) (o : Options) (f : PrecFault) : Type 0 w
   pub sizes : AreSizes o
   pub period : Schedule
   pub by_policy : IsScheduleBy o.policy (graph_of kit_steps d.net) period
-  pub fault : IsPlaceFault o.placement d o.blocking o.workers period f
+  pub fault : IsPlaceFault o.placement d (blocking_by d o period) o.workers period f
   pub no_memory : f ≡ prec.OutOfMemory → ⊥
 
 -- why there is no table of a period that the runner takes
 abbrev pub IsTableFault : DesignValue → Options → Schedule → Fault → Type 0
 IsTableFault d o s OutOfMemory = Unit {0}
-IsTableFault d o s (Table f) = (o.runner ≢ One) × IsPlaceFault o.placement d o.blocking o.workers s f
+IsTableFault d o s (Table f) = (o.runner ≢ One) × IsPlaceFault o.placement d (blocking_by d o s) o.workers s f
     × (f ≡ prec.OutOfMemory → ⊥)
 IsTableFault d o s NotHomed = (o.runner ≡ Rings) × ((t : Tabled) × IsTableBy d o s t × (IsHomed t → ⊥))
 IsTableFault d o s f = ⊥

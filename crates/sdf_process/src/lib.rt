@@ -12,6 +12,7 @@ mod fault;
 mod finishing;
 mod hearing;
 pub mod laws;
+pub mod parallel;
 mod placement;
 mod plan;
 pub mod planning;
@@ -21,7 +22,9 @@ mod putting;
 mod running;
 mod samples;
 pub mod schedule;
+mod spreading;
 mod streaming;
+mod weights;
 
 pub use fault::{Fault, Progress, Stalled, fault_text, status};
 pub use plan::Plan;

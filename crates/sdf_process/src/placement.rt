@@ -1,15 +1,27 @@
 //! The table of a design by the placement of the options.
 
-ghost use Rattle.std.specs.Prelude.{MatchResult};
+ghost use Rattle.std.specs.Prelude.{◌≡◌, MatchResult};
 ghost use Rattle.sdf_sched.specs.Period.{IsPeriodOf};
-ghost use Rattle.sdf_process.specs.Placements.{rates_of, IsTableBy, IsPlaceFault};
+ghost use Rattle.sdf_process.specs.Placements.{blocking_by, rates_of, IsTableBy, IsPlaceFault};
 
+use crate::spreading::{long_block, spread};
+use crate::weights::weights;
 use sdf_file::Design;
 use sdf_options::{Options, Placement, Policy};
 use sdf_prec::hu::hu;
 use sdf_prec::{PrecFault, Table};
 use sdf_sched::Period;
 use std::alloc::Global;
+
+/// The periods of a block: those of the options, and by the placement `spread` those of a long block.
+pub fn blocking_by(design: &Design, options: &Options, period: &Period) -> u32
+    ensures { result ≡ blocking_by design.now options.now period.now }
+{
+    match options.placement {
+        Placement::Spread => long_block(design.net().graph(), period.repetitions()),
+        Placement::Hu | Placement::Homed | Placement::File => options.blocking,
+    }
+}
 
 /// The table of a design's period by a placement.
 pub(crate) fn table_by(
@@ -20,10 +32,11 @@ pub(crate) fn table_by(
 ) -> Result<Table, PrecFault>
     requires { IsPeriodOf (rates_of design.now) period.now }
     ensures { MatchResult result (IsTableBy design.now options.now period.now)
-        (IsPlaceFault options.now.placement design.now options.now.blocking options.now.workers period.now) }
+        (IsPlaceFault options.now.placement design.now (blocking_by design.now options.now period.now)
+        options.now.workers period.now) }
 {
     let graph = design.net().graph();
-    let j = options.blocking;
+    let j = blocking_by(design, options, period);
     let m = options.workers;
     match options.placement {
         Placement::Hu => hu(
@@ -55,5 +68,9 @@ pub(crate) fn table_by(
                 design.homes(),
             ),
         },
+        Placement::Spread => {
+            let weights = weights(alloc, design, period)?;
+            spread(alloc, graph, period, j, m, &weights)
+        }
     }
 }

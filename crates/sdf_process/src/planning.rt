@@ -13,7 +13,7 @@ ghost use Rattle.sdf_process.specs.Plans.{IsTableFor, IsTableFault, Suits, Decid
 ghost use Rattle.sdf_process.specs.Plans.{IsScheduleFault, progress_of, progress_view, short_of};
 
 use crate::fault::{Fault, Progress, Stalled};
-use crate::placement::table_by;
+use crate::placement::{blocking_by, table_by};
 use crate::plan::Plan;
 use sdf_file::Design;
 use sdf_graph::laws::{graphs_are_sound, one_least_period};
@@ -165,7 +165,8 @@ fn planned(alloc: Global, design: &Design, options: &Options) -> Result<Plan, Fa
     }
     let period = period_by(alloc, design, options.policy)?;
     let table = table_for(alloc, design, &period, options)?;
-    Ok(Plan::new(options, period, table))
+    let blocking = blocking_by(design, options, &period);
+    Ok(Plan::new(options, blocking, period, table))
 }
 
 /// Plans a run. The tests in order: for the runner `rings` the patience is within its limit; the blocking factor and

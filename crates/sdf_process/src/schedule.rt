@@ -2,7 +2,7 @@
 
 ghost use Rattle.std.specs.Prelude.{MatchResult, IfOk, string_bytes};
 ghost use Rattle.sdf_prec.specs.Tables.{IsTable};
-ghost use Rattle.sdf_process.specs.Placements.{rates_of, firings_of};
+ghost use Rattle.sdf_process.specs.Placements.{blocking_by, rates_of, firings_of};
 ghost use Rattle.sdf_process.specs.Schedules.{IsScheduled, IsShown, IsShowFault};
 
 use crate::fault::Fault;
@@ -26,8 +26,8 @@ pub fn scheduled(
         (IsShowFault design.now options.now) }
 
     // The table is one of the block.
-    ensures table { IfOk result (λ s. IsTable (rates_of design.now) (firings_of options.now.blocking s.0)
-        options.now.workers s.1) }
+    ensures table { IfOk result (λ s. IsTable (rates_of design.now)
+        (firings_of (blocking_by design.now options.now s.0) s.0) options.now.workers s.1) }
 {
     if let Some(fault) = size_fault(options) {
         return Err(fault);

@@ -13,7 +13,7 @@ ghost use Rattle.sdf_wav.specs.Sound.{Sound};
 ghost use Rattle.sdf_process.specs.declared.exchange.Extent.{Extent};
 ghost use Rattle.sdf_process.specs.declared.fault.Fault.TheVariants.{OutOfMemory};
 ghost use Rattle.sdf_process.specs.Output.{exchange_of, lists_from, IsExtent};
-ghost use Rattle.sdf_process.specs.Plans.{Suits};
+ghost use Rattle.sdf_process.specs.Plans.{IsRooms, Suits};
 ghost use Rattle.sdf_process.specs.Streams.{AreBehind, IsReady, PutsBlocks, PutsWhole, mode_of, ReadsBy, ReadsMore};
 ghost use Rattle.sdf_process.specs.Streams.{StandsAt, StandsWhole, Streams};
 
@@ -33,8 +33,17 @@ use sdf_wav::{ContentIn, ContentOut, MOST_CHANNELS, Reader, Wav, Writer};
 use std::alloc::{AllocError, Global};
 use std::thread::Threads;
 
-/// Frames that are read at a time.
+/// Frames that are read at a time, where the rings of a plan hold no more than the capacities of its table.
 const FRAMES: usize = 4096;
+
+/// Frames that are read at a time.
+fn frames_at_a_time(plan: &Plan) -> usize
+    requires { IsRooms plan.now.rooms }
+    ensures is { result ≡ 4096 * plan.now.rooms }
+    ensures some { 0 < result }
+{
+    FRAMES * plan.rooms() as usize
+}
 
 /// How the blocks of a plan are run.
 fn mode(plan: &Plan) -> Mode
@@ -272,10 +281,11 @@ pub(crate) fn run_stream<T: Threads + AllocGlobal + Sync, R: Reader, W: Writer, 
         exchange,
         blocking: plan.blocking(),
     };
+    let most = frames_at_a_time(plan);
     let mut kept = Vec::new(alloc);
     let mut unread = frames;
     while unread > 0 {
-        let many = FRAMES.min(unread);
+        let many = most.min(unread);
         let samples = read_more(alloc, reader, &mut content, many, kept)?;
         kept = stream.put_whole(rt, writer, gate, rate, channels, samples)?;
         unread -= many;
