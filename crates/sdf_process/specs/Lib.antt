@@ -10,4 +10,5 @@ pub mod Schedules
 pub mod Statuses
 pub mod Laws
 pub mod Spread
+pub mod Long
 pub mod Weights

@@ -1,15 +1,15 @@
 -- The table of a design by the placement of the options, or why there is none.
-use Rattle.std.specs.Prelude.{ℕ, ◌×◌, ◌≤◌, List, Option, true, false, slice_index}
+use Rattle.std.specs.Prelude.{◌≡◌, ℕ, true, false, slice_index}
 use Rattle.sdf_graph.specs.Rates.{Rates, rates}
 use Rattle.sdf_graph.specs.Sequences.{repeated}
 use Rattle.sdf_actor.specs.Graphs.{graph_of}
 use Rattle.sdf_kit.specs.Kit.{kit_steps}
 use Rattle.sdf_sched.specs.Period.{Schedule}
 use Rattle.sdf_prec.specs.declared.fault.PrecFault.{PrecFault}
-use Rattle.sdf_prec.specs.Blocks.{block, IsShort, IsWorkers, IsSizeFault as IsBlockSizeFault}
+use Rattle.sdf_prec.specs.Blocks.{block, IsSizeFault as IsBlockSizeFault}
 use Rattle.sdf_prec.specs.ByHomes.{AreByHomes, AreRunsByHomes, IsHomesFault}
 use Rattle.sdf_prec.specs.HuTables.{IsHuTable}
-use Rattle.sdf_process.specs.Spread.{AreSpread, IsSpreadFault, IsSpreadTable, long_block}
+use Rattle.sdf_process.specs.Long.{IsLongest, IsLongSize, IsSpreadFault, IsSpreadTable}
 use Rattle.sdf_prec.specs.Tables.{Tabled, IsTable}
 use Rattle.sdf_file.specs.Designs.{DesignValue}
 use Rattle.sdf_options.specs.declared.options.Options.{Options}
@@ -22,13 +22,13 @@ use Rattle.sdf_process.specs.Weights.{weights_of}
 abbrev pub rates_of : DesignValue → Rates
 rates_of d = rates (graph_of kit_steps d.net)
 
--- the periods of a block by a placement: those of the options, and of a long block where the actors are spread
-abbrev pub periods_by : Placement → DesignValue → ℕ → Schedule → ℕ
-periods_by Spread d j s = long_block (rates_of d) s.repetitions
-periods_by placement d j s = j
+-- the periods of a block: those that are asked for, and where the actors are spread those of a long block
+abbrev pub ArePeriodsBy : Placement → DesignValue → ℕ → Schedule → ℕ → Type 0
+ArePeriodsBy Spread d asked s j = IsLongest (rates_of d) s.repetitions j
+ArePeriodsBy placement d asked s j = j ≡ asked
 
-abbrev pub blocking_by : DesignValue → Options → Schedule → ℕ
-blocking_by d o s = periods_by o.placement d o.blocking s
+abbrev pub ArePeriodsOf : DesignValue → Options → Schedule → ℕ → Type 0
+ArePeriodsOf d o s j = ArePeriodsBy o.placement d o.blocking s j
 
 -- how often each actor fires in a block
 abbrev pub firings_of : ℕ → Schedule → ℕ → ℕ
@@ -47,7 +47,7 @@ abbrev pub IsPlaced : Placement → Policy → DesignValue → ℕ → ℕ → S
 IsPlaced Hu policy d j m s t = IsHuTable (rates_of d) (firings_of j s) (slice_index d.costs) m false t
 IsPlaced Homed policy d j m s t = IsHuTable (rates_of d) (firings_of j s) (slice_index d.costs) m true t
 IsPlaced File policy d j m s t = IsTable (rates_of d) (firings_of j s) m t × AreAtHome policy d j m s t
-IsPlaced Spread policy d j m s t = IsSpreadTable (rates_of d) (weights_of d s.repetitions) j m s.repetitions t
+IsPlaced Spread policy d j m s t = IsSpreadTable (rates_of d) s.repetitions j m (weights_of d s.repetitions) t
 
 -- the first reason why there is none
 abbrev pub IsPlaceFault : Placement → DesignValue → ℕ → ℕ → Schedule → PrecFault → Type 0
@@ -56,9 +56,7 @@ IsPlaceFault Homed d j m s f = IsBlockSizeFault j m s.repetitions f
 IsPlaceFault File d j m s f = IsHomesFault j m s.repetitions d.homes f
 IsPlaceFault Spread d j m s f = IsSpreadFault j m s.repetitions f
 
--- the table of a design's period by options
-pub record IsTableBy (d : DesignValue) (o : Options) (s : Schedule) (t : Tabled) : Type 0 where
-  pub some : 1 ≤ blocking_by d o s
-  pub workers : IsWorkers o.workers
-  pub short : IsShort (blocking_by d o s) s.repetitions
-  pub placed : IsPlaced o.placement o.policy d (blocking_by d o s) o.workers s t
+-- the table of a design's period for blocks of j periods by options
+pub record IsTableBy (d : DesignValue) (o : Options) (s : Schedule) (j : ℕ) (t : Tabled) : Type 0 where
+  pub size : IsLongSize j o.workers s.repetitions
+  pub placed : IsPlaced o.placement o.policy d j o.workers s t

@@ -1,32 +1,60 @@
--- stub until the lower crate has it
-use Rattle.std.specs.Prelude.{◌≡◌, ◌×◌, ◌≤◌, ◌<◌, ℕ, List, length, slice_index, Option, sum, ◌*◌}
+-- Homes by weight: each worker has a stretch of the actors in file order.
+use Rattle.std.specs.Prelude.{◌≡◌, ℕ, ◌+◌, ◌*◌, ◌/◌, ◌<◌, ◌≤◌, List, length, slice_index, slice_index_or, Option, Some}
+use Rattle.std.specs.Prelude.{None}
 use Rattle.sdf_limits.specs.declared.TheConstants.{MOST_ACTORS, MOST_BLOCK, MOST_COST}
-use Rattle.sdf_graph.specs.Rates.{Rates}
-use Rattle.sdf_prec.specs.Blocks.{block, IsShort, IsWorkers, IsSizeFault}
-use Rattle.sdf_prec.specs.ByHomes.{AreRunsByHomes}
-use Rattle.sdf_prec.specs.Tables.{Tabled, IsTable}
-use Rattle.sdf_prec.specs.declared.fault.PrecFault.{PrecFault}
+use Rattle.sdf_graph.specs.Rates.{Rates, sum_to}
+use Rattle.sdf_prec.specs.Placing.{load_by}
 
--- what each actor's firings of a period weigh
+-- what the firings of each actor in a period weigh together
 pub record AreLoads (actors : ℕ) (weights : List ℕ) : Type 0 where
   pub all : length weights ≡ actors
   pub few : actors ≤ MOST_ACTORS
   pub some : (a : ℕ) → a < actors → 0 < slice_index weights a
   pub small : (a : ℕ) → slice_index weights a ≤ MOST_BLOCK * MOST_COST
 
-abbrev pub long_block : Rates → List ℕ → ℕ
-long_block r q = 1
+-- the weight of the first k actors
+abbrev pub weight_to : List ℕ → ℕ → ℕ
+weight_to weights k = sum_to (slice_index weights) k
 
-pub record IsSpreadTable (r : Rates) (weights : List ℕ) (j m : ℕ) (q : List ℕ) (t : Tabled) : Type 0 where
-  pub some : 1 ≤ j
-  pub workers : IsWorkers m
-  pub short : IsShort j q
-  pub table : IsTable r (slice_index (block j q)) m t
-  pub homes : List (Option ℕ)
-  pub by : AreRunsByHomes r (slice_index (block j q)) homes m t.rows
+-- a channel leads from an actor at place k or behind it to one before k
+abbrev pub LeadsBack : Rates → ℕ → Type 0
+LeadsBack r k = (c : ℕ) × (c < r.channels) × (r.target c < k) × (k ≤ r.source c)
 
-abbrev pub IsSpreadFault : ℕ → ℕ → List ℕ → PrecFault → Type 0
-IsSpreadFault j m q f = IsSizeFault j m q f
+-- actor k has inputs, and all of them come from the actor just before it
+pub record IsFedByLast (r : Rates) (k : ℕ) : Type 0 where
+  pub some : (c : ℕ) × (c < r.channels) × (r.target c ≡ k)
+  pub all : (c : ℕ) → c < r.channels → r.target c ≡ k → r.source c + 1 ≡ k
 
-abbrev pub heaviest : List ℕ → List (Option ℕ) → ℕ → ℕ
-heaviest weights homes m = sum weights
+-- the actors before k and those from k on may go to different workers: no loop is cut, and none from what alone feeds it
+pub record MayPart (r : Rates) (k : ℕ) : Type 0 where
+  pub ahead : LeadsBack r k → ⊥
+  pub fed : IsFedByLast r k → ⊥
+
+-- where the stretch that holds actor a begins: the last place up to a where they may part
+pub record IsFirst (r : Rates) (a first : ℕ) : Type 0 where
+  pub within : first ≤ a
+  pub parts : MayPart r first
+  pub last : (k : ℕ) → first < k → k ≤ a → MayPart r k → ⊥
+
+-- and where the next one begins: the first such place behind a, or the end
+pub record IsPast (r : Rates) (a past : ℕ) : Type 0 where
+  pub behind : a < past
+  pub within : past ≤ r.actors
+  pub parts : MayPart r past
+  pub first : (k : ℕ) → a < k → k < past → MayPart r k → ⊥
+
+-- the worker of a stretch: that one of m equal shares of all weight in which the middle of the stretch falls
+abbrev pub share : List ℕ → ℕ → ℕ → ℕ → ℕ
+share weights m first past =
+    m * (weight_to weights first + weight_to weights past) / (2 * weight_to weights (length weights))
+
+-- each actor is at home where its stretch is
+pub record AreSpread (r : Rates) (weights : List ℕ) (m : ℕ) (homes : List (Option ℕ)) : Type 0 where
+  pub all : length homes ≡ r.actors
+  pub each : (a : ℕ) → a < r.actors → (first : ℕ) × (past : ℕ) × IsFirst r a first × IsPast r a past
+      × (slice_index_or homes a None ≡ Some (share weights m first past))
+
+-- the greatest weight that one of m workers has
+pub record IsHeaviest (weights : List ℕ) (homes : List (Option ℕ)) (m most : ℕ) : Type 0 where
+  pub above : (j : ℕ) → j < m → load_by weights homes j ≤ most
+  pub reached : (j : ℕ) × (j < m) × (load_by weights homes j ≡ most)

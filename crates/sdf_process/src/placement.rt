@@ -1,8 +1,8 @@
 //! The table of a design by the placement of the options.
 
-ghost use Rattle.std.specs.Prelude.{◌≡◌, MatchResult};
+ghost use Rattle.std.specs.Prelude.{MatchResult};
 ghost use Rattle.sdf_sched.specs.Period.{IsPeriodOf};
-ghost use Rattle.sdf_process.specs.Placements.{blocking_by, rates_of, IsTableBy, IsPlaceFault};
+ghost use Rattle.sdf_process.specs.Placements.{rates_of, ArePeriodsOf, IsTableBy, IsPlaceFault};
 
 use crate::spreading::{long_block, spread};
 use crate::weights::weights;
@@ -14,8 +14,9 @@ use sdf_sched::Period;
 use std::alloc::Global;
 
 /// The periods of a block: those of the options, and by the placement `spread` those of a long block.
-pub fn blocking_by(design: &Design, options: &Options, period: &Period) -> u32
-    ensures { result ≡ blocking_by design.now options.now period.now }
+pub(crate) fn blocking_by(design: &Design, options: &Options, period: &Period) -> u32
+    requires { IsPeriodOf (rates_of design.now) period.now }
+    ensures { ArePeriodsOf design.now options.now period.now result }
 {
     match options.placement {
         Placement::Spread => long_block(design.net().graph(), period.repetitions()),
@@ -23,20 +24,19 @@ pub fn blocking_by(design: &Design, options: &Options, period: &Period) -> u32
     }
 }
 
-/// The table of a design's period by a placement.
+/// The table of a design's period for blocks of `j` periods by a placement.
 pub(crate) fn table_by(
     alloc: Global,
     design: &Design,
     period: &Period,
     options: &Options,
+    j: u32,
 ) -> Result<Table, PrecFault>
     requires { IsPeriodOf (rates_of design.now) period.now }
-    ensures { MatchResult result (IsTableBy design.now options.now period.now)
-        (IsPlaceFault options.now.placement design.now (blocking_by design.now options.now period.now)
-        options.now.workers period.now) }
+    ensures { MatchResult result (IsTableBy design.now options.now period.now j)
+        (IsPlaceFault options.now.placement design.now j options.now.workers period.now) }
 {
     let graph = design.net().graph();
-    let j = blocking_by(design, options, period);
     let m = options.workers;
     match options.placement {
         Placement::Hu => hu(

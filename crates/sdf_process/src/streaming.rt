@@ -13,7 +13,7 @@ ghost use Rattle.sdf_wav.specs.Sound.{Sound};
 ghost use Rattle.sdf_process.specs.declared.exchange.Extent.{Extent};
 ghost use Rattle.sdf_process.specs.declared.fault.Fault.TheVariants.{OutOfMemory};
 ghost use Rattle.sdf_process.specs.Output.{exchange_of, lists_from, IsExtent};
-ghost use Rattle.sdf_process.specs.Plans.{IsRooms, Suits};
+ghost use Rattle.sdf_process.specs.Plans.{Suits};
 ghost use Rattle.sdf_process.specs.Streams.{AreBehind, IsReady, PutsBlocks, PutsWhole, mode_of, ReadsBy, ReadsMore};
 ghost use Rattle.sdf_process.specs.Streams.{StandsAt, StandsWhole, Streams};
 
@@ -38,20 +38,19 @@ const FRAMES: usize = 4096;
 
 /// Frames that are read at a time.
 fn frames_at_a_time(plan: &Plan) -> usize
-    requires { IsRooms plan.now.rooms }
-    ensures is { result ≡ 4096 * plan.now.rooms }
-    ensures some { 0 < result }
+    ensures { 0 < result }
 {
-    FRAMES * plan.rooms() as usize
+    FRAMES * plan.rooms().max(1) as usize
 }
 
 /// How the blocks of a plan are run.
 fn mode(plan: &Plan) -> Mode
-    ensures { result ≡ mode_of plan.now.runner plan.now.patience }
+    ensures { result ≡ mode_of plan.now.runner plan.now.patience plan.now.rooms }
 {
     match plan.runner() {
         Runner::Rings => Mode::Rings {
             patience: plan.patience(),
+            rooms: plan.rooms(),
         },
         _ => Mode::Rows,
     }
