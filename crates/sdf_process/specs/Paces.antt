@@ -1,5 +1,5 @@
 -- Runs in parallel: by several workers where these can be faster, and else in one thread.
-use Rattle.std.specs.Prelude.{◌≡◌, ℕ, ◌*◌, ◌/◌, ◌<◌, ◌≤◌, sum, Some}
+use Rattle.std.specs.Prelude.{◌≡◌, ℕ, ◌*◌, ◌/◌, ◌<◌, ◌≤◌, length, Some}
 use Rattle.sdf_prec.specs.Tables.{Tabled}
 use Rattle.sdf_file.specs.Designs.{DesignValue}
 use Rattle.sdf_options.specs.declared.options.Options.{Options}
@@ -13,7 +13,7 @@ use Rattle.sdf_process.specs.declared.parallel.Pace.TheVariants.{Crew, Slow, Alo
 use Rattle.sdf_process.specs.declared.parallel.TheConstants.{CREW_PATIENCE, LEAST_TENTHS}
 use Rattle.sdf_process.specs.Output.{exchange_of}
 use Rattle.sdf_process.specs.Plans.{PlanValue, IsPlanOf, IsPlanFault}
-use Rattle.sdf_process.specs.Spread.{heaviest}
+use Rattle.sdf_process.specs.Spread.{weight_to, IsHeaviest}
 use Rattle.sdf_process.specs.Weights.{weights_of}
 
 -- the options of a run by several workers
@@ -43,8 +43,9 @@ one_thread = record {
 pub record HasSpeed (d : DesignValue) (workers : ℕ) (p : PlanValue) (tenths : ℕ) : Type 0 where
   pub table : Tabled
   pub is : p.table ≡ Some table
-  pub speed : let weights = weights_of d p.period.repetitions in
-      tenths ≡ 10 * sum weights / heaviest weights table.homes workers
+  pub most : ℕ
+  pub heaviest : IsHeaviest (weights_of d p.period.repetitions) table.homes workers most
+  pub speed : tenths ≡ 10 * weight_to (weights_of d p.period.repetitions) (length d.net.nodes) / most
 
 -- there is no plan by these options, but memory was not refused
 abbrev pub IsUnplanned : DesignValue → Options → Type 0

@@ -1,14 +1,13 @@
 //! A plan for several workers, where these can be faster than one thread.
 
-ghost use Rattle.std.specs.Prelude.{◌≡◌, ◌<◌, ◌^◌, ℕ, length, sum, MatchResult, IfOk};
+ghost use Rattle.std.specs.Prelude.{◌≡◌, ℕ, length, MatchResult, IfOk};
 ghost use Rattle.sdf_process.specs.Paces.{crew_options, one_thread, HasSpeed, IsPaced, IsReason};
 ghost use Rattle.sdf_process.specs.Plans.{IsPlanOf, IsPlanFault, IsWorkers, Suits};
-ghost use Rattle.sdf_process.specs.Spread.{AreLoads};
 
 use crate::fault::Fault;
 use crate::plan::Plan;
 use crate::planning::plan;
-use crate::spreading::heaviest;
+use crate::spreading::{heaviest, weight_to};
 use crate::weights::weights;
 use sdf_file::Design;
 use sdf_options::{Options, Placement, Policy, Runner};
@@ -85,19 +84,6 @@ fn homes_of(
     Ok(homes)
 }
 
-/// What all actors weigh.
-fn total(weights: &[u64]) -> u64
-    requires { AreLoads (length weights.now) weights.now }
-    ensures is { result ≡ sum weights.now }
-    ensures few { result < 2 ^ 42 }
-{
-    let mut total = 0;
-    for weight in weights {
-        total += *weight;
-    }
-    total
-}
-
 /// At most so many tenths as fast as one the workers of a plan can be.
 fn tenths_of(
     alloc: Global,
@@ -115,7 +101,9 @@ fn tenths_of(
     };
     let weights = weights(alloc, design, plan.period())?;
     let homes = homes_of(alloc, table, design.net().len())?;
-    Ok(10 * total(&weights) / heaviest(&weights, &homes, workers))
+    let all = weight_to(&weights, design.net().len());
+    let most = heaviest(&weights, &homes, workers);
+    Ok((10 * all).checked_div(most).unwrap_or(0))
 }
 
 /// A plan for several workers where these can be fast enough, and else one for one thread.

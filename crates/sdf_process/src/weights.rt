@@ -47,7 +47,6 @@ fn products_of(kit: &Kit) -> u64
 /// A weight within the limits of a cost.
 fn as_cost(weight: u64) -> u64
     ensures is { result ≡ as_cost weight }
-    ensures some { 1 ≤ result }
     ensures few { result ≤ MOST_COST }
 {
     weight.min(u64::from(MOST_COST)).max(1)
@@ -56,7 +55,6 @@ fn as_cost(weight: u64) -> u64
 /// What a firing of a node weighs.
 fn load_of(node: &Node<Kit>) -> u64
     ensures is { result ≡ load_of node.now }
-    ensures some { 1 ≤ result }
     ensures few { result ≤ MOST_COST }
 {
     match node {
@@ -83,7 +81,6 @@ fn firing_weight(design: &Design, free: bool, actor: usize) -> u64
     requires known { actor < length design.now.net.nodes }
     requires free { free ≡ is_free_of_costs design.now }
     ensures is { result ≡ firing_weight design.now actor }
-    ensures some { 1 ≤ result }
     ensures few { result ≤ MOST_COST }
 {
     let net = design.net();
