@@ -1,11 +1,12 @@
 -- What the actors of a design weigh is within the limits of loads.
-use Rattle.std.proofs.Common.{◌≡◌, ◌⊎◌, inl, inr, ℕ, ◌+◌, ◌*◌, ◌<◌, ◌≤◌, Bool, true, false, length, map, get_or, slice_index}
-use Rattle.std.proofs.Common.{if◌then◌else◌, min, max, arith, ap, refl, sym, subst, ◌∙◌}
+use Rattle.std.proofs.Common.{◌≡◌, ◌⊎◌, inl, inr, ℕ, ◌+◌, ◌*◌, ◌<◌, ◌≤◌, Bool, true, false, length, map, slice_index}
+use Rattle.std.proofs.Common.{if◌then◌else◌, min, max, List, [], ◌∷◌, ◌++◌, arith, ap, sym, subst, ◌∙◌}
 use Rattle.std.specs.List.{range_with_len}
 use Rattle.std.proofs.Math.Nat.{mul-le-mul}
 use Rattle.std.proofs.lemmas.Bool.{cases_lt}
 use Rattle.std.proofs.lemmas.List.{get_or_past}
 use Rattle.std.proofs.lemmas.List.FromFn.{get_or-map-range_with_len, length-map-range_with_len}
+use Rattle.std.proofs.lemmas.List.FromFn.{map-range_with_len_more}
 use Rattle.std.proofs.lemmas.List.Sums.{get_or-le-sum_by}
 use Rattle.sdf_limits.specs.declared.TheConstants.{MOST_ACTORS, MOST_BLOCK, MOST_COST}
 use Rattle.sdf_actor.specs.Nets.{node}
@@ -18,6 +19,13 @@ use Rattle.sdf_prec.specs.Costs.{IsCost}
 use Rattle.sdf_process.specs.Placements.{rates_of}
 use Rattle.sdf_process.specs.Spread.{AreLoads}
 use Rattle.sdf_process.specs.Weights.{as_cost, load_of, firing_weight, is_free_of_costs, weights_of}
+
+-- one more weight
+pub one_more : (f : ℕ → ℕ) (n : ℕ) (xs : List ℕ) (x : ℕ) → xs ≡ map f (range_with_len 0 n) → x ≡ f n →
+    xs ++ x ∷ [] ≡ map f (range_with_len 0 (n + 1))
+one_more f n xs x all one =
+    ap (λ ys. ys ++ x ∷ []) all
+    ∙ (ap (λ y. map f (range_with_len 0 n) ++ y ∷ []) one ∙ sym (map-range_with_len_more f 0 n n (omega arith)))
 
 is_cost : (weight : ℕ) → IsCost (as_cost weight)
 is_cost weight = (omega arith, omega arith)
@@ -39,16 +47,17 @@ weight_is_cost d a is known =
 -- some firings of some weight, both within their limits
 weighed : (q w : ℕ) → 0 < q → q ≤ MOST_BLOCK → IsCost w → (0 < q * w) × (q * w ≤ MOST_BLOCK * MOST_COST)
 weighed q w some few cost =
-    let least : 1 * 1 ≤ q * w = mul-le-mul {1} {1} {q} {w} some cost.0 in
-    (omega (arith, least), mul-le-mul {q} {w} {MOST_BLOCK} {MOST_COST} few cost.1)
+    let one : 1 ≤ q = omega (arith, some) in
+    let least : 1 * 1 ≤ q * w = mul-le-mul one cost.0 in
+    (omega (arith, least), mul-le-mul few cost.1)
 
 module _ (d : DesignValue) (s : Schedule) (is : IsDesign d) (period : IsPeriodOf (rates_of d) s)
     (few : length d.net.nodes ≤ MOST_ACTORS) where
-  weight : ℕ → ℕ
+  abbrev weight : ℕ → ℕ
   weight a = slice_index s.repetitions a * firing_weight d a
 
   at : (a : ℕ) → a < length d.net.nodes → slice_index (weights_of d s.repetitions) a ≡ weight a
-  at a known = get_or-map-range_with_len weight 0 (length d.net.nodes) a a 0 known refl
+  at a known = get_or-map-range_with_len weight 0 (length d.net.nodes) a a 0 known (omega arith)
 
   within : (a : ℕ) → a < length d.net.nodes → (0 < weight a) × (weight a ≤ MOST_BLOCK * MOST_COST)
   within a known =

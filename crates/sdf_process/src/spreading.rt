@@ -1,5 +1,5 @@
 //! Stub.
-ghost use Rattle.std.specs.Prelude.{◌≡◌, ◌≤◌, length, sum, MatchResult};
+ghost use Rattle.std.specs.Prelude.{◌≡◌, ◌≤◌, ◌*◌, length, sum, MatchResult};
 ghost use Rattle.sdf_limits.specs.declared.TheConstants.{MOST_BLOCK, MOST_COST};
 ghost use Rattle.sdf_graph.specs.Rates.{rates};
 ghost use Rattle.sdf_graph.specs.Periods.{IsPeriodVector};

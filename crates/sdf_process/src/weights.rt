@@ -1,6 +1,6 @@
 //! What the actors of a design weigh, by which they are spread over workers.
 
-ghost use Rattle.std.specs.Prelude.{◌≡◌, ◌≤◌, ◌<◌, ℕ, length, map, slice_index, IfOk};
+ghost use Rattle.std.specs.Prelude.{◌≡◌, ◌≤◌, ◌<◌, ◌^◌, ◌*◌, ℕ, length, map, slice_index, IfOk};
 ghost use Rattle.std.specs.List.{range_with_len};
 ghost use Rattle.sdf_limits.specs.declared.TheConstants.{MOST_BLOCK, MOST_COST, MOST_PORTS};
 ghost use Rattle.sdf_actor.specs.Nets.{node};
@@ -102,10 +102,12 @@ pub(crate) fn weights(
     ensures are { IfOk result (λ v. v.items ≡ weights_of design.now period.now.repetitions) }
     ensures loads { IfOk result (λ v. AreLoads (length design.now.net.nodes) v.items) }
 {
+    let net = design.net();
+    net.graph().channels();
     let free = is_free_of_costs(design);
     let repetitions = period.repetitions();
     let mut weights = Vec::new(alloc);
-    for actor in 0..design.net().len() {
+    for actor in 0..net.len() {
         weights.push(u64::from(repetitions[actor]) * firing_weight(design, free, actor))?;
     }
     Ok(weights)
