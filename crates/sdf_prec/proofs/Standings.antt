@@ -24,7 +24,7 @@ some_within xs m x e = go (cases_lt m (length xs))
     go (inl l) = l
     go (inr past) = absurd (none_some (sym (get_or_past xs m None past) ∙ e))
 
-row_within : (rows : List (List (Option Firing))) (k m : ℕ) (f : Firing) → cell rows k m ≡ Some f → k < length rows
+pub row_within : (rows : List (List (Option Firing))) (k m : ℕ) (f : Firing) → cell rows k m ≡ Some f → k < length rows
 row_within rows k m f e = go (cases_lt k (length rows))
   where
     go : (k < length rows) ⊎ (length rows ≤ k) → k < length rows

@@ -5,8 +5,8 @@ ghost use Rattle.std.specs.Prelude.{slice_set, IfOk, IsTrue, MatchOption, MatchR
 ghost use Rattle.sdf_graph.specs.Rates.{rates};
 ghost use Rattle.sdf_graph.specs.Sequences.{repeated, IsPass};
 ghost use Rattle.sdf_sched.specs.Period.{IsPeriodOf};
-ghost use Rattle.sdf_prec.specs.Blocks.{block};
-ghost use Rattle.sdf_prec.specs.Tables.{IsTable};
+ghost use Rattle.sdf_prec.specs.Blocks.{block, IsShort};
+ghost use Rattle.sdf_prec.specs.Tables.{IsTable, IsHomed};
 ghost use Rattle.sdf_prec.specs.Accepting.{IsSize};
 ghost use Rattle.sdf_prec.specs.ByHomes.{HasHome, IsBadHome, AreByHomes, AreRunsByHomes, IsHomesFault};
 
@@ -135,6 +135,33 @@ fn by_order(
     Ok(table)
 }
 
+/// The table of the firings of `j` periods in runs, one a row, each in its actor's home.
+pub(crate) fn in_runs(
+    alloc: Global,
+    graph: &Graph,
+    period: &Period,
+    j: u32,
+    m: usize,
+    homes: &[Option<usize>],
+) -> Result<Table, AllocError>
+    requires period { IsPeriodOf (rates graph.now) period.now }
+    requires some { 1 ≤ j }
+    requires short { IsShort j period.now.repetitions }
+    requires homed { (a : ℕ) → a < graph.now.actors → HasHome homes.now m a }
+    ensures table { IfOk result (IsTable (rates graph.now) (slice_index (block j period.now.repetitions)) m) }
+    ensures homed { IfOk result IsHomed }
+    ensures runs { IfOk result (λ t. AreRunsByHomes (rates graph.now) (slice_index (block j period.now.repetitions))
+        homes.now m t.rows) }
+{
+    graph.channels();
+    graph_laws();
+    runs_stay();
+    let firings = block_firings(alloc, j, period.repetitions())?;
+    let order = class_s_of(alloc, graph, &firings, &mut Runs::new())?;
+    let table = by_order(alloc, graph, &order, m, homes)?;
+    Ok(table)
+}
+
 impl Table {
     /// The period's order `j` times, one firing a row, each in its actor's home, of `m` workers.
     ///
@@ -186,14 +213,10 @@ impl Table {
     {
         graph.channels();
         graph_laws();
-        runs_stay();
-        let reps = period.repetitions();
-        if let Some(fault) = homes_fault(j, m, reps, homes) {
+        if let Some(fault) = homes_fault(j, m, period.repetitions(), homes) {
             return Err(fault);
         }
-        let firings = block_firings(alloc, j, reps)?;
-        let order = class_s_of(alloc, graph, &firings, &mut Runs::new())?;
-        let table = by_order(alloc, graph, &order, m, homes)?;
+        let table = in_runs(alloc, graph, period, j, m, homes)?;
         Ok(table)
     }
 }

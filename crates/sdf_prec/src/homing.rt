@@ -12,7 +12,7 @@ use sdf_graph::laws::sums_rise;
 use std::alloc::{AllocError, Global};
 
 /// The weights of the actors at home in a column.
-fn load_of(weights: &[u64], homes: &[Option<usize>], column: usize) -> u64
+pub(crate) fn load_of(weights: &[u64], homes: &[Option<usize>], column: usize) -> u64
     requires weights { AreWeights weights.now homes.now }
     ensures { result ≡ load_by weights.now homes.now column }
 {

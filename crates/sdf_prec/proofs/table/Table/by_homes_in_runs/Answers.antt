@@ -1,86 +1,23 @@
-use Rattle.std.proofs.Common.{◌≡◌, ℕ, length, sum, slice_index, sym, ap, ◌∙◌, subst, arith}
-use Rattle.sdf_limits.specs.declared.TheConstants.{MOST_BLOCK}
-use Rattle.sdf_graph.specs.Rates.{rates}
-use Rattle.sdf_graph.specs.Sequences.{repeated, IsPass}
-use Rattle.sdf_sched.specs.Pick.{IsPicked}
-use Rattle.sdf_sched.specs.Runs.{IsRunsChoice}
-use Rattle.sdf_prec.specs.Blocks.{block}
+use Rattle.std.proofs.Common.{◌≡◌, length, ap, subst, arith}
 use Rattle.sdf_prec.specs.Accepting.{IsSize}
-use Rattle.sdf_prec.specs.ByHomes.{AreByHomes}
-use Rattle.sdf_prec.proofs.Periods.{block_sum, block_pass}
-use Rattle.sdf_prec.proofs.Refusing.{one_of_all}
 use Rattle.sdf_prec.proofs.table.Table.by_homes_in_runs.Goals as goal
 
-pub class_s_of-requires-clause-short : goal.class_s_of-requires-clause-short
-class_s_of-requires-clause-short c =
-    let size : IsSize c.args.j c.args.m c.args.period.now.repetitions =
-    subst (IsSize c.args.j c.args.m) c.repetitions-reps.ensures c.in_default.ensures.0 in
-    let firings_are : c.deref.result.now ≡ block c.args.j c.args.period.now.repetitions =
-    c.deref.ensures.value ∙ (c.in_ok-firings.ensures ∙ ap (block c.args.j) c.repetitions-reps.ensures) in
-    omega (arith, ap sum firings_are, block_sum c.args.j c.args.period.now.repetitions, size.short)
+pub in_runs-requires-clause-some : goal.in_runs-requires-clause-some
+in_runs-requires-clause-some c = c.in_default.ensures.0.factor.0
 
-pub class_s_of-requires-clause-some : goal.class_s_of-requires-clause-some
-class_s_of-requires-clause-some c =
-    let r = rates c.args.graph.now in
-    let w = repeated c.args.j c.args.period.now.order in
-    let firings_are : c.deref.result.now ≡ block c.args.j c.args.period.now.repetitions =
-    c.deref.ensures.value ∙ (c.in_ok-firings.ensures ∙ ap (block c.args.j) c.repetitions-reps.ensures) in (
-      w,
-      subst (λ q. IsPass r (slice_index q) w) (sym firings_are)
-          (block_pass c.graph_laws.ensures c.args.graph.now c.channels.ensures.shape c.args.period.now
-          c.requires c.args.j),
-    )
-
-pub by_order-requires-clause-pass : goal.by_order-requires-clause-pass
-by_order-requires-clause-pass c =
-    let r = rates c.args.graph.now in
-    let q = block c.args.j c.args.period.now.repetitions in
+pub in_runs-requires-clause-short : goal.in_runs-requires-clause-short
+in_runs-requires-clause-short c =
     let size : IsSize c.args.j c.args.m c.args.period.now.repetitions =
-    subst (IsSize c.args.j c.args.m) c.repetitions-reps.ensures c.in_default.ensures.0 in
-    let firings_are : c.deref.result.now ≡ q = c.deref.ensures.value
-    ∙ (c.in_ok-firings.ensures ∙ ap (block c.args.j) c.repetitions-reps.ensures) in (
-      slice_index q,
-      subst (IsPass r (slice_index q)) (sym c.deref-2.ensures.value)
-          (subst (λ q. IsPass r (slice_index q) c.in_ok-order.order.items) firings_are c.in_ok-order.ensures.pass),
-      one_of_all q MOST_BLOCK (omega (arith, block_sum c.args.j c.args.period.now.repetitions, size.short)),
-    )
+    subst (IsSize c.args.j c.args.m) c.repetitions.ensures c.in_default.ensures.0 in
+    size.short
 
-pub by_order-requires-clause-few : goal.by_order-requires-clause-few
-by_order-requires-clause-few c =
-    let size : IsSize c.args.j c.args.m c.args.period.now.repetitions =
-    subst (IsSize c.args.j c.args.m) c.repetitions-reps.ensures c.in_default.ensures.0 in
-    let firings_are : c.deref.result.now ≡ block c.args.j c.args.period.now.repetitions =
-    c.deref.ensures.value ∙ (c.in_ok-firings.ensures ∙ ap (block c.args.j) c.repetitions-reps.ensures) in
-    omega (
-      arith,
-      ap length c.deref-2.ensures.value,
-      c.in_ok-order.ensures.all,
-      ap sum firings_are,
-      block_sum c.args.j c.args.period.now.repetitions,
-      size.short,
-    )
+pub in_runs-requires-clause-homed : goal.in_runs-requires-clause-homed
+in_runs-requires-clause-homed c = λ a l. c.in_default.ensures.1 a
+    (omega (arith, l, c.requires.least.is.all, ap length c.repetitions.ensures))
 
 pub returns : goal.returns
-returns c =
-    let g = c.args.graph.now in
-    let r = rates g in
-    let q = block c.args.j c.args.period.now.repetitions in
-    let order = c.in_ok-order.order.items in
-    let last = c.class_s_of.new.pick in
-    let firings_are : c.deref.result.now ≡ q = c.deref.ensures.value
-    ∙ (c.in_ok-firings.ensures ∙ ap (block c.args.j) c.repetitions-reps.ensures) in
-    let pass : IsPass r (slice_index q) order = subst (λ q. IsPass r (slice_index q) order) firings_are
-    c.in_ok-order.ensures.pass in
-    let picked : IsPicked IsRunsChoice g (slice_index q) 0 order last =
-    subst (λ (first : ℕ). IsPicked IsRunsChoice g (slice_index q) first order last) c.new.ensures
-    (subst (λ q. IsPicked IsRunsChoice g (slice_index q) c.new.result order last) firings_are
-    c.in_ok-order.ensures.picked) in (
-      subst (IsSize c.args.j c.args.m) c.repetitions-reps.ensures c.in_default.ensures.0,
-      c.in_ok-table.ensures.table (slice_index q) (subst (IsPass r (slice_index q)) (sym c.deref-2.ensures.value) pass),
-      record {
-        order = order;
-        in_runs = c.runs_stay.ensures g (slice_index q) order last picked;
-        by = subst (λ w. AreByHomes c.args.homes.now c.args.m w c.in_ok-table.table.rows) c.deref-2.ensures.value
-            c.in_ok-table.ensures.rows;
-      },
-    )
+returns c = (
+  subst (IsSize c.args.j c.args.m) c.repetitions.ensures c.in_default.ensures.0,
+  c.in_ok-table.ensures.table,
+  c.in_ok-table.ensures.runs,
+)

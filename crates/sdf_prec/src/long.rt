@@ -1,0 +1,100 @@
+//! Tables of long blocks, by homes that are worked out from weights.
+
+ghost use Rattle.std.specs.Prelude.{◌≡◌, ℕ, ◌≤◌, ◌<◌, ◌^◌, length, slice_index, sum, MatchOption, MatchResult};
+ghost use Rattle.sdf_limits.specs.declared.TheConstants.{MOST_BLOCK};
+ghost use Rattle.sdf_graph.specs.Rates.{rates};
+ghost use Rattle.sdf_graph.specs.Periods.{IsPeriodVector};
+ghost use Rattle.sdf_sched.specs.Period.{IsPeriodOf};
+ghost use Rattle.sdf_prec.specs.Blocks.{IsWorkers, IsShort};
+ghost use Rattle.sdf_prec.specs.Spread.{AreLoads};
+ghost use Rattle.sdf_prec.specs.Long.{moved, IsLongest, IsLongSize, IsSpreadTable, IsSpreadFault};
+
+use crate::block::total;
+use crate::by_homes::in_runs;
+use crate::fault::PrecFault;
+use crate::spread::spread;
+use crate::sums::moved_by;
+use crate::table::Table;
+use sdf_graph::Graph;
+use sdf_graph::laws::cycles_begin_anew;
+use sdf_limits::{MOST_BLOCK, MOST_WORKERS};
+use sdf_sched::Period;
+use std::alloc::Global;
+
+/// Samples that a long block moves on a channel, unless a single period moves more.
+pub const MOST_MOVED: u64 = 1024;
+
+/// What a channel moves in a period.
+#[tactic(auto, using(crate::proofs::Longest::channel_moves))]
+fn moved(graph: &Graph, repetitions: &[u32], channel: usize) -> u64
+    requires period { IsPeriodVector (rates graph.now) repetitions.now }
+    requires known { channel < length graph.now.channels }
+    ensures is { result ≡ moved (rates graph.now) repetitions.now channel }
+    ensures some { 0 < result }
+{
+    cycles_begin_anew();
+    let channel = &graph.channels()[channel];
+    moved_by(&channel.put, u64::from(repetitions[channel.from]))
+}
+
+/// How many periods make a long block: as many as keep it within `MOST_MOVED` samples on each channel and within the
+/// firings of a block, and at least one.
+pub fn long_block(graph: &Graph, repetitions: &[u32]) -> u32
+    requires { IsPeriodVector (rates graph.now) repetitions.now }
+    ensures longest { IsLongest (rates graph.now) repetitions.now result }
+    ensures short { sum repetitions.now ≤ MOST_BLOCK → IsShort result repetitions.now }
+{
+    let channels = graph.channels().len();
+    let mut periods = MOST_BLOCK / total(repetitions);
+    for channel in 0..channels {
+        periods = periods.min(MOST_MOVED / moved(graph, repetitions, channel));
+    }
+    periods.max(1) as u32
+}
+
+/// Why `j` periods make no block for `m` workers.
+#[tactic(auto, using(crate::proofs::Longest::short_by, crate::proofs::Longest::not_short))]
+fn long_fault(j: u32, m: usize, reps: &[u32]) -> Option<PrecFault>
+    requires few { length reps.now < 2 ^ 20 }
+    ensures { MatchOption result (IsLongSize j m reps.now) (IsSpreadFault j m reps.now) }
+{
+    if j < 1 {
+        return Some(PrecFault::BlockingFactor);
+    }
+    if m < 1 || m > MOST_WORKERS {
+        return Some(PrecFault::WorkerCount);
+    }
+    if total(reps) > MOST_BLOCK / u64::from(j) {
+        return Some(PrecFault::BlockTooLong);
+    }
+    None
+}
+
+impl Table {
+    /// The firings of `j` periods in runs, as `by_homes_in_runs` has them, each actor where `spread` has its home. `j`
+    /// may pass 64.
+    ///
+    /// A fault is the first of `BlockingFactor`, for no period, `WorkerCount` and `BlockTooLong`.
+    pub fn spread(
+        alloc: Global,
+        graph: &Graph,
+        period: &Period,
+        j: u32,
+        m: usize,
+        weights: &[u64],
+    ) -> Result<Table, PrecFault>
+        requires period { IsPeriodOf (rates graph.now) period.now }
+        requires weights { AreLoads graph.now.actors weights.now }
+        ensures { MatchResult result
+            (IsSpreadTable (rates graph.now) period.now.repetitions j m weights.now)
+            (IsSpreadFault j m period.now.repetitions) }
+    {
+        graph.channels();
+        if let Some(fault) = long_fault(j, m, period.repetitions()) {
+            return Err(fault);
+        }
+        let homes = spread(alloc, graph, m, weights)?;
+        let table = in_runs(alloc, graph, period, j, m, &homes)?;
+        Ok(table)
+    }
+}

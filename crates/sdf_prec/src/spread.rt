@@ -1,0 +1,145 @@
+//! Homes worked out from what the actors weigh: each worker has a stretch of them in file order.
+
+ghost use Rattle.std.specs.Prelude.{◌≡◌, ℕ, ◌≤◌, ◌<◌, ◌*◌, ◌↔◌, length, IfOk, IsTrue};
+ghost use Rattle.sdf_limits.specs.declared.TheConstants.{MOST_BLOCK, MOST_COST};
+ghost use Rattle.sdf_graph.specs.Rates.{rates};
+ghost use Rattle.sdf_prec.specs.Blocks.{IsWorkers};
+ghost use Rattle.sdf_prec.specs.ByHomes.{HasHome};
+ghost use Rattle.sdf_prec.specs.Spread.{AreLoads, weight_to, LeadsBack, IsFedByLast, MayPart, IsFirst, IsPast, share};
+ghost use Rattle.sdf_prec.specs.Spread.{AreSpread, IsHeaviest};
+
+use crate::homing::load_of;
+use sdf_graph::Graph;
+use sdf_graph::laws::{graphs_are_sound, sums_rise};
+use std::alloc::{AllocError, Global};
+
+/// Whether a channel leads from an actor at a place or behind it to one before the place.
+fn leads_back(graph: &Graph, k: usize) -> bool
+    ensures { IsTrue result ↔ LeadsBack (rates graph.now) k }
+{
+    for channel in graph.channels() {
+        if channel.to < k && channel.from >= k {
+            return true;
+        }
+    }
+    false
+}
+
+/// Whether an actor has inputs, and all of them from the actor before it.
+fn is_fed_by_last(graph: &Graph, actor: usize) -> bool
+    ensures { IsTrue result ↔ IsFedByLast (rates graph.now) actor }
+{
+    let mut fed = false;
+    for channel in graph.channels() {
+        if channel.to == actor {
+            if channel.from + 1 != actor {
+                return false;
+            }
+            fed = true;
+        }
+    }
+    fed
+}
+
+/// Whether the actors before a place in file order and those behind it may go to different workers.
+fn may_part(graph: &Graph, k: usize) -> bool
+    ensures { IsTrue result ↔ MayPart (rates graph.now) k }
+{
+    !leads_back(graph, k) && !is_fed_by_last(graph, k)
+}
+
+/// Where the stretch of an actor begins.
+fn first_of(graph: &Graph, actor: usize) -> usize
+    ensures { IsFirst (rates graph.now) actor result }
+{
+    for back in 0..actor {
+        if may_part(graph, actor - back) {
+            return actor - back;
+        }
+    }
+    0
+}
+
+/// Where the next stretch begins.
+fn past_of(graph: &Graph, actor: usize) -> usize
+    requires { actor < graph.now.actors }
+    ensures { IsPast (rates graph.now) actor result }
+{
+    graph.channels();
+    graphs_are_sound();
+    for k in actor + 1..graph.actors() {
+        if may_part(graph, k) {
+            return k;
+        }
+    }
+    graph.actors()
+}
+
+/// What the first so many actors weigh together: with all of them, the work of one worker that has them all.
+pub fn weight_to(weights: &[u64], actors: usize) -> u64
+    requires weights { AreLoads (length weights.now) weights.now }
+    requires known { actors ≤ length weights.now }
+    ensures is { result ≡ weight_to weights.now actors }
+    ensures small { result ≤ MOST_BLOCK * MOST_COST * actors }
+{
+    sums_rise();
+    let mut weight = 0;
+    for actor in 0..actors {
+        weight += weights[actor];
+    }
+    weight
+}
+
+/// The worker of a stretch.
+fn share(weights: &[u64], m: usize, first: usize, past: usize) -> usize
+    requires weights { AreLoads (length weights.now) weights.now }
+    requires workers { IsWorkers m }
+    requires order { first < past }
+    requires known { past ≤ length weights.now }
+    ensures is { result ≡ share weights.now m first past }
+    ensures within { result < m }
+{
+    sums_rise();
+    let middle = weight_to(weights, first) + weight_to(weights, past);
+    let all = weight_to(weights, weights.len());
+    (m as u64 * middle / (2 * all)) as usize
+}
+
+/// Where each actor is at home by these weights of its firings in a period, for `m` workers.
+///
+/// Actors that stand next to one another in file order go together where a channel leads back over the place between
+/// them, so that a loop is one worker's, and where the first of them alone feeds the second.
+pub fn spread(
+    alloc: Global,
+    graph: &Graph,
+    m: usize,
+    weights: &[u64],
+) -> Result<Vec<Option<usize>>, AllocError>
+    requires weights { AreLoads graph.now.actors weights.now }
+    requires workers { IsWorkers m }
+    ensures spread { IfOk result (λ v. AreSpread (rates graph.now) weights.now m v.items) }
+    ensures homed { IfOk result (λ v. (a : ℕ) → a < graph.now.actors → HasHome v.items m a) }
+{
+    sums_rise();
+    let mut homes = Vec::new(alloc);
+    for actor in 0..graph.actors() {
+        let first = first_of(graph, actor);
+        let past = past_of(graph, actor);
+        homes.push(Some(share(weights, m, first, past)))?;
+    }
+    Ok(homes)
+}
+
+/// The greatest weight that one of `m` workers has. The weight of all actors divided by it is how many times as fast
+/// as one worker they can be at most.
+pub fn heaviest(weights: &[u64], homes: &[Option<usize>], m: usize) -> u64
+    requires weights { AreLoads (length homes.now) weights.now }
+    requires workers { IsWorkers m }
+    ensures { IsHeaviest weights.now homes.now m result }
+{
+    let mut most = 0;
+    for worker in 0..m {
+        most = most.max(load_of(weights, homes, worker));
+    }
+    most
+}
