@@ -2,6 +2,7 @@ mod Readings
 mod Periods
 mod Wholes
 mod Sinks
+mod Samples
 mod Histories
 mod GoingOn
 mod Cycles

@@ -1,9 +1,13 @@
 -- What a run of so many periods stands on.
 use Rattle.std.specs.Prelude.{◌≡◌, ℕ, ◌*◌, ◌≤◌, ◌<◌, List, [], length, slice_index, slice_index_or}
+use Rattle.sdf_limits.specs.declared.TheConstants.{MOST_RATE, MOST_BLOCK}
 use Rattle.sdf_graph.specs.Rates.{Rates, rates, IsShape, IsAlike}
+use Rattle.sdf_graph.specs.Periods.{IsLeastPeriod}
 use Rattle.sdf_graph.specs.Sequences.{IsPass}
 use Rattle.sdf_sched.specs.Period.{Schedule, IsPeriodOf}
+use Rattle.sdf_prec.specs.Blocks.{IsShort}
 use Rattle.sdf_actor.specs.declared.node.Node.TheVariants.{Source, Sink}
+use Rattle.sdf_actor.specs.declared.sides.Lists.{Lists}
 use Rattle.sdf_actor.specs.declared.sides.Lists.TheVariants.{Outputs}
 use Rattle.sdf_actor.specs.Graphs.{graph_of}
 use Rattle.sdf_actor.specs.NetFaults.{IsAccepted}
@@ -56,3 +60,9 @@ pub record CanRun {A S T : Type 0} (s : Steps A S T) (n : Netlist A T) (q : List
       let r = rates (graph_of s n) in
       r.produced c (slice_index q (r.source c)) ≡ (wiring s n).rates.produced c
       (slice_index q ((wiring s n).rates.source c))
+
+-- in a block of few firings no list moves more samples than these have at the greatest rate
+abbrev pub AreBlocksSmall : {A S T : Type 0} → Steps A S T → Netlist A T → Type 0
+AreBlocksSmall s n =
+    (j : ℕ) (q : List ℕ) (lists : Lists) → IsLeastPeriod (rates (graph_of s n)) q → IsShort j q →
+    j * period_samples n.nodes lists q ≤ MOST_RATE * MOST_BLOCK

@@ -9,7 +9,7 @@ ghost use Rattle.sdf_actor.specs.NetFaults.{IsAccepted};
 ghost use Rattle.sdf_answer.specs.Feeds.{FeedsGoOn, BegunNetsAsk, BegunNetsMake, SinksMakeRuns, NothingRuns};
 ghost use Rattle.sdf_answer.specs.Feeds.{PeriodsMayLeave, BegunRunsGoOn, BegunRunsFail};
 ghost use Rattle.sdf_answer.specs.GraphLaws.{GraphLaws};
-ghost use Rattle.sdf_answer.specs.Periods.{HasPeriod, HasSinks};
+ghost use Rattle.sdf_answer.specs.Periods.{HasPeriod, HasSinks, AreBlocksSmall};
 ghost use Rattle.sdf_answer.specs.Laws.{RunsGoOn, NetsCanRun, HistoriesBegin, SinksTakeAll, SinksMakeOutputs};
 ghost use Rattle.sdf_answer.specs.Laws.{NothingMakesNothing};
 ghost use Rattle.sdf_answer.specs.Laws.{BlocksAreCounted, NodesTakeTheirs, PlansFit, BlocksStand, FiringsMoveOn};
@@ -42,6 +42,14 @@ pub fn nets_have_periods<A: Actor>(net: &Net<A>)
     ensures { (p : Schedule) → IsPeriodOf (rates (graph_of A.steps net.now)) p → HasPeriod A.steps net.now p }
 {
     net_facts(net);
+}
+
+/// A block of few firings reads and makes few samples.
+pub fn blocks_are_small<A: Actor>(net: &Net<A>)
+    ensures { AreBlocksSmall A.steps net.now }
+{
+    net_facts(net);
+    nets_are_wired::<A>();
 }
 
 /// The laws of graphs that the laws of runs stand on.

@@ -16,9 +16,9 @@ pub fn put_in(channel: &Channel, firings: u32, periods: u32) -> usize
     requires some { 0 < length channel.now.put }
     requires small { (i : ℕ) → slice_index channel.now.put i ≤ 1024 }
     requires short { firings ≤ 65536 }
-    requires periods { periods ≤ 4096 }
+    requires periods { periods ≤ 65536 }
     ensures value { result ≡ periods * sum_to (rate_at channel.now.put) firings }
-    ensures few { result ≤ 274877906944 }
+    ensures few { result ≤ 4398046511104 }
 {
     periods as usize * put_by(channel, firings)
 }
@@ -46,7 +46,7 @@ pub fn make_queues<A: Actor>(
 ) -> Result<Vec<Queue<A::Token>>, AllocError>
     requires all { length repetitions.now ≡ length net.now.nodes }
     requires short { (a : ℕ) → a < length repetitions.now → slice_index repetitions.now a ≤ 65536 }
-    requires few { periods ≤ 4096 }
+    requires few { periods ≤ 65536 }
     ensures { let r = rates (graph_of A.steps net.now) in
         IfOk result (λ v. (vec_len v ≡ length net.now.wires) × ((c : ℕ) → c < length net.now.wires →
         slice_index_or v.items c nothing ≡ record {

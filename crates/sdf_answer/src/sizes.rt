@@ -1,7 +1,7 @@
 //! How many samples firings move.
 
 ghost use Rattle.std.specs.Prelude.{◌≡◌, ◌<◌, ◌≤◌, ◌*◌, ℕ, length, map, slice_index, slice_index_or, vec_len, IfOk};
-ghost use Rattle.sdf_limits.specs.declared.TheConstants.{MOST_BLOCKING, MOST_RATE, MOST_PERIOD};
+ghost use Rattle.sdf_limits.specs.declared.TheConstants.{MOST_RATE, MOST_BLOCK};
 ghost use Rattle.sdf_graph.specs.Rates.{rate_at, no_channel};
 ghost use Rattle.sdf_actor.specs.Nets.{node, cycle_of};
 ghost use Rattle.sdf_actor.specs.Sides.{channels_at};
@@ -17,11 +17,10 @@ use std::marker::Model;
 
 /// How many samples move in so many blocks, where each of their periods moves so many.
 pub fn samples_of_blocks(blocks: u32, j: u32, each: usize) -> usize
-    requires short { j ≤ MOST_BLOCKING }
-    requires few { each ≤ MOST_RATE * MOST_PERIOD }
+    requires { j * each ≤ MOST_RATE * MOST_BLOCK }
     ensures { result ≡ blocks * j * each }
 {
-    blocks as usize * j as usize * each
+    blocks as usize * (j as usize * each)
 }
 
 /// How many samples a firing at each phase takes from each channel, and puts on it: by phase, then by channel.

@@ -7,13 +7,14 @@ use Rattle.sdf_prec.specs.Laws.{TablesRepeat}
 use Rattle.sdf_actor.specs.Steps.{Steps}
 use Rattle.sdf_actor.specs.Histories.{IsWired}
 use Rattle.sdf_actor.specs.Nets.{Netlist, wire, wiring}
-use Rattle.sdf_rings.specs.MachineLaws.{firings, capacity}
+use Rattle.sdf_rings.specs.MachineLaws.{firings, capacity, roomy}
 use Rattle.sdf_rings.specs.Prepared.{IsAsked}
 use Rattle.sdf_rings.proofs.Begun.{some_in, is_some}
 use Rattle.sdf_rings.proofs.Plans.{IsSequence, plan_sequence, room_first}
 
 module _ (alike : AlikeSequences) (repeats : TablesRepeat) {A S T : Type 0} (s : Steps A S T) (n : Netlist A T)
-    (wired : IsWired (wiring s n)) (t : Tabled) (blocks : ℕ) (asked : ℕ → ℕ) (is : IsAsked s n t blocks asked) where
+    (wired : IsWired (wiring s n)) (t : Tabled) (rooms blocks : ℕ) (asked : ℕ → ℕ)
+    (is : IsAsked s n t rooms blocks asked) where
   sequence : (b : ℕ) → IsSequence (wiring s n).rates (firings is.plan b) (capacity is.plan)
       (repeated b is.plan.table.order)
   sequence b = plan_sequence alike repeats s n is.plan b is.is
@@ -22,9 +23,15 @@ module _ (alike : AlikeSequences) (repeats : TablesRepeat) {A S T : Type 0} (s :
   admissible = subst (λ (z : Tabled). IsAdmissible (wiring s n).rates (repeated blocks z.order)) is.table_is
       (sequence blocks).admissible
 
-  pub fits : FitsIn (wiring s n).rates (λ c. get_or t.caps c 0) (repeated blocks t.order)
-  fits = subst (λ (z : Tabled). FitsIn (wiring s n).rates (λ c. get_or z.caps c 0) (repeated blocks z.order))
-      is.table_is (λ m h c l. let r = (sequence blocks).room m h c l in omega arith)
+  -- what the rings take is what the plan's channels may hold
+  caps_are : (c : ℕ) → capacity is.plan c ≡ roomy rooms (λ d. get_or t.caps d 0) c
+  caps_are c = ap (λ (z : Tabled). roomy is.plan.rooms (λ d. get_or z.caps d 0) c) is.table_is
+      ∙ ap (λ (m : ℕ). roomy m (λ d. get_or t.caps d 0) c) is.rooms_are
+
+  pub fits : FitsIn (wiring s n).rates (roomy rooms (λ c. get_or t.caps c 0)) (repeated blocks t.order)
+  fits = subst (λ (z : Tabled). FitsIn (wiring s n).rates (roomy rooms (λ c. get_or t.caps c 0))
+      (repeated blocks z.order)) is.table_is
+      (λ m h c l. let r = (sequence blocks).room m h c l in let e = caps_are c in omega arith)
 
   pub known : (i : ℕ) → i < length (repeated blocks t.order) → get_or (repeated blocks t.order) i 0 < length n.nodes
   known i h = (admissible i h).0
@@ -38,8 +45,9 @@ module _ (alike : AlikeSequences) (repeats : TablesRepeat) {A S T : Type 0} (s :
   order_known = subst (λ (z : Tabled). (i : ℕ) → i < length z.order → get_or z.order i 0 < length n.nodes) is.table_is
       (λ i h. ((sequence 1).admissible i h).0)
 
-  pub held : (c : ℕ) → c < length n.wires → length (wire n c).initial ≤ get_or t.caps c 0
-  held c l = subst (λ (z : Tabled). length (wire n c).initial ≤ get_or z.caps c 0) is.table_is
+  pub held : (c : ℕ) → c < length n.wires →
+      length (wire n c).initial ≤ roomy rooms (λ d. get_or t.caps d 0) c
+  held c l = subst (λ m. length (wire n c).initial ≤ m) (caps_are c)
       (room_first (wiring s n).rates (firings is.plan 0) (capacity is.plan) (repeated 0 is.plan.table.order) wired.sound
       (sequence 0) c l)
 

@@ -1,6 +1,6 @@
 //! A run over rings that another one goes on from.
 
-ghost use Rattle.std.specs.Prelude.{◌*◌, ℕ, List, MatchResult};
+ghost use Rattle.std.specs.Prelude.{◌*◌, ◌≤◌, ℕ, List, MatchResult};
 ghost use Rattle.sdf_graph.specs.Rates.{rates};
 ghost use Rattle.sdf_sched.specs.Period.{IsPeriodOf};
 ghost use Rattle.sdf_actor.specs.Graphs.{graph_of};
@@ -11,37 +11,39 @@ ghost use Rattle.sdf_answer.specs.Feeds as feeds;
 ghost use Rattle.sdf_answer.specs.Rows.{IsTableOf};
 ghost use Rattle.sdf_rings.specs.Outcome.{HasRun, HasGoneOn, IsRingsFault};
 
+use crate::roomy_table::RoomyTable;
 use crate::runner::run_through;
 use sdf_actor::{Actor, Begun, Net, Rest};
 use sdf_answer::laws::{begun_nets_go_on, feeds_go_on, nets_have_periods};
 use sdf_answer::{Ran, RunFault};
 use sdf_node::Gate;
-use sdf_prec::Table;
 use sdf_sched::Period;
 use std::alloc::AllocGlobal;
 use std::thread::Threads;
 
-/// Runs a net as `run_rings` does, and gives what the run leaves beside what it makes. `Net::begun` goes on from there.
+/// Runs a net as `run_rings` does, over rings that may take more, and gives what the run leaves beside what it makes.
+/// `Net::begun` goes on from there.
 pub fn feed_rings<R: Threads + AllocGlobal + Sync, A: Actor, G: Gate>(
     rt: &R,
     net: &Net<A>,
     period: &Period,
     j: u32,
-    table: &Table,
+    given: &RoomyTable,
     blocks: u32,
     inputs: &[Vec<A::Token>],
     patience: u32,
     gate: &G,
 ) -> Result<(Ran<A::Token>, Rest<A::Token, A::State>), RunFault>
     requires period { IsPeriodOf (rates (graph_of A.steps net.now)) period.now }
-    requires table { IsTableOf (rates (graph_of A.steps net.now)) period.now.repetitions j table.now }
+    requires table { IsTableOf (rates (graph_of A.steps net.now)) period.now.repetitions j given.now.table.now }
+    requires rooms { 1 ≤ given.now.rooms }
     ensures { let q = period.now.repetitions in MatchResult result
-        (λ fed. HasRun A.steps net.now q j table.now blocks (lists inputs.now) patience
+        (λ fed. HasRun A.steps net.now q j given.now.table.now blocks (lists inputs.now) patience
         (lists fed.0.outputs.items) fed.0.rounds ×
         feeds.HasRun A.steps net.now (lists inputs.now) (periods_of q (blocks * j)) (lists fed.0.outputs.items) fed.1)
-        (IsRingsFault net.now q (blocks * j) (lists inputs.now) table.now patience) }
+        (IsRingsFault net.now q (blocks * j) (lists inputs.now) given.now.table.now patience) }
 {
-    let (rings, rounds) = run_through(rt, net, period, j, table, blocks, inputs, patience, gate)?;
+    let (rings, rounds) = run_through(rt, net, period, j, given, blocks, inputs, patience, gate)?;
     let (outputs, rest) = rings.leave()?;
     Ok((Ran { outputs, rounds }, rest))
 }
@@ -53,7 +55,7 @@ pub fn resume_rings<R: Threads + AllocGlobal + Sync, A: Actor, G: Gate>(
     net: &Net<A>,
     period: &Period,
     j: u32,
-    table: &Table,
+    given: &RoomyTable,
     rest: &Rest<A::Token, A::State>,
     blocks: u32,
     inputs: &[Vec<A::Token>],
@@ -61,17 +63,18 @@ pub fn resume_rings<R: Threads + AllocGlobal + Sync, A: Actor, G: Gate>(
     gate: &G,
 ) -> Result<(Ran<A::Token>, Rest<A::Token, A::State>), RunFault>
     requires period { IsPeriodOf (rates (graph_of A.steps net.now)) period.now }
-    requires table { IsTableOf (rates (graph_of A.steps net.now)) period.now.repetitions j table.now }
+    requires table { IsTableOf (rates (graph_of A.steps net.now)) period.now.repetitions j given.now.table.now }
+    requires rooms { 1 ≤ given.now.rooms }
     requires rest { (first : List (List A.Token)) × (few : ℕ)
         × IsRest A.steps net.now first (periods_of period.now.repetitions few) rest.now }
     ensures { let q = period.now.repetitions in MatchResult result
-        (λ fed. HasGoneOn A.steps net.now q j table.now rest.now blocks (lists inputs.now) patience
+        (λ fed. HasGoneOn A.steps net.now q j given.now.table.now rest.now blocks (lists inputs.now) patience
         (lists fed.0.outputs.items) fed.0.rounds fed.1)
-        (IsRingsFault net.now q (blocks * j) (lists inputs.now) table.now patience) }
+        (IsRingsFault net.now q (blocks * j) (lists inputs.now) given.now.table.now patience) }
 {
     nets_have_periods(net);
     feeds_go_on::<A, Begun<A>>();
     begun_nets_go_on::<A, Begun<A>>();
     let begun = net.begun(rt.alloc(), rest)?;
-    feed_rings(rt, &begun, period, j, table, blocks, inputs, patience, gate)
+    feed_rings(rt, &begun, period, j, given, blocks, inputs, patience, gate)
 }

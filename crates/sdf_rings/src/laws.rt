@@ -1,6 +1,7 @@
 //! Laws of the ring machine, each the contract of a function that does nothing but call laws.
 
-ghost use Rattle.sdf_rings.specs.MachineLaws.{RunsPutPrefixes, RunsKeepWithin, RunsGoOn, RunsMoveBlocks};
+ghost use Rattle.std.specs.Prelude.{◌≡◌, ℕ};
+ghost use Rattle.sdf_rings.specs.MachineLaws.{roomy, RunsPutPrefixes, RunsKeepWithin, RunsGoOn, RunsMoveBlocks};
 ghost use Rattle.sdf_rings.specs.MachineLaws.{RunsEndInHistories, OwnNeverWaits, QuiescentReached, QuiescentIsReached};
 
 use sdf_actor::Actor;
@@ -73,3 +74,8 @@ pub fn quiescent_reached<A: Actor>()
     sdf_actor::laws::taken_stays::<A>();
     sdf_actor::laws::put_stays::<A>();
 }
+
+/// A channel with room for one block may hold its capacity, no more and no less.
+pub fn one_room_is_the_capacity()
+    ensures { (cap : ℕ → ℕ) → roomy 1 cap ≡ cap }
+{}

@@ -9,7 +9,7 @@
 //! has all workers at once, `meet` tells all ends, `rest` says what then stands where, and `rings` has rounds by
 //! hand. `prepare` makes the seats of a run, `run` goes on until nothing is left, `finish` gives out the lists of the
 //! sinks and `leave` what else the seats hold, and `runner` does all of it (`specs/Asks.antt`, `specs/Outcome.antt`);
-//! `feed` has runs that another one goes on from.
+//! `feed` has runs that another one goes on from, over rings that may hold several blocks (`roomy_table`).
 #![tactic(auto)]
 
 mod ends;
@@ -24,6 +24,7 @@ mod parts;
 pub mod prepare;
 mod rest;
 pub mod rings;
+pub mod roomy_table;
 mod round;
 mod run;
 mod run_ends;
@@ -35,6 +36,7 @@ mod together;
 
 pub use feed::{feed_rings, resume_rings};
 pub use rings::Rings;
+pub use roomy_table::RoomyTable;
 pub use runner::run_rings;
 pub use seat::{Seat, work};
 pub use stand::Stand;

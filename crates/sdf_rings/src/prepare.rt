@@ -15,6 +15,7 @@ ghost use Rattle.sdf_rings.specs.Begun.{CanStart};
 ghost use Rattle.sdf_rings.specs.Prepared.{IsPrepared, IsAsked, IsPrepareFault};
 
 use crate::rings::Rings;
+use crate::roomy_table::RoomyTable;
 use crate::setup::asked::asked;
 use crate::setup::openings::open_rings;
 use crate::setup::places::places;
@@ -22,7 +23,7 @@ use crate::setup::seats::seats;
 use crate::setup::stands::Start;
 use sdf_actor::{Actor, Net};
 use sdf_answer::inputs::{are_inputs, first_sample};
-use sdf_answer::laws::{net_facts, nets_can_run, nets_have_periods};
+use sdf_answer::laws::{blocks_are_small, net_facts, nets_can_run, nets_have_periods};
 use sdf_answer::outputs::make_outputs;
 use sdf_answer::sizes::samples_of_blocks;
 use sdf_answer::{RunFault, Sizes};
@@ -45,22 +46,25 @@ fn columns(table: &Table) -> usize
 fn lay_out<'a, A: Actor>(
     alloc: Global,
     start: &Start<'a, A>,
-    table: &Table,
+    given: &RoomyTable,
     blocks: u32,
 ) -> Result<Rings<'a, A>, AllocError>
     requires start { CanStart A.steps start.now.net.now (lists start.now.inputs.now) (slice_index start.now.asked.items)
         start.now.room start.now.filler }
     requires sizes { AreSizes A.steps start.now.net.now start.now.sizes }
     requires asked { vec_len start.now.asked ≡ length start.now.net.now.nodes }
-    requires plan { IsAsked A.steps start.now.net.now table.now blocks (slice_index start.now.asked.items) }
-    requires homed { IsHomed table.now }
-    ensures { IfOk result (IsPrepared A.steps start.now.net.now (lists start.now.inputs.now) table.now blocks) }
+    requires plan { IsAsked A.steps start.now.net.now given.now.table.now given.now.rooms blocks
+        (slice_index start.now.asked.items) }
+    requires homed { IsHomed given.now.table.now }
+    ensures { IfOk result (IsPrepared A.steps start.now.net.now (lists start.now.inputs.now) given.now.table.now
+        given.now.rooms blocks) }
 {
     sdf_actor::laws::nets_are_wired::<A>();
     sdf_graph::laws::alike_sequences();
     sdf_prec::laws::tables_repeat();
+    let table = given.table;
     let places = places(alloc, table, start.net.len())?;
-    let mut ends = open_rings(alloc, start.net, table)?;
+    let mut ends = open_rings(alloc, start.net, given)?;
     let seats = seats(
         alloc,
         start,
@@ -80,18 +84,20 @@ fn prepare_homed<'a, A: Actor>(
     net: &'a Net<A>,
     period: &Period,
     j: u32,
-    table: &Table,
+    given: &RoomyTable,
     blocks: u32,
     inputs: &'a [Vec<A::Token>],
 ) -> Result<Rings<'a, A>, AllocError>
     requires period { IsPeriodOf (rates (graph_of A.steps net.now)) period.now }
-    requires table { IsTableOf (rates (graph_of A.steps net.now)) period.now.repetitions j table.now }
-    requires homed { IsHomed table.now }
+    requires table { IsTableOf (rates (graph_of A.steps net.now)) period.now.repetitions j given.now.table.now }
+    requires rooms { 1 ≤ given.now.rooms }
+    requires homed { IsHomed given.now.table.now }
     requires inputs { HasInputs net.now period.now.repetitions (blocks * j) (lists inputs.now) }
     requires some { 0 < period_samples net.now.nodes Inputs period.now.repetitions }
-    ensures { IfOk result (IsPrepared A.steps net.now (lists inputs.now) table.now blocks) }
+    ensures { IfOk result (IsPrepared A.steps net.now (lists inputs.now) given.now.table.now given.now.rooms blocks) }
 {
     net_facts(net);
+    blocks_are_small(net);
     nets_have_periods(net);
     nets_can_run::<A>();
     sdf_graph::laws::graphs_are_sound();
@@ -104,12 +110,41 @@ fn prepare_homed<'a, A: Actor>(
         room: samples_of_blocks(blocks, j, net.samples_out()),
         filler: first_sample(inputs),
     };
-    lay_out(alloc, &start, table, blocks)
+    lay_out(alloc, &start, given, blocks)
+}
+
+/// As `prepare`, over rings that may take more than the table's capacities.
+pub(crate) fn prepare_roomy<'a, A: Actor>(
+    alloc: Global,
+    net: &'a Net<A>,
+    period: &Period,
+    j: u32,
+    given: &RoomyTable,
+    blocks: u32,
+    inputs: &'a [Vec<A::Token>],
+) -> Result<Rings<'a, A>, RunFault>
+    requires period { IsPeriodOf (rates (graph_of A.steps net.now)) period.now }
+    requires table { IsTableOf (rates (graph_of A.steps net.now)) period.now.repetitions j given.now.table.now }
+    requires rooms { 1 ≤ given.now.rooms }
+    ensures { let q = period.now.repetitions in MatchResult result
+        (λ r. IsHomed given.now.table.now × HasInputs net.now q (blocks * j) (lists inputs.now)
+        × IsPrepared A.steps net.now (lists inputs.now) given.now.table.now given.now.rooms blocks r)
+        (IsPrepareFault net.now q (blocks * j) (lists inputs.now) given.now.table.now) }
+{
+    blocks_are_small(net);
+    if !given.table.homed() {
+        return Err(RunFault::NotHomed);
+    }
+    let least = samples_of_blocks(blocks, j, net.samples_in());
+    if !are_inputs(inputs, net.inputs(), least) {
+        return Err(RunFault::InputLength);
+    }
+    Ok(prepare_homed(alloc, net, period, j, given, blocks, inputs)?)
 }
 
 /// What a run of so many blocks of `j` periods holds before its first round: a seat for each column of its table, each
 /// actor at home, each channel with what it begins with, and each seat's list of firings. First of all 30 where an
-/// actor has no home.
+/// actor has no home. Each ring takes the table's capacity, once.
 pub fn prepare<'a, A: Actor>(
     alloc: Global,
     net: &'a Net<A>,
@@ -123,15 +158,9 @@ pub fn prepare<'a, A: Actor>(
     requires table { IsTableOf (rates (graph_of A.steps net.now)) period.now.repetitions j table.now }
     ensures { let q = period.now.repetitions in MatchResult result
         (λ r. IsHomed table.now × HasInputs net.now q (blocks * j) (lists inputs.now)
-        × IsPrepared A.steps net.now (lists inputs.now) table.now blocks r)
+        × IsPrepared A.steps net.now (lists inputs.now) table.now 1 blocks r)
         (IsPrepareFault net.now q (blocks * j) (lists inputs.now) table.now) }
 {
-    if !table.homed() {
-        return Err(RunFault::NotHomed);
-    }
-    let least = samples_of_blocks(blocks, j, net.samples_in());
-    if !are_inputs(inputs, net.inputs(), least) {
-        return Err(RunFault::InputLength);
-    }
-    Ok(prepare_homed(alloc, net, period, j, table, blocks, inputs)?)
+    let given = RoomyTable { table, rooms: 1 };
+    prepare_roomy(alloc, net, period, j, &given, blocks, inputs)
 }

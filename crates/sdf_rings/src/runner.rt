@@ -1,6 +1,6 @@
 //! The runner over rings.
 
-ghost use Rattle.std.specs.Prelude.{◌*◌, ℕ, MatchResult};
+ghost use Rattle.std.specs.Prelude.{◌*◌, ◌≤◌, ℕ, MatchResult};
 ghost use Rattle.sdf_graph.specs.Rates.{rates};
 ghost use Rattle.sdf_sched.specs.Period.{IsPeriodOf};
 ghost use Rattle.sdf_actor.specs.Graphs.{graph_of};
@@ -8,8 +8,9 @@ ghost use Rattle.sdf_actor.specs.Wires.{lists};
 ghost use Rattle.sdf_answer.specs.Rows.{IsTableOf};
 ghost use Rattle.sdf_rings.specs.Outcome.{HasRun, HasEnded, IsRingsFault};
 
-use crate::prepare::prepare;
+use crate::prepare::prepare_roomy;
 use crate::rings::Rings;
+use crate::roomy_table::RoomyTable;
 use sdf_actor::{Actor, Net};
 use sdf_answer::laws::nets_have_periods;
 use sdf_answer::{Ran, RunFault};
@@ -26,30 +27,32 @@ pub(crate) fn run_through<'a, R: Threads + AllocGlobal + Sync, A: Actor, G: Gate
     net: &'a Net<A>,
     period: &Period,
     j: u32,
-    table: &Table,
+    given: &RoomyTable,
     blocks: u32,
     inputs: &'a [Vec<A::Token>],
     patience: u32,
     gate: &G,
 ) -> Result<(Rings<'a, A>, u64), RunFault>
     requires period { IsPeriodOf (rates (graph_of A.steps net.now)) period.now }
-    requires table { IsTableOf (rates (graph_of A.steps net.now)) period.now.repetitions j table.now }
+    requires table { IsTableOf (rates (graph_of A.steps net.now)) period.now.repetitions j given.now.table.now }
+    requires rooms { 1 ≤ given.now.rooms }
     ensures { let q = period.now.repetitions in MatchResult result
-        (λ ran. HasEnded A.steps net.now q j table.now blocks (lists inputs.now) patience ran.0 ran.1)
-        (IsRingsFault net.now q (blocks * j) (lists inputs.now) table.now patience) }
+        (λ ran. HasEnded A.steps net.now q j given.now.table.now given.now.rooms blocks (lists inputs.now) patience
+        ran.0 ran.1)
+        (IsRingsFault net.now q (blocks * j) (lists inputs.now) given.now.table.now patience) }
 {
     sdf_graph::laws::graphs_are_sound();
     sdf_graph::laws::graphs_have_periods();
     sdf_prec::laws::tables_repeat();
     sdf_prec::laws::tables_count();
     nets_have_periods(net);
-    if !table.homed() {
+    if !given.table.homed() {
         return Err(RunFault::NotHomed);
     }
     if patience > MOST_PATIENCE {
         return Err(RunFault::Patience);
     }
-    let mut rings = prepare(rt.alloc(), net, period, j, table, blocks, inputs)?;
+    let mut rings = prepare_roomy(rt.alloc(), net, period, j, given, blocks, inputs)?;
     rings.facts();
     let rounds = rings.run(rt, patience, gate);
     Ok((rings, rounds))
@@ -79,7 +82,8 @@ pub fn run_rings<R: Threads + AllocGlobal + Sync, A: Actor, G: Gate>(
         (lists ran.outputs.items) ran.rounds)
         (IsRingsFault net.now q (blocks * j) (lists inputs.now) table.now patience) }
 {
-    let (rings, rounds) = run_through(rt, net, period, j, table, blocks, inputs, patience, gate)?;
+    let given = RoomyTable { table, rooms: 1 };
+    let (rings, rounds) = run_through(rt, net, period, j, &given, blocks, inputs, patience, gate)?;
     let outputs = rings.finish();
     Ok(Ran { outputs, rounds })
 }

@@ -1,11 +1,16 @@
 -- How many rows a table has.
-use Rattle.std.proofs.Common.{◌≡◌, ℕ, suc, ◌≤◌, ◌<◌, List, [], ◌∷◌, length, refl, ap, arith, Option, Some, None}
+use Rattle.std.proofs.Common.{◌≡◌, ℕ, suc, ◌*◌, ◌≤◌, ◌<◌, List, [], ◌∷◌, length, get_or, refl, ap, arith, Option, Some}
+use Rattle.std.proofs.Common.{None}
+use Rattle.std.specs.Prelude.{sum}
+use Rattle.std.proofs.Math.Nat.{mul-le-mul_left}
+use Rattle.std.proofs.lemmas.List.Sums.{get_or-le-sum_by}
 use Rattle.std.proofs.lemmas.List.{length-map, length-append}
 use Rattle.sdf_limits.specs.declared.TheConstants.{MOST_BLOCK}
 use Rattle.sdf_graph.specs.Rates.{Rates}
 use Rattle.sdf_graph.specs.Sequences.{repeated}
 use Rattle.sdf_prec.specs.declared.firing.Firing.{Firing}
 use Rattle.sdf_prec.specs.Tables.{firings, row, order, sequence, Tabled}
+use Rattle.sdf_prec.specs.Blocks.{IsShort}
 use Rattle.sdf_prec.specs.Counts.{TablesCount}
 use Rattle.sdf_answer.specs.Rows.{IsTableOf}
 
@@ -28,10 +33,18 @@ rows_few counts r q j t all is =
       counts r q j is.width t 1 all is.table,
       ap length once,
       ap length order_is,
-      is.size.short,
+      is.short,
       some_each t.rows is.table.some,
       length-map (order t.rows) (λ (f : Firing). f.actor),
     )
+
+-- a block has no more periods than firings
+pub factor_few : (j : ℕ) (q : List ℕ) {actors : ℕ} → 0 < actors → length q ≡ actors →
+    ((a : ℕ) → a < actors → 0 < get_or q a 0) → IsShort j q → j ≤ MOST_BLOCK
+factor_few j q some all positive short =
+    let one : 1 ≤ sum q = omega (arith, positive 0 some, get_or-le-sum_by (λ x. x) q 0 0 (omega (arith, all, some))) in
+    let more : j * 1 ≤ j * sum q = mul-le-mul_left j one in
+    omega (arith, more, short)
 
 -- a row has no more firings than columns
 pub firings_few : (cells : List (Option Firing)) → length (firings cells) ≤ length cells

@@ -18,7 +18,9 @@ use crate::collect::collect;
 use crate::fired::{Plan, fire, rounds_of};
 use sdf_actor::{Actor, Begun, Net, Rest};
 use sdf_answer::inputs::{are_inputs, first_sample};
-use sdf_answer::laws::{begun_nets_go_on, histories_make_runs, net_facts, nets_have_periods};
+use sdf_answer::laws::{
+    begun_nets_go_on, blocks_are_small, histories_make_runs, net_facts, nets_have_periods,
+};
 use sdf_answer::outputs::make_outputs;
 use sdf_answer::queue::held;
 use sdf_answer::sizes::samples_of_blocks;
@@ -104,6 +106,7 @@ pub fn feed_rows<R: Threads + AllocGlobal + Sync, A: Actor, G: Gate>(
         (IsRunFault net.now q (blocks * j) (lists inputs.now)) }
 {
     sdf_prec::laws::tables_count();
+    blocks_are_small(net);
     let least = samples_of_blocks(blocks, j, net.samples_in());
     if !are_inputs(inputs, net.inputs(), least) {
         return Err(RunFault::InputLength);

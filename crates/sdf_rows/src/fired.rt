@@ -15,7 +15,9 @@ use crate::runs::{Course, run_blocks};
 use crate::setup::{make_jobs, make_states};
 use crate::stage::Scene;
 use sdf_actor::{Actor, Net};
-use sdf_answer::laws::{histories_make_outputs, net_facts, nets_can_run, nets_have_periods};
+use sdf_answer::laws::{
+    blocks_are_small, histories_make_outputs, net_facts, nets_can_run, nets_have_periods,
+};
 use sdf_answer::rooms::make_queues;
 use sdf_answer::sizes::samples_of_blocks;
 use sdf_answer::{Queue, Sizes};
@@ -78,6 +80,7 @@ pub(crate) fn fire<R: Threads + AllocGlobal + Sync, A: Actor, G: Gate>(
 {
     net_facts(net);
     nets_have_periods(net);
+    blocks_are_small(net);
     nets_can_run::<A>();
     histories_make_outputs::<A>();
     sdf_actor::laws::nets_are_wired::<A>();

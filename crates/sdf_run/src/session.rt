@@ -23,7 +23,7 @@ use sdf_answer::{Ran, RunFault};
 use sdf_limits::MOST_PATIENCE;
 use sdf_node::Gate;
 use sdf_prec::Table;
-use sdf_rings::resume_rings;
+use sdf_rings::{RoomyTable, resume_rings};
 use sdf_rows::resume_rows;
 use sdf_sched::Period;
 use std::alloc::Global;
@@ -88,7 +88,7 @@ fn may_run(table: &Table, mode: Mode) -> Result<(), RunFault>
 {
     match mode {
         Mode::Rows => Ok(()),
-        Mode::Rings { patience } => {
+        Mode::Rings { patience, .. } => {
             if !table.homed() {
                 return Err(RunFault::NotHomed);
             }
@@ -146,9 +146,13 @@ fn go_on<R: Threads + AllocGlobal + Sync, A: Actor, G: Gate>(
 {
     match mode {
         Mode::Rows => resume_rows(rt, net, period, j, table, rest, blocks, inputs, gate),
-        Mode::Rings { patience } => {
+        Mode::Rings { patience, rooms } => {
+            let given = RoomyTable {
+                table,
+                rooms: rooms.max(1),
+            };
             resume_rings(
-                rt, net, period, j, table, rest, blocks, inputs, patience, gate,
+                rt, net, period, j, &given, rest, blocks, inputs, patience, gate,
             )
         }
     }

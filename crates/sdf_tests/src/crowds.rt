@@ -56,6 +56,7 @@ fn all_meet<R: Threads + AllocGlobal + Sync, A: Actor<Token = i32>>(
     let plan = planned(rt.alloc(), net, 1, 16, true)?;
     let rings = Mode::Rings {
         patience: 1_000_000,
+        rooms: 1,
     };
     row_says(
         "by rows",
@@ -116,7 +117,10 @@ fn later<R: Threads + AllocGlobal + Sync, A: Actor<Token = i32>>(
     let times = Times {
         j: 1,
         blocks: 2,
-        mode: Mode::Rings { patience: 0 },
+        mode: Mode::Rings {
+            patience: 0,
+            rooms: 1,
+        },
     };
     make_as_one(rt, net, &plan, times, &inputs, &slow)?;
     told(rt.alloc(), &slow.watch)

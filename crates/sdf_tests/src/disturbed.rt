@@ -21,10 +21,17 @@ const TURNS: u32 = 1_000;
 /// By rows and over rings.
 const MODES: &[Mode] = &[
     Mode::Rows,
-    Mode::Rings { patience: 0 },
-    Mode::Rings { patience: 1 },
+    Mode::Rings {
+        patience: 0,
+        rooms: 1,
+    },
+    Mode::Rings {
+        patience: 1,
+        rooms: 1,
+    },
     Mode::Rings {
         patience: 1_000_000,
+        rooms: 1,
     },
 ];
 

@@ -75,7 +75,10 @@ fn pass<R: Threads + AllocGlobal + Sync, A: Actor<Token = i64>>(
 ) -> Result<(), Fail> {
     let plan = planned(rt.alloc(), net, 1, 1, true)?;
     let inputs = sevens(rt.alloc())?;
-    let rings = Mode::Rings { patience: 0 };
+    let rings = Mode::Rings {
+        patience: 0,
+        rooms: 1,
+    };
     row_says("by rows", fed(rt, net, &plan, Mode::Rows, &inputs), wanted)?;
     row_says("over rings", fed(rt, net, &plan, rings, &inputs), wanted)
 }

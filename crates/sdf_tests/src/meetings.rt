@@ -21,6 +21,7 @@ use test_texts::{row_says, says};
 /// Tests again so often that a worker goes on once its neighbour has moved.
 const PATIENT: Mode = Mode::Rings {
     patience: 1_000_000,
+    rooms: 1,
 };
 
 /// Holds the second firing of the actor that deals until the source has begun its fourth, which stands in the next

@@ -146,7 +146,7 @@ pub(crate) fn run_by<R: Threads + AllocGlobal + Sync, A: Actor, G: Gate>(
     let Times { j, blocks, mode } = times;
     match mode {
         Mode::Rows => run_rows(rt, net, &plan.0, j, &plan.1, blocks, inputs, gate),
-        Mode::Rings { patience } => {
+        Mode::Rings { patience, .. } => {
             run_rings(rt, net, &plan.0, j, &plan.1, blocks, inputs, patience, gate)
         }
     }

@@ -29,7 +29,7 @@ fn makes_as_one<R: Threads + AllocGlobal + Sync, A: Actor<Token = i32>>(
     let times = Times {
         j: 1,
         blocks: 2,
-        mode: Mode::Rings { patience },
+        mode: Mode::Rings { patience, rooms: 1 },
     };
     make_as_one(rt, net, &plan, times, &inputs, &NoGate)
 }
@@ -131,7 +131,10 @@ fn make_two_periods<R: Threads + AllocGlobal + Sync, A: Actor<Token = i32>>(
     let times = Times {
         j: 2,
         blocks: 1,
-        mode: Mode::Rings { patience: 0 },
+        mode: Mode::Rings {
+            patience: 0,
+            rooms: 1,
+        },
     };
     make_as_one(rt, net, &plan, times, &inputs, &NoGate)?;
     says(lengths(rt, net, &plan, &inputs), "[320]")

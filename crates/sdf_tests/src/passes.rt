@@ -152,9 +152,9 @@ fn by_rows(rt: HostRuntime) -> Result<(), Fail> {
 #[test]
 fn over_rings(rt: HostRuntime) -> Result<(), Fail> {
     for patience in [0, 1000] {
-        all_pass_on(&rt, Kind::InRuns, Mode::Rings { patience })?;
-        all_pass_on(&rt, Kind::Homed(2), Mode::Rings { patience })?;
-        all_pass_on(&rt, Kind::Homed(3), Mode::Rings { patience })?;
+        all_pass_on(&rt, Kind::InRuns, Mode::Rings { patience, rooms: 1 })?;
+        all_pass_on(&rt, Kind::Homed(2), Mode::Rings { patience, rooms: 1 })?;
+        all_pass_on(&rt, Kind::Homed(3), Mode::Rings { patience, rooms: 1 })?;
     }
     Ok(())
 }

@@ -104,6 +104,18 @@ fn by_rows(rt: HostRuntime) -> Result<(), Fail> {
 
 #[test]
 fn over_rings(rt: HostRuntime) -> Result<(), Fail> {
-    let mode = Mode::Rings { patience: 0 };
+    let mode = Mode::Rings {
+        patience: 0,
+        rooms: 1,
+    };
+    fed_in_pieces(&rt, &Worked::Converter.net(rt.alloc())?, mode)
+}
+
+#[test]
+fn over_rings_of_three_blocks(rt: HostRuntime) -> Result<(), Fail> {
+    let mode = Mode::Rings {
+        patience: 0,
+        rooms: 3,
+    };
     fed_in_pieces(&rt, &Worked::Converter.net(rt.alloc())?, mode)
 }

@@ -5,5 +5,5 @@ use Rattle.sdf_answer.proofs.rooms.put_in.Goals as goal
 pub returns-clause-few : goal.returns-clause-few
 returns-clause-few c =
     let one : c.put_by.result ≤ 67108864 = omega (arith, c.put_by.ensures.few, c.requires.short) in
-    let all : c.args.periods * c.put_by.result ≤ 4096 * 67108864 = mul-le-mul c.requires.periods one in
+    let all : c.args.periods * c.put_by.result ≤ 65536 * 67108864 = mul-le-mul c.requires.periods one in
     omega arith

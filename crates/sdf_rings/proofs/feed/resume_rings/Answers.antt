@@ -29,7 +29,7 @@ feed_rings-requires-clause-period g c κs within =
 
 pub feed_rings-requires-clause-table : goal.feed_rings-requires-clause-table
 feed_rings-requires-clause-table g c κs within =
-    subst (λ x. IsTableOf (rates x) c.args.period.now.repetitions c.args.j c.args.table.now)
+    subst (λ x. IsTableOf (rates x) c.args.period.now.repetitions c.args.j c.args.given.now.table.now)
     (sym c.in_ok-begun.ensures.graph) c.requires.table
 
 -- a fault of the one net is one of the other, where they are given the same inputs
@@ -63,4 +63,4 @@ returns g c =
       rounds_few = made.0.rounds_few;
       rounds_some = made.0.rounds_some;
     })
-    (fault_of m n q periods later c.args.table.now c.args.patience asks.1)
+    (fault_of m n q periods later c.args.given.now.table.now c.args.patience asks.1)

@@ -1,11 +1,12 @@
 use Rattle.std.proofs.Common.{◌*◌, map, ap, ◌∙◌, arith}
 use Rattle.std.specs.Prelude.{sum}
 use Rattle.sdf_actor.specs.Wires.{lists}
+use Rattle.sdf_actor.specs.declared.sides.Lists.TheVariants.{Outputs}
 use Rattle.sdf_rings.proofs.Starting.{can_start, is_asked}
 use Rattle.sdf_rings.proofs.prepare.prepare_homed.Goals as goal
 
 pub asked-requires : goal.asked-requires
-asked-requires g c = omega (arith, c.requires.table.size.short, ap (λ r. c.args.j * sum r) c.repetitions.ensures)
+asked-requires g c = omega (arith, c.requires.table.short, ap (λ r. c.args.j * sum r) c.repetitions.ensures)
 
 pub lay_out-requires-clause-start : goal.lay_out-requires-clause-start
 lay_out-requires-clause-start g c κs within =
@@ -31,4 +32,11 @@ lay_out-requires-clause-plan g c κs within =
     is_asked g.A.Actor.steps c.nets_can_run.ensures n p
     (c.nets_have_periods.ensures c.args.period.now c.requires.period) b j c.in_ok-asked.field-0.items
     (c.in_ok-asked.ensures ∙ ap (map (λ q. b * (j * q))) c.repetitions.ensures)
-    c.graphs_are_sound.ensures c.graphs_have_periods.ensures c.args.table.now c.requires.table
+    c.graphs_are_sound.ensures c.graphs_have_periods.ensures c.args.given.now.table.now c.args.given.now.rooms
+    c.requires.table c.requires.rooms
+
+pub samples_of_blocks-requires : goal.samples_of_blocks-requires
+samples_of_blocks-requires g c =
+    let q = c.args.period.now.repetitions in
+    let few = c.blocks_are_small.ensures c.args.j q Outputs c.requires.period.least c.requires.table.short in
+    omega (arith, few, ap (λ m. c.args.j * m) (c.samples_out.ensures.value q c.requires.period.least))

@@ -13,8 +13,9 @@ pub run-rounds-requires-clause-count : goal.run-rounds-requires-clause-count
 run-rounds-requires-clause-count g c κs within =
     few_rounds c.graphs_are_sound.ensures c.graphs_have_periods.ensures c.tables_repeat.ensures c.tables_count.ensures
     g.A.Actor.steps c.args.net.now c.args.period.now
-    (c.nets_have_periods.ensures c.args.period.now c.requires.period) c.args.j c.args.table.now
-    c.requires.table c.args.blocks (lists c.args.inputs.now) c.in_ok-rings.rings c.facts.ensures c.in_ok-rings.ensures.2
+    (c.nets_have_periods.ensures c.args.period.now c.requires.period) c.args.j c.args.given.now.table.now
+    c.requires.table c.args.blocks c.args.given.now.rooms (lists c.args.inputs.now) c.in_ok-rings.rings
+    c.facts.ensures c.in_ok-rings.ensures.2
     (omega (arith, c.ranges.blocks.fits))
 
 pub returns : goal.returns
@@ -22,8 +23,9 @@ returns g c =
     let run = c.run-rounds.ensures in
     has_ended c.graphs_are_sound.ensures c.graphs_have_periods.ensures c.tables_repeat.ensures c.tables_count.ensures
     g.A.Actor.steps c.args.net.now c.args.period.now
-    (c.nets_have_periods.ensures c.args.period.now c.requires.period) c.args.j c.args.table.now
-    c.requires.table c.args.blocks (lists c.args.inputs.now) c.in_ok-rings.rings c.facts.ensures c.in_ok-rings.ensures.2
+    (c.nets_have_periods.ensures c.args.period.now c.requires.period) c.args.j c.args.given.now.table.now
+    c.requires.table c.args.blocks c.args.given.now.rooms (lists c.args.inputs.now) c.in_ok-rings.rings
+    c.facts.ensures c.in_ok-rings.ensures.2
     c.run-rounds.new.self c.args.patience c.run-rounds.result c.in_ok-rings.ensures.0
     (omega (arith, c.if-patience-gt-MOST_PATIENCE.false)) c.in_ok-rings.ensures.1
     run.same run.planned run.met run.done run.rounds run.some

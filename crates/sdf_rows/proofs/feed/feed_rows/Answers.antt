@@ -3,6 +3,7 @@ use Rattle.std.proofs.lemmas.Bool.{both_ways}
 use Rattle.sdf_graph.specs.Rates.{rates}
 use Rattle.sdf_actor.specs.Graphs.{graph_of}
 use Rattle.sdf_actor.specs.Wires.{lists}
+use Rattle.sdf_actor.specs.declared.sides.Lists.TheVariants.{Inputs}
 use Rattle.sdf_rows.proofs.Counts.{rows_few}
 use Rattle.sdf_rows.proofs.Readings.{given, asked}
 use Rattle.sdf_rows.proofs.feed.feed_rows.Goals as goal
@@ -27,11 +28,11 @@ returns g c =
       c.rounds_of-rounds.ensures ∙ ap (λ m. c.args.blocks * m) c.rows.ensures,
     )
 
-pub samples_of_blocks-least-requires-clause-short : goal.samples_of_blocks-least-requires-clause-short
-samples_of_blocks-least-requires-clause-short g c = c.requires.table.size.factor.1
-
-pub samples_of_blocks-least-requires-clause-few : goal.samples_of_blocks-least-requires-clause-few
-samples_of_blocks-least-requires-clause-few g c = c.samples_in.ensures.few
+pub samples_of_blocks-least-requires : goal.samples_of_blocks-least-requires
+samples_of_blocks-least-requires g c =
+    let q = c.args.period.now.repetitions in
+    let few = c.blocks_are_small.ensures c.args.j q Inputs c.requires.period.least c.requires.table.short in
+    omega (arith, few, ap (λ m. c.args.j * m) (c.samples_in.ensures.value q c.requires.period.least))
 
 pub returns-then-not-are_inputs : goal.returns-then-not-are_inputs
 returns-then-not-are_inputs g c = λ has.

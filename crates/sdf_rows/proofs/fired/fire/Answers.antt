@@ -9,9 +9,11 @@ use Rattle.sdf_graph.specs.Rates.{rates}
 use Rattle.sdf_graph.specs.Periods.{IsLeastPeriod}
 use Rattle.sdf_actor.specs.Graphs.{graph_of}
 use Rattle.sdf_actor.specs.Wires.{lists}
+use Rattle.sdf_actor.specs.declared.sides.Lists.TheVariants.{Outputs}
 use Rattle.sdf_answer.specs.Periods.{CanRun}
 use Rattle.sdf_answer.specs.Rows.{IsTableOf}
 use Rattle.sdf_rows.specs.Blocks.{IsResting}
+use Rattle.sdf_rows.proofs.Counts.{factor_few}
 use Rattle.sdf_rows.proofs.Readings.{vec_long}
 use Rattle.sdf_rows.proofs.Ends.{begins, have_blocks, the_none}
 use Rattle.sdf_rows.proofs.fired.fire.Goals as goal
@@ -30,7 +32,7 @@ run_blocks-requires-clause-start g c = λ κs within.
     let can = subst (λ r. CanRun s n r (p.blocks * p.j) (lists c.args.inputs.now)) (sym same)
     (c.nets_can_run.ensures n p.period.now (p.blocks * p.j) (lists c.args.inputs.now)
     (c.nets_have_periods.ensures p.period.now c.requires.period) c.requires.inputs) in
-    let short = subst (λ r. p.j * sum r ≤ MOST_BLOCK) (sym same) c.requires.table.size.short in
+    let short = subst (λ r. p.j * sum r ≤ MOST_BLOCK) (sym same) c.requires.table.short in
     begins s c.histories_make_outputs.ensures.begin n c.net_facts.ensures.net
     (c.nets_are_wired.ensures.wired n c.net_facts.ensures.net) q p.j p.blocks (lists c.args.inputs.now) can
     short (omega arith)
@@ -127,10 +129,14 @@ make_queues-requires-clause-short g c = λ κs within. λ a l.
     )
 
 pub make_queues-requires-clause-few : goal.make_queues-requires-clause-few
-make_queues-requires-clause-few g c = λ κs within. omega (arith, c.requires.table.size.factor.1)
+make_queues-requires-clause-few g c = λ κs within.
+    let has = c.nets_have_periods.ensures c.args.plan.now.period.now c.requires.period in
+    factor_few c.args.plan.now.j c.args.plan.now.period.now.repetitions has.shape.some
+    c.requires.period.least.is.all c.requires.period.least.is.positive c.requires.table.short
 
-pub samples_of_blocks-room-requires-clause-short : goal.samples_of_blocks-room-requires-clause-short
-samples_of_blocks-room-requires-clause-short g c = c.requires.table.size.factor.1
-
-pub samples_of_blocks-room-requires-clause-few : goal.samples_of_blocks-room-requires-clause-few
-samples_of_blocks-room-requires-clause-few g c = c.samples_out.ensures.few
+pub samples_of_blocks-room-requires : goal.samples_of_blocks-room-requires
+samples_of_blocks-room-requires g c =
+    let j = c.args.plan.now.j in
+    let q = c.args.plan.now.period.now.repetitions in
+    let few = c.blocks_are_small.ensures j q Outputs c.requires.period.least c.requires.table.short in
+    omega (arith, few, ap (λ m. j * m) (c.samples_out.ensures.value q c.requires.period.least))

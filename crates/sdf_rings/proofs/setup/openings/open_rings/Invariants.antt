@@ -1,4 +1,5 @@
 use Rattle.std.proofs.Common.{◌≡◌, ◌<◌, ℕ, slice_index, vec_len}
+use Rattle.sdf_rings.specs.MachineLaws.{roomy}
 use Rattle.sdf_rings.specs.Openings.{HasRing}
 use Rattle.sdf_rings.proofs.setup.openings.open_rings.Given as goal
 
@@ -6,6 +7,6 @@ abbrev pub invariant-loop-c : goal.invariant-loop-c
 invariant-loop-c g l = record {
   producers : vec_len l.producers ≡ l.c;
   consumers : vec_len l.consumers ≡ l.c;
-  each : (k : ℕ) → k < l.c → HasRing g.A.Actor.steps l.net (slice_index l.table.caps) k l.producers.items
-      l.consumers.items;
+  each : (k : ℕ) → k < l.c → HasRing g.A.Actor.steps l.net
+      (roomy l.given.rooms (slice_index l.given.table.now.caps)) k l.producers.items l.consumers.items;
 }

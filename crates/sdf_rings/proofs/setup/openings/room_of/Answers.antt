@@ -1,4 +1,4 @@
-use Rattle.std.proofs.Common.{◌<◌, length, get_or, sym, ap, ◌∙◌, subst, arith}
+use Rattle.std.proofs.Common.{◌<◌, ◌*◌, length, get_or, sym, ap, ◌∙◌, subst, arith}
 use Rattle.std.proofs.lemmas.List.{get_or_default}
 use Rattle.sdf_graph.specs.Rates.{Edge, no_channel}
 use Rattle.sdf_actor.specs.Nets.{wiring}
@@ -23,6 +23,6 @@ returns-in-Some g c =
         c.greatest_put-block.result,
         greatest_is c.sums_rise.ensures.one shape (wiring g.A.Actor.steps n).rates c.graph.ensures.rates c.args.c
             c.greatest_put-block.result inside (omega (arith, put.all, put.some)) greatest,
-        omega (arith, c.in-Some.ensures.1, c.cap-held.ensures),
+        omega (arith, c.in-Some.ensures.1, c.in_ok-held.ensures, ap (λ m. c.args.given.now.rooms * m) c.cap.ensures),
       );
     }

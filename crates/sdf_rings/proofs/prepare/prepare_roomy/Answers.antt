@@ -1,9 +1,9 @@
-use Rattle.std.proofs.Common.{◌*◌, refl, ap, ◌∙◌, subst}
+use Rattle.std.proofs.Common.{◌*◌, refl, ap, ◌∙◌, subst, arith}
 use Rattle.sdf_actor.specs.Wires.{lists}
 use Rattle.sdf_actor.specs.declared.sides.Lists.TheVariants.{Inputs}
 use Rattle.sdf_actor.specs.Sides.{period_samples}
 use Rattle.sdf_answer.specs.Answer.{AreInputs}
-use Rattle.sdf_rings.proofs.prepare.prepare.Goals as goal
+use Rattle.sdf_rings.proofs.prepare.prepare_roomy.Goals as goal
 
 pub prepare_homed-requires-clause-inputs : goal.prepare_homed-requires-clause-inputs
 prepare_homed-requires-clause-inputs g c κs within =
@@ -27,3 +27,9 @@ returns g c =
           (lists c.args.inputs.now)) c.inputs.ensures has,
       c.in_ok-prepare_homed.ensures,
     )
+
+pub samples_of_blocks-least-requires : goal.samples_of_blocks-least-requires
+samples_of_blocks-least-requires g c =
+    let q = c.args.period.now.repetitions in
+    let few = c.blocks_are_small.ensures c.args.j q Inputs c.requires.period.least c.requires.table.short in
+    omega (arith, few, ap (λ m. c.args.j * m) (c.samples_in.ensures.value q c.requires.period.least))

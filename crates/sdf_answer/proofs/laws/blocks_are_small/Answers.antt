@@ -1,0 +1,6 @@
+use Rattle.sdf_answer.proofs.Samples.{blocks_small}
+use Rattle.sdf_answer.proofs.laws.blocks_are_small.Goals as goal
+
+pub returns : goal.returns
+returns g c = blocks_small g.A.Actor.steps c.args.net.now c.net_facts.ensures.net c.net_facts.ensures.graph
+    c.net_facts.ensures.alike c.nets_are_wired.ensures.ports
