@@ -14,7 +14,7 @@ use Rattle.sdf_options.specs.declared.options.Options.{Options}
 use Rattle.sdf_options.specs.declared.options.Placement.TheVariants.{File}
 use Rattle.sdf_options.specs.declared.options.Policy.{Policy}
 use Rattle.sdf_options.specs.declared.options.Policy.TheVariants.{Round, Lean, Runs}
-use Rattle.sdf_process.specs.Long.{IsLongSize}
+use Rattle.sdf_prec.specs.Long.{IsLongSize}
 use Rattle.sdf_process.specs.Placements.{rates_of, firings_of, AreAtHome, IsPlaced, IsPlaceFault, IsTableBy}
 
 long_size : (j m : ℕ) (q : List ℕ) → IsSize j m q → IsLongSize j m q

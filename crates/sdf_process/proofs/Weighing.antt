@@ -17,7 +17,7 @@ use Rattle.sdf_sched.specs.Period.{Schedule, IsPeriodOf}
 use Rattle.sdf_file.specs.Designs.{DesignValue, IsDesign}
 use Rattle.sdf_prec.specs.Costs.{IsCost}
 use Rattle.sdf_process.specs.Placements.{rates_of}
-use Rattle.sdf_process.specs.Spread.{AreLoads}
+use Rattle.sdf_prec.specs.Spread.{AreLoads}
 use Rattle.sdf_process.specs.Weights.{as_cost, load_of, firing_weight, is_free_of_costs, weights_of}
 
 -- one more weight

@@ -9,6 +9,4 @@ pub mod Plans
 pub mod Schedules
 pub mod Statuses
 pub mod Laws
-pub mod Spread
-pub mod Long
 pub mod Weights

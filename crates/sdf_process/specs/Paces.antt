@@ -13,7 +13,7 @@ use Rattle.sdf_process.specs.declared.parallel.Pace.TheVariants.{Crew, Slow, Alo
 use Rattle.sdf_process.specs.declared.parallel.TheConstants.{CREW_PATIENCE, LEAST_TENTHS}
 use Rattle.sdf_process.specs.Output.{exchange_of}
 use Rattle.sdf_process.specs.Plans.{PlanValue, IsPlanOf, IsPlanFault}
-use Rattle.sdf_process.specs.Spread.{weight_to, IsHeaviest}
+use Rattle.sdf_prec.specs.Spread.{weight_to, IsHeaviest}
 use Rattle.sdf_process.specs.Weights.{weights_of}
 
 -- the options of a run by several workers

@@ -9,7 +9,7 @@ use Rattle.sdf_prec.specs.declared.fault.PrecFault.{PrecFault}
 use Rattle.sdf_prec.specs.Blocks.{block, IsSizeFault as IsBlockSizeFault}
 use Rattle.sdf_prec.specs.ByHomes.{AreByHomes, AreRunsByHomes, IsHomesFault}
 use Rattle.sdf_prec.specs.HuTables.{IsHuTable}
-use Rattle.sdf_process.specs.Long.{IsLongest, IsLongSize, IsSpreadFault, IsSpreadTable}
+use Rattle.sdf_prec.specs.Long.{IsLongest, IsLongSize, IsSpreadFault, IsSpreadTable}
 use Rattle.sdf_prec.specs.Tables.{Tabled, IsTable}
 use Rattle.sdf_file.specs.Designs.{DesignValue}
 use Rattle.sdf_options.specs.declared.options.Options.{Options}

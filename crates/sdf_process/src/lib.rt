@@ -22,7 +22,6 @@ mod putting;
 mod running;
 mod samples;
 pub mod schedule;
-mod spreading;
 mod streaming;
 mod weights;
 

@@ -7,11 +7,11 @@ ghost use Rattle.sdf_process.specs.Plans.{IsPlanOf, IsPlanFault, IsWorkers, Suit
 use crate::fault::Fault;
 use crate::plan::Plan;
 use crate::planning::plan;
-use crate::spreading::{heaviest, weight_to};
 use crate::weights::weights;
 use sdf_file::Design;
 use sdf_options::{Options, Placement, Policy, Runner};
 use sdf_prec::Table;
+use sdf_prec::spread::{heaviest, weight_to};
 use std::alloc::{AllocError, Global};
 
 /// Repeated tests in the round of a worker of such a run.

@@ -4,11 +4,11 @@ ghost use Rattle.std.specs.Prelude.{MatchResult};
 ghost use Rattle.sdf_sched.specs.Period.{IsPeriodOf};
 ghost use Rattle.sdf_process.specs.Placements.{rates_of, ArePeriodsOf, IsTableBy, IsPlaceFault};
 
-use crate::spreading::{long_block, spread};
 use crate::weights::weights;
 use sdf_file::Design;
 use sdf_options::{Options, Placement, Policy};
 use sdf_prec::hu::hu;
+use sdf_prec::long::long_block;
 use sdf_prec::{PrecFault, Table};
 use sdf_sched::Period;
 use std::alloc::Global;
@@ -70,7 +70,7 @@ pub(crate) fn table_by(
         },
         Placement::Spread => {
             let weights = weights(alloc, design, period)?;
-            spread(alloc, graph, period, j, m, &weights)
+            Table::spread(alloc, graph, period, j, m, &weights)
         }
     }
 }

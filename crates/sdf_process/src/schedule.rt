@@ -3,7 +3,7 @@
 ghost use Rattle.std.specs.Prelude.{MatchResult, IfOk, string_bytes};
 ghost use Rattle.sdf_prec.specs.Tables.{IsTable};
 ghost use Rattle.sdf_process.specs.Placements.{rates_of, firings_of};
-ghost use Rattle.sdf_process.specs.Long.{IsLongSize};
+ghost use Rattle.sdf_prec.specs.Long.{IsLongSize};
 ghost use Rattle.sdf_process.specs.Schedules.{IsScheduled, IsShown, IsShowFault};
 
 use crate::fault::Fault;

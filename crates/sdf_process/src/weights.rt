@@ -9,7 +9,7 @@ ghost use Rattle.sdf_sched.specs.Period.{IsPeriodOf};
 ghost use Rattle.sdf_process.specs.Placements.{rates_of};
 ghost use Rattle.sdf_process.specs.Weights.{moved_by, products_of, as_cost, load_of, is_free_of_costs};
 ghost use Rattle.sdf_process.specs.Weights.{firing_weight, weights_of};
-ghost use Rattle.sdf_process.specs.Spread.{AreLoads};
+ghost use Rattle.sdf_prec.specs.Spread.{AreLoads};
 
 use sdf_actor::Node;
 use sdf_file::Design;

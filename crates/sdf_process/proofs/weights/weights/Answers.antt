@@ -2,7 +2,7 @@ use Rattle.std.proofs.Common.{◌≡◌, ◌≤◌, ◌*◌, ap, ◌∙◌, leng
 use Rattle.std.specs.List.{range_with_len}
 use Rattle.sdf_actor.specs.Graphs.{graph_of}
 use Rattle.sdf_kit.specs.Kit.{kit_steps}
-use Rattle.sdf_process.specs.Spread.{AreLoads}
+use Rattle.sdf_prec.specs.Spread.{AreLoads}
 use Rattle.sdf_process.specs.Weights.{firing_weight, weights_of}
 use Rattle.sdf_process.proofs.Weighing.{are_loads, one_more}
 use Rattle.sdf_process.proofs.weights.weights.Goals as goal
