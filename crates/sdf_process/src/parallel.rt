@@ -136,7 +136,7 @@ fn by_crew(
 /// Plans a run by so many workers over rings, at homes by which the weight of the actors is spread and in long blocks,
 /// where these can be 1.2 times as fast as one by what the actors weigh; and else a run in one thread. A fault is one
 /// of a plan for one thread.
-pub fn paced(alloc: Global, design: &Design, workers: usize) -> Result<Paced, Fault>
+pub fn parallel_plan(alloc: Global, design: &Design, workers: usize) -> Result<Paced, Fault>
     requires { IsWorkers workers }
 
     // What is answered is so.

@@ -12,7 +12,7 @@ use crate::storage::Storage;
 use sdf_file::Design;
 use sdf_limits::MOST_WORKERS;
 use sdf_options::Options;
-use sdf_process::parallel::{Pace, Paced, paced};
+use sdf_process::parallel::{Pace, Paced, parallel_plan};
 use sdf_process::planning::plan;
 use sdf_process::process::process;
 use sdf_process::{Fault, Plan};
@@ -208,7 +208,7 @@ pub(crate) fn run_parallel<
     let alloc = world.threads.alloc();
     let paths = asked.paths;
     let loaded = load_into(alloc, world.storage, paths.graph, world.most, sources)?;
-    let Paced { plan, pace } = paced(alloc, &loaded.design, workers_of(world.threads, asked.crew))?;
+    let Paced { plan, pace } = parallel_plan(alloc, &loaded.design, workers_of(world.threads, asked.crew))?;
     if asked.why {
         let _ = err.write_all(pace_text(alloc, pace)?.as_bytes());
     }
