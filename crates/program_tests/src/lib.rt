@@ -18,6 +18,8 @@ mod making;
 #[cfg(test)]
 mod overwriting;
 #[cfg(test)]
+mod parallel;
+#[cfg(test)]
 mod refused;
 #[cfg(test)]
 mod shelf;

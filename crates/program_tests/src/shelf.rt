@@ -13,6 +13,14 @@ actor = [{ name = "in", kind = "input", channel = 0, processor = 1 },
     { name = "out", kind = "output", channel = 0, processor = 0 }]
 link = [{ from = "in", to = "out", initial = [7, 8] }]"#;
 
+/// Of two branches one hands on what comes in, and the other adds nothing.
+const BRANCHES: &str = r#"format = 1
+actor = [{ name = "in", kind = "input", channel = 0 }, { name = "fork", kind = "fork", ways = 2 },
+    { name = "same", kind = "fir", shift = 0, taps = [1] }, { name = "none", kind = "fir", shift = 0, taps = [0] },
+    { name = "add", kind = "add", ways = 2 }, { name = "out", kind = "output", channel = 0 }]
+link = [{ from = "in", to = "fork" }, { from = "fork:0", to = "same" }, { from = "fork:1", to = "none" },
+    { from = "same", to = "add:0" }, { from = "none", to = "add:1" }, { from = "add", to = "out" }]"#;
+
 /// Each end of the one link moves other numbers of samples.
 const BLOCKS: &str = r#"format = 1
 actor = [{ name = "in", kind = "input", channel = 0, block = 2 },
@@ -79,10 +87,11 @@ values = [1]
 ";
 
 /// The graph files and coefficient files of the tests.
-const TEXTS: [(&str, &str); 20] = [
+const TEXTS: [(&str, &str); 21] = [
     ("plain.toml", PLAIN),
     ("-", PLAIN),
     ("begun.toml", BEGUN),
+    ("branches.toml", BRANCHES),
     ("blocks.toml", BLOCKS),
     ("long.toml", LONG),
     ("stuck.toml", STUCK),

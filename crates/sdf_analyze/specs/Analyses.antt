@@ -11,8 +11,9 @@ use Rattle.sdf_analyze.specs.Texts.{analysis_text}
 -- the table that options give a design, and its figures
 pub record IsFigured (d : DesignValue) (o : Options) (t : Tabled) (f : Figured) : Type 0 where
   pub period : Schedule
-  pub scheduled : IsScheduled d o period t
-  pub are : AreFiguresOf d o.blocking o.workers period t f
+  pub periods : ℕ
+  pub scheduled : IsScheduled d o periods period t
+  pub are : AreFiguresOf d periods o.workers period t f
 
 -- the text is of these
 pub record IsAnalysis (d : DesignValue) (o : Options) (text : List ℕ) : Type 0 where

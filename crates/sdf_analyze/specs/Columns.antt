@@ -6,7 +6,7 @@ use Rattle.sdf_file.specs.Texts.{end}
 use Rattle.sdf_options.specs.declared.options.Policy.{Policy}
 use Rattle.sdf_options.specs.declared.options.Policy.TheVariants.{Round, Lean, Runs}
 use Rattle.sdf_options.specs.declared.options.Placement.{Placement}
-use Rattle.sdf_options.specs.declared.options.Placement.TheVariants.{Hu, Homed, File}
+use Rattle.sdf_options.specs.declared.options.Placement.TheVariants.{Hu, Homed, File, Spread}
 use Rattle.sdf_analyze.specs.declared.columns.Column.{Column}
 use Rattle.sdf_analyze.specs.declared.columns.Column.TheVariants.{Makespan, Speedup, Rows, Samples}
 use Rattle.sdf_analyze.specs.declared.columns.Measures.{Measures}
@@ -24,6 +24,7 @@ abbrev pub placement_word : Placement → List ℕ
 placement_word Hu = codes "hu"
 placement_word Homed = codes "homed"
 placement_word File = codes "file"
+placement_word Spread = codes "spread"
 
 abbrev pub spaces : ℕ → List ℕ
 spaces n = replicate n 32

@@ -22,8 +22,12 @@ pub(crate) fn figured(
     ensures { MatchResult result (λ r. IsFigured design.now options.now r.0 r.1)
         (IsShowFault design.now options.now) }
 {
-    let (period, table) = scheduled(alloc, design, options)?;
-    let figures = Figures::of(alloc, design, options, &period, &table)?;
+    let (period, table, blocking) = scheduled(alloc, design, options)?;
+    let placed = Options {
+        blocking,
+        ..*options
+    };
+    let figures = Figures::of(alloc, design, &placed, &period, &table)?;
     Ok((table, figures))
 }
 

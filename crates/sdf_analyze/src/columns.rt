@@ -59,6 +59,7 @@ fn placement_word(placement: Placement) -> &'static str
         Placement::Hu => "hu",
         Placement::Homed => "homed",
         Placement::File => "file",
+        Placement::Spread => "spread",
     }
 }
 

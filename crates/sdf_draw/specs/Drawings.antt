@@ -14,8 +14,9 @@ use Rattle.sdf_draw.specs.Bars.{TimedValue, IsTimed, AreDrawable}
 pub record IsDrawing (d : DesignValue) (o : Options) (t : Tabled) (v : TimedValue) (ps : List Place) (above below : ℕ)
     (rs : List Route) : Type 0 where
   pub period : Schedule
-  pub scheduled : IsScheduled d o period t
-  pub timed : IsTimed d o.blocking o.workers period t v
+  pub periods : ℕ
+  pub scheduled : IsScheduled d o periods period t
+  pub timed : IsTimed d periods o.workers period t v
   pub layout : IsLayout d period.order ps above below rs
   pub drawable : AreDrawable d o.workers t v.times.starts
   pub capacities : length t.caps ≡ length d.net.wires

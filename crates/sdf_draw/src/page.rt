@@ -114,8 +114,12 @@ fn drawn(alloc: Global, design: &Design, options: &Options) -> Result<(Table, Ti
         p.2.below p.2.routes.items) (IsShowFault design.now options.now) }
 {
     let _ = design.net();
-    let (period, table) = scheduled(alloc, design, options)?;
-    let timed = Timed::of(alloc, design, options, &period, &table)?;
+    let (period, table, blocking) = scheduled(alloc, design, options)?;
+    let placed = Options {
+        blocking,
+        ..*options
+    };
+    let timed = Timed::of(alloc, design, &placed, &period, &table)?;
     let layout = laid_out(alloc, design, period.order())?;
     Ok((table, timed, layout))
 }

@@ -30,4 +30,4 @@ pub record IsAnalysisJson (d : DesignValue) (o : Options) (text : List ℕ) : Ty
   pub table : Tabled
   pub figures : Figured
   pub figured : IsFigured d o table figures
-  pub is : IsLineOf (analysis_value d o table figures) text
+  pub is : IsLineOf (analysis_value d (record o { blocking = figured.periods }) table figures) text

@@ -10,7 +10,7 @@ use Rattle.sdf_analyze.specs.Columns.{policy_word, placement_word}
 use Rattle.sdf_json.specs.Values.{natural, object_of, list_of, each_to, IsLineOf}
 use Rattle.sdf_json.specs.Tables.{order_value, row_value, homed_value, capacity_value}
 
--- the options that a schedule was asked for with
+-- the options that a schedule was asked for with, and the periods of its block
 abbrev pub asked : Options → List (List ℕ × Data)
 asked o =
     (codes "policy", string (policy_word o.policy)) ∷ (codes "placement", string (placement_word o.placement))
@@ -29,6 +29,7 @@ schedule_value d o s t = object_of (asked o ++
 -- the text is of the period and the table that the options give
 pub record IsScheduleJson (d : DesignValue) (o : Options) (text : List ℕ) : Type 0 where
   pub period : Schedule
+  pub periods : ℕ
   pub table : Tabled
-  pub scheduled : IsScheduled d o period table
-  pub is : IsLineOf (schedule_value d o period table) text
+  pub scheduled : IsScheduled d o periods period table
+  pub is : IsLineOf (schedule_value d (record o { blocking = periods }) period table) text

@@ -20,14 +20,22 @@ use sdf_process::schedule::scheduled;
 use serde_json::{Value, put};
 use std::alloc::{AllocError, Global};
 
-/// The table that options give a design, and its figures.
-fn figured(alloc: Global, design: &Design, options: &Options) -> Result<(Table, Figures), Fault>
-    ensures { MatchResult result (λ r. IsFigured design.now options.now r.0 r.1)
-        (IsShowFault design.now options.now) }
+/// The table that options give a design, and its figures, behind the options with the periods of its block.
+fn figured(
+    alloc: Global,
+    design: &Design,
+    options: &Options,
+) -> Result<(Options, Table, Figures), Fault>
+    ensures { MatchResult result (λ r. (f : IsFigured design.now options.now r.1 r.2)
+        × (r.0 ≡ record options.now { blocking = f.periods })) (IsShowFault design.now options.now) }
 {
-    let (period, table) = scheduled(alloc, design, options)?;
-    let figures = Figures::of(alloc, design, options, &period, &table)?;
-    Ok((table, figures))
+    let (period, table, blocking) = scheduled(alloc, design, options)?;
+    let placed = Options {
+        blocking,
+        ..*options
+    };
+    let figures = Figures::of(alloc, design, &placed, &period, &table)?;
+    Ok((placed, table, figures))
 }
 
 /// The loads of the workers.
@@ -82,7 +90,7 @@ pub fn analysis_json(alloc: Global, design: &Design, options: &Options) -> Resul
     ensures { MatchResult result (λ text. IsAnalysisJson design.now options.now (string_bytes text))
         (IsShowFault design.now options.now) }
 {
-    let (table, figures) = figured(alloc, design, options)?;
-    let value = analysis_value(alloc, design, options, &table, &figures)?;
+    let (placed, table, figures) = figured(alloc, design, options)?;
+    let value = analysis_value(alloc, design, &placed, &table, &figures)?;
     Ok(line_of(alloc, &value)?)
 }

@@ -2,7 +2,7 @@
 
 ghost use Rattle.std.specs.Prelude.{◌≡◌, ◌<◌, length, slice_index, MatchResult, IfOk};
 ghost use Rattle.sdf_sched.specs.Period.{IsPeriodOf};
-ghost use Rattle.sdf_prec.specs.Accepting.{IsSize};
+ghost use Rattle.sdf_prec.specs.Blocks.{IsWorkers, IsShort};
 ghost use Rattle.sdf_prec.specs.Tables.{IsTable};
 ghost use Rattle.sdf_prec.specs.declared.fault.PrecFault.TheVariants.{OutOfMemory};
 ghost use Rattle.sdf_process.specs.Placements.{rates_of, firings_of};
@@ -60,7 +60,8 @@ impl Figures {
         table: &Table,
     ) -> Result<Figures, PrecFault>
         requires period { IsPeriodOf (rates_of design.now) period.now }
-        requires size { IsSize options.now.blocking options.now.workers period.now.repetitions }
+        requires workers { IsWorkers options.now.workers }
+        requires short { IsShort options.now.blocking period.now.repetitions }
         requires table { IsTable (rates_of design.now) (firings_of options.now.blocking period.now)
             options.now.workers table.now }
         ensures { MatchResult result

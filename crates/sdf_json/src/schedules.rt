@@ -36,10 +36,11 @@ fn placement_word(placement: Placement) -> &'static str
         Placement::Hu => "hu",
         Placement::Homed => "homed",
         Placement::File => "file",
+        Placement::Spread => "spread",
     }
 }
 
-/// The options that a schedule was asked for with.
+/// The options that a schedule was asked for with, and the periods of its block.
 pub(crate) fn asked(alloc: Global, options: &Options) -> Result<Members, AllocError>
     ensures { IfOk result (λ m. members_view m.entries ≡ with no_members (asked options.now)) }
 {
@@ -87,7 +88,11 @@ pub fn schedule_json(alloc: Global, design: &Design, options: &Options) -> Resul
     ensures { MatchResult result (λ text. IsScheduleJson design.now options.now (string_bytes text))
         (IsShowFault design.now options.now) }
 {
-    let (period, table) = scheduled(alloc, design, options)?;
-    let value = schedule_value(alloc, design, options, &period, &table)?;
+    let (period, table, blocking) = scheduled(alloc, design, options)?;
+    let placed = Options {
+        blocking,
+        ..*options
+    };
+    let value = schedule_value(alloc, design, &placed, &period, &table)?;
     Ok(line_of(alloc, &value)?)
 }

@@ -25,12 +25,19 @@ pub enum Placement {
     Homed,
     /// The processors that the graph file names.
     File,
+    /// Processors worked out from what the actors weigh, in blocks of many periods.
+    Spread,
 }
 
 /// The words of the placements, and the placements in the same order.
-pub const PLACEMENT_WORDS: &[&str] = &["hu", "homed", "file"];
+pub const PLACEMENT_WORDS: &[&str] = &["hu", "homed", "file", "spread"];
 
-pub static PLACEMENTS: [Placement; 3] = [Placement::Hu, Placement::Homed, Placement::File];
+pub static PLACEMENTS: [Placement; 4] = [
+    Placement::Hu,
+    Placement::Homed,
+    Placement::File,
+    Placement::Spread,
+];
 
 /// What runs a plan.
 #[derive(Clone, Copy, Debug, PartialEq, Eq)]
@@ -51,7 +58,7 @@ pub static RUNNERS: [Runner; 3] = [Runner::One, Runner::Rows, Runner::Rings];
 /// The options of a schedule or a run, within their limits.
 #[derive(Clone, Copy, Debug, PartialEq, Eq)]
 pub struct Options {
-    /// Periods in a block, 1 to 64.
+    /// Periods in a block, 1 to 64. The placement `spread` has blocks of its own.
     pub blocking: u32,
     /// Processors, 1 to 16.
     pub workers: usize,

@@ -1,11 +1,13 @@
 -- What a run knows that reads and writes as it goes, before its first piece and between two.
 use Rattle.std.proofs.Common.{false, ◌≡◌, ◌≢◌, ◌⊎◌, inl, inr, Err, ℕ, ◌+◌, ◌-◌, ◌*◌, ◌/◌, ◌%◌, ◌≤◌, ◌<◌, ℤ, List, []}
-use Rattle.std.proofs.Common.{length, map, take, Option, Some, None, refl, sym, ap, ◌∙◌, subst, arith}
+use Rattle.std.proofs.Common.{length, map, sum, take, Option, Some, None, refl, sym, ap, ◌∙◌, subst, arith}
 use Rattle.std.specs.Prelude.{IfSome}
 use Rattle.std.specs.Io.KnownBytes.{Appends}
 use Rattle.std.proofs.Math.Nat.{div-mul-le_self, mod-eq-sub-div-mul}
 use Rattle.std.proofs.lemmas.Bool.{cases_lt, lt-ltb}
+use Rattle.std.proofs.lemmas.List.Sums.{get_or-le-sum_by}
 use Rattle.std.proofs.lemmas.Nat.{le-div}
+use Rattle.sdf_limits.specs.declared.TheConstants.{MOST_BLOCK}
 use Rattle.sdf_actor.specs.Nets.{Netlist}
 use Rattle.sdf_answer.specs.Answer.{AreOutputs, periods_of as firings}
 use Rattle.sdf_answer.specs.Laws.{RunsGoOn}
@@ -146,13 +148,27 @@ IsOwed n p c frames o =
       spent = false;
     })
 
-factor_fits : (n : Netlist Kit ℤ) (plan : PlanValue) (t : Tabled) → plan.table ≡ Some t → Suits n plan →
-    (0 < plan.blocking) × (plan.blocking ≤ 4294967295)
-factor_fits n plan t is suits =
+-- a period has firings
+some_firings : (n : Netlist Kit ℤ) (p : Schedule) → HasPeriod kit_steps n p → 1 ≤ sum p.repetitions
+some_firings n p has =
+    let few : 0 < length p.repetitions = omega (arith, has.period.least.is.all, has.shape.some) in
+    omega (arith, has.period.least.is.positive 0 has.shape.some, get_or-le-sum_by (λ q. q) p.repetitions 0 0 few)
+
+-- a block of few firings has few periods
+few_blocks : (j firings : ℕ) → 1 ≤ firings → j * firings ≤ MOST_BLOCK → j ≤ MOST_BLOCK
+few_blocks j firings some short =
+    let more : j * 1 ≤ j * firings = mul-le-mul_left j some in
+    omega (arith, more, short)
+
+factor_fits : (n : Netlist Kit ℤ) (plan : PlanValue) (t : Tabled) → HasPeriod kit_steps n plan.period →
+    plan.table ≡ Some t → Suits n plan → (0 < plan.blocking) × (plan.blocking ≤ 4294967295)
+factor_fits n plan t has is suits =
     let here : IsTableOf (rates (graph_of kit_steps n)) plan.period.repetitions plan.blocking t =
     subst (λ (o : Option Tabled). IfSome o (IsTableOf (rates (graph_of kit_steps n)) plan.period.repetitions
     plan.blocking)) is suits.table in
-    (omega (arith, here.size.factor.0), omega (arith, here.size.factor.1))
+    let few : plan.blocking ≤ MOST_BLOCK =
+    few_blocks plan.blocking (sum plan.period.repetitions) (some_firings n plan.period has) here.short in
+    (omega (arith, here.some), omega (arith, few))
 
 module _ (n : Netlist Kit ℤ) (plan : PlanValue) (t : Tabled) (is : plan.table ≡ Some t) (suits : Suits n plan)
     (has : (p : Schedule) → IsPeriodOf (rates (graph_of kit_steps n)) p → HasPeriod kit_steps n p) (c : Reading)
@@ -161,6 +177,9 @@ module _ (n : Netlist Kit ℤ) (plan : PlanValue) (t : Tabled) (is : plan.table 
     (limits : IsExchange x) (owed : IsOwed n plan.period c frames o) where
   there : x ≡ exchange_of n plan.period.repetitions
   there = x_is plan.period.repetitions suits.period.least
+
+  factors : (0 < plan.blocking) × (plan.blocking ≤ 4294967295)
+  factors = factor_fits n plan t (has plan.period suits.period) is suits
 
   pub can_flow : RunsGoOn kit_steps → IsReading c → c.gone ≡ 0 → known_frames c ≡ Some frames →
       CanFlow n plan.period plan.blocking c frames o.missing
@@ -176,8 +195,8 @@ module _ (n : Netlist Kit ℤ) (plan : PlanValue) (t : Tabled) (is : plan.table 
         size = whole_size c frames sound here.0 here.1;
         known = here.0;
         fits = sound.size_fits;
-        some = (factor_fits n plan t is suits).0;
-        few = (factor_fits n plan t is suits).1;
+        some = factors.0;
+        few = factors.1;
         taken = subst (λ (y : Exchange). 0 < y.taken) there limits.some_taken;
         made = subst (λ (y : Exchange). 0 < y.made) there limits.some_made;
         all_is = ap (λ (y : Owed). y.missing) owed.2
@@ -194,8 +213,8 @@ module _ (n : Netlist Kit ℤ) (plan : PlanValue) (t : Tabled) (is : plan.table 
     period = at.period;
     factor = at.factor ∙ sym blocking;
     has = has plan.period suits.period;
-    some = omega (arith, (factor_fits n plan t is suits).0, blocking);
-    fits = omega (arith, (factor_fits n plan t is suits).1, blocking);
+    some = omega (arith, factors.0, blocking);
+    fits = omega (arith, factors.1, blocking);
     exchange = there;
     limits = limits;
     unspent = ap (λ (y : Owed). y.spent) owed.2;

@@ -13,6 +13,8 @@ pub mod Rendering
 pub mod Deadlocks
 pub mod Outputs
 pub mod Suiting
+pub mod Weighing
+pub mod Placing
 pub mod Tabling
 pub mod Played
 pub mod Pieced

@@ -4,7 +4,9 @@ pub mod Run
 pub mod Stages
 pub mod Streams
 pub mod Placements
+pub mod Paces
 pub mod Plans
 pub mod Schedules
 pub mod Statuses
 pub mod Laws
+pub mod Weights

@@ -30,18 +30,22 @@ use Rattle.sdf_options.specs.declared.options.Policy.{Policy}
 use Rattle.sdf_options.specs.declared.options.Policy.TheVariants as policies
 use Rattle.sdf_options.specs.declared.options.Runner.{Runner}
 use Rattle.sdf_options.specs.declared.options.Runner.TheVariants.{One, Rows, Rings}
+use Rattle.sdf_options.specs.declared.options.Placement.{Placement}
+use Rattle.sdf_options.specs.declared.options.Placement.TheVariants.{Spread}
+use Rattle.sdf_process.specs.declared.plan.TheConstants.{SPREAD_ROOMS}
 use Rattle.sdf_process.specs.declared.fault.Progress.{Progress}
 use Rattle.sdf_process.specs.declared.fault.Fault.{Fault}
 use Rattle.sdf_process.specs.declared.fault.Fault.TheVariants.{OutOfMemory, Patience, BlockingFactor, WorkerCount}
 use Rattle.sdf_process.specs.declared.fault.Fault.TheVariants.{Deadlock, Table, NotHomed}
-use Rattle.sdf_process.specs.Placements.{IsTableBy, IsPlaceFault}
+use Rattle.sdf_process.specs.Placements.{ArePeriodsOf, IsTableBy, IsPlaceFault}
 
--- what runs a design, the periods of a block, a worker's repeated tests, the order of one period, and the table of a
--- block
+-- what runs a design, the periods of a block, a worker's repeated tests, how many times the capacities of the table
+-- the rings hold, the order of one period, and the table of a block
 pub record PlanValue : Type 0 where
   pub blocking : ℕ
   pub runner : Runner
   pub patience : ℕ
+  pub rooms : ℕ
   pub period : Schedule
   pub table : Option Tabled
 
@@ -97,20 +101,26 @@ IsOptionFault o f = ⊥
 
 -- The runner on one thread has no table. Each other one has that of the placement; over rings each actor has a home in
 -- it.
-abbrev pub IsTableFor : Runner → DesignValue → Options → Schedule → Option Tabled → Type 0
-IsTableFor One d o s t = t ≡ None
-IsTableFor Rows d o s (Some t) = IsTableBy d o s t
-IsTableFor Rings d o s (Some t) = IsTableBy d o s t × IsHomed t
-IsTableFor runner d o s None = ⊥
+abbrev pub IsTableFor : Runner → DesignValue → Options → Schedule → ℕ → Option Tabled → Type 0
+IsTableFor One d o s j t = t ≡ None
+IsTableFor Rows d o s j (Some t) = IsTableBy d o s j t
+IsTableFor Rings d o s j (Some t) = IsTableBy d o s j t × IsHomed t
+IsTableFor runner d o s j None = ⊥
+
+-- how many times the capacities of the table the rings hold by a placement
+abbrev pub rooms_of : Placement → ℕ
+rooms_of Spread = SPREAD_ROOMS
+rooms_of placement = 1
 
 -- the plan of a design by options that pass all tests
 pub record IsPlanOf (d : DesignValue) (o : Options) (p : PlanValue) : Type 0 where
   pub options : ArePassed o
-  pub same_blocking : p.blocking ≡ o.blocking
+  pub blocking : ArePeriodsOf d o p.period p.blocking
   pub same_runner : p.runner ≡ o.runner
   pub same_patience : p.patience ≡ o.patience
+  pub rooms : p.rooms ≡ rooms_of o.placement
   pub schedule : IsScheduleBy o.policy (graph_of kit_steps d.net) p.period
-  pub by_placement : IsTableFor o.runner d o p.period p.table
+  pub by_placement : IsTableFor o.runner d o p.period p.blocking p.table
 
 -- a runner over rings needs a home for each actor
 abbrev pub SuitsRunner : Runner → Tabled → Type 0
@@ -175,24 +185,28 @@ pub record IsUnplaced (d : DesignValue) (o : Options) (f : PrecFault) : Type 0 w
   pub sizes : AreSizes o
   pub period : Schedule
   pub by_policy : IsScheduleBy o.policy (graph_of kit_steps d.net) period
-  pub fault : IsPlaceFault o.placement d o.blocking o.workers period f
+  pub periods : ℕ
+  pub blocking : ArePeriodsOf d o period periods
+  pub fault : IsPlaceFault o.placement d periods o.workers period f
   pub no_memory : f ≡ prec.OutOfMemory → ⊥
 
--- why there is no table of a period that the runner takes
-abbrev pub IsTableFault : DesignValue → Options → Schedule → Fault → Type 0
-IsTableFault d o s OutOfMemory = Unit {0}
-IsTableFault d o s (Table f) = (o.runner ≢ One) × IsPlaceFault o.placement d o.blocking o.workers s f
+-- why there is no table of j periods that the runner takes
+abbrev pub IsTableFault : DesignValue → Options → Schedule → ℕ → Fault → Type 0
+IsTableFault d o s j OutOfMemory = Unit {0}
+IsTableFault d o s j (Table f) = (o.runner ≢ One) × IsPlaceFault o.placement d j o.workers s f
     × (f ≡ prec.OutOfMemory → ⊥)
-IsTableFault d o s NotHomed = (o.runner ≡ Rings) × ((t : Tabled) × IsTableBy d o s t × (IsHomed t → ⊥))
-IsTableFault d o s f = ⊥
+IsTableFault d o s j NotHomed = (o.runner ≡ Rings) × ((t : Tabled) × IsTableBy d o s j t × (IsHomed t → ⊥))
+IsTableFault d o s j f = ⊥
 
 -- the table of the placement has an actor without a home
 pub record IsScattered (d : DesignValue) (o : Options) : Type 0 where
   pub sizes : AreSizes o
   pub period : Schedule
   pub by_policy : IsScheduleBy o.policy (graph_of kit_steps d.net) period
+  pub periods : ℕ
+  pub blocking : ArePeriodsOf d o period periods
   pub table : Tabled
-  pub by_placement : IsTableBy d o period table
+  pub by_placement : IsTableBy d o period periods table
   pub scattered : IsHomed table → ⊥
 
 -- the first test that options or the design fail. Only the schedule and the table take memory

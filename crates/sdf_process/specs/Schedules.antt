@@ -10,20 +10,22 @@ use Rattle.sdf_options.specs.declared.options.Options.{Options}
 use Rattle.sdf_process.specs.declared.fault.Fault.{Fault}
 use Rattle.sdf_process.specs.declared.fault.Fault.TheVariants.{OutOfMemory, BlockingFactor, WorkerCount, Deadlock}
 use Rattle.sdf_process.specs.declared.fault.Fault.TheVariants.{Table}
-use Rattle.sdf_process.specs.Placements.{IsTableBy}
+use Rattle.sdf_process.specs.Placements.{ArePeriodsOf, IsTableBy}
 use Rattle.sdf_process.specs.Plans.{AreSizes, IsSizeFault, IsScheduleBy, IsScheduleFault, IsUnplaced}
 
--- the order of the policy, and the table of the placement
-pub record IsScheduled (d : DesignValue) (o : Options) (period : Schedule) (table : Tabled) : Type 0 where
+-- the order of the policy, and the table of the placement for a block of so many periods
+pub record IsScheduled (d : DesignValue) (o : Options) (periods : ℕ) (period : Schedule) (table : Tabled) : Type 0 where
   pub sizes : AreSizes o
   pub by_policy : IsScheduleBy o.policy (graph_of kit_steps d.net) period
-  pub by_placement : IsTableBy d o period table
+  pub blocking : ArePeriodsOf d o period periods
+  pub by_placement : IsTableBy d o period periods table
 
 -- the text is of these
 pub record IsShown (d : DesignValue) (o : Options) (text : List ℕ) : Type 0 where
   pub period : Schedule
+  pub periods : ℕ
   pub table : Tabled
-  pub scheduled : IsScheduled d o period table
+  pub scheduled : IsScheduled d o periods period table
   pub is : IsScheduleText d period.order table text
 
 -- the first test that fails: of the numbers, of the schedule, of the table

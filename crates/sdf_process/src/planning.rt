@@ -13,7 +13,7 @@ ghost use Rattle.sdf_process.specs.Plans.{IsTableFor, IsTableFault, Suits, Decid
 ghost use Rattle.sdf_process.specs.Plans.{IsScheduleFault, progress_of, progress_view, short_of};
 
 use crate::fault::{Fault, Progress, Stalled};
-use crate::placement::table_by;
+use crate::placement::{blocking_by, table_by};
 use crate::plan::Plan;
 use sdf_file::Design;
 use sdf_graph::laws::{graphs_are_sound, one_least_period};
@@ -134,21 +134,22 @@ fn option_fault(options: &Options) -> Option<Fault>
     size_fault(options)
 }
 
-/// The table that a runner needs.
+/// The table that a runner needs, for blocks of `j` periods.
 fn table_for(
     alloc: Global,
     design: &Design,
     period: &Period,
     options: &Options,
+    j: u32,
 ) -> Result<Option<Table>, Fault>
     requires { IsPeriodOf (rates_of design.now) period.now }
-    ensures { MatchResult result (IsTableFor options.now.runner design.now options.now period.now)
-        (IsTableFault design.now options.now period.now) }
+    ensures { MatchResult result (IsTableFor options.now.runner design.now options.now period.now j)
+        (IsTableFault design.now options.now period.now j) }
 {
     if options.runner == Runner::One {
         return Ok(None);
     }
-    let table = table_by(alloc, design, period, options)?;
+    let table = table_by(alloc, design, period, options, j)?;
     if options.runner == Runner::Rings && !table.homed() {
         return Err(Fault::NotHomed);
     }
@@ -164,8 +165,9 @@ fn planned(alloc: Global, design: &Design, options: &Options) -> Result<Plan, Fa
         return Err(fault);
     }
     let period = period_by(alloc, design, options.policy)?;
-    let table = table_for(alloc, design, &period, options)?;
-    Ok(Plan::new(options, period, table))
+    let blocking = blocking_by(design, options, &period);
+    let table = table_for(alloc, design, &period, options, blocking)?;
+    Ok(Plan::new(options, blocking, period, table))
 }
 
 /// Plans a run. The tests in order: for the runner `rings` the patience is within its limit; the blocking factor and

@@ -33,16 +33,24 @@ use sdf_wav::{ContentIn, ContentOut, MOST_CHANNELS, Reader, Wav, Writer};
 use std::alloc::{AllocError, Global};
 use std::thread::Threads;
 
-/// Frames that are read at a time.
+/// Frames that are read at a time, where the rings of a plan hold no more than the capacities of its table.
 const FRAMES: usize = 4096;
+
+/// Frames that are read at a time.
+fn frames_at_a_time(plan: &Plan) -> usize
+    ensures { 0 < result }
+{
+    FRAMES * plan.rooms().max(1) as usize
+}
 
 /// How the blocks of a plan are run.
 fn mode(plan: &Plan) -> Mode
-    ensures { result ≡ mode_of plan.now.runner plan.now.patience }
+    ensures { result ≡ mode_of plan.now.runner plan.now.patience plan.now.rooms }
 {
     match plan.runner() {
         Runner::Rings => Mode::Rings {
             patience: plan.patience(),
+            rooms: plan.rooms(),
         },
         _ => Mode::Rows,
     }
@@ -274,10 +282,11 @@ pub(crate) fn run_stream<T: Threads + AllocGlobal + Sync, R: Reader, W: Writer, 
         exchange,
         blocking: plan.blocking(),
     };
+    let most = frames_at_a_time(plan);
     let mut kept = Vec::new(alloc);
     let mut unread = frames;
     while unread > 0 {
-        let many = FRAMES.min(unread);
+        let many = most.min(unread);
         let samples = read_more(alloc, reader, &mut content, many, kept)?;
         kept = stream.put_whole(rt, writer, gate, rate, channels, samples)?;
         unread -= many;

@@ -7,7 +7,7 @@ ghost use Rattle.sdf_process.specs.declared.fault.Fault.TheVariants.{OutOfMemory
 use crate::making::{fir, resample};
 use crate::printing::{check, print_analysis, print_picture, print_schedule, show};
 use crate::profiling::print_profile;
-use crate::running::{Paths, run};
+use crate::running::{Parallel, Paths, run, run_parallel};
 use crate::storage::Storage;
 use crate::telling::Background;
 use sdf_document::kinds_text;
@@ -92,6 +92,7 @@ fn obey<
                 input,
                 output,
                 options,
+                parallel,
                 why,
             },
         ) => {
@@ -101,7 +102,14 @@ fn obey<
                 output,
             };
             background.asked_why(why, &options);
-            run(world, stdin, out, paths, &options, &mut background.sources)
+            let sources = &mut background.sources;
+            match parallel {
+                Some(crew) => {
+                    let asked = Parallel { paths, crew, why };
+                    run_parallel(world, stdin, out, err, asked, sources)
+                }
+                None => run(world, stdin, out, paths, &options, sources),
+            }
         }
         Ok(Words::Fir { wanted }) => fir(world, out, err, wanted),
         Ok(Words::Resample { conversion }) => resample(world, err, conversion),

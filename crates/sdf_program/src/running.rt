@@ -1,20 +1,30 @@
 //! The command that makes a sound of another.
 
+ghost use Rattle.std.specs.Prelude.{◌≤◌};
+ghost use Rattle.sdf_limits.specs.declared.TheConstants.{MOST_WORKERS};
 ghost use Rattle.sdf_process.specs.Plans.{Suits};
+ghost use Rattle.sdf_words.specs.Limits.{IsCrew};
 
 use crate::files::{Loaded, Refused, Sources, load_into, refuse};
 use crate::overwriting::keep_what_is_read;
 use crate::program::{STANDARD, World};
 use crate::storage::Storage;
 use sdf_file::Design;
+use sdf_limits::MOST_WORKERS;
 use sdf_options::Options;
+use sdf_process::parallel::{Pace, Paced, parallel_plan};
 use sdf_process::planning::plan;
 use sdf_process::process::process;
 use sdf_process::{Fault, Plan};
 use sdf_wav::{ContentIn, FromRead, ToWrite};
 use sdf_why::Header;
+use sdf_words::Crew;
+use std::alloc::{AllocError, Global};
 use std::io::{Read, Write};
-use std::thread::Threads;
+use std::thread::{Threads, available_parallelism};
+
+/// Workers of a parallel run where the system does not tell its processors.
+const WORKERS: usize = 4;
 
 /// What a run reads and writes, by their paths.
 #[derive(Clone, Copy)]
@@ -22,6 +32,15 @@ pub(crate) struct Paths<'a> {
     pub(crate) graph: &'a str,
     pub(crate) input: &'a str,
     pub(crate) output: &'a str,
+}
+
+/// What a parallel run is asked for.
+#[derive(Clone, Copy)]
+pub(crate) struct Parallel<'a> {
+    pub(crate) paths: Paths<'a>,
+    pub(crate) crew: Crew,
+    /// Whether it is told how it runs.
+    pub(crate) why: bool,
 }
 
 /// A design and the plan of its run.
@@ -90,8 +109,34 @@ fn run_from<S: Storage, T: Threads + AllocGlobal + Sync, R: Read + Drop, O: Writ
     }
 }
 
-/// Runs a design on a WAV file. OUT is made or emptied once the plan stands, IN is open, and none of the files that
-/// are read is OUT.
+/// Runs a design by its plan on a WAV file. OUT is made or emptied once IN is open, and none of the files that are read
+/// is OUT.
+fn run_planned<S: Storage, T: Threads + AllocGlobal + Sync, I: Read, O: Write>(
+    world: &World<S, T>,
+    stdin: &mut I,
+    out: &mut O,
+    paths: Paths<'_>,
+    planned: &Planned,
+    sources: &mut Sources,
+) -> Result<(), Fault>
+    requires { Suits planned.now.loaded.design.net planned.now.plan }
+{
+    let alloc = world.threads.alloc();
+    let refused = &mut sources.refused;
+    if paths.input == STANDARD {
+        return run_from(world, stdin, out, paths, planned, refused);
+    }
+    let ended = match world.storage.open(paths.input) {
+        Ok(from) => run_from(world, from, out, paths, planned, refused),
+        Err(error) => Err(refuse(alloc, refused, paths.input, &error, Fault::Read)),
+    };
+    if let Err(Fault::ChannelsMissing | Fault::RateNotWhole) = &ended {
+        sources.header = header_at(world.storage, paths.input);
+    }
+    ended
+}
+
+/// Runs a design on a WAV file, once its plan stands.
 pub(crate) fn run<S: Storage, T: Threads + AllocGlobal + Sync, I: Read, O: Write>(
     world: &World<S, T>,
     stdin: &mut I,
@@ -104,16 +149,69 @@ pub(crate) fn run<S: Storage, T: Threads + AllocGlobal + Sync, I: Read, O: Write
     let loaded = load_into(alloc, world.storage, paths.graph, world.most, sources)?;
     let plan = plan(alloc, &loaded.design, options)?;
     let planned = Planned { loaded, plan };
-    let refused = &mut sources.refused;
-    if paths.input == STANDARD {
-        return run_from(world, stdin, out, paths, &planned, refused);
+    run_planned(world, stdin, out, paths, &planned, sources)
+}
+
+/// How many workers are asked for.
+fn workers_of<T: Threads>(threads: &T, crew: Crew) -> usize
+    requires { IsCrew crew }
+    ensures some { 1 ≤ result }
+    ensures few { result ≤ MOST_WORKERS }
+{
+    match crew {
+        Crew::Workers(workers) => workers,
+        Crew::Processors => match available_parallelism(threads) {
+            Ok(processors) => processors.get().min(MOST_WORKERS),
+            Err(_) => WORKERS,
+        },
     }
-    let ended = match world.storage.open(paths.input) {
-        Ok(from) => run_from(world, from, out, paths, &planned, refused),
-        Err(error) => Err(refuse(alloc, refused, paths.input, &error, Fault::Read)),
-    };
-    if let Err(Fault::ChannelsMissing | Fault::RateNotWhole) = &ended {
-        sources.header = header_at(world.storage, paths.input);
+}
+
+/// How a parallel run goes, on one line.
+fn pace_text(alloc: Global, pace: Pace) -> Result<String, AllocError> {
+    match pace {
+        Pace::Crew {
+            workers,
+            samples,
+            tenths,
+        } => {
+            let (whole, tenth) = (tenths / 10, tenths % 10);
+            format!(in alloc; "{workers} workers, blocks of {samples} samples, at most {whole}.{tenth} times\n")
+        }
+        Pace::Slow { tenths } => {
+            let (whole, tenth) = (tenths / 10, tenths % 10);
+            format!(in alloc; "one thread: workers could be at most {whole}.{tenth} times as fast\n")
+        }
+        Pace::Alone => String::from_str(alloc, "one thread: one worker is asked for\n"),
+        Pace::Unplanned => String::from_str(alloc, "one thread: there is no plan for the workers\n"),
     }
-    ended
+}
+
+/// Runs a design on a WAV file in parallel where that can be faster, once its plan stands, and tells how where that is
+/// asked for.
+pub(crate) fn run_parallel<
+    S: Storage,
+    T: Threads + AllocGlobal + Sync,
+    I: Read,
+    O: Write,
+    E: Write,
+>(
+    world: &World<S, T>,
+    stdin: &mut I,
+    out: &mut O,
+    err: &mut E,
+    asked: Parallel<'_>,
+    sources: &mut Sources,
+) -> Result<(), Fault>
+    requires { IsCrew asked.crew }
+{
+    let alloc = world.threads.alloc();
+    let paths = asked.paths;
+    let loaded = load_into(alloc, world.storage, paths.graph, world.most, sources)?;
+    let Paced { plan, pace } = parallel_plan(alloc, &loaded.design, workers_of(world.threads, asked.crew))?;
+    if asked.why {
+        let _ = err.write_all(pace_text(alloc, pace)?.as_bytes());
+    }
+    let planned = Planned { loaded, plan };
+    run_planned(world, stdin, out, paths, &planned, sources)
 }

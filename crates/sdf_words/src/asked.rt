@@ -17,6 +17,15 @@ pub struct Conversion<'a> {
     pub attenuation: u32,
 }
 
+/// How many workers a parallel run is asked for.
+#[derive(Clone, Copy, Debug, PartialEq, Eq)]
+pub enum Crew {
+    /// As many as there are processors.
+    Processors,
+    /// So many, 1 to 16.
+    Workers(usize),
+}
+
 /// A command, its files by their paths. With `why` more is told of a fault; with `json` the answer and the fault are
 /// JSON.
 #[derive(Clone, Copy, Debug, PartialEq, Eq)]
@@ -47,11 +56,13 @@ pub enum Words<'a> {
         options: Options,
         dot: bool,
     },
+    /// With `parallel` the options mean nothing.
     Run {
         graph: &'a str,
         input: &'a str,
         output: &'a str,
         options: Options,
+        parallel: Option<Crew>,
         why: bool,
     },
     /// Each actor's share of the time of a run.

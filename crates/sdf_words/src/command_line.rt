@@ -3,10 +3,10 @@
 ghost use Rattle.std.specs.Prelude.{◌≡◌, ◌≤◌, IfOk, IfErr, IfSome, option_and_then, position, slice_get};
 ghost use Rattle.std.specs.Str.{bytes_eq};
 ghost use Rattle.sdf_options.specs.Limits.{AreWithinLimits, IsUsage};
-ghost use Rattle.sdf_words.specs.Limits.{IsWithinLimits};
+ghost use Rattle.sdf_words.specs.Limits.{IsCrew, IsWithinLimits};
 ghost use Rattle.sdf_words.specs.declared.asked.TheConstants.{MOST_FAULT};
 
-use crate::asked::{Conversion, MOST_FAULT, Words};
+use crate::asked::{Conversion, Crew, MOST_FAULT, Words};
 use crate::commands::sdfw_command;
 use crate::explain::number_named;
 use clap::ArgMatches;
@@ -123,6 +123,17 @@ fn profile_of<'a>(matches: &ArgMatches<'a>) -> Option<Words<'a>>
     })
 }
 
+/// How many workers a parallel run is asked for.
+fn crew_of(matches: &ArgMatches<'_>) -> Option<Crew>
+    ensures { IfSome result IsCrew }
+{
+    match number_of(matches, "parallel", 1, MOST_WORKERS as u32) {
+        Some(workers) => Some(Crew::Workers(workers as usize)),
+        None if matches.contains_id("parallel") => Some(Crew::Processors),
+        None => None,
+    }
+}
+
 /// What `run` is asked for.
 fn run_of<'a>(matches: &ArgMatches<'a>) -> Option<Words<'a>>
     ensures { IfSome result IsWithinLimits }
@@ -132,6 +143,7 @@ fn run_of<'a>(matches: &ArgMatches<'a>) -> Option<Words<'a>>
         input: matches.get_str("IN")?,
         output: matches.get_str("OUT")?,
         options: options_of(matches)?,
+        parallel: crew_of(matches),
         why: matches.get_flag("why"),
     })
 }

@@ -45,13 +45,15 @@ struct Choice {
     default: Option<&'static str>,
 }
 
-/// What a command can be told by a name alone, and another that can't be told beside it.
+/// What a command can be told by a name alone, and others that can't be told beside it. A value may stand behind the
+/// name where it has one.
 #[derive(Clone, Copy)]
 struct Switch {
     name: &'static str,
     help: &'static str,
     more: &'static str,
-    against: Option<&'static str>,
+    against: &'static [&'static str],
+    value: Option<(&'static str, Values)>,
 }
 
 /// A command, what it is given by place, and what by name. Its help ends with the examples.
@@ -100,12 +102,15 @@ fn flag<'a>(alloc: Global, switch: Switch) -> Result<Arg<'a>, AllocError> {
     let flag = Arg::new(alloc, switch.name)
         .long(switch.name)
         .help(switch.help)
-        .long_help(switch.more)
-        .action(ArgAction::SetTrue);
-    match switch.against {
-        Some(other) => flag.conflicts_with(other),
-        None => Ok(flag),
-    }
+        .long_help(switch.more);
+    let flag = match switch.value {
+        Some((value_name, values)) => flag
+            .value_name(value_name)
+            .num_args(0..=1)
+            .value_parser(parser_of(values)),
+        None => flag.action(ArgAction::SetTrue),
+    };
+    flag.conflicts_with_all(switch.against)
 }
 
 fn with_places<'a>(

@@ -12,6 +12,6 @@ mod command_line;
 mod commands;
 mod explain;
 
-pub use asked::{Conversion, MOST_FAULT, Words};
+pub use asked::{Conversion, Crew, MOST_FAULT, Words};
 pub use command_line::{mistake, words};
 pub use explain::explained;

@@ -29,6 +29,8 @@ mod meetings;
 #[cfg(test)]
 mod more_arguments;
 #[cfg(test)]
+mod parallel;
+#[cfg(test)]
 mod pieces;
 #[cfg(test)]
 mod rings;

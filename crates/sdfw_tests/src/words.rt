@@ -29,6 +29,7 @@ fn run_told<'a>(alloc: Global, line: &'a [&'a str]) -> Result<String, Fail> {
                 input: "i",
                 output: "o",
                 options,
+                parallel: None,
                 why: false,
             },
         ) => options_told(alloc, &options),
@@ -72,6 +73,7 @@ const WORDS: &[Asked] = &[
     ("--placement", "hu", "1 1 Round Hu One 1000"),
     ("--placement", "homed", "1 1 Round Homed One 1000"),
     ("--placement", "file", "1 1 Round File One 1000"),
+    ("--placement", "spread", "1 1 Round Spread One 1000"),
     ("--runner", "one", "1 1 Round Homed One 1000"),
     ("--runner", "rows", "1 1 Round Homed Rows 1000"),
     ("--runner", "rings", "1 1 Round Homed Rings 1000"),
@@ -137,6 +139,38 @@ fn run_with(alloc: Global, option: &str, word: &str) -> Result<String, Fail> {
     told(alloc, &["sdfw", "run", "g", "i", "o", option, word])
 }
 
+/// What is read of a run in parallel.
+fn crew_told<'a>(alloc: Global, line: &'a [&'a str]) -> Result<String, Fail> {
+    match words(alloc, line) {
+        Ok(Words::Run { parallel, .. }) => Ok(format!(in alloc; "{parallel:?}")?),
+        _ => Ok(String::new(alloc)),
+    }
+}
+
+const CREWS: &[Line] = &[
+    (&["sdfw", "run", "g", "i", "o"], "None"),
+    (
+        &["sdfw", "run", "g", "i", "o", "--parallel"],
+        "Some(Processors)",
+    ),
+    (
+        &["sdfw", "run", "g", "i", "o", "--parallel", "1"],
+        "Some(Workers(1))",
+    ),
+    (
+        &["sdfw", "run", "--parallel=16", "g", "i", "o"],
+        "Some(Workers(16))",
+    ),
+];
+
+#[test]
+fn crews_have_their_workers(rt: HostRuntime) -> Result<(), Fail> {
+    for (line, wanted) in CREWS {
+        says(crew_told(rt.alloc(), line), wanted)?;
+    }
+    Ok(())
+}
+
 /// Options that are none, and words that they do not have.
 const OPTIONS: &[(&str, &str)] = &[
     ("--blocking", "0"),
@@ -148,6 +182,8 @@ const OPTIONS: &[(&str, &str)] = &[
     ("--placement", "home"),
     ("--runner", "two"),
     ("--speed", "1"),
+    ("--parallel", "0"),
+    ("--parallel", "17"),
 ];
 
 /// Lines that are no commands.

@@ -71,6 +71,9 @@ pub(super) const PLACEMENT: Choice = Choice {
 - hu: any worker that is not busy; first those firings on which the longest chain of others waits
 - homed: the same, but each actor stays with the worker that its first firing went to
 - file: the worker that the key `processor` of the actor names; one firing a row
+- spread: the workers that have as equal shares as may be of what the actors weigh; one firing a row, the
+  whole block by the policy runs. `--blocking` has no effect: a block is as many periods as keep to
+  2048 samples
 In `run` it has no effect without `--runner rows` or `--runner rings`",
     values: Values::OneOf(PLACEMENT_WORDS),
     default: Some("homed"),
@@ -100,12 +103,24 @@ It has no effect without `--runner rings`",
     default: Some("1000"),
 };
 
+const PARALLEL: Switch = Switch {
+    name: "parallel",
+    help: "Runs in parallel, by as many workers as there are processors or by M",
+    more: "Runs in parallel, where that can be faster: by M workers, 1 to 16, or by as many as there are processors.
+It is `--runner rings --placement spread --policy runs` with a patience of 100000; and one thread, where
+these workers could not be 1.2 times as fast by what the actors weigh, or there is no table for them.
+With `--why` a line on standard error says which",
+    against: &["blocking", "workers", "policy", "placement", "runner", "patience"],
+    value: Some(("M", Values::Unsigned(1, MOST_WORKERS as u64))),
+};
+
 const WHY: Switch = Switch {
     name: "why",
     help: "Says more of a fault: names, values and limits",
     more: "Says more of a fault: after its line come lines that begin with two blanks and have the names of
 actors and the ends of links, what stands at a key and what it wants, or a cycle that lacks samples",
-    against: None,
+    against: &[],
+    value: None,
 };
 
 pub(super) const JSON: Switch = Switch {
@@ -113,7 +128,8 @@ pub(super) const JSON: Switch = Switch {
     help: "Answers in JSON, also of a fault",
     more: "Answers in JSON: one value on one line in place of the text. A fault is one too, on standard error, but
 for a mistake in the words",
-    against: Some("why"),
+    against: &["why"],
+    value: None,
 };
 
 static ROWS: [Row; 3] = [
@@ -150,9 +166,10 @@ each link holds.",
 outputs take to OUT. The bytes are the same whatever the options are.",
         places: &[GRAPH, IN, OUT],
         choices: &[BLOCKING, WORKERS, POLICY, PLACEMENT, RUNNER, PATIENCE],
-        switches: &[WHY],
+        switches: &[PARALLEL, WHY],
         examples: "Examples:
   sdfw run graph.toml in.wav out.wav
+  sdfw run graph.toml in.wav out.wav --parallel
   sdfw run graph.toml - - --runner rings --workers 2 --blocking 64 < in.wav > out.wav",
     },
 ];

@@ -9,11 +9,12 @@ const COMPARE: Switch = Switch {
     more: "Compares the schedules of all policies, placements and numbers of workers 1, 2, 4 and so on up to
 `--workers`: a line for each, with a star at the best of each column and the number of a fault where
 there is no schedule. `--policy` and `--placement` have no effect with it",
-    against: None,
+    against: &[],
+    value: None,
 };
 
 const FIGURES: Switch = Switch {
-    against: Some("compare"),
+    against: &["compare"],
     ..JSON
 };
 
@@ -22,7 +23,8 @@ const DOT: Switch = Switch {
     help: "Writes the graph for Graphviz, without a schedule",
     more: "Writes the graph in the language of Graphviz, without a schedule: its actors, and its links with their
 rates and initial samples",
-    against: None,
+    against: &[],
+    value: None,
 };
 
 static ROWS: [Row; 3] = [

@@ -9,12 +9,13 @@ use Rattle.sdf_draw.proofs.page.drawn.Goals as goal
 pub returns : goal.returns
 returns c = record {
   period = c.in_ok-period.period;
+  periods = c.in_ok-period.blocking;
   scheduled = c.in_ok-period.ensures.answers;
   timed = c.in_ok-timed.ensures;
   layout = subst (λ (w : List ℕ). IsLayout c.args.design.now w c.in_ok-layout.layout.places.items
       c.in_ok-layout.layout.above c.in_ok-layout.layout.below c.in_ok-layout.layout.routes.items) c.order.ensures
       c.in_ok-layout.ensures.is;
-  drawable = drawable c.args.design.now c.args.options.now.blocking c.args.options.now.workers
+  drawable = drawable c.args.design.now c.in_ok-period.blocking c.args.options.now.workers
       c.in_ok-period.period c.in_ok-period.table c.in_ok-timed.timed c.net.ensures.whole c.in_ok-period.ensures.table
       c.in_ok-timed.ensures;
   capacities = c.in_ok-period.ensures.table.exact.caps_all
