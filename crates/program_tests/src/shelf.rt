@@ -1,5 +1,6 @@
 //! Files in memory.
 
+use crate::costs::COMMENTED;
 use crate::files::{FILTERED, PLAIN, SOUND};
 use sdf_program::storage::Storage;
 use std::alloc::Global;
@@ -79,9 +80,10 @@ values = [1]
 ";
 
 /// The graph files and coefficient files of the tests.
-const TEXTS: [(&str, &str); 20] = [
+const TEXTS: [(&str, &str); 21] = [
     ("plain.toml", PLAIN),
     ("-", PLAIN),
+    ("commented.toml", COMMENTED),
     ("begun.toml", BEGUN),
     ("blocks.toml", BLOCKS),
     ("long.toml", LONG),

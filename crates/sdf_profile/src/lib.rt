@@ -19,5 +19,5 @@ mod stopwatch;
 mod unwritten;
 
 pub use costing::costed_text;
-pub use measuring::{Profile, profile};
+pub use measuring::{Measured, profile};
 pub use unwritten::Unwritten;

@@ -30,7 +30,7 @@ fn options_for(design: &Design) -> Options {
 
 /// What a run took: a text, and what a firing of each actor costs.
 #[derive(Drop)]
-pub struct Profile {
+pub struct Measured {
     pub text: String,
     pub costs: Vec<u32>,
 }
@@ -43,7 +43,7 @@ pub fn profile<T: Threads + AllocGlobal + Clock + Clone + Drop + Sync>(
     rt: &T,
     input: &[u8],
     design: &Design,
-) -> Result<Profile, Fault> {
+) -> Result<Measured, Fault> {
     let alloc = rt.alloc();
     let plan = plan(alloc, design, &options_for(design))?;
     let watch = Stopwatch::new(alloc, rt.clone()?, design.net().len())?;
@@ -53,5 +53,5 @@ pub fn profile<T: Threads + AllocGlobal + Clock + Clone + Drop + Sync>(
     watch.pass_to(usize::MAX);
     let costs = costs_of(alloc, &times(alloc, design, &watch)?)?;
     let text = profile_text(alloc, design, &watch, &costs)?;
-    Ok(Profile { text, costs })
+    Ok(Measured { text, costs })
 }

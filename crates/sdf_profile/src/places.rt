@@ -14,7 +14,7 @@ pub(crate) const KEY: &[u8] = b"cost = ";
 pub(crate) struct Place {
     pub(crate) start: usize,
     pub(crate) length: usize,
-    /// Whether the line ends with a carriage return, too.
+    /// Whether lines end with a carriage return, too, as the first one of the table does.
     pub(crate) long: bool,
 }
 
@@ -61,11 +61,11 @@ fn cost_in(start: usize, line: &[u8]) -> Option<Place> {
 }
 
 /// The place behind a line.
-fn behind(start: usize, line: &[u8]) -> Place {
+fn behind(start: usize, line: &[u8], long: bool) -> Place {
     Place {
         start: start.saturating_add(without_end(line).len()),
         length: 0,
-        long: line.ends_with(b"\r\n"),
+        long,
     }
 }
 
@@ -82,7 +82,7 @@ impl Found {
     fn head(&mut self, start: usize, line: &[u8]) -> Result<(), Unwritten> {
         self.in_actor = line.starts_with(HEAD);
         if self.in_actor {
-            self.places.push(behind(start, line))?;
+            self.places.push(behind(start, line, line.ends_with(b"\r\n")))?;
         }
         Ok(())
     }
@@ -96,7 +96,7 @@ impl Found {
         if names_cost(line) {
             *last = cost_in(start, line).ok_or(Unwritten::Cost(actor))?;
         } else if last.length == 0 {
-            *last = behind(start, line);
+            *last = behind(start, line, last.long);
         }
         Ok(())
     }

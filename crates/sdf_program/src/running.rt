@@ -3,7 +3,7 @@
 ghost use Rattle.sdf_process.specs.Plans.{Suits};
 
 use crate::files::{Loaded, Refused, Sources, load_into, refuse};
-use crate::overwriting::keep_what_is_read;
+use crate::overwriting::{Paths, keep_what_is_read};
 use crate::program::{STANDARD, World};
 use crate::storage::Storage;
 use sdf_file::Design;
@@ -15,14 +15,6 @@ use sdf_wav::{ContentIn, FromRead, ToWrite};
 use sdf_why::Header;
 use std::io::{Read, Write};
 use std::thread::Threads;
-
-/// What a run reads and writes, by their paths.
-#[derive(Clone, Copy)]
-pub(crate) struct Paths<'a> {
-    pub(crate) graph: &'a str,
-    pub(crate) input: &'a str,
-    pub(crate) output: &'a str,
-}
 
 /// A design and the plan of its run.
 #[derive(Drop)]
@@ -73,14 +65,7 @@ fn run_from<S: Storage, T: Threads + AllocGlobal + Sync, R: Read + Drop, O: Writ
 {
     let alloc = world.threads.alloc();
     let Planned { loaded, plan } = planned;
-    keep_what_is_read(
-        alloc,
-        world.storage,
-        paths.graph,
-        &loaded.names,
-        paths.input,
-        paths.output,
-    )?;
+    keep_what_is_read(alloc, world.storage, "OUT", paths, &loaded.names)?;
     if paths.output == STANDARD {
         return run_between(world.threads, from, out, &loaded.design, plan);
     }
