@@ -73,11 +73,13 @@ to = "out"
 "#;
 
 /// Lines end with carriage returns too, but for the last one, which has no end; a list goes over lines.
-const RETURNS: &str = "format = 1\r\n[[link]]\r\nfrom = \"in\"\r\nto = \"out\"\r\n[[actor]]\r\nname = \"in\"\r\n\
+const RETURNS: &str =
+    "format = 1\r\n[[link]]\r\nfrom = \"in\"\r\nto = \"out\"\r\n[[actor]]\r\nname = \"in\"\r\n\
     kind = \"input\"\r\nchannel = 0\r\n[[actor]]\r\nname = \"out\"\r\nkind = \"output\"\r\nchannel = 0";
 
 /// The same with costs.
-const RETURNED: &str = "format = 1\r\n[[link]]\r\nfrom = \"in\"\r\nto = \"out\"\r\n[[actor]]\r\nname = \"in\"\r\n\
+const RETURNED: &str =
+    "format = 1\r\n[[link]]\r\nfrom = \"in\"\r\nto = \"out\"\r\n[[actor]]\r\nname = \"in\"\r\n\
     kind = \"input\"\r\nchannel = 0\r\ncost = 2\r\n[[actor]]\r\nname = \"out\"\r\nkind = \"output\"\r\n\
     channel = 0\r\ncost = 1";
 
@@ -109,28 +111,50 @@ fn texts_with_costs(rt: HostRuntime) -> Result<(), Fail> {
     Ok(())
 }
 
-/// The same of two actors, the first one below this line and the second one with these lines, and a link below this one.
-fn told_of(
-    rt: &(impl AllocGlobal),
-    first: &str,
-    more: &str,
-    link: &str,
-) -> Result<String, Fail> {
+/// The same of two actors, the first one below this line and the second one with these lines, and a link below this
+/// one.
+fn told_of(rt: &(impl AllocGlobal), first: &str, more: &str, link: &str) -> Result<String, Fail> {
     let head = "format = 1\n";
     let input = "\nname = \"in\"\nkind = \"input\"\nchannel = 0\n";
     let output = "[[actor]]\nname = \"out\"\nkind = \"output\"\n";
     let ends = "\nfrom = \"in\"\nto = \"out\"\n";
-    let graph = format!(in rt.alloc(); "{head}{first}{input}{output}{more}channel = 0\n{link}{ends}")?;
+    let graph = format!(in rt.alloc();
+        "{head}{first}{input}{output}{more}channel = 0\n{link}{ends}"
+    )?;
     told(rt, graph.as_str(), &[4, 5])
 }
 
 /// Forms in which a cost or a table may be written, and why no cost is written into them.
 const FORMS: &[(&str, &str, &str, &str, &str)] = &[
     ("no blanks", "[[actor]]", "cost=3\n", "[[link]]", "Cost(1)"),
-    ("quotes", "[[actor]]", "\"cost\" = 3\n", "[[link]]", "Cost(1)"),
-    ("indented", "[[actor]]", "  cost = 3\n", "[[link]]", "Cost(1)"),
-    ("line through", "[[actor]]", "cost = 1_000\n", "[[link]]", "Cost(1)"),
-    ("another base", "[[actor]]", "cost = 0x10\n", "[[link]]", "Cost(1)"),
+    (
+        "quotes",
+        "[[actor]]",
+        "\"cost\" = 3\n",
+        "[[link]]",
+        "Cost(1)",
+    ),
+    (
+        "indented",
+        "[[actor]]",
+        "  cost = 3\n",
+        "[[link]]",
+        "Cost(1)",
+    ),
+    (
+        "line through",
+        "[[actor]]",
+        "cost = 1_000\n",
+        "[[link]]",
+        "Cost(1)",
+    ),
+    (
+        "another base",
+        "[[actor]]",
+        "cost = 0x10\n",
+        "[[link]]",
+        "Cost(1)",
+    ),
     ("wide head", "[[ actor ]]", "", "[[link]]", "Tables(1)"),
     ("quoted head", "[[\"actor\"]]", "", "[[link]]", "Tables(1)"),
     ("indented head", " [[actor]]", "", "[[link]]", "Tables(1)"),
@@ -166,7 +190,14 @@ fn written<T: Threads + AllocGlobal + Clock + Clone + Drop + Sync>(
     rt: &T,
     file: &str,
 ) -> Result<String, Fail> {
-    let line = ["sdfw", "profile", "commented.toml", "in.wav", "--write", file];
+    let line = [
+        "sdfw",
+        "profile",
+        "commented.toml",
+        "in.wav",
+        "--write",
+        file,
+    ];
     let told = made(rt, &line)?;
     masked(rt, told.as_str())
 }
@@ -179,16 +210,28 @@ fn profiles_are_written(rt: HostRuntime) -> Result<(), Fail> {
     let told = written(&rt, "made/measured.toml")?;
     assert!(rt; told.as_str().starts_with("0\nshare in "));
     assert!(rt; told.as_str().contains("\ncost half "));
-    assert!(rt; told.as_str().ends_with(format!(in rt.alloc(); "\n--\n--\n{wanted}")?.as_str()));
+    assert!(rt;
+        told.as_str()
+            .ends_with(format!(in rt.alloc(); "\n--\n--\n{wanted}")?.as_str())
+    );
     let told = written(&rt, "-")?;
-    assert_eq!(rt; told.as_str(), format!(in rt.alloc(); "0\n{wanted}--\n--\n")?.as_str());
+    assert_eq!(rt;
+        told.as_str(),
+        format!(in rt.alloc(); "0\n{wanted}--\n--\n")?.as_str()
+    );
     Ok(())
 }
 
 /// Words of a profile, and how its answer begins.
 const REFUSED: &[(&[&str], &str)] = &[
-    (&["commented.toml", "in.wav", "commented.toml"], "2\n--\nerror: FILE is the same file as GRAPH\n"),
-    (&["commented.toml", "in.wav", "in.wav"], "2\n--\nerror: FILE is the same file as IN\n"),
+    (
+        &["commented.toml", "in.wav", "commented.toml"],
+        "2\n--\nerror: FILE is the same file as GRAPH\n",
+    ),
+    (
+        &["commented.toml", "in.wav", "in.wav"],
+        "2\n--\nerror: FILE is the same file as IN\n",
+    ),
     (
         &["filtered.toml", "in.wav", "one.toml"],
         "2\n--\nerror: FILE is the same file as the coefficient file one.toml\n",
@@ -197,7 +240,10 @@ const REFUSED: &[(&[&str], &str)] = &[
         &["plain.toml", "in.wav", "made/measured.toml"],
         "2\n--\nerror: GRAPH has 0 lines [[actor]] for 2 actors: costs want one for each\n",
     ),
-    (&["commented.toml", "in.wav", "elsewhere.toml"], "5\n--\nsdfw: 48 Write\n"),
+    (
+        &["commented.toml", "in.wav", "elsewhere.toml"],
+        "5\n--\nsdfw: 48 Write\n",
+    ),
 ];
 
 /// Refuses a file that is read and written, and a text that is printed where the file is not written.

@@ -35,10 +35,10 @@ pub struct Measured {
     pub costs: Vec<u32>,
 }
 
-/// Runs a design on the bytes of a WAV file in one thread, and tells how much of the time passes in the firings of each
-/// actor, how often each fired, and how long a firing takes; and what the keys `cost` would say, the least time as 1. What
-/// the run makes is dropped. What passes between two firings belongs to the first of them, so reading the clock does, some
-/// 30 ns, and at the end of a piece of sound what brings in the next one. The tests are those of `run`.
+/// Runs a design on the bytes of a WAV file in one thread, and tells how much of the time passes in the firings of
+/// each actor, how often each fired, and how long a firing takes; and what the keys `cost` would say, the least time as
+/// 1. What the run makes is dropped. What passes between two firings belongs to the first of them, so reading the clock
+/// does, some 30 ns, and at the end of a piece of sound what brings in the next one. The tests are those of `run`.
 pub fn profile<T: Threads + AllocGlobal + Clock + Clone + Drop + Sync>(
     rt: &T,
     input: &[u8],

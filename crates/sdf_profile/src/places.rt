@@ -43,7 +43,10 @@ fn names_cost(line: &[u8]) -> bool {
 /// How many bytes of a line are the key and its number, or none where these are not all that it says.
 fn cost_length(line: &[u8]) -> Option<usize> {
     let value = line.strip_prefix(KEY)?;
-    let digits = value.iter().take_while(|byte| byte.is_ascii_digit()).count();
+    let digits = value
+        .iter()
+        .take_while(|byte| byte.is_ascii_digit())
+        .count();
     if digits > 0 && says_nothing(value.get(digits..)?) {
         Some(KEY.len() + digits)
     } else {
@@ -82,7 +85,8 @@ impl Found {
     fn head(&mut self, start: usize, line: &[u8]) -> Result<(), Unwritten> {
         self.in_actor = line.starts_with(HEAD);
         if self.in_actor {
-            self.places.push(behind(start, line, line.ends_with(b"\r\n")))?;
+            self.places
+                .push(behind(start, line, line.ends_with(b"\r\n")))?;
         }
         Ok(())
     }

@@ -33,12 +33,7 @@ fn before(old: &[u8], long: bool) -> Option<&'static str>
 }
 
 /// The cost that is written in the place of a text, if it may be.
-fn text_for(
-    alloc: Global,
-    old: &[u8],
-    long: bool,
-    cost: u32,
-) -> Result<Option<String>, AllocError>
+fn text_for(alloc: Global, old: &[u8], long: bool, cost: u32) -> Result<Option<String>, AllocError>
     ensures { IfOk result (λ text. IfSome text (λ new. IsReplaced cost old.now (string_bytes new))) }
 {
     match before(old, long) {

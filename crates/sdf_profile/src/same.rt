@@ -38,8 +38,26 @@ fn same_kind(one: &KindEntry, other: &KindEntry) -> bool
     ensures { IsTrue result → one.now ≡ other.now }
 {
     match (one, other) {
-        (KindEntry::Input { channel: a, block: b }, KindEntry::Input { channel: c, block: d })
-        | (KindEntry::Output { channel: a, block: b }, KindEntry::Output { channel: c, block: d })
+        (
+            KindEntry::Input {
+                channel: a,
+                block: b,
+            },
+            KindEntry::Input {
+                channel: c,
+                block: d,
+            },
+        )
+        | (
+            KindEntry::Output {
+                channel: a,
+                block: b,
+            },
+            KindEntry::Output {
+                channel: c,
+                block: d,
+            },
+        )
         | (KindEntry::Deal { ways: a, run: b }, KindEntry::Deal { ways: c, run: d })
         | (KindEntry::Gather { ways: a, run: b }, KindEntry::Gather { ways: c, run: d }) => {
             a == c && b == d
@@ -52,12 +70,29 @@ fn same_kind(one: &KindEntry, other: &KindEntry) -> bool
         (KindEntry::Gain { gain: a, shift: b }, KindEntry::Gain { gain: c, shift: d }) => {
             a == c && b == d
         }
-        (KindEntry::Table { offset: a, values: b }, KindEntry::Table { offset: c, values: d }) => {
-            a == c && same_list(b, d)
-        }
         (
-            KindEntry::Fir { up: a, down: b, shift: c, taps: d },
-            KindEntry::Fir { up: e, down: f, shift: g, taps: h },
+            KindEntry::Table {
+                offset: a,
+                values: b,
+            },
+            KindEntry::Table {
+                offset: c,
+                values: d,
+            },
+        ) => { a == c && same_list(b, d) }
+        (
+            KindEntry::Fir {
+                up: a,
+                down: b,
+                shift: c,
+                taps: d,
+            },
+            KindEntry::Fir {
+                up: e,
+                down: f,
+                shift: g,
+                taps: h,
+            },
         ) => a == e && b == f && c == g && same_list(d, h),
         _ => false,
     }
@@ -90,9 +125,7 @@ fn same_actors(old: &[ActorEntry], new: &[ActorEntry], costs: &[u32]) -> bool
 fn same_link(one: &LinkEntry, other: &LinkEntry) -> bool
     ensures { IsTrue result → link_view one.now ≡ link_view other.now }
 {
-    one.from == other.from
-        && one.to == other.to
-        && same_numbers(&one.initial, &other.initial)
+    one.from == other.from && one.to == other.to && same_numbers(&one.initial, &other.initial)
 }
 
 /// Whether links are alike.

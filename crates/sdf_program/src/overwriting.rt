@@ -1,5 +1,5 @@
-//! What a command would destroy: OUT is emptied before IN is read, so it may be no file that a run reads, no more may the
-//! FILE of a profile, and a design is written into no folder that has one.
+//! What a command would destroy: OUT is emptied before IN is read, so it may be no file that a run reads, no more may
+//! the FILE of a profile, and a design is written into no folder that has one.
 
 use crate::program::STANDARD;
 use crate::storage::Storage;

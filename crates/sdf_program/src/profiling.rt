@@ -36,13 +36,17 @@ fn unwritten(alloc: Global, design: &Design, fault: Unwritten) -> Result<Fault, 
         Unwritten::OutOfMemory => return Ok(Fault::OutOfMemory),
         Unwritten::Tables(lines) => {
             let actors = design.costs().len();
-            format!(in alloc; "GRAPH has {lines} lines [[actor]] for {actors} actors: costs want one for each")?
+            format!(in alloc;
+                "GRAPH has {lines} lines [[actor]] for {actors} actors: costs want one for each"
+            )?
         }
         Unwritten::Cost(actor) if actor < design.costs().len() => {
             let name = design.name(actor);
             format!(in alloc; "the cost of actor {name} is to be a line of GRAPH like `cost = 12`")?
         }
-        _ => format!(in alloc; "with costs GRAPH would say something else: each key wants a line of its own")?,
+        _ => format!(in alloc;
+            "with costs GRAPH would say something else: each key wants a line of its own"
+        )?,
     };
     Ok(Fault::from(mistake(alloc, text.as_str())))
 }
@@ -93,8 +97,13 @@ where
 {
     let alloc = world.threads.alloc();
     let mut sources = Sources::new(alloc);
-    let Loaded { design, names } =
-        load_into(alloc, world.storage, graph, world.most, &mut sources)?;
+    let Loaded { design, names } = load_into(
+        alloc,
+        world.storage,
+        graph,
+        world.most,
+        &mut sources,
+    )?;
     let bytes = bytes_at(world, stdin, input)?;
     let Some(output) = write else {
         return show(out, profile(world.threads, &bytes, &design)?.text.as_str());

@@ -1,5 +1,5 @@
 use Rattle.std.proofs.Common.{rules, ◌≡◌, ◌++◌, string_bytes, take}
-use Rattle.sdf_profile.specs.Written.{IsReplaced, DifferInCosts, kept, cost}
+use Rattle.sdf_profile.specs.Written.{IsReplaced, kept, cost}
 use Rattle.sdf_profile.proofs.Ranges.{take-range}
 use Rattle.sdf_profile.proofs.replaced.push_cost.Goals as goal
 
