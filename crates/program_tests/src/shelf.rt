@@ -1,5 +1,6 @@
 //! Files in memory.
 
+use crate::costs::COMMENTED;
 use crate::files::{FILTERED, PLAIN, SOUND};
 use sdf_program::storage::Storage;
 use std::alloc::Global;
@@ -90,6 +91,7 @@ values = [1]
 const TEXTS: [(&str, &str); 21] = [
     ("plain.toml", PLAIN),
     ("-", PLAIN),
+    ("commented.toml", COMMENTED),
     ("begun.toml", BEGUN),
     ("branches.toml", BRANCHES),
     ("blocks.toml", BLOCKS),

@@ -1,5 +1,6 @@
 -- What firings cost in terms of the cheapest.
-use Rattle.std.specs.Prelude.{ℕ, suc, ◌*◌, ◌+◌, ◌-◌, ◌/◌, ◌≤◌, ◌<◌, List, length, slice_index, min}
+use Rattle.std.specs.Prelude.{◌≡◌, ℕ, suc, ◌*◌, ◌+◌, ◌-◌, ◌/◌, ◌≤◌, ◌<◌, List, length, map, slice_index, min}
+use Rattle.sdf_limits.specs.declared.TheConstants.{MOST_COST}
 
 -- how often the least time goes into a time, to the nearest
 abbrev pub times_of : ℕ → ℕ → ℕ
@@ -13,3 +14,9 @@ cost_of most least time = min most (suc (times_of least time - 1))
 pub record IsLeastTime (times : List ℕ) (least : ℕ) : Type 0 where
   pub some : 0 < least
   pub below : (i : ℕ) → i < length times → 0 < slice_index times i → least ≤ slice_index times i
+
+-- what firings cost that take these times
+pub record AreCostsOf (times costs : List ℕ) : Type 0 where
+  pub least : ℕ
+  pub is : IsLeastTime times least
+  pub are : costs ≡ map (cost_of MOST_COST least) times

@@ -1,10 +1,11 @@
 //! What firings cost in terms of the cheapest.
 
-ghost use Rattle.std.specs.Prelude.{◌≡◌, ◌<◌};
+ghost use Rattle.std.specs.Prelude.{◌≡◌, ◌<◌, IfOk};
 ghost use Rattle.sdf_limits.specs.declared.TheConstants.{MOST_COST};
-ghost use Rattle.sdf_profile.specs.Costs.{cost_of, IsLeastTime};
+ghost use Rattle.sdf_profile.specs.Costs.{cost_of, IsLeastTime, AreCostsOf};
 
 use sdf_limits::MOST_COST;
+use std::alloc::{AllocError, Global};
 
 /// A firing's time in picoseconds, by the nanoseconds of so many firings; 0 where there is none.
 pub(crate) fn time_of(spent: u64, firings: u64) -> u64 {
@@ -15,7 +16,7 @@ pub(crate) fn time_of(spent: u64, firings: u64) -> u64 {
 }
 
 /// The least of the times above 0.
-pub(crate) fn least(times: &[u64]) -> u64
+fn least(times: &[u64]) -> u64
     ensures { IsLeastTime times.now result }
 {
     let mut least = u64::MAX;
@@ -28,11 +29,24 @@ pub(crate) fn least(times: &[u64]) -> u64
 }
 
 /// How often the least time goes into a time, to the nearest, within the limits of the key `cost`.
-pub(crate) fn cost_of(least: u64, time: u64) -> u32
+fn cost_of(least: u64, time: u64) -> u32
     requires { 0 < least }
     ensures { result ≡ cost_of MOST_COST least time }
 {
     let least = u128::from(least);
     let times = (2 * u128::from(time) + least) / (2 * least);
     times.max(1).min(u128::from(MOST_COST)) as u32
+}
+
+/// What firings cost that take these times, the least of them 1.
+#[tactic(auto, using(std::proofs::lemmas::List::map_more))]
+pub(crate) fn costs_of(alloc: Global, times: &[u64]) -> Result<Vec<u32>, AllocError>
+    ensures { IfOk result (λ costs. AreCostsOf times.now costs.items) }
+{
+    let least = least(times);
+    let mut costs = Vec::new(alloc);
+    for time in times {
+        costs.push(cost_of(least, *time))?;
+    }
+    Ok(costs)
 }

@@ -1,6 +1,6 @@
 //! The lines of a profile.
 
-use crate::costs::{cost_of, least, time_of};
+use crate::costs::time_of;
 use crate::stopwatch::Stopwatch;
 use sdf_file::Design;
 use std::alloc::{AllocError, Global};
@@ -66,7 +66,7 @@ fn push_shares<C: Clock + Drop>(
 }
 
 /// The time of a firing of each actor.
-fn times<C: Clock + Drop>(
+pub(crate) fn times<C: Clock + Drop>(
     alloc: Global,
     design: &Design,
     watch: &Stopwatch<C>,
@@ -78,12 +78,11 @@ fn times<C: Clock + Drop>(
     Ok(times)
 }
 
-/// Adds the lines of what firings that take these times cost.
-fn push_costs(text: &mut String, design: &Design, times: &[u64]) -> Result<(), AllocError> {
-    let least = least(times);
+/// Adds the lines of what a firing of each actor costs.
+fn push_costs(text: &mut String, design: &Design, costs: &[u32]) -> Result<(), AllocError> {
     for actor in 0..design.net().len() {
         let name = design.name(actor);
-        let cost = cost_of(least, times.get(actor).copied().unwrap_or(0));
+        let cost = costs.get(actor).copied().unwrap_or(1);
         writeln!(text, "cost {name} {cost}")?;
     }
     Ok(())
@@ -94,9 +93,10 @@ pub(crate) fn profile_text<C: Clock + Drop>(
     alloc: Global,
     design: &Design,
     watch: &Stopwatch<C>,
+    costs: &[u32],
 ) -> Result<String, AllocError> {
     let mut text = String::new(alloc);
     push_shares(&mut text, design, watch)?;
-    push_costs(&mut text, design, &times(alloc, design, watch)?)?;
+    push_costs(&mut text, design, costs)?;
     Ok(text)
 }

@@ -1,6 +1,7 @@
 //! A run whose firings are timed.
 
-use crate::lines::profile_text;
+use crate::costs::costs_of;
+use crate::lines::{profile_text, times};
 use crate::stopwatch::Stopwatch;
 use sdf_file::Design;
 use sdf_limits::{MOST_BLOCK, MOST_BLOCKING, MOST_PATIENCE};
@@ -27,15 +28,22 @@ fn options_for(design: &Design) -> Options {
     }
 }
 
-/// Runs a design on the bytes of a WAV file in one thread, and tells how much of the time passes in the firings of each
-/// actor, how often each fired, and how long a firing takes; and what the keys `cost` would say, the least time as 1. What
-/// the run makes is dropped. What passes between two firings belongs to the first of them, so reading the clock does, some
-/// 30 ns, and at the end of a piece of sound what brings in the next one. The tests are those of `run`.
+/// What a run took: a text, and what a firing of each actor costs.
+#[derive(Drop)]
+pub struct Measured {
+    pub text: String,
+    pub costs: Vec<u32>,
+}
+
+/// Runs a design on the bytes of a WAV file in one thread, and tells how much of the time passes in the firings of
+/// each actor, how often each fired, and how long a firing takes; and what the keys `cost` would say, the least time as
+/// 1. What the run makes is dropped. What passes between two firings belongs to the first of them, so reading the clock
+/// does, some 30 ns, and at the end of a piece of sound what brings in the next one. The tests are those of `run`.
 pub fn profile<T: Threads + AllocGlobal + Clock + Clone + Drop + Sync>(
     rt: &T,
     input: &[u8],
     design: &Design,
-) -> Result<String, Fault> {
+) -> Result<Measured, Fault> {
     let alloc = rt.alloc();
     let plan = plan(alloc, design, &options_for(design))?;
     let watch = Stopwatch::new(alloc, rt.clone()?, design.net().len())?;
@@ -43,5 +51,7 @@ pub fn profile<T: Threads + AllocGlobal + Clock + Clone + Drop + Sync>(
     let writer = &mut ToWrite::new(io::sink());
     process_with(rt, reader, writer, design, &plan, &watch)?;
     watch.pass_to(usize::MAX);
-    Ok(profile_text(alloc, design, &watch)?)
+    let costs = costs_of(alloc, &times(alloc, design, &watch)?)?;
+    let text = profile_text(alloc, design, &watch, &costs)?;
+    Ok(Measured { text, costs })
 }

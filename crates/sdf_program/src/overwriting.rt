@@ -1,5 +1,5 @@
-//! What a command would destroy: OUT is emptied before IN is read, so it may be no file that a run reads, and a design
-//! is written into no folder that has one.
+//! What a command would destroy: OUT is emptied before IN is read, so it may be no file that a run reads, no more may
+//! the FILE of a profile, and a design is written into no folder that has one.
 
 use crate::program::STANDARD;
 use crate::storage::Storage;
@@ -31,18 +31,27 @@ fn leads_to<S: Storage>(alloc: Global, storage: &S, path: &str, file: &str) -> R
     }
 }
 
-/// The refusal of an OUT that is also a file that is read.
-fn same_file(alloc: Global, what: &str) -> Fault {
-    match format!(in alloc; "OUT is the same file as {what}") {
+/// What a run reads and writes, by their paths.
+#[derive(Clone, Copy)]
+pub(crate) struct Paths<'a> {
+    pub(crate) graph: &'a str,
+    pub(crate) input: &'a str,
+    pub(crate) output: &'a str,
+}
+
+/// The refusal of a file to write, by the word for it, that is also a file that is read.
+fn same_file(alloc: Global, word: &str, what: &str) -> Fault {
+    match format!(in alloc; "{word} is the same file as {what}") {
         Ok(text) => Fault::from(mistake(alloc, text.as_str())),
         Err(_) => Fault::OutOfMemory,
     }
 }
 
-/// Refuses an OUT that is the same file as a coefficient file. These lie in the folder of the graph file.
+/// Refuses a file to write that is the same file as a coefficient file. These lie in the folder of the graph file.
 fn keep_coefficients<S: Storage>(
     alloc: Global,
     storage: &S,
+    word: &str,
     graph: &str,
     names: &[String],
     out: &str,
@@ -52,22 +61,26 @@ fn keep_coefficients<S: Storage>(
         if leads_to(alloc, storage, path.as_str(), out)? {
             let shown = printable(alloc, name.as_str())?;
             let what = format!(in alloc; "the coefficient file {}", shown.as_str())?;
-            return Err(same_file(alloc, what.as_str()));
+            return Err(same_file(alloc, word, what.as_str()));
         }
     }
     Ok(())
 }
 
-/// Refuses an OUT that is the same file as IN, GRAPH or one of the coefficient files that `names` has. Standard input
-/// and standard output are no files here.
+/// Refuses an output, by the word for it, that is the same file as IN, GRAPH or one of the coefficient files that
+/// `names` has. Standard input and standard output are no files here.
 pub(crate) fn keep_what_is_read<S: Storage>(
     alloc: Global,
     storage: &S,
-    graph: &str,
+    word: &str,
+    paths: Paths<'_>,
     names: &[String],
-    input: &str,
-    output: &str,
 ) -> Result<(), Fault> {
+    let Paths {
+        graph,
+        input,
+        output,
+    } = paths;
     if output == STANDARD {
         return Ok(());
     }
@@ -75,12 +88,12 @@ pub(crate) fn keep_what_is_read<S: Storage>(
         return Ok(());
     };
     if input != STANDARD && leads_to(alloc, storage, input, out.as_str())? {
-        return Err(same_file(alloc, "IN"));
+        return Err(same_file(alloc, word, "IN"));
     }
     if leads_to(alloc, storage, graph, out.as_str())? {
-        return Err(same_file(alloc, "GRAPH"));
+        return Err(same_file(alloc, word, "GRAPH"));
     }
-    keep_coefficients(alloc, storage, graph, names, out.as_str())
+    keep_coefficients(alloc, storage, word, graph, names, out.as_str())
 }
 
 /// Refuses a folder that has a file of this name.

@@ -5,9 +5,10 @@ ghost use Rattle.sdf_process.specs.Statuses.{status_of};
 ghost use Rattle.sdf_process.specs.declared.fault.Fault.TheVariants.{OutOfMemory};
 
 use crate::making::{fir, resample};
+use crate::overwriting::Paths;
 use crate::printing::{check, print_analysis, print_picture, print_schedule, show};
 use crate::profiling::print_profile;
-use crate::running::{Parallel, Paths, run, run_parallel};
+use crate::running::{Parallel, run, run_parallel};
 use crate::storage::Storage;
 use crate::telling::Background;
 use sdf_document::kinds_text;
@@ -85,7 +86,13 @@ fn obey<
                 dot,
             },
         ) => print_picture(world, out, graph, &options, dot),
-        Ok(Words::Profile { graph, input }) => print_profile(world, stdin, out, graph, input),
+        Ok(
+            Words::Profile {
+                graph,
+                input,
+                write,
+            },
+        ) => print_profile(world, stdin, out, graph, input, write),
         Ok(
             Words::Run {
                 graph,

@@ -6,7 +6,7 @@ ghost use Rattle.sdf_process.specs.Plans.{Suits};
 ghost use Rattle.sdf_words.specs.Limits.{IsCrew};
 
 use crate::files::{Loaded, Refused, Sources, load_into, refuse};
-use crate::overwriting::keep_what_is_read;
+use crate::overwriting::{Paths, keep_what_is_read};
 use crate::program::{STANDARD, World};
 use crate::storage::Storage;
 use sdf_file::Design;
@@ -25,14 +25,6 @@ use std::thread::{Threads, available_parallelism};
 
 /// Workers of a parallel run where the system does not tell its processors.
 const WORKERS: usize = 4;
-
-/// What a run reads and writes, by their paths.
-#[derive(Clone, Copy)]
-pub(crate) struct Paths<'a> {
-    pub(crate) graph: &'a str,
-    pub(crate) input: &'a str,
-    pub(crate) output: &'a str,
-}
 
 /// What a parallel run is asked for.
 #[derive(Clone, Copy)]
@@ -92,14 +84,7 @@ fn run_from<S: Storage, T: Threads + AllocGlobal + Sync, R: Read + Drop, O: Writ
 {
     let alloc = world.threads.alloc();
     let Planned { loaded, plan } = planned;
-    keep_what_is_read(
-        alloc,
-        world.storage,
-        paths.graph,
-        &loaded.names,
-        paths.input,
-        paths.output,
-    )?;
+    keep_what_is_read(alloc, world.storage, "OUT", paths, &loaded.names)?;
     if paths.output == STANDARD {
         return run_between(world.threads, from, out, &loaded.design, plan);
     }

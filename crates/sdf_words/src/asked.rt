@@ -65,10 +65,11 @@ pub enum Words<'a> {
         parallel: Option<Crew>,
         why: bool,
     },
-    /// Each actor's share of the time of a run.
+    /// Each actor's share of the time of a run. With `write` the graph file is written there with what was measured.
     Profile {
         graph: &'a str,
         input: &'a str,
+        write: Option<&'a str>,
     },
     /// The coefficient file of a filter.
     Fir {

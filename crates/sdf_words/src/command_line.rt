@@ -120,6 +120,7 @@ fn profile_of<'a>(matches: &ArgMatches<'a>) -> Option<Words<'a>>
     Some(Words::Profile {
         graph: matches.get_str("GRAPH")?,
         input: matches.get_str("IN")?,
+        write: matches.get_str("write"),
     })
 }
 

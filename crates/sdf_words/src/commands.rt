@@ -18,6 +18,8 @@ const EXAMPLES: &str = "Examples:
 #[derive(Clone, Copy)]
 enum Values {
     Text,
+    /// A path that need not be given.
+    Path,
     /// A number from one to the other, which may be written below zero.
     Signed(i64, i64),
     /// A number from one to the other.
@@ -34,7 +36,8 @@ struct Place {
     values: Values,
 }
 
-/// What a command can be given by name, and what it is where it is not given; without that it has to be given.
+/// What a command can be given by name, and what it is where it is not given; without that it has to be given, but for
+/// a path.
 #[derive(Clone, Copy)]
 struct Choice {
     name: &'static str,
@@ -70,7 +73,7 @@ struct Row {
 
 fn parser_of<'a>(values: Values) -> ValueParser<'a> {
     match values {
-        Values::Text => ValueParser::String,
+        Values::Text | Values::Path => ValueParser::String,
         Values::Signed(least, most) => ValueParser::Signed(least, most),
         Values::Unsigned(least, most) => ValueParser::Unsigned(least, most),
         Values::OneOf(words) => ValueParser::Names(words),
@@ -94,7 +97,7 @@ fn option<'a>(alloc: Global, choice: Choice) -> Arg<'a> {
         .value_parser(parser_of(choice.values));
     match choice.default {
         Some(default) => named.default_value(default),
-        None => named.required(true),
+        None => named.required(!matches!(choice.values, Values::Path)),
     }
 }
 

@@ -1,7 +1,7 @@
 //! The commands that show what a schedule does and what a run costs: what each takes, and what its help says.
 
 use super::designs::{BLOCKING, GRAPH, IN, JSON, PLACEMENT, POLICY, WORKERS};
-use super::{Row, Switch};
+use super::{Choice, Row, Switch, Values};
 
 const COMPARE: Switch = Switch {
     name: "compare",
@@ -25,6 +25,17 @@ const DOT: Switch = Switch {
 rates and initial samples",
     against: &[],
     value: None,
+};
+
+const WRITE: Choice = Choice {
+    name: "write",
+    value_name: "FILE",
+    help: "Writes the graph file with the measured costs, - for standard output",
+    more: "Writes the graph file into FILE, with the key `cost` of each actor as it was measured and all else as it
+stands there; - for standard output, in place of the lines. FILE may be no file that is read. Each actor
+is to have a table of its own, below a line `[[actor]]`, and its cost a line of its own, `cost = 12`",
+    values: Values::Path,
+    default: None,
 };
 
 static ROWS: [Row; 3] = [
@@ -62,10 +73,11 @@ the table against time, a lane for each worker.",
 nanoseconds of a firing, and prints the keys `cost` to write into the graph file, of which the least
 is 1. What the run makes is not written.",
         places: &[GRAPH, IN],
-        choices: &[],
+        choices: &[WRITE],
         switches: &[],
         examples: "Examples:
-  sdfw profile graph.toml in.wav",
+  sdfw profile graph.toml in.wav
+  sdfw profile graph.toml in.wav --write measured.toml",
     },
 ];
 

@@ -1,0 +1,261 @@
+//! Graph files with measured costs in them: each text, the refusals, and what the program writes where.
+
+use crate::making::made;
+use sdf_profile::costed_text;
+use std::process::Abort;
+use std::test::Fail;
+use std::thread::Threads;
+use std::time::Clock;
+use test_texts::row_says;
+
+/// One actor has a cost, and there are comments.
+pub(crate) const COMMENTED: &str = r#"# half as loud
+format = 1
+
+[[actor]] # what comes in
+name = "in"
+kind = "input"
+channel = 0 # the left one
+
+# the cost is a guess
+[[actor]]
+name = "half"
+cost = 3 # a guess
+kind = "gain"
+gain = 16384
+shift = 15
+
+[[actor]]
+name = "out"
+kind = "output"
+channel = 0
+
+[[link]]
+from = "in"
+to = "half"
+
+[[link]]
+from = "half"
+to = "out"
+"#;
+
+/// The same with costs.
+const MEASURED: &str = r#"# half as loud
+format = 1
+
+[[actor]] # what comes in
+name = "in"
+kind = "input"
+channel = 0 # the left one
+cost = 1
+
+# the cost is a guess
+[[actor]]
+name = "half"
+cost = 20 # a guess
+kind = "gain"
+gain = 16384
+shift = 15
+
+[[actor]]
+name = "out"
+kind = "output"
+channel = 0
+cost = 1000000
+
+[[link]]
+from = "in"
+to = "half"
+
+[[link]]
+from = "half"
+to = "out"
+"#;
+
+/// Lines end with carriage returns too, but for the last one, which has no end; a list goes over lines.
+const RETURNS: &str =
+    "format = 1\r\n[[link]]\r\nfrom = \"in\"\r\nto = \"out\"\r\n[[actor]]\r\nname = \"in\"\r\n\
+    kind = \"input\"\r\nchannel = 0\r\n[[actor]]\r\nname = \"out\"\r\nkind = \"output\"\r\nchannel = 0";
+
+/// The same with costs.
+const RETURNED: &str =
+    "format = 1\r\n[[link]]\r\nfrom = \"in\"\r\nto = \"out\"\r\n[[actor]]\r\nname = \"in\"\r\n\
+    kind = \"input\"\r\nchannel = 0\r\ncost = 2\r\n[[actor]]\r\nname = \"out\"\r\nkind = \"output\"\r\n\
+    channel = 0\r\ncost = 1";
+
+/// The text of a graph file with costs, or why there is none.
+fn told(rt: &(impl AllocGlobal), graph: &str, costs: &[u32]) -> Result<String, Fail> {
+    let alloc = rt.alloc();
+    match costed_text(alloc, graph.as_bytes(), &[], costs) {
+        Ok(text) => Ok(String::from_utf8(text)?),
+        Err(fault) => Ok(format!(in alloc; "{fault:?}")?),
+    }
+}
+
+/// A text, costs, and what the text is with them.
+const TEXTS: &[(&str, &str, &[u32], &str)] = &[
+    ("comments", COMMENTED, &[1, 20, 1_000_000], MEASURED),
+    ("again", MEASURED, &[1, 20, 1_000_000], MEASURED),
+    ("returns", RETURNS, &[2, 1], RETURNED),
+    ("too few", COMMENTED, &[1, 20], "Tables(3)"),
+    ("too great", RETURNS, &[1_000_001, 1], "Reading"),
+    ("no graph", "[[actor]]\n", &[1], "Reading"),
+];
+
+/// Refuses a comment that is dropped, a cost of another actor, one that stands twice, and a line end of another kind.
+#[test]
+fn texts_with_costs(rt: HostRuntime) -> Result<(), Fail> {
+    for (name, graph, costs, wanted) in TEXTS {
+        row_says(name, told(&rt, graph, costs), wanted)?;
+    }
+    Ok(())
+}
+
+/// The same of two actors, the first one below this line and the second one with these lines, and a link below this
+/// one.
+fn told_of(rt: &(impl AllocGlobal), first: &str, more: &str, link: &str) -> Result<String, Fail> {
+    let head = "format = 1\n";
+    let input = "\nname = \"in\"\nkind = \"input\"\nchannel = 0\n";
+    let output = "[[actor]]\nname = \"out\"\nkind = \"output\"\n";
+    let ends = "\nfrom = \"in\"\nto = \"out\"\n";
+    let graph = format!(in rt.alloc();
+        "{head}{first}{input}{output}{more}channel = 0\n{link}{ends}"
+    )?;
+    told(rt, graph.as_str(), &[4, 5])
+}
+
+/// Forms in which a cost or a table may be written, and why no cost is written into them.
+const FORMS: &[(&str, &str, &str, &str, &str)] = &[
+    ("no blanks", "[[actor]]", "cost=3\n", "[[link]]", "Cost(1)"),
+    (
+        "quotes",
+        "[[actor]]",
+        "\"cost\" = 3\n",
+        "[[link]]",
+        "Cost(1)",
+    ),
+    (
+        "indented",
+        "[[actor]]",
+        "  cost = 3\n",
+        "[[link]]",
+        "Cost(1)",
+    ),
+    (
+        "line through",
+        "[[actor]]",
+        "cost = 1_000\n",
+        "[[link]]",
+        "Cost(1)",
+    ),
+    (
+        "another base",
+        "[[actor]]",
+        "cost = 0x10\n",
+        "[[link]]",
+        "Cost(1)",
+    ),
+    ("wide head", "[[ actor ]]", "", "[[link]]", "Tables(1)"),
+    ("quoted head", "[[\"actor\"]]", "", "[[link]]", "Tables(1)"),
+    ("indented head", " [[actor]]", "", "[[link]]", "Tables(1)"),
+    ("indented link", "[[actor]]", "", "  [[link]]", "Reading"),
+];
+
+/// Refuses a wrong text of a graph file that is written otherwise.
+#[test]
+fn other_forms(rt: HostRuntime) -> Result<(), Fail> {
+    for (name, first, more, link, wanted) in FORMS {
+        row_says(name, told_of(&rt, first, more, link), wanted)?;
+    }
+    Ok(())
+}
+
+/// A text with `N` in the place of each cost.
+fn masked(rt: &(impl AllocGlobal), text: &str) -> Result<String, Fail> {
+    let mut masked = String::new(rt.alloc());
+    for line in text.lines() {
+        match line.strip_prefix("cost = ") {
+            Some(cost) => {
+                let rest = cost.trim_start_matches(|digit: char| digit.is_ascii_digit());
+                writeln!(masked, "cost = N{rest}")?;
+            }
+            None => writeln!(masked, "{line}")?,
+        }
+    }
+    Ok(masked)
+}
+
+/// What a profile that is written there puts into a file, or on standard output.
+fn written<T: Threads + AllocGlobal + Clock + Clone + Drop + Sync>(
+    rt: &T,
+    file: &str,
+) -> Result<String, Fail> {
+    let line = [
+        "sdfw",
+        "profile",
+        "commented.toml",
+        "in.wav",
+        "--write",
+        file,
+    ];
+    let told = made(rt, &line)?;
+    masked(rt, told.as_str())
+}
+
+/// Refuses a program that writes another text, or prints none of the lines.
+#[test]
+fn profiles_are_written(rt: HostRuntime) -> Result<(), Fail> {
+    let wanted = masked(&rt, MEASURED)?;
+    let wanted = wanted.as_str();
+    let told = written(&rt, "made/measured.toml")?;
+    assert!(rt; told.as_str().starts_with("0\nshare in "));
+    assert!(rt; told.as_str().contains("\ncost half "));
+    assert!(rt;
+        told.as_str()
+            .ends_with(format!(in rt.alloc(); "\n--\n--\n{wanted}")?.as_str())
+    );
+    let told = written(&rt, "-")?;
+    assert_eq!(rt;
+        told.as_str(),
+        format!(in rt.alloc(); "0\n{wanted}--\n--\n")?.as_str()
+    );
+    Ok(())
+}
+
+/// Words of a profile, and how its answer begins.
+const REFUSED: &[(&[&str], &str)] = &[
+    (
+        &["commented.toml", "in.wav", "commented.toml"],
+        "2\n--\nerror: FILE is the same file as GRAPH\n",
+    ),
+    (
+        &["commented.toml", "in.wav", "in.wav"],
+        "2\n--\nerror: FILE is the same file as IN\n",
+    ),
+    (
+        &["filtered.toml", "in.wav", "one.toml"],
+        "2\n--\nerror: FILE is the same file as the coefficient file one.toml\n",
+    ),
+    (
+        &["plain.toml", "in.wav", "made/measured.toml"],
+        "2\n--\nerror: GRAPH has 0 lines [[actor]] for 2 actors: costs want one for each\n",
+    ),
+    (
+        &["commented.toml", "in.wav", "elsewhere.toml"],
+        "5\n--\nsdfw: 48 Write\n",
+    ),
+];
+
+/// Refuses a file that is read and written, and a text that is printed where the file is not written.
+#[test]
+fn what_is_read_stays(rt: HostRuntime) -> Result<(), Fail> {
+    for (words, wanted) in REFUSED {
+        let [graph, input, file] = **words else {
+            continue;
+        };
+        let told = made(&rt, &["sdfw", "profile", graph, input, "--write", file])?;
+        assert!(rt; told.as_str().starts_with(*wanted), "{words:?}: {told}");
+        assert!(rt; told.as_str().ends_with("--\n"), "{words:?}: {told}");
+    }
+    Ok(())
+}
