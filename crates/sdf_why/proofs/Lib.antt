@@ -4,4 +4,4 @@ pub mod Lines
 pub mod Pieces
 pub mod Roots
 pub mod Walks
-pub mod Channels
+pub mod Edges

@@ -34,7 +34,7 @@ pub record IsApartText (d : Data) (g : Shape) (text : List ℕ) : Type 0 where
 -- ---- what meets at a link
 
 -- so many of one thing, by its name
-abbrev pub so_many : ℕ → Option (List ℕ) → List ℕ
+unfoldable pub so_many : ℕ → Option (List ℕ) → List ℕ
 so_many n name = decimal n ++ codes " of " ++ name_text name
 
 -- how often the actors at the ends of a link fire
@@ -42,11 +42,17 @@ unfoldable pub firings_line : Meeting → Option (List ℕ) → Option (List ℕ
 firings_line m source target =
     codes "  firings by the other links: " ++ so_many m.source source ++ codes ", " ++ so_many m.target target ++ end
 
--- and what these firings put on it and take from it
+-- what is put on a link at an end, and what is taken from it
+unfoldable pub puts_text : Option (List ℕ) → ℕ → List ℕ
+puts_text from n = end_text from ++ codes " puts " ++ decimal n
+
+unfoldable pub takes_text : Option (List ℕ) → ℕ → List ℕ
+takes_text to n = end_text to ++ codes " takes " ++ decimal n
+
+-- what these firings put and take
 unfoldable pub samples_line : Meeting → Option (List ℕ) → Option (List ℕ) → List ℕ
 samples_line m from to =
-    codes "  samples on this link: " ++ end_text from ++ codes " puts " ++ decimal m.puts ++ codes ", "
-    ++ end_text to ++ codes " takes " ++ decimal m.takes ++ end
+    codes "  samples on this link: " ++ puts_text from m.puts ++ codes ", " ++ takes_text to m.takes ++ end
 
 unfoldable pub firings_told : Data → Shape → ℕ → Meeting → List ℕ
 firings_told d g c m = firings_line m
@@ -55,10 +61,13 @@ firings_told d g c m = firings_line m
 unfoldable pub samples_told : Data → ℕ → Meeting → List ℕ
 samples_told d c m = samples_line m (end_at (codes "from") d c) (end_at (codes "to") d c)
 
+unfoldable pub meeting_told : Data → Shape → ℕ → Meeting → List ℕ
+meeting_told d g c m = firings_told d g c m ++ samples_told d c m
+
 -- what meets at link c, or nothing where the walk finds nothing
 pub data IsMeetingText (d : Data) (g : Shape) (c : ℕ) (text : List ℕ) : Type 0 where
   meeting :
-      (m : Meeting) → IsMeeting g c m → text ≡ firings_told d g c m ++ samples_told d c m → IsMeetingText d g c text
+      (m : Meeting) → IsMeeting g c m → text ≡ meeting_told d g c m → IsMeetingText d g c text
   none : text ≡ [] → IsMeetingText d g c text
 
 -- ---- by fault

@@ -66,13 +66,21 @@ fn ports_of(kind: &KindEntry) -> Ports
     }
 }
 
+/// Ports that move nothing.
+fn nothing() -> Ports
+    ensures { ArePortsOf result (Sink 0 0) }
+{
+    Ports::steady(1, 0, 1, 0)
+}
+
 /// The ports of an actor, or none that moves anything where there is no such actor.
 fn ports_at(actors: &[ActorEntry], actor: usize) -> Ports
     ensures { ArePortsOf result (slice_index_or (nodes_of (map actor_view actors.now)) actor (Sink 0 0)) }
 {
-    match actors.get(actor) {
-        Some(entry) => ports_of(&entry.kind),
-        None => Ports::steady(1, 0, 1, 0),
+    if actor < actors.len() {
+        ports_of(&actors[actor].kind)
+    } else {
+        nothing()
     }
 }
 

@@ -5,12 +5,12 @@ ghost use Rattle.std.specs.List.{flat_map, range_with_len};
 ghost use Rattle.toml.specs.View.{view};
 ghost use Rattle.sdf_graph.specs.Rates.{Shape};
 ghost use Rattle.sdf_graph.specs.Faults.{numbers_fault};
-ghost use Rattle.sdf_actor.specs.declared.fault.NetFault.TheVariants.{Graph};
+ghost use Rattle.sdf_actor.specs.declared.fault.NetFault.TheVariants as nets;
 ghost use Rattle.sdf_document.specs.Document.{document_view};
 ghost use Rattle.sdf_document.specs.Lists.{files_view};
 ghost use Rattle.sdf_why.specs.Channels.{graph_in};
-ghost use Rattle.sdf_why.specs.More.{apart_told, IsApartText, so_many, firings_line, samples_line, firings_told};
-ghost use Rattle.sdf_why.specs.More.{samples_told, IsMeetingText, IsMoreOf, IsMore};
+ghost use Rattle.sdf_why.specs.More.{apart_told, IsApartText, so_many, firings_line, puts_text, takes_text};
+ghost use Rattle.sdf_why.specs.More.{samples_line, firings_told, samples_told, meeting_told, IsMeetingText, IsMoreOf, IsMore};
 
 use crate::actors::push_actor_of;
 use crate::channels::channels_of;
@@ -78,6 +78,7 @@ fn apart_text(
 }
 
 /// Adds so many of one thing, by its name.
+#[tactic(auto, unfolding(crate::specs::More::so_many))]
 fn push_so_many(
     alloc: Global,
     text: &mut String,
@@ -110,6 +111,36 @@ fn push_firings(
     Ok(text.push_str("\n")?)
 }
 
+/// Adds what is put on a link at an end.
+#[tactic(auto, unfolding(crate::specs::More::puts_text))]
+fn push_puts(
+    alloc: Global,
+    text: &mut String,
+    end: Option<&str>,
+    samples: u64,
+) -> Result<(), AllocError>
+    ensures { OnOk result (string_bytes text.new ≡ string_bytes text.old
+        ++ puts_text (option_map (λ s. s.now) end.entry) samples) }
+{
+    push_end(alloc, text, end)?;
+    write!(text, " puts {samples}")
+}
+
+/// Adds what is taken from it.
+#[tactic(auto, unfolding(crate::specs::More::takes_text))]
+fn push_takes(
+    alloc: Global,
+    text: &mut String,
+    end: Option<&str>,
+    samples: u64,
+) -> Result<(), AllocError>
+    ensures { OnOk result (string_bytes text.new ≡ string_bytes text.old
+        ++ takes_text (option_map (λ s. s.now) end.entry) samples) }
+{
+    push_end(alloc, text, end)?;
+    write!(text, " takes {samples}")
+}
+
 /// Adds what these firings put on the link and take from it.
 #[tactic(auto, unfolding(crate::specs::More::samples_line))]
 fn push_samples(
@@ -122,12 +153,11 @@ fn push_samples(
     ensures { OnOk result (string_bytes text.new ≡ string_bytes text.old ++ samples_line meeting
         (option_map (λ s. s.now) from.entry) (option_map (λ s. s.now) to.entry)) }
 {
-    let Meeting { puts, takes, .. } = meeting;
     text.push_str("  samples on this link: ")?;
-    push_end(alloc, text, from)?;
-    write!(text, " puts {puts}, ")?;
-    push_end(alloc, text, to)?;
-    writeln!(text, " takes {takes}")
+    push_puts(alloc, text, from, meeting.puts)?;
+    text.push_str(", ")?;
+    push_takes(alloc, text, to, meeting.takes)?;
+    Ok(text.push_str("\n")?)
 }
 
 #[tactic(auto, unfolding(crate::specs::More::firings_told))]
@@ -165,6 +195,24 @@ fn push_samples_of(
     push_samples(alloc, text, meeting, from, to)
 }
 
+/// Adds what meets at a link.
+#[tactic(auto, unfolding(crate::specs::More::meeting_told))]
+fn push_meeting(
+    alloc: Global,
+    text: &mut String,
+    tables: &Value,
+    graph: &Graph,
+    link: usize,
+    meeting: Meeting,
+) -> Result<(), AllocError>
+    requires { link < length graph.now.channels }
+    ensures { OnOk result (string_bytes text.new ≡ string_bytes text.old
+        ++ meeting_told (view tables.now) graph.now link meeting) }
+{
+    push_firings_of(alloc, text, tables, graph, link, meeting)?;
+    push_samples_of(alloc, text, tables, link, meeting)
+}
+
 /// What meets at a link.
 fn meeting_text(
     alloc: Global,
@@ -175,10 +223,10 @@ fn meeting_text(
     ensures { IfOk result (λ text. IsMeetingText (view tables.now) graph.now link (string_bytes text)) }
 {
     let mut text = String::new(alloc);
-    if let Some(meeting) = meeting_of(alloc, graph, link)? {
-        push_firings_of(alloc, &mut text, tables, graph, link, meeting)?;
-        push_samples_of(alloc, &mut text, tables, link, meeting)?;
-    }
+    let Some(meeting) = meeting_of(alloc, graph, link)? else {
+        return Ok(text);
+    };
+    push_meeting(alloc, &mut text, tables, graph, link, meeting)?;
     Ok(text)
 }
 
@@ -227,7 +275,7 @@ fn files_more(
     fault: GraphFault,
     sources: Sources<'_>,
 ) -> Result<String, AllocError>
-    ensures { IfOk result (λ text. IsMore (Graph fault) sources.entry.graph.now (files_view sources.entry.files.now)
+    ensures { IfOk result (λ text. IsMore (nets.Graph fault) sources.entry.graph.now (files_view sources.entry.files.now)
         (string_bytes text)) }
 {
     let Some(tables) = root(alloc, sources.graph)? else {

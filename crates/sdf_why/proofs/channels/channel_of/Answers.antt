@@ -3,7 +3,7 @@ use Rattle.sdf_document.specs.Actors.{actor_view}
 use Rattle.sdf_document.specs.Links.{link_view}
 use Rattle.sdf_file.specs.Designs.{wire_of}
 use Rattle.sdf_why.specs.Channels.{nodes_of}
-use Rattle.sdf_why.proofs.Channels.{channel_is}
+use Rattle.sdf_why.proofs.Edges.{channel_is}
 use Rattle.sdf_why.proofs.channels.channel_of.Goals as goal
 
 pub returns : goal.returns
