@@ -5,3 +5,4 @@ pub mod Pieces
 pub mod Roots
 pub mod Walks
 pub mod Edges
+pub mod Grown
