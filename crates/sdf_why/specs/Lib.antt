@@ -7,5 +7,8 @@ pub mod Documents
 pub mod Nets
 pub mod Cycles
 pub mod Sounds
+pub mod Walks
+pub mod Channels
+pub mod More
 pub mod Told
 pub mod Said

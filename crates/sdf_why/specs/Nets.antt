@@ -69,6 +69,7 @@ meeting d c = link_told d c ++ lines_of (link_told d) (first_meeting d c c)
 unfoldable pub begun : Data → ℕ → List ℕ
 begun d c = link_key c (codes "initial") (Some (codes "at most " ++ decimal MOST_INITIAL)) d
 
+-- of actors that are apart all is told by `More`
 abbrev pub graph_told : GraphFault → Data → List ℕ
 graph_told graph.OutOfMemory d = []
 graph_told graph.ActorCount d = []
@@ -77,7 +78,7 @@ graph_told (graph.BadEnd c) d = ends_told d c
 graph_told (graph.BadRate c) d = ends_told d c
 graph_told (graph.InitialCount c) d = begun d c
 graph_told (graph.CycleLength c) d = ends_told d c
-graph_told (graph.NotConnected a) d = actor_told d a
+graph_told (graph.NotConnected a) d = []
 graph_told (graph.Inconsistent c) d = ends_told d c
 graph_told graph.PeriodTooLong d = []
 

@@ -20,18 +20,25 @@ use Rattle.sdf_why.specs.Tables.{root, entry}
 use Rattle.sdf_why.specs.Actors.{lines_of, actor_is}
 use Rattle.sdf_why.specs.Documents.{document_text, counted}
 use Rattle.sdf_why.specs.Nets.{net_told}
+use Rattle.sdf_why.specs.More.{IsMore}
 use Rattle.sdf_why.specs.Cycles.{IsCycleText}
 use Rattle.sdf_why.specs.Sounds.{channels_told, rate_line}
 
--- of a net that is refused
+-- of a net that is refused, by its tables
 unfoldable pub net_text : NetFault → List ℕ → List ℕ
 net_text fault graph = lines_of (net_told kinds_text fault) (root graph)
 
+-- and what more is told
+pub record IsNetText (fault : NetFault) (graph : List ℕ) (files : Files) (text : List ℕ) : Type 0 where
+  pub more : List ℕ
+  pub is_more : IsMore fault graph files more
+  pub told : text ≡ net_text fault graph ++ more
+
 -- of files that give no design
-abbrev pub file_text : FileFault → List ℕ → Files → List ℕ
-file_text OutOfMemory graph files = []
-file_text (Document fault) graph files = document_text (fault_view fault) graph files
-file_text (Net fault) graph files = net_text fault graph
+abbrev pub IsFileText : FileFault → List ℕ → Files → List ℕ → Type 0
+IsFileText OutOfMemory graph files text = text ≡ []
+IsFileText (Document fault) graph files text = text ≡ document_text (fault_view fault) graph files
+IsFileText (Net fault) graph files text = IsNetText fault graph files text
 
 -- the processor of an actor, and those that there are
 unfoldable pub processor_line : ℕ → Data → List ℕ

@@ -96,7 +96,7 @@ fn cycle_of(alloc: Global, graph: &Graph, halts: &[Halt]) -> Result<Option<Vec<u
 }
 
 /// How many samples the first firings of the source put.
-fn put_by(channel: &Channel, firings: u32) -> u64
+pub(crate) fn put_by(channel: &Channel, firings: u32) -> u64
     requires some { 0 < length channel.now.put }
     requires rates { (i : ℕ) → rate_at channel.now.put i ≤ 1024 }
     ensures value { result ≡ sum_to (rate_at channel.now.put) firings }
@@ -110,10 +110,11 @@ fn put_by(channel: &Channel, firings: u32) -> u64
 }
 
 /// And how many those of the target take.
-fn taken_by(channel: &Channel, firings: u32) -> u64
+pub(crate) fn taken_by(channel: &Channel, firings: u32) -> u64
     requires some { 0 < length channel.now.take }
     requires rates { (i : ℕ) → rate_at channel.now.take i ≤ 1024 }
-    ensures { result ≡ sum_to (rate_at channel.now.take) firings }
+    ensures value { result ≡ sum_to (rate_at channel.now.take) firings }
+    ensures small { result ≤ firings * 1024 }
 {
     let mut samples = 0;
     for firing in 0..firings {

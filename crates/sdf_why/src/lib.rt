@@ -7,16 +7,19 @@
 #![tactic(auto)]
 
 mod actors;
+mod channels;
 mod cycle;
 mod document;
 mod limits;
 mod links;
 mod marks;
+mod more;
 mod net;
 mod said;
 mod sound;
 mod tables;
 mod told;
+mod walk;
 mod words;
 
 pub use cycle::Halt;

@@ -68,7 +68,7 @@ pub(crate) fn push_link_key(
 
 /// What the file writes as an end of a link.
 #[tactic(auto, unfolding(crate::specs::Links::end_at))]
-fn end_at<'a>(graph: &'a Value, key: &str, link: usize) -> Option<&'a str>
+pub(crate) fn end_at<'a>(graph: &'a Value, key: &str, link: usize) -> Option<&'a str>
     ensures { option_map (λ s. s.now) result ≡ end_at key.now (view graph.now) link }
 {
     text_at(entry(graph, "link", link)?, key)

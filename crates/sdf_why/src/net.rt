@@ -197,13 +197,13 @@ fn push_graph(
         GraphFault::OutOfMemory
         | GraphFault::ActorCount
         | GraphFault::ChannelCount
+        | GraphFault::NotConnected { .. }
         | GraphFault::PeriodTooLong => Ok(()),
         GraphFault::BadEnd { channel }
         | GraphFault::BadRate { channel }
         | GraphFault::CycleLength { channel }
         | GraphFault::Inconsistent { channel } => push_ends(alloc, text, graph, channel),
         GraphFault::InitialCount { channel } => push_begun(alloc, text, graph, channel),
-        GraphFault::NotConnected { actor } => push_actor_of(alloc, text, graph, actor),
     }
 }
 

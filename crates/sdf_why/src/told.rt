@@ -11,12 +11,13 @@ ghost use Rattle.sdf_actor.specs.Graphs.{graph_of};
 ghost use Rattle.sdf_kit.specs.Kit.{kit_steps};
 ghost use Rattle.sdf_why.specs.Sounds.{channels_told};
 ghost use Rattle.sdf_why.specs.Cycles.{IsCycleText};
-ghost use Rattle.sdf_why.specs.Told.{net_text, file_text, processor_line, home_is, home_text, Says, IsStallText};
-ghost use Rattle.sdf_why.specs.Told.{IsChannelsText, IsRateOf, IsRateText};
+ghost use Rattle.sdf_why.specs.Told.{net_text, IsNetText, IsFileText, processor_line, home_is, home_text, Says};
+ghost use Rattle.sdf_why.specs.Told.{IsStallText, IsChannelsText, IsRateOf, IsRateText};
 
 use crate::actors::push_actor_table;
 use crate::cycle::{Halt, cycle_text};
 use crate::document::{document_text, push_counted};
+use crate::more::more_text;
 use crate::net::push_net;
 use crate::sound::{Header, push_channels, push_rate};
 use crate::tables::{Source, entry, root};
@@ -33,21 +34,32 @@ pub struct Sources<'a> {
     pub files: &'a [(String, Vec<u8>)],
 }
 
-/// What is told of the first test that a net fails.
+/// What is told of the first test that a net fails, by its tables.
 #[tactic(auto, unfolding(crate::specs::Told::net_text))]
-pub fn net_text(alloc: Global, fault: NetFault, sources: Sources<'_>) -> Result<String, AllocError>
-    ensures { IfOk result (λ text. string_bytes text ≡ net_text fault sources.entry.graph.now) }
+fn tables_text(alloc: Global, fault: NetFault, graph: &[u8]) -> Result<String, AllocError>
+    ensures { IfOk result (λ text. string_bytes text ≡ net_text fault graph.now) }
 {
     let mut text = String::new(alloc);
     let kinds = kinds_text(alloc)?;
-    if let Some(graph) = root(alloc, sources.graph)? {
+    if let Some(graph) = root(alloc, graph)? {
         let source = Source {
             graph: &graph,
-            files: sources.files,
+            files: &[],
             kinds: kinds.as_str(),
         };
         push_net(alloc, &mut text, source, fault)?;
     }
+    Ok(text)
+}
+
+/// What is told of the first test that a net fails.
+pub fn net_text(alloc: Global, fault: NetFault, sources: Sources<'_>) -> Result<String, AllocError>
+    ensures { IfOk result (λ text. IsNetText fault sources.entry.graph.now (files_view sources.entry.files.now)
+        (string_bytes text)) }
+{
+    let mut text = tables_text(alloc, fault, sources.graph)?;
+    let more = more_text(alloc, fault, sources)?;
+    text.push_str(more.as_str())?;
     Ok(text)
 }
 
@@ -57,8 +69,8 @@ pub fn file_text(
     fault: &FileFault,
     sources: Sources<'_>,
 ) -> Result<String, AllocError>
-    ensures { IfOk result (λ text. string_bytes text ≡
-        file_text fault.now sources.entry.graph.now (files_view sources.entry.files.now)) }
+    ensures { IfOk result (λ text. IsFileText fault.now sources.entry.graph.now (files_view sources.entry.files.now)
+        (string_bytes text)) }
 {
     match fault {
         FileFault::OutOfMemory => Ok(String::new(alloc)),

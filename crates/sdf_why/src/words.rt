@@ -63,7 +63,8 @@ fn article(word: &str) -> &'static str
     }
 }
 
-fn push_name(alloc: Global, text: &mut String, name: Option<&str>) -> Result<(), AllocError>
+/// Adds a name.
+pub(crate) fn push_name(alloc: Global, text: &mut String, name: Option<&str>) -> Result<(), AllocError>
     ensures { OnOk result (string_bytes text.new ≡
         string_bytes text.old ++ name_text (option_map (λ s. s.now) name.entry)) }
 {
@@ -86,7 +87,8 @@ fn push_kind(alloc: Global, text: &mut String, kind: Option<&str>) -> Result<(),
     }
 }
 
-fn push_end(alloc: Global, text: &mut String, end: Option<&str>) -> Result<(), AllocError>
+/// Adds an end of a link.
+pub(crate) fn push_end(alloc: Global, text: &mut String, end: Option<&str>) -> Result<(), AllocError>
     ensures { OnOk result (string_bytes text.new ≡ string_bytes text.old ++ end_text (option_map (λ s. s.now) end.entry)) }
 {
     match end {

@@ -28,7 +28,23 @@ const RIVALS: &str =
 const SECOND: &str =
     "{ name = \"in\", kind = \"input\", channel = 0 }, { name = \"out\", kind = \"output\", channel = 1 }";
 
-static ROWS: [Row; 5] = [
+/// Two pairs that no link joins.
+const PAIRS: &str = "{ name = \"in\", kind = \"input\", channel = 0 }, { name = \"left\", kind = \"input\", channel = 1 },
+    { name = \"out\", kind = \"output\", channel = 0 }, { name = \"right\", kind = \"output\", channel = 1 }";
+
+/// One way is halved, and both are added.
+const HALVED: &str =
+    "{ name = \"in\", kind = \"input\", channel = 0 }, { name = \"two\", kind = \"fork\", ways = 2 },
+    { name = \"half\", kind = \"decimate\", factor = 2 }, { name = \"sum\", kind = \"add\", ways = 2 },
+    { name = \"out\", kind = \"output\", channel = 0 }";
+
+/// The same of runs that are dealt out.
+const DEALT: &str =
+    "{ name = \"in\", kind = \"input\", channel = 0 }, { name = \"two\", kind = \"deal\", ways = 2, run = 3 },
+    { name = \"half\", kind = \"decimate\", factor = 2 }, { name = \"sum\", kind = \"add\", ways = 2 },
+    { name = \"out\", kind = \"output\", channel = 0 }";
+
+static ROWS: [Row; 9] = [
     Row {
         actors: FORKED,
         links: "{ from = \"in\", to = \"two\" }, { from = \"two:2\", to = \"out\" }",
@@ -59,6 +75,36 @@ static ROWS: [Row; 5] = [
         fault: "27 NoOutput channel 0",
         told: "  actor 1 is \"out\", an output\n  channel = 1, wants 0..7\n",
     },
+    Row {
+        actors: PAIRS,
+        links: "{ from = \"in\", to = \"out\" }, { from = \"left\", to = \"right\" }",
+        fault: "7 NotConnected actor 1",
+        told: "  actor 1 is \"left\", an input\n  actor 3 is \"right\", an output\n",
+    },
+    Row {
+        actors: PAIRS,
+        links: "{ from = \"left\", to = \"out\" }, { from = \"in\", to = \"right\" }",
+        fault: "7 NotConnected actor 1",
+        told: "  actor 1 is \"left\", an input\n  actor 2 is \"out\", an output\n",
+    },
+    Row {
+        actors: HALVED,
+        links: "{ from = \"in\", to = \"two\" }, { from = \"two:0\", to = \"sum:0\" }, { from = \"two:1\", to = \"half\" },
+            { from = \"half\", to = \"sum:1\" }, { from = \"sum\", to = \"out\" }",
+        fault: "8 Inconsistent link 3",
+        told: "  link 3 is half:0 -> sum:1\n  actor 2 is \"half\", a decimate\n  actor 3 is \"sum\", an add\n  \
+            firings by the other links: 1 of \"half\", 2 of \"sum\"\n  \
+            samples on this link: half:0 puts 1, sum:1 takes 2\n",
+    },
+    Row {
+        actors: DEALT,
+        links: "{ from = \"in\", to = \"two\" }, { from = \"two:1\", to = \"half\" }, { from = \"half\", to = \"sum:1\" },
+            { from = \"two:0\", to = \"sum:0\" }, { from = \"sum\", to = \"out\" }",
+        fault: "8 Inconsistent link 3",
+        told: "  link 3 is two:0 -> sum:0\n  actor 1 is \"two\", a deal\n  actor 3 is \"sum\", an add\n  \
+            firings by the other links: 4 of \"two\", 3 of \"sum\"\n  \
+            samples on this link: two:0 puts 6, sum:0 takes 3\n",
+    },
 ];
 
 /// Whether a graph file of these has this fault, and this is told of it.
@@ -66,7 +112,7 @@ fn is_told<R: Abort + AllocGlobal>(rt: &R, row: &Row) -> Result<(), Fail> {
     let alloc = rt.alloc();
     let actors = row.actors;
     let links = row.links;
-    let graph = format!(in alloc; "format = 1\nactor = [{actors}]\nlink = [{links}]\n")?;
+    let graph = format!(in alloc; "format = 2\nactor = [{actors}]\nlink = [{links}]\n")?;
     let sources = Sources {
         graph: graph.as_bytes(),
         files: &[],

@@ -1,0 +1,16 @@
+use Rattle.std.proofs.Common.{◌≡◌, rules, string_bytes}
+use Rattle.toml.specs.View.{view}
+use Rattle.sdf_why.specs.Walks.{IsMeeting}
+use Rattle.sdf_why.specs.More.{meeting_told, meeting}
+use Rattle.sdf_why.proofs.more.meeting_text.Goals as goal
+
+pub push_meeting-requires : goal.push_meeting-requires
+push_meeting-requires c =
+    let is : IsMeeting c.args.graph.now c.args.link c.in-Some.meeting = search rules in is.known
+
+pub returns : goal.returns
+returns c =
+    let is : IsMeeting c.args.graph.now c.args.link c.in-Some.meeting = search rules in
+    let told : string_bytes c.push_meeting.new.text ≡
+    meeting_told (view c.args.tables.now) c.args.graph.now c.args.link c.in-Some.meeting = search rules in
+    meeting c.in-Some.meeting is told

@@ -1,0 +1,86 @@
+-- What is told of a net that the tables alone do not show: which actors are apart, and what meets at a link.
+use Rattle.std.specs.Prelude.{◌≡◌, ℕ, Bool, None, Ok, Some, List, [], ◌++◌, codes, decimal, Option, if◌then◌else◌}
+use Rattle.std.specs.List.{flat_map, range_with_len}
+use Rattle.toml.specs.Data.{Data}
+use Rattle.sdf_graph.specs.Rates.{Shape, channel}
+use Rattle.sdf_graph.specs.Faults.{numbers_fault}
+use Rattle.sdf_graph.specs.Marks.{is_marked}
+use Rattle.sdf_graph.specs.declared.fault.GraphFault.{GraphFault}
+use Rattle.sdf_graph.specs.declared.fault.GraphFault.TheVariants.{NotConnected, Inconsistent}
+use Rattle.sdf_actor.specs.declared.fault.NetFault.{NetFault}
+use Rattle.sdf_actor.specs.declared.fault.NetFault.TheVariants.{Graph}
+use Rattle.sdf_document.specs.Lists.{Files}
+use Rattle.sdf_document.specs.Document.{DocumentValue, document_of}
+use Rattle.sdf_why.specs.declared.walk.Meeting.{Meeting}
+use Rattle.sdf_why.specs.Words.{end, name_text, end_text}
+use Rattle.sdf_why.specs.Tables.{root, actor_text}
+use Rattle.sdf_why.specs.Actors.{actor_told}
+use Rattle.sdf_why.specs.Links.{end_at}
+use Rattle.sdf_why.specs.Channels.{graph_in}
+use Rattle.sdf_why.specs.Walks.{AreJoined, IsMeeting}
+
+-- ---- actors that are apart
+
+-- an actor that has no mark
+unfoldable pub apart_told : Data → List Bool → ℕ → List ℕ
+apart_told d marked a = if is_marked marked a then [] else actor_told d a
+
+-- all actors that links, walked both ways, do not join to actor 0, in their order
+pub record IsApartText (d : Data) (g : Shape) (text : List ℕ) : Type 0 where
+  pub marked : List Bool
+  pub joined : AreJoined g marked
+  pub told : text ≡ flat_map (apart_told d marked) (range_with_len 0 g.actors)
+
+-- ---- what meets at a link
+
+-- so many of one thing, by its name
+unfoldable pub so_many : ℕ → Option (List ℕ) → List ℕ
+so_many n name = decimal n ++ codes " of " ++ name_text name
+
+-- how often the actors at the ends of a link fire
+unfoldable pub firings_line : Meeting → Option (List ℕ) → Option (List ℕ) → List ℕ
+firings_line m source target =
+    codes "  firings by the other links: " ++ so_many m.source source ++ codes ", " ++ so_many m.target target ++ end
+
+-- what is put on a link at an end, and what is taken from it
+unfoldable pub puts_text : Option (List ℕ) → ℕ → List ℕ
+puts_text from n = end_text from ++ codes " puts " ++ decimal n
+
+unfoldable pub takes_text : Option (List ℕ) → ℕ → List ℕ
+takes_text to n = end_text to ++ codes " takes " ++ decimal n
+
+-- what these firings put and take
+unfoldable pub samples_line : Meeting → Option (List ℕ) → Option (List ℕ) → List ℕ
+samples_line m from to =
+    codes "  samples on this link: " ++ puts_text from m.puts ++ codes ", " ++ takes_text to m.takes ++ end
+
+unfoldable pub firings_told : Data → Shape → ℕ → Meeting → List ℕ
+firings_told d g c m = firings_line m
+    (actor_text (codes "name") d (channel g c).from) (actor_text (codes "name") d (channel g c).to)
+
+unfoldable pub samples_told : Data → ℕ → Meeting → List ℕ
+samples_told d c m = samples_line m (end_at (codes "from") d c) (end_at (codes "to") d c)
+
+unfoldable pub meeting_told : Data → Shape → ℕ → Meeting → List ℕ
+meeting_told d g c m = firings_told d g c m ++ samples_told d c m
+
+-- what meets at link c, or nothing where the walk finds nothing
+pub data IsMeetingText (d : Data) (g : Shape) (c : ℕ) (text : List ℕ) : Type 0 where
+  meeting :
+      (m : Meeting) → IsMeeting g c m → text ≡ meeting_told d g c m → IsMeetingText d g c text
+  none : text ≡ [] → IsMeetingText d g c text
+
+-- ---- by fault
+
+-- of a fault of the graph. That one is apart is tested of graphs alone whose numbers have no fault
+abbrev pub IsMoreOf : Data → Shape → GraphFault → List ℕ → Type 0
+IsMoreOf d g (NotConnected a) text = numbers_fault g ≡ None → IsApartText d g text
+IsMoreOf d g (Inconsistent c) text = IsMeetingText d g c text
+IsMoreOf d g fault text = text ≡ []
+
+-- of a fault of the net that files say
+abbrev pub IsMore : NetFault → List ℕ → Files → List ℕ → Type 0
+IsMore (Graph fault) graph files text =
+    (d : Data) (document : DocumentValue) → root graph ≡ Some d → document_of graph files ≡ Ok document →
+    IsMoreOf d (graph_in document) fault text
+IsMore fault graph files text = text ≡ []

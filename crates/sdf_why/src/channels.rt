@@ -1,0 +1,134 @@
+//! The graph that the actors and links of a document make.
+
+ghost use Rattle.std.specs.Prelude.{◌≡◌, ℕ, length, map, slice_index_or, IfOk};
+ghost use Rattle.std.specs.List.{range_with_len};
+ghost use Rattle.sdf_actor.specs.declared.node.Node.TheVariants.{Sink};
+ghost use Rattle.sdf_actor.specs.Graphs.{channel_of};
+ghost use Rattle.sdf_kit.specs.declared.ports.Side.TheVariants.{Every, InTurn};
+ghost use Rattle.sdf_kit.specs.Ports.{moved};
+ghost use Rattle.sdf_kit.specs.Kit.{kit_steps};
+ghost use Rattle.sdf_document.specs.Actors.{actor_view};
+ghost use Rattle.sdf_document.specs.Links.{link_view};
+ghost use Rattle.sdf_file.specs.Designs.{node_of, wire_of};
+ghost use Rattle.sdf_why.specs.Channels.{ArePortsOf, nodes_of};
+
+use sdf_document::{ActorEntry, KindEntry, LinkEntry};
+use sdf_graph::Channel;
+use sdf_kit::{Ports, Side};
+use std::alloc::{AllocError, Global};
+
+/// One port, at which every firing moves a run.
+fn every(run: u32) -> Side
+    ensures { result ≡ Every 1 run }
+{
+    Side::Every {
+        ports: 1,
+        rate: run,
+    }
+}
+
+/// Ports that are served in turn, a run at each.
+fn in_turn(ways: u32, run: u32) -> Side
+    ensures { result ≡ InTurn ways run }
+{
+    Side::InTurn {
+        ports: ways as usize,
+        rate: run,
+    }
+}
+
+/// The ports of a kind.
+fn ports_of(kind: &KindEntry) -> Ports
+    ensures { ArePortsOf result (node_of kind.now) }
+{
+    match kind {
+        KindEntry::Input { block, .. } | KindEntry::Output { block, .. } => {
+            Ports::steady(1, *block, 1, *block)
+        }
+        KindEntry::Fir { up, down, .. } => Ports::steady(1, *down, 1, *up),
+        KindEntry::Decimate { factor } => Ports::steady(1, *factor, 1, 1),
+        KindEntry::Interpolate { factor } => Ports::steady(1, 1, 1, *factor),
+        KindEntry::Add { ways } => Ports::steady(*ways as usize, 1, 1, 1),
+        KindEntry::Fork { ways } => Ports::steady(1, 1, *ways as usize, 1),
+        KindEntry::Gain { .. } | KindEntry::Delay { .. } | KindEntry::Table { .. } => {
+            Ports::steady(1, 1, 1, 1)
+        }
+        KindEntry::Deal { ways, run } => Ports {
+            cycle: *ways,
+            inputs: every(*run),
+            outputs: in_turn(*ways, *run),
+        },
+        KindEntry::Gather { ways, run } => Ports {
+            cycle: *ways,
+            inputs: in_turn(*ways, *run),
+            outputs: every(*run),
+        },
+    }
+}
+
+/// Ports that move nothing.
+fn nothing() -> Ports
+    ensures { ArePortsOf result (Sink 0 0) }
+{
+    Ports::steady(1, 0, 1, 0)
+}
+
+/// The ports of an actor, or none that moves anything where there is no such actor.
+fn ports_at(actors: &[ActorEntry], actor: usize) -> Ports
+    ensures { ArePortsOf result (slice_index_or (nodes_of (map actor_view actors.now)) actor (Sink 0 0)) }
+{
+    if actor < actors.len() {
+        ports_of(&actors[actor].kind)
+    } else {
+        nothing()
+    }
+}
+
+/// What the firings of a cycle move at a port.
+fn rates(alloc: Global, side: Side, port: usize, cycle: u32) -> Result<Vec<u32>, AllocError>
+    ensures { IfOk result (λ v. v.items ≡ map (moved side port) (range_with_len 0 cycle)) }
+{
+    let mut rates = Vec::new(alloc);
+    for phase in 0..cycle {
+        rates.push(side.moved(port, phase))?;
+    }
+    Ok(rates)
+}
+
+/// The channel of a link.
+fn channel_of(
+    alloc: Global,
+    actors: &[ActorEntry],
+    link: &LinkEntry,
+) -> Result<Channel, AllocError>
+    ensures { IfOk result (λ c. c ≡
+        channel_of kit_steps (nodes_of (map actor_view actors.now)) (wire_of (link_view link.now))) }
+{
+    let from = ports_at(actors, link.from.0);
+    let to = ports_at(actors, link.to.0);
+    let put = rates(alloc, from.outputs, link.from.1, from.cycle)?;
+    let take = rates(alloc, to.inputs, link.to.1, to.cycle)?;
+    Ok(Channel {
+        from: link.from.0,
+        put,
+        to: link.to.0,
+        take,
+        initial: link.initial.len(),
+    })
+}
+
+/// The channels of links.
+pub(crate) fn channels_of(
+    alloc: Global,
+    actors: &[ActorEntry],
+    links: &[LinkEntry],
+) -> Result<Vec<Channel>, AllocError>
+    ensures { IfOk result (λ v. v.items ≡
+        map (channel_of kit_steps (nodes_of (map actor_view actors.now))) (map wire_of (map link_view links.now))) }
+{
+    let mut channels = Vec::new(alloc);
+    for link in links {
+        channels.push(channel_of(alloc, actors, link)?)?;
+    }
+    Ok(channels)
+}

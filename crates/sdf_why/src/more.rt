@@ -1,0 +1,304 @@
+//! What is told of a net that the tables alone do not show: which actors are apart, and what meets at a link.
+
+ghost use Rattle.std.specs.Prelude.{◌≡◌, ℕ, ◌<◌, ◌++◌, None, length, IfOk, OnOk, option_map, string_bytes};
+ghost use Rattle.std.specs.List.{flat_map, range_with_len};
+ghost use Rattle.toml.specs.View.{view};
+ghost use Rattle.sdf_graph.specs.Rates.{Shape};
+ghost use Rattle.sdf_graph.specs.Faults.{numbers_fault};
+ghost use Rattle.sdf_actor.specs.declared.fault.NetFault.TheVariants as nets;
+ghost use Rattle.sdf_document.specs.Document.{document_view};
+ghost use Rattle.sdf_document.specs.Lists.{files_view};
+ghost use Rattle.sdf_why.specs.Channels.{graph_in};
+ghost use Rattle.sdf_why.specs.More.{apart_told, IsApartText, so_many, firings_line, puts_text, takes_text};
+ghost use Rattle.sdf_why.specs.More.{samples_line, firings_told, samples_told, meeting_told, IsMeetingText, IsMoreOf, IsMore};
+
+use crate::actors::push_actor_of;
+use crate::channels::channels_of;
+use crate::links::end_at;
+use crate::tables::{actor_text, root};
+use crate::told::Sources;
+use crate::walk::{Meeting, is_marked, meeting_of, reached};
+use crate::words::{push_end, push_name};
+use sdf_actor::NetFault;
+use sdf_document::{Document, ReadFault, read_document};
+use sdf_graph::{Channel, Graph, GraphFault};
+use std::alloc::{AllocError, Global};
+use toml::Value;
+
+/// Adds an actor that has no mark.
+#[tactic(auto, unfolding(crate::specs::More::apart_told))]
+fn push_apart(
+    alloc: Global,
+    text: &mut String,
+    tables: &Value,
+    marked: &[bool],
+    actor: usize,
+) -> Result<(), AllocError>
+    ensures { OnOk result (string_bytes text.new ≡ string_bytes text.old
+        ++ apart_told (view tables.now) marked.now actor) }
+{
+    if is_marked(marked, actor) {
+        Ok(())
+    } else {
+        push_actor_of(alloc, text, tables, actor)
+    }
+}
+
+/// Adds those of the first so many actors that have none.
+fn push_all_apart(
+    alloc: Global,
+    text: &mut String,
+    tables: &Value,
+    marked: &[bool],
+    actors: usize,
+) -> Result<(), AllocError>
+    ensures { OnOk result (string_bytes text.new ≡ string_bytes text.old
+        ++ flat_map (apart_told (view tables.now) marked.now) (range_with_len 0 actors)) }
+{
+    for actor in 0..actors {
+        push_apart(alloc, text, tables, marked, actor)?;
+    }
+    Ok(())
+}
+
+/// All actors that links do not join to actor 0.
+fn apart_text(
+    alloc: Global,
+    tables: &Value,
+    actors: usize,
+    channels: &[Channel],
+) -> Result<String, AllocError>
+    ensures { let shape : Shape = record { actors = actors; channels = channels.now } in
+        IfOk result (λ text. numbers_fault shape ≡ None → IsApartText (view tables.now) shape (string_bytes text)) }
+{
+    let mut text = String::new(alloc);
+    let marked = reached(actors, channels);
+    push_all_apart(alloc, &mut text, tables, &marked, actors)?;
+    Ok(text)
+}
+
+/// Adds so many of one thing, by its name.
+#[tactic(auto, unfolding(crate::specs::More::so_many))]
+fn push_so_many(
+    alloc: Global,
+    text: &mut String,
+    count: u64,
+    name: Option<&str>,
+) -> Result<(), AllocError>
+    ensures { OnOk result (string_bytes text.new ≡ string_bytes text.old
+        ++ so_many count (option_map (λ s. s.now) name.entry)) }
+{
+    write!(text, "{count} of ")?;
+    push_name(alloc, text, name)
+}
+
+/// Adds how often the actors at the ends of a link fire.
+#[tactic(auto, unfolding(crate::specs::More::firings_line))]
+fn push_firings(
+    alloc: Global,
+    text: &mut String,
+    meeting: Meeting,
+    source: Option<&str>,
+    target: Option<&str>,
+) -> Result<(), AllocError>
+    ensures { OnOk result (string_bytes text.new ≡ string_bytes text.old ++ firings_line meeting
+        (option_map (λ s. s.now) source.entry) (option_map (λ s. s.now) target.entry)) }
+{
+    text.push_str("  firings by the other links: ")?;
+    push_so_many(alloc, text, meeting.source, source)?;
+    text.push_str(", ")?;
+    push_so_many(alloc, text, meeting.target, target)?;
+    Ok(text.push_str("\n")?)
+}
+
+/// Adds what is put on a link at an end.
+#[tactic(auto, unfolding(crate::specs::More::puts_text))]
+fn push_puts(
+    alloc: Global,
+    text: &mut String,
+    end: Option<&str>,
+    samples: u64,
+) -> Result<(), AllocError>
+    ensures { OnOk result (string_bytes text.new ≡ string_bytes text.old
+        ++ puts_text (option_map (λ s. s.now) end.entry) samples) }
+{
+    push_end(alloc, text, end)?;
+    write!(text, " puts {samples}")
+}
+
+/// Adds what is taken from it.
+#[tactic(auto, unfolding(crate::specs::More::takes_text))]
+fn push_takes(
+    alloc: Global,
+    text: &mut String,
+    end: Option<&str>,
+    samples: u64,
+) -> Result<(), AllocError>
+    ensures { OnOk result (string_bytes text.new ≡ string_bytes text.old
+        ++ takes_text (option_map (λ s. s.now) end.entry) samples) }
+{
+    push_end(alloc, text, end)?;
+    write!(text, " takes {samples}")
+}
+
+/// Adds what these firings put on the link and take from it.
+#[tactic(auto, unfolding(crate::specs::More::samples_line))]
+fn push_samples(
+    alloc: Global,
+    text: &mut String,
+    meeting: Meeting,
+    from: Option<&str>,
+    to: Option<&str>,
+) -> Result<(), AllocError>
+    ensures { OnOk result (string_bytes text.new ≡ string_bytes text.old ++ samples_line meeting
+        (option_map (λ s. s.now) from.entry) (option_map (λ s. s.now) to.entry)) }
+{
+    text.push_str("  samples on this link: ")?;
+    push_puts(alloc, text, from, meeting.puts)?;
+    text.push_str(", ")?;
+    push_takes(alloc, text, to, meeting.takes)?;
+    Ok(text.push_str("\n")?)
+}
+
+#[tactic(auto, unfolding(crate::specs::More::firings_told))]
+fn push_firings_of(
+    alloc: Global,
+    text: &mut String,
+    tables: &Value,
+    graph: &Graph,
+    link: usize,
+    meeting: Meeting,
+) -> Result<(), AllocError>
+    requires { link < length graph.now.channels }
+    ensures { OnOk result (string_bytes text.new ≡ string_bytes text.old
+        ++ firings_told (view tables.now) graph.now link meeting) }
+{
+    let channel = &graph.channels()[link];
+    let source = actor_text(tables, "name", channel.from);
+    let target = actor_text(tables, "name", channel.to);
+    push_firings(alloc, text, meeting, source, target)
+}
+
+#[tactic(auto, unfolding(crate::specs::More::samples_told))]
+fn push_samples_of(
+    alloc: Global,
+    text: &mut String,
+    tables: &Value,
+    link: usize,
+    meeting: Meeting,
+) -> Result<(), AllocError>
+    ensures { OnOk result (string_bytes text.new ≡ string_bytes text.old
+        ++ samples_told (view tables.now) link meeting) }
+{
+    let from = end_at(tables, "from", link);
+    let to = end_at(tables, "to", link);
+    push_samples(alloc, text, meeting, from, to)
+}
+
+/// Adds what meets at a link.
+#[tactic(auto, unfolding(crate::specs::More::meeting_told))]
+fn push_meeting(
+    alloc: Global,
+    text: &mut String,
+    tables: &Value,
+    graph: &Graph,
+    link: usize,
+    meeting: Meeting,
+) -> Result<(), AllocError>
+    requires { link < length graph.now.channels }
+    ensures { OnOk result (string_bytes text.new ≡ string_bytes text.old
+        ++ meeting_told (view tables.now) graph.now link meeting) }
+{
+    push_firings_of(alloc, text, tables, graph, link, meeting)?;
+    push_samples_of(alloc, text, tables, link, meeting)
+}
+
+/// What meets at a link.
+fn meeting_text(
+    alloc: Global,
+    tables: &Value,
+    graph: &Graph,
+    link: usize,
+) -> Result<String, AllocError>
+    ensures { IfOk result (λ text. IsMeetingText (view tables.now) graph.now link (string_bytes text)) }
+{
+    let mut text = String::new(alloc);
+    let Some(meeting) = meeting_of(alloc, graph, link)? else {
+        return Ok(text);
+    };
+    push_meeting(alloc, &mut text, tables, graph, link, meeting)?;
+    Ok(text)
+}
+
+/// The same of a graph by its channels.
+fn uneven_text(
+    alloc: Global,
+    tables: &Value,
+    actors: usize,
+    channels: Vec<Channel>,
+    link: usize,
+) -> Result<String, AllocError>
+    ensures { let shape : Shape = record { actors = actors; channels = channels.items } in
+        IfOk result (λ text. IsMeetingText (view tables.now) shape link (string_bytes text)) }
+{
+    match Graph::new(alloc, actors, channels) {
+        Ok(graph) => meeting_text(alloc, tables, &graph, link),
+        Err(GraphFault::OutOfMemory) => Err(AllocError),
+        Err(_) => Ok(String::new(alloc)),
+    }
+}
+
+/// What more is told of a fault of a document's graph.
+fn graph_more(
+    alloc: Global,
+    fault: GraphFault,
+    tables: &Value,
+    document: &Document,
+) -> Result<String, AllocError>
+    ensures { IfOk result (λ text. IsMoreOf (view tables.now) (graph_in (document_view document.now)) fault
+        (string_bytes text)) }
+{
+    let actors = document.actors.len();
+    let channels = channels_of(alloc, &document.actors, &document.links)?;
+    match fault {
+        GraphFault::NotConnected { .. } => apart_text(alloc, tables, actors, &channels),
+        GraphFault::Inconsistent { channel } => {
+            uneven_text(alloc, tables, actors, channels, channel)
+        }
+        _ => Ok(String::new(alloc)),
+    }
+}
+
+/// The same by the files.
+fn files_more(
+    alloc: Global,
+    fault: GraphFault,
+    sources: Sources<'_>,
+) -> Result<String, AllocError>
+    ensures { IfOk result (λ text. IsMore (nets.Graph fault) sources.entry.graph.now (files_view sources.entry.files.now)
+        (string_bytes text)) }
+{
+    let Some(tables) = root(alloc, sources.graph)? else {
+        return Ok(String::new(alloc));
+    };
+    match read_document(alloc, sources.graph, sources.files) {
+        Ok(document) => graph_more(alloc, fault, &tables, &document),
+        Err(ReadFault::OutOfMemory) => Err(AllocError),
+        Err(_) => Ok(String::new(alloc)),
+    }
+}
+
+/// What more is told of the first test that a net fails.
+pub(crate) fn more_text(
+    alloc: Global,
+    fault: NetFault,
+    sources: Sources<'_>,
+) -> Result<String, AllocError>
+    ensures { IfOk result (λ text. IsMore fault sources.entry.graph.now (files_view sources.entry.files.now)
+        (string_bytes text)) }
+{
+    match fault {
+        NetFault::Graph(fault) => files_more(alloc, fault, sources),
+        _ => Ok(String::new(alloc)),
+    }
+}
