@@ -68,7 +68,7 @@ fn open_session<'a>(
     ensures stands { MatchResult result
         (λ v. (s : Sound) → StandsAt net.now plan.now.period plan.now.blocking s 0 0 [] v)
         (λ e. e ≡ OutOfMemory) }
-    ensures mode { IfOk result (λ v. v.mode ≡ mode_of plan.now.runner plan.now.patience) }
+    ensures mode { IfOk result (λ v. v.mode ≡ mode_of plan.now.runner plan.now.patience plan.now.rooms) }
 {
     let session = Session::open(
         alloc,
