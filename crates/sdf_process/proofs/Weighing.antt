@@ -61,8 +61,12 @@ module _ (d : DesignValue) (s : Schedule) (is : IsDesign d) (period : IsPeriodOf
 
   within : (a : ℕ) → a < length d.net.nodes → (0 < weight a) × (weight a ≤ MOST_BLOCK * MOST_COST)
   within a known =
-      let firings : slice_index s.repetitions a ≤ MOST_BLOCK = omega (arith, period.all, period.within,
-      get_or-le-sum_by (λ q. q) s.repetitions a 0 (omega (arith, period.least.is.all, known))) in
+      let firings : slice_index s.repetitions a ≤ MOST_BLOCK = omega (
+        arith,
+        period.all,
+        period.within,
+        get_or-le-sum_by (λ q. q) s.repetitions a 0 (omega (arith, period.least.is.all, known)),
+      ) in
       weighed (slice_index s.repetitions a) (firing_weight d a) (period.least.is.positive a known) firings
       (weight_is_cost d a is known)
 

@@ -30,7 +30,9 @@ pub enum Pace {
         tenths: u64,
     },
     /// In one thread: the workers could be only so many tenths as fast as one.
-    Slow { tenths: u64 },
+    Slow {
+        tenths: u64,
+    },
     /// In one thread: one worker is asked for.
     Alone,
     /// In one thread: there is no plan for the workers.
@@ -69,11 +71,7 @@ fn in_one_thread(alloc: Global, design: &Design, pace: Pace) -> Result<Paced, Fa
 }
 
 /// The homes of so many actors by a table.
-fn homes_of(
-    alloc: Global,
-    table: &Table,
-    actors: usize,
-) -> Result<Vec<Option<usize>>, AllocError>
+fn homes_of(alloc: Global, table: &Table, actors: usize) -> Result<Vec<Option<usize>>, AllocError>
     requires { length table.now.homes ≡ actors }
     ensures { IfOk result (λ v. v.items ≡ table.now.homes) }
 {
@@ -85,12 +83,7 @@ fn homes_of(
 }
 
 /// At most so many tenths as fast as one the workers of a plan can be.
-fn tenths_of(
-    alloc: Global,
-    design: &Design,
-    workers: usize,
-    plan: &Plan,
-) -> Result<u64, AllocError>
+fn tenths_of(alloc: Global, design: &Design, workers: usize, plan: &Plan) -> Result<u64, AllocError>
     requires plan { IsPlanOf design.now (crew_options workers) plan.now }
     requires suits { Suits design.now.net plan.now }
     requires workers { IsWorkers workers }
@@ -107,12 +100,7 @@ fn tenths_of(
 }
 
 /// A plan for several workers where these can be fast enough, and else one for one thread.
-fn by_crew(
-    alloc: Global,
-    design: &Design,
-    workers: usize,
-    plan: Plan,
-) -> Result<Paced, Fault>
+fn by_crew(alloc: Global, design: &Design, workers: usize, plan: Plan) -> Result<Paced, Fault>
     requires plan { IsPlanOf design.now (crew_options workers) plan }
     requires suits { Suits design.now.net plan }
     requires workers { IsWorkers workers }

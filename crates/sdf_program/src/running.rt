@@ -161,14 +161,21 @@ fn pace_text(alloc: Global, pace: Pace) -> Result<String, AllocError> {
             tenths,
         } => {
             let (whole, tenth) = (tenths / 10, tenths % 10);
-            format!(in alloc; "{workers} workers, blocks of {samples} samples, at most {whole}.{tenth} times\n")
+            format!(in alloc;
+                "{workers} workers, blocks of {samples} samples, at most {whole}.{tenth} times\n"
+            )
         }
         Pace::Slow { tenths } => {
             let (whole, tenth) = (tenths / 10, tenths % 10);
-            format!(in alloc; "one thread: workers could be at most {whole}.{tenth} times as fast\n")
+            format!(in alloc;
+                "one thread: workers could be at most {whole}.{tenth} times as fast\n"
+            )
         }
         Pace::Alone => String::from_str(alloc, "one thread: one worker is asked for\n"),
-        Pace::Unplanned => String::from_str(alloc, "one thread: there is no plan for the workers\n"),
+        Pace::Unplanned => String::from_str(
+            alloc,
+            "one thread: there is no plan for the workers\n",
+        ),
     }
 }
 
@@ -193,7 +200,11 @@ pub(crate) fn run_parallel<
     let alloc = world.threads.alloc();
     let paths = asked.paths;
     let loaded = load_into(alloc, world.storage, paths.graph, world.most, sources)?;
-    let Paced { plan, pace } = parallel_plan(alloc, &loaded.design, workers_of(world.threads, asked.crew))?;
+    let Paced { plan, pace } = parallel_plan(
+        alloc,
+        &loaded.design,
+        workers_of(world.threads, asked.crew),
+    )?;
     if asked.why {
         let _ = err.write_all(pace_text(alloc, pace)?.as_bytes());
     }

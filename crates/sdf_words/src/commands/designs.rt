@@ -110,7 +110,14 @@ const PARALLEL: Switch = Switch {
 It is `--runner rings --placement spread --policy runs` with a patience of 100000; and one thread, where
 these workers could not be 1.2 times as fast by what the actors weigh, or there is no table for them.
 With `--why` a line on standard error says which",
-    against: &["blocking", "workers", "policy", "placement", "runner", "patience"],
+    against: &[
+        "blocking",
+        "workers",
+        "policy",
+        "placement",
+        "runner",
+        "patience",
+    ],
     value: Some(("M", Values::Unsigned(1, MOST_WORKERS as u64))),
 };
 
