@@ -10,7 +10,7 @@ use sdf_file::{Design, design_files, read_design};
 use sdf_process::Fault;
 use sdf_why::Header;
 use std::alloc::{AllocError, Global};
-use std::io::{self, ErrorKind, Read};
+use std::io::{self, ErrorKind, Read, Write};
 use std::path::Path;
 
 /// The most bytes of a graph file or a coefficient file.
@@ -43,6 +43,22 @@ pub fn read_all<F: Read + Drop>(alloc: Global, file: F, most: u32) -> Result<Vec
     match bytes_of(alloc, file, most) {
         Ok(bytes) => Ok(bytes),
         Err(error) => Err(device_fault(&error, Fault::Read)),
+    }
+}
+
+/// Writes bytes.
+pub(crate) fn put<W: Write>(to: &mut W, bytes: &[u8]) -> Result<(), Fault> {
+    match to.write_all(bytes) {
+        Ok(()) => Ok(()),
+        Err(error) => Err(device_fault(&error, Fault::Write)),
+    }
+}
+
+/// Makes a file of bytes, or fills it anew.
+pub(crate) fn write_at<S: Storage>(storage: &S, path: &str, bytes: &[u8]) -> Result<(), Fault> {
+    match storage.create(path) {
+        Ok(mut file) => put(&mut file, bytes),
+        Err(error) => Err(device_fault(&error, Fault::Write)),
     }
 }
 

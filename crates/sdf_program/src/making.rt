@@ -1,6 +1,6 @@
 //! The commands that make filters and converters.
 
-use crate::files::device_fault;
+use crate::files::{device_fault, write_at};
 use crate::overwriting::{keep_file, only_path};
 use crate::printing::show;
 use crate::program::World;
@@ -84,10 +84,7 @@ fn write_into<S: Storage, T: AllocGlobal>(
     text: &str,
 ) -> Result<(), Fault> {
     let path = format!(in world.threads.alloc(); "{folder}/{name}")?;
-    match world.storage.create(path.as_str()) {
-        Ok(mut file) => show(&mut file, text),
-        Err(error) => Err(device_fault(&error, Fault::Write)),
-    }
+    write_at(world.storage, path.as_str(), text.as_bytes())
 }
 
 /// Writes the files of a converter into a folder, and on standard error what the taps of each stage do.

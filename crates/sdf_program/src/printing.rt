@@ -2,7 +2,7 @@
 
 ghost use Rattle.sdf_options.specs.Limits.{AreWithinLimits};
 
-use crate::files::{Loaded, Sources, device_fault, load, load_into};
+use crate::files::{Loaded, Sources, load, load_into, put};
 use crate::program::World;
 use crate::storage::Storage;
 use sdf_analyze::{analyze, compare};
@@ -17,10 +17,7 @@ use std::io::Write;
 
 /// Prints an answer.
 pub(crate) fn show<O: Write>(out: &mut O, answer: &str) -> Result<(), Fault> {
-    match out.write_all(answer.as_bytes()) {
-        Ok(()) => Ok(()),
-        Err(error) => Err(device_fault(&error, Fault::Write)),
-    }
+    put(out, answer.as_bytes())
 }
 
 /// Says what a design is, where it can be scheduled.

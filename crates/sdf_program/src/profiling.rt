@@ -1,11 +1,10 @@
 //! The command that measures a run.
 
-use crate::files::{Loaded, Sources, device_fault, load_into, read_all};
+use crate::files::{Loaded, Sources, device_fault, load_into, put, read_all, write_at};
 use crate::overwriting::{Paths, keep_what_is_read};
 use crate::printing::show;
 use crate::program::{STANDARD, World};
 use crate::storage::Storage;
-use sdf_file::Design;
 use sdf_process::Fault;
 use sdf_profile::{Measured, Unwritten, costed_text, profile};
 use sdf_words::mistake;
@@ -30,21 +29,17 @@ fn bytes_at<S: Storage, T: AllocGlobal, I: Read>(
     }
 }
 
-/// What is wrong with a graph file's text that no costs can be written into.
-fn unwritten(alloc: Global, design: &Design, fault: Unwritten) -> Result<Fault, AllocError> {
+/// What is wrong with a graph file of so many actors whose text no costs can be written into.
+fn unwritten(alloc: Global, actors: usize, fault: Unwritten) -> Result<Fault, AllocError> {
     let text = match fault {
         Unwritten::OutOfMemory => return Ok(Fault::OutOfMemory),
-        Unwritten::Tables(lines) => {
-            let actors = design.costs().len();
-            format!(in alloc;
-                "GRAPH has {lines} lines [[actor]] for {actors} actors: costs want one for each"
-            )?
-        }
-        Unwritten::Cost(actor) if actor < design.costs().len() => {
-            let name = design.name(actor);
-            format!(in alloc; "the cost of actor {name} is to be a line of GRAPH like `cost = 12`")?
-        }
-        _ => format!(in alloc;
+        Unwritten::Tables(lines) => format!(in alloc;
+            "GRAPH has {lines} lines [[actor]] for {actors} actors: costs want one for each"
+        )?,
+        Unwritten::Cost(actor) => format!(in alloc;
+            "the cost of actor {actor}, counted from 0, is to be a line of GRAPH like `cost = 12`"
+        )?,
+        Unwritten::Reading => format!(in alloc;
             "with costs GRAPH would say something else: each key wants a line of its own"
         )?,
     };
@@ -52,32 +47,10 @@ fn unwritten(alloc: Global, design: &Design, fault: Unwritten) -> Result<Fault, 
 }
 
 /// The text of the graph file that was read, with these costs.
-fn costed<S, T: AllocGlobal>(
-    world: &World<S, T>,
-    sources: &Sources,
-    design: &Design,
-    costs: &[u32],
-) -> Result<Vec<u8>, Fault> {
-    let alloc = world.threads.alloc();
+fn costed(alloc: Global, sources: &Sources, costs: &[u32]) -> Result<Vec<u8>, Fault> {
     match costed_text(alloc, &sources.graph, &sources.files, costs) {
         Ok(text) => Ok(text),
-        Err(fault) => Err(unwritten(alloc, design, fault)?),
-    }
-}
-
-/// Writes bytes.
-fn put<W: Write>(to: &mut W, bytes: &[u8]) -> Result<(), Fault> {
-    match to.write_all(bytes) {
-        Ok(()) => Ok(()),
-        Err(error) => Err(device_fault(&error, Fault::Write)),
-    }
-}
-
-/// Writes a graph file's text into a file.
-fn write_at<S: Storage, T>(world: &World<S, T>, path: &str, text: &[u8]) -> Result<(), Fault> {
-    match world.storage.create(path) {
-        Ok(mut file) => put(&mut file, text),
-        Err(error) => Err(device_fault(&error, Fault::Write)),
+        Err(fault) => Err(unwritten(alloc, costs.len(), fault)?),
     }
 }
 
@@ -114,12 +87,12 @@ where
         output,
     };
     keep_what_is_read(alloc, world.storage, "FILE", paths, &names)?;
-    costed(world, &sources, &design, design.costs())?;
+    costed(alloc, &sources, design.costs())?;
     let Measured { text, costs } = profile(world.threads, &bytes, &design)?;
-    let written = costed(world, &sources, &design, &costs)?;
+    let written = costed(alloc, &sources, &costs)?;
     if output == STANDARD {
         return put(out, &written);
     }
-    write_at(world, output, &written)?;
+    write_at(world.storage, output, &written)?;
     show(out, text.as_str())
 }
