@@ -13,8 +13,8 @@ use sdf_process::Fault;
 use sdf_process::schedule::scheduled;
 use std::alloc::Global;
 
-/// The table that options give a design, and its figures.
-pub(crate) fn figured(
+/// The table that options give a design, and its figures. The tests are those of `sdf_process::schedule::scheduled`.
+pub fn figured(
     alloc: Global,
     design: &Design,
     options: &Options,
