@@ -4,6 +4,7 @@ ghost use Rattle.std.specs.Prelude.{◌≡◌, ◌<◌, ◌≤◌, length};
 ghost use Rattle.sdf_limits.specs.declared.TheConstants.{MOST_PORTS};
 ghost use Rattle.sdf_actor.specs.Nets.{node, inputs_of, outputs_of};
 ghost use Rattle.sdf_kit.specs.Kit.{kit_steps};
+ghost use Rattle.sdf_draw.specs.Shapes.{kit_shape, shape_of};
 
 use sdf_actor::Node;
 use sdf_file::Design;
@@ -25,14 +26,23 @@ pub(crate) struct PortCounts {
     pub(crate) outputs: usize,
 }
 
+fn kit_shape(kit: &Kit) -> Shape
+    ensures { result ≡ kit_shape kit.now }
+{
+    match kit {
+        Kit::Fir(_) => Shape::Filter,
+        _ => Shape::Plain,
+    }
+}
+
 pub(crate) fn shape_of(design: &Design, actor: usize) -> Shape
     requires { actor < length design.now.net.nodes }
+    ensures { result ≡ shape_of (node design.now.net actor) }
 {
     match design.net().node(actor) {
         Node::Source { .. } => Shape::Source,
         Node::Sink { .. } => Shape::Sink,
-        Node::Inner(Kit::Fir(_)) => Shape::Filter,
-        Node::Inner(_) => Shape::Plain,
+        Node::Inner(kit) => kit_shape(kit),
     }
 }
 
