@@ -1,15 +1,10 @@
 -- Parts of the texts.
-use Rattle.std.specs.Prelude.{ℕ, zero, suc, List, [], ◌++◌, ◌==◌, if◌then◌else◌, length, sum, codes, decimal}
+use Rattle.std.specs.Prelude.{ℕ, List, [], ◌++◌, ◌==◌, if◌then◌else◌, length, sum, codes, decimal}
 use Rattle.std.specs.Prelude.{encode_utf8}
 use Rattle.std.specs.Prelude.{slice_index_or}
 use Rattle.std.specs.List.{flat_map}
 use Rattle.std.specs.Str.{chars}
 use Rattle.sdf_file.specs.Designs.{DesignValue}
-
--- the texts of the first n
-abbrev pub texts_to : (ℕ → List ℕ) → ℕ → List ℕ
-texts_to text zero = []
-texts_to text (suc n) = texts_to text n ++ text n
 
 -- a text and a number
 abbrev pub number_text : List ℕ → ℕ → List ℕ

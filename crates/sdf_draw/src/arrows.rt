@@ -1,12 +1,16 @@
 //! The text of arrows.
 
-ghost use Rattle.std.specs.Prelude.{◌≡◌, ◌<◌, ◌≤◌, length};
+ghost use Rattle.std.specs.Prelude.{◌≡◌, ◌<◌, ◌≤◌, ◌++◌, OnOk, length, slice_index, string_bytes, codes};
 ghost use Rattle.sdf_limits.specs.declared.TheConstants.{MOST_CYCLE, MOST_PORTS};
 ghost use Rattle.sdf_actor.specs.Nets.{wire};
-ghost use Rattle.sdf_draw.specs.Layouts.{IsNear};
+ghost use Rattle.sdf_draw.specs.Layouts.{IsNear, route};
+ghost use Rattle.sdf_draw.specs.Edges.{edge};
+ghost use Rattle.sdf_draw.specs.Arrows.{port_height, start_of, end_of, shift_of, curve_text, turns_text, way_text};
+ghost use Rattle.sdf_draw.specs.Arrows.{line_text, put_text, take_text, capacity_text, dot_text, initial_text};
+ghost use Rattle.sdf_draw.specs.Arrows.{arrow_text, arrows_text};
 
 use crate::layout::{Layout, PORT, Place, Route, lane_above};
-use crate::ports::ports_of;
+use crate::ports::{channel_of, ports_of};
 use crate::texts::{COLOURS, push_number, push_rate};
 use sdf_file::Design;
 use sdf_graph::Channel;
@@ -34,7 +38,8 @@ pub(crate) struct Spot {
 /// How high a port stands at a box.
 fn port_height(place: Place, ports: usize, port: usize) -> u64
     requires { (ports ≤ MOST_PORTS) × (port < MOST_PORTS) }
-    ensures { result < 10000000000 }
+    ensures is { result ≡ port_height place ports port }
+    ensures small { result < 10000000000 }
 {
     let rest = u64::from(place.height).saturating_sub(PORT * ports as u64);
     place.top() + rest / 2 + PORT * port as u64 + PORT / 2
@@ -72,7 +77,8 @@ fn to_of(design: &Design, link: usize) -> (usize, usize)
 fn start_of(design: &Design, layout: &Layout, link: usize) -> Spot
     requires link { link < length design.now.net.wires }
     requires boxes { length layout.now.places.items ≡ length design.now.net.nodes }
-    ensures { IsNear result }
+    ensures is { result ≡ start_of design.now layout.now.places.items link }
+    ensures near { IsNear result }
 {
     let (actor, port) = from_of(design, link);
     let place = layout.places[actor];
@@ -86,7 +92,8 @@ fn start_of(design: &Design, layout: &Layout, link: usize) -> Spot
 fn end_of(design: &Design, layout: &Layout, link: usize) -> Spot
     requires link { link < length design.now.net.wires }
     requires boxes { length layout.now.places.items ≡ length design.now.net.nodes }
-    ensures { IsNear result }
+    ensures is { result ≡ end_of design.now layout.now.places.items link }
+    ensures near { IsNear result }
 {
     let (actor, port) = to_of(design, link);
     let place = layout.places[actor];
@@ -97,8 +104,10 @@ fn end_of(design: &Design, layout: &Layout, link: usize) -> Spot
 }
 
 /// Adds the curve of an arrow across a gap.
+#[tactic(auto, unfolding(crate::specs::Arrows::curve_text))]
 fn push_curve(text: &mut String, start: Spot, end: Spot) -> Result<(), AllocError>
     requires { IsNear start }
+    ensures { OnOk result (string_bytes text.new ≡ string_bytes text.old ++ curve_text start end) }
 {
     push_number(text, " C", start.x + STUB + 40)?;
     push_number(text, " ", start.y)?;
@@ -109,6 +118,7 @@ fn push_curve(text: &mut String, start: Spot, end: Spot) -> Result<(), AllocErro
 }
 
 /// Adds the corners of an arrow in a lane at this height.
+#[tactic(auto, unfolding(crate::specs::Arrows::turns_text))]
 fn push_turns(
     text: &mut String,
     start: Spot,
@@ -118,6 +128,7 @@ fn push_turns(
 ) -> Result<(), AllocError>
     requires start { IsNear start }
     requires shift { shift < 1000 }
+    ensures { OnOk result (string_bytes text.new ≡ string_bytes text.old ++ turns_text start end lane shift) }
 {
     push_number(text, " H", start.x + STUB + shift)?;
     push_number(text, " V", lane)?;
@@ -135,6 +146,8 @@ fn push_way(
 ) -> Result<(), AllocError>
     requires link { link < length layout.now.routes.items }
     requires start { IsNear start }
+    ensures { OnOk result (string_bytes text.new ≡ string_bytes text.old
+        ++ way_text layout.now.places.items (route layout.now.routes.items link) (shift_of link) start end) }
 {
     let shift = (link % SHIFTS) as u64 * SHIFT;
     match layout.routes[link] {
@@ -145,6 +158,7 @@ fn push_way(
 }
 
 /// Adds the line of an arrow, in the colour of the actor that it comes from.
+#[tactic(auto, unfolding(crate::specs::Arrows::line_text))]
 fn push_line(
     text: &mut String,
     layout: &Layout,
@@ -155,6 +169,8 @@ fn push_line(
 ) -> Result<(), AllocError>
     requires link { link < length layout.now.routes.items }
     requires start { IsNear start }
+    ensures { OnOk result (string_bytes text.new ≡ string_bytes text.old
+        ++ line_text layout.now.places.items (route layout.now.routes.items link) link colour start end) }
 {
     push_number(text, "<path class='way s", colour as u64)?;
     push_number(text, "' d='M", start.x)?;
@@ -166,9 +182,11 @@ fn push_line(
 }
 
 /// Adds what firings put at the beginning of an arrow.
+#[tactic(auto, unfolding(crate::specs::Arrows::put_text))]
 fn push_put(text: &mut String, channel: &Channel, start: Spot) -> Result<(), AllocError>
     requires start { IsNear start }
     requires rates { length channel.now.put ≤ MOST_CYCLE }
+    ensures { OnOk result (string_bytes text.new ≡ string_bytes text.old ++ put_text channel.now.put start) }
 {
     push_number(text, "<text x='", start.x + 5)?;
     push_number(text, "' y='", start.y.saturating_sub(4))?;
@@ -178,8 +196,10 @@ fn push_put(text: &mut String, channel: &Channel, start: Spot) -> Result<(), All
 }
 
 /// Adds what firings take at its end.
+#[tactic(auto, unfolding(crate::specs::Arrows::take_text))]
 fn push_take(text: &mut String, channel: &Channel, end: Spot) -> Result<(), AllocError>
     requires { length channel.now.take ≤ MOST_CYCLE }
+    ensures { OnOk result (string_bytes text.new ≡ string_bytes text.old ++ take_text channel.now.take end) }
 {
     push_number(text, "<text class='end' x='", end.x.saturating_sub(9))?;
     push_number(text, "' y='", end.y.saturating_sub(4))?;
@@ -189,8 +209,10 @@ fn push_take(text: &mut String, channel: &Channel, end: Spot) -> Result<(), Allo
 }
 
 /// Adds what the link holds at most, below its end.
+#[tactic(auto, unfolding(crate::specs::Arrows::capacity_text))]
 fn push_capacity(text: &mut String, capacity: u64, end: Spot) -> Result<(), AllocError>
     requires { IsNear end }
+    ensures { OnOk result (string_bytes text.new ≡ string_bytes text.old ++ capacity_text capacity end) }
 {
     push_number(text, "<text class='end soft' x='", end.x.saturating_sub(9))?;
     push_number(text, "' y='", end.y + 11)?;
@@ -198,11 +220,11 @@ fn push_capacity(text: &mut String, capacity: u64, end: Spot) -> Result<(), Allo
     text.push_str("</text>")
 }
 
-/// Adds the samples that a link begins with: none, or a dot and their number.
-fn push_initial(text: &mut String, initial: usize, end: Spot) -> Result<(), AllocError> {
-    if initial == 0 {
-        return Ok(());
-    }
+/// Adds a dot, and the number of the samples that a link begins with.
+#[tactic(auto, unfolding(crate::specs::Arrows::dot_text))]
+fn push_dot(text: &mut String, initial: usize, end: Spot) -> Result<(), AllocError>
+    ensures { OnOk result (string_bytes text.new ≡ string_bytes text.old ++ dot_text initial end) }
+{
     push_number(
         text,
         "<circle class='dot' r='4' cx='",
@@ -213,6 +235,16 @@ fn push_initial(text: &mut String, initial: usize, end: Spot) -> Result<(), Allo
     push_number(text, "' y='", end.y.saturating_sub(6))?;
     push_number(text, "'>", initial as u64)?;
     text.push_str("</text>")
+}
+
+/// Adds the samples that a link begins with, where there are some.
+fn push_initial(text: &mut String, initial: usize, end: Spot) -> Result<(), AllocError>
+    ensures { OnOk result (string_bytes text.new ≡ string_bytes text.old ++ initial_text initial end) }
+{
+    if initial == 0 {
+        return Ok(());
+    }
+    push_dot(text, initial, end)
 }
 
 /// Adds the arrow of a link.
@@ -227,8 +259,10 @@ fn push_arrow(
     requires boxes { length layout.now.places.items ≡ length design.now.net.nodes }
     requires routes { length layout.now.routes.items ≡ length design.now.net.wires }
     requires capacities { length table.now.caps ≡ length design.now.net.wires }
+    ensures { OnOk result (string_bytes text.new ≡ string_bytes text.old ++ arrow_text design.now table.now.caps
+        layout.now.places.items layout.now.routes.items link) }
 {
-    let channel = &design.net().graph().channels()[link];
+    let channel = channel_of(design, link);
     let start = start_of(design, layout, link);
     let end = end_of(design, layout, link);
     push_line(text, layout, link, channel.from % COLOURS, start, end)?;
@@ -249,6 +283,8 @@ pub(crate) fn push_arrows(
     requires boxes { length layout.now.places.items ≡ length design.now.net.nodes }
     requires routes { length layout.now.routes.items ≡ length design.now.net.wires }
     requires capacities { length table.now.caps ≡ length design.now.net.wires }
+    ensures { OnOk result (string_bytes text.new ≡ string_bytes text.old ++ arrows_text design.now table.now.caps
+        layout.now.places.items layout.now.routes.items) }
 {
     for link in 0..design.net().channels() {
         push_arrow(text, design, layout, table, link)?;

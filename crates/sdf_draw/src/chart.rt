@@ -1,16 +1,18 @@
 //! The text of a table against time.
 
-ghost use Rattle.std.specs.Prelude.{◌≡◌, ℕ, ◌<◌, ◌≤◌, length};
-ghost use Rattle.std.specs.List.{All};
+ghost use Rattle.std.specs.Prelude.{◌≡◌, ℕ, ◌<◌, ◌≤◌, ◌*◌, ◌++◌, OnOk, length, string_bytes, codes};
+ghost use Rattle.std.specs.List.{All, flat_map};
 ghost use Rattle.sdf_limits.specs.declared.TheConstants.{MOST_WORKERS};
 ghost use Rattle.sdf_prec.specs.declared.firing.Firing.{Firing};
 ghost use Rattle.sdf_prec.specs.Tables.{row};
 ghost use Rattle.sdf_times.specs.Times.{IsInTable};
 ghost use Rattle.sdf_draw.specs.Bars.{IsDrawable, AreDrawable, scaled};
+ghost use Rattle.sdf_draw.specs.Charts.{bar_text, lane_text, frame_text, lanes_text, worker_text, workers_text};
+ghost use Rattle.sdf_draw.specs.Charts.{bound_text, axis_text, chart_text};
 
 use crate::bars::{Bar, bars_in};
 use crate::texts::{COLOURS, push_name, push_number};
-use crate::timed::Timed;
+use sdf_analyze::Figures;
 use sdf_file::Design;
 use sdf_prec::Table;
 use std::alloc::{AllocError, Global};
@@ -34,9 +36,11 @@ fn scaled(time: u64, makespan: u64) -> u128
 }
 
 /// Adds a bar: its place and its width are times.
+#[tactic(auto, unfolding(crate::specs::Charts::bar_text))]
 fn push_bar(text: &mut String, design: &Design, worker: usize, bar: Bar) -> Result<(), AllocError>
     requires worker { worker < MOST_WORKERS }
     requires actor { bar.actor < length design.now.net.nodes }
+    ensures { OnOk result (string_bytes text.new ≡ string_bytes text.old ++ bar_text design.now worker bar) }
 {
     push_number(text, "<rect class='f", (bar.actor % COLOURS) as u64)?;
     push_number(text, "' x='", bar.start)?;
@@ -58,6 +62,7 @@ fn push_bars(
 ) -> Result<(), AllocError>
     requires worker { worker < MOST_WORKERS }
     requires actors { All (λ b. b.actor < length design.now.net.nodes) bars.now }
+    ensures { OnOk result (string_bytes text.new ≡ string_bytes text.old ++ flat_map (bar_text design.now worker) bars.now) }
 {
     for bar in bars {
         push_bar(text, design, worker, *bar)?;
@@ -66,23 +71,38 @@ fn push_bars(
 }
 
 /// Adds the bars of a worker.
+#[tactic(auto, unfolding(crate::specs::Charts::lane_text))]
 fn push_lane(
     alloc: Global,
     text: &mut String,
     design: &Design,
     table: &Table,
-    timed: &Timed,
+    figures: &Figures,
     worker: usize,
 ) -> Result<(), AllocError>
     requires few { worker < MOST_WORKERS }
     requires wide { (i : ℕ) → i < length table.now.rows → worker < length (row table.now.rows i) }
     requires each { (f : Firing) → IsInTable table.now.rows f →
-        IsDrawable design.now.costs timed.now.times.starts f }
+        IsDrawable design.now.costs figures.now.starts f }
+    ensures { OnOk result (string_bytes text.new ≡
+        string_bytes text.old ++ lane_text design.now table.now figures.now.starts worker) }
 {
     let _ = design.net();
     let joined = table.order().len() > MOST_BARS;
-    let bars = bars_in(alloc, table, &timed.times, design.costs(), worker, joined)?;
+    let bars = bars_in(alloc, table, figures, design.costs(), worker, joined)?;
     push_bars(text, design, worker, bars.as_slice())
+}
+
+/// Adds where the bars begin: the makespan is as wide as the chart.
+#[tactic(auto, unfolding(crate::specs::Charts::frame_text))]
+fn push_frame(text: &mut String, makespan: u64, end: u64) -> Result<(), AllocError>
+    ensures { OnOk result (string_bytes text.new ≡ string_bytes text.old ++ frame_text makespan end) }
+{
+    push_number(text, "<svg preserveAspectRatio='none' width='", CHART)?;
+    push_number(text, "' height='", end)?;
+    push_number(text, "' viewBox='0 0 ", makespan)?;
+    push_number(text, " ", end)?;
+    text.push_str("'>\n")
 }
 
 /// Adds the bars of all workers, in units of time.
@@ -91,26 +111,26 @@ fn push_lanes(
     text: &mut String,
     design: &Design,
     table: &Table,
-    timed: &Timed,
+    figures: &Figures,
     workers: usize,
 ) -> Result<(), AllocError>
     requires few { workers ≤ MOST_WORKERS }
-    requires bars { AreDrawable design.now workers table.now timed.now.times.starts }
+    requires bars { AreDrawable design.now workers table.now figures.now.starts }
+    ensures { OnOk result (string_bytes text.new ≡
+        string_bytes text.old ++ lanes_text design.now table.now figures.now workers) }
 {
-    push_number(text, "<svg preserveAspectRatio='none' width='", CHART)?;
-    push_number(text, "' height='", ROW * workers as u64)?;
-    push_number(text, "' viewBox='0 0 ", timed.makespan)?;
-    push_number(text, " ", ROW * workers as u64)?;
-    text.push_str("'>\n")?;
+    push_frame(text, figures.makespan(), ROW * workers as u64)?;
     for worker in 0..workers {
-        push_lane(alloc, text, design, table, timed, worker)?;
+        push_lane(alloc, text, design, table, figures, worker)?;
     }
     text.push_str("</svg>\n")
 }
 
 /// Adds the name of a worker's lane, and a line under it.
+#[tactic(auto, unfolding(crate::specs::Charts::worker_text))]
 fn push_worker(text: &mut String, worker: usize) -> Result<(), AllocError>
     requires { worker < MOST_WORKERS }
+    ensures { OnOk result (string_bytes text.new ≡ string_bytes text.old ++ worker_text worker) }
 {
     let below = ROW * worker as u64 + ROW;
     push_number(text, "<text class='end' x='-10' y='", below - 10)?;
@@ -123,6 +143,7 @@ fn push_worker(text: &mut String, worker: usize) -> Result<(), AllocError>
 /// Adds the names of all lanes.
 fn push_workers(text: &mut String, workers: usize) -> Result<(), AllocError>
     requires { workers ≤ MOST_WORKERS }
+    ensures { OnOk result (string_bytes text.new ≡ string_bytes text.old ++ workers_text workers) }
 {
     for worker in 0..workers {
         push_worker(text, worker)?;
@@ -131,17 +152,22 @@ fn push_workers(text: &mut String, workers: usize) -> Result<(), AllocError>
 }
 
 /// Adds the line of the bound, with its number above it.
-fn push_bound(text: &mut String, timed: &Timed, end: u64) -> Result<(), AllocError> {
-    let place = scaled(timed.bound, timed.makespan);
+#[tactic(auto, unfolding(crate::specs::Charts::bound_text))]
+fn push_bound(text: &mut String, figures: &Figures, end: u64) -> Result<(), AllocError>
+    ensures { OnOk result (string_bytes text.new ≡ string_bytes text.old ++ bound_text figures.now end) }
+{
+    let place = scaled(figures.bound(), figures.makespan());
     write!(text, "<path class='bound' d='M{place} -8 V{end}'/>")?;
     write!(text, "<text class='end' x='{place}' y='-12'>")?;
-    push_number(text, "bound ", timed.bound)?;
+    push_number(text, "bound ", figures.bound())?;
     text.push_str("</text>\n")
 }
 
 /// Adds the times at the ends.
+#[tactic(auto, unfolding(crate::specs::Charts::axis_text))]
 fn push_axis(text: &mut String, makespan: u64, end: u64) -> Result<(), AllocError>
     requires { end < 100000 }
+    ensures { OnOk result (string_bytes text.new ≡ string_bytes text.old ++ axis_text makespan end) }
 {
     push_number(text, "<path class='rule' d='M0 0 V", end)?;
     push_number(text, " M", CHART)?;
@@ -159,15 +185,17 @@ pub(crate) fn push_chart(
     text: &mut String,
     design: &Design,
     table: &Table,
-    timed: &Timed,
+    figures: &Figures,
     workers: usize,
 ) -> Result<(), AllocError>
     requires few { workers ≤ MOST_WORKERS }
-    requires bars { AreDrawable design.now workers table.now timed.now.times.starts }
+    requires bars { AreDrawable design.now workers table.now figures.now.starts }
+    ensures { OnOk result (string_bytes text.new ≡
+        string_bytes text.old ++ chart_text design.now table.now figures.now workers) }
 {
     let end = ROW * workers as u64;
     push_workers(text, workers)?;
-    push_lanes(alloc, text, design, table, timed, workers)?;
-    push_axis(text, timed.makespan, end)?;
-    push_bound(text, timed, end)
+    push_lanes(alloc, text, design, table, figures, workers)?;
+    push_axis(text, figures.makespan(), end)?;
+    push_bound(text, figures, end)
 }
