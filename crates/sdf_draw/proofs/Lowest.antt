@@ -1,5 +1,5 @@
--- The greatest of what is known of the first boxes.
-use Rattle.std.proofs.Common.{◌≡◌, ℕ, zero, suc, ◌<◌, List, [], ◌∷◌, length, take, max, arith}
+-- The greatest of what a function gives for boxes.
+use Rattle.std.proofs.Common.{◌≡◌, ℕ, zero, suc, ◌<◌, ◌≤◌, List, [], ◌∷◌, length, take, max, arith}
 use Rattle.sdf_draw.specs.declared.layout.Place.{Place}
 use Rattle.sdf_draw.specs.Layouts.{place, greatest_by}
 
@@ -8,3 +8,8 @@ pub greatest_take : (f : Place → ℕ) (ps : List Place) (i : ℕ) → i < leng
 greatest_take f [] i low = absurd (omega arith)
 greatest_take f (p ∷ ps) zero low = omega arith
 greatest_take f (p ∷ ps) (suc i) low = let ih = greatest_take f ps i (omega arith) in omega (arith, ih)
+
+pub greatest_above : (f : Place → ℕ) (ps : List Place) (a : ℕ) → a < length ps → f (place ps a) ≤ greatest_by f ps
+greatest_above f [] a low = absurd (omega arith)
+greatest_above f (p ∷ ps) zero low = omega arith
+greatest_above f (p ∷ ps) (suc a) low = let ih = greatest_above f ps a (omega arith) in omega (arith, ih)

@@ -1,5 +1,5 @@
 -- The text of arrows.
-use Rattle.std.specs.Prelude.{ℕ, ◌+◌, ◌-◌, ◌*◌, ◌/◌, ◌%◌, ◌==◌, ◌×◌, List, [], ◌++◌, if◌then◌else◌, codes, length}
+use Rattle.std.specs.Prelude.{ℕ, ◌+◌, ◌-◌, ◌*◌, ◌/◌, ◌%◌, ◌==◌, List, [], ◌++◌, if◌then◌else◌, codes, length}
 use Rattle.std.specs.Prelude.{slice_index}
 use Rattle.sdf_graph.specs.Rates.{Edge}
 use Rattle.sdf_actor.specs.Nets.{wire, node, inputs_of, outputs_of}
@@ -63,36 +63,45 @@ way_text ps Across shift start end = curve_text start end
 way_text ps (Above lane) shift start end = turns_text start end (lane_above lane) shift
 way_text ps (Below lane) shift start end = turns_text start end (lane_below ps lane) shift
 
--- the line of an arrow, in a colour
-unfoldable pub line_text : List Place → Route → ℕ → ℕ → Spot → Spot → List ℕ
-line_text ps r c colour start end =
+-- the straight part that a line begins with, in a colour
+unfoldable pub stub_text : ℕ → Spot → List ℕ
+stub_text colour start =
     number_text (codes "<path class='way s") colour ++ number_text (codes "' d='M") start.x
     ++ number_text (codes " ") start.y ++ number_text (codes " H") (start.x + STUB)
-    ++ way_text ps r (shift_of c) start end ++ number_text (codes " H") (end.x - 2) ++ codes "'/>"
 
--- what firings put on it
+unfoldable pub line_text : List Place → Route → ℕ → ℕ → Spot → Spot → List ℕ
+line_text ps r c colour start end =
+    stub_text colour start ++ way_text ps r (shift_of c) start end ++ number_text (codes " H") (end.x - 2) ++ codes "'/>"
+
+-- what a text begins with, and where it stands
+abbrev pub at_text : List ℕ → ℕ → ℕ → List ℕ
+at_text word x y = number_text word x ++ number_text (codes "' y='") y
+
+-- what firings put on a link
 unfoldable pub put_text : List ℕ → Spot → List ℕ
 put_text put start =
-    number_text (codes "<text x='") (start.x + 5) ++ number_text (codes "' y='") (start.y - 4) ++ codes "'>"
-    ++ rate_text put ++ codes "</text>"
+    at_text (codes "<text x='") (start.x + 5) (start.y - 4) ++ codes "'>" ++ rate_text put ++ codes "</text>"
 
 -- what they take from it
 unfoldable pub take_text : List ℕ → Spot → List ℕ
 take_text take end =
-    number_text (codes "<text class='end' x='") (end.x - 9) ++ number_text (codes "' y='") (end.y - 4) ++ codes "'>"
-    ++ rate_text take ++ codes "</text>"
+    at_text (codes "<text class='end' x='") (end.x - 9) (end.y - 4) ++ codes "'>" ++ rate_text take ++ codes "</text>"
 
 -- what it holds at most
 unfoldable pub capacity_text : ℕ → Spot → List ℕ
 capacity_text capacity end =
-    number_text (codes "<text class='end soft' x='") (end.x - 9) ++ number_text (codes "' y='") (end.y + 11)
-    ++ number_text (codes "'>") capacity ++ codes "</text>"
+    at_text (codes "<text class='end soft' x='") (end.x - 9) (end.y + 11) ++ number_text (codes "'>") capacity
+    ++ codes "</text>"
+
+unfoldable pub circle_text : Spot → List ℕ
+circle_text end =
+    number_text (codes "<circle class='dot' r='4' cx='") (end.x - (TAIL - 4)) ++ number_text (codes "' cy='") end.y
+    ++ codes "'/>"
 
 -- the samples that it begins with: none, or a dot and their number
 unfoldable pub dot_text : ℕ → Spot → List ℕ
 dot_text initial end =
-    number_text (codes "<circle class='dot' r='4' cx='") (end.x - (TAIL - 4)) ++ number_text (codes "' cy='") end.y
-    ++ number_text (codes "'/><text x='") (end.x - (TAIL - 2)) ++ number_text (codes "' y='") (end.y - 6)
+    circle_text end ++ at_text (codes "<text x='") (end.x - (TAIL - 2)) (end.y - 6)
     ++ number_text (codes "'>") initial ++ codes "</text>"
 
 abbrev pub initial_text : ℕ → Spot → List ℕ

@@ -1,5 +1,5 @@
 -- The text of boxes.
-use Rattle.std.specs.Prelude.{ℕ, ◌+◌, ◌-◌, ◌/◌, ◌%◌, ◌×◌, List, [], ◌∷◌, ◌++◌, if◌then◌else◌, codes, length, nat_lt}
+use Rattle.std.specs.Prelude.{ℕ, ◌+◌, ◌-◌, ◌/◌, ◌%◌, List, [], ◌∷◌, ◌++◌, if◌then◌else◌, codes, length, nat_lt}
 use Rattle.std.specs.Prelude.{slice_index, slice_index_or}
 use Rattle.std.specs.List.{flat_map}
 use Rattle.sdf_actor.specs.Nets.{node}

@@ -13,12 +13,20 @@ use Rattle.sdf_draw.specs.Bars.{bar_of, bars_to, scaled}
 use Rattle.sdf_draw.specs.Texts.{number_text, name_text}
 
 -- a bar of worker k, in the colour of its actor, from its start to its end
-unfoldable pub bar_text : DesignValue → ℕ → Bar → List ℕ
-bar_text d k b =
+unfoldable pub rect_text : ℕ → Bar → List ℕ
+rect_text k b =
     number_text (codes "<rect class='f") (b.actor % COLOURS) ++ number_text (codes "' x='") b.start
     ++ number_text (codes "' width='") (b.end - b.start) ++ number_text (codes "' y='") (ROW * k + 4)
-    ++ codes "' height='22'><title>" ++ name_text d b.actor ++ number_text (codes " ") b.start
-    ++ number_text (codes " to ") b.end ++ codes "</title></rect>\n"
+    ++ codes "' height='22'>"
+
+-- the name of its actor and its times
+unfoldable pub title_text : DesignValue → Bar → List ℕ
+title_text d b =
+    codes "<title>" ++ name_text d b.actor ++ number_text (codes " ") b.start ++ number_text (codes " to ") b.end
+    ++ codes "</title></rect>\n"
+
+abbrev pub bar_text : DesignValue → ℕ → Bar → List ℕ
+bar_text d k b = rect_text k b ++ title_text d b
 
 -- the bars of worker k: of its firings in row order, which are joined where the table has many firings
 abbrev pub bars_of : DesignValue → Tabled → List (List ℕ) → ℕ → List Bar
@@ -50,20 +58,31 @@ worker_text k =
 abbrev pub workers_text : ℕ → List ℕ
 workers_text m = lines_to worker_text m
 
+-- a line down to the end, so far from the left
+abbrev pub mark_text : ℕ → ℕ → List ℕ
+mark_text place end = codes "<path class='bound' d='M" ++ decimal place ++ codes " -8 V" ++ decimal end ++ codes "'/>"
+
 -- the line of the bound, with its number above it
 unfoldable pub bound_text : Figured → ℕ → List ℕ
 bound_text f end =
-    codes "<path class='bound' d='M" ++ decimal (scaled f.bound f.makespan) ++ codes " -8 V" ++ decimal end
-    ++ codes "'/>" ++ codes "<text class='end' x='" ++ decimal (scaled f.bound f.makespan) ++ codes "' y='-12'>"
-    ++ number_text (codes "bound ") f.bound ++ codes "</text>\n"
+    mark_text (scaled f.bound f.makespan) end ++ codes "<text class='end' x='" ++ decimal (scaled f.bound f.makespan)
+    ++ codes "' y='-12'>" ++ number_text (codes "bound ") f.bound ++ codes "</text>\n"
+
+-- a line at each end of the times
+unfoldable pub rules_text : ℕ → List ℕ
+rules_text end =
+    number_text (codes "<path class='rule' d='M0 0 V") end ++ number_text (codes " M") CHART
+    ++ number_text (codes " 0 V") end ++ codes "'/>"
+
+unfoldable pub makespan_text : ℕ → ℕ → List ℕ
+makespan_text makespan y =
+    number_text (codes "<text class='end' x='") CHART ++ number_text (codes "' y='") y
+    ++ number_text (codes "'>makespan ") makespan ++ codes "</text>\n"
 
 -- the times at the ends
-unfoldable pub axis_text : ℕ → ℕ → List ℕ
+abbrev pub axis_text : ℕ → ℕ → List ℕ
 axis_text makespan end =
-    number_text (codes "<path class='rule' d='M0 0 V") end ++ number_text (codes " M") CHART
-    ++ number_text (codes " 0 V") end ++ number_text (codes "'/><text y='") (end + 16)
-    ++ number_text (codes "'>0</text><text class='end' x='") CHART ++ number_text (codes "' y='") (end + 16)
-    ++ number_text (codes "'>makespan ") makespan ++ codes "</text>\n"
+    rules_text end ++ number_text (codes "<text y='") (end + 16) ++ codes "'>0</text>" ++ makespan_text makespan (end + 16)
 
 -- a table in m columns with its figures, against time
 abbrev pub chart_text : DesignValue → Tabled → Figured → ℕ → List ℕ

@@ -12,12 +12,16 @@ use Rattle.sdf_draw.specs.Arrows.{arrows_text}
 use Rattle.sdf_draw.specs.Boxes.{boxes_text}
 use Rattle.sdf_draw.specs.Charts.{chart_text}
 
-unfoldable pub head_text : ℕ → ℕ → List ℕ
-head_text width height =
-    HEAD_TEXT ++ number_text (codes " width='") width ++ number_text (codes "' height='") height
-    ++ number_text (codes "' viewBox='") LEFT ++ number_text (codes " 0 ") width ++ number_text (codes " ") height
+-- where it begins: it is so wide and so high, and which part is seen
+unfoldable pub size_text : ℕ → ℕ → List ℕ
+size_text width height = HEAD_TEXT ++ number_text (codes " width='") width ++ number_text (codes "' height='") height
+
+unfoldable pub view_text : ℕ → ℕ → List ℕ
+view_text width height =
+    number_text (codes "' viewBox='") LEFT ++ number_text (codes " 0 ") width ++ number_text (codes " ") height
     ++ codes "'>\n"
 
+-- the colours, and the page that all stands on
 unfoldable pub page_text : ℕ → ℕ → List ℕ
 page_text width height =
     STYLE ++ number_text (codes "<rect class='page' x='") LEFT ++ number_text (codes "' width='") width
@@ -25,6 +29,11 @@ page_text width height =
 
 unfoldable pub legend_text : List ℕ
 legend_text = number_text (codes "<text class='soft' y='24' x='") (LEFT + 20) ++ codes "'>" ++ LEGEND ++ codes "</text>\n"
+
+-- what stands before the arrows
+abbrev pub head_text : ℕ → ℕ → List ℕ
+head_text width height =
+    size_text width height ++ view_text width height ++ page_text width height ++ legend_text
 
 unfoldable pub origin_text : ℕ → List ℕ
 origin_text top = number_text (codes "<g transform='translate(") ZERO ++ number_text (codes ",") top ++ codes ")'>\n"
@@ -40,11 +49,10 @@ width_of ps = max (rightmost ps) (ZERO + CHART) + 100 - LEFT
 abbrev pub height_of : List Place → ℕ → ℕ → ℕ
 height_of ps below m = chart_top ps below + ROW * m + 40
 
--- the text of what is drawn for m workers: an arrow for each link, a box for each actor, and the bars of each worker
+-- the text of what is drawn for m workers, part after part: an arrow for each link, a box for each actor, and the bars of each worker
 abbrev pub picture_text : DesignValue → ℕ → Drawn → List ℕ
 picture_text d m w =
     head_text (width_of w.places) (height_of w.places w.below m)
-    ++ page_text (width_of w.places) (height_of w.places w.below m) ++ legend_text
     ++ arrows_text d w.table.caps w.places w.routes
     ++ boxes_text d w.period.repetitions w.places
     ++ origin_text (chart_top w.places w.below)

@@ -6,7 +6,8 @@ ghost use Rattle.sdf_actor.specs.Nets.{wire};
 ghost use Rattle.sdf_draw.specs.Layouts.{IsNear, route};
 ghost use Rattle.sdf_draw.specs.Edges.{edge};
 ghost use Rattle.sdf_draw.specs.Arrows.{port_height, start_of, end_of, shift_of, curve_text, turns_text, way_text};
-ghost use Rattle.sdf_draw.specs.Arrows.{line_text, put_text, take_text, capacity_text, dot_text, initial_text};
+ghost use Rattle.sdf_draw.specs.Arrows.{stub_text, line_text, at_text, put_text, take_text, capacity_text};
+ghost use Rattle.sdf_draw.specs.Arrows.{circle_text, dot_text, initial_text};
 ghost use Rattle.sdf_draw.specs.Arrows.{arrow_text, arrows_text};
 
 use crate::layout::{Layout, PORT, Place, Route, lane_above};
@@ -157,6 +158,18 @@ fn push_way(
     }
 }
 
+/// Adds the straight part that a line begins with, in a colour.
+#[tactic(auto, unfolding(crate::specs::Arrows::stub_text))]
+fn push_stub(text: &mut String, colour: usize, start: Spot) -> Result<(), AllocError>
+    requires { IsNear start }
+    ensures { OnOk result (string_bytes text.new ≡ string_bytes text.old ++ stub_text colour start) }
+{
+    push_number(text, "<path class='way s", colour as u64)?;
+    push_number(text, "' d='M", start.x)?;
+    push_number(text, " ", start.y)?;
+    push_number(text, " H", start.x + STUB)
+}
+
 /// Adds the line of an arrow, in the colour of the actor that it comes from.
 #[tactic(auto, unfolding(crate::specs::Arrows::line_text))]
 fn push_line(
@@ -172,13 +185,18 @@ fn push_line(
     ensures { OnOk result (string_bytes text.new ≡ string_bytes text.old
         ++ line_text layout.now.places.items (route layout.now.routes.items link) link colour start end) }
 {
-    push_number(text, "<path class='way s", colour as u64)?;
-    push_number(text, "' d='M", start.x)?;
-    push_number(text, " ", start.y)?;
-    push_number(text, " H", start.x + STUB)?;
+    push_stub(text, colour, start)?;
     push_way(text, layout, link, start, end)?;
     push_number(text, " H", end.x.saturating_sub(2))?;
     text.push_str("'/>")
+}
+
+/// Adds what a text begins with, and where it stands.
+fn push_at(text: &mut String, word: &str, x: u64, y: u64) -> Result<(), AllocError>
+    ensures { OnOk result (string_bytes text.new ≡ string_bytes text.old ++ at_text word.now x y) }
+{
+    push_number(text, word, x)?;
+    push_number(text, "' y='", y)
 }
 
 /// Adds what firings put at the beginning of an arrow.
@@ -188,8 +206,7 @@ fn push_put(text: &mut String, channel: &Channel, start: Spot) -> Result<(), All
     requires rates { length channel.now.put ≤ MOST_CYCLE }
     ensures { OnOk result (string_bytes text.new ≡ string_bytes text.old ++ put_text channel.now.put start) }
 {
-    push_number(text, "<text x='", start.x + 5)?;
-    push_number(text, "' y='", start.y.saturating_sub(4))?;
+    push_at(text, "<text x='", start.x + 5, start.y.saturating_sub(4))?;
     text.push_str("'>")?;
     push_rate(text, channel.put.as_slice())?;
     text.push_str("</text>")
@@ -201,8 +218,8 @@ fn push_take(text: &mut String, channel: &Channel, end: Spot) -> Result<(), Allo
     requires { length channel.now.take ≤ MOST_CYCLE }
     ensures { OnOk result (string_bytes text.new ≡ string_bytes text.old ++ take_text channel.now.take end) }
 {
-    push_number(text, "<text class='end' x='", end.x.saturating_sub(9))?;
-    push_number(text, "' y='", end.y.saturating_sub(4))?;
+    let (x, y) = (end.x.saturating_sub(9), end.y.saturating_sub(4));
+    push_at(text, "<text class='end' x='", x, y)?;
     text.push_str("'>")?;
     push_rate(text, channel.take.as_slice())?;
     text.push_str("</text>")
@@ -214,16 +231,16 @@ fn push_capacity(text: &mut String, capacity: u64, end: Spot) -> Result<(), Allo
     requires { IsNear end }
     ensures { OnOk result (string_bytes text.new ≡ string_bytes text.old ++ capacity_text capacity end) }
 {
-    push_number(text, "<text class='end soft' x='", end.x.saturating_sub(9))?;
-    push_number(text, "' y='", end.y + 11)?;
+    let (x, y) = (end.x.saturating_sub(9), end.y + 11);
+    push_at(text, "<text class='end soft' x='", x, y)?;
     push_number(text, "'>", capacity)?;
     text.push_str("</text>")
 }
 
-/// Adds a dot, and the number of the samples that a link begins with.
-#[tactic(auto, unfolding(crate::specs::Arrows::dot_text))]
-fn push_dot(text: &mut String, initial: usize, end: Spot) -> Result<(), AllocError>
-    ensures { OnOk result (string_bytes text.new ≡ string_bytes text.old ++ dot_text initial end) }
+/// Adds a dot on an arrow, before its end.
+#[tactic(auto, unfolding(crate::specs::Arrows::circle_text))]
+fn push_circle(text: &mut String, end: Spot) -> Result<(), AllocError>
+    ensures { OnOk result (string_bytes text.new ≡ string_bytes text.old ++ circle_text end) }
 {
     push_number(
         text,
@@ -231,8 +248,17 @@ fn push_dot(text: &mut String, initial: usize, end: Spot) -> Result<(), AllocErr
         end.x.saturating_sub(TAIL - 4),
     )?;
     push_number(text, "' cy='", end.y)?;
-    push_number(text, "'/><text x='", end.x.saturating_sub(TAIL - 2))?;
-    push_number(text, "' y='", end.y.saturating_sub(6))?;
+    text.push_str("'/>")
+}
+
+/// Adds a dot, and the number of the samples that a link begins with.
+#[tactic(auto, unfolding(crate::specs::Arrows::dot_text))]
+fn push_dot(text: &mut String, initial: usize, end: Spot) -> Result<(), AllocError>
+    ensures { OnOk result (string_bytes text.new ≡ string_bytes text.old ++ dot_text initial end) }
+{
+    let (x, y) = (end.x.saturating_sub(TAIL - 2), end.y.saturating_sub(6));
+    push_circle(text, end)?;
+    push_at(text, "<text x='", x, y)?;
     push_number(text, "'>", initial as u64)?;
     text.push_str("</text>")
 }

@@ -7,8 +7,9 @@ ghost use Rattle.sdf_prec.specs.declared.firing.Firing.{Firing};
 ghost use Rattle.sdf_prec.specs.Tables.{row};
 ghost use Rattle.sdf_times.specs.Times.{IsInTable};
 ghost use Rattle.sdf_draw.specs.Bars.{IsDrawable, AreDrawable, scaled};
-ghost use Rattle.sdf_draw.specs.Charts.{bar_text, lane_text, frame_text, lanes_text, worker_text, workers_text};
-ghost use Rattle.sdf_draw.specs.Charts.{bound_text, axis_text, chart_text};
+ghost use Rattle.sdf_draw.specs.Charts.{rect_text, title_text, bar_text, lane_text, frame_text, lanes_text};
+ghost use Rattle.sdf_draw.specs.Charts.{worker_text, workers_text, mark_text, bound_text, rules_text};
+ghost use Rattle.sdf_draw.specs.Charts.{makespan_text, axis_text, chart_text};
 
 use crate::bars::{Bar, bars_in};
 use crate::texts::{COLOURS, push_name, push_number};
@@ -35,22 +36,40 @@ fn scaled(time: u64, makespan: u64) -> u128
         .unwrap_or(0)
 }
 
-/// Adds a bar: its place and its width are times.
-#[tactic(auto, unfolding(crate::specs::Charts::bar_text))]
-fn push_bar(text: &mut String, design: &Design, worker: usize, bar: Bar) -> Result<(), AllocError>
-    requires worker { worker < MOST_WORKERS }
-    requires actor { bar.actor < length design.now.net.nodes }
-    ensures { OnOk result (string_bytes text.new ≡ string_bytes text.old ++ bar_text design.now worker bar) }
+/// Adds the shape of a bar: its place and its width are times.
+#[tactic(auto, unfolding(crate::specs::Charts::rect_text))]
+fn push_rect(text: &mut String, worker: usize, bar: Bar) -> Result<(), AllocError>
+    requires { worker < MOST_WORKERS }
+    ensures { OnOk result (string_bytes text.new ≡ string_bytes text.old ++ rect_text worker bar) }
 {
     push_number(text, "<rect class='f", (bar.actor % COLOURS) as u64)?;
     push_number(text, "' x='", bar.start)?;
     push_number(text, "' width='", bar.end.saturating_sub(bar.start))?;
     push_number(text, "' y='", ROW * worker as u64 + 4)?;
-    text.push_str("' height='22'><title>")?;
+    text.push_str("' height='22'>")
+}
+
+/// Adds what is told of a bar: the name of its actor and its times.
+#[tactic(auto, unfolding(crate::specs::Charts::title_text))]
+fn push_title(text: &mut String, design: &Design, bar: Bar) -> Result<(), AllocError>
+    requires { bar.actor < length design.now.net.nodes }
+    ensures { OnOk result (string_bytes text.new ≡ string_bytes text.old ++ title_text design.now bar) }
+{
+    text.push_str("<title>")?;
     push_name(text, design, bar.actor)?;
     push_number(text, " ", bar.start)?;
     push_number(text, " to ", bar.end)?;
     text.push_str("</title></rect>\n")
+}
+
+/// Adds a bar.
+fn push_bar(text: &mut String, design: &Design, worker: usize, bar: Bar) -> Result<(), AllocError>
+    requires worker { worker < MOST_WORKERS }
+    requires actor { bar.actor < length design.now.net.nodes }
+    ensures { OnOk result (string_bytes text.new ≡ string_bytes text.old ++ bar_text design.now worker bar) }
+{
+    push_rect(text, worker, bar)?;
+    push_title(text, design, bar)
 }
 
 /// Adds these bars of a worker.
@@ -151,32 +170,57 @@ fn push_workers(text: &mut String, workers: usize) -> Result<(), AllocError>
     Ok(())
 }
 
+/// Adds a line down to the end at so far from the left.
+fn push_mark(text: &mut String, place: u128, end: u64) -> Result<(), AllocError>
+    ensures { OnOk result (string_bytes text.new ≡ string_bytes text.old ++ mark_text place end) }
+{
+    write!(text, "<path class='bound' d='M{place} -8 V{end}'/>")?;
+    Ok(())
+}
+
 /// Adds the line of the bound, with its number above it.
 #[tactic(auto, unfolding(crate::specs::Charts::bound_text))]
 fn push_bound(text: &mut String, figures: &Figures, end: u64) -> Result<(), AllocError>
     ensures { OnOk result (string_bytes text.new ≡ string_bytes text.old ++ bound_text figures.now end) }
 {
     let place = scaled(figures.bound(), figures.makespan());
-    write!(text, "<path class='bound' d='M{place} -8 V{end}'/>")?;
+    push_mark(text, place, end)?;
     write!(text, "<text class='end' x='{place}' y='-12'>")?;
     push_number(text, "bound ", figures.bound())?;
     text.push_str("</text>\n")
 }
 
-/// Adds the times at the ends.
-#[tactic(auto, unfolding(crate::specs::Charts::axis_text))]
-fn push_axis(text: &mut String, makespan: u64, end: u64) -> Result<(), AllocError>
-    requires { end < 100000 }
-    ensures { OnOk result (string_bytes text.new ≡ string_bytes text.old ++ axis_text makespan end) }
+/// Adds a line at each end of the times.
+#[tactic(auto, unfolding(crate::specs::Charts::rules_text))]
+fn push_rules(text: &mut String, end: u64) -> Result<(), AllocError>
+    ensures { OnOk result (string_bytes text.new ≡ string_bytes text.old ++ rules_text end) }
 {
     push_number(text, "<path class='rule' d='M0 0 V", end)?;
     push_number(text, " M", CHART)?;
     push_number(text, " 0 V", end)?;
-    push_number(text, "'/><text y='", end + 16)?;
-    push_number(text, "'>0</text><text class='end' x='", CHART)?;
-    push_number(text, "' y='", end + 16)?;
+    text.push_str("'/>")
+}
+
+/// Adds the time at the right end.
+#[tactic(auto, unfolding(crate::specs::Charts::makespan_text))]
+fn push_makespan(text: &mut String, makespan: u64, y: u64) -> Result<(), AllocError>
+    ensures { OnOk result (string_bytes text.new ≡ string_bytes text.old ++ makespan_text makespan y) }
+{
+    push_number(text, "<text class='end' x='", CHART)?;
+    push_number(text, "' y='", y)?;
     push_number(text, "'>makespan ", makespan)?;
     text.push_str("</text>\n")
+}
+
+/// Adds the times at the ends.
+fn push_axis(text: &mut String, makespan: u64, end: u64) -> Result<(), AllocError>
+    requires { end < 100000 }
+    ensures { OnOk result (string_bytes text.new ≡ string_bytes text.old ++ axis_text makespan end) }
+{
+    push_rules(text, end)?;
+    push_number(text, "<text y='", end + 16)?;
+    text.push_str("'>0</text>")?;
+    push_makespan(text, makespan, end + 16)
 }
 
 /// Adds a table against time.

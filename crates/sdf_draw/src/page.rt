@@ -5,8 +5,8 @@ ghost use Rattle.sdf_limits.specs.declared.TheConstants.{MOST_WORKERS};
 ghost use Rattle.sdf_process.specs.Schedules.{IsShowFault};
 ghost use Rattle.sdf_draw.specs.Bars.{AreDrawable};
 ghost use Rattle.sdf_draw.specs.Drawings.{drawn_of, IsDrawing};
-ghost use Rattle.sdf_draw.specs.Pictures.{head_text, page_text, legend_text, chart_top, origin_text, picture_text};
-ghost use Rattle.sdf_draw.specs.Pictures.{IsPicture};
+ghost use Rattle.sdf_draw.specs.Pictures.{size_text, view_text, page_text, legend_text, head_text, chart_top};
+ghost use Rattle.sdf_draw.specs.Pictures.{width_of, origin_text, picture_text, IsPicture};
 
 use crate::arrows::push_arrows;
 use crate::boxes::push_boxes;
@@ -52,13 +52,20 @@ const LEGEND: &str =
     Below its end: its capacity. A dot: samples that it begins with. q: firings of a period.";
 
 /// Adds where the picture begins: it is so wide and so high.
-#[tactic(auto, unfolding(crate::specs::Pictures::head_text))]
-fn push_head(text: &mut String, width: u64, height: u64) -> Result<(), AllocError>
-    ensures { OnOk result (string_bytes text.new ≡ string_bytes text.old ++ head_text width height) }
+#[tactic(auto, unfolding(crate::specs::Pictures::size_text))]
+fn push_size(text: &mut String, width: u64, height: u64) -> Result<(), AllocError>
+    ensures { OnOk result (string_bytes text.new ≡ string_bytes text.old ++ size_text width height) }
 {
     text.push_str(HEAD_TEXT)?;
     push_number(text, " width='", width)?;
-    push_number(text, "' height='", height)?;
+    push_number(text, "' height='", height)
+}
+
+/// Adds which part is seen.
+#[tactic(auto, unfolding(crate::specs::Pictures::view_text))]
+fn push_view(text: &mut String, width: u64, height: u64) -> Result<(), AllocError>
+    ensures { OnOk result (string_bytes text.new ≡ string_bytes text.old ++ view_text width height) }
+{
     push_number(text, "' viewBox='", LEFT)?;
     push_number(text, " 0 ", width)?;
     push_number(text, " ", height)?;
@@ -88,12 +95,29 @@ fn push_legend(text: &mut String) -> Result<(), AllocError>
     text.push_str("</text>\n")
 }
 
+/// Adds what stands before the arrows.
+fn push_head(text: &mut String, width: u64, height: u64) -> Result<(), AllocError>
+    ensures { OnOk result (string_bytes text.new ≡ string_bytes text.old ++ head_text width height) }
+{
+    push_size(text, width, height)?;
+    push_view(text, width, height)?;
+    push_page(text, width, height)?;
+    push_legend(text)
+}
+
 /// Where the times begin from above: below the lanes below the boxes.
 fn chart_top(layout: &Layout) -> u64
     ensures is { result ≡ chart_top layout.now.places.items layout.now.below }
     ensures small { result < 3000000000000 }
 {
     layout.lane_below(layout.below) + 80
+}
+
+/// How wide the picture is.
+fn width_of(layout: &Layout) -> u64
+    ensures { result ≡ width_of layout.now.places.items }
+{
+    layout.right().max(ZERO + CHART) + 100 - LEFT
 }
 
 /// Adds where the times begin.
@@ -132,12 +156,12 @@ fn picture(
 {
     let layout = &drawing.layout;
     let top = chart_top(layout);
-    let width = layout.right().max(ZERO + CHART) + 100 - LEFT;
-    let height = top + ROW * workers as u64 + 40;
     let mut text = String::new(alloc);
-    push_head(&mut text, width, height)?;
-    push_page(&mut text, width, height)?;
-    push_legend(&mut text)?;
+    push_head(
+        &mut text,
+        width_of(layout),
+        top + ROW * workers as u64 + 40,
+    )?;
     push_arrows(&mut text, design, layout, &drawing.table)?;
     push_boxes(&mut text, design, &drawing.period, layout)?;
     push_origin(&mut text, top)?;
