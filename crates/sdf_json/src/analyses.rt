@@ -4,31 +4,19 @@ ghost use Rattle.std.specs.Prelude.{◌≡◌, ◌<◌, ◌≤◌, ◌∷◌, �
 ghost use Rattle.std.specs.Prelude.{string_bytes};
 ghost use Rattle.serde_json.specs.View.{view, members_view};
 ghost use Rattle.sdf_process.specs.Schedules.{IsShowFault};
-ghost use Rattle.sdf_analyze.specs.Analyses.{IsFigured};
 ghost use Rattle.sdf_json.specs.Values.{natural, with};
 ghost use Rattle.sdf_json.specs.Analyses.{times_of, analysis_value, IsAnalysisJson};
 
-use crate::figures::Figures;
 use crate::schedules::asked;
 use crate::tables::capacities;
 use crate::values::{Members, line_of, put_number};
+use sdf_analyze::{Figures, figured};
 use sdf_file::Design;
 use sdf_options::Options;
 use sdf_prec::Table;
 use sdf_process::Fault;
-use sdf_process::schedule::scheduled;
 use serde_json::{Value, put};
 use std::alloc::{AllocError, Global};
-
-/// The table that options give a design, and its figures.
-fn figured(alloc: Global, design: &Design, options: &Options) -> Result<(Table, Figures), Fault>
-    ensures { MatchResult result (λ r. IsFigured design.now options.now r.0 r.1)
-        (IsShowFault design.now options.now) }
-{
-    let (period, table) = scheduled(alloc, design, options)?;
-    let figures = Figures::of(alloc, design, options, &period, &table)?;
-    Ok((table, figures))
-}
 
 /// The loads of the workers.
 fn loads(alloc: Global, figures: &Figures, workers: usize) -> Result<Vec<Value>, AllocError>
