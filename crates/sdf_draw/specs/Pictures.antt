@@ -14,7 +14,7 @@ use Rattle.sdf_draw.specs.Charts.{chart_text}
 
 -- where it begins: it is so wide and so high, and which part is seen
 unfoldable pub size_text : ℕ → ℕ → List ℕ
-size_text width height = HEAD_TEXT ++ number_text (codes " width='") width ++ number_text (codes "' height='") height
+size_text width height = HEAD_TEXT.now ++ number_text (codes " width='") width ++ number_text (codes "' height='") height
 
 unfoldable pub view_text : ℕ → ℕ → List ℕ
 view_text width height =
@@ -24,11 +24,11 @@ view_text width height =
 -- the colours, and the page that all stands on
 unfoldable pub page_text : ℕ → ℕ → List ℕ
 page_text width height =
-    STYLE ++ number_text (codes "<rect class='page' x='") LEFT ++ number_text (codes "' width='") width
+    STYLE.now ++ number_text (codes "<rect class='page' x='") LEFT ++ number_text (codes "' width='") width
     ++ number_text (codes "' height='") height ++ codes "'/>\n"
 
 unfoldable pub legend_text : List ℕ
-legend_text = number_text (codes "<text class='soft' y='24' x='") (LEFT + 20) ++ codes "'>" ++ LEGEND ++ codes "</text>\n"
+legend_text = number_text (codes "<text class='soft' y='24' x='") (LEFT + 20) ++ codes "'>" ++ LEGEND.now ++ codes "</text>\n"
 
 -- what stands before the arrows
 abbrev pub head_text : ℕ → ℕ → List ℕ
