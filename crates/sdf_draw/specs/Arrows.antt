@@ -93,15 +93,15 @@ capacity_text capacity end =
     at_text (codes "<text class='end soft' x='") (end.x - 9) (end.y + 11) ++ number_text (codes "'>") capacity
     ++ codes "</text>"
 
-unfoldable pub circle_text : Spot → List ℕ
-circle_text end =
-    number_text (codes "<circle class='dot' r='4' cx='") (end.x - (TAIL - 4)) ++ number_text (codes "' cy='") end.y
-    ++ codes "'/>"
+-- a dot
+unfoldable pub circle_text : ℕ → ℕ → List ℕ
+circle_text x y =
+    number_text (codes "<circle class='dot' r='4' cx='") x ++ number_text (codes "' cy='") y ++ codes "'/>"
 
 -- the samples that it begins with: none, or a dot and their number
 unfoldable pub dot_text : ℕ → Spot → List ℕ
 dot_text initial end =
-    circle_text end ++ at_text (codes "<text x='") (end.x - (TAIL - 2)) (end.y - 6)
+    circle_text (end.x - (TAIL - 4)) end.y ++ at_text (codes "<text x='") (end.x - (TAIL - 2)) (end.y - 6)
     ++ number_text (codes "'>") initial ++ codes "</text>"
 
 abbrev pub initial_text : ℕ → Spot → List ℕ

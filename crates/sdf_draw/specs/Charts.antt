@@ -12,21 +12,22 @@ use Rattle.sdf_draw.specs.declared.texts.TheConstants.{COLOURS}
 use Rattle.sdf_draw.specs.Bars.{bar_of, bars_to, scaled}
 use Rattle.sdf_draw.specs.Texts.{number_text, name_text}
 
--- a bar of worker k, in the colour of its actor, from its start to its end
-unfoldable pub rect_text : ℕ → Bar → List ℕ
-rect_text k b =
-    number_text (codes "<rect class='f") (b.actor % COLOURS) ++ number_text (codes "' x='") b.start
-    ++ number_text (codes "' width='") (b.end - b.start) ++ number_text (codes "' y='") (ROW * k + 4)
-    ++ codes "' height='22'>"
+-- a bar in a colour, from a time on and so long, so far down
+unfoldable pub rect_text : ℕ → ℕ → ℕ → ℕ → List ℕ
+rect_text colour start width y =
+    number_text (codes "<rect class='f") colour ++ number_text (codes "' x='") start
+    ++ number_text (codes "' width='") width ++ number_text (codes "' y='") y ++ codes "' height='22'>"
 
 -- the name of its actor and its times
-unfoldable pub title_text : DesignValue → Bar → List ℕ
-title_text d b =
-    codes "<title>" ++ name_text d b.actor ++ number_text (codes " ") b.start ++ number_text (codes " to ") b.end
+unfoldable pub title_text : DesignValue → ℕ → ℕ → ℕ → List ℕ
+title_text d a start end =
+    codes "<title>" ++ name_text d a ++ number_text (codes " ") start ++ number_text (codes " to ") end
     ++ codes "</title></rect>\n"
 
+-- a bar of worker k, in the colour of its actor, from its start to its end
 abbrev pub bar_text : DesignValue → ℕ → Bar → List ℕ
-bar_text d k b = rect_text k b ++ title_text d b
+bar_text d k b =
+    rect_text (b.actor % COLOURS) b.start (b.end - b.start) (ROW * k + 4) ++ title_text d b.actor b.start b.end
 
 -- the bars of worker k: of its firings in row order, which are joined where the table has many firings
 abbrev pub bars_of : DesignValue → Tabled → List (List ℕ) → ℕ → List Bar
@@ -62,11 +63,15 @@ workers_text m = lines_to worker_text m
 abbrev pub mark_text : ℕ → ℕ → List ℕ
 mark_text place end = codes "<path class='bound' d='M" ++ decimal place ++ codes " -8 V" ++ decimal end ++ codes "'/>"
 
--- the line of the bound, with its number above it
-unfoldable pub bound_text : Figured → ℕ → List ℕ
+-- the number of the bound above it
+abbrev pub label_text : ℕ → ℕ → List ℕ
+label_text place bound =
+    codes "<text class='end' x='" ++ decimal place ++ codes "' y='-12'>bound " ++ decimal bound ++ codes "</text>\n"
+
+-- the line of the bound, with its number
+abbrev pub bound_text : Figured → ℕ → List ℕ
 bound_text f end =
-    mark_text (scaled f.bound f.makespan) end ++ codes "<text class='end' x='" ++ decimal (scaled f.bound f.makespan)
-    ++ codes "' y='-12'>" ++ number_text (codes "bound ") f.bound ++ codes "</text>\n"
+    mark_text (scaled f.bound f.makespan) end ++ label_text (scaled f.bound f.makespan) f.bound
 
 -- a line at each end of the times
 unfoldable pub rules_text : ℕ → List ℕ

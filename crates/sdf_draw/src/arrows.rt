@@ -237,27 +237,23 @@ fn push_capacity(text: &mut String, capacity: u64, end: Spot) -> Result<(), Allo
     text.push_str("</text>")
 }
 
-/// Adds a dot on an arrow, before its end.
+/// Adds a dot.
 #[tactic(auto, unfolding(crate::specs::Arrows::circle_text))]
-fn push_circle(text: &mut String, end: Spot) -> Result<(), AllocError>
-    ensures { OnOk result (string_bytes text.new ≡ string_bytes text.old ++ circle_text end) }
+fn push_circle(text: &mut String, x: u64, y: u64) -> Result<(), AllocError>
+    ensures { OnOk result (string_bytes text.new ≡ string_bytes text.old ++ circle_text x y) }
 {
-    push_number(
-        text,
-        "<circle class='dot' r='4' cx='",
-        end.x.saturating_sub(TAIL - 4),
-    )?;
-    push_number(text, "' cy='", end.y)?;
+    push_number(text, "<circle class='dot' r='4' cx='", x)?;
+    push_number(text, "' cy='", y)?;
     text.push_str("'/>")
 }
 
-/// Adds a dot, and the number of the samples that a link begins with.
+/// Adds a dot before the end of an arrow, and the number of the samples that the link begins with.
 #[tactic(auto, unfolding(crate::specs::Arrows::dot_text))]
 fn push_dot(text: &mut String, initial: usize, end: Spot) -> Result<(), AllocError>
     ensures { OnOk result (string_bytes text.new ≡ string_bytes text.old ++ dot_text initial end) }
 {
     let (x, y) = (end.x.saturating_sub(TAIL - 2), end.y.saturating_sub(6));
-    push_circle(text, end)?;
+    push_circle(text, end.x.saturating_sub(TAIL - 4), end.y)?;
     push_at(text, "<text x='", x, y)?;
     push_number(text, "'>", initial as u64)?;
     text.push_str("</text>")

@@ -8,8 +8,8 @@ ghost use Rattle.sdf_prec.specs.Tables.{row};
 ghost use Rattle.sdf_times.specs.Times.{IsInTable};
 ghost use Rattle.sdf_draw.specs.Bars.{IsDrawable, AreDrawable, scaled};
 ghost use Rattle.sdf_draw.specs.Charts.{rect_text, title_text, bar_text, lane_text, frame_text, lanes_text};
-ghost use Rattle.sdf_draw.specs.Charts.{worker_text, workers_text, mark_text, bound_text, rules_text};
-ghost use Rattle.sdf_draw.specs.Charts.{makespan_text, axis_text, chart_text};
+ghost use Rattle.sdf_draw.specs.Charts.{worker_text, workers_text, mark_text, label_text, bound_text};
+ghost use Rattle.sdf_draw.specs.Charts.{rules_text, makespan_text, axis_text, chart_text};
 
 use crate::bars::{Bar, bars_in};
 use crate::texts::{COLOURS, push_name, push_number};
@@ -36,40 +36,53 @@ fn scaled(time: u64, makespan: u64) -> u128
         .unwrap_or(0)
 }
 
-/// Adds the shape of a bar: its place and its width are times.
+/// Adds the shape of a bar in a colour: it begins at a time, is so long, and stands so far down.
 #[tactic(auto, unfolding(crate::specs::Charts::rect_text))]
-fn push_rect(text: &mut String, worker: usize, bar: Bar) -> Result<(), AllocError>
-    requires { worker < MOST_WORKERS }
-    ensures { OnOk result (string_bytes text.new ≡ string_bytes text.old ++ rect_text worker bar) }
+fn push_rect(
+    text: &mut String,
+    colour: usize,
+    start: u64,
+    width: u64,
+    y: u64,
+) -> Result<(), AllocError>
+    ensures { OnOk result (string_bytes text.new ≡ string_bytes text.old ++ rect_text colour start width y) }
 {
-    push_number(text, "<rect class='f", (bar.actor % COLOURS) as u64)?;
-    push_number(text, "' x='", bar.start)?;
-    push_number(text, "' width='", bar.end.saturating_sub(bar.start))?;
-    push_number(text, "' y='", ROW * worker as u64 + 4)?;
+    push_number(text, "<rect class='f", colour as u64)?;
+    push_number(text, "' x='", start)?;
+    push_number(text, "' width='", width)?;
+    push_number(text, "' y='", y)?;
     text.push_str("' height='22'>")
 }
 
 /// Adds what is told of a bar: the name of its actor and its times.
 #[tactic(auto, unfolding(crate::specs::Charts::title_text))]
-fn push_title(text: &mut String, design: &Design, bar: Bar) -> Result<(), AllocError>
-    requires { bar.actor < length design.now.net.nodes }
-    ensures { OnOk result (string_bytes text.new ≡ string_bytes text.old ++ title_text design.now bar) }
+fn push_title(
+    text: &mut String,
+    design: &Design,
+    actor: usize,
+    start: u64,
+    end: u64,
+) -> Result<(), AllocError>
+    requires { actor < length design.now.net.nodes }
+    ensures { OnOk result (string_bytes text.new ≡ string_bytes text.old ++ title_text design.now actor start end) }
 {
     text.push_str("<title>")?;
-    push_name(text, design, bar.actor)?;
-    push_number(text, " ", bar.start)?;
-    push_number(text, " to ", bar.end)?;
+    push_name(text, design, actor)?;
+    push_number(text, " ", start)?;
+    push_number(text, " to ", end)?;
     text.push_str("</title></rect>\n")
 }
 
-/// Adds a bar.
+/// Adds a bar: its place and its width are times.
 fn push_bar(text: &mut String, design: &Design, worker: usize, bar: Bar) -> Result<(), AllocError>
     requires worker { worker < MOST_WORKERS }
     requires actor { bar.actor < length design.now.net.nodes }
     ensures { OnOk result (string_bytes text.new ≡ string_bytes text.old ++ bar_text design.now worker bar) }
 {
-    push_rect(text, worker, bar)?;
-    push_title(text, design, bar)
+    let Bar { actor, start, end } = bar;
+    let y = ROW * worker as u64 + 4;
+    push_rect(text, actor % COLOURS, start, end.saturating_sub(start), y)?;
+    push_title(text, design, actor, start, end)
 }
 
 /// Adds these bars of a worker.
@@ -178,16 +191,24 @@ fn push_mark(text: &mut String, place: u128, end: u64) -> Result<(), AllocError>
     Ok(())
 }
 
-/// Adds the line of the bound, with its number above it.
-#[tactic(auto, unfolding(crate::specs::Charts::bound_text))]
+/// Adds the number of the bound above it.
+fn push_label(text: &mut String, place: u128, bound: u64) -> Result<(), AllocError>
+    ensures { OnOk result (string_bytes text.new ≡ string_bytes text.old ++ label_text place bound) }
+{
+    writeln!(
+        text,
+        "<text class='end' x='{place}' y='-12'>bound {bound}</text>"
+    )?;
+    Ok(())
+}
+
+/// Adds the line of the bound, with its number.
 fn push_bound(text: &mut String, figures: &Figures, end: u64) -> Result<(), AllocError>
     ensures { OnOk result (string_bytes text.new ≡ string_bytes text.old ++ bound_text figures.now end) }
 {
     let place = scaled(figures.bound(), figures.makespan());
     push_mark(text, place, end)?;
-    write!(text, "<text class='end' x='{place}' y='-12'>")?;
-    push_number(text, "bound ", figures.bound())?;
-    text.push_str("</text>\n")
+    push_label(text, place, figures.bound())
 }
 
 /// Adds a line at each end of the times.
