@@ -9,7 +9,10 @@ greatest_take f [] i low = absurd (omega arith)
 greatest_take f (p ∷ ps) zero low = omega arith
 greatest_take f (p ∷ ps) (suc i) low = let ih = greatest_take f ps i (omega arith) in omega (arith, ih)
 
-pub greatest_above : (f : Place → ℕ) (ps : List Place) (a : ℕ) → a < length ps → f (place ps a) ≤ greatest_by f ps
-greatest_above f [] a low = absurd (omega arith)
-greatest_above f (p ∷ ps) zero low = omega arith
-greatest_above f (p ∷ ps) (suc a) low = let ih = greatest_above f ps a (omega arith) in omega (arith, ih)
+pub greatest_within : (f : Place → ℕ) (ps : List Place) (i a : ℕ) → a < i → i ≤ length ps →
+    f (place ps a) ≤ greatest_by f (take i ps)
+greatest_within f [] i a low within = absurd (omega arith)
+greatest_within f (p ∷ ps) zero a low within = absurd (omega arith)
+greatest_within f (p ∷ ps) (suc i) zero low within = omega arith
+greatest_within f (p ∷ ps) (suc i) (suc a) low within =
+    let ih = greatest_within f ps i a (omega arith) (omega arith) in omega (arith, ih)

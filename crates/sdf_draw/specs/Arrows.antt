@@ -6,7 +6,7 @@ use Rattle.sdf_actor.specs.Nets.{wire, node, inputs_of, outputs_of}
 use Rattle.sdf_kit.specs.Kit.{kit_steps}
 use Rattle.sdf_file.specs.Designs.{DesignValue}
 use Rattle.sdf_analyze.specs.Texts.{lines_to}
-use Rattle.sdf_draw.specs.declared.arrows.TheConstants.{STUB, TAIL, SHIFTS, SHIFT}
+use Rattle.sdf_draw.specs.declared.arrows.TheConstants.{STUB, TAIL, SHIFTS, SHIFT, DOT}
 use Rattle.sdf_draw.specs.declared.arrows.Spot.{Spot}
 use Rattle.sdf_draw.specs.declared.layout.TheConstants.{PORT}
 use Rattle.sdf_draw.specs.declared.layout.Place.{Place}
@@ -15,7 +15,7 @@ use Rattle.sdf_draw.specs.declared.layout.Route.TheVariants.{Across, Above, Belo
 use Rattle.sdf_draw.specs.declared.texts.TheConstants.{COLOURS}
 use Rattle.sdf_draw.specs.Layouts.{place, route, left_of, right_of, lane_above, lane_below}
 use Rattle.sdf_draw.specs.Edges.{edge}
-use Rattle.sdf_draw.specs.Texts.{number_text, rate_text}
+use Rattle.sdf_draw.specs.Texts.{number_text, pair_text, rate_text}
 
 -- how high a port stands at a box: the ports of a side have its middle in theirs
 abbrev pub port_height : Place → ℕ → ℕ → ℕ
@@ -75,7 +75,7 @@ line_text ps r c colour start end =
 
 -- what a text begins with, and where it stands
 abbrev pub at_text : List ℕ → ℕ → ℕ → List ℕ
-at_text word x y = number_text word x ++ number_text (codes "' y='") y
+at_text word x y = pair_text word x (codes "' y='") y
 
 -- what firings put on a link
 unfoldable pub put_text : List ℕ → Spot → List ℕ
@@ -93,15 +93,11 @@ capacity_text capacity end =
     at_text (codes "<text class='end soft' x='") (end.x - 9) (end.y + 11) ++ number_text (codes "'>") capacity
     ++ codes "</text>"
 
--- a dot
-unfoldable pub circle_text : ℕ → ℕ → List ℕ
-circle_text x y =
-    number_text (codes "<circle class='dot' r='4' cx='") x ++ number_text (codes "' cy='") y ++ codes "'/>"
-
 -- the samples that it begins with: none, or a dot and their number
 unfoldable pub dot_text : ℕ → Spot → List ℕ
 dot_text initial end =
-    circle_text (end.x - (TAIL - 4)) end.y ++ at_text (codes "<text x='") (end.x - (TAIL - 2)) (end.y - 6)
+    pair_text DOT.now (end.x - (TAIL - 4)) (codes "' cy='") end.y
+    ++ at_text (codes "'/><text x='") (end.x - (TAIL - 2)) (end.y - 6)
     ++ number_text (codes "'>") initial ++ codes "</text>"
 
 abbrev pub initial_text : ℕ → Spot → List ℕ

@@ -1,5 +1,5 @@
 -- The text of a table against time.
-use Rattle.std.specs.Prelude.{ℕ, ◌+◌, ◌-◌, ◌*◌, ◌%◌, List, ◌++◌, codes, decimal, length, nat_lt, slice_index}
+use Rattle.std.specs.Prelude.{ℕ, ◌+◌, ◌-◌, ◌*◌, ◌%◌, List, ◌++◌, codes, length, nat_lt, slice_index}
 use Rattle.std.specs.List.{flat_map}
 use Rattle.sdf_prec.specs.Tables.{Tabled}
 use Rattle.sdf_times.specs.Times.{start_in}
@@ -10,19 +10,18 @@ use Rattle.sdf_draw.specs.declared.bars.Bar.{Bar}
 use Rattle.sdf_draw.specs.declared.chart.TheConstants.{CHART, ROW, MOST_BARS}
 use Rattle.sdf_draw.specs.declared.texts.TheConstants.{COLOURS}
 use Rattle.sdf_draw.specs.Bars.{bar_of, bars_to, scaled}
-use Rattle.sdf_draw.specs.Texts.{number_text, name_text}
+use Rattle.sdf_draw.specs.Texts.{number_text, pair_text, name_text}
 
--- a bar in a colour, from a time on and so long, so far down
+-- a bar in a colour, from a time on and so long, so far down, up to what is told of it
 unfoldable pub rect_text : ℕ → ℕ → ℕ → ℕ → List ℕ
 rect_text colour start width y =
     number_text (codes "<rect class='f") colour ++ number_text (codes "' x='") start
-    ++ number_text (codes "' width='") width ++ number_text (codes "' y='") y ++ codes "' height='22'>"
+    ++ number_text (codes "' width='") width ++ number_text (codes "' y='") y ++ codes "' height='22'><title>"
 
 -- the name of its actor and its times
 unfoldable pub title_text : DesignValue → ℕ → ℕ → ℕ → List ℕ
 title_text d a start end =
-    codes "<title>" ++ name_text d a ++ number_text (codes " ") start ++ number_text (codes " to ") end
-    ++ codes "</title></rect>\n"
+    name_text d a ++ pair_text (codes " ") start (codes " to ") end ++ codes "</title></rect>\n"
 
 -- a bar of worker k, in the colour of its actor, from its start to its end
 abbrev pub bar_text : DesignValue → ℕ → Bar → List ℕ
@@ -60,13 +59,15 @@ abbrev pub workers_text : ℕ → List ℕ
 workers_text m = lines_to worker_text m
 
 -- a line down to the end, so far from the left
-abbrev pub mark_text : ℕ → ℕ → List ℕ
-mark_text place end = codes "<path class='bound' d='M" ++ decimal place ++ codes " -8 V" ++ decimal end ++ codes "'/>"
+unfoldable pub mark_text : ℕ → ℕ → List ℕ
+mark_text place end =
+    number_text (codes "<path class='bound' d='M") place ++ number_text (codes " -8 V") end ++ codes "'/>"
 
 -- the number of the bound above it
-abbrev pub label_text : ℕ → ℕ → List ℕ
+unfoldable pub label_text : ℕ → ℕ → List ℕ
 label_text place bound =
-    codes "<text class='end' x='" ++ decimal place ++ codes "' y='-12'>bound " ++ decimal bound ++ codes "</text>\n"
+    number_text (codes "<text class='end' x='") place ++ number_text (codes "' y='-12'>bound ") bound
+    ++ codes "</text>\n"
 
 -- the line of the bound, with its number
 abbrev pub bound_text : Figured → ℕ → List ℕ

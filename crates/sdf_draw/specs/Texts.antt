@@ -10,6 +10,10 @@ use Rattle.sdf_file.specs.Designs.{DesignValue}
 abbrev pub number_text : List ℕ → ℕ → List ℕ
 number_text word n = word ++ decimal n
 
+-- two texts, each with a number behind it
+unfoldable pub pair_text : List ℕ → ℕ → List ℕ → ℕ → List ℕ
+pair_text one x other y = number_text one x ++ number_text other y
+
 -- a character as it stands in a document of marks: & < > " and ' by their names
 abbrev pub escaped_char : ℕ → List ℕ
 escaped_char c =

@@ -7,12 +7,12 @@ ghost use Rattle.sdf_draw.specs.Layouts.{IsNear, route};
 ghost use Rattle.sdf_draw.specs.Edges.{edge};
 ghost use Rattle.sdf_draw.specs.Arrows.{port_height, start_of, end_of, shift_of, curve_text, turns_text, way_text};
 ghost use Rattle.sdf_draw.specs.Arrows.{stub_text, line_text, at_text, put_text, take_text, capacity_text};
-ghost use Rattle.sdf_draw.specs.Arrows.{circle_text, dot_text, initial_text};
+ghost use Rattle.sdf_draw.specs.Arrows.{dot_text, initial_text};
 ghost use Rattle.sdf_draw.specs.Arrows.{arrow_text, arrows_text};
 
 use crate::layout::{Layout, PORT, Place, Route, lane_above};
 use crate::ports::{channel_of, ports_of};
-use crate::texts::{COLOURS, push_number, push_rate};
+use crate::texts::{COLOURS, push_number, push_pair, push_rate};
 use sdf_file::Design;
 use sdf_graph::Channel;
 use sdf_prec::Table;
@@ -23,6 +23,9 @@ const STUB: u64 = 40;
 
 /// And at its end, beside the rate, the samples and the capacity.
 const TAIL: u64 = 72;
+
+/// What a dot begins with.
+const DOT: &str = "<circle class='dot' r='4' cx='";
 
 /// Lines that go up or down stand at so many places in a gap, this far from one another.
 const SHIFTS: usize = 11;
@@ -195,8 +198,7 @@ fn push_line(
 fn push_at(text: &mut String, word: &str, x: u64, y: u64) -> Result<(), AllocError>
     ensures { OnOk result (string_bytes text.new ≡ string_bytes text.old ++ at_text word.now x y) }
 {
-    push_number(text, word, x)?;
-    push_number(text, "' y='", y)
+    push_pair(text, word, x, "' y='", y)
 }
 
 /// Adds what firings put at the beginning of an arrow.
@@ -237,24 +239,15 @@ fn push_capacity(text: &mut String, capacity: u64, end: Spot) -> Result<(), Allo
     text.push_str("</text>")
 }
 
-/// Adds a dot.
-#[tactic(auto, unfolding(crate::specs::Arrows::circle_text))]
-fn push_circle(text: &mut String, x: u64, y: u64) -> Result<(), AllocError>
-    ensures { OnOk result (string_bytes text.new ≡ string_bytes text.old ++ circle_text x y) }
-{
-    push_number(text, "<circle class='dot' r='4' cx='", x)?;
-    push_number(text, "' cy='", y)?;
-    text.push_str("'/>")
-}
-
 /// Adds a dot before the end of an arrow, and the number of the samples that the link begins with.
 #[tactic(auto, unfolding(crate::specs::Arrows::dot_text))]
 fn push_dot(text: &mut String, initial: usize, end: Spot) -> Result<(), AllocError>
     ensures { OnOk result (string_bytes text.new ≡ string_bytes text.old ++ dot_text initial end) }
 {
     let (x, y) = (end.x.saturating_sub(TAIL - 2), end.y.saturating_sub(6));
-    push_circle(text, end.x.saturating_sub(TAIL - 4), end.y)?;
-    push_at(text, "<text x='", x, y)?;
+    let dot = end.x.saturating_sub(TAIL - 4);
+    push_pair(text, DOT, dot, "' cy='", end.y)?;
+    push_at(text, "'/><text x='", x, y)?;
     push_number(text, "'>", initial as u64)?;
     text.push_str("</text>")
 }

@@ -7,12 +7,13 @@ ghost use Rattle.sdf_prec.specs.declared.firing.Firing.{Firing};
 ghost use Rattle.sdf_prec.specs.Tables.{row};
 ghost use Rattle.sdf_times.specs.Times.{IsInTable};
 ghost use Rattle.sdf_draw.specs.Bars.{IsDrawable, AreDrawable, scaled};
+ghost use Rattle.sdf_draw.specs.Texts.{number_text};
 ghost use Rattle.sdf_draw.specs.Charts.{rect_text, title_text, bar_text, lane_text, frame_text, lanes_text};
 ghost use Rattle.sdf_draw.specs.Charts.{worker_text, workers_text, mark_text, label_text, bound_text};
 ghost use Rattle.sdf_draw.specs.Charts.{rules_text, makespan_text, axis_text, chart_text};
 
 use crate::bars::{Bar, bars_in};
-use crate::texts::{COLOURS, push_name, push_number};
+use crate::texts::{COLOURS, push_name, push_number, push_pair};
 use sdf_analyze::Figures;
 use sdf_file::Design;
 use sdf_prec::Table;
@@ -36,7 +37,8 @@ fn scaled(time: u64, makespan: u64) -> u128
         .unwrap_or(0)
 }
 
-/// Adds the shape of a bar in a colour: it begins at a time, is so long, and stands so far down.
+/// Adds the shape of a bar in a colour: it begins at a time, is so long, and stands so far
+/// down. What is told of it follows.
 #[tactic(auto, unfolding(crate::specs::Charts::rect_text))]
 fn push_rect(
     text: &mut String,
@@ -51,10 +53,10 @@ fn push_rect(
     push_number(text, "' x='", start)?;
     push_number(text, "' width='", width)?;
     push_number(text, "' y='", y)?;
-    text.push_str("' height='22'>")
+    text.push_str("' height='22'><title>")
 }
 
-/// Adds what is told of a bar: the name of its actor and its times.
+/// Adds what is told of a bar, the name of its actor and its times, and ends the bar.
 #[tactic(auto, unfolding(crate::specs::Charts::title_text))]
 fn push_title(
     text: &mut String,
@@ -66,10 +68,8 @@ fn push_title(
     requires { actor < length design.now.net.nodes }
     ensures { OnOk result (string_bytes text.new ≡ string_bytes text.old ++ title_text design.now actor start end) }
 {
-    text.push_str("<title>")?;
     push_name(text, design, actor)?;
-    push_number(text, " ", start)?;
-    push_number(text, " to ", end)?;
+    push_pair(text, " ", start, " to ", end)?;
     text.push_str("</title></rect>\n")
 }
 
@@ -183,23 +183,32 @@ fn push_workers(text: &mut String, workers: usize) -> Result<(), AllocError>
     Ok(())
 }
 
-/// Adds a line down to the end at so far from the left.
-fn push_mark(text: &mut String, place: u128, end: u64) -> Result<(), AllocError>
-    ensures { OnOk result (string_bytes text.new ≡ string_bytes text.old ++ mark_text place end) }
+/// Adds a text and a place.
+fn push_place(text: &mut String, word: &str, place: u128) -> Result<(), AllocError>
+    ensures { OnOk result (string_bytes text.new ≡ string_bytes text.old ++ number_text word.now place) }
 {
-    write!(text, "<path class='bound' d='M{place} -8 V{end}'/>")?;
+    write!(text, "{word}{place}")?;
     Ok(())
 }
 
+/// Adds a line down to the end at so far from the left.
+#[tactic(auto, unfolding(crate::specs::Charts::mark_text))]
+fn push_mark(text: &mut String, place: u128, end: u64) -> Result<(), AllocError>
+    ensures { OnOk result (string_bytes text.new ≡ string_bytes text.old ++ mark_text place end) }
+{
+    push_place(text, "<path class='bound' d='M", place)?;
+    push_number(text, " -8 V", end)?;
+    text.push_str("'/>")
+}
+
 /// Adds the number of the bound above it.
+#[tactic(auto, unfolding(crate::specs::Charts::label_text))]
 fn push_label(text: &mut String, place: u128, bound: u64) -> Result<(), AllocError>
     ensures { OnOk result (string_bytes text.new ≡ string_bytes text.old ++ label_text place bound) }
 {
-    writeln!(
-        text,
-        "<text class='end' x='{place}' y='-12'>bound {bound}</text>"
-    )?;
-    Ok(())
+    push_place(text, "<text class='end' x='", place)?;
+    push_number(text, "' y='-12'>bound ", bound)?;
+    text.push_str("</text>\n")
 }
 
 /// Adds the line of the bound, with its number.

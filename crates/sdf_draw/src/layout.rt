@@ -84,7 +84,8 @@ impl Place {
 
     /// Where it ends.
     pub(crate) fn bottom(self) -> u64
-        ensures { result ≡ bottom_of self }
+        ensures is { result ≡ bottom_of self }
+        ensures small { result < 1000000000000 }
     {
         self.top() + u64::from(self.height)
     }
@@ -234,7 +235,7 @@ pub(crate) fn laid_out(
 
 impl Layout {
     /// Where the lowest box ends, or 0 where there is none.
-    #[tactic(auto, using(crate::proofs::Lowest::greatest_take, crate::proofs::Lowest::greatest_above))]
+    #[tactic(auto, using(crate::proofs::Lowest::greatest_take))]
     pub(crate) fn bottom(&self) -> u64
         ensures is { result ≡ lowest self.now.places.items }
         ensures below { (a : ℕ) → a < length self.now.places.items →
@@ -249,7 +250,7 @@ impl Layout {
     }
 
     /// Where the box farthest to the right ends.
-    #[tactic(auto, using(crate::proofs::Lowest::greatest_take, crate::proofs::Lowest::greatest_above))]
+    #[tactic(auto, using(crate::proofs::Lowest::greatest_take))]
     pub(crate) fn right(&self) -> u64
         ensures is { result ≡ rightmost self.now.places.items }
         ensures within { (a : ℕ) → a < length self.now.places.items →
