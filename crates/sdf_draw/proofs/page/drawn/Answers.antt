@@ -20,5 +20,5 @@ returns c =
           c.in_ok-period.ensures.table c.in_ok-figures.ensures fits;
       capacities = c.in_ok-period.ensures.table.exact.caps_all
           ∙ length-map c.args.design.now.net.wires (channel_of kit_steps c.args.design.now.net.nodes);
-      fire = ?;
+      fire = c.in_ok-period.ensures.answers.by_policy.period.least.is.all;
     }
