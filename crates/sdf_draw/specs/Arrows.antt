@@ -71,7 +71,8 @@ stub_text colour start =
 
 unfoldable pub line_text : List Place → Route → ℕ → ℕ → Spot → Spot → List ℕ
 line_text ps r c colour start end =
-    stub_text colour start ++ way_text ps r (shift_of c) start end ++ number_text (codes " H") (end.x - 2) ++ codes "'/>"
+    stub_text colour start ++ way_text ps r (shift_of c) start end
+    ++ number_text (codes " H") (end.x - 2) ++ codes "'/>"
 
 -- what a text begins with, and where it stands
 abbrev pub at_text : List ℕ → ℕ → ℕ → List ℕ

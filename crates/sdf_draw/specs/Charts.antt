@@ -88,7 +88,8 @@ makespan_text makespan y =
 -- the times at the ends
 abbrev pub axis_text : ℕ → ℕ → List ℕ
 axis_text makespan end =
-    rules_text end ++ number_text (codes "<text y='") (end + 16) ++ codes "'>0</text>" ++ makespan_text makespan (end + 16)
+    rules_text end ++ number_text (codes "<text y='") (end + 16) ++ codes "'>0</text>"
+    ++ makespan_text makespan (end + 16)
 
 -- a table in m columns with its figures, against time
 abbrev pub chart_text : DesignValue → Tabled → Figured → ℕ → List ℕ

@@ -14,7 +14,8 @@ use Rattle.sdf_draw.specs.Charts.{chart_text}
 
 -- where it begins: it is so wide and so high, and which part is seen
 unfoldable pub size_text : ℕ → ℕ → List ℕ
-size_text width height = HEAD_TEXT.now ++ number_text (codes " width='") width ++ number_text (codes "' height='") height
+size_text width height = HEAD_TEXT.now ++ number_text (codes " width='") width
+    ++ number_text (codes "' height='") height
 
 unfoldable pub view_text : ℕ → ℕ → List ℕ
 view_text width height =
@@ -28,7 +29,8 @@ page_text width height =
     ++ number_text (codes "' height='") height ++ codes "'/>\n"
 
 unfoldable pub legend_text : List ℕ
-legend_text = number_text (codes "<text class='soft' y='24' x='") (LEFT + 20) ++ codes "'>" ++ LEGEND.now ++ codes "</text>\n"
+legend_text = number_text (codes "<text class='soft' y='24' x='") (LEFT + 20) ++ codes "'>" ++ LEGEND.now
+    ++ codes "</text>\n"
 
 -- what stands before the arrows
 abbrev pub head_text : ℕ → ℕ → List ℕ
@@ -49,7 +51,8 @@ width_of ps = max (rightmost ps) (ZERO + CHART) + 100 - LEFT
 abbrev pub height_of : List Place → ℕ → ℕ → ℕ
 height_of ps below m = chart_top ps below + ROW * m + 40
 
--- the text of what is drawn for m workers, part after part: an arrow for each link, a box for each actor, and the bars of each worker
+-- the text of what is drawn for m workers, part after part: an arrow for each link, a box for each actor, and the bars
+-- of each worker
 abbrev pub picture_text : DesignValue → ℕ → Drawn → List ℕ
 picture_text d m w =
     head_text (width_of w.places) (height_of w.places w.below m)

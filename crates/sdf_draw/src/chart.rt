@@ -94,7 +94,8 @@ fn push_bars(
 ) -> Result<(), AllocError>
     requires worker { worker < MOST_WORKERS }
     requires actors { All (λ b. b.actor < length design.now.net.nodes) bars.now }
-    ensures { OnOk result (string_bytes text.new ≡ string_bytes text.old ++ flat_map (bar_text design.now worker) bars.now) }
+    ensures { OnOk result (string_bytes text.new ≡
+        string_bytes text.old ++ flat_map (bar_text design.now worker) bars.now) }
 {
     for bar in bars {
         push_bar(text, design, worker, *bar)?;

@@ -157,11 +157,7 @@ fn picture(
     let layout = &drawing.layout;
     let top = chart_top(layout);
     let mut text = String::new(alloc);
-    push_head(
-        &mut text,
-        width_of(layout),
-        top + ROW * workers as u64 + 40,
-    )?;
+    push_head(&mut text, width_of(layout), top + ROW * workers as u64 + 40)?;
     push_arrows(&mut text, design, layout, &drawing.table)?;
     push_boxes(&mut text, design, &drawing.period, layout)?;
     push_origin(&mut text, top)?;

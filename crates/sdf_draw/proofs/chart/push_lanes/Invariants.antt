@@ -6,4 +6,5 @@ use Rattle.sdf_draw.proofs.chart.push_lanes.Given as goal
 
 abbrev pub invariant-loop-worker : goal.invariant-loop-worker
 invariant-loop-worker l = string_bytes l.text ≡ string_bytes l.initial.text
-    ++ frame_text l.figures.makespan (ROW * l.workers) ++ lines_to (lane_text l.design l.table l.figures.starts) l.worker
+    ++ frame_text l.figures.makespan (ROW * l.workers)
+    ++ lines_to (lane_text l.design l.table l.figures.starts) l.worker

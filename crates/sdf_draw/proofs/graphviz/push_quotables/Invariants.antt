@@ -5,4 +5,5 @@ use Rattle.sdf_draw.proofs.graphviz.push_quotables.Given as goal
 
 abbrev pub invariant-loop-character : goal.invariant-loop-character
 invariant-loop-character l = IsUtf8 (chars_rest l.character-iterator)
-    × (string_bytes l.text ++ quotables (chars_rest l.character-iterator) ≡ string_bytes l.initial.text ++ quotables l.fn.word)
+    × (string_bytes l.text ++ quotables (chars_rest l.character-iterator) ≡
+    string_bytes l.initial.text ++ quotables l.fn.word)
