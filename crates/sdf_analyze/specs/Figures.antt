@@ -4,7 +4,8 @@ use Rattle.sdf_graph.specs.Rates.{Rates}
 use Rattle.sdf_sched.specs.Period.{Schedule}
 use Rattle.sdf_prec.specs.declared.firing.Firing.{Firing}
 use Rattle.sdf_prec.specs.Tables.{Tabled}
-use Rattle.sdf_times.specs.Times.{IsInTable, AreStarts, HasStart, start_in, IsMakespan, load_of, work_of, IsSpan, IsBound}
+use Rattle.sdf_times.specs.Times.{IsInTable, AreStarts, HasStart, start_in, IsMakespan, load_of, work_of, IsSpan}
+use Rattle.sdf_times.specs.Times.{IsBound}
 use Rattle.sdf_file.specs.Designs.{DesignValue}
 use Rattle.sdf_process.specs.Placements.{rates_of, firings_of}
 

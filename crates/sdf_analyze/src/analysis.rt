@@ -14,11 +14,7 @@ use sdf_process::schedule::scheduled;
 use std::alloc::Global;
 
 /// The table that options give a design, and its figures. The tests are those of `sdf_process::schedule::scheduled`.
-pub fn figured(
-    alloc: Global,
-    design: &Design,
-    options: &Options,
-) -> Result<(Table, Figures), Fault>
+pub fn figured(alloc: Global, design: &Design, options: &Options) -> Result<(Table, Figures), Fault>
     ensures { MatchResult result (λ r. IsFigured design.now options.now r.0 r.1)
         (IsShowFault design.now options.now) }
 {

@@ -92,9 +92,9 @@ fn entries_of(alloc: Global, design: &Design, ways: &[Options]) -> Result<Vec<En
     Ok(entries)
 }
 
-/// The schedules of a design by each policy, each placement, and 1, 2, 4, .. workers up to those of the options: of each
-/// the makespan, the speedup, the rows and the samples held, or the number of the fault why there is none. A design
-/// without a schedule has none by any policy, and that is the answer.
+/// The schedules of a design by each policy, each placement, and 1, 2, 4, .. workers up to those of the options: of
+/// each the makespan, the speedup, the rows and the samples held, or the number of the fault why there is none. A
+/// design without a schedule has none by any policy, and that is the answer.
 #[tactic(auto, using(crate::proofs::Crews::sizes_of_ways))]
 pub fn compared(alloc: Global, design: &Design, options: &Options) -> Result<Vec<Entry>, Fault>
     requires { AreSizes options.now }
@@ -105,8 +105,8 @@ pub fn compared(alloc: Global, design: &Design, options: &Options) -> Result<Vec
     Ok(entries)
 }
 
-/// What the command `analyze --compare` prints: a table with a line for each schedule that is compared. A star stands at
-/// the best of a column, at each of several.
+/// What the command `analyze --compare` prints: a table with a line for each schedule that is compared. A star stands
+/// at the best of a column, at each of several.
 pub fn compare(alloc: Global, design: &Design, options: &Options) -> Result<String, Fault>
     requires { AreSizes options.now }
     ensures { MatchResult result (λ s. IsComparison design.now options.now (string_bytes s))

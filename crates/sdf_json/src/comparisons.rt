@@ -17,11 +17,7 @@ use serde_json::Value;
 use std::alloc::{AllocError, Global};
 
 /// Adds what is compared of a schedule.
-fn put_measures(
-    members: &mut Members,
-    alloc: Global,
-    measures: Measures,
-) -> Result<(), AllocError>
+fn put_measures(members: &mut Members, alloc: Global, measures: Measures) -> Result<(), AllocError>
     ensures { OnOk result (members_view members.new.entries ≡
         with (members_view members.old.entries) (measures_of measures)) }
 {

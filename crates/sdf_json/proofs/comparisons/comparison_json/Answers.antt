@@ -6,4 +6,4 @@ use Rattle.sdf_json.proofs.comparisons.comparison_json.Goals as goal
 
 pub line_of-requires : goal.line_of-requires
 line_of-requires c =
-    subst (λ v. depth v ≤ max_depth) (sym c.in_ok-value.ensures) (comparison_flat c.in_ok-entries.entries.items)
+    subst (λ v. depth v ≤ max_depth) (sym c.in_ok-value.ensures) (comparison_flat c.deref.result.now)
