@@ -1,3 +1,3 @@
-pub mod Designs
+pub mod Works
 pub mod Crews
 pub mod Refusals

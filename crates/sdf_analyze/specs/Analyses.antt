@@ -8,16 +8,16 @@ use Rattle.sdf_process.specs.Schedules.{IsScheduled}
 use Rattle.sdf_analyze.specs.Figures.{Figured, AreFiguresOf}
 use Rattle.sdf_analyze.specs.Texts.{analysis_text}
 
--- the table that options give a design, and its figures
-pub record IsFigured (d : DesignValue) (o : Options) (t : Tabled) (f : Figured) : Type 0 where
+-- the periods of a block and the table that options give a design, and its figures
+pub record IsFigured (d : DesignValue) (o : Options) (periods : ℕ) (t : Tabled) (f : Figured) : Type 0 where
   pub period : Schedule
-  pub periods : ℕ
   pub scheduled : IsScheduled d o periods period t
   pub are : AreFiguresOf d periods o.workers period t f
 
 -- the text is of these
 pub record IsAnalysis (d : DesignValue) (o : Options) (text : List ℕ) : Type 0 where
+  pub periods : ℕ
   pub table : Tabled
   pub figures : Figured
-  pub figured : IsFigured d o table figures
+  pub figured : IsFigured d o periods table figures
   pub is : text ≡ analysis_text d figures table.caps

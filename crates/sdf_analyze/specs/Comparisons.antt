@@ -42,9 +42,10 @@ number_of (prec.BadCost actor) = 62
 
 -- the measures are those of the table that the options give
 pub record IsMade (d : DesignValue) (o : Options) (m : Measures) : Type 0 where
+  pub periods : ℕ
   pub table : Tabled
   pub figures : Figured
-  pub figured : IsFigured d o table figures
+  pub figured : IsFigured d o periods table figures
   pub is : m ≡ measures_of table figures
 
 -- they give none, and the number is that of the fault
@@ -57,9 +58,13 @@ abbrev pub IsOutcome : DesignValue → Options → Outcome → Type 0
 IsOutcome d o (Made m) = IsMade d o m
 IsOutcome d o (Refused number) = IsRefused d o number
 
--- a line for each schedule that is compared, in their order, with what becomes of it
-pub record IsComparison (d : DesignValue) (o : Options) (text : List ℕ) : Type 0 where
-  pub entries : List Entry
+-- the schedules that are compared, in their order, and what becomes of each
+pub record AreCompared (d : DesignValue) (o : Options) (entries : List Entry) : Type 0 where
   pub ways_are : map (λ (e : Entry). e.options) entries ≡ ways o
   pub each : All (λ (e : Entry). IsOutcome d e.options e.outcome) entries
+
+-- a line for each of them
+pub record IsComparison (d : DesignValue) (o : Options) (text : List ℕ) : Type 0 where
+  pub entries : List Entry
+  pub compared : AreCompared d o entries
   pub is : text ≡ comparison_text entries

@@ -4,13 +4,15 @@ use Rattle.sdf_graph.specs.Rates.{Rates}
 use Rattle.sdf_sched.specs.Period.{Schedule}
 use Rattle.sdf_prec.specs.declared.firing.Firing.{Firing}
 use Rattle.sdf_prec.specs.Tables.{Tabled}
-use Rattle.sdf_times.specs.Times.{AreStarts, IsMakespan, load_of, work_of, IsSpan, IsBound}
+use Rattle.sdf_times.specs.Times.{IsInTable, AreStarts, HasStart, start_in, IsMakespan, load_of, work_of, IsSpan}
+use Rattle.sdf_times.specs.Times.{IsBound}
 use Rattle.sdf_file.specs.Designs.{DesignValue}
 use Rattle.sdf_process.specs.Placements.{rates_of, firings_of}
 
--- when a table's last firing ends; of its block the work, the span and the bound; the load of each column; and the sum
--- of the channels' capacities
+-- of each actor when its firings in a table start, and when the last firing of all ends; of the table's block the work,
+-- the span and the bound; the load of each column; and the sum of the channels' capacities
 pub record Figured : Type 0 where
+  pub starts : List (List ℕ)
   pub makespan : ℕ
   pub work : ℕ
   pub span : ℕ
@@ -18,15 +20,11 @@ pub record Figured : Type 0 where
   pub loads : List ℕ
   pub held : ℕ
 
--- the makespan of a table
-pub record IsMakespanOf (r : Rates) (cost : ℕ → ℕ) (t : Tabled) (makespan : ℕ) : Type 0 where
-  pub start : Firing → ℕ
-  pub starts : AreStarts r cost t.rows start
-  pub is : IsMakespan cost t.rows start makespan
-
 -- the figures of a table in m columns, for a block of j periods, where each firing of actor a costs: cost a
 pub record AreFigures (r : Rates) (cost : ℕ → ℕ) (j m : ℕ) (s : Schedule) (t : Tabled) (f : Figured) : Type 0 where
-  pub makespan : IsMakespanOf r cost t f.makespan
+  pub starts : AreStarts r cost t.rows (start_in f.starts)
+  pub has : (g : Firing) → IsInTable t.rows g → HasStart f.starts g
+  pub makespan : IsMakespan cost t.rows (start_in f.starts) f.makespan
   pub work : f.work ≡ work_of r.actors (firings_of j s) cost
   pub span : IsSpan r (firings_of j s) cost f.span
   pub bound : IsBound f.span f.work m f.bound

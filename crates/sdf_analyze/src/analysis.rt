@@ -13,13 +13,14 @@ use sdf_process::Fault;
 use sdf_process::schedule::scheduled;
 use std::alloc::Global;
 
-/// The table that options give a design, and its figures.
-pub(crate) fn figured(
+/// The periods of a block and the table that options give a design, and its figures. The tests are those of
+/// `sdf_process::schedule::scheduled`.
+pub fn figured(
     alloc: Global,
     design: &Design,
     options: &Options,
-) -> Result<(Table, Figures), Fault>
-    ensures { MatchResult result (λ r. IsFigured design.now options.now r.0 r.1)
+) -> Result<(u32, Table, Figures), Fault>
+    ensures { MatchResult result (λ r. IsFigured design.now options.now r.0 r.1 r.2)
         (IsShowFault design.now options.now) }
 {
     let (period, table, blocking) = scheduled(alloc, design, options)?;
@@ -28,7 +29,7 @@ pub(crate) fn figured(
         ..*options
     };
     let figures = Figures::of(alloc, design, &placed, &period, &table)?;
-    Ok((table, figures))
+    Ok((blocking, table, figures))
 }
 
 /// What the command `analyze` prints of the schedule that `schedule` prints: when its last firing ends, where each
@@ -39,7 +40,7 @@ pub fn analyze(alloc: Global, design: &Design, options: &Options) -> Result<Stri
     ensures { MatchResult result (λ s. IsAnalysis design.now options.now (string_bytes s))
         (IsShowFault design.now options.now) }
 {
-    let (table, figures) = figured(alloc, design, options)?;
+    let (_, table, figures) = figured(alloc, design, options)?;
     let text = analysis_text(alloc, design, &table, &figures, options.workers)?;
     Ok(text)
 }

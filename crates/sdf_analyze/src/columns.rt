@@ -21,28 +21,29 @@ pub(crate) enum Column {
 
 /// What a schedule has in each column; the speedup in hundredths.
 #[derive(Clone, Copy)]
-pub(crate) struct Measures {
-    pub(crate) makespan: u64,
-    pub(crate) speedup: u128,
-    pub(crate) rows: usize,
-    pub(crate) held: u64,
+pub struct Measures {
+    pub makespan: u64,
+    pub speedup: u64,
+    pub rows: usize,
+    pub held: u64,
 }
 
 /// A schedule's columns, or the number of the fault why there is none.
 #[derive(Clone, Copy)]
-pub(crate) enum Outcome {
+pub enum Outcome {
     Made(Measures),
     Refused(u32),
 }
 
-/// A line of a comparison.
+/// A line of a comparison: options, and what becomes of the schedule that they ask for.
 #[derive(Clone, Copy)]
-pub(crate) struct Entry {
-    pub(crate) options: Options,
-    pub(crate) outcome: Outcome,
+pub struct Entry {
+    pub options: Options,
+    pub outcome: Outcome,
 }
 
-fn policy_word(policy: Policy) -> &'static str
+/// The word of a policy on the command line.
+pub fn policy_word(policy: Policy) -> &'static str
     ensures { result.now ≡ policy_word policy }
 {
     match policy {
@@ -52,7 +53,8 @@ fn policy_word(policy: Policy) -> &'static str
     }
 }
 
-fn placement_word(placement: Placement) -> &'static str
+/// The word of a placement there.
+pub fn placement_word(placement: Placement) -> &'static str
     ensures { result.now ≡ placement_word placement }
 {
     match placement {
@@ -65,14 +67,14 @@ fn placement_word(placement: Placement) -> &'static str
 
 impl Column {
     /// What a schedule has in it.
-    fn value_in(self, measures: Measures) -> u128
+    fn value_in(self, measures: Measures) -> u64
         ensures { result ≡ value_in self measures }
     {
         match self {
-            Column::Makespan => u128::from(measures.makespan),
+            Column::Makespan => measures.makespan,
             Column::Speedup => measures.speedup,
-            Column::Rows => measures.rows as u128,
-            Column::Samples => u128::from(measures.held),
+            Column::Rows => measures.rows as u64,
+            Column::Samples => measures.held,
         }
     }
 

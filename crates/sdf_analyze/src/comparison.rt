@@ -7,12 +7,11 @@ ghost use Rattle.sdf_process.specs.declared.fault.Fault.TheVariants as faults;
 ghost use Rattle.sdf_process.specs.Plans.{AreSizes, IsScheduleFault};
 ghost use Rattle.sdf_analyze.specs.declared.columns.Entry.{Entry};
 ghost use Rattle.sdf_analyze.specs.declared.columns.Outcome.TheVariants.{Refused};
-ghost use Rattle.sdf_analyze.specs.Comparisons.{measures_of, number_of, IsOutcome, IsComparison};
+ghost use Rattle.sdf_analyze.specs.Comparisons.{measures_of, number_of, IsOutcome, AreCompared, IsComparison};
 
 use crate::analysis::figured;
 use crate::columns::{Entry, Measures, Outcome, comparison_text};
 use crate::figures::Figures;
-use crate::lines::hundredths;
 use crate::ways::ways;
 use sdf_file::Design;
 use sdf_options::Options;
@@ -26,7 +25,7 @@ fn measures_of(table: &Table, figures: &Figures) -> Measures
 {
     Measures {
         makespan: figures.makespan(),
-        speedup: hundredths(figures.work(), figures.makespan()),
+        speedup: figures.speedup(),
         rows: table.rows(),
         held: figures.held(),
     }
@@ -70,7 +69,7 @@ fn outcome_of(alloc: Global, design: &Design, options: &Options) -> Result<Outco
     ensures { MatchResult result (IsOutcome design.now options.now) (IsScheduleFault design.now) }
 {
     match figured(alloc, design, options) {
-        Ok((table, figures)) => Ok(Outcome::Made(measures_of(&table, &figures))),
+        Ok((_, table, figures)) => Ok(Outcome::Made(measures_of(&table, &figures))),
         Err(fault) => refusal(fault),
     }
 }
@@ -93,18 +92,27 @@ fn entries_of(alloc: Global, design: &Design, ways: &[Options]) -> Result<Vec<En
     Ok(entries)
 }
 
-/// What the command `analyze --compare` prints: a table with a line for each policy, each placement, and 1, 2, 4, ..
-/// workers up to those of the options, of the makespan, the speedup, the rows and the samples held of the schedule that
-/// these give, or the number of the fault why there is none. A star stands at the best of a column, at each of several.
-/// A design without a schedule has none by any policy, and that is the answer.
+/// The schedules of a design by each policy, each placement, and 1, 2, 4, .. workers up to those of the options: of
+/// each the makespan, the speedup, the rows and the samples held, or the number of the fault why there is none. A
+/// design without a schedule has none by any policy, and that is the answer.
 #[tactic(auto, using(crate::proofs::Crews::sizes_of_ways))]
+pub fn compared(alloc: Global, design: &Design, options: &Options) -> Result<Vec<Entry>, Fault>
+    requires { AreSizes options.now }
+    ensures { MatchResult result (λ v. AreCompared design.now options.now v.items) (IsScheduleFault design.now) }
+{
+    let ways = ways(alloc, options)?;
+    let entries = entries_of(alloc, design, &ways)?;
+    Ok(entries)
+}
+
+/// What the command `analyze --compare` prints: a table with a line for each schedule that is compared. A star stands
+/// at the best of a column, at each of several.
 pub fn compare(alloc: Global, design: &Design, options: &Options) -> Result<String, Fault>
     requires { AreSizes options.now }
     ensures { MatchResult result (λ s. IsComparison design.now options.now (string_bytes s))
         (IsScheduleFault design.now) }
 {
-    let ways = ways(alloc, options)?;
-    let entries = entries_of(alloc, design, &ways)?;
+    let entries = compared(alloc, design, options)?;
     let text = comparison_text(alloc, &entries)?;
     Ok(text)
 }

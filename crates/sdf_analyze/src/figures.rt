@@ -4,21 +4,28 @@ ghost use Rattle.std.specs.Prelude.{◌≡◌, ◌<◌, length, slice_index, Mat
 ghost use Rattle.sdf_sched.specs.Period.{IsPeriodOf};
 ghost use Rattle.sdf_prec.specs.Blocks.{IsWorkers, IsShort};
 ghost use Rattle.sdf_prec.specs.Tables.{IsTable};
+ghost use Rattle.sdf_prec.specs.declared.firing.Firing.{Firing};
 ghost use Rattle.sdf_prec.specs.declared.fault.PrecFault.TheVariants.{OutOfMemory};
+ghost use Rattle.sdf_times.specs.Times.{HasStart, start_in};
 ghost use Rattle.sdf_process.specs.Placements.{rates_of, firings_of};
 ghost use Rattle.sdf_analyze.specs.Figures.{AreFiguresOf};
+ghost use Rattle.sdf_analyze.specs.Texts.{hundredths};
 
 use sdf_file::Design;
+use sdf_limits::{MOST_ACTORS, MOST_BLOCK, MOST_COST};
 use sdf_options::Options;
-use sdf_prec::{PrecFault, Table};
+use sdf_prec::{Firing, PrecFault, Table};
 use sdf_sched::Period;
 use sdf_times::{Times, bound, held, span, work};
 use std::alloc::Global;
 use std::marker::Model;
 
-/// The figures of a table.
+/// No block has more work.
+const MOST_WORK: u64 = MOST_ACTORS as u64 * MOST_BLOCK as u64 * MOST_COST as u64;
+
+/// When the firings of a table start and end, how short any table of its block may be, and what its channels hold.
 #[derive(Drop)]
-pub(crate) struct Figures {
+pub struct Figures {
     times: Times,
     work: u64,
     span: u64,
@@ -27,11 +34,14 @@ pub(crate) struct Figures {
 }
 
 impl Model for Figures {
+    ghost use Rattle.std.specs.Prelude.{◌≤◌};
     ghost use Rattle.sdf_analyze.specs.Figures.{Figured};
+    ghost use Rattle.sdf_analyze.specs.declared.figures.TheConstants.{MOST_WORK};
 
     ghost Value = { Figured };
 
     ghost view = { λ f. record {
+      starts = f.times.starts;
       makespan = f.times.makespan;
       work = f.work;
       span = f.span;
@@ -39,11 +49,13 @@ impl Model for Figures {
       loads = f.times.loads;
       held = f.held;
     } };
+
+    ghost invariant = { λ f. f.work ≤ MOST_WORK };
 }
 
 impl Figures {
     /// Those of the table of a design's period for a block of the options.
-    pub(crate) fn of(
+    pub fn of(
         alloc: Global,
         design: &Design,
         options: &Options,
@@ -74,36 +86,53 @@ impl Figures {
         })
     }
 
+    /// When a firing starts.
+    pub fn start(&self, firing: Firing) -> u64
+        requires { HasStart self.now.starts firing }
+        ensures { result ≡ start_in self.now.starts firing }
+    {
+        self.times.start(firing)
+    }
+
     /// When the last firing ends.
-    pub(crate) fn makespan(&self) -> u64
+    pub fn makespan(&self) -> u64
         ensures { result ≡ self.now.makespan }
     {
         self.times.makespan()
     }
 
     /// What the firings of the block cost together.
-    pub(crate) fn work(&self) -> u64
+    pub fn work(&self) -> u64
         ensures { result ≡ self.now.work }
     {
         self.work
     }
 
+    /// How often the makespan goes into the work, in hundredths, rounded down; of no time 0.
+    pub fn speedup(&self) -> u64
+        ensures { result ≡ hundredths self.now.work self.now.makespan }
+    {
+        (self.work * 100)
+            .checked_div(self.times.makespan())
+            .unwrap_or(0)
+    }
+
     /// What the costliest chain of the block's firings costs.
-    pub(crate) fn span(&self) -> u64
+    pub fn span(&self) -> u64
         ensures { result ≡ self.now.span }
     {
         self.span
     }
 
     /// The least time in which the costliest chain ends and the workers can do the work.
-    pub(crate) fn bound(&self) -> u64
+    pub fn bound(&self) -> u64
         ensures { result ≡ self.now.bound }
     {
         self.bound
     }
 
     /// What the firings of a column cost together.
-    pub(crate) fn load(&self, column: usize) -> u64
+    pub fn load(&self, column: usize) -> u64
         requires { column < length self.now.loads }
         ensures { result ≡ slice_index self.now.loads column }
     {
@@ -111,7 +140,7 @@ impl Figures {
     }
 
     /// The sum of the channels' capacities, in samples.
-    pub(crate) fn held(&self) -> u64
+    pub fn held(&self) -> u64
         ensures { result ≡ self.now.held }
     {
         self.held

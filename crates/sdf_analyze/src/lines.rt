@@ -13,7 +13,7 @@ use std::alloc::{AllocError, Global};
 pub const SAMPLE_BYTES: u32 = 4;
 
 /// How many hundredths of the whole a part is, rounded down; of nothing 0.
-pub(crate) fn hundredths(part: u64, whole: u64) -> u128
+fn hundredths(part: u64, whole: u64) -> u128
     ensures { result ≡ hundredths part whole }
 {
     (u128::from(part) * 100)
@@ -22,7 +22,7 @@ pub(crate) fn hundredths(part: u64, whole: u64) -> u128
 }
 
 /// Adds so many hundredths with two digits behind the point.
-pub(crate) fn push_with_point(text: &mut String, hundredths: u128) -> Result<(), AllocError>
+pub(crate) fn push_with_point(text: &mut String, hundredths: u64) -> Result<(), AllocError>
     ensures { OnOk result (string_bytes text.new ≡ string_bytes text.old ++ with_point hundredths) }
 {
     let whole = hundredths / 100;
@@ -58,7 +58,7 @@ fn push_speedup(text: &mut String, figures: &Figures, workers: usize) -> Result<
     ensures { OnOk result (string_bytes text.new ≡ string_bytes text.old ++ speedup_line figures.now) }
 {
     text.push_str("speedup ")?;
-    push_with_point(text, hundredths(figures.work(), figures.makespan()))?;
+    push_with_point(text, figures.speedup())?;
     writeln!(text, " of {workers}")?;
     Ok(())
 }

@@ -1,21 +1,22 @@
 -- The firings of a design's table can be drawn.
-use Rattle.std.proofs.Common.{◌≡◌, ℕ, ◌+◌, ◌<◌, ◌≤◌, length, arith, refl}
+use Rattle.std.proofs.Common.{◌≡◌, ℕ, ◌+◌, ◌<◌, ◌≤◌, ◌^◌, length, arith, refl}
 use Rattle.sdf_sched.specs.Period.{Schedule}
 use Rattle.sdf_prec.specs.Tables.{Tabled, IsTable}
 use Rattle.sdf_file.specs.Designs.{DesignValue, IsDesign}
 use Rattle.sdf_process.specs.Placements.{rates_of, firings_of}
-use Rattle.sdf_draw.specs.Bars.{TimedValue, IsTimed, AreDrawable}
+use Rattle.sdf_analyze.specs.Figures.{Figured, AreFiguresOf}
+use Rattle.sdf_draw.specs.Bars.{AreDrawable}
 use Rattle.sdf_draw.proofs.Known.{known_firing}
 
-pub drawable : (d : DesignValue) (j m : ℕ) (s : Schedule) (t : Tabled) (v : TimedValue) → IsDesign d →
-    IsTable (rates_of d) (firings_of j s) m t → IsTimed d j m s t v →
-    AreDrawable d m t v.times.starts
-drawable d j m s t v whole table timed = record {
+pub drawable : (d : DesignValue) (j m : ℕ) (s : Schedule) (t : Tabled) (v : Figured) → IsDesign d →
+    IsTable (rates_of d) (firings_of j s) m t → AreFiguresOf d j m s t v → v.makespan < 2 ^ 64 →
+    AreDrawable d m t v.starts
+drawable d j m s t v whole table figures fits = record {
   wide = table.wide;
   each = λ f at. record {
-    has = timed.has f at;
+    has = figures.has f at;
     known = let k : f.actor < length d.net.nodes = known_firing (rates_of d) (firings_of j s) t.rows f table.valid at in
         omega (arith, k, whole.priced.all);
-    small = let low = timed.makespan.above _ (f, at, refl) in omega (arith, low, timed.fits);
+    small = let low = figures.makespan.above _ (f, at, refl) in omega (arith, low, fits);
   };
 }

@@ -3,6 +3,6 @@ pub mod Deep
 pub mod Escapes
 pub mod Joined
 pub mod Apart
-pub mod Times
+pub mod Lowest
 pub mod Known
 pub mod Drawable

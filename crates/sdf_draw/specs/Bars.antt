@@ -2,36 +2,12 @@
 use Rattle.std.specs.Prelude.{◌≡◌, ℕ, zero, suc, ◌+◌, ◌*◌, ◌/◌, ◌==◌, ◌&&◌, Bool, List, [], ◌∷◌, if◌then◌else◌, Option}
 use Rattle.std.specs.Prelude.{Some, None}
 use Rattle.std.specs.Prelude.{slice_index, length, ◌<◌, ◌^◌}
-use Rattle.sdf_graph.specs.Rates.{Rates}
-use Rattle.sdf_sched.specs.Period.{Schedule}
 use Rattle.sdf_prec.specs.declared.firing.Firing.{Firing}
 use Rattle.sdf_prec.specs.Tables.{Tabled, cell, row}
-use Rattle.sdf_times.specs.Times.{AreStarts, IsInTable, HasStart, IsMakespan, IsSpan, IsBound, Timing, start_in}
-use Rattle.sdf_times.specs.Times.{work_of}
+use Rattle.sdf_times.specs.Times.{IsInTable, HasStart, start_in}
 use Rattle.sdf_file.specs.Designs.{DesignValue}
-use Rattle.sdf_process.specs.Placements.{rates_of, firings_of}
 use Rattle.sdf_draw.specs.declared.bars.Bar.{Bar}
 use Rattle.sdf_draw.specs.declared.chart.TheConstants.{CHART}
-
--- the times of a table, and the least time of any table of its block
-pub record TimedValue : Type 0 where
-  pub times : Timing
-  pub makespan : ℕ
-  pub bound : ℕ
-
--- those of a table in m columns, for a block of j periods, where each firing of actor a costs: cost a
-pub record AreTimes (r : Rates) (cost : ℕ → ℕ) (j m : ℕ) (s : Schedule) (t : Tabled) (v : TimedValue) : Type 0 where
-  pub starts : AreStarts r cost t.rows (start_in v.times.starts)
-  pub has : (f : Firing) → IsInTable t.rows f → HasStart v.times.starts f
-  pub makespan : IsMakespan cost t.rows (start_in v.times.starts) v.makespan
-  pub fits : v.makespan < 2 ^ 64
-  pub span : ℕ
-  pub chains : IsSpan r (firings_of j s) cost span
-  pub bound : IsBound span (work_of r.actors (firings_of j s) cost) m v.bound
-
--- those of a table of a design
-abbrev pub IsTimed : DesignValue → ℕ → ℕ → Schedule → Tabled → TimedValue → Type 0
-IsTimed d j m s t v = AreTimes (rates_of d) (slice_index d.costs) j m s t v
 
 -- the bar of a firing: from its start so long as it costs
 abbrev pub bar_of : (ℕ → ℕ) → (Firing → ℕ) → Firing → Bar

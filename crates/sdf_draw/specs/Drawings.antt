@@ -5,18 +5,41 @@ use Rattle.sdf_prec.specs.Tables.{Tabled}
 use Rattle.sdf_file.specs.Designs.{DesignValue}
 use Rattle.sdf_options.specs.declared.options.Options.{Options}
 use Rattle.sdf_process.specs.Schedules.{IsScheduled}
+use Rattle.sdf_analyze.specs.Figures.{Figured, AreFiguresOf}
 use Rattle.sdf_draw.specs.declared.layout.Place.{Place}
 use Rattle.sdf_draw.specs.declared.layout.Route.{Route}
+use Rattle.sdf_draw.specs.declared.page.Drawing.{Drawing}
 use Rattle.sdf_draw.specs.Layouts.{IsLayout}
-use Rattle.sdf_draw.specs.Bars.{TimedValue, IsTimed, AreDrawable}
+use Rattle.sdf_draw.specs.Bars.{AreDrawable}
 
--- the table that options give a design, with its times, and boxes and routes by the order of its period
-pub record IsDrawing (d : DesignValue) (o : Options) (t : Tabled) (v : TimedValue) (ps : List Place) (above below : ℕ)
-    (rs : List Route) : Type 0 where
+-- the period and the table of a schedule, the table's figures, a box for each actor, a route for each link, and how
+-- many lanes there are above the boxes and below them
+pub record Drawn : Type 0 where
   pub period : Schedule
+  pub table : Tabled
+  pub figures : Figured
+  pub places : List Place
+  pub routes : List Route
+  pub above : ℕ
+  pub below : ℕ
+
+abbrev pub drawn_of : Drawing → Drawn
+drawn_of w = record {
+  period = w.period;
+  table = w.table;
+  figures = w.figures;
+  places = w.layout.places.items;
+  routes = w.layout.routes.items;
+  above = w.layout.above;
+  below = w.layout.below;
+}
+
+-- the table that options give a design, with its figures, and boxes and routes by the order of its period
+pub record IsDrawing (d : DesignValue) (o : Options) (w : Drawn) : Type 0 where
   pub periods : ℕ
-  pub scheduled : IsScheduled d o periods period t
-  pub timed : IsTimed d periods o.workers period t v
-  pub layout : IsLayout d period.order ps above below rs
-  pub drawable : AreDrawable d o.workers t v.times.starts
-  pub capacities : length t.caps ≡ length d.net.wires
+  pub scheduled : IsScheduled d o periods w.period w.table
+  pub figures : AreFiguresOf d periods o.workers w.period w.table w.figures
+  pub layout : IsLayout d w.period.order w.places w.above w.below w.routes
+  pub drawable : AreDrawable d o.workers w.table w.figures.starts
+  pub capacities : length w.table.caps ≡ length d.net.wires
+  pub fire : length w.period.repetitions ≡ length d.net.nodes

@@ -1,5 +1,5 @@
 -- Where the boxes of actors stand, and which way the arrows of links go.
-use Rattle.std.specs.Prelude.{◌≡◌, ℕ, ◌+◌, ◌*◌, ◌/◌, ◌<◌, ◌≤◌, ◌⊎◌, ◌==◌, if◌then◌else◌, List, length, take}
+use Rattle.std.specs.Prelude.{◌≡◌, ℕ, ◌+◌, ◌*◌, ◌/◌, ◌<◌, ◌≤◌, ◌⊎◌, ◌==◌, if◌then◌else◌, List, [], ◌∷◌, length, take}
 use Rattle.std.specs.Prelude.{slice_index}
 use Rattle.std.specs.Prelude.{slice_index_or, max}
 use Rattle.std.specs.List.{sum_by}
@@ -34,6 +34,25 @@ bottom_of p = p.y + p.height
 
 abbrev pub middle_of : Place → ℕ
 middle_of p = p.y + p.height / 2
+
+-- the greatest of what f gives for some boxes, or 0 where there is none
+abbrev pub greatest_by : (Place → ℕ) → List Place → ℕ
+greatest_by f [] = 0
+greatest_by f (p ∷ ps) = max (f p) (greatest_by f ps)
+
+-- where the lowest box ends, and the one farthest to the right
+abbrev pub lowest : List Place → ℕ
+lowest ps = greatest_by bottom_of ps
+
+abbrev pub rightmost : List Place → ℕ
+rightmost ps = greatest_by right_of ps
+
+-- how far down a lane above the boxes is, and one below them
+abbrev pub lane_above : ℕ → ℕ
+lane_above lane = HEAD + LANE * lane
+
+abbrev pub lane_below : List Place → ℕ → ℕ
+lane_below ps lane = lowest ps + GAP + LANE * lane
 
 -- the room that a box takes in its column where that is the one of this depth
 abbrev pub room_in : ℕ → Place → ℕ

@@ -1,6 +1,13 @@
 pub mod Depths
 pub mod Layouts
+pub mod Shapes
+pub mod Edges
 pub mod Bars
 pub mod Texts
 pub mod Feeds
+pub mod Boxes
+pub mod Arrows
+pub mod Charts
 pub mod Drawings
+pub mod Pictures
+pub mod Graphviz

@@ -1,19 +1,18 @@
 -- Parts of the texts.
-use Rattle.std.specs.Prelude.{ℕ, zero, suc, List, [], ◌++◌, ◌==◌, if◌then◌else◌, length, sum, codes, decimal}
+use Rattle.std.specs.Prelude.{ℕ, List, [], ◌++◌, ◌==◌, if◌then◌else◌, length, sum, codes, decimal}
 use Rattle.std.specs.Prelude.{encode_utf8}
 use Rattle.std.specs.Prelude.{slice_index_or}
 use Rattle.std.specs.List.{flat_map}
 use Rattle.std.specs.Str.{chars}
 use Rattle.sdf_file.specs.Designs.{DesignValue}
 
--- the texts of the first n
-abbrev pub texts_to : (ℕ → List ℕ) → ℕ → List ℕ
-texts_to text zero = []
-texts_to text (suc n) = texts_to text n ++ text n
-
 -- a text and a number
 abbrev pub number_text : List ℕ → ℕ → List ℕ
 number_text word n = word ++ decimal n
+
+-- two texts, each with a number behind it
+unfoldable pub pair_text : List ℕ → ℕ → List ℕ → ℕ → List ℕ
+pair_text one x other y = number_text one x ++ number_text other y
 
 -- a character as it stands in a document of marks: & < > " and ' by their names
 abbrev pub escaped_char : ℕ → List ℕ

@@ -1,13 +1,18 @@
 //! The text of arrows.
 
-ghost use Rattle.std.specs.Prelude.{◌≡◌, ◌<◌, ◌≤◌, length};
+ghost use Rattle.std.specs.Prelude.{◌≡◌, ◌<◌, ◌≤◌, ◌++◌, OnOk, length, slice_index, string_bytes, codes};
 ghost use Rattle.sdf_limits.specs.declared.TheConstants.{MOST_CYCLE, MOST_PORTS};
 ghost use Rattle.sdf_actor.specs.Nets.{wire};
-ghost use Rattle.sdf_draw.specs.Layouts.{IsNear};
+ghost use Rattle.sdf_draw.specs.Layouts.{IsNear, route};
+ghost use Rattle.sdf_draw.specs.Edges.{edge};
+ghost use Rattle.sdf_draw.specs.Arrows.{port_height, start_of, end_of, shift_of, curve_text, turns_text, way_text};
+ghost use Rattle.sdf_draw.specs.Arrows.{stub_text, line_text, at_text, put_text, take_text, capacity_text};
+ghost use Rattle.sdf_draw.specs.Arrows.{dot_text, initial_text};
+ghost use Rattle.sdf_draw.specs.Arrows.{arrow_text, arrows_text};
 
 use crate::layout::{Layout, PORT, Place, Route, lane_above};
-use crate::ports::ports_of;
-use crate::texts::{COLOURS, push_number, push_rate};
+use crate::ports::{channel_of, ports_of};
+use crate::texts::{COLOURS, push_number, push_pair, push_rate};
 use sdf_file::Design;
 use sdf_graph::Channel;
 use sdf_prec::Table;
@@ -18,6 +23,9 @@ const STUB: u64 = 40;
 
 /// And at its end, beside the rate, the samples and the capacity.
 const TAIL: u64 = 72;
+
+/// What a dot begins with.
+const DOT: &str = "<circle class='dot' r='4' cx='";
 
 /// Lines that go up or down stand at so many places in a gap, this far from one another.
 const SHIFTS: usize = 11;
@@ -34,7 +42,8 @@ pub(crate) struct Spot {
 /// How high a port stands at a box.
 fn port_height(place: Place, ports: usize, port: usize) -> u64
     requires { (ports ≤ MOST_PORTS) × (port < MOST_PORTS) }
-    ensures { result < 10000000000 }
+    ensures is { result ≡ port_height place ports port }
+    ensures small { result < 10000000000 }
 {
     let rest = u64::from(place.height).saturating_sub(PORT * ports as u64);
     place.top() + rest / 2 + PORT * port as u64 + PORT / 2
@@ -72,7 +81,8 @@ fn to_of(design: &Design, link: usize) -> (usize, usize)
 fn start_of(design: &Design, layout: &Layout, link: usize) -> Spot
     requires link { link < length design.now.net.wires }
     requires boxes { length layout.now.places.items ≡ length design.now.net.nodes }
-    ensures { IsNear result }
+    ensures is { result ≡ start_of design.now layout.now.places.items link }
+    ensures near { IsNear result }
 {
     let (actor, port) = from_of(design, link);
     let place = layout.places[actor];
@@ -86,7 +96,8 @@ fn start_of(design: &Design, layout: &Layout, link: usize) -> Spot
 fn end_of(design: &Design, layout: &Layout, link: usize) -> Spot
     requires link { link < length design.now.net.wires }
     requires boxes { length layout.now.places.items ≡ length design.now.net.nodes }
-    ensures { IsNear result }
+    ensures is { result ≡ end_of design.now layout.now.places.items link }
+    ensures near { IsNear result }
 {
     let (actor, port) = to_of(design, link);
     let place = layout.places[actor];
@@ -97,8 +108,10 @@ fn end_of(design: &Design, layout: &Layout, link: usize) -> Spot
 }
 
 /// Adds the curve of an arrow across a gap.
+#[tactic(auto, unfolding(crate::specs::Arrows::curve_text))]
 fn push_curve(text: &mut String, start: Spot, end: Spot) -> Result<(), AllocError>
     requires { IsNear start }
+    ensures { OnOk result (string_bytes text.new ≡ string_bytes text.old ++ curve_text start end) }
 {
     push_number(text, " C", start.x + STUB + 40)?;
     push_number(text, " ", start.y)?;
@@ -109,6 +122,7 @@ fn push_curve(text: &mut String, start: Spot, end: Spot) -> Result<(), AllocErro
 }
 
 /// Adds the corners of an arrow in a lane at this height.
+#[tactic(auto, unfolding(crate::specs::Arrows::turns_text))]
 fn push_turns(
     text: &mut String,
     start: Spot,
@@ -118,6 +132,7 @@ fn push_turns(
 ) -> Result<(), AllocError>
     requires start { IsNear start }
     requires shift { shift < 1000 }
+    ensures { OnOk result (string_bytes text.new ≡ string_bytes text.old ++ turns_text start end lane shift) }
 {
     push_number(text, " H", start.x + STUB + shift)?;
     push_number(text, " V", lane)?;
@@ -135,6 +150,8 @@ fn push_way(
 ) -> Result<(), AllocError>
     requires link { link < length layout.now.routes.items }
     requires start { IsNear start }
+    ensures { OnOk result (string_bytes text.new ≡ string_bytes text.old
+        ++ way_text layout.now.places.items (route layout.now.routes.items link) (shift_of link) start end) }
 {
     let shift = (link % SHIFTS) as u64 * SHIFT;
     match layout.routes[link] {
@@ -144,7 +161,20 @@ fn push_way(
     }
 }
 
+/// Adds the straight part that a line begins with, in a colour.
+#[tactic(auto, unfolding(crate::specs::Arrows::stub_text))]
+fn push_stub(text: &mut String, colour: usize, start: Spot) -> Result<(), AllocError>
+    requires { IsNear start }
+    ensures { OnOk result (string_bytes text.new ≡ string_bytes text.old ++ stub_text colour start) }
+{
+    push_number(text, "<path class='way s", colour as u64)?;
+    push_number(text, "' d='M", start.x)?;
+    push_number(text, " ", start.y)?;
+    push_number(text, " H", start.x + STUB)
+}
+
 /// Adds the line of an arrow, in the colour of the actor that it comes from.
+#[tactic(auto, unfolding(crate::specs::Arrows::line_text))]
 fn push_line(
     text: &mut String,
     layout: &Layout,
@@ -155,64 +185,81 @@ fn push_line(
 ) -> Result<(), AllocError>
     requires link { link < length layout.now.routes.items }
     requires start { IsNear start }
+    ensures { OnOk result (string_bytes text.new ≡ string_bytes text.old
+        ++ line_text layout.now.places.items (route layout.now.routes.items link) link colour start end) }
 {
-    push_number(text, "<path class='way s", colour as u64)?;
-    push_number(text, "' d='M", start.x)?;
-    push_number(text, " ", start.y)?;
-    push_number(text, " H", start.x + STUB)?;
+    push_stub(text, colour, start)?;
     push_way(text, layout, link, start, end)?;
     push_number(text, " H", end.x.saturating_sub(2))?;
     text.push_str("'/>")
 }
 
+/// Adds what a text begins with, and where it stands.
+fn push_at(text: &mut String, word: &str, x: u64, y: u64) -> Result<(), AllocError>
+    ensures { OnOk result (string_bytes text.new ≡ string_bytes text.old ++ at_text word.now x y) }
+{
+    push_pair(text, word, x, "' y='", y)
+}
+
 /// Adds what firings put at the beginning of an arrow.
+#[tactic(auto, unfolding(crate::specs::Arrows::put_text))]
 fn push_put(text: &mut String, channel: &Channel, start: Spot) -> Result<(), AllocError>
     requires start { IsNear start }
     requires rates { length channel.now.put ≤ MOST_CYCLE }
+    ensures { OnOk result (string_bytes text.new ≡ string_bytes text.old ++ put_text channel.now.put start) }
 {
-    push_number(text, "<text x='", start.x + 5)?;
-    push_number(text, "' y='", start.y.saturating_sub(4))?;
+    push_at(text, "<text x='", start.x + 5, start.y.saturating_sub(4))?;
     text.push_str("'>")?;
     push_rate(text, channel.put.as_slice())?;
     text.push_str("</text>")
 }
 
 /// Adds what firings take at its end.
+#[tactic(auto, unfolding(crate::specs::Arrows::take_text))]
 fn push_take(text: &mut String, channel: &Channel, end: Spot) -> Result<(), AllocError>
     requires { length channel.now.take ≤ MOST_CYCLE }
+    ensures { OnOk result (string_bytes text.new ≡ string_bytes text.old ++ take_text channel.now.take end) }
 {
-    push_number(text, "<text class='end' x='", end.x.saturating_sub(9))?;
-    push_number(text, "' y='", end.y.saturating_sub(4))?;
+    let (x, y) = (end.x.saturating_sub(9), end.y.saturating_sub(4));
+    push_at(text, "<text class='end' x='", x, y)?;
     text.push_str("'>")?;
     push_rate(text, channel.take.as_slice())?;
     text.push_str("</text>")
 }
 
 /// Adds what the link holds at most, below its end.
+#[tactic(auto, unfolding(crate::specs::Arrows::capacity_text))]
 fn push_capacity(text: &mut String, capacity: u64, end: Spot) -> Result<(), AllocError>
     requires { IsNear end }
+    ensures { OnOk result (string_bytes text.new ≡ string_bytes text.old ++ capacity_text capacity end) }
 {
-    push_number(text, "<text class='end soft' x='", end.x.saturating_sub(9))?;
-    push_number(text, "' y='", end.y + 11)?;
+    let (x, y) = (end.x.saturating_sub(9), end.y + 11);
+    push_at(text, "<text class='end soft' x='", x, y)?;
     push_number(text, "'>", capacity)?;
     text.push_str("</text>")
 }
 
-/// Adds the samples that a link begins with: none, or a dot and their number.
-fn push_initial(text: &mut String, initial: usize, end: Spot) -> Result<(), AllocError> {
+/// Adds a dot before the end of an arrow, and the number of the samples that the link begins with.
+#[tactic(auto, unfolding(crate::specs::Arrows::dot_text))]
+fn push_dot(text: &mut String, initial: usize, end: Spot) -> Result<(), AllocError>
+    ensures { OnOk result (string_bytes text.new ≡ string_bytes text.old ++ dot_text initial end) }
+{
+    let (x, y) = (end.x.saturating_sub(TAIL - 2), end.y.saturating_sub(6));
+    let dot = end.x.saturating_sub(TAIL - 4);
+    push_pair(text, DOT, dot, "' cy='", end.y)?;
+    push_at(text, "'/><text x='", x, y)?;
+    push_number(text, "'>", initial as u64)?;
+    text.push_str("</text>")
+}
+
+/// Adds the samples that a link begins with, where there are some.
+fn push_initial(text: &mut String, initial: usize, end: Spot) -> Result<(), AllocError>
+    ensures { OnOk result (string_bytes text.new ≡ string_bytes text.old ++ initial_text initial end) }
+{
     if initial == 0 {
         return Ok(());
     }
-    push_number(
-        text,
-        "<circle class='dot' r='4' cx='",
-        end.x.saturating_sub(TAIL - 4),
-    )?;
-    push_number(text, "' cy='", end.y)?;
-    push_number(text, "'/><text x='", end.x.saturating_sub(TAIL - 2))?;
-    push_number(text, "' y='", end.y.saturating_sub(6))?;
-    push_number(text, "'>", initial as u64)?;
-    text.push_str("</text>")
+    push_dot(text, initial, end)
 }
 
 /// Adds the arrow of a link.
@@ -227,8 +274,10 @@ fn push_arrow(
     requires boxes { length layout.now.places.items ≡ length design.now.net.nodes }
     requires routes { length layout.now.routes.items ≡ length design.now.net.wires }
     requires capacities { length table.now.caps ≡ length design.now.net.wires }
+    ensures { OnOk result (string_bytes text.new ≡ string_bytes text.old ++ arrow_text design.now table.now.caps
+        layout.now.places.items layout.now.routes.items link) }
 {
-    let channel = &design.net().graph().channels()[link];
+    let channel = channel_of(design, link);
     let start = start_of(design, layout, link);
     let end = end_of(design, layout, link);
     push_line(text, layout, link, channel.from % COLOURS, start, end)?;
@@ -249,6 +298,8 @@ pub(crate) fn push_arrows(
     requires boxes { length layout.now.places.items ≡ length design.now.net.nodes }
     requires routes { length layout.now.routes.items ≡ length design.now.net.wires }
     requires capacities { length table.now.caps ≡ length design.now.net.wires }
+    ensures { OnOk result (string_bytes text.new ≡ string_bytes text.old ++ arrows_text design.now table.now.caps
+        layout.now.places.items layout.now.routes.items) }
 {
     for link in 0..design.net().channels() {
         push_arrow(text, design, layout, table, link)?;

@@ -7,8 +7,8 @@ ghost use Rattle.sdf_prec.specs.Tables.{row, cell};
 ghost use Rattle.sdf_times.specs.Times.{start_in};
 ghost use Rattle.sdf_draw.specs.Bars.{IsDrawable, bar_of, goes_on, two_bars, with_bar, with_cell, bars_to};
 
+use sdf_analyze::Figures;
 use sdf_prec::{Firing, Table};
-use sdf_times::Times;
 use std::alloc::{AllocError, Global};
 
 /// A firing of an actor, or several back to back, from its start to its end.
@@ -29,11 +29,11 @@ impl Bar {
 }
 
 /// The bar of a firing.
-fn bar_of(times: &Times, costs: &[u32], firing: Firing) -> Bar
-    requires { IsDrawable costs.now times.now.starts firing }
-    ensures { result ≡ bar_of (slice_index costs.now) (start_in times.now.starts) firing }
+fn bar_of(figures: &Figures, costs: &[u32], firing: Firing) -> Bar
+    requires { IsDrawable costs.now figures.now.starts firing }
+    ensures { result ≡ bar_of (slice_index costs.now) (start_in figures.now.starts) firing }
 {
-    let start = times.start(firing);
+    let start = figures.start(firing);
     Bar {
         actor: firing.actor,
         start,
@@ -74,16 +74,16 @@ fn add_bar(bars: &mut Vec<Bar>, joined: bool, bar: Bar) -> Result<(), AllocError
 fn add_cell(
     bars: &mut Vec<Bar>,
     joined: bool,
-    times: &Times,
+    figures: &Figures,
     costs: &[u32],
     cell: Option<Firing>,
 ) -> Result<(), AllocError>
-    requires { (f : Firing) → cell ≡ Some f → IsDrawable costs.now times.now.starts f }
+    requires { (f : Firing) → cell ≡ Some f → IsDrawable costs.now figures.now.starts f }
     ensures { IfOk result (λ _. bars.new.items ≡ with_cell joined
-        (bar_of (slice_index costs.now) (start_in times.now.starts)) bars.old.items cell) }
+        (bar_of (slice_index costs.now) (start_in figures.now.starts)) bars.old.items cell) }
 {
     match cell {
-        Some(firing) => add_bar(bars, joined, bar_of(times, costs, firing)),
+        Some(firing) => add_bar(bars, joined, bar_of(figures, costs, firing)),
         None => Ok(()),
     }
 }
@@ -92,21 +92,21 @@ fn add_cell(
 pub(crate) fn bars_in(
     alloc: Global,
     table: &Table,
-    times: &Times,
+    figures: &Figures,
     costs: &[u32],
     column: usize,
     joined: bool,
 ) -> Result<Vec<Bar>, AllocError>
     requires wide { (i : ℕ) → i < length table.now.rows → column < length (row table.now.rows i) }
     requires each { (i : ℕ) (f : Firing) → cell table.now.rows i column ≡ Some f →
-        IsDrawable costs.now times.now.starts f }
+        IsDrawable costs.now figures.now.starts f }
     ensures actors { IfOk result (λ v. All (λ b. b.actor < length costs.now) v.items) }
     ensures are { IfOk result (λ v. v.items ≡ bars_to joined
-        (bar_of (slice_index costs.now) (start_in times.now.starts)) table.now.rows column (length table.now.rows)) }
+        (bar_of (slice_index costs.now) (start_in figures.now.starts)) table.now.rows column (length table.now.rows)) }
 {
     let mut bars = Vec::new(alloc);
     for i in 0..table.rows() {
-        add_cell(&mut bars, joined, times, costs, table.row(i)[column])?;
+        add_cell(&mut bars, joined, figures, costs, table.row(i)[column])?;
     }
     Ok(bars)
 }

@@ -1,11 +1,16 @@
 //! The text of boxes.
 
-ghost use Rattle.std.specs.Prelude.{◌≡◌, ◌<◌, length};
+ghost use Rattle.std.specs.Prelude.{◌≡◌, ◌<◌, ◌++◌, ◌+◌, OnOk, length, string_bytes, slice_index, codes};
+ghost use Rattle.sdf_actor.specs.Nets.{node};
+ghost use Rattle.sdf_draw.specs.Boxes.{point_text, points_text, source_corners, sink_corners, upper_corners};
+ghost use Rattle.sdf_draw.specs.Boxes.{lower_corners, plain_corners, corners_text, outline_text, line_text};
+ghost use Rattle.sdf_draw.specs.Boxes.{pressed_text, label_text, firings_text, box_text, boxes_text};
 
 use crate::layout::{Layout, Place, WIDTH};
 use crate::ports::{Shape, shape_of};
 use crate::texts::{COLOURS, push_name, push_number};
 use sdf_file::Design;
+use sdf_sched::Period;
 use std::alloc::AllocError;
 
 /// How far a point of a shape stands out.
@@ -17,12 +22,16 @@ const CUT: u64 = 9;
 /// The letters of a name that stands in a box as it is; more are pressed together.
 const LETTERS: usize = 16;
 
-fn push_point(text: &mut String, x: u64, y: u64) -> Result<(), AllocError> {
+fn push_point(text: &mut String, x: u64, y: u64) -> Result<(), AllocError>
+    ensures { OnOk result (string_bytes text.new ≡ string_bytes text.old ++ point_text (x, y)) }
+{
     push_number(text, " ", x)?;
     push_number(text, ",", y)
 }
 
-fn push_source(text: &mut String, place: Place) -> Result<(), AllocError> {
+fn push_source(text: &mut String, place: Place) -> Result<(), AllocError>
+    ensures { OnOk result (string_bytes text.new ≡ string_bytes text.old ++ points_text (source_corners place)) }
+{
     push_point(text, place.left(), place.top())?;
     push_point(text, place.right() - POINT, place.top())?;
     push_point(text, place.right(), place.middle())?;
@@ -30,7 +39,9 @@ fn push_source(text: &mut String, place: Place) -> Result<(), AllocError> {
     push_point(text, place.left(), place.bottom())
 }
 
-fn push_sink(text: &mut String, place: Place) -> Result<(), AllocError> {
+fn push_sink(text: &mut String, place: Place) -> Result<(), AllocError>
+    ensures { OnOk result (string_bytes text.new ≡ string_bytes text.old ++ points_text (sink_corners place)) }
+{
     push_point(text, place.left() + POINT, place.top())?;
     push_point(text, place.right(), place.top())?;
     push_point(text, place.right(), place.bottom())?;
@@ -39,7 +50,9 @@ fn push_sink(text: &mut String, place: Place) -> Result<(), AllocError> {
 }
 
 /// The upper corners of a filter.
-fn push_upper(text: &mut String, place: Place) -> Result<(), AllocError> {
+fn push_upper(text: &mut String, place: Place) -> Result<(), AllocError>
+    ensures { OnOk result (string_bytes text.new ≡ string_bytes text.old ++ points_text (upper_corners place)) }
+{
     push_point(text, place.left(), place.top() + CUT)?;
     push_point(text, place.left() + CUT, place.top())?;
     push_point(text, place.right() - CUT, place.top())?;
@@ -47,7 +60,9 @@ fn push_upper(text: &mut String, place: Place) -> Result<(), AllocError> {
 }
 
 /// The lower corners of a filter.
-fn push_lower(text: &mut String, place: Place) -> Result<(), AllocError> {
+fn push_lower(text: &mut String, place: Place) -> Result<(), AllocError>
+    ensures { OnOk result (string_bytes text.new ≡ string_bytes text.old ++ points_text (lower_corners place)) }
+{
     let side = place.bottom().saturating_sub(CUT);
     push_point(text, place.right(), side)?;
     push_point(text, place.right() - CUT, place.bottom())?;
@@ -55,7 +70,9 @@ fn push_lower(text: &mut String, place: Place) -> Result<(), AllocError> {
     push_point(text, place.left(), side)
 }
 
-fn push_plain(text: &mut String, place: Place) -> Result<(), AllocError> {
+fn push_plain(text: &mut String, place: Place) -> Result<(), AllocError>
+    ensures { OnOk result (string_bytes text.new ≡ string_bytes text.old ++ points_text (plain_corners place)) }
+{
     push_point(text, place.left(), place.top())?;
     push_point(text, place.right(), place.top())?;
     push_point(text, place.right(), place.bottom())?;
@@ -63,7 +80,10 @@ fn push_plain(text: &mut String, place: Place) -> Result<(), AllocError> {
 }
 
 /// Adds the corners of a shape.
-fn push_corners(text: &mut String, shape: Shape, place: Place) -> Result<(), AllocError> {
+#[tactic(auto, unfolding(crate::specs::Boxes::corners_text))]
+fn push_corners(text: &mut String, shape: Shape, place: Place) -> Result<(), AllocError>
+    ensures { OnOk result (string_bytes text.new ≡ string_bytes text.old ++ corners_text shape place) }
+{
     match shape {
         Shape::Source => push_source(text, place),
         Shape::Sink => push_sink(text, place),
@@ -76,12 +96,15 @@ fn push_corners(text: &mut String, shape: Shape, place: Place) -> Result<(), All
 }
 
 /// Adds the outline of an actor, in its colour.
+#[tactic(auto, unfolding(crate::specs::Boxes::outline_text))]
 fn push_outline(
     text: &mut String,
     actor: usize,
     shape: Shape,
     place: Place,
-) -> Result<(), AllocError> {
+) -> Result<(), AllocError>
+    ensures { OnOk result (string_bytes text.new ≡ string_bytes text.old ++ outline_text actor shape place) }
+{
     push_number(text, "<polygon class='box s", (actor % COLOURS) as u64)?;
     text.push_str("' points='")?;
     push_corners(text, shape, place)?;
@@ -89,13 +112,30 @@ fn push_outline(
 }
 
 /// Adds where a line of a box stands: in its middle, and so far down.
-fn push_line(text: &mut String, word: &str, place: Place, y: u64) -> Result<(), AllocError> {
+fn push_line(text: &mut String, word: &str, place: Place, y: u64) -> Result<(), AllocError>
+    ensures { OnOk result (string_bytes text.new ≡ string_bytes text.old ++ line_text word.now place y) }
+{
     text.push_str(word)?;
     push_number(text, " x='", place.left() + WIDTH / 2)?;
     push_number(text, "' y='", y)
 }
 
+/// Presses a text of so many letters together where they are more than fit.
+fn push_pressed(text: &mut String, letters: usize) -> Result<(), AllocError>
+    ensures { OnOk result (string_bytes text.new ≡ string_bytes text.old ++ pressed_text letters) }
+{
+    if letters > LETTERS {
+        push_number(
+            text,
+            "' lengthAdjust='spacingAndGlyphs' textLength='",
+            WIDTH - 36,
+        )?;
+    }
+    Ok(())
+}
+
 /// Adds the name of an actor in the middle of its box.
+#[tactic(auto, unfolding(crate::specs::Boxes::label_text))]
 fn push_label(
     text: &mut String,
     design: &Design,
@@ -103,6 +143,7 @@ fn push_label(
     place: Place,
 ) -> Result<(), AllocError>
     requires { actor < length design.now.net.nodes }
+    ensures { OnOk result (string_bytes text.new ≡ string_bytes text.old ++ label_text design.now actor place) }
 {
     push_line(
         text,
@@ -110,56 +151,54 @@ fn push_label(
         place,
         place.middle().saturating_sub(2),
     )?;
-    if design.name(actor).len() > LETTERS {
-        push_number(
-            text,
-            "' lengthAdjust='spacingAndGlyphs' textLength='",
-            WIDTH - 36,
-        )?;
-    }
+    push_pressed(text, design.name(actor).len())?;
     text.push_str("'>")?;
     push_name(text, design, actor)?;
     text.push_str("</text>")
 }
 
 /// Adds how often an actor fires in a period, below its name.
-fn push_firings(text: &mut String, firings: u32, place: Place) -> Result<(), AllocError> {
+#[tactic(auto, unfolding(crate::specs::Boxes::firings_text))]
+fn push_firings(text: &mut String, firings: u32, place: Place) -> Result<(), AllocError>
+    ensures { OnOk result (string_bytes text.new ≡ string_bytes text.old ++ firings_text firings place) }
+{
     push_line(text, "<text class='mid soft'", place, place.middle() + 13)?;
     push_number(text, "'>q ", u64::from(firings))?;
     text.push_str("</text>\n")
 }
 
-/// How often an actor fires in a period.
-fn firings_of(design: &Design, actor: usize) -> u32
-    requires { actor < length design.now.net.nodes }
-{
-    design.net().repetitions().of(actor)
-}
-
-/// Adds the box of an actor.
+/// Adds the box of an actor that fires so often in a period.
 fn push_box(
     text: &mut String,
     design: &Design,
     actor: usize,
     place: Place,
+    firings: u32,
 ) -> Result<(), AllocError>
     requires { actor < length design.now.net.nodes }
+    ensures { OnOk result (string_bytes text.new ≡
+        string_bytes text.old ++ box_text design.now actor place firings) }
 {
     push_outline(text, actor, shape_of(design, actor), place)?;
     push_label(text, design, actor, place)?;
-    push_firings(text, firings_of(design, actor), place)
+    push_firings(text, firings, place)
 }
 
 /// Adds a box for each actor.
 pub(crate) fn push_boxes(
     text: &mut String,
     design: &Design,
+    period: &Period,
     layout: &Layout,
 ) -> Result<(), AllocError>
-    requires { length layout.now.places.items ≡ length design.now.net.nodes }
+    requires boxes { length layout.now.places.items ≡ length design.now.net.nodes }
+    requires fire { length period.now.repetitions ≡ length design.now.net.nodes }
+    ensures { OnOk result (string_bytes text.new ≡ string_bytes text.old
+        ++ boxes_text design.now period.now.repetitions layout.now.places.items) }
 {
     for actor in 0..design.net().len() {
-        push_box(text, design, actor, layout.places[actor])?;
+        let firings = period.repetitions()[actor];
+        push_box(text, design, actor, layout.places[actor], firings)?;
     }
     Ok(())
 }

@@ -1,16 +1,20 @@
 //! The text of a table against time.
 
-ghost use Rattle.std.specs.Prelude.{◌≡◌, ℕ, ◌<◌, ◌≤◌, length};
-ghost use Rattle.std.specs.List.{All};
+ghost use Rattle.std.specs.Prelude.{◌≡◌, ℕ, ◌<◌, ◌≤◌, ◌*◌, ◌++◌, OnOk, length, string_bytes, codes};
+ghost use Rattle.std.specs.List.{All, flat_map};
 ghost use Rattle.sdf_limits.specs.declared.TheConstants.{MOST_WORKERS};
 ghost use Rattle.sdf_prec.specs.declared.firing.Firing.{Firing};
 ghost use Rattle.sdf_prec.specs.Tables.{row};
 ghost use Rattle.sdf_times.specs.Times.{IsInTable};
 ghost use Rattle.sdf_draw.specs.Bars.{IsDrawable, AreDrawable, scaled};
+ghost use Rattle.sdf_draw.specs.Texts.{number_text};
+ghost use Rattle.sdf_draw.specs.Charts.{rect_text, title_text, bar_text, lane_text, frame_text, lanes_text};
+ghost use Rattle.sdf_draw.specs.Charts.{worker_text, workers_text, mark_text, label_text, bound_text};
+ghost use Rattle.sdf_draw.specs.Charts.{rules_text, makespan_text, axis_text, chart_text};
 
 use crate::bars::{Bar, bars_in};
-use crate::texts::{COLOURS, push_name, push_number};
-use crate::timed::Timed;
+use crate::texts::{COLOURS, push_name, push_number, push_pair};
+use sdf_analyze::Figures;
 use sdf_file::Design;
 use sdf_prec::Table;
 use std::alloc::{AllocError, Global};
@@ -33,20 +37,52 @@ fn scaled(time: u64, makespan: u64) -> u128
         .unwrap_or(0)
 }
 
+/// Adds the shape of a bar in a colour: it begins at a time, is so long, and stands so far
+/// down. What is told of it follows.
+#[tactic(auto, unfolding(crate::specs::Charts::rect_text))]
+fn push_rect(
+    text: &mut String,
+    colour: usize,
+    start: u64,
+    width: u64,
+    y: u64,
+) -> Result<(), AllocError>
+    ensures { OnOk result (string_bytes text.new ≡ string_bytes text.old ++ rect_text colour start width y) }
+{
+    push_number(text, "<rect class='f", colour as u64)?;
+    push_number(text, "' x='", start)?;
+    push_number(text, "' width='", width)?;
+    push_number(text, "' y='", y)?;
+    text.push_str("' height='22'><title>")
+}
+
+/// Adds what is told of a bar, the name of its actor and its times, and ends the bar.
+#[tactic(auto, unfolding(crate::specs::Charts::title_text))]
+fn push_title(
+    text: &mut String,
+    design: &Design,
+    actor: usize,
+    start: u64,
+    end: u64,
+) -> Result<(), AllocError>
+    requires { actor < length design.now.net.nodes }
+    ensures { OnOk result (string_bytes text.new ≡ string_bytes text.old ++ title_text design.now actor start end) }
+{
+    push_name(text, design, actor)?;
+    push_pair(text, " ", start, " to ", end)?;
+    text.push_str("</title></rect>\n")
+}
+
 /// Adds a bar: its place and its width are times.
 fn push_bar(text: &mut String, design: &Design, worker: usize, bar: Bar) -> Result<(), AllocError>
     requires worker { worker < MOST_WORKERS }
     requires actor { bar.actor < length design.now.net.nodes }
+    ensures { OnOk result (string_bytes text.new ≡ string_bytes text.old ++ bar_text design.now worker bar) }
 {
-    push_number(text, "<rect class='f", (bar.actor % COLOURS) as u64)?;
-    push_number(text, "' x='", bar.start)?;
-    push_number(text, "' width='", bar.end.saturating_sub(bar.start))?;
-    push_number(text, "' y='", ROW * worker as u64 + 4)?;
-    text.push_str("' height='22'><title>")?;
-    push_name(text, design, bar.actor)?;
-    push_number(text, " ", bar.start)?;
-    push_number(text, " to ", bar.end)?;
-    text.push_str("</title></rect>\n")
+    let Bar { actor, start, end } = bar;
+    let y = ROW * worker as u64 + 4;
+    push_rect(text, actor % COLOURS, start, end.saturating_sub(start), y)?;
+    push_title(text, design, actor, start, end)
 }
 
 /// Adds these bars of a worker.
@@ -58,6 +94,8 @@ fn push_bars(
 ) -> Result<(), AllocError>
     requires worker { worker < MOST_WORKERS }
     requires actors { All (λ b. b.actor < length design.now.net.nodes) bars.now }
+    ensures { OnOk result (string_bytes text.new ≡
+        string_bytes text.old ++ flat_map (bar_text design.now worker) bars.now) }
 {
     for bar in bars {
         push_bar(text, design, worker, *bar)?;
@@ -66,23 +104,38 @@ fn push_bars(
 }
 
 /// Adds the bars of a worker.
+#[tactic(auto, unfolding(crate::specs::Charts::lane_text))]
 fn push_lane(
     alloc: Global,
     text: &mut String,
     design: &Design,
     table: &Table,
-    timed: &Timed,
+    figures: &Figures,
     worker: usize,
 ) -> Result<(), AllocError>
     requires few { worker < MOST_WORKERS }
     requires wide { (i : ℕ) → i < length table.now.rows → worker < length (row table.now.rows i) }
     requires each { (f : Firing) → IsInTable table.now.rows f →
-        IsDrawable design.now.costs timed.now.times.starts f }
+        IsDrawable design.now.costs figures.now.starts f }
+    ensures { OnOk result (string_bytes text.new ≡
+        string_bytes text.old ++ lane_text design.now table.now figures.now.starts worker) }
 {
     let _ = design.net();
     let joined = table.order().len() > MOST_BARS;
-    let bars = bars_in(alloc, table, &timed.times, design.costs(), worker, joined)?;
+    let bars = bars_in(alloc, table, figures, design.costs(), worker, joined)?;
     push_bars(text, design, worker, bars.as_slice())
+}
+
+/// Adds where the bars begin: the makespan is as wide as the chart.
+#[tactic(auto, unfolding(crate::specs::Charts::frame_text))]
+fn push_frame(text: &mut String, makespan: u64, end: u64) -> Result<(), AllocError>
+    ensures { OnOk result (string_bytes text.new ≡ string_bytes text.old ++ frame_text makespan end) }
+{
+    push_number(text, "<svg preserveAspectRatio='none' width='", CHART)?;
+    push_number(text, "' height='", end)?;
+    push_number(text, "' viewBox='0 0 ", makespan)?;
+    push_number(text, " ", end)?;
+    text.push_str("'>\n")
 }
 
 /// Adds the bars of all workers, in units of time.
@@ -91,26 +144,26 @@ fn push_lanes(
     text: &mut String,
     design: &Design,
     table: &Table,
-    timed: &Timed,
+    figures: &Figures,
     workers: usize,
 ) -> Result<(), AllocError>
     requires few { workers ≤ MOST_WORKERS }
-    requires bars { AreDrawable design.now workers table.now timed.now.times.starts }
+    requires bars { AreDrawable design.now workers table.now figures.now.starts }
+    ensures { OnOk result (string_bytes text.new ≡
+        string_bytes text.old ++ lanes_text design.now table.now figures.now workers) }
 {
-    push_number(text, "<svg preserveAspectRatio='none' width='", CHART)?;
-    push_number(text, "' height='", ROW * workers as u64)?;
-    push_number(text, "' viewBox='0 0 ", timed.makespan)?;
-    push_number(text, " ", ROW * workers as u64)?;
-    text.push_str("'>\n")?;
+    push_frame(text, figures.makespan(), ROW * workers as u64)?;
     for worker in 0..workers {
-        push_lane(alloc, text, design, table, timed, worker)?;
+        push_lane(alloc, text, design, table, figures, worker)?;
     }
     text.push_str("</svg>\n")
 }
 
 /// Adds the name of a worker's lane, and a line under it.
+#[tactic(auto, unfolding(crate::specs::Charts::worker_text))]
 fn push_worker(text: &mut String, worker: usize) -> Result<(), AllocError>
     requires { worker < MOST_WORKERS }
+    ensures { OnOk result (string_bytes text.new ≡ string_bytes text.old ++ worker_text worker) }
 {
     let below = ROW * worker as u64 + ROW;
     push_number(text, "<text class='end' x='-10' y='", below - 10)?;
@@ -123,6 +176,7 @@ fn push_worker(text: &mut String, worker: usize) -> Result<(), AllocError>
 /// Adds the names of all lanes.
 fn push_workers(text: &mut String, workers: usize) -> Result<(), AllocError>
     requires { workers ≤ MOST_WORKERS }
+    ensures { OnOk result (string_bytes text.new ≡ string_bytes text.old ++ workers_text workers) }
 {
     for worker in 0..workers {
         push_worker(text, worker)?;
@@ -130,27 +184,74 @@ fn push_workers(text: &mut String, workers: usize) -> Result<(), AllocError>
     Ok(())
 }
 
-/// Adds the line of the bound, with its number above it.
-fn push_bound(text: &mut String, timed: &Timed, end: u64) -> Result<(), AllocError> {
-    let place = scaled(timed.bound, timed.makespan);
-    write!(text, "<path class='bound' d='M{place} -8 V{end}'/>")?;
-    write!(text, "<text class='end' x='{place}' y='-12'>")?;
-    push_number(text, "bound ", timed.bound)?;
+/// Adds a text and a place.
+fn push_place(text: &mut String, word: &str, place: u128) -> Result<(), AllocError>
+    ensures { OnOk result (string_bytes text.new ≡ string_bytes text.old ++ number_text word.now place) }
+{
+    write!(text, "{word}{place}")?;
+    Ok(())
+}
+
+/// Adds a line down to the end at so far from the left.
+#[tactic(auto, unfolding(crate::specs::Charts::mark_text))]
+fn push_mark(text: &mut String, place: u128, end: u64) -> Result<(), AllocError>
+    ensures { OnOk result (string_bytes text.new ≡ string_bytes text.old ++ mark_text place end) }
+{
+    push_place(text, "<path class='bound' d='M", place)?;
+    push_number(text, " -8 V", end)?;
+    text.push_str("'/>")
+}
+
+/// Adds the number of the bound above it.
+#[tactic(auto, unfolding(crate::specs::Charts::label_text))]
+fn push_label(text: &mut String, place: u128, bound: u64) -> Result<(), AllocError>
+    ensures { OnOk result (string_bytes text.new ≡ string_bytes text.old ++ label_text place bound) }
+{
+    push_place(text, "<text class='end' x='", place)?;
+    push_number(text, "' y='-12'>bound ", bound)?;
+    text.push_str("</text>\n")
+}
+
+/// Adds the line of the bound, with its number.
+fn push_bound(text: &mut String, figures: &Figures, end: u64) -> Result<(), AllocError>
+    ensures { OnOk result (string_bytes text.new ≡ string_bytes text.old ++ bound_text figures.now end) }
+{
+    let place = scaled(figures.bound(), figures.makespan());
+    push_mark(text, place, end)?;
+    push_label(text, place, figures.bound())
+}
+
+/// Adds a line at each end of the times.
+#[tactic(auto, unfolding(crate::specs::Charts::rules_text))]
+fn push_rules(text: &mut String, end: u64) -> Result<(), AllocError>
+    ensures { OnOk result (string_bytes text.new ≡ string_bytes text.old ++ rules_text end) }
+{
+    push_number(text, "<path class='rule' d='M0 0 V", end)?;
+    push_number(text, " M", CHART)?;
+    push_number(text, " 0 V", end)?;
+    text.push_str("'/>")
+}
+
+/// Adds the time at the right end.
+#[tactic(auto, unfolding(crate::specs::Charts::makespan_text))]
+fn push_makespan(text: &mut String, makespan: u64, y: u64) -> Result<(), AllocError>
+    ensures { OnOk result (string_bytes text.new ≡ string_bytes text.old ++ makespan_text makespan y) }
+{
+    push_number(text, "<text class='end' x='", CHART)?;
+    push_number(text, "' y='", y)?;
+    push_number(text, "'>makespan ", makespan)?;
     text.push_str("</text>\n")
 }
 
 /// Adds the times at the ends.
 fn push_axis(text: &mut String, makespan: u64, end: u64) -> Result<(), AllocError>
     requires { end < 100000 }
+    ensures { OnOk result (string_bytes text.new ≡ string_bytes text.old ++ axis_text makespan end) }
 {
-    push_number(text, "<path class='rule' d='M0 0 V", end)?;
-    push_number(text, " M", CHART)?;
-    push_number(text, " 0 V", end)?;
-    push_number(text, "'/><text y='", end + 16)?;
-    push_number(text, "'>0</text><text class='end' x='", CHART)?;
-    push_number(text, "' y='", end + 16)?;
-    push_number(text, "'>makespan ", makespan)?;
-    text.push_str("</text>\n")
+    push_rules(text, end)?;
+    push_number(text, "<text y='", end + 16)?;
+    text.push_str("'>0</text>")?;
+    push_makespan(text, makespan, end + 16)
 }
 
 /// Adds a table against time.
@@ -159,15 +260,17 @@ pub(crate) fn push_chart(
     text: &mut String,
     design: &Design,
     table: &Table,
-    timed: &Timed,
+    figures: &Figures,
     workers: usize,
 ) -> Result<(), AllocError>
     requires few { workers ≤ MOST_WORKERS }
-    requires bars { AreDrawable design.now workers table.now timed.now.times.starts }
+    requires bars { AreDrawable design.now workers table.now figures.now.starts }
+    ensures { OnOk result (string_bytes text.new ≡
+        string_bytes text.old ++ chart_text design.now table.now figures.now workers) }
 {
     let end = ROW * workers as u64;
     push_workers(text, workers)?;
-    push_lanes(alloc, text, design, table, timed, workers)?;
-    push_axis(text, timed.makespan, end)?;
-    push_bound(text, timed, end)
+    push_lanes(alloc, text, design, table, figures, workers)?;
+    push_axis(text, figures.makespan(), end)?;
+    push_bound(text, figures, end)
 }

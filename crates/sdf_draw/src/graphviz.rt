@@ -1,16 +1,21 @@
 //! A design's graph as a text for Graphviz.
 
-ghost use Rattle.std.specs.Prelude.{◌<◌, ◌≤◌, length};
+ghost use Rattle.std.specs.Prelude.{◌≡◌, ◌<◌, ◌≤◌, ◌++◌, IfOk, OnOk, length, string_bytes, codes};
 ghost use Rattle.sdf_limits.specs.declared.TheConstants.{MOST_CYCLE};
+ghost use Rattle.sdf_actor.specs.Nets.{node};
+ghost use Rattle.sdf_draw.specs.Graphviz.{quotable_char, quotables, quoted, shape_word, node_line, initial_label};
+ghost use Rattle.sdf_draw.specs.Graphviz.{labels_text, edge_line, nodes_text, edges_text, dot_text};
 
-use crate::ports::{Shape, shape_of};
+use crate::ports::{Shape, channel_of, shape_of};
 use crate::texts::{push_number, push_rate};
 use sdf_file::Design;
 use sdf_graph::Channel;
 use std::alloc::{AllocError, Global};
 
 /// Adds a character as it stands between quotes.
-fn push_quotable(text: &mut String, character: char) -> Result<(), AllocError> {
+fn push_quotable(text: &mut String, character: char) -> Result<(), AllocError>
+    ensures { OnOk result (string_bytes text.new ≡ string_bytes text.old ++ quotable_char character) }
+{
     match character {
         '"' => text.push_str("\\\""),
         '\\' => text.push_str("\\\\"),
@@ -18,16 +23,28 @@ fn push_quotable(text: &mut String, character: char) -> Result<(), AllocError> {
     }
 }
 
-/// Adds a text between quotes.
-fn push_quoted(text: &mut String, word: &str) -> Result<(), AllocError> {
-    text.push_str("\"")?;
+/// Adds the characters of a text as they stand between quotes.
+fn push_quotables(text: &mut String, word: &str) -> Result<(), AllocError>
+    ensures { OnOk result (string_bytes text.new ≡ string_bytes text.old ++ quotables word.now) }
+{
     for character in word.chars() {
         push_quotable(text, character)?;
     }
+    Ok(())
+}
+
+/// Adds a text between quotes.
+fn push_quoted(text: &mut String, word: &str) -> Result<(), AllocError>
+    ensures { OnOk result (string_bytes text.new ≡ string_bytes text.old ++ quoted word.now) }
+{
+    text.push_str("\"")?;
+    push_quotables(text, word)?;
     text.push_str("\"")
 }
 
-fn shape_word(shape: Shape) -> &'static str {
+fn shape_word(shape: Shape) -> &'static str
+    ensures { result.now ≡ shape_word shape }
+{
     match shape {
         Shape::Source => "rarrow",
         Shape::Sink => "larrow",
@@ -37,8 +54,10 @@ fn shape_word(shape: Shape) -> &'static str {
 }
 
 /// Adds the line of an actor.
+#[tactic(auto, unfolding(crate::specs::Graphviz::node_line))]
 fn push_node(text: &mut String, design: &Design, actor: usize) -> Result<(), AllocError>
     requires { actor < length design.now.net.nodes }
+    ensures { OnOk result (string_bytes text.new ≡ string_bytes text.old ++ node_line design.now actor) }
 {
     text.push_str("  ")?;
     push_quoted(text, design.name(actor))?;
@@ -47,26 +66,38 @@ fn push_node(text: &mut String, design: &Design, actor: usize) -> Result<(), All
     text.push_str("];\n")
 }
 
-/// Adds the rates of a link, and the samples that it begins with where there are some.
+/// Adds the samples that a link begins with, where there are some.
+fn push_initial(text: &mut String, initial: usize) -> Result<(), AllocError>
+    ensures { OnOk result (string_bytes text.new ≡ string_bytes text.old ++ initial_label initial) }
+{
+    if initial == 0 {
+        return Ok(());
+    }
+    push_number(text, "\" label=\"", initial as u64)
+}
+
+/// Adds the rates of a link, and the samples that it begins with.
+#[tactic(auto, unfolding(crate::specs::Graphviz::labels_text))]
 fn push_labels(text: &mut String, channel: &Channel) -> Result<(), AllocError>
     requires put { length channel.now.put ≤ MOST_CYCLE }
     requires take { length channel.now.take ≤ MOST_CYCLE }
+    ensures { OnOk result (string_bytes text.new ≡ string_bytes text.old ++ labels_text channel.now) }
 {
     text.push_str(" [taillabel=\"")?;
     push_rate(text, channel.put.as_slice())?;
     text.push_str("\" headlabel=\"")?;
     push_rate(text, channel.take.as_slice())?;
-    if channel.initial > 0 {
-        push_number(text, "\" label=\"", channel.initial as u64)?;
-    }
+    push_initial(text, channel.initial)?;
     text.push_str("\"];\n")
 }
 
 /// Adds the line of a link.
+#[tactic(auto, unfolding(crate::specs::Graphviz::edge_line))]
 fn push_edge(text: &mut String, design: &Design, link: usize) -> Result<(), AllocError>
     requires { link < length design.now.net.wires }
+    ensures { OnOk result (string_bytes text.new ≡ string_bytes text.old ++ edge_line design.now link) }
 {
-    let channel = &design.net().graph().channels()[link];
+    let channel = channel_of(design, link);
     text.push_str("  ")?;
     push_quoted(text, design.name(channel.from))?;
     text.push_str(" -> ")?;
@@ -75,7 +106,9 @@ fn push_edge(text: &mut String, design: &Design, link: usize) -> Result<(), Allo
 }
 
 /// Adds a line for each actor.
-fn push_nodes(text: &mut String, design: &Design) -> Result<(), AllocError> {
+fn push_nodes(text: &mut String, design: &Design) -> Result<(), AllocError>
+    ensures { OnOk result (string_bytes text.new ≡ string_bytes text.old ++ nodes_text design.now) }
+{
     for actor in 0..design.net().len() {
         push_node(text, design, actor)?;
     }
@@ -83,7 +116,9 @@ fn push_nodes(text: &mut String, design: &Design) -> Result<(), AllocError> {
 }
 
 /// Adds a line for each link.
-fn push_edges(text: &mut String, design: &Design) -> Result<(), AllocError> {
+fn push_edges(text: &mut String, design: &Design) -> Result<(), AllocError>
+    ensures { OnOk result (string_bytes text.new ≡ string_bytes text.old ++ edges_text design.now) }
+{
     for link in 0..design.net().channels() {
         push_edge(text, design, link)?;
     }
@@ -91,7 +126,9 @@ fn push_edges(text: &mut String, design: &Design) -> Result<(), AllocError> {
 }
 
 /// The graph of a design for Graphviz: a line for each actor in file order, then one for each link.
-pub fn dot(alloc: Global, design: &Design) -> Result<String, AllocError> {
+pub fn dot(alloc: Global, design: &Design) -> Result<String, AllocError>
+    ensures { IfOk result (λ s. string_bytes s ≡ dot_text design.now) }
+{
     let mut text = String::new(alloc);
     text.push_str("digraph {\n  rankdir=LR;\n")?;
     push_nodes(&mut text, design)?;

@@ -4,7 +4,8 @@ ghost use Rattle.std.specs.Prelude.{◌≡◌, ℕ, ◌+◌, ◌*◌, ◌<◌, �
 ghost use Rattle.sdf_limits.specs.declared.TheConstants.{MOST_ACTORS, MOST_LINKS, MOST_PERIOD, MOST_PORTS};
 ghost use Rattle.sdf_actor.specs.Nets.{wire};
 ghost use Rattle.sdf_process.specs.Placements.{rates_of};
-ghost use Rattle.sdf_draw.specs.Layouts.{left_of, right_of, bottom_of, middle_of, stacked, place, ArePlaces, IsRoute, IsWithin, AreRoutes, IsLayout};
+ghost use Rattle.sdf_draw.specs.Layouts.{left_of, right_of, bottom_of, middle_of, stacked, place, lowest, rightmost};
+ghost use Rattle.sdf_draw.specs.Layouts.{lane_above, lane_below, ArePlaces, IsRoute, IsWithin, AreRoutes, IsLayout};
 
 use crate::depths::depths;
 use crate::ports::{PortCounts, ports_of};
@@ -83,7 +84,8 @@ impl Place {
 
     /// Where it ends.
     pub(crate) fn bottom(self) -> u64
-        ensures { result ≡ bottom_of self }
+        ensures is { result ≡ bottom_of self }
+        ensures small { result < 1000000000000 }
     {
         self.top() + u64::from(self.height)
     }
@@ -232,21 +234,25 @@ pub(crate) fn laid_out(
 }
 
 impl Layout {
-    /// Where the lowest box ends, or the highest box may begin where there is none.
+    /// Where the lowest box ends, or 0 where there is none.
+    #[tactic(auto, using(crate::proofs::Lowest::greatest_take))]
     pub(crate) fn bottom(&self) -> u64
+        ensures is { result ≡ lowest self.now.places.items }
         ensures below { (a : ℕ) → a < length self.now.places.items →
             bottom_of (place self.now.places.items a) ≤ result }
         ensures small { result < 1000000000000 }
     {
         let mut most = 0u64;
         for place in &self.places {
-            most = most.max(u64::from(place.y) + u64::from(place.height));
+            most = most.max(place.bottom());
         }
         most
     }
 
     /// Where the box farthest to the right ends.
+    #[tactic(auto, using(crate::proofs::Lowest::greatest_take))]
     pub(crate) fn right(&self) -> u64
+        ensures is { result ≡ rightmost self.now.places.items }
         ensures within { (a : ℕ) → a < length self.now.places.items →
             right_of (place self.now.places.items a) ≤ result }
         ensures small { result < 2000000000000 }
@@ -260,6 +266,7 @@ impl Layout {
 
     /// How far down a lane below the boxes is.
     pub(crate) fn lane_below(&self, lane: u32) -> u64
+        ensures is { result ≡ lane_below self.now.places.items lane }
         ensures below { (a : ℕ) → a < length self.now.places.items →
             bottom_of (place self.now.places.items a) < result }
         ensures small { result < 2000000000000 }
@@ -270,7 +277,7 @@ impl Layout {
 
 /// How far down a lane above the boxes is.
 pub(crate) fn lane_above(lane: u32) -> u64
-    ensures { result ≡ HEAD + LANE * lane }
+    ensures { result ≡ lane_above lane }
 {
     HEAD + LANE * u64::from(lane)
 }

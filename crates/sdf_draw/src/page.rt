@@ -1,22 +1,25 @@
 //! A design and its schedule as one picture.
 
-ghost use Rattle.std.specs.Prelude.{◌≡◌, ◌<◌, ◌≤◌, length, MatchResult};
+ghost use Rattle.std.specs.Prelude.{◌≡◌, ◌<◌, ◌≤◌, ◌++◌, IfOk, MatchResult, OnOk, length, string_bytes, codes};
 ghost use Rattle.sdf_limits.specs.declared.TheConstants.{MOST_WORKERS};
 ghost use Rattle.sdf_process.specs.Schedules.{IsShowFault};
 ghost use Rattle.sdf_draw.specs.Bars.{AreDrawable};
-ghost use Rattle.sdf_draw.specs.Drawings.{IsDrawing};
+ghost use Rattle.sdf_draw.specs.Drawings.{drawn_of, IsDrawing};
+ghost use Rattle.sdf_draw.specs.Pictures.{size_text, view_text, page_text, legend_text, head_text, chart_top};
+ghost use Rattle.sdf_draw.specs.Pictures.{width_of, origin_text, picture_text, IsPicture};
 
 use crate::arrows::push_arrows;
 use crate::boxes::push_boxes;
 use crate::chart::{CHART, ROW, push_chart};
 use crate::layout::{Layout, laid_out};
 use crate::texts::push_number;
-use crate::timed::Timed;
+use sdf_analyze::Figures;
 use sdf_file::Design;
 use sdf_options::Options;
 use sdf_prec::Table;
 use sdf_process::Fault;
 use sdf_process::schedule::scheduled;
+use sdf_sched::Period;
 use std::alloc::{AllocError, Global};
 
 /// The part left of the first boxes that is shown.
@@ -48,15 +51,32 @@ const LEGEND: &str =
     "Above an arrow's ends: samples of a firing, as 4 or as 4/16, which is 4 in 16 firings. \
     Below its end: its capacity. A dot: samples that it begins with. q: firings of a period.";
 
-/// Adds what stands before the picture: it is so wide and so high.
-fn push_head(text: &mut String, width: u64, height: u64) -> Result<(), AllocError> {
+/// Adds where the picture begins: it is so wide and so high.
+#[tactic(auto, unfolding(crate::specs::Pictures::size_text))]
+fn push_size(text: &mut String, width: u64, height: u64) -> Result<(), AllocError>
+    ensures { OnOk result (string_bytes text.new ≡ string_bytes text.old ++ size_text width height) }
+{
     text.push_str(HEAD_TEXT)?;
     push_number(text, " width='", width)?;
-    push_number(text, "' height='", height)?;
+    push_number(text, "' height='", height)
+}
+
+/// Adds which part is seen.
+#[tactic(auto, unfolding(crate::specs::Pictures::view_text))]
+fn push_view(text: &mut String, width: u64, height: u64) -> Result<(), AllocError>
+    ensures { OnOk result (string_bytes text.new ≡ string_bytes text.old ++ view_text width height) }
+{
     push_number(text, "' viewBox='", LEFT)?;
     push_number(text, " 0 ", width)?;
     push_number(text, " ", height)?;
-    text.push_str("'>\n")?;
+    text.push_str("'>\n")
+}
+
+/// Adds the colours, and the page that all stands on.
+#[tactic(auto, unfolding(crate::specs::Pictures::page_text))]
+fn push_page(text: &mut String, width: u64, height: u64) -> Result<(), AllocError>
+    ensures { OnOk result (string_bytes text.new ≡ string_bytes text.old ++ page_text width height) }
+{
     text.push_str(STYLE)?;
     push_number(text, "<rect class='page' x='", LEFT)?;
     push_number(text, "' width='", width)?;
@@ -64,54 +84,99 @@ fn push_head(text: &mut String, width: u64, height: u64) -> Result<(), AllocErro
     text.push_str("'/>\n")
 }
 
-fn push_legend(text: &mut String) -> Result<(), AllocError> {
+/// Adds what the numbers are.
+#[tactic(auto, unfolding(crate::specs::Pictures::legend_text))]
+fn push_legend(text: &mut String) -> Result<(), AllocError>
+    ensures { OnOk result (string_bytes text.new ≡ string_bytes text.old ++ legend_text) }
+{
     push_number(text, "<text class='soft' y='24' x='", LEFT + 20)?;
     text.push_str("'>")?;
     text.push_str(LEGEND)?;
     text.push_str("</text>\n")
 }
 
+/// Adds what stands before the arrows.
+fn push_head(text: &mut String, width: u64, height: u64) -> Result<(), AllocError>
+    ensures { OnOk result (string_bytes text.new ≡ string_bytes text.old ++ head_text width height) }
+{
+    push_size(text, width, height)?;
+    push_view(text, width, height)?;
+    push_page(text, width, height)?;
+    push_legend(text)
+}
+
 /// Where the times begin from above: below the lanes below the boxes.
 fn chart_top(layout: &Layout) -> u64
-    ensures { result < 3000000000000 }
+    ensures is { result ≡ chart_top layout.now.places.items layout.now.below }
+    ensures small { result < 3000000000000 }
 {
     layout.lane_below(layout.below) + 80
+}
+
+/// How wide the picture is.
+fn width_of(layout: &Layout) -> u64
+    ensures { result ≡ width_of layout.now.places.items }
+{
+    layout.right().max(ZERO + CHART) + 100 - LEFT
+}
+
+/// Adds where the times begin.
+#[tactic(auto, unfolding(crate::specs::Pictures::origin_text))]
+fn push_origin(text: &mut String, top: u64) -> Result<(), AllocError>
+    ensures { OnOk result (string_bytes text.new ≡ string_bytes text.old ++ origin_text top) }
+{
+    push_number(text, "<g transform='translate(", ZERO)?;
+    push_number(text, ",", top)?;
+    text.push_str(")'>\n")
+}
+
+/// What is drawn: the period and the table of a schedule, the table's figures, and the layout of the graph.
+#[derive(Drop)]
+struct Drawing {
+    period: Period,
+    table: Table,
+    figures: Figures,
+    layout: Layout,
 }
 
 /// The picture.
 fn picture(
     alloc: Global,
     design: &Design,
-    table: &Table,
-    timed: &Timed,
-    layout: &Layout,
+    drawing: &Drawing,
     workers: usize,
 ) -> Result<String, AllocError>
     requires few { workers ≤ MOST_WORKERS }
-    requires boxes { length layout.now.places.items ≡ length design.now.net.nodes }
-    requires routes { length layout.now.routes.items ≡ length design.now.net.wires }
-    requires capacities { length table.now.caps ≡ length design.now.net.wires }
-    requires bars { AreDrawable design.now workers table.now timed.now.times.starts }
+    requires fire { length drawing.now.period.repetitions ≡ length design.now.net.nodes }
+    requires boxes { length drawing.now.layout.places.items ≡ length design.now.net.nodes }
+    requires routes { length drawing.now.layout.routes.items ≡ length design.now.net.wires }
+    requires capacities { length drawing.now.table.caps ≡ length design.now.net.wires }
+    requires bars { AreDrawable design.now workers drawing.now.table drawing.now.figures.starts }
+    ensures { IfOk result (λ s. string_bytes s ≡ picture_text design.now workers (drawn_of drawing.now)) }
 {
+    let layout = &drawing.layout;
     let top = chart_top(layout);
-    let right = layout.right().max(ZERO + CHART) + 100;
     let mut text = String::new(alloc);
-    push_head(&mut text, right - LEFT, top + ROW * workers as u64 + 40)?;
-    push_legend(&mut text)?;
-    push_arrows(&mut text, design, layout, table)?;
-    push_boxes(&mut text, design, layout)?;
-    push_number(&mut text, "<g transform='translate(", ZERO)?;
-    push_number(&mut text, ",", top)?;
-    text.push_str(")'>\n")?;
-    push_chart(alloc, &mut text, design, table, timed, workers)?;
+    push_head(&mut text, width_of(layout), top + ROW * workers as u64 + 40)?;
+    push_arrows(&mut text, design, layout, &drawing.table)?;
+    push_boxes(&mut text, design, &drawing.period, layout)?;
+    push_origin(&mut text, top)?;
+    push_chart(
+        alloc,
+        &mut text,
+        design,
+        &drawing.table,
+        &drawing.figures,
+        workers,
+    )?;
     text.push_str("</g>\n</svg>\n")?;
     Ok(text)
 }
 
-/// What is drawn of a design by options: the table of its schedule, its times, and the layout of its graph.
-fn drawn(alloc: Global, design: &Design, options: &Options) -> Result<(Table, Timed, Layout), Fault>
-    ensures { MatchResult result (λ p. IsDrawing design.now options.now p.0 p.1 p.2.places.items p.2.above
-        p.2.below p.2.routes.items) (IsShowFault design.now options.now) }
+/// What is drawn of a design by options.
+fn drawn(alloc: Global, design: &Design, options: &Options) -> Result<Drawing, Fault>
+    ensures { MatchResult result (λ w. IsDrawing design.now options.now (drawn_of w))
+        (IsShowFault design.now options.now) }
 {
     let _ = design.net();
     let (period, table, blocking) = scheduled(alloc, design, options)?;
@@ -119,17 +184,24 @@ fn drawn(alloc: Global, design: &Design, options: &Options) -> Result<(Table, Ti
         blocking,
         ..*options
     };
-    let timed = Timed::of(alloc, design, &placed, &period, &table)?;
+    let figures = Figures::of(alloc, design, &placed, &period, &table)?;
+    let _ = figures.makespan();
     let layout = laid_out(alloc, design, period.order())?;
-    Ok((table, timed, layout))
+    Ok(Drawing {
+        period,
+        table,
+        figures,
+        layout,
+    })
 }
 
 /// What the command `draw` prints: one SVG of a design, its actors as boxes and its links as arrows, and below them the
 /// firings of its schedule against time. The tests are those of `schedule`.
 pub fn svg(alloc: Global, design: &Design, options: &Options) -> Result<String, Fault>
-    ensures { MatchResult result (λ s. Unit {0}) (IsShowFault design.now options.now) }
+    ensures { MatchResult result (λ s. IsPicture design.now options.now (string_bytes s))
+        (IsShowFault design.now options.now) }
 {
-    let (table, timed, layout) = drawn(alloc, design, options)?;
-    let text = picture(alloc, design, &table, &timed, &layout, options.workers)?;
+    let drawing = drawn(alloc, design, options)?;
+    let text = picture(alloc, design, &drawing, options.workers)?;
     Ok(text)
 }

@@ -1,12 +1,15 @@
-//! The shapes of actors and their ports.
+//! The shapes of actors, their ports, and the links between these.
 
 ghost use Rattle.std.specs.Prelude.{◌≡◌, ◌<◌, ◌≤◌, length};
-ghost use Rattle.sdf_limits.specs.declared.TheConstants.{MOST_PORTS};
+ghost use Rattle.sdf_limits.specs.declared.TheConstants.{MOST_CYCLE, MOST_PORTS};
 ghost use Rattle.sdf_actor.specs.Nets.{node, inputs_of, outputs_of};
 ghost use Rattle.sdf_kit.specs.Kit.{kit_steps};
+ghost use Rattle.sdf_draw.specs.Edges.{edge};
+ghost use Rattle.sdf_draw.specs.Shapes.{kit_shape, shape_of};
 
 use sdf_actor::Node;
 use sdf_file::Design;
+use sdf_graph::Channel;
 use sdf_kit::Kit;
 
 /// What is drawn for an actor.
@@ -25,14 +28,23 @@ pub(crate) struct PortCounts {
     pub(crate) outputs: usize,
 }
 
+fn kit_shape(kit: &Kit) -> Shape
+    ensures { result ≡ kit_shape kit.now }
+{
+    match kit {
+        Kit::Fir(_) => Shape::Filter,
+        _ => Shape::Plain,
+    }
+}
+
 pub(crate) fn shape_of(design: &Design, actor: usize) -> Shape
     requires { actor < length design.now.net.nodes }
+    ensures { result ≡ shape_of (node design.now.net actor) }
 {
     match design.net().node(actor) {
         Node::Source { .. } => Shape::Source,
         Node::Sink { .. } => Shape::Sink,
-        Node::Inner(Kit::Fir(_)) => Shape::Filter,
-        Node::Inner(_) => Shape::Plain,
+        Node::Inner(kit) => kit_shape(kit),
     }
 }
 
@@ -66,4 +78,14 @@ pub(crate) fn ports_of(design: &Design, actor: usize) -> PortCounts
         },
         Node::Inner(kit) => kit_ports(kit),
     }
+}
+
+/// A link, with what firings put on it and take from it.
+pub(crate) fn channel_of(design: &Design, link: usize) -> &Channel
+    requires { link < length design.now.net.wires }
+    ensures is { result.now ≡ edge design.now link }
+    ensures known { (result.now.from < length design.now.net.nodes) × (result.now.to < length design.now.net.nodes) }
+    ensures short { (length result.now.put ≤ MOST_CYCLE) × (length result.now.take ≤ MOST_CYCLE) }
+{
+    &design.net().graph().channels()[link]
 }

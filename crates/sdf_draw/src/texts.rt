@@ -2,7 +2,7 @@
 
 ghost use Rattle.std.specs.Prelude.{◌≡◌, ◌++◌, ◌<◌, ◌≤◌, length, string_bytes, sum, OnOk};
 ghost use Rattle.sdf_limits.specs.declared.TheConstants.{MOST_CYCLE};
-ghost use Rattle.sdf_draw.specs.Texts.{number_text, escaped_char, escaped, name_text, rate_text};
+ghost use Rattle.sdf_draw.specs.Texts.{number_text, pair_text, escaped_char, escaped, name_text, rate_text};
 
 use sdf_file::Design;
 use std::alloc::AllocError;
@@ -16,6 +16,21 @@ pub(crate) fn push_number(text: &mut String, word: &str, number: u64) -> Result<
 {
     write!(text, "{word}{number}")?;
     Ok(())
+}
+
+/// Adds two texts, each with a number behind it.
+#[tactic(auto, unfolding(crate::specs::Texts::pair_text))]
+pub(crate) fn push_pair(
+    text: &mut String,
+    one: &str,
+    x: u64,
+    other: &str,
+    y: u64,
+) -> Result<(), AllocError>
+    ensures { OnOk result (string_bytes text.new ≡ string_bytes text.old ++ pair_text one.now x other.now y) }
+{
+    push_number(text, one, x)?;
+    push_number(text, other, y)
 }
 
 /// Adds a character as it stands in a document of marks.

@@ -1,4 +1,4 @@
--- The values of a schedule and of an analysis do not nest deep.
+-- The values of a schedule, of an analysis and of a comparison do not nest deep.
 use Rattle.std.proofs.Common.{◌≤◌, ℕ, List, [], ◌∷◌, ◌++◌, map, length, arith}
 use Rattle.std.specs.Prelude.{codes}
 use Rattle.std.specs.List.{AllByRecursion}
@@ -9,9 +9,13 @@ use Rattle.sdf_prec.specs.Tables.{Tabled}
 use Rattle.sdf_options.specs.declared.options.Options.{Options}
 use Rattle.sdf_file.specs.Designs.{DesignValue}
 use Rattle.sdf_analyze.specs.Figures.{Figured}
+use Rattle.sdf_analyze.specs.declared.columns.Outcome.{Outcome}
+use Rattle.sdf_analyze.specs.declared.columns.Outcome.TheVariants.{Made, Refused}
+use Rattle.sdf_analyze.specs.declared.columns.Entry.{Entry}
 use Rattle.sdf_json.specs.Values.{natural, list_of, each_to}
 use Rattle.sdf_json.specs.Schedules.{asked, schedule_value}
 use Rattle.sdf_json.specs.Analyses.{times_of, analysis_value}
+use Rattle.sdf_json.specs.Comparisons.{outcome_of, entry_value, comparison_value}
 use Rattle.sdf_json.specs.Tables.{order_value, row_value, homed_value, capacity_value}
 use Rattle.sdf_json.proofs.Depths.{IsFlat, map_flat}
 use Rattle.sdf_json.proofs.FlatDesigns.{object_flat, weaker}
@@ -67,3 +71,15 @@ analysis_flat d o t f =
     let flat = object_flat 3 (asked o ++ times_of f ++ more) (both_flat (asked o) (times_of f ++ more) (asked_flat o)
     (both_flat (times_of f) more (times_flat f) last)) in
     omega (arith, flat)
+
+outcome_flat : (o : Outcome) → AreFlat (outcome_of o)
+outcome_flat (Made m) = (omega arith, (omega arith, (omega arith, (omega arith, tt))))
+outcome_flat (Refused number) = (omega arith, tt)
+
+entry_flat : (e : Entry) → IsFlat 4 (entry_value e)
+entry_flat e =
+    object_flat 3 (asked e.options ++ outcome_of e.outcome) (both_flat (asked e.options) (outcome_of e.outcome)
+    (asked_flat e.options) (outcome_flat e.outcome))
+
+pub comparison_flat : (entries : List Entry) → depth (comparison_value entries) ≤ max_depth
+comparison_flat entries = let each = map_flat 4 entry_value entries entry_flat in omega (arith, each)

@@ -5,4 +5,3 @@ pub mod FlatTables
 pub mod FlatLayers
 pub mod FlatFaults
 pub mod FlatSchedules
-pub mod Works

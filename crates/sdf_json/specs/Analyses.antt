@@ -27,7 +27,8 @@ analysis_value d o t f = object_of (asked o ++ times_of f ++
 
 -- the text is of the figures of the table that the options give
 pub record IsAnalysisJson (d : DesignValue) (o : Options) (text : List ℕ) : Type 0 where
+  pub periods : ℕ
   pub table : Tabled
   pub figures : Figured
-  pub figured : IsFigured d o table figures
-  pub is : IsLineOf (analysis_value d (record o { blocking = figured.periods }) table figures) text
+  pub figured : IsFigured d o periods table figures
+  pub is : IsLineOf (analysis_value d (record o { blocking = periods }) table figures) text

@@ -7,3 +7,4 @@ pub mod Designs
 pub mod Tables
 pub mod Schedules
 pub mod Analyses
+pub mod Comparisons

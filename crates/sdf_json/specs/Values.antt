@@ -3,6 +3,9 @@ use Rattle.std.specs.Prelude.{◌≡◌, ℕ, zero, suc, List, [], ◌∷◌, �
 use Rattle.serde_json.specs.Data.{Data, Members, null, number, unsigned, array, object, no_members, put}
 use Rattle.serde_json.specs.View.{items_of}
 use Rattle.serde_json.specs.Read.{read}
+use Rattle.serde_json.specs.Written.{IsInOrder}
+use Rattle.json.specs.Lex.{tokens}
+use Rattle.json.specs.Print.{print}
 
 abbrev pub natural : ℕ → Data
 natural n = number (unsigned n)
@@ -29,8 +32,11 @@ abbrev pub each_to : (ℕ → Data) → ℕ → List Data
 each_to f zero = []
 each_to f (suc n) = each_to f n ++ f n ∷ []
 
--- the text is one line, with its end, and reads as the value
+-- the text is one line, with its end: it reads as the value, has no blanks between its tokens, and has the items and
+-- the members of the value in their order, each once
 pub record IsLineOf (d : Data) (text : List ℕ) : Type 0 where
   pub line : List ℕ
   pub reads : read line ≡ Some d
+  pub compact : line ≡ print (tokens line)
+  pub in_order : IsInOrder line d
   pub is : text ≡ line ++ 10 ∷ []

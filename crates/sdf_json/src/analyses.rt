@@ -4,39 +4,19 @@ ghost use Rattle.std.specs.Prelude.{◌≡◌, ◌<◌, ◌≤◌, ◌∷◌, �
 ghost use Rattle.std.specs.Prelude.{string_bytes};
 ghost use Rattle.serde_json.specs.View.{view, members_view};
 ghost use Rattle.sdf_process.specs.Schedules.{IsShowFault};
-ghost use Rattle.sdf_analyze.specs.Analyses.{IsFigured};
 ghost use Rattle.sdf_json.specs.Values.{natural, with};
 ghost use Rattle.sdf_json.specs.Analyses.{times_of, analysis_value, IsAnalysisJson};
 
-use crate::figures::Figures;
 use crate::schedules::asked;
 use crate::tables::capacities;
 use crate::values::{Members, line_of, put_number};
+use sdf_analyze::{Figures, figured};
 use sdf_file::Design;
 use sdf_options::Options;
 use sdf_prec::Table;
 use sdf_process::Fault;
-use sdf_process::schedule::scheduled;
 use serde_json::{Value, put};
 use std::alloc::{AllocError, Global};
-
-/// The table that options give a design, and its figures, behind the options with the periods of its block.
-fn figured(
-    alloc: Global,
-    design: &Design,
-    options: &Options,
-) -> Result<(Options, Table, Figures), Fault>
-    ensures { MatchResult result (λ r. (f : IsFigured design.now options.now r.1 r.2)
-        × (r.0 ≡ record options.now { blocking = f.periods })) (IsShowFault design.now options.now) }
-{
-    let (period, table, blocking) = scheduled(alloc, design, options)?;
-    let placed = Options {
-        blocking,
-        ..*options
-    };
-    let figures = Figures::of(alloc, design, &placed, &period, &table)?;
-    Ok((placed, table, figures))
-}
 
 /// The loads of the workers.
 fn loads(alloc: Global, figures: &Figures, workers: usize) -> Result<Vec<Value>, AllocError>
@@ -90,7 +70,11 @@ pub fn analysis_json(alloc: Global, design: &Design, options: &Options) -> Resul
     ensures { MatchResult result (λ text. IsAnalysisJson design.now options.now (string_bytes text))
         (IsShowFault design.now options.now) }
 {
-    let (placed, table, figures) = figured(alloc, design, options)?;
+    let (blocking, table, figures) = figured(alloc, design, options)?;
+    let placed = Options {
+        blocking,
+        ..*options
+    };
     let value = analysis_value(alloc, design, &placed, &table, &figures)?;
     Ok(line_of(alloc, &value)?)
 }

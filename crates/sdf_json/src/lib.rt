@@ -1,18 +1,18 @@
-//! What the commands print as JSON: a design, its schedule, its analysis, and a fault.
+//! What the commands print as JSON: a design, its schedule, its analysis, schedules beside one another, and a fault.
 //!
-//! It stands on `sdf_process`, which schedules a design by options and has the faults, on `sdf_times` for what a table
-//! does, on `sdf_analyze` for its definitions, on `sdf_file` and `sdf_document` for the design and its faults, on
-//! `sdf_options`, `sdf_wav`, `sdf_kit`, `sdf_actor`, `sdf_prec`, `sdf_sched` and `sdf_graph` for what these are of, and
-//! on `sdf_limits`. Begin at `designs`, then `schedules`, `analyses` and `faults`. The values are in
-//! `specs/Designs.antt`, `specs/Schedules.antt`, `specs/Analyses.antt` and `specs/Faults.antt`; that a text is one line
-//! that reads as its value is `IsLineOf` of `specs/Values.antt`.
+//! It stands on `sdf_process`, which schedules a design by options and has the faults, on `sdf_analyze` for what
+//! schedules do, on `sdf_file` and `sdf_document` for the design and its faults, and on `sdf_options`, `sdf_wav`,
+//! `sdf_kit`, `sdf_actor`, `sdf_prec`, `sdf_sched` and `sdf_graph` for what these are of. Begin at `designs`, then
+//! `schedules`, `analyses`, `comparisons` and `faults`. The values are in `specs/Designs.antt`, `specs/Schedules.antt`,
+//! `specs/Analyses.antt`, `specs/Comparisons.antt` and `specs/Faults.antt`; that a text is one compact line that reads
+//! as its value is `IsLineOf` of `specs/Values.antt`.
 #![tactic(auto)]
 
 mod analyses;
+mod comparisons;
 mod design_faults;
 mod designs;
 mod faults;
-mod figures;
 mod run_faults;
 mod schedules;
 mod tables;
@@ -20,6 +20,7 @@ mod told;
 mod values;
 
 pub use analyses::analysis_json;
+pub use comparisons::comparison_json;
 pub use designs::check_json;
 pub use faults::fault_json;
 pub use schedules::schedule_json;

@@ -4,41 +4,20 @@ ghost use Rattle.std.specs.Prelude.{◌≡◌, IfOk, MatchResult, length, string
 ghost use Rattle.serde_json.specs.Data.{no_members};
 ghost use Rattle.serde_json.specs.View.{view, members_view};
 ghost use Rattle.sdf_process.specs.Schedules.{IsShowFault};
-ghost use Rattle.sdf_analyze.specs.Columns.{policy_word, placement_word};
 ghost use Rattle.sdf_json.specs.Values.{with};
 ghost use Rattle.sdf_json.specs.Schedules.{asked, schedule_value, IsScheduleJson};
 
 use crate::tables::{capacities, homed_actors, order_items, rows};
 use crate::values::{Members, line_of, put_number, put_text};
+use sdf_analyze::{placement_word, policy_word};
 use sdf_file::Design;
-use sdf_options::{Options, Placement, Policy};
+use sdf_options::Options;
 use sdf_prec::Table;
 use sdf_process::Fault;
 use sdf_process::schedule::scheduled;
 use sdf_sched::Period;
 use serde_json::{Map, Value, put};
 use std::alloc::{AllocError, Global};
-
-fn policy_word(policy: Policy) -> &'static str
-    ensures { result.now ≡ policy_word policy }
-{
-    match policy {
-        Policy::Round => "round",
-        Policy::Lean => "lean",
-        Policy::Runs => "runs",
-    }
-}
-
-fn placement_word(placement: Placement) -> &'static str
-    ensures { result.now ≡ placement_word placement }
-{
-    match placement {
-        Placement::Hu => "hu",
-        Placement::Homed => "homed",
-        Placement::File => "file",
-        Placement::Spread => "spread",
-    }
-}
 
 /// The options that a schedule was asked for with, and the periods of its block.
 pub(crate) fn asked(alloc: Global, options: &Options) -> Result<Members, AllocError>

@@ -12,7 +12,7 @@ pub returns-clause-actors : goal.returns-clause-actors
 returns-clause-actors c =
     subst (λ (bars : List Bar). All (λ (b : Bar). b.actor < length c.args.costs.now) bars) (sym c.loop-i.invariant)
     (bars_known (length c.args.costs.now) c.args.joined
-    (bar_of (slice_index c.args.costs.now) (start_in c.args.times.now.starts)) c.args.table.now.rows c.args.column
+    (bar_of (slice_index c.args.costs.now) (start_in c.args.figures.now.starts)) c.args.table.now.rows c.args.column
     c.loop-i.i (λ i f at. (c.requires.each i f at).known))
 
 pub add_cell-requires : goal.add_cell-requires

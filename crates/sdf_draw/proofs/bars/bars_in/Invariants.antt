@@ -6,4 +6,4 @@ use Rattle.sdf_draw.proofs.bars.bars_in.Given as goal
 
 abbrev pub invariant-loop-i : goal.invariant-loop-i
 invariant-loop-i l = l.bars.items ≡ bars_to l.joined
-    (bar_of (slice_index l.costs) (start_in l.times.starts)) l.table.rows l.column l.i
+    (bar_of (slice_index l.costs) (start_in l.figures.starts)) l.table.rows l.column l.i

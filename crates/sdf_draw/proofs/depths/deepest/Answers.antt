@@ -41,7 +41,8 @@ returns c = record {
     all : IsGreatest (IsInDepth (rates c.args.graph.now) c.args.depths.now c.args.actor) c.loop-number.most
     all = greatest_same
         (λ u. (j : ℕ) × (j < c.loop-number.number-index)
-        × (get_or c.args.depths.now (channel c.args.graph.now (get_or c.incoming-number-items.result.now j 0)).from 0 ≡ u))
+        × (get_or c.args.depths.now (channel c.args.graph.now
+        (get_or c.incoming-number-items.result.now j 0)).from 0 ≡ u))
         (IsInDepth (rates c.args.graph.now) c.args.depths.now c.args.actor) c.loop-number.most
         (λ u _ p. let at = c.incoming-number-items.ensures.each p.0 (omega (arith, p.1, end)) in
         (get_or c.incoming-number-items.result.now p.0 0, at.0, at.1, p.2))

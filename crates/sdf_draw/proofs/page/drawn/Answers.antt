@@ -1,4 +1,4 @@
-use Rattle.std.proofs.Common.{◌≡◌, ℕ, List, length, subst, ◌∙◌}
+use Rattle.std.proofs.Common.{◌≡◌, ◌<◌, ◌^◌, ℕ, List, length, subst, ap, sym, arith, ◌∙◌}
 use Rattle.std.proofs.lemmas.List.{length-map}
 use Rattle.sdf_actor.specs.Graphs.{channel_of}
 use Rattle.sdf_kit.specs.Kit.{kit_steps}
@@ -7,17 +7,19 @@ use Rattle.sdf_draw.proofs.Drawable.{drawable}
 use Rattle.sdf_draw.proofs.page.drawn.Goals as goal
 
 pub returns : goal.returns
-returns c = record {
-  period = c.in_ok-period.period;
-  periods = c.in_ok-period.blocking;
-  scheduled = c.in_ok-period.ensures.answers;
-  timed = c.in_ok-timed.ensures;
-  layout = subst (λ (w : List ℕ). IsLayout c.args.design.now w c.in_ok-layout.layout.places.items
-      c.in_ok-layout.layout.above c.in_ok-layout.layout.below c.in_ok-layout.layout.routes.items) c.order.ensures
-      c.in_ok-layout.ensures.is;
-  drawable = drawable c.args.design.now c.in_ok-period.blocking c.args.options.now.workers
-      c.in_ok-period.period c.in_ok-period.table c.in_ok-timed.timed c.net.ensures.whole c.in_ok-period.ensures.table
-      c.in_ok-timed.ensures;
-  capacities = c.in_ok-period.ensures.table.exact.caps_all
-      ∙ length-map c.args.design.now.net.wires (channel_of kit_steps c.args.design.now.net.nodes);
-}
+returns c =
+    let fits : c.in_ok-figures.figures.makespan < 2 ^ 64 = omega (arith, c.makespan.ensures) in
+    record {
+      periods = c.in_ok-period.blocking;
+      scheduled = c.in_ok-period.ensures.answers;
+      figures = c.in_ok-figures.ensures;
+      layout = subst (λ (w : List ℕ). IsLayout c.args.design.now w c.in_ok-layout.layout.places.items
+          c.in_ok-layout.layout.above c.in_ok-layout.layout.below c.in_ok-layout.layout.routes.items) c.order.ensures
+          c.in_ok-layout.ensures.is;
+      drawable = drawable c.args.design.now c.in_ok-period.blocking c.args.options.now.workers
+          c.in_ok-period.period c.in_ok-period.table c.in_ok-figures.figures c.net.ensures.whole
+          c.in_ok-period.ensures.table c.in_ok-figures.ensures fits;
+      capacities = c.in_ok-period.ensures.table.exact.caps_all
+          ∙ length-map c.args.design.now.net.wires (channel_of kit_steps c.args.design.now.net.nodes);
+      fire = c.in_ok-period.ensures.answers.by_policy.period.least.is.all;
+    }

@@ -1,10 +1,11 @@
-use Rattle.std.proofs.Common.{◌≡◌, ◌∙◌, ◌≤◌, ap, subst, sym, length, slice_index}
+use Rattle.std.proofs.Common.{◌≡◌, ◌∙◌, ◌≤◌, ap, subst, sym, length, slice_index, arith}
 use Rattle.sdf_actor.specs.Graphs.{graph_of}
 use Rattle.sdf_kit.specs.Kit.{kit_steps}
 use Rattle.sdf_prec.specs.Blocks.{block}
-use Rattle.sdf_times.specs.Times.{start_in, work_of}
+use Rattle.sdf_times.specs.Times.{work_of}
 use Rattle.sdf_analyze.specs.Figures.{Figured}
-use Rattle.sdf_analyze.proofs.Designs.{figures_of}
+use Rattle.sdf_analyze.proofs.Works.{figures_of, work_small}
+use Rattle.sdf_analyze.specs.declared.figures.TheConstants.{MOST_WORK}
 use Rattle.sdf_analyze.proofs.figures.Figures.of.Goals as goal
 
 pub work-work-requires-clause-few : goal.work-work-requires-clause-few
@@ -15,6 +16,27 @@ work-work-requires-clause-few c =
     subst (λ g. g.actors ≤ 64) graph c.channels.ensures.shape.few in
     rw c.repetitions.ensures (rw c.requires.period.least.is.all few)
 
+pub invariant_of-result : goal.invariant_of-result
+invariant_of-result c =
+    let graph : c.graph-graph.result.now ≡ graph_of kit_steps c.args.design.now.net =
+    c.graph-graph.ensures.value ∙ ap (graph_of kit_steps) c.net.ensures.value in
+    let few : (graph_of kit_steps c.args.design.now.net).actors ≤ 64 =
+    subst (λ g. g.actors ≤ 64) graph c.channels.ensures.shape.few in
+    let actors : length c.args.period.now.repetitions ≡ (graph_of kit_steps c.args.design.now.net).actors =
+    c.requires.period.least.is.all in
+    let few_reps : length c.args.period.now.repetitions ≤ 64 = rw actors few in
+    let within : length c.args.period.now.repetitions ≤ length c.args.design.now.net.nodes = omega (arith, actors) in
+    let small = work_small c.args.options.now.blocking c.args.period.now.repetitions c.args.design.now.costs
+    (length c.args.design.now.net.nodes) (length c.args.period.now.repetitions) c.requires.size.short
+    c.net.ensures.whole.priced within in
+    let work = c.work-work.ensures
+    ∙ (ap (λ reps. work_of (length reps) (slice_index (block c.args.options.now.blocking reps))
+    (slice_index c.in_ok-costs.costs)) c.repetitions.ensures
+    ∙ ap (λ costs. work_of (length c.args.period.now.repetitions) (slice_index (block c.args.options.now.blocking
+    c.args.period.now.repetitions)) (slice_index costs)) c.in_ok-costs.ensures) in
+    let bound : c.work-work.result ≤ MOST_WORK = omega (arith, work, small, few_reps) in
+    bound
+
 pub returns : goal.returns
 returns c =
     let graph : c.graph-graph.result.now ≡ graph_of kit_steps c.args.design.now.net =
@@ -22,6 +44,7 @@ returns c =
     let actors : length c.repetitions.result.now ≡ c.graph-graph.result.now.actors =
     ap length c.repetitions.ensures ∙ (c.requires.period.least.is.all ∙ ap (λ g. g.actors) (sym graph)) in
     let figures : Figured = record {
+      starts = c.in_ok-times.times.starts;
       makespan = c.in_ok-times.times.makespan;
       work = c.work-work.result;
       span = c.in_ok-span.span;
@@ -33,11 +56,9 @@ returns c =
     c.args.design.now.costs c.args.options.now.blocking c.args.options.now.workers c.args.period.now c.args.table.now
     figures graph c.in_ok-costs.ensures
     (record {
-      makespan = record {
-        start = start_in c.in_ok-times.times.starts;
-        starts = c.in_ok-times.ensures.starts;
-        is = c.in_ok-times.ensures.makespan;
-      };
+      starts = c.in_ok-times.ensures.starts;
+      has = c.in_ok-times.ensures.has;
+      makespan = c.in_ok-times.ensures.makespan;
       work = c.work-work.ensures ∙ (ap (λ n. work_of n (slice_index (block c.args.options.now.blocking
           c.repetitions.result.now)) (slice_index c.in_ok-costs.costs)) actors
           ∙ ap (λ reps. work_of c.graph-graph.result.now.actors (slice_index (block c.args.options.now.blocking reps))

@@ -1,0 +1,6 @@
+use Rattle.std.proofs.Common.{◌≡◌, ◌++◌, string_bytes}
+use Rattle.sdf_draw.specs.Charts.{workers_text}
+use Rattle.sdf_draw.proofs.chart.push_workers.Given as goal
+
+abbrev pub invariant-loop-worker : goal.invariant-loop-worker
+invariant-loop-worker l = string_bytes l.text ≡ string_bytes l.initial.text ++ workers_text l.worker

@@ -1,0 +1,119 @@
+-- The text of arrows.
+use Rattle.std.specs.Prelude.{ℕ, ◌+◌, ◌-◌, ◌*◌, ◌/◌, ◌%◌, ◌==◌, List, [], ◌++◌, if◌then◌else◌, codes, length}
+use Rattle.std.specs.Prelude.{slice_index}
+use Rattle.sdf_graph.specs.Rates.{Edge}
+use Rattle.sdf_actor.specs.Nets.{wire, node, inputs_of, outputs_of}
+use Rattle.sdf_kit.specs.Kit.{kit_steps}
+use Rattle.sdf_file.specs.Designs.{DesignValue}
+use Rattle.sdf_analyze.specs.Texts.{lines_to}
+use Rattle.sdf_draw.specs.declared.arrows.TheConstants.{STUB, TAIL, SHIFTS, SHIFT, DOT}
+use Rattle.sdf_draw.specs.declared.arrows.Spot.{Spot}
+use Rattle.sdf_draw.specs.declared.layout.TheConstants.{PORT}
+use Rattle.sdf_draw.specs.declared.layout.Place.{Place}
+use Rattle.sdf_draw.specs.declared.layout.Route.{Route}
+use Rattle.sdf_draw.specs.declared.layout.Route.TheVariants.{Across, Above, Below}
+use Rattle.sdf_draw.specs.declared.texts.TheConstants.{COLOURS}
+use Rattle.sdf_draw.specs.Layouts.{place, route, left_of, right_of, lane_above, lane_below}
+use Rattle.sdf_draw.specs.Edges.{edge}
+use Rattle.sdf_draw.specs.Texts.{number_text, pair_text, rate_text}
+
+-- how high a port stands at a box: the ports of a side have its middle in theirs
+abbrev pub port_height : Place → ℕ → ℕ → ℕ
+port_height p ports port = p.y + (p.height - PORT * ports) / 2 + PORT * port + PORT / 2
+
+-- a link begins at the right side of a box, and ends at the left one of a box
+abbrev pub start_at : DesignValue → List Place → ℕ × ℕ → Spot
+start_at d ps e = record {
+  x = right_of (place ps e.0);
+  y = port_height (place ps e.0) (outputs_of kit_steps (node d.net e.0)) e.1;
+}
+
+abbrev pub end_at : DesignValue → List Place → ℕ × ℕ → Spot
+end_at d ps e = record {
+  x = left_of (place ps e.0);
+  y = port_height (place ps e.0) (inputs_of kit_steps (node d.net e.0)) e.1;
+}
+
+abbrev pub start_of : DesignValue → List Place → ℕ → Spot
+start_of d ps c = start_at d ps (wire d.net c).from
+
+abbrev pub end_of : DesignValue → List Place → ℕ → Spot
+end_of d ps c = end_at d ps (wire d.net c).to
+
+-- a curve across a gap
+unfoldable pub curve_text : Spot → Spot → List ℕ
+curve_text start end =
+    number_text (codes " C") (start.x + STUB + 40) ++ number_text (codes " ") start.y
+    ++ number_text (codes " ") (end.x - (TAIL + 40)) ++ number_text (codes " ") end.y
+    ++ number_text (codes " ") (end.x - TAIL) ++ number_text (codes " ") end.y
+
+-- corners to a lane at this height, and from it
+unfoldable pub turns_text : Spot → Spot → ℕ → ℕ → List ℕ
+turns_text start end lane shift =
+    number_text (codes " H") (start.x + STUB + shift) ++ number_text (codes " V") lane
+    ++ number_text (codes " H") (end.x - (TAIL + shift)) ++ number_text (codes " V") end.y
+
+-- lines that go up or down stand beside one another
+abbrev pub shift_of : ℕ → ℕ
+shift_of c = c % SHIFTS * SHIFT
+
+-- the way between the straight parts of an arrow
+abbrev pub way_text : List Place → Route → ℕ → Spot → Spot → List ℕ
+way_text ps Across shift start end = curve_text start end
+way_text ps (Above lane) shift start end = turns_text start end (lane_above lane) shift
+way_text ps (Below lane) shift start end = turns_text start end (lane_below ps lane) shift
+
+-- the straight part that a line begins with, in a colour
+unfoldable pub stub_text : ℕ → Spot → List ℕ
+stub_text colour start =
+    number_text (codes "<path class='way s") colour ++ number_text (codes "' d='M") start.x
+    ++ number_text (codes " ") start.y ++ number_text (codes " H") (start.x + STUB)
+
+unfoldable pub line_text : List Place → Route → ℕ → ℕ → Spot → Spot → List ℕ
+line_text ps r c colour start end =
+    stub_text colour start ++ way_text ps r (shift_of c) start end
+    ++ number_text (codes " H") (end.x - 2) ++ codes "'/>"
+
+-- what a text begins with, and where it stands
+abbrev pub at_text : List ℕ → ℕ → ℕ → List ℕ
+at_text word x y = pair_text word x (codes "' y='") y
+
+-- what firings put on a link
+unfoldable pub put_text : List ℕ → Spot → List ℕ
+put_text put start =
+    at_text (codes "<text x='") (start.x + 5) (start.y - 4) ++ codes "'>" ++ rate_text put ++ codes "</text>"
+
+-- what they take from it
+unfoldable pub take_text : List ℕ → Spot → List ℕ
+take_text take end =
+    at_text (codes "<text class='end' x='") (end.x - 9) (end.y - 4) ++ codes "'>" ++ rate_text take ++ codes "</text>"
+
+-- what it holds at most
+unfoldable pub capacity_text : ℕ → Spot → List ℕ
+capacity_text capacity end =
+    at_text (codes "<text class='end soft' x='") (end.x - 9) (end.y + 11) ++ number_text (codes "'>") capacity
+    ++ codes "</text>"
+
+-- the samples that it begins with: none, or a dot and their number
+unfoldable pub dot_text : ℕ → Spot → List ℕ
+dot_text initial end =
+    pair_text DOT.now (end.x - (TAIL - 4)) (codes "' cy='") end.y
+    ++ at_text (codes "'/><text x='") (end.x - (TAIL - 2)) (end.y - 6)
+    ++ number_text (codes "'>") initial ++ codes "</text>"
+
+abbrev pub initial_text : ℕ → Spot → List ℕ
+initial_text initial end = if initial == 0 then [] else dot_text initial end
+
+-- the arrow of a link of these capacities, between two points
+abbrev pub between_text : Edge → ℕ → List Place → Route → ℕ → Spot → Spot → List ℕ
+between_text e capacity ps r c start end =
+    line_text ps r c (e.from % COLOURS) start end ++ put_text e.put start ++ initial_text e.initial end
+    ++ take_text e.take end ++ capacity_text capacity end ++ codes "\n"
+
+abbrev pub arrow_text : DesignValue → List ℕ → List Place → List Route → ℕ → List ℕ
+arrow_text d caps ps rs c =
+    between_text (edge d c) (slice_index caps c) ps (route rs c) c (start_of d ps c) (end_of d ps c)
+
+-- an arrow for each link, in order
+abbrev pub arrows_text : DesignValue → List ℕ → List Place → List Route → List ℕ
+arrows_text d caps ps rs = lines_to (arrow_text d caps ps rs) (length d.net.wires)

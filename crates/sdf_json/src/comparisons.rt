@@ -1,0 +1,77 @@
+//! Schedules beside one another as lines.
+
+ghost use Rattle.std.specs.Prelude.{◌≡◌, ◌++◌, IfOk, OnOk, MatchResult, map, take, string_bytes};
+ghost use Rattle.serde_json.specs.View.{view, members_view};
+ghost use Rattle.sdf_process.specs.Plans.{AreSizes, IsScheduleFault};
+ghost use Rattle.sdf_json.specs.Values.{with};
+ghost use Rattle.sdf_json.specs.Comparisons.{measures_of, outcome_of, entry_value, comparison_value};
+ghost use Rattle.sdf_json.specs.Comparisons.{IsComparisonJson};
+
+use crate::schedules::asked;
+use crate::values::{Members, line_of, put_number};
+use sdf_analyze::{Entry, Measures, Outcome, compared};
+use sdf_file::Design;
+use sdf_options::Options;
+use sdf_process::Fault;
+use serde_json::Value;
+use std::alloc::{AllocError, Global};
+
+/// Adds what is compared of a schedule.
+fn put_measures(members: &mut Members, alloc: Global, measures: Measures) -> Result<(), AllocError>
+    ensures { OnOk result (members_view members.new.entries ≡
+        with (members_view members.old.entries) (measures_of measures)) }
+{
+    put_number(members, alloc, "makespan", measures.makespan)?;
+    put_number(members, alloc, "speedup_hundredths", measures.speedup)?;
+    put_number(members, alloc, "rows", measures.rows as u64)?;
+    put_number(members, alloc, "samples", measures.held)
+}
+
+/// Adds this, or the number of the fault why there is no schedule.
+fn put_outcome(members: &mut Members, alloc: Global, outcome: Outcome) -> Result<(), AllocError>
+    ensures { OnOk result (members_view members.new.entries ≡
+        with (members_view members.old.entries) (outcome_of outcome)) }
+{
+    match outcome {
+        Outcome::Made(measures) => put_measures(members, alloc, measures),
+        Outcome::Refused(number) => put_number(members, alloc, "fault", u64::from(number)),
+    }
+}
+
+fn entry_value(alloc: Global, entry: Entry) -> Result<Value, AllocError>
+    ensures { IfOk result (λ v. view v ≡ entry_value entry) }
+{
+    let mut members = asked(alloc, &entry.options)?;
+    put_outcome(&mut members, alloc, entry.outcome)?;
+    Ok(Value::Object(members))
+}
+
+/// The schedules that are compared.
+fn entry_values(alloc: Global, entries: &[Entry]) -> Result<Vec<Value>, AllocError>
+    ensures { IfOk result (λ list. map view list.items ≡ map entry_value entries.now) }
+{
+    let mut list = Vec::new(alloc);
+    for entry in entries {
+        list.push(entry_value(alloc, *entry)?)?;
+    }
+    Ok(list)
+}
+
+fn comparison_value(alloc: Global, entries: &[Entry]) -> Result<Value, AllocError>
+    ensures { IfOk result (λ v. view v ≡ comparison_value entries.now) }
+{
+    Ok(Value::Array(entry_values(alloc, entries)?))
+}
+
+/// Schedules beside one another, as a line of JSON: an array of the schedules that `sdf_analyze::compared` compares, of
+/// each the options, and the makespan, the speedup in hundredths, the rows and the samples that all links hold at most,
+/// or the number of the fault why there is none.
+pub fn comparison_json(alloc: Global, design: &Design, options: &Options) -> Result<String, Fault>
+    requires { AreSizes options.now }
+    ensures { MatchResult result (λ text. IsComparisonJson design.now options.now (string_bytes text))
+        (IsScheduleFault design.now) }
+{
+    let entries = compared(alloc, design, options)?;
+    let value = comparison_value(alloc, &entries)?;
+    Ok(line_of(alloc, &value)?)
+}
