@@ -27,7 +27,7 @@ invariant_of-result c =
     let few_reps : length c.args.period.now.repetitions ≤ 64 = rw actors few in
     let within : length c.args.period.now.repetitions ≤ length c.args.design.now.net.nodes = omega (arith, actors) in
     let small = work_small c.args.options.now.blocking c.args.period.now.repetitions c.args.design.now.costs
-    (length c.args.design.now.net.nodes) (length c.args.period.now.repetitions) c.requires.size.short
+    (length c.args.design.now.net.nodes) (length c.args.period.now.repetitions) c.requires.short
     c.net.ensures.whole.priced within in
     let work = c.work-work.ensures
     ∙ (ap (λ reps. work_of (length reps) (slice_index (block c.args.options.now.blocking reps))
