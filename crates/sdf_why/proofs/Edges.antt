@@ -62,13 +62,12 @@ channels_more f links i x l is =
 -- ---- actors
 
 -- the node of an actor that is read
-pub node_at : (actors : List ActorEntry) (i : ℕ) (x : ActorEntry) → i < length actors → x ≡ get_or actors i x →
-    node_of x.kind ≡ get_or (nodes_of (map actor_view actors)) i (Sink 0 0)
-node_at actors i x l is = sym (
+pub node_at : (actors : List ActorEntry) (i : ℕ) (x : ActorEntry) → i < length actors →
+    node_of (get_or actors i x).kind ≡ get_or (nodes_of (map actor_view actors)) i (Sink 0 0)
+node_at actors i x l = sym (
     get_or-map (λ (a : ActorValue). node_of a.kind) (map actor_view actors) i (actor_view x) (Sink 0 0)
     (omega (arith, length-map actors actor_view))
-    ∙ ap (λ (a : ActorValue). node_of a.kind) (get_or-map actor_view actors i x (actor_view x) l
-    ∙ ap actor_view (sym is)))
+    ∙ ap (λ (a : ActorValue). node_of a.kind) (get_or-map actor_view actors i x (actor_view x) l))
 
 -- and the one where there is none
 pub node_past : (actors : List ActorEntry) (i : ℕ) → length actors ≤ i →

@@ -6,3 +6,4 @@ pub mod Roots
 pub mod Walks
 pub mod Edges
 pub mod Grown
+pub mod Mores

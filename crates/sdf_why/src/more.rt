@@ -270,6 +270,7 @@ fn graph_more(
 }
 
 /// The same by the files.
+#[tactic(auto, using(crate::proofs::Mores::more_told, crate::proofs::Mores::no_tables, crate::proofs::Mores::no_document))]
 fn files_more(
     alloc: Global,
     fault: GraphFault,
@@ -282,9 +283,9 @@ fn files_more(
         return Ok(String::new(alloc));
     };
     match read_document(alloc, sources.graph, sources.files) {
-        Ok(document) => graph_more(alloc, fault, &tables, &document),
+        Ok(document) => Ok(graph_more(alloc, fault, &tables, &document)?),
         Err(ReadFault::OutOfMemory) => Err(AllocError),
-        Err(_) => Ok(String::new(alloc)),
+        Err(ReadFault::Document(_)) => Ok(String::new(alloc)),
     }
 }
 
