@@ -99,6 +99,14 @@ def with_no_thread(words, period):
     return describe(ended)
 
 
+def parallel_of_sdfw(lists):
+    """Runs that are to be sooner: by workers where these can be faster, with rooms and pieces of many blocks."""
+    for name, design, sound, _, period in RUNS:
+        words = [SDFW, "run", design, sound, "out.wav", "--parallel", "2"]
+        lists.refuse(f"sdfw run {name} --parallel: memory", words, "memory", ample_or(NO_MEMORY, period))
+        lists.refuse(f"sdfw run {name} --parallel: threads", words, "thread", ample_or(NO_WORKER, period))
+
+
 def reads_of_sdfw(lists):
     for name, words in PRINTED[:2]:
         lists.refuse(f"sdfw {name}: failing reads", [SDFW, *words], "read", only(NO_READ))
@@ -360,6 +368,7 @@ def devices_of_sdfw(lists):
 def all_lists(lists):
     memory_of_sdfw(lists)
     threads_of_sdfw(lists)
+    parallel_of_sdfw(lists)
     reads_of_sdfw(lists)
     writes_of_sdfw(lists)
     bytes_of_sdfw(lists)
