@@ -264,12 +264,7 @@ fn push_initial(text: &mut String, initial: usize, end: Spot) -> Result<(), Allo
 
 /// Adds the numbers at both ends of an arrow.
 #[tactic(auto, unfolding(crate::specs::Arrows::ends_text))]
-fn push_ends(
-    text: &mut String,
-    channel: &Channel,
-    start: Spot,
-    end: Spot,
-) -> Result<(), AllocError>
+fn push_ends(text: &mut String, channel: &Channel, start: Spot, end: Spot) -> Result<(), AllocError>
     requires start { IsNear start }
     requires put { length channel.now.put ≤ MOST_CYCLE }
     requires take { length channel.now.take ≤ MOST_CYCLE }
