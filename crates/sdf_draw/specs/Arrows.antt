@@ -104,11 +104,15 @@ dot_text initial end =
 abbrev pub initial_text : ℕ → Spot → List ℕ
 initial_text initial end = if initial == 0 then [] else dot_text initial end
 
--- the arrow of a link of these capacities, between two points
+-- the numbers at both ends
+unfoldable pub ends_text : Edge → Spot → Spot → List ℕ
+ends_text e start end = put_text e.put start ++ initial_text e.initial end ++ take_text e.take end
+
+-- the arrow of a link of this capacity, between two points
 abbrev pub between_text : Edge → ℕ → List Place → Route → ℕ → Spot → Spot → List ℕ
 between_text e capacity ps r c start end =
-    line_text ps r c (e.from % COLOURS) start end ++ put_text e.put start ++ initial_text e.initial end
-    ++ take_text e.take end ++ capacity_text capacity end ++ codes "\n"
+    line_text ps r c (e.from % COLOURS) start end ++ ends_text e start end ++ capacity_text capacity end
+    ++ codes "\n"
 
 abbrev pub arrow_text : DesignValue → List ℕ → List Place → List Route → ℕ → List ℕ
 arrow_text d caps ps rs c =

@@ -81,7 +81,7 @@ firings_text firings p =
     ++ codes "</text>\n"
 
 -- the box of actor a, which fires so often in a period
-abbrev pub box_text : DesignValue → ℕ → Place → ℕ → List ℕ
+unfoldable pub box_text : DesignValue → ℕ → Place → ℕ → List ℕ
 box_text d a p firings =
     outline_text a (shape_of (node d.net a)) p ++ label_text d a p ++ firings_text firings p
 

@@ -44,9 +44,13 @@ frame_text makespan end =
     ++ number_text (codes "' viewBox='0 0 ") makespan ++ number_text (codes " ") end ++ codes "'>\n"
 
 -- the bars of each of m workers
+abbrev pub rows_text : DesignValue → Tabled → List (List ℕ) → ℕ → List ℕ
+rows_text d t starts m = lines_to (lane_text d t starts) m
+
+-- in units of time
 abbrev pub lanes_text : DesignValue → Tabled → Figured → ℕ → List ℕ
 lanes_text d t f m =
-    frame_text f.makespan (ROW * m) ++ lines_to (lane_text d t f.starts) m ++ codes "</svg>\n"
+    frame_text f.makespan (ROW * m) ++ rows_text d t f.starts m ++ codes "</svg>\n"
 
 -- the name of worker k's lane, and a line under it
 unfoldable pub worker_text : ℕ → List ℕ

@@ -40,10 +40,14 @@ node_line d a =
 abbrev pub initial_label : ℕ → List ℕ
 initial_label initial = if initial == 0 then [] else number_text (codes "\" label=\"") initial
 
+-- a word, and what firings move
+unfoldable pub label_text : List ℕ → List ℕ → List ℕ
+label_text word rates = word ++ rate_text rates
+
 -- what firings put on a link and take from it, and those samples
 unfoldable pub labels_text : Edge → List ℕ
 labels_text e =
-    codes " [taillabel=\"" ++ rate_text e.put ++ codes "\" headlabel=\"" ++ rate_text e.take
+    label_text (codes " [taillabel=\"") e.put ++ label_text (codes "\" headlabel=\"") e.take
     ++ initial_label e.initial ++ codes "\"];\n"
 
 unfoldable pub edge_line : DesignValue → ℕ → List ℕ

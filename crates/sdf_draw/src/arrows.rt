@@ -7,7 +7,7 @@ ghost use Rattle.sdf_draw.specs.Layouts.{IsNear, route};
 ghost use Rattle.sdf_draw.specs.Edges.{edge};
 ghost use Rattle.sdf_draw.specs.Arrows.{port_height, start_of, end_of, shift_of, curve_text, turns_text, way_text};
 ghost use Rattle.sdf_draw.specs.Arrows.{stub_text, line_text, at_text, put_text, take_text, capacity_text};
-ghost use Rattle.sdf_draw.specs.Arrows.{dot_text, initial_text};
+ghost use Rattle.sdf_draw.specs.Arrows.{dot_text, initial_text, ends_text};
 ghost use Rattle.sdf_draw.specs.Arrows.{arrow_text, arrows_text};
 
 use crate::layout::{Layout, PORT, Place, Route, lane_above};
@@ -262,6 +262,19 @@ fn push_initial(text: &mut String, initial: usize, end: Spot) -> Result<(), Allo
     push_dot(text, initial, end)
 }
 
+/// Adds the numbers at both ends of an arrow.
+#[tactic(auto, unfolding(crate::specs::Arrows::ends_text))]
+fn push_ends(text: &mut String, channel: &Channel, start: Spot, end: Spot) -> Result<(), AllocError>
+    requires start { IsNear start }
+    requires put { length channel.now.put ≤ MOST_CYCLE }
+    requires take { length channel.now.take ≤ MOST_CYCLE }
+    ensures { OnOk result (string_bytes text.new ≡ string_bytes text.old ++ ends_text channel.now start end) }
+{
+    push_put(text, channel, start)?;
+    push_initial(text, channel.initial, end)?;
+    push_take(text, channel, end)
+}
+
 /// Adds the arrow of a link.
 fn push_arrow(
     text: &mut String,
@@ -281,9 +294,7 @@ fn push_arrow(
     let start = start_of(design, layout, link);
     let end = end_of(design, layout, link);
     push_line(text, layout, link, channel.from % COLOURS, start, end)?;
-    push_put(text, channel, start)?;
-    push_initial(text, channel.initial, end)?;
-    push_take(text, channel, end)?;
+    push_ends(text, channel, start, end)?;
     push_capacity(text, table.cap(link), end)?;
     text.push_str("\n")
 }

@@ -2,6 +2,7 @@
 
 ghost use Rattle.std.specs.Prelude.{◌≡◌, ◌<◌, ◌++◌, ◌+◌, OnOk, length, string_bytes, slice_index, codes};
 ghost use Rattle.sdf_actor.specs.Nets.{node};
+ghost use Rattle.sdf_draw.specs.Layouts.{place};
 ghost use Rattle.sdf_draw.specs.Boxes.{point_text, points_text, source_corners, sink_corners, upper_corners};
 ghost use Rattle.sdf_draw.specs.Boxes.{lower_corners, plain_corners, corners_text, outline_text, line_text};
 ghost use Rattle.sdf_draw.specs.Boxes.{pressed_text, label_text, firings_text, box_text, boxes_text};
@@ -168,6 +169,7 @@ fn push_firings(text: &mut String, firings: u32, place: Place) -> Result<(), All
 }
 
 /// Adds the box of an actor that fires so often in a period.
+#[tactic(auto, unfolding(crate::specs::Boxes::box_text))]
 fn push_box(
     text: &mut String,
     design: &Design,
@@ -184,6 +186,24 @@ fn push_box(
     push_firings(text, firings, place)
 }
 
+/// Adds the box of an actor where it stands.
+fn push_placed(
+    text: &mut String,
+    design: &Design,
+    period: &Period,
+    layout: &Layout,
+    actor: usize,
+) -> Result<(), AllocError>
+    requires actor { actor < length design.now.net.nodes }
+    requires boxes { length layout.now.places.items ≡ length design.now.net.nodes }
+    requires fire { length period.now.repetitions ≡ length design.now.net.nodes }
+    ensures { OnOk result (string_bytes text.new ≡ string_bytes text.old ++ box_text design.now actor
+        (place layout.now.places.items actor) (slice_index period.now.repetitions actor)) }
+{
+    let firings = period.repetitions()[actor];
+    push_box(text, design, actor, layout.places[actor], firings)
+}
+
 /// Adds a box for each actor.
 pub(crate) fn push_boxes(
     text: &mut String,
@@ -197,8 +217,7 @@ pub(crate) fn push_boxes(
         ++ boxes_text design.now period.now.repetitions layout.now.places.items) }
 {
     for actor in 0..design.net().len() {
-        let firings = period.repetitions()[actor];
-        push_box(text, design, actor, layout.places[actor], firings)?;
+        push_placed(text, design, period, layout, actor)?;
     }
     Ok(())
 }

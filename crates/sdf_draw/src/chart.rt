@@ -8,8 +8,8 @@ ghost use Rattle.sdf_prec.specs.Tables.{row};
 ghost use Rattle.sdf_times.specs.Times.{IsInTable};
 ghost use Rattle.sdf_draw.specs.Bars.{IsDrawable, AreDrawable, scaled};
 ghost use Rattle.sdf_draw.specs.Texts.{number_text};
-ghost use Rattle.sdf_draw.specs.Charts.{rect_text, title_text, bar_text, lane_text, frame_text, lanes_text};
-ghost use Rattle.sdf_draw.specs.Charts.{worker_text, workers_text, mark_text, label_text, bound_text};
+ghost use Rattle.sdf_draw.specs.Charts.{rect_text, title_text, bar_text, lane_text, frame_text, rows_text};
+ghost use Rattle.sdf_draw.specs.Charts.{lanes_text, worker_text, workers_text, mark_text, label_text, bound_text};
 ghost use Rattle.sdf_draw.specs.Charts.{rules_text, makespan_text, axis_text, chart_text};
 
 use crate::bars::{Bar, bars_in};
@@ -138,6 +138,26 @@ fn push_frame(text: &mut String, makespan: u64, end: u64) -> Result<(), AllocErr
     text.push_str("'>\n")
 }
 
+/// Adds the bars of each worker.
+fn push_rows(
+    alloc: Global,
+    text: &mut String,
+    design: &Design,
+    table: &Table,
+    figures: &Figures,
+    workers: usize,
+) -> Result<(), AllocError>
+    requires few { workers ≤ MOST_WORKERS }
+    requires bars { AreDrawable design.now workers table.now figures.now.starts }
+    ensures { OnOk result (string_bytes text.new ≡
+        string_bytes text.old ++ rows_text design.now table.now figures.now.starts workers) }
+{
+    for worker in 0..workers {
+        push_lane(alloc, text, design, table, figures, worker)?;
+    }
+    Ok(())
+}
+
 /// Adds the bars of all workers, in units of time.
 fn push_lanes(
     alloc: Global,
@@ -153,9 +173,7 @@ fn push_lanes(
         string_bytes text.old ++ lanes_text design.now table.now figures.now workers) }
 {
     push_frame(text, figures.makespan(), ROW * workers as u64)?;
-    for worker in 0..workers {
-        push_lane(alloc, text, design, table, figures, worker)?;
-    }
+    push_rows(alloc, text, design, table, figures, workers)?;
     text.push_str("</svg>\n")
 }
 

@@ -4,7 +4,7 @@ ghost use Rattle.std.specs.Prelude.{◌≡◌, ◌<◌, ◌≤◌, ◌++◌, IfO
 ghost use Rattle.sdf_limits.specs.declared.TheConstants.{MOST_CYCLE};
 ghost use Rattle.sdf_actor.specs.Nets.{node};
 ghost use Rattle.sdf_draw.specs.Graphviz.{quotable_char, quotables, quoted, shape_word, node_line, initial_label};
-ghost use Rattle.sdf_draw.specs.Graphviz.{labels_text, edge_line, nodes_text, edges_text, dot_text};
+ghost use Rattle.sdf_draw.specs.Graphviz.{label_text, labels_text, edge_line, nodes_text, edges_text, dot_text};
 
 use crate::ports::{Shape, channel_of, shape_of};
 use crate::texts::{push_number, push_rate};
@@ -66,6 +66,16 @@ fn push_node(text: &mut String, design: &Design, actor: usize) -> Result<(), All
     text.push_str("];\n")
 }
 
+/// Adds a word, and what firings move whose rates are these.
+#[tactic(auto, unfolding(crate::specs::Graphviz::label_text))]
+fn push_label(text: &mut String, word: &str, rates: &[u32]) -> Result<(), AllocError>
+    requires { length rates.now ≤ MOST_CYCLE }
+    ensures { OnOk result (string_bytes text.new ≡ string_bytes text.old ++ label_text word.now rates.now) }
+{
+    text.push_str(word)?;
+    push_rate(text, rates)
+}
+
 /// Adds the samples that a link begins with, where there are some.
 fn push_initial(text: &mut String, initial: usize) -> Result<(), AllocError>
     ensures { OnOk result (string_bytes text.new ≡ string_bytes text.old ++ initial_label initial) }
@@ -83,10 +93,8 @@ fn push_labels(text: &mut String, channel: &Channel) -> Result<(), AllocError>
     requires take { length channel.now.take ≤ MOST_CYCLE }
     ensures { OnOk result (string_bytes text.new ≡ string_bytes text.old ++ labels_text channel.now) }
 {
-    text.push_str(" [taillabel=\"")?;
-    push_rate(text, channel.put.as_slice())?;
-    text.push_str("\" headlabel=\"")?;
-    push_rate(text, channel.take.as_slice())?;
+    push_label(text, " [taillabel=\"", channel.put.as_slice())?;
+    push_label(text, "\" headlabel=\"", channel.take.as_slice())?;
     push_initial(text, channel.initial)?;
     text.push_str("\"];\n")
 }
