@@ -8,7 +8,7 @@ use crate::storage::Storage;
 use sdf_analyze::{analyze, compare};
 use sdf_draw::{dot, svg};
 use sdf_file::check_text;
-use sdf_json::{analysis_json, check_json, schedule_json};
+use sdf_json::{analysis_json, check_json, comparison_json, schedule_json};
 use sdf_options::Options;
 use sdf_process::Fault;
 use sdf_process::planning::plan;
@@ -71,12 +71,11 @@ pub(crate) fn print_analysis<S: Storage, T: AllocGlobal, O: Write>(
 {
     let alloc = world.threads.alloc();
     let Loaded { design, .. } = load(alloc, world.storage, graph, world.most)?;
-    let text = if json {
-        analysis_json(alloc, &design, options)?
-    } else if compares {
-        compare(alloc, &design, options)?
-    } else {
-        analyze(alloc, &design, options)?
+    let text = match (compares, json) {
+        (true, true) => comparison_json(alloc, &design, options)?,
+        (true, false) => compare(alloc, &design, options)?,
+        (false, true) => analysis_json(alloc, &design, options)?,
+        (false, false) => analyze(alloc, &design, options)?,
     };
     show(out, text.as_str())
 }

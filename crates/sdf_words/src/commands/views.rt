@@ -14,7 +14,7 @@ there is no schedule. `--policy` and `--placement` have no effect with it",
 };
 
 const FIGURES: Switch = Switch {
-    against: &["compare"],
+    against: &[],
     ..JSON
 };
 
