@@ -54,6 +54,11 @@ const IN_JSON: &[(&[&str], &str)] = &[
     ),
 ];
 
+/// How the schedules of a design are compared in JSON: the first of them.
+const COMPARED_IN_JSON: &str =
+    "0\n[{\"blocking\":1,\"makespan\":2,\"placement\":\"hu\",\"policy\":\"round\",\
+    \"rows\":2,\"samples\":1,\"speedup_hundredths\":100,\"workers\":1},";
+
 /// Refuses an answer that is text, one of another command, and a fault that is a line of text.
 #[test]
 fn answers_in_json(rt: HostRuntime) -> Result<(), Fail> {
@@ -61,6 +66,11 @@ fn answers_in_json(rt: HostRuntime) -> Result<(), Fail> {
         let told = made(&rt, line)?;
         assert_eq!(rt; told.as_str(), *wanted, "{line:?}");
     }
+    let told = made(
+        &rt,
+        &["sdfw", "analyze", "plain.toml", "--compare", "--json"],
+    )?;
+    assert!(rt; told.as_str().starts_with(COMPARED_IN_JSON));
     Ok(())
 }
 
