@@ -44,8 +44,13 @@ pub channel_is : (nodes : List (Node Kit)) (w : Wire ℤ) (from to : Ports) (put
     (let e : Edge = record { from = w.from.0; put = put; to = w.to.0; take = take; initial = n } in
     e ≡ channel_of kit_steps nodes w)
 channel_is nodes w from to put take n source target puts takes many =
-    rw (puts, takes, many, puts_are from (get_or nodes w.from.0 (Sink 0 0)) w.from.1 source,
-    takes_are to (get_or nodes w.to.0 (Sink 0 0)) w.to.1 target) refl
+    rw (
+      puts,
+      takes,
+      many,
+      puts_are from (get_or nodes w.from.0 (Sink 0 0)) w.from.1 source,
+      takes_are to (get_or nodes w.to.0 (Sink 0 0)) w.to.1 target,
+    ) refl
 
 -- the channel of one more link
 pub channels_more : (f : Wire ℤ → Edge) (links : List LinkEntry) (i : ℕ) (x : LinkEntry) → i < length links →

@@ -26,6 +26,7 @@ IsErr (Ok d) = ⊥
 pub more_told : (graph : List ℕ) (files : Files) (d : Data) (document : DocumentValue) (fault : GraphFault)
     (text : List ℕ) → Some d ≡ root graph → document_of graph files ≡ Ok document →
     IsMoreOf d (graph_in document) fault text → IsMore (nets.Graph fault) graph files text
+unfolding value_or
 more_told graph files d document fault text tables says is e other tables' says' =
     subst (λ (x : Data). IsMoreOf x (graph_in other) fault text)
     (ap (λ o. option_map_or (λ (x : Data). x) o d) (tables ∙ tables'))
@@ -34,8 +35,10 @@ more_told graph files d document fault text tables says is e other tables' says'
 
 pub no_tables : (graph : List ℕ) (files : Files) (fault : GraphFault) (text : List ℕ) → None ≡ root graph →
     IsMore (nets.Graph fault) graph files text
+unfolding IsNone
 no_tables graph files fault text none d document tables says = absurd (subst IsNone (none ∙ tables) tt)
 
-pub no_document : (graph : List ℕ) (files : Files) (fault : GraphFault) (text : List ℕ) (f : Fault) →
+pub unread : (graph : List ℕ) (files : Files) (fault : GraphFault) (text : List ℕ) (f : Fault) →
     document_of graph files ≡ Err f → IsMore (nets.Graph fault) graph files text
-no_document graph files fault text f err d document tables says = absurd (subst IsErr (sym err ∙ says) tt)
+unfolding IsErr
+unread graph files fault text f err d document tables says = absurd (subst IsErr (sym err ∙ says) tt)

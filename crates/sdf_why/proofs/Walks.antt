@@ -64,7 +64,8 @@ first_walk g paces n are some = record {
   each = λ a h. subst (λ (x : Pace). IsPace x) (sym (one a h))
       (record { top = omega arith; bottom = omega arith; top_small = omega arith; bottom_small = omega arith });
   begun = get_or-set_same (replicate n false) 0 true false (omega (arith, length-replicate n false));
-  tied = λ a on. subst (IsTied g (IsEvenWithin g paces (set (replicate n false) 0 true))) (sym (only_first n a on)) start;
+  tied = λ a on. subst (IsTied g (IsEvenWithin g paces (set (replicate n false) 0 true)))
+      (sym (only_first n a on)) start;
 }
   where
     one : (a : ℕ) → a < g.actors → pace paces a ≡ record { num = 1; den = 1 }
@@ -111,7 +112,8 @@ walk_more g paces marked c x v shape walk border fit even = record {
     old a on = tied_by g (IsEvenWithin g paces marked) New
         (λ d e. even_stays g paces marked x v d border.fresh border.within e) a (walk.tied a on)
 
-    over : IsAcross marked (channel g c).from (channel g c).to x ⊎ IsAcross marked (channel g c).to (channel g c).from x →
+    over : IsAcross marked (channel g c).from (channel g c).to x
+        ⊎ IsAcross marked (channel g c).to (channel g c).from x →
         IsTied g New x
     over (inl on) = subst (IsTied g New) on.is_far (along c border.known (record {
       even = even;

@@ -96,11 +96,7 @@ fn rates(alloc: Global, side: Side, port: usize, cycle: u32) -> Result<Vec<u32>,
 }
 
 /// The channel of a link.
-fn channel_of(
-    alloc: Global,
-    actors: &[ActorEntry],
-    link: &LinkEntry,
-) -> Result<Channel, AllocError>
+fn channel_of(alloc: Global, actors: &[ActorEntry], link: &LinkEntry) -> Result<Channel, AllocError>
     ensures { IfOk result (λ c. c ≡
         channel_of kit_steps (nodes_of (map actor_view actors.now)) (wire_of (link_view link.now))) }
 {

@@ -230,7 +230,8 @@ fn push_told(
     fault: &DocumentFault,
 ) -> Result<(), AllocError>
     ensures { OnOk result (string_bytes text.new ≡ string_bytes text.old
-        ++ told source.entry.kinds.now (fault_view fault.now) (view source.entry.graph.now) (files_view source.entry.files.now)) }
+        ++ told source.entry.kinds.now (fault_view fault.now) (view source.entry.graph.now)
+        (files_view source.entry.files.now)) }
 {
     let graph = source.graph;
     match fault {

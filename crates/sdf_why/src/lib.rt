@@ -1,9 +1,11 @@
 //! What stands behind a fault, in the words of the user's own files.
 //!
 //! It stands on `sdf_document`, whose faults and table of kinds it tells, on `sdf_file`, which reads a design again, on
-//! `sdf_actor`, `sdf_graph` and `sdf_kit` for nets, and on `sdf_options`, which makes a text printable. Begin at `told`;
-//! `document`, `net`, `cycle` and `sound` have the lines of each fault, `limits` those of a key. The definitions are in
-//! `specs/Told.antt`, `specs/Documents.antt`, `specs/Nets.antt`, `specs/Cycles.antt` and `specs/Words.antt`.
+//! `sdf_actor`, `sdf_graph` and `sdf_kit` for nets, and on `sdf_options`, which makes a text printable. Begin at
+//! `told`; `document`, `net`, `cycle` and `sound` have the lines of each fault, `limits` those of a key. `more` has
+//! what the tables of a net do not show: `channels` makes its graph, and `walk` follows the links. The definitions are
+//! in `specs/Told.antt`, `specs/Documents.antt`, `specs/Nets.antt`, `specs/More.antt`, `specs/Walks.antt`,
+//! `specs/Cycles.antt` and `specs/Words.antt`.
 #![tactic(auto)]
 
 mod actors;

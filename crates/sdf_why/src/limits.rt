@@ -1,7 +1,8 @@
 //! The limits of a key, as the table of kinds has them.
 
 ghost use Rattle.std.specs.Prelude.{◌≡◌, ◌-◌, IfOk, option_map, string_bytes};
-ghost use Rattle.sdf_why.specs.Limits.{form_limits, is_of, limits_by, limits_in, limits_among, row_among, row_of, limits_of};
+ghost use Rattle.sdf_why.specs.Limits.{form_limits, is_of, limits_by, limits_in, limits_among, row_among, row_of};
+ghost use Rattle.sdf_why.specs.Limits.{limits_of};
 
 use crate::marks::{before, behind, has};
 

@@ -10,7 +10,8 @@ ghost use Rattle.sdf_document.specs.Document.{document_view};
 ghost use Rattle.sdf_document.specs.Lists.{files_view};
 ghost use Rattle.sdf_why.specs.Channels.{graph_in};
 ghost use Rattle.sdf_why.specs.More.{apart_told, IsApartText, so_many, firings_line, puts_text, takes_text};
-ghost use Rattle.sdf_why.specs.More.{samples_line, firings_told, samples_told, meeting_told, IsMeetingText, IsMoreOf, IsMore};
+ghost use Rattle.sdf_why.specs.More.{samples_line, firings_told, samples_told, meeting_told, IsMeetingText, IsMoreOf};
+ghost use Rattle.sdf_why.specs.More.{IsMore};
 
 use crate::actors::push_actor_of;
 use crate::channels::channels_of;
@@ -270,14 +271,10 @@ fn graph_more(
 }
 
 /// The same by the files.
-#[tactic(auto, using(crate::proofs::Mores::more_told, crate::proofs::Mores::no_tables, crate::proofs::Mores::no_document))]
-fn files_more(
-    alloc: Global,
-    fault: GraphFault,
-    sources: Sources<'_>,
-) -> Result<String, AllocError>
-    ensures { IfOk result (λ text. IsMore (nets.Graph fault) sources.entry.graph.now (files_view sources.entry.files.now)
-        (string_bytes text)) }
+#[tactic(auto, using(crate::proofs::Mores::more_told, crate::proofs::Mores::no_tables, crate::proofs::Mores::unread))]
+fn files_more(alloc: Global, fault: GraphFault, sources: Sources<'_>) -> Result<String, AllocError>
+    ensures { IfOk result (λ text. IsMore (nets.Graph fault) sources.entry.graph.now
+        (files_view sources.entry.files.now) (string_bytes text)) }
 {
     let Some(tables) = root(alloc, sources.graph)? else {
         return Ok(String::new(alloc));

@@ -220,7 +220,11 @@ fn meeting_at(graph: &Graph, paces: &[Pace], number: usize) -> Option<Meeting>
 }
 
 /// At the paces that other channels ask for.
-pub(crate) fn meeting_of(alloc: Global, graph: &Graph, number: usize) -> Result<Option<Meeting>, AllocError>
+pub(crate) fn meeting_of(
+    alloc: Global,
+    graph: &Graph,
+    number: usize,
+) -> Result<Option<Meeting>, AllocError>
     ensures { IfOk result (λ r. IfSome r (IsMeeting graph.now number)) }
 {
     if number >= graph.channels().len() {

@@ -2,7 +2,8 @@
 
 ghost use Rattle.std.specs.Prelude.{◌≡◌, ◌++◌, OnOk, option_map, string_bytes};
 ghost use Rattle.toml.specs.View.{view};
-ghost use Rattle.sdf_why.specs.Words.{quoted, value_text, article, name_text, kind_text, end_text, actor_line, link_words};
+ghost use Rattle.sdf_why.specs.Words.{quoted, value_text, article, name_text, kind_text, end_text, actor_line};
+ghost use Rattle.sdf_why.specs.Words.{link_words};
 ghost use Rattle.sdf_why.specs.Words.{link_line, lack_line, limits_text, key_line, is_vowel, said_line};
 ghost use Rattle.sdf_options.specs.Printable.{printable_text};
 
@@ -64,7 +65,11 @@ fn article(word: &str) -> &'static str
 }
 
 /// Adds a name.
-pub(crate) fn push_name(alloc: Global, text: &mut String, name: Option<&str>) -> Result<(), AllocError>
+pub(crate) fn push_name(
+    alloc: Global,
+    text: &mut String,
+    name: Option<&str>,
+) -> Result<(), AllocError>
     ensures { OnOk result (string_bytes text.new ≡
         string_bytes text.old ++ name_text (option_map (λ s. s.now) name.entry)) }
 {
@@ -88,8 +93,13 @@ fn push_kind(alloc: Global, text: &mut String, kind: Option<&str>) -> Result<(),
 }
 
 /// Adds an end of a link.
-pub(crate) fn push_end(alloc: Global, text: &mut String, end: Option<&str>) -> Result<(), AllocError>
-    ensures { OnOk result (string_bytes text.new ≡ string_bytes text.old ++ end_text (option_map (λ s. s.now) end.entry)) }
+pub(crate) fn push_end(
+    alloc: Global,
+    text: &mut String,
+    end: Option<&str>,
+) -> Result<(), AllocError>
+    ensures { OnOk result (string_bytes text.new ≡ string_bytes text.old
+        ++ end_text (option_map (λ s. s.now) end.entry)) }
 {
     match end {
         Some(end) => {

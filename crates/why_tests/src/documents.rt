@@ -50,7 +50,8 @@ static ROWS: [Row; 14] = [
         told: "  actor 0 is \"i\", a gain\n  gain = a float, wants -32768..32767\n",
     },
     Row {
-        graph: "format = 1\nlink = []\n[[actor]]\nname = \"h\"\nkind = \"fir\"\nfile = \"a.toml\"\nshift = 0\ntaps = [1]\n",
+        graph: "format = 1\nlink = []\n[[actor]]\nname = \"h\"\nkind = \"fir\"\nfile = \"a.toml\"\nshift = 0\n\
+            taps = [1]\n",
         fault: "51 UnknownKey actor 0 key file",
         told: "  actor 0 is \"h\", a fir\n  file = \"a.toml\", wants 1..1024 values of -32768..32767\n  \
             file stands beside taps\n  fir: up 1..64 (1), down 1..64 (1), shift 0..15, taps or file: 1..1024 values of \
@@ -73,7 +74,8 @@ static ROWS: [Row; 14] = [
         told: "  actor 0 is \"d\", a deal\n  format = 1\n",
     },
     Row {
-        graph: "format = 1\nactor = [{ name = \"a\", kind = \"fork\", ways = 2 }]\nlink = [{ from = \"a\", to = \"a:16\" }]\n",
+        graph: "format = 1\nactor = [{ name = \"a\", kind = \"fork\", ways = 2 }]\n\
+            link = [{ from = \"a\", to = \"a:16\" }]\n",
         fault: "57 BadPort link 0 key to",
         told: "  link 0 is a:0 -> a:16\n  to = \"a:16\"\n",
     },

@@ -29,7 +29,8 @@ const SECOND: &str =
     "{ name = \"in\", kind = \"input\", channel = 0 }, { name = \"out\", kind = \"output\", channel = 1 }";
 
 /// Two pairs that no link joins.
-const PAIRS: &str = "{ name = \"in\", kind = \"input\", channel = 0 }, { name = \"left\", kind = \"input\", channel = 1 },
+const PAIRS: &str =
+    "{ name = \"in\", kind = \"input\", channel = 0 }, { name = \"left\", kind = \"input\", channel = 1 },
     { name = \"out\", kind = \"output\", channel = 0 }, { name = \"right\", kind = \"output\", channel = 1 }";
 
 /// One way is halved, and both are added.
@@ -65,7 +66,8 @@ static ROWS: [Row; 9] = [
     },
     Row {
         actors: RIVALS,
-        links: "{ from = \"in\", to = \"two\" }, { from = \"two:0\", to = \"out\" }, { from = \"two:1\", to = \"again\" }",
+        links: "{ from = \"in\", to = \"two\" }, { from = \"two:0\", to = \"out\" },
+            { from = \"two:1\", to = \"again\" }",
         fault: "23 ExtTwice actor 3",
         told: "  actor 3 is \"again\", an output\n  channel = 0, wants 0..7\n  actor 2 is \"out\", an output\n",
     },
@@ -89,8 +91,9 @@ static ROWS: [Row; 9] = [
     },
     Row {
         actors: HALVED,
-        links: "{ from = \"in\", to = \"two\" }, { from = \"two:0\", to = \"sum:0\" }, { from = \"two:1\", to = \"half\" },
-            { from = \"half\", to = \"sum:1\" }, { from = \"sum\", to = \"out\" }",
+        links: "{ from = \"in\", to = \"two\" }, { from = \"two:0\", to = \"sum:0\" },
+            { from = \"two:1\", to = \"half\" }, { from = \"half\", to = \"sum:1\" },
+            { from = \"sum\", to = \"out\" }",
         fault: "8 Inconsistent link 3",
         told: "  link 3 is half:0 -> sum:1\n  actor 2 is \"half\", a decimate\n  actor 3 is \"sum\", an add\n  \
             firings by the other links: 1 of \"half\", 2 of \"sum\"\n  \
@@ -98,8 +101,9 @@ static ROWS: [Row; 9] = [
     },
     Row {
         actors: DEALT,
-        links: "{ from = \"in\", to = \"two\" }, { from = \"two:1\", to = \"half\" }, { from = \"half\", to = \"sum:1\" },
-            { from = \"two:0\", to = \"sum:0\" }, { from = \"sum\", to = \"out\" }",
+        links: "{ from = \"in\", to = \"two\" }, { from = \"two:1\", to = \"half\" },
+            { from = \"half\", to = \"sum:1\" }, { from = \"two:0\", to = \"sum:0\" },
+            { from = \"sum\", to = \"out\" }",
         fault: "8 Inconsistent link 3",
         told: "  link 3 is two:0 -> sum:0\n  actor 1 is \"two\", a deal\n  actor 3 is \"sum\", an add\n  \
             firings by the other links: 4 of \"two\", 3 of \"sum\"\n  \

@@ -17,7 +17,8 @@ link = [{ from = \"in\", to = \"add:0\" }, { from = \"add\", to = \"fork\" },
 const DESIGN: &str = "format = 1
 actor = [{ name = \"left\", kind = \"input\", channel = 0, block = 3 },
     { name = \"right\", kind = \"input\", channel = 1, block = 3 },
-    { name = \"sum\", kind = \"add\", ways = 2 }, { name = \"less\", kind = \"fir\", up = 2, down = 3, shift = 0, taps = [1] },
+    { name = \"sum\", kind = \"add\", ways = 2 },
+    { name = \"less\", kind = \"fir\", up = 2, down = 3, shift = 0, taps = [1] },
     { name = \"out\", kind = \"output\", channel = 0, processor = 2 }]
 link = [{ from = \"left\", to = \"sum:0\" }, { from = \"right\", to = \"sum:1\" }, { from = \"sum\", to = \"less\" },
     { from = \"less\", to = \"out\" }]";

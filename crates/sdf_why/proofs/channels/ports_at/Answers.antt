@@ -1,6 +1,4 @@
 use Rattle.std.proofs.Common.{subst, arith}
-use Rattle.sdf_document.specs.declared.entry.ActorEntry.{ActorEntry}
-use Rattle.sdf_file.specs.Designs.{node_of}
 use Rattle.sdf_why.specs.Channels.{ArePortsOf}
 use Rattle.sdf_why.proofs.Edges.{node_at, node_past}
 use Rattle.sdf_why.proofs.channels.ports_at.Goals as goal
@@ -8,8 +6,7 @@ use Rattle.sdf_why.proofs.channels.ports_at.Goals as goal
 pub returns-then-actor-actors : goal.returns-then-actor-actors
 returns-then-actor-actors c =
     subst (ArePortsOf c.ports_of.result) (node_at c.args.actors.now c.args.actor c.index-actors-actor.result
-    (omega arith)) (subst (λ (x : ActorEntry). ArePortsOf c.ports_of.result (node_of x.kind)) c.index-actors-actor.is
-    c.ports_of.ensures)
+    (omega arith)) c.ports_of.ensures
 
 pub returns-else-actor-actors : goal.returns-else-actor-actors
 returns-else-actor-actors c =

@@ -16,7 +16,8 @@ returns-then-actor-start c =
     let waits : Waits c.args.graph.now c.args.halts.now c.loop.actor c.in-Some.number c.in-Some.source = search rules in
     let chain = chain_more c.args.graph.now c.args.halts.now c.args.start c.loop.channels.items c.loop.actor _ _
     c.loop.invariant waits in
-    let round = subst (λ (a : ℕ). IsChain c.args.graph.now c.args.halts.now c.args.start (c.loop.channels.items ++ c.in-Some.number ∷ []) a)
+    let round = subst (λ (a : ℕ). IsChain c.args.graph.now c.args.halts.now c.args.start
+    (c.loop.channels.items ++ c.in-Some.number ∷ []) a)
     c.if-actor-start.true chain in
     subst (λ (cs : List ℕ). IsCycle c.args.graph.now c.args.halts.now cs) (sym c.in_ok-push.ensures.items)
     (chain_closed c.args.graph.now c.args.halts.now c.args.start c.loop.channels.items c.in-Some.number round)

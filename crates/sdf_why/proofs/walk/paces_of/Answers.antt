@@ -18,7 +18,12 @@ loop-number-preserved c =
     c.channels.ensures.list c.in-Some.ensures in
     walk_more c.args.graph.now c.loop-number.paces.items c.loop-number.marked c.in-Some.number c.in-Some.actor
     c.beyond-pace.result c.channels.ensures.shape c.loop-number.invariant border
-    (record { top = c.beyond-pace.ensures.top; bottom = c.beyond-pace.ensures.bottom; top_small = omega arith; bottom_small = omega arith })
+    (record {
+      top = c.beyond-pace.ensures.top;
+      bottom = c.beyond-pace.ensures.bottom;
+      top_small = omega arith;
+      bottom_small = omega arith;
+    })
     (subst (λ (ps : List Pace). IsEven c.args.graph.now (set ps c.in-Some.actor c.beyond-pace.result) c.in-Some.number)
     c.deref.ensures.value (c.beyond-pace.ensures.even c.in-Some.actor border))
 
