@@ -1,8 +1,9 @@
 //! A plan for several workers, where these can be faster than one thread.
 
-ghost use Rattle.std.specs.Prelude.{◌≡◌, ℕ, length, MatchResult, IfOk};
+ghost use Rattle.std.specs.Prelude.{◌≡◌, ◌↔◌, ℕ, length, IsTrue, MatchResult, IfOk};
 ghost use Rattle.sdf_process.specs.Paces.{crew_options, one_thread, HasSpeed, IsPaced, IsReason};
 ghost use Rattle.sdf_process.specs.Plans.{IsPlanOf, IsPlanFault, IsWorkers, Suits};
+ghost use Rattle.sdf_process.specs.declared.fault.Fault.TheVariants.{OutOfMemory};
 
 use crate::fault::Fault;
 use crate::plan::Plan;
@@ -121,6 +122,26 @@ fn by_crew(alloc: Global, design: &Design, workers: usize, plan: Plan) -> Result
     Ok(Paced { plan, pace })
 }
 
+/// Whether memory was refused.
+fn is_want_of_memory(fault: &Fault) -> bool
+    ensures { IsTrue result ↔ (fault.now ≡ OutOfMemory) }
+{
+    matches!(fault, Fault::OutOfMemory)
+}
+
+/// A plan for one thread, where there is none for the workers, unless memory was refused.
+fn unplanned(alloc: Global, design: &Design, workers: usize, fault: Fault) -> Result<Paced, Fault>
+    requires { IsPlanFault design.now (crew_options workers) fault }
+    ensures answers { MatchResult result (λ p. IsPaced design.now workers p.plan p.pace)
+        (IsPlanFault design.now one_thread) }
+    ensures suits { IfOk result (λ p. Suits design.now.net p.plan) }
+{
+    if is_want_of_memory(&fault) {
+        return Err(Fault::OutOfMemory);
+    }
+    in_one_thread(alloc, design, Pace::Unplanned)
+}
+
 /// Plans a run by so many workers over rings, at homes by which the weight of the actors is spread and in long blocks,
 /// where these can be 1.2 times as fast as one by what the actors weigh; and else a run in one thread. A fault is one
 /// of a plan for one thread.
@@ -139,7 +160,6 @@ pub fn parallel_plan(alloc: Global, design: &Design, workers: usize) -> Result<P
     }
     match plan(alloc, design, &crew_options(workers)) {
         Ok(plan) => by_crew(alloc, design, workers, plan),
-        Err(Fault::OutOfMemory) => Err(Fault::OutOfMemory),
-        Err(_) => in_one_thread(alloc, design, Pace::Unplanned),
+        Err(fault) => unplanned(alloc, design, workers, fault),
     }
 }
