@@ -63,7 +63,6 @@ fn refusal(fault: Fault) -> Result<Outcome, Fault>
 }
 
 /// What becomes of a schedule.
-#[tactic(auto, using(crate::proofs::Refusals::unscheduled))]
 fn outcome_of(alloc: Global, design: &Design, options: &Options) -> Result<Outcome, Fault>
     requires { AreSizes options.now }
     ensures { MatchResult result (IsOutcome design.now options.now) (IsScheduleFault design.now) }

@@ -3,7 +3,7 @@
 ghost use Rattle.std.specs.Prelude.{◌≡◌, ◌<◌, ◌≤◌, ◌∷◌, ◌++◌, [], IfOk, OnOk, MatchResult, length, map, take, codes};
 ghost use Rattle.std.specs.Prelude.{string_bytes};
 ghost use Rattle.serde_json.specs.View.{view, members_view};
-ghost use Rattle.sdf_process.specs.Schedules.{IsShowFault};
+ghost use Rattle.sdf_analyze.specs.Analyses.{IsFigureFault};
 ghost use Rattle.sdf_json.specs.Values.{natural, with};
 ghost use Rattle.sdf_json.specs.Analyses.{times_of, analysis_value, IsAnalysisJson};
 
@@ -65,10 +65,10 @@ fn analysis_value(
 
 /// What a schedule does with its time and its links, as a line of JSON: the options, the makespan, the work, the span,
 /// the bound, the speedup in hundredths, the load of each worker, the samples that all links hold at most, and the
-/// links. The tests are those of `sdf_process::schedule::scheduled`.
+/// links. The tests are those of `sdf_analyze::figured`.
 pub fn analysis_json(alloc: Global, design: &Design, options: &Options) -> Result<String, Fault>
     ensures { MatchResult result (λ text. IsAnalysisJson design.now options.now (string_bytes text))
-        (IsShowFault design.now options.now) }
+        (IsFigureFault design.now options.now) }
 {
     let (blocking, table, figures) = figured(alloc, design, options)?;
     let placed = Options {
