@@ -112,7 +112,7 @@ fn add_row(table: &Table, row: usize, all: &mut Vec<Standing>) -> Result<(), All
 }
 
 /// The firings of a table, in row order.
-fn standing(alloc: Global, table: &Table) -> Result<Vec<Standing>, AllocError> {
+fn firings_in(alloc: Global, table: &Table) -> Result<Vec<Standing>, AllocError> {
     let mut all = Vec::new(alloc);
     for row in 0..table.rows() {
         add_row(table, row, &mut all)?;
@@ -161,13 +161,13 @@ fn add_starts(all: &[Standing], numbers: &mut Vec<u64>) -> Result<(), AllocError
 /// By the model: the starts, the makespan, the loads of two columns, the span, the work and the bound.
 fn by_model(alloc: Global, graph: &Graph, table: &Table, costs: &[u32]) -> Result<String, Fail> {
     let mut numbers = Vec::new(alloc);
-    let mut all = standing(alloc, table)?;
+    let mut all = firings_in(alloc, table)?;
     settle(graph, costs, &mut all, true);
     add_starts(all.as_slice(), &mut numbers)?;
     numbers.push(last(costs, all.as_slice()))?;
     numbers.push(load(costs, all.as_slice(), Some(0)))?;
     numbers.push(load(costs, all.as_slice(), Some(1)))?;
-    let mut free = standing(alloc, table)?;
+    let mut free = firings_in(alloc, table)?;
     settle(graph, costs, &mut free, false);
     let span = last(costs, free.as_slice());
     let work = load(costs, free.as_slice(), None);
