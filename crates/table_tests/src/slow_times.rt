@@ -1,0 +1,274 @@
+//! Times by a slow model that is written from the definitions, beside those of `sdf_times`: of a fork of two ways with
+//! three rows of costs, and of a source of 2 to a sink of 3.
+
+ghost use Rattle.std.specs.Prelude.{◌<◌, length};
+ghost use Rattle.sdf_graph.specs.Rates.{rates};
+ghost use Rattle.sdf_prec.specs.declared.firing.Firing.{Firing};
+ghost use Rattle.sdf_prec.specs.Costs.{AreCosts};
+ghost use Rattle.sdf_times.specs.Times.{IsBlockTable, IsInTable, HasStart};
+
+use crate::graphs::{costs_of, longer_fork, pair, period_of};
+use sdf_graph::{Channel, Graph};
+use sdf_prec::hu::hu;
+use sdf_prec::{Costs, Firing, Table};
+use sdf_times::{Times, bound, span, work};
+use std::alloc::{AllocError, Global};
+use std::test::Fail;
+use test_texts::says;
+
+/// A firing, where it stands, and when it starts.
+#[derive(Clone, Copy)]
+struct Standing {
+    firing: Firing,
+    row: usize,
+    column: usize,
+    start: u64,
+}
+
+/// What so many firings move, whose cycle has these rates.
+fn moved(rates: &[u32], firings: u64) -> u64 {
+    let mut total = 0u64;
+    for number in 0..firings {
+        let phase = (number as usize).checked_rem(rates.len()).unwrap_or(0);
+        total = total.saturating_add(u64::from(rates.get(phase).copied().unwrap_or(0)));
+    }
+    total
+}
+
+/// Whether a channel has too little for a firing of its target before that firing of its source.
+fn lacks(channel: &Channel, firing: Firing, other: Firing) -> bool {
+    let held = (channel.initial as u64).saturating_add(moved(
+        channel.put.as_slice(),
+        u64::from(other.number),
+    ));
+    let taken = moved(channel.take.as_slice(), u64::from(firing.number) + 1);
+    channel.to == firing.actor && channel.from == other.actor && held < taken
+}
+
+/// Whether a firing waits for another one.
+fn waits_for(graph: &Graph, firing: Firing, other: Firing) -> bool {
+    let same = firing.actor == other.actor;
+    let next = u64::from(other.number) + 1 == u64::from(firing.number);
+    let mut waits = same && next;
+    for channel in graph.channels() {
+        waits = waits || lacks(channel, firing, other);
+    }
+    waits
+}
+
+/// What a firing of an actor costs.
+fn cost(costs: &[u32], actor: usize) -> u64 {
+    u64::from(costs.get(actor).copied().unwrap_or(0))
+}
+
+/// When a firing ends.
+fn end(costs: &[u32], at: Standing) -> u64 {
+    at.start.saturating_add(cost(costs, at.firing.actor))
+}
+
+/// The greatest end of those that a firing waits for, and, where columns count, of those before it in its column.
+fn ready(graph: &Graph, costs: &[u32], all: &[Standing], at: Standing, columns: bool) -> u64 {
+    let mut most = 0u64;
+    for other in all {
+        let above = columns && other.column == at.column && other.row < at.row;
+        if above || waits_for(graph, at.firing, other.firing) {
+            most = most.max(end(costs, *other));
+        }
+    }
+    most
+}
+
+/// Starts each firing anew by the ends that are known so far.
+fn once_more(graph: &Graph, costs: &[u32], all: &mut Vec<Standing>, columns: bool) {
+    for i in 0..all.len() {
+        let at = all[i];
+        let start = ready(graph, costs, all.as_slice(), at, columns);
+        all[i] = Standing { start, ..at };
+    }
+}
+
+/// As often as there are firings, after which nothing changes.
+fn settle(graph: &Graph, costs: &[u32], all: &mut Vec<Standing>, columns: bool) {
+    for _ in 0..all.len() {
+        once_more(graph, costs, all, columns);
+    }
+}
+
+/// Adds the firings of a row.
+fn add_row(table: &Table, row: usize, all: &mut Vec<Standing>) -> Result<(), AllocError>
+    requires { row < length table.now.rows }
+{
+    for (column, cell) in table.row(row).iter().enumerate() {
+        if let Some(firing) = cell {
+            all.push(Standing {
+                firing: *firing,
+                row,
+                column,
+                start: 0,
+            })?;
+        }
+    }
+    Ok(())
+}
+
+/// The firings of a table, in row order.
+fn firings_in(alloc: Global, table: &Table) -> Result<Vec<Standing>, AllocError> {
+    let mut all = Vec::new(alloc);
+    for row in 0..table.rows() {
+        add_row(table, row, &mut all)?;
+    }
+    Ok(all)
+}
+
+/// When the last of them ends.
+fn last(costs: &[u32], all: &[Standing]) -> u64 {
+    let mut most = 0u64;
+    for at in all {
+        most = most.max(end(costs, *at));
+    }
+    most
+}
+
+/// What those of a column cost together, or all of them.
+fn load(costs: &[u32], all: &[Standing], column: Option<usize>) -> u64 {
+    let mut load = 0u64;
+    for at in all {
+        if column.unwrap_or(at.column) == at.column {
+            load = load.saturating_add(cost(costs, at.firing.actor));
+        }
+    }
+    load
+}
+
+/// The least time in which the chain ends and the workers can do the work.
+fn least(span: u64, work: u64, workers: u64) -> u64 {
+    for time in 0..work {
+        if span <= time && work <= time.saturating_mul(workers) {
+            return time;
+        }
+    }
+    work
+}
+
+/// Adds the starts, in row order.
+fn add_starts(all: &[Standing], numbers: &mut Vec<u64>) -> Result<(), AllocError> {
+    for at in all {
+        numbers.push(at.start)?;
+    }
+    Ok(())
+}
+
+/// By the model: the starts, the makespan, the loads of two columns, the span, the work and the bound.
+fn by_model(alloc: Global, graph: &Graph, table: &Table, costs: &[u32]) -> Result<String, Fail> {
+    let mut numbers = Vec::new(alloc);
+    let mut all = firings_in(alloc, table)?;
+    settle(graph, costs, &mut all, true);
+    add_starts(all.as_slice(), &mut numbers)?;
+    numbers.push(last(costs, all.as_slice()))?;
+    numbers.push(load(costs, all.as_slice(), Some(0)))?;
+    numbers.push(load(costs, all.as_slice(), Some(1)))?;
+    let mut free = firings_in(alloc, table)?;
+    settle(graph, costs, &mut free, false);
+    let span = last(costs, free.as_slice());
+    let work = load(costs, free.as_slice(), None);
+    numbers.push(span)?;
+    numbers.push(work)?;
+    numbers.push(least(span, work, 2))?;
+    Ok(format!(in alloc; "{numbers:?}")?)
+}
+
+/// Adds the starts of a row's firings.
+fn add_starts_of(
+    times: &Times,
+    table: &Table,
+    row: usize,
+    numbers: &mut Vec<u64>,
+) -> Result<(), AllocError>
+    requires within { row < length table.now.rows }
+    requires has { (f : Firing) → IsInTable table.now.rows f → HasStart times.now.starts f }
+{
+    for cell in table.row(row) {
+        if let Some(firing) = cell {
+            numbers.push(times.start(*firing))?;
+        }
+    }
+    Ok(())
+}
+
+/// By `Times`: the starts, the makespan and the loads of two columns.
+fn by_times(
+    alloc: Global,
+    graph: &Graph,
+    table: &Table,
+    costs: &Costs,
+) -> Result<Vec<u64>, Fail>
+    requires costs { AreCosts graph.now.actors costs.now }
+    requires table { IsBlockTable (rates graph.now) 2 table.now }
+{
+    let times = Times::of(alloc, graph, table, 2, costs)?;
+    let mut numbers = Vec::new(alloc);
+    for row in 0..table.rows() {
+        add_starts_of(&times, table, row, &mut numbers)?;
+    }
+    numbers.push(times.makespan())?;
+    numbers.push(times.load(0))?;
+    numbers.push(times.load(1))?;
+    Ok(numbers)
+}
+
+/// Both, of Hu's table in two columns for a block of one period.
+fn both(alloc: Global, graph: &Graph, costs: &[u32]) -> Result<(String, String), Fail> {
+    graph.channels();
+    let period = period_of(alloc, graph)?;
+    let priced = costs_of(alloc, graph, costs)?;
+    let table = hu(alloc, graph, &period, 1, 2, false, &priced)?;
+    let model = by_model(alloc, graph, &table, costs)?;
+    let mut numbers = by_times(alloc, graph, &table, &priced)?;
+    let span = span(alloc, graph, &period, 1, &priced)?;
+    let work = work(period.repetitions(), 1, &priced);
+    numbers.push(span)?;
+    numbers.push(work)?;
+    numbers.push(bound(span, work, 2))?;
+    Ok((model, format!(in alloc; "{numbers:?}")?))
+}
+
+/// Nothing where both are the same, or else both.
+fn difference(alloc: Global, graph: &Graph, costs: &[u32]) -> Result<String, Fail> {
+    let (model, times) = both(alloc, graph, costs)?;
+    if model.as_str() == times.as_str() {
+        Ok(String::new(alloc))
+    } else {
+        let (model, times) = (model.as_str(), times.as_str());
+        Ok(format!(in alloc; "{model} {times}")?)
+    }
+}
+
+/// Those of the fork with one actor more on the second way.
+fn of_a_fork(alloc: Global, costs: &[u32]) -> Result<String, Fail> {
+    difference(alloc, &longer_fork(alloc)?, costs)
+}
+
+/// A source of 2 to a sink of 3.
+fn of_blocks(alloc: Global, costs: &[u32]) -> Result<String, Fail> {
+    difference(alloc, &pair(alloc, &[2], &[3], 0)?, costs)
+}
+
+#[test]
+fn even_fork(rt: HostRuntime) -> Result<(), Fail> {
+    says(of_a_fork(rt.alloc(), &[1, 1, 1, 1, 1, 1, 1]), "")
+}
+
+#[test]
+fn dear_way(rt: HostRuntime) -> Result<(), Fail> {
+    says(of_a_fork(rt.alloc(), &[1, 1, 3, 1, 1, 1, 1]), "")
+}
+
+#[test]
+fn dear_fork(rt: HostRuntime) -> Result<(), Fail> {
+    says(of_a_fork(rt.alloc(), &[1, 4, 3, 1, 1, 1, 1]), "")
+}
+
+#[test]
+fn dear_blocks(rt: HostRuntime) -> Result<(), Fail> {
+    says(of_blocks(rt.alloc(), &[1, 10]), "")
+}
