@@ -9,3 +9,8 @@ pub mod Spans
 pub mod Exists
 pub mod Caps
 pub mod Rules
+pub mod Decided
+pub mod Filling
+pub mod Homing
+pub mod Earlier
+pub mod OnTime

@@ -20,7 +20,7 @@ row_at [] i = refl
 row_at (x ∷ rows) zero = refl
 row_at (x ∷ rows) (suc i) = row_at rows i
 
-cell_at : (rows : List Timed) (i j : ℕ) → cell (cells_of rows) i j ≡ cell_of (timed rows i).cells j
+pub cell_at : (rows : List Timed) (i j : ℕ) → cell (cells_of rows) i j ≡ cell_of (timed rows i).cells j
 cell_at rows i j = ap (λ cells. cell_of cells j) (row_at rows i)
 
 got : (fs : List Firing) (p : ℕ) (f : Firing) → slice_get fs p ≡ Some f → (p < length fs) × (firing fs p ≡ f)
@@ -28,11 +28,11 @@ got [] p f e = absurd (none-some f e)
 got (g ∷ fs) zero f e = (omega arith, same_Some g f e)
 got (g ∷ fs) (suc p) f e = let at = got fs p f e in (omega (arith, at.0), at.1)
 
-timed_take : (rows : List Timed) (i k : ℕ) → k < i → timed (take i rows) k ≡ timed rows k
+pub timed_take : (rows : List Timed) (i k : ℕ) → k < i → timed (take i rows) k ≡ timed rows k
 timed_take rows i k l = get_or-take i rows k no_row l
 
 -- what stands in the first i rows
-at_take : (rows : List Timed) (i k j : ℕ) (g : Firing) → IsAt (take i rows) k j g → (k < i) × IsAt rows k j g
+pub at_take : (rows : List Timed) (i k j : ℕ) (g : Firing) → IsAt (take i rows) k j g → (k < i) × IsAt rows k j g
 at_take rows i k j g e = go (cases_lt k i)
   where
     go : (k < i) ⊎ (i ≤ k) → (k < i) × IsAt rows k j g
@@ -64,7 +64,7 @@ module _ (r : Rates) (n cost : ℕ → ℕ) (level : Firing → ℕ) (width : �
   module _ (homed : Bool) (rows : List Timed) (start : Firing → ℕ)
       (are : AreTimedRows r n width (hu_rule r n cost level width homed) rows) (cells : AreCells r n (cells_of rows))
       (starts : AreStarts r cost (cells_of rows) start) where
-    within : (i j : ℕ) (f : Firing) → IsAt rows i j f → i < length rows
+    pub within : (i j : ℕ) (f : Firing) → IsAt rows i j f → i < length rows
     within i j f e = go (cases_lt i (length rows))
       where
         go : (i < length rows) ⊎ (length rows ≤ i) → i < length rows

@@ -42,3 +42,12 @@ RowsAreNoSooner =
     (start : Firing → ℕ) → AreTimedRows r n width (hu_rule r n cost level width homed) rows →
     IsValid r n (cells_of rows) → AreStarts r cost (cells_of rows) start → (i j : ℕ) (f : Firing) → IsAt rows i j f →
     start f ≤ (timed rows i).start
+
+-- in rows by Hu's rule with costs of at least 1 each firing starts where its row does
+abbrev pub RowsAreOnTime : Type 0
+RowsAreOnTime =
+    (r : Rates) (n cost : ℕ → ℕ) (level : Firing → ℕ) (width : ℕ) (homed : Bool) (rows : List Timed)
+    (start : Firing → ℕ) → ((a : ℕ) → a < r.actors → 1 ≤ cost a) →
+    AreTimedRows r n width (hu_rule r n cost level width homed) rows → IsValid r n (cells_of rows) →
+    AreStarts r cost (cells_of rows) start → (i j : ℕ) (f : Firing) → IsAt rows i j f →
+    start f ≡ (timed rows i).start

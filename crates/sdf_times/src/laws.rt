@@ -1,6 +1,7 @@
 //! Laws over the definitions, each the contract of a function that does nothing but call laws.
 
 ghost use Rattle.sdf_times.specs.Laws.{StartsExist, StartsAreLeast, StartsAreOne, BoundsHold, RowsAreNoSooner};
+ghost use Rattle.sdf_times.specs.Laws.{RowsAreOnTime};
 
 use sdf_graph::laws::cycles_begin_anew;
 use sdf_prec::laws::orders_are_passes;
@@ -23,4 +24,9 @@ pub fn bounds_hold()
 /// In a table by Hu's rule no firing starts later than the rule starts its row.
 pub fn rows_are_no_sooner()
     ensures { RowsAreNoSooner }
+{}
+
+/// In a table by Hu's rule with costs of at least 1 each firing starts exactly when the rule starts its row.
+pub fn rows_are_on_time()
+    ensures { RowsAreOnTime }
 {}
