@@ -23,7 +23,7 @@ use Rattle.sdf_answer.specs.Periods.{HasPeriod}
 use Rattle.sdf_answer.specs.Rows.{IsTableOf}
 use Rattle.sdf_rings.specs.Asks.{IsPlanned}
 use Rattle.sdf_rings.specs.MachineLaws.{roomy}
-use Rattle.sdf_rings.specs.Outcome.{HasRun, HasEnded}
+use Rattle.sdf_rings.specs.Outcome.{HasRunInRounds, HasEnded}
 use Rattle.sdf_rings.specs.Prepared.{IsPrepared}
 use Rattle.sdf_rings.specs.Rests.{InHand, AreRings, HaveMet}
 use Rattle.sdf_rings.specs.Totals.{total_left}
@@ -122,7 +122,7 @@ module _ {A S T : Type 0} (s : Steps A S T) (n : Netlist A T) (q : List ℕ) (j 
       (given (repeated b t.order) (roomy rooms (λ c. get_or t.caps c 0)) k ended.planned ended.counts))
 
   run_with : (outputs : List (List T)) → AreOutputs s n inputs (periods_of q (b * j)) outputs →
-      HasRun s n q j t b inputs patience outputs rounds
+      HasRunInRounds s n q j t b inputs patience outputs rounds
   run_with outputs made = record {
     homed = ended.homed;
     patient = ended.patient;
@@ -135,13 +135,13 @@ module _ {A S T : Type 0} (s : Steps A S T) (n : Netlist A T) (q : List ℕ) (j 
   pub has_run : (outputs : List (List T)) → ((order : List ℕ) (cap k : ℕ → ℕ) →
       IsPlanned s r.net r.seats r.places order cap → AreCountsOf r.net order k →
       AreOutputs s r.net r.inputs k outputs) →
-      HasRun s n q j t b inputs patience outputs rounds
+      HasRunInRounds s n q j t b inputs patience outputs rounds
   has_run outputs given = run_with outputs (at_counts (λ m is k. AreOutputs s m is k outputs) given)
 
   pub has_fed : (outputs : List (List T)) (rest : Rest T S) →
       ((order : List ℕ) (cap k : ℕ → ℕ) → IsPlanned s r.net r.seats r.places order cap → AreCountsOf r.net order k →
       feeds.HasRun s r.net r.inputs k outputs rest) →
-      HasRun s n q j t b inputs patience outputs rounds × feeds.HasRun s n inputs (periods_of q (b * j)) outputs rest
+      HasRunInRounds s n q j t b inputs patience outputs rounds × feeds.HasRun s n inputs (periods_of q (b * j)) outputs rest
   has_fed outputs rest given =
       let run = at_counts (λ m is k. feeds.HasRun s m is k outputs rest) given in
       (run_with outputs (record { history = run.history; is = run.is; count = run.count; each = run.each }), run)

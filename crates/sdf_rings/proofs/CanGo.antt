@@ -1,6 +1,6 @@
 -- Where all ends have met and firings are left, the first firing of some seat is known to be possible.
 use Rattle.std.proofs.Common.{◌≡◌, ℕ, ◌+◌, ◌-◌, ◌≤◌, ◌<◌, ◌⊎◌, List, length, get_or, take, map, cond, eqb, refl, sym}
-use Rattle.std.proofs.Common.{ap, ◌∙◌, subst, arith, vec_len, inl, inr}
+use Rattle.std.proofs.Common.{ap, ◌∙◌, subst, arith, inl, inr}
 use Rattle.std.specs.Global.{Global}
 use Rattle.std.proofs.lemmas.Bool.{cases_eq, ne_eqb, cond-false}
 use Rattle.std.proofs.lemmas.List.{get_or_default, get_or-map, get_or-take, take-map, take_all, length-take-le}
@@ -27,7 +27,7 @@ use Rattle.sdf_rings.specs.Rests.{stand_of, producer_of, consumer_of, AreRings, 
 use Rattle.sdf_rings.specs.Asks.{IsPlanned, SomeFirst}
 use Rattle.sdf_rings.specs.Totals.{total_left}
 use Rattle.sdf_rings.proofs.Dealt.{part, done, IsFirst, first_left, part_times, part_all, times_map}
-use Rattle.sdf_rings.proofs.Totals.{len_is, which_left}
+use Rattle.sdf_rings.proofs.Totals.{which_left}
 use Rattle.sdf_rings.proofs.Times.{times_to}
 use Rattle.sdf_rings.proofs.Looking.{vec_in}
 use Rattle.sdf_rings.proofs.Tells.{some}
@@ -61,12 +61,12 @@ module _ {A S T : Type 0} (s : Steps A S T) (wired : NetsAreWired s) (ports : Po
 
     -- so many of the firings of b stand in the first m of its seat's list
     counted : (b : ℕ) → Stand A T S → b < length n.nodes → (m : ℕ) → m ≤ length (part home order (home b)) →
-        times_between (stand b) (get_or seats (home b) e0).left.items 0 m ≡ times (take m (part home order (home b))) b
+        times_between (stand b) (get_or seats (home b) e0).left 0 m ≡ times (take m (part home order (home b))) b
     counted b d l m fits =
         let P = part home order (home b) in
-        let is : (get_or seats (home b) e0).left.items ≡ map stand P =
+        let is : (get_or seats (home b) e0).left ≡ map stand P =
         plan.asks.lists (home b) e0 (r.placed.seat_in b l) in
-        ap (λ xs. times xs (stand b)) (between_from_start (get_or seats (home b) e0).left.items m ∙ ap (take m) is
+        ap (λ xs. times xs (stand b)) (between_from_start (get_or seats (home b) e0).left m ∙ ap (take m) is
         ∙ take-map stand m P) ∙
         times_map stand b (take m P) (λ j h e.
         let len = length-take-le m P fits in
@@ -83,15 +83,15 @@ module _ {A S T : Type 0} (s : Steps A S T) (wired : NetsAreWired s) (ports : Po
           let P = part home order (home b) in
           let x = get_or seats (home b) e0 in
           let ok = r.each (home b) e0 (r.placed.seat_in b l) in
-          let is : x.left.items ≡ map stand P = plan.asks.lists (home b) e0 (r.placed.seat_in b l) in
-          let len : length x.left.items ≡ length P = ap (λ (xs : List ℕ). length xs) is ∙ length-map P stand in
+          let is : x.left ≡ map stand P = plan.asks.lists (home b) e0 (r.placed.seat_in b l) in
+          let len : length x.left ≡ length P = ap (λ (xs : List ℕ). length xs) is ∙ length-map P stand in
           let fits = ok.next_fits in
           let c = ok.counts (stand b) d0 (r.placed.stand_in b e0 l) in
-          let all = times_to (stand b) x.left.items 0 x.next (vec_len x.left) (omega arith) (omega arith)
+          let all = times_to (stand b) x.left 0 x.next (length x.left) (omega arith) (omega arith)
           (omega arith) in
           let some_done = counted b d0 l x.next (omega arith) in
-          let every = counted b d0 l (vec_len x.left) (omega arith) in
-          let whole = ap (λ xs. times xs b) (take_all (vec_len x.left) P (omega arith))
+          let every = counted b d0 l (length x.left) (omega arith) in
+          let whole = ap (λ xs. times xs b) (take_all (length x.left) P (omega arith))
           ∙ part_times home order (home b) b refl in
           let asked = plan.asks.asked b e0 d0 l in
           omega arith
@@ -235,7 +235,7 @@ module _ {A S T : Type 0} (s : Steps A S T) (wired : NetsAreWired s) (ports : Po
             }
 
     -- the next in its seat's list is its stand
-    named : (f : IsFirst home order next) → get_or (get_or seats (home (get_or order f.at 0)) e0).left.items
+    named : (f : IsFirst home order next) → get_or (get_or seats (home (get_or order f.at 0)) e0).left
         (next (home (get_or order f.at 0))) 0 ≡ stand (get_or order f.at 0)
     named f =
         let a : ℕ = get_or order f.at 0 in
@@ -252,14 +252,13 @@ module _ {A S T : Type 0} (s : Steps A S T) (wired : NetsAreWired s) (ports : Po
         let P = part home order (home a) in
         let same : (e : Seat A T S) → get_or seats (home a) e0 ≡ get_or seats (home a) e =
         λ e. get_or_default seats (home a) e0 e inside in
-        let len : length (get_or seats (home a) e0).left.items ≡ length P =
+        let len : length (get_or seats (home a) e0).left ≡ length P =
         ap (λ (xs : List ℕ). length xs) (plan.asks.lists (home a) e0 inside) ∙ length-map P stand in
-        let more : (get_or seats (home a) e0).next < vec_len (get_or seats (home a) e0).left = let h = f.left in let v =
-        len_is (get_or seats (home a) e0).left in omega arith in
+        let more : (get_or seats (home a) e0).next < length (get_or seats (home a) e0).left = let h = f.left in omega arith in
         record {
           which = home a;
           which_in = inside;
-          which_left = λ e. subst (λ (z : Seat A T S). z.next < vec_len z.left) (same e) more;
+          which_left = λ e. subst (λ (z : Seat A T S). z.next < length z.left) (same e) more;
           which_can = λ e. subst (HasFirst s n) (same e)
               (λ d. subst (λ (j : ℕ). CanFire s n (get_or (get_or seats (home a) e0).stands.items j d)) (sym (named f))
               (can_fire d f));
@@ -270,8 +269,7 @@ module _ {A S T : Type 0} (s : Steps A S T) (wired : NetsAreWired s) (ports : Po
       let w = which_left seats more in
       let e0 = some seats w.0 w.1 in
       let P = part home order w.0 in
-      let len : length (get_or seats w.0 e0).left.items ≡ length P =
+      let len : length (get_or seats w.0 e0).left ≡ length P =
       ap (λ (xs : List ℕ). length xs) (plan.asks.lists w.0 e0 w.1) ∙ length-map P stand in
       let h = w.2 e0 in
-      let v = len_is (get_or seats w.0 e0).left in
       some_at e0 (first_left home order (λ i. (get_or seats i e0).next) w.0 (omega arith))

@@ -1,5 +1,5 @@
 -- Places on seats, and the firings of a sequence that are dealt to a seat.
-use Rattle.std.proofs.Common.{◌≡◌, ℕ, ◌+◌, ◌≤◌, ◌<◌, ◌⊎◌, inl, inr, List, [], ◌∷◌, ◌++◌, Bool, true, false, length, map}
+use Rattle.std.proofs.Common.{◌≡◌, ℕ, zero, suc, ◌+◌, ◌≤◌, ◌<◌, ◌⊎◌, inl, inr, List, [], ◌∷◌, ◌++◌, Bool, true, false, length, map}
 use Rattle.std.proofs.Common.{cond, get_or, take, eqb, refl, sym, ap, ◌∙◌, add-one, arith}
 use Rattle.std.proofs.lemmas.Bool.{cases_lt}
 use Rattle.std.proofs.lemmas.List.{map-append, get_or_append_left, get_or_push, take-append-le, take_all, length_push}
@@ -33,6 +33,13 @@ module _ (places : List (ℕ × ℕ)) (seat : ℕ) where
       ap (λ m. map stand (dealt places (repeated m order) seat)) (add-one b) ∙
       (ap (map stand) (filter-append (λ a. eqb (place places a).0 seat) (repeated b order) order) ∙
       map-append stand (dealt places (repeated b order) seat) (dealt places order seat))
+
+  pub dealt_all : (order : List ℕ) (b : ℕ) →
+      repeated b (map stand (dealt places order seat)) ≡ map stand (dealt places (repeated b order) seat)
+  dealt_all order zero = refl
+  dealt_all order (suc b) =
+      ap (λ xs. xs ++ map stand (dealt places order seat)) (dealt_all order b)
+      ∙ (sym (dealt_again order b) ∙ ap (λ m. map stand (dealt places (repeated m order) seat)) (add-one b))
 
 -- the next place on a seat is how many stand there
 pub next_more : (xs : List (ℕ × ℕ)) (p : ℕ × ℕ) → AreNext xs → p.1 ≡ standing xs p.0 → AreNext (xs ++ p ∷ [])

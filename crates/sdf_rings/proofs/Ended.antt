@@ -1,6 +1,6 @@
 -- Where nothing is left of a plan, each node has done its firings of the sequence, and the lists of the sinks are the
 -- outputs.
-use Rattle.std.proofs.Common.{◌≡◌, ℕ, ◌<◌, List, [], length, get_or, sym, ap, ◌∙◌, subst, arith, Vec, vec_len, inl, inr}
+use Rattle.std.proofs.Common.{◌≡◌, ℕ, ◌<◌, List, [], length, get_or, sym, ap, ◌∙◌, subst, arith, Vec, inl, inr}
 use Rattle.std.specs.Global.{Global}
 use Rattle.std.proofs.lemmas.Bool.{cases_lt}
 use Rattle.std.proofs.lemmas.List.{length-map}
@@ -23,7 +23,7 @@ use Rattle.sdf_node.specs.Nodes.{IsAt}
 use Rattle.sdf_rings.specs.declared.stand.Stand.{Stand}
 use Rattle.sdf_rings.specs.declared.seat.Seat.{Seat}
 use Rattle.sdf_rings.specs.Seats.{times_between}
-use Rattle.sdf_rings.specs.Rests.{stand_of, AreRings, IsRest, AreAtRest, HoldRest}
+use Rattle.sdf_rings.specs.Rests.{stand_of, AreRings, StandAtRest, AreAtRest, HoldRest}
 use Rattle.sdf_rings.specs.Asks.{IsPlanned}
 use Rattle.sdf_rings.specs.Totals.{total_left}
 use Rattle.sdf_rings.proofs.Collects.{AreGiven}
@@ -43,20 +43,20 @@ module _ {A S T : Type 0} (s : Steps A S T) (n : Netlist A T) (inputs : List (Li
       let inside = r.placed.seat_in a l in
       let x = get_or seats i e in
       let ok = r.each i e inside in
-      let over : vec_len x.left ≡ x.next = elim (cases_lt x.next (vec_len x.left)) as (λ _. vec_len x.left ≡ x.next) [
+      let over : length x.left ≡ x.next = elim (cases_lt x.next (length x.left)) as (λ _. length x.left ≡ x.next) [
         | inl h ↦ let t = total_some seats i e inside h in absurd (omega arith)
         | inr h ↦ let f = ok.next_fits in omega arith
       ] in
       let c = ok.counts k d (r.placed.stand_in a e l) in
-      let z : times_between k x.left.items x.next (vec_len x.left) ≡ 0 =
-      ap (times_between k x.left.items x.next) over ∙ times_none k x.left.items x.next in
+      let z : times_between k x.left x.next (length x.left) ≡ 0 =
+      ap (times_between k x.left x.next) over ∙ times_none k x.left x.next in
       let asked = plan.asks.asked a e d l in
       omega arith
 
   module _ (at_rest : AreAtRest s n inputs seats places) (q : List ℕ) (accepted : IsAccepted s n q) (k : ℕ → ℕ)
       (counts : AreCountsOf n order k) where
     -- all that was asked is done
-    at_end : IsRest s n inputs seats places k
+    at_end : StandAtRest s n inputs seats places k
     at_end = rest_at s n inputs seats places r at_rest q accepted k (λ a e d l. ended a e d l ∙ sym (counts a l))
 
     module _ (hold : SinksHoldLists s) (take_all : SinksTakeAll s) (outputs : List (Vec T Global))

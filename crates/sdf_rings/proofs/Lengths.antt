@@ -1,6 +1,6 @@
 -- How many firings are left of a sequence that was dealt out.
 use Rattle.std.proofs.Common.{◌≡◌, ℕ, zero, suc, ◌+◌, ◌-◌, ◌≤◌, ◌<◌, List, [], ◌∷◌, length, get_or, cond, eqb, refl, ap}
-use Rattle.std.proofs.Common.{◌∙◌, arith, vec_len, inl, inr}
+use Rattle.std.proofs.Common.{◌∙◌, arith, inl, inr}
 use Rattle.std.proofs.Math.Dec.{eqb-suc-zero, eqb-zero-suc, eqb-suc-suc}
 use Rattle.std.proofs.lemmas.Bool.{cases_lt}
 use Rattle.std.proofs.lemmas.Bool.Decides.{eqb_tells}
@@ -19,7 +19,7 @@ use Rattle.sdf_rings.proofs.Dealt.{part, part_same, part_other}
 use Rattle.sdf_rings.proofs.Looking.{vec_in}
 use Rattle.sdf_rings.proofs.Tells.{some}
 use Rattle.sdf_rings.proofs.Times.{times_none}
-use Rattle.sdf_rings.proofs.Totals.{len_is, total_some}
+use Rattle.sdf_rings.proofs.Totals.{total_some}
 
 -- the sum of the first values
 abbrev total : (ℕ → ℕ) → ℕ → ℕ
@@ -78,12 +78,12 @@ parts_within home (a ∷ w) m =
         ]
 
 left_within : {A S T : Type 0} (seats : List (Seat A T S)) (f : ℕ → ℕ) →
-    ((i : ℕ) (e : Seat A T S) → i < length seats → vec_len (get_or seats i e).left - (get_or seats i e).next ≤ f i) →
+    ((i : ℕ) (e : Seat A T S) → i < length seats → length (get_or seats i e).left - (get_or seats i e).next ≤ f i) →
     total_left seats ≤ total f (length seats)
 left_within [] f h = omega arith
 left_within (x ∷ xs) f h =
     let rest = left_within xs (λ i. f (suc i)) (λ i e l. h (suc i) e (omega arith)) in
-    let first = sum_by-cons (λ z. vec_len z.left - z.next) x xs in
+    let first = sum_by-cons (λ z. length z.left - z.next) x xs in
     omega (arith, rest, first, h 0 x (omega arith))
 
 module _ {A S T : Type 0} (s : Steps A S T) (n : Netlist A T) (inputs : List (List T)) (seats : List (Seat A T S))
@@ -96,7 +96,7 @@ module _ {A S T : Type 0} (s : Steps A S T) (n : Netlist A T) (inputs : List (Li
       let all = left_within seats (λ i. length (part home order i)) (λ i e l.
       let is = ap (λ (xs : List ℕ). length xs) (plan.asks.lists i e l)
       ∙ length-map (dealt places order i) (λ a. (get_or places a (0, 0)).1) in
-      omega (arith, is, len_is (get_or seats i e).left)) in
+      omega (arith, is)) in
       omega (arith, all, parts_within home order (length seats))
 
   -- where nothing is done, what is asked is left
@@ -110,13 +110,13 @@ module _ {A S T : Type 0} (s : Steps A S T) (n : Netlist A T) (inputs : List (Li
       let x = get_or seats i e in
       let d = some x.stands.items k (vec_in x.stands k (r.placed.stand_in a e l)) in
       let ok = r.each i e inside in
-      elim (cases_lt x.next (vec_len x.left)) as (λ _. 0 < total_left seats) [
+      elim (cases_lt x.next (length x.left)) as (λ _. 0 < total_left seats) [
         | inl h ↦ total_some seats i e inside h
         | inr h ↦
-            let over : vec_len x.left ≡ x.next = let f = ok.next_fits in omega arith in
+            let over : length x.left ≡ x.next = let f = ok.next_fits in omega arith in
             let c = ok.counts k d (r.placed.stand_in a e l) in
-            let z : times_between k x.left.items x.next (vec_len x.left) ≡ 0 =
-            ap (times_between k x.left.items x.next) over ∙ times_none k x.left.items x.next in
+            let z : times_between k x.left x.next (length x.left) ≡ 0 =
+            ap (times_between k x.left x.next) over ∙ times_none k x.left x.next in
             let is = plan.asks.asked a e d l in
             absurd (omega (arith, c, z, is, undone e d, asked))
       ]

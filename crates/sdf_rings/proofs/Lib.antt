@@ -1,4 +1,5 @@
 pub mod Counts
+pub mod Courses
 pub mod Kept
 pub mod Plans
 pub mod Runs

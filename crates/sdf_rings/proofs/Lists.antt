@@ -26,3 +26,7 @@ pub if_ok : {X E : Type 0} (r : Result X E) (P Q R W : X → Type 0) → IfOk r 
     ((x : X) → P x → Q x → R x → W x) → IfOk r W
 if_ok (Ok x) P Q R W p q r f = f x p q r
 if_ok (Err e) P Q R W p q r f = tt
+
+pub ok_then : {X E : Type 0} (r : Result X E) (P Q : X → Type 0) → IfOk r P → ((x : X) → P x → Q x) → IfOk r Q
+ok_then (Ok x) P Q p f = f x p
+ok_then (Err e) P Q p f = tt

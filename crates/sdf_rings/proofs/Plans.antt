@@ -11,7 +11,7 @@ use Rattle.sdf_prec.specs.Blocks.{block}
 use Rattle.sdf_prec.specs.Laws.{TablesRepeat, AreBlocks}
 use Rattle.sdf_actor.specs.Steps.{Steps}
 use Rattle.sdf_actor.specs.Nets.{Netlist, wiring}
-use Rattle.sdf_rings.specs.MachineLaws.{Plan, IsPlan, firings, capacity, roomy}
+use Rattle.sdf_rings.specs.MachineLaws.{Plan, IsMachinePlan, firings, capacity, roomy}
 
 -- a sequence of firings that fires each actor a k a times, and what it needs
 pub record IsSequence (r : Rates) (k cap : ℕ → ℕ) (w : List ℕ) : Type 0 where
@@ -40,7 +40,7 @@ room_more rooms cap c some =
     omega (arith, more)
 
 pub plan_sequence : AlikeSequences → TablesRepeat →
-    {A S T : Type 0} (s : Steps A S T) (n : Netlist A T) (p : Plan) (b : ℕ) → IsPlan s n p →
+    {A S T : Type 0} (s : Steps A S T) (n : Netlist A T) (p : Plan) (b : ℕ) → IsMachinePlan s n p →
     IsSequence (wiring s n).rates (firings p b) (capacity p) (sequence_of p b)
 plan_sequence alike repeats s n p b plan =
     let all : AreBlocks p.rates (λ a. get_or (block p.factor p.period) a 0) p.table b =

@@ -30,10 +30,10 @@ in_items : {X Z : Type 0} (v : Vec X Z) (i : ℕ) → i < vec_len v → i < leng
 in_items v i h = omega arith
 
 -- all of a list
-times_all : (v : Vec ℕ Global) (from k : ℕ) → from ≡ 0 → times_between k v.items from (vec_len v) ≡ times v.items k
-times_all v from k none =
-    ap (λ m. times_between k v.items m (vec_len v)) none
-    ∙ ap (λ w. times w k) (take_all (vec_len v - 0) v.items (omega arith))
+times_all : (xs : List ℕ) (from k : ℕ) → from ≡ 0 → times_between k xs from (length xs) ≡ times xs k
+times_all xs from k none =
+    ap (λ m. times_between k xs m (length xs)) none
+    ∙ ap (λ w. times w k) (take_all (length xs - 0) xs (omega arith))
 
 module _ {A S T : Type 0} (s : Steps A S T) (n : Netlist A T) (good : IsNet s n) (inputs : List (List T))
     (asked : ℕ → ℕ)
@@ -99,7 +99,7 @@ module _ {A S T : Type 0} (s : Steps A S T) (n : Netlist A T) (good : IsNet s n)
     at_stand k d h = begun.stands_are.only k h
 
     counted : (k : ℕ) (d : Stand A T S) → k < length x.stands.items →
-        (get_or x.stands.items k d).done + times_between k x.left.items x.next (vec_len x.left) ≡
+        (get_or x.stands.items k d).done + times_between k x.left x.next (length x.left) ≡
         (get_or x.stands.items k d).asked
     counted k d h =
         let o = at_stand k d h in
@@ -107,9 +107,9 @@ module _ {A S T : Type 0} (s : Steps A S T) (n : Netlist A T) (good : IsNet s n)
         let b : HasBegun s n inputs asked ps xs a (get_or x.stands.items k d) =
         subst (λ m. HasBegun s n inputs asked ps xs a (get_or x.stands.items m d)) o.3
         (begun.stands_are.here a d o.1 o.2) in
-        let whole : times_between k x.left.items x.next (vec_len x.left) ≡ times x.left.items k =
+        let whole : times_between k x.left x.next (length x.left) ≡ times x.left k =
         times_all x.left x.next k begun.first in
-        let list : times x.left.items k ≡ times (map stand (dealt places order i)) k =
+        let list : times x.left k ≡ times (map stand (dealt places order i)) k =
         ap (λ w. times w k) begun.left_is in
         let turned : times (map stand (dealt places order i)) k ≡
         times (map stand (dealt places order (home a))) (stand a) =
@@ -119,16 +119,16 @@ module _ {A S T : Type 0} (s : Steps A S T) (n : Netlist A T) (good : IsNet s n)
         let want = b.asked_is in
         omega (arith, whole, list, turned, is, none, want)
 
-    names : (j : ℕ) → j < vec_len x.left → get_or x.left.items j 0 < vec_len x.stands
+    names : (j : ℕ) → j < length x.left → get_or x.left j 0 < vec_len x.stands
     names j h =
         let firings : List ℕ = dealt places order i in
         let long = ap (λ (w : List ℕ). length w) begun.left_is in
         let many = length-map firings stand in
-        let l : j < length firings = (let m = in_items x.left j h in omega (arith, m, long, many)) in
+        let l : j < length firings = omega (arith, h, long, many) in
         let is = dealt_here i j l in
-        let at : get_or x.left.items j 0 ≡ stand (get_or firings j 0) =
+        let at : get_or x.left j 0 ≡ stand (get_or firings j 0) =
         ap (λ w. get_or w j 0) begun.left_is ∙ get_or-map stand firings j 0 0 l in
-        in_vec x.stands (get_or x.left.items j 0) (subst (λ k. k < length x.stands.items) (sym at)
+        in_vec x.stands (get_or x.left j 0) (subst (λ k. k < length x.stands.items) (sym at)
         (begun.stands_are.known (get_or firings j 0) is.0 is.1))
 
     pub is_seat : IsSeat s n inputs x

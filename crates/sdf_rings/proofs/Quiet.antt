@@ -23,7 +23,7 @@ use Rattle.sdf_rings.specs.Asks.{IsPlanned}
 use Rattle.sdf_rings.specs.Ends.{IsMet}
 use Rattle.sdf_rings.specs.MachineLaws.{Rest, resting, state_on, taken_on, IsStateOf, IsWithin, IsQuiescent, HasGrown}
 use Rattle.sdf_rings.specs.Quiescence.{IsMadeOf}
-use Rattle.sdf_rings.specs.Rests.{stand_of, state_in, producer_of, consumer_of, AreRings, HaveMet, IsRest, AreAtRest}
+use Rattle.sdf_rings.specs.Rests.{stand_of, state_in, producer_of, consumer_of, AreRings, HaveMet, StandAtRest, AreAtRest}
 use Rattle.sdf_rings.proofs.Dealt.{bit, times_cons}
 use Rattle.sdf_rings.proofs.Kept.{NetLaws}
 use Rattle.sdf_rings.proofs.Quiescent.{quiescent_later}
@@ -79,7 +79,7 @@ module _ {A S T : Type 0} (s : Steps A S T) (laws : NetLaws s) (n : Netlist A T)
     (met : HaveMet n seats places) (at_rest : AreAtRest s n inputs seats places)
     (q : List ℕ) (accepted : IsAccepted s n q) (order : List ℕ) (cap : ℕ → ℕ)
     (plan : IsPlanned s n seats places order cap) (x : Rest S T) (made : IsMadeOf n seats places x) where
-  at : IsRest s n inputs seats places x.done
+  at : StandAtRest s n inputs seats places x.done
   at = rest_at s n inputs seats places r at_rest q accepted x.done (λ a e d l. sym (made.dones a e d l))
 
   -- no more is done than is asked

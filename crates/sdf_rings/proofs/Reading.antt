@@ -17,7 +17,7 @@ use Rattle.sdf_node.specs.declared.node.NodeState.TheVariants.{Source, Sink, Inn
 use Rattle.sdf_node.specs.Nodes.{IsAt}
 use Rattle.sdf_rings.specs.declared.stand.Stand.{Stand}
 use Rattle.sdf_rings.specs.declared.seat.Seat.{Seat}
-use Rattle.sdf_rings.specs.Rests.{stand_of, state_in, AreRings, IsRest, AreAtRest}
+use Rattle.sdf_rings.specs.Rests.{stand_of, state_in, AreRings, StandAtRest, AreAtRest}
 use Rattle.sdf_rings.proofs.Looking.{vec_in}
 use Rattle.sdf_rings.proofs.Placed.{outs_of, ins_of}
 use Rattle.sdf_rings.proofs.Tells.{some}
@@ -72,7 +72,7 @@ module _ {A S T : Type 0} (s : Steps A S T) (n : Netlist A T) (inputs : List (Li
 
   pub rest_at : AreAtRest s n inputs seats places → (q : List ℕ) → IsAccepted s n q → (k : ℕ → ℕ) →
       ((a : ℕ) (e : Seat A T S) (d : Stand A T S) → a < length n.nodes → (stand_of n seats places e d a).done ≡ k a) →
-      IsRest s n inputs seats places k
+      StandAtRest s n inputs seats places k
   rest_at at_rest q accepted k counts =
       let wires : 0 < length n.wires = some_wire s n q accepted r.is_net in
       let from = r.is_net.from_in 0 wires in

@@ -18,7 +18,7 @@ use Rattle.sdf_rings.specs.declared.stand.Stand.{Stand}
 use Rattle.sdf_rings.specs.declared.seat.Seat.{Seat}
 use Rattle.sdf_rings.specs.Stands.{IsStand}
 use Rattle.sdf_rings.specs.Seats.{IsSeat}
-use Rattle.sdf_rings.specs.Rests.{stand_of, producer_of, consumer_of, IsPlaced, HaveMet, IsRest}
+use Rattle.sdf_rings.specs.Rests.{stand_of, producer_of, consumer_of, IsPlaced, HaveMet, StandAtRest}
 use Rattle.sdf_rings.proofs.Looking.{vec_in}
 use Rattle.sdf_rings.proofs.Known.{as_local, sent_at, received_at}
 
@@ -174,7 +174,7 @@ module _ {A S T : Type 0} (s : Steps A S T) (ports : PortsHaveChannels s) (stays
         (vec_in (get_or seats (get_or places a (0, 0)).0 e0).stands (get_or places a (0, 0)).1
         (placed.stand_in a e0 l))
 
-    pub is_rest : IsRest s n inputs seats places done
+    pub is_rest : StandAtRest s n inputs seats places done
     is_rest = record {
       history = λ c. own (wire n c).from.0 c;
       is = meet n inputs done own good (λ a l. own_local a l (cases_lt a (length n.nodes))) enough meets;

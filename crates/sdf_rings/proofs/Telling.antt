@@ -86,17 +86,16 @@ module _ {A S T : Type 0} where
         subst (HasMoved s n x) (stand_with x y same)
         (looked_moved s n x y.ins y.outs (drew j k e d) (gave j k e d) same.ins_len_same same.outs_len_same)
 
-    pub told_worked : (j : ℕ) (e : Seat A T S) → (get_or old j e).next ≤ vec_len (get_or old j e).left →
+    pub told_worked : (j : ℕ) (e : Seat A T S) → (get_or old j e).next ≤ length (get_or old j e).left →
         HasWorked s n (get_or old j e) (get_or new j e)
     told_worked j e fits =
         let same = t.told_seats j e in
         let x = get_or old j e in
-        let none : (k : ℕ) → times_between k x.left.items x.next (get_or new j e).next ≡ 0 =
-        λ k. ap (times_between k x.left.items x.next) same.next_same ∙ times_none k x.left.items x.next in
+        let none : (k : ℕ) → times_between k x.left x.next (get_or new j e).next ≡ 0 =
+        λ k. ap (times_between k x.left x.next) same.next_same ∙ times_none k x.left x.next in
         record {
           processor_kept = same.processor_same;
-          left_kept = ap (λ (v : Vec ℕ Global). v.items) same.left_same;
-          left_len_kept = ap (λ (v : Vec ℕ Global). vec_len v) same.left_same;
+          left_kept = same.left_same;
           next_grows = let z = same.next_same in omega arith;
           next_fits = let z = same.next_same in omega arith;
           stands_kept = same.stands_same;
@@ -108,15 +107,13 @@ module _ {A S T : Type 0} where
         IsSeat s n inputs (get_or new j e)
     told_seat inputs j e ok =
         let same = t.told_seats j e in
-        let items = ap (λ (v : Vec ℕ Global). v.items) same.left_same in
-        let len = ap (λ (v : Vec ℕ Global). vec_len v) same.left_same in
+        let len = ap length same.left_same in
         record {
           next_fits = let z = same.next_same in let h = ok.next_fits in omega arith;
-          names = λ i h. rw items (let b = ok.names i (omega arith) in let z = same.stands_same in omega arith);
+          names = λ i h. rw same.left_same (let b = ok.names i (omega arith) in let z = same.stands_same in omega arith);
           each = λ k d h. told_stand inputs j k e d (ok.each k d (let z = same.stands_same in omega arith));
           counts = λ k d h. rw (
-            items,
-            len,
+            same.left_same,
             same.next_same,
             (t.told_stands j k e d).done_same,
             (t.told_stands j k e d).asked_same,

@@ -1,5 +1,5 @@
 -- A firing sequence dealt out to seats, and the places that rings have for it.
-use Rattle.std.specs.Prelude.{ℕ, ◌≡◌, ◌≢◌, ◌+◌, ◌-◌, ◌≤◌, ◌<◌, ◌==◌, List, length, map, filter, vec_len, slice_index_or}
+use Rattle.std.specs.Prelude.{ℕ, ◌≡◌, ◌≢◌, ◌+◌, ◌-◌, ◌≤◌, ◌<◌, ◌==◌, List, length, map, filter, slice_index_or}
 use Rattle.std.specs.Global.{Global}
 use Rattle.rtrb.specs.Ring.{producer_capacity}
 use Rattle.rtrb.specs.declared.producer.Producer.{Producer}
@@ -32,7 +32,7 @@ module _ {A S T : Type 0} (n : Netlist A T) (seats : List (Seat A T S)) (places 
   -- each seat's list names, by stand, its firings of the sequence, and no other firing is asked
   pub record AsksFor (order : List ℕ) : Type 0 where
     pub lists : (i : ℕ) (e : Seat A T S) → i < length seats →
-        (slice_index_or seats i e).left.items ≡ map (λ a. (slice_index_or places a (0, 0)).1) (dealt places order i)
+        (slice_index_or seats i e).left ≡ map (λ a. (slice_index_or places a (0, 0)).1) (dealt places order i)
     pub asked : (a : ℕ) (e : Seat A T S) (d : Stand A T S) → a < length n.nodes →
         (stand_of n seats places e d a).asked ≡ times order a
 
@@ -54,5 +54,5 @@ pub record IsPlanned {A S T : Type 0} (s : Steps A S T) (n : Netlist A T) (seats
 pub record SomeFirst {A S T : Type 0} (s : Steps A S T) (n : Netlist A T) (seats : List (Seat A T S)) : Type 0 where
   pub which : ℕ
   pub which_in : which < length seats
-  pub which_left : (e : Seat A T S) → (slice_index_or seats which e).next < vec_len (slice_index_or seats which e).left
+  pub which_left : (e : Seat A T S) → (slice_index_or seats which e).next < length (slice_index_or seats which e).left
   pub which_can : (e : Seat A T S) → HasFirst s n (slice_index_or seats which e)

@@ -76,4 +76,4 @@ module _ {A S T : Type 0} (s : Steps A S T) (n : Netlist A T) (inputs : List (Li
     pub processor_is : x.processor ≡ i
     pub first : x.next ≡ 0
     pub stands_are : AreBegun places i x.stands.items
-    pub left_is : x.left.items ≡ map (λ a. (place places a).1) (dealt places order i)
+    pub left_is : x.left ≡ map (λ a. (place places a).1) (dealt places order i)

@@ -25,7 +25,7 @@ pub record Plan : Type 0 where
 
 -- the graph is the net's, the table is valid, and channels may hold no less than it says. Where its actors are at home
 -- is not asked: the laws hold of each valid table
-pub record IsPlan {A S T : Type 0} (s : Steps A S T) (n : Netlist A T) (p : Plan) : Type 0 where
+pub record IsMachinePlan {A S T : Type 0} (s : Steps A S T) (n : Netlist A T) (p : Plan) : Type 0 where
   pub net : IsNet s n
   pub alike : IsAlike p.rates (wiring s n).rates
   pub sound : IsSound p.rates
@@ -56,7 +56,7 @@ reached s n inputs es = after (wiring s n) (answers s n inputs) (at_start (wirin
 abbrev pub RunsPutPrefixes : {A S T : Type 0} → Steps A S T → Type 0
 RunsPutPrefixes {A} {S} {T} s =
     (n : Netlist A T) (inputs : List (List T)) (p : Plan) (b : ℕ) (V : ℕ → List T) (es : List Event) →
-    IsPlan s n p → IsHistoryOf s n inputs (firings p b) V → IsRunOf s n inputs p b es → (c : ℕ) → c < length n.wires →
+    IsMachinePlan s n p → IsHistoryOf s n inputs (firings p b) V → IsRunOf s n inputs p b es → (c : ℕ) → c < length n.wires →
     ((reached s n inputs es).lists c ≡ take (length ((reached s n inputs es).lists c)) (V c)) ×
     (length ((reached s n inputs es).lists c) ≡ put_on (wiring s n) (reached s n inputs es) c)
 
@@ -67,7 +67,7 @@ IsWithin s n cap m = (c : ℕ) → c < length n.wires → length (m.lists c) ≤
 abbrev pub RunsKeepWithin : {A S T : Type 0} → Steps A S T → Type 0
 RunsKeepWithin {A} {S} {T} s =
     (n : Netlist A T) (inputs : List (List T)) (p : Plan) (b : ℕ) (es : List Event) →
-    IsPlan s n p → InputsReach n inputs (firings p b) → IsRunOf s n inputs p b es →
+    IsMachinePlan s n p → InputsReach n inputs (firings p b) → IsRunOf s n inputs p b es →
     IsWithin s n (capacity p) (reached s n inputs es)
 
 -- each channel has moved all the blocks of k firings
@@ -80,7 +80,7 @@ IsOver s n k m =
 abbrev pub RunsGoOn : {A S T : Type 0} → Steps A S T → Type 0
 RunsGoOn {A} {S} {T} s =
     (n : Netlist A T) (inputs : List (List T)) (p : Plan) (b : ℕ) (es : List Event) →
-    IsPlan s n p → IsRunOf s n inputs p b es →
+    IsMachinePlan s n p → IsRunOf s n inputs p b es →
     IsOver s n (firings p b) (reached s n inputs es)
     ⊎ ((e : Event) × IsAllowed (wiring s n) (firings p b) (capacity p) (reached s n inputs es) e)
 
@@ -93,7 +93,7 @@ blocks_left f k m (suc c) = blocks_left f k m c + ((k (f.rates.target c) - m.too
 -- each event moves one of them, so no run has more events than there are blocks
 abbrev pub RunsMoveBlocks : {A S T : Type 0} → Steps A S T → Type 0
 RunsMoveBlocks {A} {S} {T} s =
-    (n : Netlist A T) (inputs : List (List T)) (p : Plan) (b : ℕ) (es : List Event) → IsPlan s n p →
+    (n : Netlist A T) (inputs : List (List T)) (p : Plan) (b : ℕ) (es : List Event) → IsMachinePlan s n p →
     IsRunOf s n inputs p b es →
     length es + blocks_left (wiring s n) (firings p b) (reached s n inputs es) (length n.wires) ≡
     blocks_left (wiring s n) (firings p b) (at_start (wiring s n)) (length n.wires)
@@ -102,7 +102,7 @@ RunsMoveBlocks {A} {S} {T} s =
 abbrev pub RunsEndInHistories : {A S T : Type 0} → Steps A S T → Type 0
 RunsEndInHistories {A} {S} {T} s =
     (n : Netlist A T) (inputs : List (List T)) (p : Plan) (b : ℕ) (V : ℕ → List T) (es : List Event) →
-    IsPlan s n p → IsHistoryOf s n inputs (firings p b) V → IsRunOf s n inputs p b es →
+    IsMachinePlan s n p → IsHistoryOf s n inputs (firings p b) V → IsRunOf s n inputs p b es →
     IsOver s n (firings p b) (reached s n inputs es) →
     (c : ℕ) → c < length n.wires → (reached s n inputs es).lists c ≡ V c
 
@@ -111,7 +111,7 @@ RunsEndInHistories {A} {S} {T} s =
 abbrev pub OwnNeverWaits : {A S T : Type 0} → Steps A S T → Type 0
 OwnNeverWaits {A} {S} {T} s =
     (n : Netlist A T) (p : Plan) (b : ℕ) (m : Machine T) (c : ℕ) →
-    IsPlan s n p → c < length n.wires → (wiring s n).rates.source c ≡ (wiring s n).rates.target c →
+    IsMachinePlan s n p → c < length n.wires → (wiring s n).rates.source c ≡ (wiring s n).rates.target c →
     (m.took c < firings p b ((wiring s n).rates.target c) → m.took c ≤ m.gave c →
     (wiring s n).rates.consumed c (m.took c + 1) ≤ put_on (wiring s n) m c) ×
     (m.gave c < firings p b ((wiring s n).rates.source c) → m.gave c < m.took c →
@@ -194,7 +194,7 @@ pub record IsLike {A T : Type 0} (n : Netlist A T) (d e : Machine T) : Type 0 wh
 abbrev pub QuiescentReached : {A S T : Type 0} → Steps A S T → Type 0
 QuiescentReached {A} {S} {T} s =
     (n : Netlist A T) (inputs : List (List T)) (p : Plan) (b : ℕ) (x y : Rest S T) →
-    IsPlan s n p → IsQuiescent s n inputs (capacity p) x → HasGrown s n inputs x y →
+    IsMachinePlan s n p → IsQuiescent s n inputs (capacity p) x → HasGrown s n inputs x y →
     ((a : ℕ) → a < length n.nodes → y.done a ≤ firings p b a) → IsWithin s n (capacity p) (resting s n y) →
     IsQuiescent s n inputs (capacity p) y ×
     ((es : List Event) × IsRun (wiring s n) (answers s n inputs) (firings p b) (capacity p) (resting s n x) es ×
@@ -209,5 +209,5 @@ IsReached s n inputs p b x = (es : List Event) × IsRunOf s n inputs p b es
 abbrev pub QuiescentIsReached : {A S T : Type 0} → Steps A S T → Type 0
 QuiescentIsReached {A} {S} {T} s =
     (n : Netlist A T) (inputs : List (List T)) (p : Plan) (b : ℕ) (x : Rest S T) →
-    IsPlan s n p → IsQuiescent s n inputs (capacity p) x → ((a : ℕ) → a < length n.nodes → x.done a ≤ firings p b a) →
+    IsMachinePlan s n p → IsQuiescent s n inputs (capacity p) x → ((a : ℕ) → a < length n.nodes → x.done a ≤ firings p b a) →
     IsReached s n inputs p b x

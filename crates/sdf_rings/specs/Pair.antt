@@ -5,7 +5,7 @@ use Rattle.sdf_actor.specs.declared.node.Node.TheVariants.{Source, Sink}
 use Rattle.sdf_actor.specs.Steps.{Steps}
 use Rattle.sdf_actor.specs.Nets.{Netlist, wiring}
 use Rattle.sdf_rings.specs.Machine.{Machine, Event, Take, Put, put_on, taken_from, IsAllowed}
-use Rattle.sdf_rings.specs.MachineLaws.{Plan, IsPlan, IsRunOf, firings, capacity, reached}
+use Rattle.sdf_rings.specs.MachineLaws.{Plan, IsMachinePlan, IsRunOf, firings, capacity, reached}
 
 abbrev pub pair : {A T : Type 0} → Netlist A T
 pair = record { nodes = Source 0 2 ∷ Sink 0 3 ∷ []; wires = record { from = (0, 0); to = (1, 0); initial = [] } ∷ [] }
@@ -57,7 +57,7 @@ pub record ATakeMakesRoom {A S T : Type 0} (s : Steps A S T) (inputs : List (Lis
       (reached s pair inputs and_a_take) (Put 0)
 
 abbrev pub PairIsPlanned : {A S T : Type 0} → Steps A S T → Type 0
-PairIsPlanned s = IsPlan s pair (plan s)
+PairIsPlanned s = IsMachinePlan s pair (plan s)
 
 abbrev pub PairFills : {A S T : Type 0} → Steps A S T → Type 0
 PairFills {A} {S} {T} s = (inputs : List (List T)) → ThreePutsFill s inputs

@@ -53,7 +53,7 @@ module _ {A S T : Type 0} (n : Netlist A T) (seats : List (Seat A T S)) (places 
 
 -- at rest after done a firings of each node a: what was put is the history, each ring holds what is left of it, and
 -- each node's state is the one after what it took
-pub record IsRest {A S T : Type 0} (s : Steps A S T) (n : Netlist A T) (inputs : List (List T))
+pub record StandAtRest {A S T : Type 0} (s : Steps A S T) (n : Netlist A T) (inputs : List (List T))
     (seats : List (Seat A T S)) (places : List (ℕ × ℕ)) (done : ℕ → ℕ) : Type 0 where
   pub history : ℕ → List T
   pub is : IsHistoryOf s n inputs done history
@@ -73,7 +73,7 @@ abbrev pub AreAtRest : {A S T : Type 0} → Steps A S T → Netlist A T → List
     Type 0
 AreAtRest {A} {S} {T} s n inputs seats places =
     (e : Seat A T S) (d : Stand A T S) (x : Consumer T Global AnyItems) (y : Producer T Global AnyItems) (k : ℕ → ℕ) →
-    ((a : ℕ) → a < length n.nodes → (stand_of n seats places e d a).done ≡ k a) → IsRest s n inputs seats places k
+    ((a : ℕ) → a < length n.nodes → (stand_of n seats places e d a).done ≡ k a) → StandAtRest s n inputs seats places k
 
 -- all the ends of a run in one hand. The places are by node: a seat, and a stand on it
 pub record InHand (A S T : Type 0) : Type 0 where

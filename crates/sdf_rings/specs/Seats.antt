@@ -1,5 +1,5 @@
 -- What one worker holds, and what it did in a round.
-use Rattle.std.specs.Prelude.{ℕ, ◌≡◌, ◌+◌, ◌<◌, ◌≤◌, ◌⊎◌, List, vec_len, slice_index, slice_index_or, slice_range}
+use Rattle.std.specs.Prelude.{ℕ, ◌≡◌, ◌+◌, ◌<◌, ◌≤◌, ◌⊎◌, List, vec_len, slice_index, slice_index_or, slice_range, length}
 use Rattle.sdf_graph.specs.Sequences.{times}
 use Rattle.sdf_actor.specs.Steps.{Steps}
 use Rattle.sdf_actor.specs.Nets.{Netlist}
@@ -14,35 +14,34 @@ times_between k xs from to = times (slice_range xs from to) k
 module _ {A S T : Type 0} (s : Steps A S T) (n : Netlist A T) where
   -- its list names its stands, and has just the firings that are still to be done of each
   pub record IsSeat (inputs : List (List T)) (x : Seat A T S) : Type 0 where
-    pub next_fits : x.next ≤ vec_len x.left
-    pub names : (j : ℕ) → j < vec_len x.left → slice_index x.left.items j < vec_len x.stands
+    pub next_fits : x.next ≤ length x.left
+    pub names : (j : ℕ) → j < length x.left → slice_index x.left j < vec_len x.stands
     pub each : (k : ℕ) (d : Stand A T S) → k < vec_len x.stands → IsStand s n inputs (slice_index_or x.stands.items k d)
     pub counts : (k : ℕ) (d : Stand A T S) → k < vec_len x.stands →
-        (slice_index_or x.stands.items k d).done + times_between k x.left.items x.next (vec_len x.left) ≡
+        (slice_index_or x.stands.items k d).done + times_between k x.left x.next (length x.left) ≡
         (slice_index_or x.stands.items k d).asked
 
   -- the first firing of the list is known to be possible
   abbrev pub HasFirst : Seat A T S → Type 0
-  HasFirst x = (d : Stand A T S) → CanFire s n (slice_index_or x.stands.items (slice_index x.left.items x.next) d)
+  HasFirst x = (d : Stand A T S) → CanFire s n (slice_index_or x.stands.items (slice_index x.left x.next) d)
 
   -- the firings between the two places of the list were done, and nothing else
   pub record HasWorked (x y : Seat A T S) : Type 0 where
     pub processor_kept : y.processor ≡ x.processor
-    pub left_kept : y.left.items ≡ x.left.items
-    pub left_len_kept : vec_len y.left ≡ vec_len x.left
+    pub left_kept : y.left ≡ x.left
     pub next_grows : x.next ≤ y.next
-    pub next_fits : y.next ≤ vec_len x.left
+    pub next_fits : y.next ≤ length x.left
     pub stands_kept : vec_len y.stands ≡ vec_len x.stands
     pub moved : (k : ℕ) (d : Stand A T S) → k < vec_len x.stands →
         HasMoved s n (slice_index_or x.stands.items k d) (slice_index_or y.stands.items k d)
     pub dones : (k : ℕ) (d : Stand A T S) → k < vec_len x.stands →
         (slice_index_or y.stands.items k d).done ≡ (slice_index_or x.stands.items k d).done
-        + times_between k x.left.items x.next y.next
+        + times_between k x.left x.next y.next
 
   -- one worker's round: it ends where its list is empty or by what its ends know its first firing lacks samples or
   -- room, and does that where it was known to be possible
   pub record HasRounded (inputs : List (List T)) (x y : Seat A T S) : Type 0 where
     pub seat : IsSeat inputs y
     pub worked : HasWorked x y
-    pub stopped : (y.next ≡ vec_len y.left) ⊎ (HasFirst y → ⊥)
-    pub progress : x.next < vec_len x.left → HasFirst x → x.next < y.next
+    pub stopped : (y.next ≡ length y.left) ⊎ (HasFirst y → ⊥)
+    pub progress : x.next < length x.left → HasFirst x → x.next < y.next

@@ -9,7 +9,7 @@ ghost use Rattle.sdf_actor.specs.Wires.{lists};
 ghost use Rattle.sdf_answer.specs.Answer.{periods_of};
 ghost use Rattle.sdf_answer.specs.Feeds as feeds;
 ghost use Rattle.sdf_answer.specs.Rows.{IsTableOf};
-ghost use Rattle.sdf_rings.specs.Outcome.{HasRun, HasGoneOn, IsRingsFault};
+ghost use Rattle.sdf_rings.specs.Outcome.{HasRunInRounds, HasGoneOn, IsRingsFault};
 
 use crate::roomy_table::RoomyTable;
 use crate::runner::run_through;
@@ -38,7 +38,7 @@ pub fn feed_rings<R: Threads + AllocGlobal + Sync, A: Actor, G: Gate>(
     requires table { IsTableOf (rates (graph_of A.steps net.now)) period.now.repetitions j given.now.table.now }
     requires rooms { 1 ≤ given.now.rooms }
     ensures { let q = period.now.repetitions in MatchResult result
-        (λ fed. HasRun A.steps net.now q j given.now.table.now blocks (lists inputs.now) patience
+        (λ fed. HasRunInRounds A.steps net.now q j given.now.table.now blocks (lists inputs.now) patience
         (lists fed.0.outputs.items) fed.0.rounds ×
         feeds.HasRun A.steps net.now (lists inputs.now) (periods_of q (blocks * j)) (lists fed.0.outputs.items) fed.1)
         (IsRingsFault net.now q (blocks * j) (lists inputs.now) given.now.table.now patience) }

@@ -12,6 +12,7 @@
 //! `feed` has runs that another one goes on from, over rings that may hold several blocks (`roomy_table`).
 #![tactic(auto)]
 
+mod course;
 mod ends;
 pub mod feed;
 mod finish;
@@ -34,6 +35,7 @@ mod setup;
 pub mod stand;
 mod together;
 
+pub use course::Course;
 pub use feed::{feed_rings, resume_rings};
 pub use rings::Rings;
 pub use roomy_table::RoomyTable;

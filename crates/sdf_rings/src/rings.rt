@@ -131,10 +131,10 @@ impl<'a, A: Actor> Rings<'a, A> {
         ensures count { (e : _) → (slice_index_or self.new.seats seat e).next ≡
             (slice_index_or self.old.seats seat e).next + result }
         ensures stopped { (e : _) → ((slice_index_or self.new.seats seat e).next ≡
-            vec_len (slice_index_or self.new.seats seat e).left)
+            length (slice_index_or self.new.seats seat e).left)
             ⊎ (HasFirst A.steps self.new.net (slice_index_or self.new.seats seat e) → ⊥) }
         ensures progress { (e : _) → (slice_index_or self.old.seats seat e).next <
-            vec_len (slice_index_or self.old.seats seat e).left →
+            length (slice_index_or self.old.seats seat e).left →
             HasFirst A.steps self.old.net (slice_index_or self.old.seats seat e) → 0 < result }
         ensures same { (self.new.net ≡ self.old.net) × (self.new.inputs ≡ self.old.inputs)
             × (self.new.places ≡ self.old.places) × (length self.new.seats ≡ length self.old.seats) }

@@ -6,7 +6,7 @@ ghost use Rattle.sdf_sched.specs.Period.{IsPeriodOf};
 ghost use Rattle.sdf_actor.specs.Graphs.{graph_of};
 ghost use Rattle.sdf_actor.specs.Wires.{lists};
 ghost use Rattle.sdf_answer.specs.Rows.{IsTableOf};
-ghost use Rattle.sdf_rings.specs.Outcome.{HasRun, HasEnded, IsRingsFault};
+ghost use Rattle.sdf_rings.specs.Outcome.{HasRunInRounds, HasEnded, IsRingsFault};
 
 use crate::prepare::prepare_roomy;
 use crate::rings::Rings;
@@ -78,7 +78,7 @@ pub fn run_rings<R: Threads + AllocGlobal + Sync, A: Actor, G: Gate>(
     requires period { IsPeriodOf (rates (graph_of A.steps net.now)) period.now }
     requires table { IsTableOf (rates (graph_of A.steps net.now)) period.now.repetitions j table.now }
     ensures { let q = period.now.repetitions in MatchResult result
-        (λ ran. HasRun A.steps net.now q j table.now blocks (lists inputs.now) patience
+        (λ ran. HasRunInRounds A.steps net.now q j table.now blocks (lists inputs.now) patience
         (lists ran.outputs.items) ran.rounds)
         (IsRingsFault net.now q (blocks * j) (lists inputs.now) table.now patience) }
 {

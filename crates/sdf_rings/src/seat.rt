@@ -1,11 +1,12 @@
 //! One worker.
 
-ghost use Rattle.std.specs.Prelude.{◌≡◌, ◌+◌, ◌<◌, ◌≤◌, ◌⊎◌, ℕ, IsTrue, IsFalse, length, slice_index, vec_len};
+ghost use Rattle.std.specs.Prelude.{◌≡◌, ◌+◌, ◌<◌, ◌≤◌, ◌^◌, ◌⊎◌, ℕ, IsTrue, IsFalse, length, slice_index};
 ghost use Rattle.sdf_actor.specs.Nets.{IsNet};
 ghost use Rattle.sdf_actor.specs.Wires.{lists};
 ghost use Rattle.sdf_rings.specs.Stands.{IsStand, CanFire, HasMoved};
 ghost use Rattle.sdf_rings.specs.Seats.{times_between, IsSeat, HasFirst, HasWorked};
 
+use crate::course::Course;
 use crate::stand::{Stand, fire_one, is_ready};
 use crate::together::{fire_run, in_one_run};
 use sdf_actor::{Actor, Net};
@@ -15,12 +16,12 @@ use std::thread;
 /// So many firings at most go in one piece of work.
 const MOST_AT_ONCE: u64 = 65_536;
 
-/// A worker's nodes, and the list of its firings still to do: those from `next` on. It holds no reference.
+/// A worker's nodes, and the list of its firings, of which those from `next` on are still to do. It holds no reference.
 #[derive(Drop)]
 pub struct Seat<A: Actor> {
     pub processor: usize,
     pub stands: Vec<Stand<A>>,
-    pub left: Vec<usize>,
+    pub left: Course,
     pub next: usize,
 }
 
@@ -52,28 +53,12 @@ fn becomes_ready<A: Actor>(
     is_ready(net, inputs, stand)
 }
 
-/// How often the stand at a place of a list stands there and in the next places, up to a limit.
-fn in_a_row(left: &[usize], next: usize, most: usize) -> usize
-    requires { next < length left.now }
-    ensures within { result ≤ most }
-    ensures inside { next + result ≤ length left.now }
-    ensures same { (j : ℕ) → j < result → slice_index left.now next ≡ slice_index left.now (next + j) }
-{
-    let many = most.min(left.len() - next);
-    for j in 0..many {
-        if left[next + j] != left[next] {
-            return j;
-        }
-    }
-    many
-}
-
 /// The next firings of the list that are one node's and known to be possible, in one piece of work where they go so.
 fn fire_known<A: Actor, G: Gate>(
     net: &Net<A>,
     inputs: &[Vec<A::Token>],
     stand: &mut Stand<A>,
-    left: &[usize],
+    left: &Course,
     next: usize,
     processor: usize,
     gate: &G,
@@ -93,7 +78,7 @@ fn fire_known<A: Actor, G: Gate>(
 {
     let most = (stand.asked - stand.done).min(MOST_AT_ONCE) as usize;
     let known = in_one_run(net, inputs, stand, most);
-    let many = in_a_row(left, next, known);
+    let many = left.in_a_row(next, known);
     if many > 1 {
         fire_run(net, inputs, stand, processor, many, gate);
         return many;
@@ -108,7 +93,7 @@ fn fire_next<A: Actor, G: Gate>(
     net: &Net<A>,
     inputs: &[Vec<A::Token>],
     stand: &mut Stand<A>,
-    left: &[usize],
+    left: &Course,
     next: usize,
     processor: usize,
     tries: &mut u32,
@@ -145,7 +130,8 @@ fn work_next<A: Actor, G: Gate>(
 ) -> usize
     requires net { IsNet A.steps net.now }
     requires seat { IsSeat A.steps net.now (lists inputs.now) seat.old }
-    requires some { seat.old.next < vec_len seat.old.left }
+    requires some { seat.old.next < length seat.old.left }
+    requires fits { length seat.old.left < 2 ^ 64 }
     ensures seat { IsSeat A.steps net.now (lists inputs.now) seat.new }
     ensures worked { HasWorked A.steps net.now seat.old seat.new }
     ensures count { seat.new.next ≡ seat.old.next + result }
@@ -154,7 +140,7 @@ fn work_next<A: Actor, G: Gate>(
     ensures spent { result ≡ 0 → tries.new ≡ 0 }
     ensures at_once { HasFirst A.steps net.now seat.old → tries.new ≡ tries.old }
 {
-    let number = seat.left[seat.next];
+    let number = seat.left.stand(seat.next);
     let processor = seat.processor;
     let fired = fire_next(
         net,
@@ -184,8 +170,8 @@ pub fn work<A: Actor, G: Gate>(
     ensures seat { IsSeat A.steps net.now (lists inputs.now) seat.new }
     ensures worked { HasWorked A.steps net.now seat.old seat.new }
     ensures count { seat.new.next ≡ seat.old.next + result }
-    ensures stopped { (seat.new.next ≡ vec_len seat.new.left) ⊎ (HasFirst A.steps net.now seat.new → ⊥) }
-    ensures progress { seat.old.next < vec_len seat.old.left → HasFirst A.steps net.now seat.old → 0 < result }
+    ensures stopped { (seat.new.next ≡ length seat.new.left) ⊎ (HasFirst A.steps net.now seat.new → ⊥) }
+    ensures progress { seat.old.next < length seat.old.left → HasFirst A.steps net.now seat.old → 0 < result }
 {
     let start = seat.next;
     let mut tries = patience;

@@ -33,7 +33,7 @@ use Rattle.sdf_answer.specs.Feeds.{HasRun, SinksMakeRuns}
 use Rattle.sdf_answer.specs.Held.{Held}
 use Rattle.sdf_answer.specs.Blocks.{room, nothing}
 use Rattle.sdf_answer.specs.Sizes.{Rows, AreSizes, phase_of}
-use Rattle.sdf_rows.specs.Setup.{HasBegun, HasPlaces}
+use Rattle.sdf_rows.specs.Setup.{IsUnfired, HasPlaces}
 use Rattle.sdf_rows.specs.Stands.{HaveBlocks}
 use Rattle.sdf_rows.specs.Blocks.{IsResting}
 use Rattle.sdf_rows.specs.Collect.{AreCollected}
@@ -95,7 +95,7 @@ module _ {A S T : Type 0} (s : Steps A S T) (begin : HistoriesBegin s) (n : Netl
   pub begins : (space : ℕ) → space ≡ blocks * j * period_samples n.nodes Outputs q → (done : List ℕ) →
       ((a : ℕ) → get_or done a 0 ≡ 0) → (states : List (NodeState T S)) (ls : List (Held T)) →
       length states ≡ length n.nodes → ((a : ℕ) (w : NodeState T S) → a < length n.nodes →
-      HasBegun s space (nets.node n a) (get_or states a w)) → length ls ≡ length n.wires →
+      IsUnfired s space (nets.node n a) (get_or states a w)) → length ls ≡ length n.wires →
       ((c : ℕ) → c < length n.wires → get_or ls c nothing ≡
       record {
         samples = (wire n c).initial;

@@ -8,8 +8,8 @@ use Rattle.sdf_node.specs.declared.node.NodeState.{NodeState}
 use Rattle.sdf_rows.specs.declared.job.Job.{Job}
 
 -- a node's state before its first firing, where its list has so much room
-abbrev pub HasBegun : {A S T : Type 0} → Steps A S T → ℕ → Node A → NodeState T S → Type 0
-HasBegun {A} {S} {T} s room x w = (inputs : List (List T)) (many : ℕ) → CanBegin inputs many room x →
+abbrev pub IsUnfired : {A S T : Type 0} → Steps A S T → ℕ → Node A → NodeState T S → Type 0
+IsUnfired {A} {S} {T} s room x w = (inputs : List (List T)) (many : ℕ) → CanBegin inputs many room x →
     IsAt s inputs many x [] w
 
 -- no firing of the node moves more at all ports on a side

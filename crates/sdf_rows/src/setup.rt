@@ -2,7 +2,7 @@
 
 ghost use Rattle.std.specs.Prelude.{◌≡◌, ◌<◌, ℕ, length, slice_index_or, vec_len, IfOk};
 ghost use Rattle.sdf_actor.specs.Nets.{node};
-ghost use Rattle.sdf_rows.specs.Setup.{HasBegun, IsMost, HasPlaces};
+ghost use Rattle.sdf_rows.specs.Setup.{IsUnfired, IsMost, HasPlaces};
 
 use crate::job::Job;
 use sdf_actor::{Actor, Net, Node};
@@ -17,7 +17,7 @@ pub(crate) fn make_states<A: Actor>(
 ) -> Result<Vec<NodeState<A::Token, A::State>>, AllocError>
     ensures { IfOk result (λ v. (vec_len v ≡ length net.now.nodes)
         × ((a : ℕ) (d : _) → a < length net.now.nodes →
-        HasBegun A.steps room (node net.now a) (slice_index_or v.items a d))) }
+        IsUnfired A.steps room (node net.now a) (slice_index_or v.items a d))) }
 {
     let mut states = Vec::with_capacity(alloc, net.len())?;
     for a in 0..net.len() {

@@ -11,7 +11,7 @@ use Rattle.sdf_run.specs.declared.work.Work.TheVariants.{Source, Sink, Inner}
 use Rattle.sdf_run.specs.Runs.{Stands}
 
 -- each node has fired so many periods of q on these inputs, and all stands where the history ends
-pub record HasFired {A S T : Type 0} (s : Steps A S T) (n : Netlist A T) (inputs : List (List T)) (q : List ℕ)
+pub record HasFiredPeriods {A S T : Type 0} (s : Steps A S T) (n : Netlist A T) (inputs : List (List T)) (q : List ℕ)
     (periods : ℕ) (r : Run A T S) : Type 0 where
   pub outputs : length r.outputs.items ≡ list_count Outputs n.nodes
   pub done : (a : ℕ) → a < length n.nodes → slice_index r.done.items a ≡ periods_of q periods a

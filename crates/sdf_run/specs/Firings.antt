@@ -32,11 +32,11 @@ made s (Inner actor phase state taken put lengths) b = s.puts actor.now phase st
 made s w b = []
 
 -- the work still to do after it took block b
-abbrev pub HasWorked : {A S T : Type 0} → Steps A S T → Work A T S → List T → Work A T S → Type 0
-HasWorked s (Inner actor phase state taken put lengths) b (Inner actor' phase' state' taken' put' lengths') =
+abbrev pub IsWorkAfter : {A S T : Type 0} → Steps A S T → Work A T S → List T → Work A T S → Type 0
+IsWorkAfter s (Inner actor phase state taken put lengths) b (Inner actor' phase' state' taken' put' lengths') =
     (actor' ≡ actor) × (phase' ≡ (phase + 1) % s.cycle actor.now) × (state' ≡ s.next actor.now phase state b) ×
     (vec_capacity taken' ≡ vec_capacity taken) × (length put'.items ≡ length put.items) × (lengths' ≡ lengths)
-HasWorked s w b w' = ⊥
+IsWorkAfter s w b w' = ⊥
 
 -- many samples are taken and more are put: its blocks have their lengths
 abbrev pub CanWork : {A S T : Type 0} → Steps A S T → Work A T S → ℕ → ℕ → Type 0
@@ -47,7 +47,7 @@ CanWork s (Inner actor phase state taken put lengths) many more =
 CanWork s w many more = ⊥
 
 -- an actor can fire that takes from the channels ins and puts on the channels outs
-pub record CanFire {A S T : Type 0} (s : Steps A S T) (ins outs takes puts : List ℕ) (w : Work A T S)
+pub record ActorCanFire {A S T : Type 0} (s : Steps A S T) (ins outs takes puts : List ℕ) (w : Work A T S)
     (qs : List (Held T)) : Type 0 where
   pub ins_are : ArePorts ins takes (length qs)
   pub outs_are : ArePorts outs puts (length qs)
@@ -61,7 +61,7 @@ pub record CanFire {A S T : Type 0} (s : Steps A S T) (ins outs takes puts : Lis
 -- and this is what its firing does
 pub record IsFired {A S T : Type 0} (s : Steps A S T) (ins outs takes puts : List ℕ) (w w' : Work A T S)
     (qs qs' : List (Held T)) : Type 0 where
-  pub work : HasWorked s w (front takes ins qs) w'
+  pub work : IsWorkAfter s w (front takes ins qs) w'
   pub queues : (c : ℕ) → c < length qs →
       samples qs' c ≡ drop (at_ports ins (slice_index takes c) c) (samples qs c)
       ++ spread (slice_index puts) outs (made s w (front takes ins qs)) c

@@ -9,7 +9,7 @@ ghost use Rattle.sdf_actor.specs.Sides.{list_count, period_samples};
 ghost use Rattle.sdf_actor.specs.declared.sides.Lists.TheVariants.{Outputs};
 ghost use Rattle.sdf_answer.specs.Lists.{AreEmpty};
 ghost use Rattle.sdf_answer.specs.Answer.{HasInputs};
-ghost use Rattle.sdf_run.specs.Fired.{HasFired};
+ghost use Rattle.sdf_run.specs.Fired.{HasFiredPeriods};
 
 use crate::run::Run;
 use crate::setup::make_works;
@@ -57,7 +57,7 @@ pub(crate) fn fired<'a, A: Actor>(
     requires inputs { HasInputs net.now period.now.repetitions periods (lists inputs.now) }
     requires outputs { AreEmpty outputs.items (list_count Outputs net.now.nodes)
         (periods * period_samples net.now.nodes Outputs period.now.repetitions) }
-    ensures { IfOk result (λ run. HasFired A.steps net.now (lists inputs.now) period.now.repetitions periods run) }
+    ensures { IfOk result (λ run. HasFiredPeriods A.steps net.now (lists inputs.now) period.now.repetitions periods run) }
 {
     net_facts(net);
     nets_have_periods(net);

@@ -223,7 +223,7 @@ fn fire_through<A: Actor>(
 }
 
 impl<'a, A: Actor> Work<'a, A> {
-    ghost use Rattle.sdf_run.specs.Firings.{phase_at, IsActor, CanFire, IsFired};
+    ghost use Rattle.sdf_run.specs.Firings.{phase_at, IsActor, ActorCanFire, IsFired};
     ghost use Rattle.sdf_run.specs.AtOnce.{GoesAtOnce, CanFireAtOnce, AreFired};
     ghost use Rattle.sdf_run.specs.Many.{GoesByMany, HasItsBlocks, Fit, CanFireMany, AreManyFired};
 
@@ -240,7 +240,7 @@ impl<'a, A: Actor> Work<'a, A> {
     /// One firing of an actor: from each channel into it its block is taken, and on each channel out of it a block is
     /// put.
     pub(crate) fn fire(&mut self, ins: &Ports, outs: &Ports, queues: &mut [Queue<A::Token>])
-        requires { CanFire A.steps ins.now.channels.now outs.now.channels.now ins.now.sizes.now outs.now.sizes.now
+        requires { ActorCanFire A.steps ins.now.channels.now outs.now.channels.now ins.now.sizes.now outs.now.sizes.now
             self.old queues.old }
         ensures { IsFired A.steps ins.now.channels.now outs.now.channels.now ins.now.sizes.now outs.now.sizes.now
             self.old self.new queues.old queues.new }

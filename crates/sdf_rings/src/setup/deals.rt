@@ -6,6 +6,7 @@ ghost use Rattle.sdf_graph.specs.Sequences.{repeated};
 ghost use Rattle.sdf_rings.specs.Asks.{dealt};
 ghost use Rattle.sdf_rings.specs.Begun.{place};
 
+use crate::course::Course;
 use std::alloc::{AllocError, Global};
 
 /// Puts a firing behind a seat's list where its actor stands there.
@@ -42,15 +43,11 @@ pub(crate) fn deal(
     order: &[usize],
     blocks: u32,
     seat: usize,
-) -> Result<Vec<usize>, AllocError>
+) -> Result<Course, AllocError>
     requires { (i : ℕ) → i < length order.now → slice_index order.now i < length places.now }
-    ensures { IfOk result (λ left. left.items ≡ map (λ a. (place places.now a).1)
+    ensures { IfOk result (λ left. left ≡ map (λ a. (place places.now a).1)
         (dealt places.now (repeated blocks order.now) seat)) }
 {
     let block = deal_block(alloc, places, order, seat)?;
-    let mut left = Vec::with_capacity(alloc, block.len().saturating_mul(blocks as usize))?;
-    for _ in 0..blocks {
-        left.extend_from_slice(&block)?;
-    }
-    Ok(left)
+    Course::new(block, blocks)
 }

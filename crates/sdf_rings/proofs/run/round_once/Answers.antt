@@ -1,4 +1,4 @@
-use Rattle.std.proofs.Common.{◌≡◌, length, slice_index_or, arith, ◌∙◌}
+use Rattle.std.proofs.Common.{◌≡◌, length, slice_index_or, ap, arith, ◌∙◌}
 use Rattle.sdf_actor.specs.Wires.{lists}
 use Rattle.sdf_rings.proofs.Rounds.{worked_join}
 use Rattle.sdf_rings.proofs.Placed.{rings_all}
@@ -22,10 +22,10 @@ pub returns-clause-progress : goal.returns-clause-progress
 returns-clause-progress g c = λ some.
     let len : length c.meet_all.new.seats ≡ length c.args.seats.now = c.meet_all.auto.seats ∙ c.run_round.auto.seats in
     total_lt c.args.seats.now c.meet_all.new.seats some.which some.which_in len
-    (λ i e h. let w = (c.run_round.ensures i e h).worked in let n = w.next_grows in let l = w.left_len_kept in
+    (λ i e h. let w = (c.run_round.ensures i e h).worked in let n = w.next_grows in let l = ap length w.left_kept in
     let m = c.meet_all.ensures.idle i e (let b = c.run_round.auto.seats in omega arith) in let o = m.1 in let p =
-    m.0.left_len_kept in omega arith)
+    ap length m.0.left_kept in omega arith)
     (λ e. let w = c.run_round.ensures some.which e some.which_in in let y = some.which_left e in let n =
-    w.progress y (some.which_can e) in let l = w.worked.left_len_kept in
+    w.progress y (some.which_can e) in let l = ap length w.worked.left_kept in
     let m = c.meet_all.ensures.idle some.which e (let b = c.run_round.auto.seats in let z = some.which_in in
-    omega arith) in let o = m.1 in let p = m.0.left_len_kept in omega arith)
+    omega arith) in let o = m.1 in let p = ap length m.0.left_kept in omega arith)

@@ -1,4 +1,4 @@
-use Rattle.std.proofs.Common.{◌≡◌, ◌<◌, ◌⊎◌, length, vec_len, slice_index_or, get_or-set_same, ap, sym, ◌∙◌, subst}
+use Rattle.std.proofs.Common.{◌≡◌, ◌<◌, ◌⊎◌, length, slice_index_or, get_or-set_same, ap, sym, ◌∙◌, subst}
 use Rattle.std.proofs.Common.{arith}
 use Rattle.std.proofs.lemmas.List.{get_or_default}
 use Rattle.sdf_actor.specs.Wires.{lists}
@@ -25,7 +25,7 @@ returns-clause-stopped g c = λ e.
     let l = ap (λ (v : InHand _ _ _). length v.seats) c.self.view_is in
     let items = c.self.inside.seats.items in
     let inside : c.args.seat < length items = omega (arith, l, c.requires) in
-    subst (λ (z : Seat _ _ _). (z.next ≡ vec_len z.left) ⊎ (HasFirst g.A.Actor.steps c.self.inside.net.now z → ⊥))
+    subst (λ (z : Seat _ _ _). (z.next ≡ length z.left) ⊎ (HasFirst g.A.Actor.steps c.self.inside.net.now z → ⊥))
     (sym (get_or-set_same items c.args.seat c.work.new.seat e inside)) c.work.ensures.stopped
 
 pub returns-clause-progress : goal.returns-clause-progress
@@ -34,10 +34,10 @@ returns-clause-progress g c =
     let items = c.self.inside.seats.items in
     let inside : c.args.seat < length items = omega (arith, l, c.requires) in
     subst (λ (v : InHand _ _ _). (e : Seat _ _ _) →
-    (slice_index_or v.seats c.args.seat e).next < vec_len (slice_index_or v.seats c.args.seat e).left →
+    (slice_index_or v.seats c.args.seat e).next < length (slice_index_or v.seats c.args.seat e).left →
     HasFirst g.A.Actor.steps v.net (slice_index_or v.seats c.args.seat e) → 0 < c.work.result)
     c.self.view_is
-    (λ e. subst (λ (z : Seat _ _ _). z.next < vec_len z.left → HasFirst g.A.Actor.steps c.self.inside.net.now z →
+    (λ e. subst (λ (z : Seat _ _ _). z.next < length z.left → HasFirst g.A.Actor.steps c.self.inside.net.now z →
     0 < c.work.result)
     (c.index_mut.ensures.value ∙ get_or_default items c.args.seat c.index_mut.result.now e inside)
     c.work.ensures.progress)

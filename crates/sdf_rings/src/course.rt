@@ -1,0 +1,74 @@
+//! The list of a worker's firings.
+
+ghost use Rattle.std.specs.Prelude.{◌≡◌, ◌+◌, ◌<◌, ◌≤◌, ℕ, length, slice_index, IfOk};
+ghost use Rattle.sdf_graph.specs.Sequences.{repeated};
+
+use std::alloc::AllocError;
+use std::marker::Model;
+
+/// The stands whose firings a worker does, in order: those of a block, so many times over. It takes the room of one
+/// block.
+#[derive(Drop)]
+pub struct Course {
+    block: Vec<usize>,
+    blocks: u32,
+    len: usize,
+}
+
+impl Model for Course {
+    ghost use Rattle.std.specs.Prelude.{◌≡◌, ℕ, List, length};
+    ghost use Rattle.sdf_graph.specs.Sequences.{repeated};
+
+    ghost Value = { List ℕ };
+
+    ghost view = { λ c. repeated c.blocks c.block.items };
+
+    ghost invariant = { λ c. length (repeated c.blocks c.block.items) ≡ c.len };
+}
+
+impl Course {
+    /// So many blocks of a list. More firings than there are numbers for are more than there is memory for.
+    #[tactic(auto, using(crate::proofs::Courses::long))]
+    pub(crate) fn new(block: Vec<usize>, blocks: u32) -> Result<Course, AllocError>
+        ensures { IfOk result (λ course. course ≡ repeated blocks block.items) }
+    {
+        match block.len().checked_mul(blocks as usize) {
+            Some(len) => Ok(Course { block, blocks, len }),
+            None => Err(AllocError),
+        }
+    }
+
+    /// How many firings there are.
+    pub(crate) fn len(&self) -> usize
+        ensures { result ≡ length self.now }
+    {
+        self.len
+    }
+
+    /// The stand of a firing.
+    #[tactic(auto, using(crate::proofs::Courses::some, crate::proofs::Courses::here))]
+    pub(crate) fn stand(&self, place: usize) -> usize
+        requires { place < length self.now }
+        ensures { result ≡ slice_index self.now place }
+    {
+        self.block[place % self.block.len()]
+    }
+
+    /// How often the stand at a place stands there and in the next places of its block, up to a limit.
+    #[tactic(auto, using(crate::proofs::Courses::some, crate::proofs::Courses::row, crate::proofs::Courses::inside))]
+    pub(crate) fn in_a_row(&self, place: usize, most: usize) -> usize
+        requires { place < length self.now }
+        ensures within { result ≤ most }
+        ensures inside { place + result ≤ length self.now }
+        ensures same { (j : ℕ) → j < result → slice_index self.now place ≡ slice_index self.now (place + j) }
+    {
+        let first = place % self.block.len();
+        let many = most.min(self.block.len() - first);
+        for j in 0..many {
+            if self.block[first + j] != self.block[first] {
+                return j;
+            }
+        }
+        many
+    }
+}
