@@ -38,26 +38,32 @@ fn told<T: Threads + AllocGlobal + Clock + Clone + Drop + Sync>(
 /// A design, options, and how its run ends.
 type Row = (&'static str, &'static [&'static str], &'static str);
 
-/// The input and the first branch weigh 193 of 386, and go to one worker.
+/// A frame of the two heavy branches weighs 8,641, so much that it is work for two workers and not for three: 4,288 of it
+/// the input, the fork and the first branch, which go to one worker.
 const RUNS: &[Row] = &[
-    ("branches.toml", &["--parallel", "2"], "0 true"),
+    ("heavy.toml", &["--parallel", "2"], "0 true"),
     (
-        "branches.toml",
+        "heavy.toml",
         &["--parallel", "2", "--why"],
-        "0 2 workers, blocks of 1024 samples, at most 2.0 times\ntrue",
+        "0 2 workers, blocks of 16 samples, at most 1.9 times\ntrue",
     ),
     (
-        "branches.toml",
+        "heavy.toml",
         &["--parallel", "16", "--why"],
-        "0 16 workers, blocks of 1024 samples, at most 2.0 times\ntrue",
+        "0 2 workers, blocks of 16 samples, at most 1.9 times\ntrue",
     ),
     (
-        "branches.toml",
+        "heavy.toml",
         &["--parallel", "1", "--why"],
         "0 one thread: one worker is asked for\ntrue",
     ),
     (
-        "plain.toml",
+        "branches.toml",
+        &["--parallel", "2", "--why"],
+        "0 one thread: a frame weighs 386, too little for two workers\ntrue",
+    ),
+    (
+        "line.toml",
         &["--parallel", "4", "--why"],
         "0 one thread: workers could be at most 1.0 times as fast\ntrue",
     ),

@@ -22,6 +22,26 @@ actor = [{ name = "in", kind = "input", channel = 0 }, { name = "fork", kind = "
 link = [{ from = "in", to = "fork" }, { from = "fork:0", to = "same" }, { from = "fork:1", to = "none" },
     { from = "same", to = "add:0" }, { from = "none", to = "add:1" }, { from = "add", to = "out" }]"#;
 
+/// The same branches, each of 64 samples a frame and back, so that a frame is work enough for two workers.
+const HEAVY: &str = r#"format = 1
+actor = [{ name = "in", kind = "input", channel = 0 }, { name = "fork", kind = "fork", ways = 2 },
+    { name = "up", kind = "interpolate", factor = 64 }, { name = "same", kind = "decimate", factor = 64 },
+    { name = "high", kind = "interpolate", factor = 64 }, { name = "low", kind = "decimate", factor = 64 },
+    { name = "none", kind = "gain", gain = 0, shift = 0 },
+    { name = "add", kind = "add", ways = 2 }, { name = "out", kind = "output", channel = 0 }]
+link = [{ from = "in", to = "fork" }, { from = "fork:0", to = "up" }, { from = "up", to = "same" },
+    { from = "fork:1", to = "high" }, { from = "high", to = "low" }, { from = "low", to = "none" },
+    { from = "same", to = "add:0" }, { from = "none", to = "add:1" }, { from = "add", to = "out" }]"#;
+
+/// As much work in one line, in which each actor alone feeds the next.
+const LINE: &str = r#"format = 1
+actor = [{ name = "in", kind = "input", channel = 0 },
+    { name = "up", kind = "interpolate", factor = 64 }, { name = "same", kind = "decimate", factor = 64 },
+    { name = "high", kind = "interpolate", factor = 64 }, { name = "low", kind = "decimate", factor = 64 },
+    { name = "out", kind = "output", channel = 0 }]
+link = [{ from = "in", to = "up" }, { from = "up", to = "same" }, { from = "same", to = "high" },
+    { from = "high", to = "low" }, { from = "low", to = "out" }]"#;
+
 /// Each end of the one link moves other numbers of samples.
 const BLOCKS: &str = r#"format = 1
 actor = [{ name = "in", kind = "input", channel = 0, block = 2 },
@@ -88,12 +108,14 @@ values = [1]
 ";
 
 /// The graph files and coefficient files of the tests.
-const TEXTS: [(&str, &str); 22] = [
+const TEXTS: [(&str, &str); 24] = [
     ("plain.toml", PLAIN),
     ("-", PLAIN),
     ("commented.toml", COMMENTED),
     ("begun.toml", BEGUN),
     ("branches.toml", BRANCHES),
+    ("heavy.toml", HEAVY),
+    ("line.toml", LINE),
     ("blocks.toml", BLOCKS),
     ("long.toml", LONG),
     ("stuck.toml", STUCK),

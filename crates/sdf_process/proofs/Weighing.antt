@@ -18,7 +18,7 @@ use Rattle.sdf_file.specs.Designs.{DesignValue, IsDesign}
 use Rattle.sdf_prec.specs.Costs.{IsCost}
 use Rattle.sdf_process.specs.Placements.{rates_of}
 use Rattle.sdf_prec.specs.Spread.{AreLoads}
-use Rattle.sdf_process.specs.Weights.{as_cost, load_of, firing_weight, is_free_of_costs, weights_of}
+use Rattle.sdf_process.specs.Weights.{as_cost, load_of, firing_weight, weights_by}
 
 -- one more weight
 pub one_more : (f : ℕ → ℕ) (n : ℕ) (xs : List ℕ) (x : ℕ) → xs ≡ map f (range_with_len 0 n) → x ≡ f n →
@@ -39,9 +39,10 @@ chosen : (free : Bool) (x y : ℕ) → IsCost x → IsCost y → IsCost (if free
 chosen true x y one other = one
 chosen false x y one other = other
 
-weight_is_cost : (d : DesignValue) (a : ℕ) → IsDesign d → a < length d.net.nodes → IsCost (firing_weight d a)
-weight_is_cost d a is known =
-    chosen (is_free_of_costs d) (load_of (node d.net a)) (slice_index d.costs a) (load_is_cost (node d.net a))
+weight_is_cost : (d : DesignValue) (by_kind : Bool) (a : ℕ) → IsDesign d → a < length d.net.nodes →
+    IsCost (firing_weight d by_kind a)
+weight_is_cost d by_kind a is known =
+    chosen by_kind (load_of (node d.net a)) (slice_index d.costs a) (load_is_cost (node d.net a))
     (is.priced.each a known)
 
 -- some firings of some weight, both within their limits
@@ -51,12 +52,12 @@ weighed q w some few cost =
     let least : 1 * 1 ≤ q * w = mul-le-mul one cost.0 in
     (omega (arith, least), mul-le-mul few cost.1)
 
-module _ (d : DesignValue) (s : Schedule) (is : IsDesign d) (period : IsPeriodOf (rates_of d) s)
+module _ (d : DesignValue) (by_kind : Bool) (s : Schedule) (is : IsDesign d) (period : IsPeriodOf (rates_of d) s)
     (few : length d.net.nodes ≤ MOST_ACTORS) where
   abbrev weight : ℕ → ℕ
-  weight a = slice_index s.repetitions a * firing_weight d a
+  weight a = slice_index s.repetitions a * firing_weight d by_kind a
 
-  at : (a : ℕ) → a < length d.net.nodes → slice_index (weights_of d s.repetitions) a ≡ weight a
+  at : (a : ℕ) → a < length d.net.nodes → slice_index (weights_by d by_kind s.repetitions) a ≡ weight a
   at a known = get_or-map-range_with_len weight 0 (length d.net.nodes) a a 0 known (omega arith)
 
   within : (a : ℕ) → a < length d.net.nodes → (0 < weight a) × (weight a ≤ MOST_BLOCK * MOST_COST)
@@ -67,18 +68,18 @@ module _ (d : DesignValue) (s : Schedule) (is : IsDesign d) (period : IsPeriodOf
         period.within,
         get_or-le-sum_by (λ q. q) s.repetitions a 0 (omega (arith, period.least.is.all, known)),
       ) in
-      weighed (slice_index s.repetitions a) (firing_weight d a) (period.least.is.positive a known) firings
-      (weight_is_cost d a is known)
+      weighed (slice_index s.repetitions a) (firing_weight d by_kind a) (period.least.is.positive a known) firings
+      (weight_is_cost d by_kind a is known)
 
   small : (a : ℕ) → (a < length d.net.nodes) ⊎ (length d.net.nodes ≤ a) →
-      slice_index (weights_of d s.repetitions) a ≤ MOST_BLOCK * MOST_COST
+      slice_index (weights_by d by_kind s.repetitions) a ≤ MOST_BLOCK * MOST_COST
   small a (inl known) = subst (λ w. w ≤ MOST_BLOCK * MOST_COST) (sym (at a known)) (within a known).1
   small a (inr past) =
-      let none : slice_index (weights_of d s.repetitions) a ≡ 0 = get_or_past (weights_of d s.repetitions) a 0
+      let none : slice_index (weights_by d by_kind s.repetitions) a ≡ 0 = get_or_past (weights_by d by_kind s.repetitions) a 0
       (subst (λ n. n ≤ a) (sym (length-map-range_with_len weight 0 (length d.net.nodes))) past) in
       omega (arith, none)
 
-  pub are_loads : AreLoads (length d.net.nodes) (weights_of d s.repetitions)
+  pub are_loads : AreLoads (length d.net.nodes) (weights_by d by_kind s.repetitions)
   are_loads = record {
     all = length-map-range_with_len weight 0 (length d.net.nodes);
     few = few;

@@ -1,5 +1,5 @@
 -- Runs in parallel: by several workers where these can be faster, and else in one thread.
-use Rattle.std.specs.Prelude.{◌≡◌, ℕ, ◌*◌, ◌/◌, ◌<◌, ◌≤◌, length, Some}
+use Rattle.std.specs.Prelude.{◌≡◌, ◌≢◌, ℕ, ◌*◌, ◌/◌, ◌<◌, ◌≤◌, length, min, Some}
 use Rattle.sdf_prec.specs.Tables.{Tabled}
 use Rattle.sdf_file.specs.Designs.{DesignValue}
 use Rattle.sdf_options.specs.declared.options.Options.{Options}
@@ -9,12 +9,12 @@ use Rattle.sdf_options.specs.declared.options.Runner.TheVariants.{One, Rings}
 use Rattle.sdf_process.specs.declared.fault.Fault.{Fault}
 use Rattle.sdf_process.specs.declared.fault.Fault.TheVariants.{OutOfMemory}
 use Rattle.sdf_process.specs.declared.parallel.Pace.{Pace}
-use Rattle.sdf_process.specs.declared.parallel.Pace.TheVariants.{Crew, Slow, Alone, Unplanned}
-use Rattle.sdf_process.specs.declared.parallel.TheConstants.{CREW_PATIENCE, LEAST_TENTHS}
+use Rattle.sdf_process.specs.declared.parallel.Pace.TheVariants.{Crew, Slow, Light, Alone, Unplanned}
+use Rattle.sdf_process.specs.declared.parallel.TheConstants.{CREW_PATIENCE, LEAST_SHARE, LEAST_TENTHS}
 use Rattle.sdf_process.specs.Output.{exchange_of}
 use Rattle.sdf_process.specs.Plans.{PlanValue, IsPlanOf, IsPlanFault}
 use Rattle.sdf_prec.specs.Spread.{weight_to, IsHeaviest}
-use Rattle.sdf_process.specs.Weights.{weights_of}
+use Rattle.sdf_process.specs.Weights.{frame_weight, weights_of}
 
 -- the options of a run by several workers
 abbrev pub crew_options : ℕ → Options
@@ -47,21 +47,29 @@ pub record HasSpeed (d : DesignValue) (workers : ℕ) (p : PlanValue) (tenths : 
   pub heaviest : IsHeaviest (weights_of d p.period.repetitions) table.homes workers most
   pub speed : tenths ≡ 10 * weight_to (weights_of d p.period.repetitions) (length d.net.nodes) / most
 
+-- for how many of m workers a frame is enough work, by the period of a plan
+abbrev pub crew_of : DesignValue → ℕ → PlanValue → ℕ
+crew_of d m p = min m (frame_weight d p.period.repetitions / LEAST_SHARE)
+
 -- there is no plan by these options, but memory was not refused
 abbrev pub IsUnplanned : DesignValue → Options → Type 0
 IsUnplanned d o = (f : Fault) × IsPlanFault d o f × (f ≡ OutOfMemory → ⊥)
 
--- why a run is in one thread: several workers can't be fast enough, only one is asked for, or there is no plan for them
-abbrev pub IsReason : DesignValue → ℕ → Pace → Type 0
-IsReason d m (Slow tenths) =
-    ((c : PlanValue) × IsPlanOf d (crew_options m) c × HasSpeed d m c tenths) × (tenths < LEAST_TENTHS)
-IsReason d m Alone = m ≡ 1
-IsReason d m Unplanned = IsUnplanned d (crew_options m)
-IsReason d m pace = ⊥
+-- why a run by the plan for one thread is in one thread: as many workers as have enough work can't be fast enough, a
+-- frame is too little work for two, only one is asked for, or there is no plan for them
+abbrev pub IsReason : DesignValue → ℕ → PlanValue → Pace → Type 0
+IsReason d m p (Slow tenths) =
+    (2 ≤ crew_of d m p) × ((c : PlanValue) × IsPlanOf d (crew_options (crew_of d m p)) c
+    × HasSpeed d (crew_of d m p) c tenths) × (tenths < LEAST_TENTHS)
+IsReason d m p (Light weight) = (weight ≡ frame_weight d p.period.repetitions) × (crew_of d m p < 2) × (m ≢ 1)
+IsReason d m p Alone = m ≡ 1
+IsReason d m p Unplanned = (2 ≤ crew_of d m p) × IsUnplanned d (crew_options (crew_of d m p))
+IsReason d m p pace = ⊥
 
--- the plan is as it is told: for so many workers that can be fast enough, or for one thread
+-- the plan is as it is told: for as many workers as have enough work, which can be fast enough, or for one thread
 abbrev pub IsPaced : DesignValue → ℕ → PlanValue → Pace → Type 0
 IsPaced d m p (Crew workers samples tenths) =
-    IsPlanOf d (crew_options m) p × (workers ≡ m) × HasSpeed d m p tenths × (LEAST_TENTHS ≤ tenths)
+    ((alone : PlanValue) × IsPlanOf d one_thread alone × (workers ≡ crew_of d m alone)) × (2 ≤ workers)
+    × IsPlanOf d (crew_options workers) p × HasSpeed d workers p tenths × (LEAST_TENTHS ≤ tenths)
     × (samples ≡ p.blocking * (exchange_of d.net p.period.repetitions).taken)
-IsPaced d m p pace = IsPlanOf d one_thread p × IsReason d m pace
+IsPaced d m p pace = IsPlanOf d one_thread p × IsReason d m p pace

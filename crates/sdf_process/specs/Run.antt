@@ -198,9 +198,14 @@ writer_failures result failures = failures
 -- all that a run's answer says of the two devices, whatever was to be run
 pub record Handles {X : Type 0} (read left before after : Option (List ℕ)) (r r' w w' : ℕ)
     (result : Result X Fault) : Type 0 where
+  -- whatever is known of the bytes, no other fault comes
   pub faults : IfErr result IsProcessFault
+  -- nothing behind the samples is read, and no sample before all tests that come before them
   pub leaves : Leaves read left result
+  -- whatever the reader tells, one canonical file is written, or a front of one where the run stopped behind its
+  -- header, or nothing
   pub writes : WritesFile before after result
+  -- a device is blamed exactly where it failed in this call, and after its first failure it is not called again
   pub reader : r' ≡ reader_failures result r
   pub writer : w' ≡ writer_failures result w
 
@@ -215,16 +220,19 @@ Refuses None (Err e) = IsFromOutside e
 Refuses (Some f) (Ok x) = ⊥
 Refuses (Some f) (Err e) = (e ≡ f) ⊎ IsFromOutside e
 
--- All that a run's answer says: what is answered is so; what is so is answered, unless memory or a device failed; and
--- the devices.
+-- all that a run's answer says
 pub record IsRun (n : Netlist Kit ℤ) (q : List ℕ) (read left before after : Option (List ℕ)) (r r' w w' : ℕ)
     (result : Result (Unit {0}) Fault) : Type 0 where
+  -- what is answered is so, where the reader's bytes are known
   pub runs : WhereKnown read (λ input. Runs n q input before after result)
+  -- what is so is answered, unless memory or a device failed
   pub accepts : (input : List ℕ) (s : Sound) (rest : List ℕ) → read ≡ Some input → IsWav input s rest →
       Refuses (output_fault (exchange_of n q) s) result
+  -- the output's fault comes first where the size of the data says how long it would be, and else a fault of the input
   pub foresees : (input : List ℕ) (f : Format) (size : ℕ) (rest : List ℕ) (e : Fault) → read ≡ Some input →
       Opens input f size rest → size ≢ 0xFFFFFFFF →
       announced_fault (exchange_of n q) (announced_size f size) ≡ Some e → Refuses (Some e) result
   pub refuses : (input : List ℕ) (f : FormatFault) → read ≡ Some input → HasFault input f →
       IsAllowed (exchange_of n q) input → Refuses (Some (Wav f)) result
+  -- the devices
   pub devices : Handles read left before after r r' w w' result

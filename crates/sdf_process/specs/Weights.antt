@@ -1,5 +1,5 @@
 -- What the actors of a design weigh, by which they are spread over workers.
-use Rattle.std.specs.Prelude.{ℕ, ◌+◌, ◌*◌, Bool, ◌==◌, min, max, if◌then◌else◌, List, length, map, slice_index}
+use Rattle.std.specs.Prelude.{ℕ, ◌+◌, ◌*◌, ◌/◌, Bool, true, ◌==◌, min, max, if◌then◌else◌, List, length, map, slice_index}
 use Rattle.std.specs.List.{list_all, range_with_len}
 use Rattle.sdf_limits.specs.declared.TheConstants.{MOST_COST}
 use Rattle.sdf_actor.specs.Nets.{node}
@@ -12,6 +12,8 @@ use Rattle.sdf_kit.specs.declared.kit.Kit.TheVariants.{Fir}
 use Rattle.sdf_kit.specs.declared.ports.Side.{Side}
 use Rattle.sdf_kit.specs.declared.ports.Side.TheVariants.{Every, InTurn}
 use Rattle.sdf_file.specs.Designs.{DesignValue}
+use Rattle.sdf_prec.specs.Spread.{weight_to}
+use Rattle.sdf_process.specs.Output.{exchange_of}
 use Rattle.sdf_process.specs.declared.weights.TheConstants.{SAMPLE_WEIGHT}
 
 -- the samples that a firing moves at all ports of a side
@@ -40,10 +42,18 @@ load_of (Inner kit) =
 abbrev pub is_free_of_costs : DesignValue → Bool
 is_free_of_costs d = list_all (λ cost. cost == 1) d.costs
 
--- what a firing of actor a weighs: its cost, where the design gives costs, and else what its node does
-abbrev pub firing_weight : DesignValue → ℕ → ℕ
-firing_weight d a = if is_free_of_costs d then load_of (node d.net a) else slice_index d.costs a
+-- what a firing of actor a weighs: what its node does, or its cost
+abbrev pub firing_weight : DesignValue → Bool → ℕ → ℕ
+firing_weight d by_kind a = if by_kind then load_of (node d.net a) else slice_index d.costs a
 
 -- what the firings of each actor in a period weigh
+abbrev pub weights_by : DesignValue → Bool → List ℕ → List ℕ
+weights_by d by_kind q = map (λ a. slice_index q a * firing_weight d by_kind a) (range_with_len 0 (length d.net.nodes))
+
+-- by costs where the design gives them, and else by what the nodes do
 abbrev pub weights_of : DesignValue → List ℕ → List ℕ
-weights_of d q = map (λ a. slice_index q a * firing_weight d a) (range_with_len 0 (length d.net.nodes))
+weights_of d q = weights_by d (is_free_of_costs d) q
+
+-- what the nodes do in a period for each frame that it reads
+abbrev pub frame_weight : DesignValue → List ℕ → ℕ
+frame_weight d q = weight_to (weights_by d true q) (length d.net.nodes) / (exchange_of d.net q).taken

@@ -1,14 +1,14 @@
 //! A plan for several workers, where these can be faster than one thread.
 
-ghost use Rattle.std.specs.Prelude.{◌≡◌, ◌↔◌, ℕ, length, IsTrue, MatchResult, IfOk};
-ghost use Rattle.sdf_process.specs.Paces.{crew_options, one_thread, HasSpeed, IsPaced, IsReason};
+ghost use Rattle.std.specs.Prelude.{◌≡◌, ◌≤◌, ◌/◌, ◌↔◌, ℕ, length, min, IsTrue, MatchResult, IfOk};
+ghost use Rattle.sdf_process.specs.Paces.{crew_of, crew_options, one_thread, HasSpeed, IsPaced};
 ghost use Rattle.sdf_process.specs.Plans.{IsPlanOf, IsPlanFault, IsWorkers, Suits};
 ghost use Rattle.sdf_process.specs.declared.fault.Fault.TheVariants.{OutOfMemory};
 
 use crate::fault::Fault;
 use crate::plan::Plan;
 use crate::planning::plan;
-use crate::weights::weights;
+use crate::weights::{frame_weight, weights};
 use sdf_file::Design;
 use sdf_options::{Options, Placement, Policy, Runner};
 use sdf_prec::Table;
@@ -21,10 +21,14 @@ pub const CREW_PATIENCE: u32 = 100_000;
 /// As many tenths of the speed of one thread several workers must be able to reach.
 pub const LEAST_TENTHS: u64 = 12;
 
+/// What a frame must weigh for each worker: less is sooner done than handed over.
+pub const LEAST_SHARE: u64 = 4_096;
+
 /// How a design is run where it is to be run in parallel.
 #[derive(Clone, Copy, Debug, PartialEq, Eq)]
 pub enum Pace {
-    /// By so many workers, in blocks of so many samples of each input; at most so many tenths as fast as by one.
+    /// By so many workers, as many as are asked for and a frame is enough work for, in blocks of so many samples of each
+    /// input; at most so many tenths as fast as by one.
     Crew {
         workers: usize,
         samples: u64,
@@ -33,6 +37,10 @@ pub enum Pace {
     /// In one thread: the workers could be only so many tenths as fast as one.
     Slow {
         tenths: u64,
+    },
+    /// In one thread: by its weight a frame is too little work for two workers.
+    Light {
+        weight: u64,
     },
     /// In one thread: one worker is asked for.
     Alone,
@@ -61,14 +69,11 @@ fn crew_options(workers: usize) -> Options
     }
 }
 
-/// A plan for one thread, where this is the reason.
-fn in_one_thread(alloc: Global, design: &Design, pace: Pace) -> Result<Paced, Fault>
-    ensures answers { (workers : ℕ) → IsReason design.now workers pace →
-        MatchResult result (λ p. IsPaced design.now workers p.plan p.pace) (IsPlanFault design.now one_thread) }
-    ensures suits { IfOk result (λ p. Suits design.now.net p.plan) }
+/// For how many of so many workers a frame of some weight is enough work.
+fn fed(workers: usize, weight: u64) -> usize
+    ensures { result ≡ min workers (weight / LEAST_SHARE) }
 {
-    let plan = plan(alloc, design, &Options::DEFAULT)?;
-    Ok(Paced { plan, pace })
+    (weight / LEAST_SHARE).min(workers as u64) as usize
 }
 
 /// The homes of so many actors by a table.
@@ -100,22 +105,34 @@ fn tenths_of(alloc: Global, design: &Design, workers: usize, plan: &Plan) -> Res
     Ok((10 * all).checked_div(most).unwrap_or(0))
 }
 
-/// A plan for several workers where these can be fast enough, and else one for one thread.
-fn by_crew(alloc: Global, design: &Design, workers: usize, plan: Plan) -> Result<Paced, Fault>
-    requires plan { IsPlanOf design.now (crew_options workers) plan }
+/// The plan for several workers where these can be fast enough, and else that for one thread.
+fn by_crew(
+    alloc: Global,
+    design: &Design,
+    crew: usize,
+    plan: Plan,
+    alone: Plan,
+) -> Result<Paced, Fault>
+    requires plan { IsPlanOf design.now (crew_options crew) plan }
     requires suits { Suits design.now.net plan }
-    requires workers { IsWorkers workers }
-    ensures answers { MatchResult result (λ p. IsPaced design.now workers p.plan p.pace)
-        (IsPlanFault design.now one_thread) }
+    requires alone { IsPlanOf design.now one_thread alone }
+    requires alone_suits { Suits design.now.net alone }
+    requires crew { IsWorkers crew }
+    requires some { 2 ≤ crew }
+    ensures answers { (workers : ℕ) → crew ≡ crew_of design.now workers alone →
+        MatchResult result (λ p. IsPaced design.now workers p.plan p.pace) (IsPlanFault design.now one_thread) }
     ensures suits { IfOk result (λ p. Suits design.now.net p.plan) }
 {
-    let tenths = tenths_of(alloc, design, workers, &plan)?;
+    let tenths = tenths_of(alloc, design, crew, &plan)?;
     if tenths < LEAST_TENTHS {
-        return in_one_thread(alloc, design, Pace::Slow { tenths });
+        return Ok(Paced {
+            plan: alone,
+            pace: Pace::Slow { tenths },
+        });
     }
     let samples = u64::from(plan.blocking()) * design.net().samples_in() as u64;
     let pace = Pace::Crew {
-        workers,
+        workers: crew,
         samples,
         tenths,
     };
@@ -129,22 +146,28 @@ fn is_want_of_memory(fault: &Fault) -> bool
     matches!(fault, Fault::OutOfMemory)
 }
 
-/// A plan for one thread, where there is none for the workers, unless memory was refused.
-fn unplanned(alloc: Global, design: &Design, workers: usize, fault: Fault) -> Result<Paced, Fault>
-    requires { IsPlanFault design.now (crew_options workers) fault }
-    ensures answers { MatchResult result (λ p. IsPaced design.now workers p.plan p.pace)
-        (IsPlanFault design.now one_thread) }
+/// The plan for one thread, where there is none for the workers, unless memory was refused.
+fn unplanned(design: &Design, crew: usize, fault: Fault, alone: Plan) -> Result<Paced, Fault>
+    requires fault { IsPlanFault design.now (crew_options crew) fault }
+    requires alone { IsPlanOf design.now one_thread alone }
+    requires alone_suits { Suits design.now.net alone }
+    requires some { 2 ≤ crew }
+    ensures answers { (workers : ℕ) → crew ≡ crew_of design.now workers alone →
+        MatchResult result (λ p. IsPaced design.now workers p.plan p.pace) (IsPlanFault design.now one_thread) }
     ensures suits { IfOk result (λ p. Suits design.now.net p.plan) }
 {
     if is_want_of_memory(&fault) {
         return Err(Fault::OutOfMemory);
     }
-    in_one_thread(alloc, design, Pace::Unplanned)
+    Ok(Paced {
+        plan: alone,
+        pace: Pace::Unplanned,
+    })
 }
 
-/// Plans a run by so many workers over rings, at homes by which the weight of the actors is spread and in long blocks,
-/// where these can be 1.2 times as fast as one by what the actors weigh; and else a run in one thread. A fault is one
-/// of a plan for one thread.
+/// Plans a run over rings by so many workers, or by as many fewer as a frame is enough work for, at homes by which the
+/// weight of the actors is spread and in long blocks, where these can be 1.2 times as fast as one by what the actors
+/// weigh; and else a run in one thread. A fault is one of a plan for one thread.
 pub fn parallel_plan(alloc: Global, design: &Design, workers: usize) -> Result<Paced, Fault>
     requires { IsWorkers workers }
 
@@ -155,11 +178,23 @@ pub fn parallel_plan(alloc: Global, design: &Design, workers: usize) -> Result<P
     // The plan is one of the design's.
     ensures suits { IfOk result (λ p. Suits design.now.net p.plan) }
 {
+    let alone = plan(alloc, design, &Options::DEFAULT)?;
     if workers == 1 {
-        return in_one_thread(alloc, design, Pace::Alone);
+        return Ok(Paced {
+            plan: alone,
+            pace: Pace::Alone,
+        });
     }
-    match plan(alloc, design, &crew_options(workers)) {
-        Ok(plan) => by_crew(alloc, design, workers, plan),
-        Err(fault) => unplanned(alloc, design, workers, fault),
+    let weight = frame_weight(alloc, design, alone.period())?;
+    let crew = fed(workers, weight);
+    if crew < 2 {
+        return Ok(Paced {
+            plan: alone,
+            pace: Pace::Light { weight },
+        });
+    }
+    match plan(alloc, design, &crew_options(crew)) {
+        Ok(plan) => by_crew(alloc, design, crew, plan, alone),
+        Err(fault) => unplanned(design, crew, fault, alone),
     }
 }

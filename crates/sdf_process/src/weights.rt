@@ -8,13 +8,14 @@ ghost use Rattle.sdf_kit.specs.Ports.{IsSide};
 ghost use Rattle.sdf_sched.specs.Period.{IsPeriodOf};
 ghost use Rattle.sdf_process.specs.Placements.{rates_of};
 ghost use Rattle.sdf_process.specs.Weights.{moved_by, products_of, as_cost, load_of, is_free_of_costs};
-ghost use Rattle.sdf_process.specs.Weights.{firing_weight, weights_of};
+ghost use Rattle.sdf_process.specs.Weights.{firing_weight, weights_by, weights_of, frame_weight};
 ghost use Rattle.sdf_prec.specs.Spread.{AreLoads};
 
 use sdf_actor::Node;
 use sdf_file::Design;
 use sdf_kit::{Kit, Side};
 use sdf_limits::MOST_COST;
+use sdf_prec::spread::weight_to;
 use sdf_sched::Period;
 use std::alloc::{AllocError, Global};
 
@@ -76,19 +77,39 @@ fn is_free_of_costs(design: &Design) -> bool
     design.costs().iter().all(|cost| *cost == 1)
 }
 
-/// What a firing of an actor weighs.
-fn firing_weight(design: &Design, free: bool, actor: usize) -> u64
+/// What a firing of an actor weighs: by its kind, or as its cost.
+fn firing_weight(design: &Design, by_kind: bool, actor: usize) -> u64
     requires known { actor < length design.now.net.nodes }
-    requires free { free ≡ is_free_of_costs design.now }
-    ensures is { result ≡ firing_weight design.now actor }
+    ensures is { result ≡ firing_weight design.now by_kind actor }
     ensures few { result ≤ MOST_COST }
 {
     let net = design.net();
-    if free {
+    if by_kind {
         load_of(net.node(actor))
     } else {
         u64::from(design.costs()[actor])
     }
+}
+
+/// What the firings of each actor in a period weigh: by kinds, or as their costs.
+fn weights_by(
+    alloc: Global,
+    design: &Design,
+    period: &Period,
+    by_kind: bool,
+) -> Result<Vec<u64>, AllocError>
+    requires { IsPeriodOf (rates_of design.now) period.now }
+    ensures are { IfOk result (λ v. v.items ≡ weights_by design.now by_kind period.now.repetitions) }
+    ensures loads { IfOk result (λ v. AreLoads (length design.now.net.nodes) v.items) }
+{
+    let net = design.net();
+    net.graph().channels();
+    let repetitions = period.repetitions();
+    let mut weights = Vec::new(alloc);
+    for actor in 0..net.len() {
+        weights.push(u64::from(repetitions[actor]) * firing_weight(design, by_kind, actor))?;
+    }
+    Ok(weights)
 }
 
 /// What the firings of each actor in a period weigh: of a firing its cost, where the design gives some cost above 1,
@@ -102,13 +123,19 @@ pub(crate) fn weights(
     ensures are { IfOk result (λ v. v.items ≡ weights_of design.now period.now.repetitions) }
     ensures loads { IfOk result (λ v. AreLoads (length design.now.net.nodes) v.items) }
 {
+    weights_by(alloc, design, period, is_free_of_costs(design))
+}
+
+/// What the firings of a period weigh by their kinds for each frame that it reads.
+pub(crate) fn frame_weight(
+    alloc: Global,
+    design: &Design,
+    period: &Period,
+) -> Result<u64, AllocError>
+    requires { IsPeriodOf (rates_of design.now) period.now }
+    ensures { IfOk result (λ weight. weight ≡ frame_weight design.now period.now.repetitions) }
+{
+    let loads = weights_by(alloc, design, period, true)?;
     let net = design.net();
-    net.graph().channels();
-    let free = is_free_of_costs(design);
-    let repetitions = period.repetitions();
-    let mut weights = Vec::new(alloc);
-    for actor in 0..net.len() {
-        weights.push(u64::from(repetitions[actor]) * firing_weight(design, free, actor))?;
-    }
-    Ok(weights)
+    Ok(weight_to(&loads, net.len()) / net.samples_in() as u64)
 }

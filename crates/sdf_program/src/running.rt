@@ -171,6 +171,9 @@ fn pace_text(alloc: Global, pace: Pace) -> Result<String, AllocError> {
                 "one thread: workers could be at most {whole}.{tenth} times as fast\n"
             )
         }
+        Pace::Light { weight } => {
+            format!(in alloc; "one thread: a frame weighs {weight}, too little for two workers\n")
+        }
         Pace::Alone => String::from_str(alloc, "one thread: one worker is asked for\n"),
         Pace::Unplanned => String::from_str(
             alloc,

@@ -2,26 +2,10 @@ use Rattle.std.proofs.Common.{subst}
 use Rattle.sdf_process.specs.Run.{IsRun}
 use Rattle.sdf_process.proofs.process.process_with.Goals as goal
 
-pub returns-clause-accepts : goal.returns-clause-accepts
-returns-clause-accepts g c =
-    (subst (λ n. IsRun n c.args.plan.now.period.repetitions (g.R.Reader.remaining c.args.reader.now)
+pub returns : goal.returns
+returns g c =
+    subst (λ n. IsRun n c.args.plan.now.period.repetitions (g.R.Reader.remaining c.args.reader.now)
     (g.R.Reader.remaining c.run_net.new.reader) (g.W.Writer.contents c.args.writer.now)
     (g.W.Writer.contents c.run_net.new.writer) (g.R.Reader.failures c.args.reader.now)
     (g.R.Reader.failures c.run_net.new.reader) (g.W.Writer.failures c.args.writer.now)
-    (g.W.Writer.failures c.run_net.new.writer) c.run_net.result) c.net.ensures.value c.run_net.ensures).accepts
-
-pub returns-clause-foresees : goal.returns-clause-foresees
-returns-clause-foresees g c =
-    (subst (λ n. IsRun n c.args.plan.now.period.repetitions (g.R.Reader.remaining c.args.reader.now)
-    (g.R.Reader.remaining c.run_net.new.reader) (g.W.Writer.contents c.args.writer.now)
-    (g.W.Writer.contents c.run_net.new.writer) (g.R.Reader.failures c.args.reader.now)
-    (g.R.Reader.failures c.run_net.new.reader) (g.W.Writer.failures c.args.writer.now)
-    (g.W.Writer.failures c.run_net.new.writer) c.run_net.result) c.net.ensures.value c.run_net.ensures).foresees
-
-pub returns-clause-refuses : goal.returns-clause-refuses
-returns-clause-refuses g c =
-    (subst (λ n. IsRun n c.args.plan.now.period.repetitions (g.R.Reader.remaining c.args.reader.now)
-    (g.R.Reader.remaining c.run_net.new.reader) (g.W.Writer.contents c.args.writer.now)
-    (g.W.Writer.contents c.run_net.new.writer) (g.R.Reader.failures c.args.reader.now)
-    (g.R.Reader.failures c.run_net.new.reader) (g.W.Writer.failures c.args.writer.now)
-    (g.W.Writer.failures c.run_net.new.writer) c.run_net.result) c.net.ensures.value c.run_net.ensures).refuses
+    (g.W.Writer.failures c.run_net.new.writer) c.run_net.result) c.net.ensures.value c.run_net.ensures
