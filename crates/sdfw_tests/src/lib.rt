@@ -35,6 +35,8 @@ mod pieces;
 #[cfg(test)]
 mod rings;
 #[cfg(test)]
+mod roomy_plans;
+#[cfg(test)]
 mod rows;
 #[cfg(test)]
 mod running;

@@ -1,0 +1,89 @@
+//! Rings that take several blocks: so far a worker runs ahead of its neighbour, and no further.
+
+ghost use Rattle.sdf_graph.specs.Rates.{rates};
+ghost use Rattle.sdf_sched.specs.Period.{IsPeriodOf};
+ghost use Rattle.sdf_actor.specs.Graphs.{graph_of};
+ghost use Rattle.sdf_answer.specs.Rows.{IsTableOf};
+
+use crate::nets::{feed_twice, list, pair, planned};
+use sdf_actor::{Actor, Net};
+use sdf_prec::Table;
+use sdf_run::Mode;
+use sdf_sched::Period;
+use std::alloc::Global;
+use std::test::Fail;
+use std::thread::Threads;
+use test_actors::gates::{Hold, MANY_TURNS, Watch};
+use test_texts::row_says;
+
+/// Holds the sink's first firing, before it takes a sample, until the source has begun its firing of this number.
+fn until(firing: u64) -> Hold<'static> {
+    Hold {
+        held: &[1],
+        first: 0,
+        many: 1,
+        awaited: &[0],
+        ahead: firing,
+        turns: MANY_TURNS,
+    }
+}
+
+/// How many firings were held in vain, and how many did not pass in turn.
+fn told(alloc: Global, watch: &Watch) -> Result<String, Fail> {
+    Ok(format!(in alloc; "{} in vain, {} odd", watch.missed(), watch.odd())?)
+}
+
+/// The same where a session over rings of so many blocks is fed two pieces of eight.
+fn told_of_feeds<R: Threads + AllocGlobal + Sync, A: Actor<Token = i64>>(
+    rt: &R,
+    net: &Net<A>,
+    plan: &(Period, Table),
+    rooms: u32,
+    hold: Hold<'static>,
+) -> Result<String, Fail>
+    requires period { IsPeriodOf (rates (graph_of A.steps net.now)) plan.now.0 }
+    requires table { IsTableOf (rates (graph_of A.steps net.now)) plan.now.0.repetitions 1 plan.now.1 }
+{
+    let inputs = list(rt.alloc(), &[7i64; 8])?;
+    let watch = Watch::new(rt.alloc(), 2, 2, hold)?;
+    let mode = Mode::Rings { patience: 0, rooms };
+    feed_twice(rt, net, plan, 1, mode, &inputs, &watch)?;
+    told(rt.alloc(), &watch)
+}
+
+/// How many blocks the ring takes, and the source's last firing that it has room for while the sink is held.
+const ROOMS: &[(&str, u32, u64)] = &[("one block", 1, 0), ("three blocks", 3, 2)];
+
+/// Whether the source begins that firing while the sink is held, in each of two feeds, and not the next one.
+fn so_far_and_no_further<R: Threads + AllocGlobal + Sync, A: Actor<Token = i64>>(
+    rt: &R,
+    net: &Net<A>,
+) -> Result<(), Fail> {
+    let plan = planned(rt.alloc(), net, 1, 2, true)?;
+    for (name, rooms, last) in ROOMS {
+        row_says(
+            name,
+            told_of_feeds(rt, net, &plan, *rooms, until(*last)),
+            "0 in vain, 0 odd",
+        )?;
+        row_says(
+            name,
+            told_of_feeds(
+                rt,
+                net,
+                &plan,
+                *rooms,
+                until(last.wrapping_add(1)).in_vain(),
+            ),
+            "2 in vain, 0 odd",
+        )?;
+    }
+    Ok(())
+}
+
+/// A block is one firing of each, and the table's capacity one sample. Refuses a ring of one block in place of three, as
+/// by 1 for `rooms.max(1)` in `Session`.
+#[test]
+fn a_worker_runs_ahead(rt: HostRuntime) -> Result<(), Fail> {
+    so_far_and_no_further(&rt, &pair(rt.alloc(), 1, 1, &[])?)
+}
