@@ -25,6 +25,9 @@ def run_words(design, sound, runner, *more):
 RUNS = [("chain", "chain.toml", "short.wav", [], 320), ("loop", "loop.toml", "few.wav", [], 2),
         ("pieces", "pieces.toml", "long.wav", ["--blocking", "4"], 2048)]
 
+# That of a design that is spread over two workers.
+SPREAD = [("heavy", "heavy.toml", "long.wav", [], 2)]
+
 # What is printed, and the words that ask for it.
 PRINTED = [
     ("check", ["check", "chain.toml"]),
@@ -100,10 +103,13 @@ def with_no_thread(words, period):
 
 
 def parallel_of_sdfw(lists):
-    """Runs that are to be sooner: by workers where these can be faster, with rooms and pieces of many blocks."""
-    for name, design, sound, _, period in RUNS:
+    """Runs that are to be sooner: by one thread, and by workers where these can be faster, with rooms and pieces of many
+    blocks."""
+    for name, design, sound, _, period in RUNS + SPREAD:
         words = [SDFW, "run", design, sound, "out.wav", "--parallel", "2"]
         lists.refuse(f"sdfw run {name} --parallel: memory", words, "memory", ample_or(NO_MEMORY, period))
+    for name, design, sound, _, period in SPREAD:
+        words = [SDFW, "run", design, sound, "out.wav", "--parallel", "2"]
         lists.refuse(f"sdfw run {name} --parallel: threads", words, "thread", ample_or(NO_WORKER, period))
 
 
