@@ -8,13 +8,13 @@ ghost use Rattle.sdf_answer.specs.Rows.{IsTableOf};
 use crate::nets::{feed_twice, list, pair, planned};
 use sdf_actor::{Actor, Net};
 use sdf_prec::Table;
-use sdf_run::Mode;
+use sdf_run::{Mode, run_rings};
 use sdf_sched::Period;
 use std::alloc::Global;
 use std::test::Fail;
 use std::thread::Threads;
 use test_actors::gates::{Hold, MANY_TURNS, Watch};
-use test_texts::row_says;
+use test_texts::{row_says, says};
 
 /// Holds the sink's first firing, before it takes a sample, until the source has begun its firing of this number.
 fn until(firing: u64) -> Hold<'static> {
@@ -49,6 +49,30 @@ fn told_of_feeds<R: Threads + AllocGlobal + Sync, A: Actor<Token = i64>>(
     let mode = Mode::Rings { patience: 0, rooms };
     feed_twice(rt, net, plan, 1, mode, &inputs, &watch)?;
     told(rt.alloc(), &watch)
+}
+
+/// The same of a run of eight blocks, whose rings take one.
+fn told_of_run<R: Threads + AllocGlobal + Sync, A: Actor<Token = i64>>(
+    rt: &R,
+    net: &Net<A>,
+    hold: Hold<'static>,
+) -> Result<String, Fail> {
+    let plan = planned(rt.alloc(), net, 1, 2, true)?;
+    let inputs = list(rt.alloc(), &[7i64; 8])?;
+    let watch = Watch::new(rt.alloc(), 2, 2, hold)?;
+    run_rings(rt, net, &plan.0, 1, &plan.1, 8, &inputs, 0, &watch)?;
+    told(rt.alloc(), &watch)
+}
+
+/// Refuses rings that take more than one block in a run that asks for no more, as by `rooms: 16` in `run_rings`.
+#[test]
+fn a_run_takes_one_block(rt: HostRuntime) -> Result<(), Fail> {
+    let net = pair(rt.alloc(), 1, 1, &[])?;
+    says(told_of_run(&rt, &net, until(0)), "0 in vain, 0 odd")?;
+    says(
+        told_of_run(&rt, &net, until(1).in_vain()),
+        "1 in vain, 0 odd",
+    )
 }
 
 /// How many blocks the ring takes, and the source's last firing that it has room for while the sink is held.
