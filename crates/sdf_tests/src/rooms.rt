@@ -8,7 +8,7 @@ ghost use Rattle.sdf_answer.specs.Rows.{IsTableOf};
 use crate::nets::{feed_twice, list, pair, planned};
 use sdf_actor::{Actor, Net};
 use sdf_prec::Table;
-use sdf_run::{Mode, run_rings};
+use sdf_run::{Mode, NoGate, Session, run_rings};
 use sdf_sched::Period;
 use std::alloc::Global;
 use std::test::Fail;
@@ -73,6 +73,30 @@ fn a_run_takes_one_block(rt: HostRuntime) -> Result<(), Fail> {
         told_of_run(&rt, &net, until(1).in_vain()),
         "1 in vain, 0 odd",
     )
+}
+
+/// What a session over rings of sixteen blocks makes of one sample.
+fn made_of_one<R: Threads + AllocGlobal + Sync, A: Actor<Token = i64>>(
+    rt: &R,
+    net: &Net<A>,
+) -> Result<String, Fail> {
+    let plan = planned(rt.alloc(), net, 1, 2, true)?;
+    let inputs = list(rt.alloc(), &[1i64])?;
+    let mode = Mode::Rings {
+        patience: 0,
+        rooms: 16,
+    };
+    let mut session = Session::open(rt.alloc(), net, &plan.0, 1, &plan.1, mode)?;
+    let ran = session.feed(rt, &inputs, &NoGate)?;
+    Ok(format!(in rt.alloc(); "{:?}", ran.outputs)?)
+}
+
+/// Refuses memory that is not asked for where a channel begins with as many samples as it may, as by `enlarged` that
+/// answers no more than 1,000,000.
+#[test]
+fn rings_of_many_samples(rt: HostRuntime) -> Result<(), Fail> {
+    let many = vec![in rt.alloc(); 7i64; 65_536]?;
+    says(made_of_one(&rt, &pair(rt.alloc(), 1, 1, &many)?), "[[7]]")
 }
 
 /// How many blocks the ring takes, and the source's last firing that it has room for while the sink is held.
