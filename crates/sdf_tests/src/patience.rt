@@ -24,15 +24,29 @@ const TURNS: u32 = 2_000_000;
 /// A worker whose firing has begun does that firing and tests for the next one within so many turns of another.
 const PAUSE: u32 = 50_000;
 
-/// Holds the source's first firing until the sink's has begun, and for a while: so long there is nothing more for the
-/// sink.
+/// As long a pause as it tests once in, and far fewer times than a patient one may.
+const SHORT: u32 = 5_000;
+
+/// Holds so many firings of the source, from the first on, until the sink's first has begun, and for so many turns: so
+/// long there is nothing more for the sink.
 #[derive(Drop)]
 struct Late {
+    firings: u64,
+    turns: u32,
     sunk: AtomicBool,
     missed: AtomicBool,
 }
 
 impl Late {
+    fn new(firings: u64, turns: u32) -> Late {
+        Late {
+            firings,
+            turns,
+            sunk: AtomicBool::new(false),
+            missed: AtomicBool::new(false),
+        }
+    }
+
     fn meet(&self) {
         for _ in 0..TURNS {
             if self.sunk.load(Ordering::SeqCst) {
@@ -48,61 +62,70 @@ impl Gate for Late {
     fn before(&self, _processor: usize, actor: ActorId, firing: u64) {
         if actor == 1 {
             self.sunk.store(true, Ordering::SeqCst);
-        } else if firing == 0 {
+        } else if firing < self.firings {
             self.meet();
-            for _ in 0..PAUSE {
+            for _ in 0..self.turns {
                 thread::yield_now();
             }
         }
     }
 }
 
-/// What a run of two blocks makes of two samples, and in how many rounds.
+/// What a run makes of some samples, one a block, and in how many rounds.
 fn told<R: Abort + Threads + AllocGlobal + Sync, A: Actor<Token = i64>>(
     rt: &R,
     net: &Net<A>,
     plan: &(Period, Table),
+    samples: &[i64],
     patience: u32,
     late: &Late,
 ) -> Result<String, Fail>
     requires period { IsPeriodOf (rates (graph_of A.steps net.now)) plan.now.0 }
     requires table { IsTableOf (rates (graph_of A.steps net.now)) plan.now.0.repetitions 1 plan.now.1 }
 {
-    let inputs = list(rt.alloc(), &[1, 2])?;
-    let ran = run_rings(rt, net, &plan.0, 1, &plan.1, 2, &inputs, patience, late)?;
+    let inputs = list(rt.alloc(), samples)?;
+    let blocks = u32::try_from(samples.len()).unwrap_or(0);
+    let ran = run_rings(
+        rt, net, &plan.0, 1, &plan.1, blocks, &inputs, patience, late,
+    )?;
     assert!(rt; !late.missed.load(Ordering::SeqCst));
     Ok(format!(in rt.alloc(); "{:?} in {}", ran.outputs, ran.rounds)?)
 }
 
-/// What a source and a sink make that fire twice, and in how many rounds, where a sample for the sink's first firing is
-/// there, and that for its second comes after it has tested for it.
+/// What a source and a sink make of some samples, and in how many rounds, where a sample for the sink's first firing is
+/// there, and those for its second and so on come after it has tested for them.
 fn rounds<R: Abort + Threads + AllocGlobal + Sync, A: Actor<Token = i64>>(
     rt: &R,
     net: &Net<A>,
+    samples: &[i64],
     patience: u32,
+    turns: u32,
 ) -> Result<String, Fail> {
     let plan = planned(rt.alloc(), net, 1, 2, true)?;
-    let late = Late {
-        sunk: AtomicBool::new(false),
-        missed: AtomicBool::new(false),
-    };
-    told(rt, net, &plan, patience, &late)
+    let late = Late::new(samples.len().saturating_sub(1) as u64, turns);
+    told(rt, net, &plan, samples, patience, &late)
 }
 
 /// The sink's worker, whose second test fails, ends its round.
 #[test]
 fn without_patience_a_failing_test_ends_a_round(rt: HostRuntime) -> Result<(), Fail> {
     says(
-        rounds(&rt, &pair(rt.alloc(), 1, 1, &[7])?, 0),
+        rounds(&rt, &pair(rt.alloc(), 1, 1, &[7])?, &[1, 2], 0, PAUSE),
         "[[7, 1]] in 2",
     )
 }
 
-/// It tests again until its neighbour has moved, and goes on.
+/// It tests again until its neighbour has moved, and goes on; and does so once more. Refuses tries that are gone with
+/// the first test that fails.
 #[test]
 fn with_patience_a_worker_goes_on(rt: HostRuntime) -> Result<(), Fail> {
+    let net = pair(rt.alloc(), 1, 1, &[7])?;
     says(
-        rounds(&rt, &pair(rt.alloc(), 1, 1, &[7])?, 1_000_000),
+        rounds(&rt, &net, &[1, 2], 1_000_000, PAUSE),
         "[[7, 1]] in 1",
+    )?;
+    says(
+        rounds(&rt, &net, &[1, 2, 3], 1_000_000, SHORT),
+        "[[7, 1, 2]] in 1",
     )
 }
