@@ -9,6 +9,7 @@ use crate::nets::{list, pair, planned};
 use sdf_actor::{Actor, Net};
 use sdf_node::{ActorId, Gate};
 use sdf_prec::Table;
+use sdf_rings::prepare::prepare;
 use sdf_run::run_rings;
 use sdf_sched::Period;
 use std::process::Abort;
@@ -128,4 +129,43 @@ fn with_patience_a_worker_goes_on(rt: HostRuntime) -> Result<(), Fail> {
         rounds(&rt, &net, &[1, 2, 3], 1_000_000, SHORT),
         "[[7, 1, 2]] in 1",
     )
+}
+
+/// How many of four firings are left after one round of both seats at once, and whether the sink's have passed.
+fn left_by_hand<R: Abort + Threads + AllocGlobal + Sync, A: Actor<Token = i64>>(
+    rt: &R,
+    net: &Net<A>,
+    plan: &(Period, Table),
+    patience: u32,
+    late: &Late,
+) -> Result<String, Fail>
+    requires period { IsPeriodOf (rates (graph_of A.steps net.now)) plan.now.0 }
+    requires table { IsTableOf (rates (graph_of A.steps net.now)) plan.now.0.repetitions 1 plan.now.1 }
+{
+    let inputs = list(rt.alloc(), &[1, 2])?;
+    let mut rings = prepare(rt.alloc(), net, &plan.0, 1, &plan.1, 2, &inputs)?;
+    rings.work_all(rt, patience, late);
+    let (sunk, missed) = (
+        late.sunk.load(Ordering::SeqCst),
+        late.missed.load(Ordering::SeqCst),
+    );
+    Ok(format!(in rt.alloc(); "{} left, {sunk}, {missed}", rings.left())?)
+}
+
+fn left<R: Abort + Threads + AllocGlobal + Sync, A: Actor<Token = i64>>(
+    rt: &R,
+    net: &Net<A>,
+    patience: u32,
+    turns: u32,
+) -> Result<String, Fail> {
+    let plan = planned(rt.alloc(), net, 1, 2, true)?;
+    left_by_hand(rt, net, &plan, patience, &Late::new(1, turns))
+}
+
+/// Refuses a round by hand whose seats are worked in turn, one without a gate, and one without patience.
+#[test]
+fn all_seats_at_once_by_hand(rt: HostRuntime) -> Result<(), Fail> {
+    let net = pair(rt.alloc(), 1, 1, &[7])?;
+    says(left(&rt, &net, 1_000_000, SHORT), "0 left, true, false")?;
+    says(left(&rt, &net, 0, PAUSE), "1 left, true, false")
 }
