@@ -151,11 +151,17 @@ const BETWEEN: Hold<'static> = Hold {
     turns: MANY_TURNS,
 };
 
+/// Whether they meet in a sound shorter than a block, where the size of the data is filled in or not.
+fn meet_in_one_block<T: Threads + AllocGlobal + Sync>(rt: &T, filled: bool) -> Result<(), Fail> {
+    let input = sound(rt.alloc(), &[1, 2, 3], filled)?;
+    says(watched(rt, Runner::Rows, &input, IN_A_ROW), "0 0 2")?;
+    says(watched(rt, Runner::Rings, &input, BETWEEN), "0 0 2")
+}
+
 /// A sound shorter than a block, which is filled up and run at the end: `left` meets the second firing of `deal` in a
 /// row, and over rings `right` begins after `left`, whose worker looks at its neighbour.
 #[test]
 fn firings_of_a_last_block_meet(rt: HostRuntime) -> Result<(), Fail> {
-    let input = sound(rt.alloc(), &[1, 2, 3], true)?;
-    says(watched(&rt, Runner::Rows, &input, IN_A_ROW), "0 0 2")?;
-    says(watched(&rt, Runner::Rings, &input, BETWEEN), "0 0 2")
+    meet_in_one_block(&rt, true)?;
+    meet_in_one_block(&rt, false)
 }
