@@ -26,15 +26,16 @@ fn one_sample(alloc: Global) -> Result<Vec<u8>, Fail> {
     Ok(file)
 }
 
-/// The gate of a run on two workers by blocks of four periods.
+/// The gate of a run on so many workers, two at most, by blocks of four periods.
 fn watched<T: Threads + AllocGlobal + Sync>(
     rt: &T,
     runner: Runner,
+    workers: usize,
 ) -> Result<Watch<'static>, Fail> {
     let alloc = rt.alloc();
     let options = Options {
         runner,
-        workers: 2,
+        workers,
         blocking: 4,
         ..Options::DEFAULT
     };
@@ -55,11 +56,12 @@ fn passed(rt: &impl Abort, watch: &Watch, firings: u64) {
     assert_eq!(rt; (source, sink, watch.odd()), (firings, firings, 0));
 }
 
-/// Refuses one thread where workers were asked for, and a block too many.
+/// Refuses one thread where workers were asked for, also where one was, and a block too many.
 #[test]
 fn a_block_that_is_filled_up(rt: HostRuntime) -> Result<(), Fail> {
     for (runner, firings) in [(Runner::One, 0), (Runner::Rows, 4), (Runner::Rings, 4)] {
-        passed(&rt, &watched(&rt, runner)?, firings);
+        passed(&rt, &watched(&rt, runner, 2)?, firings);
+        passed(&rt, &watched(&rt, runner, 1)?, firings);
     }
     Ok(())
 }
