@@ -4,9 +4,13 @@ use crate::designs::{CHAIN, SWAP};
 use crate::rows::{begun, made_of, on_one_thread};
 use crate::running::{file_of, makes, run_file};
 use crate::runs::ramp_file;
+use sdf_file::read_design;
 use sdf_options::{Options, Placement, Policy, Runner};
+use sdf_process::parallel::{Paced, parallel_plan};
+use std::alloc::Global;
 use std::test::Fail;
 use std::thread::Threads;
+use test_texts::says;
 
 /// The options of such a run.
 fn spread_over(workers: usize) -> Options {
@@ -33,6 +37,31 @@ fn workers_write<T: Threads + AllocGlobal + Sync>(
         makes(run_file(rt, graph, &spread_over(*workers), sound), wanted)?;
     }
     Ok(())
+}
+
+/// Two branches, each of 64 samples a frame and back: a frame is work enough for two workers.
+const HEAVY: &str = r#"format = 1
+actor = [{ name = "in", kind = "input", channel = 0 }, { name = "fork", kind = "fork", ways = 2 },
+    { name = "up", kind = "interpolate", factor = 64 }, { name = "same", kind = "decimate", factor = 64 },
+    { name = "high", kind = "interpolate", factor = 64 }, { name = "low", kind = "decimate", factor = 64 },
+    { name = "add", kind = "add", ways = 2 }, { name = "out", kind = "output", channel = 0 }]
+link = [{ from = "in", to = "fork" }, { from = "fork:0", to = "up" }, { from = "up", to = "same" },
+    { from = "fork:1", to = "high" }, { from = "high", to = "low" },
+    { from = "same", to = "add:0" }, { from = "low", to = "add:1" }, { from = "add", to = "out" }]"#;
+
+/// What runs it in parallel, with which patience, over rings of how many blocks, and of how many periods these are.
+fn crew_told(alloc: Global) -> Result<String, Fail> {
+    let design = read_design(alloc, HEAVY.as_bytes(), &[])?;
+    let Paced { plan, .. } = parallel_plan(alloc, &design, 2)?;
+    let (runner, patience) = (plan.runner(), plan.patience());
+    let (rooms, blocking) = (plan.rooms(), plan.blocking());
+    Ok(format!(in alloc; "{runner:?} {patience} {rooms} {blocking}")?)
+}
+
+/// Refuses workers that are less patient than the help says.
+#[test]
+fn crews_are_patient(rt: HostRuntime) -> Result<(), Fail> {
+    says(crew_told(rt.alloc()), "Rings 100000 16 16")
 }
 
 /// A last block of 6 periods that is cut, behind a whole one: 1,024 samples are moved on a link by three of them.
