@@ -200,6 +200,8 @@ const MISTAKES: &[&[&str]] = &[
     &["sdfw", "explain"],
     &["sdfw", "kinds", "fir"],
     &["sdfw", "help", "play"],
+    &["sdfw", "check", "g", "--why", "--json"],
+    &["sdfw", "schedule", "g", "--json", "--why"],
 ];
 
 /// Lines that ask for help.
