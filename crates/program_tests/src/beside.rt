@@ -92,13 +92,45 @@ const ROWS: &[(&str, &[&str], &str)] = &[
         "5 sdfw: 47 Read\n",
     ),
     (
+        "an OUT that is the second coefficient file",
+        &["sdfw", "run", "twice.toml", "in.wav", "three.toml"],
+        "2 error: OUT is the same file as the coefficient file three.toml\n\nUsage: sdfw <COMMAND>\n\n\
+         For more information, try '--help'.\n",
+    ),
+    (
+        "two coefficient files that are not there",
+        &[
+            "sdfw",
+            "run",
+            "lacks/twice.toml",
+            "in.wav",
+            "out.wav",
+            "--why",
+        ],
+        "3 sdfw: 58 NoFile file one.toml\n  actor 1 is \"same\", a fir\n  \"one.toml\": entity not found\n  \
+         \"three.toml\": entity not found\n",
+    ),
+    (
+        "a coefficient file that is no document",
+        &[
+            "sdfw",
+            "run",
+            "torn/filtered.toml",
+            "in.wav",
+            "out.wav",
+            "--why",
+        ],
+        "3 sdfw: 49 NotToml file one.toml\n  \"one.toml\": TOML parse error at line 2, column 22: invalid string\n",
+    ),
+    (
         "a graph file whose path is that of standard output",
         &["sdfw", "run", "-", "in.wav", "-"],
         "0 ",
     ),
 ];
 
-/// Refuses nothing more where more is asked for, the limits of other options, and another fault first.
+/// Refuses nothing more where more is asked for, the limits of other options, another fault first, and coefficient
+/// files of which the first alone is kept or told of.
 #[test]
 fn what_stands_on_standard_error(rt: HostRuntime) -> Result<(), Fail> {
     for (name, words, wanted) in ROWS {

@@ -33,6 +33,43 @@ link = [{ from = "in", to = "fork" }, { from = "fork:0", to = "up" }, { from = "
     { from = "fork:1", to = "high" }, { from = "high", to = "low" }, { from = "low", to = "none" },
     { from = "same", to = "add:0" }, { from = "none", to = "add:1" }, { from = "add", to = "out" }]"#;
 
+/// A third such branch, so that a frame is work enough for three workers.
+const WIDER: &str = r#"format = 1
+actor = [{ name = "in", kind = "input", channel = 0 }, { name = "fork", kind = "fork", ways = 3 },
+    { name = "up", kind = "interpolate", factor = 64 }, { name = "same", kind = "decimate", factor = 64 },
+    { name = "high", kind = "interpolate", factor = 64 }, { name = "low", kind = "decimate", factor = 64 },
+    { name = "none", kind = "gain", gain = 0, shift = 0 },
+    { name = "far", kind = "interpolate", factor = 64 }, { name = "near", kind = "decimate", factor = 64 },
+    { name = "nothing", kind = "gain", gain = 0, shift = 0 },
+    { name = "add", kind = "add", ways = 3 }, { name = "out", kind = "output", channel = 0 }]
+link = [{ from = "in", to = "fork" }, { from = "fork:0", to = "up" }, { from = "up", to = "same" },
+    { from = "fork:1", to = "high" }, { from = "high", to = "low" }, { from = "low", to = "none" },
+    { from = "fork:2", to = "far" }, { from = "far", to = "near" }, { from = "near", to = "nothing" },
+    { from = "same", to = "add:0" }, { from = "none", to = "add:1" }, { from = "nothing", to = "add:2" },
+    { from = "add", to = "out" }]"#;
+
+/// The same branches by costs: the worker of the first one has 50 of 60 to do.
+const SIXTY: &str = r#"format = 1
+actor = [{ name = "in", kind = "input", channel = 0 }, { name = "fork", kind = "fork", ways = 2 },
+    { name = "up", kind = "interpolate", factor = 64, cost = 47 }, { name = "same", kind = "decimate", factor = 64 },
+    { name = "high", kind = "interpolate", factor = 64, cost = 6 }, { name = "low", kind = "decimate", factor = 64 },
+    { name = "none", kind = "gain", gain = 0, shift = 0 },
+    { name = "add", kind = "add", ways = 2 }, { name = "out", kind = "output", channel = 0 }]
+link = [{ from = "in", to = "fork" }, { from = "fork:0", to = "up" }, { from = "up", to = "same" },
+    { from = "fork:1", to = "high" }, { from = "high", to = "low" }, { from = "low", to = "none" },
+    { from = "same", to = "add:0" }, { from = "none", to = "add:1" }, { from = "add", to = "out" }]"#;
+
+/// It has 100 of 110.
+const HUNDRED: &str = r#"format = 1
+actor = [{ name = "in", kind = "input", channel = 0 }, { name = "fork", kind = "fork", ways = 2 },
+    { name = "up", kind = "interpolate", factor = 64, cost = 97 }, { name = "same", kind = "decimate", factor = 64 },
+    { name = "high", kind = "interpolate", factor = 64, cost = 6 }, { name = "low", kind = "decimate", factor = 64 },
+    { name = "none", kind = "gain", gain = 0, shift = 0 },
+    { name = "add", kind = "add", ways = 2 }, { name = "out", kind = "output", channel = 0 }]
+link = [{ from = "in", to = "fork" }, { from = "fork:0", to = "up" }, { from = "up", to = "same" },
+    { from = "fork:1", to = "high" }, { from = "high", to = "low" }, { from = "low", to = "none" },
+    { from = "same", to = "add:0" }, { from = "none", to = "add:1" }, { from = "add", to = "out" }]"#;
+
 /// As much work in one line, in which each actor alone feeds the next.
 const LINE: &str = r#"format = 1
 actor = [{ name = "in", kind = "input", channel = 0 },
@@ -93,6 +130,12 @@ actor = [{ name = "in", kind = "input", channel = 0, processor = 3 },
     { name = "out", kind = "output", channel = 0, processor = 0 }]
 link = [{ from = "in", to = "out" }]"#;
 
+/// Two filters, each of which has its tap in a file of its own.
+const TWICE: &str = r#"format = 1
+actor = [{ name = "in", kind = "input", channel = 0 }, { name = "same", kind = "fir", shift = 0, file = "one.toml" },
+    { name = "again", kind = "fir", shift = 0, file = "three.toml" }, { name = "out", kind = "output", channel = 0 }]
+link = [{ from = "in", to = "same" }, { from = "same", to = "again" }, { from = "again", to = "out" }]"#;
+
 /// Taps, and a key that none has.
 const ODD: &str = "format = 1\nvalues = [1]\ntap = 1\n";
 
@@ -108,13 +151,16 @@ values = [1]
 ";
 
 /// The graph files and coefficient files of the tests.
-const TEXTS: [(&str, &str); 24] = [
+const TEXTS: [(&str, &str); 33] = [
     ("plain.toml", PLAIN),
     ("-", PLAIN),
     ("commented.toml", COMMENTED),
     ("begun.toml", BEGUN),
     ("branches.toml", BRANCHES),
     ("heavy.toml", HEAVY),
+    ("wider.toml", WIDER),
+    ("sixty.toml", SIXTY),
+    ("hundred.toml", HUNDRED),
     ("line.toml", LINE),
     ("blocks.toml", BLOCKS),
     ("long.toml", LONG),
@@ -127,6 +173,12 @@ const TEXTS: [(&str, &str); 24] = [
     ("one.toml", TAPS),
     ("full/graph.toml", PLAIN),
     ("begun/stage1.toml", TAPS),
+    ("ended/stage2.toml", TAPS),
+    ("twice.toml", TWICE),
+    ("three.toml", TAPS),
+    ("lacks/twice.toml", TWICE),
+    ("torn/filtered.toml", FILTERED),
+    ("torn/one.toml", BROKEN),
     ("wide.toml", WIDE),
     ("far.toml", FAR),
     ("odd/filtered.toml", FILTERED),
