@@ -6,7 +6,7 @@ use std::process::Abort;
 use std::test::Fail;
 use std::thread::Threads;
 use std::time::Clock;
-use test_texts::row_says;
+use test_texts::{row_says, says};
 
 /// The first lines of a text, behind one another.
 fn first(alloc: Global, text: &str, many: usize) -> Result<String, Fail> {
@@ -149,6 +149,20 @@ const CONVERTERS: &[(&str, &[&str], usize, &str)] = &[
         "2|--|error: FOLDER has a file stage1.toml already|",
     ),
     (
+        "a folder that has a second coefficient file",
+        &[
+            "sdfw",
+            "resample",
+            "44100",
+            "48000",
+            "ended",
+            "--attenuation",
+            "40",
+        ],
+        3,
+        "2|--|error: FOLDER has a file stage2.toml already|",
+    ),
+    (
         "a design whose period is too long",
         &[
             "sdfw",
@@ -164,7 +178,8 @@ const CONVERTERS: &[(&str, &[&str], usize, &str)] = &[
     ),
 ];
 
-/// Refuses a folder that is looked at for a graph file alone, and a design that is written before it is planned.
+/// Refuses a folder that is looked at for a graph file alone, or for the first coefficient file, and a design that is
+/// written before it is planned.
 #[test]
 fn converters_are_those_asked_for(rt: HostRuntime) -> Result<(), Fail> {
     for (name, words, lines, wanted) in CONVERTERS {
@@ -206,6 +221,30 @@ fn stages_are_written(rt: HostRuntime) -> Result<(), Fail> {
     )?;
     is_converter(&rt, text.as_str());
     Ok(())
+}
+
+/// How many coefficient files are written for a conversion.
+fn coefficient_files<T: Threads + AllocGlobal + Clock + Clone + Drop + Sync>(
+    rt: &T,
+) -> Result<String, Fail> {
+    let words = [
+        "sdfw",
+        "resample",
+        "44100",
+        "48000",
+        "made",
+        "--attenuation",
+        "40",
+    ];
+    let text = made(rt, words.as_slice())?;
+    let files = text.as_str().split("# fir up ").count();
+    Ok(format!(in rt.alloc(); "{}", files.saturating_sub(1))?)
+}
+
+/// Refuses a conversion in two stages of which the first alone is written.
+#[test]
+fn each_stage_is_written(rt: HostRuntime) -> Result<(), Fail> {
+    says(coefficient_files(&rt), "2")
 }
 
 /// Whether a fault is explained by its name as by its number.
