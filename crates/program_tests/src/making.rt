@@ -7,9 +7,11 @@ use sdf_program::program::World;
 use std::cell::RefCell;
 use std::fs;
 use std::process::Abort;
+use std::rt::Files;
 use std::test::Fail;
 use std::thread::Threads;
 use std::time::Clock;
+use test_texts::says;
 
 /// The exit status of a line, and behind it what stands on standard output, on standard error and in files.
 pub(crate) fn made<T: Threads + AllocGlobal + Clock + Clone + Drop + Sync>(
@@ -79,21 +81,27 @@ fn converters(rt: HostRuntime) -> Result<(), Fail> {
     Ok(())
 }
 
-/// Refuses a folder that is not made, or that is made and has no design.
+/// How a design is written into a folder, and how it is checked there: the exit statuses, and what stands on standard
+/// error.
+fn written(
+    rt: &(impl Files + Threads + AllocGlobal + Clock + Clone + Drop + Sync),
+    path: &str,
+) -> Result<String, Fail> {
+    let alloc = rt.alloc();
+    let (made, said) = ends(rt, rt, &["sdfw", "resample", "8000", "8000", path])?;
+    let graph = format!(in alloc; "{path}/graph.toml")?;
+    let (checked, told) = ends(rt, rt, &["sdfw", "check", graph.as_str()])?;
+    Ok(format!(in alloc; "{made} {said}{checked} {told}")?)
+}
+
+/// Refuses a folder that is not made, one that is made and has no design, and one that is there and is made again.
 #[test]
 fn folders_are_made(rt: HostRuntime) -> Result<(), Fail> {
-    let alloc = rt.alloc();
     let above = folder(&rt, "making")?;
-    let path = format!(in alloc; "{}/new", above.as_str())?;
+    let path = format!(in rt.alloc(); "{}/new", above.as_str())?;
     let _ = fs::remove_dir_all(&rt, path.as_str());
-    let (status, said) = ends(
-        &rt,
-        &rt,
-        &["sdfw", "resample", "8000", "8000", path.as_str()],
-    )?;
-    assert_eq!(rt; (status, said.as_str()), (0, ""));
-    let graph = format!(in alloc; "{}/graph.toml", path.as_str())?;
-    let (status, said) = ends(&rt, &rt, &["sdfw", "check", graph.as_str()])?;
-    assert_eq!(rt; (status, said.as_str()), (0, ""));
-    Ok(())
+    says(written(&rt, path.as_str()), "0 0 ")?;
+    fs::remove_dir_all(&rt, path.as_str())?;
+    fs::create_dir(&rt, path.as_str())?;
+    says(written(&rt, path.as_str()), "0 0 ")
 }
