@@ -4,13 +4,15 @@ use sdf_process::fault_text;
 use sdf_program::files::{MOST_BYTES, load, read_all};
 use sdf_program::program::{World, serve};
 use sdf_program::storage::{Disk, Storage};
-use std::io::{ErrorKind, Write};
+use std::alloc::Global;
+use std::io::{self, Error, ErrorKind, Read, Write};
 use std::process::Abort;
 use std::rt::Files;
 use std::test::Fail;
 use std::thread::Threads;
 use std::time::Clock;
 use std::{env, fs};
+use test_texts::says;
 
 /// A gain, and then a filter whose one tap stands in a file of its folder.
 pub(crate) const FILTERED: &str = r#"format = 1
@@ -180,6 +182,38 @@ fn files_that_are_not_there(rt: HostRuntime) -> Result<(), Fail> {
         5,
         "sdfw: 48 Write\n",
     )
+}
+
+/// A file that gives so many bytes, and past them wants memory.
+#[derive(Clone, Copy)]
+struct Long {
+    left: usize,
+}
+
+impl Read for Long {
+    fn read(&mut self, buf: &mut [u8]) -> io::Result<usize> {
+        if self.left == 0 {
+            return Err(Error::from(ErrorKind::OutOfMemory));
+        }
+        let many = buf.len().min(self.left);
+        buf[..many].fill(7);
+        self.left -= many;
+        Ok(many)
+    }
+}
+
+/// What comes of a file that has a byte more than may be read, and is asked for no more.
+fn long_told(alloc: Global) -> Result<String, Fail> {
+    match read_all(alloc, Long { left: 8 }, 7) {
+        Ok(bytes) => Ok(format!(in alloc; "{}", bytes.len())?),
+        Err(fault) => Ok(fault_text(alloc, &fault)?),
+    }
+}
+
+/// Refuses a file that is read past its limit before it is refused: it may have no end.
+#[test]
+fn files_are_read_to_their_limit(rt: HostRuntime) -> Result<(), Fail> {
+    says(long_told(rt.alloc()), "sdfw: 47 Read\n")
 }
 
 /// A program that cuts a longer file is refused here.
