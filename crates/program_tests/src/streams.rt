@@ -268,3 +268,14 @@ fn files_fit_their_limit(rt: HostRuntime) -> Result<(), Fail> {
     }
     Ok(())
 }
+
+/// A sound that a profile reads is as long as the limit at most, too. Refuses one that is read whole whatever its length
+/// is.
+#[test]
+fn sounds_of_profiles_fit_their_limit(rt: HostRuntime) -> Result<(), Fail> {
+    let line = ["sdfw", "profile", "plain.toml", "filtered.toml"];
+    let most = u32::try_from(FILTERED.len()).unwrap_or(0);
+    ends_with(&rt, most, &line, (4, "", "sdfw: 34 NotRiff\n", b""))?;
+    let less = most.saturating_sub(1);
+    ends_with(&rt, less, &line, (5, "", "sdfw: 47 Read\n", b""))
+}
