@@ -9,6 +9,7 @@ use std::process::Abort;
 use std::test::Fail;
 use std::thread::Threads;
 use std::time::Clock;
+use test_texts::says;
 
 /// Whether a run of plain.toml ends so: its exit status, what stands on standard output and on standard error, and in
 /// the file that is written.
@@ -48,6 +49,30 @@ fn dashes_are_streams(rt: HostRuntime) -> Result<(), Fail> {
     ends_so(&rt, b"", &["in.wav", "-"], (0, sound, "", b""))?;
     ends_so(&rt, b"", &["./-", "out.wav"], (0, b"", "", sound))?;
     ends_so(&rt, sound, &["-", "./-"], (5, b"", "sdfw: 48 Write\n", b""))
+}
+
+/// Whether a profile of plain.toml over standard input begins with the share of its first actor, and its exit status.
+fn profiled<T: Threads + AllocGlobal + Clock + Clone + Drop + Sync>(
+    rt: &T,
+) -> Result<String, Fail> {
+    let alloc = rt.alloc();
+    let written = RefCell::new(Vec::new(alloc));
+    let world = World {
+        storage: &Shelf { written: &written },
+        threads: rt,
+        most: MOST_BYTES,
+    };
+    let mut out = Vec::new(alloc);
+    let words = ["sdfw", "profile", "plain.toml", "-"];
+    let (status, err) = ends_between(&world, SOUND.as_slice(), &mut out, words.as_slice())?;
+    let begins = out.as_slice().starts_with(b"share in ");
+    Ok(format!(in alloc; "{status} {begins} {err}")?)
+}
+
+/// Refuses a profile that reads the file `-`, which is no sound.
+#[test]
+fn a_profile_of_standard_input(rt: HostRuntime) -> Result<(), Fail> {
+    says(profiled(&rt), "0 true ")
 }
 
 /// What a fault left stands on standard output, and its line does not.
