@@ -3,6 +3,9 @@
 use crate::making::made;
 use std::process::Abort;
 use std::test::Fail;
+use std::thread::Threads;
+use std::time::Clock;
+use test_texts::row_says;
 
 /// Words behind the program's name, and what they print on standard output or, for a fault, on standard error.
 const IN_JSON: &[(&[&str], &str)] = &[
@@ -71,6 +74,58 @@ fn answers_in_json(rt: HostRuntime) -> Result<(), Fail> {
         &["sdfw", "analyze", "plain.toml", "--compare", "--json"],
     )?;
     assert!(rt; told.as_str().starts_with(COMPARED_IN_JSON));
+    Ok(())
+}
+
+/// Words that compare schedules by one worker and by two, what is counted in the answer, and how often it stands there:
+/// the ends of its lines, of which three are not the table's, and the schedules by two.
+const COMPARED: &[(&str, &[&str], &str, &str)] = &[
+    (
+        "lines",
+        &[
+            "sdfw",
+            "analyze",
+            "begun.toml",
+            "--compare",
+            "--workers",
+            "2",
+        ],
+        "\n",
+        "22",
+    ),
+    (
+        "JSON",
+        &[
+            "sdfw",
+            "analyze",
+            "begun.toml",
+            "--compare",
+            "--json",
+            "--workers",
+            "2",
+        ],
+        "\"workers\":2",
+        "9",
+    ),
+];
+
+/// How often something stands in an answer.
+fn times<T: Threads + AllocGlobal + Clock + Clone + Drop + Sync>(
+    rt: &T,
+    words: &[&str],
+    what: &str,
+) -> Result<String, Fail> {
+    let told = made(rt, words)?;
+    let parts = told.as_str().split(what).count();
+    Ok(format!(in rt.alloc(); "{}", parts.saturating_sub(1))?)
+}
+
+/// Refuses a comparison that is made by the default options: each policy and placement has a line for two workers.
+#[test]
+fn comparisons_are_of_the_workers_asked_for(rt: HostRuntime) -> Result<(), Fail> {
+    for (name, words, what, wanted) in COMPARED {
+        row_says(name, times(&rt, words, what), wanted)?;
+    }
     Ok(())
 }
 
