@@ -7,7 +7,7 @@ use sdf_program::program::World;
 use std::alloc::Global;
 use std::cell::RefCell;
 use std::test::Fail;
-use std::thread::Threads;
+use std::thread::{Threads, available_parallelism};
 use std::time::Clock;
 use test_texts::{row_says, says};
 
@@ -38,8 +38,8 @@ fn told<T: Threads + AllocGlobal + Clock + Clone + Drop + Sync>(
 /// A design, options, and how its run ends.
 type Row = (&'static str, &'static [&'static str], &'static str);
 
-/// A frame of the two heavy branches weighs 8,641, so much that it is work for two workers and not for three: 4,288 of it
-/// the input, the fork and the first branch, which go to one worker.
+/// A frame of the two heavy branches weighs 8,641, so much that it is work for two workers and not for three: 4,288 of
+/// it the input, the fork and the first branch, which go to one worker.
 const RUNS: &[Row] = &[
     ("heavy.toml", &["--parallel", "2"], "0 true"),
     (
@@ -51,6 +51,21 @@ const RUNS: &[Row] = &[
         "heavy.toml",
         &["--parallel", "16", "--why"],
         "0 2 workers, blocks of 16 samples, at most 1.9 times\ntrue",
+    ),
+    (
+        "wider.toml",
+        &["--parallel", "16", "--why"],
+        "0 3 workers, blocks of 16 samples, at most 2.9 times\ntrue",
+    ),
+    (
+        "sixty.toml",
+        &["--parallel", "2", "--why"],
+        "0 2 workers, blocks of 16 samples, at most 1.2 times\ntrue",
+    ),
+    (
+        "hundred.toml",
+        &["--parallel", "2", "--why"],
+        "0 one thread: workers could be at most 1.1 times as fast\ntrue",
     ),
     (
         "heavy.toml",
@@ -81,6 +96,28 @@ fn parallel_runs_write_what_one_thread_writes(rt: HostRuntime) -> Result<(), Fai
         row_says(graph, told(&rt, graph, options), wanted)?;
     }
     Ok(())
+}
+
+/// How a run ends that is asked for by as many workers as there are processors, by their number.
+fn by_number<T: Threads + AllocGlobal + Clock + Clone + Drop + Sync>(
+    rt: &T,
+) -> Result<String, Fail> {
+    let workers = match available_parallelism(rt) {
+        Ok(processors) => processors.get().min(16),
+        Err(_) => 4,
+    };
+    let word = format!(in rt.alloc(); "{workers}")?;
+    told(rt, "wider.toml", &["--parallel", word.as_str(), "--why"])
+}
+
+/// Refuses another number of workers where none is given.
+#[test]
+fn as_many_as_there_are_processors(rt: HostRuntime) -> Result<(), Fail> {
+    let wanted = by_number(&rt)?;
+    says(
+        told(&rt, "wider.toml", &["--parallel", "--why"]),
+        wanted.as_str(),
+    )
 }
 
 /// The exit status of a run that is asked for in two ways.
