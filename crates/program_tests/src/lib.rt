@@ -30,6 +30,8 @@ mod standard;
 #[cfg(test)]
 mod streams;
 #[cfg(test)]
+mod timed;
+#[cfg(test)]
 mod views;
 #[cfg(test)]
 mod why;
