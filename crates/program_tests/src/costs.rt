@@ -255,12 +255,17 @@ const REFUSED: &[(&[&str; 3], &str)] = &[
         "2\n--\nerror: GRAPH has 0 lines [[actor]] for 2 actors: costs want one for each\n",
     ),
     (
+        &["plain.toml", "one.toml", "made/measured.toml"],
+        "2\n--\nerror: GRAPH has 0 lines [[actor]] for 2 actors",
+    ),
+    (
         &["commented.toml", "in.wav", "elsewhere.toml"],
         "5\n--\nsdfw: 48 Write\n",
     ),
 ];
 
-/// Refuses a file that is read and written, and lines that are printed where the file is not written.
+/// Refuses a file that is read and written, lines that are printed where the file is not written, and a sound that is
+/// looked at before the graph file is.
 #[test]
 fn what_is_read_stays(rt: HostRuntime) -> Result<(), Fail> {
     for (words, wanted) in REFUSED {
