@@ -73,7 +73,7 @@ pub(super) const PLACEMENT: Choice = Choice {
 - file: the worker that the key `processor` of the actor names; one firing a row
 - spread: the workers that have as equal shares as may be of what the actors weigh; one firing a row, the
   whole block by the policy runs. `--blocking` has no effect: a block is as many periods as keep to
-  2048 samples
+  1024 samples
 In `run` it has no effect without `--runner rows` or `--runner rings`",
     values: Values::OneOf(PLACEMENT_WORDS),
     default: Some("homed"),
