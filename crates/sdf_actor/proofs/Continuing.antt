@@ -16,7 +16,7 @@ use Rattle.sdf_actor.specs.Nets.{Wire, Netlist, no_wire, wire, node, inputs_of, 
 use Rattle.sdf_actor.specs.Nets.{cycle_of, from_port, to_port, wiring, answers, answer_of, arrived, IsHistoryOf}
 use Rattle.sdf_actor.specs.Nets.{SourceReaches, InputsReach}
 use Rattle.sdf_actor.specs.Steps.{Steps, phase, state_from, state_after}
-use Rattle.sdf_actor.specs.Rests.{Leaves, IsNodeIn, AreJoined}
+use Rattle.sdf_actor.specs.Rests.{state_left, Leaves, IsNodeIn, AreJoined}
 use Rattle.sdf_actor.specs.GoingOn.{GoesOn, in_all}
 use Rattle.sdf_actor.proofs.Agree.{length_taken_before}
 use Rattle.sdf_actor.proofs.BegunGraphs.{held_as_many}
@@ -163,7 +163,7 @@ module _ {A B S T : Type 0} (rise : SumsRise) (s : Steps A S T) (r : Steps B S T
   module _ (a : ℕ) (known : a < length n.nodes) (x : A) (is : node n a ≡ Inner x) (b : B) (now : S)
       (given : get_or rest.states.items a None ≡ Some now) (same : BeginsIn s r x now b) where
     left_in : now ≡ state_after s x (before a)
-    left_in = let e : Some now ≡ Some (state_after s x (before a)) = sym given ∙ h.left.states a x known is in cc
+    left_in = let e : Some now ≡ Some (state_after s x (before a)) = sym given ∙ (h.left.states a known ∙ ap (λ y. state_left s y (before a)) is) in cc
 
     cycles : Divides (s.cycle x) (k a)
     cycles = subst (λ y. Divides (cycle_of s y) (k a)) is (h.whole.cycles a known)
@@ -222,10 +222,13 @@ module _ {A B S T : Type 0} (rise : SumsRise) (s : Steps A S T) (r : Steps B S T
     history_goes_on = goes_on (wiring s n) (wiring r m) here same_wiring (answers s n first) (answers r m later) k i V U
         h.whole.period h.before h.on begins_with (answers s n all) early late
 
+  abbrev over : ℕ → List (List T)
+  over a = taken_before (wiring s n) (in_all s n V U) a (k a + i a)
+
   pub rest_goes_on : (last : Rest T S) → Leaves r m i U last → Leaves s n (λ a. k a + i a) (in_all s n V U) last
   rest_goes_on last left = record {
     nodes = left.nodes ∙ h.begins.nodes;
-    states = λ a x l is. at a x l is (h.begins.each a l);
+    states = λ a l. at a l (node n a) refl (h.begins.each a l);
     channels = left.channels ∙ h.begins.wires;
     held = λ c l.
         left.held c (subst (λ j. c < j) (sym h.begins.wires) l) ∙
@@ -233,20 +236,29 @@ module _ {A B S T : Type 0} (rise : SumsRise) (s : Steps A S T) (r : Steps B S T
         h.whole.period h.before h.on begins_with c l);
   }
     where
-      at : (a : ℕ) (x : A) → a < length n.nodes → node n a ≡ Inner x →
+      at_end : (a : ℕ) → a < length n.nodes →
+          get_or last.states.items a None ≡ state_left r (node m a) (taken_before (wiring r m) U a (i a))
+      at_end a l = left.states a (subst (λ j. a < j) (sym h.begins.nodes) l)
+
+      at : (a : ℕ) → a < length n.nodes → (x : Node A) → node n a ≡ x →
           IsNodeIn s r (get_or rest.states.items a None) (node n a) (node m a) →
-          get_or last.states.items a None ≡ Some (state_after s x
-          (taken_before (wiring s n) (in_all s n V U) a (k a + i a)))
-      at a x l is each = go (subst (λ y. IsNodeIn s r (get_or rest.states.items a None) y (node m a)) is each)
+          get_or last.states.items a None ≡ state_left s (node n a) (over a)
+      at a l x is each = go x is (subst (λ y. IsNodeIn s r (get_or rest.states.items a None) y (node m a)) is each)
         where
-          go : IsNodeIn s r (get_or rest.states.items a None) (Inner x) (node m a) →
-              get_or last.states.items a None ≡ Some (state_after s x
-              (taken_before (wiring s n) (in_all s n V U) a (k a + i a)))
-          go (b, now, there, given, same) =
-              left.states a b (subst (λ j. a < j) (sym h.begins.nodes) l) there ∙
-              ap Some (sym (state_as a l x is b now given same (taken_before (wiring r m) U a (i a))) ∙
+          go : (x : Node A) → node n a ≡ x → IsNodeIn s r (get_or rest.states.items a None) x (node m a) →
+              get_or last.states.items a None ≡ state_left s (node n a) (over a)
+          go (Source ext block) is there =
+              at_end a l ∙ (ap (λ y. state_left r y (taken_before (wiring r m) U a (i a))) there ∙
+              ap (λ y. state_left s y (over a)) (sym is))
+          go (Sink ext block) is there =
+              at_end a l ∙ (ap (λ y. state_left r y (taken_before (wiring r m) U a (i a))) there ∙
+              ap (λ y. state_left s y (over a)) (sym is))
+          go (Inner x) is (b, now, there, given, same) =
+              at_end a l ∙ (ap (λ y. state_left r y (taken_before (wiring r m) U a (i a))) there ∙
+              (ap Some (sym (state_as a l x is b now given same (taken_before (wiring r m) U a (i a))) ∙
               ap (state_after s x) (sym (past_late (wiring s n) (wiring r m) here same_wiring (answers s n first)
-              (answers r m later) k i V U h.whole.period h.before h.on begins_with a l (i a))))
+              (answers r m later) k i V U h.whole.period h.before h.on begins_with a l (i a)))) ∙
+              ap (λ y. state_left s y (over a)) (sym is)))
 
   pub arrivals_go_on : (a e block : ℕ) → a < length n.nodes → node n a ≡ Sink e block →
       arrived s n (λ b. k b + i b) (in_all s n V U) a ≡ arrived s n k V a ++ arrived r m i U a

@@ -12,7 +12,7 @@ use Rattle.sdf_actor.specs.declared.rest.Rest.{Rest}
 use Rattle.sdf_actor.specs.Begun.{beginning, BeginsIn, MayBegin}
 use Rattle.sdf_actor.specs.Histories.{taken_before}
 use Rattle.sdf_actor.specs.Nets.{Netlist, node, wiring, inputs_of, consumed_at, cycle_of, IsNet, IsHistoryOf}
-use Rattle.sdf_actor.specs.Rests.{AreWhole, IsRest}
+use Rattle.sdf_actor.specs.Rests.{AreWhole, state_left, IsRest}
 use Rattle.sdf_actor.specs.Steps.{Steps, phase, total_in, total_out, state_after, PutsFit}
 use Rattle.sdf_actor.proofs.Agree.{length_taken_before}
 use Rattle.sdf_actor.proofs.Continuing.{phases, state_on}
@@ -101,6 +101,6 @@ may_begin rise {A} s fits n good inputs k whole rest is a known = go (node n a) 
     go (Sink ext block) e = tt
     go (Inner x) e = (
       state_after s x (taken_before (wiring s n) is.history a (k a)),
-      is.left.states a x known e,
+      is.left.states a known ∙ ap (λ y. state_left s y (taken_before (wiring s n) is.history a (k a))) e,
       fits_left rise s fits n good inputs k whole is.history is.is a known x e,
     )

@@ -16,13 +16,19 @@ pub record AreWhole {A S T : Type 0} (s : Steps A S T) (n : Netlist A T) (k : �
   pub period : IsPeriod (wiring s n).rates k
   pub cycles : (a : ℕ) → a < length n.nodes → Divides (cycle_of s (node n a)) (k a)
 
--- what the history V leaves where each node a has fired k a times: each actor's state after all that it took, and of
+-- the state that a node is left in that took these blocks: none of a source or a sink
+abbrev pub state_left : {A S T : Type 0} → Steps A S T → Node A → List (List T) → Option S
+state_left s (Source ext block) past = None
+state_left s (Sink ext block) past = None
+state_left s (Inner x) past = Some (state_after s x past)
+
+-- what the history V leaves where each node a has fired k a times: each node's state after all that it took, and of
 -- each channel the samples that were not taken
 pub record Leaves {A S T : Type 0} (s : Steps A S T) (n : Netlist A T) (k : ℕ → ℕ) (V : ℕ → List T)
     (rest : Rest T S) : Type 0 where
   pub nodes : length rest.states.items ≡ length n.nodes
-  pub states : (a : ℕ) (x : A) → a < length n.nodes → node n a ≡ Inner x →
-      slice_index_or rest.states.items a None ≡ Some (state_after s x (taken_before (wiring s n) V a (k a)))
+  pub states : (a : ℕ) → a < length n.nodes →
+      slice_index_or rest.states.items a None ≡ state_left s (node n a) (taken_before (wiring s n) V a (k a))
   pub channels : length rest.held.items ≡ length n.wires
   pub held : (c : ℕ) → c < length n.wires →
       slice_index_or (lists rest.held.items) c [] ≡

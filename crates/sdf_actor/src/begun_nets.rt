@@ -6,7 +6,7 @@ ghost use Rattle.sdf_actor.specs.Begun.{MayBegin};
 ghost use Rattle.sdf_actor.specs.BegunSteps.{begun_steps};
 ghost use Rattle.sdf_actor.specs.Graphs.{graph_of};
 ghost use Rattle.sdf_actor.specs.Nets.{no_wire};
-ghost use Rattle.sdf_actor.specs.Rests.{AreWhole, IsRest, IsNodeIn, BeginsWith};
+ghost use Rattle.sdf_actor.specs.Rests.{AreWhole, state_left, IsRest, IsNodeIn, BeginsWith};
 ghost use Rattle.sdf_actor.specs.Wires.{lists, wire_of, wires};
 
 use crate::actor::Actor;
@@ -97,9 +97,9 @@ fn links_with<T: Copy>(
     Ok(begun)
 }
 
-/// The state that a node begins in, where it is an actor.
+/// The state that a node begins in: none of a source or a sink.
 fn first_state<A: Actor>(alloc: Global, node: &Node<A>) -> Result<Option<A::State>, AllocError>
-    ensures { IfOk result (λ state. (x : A) → node.now ≡ Inner x → state ≡ Some (A.steps.start x)) }
+    ensures { IfOk result (λ state. state ≡ state_left A.steps node.now []) }
 {
     match node {
         Node::Inner(actor) => Ok(Some(actor.start(alloc)?)),
@@ -113,8 +113,8 @@ fn first_states<A: Actor>(
     nodes: &[Node<A>],
 ) -> Result<Vec<Option<A::State>>, AllocError>
     ensures all { IfOk result (λ v. length v.items ≡ length nodes.now) }
-    ensures each { IfOk result (λ v. (a : ℕ) → a < length nodes.now → (x : A) →
-        slice_index_or nodes.now a (Sink 0 0) ≡ Inner x → slice_index_or v.items a None ≡ Some (A.steps.start x)) }
+    ensures each { IfOk result (λ v. (a : ℕ) → a < length nodes.now →
+        slice_index_or v.items a None ≡ state_left A.steps (slice_index_or nodes.now a (Sink 0 0)) []) }
 {
     let mut states = Vec::new(alloc);
     for node in nodes {

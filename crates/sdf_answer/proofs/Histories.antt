@@ -1,13 +1,14 @@
 -- Histories at the first firing and at the last.
-use Rattle.std.proofs.Common.{◌≡◌, ℕ, ◌+◌, ◌*◌, ◌≤◌, ◌<◌, List, [], length, get_or, take, drop, Some, sym, ap, ◌∙◌}
+use Rattle.std.proofs.Common.{◌≡◌, ℕ, ◌+◌, ◌*◌, ◌≤◌, ◌<◌, List, [], length, get_or, take, drop, sym, ap, ◌∙◌}
 use Rattle.std.proofs.Common.{arith, add-zero, refl}
 use Rattle.std.specs.List.{flat_map}
 use Rattle.std.proofs.Math.Nat.{mul-le-mul_left}
 use Rattle.std.proofs.lemmas.List.{take_all}
 use Rattle.sdf_graph.specs.Sequences.{times}
-use Rattle.sdf_actor.specs.Steps.{Steps, state_after}
+use Rattle.sdf_actor.specs.Rests.{state_left}
+use Rattle.sdf_actor.specs.Steps.{Steps}
 use Rattle.sdf_actor.specs.Histories.{Wiring, Answers, IsHistory, IsWired, taken_before}
-use Rattle.sdf_actor.specs.Nets.{Netlist, wiring, answers, to_port}
+use Rattle.sdf_actor.specs.Nets.{Netlist, node, wiring, answers, to_port}
 use Rattle.sdf_actor.specs.Laws.{NetsAreWired}
 use Rattle.sdf_actor.specs.Sides.{period_samples}
 use Rattle.sdf_actor.specs.declared.sides.Lists.TheVariants.{Inputs}
@@ -74,8 +75,8 @@ module _ {A S T : Type 0} (s : Steps A S T) (wired : NetsAreWired s) where
         (λ i. take ((wiring s n).rates.consumed (to_port n a 0) i) (V (to_port n a 0))) (same a l));
     left = record {
       nodes = left.nodes;
-      states = λ a x l is. left.states a x l is ∙ ap
-          (λ i. Some (state_after s x (taken_before (wiring s n) V a i))) (same a l);
+      states = λ a l. left.states a l ∙ ap
+          (λ i. state_left s (node n a) (taken_before (wiring s n) V a i)) (same a l);
       channels = left.channels;
       held = λ c l. left.held c l ∙ ap (λ i. drop ((wiring s n).rates.consumed c i) (V c))
           (same ((wiring s n).rates.target c) ((wired n good).sound.target_in c l));

@@ -2,7 +2,8 @@
 use Rattle.std.specs.Prelude.{◌≡◌, ℕ, List, Option, Some, None}
 use Rattle.sdf_actor.specs.declared.node.Node.{Node}
 use Rattle.sdf_actor.specs.declared.node.Node.TheVariants as node
-use Rattle.sdf_actor.specs.Steps.{Steps, state_after}
+use Rattle.sdf_actor.specs.Rests.{state_left}
+use Rattle.sdf_actor.specs.Steps.{Steps}
 use Rattle.sdf_node.specs.declared.node.NodeState.{NodeState}
 use Rattle.sdf_node.specs.declared.node.NodeState.TheVariants.{Inner}
 use Rattle.sdf_node.specs.Nodes.{IsAt}
@@ -12,9 +13,8 @@ abbrev pub kept_of : {A S T : Type 0} → Node A → NodeState T S → Option S
 kept_of (node.Inner x) (Inner phase state) = Some state
 kept_of x w = None
 
--- an actor keeps the state after all that it took
-abbrev pub ActorsKeepStates : {A S T : Type 0} → Steps A S T → Type 0
-ActorsKeepStates {A} {S} {T} s =
-    (inputs : List (List T)) (many : ℕ) (x : A) (past : List (List T)) (w : NodeState T S) →
-    IsAt s inputs many (node.Inner x) past w →
-    kept_of (node.Inner x) w ≡ Some (state_after s x past)
+-- a node keeps the state that it is left in by all that it took
+abbrev pub NodesKeepStates : {A S T : Type 0} → Steps A S T → Type 0
+NodesKeepStates {A} {S} {T} s =
+    (inputs : List (List T)) (many : ℕ) (x : Node A) (past : List (List T)) (w : NodeState T S) →
+    IsAt s inputs many x past w → kept_of x w ≡ state_left s x past

@@ -2,7 +2,7 @@
 
 ghost use Rattle.sdf_node.specs.Collected.{SinksHoldLists};
 ghost use Rattle.sdf_node.specs.Laws.{NodesCanStep, NodesKeepPhase, NodesCanStepMany, BlocksJoin};
-ghost use Rattle.sdf_node.specs.Kept.{ActorsKeepStates};
+ghost use Rattle.sdf_node.specs.Kept.{NodesKeepStates};
 
 use sdf_actor::Actor;
 pub use sdf_actor::laws::{locals_are_history, locals_grow};
@@ -28,7 +28,7 @@ pub fn sinks_hold_lists<A: Actor>()
     ensures { SinksHoldLists A.steps }
 {}
 
-/// An actor keeps the state after all that it took.
-pub fn actors_keep_states<A: Actor>()
-    ensures { ActorsKeepStates A.steps }
+/// A node keeps the state that all that it took leaves it in.
+pub fn nodes_keep_states<A: Actor>()
+    ensures { NodesKeepStates A.steps }
 {}

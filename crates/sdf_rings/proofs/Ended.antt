@@ -19,6 +19,7 @@ use Rattle.sdf_answer.specs.Answer.{AreOutputs}
 use Rattle.sdf_answer.specs.Feeds.{HasRun}
 use Rattle.sdf_answer.specs.Laws.{SinksTakeAll}
 use Rattle.sdf_node.specs.Collected.{SinksHoldLists}
+use Rattle.sdf_node.specs.Kept.{NodesKeepStates}
 use Rattle.sdf_node.specs.Nodes.{IsAt}
 use Rattle.sdf_rings.specs.declared.stand.Stand.{Stand}
 use Rattle.sdf_rings.specs.declared.seat.Seat.{Seat}
@@ -27,7 +28,7 @@ use Rattle.sdf_rings.specs.Rests.{stand_of, AreRings, StandAtRest, AreAtRest, Ho
 use Rattle.sdf_rings.specs.Asks.{IsPlanned}
 use Rattle.sdf_rings.specs.Totals.{total_left}
 use Rattle.sdf_rings.proofs.Collects.{AreGiven}
-use Rattle.sdf_rings.proofs.Reading.{state_is, a_seat, a_stand, taker, rest_at}
+use Rattle.sdf_rings.proofs.Reading.{a_seat, a_stand, taker, rest_at}
 use Rattle.sdf_rings.proofs.Times.{times_none}
 use Rattle.sdf_rings.proofs.Totals.{total_some}
 
@@ -84,22 +85,22 @@ module _ {A S T : Type 0} (s : Steps A S T) (n : Netlist A T) (inputs : List (Li
       }
 
       -- and what the seats hold is left
-      pub run_given : (rest : Rest T S) → HoldRest n seats places rest → HasRun s n inputs k (lists outputs) rest
-      run_given rest held = record {
+      pub run_given : NodesKeepStates s → (rest : Rest T S) → HoldRest n seats places rest →
+          HasRun s n inputs k (lists outputs) rest
+      run_given keep rest held = record {
         history = at_end.history;
         is = at_end.is;
         count = length-map outputs (λ v. v.items) ∙ count;
         each = sink_given;
         left = record {
           nodes = held.nodes;
-          states = λ a x l is.
+          states = λ a l.
               let e = a_seat s n inputs seats places r a l in
               let d = a_stand s n inputs seats places r a l in
               let z = stand_of n seats places e d a in
-              held.states_held a x e d l is ∙
-              state_is s inputs z.asked x (taken_before (wiring s n) at_end.history a (k a)) z.state
-              (subst (λ y. IsAt s inputs z.asked y (taken_before (wiring s n) at_end.history a (k a)) z.state) is
-              (at_end.states a e d l));
+              held.states_held a e d l ∙
+              keep inputs z.asked (node n a) (taken_before (wiring s n) at_end.history a (k a)) z.state
+              (at_end.states a e d l);
           channels = held.channels;
           held = λ c l.
               let to = r.is_net.to_in c l in

@@ -8,9 +8,9 @@ use Rattle.rtrb.specs.declared.AnyItems.{AnyItems}
 use Rattle.sdf_actor.specs.Steps.{Steps}
 use Rattle.sdf_actor.specs.Histories.{taken_before}
 use Rattle.sdf_actor.specs.Nets.{Netlist, node, wire, wiring, IsNet, IsHistoryOf}
-use Rattle.sdf_actor.specs.declared.node.Node.TheVariants as node_of
 use Rattle.sdf_actor.specs.declared.rest.Rest.{Rest}
 use Rattle.sdf_actor.specs.Wires.{lists}
+use Rattle.sdf_node.specs.Kept.{kept_of}
 use Rattle.sdf_node.specs.Nodes.{IsAt}
 use Rattle.sdf_node.specs.declared.node.NodeState.{NodeState}
 use Rattle.sdf_node.specs.declared.node.NodeState.TheVariants.{Source, Sink, Inner}
@@ -106,9 +106,8 @@ state_in (Inner j state) = Some state
 pub record HoldRest {A S T : Type 0} (n : Netlist A T) (seats : List (Seat A T S)) (places : List (ℕ × ℕ))
     (rest : Rest T S) : Type 0 where
   pub nodes : length rest.states.items ≡ length n.nodes
-  pub states_held : (a : ℕ) (x : A) (e : Seat A T S) (d : Stand A T S) → a < length n.nodes →
-      node n a ≡ node_of.Inner x →
-      slice_index_or rest.states.items a None ≡ state_in (stand_of n seats places e d a).state
+  pub states_held : (a : ℕ) (e : Seat A T S) (d : Stand A T S) → a < length n.nodes →
+      slice_index_or rest.states.items a None ≡ kept_of (node n a) (stand_of n seats places e d a).state
   pub channels : length rest.held.items ≡ length n.wires
   pub items_held : (c : ℕ) (e : Seat A T S) (d : Stand A T S) (x : Consumer T Global AnyItems) → c < length n.wires →
       slice_index_or (lists rest.held.items) c [] ≡ known_items (consumer_of n seats places e d x c)

@@ -2,35 +2,18 @@
 
 ghost use Rattle.std.specs.Prelude.{◌≡◌, ◌<◌, ℕ, List, None, [], length, slice_index_or, IfOk, OnOk};
 ghost use Rattle.rtrb.specs.Ring.{known_items};
-ghost use Rattle.sdf_actor.specs.declared.node.Node.TheVariants as kind;
 ghost use Rattle.sdf_actor.specs.Nets.{node};
 ghost use Rattle.sdf_actor.specs.Wires.{lists};
+ghost use Rattle.sdf_node.specs.Kept.{kept_of};
 ghost use Rattle.sdf_rings.specs.Places.{TakesAt, SameButEnds, IsEmptied, consumer_at};
-ghost use Rattle.sdf_rings.specs.Rests.{stand_of, consumer_of, state_in, IsPlaced, AreRings, HoldRest};
+ghost use Rattle.sdf_rings.specs.Rests.{stand_of, consumer_of, IsPlaced, AreRings, HoldRest};
 
 use crate::meet::{Spot, end_at, swap_ins};
 use crate::seat::Seat;
 use rtrb::Consumer;
-use sdf_actor::{Actor, Net, Node, Rest};
-use sdf_node::NodeState;
+use sdf_actor::{Actor, Net, Rest};
+use sdf_node::kept;
 use std::alloc::{AllocError, Global};
-
-/// A copy of the state of a node, where it is an actor.
-fn state_of<A: Actor>(
-    alloc: Global,
-    node: &Node<A>,
-    state: &NodeState<A::Token, A::State>,
-) -> Result<Option<A::State>, AllocError>
-    ensures { IfOk result (λ v. (x : A) → node.now ≡ kind.Inner x → v ≡ state_in state.now) }
-{
-    match node {
-        Node::Inner(actor) => match state {
-            NodeState::Inner(_, inner) => Ok(Some(actor.again(alloc, inner)?)),
-            _ => Ok(None),
-        },
-        _ => Ok(None),
-    }
-}
 
 /// Copies of the states of all actors.
 fn states_of<A: Actor>(
@@ -42,15 +25,14 @@ fn states_of<A: Actor>(
     requires placed { IsPlaced net.now seats.now places.now }
     requires all { length places.now ≡ length net.now.nodes }
     ensures all { IfOk result (λ v. length v.items ≡ length net.now.nodes) }
-    ensures each { IfOk result (λ v. (a : ℕ) (x : A) (e : _) (d : _) → a < length net.now.nodes →
-        node net.now a ≡ kind.Inner x →
-        slice_index_or v.items a None ≡ state_in (stand_of net.now seats.now places.now e d a).state) }
+    ensures each { IfOk result (λ v. (a : ℕ) (e : _) (d : _) → a < length net.now.nodes →
+        slice_index_or v.items a None ≡ kept_of (node net.now a) (stand_of net.now seats.now places.now e d a).state) }
 {
     let mut states = Vec::with_capacity(alloc, net.len())?;
     for a in 0..net.len() {
         let place = places[a];
         let stand = &seats[place.0].stands[place.1];
-        states.push(state_of(alloc, net.node(a), &stand.state)?)?;
+        states.push(kept(alloc, net.node(a), &stand.state)?)?;
     }
     Ok(states)
 }

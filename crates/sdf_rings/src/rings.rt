@@ -300,6 +300,7 @@ impl<'a, A: Actor> Rings<'a, A> {
         net_facts(net);
         histories_make_outputs::<A>();
         sdf_node::laws::sinks_hold_lists::<A>();
+        sdf_node::laws::nodes_keep_states::<A>();
         met_is_rest(net, inputs, &seats, &places);
         let rest = leave(alloc, net, &mut seats, &places)?;
         collect(net, &mut seats, &places, &mut outputs);

@@ -25,7 +25,7 @@ use Rattle.sdf_actor.specs.Sides.{list_count, period_samples}
 use Rattle.sdf_actor.specs.Wires.{lists}
 use Rattle.sdf_node.specs.declared.node.NodeState.{NodeState}
 use Rattle.sdf_node.specs.declared.node.NodeState.TheVariants.{Source, Sink, Inner}
-use Rattle.sdf_node.specs.Kept.{kept_of, ActorsKeepStates}
+use Rattle.sdf_node.specs.Kept.{kept_of, NodesKeepStates}
 use Rattle.sdf_node.specs.Nodes.{CanBegin, IsAt}
 use Rattle.sdf_rows.specs.declared.job.Job.{Job}
 use Rattle.sdf_answer.specs.Answer.{AreOutputs, periods_of}
@@ -188,18 +188,18 @@ module _ {A S T : Type 0} (s : Steps A S T) (n : Netlist A T) (inputs : List (Li
       (length-map outputs (λ v. v.items) ∙ count) (sinks_took outputs collected)
 
   -- copies of the actors' states and of the samples on the channels are what is left
-  leaves : ActorsKeepStates s → (rest : Rest T S) → length rest.states.items ≡ length n.nodes →
+  leaves : NodesKeepStates s → (rest : Rest T S) → length rest.states.items ≡ length n.nodes →
       ((a : ℕ) (w : NodeState T S) → a < length n.nodes →
       get_or rest.states.items a None ≡ kept_of (nets.node n a) (get_or states a w)) →
       lists rest.held.items ≡ map (λ queue. queue.samples) ls →
       Leaves s n k over.between.history rest
   leaves keep rest all copies held = record {
     nodes = all;
-    states = λ a x l is.
+    states = λ a l.
         let w : NodeState T S = some_of states a (omega (arith, over.between.nodes)) in
-        copies a w l ∙ (ap (λ y. kept_of y (get_or states a w)) is ∙
-        keep inputs (blocks * (j * get_or q a 0)) x (taken_before (wiring s n) over.between.history a (k a))
-        (get_or states a w) (node_at a (node.Inner x) w l is));
+        copies a w l ∙
+        keep inputs (blocks * (j * get_or q a 0)) (nets.node n a) (taken_before (wiring s n) over.between.history a (k a))
+        (get_or states a w) (node_at a (nets.node n a) w l refl);
     channels = sym (length-map rest.held.items (λ v. v.items))
         ∙ (ap length held ∙ (length-map ls (λ (q : Held T). q.samples) ∙ over.between.channels));
     held = λ c l.
@@ -209,7 +209,7 @@ module _ {A S T : Type 0} (s : Steps A S T) (n : Netlist A T) (inputs : List (Li
   }
 
   -- and that is a run
-  pub row_run : SinksMakeRuns s → ActorsKeepStates s → IsNet s n → (outputs : List (Vec T Global)) →
+  pub row_run : SinksMakeRuns s → NodesKeepStates s → IsNet s n → (outputs : List (Vec T Global)) →
       AreCollected n (length n.nodes) states outputs → length outputs ≡ list_count Outputs n.nodes →
       (rest : Rest T S) → length rest.states.items ≡ length n.nodes →
       ((a : ℕ) (w : NodeState T S) → a < length n.nodes →

@@ -25,7 +25,7 @@ use sdf_answer::outputs::make_outputs;
 use sdf_answer::queue::held;
 use sdf_answer::sizes::samples_of_blocks;
 use sdf_answer::{Ran, RunFault};
-use sdf_node::laws::actors_keep_states;
+use sdf_node::laws::nodes_keep_states;
 use sdf_node::{Gate, NodeState, kept};
 use sdf_prec::Table;
 use sdf_sched::Period;
@@ -69,7 +69,7 @@ fn fill<R: Threads + AllocGlobal + Sync, A: Actor, G: Gate>(
 {
     net_facts(net);
     histories_make_runs::<A>();
-    actors_keep_states::<A>();
+    nodes_keep_states::<A>();
     let alloc = rt.alloc();
     let mut outputs = make_outputs(alloc, net.outputs(), 0)?;
     match first_sample(inputs) {

@@ -1,8 +1,8 @@
 use Rattle.std.proofs.Common.{◌≡◌, ◌<◌, length, slice_index_or, arith, sym, ap, ◌∙◌, Option}
-use Rattle.sdf_actor.specs.declared.node.Node.TheVariants.{Inner}
 use Rattle.sdf_actor.specs.Nets.{node}
 use Rattle.sdf_rings.specs.declared.stand.Stand.{Stand}
-use Rattle.sdf_rings.specs.Rests.{stand_of, state_in}
+use Rattle.sdf_node.specs.Kept.{kept_of}
+use Rattle.sdf_rings.specs.Rests.{stand_of}
 use Rattle.sdf_rings.proofs.Lists.{push_each, vec_long}
 use Rattle.sdf_rings.proofs.Looking.{vec_in}
 use Rattle.sdf_rings.proofs.Places.{seat_is, stand_is}
@@ -28,13 +28,13 @@ loop-a-preserved g c =
         vec_long c.push.new.self,
         c.loop-a.invariant.all,
       );
-      each = λ b z x e d h is. push_each (λ k (y : Option _). node n k ≡ Inner x →
-          y ≡ state_in (stand_of n seats places e d k).state)
-          c.loop-a.states.items c.push.new.self.items c.in_ok-state_of.field-0 a c.in_ok-push.ensures.items
-          c.loop-a.invariant.all (λ k w m i. c.loop-a.invariant.each k w x e d m i)
-          (λ i. c.in_ok-state_of.ensures x (c.node.ensures ∙ i) ∙
-          ap (λ (y : Stand _ _ _). state_in y.state)
+      each = λ b z e d h. push_each (λ k (y : Option _).
+          y ≡ kept_of (node n k) (stand_of n seats places e d k).state)
+          c.loop-a.states.items c.push.new.self.items c.in_ok-kept.field-0 a c.in_ok-push.ensures.items
+          c.loop-a.invariant.all (λ k w m. c.loop-a.invariant.each k w e d m)
+          (c.in_ok-kept.ensures ∙ (ap (λ x. kept_of x r.state) c.node.ensures ∙
+          ap (λ (y : Stand _ _ _). kept_of (node n a) y.state)
           (sym (stand_is seats (slice_index_or places a (0, 0)).0 (slice_index_or places a (0, 0)).1 f r e d inside
           (seat_is seats (slice_index_or places a (0, 0)).0 c.index-seats-place.result inside) below
-          c.index-stand.ensures))) b z h is;
+          c.index-stand.ensures)))) b z h;
     }

@@ -35,7 +35,7 @@ returns-in_ok-held-in-Some g c =
     c.collect.ensures.lists in
     subst (λ v. HasRun s n (lists c.args.inputs.now) (periods_of q (p.blocks * p.j)) (lists v) rest) (sym whole)
     (row_run s n (lists c.args.inputs.now) q p.j p.blocks over.0 run.states.items run.queues.items over.1
-    c.histories_make_runs.ensures.runs c.actors_keep_states.ensures c.net_facts.ensures.net
+    c.histories_make_runs.ensures.runs c.nodes_keep_states.ensures c.net_facts.ensures.net
     made collected count rest c.in_ok-kept_by-in-Some.ensures.all
     (λ a w l. c.in_ok-kept_by-in-Some.ensures.each a w l
     ∙ ap (λ xs. kept_of (node n a) (get_or xs a w)) c.deref.ensures.value)

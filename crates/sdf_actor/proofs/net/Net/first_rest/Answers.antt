@@ -2,7 +2,7 @@ use Rattle.std.proofs.Common.{◌≡◌, ◌<◌, [], length, map, get_or, drop,
 use Rattle.std.proofs.lemmas.List.{get_or-map, length-map}
 use Rattle.sdf_actor.specs.declared.node.Node.TheVariants.{Sink}
 use Rattle.sdf_actor.specs.Nets.{Wire, no_wire, wiring}
-use Rattle.sdf_actor.specs.Rests.{IsRest}
+use Rattle.sdf_actor.specs.Rests.{state_left, IsRest}
 use Rattle.sdf_actor.specs.Wires.{lists, wires, netlist}
 use Rattle.sdf_actor.proofs.BegunGraphs.{no_firing}
 use Rattle.sdf_actor.proofs.Netlists.{wired}
@@ -28,8 +28,8 @@ returns g c = λ inputs.
       is = no_firing rise s n good inputs;
       left = record {
         nodes = c.in_ok-first_states.ensures.all ∙ ap length nodes;
-        states = λ a x l is. c.in_ok-first_states.ensures.each a (subst (λ v. a < length v) (sym nodes) l) x
-            (ap (λ v. get_or v a (Sink 0 0)) nodes ∙ is);
+        states = λ a l. c.in_ok-first_states.ensures.each a (subst (λ v. a < length v) (sym nodes) l)
+            ∙ ap (λ v. state_left s (get_or v a (Sink 0 0)) []) nodes;
         channels = sym (length-map c.in_ok-first_held.field-0.items (λ v. v.items))
             ∙ (ap length held ∙ length-map (wires c.self.inside.links.items) begins);
         held = λ d l. ap (λ v. get_or v d []) held ∙ (get_or-map begins (wires c.self.inside.links.items) d no_wire [] l

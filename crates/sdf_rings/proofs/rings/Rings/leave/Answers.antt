@@ -64,4 +64,4 @@ returns g c = λ order cap k plan counts.
     c.in_ok-rest.rest) c.self.view_is
     (run_given s n (lists x.inputs.now) x.seats.items x.places.items c.self.invariant.0 order cap mine left rest
     accepted.0 accepted.1 k asked c.sinks_hold_lists.ensures c.histories_make_outputs.ensures.took
-    c.collect.new.outputs count given c.in_ok-rest.rest held))
+    c.collect.new.outputs count given c.nodes_keep_states.ensures c.in_ok-rest.rest held))
