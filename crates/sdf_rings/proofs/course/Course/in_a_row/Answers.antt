@@ -1,5 +1,4 @@
 use Rattle.std.proofs.Common.{◌≡◌, ◌+◌, ◌%◌, ◌<◌, ◌≤◌, length, slice_index, arith, ap, subst, sym, ◌∙◌}
-use Rattle.sdf_graph.specs.Sequences.{repeated}
 use Rattle.sdf_rings.proofs.Courses.{inside, row, within}
 use Rattle.sdf_rings.proofs.Lists.{vec_long}
 use Rattle.sdf_rings.proofs.course.Course.in_a_row.Goals as goal

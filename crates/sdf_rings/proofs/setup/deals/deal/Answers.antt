@@ -1,5 +1,4 @@
 use Rattle.std.proofs.Common.{◌∙◌, ap}
-use Rattle.std.specs.Prelude.{IfOk, Result}
 use Rattle.sdf_graph.specs.Sequences.{repeated}
 use Rattle.sdf_rings.proofs.Dealing.{dealt_all}
 use Rattle.sdf_rings.proofs.Lists.{ok_then}
