@@ -19,7 +19,8 @@ use Rattle.sdf_options.specs.declared.options.Policy.{Policy}
 use Rattle.sdf_options.specs.declared.options.Runner.{Runner}
 use Rattle.sdf_options.specs.declared.options.Runner.TheVariants.{One, Rows, Rings}
 use Rattle.sdf_process.specs.Placements.{rates_of, firings_of, IsPlaced, IsTableBy}
-use Rattle.sdf_process.specs.Plans.{PlanValue, HasBlockTable, IsPlanOf, IsPlanFault, IsTableFor, HasPatience}
+use Rattle.sdf_process.specs.Followed.{HasBlockTable}
+use Rattle.sdf_process.specs.Plans.{PlanValue, IsPlanOf, IsPlanFault, IsTableFor, HasPatience}
 use Rattle.sdf_process.specs.Plans.{SuitsRunner, Suits}
 
 pub placed_table : (placement : Placement) (policy : Policy) (d : DesignValue) (j m : ℕ) (s : Schedule) (t : Tabled) →

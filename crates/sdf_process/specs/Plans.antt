@@ -11,7 +11,6 @@ use Rattle.sdf_actor.specs.Nets.{Netlist}
 use Rattle.sdf_kit.specs.declared.kit.Kit.{Kit}
 use Rattle.sdf_kit.specs.Kit.{kit_steps}
 use Rattle.sdf_answer.specs.Rows.{IsTableOf}
-use Rattle.sdf_answer.specs.declared.block_table.BlockTable.{BlockTable}
 use Rattle.sdf_sched.specs.Period.{Schedule, IsPeriodOf}
 use Rattle.sdf_sched.specs.Pick.{IsPicked}
 use Rattle.sdf_sched.specs.Round.{IsRoundChoice}
@@ -34,8 +33,6 @@ use Rattle.sdf_options.specs.declared.options.Runner.TheVariants.{One, Rows, Rin
 use Rattle.sdf_options.specs.declared.options.Placement.{Placement}
 use Rattle.sdf_options.specs.declared.options.Placement.TheVariants.{Spread}
 use Rattle.sdf_process.specs.declared.plan.TheConstants.{SPREAD_ROOMS}
-use Rattle.sdf_process.specs.declared.plan.Followed.{Followed}
-use Rattle.sdf_process.specs.declared.plan.Followed.TheVariants.{OneThread, Workers}
 use Rattle.sdf_process.specs.declared.fault.Progress.{Progress}
 use Rattle.sdf_process.specs.declared.fault.Fault.{Fault}
 use Rattle.sdf_process.specs.declared.fault.Fault.TheVariants.{OutOfMemory, Patience, BlockingFactor, WorkerCount}
@@ -51,25 +48,6 @@ pub record PlanValue : Type 0 where
   pub rooms : ℕ
   pub period : Schedule
   pub table : Option Tabled
-
--- what the runner of a plan follows: the periods of a block, the order of one period, and the table of a block
-abbrev pub blocking_in : Followed → ℕ
-blocking_in (OneThread period blocking) = blocking
-blocking_in (Workers t) = t.factor
-
-abbrev pub period_in : Followed → Schedule
-period_in (OneThread period blocking) = period
-period_in (Workers t) = t.period
-
-abbrev pub table_in : Followed → Option Tabled
-table_in (OneThread period blocking) = None
-table_in (Workers t) = Some t.table
-
--- a plan has this table of blocks
-pub record HasBlockTable (p : PlanValue) (t : BlockTable) : Type 0 where
-  pub period : t.period ≡ p.period
-  pub factor : t.factor ≡ p.blocking
-  pub table : p.table ≡ Some t.table
 
 -- a policy fires this order of a period's firings, from its beginning: rounds and runs begin at actor 0
 abbrev pub IsOrderBy : Policy → Shape → (ℕ → ℕ) → List ℕ → Type 0

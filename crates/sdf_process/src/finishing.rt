@@ -11,7 +11,8 @@ ghost use Rattle.sdf_answer.specs.Rows.{IsBlockTableOf};
 ghost use Rattle.sdf_kit.specs.Kit.{kit_steps};
 ghost use Rattle.sdf_process.specs.declared.fault.Fault.TheVariants.{OutOfMemory};
 ghost use Rattle.sdf_process.specs.Output.{announced_by, exchange_of, output_frames, periods_of, IsExtent};
-ghost use Rattle.sdf_process.specs.Plans.{HasBlockTable, HasPatience, Suits, SuitsRunner};
+ghost use Rattle.sdf_process.specs.Followed.{HasBlockTable};
+ghost use Rattle.sdf_process.specs.Plans.{HasPatience, Suits, SuitsRunner};
 ghost use Rattle.sdf_process.specs.Run.{BeginWithOutput};
 ghost use Rattle.sdf_process.specs.Stages.{PutsOutput};
 

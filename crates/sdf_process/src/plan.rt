@@ -7,7 +7,8 @@ ghost use Rattle.sdf_actor.specs.Nets.{Netlist};
 ghost use Rattle.sdf_answer.specs.Rows.{IsBlockTableOf};
 ghost use Rattle.sdf_kit.specs.declared.kit.Kit.{Kit};
 ghost use Rattle.sdf_kit.specs.Kit.{kit_steps};
-ghost use Rattle.sdf_process.specs.Plans.{rooms_of, blocking_in, period_in, table_in, HasBlockTable, Suits};
+ghost use Rattle.sdf_process.specs.Followed.{blocking_in, period_in, table_in, HasBlockTable};
+ghost use Rattle.sdf_process.specs.Plans.{rooms_of, Suits};
 
 use sdf_answer::BlockTable;
 use sdf_options::{Options, Placement, Runner};
@@ -32,13 +33,13 @@ pub(crate) fn rooms_of(placement: Placement) -> u32
 /// What a runner follows.
 #[derive(Drop)]
 enum Followed {
-    /// The firings of one period. A block has so many periods.
+    /// One period, and how many a block has.
     OneThread { period: Period, blocking: u32 },
     Workers(BlockTable),
 }
 
 /// What is followed with a table or without one.
-fn followed(period: Period, blocking: u32, table: Option<Table>) -> Followed
+fn following(period: Period, blocking: u32, table: Option<Table>) -> Followed
     ensures blocking { blocking_in result ≡ blocking }
     ensures period { period_in result ≡ period }
     ensures table { table_in result ≡ table }
@@ -63,7 +64,8 @@ pub struct Plan {
 }
 
 impl Model for Plan {
-    ghost use Rattle.sdf_process.specs.Plans.{PlanValue, blocking_in, period_in, table_in};
+    ghost use Rattle.sdf_process.specs.Followed.{blocking_in, period_in, table_in};
+    ghost use Rattle.sdf_process.specs.Plans.{PlanValue};
 
     ghost Value = { PlanValue };
 
@@ -98,7 +100,7 @@ impl Plan {
             runner: options.runner,
             patience: options.patience,
             rooms: rooms_of(options.placement),
-            followed: followed(period, blocking, table),
+            followed: following(period, blocking, table),
         }
     }
 

@@ -13,7 +13,8 @@ ghost use Rattle.sdf_wav.specs.Sound.{Sound};
 ghost use Rattle.sdf_process.specs.declared.exchange.Extent.{Extent};
 ghost use Rattle.sdf_process.specs.declared.fault.Fault.TheVariants.{OutOfMemory};
 ghost use Rattle.sdf_process.specs.Output.{exchange_of, lists_from, IsExtent};
-ghost use Rattle.sdf_process.specs.Plans.{HasBlockTable, Suits};
+ghost use Rattle.sdf_process.specs.Followed.{HasBlockTable};
+ghost use Rattle.sdf_process.specs.Plans.{Suits};
 ghost use Rattle.sdf_process.specs.Streams.{AreBehind, IsReady, PutsBlocks, PutsWhole, mode_of, ReadsBy, ReadsMore};
 ghost use Rattle.sdf_process.specs.Streams.{StandsAt, StandsWhole, Streams};
 
