@@ -88,16 +88,3 @@ longest_short r q j longest few = go longest.within
     go (inl one) = let e : 1 * sum q ≡ sum q = omega arith in
         subst (λ j. IsShort j q) (sym one) (omega (arith, e, few))
     go (inr within) = within.short
-
--- the firings of a block as a bound on a period's
-pub short_by : (j : ℕ) (reps : List ℕ) (total : ℕ) → total ≡ sum reps → 1 ≤ j → total ≤ MOST_BLOCK / j → IsShort j reps
-short_by j reps total is some low =
-    let within = (le-div_iff_mul-le {k = j} {x = total} {y = MOST_BLOCK} some).0 low in
-    omega (arith, within, ap (λ n. j * n) is)
-
-pub not_short : (j : ℕ) (reps : List ℕ) (total : ℕ) → total ≡ sum reps → 1 ≤ j → MOST_BLOCK / j < total →
-    IsShort j reps → ⊥
-not_short j reps total is some high short =
-    let within = (le-div_iff_mul-le {k = j} {x = total} {y = MOST_BLOCK} some).1
-    (omega (arith, short, ap (λ n. j * n) is)) in
-    omega arith

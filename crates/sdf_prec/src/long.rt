@@ -9,7 +9,7 @@ ghost use Rattle.sdf_prec.specs.Blocks.{IsWorkers, IsShort};
 ghost use Rattle.sdf_prec.specs.Spread.{AreLoads};
 ghost use Rattle.sdf_prec.specs.Long.{moved, IsLongest, IsLongSize, IsSpreadTable, IsSpreadFault};
 
-use crate::block::total;
+use crate::block::{is_short, total};
 use crate::by_homes::in_runs;
 use crate::fault::PrecFault;
 use crate::spread::spread;
@@ -53,7 +53,6 @@ pub fn long_block(graph: &Graph, repetitions: &[u32]) -> u32
 }
 
 /// Why `j` periods make no block for `m` workers.
-#[tactic(auto, using(crate::proofs::Longest::short_by, crate::proofs::Longest::not_short))]
 fn long_fault(j: u32, m: usize, reps: &[u32]) -> Option<PrecFault>
     requires few { length reps.now < 2 ^ 20 }
     ensures { MatchOption result (IsLongSize j m reps.now) (IsSpreadFault j m reps.now) }
@@ -64,7 +63,7 @@ fn long_fault(j: u32, m: usize, reps: &[u32]) -> Option<PrecFault>
     if m < 1 || m > MOST_WORKERS {
         return Some(PrecFault::WorkerCount);
     }
-    if total(reps) > MOST_BLOCK / u64::from(j) {
+    if !is_short(j, reps) {
         return Some(PrecFault::BlockTooLong);
     }
     None
