@@ -10,11 +10,13 @@ use Rattle.sdf_kit.specs.Ports.{ArePorts}
 use Rattle.sdf_kit.specs.Fir.{filtered}
 use Rattle.sdf_kit.specs.Gain.{scaled}
 use Rattle.sdf_kit.specs.Table.{looked_up}
+use Rattle.sdf_kit.specs.Clip.{clipped}
+use Rattle.sdf_kit.specs.Offset.{raised}
 use Rattle.sdf_kit.specs.Kit.{behaviour, kit_steps}
 use Rattle.sdf_kit.specs.Formulas.{at_port, moved_in, joined, formula_list, PutsItsFormulaJoined}
 use Rattle.sdf_kit.specs.declared.kit.Kit.{Kit}
 use Rattle.sdf_kit.specs.declared.kit.Kit.TheVariants.{Fir, Decimate, Interpolate, Add, Fork, Gain, Delay, Table, Deal}
-use Rattle.sdf_kit.specs.declared.kit.Kit.TheVariants.{Gather}
+use Rattle.sdf_kit.specs.declared.kit.Kit.TheVariants.{Gather, Clip, Offset}
 use Rattle.sdf_kit.proofs.Sums.{sum_below_same}
 use Rattle.sdf_kit.proofs.Fired.{length-blocks_put, get_or-blocks_put}
 use Rattle.sdf_kit.proofs.Formulas.{taken, blocks, put_long, puts_its_formula}
@@ -52,6 +54,8 @@ reads (Fork w) are x y same p n = ap (λ z. sample z n) (same 0 (omega arith))
 reads (Gain g) are x y same p n = ap (λ z. scaled g (sample z n)) (same 0 (omega arith))
 reads (Delay d) are x y same p n = ap (λ z. (behaviour (Delay d)).formula (λ q. z) p n) (same 0 (omega arith))
 reads (Table t) are x y same p n = ap (λ z. looked_up t (sample z n)) (same 0 (omega arith))
+reads (Clip c) are x y same p n = ap (λ z. clipped c (sample z n)) (same 0 (omega arith))
+reads (Offset v) are x y same p n = ap (λ z. raised v (sample z n)) (same 0 (omega arith))
 reads (Deal t) are x y same p n = ap (λ z. (behaviour (Deal t)).formula (λ q. z) p n) (same 0 (omega arith))
 reads (Gather t) are x y same p n =
     ap (λ z. sample z (n / (t.ways * t.run) * t.run + n % t.run))

@@ -16,11 +16,14 @@ use Rattle.sdf_kit.specs.Kept.{kept_next}
 use Rattle.sdf_kit.specs.Fir.{Filter, kept_len, block_put, run_put}
 use Rattle.sdf_kit.specs.Gain.{Scale, scaled}
 use Rattle.sdf_kit.specs.Table.{Lookup, looked_up}
+use Rattle.sdf_kit.specs.Clip.{Limits, clipped}
+use Rattle.sdf_kit.specs.Offset.{raised}
 use Rattle.sdf_kit.specs.Ports.{ArePorts}
 use Rattle.sdf_kit.specs.declared.ports.Ports.{Ports}
 use Rattle.sdf_kit.specs.Kit.{behaviour, kit_steps}
 use Rattle.sdf_kit.specs.declared.kit.Kit.{Kit}
-use Rattle.sdf_kit.specs.declared.kit.Kit.TheVariants.{Fir, Decimate, Interpolate, Add, Fork, Gain, Delay, Table}
+use Rattle.sdf_kit.specs.declared.kit.Kit.TheVariants.{Fir, Decimate, Interpolate, Add, Fork, Gain, Delay, Table, Clip}
+use Rattle.sdf_kit.specs.declared.kit.Kit.TheVariants.{Offset}
 use Rattle.sdf_kit.proofs.Upsampled.{upsampled_moved}
 use Rattle.sdf_kit.proofs.Blocks.{IsDone, done_begins, output, output_is}
 use Rattle.sdf_kit.proofs.Sums.{sum_below_same}
@@ -49,6 +52,25 @@ table_run t kept = record {
   none = refl;
   next = λ _ _ _ _ _ _. refl;
   more = λ _ _ xs b _ one. map_more (looked_up t) xs b one;
+}
+
+pub clip_run : (c : Limits) (kept : List ℤ) → IsRun kit_steps (Clip c) 1 kept (λ _. kept) (λ _ xs. map (clipped c) xs)
+clip_run c kept = record {
+  rate = λ _. refl;
+  begins = refl;
+  none = refl;
+  next = λ _ _ _ _ _ _. refl;
+  more = λ _ _ xs b _ one. map_more (clipped c) xs b one;
+}
+
+pub offset_run : (value : ℤ) (kept : List ℤ) → IsRun kit_steps (Offset value) 1 kept (λ _. kept)
+    (λ _ xs. map (raised value) xs)
+offset_run value kept = record {
+  rate = λ _. refl;
+  begins = refl;
+  none = refl;
+  next = λ _ _ _ _ _ _. refl;
+  more = λ _ _ xs b _ one. map_more (raised value) xs b one;
 }
 
 decimate_run : (m : ℕ) (kept : List ℤ) → 1 ≤ m →

@@ -19,12 +19,15 @@ ghost use Rattle.sdf_kit.specs.Fir.{filter_of};
 ghost use Rattle.sdf_kit.specs.Gain.{scale_of};
 ghost use Rattle.sdf_kit.specs.Delay.{length_of};
 ghost use Rattle.sdf_kit.specs.Table.{lookup_of};
+ghost use Rattle.sdf_kit.specs.Clip.{limits_of};
+ghost use Rattle.sdf_kit.specs.Offset.{value_of};
 ghost use Rattle.sdf_kit.specs.Kit.{behaviour, kit_steps, kit_of};
 ghost use Rattle.sdf_kit.specs.PutsFit.{kit_puts_fit};
 ghost use Rattle.sdf_kit.specs.declared.fault.Kind.TheVariants as kinds;
 ghost use Rattle.sdf_kit.specs.declared.kit.Kit.TheVariants as kits;
 
 use crate::add::Add;
+use crate::clip::Clip;
 use crate::deal::Deal;
 use crate::decimate::Decimate;
 use crate::delay::Delay;
@@ -35,6 +38,7 @@ use crate::gain::Gain;
 use crate::gather::Gather;
 use crate::interpolate::Interpolate;
 use crate::kept::Kept;
+use crate::offset::Offset;
 use crate::ports::Ports;
 use crate::table::Table;
 use sdf_actor::Actor;
@@ -56,6 +60,8 @@ pub enum Kit {
     Table(Table),
     Deal(Deal),
     Gather(Gather),
+    Clip(Clip),
+    Offset(Offset),
 }
 
 impl Kit {
@@ -129,6 +135,20 @@ impl Kit {
         Ok(Kit::Gather(Gather::new(ways, run)?))
     }
 
+    /// Each sample between `least` and `greatest`, both of 16 bits, `least` at most `greatest`.
+    pub fn clip(least: i32, greatest: i32) -> Result<Kit, KitFault>
+        ensures { result ≡ kit_of kits.Clip (limits_of least greatest) }
+    {
+        Ok(Kit::Clip(Clip::new(least, greatest)?))
+    }
+
+    /// Each sample plus `value` of 16 bits.
+    pub fn offset(value: i32) -> Result<Kit, KitFault>
+        ensures { result ≡ kit_of kits.Offset (value_of value) }
+    {
+        Ok(Kit::Offset(Offset::new(value)?))
+    }
+
     /// Its ports and rates.
     pub fn ports(&self) -> Ports
         ensures is { result ≡ (behaviour self.now).ports }
@@ -145,6 +165,8 @@ impl Kit {
             Kit::Table(t) => t.ports(),
             Kit::Deal(d) => d.ports(),
             Kit::Gather(g) => g.ports(),
+            Kit::Clip(c) => c.ports(),
+            Kit::Offset(o) => o.ports(),
         }
     }
 
@@ -208,6 +230,8 @@ impl Actor for Kit {
             Kit::Table(t) => t.fire(taken, put),
             Kit::Deal(d) => d.fire(taken, put),
             Kit::Gather(g) => g.fire(taken, put),
+            Kit::Clip(c) => c.fire(taken, put),
+            Kit::Offset(o) => o.fire(taken, put),
         }
     }
 
@@ -231,6 +255,8 @@ impl Actor for Kit {
             Kit::Gain(g) => g.run(taken, put),
             Kit::Delay(d) => d.run(state, taken, put),
             Kit::Table(t) => t.run(taken, put),
+            Kit::Clip(c) => c.run(taken, put),
+            Kit::Offset(o) => o.run(taken, put),
             Kit::Add(a) => a.run(taken, put),
             Kit::Fork(f) => f.run(taken, put),
             Kit::Deal(_) | Kit::Gather(_) => return false,

@@ -3,9 +3,10 @@ use Rattle.std.specs.List.{range_with_len}
 use Rattle.sdf_kit.specs.Samples.{sample, upsampled}
 use Rattle.sdf_kit.specs.Add.{sum_at}
 use Rattle.sdf_kit.specs.PutsFit.{sum_ones}
-use Rattle.sdf_kit.specs.declared.kit.Kit.TheVariants.{Fir, Decimate, Interpolate, Add, Fork, Gain, Delay, Table}
+use Rattle.sdf_kit.specs.declared.kit.Kit.TheVariants.{Fir, Decimate, Interpolate, Add, Fork, Gain, Delay, Table, Clip}
+use Rattle.sdf_kit.specs.declared.kit.Kit.TheVariants.{Offset}
 use Rattle.sdf_kit.proofs.KindRuns.{takes, gives, leaves, puts, fir_runs, decimate_runs, interpolate_runs, add_run}
-use Rattle.sdf_kit.proofs.KindRuns.{fork_run, gain_run, delay_run, table_run}
+use Rattle.sdf_kit.proofs.KindRuns.{fork_run, gain_run, delay_run, table_run, clip_run, offset_run}
 use Rattle.sdf_kit.proofs.kit.KitActor.fire_at_once.Goals as goal
 
 pub run-requires-clause-taken : goal.run-requires-clause-taken
@@ -103,6 +104,26 @@ pub returns-in-Table-clause-put : goal.returns-in-Table-clause-put
 returns-in-Table-clause-put c =
     c.run-in-Table.ensures ∙ puts c.args.self.now (Table c.in-Table.t) c.in-Table.is c.args._phase c.args.many
     (table_run c.in-Table.t c.args.state.now) c.args.taken.now c.requires.taken
+
+pub returns-in-Clip-clause-state : goal.returns-in-Clip-clause-state
+returns-in-Clip-clause-state c =
+    leaves c.args.self.now (Clip c.in-Clip.c) c.in-Clip.is c.args._phase c.args.many
+    (clip_run c.in-Clip.c c.args.state.now) c.args.taken.now c.requires.taken
+
+pub returns-in-Clip-clause-put : goal.returns-in-Clip-clause-put
+returns-in-Clip-clause-put c =
+    c.run-in-Clip.ensures ∙ puts c.args.self.now (Clip c.in-Clip.c) c.in-Clip.is c.args._phase c.args.many
+    (clip_run c.in-Clip.c c.args.state.now) c.args.taken.now c.requires.taken
+
+pub returns-in-Offset-clause-state : goal.returns-in-Offset-clause-state
+returns-in-Offset-clause-state c =
+    leaves c.args.self.now (Offset c.in-Offset.o) c.in-Offset.is c.args._phase c.args.many
+    (offset_run c.in-Offset.o c.args.state.now) c.args.taken.now c.requires.taken
+
+pub returns-in-Offset-clause-put : goal.returns-in-Offset-clause-put
+returns-in-Offset-clause-put c =
+    c.run-in-Offset.ensures ∙ puts c.args.self.now (Offset c.in-Offset.o) c.in-Offset.is c.args._phase c.args.many
+    (offset_run c.in-Offset.o c.args.state.now) c.args.taken.now c.requires.taken
 
 pub returns-in-Delay-clause-state : goal.returns-in-Delay-clause-state
 returns-in-Delay-clause-state c =

@@ -1,0 +1,77 @@
+//! Samples between two limits.
+
+ghost use Rattle.std.specs.Prelude.{◌≡◌, ◌≤ℤ◌, ◌∷◌, [], length, map};
+ghost use Rattle.sdf_kit.specs.Samples.{sample};
+ghost use Rattle.sdf_kit.specs.Ports.{ArePorts};
+ghost use Rattle.sdf_kit.specs.Clip.{clip, limits_of, clipped};
+
+use crate::block::put_one;
+use crate::fault::{Key, Kind, KitFault, check, has_16_bits};
+use crate::ports::Ports;
+use std::marker::Model;
+
+/// Puts each sample, but `least` where it is below that, and `greatest` where it is above that.
+#[derive(Drop)]
+pub struct Clip {
+    least: i32,
+    greatest: i32,
+}
+
+impl Model for Clip {
+    ghost use Rattle.sdf_kit.specs.Clip.{Limits, AreLimits};
+
+    ghost Value = { Limits };
+
+    ghost view = { λ c. record { least = c.least; greatest = c.greatest } };
+
+    ghost invariant = { λ c. AreLimits (record { least = c.least; greatest = c.greatest }) };
+}
+
+impl Clip {
+    pub fn new(least: i32, greatest: i32) -> Result<Clip, KitFault>
+        ensures { result ≡ limits_of least greatest }
+    {
+        check(has_16_bits(least), Kind::Clip, Key::Least)?;
+        check(
+            has_16_bits(greatest) && least <= greatest,
+            Kind::Clip,
+            Key::Greatest,
+        )?;
+        Ok(Clip { least, greatest })
+    }
+
+    /// Its ports and rates.
+    pub fn ports(&self) -> Ports
+        ensures is { result ≡ (clip self.now).ports }
+        ensures limits { ArePorts result }
+    {
+        Ports::steady(1, 1, 1, 1)
+    }
+
+    /// One firing.
+    pub fn fire(&self, taken: &[i32], put: &mut [i32])
+        requires taken { length taken.now ≡ 1 }
+        requires put { length put.old ≡ 1 }
+        ensures { put.new ≡ clipped self.now (sample taken.now 0) ∷ [] }
+    {
+        put_one(between(self.least, self.greatest, taken[0]), put);
+    }
+
+    /// Many firings, one after another.
+    pub fn run(&self, taken: &[i32], put: &mut [i32])
+        requires { length put.old ≡ length taken.now }
+        ensures { put.new ≡ map (clipped self.now) taken.now }
+    {
+        for (i, output) in put.iter_mut().enumerate() {
+            *output = between(self.least, self.greatest, taken[i]);
+        }
+    }
+}
+
+/// A sample between two limits.
+fn between(least: i32, greatest: i32, sample: i32) -> i32
+    requires { least ≤ℤ greatest }
+    ensures { result ≡ clipped (record { least = least; greatest = greatest }) sample }
+{
+    sample.clamp(least, greatest)
+}

@@ -1,0 +1,72 @@
+//! Samples plus a value.
+
+ghost use Rattle.std.specs.Prelude.{◌≡◌, ◌∷◌, [], length, map};
+ghost use Rattle.sdf_kit.specs.Samples.{sample};
+ghost use Rattle.sdf_kit.specs.Ports.{ArePorts};
+ghost use Rattle.sdf_kit.specs.Offset.{offset, value_of, raised};
+
+use crate::arithmetic::saturate;
+use crate::block::put_one;
+use crate::fault::{Key, Kind, KitFault, check, has_16_bits};
+use crate::ports::Ports;
+use std::marker::Model;
+
+/// Adds `value` to each sample and clamps the sum.
+#[derive(Drop)]
+pub struct Offset {
+    value: i32,
+}
+
+impl Model for Offset {
+    ghost use Rattle.std.specs.Prelude.{ℤ};
+    ghost use Rattle.sdf_kit.specs.Offset.{IsOffset};
+
+    ghost Value = { ℤ };
+
+    ghost view = { λ o. o.value };
+
+    ghost invariant = { λ o. IsOffset o.value };
+}
+
+impl Offset {
+    pub fn new(value: i32) -> Result<Offset, KitFault>
+        ensures { result ≡ value_of value }
+    {
+        check(has_16_bits(value), Kind::Offset, Key::Value)?;
+        Ok(Offset { value })
+    }
+
+    /// Its ports and rates.
+    pub fn ports(&self) -> Ports
+        ensures is { result ≡ (offset self.now).ports }
+        ensures limits { ArePorts result }
+    {
+        Ports::steady(1, 1, 1, 1)
+    }
+
+    /// One firing.
+    pub fn fire(&self, taken: &[i32], put: &mut [i32])
+        requires taken { length taken.now ≡ 1 }
+        requires put { length put.old ≡ 1 }
+        ensures { put.new ≡ raised self.now (sample taken.now 0) ∷ [] }
+    {
+        put_one(raise(self.value, taken[0]), put);
+    }
+
+    /// Many firings, one after another.
+    pub fn run(&self, taken: &[i32], put: &mut [i32])
+        requires { length put.old ≡ length taken.now }
+        ensures { put.new ≡ map (raised self.now) taken.now }
+    {
+        for (i, output) in put.iter_mut().enumerate() {
+            *output = raise(self.value, taken[i]);
+        }
+    }
+}
+
+/// A sample plus a value.
+fn raise(value: i32, sample: i32) -> i32
+    ensures { result ≡ raised value sample }
+{
+    saturate(i64::from(sample) + i64::from(value))
+}
