@@ -32,6 +32,8 @@ mod passes;
 #[cfg(test)]
 mod patience;
 #[cfg(test)]
+mod pieces_of_work;
+#[cfg(test)]
 mod rooms;
 #[cfg(test)]
 mod rows;
