@@ -42,4 +42,6 @@ mod runs;
 #[cfg(test)]
 mod sessions;
 #[cfg(test)]
+mod tries;
+#[cfg(test)]
 mod turns;
