@@ -22,6 +22,8 @@ mod kits;
 #[cfg(test)]
 mod long_runs;
 #[cfg(test)]
+mod many_firings;
+#[cfg(test)]
 mod meetings;
 #[cfg(test)]
 mod nets;
