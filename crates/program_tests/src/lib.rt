@@ -16,6 +16,8 @@ mod costs;
 #[cfg(test)]
 mod files;
 #[cfg(test)]
+mod first;
+#[cfg(test)]
 mod making;
 #[cfg(test)]
 mod overwriting;
