@@ -34,6 +34,8 @@ mod streams;
 #[cfg(test)]
 mod timed;
 #[cfg(test)]
+mod untold;
+#[cfg(test)]
 mod views;
 #[cfg(test)]
 mod why;
