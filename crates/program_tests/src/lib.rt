@@ -16,6 +16,8 @@ mod costs;
 #[cfg(test)]
 mod files;
 #[cfg(test)]
+mod first;
+#[cfg(test)]
 mod making;
 #[cfg(test)]
 mod overwriting;
@@ -31,6 +33,8 @@ mod standard;
 mod streams;
 #[cfg(test)]
 mod timed;
+#[cfg(test)]
+mod untold;
 #[cfg(test)]
 mod views;
 #[cfg(test)]

@@ -107,15 +107,15 @@ fn by_number<T: Threads + AllocGlobal + Clock + Clone + Drop + Sync>(
         Err(_) => 4,
     };
     let word = format!(in rt.alloc(); "{workers}")?;
-    told(rt, "wider.toml", &["--parallel", word.as_str(), "--why"])
+    told(rt, "steep.toml", &["--parallel", word.as_str(), "--why"])
 }
 
-/// Refuses another number of workers where none is given.
+/// Refuses another number of workers where none is given, of which sixteen have enough work.
 #[test]
 fn as_many_as_there_are_processors(rt: HostRuntime) -> Result<(), Fail> {
     let wanted = by_number(&rt)?;
     says(
-        told(&rt, "wider.toml", &["--parallel", "--why"]),
+        told(&rt, "steep.toml", &["--parallel", "--why"]),
         wanted.as_str(),
     )
 }

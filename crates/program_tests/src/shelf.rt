@@ -136,6 +136,14 @@ actor = [{ name = "in", kind = "input", channel = 0 }, { name = "same", kind = "
     { name = "again", kind = "fir", shift = 0, file = "three.toml" }, { name = "out", kind = "output", channel = 0 }]
 link = [{ from = "in", to = "same" }, { from = "same", to = "again" }, { from = "again", to = "out" }]"#;
 
+/// A sample becomes 4,096 and one again: a frame is work enough for sixteen workers.
+const STEEP: &str = r#"format = 1
+actor = [{ name = "in", kind = "input", channel = 0 }, { name = "up", kind = "interpolate", factor = 64 },
+    { name = "top", kind = "interpolate", factor = 64 }, { name = "same", kind = "decimate", factor = 64 },
+    { name = "down", kind = "decimate", factor = 64 }, { name = "out", kind = "output", channel = 0 }]
+link = [{ from = "in", to = "up" }, { from = "up", to = "top" }, { from = "top", to = "same" },
+    { from = "same", to = "down" }, { from = "down", to = "out" }]"#;
+
 /// Taps, and a key that none has.
 const ODD: &str = "format = 1\nvalues = [1]\ntap = 1\n";
 
@@ -151,7 +159,7 @@ values = [1]
 ";
 
 /// The graph files and coefficient files of the tests.
-const TEXTS: [(&str, &str); 33] = [
+const TEXTS: [(&str, &str); 34] = [
     ("plain.toml", PLAIN),
     ("-", PLAIN),
     ("commented.toml", COMMENTED),
@@ -159,6 +167,7 @@ const TEXTS: [(&str, &str); 33] = [
     ("branches.toml", BRANCHES),
     ("heavy.toml", HEAVY),
     ("wider.toml", WIDER),
+    ("steep.toml", STEEP),
     ("sixty.toml", SIXTY),
     ("hundred.toml", HUNDRED),
     ("line.toml", LINE),

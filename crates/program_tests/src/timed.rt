@@ -101,3 +101,54 @@ fn a_profile_by_a_clock(rt: HostRuntime) -> Result<(), Fail> {
          cost in 1\ncost out 7\nfalse",
     )
 }
+
+/// The exit status of a profile of commented.toml that is written on standard output, and the costs there.
+fn written<T: Threads + AllocGlobal + Clock + Clone + Drop + Sync>(
+    timed: &T,
+) -> Result<String, Fail> {
+    let alloc = timed.alloc();
+    let files = RefCell::new(Vec::new(alloc));
+    let world = World {
+        storage: &Shelf { written: &files },
+        threads: timed,
+        most: MOST_BYTES,
+    };
+    let mut out = Vec::new(alloc);
+    let words = [
+        "sdfw",
+        "profile",
+        "commented.toml",
+        "in.wav",
+        "--write",
+        "-",
+    ];
+    let (status, _) = ends_into(&world, &mut out, words.as_slice())?;
+    let out = String::from_utf8(out)?;
+    let mut told = format!(in alloc; "{status}")?;
+    for line in out.as_str().lines() {
+        if line.starts_with("cost = ") {
+            told.push_str("|")?;
+            told.push_str(line)?;
+        }
+    }
+    Ok(told)
+}
+
+/// The same by this clock.
+fn costs_written<R: Threads + AllocGlobal + Sync>(rt: &R) -> Result<String, Fail> {
+    let (read, reading) = (AtomicU64::new(0), AtomicBool::new(false));
+    let met = AtomicBool::new(false);
+    written(&Timed {
+        rt,
+        read: &read,
+        reading: &reading,
+        met: &met,
+    })
+}
+
+/// Refuses costs that stand in the graph file already, 1, 3 and 1, in place of those that are measured: the last firing
+/// of the second actor is the long one.
+#[test]
+fn measured_costs_are_written(rt: HostRuntime) -> Result<(), Fail> {
+    says(costs_written(&rt), "0|cost = 1|cost = 7 # a guess|cost = 1")
+}

@@ -84,6 +84,8 @@ pub(crate) enum Worked {
     Branches(usize),
     /// 147 samples to 160, in four stages.
     Converter,
+    /// Each sample becomes 4,096, which are handed on one by one, and these one again.
+    Wide,
 }
 
 impl Worked {
@@ -94,6 +96,7 @@ impl Worked {
             Worked::Dealt => "dealt",
             Worked::Branches(_) => "branches",
             Worked::Converter => "the converter",
+            Worked::Wide => "a wide one",
         }
     }
 
@@ -104,6 +107,7 @@ impl Worked {
             Worked::Dealt => joined(alloc, DEALT, DEALT_ENDS, &[]),
             Worked::Branches(ways) => branches(alloc, ways),
             Worked::Converter => joined(alloc, CONVERTER, CHAINED, &[]),
+            Worked::Wide => joined(alloc, WIDE, WIDE_ENDS, &[]),
         }
     }
 }
@@ -137,6 +141,25 @@ const CHAINED: &[[usize; 4]] = &[
     [2, 0, 3, 0],
     [3, 0, 4, 0],
     [4, 0, 5, 0],
+];
+
+const WIDE: &[Part] = &[
+    In(1),
+    Ones(64, 1),
+    Ones(64, 1),
+    Gain(1, 0),
+    Ones(1, 64),
+    Ones(1, 64),
+    Out(0, 1),
+];
+
+const WIDE_ENDS: &[[usize; 4]] = &[
+    [0, 0, 1, 0],
+    [1, 0, 2, 0],
+    [2, 0, 3, 0],
+    [3, 0, 4, 0],
+    [4, 0, 5, 0],
+    [5, 0, 6, 0],
 ];
 
 fn branch_parts(alloc: Global, ways: usize) -> Result<Vec<Part>, AllocError> {

@@ -22,6 +22,8 @@ mod kits;
 #[cfg(test)]
 mod long_runs;
 #[cfg(test)]
+mod many_firings;
+#[cfg(test)]
 mod meetings;
 #[cfg(test)]
 mod nets;
@@ -32,6 +34,8 @@ mod passes;
 #[cfg(test)]
 mod patience;
 #[cfg(test)]
+mod pieces_of_work;
+#[cfg(test)]
 mod rooms;
 #[cfg(test)]
 mod rows;
@@ -39,5 +43,7 @@ mod rows;
 mod runs;
 #[cfg(test)]
 mod sessions;
+#[cfg(test)]
+mod tries;
 #[cfg(test)]
 mod turns;
