@@ -9,7 +9,7 @@ use Rattle.sdf_process.proofs.Suiting.{fits_net}
 use Rattle.sdf_process.proofs.streaming.open_session.Goals as goal
 
 pub open-requires-clause-fits : goal.open-requires-clause-fits
-open-requires-clause-fits c =
+open-requires-clause-fits c κs =
     fits_net c.args.net.now c.args.plan.now c.args.table.now c.requires.plan c.requires.table
 
 pub returns-in_err-session-clause-stands : goal.returns-in_err-session-clause-stands
