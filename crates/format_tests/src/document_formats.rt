@@ -10,6 +10,10 @@ const DEAL: &str = "kind = \"deal\"\nways = 2";
 
 const GATHER: &str = "kind = \"gather\"\nways = 16\nrun = 64";
 
+const CLIP: &str = "kind = \"clip\"\ngreatest = -5";
+
+const OFFSET: &str = "kind = \"offset\"\nvalue = -32768";
+
 /// The graph in format 2.
 fn second(alloc: Global, kind: &str) -> Result<String, Fail> {
     let text = GRAPH.replace(alloc, "format = 1", "format = 2")?;
@@ -34,6 +38,11 @@ fn read(alloc: Global, kind: &str) -> Result<String, Fail> {
 fn reads_the_kinds_of_format_two(rt: HostRuntime) -> Result<(), Fail> {
     says(read(rt.alloc(), DEAL), "Deal { ways: 2, run: 1 }")?;
     says(read(rt.alloc(), GATHER), "Gather { ways: 16, run: 64 }")?;
+    says(
+        read(rt.alloc(), CLIP),
+        "Clip { least: -32768, greatest: -5 }",
+    )?;
+    says(read(rt.alloc(), OFFSET), "Offset { value: -32768 }")?;
     says(read(rt.alloc(), GAIN), "Gain { gain: -32768, shift: 15 }")
 }
 
@@ -76,12 +85,38 @@ const FAULTS: &[(&str, &str)] = &[
         "kind = \"fork\"\nways = 2\nrun = 1",
         "51 UnknownKey actor 1 key run",
     ),
+    (
+        "kind = \"clip\"\nleast = 32768\ngreatest = 32768",
+        "28 KitValue actor 1 key least",
+    ),
+    (
+        "kind = \"clip\"\nleast = -4\ngreatest = -5\nprocessor = 16",
+        "28 KitValue actor 1 key greatest",
+    ),
+    (
+        "kind = \"clip\"\nleast = -4\ngreatest = 32768",
+        "28 KitValue actor 1 key greatest",
+    ),
+    (
+        "kind = \"offset\"\nvalue = -32769",
+        "28 KitValue actor 1 key value",
+    ),
+    (
+        "kind = \"offset\"\noffset = 1\nvalue = 1",
+        "51 UnknownKey actor 1 key offset",
+    ),
+    ("kind = \"offset\"", "52 MissingKey actor 1 key value"),
 ];
 
 #[test]
 fn names_the_faults_of_format_two(rt: HostRuntime) -> Result<(), Fail> {
-    says(fault(rt.alloc(), GAIN, DEAL), "56 UnknownKind actor 1")?;
-    says(fault(rt.alloc(), GAIN, GATHER), "56 UnknownKind actor 1")?;
+    for kind in [DEAL, GATHER, CLIP, OFFSET] {
+        row_says(
+            kind,
+            fault(rt.alloc(), GAIN, kind),
+            "56 UnknownKind actor 1",
+        )?;
+    }
     for (kind, wanted) in FAULTS {
         row_says(kind, second_fault(rt.alloc(), kind), wanted)?;
     }

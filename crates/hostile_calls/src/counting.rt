@@ -13,7 +13,7 @@ use sdf_sched::class_s::class_s;
 use sdf_sched::{Lean, Pick, Round, Runs};
 use std::thread::Threads;
 
-/// Each kind, and filters between rates.
+/// Kinds in a chain, and filters between rates.
 const CHAIN: &str = r#"format = 2
 actor = [
     { name = "in", kind = "input", channel = 0 },

@@ -23,6 +23,8 @@ delay: length 0..65536
 table: offset of 32 bits, values or file: 1..65536 values of 32 bits
 deal, format 2: ways 2..16, run 1..64 (1)
 gather, format 2: ways 2..16, run 1..64 (1)
+clip, format 2: least -32768..32767 (-32768), greatest least..32767 (32767)
+offset, format 2: value -32768..32767
 every kind: processor 0..15 or absent, cost 1..1000000 (1)
 ";
 

@@ -4,3 +4,4 @@ pub mod Turns
 pub mod Tables
 pub mod FirstSeen
 pub mod Keys
+pub mod Within

@@ -1,6 +1,7 @@
 -- The kinds of actors: their words, their keys and their values.
 use Rattle.std.specs.Prelude.{ℕ, ℤ, pos, ◌&&◌, Bool, ◌≤◌, ◌≤ℤ◌, List, [], ◌∷◌, ◌++◌, codes, map, find, Option, Some}
-use Rattle.std.specs.Prelude.{None, Result, Ok, Err, IfSome, nat_le, bytes_eq, is_some, if◌then◌else◌}
+use Rattle.std.specs.Prelude.{None, Result, Ok, Err, IfSome, nat_le, bytes_eq, is_some, int_le, true}
+use Rattle.std.specs.Prelude.{IsTrue, if◌then◌else◌}
 use Rattle.toml.specs.Data.{Data, Members, get_member}
 use Rattle.sdf_document.specs.declared.row.KindWord.{KindWord}
 use Rattle.sdf_document.specs.declared.row.KindWord.TheVariants as word
@@ -10,10 +11,11 @@ use Rattle.sdf_document.specs.declared.key.KeyValue.{KeyValue}
 use Rattle.sdf_document.specs.declared.key.KeyValue.TheVariants.{Natural, Optional, Integer, List as Listed}
 use Rattle.sdf_document.specs.declared.entry.KindEntry.{KindEntry}
 use Rattle.sdf_document.specs.declared.entry.KindEntry.TheVariants.{Input, Output, Fir, Decimate, Interpolate, Add}
-use Rattle.sdf_document.specs.declared.entry.KindEntry.TheVariants.{Fork, Gain, Delay, Table, Deal, Gather}
-use Rattle.sdf_document.specs.Fault.{actor, Fault, missing_key, unknown_kind, ◌>>=◌, or_fault}
+use Rattle.sdf_document.specs.declared.entry.KindEntry.TheVariants.{Fork, Gain, Delay, Table, Deal, Gather, Clip}
+use Rattle.sdf_document.specs.declared.entry.KindEntry.TheVariants.{Offset}
+use Rattle.sdf_document.specs.Fault.{actor, Fault, kit_value, missing_key, unknown_kind, ◌>>=◌, or_fault}
 use Rattle.sdf_document.specs.Rows.{KeyRow, row_of, kinds, shared_keys}
-use Rattle.sdf_document.specs.Values.{text_at, within_natural, natural_in, integer_in}
+use Rattle.sdf_document.specs.Values.{text_at, within_natural, natural_in, within_integer, integer_in}
 use Rattle.sdf_document.specs.Lists.{Lookup, ListValue, no_list, list_at, IsListed}
 
 -- ---- the kind that an actor's table names
@@ -37,7 +39,8 @@ abbrev pub written_at : Members → List ℕ → Form → List ℕ
 written_at ms name (forms.List most width) = if is_some (get_member name ms) then name else codes "file"
 written_at ms name (forms.Natural least most absent) = name
 written_at ms name (forms.Optional least most) = name
-written_at ms name (forms.Integer least most) = name
+written_at ms name (forms.Integer least most absent) = name
+written_at ms name (forms.FromLeast least most absent) = name
 
 abbrev pub names_of_keys : Members → List KeyRow → List (List ℕ)
 names_of_keys ms ks = map (λ (k : KeyRow). written_at ms k.name k.form) ks
@@ -61,17 +64,24 @@ abbrev pub optional_at : ℕ → List ℕ → ℕ → ℕ → Option Data → Re
 optional_at a key least most None = Ok None
 optional_at a key least most (Some d) = natural_in a key least most d >>= λ n. Ok (Some n)
 
-abbrev pub integer_at : ℕ → List ℕ → ℤ → ℤ → Option Data → Result ℤ Fault
-integer_at a key least most None = Err (missing_key (actor a) key)
-integer_at a key least most (Some d) = integer_in a key least most d
+-- the same of either sign
+abbrev pub absent_integer : ℕ → List ℕ → ℤ → ℤ → Option ℤ → Result ℤ Fault
+absent_integer a key least most None = Err (missing_key (actor a) key)
+absent_integer a key least most (Some z) = within_integer a key least most z
+
+abbrev pub integer_at : ℕ → List ℕ → ℤ → ℤ → Option ℤ → Option Data → Result ℤ Fault
+integer_at a key least most absent None = absent_integer a key least most absent
+integer_at a key least most absent (Some d) = integer_in a key least most d
 
 abbrev pub formed_at : ℕ → Lookup → List ℕ → Form → Members → Result KeyValue Fault
 formed_at a files key (forms.Natural least most absent) ms =
     natural_at a key least most absent (get_member key ms) >>= λ n. Ok (Natural n)
 formed_at a files key (forms.Optional least most) ms =
     optional_at a key least most (get_member key ms) >>= λ n. Ok (Optional n)
-formed_at a files key (forms.Integer least most) ms =
-    integer_at a key least most (get_member key ms) >>= λ z. Ok (Integer z)
+formed_at a files key (forms.Integer least most absent) ms =
+    integer_at a key least most absent (get_member key ms) >>= λ z. Ok (Integer z)
+formed_at a files key (forms.FromLeast least most absent) ms =
+    integer_at a key least most absent (get_member key ms) >>= λ z. Ok (Integer z)
 formed_at a files key (forms.List most width) ms = list_at a key most width files ms >>= λ l. Ok (Listed l)
 
 -- the values at the keys of a row
@@ -137,11 +147,22 @@ entry_of word.Delay vs = Delay (natural (first vs))
 entry_of word.Table vs = Table (integer (first vs)) (list (second vs))
 entry_of word.Deal vs = Deal (natural (first vs)) (natural (second vs))
 entry_of word.Gather vs = Gather (natural (first vs)) (natural (second vs))
+entry_of word.Clip vs = Clip (integer (first vs)) (integer (second vs))
+entry_of word.Offset vs = Offset (integer (first vs))
+
+-- what is said of a value beside the key `least` holds: the least value of a clip is at most its greatest
+abbrev pub is_ordered : KindEntry → Bool
+is_ordered (Clip least greatest) = int_le least greatest
+is_ordered kind = true
+
+-- a kind whose values are in order: of those that are not, the last key is at fault
+abbrev pub in_order : ℕ → KindEntry → Result KindEntry Fault
+in_order a k = if is_ordered k then Ok k else Err (kit_value (actor a) (codes "greatest"))
 
 unfoldable pub kind_at : ℕ → Lookup → KindWord → Members → Result KindEntry Fault
 kind_at a files k ms = do
   vs ← values_at a files (row_of k).keys ms
-  Ok (entry_of k vs)
+  in_order a (entry_of k vs)
 
 -- ---- limits
 
@@ -149,7 +170,8 @@ kind_at a files k ms = do
 abbrev pub HasForm : Bool → Form → KeyValue → Type 0
 HasForm looked (forms.Natural least most absent) v = (least ≤ natural v) × (natural v ≤ most)
 HasForm looked (forms.Optional least most) v = IfSome (optional v) (λ n. (least ≤ n) × (n ≤ most))
-HasForm looked (forms.Integer least most) v = (least ≤ℤ integer v) × (integer v ≤ℤ most)
+HasForm looked (forms.Integer least most absent) v = (least ≤ℤ integer v) × (integer v ≤ℤ most)
+HasForm looked (forms.FromLeast least most absent) v = (least ≤ℤ integer v) × (integer v ≤ℤ most)
 HasForm looked (forms.List most width) v = IsListed looked most width (list v).values
 
 abbrev pub HaveForms : Bool → List KeyRow → List KeyValue → Type 0
@@ -170,7 +192,9 @@ kind_values (Delay length) = (word.Delay, Natural length ∷ [])
 kind_values (Table offset values) = (word.Table, Integer offset ∷ Listed values ∷ [])
 kind_values (Deal ways run) = (word.Deal, Natural ways ∷ Natural run ∷ [])
 kind_values (Gather ways run) = (word.Gather, Natural ways ∷ Natural run ∷ [])
+kind_values (Clip least greatest) = (word.Clip, Integer least ∷ Integer greatest ∷ [])
+kind_values (Offset value) = (word.Offset, Integer value ∷ [])
 
--- the values of a kind are within the limits of its row
+-- the values of a kind are within the limits of its row, and in order
 abbrev pub IsWithin : Bool → KindEntry → Type 0
-IsWithin looked k = HaveForms looked (row_of (kind_values k).0).keys (kind_values k).1
+IsWithin looked k = HaveForms looked (row_of (kind_values k).0).keys (kind_values k).1 × IsTrue (is_ordered k)

@@ -1,11 +1,12 @@
 -- The kinds as a text: a line for each, and one for the keys that every actor may have.
-use Rattle.std.specs.Prelude.{◌==◌, ◌&&◌, ℕ, ℤ, pos, negsuc, List, [], ◌∷◌, ◌++◌, codes, decimal, Some, None}
+use Rattle.std.specs.Prelude.{◌==◌, ◌&&◌, ℕ, ℤ, pos, negsuc, List, [], ◌∷◌, ◌++◌, codes, decimal, Option, Some, None}
 use Rattle.std.specs.Prelude.{if◌then◌else◌}
 use Rattle.std.specs.Fmt.{signed_decimal}
 use Rattle.std.specs.Ordering.{int_eq}
 use Rattle.std.specs.List.{flat_map}
 use Rattle.sdf_document.specs.declared.row.Form.{Form}
-use Rattle.sdf_document.specs.declared.row.Form.TheVariants.{Natural, Optional, Integer, List as ListForm}
+use Rattle.sdf_document.specs.declared.row.Form.TheVariants.{Natural, Optional, Integer, FromLeast}
+use Rattle.sdf_document.specs.declared.row.Form.TheVariants.{List as ListForm}
 use Rattle.sdf_document.specs.declared.row.KindWord.{KindWord}
 use Rattle.sdf_document.specs.declared.row.Width.{Width}
 use Rattle.sdf_document.specs.declared.row.Width.TheVariants.{Bits16, Bits32}
@@ -20,9 +21,18 @@ abbrev pub between : ℕ → ℕ → List ℕ
 between least most = codes " " ++ decimal least ++ codes ".." ++ decimal most
 
 -- the same of either sign, of which all of 32 bits have their own words
-abbrev pub integers : ℤ → ℤ → List ℕ
+unfoldable pub integers : ℤ → ℤ → List ℕ
 integers least most = if int_eq least (negsuc 2147483647) && int_eq most (pos 2147483647)
     then codes " of 32 bits" else codes " " ++ signed_decimal least ++ codes ".." ++ signed_decimal most
+
+-- the numbers from the value of the key `least` to another
+unfoldable pub from_least : ℤ → List ℕ
+from_least most = codes " least.." ++ signed_decimal most
+
+-- what a number is where its key is absent, if it may be
+unfoldable pub absent_text : Option ℤ → List ℕ
+absent_text None = []
+absent_text (Some z) = codes " (" ++ signed_decimal z ++ codes ")"
 
 -- what the values of a list fit into
 abbrev pub width_text : Width → List ℕ
@@ -38,7 +48,8 @@ abbrev pub form_text : Form → List ℕ
 form_text (Natural least most None) = between least most
 form_text (Natural least most (Some absent)) = between least most ++ codes " (" ++ decimal absent ++ codes ")"
 form_text (Optional least most) = between least most ++ codes " or absent"
-form_text (Integer least most) = integers least most
+form_text (Integer least most absent) = integers least most ++ absent_text absent
+form_text (FromLeast least most absent) = from_least most ++ absent_text absent
 form_text (ListForm most width) = values_text most width
 
 -- a key

@@ -1,5 +1,5 @@
 -- The table of kinds: a row each.
-use Rattle.std.specs.Prelude.{ℕ, pos, negsuc, List, [], ◌∷◌, codes, map, Option, Some, None}
+use Rattle.std.specs.Prelude.{ℕ, ℤ, pos, negsuc, List, [], ◌∷◌, codes, map, Option, Some, None}
 use Rattle.sdf_limits.specs.declared.TheConstants.{LEAST_WAYS, MOST_CHANNEL, MOST_COST, MOST_DELAY, MOST_FACTOR}
 use Rattle.sdf_limits.specs.declared.TheConstants.{MOST_PROCESSOR, MOST_RATE, MOST_RUN, MOST_SHIFT, MOST_TAPS}
 use Rattle.sdf_limits.specs.declared.TheConstants.{MOST_VALUES, MOST_WAYS}
@@ -7,7 +7,8 @@ use Rattle.sdf_document.specs.declared.row.KindWord.{KindWord}
 use Rattle.sdf_document.specs.declared.row.KindWord.TheVariants as word
 use Rattle.sdf_document.specs.declared.row.Width.TheVariants.{Bits16, Bits32}
 use Rattle.sdf_document.specs.declared.row.Form.{Form}
-use Rattle.sdf_document.specs.declared.row.Form.TheVariants.{Natural, Optional, Integer, List as ListForm}
+use Rattle.sdf_document.specs.declared.row.Form.TheVariants.{Natural, Optional, Integer, FromLeast}
+use Rattle.sdf_document.specs.declared.row.Form.TheVariants.{List as ListForm}
 use Rattle.sdf_document.specs.declared.row.Key.{Key}
 use Rattle.sdf_document.specs.declared.row.Row.{Row}
 
@@ -49,6 +50,10 @@ ways = Natural LEAST_WAYS MOST_WAYS None
 abbrev pub shift : Form
 shift = Natural 0 MOST_SHIFT None
 
+-- whole numbers of 16 bits
+abbrev pub bits16 : Option ℤ → Form
+bits16 absent = Integer (negsuc 32767) (pos 32767) absent
+
 -- ---- the rows
 
 -- the keys that every actor may have, tested after those of its kind
@@ -74,18 +79,21 @@ row_of word.Decimate = row (codes "decimate") 1 (key (codes "factor") (factor No
 row_of word.Interpolate = row (codes "interpolate") 1 (key (codes "factor") (factor None) ∷ [])
 row_of word.Add = row (codes "add") 1 (key (codes "ways") ways ∷ [])
 row_of word.Fork = row (codes "fork") 1 (key (codes "ways") ways ∷ [])
-row_of word.Gain = row (codes "gain") 1 (key (codes "gain") (Integer (negsuc 32767) (pos 32767))
+row_of word.Gain = row (codes "gain") 1 (key (codes "gain") (bits16 None)
     ∷ key (codes "shift") shift ∷ [])
 row_of word.Delay = row (codes "delay") 1 (key (codes "length") (Natural 0 MOST_DELAY None) ∷ [])
 row_of word.Table =
-    row (codes "table") 1 (key (codes "offset") (Integer (negsuc 2147483647) (pos 2147483647))
+    row (codes "table") 1 (key (codes "offset") (Integer (negsuc 2147483647) (pos 2147483647) None)
     ∷ key (codes "values") (ListForm MOST_VALUES Bits32) ∷ [])
 row_of word.Deal = row (codes "deal") 2 turn_keys
 row_of word.Gather = row (codes "gather") 2 turn_keys
+row_of word.Clip = row (codes "clip") 2 (key (codes "least") (bits16 (Some (negsuc 32767)))
+    ∷ key (codes "greatest") (FromLeast (negsuc 32767) (pos 32767) (Some (pos 32767))) ∷ [])
+row_of word.Offset = row (codes "offset") 2 (key (codes "value") (bits16 None) ∷ [])
 
 -- all kinds
 abbrev pub kinds : List KindWord
 kinds =
     word.Input ∷ word.Output ∷ word.Fir ∷ word.Decimate ∷ word.Interpolate ∷ word.Add ∷ word.Fork ∷ word.Gain
     ∷ word.Delay ∷ word.Table
-    ∷ word.Deal ∷ word.Gather ∷ []
+    ∷ word.Deal ∷ word.Gather ∷ word.Clip ∷ word.Offset ∷ []

@@ -21,11 +21,14 @@ natural_in a key least most d = do
   z ← or_fault (wrong_type (actor a) key) (as_integer d)
   within_natural a key least most z
 
+abbrev pub within_integer : ℕ → List ℕ → ℤ → ℤ → ℤ → Result ℤ Fault
+within_integer a key least most z = if int_le least z && int_le z most then Ok z else Err (kit_value (actor a) key)
+
 -- a whole number of either sign
 unfoldable pub integer_in : ℕ → List ℕ → ℤ → ℤ → Data → Result ℤ Fault
 integer_in a key least most d = do
   z ← or_fault (wrong_type (actor a) key) (as_integer d)
-  if int_le least z && int_le z most then Ok z else Err (kit_value (actor a) key)
+  within_integer a key least most z
 
 -- the whole numbers of an array, where each item is one
 abbrev pub integers_in : Items → Option (List ℤ)

@@ -58,7 +58,7 @@ pub enum KindEntry {
         offset: i32,
         values: ListEntry,
     },
-    /// Only in format 2, as `Gather`.
+    /// Only in format 2, as those that follow.
     Deal {
         ways: u32,
         run: u32,
@@ -66,6 +66,14 @@ pub enum KindEntry {
     Gather {
         ways: u32,
         run: u32,
+    },
+    /// `least` is at most `greatest`.
+    Clip {
+        least: i32,
+        greatest: i32,
+    },
+    Offset {
+        value: i32,
     },
 }
 

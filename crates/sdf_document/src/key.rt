@@ -109,14 +109,19 @@ fn integer_at(
     key: &'static str,
     least: i32,
     most: i32,
+    absent: Option<i32>,
     table: &Table,
 ) -> Result<i32, ReadFault>
-    ensures given { Gives (λ n. n) result (integer_at actor key.now least most
+    ensures given { Gives (λ n. n) result (integer_at actor key.now least most absent
         (get_member key.now (table_view table.now))) }
     ensures within { IfOk result (λ n. (least ≤ℤ n) × (n ≤ℤ most)) }
 {
-    match at(table, key) {
-        Some(value) => integer_in(actor, key, least, most, value),
+    if let Some(value) = at(table, key) {
+        return integer_in(actor, key, least, most, value);
+    }
+    match absent {
+        Some(number) if least <= number && number <= most => Ok(number),
+        Some(_) => Err(ReadFault::Document(DocumentFault::KitValue(Place::Actor(actor), key))),
         None => Err(ReadFault::Document(DocumentFault::MissingKey(Place::Actor(actor), key))),
     }
 }
@@ -143,8 +148,12 @@ fn formed_at(
             let number = optional_at(actor, key, least, most, table)?;
             Ok(KeyValue::Optional(number))
         }
-        Form::Integer(least, most) => {
-            let number = integer_at(actor, key, least, most, table)?;
+        Form::Integer(least, most, absent) => {
+            let number = integer_at(actor, key, least, most, absent, table)?;
+            Ok(KeyValue::Integer(number))
+        }
+        Form::FromLeast(least, most, absent) => {
+            let number = integer_at(actor, key, least, most, absent, table)?;
             Ok(KeyValue::Integer(number))
         }
         Form::List(most, width) => {

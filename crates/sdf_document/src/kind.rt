@@ -6,7 +6,7 @@ ghost use Rattle.sdf_document.specs.Fault.{Gives};
 ghost use Rattle.sdf_document.specs.Lists.{lookup_of, are_read};
 ghost use Rattle.sdf_document.specs.Rows.{row_of};
 ghost use Rattle.sdf_document.specs.Kinds.{is_kind, kind_named, word_at, natural, optional, integer, list, first, rest};
-ghost use Rattle.sdf_document.specs.Kinds.{entry_of, kind_at, HaveForms, IsWithin};
+ghost use Rattle.sdf_document.specs.Kinds.{entry_of, is_ordered, kind_at, HaveForms, IsWithin};
 
 use crate::entry::{KindEntry, ListEntry};
 use crate::fault::{DocumentFault, Place, ReadFault};
@@ -145,11 +145,28 @@ fn entry_of(alloc: Global, kind: KindWord, mut left: vec::IntoIter<KeyValue>) ->
             ways: natural(values),
             run: natural(values),
         },
+        KindWord::Clip => KindEntry::Clip {
+            least: integer(values),
+            greatest: integer(values),
+        },
+        KindWord::Offset => KindEntry::Offset {
+            value: integer(values),
+        },
+    }
+}
+
+/// Whether a value that is no less than that of the key `least` is so.
+fn is_ordered(kind: &KindEntry) -> bool
+    ensures { result ≡ is_ordered kind.now }
+{
+    match kind {
+        KindEntry::Clip { least, greatest } => least <= greatest,
+        _ => true,
     }
 }
 
 /// The values of a kind.
-#[tactic(auto, unfolding(crate::specs::Kinds::kind_at))]
+#[tactic(auto, using(crate::proofs::Within::entry_within), unfolding(crate::specs::Kinds::kind_at))]
 pub(crate) fn kind_at(
     alloc: Global,
     actor: usize,
@@ -161,5 +178,10 @@ pub(crate) fn kind_at(
     ensures within { IfOk result (λ k. IsWithin (are_read files.entry) k) }
 {
     let values = values_at(alloc, actor, files, row_of(kind).keys, table)?;
-    Ok(entry_of(alloc, kind, values.into_iter()))
+    let entry = entry_of(alloc, kind, values.into_iter());
+    if is_ordered(&entry) {
+        Ok(entry)
+    } else {
+        Err(ReadFault::Document(DocumentFault::KitValue(Place::Actor(actor), "greatest")))
+    }
 }

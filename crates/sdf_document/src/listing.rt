@@ -2,13 +2,14 @@
 
 ghost use Rattle.std.specs.Prelude.{◌≡◌, ◌++◌, IfOk, OnOk, string_bytes};
 ghost use Rattle.sdf_document.specs.Rows.{key_view, keys_view};
-ghost use Rattle.sdf_document.specs.Listing.{integers, width_text, values_text, form_text, key_text, keys_text};
-ghost use Rattle.sdf_document.specs.Listing.{since_text, line_of, kinds_text};
+ghost use Rattle.sdf_document.specs.Listing.{integers, from_least, absent_text, width_text, values_text, form_text};
+ghost use Rattle.sdf_document.specs.Listing.{key_text, keys_text, since_text, line_of, kinds_text};
 
 use crate::row::{Form, Key, KindWord, Width, kinds, row_of, shared_keys};
 use std::alloc::{AllocError, Global};
 
 /// Adds the numbers of either sign from one to another.
+#[tactic(auto, unfolding(crate::specs::Listing::integers))]
 fn push_integers(text: &mut String, least: i32, most: i32) -> Result<(), AllocError>
     ensures { OnOk result (string_bytes text.new ≡ string_bytes text.old ++ integers least most) }
 {
@@ -17,6 +18,47 @@ fn push_integers(text: &mut String, least: i32, most: i32) -> Result<(), AllocEr
     } else {
         write!(text, " {least}..{most}")
     }
+}
+
+/// Adds the numbers from the value of the key `least` to another.
+#[tactic(auto, unfolding(crate::specs::Listing::from_least))]
+fn push_to(text: &mut String, most: i32) -> Result<(), AllocError>
+    ensures { OnOk result (string_bytes text.new ≡ string_bytes text.old ++ from_least most) }
+{
+    write!(text, " least..{most}")
+}
+
+/// Adds what a number is where its key is absent, if it may be.
+#[tactic(auto, unfolding(crate::specs::Listing::absent_text))]
+fn push_absent(text: &mut String, absent: Option<i32>) -> Result<(), AllocError>
+    ensures { OnOk result (string_bytes text.new ≡ string_bytes text.old ++ absent_text absent) }
+{
+    match absent {
+        Some(number) => write!(text, " ({number})"),
+        None => Ok(()),
+    }
+}
+
+/// Adds the numbers of a key of either sign.
+fn push_integer(
+    text: &mut String,
+    least: i32,
+    most: i32,
+    absent: Option<i32>,
+) -> Result<(), AllocError>
+    ensures { OnOk result (string_bytes text.new ≡
+        string_bytes text.old ++ (integers least most ++ absent_text absent)) }
+{
+    push_integers(text, least, most)?;
+    push_absent(text, absent)
+}
+
+/// Adds the numbers of a key that is no less than the key `least`.
+fn push_from_least(text: &mut String, most: i32, absent: Option<i32>) -> Result<(), AllocError>
+    ensures { OnOk result (string_bytes text.new ≡ string_bytes text.old ++ (from_least most ++ absent_text absent)) }
+{
+    push_to(text, most)?;
+    push_absent(text, absent)
 }
 
 /// What the values of a list fit into.
@@ -46,7 +88,8 @@ fn push_form(text: &mut String, form: Form) -> Result<(), AllocError>
         Form::Natural(least, most, None) => write!(text, " {least}..{most}"),
         Form::Natural(least, most, Some(absent)) => write!(text, " {least}..{most} ({absent})"),
         Form::Optional(least, most) => write!(text, " {least}..{most} or absent"),
-        Form::Integer(least, most) => push_integers(text, least, most),
+        Form::Integer(least, most, absent) => push_integer(text, least, most, absent),
+        Form::FromLeast(_, most, absent) => push_from_least(text, most, absent),
         Form::List(most, width) => push_values(text, most, width),
     }
 }

@@ -31,6 +31,8 @@ pub enum KindWord {
     Table,
     Deal,
     Gather,
+    Clip,
+    Offset,
 }
 
 /// What the values of a list fit into.
@@ -47,8 +49,10 @@ pub enum Form {
     Natural(u32, u32, Option<u32>),
     /// The same, or nothing where the key is absent.
     Optional(u32, u32),
-    /// A whole number of either sign, from the first to the second.
-    Integer(i32, i32),
+    /// As `Natural`, and of either sign.
+    Integer(i32, i32, Option<i32>),
+    /// The same, and no less than the value of the key `least`, which stands before it.
+    FromLeast(i32, i32, Option<i32>),
     /// An array of 1 to so many whole numbers, or the key `file` in its place.
     List(usize, Width),
 }
@@ -82,14 +86,14 @@ static FACTOR_KEYS: [Key; 1] = [Key("factor", Form::Natural(1, MOST_FACTOR, None
 static WAYS_KEYS: [Key; 1] = [Key("ways", Form::Natural(LEAST_WAYS, MOST_WAYS, None))];
 
 static GAIN_KEYS: [Key; 2] = [
-    Key("gain", Form::Integer(-32768, 32767)),
+    Key("gain", Form::Integer(-32768, 32767, None)),
     Key("shift", Form::Natural(0, MOST_SHIFT, None)),
 ];
 
 static DELAY_KEYS: [Key; 1] = [Key("length", Form::Natural(0, MOST_DELAY, None))];
 
 static TABLE_KEYS: [Key; 2] = [
-    Key("offset", Form::Integer(i32::MIN, i32::MAX)),
+    Key("offset", Form::Integer(i32::MIN, i32::MAX, None)),
     Key("values", Form::List(MOST_VALUES, Width::Bits32)),
 ];
 
@@ -98,12 +102,19 @@ static TURN_KEYS: [Key; 2] = [
     Key("run", Form::Natural(1, MOST_RUN, Some(1))),
 ];
 
+static CLIP_KEYS: [Key; 2] = [
+    Key("least", Form::Integer(-32768, 32767, Some(-32768))),
+    Key("greatest", Form::FromLeast(-32768, 32767, Some(32767))),
+];
+
+static OFFSET_KEYS: [Key; 1] = [Key("value", Form::Integer(-32768, 32767, None))];
+
 static SHARED_KEYS: [Key; 2] = [
     Key("processor", Form::Optional(0, MOST_PROCESSOR)),
     Key("cost", Form::Natural(1, MOST_COST, Some(1))),
 ];
 
-static KINDS: [KindWord; 12] = [
+static KINDS: [KindWord; 14] = [
     KindWord::Input,
     KindWord::Output,
     KindWord::Fir,
@@ -116,6 +127,8 @@ static KINDS: [KindWord; 12] = [
     KindWord::Table,
     KindWord::Deal,
     KindWord::Gather,
+    KindWord::Clip,
+    KindWord::Offset,
 ];
 
 /// The keys that every actor may have, tested after those of its kind.
@@ -155,5 +168,7 @@ pub(crate) fn row_of(kind: KindWord) -> Row
         KindWord::Table => row_with("table", 1, TABLE_KEYS.as_slice()),
         KindWord::Deal => row_with("deal", 2, TURN_KEYS.as_slice()),
         KindWord::Gather => row_with("gather", 2, TURN_KEYS.as_slice()),
+        KindWord::Clip => row_with("clip", 2, CLIP_KEYS.as_slice()),
+        KindWord::Offset => row_with("offset", 2, OFFSET_KEYS.as_slice()),
     }
 }

@@ -11,7 +11,7 @@ use Rattle.sdf_document.specs.declared.entry.ActorEntry.{ActorEntry}
 use Rattle.sdf_document.specs.declared.entry.KindEntry.{KindEntry}
 use Rattle.sdf_document.specs.declared.entry.KindEntry.TheVariants.{Input as InputEntry, Output as OutputEntry, Fir}
 use Rattle.sdf_document.specs.declared.entry.KindEntry.TheVariants.{Decimate, Interpolate, Add, Fork, Gain, Delay}
-use Rattle.sdf_document.specs.declared.entry.KindEntry.TheVariants.{Table, Deal, Gather}
+use Rattle.sdf_document.specs.declared.entry.KindEntry.TheVariants.{Table, Deal, Gather, Clip, Offset}
 use Rattle.sdf_document.specs.Kinds.{IsWithin}
 use Rattle.sdf_document.specs.Actors.{ActorValue, actor_view, IsActorWithin}
 use Rattle.sdf_actor.specs.declared.node.Node.{Node}
@@ -33,7 +33,7 @@ abbrev pub list_room : Lists → Node Kit → ℕ
 list_room lists x = option_map_or (λ e. e + 1) (list_of lists x) 0
 
 small_list : (lists : Lists) (k : KindEntry) → IsWithin true k → list_room lists (node_of k) ≤ MOST_CHANNEL + 1
-small_list Inputs (InputEntry channel block) h = omega (arith, h.0.1)
+small_list Inputs (InputEntry channel block) h = omega (arith, h.0.0.1)
 small_list Inputs (OutputEntry channel block) h = omega arith
 small_list Inputs (Fir up down shift taps) h = omega arith
 small_list Inputs (Decimate factor) h = omega arith
@@ -45,8 +45,10 @@ small_list Inputs (Delay len) h = omega arith
 small_list Inputs (Table offset values) h = omega arith
 small_list Inputs (Deal ways run) h = omega arith
 small_list Inputs (Gather ways run) h = omega arith
+small_list Inputs (Clip least greatest) h = omega arith
+small_list Inputs (Offset value) h = omega arith
 small_list Outputs (InputEntry channel block) h = omega arith
-small_list Outputs (OutputEntry channel block) h = omega (arith, h.0.1)
+small_list Outputs (OutputEntry channel block) h = omega (arith, h.0.0.1)
 small_list Outputs (Fir up down shift taps) h = omega arith
 small_list Outputs (Decimate factor) h = omega arith
 small_list Outputs (Interpolate factor) h = omega arith
@@ -57,6 +59,8 @@ small_list Outputs (Delay len) h = omega arith
 small_list Outputs (Table offset values) h = omega arith
 small_list Outputs (Deal ways run) h = omega arith
 small_list Outputs (Gather ways run) h = omega arith
+small_list Outputs (Clip least greatest) h = omega arith
+small_list Outputs (Offset value) h = omega arith
 
 small_lists : (lists : Lists) (es : List ActorEntry) (m : ℕ) → m ≤ MOST_CHANNEL + 1 → All (IsActorWithin true) es
     → fold (λ n x. max n (list_room lists x)) m (map (λ (a : ActorValue). node_of a.kind) (map actor_view es)) ≤

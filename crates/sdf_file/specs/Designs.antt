@@ -47,6 +47,8 @@ node_of (entry.Delay length) = Inner (kits.Delay length)
 node_of (entry.Table offset values) = Inner (kits.Table (record { offset = offset; values = values.values }))
 node_of (entry.Deal ways run) = Inner (kits.Deal (record { ways = ways; run = run }))
 node_of (entry.Gather ways run) = Inner (kits.Gather (record { ways = ways; run = run }))
+node_of (entry.Clip least greatest) = Inner (kits.Clip (record { least = least; greatest = greatest }))
+node_of (entry.Offset value) = Inner (kits.Offset value)
 
 abbrev pub wire_of : LinkValue → Wire ℤ
 wire_of l = record { from = l.from; to = l.to; initial = l.initial }

@@ -69,6 +69,8 @@ fn tested_node(kind: KindEntry) -> Result<Node<Kit>, KitFault>
         }
         KindEntry::Deal { ways, run } => Ok(Node::Inner(Kit::deal(ways as usize, run)?)),
         KindEntry::Gather { ways, run } => Ok(Node::Inner(Kit::gather(ways as usize, run)?)),
+        KindEntry::Clip { least, greatest } => Ok(Node::Inner(Kit::clip(least, greatest)?)),
+        KindEntry::Offset { value } => Ok(Node::Inner(Kit::offset(value)?)),
     }
 }
 

@@ -71,6 +71,17 @@ fn same_kind(one: &KindEntry, other: &KindEntry) -> bool
             a == c && b == d
         }
         (
+            KindEntry::Clip {
+                least: a,
+                greatest: b,
+            },
+            KindEntry::Clip {
+                least: c,
+                greatest: d,
+            },
+        ) => { a == c && b == d }
+        (KindEntry::Offset { value: a }, KindEntry::Offset { value: c }) => a == c,
+        (
             KindEntry::Table {
                 offset: a,
                 values: b,

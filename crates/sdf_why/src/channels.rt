@@ -50,9 +50,11 @@ fn ports_of(kind: &KindEntry) -> Ports
         KindEntry::Interpolate { factor } => Ports::steady(1, 1, 1, *factor),
         KindEntry::Add { ways } => Ports::steady(*ways as usize, 1, 1, 1),
         KindEntry::Fork { ways } => Ports::steady(1, 1, *ways as usize, 1),
-        KindEntry::Gain { .. } | KindEntry::Delay { .. } | KindEntry::Table { .. } => {
-            Ports::steady(1, 1, 1, 1)
-        }
+        KindEntry::Gain { .. }
+        | KindEntry::Delay { .. }
+        | KindEntry::Table { .. }
+        | KindEntry::Clip { .. }
+        | KindEntry::Offset { .. } => Ports::steady(1, 1, 1, 1),
         KindEntry::Deal { ways, run } => Ports {
             cycle: *ways,
             inputs: every(*run),

@@ -13,7 +13,7 @@ struct Row {
     told: &'static str,
 }
 
-static ROWS: [Row; 14] = [
+static ROWS: [Row; 15] = [
     Row {
         graph: "format = 1\nlink = []\n[[actor]]\nname = \"half\"\nkind = \"fir\"\nup = 147\nshift = 0\ntaps = [1]\n",
         fault: "28 KitValue actor 0 key up",
@@ -33,6 +33,11 @@ static ROWS: [Row; 14] = [
         graph: "format = 2\nlink = []\n[[actor]]\nname = \"d\"\nkind = \"deal\"\nways = 17\nprocessor = 3\n",
         fault: "28 KitValue actor 0 key ways",
         told: "  actor 0 is \"d\", a deal\n  ways = 17, wants 2..16\n",
+    },
+    Row {
+        graph: "format = 2\nlink = []\n[[actor]]\nname = \"c\"\nkind = \"clip\"\nleast = 1\ngreatest = 0\n",
+        fault: "28 KitValue actor 0 key greatest",
+        told: "  actor 0 is \"c\", a clip\n  greatest = 0, wants least..32767\n",
     },
     Row {
         graph: "format = 1\nlink = []\n[[actor]]\nname = \"i\"\nkind = \"input\"\nchannel = 0\nprocessor = 16\n",

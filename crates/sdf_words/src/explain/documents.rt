@@ -18,7 +18,7 @@ pub(super) static MEANINGS: [Meaning; 15] = [
         place: "PLACE",
         means: "`format` is a whole number that this version does not know.",
         limits: "1 or 2 in a graph file, 1 in a coefficient file",
-        remedy: "Write `format = 1`, or `format = 2` where the design uses `deal` or `gather`.",
+        remedy: "Write `format = 1`, or `format = 2` for a kind that `sdfw kinds` lists with `format 2`.",
     },
     Meaning {
         number: 51,
@@ -66,7 +66,7 @@ pub(super) static MEANINGS: [Meaning; 15] = [
         place: "actor A",
         means: "No kind has this word, or `format = 1` has it not.",
         limits: "",
-        remedy: "Look the kinds up by `sdfw kinds`; `deal` and `gather` want `format = 2`.",
+        remedy: "Look the kinds up by `sdfw kinds`; one that it lists with `format 2` wants `format = 2`.",
     },
     Meaning {
         number: 57,
