@@ -33,6 +33,8 @@ mod parallel;
 #[cfg(test)]
 mod pieces;
 #[cfg(test)]
+mod refused_words;
+#[cfg(test)]
 mod rings;
 #[cfg(test)]
 mod roomy_plans;
