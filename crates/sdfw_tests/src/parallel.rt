@@ -6,7 +6,7 @@ use crate::running::{file_of, makes, run_file};
 use crate::runs::ramp_file;
 use sdf_file::read_design;
 use sdf_options::{Options, Placement, Policy, Runner};
-use sdf_process::parallel::{Paced, parallel_plan};
+use sdf_process::parallel::{LEAST_SHARE, Paced, parallel_plan};
 use std::alloc::Global;
 use std::test::Fail;
 use std::thread::Threads;
@@ -87,4 +87,10 @@ fn two_channels_write_what_one_thread_writes(rt: HostRuntime) -> Result<(), Fail
     let sound = file_of(rt.alloc(), 8000, 2, &[1, 2, 3, 4, 5, 6])?;
     let one = run_file(&rt, SWAP, &Options::DEFAULT, &sound)?;
     workers_write(&rt, SWAP, &sound, &one)
+}
+
+/// The weight for each worker that `docs/FORMATS.md` has.
+#[test]
+fn workers_have_their_share(rt: HostRuntime) {
+    assert_eq!(rt; LEAST_SHARE, 4_096);
 }
