@@ -1,16 +1,17 @@
 //! Rounds by hand over rings that were prepared: none of their calls takes memory.
 
-ghost use Rattle.std.specs.Prelude.{◌≡◌, Some};
-ghost use Rattle.sdf_process.specs.Plans.{Suits};
+ghost use Rattle.sdf_graph.specs.Rates.{rates};
+ghost use Rattle.sdf_actor.specs.Graphs.{graph_of};
+ghost use Rattle.sdf_kit.specs.Kit.{kit_steps};
+ghost use Rattle.sdf_answer.specs.Rows.{IsBlockTableOf};
 ghost use Rattle.sdf_rings.specs.Rests.{HaveMet};
 
 use crate::TURNS;
 use crate::runs::{BLOCKS, inputs_of};
 use anyhow::Result;
 use sdf_actor::Net;
+use sdf_answer::BlockTable;
 use sdf_kit::Kit;
-use sdf_prec::Table;
-use sdf_process::Plan;
 use sdf_rings::Rings;
 use sdf_rings::prepare::prepare;
 use sdf_run::NoGate;
@@ -44,16 +45,13 @@ fn show_lists(rt: &impl Print, answer: Option<Vec<Vec<i32>>>) -> io::Result<()> 
 pub(crate) fn finish_twice<R: AllocGlobal + Print>(
     rt: &R,
     net: &Net<Kit>,
-    plan: &Plan,
-    table: &Table,
+    table: &BlockTable,
 ) -> Result<()>
-    requires plan { Suits net.now plan.now }
-    requires table { plan.now.table ≡ Some table.now }
+    requires fits { IsBlockTableOf (rates (graph_of kit_steps net.now)) table.now }
 {
-    let j = plan.blocking();
-    let inputs = inputs_of(rt.alloc(), net, BLOCKS.saturating_mul(j))?;
+    let inputs = inputs_of(rt.alloc(), net, BLOCKS.saturating_mul(table.factor))?;
     for turn in TURNS {
-        let rings = prepare(rt.alloc(), net, plan.period(), j, table, BLOCKS, &inputs)?;
+        let rings = prepare(rt.alloc(), net, table, BLOCKS, &inputs)?;
         println!(rt; "{turn}")?;
         show_lists(rt, finish(rings))?;
     }

@@ -1,6 +1,9 @@
 //! Which call is made, by its name.
 
-ghost use Rattle.std.specs.Prelude.{◌≡◌, Some};
+ghost use Rattle.sdf_graph.specs.Rates.{rates};
+ghost use Rattle.sdf_actor.specs.Graphs.{graph_of};
+ghost use Rattle.sdf_kit.specs.Kit.{kit_steps};
+ghost use Rattle.sdf_answer.specs.Rows.{IsBlockTableOf};
 ghost use Rattle.sdf_process.specs.Plans.{Suits};
 
 use crate::by_hand::finish_twice;
@@ -11,10 +14,10 @@ use crate::sessions::{feed_twice, open_twice};
 use crate::sounds::process_twice;
 use anyhow::{Result, bail};
 use sdf_actor::Net;
+use sdf_answer::BlockTable;
 use sdf_file::{Design, read_design};
 use sdf_kit::Kit;
 use sdf_options::Options;
-use sdf_prec::Table;
 use sdf_process::Plan;
 use sdf_process::planning::plan;
 use std::fs;
@@ -27,15 +30,14 @@ fn make_tabled<R: AllocGlobal + Print + Sync + Threads>(
     call: &str,
     net: &Net<Kit>,
     plan: &Plan,
-    table: &Table,
+    table: &BlockTable,
 ) -> Result<()>
-    requires plan { Suits net.now plan.now }
-    requires table { plan.now.table ≡ Some table.now }
+    requires fits { IsBlockTableOf (rates (graph_of kit_steps net.now)) table.now }
 {
     match call {
         "open" => open_twice(rt, net, plan, table),
         "feed" => feed_twice(rt, net, plan, table),
-        "finish" => finish_twice(rt, net, plan, table),
+        "finish" => finish_twice(rt, net, table),
         _ => bail!("there is no such call"),
     }
 }

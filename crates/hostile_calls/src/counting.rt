@@ -3,6 +3,7 @@
 
 use anyhow::{Context, Result};
 use sdf_actor::Net;
+use sdf_answer::BlockTable;
 use sdf_file::read_design;
 use sdf_kit::Kit;
 use sdf_prec::Costs;
@@ -70,14 +71,19 @@ fn run<R: AllocGlobal + Print + Sync + Threads>(
     let period = class_s(alloc, graph, net.repetitions(), &mut Round::new())?;
     let costs = Costs::unit(alloc, graph)?;
     let table = hu(alloc, graph, &period, j, workers, true, &costs)?;
+    let table = BlockTable {
+        period,
+        factor: j,
+        table,
+    };
     let periods = j.saturating_mul(blocks);
     let samples = net.samples_in().saturating_mul(periods as usize);
     let inputs = vec![in alloc; vec![in alloc; 7; samples]?]?;
     println!(rt; "begin")?;
     let ran = match what {
-        "one" => run_one(alloc, net, &period, periods, &inputs)?,
-        "rows" => run_rows(rt, net, &period, j, &table, blocks, &inputs, &NoGate)?,
-        _ => run_rings(rt, net, &period, j, &table, blocks, &inputs, 1000, &NoGate)?,
+        "one" => run_one(alloc, net, &table.period, periods, &inputs)?,
+        "rows" => run_rows(rt, net, &table, blocks, &inputs, &NoGate)?,
+        _ => run_rings(rt, net, &table, blocks, &inputs, 1000, &NoGate)?,
     };
     println!(rt; "end")?;
     Ok(ran.outputs.first().context("an output")?.len())

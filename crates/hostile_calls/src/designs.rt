@@ -48,7 +48,7 @@ fn show_plan(rt: &impl Print, answer: Result<Plan, Fault>) -> Result<()> {
             let order = plan.period().order();
             println!(rt; "order {order:?}")?;
             if let Some(table) = plan.table() {
-                show_table(rt, table)?;
+                show_table(rt, &table.table)?;
             }
         }
         Err(fault) => println!(rt; "{fault}")?,

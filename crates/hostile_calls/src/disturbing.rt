@@ -1,7 +1,9 @@
 //! Runs whose workers are held up, beside runs on one thread.
 
-ghost use Rattle.std.specs.Prelude.{◌≡◌, Some};
-ghost use Rattle.sdf_process.specs.Plans.{Suits};
+ghost use Rattle.sdf_graph.specs.Rates.{rates};
+ghost use Rattle.sdf_actor.specs.Graphs.{graph_of};
+ghost use Rattle.sdf_kit.specs.Kit.{kit_steps};
+ghost use Rattle.sdf_answer.specs.Rows.{IsBlockTableOf};
 
 use crate::files::design_at;
 use crate::runs::{BLOCKS, inputs_of};
@@ -9,11 +11,10 @@ use anyhow::{Context, Result};
 use rand_core::{Rng, SeedableRng};
 use rand_xoshiro::SplitMix64;
 use sdf_actor::Net;
+use sdf_answer::BlockTable;
 use sdf_file::Design;
 use sdf_kit::Kit;
 use sdf_options::{Options, Runner};
-use sdf_prec::Table;
-use sdf_process::Plan;
 use sdf_process::planning::plan;
 use sdf_run::{ActorId, Gate, Ran, RunFault, run_one, run_rings, run_rows};
 use std::rt::Files;
@@ -56,20 +57,16 @@ const PATIENCES: [Option<u32>; 4] = [None, Some(0), Some(1), Some(1_000_000)];
 fn run_held<R: AllocGlobal + Sync + Threads>(
     rt: &R,
     net: &Net<Kit>,
-    plan: &Plan,
-    table: &Table,
+    table: &BlockTable,
     inputs: &[Vec<i32>],
     patience: Option<u32>,
     gate: &Shaken,
 ) -> Result<Ran<i32>, RunFault>
-    requires plan { Suits net.now plan.now }
-    requires table { plan.now.table ≡ Some table.now }
+    requires fits { IsBlockTableOf (rates (graph_of kit_steps net.now)) table.now }
 {
-    let period = plan.period();
-    let j = plan.blocking();
     match patience {
-        Some(patience) => { run_rings(rt, net, period, j, table, BLOCKS, inputs, patience, gate) }
-        None => run_rows(rt, net, period, j, table, BLOCKS, inputs, gate),
+        Some(patience) => run_rings(rt, net, table, BLOCKS, inputs, patience, gate),
+        None => run_rows(rt, net, table, BLOCKS, inputs, gate),
     }
 }
 
@@ -111,22 +108,20 @@ impl Counts {
     }
 }
 
-/// So many runs of a plan, each of them held up anew, beside one on one thread.
-fn disturb_plan<R: AllocGlobal + Sync + Threads>(
+/// So many runs by a table, each of them held up anew, beside one on one thread.
+fn disturb_table<R: AllocGlobal + Sync + Threads>(
     rt: &R,
     net: &Net<Kit>,
-    plan: &Plan,
-    table: &Table,
+    table: &BlockTable,
     runs: u32,
     seeds: &mut SplitMix64,
 ) -> Result<Counts>
-    requires plan { Suits net.now plan.now }
-    requires table { plan.now.table ≡ Some table.now }
+    requires fits { IsBlockTableOf (rates (graph_of kit_steps net.now)) table.now }
 {
-    let periods = BLOCKS.saturating_mul(plan.blocking());
-    let firings = (plan.period().order().len() as u64).saturating_mul(u64::from(periods));
+    let periods = BLOCKS.saturating_mul(table.factor);
+    let firings = (table.period.order().len() as u64).saturating_mul(u64::from(periods));
     let inputs = inputs_of(rt.alloc(), net, periods)?;
-    let one = run_one(rt.alloc(), net, plan.period(), periods, &inputs)?;
+    let one = run_one(rt.alloc(), net, &table.period, periods, &inputs)?;
     let mut counts = Counts::NONE;
     for number in 0..runs {
         let patience = PATIENCES[number as usize % PATIENCES.len()];
@@ -134,7 +129,7 @@ fn disturb_plan<R: AllocGlobal + Sync + Threads>(
             seed: seeds.next_u64(),
             held: AtomicU64::new(0),
         };
-        let ran = run_held(rt, net, plan, table, &inputs, patience, &gate);
+        let ran = run_held(rt, net, table, &inputs, patience, &gate);
         counts.add(ran, &one, firings);
         counts.held = counts.held.saturating_add(gate.held.load(Ordering::SeqCst));
     }
@@ -156,7 +151,7 @@ fn disturb_on<R: AllocGlobal + Print + Sync + Threads>(
     };
     let plan = plan(rt.alloc(), design, &options)?;
     let table = plan.table().context("a plan of workers has a table")?;
-    disturb_plan(rt, design.net(), &plan, table, runs, seeds)
+    disturb_table(rt, design.net(), table, runs, seeds)
 }
 
 /// So many runs of each design on each number of workers from 1 to 16.

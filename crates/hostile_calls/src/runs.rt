@@ -1,14 +1,17 @@
 //! Calls that run a net whole, and the samples that runs are given.
 
-ghost use Rattle.std.specs.Prelude.{◌≡◌, Some};
+ghost use Rattle.sdf_graph.specs.Rates.{rates};
+ghost use Rattle.sdf_actor.specs.Graphs.{graph_of};
+ghost use Rattle.sdf_kit.specs.Kit.{kit_steps};
+ghost use Rattle.sdf_answer.specs.Rows.{IsBlockTableOf};
 ghost use Rattle.sdf_process.specs.Plans.{Suits};
 
 use crate::TURNS;
 use anyhow::Result;
 use sdf_actor::Net;
+use sdf_answer::BlockTable;
 use sdf_kit::Kit;
 use sdf_options::Runner;
-use sdf_prec::Table;
 use sdf_process::Plan;
 use sdf_run::{Gate, NoGate, Ran, RunFault, run_one, run_rings, run_rows};
 use std::alloc::{AllocError, Global};
@@ -51,21 +54,15 @@ pub(crate) fn run_blocks<R: AllocGlobal + Sync + Threads, G: Gate>(
     rt: &R,
     net: &Net<Kit>,
     plan: &Plan,
-    table: &Table,
+    table: &BlockTable,
     inputs: &[Vec<i32>],
     gate: &G,
 ) -> Result<Ran<i32>, RunFault>
-    requires plan { Suits net.now plan.now }
-    requires table { plan.now.table ≡ Some table.now }
+    requires fits { IsBlockTableOf (rates (graph_of kit_steps net.now)) table.now }
 {
-    let period = plan.period();
-    let j = plan.blocking();
     match plan.runner() {
-        Runner::Rings => {
-            let patience = plan.patience();
-            run_rings(rt, net, period, j, table, BLOCKS, inputs, patience, gate)
-        }
-        _ => run_rows(rt, net, period, j, table, BLOCKS, inputs, gate),
+        Runner::Rings => run_rings(rt, net, table, BLOCKS, inputs, plan.patience(), gate),
+        _ => run_rows(rt, net, table, BLOCKS, inputs, gate),
     }
 }
 

@@ -1,15 +1,17 @@
 //! Calls of sessions.
 
-ghost use Rattle.std.specs.Prelude.{◌≡◌, Some};
-ghost use Rattle.sdf_process.specs.Plans.{Suits};
+ghost use Rattle.sdf_graph.specs.Rates.{rates};
+ghost use Rattle.sdf_actor.specs.Graphs.{graph_of};
+ghost use Rattle.sdf_kit.specs.Kit.{kit_steps};
+ghost use Rattle.sdf_answer.specs.Rows.{IsBlockTableOf};
 
 use crate::TURNS;
 use crate::runs::{BLOCKS, inputs_of, show_ran};
 use anyhow::Result;
 use sdf_actor::Net;
+use sdf_answer::BlockTable;
 use sdf_kit::Kit;
 use sdf_options::Runner;
-use sdf_prec::Table;
 use sdf_process::Plan;
 use sdf_run::{Mode, NoGate, RunFault, Session};
 use std::alloc::Global;
@@ -20,11 +22,10 @@ use std::thread::Threads;
 fn open<'a>(
     alloc: Global,
     net: &'a Net<Kit>,
-    plan: &'a Plan,
-    table: &'a Table,
+    plan: &Plan,
+    table: &'a BlockTable,
 ) -> Result<Session<'a, Kit>, RunFault>
-    requires plan { Suits net.now plan.now }
-    requires table { plan.now.table ≡ Some table.now }
+    requires fits { IsBlockTableOf (rates (graph_of kit_steps net.now)) table.now }
 {
     let mode = match plan.runner() {
         Runner::Rings => Mode::Rings {
@@ -33,7 +34,7 @@ fn open<'a>(
         },
         _ => Mode::Rows,
     };
-    Session::open(alloc, net, plan.period(), plan.blocking(), table, mode)
+    Session::open(alloc, net, table, mode)
 }
 
 fn show_session(rt: &impl Print, answer: Result<Session<'_, Kit>, RunFault>) -> io::Result<()> {
@@ -58,10 +59,9 @@ pub(crate) fn open_twice<R: AllocGlobal + Print>(
     rt: &R,
     net: &Net<Kit>,
     plan: &Plan,
-    table: &Table,
+    table: &BlockTable,
 ) -> Result<()>
-    requires plan { Suits net.now plan.now }
-    requires table { plan.now.table ≡ Some table.now }
+    requires fits { IsBlockTableOf (rates (graph_of kit_steps net.now)) table.now }
 {
     for turn in TURNS {
         println!(rt; "{turn}")?;
@@ -75,12 +75,11 @@ pub(crate) fn feed_twice<R: AllocGlobal + Print + Sync + Threads>(
     rt: &R,
     net: &Net<Kit>,
     plan: &Plan,
-    table: &Table,
+    table: &BlockTable,
 ) -> Result<()>
-    requires plan { Suits net.now plan.now }
-    requires table { plan.now.table ≡ Some table.now }
+    requires fits { IsBlockTableOf (rates (graph_of kit_steps net.now)) table.now }
 {
-    let inputs = inputs_of(rt.alloc(), net, BLOCKS.saturating_mul(plan.blocking()))?;
+    let inputs = inputs_of(rt.alloc(), net, BLOCKS.saturating_mul(table.factor))?;
     let none = inputs_of(rt.alloc(), net, 0)?;
     for turn in TURNS {
         let mut session = open(rt.alloc(), net, plan, table)?;

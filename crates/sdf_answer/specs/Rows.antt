@@ -1,8 +1,10 @@
--- Runs of a table, row by row.
+-- Tables that a net is run by, block after block.
 use Rattle.std.specs.Prelude.{ℕ, ◌≤◌, List, slice_index}
 use Rattle.sdf_graph.specs.Rates.{Rates}
+use Rattle.sdf_sched.specs.Period.{IsPeriodOf}
 use Rattle.sdf_prec.specs.Blocks.{block, IsWorkers, IsShort}
 use Rattle.sdf_prec.specs.Tables.{Tabled, IsTable}
+use Rattle.sdf_answer.specs.declared.block_table.BlockTable.{BlockTable}
 
 -- a table of some width, for blocks of j periods in each of which every actor a fires q a times. The periods may be as
 -- many as the firings of a block allow
@@ -12,3 +14,8 @@ pub record IsTableOf (r : Rates) (q : List ℕ) (j : ℕ) (t : Tabled) : Type 0 
   pub workers : IsWorkers width
   pub short : IsShort j q
   pub table : IsTable r (slice_index (block j q)) width t
+
+-- a period of the rates, and a table for blocks of so many of it
+pub record IsBlockTableOf (r : Rates) (t : BlockTable) : Type 0 where
+  pub period : IsPeriodOf r t.period
+  pub table : IsTableOf r t.period.repetitions t.factor t.table

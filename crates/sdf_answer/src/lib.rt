@@ -4,9 +4,10 @@
 //! at `specs/Answer.antt`: which inputs a run is given, and that its outputs are the lists of the histories. Then
 //! `inputs` and `outputs`, the tests and the lists of a run, `sizes`, how many samples firings move, `queue`, the
 //! samples that stand on a channel, `blocks`, those that a firing moves at its ports, `rooms`, how many stand on a
-//! channel, and `laws`, what every runner's proof uses.
+//! channel, `block_table`, what workers follow (`specs/Rows.antt`), and `laws`, what every runner's proof uses.
 #![tactic(auto)]
 
+pub mod block_table;
 pub mod blocks;
 pub mod fault;
 pub mod inputs;
@@ -16,6 +17,7 @@ pub mod queue;
 pub mod rooms;
 pub mod sizes;
 
+pub use block_table::BlockTable;
 pub use fault::RunFault;
 pub use outputs::Ran;
 pub use queue::Queue;

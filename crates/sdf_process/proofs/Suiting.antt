@@ -1,9 +1,15 @@
 -- The plan of a design is one of its net's.
-use Rattle.std.proofs.Common.{ℕ, Option, Some, None, Result, Ok, Err, MatchResult, sym, subst}
+use Rattle.std.proofs.Common.{ℕ, ℤ, Option, Some, None, Result, Ok, Err, MatchResult, sym, subst}
 use Rattle.std.specs.Prelude.{IfSome, IfOk}
-use Rattle.sdf_sched.specs.Period.{Schedule}
+use Rattle.sdf_graph.specs.Rates.{rates}
+use Rattle.sdf_sched.specs.Period.{Schedule, IsPeriodOf}
 use Rattle.sdf_prec.specs.Tables.{Tabled, IsTable}
-use Rattle.sdf_answer.specs.Rows.{IsTableOf}
+use Rattle.sdf_actor.specs.Graphs.{graph_of}
+use Rattle.sdf_actor.specs.Nets.{Netlist}
+use Rattle.sdf_kit.specs.declared.kit.Kit.{Kit}
+use Rattle.sdf_kit.specs.Kit.{kit_steps}
+use Rattle.sdf_answer.specs.Rows.{IsTableOf, IsBlockTableOf}
+use Rattle.sdf_answer.specs.declared.block_table.BlockTable.{BlockTable}
 use Rattle.sdf_file.specs.Designs.{DesignValue}
 use Rattle.sdf_process.specs.declared.fault.Fault.{Fault}
 use Rattle.sdf_options.specs.declared.options.Options.{Options}
@@ -13,7 +19,9 @@ use Rattle.sdf_options.specs.declared.options.Policy.{Policy}
 use Rattle.sdf_options.specs.declared.options.Runner.{Runner}
 use Rattle.sdf_options.specs.declared.options.Runner.TheVariants.{One, Rows, Rings}
 use Rattle.sdf_process.specs.Placements.{rates_of, firings_of, IsPlaced, IsTableBy}
-use Rattle.sdf_process.specs.Plans.{PlanValue, IsPlanOf, IsPlanFault, IsTableFor, HasPatience, SuitsRunner, Suits}
+use Rattle.sdf_process.specs.Followed.{HasBlockTable}
+use Rattle.sdf_process.specs.Plans.{PlanValue, IsPlanOf, IsPlanFault, IsTableFor, HasPatience}
+use Rattle.sdf_process.specs.Plans.{SuitsRunner, Suits}
 
 pub placed_table : (placement : Placement) (policy : Policy) (d : DesignValue) (j m : ℕ) (s : Schedule) (t : Tabled) →
     IsPlaced placement policy d j m s t → IsTable (rates_of d) (firings_of j s) m t
@@ -59,3 +67,14 @@ suits_of d o (Ok p) is = record {
       (subst (HasPatience o.runner) (sym is.same_patience) is.options.patience);
 }
 suits_of d o (Err f) is = tt
+
+-- its table of blocks is one of the net's
+pub fits_net : (n : Netlist Kit ℤ) (p : PlanValue) (t : BlockTable) → Suits n p → HasBlockTable p t →
+    IsBlockTableOf (rates (graph_of kit_steps n)) t
+fits_net n p t suits has = record {
+  period = subst (IsPeriodOf (rates (graph_of kit_steps n))) (sym has.period) suits.period;
+  table = subst (λ (j : ℕ). IsTableOf (rates (graph_of kit_steps n)) t.period.repetitions j t.table) (sym has.factor)
+      (subst (λ (s : Schedule). IsTableOf (rates (graph_of kit_steps n)) s.repetitions p.blocking t.table)
+      (sym has.period) (subst (λ (o : Option Tabled). IfSome o (IsTableOf (rates (graph_of kit_steps n))
+      p.period.repetitions p.blocking)) has.table suits.table));
+}

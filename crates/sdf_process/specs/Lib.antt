@@ -6,6 +6,7 @@ pub mod Streams
 pub mod Placements
 pub mod Paces
 pub mod Plans
+pub mod Followed
 pub mod Schedules
 pub mod Statuses
 pub mod Laws

@@ -1,14 +1,18 @@
 //! A sound that was read whole: what a net makes of it, and the frames of that written.
 
-ghost use Rattle.std.specs.Prelude.{◌≡◌, ◌*◌, ◌≤◌, Some, MatchResult, false};
+ghost use Rattle.std.specs.Prelude.{◌≡◌, ◌*◌, ◌≤◌, MatchResult, false};
+ghost use Rattle.sdf_graph.specs.Rates.{rates};
+ghost use Rattle.sdf_actor.specs.Graphs.{graph_of};
 ghost use Rattle.sdf_actor.specs.declared.sides.Lists.TheVariants.{Inputs, Outputs};
 ghost use Rattle.sdf_actor.specs.Wires.{lists as items_of};
 ghost use Rattle.sdf_actor.specs.Sides.{list_count};
 ghost use Rattle.sdf_answer.specs.Answer.{HasInputs, AreOutputs, IsRunFault, periods_of as firings};
+ghost use Rattle.sdf_answer.specs.Rows.{IsBlockTableOf};
 ghost use Rattle.sdf_kit.specs.Kit.{kit_steps};
 ghost use Rattle.sdf_process.specs.declared.fault.Fault.TheVariants.{OutOfMemory};
 ghost use Rattle.sdf_process.specs.Output.{announced_by, exchange_of, output_frames, periods_of, IsExtent};
-ghost use Rattle.sdf_process.specs.Plans.{Suits};
+ghost use Rattle.sdf_process.specs.Followed.{HasBlockTable};
+ghost use Rattle.sdf_process.specs.Plans.{HasPatience, Suits, SuitsRunner};
 ghost use Rattle.sdf_process.specs.Run.{BeginWithOutput};
 ghost use Rattle.sdf_process.specs.Stages.{PutsOutput};
 
@@ -18,9 +22,9 @@ use crate::plan::Plan;
 use crate::playing::put_pieces;
 use crate::putting::put_frames;
 use sdf_actor::Net;
+use sdf_answer::BlockTable;
 use sdf_kit::Kit;
 use sdf_options::Runner;
-use sdf_prec::Table;
 use sdf_run::laws::{nets_have_periods, runs_go_on};
 use sdf_run::{Gate, Ran, RunFault, run_rings, run_rows};
 use sdf_wav::{ContentOut, MOST_CHANNELS, Wav, Writer};
@@ -34,31 +38,27 @@ pub(crate) struct Heard {
     pub(crate) output: ContentOut,
 }
 
-/// Runs a net for whole blocks by the plan's runner with workers.
+/// Runs a net for whole blocks of a table by the plan's runner with workers.
 fn run_blocks<T: Threads + AllocGlobal + Sync, G: Gate>(
     rt: &T,
     net: &Net<Kit>,
     plan: &Plan,
-    table: &Table,
+    table: &BlockTable,
     blocks: u32,
     inputs: &[Vec<i32>],
     gate: &G,
 ) -> Result<Ran<i32>, RunFault>
-    requires plan { Suits net.now plan.now }
-    requires table { plan.now.table ≡ Some table.now }
-    ensures { let q = plan.now.period.repetitions in let periods = blocks * plan.now.blocking in MatchResult result
+    requires fits { IsBlockTableOf (rates (graph_of kit_steps net.now)) table.now }
+    requires homes { SuitsRunner plan.now.runner table.now.table }
+    requires patience { HasPatience plan.now.runner plan.now.patience }
+    ensures { let q = table.now.period.repetitions in let periods = blocks * table.now.factor in MatchResult result
         (λ ran. HasInputs net.now q periods (items_of inputs.now)
         × AreOutputs kit_steps net.now (items_of inputs.now) (firings q periods) (items_of ran.outputs.items))
         (IsRunFault net.now q periods (items_of inputs.now)) }
 {
-    let period = plan.period();
-    let j = plan.blocking();
     match plan.runner() {
-        Runner::Rings => {
-            let patience = plan.patience();
-            run_rings(rt, net, period, j, table, blocks, inputs, patience, gate)
-        }
-        _ => run_rows(rt, net, period, j, table, blocks, inputs, gate),
+        Runner::Rings => run_rings(rt, net, table, blocks, inputs, plan.patience(), gate),
+        _ => run_rows(rt, net, table, blocks, inputs, gate),
     }
 }
 
@@ -68,13 +68,13 @@ fn lists_of<T: Threads + AllocGlobal + Sync, G: Gate>(
     rt: &T,
     net: &Net<Kit>,
     plan: &Plan,
-    table: &Table,
+    table: &BlockTable,
     gate: &G,
     input: Wav,
     periods: u32,
 ) -> Result<Vec<Vec<i32>>, Fault>
     requires plan { Suits net.now plan.now }
-    requires table { plan.now.table ≡ Some table.now }
+    requires table { HasBlockTable plan.now table.now }
     requires inputs { list_count Inputs net.now.nodes ≤ MOST_CHANNELS }
     requires outputs { list_count Outputs net.now.nodes ≤ MOST_CHANNELS }
     requires periods { periods ≡ periods_of (exchange_of net.now plan.now.period.repetitions) input }

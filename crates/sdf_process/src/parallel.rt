@@ -27,8 +27,8 @@ pub const LEAST_SHARE: u64 = 4_096;
 /// How a design is run where it is to be run in parallel.
 #[derive(Clone, Copy, Debug, PartialEq, Eq)]
 pub enum Pace {
-    /// By so many workers, as many as are asked for and a frame is enough work for, in blocks of so many samples of each
-    /// input; at most so many tenths as fast as by one.
+    /// By so many workers, as many as are asked for and a frame is enough work for, in blocks of so many samples of
+    /// each input; at most so many tenths as fast as by one.
     Crew {
         workers: usize,
         samples: u64,
@@ -99,7 +99,7 @@ fn tenths_of(alloc: Global, design: &Design, workers: usize, plan: &Plan) -> Res
         unreachable!()
     };
     let weights = weights(alloc, design, plan.period())?;
-    let homes = homes_of(alloc, table, design.net().len())?;
+    let homes = homes_of(alloc, &table.table, design.net().len())?;
     let all = weight_to(&weights, design.net().len());
     let most = heaviest(&weights, &homes, workers);
     Ok((10 * all).checked_div(most).unwrap_or(0))

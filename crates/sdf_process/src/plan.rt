@@ -1,8 +1,16 @@
 //! How a design is run.
 
-ghost use Rattle.std.specs.Prelude.{◌≡◌, option_map};
-ghost use Rattle.sdf_process.specs.Plans.{rooms_of};
+ghost use Rattle.std.specs.Prelude.{◌≡◌, ℤ, IfSome, IfNone, None};
+ghost use Rattle.sdf_graph.specs.Rates.{rates};
+ghost use Rattle.sdf_actor.specs.Graphs.{graph_of};
+ghost use Rattle.sdf_actor.specs.Nets.{Netlist};
+ghost use Rattle.sdf_answer.specs.Rows.{IsBlockTableOf};
+ghost use Rattle.sdf_kit.specs.declared.kit.Kit.{Kit};
+ghost use Rattle.sdf_kit.specs.Kit.{kit_steps};
+ghost use Rattle.sdf_process.specs.Followed.{blocking_in, period_in, table_in, HasBlockTable};
+ghost use Rattle.sdf_process.specs.Plans.{rooms_of, Suits};
 
+use sdf_answer::BlockTable;
 use sdf_options::{Options, Placement, Runner};
 use sdf_prec::Table;
 use sdf_sched::Period;
@@ -22,29 +30,52 @@ pub(crate) fn rooms_of(placement: Placement) -> u32
     }
 }
 
+/// What a runner follows.
+#[derive(Drop)]
+enum Followed {
+    /// One period, and how many a block has.
+    OneThread { period: Period, blocking: u32 },
+    Workers(BlockTable),
+}
+
+/// What is followed with a table or without one.
+fn following(period: Period, blocking: u32, table: Option<Table>) -> Followed
+    ensures blocking { blocking_in result ≡ blocking }
+    ensures period { period_in result ≡ period }
+    ensures table { table_in result ≡ table }
+{
+    match table {
+        Some(table) => Followed::Workers(BlockTable {
+            period,
+            factor: blocking,
+            table,
+        }),
+        None => Followed::OneThread { period, blocking },
+    }
+}
+
 /// How a design is run: the firings of one period, and the table that a runner with workers needs.
 #[derive(Drop)]
 pub struct Plan {
-    blocking: u32,
     runner: Runner,
     patience: u32,
     rooms: u32,
-    period: Period,
-    table: Option<Table>,
+    followed: Followed,
 }
 
 impl Model for Plan {
+    ghost use Rattle.sdf_process.specs.Followed.{blocking_in, period_in, table_in};
     ghost use Rattle.sdf_process.specs.Plans.{PlanValue};
 
     ghost Value = { PlanValue };
 
     ghost view = { λ p. record {
-      blocking = p.blocking;
+      blocking = blocking_in p.followed;
       runner = p.runner;
       patience = p.patience;
       rooms = p.rooms;
-      period = p.period;
-      table = p.table;
+      period = period_in p.followed;
+      table = table_in p.followed;
     } };
 }
 
@@ -66,12 +97,10 @@ impl Plan {
         } }
     {
         Plan {
-            blocking,
             runner: options.runner,
             patience: options.patience,
             rooms: rooms_of(options.placement),
-            period,
-            table,
+            followed: following(period, blocking, table),
         }
     }
 
@@ -79,7 +108,10 @@ impl Plan {
     pub fn blocking(&self) -> u32
         ensures { result ≡ self.now.blocking }
     {
-        self.blocking
+        match &self.followed {
+            Followed::OneThread { blocking, .. } => *blocking,
+            Followed::Workers(table) => table.factor,
+        }
     }
 
     /// What runs it.
@@ -107,13 +139,22 @@ impl Plan {
     pub fn period(&self) -> &Period
         ensures { result.now ≡ self.now.period }
     {
-        &self.period
+        match &self.followed {
+            Followed::OneThread { period, .. } => period,
+            Followed::Workers(table) => &table.period,
+        }
     }
 
-    /// The table of a block, where the runner has workers.
-    pub fn table(&self) -> Option<&Table>
-        ensures { option_map (λ t. t.now) result ≡ self.now.table }
+    /// The table of its blocks, where the runner has workers.
+    pub fn table(&self) -> Option<&BlockTable>
+        ensures some { IfSome result (λ t. HasBlockTable self.now t.now) }
+        ensures none { IfNone result (self.now.table ≡ None) }
+        ensures fits { (n : Netlist Kit ℤ) → Suits n self.now →
+            IfSome result (λ t. IsBlockTableOf (rates (graph_of kit_steps n)) t.now) }
     {
-        self.table.as_ref()
+        match &self.followed {
+            Followed::OneThread { .. } => None,
+            Followed::Workers(table) => Some(table),
+        }
     }
 }

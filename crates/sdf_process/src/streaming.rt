@@ -13,6 +13,7 @@ ghost use Rattle.sdf_wav.specs.Sound.{Sound};
 ghost use Rattle.sdf_process.specs.declared.exchange.Extent.{Extent};
 ghost use Rattle.sdf_process.specs.declared.fault.Fault.TheVariants.{OutOfMemory};
 ghost use Rattle.sdf_process.specs.Output.{exchange_of, lists_from, IsExtent};
+ghost use Rattle.sdf_process.specs.Followed.{HasBlockTable};
 ghost use Rattle.sdf_process.specs.Plans.{Suits};
 ghost use Rattle.sdf_process.specs.Streams.{AreBehind, IsReady, PutsBlocks, PutsWhole, mode_of, ReadsBy, ReadsMore};
 ghost use Rattle.sdf_process.specs.Streams.{StandsAt, StandsWhole, Streams};
@@ -23,9 +24,9 @@ use crate::plan::Plan;
 use crate::putting::put_frames;
 use sdf_actor::Net;
 use sdf_actor::laws::nets_are_wired;
+use sdf_answer::BlockTable;
 use sdf_kit::Kit;
 use sdf_options::Runner;
-use sdf_prec::Table;
 use sdf_run::laws::{nets_can_run, nets_have_periods, runs_go_on};
 use sdf_run::{Gate, Mode, Session};
 use sdf_wav::laws::{pieces_join, puts_join};
@@ -61,23 +62,16 @@ fn open_session<'a>(
     alloc: Global,
     net: &'a Net<Kit>,
     plan: &'a Plan,
-    table: &'a Table,
+    table: &'a BlockTable,
 ) -> Result<Session<'a, Kit>, Fault>
     requires plan { Suits net.now plan.now }
-    requires table { plan.now.table ≡ Some table.now }
+    requires table { HasBlockTable plan.now table.now }
     ensures stands { MatchResult result
         (λ v. (s : Sound) → StandsAt net.now plan.now.period plan.now.blocking s 0 0 [] v)
         (λ e. e ≡ OutOfMemory) }
     ensures mode { IfOk result (λ v. v.mode ≡ mode_of plan.now.runner plan.now.patience plan.now.rooms) }
 {
-    let session = Session::open(
-        alloc,
-        net,
-        plan.period(),
-        plan.blocking(),
-        table,
-        mode(plan),
-    )?;
+    let session = Session::open(alloc, net, table, mode(plan))?;
     Ok(session)
 }
 
@@ -250,14 +244,14 @@ pub(crate) fn run_stream<T: Threads + AllocGlobal + Sync, R: Reader, W: Writer, 
     writer: &mut W,
     net: &Net<Kit>,
     plan: &Plan,
-    table: &Table,
+    table: &BlockTable,
     gate: &G,
     mut content: ContentIn,
     output: ContentOut,
     frames: usize,
 ) -> Result<(), Fault>
     requires plan { Suits net.now plan.now }
-    requires table { plan.now.table ≡ Some table.now }
+    requires table { HasBlockTable plan.now table.now }
     requires inputs { list_count Inputs net.now.nodes ≤ MOST_CHANNELS }
     requires outputs { list_count Outputs net.now.nodes ≤ MOST_CHANNELS }
     requires sound { IsReading content }

@@ -2,13 +2,12 @@
 
 ghost use Rattle.std.specs.Prelude.{◌*◌, ◌≤◌, ℕ, List, MatchResult};
 ghost use Rattle.sdf_graph.specs.Rates.{rates};
-ghost use Rattle.sdf_sched.specs.Period.{IsPeriodOf};
 ghost use Rattle.sdf_actor.specs.Graphs.{graph_of};
 ghost use Rattle.sdf_actor.specs.Rests.{IsRest};
 ghost use Rattle.sdf_actor.specs.Wires.{lists};
 ghost use Rattle.sdf_answer.specs.Answer.{periods_of};
 ghost use Rattle.sdf_answer.specs.Feeds as feeds;
-ghost use Rattle.sdf_answer.specs.Rows.{IsTableOf};
+ghost use Rattle.sdf_answer.specs.Rows.{IsBlockTableOf};
 ghost use Rattle.sdf_rings.specs.Outcome.{HasRunInRounds, HasGoneOn, IsRingsFault};
 
 use crate::roomy_table::RoomyTable;
@@ -17,7 +16,6 @@ use sdf_actor::{Actor, Begun, Net, Rest};
 use sdf_answer::laws::{begun_nets_go_on, feeds_go_on, nets_have_periods};
 use sdf_answer::{Ran, RunFault};
 use sdf_node::Gate;
-use sdf_sched::Period;
 use std::alloc::AllocGlobal;
 use std::thread::Threads;
 
@@ -26,24 +24,21 @@ use std::thread::Threads;
 pub fn feed_rings<R: Threads + AllocGlobal + Sync, A: Actor, G: Gate>(
     rt: &R,
     net: &Net<A>,
-    period: &Period,
-    j: u32,
     given: &RoomyTable,
     blocks: u32,
     inputs: &[Vec<A::Token>],
     patience: u32,
     gate: &G,
 ) -> Result<(Ran<A::Token>, Rest<A::Token, A::State>), RunFault>
-    requires period { IsPeriodOf (rates (graph_of A.steps net.now)) period.now }
-    requires table { IsTableOf (rates (graph_of A.steps net.now)) period.now.repetitions j given.now.table.now }
+    requires fits { IsBlockTableOf (rates (graph_of A.steps net.now)) given.now.table.now }
     requires rooms { 1 ≤ given.now.rooms }
-    ensures { let q = period.now.repetitions in MatchResult result
-        (λ fed. HasRunInRounds A.steps net.now q j given.now.table.now blocks (lists inputs.now) patience
+    ensures { let t = given.now.table.now in let q = t.period.repetitions in let j = t.factor in MatchResult result
+        (λ fed. HasRunInRounds A.steps net.now q j t.table blocks (lists inputs.now) patience
         (lists fed.0.outputs.items) fed.0.rounds ×
         feeds.HasRun A.steps net.now (lists inputs.now) (periods_of q (blocks * j)) (lists fed.0.outputs.items) fed.1)
-        (IsRingsFault net.now q (blocks * j) (lists inputs.now) given.now.table.now patience) }
+        (IsRingsFault net.now q (blocks * j) (lists inputs.now) t.table patience) }
 {
-    let (rings, rounds) = run_through(rt, net, period, j, given, blocks, inputs, patience, gate)?;
+    let (rings, rounds) = run_through(rt, net, given, blocks, inputs, patience, gate)?;
     let (outputs, rest) = rings.leave()?;
     Ok((Ran { outputs, rounds }, rest))
 }
@@ -53,8 +48,6 @@ pub fn feed_rings<R: Threads + AllocGlobal + Sync, A: Actor, G: Gate>(
 pub fn resume_rings<R: Threads + AllocGlobal + Sync, A: Actor, G: Gate>(
     rt: &R,
     net: &Net<A>,
-    period: &Period,
-    j: u32,
     given: &RoomyTable,
     rest: &Rest<A::Token, A::State>,
     blocks: u32,
@@ -62,19 +55,18 @@ pub fn resume_rings<R: Threads + AllocGlobal + Sync, A: Actor, G: Gate>(
     patience: u32,
     gate: &G,
 ) -> Result<(Ran<A::Token>, Rest<A::Token, A::State>), RunFault>
-    requires period { IsPeriodOf (rates (graph_of A.steps net.now)) period.now }
-    requires table { IsTableOf (rates (graph_of A.steps net.now)) period.now.repetitions j given.now.table.now }
+    requires fits { IsBlockTableOf (rates (graph_of A.steps net.now)) given.now.table.now }
     requires rooms { 1 ≤ given.now.rooms }
     requires rest { (first : List (List A.Token)) × (few : ℕ)
-        × IsRest A.steps net.now first (periods_of period.now.repetitions few) rest.now }
-    ensures { let q = period.now.repetitions in MatchResult result
-        (λ fed. HasGoneOn A.steps net.now q j given.now.table.now rest.now blocks (lists inputs.now) patience
+        × IsRest A.steps net.now first (periods_of given.now.table.now.period.repetitions few) rest.now }
+    ensures { let t = given.now.table.now in let q = t.period.repetitions in let j = t.factor in MatchResult result
+        (λ fed. HasGoneOn A.steps net.now q j t.table rest.now blocks (lists inputs.now) patience
         (lists fed.0.outputs.items) fed.0.rounds fed.1)
-        (IsRingsFault net.now q (blocks * j) (lists inputs.now) given.now.table.now patience) }
+        (IsRingsFault net.now q (blocks * j) (lists inputs.now) t.table patience) }
 {
     nets_have_periods(net);
     feeds_go_on::<A, Begun<A>>();
     begun_nets_go_on::<A, Begun<A>>();
     let begun = net.begun(rt.alloc(), rest)?;
-    feed_rings(rt, &begun, period, j, given, blocks, inputs, patience, gate)
+    feed_rings(rt, &begun, given, blocks, inputs, patience, gate)
 }

@@ -2,14 +2,13 @@
 
 ghost use Rattle.std.specs.Prelude.{◌≡◌, ◌*◌, ◌≤◌, ◌<◌, ℕ, length, slice_index, vec_len, IfOk, MatchResult};
 ghost use Rattle.sdf_graph.specs.Rates.{rates};
-ghost use Rattle.sdf_sched.specs.Period.{IsPeriodOf};
 ghost use Rattle.sdf_prec.specs.Tables.{row, IsHomed};
 ghost use Rattle.sdf_actor.specs.declared.sides.Lists.TheVariants.{Inputs};
 ghost use Rattle.sdf_actor.specs.Graphs.{graph_of};
 ghost use Rattle.sdf_actor.specs.Sides.{period_samples};
 ghost use Rattle.sdf_actor.specs.Wires.{lists};
 ghost use Rattle.sdf_answer.specs.Answer.{HasInputs};
-ghost use Rattle.sdf_answer.specs.Rows.{IsTableOf};
+ghost use Rattle.sdf_answer.specs.Rows.{IsBlockTableOf};
 ghost use Rattle.sdf_answer.specs.Sizes.{AreSizes};
 ghost use Rattle.sdf_rings.specs.Begun.{CanStart};
 ghost use Rattle.sdf_rings.specs.Prepared.{IsPrepared, IsAsked, IsPrepareFault};
@@ -26,9 +25,8 @@ use sdf_answer::inputs::{are_inputs, first_sample};
 use sdf_answer::laws::{blocks_are_small, net_facts, nets_can_run, nets_have_periods};
 use sdf_answer::outputs::make_outputs;
 use sdf_answer::sizes::samples_of_blocks;
-use sdf_answer::{RunFault, Sizes};
+use sdf_answer::{BlockTable, RunFault, Sizes};
 use sdf_prec::Table;
-use sdf_sched::Period;
 use std::alloc::{AllocError, Global};
 
 /// How many columns a table has, where all its rows have as many.
@@ -53,16 +51,16 @@ fn lay_out<'a, A: Actor>(
         start.now.room start.now.filler }
     requires sizes { AreSizes A.steps start.now.net.now start.now.sizes }
     requires asked { vec_len start.now.asked ≡ length start.now.net.now.nodes }
-    requires plan { IsAsked A.steps start.now.net.now given.now.table.now given.now.rooms blocks
+    requires plan { IsAsked A.steps start.now.net.now given.now.table.now.table given.now.rooms blocks
         (slice_index start.now.asked.items) }
-    requires homed { IsHomed given.now.table.now }
-    ensures { IfOk result (IsPrepared A.steps start.now.net.now (lists start.now.inputs.now) given.now.table.now
+    requires homed { IsHomed given.now.table.now.table }
+    ensures { IfOk result (IsPrepared A.steps start.now.net.now (lists start.now.inputs.now) given.now.table.now.table
         given.now.rooms blocks) }
 {
     sdf_actor::laws::nets_are_wired::<A>();
     sdf_graph::laws::alike_sequences();
     sdf_prec::laws::tables_repeat();
-    let table = given.table;
+    let table = &given.table.table;
     let places = places(alloc, table, start.net.len())?;
     let mut ends = open_rings(alloc, start.net, given)?;
     let seats = seats(
@@ -82,19 +80,18 @@ fn lay_out<'a, A: Actor>(
 fn prepare_homed<'a, A: Actor>(
     alloc: Global,
     net: &'a Net<A>,
-    period: &Period,
-    j: u32,
     given: &RoomyTable,
     blocks: u32,
     inputs: &'a [Vec<A::Token>],
 ) -> Result<Rings<'a, A>, AllocError>
-    requires period { IsPeriodOf (rates (graph_of A.steps net.now)) period.now }
-    requires table { IsTableOf (rates (graph_of A.steps net.now)) period.now.repetitions j given.now.table.now }
+    requires fits { IsBlockTableOf (rates (graph_of A.steps net.now)) given.now.table.now }
     requires rooms { 1 ≤ given.now.rooms }
-    requires homed { IsHomed given.now.table.now }
-    requires inputs { HasInputs net.now period.now.repetitions (blocks * j) (lists inputs.now) }
-    requires some { 0 < period_samples net.now.nodes Inputs period.now.repetitions }
-    ensures { IfOk result (IsPrepared A.steps net.now (lists inputs.now) given.now.table.now given.now.rooms blocks) }
+    requires homed { IsHomed given.now.table.now.table }
+    requires inputs { let t = given.now.table.now in
+        HasInputs net.now t.period.repetitions (blocks * t.factor) (lists inputs.now) }
+    requires some { 0 < period_samples net.now.nodes Inputs given.now.table.now.period.repetitions }
+    ensures { IfOk result (IsPrepared A.steps net.now (lists inputs.now) given.now.table.now.table given.now.rooms
+        blocks) }
 {
     net_facts(net);
     blocks_are_small(net);
@@ -102,12 +99,13 @@ fn prepare_homed<'a, A: Actor>(
     nets_can_run::<A>();
     sdf_graph::laws::graphs_are_sound();
     sdf_graph::laws::graphs_have_periods();
+    let table = given.table;
     let start = Start {
         net,
         inputs,
         sizes: Sizes::new(alloc, net)?,
-        asked: asked(alloc, period.repetitions(), j, blocks)?,
-        room: samples_of_blocks(blocks, j, net.samples_out()),
+        asked: asked(alloc, table.period.repetitions(), table.factor, blocks)?,
+        room: samples_of_blocks(blocks, table.factor, net.samples_out()),
         filler: first_sample(inputs),
     };
     lay_out(alloc, &start, given, blocks)
@@ -117,50 +115,45 @@ fn prepare_homed<'a, A: Actor>(
 pub(crate) fn prepare_roomy<'a, A: Actor>(
     alloc: Global,
     net: &'a Net<A>,
-    period: &Period,
-    j: u32,
     given: &RoomyTable,
     blocks: u32,
     inputs: &'a [Vec<A::Token>],
 ) -> Result<Rings<'a, A>, RunFault>
-    requires period { IsPeriodOf (rates (graph_of A.steps net.now)) period.now }
-    requires table { IsTableOf (rates (graph_of A.steps net.now)) period.now.repetitions j given.now.table.now }
+    requires fits { IsBlockTableOf (rates (graph_of A.steps net.now)) given.now.table.now }
     requires rooms { 1 ≤ given.now.rooms }
-    ensures { let q = period.now.repetitions in MatchResult result
-        (λ r. IsHomed given.now.table.now × HasInputs net.now q (blocks * j) (lists inputs.now)
-        × IsPrepared A.steps net.now (lists inputs.now) given.now.table.now given.now.rooms blocks r)
-        (IsPrepareFault net.now q (blocks * j) (lists inputs.now) given.now.table.now) }
+    ensures { let t = given.now.table.now in let q = t.period.repetitions in let j = t.factor in MatchResult result
+        (λ r. IsHomed t.table × HasInputs net.now q (blocks * j) (lists inputs.now)
+        × IsPrepared A.steps net.now (lists inputs.now) t.table given.now.rooms blocks r)
+        (IsPrepareFault net.now q (blocks * j) (lists inputs.now) t.table) }
 {
     blocks_are_small(net);
-    if !given.table.homed() {
+    let table = given.table;
+    if !table.table.homed() {
         return Err(RunFault::NotHomed);
     }
-    let least = samples_of_blocks(blocks, j, net.samples_in());
+    let least = samples_of_blocks(blocks, table.factor, net.samples_in());
     if !are_inputs(inputs, net.inputs(), least) {
         return Err(RunFault::InputLength);
     }
-    Ok(prepare_homed(alloc, net, period, j, given, blocks, inputs)?)
+    Ok(prepare_homed(alloc, net, given, blocks, inputs)?)
 }
 
-/// What a run of so many blocks of `j` periods holds before its first round: a seat for each column of its table, each
+/// What a run of so many blocks holds before its first round: a seat for each column of its table, each
 /// actor at home, each channel with what it begins with, and each seat's list of firings. First of all 30 where an
 /// actor has no home. Each ring takes the table's capacity, once.
 pub fn prepare<'a, A: Actor>(
     alloc: Global,
     net: &'a Net<A>,
-    period: &Period,
-    j: u32,
-    table: &Table,
+    table: &BlockTable,
     blocks: u32,
     inputs: &'a [Vec<A::Token>],
 ) -> Result<Rings<'a, A>, RunFault>
-    requires period { IsPeriodOf (rates (graph_of A.steps net.now)) period.now }
-    requires table { IsTableOf (rates (graph_of A.steps net.now)) period.now.repetitions j table.now }
-    ensures { let q = period.now.repetitions in MatchResult result
-        (λ r. IsHomed table.now × HasInputs net.now q (blocks * j) (lists inputs.now)
-        × IsPrepared A.steps net.now (lists inputs.now) table.now 1 blocks r)
-        (IsPrepareFault net.now q (blocks * j) (lists inputs.now) table.now) }
+    requires fits { IsBlockTableOf (rates (graph_of A.steps net.now)) table.now }
+    ensures { let t = table.now in let q = t.period.repetitions in let j = t.factor in MatchResult result
+        (λ r. IsHomed t.table × HasInputs net.now q (blocks * j) (lists inputs.now)
+        × IsPrepared A.steps net.now (lists inputs.now) t.table 1 blocks r)
+        (IsPrepareFault net.now q (blocks * j) (lists inputs.now) t.table) }
 {
     let given = RoomyTable { table, rooms: 1 };
-    prepare_roomy(alloc, net, period, j, &given, blocks, inputs)
+    prepare_roomy(alloc, net, &given, blocks, inputs)
 }

@@ -2,10 +2,9 @@
 
 ghost use Rattle.std.specs.Prelude.{◌*◌, ◌≤◌, ℕ, MatchResult};
 ghost use Rattle.sdf_graph.specs.Rates.{rates};
-ghost use Rattle.sdf_sched.specs.Period.{IsPeriodOf};
 ghost use Rattle.sdf_actor.specs.Graphs.{graph_of};
 ghost use Rattle.sdf_actor.specs.Wires.{lists};
-ghost use Rattle.sdf_answer.specs.Rows.{IsTableOf};
+ghost use Rattle.sdf_answer.specs.Rows.{IsBlockTableOf};
 ghost use Rattle.sdf_rings.specs.Outcome.{HasRunInRounds, HasEnded, IsRingsFault};
 
 use crate::prepare::prepare_roomy;
@@ -13,11 +12,9 @@ use crate::rings::Rings;
 use crate::roomy_table::RoomyTable;
 use sdf_actor::{Actor, Net};
 use sdf_answer::laws::nets_have_periods;
-use sdf_answer::{Ran, RunFault};
+use sdf_answer::{BlockTable, Ran, RunFault};
 use sdf_limits::MOST_PATIENCE;
 use sdf_node::Gate;
-use sdf_prec::Table;
-use sdf_sched::Period;
 use std::alloc::AllocGlobal;
 use std::thread::Threads;
 
@@ -25,40 +22,36 @@ use std::thread::Threads;
 pub(crate) fn run_through<'a, R: Threads + AllocGlobal + Sync, A: Actor, G: Gate>(
     rt: &R,
     net: &'a Net<A>,
-    period: &Period,
-    j: u32,
     given: &RoomyTable,
     blocks: u32,
     inputs: &'a [Vec<A::Token>],
     patience: u32,
     gate: &G,
 ) -> Result<(Rings<'a, A>, u64), RunFault>
-    requires period { IsPeriodOf (rates (graph_of A.steps net.now)) period.now }
-    requires table { IsTableOf (rates (graph_of A.steps net.now)) period.now.repetitions j given.now.table.now }
+    requires fits { IsBlockTableOf (rates (graph_of A.steps net.now)) given.now.table.now }
     requires rooms { 1 ≤ given.now.rooms }
-    ensures { let q = period.now.repetitions in MatchResult result
-        (λ ran. HasEnded A.steps net.now q j given.now.table.now given.now.rooms blocks (lists inputs.now) patience
-        ran.0 ran.1)
-        (IsRingsFault net.now q (blocks * j) (lists inputs.now) given.now.table.now patience) }
+    ensures { let t = given.now.table.now in let q = t.period.repetitions in let j = t.factor in MatchResult result
+        (λ ran. HasEnded A.steps net.now q j t.table given.now.rooms blocks (lists inputs.now) patience ran.0 ran.1)
+        (IsRingsFault net.now q (blocks * j) (lists inputs.now) t.table patience) }
 {
     sdf_graph::laws::graphs_are_sound();
     sdf_graph::laws::graphs_have_periods();
     sdf_prec::laws::tables_repeat();
     sdf_prec::laws::tables_count();
     nets_have_periods(net);
-    if !given.table.homed() {
+    if !given.table.table.homed() {
         return Err(RunFault::NotHomed);
     }
     if patience > MOST_PATIENCE {
         return Err(RunFault::Patience);
     }
-    let mut rings = prepare_roomy(rt.alloc(), net, period, j, given, blocks, inputs)?;
+    let mut rings = prepare_roomy(rt.alloc(), net, given, blocks, inputs)?;
     rings.facts();
     let rounds = rings.run(rt, patience, gate);
     Ok((rings, rounds))
 }
 
-/// Runs a net for a number of blocks of `j` periods. There is a worker for each column of the table, which does the
+/// Runs a net for a number of blocks. There is a worker for each column of the table, which does the
 /// firings of the actors at home there in the table's order, as samples and room come; each channel has a ring of the
 /// table's capacity. In each round the workers run at once, until their lists are empty or a test has failed more often
 /// than `patience` says.
@@ -67,23 +60,20 @@ pub(crate) fn run_through<'a, R: Threads + AllocGlobal + Sync, A: Actor, G: Gate
 pub fn run_rings<R: Threads + AllocGlobal + Sync, A: Actor, G: Gate>(
     rt: &R,
     net: &Net<A>,
-    period: &Period,
-    j: u32,
-    table: &Table,
+    table: &BlockTable,
     blocks: u32,
     inputs: &[Vec<A::Token>],
     patience: u32,
     gate: &G,
 ) -> Result<Ran<A::Token>, RunFault>
-    requires period { IsPeriodOf (rates (graph_of A.steps net.now)) period.now }
-    requires table { IsTableOf (rates (graph_of A.steps net.now)) period.now.repetitions j table.now }
-    ensures { let q = period.now.repetitions in MatchResult result
-        (λ ran. HasRunInRounds A.steps net.now q j table.now blocks (lists inputs.now) patience
+    requires fits { IsBlockTableOf (rates (graph_of A.steps net.now)) table.now }
+    ensures { let t = table.now in let q = t.period.repetitions in let j = t.factor in MatchResult result
+        (λ ran. HasRunInRounds A.steps net.now q j t.table blocks (lists inputs.now) patience
         (lists ran.outputs.items) ran.rounds)
-        (IsRingsFault net.now q (blocks * j) (lists inputs.now) table.now patience) }
+        (IsRingsFault net.now q (blocks * j) (lists inputs.now) t.table patience) }
 {
     let given = RoomyTable { table, rooms: 1 };
-    let (rings, rounds) = run_through(rt, net, period, j, &given, blocks, inputs, patience, gate)?;
+    let (rings, rounds) = run_through(rt, net, &given, blocks, inputs, patience, gate)?;
     let outputs = rings.finish();
     Ok(Ran { outputs, rounds })
 }

@@ -2,7 +2,6 @@
 
 ghost use Rattle.std.specs.Prelude.{◌≡◌, ◌*◌, ◌<◌, ℕ, List, length, MatchResult, IfOk, None, slice_index_or};
 ghost use Rattle.sdf_graph.specs.Rates.{rates};
-ghost use Rattle.sdf_sched.specs.Period.{IsPeriodOf};
 ghost use Rattle.sdf_actor.specs.Graphs.{graph_of};
 ghost use Rattle.sdf_actor.specs.Nets.{node};
 ghost use Rattle.sdf_actor.specs.Rests.{IsRest};
@@ -11,7 +10,7 @@ ghost use Rattle.sdf_actor.specs.Wires.{lists};
 ghost use Rattle.sdf_actor.specs.declared.sides.Lists.TheVariants.{Inputs};
 ghost use Rattle.sdf_answer.specs.Answer.{HasInputs, periods_of, IsRunFault};
 ghost use Rattle.sdf_answer.specs.Feeds.{HasRun, GoesOnBy};
-ghost use Rattle.sdf_answer.specs.Rows.{IsTableOf};
+ghost use Rattle.sdf_answer.specs.Rows.{IsBlockTableOf};
 ghost use Rattle.sdf_node.specs.Kept.{kept_of};
 
 use crate::collect::collect;
@@ -24,11 +23,9 @@ use sdf_answer::laws::{
 use sdf_answer::outputs::make_outputs;
 use sdf_answer::queue::held;
 use sdf_answer::sizes::samples_of_blocks;
-use sdf_answer::{Ran, RunFault};
+use sdf_answer::{BlockTable, Ran, RunFault};
 use sdf_node::laws::actors_keep_states;
 use sdf_node::{Gate, NodeState, kept};
-use sdf_prec::Table;
-use sdf_sched::Period;
 use std::alloc::{AllocError, Global};
 use std::thread::Threads;
 
@@ -58,14 +55,12 @@ fn fill<R: Threads + AllocGlobal + Sync, A: Actor, G: Gate>(
     inputs: &[Vec<A::Token>],
     gate: &G,
 ) -> Result<(Vec<Vec<A::Token>>, Rest<A::Token, A::State>), AllocError>
-    requires period { IsPeriodOf (rates (graph_of A.steps net.now)) plan.now.period.now }
-    requires table { IsTableOf (rates (graph_of A.steps net.now)) plan.now.period.now.repetitions plan.now.j
-        plan.now.table.now }
-    requires inputs { HasInputs net.now plan.now.period.now.repetitions (plan.now.blocks * plan.now.j)
-        (lists inputs.now) }
-    requires some { 0 < period_samples net.now.nodes Inputs plan.now.period.now.repetitions }
-    ensures { IfOk result (λ made. HasRun A.steps net.now (lists inputs.now)
-        (periods_of plan.now.period.now.repetitions (plan.now.blocks * plan.now.j)) (lists made.0.items) made.1) }
+    requires fits { IsBlockTableOf (rates (graph_of A.steps net.now)) plan.now.table.now }
+    requires inputs { HasInputs net.now plan.now.table.now.period.repetitions
+        (plan.now.blocks * plan.now.table.now.factor) (lists inputs.now) }
+    requires some { 0 < period_samples net.now.nodes Inputs plan.now.table.now.period.repetitions }
+    ensures { let t = plan.now.table.now in IfOk result (λ made. HasRun A.steps net.now (lists inputs.now)
+        (periods_of t.period.repetitions (plan.now.blocks * t.factor)) (lists made.0.items) made.1) }
 {
     net_facts(net);
     histories_make_runs::<A>();
@@ -90,35 +85,27 @@ fn fill<R: Threads + AllocGlobal + Sync, A: Actor, G: Gate>(
 pub fn feed_rows<R: Threads + AllocGlobal + Sync, A: Actor, G: Gate>(
     rt: &R,
     net: &Net<A>,
-    period: &Period,
-    j: u32,
-    table: &Table,
+    table: &BlockTable,
     blocks: u32,
     inputs: &[Vec<A::Token>],
     gate: &G,
 ) -> Result<(Ran<A::Token>, Rest<A::Token, A::State>), RunFault>
-    requires period { IsPeriodOf (rates (graph_of A.steps net.now)) period.now }
-    requires table { IsTableOf (rates (graph_of A.steps net.now)) period.now.repetitions j table.now }
-    ensures { let q = period.now.repetitions in MatchResult result
+    requires fits { IsBlockTableOf (rates (graph_of A.steps net.now)) table.now }
+    ensures { let q = table.now.period.repetitions in let j = table.now.factor in MatchResult result
         (λ fed. HasInputs net.now q (blocks * j) (lists inputs.now)
         × HasRun A.steps net.now (lists inputs.now) (periods_of q (blocks * j)) (lists fed.0.outputs.items) fed.1
-        × (fed.0.rounds ≡ blocks * length table.now.rows))
+        × (fed.0.rounds ≡ blocks * length table.now.table.rows))
         (IsRunFault net.now q (blocks * j) (lists inputs.now)) }
 {
     sdf_prec::laws::tables_count();
     blocks_are_small(net);
-    let least = samples_of_blocks(blocks, j, net.samples_in());
+    let least = samples_of_blocks(blocks, table.factor, net.samples_in());
     if !are_inputs(inputs, net.inputs(), least) {
         return Err(RunFault::InputLength);
     }
-    let plan = Plan {
-        period,
-        j,
-        table,
-        blocks,
-    };
+    let plan = Plan { table, blocks };
     let (outputs, rest) = fill(rt, net, &plan, inputs, gate)?;
-    let rounds = rounds_of(blocks, table.rows());
+    let rounds = rounds_of(blocks, table.table.rows());
     Ok((Ran { outputs, rounds }, rest))
 }
 
@@ -127,25 +114,22 @@ pub fn feed_rows<R: Threads + AllocGlobal + Sync, A: Actor, G: Gate>(
 pub fn resume_rows<R: Threads + AllocGlobal + Sync, A: Actor, G: Gate>(
     rt: &R,
     net: &Net<A>,
-    period: &Period,
-    j: u32,
-    table: &Table,
+    table: &BlockTable,
     rest: &Rest<A::Token, A::State>,
     blocks: u32,
     inputs: &[Vec<A::Token>],
     gate: &G,
 ) -> Result<(Ran<A::Token>, Rest<A::Token, A::State>), RunFault>
-    requires period { IsPeriodOf (rates (graph_of A.steps net.now)) period.now }
-    requires table { IsTableOf (rates (graph_of A.steps net.now)) period.now.repetitions j table.now }
+    requires fits { IsBlockTableOf (rates (graph_of A.steps net.now)) table.now }
     requires rest { (first : List (List A.Token)) × (few : ℕ)
-        × IsRest A.steps net.now first (periods_of period.now.repetitions few) rest.now }
-    ensures { let q = period.now.repetitions in MatchResult result
+        × IsRest A.steps net.now first (periods_of table.now.period.repetitions few) rest.now }
+    ensures { let q = table.now.period.repetitions in let j = table.now.factor in MatchResult result
         (λ fed. GoesOnBy A.steps net.now q rest.now (blocks * j) (lists inputs.now) (lists fed.0.outputs.items) fed.1
-        × (fed.0.rounds ≡ blocks * length table.now.rows))
+        × (fed.0.rounds ≡ blocks * length table.now.table.rows))
         (IsRunFault net.now q (blocks * j) (lists inputs.now)) }
 {
     nets_have_periods(net);
     begun_nets_go_on::<A, Begun<A>>();
     let begun = net.begun(rt.alloc(), rest)?;
-    feed_rows(rt, &begun, period, j, table, blocks, inputs, gate)
+    feed_rows(rt, &begun, table, blocks, inputs, gate)
 }

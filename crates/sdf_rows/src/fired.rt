@@ -2,13 +2,12 @@
 
 ghost use Rattle.std.specs.Prelude.{◌≡◌, ◌*◌, ◌≤◌, ◌<◌, ℕ, length, map, IfOk};
 ghost use Rattle.sdf_graph.specs.Rates.{rates};
-ghost use Rattle.sdf_sched.specs.Period.{IsPeriodOf};
 ghost use Rattle.sdf_actor.specs.Graphs.{graph_of};
 ghost use Rattle.sdf_actor.specs.Wires.{lists};
 ghost use Rattle.sdf_limits.specs.declared.TheConstants.{MOST_BLOCK};
 ghost use Rattle.sdf_prec.specs.Tables.{row, firings};
 ghost use Rattle.sdf_answer.specs.Answer.{HasInputs};
-ghost use Rattle.sdf_answer.specs.Rows.{IsTableOf};
+ghost use Rattle.sdf_answer.specs.Rows.{IsBlockTableOf};
 ghost use Rattle.sdf_rows.specs.Blocks.{IsOver};
 
 use crate::runs::{Course, run_blocks};
@@ -20,19 +19,16 @@ use sdf_answer::laws::{
 };
 use sdf_answer::rooms::make_queues;
 use sdf_answer::sizes::samples_of_blocks;
-use sdf_answer::{Queue, Sizes};
+use sdf_answer::{BlockTable, Queue, Sizes};
 use sdf_node::{Gate, NodeState};
 use sdf_prec::Table;
-use sdf_sched::Period;
 use std::alloc::{AllocError, Global};
 use std::thread::Threads;
 
-/// What is run: so many blocks of `j` periods, as a table says.
+/// What is run: so many blocks, as a table says.
 #[derive(Drop)]
 pub(crate) struct Plan<'a> {
-    pub(crate) period: &'a Period,
-    pub(crate) j: u32,
-    pub(crate) table: &'a Table,
+    pub(crate) table: &'a BlockTable,
     pub(crate) blocks: u32,
 }
 
@@ -70,13 +66,11 @@ pub(crate) fn fire<R: Threads + AllocGlobal + Sync, A: Actor, G: Gate>(
     filler: A::Token,
     gate: &G,
 ) -> Result<Fired<A>, AllocError>
-    requires period { IsPeriodOf (rates (graph_of A.steps net.now)) plan.now.period.now }
-    requires table { IsTableOf (rates (graph_of A.steps net.now)) plan.now.period.now.repetitions plan.now.j
-        plan.now.table.now }
-    requires inputs { HasInputs net.now plan.now.period.now.repetitions (plan.now.blocks * plan.now.j)
-        (lists inputs.now) }
-    ensures { IfOk result (λ run. IsOver A.steps net.now (lists inputs.now) plan.now.period.now.repetitions plan.now.j
-        plan.now.blocks run.states.items run.queues.items) }
+    requires fits { IsBlockTableOf (rates (graph_of A.steps net.now)) plan.now.table.now }
+    requires inputs { HasInputs net.now plan.now.table.now.period.repetitions
+        (plan.now.blocks * plan.now.table.now.factor) (lists inputs.now) }
+    ensures { let t = plan.now.table.now in IfOk result (λ run. IsOver A.steps net.now (lists inputs.now)
+        t.period.repetitions t.factor plan.now.blocks run.states.items run.queues.items) }
 {
     net_facts(net);
     nets_have_periods(net);
@@ -85,18 +79,19 @@ pub(crate) fn fire<R: Threads + AllocGlobal + Sync, A: Actor, G: Gate>(
     histories_make_outputs::<A>();
     sdf_actor::laws::nets_are_wired::<A>();
     let alloc = rt.alloc();
-    let repetitions = plan.period.repetitions();
-    let room = samples_of_blocks(plan.blocks, plan.j, net.samples_out());
+    let table = plan.table;
+    let repetitions = table.period.repetitions();
+    let room = samples_of_blocks(plan.blocks, table.factor, net.samples_out());
     let mut states = make_states(alloc, net, room)?;
-    let mut queues = make_queues(alloc, net, repetitions, plan.j)?;
-    let mut jobs = make_jobs(alloc, net, columns(plan.table), filler)?;
+    let mut queues = make_queues(alloc, net, repetitions, table.factor)?;
+    let mut jobs = make_jobs(alloc, net, columns(&table.table), filler)?;
     let mut done = none_done(alloc, repetitions)?;
     let sizes = Sizes::new(alloc, net)?;
     let scene = Scene { net, inputs, sizes };
     let course = Course {
-        table: plan.table,
+        table: &table.table,
         repetitions,
-        j: plan.j,
+        j: table.factor,
     };
     run_blocks(
         rt,

@@ -2,21 +2,18 @@
 
 ghost use Rattle.std.specs.Prelude.{◌≡◌, ◌*◌, length, MatchResult};
 ghost use Rattle.sdf_graph.specs.Rates.{rates};
-ghost use Rattle.sdf_sched.specs.Period.{IsPeriodOf};
 ghost use Rattle.sdf_actor.specs.Graphs.{graph_of};
 ghost use Rattle.sdf_actor.specs.Wires.{lists};
 ghost use Rattle.sdf_answer.specs.Answer.{HasInputs, AreOutputs, periods_of, IsRunFault};
-ghost use Rattle.sdf_answer.specs.Rows.{IsTableOf};
+ghost use Rattle.sdf_answer.specs.Rows.{IsBlockTableOf};
 
 use crate::feed::feed_rows;
 use sdf_actor::{Actor, Net};
-use sdf_answer::{Ran, RunFault};
+use sdf_answer::{BlockTable, Ran, RunFault};
 use sdf_node::Gate;
-use sdf_prec::Table;
-use sdf_sched::Period;
 use std::thread::Threads;
 
-/// Runs a net for a number of blocks of `j` periods, as its table says: the firings of a row run at once, each in a
+/// Runs a net for a number of blocks, as its table says: the firings of a row run at once, each in a
 /// worker of its own, and are joined before the next row begins. The processor that the gate is told is the firing's
 /// column.
 ///
@@ -25,21 +22,18 @@ use std::thread::Threads;
 pub fn run_rows<R: Threads + AllocGlobal + Sync, A: Actor, G: Gate>(
     rt: &R,
     net: &Net<A>,
-    period: &Period,
-    j: u32,
-    table: &Table,
+    table: &BlockTable,
     blocks: u32,
     inputs: &[Vec<A::Token>],
     gate: &G,
 ) -> Result<Ran<A::Token>, RunFault>
-    requires period { IsPeriodOf (rates (graph_of A.steps net.now)) period.now }
-    requires table { IsTableOf (rates (graph_of A.steps net.now)) period.now.repetitions j table.now }
-    ensures { let q = period.now.repetitions in MatchResult result
+    requires fits { IsBlockTableOf (rates (graph_of A.steps net.now)) table.now }
+    ensures { let q = table.now.period.repetitions in let j = table.now.factor in MatchResult result
         (λ ran. HasInputs net.now q (blocks * j) (lists inputs.now)
         × AreOutputs A.steps net.now (lists inputs.now) (periods_of q (blocks * j)) (lists ran.outputs.items)
-        × (ran.rounds ≡ blocks * length table.now.rows))
+        × (ran.rounds ≡ blocks * length table.now.table.rows))
         (IsRunFault net.now q (blocks * j) (lists inputs.now)) }
 {
-    let (ran, _) = feed_rows(rt, net, period, j, table, blocks, inputs, gate)?;
+    let (ran, _) = feed_rows(rt, net, table, blocks, inputs, gate)?;
     Ok(ran)
 }

@@ -20,7 +20,7 @@ mod work;
 pub use feed::{feed_one, resume_one};
 pub use mode::Mode;
 pub use one::run_one;
-pub use sdf_answer::{Ran, RunFault, laws};
+pub use sdf_answer::{BlockTable, Ran, RunFault, laws};
 pub use sdf_node::{ActorId, Gate, NoGate};
 pub use sdf_rings::{Rings, run_rings};
 pub use sdf_rows::run_rows;

@@ -2,7 +2,6 @@
 
 ghost use Rattle.std.specs.Prelude.{◌≡◌, ◌*◌, ◌≤◌, ◌<◌, ℕ, List, length, MatchResult, IfSome, IfNone, IfOk, None};
 ghost use Rattle.sdf_graph.specs.Rates.{rates};
-ghost use Rattle.sdf_sched.specs.Period.{IsPeriodOf};
 ghost use Rattle.sdf_actor.specs.Graphs.{graph_of};
 ghost use Rattle.sdf_actor.specs.Rests.{IsRest};
 ghost use Rattle.sdf_actor.specs.Sides.{list_count};
@@ -10,7 +9,7 @@ ghost use Rattle.sdf_actor.specs.Wires.{lists};
 ghost use Rattle.sdf_actor.specs.declared.sides.Lists.TheVariants.{Inputs, Outputs};
 ghost use Rattle.sdf_answer.specs.Answer.{periods_of, IsRunFault};
 ghost use Rattle.sdf_answer.specs.Feeds.{GoesOnBy};
-ghost use Rattle.sdf_answer.specs.Rows.{IsTableOf};
+ghost use Rattle.sdf_answer.specs.Rows.{IsBlockTableOf};
 ghost use Rattle.sdf_answer.specs.declared.fault.RunFault.TheVariants.{SessionFailed};
 ghost use Rattle.sdf_run.specs.Sessions.{AreBlocks, AreNone, SessionValue, MayRun, IsModeFault, HasRounds, IsLive};
 ghost use Rattle.sdf_run.specs.Sessions.{StandsAfter, HasFed, IsSession, IsFeedFault, after_fault, FeedsAreOneRun};
@@ -19,13 +18,12 @@ use crate::mode::Mode;
 use sdf_actor::{Actor, Net, Rest};
 use sdf_answer::inputs::are_inputs;
 use sdf_answer::laws::{histories_make_runs, net_facts};
-use sdf_answer::{Ran, RunFault};
+use sdf_answer::{BlockTable, Ran, RunFault};
 use sdf_limits::MOST_PATIENCE;
 use sdf_node::Gate;
 use sdf_prec::Table;
 use sdf_rings::{RoomyTable, resume_rings};
 use sdf_rows::resume_rows;
-use sdf_sched::Period;
 use std::alloc::Global;
 use std::marker::Model;
 use std::thread::Threads;
@@ -36,9 +34,7 @@ use std::thread::Threads;
 #[derive(Drop)]
 pub struct Session<'a, A: Actor> {
     net: &'a Net<A>,
-    period: &'a Period,
-    table: &'a Table,
-    j: u32,
+    table: &'a BlockTable,
     mode: Mode,
     /// None once memory or a worker was refused.
     rest: Option<Rest<A::Token, A::State>>,
@@ -53,9 +49,9 @@ impl<'a, A: Actor> Model for Session<'a, A> {
 
     ghost view = { λ s. record {
       net = s.net.now;
-      period = s.period.now;
-      factor = s.j;
-      table = s.table.now;
+      period = s.table.now.period;
+      factor = s.table.now.factor;
+      table = s.table.now.table;
       mode = s.mode;
       rest = s.rest;
       blocks = s.blocks;
@@ -64,9 +60,9 @@ impl<'a, A: Actor> Model for Session<'a, A> {
 
     ghost invariant = { λ s. IsSession A.steps (record {
       net = s.net.now;
-      period = s.period.now;
-      factor = s.j;
-      table = s.table.now;
+      period = s.table.now.period;
+      factor = s.table.now.factor;
+      table = s.table.now.table;
       mode = s.mode;
       rest = s.rest;
       blocks = s.blocks;
@@ -125,35 +121,30 @@ fn blocks_in<T>(inputs: &[Vec<T>], many: usize, samples: usize) -> Option<u32>
 fn go_on<R: Threads + AllocGlobal + Sync, A: Actor, G: Gate>(
     rt: &R,
     net: &Net<A>,
-    period: &Period,
-    j: u32,
-    table: &Table,
+    table: &BlockTable,
     mode: Mode,
     rest: &Rest<A::Token, A::State>,
     blocks: u32,
     inputs: &[Vec<A::Token>],
     gate: &G,
 ) -> Result<(Ran<A::Token>, Rest<A::Token, A::State>), RunFault>
-    requires period { IsPeriodOf (rates (graph_of A.steps net.now)) period.now }
-    requires table { IsTableOf (rates (graph_of A.steps net.now)) period.now.repetitions j table.now }
-    requires may { MayRun table.now mode }
+    requires fits { IsBlockTableOf (rates (graph_of A.steps net.now)) table.now }
+    requires may { MayRun table.now.table mode }
     requires rest { (first : List (List A.Token)) × (few : ℕ)
-        × IsRest A.steps net.now first (periods_of period.now.repetitions few) rest.now }
-    ensures { let q = period.now.repetitions in MatchResult result
+        × IsRest A.steps net.now first (periods_of table.now.period.repetitions few) rest.now }
+    ensures { let q = table.now.period.repetitions in let j = table.now.factor in MatchResult result
         (λ fed. GoesOnBy A.steps net.now q rest.now (blocks * j) (lists inputs.now) (lists fed.0.outputs.items) fed.1
-        × HasRounds table.now q j mode blocks fed.0.rounds)
+        × HasRounds table.now.table q j mode blocks fed.0.rounds)
         (IsRunFault net.now q (blocks * j) (lists inputs.now)) }
 {
     match mode {
-        Mode::Rows => resume_rows(rt, net, period, j, table, rest, blocks, inputs, gate),
+        Mode::Rows => resume_rows(rt, net, table, rest, blocks, inputs, gate),
         Mode::Rings { patience, rooms } => {
             let given = RoomyTable {
                 table,
                 rooms: rooms.max(1),
             };
-            resume_rings(
-                rt, net, period, j, &given, rest, blocks, inputs, patience, gate,
-            )
+            resume_rings(rt, net, &given, rest, blocks, inputs, patience, gate)
         }
     }
 }
@@ -163,20 +154,17 @@ impl<'a, A: Actor> Session<'a, A> {
     pub fn open(
         alloc: Global,
         net: &'a Net<A>,
-        period: &'a Period,
-        j: u32,
-        table: &'a Table,
+        table: &'a BlockTable,
         mode: Mode,
     ) -> Result<Session<'a, A>, RunFault>
-        requires period { IsPeriodOf (rates (graph_of A.steps net.now)) period.now }
-        requires table { IsTableOf (rates (graph_of A.steps net.now)) period.now.repetitions j table.now }
-        ensures tests { MatchResult result (λ _. MayRun table.now mode) (IsModeFault table.now mode) }
+        requires fits { IsBlockTableOf (rates (graph_of A.steps net.now)) table.now }
+        ensures tests { MatchResult result (λ _. MayRun table.now.table mode) (IsModeFault table.now.table mode) }
         ensures value { IfOk result (λ v. IsLive v × (v ≡
             record {
               net = net.now;
-              period = period.now;
-              factor = j;
-              table = table.now;
+              period = table.now.period;
+              factor = table.now.factor;
+              table = table.now.table;
               mode = mode;
               rest = v.rest;
               blocks = 0;
@@ -189,12 +177,10 @@ impl<'a, A: Actor> Session<'a, A> {
         net_facts(net);
         histories_make_runs::<A>();
         let _samples = net.samples_in();
-        may_run(table, mode)?;
+        may_run(&table.table, mode)?;
         Ok(Session {
             net,
-            period,
             table,
-            j,
             mode,
             rest: Some(net.first_rest(alloc)?),
             blocks: 0,
@@ -229,21 +215,12 @@ impl<'a, A: Actor> Session<'a, A> {
         let Some(rest) = &self.rest else {
             return Err(RunFault::SessionFailed);
         };
-        let samples = self.j as usize * self.net.samples_in();
+        let samples = self.table.factor as usize * self.net.samples_in();
         let Some(blocks) = blocks_in(inputs, self.net.inputs(), samples) else {
             return Err(RunFault::InputLength);
         };
         let fed = go_on(
-            rt,
-            self.net,
-            self.period,
-            self.j,
-            self.table,
-            self.mode,
-            rest,
-            blocks,
-            inputs,
-            gate,
+            rt, self.net, self.table, self.mode, rest, blocks, inputs, gate,
         );
         match fed {
             Ok((ran, last)) => {

@@ -2,18 +2,16 @@
 
 ghost use Rattle.std.specs.Prelude.{◌≡◌};
 ghost use Rattle.sdf_graph.specs.Rates.{rates};
-ghost use Rattle.sdf_sched.specs.Period.{IsPeriodOf};
 ghost use Rattle.sdf_actor.specs.Graphs.{graph_of};
-ghost use Rattle.sdf_answer.specs.Rows.{IsTableOf};
+ghost use Rattle.sdf_answer.specs.Rows.{IsBlockTableOf};
 ghost use Rattle.sdf_rings.specs.Rests.{HaveMet};
 
 use crate::nets::{list, pair, planned};
 use sdf_actor::{Actor, Net};
+use sdf_answer::BlockTable;
 use sdf_node::NoGate;
-use sdf_prec::Table;
 use sdf_rings::Rings;
 use sdf_rings::prepare::prepare;
-use sdf_sched::Period;
 use std::alloc::Global;
 use std::process::Abort;
 use std::test::Fail;
@@ -36,13 +34,12 @@ fn seats_by<A: Actor<Token = i64>>(
     rt: &impl Abort,
     alloc: Global,
     net: &Net<A>,
-    plan: &(Period, Table),
+    table: &BlockTable,
 ) -> Result<String, Fail>
-    requires period { IsPeriodOf (rates (graph_of A.steps net.now)) plan.now.0 }
-    requires table { IsTableOf (rates (graph_of A.steps net.now)) plan.now.0.repetitions 1 plan.now.1 }
+    requires fits { IsBlockTableOf (rates (graph_of A.steps net.now)) table.now }
 {
     let inputs = list(alloc, &[1, 2, 3, 4, 5, 6])?;
-    let mut rings = prepare(alloc, net, &plan.0, 1, &plan.1, 1, &inputs)?;
+    let mut rings = prepare(alloc, net, table, 1, &inputs)?;
     let left = rings.left();
     assert!(rt; rings.seats() == 2 && net.channels() == 1);
     let sunk = rings.work_one(1, 0, &NoGate);
@@ -70,15 +67,14 @@ fn seats_by_hand(rt: HostRuntime) -> Result<(), Fail> {
 fn left_by<A: Actor<Token = i64>>(
     rt: &(impl Abort + AllocGlobal),
     net: &Net<A>,
-    plan: &(Period, Table),
+    table: &BlockTable,
     times: (u32, u32),
     turn: [usize; 2],
 ) -> Result<String, Fail>
-    requires period { IsPeriodOf (rates (graph_of A.steps net.now)) plan.now.0 }
-    requires table { IsTableOf (rates (graph_of A.steps net.now)) plan.now.0.repetitions 1 plan.now.1 }
+    requires fits { IsBlockTableOf (rates (graph_of A.steps net.now)) table.now }
 {
     let inputs = list(rt.alloc(), &[1, 2, 3, 4, 5, 6, 7, 8, 9, 10, 11, 12])?;
-    let mut rings = prepare(rt.alloc(), net, &plan.0, 1, &plan.1, times.0, &inputs)?;
+    let mut rings = prepare(rt.alloc(), net, table, times.0, &inputs)?;
     let mut left = Vec::new(rt.alloc());
     for _ in 0..times.1 {
         both_and_meet(rt, &mut rings, turn);
@@ -124,13 +120,12 @@ fn finished_by<A: Actor<Token = i64>>(
     rt: &impl Abort,
     alloc: Global,
     net: &Net<A>,
-    plan: &(Period, Table),
+    table: &BlockTable,
 ) -> Result<String, Fail>
-    requires period { IsPeriodOf (rates (graph_of A.steps net.now)) plan.now.0 }
-    requires table { IsTableOf (rates (graph_of A.steps net.now)) plan.now.0.repetitions 1 plan.now.1 }
+    requires fits { IsBlockTableOf (rates (graph_of A.steps net.now)) table.now }
 {
     let inputs = list(alloc, &[1, 2, 3, 4, 5, 6])?;
-    let mut rings = prepare(alloc, net, &plan.0, 1, &plan.1, 1, &inputs)?;
+    let mut rings = prepare(alloc, net, table, 1, &inputs)?;
     both_and_meet(rt, &mut rings, [1, 0]);
     both_and_meet(rt, &mut rings, [1, 0]);
     assert!(rt; rings.left() == 0);
@@ -156,13 +151,12 @@ fn what_is_finished(rt: HostRuntime) -> Result<(), Fail> {
 fn refusal_by<A: Actor<Token = i64>>(
     alloc: Global,
     net: &Net<A>,
-    plan: &(Period, Table),
+    table: &BlockTable,
 ) -> Result<String, Fail>
-    requires period { IsPeriodOf (rates (graph_of A.steps net.now)) plan.now.0 }
-    requires table { IsTableOf (rates (graph_of A.steps net.now)) plan.now.0.repetitions 1 plan.now.1 }
+    requires fits { IsBlockTableOf (rates (graph_of A.steps net.now)) table.now }
 {
     let inputs = list(alloc, &[1, 2, 3, 4, 5, 6])?;
-    match prepare(alloc, net, &plan.0, 1, &plan.1, 1, &inputs) {
+    match prepare(alloc, net, table, 1, &inputs) {
         Ok(_) => Ok(String::new(alloc)),
         Err(fault) => Ok(fault.to_string(alloc)?),
     }

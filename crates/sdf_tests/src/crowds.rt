@@ -2,17 +2,15 @@
 
 ghost use Rattle.std.specs.Prelude.{◌≡◌};
 ghost use Rattle.sdf_graph.specs.Rates.{rates};
-ghost use Rattle.sdf_sched.specs.Period.{IsPeriodOf};
 ghost use Rattle.sdf_actor.specs.Graphs.{graph_of};
-ghost use Rattle.sdf_answer.specs.Rows.{IsTableOf};
+ghost use Rattle.sdf_answer.specs.Rows.{IsBlockTableOf};
 
 use crate::kits::Worked;
 use crate::nets::{Times, make_as_one, planned, ramp};
 use sdf_actor::{Actor, Net};
+use sdf_answer::BlockTable;
 use sdf_node::{ActorId, Gate};
-use sdf_prec::Table;
 use sdf_run::Mode;
-use sdf_sched::Period;
 use std::alloc::Global;
 use std::test::Fail;
 use std::thread;
@@ -32,20 +30,15 @@ const ALL: &[ActorId] = &[2, 3, 4, 5, 6, 7, 8, 9, 10, 11, 12, 13, 14, 15, 16, 17
 fn together<R: Threads + AllocGlobal + Sync, A: Actor<Token = i32>>(
     rt: &R,
     net: &Net<A>,
-    plan: &(Period, Table),
+    table: &BlockTable,
     mode: Mode,
 ) -> Result<String, Fail>
-    requires period { IsPeriodOf (rates (graph_of A.steps net.now)) plan.now.0 }
-    requires table { IsTableOf (rates (graph_of A.steps net.now)) plan.now.0.repetitions 1 plan.now.1 }
+    requires fits { IsBlockTableOf (rates (graph_of A.steps net.now)) table.now }
 {
     let watch = Watch::new(rt.alloc(), 16, net.len(), Hold::meeting(ALL, 1))?;
     let inputs = ramp(rt.alloc(), 1, 2, 0)?;
-    let times = Times {
-        j: 1,
-        blocks: 1,
-        mode,
-    };
-    make_as_one(rt, net, plan, times, &inputs, &watch)?;
+    let times = Times { blocks: 1, mode };
+    make_as_one(rt, net, table, times, &inputs, &watch)?;
     told(rt.alloc(), &watch)
 }
 
@@ -53,19 +46,19 @@ fn all_meet<R: Threads + AllocGlobal + Sync, A: Actor<Token = i32>>(
     rt: &R,
     net: &Net<A>,
 ) -> Result<(), Fail> {
-    let plan = planned(rt.alloc(), net, 1, 16, true)?;
+    let table = planned(rt.alloc(), net, 1, 16, true)?;
     let rings = Mode::Rings {
         patience: 1_000_000,
         rooms: 1,
     };
     row_says(
         "by rows",
-        together(rt, net, &plan, Mode::Rows),
+        together(rt, net, &table, Mode::Rows),
         "0 in vain, 0 odd",
     )?;
     row_says(
         "over rings",
-        together(rt, net, &plan, rings),
+        together(rt, net, &table, rings),
         "0 in vain, 0 odd",
     )
 }
@@ -111,19 +104,18 @@ fn later<R: Threads + AllocGlobal + Sync, A: Actor<Token = i32>>(
     rt: &R,
     net: &Net<A>,
 ) -> Result<String, Fail> {
-    let plan = planned(rt.alloc(), net, 1, 6, true)?;
+    let table = planned(rt.alloc(), net, 1, 6, true)?;
     let watch = Watch::new(rt.alloc(), 6, net.len(), SECOND)?;
     let slow = Slow { watch };
     let inputs = ramp(rt.alloc(), 1, 3, 0)?;
     let times = Times {
-        j: 1,
         blocks: 2,
         mode: Mode::Rings {
             patience: 0,
             rooms: 1,
         },
     };
-    make_as_one(rt, net, &plan, times, &inputs, &slow)?;
+    make_as_one(rt, net, &table, times, &inputs, &slow)?;
     told(rt.alloc(), &slow.watch)
 }
 

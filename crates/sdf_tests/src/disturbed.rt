@@ -1,16 +1,14 @@
 //! Runs whose workers are held up: the outputs are those of one thread, and the rounds are within their bounds.
 
 ghost use Rattle.sdf_graph.specs.Rates.{rates};
-ghost use Rattle.sdf_sched.specs.Period.{IsPeriodOf};
 ghost use Rattle.sdf_actor.specs.Graphs.{graph_of};
-ghost use Rattle.sdf_answer.specs.Rows.{IsTableOf};
+ghost use Rattle.sdf_answer.specs.Rows.{IsBlockTableOf};
 
 use crate::kits::Worked;
 use crate::nets::{Times, make_as_one, planned, ramp};
 use sdf_actor::{Actor, Net};
-use sdf_prec::Table;
+use sdf_answer::BlockTable;
 use sdf_run::Mode;
-use sdf_sched::Period;
 use std::test::Fail;
 use std::thread::Threads;
 use test_actors::gates::Delay;
@@ -40,23 +38,21 @@ const MODES: &[Mode] = &[
 fn disturbed<R: Threads + AllocGlobal + Sync, A: Actor<Token = i32>>(
     rt: &R,
     net: &Net<A>,
-    plan: &(Period, Table),
+    table: &BlockTable,
     periods: u32,
     processor: usize,
     until_another: bool,
 ) -> Result<(), Fail>
-    requires period { IsPeriodOf (rates (graph_of A.steps net.now)) plan.now.0 }
-    requires table { IsTableOf (rates (graph_of A.steps net.now)) plan.now.0.repetitions 1 plan.now.1 }
+    requires fits { IsBlockTableOf (rates (graph_of A.steps net.now)) table.now }
 {
     let inputs = ramp(rt.alloc(), 1, 13, net.samples_in())?;
     for mode in MODES {
         let times = Times {
-            j: 1,
             blocks: periods,
             mode: *mode,
         };
         let gate = Delay::new(processor, TURNS, until_another);
-        make_as_one(rt, net, plan, times, &inputs, &gate)?;
+        make_as_one(rt, net, table, times, &inputs, &gate)?;
     }
     Ok(())
 }
@@ -68,9 +64,9 @@ fn disturbed_by_any<R: Threads + AllocGlobal + Sync, A: Actor<Token = i32>>(
     periods: u32,
 ) -> Result<(), Fail> {
     for workers in [1, 2, 3, 16] {
-        let plan = planned(rt.alloc(), net, 1, workers, true)?;
-        disturbed(rt, net, &plan, periods, workers / 2, false)?;
-        disturbed(rt, net, &plan, periods, workers / 2, true)?;
+        let table = planned(rt.alloc(), net, 1, workers, true)?;
+        disturbed(rt, net, &table, periods, workers / 2, false)?;
+        disturbed(rt, net, &table, periods, workers / 2, true)?;
     }
     Ok(())
 }

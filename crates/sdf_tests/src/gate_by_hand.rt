@@ -2,15 +2,13 @@
 
 ghost use Rattle.std.specs.Prelude.{◌≡◌};
 ghost use Rattle.sdf_graph.specs.Rates.{rates};
-ghost use Rattle.sdf_sched.specs.Period.{IsPeriodOf};
 ghost use Rattle.sdf_actor.specs.Graphs.{graph_of};
-ghost use Rattle.sdf_answer.specs.Rows.{IsTableOf};
+ghost use Rattle.sdf_answer.specs.Rows.{IsBlockTableOf};
 
 use crate::nets::{list, pair, planned};
 use sdf_actor::{Actor, Net};
-use sdf_prec::Table;
+use sdf_answer::BlockTable;
 use sdf_rings::prepare::prepare;
-use sdf_sched::Period;
 use std::process::Abort;
 use std::test::Fail;
 use test_actors::gates::{Hold, Watch};
@@ -26,14 +24,13 @@ fn counts(watch: &Watch) -> (u64, u64, u64) {
 fn passed<A: Actor<Token = i64>>(
     rt: &(impl Abort + AllocGlobal),
     net: &Net<A>,
-    plan: &(Period, Table),
+    table: &BlockTable,
     inputs: &[Vec<i64>],
     watch: &Watch,
 ) -> Result<String, Fail>
-    requires period { IsPeriodOf (rates (graph_of A.steps net.now)) plan.now.0 }
-    requires table { IsTableOf (rates (graph_of A.steps net.now)) plan.now.0.repetitions 1 plan.now.1 }
+    requires fits { IsBlockTableOf (rates (graph_of A.steps net.now)) table.now }
 {
-    let mut rings = prepare(rt.alloc(), net, &plan.0, 1, &plan.1, 2, inputs)?;
+    let mut rings = prepare(rt.alloc(), net, table, 2, inputs)?;
     assert!(rt; rings.seats() == 2);
     rings.work_one(1, 7, watch);
     let first = counts(watch);
@@ -47,10 +44,10 @@ fn passed_by<A: Actor<Token = i64>>(
     rt: &(impl Abort + AllocGlobal),
     net: &Net<A>,
 ) -> Result<String, Fail> {
-    let plan = planned(rt.alloc(), net, 1, 2, true)?;
+    let table = planned(rt.alloc(), net, 1, 2, true)?;
     let inputs = list(rt.alloc(), &[1, 2, 3, 4, 5, 6, 7, 8, 9, 10, 11, 12])?;
     let watch = Watch::new(rt.alloc(), 2, 2, Hold::NONE)?;
-    passed(rt, net, &plan, &inputs, &watch)
+    passed(rt, net, &table, &inputs, &watch)
 }
 
 /// Refuses a firing that passes before it is known to be possible.

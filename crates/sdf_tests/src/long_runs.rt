@@ -4,13 +4,12 @@ ghost use Rattle.std.specs.Prelude.{◌≡◌};
 ghost use Rattle.sdf_graph.specs.Rates.{rates};
 ghost use Rattle.sdf_sched.specs.Period.{IsPeriodOf};
 ghost use Rattle.sdf_actor.specs.Graphs.{graph_of};
-ghost use Rattle.sdf_answer.specs.Rows.{IsTableOf};
+ghost use Rattle.sdf_answer.specs.Rows.{IsBlockTableOf};
 
 use crate::nets::{list, pair, planned};
 use sdf_actor::{Actor, Net};
-use sdf_prec::Table;
+use sdf_answer::BlockTable;
 use sdf_run::{Mode, RunFault, Session, feed_one, resume_one};
-use sdf_sched::Period;
 use std::alloc::Global;
 use std::test::Fail;
 use std::thread::Threads;
@@ -37,15 +36,14 @@ fn first_len(lists: &[Vec<i64>]) -> usize {
 fn feed<R: Threads + AllocGlobal + Sync, A: Actor<Token = i64>>(
     rt: &R,
     net: &Net<A>,
-    plan: &(Period, Table),
+    table: &BlockTable,
     mode: Mode,
     inputs: &[Vec<i64>],
     watch: &Watch,
 ) -> Result<usize, RunFault>
-    requires period { IsPeriodOf (rates (graph_of A.steps net.now)) plan.now.0 }
-    requires table { IsTableOf (rates (graph_of A.steps net.now)) plan.now.0.repetitions 1 plan.now.1 }
+    requires fits { IsBlockTableOf (rates (graph_of A.steps net.now)) table.now }
 {
-    let mut session = Session::open(rt.alloc(), net, &plan.0, 1, &plan.1, mode)?;
+    let mut session = Session::open(rt.alloc(), net, table, mode)?;
     let ran = session.feed(rt, inputs, watch)?;
     Ok(first_len(&ran.outputs))
 }
@@ -54,15 +52,14 @@ fn feed<R: Threads + AllocGlobal + Sync, A: Actor<Token = i64>>(
 fn fed<R: Threads + AllocGlobal + Sync, A: Actor<Token = i64>>(
     rt: &R,
     net: &Net<A>,
-    plan: &(Period, Table),
+    table: &BlockTable,
     mode: Mode,
     inputs: &[Vec<i64>],
 ) -> Result<String, Fail>
-    requires period { IsPeriodOf (rates (graph_of A.steps net.now)) plan.now.0 }
-    requires table { IsTableOf (rates (graph_of A.steps net.now)) plan.now.0.repetitions 1 plan.now.1 }
+    requires fits { IsBlockTableOf (rates (graph_of A.steps net.now)) table.now }
 {
     let watch = Watch::new(rt.alloc(), 1, 2, Hold::NONE)?;
-    let made = feed(rt, net, plan, mode, inputs, &watch)?;
+    let made = feed(rt, net, table, mode, inputs, &watch)?;
     let (source, sink) = (watch.passed(0, 0), watch.passed(0, 1));
     Ok(format!(in rt.alloc(); "{made} {source} {sink} {}", watch.odd())?)
 }
@@ -73,14 +70,14 @@ fn pass<R: Threads + AllocGlobal + Sync, A: Actor<Token = i64>>(
     net: &Net<A>,
     wanted: &str,
 ) -> Result<(), Fail> {
-    let plan = planned(rt.alloc(), net, 1, 1, true)?;
+    let table = planned(rt.alloc(), net, 1, 1, true)?;
     let inputs = sevens(rt.alloc())?;
     let rings = Mode::Rings {
         patience: 0,
         rooms: 1,
     };
-    row_says("by rows", fed(rt, net, &plan, Mode::Rows, &inputs), wanted)?;
-    row_says("over rings", fed(rt, net, &plan, rings, &inputs), wanted)
+    row_says("by rows", fed(rt, net, &table, Mode::Rows, &inputs), wanted)?;
+    row_says("over rings", fed(rt, net, &table, rings, &inputs), wanted)
 }
 
 /// Firings one by one. Refuses numbers of 16 bits.
@@ -99,19 +96,19 @@ fn runs_of_firings(rt: HostRuntime) -> Result<(), Fail> {
 fn resumed<A: Actor<Token = i64>>(
     alloc: Global,
     net: &Net<A>,
-    plan: &(Period, Table),
+    table: &BlockTable,
     inputs: &[Vec<i64>],
 ) -> Result<usize, RunFault>
-    requires period { IsPeriodOf (rates (graph_of A.steps net.now)) plan.now.0 }
+    requires period { IsPeriodOf (rates (graph_of A.steps net.now)) table.now.0 }
 {
-    let (_, rest) = feed_one(alloc, net, &plan.0, 0, inputs)?;
-    let (ran, _) = resume_one(alloc, net, &plan.0, &rest, 70_000, inputs)?;
+    let (_, rest) = feed_one(alloc, net, &table.period, 0, inputs)?;
+    let (ran, _) = resume_one(alloc, net, &table.period, &rest, 70_000, inputs)?;
     Ok(first_len(&ran.outputs))
 }
 
 fn one_thread<A: Actor<Token = i64>>(alloc: Global, net: &Net<A>) -> Result<String, Fail> {
-    let plan = planned(alloc, net, 1, 1, true)?;
-    let made = resumed(alloc, net, &plan, &sevens(alloc)?)?;
+    let table = planned(alloc, net, 1, 1, true)?;
+    let made = resumed(alloc, net, &table, &sevens(alloc)?)?;
     Ok(format!(in alloc; "{made}")?)
 }
 

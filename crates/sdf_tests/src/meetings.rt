@@ -1,17 +1,14 @@
 //! Workers that meet: a gate holds a firing until others have begun.
 
-ghost use Rattle.std.specs.Prelude.{◌≡◌};
 ghost use Rattle.sdf_graph.specs.Rates.{rates};
-ghost use Rattle.sdf_sched.specs.Period.{IsPeriodOf};
 ghost use Rattle.sdf_actor.specs.Graphs.{graph_of};
-ghost use Rattle.sdf_answer.specs.Rows.{IsTableOf};
+ghost use Rattle.sdf_answer.specs.Rows.{IsBlockTableOf};
 
 use crate::kits::Worked;
 use crate::nets::{Times, feed_twice, make_as_one, planned, ramp};
 use sdf_actor::{Actor, Net};
-use sdf_prec::Table;
+use sdf_answer::BlockTable;
 use sdf_run::Mode;
-use sdf_sched::Period;
 use std::alloc::Global;
 use std::test::Fail;
 use std::thread::Threads;
@@ -41,29 +38,20 @@ fn told(alloc: Global, watch: &Watch) -> Result<String, Fail> {
     Ok(format!(in alloc; "{} in vain, {} odd", watch.missed(), watch.odd())?)
 }
 
-/// The same of a run of some blocks of one period, which makes of these samples what one thread makes.
+/// The same of a run of some blocks, which makes of these samples what one thread makes.
 fn told_of_run<R: Threads + AllocGlobal + Sync, A: Actor<Token = i32>>(
     rt: &R,
     net: &Net<A>,
-    plan: &(Period, Table),
+    table: &BlockTable,
     times: Times,
     samples: (i32, i32),
     watch: &Watch,
 ) -> Result<String, Fail>
-    requires one { times.j ≡ 1 }
-    requires period { IsPeriodOf (rates (graph_of A.steps net.now)) plan.now.0 }
-    requires table { IsTableOf (rates (graph_of A.steps net.now)) plan.now.0.repetitions 1 plan.now.1 }
+    requires fits { IsBlockTableOf (rates (graph_of A.steps net.now)) table.now }
 {
     let inputs = ramp(rt.alloc(), samples.0, samples.1, 0)?;
-    make_as_one(rt, net, plan, times, &inputs, watch)?;
+    make_as_one(rt, net, table, times, &inputs, watch)?;
     told(rt.alloc(), watch)
-}
-
-/// A run of so many blocks of one period.
-fn blocks(blocks: u32, mode: Mode) -> Times
-    ensures { result.j ≡ 1 }
-{
-    Times { j: 1, blocks, mode }
 }
 
 /// What is held across two blocks that are run.
@@ -73,9 +61,9 @@ fn across<R: Threads + AllocGlobal + Sync, A: Actor<Token = i32>>(
     mode: Mode,
     hold: Hold<'static>,
 ) -> Result<String, Fail> {
-    let plan = planned(rt.alloc(), net, 1, 2, true)?;
+    let table = planned(rt.alloc(), net, 1, 2, true)?;
     let watch = Watch::new(rt.alloc(), 2, 4, hold)?;
-    told_of_run(rt, net, &plan, blocks(2, mode), (0, 12), &watch)
+    told_of_run(rt, net, &table, Times { blocks: 2, mode }, (0, 12), &watch)
 }
 
 fn overlap<R: Threads + AllocGlobal + Sync, A: Actor<Token = i32>>(
@@ -101,16 +89,15 @@ fn over_rings_blocks_overlap(rt: HostRuntime) -> Result<(), Fail> {
 fn told_of_feeds<R: Threads + AllocGlobal + Sync, A: Actor<Token = i32>>(
     rt: &R,
     net: &Net<A>,
-    plan: &(Period, Table),
+    table: &BlockTable,
     mode: Mode,
     hold: Hold<'static>,
 ) -> Result<String, Fail>
-    requires period { IsPeriodOf (rates (graph_of A.steps net.now)) plan.now.0 }
-    requires table { IsTableOf (rates (graph_of A.steps net.now)) plan.now.0.repetitions 1 plan.now.1 }
+    requires fits { IsBlockTableOf (rates (graph_of A.steps net.now)) table.now }
 {
     let inputs = ramp(rt.alloc(), 0, 12, 0)?;
     let watch = Watch::new(rt.alloc(), 2, 4, hold)?;
-    feed_twice(rt, net, plan, 1, mode, &inputs, &watch)?;
+    feed_twice(rt, net, table, mode, &inputs, &watch)?;
     told(rt.alloc(), &watch)
 }
 
@@ -118,13 +105,13 @@ fn overlap_in_feeds<R: Threads + AllocGlobal + Sync, A: Actor<Token = i32>>(
     rt: &R,
     net: &Net<A>,
 ) -> Result<(), Fail> {
-    let plan = planned(rt.alloc(), net, 1, 2, true)?;
+    let table = planned(rt.alloc(), net, 1, 2, true)?;
     says(
-        told_of_feeds(rt, net, &plan, PATIENT, ACROSS),
+        told_of_feeds(rt, net, &table, PATIENT, ACROSS),
         "0 in vain, 0 odd",
     )?;
     says(
-        told_of_feeds(rt, net, &plan, Mode::Rows, ACROSS.in_vain()),
+        told_of_feeds(rt, net, &table, Mode::Rows, ACROSS.in_vain()),
         "2 in vain, 0 odd",
     )
 }
@@ -143,9 +130,9 @@ fn together<R: Threads + AllocGlobal + Sync, A: Actor<Token = i32>>(
     mode: Mode,
 ) -> Result<String, Fail> {
     let ways = branched.len();
-    let plan = planned(rt.alloc(), net, 1, ways, true)?;
+    let table = planned(rt.alloc(), net, 1, ways, true)?;
     let watch = Watch::new(rt.alloc(), ways, net.len(), Hold::meeting(branched, 3))?;
-    told_of_run(rt, net, &plan, blocks(3, mode), (1, 4), &watch)
+    told_of_run(rt, net, &table, Times { blocks: 3, mode }, (1, 4), &watch)
 }
 
 fn all_meet<R: Threads + AllocGlobal + Sync, A: Actor<Token = i32>>(

@@ -1,12 +1,13 @@
 //! Small nets, lists of samples, tables, and runs whose makings are compared as texts.
 
-ghost use Rattle.std.specs.Prelude.{◌*◌, ◌<◌, IfOk};
+ghost use Rattle.std.specs.Prelude.{◌≡◌, ◌*◌, ◌<◌, IfOk};
 ghost use Rattle.sdf_graph.specs.Rates.{rates};
 ghost use Rattle.sdf_sched.specs.Period.{IsPeriodOf};
 ghost use Rattle.sdf_actor.specs.Graphs.{graph_of};
-ghost use Rattle.sdf_answer.specs.Rows.{IsTableOf};
+ghost use Rattle.sdf_answer.specs.Rows.{IsBlockTableOf};
 
 use sdf_actor::{Actor, Link, Net, Node};
+use sdf_answer::BlockTable;
 use sdf_node::Gate;
 use sdf_prec::hu::hu;
 use sdf_prec::{Costs, Table};
@@ -102,31 +103,38 @@ pub(crate) fn planned<A: Actor>(
     j: u32,
     m: usize,
     homed: bool,
-) -> Result<(Period, Table), Fail>
-    ensures period { IfOk result (λ plan. IsPeriodOf (rates (graph_of A.steps net.now)) plan.0) }
-    ensures table { IfOk result (λ plan. IsTableOf (rates (graph_of A.steps net.now)) plan.0.repetitions j plan.1) }
+) -> Result<BlockTable, Fail>
+    ensures fits { IfOk result (IsBlockTableOf (rates (graph_of A.steps net.now))) }
+    ensures factor { IfOk result (λ table. table.factor ≡ j) }
 {
     let period = class_s(alloc, net.graph(), net.repetitions(), &mut Round::new())?;
     let costs = Costs::unit(alloc, net.graph())?;
     let table = hu(alloc, net.graph(), &period, j, m, homed, &costs)?;
-    Ok((period, table))
+    Ok(BlockTable {
+        period,
+        factor: j,
+        table,
+    })
 }
 
 /// A period of a net and a table of one column for two of them, in which the firings of a node stand in runs.
-pub(crate) fn in_runs<A: Actor>(alloc: Global, net: &Net<A>) -> Result<(Period, Table), Fail>
-    ensures period { IfOk result (λ plan. IsPeriodOf (rates (graph_of A.steps net.now)) plan.0) }
-    ensures table { IfOk result (λ plan. IsTableOf (rates (graph_of A.steps net.now)) plan.0.repetitions 2 plan.1) }
+pub(crate) fn in_runs<A: Actor>(alloc: Global, net: &Net<A>) -> Result<BlockTable, Fail>
+    ensures fits { IfOk result (IsBlockTableOf (rates (graph_of A.steps net.now))) }
+    ensures factor { IfOk result (λ table. table.factor ≡ 2) }
 {
     let period = class_s(alloc, net.graph(), net.repetitions(), &mut Round::new())?;
     let homes = vec![in alloc; Some(0); net.len()]?;
     let table = Table::by_homes_in_runs(alloc, net.graph(), &period, 2, 1, &homes)?;
-    Ok((period, table))
+    Ok(BlockTable {
+        period,
+        factor: 2,
+        table,
+    })
 }
 
-/// How often a plan is run, so many blocks of `j` periods, and how.
+/// How often a table is run, so many blocks, and how.
 #[derive(Clone, Copy)]
 pub(crate) struct Times {
-    pub(crate) j: u32,
     pub(crate) blocks: u32,
     pub(crate) mode: Mode,
 }
@@ -135,37 +143,34 @@ pub(crate) struct Times {
 pub(crate) fn run_by<R: Threads + AllocGlobal + Sync, A: Actor, G: Gate>(
     rt: &R,
     net: &Net<A>,
-    plan: &(Period, Table),
+    table: &BlockTable,
     times: Times,
     inputs: &[Vec<A::Token>],
     gate: &G,
 ) -> Result<Ran<A::Token>, RunFault>
-    requires period { IsPeriodOf (rates (graph_of A.steps net.now)) plan.now.0 }
-    requires table { IsTableOf (rates (graph_of A.steps net.now)) plan.now.0.repetitions times.j plan.now.1 }
+    requires fits { IsBlockTableOf (rates (graph_of A.steps net.now)) table.now }
 {
-    let Times { j, blocks, mode } = times;
+    let Times { blocks, mode } = times;
     match mode {
-        Mode::Rows => run_rows(rt, net, &plan.0, j, &plan.1, blocks, inputs, gate),
+        Mode::Rows => run_rows(rt, net, table, blocks, inputs, gate),
         Mode::Rings { patience, .. } => {
-            run_rings(rt, net, &plan.0, j, &plan.1, blocks, inputs, patience, gate)
+            run_rings(rt, net, table, blocks, inputs, patience, gate)
         }
     }
 }
 
-/// Feeds a session blocks of `j` periods, twice, with this gate: each feed numbers its firings anew.
+/// Feeds a session blocks of a table, twice, with this gate: each feed numbers its firings anew.
 pub(crate) fn feed_twice<R: Threads + AllocGlobal + Sync, A: Actor>(
     rt: &R,
     net: &Net<A>,
-    plan: &(Period, Table),
-    j: u32,
+    table: &BlockTable,
     mode: Mode,
     inputs: &[Vec<A::Token>],
     watch: &Watch,
 ) -> Result<(), RunFault>
-    requires period { IsPeriodOf (rates (graph_of A.steps net.now)) plan.now.0 }
-    requires table { IsTableOf (rates (graph_of A.steps net.now)) plan.now.0.repetitions j plan.now.1 }
+    requires fits { IsBlockTableOf (rates (graph_of A.steps net.now)) table.now }
 {
-    let mut session = Session::open(rt.alloc(), net, &plan.0, j, &plan.1, mode)?;
+    let mut session = Session::open(rt.alloc(), net, table, mode)?;
     session.feed(rt, inputs, watch)?;
     watch.anew();
     session.feed(rt, inputs, watch)?;
@@ -187,11 +192,12 @@ pub(crate) fn by_one<A: Actor<Token = i32>>(
 }
 
 /// Whether a run took rounds, and no more than it did firings. By rows the table says how many there are.
-fn few_rounds(times: Times, firings: usize, rounds: u64) -> bool {
-    let periods = u64::from(times.j).wrapping_mul(u64::from(times.blocks));
+fn few_rounds(table: &BlockTable, times: Times, rounds: u64) -> bool {
+    let periods = u64::from(table.factor).wrapping_mul(u64::from(times.blocks));
+    let firings = table.period.order().len() as u64;
     match times.mode {
         Mode::Rows => true,
-        Mode::Rings { .. } => 1 <= rounds && rounds <= (firings as u64).wrapping_mul(periods),
+        Mode::Rings { .. } => 1 <= rounds && rounds <= firings.wrapping_mul(periods),
     }
 }
 
@@ -199,16 +205,15 @@ fn few_rounds(times: Times, firings: usize, rounds: u64) -> bool {
 fn by_workers<R: Threads + AllocGlobal + Sync, A: Actor<Token = i32>, G: Gate>(
     rt: &R,
     net: &Net<A>,
-    plan: &(Period, Table),
+    table: &BlockTable,
     times: Times,
     inputs: &[Vec<i32>],
     gate: &G,
 ) -> Result<String, Fail>
-    requires period { IsPeriodOf (rates (graph_of A.steps net.now)) plan.now.0 }
-    requires table { IsTableOf (rates (graph_of A.steps net.now)) plan.now.0.repetitions times.j plan.now.1 }
+    requires fits { IsBlockTableOf (rates (graph_of A.steps net.now)) table.now }
 {
-    let ran = run_by(rt, net, plan, times, inputs, gate)?;
-    if !few_rounds(times, plan.0.order().len(), ran.rounds) {
+    let ran = run_by(rt, net, table, times, inputs, gate)?;
+    if !few_rounds(table, times, ran.rounds) {
         return Ok(format!(in rt.alloc(); "{} rounds", ran.rounds)?);
     }
     Ok(format!(in rt.alloc(); "{:?}", ran.outputs)?)
@@ -218,15 +223,17 @@ fn by_workers<R: Threads + AllocGlobal + Sync, A: Actor<Token = i32>, G: Gate>(
 pub(crate) fn make_as_one<R: Threads + AllocGlobal + Sync, A: Actor<Token = i32>, G: Gate>(
     rt: &R,
     net: &Net<A>,
-    plan: &(Period, Table),
+    table: &BlockTable,
     times: Times,
     inputs: &[Vec<i32>],
     gate: &G,
 ) -> Result<(), Fail>
-    requires period { IsPeriodOf (rates (graph_of A.steps net.now)) plan.now.0 }
-    requires table { IsTableOf (rates (graph_of A.steps net.now)) plan.now.0.repetitions times.j plan.now.1 }
+    requires fits { IsBlockTableOf (rates (graph_of A.steps net.now)) table.now }
 {
-    let periods = times.j.wrapping_mul(times.blocks);
-    let one = by_one(rt.alloc(), net, &plan.0, periods, inputs)?;
-    says(by_workers(rt, net, plan, times, inputs, gate), one.as_str())
+    let periods = table.factor.wrapping_mul(times.blocks);
+    let one = by_one(rt.alloc(), net, &table.period, periods, inputs)?;
+    says(
+        by_workers(rt, net, table, times, inputs, gate),
+        one.as_str(),
+    )
 }

@@ -1,16 +1,14 @@
 //! Runs of the rate converter by workers over rings.
 
 ghost use Rattle.sdf_graph.specs.Rates.{rates};
-ghost use Rattle.sdf_sched.specs.Period.{IsPeriodOf};
 ghost use Rattle.sdf_actor.specs.Graphs.{graph_of};
-ghost use Rattle.sdf_answer.specs.Rows.{IsTableOf};
+ghost use Rattle.sdf_answer.specs.Rows.{IsBlockTableOf};
 
 use crate::kits::Worked;
 use crate::nets::{Times, list, make_as_one, pair, planned, ramp};
 use sdf_actor::{Actor, Net};
-use sdf_prec::Table;
+use sdf_answer::BlockTable;
 use sdf_run::{Mode, NoGate, run_rings};
-use sdf_sched::Period;
 use std::alloc::Global;
 use std::test::Fail;
 use std::thread::Threads;
@@ -24,14 +22,13 @@ fn makes_as_one<R: Threads + AllocGlobal + Sync, A: Actor<Token = i32>>(
     workers: usize,
     patience: u32,
 ) -> Result<(), Fail> {
-    let plan = planned(rt.alloc(), net, 1, workers, true)?;
+    let table = planned(rt.alloc(), net, 1, workers, true)?;
     let inputs = ramp(rt.alloc(), 0, 294, 0)?;
     let times = Times {
-        j: 1,
         blocks: 2,
         mode: Mode::Rings { patience, rooms: 1 },
     };
-    make_as_one(rt, net, &plan, times, &inputs, &NoGate)
+    make_as_one(rt, net, &table, times, &inputs, &NoGate)
 }
 
 /// The same without patience and with much.
@@ -48,15 +45,14 @@ fn convert_as_one<R: Threads + AllocGlobal + Sync, A: Actor<Token = i32>>(
 fn rounds<R: Threads + AllocGlobal + Sync, A: Actor<Token = i32>>(
     rt: &R,
     net: &Net<A>,
-    plan: &(Period, Table),
+    table: &BlockTable,
     blocks: u32,
 ) -> Result<String, Fail>
-    requires period { IsPeriodOf (rates (graph_of A.steps net.now)) plan.now.0 }
-    requires table { IsTableOf (rates (graph_of A.steps net.now)) plan.now.0.repetitions 1 plan.now.1 }
+    requires fits { IsBlockTableOf (rates (graph_of A.steps net.now)) table.now }
 {
     let samples = net.samples_in().wrapping_mul(blocks as usize);
     let inputs = ramp(rt.alloc(), 0, 0, samples)?;
-    let ran = run_rings(rt, net, &plan.0, 1, &plan.1, blocks, &inputs, 0, &NoGate)?;
+    let ran = run_rings(rt, net, table, blocks, &inputs, 0, &NoGate)?;
     Ok(format!(in rt.alloc(); "{}", ran.rounds)?)
 }
 
@@ -66,9 +62,9 @@ fn wants_one_round<R: Threads + AllocGlobal + Sync, A: Actor<Token = i32>>(
     name: &str,
     net: &Net<A>,
 ) -> Result<(), Fail> {
-    let plan = planned(rt.alloc(), net, 1, 1, true)?;
-    row_says(name, rounds(rt, net, &plan, 2), "1")?;
-    row_says(name, rounds(rt, net, &plan, 0), "0")
+    let table = planned(rt.alloc(), net, 1, 1, true)?;
+    row_says(name, rounds(rt, net, &table, 2), "1")?;
+    row_says(name, rounds(rt, net, &table, 0), "0")
 }
 
 const WORKED: &[Worked] = &[
@@ -107,13 +103,12 @@ fn sixteen_workers(rt: HostRuntime) -> Result<(), Fail> {
 fn lengths<R: Threads + AllocGlobal + Sync, A: Actor<Token = i32>>(
     rt: &R,
     net: &Net<A>,
-    plan: &(Period, Table),
+    table: &BlockTable,
     inputs: &[Vec<i32>],
 ) -> Result<String, Fail>
-    requires period { IsPeriodOf (rates (graph_of A.steps net.now)) plan.now.0 }
-    requires table { IsTableOf (rates (graph_of A.steps net.now)) plan.now.0.repetitions 2 plan.now.1 }
+    requires fits { IsBlockTableOf (rates (graph_of A.steps net.now)) table.now }
 {
-    let ran = run_rings(rt, net, &plan.0, 2, &plan.1, 1, inputs, 0, &NoGate)?;
+    let ran = run_rings(rt, net, table, 1, inputs, 0, &NoGate)?;
     let mut lengths = Vec::new(rt.alloc());
     for made in &ran.outputs {
         lengths.push(made.len())?;
@@ -126,18 +121,17 @@ fn make_two_periods<R: Threads + AllocGlobal + Sync, A: Actor<Token = i32>>(
     rt: &R,
     net: &Net<A>,
 ) -> Result<(), Fail> {
-    let plan = planned(rt.alloc(), net, 2, 3, true)?;
+    let table = planned(rt.alloc(), net, 2, 3, true)?;
     let inputs = ramp(rt.alloc(), 0, 148, 146)?;
     let times = Times {
-        j: 2,
         blocks: 1,
         mode: Mode::Rings {
             patience: 0,
             rooms: 1,
         },
     };
-    make_as_one(rt, net, &plan, times, &inputs, &NoGate)?;
-    says(lengths(rt, net, &plan, &inputs), "[320]")
+    make_as_one(rt, net, &table, times, &inputs, &NoGate)?;
+    says(lengths(rt, net, &table, &inputs), "[320]")
 }
 
 #[test]
@@ -149,17 +143,14 @@ fn a_block_of_two_periods(rt: HostRuntime) -> Result<(), Fail> {
 fn refusal<R: Threads + AllocGlobal + Sync, A: Actor<Token = i64>>(
     rt: &R,
     net: &Net<A>,
-    plan: &(Period, Table),
+    table: &BlockTable,
     patience: u32,
     periods: u32,
 ) -> Result<String, Fail>
-    requires period { IsPeriodOf (rates (graph_of A.steps net.now)) plan.now.0 }
-    requires table { IsTableOf (rates (graph_of A.steps net.now)) plan.now.0.repetitions 1 plan.now.1 }
+    requires fits { IsBlockTableOf (rates (graph_of A.steps net.now)) table.now }
 {
     let inputs = list(rt.alloc(), &[1, 2, 3, 4, 5, 6])?;
-    match run_rings(
-        rt, net, &plan.0, 1, &plan.1, periods, &inputs, patience, &NoGate,
-    ) {
+    match run_rings(rt, net, table, periods, &inputs, patience, &NoGate) {
         Ok(_) => Ok(String::new(rt.alloc())),
         Err(fault) => Ok(fault.to_string(rt.alloc())?),
     }

@@ -1,16 +1,15 @@
 //! The gate: each firing passes it once, on its processor, in its turn, and then fires.
 
-ghost use Rattle.std.specs.Prelude.{IfOk};
+ghost use Rattle.std.specs.Prelude.{◌≡◌, IfOk};
 ghost use Rattle.sdf_graph.specs.Rates.{rates};
-ghost use Rattle.sdf_sched.specs.Period.{IsPeriodOf};
 ghost use Rattle.sdf_actor.specs.Graphs.{graph_of};
-ghost use Rattle.sdf_answer.specs.Rows.{IsTableOf};
+ghost use Rattle.sdf_answer.specs.Rows.{IsBlockTableOf};
 
 use crate::nets::{Times, begun, feed_twice, in_runs, list, planned, run_by};
 use sdf_actor::{Actor, Net, Node};
+use sdf_answer::BlockTable;
 use sdf_prec::Table;
 use sdf_run::Mode;
-use sdf_sched::Period;
 use std::alloc::Global;
 use std::process::Abort;
 use std::test::Fail;
@@ -81,24 +80,19 @@ fn all_passed(rt: &impl Abort, watch: &Watch, table: &Table, blocks: u64) {
 fn all_pass<R: Abort + Threads + AllocGlobal + Sync, A: Actor<Token = i64>>(
     rt: &R,
     net: &Net<A>,
-    plan: &(Period, Table),
+    table: &BlockTable,
     mode: Mode,
     watch: &Watch,
 ) -> Result<(), Fail>
-    requires period { IsPeriodOf (rates (graph_of A.steps net.now)) plan.now.0 }
-    requires table { IsTableOf (rates (graph_of A.steps net.now)) plan.now.0.repetitions 2 plan.now.1 }
+    requires fits { IsBlockTableOf (rates (graph_of A.steps net.now)) table.now }
 {
-    let times = Times {
-        j: 2,
-        blocks: 2,
-        mode,
-    };
+    let times = Times { blocks: 2, mode };
     let inputs = list(rt.alloc(), &[7; 16])?;
-    run_by(rt, net, plan, times, &inputs, watch)?;
-    all_passed(rt, watch, &plan.1, 2);
+    run_by(rt, net, table, times, &inputs, watch)?;
+    all_passed(rt, watch, &table.table, 2);
     watch.anew();
-    feed_twice(rt, net, plan, 2, mode, &inputs, watch)?;
-    all_passed(rt, watch, &plan.1, 6);
+    feed_twice(rt, net, table, mode, &inputs, watch)?;
+    all_passed(rt, watch, &table.table, 6);
     Ok(())
 }
 
@@ -110,9 +104,9 @@ enum Kind {
     InRuns,
 }
 
-fn plan<A: Actor>(alloc: Global, net: &Net<A>, kind: Kind) -> Result<(Period, Table), Fail>
-    ensures period { IfOk result (λ plan. IsPeriodOf (rates (graph_of A.steps net.now)) plan.0) }
-    ensures table { IfOk result (λ plan. IsTableOf (rates (graph_of A.steps net.now)) plan.0.repetitions 2 plan.1) }
+fn table<A: Actor>(alloc: Global, net: &Net<A>, kind: Kind) -> Result<BlockTable, Fail>
+    ensures fits { IfOk result (IsBlockTableOf (rates (graph_of A.steps net.now))) }
+    ensures factor { IfOk result (λ table. table.factor ≡ 2) }
 {
     match kind {
         Kind::Free(workers) => planned(alloc, net, 2, workers, false),
@@ -129,7 +123,7 @@ fn all_pass_by<R: Abort + Threads + AllocGlobal + Sync, A: Actor<Token = i64>>(
     mode: Mode,
     watch: &Watch,
 ) -> Result<(), Fail> {
-    all_pass(rt, net, &plan(rt.alloc(), net, kind)?, mode, watch)
+    all_pass(rt, net, &table(rt.alloc(), net, kind)?, mode, watch)
 }
 
 /// The same of the net.

@@ -1,17 +1,15 @@
 //! How often a worker tests again.
 
 ghost use Rattle.sdf_graph.specs.Rates.{rates};
-ghost use Rattle.sdf_sched.specs.Period.{IsPeriodOf};
 ghost use Rattle.sdf_actor.specs.Graphs.{graph_of};
-ghost use Rattle.sdf_answer.specs.Rows.{IsTableOf};
+ghost use Rattle.sdf_answer.specs.Rows.{IsBlockTableOf};
 
 use crate::nets::{list, pair, planned};
 use sdf_actor::{Actor, Net};
+use sdf_answer::BlockTable;
 use sdf_node::{ActorId, Gate};
-use sdf_prec::Table;
 use sdf_rings::prepare::prepare;
 use sdf_run::run_rings;
-use sdf_sched::Period;
 use std::process::Abort;
 use std::sync::atomic::{AtomicBool, Ordering};
 use std::test::Fail;
@@ -76,19 +74,16 @@ impl Gate for Late {
 fn told<R: Abort + Threads + AllocGlobal + Sync, A: Actor<Token = i64>>(
     rt: &R,
     net: &Net<A>,
-    plan: &(Period, Table),
+    table: &BlockTable,
     samples: &[i64],
     patience: u32,
     late: &Late,
 ) -> Result<String, Fail>
-    requires period { IsPeriodOf (rates (graph_of A.steps net.now)) plan.now.0 }
-    requires table { IsTableOf (rates (graph_of A.steps net.now)) plan.now.0.repetitions 1 plan.now.1 }
+    requires fits { IsBlockTableOf (rates (graph_of A.steps net.now)) table.now }
 {
     let inputs = list(rt.alloc(), samples)?;
     let blocks = u32::try_from(samples.len()).unwrap_or(0);
-    let ran = run_rings(
-        rt, net, &plan.0, 1, &plan.1, blocks, &inputs, patience, late,
-    )?;
+    let ran = run_rings(rt, net, table, blocks, &inputs, patience, late)?;
     assert!(rt; !late.missed.load(Ordering::SeqCst));
     Ok(format!(in rt.alloc(); "{:?} in {}", ran.outputs, ran.rounds)?)
 }
@@ -102,9 +97,9 @@ fn rounds<R: Abort + Threads + AllocGlobal + Sync, A: Actor<Token = i64>>(
     patience: u32,
     turns: u32,
 ) -> Result<String, Fail> {
-    let plan = planned(rt.alloc(), net, 1, 2, true)?;
+    let table = planned(rt.alloc(), net, 1, 2, true)?;
     let late = Late::new(samples.len().saturating_sub(1) as u64, turns);
-    told(rt, net, &plan, samples, patience, &late)
+    told(rt, net, &table, samples, patience, &late)
 }
 
 /// The sink's worker, whose second test fails, ends its round.
@@ -135,15 +130,14 @@ fn with_patience_a_worker_goes_on(rt: HostRuntime) -> Result<(), Fail> {
 fn left_by_hand<R: Abort + Threads + AllocGlobal + Sync, A: Actor<Token = i64>>(
     rt: &R,
     net: &Net<A>,
-    plan: &(Period, Table),
+    table: &BlockTable,
     patience: u32,
     late: &Late,
 ) -> Result<String, Fail>
-    requires period { IsPeriodOf (rates (graph_of A.steps net.now)) plan.now.0 }
-    requires table { IsTableOf (rates (graph_of A.steps net.now)) plan.now.0.repetitions 1 plan.now.1 }
+    requires fits { IsBlockTableOf (rates (graph_of A.steps net.now)) table.now }
 {
     let inputs = list(rt.alloc(), &[1, 2])?;
-    let mut rings = prepare(rt.alloc(), net, &plan.0, 1, &plan.1, 2, &inputs)?;
+    let mut rings = prepare(rt.alloc(), net, table, 2, &inputs)?;
     rings.work_all(rt, patience, late);
     let (sunk, missed) = (
         late.sunk.load(Ordering::SeqCst),
@@ -158,8 +152,8 @@ fn left<R: Abort + Threads + AllocGlobal + Sync, A: Actor<Token = i64>>(
     patience: u32,
     turns: u32,
 ) -> Result<String, Fail> {
-    let plan = planned(rt.alloc(), net, 1, 2, true)?;
-    left_by_hand(rt, net, &plan, patience, &Late::new(1, turns))
+    let table = planned(rt.alloc(), net, 1, 2, true)?;
+    left_by_hand(rt, net, &table, patience, &Late::new(1, turns))
 }
 
 /// Refuses a round by hand whose seats are worked in turn, one without a gate, and one without patience.

@@ -1,15 +1,13 @@
 //! Rings that take several blocks: so far a worker runs ahead of its neighbour, and no further.
 
 ghost use Rattle.sdf_graph.specs.Rates.{rates};
-ghost use Rattle.sdf_sched.specs.Period.{IsPeriodOf};
 ghost use Rattle.sdf_actor.specs.Graphs.{graph_of};
-ghost use Rattle.sdf_answer.specs.Rows.{IsTableOf};
+ghost use Rattle.sdf_answer.specs.Rows.{IsBlockTableOf};
 
 use crate::nets::{feed_twice, list, pair, planned};
 use sdf_actor::{Actor, Net};
-use sdf_prec::Table;
+use sdf_answer::BlockTable;
 use sdf_run::{Mode, NoGate, Session, run_rings};
-use sdf_sched::Period;
 use std::alloc::Global;
 use std::test::Fail;
 use std::thread::Threads;
@@ -37,17 +35,16 @@ fn told(alloc: Global, watch: &Watch) -> Result<String, Fail> {
 fn told_of_feeds<R: Threads + AllocGlobal + Sync, A: Actor<Token = i64>>(
     rt: &R,
     net: &Net<A>,
-    plan: &(Period, Table),
+    table: &BlockTable,
     rooms: u32,
     hold: Hold<'static>,
 ) -> Result<String, Fail>
-    requires period { IsPeriodOf (rates (graph_of A.steps net.now)) plan.now.0 }
-    requires table { IsTableOf (rates (graph_of A.steps net.now)) plan.now.0.repetitions 1 plan.now.1 }
+    requires fits { IsBlockTableOf (rates (graph_of A.steps net.now)) table.now }
 {
     let inputs = list(rt.alloc(), &[7i64; 8])?;
     let watch = Watch::new(rt.alloc(), 2, 2, hold)?;
     let mode = Mode::Rings { patience: 0, rooms };
-    feed_twice(rt, net, plan, 1, mode, &inputs, &watch)?;
+    feed_twice(rt, net, table, mode, &inputs, &watch)?;
     told(rt.alloc(), &watch)
 }
 
@@ -57,10 +54,10 @@ fn told_of_run<R: Threads + AllocGlobal + Sync, A: Actor<Token = i64>>(
     net: &Net<A>,
     hold: Hold<'static>,
 ) -> Result<String, Fail> {
-    let plan = planned(rt.alloc(), net, 1, 2, true)?;
+    let table = planned(rt.alloc(), net, 1, 2, true)?;
     let inputs = list(rt.alloc(), &[7i64; 8])?;
     let watch = Watch::new(rt.alloc(), 2, 2, hold)?;
-    run_rings(rt, net, &plan.0, 1, &plan.1, 8, &inputs, 0, &watch)?;
+    run_rings(rt, net, &table, 8, &inputs, 0, &watch)?;
     told(rt.alloc(), &watch)
 }
 
@@ -80,13 +77,13 @@ fn made_of_one<R: Threads + AllocGlobal + Sync, A: Actor<Token = i64>>(
     rt: &R,
     net: &Net<A>,
 ) -> Result<String, Fail> {
-    let plan = planned(rt.alloc(), net, 1, 2, true)?;
+    let table = planned(rt.alloc(), net, 1, 2, true)?;
     let inputs = list(rt.alloc(), &[1i64])?;
     let mode = Mode::Rings {
         patience: 0,
         rooms: 16,
     };
-    let mut session = Session::open(rt.alloc(), net, &plan.0, 1, &plan.1, mode)?;
+    let mut session = Session::open(rt.alloc(), net, &table, mode)?;
     let ran = session.feed(rt, &inputs, &NoGate)?;
     Ok(format!(in rt.alloc(); "{:?}", ran.outputs)?)
 }
@@ -107,11 +104,11 @@ fn so_far_and_no_further<R: Threads + AllocGlobal + Sync, A: Actor<Token = i64>>
     rt: &R,
     net: &Net<A>,
 ) -> Result<(), Fail> {
-    let plan = planned(rt.alloc(), net, 1, 2, true)?;
+    let table = planned(rt.alloc(), net, 1, 2, true)?;
     for (name, rooms, last) in ROOMS {
         row_says(
             name,
-            told_of_feeds(rt, net, &plan, *rooms, until(*last)),
+            told_of_feeds(rt, net, &table, *rooms, until(*last)),
             "0 in vain, 0 odd",
         )?;
         row_says(
@@ -119,7 +116,7 @@ fn so_far_and_no_further<R: Threads + AllocGlobal + Sync, A: Actor<Token = i64>>
             told_of_feeds(
                 rt,
                 net,
-                &plan,
+                &table,
                 *rooms,
                 until(last.wrapping_add(1)).in_vain(),
             ),
@@ -129,8 +126,8 @@ fn so_far_and_no_further<R: Threads + AllocGlobal + Sync, A: Actor<Token = i64>>
     Ok(())
 }
 
-/// A block is one firing of each, and the table's capacity one sample. Refuses a ring of one block in place of three, as
-/// by 1 for `rooms.max(1)` in `Session`.
+/// A block is one firing of each, and the table's capacity one sample. Refuses a ring of one block in place of three,
+/// as by 1 for `rooms.max(1)` in `Session`.
 #[test]
 fn a_worker_runs_ahead(rt: HostRuntime) -> Result<(), Fail> {
     so_far_and_no_further(&rt, &pair(rt.alloc(), 1, 1, &[])?)

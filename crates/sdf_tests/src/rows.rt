@@ -1,15 +1,13 @@
 //! The worked net of blocks of two and of three, row by row.
 
 ghost use Rattle.sdf_graph.specs.Rates.{rates};
-ghost use Rattle.sdf_sched.specs.Period.{IsPeriodOf};
 ghost use Rattle.sdf_actor.specs.Graphs.{graph_of};
-ghost use Rattle.sdf_answer.specs.Rows.{IsTableOf};
+ghost use Rattle.sdf_answer.specs.Rows.{IsBlockTableOf};
 
 use crate::nets::{Times, list, pair, planned, run_by};
 use sdf_actor::{Actor, Net};
-use sdf_prec::Table;
+use sdf_answer::BlockTable;
 use sdf_run::{Mode, NoGate};
-use sdf_sched::Period;
 use std::alloc::AllocGlobal;
 use std::test::Fail;
 use std::thread::Threads;
@@ -19,14 +17,13 @@ use test_texts::says;
 fn told<R: Threads + AllocGlobal + Sync, A: Actor<Token = i64>>(
     rt: &R,
     net: &Net<A>,
-    plan: &(Period, Table),
+    table: &BlockTable,
     times: Times,
 ) -> Result<String, Fail>
-    requires period { IsPeriodOf (rates (graph_of A.steps net.now)) plan.now.0 }
-    requires table { IsTableOf (rates (graph_of A.steps net.now)) plan.now.0.repetitions times.j plan.now.1 }
+    requires fits { IsBlockTableOf (rates (graph_of A.steps net.now)) table.now }
 {
     let inputs = list(rt.alloc(), &[1, 2, 3, 4, 5, 6, 7, 8, 9, 10, 11, 12])?;
-    let ran = run_by(rt, net, plan, times, &inputs, &NoGate)?;
+    let ran = run_by(rt, net, table, times, &inputs, &NoGate)?;
     Ok(format!(in rt.alloc(); "{:?} in {}", ran.outputs, ran.rounds)?)
 }
 
@@ -38,8 +35,8 @@ fn printed<R: Threads + AllocGlobal + Sync, A: Actor<Token = i64>>(
     blocks: u32,
 ) -> Result<String, Fail> {
     let mode = Mode::Rows;
-    let plan = planned(rt.alloc(), net, j, 2, false)?;
-    told(rt, net, &plan, Times { j, blocks, mode })
+    let table = planned(rt.alloc(), net, j, 2, false)?;
+    told(rt, net, &table, Times { blocks, mode })
 }
 
 #[test]

@@ -1,16 +1,14 @@
 //! Sessions of the rate converter, which is fed in pieces.
 
 ghost use Rattle.sdf_graph.specs.Rates.{rates};
-ghost use Rattle.sdf_sched.specs.Period.{IsPeriodOf};
 ghost use Rattle.sdf_actor.specs.Graphs.{graph_of};
-ghost use Rattle.sdf_answer.specs.Rows.{IsTableOf};
+ghost use Rattle.sdf_answer.specs.Rows.{IsBlockTableOf};
 
 use crate::kits::Worked;
 use crate::nets::{by_one, planned, ramp};
 use sdf_actor::{Actor, Net};
-use sdf_prec::Table;
+use sdf_answer::BlockTable;
 use sdf_run::{Mode, NoGate, RunFault, Session};
-use sdf_sched::Period;
 use std::process::Abort;
 use std::test::Fail;
 use std::thread::Threads;
@@ -61,13 +59,12 @@ fn feeds<R: Abort + Threads + AllocGlobal + Sync, A: Actor<Token = i32>>(
 fn told<R: Abort + Threads + AllocGlobal + Sync, A: Actor<Token = i32>>(
     rt: &R,
     net: &Net<A>,
-    plan: &(Period, Table),
+    table: &BlockTable,
     mode: Mode,
 ) -> Result<String, Fail>
-    requires period { IsPeriodOf (rates (graph_of A.steps net.now)) plan.now.0 }
-    requires table { IsTableOf (rates (graph_of A.steps net.now)) plan.now.0.repetitions 1 plan.now.1 }
+    requires fits { IsBlockTableOf (rates (graph_of A.steps net.now)) table.now }
 {
-    let mut session = Session::open(rt.alloc(), net, &plan.0, 1, &plan.1, mode)?;
+    let mut session = Session::open(rt.alloc(), net, table, mode)?;
     let joined = feeds(rt, &mut session)?;
     assert_eq!(rt; session.close()?.blocks, 2);
     Ok(format!(in rt.alloc(); "[{joined:?}]")?)
@@ -77,15 +74,14 @@ fn told<R: Abort + Threads + AllocGlobal + Sync, A: Actor<Token = i32>>(
 fn pieces_are_one<R: Abort + Threads + AllocGlobal + Sync, A: Actor<Token = i32>>(
     rt: &R,
     net: &Net<A>,
-    plan: &(Period, Table),
+    table: &BlockTable,
     mode: Mode,
 ) -> Result<(), Fail>
-    requires period { IsPeriodOf (rates (graph_of A.steps net.now)) plan.now.0 }
-    requires table { IsTableOf (rates (graph_of A.steps net.now)) plan.now.0.repetitions 1 plan.now.1 }
+    requires fits { IsBlockTableOf (rates (graph_of A.steps net.now)) table.now }
 {
     let inputs = ramp(rt.alloc(), 0, 294, 0)?;
-    let one = by_one(rt.alloc(), net, &plan.0, 2, &inputs)?;
-    says(told(rt, net, plan, mode), one.as_str())
+    let one = by_one(rt.alloc(), net, &table.period, 2, &inputs)?;
+    says(told(rt, net, table, mode), one.as_str())
 }
 
 /// The same on two workers.

@@ -2,19 +2,18 @@
 
 ghost use Rattle.std.specs.Prelude.{◌≡◌, length};
 ghost use Rattle.sdf_graph.specs.Rates.{rates};
-ghost use Rattle.sdf_sched.specs.Period.{IsPeriodOf};
 ghost use Rattle.sdf_actor.specs.Graphs.{graph_of};
-ghost use Rattle.sdf_answer.specs.Rows.{IsTableOf};
+ghost use Rattle.sdf_answer.specs.Rows.{IsBlockTableOf};
 ghost use Rattle.sdf_rings.specs.Rests.{HaveMet};
 
 use crate::kits::Worked;
 use crate::nets::{by_one, planned, ramp};
 use sdf_actor::{Actor, Net};
+use sdf_answer::BlockTable;
 use sdf_node::NoGate;
 use sdf_prec::Table;
 use sdf_rings::Rings;
 use sdf_rings::prepare::prepare;
-use sdf_sched::Period;
 use std::process::Abort;
 use std::test::Fail;
 use test_texts::row_says;
@@ -129,16 +128,15 @@ fn rounds<A: Actor>(
 fn done_by<A: Actor<Token = i32>>(
     rt: &(impl Abort + AllocGlobal),
     net: &Net<A>,
-    plan: &(Period, Table),
+    table: &BlockTable,
     periods: u32,
     inputs: &[Vec<i32>],
     turns: Turns,
 ) -> Result<String, Fail>
-    requires period { IsPeriodOf (rates (graph_of A.steps net.now)) plan.now.0 }
-    requires table { IsTableOf (rates (graph_of A.steps net.now)) plan.now.0.repetitions 1 plan.now.1 }
+    requires fits { IsBlockTableOf (rates (graph_of A.steps net.now)) table.now }
 {
-    let mut rings = prepare(rt.alloc(), net, &plan.0, 1, &plan.1, periods, inputs)?;
-    rounds(rt, &mut rings, net, &plan.1, turns);
+    let mut rings = prepare(rt.alloc(), net, table, periods, inputs)?;
+    rounds(rt, &mut rings, net, &table.table, turns);
     rings.meet();
     assert!(rt; rings.left() == 0);
     Ok(format!(in rt.alloc(); "{:?}", rings.finish())?)
@@ -157,18 +155,17 @@ const TURNS: &[(&str, Turns)] = &[
 fn done_by_each<A: Actor<Token = i32>>(
     rt: &(impl Abort + AllocGlobal),
     net: &Net<A>,
-    plan: &(Period, Table),
+    table: &BlockTable,
     periods: u32,
 ) -> Result<(), Fail>
-    requires period { IsPeriodOf (rates (graph_of A.steps net.now)) plan.now.0 }
-    requires table { IsTableOf (rates (graph_of A.steps net.now)) plan.now.0.repetitions 1 plan.now.1 }
+    requires fits { IsBlockTableOf (rates (graph_of A.steps net.now)) table.now }
 {
     let inputs = ramp(rt.alloc(), 1, 13, net.samples_in())?;
-    let one = by_one(rt.alloc(), net, &plan.0, periods, &inputs)?;
+    let one = by_one(rt.alloc(), net, &table.period, periods, &inputs)?;
     for (name, turns) in TURNS {
         row_says(
             name,
-            done_by(rt, net, plan, periods, &inputs, *turns),
+            done_by(rt, net, table, periods, &inputs, *turns),
             one.as_str(),
         )?;
     }

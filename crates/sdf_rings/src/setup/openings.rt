@@ -73,13 +73,13 @@ fn enlarged(cap: usize, rooms: u32) -> Result<usize, AllocError>
 /// from an actor to itself another block. More than a memory has can't be reserved.
 fn room_of<A: Actor>(net: &Net<A>, given: &RoomyTable, c: usize) -> Result<usize, AllocError>
     requires known { c < length net.now.wires }
-    requires caps { length given.now.table.now.caps ≡ length net.now.wires }
+    requires caps { length given.now.table.now.table.caps ≡ length net.now.wires }
     ensures { IfOk result (IsRoomOf (wiring A.steps net.now).rates
-        (roomy given.now.rooms (slice_index given.now.table.now.caps)) c) }
+        (roomy given.now.rooms (slice_index given.now.table.now.table.caps)) c) }
 {
     sdf_graph::laws::sums_rise();
     let link = net.link(c);
-    let held = enlarged(given.table.cap(c) as usize, given.rooms)?;
+    let held = enlarged(given.table.table.cap(c) as usize, given.rooms)?;
     if link.from.0 != link.to.0 {
         return Ok(held);
     }
@@ -96,11 +96,12 @@ pub(crate) fn open_rings<A: Actor>(
     net: &Net<A>,
     given: &RoomyTable,
 ) -> Result<Ends<A::Token>, AllocError>
-    requires caps { length given.now.table.now.caps ≡ length net.now.wires }
+    requires caps { length given.now.table.now.table.caps ≡ length net.now.wires }
     requires held { (c : ℕ) → c < length net.now.wires →
-        length (wire net.now c).initial ≤ roomy given.now.rooms (slice_index given.now.table.now.caps) c }
+        length (wire net.now c).initial ≤ roomy given.now.rooms (slice_index given.now.table.now.table.caps) c }
     ensures { IfOk result (λ ends. HaveRings A.steps net.now
-        (roomy given.now.rooms (slice_index given.now.table.now.caps)) ends.producers.items ends.consumers.items) }
+        (roomy given.now.rooms (slice_index given.now.table.now.table.caps)) ends.producers.items
+        ends.consumers.items) }
 {
     let mut producers = Vec::with_capacity(alloc, net.channels())?;
     let mut consumers = Vec::with_capacity(alloc, net.channels())?;

@@ -1,8 +1,24 @@
-use Rattle.std.proofs.Common.{◌*◌, ◌≤◌, ap, ◌∙◌, subst}
+use Rattle.std.proofs.Common.{ℕ, Option, ◌*◌, ◌≤◌, ap, ◌∙◌, subst}
+use Rattle.std.specs.Prelude.{IfSome}
+use Rattle.sdf_sched.specs.Period.{Schedule}
+use Rattle.sdf_prec.specs.Tables.{Tabled}
 use Rattle.sdf_actor.specs.Wires.{lists}
+use Rattle.sdf_kit.specs.Kit.{kit_steps}
+use Rattle.sdf_answer.specs.Answer.{AreOutputs, IsRunFault, periods_of as firings}
 use Rattle.sdf_process.specs.Output.{lists_to}
+use Rattle.sdf_process.specs.Plans.{SuitsRunner}
 use Rattle.sdf_process.proofs.Rendering.{run_begins, run_refused}
+use Rattle.sdf_process.proofs.Suiting.{fits_net}
 use Rattle.sdf_process.proofs.finishing.lists_of.Goals as goal
+
+pub run_blocks-requires-clause-fits : goal.run_blocks-requires-clause-fits
+run_blocks-requires-clause-fits g c κs within =
+    fits_net c.args.net.now c.args.plan.now c.args.table.now c.requires.plan c.requires.table
+
+pub run_blocks-requires-clause-homes : goal.run_blocks-requires-clause-homes
+run_blocks-requires-clause-homes g c κs within =
+    subst (λ (o : Option Tabled). IfSome o (SuitsRunner c.args.plan.now.runner)) c.requires.table.table
+    c.requires.plan.homes
 
 pub returns-in_err-ran : goal.returns-in_err-ran
 returns-in_err-ran g c =
@@ -13,7 +29,12 @@ returns-in_err-ran g c =
     (c.blocks_for-blocks.result * c.args.plan.now.blocking) (lists c.deref.result.now)
     (ap lists c.deref.ensures.value ∙ (c.in_ok-inputs.ensures
     ∙ ap (λ j. lists_to (c.blocks_for-blocks.result * j) c.of_net-exchange.result c.args.input) same))
-    c.in_err-ran.field-0.0 c.from_residual-in_err-ran.result _ c.in_err-ran.ensures
+    c.in_err-ran.field-0.0 c.from_residual-in_err-ran.result _
+    (subst (λ (j : ℕ). IsRunFault c.args.net.now q (c.blocks_for-blocks.result * j) (lists c.deref.result.now)
+    c.in_err-ran.field-0.0) c.requires.table.factor
+    (subst (λ (s : Schedule). IsRunFault c.args.net.now s.repetitions
+    (c.blocks_for-blocks.result * c.args.table.now.factor) (lists c.deref.result.now) c.in_err-ran.field-0.0)
+    c.requires.table.period c.in_err-ran.ensures))
     c.from_residual-in_err-ran.ensures.1
 
 pub returns : goal.returns
@@ -28,4 +49,8 @@ returns g c =
     (lists c.deref.result.now) (lists c.in_ok-ran.ran.outputs.items)
     (ap lists c.deref.ensures.value ∙ (c.in_ok-inputs.ensures
     ∙ ap (λ j. lists_to (c.blocks_for-blocks.result * j) c.of_net-exchange.result c.args.input) same))
-    c.in_ok-ran.ensures.1
+    (subst (λ (j : ℕ). AreOutputs kit_steps c.args.net.now (lists c.deref.result.now)
+    (firings p.repetitions (c.blocks_for-blocks.result * j)) (lists c.in_ok-ran.ran.outputs.items))
+    c.requires.table.factor (subst (λ (s : Schedule). AreOutputs kit_steps c.args.net.now (lists c.deref.result.now)
+    (firings s.repetitions (c.blocks_for-blocks.result * c.args.table.now.factor))
+    (lists c.in_ok-ran.ran.outputs.items)) c.requires.table.period c.in_ok-ran.ensures.1))

@@ -5,14 +5,21 @@ use Rattle.sdf_process.specs.Faults.{of_run}
 use Rattle.sdf_process.specs.Plans.{SuitsRunner}
 use Rattle.sdf_process.proofs.Fed.{opened_refused, stands_first}
 use Rattle.sdf_process.proofs.Refusals.{fails_by}
+use Rattle.sdf_process.proofs.Suiting.{fits_net}
 use Rattle.sdf_process.proofs.streaming.open_session.Goals as goal
+
+pub open-requires-clause-fits : goal.open-requires-clause-fits
+open-requires-clause-fits c κs =
+    fits_net c.args.net.now c.args.plan.now c.args.table.now c.requires.plan c.requires.table
 
 pub returns-in_err-session-clause-stands : goal.returns-in_err-session-clause-stands
 returns-in_err-session-clause-stands c =
-    let t = c.args.table.now in
-    let homes = subst (λ o. IfSome o (SuitsRunner c.args.plan.now.runner)) c.requires.table c.requires.plan.homes in
+    let t = c.args.table.now.table in
+    let homes = subst (λ o. IfSome o (SuitsRunner c.args.plan.now.runner)) c.requires.table.table
+    c.requires.plan.homes in
     fails_by c.from_residual.result (of_run c.in_err-session.field-0.0) _ _ c.from_residual.ensures.1
-    (opened_refused t c.args.plan.now.runner c.args.plan.now.patience c.args.plan.now.rooms homes c.requires.plan.patience
+    (opened_refused t c.args.plan.now.runner c.args.plan.now.patience c.args.plan.now.rooms homes
+    c.requires.plan.patience
     c.in_err-session.field-0.0 (subst (λ m. IsModeFault t m c.in_err-session.field-0.0) c.mode.ensures
     c.in_err-session.ensures.tests))
 
@@ -20,8 +27,8 @@ pub returns-clause-stands : goal.returns-clause-stands
 returns-clause-stands c = λ s.
     stands_first c.args.net.now c.args.plan.now.period c.args.plan.now.blocking c.in_ok-session.session
     (ap (λ z. z.net) c.in_ok-session.ensures.value.1)
-    (ap (λ z. z.period) c.in_ok-session.ensures.value.1 ∙ c.period.ensures)
-    (ap (λ z. z.factor) c.in_ok-session.ensures.value.1 ∙ c.blocking.ensures)
+    (ap (λ z. z.period) c.in_ok-session.ensures.value.1 ∙ c.requires.table.period)
+    (ap (λ z. z.factor) c.in_ok-session.ensures.value.1 ∙ c.requires.table.factor)
     c.in_ok-session.ensures.stands s
 
 pub returns-clause-mode : goal.returns-clause-mode

@@ -31,7 +31,8 @@ loop-unread-init g c =
     let p = c.args.plan.now.period in
     let j = c.args.plan.now.blocking in
     let d = c.args.content in
-    let can = can_flow n c.args.plan.now c.args.table.now c.requires.table c.requires.plan c.nets_have_periods.ensures d
+    let can = can_flow n c.args.plan.now c.args.table.now.table c.requires.table.table c.requires.plan
+    c.nets_have_periods.ensures d
     c.args.frames c.args.output
     c.of_net-exchange.result c.of_net-exchange.ensures.value c.of_net-exchange.ensures.limits c.requires.owed
     c.runs_go_on.ensures c.requires.sound c.requires.unread c.requires.known in
@@ -39,7 +40,7 @@ loop-unread-init g c =
     let sound = sound_read d [] in
     record {
       within = omega arith;
-      ready = ready_first n c.args.plan.now c.args.table.now c.requires.table c.requires.plan
+      ready = ready_first n c.args.plan.now c.args.table.now.table c.requires.table.table c.requires.plan
           c.nets_have_periods.ensures d c.args.frames c.args.output
           c.of_net-exchange.result c.of_net-exchange.ensures.value c.of_net-exchange.ensures.limits c.requires.owed
           c.blocking.result c.blocking.ensures v sound (c.in_ok-open_session.ensures.stands sound);
@@ -56,7 +57,8 @@ read_more-requires-clause-unspoilt g c =
     let p = c.args.plan.now.period in
     let j = c.args.plan.now.blocking in
     let d = c.args.content in
-    let can = can_flow n c.args.plan.now c.args.table.now c.requires.table c.requires.plan c.nets_have_periods.ensures d
+    let can = can_flow n c.args.plan.now c.args.table.now.table c.requires.table.table c.requires.plan
+    c.nets_have_periods.ensures d
     c.args.frames c.args.output
     c.of_net-exchange.result c.of_net-exchange.ensures.value c.of_net-exchange.ensures.limits c.requires.owed
     c.runs_go_on.ensures c.requires.sound c.requires.unread c.requires.known in
@@ -74,7 +76,8 @@ read_more-requires-clause-sized g c =
     let p = c.args.plan.now.period in
     let j = c.args.plan.now.blocking in
     let d = c.args.content in
-    let can = can_flow n c.args.plan.now c.args.table.now c.requires.table c.requires.plan c.nets_have_periods.ensures d
+    let can = can_flow n c.args.plan.now c.args.table.now.table c.requires.table.table c.requires.plan
+    c.nets_have_periods.ensures d
     c.args.frames c.args.output
     c.of_net-exchange.result c.of_net-exchange.ensures.value c.of_net-exchange.ensures.limits c.requires.owed
     c.runs_go_on.ensures c.requires.sound c.requires.unread c.requires.known in
@@ -92,7 +95,8 @@ read_more-requires-clause-enough g c =
     let p = c.args.plan.now.period in
     let j = c.args.plan.now.blocking in
     let d = c.args.content in
-    let can = can_flow n c.args.plan.now c.args.table.now c.requires.table c.requires.plan c.nets_have_periods.ensures d
+    let can = can_flow n c.args.plan.now c.args.table.now.table c.requires.table.table c.requires.plan
+    c.nets_have_periods.ensures d
     c.args.frames c.args.output
     c.of_net-exchange.result c.of_net-exchange.ensures.value c.of_net-exchange.ensures.limits c.requires.owed
     c.runs_go_on.ensures c.requires.sound c.requires.unread c.requires.known in
@@ -111,7 +115,8 @@ returns-in_err-samples g c =
     let p = c.args.plan.now.period in
     let j = c.args.plan.now.blocking in
     let d = c.args.content in
-    let can = can_flow n c.args.plan.now c.args.table.now c.requires.table c.requires.plan c.nets_have_periods.ensures d
+    let can = can_flow n c.args.plan.now c.args.table.now.table c.requires.table.table c.requires.plan
+    c.nets_have_periods.ensures d
     c.args.frames c.args.output
     c.of_net-exchange.result c.of_net-exchange.ensures.value c.of_net-exchange.ensures.limits c.requires.owed
     c.runs_go_on.ensures c.requires.sound c.requires.unread c.requires.known in
@@ -142,7 +147,8 @@ put_whole-requires-clause-whole g c κs within =
     let p = c.args.plan.now.period in
     let j = c.args.plan.now.blocking in
     let d = c.args.content in
-    let can = can_flow n c.args.plan.now c.args.table.now c.requires.table c.requires.plan c.nets_have_periods.ensures d
+    let can = can_flow n c.args.plan.now c.args.table.now.table c.requires.table.table c.requires.plan
+    c.nets_have_periods.ensures d
     c.args.frames c.args.output
     c.of_net-exchange.result c.of_net-exchange.ensures.value c.of_net-exchange.ensures.limits c.requires.owed
     c.runs_go_on.ensures c.requires.sound c.requires.unread c.requires.known in
@@ -165,7 +171,8 @@ put_whole-requires-clause-few g c κs within =
     let p = c.args.plan.now.period in
     let j = c.args.plan.now.blocking in
     let d = c.args.content in
-    let can = can_flow n c.args.plan.now c.args.table.now c.requires.table c.requires.plan c.nets_have_periods.ensures d
+    let can = can_flow n c.args.plan.now c.args.table.now.table c.requires.table.table c.requires.plan
+    c.nets_have_periods.ensures d
     c.args.frames c.args.output
     c.of_net-exchange.result c.of_net-exchange.ensures.value c.of_net-exchange.ensures.limits c.requires.owed
     c.runs_go_on.ensures c.requires.sound c.requires.unread c.requires.known in
@@ -187,7 +194,8 @@ put_whole-requires-clause-missing g c κs within =
     let p = c.args.plan.now.period in
     let j = c.args.plan.now.blocking in
     let d = c.args.content in
-    let can = can_flow n c.args.plan.now c.args.table.now c.requires.table c.requires.plan c.nets_have_periods.ensures d
+    let can = can_flow n c.args.plan.now c.args.table.now.table c.requires.table.table c.requires.plan
+    c.nets_have_periods.ensures d
     c.args.frames c.args.output
     c.of_net-exchange.result c.of_net-exchange.ensures.value c.of_net-exchange.ensures.limits c.requires.owed
     c.runs_go_on.ensures c.requires.sound c.requires.unread c.requires.known in
@@ -214,7 +222,8 @@ returns-in_err-kept g c =
     let p = c.args.plan.now.period in
     let j = c.args.plan.now.blocking in
     let d = c.args.content in
-    let can = can_flow n c.args.plan.now c.args.table.now c.requires.table c.requires.plan c.nets_have_periods.ensures d
+    let can = can_flow n c.args.plan.now c.args.table.now.table c.requires.table.table c.requires.plan
+    c.nets_have_periods.ensures d
     c.args.frames c.args.output
     c.of_net-exchange.result c.of_net-exchange.ensures.value c.of_net-exchange.ensures.limits c.requires.owed
     c.runs_go_on.ensures c.requires.sound c.requires.unread c.requires.known in
@@ -277,7 +286,8 @@ loop-unread-preserved g c =
     let p = c.args.plan.now.period in
     let j = c.args.plan.now.blocking in
     let d = c.args.content in
-    let can = can_flow n c.args.plan.now c.args.table.now c.requires.table c.requires.plan c.nets_have_periods.ensures d
+    let can = can_flow n c.args.plan.now c.args.table.now.table c.requires.table.table c.requires.plan
+    c.nets_have_periods.ensures d
     c.args.frames c.args.output
     c.of_net-exchange.result c.of_net-exchange.ensures.value c.of_net-exchange.ensures.limits c.requires.owed
     c.runs_go_on.ensures c.requires.sound c.requires.unread c.requires.known in
@@ -346,7 +356,8 @@ put_rest-requires-clause-whole g c κs within =
     let p = c.args.plan.now.period in
     let j = c.args.plan.now.blocking in
     let d = c.args.content in
-    let can = can_flow n c.args.plan.now c.args.table.now c.requires.table c.requires.plan c.nets_have_periods.ensures d
+    let can = can_flow n c.args.plan.now c.args.table.now.table c.requires.table.table c.requires.plan
+    c.nets_have_periods.ensures d
     c.args.frames c.args.output
     c.of_net-exchange.result c.of_net-exchange.ensures.value c.of_net-exchange.ensures.limits c.requires.owed
     c.runs_go_on.ensures c.requires.sound c.requires.unread c.requires.known in
@@ -366,7 +377,8 @@ returns g c =
     let p = c.args.plan.now.period in
     let j = c.args.plan.now.blocking in
     let d = c.args.content in
-    let can = can_flow n c.args.plan.now c.args.table.now c.requires.table c.requires.plan c.nets_have_periods.ensures d
+    let can = can_flow n c.args.plan.now c.args.table.now.table c.requires.table.table c.requires.plan
+    c.nets_have_periods.ensures d
     c.args.frames c.args.output
     c.of_net-exchange.result c.of_net-exchange.ensures.value c.of_net-exchange.ensures.limits c.requires.owed
     c.runs_go_on.ensures c.requires.sound c.requires.unread c.requires.known in

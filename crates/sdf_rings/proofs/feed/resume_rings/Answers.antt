@@ -1,12 +1,11 @@
 use Rattle.std.proofs.Common.{◌*◌, ℕ, List, sym, subst}
 use Rattle.std.proofs.lemmas.Result.{MatchResult-weaker}
 use Rattle.sdf_graph.specs.Rates.{rates}
-use Rattle.sdf_sched.specs.Period.{IsPeriodOf}
 use Rattle.sdf_prec.specs.Tables.{Tabled}
 use Rattle.sdf_actor.specs.Nets.{Netlist}
 use Rattle.sdf_actor.specs.Wires.{lists}
 use Rattle.sdf_answer.specs.Answer.{HasInputs, periods_of}
-use Rattle.sdf_answer.specs.Rows.{IsTableOf}
+use Rattle.sdf_answer.specs.Rows.{IsBlockTableOf}
 use Rattle.sdf_answer.specs.declared.fault.RunFault.{RunFault}
 use Rattle.sdf_answer.specs.declared.fault.RunFault.TheVariants.{OutOfMemory, InputLength, NotHomed, Patience, NoWorker}
 use Rattle.sdf_answer.specs.declared.fault.RunFault.TheVariants.{SessionFailed}
@@ -15,22 +14,17 @@ use Rattle.sdf_rings.proofs.feed.resume_rings.Goals as goal
 
 pub begun-requires-clause-rest : goal.begun-requires-clause-rest
 begun-requires-clause-rest g c κs within =
-    let q = c.args.period.now.repetitions in (
+    let q = c.args.given.now.table.now.period.repetitions in (
       c.requires.rest.0,
       periods_of q c.requires.rest.1,
-      c.begun_nets_go_on.ensures.whole c.args.net.now c.args.period.now c.requires.rest.1
-          (c.nets_have_periods.ensures c.args.period.now c.requires.period),
+      c.begun_nets_go_on.ensures.whole c.args.net.now c.args.given.now.table.now.period c.requires.rest.1
+          (c.nets_have_periods.ensures c.args.given.now.table.now.period c.requires.fits.period),
       c.requires.rest.2,
     )
 
-pub feed_rings-requires-clause-period : goal.feed_rings-requires-clause-period
-feed_rings-requires-clause-period g c κs within =
-    subst (λ x. IsPeriodOf (rates x) c.args.period.now) (sym c.in_ok-begun.ensures.graph) c.requires.period
-
-pub feed_rings-requires-clause-table : goal.feed_rings-requires-clause-table
-feed_rings-requires-clause-table g c κs within =
-    subst (λ x. IsTableOf (rates x) c.args.period.now.repetitions c.args.j c.args.given.now.table.now)
-    (sym c.in_ok-begun.ensures.graph) c.requires.table
+pub feed_rings-requires-clause-fits : goal.feed_rings-requires-clause-fits
+feed_rings-requires-clause-fits g c κs within =
+    subst (λ x. IsBlockTableOf (rates x) c.args.given.now.table.now) (sym c.in_ok-begun.ensures.graph) c.requires.fits
 
 -- a fault of the one net is one of the other, where they are given the same inputs
 fault_of : {A B T : Type 0} (m : Netlist B T) (n : Netlist A T) (q : List ℕ) (periods : ℕ) (inputs : List (List T))
@@ -48,8 +42,8 @@ pub returns : goal.returns
 returns g c =
     let n = c.args.net.now in
     let m = c.in_ok-begun.begun in
-    let q = c.args.period.now.repetitions in
-    let periods : ℕ = c.args.blocks * c.args.j in
+    let q = c.args.given.now.table.now.period.repetitions in
+    let periods : ℕ = c.args.blocks * c.args.given.now.table.now.factor in
     let later = lists c.args.inputs.now in
     let begins = c.in_ok-begun.ensures.begins in
     let asks = c.feeds_go_on.ensures.inputs n c.args.rest.now m q periods later begins in
@@ -57,10 +51,12 @@ returns g c =
     (λ fed made. record {
       homed = made.0.homed;
       patient = made.0.patient;
-      goes_on = c.begun_nets_go_on.ensures.runs n m c.args.period.now periods later (lists fed.0.outputs.items)
-          c.args.rest.now fed.1 (c.nets_have_periods.ensures c.args.period.now c.requires.period) begins
+      goes_on = c.begun_nets_go_on.ensures.runs n m c.args.given.now.table.now.period periods later
+          (lists fed.0.outputs.items)
+          c.args.rest.now fed.1 (c.nets_have_periods.ensures c.args.given.now.table.now.period
+          c.requires.fits.period) begins
           made.0.has made.1;
       rounds_few = made.0.rounds_few;
       rounds_some = made.0.rounds_some;
     })
-    (fault_of m n q periods later c.args.given.now.table.now c.args.patience asks.1)
+    (fault_of m n q periods later c.args.given.now.table.now.table c.args.patience asks.1)

@@ -6,37 +6,49 @@ use Rattle.sdf_rings.proofs.Starting.{can_start, is_asked}
 use Rattle.sdf_rings.proofs.prepare.prepare_homed.Goals as goal
 
 pub asked-requires : goal.asked-requires
-asked-requires g c = omega (arith, c.requires.table.short, ap (λ r. c.args.j * sum r) c.repetitions.ensures)
+asked-requires g c = omega (
+  arith,
+  c.requires.fits.table.short,
+  ap (λ r. c.args.given.now.table.now.factor * sum r) c.repetitions.ensures,
+)
 
 pub lay_out-requires-clause-start : goal.lay_out-requires-clause-start
 lay_out-requires-clause-start g c κs within =
     let n = c.args.net.now in
-    let p = c.args.period.now in
+    let p = c.args.given.now.table.now.period in
     let b = c.args.blocks in
-    let j = c.args.j in
+    let j = c.args.given.now.table.now.factor in
     can_start g.A.Actor.steps c.nets_can_run.ensures n p
-    (c.nets_have_periods.ensures c.args.period.now c.requires.period) b j c.in_ok-asked.field-0.items
+    (c.nets_have_periods.ensures c.args.given.now.table.now.period c.requires.fits.period) b j
+    c.in_ok-asked.field-0.items
     (c.in_ok-asked.ensures ∙ ap (map (λ q. b * (j * q))) c.repetitions.ensures)
     (lists c.args.inputs.now) c.samples_of_blocks.result c.first_sample.result c.net_facts.ensures.phases
     c.requires.inputs
     (c.samples_of_blocks.ensures ∙ ap (λ m. b * j * m)
-    (c.samples_out.ensures.value p.repetitions c.requires.period.least)) c.first_sample.ensures c.requires.some
+    (c.samples_out.ensures.value p.repetitions c.requires.fits.period.least)) c.first_sample.ensures c.requires.some
     (omega (arith, c.requires.inputs.count, c.net_facts.ensures.accepted.1.lists.input))
 
 pub lay_out-requires-clause-plan : goal.lay_out-requires-clause-plan
 lay_out-requires-clause-plan g c κs within =
     let n = c.args.net.now in
-    let p = c.args.period.now in
+    let p = c.args.given.now.table.now.period in
     let b = c.args.blocks in
-    let j = c.args.j in
+    let j = c.args.given.now.table.now.factor in
     is_asked g.A.Actor.steps c.nets_can_run.ensures n p
-    (c.nets_have_periods.ensures c.args.period.now c.requires.period) b j c.in_ok-asked.field-0.items
+    (c.nets_have_periods.ensures c.args.given.now.table.now.period c.requires.fits.period) b j
+    c.in_ok-asked.field-0.items
     (c.in_ok-asked.ensures ∙ ap (map (λ q. b * (j * q))) c.repetitions.ensures)
-    c.graphs_are_sound.ensures c.graphs_have_periods.ensures c.args.given.now.table.now c.args.given.now.rooms
-    c.requires.table c.requires.rooms
+    c.graphs_are_sound.ensures c.graphs_have_periods.ensures c.args.given.now.table.now.table c.args.given.now.rooms
+    c.requires.fits.table c.requires.rooms
 
 pub samples_of_blocks-requires : goal.samples_of_blocks-requires
 samples_of_blocks-requires g c =
-    let q = c.args.period.now.repetitions in
-    let few = c.blocks_are_small.ensures c.args.j q Outputs c.requires.period.least c.requires.table.short in
-    omega (arith, few, ap (λ m. c.args.j * m) (c.samples_out.ensures.value q c.requires.period.least))
+    let q = c.args.given.now.table.now.period.repetitions in
+    let few = c.blocks_are_small.ensures c.args.given.now.table.now.factor q Outputs c.requires.fits.period.least
+    c.requires.fits.table.short in
+    omega (
+      arith,
+      few,
+      ap (λ m. c.args.given.now.table.now.factor * m)
+          (c.samples_out.ensures.value q c.requires.fits.period.least),
+    )

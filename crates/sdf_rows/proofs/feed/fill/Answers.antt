@@ -19,7 +19,7 @@ returns-in_ok-held-in-Some g c =
     let s = g.A.Actor.steps in
     let n = c.args.net.now in
     let p = c.args.plan.now in
-    let q = p.period.now.repetitions in
+    let q = p.table.now.period.repetitions in
     let made = c.collect.new.outputs in
     let items = c.in_ok-outputs.outputs.items in
     let run = c.in_ok-fired-in-Some.fired in
@@ -33,8 +33,9 @@ returns-in_ok-held-in-Some g c =
     ∙ take-append_seam made (drop (length made) items) in
     let collected = subst (λ w. AreCollected n (length n.nodes) w made) c.deref_mut.ensures.value
     c.collect.ensures.lists in
-    subst (λ v. HasRun s n (lists c.args.inputs.now) (periods_of q (p.blocks * p.j)) (lists v) rest) (sym whole)
-    (row_run s n (lists c.args.inputs.now) q p.j p.blocks over.0 run.states.items run.queues.items over.1
+    subst (λ v. HasRun s n (lists c.args.inputs.now) (periods_of q (p.blocks * p.table.now.factor)) (lists v)
+    rest) (sym whole)
+    (row_run s n (lists c.args.inputs.now) q p.table.now.factor p.blocks over.0 run.states.items run.queues.items over.1
     c.histories_make_runs.ensures.runs c.actors_keep_states.ensures c.net_facts.ensures.net
     made collected count rest c.in_ok-kept_by-in-Some.ensures.all
     (λ a w l. c.in_ok-kept_by-in-Some.ensures.each a w l
@@ -46,7 +47,8 @@ returns-in_ok-first_rest-in-None g c =
     let n = c.args.net.now in
     let p = c.args.plan.now in
     let many_out = length-map c.in_ok-outputs.outputs.items (λ v. v.items) in
-    c.histories_make_runs.ensures.nothing n p.period.now.repetitions (p.blocks * p.j) (lists c.args.inputs.now)
+    c.histories_make_runs.ensures.nothing n p.table.now.period.repetitions (p.blocks * p.table.now.factor)
+    (lists c.args.inputs.now)
     (lists c.in_ok-outputs.outputs.items) c.in_ok-first_rest-in-None.field-0
     c.net_facts.ensures.net c.requires.inputs (omega
     (arith, c.requires.inputs.count, c.net_facts.ensures.accepted.1.lists.input)) c.requires.some

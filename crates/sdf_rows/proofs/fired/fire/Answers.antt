@@ -19,7 +19,7 @@ use Rattle.sdf_rows.proofs.Ends.{begins, have_blocks, the_none}
 use Rattle.sdf_rows.proofs.fired.fire.Goals as goal
 
 pub columns-requires : goal.columns-requires
-columns-requires g c = (c.requires.table.width, c.requires.table.table.wide)
+columns-requires g c = (c.requires.fits.table.width, c.requires.fits.table.table.wide)
 
 pub run_blocks-requires-clause-start : goal.run_blocks-requires-clause-start
 run_blocks-requires-clause-start g c = λ κs within.
@@ -28,16 +28,17 @@ run_blocks-requires-clause-start g c = λ κs within.
     let p = c.args.plan.now in
     let q = c.repetitions-repetitions.result.now in
     let same = c.repetitions-repetitions.ensures in
-    let least = subst (IsLeastPeriod (rates (graph_of s n))) (sym same) c.requires.period.least in
-    let can = subst (λ r. CanRun s n r (p.blocks * p.j) (lists c.args.inputs.now)) (sym same)
-    (c.nets_can_run.ensures n p.period.now (p.blocks * p.j) (lists c.args.inputs.now)
-    (c.nets_have_periods.ensures p.period.now c.requires.period) c.requires.inputs) in
-    let short = subst (λ r. p.j * sum r ≤ MOST_BLOCK) (sym same) c.requires.table.short in
+    let least = subst (IsLeastPeriod (rates (graph_of s n))) (sym same) c.requires.fits.period.least in
+    let can = subst (λ r. CanRun s n r (p.blocks * p.table.now.factor) (lists c.args.inputs.now)) (sym same)
+    (c.nets_can_run.ensures n p.table.now.period (p.blocks * p.table.now.factor) (lists c.args.inputs.now)
+    (c.nets_have_periods.ensures p.table.now.period c.requires.fits.period) c.requires.inputs) in
+    let short = subst (λ r. p.table.now.factor * sum r ≤ MOST_BLOCK) (sym same) c.requires.fits.table.short in
     begins s c.histories_make_outputs.ensures.begin n c.net_facts.ensures.net
-    (c.nets_are_wired.ensures.wired n c.net_facts.ensures.net) q p.j p.blocks (lists c.args.inputs.now) can
+    (c.nets_are_wired.ensures.wired n c.net_facts.ensures.net) q p.table.now.factor p.blocks
+    (lists c.args.inputs.now) can
     short (omega arith)
     c.samples_of_blocks-room.result (c.samples_of_blocks-room.ensures
-    ∙ ap (λ m. p.blocks * p.j * m) (c.samples_out.ensures.value q least))
+    ∙ ap (λ m. p.blocks * p.table.now.factor * m) (c.samples_out.ensures.value q least))
     c.deref_mut-4.result.now (λ a. ap (λ xs. get_or xs a 0) (c.deref_mut-4.ensures.value ∙ c.in_ok-done.ensures)
     ∙ get_or-map (λ (x : ℕ). the_none) q a 0)
     c.deref_mut-2.result.now c.deref_mut-3.result.now
@@ -70,7 +71,7 @@ returns g c =
     let p = c.args.plan.now in
     let k : ℕ → ℕ = (λ a. get_or c.run_blocks.new.done a 0) in
     let made = c.run_blocks.new.states in
-    let rest = subst (λ r. IsResting s n (lists c.args.inputs.now) r p.j p.blocks p.blocks k made
+    let rest = subst (λ r. IsResting s n (lists c.args.inputs.now) r p.table.now.factor p.blocks p.blocks k made
     c.run_blocks.new.queues) c.repetitions-repetitions.ensures c.run_blocks.ensures.over in
     let long : c.in_ok-states.states.len ≡ length made = omega (arith, c.in_ok-states.ensures.0, rest.between.nodes) in
     let whole = ap (λ m. take m (made ++ drop (length made) c.in_ok-states.states.items)) long
@@ -81,9 +82,11 @@ returns g c =
     let held_whole = ap (λ m. take m (held ++ drop (length held) c.in_ok-queues.queues.items)) held_long
     ∙ take-append_seam held (drop (length held) c.in_ok-queues.queues.items) in (
       k,
-      subst (λ v. IsResting s n (lists c.args.inputs.now) p.period.now.repetitions p.j p.blocks p.blocks k v
+      subst (λ v. IsResting s n (lists c.args.inputs.now) p.table.now.period.repetitions p.table.now.factor
+          p.blocks p.blocks k v
           (take c.in_ok-queues.queues.len (held ++ drop (length held) c.in_ok-queues.queues.items))) (sym whole)
-          (subst (λ v. IsResting s n (lists c.args.inputs.now) p.period.now.repetitions p.j p.blocks p.blocks k made v)
+          (subst (λ v. IsResting s n (lists c.args.inputs.now) p.table.now.period.repetitions p.table.now.factor
+          p.blocks p.blocks k made v)
           (sym held_whole) rest),
     )
 
@@ -100,22 +103,22 @@ run_blocks-requires-clause-alike g c = λ κs within. c.net_facts.ensures.alike
 pub run_blocks-requires-clause-period : goal.run_blocks-requires-clause-period
 run_blocks-requires-clause-period g c = λ κs within. subst
     (IsLeastPeriod (rates (graph_of g.A.Actor.steps c.args.net.now))) (sym c.repetitions-repetitions.ensures)
-    c.requires.period.least
+    c.requires.fits.period.least
 
 pub run_blocks-requires-clause-table : goal.run_blocks-requires-clause-table
 run_blocks-requires-clause-table g c = λ κs within.
-    subst (λ q. IsTableOf (rates (graph_of g.A.Actor.steps c.args.net.now)) q c.args.plan.now.j
-    c.args.plan.now.table.now) (sym c.repetitions-repetitions.ensures) c.requires.table
+    subst (λ q. IsTableOf (rates (graph_of g.A.Actor.steps c.args.net.now)) q c.args.plan.now.table.now.factor
+    c.args.plan.now.table.now.table) (sym c.repetitions-repetitions.ensures) c.requires.fits.table
 
 pub run_blocks-requires-clause-counted : goal.run_blocks-requires-clause-counted
 run_blocks-requires-clause-counted g c = λ κs within.
     ap length (c.deref_mut-4.ensures.value ∙ c.in_ok-done.ensures)
     ∙ (length-map c.repetitions-repetitions.result.now (λ (x : ℕ). the_none)
-    ∙ (ap length c.repetitions-repetitions.ensures ∙ c.requires.period.least.is.all))
+    ∙ (ap length c.repetitions-repetitions.ensures ∙ c.requires.fits.period.least.is.all))
 
 pub make_queues-requires-clause-all : goal.make_queues-requires-clause-all
 make_queues-requires-clause-all g c = λ κs within. ap length c.repetitions-repetitions.ensures
-    ∙ c.requires.period.least.is.all
+    ∙ c.requires.fits.period.least.is.all
 
 pub make_queues-requires-clause-short : goal.make_queues-requires-clause-short
 make_queues-requires-clause-short g c = λ κs within. λ a l.
@@ -124,19 +127,19 @@ make_queues-requires-clause-short g c = λ κs within. λ a l.
       arith,
       get_or-le-sum_by (λ x. x) q a 0 l,
       ap sum c.repetitions-repetitions.ensures,
-      c.requires.period.all,
-      c.requires.period.within,
+      c.requires.fits.period.all,
+      c.requires.fits.period.within,
     )
 
 pub make_queues-requires-clause-few : goal.make_queues-requires-clause-few
 make_queues-requires-clause-few g c = λ κs within.
-    let has = c.nets_have_periods.ensures c.args.plan.now.period.now c.requires.period in
-    factor_few c.args.plan.now.j c.args.plan.now.period.now.repetitions has.shape.some
-    c.requires.period.least.is.all c.requires.period.least.is.positive c.requires.table.short
+    let has = c.nets_have_periods.ensures c.args.plan.now.table.now.period c.requires.fits.period in
+    factor_few c.args.plan.now.table.now.factor c.args.plan.now.table.now.period.repetitions has.shape.some
+    c.requires.fits.period.least.is.all c.requires.fits.period.least.is.positive c.requires.fits.table.short
 
 pub samples_of_blocks-room-requires : goal.samples_of_blocks-room-requires
 samples_of_blocks-room-requires g c =
-    let j = c.args.plan.now.j in
-    let q = c.args.plan.now.period.now.repetitions in
-    let few = c.blocks_are_small.ensures j q Outputs c.requires.period.least c.requires.table.short in
-    omega (arith, few, ap (λ m. j * m) (c.samples_out.ensures.value q c.requires.period.least))
+    let j = c.args.plan.now.table.now.factor in
+    let q = c.args.plan.now.table.now.period.repetitions in
+    let few = c.blocks_are_small.ensures j q Outputs c.requires.fits.period.least c.requires.fits.table.short in
+    omega (arith, few, ap (λ m. j * m) (c.samples_out.ensures.value q c.requires.fits.period.least))

@@ -8,5 +8,5 @@ invariant-loop-c g l = record {
   producers : vec_len l.producers ≡ l.c;
   consumers : vec_len l.consumers ≡ l.c;
   each : (k : ℕ) → k < l.c → HasRing g.A.Actor.steps l.net
-      (roomy l.given.rooms (slice_index l.given.table.now.caps)) k l.producers.items l.consumers.items;
+      (roomy l.given.rooms (slice_index l.given.table.now.table.caps)) k l.producers.items l.consumers.items;
 }

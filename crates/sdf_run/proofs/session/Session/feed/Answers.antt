@@ -9,24 +9,29 @@ use Rattle.sdf_run.proofs.session.Session.feed.Goals as goal
 pub returns-in_default-blocks_in : goal.returns-in_default-blocks_in
 returns-in_default-blocks_in g c =
     let n = c.self.inside.net.now in
-    let q = c.self.inside.period.now.repetitions in
+    let q = c.self.inside.table.now.period.repetitions in
     let each = c.samples_in.ensures.value q c.self.invariant.period.least in
     let inputs = lists c.args.inputs.now in (
       (
         (c.in-Some.rest, sym (ap (λ v. v.rest) c.self.view_is) ∙ c.in-Some.is),
         λ blocks are. c.in_default-blocks_in.ensures.none blocks (subst (λ X. X)
-            (sym (blocks_same c.inputs.result (list_count Inputs n.nodes) c.self.inside.j c.samples_in.result
+            (sym (blocks_same c.inputs.result (list_count Inputs n.nodes) c.self.inside.table.now.factor
+            c.samples_in.result
             (period_samples n.nodes Inputs q) blocks inputs c.inputs.ensures each))
             (subst (λ v. FeedsBlocks v blocks inputs) (sym c.self.view_is) are)),
       ),
       refl,
     )
 
+pub go_on-fed-requires-clause-fits : goal.go_on-fed-requires-clause-fits
+go_on-fed-requires-clause-fits g c κs within =
+    record { period = c.self.invariant.period; table = c.self.invariant.table }
+
 pub go_on-fed-requires-clause-rest : goal.go_on-fed-requires-clause-rest
 go_on-fed-requires-clause-rest g c κs within =
     let stood = c.self.invariant.stands (c.in-Some.rest, c.in-Some.is) in (
       stood.1,
-      stood.0 * c.self.inside.j,
+      stood.0 * c.self.inside.table.now.factor,
       rest_of g.A.Actor.steps _ c.in-Some.rest c.in-Some.is stood.0 stood.1
           stood.2 stood.3,
     )
@@ -34,11 +39,11 @@ go_on-fed-requires-clause-rest g c κs within =
 pub invariant_of-self : goal.invariant_of-self
 invariant_of-self g c =
     let n = c.self.inside.net.now in
-    let q = c.self.inside.period.now.repetitions in
+    let q = c.self.inside.table.now.period.repetitions in
     let each = c.samples_in.ensures.value q c.self.invariant.period.least in
     let blocks = c.in-Some-blocks_in.blocks in
     let inputs = lists c.args.inputs.now in
-    let are = subst (λ X. X) (blocks_same c.inputs.result (list_count Inputs n.nodes) c.self.inside.j
+    let are = subst (λ X. X) (blocks_same c.inputs.result (list_count Inputs n.nodes) c.self.inside.table.now.factor
     c.samples_in.result (period_samples n.nodes Inputs q) blocks inputs c.inputs.ensures each)
     c.in-Some-blocks_in.ensures.some in
     record {
@@ -54,19 +59,19 @@ invariant_of-self g c =
 pub returns-in-Ok : goal.returns-in-Ok
 returns-in-Ok g c =
     let n = c.self.inside.net.now in
-    let q = c.self.inside.period.now.repetitions in
+    let q = c.self.inside.table.now.period.repetitions in
     let each = c.samples_in.ensures.value q c.self.invariant.period.least in
     let blocks = c.in-Some-blocks_in.blocks in
     let inputs = lists c.args.inputs.now in
     let made = lists c.in-Ok.ran.outputs.items in
-    let are = subst (λ X. X) (blocks_same c.inputs.result (list_count Inputs n.nodes) c.self.inside.j
+    let are = subst (λ X. X) (blocks_same c.inputs.result (list_count Inputs n.nodes) c.self.inside.table.now.factor
     c.samples_in.result (period_samples n.nodes Inputs q) blocks inputs c.inputs.ensures each)
     c.in-Some-blocks_in.ensures.some in
     let v : SessionValue g.row.A.Denot g.row.A-State.Denot g.row.A-Token.Denot = record {
       net = n;
-      period = c.self.inside.period.now;
-      factor = c.self.inside.j;
-      table = c.self.inside.table.now;
+      period = c.self.inside.table.now.period;
+      factor = c.self.inside.table.now.factor;
+      table = c.self.inside.table.now.table;
       mode = c.self.inside.mode;
       rest = c.self.inside.rest;
       blocks = c.self.inside.blocks;
@@ -89,18 +94,18 @@ returns-in-Ok g c =
 pub returns-in-Err : goal.returns-in-Err
 returns-in-Err g c =
     let n = c.self.inside.net.now in
-    let q = c.self.inside.period.now.repetitions in
+    let q = c.self.inside.table.now.period.repetitions in
     let each = c.samples_in.ensures.value q c.self.invariant.period.least in
     let blocks = c.in-Some-blocks_in.blocks in
     let inputs = lists c.args.inputs.now in
-    let are = subst (λ X. X) (blocks_same c.inputs.result (list_count Inputs n.nodes) c.self.inside.j
+    let are = subst (λ X. X) (blocks_same c.inputs.result (list_count Inputs n.nodes) c.self.inside.table.now.factor
     c.samples_in.result (period_samples n.nodes Inputs q) blocks inputs c.inputs.ensures each)
     c.in-Some-blocks_in.ensures.some in
     let v : SessionValue g.row.A.Denot g.row.A-State.Denot g.row.A-Token.Denot = record {
       net = n;
-      period = c.self.inside.period.now;
-      factor = c.self.inside.j;
-      table = c.self.inside.table.now;
+      period = c.self.inside.table.now.period;
+      factor = c.self.inside.table.now.factor;
+      table = c.self.inside.table.now.table;
       mode = c.self.inside.mode;
       rest = c.self.inside.rest;
       blocks = c.self.inside.blocks;
