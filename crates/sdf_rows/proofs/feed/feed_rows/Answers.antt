@@ -34,7 +34,12 @@ samples_of_blocks-least-requires g c =
     let q = c.args.table.now.period.repetitions in
     let few = c.blocks_are_small.ensures c.args.table.now.factor q Inputs c.requires.fits.period.least
     c.requires.fits.table.short in
-    omega (arith, few, ap (λ m. c.args.table.now.factor * m) (c.samples_in.ensures.value q c.requires.fits.period.least))
+    omega (
+      arith,
+      few,
+      ap (λ m. c.args.table.now.factor * m)
+          (c.samples_in.ensures.value q c.requires.fits.period.least),
+    )
 
 pub returns-then-not-are_inputs : goal.returns-then-not-are_inputs
 returns-then-not-are_inputs g c = λ has.
@@ -58,4 +63,5 @@ fill-requires-clause-inputs g c = λ κs within.
 
 pub fill-requires-clause-some : goal.fill-requires-clause-some
 fill-requires-clause-some g c = λ κs within. subst (λ m. 0 < m)
-    (c.samples_in.ensures.value c.args.table.now.period.repetitions c.requires.fits.period.least) c.samples_in.ensures.some
+    (c.samples_in.ensures.value c.args.table.now.period.repetitions c.requires.fits.period.least)
+    c.samples_in.ensures.some
