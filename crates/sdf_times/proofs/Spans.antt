@@ -1,6 +1,6 @@
 -- The work, the span and the bound as they are found.
 use Rattle.std.proofs.Common.{◌≡◌, ℕ, zero, suc, ◌+◌, ◌*◌, ◌/◌, ◌%◌, ◌≤◌, ◌<◌, ◌⊎◌, List, [], ◌∷◌, length, get_or, max}
-use Rattle.std.proofs.Common.{min, sum, inl, inr, sym, ap, subst, arith, refl}
+use Rattle.std.proofs.Common.{min, sum, inl, inr, sym, ap, ◌∙◌, arith, refl, subst}
 use Rattle.std.proofs.lemmas.Bool.{cases_lt}
 use Rattle.std.proofs.lemmas.Grind.{div_ceil_times}
 use Rattle.std.proofs.lemmas.List.{get_or_past}
@@ -38,60 +38,61 @@ firings_few j reps a short = let low = mul-le j (get_or reps a 0) j (sum reps) (
 pub term_small : (k x : ℕ) → k ≤ MOST_BLOCK → x ≤ MOST_COST → k * x ≤ MOST_BLOCK * MOST_COST
 term_small k x h l = mul-le k x MOST_BLOCK MOST_COST h l
 
-pub product_some : (j x : ℕ) → 1 ≤ j → 0 < x → 0 < j * x
-product_some j x h l = let low = mul-le 1 1 j x h (omega arith) in omega (arith, low)
-
 -- the first firing of an actor that fires is one of the block
-pub first_in : (j : ℕ) (reps n : List ℕ) (a : ℕ) → n ≡ block j reps → 1 ≤ j → 0 < get_or reps a 0 →
-    InBlock n (record { actor = a; number = 0 })
-first_in j reps n a is some fires = subst (λ n. InBlock n (record { actor = a; number = 0 })) (sym is)
-    (known (cases_lt a (length reps)), omega (arith, block_at j reps a, product_some j (get_or reps a 0) some fires))
+pub first_in : (n : List ℕ) (a : ℕ) → 0 < get_or n a 0 → InBlock n (record { actor = a; number = 0 })
+first_in n a fires = (known (cases_lt a (length n)), fires)
   where
-    known : (a < length reps) ⊎ (length reps ≤ a) → a < length (block j reps)
-    known (inl l) = omega (arith, block_length j reps)
-    known (inr past) = absurd (omega (arith, get_or_past reps a 0 past))
+    known : (a < length n) ⊎ (length n ≤ a) → a < length n
+    known (inl l) = l
+    known (inr past) = absurd (omega (arith, get_or_past n a 0 past))
 
-abbrev pub FirstLevel : Numbered → List ℕ → ℕ → ℕ → Type 0
-FirstLevel s reps i u = (a : ℕ) × (a < i) × (0 < get_or reps a 0) × (number s (record { actor = a; number = 0 }) ≡ u)
+-- how often an actor fires in the block
+pub count_is : (j : ℕ) (reps n : List ℕ) (a x y count : ℕ) → n ≡ block j reps → x ≡ j → y ≡ get_or reps a 0 →
+    count ≡ x * y → get_or n a 0 ≡ count
+count_is j reps n a x y count is one two all =
+    ap (λ n. get_or n a 0) is ∙ (block_at j reps a ∙ ((λ k. sym one k * sym two k) ∙ sym all))
 
-pub first_more : (s : Numbered) (reps : List ℕ) (i t x : ℕ) → 0 < get_or reps i 0 →
-    x ≡ number s (record { actor = i; number = 0 }) → IsGreatest (FirstLevel s reps i) t →
-    IsGreatest (FirstLevel s reps (i + 1)) (max t x)
-first_more s reps i t x fires is g =
-    greatest_more (FirstLevel s reps i) (FirstLevel s reps (i + 1)) t x g (λ u w. (w.0, omega (arith, w.1), w.2, w.3))
+abbrev pub FirstLevel : Numbered → ℕ → ℕ → Type 0
+FirstLevel s i u = (a : ℕ) × (a < i) × (0 < get_or s.firings a 0) × (number s (record { actor = a; number = 0 }) ≡ u)
+
+pub first_more : (s : Numbered) (i t x : ℕ) → 0 < get_or s.firings i 0 →
+    x ≡ number s (record { actor = i; number = 0 }) → IsGreatest (FirstLevel s i) t →
+    IsGreatest (FirstLevel s (i + 1)) (max t x)
+first_more s i t x fires is g =
+    greatest_more (FirstLevel s i) (FirstLevel s (i + 1)) t x g (λ u w. (w.0, omega (arith, w.1), w.2, w.3))
     (inr (i, omega arith, fires, sym is))
     (λ u w. back u w.0 w.1 w.2 w.3 (cases_lt w.0 i))
   where
-    back : (u a : ℕ) → a < i + 1 → 0 < get_or reps a 0 → number s (record { actor = a; number = 0 }) ≡ u →
-        (a < i) ⊎ (i ≤ a) → FirstLevel s reps i u ⊎ (u ≤ x)
+    back : (u a : ℕ) → a < i + 1 → 0 < get_or s.firings a 0 → number s (record { actor = a; number = 0 }) ≡ u →
+        (a < i) ⊎ (i ≤ a) → FirstLevel s i u ⊎ (u ≤ x)
     back u a l fire e (inl low) = inl (a, low, fire, e)
     back u a l fire e (inr high) =
         let same : a ≡ i = omega arith in
         inr (omega (arith, is, e, ap (λ a. number s (record { actor = a; number = 0 })) same))
 
-pub first_skip : (s : Numbered) (reps : List ℕ) (i t : ℕ) → (0 < get_or reps i 0 → ⊥) →
-    IsGreatest (FirstLevel s reps i) t → IsGreatest (FirstLevel s reps (i + 1)) t
-first_skip s reps i t idle g =
-    greatest_same (FirstLevel s reps i) (FirstLevel s reps (i + 1)) t (λ u w. (w.0, omega (arith, w.1), w.2, w.3))
+pub first_skip : (s : Numbered) (i t : ℕ) → (0 < get_or s.firings i 0 → ⊥) →
+    IsGreatest (FirstLevel s i) t → IsGreatest (FirstLevel s (i + 1)) t
+first_skip s i t idle g =
+    greatest_same (FirstLevel s i) (FirstLevel s (i + 1)) t (λ u w. (w.0, omega (arith, w.1), w.2, w.3))
     (λ u w. back u w.0 w.1 w.2 w.3 (cases_lt w.0 i)) g
   where
-    back : (u a : ℕ) → a < i + 1 → 0 < get_or reps a 0 → number s (record { actor = a; number = 0 }) ≡ u →
-        (a < i) ⊎ (i ≤ a) → FirstLevel s reps i u
+    back : (u a : ℕ) → a < i + 1 → 0 < get_or s.firings a 0 → number s (record { actor = a; number = 0 }) ≡ u →
+        (a < i) ⊎ (i ≤ a) → FirstLevel s i u
     back u a l fire e (inl low) = (a, low, fire, e)
     back u a l fire e (inr high) =
         let same : a ≡ i = omega arith in
-        absurd (idle (omega (arith, fire, ap (λ a. get_or reps a 0) same)))
+        absurd (idle (omega (arith, fire, ap (λ a. get_or s.firings a 0) same)))
 
-pub first_all : (s : Numbered) (reps : List ℕ) (i t : ℕ) → length reps ≤ i → IsGreatest (FirstLevel s reps i) t →
-    IsGreatest (λ u. (a : ℕ) × (0 < get_or reps a 0) × (number s (record { actor = a; number = 0 }) ≡ u)) t
-first_all s reps i t past g =
-    greatest_same (FirstLevel s reps i) (λ u. (a : ℕ) × (0 < get_or reps a 0)
+pub first_all : (s : Numbered) (i t : ℕ) → length s.firings ≤ i → IsGreatest (FirstLevel s i) t →
+    IsGreatest (λ u. (a : ℕ) × (0 < get_or s.firings a 0) × (number s (record { actor = a; number = 0 }) ≡ u)) t
+first_all s i t past g =
+    greatest_same (FirstLevel s i) (λ u. (a : ℕ) × (0 < get_or s.firings a 0)
     × (number s (record { actor = a; number = 0 }) ≡ u)) t
     (λ u w. (w.0, w.2, w.3)) (λ u w. (w.0, known w.0 w.1 (cases_lt w.0 i), w.1, w.2)) g
   where
-    known : (a : ℕ) → 0 < get_or reps a 0 → (a < i) ⊎ (i ≤ a) → a < i
+    known : (a : ℕ) → 0 < get_or s.firings a 0 → (a < i) ⊎ (i ≤ a) → a < i
     known a fire (inl low) = low
-    known a fire (inr high) = absurd (omega (arith, get_or_past reps a 0 (omega arith)))
+    known a fire (inr high) = absurd (omega (arith, get_or_past s.firings a 0 (omega arith)))
 
 module _ (r : Rates) (n cost : ℕ → ℕ) (a : ℕ) where
   chain_first : (f : Firing) (gs : List Firing) → IsChain r n f gs → IsOfBlock r n f
@@ -110,41 +111,35 @@ module _ (r : Rates) (n cost : ℕ → ℕ) (a : ℕ) where
       (x.0, x.1, omega (arith, x.2))
 
 -- the greatest level is that of a first firing
-pub span_is : (r : Rates) (cost : ℕ → ℕ) (s : Numbered) (j : ℕ) (reps : List ℕ) (t : ℕ) → 1 ≤ j →
-    length reps ≡ r.actors → AreLevels r (block j reps) cost s →
-    IsGreatest (λ u. (a : ℕ) × (0 < get_or reps a 0) × (number s (record { actor = a; number = 0 }) ≡ u)) t →
-    IsSpan r (λ a. get_or (block j reps) a 0) cost t
-span_is r cost s j reps t some all levels g = record { above = λ u w. above u w.0 w.1 w.2; reached = reach g.reached }
+pub span_is : (r : Rates) (n : List ℕ) (cost : ℕ → ℕ) (s : Numbered) (t : ℕ) → length n ≡ r.actors →
+    AreLevels r n cost s →
+    IsGreatest (λ u. (a : ℕ) × (0 < get_or s.firings a 0) × (number s (record { actor = a; number = 0 }) ≡ u)) t →
+    IsSpan r (λ a. get_or n a 0) cost t
+span_is r n cost s t all levels g = record { above = λ u w. above u w.0 w.1 w.2; reached = reach g.reached }
   where
-    fires : (a k : ℕ) → k < get_or (block j reps) a 0 → (0 < get_or reps a 0) ⊎ (get_or reps a 0 ≤ 0) →
-        0 < get_or reps a 0
-    fires a k l (inl h) = h
-    fires a k l (inr z) =
-        let none : get_or reps a 0 ≡ 0 = omega arith in
-        absurd (omega (arith, block_at j reps a, ap (λ x. j * x) none))
+    at : (a : ℕ) → get_or s.firings a 0 ≡ get_or n a 0
+    at a = ap (λ n. get_or n a 0) levels.firings
 
-    above : (u : ℕ) (f : Firing) → IsOfBlock r (λ a. get_or (block j reps) a 0) f →
-        IsLevel r (λ a. get_or (block j reps) a 0) cost f u → u ≤ t
+    above : (u : ℕ) (f : Firing) → IsOfBlock r (λ a. get_or n a 0) f → IsLevel r (λ a. get_or n a 0) cost f u → u ≤ t
     above u f of level =
-        let fire = fires f.actor f.number of.1 (cases_lt 0 (get_or reps f.actor 0)) in
-        let in_block = first_in j reps (block j reps) f.actor refl some fire in
-        let first = levels.each (record { actor = f.actor; number = 0 }) in_block in
+        let fire : 0 < get_or n f.actor 0 = omega (arith, of.1) in
+        let first = levels.each (record { actor = f.actor; number = 0 }) (first_in n f.actor fire) in
         let chain = level.reached in
-        let long = from_first r (λ a. get_or (block j reps) a 0) cost f.actor f.number chain.0 chain.1 in
+        let long = from_first r (λ a. get_or n a 0) cost f.actor f.number chain.0 chain.1 in
         let low = first.above long.0 long.1 in
-        let high = g.above (number s (record { actor = f.actor; number = 0 })) (f.actor, fire, refl) in
+        let high = g.above (number s (record { actor = f.actor; number = 0 }))
+        (f.actor, omega (arith, fire, at f.actor), refl) in
         omega (arith, chain.2, long.2, low, high)
 
-    reach : (t ≡ 0) ⊎ ((a : ℕ) × (0 < get_or reps a 0) × (number s (record { actor = a; number = 0 }) ≡ t)) →
-        (t ≡ 0) ⊎ ((f : Firing) × IsOfBlock r (λ a. get_or (block j reps) a 0) f
-        × IsLevel r (λ a. get_or (block j reps) a 0) cost f t)
+    reach : (t ≡ 0) ⊎ ((a : ℕ) × (0 < get_or s.firings a 0) × (number s (record { actor = a; number = 0 }) ≡ t)) →
+        (t ≡ 0) ⊎ ((f : Firing) × IsOfBlock r (λ a. get_or n a 0) f × IsLevel r (λ a. get_or n a 0) cost f t)
     reach (inl z) = inl z
     reach (inr (a, fire, is)) =
-        let in_block = first_in j reps (block j reps) a refl some fire in
+        let in_block = first_in n a (omega (arith, fire, at a)) in
         inr (
           record { actor = a; number = 0 },
-          (omega (arith, in_block.0, block_length j reps, all), in_block.1),
-          subst (IsLevel r (λ a. get_or (block j reps) a 0) cost (record { actor = a; number = 0 })) is
+          (omega (arith, in_block.0, all), in_block.1),
+          subst (IsLevel r (λ a. get_or n a 0) cost (record { actor = a; number = 0 })) is
               (levels.each (record { actor = a; number = 0 }) in_block),
         )
 

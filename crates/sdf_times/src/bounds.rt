@@ -3,14 +3,14 @@
 ghost use Rattle.std.specs.Prelude.{◌≡◌, ℕ, ◌≤◌, ◌<◌, length, slice_index, MatchResult};
 ghost use Rattle.sdf_graph.specs.Rates.{rates};
 ghost use Rattle.sdf_sched.specs.Period.{IsPeriodOf};
-ghost use Rattle.sdf_prec.specs.Blocks.{block, IsShort, IsBlockFault};
+ghost use Rattle.sdf_prec.specs.Blocks.{block, IsShort, IsLengthFault};
 ghost use Rattle.sdf_prec.specs.Costs.{AreCosts};
 ghost use Rattle.sdf_prec.specs.Numbers.{number};
 ghost use Rattle.sdf_times.specs.Times.{IsGreatest, work_of, IsSpan, IsBound};
 
 use sdf_graph::Graph;
 use sdf_limits::MOST_ACTORS;
-use sdf_prec::levels::levels;
+use sdf_prec::levels::block_levels;
 use sdf_prec::{Costs, Firing, Levels, PrecFault};
 use sdf_sched::Period;
 use std::alloc::Global;
@@ -32,22 +32,22 @@ pub fn work(reps: &[u32], j: u32, costs: &Costs) -> u64
 
 /// The greatest level of the actors' first firings.
 fn first_levels(of: &Levels, reps: &[u32], j: u32) -> u64
-    requires some { 1 ≤ j }
-    requires block { of.now.firings ≡ block j reps.now }
-    ensures { IsGreatest (λ u. (a : ℕ) × (0 < slice_index reps.now a)
+    requires { of.now.firings ≡ block j reps.now }
+    ensures { IsGreatest (λ u. (a : ℕ) × (0 < slice_index of.now.firings a)
         × (number of.now (record { actor = a; number = 0 }) ≡ u)) result }
 {
     let mut most = 0u64;
     for actor in 0..reps.len() {
-        if reps[actor] > 0 {
+        let count = u64::from(j) * u64::from(reps[actor]);
+        if count > 0 {
             most = most.max(of.of(Firing { actor, number: 0 }));
         }
     }
     most
 }
 
-/// The greatest level of the firings of a block of `j` periods: what its costliest chain costs. A fault is one of
-/// `BlockingFactor` and `BlockTooLong`.
+/// The greatest level of the firings of a block of `j` periods, which may pass 64: what its costliest chain costs, and
+/// 0 for no period. A fault is `BlockTooLong`, or else memory was refused.
 pub fn span(
     alloc: Global,
     graph: &Graph,
@@ -58,10 +58,11 @@ pub fn span(
     requires period { IsPeriodOf (rates graph.now) period.now }
     requires costs { AreCosts graph.now.actors costs.now }
     ensures { MatchResult result
-        (IsSpan (rates graph.now) (slice_index (block j period.now.repetitions)) (slice_index costs.now))
-        (IsBlockFault j period.now.repetitions) }
+        (λ t. IsShort j period.now.repetitions
+        × IsSpan (rates graph.now) (slice_index (block j period.now.repetitions)) (slice_index costs.now) t)
+        (IsLengthFault j period.now.repetitions) }
 {
-    let of = levels(alloc, graph, period, j, costs)?;
+    let of = block_levels(alloc, graph, period, j, costs)?;
     Ok(first_levels(&of, period.repetitions(), j))
 }
 
