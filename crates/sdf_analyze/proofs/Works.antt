@@ -1,4 +1,5 @@
--- The work of a block is small, and figures by a net's graph and by the costs of a table are those of the design.
+-- The work of a block is small, and figures by a net's graph and by the costs of a table are those of the design. None
+-- are wanting but for memory.
 use Rattle.std.proofs.Common.{◌≡◌, ◌≤◌, ◌*◌, ℕ, zero, suc, List, [], ◌∷◌, get_or}
 use Rattle.std.proofs.Common.{sum, subst, refl}
 use Rattle.std.proofs.Common.{arith}
@@ -8,7 +9,9 @@ use Rattle.std.proofs.lemmas.Nat.{mul-le}
 use Rattle.sdf_limits.specs.declared.TheConstants.{MOST_BLOCK, MOST_COST}
 use Rattle.sdf_graph.specs.Rates.{Shape, rates}
 use Rattle.sdf_sched.specs.Period.{Schedule}
-use Rattle.sdf_prec.specs.Blocks.{block, IsShort}
+use Rattle.sdf_prec.specs.declared.fault.PrecFault.{PrecFault}
+use Rattle.sdf_prec.specs.declared.fault.PrecFault.TheVariants.{OutOfMemory, BlockTooLong}
+use Rattle.sdf_prec.specs.Blocks.{block, IsShort, IsLengthFault}
 use Rattle.sdf_prec.specs.Costs.{AreCosts}
 use Rattle.sdf_prec.specs.Tables.{Tabled}
 use Rattle.sdf_times.specs.Times.{work_of}
@@ -46,3 +49,9 @@ work_small j reps costs m (suc n) short priced within =
     let low = mul-le (get_or (block j reps) n 0) (get_or costs n 0) MOST_BLOCK MOST_COST
     (firings_few j reps n short) cheap in
     omega (arith, so_far, low)
+
+-- where a block is short nothing is wrong with its length
+pub only_memory : (j : ℕ) (reps : List ℕ) (e : PrecFault) → IsShort j reps → IsLengthFault j reps e → e ≡ OutOfMemory
+only_memory j reps OutOfMemory short is = refl
+only_memory j reps BlockTooLong short is = absurd (is short)
+only_memory j reps _ short is = absurd is

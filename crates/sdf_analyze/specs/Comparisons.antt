@@ -1,5 +1,5 @@
 -- What the command `analyze --compare` prints.
-use Rattle.std.specs.Prelude.{◌≡◌, ◌⊎◌, ℕ, List, length, map}
+use Rattle.std.specs.Prelude.{◌≡◌, ℕ, List, length, map}
 use Rattle.std.specs.List.{All}
 use Rattle.sdf_prec.specs.Tables.{Tabled}
 use Rattle.sdf_prec.specs.declared.fault.PrecFault.{PrecFault}
@@ -13,7 +13,7 @@ use Rattle.sdf_analyze.specs.declared.columns.Outcome.TheVariants.{Made, Refused
 use Rattle.sdf_analyze.specs.declared.columns.Entry.{Entry}
 use Rattle.sdf_analyze.specs.Figures.{Figured}
 use Rattle.sdf_analyze.specs.Texts.{hundredths}
-use Rattle.sdf_analyze.specs.Analyses.{IsFigured, IsLong}
+use Rattle.sdf_analyze.specs.Analyses.{IsFigured}
 use Rattle.sdf_analyze.specs.Ways.{ways}
 use Rattle.sdf_analyze.specs.Columns.{comparison_text}
 
@@ -51,7 +51,7 @@ pub record IsMade (d : DesignValue) (o : Options) (m : Measures) : Type 0 where
 -- they give none, and the number is that of the fault
 pub record IsRefused (d : DesignValue) (o : Options) (number : ℕ) : Type 0 where
   pub fault : PrecFault
-  pub why : IsUnplaced d o fault ⊎ ((fault ≡ prec.BlockingFactor) × IsLong d o)
+  pub why : IsUnplaced d o fault
   pub is : number ≡ number_of fault
 
 abbrev pub IsOutcome : DesignValue → Options → Outcome → Type 0

@@ -1,10 +1,10 @@
 //! What a schedule does with its time and its links, as a text.
 
 ghost use Rattle.std.specs.Prelude.{MatchResult, string_bytes};
-ghost use Rattle.sdf_analyze.specs.Analyses.{IsFigured, IsFigureFault, IsAnalysis};
+ghost use Rattle.sdf_process.specs.Schedules.{IsShowFault};
+ghost use Rattle.sdf_analyze.specs.Analyses.{IsFigured, IsAnalysis};
 
 use crate::figures::Figures;
-use crate::laws::figures_fail;
 use crate::lines::analysis_text;
 use sdf_file::Design;
 use sdf_options::Options;
@@ -14,17 +14,16 @@ use sdf_process::schedule::scheduled;
 use std::alloc::Global;
 
 /// The periods of a block and the table that options give a design, and its figures. The tests are those of
-/// `sdf_process::schedule::scheduled`; and a block of more than 64 periods, as actors that are spread may have, has no
-/// figures: 11.
+/// `sdf_process::schedule::scheduled`.
+#[tactic(auto, using(crate::proofs::Refusals::memory_shows))]
 pub fn figured(
     alloc: Global,
     design: &Design,
     options: &Options,
 ) -> Result<(u32, Table, Figures), Fault>
     ensures { MatchResult result (λ r. IsFigured design.now options.now r.0 r.1 r.2)
-        (IsFigureFault design.now options.now) }
+        (IsShowFault design.now options.now) }
 {
-    figures_fail();
     let (period, table, blocking) = scheduled(alloc, design, options)?;
     let placed = Options {
         blocking,
@@ -40,7 +39,7 @@ pub fn figured(
 /// most, and what each of them does. Hundredths are rounded down. The tests are those of `figured`.
 pub fn analyze(alloc: Global, design: &Design, options: &Options) -> Result<String, Fault>
     ensures { MatchResult result (λ s. IsAnalysis design.now options.now (string_bytes s))
-        (IsFigureFault design.now options.now) }
+        (IsShowFault design.now options.now) }
 {
     let (_, table, figures) = figured(alloc, design, options)?;
     let text = analysis_text(alloc, design, &table, &figures, options.workers)?;

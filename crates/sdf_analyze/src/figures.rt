@@ -2,8 +2,9 @@
 
 ghost use Rattle.std.specs.Prelude.{◌≡◌, ◌<◌, length, slice_index, MatchResult, IfOk};
 ghost use Rattle.sdf_sched.specs.Period.{IsPeriodOf};
-ghost use Rattle.sdf_prec.specs.Blocks.{IsWorkers, IsShort, IsBlockFault};
+ghost use Rattle.sdf_prec.specs.Blocks.{IsWorkers, IsShort};
 ghost use Rattle.sdf_prec.specs.Tables.{IsTable};
+ghost use Rattle.sdf_prec.specs.declared.fault.PrecFault.TheVariants.{OutOfMemory};
 ghost use Rattle.sdf_prec.specs.declared.firing.Firing.{Firing};
 ghost use Rattle.sdf_times.specs.Times.{HasStart, start_in};
 ghost use Rattle.sdf_process.specs.Placements.{rates_of, firings_of};
@@ -53,7 +54,9 @@ impl Model for Figures {
 }
 
 impl Figures {
-    /// Those of the table of a design's period for a block of the options, which has at most 64 periods.
+    /// Those of the table of a design's period for a block of the options, which may have more than 64 periods. The
+    /// only fault is that memory was refused.
+    #[tactic(auto, using(crate::proofs::Works::only_memory))]
     pub fn of(
         alloc: Global,
         design: &Design,
@@ -68,7 +71,7 @@ impl Figures {
             options.now.workers table.now }
         ensures { MatchResult result
             (AreFiguresOf design.now options.now.blocking options.now.workers period.now table.now)
-            (IsBlockFault options.now.blocking period.now.repetitions) }
+            (λ fault. fault ≡ OutOfMemory) }
     {
         let graph = design.net().graph();
         let _ = graph.channels();

@@ -11,7 +11,6 @@ pub mod analysis;
 mod columns;
 pub mod comparison;
 pub mod figures;
-pub mod laws;
 pub mod lines;
 #[cfg(test)]
 mod tests;

@@ -1,4 +1,5 @@
-//! Worked designs: a fork of two ways with three rows of costs, and two actors that move blocks.
+//! Worked designs: a fork of two ways with three rows of costs, two actors that move blocks, and a block of 1,024
+//! periods.
 
 use crate::{analyze, compare};
 use sdf_file::{Design, read_design};
@@ -110,5 +111,31 @@ fn blocks_compared(rt: HostRuntime) -> Result<(), Fail> {
     };
     let text = compare(alloc, &design, &options)?;
     assert_eq!(rt; text.as_str(), COMPARED);
+    Ok(())
+}
+
+/// What comes in goes out, a sample at a time.
+const CHAIN: &str = "format = 1
+actor = [{ name = \"in\", kind = \"input\", channel = 0 }, { name = \"out\", kind = \"output\", channel = 0 }]
+link = [{ from = \"in\", to = \"out\" }]";
+
+/// 1,024 samples are a block, and one worker has both actors. Of the firings of a chain each waits for the one before:
+/// all of `in` and the last of `out`, or the first of `in` and all of `out`.
+const LONG: &str =
+    "makespan 2048\nwork 2048\nspan 1025\nbound 1025\nspeedup 1.00 of 2\nworker 0 0 %\n\
+    worker 1 100 %\nsamples held 1024, 4096 bytes\ncapacity in:0 out:0 1024, 4096 bytes\n";
+
+/// Figures of blocks of at most 64 periods alone fail here.
+#[test]
+fn figures_of_a_long_block(rt: HostRuntime) -> Result<(), Fail> {
+    let alloc = rt.alloc();
+    let design = read_design(alloc, CHAIN.as_bytes(), &[])?;
+    let options = Options {
+        workers: 2,
+        placement: Placement::Spread,
+        ..Options::DEFAULT
+    };
+    let text = analyze(alloc, &design, &options)?;
+    assert_eq!(rt; text.as_str(), LONG);
     Ok(())
 }

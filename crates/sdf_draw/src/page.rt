@@ -2,7 +2,7 @@
 
 ghost use Rattle.std.specs.Prelude.{◌≡◌, ◌<◌, ◌≤◌, ◌++◌, IfOk, MatchResult, OnOk, length, string_bytes, codes};
 ghost use Rattle.sdf_limits.specs.declared.TheConstants.{MOST_WORKERS};
-ghost use Rattle.sdf_analyze.specs.Analyses.{IsFigureFault};
+ghost use Rattle.sdf_process.specs.Schedules.{IsShowFault};
 ghost use Rattle.sdf_draw.specs.Bars.{AreDrawable};
 ghost use Rattle.sdf_draw.specs.Drawings.{drawn_of, IsDrawing};
 ghost use Rattle.sdf_draw.specs.Pictures.{size_text, view_text, page_text, legend_text, head_text, chart_top};
@@ -14,7 +14,6 @@ use crate::chart::{CHART, ROW, push_chart};
 use crate::layout::{Layout, laid_out};
 use crate::texts::push_number;
 use sdf_analyze::Figures;
-use sdf_analyze::laws::figures_fail;
 use sdf_file::Design;
 use sdf_options::Options;
 use sdf_prec::Table;
@@ -175,11 +174,11 @@ fn picture(
 }
 
 /// What is drawn of a design by options.
+#[tactic(auto, using(crate::proofs::Drawable::memory_shows))]
 fn drawn(alloc: Global, design: &Design, options: &Options) -> Result<Drawing, Fault>
     ensures { MatchResult result (λ w. IsDrawing design.now options.now (drawn_of w))
-        (IsFigureFault design.now options.now) }
+        (IsShowFault design.now options.now) }
 {
-    figures_fail();
     let _ = design.net();
     let (period, table, blocking) = scheduled(alloc, design, options)?;
     let placed = Options {
@@ -198,10 +197,10 @@ fn drawn(alloc: Global, design: &Design, options: &Options) -> Result<Drawing, F
 }
 
 /// What the command `draw` prints: one SVG of a design, its actors as boxes and its links as arrows, and below them the
-/// firings of its schedule against time. The tests are those of `sdf_analyze::figured`.
+/// firings of its schedule against time. The tests are those of `sdf_process::schedule::scheduled`.
 pub fn svg(alloc: Global, design: &Design, options: &Options) -> Result<String, Fault>
     ensures { MatchResult result (λ s. IsPicture design.now options.now (string_bytes s))
-        (IsFigureFault design.now options.now) }
+        (IsShowFault design.now options.now) }
 {
     let drawing = drawn(alloc, design, options)?;
     let text = picture(alloc, design, &drawing, options.workers)?;

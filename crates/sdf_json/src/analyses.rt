@@ -3,7 +3,7 @@
 ghost use Rattle.std.specs.Prelude.{◌≡◌, ◌<◌, ◌≤◌, ◌∷◌, ◌++◌, [], IfOk, OnOk, MatchResult, length, map, take, codes};
 ghost use Rattle.std.specs.Prelude.{string_bytes};
 ghost use Rattle.serde_json.specs.View.{view, members_view};
-ghost use Rattle.sdf_analyze.specs.Analyses.{IsFigureFault};
+ghost use Rattle.sdf_process.specs.Schedules.{IsShowFault};
 ghost use Rattle.sdf_json.specs.Values.{natural, with};
 ghost use Rattle.sdf_json.specs.Analyses.{times_of, analysis_value, IsAnalysisJson};
 
@@ -68,7 +68,7 @@ fn analysis_value(
 /// links. The tests are those of `sdf_analyze::figured`.
 pub fn analysis_json(alloc: Global, design: &Design, options: &Options) -> Result<String, Fault>
     ensures { MatchResult result (λ text. IsAnalysisJson design.now options.now (string_bytes text))
-        (IsFigureFault design.now options.now) }
+        (IsShowFault design.now options.now) }
 {
     let (blocking, table, figures) = figured(alloc, design, options)?;
     let placed = Options {

@@ -63,7 +63,7 @@ returns c =
           c.repetitions.result.now)) (slice_index c.in_ok-costs.costs)) actors
           ∙ ap (λ reps. work_of c.graph-graph.result.now.actors (slice_index (block c.args.options.now.blocking reps))
           (slice_index c.in_ok-costs.costs)) c.repetitions.ensures);
-      span = c.in_ok-span.ensures;
+      span = c.in_ok-span.ensures.1;
       bound = c.bound.ensures;
       columns = c.in_ok-times.ensures.columns;
       loads = c.in_ok-times.ensures.loads;
