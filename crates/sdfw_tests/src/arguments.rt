@@ -8,23 +8,21 @@ use std::env::{Env, FillError};
 use std::test::Fail;
 use test_texts::says;
 
-/// The program's name and one argument.
+/// The words of a program, of which the first is its name.
 #[derive(Clone, Copy)]
 struct Given<'a> {
-    argument: &'a [u8],
+    words: &'a [&'a [u8]],
 }
 
 impl Env for Given<'_> {
     fn arg(&self, i: usize, buf: &mut [u8]) -> Result<usize, FillError> {
-        let word = match i {
-            0 => b"sdfw".as_slice(),
-            1 => self.argument,
-            _ => return Err(FillError::NotPresent),
+        let Some(word) = self.words.get(i) else {
+            return Err(FillError::NotPresent);
         };
         if word.len() > buf.len() {
             return Err(FillError::TooLong);
         }
-        for (slot, byte) in buf.iter_mut().zip(word) {
+        for (slot, byte) in buf.iter_mut().zip(*word) {
             *slot = *byte;
         }
         Ok(word.len())
@@ -39,22 +37,32 @@ impl Env for Given<'_> {
     }
 }
 
-/// How many words are read, the first, and whether the second is the one given; or whether the fault begins by its
-/// line, and its exit status.
-fn told(alloc: Global, argument: &[u8]) -> Result<String, Fail> {
-    match arguments(&Given { argument }, alloc) {
-        Ok(read) => words_told(alloc, &read, argument),
+/// How many words are read, the first, and whether all are as they were given; or whether the fault begins by its line,
+/// and its exit status.
+fn told<'a>(alloc: Global, words: &'a [&'a [u8]]) -> Result<String, Fail> {
+    match arguments(&Given { words }, alloc) {
+        Ok(read) => words_told(alloc, &read, words),
         Err(fault) => fault_told(alloc, fault),
     }
 }
 
-fn words_told(alloc: Global, read: &[String], argument: &[u8]) -> Result<String, Fail> {
-    match (read.get(0), read.get(1)) {
-        (Some(first), Some(second)) => {
-            let same = second.as_bytes() == argument;
+/// Whether each word is read as it stands.
+fn are_read(read: &[String], words: &[&[u8]]) -> bool {
+    for (word, wanted) in read.iter().zip(words) {
+        if word.as_bytes() != *wanted {
+            return false;
+        }
+    }
+    read.len() == words.len()
+}
+
+fn words_told(alloc: Global, read: &[String], words: &[&[u8]]) -> Result<String, Fail> {
+    match read.first() {
+        Some(first) => {
+            let same = are_read(read, words);
             Ok(format!(in alloc; "{} {first} {same}", read.len())?)
         }
-        _ => Ok(String::new(alloc)),
+        None => Ok(String::new(alloc)),
     }
 }
 
@@ -64,18 +72,33 @@ fn fault_told(alloc: Global, fault: WordFault) -> Result<String, Fail> {
     Ok(format!(in alloc; "{begins} {}", status(&Fault::from(fault)))?)
 }
 
-/// The same of an argument of 1,000 letters.
+/// The same of the program's name and an argument of 1,000 letters.
 fn long_told(alloc: Global) -> Result<String, Fail> {
     let long = vec![in alloc; b'x'; 1000]?;
-    told(alloc, &long)
+    told(alloc, &[b"sdfw".as_slice(), &long])
 }
 
+/// The same of many words, an empty one and one of 5,000 letters among them.
+fn many_told(alloc: Global) -> Result<String, Fail> {
+    let long = vec![in alloc; b'x'; 5000]?;
+    let mut words = [b"word".as_slice(); 23];
+    words[20] = b"".as_slice();
+    words[21] = &long;
+    words[22] = b"last".as_slice();
+    told(alloc, &words)
+}
+
+/// Refuses words behind an empty one that are not read, and a long one for which no memory is asked.
 #[test]
 fn arguments_are_text(rt: HostRuntime) -> Result<(), Fail> {
-    says(long_told(rt.alloc()), "2 sdfw true")
+    says(long_told(rt.alloc()), "2 sdfw true")?;
+    says(many_told(rt.alloc()), "23 word true")
 }
 
 #[test]
 fn other_arguments_are_mistakes(rt: HostRuntime) -> Result<(), Fail> {
-    says(told(rt.alloc(), b"a\xFF"), "true 2")
+    says(
+        told(rt.alloc(), &[b"sdfw".as_slice(), b"a\xFF".as_slice()]),
+        "true 2",
+    )
 }

@@ -1,13 +1,10 @@
 //! WAV files of which a front is kept, and sizes that lie, run by each runner.
 
 use crate::designs::HALF;
-use crate::running::{fault_told, file_of};
-use sdf_file::{Design, read_design};
-use sdf_options::{Options, Runner};
+use crate::running::{fault_told, file_of, run_by};
+use sdf_options::Runner;
 use sdf_process::Fault;
-use sdf_process::planning::plan;
-use sdf_process::process::process;
-use sdf_wav::{FromRead, Reader, ToWrite, Writer};
+use sdf_wav::{FromRead, ToWrite};
 use std::alloc::Global;
 use std::test::Fail;
 use std::thread::Threads;
@@ -20,45 +17,6 @@ const SECONDS: &str = r#"format = 1
 actor = [{ name = "in", kind = "input", channel = 0 }, { name = "dec", kind = "decimate", factor = 2 },
     { name = "out", kind = "output", channel = 0 }]
 link = [{ from = "in", to = "dec" }, { from = "dec", to = "out" }]"#;
-
-/// Runs a design that was read.
-fn run_design<T: Threads + AllocGlobal + Sync, R: Reader, W: Writer>(
-    rt: &T,
-    design: &Design,
-    options: &Options,
-    reader: &mut R,
-    writer: &mut W,
-) -> Result<(), Fault> {
-    let plan = plan(rt.alloc(), design, options)?;
-    process(rt, reader, writer, design, &plan)
-}
-
-/// Runs a design with these options.
-pub(crate) fn run_with<T: Threads + AllocGlobal + Sync, R: Reader, W: Writer>(
-    rt: &T,
-    graph: &str,
-    options: &Options,
-    reader: &mut R,
-    writer: &mut W,
-) -> Result<(), Fault> {
-    let design = read_design(rt.alloc(), graph.as_bytes(), &[])?;
-    run_design(rt, &design, options, reader, writer)
-}
-
-/// Runs a design by a runner.
-pub(crate) fn run_by<T: Threads + AllocGlobal + Sync, R: Reader, W: Writer>(
-    rt: &T,
-    graph: &str,
-    runner: Runner,
-    reader: &mut R,
-    writer: &mut W,
-) -> Result<(), Fault> {
-    let options = Options {
-        runner,
-        ..Options::DEFAULT
-    };
-    run_with(rt, graph, &options, reader, writer)
-}
 
 /// The file of the halves of these samples, each rounded up.
 fn half_of(alloc: Global, samples: &[i16]) -> Result<Vec<u8>, Fault> {

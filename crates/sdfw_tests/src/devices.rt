@@ -1,8 +1,7 @@
 //! Designs run over devices that fail at one call, and how much a call asks for.
 
-use crate::damaged::run_by;
 use crate::designs::HALF;
-use crate::running::{end_of, run_file};
+use crate::running::{end_of, run_by, run_file};
 use crate::runs::ramp_file;
 use sdf_options::{Options, Runner};
 use sdf_wav::{FromRead, ToWrite};

@@ -1,8 +1,7 @@
 //! The text and the exit status of each fault that a run can end by.
 
-use crate::damaged::run_with;
 use crate::designs::{HALF, SECOND, THREE_FOR_TWO};
-use crate::running::{end_of, file_of, mono, run_file};
+use crate::running::{end_of, file_of, mono, run_file, run_with};
 use sdf_options::{Options, Runner};
 use sdf_process::Fault;
 use sdf_wav::{FromRead, ToWrite};

@@ -27,8 +27,6 @@ mod long_sounds;
 #[cfg(test)]
 mod meetings;
 #[cfg(test)]
-mod more_arguments;
-#[cfg(test)]
 mod parallel;
 #[cfg(test)]
 mod pieces;

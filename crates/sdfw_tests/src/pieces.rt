@@ -1,9 +1,8 @@
 //! Sounds that workers read, run and write piece by piece.
 
-use crate::damaged::run_with;
 use crate::designs::CHAIN;
 use crate::rows::on_one_thread;
-use crate::running::{end_of, makes, run_file};
+use crate::running::{end_of, makes, run_file, run_with};
 use crate::runs::ramp_file;
 use sdf_options::{Options, Runner};
 use sdf_wav::{FromRead, ToWrite};

@@ -1,8 +1,7 @@
 //! Plans of actors that are spread: the rings take sixteen blocks, and 65,536 frames are read at a time.
 
-use crate::damaged::run_with;
 use crate::rows::run_gated;
-use crate::running::{end_of, file_of};
+use crate::running::{end_of, file_of, run_with};
 use sdf_options::{Options, Placement, Policy, Runner};
 use sdf_wav::{FromRead, ToWrite};
 use std::alloc::Global;

@@ -1,17 +1,15 @@
 //! Designs run by the rows of a table, on several threads.
 
-ghost use Rattle.sdf_process.specs.Plans.{Suits};
-
 use crate::designs::{BLOCKS, CHAIN, LOOP};
 use crate::running::{file_of, makes, run_file};
 use crate::runs::ramp_file;
 use sdf_file::{Design, read_design};
 use sdf_options::{Options, Placement, Runner};
+use sdf_process::Fault;
 use sdf_process::planning::plan;
 use sdf_process::process::process_with;
-use sdf_process::{Fault, Plan};
 use sdf_run::{ActorId, Gate};
-use sdf_wav::{FromRead, ToWrite};
+use sdf_wav::{FromRead, ToWrite, Writer};
 use std::alloc::Global;
 use std::sync::atomic::{AtomicBool, Ordering};
 use std::test::Fail;
@@ -169,32 +167,31 @@ impl Gate for Meeting {
     }
 }
 
-/// What a plan makes of a file, with this gate.
-pub(crate) fn run_plan<T: Threads + AllocGlobal + Sync, G: Gate>(
-    rt: &T,
-    design: &Design,
-    plan: &Plan,
-    input: &[u8],
-    gate: &G,
-) -> Result<Vec<u8>, Fault>
-    requires { Suits design.now.net plan.now }
-{
-    let mut writer = ToWrite::new(Vec::new(rt.alloc()));
-    let mut reader = FromRead::new(input);
-    process_with(rt, &mut reader, &mut writer, design, plan, gate)?;
-    Ok(writer.into_inner())
-}
-
-/// What a design that was read makes of a file, with this gate.
-fn run_design<T: Threads + AllocGlobal + Sync, G: Gate>(
+/// Runs a design that was read, with this gate.
+fn gate_design<T: Threads + AllocGlobal + Sync, W: Writer, G: Gate>(
     rt: &T,
     design: &Design,
     options: &Options,
     input: &[u8],
+    writer: &mut W,
     gate: &G,
-) -> Result<Vec<u8>, Fault> {
+) -> Result<(), Fault> {
     let plan = plan(rt.alloc(), design, options)?;
-    run_plan(rt, design, &plan, input, gate)
+    let mut reader = FromRead::new(input);
+    process_with(rt, &mut reader, writer, design, &plan, gate)
+}
+
+/// Runs a design, with this gate.
+fn gate_file<T: Threads + AllocGlobal + Sync, W: Writer, G: Gate>(
+    rt: &T,
+    graph: &str,
+    options: &Options,
+    input: &[u8],
+    writer: &mut W,
+    gate: &G,
+) -> Result<(), Fault> {
+    let design = read_design(rt.alloc(), graph.as_bytes(), &[])?;
+    gate_design(rt, &design, options, input, writer, gate)
 }
 
 /// What a design makes of a file, with this gate.
@@ -205,8 +202,9 @@ pub(crate) fn run_gated<T: Threads + AllocGlobal + Sync, G: Gate>(
     input: &[u8],
     gate: &G,
 ) -> Result<Vec<u8>, Fault> {
-    let design = read_design(rt.alloc(), graph.as_bytes(), &[])?;
-    run_design(rt, &design, options, input, gate)
+    let mut writer = ToWrite::new(Vec::new(rt.alloc()));
+    gate_file(rt, graph, options, input, &mut writer, gate)?;
+    Ok(writer.into_inner())
 }
 
 /// What two workers make of three samples by `PAIR`, with this gate.

@@ -1,13 +1,11 @@
 //! Designs run over memory, from bytes to bytes, and what is told of it.
 
-ghost use Rattle.sdf_process.specs.Plans.{Suits};
-
 use sdf_file::{Design, read_design};
-use sdf_options::Options;
+use sdf_options::{Options, Runner};
 use sdf_process::planning::plan;
 use sdf_process::process::process;
-use sdf_process::{Fault, Plan, fault_text, status};
-use sdf_wav::{FromRead, ToWrite, Wav, read_wav, write_wav};
+use sdf_process::{Fault, fault_text, status};
+use sdf_wav::{FromRead, Reader, ToWrite, Wav, Writer, read_wav, write_wav};
 use std::alloc::Global;
 use std::test::Fail;
 use std::thread::Threads;
@@ -25,29 +23,43 @@ pub(crate) fn file_of(
     Ok(writer.into_inner())
 }
 
-/// What a plan makes of a file.
-fn run_plan<T: Threads + AllocGlobal + Sync>(
-    rt: &T,
-    design: &Design,
-    plan: &Plan,
-    input: &[u8],
-) -> Result<Vec<u8>, Fault>
-    requires { Suits design.now.net plan.now }
-{
-    let mut writer = ToWrite::new(Vec::new(rt.alloc()));
-    process(rt, &mut FromRead::new(input), &mut writer, design, plan)?;
-    Ok(writer.into_inner())
-}
-
-/// What a design that was read makes of a file.
-fn run_design<T: Threads + AllocGlobal + Sync>(
+/// Runs a design that was read.
+fn run_design<T: Threads + AllocGlobal + Sync, R: Reader, W: Writer>(
     rt: &T,
     design: &Design,
     options: &Options,
-    input: &[u8],
-) -> Result<Vec<u8>, Fault> {
+    reader: &mut R,
+    writer: &mut W,
+) -> Result<(), Fault> {
     let plan = plan(rt.alloc(), design, options)?;
-    run_plan(rt, design, &plan, input)
+    process(rt, reader, writer, design, &plan)
+}
+
+/// Runs a design with these options.
+pub(crate) fn run_with<T: Threads + AllocGlobal + Sync, R: Reader, W: Writer>(
+    rt: &T,
+    graph: &str,
+    options: &Options,
+    reader: &mut R,
+    writer: &mut W,
+) -> Result<(), Fault> {
+    let design = read_design(rt.alloc(), graph.as_bytes(), &[])?;
+    run_design(rt, &design, options, reader, writer)
+}
+
+/// Runs a design by a runner.
+pub(crate) fn run_by<T: Threads + AllocGlobal + Sync, R: Reader, W: Writer>(
+    rt: &T,
+    graph: &str,
+    runner: Runner,
+    reader: &mut R,
+    writer: &mut W,
+) -> Result<(), Fault> {
+    let options = Options {
+        runner,
+        ..Options::DEFAULT
+    };
+    run_with(rt, graph, &options, reader, writer)
 }
 
 /// What a design makes of a file.
@@ -57,8 +69,9 @@ pub(crate) fn run_file<T: Threads + AllocGlobal + Sync>(
     options: &Options,
     input: &[u8],
 ) -> Result<Vec<u8>, Fault> {
-    let design = read_design(rt.alloc(), graph.as_bytes(), &[])?;
-    run_design(rt, &design, options, input)
+    let mut writer = ToWrite::new(Vec::new(rt.alloc()));
+    run_with(rt, graph, options, &mut FromRead::new(input), &mut writer)?;
+    Ok(writer.into_inner())
 }
 
 /// What a design makes of a sound of one channel.

@@ -1,16 +1,13 @@
 //! Sounds shorter than a block whose size was never filled in: workers run them too, seen by a gate.
 
+use crate::rows::run_gated;
 use crate::running::file_of;
-use sdf_file::read_design;
 use sdf_options::{Options, Runner};
-use sdf_process::planning::plan;
-use sdf_process::process::process_with;
-use sdf_wav::{FromRead, ToWrite};
 use std::alloc::Global;
-use std::process::Abort;
 use std::test::Fail;
 use std::thread::Threads;
 use test_actors::gates::{Hold, Watch};
+use test_texts::says;
 
 /// What comes in goes out. The source is at home with one of two workers, the sink with the other.
 const PLAIN: &str = r#"format = 1
@@ -26,42 +23,54 @@ fn one_sample(alloc: Global) -> Result<Vec<u8>, Fail> {
     Ok(file)
 }
 
-/// The gate of a run on so many workers, two at most, by blocks of four periods.
+/// How many firings of each actor pass in a run on so many workers, two at most, by blocks of four periods, and how many
+/// of them out of turn.
 fn watched<T: Threads + AllocGlobal + Sync>(
     rt: &T,
     runner: Runner,
     workers: usize,
-) -> Result<Watch<'static>, Fail> {
-    let alloc = rt.alloc();
+) -> Result<String, Fail> {
     let options = Options {
         runner,
         workers,
         blocking: 4,
         ..Options::DEFAULT
     };
-    let input = one_sample(alloc)?;
-    let design = read_design(alloc, PLAIN.as_bytes(), &[])?;
-    let plan = plan(alloc, &design, &options)?;
-    let watch = Watch::new(alloc, 2, 2, Hold::NONE)?;
-    let mut reader = FromRead::new(input.as_slice());
-    let mut writer = ToWrite::new(Vec::new(alloc));
-    process_with(rt, &mut reader, &mut writer, &design, &plan, &watch)?;
-    Ok(watch)
+    let watch = Watch::new(rt.alloc(), 2, 2, Hold::NONE)?;
+    run_one_sample(rt, &options, &watch)?;
+    passed(rt.alloc(), &watch)
 }
 
-/// Whether so many firings of each actor passed, in their turn.
-fn passed(rt: &impl Abort, watch: &Watch, firings: u64) {
+/// Runs one sample whose size is not filled in.
+fn run_one_sample<T: Threads + AllocGlobal + Sync>(
+    rt: &T,
+    options: &Options,
+    watch: &Watch,
+) -> Result<Vec<u8>, Fail> {
+    let input = one_sample(rt.alloc())?;
+    Ok(run_gated(rt, PLAIN, options, &input, watch)?)
+}
+
+/// How many firings of each actor passed, and how many out of turn.
+fn passed(alloc: Global, watch: &Watch) -> Result<String, Fail> {
     let source = watch.passed(0, 0).wrapping_add(watch.passed(1, 0));
     let sink = watch.passed(0, 1).wrapping_add(watch.passed(1, 1));
-    assert_eq!(rt; (source, sink, watch.odd()), (firings, firings, 0));
+    Ok(format!(in alloc; "{source} {sink} {}", watch.odd())?)
 }
+
+/// A runner, and what passes.
+const RUNNERS: &[(Runner, &str)] = &[
+    (Runner::One, "0 0 0"),
+    (Runner::Rows, "4 4 0"),
+    (Runner::Rings, "4 4 0"),
+];
 
 /// Refuses one thread where workers were asked for, also where one was, and a block too many.
 #[test]
 fn a_block_that_is_filled_up(rt: HostRuntime) -> Result<(), Fail> {
-    for (runner, firings) in [(Runner::One, 0), (Runner::Rows, 4), (Runner::Rings, 4)] {
-        passed(&rt, &watched(&rt, runner, 2)?, firings);
-        passed(&rt, &watched(&rt, runner, 1)?, firings);
+    for (runner, wanted) in RUNNERS {
+        says(watched(&rt, *runner, 2), wanted)?;
+        says(watched(&rt, *runner, 1), wanted)?;
     }
     Ok(())
 }

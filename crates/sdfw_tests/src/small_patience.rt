@@ -1,19 +1,16 @@
 //! Runs over rings with little patience and with much, seen by gates: with any a worker is in the next block while
 //! another is in this one, and with much a worker waits for its neighbour.
 
+use crate::rows::run_gated;
 use crate::running::file_of;
-use sdf_file::read_design;
 use sdf_options::{Options, Placement, Runner};
-use sdf_process::planning::plan;
-use sdf_process::process::process_with;
 use sdf_run::{ActorId, Gate};
-use sdf_wav::{FromRead, ToWrite};
 use std::alloc::Global;
-use std::process::Abort;
 use std::sync::atomic::{AtomicBool, Ordering};
 use std::test::Fail;
 use std::thread;
 use std::thread::Threads;
+use test_texts::says;
 
 /// `half` and `left` are at home with a worker of their own. In a block each actor fires once, in file order.
 const SPLIT: &str = r#"format = 1
@@ -81,15 +78,14 @@ fn two_samples(alloc: Global, filled: bool) -> Result<Vec<u8>, Fail> {
     Ok(file)
 }
 
-/// What is made of them with this patience, where the link to `half` begins so.
-fn made<T: Threads + AllocGlobal + Sync, G: Gate>(
+/// What a design makes of them with this patience.
+fn run_patient<T: Threads + AllocGlobal + Sync, G: Gate>(
     rt: &T,
-    begun: &str,
+    graph: &str,
     patience: u32,
     filled: bool,
     gate: &G,
 ) -> Result<Vec<u8>, Fail> {
-    let alloc = rt.alloc();
     let options = Options {
         runner: Runner::Rings,
         placement: Placement::File,
@@ -97,37 +93,52 @@ fn made<T: Threads + AllocGlobal + Sync, G: Gate>(
         patience,
         ..Options::DEFAULT
     };
-    let input = two_samples(alloc, filled)?;
-    let graph = SPLIT.replace(alloc, "BEGUN", begun)?;
-    let design = read_design(alloc, graph.as_bytes(), &[])?;
-    let plan = plan(alloc, &design, &options)?;
-    let mut reader = FromRead::new(input.as_slice());
-    let mut writer = ToWrite::new(Vec::new(alloc));
-    process_with(rt, &mut reader, &mut writer, &design, &plan, gate)?;
-    Ok(writer.into_inner())
+    let input = two_samples(rt.alloc(), filled)?;
+    Ok(run_gated(rt, graph, &options, &input, gate)?)
 }
 
-/// Whether the next block begins before this one ends.
-fn overlaps<T: Abort + Threads + AllocGlobal + Sync>(
+/// Whether this is made of them with this patience, where the link to `half` begins so.
+fn makes<T: Threads + AllocGlobal + Sync, G: Gate>(
+    rt: &T,
+    begun: &str,
+    patience: u32,
+    filled: bool,
+    gate: &G,
+    wanted: &[u8],
+) -> Result<bool, Fail> {
+    let graph = SPLIT.replace(rt.alloc(), "BEGUN", begun)?;
+    Ok(run_patient(rt, &graph, patience, filled, gate)?.as_slice() == wanted)
+}
+
+/// Whether a run makes the file, whether the next block begins, and whether a firing missed another one.
+fn ahead_told<T: Threads + AllocGlobal + Sync>(
     rt: &T,
     patience: u32,
     filled: bool,
-) -> Result<(), Fail> {
+    wanted: &[u8],
+) -> Result<String, Fail> {
     let ahead = Ahead::new();
-    let wanted = file_of(rt.alloc(), 8000, 2, &[0, 2, 1, 4])?;
-    let output = made(rt, "[0]", patience, filled, &ahead)?;
-    assert_eq!(rt; output.as_slice(), wanted.as_slice());
-    assert!(rt; ahead.second.load(Ordering::SeqCst), "{patience} {filled}");
-    assert!(rt; !ahead.missed.load(Ordering::SeqCst), "{patience} {filled}");
-    Ok(())
+    let same = makes(rt, "[0]", patience, filled, &ahead, wanted)?;
+    let second = ahead.second.load(Ordering::SeqCst);
+    let missed = ahead.missed.load(Ordering::SeqCst);
+    Ok(format!(in rt.alloc(); "{patience} {filled}: {same} {second} {missed}")?)
 }
 
-/// Refuses rows, or one thread, where workers over rings were asked for that are little patient.
+/// Patience, whether the size is filled in, and what is told.
+const AHEAD: &[(u32, bool, &str)] = &[
+    (0, true, "0 true: true true false"),
+    (0, false, "0 false: true true false"),
+    (1000, true, "1000 true: true true false"),
+    (1000, false, "1000 false: true true false"),
+];
+
+/// Whether the next block begins before this one ends. Refuses rows, or one thread, where workers over rings were asked
+/// for that are little patient.
 #[test]
 fn with_any_patience(rt: HostRuntime) -> Result<(), Fail> {
-    for patience in [0, 1000] {
-        overlaps(&rt, patience, true)?;
-        overlaps(&rt, patience, false)?;
+    let wanted = file_of(rt.alloc(), 8000, 2, &[0, 2, 1, 4])?;
+    for (patience, filled, told) in AHEAD {
+        says(ahead_told(&rt, *patience, *filled, &wanted), told)?;
     }
     Ok(())
 }
@@ -169,22 +180,26 @@ impl Gate for Late {
     }
 }
 
-/// Whether the worker of `half` goes on in its round once its sample comes.
-fn waits<T: Abort + Threads + AllocGlobal + Sync>(rt: &T, filled: bool) -> Result<(), Fail> {
+/// Whether a run makes the file, and whether a firing missed another one.
+fn late_told<T: Threads + AllocGlobal + Sync>(
+    rt: &T,
+    filled: bool,
+    wanted: &[u8],
+) -> Result<String, Fail> {
     let late = Late {
         half: AtomicBool::new(false),
         missed: AtomicBool::new(false),
     };
-    let wanted = file_of(rt.alloc(), 8000, 2, &[1, 2, 2, 4])?;
-    let output = made(rt, "[]", 1_000_000, filled, &late)?;
-    assert_eq!(rt; output.as_slice(), wanted.as_slice());
-    assert!(rt; !late.missed.load(Ordering::SeqCst), "{filled}");
-    Ok(())
+    let same = makes(rt, "[]", 1_000_000, filled, &late, wanted)?;
+    let missed = late.missed.load(Ordering::SeqCst);
+    Ok(format!(in rt.alloc(); "{filled}: {same} {missed}")?)
 }
 
-/// Refuses workers that are not as patient as they are asked to be.
+/// Whether the worker of `half` goes on in its round once its sample comes. Refuses workers that are not as patient as
+/// they are asked to be.
 #[test]
 fn with_much_patience(rt: HostRuntime) -> Result<(), Fail> {
-    waits(&rt, true)?;
-    waits(&rt, false)
+    let wanted = file_of(rt.alloc(), 8000, 2, &[1, 2, 2, 4])?;
+    says(late_told(&rt, true, &wanted), "true: true false")?;
+    says(late_told(&rt, false, &wanted), "false: true false")
 }
