@@ -13,9 +13,9 @@ const BLOCKS: u32 = 1_016_000;
 
 /// How many firings the seat of one worker has for them.
 fn left<A: Actor<Token = i32>>(alloc: Global, net: &Net<A>) -> Result<String, Fail> {
-    let plan = planned(alloc, net, 1, 1, true)?;
+    let table = planned(alloc, net, 1, 1, true)?;
     let inputs = ramp(alloc, 0, 0, BLOCKS as usize)?;
-    let rings = prepare(alloc, net, &plan.0, 1, &plan.1, BLOCKS, &inputs)?;
+    let rings = prepare(alloc, net, &table, BLOCKS, &inputs)?;
     Ok(format!(in alloc; "{}", rings.left())?)
 }
 

@@ -25,10 +25,10 @@ fn held<R: Threads + AllocGlobal + Sync, A: Actor<Token = i64>>(
     rt: &R,
     net: &Net<A>,
 ) -> Result<String, Fail> {
-    let plan = planned(rt.alloc(), net, 2, 2, true)?;
+    let table = planned(rt.alloc(), net, 2, 2, true)?;
     let inputs = list(rt.alloc(), &[1, 2, 3, 4])?;
     let watch = Watch::new(rt.alloc(), 2, 2, SECOND.in_vain())?;
-    run_rings(rt, net, &plan.0, 2, &plan.1, 1, &inputs, 1_000_000, &watch)?;
+    run_rings(rt, net, &table, 1, &inputs, 1_000_000, &watch)?;
     Ok(format!(in rt.alloc(); "{} in vain, {} odd", watch.missed(), watch.odd())?)
 }
 

@@ -35,12 +35,10 @@ fn rounds<R: Threads + AllocGlobal + Sync, A: Actor<Token = i64>>(
     patience: u32,
     slow: Slow,
 ) -> Result<u64, Fail> {
-    let plan = planned(rt.alloc(), net, 1, 2, true)?;
+    let table = planned(rt.alloc(), net, 1, 2, true)?;
     let inputs = list(rt.alloc(), samples)?;
     let blocks = u32::try_from(samples.len()).unwrap_or(0);
-    let ran = run_rings(
-        rt, net, &plan.0, 1, &plan.1, blocks, &inputs, patience, &slow,
-    )?;
+    let ran = run_rings(rt, net, &table, blocks, &inputs, patience, &slow)?;
     Ok(ran.rounds)
 }
 
