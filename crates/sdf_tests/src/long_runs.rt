@@ -2,7 +2,6 @@
 
 ghost use Rattle.std.specs.Prelude.{◌≡◌};
 ghost use Rattle.sdf_graph.specs.Rates.{rates};
-ghost use Rattle.sdf_sched.specs.Period.{IsPeriodOf};
 ghost use Rattle.sdf_actor.specs.Graphs.{graph_of};
 ghost use Rattle.sdf_answer.specs.Rows.{IsBlockTableOf};
 
@@ -99,7 +98,7 @@ fn resumed<A: Actor<Token = i64>>(
     table: &BlockTable,
     inputs: &[Vec<i64>],
 ) -> Result<usize, RunFault>
-    requires period { IsPeriodOf (rates (graph_of A.steps net.now)) table.now.0 }
+    requires fits { IsBlockTableOf (rates (graph_of A.steps net.now)) table.now }
 {
     let (_, rest) = feed_one(alloc, net, &table.period, 0, inputs)?;
     let (ran, _) = resume_one(alloc, net, &table.period, &rest, 70_000, inputs)?;
