@@ -212,6 +212,13 @@ impl Repetitions {
         self.of[actor]
     }
 
+    /// How often the actors fire, one after another.
+    pub fn as_slice(&self) -> &[u32]
+        ensures { result.now ≡ self.now }
+    {
+        self.of.as_slice()
+    }
+
     /// How many actors there are.
     pub fn len(&self) -> usize
         ensures { result ≡ length self.now }

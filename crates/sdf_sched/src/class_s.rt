@@ -177,17 +177,6 @@ fn collect_done(counts: &Counts, reps: &Repetitions, done: &mut Vec<u32>)
     }
 }
 
-/// How often the actors fire in a period, one by one.
-fn firings_of(alloc: Global, reps: &Repetitions) -> Result<Vec<u32>, AllocError>
-    ensures { IfOk result (λ v. v.items ≡ reps.now) }
-{
-    let mut firings = Vec::with_capacity(alloc, reps.len())?;
-    for actor in 0..reps.len() {
-        firings.push(reps.of(actor))?;
-    }
-    Ok(firings)
-}
-
 /// How many firings there are in all.
 fn total(firings: &[u32]) -> usize
     requires { sum firings.now ≤ MOST_PERIOD }
@@ -244,10 +233,9 @@ pub fn class_s<P: Pick>(
     graphs_are_sound();
     stuck_counts_mean_deadlock();
     reps.period();
-    let firings = firings_of(alloc, reps)?;
     let mut done = Vec::with_capacity(alloc, reps.len())?;
     let mut short = Vec::with_capacity(alloc, reps.len())?;
-    let (counts, order) = fire_greedily(alloc, graph, &firings, pick)?;
+    let (counts, order) = fire_greedily(alloc, graph, reps.as_slice(), pick)?;
     collect_short(&counts, reps, &mut short);
     collect_done(&counts, reps, &mut done);
     if !short.is_empty() {
