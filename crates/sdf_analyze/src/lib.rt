@@ -12,8 +12,6 @@ mod columns;
 pub mod comparison;
 pub mod figures;
 pub mod lines;
-#[cfg(test)]
-mod tests;
 mod ways;
 
 pub use analysis::{analyze, figured};

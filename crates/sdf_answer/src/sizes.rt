@@ -10,7 +10,7 @@ ghost use Rattle.sdf_answer.specs.Sizes.{AreSizes, AreRows, at_phase, rates_on, 
 
 use crate::laws::net_facts;
 use sdf_actor::laws::nets_are_wired;
-use sdf_actor::{Actor, Net, Node, Side};
+use sdf_actor::{Actor, Net, Side};
 use sdf_graph::Channel;
 use std::alloc::{AllocError, Global};
 use std::marker::Model;
@@ -79,7 +79,7 @@ impl Sizes {
         nets_are_wired::<A>();
         let channels = channels_of(net, a, side);
         let mut rows = Vec::new(alloc);
-        for phase in 0..cycle(net.node(a)) {
+        for phase in 0..net.node(a).cycle() {
             rows.push(at_channels(alloc, channels, self.on(side, phase))?)?;
         }
         Ok(rows)
@@ -115,19 +115,9 @@ fn longest_cycle<A: Actor>(net: &Net<A>) -> u32
 {
     let mut longest = 0;
     for a in 0..net.len() {
-        longest = longest.max(cycle(net.node(a)));
+        longest = longest.max(net.node(a).cycle());
     }
     longest
-}
-
-/// How many phases the cycle of a node has.
-fn cycle<A: Actor>(node: &Node<A>) -> u32
-    ensures { result ≡ cycle_of A.steps node.now }
-{
-    match node {
-        Node::Inner(actor) => actor.cycle(),
-        _ => 1,
-    }
 }
 
 /// What firings at each phase move on each channel, at the end on a side of its nodes.

@@ -1,6 +1,7 @@
 -- Nodes of a net at work, whatever holds their channels.
 use Rattle.std.specs.Prelude.{◌≡◌, ℕ, ◌+◌, ◌*◌, ◌≤◌, ◌<◌, List, [], length, slice_index_or, vec_capacity}
 use Rattle.std.specs.List.{flat_map}
+use Rattle.sdf_actor.specs.Nets.{cycle_of}
 use Rattle.sdf_actor.specs.Steps.{Steps, phase, total_in, total_out, state_after}
 use Rattle.sdf_actor.specs.declared.node.Node.{Node}
 use Rattle.sdf_actor.specs.declared.node.Node.TheVariants as node
@@ -23,6 +24,10 @@ abbrev pub puts_of : {A S T : Type 0} → Steps A S T → Node A → ℕ → ℕ
 puts_of s (node.Source ext block) j = block
 puts_of s (node.Sink ext block) j = 0
 puts_of s (node.Inner x) j = total_out s x j
+
+-- no firing of a node takes more at all its ports, or puts more there
+abbrev pub IsMost : {A S T : Type 0} → Steps A S T → Node A → ℕ → Type 0
+IsMost s x most = (j : ℕ) → j < cycle_of s x → (takes_of s x j ≤ most) × (puts_of s x j ≤ most)
 
 -- the next firing finds what it reads and has room for what it makes, where so many samples are taken and put
 abbrev pub CanStep : {A S T : Type 0} → Steps A S T → List (List T) → Node A → NodeState T S → ℕ → ℕ → Type 0

@@ -15,5 +15,5 @@ pub mod rest;
 pub use collect::collect_at;
 pub use gate::{ActorId, Gate, NoGate};
 pub use many::step_many;
-pub use node::{NodeState, append, begin, puts, step, takes};
+pub use node::{NodeState, append, begin, most, puts, step, takes};
 pub use rest::kept;

@@ -4,7 +4,7 @@ ghost use Rattle.std.specs.Prelude.{◌≡◌, ◌+◌, ◌≤◌, ◌<◌, ◌+
 ghost use Rattle.std.specs.Prelude.{vec_len, vec_capacity, IfOk};
 ghost use Rattle.sdf_actor.specs.Nets.{answer_of, cycle_of};
 ghost use Rattle.sdf_actor.specs.Wires.{lists};
-ghost use Rattle.sdf_node.specs.Nodes.{phase_at, takes_of, puts_of, CanStep, CanBegin, IsAt};
+ghost use Rattle.sdf_node.specs.Nodes.{phase_at, takes_of, puts_of, CanStep, CanBegin, IsAt, IsMost};
 
 use sdf_actor::actor::next_phase;
 use sdf_actor::{Actor, Node};
@@ -55,6 +55,17 @@ pub fn puts<A: Actor>(node: &Node<A>, phase: u32) -> usize
         Node::Sink { .. } => 0,
         Node::Inner(actor) => actor.samples_out(phase),
     }
+}
+
+/// The greatest number of samples that a firing takes at all ports, or puts there.
+pub fn most<A: Actor>(node: &Node<A>) -> usize
+    ensures { IsMost A.steps node.now result }
+{
+    let mut most = 0;
+    for phase in 0..node.cycle() {
+        most = most.max(takes(node, phase)).max(puts(node, phase));
+    }
+    most
 }
 
 /// A node before its first firing. The list of a sink has so much room.

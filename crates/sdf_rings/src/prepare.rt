@@ -29,17 +29,6 @@ use sdf_answer::{BlockTable, RunFault, Sizes};
 use sdf_prec::Table;
 use std::alloc::{AllocError, Global};
 
-/// How many columns a table has, where all its rows have as many.
-fn columns(table: &Table) -> usize
-    requires { (width : ℕ) × ((i : ℕ) → i < length table.now.rows → length (row table.now.rows i) ≡ width) }
-    ensures { (i : ℕ) → i < length table.now.rows → length (row table.now.rows i) ≡ result }
-{
-    if table.rows() == 0 {
-        return 0;
-    }
-    table.row(0).len()
-}
-
 /// The seats of a run of so many blocks of a table.
 fn lay_out<'a, A: Actor>(
     alloc: Global,
@@ -70,7 +59,7 @@ fn lay_out<'a, A: Actor>(
         table.order(),
         blocks,
         &mut ends,
-        columns(table),
+        table.columns(),
     )?;
     let outputs = make_outputs(alloc, start.net.outputs(), 0)?;
     Ok(Rings::new(alloc, start.net, start.inputs, seats, places, outputs))

@@ -6,5 +6,4 @@ pub(crate) mod deals;
 pub(crate) mod openings;
 pub(crate) mod places;
 pub(crate) mod seats;
-pub(crate) mod sizes;
 pub(crate) mod stands;

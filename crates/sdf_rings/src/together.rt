@@ -11,7 +11,6 @@ ghost use Rattle.sdf_rings.specs.Stands.{IsStand, HasMoved};
 ghost use Rattle.sdf_rings.specs.Together.{GoesInRuns, CanRun};
 
 use crate::run_ends::{blocks_free, blocks_held, put_run, take_run, whole_blocks};
-use crate::setup::sizes::cycle;
 use crate::stand::{Stand, row};
 use rtrb::Consumer;
 use sdf_actor::{Actor, Net, Node};
@@ -41,7 +40,7 @@ fn goes_in_runs<A: Actor>(net: &Net<A>, actor: ActorId) -> bool
     requires known { actor < length net.now.nodes }
     ensures { IsTrue result → GoesInRuns A.steps net.now actor }
 {
-    cycle(net.node(actor)) == 1 && is_apart(net, actor)
+    net.node(actor).cycle() == 1 && is_apart(net, actor)
 }
 
 /// Passes the gate before each of so many firings, in order.

@@ -12,10 +12,6 @@ abbrev pub IsUnfired : {A S T : Type 0} → Steps A S T → ℕ → Node A → N
 IsUnfired {A} {S} {T} s room x w = (inputs : List (List T)) (many : ℕ) → CanBegin inputs many room x →
     IsAt s inputs many x [] w
 
--- no firing of the node moves more at all ports on a side
-abbrev pub IsMost : {A S T : Type 0} → Steps A S T → Node A → ℕ → Type 0
-IsMost s x most = (j : ℕ) → j < cycle_of s x → (takes_of s x j ≤ most) × (puts_of s x j ≤ most)
-
 -- a job's blocks have room for any firing of any node, phase by phase
 abbrev pub HasPlaces : {A S T : Type 0} → Steps A S T → Netlist A T → Job A T S → Type 0
 HasPlaces s n j = (a i : ℕ) → a < length n.nodes → i < cycle_of s (node n a) →

@@ -39,17 +39,6 @@ pub(crate) struct Fired<A: Actor> {
     pub(crate) queues: Vec<Queue<A::Token>>,
 }
 
-/// How many columns a table has, where all its rows have as many.
-fn columns(table: &Table) -> usize
-    requires { (width : ℕ) × ((i : ℕ) → i < length table.now.rows → length (row table.now.rows i) ≡ width) }
-    ensures { (i : ℕ) → i < length table.now.rows → length (firings (row table.now.rows i)) ≤ result }
-{
-    if table.rows() == 0 {
-        return 0;
-    }
-    table.row(0).len()
-}
-
 /// How often each node has fired before a run.
 fn none_done(alloc: Global, repetitions: &[u32]) -> Result<Vec<u64>, AllocError>
     ensures { IfOk result (λ v. v.items ≡ map (λ _. 0) repetitions.now) }
@@ -84,7 +73,7 @@ pub(crate) fn fire<R: Threads + AllocGlobal + Sync, A: Actor, G: Gate>(
     let room = samples_of_blocks(plan.blocks, table.factor, net.samples_out());
     let mut states = make_states(alloc, net, room)?;
     let mut queues = make_queues(alloc, net, repetitions, table.factor)?;
-    let mut jobs = make_jobs(alloc, net, columns(&table.table), filler)?;
+    let mut jobs = make_jobs(alloc, net, table.table.columns(), filler)?;
     let mut done = none_done(alloc, repetitions)?;
     let sizes = Sizes::new(alloc, net)?;
     let scene = Scene { net, inputs, sizes };

@@ -2,11 +2,12 @@
 
 ghost use Rattle.std.specs.Prelude.{◌≡◌, ◌<◌, ℕ, length, slice_index_or, vec_len, IfOk};
 ghost use Rattle.sdf_actor.specs.Nets.{node};
-ghost use Rattle.sdf_rows.specs.Setup.{IsUnfired, IsMost, HasPlaces};
+ghost use Rattle.sdf_node.specs.Nodes.{IsMost};
+ghost use Rattle.sdf_rows.specs.Setup.{IsUnfired, HasPlaces};
 
 use crate::job::Job;
-use sdf_actor::{Actor, Net, Node};
-use sdf_node::{NodeState, begin, puts, takes};
+use sdf_actor::{Actor, Net};
+use sdf_node::{NodeState, begin};
 use std::alloc::{AllocError, Global};
 
 /// All nodes before the first firing. The list of a sink has so much room.
@@ -26,28 +27,13 @@ pub(crate) fn make_states<A: Actor>(
     Ok(states)
 }
 
-/// The greatest number of samples that a firing of a node takes at all ports, or puts there.
-fn most_of<A: Actor>(node: &Node<A>) -> usize
-    ensures { IsMost A.steps node.now result }
-{
-    let cycle = match node {
-        Node::Inner(actor) => actor.cycle(),
-        _ => 1,
-    };
-    let mut most = 0;
-    for phase in 0..cycle {
-        most = most.max(takes(node, phase)).max(puts(node, phase));
-    }
-    most
-}
-
 /// The greatest number that a firing of any node takes or puts.
 fn most<A: Actor>(net: &Net<A>) -> usize
     ensures { (a : ℕ) → a < length net.now.nodes → IsMost A.steps (node net.now a) result }
 {
     let mut most = 0;
     for a in 0..net.len() {
-        most = most.max(most_of(net.node(a)));
+        most = most.max(sdf_node::most(net.node(a)));
     }
     most
 }

@@ -10,8 +10,6 @@ mod loads;
 mod needs;
 pub mod samples;
 mod starts;
-#[cfg(test)]
-mod tests;
 pub mod times;
 mod walk;
 

@@ -18,3 +18,5 @@ mod limits;
 mod slow_times;
 #[cfg(test)]
 mod tables;
+#[cfg(test)]
+mod worked_times;

@@ -196,7 +196,12 @@ fn add_starts_of(
 }
 
 /// By `Times`: the starts, the makespan and the loads of two columns.
-fn by_times(alloc: Global, graph: &Graph, table: &Table, costs: &Costs) -> Result<Vec<u64>, Fail>
+pub(crate) fn by_times(
+    alloc: Global,
+    graph: &Graph,
+    table: &Table,
+    costs: &Costs,
+) -> Result<Vec<u64>, Fail>
     requires costs { AreCosts graph.now.actors costs.now }
     requires table { IsBlockTable (rates graph.now) 2 table.now }
 {

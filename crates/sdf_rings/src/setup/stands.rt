@@ -10,12 +10,11 @@ ghost use Rattle.sdf_rings.specs.Begun.{CanStart, HasIns, HasOuts, HasBegun};
 ghost use Rattle.sdf_rings.specs.Stands.{OwnArePairs, IsStand};
 
 use crate::setup::openings::Ends;
-use crate::setup::sizes::most;
 use crate::stand::Stand;
 use rtrb::{Consumer, Producer};
 use sdf_actor::{Actor, Net, Side};
 use sdf_answer::Sizes;
-use sdf_node::begin;
+use sdf_node::{begin, most};
 use std::alloc::{AllocError, Global};
 use std::mem;
 

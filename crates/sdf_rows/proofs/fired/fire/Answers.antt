@@ -13,7 +13,8 @@ use Rattle.sdf_actor.specs.declared.sides.Lists.TheVariants.{Outputs}
 use Rattle.sdf_answer.specs.Periods.{CanRun}
 use Rattle.sdf_answer.specs.Rows.{IsTableOf}
 use Rattle.sdf_rows.specs.Blocks.{IsResting}
-use Rattle.sdf_rows.proofs.Counts.{factor_few}
+use Rattle.sdf_prec.specs.Tables.{row}
+use Rattle.sdf_rows.proofs.Counts.{factor_few, firings_few}
 use Rattle.sdf_rows.proofs.Readings.{vec_long}
 use Rattle.sdf_rows.proofs.Ends.{begins, have_blocks, the_none}
 use Rattle.sdf_rows.proofs.fired.fire.Goals as goal
@@ -58,6 +59,7 @@ pub run_blocks-requires-clause-wide : goal.run_blocks-requires-clause-wide
 run_blocks-requires-clause-wide g c = λ κs within. λ i h.
     omega (
       arith,
+      firings_few (row c.args.plan.now.table.now.table.rows i),
       c.columns.ensures i h,
       ap length c.deref_mut.ensures.value,
       vec_long c.in_ok-jobs.jobs,

@@ -1,6 +1,6 @@
 use Rattle.std.proofs.Common.{◌≤◌, ◌<◌, ℕ}
 use Rattle.sdf_node.specs.Nodes.{takes_of, puts_of}
-use Rattle.sdf_rings.proofs.setup.sizes.most.Given as goal
+use Rattle.sdf_node.proofs.node.most.Given as goal
 
 abbrev pub invariant-loop-phase : goal.invariant-loop-phase
 invariant-loop-phase g l = (j : ℕ) → j < l.phase →

@@ -1,12 +1,12 @@
 //! Worked designs: a fork of two ways with three rows of costs, two actors that move blocks, and a block of 1,024
 //! periods.
 
-use crate::{analyze, compare};
+use sdf_analyze::{analyze, compare};
 use sdf_file::{Design, read_design};
 use sdf_options::{Options, Placement};
 use std::alloc::Global;
-use std::process::Abort;
 use std::test::Fail;
+use test_texts::says;
 
 /// Two ways from `two` to `sum`, over `a` and over `b` and `c`.
 fn fork(alloc: Global, two: u32, a: u32) -> Result<Design, Fail> {
@@ -33,41 +33,51 @@ const LINKS: &str =
     capacity two:1 b:0 1, 4 bytes\ncapacity a:0 sum:0 1, 4 bytes\ncapacity b:0 c:0 1, 4 bytes\n\
     capacity c:0 sum:1 1, 4 bytes\ncapacity sum:0 out:0 1, 4 bytes\n";
 
-/// Whether the fork with these costs on two workers has these figures.
-fn has_figures<R: Abort + AllocGlobal>(rt: &R, two: u32, a: u32, wanted: &str) -> Result<(), Fail> {
-    let alloc = rt.alloc();
-    let design = fork(alloc, two, a)?;
+/// What is printed of a design on two workers.
+fn analysis(alloc: Global, design: &Design, placement: Placement) -> Result<String, Fail> {
     let options = Options {
         workers: 2,
+        placement,
         ..Options::DEFAULT
     };
-    let text = analyze(alloc, &design, &options)?;
-    let all = format!(in alloc; "{wanted}{LINKS}")?;
-    assert_eq!(rt; text.as_str(), all.as_str(), "{two} {a}");
-    Ok(())
+    Ok(analyze(alloc, design, &options)?)
 }
 
-/// An `analyze` that always says that there is no memory fails here.
-#[test]
-fn figures_of_a_fork(rt: HostRuntime) -> Result<(), Fail> {
-    has_figures(
-        &rt,
+/// What is printed of the fork with these costs, but for its links.
+fn figures(alloc: Global, two: u32, a: u32) -> Result<String, Fail> {
+    let text = analysis(alloc, &fork(alloc, two, a)?, Placement::Homed)?;
+    match text.as_str().strip_suffix(LINKS) {
+        Some(figures) => Ok(String::from_str(alloc, figures)?),
+        None => Ok(text),
+    }
+}
+
+/// What `two` and `a` cost, and the figures.
+const FORKS: &[(u32, u32, &str)] = &[
+    (
         1,
         1,
         "makespan 6\nwork 7\nspan 6\nbound 6\nspeedup 1.16 of 2\nworker 0 66 %\nworker 1 50 %\n",
-    )?;
-    has_figures(
-        &rt,
+    ),
+    (
         1,
         3,
         "makespan 7\nwork 9\nspan 7\nbound 7\nspeedup 1.28 of 2\nworker 0 71 %\nworker 1 57 %\n",
-    )?;
-    has_figures(
-        &rt,
+    ),
+    (
         4,
         3,
         "makespan 10\nwork 12\nspan 10\nbound 10\nspeedup 1.20 of 2\nworker 0 60 %\nworker 1 60 %\n",
-    )
+    ),
+];
+
+/// An `analyze` that always says that there is no memory fails here.
+#[test]
+fn figures_of_forks(rt: HostRuntime) -> Result<(), Fail> {
+    for (two, a, wanted) in FORKS {
+        says(figures(rt.alloc(), *two, *a), wanted)?;
+    }
+    Ok(())
 }
 
 /// Blocks of two samples go in, and blocks of three come out, on processors of their own.
@@ -99,19 +109,21 @@ runs   file            1      refused 19
 runs   file            2           *4    *1.25       5              6
 ";
 
-/// A `compare` that always says that there is no memory fails here.
-#[test]
-fn blocks_compared(rt: HostRuntime) -> Result<(), Fail> {
-    let alloc = rt.alloc();
+/// What is printed of the schedules of the blocks.
+fn comparison(alloc: Global) -> Result<String, Fail> {
     let design = read_design(alloc, BLOCKS.as_bytes(), &[])?;
     let options = Options {
         workers: 3,
         placement: Placement::File,
         ..Options::DEFAULT
     };
-    let text = compare(alloc, &design, &options)?;
-    assert_eq!(rt; text.as_str(), COMPARED);
-    Ok(())
+    Ok(compare(alloc, &design, &options)?)
+}
+
+/// A `compare` that always says that there is no memory fails here.
+#[test]
+fn blocks_compared(rt: HostRuntime) -> Result<(), Fail> {
+    says(comparison(rt.alloc()), COMPARED)
 }
 
 /// What comes in goes out, a sample at a time.
@@ -125,17 +137,14 @@ const LONG: &str =
     "makespan 2048\nwork 2048\nspan 1025\nbound 1025\nspeedup 1.00 of 2\nworker 0 0 %\n\
     worker 1 100 %\nsamples held 1024, 4096 bytes\ncapacity in:0 out:0 1024, 4096 bytes\n";
 
+/// What is printed of the long block.
+fn long_block(alloc: Global) -> Result<String, Fail> {
+    let design = read_design(alloc, CHAIN.as_bytes(), &[])?;
+    analysis(alloc, &design, Placement::Spread)
+}
+
 /// Figures of blocks of at most 64 periods alone fail here.
 #[test]
 fn figures_of_a_long_block(rt: HostRuntime) -> Result<(), Fail> {
-    let alloc = rt.alloc();
-    let design = read_design(alloc, CHAIN.as_bytes(), &[])?;
-    let options = Options {
-        workers: 2,
-        placement: Placement::Spread,
-        ..Options::DEFAULT
-    };
-    let text = analyze(alloc, &design, &options)?;
-    assert_eq!(rt; text.as_str(), LONG);
-    Ok(())
+    says(long_block(rt.alloc()), LONG)
 }

@@ -1,0 +1,93 @@
+//! Worked times, counted by hand: a fork of two ways with three rows of costs, a table that was made for other costs, and
+//! bounds.
+
+use crate::graphs::{costs_of, longer_fork, pair, period_of};
+use crate::slow_times::by_times;
+use sdf_prec::hu::hu;
+use sdf_prec::{Firing, Table};
+use sdf_times::{bound, span, work};
+use std::alloc::{AllocError, Global};
+use std::test::Fail;
+use test_texts::says;
+
+/// Of Hu's table of the fork in two columns, homed: the starts in row order, the makespan, the loads of both columns, the
+/// span, the work and the bound.
+fn of_a_fork(alloc: Global, costs: &[u32]) -> Result<String, Fail> {
+    let graph = longer_fork(alloc)?;
+    graph.channels();
+    let period = period_of(alloc, &graph)?;
+    let costs = costs_of(alloc, &graph, costs)?;
+    let table = hu(alloc, &graph, &period, 1, 2, true, &costs)?;
+    let numbers = by_times(alloc, &graph, &table, &costs)?;
+    let span = span(alloc, &graph, &period, 1, &costs)?;
+    let work = work(period.repetitions(), 1, &costs);
+    let bound = bound(span, work, 2);
+    Ok(format!(in alloc; "{numbers:?} {span} {work} {bound}")?)
+}
+
+/// What each actor costs, and the figures.
+const FORKS: &[(&[u32], &str)] = &[
+    (
+        &[1, 1, 1, 1, 1, 1, 1],
+        "[0, 1, 2, 2, 3, 4, 5, 6, 4, 3] 6 7 6",
+    ),
+    (
+        &[1, 1, 3, 1, 1, 1, 1],
+        "[0, 1, 2, 2, 3, 5, 6, 7, 5, 4] 7 9 7",
+    ),
+    (
+        &[1, 4, 3, 1, 1, 1, 1],
+        "[0, 1, 5, 5, 6, 8, 9, 10, 6, 6] 10 12 10",
+    ),
+];
+
+/// A `Times::of` or a `span` that always says that there is no memory fails here.
+#[test]
+fn times_of_a_fork(rt: HostRuntime) -> Result<(), Fail> {
+    for (costs, wanted) in FORKS {
+        says(of_a_fork(rt.alloc(), costs), wanted)?;
+    }
+    says(of_other_rows(rt.alloc()), "[0, 1, 2, 2, 12, 22, 3, 20]")?;
+    says(bounds(rt.alloc()), "2 5 2")
+}
+
+/// Bounds are rounded up.
+fn bounds(alloc: Global) -> Result<String, Fail> {
+    let (halves, long, even) = (bound(1, 3, 2), bound(5, 3, 2), bound(0, 4, 2));
+    Ok(format!(in alloc; "{halves} {long} {even}")?)
+}
+
+/// Cells that are empty, or hold the firing of an actor with a number.
+fn cells(alloc: Global, row: &[(usize, u32)]) -> Result<Vec<Option<Firing>>, AllocError> {
+    let mut cells = Vec::new(alloc);
+    for (actor, number) in row {
+        cells.push(if *actor < 9 {
+            Some(Firing {
+                actor: *actor,
+                number: *number,
+            })
+        } else {
+            None
+        })?;
+    }
+    Ok(cells)
+}
+
+/// A firing starts at a time of its own: the sink's second one waits for its first, which costs 10.
+fn of_other_rows(alloc: Global) -> Result<String, Fail> {
+    let graph = pair(alloc, &[2], &[3], 0)?;
+    let period = period_of(alloc, &graph)?;
+    let mut rows = Vec::new(alloc);
+    for row in [
+        [(0, 0), (9, 0)],
+        [(0, 1), (9, 0)],
+        [(0, 2), (1, 0)],
+        [(9, 0), (1, 1)],
+    ] {
+        rows.push(cells(alloc, &row)?)?;
+    }
+    let table = Table::accept(alloc, &graph, period.repetitions(), 1, 2, rows)?;
+    let costs = costs_of(alloc, &graph, &[1, 10])?;
+    let numbers = by_times(alloc, &graph, &table, &costs)?;
+    Ok(format!(in alloc; "{numbers:?}")?)
+}
