@@ -95,9 +95,9 @@ impl Channel {
     }
 
     /// What its ends move in a cycle.
-    pub(crate) fn totals(&self, puts: usize, takes: usize) -> Totals
-        requires put { IsCycle puts self.now.put }
-        requires take { IsCycle takes self.now.take }
+    pub(crate) fn totals(&self) -> Totals
+        requires put { (n : ℕ) × IsCycle n self.now.put }
+        requires take { (n : ℕ) × IsCycle n self.now.take }
         ensures { result ≡ totals self.now }
     {
         Totals {

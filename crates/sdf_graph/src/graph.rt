@@ -150,9 +150,7 @@ fn totals_of(alloc: Global, channels: &[Channel]) -> Result<Vec<Totals>, AllocEr
 {
     let mut all = Vec::new(alloc);
     for channel in channels {
-        let puts = cycle_among(channels, channel.from);
-        let takes = cycle_among(channels, channel.to);
-        all.push(channel.totals(puts, takes))?;
+        all.push(channel.totals())?;
     }
     Ok(all)
 }

@@ -8,22 +8,24 @@ use Rattle.sdf_graph.proofs.graph.totals_of.Goals as goal
 pub totals-requires-clause-put : goal.totals-requires-clause-put
 totals-requires-clause-put c =
     let chs = c.args.channels.now in
-    let e = c.channel-item.result in
-    let read = get_or_read chs c.loop-channel.channel-index e c.loop-channel-test.true c.channel-item.is no_channel in
-    let is : c.cycle_among-puts.result ≡ cycle_among chs e.from =
-    c.cycle_among-puts.ensures ∙ ap (λ (e : Edge). cycle_among chs e.from) c.channel.view_is in
-    subst (λ n. IsCycle n e.put) (sym is) (subst (λ (e : Edge). IsCycle (cycle_among chs e.from) e.put) (sym read)
-    (c.requires.put c.loop-channel.channel-index c.loop-channel-test.true))
+    let i : ℕ = c.loop-channel.channel-index in
+    let read = get_or_read chs i c.channel-item.result c.loop-channel-test.true c.channel-item.is no_channel in
+    let at : Edge = get_or chs i no_channel in (
+      cycle_among chs at.from,
+      subst (λ (e : Edge). IsCycle (cycle_among chs at.from) e.put) (sym read)
+          (c.requires.put i c.loop-channel-test.true),
+    )
 
 pub totals-requires-clause-take : goal.totals-requires-clause-take
 totals-requires-clause-take c =
     let chs = c.args.channels.now in
-    let e = c.channel-item.result in
-    let read = get_or_read chs c.loop-channel.channel-index e c.loop-channel-test.true c.channel-item.is no_channel in
-    let is : c.cycle_among-takes.result ≡ cycle_among chs e.to =
-    c.cycle_among-takes.ensures ∙ ap (λ (e : Edge). cycle_among chs e.to) c.channel.view_is in
-    subst (λ n. IsCycle n e.take) (sym is) (subst (λ (e : Edge). IsCycle (cycle_among chs e.to) e.take) (sym read)
-    (c.requires.take c.loop-channel.channel-index c.loop-channel-test.true))
+    let i : ℕ = c.loop-channel.channel-index in
+    let read = get_or_read chs i c.channel-item.result c.loop-channel-test.true c.channel-item.is no_channel in
+    let at : Edge = get_or chs i no_channel in (
+      cycle_among chs at.to,
+      subst (λ (e : Edge). IsCycle (cycle_among chs at.to) e.take) (sym read)
+          (c.requires.take i c.loop-channel-test.true),
+    )
 
 pub loop-channel-preserved : goal.loop-channel-preserved
 loop-channel-preserved c =
