@@ -14,6 +14,6 @@ pub mod texts;
 
 pub use design::{Design, design_files, read_design};
 pub use fault::FileFault;
-pub use schedule::{push_link, schedule_text};
+pub use schedule::{push_link, schedule_text, stretch_at};
 pub use sdf_document::{DocumentFault, Place};
 pub use texts::check_text;

@@ -15,7 +15,7 @@ use sdf_sched::Period;
 use std::alloc::{AllocError, Global};
 
 /// How many firings of one actor stand in an order from a place on.
-fn stretch_at(order: &[usize], at: usize) -> usize
+pub fn stretch_at(order: &[usize], at: usize) -> usize
     requires { at < length order.now }
     ensures stretch { stretches (drop at order.now) ≡
         record { actor = slice_index order.now at; firings = result } ∷ stretches (drop (at + result) order.now) }

@@ -1,4 +1,3 @@
-pub mod Stretches
 pub mod Depths
 pub mod FlatDesigns
 pub mod FlatTables

@@ -8,7 +8,7 @@ ghost use Rattle.sdf_json.specs.Tables.{stretch_value, cell_value, row_value, ho
 
 use crate::designs::{ends_of, name_of};
 use crate::values::{perhaps, put_number, put_text};
-use sdf_file::Design;
+use sdf_file::{Design, stretch_at};
 use sdf_prec::{Firing, Table};
 use sdf_sched::Period;
 use serde_json::{Map, Value, put};
@@ -26,22 +26,6 @@ fn stretch_value(
     put_text(&mut members, alloc, "actor", name_of(design, actor))?;
     put_number(&mut members, alloc, "firings", firings as u64)?;
     Ok(Value::Object(members))
-}
-
-/// How many firings of one actor stand in an order from a place on.
-fn stretch_at(order: &[usize], at: usize) -> usize
-    requires { at < length order.now }
-    ensures stretch { stretches (drop at order.now) ≡
-        record { actor = slice_index order.now at; firings = result } ∷ stretches (drop (at + result) order.now) }
-    ensures some { 0 < result }
-    ensures within { at + result ≤ length order.now }
-{
-    let actor = order[at];
-    let mut past = at + 1;
-    while past < order.len() && actor == order[past] {
-        past += 1;
-    }
-    past - at
 }
 
 /// An item for each longest stretch of one actor.
