@@ -163,7 +163,8 @@ module _ {A B S T : Type 0} (rise : SumsRise) (s : Steps A S T) (r : Steps B S T
   module _ (a : ℕ) (known : a < length n.nodes) (x : A) (is : node n a ≡ Inner x) (b : B) (now : S)
       (given : get_or rest.states.items a None ≡ Some now) (same : BeginsIn s r x now b) where
     left_in : now ≡ state_after s x (before a)
-    left_in = let e : Some now ≡ Some (state_after s x (before a)) = sym given ∙ (h.left.states a known ∙ ap (λ y. state_left s y (before a)) is) in cc
+    left_in = let e : Some now ≡ Some (state_after s x (before a)) =
+        sym given ∙ (h.left.states a known ∙ ap (λ y. state_left s y (before a)) is) in cc
 
     cycles : Divides (s.cycle x) (k a)
     cycles = subst (λ y. Divides (cycle_of s y) (k a)) is (h.whole.cycles a known)

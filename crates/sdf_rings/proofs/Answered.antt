@@ -141,7 +141,8 @@ module _ {A S T : Type 0} (s : Steps A S T) (n : Netlist A T) (q : List ℕ) (j 
   pub has_fed : (outputs : List (List T)) (rest : Rest T S) →
       ((order : List ℕ) (cap k : ℕ → ℕ) → IsPlanned s r.net r.seats r.places order cap → AreCountsOf r.net order k →
       feeds.HasRun s r.net r.inputs k outputs rest) →
-      HasRunInRounds s n q j t b inputs patience outputs rounds × feeds.HasRun s n inputs (periods_of q (b * j)) outputs rest
+      HasRunInRounds s n q j t b inputs patience outputs rounds
+      × feeds.HasRun s n inputs (periods_of q (b * j)) outputs rest
   has_fed outputs rest given =
       let run = at_counts (λ m is k. feeds.HasRun s m is k outputs rest) given in
       (run_with outputs (record { history = run.history; is = run.is; count = run.count; each = run.each }), run)

@@ -254,7 +254,8 @@ module _ {A S T : Type 0} (s : Steps A S T) (wired : NetsAreWired s) (ports : Po
         λ e. get_or_default seats (home a) e0 e inside in
         let len : length (get_or seats (home a) e0).left ≡ length P =
         ap (λ (xs : List ℕ). length xs) (plan.asks.lists (home a) e0 inside) ∙ length-map P stand in
-        let more : (get_or seats (home a) e0).next < length (get_or seats (home a) e0).left = let h = f.left in omega arith in
+        let more : (get_or seats (home a) e0).next < length (get_or seats (home a) e0).left = let h = f.left in
+        omega arith in
         record {
           which = home a;
           which_in = inside;

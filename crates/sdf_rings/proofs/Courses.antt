@@ -1,5 +1,6 @@
 -- A block's list so many times over.
-use Rattle.std.proofs.Common.{◌≡◌, ℕ, zero, suc, ◌+◌, ◌*◌, ◌<◌, ◌≤◌, ◌⊎◌, inl, inr, ◌/◌, ◌%◌, List, length, get_or, arith, ap}
+use Rattle.std.proofs.Common.{◌≡◌, ℕ, zero, suc, ◌+◌, ◌*◌, ◌<◌, ◌≤◌, ◌⊎◌, inl, inr, ◌/◌, ◌%◌, List, length, get_or}
+use Rattle.std.proofs.Common.{arith, ap}
 use Rattle.std.proofs.Common.{◌∙◌, sym}
 use Rattle.std.proofs.Math.Nat.{div-add-mod, div-lt_iff_lt-mul, mod-lt, mul-le-mul}
 use Rattle.std.proofs.lemmas.Bool.{cases_lt}

@@ -23,7 +23,8 @@ use Rattle.sdf_rings.specs.Asks.{IsPlanned}
 use Rattle.sdf_rings.specs.Ends.{IsMet}
 use Rattle.sdf_rings.specs.MachineLaws.{Rest, resting, state_on, taken_on, IsStateOf, IsWithin, IsQuiescent, HasGrown}
 use Rattle.sdf_rings.specs.Quiescence.{IsMadeOf}
-use Rattle.sdf_rings.specs.Rests.{stand_of, state_in, producer_of, consumer_of, AreRings, HaveMet, StandAtRest, AreAtRest}
+use Rattle.sdf_rings.specs.Rests.{stand_of, state_in, producer_of, consumer_of, AreRings, HaveMet, StandAtRest}
+use Rattle.sdf_rings.specs.Rests.{AreAtRest}
 use Rattle.sdf_rings.proofs.Dealt.{bit, times_cons}
 use Rattle.sdf_rings.proofs.Kept.{NetLaws}
 use Rattle.sdf_rings.proofs.Quiescent.{quiescent_later}

@@ -110,7 +110,8 @@ module _ {A S T : Type 0} where
         let len = ap length same.left_same in
         record {
           next_fits = let z = same.next_same in let h = ok.next_fits in omega arith;
-          names = λ i h. rw same.left_same (let b = ok.names i (omega arith) in let z = same.stands_same in omega arith);
+          names = λ i h. rw same.left_same (let b = ok.names i (omega arith) in let z =
+              same.stands_same in omega arith);
           each = λ k d h. told_stand inputs j k e d (ok.each k d (let z = same.stands_same in omega arith));
           counts = λ k d h. rw (
             same.left_same,

@@ -56,7 +56,8 @@ reached s n inputs es = after (wiring s n) (answers s n inputs) (at_start (wirin
 abbrev pub RunsPutPrefixes : {A S T : Type 0} → Steps A S T → Type 0
 RunsPutPrefixes {A} {S} {T} s =
     (n : Netlist A T) (inputs : List (List T)) (p : Plan) (b : ℕ) (V : ℕ → List T) (es : List Event) →
-    IsMachinePlan s n p → IsHistoryOf s n inputs (firings p b) V → IsRunOf s n inputs p b es → (c : ℕ) → c < length n.wires →
+    IsMachinePlan s n p → IsHistoryOf s n inputs (firings p b) V → IsRunOf s n inputs p b es → (c : ℕ) →
+    c < length n.wires →
     ((reached s n inputs es).lists c ≡ take (length ((reached s n inputs es).lists c)) (V c)) ×
     (length ((reached s n inputs es).lists c) ≡ put_on (wiring s n) (reached s n inputs es) c)
 
@@ -209,5 +210,6 @@ IsReached s n inputs p b x = (es : List Event) × IsRunOf s n inputs p b es
 abbrev pub QuiescentIsReached : {A S T : Type 0} → Steps A S T → Type 0
 QuiescentIsReached {A} {S} {T} s =
     (n : Netlist A T) (inputs : List (List T)) (p : Plan) (b : ℕ) (x : Rest S T) →
-    IsMachinePlan s n p → IsQuiescent s n inputs (capacity p) x → ((a : ℕ) → a < length n.nodes → x.done a ≤ firings p b a) →
+    IsMachinePlan s n p → IsQuiescent s n inputs (capacity p) x →
+    ((a : ℕ) → a < length n.nodes → x.done a ≤ firings p b a) →
     IsReached s n inputs p b x

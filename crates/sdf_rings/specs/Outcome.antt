@@ -18,7 +18,8 @@ use Rattle.sdf_answer.specs.declared.fault.RunFault.TheVariants.{OutOfMemory, In
 use Rattle.sdf_answer.specs.declared.fault.RunFault.TheVariants.{SessionFailed}
 
 -- what the run gives, where no test fails: the outputs, and in how many rounds. Each round does some firing
-pub record HasRunInRounds {A S T : Type 0} (s : Steps A S T) (n : Netlist A T) (q : List ℕ) (j : ℕ) (t : Tabled) (blocks : ℕ)
+pub record HasRunInRounds {A S T : Type 0} (s : Steps A S T) (n : Netlist A T) (q : List ℕ) (j : ℕ)
+    (t : Tabled) (blocks : ℕ)
     (inputs : List (List T)) (patience : ℕ) (outputs : List (List T)) (rounds : ℕ) : Type 0 where
   pub homed : IsHomed t
   pub patient : patience ≤ MOST_PATIENCE

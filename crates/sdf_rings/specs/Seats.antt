@@ -1,5 +1,6 @@
 -- What one worker holds, and what it did in a round.
-use Rattle.std.specs.Prelude.{ℕ, ◌≡◌, ◌+◌, ◌<◌, ◌≤◌, ◌⊎◌, List, vec_len, slice_index, slice_index_or, slice_range, length}
+use Rattle.std.specs.Prelude.{ℕ, ◌≡◌, ◌+◌, ◌<◌, ◌≤◌, ◌⊎◌, List, vec_len, slice_index, slice_index_or, slice_range}
+use Rattle.std.specs.Prelude.{length}
 use Rattle.sdf_graph.specs.Sequences.{times}
 use Rattle.sdf_actor.specs.Steps.{Steps}
 use Rattle.sdf_actor.specs.Nets.{Netlist}

@@ -198,7 +198,8 @@ module _ {A S T : Type 0} (s : Steps A S T) (n : Netlist A T) (inputs : List (Li
     states = λ a l.
         let w : NodeState T S = some_of states a (omega (arith, over.between.nodes)) in
         copies a w l ∙
-        keep inputs (blocks * (j * get_or q a 0)) (nets.node n a) (taken_before (wiring s n) over.between.history a (k a))
+        keep inputs (blocks * (j * get_or q a 0)) (nets.node n a)
+        (taken_before (wiring s n) over.between.history a (k a))
         (get_or states a w) (node_at a (nets.node n a) w l refl);
     channels = sym (length-map rest.held.items (λ v. v.items))
         ∙ (ap length held ∙ (length-map ls (λ (q : Held T). q.samples) ∙ over.between.channels));

@@ -1,5 +1,5 @@
-//! Worked times, counted by hand: a fork of two ways with three rows of costs, a table that was made for other costs, and
-//! bounds.
+//! Worked times, counted by hand: a fork of two ways with three rows of costs, a table that was made for other costs,
+//! and bounds.
 
 use crate::graphs::{costs_of, longer_fork, pair, period_of};
 use crate::slow_times::by_times;
@@ -10,8 +10,8 @@ use std::alloc::{AllocError, Global};
 use std::test::Fail;
 use test_texts::says;
 
-/// Of Hu's table of the fork in two columns, homed: the starts in row order, the makespan, the loads of both columns, the
-/// span, the work and the bound.
+/// Of Hu's table of the fork in two columns, homed: the starts in row order, the makespan, the loads of both columns,
+/// the span, the work and the bound.
 fn of_a_fork(alloc: Global, costs: &[u32]) -> Result<String, Fail> {
     let graph = longer_fork(alloc)?;
     graph.channels();

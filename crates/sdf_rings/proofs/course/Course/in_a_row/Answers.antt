@@ -11,7 +11,15 @@ returns-then-index-clause-inside c =
     let first = ap (λ n. c.args.place % n) long in
     subst (λ xs. c.args.place + c.loop-j.j ≤ length xs) c.self.view_is
     (inside c.self.inside.blocks c.args.place w h c.loop-j.j
-    (omega (arith, long, first, within c.self.inside.blocks c.args.place w h, c.len-2.ensures, c.min-many.ensures, c.loop-j-test.true)))
+    (omega (
+      arith,
+      long,
+      first,
+      within c.self.inside.blocks c.args.place w h,
+      c.len-2.ensures,
+      c.min-many.ensures,
+      c.loop-j-test.true,
+    )))
 
 pub returns-then-index-clause-same : goal.returns-then-index-clause-same
 returns-then-index-clause-same c =
@@ -22,7 +30,15 @@ returns-then-index-clause-same c =
     subst (λ xs. (j : _) → j < c.loop-j.j → slice_index xs c.args.place ≡ slice_index xs (c.args.place + j))
     c.self.view_is
     (row c.self.inside.blocks c.args.place w h c.loop-j.j
-    (omega (arith, long, first, within c.self.inside.blocks c.args.place w h, c.len-2.ensures, c.min-many.ensures, c.loop-j-test.true))
+    (omega (
+      arith,
+      long,
+      first,
+      within c.self.inside.blocks c.args.place w h,
+      c.len-2.ensures,
+      c.min-many.ensures,
+      c.loop-j-test.true,
+    ))
     (subst (λ f. (j : _) → j < c.loop-j.j → slice_index w f ≡ slice_index w (f + j)) first c.loop-j.invariant))
 
 pub returns-clause-inside : goal.returns-clause-inside
