@@ -16,7 +16,7 @@ use Rattle.sdf_prec.specs.Precedence.{WaitsFor}
 use Rattle.sdf_prec.specs.Tables.{firing, firings, no_firing, row, order, Stands, IsOfBlock, IsValid}
 use Rattle.sdf_prec.specs.Next.{IsNext}
 use Rattle.sdf_prec.specs.Laws.{SomeIsNext, NextMayFire}
-use Rattle.sdf_prec.specs.TimedRows.{Timed, no_row, timed, cells_of, IsAt, Occurs, IsReadyAt, AreTimed, hu_rule}
+use Rattle.sdf_prec.specs.TimedRows.{Timed, no_row, timed, cells_of, StandsAt, Occurs, IsReadyAt, AreTimed, hu_rule}
 use Rattle.sdf_prec.specs.Floor.{IsNextReady, IsFloor, IsStuck}
 use Rattle.sdf_prec.proofs.Floors.{row_known, none_busy}
 use Rattle.sdf_prec.proofs.RowCells.{stands_at}
@@ -115,22 +115,22 @@ module _ (past : List Timed) where
   rows_length : length (cells_of past) ≡ length past
   rows_length = length-map past (λ (x : Timed). x.cells)
 
-  pub at_of : (i : ℕ) (f : Firing) → Stands (firings (row (cells_of past) i)) f → (j : ℕ) × IsAt past i j f
+  pub at_of : (i : ℕ) (f : Firing) → Stands (firings (row (cells_of past) i)) f → (j : ℕ) × StandsAt past i j f
   at_of i f st = let at = cell_where (row (cells_of past) i) f st in
       (at.0, ap (λ (cs : List (Option Firing)). get_or cs at.0 None) (sym (row_of past i)) ∙ at.1)
 
-  pub stands_of : (i j : ℕ) (f : Firing) → IsAt past i j f → Stands (firings (row (cells_of past) i)) f
+  pub stands_of : (i j : ℕ) (f : Firing) → StandsAt past i j f → Stands (firings (row (cells_of past) i)) f
   stands_of i j f at = stands_at (row (cells_of past) i) j f
       (ap (λ (cs : List (Option Firing)). get_or cs j None) (row_of past i) ∙ at)
 
   pub occurs_of : (m : ℕ) (f : Firing) → Stands (order (take m (cells_of past))) f →
-      (i : ℕ) × (j : ℕ) × (i < m) × IsAt past i j f
+      (i : ℕ) × (j : ℕ) × (i < m) × StandsAt past i j f
   occurs_of m f st =
       let in' = stands_in (cells_of past) m f st in
       let at = at_of in'.0 f in'.3 in
       (in'.0, at.0, in'.1, at.1)
 
-  pub order_of : (m i j : ℕ) (f : Firing) → i < m → IsAt past i j f → Stands (order (take m (cells_of past))) f
+  pub order_of : (m i j : ℕ) (f : Firing) → i < m → StandsAt past i j f → Stands (order (take m (cells_of past))) f
   order_of m i j f h at = in_order (cells_of past) i m f h
       (let l = row_known past i j f at in omega (arith, rows_length)) (stands_of i j f at)
 
@@ -229,7 +229,7 @@ rows_valid r n cost level width homed past now ended started ends until floor ro
         let low = (floor.occurs f k).1 (i, j, at) in
         (k, omega (arith, floor.within f.actor k))
 
-    earlier : (i : ℕ) → i < length past → (f g : Firing) → (j : ℕ) × IsAt past i j f → WaitsFor r f g →
+    earlier : (i : ℕ) → i < length past → (f g : Firing) → (j : ℕ) × StandsAt past i j f → WaitsFor r f g →
         Stands (order (take i (cells_of past))) g
     earlier i l f g (j, at) waits =
         let ready = row_ready r n cost level width homed (take i past) (timed past i).start (timed past i).cells

@@ -5,7 +5,7 @@ use Rattle.sdf_graph.specs.Rates.{Rates}
 use Rattle.sdf_prec.specs.declared.firing.Firing.{Firing}
 use Rattle.sdf_prec.specs.declared.fault.PrecFault.{PrecFault}
 use Rattle.sdf_prec.specs.declared.fault.PrecFault.TheVariants.{OutOfMemory, BlockingFactor, BlockTooLong}
-use Rattle.sdf_prec.specs.Blocks.{IsFactor, IsWorkers, IsBlockFault, IsLengthFault, IsSizeFault}
+use Rattle.sdf_prec.specs.Blocks.{IsBlocking, IsWorkers, IsBlockFault, IsLengthFault, IsSizeFault}
 use Rattle.sdf_prec.specs.Levels.{IsLevel}
 use Rattle.sdf_prec.specs.Tables.{firings, row, Tabled, IsValid, IsExact, IsOfBlock}
 use Rattle.sdf_prec.specs.TimedRows.{Timed, cells_of, AreTimedRows, hu_rule}
@@ -39,7 +39,7 @@ hu_table r n cost level width homed past t are valid same exact levels = record 
     known i l = let e : length (cells_of past) ≡ length past = length-map past (λ (x : Timed). x.cells) in omega arith
 
 -- where the periods may be, what is wrong with their firings is a block's fault
-pub fault_block : (j : ℕ) (reps : List ℕ) (e : PrecFault) → IsFactor j → IsLengthFault j reps e → IsBlockFault j reps e
+pub fault_block : (j : ℕ) (reps : List ℕ) (e : PrecFault) → IsBlocking j → IsLengthFault j reps e → IsBlockFault j reps e
 fault_block j reps OutOfMemory few h = tt
 fault_block j reps BlockTooLong few h = (few, h)
 fault_block j reps _ few h = absurd h

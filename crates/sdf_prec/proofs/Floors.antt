@@ -8,11 +8,11 @@ use Rattle.sdf_graph.specs.Rates.{Rates, IsSound}
 use Rattle.sdf_graph.specs.Sequences.{IsEnabled}
 use Rattle.sdf_prec.specs.declared.firing.Firing.{Firing}
 use Rattle.sdf_prec.specs.Precedence.{WaitsFor}
-use Rattle.sdf_prec.specs.TimedRows.{Timed, no_row, IsAt, HasEnded, IsBusy, IsReadyAt, end_at}
+use Rattle.sdf_prec.specs.TimedRows.{Timed, no_row, StandsAt, HasEnded, IsBusy, IsReadyAt, end_at}
 use Rattle.sdf_prec.specs.Floor.{IsNextReady, IsFloor}
 
 -- a firing stands in a row that is there
-pub row_known : (past : List Timed) (i j : ℕ) (f : Firing) → IsAt past i j f → i < length past
+pub row_known : (past : List Timed) (i j : ℕ) (f : Firing) → StandsAt past i j f → i < length past
 row_known past i j f at = go (cases_lt i (length past))
   where
     go : (i < length past) ⊎ (length past ≤ i) → i < length past
@@ -51,7 +51,7 @@ module _ (r : Rates) (n cost : ℕ → ℕ) (width : ℕ) (past : List Timed) (t
   pub busy_of : (j : ℕ) → t < until j → IsBusy cost past t j
   busy_of j h = go (w.until_at j)
     where
-      go : (until j ≡ 0) ⊎ ((i : ℕ) × (f : Firing) × IsAt past i j f × (until j ≡ end_at cost past i f)) →
+      go : (until j ≡ 0) ⊎ ((i : ℕ) × (f : Firing) × StandsAt past i j f × (until j ≡ end_at cost past i f)) →
           IsBusy cost past t j
       go (inl e) = absurd (omega arith)
       go (inr (i, f, at, e)) = (i, f, at, omega arith)
@@ -151,10 +151,10 @@ module _ (r : Rates) (n cost : ℕ → ℕ) (width : ℕ) (past : List Timed) (t
     until_at = w.until_at;
   }
     where
-      started_at : (i j : ℕ) (f : Firing) → IsAt past i j f → f.number < started f.actor
+      started_at : (i j : ℕ) (f : Firing) → StandsAt past i j f → f.number < started f.actor
       started_at i j f at = (w.occurs f (w.known i j f at).0).1 (i, j, at)
 
-      ended_to : (i j : ℕ) (f : Firing) → IsAt past i j f → (t' < ends f.actor) ⊎ (ends f.actor ≤ t') →
+      ended_to : (i j : ℕ) (f : Firing) → StandsAt past i j f → (t' < ends f.actor) ⊎ (ends f.actor ≤ t') →
           end_at cost past i f ≤ t' → f.number < ended' f.actor
       ended_to i j f at (inr h) e = let d = done f.actor (w.known i j f at).0 h in omega (arith, started_at i j f at)
       ended_to i j f at (inl h) e = go (cases_lt f.number (ended f.actor))
@@ -174,7 +174,7 @@ module _ (r : Rates) (n cost : ℕ → ℕ) (width : ℕ) (past : List Timed) (t
                   let end = w.last i j f at is in
                   omega (arith, end)
 
-      ended_from : (i j : ℕ) (f : Firing) → IsAt past i j f → (t' < ends f.actor) ⊎ (ends f.actor ≤ t') →
+      ended_from : (i j : ℕ) (f : Firing) → StandsAt past i j f → (t' < ends f.actor) ⊎ (ends f.actor ≤ t') →
           f.number < ended' f.actor → end_at cost past i f ≤ t'
       ended_from i j f at (inl h) l =
           let its : ended' f.actor ≡ ended f.actor = same f.actor (w.known i j f at).0 h in
@@ -209,7 +209,7 @@ module _ (r : Rates) (n cost : ℕ → ℕ) (width : ℕ) (past : List Timed) (t
       let k = (w.known b.0 j b.1 b.2).0 in
       go b.0 b.1 b.2 b.3 k (w.through b.1.actor k)
     where
-      go : (i : ℕ) (f : Firing) (at : IsAt past i j f) → t < end_at cost past i f → f.actor < r.actors →
+      go : (i : ℕ) (f : Firing) (at : StandsAt past i j f) → t < end_at cost past i f → f.actor < r.actors →
           ((ended f.actor ≡ started f.actor) × (ends f.actor ≤ t))
           ⊎ ((ended f.actor + 1 ≡ started f.actor) × (t < ends f.actor)) → ⊥
       go i f at late k (inr x) = omega (arith, all f.actor k, x.1)

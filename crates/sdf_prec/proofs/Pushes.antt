@@ -7,7 +7,7 @@ use Rattle.std.proofs.lemmas.Bool.{cases_lt, cases_eq, cases_order}
 use Rattle.sdf_graph.specs.Rates.{Rates}
 use Rattle.sdf_graph.specs.Sequences.{IsEnabled}
 use Rattle.sdf_prec.specs.declared.firing.Firing.{Firing}
-use Rattle.sdf_prec.specs.TimedRows.{Timed, no_row, timed, IsAt, Occurs, end_at}
+use Rattle.sdf_prec.specs.TimedRows.{Timed, no_row, timed, StandsAt, Occurs, end_at}
 use Rattle.sdf_prec.specs.Floor.{IsNextReady, IsFloor, AreStarted}
 use Rattle.sdf_prec.proofs.Floors.{row_known, column_known}
 
@@ -48,18 +48,18 @@ module _ (past : List Timed) (x : Timed) where
   pub row_new : timed (past ++ x ∷ []) (length past) ≡ x
   row_new = get_or_push past x no_row (length past) refl
 
-  pub at_old : (i j : ℕ) (f : Firing) → IsAt past i j f → IsAt (past ++ x ∷ []) i j f
+  pub at_old : (i j : ℕ) (f : Firing) → StandsAt past i j f → StandsAt (past ++ x ∷ []) i j f
   at_old i j f at = ap (λ (y : Timed). get_or y.cells j None) (row_old i (row_known past i j f at)) ∙ at
 
-  pub at_new : (j : ℕ) (f : Firing) → get_or x.cells j None ≡ Some f → IsAt (past ++ x ∷ []) (length past) j f
+  pub at_new : (j : ℕ) (f : Firing) → get_or x.cells j None ≡ Some f → StandsAt (past ++ x ∷ []) (length past) j f
   at_new j f e = ap (λ (y : Timed). get_or y.cells j None) row_new ∙ e
 
-  pub at_cases : (i j : ℕ) (f : Firing) → IsAt (past ++ x ∷ []) i j f →
-      ((i < length past) × IsAt past i j f) ⊎ ((i ≡ length past) × (get_or x.cells j None ≡ Some f))
+  pub at_cases : (i j : ℕ) (f : Firing) → StandsAt (past ++ x ∷ []) i j f →
+      ((i < length past) × StandsAt past i j f) ⊎ ((i ≡ length past) × (get_or x.cells j None ≡ Some f))
   at_cases i j f at = go (cases_order i (length past))
     where
       go : (i ≡ length past) ⊎ ((i < length past) ⊎ (length past < i)) →
-          ((i < length past) × IsAt past i j f) ⊎ ((i ≡ length past) × (get_or x.cells j None ≡ Some f))
+          ((i < length past) × StandsAt past i j f) ⊎ ((i ≡ length past) × (get_or x.cells j None ≡ Some f))
       go (inl e) = inr (
         e,
         sym (ap (λ (y : Timed). get_or y.cells j None)
@@ -114,11 +114,11 @@ module _ (r : Rates) (n cost : ℕ → ℕ) (width : ℕ) (past : List Timed) (n
   end_new i f e = ap (λ (y : Timed). y.start + cost f.actor)
       (ap (timed rows) e ∙ row_new past (record { start = now; cells = cells }))
 
-  cases : (i j : ℕ) (f : Firing) → IsAt rows i j f →
-      ((i < length past) × IsAt past i j f) ⊎ ((i ≡ length past) × (get_or cells j None ≡ Some f))
+  cases : (i j : ℕ) (f : Firing) → StandsAt rows i j f →
+      ((i < length past) × StandsAt past i j f) ⊎ ((i ≡ length past) × (get_or cells j None ≡ Some f))
   cases i j f at = at_cases past (record { start = now; cells = cells }) i j f at
 
-  low : (i j : ℕ) (f : Firing) → IsAt past i j f → f.number < started f.actor
+  low : (i j : ℕ) (f : Firing) → StandsAt past i j f → f.number < started f.actor
   low i j f at = (w.occurs f (w.known i j f at).0).1 (i, j, at)
 
   occurs_to : (f : Firing) → f.actor < r.actors → f.number < started' f.actor → Occurs rows f
@@ -148,7 +148,7 @@ module _ (r : Rates) (n cost : ℕ → ℕ) (width : ℕ) (past : List Timed) (n
   occurs_from : (f : Firing) → f.actor < r.actors → Occurs rows f → f.number < started' f.actor
   occurs_from f k (i, j, at) = go (cases i j f at)
     where
-      go : ((i < length past) × IsAt past i j f) ⊎ ((i ≡ length past) × (get_or cells j None ≡ Some f)) →
+      go : ((i < length past) × StandsAt past i j f) ⊎ ((i ≡ length past) × (get_or cells j None ≡ Some f)) →
           f.number < started' f.actor
       go (inl (_, old)) = omega (arith, low i j f old, rises f.actor)
       go (inr (_, e)) = omega (arith, (begun j f e).0)
@@ -167,7 +167,7 @@ module _ (r : Rates) (n cost : ℕ → ℕ) (width : ℕ) (past : List Timed) (n
     until_at = λ j. until_at j (get_or cells j None) (λ _. get_or cells j None);
   }
     where
-      known : (i j : ℕ) (f : Firing) → ((i < length past) × IsAt past i j f)
+      known : (i j : ℕ) (f : Firing) → ((i < length past) × StandsAt past i j f)
           ⊎ ((i ≡ length past) × (get_or cells j None ≡ Some f)) →
           (f.actor < r.actors) × (j < width) × ((timed rows i).start ≤ now)
       known i j f (inl (l, at)) =
@@ -191,19 +191,19 @@ module _ (r : Rates) (n cost : ℕ → ℕ) (width : ℕ) (past : List Timed) (n
       within a l (inr none) = omega (arith, (kept a none).0, w.within a l)
 
       -- what is ready stands in no earlier row
-      fresh : (i j m : ℕ) (f : Firing) → IsAt past i j f → get_or cells m None ≡ Some f → ⊥
+      fresh : (i j m : ℕ) (f : Firing) → StandsAt past i j f → get_or cells m None ≡ Some f → ⊥
       fresh i j m f at e = let h = (each m f e).0 in omega (arith, low i j f at, h.next)
 
-      once : (i j k m : ℕ) (f : Firing) → ((i < length past) × IsAt past i j f)
+      once : (i j k m : ℕ) (f : Firing) → ((i < length past) × StandsAt past i j f)
           ⊎ ((i ≡ length past) × (get_or cells j None ≡ Some f)) →
-          ((k < length past) × IsAt past k m f) ⊎ ((k ≡ length past) × (get_or cells m None ≡ Some f)) →
+          ((k < length past) × StandsAt past k m f) ⊎ ((k ≡ length past) × (get_or cells m None ≡ Some f)) →
           (i ≡ k) × (j ≡ m)
       once i j k m f (inl (_, at)) (inl (_, at')) = w.once i j k m f at at'
       once i j k m f (inl (_, at)) (inr (_, e)) = absurd (fresh i j m f at e)
       once i j k m f (inr (_, e)) (inl (_, at)) = absurd (fresh k m j f at e)
       once i j k m f (inr (l, e)) (inr (l', e')) = (l ∙ sym l', apart j m f f e e' (λ _. f.actor))
 
-      ended_is : (i j : ℕ) (f : Firing) → ((i < length past) × IsAt past i j f)
+      ended_is : (i j : ℕ) (f : Firing) → ((i < length past) × StandsAt past i j f)
           ⊎ ((i ≡ length past) × (get_or cells j None ≡ Some f)) →
           (end_at cost rows i f ≤ now) ↔ (f.number < ended f.actor)
       ended_is i j f (inl (l, at)) =
@@ -219,7 +219,7 @@ module _ (r : Rates) (n cost : ℕ → ℕ) (width : ℕ) (past : List Timed) (n
             λ x. absurd (omega (arith, h.next, h.through)),
           )
 
-      last : (i j : ℕ) (f : Firing) → ((i < length past) × IsAt past i j f)
+      last : (i j : ℕ) (f : Firing) → ((i < length past) × StandsAt past i j f)
           ⊎ ((i ≡ length past) × (get_or cells j None ≡ Some f)) →
           ((m : ℕ) × (g : Firing) × (get_or cells m None ≡ Some g) × (g.actor ≡ f.actor))
           ⊎ ((m : ℕ) (g : Firing) → get_or cells m None ≡ Some g → g.actor ≡ f.actor → ⊥) →
@@ -251,14 +251,14 @@ module _ (r : Rates) (n cost : ℕ → ℕ) (width : ℕ) (past : List Timed) (n
       column_rises j None e = let k = b.columns j (λ f l is. none-some f (sym e ∙ is)) in omega arith
       column_rises j (Some g) e = let k = (each j g e).2 in omega (arith, (begun j g e).2)
 
-      above : (i j : ℕ) (f : Firing) → ((i < length past) × IsAt past i j f)
+      above : (i j : ℕ) (f : Firing) → ((i < length past) × StandsAt past i j f)
           ⊎ ((i ≡ length past) × (get_or cells j None ≡ Some f)) → (o : Option Firing) → get_or cells j None ≡ o →
           end_at cost rows i f ≤ until' j
       above i j f (inl (l, at)) o e = omega (arith, end_old i f l, w.until_above i j f at, column_rises j o e)
       above i j f (inr (l, is)) o e = omega (arith, end_new i f l, (begun j f is).2)
 
       until_at : (j : ℕ) (o : Option Firing) → get_or cells j None ≡ o →
-          (until' j ≡ 0) ⊎ ((i : ℕ) × (f : Firing) × IsAt rows i j f × (until' j ≡ end_at cost rows i f))
+          (until' j ≡ 0) ⊎ ((i : ℕ) × (f : Firing) × StandsAt rows i j f × (until' j ≡ end_at cost rows i f))
       until_at j (Some g) e = inr (
         length past,
         g,
@@ -270,8 +270,8 @@ module _ (r : Rates) (n cost : ℕ → ℕ) (width : ℕ) (past : List Timed) (n
           same : until' j ≡ until j
           same = b.columns j (λ f l is. none-some f (sym e ∙ is))
 
-          go : (until j ≡ 0) ⊎ ((i : ℕ) × (f : Firing) × IsAt past i j f × (until j ≡ end_at cost past i f)) →
-              (until' j ≡ 0) ⊎ ((i : ℕ) × (f : Firing) × IsAt rows i j f × (until' j ≡ end_at cost rows i f))
+          go : (until j ≡ 0) ⊎ ((i : ℕ) × (f : Firing) × StandsAt past i j f × (until j ≡ end_at cost past i f)) →
+              (until' j ≡ 0) ⊎ ((i : ℕ) × (f : Firing) × StandsAt rows i j f × (until' j ≡ end_at cost rows i f))
           go (inl z) = inl (same ∙ z)
           go (inr (i, f, at, is)) = inr (
             i,

@@ -8,7 +8,7 @@ use Rattle.sdf_graph.specs.Rates.{Rates, IsSound}
 use Rattle.sdf_graph.specs.Sequences.{IsEnabled}
 use Rattle.sdf_prec.specs.declared.firing.Firing.{Firing}
 use Rattle.sdf_prec.specs.Tables.{firings}
-use Rattle.sdf_prec.specs.TimedRows.{Timed, timed, IsAt, end_at, IsSettled, IsLater, Rule, IsNextRow, AreTimed, hu_rule}
+use Rattle.sdf_prec.specs.TimedRows.{Timed, timed, StandsAt, end_at, IsSettled, IsLater, Rule, IsNextRow, AreTimed, hu_rule}
 use Rattle.sdf_prec.specs.Floor.{IsNextReady, IsFloor, AreStarted, IsStuck, IsDue, IsDone}
 use Rattle.sdf_prec.proofs.Floors.{row_known, floor_later}
 use Rattle.sdf_prec.proofs.Pushes.{row_old, row_new, at_old, at_new, at_cases, floor_more}
@@ -39,7 +39,7 @@ settled_more past x a j = (
   back,
 )
   where
-    to : (i : ℕ) (f : Firing) → f.actor ≡ a → ((i < length past) × IsAt past i j f)
+    to : (i : ℕ) (f : Firing) → f.actor ≡ a → ((i < length past) × StandsAt past i j f)
         ⊎ ((i ≡ length past) × (get_or x.cells j None ≡ Some f)) →
         IsSettled past a j ⊎ ((f : Firing) × (get_or x.cells j None ≡ Some f) × (f.actor ≡ a))
     to i f is (inl (_, at)) = inl (i, f, at, is)
@@ -162,7 +162,7 @@ module _ (r : Rates) (n cost : ℕ → ℕ) (level : Firing → ℕ) (width : �
     busy_until : (j : ℕ) → now < until j → next ≤ until j
     busy_until j h = go (d.floor.until_at j)
       where
-        go : (until j ≡ 0) ⊎ ((i : ℕ) × (f : Firing) × IsAt past i j f × (until j ≡ end_at cost past i f)) →
+        go : (until j ≡ 0) ⊎ ((i : ℕ) × (f : Firing) × StandsAt past i j f × (until j ≡ end_at cost past i f)) →
             next ≤ until j
         go (inl e) = absurd (omega arith)
         go (inr (i, f, at, e)) = at_last (d.floor.through f.actor known)

@@ -11,7 +11,7 @@ use Rattle.sdf_prec.specs.declared.firing.Firing.{Firing}
 use Rattle.sdf_prec.specs.Tables.{firing, firings, row, cell}
 use Rattle.sdf_prec.specs.Trying.{IsLeft, IsPlace, IsPlaced, ArePlaced, load, weight_at}
 use Rattle.sdf_prec.specs.PlainRows.{IsReadyFor, IsFreePlain, IsHomedPlain}
-use Rattle.sdf_prec.specs.TimedRows.{Timed, no_row, timed, cells_of, IsAt, IsBusy, IsReadyAt, IsSettled, Rule}
+use Rattle.sdf_prec.specs.TimedRows.{Timed, no_row, timed, cells_of, StandsAt, IsBusy, IsReadyAt, IsSettled, Rule}
 use Rattle.sdf_prec.specs.TimedRows.{IsNextRow, AreTimed, AreTimedRows, IsFreeRow, IsHomedRow, end_at}
 use Rattle.sdf_prec.specs.UnitRows.{UnitFreeRowsArePlain, UnitHomedRowsArePlain}
 use Rattle.sdf_prec.proofs.Floors.{row_known}
@@ -51,18 +51,18 @@ sum_same f g (suc k) h = let rest = sum_same f g k (λ a l. h a (omega arith)) i
     omega arith
 
 module _ (past : List Timed) (i : ℕ) where
-  front_at : (m j : ℕ) (f : Firing) → IsAt (take i past) m j f → (m < i) × IsAt past m j f
+  front_at : (m j : ℕ) (f : Firing) → StandsAt (take i past) m j f → (m < i) × StandsAt past m j f
   front_at m j f at =
       let k = row_known (take i past) m j f at in
       let low : m < i = omega (arith, length-take i past) in
       (low, sym (ap (λ (x : Timed). get_or x.cells j None) (get_or-take i past m no_row low)) ∙ at)
 
-  front_of : (m j : ℕ) (f : Firing) → m < i → IsAt past m j f → IsAt (take i past) m j f
+  front_of : (m j : ℕ) (f : Firing) → m < i → StandsAt past m j f → StandsAt (take i past) m j f
   front_of m j f low at = ap (λ (x : Timed). get_or x.cells j None) (get_or-take i past m no_row low) ∙ at
 
 module _ (r : Rates) (n cost : ℕ → ℕ) (level : Firing → ℕ) (width : ℕ) (rule : Rule) (rows : List Timed)
     (unit : (a : ℕ) → a < r.actors → cost a ≡ 1) (are : AreTimedRows r n width rule rows)
-    (known : (i j : ℕ) (f : Firing) → IsAt rows i j f → f.actor < r.actors) (i : ℕ) (here : i < length rows) where
+    (known : (i j : ℕ) (f : Firing) → StandsAt rows i j f → f.actor < r.actors) (i : ℕ) (here : i < length rows) where
   abbrev t : ℕ
   t = (timed rows i).start
 
@@ -70,7 +70,7 @@ module _ (r : Rates) (n cost : ℕ → ℕ) (level : Firing → ℕ) (width : �
   next = are.rows_are i here
 
   -- what stands in an earlier row has ended
-  over : (m j : ℕ) (f : Firing) → IsAt (take i rows) m j f → end_at cost (take i rows) m f ≤ (timed rows i).start
+  over : (m j : ℕ) (f : Firing) → StandsAt (take i rows) m j f → end_at cost (take i rows) m f ≤ (timed rows i).start
   over m j f at =
       let k = row_known (take i rows) m j f at in
       let front = front_at rows i m j f at in
@@ -121,12 +121,12 @@ module _ (r : Rates) (n cost : ℕ → ℕ) (level : Firing → ℕ) (width : �
 
 -- in rows by a rule whose firings are ready, each firing is of an actor
 module _ (r : Rates) (n cost : ℕ → ℕ) (level : Firing → ℕ) (width : ℕ) (rows : List Timed) where
-  free_known : AreTimed width (IsFreeRow r n cost level width) rows → (i j : ℕ) (f : Firing) → IsAt rows i j f →
+  free_known : AreTimed width (IsFreeRow r n cost level width) rows → (i j : ℕ) (f : Firing) → StandsAt rows i j f →
       f.actor < r.actors
   free_known are i j f at = (row_ready r n cost level width false (take i rows) (timed rows i).start
       (timed rows i).cells (are i (row_known rows i j f at)).by_rule j f at).of_block.0
 
-  homed_known : AreTimed width (IsHomedRow r n cost level width) rows → (i j : ℕ) (f : Firing) → IsAt rows i j f →
+  homed_known : AreTimed width (IsHomedRow r n cost level width) rows → (i j : ℕ) (f : Firing) → StandsAt rows i j f →
       f.actor < r.actors
   homed_known are i j f at = (row_ready r n cost level width true (take i rows) (timed rows i).start
       (timed rows i).cells (are i (row_known rows i j f at)).by_rule j f at).of_block.0
@@ -143,7 +143,7 @@ free_plain r n cost level width rows unit are = record {
   all = λ f of. order_all rows f (are.all f of);
 }
   where
-    known : (i j : ℕ) (f : Firing) → IsAt rows i j f → f.actor < r.actors
+    known : (i j : ℕ) (f : Firing) → StandsAt rows i j f → f.actor < r.actors
     known = free_known r n cost level width rows are.rows_are
 
     within : (i : ℕ) → i < length (cells_of rows) → i < length rows
@@ -178,7 +178,7 @@ homed_plain r n cost level width rows unit are = record {
   all = λ f of. order_all rows f (are.all f of);
 }
   where
-    known : (i j : ℕ) (f : Firing) → IsAt rows i j f → f.actor < r.actors
+    known : (i j : ℕ) (f : Firing) → StandsAt rows i j f → f.actor < r.actors
     known = homed_known r n cost level width rows are.rows_are
 
     within : (i : ℕ) → i < length (cells_of rows) → i < length rows

@@ -3,14 +3,14 @@ use Rattle.std.specs.Prelude.{◌≡◌, ℕ, ◌⊎◌, List, length, slice_ind
 use Rattle.sdf_graph.specs.Rates.{Rates}
 use Rattle.sdf_prec.specs.declared.firing.Firing.{Firing}
 use Rattle.sdf_prec.specs.declared.fault.PrecFault.{PrecFault}
-use Rattle.sdf_prec.specs.Blocks.{block, IsFactor, IsWorkers, IsShort, IsSizeFault}
+use Rattle.sdf_prec.specs.Blocks.{block, IsBlocking, IsWorkers, IsShort, IsSizeFault}
 use Rattle.sdf_prec.specs.Tables.{IsValid, Tabled, IsTable}
 use Rattle.sdf_prec.specs.Tidied.{tidied}
 use Rattle.sdf_prec.specs.Refusals.{AreNarrow, StandsFirst}
 
 -- a block of j periods may be, and m workers
 pub record IsSize (j m : ℕ) (reps : List ℕ) : Type 0 where
-  pub factor : IsFactor j
+  pub factor : IsBlocking j
   pub workers : IsWorkers m
   pub short : IsShort j reps
 

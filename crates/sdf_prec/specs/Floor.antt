@@ -8,7 +8,7 @@ use Rattle.sdf_graph.specs.Adjacency.{ListsExactly}
 use Rattle.sdf_prec.specs.declared.firing.Firing.{Firing}
 use Rattle.sdf_prec.specs.Tables.{cell_of, firings}
 use Rattle.sdf_prec.specs.Trying.{AreFilled}
-use Rattle.sdf_prec.specs.TimedRows.{Timed, timed, IsAt, Occurs, end_at, IsSettled, IsLater, AreTimed, hu_rule}
+use Rattle.sdf_prec.specs.TimedRows.{Timed, timed, StandsAt, Occurs, end_at, IsSettled, IsLater, AreTimed, hu_rule}
 
 -- the firing is its actor's next one, those before it have ended, and the actor is enabled at the counts of ended
 -- firings
@@ -32,21 +32,21 @@ pub record IsFilling (until : List ℕ) (now i : ℕ) (queue : List Firing) (nex
 pub record IsFloor (r : Rates) (n cost : ℕ → ℕ) (width : ℕ) (past : List Timed) (now : ℕ)
     (ended started ends until : ℕ → ℕ) : Type 0 where
   pub occurs : (f : Firing) → f.actor < r.actors → (f.number < started f.actor) ↔ Occurs past f
-  pub known : (i j : ℕ) (f : Firing) → IsAt past i j f →
+  pub known : (i j : ℕ) (f : Firing) → StandsAt past i j f →
       (f.actor < r.actors) × (j < width) × ((timed past i).start ≤ now)
   pub within : (a : ℕ) → a < r.actors → started a ≤ n a
-  pub once : (i j k m : ℕ) (f : Firing) → IsAt past i j f → IsAt past k m f → (i ≡ k) × (j ≡ m)
+  pub once : (i j k m : ℕ) (f : Firing) → StandsAt past i j f → StandsAt past k m f → (i ≡ k) × (j ≡ m)
   -- a firing has ended exactly where its number is among those that have
-  pub ended_is : (i j : ℕ) (f : Firing) → IsAt past i j f → (end_at cost past i f ≤ now) ↔ (f.number < ended f.actor)
+  pub ended_is : (i j : ℕ) (f : Firing) → StandsAt past i j f → (end_at cost past i f ≤ now) ↔ (f.number < ended f.actor)
   -- an actor's last firing ends where the actor is through
-  pub last : (i j : ℕ) (f : Firing) → IsAt past i j f → f.number + 1 ≡ started f.actor →
+  pub last : (i j : ℕ) (f : Firing) → StandsAt past i j f → f.number + 1 ≡ started f.actor →
       ends f.actor ≡ end_at cost past i f
   pub through : (a : ℕ) → a < r.actors → ((ended a ≡ started a) × (ends a ≤ now))
       ⊎ ((ended a + 1 ≡ started a) × (now < ends a))
   pub on : (a : ℕ) → a < r.actors → ended a < started a → IsEnabled r ended a
   -- a column is through where the last firing in it ends
-  pub until_above : (i j : ℕ) (f : Firing) → IsAt past i j f → end_at cost past i f ≤ until j
-  pub until_at : (j : ℕ) → (until j ≡ 0) ⊎ ((i : ℕ) × (f : Firing) × IsAt past i j f × (until j ≡ end_at cost past i f))
+  pub until_above : (i j : ℕ) (f : Firing) → StandsAt past i j f → end_at cost past i f ≤ until j
+  pub until_at : (j : ℕ) → (until j ≡ 0) ⊎ ((i : ℕ) × (f : Firing) × StandsAt past i j f × (until j ≡ end_at cost past i f))
 
 -- the firings of a row have started at time now
 pub record AreStarted (cost : ℕ → ℕ) (now i : ℕ) (cells : List (Option Firing))

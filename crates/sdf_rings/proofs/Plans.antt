@@ -11,7 +11,7 @@ use Rattle.sdf_prec.specs.Blocks.{block}
 use Rattle.sdf_prec.specs.Laws.{TablesRepeat, AreBlocks}
 use Rattle.sdf_actor.specs.Steps.{Steps}
 use Rattle.sdf_actor.specs.Nets.{Netlist, wiring}
-use Rattle.sdf_rings.specs.MachineLaws.{Plan, IsMachinePlan, firings, capacity, roomy}
+use Rattle.sdf_rings.specs.MachineLaws.{MachinePlan, IsMachinePlan, firings, capacity, roomy}
 
 -- a sequence of firings that fires each actor a k a times, and what it needs
 pub record IsSequence (r : Rates) (k cap : ℕ → ℕ) (w : List ℕ) : Type 0 where
@@ -21,7 +21,7 @@ pub record IsSequence (r : Rates) (k cap : ℕ → ℕ) (w : List ℕ) : Type 0 
   pub room : (i : ℕ) → i ≤ length w → (c : ℕ) → c < r.channels →
       r.initial c + r.produced c (times (take i w) (r.source c)) ≤ cap c + r.consumed c (times (take i w) (r.target c))
 
-abbrev pub sequence_of : Plan → ℕ → List ℕ
+abbrev pub sequence_of : MachinePlan → ℕ → List ℕ
 sequence_of p b = repeated b p.table.order
 
 tokens_alike : (r t : Rates) (k : ℕ → ℕ) (c : ℕ) → IsAlike r t → c < r.channels → tokens r k c ≡ tokens t k c
@@ -40,7 +40,7 @@ room_more rooms cap c some =
     omega (arith, more)
 
 pub plan_sequence : AlikeSequences → TablesRepeat →
-    {A S T : Type 0} (s : Steps A S T) (n : Netlist A T) (p : Plan) (b : ℕ) → IsMachinePlan s n p →
+    {A S T : Type 0} (s : Steps A S T) (n : Netlist A T) (p : MachinePlan) (b : ℕ) → IsMachinePlan s n p →
     IsSequence (wiring s n).rates (firings p b) (capacity p) (sequence_of p b)
 plan_sequence alike repeats s n p b plan =
     let all : AreBlocks p.rates (λ a. get_or (block p.factor p.period) a 0) p.table b =

@@ -9,8 +9,8 @@ use Rattle.sdf_actor.specs.Steps.{Steps}
 use Rattle.sdf_actor.specs.Histories.{Wiring, Answers, taken, put, taken_before, IsWired}
 use Rattle.sdf_actor.specs.Nets.{Netlist, node, wiring, answers, IsNet, IsHistoryOf}
 use Rattle.sdf_rings.specs.Machine.{Machine, Event, Take, Put, at_start, happens, IsAllowed, IsRun, after}
-use Rattle.sdf_rings.specs.MachineLaws.{blocks_left, Rest, resting, firings, capacity, IsQuiescent, IsStateOf, HasGrown}
-use Rattle.sdf_rings.specs.MachineLaws.{IsWithin, IsMachinePlan, Plan, IsLike, QuiescentReached, QuiescentIsReached}
+use Rattle.sdf_rings.specs.MachineLaws.{blocks_left, Idle, resting, firings, capacity, IsQuiescent, IsStateOf, HasGrown}
+use Rattle.sdf_rings.specs.MachineLaws.{IsWithin, IsMachinePlan, MachinePlan, IsLike, QuiescentReached, QuiescentIsReached}
 use Rattle.sdf_rings.proofs.Kept.{NetLaws, Keeps, keeps_start, keeps_run, last_agrees}
 use Rattle.sdf_rings.proofs.Plans.{sequence_of, plan_sequence, room_first}
 use Rattle.sdf_rings.proofs.Progress.{goes_on}
@@ -48,7 +48,7 @@ run_more f ok x k m cap more s (e ∷ es) run = (
 )
 
 module _ {A S T : Type 0} (s : Steps A S T) (laws : NetLaws s) (n : Netlist A T) (good : IsNet s n)
-    (inputs : List (List T)) (cap : ℕ → ℕ) (x y : Rest S T)
+    (inputs : List (List T)) (cap : ℕ → ℕ) (x y : Idle S T)
     (rest : IsQuiescent s n inputs cap x) (grown : HasGrown s n inputs x y) where
   abbrev f : Wiring T
   f = wiring s n
@@ -142,7 +142,7 @@ module _ {A S T : Type 0} (s : Steps A S T) (laws : NetLaws s) (n : Netlist A T)
 
 module _ (last : LastCountsMore) (others : OthersCountSame) (alike : AlikeSequences) (repeats : TablesRepeat)
     {A S T : Type 0} (s : Steps A S T) (laws : NetLaws s) where
-  module _ (n : Netlist A T) (inputs : List (List T)) (p : Plan) (b : ℕ) (plan : IsMachinePlan s n p) (y : Rest S T)
+  module _ (n : Netlist A T) (inputs : List (List T)) (p : MachinePlan) (b : ℕ) (plan : IsMachinePlan s n p) (y : Idle S T)
       (quiet : IsQuiescent s n inputs (capacity p) y)
       (short : (a : ℕ) → a < length n.nodes → y.done a ≤ firings p b a) where
     -- from where the history is kept a run leads to the quiescent state

@@ -21,7 +21,7 @@ use Rattle.sdf_node.specs.Nodes.{IsAt}
 use Rattle.sdf_rings.specs.declared.seat.Seat.{Seat}
 use Rattle.sdf_rings.specs.Asks.{IsPlanned}
 use Rattle.sdf_rings.specs.Ends.{IsMet}
-use Rattle.sdf_rings.specs.MachineLaws.{Rest, resting, state_on, taken_on, IsStateOf, IsWithin, IsQuiescent, HasGrown}
+use Rattle.sdf_rings.specs.MachineLaws.{Idle, resting, state_on, taken_on, IsStateOf, IsWithin, IsQuiescent, HasGrown}
 use Rattle.sdf_rings.specs.Quiescence.{IsMadeOf}
 use Rattle.sdf_rings.specs.Rests.{stand_of, state_in, producer_of, consumer_of, AreRings, HaveMet, StandAtRest}
 use Rattle.sdf_rings.specs.Rests.{AreAtRest}
@@ -79,7 +79,7 @@ module _ {A S T : Type 0} (s : Steps A S T) (laws : NetLaws s) (n : Netlist A T)
     (r : AreRings s (record { net = n; inputs = inputs; seats = seats; places = places }))
     (met : HaveMet n seats places) (at_rest : AreAtRest s n inputs seats places)
     (q : List ℕ) (accepted : IsAccepted s n q) (order : List ℕ) (cap : ℕ → ℕ)
-    (plan : IsPlanned s n seats places order cap) (x : Rest S T) (made : IsMadeOf n seats places x) where
+    (plan : IsPlanned s n seats places order cap) (x : Idle S T) (made : IsMadeOf n seats places x) where
   at : StandAtRest s n inputs seats places x.done
   at = rest_at s n inputs seats places r at_rest q accepted x.done (λ a e d l. sym (made.dones a e d l))
 
@@ -148,7 +148,7 @@ module _ {A S T : Type 0} (s : Steps A S T) (laws : NetLaws s) (n : Netlist A T)
   within c l = within_one c l
 
   -- the same with the lists of the history
-  abbrev past : Rest S T
+  abbrev past : Idle S T
   past = record { done = x.done; states = x.states; lists = at.history }
 
   past_quiet : IsQuiescent s n inputs cap past

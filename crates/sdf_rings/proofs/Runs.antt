@@ -7,13 +7,13 @@ use Rattle.sdf_actor.specs.Steps.{Steps}
 use Rattle.sdf_actor.specs.Nets.{Netlist, wiring, IsHistoryOf}
 use Rattle.sdf_actor.specs.Laws.{HistoryExists}
 use Rattle.sdf_rings.specs.Machine.{Event, at_start}
-use Rattle.sdf_rings.specs.MachineLaws.{Plan, IsMachinePlan, IsRunOf, firings, capacity, reached, RunsPutPrefixes}
+use Rattle.sdf_rings.specs.MachineLaws.{MachinePlan, IsMachinePlan, IsRunOf, firings, capacity, reached, RunsPutPrefixes}
 use Rattle.sdf_rings.specs.MachineLaws.{RunsKeepWithin, RunsEndInHistories}
 use Rattle.sdf_rings.proofs.Kept.{NetLaws, Keeps, keeps_start, keeps_run, long, begins}
 use Rattle.sdf_rings.proofs.Plans.{plan_sequence, sequence_of, room_first}
 
 module _ (alike : AlikeSequences) (repeats : TablesRepeat) {A S T : Type 0} (s : Steps A S T) (laws : NetLaws s) where
-  kept : (n : Netlist A T) (inputs : List (List T)) (p : Plan) (b : ℕ) (V : ℕ → List T) (es : List Event) →
+  kept : (n : Netlist A T) (inputs : List (List T)) (p : MachinePlan) (b : ℕ) (V : ℕ → List T) (es : List Event) →
       IsMachinePlan s n p → IsHistoryOf s n inputs (firings p b) V → IsRunOf s n inputs p b es →
       Keeps (wiring s n) (firings p b) (capacity p) V (reached s n inputs es)
   kept n inputs p b V es plan history run =

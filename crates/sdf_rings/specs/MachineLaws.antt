@@ -15,7 +15,7 @@ use Rattle.sdf_rings.specs.Machine.{Machine, Event, put_on, taken_from, at_start
 
 -- a period of a graph, how many periods make a block, a table of a block's firings with so many columns, and how many
 -- times the table's capacities the channels may hold
-pub record Plan : Type 0 where
+pub record MachinePlan : Type 0 where
   pub rates : Rates
   pub period : List ℕ
   pub factor : ℕ
@@ -25,7 +25,7 @@ pub record Plan : Type 0 where
 
 -- the graph is the net's, the table is valid, and channels may hold no less than it says. Where its actors are at home
 -- is not asked: the laws hold of each valid table
-pub record IsMachinePlan {A S T : Type 0} (s : Steps A S T) (n : Netlist A T) (p : Plan) : Type 0 where
+pub record IsMachinePlan {A S T : Type 0} (s : Steps A S T) (n : Netlist A T) (p : MachinePlan) : Type 0 where
   pub net : IsNet s n
   pub alike : IsAlike p.rates (wiring s n).rates
   pub sound : IsSound p.rates
@@ -38,14 +38,14 @@ abbrev pub roomy : ℕ → (ℕ → ℕ) → ℕ → ℕ
 roomy rooms cap c = rooms * cap c
 
 -- how often each actor fires in b blocks, and what each channel may hold
-abbrev pub firings : Plan → ℕ → ℕ → ℕ
+abbrev pub firings : MachinePlan → ℕ → ℕ → ℕ
 firings p b a = b * slice_index (block p.factor p.period) a
 
-abbrev pub capacity : Plan → ℕ → ℕ
+abbrev pub capacity : MachinePlan → ℕ → ℕ
 capacity p c = roomy p.rooms (slice_index p.table.caps) c
 
 -- a run of b blocks, and where it leads
-abbrev pub IsRunOf : {A S T : Type 0} → Steps A S T → Netlist A T → List (List T) → Plan → ℕ → List Event → Type 0
+abbrev pub IsRunOf : {A S T : Type 0} → Steps A S T → Netlist A T → List (List T) → MachinePlan → ℕ → List Event → Type 0
 IsRunOf s n inputs p b es = IsRun (wiring s n) (answers s n inputs) (firings p b) (capacity p)
     (at_start (wiring s n)) es
 
@@ -55,7 +55,7 @@ reached s n inputs es = after (wiring s n) (answers s n inputs) (at_start (wirin
 -- what a run has put on each channel begins the history at the counts of all blocks, and is as long as its blocks
 abbrev pub RunsPutPrefixes : {A S T : Type 0} → Steps A S T → Type 0
 RunsPutPrefixes {A} {S} {T} s =
-    (n : Netlist A T) (inputs : List (List T)) (p : Plan) (b : ℕ) (V : ℕ → List T) (es : List Event) →
+    (n : Netlist A T) (inputs : List (List T)) (p : MachinePlan) (b : ℕ) (V : ℕ → List T) (es : List Event) →
     IsMachinePlan s n p → IsHistoryOf s n inputs (firings p b) V → IsRunOf s n inputs p b es → (c : ℕ) →
     c < length n.wires →
     ((reached s n inputs es).lists c ≡ take (length ((reached s n inputs es).lists c)) (V c)) ×
@@ -67,7 +67,7 @@ IsWithin s n cap m = (c : ℕ) → c < length n.wires → length (m.lists c) ≤
 
 abbrev pub RunsKeepWithin : {A S T : Type 0} → Steps A S T → Type 0
 RunsKeepWithin {A} {S} {T} s =
-    (n : Netlist A T) (inputs : List (List T)) (p : Plan) (b : ℕ) (es : List Event) →
+    (n : Netlist A T) (inputs : List (List T)) (p : MachinePlan) (b : ℕ) (es : List Event) →
     IsMachinePlan s n p → InputsReach n inputs (firings p b) → IsRunOf s n inputs p b es →
     IsWithin s n (capacity p) (reached s n inputs es)
 
@@ -80,7 +80,7 @@ IsOver s n k m =
 -- all blocks have moved, or some event is allowed
 abbrev pub RunsGoOn : {A S T : Type 0} → Steps A S T → Type 0
 RunsGoOn {A} {S} {T} s =
-    (n : Netlist A T) (inputs : List (List T)) (p : Plan) (b : ℕ) (es : List Event) →
+    (n : Netlist A T) (inputs : List (List T)) (p : MachinePlan) (b : ℕ) (es : List Event) →
     IsMachinePlan s n p → IsRunOf s n inputs p b es →
     IsOver s n (firings p b) (reached s n inputs es)
     ⊎ ((e : Event) × IsAllowed (wiring s n) (firings p b) (capacity p) (reached s n inputs es) e)
@@ -94,7 +94,7 @@ blocks_left f k m (suc c) = blocks_left f k m c + ((k (f.rates.target c) - m.too
 -- each event moves one of them, so no run has more events than there are blocks
 abbrev pub RunsMoveBlocks : {A S T : Type 0} → Steps A S T → Type 0
 RunsMoveBlocks {A} {S} {T} s =
-    (n : Netlist A T) (inputs : List (List T)) (p : Plan) (b : ℕ) (es : List Event) → IsMachinePlan s n p →
+    (n : Netlist A T) (inputs : List (List T)) (p : MachinePlan) (b : ℕ) (es : List Event) → IsMachinePlan s n p →
     IsRunOf s n inputs p b es →
     length es + blocks_left (wiring s n) (firings p b) (reached s n inputs es) (length n.wires) ≡
     blocks_left (wiring s n) (firings p b) (at_start (wiring s n)) (length n.wires)
@@ -102,7 +102,7 @@ RunsMoveBlocks {A} {S} {T} s =
 -- where all have moved, each channel was given its history
 abbrev pub RunsEndInHistories : {A S T : Type 0} → Steps A S T → Type 0
 RunsEndInHistories {A} {S} {T} s =
-    (n : Netlist A T) (inputs : List (List T)) (p : Plan) (b : ℕ) (V : ℕ → List T) (es : List Event) →
+    (n : Netlist A T) (inputs : List (List T)) (p : MachinePlan) (b : ℕ) (V : ℕ → List T) (es : List Event) →
     IsMachinePlan s n p → IsHistoryOf s n inputs (firings p b) V → IsRunOf s n inputs p b es →
     IsOver s n (firings p b) (reached s n inputs es) →
     (c : ℕ) → c < length n.wires → (reached s n inputs es).lists c ≡ V c
@@ -111,7 +111,7 @@ RunsEndInHistories {A} {S} {T} s =
 -- the take, and the room for the put
 abbrev pub OwnNeverWaits : {A S T : Type 0} → Steps A S T → Type 0
 OwnNeverWaits {A} {S} {T} s =
-    (n : Netlist A T) (p : Plan) (b : ℕ) (m : Machine T) (c : ℕ) →
+    (n : Netlist A T) (p : MachinePlan) (b : ℕ) (m : Machine T) (c : ℕ) →
     IsMachinePlan s n p → c < length n.wires → (wiring s n).rates.source c ≡ (wiring s n).rates.target c →
     (m.took c < firings p b ((wiring s n).rates.target c) → m.took c ≤ m.gave c →
     (wiring s n).rates.consumed c (m.took c + 1) ≤ put_on (wiring s n) m c) ×
@@ -120,13 +120,13 @@ OwnNeverWaits {A} {S} {T} s =
     capacity p c + taken_from (wiring s n) m c)
 
 -- all actors are idle: how often each has fired, its state, and what each channel was given
-pub record Rest (S T : Type 0) : Type 0 where
+pub record Idle (S T : Type 0) : Type 0 where
   pub done : ℕ → ℕ
   pub states : ℕ → S
   pub lists : ℕ → List T
 
 -- the machine there: what was taken is the blocks of the firings that are done
-abbrev pub resting : {A S T : Type 0} → Steps A S T → Netlist A T → Rest S T → Machine T
+abbrev pub resting : {A S T : Type 0} → Steps A S T → Netlist A T → Idle S T → Machine T
 resting s n x = record {
   took = λ c. x.done ((wiring s n).rates.target c);
   gave = λ c. x.done ((wiring s n).rates.source c);
@@ -154,7 +154,7 @@ IsStateOf s (Inner x) past state = state ≡ state_after s x past
 
 -- quiescent: the lists and the states are those of the history at the counts, and no channel is above its capacity
 pub record IsQuiescent {A S T : Type 0} (s : Steps A S T) (n : Netlist A T) (inputs : List (List T)) (cap : ℕ → ℕ)
-    (x : Rest S T) : Type 0 where
+    (x : Idle S T) : Type 0 where
   pub history : IsHistoryOf s n inputs x.done x.lists
   pub states : (a : ℕ) → a < length n.nodes → IsStateOf s (node n a)
       (taken_before (wiring s n) x.lists a (x.done a)) (x.states a)
@@ -168,7 +168,7 @@ taken_on f V a i (suc j) = taken_on f V a i j ++ taken f V a (i + j) ∷ []
 -- from x to y each node has made of the whole blocks that it took what its steps make of them, and knows no more than
 -- its own channels
 pub record HasGrown {A S T : Type 0} (s : Steps A S T) (n : Netlist A T) (inputs : List (List T))
-    (x y : Rest S T) : Type 0 where
+    (x y : Idle S T) : Type 0 where
   pub more : (a : ℕ) → a < length n.nodes → x.done a ≤ y.done a
   -- each list has grown by a block a firing
   pub kept : (c : ℕ) → c < length n.wires → x.lists c ≡ take (length (x.lists c)) (y.lists c)
@@ -194,7 +194,7 @@ pub record IsLike {A T : Type 0} (n : Netlist A T) (d e : Machine T) : Type 0 wh
 -- machine leads to it
 abbrev pub QuiescentReached : {A S T : Type 0} → Steps A S T → Type 0
 QuiescentReached {A} {S} {T} s =
-    (n : Netlist A T) (inputs : List (List T)) (p : Plan) (b : ℕ) (x y : Rest S T) →
+    (n : Netlist A T) (inputs : List (List T)) (p : MachinePlan) (b : ℕ) (x y : Idle S T) →
     IsMachinePlan s n p → IsQuiescent s n inputs (capacity p) x → HasGrown s n inputs x y →
     ((a : ℕ) → a < length n.nodes → y.done a ≤ firings p b a) → IsWithin s n (capacity p) (resting s n y) →
     IsQuiescent s n inputs (capacity p) y ×
@@ -202,14 +202,14 @@ QuiescentReached {A} {S} {T} s =
     IsLike n (after (wiring s n) (answers s n inputs) (resting s n x) es) (resting s n y))
 
 -- a run of b blocks leads to a state where all actors are idle
-abbrev pub IsReached : {A S T : Type 0} → Steps A S T → Netlist A T → List (List T) → Plan → ℕ → Rest S T → Type 0
+abbrev pub IsReached : {A S T : Type 0} → Steps A S T → Netlist A T → List (List T) → MachinePlan → ℕ → Idle S T → Type 0
 IsReached s n inputs p b x = (es : List Event) × IsRunOf s n inputs p b es
     × IsLike n (reached s n inputs es) (resting s n x)
 
 -- a run from the start leads to each quiescent state with no more firings than those of the blocks
 abbrev pub QuiescentIsReached : {A S T : Type 0} → Steps A S T → Type 0
 QuiescentIsReached {A} {S} {T} s =
-    (n : Netlist A T) (inputs : List (List T)) (p : Plan) (b : ℕ) (x : Rest S T) →
+    (n : Netlist A T) (inputs : List (List T)) (p : MachinePlan) (b : ℕ) (x : Idle S T) →
     IsMachinePlan s n p → IsQuiescent s n inputs (capacity p) x →
     ((a : ℕ) → a < length n.nodes → x.done a ≤ firings p b a) →
     IsReached s n inputs p b x

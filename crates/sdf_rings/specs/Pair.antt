@@ -5,7 +5,7 @@ use Rattle.sdf_actor.specs.declared.node.Node.TheVariants.{Source, Sink}
 use Rattle.sdf_actor.specs.Steps.{Steps}
 use Rattle.sdf_actor.specs.Nets.{Netlist, wiring}
 use Rattle.sdf_rings.specs.Machine.{Machine, Event, Take, Put, put_on, taken_from, IsAllowed}
-use Rattle.sdf_rings.specs.MachineLaws.{Plan, IsMachinePlan, IsRunOf, firings, capacity, reached}
+use Rattle.sdf_rings.specs.MachineLaws.{MachinePlan, IsMachinePlan, IsRunOf, firings, capacity, reached}
 
 abbrev pub pair : {A T : Type 0} → Netlist A T
 pair = record { nodes = Source 0 2 ∷ Sink 0 3 ∷ []; wires = record { from = (0, 0); to = (1, 0); initial = [] } ∷ [] }
@@ -17,7 +17,7 @@ first i = Some (record { actor = 0; number = i }) ∷ None ∷ []
 abbrev pub second : ℕ → List (Option Firing)
 second i = None ∷ Some (record { actor = 1; number = i }) ∷ []
 
-abbrev pub plan : {A S T : Type 0} → Steps A S T → Plan
+abbrev pub plan : {A S T : Type 0} → Steps A S T → MachinePlan
 plan s = record {
   rates = (wiring s pair).rates;
   period = 3 ∷ 2 ∷ [];

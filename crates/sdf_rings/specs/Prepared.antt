@@ -11,7 +11,7 @@ use Rattle.sdf_rings.specs.declared.stand.Stand.{Stand}
 use Rattle.sdf_rings.specs.declared.seat.Seat.{Seat}
 use Rattle.sdf_rings.specs.Rests.{stand_of, InHand, HaveMet}
 use Rattle.sdf_rings.specs.Asks.{IsPlanned}
-use Rattle.sdf_rings.specs.MachineLaws.{Plan, IsMachinePlan, firings, roomy}
+use Rattle.sdf_rings.specs.MachineLaws.{MachinePlan, IsMachinePlan, firings, roomy}
 use Rattle.sdf_rings.specs.Begun.{place}
 
 -- there is a seat for each column of the table and each node stands at home. Nothing has fired, all ends have met, so
@@ -33,7 +33,7 @@ pub record IsPrepared {A S T : Type 0} (s : Steps A S T) (n : Netlist A T) (inpu
 -- the table is one of a plan of the net for rings of so many times its capacities, and so many blocks of it are asked
 pub record IsAsked {A S T : Type 0} (s : Steps A S T) (n : Netlist A T) (t : Tabled) (rooms blocks : ℕ)
     (asked : ℕ → ℕ) : Type 0 where
-  pub plan : Plan
+  pub plan : MachinePlan
   pub is : IsMachinePlan s n plan
   pub table_is : plan.table ≡ t
   pub rooms_are : plan.rooms ≡ rooms

@@ -11,13 +11,13 @@ use Rattle.sdf_actor.specs.Nets.{Netlist, node}
 use Rattle.sdf_rings.specs.declared.stand.Stand.{Stand}
 use Rattle.sdf_rings.specs.declared.seat.Seat.{Seat}
 use Rattle.sdf_rings.specs.Asks.{IsPlanned}
-use Rattle.sdf_rings.specs.MachineLaws.{Plan, Rest, IsMachinePlan, IsQuiescent, IsReached, capacity}
+use Rattle.sdf_rings.specs.MachineLaws.{MachinePlan, Idle, IsMachinePlan, IsQuiescent, IsReached, capacity}
 use Rattle.sdf_rings.specs.Rests.{stand_of, state_in, producer_of, InHand}
 
 -- how often each node has fired, the state of each actor, and what was put on each channel. Sources and sinks may have
 -- any state
 pub record IsMadeOf {A S T : Type 0} (n : Netlist A T) (seats : List (Seat A T S)) (places : List (ℕ × ℕ))
-    (x : Rest S T) : Type 0 where
+    (x : Idle S T) : Type 0 where
   pub dones : (a : ℕ) (e : Seat A T S) (d : Stand A T S) → a < length n.nodes →
       x.done a ≡ (stand_of n seats places e d a).done
   pub states : (a : ℕ) (y : A) (e : Seat A T S) (d : Stand A T S) → a < length n.nodes → node n a ≡ Inner y →
@@ -29,6 +29,6 @@ pub record IsMadeOf {A S T : Type 0} (n : Netlist A T) (seats : List (Seat A T S
 -- run of the machine with these capacities leads to it from the start
 abbrev pub AreQuiescent : {A S T : Type 0} → Steps A S T → InHand A S T → Type 0
 AreQuiescent {A} {S} {T} s r =
-    (p : Plan) (b : ℕ) (x : Rest S T) → IsMachinePlan s r.net p →
+    (p : MachinePlan) (b : ℕ) (x : Idle S T) → IsMachinePlan s r.net p →
     IsPlanned s r.net r.seats r.places (repeated b p.table.order) (capacity p) → IsMadeOf r.net r.seats r.places x →
     IsQuiescent s r.net r.inputs (capacity p) x × IsReached s r.net r.inputs p b x

@@ -14,7 +14,7 @@ ghost use Rattle.sdf_answer.specs.Rows.{IsBlockTableOf};
 ghost use Rattle.sdf_node.specs.Kept.{kept_of};
 
 use crate::collect::collect;
-use crate::fired::{Plan, fire, rounds_of};
+use crate::fired::{Blocks, fire, rounds_of};
 use sdf_actor::{Actor, Begun, Net, Rest};
 use sdf_answer::inputs::{are_inputs, first_sample};
 use sdf_answer::laws::{
@@ -51,7 +51,7 @@ fn kept_by<A: Actor>(
 fn fill<R: Threads + AllocGlobal + Sync, A: Actor, G: Gate>(
     rt: &R,
     net: &Net<A>,
-    plan: &Plan,
+    plan: &Blocks,
     inputs: &[Vec<A::Token>],
     gate: &G,
 ) -> Result<(Vec<Vec<A::Token>>, Rest<A::Token, A::State>), AllocError>
@@ -103,7 +103,7 @@ pub fn feed_rows<R: Threads + AllocGlobal + Sync, A: Actor, G: Gate>(
     if !are_inputs(inputs, net.inputs(), least) {
         return Err(RunFault::InputLength);
     }
-    let plan = Plan { table, blocks };
+    let plan = Blocks { table, blocks };
     let (outputs, rest) = fill(rt, net, &plan, inputs, gate)?;
     let rounds = rounds_of(blocks, table.table.rows());
     Ok((Ran { outputs, rounds }, rest))

@@ -27,7 +27,7 @@ use std::thread::Threads;
 
 /// What is run: so many blocks, as a table says.
 #[derive(Drop)]
-pub(crate) struct Plan<'a> {
+pub(crate) struct Blocks<'a> {
     pub(crate) table: &'a BlockTable,
     pub(crate) blocks: u32,
 }
@@ -50,7 +50,7 @@ fn none_done(alloc: Global, repetitions: &[u32]) -> Result<Vec<u64>, AllocError>
 pub(crate) fn fire<R: Threads + AllocGlobal + Sync, A: Actor, G: Gate>(
     rt: &R,
     net: &Net<A>,
-    plan: &Plan,
+    plan: &Blocks,
     inputs: &[Vec<A::Token>],
     filler: A::Token,
     gate: &G,

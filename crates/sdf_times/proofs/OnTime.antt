@@ -11,7 +11,7 @@ use Rattle.sdf_prec.specs.declared.firing.Firing.{Firing}
 use Rattle.sdf_prec.specs.Precedence.{WaitsFor}
 use Rattle.sdf_prec.specs.Tables.{firing, no_firing, firings, cell_of, cell, Stands}
 use Rattle.sdf_prec.specs.Trying.{IsLeft, IsHomeFor, IsPlace, IsPlaced, IsLeast, load}
-use Rattle.sdf_prec.specs.TimedRows.{Timed, timed, cells_of, IsAt, Occurs, HasEnded, IsBusy, IsReadyAt}
+use Rattle.sdf_prec.specs.TimedRows.{Timed, timed, cells_of, StandsAt, Occurs, HasEnded, IsBusy, IsReadyAt}
 use Rattle.sdf_prec.specs.TimedRows.{IsSettled, IsFreeRow, IsHomedRow, IsLater, IsNextRow, AreTimedRows, hu_rule}
 use Rattle.sdf_times.specs.Times.{ComesBefore, AreStarts, end_of}
 use Rattle.sdf_times.specs.Laws.{RowsAreOnTime}
@@ -156,18 +156,18 @@ module _ (r : Rates) (n cost : ℕ → ℕ) (level : Firing → ℕ) (width : �
   module _ (homed : Bool) (rows : List Timed) (start : Firing → ℕ) (dear : (a : ℕ) → a < r.actors → 1 ≤ cost a)
       (are : AreTimedRows r n width (hu_rule r n cost level width homed) rows) (cells : AreCells r n (cells_of rows))
       (starts : AreStarts r cost (cells_of rows) start) where
-    inside : (i j : ℕ) (f : Firing) → i < length rows → IsAt rows i j f → j < width
+    inside : (i j : ℕ) (f : Firing) → i < length rows → StandsAt rows i j f → j < width
     inside i j f l e = omega (arith, column_in (timed rows i).cells j f e, (are.rows_are i l).wide)
 
     -- row k is the first that starts no earlier than firing f of row i
-    module _ (i j : ℕ) (f : Firing) (here : i < length rows) (e : IsAt rows i j f)
-        (before : (k m : ℕ) (g : Firing) → k < i → IsAt rows k m g → start g ≡ (timed rows k).start) (k : ℕ)
+    module _ (i j : ℕ) (f : Firing) (here : i < length rows) (e : StandsAt rows i j f)
+        (before : (k m : ℕ) (g : Firing) → k < i → StandsAt rows k m g → start g ≡ (timed rows k).start) (k : ℕ)
         (upto : k ≤ i) (reached : start f ≤ (timed rows k).start)
         (below : (m : ℕ) → m < k → (timed rows m).start < start f) where
-      at_cell : (m y : ℕ) (g : Firing) → IsAt rows m y g → cell (cells_of rows) m y ≡ Some g
+      at_cell : (m y : ℕ) (g : Firing) → StandsAt rows m y g → cell (cells_of rows) m y ≡ Some g
       at_cell m y g at = cell_at rows m y ∙ at
 
-      at_past : (b m y : ℕ) (g : Firing) → m < b → IsAt rows m y g → IsAt (take b rows) m y g
+      at_past : (b m y : ℕ) (g : Firing) → m < b → StandsAt rows m y g → StandsAt (take b rows) m y g
       at_past b m y g l at = subst (λ (x : Timed). cell_of x.cells y ≡ Some g) (sym (timed_take rows b m l)) at
 
       start_past : (b m : ℕ) → m < b → (timed (take b rows) m).start ≡ (timed rows m).start
@@ -184,7 +184,7 @@ module _ (r : Rates) (n cost : ℕ → ℕ) (level : Firing → ℕ) (width : �
           omega (arith, later, start_past m k less)
 
       -- what comes before the firing stands before row k, and has ended by the firing's start
-      ended : (m y : ℕ) (g : Firing) → m < i → IsAt rows m y g → ComesBefore r (cells_of rows) g f →
+      ended : (m y : ℕ) (g : Firing) → m < i → StandsAt rows m y g → ComesBefore r (cells_of rows) g f →
           (m < k) × ((timed rows m).start + cost g.actor ≤ start f)
       ended m y g l at comes =
           let end = (starts f (i, j, at_cell i j f e)).above (end_of cost start g) (g, comes, refl) in
@@ -197,7 +197,7 @@ module _ (r : Rates) (n cost : ℕ → ℕ) (level : Firing → ℕ) (width : �
           low end some is (inl less) = less
           low end some is (inr high) = absurd (omega (arith, rises m l (cases_eq k m) high))
 
-      column : (m : ℕ) (g : Firing) → m < i → IsAt rows m j g →
+      column : (m : ℕ) (g : Firing) → m < i → StandsAt rows m j g →
           (m < k) × ((timed rows m).start + cost g.actor ≤ start f)
       column m g l at = ended m j g l at (inr (m, i, j, l, at_cell m j g at, at_cell i j f e))
 
@@ -218,7 +218,7 @@ module _ (r : Rates) (n cost : ℕ → ℕ) (level : Firing → ℕ) (width : �
           waits : (g : Firing) → WaitsFor r f g → (m : ℕ) × (y : ℕ) × (m < i) × (cell (cells_of rows) m y ≡ Some g) →
               HasEnded cost (take k rows) u g
           waits g w (m, y, l, up) =
-              let at : IsAt rows m y g = sym (cell_at rows m y) ∙ up in
+              let at : StandsAt rows m y g = sym (cell_at rows m y) ∙ up in
               let end = ended m y g l at (inl w) in
               (m, y, at_past k m y g end.0 at, omega (arith, end.1, start_past k m end.0))
 
@@ -253,12 +253,12 @@ module _ (r : Rates) (n cost : ℕ → ℕ) (level : Firing → ℕ) (width : �
       not_then less = takes homed (timed rows k).start reached (timed rows k).cells (are.rows_are i here).by_rule
           (are.rows_are k (omega arith)).by_rule absent bare (λ h g at its. (k, g, at_past i k h g less at, its))
         where
-          absent : (m : ℕ) → IsAt rows k m f → ⊥
+          absent : (m : ℕ) → StandsAt rows k m f → ⊥
           absent m at =
               let same = cells.once k m i j f (at_cell k m f at) (at_cell i j f e) in
               omega (arith, same.0)
 
-          bare : (g : Firing) → IsAt rows k j g → ⊥
+          bare : (g : Firing) → StandsAt rows k j g → ⊥
           bare g at = let end = column k g less at in omega (arith, end.0)
 
       -- nor between two rows
@@ -286,8 +286,8 @@ module _ (r : Rates) (n cost : ℕ → ℕ) (level : Firing → ℕ) (width : �
               empty : firings row ≡ []
               empty = next.least (start f) later less row wide is
 
-    no_earlier_at : (i j : ℕ) (f : Firing) → IsAt rows i j f →
-        ((k m : ℕ) (g : Firing) → k < i → IsAt rows k m g → start g ≡ (timed rows k).start) →
+    no_earlier_at : (i j : ℕ) (f : Firing) → StandsAt rows i j f →
+        ((k m : ℕ) (g : Firing) → k < i → StandsAt rows k m g → start g ≡ (timed rows k).start) →
         (timed rows i).start ≤ start f
     no_earlier_at i j f e before = go (cases_lt (start f) (timed rows i).start)
       where
@@ -312,14 +312,14 @@ module _ (r : Rates) (n cost : ℕ → ℕ) (level : Firing → ℕ) (width : �
         go (inr high) = high
         go (inl early) = absurd (at early (first_at (λ m. (timed rows m).start) (start f) i (omega arith)))
 
-    on_time_to : (b i j : ℕ) (f : Firing) → i < b → IsAt rows i j f → start f ≡ (timed rows i).start
+    on_time_to : (b i j : ℕ) (f : Firing) → i < b → StandsAt rows i j f → start f ≡ (timed rows i).start
     on_time_to zero i j f l e = absurd (omega arith)
     on_time_to (suc b) i j f l e =
         let low = no_later r n cost level width homed rows start are cells starts i j f e in
         let high = no_earlier_at i j f e (λ k m g h at. on_time_to b k m g (omega arith) at) in
         omega (arith, low, high)
 
-    pub on_time : (i j : ℕ) (f : Firing) → IsAt rows i j f → start f ≡ (timed rows i).start
+    pub on_time : (i j : ℕ) (f : Firing) → StandsAt rows i j f → start f ≡ (timed rows i).start
     on_time i j f e = on_time_to (i + 1) i j f (omega arith) e
 
 pub rows_are_on_time : RowsAreOnTime

@@ -8,7 +8,7 @@ use Rattle.std.proofs.lemmas.Bool.{cases_lt}
 use Rattle.sdf_graph.specs.Rates.{Rates}
 use Rattle.sdf_prec.specs.declared.firing.Firing.{Firing}
 use Rattle.sdf_prec.specs.Tables.{firing, row, cell_of, cell}
-use Rattle.sdf_prec.specs.TimedRows.{Timed, no_row, timed, cells_of, IsAt, end_at, IsBusy, IsReadyAt}
+use Rattle.sdf_prec.specs.TimedRows.{Timed, no_row, timed, cells_of, StandsAt, end_at, IsBusy, IsReadyAt}
 use Rattle.sdf_prec.specs.TimedRows.{AreTimedRows, hu_rule}
 use Rattle.sdf_times.specs.Times.{ComesBefore, AreStarts, end_of}
 use Rattle.sdf_times.specs.Laws.{RowsAreNoSooner}
@@ -32,10 +32,10 @@ pub timed_take : (rows : List Timed) (i k : ℕ) → k < i → timed (take i row
 timed_take rows i k l = get_or-take i rows k no_row l
 
 -- what stands in the first i rows
-pub at_take : (rows : List Timed) (i k j : ℕ) (g : Firing) → IsAt (take i rows) k j g → (k < i) × IsAt rows k j g
+pub at_take : (rows : List Timed) (i k j : ℕ) (g : Firing) → StandsAt (take i rows) k j g → (k < i) × StandsAt rows k j g
 at_take rows i k j g e = go (cases_lt k i)
   where
-    go : (k < i) ⊎ (i ≤ k) → (k < i) × IsAt rows k j g
+    go : (k < i) ⊎ (i ≤ k) → (k < i) × StandsAt rows k j g
     go (inl low) = (low, subst (λ (x : Timed). cell_of x.cells j ≡ Some g) (timed_take rows i k low) e)
     go (inr high) =
         let none : timed (take i rows) k ≡ no_row = get_or_past (take i rows) k no_row
@@ -64,7 +64,7 @@ module _ (r : Rates) (n cost : ℕ → ℕ) (level : Firing → ℕ) (width : �
   module _ (homed : Bool) (rows : List Timed) (start : Firing → ℕ)
       (are : AreTimedRows r n width (hu_rule r n cost level width homed) rows) (cells : AreCells r n (cells_of rows))
       (starts : AreStarts r cost (cells_of rows) start) where
-    pub within : (i j : ℕ) (f : Firing) → IsAt rows i j f → i < length rows
+    pub within : (i j : ℕ) (f : Firing) → StandsAt rows i j f → i < length rows
     within i j f e = go (cases_lt i (length rows))
       where
         go : (i < length rows) ⊎ (length rows ≤ i) → i < length rows
@@ -72,8 +72,8 @@ module _ (r : Rates) (n cost : ℕ → ℕ) (level : Firing → ℕ) (width : �
         go (inr past) = absurd (none-some f (subst (λ (x : Timed). cell_of x.cells j ≡ Some f)
             (get_or_past rows i no_row past) e))
 
-    no_later_at : (i j : ℕ) (f : Firing) → IsAt rows i j f →
-        ((k m : ℕ) (g : Firing) → k < i → IsAt rows k m g → start g ≤ (timed rows k).start) →
+    no_later_at : (i j : ℕ) (f : Firing) → StandsAt rows i j f →
+        ((k m : ℕ) (g : Firing) → k < i → StandsAt rows k m g → start g ≤ (timed rows k).start) →
         start f ≤ (timed rows i).start
     no_later_at i j f e before =
         greatest_least (λ t. (g : Firing) × ComesBefore r (cells_of rows) g f × (end_of cost start g ≡ t)) (start f)
@@ -88,7 +88,7 @@ module _ (r : Rates) (n cost : ℕ → ℕ) (level : Firing → ℕ) (width : �
             (are.rows_are i (within i j f e)).by_rule e
 
         -- a firing of an earlier row has ended where the rule says so
-        ended : (k m : ℕ) (g : Firing) → IsAt (take i rows) k m g →
+        ended : (k m : ℕ) (g : Firing) → StandsAt (take i rows) k m g →
             end_at cost (take i rows) k g ≤ (timed rows i).start → end_of cost start g ≤ (timed rows i).start
         ended k m g at l =
             let x = at_take rows i k m g at in
@@ -96,7 +96,7 @@ module _ (r : Rates) (n cost : ℕ → ℕ) (level : Firing → ℕ) (width : �
             ap (λ (x : Timed). x.start) (timed_take rows i k x.0) in
             omega (arith, before k m g x.0 x.1, same, l)
 
-        column : (k : ℕ) (g : Firing) → IsAt (take i rows) k j g →
+        column : (k : ℕ) (g : Firing) → StandsAt (take i rows) k j g →
             (end_at cost (take i rows) k g ≤ (timed rows i).start)
             ⊎ ((timed rows i).start < end_at cost (take i rows) k g) → end_of cost start g ≤ (timed rows i).start
         column k g at (inl l) = ended k j g at l
@@ -112,8 +112,8 @@ module _ (r : Rates) (n cost : ℕ → ℕ) (level : Firing → ℕ) (width : �
         low u g (inr (k, x, y, l, up, at)) is =
             let same = cells.once x y i j f at here in
             let less : k < i = omega (arith, same.0) in
-            let there : IsAt rows k j g = sym (cell_at rows k j) ∙ (ap (cell (cells_of rows) k) (sym same.1) ∙ up) in
-            let past : IsAt (take i rows) k j g = subst (λ (x : Timed). cell_of x.cells j ≡ Some g)
+            let there : StandsAt rows k j g = sym (cell_at rows k j) ∙ (ap (cell (cells_of rows) k) (sym same.1) ∙ up) in
+            let past : StandsAt (take i rows) k j g = subst (λ (x : Timed). cell_of x.cells j ≡ Some g)
             (sym (timed_take rows i k less)) there in
             omega (
               arith,
@@ -122,11 +122,11 @@ module _ (r : Rates) (n cost : ℕ → ℕ) (level : Firing → ℕ) (width : �
               is,
             )
 
-    no_later_to : (i k m : ℕ) (f : Firing) → k < i → IsAt rows k m f → start f ≤ (timed rows k).start
+    no_later_to : (i k m : ℕ) (f : Firing) → k < i → StandsAt rows k m f → start f ≤ (timed rows k).start
     no_later_to zero k m f l e = absurd (omega arith)
     no_later_to (suc i) k m f l e = no_later_at k m f e (λ x y g low at. no_later_to i x y g (omega arith) at)
 
-    pub no_later : (i j : ℕ) (f : Firing) → IsAt rows i j f → start f ≤ (timed rows i).start
+    pub no_later : (i j : ℕ) (f : Firing) → StandsAt rows i j f → start f ≤ (timed rows i).start
     no_later i j f e = no_later_to (i + 1) i j f (omega arith) e
 
 pub rows_are_no_sooner : RowsAreNoSooner

@@ -3,7 +3,7 @@ use Rattle.std.specs.Prelude.{◌≡◌, ℕ, ◌≤◌, ◌<◌, List, length, 
 use Rattle.sdf_graph.specs.Rates.{Rates}
 use Rattle.sdf_prec.specs.declared.firing.Firing.{Firing}
 use Rattle.sdf_prec.specs.Tables.{row, IsValid}
-use Rattle.sdf_prec.specs.TimedRows.{Timed, timed, cells_of, IsAt, AreTimedRows, hu_rule}
+use Rattle.sdf_prec.specs.TimedRows.{Timed, timed, cells_of, StandsAt, AreTimedRows, hu_rule}
 use Rattle.sdf_times.specs.Times.{IsInTable, ComesBefore, end_of, AreStarts, IsMakespan, work_of, IsSpan, IsBound}
 
 -- a valid table has times
@@ -40,7 +40,7 @@ abbrev pub RowsAreNoSooner : Type 0
 RowsAreNoSooner =
     (r : Rates) (n cost : ℕ → ℕ) (level : Firing → ℕ) (width : ℕ) (homed : Bool) (rows : List Timed)
     (start : Firing → ℕ) → AreTimedRows r n width (hu_rule r n cost level width homed) rows →
-    IsValid r n (cells_of rows) → AreStarts r cost (cells_of rows) start → (i j : ℕ) (f : Firing) → IsAt rows i j f →
+    IsValid r n (cells_of rows) → AreStarts r cost (cells_of rows) start → (i j : ℕ) (f : Firing) → StandsAt rows i j f →
     start f ≤ (timed rows i).start
 
 -- in rows by Hu's rule with costs of at least 1 each firing starts where its row does
@@ -49,5 +49,5 @@ RowsAreOnTime =
     (r : Rates) (n cost : ℕ → ℕ) (level : Firing → ℕ) (width : ℕ) (homed : Bool) (rows : List Timed)
     (start : Firing → ℕ) → ((a : ℕ) → a < r.actors → 1 ≤ cost a) →
     AreTimedRows r n width (hu_rule r n cost level width homed) rows → IsValid r n (cells_of rows) →
-    AreStarts r cost (cells_of rows) start → (i j : ℕ) (f : Firing) → IsAt rows i j f →
+    AreStarts r cost (cells_of rows) start → (i j : ℕ) (f : Firing) → StandsAt rows i j f →
     start f ≡ (timed rows i).start
