@@ -29,6 +29,18 @@ rtlib = rt.rtlib
 rtlib.guarded()
 
 
+def share_work():
+    """Has checks use what those of other checkouts on this machine kept, in a kit whose `rt` can."""
+    if hasattr(rt, "share_work"):
+        rt.share_work(True)
+
+
+def is_refused(kind):
+    """Whether the prover refused an edit, by what `rt.must_fail` says of it: a kind of refusal, or in older kits a
+    truth."""
+    return kind is True or kind in {getattr(rt, name, True) for name in ("REFUSED", "AT_LIMIT")}
+
+
 class Said:
     """A file of what a check says, each line with the seconds since it began."""
 
