@@ -5,6 +5,7 @@
 - docs/PROOFS.md: the list of public functions without a must-fail edit is the repository's.
 - The head of each crate's root file names the crates that crates.txt says it stands on, and where to begin; so does
   the list of crates in docs/ARCHITECTURE.md.
+- What an edit of must-fail/ or mutants/ is to replace stands once in its file.
 - Designs that a test repeats are those of examples/.
 - Blocks marked `console`, in each document: each command, run at the top of the repository, prints what stands below.
 - No line of a document is over 120 columns.
@@ -139,6 +140,25 @@ def unedited():
     return wrong
 
 
+def edits():
+    """The edits whose old texts don't stand once in their files, each pair in what the earlier ones made."""
+    wrong = []
+    for edit in sorted([*TOP.glob("crates/*/must-fail/*.edit"), *TOP.glob("crates/*/mutants/*.edit")]):
+        texts, file, old = {}, None, None
+        for line in edit.read_text().splitlines():
+            word, _, rest = line.partition(": ")
+            if word == "file":
+                file = edit.parent.parent / rest.strip()
+                texts.setdefault(file, file.read_text())
+            elif word == "old":
+                old = rest
+            elif word == "new":
+                if texts[file].count(old) != 1:
+                    wrong.append(f"{edit.relative_to(TOP)}: `{old.strip()}` does not stand once in {file.name}")
+                texts[file] = texts[file].replace(old, rest)
+    return wrong
+
+
 def is_crate(name):
     return (TOP / "crates" / name).is_dir()
 
@@ -218,8 +238,8 @@ def main():
     words = [word for word in sys.argv[1:] if word != "--write"]
     program = words[0] if words else os.path.relpath(TOP / "build" / "sdfw", TOP)
     os.chdir(TOP)
-    wrong = faults(program, "--write" in sys.argv) + kinds(program) + unedited() + heads() + stands_on() + designs()
-    wrong += consoles(program) + widths()
+    wrong = faults(program, "--write" in sys.argv) + kinds(program) + unedited() + edits() + heads() + stands_on()
+    wrong += designs() + consoles(program) + widths()
     print("\n".join(wrong) or "the documents say what the program and the sources say")
     sys.exit(1 if wrong else 0)
 

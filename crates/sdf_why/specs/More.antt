@@ -42,17 +42,15 @@ unfoldable pub firings_line : Meeting → Option (List ℕ) → Option (List ℕ
 firings_line m source target =
     codes "  firings by the other links: " ++ so_many m.source source ++ codes ", " ++ so_many m.target target ++ end
 
--- what is put on a link at an end, and what is taken from it
-unfoldable pub puts_text : Option (List ℕ) → ℕ → List ℕ
-puts_text from n = end_text from ++ codes " puts " ++ decimal n
-
-unfoldable pub takes_text : Option (List ℕ) → ℕ → List ℕ
-takes_text to n = end_text to ++ codes " takes " ++ decimal n
+-- how many samples an end of a link moves, by this verb
+unfoldable pub moves_text : Option (List ℕ) → List ℕ → ℕ → List ℕ
+moves_text at verb n = end_text at ++ verb ++ decimal n
 
 -- what these firings put and take
 unfoldable pub samples_line : Meeting → Option (List ℕ) → Option (List ℕ) → List ℕ
 samples_line m from to =
-    codes "  samples on this link: " ++ puts_text from m.puts ++ codes ", " ++ takes_text to m.takes ++ end
+    codes "  samples on this link: " ++ moves_text from (codes " puts ") m.puts ++ codes ", "
+    ++ moves_text to (codes " takes ") m.takes ++ end
 
 unfoldable pub firings_told : Data → Shape → ℕ → Meeting → List ℕ
 firings_told d g c m = firings_line m

@@ -9,7 +9,7 @@ ghost use Rattle.sdf_actor.specs.declared.fault.NetFault.TheVariants as nets;
 ghost use Rattle.sdf_document.specs.Document.{document_view};
 ghost use Rattle.sdf_document.specs.Lists.{files_view};
 ghost use Rattle.sdf_why.specs.Channels.{graph_in};
-ghost use Rattle.sdf_why.specs.More.{apart_told, IsApartText, so_many, firings_line, puts_text, takes_text};
+ghost use Rattle.sdf_why.specs.More.{apart_told, IsApartText, so_many, firings_line, moves_text};
 ghost use Rattle.sdf_why.specs.More.{samples_line, firings_told, samples_told, meeting_told, IsMeetingText, IsMoreOf};
 ghost use Rattle.sdf_why.specs.More.{IsMore};
 
@@ -112,34 +112,20 @@ fn push_firings(
     Ok(text.push_str("\n")?)
 }
 
-/// Adds what is put on a link at an end.
-#[tactic(auto, unfolding(crate::specs::More::puts_text))]
-fn push_puts(
+/// Adds how many samples an end of a link moves, by this verb.
+#[tactic(auto, unfolding(crate::specs::More::moves_text))]
+fn push_moves(
     alloc: Global,
     text: &mut String,
     end: Option<&str>,
+    verb: &str,
     samples: u64,
 ) -> Result<(), AllocError>
     ensures { OnOk result (string_bytes text.new ≡ string_bytes text.old
-        ++ puts_text (option_map (λ s. s.now) end.entry) samples) }
+        ++ moves_text (option_map (λ s. s.now) end.entry) verb.now samples) }
 {
     push_end(alloc, text, end)?;
-    write!(text, " puts {samples}")
-}
-
-/// Adds what is taken from it.
-#[tactic(auto, unfolding(crate::specs::More::takes_text))]
-fn push_takes(
-    alloc: Global,
-    text: &mut String,
-    end: Option<&str>,
-    samples: u64,
-) -> Result<(), AllocError>
-    ensures { OnOk result (string_bytes text.new ≡ string_bytes text.old
-        ++ takes_text (option_map (λ s. s.now) end.entry) samples) }
-{
-    push_end(alloc, text, end)?;
-    write!(text, " takes {samples}")
+    write!(text, "{verb}{samples}")
 }
 
 /// Adds what these firings put on the link and take from it.
@@ -155,9 +141,9 @@ fn push_samples(
         (option_map (λ s. s.now) from.entry) (option_map (λ s. s.now) to.entry)) }
 {
     text.push_str("  samples on this link: ")?;
-    push_puts(alloc, text, from, meeting.puts)?;
+    push_moves(alloc, text, from, " puts ", meeting.puts)?;
     text.push_str(", ")?;
-    push_takes(alloc, text, to, meeting.takes)?;
+    push_moves(alloc, text, to, " takes ", meeting.takes)?;
     Ok(text.push_str("\n")?)
 }
 

@@ -23,8 +23,8 @@ fn one_sample(alloc: Global) -> Result<Vec<u8>, Fail> {
     Ok(file)
 }
 
-/// How many firings of each actor pass in a run on so many workers, two at most, by blocks of four periods, and how many
-/// of them out of turn.
+/// How many firings of each actor pass in a run on so many workers, two at most, by blocks of four periods, and how
+/// many of them out of turn.
 fn watched<T: Threads + AllocGlobal + Sync>(
     rt: &T,
     runner: Runner,

@@ -4,5 +4,5 @@ use Rattle.sdf_why.proofs.more.push_samples.Goals as goal
 
 pub returns : goal.returns
 unfolding samples_line
-returns c = five_parts _ _ _ _ _ _ _ _ _ _ _ c.in_ok-push_str.ensures.bytes c.in_ok-push_puts.ensures
-    c.in_ok-push_str-2.ensures.bytes c.in_ok-push_takes.ensures c.in_ok-push_str-3.ensures.bytes
+returns c = five_parts _ _ _ _ _ _ _ _ _ _ _ c.in_ok-push_str.ensures.bytes c.in_ok-push_moves.ensures
+    c.in_ok-push_str-2.ensures.bytes c.in_ok-push_moves-2.ensures c.in_ok-push_str-3.ensures.bytes
