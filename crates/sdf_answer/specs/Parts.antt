@@ -1,0 +1,20 @@
+-- Parts of a list, all of one width, each as far behind the one before it.
+use Rattle.std.specs.Prelude.{◌≡◌, ℕ, ◌+◌, ◌*◌, ◌≤◌, ◌<◌, ◌⊎◌, List, length, slice_range}
+use Rattle.sdf_answer.specs.declared.parts.Stride.{Stride}
+
+-- where part i begins
+abbrev pub part_at : Stride → ℕ → ℕ
+part_at s i = s.first + s.step * i
+
+-- part i
+abbrev pub part_of : {T : Type 0} → Stride → ℕ → List T → ℕ → List T
+part_of s width xs i = slice_range xs (part_at s i) (part_at s i + width)
+
+-- so many of them lie in a list
+abbrev pub HoldsParts : {T : Type 0} → Stride → ℕ → ℕ → List T → Type 0
+HoldsParts s width many xs = (i : ℕ) → i < many → part_at s i + width ≤ length xs
+
+-- what touches none of them is as it was
+abbrev pub KeepsOthers : {T : Type 0} → Stride → ℕ → ℕ → List T → List T → Type 0
+KeepsOthers s width many xs ys = (a b : ℕ) → ((i : ℕ) → i < many → (b ≤ part_at s i) ⊎ (part_at s i + width ≤ a)) →
+    slice_range ys a b ≡ slice_range xs a b
