@@ -1,7 +1,11 @@
 -- Parts of a queue's buffer.
-use Rattle.std.proofs.Common.{◌≡◌, ℕ, ◌+◌, ◌≤◌, List, ◌++◌, length, take, drop, sym, ap, ◌∙◌, arith}
+use Rattle.std.proofs.Common.{◌≡◌, ℕ, ◌+◌, ◌≤◌, List, ◌++◌, length, take, drop, sym, ap, ◌∙◌, arith, vec_len}
+use Rattle.std.specs.declared.vec.Vec.{Vec}
+use Rattle.std.specs.Global.{Global}
+use Rattle.std.specs.Vec.{with_items}
 use Rattle.std.specs.List.{between}
-use Rattle.std.proofs.lemmas.List.{drop-drop, take-take, take_all, drop-append-le, length-take-le, length-append}
+use Rattle.std.proofs.lemmas.List.{with_items_is, drop-drop, take-take, take_all, drop-append-le, length-take-le}
+use Rattle.std.proofs.lemmas.List.{length-append}
 use Rattle.std.proofs.lemmas.Slice.{between_is, take-put_mid}
 use borrow.Rule.Slice.PartMut.{put_mid}
 
@@ -30,6 +34,16 @@ put_over xs ys start end many last rise within is =
     between_is (put_mid end many xs ys) start last ∙
     (ap (drop start) (take-put_mid end many xs ys last is within) ∙
     (drop-append-le start (take end xs) ys (omega (arith, long)) ∙ ap (λ zs. zs ++ ys) (sym (between_is xs start end))))
+
+-- the same in the buffer's vector, where its room has fillers
+pub written : {T : Type 0} (list : Vec T Global) (slots ys old : List T) (from to made many : ℕ) → from ≤ to →
+    to + made ≤ vec_len list → length slots ≡ vec_len list → slots ≡ list.items → length ys ≡ made →
+    length (put_mid to many slots ys) ≡ length slots → between from to list.items ≡ old →
+    between from (to + made) (with_items list (put_mid to many slots ys)).items ≡ old ++ ys
+written list slots ys old from to made many rise within len is long kept same =
+    ap (λ xs. between from (to + made) xs) (with_items_is list (put_mid to many slots ys) (kept ∙ len)) ∙
+    (put_over slots ys from to many (to + made) rise (omega arith) (omega arith)
+    ∙ ap (λ xs. xs ++ ys) (ap (between from to) is ∙ same))
 
 -- a part of the beginning of a longer list
 pub part_of_front : {T : Type 0} (xs ys : List T) (start end : ℕ) → take (length xs) ys ≡ xs → end ≤ length xs →

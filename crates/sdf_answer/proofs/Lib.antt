@@ -8,6 +8,8 @@ mod GoingOn
 mod Cycles
 mod Ports
 mod Buffers
+mod Gathers
+mod ManyPorts
 mod Routes
 mod PortRows
 mod Moves

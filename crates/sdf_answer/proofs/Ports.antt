@@ -8,7 +8,7 @@ use Rattle.std.specs.List.{flat_map}
 use Rattle.std.proofs.lemmas.Bool.{cases_eq, eq-eqb, ne_eqb}
 use Rattle.sdf_actor.specs.Histories.{spread}
 use Rattle.sdf_answer.specs.Held.{Held}
-use Rattle.sdf_answer.specs.Blocks.{nothing, samples, room, at_ports, ArePorts, HoldBlocks}
+use Rattle.sdf_answer.specs.Blocks.{nothing, samples, room, at_ports, ArePorts}
 
 pub at_none : (ds : List ℕ) (many c : ℕ) → ((n : ℕ) → n < length ds → get_or ds n 0 ≡ c → ⊥) → at_ports ds many c ≡ 0
 at_none [] many c none = refl
@@ -47,7 +47,7 @@ module _ (ports sizes : List ℕ) (channels : ℕ) (are : ArePorts ports sizes c
       (λ n h e. let short : length (take i ports) ≡ i = length-take-le i ports (omega arith) in
       earlier i n l (omega arith) (sym (get_or-take i ports n 0 (omega arith)) ∙ e))
 
-  module _ {T : Type 0} (was now : List (Held T)) (i : ℕ) (l : i < length ports) (x q : Held T)
+  module _ {T : Type 0} (size : ℕ → ℕ) (was now : List (Held T)) (i : ℕ) (l : i < length ports) (x q : Held T)
       (many : length now ≡ channels) where
     pub same_x : samples now (get_or ports i 0) ≡ (get_or now (get_or ports i 0) x).samples
     same_x = ap (λ (y : Held T). y.samples) (get_or_default now (get_or ports i 0) nothing x
@@ -64,6 +64,9 @@ module _ (ports sizes : List ℕ) (channels : ℕ) (are : ArePorts ports sizes c
         get_or (set now (get_or ports i 0) q) c nothing ≡ get_or now c nothing
     set_other c ne = get_or-set_other now (get_or ports i 0) c q nothing (λ e. ne (sym e))
 
+    cons : drop i ports ≡ get_or ports i 0 ∷ drop (i + 1) ports
+    cons = drop-cons ports i 0 l ∙ ap (λ j. get_or ports i 0 ∷ drop j ports) (sym (add-one i))
+
     -- the room of each queue stays
     pub rooms_more : q.room ≡ (get_or now (get_or ports i 0) x).room →
         ((c : ℕ) → c < channels → room now c ≡ room was c) → (c : ℕ) → c < channels →
@@ -79,42 +82,42 @@ module _ (ports sizes : List ℕ) (channels : ℕ) (are : ArePorts ports sizes c
 
     -- a port's queue is whole until its turn
     pub whole : ((c : ℕ) → c < channels → samples now c ≡
-        drop (at_ports (take i ports) (get_or sizes c 0) c) (samples was c)) →
+        drop (at_ports (take i ports) (size c) c) (samples was c)) →
         (get_or now (get_or ports i 0) x).samples ≡ samples was (get_or ports i 0)
     whole before =
         sym same_x ∙ (before (get_or ports i 0) (are.known i l)
-        ∙ ap (λ n. drop n (samples was (get_or ports i 0))) (fresh i l (get_or sizes (get_or ports i 0) 0)))
+        ∙ ap (λ n. drop n (samples was (get_or ports i 0))) (fresh i l (size (get_or ports i 0))))
 
     -- and so holds what is taken from it
-    pub holds : HoldBlocks ports sizes was → ((c : ℕ) → c < channels →
-        samples now c ≡ drop (at_ports (take i ports) (get_or sizes c 0) c) (samples was c)) →
-        get_or sizes (get_or ports i 0) 0 ≤ length (get_or now (get_or ports i 0) x).samples
+    pub holds : ((n : ℕ) → n < length ports → size (get_or ports n 0) ≤ length (samples was (get_or ports n 0))) →
+        ((c : ℕ) → c < channels →
+        samples now c ≡ drop (at_ports (take i ports) (size c) c) (samples was c)) →
+        size (get_or ports i 0) ≤ length (get_or now (get_or ports i 0) x).samples
     holds held before = omega (arith, held i l, ap length (whole before))
 
     -- taking from one port more
-    pub taken_more : q.samples ≡ drop (get_or sizes (get_or ports i 0) 0) (get_or now (get_or ports i 0) x).samples →
-        ((c : ℕ) → c < channels → samples now c ≡ drop (at_ports (take i ports) (get_or sizes c 0) c) (samples was c)) →
+    pub taken_more : q.samples ≡ drop (size (get_or ports i 0)) (get_or now (get_or ports i 0) x).samples →
+        ((c : ℕ) → c < channels → samples now c ≡ drop (at_ports (take i ports) (size c) c) (samples was c)) →
         (c : ℕ) → c < channels → samples (set now (get_or ports i 0) q) c ≡
-        drop (at_ports (take (i + 1) ports) (get_or sizes c 0) c) (samples was c)
+        drop (at_ports (take (i + 1) ports) (size c) c) (samples was c)
     taken_more moved before c k =
-        go (cases_eq (get_or ports i 0) c) ∙ ap (λ ds. drop (at_ports ds (get_or sizes c 0) c) (samples was c))
+        go (cases_eq (get_or ports i 0) c) ∙ ap (λ ds. drop (at_ports ds (size c) c) (samples was c))
         (sym (take_more ports i 0 l))
       where
         go : (get_or ports i 0 ≡ c) ⊎ (get_or ports i 0 ≡ c → ⊥) →
             samples (set now (get_or ports i 0) q) c ≡ drop
-            (at_ports (take i ports ++ get_or ports i 0 ∷ []) (get_or sizes c 0) c) (samples was c)
+            (at_ports (take i ports ++ get_or ports i 0 ∷ []) (size c) c) (samples was c)
         go (inl e) =
             let d : ℕ = get_or ports i 0 in
-            let size : ℕ = get_or sizes d 0 in
-            subst (λ c. samples (set now d q) c ≡ drop (at_ports (take i ports ++ d ∷ []) (get_or sizes c 0) c)
+            subst (λ c. samples (set now d q) c ≡ drop (at_ports (take i ports ++ d ∷ []) (size c) c)
             (samples was c)) e
             (ap (λ (y : Held T). y.samples) set_here ∙ (moved
-            ∙ (ap (drop size) (whole before) ∙ ap (λ n. drop n (samples was d))
-            (sym (push_same (take i ports) size d)))))
+            ∙ (ap (drop (size d)) (whole before) ∙ ap (λ n. drop n (samples was d))
+            (sym (push_same (take i ports) (size d) d)))))
         go (inr ne) =
             ap (λ (y : Held T). y.samples) (set_other c ne) ∙
             (before c k ∙ ap (λ n. drop n (samples was c))
-            (sym (push_other (take i ports) (get_or sizes c 0) (get_or ports i 0) c ne)))
+            (sym (push_other (take i ports) (size c) (get_or ports i 0) c ne)))
 
     -- putting on one port more
     pub untouched_more : ((c : ℕ) → c < channels → ((n : ℕ) → n < i → get_or ports n 0 ≡ c → ⊥) →
@@ -124,56 +127,65 @@ module _ (ports sizes : List ℕ) (channels : ℕ) (are : ArePorts ports sizes c
     untouched_more before c k none =
         ap (λ (y : Held T). y.samples) (set_other c (none i (omega arith))) ∙ before c k (λ n h. none n (omega arith))
 
-    pub put_more : (all : List T) (rest : List T) →
-        q.samples ≡ (get_or now (get_or ports i 0) x).samples ++ take (get_or sizes (get_or ports i 0) 0) rest →
-        ((c : ℕ) → c < channels → samples now c ++ spread (λ d. get_or sizes d 0) (drop i ports) rest c ≡
-        samples was c ++ spread (λ d. get_or sizes d 0) ports all c) →
-        (c : ℕ) → c < channels →
-        samples (set now (get_or ports i 0) q) c ++ spread (λ d. get_or sizes d 0) (drop (i + 1) ports)
-        (drop (get_or sizes (get_or ports i 0) 0) rest) c ≡
-        samples was c ++ spread (λ d. get_or sizes d 0) ports all c
-    put_more all rest moved before c k = go (cases_eq (get_or ports i 0) c) ∙ before c k
+    -- a part is put: of what was still to come on a channel nothing is left there, and elsewhere all of it
+    pub put_part : (part : List T) → q.samples ≡ (get_or now (get_or ports i 0) x).samples ++ part →
+        (rest later : List T) (c : ℕ) → (get_or ports i 0 ≡ c → (rest ≡ part) × (later ≡ [])) →
+        ((get_or ports i 0 ≡ c → ⊥) → rest ≡ later) →
+        samples (set now (get_or ports i 0) q) c ++ later ≡ samples now c ++ rest
+    put_part part moved rest later c here other = go (cases_eq (get_or ports i 0) c)
       where
-        size : ℕ → ℕ
-        size d = get_or sizes d 0
-
         d : ℕ
         d = get_or ports i 0
 
-        ds : List ℕ
-        ds = drop (i + 1) ports
-
-        cons : drop i ports ≡ d ∷ ds
-        cons = drop-cons ports i 0 l ∙ ap (λ j. d ∷ drop j ports) (sym (add-one i))
-
-        later : d ≡ c → spread size ds (drop (size d) rest) c ≡ []
-        later e =
-            spread_none size ds (drop (size d) rest) c
-            (λ n h f. let at : get_or ds n 0 ≡ get_or ports (i + 1 + n) 0 = get_or-drop (i + 1) ports n 0 in
-            let short : i + 1 + n < length ports = omega (arith, length-drop (i + 1) ports) in
-            let same : i ≡ i + 1 + n = are.once i (i + 1 + n) l short (e ∙ (sym f ∙ at)) in
-            omega arith)
-
         go : (get_or ports i 0 ≡ c) ⊎ (get_or ports i 0 ≡ c → ⊥) →
-            samples (set now (get_or ports i 0) q) c ++ spread size ds (drop (size d) rest) c ≡
-            samples now c ++ spread size (drop i ports) rest c
+            samples (set now (get_or ports i 0) q) c ++ later ≡ samples now c ++ rest
         go (inl e) =
             let mine : samples (set now d q) c ≡ q.samples =
             subst (λ c. samples (set now d q) c ≡ q.samples) e (ap (λ (y : Held T). y.samples) set_here) in
             let old : samples now c ≡ (get_or now d x).samples =
             subst (λ c. samples now c ≡ (get_or now d x).samples) e same_x in
-            let part : spread size (drop i ports) rest c ≡ take (size d) rest =
-            ap (λ es. spread size es rest c) cons ∙ ap (λ t. cond t (take (size d) rest)
-            (spread size ds (drop (size d) rest) c)) (eq-eqb d c e) in
-            ap (λ ys. samples (set now d q) c ++ ys) (later e) ∙ (append-nil (samples (set now d q) c) ∙
-            (mine ∙ (moved ∙ (ap (λ ys. ys ++ take (size d) rest) (sym old)
-            ∙ ap (λ ys. samples now c ++ ys) (sym part)))))
+            ap (λ ys. samples (set now d q) c ++ ys) (here e).1 ∙ (append-nil (samples (set now d q) c) ∙
+            (mine ∙ (moved ∙ (ap (λ ys. ys ++ part) (sym old) ∙ ap (λ ys. samples now c ++ ys) (sym (here e).0)))))
         go (inr ne) =
-            let part : spread size (drop i ports) rest c ≡ spread size ds (drop (size d) rest) c =
-            ap (λ es. spread size es rest c) cons ∙ ap (λ t. cond t (take (size d) rest)
-            (spread size ds (drop (size d) rest) c)) (ne_eqb d c ne) in
-            ap (λ ys. ys ++ spread size ds (drop (size d) rest) c) (ap (λ (y : Held T). y.samples) (set_other c ne))
-            ∙ ap (λ ys. samples now c ++ ys) (sym part)
+            ap (λ ys. ys ++ later) (ap (λ (y : Held T). y.samples) (set_other c ne))
+            ∙ ap (λ ys. samples now c ++ ys) (sym (other ne))
+
+    -- the ports behind are other channels
+    pub later_none : (c : ℕ) → get_or ports i 0 ≡ c → (b : List T) → spread size (drop (i + 1) ports) b c ≡ []
+    later_none c e b =
+        spread_none size (drop (i + 1) ports) b c
+        (λ n h f. let at : get_or (drop (i + 1) ports) n 0 ≡ get_or ports (i + 1 + n) 0 =
+        get_or-drop (i + 1) ports n 0 in
+        let short : i + 1 + n < length ports = omega (arith, length-drop (i + 1) ports) in
+        let same : i ≡ i + 1 + n = are.once i (i + 1 + n) l short (e ∙ (sym f ∙ at)) in
+        omega arith)
+
+    -- what is spread over the ports from this one on
+    pub spread_here : (c : ℕ) → get_or ports i 0 ≡ c → (b : List T) →
+        spread size (drop i ports) b c ≡ take (size (get_or ports i 0)) b
+    spread_here c e b =
+        ap (λ es. spread size es b c) cons ∙ ap (λ t. cond t (take (size (get_or ports i 0)) b)
+        (spread size (drop (i + 1) ports) (drop (size (get_or ports i 0)) b) c)) (eq-eqb (get_or ports i 0) c e)
+
+    pub spread_on : (c : ℕ) → (get_or ports i 0 ≡ c → ⊥) → (b : List T) →
+        spread size (drop i ports) b c ≡ spread size (drop (i + 1) ports) (drop (size (get_or ports i 0)) b) c
+    spread_on c ne b =
+        ap (λ es. spread size es b c) cons ∙ ap (λ t. cond t (take (size (get_or ports i 0)) b)
+        (spread size (drop (i + 1) ports) (drop (size (get_or ports i 0)) b) c)) (ne_eqb (get_or ports i 0) c ne)
+
+    pub put_more : (all : List T) (rest : List T) →
+        q.samples ≡ (get_or now (get_or ports i 0) x).samples ++ take (size (get_or ports i 0)) rest →
+        ((c : ℕ) → c < channels → samples now c ++ spread size (drop i ports) rest c ≡
+        samples was c ++ spread size ports all c) →
+        (c : ℕ) → c < channels →
+        samples (set now (get_or ports i 0) q) c ++ spread size (drop (i + 1) ports)
+        (drop (size (get_or ports i 0)) rest) c ≡
+        samples was c ++ spread size ports all c
+    put_more all rest moved before c k =
+        put_part (take (size (get_or ports i 0)) rest) moved (spread size (drop i ports) rest c)
+        (spread size (drop (i + 1) ports) (drop (size (get_or ports i 0)) rest) c) c
+        (λ e. (spread_here c e rest, later_none c e (drop (size (get_or ports i 0)) rest)))
+        (λ ne. spread_on c ne rest) ∙ before c k
 
 -- a block with a port more
 pub block_more : {T : Type 0} (f : ℕ → List T) (ports : List ℕ) (i : ℕ) (was block : List T) → i < length ports →

@@ -1,7 +1,9 @@
 -- Blocks taken from queues and put on queues, a part for each port.
-use Rattle.std.specs.Prelude.{◌≡◌, ℕ, ◌≤◌, ◌<◌, ◌+◌, ◌==◌, cond, List, [], ◌∷◌, length, take, slice_index}
-use Rattle.std.specs.Prelude.{slice_index_or}
+use Rattle.std.specs.Prelude.{◌≡◌, ℕ, ◌≤◌, ◌<◌, ◌+◌, ◌*◌, ◌==◌, cond, List, [], ◌∷◌, length, take, drop}
+use Rattle.std.specs.Prelude.{slice_index, slice_index_or}
 use Rattle.std.specs.List.{flat_map}
+use Rattle.sdf_actor.specs.Histories.{spread}
+use Rattle.sdf_node.specs.Many.{joined}
 use Rattle.sdf_answer.specs.Held.{Held}
 
 abbrev pub nothing : {T : Type 0} → Held T
@@ -38,3 +40,11 @@ HoldBlocks ports sizes qs = (n : ℕ) → n < length ports →
 abbrev pub HaveRoom : {T : Type 0} → List ℕ → List ℕ → List (Held T) → Type 0
 HaveRoom ports sizes qs = (n : ℕ) → n < length ports →
     length (samples qs (slice_index ports n)) + slice_index sizes (slice_index ports n) ≤ room qs (slice_index ports n)
+
+-- the block of firing i, of those that stand at the fronts of the queues
+abbrev pub front_at : {T : Type 0} → List ℕ → List ℕ → List (Held T) → ℕ → List T
+front_at takes ins qs i = flat_map (λ c. take (slice_index takes c) (drop (i * slice_index takes c) (samples qs c))) ins
+
+-- what so many firings put on channel c, where block b has a part of the size more for each
+abbrev pub dealt : {T : Type 0} → List ℕ → List ℕ → ℕ → List T → ℕ → ℕ → List T
+dealt puts outs more b c times = joined (λ i. spread (slice_index puts) outs (take more (drop (i * more) b)) c) times

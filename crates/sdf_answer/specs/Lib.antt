@@ -3,6 +3,7 @@ pub mod Rows
 pub mod Lists
 pub mod Held
 pub mod Blocks
+pub mod Parts
 pub mod Sizes
 pub mod Periods
 pub mod Moves

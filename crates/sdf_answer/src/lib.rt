@@ -3,8 +3,9 @@
 //! It stands on `sdf_graph`, `sdf_sched`, `sdf_prec`, `sdf_actor` and `sdf_node`, and every runner stands on it. Begin
 //! at `specs/Answer.antt`: which inputs a run is given, and that its outputs are the lists of the histories. Then
 //! `inputs` and `outputs`, the tests and the lists of a run, `sizes`, how many samples firings move, `queue`, the
-//! samples that stand on a channel, `blocks`, those that a firing moves at its ports, `rooms`, how many stand on a
-//! channel, `block_table`, what workers follow (`specs/Rows.antt`), and `laws`, what every runner's proof uses.
+//! samples that stand on a channel, `blocks`, those that a firing moves at its ports, `many_blocks`, those that many
+//! firings move (`parts`: at one port), `rooms`, how many stand on a channel, `block_table`, what workers follow
+//! (`specs/Rows.antt`), and `laws`, what every runner's proof uses.
 #![tactic(auto)]
 
 pub mod block_table;
@@ -12,7 +13,9 @@ pub mod blocks;
 pub mod fault;
 pub mod inputs;
 pub mod laws;
+pub mod many_blocks;
 pub mod outputs;
+pub mod parts;
 pub mod queue;
 pub mod rooms;
 pub mod sizes;

@@ -1,12 +1,14 @@
 //! The samples that stand on a channel.
 
-ghost use Rattle.std.specs.Prelude.{◌≡◌, ◌+◌, ◌-◌, ◌≤◌, ◌<◌, ◌++◌, IfOk, length, map, take, drop, vec_len};
-ghost use Rattle.std.specs.Prelude.{vec_capacity};
+ghost use Rattle.std.specs.Prelude.{◌≡◌, ◌+◌, ◌-◌, ◌*◌, ◌≤◌, ◌<◌, ◌++◌, IfOk, length, map, take, drop, slice_range};
+ghost use Rattle.std.specs.Prelude.{vec_len, vec_capacity};
 ghost use Rattle.std.specs.List.{between};
 ghost use Rattle.sdf_actor.specs.Steps.{sum_in, sum_out, state_at, puts_to};
 ghost use Rattle.sdf_actor.specs.Wires.{lists};
+ghost use Rattle.sdf_node.specs.Many.{nth_block, joined};
 ghost use Rattle.sdf_answer.specs.Held.{Held};
 
+use crate::parts::gather_row;
 use sdf_actor::Actor;
 use sdf_node::append;
 use std::alloc::{AllocError, Global};
@@ -36,7 +38,7 @@ impl<T> Model for Queue<T> {
 }
 
 /// Lengthens a list by fillers, within its room, where it is shorter than that.
-fn lengthen<T: Copy>(list: &mut Vec<T>, len: usize, filler: T)
+pub fn lengthen<T: Copy>(list: &mut Vec<T>, len: usize, filler: T)
     requires { len ≤ vec_capacity list.old }
     ensures front { take (vec_len list.old) list.new.items ≡ list.old.items }
     ensures more { vec_len list.old ≤ vec_len list.new }
@@ -65,6 +67,27 @@ fn place_for<T: Copy>(list: &mut Vec<T>, start: usize, end: usize, more: usize) 
     }
     list.copy_within(start..end, 0);
     (0, end - start)
+}
+
+/// The same, where fillers stand in the room behind it.
+fn place_with_fillers<T: Copy>(
+    list: &mut Vec<T>,
+    start: usize,
+    end: usize,
+    more: usize,
+    filler: T,
+) -> (usize, usize)
+    requires rise { start ≤ end }
+    requires within { end ≤ vec_len list.old }
+    requires room { end - start + more ≤ vec_capacity list.old }
+    ensures same { between result.0 result.1 list.new.items ≡ between start end list.old.items }
+    ensures rise { result.0 ≤ result.1 }
+    ensures within { result.1 + more ≤ vec_len list.new }
+    ensures capacity { vec_capacity list.new ≡ vec_capacity list.old }
+{
+    let place = place_for(list, start, end, more);
+    lengthen(list, place.1 + more, filler);
+    place
 }
 
 impl<T: Copy> Queue<T> {
@@ -163,12 +186,38 @@ impl<T: Copy> Queue<T> {
         } }
         ensures long { length (puts_to A.steps actor.now phase state.old taken.now times) ≡ made }
     {
-        let place = place_for(&mut self.items, self.start, self.end, made);
+        let place = place_with_fillers(&mut self.items, self.start, self.end, made, filler);
         let end = place.1 + made;
-        lengthen(&mut self.items, end, filler);
         actor.fire_many(phase, times, state, taken, &mut self.items[place.1..end]);
         self.start = place.0;
         self.end = end;
+    }
+
+    /// Puts a row behind the samples, gathered from blocks of a size: from each its part from a place on.
+    pub fn put_row(
+        &mut self,
+        blocks: &[T],
+        at: usize,
+        width: usize,
+        many: usize,
+        size: usize,
+        filler: T,
+    )
+        requires inside { at + width ≤ size }
+        requires blocks { length blocks.now ≡ size * many }
+        requires room { length self.old.samples + width * many ≤ self.old.room }
+        ensures { self.new ≡ record self.old {
+          samples = self.old.samples
+              ++ joined (λ i. slice_range (nth_block size blocks.now i) at (at + width)) many;
+        } }
+    {
+        let made = width * many;
+        let place = place_with_fillers(&mut self.items, self.start, self.end, made, filler);
+        let last = place.1 + made;
+        let row = &mut self.items[place.1..last];
+        gather_row(blocks, row, at, width, many, size);
+        self.start = place.0;
+        self.end = last;
     }
 
     /// The queue, and one with no room in its place.

@@ -24,7 +24,6 @@ pub mod Onward
 pub mod Firing
 pub mod Running
 pub mod RunEnds
-pub mod Gathers
 pub mod RunFired
 pub mod Standing
 pub mod Looking

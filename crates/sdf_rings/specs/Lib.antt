@@ -2,7 +2,6 @@ pub mod Machine
 pub mod MachineLaws
 pub mod Pair
 pub mod Blocks
-pub mod Parts
 pub mod Ends
 pub mod Stands
 pub mod Seats

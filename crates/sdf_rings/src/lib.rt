@@ -22,7 +22,6 @@ mod leave;
 mod meet;
 mod own_rings;
 pub mod pair;
-mod parts;
 pub mod prepare;
 mod rest;
 pub mod rings;

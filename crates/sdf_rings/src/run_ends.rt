@@ -8,8 +8,8 @@ ghost use Rattle.sdf_rings.specs.Blocks.{start_at, block_of};
 ghost use Rattle.sdf_rings.specs.Ends.{Drew, Gave, DrewEach, GaveEach, HoldsEach, HasRoomEach};
 
 use crate::ends::{put_block, put_each, take_block, take_each};
-use crate::parts::{Stride, copy_parts};
 use rtrb::{Consumer, Producer};
+use sdf_answer::parts::{deal_row, gather_row};
 use std::alloc::Global;
 
 /// How many blocks of a size so many samples hold, up to a limit.
@@ -109,16 +109,10 @@ fn take_part<T: Copy>(
     ensures before { (i a w : ℕ) → i < many → a + w ≤ at →
         slice_range (nth_block size taken.new i) a (a + w) ≡ slice_range (nth_block size taken.old i) a (a + w) }
 {
-    let row = Stride {
-        first: 0,
-        step: width,
-    };
-    let column = Stride {
-        first: at,
-        step: size,
-    };
+    sdf_node::laws::blocks_join::<T>();
     take_block(end, &mut scratch[..width * many]);
-    copy_parts(scratch, row, taken, column, width, many);
+    let row = &scratch[..width * many];
+    deal_row(row, taken, at, width, many, size);
 }
 
 /// Takes the blocks of so many firings, at each port in one call. A list as long as all of them holds those of a port
@@ -230,16 +224,9 @@ fn put_part<T: Copy>(
     requires room { many * width ≤ known_free end.old }
     ensures { Gave end.old end.new (joined (λ i. slice_range (nth_block size put.now i) at (at + width)) many) }
 {
-    let row = Stride {
-        first: 0,
-        step: width,
-    };
-    let column = Stride {
-        first: at,
-        step: size,
-    };
-    copy_parts(put, column, scratch, row, width, many);
-    put_block(end, &scratch[..width * many]);
+    let row = &mut scratch[..width * many];
+    gather_row(put, row, at, width, many, size);
+    put_block(end, row);
 }
 
 /// Puts the blocks of so many firings, at each port in one call. A list as long as all of them serves to gather them.

@@ -1,4 +1,4 @@
-use Rattle.std.proofs.Common.{◌≡◌, ℕ, ◌++◌, length, take, get_or, arith, refl, sym, ap, ◌∙◌}
+use Rattle.std.proofs.Common.{slice_index, ◌≡◌, ℕ, ◌++◌, length, take, get_or, arith, refl, sym, ap, ◌∙◌}
 use Rattle.std.proofs.lemmas.List.{length-take-le}
 use Rattle.std.proofs.lemmas.List.Sums.{sum_by-drop_more}
 use Rattle.sdf_answer.specs.Blocks.{samples, front}
@@ -10,7 +10,8 @@ oldest-requires g c =
     let ports = c.args.ports.now in
     let ls = c.args.queues.now in
     let i = c.loop-c.c-index in
-    let x = same_x ports c.args.sizes.now (length ls) c.requires.ports ls ls i c.loop-c-test.true
+    let x = same_x ports c.args.sizes.now (length ls) c.requires.ports (slice_index c.args.sizes.now) ls ls i
+    c.loop-c-test.true
     c.index-queues-c.result c.index-queues-c.result refl in
     let e = ap (λ q. q.samples) c.index-queues-c.is in
     omega (arith, c.requires.held i c.loop-c-test.true, ap length (x ∙ sym e))
@@ -23,7 +24,8 @@ loop-c-preserved g c =
     let i = c.loop-c.c-index in
     let l = c.loop-c-test.true in
     let size : ℕ = get_or sizes (get_or ports i 0) 0 in
-    let x = same_x ports sizes (length ls) c.requires.ports ls ls i l c.index-queues-c.result
+    let x = same_x ports sizes (length ls) c.requires.ports (slice_index c.args.sizes.now) ls ls i l
+    c.index-queues-c.result
     c.index-queues-c.result refl in
     let e = ap (λ q. q.samples) c.index-queues-c.is in
     let read = c.oldest.ensures ∙ ap (take size) (e ∙ sym x) in

@@ -1,11 +1,12 @@
-use Rattle.std.proofs.Common.{length, ap}
+use Rattle.std.proofs.Common.{slice_index, length, ap}
 use Rattle.sdf_answer.proofs.Ports.{holds, rooms_more, taken_more}
 use Rattle.sdf_answer.proofs.blocks.skip_fronts.Goals as goal
 
 pub release-requires : goal.release-requires
 release-requires g c =
-    holds c.args.ports.now c.args.sizes.now (length c.args.queues.now) c.requires.ports c.args.queues.now
-    c.loop-c.queues c.loop-c.c-index c.loop-c-test.true c.index-queues-c.result c.index-queues-c.result
+    holds c.args.ports.now c.args.sizes.now (length c.args.queues.now) c.requires.ports (slice_index c.args.sizes.now)
+    c.args.queues.now c.loop-c.queues c.loop-c.c-index c.loop-c-test.true c.index-queues-c.result
+    c.index-queues-c.result
     c.loop-c.auto.queues
     c.requires.held c.loop-c.invariant.queues
 
@@ -17,10 +18,12 @@ loop-c-preserved g c =
     let i = c.loop-c.c-index in
     let l = c.loop-c-test.true in
     record {
-      queues = taken_more ports sizes (length was) c.requires.ports was c.loop-c.queues i l c.index-queues-c.result
+      queues = taken_more ports sizes (length was) c.requires.ports (slice_index c.args.sizes.now) was c.loop-c.queues i
+          l c.index-queues-c.result
           c.release.new.self c.loop-c.auto.queues
           (ap (λ q. q.samples) c.release.ensures) c.loop-c.invariant.queues;
-      rooms = rooms_more ports sizes (length was) c.requires.ports was c.loop-c.queues i l c.index-queues-c.result
+      rooms = rooms_more ports sizes (length was) c.requires.ports (slice_index c.args.sizes.now) was c.loop-c.queues i
+          l c.index-queues-c.result
           c.release.new.self c.loop-c.auto.queues
           (ap (λ q. q.room) c.release.ensures) c.loop-c.invariant.rooms;
     }

@@ -1,4 +1,4 @@
-use Rattle.std.proofs.Common.{ℕ, ◌++◌, length, take, get_or, arith, ap, ◌∙◌}
+use Rattle.std.proofs.Common.{slice_index, ℕ, ◌++◌, length, take, get_or, arith, ap, ◌∙◌}
 use Rattle.std.proofs.lemmas.List.Sums.{sum_by-drop_more}
 use Rattle.std.specs.List.{flat_map}
 use Rattle.sdf_answer.specs.Blocks.{samples}
@@ -7,8 +7,9 @@ use Rattle.sdf_answer.proofs.blocks.take_block.Goals as goal
 
 pub take-requires-clause-held : goal.take-requires-clause-held
 take-requires-clause-held g c =
-    holds c.args.ports.now c.args.sizes.now (length c.args.queues.now) c.requires.ports c.args.queues.now
-    c.loop-c.queues c.loop-c.c-index c.loop-c-test.true c.index-queues-c.result c.index-queues-c.result
+    holds c.args.ports.now c.args.sizes.now (length c.args.queues.now) c.requires.ports (slice_index c.args.sizes.now)
+    c.args.queues.now c.loop-c.queues c.loop-c.c-index c.loop-c-test.true c.index-queues-c.result
+    c.index-queues-c.result
     c.loop-c.auto.queues
     c.requires.held c.loop-c.invariant.queues
 
@@ -21,7 +22,8 @@ loop-c-preserved g c =
     let l = c.loop-c-test.true in
     let d : ℕ = get_or ports i 0 in
     let size : ℕ = get_or sizes d 0 in
-    let old = whole ports sizes (length was) c.requires.ports was c.loop-c.queues i l c.index-queues-c.result
+    let old = whole ports sizes (length was) c.requires.ports (slice_index c.args.sizes.now) was c.loop-c.queues i l
+    c.index-queues-c.result
     c.take.new.self c.loop-c.auto.queues c.loop-c.invariant.queues in
     record {
       block = block_more (λ e. take (get_or sizes e 0) (samples was e)) ports i c.args.block.now.items
@@ -33,10 +35,12 @@ loop-c-preserved g c =
       len = let more = sum_by-drop_more (λ d. get_or sizes d 0) ports i 0 l in
           omega (arith, c.take.ensures.len, c.take.ensures.capacity);
       capacity = c.take.ensures.capacity ∙ c.loop-c.invariant.capacity;
-      queues = taken_more ports sizes (length was) c.requires.ports was c.loop-c.queues i l c.index-queues-c.result
+      queues = taken_more ports sizes (length was) c.requires.ports (slice_index c.args.sizes.now) was c.loop-c.queues i
+          l c.index-queues-c.result
           c.take.new.self c.loop-c.auto.queues
           (ap (λ q. q.samples) c.take.ensures.queue) c.loop-c.invariant.queues;
-      rooms = rooms_more ports sizes (length was) c.requires.ports was c.loop-c.queues i l c.index-queues-c.result
+      rooms = rooms_more ports sizes (length was) c.requires.ports (slice_index c.args.sizes.now) was c.loop-c.queues i
+          l c.index-queues-c.result
           c.take.new.self c.loop-c.auto.queues
           (ap (λ q. q.room) c.take.ensures.queue) c.loop-c.invariant.rooms;
     }

@@ -1,16 +1,15 @@
 -- Parts of lists, copied, dealt out and gathered.
 use Rattle.std.proofs.Common.{◌≡◌, ℕ, zero, suc, ◌+◌, ◌-◌, ◌*◌, ◌≤◌, ◌<◌, ◌⊎◌, inl, inr, List, ◌∷◌, [], ◌++◌, length}
-use Rattle.std.proofs.Common.{take, drop, get_or, slice_range, slice_set, get_or-set_same, sym, ap, ◌∙◌, arith}
+use Rattle.std.proofs.Common.{take, drop, get_or, slice_range, slice_set, get_or-set_same, sym, ap, ◌∙◌, add-one, arith}
 use Rattle.std.proofs.Math.Nat.{mul-suc, mul-zero, mul-le-mul_left, mul-le-mul_right}
 use Rattle.std.proofs.Math.Seq.{take-add}
 use Rattle.std.proofs.lemmas.Bool.{cases_lt}
-use Rattle.std.proofs.lemmas.List.{length-take, drop-take, take-take, drop-drop, take-set}
+use Rattle.std.proofs.lemmas.List.{take_all, drop-take, take-take, drop-drop, take-set}
 use Rattle.std.proofs.lemmas.List.Edits.{between_more}
 use Rattle.std.proofs.lemmas.Slice.{between_is}
 use Rattle.sdf_node.specs.Many.{nth_block, joined}
-use Rattle.sdf_rings.specs.Parts.{part_at, part_of, KeepsOthers}
-use Rattle.sdf_rings.specs.declared.parts.Stride.{Stride}
-use Rattle.sdf_rings.proofs.RunEnds.{place}
+use Rattle.sdf_answer.specs.Parts.{part_at, part_of, KeepsOthers}
+use Rattle.sdf_answer.specs.declared.parts.Stride.{Stride}
 
 -- a part copied as far as its next item
 pub copied_next : {T : Type 0} (from to : List T) (start at i : ℕ) (v : T) → start + i < length from →
@@ -28,6 +27,19 @@ copied_next from to start at i v there here is same =
     ap (λ n. slice_range set at n) e ∙ (between_more set at (at + i) v (omega arith) (omega arith)
     ∙ ((λ k. (kept ∙ same) k ++ new k ∷ []) ∙ (sym (between_more from start (start + i) v (omega arith) there)
     ∙ ap (λ n. slice_range from start n) (sym f))))
+
+-- a part of one item
+pub one_copied : {T : Type 0} (from to : List T) (start at : ℕ) (v : T) → start < length from → at < length to →
+    v ≡ get_or from start v → slice_range (slice_set to at v) at (at + 1) ≡ slice_range from start (start + 1)
+one_copied {T} from to start at v there here is =
+    let set = slice_set to at v in
+    let long = Rattle.std.proofs.Math.ListN.length-set to at v in
+    let none : (xs : List T) (a : ℕ) → slice_range xs a a ≡ [] = λ xs a. ap (λ n. take n (drop a xs))
+    (let e : a - a ≡ 0 = omega arith in e) in
+    between_more set at at v (omega arith) (omega arith)
+    ∙ ((λ k. none set at k ++ (get_or-set_same to at v v here ∙ is) k ∷ [])
+    ∙ (ap (λ xs. xs ++ get_or from start v ∷ []) (sym (none from start))
+    ∙ sym (between_more from start start v (omega arith) there)))
 
 -- what lies before a part or behind it is kept
 kept_beside : {T : Type 0} (ys zs : List T) (at end a b : ℕ) → take at zs ≡ take at ys → drop end zs ≡ drop end ys →
@@ -49,25 +61,13 @@ parts_apart step width j i l w =
     let within : step * suc j ≤ step * i = mul-le-mul_left step (omega arith) in
     omega arith
 
--- the parts at a port, and those that lie side by side, are within lists that hold all blocks
+-- the parts at a port, and those that lie side by side, are within the lists that hold them
 pub parts_inside : (size at width many n i : ℕ) → at + width ≤ size → n ≡ size * many → i < many →
     (at + size * i) + width ≤ n
 parts_inside size at width many n i inside all l = let p = parts_apart size size i many l (omega arith) in omega arith
 
-pub rows_inside : (size at width many n m i : ℕ) → at + width ≤ size → n ≡ size * many → n ≤ m → i < many →
-    (0 + width * i) + width ≤ m
-rows_inside size at width many n m i inside all long l =
-    let p = parts_apart width width i many l (omega arith) in
-    let q : width * many ≤ size * many = mul-le-mul_right many (omega arith) in
-    omega arith
-
-pub rows_end : (size at width many n m : ℕ) → at + width ≤ size → n ≡ size * many → n ≤ m → width * many ≤ m
-rows_end size at width many n m inside all long = let q : width * many ≤ size * many =
-    mul-le-mul_right many (omega arith) in omega arith
-
-pub rows_fit : {T : Type 0} (xs : List T) (width many free : ℕ) → many * width ≤ free →
-    length (take (width * many) xs) ≤ free
-rows_fit xs width many free room = omega (arith, length-take (width * many) xs)
+pub row_inside : (width many n : ℕ) → n ≡ width * many → (i : ℕ) → i < many → (0 + width * i) + width ≤ n
+row_inside width many n all i l = let p = parts_apart width width i many l (omega arith) in omega arith
 
 -- a part more is copied
 module _ {T : Type 0} (from before ys zs : List T) (s t : Stride) (width i : ℕ) (apart : width ≤ t.step)
@@ -90,12 +90,25 @@ module _ {T : Type 0} (from before ys zs : List T) (s t : Stride) (width i : ℕ
   others_next others a b clear = kept_beside ys zs (part_at t i) (part_at t i + width) a b kept behind
       (clear i (omega arith)) ∙ others a b (λ j l. clear j (omega arith))
 
+-- where a block ends
+block_end : (size i : ℕ) → size * (i + 1) ≡ size * i + size
+block_end size i = ap (λ j. size * j) (add-one i) ∙
+    (let m = mul-suc size i in let e : size * suc i ≡ size * i + size = omega arith in e)
+
+-- a part of those that lie side by side
+pub row_is : {T : Type 0} (xs : List T) (width i : ℕ) →
+    part_of (record { first = 0; step = width }) width xs i ≡ nth_block width xs i
+row_is xs width i =
+    let at : 0 + width * i ≡ width * i = omega arith in
+    let end : (0 + width * i) + width ≡ width * (i + 1) = omega (arith, block_end width i) in
+    λ k. slice_range xs (at k) (end k)
+
 -- a port's part of a firing's block, in the list of all blocks
 pub part_is : {T : Type 0} (xs : List T) (size i at width : ℕ) → at + width ≤ size →
     part_of (record { first = at; step = size }) width xs i ≡ slice_range (nth_block size xs i) at (at + width)
 part_is xs size i at width inside =
     let a = size * i in
-    let end : size * (i + 1) ≡ a + size = sym (place size i a (λ k. size * i)) in
+    let end : size * (i + 1) ≡ a + size = block_end size i in
     let rest : at + (size - at) ≡ size = omega arith in
     let turn : at + a ≡ a + at = omega arith in
     let block : nth_block size xs i ≡ take size (drop a xs) =
@@ -122,6 +135,24 @@ parts_joined f width (suc many) xs each =
     ∙ (sym (between_is xs p (p + width)) ∙ (ap (λ n. slice_range xs n (n + width)) at ∙ each many (omega arith))) in
     ap (λ n. take n xs) (let m = mul-suc width many in let e : width * suc many ≡ p + width = omega arith in e)
     ∙ (take-add p width xs ∙ (λ k. parts_joined f width many xs (λ i l. each i (omega arith)) k ++ last k))
+
+-- a row is its parts, joined
+pub row_joined : {T : Type 0} (f : ℕ → List T) (width many : ℕ) (row : List T) → length row ≡ width * many →
+    ((i : ℕ) → i < many → part_of (record { first = 0; step = width }) width row i ≡ f i) → row ≡ joined f many
+row_joined f width many row long each =
+    sym (take_all (width * many) row (omega arith)) ∙ parts_joined f width many row each
+
+-- where there is one port, its row is the list of all blocks
+pub whole_part : {T : Type 0} (row blocks : List T) (size at width : ℕ) → at + width ≤ size → width ≡ size →
+    blocks ≡ row → (i : ℕ) → part_of (record { first = 0; step = width }) width row i ≡
+    slice_range (nth_block size blocks i) at (at + width)
+whole_part row blocks size at width inside same is i =
+    (λ k. part_of (record { first = start k; step = same k }) width row i)
+    ∙ (ap (λ xs. part_of (record { first = at; step = size }) width xs i) (sym is)
+    ∙ part_is blocks size i at width inside)
+  where
+    start : 0 ≡ at
+    start = omega arith
 
 -- what stands before a port's parts in the list of all blocks is kept
 pub before_kept : {T : Type 0} (size many at width : ℕ) → at + width ≤ size → (xs ys : List T) →

@@ -1,7 +1,7 @@
 use Rattle.std.proofs.Common.{◌+◌, ◌∙◌, arith}
 use Rattle.std.proofs.lemmas.List.{take-set-le, drop-set-lt}
-use Rattle.sdf_rings.proofs.Gathers.{copied_next}
-use Rattle.sdf_rings.proofs.parts.copy_part.Goals as goal
+use Rattle.sdf_answer.proofs.Gathers.{copied_next}
+use Rattle.sdf_answer.proofs.parts.copy_part.Goals as goal
 
 pub loop-i-preserved : goal.loop-i-preserved
 loop-i-preserved g c =

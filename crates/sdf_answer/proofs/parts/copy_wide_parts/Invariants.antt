@@ -1,6 +1,6 @@
 use Rattle.std.proofs.Common.{◌≡◌, ◌<◌, ℕ}
-use Rattle.sdf_rings.specs.Parts.{part_of, KeepsOthers}
-use Rattle.sdf_rings.proofs.parts.copy_parts.Given as goal
+use Rattle.sdf_answer.specs.Parts.{part_of, KeepsOthers}
+use Rattle.sdf_answer.proofs.parts.copy_wide_parts.Given as goal
 
 abbrev pub invariant-loop-i : goal.invariant-loop-i
 invariant-loop-i g l = record {

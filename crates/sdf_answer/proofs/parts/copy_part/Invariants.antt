@@ -1,5 +1,5 @@
 use Rattle.std.proofs.Common.{◌≡◌, ◌+◌, take, drop, slice_range}
-use Rattle.sdf_rings.proofs.parts.copy_part.Given as goal
+use Rattle.sdf_answer.proofs.parts.copy_part.Given as goal
 
 abbrev pub invariant-loop-i : goal.invariant-loop-i
 invariant-loop-i g l = record {

@@ -1,5 +1,5 @@
-use Rattle.sdf_rings.proofs.Gathers.{parts_next, others_next}
-use Rattle.sdf_rings.proofs.parts.copy_parts.Goals as goal
+use Rattle.sdf_answer.proofs.Gathers.{parts_next, others_next}
+use Rattle.sdf_answer.proofs.parts.copy_wide_parts.Goals as goal
 
 pub loop-i-preserved : goal.loop-i-preserved
 loop-i-preserved g c =

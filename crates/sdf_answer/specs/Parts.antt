@@ -1,6 +1,6 @@
 -- Parts of a list, all of one width, each as far behind the one before it.
 use Rattle.std.specs.Prelude.{◌≡◌, ℕ, ◌+◌, ◌*◌, ◌≤◌, ◌<◌, ◌⊎◌, List, length, slice_range}
-use Rattle.sdf_rings.specs.declared.parts.Stride.{Stride}
+use Rattle.sdf_answer.specs.declared.parts.Stride.{Stride}
 
 -- where part i begins
 abbrev pub part_at : Stride → ℕ → ℕ

@@ -1,0 +1,44 @@
+use Rattle.std.proofs.Common.{ℕ, ◌*◌, ◌++◌, length, take, drop, get_or, slice_index, arith, ap, sym, ◌∙◌}
+use Rattle.std.proofs.lemmas.List.{append-nil, drop_all}
+use Rattle.std.proofs.lemmas.List.Sums.{sum_by-drop_more}
+use Rattle.sdf_actor.specs.Histories.{spread}
+use Rattle.sdf_answer.specs.Blocks.{samples, dealt}
+use Rattle.sdf_answer.proofs.Ports.{untouched_more, rooms_more}
+use Rattle.sdf_answer.proofs.ManyPorts.{puts_more, row_put, joined_none}
+use Rattle.sdf_answer.proofs.many_blocks.put_blocks.Goals as goal
+
+pub loop-c-preserved : goal.loop-c-preserved
+loop-c-preserved g c =
+    let ports = c.args.ports.now in
+    let sizes = c.args.sizes.now in
+    let was = c.args.queues.now in
+    let i = c.loop-c.c-index in
+    let l = c.loop-c-test.true in
+    let width : ℕ = slice_index sizes (get_or ports i 0) in
+    let inv = c.loop-c.invariant in
+    record {
+      at = omega (arith, sum_by-drop_more (slice_index sizes) ports i 0 l, inv.at);
+      untouched = untouched_more ports sizes (length was) c.requires.ports (slice_index sizes) was c.loop-c.queues i l
+          c.index-queues-c.result c.put_row.new.self c.loop-c.auto.queues inv.untouched;
+      queues = puts_more ports sizes (length was) c.requires.ports (slice_index sizes) was c.loop-c.queues i l
+          c.index-queues-c.result c.put_row.new.self c.loop-c.auto.queues
+          (λ j. take c.args.size (drop (j * c.args.size) c.args.block.now)) c.args.times c.loop-c.at
+          (ap (λ q. q.samples) c.put_row.ensures
+          ∙ ap (λ ys. (get_or c.loop-c.queues (get_or ports i 0) c.index-queues-c.result).samples ++ ys)
+          (row_put c.args.block.now c.loop-c.at width c.args.size c.args.times))
+          (λ e. dealt sizes ports c.args.size c.args.block.now e c.args.times) inv.queues;
+      rooms = rooms_more ports sizes (length was) c.requires.ports (slice_index sizes) was c.loop-c.queues i l
+          c.index-queues-c.result c.put_row.new.self c.loop-c.auto.queues
+          (ap (λ q. q.room) c.put_row.ensures) inv.rooms;
+    }
+
+pub returns-clause-queues : goal.returns-clause-queues
+returns-clause-queues g c = λ e k.
+    let ports = c.args.ports.now in
+    let size = slice_index c.args.sizes.now in
+    let i = c.loop-c.c-index in
+    let part = λ (j : ℕ). drop c.loop-c.at (take c.args.size (drop (j * c.args.size) c.args.block.now)) in
+    let none = joined_none (λ j. spread size (drop i ports) (part j) e) c.args.times
+    (λ j. ap (λ ds. spread size ds (part j) e) (drop_all i ports c.loop-c-test.false)) in
+    sym (append-nil (samples c.loop-c.queues e))
+    ∙ (ap (λ ys. samples c.loop-c.queues e ++ ys) (sym none) ∙ c.loop-c.invariant.queues e k)

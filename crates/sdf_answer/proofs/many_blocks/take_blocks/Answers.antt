@@ -1,0 +1,59 @@
+use Rattle.std.proofs.Common.{◌≡◌, ℕ, ◌+◌, ◌*◌, length, take, drop, get_or, slice_index, arith, ap, ◌∙◌}
+use Rattle.std.specs.List.{sum_by}
+use Rattle.std.proofs.lemmas.List.{drop_all, take_all}
+use Rattle.std.proofs.lemmas.List.Sums.{sum_by-drop_more}
+use Rattle.sdf_answer.specs.Blocks.{samples, front_at}
+use Rattle.sdf_node.specs.Many.{nth_block}
+use Rattle.sdf_answer.proofs.Ports.{whole, holds, rooms_more, taken_more}
+use Rattle.sdf_answer.proofs.ManyPorts.{front_more, blocks_whole}
+use Rattle.sdf_answer.proofs.many_blocks.take_blocks.Goals as goal
+
+pub take_row-requires-clause-held : goal.take_row-requires-clause-held
+take_row-requires-clause-held g c =
+    holds c.args.ports.now c.args.sizes.now (length c.args.queues.now) c.requires.ports
+    (λ d. c.args.times * slice_index c.args.sizes.now d) c.args.queues.now
+    c.loop-c.queues c.loop-c.c-index c.loop-c-test.true c.index-queues-c.result c.index-queues-c.result
+    c.loop-c.auto.queues c.requires.held c.loop-c.invariant.queues
+
+pub loop-c-preserved : goal.loop-c-preserved
+loop-c-preserved g c =
+    let ports = c.args.ports.now in
+    let sizes = c.args.sizes.now in
+    let was = c.args.queues.now in
+    let i = c.loop-c.c-index in
+    let l = c.loop-c-test.true in
+    let d : ℕ = get_or ports i 0 in
+    let size = λ (e : ℕ). c.args.times * slice_index sizes e in
+    let inv = c.loop-c.invariant in
+    let old = whole ports sizes (length was) c.requires.ports size was c.loop-c.queues i l c.index-queues-c.result
+    c.take_row.new.queue c.loop-c.auto.queues inv.queues in
+    record {
+      at = omega (arith, sum_by-drop_more (slice_index sizes) ports i 0 l, inv.at);
+      blocks = λ j m. front_more
+          (λ e. take (slice_index sizes e) (drop (j * slice_index sizes e) (samples was e))) ports i
+          (take c.loop-c.at (nth_block c.args.size c.loop-c.blocks j))
+          (take (c.loop-c.at + slice_index sizes d) (nth_block c.args.size c.take_row.new.blocks j))
+          (take (slice_index sizes d) (drop (j * slice_index sizes d)
+          (get_or c.loop-c.queues d c.index-queues-c.result).samples)) l (inv.blocks j m)
+          (ap (λ xs. take (slice_index sizes d) (drop (j * slice_index sizes d) xs)) old)
+          (c.take_row.ensures.blocks j m);
+      queues = taken_more ports sizes (length was) c.requires.ports size was c.loop-c.queues i l
+          c.index-queues-c.result c.take_row.new.queue c.loop-c.auto.queues
+          (ap (λ q. q.samples) c.take_row.ensures.queue) inv.queues;
+      rooms = rooms_more ports sizes (length was) c.requires.ports size was c.loop-c.queues i l
+          c.index-queues-c.result c.take_row.new.queue c.loop-c.auto.queues
+          (ap (λ q. q.room) c.take_row.ensures.queue) inv.rooms;
+    }
+
+pub returns-clause-blocks : goal.returns-clause-blocks
+returns-clause-blocks g c =
+    let ports = c.args.ports.now in
+    let sizes = c.args.sizes.now in
+    let i = c.loop-c.c-index in
+    let past = c.loop-c-test.false in
+    let none : sum_by (slice_index sizes) (drop i ports) ≡ 0 =
+    ap (sum_by (slice_index sizes)) (drop_all i ports past) in
+    blocks_whole c.blocks_join.ensures (front_at sizes ports c.args.queues.now) c.args.size c.args.times c.loop-c.at
+    c.loop-c.blocks (c.loop-c.auto.blocks ∙ c.requires.length) (omega (arith, none, c.loop-c.invariant.at))
+    (λ j m. c.loop-c.invariant.blocks j m
+    ∙ ap (λ ps. front_at sizes ps c.args.queues.now j) (take_all i ports past))

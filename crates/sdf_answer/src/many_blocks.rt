@@ -1,0 +1,91 @@
+//! The blocks of many firings at their ports: at each port all of them in one piece.
+
+ghost use Rattle.std.specs.Prelude.{◌≡◌, ℕ, ◌+◌, ◌*◌, ◌≤◌, ◌<◌, ◌++◌, length, take, drop, slice_index};
+ghost use Rattle.std.specs.List.{sum_by};
+ghost use Rattle.sdf_node.specs.Many.{nth_block, joined};
+ghost use Rattle.sdf_answer.specs.Blocks.{samples, room, at_ports, front_at, dealt, ArePorts};
+
+use crate::parts::deal_row;
+use crate::queue::Queue;
+use sdf_node::laws::blocks_join;
+
+/// Moves what so many firings take from one queue to their blocks, each of a size: behind what stands in them before a
+/// place.
+fn take_row<T: Copy>(
+    queue: &mut Queue<T>,
+    blocks: &mut [T],
+    at: usize,
+    width: usize,
+    times: usize,
+    size: usize,
+)
+    requires inside { at + width ≤ size }
+    requires blocks { length blocks.old ≡ times * size }
+    requires held { times * width ≤ length queue.old.samples }
+    ensures queue { queue.new ≡ record queue.old { samples = drop (times * width) queue.old.samples } }
+    ensures blocks { (i : ℕ) → i < times → take (at + width) (nth_block size blocks.new i) ≡
+        take at (nth_block size blocks.old i) ++ take width (drop (i * width) queue.old.samples) }
+{
+    blocks_join::<T>();
+    let many = times * width;
+    deal_row(queue.oldest(many), blocks, at, width, times, size);
+    queue.release(many);
+}
+
+/// Moves what so many firings take from the queues at the ports to their blocks, each of a size, which lie one behind
+/// another.
+pub fn take_blocks<T: Copy>(
+    ports: &[usize],
+    sizes: &[usize],
+    times: usize,
+    size: usize,
+    queues: &mut [Queue<T>],
+    blocks: &mut [T],
+)
+    requires ports { ArePorts ports.now sizes.now (length queues.old) }
+    requires held { (n : ℕ) → n < length ports.now →
+        times * slice_index sizes.now (slice_index ports.now n) ≤
+        length (samples queues.old (slice_index ports.now n)) }
+    requires size { size ≡ sum_by (slice_index sizes.now) ports.now }
+    requires length { length blocks.old ≡ times * size }
+    ensures blocks { blocks.new ≡ joined (front_at sizes.now ports.now queues.old) times }
+    ensures queues { (c : ℕ) → c < length queues.old →
+        samples queues.new c ≡ drop (at_ports ports.now (times * slice_index sizes.now c) c) (samples queues.old c) }
+    ensures rooms { (c : ℕ) → c < length queues.old → room queues.new c ≡ room queues.old c }
+{
+    blocks_join::<T>();
+    let mut at = 0;
+    for c in ports {
+        let width = sizes[*c];
+        take_row(&mut queues[*c], blocks, at, width, times, size);
+        at += width;
+    }
+}
+
+/// Puts the blocks of so many firings, each of a size, on the channels of the ports.
+pub fn put_blocks<T: Copy>(
+    ports: &[usize],
+    sizes: &[usize],
+    times: usize,
+    size: usize,
+    filler: T,
+    block: &[T],
+    queues: &mut [Queue<T>],
+)
+    requires ports { ArePorts ports.now sizes.now (length queues.old) }
+    requires room { (n : ℕ) → n < length ports.now →
+        length (samples queues.old (slice_index ports.now n))
+        + times * slice_index sizes.now (slice_index ports.now n) ≤ room queues.old (slice_index ports.now n) }
+    requires size { size ≡ sum_by (slice_index sizes.now) ports.now }
+    requires length { length block.now ≡ times * size }
+    ensures queues { (c : ℕ) → c < length queues.old →
+        samples queues.new c ≡ samples queues.old c ++ dealt sizes.now ports.now size block.now c times }
+    ensures rooms { (c : ℕ) → c < length queues.old → room queues.new c ≡ room queues.old c }
+{
+    let mut at = 0;
+    for c in ports {
+        let width = sizes[*c];
+        queues[*c].put_row(block, at, width, times, size, filler);
+        at += width;
+    }
+}

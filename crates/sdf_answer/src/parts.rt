@@ -1,0 +1,143 @@
+//! A port's parts of many blocks. By themselves they lie side by side, in a row; among the other ports' each stands at
+//! its place in its own block.
+
+ghost use Rattle.std.specs.Prelude.{◌≡◌, ◌≤◌, ◌<◌, ◌+◌, ◌*◌, ℕ, length, take, drop, slice_range};
+ghost use Rattle.sdf_node.specs.Many.{nth_block, joined};
+ghost use Rattle.sdf_answer.specs.Parts.{part_of, HoldsParts, KeepsOthers};
+
+/// Where the first part begins, and how far behind it the next.
+#[derive(Clone, Copy)]
+struct Stride {
+    first: usize,
+    step: usize,
+}
+
+/// Copies a part of one list into another.
+fn copy_part<T: Copy>(from: &[T], start: usize, to: &mut [T], at: usize, width: usize)
+    requires from { start + width ≤ length from.now }
+    requires to { at + width ≤ length to.old }
+    ensures copied { slice_range to.new at (at + width) ≡ slice_range from.now start (start + width) }
+    ensures before { take at to.new ≡ take at to.old }
+    ensures behind { drop (at + width) to.new ≡ drop (at + width) to.old }
+{
+    for i in 0..width {
+        to[at + i] = from[start + i];
+    }
+}
+
+/// Copies so many samples of one list to places in another.
+fn copy_samples<T: Copy>(from: &[T], out: Stride, to: &mut [T], into: Stride, many: usize)
+    requires from { HoldsParts out 1 many from.now }
+    requires to { HoldsParts into 1 many to.old }
+    requires apart { 1 ≤ into.step }
+    ensures copied { (i : ℕ) → i < many → part_of into 1 to.new i ≡ part_of out 1 from.now i }
+    ensures others { KeepsOthers into 1 many to.old to.new }
+{
+    for i in 0..many {
+        to[into.first + into.step * i] = from[out.first + out.step * i];
+    }
+}
+
+/// Copies so many parts of one list to parts of another.
+fn copy_wide_parts<T: Copy>(
+    from: &[T],
+    out: Stride,
+    to: &mut [T],
+    into: Stride,
+    width: usize,
+    many: usize,
+)
+    requires from { HoldsParts out width many from.now }
+    requires to { HoldsParts into width many to.old }
+    requires apart { width ≤ into.step }
+    ensures copied { (i : ℕ) → i < many → part_of into width to.new i ≡ part_of out width from.now i }
+    ensures others { KeepsOthers into width many to.old to.new }
+{
+    for i in 0..many {
+        let start = out.first + out.step * i;
+        copy_part(from, start, to, into.first + into.step * i, width);
+    }
+}
+
+/// Copies so many parts of one list to parts of another. Most are one sample.
+fn copy_parts<T: Copy>(
+    from: &[T],
+    out: Stride,
+    to: &mut [T],
+    into: Stride,
+    width: usize,
+    many: usize,
+)
+    requires from { HoldsParts out width many from.now }
+    requires to { HoldsParts into width many to.old }
+    requires apart { width ≤ into.step }
+    ensures copied { (i : ℕ) → i < many → part_of into width to.new i ≡ part_of out width from.now i }
+    ensures others { KeepsOthers into width many to.old to.new }
+{
+    if width == 1 {
+        copy_samples(from, out, to, into, many);
+    } else {
+        copy_wide_parts(from, out, to, into, width, many);
+    }
+}
+
+/// Deals a row out to blocks of a size, to each its part from a place on.
+pub fn deal_row<T: Copy>(
+    row: &[T],
+    blocks: &mut [T],
+    at: usize,
+    width: usize,
+    many: usize,
+    size: usize,
+)
+    requires inside { at + width ≤ size }
+    requires row { length row.now ≡ width * many }
+    requires blocks { length blocks.old ≡ size * many }
+    ensures dealt { (i : ℕ) → i < many →
+        slice_range (nth_block size blocks.new i) at (at + width) ≡ nth_block width row.now i }
+    ensures before { (i a w : ℕ) → i < many → a + w ≤ at →
+        slice_range (nth_block size blocks.new i) a (a + w) ≡ slice_range (nth_block size blocks.old i) a (a + w) }
+{
+    let side_by_side = Stride {
+        first: 0,
+        step: width,
+    };
+    let in_blocks = Stride {
+        first: at,
+        step: size,
+    };
+    if width == size {
+        blocks.copy_from_slice(row);
+    } else {
+        copy_parts(row, side_by_side, blocks, in_blocks, width, many);
+    }
+}
+
+/// Gathers a row from blocks of a size, from each its part from a place on.
+pub fn gather_row<T: Copy>(
+    blocks: &[T],
+    row: &mut [T],
+    at: usize,
+    width: usize,
+    many: usize,
+    size: usize,
+)
+    requires inside { at + width ≤ size }
+    requires row { length row.old ≡ width * many }
+    requires blocks { length blocks.now ≡ size * many }
+    ensures { row.new ≡ joined (λ i. slice_range (nth_block size blocks.now i) at (at + width)) many }
+{
+    let side_by_side = Stride {
+        first: 0,
+        step: width,
+    };
+    let in_blocks = Stride {
+        first: at,
+        step: size,
+    };
+    if width == size {
+        row.copy_from_slice(blocks);
+    } else {
+        copy_parts(blocks, in_blocks, row, side_by_side, width, many);
+    }
+}
