@@ -5,7 +5,8 @@
 //! `sdf_actor` for how many there are, on `sdf_graph` for the length of a period, on `sdf_document`, which reads a
 //! graph file, and on `sdf_limits`.
 //! Begin at `measuring`; `stopwatch` measures, `costs` has the keys, and `costing` writes them into a graph file's
-//! text. Nothing is said of time itself. The definitions are in `specs/Costs.antt` and `specs/Written.antt`.
+//! text. Nothing is said of time itself. The definitions are in `specs/Profiles.antt`, `specs/Costs.antt` and
+//! `specs/Written.antt`.
 #![tactic(auto)]
 
 mod costing;

@@ -1,14 +1,20 @@
 //! A run whose firings are timed.
 
+ghost use Rattle.std.specs.Prelude.{MatchResult};
+ghost use Rattle.sdf_process.specs.Plans.{Suits};
+ghost use Rattle.sdf_process.specs.Run.{IsProcessFault};
+ghost use Rattle.sdf_profile.specs.Profiles.{HasRunOn, IsProfileFault};
+
 use crate::costs::costs_of;
 use crate::lines::{profile_text, times};
 use crate::stopwatch::Stopwatch;
 use sdf_file::Design;
 use sdf_limits::{MOST_BLOCK, MOST_BLOCKING, MOST_PATIENCE};
 use sdf_options::{Options, Placement, Policy, Runner};
-use sdf_process::Fault;
 use sdf_process::planning::plan;
 use sdf_process::process::process_with;
+use sdf_process::{Fault, Plan};
+use sdf_run::Gate;
 use sdf_wav::{FromRead, ToWrite};
 use std::io;
 use std::thread::Threads;
@@ -35,6 +41,23 @@ pub struct Measured {
     pub costs: Vec<u32>,
 }
 
+/// Runs a design on the bytes of a WAV file by a plan, and drops what it makes.
+#[tactic(auto, using(crate::proofs::Profiled::ran))]
+fn run_through<T: Threads + AllocGlobal + Sync, G: Gate>(
+    rt: &T,
+    input: &[u8],
+    design: &Design,
+    plan: &Plan,
+    gate: &G,
+) -> Result<(), Fault>
+    requires { Suits design.now.net plan.now }
+    ensures { MatchResult result (λ _. HasRunOn design.now input.now) IsProcessFault }
+{
+    let reader = &mut FromRead::new(input);
+    let writer = &mut ToWrite::new(io::sink());
+    process_with(rt, reader, writer, design, plan, gate)
+}
+
 /// Runs a design on the bytes of a WAV file in one thread, and tells how much of the time passes in the firings of
 /// each actor, how often each fired, and how long a firing takes; and what the keys `cost` would say, the least time as
 /// 1. What the run makes is dropped. What passes between two firings belongs to the first of them, so reading the clock
@@ -43,13 +66,13 @@ pub fn profile<T: Threads + AllocGlobal + Clock + Clone + Drop + Sync>(
     rt: &T,
     input: &[u8],
     design: &Design,
-) -> Result<Measured, Fault> {
+) -> Result<Measured, Fault>
+    ensures { MatchResult result (λ _. HasRunOn design.now input.now) (IsProfileFault design.now) }
+{
     let alloc = rt.alloc();
     let plan = plan(alloc, design, &options_for(design))?;
     let watch = Stopwatch::new(alloc, rt.clone()?, design.net().len())?;
-    let reader = &mut FromRead::new(input);
-    let writer = &mut ToWrite::new(io::sink());
-    process_with(rt, reader, writer, design, &plan, &watch)?;
+    run_through(rt, input, design, &plan, &watch)?;
     watch.pass_to(usize::MAX);
     let costs = costs_of(alloc, &times(alloc, design, &watch)?)?;
     let text = profile_text(alloc, design, &watch, &costs)?;

@@ -115,6 +115,16 @@ column_in [] j f e = absurd (none-some f e)
 column_in (x ∷ cells) zero f e = omega arith
 column_in (x ∷ cells) (suc j) f e = omega (arith, column_in cells j f e)
 
+-- a firing in the cells of a row stands in the table
+pub cell_is : (rows : List (List (Option Firing))) (cells : List (Option Firing)) (i j : ℕ) (f : Firing) →
+    cells ≡ row rows i → get_or cells j None ≡ Some f → cell rows i j ≡ Some f
+cell_is rows cells i j f same is = ap (λ xs. get_or xs j None) (sym same) ∙ is
+
+-- and within as many columns as its row has
+pub within : (rows : List (List (Option Firing))) (i j : ℕ) (f : Firing) (m n : ℕ) → cell rows i j ≡ Some f →
+    length (row rows i) ≡ m → n ≡ m → j < n
+within rows i j f m n is wide same = omega (arith, column_in (row rows i) j f is, wide, same)
+
 pub row_in : (rows : List (List (Option Firing))) (i j : ℕ) (f : Firing) → cell rows i j ≡ Some f → i < length rows
 row_in [] i j f e = absurd (none-some f e)
 row_in (cells ∷ rows) zero j f e = omega arith

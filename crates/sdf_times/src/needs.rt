@@ -28,6 +28,15 @@ fn ended(starts: &[Starts], costs: &Costs, actor: usize, count: u64) -> u64
     starts[actor].of((count - 1) as usize) + u64::from(costs.of(actor))
 }
 
+/// The actor that a channel comes from.
+fn source_of(graph: &Graph, channel: usize) -> usize
+    requires { channel < length graph.now.channels }
+    ensures { result ≡ (rates graph.now).source channel }
+{
+    let channel = &graph.channels()[channel];
+    channel.from
+}
+
 /// When all have ended that a firing waits for: the one before it of its actor, and on each channel into the actor the
 /// last one that it waits for of the source.
 pub(crate) fn ready(graph: &Graph, starts: &[Starts], costs: &Costs, firing: Firing) -> u64
@@ -36,12 +45,12 @@ pub(crate) fn ready(graph: &Graph, starts: &[Starts], costs: &Costs, firing: Fir
     ensures { IsGreatest (IsNeedEnd (rates graph.now) (slice_index costs.now) (start_in starts.now) firing) result }
 {
     graphs_are_sound();
-    let channels = graph.channels();
+    graph.channels();
     let mut time = ended(starts, costs, firing.actor, u64::from(firing.number));
     for number in graph.incoming(firing.actor) {
-        let channel = &channels[*number];
+        let source = source_of(graph, *number);
         let count = needed(graph, *number, firing.number);
-        time = time.max(ended(starts, costs, channel.from, count));
+        time = time.max(ended(starts, costs, source, count));
     }
     time
 }

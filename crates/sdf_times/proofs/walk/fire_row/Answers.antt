@@ -1,7 +1,7 @@
 use Rattle.std.proofs.Common.{◌≡◌, ◌<◌, ℕ, length, get_or, Some, None, sym, ap, ◌∙◌, arith}
 use Rattle.sdf_graph.specs.Rates.{rates}
 use Rattle.sdf_prec.specs.Tables.{row, cell}
-use Rattle.sdf_times.proofs.Cells.{are_cells, column_in}
+use Rattle.sdf_times.proofs.Cells.{are_cells, cell_is, within}
 use Rattle.sdf_times.proofs.Fired.{prepared, until_small, walk_fire, wide_fire}
 use Rattle.sdf_times.proofs.Walks.{walk_skip, walk_row}
 use Rattle.sdf_times.proofs.walk.fire_row.Goals.{in-Some+in_ok-fire, in_default}
@@ -12,8 +12,7 @@ fire-requires-clause-prepared c =
     let r = rates c.args.graph.now in
     let rows = c.args.table.now.rows in
     let cost : ℕ → ℕ = λ a. get_or c.args.costs.now a 0 in
-    let is : cell rows c.args.i c.loop-column.column ≡ Some c.in-Some.firing =
-    ap (λ xs. get_or xs c.loop-column.column None) (sym c.row-cell-items.ensures) ∙ c.in-Some.is in
+    let is = cell_is rows _ c.args.i c.loop-column.column c.in-Some.firing c.row-cell-items.ensures c.in-Some.is in
     prepared r c.requires.table.0 cost rows c.args.i c.loop-column.column c.in-Some.firing c.loop-column.starts.items
     c.loop-column.until.items (are_cells r c.requires.table.0 rows c.requires.table.1.valid)
     (λ a l. (c.requires.costs.each a l).1) is c.loop-column.invariant.walk c.requires.short
@@ -21,31 +20,21 @@ fire-requires-clause-prepared c =
 pub fire-requires-clause-column : goal.fire-requires-clause-column
 fire-requires-clause-column c =
     let rows = c.args.table.now.rows in
-    let is : cell rows c.args.i c.loop-column.column ≡ Some c.in-Some.firing =
-    ap (λ xs. get_or xs c.loop-column.column None) (sym c.row-cell-items.ensures) ∙ c.in-Some.is in
-    omega (
-      arith,
-      column_in (row rows c.args.i) c.loop-column.column c.in-Some.firing is,
-      c.requires.table.1.wide c.args.i c.requires.within,
-      c.loop-column.invariant.wide,
-    )
+    let is = cell_is rows _ c.args.i c.loop-column.column c.in-Some.firing c.row-cell-items.ensures c.in-Some.is in
+    within rows c.args.i c.loop-column.column c.in-Some.firing _ _ is (c.requires.table.1.wide c.args.i
+    c.requires.within) c.loop-column.invariant.wide
 
 pub fire-requires-clause-small : goal.fire-requires-clause-small
 fire-requires-clause-small c =
     let r = rates c.args.graph.now in
     let rows = c.args.table.now.rows in
     let cost : ℕ → ℕ = λ a. get_or c.args.costs.now a 0 in
-    let is : cell rows c.args.i c.loop-column.column ≡ Some c.in-Some.firing =
-    ap (λ xs. get_or xs c.loop-column.column None) (sym c.row-cell-items.ensures) ∙ c.in-Some.is in
+    let is = cell_is rows _ c.args.i c.loop-column.column c.in-Some.firing c.row-cell-items.ensures c.in-Some.is in
     until_small r c.requires.table.0 cost rows c.args.i c.loop-column.column c.in-Some.firing c.loop-column.starts.items
     c.loop-column.until.items (are_cells r c.requires.table.0 rows c.requires.table.1.valid)
     (λ a l. (c.requires.costs.each a l).1) is c.loop-column.invariant.walk c.requires.short
-    (omega (
-      arith,
-      column_in (row rows c.args.i) c.loop-column.column c.in-Some.firing is,
-      c.requires.table.1.wide c.args.i c.requires.within,
-      c.loop-column.invariant.wide,
-    ))
+    (within rows c.args.i c.loop-column.column c.in-Some.firing _ _ is (c.requires.table.1.wide c.args.i
+    c.requires.within) c.loop-column.invariant.wide)
 
 pub loop-column-preserved : goal.loop-column-preserved
 loop-column-preserved c =
@@ -60,13 +49,9 @@ loop-column-preserved c =
     elim c.match-cell.branch [
       | in-Some+in_ok-fire w ↦
           let f = w.in-Some.firing in
-          let is : cell rows i j ≡ Some f = ap (λ xs. get_or xs j None) (sym c.row-cell-items.ensures) ∙ w.in-Some.is in
-          let known : j < length until = omega (
-            arith,
-            column_in (row rows i) j f is,
-            c.requires.table.1.wide i c.requires.within,
-            c.loop-column.invariant.wide,
-          ) in
+          let is = cell_is rows _ i j f c.row-cell-items.ensures w.in-Some.is in
+          let known = within rows i j f _ _ is (c.requires.table.1.wide i c.requires.within)
+          c.loop-column.invariant.wide in
           rw (w.starts-is, w.until-is) (record {
             walk = walk_fire r c.requires.table.0 cost rows i j f starts until cells
                 (λ a l. (c.requires.costs.each a l).1) is c.loop-column.invariant.walk w.fire.new.starts.items
