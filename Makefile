@@ -45,7 +45,8 @@ install:
 documents: build
 	python3 docs/tables.py
 	scripts/pages --check
-	for it in examples/*/graph.svg; do build/sdfw draw $${it%.svg}.toml --workers 2 | cmp - $$it || exit 1; done
+	for it in $(filter-out examples/stuck/%,$(wildcard examples/*/graph.toml)); do \
+		build/sdfw draw $$it --workers 2 | cmp - $${it%.toml}.svg || exit 1; done
 
 # Whether each design of examples/ makes the bytes that Python's own arithmetic makes (wants python3.11; about a
 # minute).

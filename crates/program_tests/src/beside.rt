@@ -1,7 +1,7 @@
 //! What commands do where more than one thing is amiss, and what is told where the words could not be read.
 
 use crate::files::ends_between;
-use crate::shelf::Shelf;
+use crate::shelf::{Shelf, ended};
 use sdf_options::WordFault;
 use sdf_program::files::MOST_BYTES;
 use sdf_program::program::{World, serve};
@@ -18,16 +18,8 @@ fn told<T: Threads + AllocGlobal + Clock + Clone + Drop + Sync>(
     rt: &T,
     words: &[&str],
 ) -> Result<String, Fail> {
-    let alloc = rt.alloc();
-    let written = RefCell::new(Vec::new(alloc));
-    let world = World {
-        storage: &Shelf { written: &written },
-        threads: rt,
-        most: MOST_BYTES,
-    };
-    let mut out = Vec::new(alloc);
-    let (status, err) = ends_between(&world, b"", &mut out, words)?;
-    Ok(format!(in alloc; "{status} {err}")?)
+    let ended = ended(rt, b"", words)?;
+    Ok(format!(in rt.alloc(); "{} {}", ended.status, ended.err)?)
 }
 
 /// The name of a row, the words, and the exit status with what stands on standard error.

@@ -1,10 +1,7 @@
 //! Filters and converters that the program makes, over files in memory.
 
-use crate::files::{ends, ends_between, folder};
-use crate::shelf::Shelf;
-use sdf_program::files::MOST_BYTES;
-use sdf_program::program::World;
-use std::cell::RefCell;
+use crate::files::{ends, folder};
+use crate::shelf::{End, ended};
 use std::fs;
 use std::process::Abort;
 use std::rt::Files;
@@ -18,18 +15,15 @@ pub(crate) fn made<T: Threads + AllocGlobal + Clock + Clone + Drop + Sync>(
     rt: &T,
     line: &[&str],
 ) -> Result<String, Fail> {
-    let alloc = rt.alloc();
-    let written = RefCell::new(Vec::new(alloc));
-    let world = World {
-        storage: &Shelf { written: &written },
-        threads: rt,
-        most: MOST_BYTES,
-    };
-    let mut out = Vec::new(alloc);
-    let (status, err) = ends_between(&world, b"", &mut out, line)?;
+    let End {
+        status,
+        out,
+        err,
+        written,
+    } = ended(rt, b"", line)?;
     let out = String::from_utf8(out)?;
-    let files = String::from_utf8(written.into_inner())?;
-    Ok(format!(in alloc; "{status}\n{out}--\n{err}--\n{files}")?)
+    let files = String::from_utf8(written)?;
+    Ok(format!(in rt.alloc(); "{status}\n{out}--\n{err}--\n{files}")?)
 }
 
 /// Refuses a line of what taps do that stands on standard output, and a fault with another status.

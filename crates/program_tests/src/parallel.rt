@@ -1,11 +1,8 @@
 //! Runs that are asked for in parallel, over files in memory.
 
-use crate::files::{SOUND, ends_into};
-use crate::shelf::Shelf;
-use sdf_program::files::MOST_BYTES;
-use sdf_program::program::World;
+use crate::files::SOUND;
+use crate::shelf::ended;
 use std::alloc::Global;
-use std::cell::RefCell;
 use std::test::Fail;
 use std::thread::{Threads, available_parallelism};
 use std::time::Clock;
@@ -19,19 +16,12 @@ fn told<T: Threads + AllocGlobal + Clock + Clone + Drop + Sync>(
     options: &[&str],
 ) -> Result<String, Fail> {
     let alloc = rt.alloc();
-    let written = RefCell::new(Vec::new(alloc));
-    let world = World {
-        storage: &Shelf { written: &written },
-        threads: rt,
-        most: MOST_BYTES,
-    };
     let mut line = Vec::new(alloc);
     line.extend_from_slice(["sdfw", "run", graph, "in.wav", "out.wav"].as_slice())?;
     line.extend_from_slice(options)?;
-    let mut out = Vec::new(alloc);
-    let (status, err) = ends_into(&world, &mut out, line.as_slice())?;
-    let same = written.into_inner().as_slice() == SOUND.as_slice();
-    let err = err.as_str();
+    let ended = ended(rt, b"", line.as_slice())?;
+    let same = ended.written.as_slice() == SOUND.as_slice();
+    let (status, err) = (ended.status, ended.err.as_str());
     Ok(format!(in alloc; "{status} {err}{same}")?)
 }
 

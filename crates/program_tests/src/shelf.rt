@@ -1,12 +1,17 @@
 //! Files in memory.
 
 use crate::costs::COMMENTED;
-use crate::files::{FILTERED, PLAIN, SOUND};
+use crate::files::{FILTERED, PLAIN, SOUND, ends_between};
+use sdf_program::files::MOST_BYTES;
+use sdf_program::program::World;
 use sdf_program::storage::Storage;
 use std::alloc::Global;
 use std::cell::RefCell;
 use std::io::{self, Error, ErrorKind, Write};
 use std::path::{Path, PathBuf};
+use std::test::Fail;
+use std::thread::Threads;
+use std::time::Clock;
 
 /// Two samples stand on the link, and each actor has a processor of its own.
 const BEGUN: &str = r#"format = 1
@@ -273,4 +278,46 @@ impl<'a> Storage for Shelf<'a> {
         };
         Ok(Path::new(plain).to_path_buf(alloc)?)
     }
+}
+
+/// How a command over these files ends: its exit status, what stands on the two streams, and what was written.
+#[derive(Drop)]
+pub(crate) struct End {
+    pub(crate) status: u8,
+    pub(crate) out: Vec<u8>,
+    pub(crate) err: String,
+    pub(crate) written: Vec<u8>,
+}
+
+/// How a command ends that reads no file of more bytes than these, where this is standard input.
+pub(crate) fn ended_within<T: Threads + AllocGlobal + Clock + Clone + Drop + Sync>(
+    threads: &T,
+    most: u32,
+    stdin: &[u8],
+    line: &[&str],
+) -> Result<End, Fail> {
+    let alloc = threads.alloc();
+    let written = RefCell::new(Vec::new(alloc));
+    let world = World {
+        storage: &Shelf { written: &written },
+        threads,
+        most,
+    };
+    let mut out = Vec::new(alloc);
+    let (status, err) = ends_between(&world, stdin, &mut out, line)?;
+    Ok(End {
+        status,
+        out,
+        err,
+        written: written.into_inner(),
+    })
+}
+
+/// How it ends where files are as long as they may be.
+pub(crate) fn ended<T: Threads + AllocGlobal + Clock + Clone + Drop + Sync>(
+    threads: &T,
+    stdin: &[u8],
+    line: &[&str],
+) -> Result<End, Fail> {
+    ended_within(threads, MOST_BYTES, stdin, line)
 }

@@ -1,10 +1,7 @@
 //! Runs from standard input and to standard output, over files in memory.
 
-use crate::files::{SOUND, ends_between};
-use crate::shelf::Shelf;
-use sdf_program::files::MOST_BYTES;
-use sdf_program::program::World;
-use std::cell::RefCell;
+use crate::files::SOUND;
+use crate::shelf::ended;
 use std::process::Abort;
 use std::test::Fail;
 use std::thread::Threads;
@@ -19,21 +16,17 @@ fn ends_so<T: Abort + Threads + AllocGlobal + Clock + Clone + Drop + Sync>(
     words: &[&str],
     wanted: (u8, &[u8], &str, &[u8]),
 ) -> Result<(), Fail> {
-    let alloc = rt.alloc();
-    let written = RefCell::new(Vec::new(alloc));
-    let world = World {
-        storage: &Shelf { written: &written },
-        threads: rt,
-        most: MOST_BYTES,
-    };
-    let mut line = Vec::new(alloc);
+    let mut line = Vec::new(rt.alloc());
     line.extend_from_slice(["sdfw", "run", "plain.toml"].as_slice())?;
     line.extend_from_slice(words)?;
-    let mut out = Vec::new(alloc);
-    let (status, err) = ends_between(&world, stdin, &mut out, line.as_slice())?;
-    assert_eq!(rt; (status, err.as_str()), (wanted.0, wanted.2), "{words:?}");
-    assert_eq!(rt; out.as_slice(), wanted.1, "{words:?}");
-    assert_eq!(rt; written.into_inner().as_slice(), wanted.3, "{words:?}");
+    let ended = ended(rt, stdin, line.as_slice())?;
+    assert_eq!(rt;
+        (ended.status, ended.err.as_str()),
+        (wanted.0, wanted.2),
+        "{words:?}"
+    );
+    assert_eq!(rt; ended.out.as_slice(), wanted.1, "{words:?}");
+    assert_eq!(rt; ended.written.as_slice(), wanted.3, "{words:?}");
     Ok(())
 }
 
@@ -55,18 +48,10 @@ fn dashes_are_streams(rt: HostRuntime) -> Result<(), Fail> {
 fn profiled<T: Threads + AllocGlobal + Clock + Clone + Drop + Sync>(
     rt: &T,
 ) -> Result<String, Fail> {
-    let alloc = rt.alloc();
-    let written = RefCell::new(Vec::new(alloc));
-    let world = World {
-        storage: &Shelf { written: &written },
-        threads: rt,
-        most: MOST_BYTES,
-    };
-    let mut out = Vec::new(alloc);
     let words = ["sdfw", "profile", "plain.toml", "-"];
-    let (status, err) = ends_between(&world, SOUND.as_slice(), &mut out, words.as_slice())?;
-    let begins = out.as_slice().starts_with(b"share in ");
-    Ok(format!(in alloc; "{status} {begins} {err}")?)
+    let ended = ended(rt, SOUND.as_slice(), words.as_slice())?;
+    let begins = ended.out.as_slice().starts_with(b"share in ");
+    Ok(format!(in rt.alloc(); "{} {begins} {}", ended.status, ended.err)?)
 }
 
 /// Refuses a profile that reads the file `-`, which is no sound.

@@ -1,10 +1,8 @@
 //! What the program prints, on which stream, and its exit status, over files in memory.
 
-use crate::files::{FILTERED, ends_into};
-use crate::shelf::{PADDED, Shelf, TAPS};
+use crate::files::FILTERED;
+use crate::shelf::{PADDED, TAPS, ended_within};
 use sdf_program::files::MOST_BYTES;
-use sdf_program::program::World;
-use std::cell::RefCell;
 use std::process::Abort;
 use std::test::Fail;
 use std::thread::Threads;
@@ -50,22 +48,14 @@ fn ends_with<T: Abort + Threads + AllocGlobal + Clock + Clone + Drop + Sync>(
     line: &[&str],
     wanted: (u8, &str, &str, &[u8]),
 ) -> Result<(), Fail> {
-    let alloc = rt.alloc();
-    let written = RefCell::new(Vec::new(alloc));
-    let world = World {
-        storage: &Shelf { written: &written },
-        threads: rt,
-        most,
-    };
-    let mut out = Vec::new(alloc);
-    let (status, err) = ends_into(&world, &mut out, line)?;
-    let out = String::from_utf8(out)?;
+    let ended = ended_within(rt, most, b"", line)?;
+    let out = String::from_utf8(ended.out)?;
     assert_eq!(rt;
-        (status, out.as_str(), err.as_str()),
+        (ended.status, out.as_str(), ended.err.as_str()),
         (wanted.0, wanted.1, wanted.2),
         "{line:?}"
     );
-    assert_eq!(rt; written.into_inner().as_slice(), wanted.3, "{line:?}");
+    assert_eq!(rt; ended.written.as_slice(), wanted.3, "{line:?}");
     Ok(())
 }
 
@@ -271,8 +261,8 @@ fn files_fit_their_limit(rt: HostRuntime) -> Result<(), Fail> {
     Ok(())
 }
 
-/// A sound that a profile reads is as long as the limit at most, too. Refuses one that is read whole whatever its length
-/// is.
+/// A sound that a profile reads is as long as the limit at most, too. Refuses one that is read whole whatever its
+/// length is.
 #[test]
 fn sounds_of_profiles_fit_their_limit(rt: HostRuntime) -> Result<(), Fail> {
     let line = ["sdfw", "profile", "plain.toml", "filtered.toml"];

@@ -1,11 +1,7 @@
 //! A profile by a clock of the tests: which actor's firings the time is told of, and in what figures.
 
-use crate::files::ends_into;
-use crate::shelf::Shelf;
-use sdf_program::files::MOST_BYTES;
-use sdf_program::program::World;
+use crate::shelf::{End, ended};
 use std::alloc::Global;
-use std::cell::RefCell;
 use std::sync::atomic::{AtomicBool, AtomicU64, Ordering};
 use std::test::Fail;
 use std::thread::Threads;
@@ -62,18 +58,10 @@ impl<R> Clock for Timed<'_, R> {
 fn profiled<T: Threads + AllocGlobal + Clock + Clone + Drop + Sync>(
     timed: &T,
 ) -> Result<String, Fail> {
-    let alloc = timed.alloc();
-    let written = RefCell::new(Vec::new(alloc));
-    let world = World {
-        storage: &Shelf { written: &written },
-        threads: timed,
-        most: MOST_BYTES,
-    };
-    let mut out = Vec::new(alloc);
     let words = ["sdfw", "profile", "plain.toml", "in.wav"];
-    let (status, _) = ends_into(&world, &mut out, words.as_slice())?;
+    let End { status, out, .. } = ended(timed, b"", words.as_slice())?;
     let out = String::from_utf8(out)?;
-    Ok(format!(in alloc; "{status} {out}")?)
+    Ok(format!(in timed.alloc(); "{status} {out}")?)
 }
 
 /// The same by this clock, and whether two threads met.
@@ -107,13 +95,6 @@ fn written<T: Threads + AllocGlobal + Clock + Clone + Drop + Sync>(
     timed: &T,
 ) -> Result<String, Fail> {
     let alloc = timed.alloc();
-    let files = RefCell::new(Vec::new(alloc));
-    let world = World {
-        storage: &Shelf { written: &files },
-        threads: timed,
-        most: MOST_BYTES,
-    };
-    let mut out = Vec::new(alloc);
     let words = [
         "sdfw",
         "profile",
@@ -122,7 +103,7 @@ fn written<T: Threads + AllocGlobal + Clock + Clone + Drop + Sync>(
         "--write",
         "-",
     ];
-    let (status, _) = ends_into(&world, &mut out, words.as_slice())?;
+    let End { status, out, .. } = ended(timed, b"", words.as_slice())?;
     let out = String::from_utf8(out)?;
     let mut told = format!(in alloc; "{status}")?;
     for line in out.as_str().lines() {

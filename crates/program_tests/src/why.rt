@@ -1,10 +1,6 @@
 //! What more is told of a fault where that is asked for, over files in memory.
 
-use crate::files::ends_between;
-use crate::shelf::Shelf;
-use sdf_program::files::MOST_BYTES;
-use sdf_program::program::World;
-use std::cell::RefCell;
+use crate::shelf::ended;
 use std::process::Abort;
 use std::test::Fail;
 use std::thread::Threads;
@@ -17,16 +13,12 @@ fn ends_so<T: Abort + Threads + AllocGlobal + Clock + Clone + Drop + Sync>(
     status: u8,
     told: &str,
 ) -> Result<(), Fail> {
-    let alloc = rt.alloc();
-    let written = RefCell::new(Vec::new(alloc));
-    let world = World {
-        storage: &Shelf { written: &written },
-        threads: rt,
-        most: MOST_BYTES,
-    };
-    let mut out = Vec::new(alloc);
-    let ended = ends_between(&world, b"", &mut out, words)?;
-    assert_eq!(rt; (ended.0, ended.1.as_str()), (status, told), "{words:?}");
+    let ended = ended(rt, b"", words)?;
+    assert_eq!(rt;
+        (ended.status, ended.err.as_str()),
+        (status, told),
+        "{words:?}"
+    );
     Ok(())
 }
 

@@ -1,7 +1,5 @@
 -- The text of a graph for Graphviz.
-use Rattle.std.specs.Prelude.{ℕ, ◌==◌, List, [], ◌++◌, if◌then◌else◌, codes, encode_utf8, length, slice_index_or}
-use Rattle.std.specs.List.{flat_map}
-use Rattle.std.specs.Str.{chars}
+use Rattle.std.specs.Prelude.{ℕ, ◌==◌, List, [], ◌++◌, if◌then◌else◌, codes, length, slice_index_or}
 use Rattle.sdf_graph.specs.Rates.{Edge}
 use Rattle.sdf_actor.specs.Nets.{node}
 use Rattle.sdf_file.specs.Designs.{DesignValue}
@@ -10,17 +8,11 @@ use Rattle.sdf_draw.specs.declared.ports.Shape.{Shape}
 use Rattle.sdf_draw.specs.declared.ports.Shape.TheVariants.{Source, Sink, Filter, Plain}
 use Rattle.sdf_draw.specs.Shapes.{shape_of}
 use Rattle.sdf_draw.specs.Edges.{edge}
-use Rattle.sdf_draw.specs.Texts.{number_text, rate_text}
-
--- a character as it stands between quotes: " and \ behind a \
-abbrev pub quotable_char : ℕ → List ℕ
-quotable_char c = if c == 34 then codes "\\\"" else (if c == 92 then codes "\\\\" else encode_utf8 c)
-
-abbrev pub quotables : List ℕ → List ℕ
-quotables text = flat_map quotable_char (chars text)
+use Rattle.sdf_draw.specs.declared.texts.Within.TheVariants.{Quotes}
+use Rattle.sdf_draw.specs.Texts.{number_text, escaped, rate_text}
 
 abbrev pub quoted : List ℕ → List ℕ
-quoted text = codes "\"" ++ quotables text ++ codes "\""
+quoted text = codes "\"" ++ escaped Quotes text ++ codes "\""
 
 abbrev pub shape_word : Shape → List ℕ
 shape_word Source = codes "rarrow"

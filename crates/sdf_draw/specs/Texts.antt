@@ -5,6 +5,8 @@ use Rattle.std.specs.Prelude.{slice_index_or}
 use Rattle.std.specs.List.{flat_map}
 use Rattle.std.specs.Str.{chars}
 use Rattle.sdf_file.specs.Designs.{DesignValue}
+use Rattle.sdf_draw.specs.declared.texts.Within.{Within}
+use Rattle.sdf_draw.specs.declared.texts.Within.TheVariants.{Marks, Quotes}
 
 -- a text and a number
 abbrev pub number_text : List ℕ → ℕ → List ℕ
@@ -14,17 +16,18 @@ number_text word n = word ++ decimal n
 unfoldable pub pair_text : List ℕ → ℕ → List ℕ → ℕ → List ℕ
 pair_text one x other y = number_text one x ++ number_text other y
 
--- a character as it stands in a document of marks: & < > " and ' by their names
-abbrev pub escaped_char : ℕ → List ℕ
-escaped_char c =
+-- a character as it stands in a document of marks, & < > " and ' by their names, or between quotes, " and \ behind a \
+abbrev pub escaped_char : Within → ℕ → List ℕ
+escaped_char Marks c =
     if c == 38 then codes "&amp;" else (if c == 60 then codes "&lt;" else (if c == 62 then codes "&gt;"
     else (if c == 34 then codes "&quot;" else (if c == 39 then codes "&#39;" else encode_utf8 c))))
+escaped_char Quotes c = if c == 34 then codes "\\\"" else (if c == 92 then codes "\\\\" else encode_utf8 c)
 
-abbrev pub escaped : List ℕ → List ℕ
-escaped text = flat_map escaped_char (chars text)
+abbrev pub escaped : Within → List ℕ → List ℕ
+escaped within text = flat_map (escaped_char within) (chars text)
 
 unfoldable pub name_text : DesignValue → ℕ → List ℕ
-name_text d a = escaped (slice_index_or d.names a [])
+name_text d a = escaped Marks (slice_index_or d.names a [])
 
 -- what firings move whose rates are these: the one rate, or what a cycle of so many moves
 unfoldable pub rate_text : List ℕ → List ℕ

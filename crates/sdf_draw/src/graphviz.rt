@@ -3,42 +3,21 @@
 ghost use Rattle.std.specs.Prelude.{◌≡◌, ◌<◌, ◌≤◌, ◌++◌, IfOk, OnOk, length, string_bytes, codes};
 ghost use Rattle.sdf_limits.specs.declared.TheConstants.{MOST_CYCLE};
 ghost use Rattle.sdf_actor.specs.Nets.{node};
-ghost use Rattle.sdf_draw.specs.Graphviz.{quotable_char, quotables, quoted, shape_word, node_line, initial_label};
+ghost use Rattle.sdf_draw.specs.Graphviz.{quoted, shape_word, node_line, initial_label};
 ghost use Rattle.sdf_draw.specs.Graphviz.{label_text, labels_text, edge_line, nodes_text, edges_text, dot_text};
 
 use crate::ports::{Shape, channel_of, shape_of};
-use crate::texts::{push_number, push_rate};
+use crate::texts::{Within, push_escaped, push_number, push_rate};
 use sdf_file::Design;
 use sdf_graph::Channel;
 use std::alloc::{AllocError, Global};
-
-/// Adds a character as it stands between quotes.
-fn push_quotable(text: &mut String, character: char) -> Result<(), AllocError>
-    ensures { OnOk result (string_bytes text.new ≡ string_bytes text.old ++ quotable_char character) }
-{
-    match character {
-        '"' => text.push_str("\\\""),
-        '\\' => text.push_str("\\\\"),
-        other => text.push(other),
-    }
-}
-
-/// Adds the characters of a text as they stand between quotes.
-fn push_quotables(text: &mut String, word: &str) -> Result<(), AllocError>
-    ensures { OnOk result (string_bytes text.new ≡ string_bytes text.old ++ quotables word.now) }
-{
-    for character in word.chars() {
-        push_quotable(text, character)?;
-    }
-    Ok(())
-}
 
 /// Adds a text between quotes.
 fn push_quoted(text: &mut String, word: &str) -> Result<(), AllocError>
     ensures { OnOk result (string_bytes text.new ≡ string_bytes text.old ++ quoted word.now) }
 {
     text.push_str("\"")?;
-    push_quotables(text, word)?;
+    push_escaped(text, Within::Quotes, word)?;
     text.push_str("\"")
 }
 

@@ -33,26 +33,35 @@ pub(crate) fn push_pair(
     push_number(text, other, y)
 }
 
-/// Adds a character as it stands in a document of marks.
-fn push_character(text: &mut String, character: char) -> Result<(), AllocError>
-    ensures { OnOk result (string_bytes text.new ≡ string_bytes text.old ++ escaped_char character) }
+/// Where a name stands: in a document of marks, or between quotes.
+#[derive(Clone, Copy)]
+pub(crate) enum Within {
+    Marks,
+    Quotes,
+}
+
+/// Adds a character as it stands there.
+fn push_character(text: &mut String, within: Within, character: char) -> Result<(), AllocError>
+    ensures { OnOk result (string_bytes text.new ≡ string_bytes text.old ++ escaped_char within character) }
 {
-    match character {
-        '&' => text.push_str("&amp;"),
-        '<' => text.push_str("&lt;"),
-        '>' => text.push_str("&gt;"),
-        '"' => text.push_str("&quot;"),
-        '\'' => text.push_str("&#39;"),
-        other => text.push(other),
+    match (within, character) {
+        (Within::Marks, '&') => text.push_str("&amp;"),
+        (Within::Marks, '<') => text.push_str("&lt;"),
+        (Within::Marks, '>') => text.push_str("&gt;"),
+        (Within::Marks, '"') => text.push_str("&quot;"),
+        (Within::Marks, '\'') => text.push_str("&#39;"),
+        (Within::Quotes, '"') => text.push_str("\\\""),
+        (Within::Quotes, '\\') => text.push_str("\\\\"),
+        (_, other) => text.push(other),
     }
 }
 
 /// Adds a text as it stands there.
-pub(crate) fn push_escaped(text: &mut String, word: &str) -> Result<(), AllocError>
-    ensures { OnOk result (string_bytes text.new ≡ string_bytes text.old ++ escaped word.now) }
+pub(crate) fn push_escaped(text: &mut String, within: Within, word: &str) -> Result<(), AllocError>
+    ensures { OnOk result (string_bytes text.new ≡ string_bytes text.old ++ escaped within word.now) }
 {
     for character in word.chars() {
-        push_character(text, character)?;
+        push_character(text, within, character)?;
     }
     Ok(())
 }
@@ -63,7 +72,7 @@ pub(crate) fn push_name(text: &mut String, design: &Design, actor: usize) -> Res
     requires { actor < length design.now.net.nodes }
     ensures { OnOk result (string_bytes text.new ≡ string_bytes text.old ++ name_text design.now actor) }
 {
-    push_escaped(text, design.name(actor))
+    push_escaped(text, Within::Marks, design.name(actor))
 }
 
 /// The sum of the rates of a cycle.

@@ -5,5 +5,5 @@ use Rattle.sdf_draw.proofs.texts.push_escaped.Given as goal
 
 abbrev pub invariant-loop-character : goal.invariant-loop-character
 invariant-loop-character l = IsUtf8 (chars_rest l.character-iterator)
-    × (string_bytes l.text ++ escaped (chars_rest l.character-iterator) ≡
-    string_bytes l.initial.text ++ escaped l.fn.word)
+    × (string_bytes l.text ++ escaped l.fn.within (chars_rest l.character-iterator) ≡
+    string_bytes l.initial.text ++ escaped l.fn.within l.fn.word)

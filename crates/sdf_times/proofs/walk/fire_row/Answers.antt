@@ -1,6 +1,5 @@
-use Rattle.std.proofs.Common.{◌≡◌, ◌<◌, ℕ, length, get_or, Some, None, sym, ap, ◌∙◌, arith}
+use Rattle.std.proofs.Common.{ℕ, length, get_or, None, sym, ap, ◌∙◌, arith}
 use Rattle.sdf_graph.specs.Rates.{rates}
-use Rattle.sdf_prec.specs.Tables.{row, cell}
 use Rattle.sdf_times.proofs.Cells.{are_cells, cell_is, within}
 use Rattle.sdf_times.proofs.Fired.{prepared, until_small, walk_fire, wide_fire}
 use Rattle.sdf_times.proofs.Walks.{walk_skip, walk_row}
