@@ -1,27 +1,22 @@
 //! Designs that convert between usual rates: each is accepted, and its rates are right.
 
 use sdf_file::{Design, read_design};
-use sdf_filters::{ConverterTexts, StageFile, converter_texts};
+use sdf_filters::{ConverterTexts, converter_texts};
 use std::alloc::Global;
 use std::test::Fail;
+use test_texts::says;
 
 const RATES: [u32; 11] = [
     8000, 11_025, 16_000, 22_050, 24_000, 32_000, 44_100, 48_000, 88_200, 96_000, 192_000,
 ];
 
-/// The coefficient files, as a design is read with them.
-fn files_of(alloc: Global, files: &[StageFile]) -> Result<Vec<(String, Vec<u8>)>, Fail> {
-    let mut read = Vec::new(alloc);
-    for file in files {
-        let name = String::from_str(alloc, file.name.as_str())?;
-        read.push((name, Vec::from_slice(alloc, file.text.as_bytes())?))?;
-    }
-    Ok(read)
-}
-
 /// The design that texts say.
 fn design_of(alloc: Global, texts: &ConverterTexts) -> Result<Design, Fail> {
-    let files = files_of(alloc, &texts.files)?;
+    let mut files = Vec::new(alloc);
+    for file in &texts.files {
+        let name = String::from_str(alloc, file.name.as_str())?;
+        files.push((name, Vec::from_slice(alloc, file.text.as_bytes())?))?;
+    }
     Ok(read_design(alloc, texts.graph.as_bytes(), &files)?)
 }
 
@@ -36,41 +31,31 @@ fn push_wrong(alloc: Global, wrong: &mut String, from: u32, to: u32) -> Result<(
     Ok(())
 }
 
-/// Adds the conversions from a rate whose designs have another ratio of rates.
-fn push_wrong_from(alloc: Global, wrong: &mut String, from: u32) -> Result<(), Fail> {
-    for to in RATES {
-        push_wrong(alloc, wrong, from, to)?;
-    }
-    Ok(())
-}
-
-/// Refuses a text that is no design, a filter with more taps than one may have, and a stage of another ratio.
-#[test]
-fn usual_rates(rt: HostRuntime) -> Result<(), Fail> {
-    let mut wrong = String::new(rt.alloc());
+/// The conversions between usual rates whose designs have another ratio of rates.
+fn wrong_conversions(alloc: Global) -> Result<String, Fail> {
+    let mut wrong = String::new(alloc);
     for from in RATES {
-        push_wrong_from(rt.alloc(), &mut wrong, from)?;
+        for to in RATES {
+            push_wrong(alloc, &mut wrong, from, to)?;
+        }
     }
-    assert_eq!(rt; wrong.as_str(), "");
-    Ok(())
+    Ok(wrong)
 }
 
 /// How many actors and links a design of so many channels has.
 fn size(alloc: Global, channels: u32) -> Result<String, Fail> {
-    let design = design_of(
-        alloc,
-        &converter_texts(alloc, 48_000, 44_100, channels, 96)?,
-    )?;
-    let actors = design.net().len();
-    let links = design.net().channels();
+    let texts = converter_texts(alloc, 48_000, 44_100, channels, 96)?;
+    let design = design_of(alloc, &texts)?;
+    let (actors, links) = (design.net().len(), design.net().channels());
     Ok(format!(in alloc; "{actors} {links}")?)
 }
 
-/// Refuses channels that are not joined, and a port that is left out.
+/// Refuses a text that is no design, a filter with more taps than one may have, and a stage of another ratio; channels
+/// that are not joined, and a port that is left out.
 #[test]
-fn channels(rt: HostRuntime) -> Result<(), Fail> {
-    assert_eq!(rt; size(rt.alloc(), 1)?.as_str(), "4 3");
-    assert_eq!(rt; size(rt.alloc(), 2)?.as_str(), "11 10");
-    assert_eq!(rt; size(rt.alloc(), 8)?.as_str(), "47 46");
-    Ok(())
+fn conversions(rt: HostRuntime) -> Result<(), Fail> {
+    says(wrong_conversions(rt.alloc()), "")?;
+    says(size(rt.alloc(), 1), "4 3")?;
+    says(size(rt.alloc(), 2), "11 10")?;
+    says(size(rt.alloc(), 8), "47 46")
 }

@@ -1,14 +1,15 @@
-//! What no clause says of filters: that taps are those of the formulas, that a split is a cheap one, that designs that
-//! convert between usual rates are accepted, and the texts of faults.
+//! What no clause says of filters and of designs from files: that taps are those of the formulas, that a split is a
+//! cheap one, that designs that convert between usual rates are accepted, the texts of designs, and the texts of faults.
 //!
-//! It stands on `sdf_filters`, and on `sdf_document` and `sdf_file`, which read the designs, and has no functions:
-//! tests stand in a crate of their own, since a crate's functions are proved once more with its tests. Begin at `taps`.
+//! It stands on `sdf_filters`, on `sdf_document` and `sdf_file`, which read the designs, and on `test_texts`, and has
+//! no functions: tests stand in a crate of their own, since a crate's functions are proved once more with its tests.
+//! Begin at `taps`, then `designs`.
 #![tactic(auto)]
 
 #[cfg(test)]
 mod converters;
 #[cfg(test)]
-mod fault_texts;
+mod designs;
 #[cfg(test)]
 mod stages;
 #[cfg(test)]

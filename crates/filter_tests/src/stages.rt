@@ -1,38 +1,49 @@
 //! Stages of conversions between usual rates, which are cheap ones, and rates between which there are none.
 
-use sdf_filters::{FilterFault, Lowpass, Stage, stages};
+use sdf_filters::{Lowpass, Stage, stages};
+use std::alloc::Global;
+use std::fmt::Write;
 use std::process::Abort;
 use std::test::Fail;
+use test_texts::says;
 
 const RATES: [u32; 11] = [
     8000, 11_025, 16_000, 22_050, 24_000, 32_000, 44_100, 48_000, 88_200, 96_000, 192_000,
 ];
 
-/// Whether a conversion has these stages, each as `up` and `down`.
-fn check(
-    rt: &(impl Abort + AllocGlobal),
-    from: u32,
-    to: u32,
-    wanted: &[(u32, u32)],
-) -> Result<(), Fail> {
-    let split = stages(rt.alloc(), from, to, 96)?;
-    assert_eq!(rt; split.len(), wanted.len());
-    for (stage, (up, down)) in split.iter().zip(wanted) {
-        assert_eq!(rt; stage.up, *up);
-        assert_eq!(rt; stage.down, *down);
+/// The stages of a conversion, each as `up` and `down`, or the fault.
+fn split(alloc: Global, from: u32, to: u32) -> Result<String, Fail> {
+    let split = match stages(alloc, from, to, 96) {
+        Ok(split) => split,
+        Err(fault) => return Ok(format!(in alloc; "{fault:?}")?),
+    };
+    let mut text = String::new(alloc);
+    for stage in &split {
+        write!(text, "{}/{} ", stage.up, stage.down)?;
     }
-    Ok(())
+    Ok(text)
 }
+
+/// Two rates, and the stages between them.
+const SPLITS: &[(u32, u32, &str)] = &[
+    (48_000, 48_000, ""),
+    (44_100, 48_000, "8/7 20/21 "),
+    (48_000, 44_100, "21/20 7/8 "),
+    (192_000, 8000, "1/6 1/2 1/2 "),
+    (192_000, 11_025, "3/16 7/16 7/10 "),
+    (1, 3_065_857, "37/1 41/1 43/1 47/1 "),
+    (0, 8000, "NoRate"),
+    (8000, 0, "NoRate"),
+    (134, 1, "FactorTooLarge { factor: 67 }"),
+];
 
 /// Refuses a split into the least factors, and one that takes the greatest ratio first.
 #[test]
 fn cheap_splits(rt: HostRuntime) -> Result<(), Fail> {
-    check(&rt, 48_000, 48_000, &[])?;
-    check(&rt, 44_100, 48_000, &[(8, 7), (20, 21)])?;
-    check(&rt, 48_000, 44_100, &[(21, 20), (7, 8)])?;
-    check(&rt, 192_000, 8000, &[(1, 6), (1, 2), (1, 2)])?;
-    check(&rt, 192_000, 11_025, &[(3, 16), (7, 16), (7, 10)])?;
-    check(&rt, 1, 3_065_857, &[(37, 1), (41, 1), (43, 1), (47, 1)])
+    for (from, to, wanted) in SPLITS {
+        says(split(rt.alloc(), *from, *to), wanted)?;
+    }
+    Ok(())
 }
 
 /// The rate behind a stage.
@@ -65,19 +76,5 @@ fn usual_rates(rt: HostRuntime) -> Result<(), Fail> {
             assert_eq!(rt; rate, to);
         }
     }
-    Ok(())
-}
-
-#[test]
-fn no_splits(rt: HostRuntime) -> Result<(), Fail> {
-    let none = stages(rt.alloc(), 0, 8000, 96);
-    assert_eq!(rt; none.err(), Some(FilterFault::NoRate));
-    let none = stages(rt.alloc(), 8000, 0, 96);
-    assert_eq!(rt; none.err(), Some(FilterFault::NoRate));
-    let large = stages(rt.alloc(), 134, 1, 96);
-    assert_eq!(rt;
-        large.err(),
-        Some(FilterFault::FactorTooLarge { factor: 67 })
-    );
     Ok(())
 }

@@ -1,8 +1,9 @@
 //! Taps against those that `scripts/coefficients` writes, in Python's own arithmetic.
 
 use sdf_filters::{FilterFault, Lowpass, coefficient_text};
-use std::process::Abort;
+use std::alloc::Global;
 use std::test::Fail;
+use test_texts::says;
 
 /// A number by which lists of taps are compared.
 fn checksum(taps: &[i32]) -> u32 {
@@ -13,159 +14,140 @@ fn checksum(taps: &[i32]) -> u32 {
     sum
 }
 
-/// Whether a low-pass has so many taps, with this checksum.
-fn check(
-    rt: &(impl Abort + AllocGlobal),
-    filter: Result<Lowpass, FilterFault>,
-    count: usize,
-    sum: u32,
-) -> Result<(), Fail> {
+/// How many taps a low-pass has, and their checksum.
+fn summed(alloc: Global, filter: Result<Lowpass, FilterFault>) -> Result<String, Fail> {
     let filter = filter?;
-    let taps = filter.taps(rt.alloc(), filter.count()?)?;
-    assert_eq!(rt; taps.len(), count);
-    assert_eq!(rt; checksum(&taps), sum);
-    Ok(())
+    let taps = filter.taps(alloc, filter.count()?)?;
+    Ok(format!(in alloc; "{} {}", taps.len(), checksum(&taps))?)
 }
 
-/// Refuses taps that are a window without its sinc, and a sinc without its window.
-#[test]
-fn few_taps(rt: HostRuntime) -> Result<(), Fail> {
+/// The taps of a low-pass, and where it has five. Refuses a window without its sinc, and a sinc without its window.
+fn few_taps(alloc: Global) -> Result<String, Fail> {
     let filter = Lowpass::new(8000, 1000, 3000, 40, 1, 15)?;
-    let taps = filter.taps(rt.alloc(), filter.count()?)?;
-    let wanted = [261, -763, -1830, 4204, 14512, 14512, 4204, -1830, -763, 261];
-    assert_eq!(rt; taps.as_slice(), wanted.as_slice());
-    let taps = filter.taps(rt.alloc(), 5)?;
-    assert_eq!(rt; taps.as_slice(), [405, 7584, 16790, 7584, 405].as_slice());
-    Ok(())
+    let taps = filter.taps(alloc, filter.count()?)?;
+    let five = filter.taps(alloc, 5)?;
+    Ok(format!(in alloc; "{taps:?} {five:?}")?)
 }
 
-/// Refuses taps that are rounded down, and ones that are moved from the first on until the sum is exact.
-#[test]
-fn many_taps(rt: HostRuntime) -> Result<(), Fail> {
-    check(
-        &rt,
-        Lowpass::new(44_100, 2000, 2900, 80, 1, 15),
-        247,
-        3_407_414_156,
-    )?;
-    check(
-        &rt,
-        Lowpass::new(336_000, 20_000, 24_000, 96, 7, 15),
-        518,
-        2_609_105_664,
-    )?;
-    check(
-        &rt,
-        Lowpass::new(88_200, 20_000, 24_100, 96, 2, 15),
-        134,
-        3_010_014_208,
-    )?;
-    check(
-        &rt,
-        Lowpass::new(384_000, 20_000, 28_000, 60, 8, 12),
-        176,
-        832_298_496,
-    )
-}
-
-/// Refuses steps that are not symmetric: each tap moves once, and ten pairs once more.
-#[test]
-fn many_steps(rt: HostRuntime) -> Result<(), Fail> {
-    check(
-        &rt,
-        Lowpass::new(336_000, 6048, 29_561, 50, 1, 15),
-        43,
-        826_095_120,
-    )
-}
-
-/// Whether a low-pass of these values has the fault with this text.
-fn refused(
-    rt: &(impl Abort + AllocGlobal),
-    filter: Result<Lowpass, FilterFault>,
-    text: &str,
-) -> Result<(), Fail> {
-    let Err(fault) = filter else {
-        return Err(Fail::from("no fault"));
-    };
-    assert_eq!(rt; fault.to_string(rt.alloc())?.as_str(), text);
-    Ok(())
-}
-
-/// Refuses a text of another value, and a limit that is one off.
-#[test]
-fn faults(rt: HostRuntime) -> Result<(), Fail> {
-    let at = |up, shift, attenuation| Lowpass::new(8000, 1000, 3000, attenuation, up, shift);
-    refused(&rt, at(0, 15, 40), "`up` is 0: take one from 1 to 64")?;
-    refused(&rt, at(65, 15, 40), "`up` is 65: take one from 1 to 64")?;
-    refused(&rt, at(1, 16, 40), "`shift` is 16: take one from 0 to 15")?;
-    refused(
-        &rt,
-        at(1, 15, 201),
-        "an attenuation of 201 dB: take one from 0 to 200",
-    )?;
-    refused(
-        &rt,
-        Lowpass::new(8000, 3000, 3000, 40, 1, 15),
-        "what passes ends at 3000 Hz, what is stopped begins at 3000: take `pass` lower, or `stop` higher",
-    )?;
-    refused(
-        &rt,
-        Lowpass::new(8000, 1000, 4001, 40, 1, 15),
-        "what is stopped begins at 4001 Hz, over half the rate of 8000: take it lower, or a higher rate",
-    )?;
-    assert!(rt; Lowpass::new(8000, 1000, 4000, 200, 64, 0).is_ok());
-    Ok(())
-}
-
-/// Refuses a limit of taps that is one off, and a tap of 17 bits.
-#[test]
-fn faults_of_taps(rt: HostRuntime) -> Result<(), Fail> {
-    let steep = Lowpass::new(48_000, 1000, 1001, 40, 1, 15)?;
-    assert_eq!(rt;
-        steep.count(),
-        Err(FilterFault::TooManyTaps { taps: 107_154 })
-    );
-    let filter = Lowpass::new(8000, 1000, 3000, 40, 1, 15)?;
-    let one = filter.taps(rt.alloc(), 1);
-    assert_eq!(rt; one.err(), Some(FilterFault::TapTooLarge { size: 32_768 }));
-    let softer = Lowpass::new(8000, 1000, 3000, 40, 1, 14)?;
-    assert_eq!(rt; softer.taps(rt.alloc(), 1)?.as_slice(), [16_384].as_slice());
-    Ok(())
-}
-
-/// Refuses a row of eleven values, and a comma behind the last one.
-#[test]
-fn text(rt: HostRuntime) -> Result<(), Fail> {
+/// The taps of a low-pass as a text, and those of its high-pass. Refuses a row of eleven values, a comma behind the
+/// last one, a high-pass that is a low-pass turned round, and a middle that is one place off.
+fn low_and_high(alloc: Global) -> Result<String, Fail> {
     let filter = Lowpass::new(8000, 1000, 2500, 40, 1, 15)?;
-    let taps = filter.taps(rt.alloc(), filter.count()?)?;
-    let text = coefficient_text(rt.alloc(), &taps)?;
-    assert_eq!(rt;
-        text.as_str(),
-        "format = 1\nvalues = [\n  237, 359, -920, -1990, 1698, 9832, 14336, 9832, 1698, -1990, -920, 359,\n  237\n]\n"
-    );
-    Ok(())
+    let taps = filter.taps(alloc, filter.count()?)?;
+    let high = filter.highpass(alloc, 13)?;
+    let text = coefficient_text(alloc, &taps)?;
+    Ok(format!(in alloc; "{text}{high:?}")?)
 }
 
-/// Refuses a high-pass that is a low-pass turned round, and a middle that is one place off.
-#[test]
-fn highpass(rt: HostRuntime) -> Result<(), Fail> {
-    let filter = Lowpass::new(8000, 1000, 2500, 40, 1, 15)?;
-    let taps = filter.highpass(rt.alloc(), 13)?;
-    let wanted = [
-        -237, -359, 920, 1990, -1698, -9832, 18432, -9832, -1698, 1990, 920, -359, -237,
-    ];
-    assert_eq!(rt; taps.as_slice(), wanted.as_slice());
-    Ok(())
-}
-
-/// Refuses a band-pass that passes what the narrow low-pass does.
-#[test]
-fn bandpass(rt: HostRuntime) -> Result<(), Fail> {
+/// The taps of a band-pass. Refuses one that passes what the narrow low-pass does.
+fn band(alloc: Global) -> Result<String, Fail> {
     let wide = Lowpass::new(8000, 1000, 3000, 40, 1, 15)?;
     let narrow = Lowpass::new(8000, 400, 1000, 40, 1, 15)?;
-    let taps = wide.bandpass(rt.alloc(), &narrow, 9)?;
-    let wanted = [-1107, -3587, -3993, 3759, 9856, 3759, -3993, -3587, -1107];
-    assert_eq!(rt; taps.as_slice(), wanted.as_slice());
-    Ok(())
+    let taps = wide.bandpass(alloc, &narrow, 9)?;
+    Ok(format!(in alloc; "{taps:?}")?)
+}
+
+/// The filters of many taps refuse ones that are rounded down, and ones that are moved from the first on until the sum
+/// is exact. In the last of them each tap moves once, and ten pairs once more: this refuses steps that are not
+/// symmetric.
+#[test]
+fn taps(rt: HostRuntime) -> Result<(), Fail> {
+    let alloc = rt.alloc();
+    says(
+        few_taps(alloc),
+        "[261, -763, -1830, 4204, 14512, 14512, 4204, -1830, -763, 261] [405, 7584, 16790, 7584, 405]",
+    )?;
+    says(
+        summed(alloc, Lowpass::new(44_100, 2000, 2900, 80, 1, 15)),
+        "247 3407414156",
+    )?;
+    says(
+        summed(alloc, Lowpass::new(336_000, 20_000, 24_000, 96, 7, 15)),
+        "518 2609105664",
+    )?;
+    says(
+        summed(alloc, Lowpass::new(88_200, 20_000, 24_100, 96, 2, 15)),
+        "134 3010014208",
+    )?;
+    says(
+        summed(alloc, Lowpass::new(384_000, 20_000, 28_000, 60, 8, 12)),
+        "176 832298496",
+    )?;
+    says(
+        summed(alloc, Lowpass::new(336_000, 6048, 29_561, 50, 1, 15)),
+        "43 826095120",
+    )?;
+    says(
+        low_and_high(alloc),
+        "format = 1\nvalues = [\n  237, 359, -920, -1990, 1698, 9832, 14336, 9832, 1698, -1990, -920, 359,\n  237\n]\n\
+         [-237, -359, 920, 1990, -1698, -9832, 18432, -9832, -1698, 1990, 920, -359, -237]",
+    )?;
+    says(
+        band(alloc),
+        "[-1107, -3587, -3993, 3759, 9856, 3759, -3993, -3587, -1107]",
+    )
+}
+
+/// The fault of a low-pass, and nothing where there is none.
+fn refusal(alloc: Global, filter: Result<Lowpass, FilterFault>) -> Result<String, Fail> {
+    match filter {
+        Ok(_) => Ok(String::new(alloc)),
+        Err(fault) => Ok(fault.to_string(alloc)?),
+    }
+}
+
+/// The same of a low-pass of these values at 8000 Hz.
+fn refusal_at(alloc: Global, up: u32, shift: u32, attenuation: u32) -> Result<String, Fail> {
+    refusal(
+        alloc,
+        Lowpass::new(8000, 1000, 3000, attenuation, up, shift),
+    )
+}
+
+/// How many taps a steep low-pass would have, one tap with a shift of 15, and with one of 14.
+fn one_tap(alloc: Global) -> Result<String, Fail> {
+    let steep = Lowpass::new(48_000, 1000, 1001, 40, 1, 15)?.count();
+    let large = Lowpass::new(8000, 1000, 3000, 40, 1, 15)?
+        .taps(alloc, 1)
+        .err();
+    let soft = Lowpass::new(8000, 1000, 3000, 40, 1, 14)?.taps(alloc, 1)?;
+    Ok(format!(in alloc; "{steep:?} {large:?} {soft:?}")?)
+}
+
+/// Refuses a text of another value, a limit that is one off, and a tap of 17 bits.
+#[test]
+fn faults(rt: HostRuntime) -> Result<(), Fail> {
+    let alloc = rt.alloc();
+    says(
+        refusal_at(alloc, 0, 15, 40),
+        "`up` is 0: take one from 1 to 64",
+    )?;
+    says(
+        refusal_at(alloc, 65, 15, 40),
+        "`up` is 65: take one from 1 to 64",
+    )?;
+    says(
+        refusal_at(alloc, 1, 16, 40),
+        "`shift` is 16: take one from 0 to 15",
+    )?;
+    says(
+        refusal_at(alloc, 1, 15, 201),
+        "an attenuation of 201 dB: take one from 0 to 200",
+    )?;
+    says(
+        refusal(alloc, Lowpass::new(8000, 3000, 3000, 40, 1, 15)),
+        "what passes ends at 3000 Hz, what is stopped begins at 3000: take `pass` lower, or `stop` higher",
+    )?;
+    says(
+        refusal(alloc, Lowpass::new(8000, 1000, 4001, 40, 1, 15)),
+        "what is stopped begins at 4001 Hz, over half the rate of 8000: take it lower, or a higher rate",
+    )?;
+    says(
+        refusal(alloc, Lowpass::new(8000, 1000, 4000, 200, 64, 0)),
+        "",
+    )?;
+    says(
+        one_tap(alloc),
+        "Err(TooManyTaps { taps: 107154 }) Some(TapTooLarge { size: 32768 }) [16384]",
+    )
 }

@@ -1,8 +1,10 @@
-//! What is printed of filters, with what Python measures of the same taps, and the graph file of a small converter.
+//! What is printed of filters, with what Python measures of the same taps, the graph file of a small converter, and the
+//! texts of faults.
 
 use sdf_filters::{Band, FilterFault, Wanted, converter_texts, filter_texts};
 use std::alloc::Global;
 use std::test::Fail;
+use test_texts::says;
 
 const LOW: Band = Band::Low {
     pass: 1000,
@@ -33,99 +35,79 @@ fn printed(alloc: Global, wanted: Wanted) -> Result<String, Fail> {
     }
 }
 
-/// Refuses levels of another band, and ones that are not parts of the unit.
-#[test]
-fn low_and_high(rt: HostRuntime) -> Result<(), Fail> {
-    let text = printed(rt.alloc(), wanted(LOW, 1))?;
-    assert_eq!(rt;
-        text.as_str(),
+/// Bands, and what is printed of the filters: the last five can't be asked for.
+const PRINTED: &[(Band, u32, &str)] = &[
+    (
+        LOW,
+        1,
         "# fir up 1 shift 15, low-pass 1000..2500 Hz at 8000 Hz, 40 dB\nformat = 1\nvalues = [\n  \
          237, 359, -920, -1990, 1698, 9832, 14336, 9832, 1698, -1990, -920, 359,\n  237\n]\n\
-         13 taps: 0.1015 dB of ripple, what is stopped at least 38.2 dB down\n"
-    );
-    let text = printed(rt.alloc(), wanted(HIGH, 1))?;
-    assert_eq!(rt;
-        text.as_str(),
+         13 taps: 0.1015 dB of ripple, what is stopped at least 38.2 dB down\n",
+    ),
+    (
+        HIGH,
+        1,
         "# fir up 1 shift 15, high-pass 1000..2500 Hz at 8000 Hz, 40 dB\nformat = 1\nvalues = [\n  \
          -237, -359, 920, 1990, -1698, -9832, 18432, -9832, -1698, 1990, 920, -359,\n  -237\n]\n\
-         13 taps: 0.1079 dB of ripple, what is stopped at least 38.7 dB down\n"
-    );
-    Ok(())
-}
-
-/// Refuses a band-pass of whose stopped bands only one is measured.
-#[test]
-fn middle(rt: HostRuntime) -> Result<(), Fail> {
-    let band = Band::Middle {
-        low_stop: 200,
-        low_pass: 1200,
-        pass: 2000,
-        stop: 3000,
-    };
-    let text = printed(rt.alloc(), wanted(band, 1))?;
-    assert_eq!(rt;
-        text.as_str(),
+         13 taps: 0.1079 dB of ripple, what is stopped at least 38.7 dB down\n",
+    ),
+    (
+        Band::Middle {
+            low_stop: 200,
+            low_pass: 1200,
+            pass: 2000,
+            stop: 3000,
+        },
+        1,
         "# fir up 1 shift 15, band-pass 200..1200..2000..3000 Hz at 8000 Hz, 40 dB\nformat = 1\nvalues = [\n  \
          37, 341, 899, -448, -971, 401, -4054, -7736, 4143, 14776, 4143, -7736,\n  \
          -4054, 401, -971, -448, 899, 341, 37\n]\n\
-         19 taps: 0.0842 dB of ripple, what is stopped at least 32.2 dB down\n"
-    );
-    Ok(())
-}
+         19 taps: 0.0842 dB of ripple, what is stopped at least 32.2 dB down\n",
+    ),
+    (HIGH, 2, "a high-pass with `up` 2: take 1"),
+    (
+        Band::High {
+            stop: 2500,
+            pass: 1000,
+        },
+        1,
+        "what is stopped ends at 2500 Hz, what passes begins at 1000: take `stop` lower, or `pass` higher",
+    ),
+    (
+        Band::High {
+            stop: 1000,
+            pass: 4001,
+        },
+        1,
+        "what passes begins at 4001 Hz, over half the rate of 8000: take it lower, or a higher rate",
+    ),
+    (
+        Band::Middle {
+            low_stop: 200,
+            low_pass: 1200,
+            pass: 1200,
+            stop: 3000,
+        },
+        1,
+        "what passes begins at 1200 Hz and ends at 1200: take its begin lower, or its end higher",
+    ),
+    (
+        Band::Low {
+            pass: 3000,
+            stop: 1000,
+        },
+        1,
+        "what passes ends at 3000 Hz, what is stopped begins at 1000: take `pass` lower, or `stop` higher",
+    ),
+];
 
-/// The texts of the faults of filters that can't be asked for, a line each.
-fn refusals(alloc: Global) -> Result<String, Fail> {
-    let mut text = String::new(alloc);
-    for wanted in [
-        wanted(HIGH, 2),
-        wanted(
-            Band::High {
-                stop: 2500,
-                pass: 1000,
-            },
-            1,
-        ),
-        wanted(
-            Band::High {
-                stop: 1000,
-                pass: 4001,
-            },
-            1,
-        ),
-        wanted(
-            Band::Middle {
-                low_stop: 200,
-                low_pass: 1200,
-                pass: 1200,
-                stop: 3000,
-            },
-            1,
-        ),
-        wanted(
-            Band::Low {
-                pass: 3000,
-                stop: 1000,
-            },
-            1,
-        ),
-    ] {
-        text.push_str(printed(alloc, wanted)?.as_str())?;
-        text.push_str("\n")?;
-    }
-    Ok(text)
-}
-
-/// Refuses a text of another value, and tests in another order.
+/// Refuses levels of another band, and ones that are not parts of the unit; a band-pass of whose stopped bands only one
+/// is measured; a text of another value, and tests in another order.
 #[test]
-fn faults(rt: HostRuntime) -> Result<(), Fail> {
-    assert_eq!(rt;
-        refusals(rt.alloc())?.as_str(),
-        "a high-pass with `up` 2: take 1\n\
-         what is stopped ends at 2500 Hz, what passes begins at 1000: take `stop` lower, or `pass` higher\n\
-         what passes begins at 4001 Hz, over half the rate of 8000: take it lower, or a higher rate\n\
-         what passes begins at 1200 Hz and ends at 1200: take its begin lower, or its end higher\n\
-         what passes ends at 3000 Hz, what is stopped begins at 1000: take `pass` lower, or `stop` higher\n"
-    );
+fn filters(rt: HostRuntime) -> Result<(), Fail> {
+    for (band, up, text) in PRINTED {
+        says(printed(rt.alloc(), wanted(*band, *up)), text)?;
+    }
     Ok(())
 }
 
@@ -134,35 +116,71 @@ fn graph(alloc: Global, channels: u32) -> Result<String, Fail> {
     Ok(converter_texts(alloc, 8000, 16_000, channels, 40)?.graph)
 }
 
-/// Refuses a stage that is counted from 0, and a name with the mark of a channel where there is one.
+/// The fault of a conversion, and nothing where there is none.
+fn fault(alloc: Global, from: u32, to: u32, channels: u32) -> Result<String, Fail> {
+    match converter_texts(alloc, from, to, channels, 96) {
+        Ok(_) => Ok(String::new(alloc)),
+        Err(fault) => Ok(format!(in alloc; "{fault:?}")?),
+    }
+}
+
+/// Refuses a stage that is counted from 0, and a name with the mark of a channel where there is one; channels and rates
+/// that are not there, and limits that are one off.
 #[test]
-fn graph_of_one_channel(rt: HostRuntime) -> Result<(), Fail> {
-    assert_eq!(rt;
-        graph(rt.alloc(), 1)?.as_str(),
+fn converters(rt: HostRuntime) -> Result<(), Fail> {
+    let alloc = rt.alloc();
+    says(
+        graph(alloc, 1),
         "# from 8000\n# to 16000\n# channels 1\nformat = 1\n\
          \n[[actor]]\nname = \"in\"\nkind = \"input\"\nchannel = 0\n\
          \n[[actor]]\nname = \"stage1\"\nkind = \"fir\"\nup = 2\ndown = 1\nshift = 15\nfile = \"stage1.toml\"\n\
          \n[[actor]]\nname = \"out\"\nkind = \"output\"\nchannel = 0\n\
          \n[[link]]\nfrom = \"in\"\nto = \"stage1\"\n\
-         \n[[link]]\nfrom = \"stage1\"\nto = \"out\"\n"
-    );
-    Ok(())
+         \n[[link]]\nfrom = \"stage1\"\nto = \"out\"\n",
+    )?;
+    says(fault(alloc, 8000, 8000, 0), "Channels { channels: 0 }")?;
+    says(fault(alloc, 8000, 8000, 9), "Channels { channels: 9 }")?;
+    says(fault(alloc, 0, 8000, 1), "NoRate")?;
+    says(fault(alloc, 8000, 8000, 8), "")
 }
 
-/// Refuses channels and rates that are not there, and limits that are one off.
+/// Faults that no other test prints, and what they say to change.
+const TEXTS: &[(FilterFault, &str)] = &[
+    (FilterFault::OutOfMemory, "out of memory"),
+    (
+        FilterFault::TooManyTaps { taps: 1025 },
+        "1025 taps, over 1024: take what passes and what is stopped further apart, or less attenuation",
+    ),
+    (
+        FilterFault::TapTooLarge { size: 32_768 },
+        "a tap of size 32768 has over 16 bits: take a smaller `shift`, or what passes and what is stopped lower",
+    ),
+    (
+        FilterFault::RateTooLarge {
+            rate: 4_294_967_296,
+        },
+        "a filter at 4294967296 Hz, over 4294967295: take lower rates",
+    ),
+    (
+        FilterFault::Channels { channels: 9 },
+        "9 channels: take 1 to 8",
+    ),
+    (FilterFault::NoRate, "a rate is 0: take both from 1 on"),
+    (
+        FilterFault::FactorTooLarge { factor: 67 },
+        "the ratio of the rates has the factor 67, and none of it is from 2 to 64: take another rate",
+    ),
+];
+
+/// The text of a fault.
+fn text_of(alloc: Global, fault: &FilterFault) -> Result<String, Fail> {
+    Ok(fault.to_string(alloc)?)
+}
+
 #[test]
-fn faults_of_converters(rt: HostRuntime) -> Result<(), Fail> {
-    let alloc = rt.alloc();
-    let fault = |from, to, channels| converter_texts(alloc, from, to, channels, 96).err();
-    assert_eq!(rt;
-        fault(8000, 8000, 0),
-        Some(FilterFault::Channels { channels: 0 })
-    );
-    assert_eq!(rt;
-        fault(8000, 8000, 9),
-        Some(FilterFault::Channels { channels: 9 })
-    );
-    assert_eq!(rt; fault(0, 8000, 1), Some(FilterFault::NoRate));
-    assert_eq!(rt; fault(8000, 8000, 8), None);
+fn faults_say_what_to_change(rt: HostRuntime) -> Result<(), Fail> {
+    for (fault, wanted) in TEXTS {
+        says(text_of(rt.alloc(), fault), wanted)?;
+    }
     Ok(())
 }

@@ -1,56 +1,100 @@
-//! How much is asked for at a time of a chunk that is skipped and of a content, and of memory where no size is known.
+//! How much is asked for at a time of a chunk that is skipped and of a content, and of memory where less comes than is
+//! announced, or no size is known.
 
-use crate::devices::{Watching, pages};
-use sdf_wav::{FromRead, read_wav};
+use crate::wav_answers::{Part, file_of};
+use crate::wav_files::{FORMAT, RIFF};
+use sdf_wav::{DeviceFault, FromRead, Reader, read_wav};
 use std::alloc::Global;
-use std::process::Abort;
+use std::fs;
 use std::test::Fail;
 use test_devices::Faulty;
+use test_texts::says;
 
-/// A format, and a chunk of 10,000 bytes behind it.
-fn chunks(alloc: Global) -> Result<Vec<u8>, Fail> {
-    let mut bytes = Vec::new(alloc);
-    bytes.extend_from_slice(b"RIFF\0\0\0\0WAVE")?;
-    bytes.extend_from_slice(b"fmt \x10\0\0\0\x01\0\x01\0\x44\xAC\0\0\x88\x58\x01\0\x02\0\x10\0")?;
-    bytes.extend_from_slice(b"LIST\x10\x27\0\0")?;
-    bytes.extend_from_slice(&vec![in alloc; 0u8; 10_000]?)?;
-    Ok(bytes)
+/// The front of a list of 10,000 bytes.
+const LIST: Part = (b"LIST\x10\x27\0\0", 1);
+
+/// How many frames a file has, and how many bytes each call asks for.
+fn asked(alloc: Global, bytes: &[u8]) -> Result<String, Fail> {
+    let mut reader = FromRead::new(Faulty::moving(alloc, bytes, usize::MAX));
+    let frames = read_wav(alloc, &mut reader)?.frames();
+    Ok(format!(in alloc; "{frames} {:?}", reader.into_inner().asked)?)
 }
 
-/// A file of so many bytes of data behind such a chunk, with this size of the data.
-fn file(alloc: Global, size: [u8; 4], many: usize) -> Result<Vec<u8>, Fail> {
-    let mut bytes = chunks(alloc)?;
-    bytes.extend_from_slice(b"data")?;
-    bytes.extend_from_slice(&size)?;
-    bytes.extend_from_slice(&vec![in alloc; 0u8; many]?)?;
-    Ok(bytes)
+/// The same of 40,000 bytes of data behind the list.
+fn asked_of_much(alloc: Global) -> Result<String, Fail> {
+    let data: Part = (b"data\x40\x9C\0\0", 1);
+    let parts = [
+        (RIFF, 1),
+        (FORMAT, 1),
+        LIST,
+        (&[0], 10_000),
+        data,
+        (&[0], 40_000),
+    ];
+    asked(alloc, &file_of(alloc, &parts)?)
 }
 
-/// A chunk is skipped by 4,096 bytes, and a content read by 16,384: here 40,000.
-#[test]
-fn pieces_of_chunks(rt: HostRuntime) -> Result<(), Fail> {
-    let alloc = rt.alloc();
-    let bytes = file(alloc, [0x40, 0x9C, 0, 0], 40_000)?;
-    let mut reader = FromRead::new(Faulty::moving(alloc, bytes.as_slice(), usize::MAX));
-    assert_eq!(rt; read_wav(alloc, &mut reader)?.frames(), 20_000);
-    assert_eq!(rt;
-        reader.into_inner().asked.as_slice(),
-        [12usize, 8, 16, 8, 4096, 4096, 1808, 8, 16_384, 16_384, 7232].as_slice()
-    );
-    Ok(())
+/// How many pages of memory this program has, as its system says.
+fn pages(rt: &HostRuntime) -> u64 {
+    match fs::read_to_string(rt, "/proc/self/statm") {
+        Ok(text) => match text.split(' ').next().map(|word| word.parse::<u64>()) {
+            Some(Ok(count)) => count,
+            _ => 0,
+        },
+        Err(_) => 0,
+    }
 }
 
-/// Four bytes come of data whose size is not known: less than 4,096 pages are asked for.
-#[test]
-fn memory_for_an_open_content(rt: HostRuntime) -> Result<(), Fail> {
-    let bytes = file(rt.alloc(), [0xFF; 4], 4)?;
-    let before = pages(&rt);
+/// Sees the most memory that the program has at any call.
+#[derive(Drop)]
+struct Watching<'a, R> {
+    reader: R,
+    rt: &'a HostRuntime,
+    most: u64,
+}
+
+impl<R: Reader> Reader for Watching<'_, R> {
+    ghost remaining = { λ s. R.remaining s.reader };
+
+    ghost failures = { λ s. R.failures s.reader };
+
+    fn read(&mut self, buf: &mut [u8]) -> Result<usize, DeviceFault> {
+        self.most = self.most.max(pages(self.rt));
+        self.reader.read(buf)
+    }
+}
+
+/// How many frames a file of these parts has, or the fault, and whether fewer than 4,096 pages are asked for.
+fn memory(rt: &HostRuntime, parts: &[Part]) -> Result<String, Fail> {
+    let bytes = file_of(rt.alloc(), parts)?;
+    let before = pages(rt);
     let mut reader = Watching {
         reader: FromRead::new(bytes.as_slice()),
-        rt: &rt,
+        rt,
         most: 0,
     };
-    assert_eq!(rt; read_wav(rt.alloc(), &mut reader)?.frames(), 2);
-    assert!(rt; reader.most < before.saturating_add(4_096));
-    Ok(())
+    let frames = match read_wav(rt.alloc(), &mut reader) {
+        Ok(wav) => Ok(wav.frames()),
+        Err(fault) => Err(fault),
+    };
+    let few = reader.most < before.saturating_add(4_096);
+    Ok(format!(in rt.alloc(); "{frames:?} {few}")?)
+}
+
+/// A chunk is skipped by 4,096 bytes, and a content read by 16,384. Four bytes come where no size is known, and where
+/// 4,294,967,294 are announced.
+#[test]
+fn pieces_of_chunks(rt: HostRuntime) -> Result<(), Fail> {
+    says(
+        asked_of_much(rt.alloc()),
+        "20000 [12, 8, 16, 8, 4096, 4096, 1808, 8, 16384, 16384, 7232]",
+    )?;
+    let open: Part = (b"data\xFF\xFF\xFF\xFF\0\0\0\0", 1);
+    let parts = [(RIFF, 1), (FORMAT, 1), LIST, (&[0], 10_000), open];
+    says(memory(&rt, &parts), "Ok(2) true")?;
+    let announced: Part = (b"data\xFE\xFF\xFF\xFF\x03\0\xFE\xFF", 1);
+    says(
+        memory(&rt, &[(RIFF, 1), (FORMAT, 1), announced]),
+        "Err(Format(Truncated)) true",
+    )
 }

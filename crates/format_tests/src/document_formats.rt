@@ -1,58 +1,36 @@
-//! Documents of formats 1 and 2, and the kinds that format 2 has more.
+//! The kinds that format 2 has more, in documents of formats 1 and 2.
 
-use crate::documents::{GAIN, GRAPH, fault, fault_of};
-use sdf_document::{Document, read_document};
+use crate::documents::{GAIN, GRAPH, read};
 use std::alloc::Global;
 use std::test::Fail;
-use test_texts::{row_says, says};
+use test_texts::row_says;
 
-const DEAL: &str = "kind = \"deal\"\nways = 2";
-
-const GATHER: &str = "kind = \"gather\"\nways = 16\nrun = 64";
-
-const CLIP: &str = "kind = \"clip\"\ngreatest = -5";
-
-const OFFSET: &str = "kind = \"offset\"\nvalue = -32768";
-
-/// The graph in format 2.
-fn second(alloc: Global, kind: &str) -> Result<String, Fail> {
+/// What the graph in format 2 says with this kind in the place of its gain.
+fn read_second(alloc: Global, kind: &str) -> Result<String, Fail> {
     let text = GRAPH.replace(alloc, "format = 1", "format = 2")?;
-    Ok(text.replace(alloc, GAIN, kind)?)
+    read(alloc, text.as_str(), GAIN, kind, &[])
 }
 
-/// What the second actor is.
-fn second_kind(alloc: Global, document: &Document) -> Result<String, Fail> {
-    match document.actors.get(1) {
-        Some(actor) => Ok(format!(in alloc; "{:?}", actor.kind)?),
-        None => Ok(String::new(alloc)),
-    }
-}
-
-/// The same of the graph in format 2.
-fn read(alloc: Global, kind: &str) -> Result<String, Fail> {
-    let text = second(alloc, kind)?;
-    second_kind(alloc, &read_document(alloc, text.as_bytes(), &[])?)
-}
-
-#[test]
-fn reads_the_kinds_of_format_two(rt: HostRuntime) -> Result<(), Fail> {
-    says(read(rt.alloc(), DEAL), "Deal { ways: 2, run: 1 }")?;
-    says(read(rt.alloc(), GATHER), "Gather { ways: 16, run: 64 }")?;
-    says(
-        read(rt.alloc(), CLIP),
+/// A kind of format 2 alone, and what it is.
+const KINDS: &[(&str, &str)] = &[
+    ("kind = \"deal\"\nways = 2", "Deal { ways: 2, run: 1 }"),
+    (
+        "kind = \"gather\"\nways = 16\nrun = 64",
+        "Gather { ways: 16, run: 64 }",
+    ),
+    (
+        "kind = \"clip\"\ngreatest = -5",
         "Clip { least: -32768, greatest: -5 }",
-    )?;
-    says(read(rt.alloc(), OFFSET), "Offset { value: -32768 }")?;
-    says(read(rt.alloc(), GAIN), "Gain { gain: -32768, shift: 15 }")
-}
+    ),
+    (
+        "kind = \"offset\"\nvalue = -32768",
+        "Offset { value: -32768 }",
+    ),
+];
 
-/// The fault of the graph in format 2, or `read`.
-fn second_fault(alloc: Global, kind: &str) -> Result<String, Fail> {
-    fault_of(alloc, second(alloc, kind)?.as_bytes())
-}
-
-/// A kind, and the fault of the graph in format 2.
-const FAULTS: &[(&str, &str)] = &[
+/// A kind of format 1, and then kinds with their faults.
+const MORE: &[(&str, &str)] = &[
+    (GAIN, "Gain { gain: -32768, shift: 15 }"),
     (
         "kind = \"deal\"\nways = 2\nrun = 0",
         "28 KitValue actor 1 key run",
@@ -109,16 +87,18 @@ const FAULTS: &[(&str, &str)] = &[
 ];
 
 #[test]
-fn names_the_faults_of_format_two(rt: HostRuntime) -> Result<(), Fail> {
-    for kind in [DEAL, GATHER, CLIP, OFFSET] {
+fn reads_the_kinds_of_format_two(rt: HostRuntime) -> Result<(), Fail> {
+    let alloc = rt.alloc();
+    for (kind, wanted) in KINDS {
         row_says(
             kind,
-            fault(rt.alloc(), GAIN, kind),
+            read(alloc, GRAPH, GAIN, kind, &[]),
             "56 UnknownKind actor 1",
         )?;
+        row_says(kind, read_second(alloc, kind), wanted)?;
     }
-    for (kind, wanted) in FAULTS {
-        row_says(kind, second_fault(rt.alloc(), kind), wanted)?;
+    for (kind, wanted) in MORE {
+        row_says(kind, read_second(alloc, kind), wanted)?;
     }
     Ok(())
 }

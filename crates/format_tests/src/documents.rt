@@ -1,8 +1,8 @@
 //! Documents of format 1: what they say, and each fault with its place.
 
-use crate::readings::{File, refusal};
+use crate::readings::File;
 use sdf_document::{Document, ReadFault, read_document};
-use std::alloc::{AllocError, Global};
+use std::alloc::Global;
 use std::test::Fail;
 use test_texts::{row_says, says};
 
@@ -35,89 +35,71 @@ initial = [1, -2]
 /// The kind of its gain.
 pub(crate) const GAIN: &str = "kind = \"gain\"\ngain = -32768\nshift = 15";
 
-/// What the graph says with one text in the place of another, beside these files.
-pub(crate) fn read_with(
-    alloc: Global,
-    files: &[File],
-    old: &str,
-    new: &str,
-) -> Result<Document, Fail> {
-    let text = GRAPH.replace(alloc, old, new)?;
-    Ok(read_document(alloc, text.as_bytes(), files)?)
+/// What the second actor of a document is, or the fault.
+fn told(alloc: Global, answer: Result<Document, ReadFault>) -> Result<String, Fail> {
+    let document = match answer {
+        Ok(document) => document,
+        Err(fault) => return Ok(fault.to_string(alloc)?),
+    };
+    match document.actors.get(1) {
+        Some(actor) => Ok(format!(in alloc; "{:?}", actor.kind)?),
+        None => Ok(String::new(alloc)),
+    }
 }
 
-/// Its fault with one text in the place of another, beside these files, or `read`.
-pub(crate) fn fault_with(
+/// The same of a graph with one text in the place of another, beside these files.
+pub(crate) fn read(
     alloc: Global,
-    files: &[File],
+    graph: &str,
     old: &str,
     new: &str,
+    files: &[File],
 ) -> Result<String, Fail> {
-    let text = GRAPH.replace(alloc, old, new)?;
-    refusal(alloc, read_document(alloc, text.as_bytes(), files))
+    let text = graph.replace(alloc, old, new)?;
+    told(alloc, read_document(alloc, text.as_bytes(), files))
 }
 
-/// Its fault with one text in the place of another, or `read`.
-pub(crate) fn fault(alloc: Global, old: &str, new: &str) -> Result<String, Fail> {
-    fault_with(alloc, &[], old, new)
-}
-
-/// The fault of a graph, or `read`.
-pub(crate) fn fault_of(alloc: Global, graph: &[u8]) -> Result<String, Fail> {
-    refusal(alloc, read_document(alloc, graph, &[]))
-}
-
-/// How many actors a document has, what the second of them is, and the second link.
-fn second_of(alloc: Global, document: &Document) -> Result<String, Fail> {
-    match (document.actors.get(1), document.links.get(1)) {
-        (Some(actor), Some(link)) => Ok(format!(in alloc;
-            "{} {:?} {:?} {:?} {:?}",
-            document.actors.len(),
-            actor.kind,
-            link.from,
-            link.to,
-            link.initial.as_slice()
-        )?),
-        _ => Ok(String::new(alloc)),
-    }
-}
-
-/// The same of the graph.
-fn second_in_graph(alloc: Global) -> Result<String, Fail> {
-    second_of(alloc, &read_document(alloc, GRAPH.as_bytes(), &[])?)
-}
-
-#[test]
-fn reads_actors_and_links(rt: HostRuntime) -> Result<(), Fail> {
-    says(
-        second_in_graph(rt.alloc()),
-        "3 Gain { gain: -32768, shift: 15 } (1, 0) (2, 0) [1, -2]",
-    )
-}
-
-/// Kinds at their limits.
-const KINDS: &[&str] = &[
-    "kind = \"input\"\nchannel = 7",
-    "kind = \"output\"\nchannel = 0\nblock = 1024",
-    "kind = \"fir\"\nup = 64\ndown = 64\nshift = 0\ntaps = [-32768, 32767]",
-    "kind = \"decimate\"\nfactor = 64",
-    "kind = \"interpolate\"\nfactor = 1",
-    "kind = \"add\"\nways = 16",
-    "kind = \"fork\"\nways = 2",
-    "kind = \"delay\"\nlength = 65536",
-    "kind = \"table\"\noffset = -2147483648\nvalues = [2147483647]",
-];
-
-#[test]
-fn reads_each_kind(rt: HostRuntime) -> Result<(), Fail> {
-    for kind in KINDS {
-        row_says(kind, fault(rt.alloc(), GAIN, kind), "read")?;
-    }
-    Ok(())
-}
-
-/// A text of the graph, what stands in its place, and the fault.
-const FAULTS: &[(&str, &str, &str)] = &[
+/// A text of the graph, what stands in its place, and what the second actor is then, or the fault: first kinds at their
+/// limits, and last whole graphs.
+const READ: &[(&str, &str, &str)] = &[
+    (GAIN, GAIN, "Gain { gain: -32768, shift: 15 }"),
+    (
+        GAIN,
+        "kind = \"input\"\nchannel = 7",
+        "Input { channel: 7, block: 1 }",
+    ),
+    (
+        GAIN,
+        "kind = \"output\"\nchannel = 0\nblock = 1024",
+        "Output { channel: 0, block: 1024 }",
+    ),
+    (
+        GAIN,
+        "kind = \"fir\"\nup = 64\ndown = 64\nshift = 0\ntaps = [-32768, 32767]",
+        "Fir { up: 64, down: 64, shift: 0, taps: ListEntry { file: None, values: [-32768, 32767] } }",
+    ),
+    (
+        GAIN,
+        "kind = \"decimate\"\nfactor = 64",
+        "Decimate { factor: 64 }",
+    ),
+    (
+        GAIN,
+        "kind = \"interpolate\"\nfactor = 1",
+        "Interpolate { factor: 1 }",
+    ),
+    (GAIN, "kind = \"add\"\nways = 16", "Add { ways: 16 }"),
+    (GAIN, "kind = \"fork\"\nways = 2", "Fork { ways: 2 }"),
+    (
+        GAIN,
+        "kind = \"delay\"\nlength = 65536",
+        "Delay { length: 65536 }",
+    ),
+    (
+        GAIN,
+        "kind = \"table\"\noffset = -2147483648\nvalues = [2147483647]",
+        "Table { offset: -2147483648, values: ListEntry { file: None, values: [2147483647] } }",
+    ),
     ("format = 1", "format = 3", "50 Format top"),
     ("format = 1", "format = 0", "50 Format top"),
     ("format = 1", "format = -1", "50 Format top"),
@@ -218,52 +200,51 @@ const FAULTS: &[(&str, &str, &str)] = &[
         "late = 1",
         "51 UnknownKey link 1 key late",
     ),
-];
-
-#[test]
-fn names_the_fault_and_its_place(rt: HostRuntime) -> Result<(), Fail> {
-    for (old, new, wanted) in FAULTS {
-        row_says(new, fault(rt.alloc(), old, new), wanted)?;
-    }
-    Ok(())
-}
-
-/// A whole graph, and its fault.
-const GRAPHS: &[(&str, &str)] = &[
-    ("", "52 MissingKey top key format"),
-    ("format = 1", "52 MissingKey top key actor"),
-    ("format = 1\nactor = 1", "53 WrongType top key actor"),
-    ("format = 1\nactor = []", "52 MissingKey top key link"),
-    ("format = 1\nactor = []\nlink = []", "2 ActorCount"),
+    (GRAPH, "", "52 MissingKey top key format"),
+    (GRAPH, "format = 1", "52 MissingKey top key actor"),
+    (GRAPH, "format = 1\nactor = 1", "53 WrongType top key actor"),
     (
+        GRAPH,
+        "format = 1\nactor = []",
+        "52 MissingKey top key link",
+    ),
+    (GRAPH, "format = 1\nactor = []\nlink = []", "2 ActorCount"),
+    (
+        GRAPH,
         "format = 1\nactor = [1]\nlink = []",
         "53 WrongType actor 0 key actor",
     ),
 ];
 
 #[test]
-fn names_the_faults_of_whole_files(rt: HostRuntime) -> Result<(), Fail> {
-    for (graph, wanted) in GRAPHS {
-        row_says(graph, fault_of(rt.alloc(), graph.as_bytes()), wanted)?;
+fn says_what_a_graph_is_or_its_fault(rt: HostRuntime) -> Result<(), Fail> {
+    for (old, new, wanted) in READ {
+        row_says(new, read(rt.alloc(), GRAPH, old, new, &[]), wanted)?;
     }
-    says(fault_of(rt.alloc(), &[0xFF]), "49 NotToml top")
+    Ok(())
 }
 
-/// So many numbers of a list.
-fn zeros(alloc: Global, count: usize) -> Result<String, AllocError> {
-    let mut text = String::new(alloc);
-    for _ in 0..count {
-        text.push_str("0, ")?;
-    }
-    Ok(text)
+/// How many actors the graph has, and its second link.
+fn second_link(alloc: Global) -> Result<String, Fail> {
+    let document = read_document(alloc, GRAPH.as_bytes(), &[])?;
+    let Some(link) = document.links.get(1) else {
+        return Ok(String::new(alloc));
+    };
+    let many = document.actors.len();
+    Ok(format!(in alloc;
+        "{many} {:?} {:?} {:?}",
+        link.from,
+        link.to,
+        link.initial.as_slice()
+    )?)
 }
 
 /// The fault of a graph of so many actors and links, none of them a table.
 fn fault_of_counts(alloc: Global, actors: usize, links: usize) -> Result<String, Fail> {
-    let actors = zeros(alloc, actors)?;
-    let links = zeros(alloc, links)?;
+    let actors = "0, ".repeat(alloc, actors)?;
+    let links = "0, ".repeat(alloc, links)?;
     let text = format!(in alloc; "format = 1\nactor = [{actors}]\nlink = [{links}]\n")?;
-    fault_of(alloc, text.as_bytes())
+    told(alloc, read_document(alloc, text.as_bytes(), &[]))
 }
 
 /// How many actors and links, and the fault.
@@ -274,24 +255,21 @@ const COUNTS: &[(usize, usize, &str)] = &[
     (64, 256, "53 WrongType actor 0 key actor"),
 ];
 
+/// Links, counts, bytes that are no text, and a refusal of memory, which is no fault of a lawful graph.
 #[test]
-fn counts_actors_and_links(rt: HostRuntime) -> Result<(), Fail> {
+fn reads_links_and_counts(rt: HostRuntime) -> Result<(), Fail> {
+    let alloc = rt.alloc();
+    says(second_link(alloc), "3 (1, 0) (2, 0) [1, -2]")?;
     for (actors, links, wanted) in COUNTS {
-        says(fault_of_counts(rt.alloc(), *actors, *links), wanted)?;
+        says(fault_of_counts(alloc, *actors, *links), wanted)?;
     }
-    Ok(())
-}
-
-/// The text of a refusal of memory.
-fn of_no_memory(alloc: Global) -> Result<String, Fail> {
-    Ok(ReadFault::OutOfMemory.to_string(alloc)?)
-}
-
-#[test]
-fn tells_memory_from_faults(rt: HostRuntime) -> Result<(), Fail> {
-    match read_document(rt.alloc(), GRAPH.as_bytes(), &[]) {
-        Ok(_) => Ok(()),
-        Err(ReadFault::OutOfMemory) => says(of_no_memory(rt.alloc()), "1 OutOfMemory"),
+    says(
+        told(alloc, read_document(alloc, &[0xFF], &[])),
+        "49 NotToml top",
+    )?;
+    says(told(alloc, Err(ReadFault::OutOfMemory)), "1 OutOfMemory")?;
+    match read_document(alloc, GRAPH.as_bytes(), &[]) {
+        Ok(_) | Err(ReadFault::OutOfMemory) => Ok(()),
         Err(_) => Err(Fail::from("a lawful graph has a fault")),
     }
 }

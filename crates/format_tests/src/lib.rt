@@ -1,19 +1,14 @@
-//! What no clause says of files: worked WAV files, whole and in pieces, over devices that fail, and worked documents
-//! and designs.
+//! What no clause says of files: worked WAV files, whole and in pieces, over devices that fail, and worked documents.
 //!
-//! It stands on `sdf_wav`, `sdf_document`, `sdf_file`, `test_devices` and `test_texts`, and has no functions: tests
-//! stand in a crate of their own, since a crate's functions are proved once more with its tests. Begin at `wav_files`
-//! and `documents`.
+//! It stands on `sdf_wav`, `sdf_document`, `test_devices` and `test_texts`, and has no functions: tests stand in a crate
+//! of their own, since a crate's functions are proved once more with its tests. Designs are tested in `filter_tests`,
+//! since this crate would hold the drops of all kinds of actor for them. Begin at `wav_files` and `documents`.
 #![tactic(auto)]
 
 #[cfg(test)]
 mod chunk_pieces;
 #[cfg(test)]
 mod coefficient_files;
-#[cfg(test)]
-mod designs;
-#[cfg(test)]
-mod devices;
 #[cfg(test)]
 mod document_formats;
 #[cfg(test)]

@@ -1,4 +1,4 @@
-//! Files of the tests, and the texts of faults that readings end with.
+//! Files of the tests, and what readings answer.
 
 use std::alloc::Global;
 use std::fmt;
@@ -7,31 +7,23 @@ use std::test::Fail;
 /// A name and bytes, as a coefficient file is given.
 pub(crate) type File = (String, Vec<u8>);
 
-/// Adds a file to others.
-pub(crate) fn add_file(
-    alloc: Global,
-    files: &mut Vec<File>,
-    name: &str,
-    text: &str,
-) -> Result<(), Fail> {
-    let bytes = Vec::from_slice(alloc, text.as_bytes())?;
-    Ok(files.push((String::from_str(alloc, name)?, bytes))?)
-}
-
-/// One file.
-pub(crate) fn file(alloc: Global, name: &str, text: &str) -> Result<Vec<File>, Fail> {
+/// Files of these names and texts.
+pub(crate) fn files(alloc: Global, rows: &[(&str, &str)]) -> Result<Vec<File>, Fail> {
     let mut files = Vec::new(alloc);
-    add_file(alloc, &mut files, name, text)?;
+    for (name, text) in rows {
+        let bytes = Vec::from_slice(alloc, text.as_bytes())?;
+        files.push((String::from_str(alloc, name)?, bytes))?;
+    }
     Ok(files)
 }
 
-/// The text of the fault that a reading ends with, or `read`.
-pub(crate) fn refusal<T: Drop, F: fmt::Display + Drop>(
+/// What a reading gives, or the text of its fault.
+pub(crate) fn told<T: fmt::Debug + Drop, F: fmt::Display + Drop>(
     alloc: Global,
     answer: Result<T, F>,
 ) -> Result<String, Fail> {
     match answer {
-        Ok(_) => Ok(String::from_str(alloc, "read")?),
+        Ok(value) => Ok(format!(in alloc; "{value:?}")?),
         Err(fault) => Ok(fault.to_string(alloc)?),
     }
 }

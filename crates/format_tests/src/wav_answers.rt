@@ -1,9 +1,21 @@
-//! What each way of reading a WAV file answers.
+//! What each way of reading a WAV file answers, and the files of the tests by their parts.
 
 use sdf_wav::{FromRead, Reader, Wav, WavFault, WavIn, read_wav};
-use std::alloc::Global;
+use std::alloc::{AllocError, Global};
 use std::test::Fail;
 use test_devices::Faulty;
+
+/// Bytes, and how often they stand one behind another.
+pub(crate) type Part<'a> = (&'a [u8], usize);
+
+/// These parts one behind another.
+pub(crate) fn file_of(alloc: Global, parts: &[Part]) -> Result<Vec<u8>, AllocError> {
+    let mut bytes = Vec::new(alloc);
+    for (part, many) in parts {
+        bytes.extend_from_slice(&part.repeat(alloc, *many)?)?;
+    }
+    Ok(bytes)
+}
 
 /// How a file is read.
 #[derive(Clone, Copy, Debug)]
@@ -13,10 +25,10 @@ pub(crate) enum Way {
     Pieces(usize),
 }
 
-const WAYS: [Way; 3] = [Way::Whole, Way::Pieces(1), Way::Pieces(2)];
+pub(crate) const WAYS: [Way; 3] = [Way::Whole, Way::Pieces(1), Way::Pieces(2)];
 
 /// The bytes that a call moves at most: what is asked for, or one.
-pub(crate) const MOVES: [usize; 2] = [usize::MAX, 1];
+const MOVES: [usize; 2] = [usize::MAX, 1];
 
 /// Reads a file in pieces up to its end.
 fn read_pieces<R: Reader>(alloc: Global, reader: &mut R, frames: usize) -> Result<Wav, WavFault> {
@@ -43,17 +55,11 @@ pub(crate) fn read_by<R: Reader>(alloc: Global, reader: &mut R, way: Way) -> Res
 }
 
 /// The rate and the samples of a file, as one text, or its fault.
-fn text_of(alloc: Global, answer: Result<Wav, WavFault>) -> Result<String, Fail> {
+pub(crate) fn text_of(alloc: Global, answer: Result<Wav, WavFault>) -> Result<String, Fail> {
     match answer {
         Ok(wav) => Ok(format!(in alloc; "{} {:?}", wav.rate(), wav.samples())?),
         Err(fault) => Ok(format!(in alloc; "{fault}")?),
     }
-}
-
-/// What a file is, read so, where a call gives at most so many bytes.
-fn told(alloc: Global, way: Way, bytes: &[u8], most: usize) -> Result<String, Fail> {
-    let mut reader = FromRead::new(Faulty::moving(alloc, bytes, most));
-    text_of(alloc, read_by(alloc, &mut reader, way))
 }
 
 /// Whether a file has this answer, read so, where a call gives at most so many bytes.
@@ -64,7 +70,8 @@ fn answers_at(
     most: usize,
     answer: &str,
 ) -> Result<(), Fail> {
-    let text = told(alloc, way, bytes, most)?;
+    let mut reader = FromRead::new(Faulty::moving(alloc, bytes, most));
+    let text = text_of(alloc, read_by(alloc, &mut reader, way))?;
     if text.as_str() == answer {
         return Ok(());
     }
@@ -82,10 +89,11 @@ pub(crate) fn answers_by(alloc: Global, way: Way, bytes: &[u8], answer: &str) ->
     Ok(())
 }
 
-/// Whether a file has this answer, however it is read.
-pub(crate) fn answers(alloc: Global, bytes: &[u8], answer: &str) -> Result<(), Fail> {
+/// Whether a file of these parts has this answer, however it is read.
+pub(crate) fn answers(alloc: Global, parts: &[Part], answer: &str) -> Result<(), Fail> {
+    let bytes = file_of(alloc, parts)?;
     for way in WAYS {
-        answers_by(alloc, way, bytes, answer)?;
+        answers_by(alloc, way, &bytes, answer)?;
     }
     Ok(())
 }

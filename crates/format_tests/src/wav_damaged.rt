@@ -1,66 +1,38 @@
 //! WAV files of which a front is kept, and sizes that lie.
 
-use crate::wav_answers::{Way, answers, answers_by};
+use crate::wav_answers::{WAYS, Way, answers_by};
 use std::alloc::Global;
 use std::test::Fail;
-use test_devices::files::{FILES, LIES, Lie, Whole};
+use test_devices::files::{Answer, FILES, LIES, Whole};
 
-/// What is read of a file where so many of its bytes are kept, as one text.
-fn wanted(alloc: Global, file: &Whole, kept: usize) -> Result<String, Fail> {
-    match file.answer(kept) {
-        Some(Ok(samples)) => Ok(format!(in alloc; "44100 {samples:?}")?),
-        Some(Err(fault)) => Ok(format!(in alloc; "{fault}")?),
-        None => Err(Fail::from("no row")),
-    }
-}
-
-/// Whether the front of a file has its answer.
-fn front_of(alloc: Global, file: &Whole, way: Way, kept: usize) -> Result<(), Fail> {
-    let answer = wanted(alloc, file, kept)?;
-    answers_by(alloc, way, file.front(kept), answer.as_str())
+/// Whether a file has this answer.
+fn has(alloc: Global, way: Way, bytes: &[u8], answer: Option<Answer>) -> Result<(), Fail> {
+    let text = match answer {
+        Some(Ok(samples)) => format!(in alloc; "44100 {samples:?}")?,
+        Some(Err(fault)) => format!(in alloc; "{fault}")?,
+        None => return Err(Fail::from("no row")),
+    };
+    answers_by(alloc, way, bytes, text.as_str())
 }
 
 /// Whether each front of a file has its answer.
-fn fronts_of(alloc: Global, file: &Whole, way: Way) -> Result<(), Fail> {
+fn fronts_of(alloc: Global, way: Way, file: &Whole) -> Result<(), Fail> {
     for kept in 0..=file.bytes.len() {
-        front_of(alloc, file, way, kept)?;
+        has(alloc, way, file.front(kept), file.answer(kept))?;
     }
     Ok(())
 }
 
-/// Whether each front of each file has its answer.
-fn fronts(alloc: Global, way: Way) -> Result<(), Fail> {
-    for file in &FILES {
-        fronts_of(alloc, file, way)?;
-    }
-    Ok(())
-}
-
+/// The fronts of each file, and each file whose sizes lie.
 #[test]
-fn fronts_read_whole(rt: HostRuntime) -> Result<(), Fail> {
-    fronts(rt.alloc(), Way::Whole)
-}
-
-#[test]
-fn fronts_read_frame_by_frame(rt: HostRuntime) -> Result<(), Fail> {
-    fronts(rt.alloc(), Way::Pieces(1))
-}
-
-#[test]
-fn fronts_read_by_two_frames(rt: HostRuntime) -> Result<(), Fail> {
-    fronts(rt.alloc(), Way::Pieces(2))
-}
-
-/// Whether a file whose sizes lie has its fault.
-fn lies(alloc: Global, lie: &Lie) -> Result<(), Fail> {
-    let answer = lie.fault.to_string(alloc)?;
-    answers(alloc, lie.bytes, answer.as_str())
-}
-
-#[test]
-fn sizes_that_lie(rt: HostRuntime) -> Result<(), Fail> {
-    for lie in &LIES {
-        lies(rt.alloc(), lie)?;
+fn damaged_files(rt: HostRuntime) -> Result<(), Fail> {
+    for way in WAYS {
+        for file in &FILES {
+            fronts_of(rt.alloc(), way, file)?;
+        }
+        for lie in &LIES {
+            has(rt.alloc(), way, lie.bytes, Some(Err(lie.fault)))?;
+        }
     }
     Ok(())
 }

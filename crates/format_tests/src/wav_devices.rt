@@ -1,10 +1,9 @@
-//! WAV files over devices that fail at one call, the adapters of std, and memory.
+//! WAV files over devices that fail at one call, the adapters of std, and the texts of their faults.
 
-use crate::devices::{Watching, pages};
-use crate::wav_answers::{Way, read_by};
+use crate::wav_answers::{Way, read_by, text_of};
 use crate::wav_files::CANONICAL;
-use crate::wav_pieces::{FRAMES, put_pieces, whole_file};
-use sdf_wav::{FromRead, Reader, ToWrite, Wav, WavFault, Writer, read_wav, write_wav};
+use crate::wav_pieces::{FRAMES, SIX, put_pieces};
+use sdf_wav::{FromRead, Reader, ToWrite, Wav, WavFault, Writer, write_wav};
 use std::alloc::Global;
 use std::test::Fail;
 use test_devices::files::{self, Whole};
@@ -95,45 +94,30 @@ const READINGS: &[Reading] = &[
     },
 ];
 
-/// The fault of a reading that slips at this call, how often its reader failed, and how often it was asked.
-fn reading_text(alloc: Global, reading: &Reading, slip: Slip, at: usize) -> Result<String, Fail> {
+/// Whether a reading that slips at this call blames its reader, and asks it no more. Past the last call the file is
+/// read.
+fn slips_once(alloc: Global, reading: &Reading, slip: Slip, at: usize) -> Result<(), Fail> {
     let device = Faulty::slipping(alloc, reading.file.bytes, reading.most, slip, at);
     let mut reader = FromRead::new(device);
     let fault = read_by(alloc, &mut reader, reading.way).err();
     let failed = reader.failed();
     let calls = reader.into_inner().asked.len();
+    let wanted = if at <= reading.calls {
+        (Some(WavFault::Read), 1, at)
+    } else {
+        (None, 0, reading.calls)
+    };
+    if (fault, failed, calls) == wanted {
+        return Ok(());
+    }
     let way = reading.way;
-    Ok(format!(in alloc; "{way:?}, {slip:?} at {at}: {fault:?} {failed} {calls}")?)
-}
-
-/// What it has to be: a reader that slips is blamed, and asked no more; past the last call the file is read.
-fn reading_wanted(alloc: Global, reading: &Reading, slip: Slip, at: usize) -> Result<String, Fail> {
-    let slipped = at <= reading.calls;
-    let fault = if slipped { "Some(Read) 1" } else { "None 0" };
-    let calls = at.min(reading.calls);
-    let way = reading.way;
-    Ok(format!(in alloc; "{way:?}, {slip:?} at {at}: {fault} {calls}")?)
-}
-
-/// Whether it is so.
-fn slips_once(alloc: Global, reading: &Reading, slip: Slip, at: usize) -> Result<(), Fail> {
-    let wanted = reading_wanted(alloc, reading, slip, at)?;
-    says(reading_text(alloc, reading, slip, at), wanted.as_str())
+    Err(Fail::new(format_args!("{way:?}, {slip:?} at {at}: {fault:?} {failed} {calls}")))
 }
 
 /// Whether it is so at each call and past the last one.
 fn slips_anywhere(alloc: Global, reading: &Reading, slip: Slip) -> Result<(), Fail> {
     for at in 1..reading.calls.saturating_add(3) {
         slips_once(alloc, reading, slip, at)?;
-    }
-    Ok(())
-}
-
-#[test]
-fn readers_that_fail(rt: HostRuntime) -> Result<(), Fail> {
-    for reading in READINGS {
-        slips_anywhere(rt.alloc(), reading, Slip::Fails)?;
-        slips_anywhere(rt.alloc(), reading, Slip::IsInterrupted)?;
     }
     Ok(())
 }
@@ -184,26 +168,6 @@ fn write_by<W: Writer>(writer: &mut W, wav: &Wav, in_pieces: bool) -> Result<(),
     }
 }
 
-/// What a writing that slips at this call answers, how often its writer failed and was asked, whether it took a front
-/// of the file, and how much.
-fn writing_text(
-    alloc: Global,
-    file: &[u8],
-    writing: &Writing,
-    slip: Slip,
-    at: usize,
-) -> Result<String, Fail> {
-    let wav = Wav::new(8_000, 2, FRAMES.as_slice().to_vec(alloc)?)?;
-    let device = Faulty::slipping(alloc, Vec::new(alloc), writing.most, slip, at);
-    let mut writer = ToWrite::new(device);
-    let answer = write_by(&mut writer, &wav, writing.in_pieces);
-    let failed = writer.failed();
-    let device = writer.into_inner();
-    let front = file.starts_with(&device.device);
-    let (taken, calls) = (device.device.len(), device.asked.len());
-    Ok(format!(in alloc; "{slip:?} at {at}: {answer:?} {failed} {calls} {front} {taken}")?)
-}
-
 /// How many of the 68 bytes stand before a call.
 fn front_before(writing: &Writing, at: usize) -> usize {
     if writing.most == 1 {
@@ -215,50 +179,46 @@ fn front_before(writing: &Writing, at: usize) -> usize {
     }
 }
 
-/// What it has to be: a writer that slips is blamed, took what it was given before, and is asked no more.
-fn writing_wanted(alloc: Global, writing: &Writing, slip: Slip, at: usize) -> Result<String, Fail> {
-    let slipped = at <= writing.calls;
-    let answer = if slipped { "Err(Write) 1" } else { "Ok(()) 0" };
-    let calls = at.min(writing.calls);
-    let taken = front_before(writing, at);
-    Ok(format!(in alloc; "{slip:?} at {at}: {answer} {calls} true {taken}")?)
-}
-
-/// Whether it is so.
-fn writes_until(
-    alloc: Global,
-    file: &[u8],
-    writing: &Writing,
-    slip: Slip,
-    at: usize,
-) -> Result<(), Fail> {
-    let wanted = writing_wanted(alloc, writing, slip, at)?;
-    says(
-        writing_text(alloc, file, writing, slip, at),
-        wanted.as_str(),
-    )
+/// Whether a writing that slips at this call blames its writer, which took what it was given before, and asks it no
+/// more. Past the last call the file is written.
+fn writes_until(alloc: Global, writing: &Writing, slip: Slip, at: usize) -> Result<(), Fail> {
+    let wav = Wav::new(8_000, 2, FRAMES.as_slice().to_vec(alloc)?)?;
+    let device = Faulty::slipping(alloc, Vec::new(alloc), writing.most, slip, at);
+    let mut writer = ToWrite::new(device);
+    let answer = write_by(&mut writer, &wav, writing.in_pieces);
+    let failed = writer.failed();
+    let device = writer.into_inner();
+    let (taken, calls) = (device.device.len(), device.asked.len());
+    let wanted = if at <= writing.calls {
+        (Err(WavFault::Write), 1, at)
+    } else {
+        (Ok(()), 0, writing.calls)
+    };
+    let is_front = SIX.starts_with(&device.device) && taken == front_before(writing, at);
+    if is_front && (answer, failed, calls) == wanted {
+        return Ok(());
+    }
+    Err(Fail::new(format_args!("{slip:?} at {at}: {answer:?} {failed} {calls} {is_front} {taken}")))
 }
 
 /// Whether it is so at each call and past the last one.
-fn writes_anywhere(alloc: Global, file: &[u8], writing: &Writing, slip: Slip) -> Result<(), Fail> {
+fn writes_anywhere(alloc: Global, writing: &Writing, slip: Slip) -> Result<(), Fail> {
     for at in 1..writing.calls.saturating_add(3) {
-        writes_until(alloc, file, writing, slip, at)?;
+        writes_until(alloc, writing, slip, at)?;
     }
     Ok(())
 }
 
-/// Whether it is so of each slip.
-fn writes_with_slips(alloc: Global, file: &[u8], writing: &Writing) -> Result<(), Fail> {
-    writes_anywhere(alloc, file, writing, Slip::Fails)?;
-    writes_anywhere(alloc, file, writing, Slip::IsInterrupted)?;
-    writes_anywhere(alloc, file, writing, Slip::MovesNothing)
-}
-
 #[test]
-fn writers_that_fail(rt: HostRuntime) -> Result<(), Fail> {
-    let file = whole_file(rt.alloc())?;
+fn devices_that_fail(rt: HostRuntime) -> Result<(), Fail> {
+    for reading in READINGS {
+        slips_anywhere(rt.alloc(), reading, Slip::Fails)?;
+        slips_anywhere(rt.alloc(), reading, Slip::IsInterrupted)?;
+    }
     for writing in WRITINGS {
-        writes_with_slips(rt.alloc(), &file, writing)?;
+        writes_anywhere(rt.alloc(), writing, Slip::Fails)?;
+        writes_anywhere(rt.alloc(), writing, Slip::IsInterrupted)?;
+        writes_anywhere(rt.alloc(), writing, Slip::MovesNothing)?;
     }
     Ok(())
 }
@@ -314,49 +274,12 @@ const ADAPTED: &[(Slip, &str, &str)] = &[
 /// An adapter asks once a call, whatever comes, and goes on at the next.
 #[test]
 fn adapters_ask_once(rt: HostRuntime) -> Result<(), Fail> {
-    for (slip, read, written) in ADAPTED {
-        row_says("read", read_twice(rt.alloc(), *slip), read)?;
-        row_says("written", write_twice(rt.alloc(), *slip), written)?;
-    }
-    Ok(())
-}
-
-/// The canonical file, whose data has an announced size of 4,294,967,294 bytes.
-fn announced(alloc: Global) -> Result<Vec<u8>, Fail> {
-    let mut bytes = CANONICAL.as_slice().to_vec(alloc)?;
-    bytes[40..44].copy_from_slice(b"\xFE\xFF\xFF\xFF");
-    Ok(bytes)
-}
-
-/// The fault of these bytes, and whether less than 4,096 pages are asked for.
-fn pages_for(rt: &HostRuntime, bytes: &[u8]) -> Result<String, Fail> {
-    let before = pages(rt);
-    let mut reader = Watching {
-        reader: FromRead::new(bytes),
-        rt,
-        most: 0,
-    };
-    let fault = read_wav(rt.alloc(), &mut reader).err();
-    let few = reader.most < before.saturating_add(4_096);
-    Ok(format!(in rt.alloc(); "{fault:?} {few}")?)
-}
-
-/// Four bytes come where more are announced.
-#[test]
-fn memory_for_what_comes(rt: HostRuntime) -> Result<(), Fail> {
-    let bytes = announced(rt.alloc())?;
-    says(pages_for(&rt, &bytes), "Some(Format(Truncated)) true")
-}
-
-/// The text of a fault.
-fn fault_text(alloc: Global, fault: WavFault) -> Result<String, Fail> {
-    Ok(fault.to_string(alloc)?)
-}
-
-#[test]
-fn texts_of_devices_and_memory(rt: HostRuntime) -> Result<(), Fail> {
     let alloc = rt.alloc();
-    says(fault_text(alloc, WavFault::OutOfMemory), "1 OutOfMemory")?;
-    says(fault_text(alloc, WavFault::Read), "47 Read")?;
-    says(fault_text(alloc, WavFault::Write), "48 Write")
+    for (slip, read, written) in ADAPTED {
+        row_says("read", read_twice(alloc, *slip), read)?;
+        row_says("written", write_twice(alloc, *slip), written)?;
+    }
+    says(text_of(alloc, Err(WavFault::OutOfMemory)), "1 OutOfMemory")?;
+    says(text_of(alloc, Err(WavFault::Read)), "47 Read")?;
+    says(text_of(alloc, Err(WavFault::Write)), "48 Write")
 }

@@ -2,35 +2,27 @@
 
 ghost use Rattle.std.specs.Prelude.{◌≡◌};
 
-use sdf_graph::{Counts, End, Graph, GraphFault};
+use sdf_graph::{Counts, End, Graph};
 use std::alloc::Global;
+use std::fmt::Write;
 use std::process::Abort;
 use std::test::Fail;
-use test_actors::graphs::graph;
+use test_actors::graphs::{Row, graph};
 use test_texts::says;
 
-/// Three samples to an actor of two firings, and a channel from it to itself.
-fn cyclic(alloc: Global) -> Result<Graph, GraphFault> {
-    graph(
-        alloc,
-        2,
-        &[(0, &[3], &[2, 0], 1, 0), (1, &[1, 0], &[0, 1], 1, 0)],
-    )
-}
-
-/// The cycle of an actor among so many and its channels, those out of it and then those into it, each told twice.
-fn actor_of(alloc: Global, graph: &Graph, actor: usize) -> Result<String, Fail> {
-    if actor >= graph.actors() {
-        return Ok(String::new(alloc));
+/// For each actor its cycle and its channels, those out of it and then those into it, each told twice.
+fn actors(alloc: Global, graph: &Graph) -> Result<String, Fail> {
+    let mut text = String::new(alloc);
+    for actor in 0..graph.actors() {
+        let cycle = graph.cycle(actor);
+        let (outgoing, from) = (graph.outgoing(actor), graph.channels_at(actor, End::Source));
+        let (incoming, to) = (graph.incoming(actor), graph.channels_at(actor, End::Target));
+        write!(
+            text,
+            "{cycle}: {outgoing:?} {from:?}, {incoming:?} {to:?}\n"
+        )?;
     }
-    let many = graph.actors();
-    let cycle = graph.cycle(actor);
-    let (outgoing, incoming) = (graph.outgoing(actor), graph.incoming(actor));
-    let (from, to) = (
-        graph.channels_at(actor, End::Source),
-        graph.channels_at(actor, End::Target),
-    );
-    Ok(format!(in alloc; "{cycle} of {many}: {outgoing:?} {from:?}, {incoming:?} {to:?}")?)
+    Ok(text)
 }
 
 /// What firings 2 and 3 at the ends of a channel put and take.
@@ -44,15 +36,6 @@ fn moved(alloc: Global, graph: &Graph, number: usize) -> Result<String, Fail> {
     let put = (channel.puts(2), channel.puts(3));
     let taken = (channel.takes(2), channel.takes(3));
     Ok(format!(in alloc; "{put:?} {taken:?}")?)
-}
-
-#[test]
-fn channels_of_actors(rt: HostRuntime) -> Result<(), Fail> {
-    let alloc = rt.alloc();
-    let graph = cyclic(alloc)?;
-    says(actor_of(alloc, &graph, 0), "1 of 2: [0] [0], [] []")?;
-    says(actor_of(alloc, &graph, 1), "2 of 2: [1] [1], [0, 1] [0, 1]")?;
-    says(moved(alloc, &graph, 1), "(1, 0) (0, 1)")
 }
 
 /// How often two actors have fired, what two channels hold, and the channel that each actor is short of.
@@ -79,23 +62,27 @@ fn fire(rt: &impl Abort, graph: &Graph, counts: &mut Counts, actor: usize)
     counts.fire(actor);
 }
 
-#[test]
-fn firings(rt: HostRuntime) -> Result<(), Fail> {
+fn counts_firings(rt: &(impl Abort + AllocGlobal), graph: &Graph) -> Result<(), Fail> {
     let alloc = rt.alloc();
-    let graph = cyclic(alloc)?;
-    let mut counts = Counts::new(alloc, &graph)?;
     says(
-        counted(alloc, &graph, &counts),
+        actors(alloc, graph),
+        "1: [0] [0], [] []\n2: [1] [1], [0, 1] [0, 1]\n",
+    )?;
+    says(moved(alloc, graph, 1), "(1, 0) (0, 1)")?;
+    let mut counts = Counts::new(alloc, graph)?;
+    says(
+        counted(alloc, graph, &counts),
         "(0, 0) (0, 0) (None, Some(0))",
     )?;
-    fire(&rt, &graph, &mut counts, 0);
-    says(
-        counted(alloc, &graph, &counts),
-        "(1, 0) (3, 0) (None, None)",
-    )?;
-    fire(&rt, &graph, &mut counts, 1);
-    says(
-        counted(alloc, &graph, &counts),
-        "(1, 1) (1, 1) (None, None)",
-    )
+    fire(rt, graph, &mut counts, 0);
+    says(counted(alloc, graph, &counts), "(1, 0) (3, 0) (None, None)")?;
+    fire(rt, graph, &mut counts, 1);
+    says(counted(alloc, graph, &counts), "(1, 1) (1, 1) (None, None)")
+}
+
+/// Three samples to an actor of two firings, and a channel from it to itself.
+#[test]
+fn channels_and_firings(rt: HostRuntime) -> Result<(), Fail> {
+    let rows: [Row; 2] = [(0, &[3], &[2, 0], 1, 0), (1, &[1, 0], &[0, 1], 1, 0)];
+    counts_firings(&rt, &graph(rt.alloc(), 2, &rows)?)
 }

@@ -14,6 +14,8 @@ mod graphs;
 #[cfg(test)]
 mod kinds;
 #[cfg(test)]
+mod laws;
+#[cfg(test)]
 mod net_faults;
 #[cfg(test)]
 mod nets;

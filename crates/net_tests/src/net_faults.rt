@@ -9,39 +9,8 @@ use std::test::Fail;
 use test_actors::nets::links;
 use test_texts::{row_says, says};
 
-/// A net: its name, its nodes, the ends of its links, and what is told of it.
-type Told<'a> = (&'a str, &'a [Part], &'a [[usize; 4]], &'a str);
-
-fn refuses(alloc: Global, nets: &[Told]) -> Result<(), Fail> {
-    for (name, parts, ends, wanted) in nets {
-        row_says(name, refusal(alloc, parts, links(alloc, ends)?), wanted)?;
-    }
-    Ok(())
-}
-
-/// The text of a refusal of memory.
-fn of_no_memory(alloc: Global) -> Result<String, Fail> {
-    Ok(NetFault::from(AllocError).to_string(alloc)?)
-}
-
-#[test]
-fn of_memory(rt: HostRuntime) -> Result<(), Fail> {
-    says(of_no_memory(rt.alloc()), "1 OutOfMemory")
-}
-
-/// The text of what parts with many links are refused with.
-fn of_many_links(alloc: Global, parts: &[Part]) -> Result<String, Fail> {
-    refusal(alloc, parts, links(alloc, &[[0, 0, 0, 0]; 257])?)
-}
-
-/// Too few nodes before too many links, and these before 20.
-#[test]
-fn of_counts(rt: HostRuntime) -> Result<(), Fail> {
-    says(of_many_links(rt.alloc(), &[]), "2 ActorCount")?;
-    says(of_many_links(rt.alloc(), &[In(0, 1)]), "3 ChannelCount")
-}
-
-const LINKS: &[Told] = &[
+/// A net: its name, its nodes, the ends of its links, and what it is refused with.
+const NETS: &[(&str, &[Part], &[[usize; 4]], &str)] = &[
     (
         "before 21 of the same link",
         &[In(0, 1), Out(0, 1)],
@@ -54,14 +23,6 @@ const LINKS: &[Told] = &[
         &[[0, 0, 1, 0], [0, 0, 2, 0], [3, 0, 1, 0]],
         "21 PortTwice link 1",
     ),
-];
-
-#[test]
-fn of_links(rt: HostRuntime) -> Result<(), Fail> {
-    refuses(rt.alloc(), LINKS)
-}
-
-const PORTS: &[Told] = &[
     (
         "inputs before outputs, and before 23",
         &[Turning(1, [1, 0, 1]), In(0, 1), In(0, 1)],
@@ -74,14 +35,6 @@ const PORTS: &[Told] = &[
         &[],
         "22 PortOpen actor 0 output 0",
     ),
-];
-
-#[test]
-fn of_ports(rt: HostRuntime) -> Result<(), Fail> {
-    refuses(rt.alloc(), PORTS)
-}
-
-const LISTS: &[Told] = &[
     (
         "before 27",
         &[
@@ -124,14 +77,6 @@ const LISTS: &[Told] = &[
         &[[0, 0, 0, 0], [0, 1, 0, 1]],
         "26 NoInput",
     ),
-];
-
-#[test]
-fn of_lists(rt: HostRuntime) -> Result<(), Fail> {
-    refuses(rt.alloc(), LISTS)
-}
-
-const CHANNELS: &[Told] = &[
     (
         "before 5 of a later link",
         &[
@@ -180,36 +125,6 @@ const CHANNELS: &[Told] = &[
         THROUGH,
         "5 BadRate link 1",
     ),
-];
-
-/// The same net, whose first link begins with so many samples, and whose actor has so many phases.
-fn of_full_link(alloc: Global, cycle: u32, many: usize) -> Result<String, Fail> {
-    let parts = [
-        In(0, 1),
-        Turning(cycle, [1, 0, 1]),
-        In(1, 1),
-        Out(0, 1),
-        Out(1, 1),
-    ];
-    let ends = [[0, 0, 1, 0], [2, 0, 1, 1], [1, 0, 3, 0], [1, 1, 4, 0]];
-    let mut links = links(alloc, &ends)?;
-    if let Some(first) = links.first_mut() {
-        first.initial = vec![in alloc; 0; many]?;
-    }
-    refusal(alloc, &parts, links)
-}
-
-#[test]
-fn of_channels(rt: HostRuntime) -> Result<(), Fail> {
-    refuses(rt.alloc(), CHANNELS)?;
-    says(
-        of_full_link(rt.alloc(), 65, 65_537),
-        "63 CycleLength link 0",
-    )?;
-    says(of_full_link(rt.alloc(), 1, 65_537), "6 InitialCount link 0")
-}
-
-const PERIODS: &[Told] = &[
     (
         "two nets",
         &[In(0, 1), Out(0, 1), In(1, 1), Out(1, 1)],
@@ -240,14 +155,6 @@ const PERIODS: &[Told] = &[
         THROUGH,
         "9 PeriodTooLong",
     ),
-];
-
-#[test]
-fn of_periods(rt: HostRuntime) -> Result<(), Fail> {
-    refuses(rt.alloc(), PERIODS)
-}
-
-const SAMPLES: &[Told] = &[
     (
         "before 25",
         &[
@@ -272,9 +179,57 @@ const SAMPLES: &[Told] = &[
         THROUGH,
         "25 OutputRates actor 4",
     ),
+    (
+        "two sources of different rates",
+        &[
+            In(0, 2),
+            In(1, 3),
+            Turning(2, [1, 1, 3]),
+            Out(0, 1),
+            Out(1, 4),
+        ],
+        THROUGH,
+        "24 InputRates actor 1",
+    ),
 ];
 
+/// What such a net is refused with, whose actor has so many phases, and whose first link begins with so many samples.
+fn of_full_link(alloc: Global, cycle: u32, many: usize) -> Result<String, Fail> {
+    let parts = [
+        In(0, 1),
+        Turning(cycle, [1, 0, 1]),
+        In(1, 1),
+        Out(0, 1),
+        Out(1, 1),
+    ];
+    let ends = [[0, 0, 1, 0], [2, 0, 1, 1], [1, 0, 3, 0], [1, 1, 4, 0]];
+    let mut links = links(alloc, &ends)?;
+    if let Some(first) = links.first_mut() {
+        first.initial = vec![in alloc; 0; many]?;
+    }
+    refusal(alloc, &parts, links)
+}
+
+/// What parts with many links are refused with.
+fn of_many_links(alloc: Global, parts: &[Part]) -> Result<String, Fail> {
+    refusal(alloc, parts, links(alloc, &[[0, 0, 0, 0]; 257])?)
+}
+
+/// The text of a refusal of memory.
+fn of_no_memory(alloc: Global) -> Result<String, Fail> {
+    Ok(NetFault::from(AllocError).to_string(alloc)?)
+}
+
+/// Too few nodes before too many links, and these before 20; a long cycle before a link that begins with too much.
 #[test]
-fn of_samples(rt: HostRuntime) -> Result<(), Fail> {
-    refuses(rt.alloc(), SAMPLES)
+fn faults_of_nets(rt: HostRuntime) -> Result<(), Fail> {
+    let alloc = rt.alloc();
+    for (name, parts, ends, wanted) in NETS {
+        row_says(name, refusal(alloc, parts, links(alloc, ends)?), wanted)?;
+    }
+    says(of_many_links(alloc, &[]), "2 ActorCount")?;
+    says(of_many_links(alloc, &[In(0, 1)]), "3 ChannelCount")?;
+    says(of_full_link(alloc, 65, 65_537), "63 CycleLength link 0")?;
+    says(of_full_link(alloc, 1, 65_537), "6 InitialCount link 0")?;
+    says(of_no_memory(alloc), "1 OutOfMemory")
 }

@@ -4,10 +4,7 @@ ghost use Rattle.std.specs.Prelude.{◌≡◌, ◌<◌, length};
 ghost use Rattle.sdf_actor.specs.Steps.{total_in, total_out};
 
 use crate::parts::Part::{In, Out, Turning};
-use crate::parts::{Part, THROUGH, nodes, refusal};
-use sdf_actor::laws::{
-    histories_grow, history_grows_by_firing, nets_are_wired, one_history, taken_stays,
-};
+use crate::parts::{Part, THROUGH, nodes};
 use sdf_actor::{Actor, Net, Node};
 use std::alloc::{AllocError, Global};
 use std::test::Fail;
@@ -24,14 +21,19 @@ fn sizes<A: Actor>(alloc: Global, net: &Net<A>) -> Result<String, Fail> {
     Ok(format!(in alloc; "{parts:?} {lists:?} {samples:?} {actors:?}")?)
 }
 
-/// How often a node fires in a period, how many firings its cycle has, and its channels in and out.
-fn firings<A: Actor>(alloc: Global, net: &Net<A>, a: usize) -> Result<String, Fail> {
+/// How often a node fires in a period, how many firings its cycle has, its channels in and out, and what it is.
+fn node<A: Actor>(alloc: Global, net: &Net<A>, a: usize) -> Result<String, Fail> {
     if a >= net.len() || a >= net.graph().actors() || a >= net.repetitions().len() {
         return Ok(String::new(alloc));
     }
     let (times, cycle) = (net.repetitions().of(a), net.graph().cycle(a));
     let (into, out_of) = (net.channels_in(a), net.channels_out(a));
-    Ok(format!(in alloc; "{times} of {cycle}, {into:?} {out_of:?}")?)
+    let (what, ext, block) = match net.node(a) {
+        Node::Source { ext, block } => ("source", *ext, *block),
+        Node::Sink { ext, block } => ("sink", *ext, *block),
+        Node::Inner(_) => ("actor", 0, 0),
+    };
+    Ok(format!(in alloc; "{times} of {cycle}, {into:?} {out_of:?}, {what} {ext} of {block}")?)
 }
 
 /// Where a link goes from and to, and the rates of its channel.
@@ -45,16 +47,20 @@ fn link<A: Actor>(alloc: Global, net: &Net<A>, c: usize) -> Result<String, Fail>
     Ok(format!(in alloc; "{from:?} {to:?}, {:?} {:?}", channel.put, channel.take)?)
 }
 
-/// What a node is.
-fn kind<A: Actor>(alloc: Global, net: &Net<A>, a: usize) -> Result<String, Fail> {
-    if a >= net.len() {
-        return Ok(String::new(alloc));
-    }
-    match net.node(a) {
-        Node::Source { ext, block } => Ok(format!(in alloc; "source {ext} of {block}")?),
-        Node::Sink { ext, block } => Ok(format!(in alloc; "sink {ext} of {block}")?),
-        Node::Inner(_) => Ok(String::new(alloc)),
-    }
+/// The net of two nodes.
+fn is_two_to_three<A: Actor>(alloc: Global, net: &Net<A>) -> Result<(), Fail> {
+    says(sizes(alloc, net), "(2, 1) (1, 1) (6, 6) (2, 2)")?;
+    says(node(alloc, net, 0), "3 of 1, [] [0], source 0 of 2")?;
+    says(node(alloc, net, 1), "2 of 1, [0] [], sink 0 of 3")?;
+    says(link(alloc, net, 0), "(0, 0) (1, 0), [2] [3]")
+}
+
+/// The net with an actor of two phases.
+fn has_two_phases<A: Actor>(alloc: Global, net: &Net<A>) -> Result<(), Fail> {
+    says(sizes(alloc, net), "(5, 4) (2, 2) (2, 2) (5, 5)")?;
+    says(node(alloc, net, 0), "1 of 1, [] [0], source 0 of 2")?;
+    says(node(alloc, net, 2), "2 of 2, [0, 1] [2, 3], actor 0 of 0")?;
+    says(link(alloc, net, 0), "(0, 0) (2, 0), [2] [2, 0]")
 }
 
 /// A net of parts and of links by their ends.
@@ -62,62 +68,28 @@ fn net(alloc: Global, parts: &[Part], ends: &[[usize; 4]]) -> Result<Net<Deal>, 
     Ok(Net::new(alloc, nodes(alloc, parts)?, links(alloc, ends)?)?)
 }
 
-fn is_two_to_three<A: Actor>(alloc: Global, net: &Net<A>) -> Result<(), Fail> {
-    says(sizes(alloc, net), "(2, 1) (1, 1) (6, 6) (2, 2)")?;
-    says(firings(alloc, net, 0), "3 of 1, [] [0]")?;
-    says(firings(alloc, net, 1), "2 of 1, [0] []")?;
-    says(link(alloc, net, 0), "(0, 0) (1, 0), [2] [3]")?;
-    says(kind(alloc, net, 0), "source 0 of 2")?;
-    says(kind(alloc, net, 1), "sink 0 of 3")
+/// A net is made, or memory was refused.
+fn nothing_but_memory_is_wrong(alloc: Global) -> Result<(), Fail> {
+    let nodes = Vec::from_array(alloc, [source(0, 1), Node::Inner(Sum), sink(0, 1)])?;
+    match Net::new(alloc, nodes, links(alloc, &[[0, 0, 1, 0], [1, 0, 2, 0]])?) {
+        Ok(_) => Ok(()),
+        Err(fault) => says(fault.to_string(alloc).map_err(Fail::from), "1 OutOfMemory"),
+    }
 }
 
 #[test]
-fn two_to_three(rt: HostRuntime) -> Result<(), Fail> {
-    let net = net(rt.alloc(), &[In(0, 2), Out(0, 3)], &[[0, 0, 1, 0]])?;
-    is_two_to_three(rt.alloc(), &net)
-}
-
-#[test]
-fn two_sources_of_different_rates(rt: HostRuntime) -> Result<(), Fail> {
-    let parts = [
-        In(0, 2),
-        In(1, 3),
-        Turning(2, [1, 1, 3]),
-        Out(0, 1),
-        Out(1, 4),
-    ];
-    let refused = refusal(rt.alloc(), &parts, links(rt.alloc(), THROUGH)?);
-    says(refused, "24 InputRates actor 1")
-}
-
-fn has_two_phases<A: Actor>(alloc: Global, net: &Net<A>) -> Result<(), Fail> {
-    says(sizes(alloc, net), "(5, 4) (2, 2) (2, 2) (5, 5)")?;
-    says(firings(alloc, net, 0), "1 of 1, [] [0]")?;
-    says(firings(alloc, net, 2), "2 of 2, [0, 1] [2, 3]")?;
-    says(link(alloc, net, 0), "(0, 0) (2, 0), [2] [2, 0]")
-}
-
-#[test]
-fn two_phases(rt: HostRuntime) -> Result<(), Fail> {
-    let parts = [
+fn nets(rt: HostRuntime) -> Result<(), Fail> {
+    let alloc = rt.alloc();
+    let phases = [
         In(0, 2),
         In(1, 2),
         Turning(2, [2, 0, 2]),
         Out(0, 2),
         Out(1, 2),
     ];
-    has_two_phases(rt.alloc(), &net(rt.alloc(), &parts, THROUGH)?)
-}
-
-/// A net is made, or memory was refused.
-#[test]
-fn nothing_but_memory_is_wrong(rt: HostRuntime) -> Result<(), Fail> {
-    let alloc = rt.alloc();
-    let nodes = Vec::from_array(alloc, [source(0, 1), Node::Inner(Sum), sink(0, 1)])?;
-    match Net::new(alloc, nodes, links(alloc, &[[0, 0, 1, 0], [1, 0, 2, 0]])?) {
-        Ok(_) => Ok(()),
-        Err(fault) => says(fault.to_string(alloc).map_err(Fail::from), "1 OutOfMemory"),
-    }
+    nothing_but_memory_is_wrong(alloc)?;
+    is_two_to_three(alloc, &net(alloc, &[In(0, 2), Out(0, 3)], &[[0, 0, 1, 0]])?)?;
+    has_two_phases(alloc, &net(alloc, &phases, THROUGH)?)
 }
 
 /// Fires an actor once at a phase, through its trait.
@@ -172,13 +144,4 @@ fn fires_through_the_trait(rt: HostRuntime) -> Result<(), Fail> {
     says(sum_once(rt.alloc()), "[7] 7")?;
     says(swap_once(rt.alloc()), "[[2, 1]]")?;
     says(deal_twice(rt.alloc()), "[3, 4] 0 0")
-}
-
-#[test]
-fn laws(_rt: HostRuntime) {
-    one_history::<Sum>();
-    histories_grow::<Sum>();
-    history_grows_by_firing::<Swap>();
-    nets_are_wired::<Swap>();
-    taken_stays::<Sum>();
 }

@@ -1,4 +1,4 @@
-//! The graphs of the tests, their periods and the costs of their firings.
+//! The graphs of the tests by their channels, their periods and the costs of their firings.
 
 ghost use Rattle.std.specs.Prelude.{IfOk};
 ghost use Rattle.sdf_graph.specs.Rates.{rates};
@@ -11,41 +11,31 @@ use sdf_sched::class_s::class_s;
 use sdf_sched::{Period, Round};
 use std::alloc::Global;
 use std::test::Fail;
-use test_actors::graphs::{Row, graph};
+use test_actors::graphs::Row;
 
-/// Two actors and one channel.
-pub(crate) fn pair(
-    alloc: Global,
-    put: &[u32],
-    take: &[u32],
-    initial: usize,
-) -> Result<Graph, Fail> {
-    Ok(graph(alloc, 2, &[(0, put, take, 1, initial)])?)
-}
+/// A source of 2 to a sink of 3.
+pub(crate) const BLOCKS: &[Row] = &[(0, &[2], &[3], 1, 0)];
 
-/// A graph of channels with rates 1.
-fn linked(alloc: Global, actors: usize, ends: &[(usize, usize)]) -> Result<Graph, Fail> {
-    let one = [1].as_slice();
-    let mut rows: Vec<Row> = Vec::new(alloc);
-    for (from, to) in ends {
-        rows.push((*from, one, one, *to, 0))?;
-    }
-    Ok(graph(alloc, actors, &rows)?)
-}
-
-/// Two ways from one actor to another.
-pub(crate) fn fork(alloc: Global) -> Result<Graph, Fail> {
-    linked(alloc, 6, &[(0, 1), (1, 2), (1, 3), (2, 4), (3, 4), (4, 5)])
-}
+/// Two ways from actor 1 to actor 4 of six.
+pub(crate) const FORK: &[Row] = &[
+    (0, &[1], &[1], 1, 0),
+    (1, &[1], &[1], 2, 0),
+    (1, &[1], &[1], 3, 0),
+    (2, &[1], &[1], 4, 0),
+    (3, &[1], &[1], 4, 0),
+    (4, &[1], &[1], 5, 0),
+];
 
 /// As the fork, with one actor more on the second way.
-pub(crate) fn longer_fork(alloc: Global) -> Result<Graph, Fail> {
-    linked(
-        alloc,
-        7,
-        &[(0, 1), (1, 2), (1, 3), (2, 5), (3, 4), (4, 5), (5, 6)],
-    )
-}
+pub(crate) const LONGER_FORK: &[Row] = &[
+    (0, &[1], &[1], 1, 0),
+    (1, &[1], &[1], 2, 0),
+    (1, &[1], &[1], 3, 0),
+    (2, &[1], &[1], 5, 0),
+    (3, &[1], &[1], 4, 0),
+    (4, &[1], &[1], 5, 0),
+    (5, &[1], &[1], 6, 0),
+];
 
 /// A period of a graph, its actors in rounds.
 pub(crate) fn period_of(alloc: Global, graph: &Graph) -> Result<Period, Fail>

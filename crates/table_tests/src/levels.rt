@@ -1,43 +1,17 @@
-//! Worked levels: a source of 2 to a sink of 3, a channel whose rates change from firing to firing, and a fork of two
+//! Worked levels: a source of 2 to a sink of 3, a channel whose rates change from firing to firing, and forks of two
 //! ways.
 
 ghost use Rattle.std.specs.Prelude.{◌≡◌};
 ghost use Rattle.sdf_prec.specs.Blocks.{block};
 
-use crate::graphs::{costs_of, fork, longer_fork, pair, period_of};
+use crate::graphs::{BLOCKS, FORK, LONGER_FORK, costs_of, period_of};
 use sdf_graph::Graph;
 use sdf_prec::levels::levels;
 use sdf_prec::{Costs, Firing, Levels, needed};
 use std::alloc::Global;
 use std::test::Fail;
-use test_actors::graphs::graph;
+use test_actors::graphs::{Row, graph};
 use test_texts::says;
-
-/// How many firings each of some firings waits for on channel 0.
-fn needs(alloc: Global, graph: &Graph, numbers: &[u32]) -> Result<String, Fail> {
-    let mut needs = Vec::new(alloc);
-    if !graph.channels().is_empty() {
-        for number in numbers {
-            needs.push(needed(graph, 0, *number))?;
-        }
-    }
-    Ok(format!(in alloc; "{needs:?}")?)
-}
-
-#[test]
-fn counts_what_is_needed(rt: HostRuntime) -> Result<(), Fail> {
-    let alloc = rt.alloc();
-    says(
-        needs(alloc, &pair(alloc, &[2], &[3], 0)?, &[0, 1]),
-        "[2, 3]",
-    )?;
-    says(
-        needs(alloc, &pair(alloc, &[2], &[3], 1)?, &[0, 1]),
-        "[1, 3]",
-    )?;
-    let cyclic = pair(alloc, &[1, 0, 2], &[1], 0)?;
-    says(needs(alloc, &cyclic, &[0, 1, 3]), "[1, 3, 4]")
-}
 
 /// The level of a firing of one period, in which each actor fires so often.
 fn level(of: &Levels, times: &[u32], actor: usize, number: u32) -> u64
@@ -68,43 +42,71 @@ fn levels_of(alloc: Global, graph: &Graph, costs: &[u32], number: u32) -> Result
     numbered(alloc, &of, period.repetitions(), number)
 }
 
-/// What a firing of each actor costs, the number of the firings, and their levels.
-type Told<'a> = (&'a [u32], u32, &'a str);
+/// How many actors a graph has, its channels, what its firings cost, the number of the firings, and their levels.
+const LEVELS: &[(usize, &[Row], &[u32], u32, &str)] = &[
+    (2, BLOCKS, &[1, 1], 0, "[4, 2]"),
+    (2, BLOCKS, &[1, 10], 0, "[22, 20]"),
+    (2, BLOCKS, &[1, 1], 1, "[3, 1]"),
+    (2, BLOCKS, &[1, 10], 1, "[21, 10]"),
+    (2, BLOCKS, &[1, 1], 2, "[2, 0]"),
+    (2, BLOCKS, &[1, 10], 2, "[11, 0]"),
+    (6, FORK, &[1, 1, 1, 1, 1, 1], 0, "[5, 4, 3, 3, 2, 1]"),
+    (
+        7,
+        LONGER_FORK,
+        &[1, 1, 1, 1, 1, 1, 1],
+        0,
+        "[6, 5, 3, 4, 3, 2, 1]",
+    ),
+    (
+        7,
+        LONGER_FORK,
+        &[1, 1, 3, 1, 1, 1, 1],
+        0,
+        "[7, 6, 5, 4, 3, 2, 1]",
+    ),
+    (
+        7,
+        LONGER_FORK,
+        &[1, 4, 3, 1, 1, 1, 1],
+        0,
+        "[10, 9, 5, 4, 3, 2, 1]",
+    ),
+];
 
-fn has_levels(alloc: Global, graph: &Graph, rows: &[Told]) -> Result<(), Fail> {
-    for (costs, number, wanted) in rows {
-        says(levels_of(alloc, graph, costs, *number), wanted)?;
+/// How many firings each of some firings waits for on channel 0.
+fn needs(alloc: Global, graph: &Graph, numbers: &[u32]) -> Result<String, Fail> {
+    let mut needs = Vec::new(alloc);
+    if !graph.channels().is_empty() {
+        for number in numbers {
+            needs.push(needed(graph, 0, *number))?;
+        }
+    }
+    Ok(format!(in alloc; "{needs:?}")?)
+}
+
+/// The channel between two actors, some firings of the second, and how many of the first each waits for.
+const NEEDS: &[(Row, &[u32], &str)] = &[
+    ((0, &[2], &[3], 1, 0), &[0, 1], "[2, 3]"),
+    ((0, &[2], &[3], 1, 1), &[0, 1], "[1, 3]"),
+    ((0, &[1, 0, 2], &[1], 1, 0), &[0, 1, 3], "[1, 3, 4]"),
+];
+
+/// Costs are summed along the dearest way.
+#[test]
+fn levels_of_firings(rt: HostRuntime) -> Result<(), Fail> {
+    let alloc = rt.alloc();
+    for (actors, channels, costs, number, wanted) in LEVELS {
+        let graph = graph(alloc, *actors, channels)?;
+        says(levels_of(alloc, &graph, costs, *number), wanted)?;
+    }
+    for (channel, numbers, wanted) in NEEDS {
+        says(
+            needs(alloc, &graph(alloc, 2, &[*channel])?, numbers),
+            wanted,
+        )?;
     }
     Ok(())
-}
-
-#[test]
-fn gives_levels(rt: HostRuntime) -> Result<(), Fail> {
-    const ROWS: &[Told] = &[
-        (&[1, 1], 0, "[4, 2]"),
-        (&[1, 10], 0, "[22, 20]"),
-        (&[1, 1], 1, "[3, 1]"),
-        (&[1, 10], 1, "[21, 10]"),
-        (&[1, 1], 2, "[2, 0]"),
-        (&[1, 10], 2, "[11, 0]"),
-    ];
-    has_levels(rt.alloc(), &pair(rt.alloc(), &[2], &[3], 0)?, ROWS)
-}
-
-#[test]
-fn sums_costs_along_ways(rt: HostRuntime) -> Result<(), Fail> {
-    const ROWS: &[Told] = &[(&[1, 1, 1, 1, 1, 1], 0, "[5, 4, 3, 3, 2, 1]")];
-    has_levels(rt.alloc(), &fork(rt.alloc())?, ROWS)
-}
-
-#[test]
-fn sums_costs_along_a_longer_way(rt: HostRuntime) -> Result<(), Fail> {
-    const ROWS: &[Told] = &[
-        (&[1, 1, 1, 1, 1, 1, 1], 0, "[6, 5, 3, 4, 3, 2, 1]"),
-        (&[1, 1, 3, 1, 1, 1, 1], 0, "[7, 6, 5, 4, 3, 2, 1]"),
-        (&[1, 4, 3, 1, 1, 1, 1], 0, "[10, 9, 5, 4, 3, 2, 1]"),
-    ];
-    has_levels(rt.alloc(), &longer_fork(rt.alloc())?, ROWS)
 }
 
 /// The fault of a block of some periods, whose firings each cost 1, and nothing where there is none.
@@ -117,20 +119,6 @@ fn refusal(alloc: Global, graph: &Graph, j: u32) -> Result<String, Fail> {
     }
 }
 
-#[test]
-fn blocks_have_limits(rt: HostRuntime) -> Result<(), Fail> {
-    let alloc = rt.alloc();
-    let short = pair(alloc, &[2], &[3], 0)?;
-    says(refusal(alloc, &short, 64), "")?;
-    says(refusal(alloc, &short, 65), "11 BlockingFactor")?;
-    let long = graph(
-        alloc,
-        3,
-        &[(0, &[128], &[1], 1, 0), (1, &[255], &[1], 2, 0)],
-    )?;
-    says(refusal(alloc, &long, 2), "13 BlockTooLong")
-}
-
 /// The fault of costs, and nothing where there is none.
 fn costs_refusal(alloc: Global, graph: &Graph, costs: &[u32]) -> Result<String, Fail> {
     match Costs::new(graph, Vec::from_slice(alloc, costs)?) {
@@ -139,14 +127,25 @@ fn costs_refusal(alloc: Global, graph: &Graph, costs: &[u32]) -> Result<String, 
     }
 }
 
-#[test]
-fn refuses_costs(rt: HostRuntime) -> Result<(), Fail> {
-    let alloc = rt.alloc();
-    let graph = pair(alloc, &[2], &[3], 0)?;
-    says(costs_refusal(alloc, &graph, &[1]), "62 BadCost actor 1")?;
-    says(costs_refusal(alloc, &graph, &[1, 0]), "62 BadCost actor 1")?;
+/// Too many periods of a short graph, and costs that are too few, 0, or too many.
+fn has_limits(alloc: Global, short: &Graph) -> Result<(), Fail> {
+    says(refusal(alloc, short, 64), "")?;
+    says(refusal(alloc, short, 65), "11 BlockingFactor")?;
+    says(costs_refusal(alloc, short, &[1]), "62 BadCost actor 1")?;
+    says(costs_refusal(alloc, short, &[1, 0]), "62 BadCost actor 1")?;
     says(
-        costs_refusal(alloc, &graph, &[1, 1, 1]),
+        costs_refusal(alloc, short, &[1, 1, 1]),
         "62 BadCost actor 2",
+    )
+}
+
+#[test]
+fn limits_of_levels(rt: HostRuntime) -> Result<(), Fail> {
+    let alloc = rt.alloc();
+    has_limits(alloc, &graph(alloc, 2, BLOCKS)?)?;
+    let long: [Row; 2] = [(0, &[128], &[1], 1, 0), (1, &[255], &[1], 2, 0)];
+    says(
+        refusal(alloc, &graph(alloc, 3, &long)?, 2),
+        "13 BlockTooLong",
     )
 }

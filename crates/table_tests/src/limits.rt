@@ -3,7 +3,7 @@
 //! No clause forbids that answer. Seen to fail here: a `hu`, a `Table::by_homes` and a `Table::by_homes_in_runs` that
 //! give it for blocks of more than 60,000 firings or for 16 workers, and a `Table::accept` for more than 4,000 rows.
 
-use crate::graphs::{pair, period_of};
+use crate::graphs::period_of;
 use crate::hu_rows::table;
 use sdf_graph::{Channel, Graph};
 use sdf_prec::{Firing, Table};
@@ -11,7 +11,8 @@ use sdf_sched::class_s::class_s;
 use sdf_sched::{Lean, Pick, Round, Runs};
 use std::alloc::{AllocError, Global};
 use std::test::Fail;
-use test_texts::{row_says, says};
+use test_actors::graphs::graph;
+use test_texts::row_says;
 
 /// How often an actor fires in a period, which is 65,536 firings of 64 actors.
 fn times(actor: usize) -> u32 {
@@ -58,22 +59,6 @@ fn firings<P: Pick>(alloc: Global, graph: &Graph, pick: &mut P) -> Result<String
     Ok(format!(in alloc; "{}", period.order().len())?)
 }
 
-#[test]
-fn a_period(rt: HostRuntime) -> Result<(), Fail> {
-    let graph = largest(rt.alloc())?;
-    row_says(
-        "by rounds",
-        firings(rt.alloc(), &graph, &mut Round::new()),
-        "65536",
-    )?;
-    row_says("lean", firings(rt.alloc(), &graph, &mut Lean), "65536")?;
-    row_says(
-        "by runs",
-        firings(rt.alloc(), &graph, &mut Runs::new()),
-        "65536",
-    )
-}
-
 /// How many firings a table has.
 fn many(alloc: Global, table: &Table) -> Result<String, Fail> {
     Ok(format!(in alloc; "{}", table.order().len())?)
@@ -83,18 +68,14 @@ fn many(alloc: Global, table: &Table) -> Result<String, Fail> {
 const COSTS: &[u32] = &[1_000_000; 64];
 
 /// The same by Hu's rule on 16 workers.
-fn by_rule(alloc: Global, graph: &Graph, homed: bool) -> Result<String, Fail> {
-    many(alloc, &table(alloc, graph, 1, 16, homed, COSTS)?)
-}
-
-#[test]
-fn by_the_rule(rt: HostRuntime) -> Result<(), Fail> {
-    says(by_rule(rt.alloc(), &largest(rt.alloc())?, false), "65536")
-}
-
-#[test]
-fn by_the_rule_homed(rt: HostRuntime) -> Result<(), Fail> {
-    says(by_rule(rt.alloc(), &largest(rt.alloc())?, true), "65536")
+fn by_rule(
+    alloc: Global,
+    graph: &Graph,
+    j: u32,
+    homed: bool,
+    costs: &[u32],
+) -> Result<String, Fail> {
+    many(alloc, &table(alloc, graph, j, 16, homed, costs)?)
 }
 
 /// A home for each actor on 16 workers.
@@ -106,34 +87,16 @@ fn homes(alloc: Global) -> Result<Vec<Option<usize>>, AllocError> {
     Ok(homes)
 }
 
-/// How many firings a table of one firing a row has.
-fn at_homes(alloc: Global, graph: &Graph) -> Result<String, Fail> {
+/// How many firings a table of one firing a row has, or where those of an actor stand in runs.
+fn at_homes(alloc: Global, graph: &Graph, in_runs: bool) -> Result<String, Fail> {
     let period = period_of(alloc, graph)?;
     let homes = homes(alloc)?;
-    many(
-        alloc,
-        &Table::by_homes(alloc, graph, &period, 1, 16, &homes)?,
-    )
-}
-
-#[test]
-fn by_homes(rt: HostRuntime) -> Result<(), Fail> {
-    says(at_homes(rt.alloc(), &largest(rt.alloc())?), "65536")
-}
-
-/// The same where the firings of an actor stand in runs.
-fn at_homes_in_runs(alloc: Global, graph: &Graph) -> Result<String, Fail> {
-    let period = period_of(alloc, graph)?;
-    let homes = homes(alloc)?;
-    many(
-        alloc,
-        &Table::by_homes_in_runs(alloc, graph, &period, 1, 16, &homes)?,
-    )
-}
-
-#[test]
-fn by_homes_in_runs(rt: HostRuntime) -> Result<(), Fail> {
-    says(at_homes_in_runs(rt.alloc(), &largest(rt.alloc())?), "65536")
+    let table = if in_runs {
+        Table::by_homes_in_runs(alloc, graph, &period, 1, 16, &homes)?
+    } else {
+        Table::by_homes(alloc, graph, &period, 1, 16, &homes)?
+    };
+    many(alloc, &table)
 }
 
 /// The rows of a table.
@@ -160,18 +123,50 @@ fn by_rule_again(alloc: Global, graph: &Graph) -> Result<String, Fail> {
     accepted(alloc, graph, &table(alloc, graph, 1, 16, true, &[1; 64])?)
 }
 
-#[test]
-fn as_given(rt: HostRuntime) -> Result<(), Fail> {
-    says(by_rule_again(rt.alloc(), &largest(rt.alloc())?), "65536")
+/// Periods by each policy.
+fn has_periods(alloc: Global, graph: &Graph) -> Result<(), Fail> {
+    row_says(
+        "by rounds",
+        firings(alloc, graph, &mut Round::new()),
+        "65536",
+    )?;
+    row_says("lean", firings(alloc, graph, &mut Lean), "65536")?;
+    row_says("by runs", firings(alloc, graph, &mut Runs::new()), "65536")
 }
 
-/// How many firings a table of 64 periods by Hu's rule has.
-fn of_periods(alloc: Global, graph: &Graph) -> Result<String, Fail> {
-    many(alloc, &table(alloc, graph, 64, 16, true, &[1_000_000; 2])?)
+/// Tables by Hu's rule, by homes, and as they are given.
+fn has_tables(alloc: Global, graph: &Graph) -> Result<(), Fail> {
+    row_says(
+        "by the rule",
+        by_rule(alloc, graph, 1, false, COSTS),
+        "65536",
+    )?;
+    row_says(
+        "by the rule, homed",
+        by_rule(alloc, graph, 1, true, COSTS),
+        "65536",
+    )?;
+    row_says("by homes", at_homes(alloc, graph, false), "65536")?;
+    row_says("by homes in runs", at_homes(alloc, graph, true), "65536")?;
+    row_says("as given", by_rule_again(alloc, graph), "65536")
+}
+
+#[test]
+fn a_period(rt: HostRuntime) -> Result<(), Fail> {
+    has_periods(rt.alloc(), &largest(rt.alloc())?)
+}
+
+#[test]
+fn a_table(rt: HostRuntime) -> Result<(), Fail> {
+    has_tables(rt.alloc(), &largest(rt.alloc())?)
 }
 
 #[test]
 fn of_many_periods(rt: HostRuntime) -> Result<(), Fail> {
-    let graph = pair(rt.alloc(), &[1023], &[1], 0)?;
-    says(of_periods(rt.alloc(), &graph), "65536")
+    let pair = graph(rt.alloc(), 2, &[(0, &[1023], &[1], 1, 0)])?;
+    row_says(
+        "64 periods",
+        by_rule(rt.alloc(), &pair, 64, true, &[1_000_000; 2]),
+        "65536",
+    )
 }

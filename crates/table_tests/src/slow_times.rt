@@ -7,14 +7,15 @@ ghost use Rattle.sdf_prec.specs.declared.firing.Firing.{Firing};
 ghost use Rattle.sdf_prec.specs.Costs.{AreCosts};
 ghost use Rattle.sdf_times.specs.Times.{IsBlockTable, IsInTable, HasStart};
 
-use crate::graphs::{costs_of, longer_fork, pair, period_of};
+use crate::graphs::{BLOCKS, LONGER_FORK, costs_of, period_of};
 use sdf_graph::{Channel, Graph};
 use sdf_prec::hu::hu;
 use sdf_prec::{Costs, Firing, Table};
 use sdf_times::{Times, bound, span, work};
 use std::alloc::{AllocError, Global};
 use std::test::Fail;
-use test_texts::says;
+use test_actors::graphs::{Row, graph};
+use test_texts::row_says;
 
 /// A firing, where it stands, and when it starts.
 #[derive(Clone, Copy)]
@@ -216,7 +217,7 @@ pub(crate) fn by_times(
     Ok(numbers)
 }
 
-/// Both, of Hu's table in two columns for a block of one period.
+/// By the model and by `Times`, of Hu's table in two columns for a block of one period.
 fn both(alloc: Global, graph: &Graph, costs: &[u32]) -> Result<(String, String), Fail> {
     graph.channels();
     let period = period_of(alloc, graph)?;
@@ -232,43 +233,29 @@ fn both(alloc: Global, graph: &Graph, costs: &[u32]) -> Result<(String, String),
     Ok((model, format!(in alloc; "{numbers:?}")?))
 }
 
-/// Nothing where both are the same, or else both.
-fn difference(alloc: Global, graph: &Graph, costs: &[u32]) -> Result<String, Fail> {
+/// Whether both are the same.
+fn is_the_same(alloc: Global, name: &str, graph: &Graph, costs: &[u32]) -> Result<(), Fail> {
     let (model, times) = both(alloc, graph, costs)?;
-    if model.as_str() == times.as_str() {
-        Ok(String::new(alloc))
-    } else {
-        let (model, times) = (model.as_str(), times.as_str());
-        Ok(format!(in alloc; "{model} {times}")?)
+    row_says(name, Ok(times), model.as_str())
+}
+
+/// A graph by its name, how many actors it has, its channels, and what its firings cost.
+const GRAPHS: &[(&str, usize, &[Row], &[u32])] = &[
+    ("an even fork", 7, LONGER_FORK, &[1, 1, 1, 1, 1, 1, 1]),
+    ("a dear way", 7, LONGER_FORK, &[1, 1, 3, 1, 1, 1, 1]),
+    ("a dear fork", 7, LONGER_FORK, &[1, 4, 3, 1, 1, 1, 1]),
+    ("dear blocks", 2, BLOCKS, &[1, 10]),
+];
+
+#[test]
+fn times_are_those_of_the_model(rt: HostRuntime) -> Result<(), Fail> {
+    for (name, actors, channels, costs) in GRAPHS {
+        is_the_same(
+            rt.alloc(),
+            name,
+            &graph(rt.alloc(), *actors, channels)?,
+            costs,
+        )?;
     }
-}
-
-/// Those of the fork with one actor more on the second way.
-fn of_a_fork(alloc: Global, costs: &[u32]) -> Result<String, Fail> {
-    difference(alloc, &longer_fork(alloc)?, costs)
-}
-
-/// A source of 2 to a sink of 3.
-fn of_blocks(alloc: Global, costs: &[u32]) -> Result<String, Fail> {
-    difference(alloc, &pair(alloc, &[2], &[3], 0)?, costs)
-}
-
-#[test]
-fn even_fork(rt: HostRuntime) -> Result<(), Fail> {
-    says(of_a_fork(rt.alloc(), &[1, 1, 1, 1, 1, 1, 1]), "")
-}
-
-#[test]
-fn dear_way(rt: HostRuntime) -> Result<(), Fail> {
-    says(of_a_fork(rt.alloc(), &[1, 1, 3, 1, 1, 1, 1]), "")
-}
-
-#[test]
-fn dear_fork(rt: HostRuntime) -> Result<(), Fail> {
-    says(of_a_fork(rt.alloc(), &[1, 4, 3, 1, 1, 1, 1]), "")
-}
-
-#[test]
-fn dear_blocks(rt: HostRuntime) -> Result<(), Fail> {
-    says(of_blocks(rt.alloc(), &[1, 10]), "")
+    Ok(())
 }

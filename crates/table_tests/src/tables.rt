@@ -4,11 +4,12 @@ ghost use Rattle.std.specs.Prelude.{IfOk};
 ghost use Rattle.sdf_graph.specs.Rates.{rates};
 ghost use Rattle.sdf_prec.specs.Tables.{IsExact};
 
-use crate::graphs::{pair, period_of};
+use crate::graphs::{BLOCKS, period_of};
 use sdf_graph::Graph;
 use sdf_prec::{Firing, PrecFault, Table};
 use std::alloc::{AllocError, Global};
 use std::test::Fail;
+use test_actors::graphs::graph;
 use test_texts::says;
 
 /// The rows, the capacity of channel 0, and the homes of the first two actors.
@@ -49,7 +50,7 @@ fn given(
 
 /// What is told of a table with these rows for two workers.
 fn accepted(alloc: Global, rows: &[&[Option<Firing>]]) -> Result<String, Fail> {
-    let graph = pair(alloc, &[2], &[3], 0)?;
+    let graph = graph(alloc, 2, BLOCKS)?;
     let period = period_of(alloc, &graph)?;
     let rows = given(alloc, rows)?;
     told(
@@ -91,65 +92,38 @@ const B1: Option<Firing> = Some(Firing {
 });
 
 /// The rows of a table, and what is told of it.
-type Told<'a> = (&'a [&'a [Option<Firing>]], &'a str);
-
-fn accepts_as(alloc: Global, tables: &[Told]) -> Result<(), Fail> {
-    for (rows, wanted) in tables {
-        says(accepted(alloc, rows), wanted)?;
-    }
-    Ok(())
-}
-
-#[test]
-fn accepts(rt: HostRuntime) -> Result<(), Fail> {
-    const TABLES: &[Told] = &[
-        (
-            &[&[A0], &[], &[A1], &[A2, B0], &[None, B1]],
-            "4 rows, 6 samples, (Some(0), Some(1))",
-        ),
-        (
-            &[&[A0], &[None, A1], &[A2, B0], &[None, B1]],
-            "4 rows, 6 samples, (None, Some(1))",
-        ),
-    ];
-    accepts_as(rt.alloc(), TABLES)
-}
-
-#[test]
-fn refuses_cells(rt: HostRuntime) -> Result<(), Fail> {
-    const TABLES: &[Told] = &[
-        (&[&[A0, A0, A3]], "17 RowTooWide: RowTooWide { row: 0 }"),
-        (
-            &[&[A0], &[A0]],
-            "15 FiringTwice: FiringTwice { row: 1, firing: Firing { actor: 0, number: 0 } }",
-        ),
-        (
-            &[&[A0], &[A3]],
-            "16 FiringUnknown: FiringUnknown { row: 1, firing: Firing { actor: 0, number: 3 } }",
-        ),
-    ];
-    accepts_as(rt.alloc(), TABLES)
-}
-
-#[test]
-fn refuses_rows(rt: HostRuntime) -> Result<(), Fail> {
-    const TABLES: &[Told] = &[
-        (
-            &[&[A0], &[A1], &[A2, B0]],
-            "14 FiringMissing: FiringMissing { firing: Firing { actor: 1, number: 1 } }",
-        ),
-        (
-            &[&[A0, B0], &[A1], &[A2], &[B1]],
-            "18 TooEarly: TooEarly { row: 0, firing: Firing { actor: 1, number: 0 }, \
+const TABLES: &[(&[&[Option<Firing>]], &str)] = &[
+    (
+        &[&[A0], &[], &[A1], &[A2, B0], &[None, B1]],
+        "4 rows, 6 samples, (Some(0), Some(1))",
+    ),
+    (
+        &[&[A0], &[None, A1], &[A2, B0], &[None, B1]],
+        "4 rows, 6 samples, (None, Some(1))",
+    ),
+    (&[&[A0, A0, A3]], "17 RowTooWide: RowTooWide { row: 0 }"),
+    (
+        &[&[A0], &[A0]],
+        "15 FiringTwice: FiringTwice { row: 1, firing: Firing { actor: 0, number: 0 } }",
+    ),
+    (
+        &[&[A0], &[A3]],
+        "16 FiringUnknown: FiringUnknown { row: 1, firing: Firing { actor: 0, number: 3 } }",
+    ),
+    (
+        &[&[A0], &[A1], &[A2, B0]],
+        "14 FiringMissing: FiringMissing { firing: Firing { actor: 1, number: 1 } }",
+    ),
+    (
+        &[&[A0, B0], &[A1], &[A2], &[B1]],
+        "18 TooEarly: TooEarly { row: 0, firing: Firing { actor: 1, number: 0 }, \
              needs: Firing { actor: 0, number: 1 } }",
-        ),
-    ];
-    accepts_as(rt.alloc(), TABLES)
-}
+    ),
+];
 
 /// What is told of a table of one firing a row.
 fn by_homes(alloc: Global, m: usize, homes: &[Option<usize>]) -> Result<String, Fail> {
-    let graph = pair(alloc, &[2], &[3], 0)?;
+    let graph = graph(alloc, 2, BLOCKS)?;
     let period = period_of(alloc, &graph)?;
     told(
         alloc,
@@ -158,19 +132,28 @@ fn by_homes(alloc: Global, m: usize, homes: &[Option<usize>]) -> Result<String, 
     )
 }
 
-#[test]
-fn stands_at_home(rt: HostRuntime) -> Result<(), Fail> {
-    let alloc = rt.alloc();
-    says(
-        by_homes(alloc, 1, &[Some(0), Some(0)]),
+/// For how many workers, the homes, and what is told of the table.
+const HOMES: &[(usize, [Option<usize>; 2], &str)] = &[
+    (
+        1,
+        [Some(0), Some(0)],
         "5 rows, 4 samples, (Some(0), Some(0))",
-    )?;
-    says(
-        by_homes(alloc, 1, &[Some(0), Some(1)]),
+    ),
+    (
+        1,
+        [Some(0), Some(1)],
         "19 BadHome actor 1: BadHome { actor: 1 }",
-    )?;
-    says(
-        by_homes(alloc, 17, &[Some(0), Some(1)]),
-        "12 WorkerCount: WorkerCount",
-    )
+    ),
+    (17, [Some(0), Some(1)], "12 WorkerCount: WorkerCount"),
+];
+
+#[test]
+fn tables_as_given_and_by_homes(rt: HostRuntime) -> Result<(), Fail> {
+    for (rows, wanted) in TABLES {
+        says(accepted(rt.alloc(), rows), wanted)?;
+    }
+    for (m, homes, wanted) in HOMES {
+        says(by_homes(rt.alloc(), *m, homes), wanted)?;
+    }
+    Ok(())
 }

@@ -1,0 +1,193 @@
+//! Designs from files, their texts, and their faults.
+
+use sdf_file::{Design, check_text, design_files, read_design};
+use std::alloc::Global;
+use std::test::Fail;
+use test_texts::{row_says, says};
+
+/// An input and an output of other rates.
+const TWO: &str = "format = 1
+[[actor]]
+name = \"in\"
+kind = \"input\"
+channel = 0
+block = 2
+processor = 3
+[[actor]]
+name = \"out\"
+kind = \"output\"
+channel = 0
+block = 3
+cost = 7
+[[link]]
+from = \"in\"
+to = \"out\"
+";
+
+/// A filter whose taps stand in a file.
+const FILTER: &str = "format = 1
+[[actor]]
+name = \"in\"
+kind = \"input\"
+channel = 0
+[[actor]]
+name = \"a\"
+kind = \"fir\"
+up = 3
+down = 2
+shift = 14
+file = \"h.toml\"
+[[actor]]
+name = \"out\"
+kind = \"output\"
+channel = 0
+[[link]]
+from = \"in\"
+to = \"a\"
+[[link]]
+from = \"a\"
+to = \"out\"
+";
+
+/// Dealt out to two ways by twos, and gathered by ones.
+const TURNS: &str = "format = 2
+[[actor]]
+name = \"in\"
+kind = \"input\"
+channel = 0
+[[actor]]
+name = \"deal\"
+kind = \"deal\"
+ways = 2
+run = 2
+[[actor]]
+name = \"gather\"
+kind = \"gather\"
+ways = 2
+[[actor]]
+name = \"out\"
+kind = \"output\"
+channel = 0
+[[link]]
+from = \"in\"
+to = \"deal\"
+[[link]]
+from = \"deal:0\"
+to = \"gather:0\"
+[[link]]
+from = \"deal:1\"
+to = \"gather:1\"
+[[link]]
+from = \"gather\"
+to = \"out\"
+";
+
+/// How many actors a design has, the name of the second, the homes and the costs, and what `check` prints.
+fn parts(alloc: Global, design: &Design) -> Result<String, Fail> {
+    if design.net().len() < 2 {
+        return Ok(String::new(alloc));
+    }
+    let checked = check_text(alloc, design)?;
+    Ok(format!(in alloc;
+        "{} {} {:?} {:?}\n{checked}",
+        design.net().len(),
+        design.name(1),
+        design.homes(),
+        design.costs()
+    )?)
+}
+
+/// A file `h.toml`, where it says something.
+fn files(alloc: Global, taps: &str) -> Result<Vec<(String, Vec<u8>)>, Fail> {
+    let mut files = Vec::new(alloc);
+    if !taps.is_empty() {
+        let name = String::from_str(alloc, "h.toml")?;
+        files.push((name, Vec::from_slice(alloc, taps.as_bytes())?))?;
+    }
+    Ok(files)
+}
+
+/// The same of the design of a graph with one text in the place of another, beside such a file, or the fault.
+fn read(alloc: Global, graph: &str, old: &str, new: &str, taps: &str) -> Result<String, Fail> {
+    let text = graph.replace(alloc, old, new)?;
+    let files = files(alloc, taps)?;
+    match read_design(alloc, text.as_bytes(), files.as_slice()) {
+        Ok(design) => parts(alloc, &design),
+        Err(fault) => Ok(fault.to_string(alloc)?),
+    }
+}
+
+/// A graph, a text of it, what stands in its place, and the design, or the fault.
+const DESIGNS: &[(&str, &str, &str, &str)] = &[
+    (
+        TWO,
+        "format = 1",
+        "format = 1",
+        "2 out [Some(3), None] [1, 7]\nactors 2\nlinks 1\nperiod 5\nq in 3\nq out 2\ninput 6 output 6\n",
+    ),
+    (TWO, "format = 1", "format = 3", "50 Format top"),
+    (
+        TWO,
+        "channel = 0\nblock = 3",
+        "channel = 1\nblock = 3",
+        "27 NoOutput channel 0",
+    ),
+    (TWO, "to = \"out\"", "to = \"out:1\"", "20 NoPort link 0"),
+    (
+        TWO,
+        "kind = \"output\"",
+        "kind = \"input\"",
+        "20 NoPort link 0",
+    ),
+    (
+        TWO,
+        "[[link]]",
+        "[[link]]\nfrom = \"in\"\nto = \"out\"\n[[link]]",
+        "21 PortTwice link 1",
+    ),
+    (
+        TURNS,
+        "format = 2",
+        "format = 2",
+        "4 deal [None, None, None, None] [1, 1, 1, 1]\n\
+         actors 4\nlinks 4\nperiod 14\nq in 4\nq deal 2\nq gather 4\nq out 4\ninput 4 output 4\n",
+    ),
+    (TURNS, "format = 2", "format = 1", "56 UnknownKind actor 1"),
+    (FILTER, "h.toml", "h.toml", "58 NoFile file h.toml"),
+];
+
+#[test]
+fn reads_and_checks_designs(rt: HostRuntime) -> Result<(), Fail> {
+    for (graph, old, new, wanted) in DESIGNS {
+        row_says(new, read(rt.alloc(), graph, old, new, ""), wanted)?;
+    }
+    Ok(())
+}
+
+/// The names of the files that a graph with one text in the place of another wants, or the fault.
+fn wanted_files(alloc: Global, graph: &str, old: &str, new: &str) -> Result<String, Fail> {
+    let text = graph.replace(alloc, old, new)?;
+    match design_files(alloc, text.as_bytes()) {
+        Ok(names) => Ok(format!(in alloc; "{names:?}")?),
+        Err(fault) => Ok(fault.to_string(alloc)?),
+    }
+}
+
+#[test]
+fn reads_with_coefficient_files(rt: HostRuntime) -> Result<(), Fail> {
+    let alloc = rt.alloc();
+    says(
+        wanted_files(alloc, FILTER, "h.toml", "h.toml"),
+        "{\"h.toml\"}",
+    )?;
+    says(
+        wanted_files(alloc, FILTER, "h.toml", "../h"),
+        "54 BadName actor 1 key file",
+    )?;
+    let taps = "format = 1\nvalues = [16384, 16384, 16384]\n";
+    says(
+        read(alloc, FILTER, "h.toml", "h.toml", taps),
+        "3 a [None, None, None] [1, 1, 1]\n\
+         actors 3\nlinks 2\nperiod 6\nq in 2\nq a 1\nq out 3\ninput 2 output 3\n",
+    )
+}
