@@ -63,21 +63,6 @@ fn make_planned<R: AllocGlobal + Files + Print + Sync + Threads>(
     }
 }
 
-/// Makes a call that needs a design.
-fn make_read<R: AllocGlobal + Files + Print + Sync + Threads>(
-    rt: &R,
-    call: &str,
-    design: &Design,
-    input: &str,
-    options: &Options,
-) -> Result<()> {
-    if call == "plan" {
-        return Ok(plan_twice(rt, design, options)?);
-    }
-    let plan = plan(rt.alloc(), design, options)?;
-    make_planned(rt, call, design, &plan, input)
-}
-
 /// Makes a call with the files and the options of a run.
 pub(crate) fn make<R: AllocGlobal + Files + Print + Sync + Threads>(
     rt: &R,
@@ -89,8 +74,10 @@ pub(crate) fn make<R: AllocGlobal + Files + Print + Sync + Threads>(
     match call {
         "design_files" => return files_twice(rt, sources),
         "read_design" => return read_twice(rt, sources),
+        "plan" => return plan_twice(rt, sources, options),
         _ => {}
     }
     let design = read_design(rt.alloc(), &sources.graph, &sources.beside)?;
-    make_read(rt, call, &design, input, options)
+    let plan = plan(rt.alloc(), &design, options)?;
+    make_planned(rt, call, &design, &plan, input)
 }

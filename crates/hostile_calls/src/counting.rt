@@ -1,22 +1,16 @@
 //! One run in memory of a chain of all kinds of actor, or one schedule, between the lines `begin` and `end`: what is
 //! asked for between the two is the run's own. `scripts/allocations` counts it.
 
-ghost use Rattle.sdf_graph.specs.Rates.{rates};
-ghost use Rattle.sdf_actor.specs.Graphs.{graph_of};
-ghost use Rattle.sdf_kit.specs.Kit.{kit_steps};
-ghost use Rattle.sdf_answer.specs.Rows.{IsBlockTableOf};
-
 use anyhow::{Context, Result};
 use sdf_actor::Net;
 use sdf_answer::BlockTable;
-use sdf_file::{Design, read_design};
+use sdf_file::read_design;
 use sdf_kit::Kit;
-use sdf_options::{Options, Runner};
-use sdf_process::planning::plan;
-use sdf_run::{NoGate, Ran, RunFault, run_one, run_rings, run_rows};
+use sdf_prec::Costs;
+use sdf_prec::hu::hu;
+use sdf_run::{NoGate, run_one, run_rings, run_rows};
 use sdf_sched::class_s::class_s;
-use sdf_sched::{Lean, Round, Runs};
-use std::alloc::Global;
+use sdf_sched::{Lean, Pick, Round, Runs};
 use std::thread::Threads;
 
 /// Kinds in a chain, and filters between rates.
@@ -56,47 +50,6 @@ link = [
 ]
 "#;
 
-/// The outputs of a net's run by a runner.
-fn run_by<R: AllocGlobal + Sync + Threads>(
-    rt: &R,
-    what: &str,
-    net: &Net<Kit>,
-    table: &BlockTable,
-    blocks: u32,
-    inputs: &[Vec<i32>],
-) -> Result<Ran<i32>, RunFault>
-    requires fits { IsBlockTableOf (rates (graph_of kit_steps net.now)) table.now }
-{
-    match what {
-        "one" => {
-            let periods = table.factor.saturating_mul(blocks);
-            run_one(rt.alloc(), net, &table.period, periods, inputs)
-        }
-        "rows" => run_rows(rt, net, table, blocks, inputs, &NoGate),
-        _ => run_rings(rt, net, table, blocks, inputs, 1000, &NoGate),
-    }
-}
-
-/// Runs a net of one input, and gives how many samples come out.
-fn run<R: AllocGlobal + Print + Sync + Threads>(
-    rt: &R,
-    what: &str,
-    net: &Net<Kit>,
-    table: &BlockTable,
-    blocks: u32,
-) -> Result<usize>
-    requires fits { IsBlockTableOf (rates (graph_of kit_steps net.now)) table.now }
-{
-    let alloc = rt.alloc();
-    let periods = table.factor.saturating_mul(blocks);
-    let samples = net.samples_in().saturating_mul(periods as usize);
-    let inputs = vec![in alloc; vec![in alloc; 7; samples]?]?;
-    println!(rt; "begin")?;
-    let ran = run_by(rt, what, net, table, blocks, &inputs)?;
-    println!(rt; "end")?;
-    Ok(ran.outputs.first().context("an output")?.len())
-}
-
 /// How large a run is: on how many workers, of how many periods in a block, and of how many blocks.
 #[derive(Clone, Copy)]
 struct Sizes {
@@ -105,39 +58,41 @@ struct Sizes {
     blocks: u32,
 }
 
-/// The same of a design on so many workers, whose actors each keep to one of them.
-fn run_design<R: AllocGlobal + Print + Sync + Threads>(
+/// Runs the net, and gives how many samples come out.
+fn run<R: AllocGlobal + Print + Sync + Threads>(
     rt: &R,
     what: &str,
-    design: &Design,
+    net: &Net<Kit>,
     sizes: Sizes,
 ) -> Result<usize> {
-    let options = Options {
-        runner: Runner::Rings,
-        workers: sizes.workers,
-        blocking: sizes.j,
-        ..Options::DEFAULT
+    let alloc = rt.alloc();
+    let Sizes { workers, j, blocks } = sizes;
+    let graph = net.graph();
+    let period = class_s(alloc, graph, net.repetitions(), &mut Round::new())?;
+    let costs = Costs::unit(alloc, graph)?;
+    let table = hu(alloc, graph, &period, j, workers, true, &costs)?;
+    let table = BlockTable {
+        period,
+        factor: j,
+        table,
     };
-    let plan = plan(rt.alloc(), design, &options)?;
-    let table = plan.table().context("a plan of workers has a table")?;
-    run(rt, what, design.net(), table, sizes.blocks)
-}
-
-/// Schedules a net, and gives how long its period is.
-fn schedule<R: AllocGlobal + Print>(rt: &R, what: &str, net: &Net<Kit>) -> Result<usize> {
-    let (graph, reps) = (net.graph(), net.repetitions());
+    let periods = j.saturating_mul(blocks);
+    let samples = net.samples_in().saturating_mul(periods as usize);
+    let inputs = vec![in alloc; vec![in alloc; 7; samples]?]?;
     println!(rt; "begin")?;
-    let period = match what {
-        "round" => class_s(rt.alloc(), graph, reps, &mut Round::new()),
-        "lean" => class_s(rt.alloc(), graph, reps, &mut Lean),
-        _ => class_s(rt.alloc(), graph, reps, &mut Runs::new()),
+    let ran = match what {
+        "one" => run_one(alloc, net, &table.period, periods, &inputs)?,
+        "rows" => run_rows(rt, net, &table, blocks, &inputs, &NoGate)?,
+        _ => run_rings(rt, net, &table, blocks, &inputs, 1000, &NoGate)?,
     };
     println!(rt; "end")?;
-    Ok(period?.order().len())
+    Ok(ran.outputs.first().context("an output")?.len())
 }
 
-/// A chain whose second actor fires so many times for each firing of the first.
-fn long_chain(alloc: Global, blocks: u32) -> Result<Design> {
+/// Schedules a chain whose second actor fires `blocks` times for each firing of the first, and gives how long its
+/// period is.
+fn schedule<R: AllocGlobal + Print, P: Pick>(rt: &R, blocks: u32, pick: &mut P) -> Result<usize> {
+    let alloc = rt.alloc();
     let text = format!(in alloc;
         "format = 1
 actor = [{{ name = \"in\", kind = \"input\", channel = 0, block = {blocks} }},
@@ -145,28 +100,20 @@ actor = [{{ name = \"in\", kind = \"input\", channel = 0, block = {blocks} }},
 link = [{{ from = \"in\", to = \"up\" }}, {{ from = \"up\", to = \"out\" }}]
 "
     )?;
-    Ok(read_design(alloc, text.as_bytes(), &[])?)
+    let design = read_design(alloc, text.as_bytes(), &[])?;
+    println!(rt; "begin")?;
+    let period = class_s(
+        alloc,
+        design.net().graph(),
+        design.net().repetitions(),
+        pick,
+    )?;
+    println!(rt; "end")?;
+    Ok(period.order().len())
 }
 
-/// Makes what is named: a run by a runner, or a schedule by a policy.
-fn made<R: AllocGlobal + Print + Sync + Threads>(
-    rt: &R,
-    what: &str,
-    sizes: Sizes,
-) -> Result<usize> {
-    match what {
-        "round" | "lean" | "runs" => {
-            let design = long_chain(rt.alloc(), sizes.blocks)?;
-            schedule(rt, what, design.net())
-        }
-        _ => {
-            let design = read_design(rt.alloc(), CHAIN.as_bytes(), &[])?;
-            run_design(rt, what, &design, sizes)
-        }
-    }
-}
-
-/// Makes what is named. The words are on how many workers, how many periods a block has, and how many blocks there are.
+/// Makes what is named: a run by a runner, or a schedule by a policy. The words are on how many workers, how many
+/// periods a block has, and how many blocks there are.
 pub(crate) fn count<R: AllocGlobal + Print + Sync + Threads>(
     rt: &R,
     what: &str,
@@ -178,6 +125,14 @@ pub(crate) fn count<R: AllocGlobal + Print + Sync + Threads>(
         j: j.parse::<u32>().context("periods")?,
         blocks: blocks.parse::<u32>().context("blocks")?,
     };
-    let made = made(rt, what, sizes)?;
+    let made = match what {
+        "round" => schedule(rt, sizes.blocks, &mut Round::new())?,
+        "lean" => schedule(rt, sizes.blocks, &mut Lean)?,
+        "runs" => schedule(rt, sizes.blocks, &mut Runs::new())?,
+        _ => {
+            let design = read_design(rt.alloc(), CHAIN.as_bytes(), &[])?;
+            run(rt, what, design.net(), sizes)?
+        }
+    };
     Ok(println!(rt; "{made}")?)
 }

@@ -6,9 +6,9 @@ use anyhow::Result;
 use indexmap::IndexSet;
 use sdf_file::{Design, FileFault, check_text, design_files, read_design};
 use sdf_options::Options;
+use sdf_prec::Table;
 use sdf_process::planning::plan;
 use sdf_process::{Fault, Plan};
-use std::io;
 
 fn show_names(rt: &impl Print, answer: Result<IndexSet<String>, FileFault>) -> Result<()> {
     match answer {
@@ -22,37 +22,38 @@ fn show_names(rt: &impl Print, answer: Result<IndexSet<String>, FileFault>) -> R
     Ok(())
 }
 
-fn show_design<R: AllocGlobal + Print>(rt: &R, design: &Design) -> Result<()> {
-    println!(rt; "design")?;
-    let text = check_text(rt.alloc(), design)?;
-    print!(rt; "{text}")?;
-    Ok(())
-}
-
-fn show_read<R: AllocGlobal + Print>(rt: &R, answer: Result<Design, FileFault>) -> Result<()> {
+fn show_design<R: AllocGlobal + Print>(rt: &R, answer: Result<Design, FileFault>) -> Result<()> {
     match answer {
-        Ok(design) => show_design(rt, &design),
-        Err(fault) => Ok(println!(rt; "{fault}")?),
-    }
-}
-
-fn show_plan(rt: &impl Print, plan: &Plan) -> io::Result<()> {
-    let order = plan.period().order();
-    println!(rt; "order {order:?}")?;
-    if let Some(table) = plan.table() {
-        for i in 0..table.table.rows() {
-            let row = table.table.row(i);
-            println!(rt; "row {row:?}")?;
+        Ok(design) => {
+            println!(rt; "design")?;
+            let text = check_text(rt.alloc(), &design)?;
+            print!(rt; "{text}")?;
         }
+        Err(fault) => println!(rt; "{fault}")?,
     }
     Ok(())
 }
 
-fn show_planned(rt: &impl Print, answer: Result<Plan, Fault>) -> io::Result<()> {
-    match answer {
-        Ok(plan) => show_plan(rt, &plan),
-        Err(fault) => println!(rt; "{fault}"),
+fn show_table(rt: &impl Print, table: &Table) -> Result<()> {
+    for i in 0..table.rows() {
+        let row = table.row(i);
+        println!(rt; "row {row:?}")?;
     }
+    Ok(())
+}
+
+fn show_plan(rt: &impl Print, answer: Result<Plan, Fault>) -> Result<()> {
+    match answer {
+        Ok(plan) => {
+            let order = plan.period().order();
+            println!(rt; "order {order:?}")?;
+            if let Some(table) = plan.table() {
+                show_table(rt, &table.table)?;
+            }
+        }
+        Err(fault) => println!(rt; "{fault}")?,
+    }
+    Ok(())
 }
 
 /// The names of the coefficient files.
@@ -68,7 +69,7 @@ pub(crate) fn files_twice<R: AllocGlobal + Print>(rt: &R, sources: &Sources) -> 
 pub(crate) fn read_twice<R: AllocGlobal + Print>(rt: &R, sources: &Sources) -> Result<()> {
     for turn in TURNS {
         println!(rt; "{turn}")?;
-        show_read(rt, read_design(rt.alloc(), &sources.graph, &sources.beside))?;
+        show_design(rt, read_design(rt.alloc(), &sources.graph, &sources.beside))?;
     }
     Ok(())
 }
@@ -76,12 +77,13 @@ pub(crate) fn read_twice<R: AllocGlobal + Print>(rt: &R, sources: &Sources) -> R
 /// The plan of a design.
 pub(crate) fn plan_twice<R: AllocGlobal + Print>(
     rt: &R,
-    design: &Design,
+    sources: &Sources,
     options: &Options,
-) -> io::Result<()> {
+) -> Result<()> {
+    let design = read_design(rt.alloc(), &sources.graph, &sources.beside)?;
     for turn in TURNS {
         println!(rt; "{turn}")?;
-        show_planned(rt, plan(rt.alloc(), design, options))?;
+        show_plan(rt, plan(rt.alloc(), &design, options))?;
     }
     Ok(())
 }

@@ -154,28 +154,6 @@ fn disturb_on<R: AllocGlobal + Print + Sync + Threads>(
     disturb_table(rt, design.net(), table, runs, seeds)
 }
 
-/// So many runs of a design on each number of workers from 1 to 16.
-fn disturb_design<R: AllocGlobal + Print + Sync + Threads>(
-    rt: &R,
-    graph: &str,
-    design: &Design,
-    each: u32,
-    seeds: &mut SplitMix64,
-) -> Result<()> {
-    for workers in 1..17 {
-        let Counts {
-            runs,
-            same,
-            refused,
-            held,
-        } = disturb_on(rt, design, workers, each, seeds)?;
-        println!(rt;
-            "{graph} {workers}: {runs} runs, {same} same, {refused} refused, {held} turns"
-        )?;
-    }
-    Ok(())
-}
-
 /// So many runs of each design on each number of workers from 1 to 16.
 pub(crate) fn disturb<R: AllocGlobal + Files + Print + Sync + Threads>(
     rt: &R,
@@ -186,7 +164,18 @@ pub(crate) fn disturb<R: AllocGlobal + Files + Print + Sync + Threads>(
     let mut seeds = SplitMix64::seed_from_u64(seed);
     for graph in graphs {
         let design = design_at(rt, graph)?;
-        disturb_design(rt, graph, &design, runs, &mut seeds)?;
+        for workers in 1..17 {
+            let counts = disturb_on(rt, &design, workers, runs, &mut seeds)?;
+            let Counts {
+                runs,
+                same,
+                refused,
+                held,
+            } = counts;
+            println!(rt;
+                "{graph} {workers}: {runs} runs, {same} same, {refused} refused, {held} turns"
+            )?;
+        }
     }
     Ok(())
 }

@@ -70,18 +70,6 @@ pub(crate) fn open_twice<R: AllocGlobal + Print>(
     Ok(())
 }
 
-/// Feeds of a session one after another.
-fn show_fed<R: AllocGlobal + Print + Sync + Threads>(
-    rt: &R,
-    session: &mut Session<'_, Kit>,
-    feeds: [&[Vec<i32>]; 3],
-) -> io::Result<()> {
-    for inputs in feeds {
-        show_ran(rt, session.feed(rt, inputs, &NoGate))?;
-    }
-    Ok(())
-}
-
 /// The first feed of a session; then the same feed, one of no samples, and the end.
 pub(crate) fn feed_twice<R: AllocGlobal + Print + Sync + Threads>(
     rt: &R,
@@ -96,7 +84,9 @@ pub(crate) fn feed_twice<R: AllocGlobal + Print + Sync + Threads>(
     for turn in TURNS {
         let mut session = open(rt.alloc(), net, plan, table)?;
         println!(rt; "{turn}")?;
-        show_fed(rt, &mut session, [&inputs, &inputs, &none])?;
+        show_ran(rt, session.feed(rt, &inputs, &NoGate))?;
+        show_ran(rt, session.feed(rt, &inputs, &NoGate))?;
+        show_ran(rt, session.feed(rt, &none, &NoGate))?;
         show_closed(rt, session)?;
     }
     Ok(())
