@@ -1,12 +1,24 @@
 //! Files in memory.
 
 use crate::costs::COMMENTED;
-use crate::files::{FILTERED, PLAIN, SOUND};
+use crate::files::{FILTERED, PLAIN, TAPS};
 use sdf_program::storage::Storage;
 use std::alloc::Global;
 use std::cell::RefCell;
 use std::io::{self, Error, ErrorKind, Write};
 use std::path::{Path, PathBuf};
+
+/// The samples 5 and -5, 44,100 a second.
+pub(crate) const SOUND: &[u8] =
+    b"RIFF\x28\0\0\0WAVEfmt \x10\0\0\0\x01\0\x01\0\x44\xAC\0\0\x88\x58\x01\0\x02\0\x10\0data\x04\0\0\0\x05\0\xFB\xFF";
+
+/// Its header.
+pub(crate) const HEADER: &[u8] =
+    b"RIFF\x28\0\0\0WAVEfmt \x10\0\0\0\x01\0\x01\0\x44\xAC\0\0\x88\x58\x01\0\x02\0\x10\0data\x04\0\0\0";
+
+/// The samples 7 and 8, 44,100 a second.
+pub(crate) const NEW_SOUND: &[u8] =
+    b"RIFF\x28\0\0\0WAVEfmt \x10\0\0\0\x01\0\x01\0\x44\xAC\0\0\x88\x58\x01\0\x02\0\x10\0data\x04\0\0\0\x07\0\x08\0";
 
 /// Two samples stand on the link, and each actor has a processor of its own.
 const BEGUN: &str = r#"format = 1
@@ -147,8 +159,6 @@ link = [{ from = "in", to = "up" }, { from = "up", to = "top" }, { from = "top",
 /// Taps, and a key that none has.
 const ODD: &str = "format = 1\nvalues = [1]\ntap = 1\n";
 
-pub(crate) const TAPS: &str = "format = 1\nvalues = [1]\n";
-
 /// The same taps in a file that is longer than the graph file.
 pub(crate) const PADDED: &str = "format = 1
 # The taps of a filter that hands on what it takes: it has one tap, which is 1, and divides by nothing. What is said
@@ -199,7 +209,7 @@ const TEXTS: [(&str, &str); 34] = [
 /// The bytes of a file of the tests.
 fn bytes_of(path: &str) -> Option<&'static [u8]> {
     if path == "in.wav" || path == "./-" {
-        return Some(SOUND.as_slice());
+        return Some(SOUND);
     }
     for (name, text) in TEXTS {
         if path == name {
