@@ -1,11 +1,12 @@
 //! Graph files with measured costs in them: each text, the refusals, and what the program writes where.
 
-use crate::making::made;
+use crate::commands;
+use crate::commands::is_told;
 use sdf_profile::costed_text;
 use std::test::Fail;
 use std::thread::Threads;
 use std::time::Clock;
-use test_texts::{row_says, says};
+use test_texts::row_says;
 
 /// One actor has a cost, and there are comments.
 pub(crate) const COMMENTED: &str = r#"# half as loud
@@ -39,7 +40,7 @@ to = "out"
 "#;
 
 /// The same with costs.
-const MEASURED: &str = r#"# half as loud
+pub(crate) const MEASURED: &str = r#"# half as loud
 format = 1
 
 [[actor]] # what comes in
@@ -184,92 +185,22 @@ fn masked(rt: &(impl AllocGlobal), text: &str) -> Result<String, Fail> {
     Ok(masked)
 }
 
-/// The answer of a profile that is written there.
+/// What is told of a profile that is written there.
 fn profiled<T: Threads + AllocGlobal + Clock + Clone + Drop + Sync>(
     rt: &T,
-    graph: &str,
-    input: &str,
     file: &str,
 ) -> Result<String, Fail> {
-    made(rt, &["sdfw", "profile", graph, input, "--write", file])
+    let line = format!(in rt.alloc(); "profile commented.toml in.wav --write {file}")?;
+    masked(rt, commands::told(rt, &line)?.as_str())
 }
 
-/// What a profile writes into a file, or the whole answer where it begins or ends otherwise.
-fn written<T: Threads + AllocGlobal + Clock + Clone + Drop + Sync>(rt: &T) -> Result<String, Fail> {
-    let told = profiled(rt, "commented.toml", "in.wav", "made/measured.toml")?;
-    match told.as_str().split_once("\n--\n--\n") {
-        Some((lines, text)) if lines.starts_with("0\nshare in ") => masked(rt, text),
-        _ => Ok(told),
-    }
-}
-
-/// What a profile writes on standard output.
-fn printed<T: Threads + AllocGlobal + Clock + Clone + Drop + Sync>(rt: &T) -> Result<String, Fail> {
-    masked(rt, profiled(rt, "commented.toml", "in.wav", "-")?.as_str())
-}
-
-/// Refuses a program that writes another text, or prints none of the lines.
+/// Refuses a program that writes another text or prints none of the lines, and one that prints the lines beside the
+/// text or makes a file.
 #[test]
 fn profiles_are_written(rt: HostRuntime) -> Result<(), Fail> {
-    let wanted = masked(&rt, MEASURED)?;
-    says(written(&rt), wanted.as_str())
-}
-
-/// Refuses a program that prints the lines beside the text, or makes a file.
-#[test]
-fn profiles_are_printed(rt: HostRuntime) -> Result<(), Fail> {
-    let wanted = format!(in rt.alloc(); "0\n{}--\n--\n", masked(&rt, MEASURED)?.as_str())?;
-    says(printed(&rt), wanted.as_str())
-}
-
-/// What of an answer is wanted, where it begins so and nothing is written; else the whole answer.
-fn begun<T: Threads + AllocGlobal + Clock + Clone + Drop + Sync>(
-    rt: &T,
-    words: &[&str; 3],
-    wanted: &str,
-) -> Result<String, Fail> {
-    let [graph, input, file] = *words;
-    let told = profiled(rt, graph, input, file)?;
-    if told.as_str().starts_with(wanted) && told.as_str().ends_with("\n--\n") {
-        return Ok(String::from_str(rt.alloc(), wanted)?);
-    }
-    Ok(told)
-}
-
-/// The graph file, the sound and the file that is written, and how the answer begins.
-const REFUSED: &[(&[&str; 3], &str)] = &[
-    (
-        &["commented.toml", "in.wav", "commented.toml"],
-        "2\n--\nerror: FILE is the same file as GRAPH\n",
-    ),
-    (
-        &["commented.toml", "in.wav", "in.wav"],
-        "2\n--\nerror: FILE is the same file as IN\n",
-    ),
-    (
-        &["filtered.toml", "in.wav", "one.toml"],
-        "2\n--\nerror: FILE is the same file as the coefficient file one.toml\n",
-    ),
-    (
-        &["plain.toml", "in.wav", "made/measured.toml"],
-        "2\n--\nerror: GRAPH has 0 lines [[actor]] for 2 actors: costs want one for each\n",
-    ),
-    (
-        &["plain.toml", "one.toml", "made/measured.toml"],
-        "2\n--\nerror: GRAPH has 0 lines [[actor]] for 2 actors",
-    ),
-    (
-        &["commented.toml", "in.wav", "elsewhere.toml"],
-        "5\n--\nsdfw: 48 Write\n",
-    ),
-];
-
-/// Refuses a file that is read and written, lines that are printed where the file is not written, and a sound that is
-/// looked at before the graph file is.
-#[test]
-fn what_is_read_stays(rt: HostRuntime) -> Result<(), Fail> {
-    for (words, wanted) in REFUSED {
-        row_says(words[2], begun(&rt, words, wanted), wanted)?;
-    }
-    Ok(())
+    let text = masked(&rt, MEASURED)?;
+    let written = format!(in rt.alloc(); "0\nshare in …\n--\n--\n{text}")?;
+    let printed = format!(in rt.alloc(); "0\n{text}--\n--\n")?;
+    is_told("a file", profiled(&rt, "made/measured.toml"), &written)?;
+    is_told("standard output", profiled(&rt, "-"), &printed)
 }

@@ -1,18 +1,19 @@
 //! Commands over real files.
 
+use crate::commands::{Stream, is_told, status_of};
+use crate::shelf::SOUND;
 use sdf_process::fault_text;
 use sdf_program::files::{MOST_BYTES, load, read_all};
-use sdf_program::program::{World, serve};
-use sdf_program::storage::{Disk, Storage};
+use sdf_program::program::World;
+use sdf_program::storage::Disk;
 use std::alloc::Global;
-use std::io::{self, Error, ErrorKind, Read, Write};
-use std::process::Abort;
+use std::io::{self, Error, ErrorKind, Read};
 use std::rt::Files;
 use std::test::Fail;
 use std::thread::Threads;
 use std::time::Clock;
 use std::{env, fs};
-use test_texts::says;
+use test_texts::{row_says, says};
 
 /// A gain, and then a filter whose one tap stands in a file of its folder.
 pub(crate) const FILTERED: &str = r#"format = 1
@@ -25,9 +26,7 @@ pub(crate) const PLAIN: &str = r#"format = 1
 actor = [{ name = "in", kind = "input", channel = 0 }, { name = "out", kind = "output", channel = 0 }]
 link = [{ from = "in", to = "out" }]"#;
 
-/// The samples 5 and -5, 44,100 a second.
-pub(crate) const SOUND: &[u8; 48] =
-    b"RIFF\x28\0\0\0WAVEfmt \x10\0\0\0\x01\0\x01\0\x44\xAC\0\0\x88\x58\x01\0\x02\0\x10\0data\x04\0\0\0\x05\0\xFB\xFF";
+pub(crate) const TAPS: &str = "format = 1\nvalues = [1]\n";
 
 /// A folder of its own.
 pub(crate) fn folder(rt: &HostRuntime, name: &str) -> Result<String, Fail> {
@@ -40,148 +39,161 @@ pub(crate) fn folder(rt: &HostRuntime, name: &str) -> Result<String, Fail> {
     }
 }
 
-/// What the words print to `out` where this is standard input, and how they end: the exit status, and what stands on
-/// standard error.
-pub(crate) fn ends_between<
-    S: Storage,
-    T: Threads + AllocGlobal + Clock + Clone + Drop + Sync,
-    O: Write,
->(world: &World<S, T>, mut stdin: &[u8], out: &mut O, line: &[&str]) -> Result<(u8, String), Fail> {
-    let alloc = world.threads.alloc();
-    let mut given = Vec::new(alloc);
-    for word in line {
-        given.push(format!(in alloc; "{word}")?)?;
+/// Writes a file into a folder.
+pub(crate) fn put(rt: &HostRuntime, folder: &str, name: &str, bytes: &[u8]) -> Result<(), Fail> {
+    let path = format!(in rt.alloc(); "{folder}/{name}")?;
+    Ok(fs::write(rt, path.as_str(), bytes)?)
+}
+
+/// A folder of this name with the files of a run.
+pub(crate) fn with_files(rt: &HostRuntime, name: &str) -> Result<String, Fail> {
+    let folder = folder(rt, name)?;
+    put(rt, &folder, "graph.toml", FILTERED.as_bytes())?;
+    put(rt, &folder, "one.toml", TAPS.as_bytes())?;
+    put(rt, &folder, "in.wav", SOUND)?;
+    Ok(folder)
+}
+
+/// Whether a file of a folder has these bytes after a line of words.
+pub(crate) fn has_bytes(
+    rt: &(impl Files + AllocGlobal),
+    folder: &str,
+    name: &str,
+    wanted: &[u8],
+    line: &str,
+) -> Result<(), Fail> {
+    let path = format!(in rt.alloc(); "{folder}/{name}")?;
+    let bytes = fs::read(rt, path.as_str())?;
+    if bytes.as_slice() == wanted {
+        return Ok(());
     }
-    let mut err = Vec::new(alloc);
-    let status = serve(world, &mut stdin, out, &mut err, Ok(given));
-    Ok((status, String::from_utf8(err)?))
+    let bytes = bytes.as_slice();
+    Err(Fail::new(format_args!("{name} after {line}: {bytes:?}")))
 }
 
-/// The same where standard input is empty.
-pub(crate) fn ends_into<
-    S: Storage,
-    T: Threads + AllocGlobal + Clock + Clone + Drop + Sync,
-    O: Write,
->(world: &World<S, T>, out: &mut O, line: &[&str]) -> Result<(u8, String), Fail> {
-    ends_between(world, b"", out, line)
+/// Whether the files of a run are as they were put there.
+pub(crate) fn stand(rt: &(impl Files + AllocGlobal), folder: &str, line: &str) -> Result<(), Fail> {
+    has_bytes(rt, folder, "graph.toml", FILTERED.as_bytes(), line)?;
+    has_bytes(rt, folder, "one.toml", TAPS.as_bytes(), line)?;
+    has_bytes(rt, folder, "in.wav", SOUND, line)
 }
 
-/// How a command over real files ends: its exit status, and what stands on standard error.
-pub(crate) fn ends<R: Files, T: Threads + AllocGlobal + Clock + Clone + Drop + Sync>(
+/// The exit status of a line of words over real files, in which `@` is the folder, and what stands on standard error.
+pub(crate) fn told<R: Files, T: Threads + AllocGlobal + Clock + Clone + Drop + Sync>(
     rt: &R,
     threads: &T,
-    line: &[&str],
-) -> Result<(u8, String), Fail> {
+    folder: &str,
+    line: &str,
+) -> Result<String, Fail> {
+    let alloc = threads.alloc();
+    let mut paths = Vec::new(alloc);
+    for word in line.split(' ') {
+        paths.push(word.replace(alloc, "@", folder)?)?;
+    }
+    let mut words = Vec::new(alloc);
+    for path in &paths {
+        words.push(path.as_str())?;
+    }
     let world = World {
         storage: &Disk { rt },
         threads,
         most: MOST_BYTES,
     };
-    let mut out = Vec::new(threads.alloc());
-    ends_into(&world, &mut out, line)
+    let mut out = Stream {
+        refuses: None,
+        written: Vec::new(alloc),
+    };
+    let mut err = Stream {
+        refuses: None,
+        written: Vec::new(alloc),
+    };
+    let status = status_of(&world, b"", &mut out, &mut err, &words)?;
+    let err = String::from_utf8(err.written)?;
+    Ok(format!(in alloc; "{status} {err}")?)
 }
 
-/// Whether a command ends so.
-fn fails(
-    rt: &(impl Abort + Files + Threads + AllocGlobal + Clock + Clone + Drop + Sync),
-    line: &[&str],
-    code: u8,
-    text: &str,
+/// The name of a row, a line of words, and what is told of it.
+pub(crate) type Row = (&'static str, &'static str, &'static str);
+
+/// Whether that is told of each row in a folder.
+pub(crate) fn are_told(
+    rt: &(impl Files + Threads + AllocGlobal + Clock + Clone + Drop + Sync),
+    folder: &str,
+    rows: &[Row],
 ) -> Result<(), Fail> {
-    let (status, said) = ends(rt, rt, line)?;
-    assert_eq!(rt; (status, said.as_str()), (code, text), "{line:?}");
+    for (name, line, wanted) in rows {
+        is_told(name, told(rt, rt, folder, line), wanted)?;
+    }
     Ok(())
 }
+
+/// The samples 3 and -2, 44,100 a second.
+pub(crate) const HALVES: &[u8; 48] =
+    b"RIFF\x28\0\0\0WAVEfmt \x10\0\0\0\x01\0\x01\0\x44\xAC\0\0\x88\x58\x01\0\x02\0\x10\0data\x04\0\0\0\x03\0\xFE\xFF";
 
 /// A program that looks for coefficient files where it runs, and not beside GRAPH, is refused here.
 #[test]
 fn makes_out_from_in(rt: HostRuntime) -> Result<(), Fail> {
-    let alloc = rt.alloc();
-    let folder = folder(&rt, "runs")?;
-    let graph = format!(in alloc; "{folder}/graph.toml")?;
-    let taps = format!(in alloc; "{folder}/one.toml")?;
-    let input = format!(in alloc; "{folder}/in.wav")?;
-    let output = format!(in alloc; "{folder}/out.wav")?;
-    fs::write(&rt, graph.as_str(), FILTERED)?;
-    fs::write(&rt, taps.as_str(), "format = 1\nvalues = [1]\n")?;
-    fs::write(&rt, input.as_str(), SOUND.as_slice())?;
-    fs::write(
-        &rt,
-        output.as_str(),
-        "an old file that is longer than what is written over it",
-    )?;
-    let line = [
-        "sdfw",
-        "run",
-        graph.as_str(),
-        input.as_str(),
-        output.as_str(),
-    ];
-    fails(&rt, line.as_slice(), 0, "")?;
-    assert_eq!(rt; fs::read(&rt, input.as_str())?.as_slice(), SOUND.as_slice());
-    assert_eq!(rt;
-        fs::read(&rt, output.as_str())?.as_slice(),
-        b"RIFF\x28\0\0\0WAVEfmt \x10\0\0\0\x01\0\x01\0\x44\xAC\0\0\x88\x58\x01\0\x02\0\x10\0data\x04\0\0\0\x03\0\xFE\xFF".as_slice()
-    );
-    Ok(())
+    let folder = with_files(&rt, "runs")?;
+    let line = "run @/graph.toml @/in.wav @/out.wav";
+    let old = b"an old file that is longer than what is written over it";
+    put(&rt, &folder, "out.wav", old)?;
+    says(told(&rt, &rt, &folder, line), "0 ")?;
+    has_bytes(&rt, &folder, "in.wav", SOUND, line)?;
+    has_bytes(&rt, &folder, "out.wav", HALVES, line)
 }
 
-/// A program that blames an OUT that can't be made on the reader is refused here.
+const LACKING: &[Row] = &[
+    (
+        "a design that is not there",
+        "check /nonexistent/graph.toml",
+        "5 sdfw: 47 Read\n",
+    ),
+    ("a folder", "check @", "5 sdfw: 47 Read\n"),
+    (
+        "a coefficient file that is not there",
+        "run @/graph.toml @/in.wav @/old.wav",
+        "3 sdfw: 58 NoFile file one.toml\n",
+    ),
+    (
+        "a sound that is not there",
+        "run @/plain.toml /nonexistent/in.wav @/old.wav",
+        "5 sdfw: 47 Read\n",
+    ),
+    (
+        "a file that can't be made, for a program that blames it on the reader",
+        "run @/plain.toml @/in.wav /nonexistent/out.wav",
+        "5 sdfw: 48 Write\n",
+    ),
+];
+
 #[test]
 fn files_that_are_not_there(rt: HostRuntime) -> Result<(), Fail> {
-    let alloc = rt.alloc();
     let folder = folder(&rt, "lacks")?;
-    let graph = format!(in alloc; "{folder}/graph.toml")?;
-    let plain = format!(in alloc; "{folder}/plain.toml")?;
-    let input = format!(in alloc; "{folder}/in.wav")?;
-    let old = format!(in alloc; "{folder}/old.wav")?;
-    fs::write(&rt, graph.as_str(), FILTERED)?;
-    fs::write(&rt, plain.as_str(), PLAIN)?;
-    fs::write(&rt, input.as_str(), SOUND.as_slice())?;
-    fs::write(&rt, old.as_str(), "old")?;
-    fails(
-        &rt,
-        &["sdfw", "check", "/nonexistent/graph.toml"],
-        5,
-        "sdfw: 47 Read\n",
-    )?;
-    fails(
-        &rt,
-        &["sdfw", "check", folder.as_str()],
-        5,
-        "sdfw: 47 Read\n",
-    )?;
-    fails(
-        &rt,
-        &["sdfw", "run", graph.as_str(), input.as_str(), old.as_str()],
-        3,
-        "sdfw: 58 NoFile file one.toml\n",
-    )?;
-    fails(
-        &rt,
-        &[
-            "sdfw",
-            "run",
-            plain.as_str(),
-            "/nonexistent/in.wav",
-            old.as_str(),
-        ],
-        5,
-        "sdfw: 47 Read\n",
-    )?;
-    assert_eq!(rt; fs::read(&rt, old.as_str())?.as_slice(), b"old".as_slice());
-    fails(
-        &rt,
-        &[
-            "sdfw",
-            "run",
-            plain.as_str(),
-            input.as_str(),
-            "/nonexistent/out.wav",
-        ],
-        5,
-        "sdfw: 48 Write\n",
-    )
+    put(&rt, &folder, "graph.toml", FILTERED.as_bytes())?;
+    put(&rt, &folder, "plain.toml", PLAIN.as_bytes())?;
+    put(&rt, &folder, "in.wav", SOUND)?;
+    put(&rt, &folder, "old.wav", b"old")?;
+    are_told(&rt, &folder, LACKING)?;
+    has_bytes(&rt, &folder, "old.wav", b"old", "all")
+}
+
+/// A design in a folder that is not there, and in one that is.
+const MADE: &[Row] = &[
+    ("a converter", "resample 8000 8000 @", "0 "),
+    ("its design", "check @/graph.toml", "0 "),
+];
+
+/// Refuses a folder that is not made, one that is made and has no design, and one that is there and is made again.
+#[test]
+fn folders_are_made(rt: HostRuntime) -> Result<(), Fail> {
+    let above = folder(&rt, "making")?;
+    let path = format!(in rt.alloc(); "{}/new", above.as_str())?;
+    let _ = fs::remove_dir_all(&rt, path.as_str());
+    are_told(&rt, &path, MADE)?;
+    fs::remove_dir_all(&rt, path.as_str())?;
+    fs::create_dir(&rt, path.as_str())?;
+    are_told(&rt, &path, MADE)
 }
 
 /// A file that gives so many bytes, and past them wants memory.
@@ -202,45 +214,51 @@ impl Read for Long {
     }
 }
 
-/// What comes of a file that has a byte more than may be read, and is asked for no more.
-fn long_told(alloc: Global) -> Result<String, Fail> {
-    match read_all(alloc, Long { left: 8 }, 7) {
-        Ok(bytes) => Ok(format!(in alloc; "{}", bytes.len())?),
+/// What comes of a file of which so many bytes may be read at most.
+fn read_told<F: Read + Drop>(alloc: Global, file: F, most: u32) -> Result<String, Fail> {
+    match read_all(alloc, file, most) {
+        Ok(bytes) => Ok(String::from_utf8(bytes)?),
         Err(fault) => Ok(fault_text(alloc, &fault)?),
     }
 }
 
-/// Refuses a file that is read past its limit before it is refused: it may have no end.
-#[test]
-fn files_are_read_to_their_limit(rt: HostRuntime) -> Result<(), Fail> {
-    says(long_told(rt.alloc()), "sdfw: 47 Read\n")
+/// What comes of a file of a folder that is loaded.
+fn loaded(rt: &HostRuntime, path: &str, most: u32) -> Result<String, Fail> {
+    match load(rt.alloc(), &Disk { rt }, path, most) {
+        Ok(_) => Ok(String::from_str(rt.alloc(), "loaded")?),
+        Err(fault) => Ok(fault_text(rt.alloc(), &fault)?),
+    }
 }
 
-/// A program that cuts a longer file is refused here.
+/// How many bytes may be read of `samples`, and what comes of that. Refuses a program that cuts a longer file.
+const LIMITS: &[(u32, &str)] = &[
+    (0, "sdfw: 47 Read\n"),
+    (6, "sdfw: 47 Read\n"),
+    (7, "samples"),
+    (8, "samples"),
+];
+
+/// Refuses a file that is read past its limit before it is refused: it may have no end, and is asked for no more than a
+/// byte past the limit.
 #[test]
-fn long_files_are_refused(rt: HostRuntime) -> Result<(), Fail> {
+fn files_are_read_to_their_limit(rt: HostRuntime) -> Result<(), Fail> {
     let alloc = rt.alloc();
-    for (most, fits) in [(0, false), (6, false), (7, true), (8, true)] {
-        match read_all(alloc, b"samples".as_slice(), most) {
-            Ok(bytes) => {
-                assert!(rt; fits, "{most}");
-                assert_eq!(rt; bytes.as_slice(), b"samples".as_slice());
-            }
-            Err(fault) => {
-                assert!(rt; !fits, "{most}");
-                assert_eq!(rt; fault_text(alloc, &fault)?.as_str(), "sdfw: 47 Read\n");
-            }
-        }
+    row_says(
+        "a long one",
+        read_told(alloc, Long { left: 8 }, 7),
+        "sdfw: 47 Read\n",
+    )?;
+    for (most, wanted) in LIMITS {
+        says(read_told(alloc, b"samples".as_slice(), *most), wanted)?;
     }
     let folder = folder(&rt, "long")?;
-    let graph = format!(in alloc; "{folder}/graph.toml")?;
-    fs::write(&rt, graph.as_str(), PLAIN)?;
-    let disk = Disk { rt: &rt };
+    put(&rt, &folder, "graph.toml", PLAIN.as_bytes())?;
+    let path = format!(in alloc; "{folder}/graph.toml")?;
     let len = u32::try_from(PLAIN.len()).unwrap_or(0);
-    assert!(rt; load(alloc, &disk, graph.as_str(), len).is_ok());
-    match load(alloc, &disk, graph.as_str(), len.saturating_sub(1)) {
-        Ok(_) => assert!(rt; false),
-        Err(fault) => assert_eq!(rt; fault_text(alloc, &fault)?.as_str(), "sdfw: 47 Read\n"),
-    }
-    Ok(())
+    row_says("a graph file", loaded(&rt, &path, len), "loaded")?;
+    row_says(
+        "a longer one",
+        loaded(&rt, &path, len.saturating_sub(1)),
+        "sdfw: 47 Read\n",
+    )
 }

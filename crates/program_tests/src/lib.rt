@@ -3,22 +3,22 @@
 //!
 //! It stands on `sdf_program`, on `sdf_profile` for the text with costs, on `sdf_process` for the faults, on
 //! `sdf_options` for why words are not read, and on `test_texts`. It has no functions: tests stand in a crate of their
-//! own, since the functions of a crate are proved once more with its tests. Begin at `files`, which has the calls that
-//! all tests make, and `shelf`, the files in memory.
+//! own, since the functions of a crate are proved once more with its tests. Begin at `commands`, which has the call
+//! that most tests make, and `shelf`, the files in memory.
 #![tactic(auto)]
 
 #[cfg(test)]
-mod asked;
+mod answers;
 #[cfg(test)]
-mod beside;
+mod commands;
 #[cfg(test)]
 mod costs;
 #[cfg(test)]
+mod faults;
+#[cfg(test)]
 mod files;
 #[cfg(test)]
-mod first;
-#[cfg(test)]
-mod making;
+mod filters;
 #[cfg(test)]
 mod overwriting;
 #[cfg(test)]
@@ -28,14 +28,6 @@ mod refused;
 #[cfg(test)]
 mod shelf;
 #[cfg(test)]
-mod standard;
-#[cfg(test)]
 mod streams;
 #[cfg(test)]
 mod timed;
-#[cfg(test)]
-mod untold;
-#[cfg(test)]
-mod views;
-#[cfg(test)]
-mod why;

@@ -1,92 +1,126 @@
 //! Runs that are asked for in parallel, over files in memory.
 
-use crate::files::SOUND;
-use crate::shelf::ended;
-use std::alloc::Global;
+use crate::commands::{Row, are_told, told};
 use std::test::Fail;
 use std::thread::{Threads, available_parallelism};
 use std::time::Clock;
-use test_texts::{row_says, says};
+use test_texts::says;
 
-/// How a run of a design over in.wav ends with these options: its exit status, what stands on standard error, and
-/// whether the file that is written is `SOUND`.
-fn told<T: Threads + AllocGlobal + Clock + Clone + Drop + Sync>(
-    rt: &T,
-    graph: &str,
-    options: &[&str],
-) -> Result<String, Fail> {
-    let alloc = rt.alloc();
-    let mut line = Vec::new(alloc);
-    line.extend_from_slice(["sdfw", "run", graph, "in.wav", "out.wav"].as_slice())?;
-    line.extend_from_slice(options)?;
-    let ended = ended(rt, b"", line.as_slice())?;
-    let same = ended.written.as_slice() == SOUND.as_slice();
-    let (status, err) = (ended.status, ended.err.as_str());
-    Ok(format!(in alloc; "{status} {err}{same}")?)
-}
-
-/// A design, options, and how its run ends.
-type Row = (&'static str, &'static [&'static str], &'static str);
-
-/// A frame of the two heavy branches weighs 8,641, so much that it is work for two workers and not for three: 4,288 of
-/// it the input, the fork and the first branch, which go to one worker.
-const RUNS: &[Row] = &[
-    ("heavy.toml", &["--parallel", "2"], "0 true"),
+/// A parallel run writes what one thread writes. A frame of the two heavy branches weighs 8,641, so much that it is
+/// work for two workers and not for three: 4,288 of it the input, the fork and the first branch, which go to one
+/// worker.
+const PARALLEL: &[Row] = &[
     (
-        "heavy.toml",
-        &["--parallel", "2", "--why"],
-        "0 2 workers, blocks of 16 samples, at most 1.9 times\ntrue",
+        "heavy parallel 2",
+        "run heavy.toml in.wav out.wav --parallel 2",
+        "0\n--\n--\n<5 -5>",
     ),
     (
-        "heavy.toml",
-        &["--parallel", "16", "--why"],
-        "0 2 workers, blocks of 16 samples, at most 1.9 times\ntrue",
+        "heavy parallel 2 why",
+        "run heavy.toml in.wav out.wav --parallel 2 --why",
+        "0\n--\n2 workers, blocks of 16 samples, at most 1.9 times\n--\n<5 -5>",
     ),
     (
-        "wider.toml",
-        &["--parallel", "16", "--why"],
-        "0 3 workers, blocks of 16 samples, at most 2.9 times\ntrue",
+        "heavy parallel 16 why",
+        "run heavy.toml in.wav out.wav --parallel 16 --why",
+        "0\n--\n2 workers, blocks of 16 samples, at most 1.9 times\n--\n<5 -5>",
     ),
     (
-        "sixty.toml",
-        &["--parallel", "2", "--why"],
-        "0 2 workers, blocks of 16 samples, at most 1.2 times\ntrue",
+        "wider parallel 16 why",
+        "run wider.toml in.wav out.wav --parallel 16 --why",
+        "0\n--\n3 workers, blocks of 16 samples, at most 2.9 times\n--\n<5 -5>",
     ),
     (
-        "hundred.toml",
-        &["--parallel", "2", "--why"],
-        "0 one thread: workers could be at most 1.1 times as fast\ntrue",
+        "sixty parallel 2 why",
+        "run sixty.toml in.wav out.wav --parallel 2 --why",
+        "0\n--\n2 workers, blocks of 16 samples, at most 1.2 times\n--\n<5 -5>",
     ),
     (
-        "heavy.toml",
-        &["--parallel", "1", "--why"],
-        "0 one thread: one worker is asked for\ntrue",
+        "hundred parallel 2 why",
+        "run hundred.toml in.wav out.wav --parallel 2 --why",
+        "0\n--\none thread: workers could be at most 1.1 times as fast\n--\n<5 -5>",
     ),
     (
-        "branches.toml",
-        &["--parallel", "2", "--why"],
-        "0 one thread: a frame weighs 386, too little for two workers\ntrue",
+        "heavy parallel 1 why",
+        "run heavy.toml in.wav out.wav --parallel 1 --why",
+        "0\n--\none thread: one worker is asked for\n--\n<5 -5>",
     ),
     (
-        "line.toml",
-        &["--parallel", "4", "--why"],
-        "0 one thread: workers could be at most 1.0 times as fast\ntrue",
+        "branches parallel 2 why",
+        "run branches.toml in.wav out.wav --parallel 2 --why",
+        "0\n--\none thread: a frame weighs 386, too little for two workers\n--\n<5 -5>",
     ),
-    ("plain.toml", &["--parallel"], "0 true"),
     (
-        "stuck.toml",
-        &["--parallel", "4"],
-        "3 sdfw: 10 Deadlock\nin 1 of 1\nadd 0 of 1 short link 3\nfork 0 of 1 short link 1\nout 0 of 1 short link 2\nfalse",
+        "line parallel 4 why",
+        "run line.toml in.wav out.wav --parallel 4 --why",
+        "0\n--\none thread: workers could be at most 1.0 times as fast\n--\n<5 -5>",
+    ),
+    (
+        "plain parallel",
+        "run plain.toml in.wav out.wav --parallel",
+        "0\n--\n--\n<5 -5>",
+    ),
+    (
+        "stuck parallel 4",
+        "run stuck.toml in.wav out.wav --parallel 4",
+        "3\n--\nsdfw: 10 Deadlock\nin 1 of 1\nadd 0 of 1 short link 3\nfork 0 of 1 short link 1\nout 0 of 1 short \
+         link 2\n--\n",
     ),
 ];
 
-#[test]
-fn parallel_runs_write_what_one_thread_writes(rt: HostRuntime) -> Result<(), Fail> {
-    for (graph, options, wanted) in RUNS {
-        row_says(graph, told(&rt, graph, options), wanted)?;
-    }
-    Ok(())
-}
+/// Options that can't stand beside it, with words that they have, and numbers of workers that there can't be.
+const REFUSED: &[Row] = &[
+    (
+        "runner beside it",
+        "run plain.toml in.wav out.wav --parallel 2 --runner rings",
+        "2\n--\nerror: …",
+    ),
+    (
+        "workers beside it",
+        "run plain.toml in.wav out.wav --parallel 2 --workers 2",
+        "2\n--\nerror: …",
+    ),
+    (
+        "placement beside it",
+        "run plain.toml in.wav out.wav --parallel 2 --placement spread",
+        "2\n--\nerror: …",
+    ),
+    (
+        "blocking beside it",
+        "run plain.toml in.wav out.wav --parallel 2 --blocking 1",
+        "2\n--\nerror: …",
+    ),
+    (
+        "policy beside it",
+        "run plain.toml in.wav out.wav --parallel 2 --policy runs",
+        "2\n--\nerror: …",
+    ),
+    (
+        "patience beside it",
+        "run plain.toml in.wav out.wav --parallel 2 --patience 1000",
+        "2\n--\nerror: …",
+    ),
+    (
+        "parallel beside it",
+        "run plain.toml in.wav out.wav --parallel 2 --parallel 3",
+        "2\n--\nerror: …",
+    ),
+    (
+        "0 workers",
+        "run plain.toml in.wav out.wav --parallel 0",
+        "2\n--\nerror: …",
+    ),
+    (
+        "17 workers",
+        "run plain.toml in.wav out.wav --parallel 17",
+        "2\n--\nerror: …",
+    ),
+    (
+        "x workers",
+        "run plain.toml in.wav out.wav --parallel x",
+        "2\n--\nerror: …",
+    ),
+];
 
 /// How a run ends that is asked for by as many workers as there are processors, by their number.
 fn by_number<T: Threads + AllocGlobal + Clock + Clone + Drop + Sync>(
@@ -96,57 +130,18 @@ fn by_number<T: Threads + AllocGlobal + Clock + Clone + Drop + Sync>(
         Ok(processors) => processors.get().min(16),
         Err(_) => 4,
     };
-    let word = format!(in rt.alloc(); "{workers}")?;
-    told(rt, "steep.toml", &["--parallel", word.as_str(), "--why"])
+    let line = format!(in rt.alloc(); "run steep.toml in.wav out.wav --parallel {workers} --why")?;
+    told(rt, &line)
 }
 
 /// Refuses another number of workers where none is given, of which sixteen have enough work.
 #[test]
-fn as_many_as_there_are_processors(rt: HostRuntime) -> Result<(), Fail> {
+fn runs_in_parallel(rt: HostRuntime) -> Result<(), Fail> {
+    are_told(&rt, PARALLEL)?;
+    are_told(&rt, REFUSED)?;
     let wanted = by_number(&rt)?;
     says(
-        told(&rt, "steep.toml", &["--parallel", "--why"]),
+        told(&rt, "run steep.toml in.wav out.wav --parallel --why"),
         wanted.as_str(),
     )
-}
-
-/// The exit status of a run that is asked for in two ways.
-fn beside<T: Threads + AllocGlobal + Clock + Clone + Drop + Sync>(
-    rt: &T,
-    alloc: Global,
-    option: &str,
-    word: &str,
-) -> Result<String, Fail> {
-    let said = told(rt, "plain.toml", &["--parallel", "2", option, word])?;
-    let begins = said.as_str().starts_with("2 error: ");
-    Ok(format!(in alloc; "{begins}")?)
-}
-
-/// Options that can't stand beside it, with words that they have.
-const BESIDE: &[(&str, &str)] = &[
-    ("--runner", "rings"),
-    ("--workers", "2"),
-    ("--placement", "spread"),
-    ("--blocking", "1"),
-    ("--policy", "runs"),
-    ("--patience", "1000"),
-];
-
-#[test]
-fn other_options_are_refused_beside_it(rt: HostRuntime) -> Result<(), Fail> {
-    for (option, word) in BESIDE {
-        row_says(option, beside(&rt, rt.alloc(), option, word), "true")?;
-    }
-    says(beside(&rt, rt.alloc(), "--parallel", "3"), "true")
-}
-
-/// Numbers of workers that there can't be.
-#[test]
-fn workers_are_within_their_limits(rt: HostRuntime) -> Result<(), Fail> {
-    for word in ["0", "17", "x"] {
-        let said = told(&rt, "plain.toml", &["--parallel", word])?;
-        let begins = said.as_str().starts_with("2 error: ");
-        row_says(word, Ok(format!(in rt.alloc(); "{begins}")?), "true")?;
-    }
-    Ok(())
 }

@@ -1,17 +1,24 @@
 //! Files in memory.
 
 use crate::costs::COMMENTED;
-use crate::files::{FILTERED, PLAIN, SOUND, ends_between};
-use sdf_program::files::MOST_BYTES;
-use sdf_program::program::World;
+use crate::files::{FILTERED, PLAIN, TAPS};
 use sdf_program::storage::Storage;
 use std::alloc::Global;
 use std::cell::RefCell;
 use std::io::{self, Error, ErrorKind, Write};
 use std::path::{Path, PathBuf};
-use std::test::Fail;
-use std::thread::Threads;
-use std::time::Clock;
+
+/// The samples 5 and -5, 44,100 a second.
+pub(crate) const SOUND: &[u8] =
+    b"RIFF\x28\0\0\0WAVEfmt \x10\0\0\0\x01\0\x01\0\x44\xAC\0\0\x88\x58\x01\0\x02\0\x10\0data\x04\0\0\0\x05\0\xFB\xFF";
+
+/// Its header.
+pub(crate) const HEADER: &[u8] =
+    b"RIFF\x28\0\0\0WAVEfmt \x10\0\0\0\x01\0\x01\0\x44\xAC\0\0\x88\x58\x01\0\x02\0\x10\0data\x04\0\0\0";
+
+/// The samples 7 and 8, 44,100 a second.
+pub(crate) const NEW_SOUND: &[u8] =
+    b"RIFF\x28\0\0\0WAVEfmt \x10\0\0\0\x01\0\x01\0\x44\xAC\0\0\x88\x58\x01\0\x02\0\x10\0data\x04\0\0\0\x07\0\x08\0";
 
 /// Two samples stand on the link, and each actor has a processor of its own.
 const BEGUN: &str = r#"format = 1
@@ -152,8 +159,6 @@ link = [{ from = "in", to = "up" }, { from = "up", to = "top" }, { from = "top",
 /// Taps, and a key that none has.
 const ODD: &str = "format = 1\nvalues = [1]\ntap = 1\n";
 
-pub(crate) const TAPS: &str = "format = 1\nvalues = [1]\n";
-
 /// The same taps in a file that is longer than the graph file.
 pub(crate) const PADDED: &str = "format = 1
 # The taps of a filter that hands on what it takes: it has one tap, which is 1, and divides by nothing. What is said
@@ -204,7 +209,7 @@ const TEXTS: [(&str, &str); 34] = [
 /// The bytes of a file of the tests.
 fn bytes_of(path: &str) -> Option<&'static [u8]> {
     if path == "in.wav" || path == "./-" {
-        return Some(SOUND.as_slice());
+        return Some(SOUND);
     }
     for (name, text) in TEXTS {
         if path == name {
@@ -278,46 +283,4 @@ impl<'a> Storage for Shelf<'a> {
         };
         Ok(Path::new(plain).to_path_buf(alloc)?)
     }
-}
-
-/// How a command over these files ends: its exit status, what stands on the two streams, and what was written.
-#[derive(Drop)]
-pub(crate) struct End {
-    pub(crate) status: u8,
-    pub(crate) out: Vec<u8>,
-    pub(crate) err: String,
-    pub(crate) written: Vec<u8>,
-}
-
-/// How a command ends that reads no file of more bytes than these, where this is standard input.
-pub(crate) fn ended_within<T: Threads + AllocGlobal + Clock + Clone + Drop + Sync>(
-    threads: &T,
-    most: u32,
-    stdin: &[u8],
-    line: &[&str],
-) -> Result<End, Fail> {
-    let alloc = threads.alloc();
-    let written = RefCell::new(Vec::new(alloc));
-    let world = World {
-        storage: &Shelf { written: &written },
-        threads,
-        most,
-    };
-    let mut out = Vec::new(alloc);
-    let (status, err) = ends_between(&world, stdin, &mut out, line)?;
-    Ok(End {
-        status,
-        out,
-        err,
-        written: written.into_inner(),
-    })
-}
-
-/// How it ends where files are as long as they may be.
-pub(crate) fn ended<T: Threads + AllocGlobal + Clock + Clone + Drop + Sync>(
-    threads: &T,
-    stdin: &[u8],
-    line: &[&str],
-) -> Result<End, Fail> {
-    ended_within(threads, MOST_BYTES, stdin, line)
 }

@@ -1,273 +1,276 @@
-//! What the program prints, on which stream, and its exit status, over files in memory.
+//! Standard input and output, streams that are closed, and files of any length, over files in memory.
 
-use crate::files::FILTERED;
-use crate::shelf::{PADDED, TAPS, ended_within};
+use crate::commands::{Around, OPEN, is_told, told_around};
+use crate::files::{FILTERED, TAPS};
+use crate::shelf::{PADDED, SOUND, Shelf};
+use sdf_options::WordFault;
 use sdf_program::files::MOST_BYTES;
-use std::process::Abort;
+use sdf_program::program::{World, serve};
+use std::cell::RefCell;
+use std::io::ErrorKind;
 use std::test::Fail;
 use std::thread::Threads;
 use std::time::Clock;
 
-/// The table of kinds of `docs/FORMATS.md`, and the keys that every actor may have.
-const KINDS: &str = "input: channel 0..7, block 1..1024 (1)
-output: channel 0..7, block 1..1024 (1)
-fir: up 1..64 (1), down 1..64 (1), shift 0..15, taps or file: 1..1024 values of -32768..32767
-decimate: factor 1..64
-interpolate: factor 1..64
-add: ways 2..16
-fork: ways 2..16
-gain: gain -32768..32767, shift 0..15
-delay: length 0..65536
-table: offset of 32 bits, values or file: 1..65536 values of 32 bits
-deal, format 2: ways 2..16, run 1..64 (1)
-gather, format 2: ways 2..16, run 1..64 (1)
-clip, format 2: least -32768..32767 (-32768), greatest least..32767 (32767)
-offset, format 2: value -32768..32767
-every kind: processor 0..15 or absent, cost 1..1000000 (1)
-";
+/// The name of a row, what stands around a command, the words behind the program's name, and what is told.
+type Row = (&'static str, Around, &'static str, &'static str);
 
-/// The schedules of `begun.toml` for one worker. There is none with `in` on processor 1, and all others are alike: the
-/// tables don't go by the policy, and `in` comes first, as the lower of two actors of one level.
-const COMPARED: &str = "policy placement workers     makespan  speedup    rows        samples
-round  hu              1           *2    *1.00      *2             *3
-round  homed           1           *2    *1.00      *2             *3
-round  file            1      refused 19
-lean   hu              1           *2    *1.00      *2             *3
-lean   homed           1           *2    *1.00      *2             *3
-lean   file            1      refused 19
-runs   hu              1           *2    *1.00      *2             *3
-runs   homed           1           *2    *1.00      *2             *3
-runs   file            1      refused 19
-";
+/// A sound on standard input.
+const HEARD: Around = Around {
+    stdin: SOUND,
+    ..OPEN
+};
 
-/// Whether a command over these files ends so: its exit status, what stands on the two streams, and in the file that is
-/// written.
-fn ends_with<T: Abort + Threads + AllocGlobal + Clock + Clone + Drop + Sync>(
+/// The same with its last byte missing.
+const CUT: Around = Around {
+    stdin: b"RIFF\x28\0\0\0WAVEfmt \x10\0\0\0\x01\0\x01\0\x44\xAC\0\0\x88\x58\x01\0\x02\0\x10\0data\x04\0\0\0\x05\0\xFB",
+    ..OPEN
+};
+
+/// Standard output is closed.
+const MUTE: Around = Around {
+    output: Some(ErrorKind::BrokenPipe),
+    ..OPEN
+};
+
+/// Standard output wants memory.
+const POOR: Around = Around {
+    output: Some(ErrorKind::OutOfMemory),
+    ..OPEN
+};
+
+/// Standard error is closed.
+const UNTOLD: Around = Around {
+    error: Some(ErrorKind::BrokenPipe),
+    ..OPEN
+};
+
+const UNWRITTEN: &str = "5\n--\nsdfw: 48 Write\n--\n";
+
+const NO_MEMORY: &str = "6\n--\nsdfw: 1 OutOfMemory\n--\n";
+
+/// The bytes of a sound are on standard output and nowhere else, and those of a file in the file alone. The file `-` is
+/// not looked at, and `./-` is one. What a fault left stands on standard output, and its line does not. An answer that
+/// is refused is a fault, and a fault that can't be told has its status none the less.
+const ROWS: &[Row] = &[
+    (
+        "from stream to stream",
+        HEARD,
+        "run plain.toml - -",
+        "0\n<5 -5>--\n--\n",
+    ),
+    (
+        "the same over rings",
+        HEARD,
+        "run plain.toml - - --runner rings",
+        "0\n<5 -5>--\n--\n",
+    ),
+    (
+        "from a stream to a file",
+        HEARD,
+        "run plain.toml - out.wav",
+        "0\n--\n--\n<5 -5>",
+    ),
+    (
+        "from a file to a stream",
+        OPEN,
+        "run plain.toml in.wav -",
+        "0\n<5 -5>--\n--\n",
+    ),
+    (
+        "from a file that is no stream",
+        OPEN,
+        "run plain.toml ./- out.wav",
+        "0\n--\n--\n<5 -5>",
+    ),
+    (
+        "to a file that is no stream",
+        HEARD,
+        "run plain.toml - ./-",
+        UNWRITTEN,
+    ),
+    (
+        "nothing to read",
+        OPEN,
+        "run plain.toml - -",
+        "4\n--\nsdfw: 43 Truncated\n--\n",
+    ),
+    (
+        "a byte too few",
+        CUT,
+        "run plain.toml - -",
+        "4\n<5 -5 to come>--\nsdfw: 43 Truncated\n--\n",
+    ),
+    (
+        "a profile, for one that reads the file `-`",
+        HEARD,
+        "profile plain.toml -",
+        "0\nshare in …--\n--\n",
+    ),
+    (
+        "a check that is not printed",
+        MUTE,
+        "check plain.toml",
+        UNWRITTEN,
+    ),
+    (
+        "a schedule that is not printed",
+        MUTE,
+        "schedule plain.toml",
+        UNWRITTEN,
+    ),
+    ("kinds that are not printed", MUTE, "kinds", UNWRITTEN),
+    (
+        "an explanation that is not printed",
+        MUTE,
+        "explain 5",
+        UNWRITTEN,
+    ),
+    ("help that is not printed", MUTE, "--help", UNWRITTEN),
+    (
+        "help of a command that is not printed",
+        MUTE,
+        "run --help",
+        UNWRITTEN,
+    ),
+    (
+        "a version that is not printed",
+        MUTE,
+        "--version",
+        UNWRITTEN,
+    ),
+    (
+        "a check without memory",
+        POOR,
+        "check plain.toml",
+        NO_MEMORY,
+    ),
+    (
+        "a schedule without memory",
+        POOR,
+        "schedule plain.toml",
+        NO_MEMORY,
+    ),
+    ("kinds without memory", POOR, "kinds", NO_MEMORY),
+    (
+        "an explanation without memory",
+        POOR,
+        "explain 5",
+        NO_MEMORY,
+    ),
+    ("help without memory", POOR, "--help", NO_MEMORY),
+    (
+        "help of a command without memory",
+        POOR,
+        "run --help",
+        NO_MEMORY,
+    ),
+    ("a version without memory", POOR, "--version", NO_MEMORY),
+    (
+        "a filter that is not printed",
+        MUTE,
+        "fir lowpass --rate 8000 --pass 1000 --stop 3000",
+        "5\n--\n… dB down\nsdfw: 48 Write\n--\n",
+    ),
+    (
+        "a filter whose taps can't be told of",
+        UNTOLD,
+        "fir lowpass --rate 8000 --pass 1000 --stop 3000",
+        "5\n--\n--\n",
+    ),
+    (
+        "a converter whose taps can't be told of",
+        UNTOLD,
+        "resample 8000 16000 made --attenuation 40",
+        "5\n--\n--\n# fir up 2 …",
+    ),
+    (
+        "a run in parallel that can't tell how it goes",
+        UNTOLD,
+        "run plain.toml in.wav out.wav --parallel 2 --why",
+        "0\n--\n--\n<5 -5>",
+    ),
+    (
+        "a mistake that can't be told of, for a program that takes each for help",
+        UNTOLD,
+        "play",
+        "2\n--\n--\n",
+    ),
+    ("another such mistake", UNTOLD, "check", "2\n--\n--\n"),
+];
+
+#[test]
+fn what_stands_on_which_stream(rt: HostRuntime) -> Result<(), Fail> {
+    for (name, around, line, wanted) in ROWS {
+        is_told(name, told_around(&rt, around, line), wanted)?;
+    }
+    Ok(())
+}
+
+/// What a check tells of a design with its coefficient file.
+const CHECKED: &str =
+    "0\nactors 4\nlinks 3\nperiod 4\nq in 1\nq half 1\nq same 1\nq out 1\ninput 1 output 1\n--\n--\n";
+
+/// The longest file that a line of words reads, and what is told where that is as long as the limit. Refuses a program
+/// that cuts longer ones or looks for coefficient files where it runs, and a profile that reads a sound whole whatever
+/// its length is.
+const LIMITS: &[(&str, &str, &str)] = &[
+    (FILTERED, "check filtered.toml", CHECKED),
+    (PADDED, "check padded/filtered.toml", CHECKED),
+    (
+        FILTERED,
+        "profile plain.toml filtered.toml",
+        "4\n--\nsdfw: 34 NotRiff\n--\n",
+    ),
+];
+
+/// Whether that is told, and where the limit is a byte less the file is not read.
+fn fits<T: Threads + AllocGlobal + Clock + Clone + Drop + Sync>(
     rt: &T,
-    most: u32,
-    line: &[&str],
-    wanted: (u8, &str, &str, &[u8]),
+    longest: &str,
+    line: &str,
+    wanted: &str,
 ) -> Result<(), Fail> {
-    let ended = ended_within(rt, most, b"", line)?;
-    let out = String::from_utf8(ended.out)?;
-    assert_eq!(rt;
-        (ended.status, out.as_str(), ended.err.as_str()),
-        (wanted.0, wanted.1, wanted.2),
-        "{line:?}"
-    );
-    assert_eq!(rt; ended.written.as_slice(), wanted.3, "{line:?}");
-    Ok(())
+    let most = u32::try_from(longest.len()).unwrap_or(0);
+    let within = Around { most, ..OPEN };
+    let beyond = Around {
+        most: most.saturating_sub(1),
+        ..OPEN
+    };
+    is_told(line, told_around(rt, &within, line), wanted)?;
+    is_told(
+        line,
+        told_around(rt, &beyond, line),
+        "5\n--\nsdfw: 47 Read\n--\n",
+    )
 }
 
-/// The sound 7, 8, 44,100 a second.
-const BEFORE: &[u8; 48] =
-    b"RIFF\x28\0\0\0WAVEfmt \x10\0\0\0\x01\0\x01\0\x44\xAC\0\0\x88\x58\x01\0\x02\0\x10\0data\x04\0\0\0\x07\0\x08\0";
-
-/// A program that schedules by the default options, or that takes help for a fault, is refused here.
-#[test]
-fn answers_stand_on_standard_output(rt: HostRuntime) -> Result<(), Fail> {
-    for (line, text) in [
-        (
-            ["sdfw", "check", "plain.toml"].as_slice(),
-            "actors 2\nlinks 1\nperiod 2\nq in 1\nq out 1\ninput 1 output 1\n",
-        ),
-        (
-            &[
-                "sdfw",
-                "schedule",
-                "begun.toml",
-                "--blocking",
-                "3",
-                "--workers",
-                "2",
-                "--policy",
-                "lean",
-                "--placement",
-                "file",
-            ],
-            "period 2\nq in 1\nq out 1\norder out in\nblocking 3\nworkers 2\nrows 6\n\
-             row out.0 -\nrow - in.0\nrow out.1 -\nrow - in.1\nrow out.2 -\nrow - in.2\ncapacity in:0 out:0 2\n",
-        ),
-        (
-            &["sdfw", "analyze", "begun.toml", "--workers", "2"],
-            "makespan 1\nwork 2\nspan 1\nbound 1\nspeedup 2.00 of 2\nworker 0 100 %\nworker 1 100 %\n\
-             samples held 3, 12 bytes\ncapacity in:0 out:0 3, 12 bytes\n",
-        ),
-        (&["sdfw", "analyze", "begun.toml", "--compare"], COMPARED),
-        (
-            &["sdfw", "explain", "11"],
-            "11 BlockingFactor\nmeans: The number of periods in a block is out of range.\n\
-             limits: 1 to 64\nremedy: Change `--blocking`.\n",
-        ),
-        (
-            &["sdfw", "explain", "WorkerCount"],
-            "12 WorkerCount\nmeans: The number of workers is out of range.\n\
-             limits: 1 to 16\nremedy: Change `--workers`.\n",
-        ),
-        (&["sdfw", "--version"], "sdfw 0.1.0\n"),
-        (
-            &["sdfw", "check", "-h"],
-            "Checks a graph file and prints its period\n\nUsage: sdfw check [OPTIONS] <GRAPH>\n\n\
-             Arguments:\n  <GRAPH>  The graph file\n\n\
-             Options:\n      --why   Says more of a fault: names, values and limits\n      \
-             --json  Answers in JSON, also of a fault\n  \
-             -h, --help  Print help (see more with '--help')\n\n\
-             Examples:\n  sdfw check graph.toml\n  sdfw check graph.toml --why\n",
-        ),
-        (
-            &["sdfw", "help", "kinds"],
-            "Lists the kinds of actors, their keys and limits: a line for each kind, and a last one for the keys\n\
-             that every actor may have. A number in parentheses stands where the key is absent.\n\n\
-             Usage: sdfw kinds\n\nOptions:\n  -h, --help\n          Print help (see a summary with '-h')\n\n\
-             Examples:\n  sdfw kinds\n  sdfw kinds | grep fir\n",
-        ),
-        (&["sdfw", "kinds"], KINDS),
-    ] {
-        ends_with(&rt, MOST_BYTES, line, (0, text, "", b""))?;
-    }
-    Ok(())
+/// How the program ends whose words were refused for want of memory.
+fn unread<T: Threads + AllocGlobal + Clock + Clone + Drop + Sync>(rt: &T) -> Result<String, Fail> {
+    let alloc = rt.alloc();
+    let written = RefCell::new(Vec::new(alloc));
+    let world = World {
+        storage: &Shelf { written: &written },
+        threads: rt,
+        most: MOST_BYTES,
+    };
+    let mut stdin = b"".as_slice();
+    let mut out = Vec::new(alloc);
+    let mut err = Vec::new(alloc);
+    let given = Err(WordFault::OutOfMemory);
+    let status = serve(&world, &mut stdin, &mut out, &mut err, given);
+    let err = String::from_utf8(err)?;
+    Ok(format!(in alloc; "{status} {} {err}", out.len())?)
 }
 
-/// A program that plans by the default options is refused here. With `in` on processor 1 a plan for one worker has a
-/// fault, and so has one by rings without homes, or of a long block.
+/// Refuses another limit than `docs/FORMATS.md` has, and a program that does nothing where its words could not be read.
 #[test]
-fn runs_follow_their_options(rt: HostRuntime) -> Result<(), Fail> {
-    let all = [
-        "sdfw",
-        "run",
-        "begun.toml",
-        "in.wav",
-        "out.wav",
-        "--blocking",
-        "3",
-        "--workers",
-        "2",
-        "--policy",
-        "lean",
-        "--placement",
-        "file",
-        "--runner",
-        "rings",
-        "--patience",
-        "7",
-    ];
-    ends_with(&rt, MOST_BYTES, &all, (0, "", "", BEFORE.as_slice()))?;
-    let two = [
-        "sdfw",
-        "run",
-        "blocks.toml",
-        "in.wav",
-        "no.wav",
-        "--workers",
-        "2",
-    ];
-    for (name, value, code, text) in [
-        ("--runner", "one", 5, "sdfw: 48 Write\n"),
-        ("--placement", "hu", 5, "sdfw: 48 Write\n"),
-        ("--policy", "lean", 5, "sdfw: 48 Write\n"),
-    ] {
-        let mut line = Vec::new(rt.alloc());
-        line.extend_from_slice(two.as_slice())?;
-        line.push(name)?;
-        line.push(value)?;
-        ends_with(&rt, MOST_BYTES, line.as_slice(), (code, "", text, b""))?;
-    }
-    for (graph, options, text) in [
-        (
-            "blocks.toml",
-            ["--runner", "rings", "--workers", "2", "--placement", "hu"],
-            "sdfw: 30 NotHomed\n",
-        ),
-        (
-            "begun.toml",
-            ["--runner", "rows", "--placement", "file", "--workers", "1"],
-            "sdfw: 19 BadHome actor 0\n",
-        ),
-        (
-            "long.toml",
-            ["--runner", "rows", "--blocking", "64", "--workers", "2"],
-            "sdfw: 13 BlockTooLong\n",
-        ),
-    ] {
-        let mut line = Vec::new(rt.alloc());
-        line.extend_from_slice(["sdfw", "run", graph, "in.wav", "out.wav"].as_slice())?;
-        line.extend_from_slice(options.as_slice())?;
-        ends_with(&rt, MOST_BYTES, line.as_slice(), (3, "", text, b""))?;
+fn files_and_words_that_are_not_read(rt: HostRuntime) -> Result<(), Fail> {
+    assert_eq!(rt; MOST_BYTES, 1_073_741_824);
+    assert!(rt; TAPS.len() < FILTERED.len() && FILTERED.len() < PADDED.len());
+    is_told("words", unread(&rt), "6 0 sdfw: 1 OutOfMemory\n")?;
+    for (longest, line, wanted) in LIMITS {
+        fits(&rt, longest, line, wanted)?;
     }
     Ok(())
-}
-
-/// A program that checks without a plan, that tells a mistake as a fault, or whose status is always that of memory, is
-/// refused here.
-#[test]
-fn faults_stand_on_standard_error(rt: HostRuntime) -> Result<(), Fail> {
-    for (line, code, text) in [
-        (
-            ["sdfw", "check", "stuck.toml"].as_slice(),
-            3,
-            "sdfw: 10 Deadlock\nin 1 of 1\nadd 0 of 1 short link 3\nfork 0 of 1 short link 1\n\
-             out 0 of 1 short link 2\n",
-        ),
-        (
-            &["sdfw", "explain", "64"],
-            2,
-            "error: invalid value '64' for '<NUMBER>': 64 is not in 1..=63\n\nFor more information, try '--help'.\n",
-        ),
-        (
-            &["sdfw", "run", "plain.toml", "plain.toml", "out.wav"],
-            4,
-            "sdfw: 34 NotRiff\n",
-        ),
-        (&["sdfw", "check", "none.toml"], 5, "sdfw: 47 Read\n"),
-        (
-            &["sdfw", "run", "plain.toml", "in.wav", "no.wav"],
-            5,
-            "sdfw: 48 Write\n",
-        ),
-        (
-            &["sdfw", "schedule", "no-memory"],
-            6,
-            "sdfw: 1 OutOfMemory\n",
-        ),
-        (
-            &["sdfw", "run", "plain.toml", "in.wav", "in.wav"],
-            2,
-            "error: OUT is the same file as IN\n\nUsage: sdfw <COMMAND>\n\nFor more information, try '--help'.\n",
-        ),
-    ] {
-        ends_with(&rt, MOST_BYTES, line, (code, "", text, b""))?;
-    }
-    Ok(())
-}
-
-/// The longest file that is read is as long as the limit. A program that cuts longer ones, or looks for coefficient
-/// files where it runs, is refused here.
-#[test]
-fn files_fit_their_limit(rt: HostRuntime) -> Result<(), Fail> {
-    let text =
-        "actors 4\nlinks 3\nperiod 4\nq in 1\nq half 1\nq same 1\nq out 1\ninput 1 output 1\n";
-    assert!(rt; TAPS.len() < FILTERED.len());
-    assert!(rt; FILTERED.len() < PADDED.len());
-    for (path, longest) in [
-        ("filtered.toml", FILTERED.len()),
-        ("padded/filtered.toml", PADDED.len()),
-    ] {
-        let line = ["sdfw", "check", path];
-        let most = u32::try_from(longest).unwrap_or(0);
-        ends_with(&rt, most, &line, (0, text, "", b""))?;
-        let less = most.saturating_sub(1);
-        ends_with(&rt, less, &line, (5, "", "sdfw: 47 Read\n", b""))?;
-    }
-    Ok(())
-}
-
-/// A sound that a profile reads is as long as the limit at most, too. Refuses one that is read whole whatever its
-/// length is.
-#[test]
-fn sounds_of_profiles_fit_their_limit(rt: HostRuntime) -> Result<(), Fail> {
-    let line = ["sdfw", "profile", "plain.toml", "filtered.toml"];
-    let most = u32::try_from(FILTERED.len()).unwrap_or(0);
-    ends_with(&rt, most, &line, (4, "", "sdfw: 34 NotRiff\n", b""))?;
-    let less = most.saturating_sub(1);
-    ends_with(&rt, less, &line, (5, "", "sdfw: 47 Read\n", b""))
 }

@@ -1,6 +1,7 @@
 //! A profile by a clock of the tests: which actor's firings the time is told of, and in what figures.
 
-use crate::shelf::{End, ended};
+use crate::commands::{is_told, told};
+use crate::costs::MEASURED;
 use std::alloc::Global;
 use std::sync::atomic::{AtomicBool, AtomicU64, Ordering};
 use std::test::Fail;
@@ -54,18 +55,8 @@ impl<R> Clock for Timed<'_, R> {
     }
 }
 
-/// The exit status of a profile of plain.toml over a sound, and what it prints.
-fn profiled<T: Threads + AllocGlobal + Clock + Clone + Drop + Sync>(
-    timed: &T,
-) -> Result<String, Fail> {
-    let words = ["sdfw", "profile", "plain.toml", "in.wav"];
-    let End { status, out, .. } = ended(timed, b"", words.as_slice())?;
-    let out = String::from_utf8(out)?;
-    Ok(format!(in timed.alloc(); "{status} {out}")?)
-}
-
-/// The same by this clock, and whether two threads met.
-fn told<R: Threads + AllocGlobal + Sync>(rt: &R) -> Result<String, Fail> {
+/// What is told of a line by this clock, and whether two threads met.
+fn told_by_clock<R: Threads + AllocGlobal + Sync>(rt: &R, line: &str) -> Result<String, Fail> {
     let (read, reading) = (AtomicU64::new(0), AtomicBool::new(false));
     let met = AtomicBool::new(false);
     let timed = Timed {
@@ -74,62 +65,29 @@ fn told<R: Threads + AllocGlobal + Sync>(rt: &R) -> Result<String, Fail> {
         reading: &reading,
         met: &met,
     };
-    let told = profiled(&timed)?;
+    let told = told(&timed, line)?;
     let met = met.load(Ordering::SeqCst);
     Ok(format!(in rt.alloc(); "{told}{met}")?)
 }
 
 /// Refuses time that goes to the actor that begins, a last firing that takes none, figures in another order, and two
-/// workers, whose firings can't be timed so.
+/// workers, whose firings can't be timed so; and costs that stand in the graph file already, 1, 3 and 1, in place of
+/// those that are measured: the last firing of the second actor is the long one.
 #[test]
-fn a_profile_by_a_clock(rt: HostRuntime) -> Result<(), Fail> {
+fn profiles_by_a_clock(rt: HostRuntime) -> Result<(), Fail> {
     says(
-        told(&rt),
-        "0 share in 12.80 %, 64 firings of 1000.0 ns\nshare out 87.20 %, 64 firings of 6812.5 ns\n\
-         cost in 1\ncost out 7\nfalse",
+        told_by_clock(&rt, "profile plain.toml in.wav"),
+        "0\nshare in 12.80 %, 64 firings of 1000.0 ns\nshare out 87.20 %, 64 firings of 6812.5 ns\n\
+         cost in 1\ncost out 7\n--\n--\nfalse",
+    )?;
+    let wanted = MEASURED.replace(rt.alloc(), "cost = 20", "cost = 7")?;
+    let wanted = wanted
+        .as_str()
+        .replace(rt.alloc(), "cost = 1000000", "cost = 1")?;
+    let wanted = format!(in rt.alloc(); "0\n{wanted}--\n--\n…")?;
+    is_told(
+        "costs that are written",
+        told_by_clock(&rt, "profile commented.toml in.wav --write -"),
+        &wanted,
     )
-}
-
-/// The exit status of a profile of commented.toml that is written on standard output, and the costs there.
-fn written<T: Threads + AllocGlobal + Clock + Clone + Drop + Sync>(
-    timed: &T,
-) -> Result<String, Fail> {
-    let alloc = timed.alloc();
-    let words = [
-        "sdfw",
-        "profile",
-        "commented.toml",
-        "in.wav",
-        "--write",
-        "-",
-    ];
-    let End { status, out, .. } = ended(timed, b"", words.as_slice())?;
-    let out = String::from_utf8(out)?;
-    let mut told = format!(in alloc; "{status}")?;
-    for line in out.as_str().lines() {
-        if line.starts_with("cost = ") {
-            told.push_str("|")?;
-            told.push_str(line)?;
-        }
-    }
-    Ok(told)
-}
-
-/// The same by this clock.
-fn costs_written<R: Threads + AllocGlobal + Sync>(rt: &R) -> Result<String, Fail> {
-    let (read, reading) = (AtomicU64::new(0), AtomicBool::new(false));
-    let met = AtomicBool::new(false);
-    written(&Timed {
-        rt,
-        read: &read,
-        reading: &reading,
-        met: &met,
-    })
-}
-
-/// Refuses costs that stand in the graph file already, 1, 3 and 1, in place of those that are measured: the last firing
-/// of the second actor is the long one.
-#[test]
-fn measured_costs_are_written(rt: HostRuntime) -> Result<(), Fail> {
-    says(costs_written(&rt), "0|cost = 1|cost = 7 # a guess|cost = 1")
 }

@@ -1,21 +1,43 @@
-//! Rounds by hand over rings, on a source of two samples and a sink of three.
+//! Rounds by hand over rings, mostly on a source of two samples and a sink of three.
 
-ghost use Rattle.std.specs.Prelude.{◌≡◌};
-ghost use Rattle.sdf_graph.specs.Rates.{rates};
-ghost use Rattle.sdf_actor.specs.Graphs.{graph_of};
-ghost use Rattle.sdf_answer.specs.Rows.{IsBlockTableOf};
 ghost use Rattle.sdf_rings.specs.Rests.{HaveMet};
 
-use crate::nets::{list, pair, planned};
+use crate::kits::{BLOCKS, Worked};
+use crate::nets::{planned, ramp};
+use crate::patience::{Held, Hold, LATE, PAUSE, SHORT};
 use sdf_actor::{Actor, Net};
-use sdf_answer::BlockTable;
 use sdf_node::NoGate;
 use sdf_rings::Rings;
 use sdf_rings::prepare::prepare;
 use std::alloc::Global;
 use std::process::Abort;
+use std::sync::atomic::Ordering;
 use std::test::Fail;
-use test_texts::{row_says, says};
+use std::thread::Threads;
+use test_actors::gates;
+use test_actors::gates::Watch;
+use test_texts::row_says;
+
+/// What is done by hand.
+#[derive(Clone, Copy)]
+enum ByHand {
+    /// A first round of the seats of one period, and a second.
+    Seats,
+    /// Rounds, so many of so many blocks, in which the seats are worked in turn, by a table whose actors have homes or
+    /// not.
+    Rounds {
+        homed: bool,
+        blocks: u32,
+        rounds: u32,
+        turn: [usize; 2],
+    },
+    /// Rounds of one seat, with a gate.
+    Gate,
+    /// A round of both seats at once with this patience, where the source's second sample comes so many turns late.
+    AtOnce(u32, u32),
+    /// So many blocks of 4,228 firings that read one sample each: more firings than 32 bits count.
+    Many(u32),
+}
 
 /// A round of both seats in this order, without patience, and its end.
 fn both_and_meet<A: Actor>(rt: &impl Abort, rings: &mut Rings<A>, turn: [usize; 2])
@@ -30,16 +52,13 @@ fn both_and_meet<A: Actor>(rt: &impl Abort, rings: &mut Rings<A>, turn: [usize; 
 
 /// What is left before the first round, what each seat does in it, the sink's first, what the channel holds then, and
 /// what is left after a second round.
-fn seats_by<A: Actor<Token = i64>>(
-    rt: &impl Abort,
-    alloc: Global,
+fn seats<A: Actor<Token = i32>>(
+    rt: &(impl Abort + AllocGlobal),
     net: &Net<A>,
-    table: &BlockTable,
-) -> Result<String, Fail>
-    requires fits { IsBlockTableOf (rates (graph_of A.steps net.now)) table.now }
-{
-    let inputs = list(alloc, &[1, 2, 3, 4, 5, 6])?;
-    let mut rings = prepare(alloc, net, table, 1, &inputs)?;
+) -> Result<String, Fail> {
+    let table = planned(rt.alloc(), net, 1, 2, true)?;
+    let inputs = ramp(rt.alloc(), 1, 7, 0)?;
+    let mut rings = prepare(rt.alloc(), net, &table, 1, &inputs)?;
     let left = rings.left();
     assert!(rt; rings.seats() == 2 && net.channels() == 1);
     let sunk = rings.work_one(1, 0, &NoGate);
@@ -47,130 +66,180 @@ fn seats_by<A: Actor<Token = i64>>(
     rings.meet();
     let held = rings.held(0);
     both_and_meet(rt, &mut rings, [1, 0]);
-    Ok(format!(in alloc; "{left} {sunk} {put} {held} {}", rings.left())?)
+    Ok(format!(in rt.alloc(); "{left} {sunk} {put} {held} {}", rings.left())?)
 }
 
-fn seats<A: Actor<Token = i64>>(
+/// How many firings are left after each of some rounds, and what they make; or what rings are refused with.
+fn rounds<A: Actor<Token = i32>>(
     rt: &(impl Abort + AllocGlobal),
     net: &Net<A>,
-) -> Result<String, Fail> {
-    seats_by(rt, rt.alloc(), net, &planned(rt.alloc(), net, 1, 2, true)?)
-}
-
-#[test]
-fn seats_by_hand(rt: HostRuntime) -> Result<(), Fail> {
-    says(seats(&rt, &pair(rt.alloc(), 2, 3, &[])?), "5 0 3 6 0")
-}
-
-/// How many firings are left where so many blocks are run, after each of so many rounds without patience, in which the
-/// seats are worked in turn.
-fn left_by<A: Actor<Token = i64>>(
-    rt: &(impl Abort + AllocGlobal),
-    net: &Net<A>,
-    table: &BlockTable,
-    times: (u32, u32),
+    homed: bool,
+    (blocks, rounds): (u32, u32),
     turn: [usize; 2],
-) -> Result<String, Fail>
-    requires fits { IsBlockTableOf (rates (graph_of A.steps net.now)) table.now }
-{
-    let inputs = list(rt.alloc(), &[1, 2, 3, 4, 5, 6, 7, 8, 9, 10, 11, 12])?;
-    let mut rings = prepare(rt.alloc(), net, table, times.0, &inputs)?;
+) -> Result<String, Fail> {
+    let table = planned(rt.alloc(), net, 1, 2, homed)?;
+    let inputs = ramp(rt.alloc(), 1, 13, 0)?;
+    let mut rings = match prepare(rt.alloc(), net, &table, blocks, &inputs) {
+        Ok(rings) => rings,
+        Err(fault) => return Ok(fault.to_string(rt.alloc())?),
+    };
     let mut left = Vec::new(rt.alloc());
-    for _ in 0..times.1 {
+    for _ in 0..rounds {
         both_and_meet(rt, &mut rings, turn);
         left.push(rings.left())?;
     }
-    Ok(format!(in rt.alloc(); "{left:?}")?)
-}
-
-fn left<A: Actor<Token = i64>>(
-    rt: &(impl Abort + AllocGlobal),
-    net: &Net<A>,
-    times: (u32, u32),
-    turn: [usize; 2],
-) -> Result<String, Fail> {
-    left_by(rt, net, &planned(rt.alloc(), net, 1, 2, true)?, times, turn)
-}
-
-#[test]
-fn few_rounds_by_hand(rt: HostRuntime) -> Result<(), Fail> {
-    let net = pair(rt.alloc(), 2, 3, &[])?;
-    says(left(&rt, &net, (1, 5), [1, 0]), "[2, 0, 0, 0, 0]")
-}
-
-/// The ring has room for a block's three firings of the source. The sink first: nothing; then its two, whose room the
-/// source sees and fires three more; then its last two. The source first: three and two, twice.
-#[test]
-fn rounds_in_turn(rt: HostRuntime) -> Result<(), Fail> {
-    let net = pair(rt.alloc(), 2, 3, &[])?;
-    row_says(
-        "the sink first",
-        left(&rt, &net, (2, 3), [1, 0]),
-        "[7, 2, 0]",
-    )?;
-    row_says(
-        "the source first",
-        left(&rt, &net, (2, 3), [0, 1]),
-        "[5, 0, 0]",
-    )
-}
-
-/// What rings make in two rounds.
-fn finished_by<A: Actor<Token = i64>>(
-    rt: &impl Abort,
-    alloc: Global,
-    net: &Net<A>,
-    table: &BlockTable,
-) -> Result<String, Fail>
-    requires fits { IsBlockTableOf (rates (graph_of A.steps net.now)) table.now }
-{
-    let inputs = list(alloc, &[1, 2, 3, 4, 5, 6])?;
-    let mut rings = prepare(alloc, net, table, 1, &inputs)?;
-    both_and_meet(rt, &mut rings, [1, 0]);
-    both_and_meet(rt, &mut rings, [1, 0]);
+    rings.meet();
     assert!(rt; rings.left() == 0);
-    Ok(format!(in alloc; "{:?}", rings.finish())?)
+    Ok(format!(in rt.alloc(); "{left:?} {:?}", rings.finish())?)
 }
 
-fn finished<A: Actor<Token = i64>>(
+/// How many firings of the source and of the sink have passed on their processors, and how many out of turn.
+fn counts(watch: &Watch) -> (u64, u64, u64) {
+    (watch.passed(0, 0), watch.passed(1, 1), watch.odd())
+}
+
+/// The same after a round of the sink's seat, which finds nothing; of the source's, until the ring is full; and of the
+/// sink's again.
+fn passed<A: Actor<Token = i32>>(
     rt: &(impl Abort + AllocGlobal),
     net: &Net<A>,
 ) -> Result<String, Fail> {
-    finished_by(rt, rt.alloc(), net, &planned(rt.alloc(), net, 1, 2, true)?)
+    let table = planned(rt.alloc(), net, 1, 2, true)?;
+    let inputs = ramp(rt.alloc(), 1, 13, 0)?;
+    let watch = Watch::new(rt.alloc(), 2, 2, gates::Hold::NONE)?;
+    let mut rings = prepare(rt.alloc(), net, &table, 2, &inputs)?;
+    assert!(rt; rings.seats() == 2);
+    rings.work_one(1, 7, &watch);
+    let first = counts(&watch);
+    rings.work_one(0, 7, &watch);
+    let second = counts(&watch);
+    rings.work_one(1, 7, &watch);
+    Ok(format!(in rt.alloc(); "{first:?} {second:?} {:?}", counts(&watch))?)
 }
 
-#[test]
-fn what_is_finished(rt: HostRuntime) -> Result<(), Fail> {
-    says(
-        finished(&rt, &pair(rt.alloc(), 2, 3, &[])?),
-        "[[1, 2, 3, 4, 5, 6]]",
-    )
-}
-
-/// The text of what rings are refused with.
-fn refusal_by<A: Actor<Token = i64>>(
-    alloc: Global,
+/// How many of four firings are left after one round of both seats at once, and whether the sink's have passed.
+fn at_once<R: Abort + Threads + AllocGlobal + Sync, A: Actor<Token = i32>>(
+    rt: &R,
     net: &Net<A>,
-    table: &BlockTable,
-) -> Result<String, Fail>
-    requires fits { IsBlockTableOf (rates (graph_of A.steps net.now)) table.now }
-{
-    let inputs = list(alloc, &[1, 2, 3, 4, 5, 6])?;
-    match prepare(alloc, net, table, 1, &inputs) {
-        Ok(_) => Ok(String::new(alloc)),
-        Err(fault) => Ok(fault.to_string(alloc)?),
+    patience: u32,
+    turns: u32,
+) -> Result<String, Fail> {
+    let table = planned(rt.alloc(), net, 1, 2, true)?;
+    let inputs = ramp(rt.alloc(), 1, 3, 0)?;
+    let held = Held::new(Hold { turns, ..LATE });
+    let mut rings = prepare(rt.alloc(), net, &table, 2, &inputs)?;
+    rings.work_all(rt, patience, &held);
+    let begun = held.begun.load(Ordering::SeqCst);
+    let missed = held.missed.load(Ordering::SeqCst);
+    Ok(format!(in rt.alloc(); "{} left, {begun}, {missed}", rings.left())?)
+}
+
+/// How many firings the seat of one worker has for so many blocks.
+fn many<A: Actor<Token = i32>>(alloc: Global, net: &Net<A>, blocks: u32) -> Result<String, Fail> {
+    let table = planned(alloc, net, 1, 1, true)?;
+    let inputs = ramp(alloc, 0, 0, blocks as usize)?;
+    let rings = prepare(alloc, net, &table, blocks, &inputs)?;
+    Ok(format!(in alloc; "{}", rings.left())?)
+}
+
+fn told<R: Abort + Threads + AllocGlobal + Sync>(rt: &R, by_hand: ByHand) -> Result<String, Fail> {
+    let alloc = rt.alloc();
+    match by_hand {
+        ByHand::Seats => seats(rt, &BLOCKS.net(alloc)?),
+        ByHand::Rounds {
+            homed,
+            blocks,
+            rounds: many,
+            turn,
+        } => rounds(rt, &BLOCKS.net(alloc)?, homed, (blocks, many), turn),
+        ByHand::Gate => passed(rt, &BLOCKS.net(alloc)?),
+        ByHand::AtOnce(patience, turns) => {
+            at_once(rt, &Worked::Pair(1, 1, &[7]).net(alloc)?, patience, turns)
+        }
+        ByHand::Many(blocks) => many(alloc, &Worked::Wide.net(alloc)?, blocks),
     }
 }
 
-fn refusal<A: Actor<Token = i64>>(alloc: Global, net: &Net<A>) -> Result<String, Fail> {
-    refusal_by(alloc, net, &planned(alloc, net, 1, 2, false)?)
-}
-
-/// The sink fires in both columns.
-#[test]
-fn free_tables_have_no_seats(rt: HostRuntime) -> Result<(), Fail> {
-    says(
-        refusal(rt.alloc(), &pair(rt.alloc(), 2, 3, &[])?),
+/// The ring of two blocks has room for a block's three firings of the source. The sink first: nothing; then its two,
+/// whose room the source sees and fires three more; then its last two. The source first: three and two, twice.
+const ROWS: &[(&str, ByHand, &str)] = &[
+    ("seats", ByHand::Seats, "5 0 3 6 0"),
+    (
+        "few rounds, the sink first",
+        ByHand::Rounds {
+            homed: true,
+            blocks: 1,
+            rounds: 5,
+            turn: [1, 0],
+        },
+        "[2, 0, 0, 0, 0] [[1, 2, 3, 4, 5, 6]]",
+    ),
+    (
+        "two blocks, the sink first",
+        ByHand::Rounds {
+            homed: true,
+            blocks: 2,
+            rounds: 3,
+            turn: [1, 0],
+        },
+        "[7, 2, 0] [[1, 2, 3, 4, 5, 6, 7, 8, 9, 10, 11, 12]]",
+    ),
+    (
+        "two blocks, the source first",
+        ByHand::Rounds {
+            homed: true,
+            blocks: 2,
+            rounds: 3,
+            turn: [0, 1],
+        },
+        "[5, 0, 0] [[1, 2, 3, 4, 5, 6, 7, 8, 9, 10, 11, 12]]",
+    ),
+    (
+        "two rounds make all of a block",
+        ByHand::Rounds {
+            homed: true,
+            blocks: 1,
+            rounds: 2,
+            turn: [1, 0],
+        },
+        "[2, 0] [[1, 2, 3, 4, 5, 6]]",
+    ),
+    (
+        "free tables have no seats: the sink fires in both columns",
+        ByHand::Rounds {
+            homed: false,
+            blocks: 1,
+            rounds: 0,
+            turn: [0, 1],
+        },
         "30 NotHomed",
-    )
+    ),
+    (
+        "no firing passes before it is known to be possible",
+        ByHand::Gate,
+        "(0, 0, 0) (3, 0, 0) (3, 2, 0)",
+    ),
+    (
+        "all seats at once: for seats that are worked in turn, without a gate or without patience",
+        ByHand::AtOnce(1_000_000, SHORT),
+        "0 left, true, false",
+    ),
+    (
+        "all seats at once, without patience",
+        ByHand::AtOnce(0, PAUSE),
+        "1 left, true, false",
+    ),
+    (
+        "a list of many blocks: for memory that is not asked for, as by a length of 32 bits in `Course`",
+        ByHand::Many(1_016_000),
+        "4295648000",
+    ),
+];
+
+#[test]
+fn rounds_by_hand(rt: HostRuntime) -> Result<(), Fail> {
+    for (name, by_hand, wanted) in ROWS {
+        row_says(name, told(&rt, *by_hand), wanted)?;
+    }
+    Ok(())
 }

@@ -1,8 +1,8 @@
 //! Nets of kits, for workers: the rate converter, and those that the gates of the tests hold up.
 
-use sdf_actor::{Link, Net, Node};
+use sdf_actor::{Net, Node};
 use sdf_kit::Kit;
-use std::alloc::{AllocError, Global};
+use std::alloc::Global;
 use std::test::Fail;
 use test_actors::nets::{links, sink, source};
 
@@ -43,37 +43,34 @@ fn nodes(alloc: Global, parts: &[Part]) -> Result<Vec<Node<Kit>>, Fail> {
     Ok(nodes)
 }
 
-/// Links by their ends, of which some begin with a zero.
-fn waiting_links(
-    alloc: Global,
-    ends: &[[usize; 4]],
-    waiting: &[usize],
-) -> Result<Vec<Link<i32>>, AllocError> {
-    let mut links = links(alloc, ends)?;
-    for number in waiting {
-        if let Some(link) = links.get_mut(*number) {
-            link.initial.push(0)?;
-        }
-    }
-    Ok(links)
-}
-
-/// A net of parts and of links by their ends, of which some begin with a zero.
+/// A net of parts and of links by their ends, of which some begin with samples.
 fn joined(
     alloc: Global,
     parts: &[Part],
     ends: &[[usize; 4]],
-    waiting: &[usize],
+    begun: &[(usize, &[i32])],
 ) -> Result<Net<Kit>, Fail> {
     let nodes = nodes(alloc, parts)?;
-    Ok(Net::new(alloc, nodes, waiting_links(alloc, ends, waiting)?)?)
+    let mut links = links(alloc, ends)?;
+    for (number, initial) in begun {
+        if let Some(link) = links.get_mut(*number) {
+            link.initial.extend_from_slice(initial)?;
+        }
+    }
+    Ok(Net::new(alloc, nodes, links)?)
 }
+
+/// Blocks of two samples to blocks of three.
+pub(crate) const BLOCKS: Worked = Worked::Pair(2, 3, &[]);
+
+/// One sample to one.
+pub(crate) const PLAIN: Worked = Worked::Pair(1, 1, &[]);
 
 /// The nets of kits.
 #[derive(Clone, Copy)]
 pub(crate) enum Worked {
-    /// Blocks of two samples to blocks of three.
-    Blocks,
+    /// A source of a block and a sink of a block, with samples that stand between them.
+    Pair(u32, u32, &'static [i32]),
     /// A loop: what comes out is fed back, turned round.
     Looped,
     /// Blocks of two samples, dealt by threes to two sinks. The actor that deals has two phases, so it fires one by
@@ -89,21 +86,13 @@ pub(crate) enum Worked {
 }
 
 impl Worked {
-    pub(crate) fn name(self) -> &'static str {
-        match self {
-            Worked::Blocks => "blocks",
-            Worked::Looped => "a loop",
-            Worked::Dealt => "dealt",
-            Worked::Branches(_) => "branches",
-            Worked::Converter => "the converter",
-            Worked::Wide => "a wide one",
-        }
-    }
-
     pub(crate) fn net(self, alloc: Global) -> Result<Net<Kit>, Fail> {
         match self {
-            Worked::Blocks => joined(alloc, &[In(2), Out(0, 3)], &[[0, 0, 1, 0]], &[]),
-            Worked::Looped => joined(alloc, LOOPED, LOOPED_ENDS, &[4]),
+            Worked::Pair(put, taken, begun) => {
+                let parts = [In(put), Out(0, taken)];
+                joined(alloc, &parts, &[[0, 0, 1, 0]], &[(0, begun)])
+            }
+            Worked::Looped => joined(alloc, LOOPED, LOOPED_ENDS, &[(4, ZERO)]),
             Worked::Dealt => joined(alloc, DEALT, DEALT_ENDS, &[]),
             Worked::Branches(ways) => branches(alloc, ways),
             Worked::Converter => joined(alloc, CONVERTER, CHAINED, &[]),
@@ -162,39 +151,23 @@ const WIDE_ENDS: &[[usize; 4]] = &[
     [5, 0, 6, 0],
 ];
 
-fn branch_parts(alloc: Global, ways: usize) -> Result<Vec<Part>, AllocError> {
-    let mut parts = Vec::from_slice(alloc, &[In(1), Fork(ways)])?;
-    for _ in 0..ways {
-        parts.push(Gain(1, 0))?;
-    }
-    parts.extend_from_slice(&[Add(ways), Out(0, 1)])?;
-    Ok(parts)
-}
+/// What stands on a link at first.
+const ZERO: &[i32] = &[0];
 
-/// Two links for each branch, into it and out of it, and then that from the source and that to the sink.
-fn branch_ends(alloc: Global, ways: usize) -> Result<Vec<[usize; 4]>, AllocError> {
+/// Two links for each branch, into it and out of it, and then that from the source and that to the sink. The links into
+/// the branches begin with a zero.
+fn branches(alloc: Global, ways: usize) -> Result<Net<Kit>, Fail> {
+    let mut parts = Vec::from_slice(alloc, &[In(1), Fork(ways)])?;
     let mut ends = Vec::new(alloc);
+    let mut begun = Vec::new(alloc);
     let adder = ways.wrapping_add(2);
     for way in 0..ways {
         let branch = way.wrapping_add(2);
+        parts.push(Gain(1, 0))?;
         ends.extend_from_slice(&[[1, way, branch, 0], [branch, 0, adder, way]])?;
+        begun.push((way.wrapping_mul(2), ZERO))?;
     }
+    parts.extend_from_slice(&[Add(ways), Out(0, 1)])?;
     ends.extend_from_slice(&[[0, 0, 1, 0], [adder, 0, adder.wrapping_add(1), 0]])?;
-    Ok(ends)
-}
-
-/// The links into the branches.
-fn branch_waiting(alloc: Global, ways: usize) -> Result<Vec<usize>, AllocError> {
-    let mut waiting = Vec::new(alloc);
-    for way in 0..ways {
-        waiting.push(way.wrapping_mul(2))?;
-    }
-    Ok(waiting)
-}
-
-fn branches(alloc: Global, ways: usize) -> Result<Net<Kit>, Fail> {
-    let parts = branch_parts(alloc, ways)?;
-    let ends = branch_ends(alloc, ways)?;
-    let waiting = branch_waiting(alloc, ways)?;
-    joined(alloc, &parts, &ends, &waiting)
+    joined(alloc, &parts, &ends, &begun)
 }

@@ -6,44 +6,26 @@
 #![tactic(auto)]
 
 #[cfg(test)]
+mod as_one;
+#[cfg(test)]
 mod by_hand;
 #[cfg(test)]
-mod crowds;
-#[cfg(test)]
-mod disturbed;
-#[cfg(test)]
 mod faults;
-#[cfg(test)]
-mod feeds;
-#[cfg(test)]
-mod gate_by_hand;
 #[cfg(test)]
 mod kits;
 #[cfg(test)]
 mod long_runs;
 #[cfg(test)]
-mod many_firings;
-#[cfg(test)]
 mod meetings;
 #[cfg(test)]
 mod nets;
-#[cfg(test)]
-mod over_rings;
 #[cfg(test)]
 mod passes;
 #[cfg(test)]
 mod patience;
 #[cfg(test)]
-mod pieces_of_work;
-#[cfg(test)]
-mod rooms;
-#[cfg(test)]
-mod rows;
-#[cfg(test)]
-mod runs;
-#[cfg(test)]
 mod sessions;
 #[cfg(test)]
-mod tries;
+mod small_nets;
 #[cfg(test)]
 mod turns;

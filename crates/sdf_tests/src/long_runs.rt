@@ -1,120 +1,111 @@
 //! Runs of more firings than 16 bits count: each passes the gate by its number, and memory is there for them.
 
-ghost use Rattle.std.specs.Prelude.{◌≡◌};
-ghost use Rattle.sdf_graph.specs.Rates.{rates};
-ghost use Rattle.sdf_actor.specs.Graphs.{graph_of};
-ghost use Rattle.sdf_answer.specs.Rows.{IsBlockTableOf};
-
-use crate::nets::{list, pair, planned};
+use crate::kits::{PLAIN, Worked};
+use crate::nets::{planned, ramp};
 use sdf_actor::{Actor, Net};
-use sdf_answer::BlockTable;
-use sdf_run::{Mode, RunFault, Session, feed_one, resume_one};
+use sdf_run::{Mode, Session, feed_one, resume_one};
 use std::alloc::Global;
 use std::test::Fail;
 use std::thread::Threads;
 use test_actors::gates::{Hold, Watch};
-use test_texts::{row_says, says};
+use test_texts::row_says;
 
-/// So many samples are read.
-const SAMPLES: usize = 70_000;
+const RINGS: Mode = Mode::Rings {
+    patience: 0,
+    rooms: 1,
+};
 
-/// A list of so many.
-fn sevens(alloc: Global) -> Result<Vec<Vec<i64>>, Fail> {
-    Ok(list(alloc, &vec![in alloc; 7i64; SAMPLES]?)?)
-}
+/// A net that reads 70,000 samples, how it is run by one worker, and how many samples are made, firings of the source
+/// and of the sink pass, and do not pass in turn; or how many samples one thread makes.
+type Row = (&'static str, Worked, Option<Mode>, &'static str);
+
+const ONE_BY_ONE: &[Row] = &[
+    (
+        "firings one by one, for numbers of 16 bits",
+        PLAIN,
+        Some(Mode::Rows),
+        "70000 70000 70000 0",
+    ),
+    (
+        "the same over rings",
+        PLAIN,
+        Some(RINGS),
+        "70000 70000 70000 0",
+    ),
+];
+
+const OTHERS: &[Row] = &[
+    (
+        "two firings of the source in one run",
+        Worked::Pair(1, 2, &[]),
+        Some(RINGS),
+        "70000 70000 35000 0",
+    ),
+    (
+        "the same by rows",
+        Worked::Pair(1, 2, &[]),
+        Some(Mode::Rows),
+        "70000 70000 35000 0",
+    ),
+    ("on one thread", PLAIN, None, "70000"),
+];
 
 /// How many samples stand in the first of some lists.
-fn first_len(lists: &[Vec<i64>]) -> usize {
+fn first_len(lists: &[Vec<i32>]) -> usize {
     match lists.first() {
         Some(list) => list.len(),
         None => 0,
     }
 }
 
-/// How many samples a feed of all blocks makes.
-fn feed<R: Threads + AllocGlobal + Sync, A: Actor<Token = i64>>(
+/// What is told of a feed of all blocks.
+fn fed<R: Threads + AllocGlobal + Sync, A: Actor<Token = i32>>(
     rt: &R,
     net: &Net<A>,
-    table: &BlockTable,
     mode: Mode,
-    inputs: &[Vec<i64>],
-    watch: &Watch,
-) -> Result<usize, RunFault>
-    requires fits { IsBlockTableOf (rates (graph_of A.steps net.now)) table.now }
-{
-    let mut session = Session::open(rt.alloc(), net, table, mode)?;
-    let ran = session.feed(rt, inputs, watch)?;
-    Ok(first_len(&ran.outputs))
-}
-
-/// The same, and how many firings of the source and of the sink passed, and out of turn.
-fn fed<R: Threads + AllocGlobal + Sync, A: Actor<Token = i64>>(
-    rt: &R,
-    net: &Net<A>,
-    table: &BlockTable,
-    mode: Mode,
-    inputs: &[Vec<i64>],
-) -> Result<String, Fail>
-    requires fits { IsBlockTableOf (rates (graph_of A.steps net.now)) table.now }
-{
+) -> Result<String, Fail> {
+    let table = planned(rt.alloc(), net, 1, 1, true)?;
+    let inputs = ramp(rt.alloc(), 0, 70_000, 0)?;
     let watch = Watch::new(rt.alloc(), 1, 2, Hold::NONE)?;
-    let made = feed(rt, net, table, mode, inputs, &watch)?;
+    let mut session = Session::open(rt.alloc(), net, &table, mode)?;
+    let made = first_len(&session.feed(rt, &inputs, &watch)?.outputs);
     let (source, sink) = (watch.passed(0, 0), watch.passed(0, 1));
     Ok(format!(in rt.alloc(); "{made} {source} {sink} {}", watch.odd())?)
 }
 
-/// The same of one worker, by rows and over rings.
-fn pass<R: Threads + AllocGlobal + Sync, A: Actor<Token = i64>>(
-    rt: &R,
-    net: &Net<A>,
-    wanted: &str,
-) -> Result<(), Fail> {
-    let table = planned(rt.alloc(), net, 1, 1, true)?;
-    let inputs = sevens(rt.alloc())?;
-    let rings = Mode::Rings {
-        patience: 0,
-        rooms: 1,
-    };
-    row_says("by rows", fed(rt, net, &table, Mode::Rows, &inputs), wanted)?;
-    row_says("over rings", fed(rt, net, &table, rings, &inputs), wanted)
-}
-
-/// Firings one by one. Refuses numbers of 16 bits.
-#[test]
-fn single_firings(rt: HostRuntime) -> Result<(), Fail> {
-    pass(&rt, &pair(rt.alloc(), 1, 1, &[])?, "70000 70000 70000 0")
-}
-
-/// Over rings two firings of the source go in one run.
-#[test]
-fn runs_of_firings(rt: HostRuntime) -> Result<(), Fail> {
-    pass(&rt, &pair(rt.alloc(), 1, 2, &[])?, "70000 70000 35000 0")
-}
-
 /// How many samples one thread makes of all periods, where a run of none goes on.
-fn resumed<A: Actor<Token = i64>>(
-    alloc: Global,
-    net: &Net<A>,
-    table: &BlockTable,
-    inputs: &[Vec<i64>],
-) -> Result<usize, RunFault>
-    requires fits { IsBlockTableOf (rates (graph_of A.steps net.now)) table.now }
-{
-    let (_, rest) = feed_one(alloc, net, &table.period, 0, inputs)?;
-    let (ran, _) = resume_one(alloc, net, &table.period, &rest, 70_000, inputs)?;
-    Ok(first_len(&ran.outputs))
+fn resumed<A: Actor<Token = i32>>(alloc: Global, net: &Net<A>) -> Result<String, Fail> {
+    let table = planned(alloc, net, 1, 1, true)?;
+    let inputs = ramp(alloc, 0, 70_000, 0)?;
+    let (_, rest) = feed_one(alloc, net, &table.period, 0, &inputs)?;
+    let (ran, _) = resume_one(alloc, net, &table.period, &rest, 70_000, &inputs)?;
+    Ok(format!(in alloc; "{}", first_len(&ran.outputs))?)
 }
 
-fn one_thread<A: Actor<Token = i64>>(alloc: Global, net: &Net<A>) -> Result<String, Fail> {
-    let table = planned(alloc, net, 1, 1, true)?;
-    let made = resumed(alloc, net, &table, &sevens(alloc)?)?;
-    Ok(format!(in alloc; "{made}")?)
+fn told<R: Threads + AllocGlobal + Sync>(
+    rt: &R,
+    worked: Worked,
+    mode: Option<Mode>,
+) -> Result<String, Fail> {
+    match mode {
+        Some(mode) => fed(rt, &worked.net(rt.alloc())?, mode),
+        None => resumed(rt.alloc(), &worked.net(rt.alloc())?),
+    }
+}
+
+fn are_told<R: Threads + AllocGlobal + Sync>(rt: &R, rows: &[Row]) -> Result<(), Fail> {
+    for (name, worked, mode, wanted) in rows {
+        row_says(name, told(rt, *worked, *mode), wanted)?;
+    }
+    Ok(())
 }
 
 #[test]
-fn on_one_thread(rt: HostRuntime) -> Result<(), Fail> {
-    says(
-        one_thread(rt.alloc(), &pair(rt.alloc(), 1, 1, &[])?),
-        "70000",
-    )
+fn firings_one_by_one(rt: HostRuntime) -> Result<(), Fail> {
+    are_told(&rt, ONE_BY_ONE)
+}
+
+#[test]
+fn firings_in_runs_and_on_one_thread(rt: HostRuntime) -> Result<(), Fail> {
+    are_told(&rt, OTHERS)
 }

@@ -73,18 +73,12 @@ pub(crate) fn pair(
     Ok(Net::new(alloc, nodes, begun(alloc, &[[0, 0, 1, 0]], 0, initial)?)?)
 }
 
-/// The nodes of a chain.
-fn chained<A: Actor>(alloc: Global, actor: A) -> Result<Vec<Node<A>>, AllocError> {
+/// A source, an actor and a sink, in a chain.
+pub(crate) fn chain<A: Actor>(alloc: Global, actor: A) -> Result<Net<A>, Fail> {
     let mut nodes = Vec::new(alloc);
     nodes.push(source(0, 1))?;
     nodes.push(Node::Inner(actor))?;
     nodes.push(sink(0, 1))?;
-    Ok(nodes)
-}
-
-/// A source, an actor and a sink, in a chain.
-pub(crate) fn chain<A: Actor>(alloc: Global, actor: A) -> Result<Net<A>, Fail> {
-    let nodes = chained(alloc, actor)?;
     Ok(Net::new(alloc, nodes, links(alloc, &[[0, 0, 1, 0], [1, 0, 2, 0]])?)?)
 }
 
@@ -191,17 +185,8 @@ pub(crate) fn by_one<A: Actor<Token = i32>>(
     Ok(format!(in alloc; "{:?}", ran.outputs)?)
 }
 
-/// Whether a run took rounds, and no more than it did firings. By rows the table says how many there are.
-fn few_rounds(table: &BlockTable, times: Times, rounds: u64) -> bool {
-    let periods = u64::from(table.factor).wrapping_mul(u64::from(times.blocks));
-    let firings = table.period.order().len() as u64;
-    match times.mode {
-        Mode::Rows => true,
-        Mode::Rings { .. } => 1 <= rounds && rounds <= firings.wrapping_mul(periods),
-    }
-}
-
-/// What workers make, or in how many rounds where these are too few or too many.
+/// What workers make, or in how many rounds where these are none, or more than firings. By rows the table says how many
+/// there are.
 fn by_workers<R: Threads + AllocGlobal + Sync, A: Actor<Token = i32>, G: Gate>(
     rt: &R,
     net: &Net<A>,
@@ -213,10 +198,13 @@ fn by_workers<R: Threads + AllocGlobal + Sync, A: Actor<Token = i32>, G: Gate>(
     requires fits { IsBlockTableOf (rates (graph_of A.steps net.now)) table.now }
 {
     let ran = run_by(rt, net, table, times, inputs, gate)?;
-    if !few_rounds(table, times, ran.rounds) {
-        return Ok(format!(in rt.alloc(); "{} rounds", ran.rounds)?);
+    let periods = u64::from(table.factor).wrapping_mul(u64::from(times.blocks));
+    let firings = periods.wrapping_mul(table.period.order().len() as u64);
+    let few = 1 <= ran.rounds && ran.rounds <= firings;
+    if few || matches!(times.mode, Mode::Rows) {
+        return Ok(format!(in rt.alloc(); "{:?}", ran.outputs)?);
     }
-    Ok(format!(in rt.alloc(); "{:?}", ran.outputs)?)
+    Ok(format!(in rt.alloc(); "{} rounds", ran.rounds)?)
 }
 
 /// Whether workers make what one thread makes.

@@ -64,36 +64,16 @@ fn standing(table: &Table, column: usize, actor: usize) -> u64 {
 }
 
 /// Whether each firing of so many blocks of a table passed once, in its turn and in its column.
-fn all_passed(rt: &impl Abort, watch: &Watch, table: &Table, blocks: u64) {
-    assert_eq!(rt; watch.odd(), 0);
+fn all_passed(rt: &impl Abort, name: &str, watch: &Watch, table: &Table, blocks: u64) {
+    assert_eq!(rt; watch.odd(), 0, "{name}");
     for place in 0..3 * ACTORS {
         let (column, actor) = (place / ACTORS, place % ACTORS);
         assert_eq!(rt;
             watch.passed(column, actor),
             standing(table, column, actor).wrapping_mul(blocks),
-            "actor {actor} in column {column}"
+            "{name}, actor {actor} in column {column}"
         );
     }
-}
-
-/// Whether each firing passes once, in a run and in feeds of two blocks of two periods.
-fn all_pass<R: Abort + Threads + AllocGlobal + Sync, A: Actor<Token = i64>>(
-    rt: &R,
-    net: &Net<A>,
-    table: &BlockTable,
-    mode: Mode,
-    watch: &Watch,
-) -> Result<(), Fail>
-    requires fits { IsBlockTableOf (rates (graph_of A.steps net.now)) table.now }
-{
-    let times = Times { blocks: 2, mode };
-    let inputs = list(rt.alloc(), &[7; 16])?;
-    run_by(rt, net, table, times, &inputs, watch)?;
-    all_passed(rt, watch, &table.table, 2);
-    watch.anew();
-    feed_twice(rt, net, table, mode, &inputs, watch)?;
-    all_passed(rt, watch, &table.table, 6);
-    Ok(())
 }
 
 /// A table for so many workers, free or homed, or for one, whose firings stand in runs.
@@ -103,6 +83,9 @@ enum Kind {
     Homed(usize),
     InRuns,
 }
+
+/// The name of a row, a table, and how it is run.
+type Row = (&'static str, Kind, Mode);
 
 fn table<A: Actor>(alloc: Global, net: &Net<A>, kind: Kind) -> Result<BlockTable, Fail>
     ensures fits { IfOk result (IsBlockTableOf (rates (graph_of A.steps net.now))) }
@@ -115,40 +98,63 @@ fn table<A: Actor>(alloc: Global, net: &Net<A>, kind: Kind) -> Result<BlockTable
     }
 }
 
-/// The same by such a table.
-fn all_pass_by<R: Abort + Threads + AllocGlobal + Sync, A: Actor<Token = i64>>(
+/// Whether each firing passes once, in a run and in feeds of two blocks of two periods.
+fn all_pass<R: Abort + Threads + AllocGlobal + Sync, A: Actor<Token = i64>>(
     rt: &R,
     net: &Net<A>,
-    kind: Kind,
-    mode: Mode,
+    (name, kind, mode): &Row,
     watch: &Watch,
 ) -> Result<(), Fail> {
-    all_pass(rt, net, &table(rt.alloc(), net, kind)?, mode, watch)
+    let mode = *mode;
+    let table = table(rt.alloc(), net, *kind)?;
+    let inputs = list(rt.alloc(), &[7; 16])?;
+    run_by(rt, net, &table, Times { blocks: 2, mode }, &inputs, watch)?;
+    all_passed(rt, name, watch, &table.table, 2);
+    watch.anew();
+    feed_twice(rt, net, &table, mode, &inputs, watch)?;
+    all_passed(rt, name, watch, &table.table, 6);
+    Ok(())
 }
 
-/// The same of the net.
-fn all_pass_on<R: Abort + Threads + AllocGlobal + Sync>(
-    rt: &R,
-    kind: Kind,
-    mode: Mode,
-) -> Result<(), Fail> {
+fn all_pass_on<R: Abort + Threads + AllocGlobal + Sync>(rt: &R, row: &Row) -> Result<(), Fail> {
     let watch = Watch::new(rt.alloc(), 3, ACTORS, Hold::NONE)?;
-    all_pass_by(rt, &watched(rt.alloc(), &watch)?, kind, mode, &watch)
+    all_pass(rt, &watched(rt.alloc(), &watch)?, row, &watch)
 }
 
-#[test]
-fn by_rows(rt: HostRuntime) -> Result<(), Fail> {
-    all_pass_on(&rt, Kind::InRuns, Mode::Rows)?;
-    all_pass_on(&rt, Kind::Homed(2), Mode::Rows)?;
-    all_pass_on(&rt, Kind::Free(3), Mode::Rows)
-}
+const IMPATIENT: Mode = Mode::Rings {
+    patience: 0,
+    rooms: 1,
+};
+
+const PATIENT: Mode = Mode::Rings {
+    patience: 1000,
+    rooms: 1,
+};
+
+const ROWS: &[Row] = &[
+    ("one worker by rows, in runs", Kind::InRuns, Mode::Rows),
+    ("two workers by rows", Kind::Homed(2), Mode::Rows),
+    (
+        "three workers by rows, without homes",
+        Kind::Free(3),
+        Mode::Rows,
+    ),
+    ("one worker over rings, in runs", Kind::InRuns, IMPATIENT),
+    ("two workers over rings", Kind::Homed(2), IMPATIENT),
+    ("three workers over rings", Kind::Homed(3), IMPATIENT),
+    (
+        "one patient worker over rings, in runs",
+        Kind::InRuns,
+        PATIENT,
+    ),
+    ("two patient workers over rings", Kind::Homed(2), PATIENT),
+    ("three patient workers over rings", Kind::Homed(3), PATIENT),
+];
 
 #[test]
-fn over_rings(rt: HostRuntime) -> Result<(), Fail> {
-    for patience in [0, 1000] {
-        all_pass_on(&rt, Kind::InRuns, Mode::Rings { patience, rooms: 1 })?;
-        all_pass_on(&rt, Kind::Homed(2), Mode::Rings { patience, rooms: 1 })?;
-        all_pass_on(&rt, Kind::Homed(3), Mode::Rings { patience, rooms: 1 })?;
+fn by_rows_and_over_rings(rt: HostRuntime) -> Result<(), Fail> {
+    for row in ROWS {
+        all_pass_on(&rt, row)?;
     }
     Ok(())
 }

@@ -1,54 +1,71 @@
-//! How often a worker tests again.
+//! What runs make, and in how many rounds: how often a worker tests again, the tries of a round, and what is refused.
 
-ghost use Rattle.sdf_graph.specs.Rates.{rates};
-ghost use Rattle.sdf_actor.specs.Graphs.{graph_of};
-ghost use Rattle.sdf_answer.specs.Rows.{IsBlockTableOf};
-
-use crate::nets::{list, pair, planned};
+use crate::kits::{BLOCKS, PLAIN, Worked};
+use crate::nets::{Times, planned, ramp, run_by};
 use sdf_actor::{Actor, Net};
-use sdf_answer::BlockTable;
 use sdf_node::{ActorId, Gate};
-use sdf_rings::prepare::prepare;
-use sdf_run::run_rings;
-use std::process::Abort;
+use sdf_run::{Mode, Ran};
+use std::alloc::Global;
 use std::sync::atomic::{AtomicBool, Ordering};
 use std::test::Fail;
 use std::thread;
 use std::thread::Threads;
-use test_texts::says;
+use test_texts::row_says;
 
 /// A firing waits for so many turns at most, and then goes on.
 const TURNS: u32 = 2_000_000;
 
 /// A worker whose firing has begun does that firing and tests for the next one within so many turns of another.
-const PAUSE: u32 = 50_000;
+pub(crate) const PAUSE: u32 = 50_000;
 
 /// As long a pause as it tests once in, and far fewer times than a patient one may.
-const SHORT: u32 = 5_000;
+pub(crate) const SHORT: u32 = 5_000;
 
-/// Holds so many firings of the source, from the first on, until the sink's first has begun, and for so many turns: so
-/// long there is nothing more for the sink.
-#[derive(Drop)]
-struct Late {
-    firings: u64,
-    turns: u32,
-    sunk: AtomicBool,
-    missed: AtomicBool,
+/// Holds the first firings of an actor, so many, each for so many turns; where there is one that is awaited, each until
+/// its first has begun, too.
+#[derive(Clone, Copy)]
+pub(crate) struct Hold {
+    pub(crate) actor: ActorId,
+    pub(crate) firings: u64,
+    pub(crate) awaited: Option<ActorId>,
+    pub(crate) turns: u32,
 }
 
-impl Late {
-    fn new(firings: u64, turns: u32) -> Late {
-        Late {
-            firings,
-            turns,
-            sunk: AtomicBool::new(false),
+/// Holds the source's first firings until the sink's first has begun, and then for a while: so long there is nothing
+/// more for the sink.
+pub(crate) const LATE: Hold = Hold {
+    actor: 0,
+    firings: 1,
+    awaited: Some(1),
+    turns: PAUSE,
+};
+
+const NOTHING: Hold = Hold {
+    actor: 0,
+    firings: 0,
+    awaited: None,
+    turns: 0,
+};
+
+#[derive(Drop)]
+pub(crate) struct Held {
+    hold: Hold,
+    pub(crate) begun: AtomicBool,
+    pub(crate) missed: AtomicBool,
+}
+
+impl Held {
+    pub(crate) fn new(hold: Hold) -> Held {
+        Held {
+            hold,
+            begun: AtomicBool::new(false),
             missed: AtomicBool::new(false),
         }
     }
 
     fn meet(&self) {
         for _ in 0..TURNS {
-            if self.sunk.load(Ordering::SeqCst) {
+            if self.begun.load(Ordering::SeqCst) {
                 return;
             }
             thread::yield_now();
@@ -57,109 +74,321 @@ impl Late {
     }
 }
 
-impl Gate for Late {
+impl Gate for Held {
     fn before(&self, _processor: usize, actor: ActorId, firing: u64) {
-        if actor == 1 {
-            self.sunk.store(true, Ordering::SeqCst);
-        } else if firing < self.firings {
-            self.meet();
-            for _ in 0..self.turns {
+        let hold = self.hold;
+        if hold.awaited == Some(actor) {
+            self.begun.store(true, Ordering::SeqCst);
+        } else if actor == hold.actor && firing < hold.firings {
+            if hold.awaited.is_some() {
+                self.meet();
+            }
+            for _ in 0..hold.turns {
                 thread::yield_now();
             }
         }
     }
 }
 
-/// What a run makes of some samples, one a block, and in how many rounds.
-fn told<R: Abort + Threads + AllocGlobal + Sync, A: Actor<Token = i64>>(
-    rt: &R,
-    net: &Net<A>,
-    table: &BlockTable,
-    samples: &[i64],
-    patience: u32,
-    late: &Late,
-) -> Result<String, Fail>
-    requires fits { IsBlockTableOf (rates (graph_of A.steps net.now)) table.now }
-{
-    let inputs = list(rt.alloc(), samples)?;
-    let blocks = u32::try_from(samples.len()).unwrap_or(0);
-    let ran = run_rings(rt, net, table, blocks, &inputs, patience, late)?;
-    assert!(rt; !late.missed.load(Ordering::SeqCst));
-    Ok(format!(in rt.alloc(); "{:?} in {}", ran.outputs, ran.rounds)?)
+/// A net, how many periods its blocks have, its workers, whether each actor has one alone, how it is run and how many
+/// blocks, on the samples from one number to another and so many zeros, and what is held. It is told how long each
+/// output list is, with what the first begins, and the rounds where these are fewer or more; or a refusal.
+#[derive(Clone, Copy)]
+struct Row {
+    name: &'static str,
+    net: Worked,
+    factor: u32,
+    workers: usize,
+    homed: bool,
+    mode: Mode,
+    blocks: u32,
+    samples: (i32, i32),
+    zeros: usize,
+    hold: Hold,
+    rounds: (u64, u64),
+    told: &'static str,
 }
 
-/// What a source and a sink make of some samples, and in how many rounds, where a sample for the sink's first firing is
-/// there, and those for its second and so on come after it has tested for them.
-fn rounds<R: Abort + Threads + AllocGlobal + Sync, A: Actor<Token = i64>>(
+const IMPATIENT: Mode = Mode::Rings {
+    patience: 0,
+    rooms: 1,
+};
+
+const PATIENT: Mode = Mode::Rings {
+    patience: 1_000_000,
+    rooms: 1,
+};
+
+const LITTLE_PATIENT: Mode = Mode::Rings {
+    patience: 10_000,
+    rooms: 1,
+};
+
+const MORE_PATIENT: Mode = Mode::Rings {
+    patience: 20_000,
+    rooms: 1,
+};
+
+/// More than a worker may be.
+const TOO_PATIENT: Mode = Mode::Rings {
+    patience: 1_000_001,
+    rooms: 1,
+};
+
+/// A sample for the sink's first firing is there, and those for its second and so on come after it has tested for them.
+const TWO_SAMPLES: Row = Row {
+    name: "",
+    net: Worked::Pair(1, 1, &[7]),
+    factor: 1,
+    workers: 2,
+    homed: true,
+    mode: PATIENT,
+    blocks: 2,
+    samples: (1, 3),
+    zeros: 0,
+    hold: LATE,
+    rounds: (1, 1),
+    told: "[2] [7, 1]",
+};
+
+/// So many samples are handed on one by one.
+const ONE_BY_ONE: Row = Row {
+    net: PLAIN,
+    blocks: 400,
+    samples: (0, 400),
+    told: "[400] [0, 1, 2, 3, 4, 5, 6, 7, 8, 9, 10, 11]",
+    ..TWO_SAMPLES
+};
+
+/// By rows, whose firings any worker does: twelve samples.
+const BY_ROWS: Row = Row {
+    net: BLOCKS,
+    homed: false,
+    mode: Mode::Rows,
+    samples: (1, 13),
+    hold: NOTHING,
+    rounds: (8, 8),
+    told: "[12] [1, 2, 3, 4, 5, 6, 7, 8, 9, 10, 11, 12]",
+    ..TWO_SAMPLES
+};
+
+/// One worker wants one round: in the table's order each firing finds its samples and its room.
+const ALONE: Row = Row {
+    net: BLOCKS,
+    workers: 1,
+    mode: IMPATIENT,
+    samples: (0, 0),
+    zeros: 294,
+    hold: NOTHING,
+    told: "[12] [0, 0, 0, 0, 0, 0, 0, 0, 0, 0, 0, 0]",
+    ..TWO_SAMPLES
+};
+
+/// One worker wants no round for no block.
+const IDLE: Row = Row {
+    blocks: 0,
+    zeros: 0,
+    rounds: (0, 0),
+    told: "[0] []",
+    ..ALONE
+};
+
+/// Two periods of six samples, of which there are six.
+const SHORT_INPUT: Row = Row {
+    net: BLOCKS,
+    samples: (1, 7),
+    hold: NOTHING,
+    told: "29 InputLength",
+    ..TWO_SAMPLES
+};
+
+const ROWS: &[Row] = &[
+    Row {
+        name: "without patience a failing test ends a round: the sink's worker, whose second fails, ends it",
+        mode: IMPATIENT,
+        rounds: (2, 2),
+        ..TWO_SAMPLES
+    },
+    Row {
+        name: "with patience a worker tests again until its neighbour has moved, and goes on",
+        ..TWO_SAMPLES
+    },
+    Row {
+        name: "and does so once more: for tries that are gone with the first test that fails",
+        blocks: 3,
+        samples: (1, 4),
+        hold: Hold {
+            firings: 2,
+            turns: SHORT,
+            ..LATE
+        },
+        told: "[3] [7, 1, 2]",
+        ..TWO_SAMPLES
+    },
+    Row {
+        name: "each round has its tries: for workers that are patient in the first alone, and want one for each sample",
+        mode: MORE_PATIENT,
+        hold: Hold {
+            actor: 1,
+            firings: 1,
+            turns: 1_000_000,
+            ..NOTHING
+        },
+        rounds: (1, 50),
+        ..ONE_BY_ONE
+    },
+    Row {
+        name: "firings share the tries of a round: for tries that each has anew, and tests that take none",
+        mode: LITTLE_PATIENT,
+        hold: Hold {
+            firings: 400,
+            turns: 2_000,
+            ..NOTHING
+        },
+        rounds: (2, 400),
+        ..ONE_BY_ONE
+    },
+    Row {
+        name: "blocks of one period",
+        ..BY_ROWS
+    },
+    Row {
+        name: "a block of two periods",
+        factor: 2,
+        blocks: 1,
+        rounds: (7, 7),
+        ..BY_ROWS
+    },
+    Row {
+        name: "one round of blocks",
+        ..ALONE
+    },
+    Row {
+        name: "one round of a loop",
+        net: Worked::Looped,
+        told: "[2] [0, 0]",
+        ..ALONE
+    },
+    Row {
+        name: "one round of what is dealt",
+        net: Worked::Dealt,
+        told: "[6, 6] [0, 0, 0, 0, 0, 0]",
+        ..ALONE
+    },
+    Row {
+        name: "one round of branches",
+        net: Worked::Branches(3),
+        told: "[2] [0, 0]",
+        ..ALONE
+    },
+    Row {
+        name: "one round of the converter",
+        net: Worked::Converter,
+        told: "[320] [0, 0, 0, 0, 0, 0, 0, 0, 0, 0, 0, 0]",
+        ..ALONE
+    },
+    Row {
+        name: "no round of blocks",
+        ..IDLE
+    },
+    Row {
+        name: "no round of a loop",
+        net: Worked::Looped,
+        ..IDLE
+    },
+    Row {
+        name: "no round of what is dealt",
+        net: Worked::Dealt,
+        told: "[0, 0] []",
+        ..IDLE
+    },
+    Row {
+        name: "no round of branches",
+        net: Worked::Branches(3),
+        ..IDLE
+    },
+    Row {
+        name: "no round of the converter",
+        net: Worked::Converter,
+        ..IDLE
+    },
+    Row {
+        name: "how long a block of two periods of the converter is",
+        net: Worked::Converter,
+        factor: 2,
+        workers: 3,
+        mode: IMPATIENT,
+        blocks: 1,
+        samples: (0, 148),
+        zeros: 146,
+        hold: NOTHING,
+        rounds: (1, 10_000),
+        told: "[320] [0, 0, 0, 2, 3, 4, 5, 5, 6, 7, 9, 9]",
+        ..TWO_SAMPLES
+    },
+    Row {
+        name: "no homes before too much patience",
+        homed: false,
+        mode: TOO_PATIENT,
+        told: "30 NotHomed",
+        ..SHORT_INPUT
+    },
+    Row {
+        name: "too much patience before a short input",
+        mode: TOO_PATIENT,
+        told: "31 Patience",
+        ..SHORT_INPUT
+    },
+    Row {
+        name: "a short input",
+        ..SHORT_INPUT
+    },
+];
+
+/// What is told of what a run made.
+fn made(alloc: Global, row: &Row, ran: &Ran<i32>, held: &Held) -> Result<String, Fail> {
+    let mut lengths = Vec::new(alloc);
+    for made in &ran.outputs {
+        lengths.push(made.len())?;
+    }
+    let begins = match ran.outputs.first() {
+        Some(made) => &made[..made.len().min(12)],
+        None => &[],
+    };
+    let rounds = ran.rounds;
+    if rounds < row.rounds.0 || rounds > row.rounds.1 || held.missed.load(Ordering::SeqCst) {
+        return Ok(format!(in alloc; "{lengths:?} {begins:?} in {rounds} rounds, or missed")?);
+    }
+    Ok(format!(in alloc; "{lengths:?} {begins:?}")?)
+}
+
+/// What is told of a row's run.
+fn told<R: Threads + AllocGlobal + Sync, A: Actor<Token = i32>>(
     rt: &R,
     net: &Net<A>,
-    samples: &[i64],
-    patience: u32,
-    turns: u32,
+    row: &Row,
 ) -> Result<String, Fail> {
-    let table = planned(rt.alloc(), net, 1, 2, true)?;
-    let late = Late::new(samples.len().saturating_sub(1) as u64, turns);
-    told(rt, net, &table, samples, patience, &late)
+    let table = planned(rt.alloc(), net, row.factor, row.workers, row.homed)?;
+    let inputs = ramp(rt.alloc(), row.samples.0, row.samples.1, row.zeros)?;
+    let times = Times {
+        blocks: row.blocks,
+        mode: row.mode,
+    };
+    let held = Held::new(row.hold);
+    match run_by(rt, net, &table, times, &inputs, &held) {
+        Ok(ran) => made(rt.alloc(), row, &ran, &held),
+        Err(fault) => Ok(fault.to_string(rt.alloc())?),
+    }
 }
 
-/// The sink's worker, whose second test fails, ends its round.
+fn told_of<R: Threads + AllocGlobal + Sync>(rt: &R, row: &Row) -> Result<String, Fail> {
+    told(rt, &row.net.net(rt.alloc())?, row)
+}
+
 #[test]
-fn without_patience_a_failing_test_ends_a_round(rt: HostRuntime) -> Result<(), Fail> {
-    says(
-        rounds(&rt, &pair(rt.alloc(), 1, 1, &[7])?, &[1, 2], 0, PAUSE),
-        "[[7, 1]] in 2",
-    )
-}
-
-/// It tests again until its neighbour has moved, and goes on; and does so once more. Refuses tries that are gone with
-/// the first test that fails.
-#[test]
-fn with_patience_a_worker_goes_on(rt: HostRuntime) -> Result<(), Fail> {
-    let net = pair(rt.alloc(), 1, 1, &[7])?;
-    says(
-        rounds(&rt, &net, &[1, 2], 1_000_000, PAUSE),
-        "[[7, 1]] in 1",
-    )?;
-    says(
-        rounds(&rt, &net, &[1, 2, 3], 1_000_000, SHORT),
-        "[[7, 1, 2]] in 1",
-    )
-}
-
-/// How many of four firings are left after one round of both seats at once, and whether the sink's have passed.
-fn left_by_hand<R: Abort + Threads + AllocGlobal + Sync, A: Actor<Token = i64>>(
-    rt: &R,
-    net: &Net<A>,
-    table: &BlockTable,
-    patience: u32,
-    late: &Late,
-) -> Result<String, Fail>
-    requires fits { IsBlockTableOf (rates (graph_of A.steps net.now)) table.now }
-{
-    let inputs = list(rt.alloc(), &[1, 2])?;
-    let mut rings = prepare(rt.alloc(), net, table, 2, &inputs)?;
-    rings.work_all(rt, patience, late);
-    let (sunk, missed) = (
-        late.sunk.load(Ordering::SeqCst),
-        late.missed.load(Ordering::SeqCst),
-    );
-    Ok(format!(in rt.alloc(); "{} left, {sunk}, {missed}", rings.left())?)
-}
-
-fn left<R: Abort + Threads + AllocGlobal + Sync, A: Actor<Token = i64>>(
-    rt: &R,
-    net: &Net<A>,
-    patience: u32,
-    turns: u32,
-) -> Result<String, Fail> {
-    let table = planned(rt.alloc(), net, 1, 2, true)?;
-    left_by_hand(rt, net, &table, patience, &Late::new(1, turns))
-}
-
-/// Refuses a round by hand whose seats are worked in turn, one without a gate, and one without patience.
-#[test]
-fn all_seats_at_once_by_hand(rt: HostRuntime) -> Result<(), Fail> {
-    let net = pair(rt.alloc(), 1, 1, &[7])?;
-    says(left(&rt, &net, 1_000_000, SHORT), "0 left, true, false")?;
-    says(left(&rt, &net, 0, PAUSE), "1 left, true, false")
+fn what_runs_make_and_in_how_many_rounds(rt: HostRuntime) -> Result<(), Fail> {
+    for row in ROWS {
+        row_says(row.name, told_of(&rt, row), row.told)?;
+    }
+    Ok(())
 }

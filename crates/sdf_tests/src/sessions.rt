@@ -1,117 +1,119 @@
-//! Sessions of the rate converter, which is fed in pieces.
-
-ghost use Rattle.sdf_graph.specs.Rates.{rates};
-ghost use Rattle.sdf_actor.specs.Graphs.{graph_of};
-ghost use Rattle.sdf_answer.specs.Rows.{IsBlockTableOf};
+//! Sessions that are fed in pieces.
 
 use crate::kits::Worked;
-use crate::nets::{by_one, planned, ramp};
+use crate::nets::{by_one, list, pair, planned, ramp};
 use sdf_actor::{Actor, Net};
-use sdf_answer::BlockTable;
-use sdf_run::{Mode, NoGate, RunFault, Session};
-use std::process::Abort;
+use sdf_run::{Mode, NoGate, Session};
+use std::alloc::Global;
 use std::test::Fail;
 use std::thread::Threads;
-use test_texts::says;
+use test_texts::{row_says, says};
 
-/// Feeds the samples from one number to another, appends what is made of them, and counts what there is then.
-fn feed<R: Abort + Threads + AllocGlobal + Sync, A: Actor<Token = i32>>(
+/// Feeds the samples from one number to another, appends what is made of them, and tells how much there is then, or why
+/// nothing was made.
+fn feed<R: Threads + AllocGlobal + Sync, A: Actor<Token = i32>>(
     rt: &R,
     session: &mut Session<A>,
     (from, to): (i32, i32),
     joined: &mut Vec<i32>,
-    many: usize,
+    told: &mut String,
 ) -> Result<(), Fail> {
     let inputs = ramp(rt.alloc(), from, to, 0)?;
-    let ran = session.feed(rt, &inputs, &NoGate)?;
-    for made in &ran.outputs {
-        joined.extend_from_slice(made)?;
+    match session.feed(rt, &inputs, &NoGate) {
+        Ok(ran) => {
+            for made in &ran.outputs {
+                joined.extend_from_slice(made)?;
+            }
+            Ok(write!(told, "{} ", joined.len())?)
+        }
+        Err(fault) => Ok(write!(told, "{fault} ")?),
     }
-    assert_eq!(rt; joined.len(), many);
-    Ok(())
 }
 
-/// A feed that is no block leaves a session as it was.
-fn refuses<R: Abort + Threads + AllocGlobal + Sync, A: Actor<Token = i32>>(
-    rt: &R,
-    session: &mut Session<A>,
-) -> Result<(), Fail> {
-    let inputs = ramp(rt.alloc(), 147, 293, 0)?;
-    let refused = session.feed(rt, &inputs, &NoGate);
-    assert!(rt; matches!(refused, Err(RunFault::InputLength)));
-    Ok(())
-}
+/// Pieces of two blocks of the converter, with nothing and too little between them: a feed that is no block leaves a
+/// session as it was.
+const PIECES: &[(i32, i32)] = &[(0, 147), (147, 147), (147, 293), (147, 294)];
 
-/// Feeds two blocks, with nothing and too little between them.
-fn feeds<R: Abort + Threads + AllocGlobal + Sync, A: Actor<Token = i32>>(
+/// How much there is after each piece, how many blocks were run, and what is made.
+fn fed<R: Threads + AllocGlobal + Sync, A: Actor<Token = i32>>(
     rt: &R,
-    session: &mut Session<A>,
-) -> Result<Vec<i32>, Fail> {
+    net: &Net<A>,
+    mode: Mode,
+) -> Result<String, Fail> {
+    let table = planned(rt.alloc(), net, 1, 2, true)?;
+    let mut session = Session::open(rt.alloc(), net, &table, mode)?;
     let mut joined = Vec::new(rt.alloc());
-    feed(rt, session, (0, 147), &mut joined, 160)?;
-    feed(rt, session, (147, 147), &mut joined, 160)?;
-    refuses(rt, session)?;
-    feed(rt, session, (147, 294), &mut joined, 320)?;
-    Ok(joined)
+    let mut told = String::new(rt.alloc());
+    for piece in PIECES {
+        feed(rt, &mut session, *piece, &mut joined, &mut told)?;
+    }
+    let blocks = session.close()?.blocks;
+    Ok(format!(in rt.alloc(); "{told}{blocks} [{joined:?}]")?)
 }
 
-/// What two blocks make that are fed.
-fn told<R: Abort + Threads + AllocGlobal + Sync, A: Actor<Token = i32>>(
-    rt: &R,
-    net: &Net<A>,
-    table: &BlockTable,
-    mode: Mode,
-) -> Result<String, Fail>
-    requires fits { IsBlockTableOf (rates (graph_of A.steps net.now)) table.now }
-{
-    let mut session = Session::open(rt.alloc(), net, table, mode)?;
-    let joined = feeds(rt, &mut session)?;
-    assert_eq!(rt; session.close()?.blocks, 2);
-    Ok(format!(in rt.alloc(); "[{joined:?}]")?)
+/// What it has to be: what one run makes of both.
+fn wanted<A: Actor<Token = i32>>(alloc: Global, net: &Net<A>) -> Result<String, Fail> {
+    let table = planned(alloc, net, 1, 2, true)?;
+    let inputs = ramp(alloc, 0, 294, 0)?;
+    let one = by_one(alloc, net, &table.period, 2, &inputs)?;
+    Ok(format!(in alloc; "160 160 29 InputLength 320 2 {one}")?)
 }
 
-/// Whether that is what one run makes of both.
-fn pieces_are_one<R: Abort + Threads + AllocGlobal + Sync, A: Actor<Token = i32>>(
-    rt: &R,
-    net: &Net<A>,
-    table: &BlockTable,
-    mode: Mode,
-) -> Result<(), Fail>
-    requires fits { IsBlockTableOf (rates (graph_of A.steps net.now)) table.now }
-{
-    let inputs = ramp(rt.alloc(), 0, 294, 0)?;
-    let one = by_one(rt.alloc(), net, &table.period, 2, &inputs)?;
-    says(told(rt, net, table, mode), one.as_str())
-}
+const MODES: &[(&str, Mode)] = &[
+    ("by rows", Mode::Rows),
+    (
+        "over rings",
+        Mode::Rings {
+            patience: 0,
+            rooms: 1,
+        },
+    ),
+    (
+        "over rings of three blocks",
+        Mode::Rings {
+            patience: 0,
+            rooms: 3,
+        },
+    ),
+];
 
-/// The same on two workers.
-fn fed_in_pieces<R: Abort + Threads + AllocGlobal + Sync, A: Actor<Token = i32>>(
+/// Whether it is so in each mode.
+fn pieces_are_one<R: Threads + AllocGlobal + Sync, A: Actor<Token = i32>>(
     rt: &R,
     net: &Net<A>,
-    mode: Mode,
 ) -> Result<(), Fail> {
-    pieces_are_one(rt, net, &planned(rt.alloc(), net, 1, 2, true)?, mode)
+    let wanted = wanted(rt.alloc(), net)?;
+    for (name, mode) in MODES {
+        row_says(name, fed(rt, net, *mode), wanted.as_str())?;
+    }
+    Ok(())
 }
 
 #[test]
-fn by_rows(rt: HostRuntime) -> Result<(), Fail> {
-    fed_in_pieces(&rt, &Worked::Converter.net(rt.alloc())?, Mode::Rows)
+fn fed_in_pieces(rt: HostRuntime) -> Result<(), Fail> {
+    pieces_are_one(&rt, &Worked::Converter.net(rt.alloc())?)
 }
 
-#[test]
-fn over_rings(rt: HostRuntime) -> Result<(), Fail> {
+/// What a session over rings of sixteen blocks makes of one sample.
+fn made_of_one<R: Threads + AllocGlobal + Sync, A: Actor<Token = i64>>(
+    rt: &R,
+    net: &Net<A>,
+) -> Result<String, Fail> {
+    let table = planned(rt.alloc(), net, 1, 2, true)?;
+    let inputs = list(rt.alloc(), &[1i64])?;
     let mode = Mode::Rings {
         patience: 0,
-        rooms: 1,
+        rooms: 16,
     };
-    fed_in_pieces(&rt, &Worked::Converter.net(rt.alloc())?, mode)
+    let mut session = Session::open(rt.alloc(), net, &table, mode)?;
+    let ran = session.feed(rt, &inputs, &NoGate)?;
+    Ok(format!(in rt.alloc(); "{:?}", ran.outputs)?)
 }
 
+/// Refuses memory that is not asked for where a channel begins with as many samples as it may, as by `enlarged` that
+/// answers no more than 1,000,000.
 #[test]
-fn over_rings_of_three_blocks(rt: HostRuntime) -> Result<(), Fail> {
-    let mode = Mode::Rings {
-        patience: 0,
-        rooms: 3,
-    };
-    fed_in_pieces(&rt, &Worked::Converter.net(rt.alloc())?, mode)
+fn rings_of_many_samples(rt: HostRuntime) -> Result<(), Fail> {
+    let many = vec![in rt.alloc(); 7i64; 65_536]?;
+    says(made_of_one(&rt, &pair(rt.alloc(), 1, 1, &many)?), "[[7]]")
 }

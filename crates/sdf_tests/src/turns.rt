@@ -6,7 +6,7 @@ ghost use Rattle.sdf_actor.specs.Graphs.{graph_of};
 ghost use Rattle.sdf_answer.specs.Rows.{IsBlockTableOf};
 ghost use Rattle.sdf_rings.specs.Rests.{HaveMet};
 
-use crate::kits::Worked;
+use crate::kits::{BLOCKS, Worked};
 use crate::nets::{by_one, planned, ramp};
 use sdf_actor::{Actor, Net};
 use sdf_answer::BlockTable;
@@ -191,7 +191,7 @@ fn done_by_workers<A: Actor<Token = i32>>(
 
 #[test]
 fn in_any_order(rt: HostRuntime) -> Result<(), Fail> {
-    done_by_workers(&rt, &Worked::Blocks.net(rt.alloc())?, 2)?;
+    done_by_workers(&rt, &BLOCKS.net(rt.alloc())?, 2)?;
     done_by_workers(&rt, &Worked::Looped.net(rt.alloc())?, 2)?;
     done_by_workers(&rt, &Worked::Branches(2).net(rt.alloc())?, 2)?;
     done_by_workers(&rt, &Worked::Converter.net(rt.alloc())?, 1)

@@ -1,12 +1,11 @@
 //! The words that a program is started with.
 
-use sdf_options::WordFault;
 use sdf_process::{Fault, status};
 use sdf_words::arguments::arguments;
 use std::alloc::Global;
 use std::env::{Env, FillError};
 use std::test::Fail;
-use test_texts::says;
+use test_texts::row_says;
 
 /// The words of a program, of which the first is its name.
 #[derive(Clone, Copy)]
@@ -41,8 +40,16 @@ impl Env for Given<'_> {
 /// and its exit status.
 fn told<'a>(alloc: Global, words: &'a [&'a [u8]]) -> Result<String, Fail> {
     match arguments(&Given { words }, alloc) {
-        Ok(read) => words_told(alloc, &read, words),
-        Err(fault) => fault_told(alloc, fault),
+        Ok(read) => {
+            let first = read.first();
+            let same = are_read(&read, words);
+            Ok(format!(in alloc; "{} {first:?} {same}", read.len())?)
+        }
+        Err(fault) => {
+            let text = fault.to_string(alloc)?;
+            let begins = text.starts_with("error: argument 1 is no UTF-8\n");
+            Ok(format!(in alloc; "{begins} {}", status(&Fault::from(fault)))?)
+        }
     }
 }
 
@@ -56,29 +63,7 @@ fn are_read(read: &[String], words: &[&[u8]]) -> bool {
     read.len() == words.len()
 }
 
-fn words_told(alloc: Global, read: &[String], words: &[&[u8]]) -> Result<String, Fail> {
-    match read.first() {
-        Some(first) => {
-            let same = are_read(read, words);
-            Ok(format!(in alloc; "{} {first} {same}", read.len())?)
-        }
-        None => Ok(String::new(alloc)),
-    }
-}
-
-fn fault_told(alloc: Global, fault: WordFault) -> Result<String, Fail> {
-    let text = fault.to_string(alloc)?;
-    let begins = text.starts_with("error: argument 1 is no UTF-8\n");
-    Ok(format!(in alloc; "{begins} {}", status(&Fault::from(fault)))?)
-}
-
-/// The same of the program's name and an argument of 1,000 letters.
-fn long_told(alloc: Global) -> Result<String, Fail> {
-    let long = vec![in alloc; b'x'; 1000]?;
-    told(alloc, &[b"sdfw".as_slice(), &long])
-}
-
-/// The same of many words, an empty one and one of 5,000 letters among them.
+/// Many words, an empty one and one of 5,000 letters among them.
 fn many_told(alloc: Global) -> Result<String, Fail> {
     let long = vec![in alloc; b'x'; 5000]?;
     let mut words = [b"word".as_slice(); 23];
@@ -91,14 +76,11 @@ fn many_told(alloc: Global) -> Result<String, Fail> {
 /// Refuses words behind an empty one that are not read, and a long one for which no memory is asked.
 #[test]
 fn arguments_are_text(rt: HostRuntime) -> Result<(), Fail> {
-    says(long_told(rt.alloc()), "2 sdfw true")?;
-    says(many_told(rt.alloc()), "23 word true")
-}
-
-#[test]
-fn other_arguments_are_mistakes(rt: HostRuntime) -> Result<(), Fail> {
-    says(
-        told(rt.alloc(), &[b"sdfw".as_slice(), b"a\xFF".as_slice()]),
-        "true 2",
-    )
+    let alloc = rt.alloc();
+    let long = vec![in alloc; b'x'; 1000]?;
+    let words = [b"sdfw".as_slice(), &long];
+    row_says("a long word", told(alloc, &words), "2 Some(\"sdfw\") true")?;
+    row_says("many words", many_told(alloc), "23 Some(\"word\") true")?;
+    let words = [b"sdfw".as_slice(), b"a\xFF".as_slice()];
+    row_says("no text", told(alloc, &words), "true 2")
 }

@@ -1,16 +1,15 @@
 //! WAV files of which a front is kept, and sizes that lie, run by each runner.
 
 use crate::designs::HALF;
-use crate::running::{fault_told, file_of, run_by};
+use crate::devices::seen;
+use crate::running::half_of;
 use sdf_options::Runner;
-use sdf_process::Fault;
-use sdf_wav::{FromRead, ToWrite};
 use std::alloc::Global;
 use std::test::Fail;
 use std::thread::Threads;
 use test_devices::Faulty;
 use test_devices::files::{Answer, FILES, LIES, Whole};
-use test_texts::says;
+use test_texts::row_says;
 
 /// Every second sample: the output of the longest file fits into one.
 const SECONDS: &str = r#"format = 1
@@ -18,36 +17,28 @@ actor = [{ name = "in", kind = "input", channel = 0 }, { name = "dec", kind = "d
     { name = "out", kind = "output", channel = 0 }]
 link = [{ from = "in", to = "dec" }, { from = "dec", to = "out" }]"#;
 
-/// The file of the halves of these samples, each rounded up.
-fn half_of(alloc: Global, samples: &[i16]) -> Result<Vec<u8>, Fault> {
-    let mut halves = Vec::new(alloc);
-    for sample in samples {
-        halves.push(sample.saturating_add(1) >> 1)?;
-    }
-    file_of(alloc, 44_100, 1, &halves)
-}
+/// What runs a design, and how many bytes a call of a device moves at most.
+type By = (Runner, usize);
 
-/// What a design makes of a file, or the fault, where a call of a device moves so many bytes at most.
-fn answer_told<T: Threads + AllocGlobal + Sync>(
+/// What a design makes of a file, or the fault.
+fn told<T: Threads + AllocGlobal + Sync>(
     rt: &T,
     graph: &str,
-    runner: Runner,
+    (runner, most): By,
     bytes: &[u8],
-    most: usize,
 ) -> Result<String, Fail> {
     let alloc = rt.alloc();
-    let mut reader = FromRead::new(Faulty::moving(alloc, bytes, most));
-    let mut writer = ToWrite::new(Faulty::moving(alloc, Vec::new(alloc), most));
-    let run = run_by(rt, graph, runner, &mut reader, &mut writer);
-    let output = writer.into_inner().device;
-    match run {
-        Ok(()) => Ok(format!(in alloc; "{:?}", output.as_slice())?),
-        Err(fault) => fault_told(alloc, &fault),
+    let input = Faulty::moving(alloc, bytes, most);
+    let output = Faulty::moving(alloc, Vec::new(alloc), most);
+    let seen = seen(rt, graph, runner, input, output)?;
+    if seen.end.as_str() == "no fault" {
+        return Ok(format!(in alloc; "{:?}", seen.output.as_slice())?);
     }
+    Ok(seen.end)
 }
 
-/// What it has to be.
-fn answer_wanted(alloc: Global, answer: Answer) -> Result<String, Fail> {
+/// What it has to be: the halves of the samples, or the fault.
+fn wanted(alloc: Global, answer: Answer) -> Result<String, Fail> {
     match answer {
         Ok(samples) => Ok(format!(in alloc; "{:?}", half_of(alloc, samples)?.as_slice())?),
         Err(fault) => Ok(format!(in alloc; "4 sdfw: {fault}\n")?),
@@ -58,25 +49,24 @@ fn answer_wanted(alloc: Global, answer: Answer) -> Result<String, Fail> {
 fn is_answered<T: Threads + AllocGlobal + Sync>(
     rt: &T,
     graph: &str,
-    runner: Runner,
+    by: By,
     bytes: &[u8],
-    most: usize,
     answer: Answer,
 ) -> Result<(), Fail> {
-    let wanted = answer_wanted(rt.alloc(), answer)?;
-    says(answer_told(rt, graph, runner, bytes, most), &wanted)
+    let name = format!(in rt.alloc(); "{} bytes, {by:?}", bytes.len())?;
+    let wanted = wanted(rt.alloc(), answer)?;
+    row_says(&name, told(rt, graph, by, bytes), &wanted)
 }
 
 /// Whether each front of a file has its answer.
-fn fronts_by<T: Threads + AllocGlobal + Sync>(
+fn fronts_are_answered<T: Threads + AllocGlobal + Sync>(
     rt: &T,
-    runner: Runner,
-    most: usize,
+    by: By,
     file: &Whole,
 ) -> Result<(), Fail> {
     for kept in 0..=file.bytes.len() {
         match file.answer(kept) {
-            Some(answer) => is_answered(rt, HALF, runner, file.front(kept), most, answer)?,
+            Some(answer) => is_answered(rt, HALF, by, file.front(kept), answer)?,
             None => return Err(Fail::from("no row")),
         }
     }
@@ -84,43 +74,35 @@ fn fronts_by<T: Threads + AllocGlobal + Sync>(
 }
 
 /// Whether each size that lies has its answer.
-fn lies_by<T: Threads + AllocGlobal + Sync>(
-    rt: &T,
-    runner: Runner,
-    most: usize,
-) -> Result<(), Fail> {
+fn lies_are_answered<T: Threads + AllocGlobal + Sync>(rt: &T, by: By) -> Result<(), Fail> {
     for lie in &LIES {
-        is_answered(rt, SECONDS, runner, lie.bytes, most, Err(lie.fault))?;
+        is_answered(rt, SECONDS, by, lie.bytes, Err(lie.fault))?;
     }
     Ok(())
 }
 
-/// Whether each front of the three files and each size that lies have their answers.
-fn damaged_by<T: Threads + AllocGlobal + Sync>(
-    rt: &T,
-    runner: Runner,
-    most: usize,
-) -> Result<(), Fail> {
+/// Whether it is so of the fronts of the three files and of the sizes.
+fn damage_is_answered<T: Threads + AllocGlobal + Sync>(rt: &T, by: By) -> Result<(), Fail> {
     for file in &FILES {
-        fronts_by(rt, runner, most, file)?;
+        fronts_are_answered(rt, by, file)?;
     }
-    lies_by(rt, runner, most)
+    lies_are_answered(rt, by)
 }
 
 #[test]
-fn damaged_files_on_one_thread(rt: HostRuntime) -> Result<(), Fail> {
-    damaged_by(&rt, Runner::One, usize::MAX)?;
-    damaged_by(&rt, Runner::One, 1)
+fn on_one_thread(rt: HostRuntime) -> Result<(), Fail> {
+    damage_is_answered(&rt, (Runner::One, usize::MAX))?;
+    damage_is_answered(&rt, (Runner::One, 1))
 }
 
 #[test]
-fn damaged_files_by_rows(rt: HostRuntime) -> Result<(), Fail> {
-    damaged_by(&rt, Runner::Rows, usize::MAX)?;
-    damaged_by(&rt, Runner::Rows, 1)
+fn by_rows(rt: HostRuntime) -> Result<(), Fail> {
+    damage_is_answered(&rt, (Runner::Rows, usize::MAX))?;
+    damage_is_answered(&rt, (Runner::Rows, 1))
 }
 
 #[test]
-fn damaged_files_over_rings(rt: HostRuntime) -> Result<(), Fail> {
-    damaged_by(&rt, Runner::Rings, usize::MAX)?;
-    damaged_by(&rt, Runner::Rings, 1)
+fn over_rings(rt: HostRuntime) -> Result<(), Fail> {
+    damage_is_answered(&rt, (Runner::Rings, usize::MAX))?;
+    damage_is_answered(&rt, (Runner::Rings, 1))
 }

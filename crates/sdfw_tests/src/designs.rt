@@ -8,7 +8,8 @@ link = [{ from = "in", to = "half" }, { from = "half", to = "out" }]"#;
 
 /// Blocks of two samples to blocks of three.
 pub(crate) const BLOCKS: &str = r#"format = 1
-actor = [{ name = "in", kind = "input", channel = 0, block = 2 }, { name = "out", kind = "output", channel = 0, block = 3 }]
+actor = [{ name = "in", kind = "input", channel = 0, block = 2 },
+    { name = "out", kind = "output", channel = 0, block = 3 }]
 link = [{ from = "in", to = "out" }]"#;
 
 /// 44,100 to 48,000 in four stages, each with as many taps of 1 as its `up`.
@@ -19,7 +20,8 @@ actor = [{ name = "in", kind = "input", channel = 0 },
     { name = "c", kind = "fir", up = 8, down = 7, shift = 0, taps = [1, 1, 1, 1, 1, 1, 1, 1] },
     { name = "d", kind = "fir", up = 5, down = 7, shift = 0, taps = [1, 1, 1, 1, 1] },
     { name = "out", kind = "output", channel = 0 }]
-link = [{ from = "in", to = "a" }, { from = "a", to = "b" }, { from = "b", to = "c" }, { from = "c", to = "d" }, { from = "d", to = "out" }]"#;
+link = [{ from = "in", to = "a" }, { from = "a", to = "b" }, { from = "b", to = "c" }, { from = "c", to = "d" },
+    { from = "d", to = "out" }]"#;
 
 /// Three for two, each tap a half.
 pub(crate) const THREE_FOR_TWO: &str = r#"format = 1
@@ -28,20 +30,30 @@ actor = [{ name = "in", kind = "input", channel = 0 },
     { name = "out", kind = "output", channel = 0 }]
 link = [{ from = "in", to = "up" }, { from = "up", to = "out" }]"#;
 
-/// The actors of a loop: what comes out is fed back, turned round.
+/// A loop: what comes out is fed back, turned round. A sample stands on its last link.
 pub(crate) const LOOP: &str = r#"format = 1
-actor = [{ name = "in", kind = "input", channel = 0 }, { name = "add", kind = "add", ways = 2 }, { name = "fork", kind = "fork", ways = 2 },
-    { name = "gain", kind = "gain", gain = -32768, shift = 15 }, { name = "out", kind = "output", channel = 0 }]
-link = [{ from = "in", to = "add:0" }, { from = "add", to = "fork" }, { from = "fork:0", to = "out" }, { from = "fork:1", to = "gain" },
-    { from = "gain", to = "add:1""#;
+actor = [{ name = "in", kind = "input", channel = 0 }, { name = "add", kind = "add", ways = 2 },
+    { name = "fork", kind = "fork", ways = 2 }, { name = "gain", kind = "gain", gain = -32768, shift = 15 },
+    { name = "out", kind = "output", channel = 0 }]
+link = [{ from = "in", to = "add:0" }, { from = "add", to = "fork" }, { from = "fork:0", to = "out" },
+    { from = "fork:1", to = "gain" }, { from = "gain", to = "add:1", initial = [0] }]"#;
+
+/// The same loop with no sample on it.
+pub(crate) const STUCK: &str = r#"format = 1
+actor = [{ name = "in", kind = "input", channel = 0 }, { name = "add", kind = "add", ways = 2 },
+    { name = "fork", kind = "fork", ways = 2 }, { name = "gain", kind = "gain", gain = -32768, shift = 15 },
+    { name = "out", kind = "output", channel = 0 }]
+link = [{ from = "in", to = "add:0" }, { from = "add", to = "fork" }, { from = "fork:0", to = "out" },
+    { from = "fork:1", to = "gain" }, { from = "gain", to = "add:1" }]"#;
 
 /// The same loop with a delay in it, which is no initial sample.
 pub(crate) const DELAYED: &str = r#"format = 1
-actor = [{ name = "in", kind = "input", channel = 0 }, { name = "add", kind = "add", ways = 2 }, { name = "fork", kind = "fork", ways = 2 },
-    { name = "gain", kind = "gain", gain = -32768, shift = 15 }, { name = "late", kind = "delay", length = 1 },
+actor = [{ name = "in", kind = "input", channel = 0 }, { name = "add", kind = "add", ways = 2 },
+    { name = "fork", kind = "fork", ways = 2 }, { name = "gain", kind = "gain", gain = -32768, shift = 15 },
+    { name = "late", kind = "delay", length = 1 },
     { name = "out", kind = "output", channel = 0 }]
-link = [{ from = "in", to = "add:0" }, { from = "add", to = "fork" }, { from = "fork:0", to = "out" }, { from = "fork:1", to = "gain" },
-    { from = "gain", to = "late" }, { from = "late", to = "add:1" }]"#;
+link = [{ from = "in", to = "add:0" }, { from = "add", to = "fork" }, { from = "fork:0", to = "out" },
+    { from = "fork:1", to = "gain" }, { from = "gain", to = "late" }, { from = "late", to = "add:1" }]"#;
 
 /// Each sample turned round.
 pub(crate) const TURNED: &str = r#"format = 1
@@ -58,13 +70,16 @@ link = [{ from = "in", to = "out", initial = [7, 8] }]"#;
 pub(crate) const TWICE: &str = r#"format = 1
 actor = [{ name = "in", kind = "input", channel = 0 }, { name = "fork", kind = "fork", ways = 2 },
     { name = "add", kind = "add", ways = 2 }, { name = "out", kind = "output", channel = 0 }]
-link = [{ from = "in", to = "fork" }, { from = "fork:0", to = "add:0" }, { from = "fork:1", to = "add:1" }, { from = "add", to = "out" }]"#;
+link = [{ from = "in", to = "fork" }, { from = "fork:0", to = "add:0" }, { from = "fork:1", to = "add:1" },
+    { from = "add", to = "out" }]"#;
 
 /// One branch loses every second sample, the other none.
 pub(crate) const UNEVEN: &str = r#"format = 1
 actor = [{ name = "in", kind = "input", channel = 0 }, { name = "fork", kind = "fork", ways = 2 },
-    { name = "dec", kind = "decimate", factor = 2 }, { name = "add", kind = "add", ways = 2 }, { name = "out", kind = "output", channel = 0 }]
-link = [{ from = "in", to = "fork" }, { from = "fork:0", to = "dec" }, { from = "dec", to = "add:0" }, { from = "fork:1", to = "add:1" },
+    { name = "dec", kind = "decimate", factor = 2 }, { name = "add", kind = "add", ways = 2 },
+    { name = "out", kind = "output", channel = 0 }]
+link = [{ from = "in", to = "fork" }, { from = "fork:0", to = "dec" }, { from = "dec", to = "add:0" },
+    { from = "fork:1", to = "add:1" },
     { from = "add", to = "out" }]"#;
 
 /// The second channel alone.
@@ -80,3 +95,57 @@ actor = [{ name = "in0", kind = "input", channel = 0 }, { name = "in1", kind = "
     { name = "out1", kind = "output", channel = 1 }]
 link = [{ from = "in0", to = "split" }, { from = "split:0", to = "out1" }, { from = "split:1", to = "nothing" },
     { from = "in1", to = "join:0" }, { from = "nothing", to = "join:1" }, { from = "join", to = "out0" }]"#;
+
+/// Each second sample is doubled, on a way of its own.
+pub(crate) const SECOND_DOUBLED: &str = r#"format = 2
+actor = [{ name = "in", kind = "input", channel = 0 }, { name = "deal", kind = "deal", ways = 2 },
+    { name = "x", kind = "gain", gain = 1, shift = 0 }, { name = "y", kind = "gain", gain = 2, shift = 0 },
+    { name = "gather", kind = "gather", ways = 2 }, { name = "out", kind = "output", channel = 0 }]
+link = [{ from = "in", to = "deal" }, { from = "deal:0", to = "x" }, { from = "deal:1", to = "y" },
+    { from = "x", to = "gather:0" }, { from = "y", to = "gather:1" }, { from = "gather", to = "out" }]"#;
+
+/// Dealt two at a time, gathered one at a time.
+pub(crate) const PAIRS: &str = r#"format = 2
+actor = [{ name = "in", kind = "input", channel = 0 }, { name = "deal", kind = "deal", ways = 2, run = 2 },
+    { name = "gather", kind = "gather", ways = 2, run = 1 }, { name = "out", kind = "output", channel = 0 }]
+link = [{ from = "in", to = "deal" }, { from = "deal:0", to = "gather:0" }, { from = "deal:1", to = "gather:1" },
+    { from = "gather", to = "out" }]"#;
+
+/// A format that is not there.
+pub(crate) const LATER: &str = "format = 3\nactor = []\nlink = []";
+
+/// A kind of format 2 in a file of format 1.
+pub(crate) const EARLY: &str = r#"format = 1
+actor = [{ name = "in", kind = "input", channel = 0 }, { name = "deal", kind = "deal", ways = 2 }]
+link = []"#;
+
+/// Two gains that wait on their links: each may fire from the start.
+pub(crate) const PAIR: &str = r#"format = 1
+actor = [{ name = "in", kind = "input", channel = 0 }, { name = "fork", kind = "fork", ways = 2 },
+    { name = "x", kind = "gain", gain = 1, shift = 0 }, { name = "y", kind = "gain", gain = 1, shift = 0 },
+    { name = "add", kind = "add", ways = 2 }, { name = "out", kind = "output", channel = 0 }]
+link = [{ from = "in", to = "fork" }, { from = "fork:0", to = "x", initial = [0] },
+    { from = "fork:1", to = "y", initial = [0] }, { from = "x", to = "add:0" }, { from = "y", to = "add:1" },
+    { from = "add", to = "out" }]"#;
+
+/// Two channels are added. The sources are at home with one of two workers, the others with the other: by the file, and
+/// where they are spread.
+pub(crate) const SUM: &str = r#"format = 1
+actor = [{ name = "left", kind = "input", channel = 0, processor = 0 },
+    { name = "right", kind = "input", channel = 1, processor = 0 },
+    { name = "add", kind = "add", ways = 2, processor = 1 },
+    { name = "out", kind = "output", channel = 0, processor = 1 }]
+link = [{ from = "left", to = "add:0" }, { from = "right", to = "add:1" }, { from = "add", to = "out" }]"#;
+
+/// Blocks of two samples, dealt by threes to two outputs. The source and `left` are at home with one of two workers,
+/// the others with the other.
+pub(crate) const DEALT: &str = r#"format = 2
+actor = [{ name = "in", kind = "input", channel = 0, block = 2 }, { name = "deal", kind = "deal", ways = 2, run = 3 },
+    { name = "left", kind = "output", channel = 0, block = 3 },
+    { name = "right", kind = "output", channel = 1, block = 3 }]
+link = [{ from = "in", to = "deal" }, { from = "deal:0", to = "left" }, { from = "deal:1", to = "right" }]"#;
+
+/// What comes in goes out. The source is at home with one of two workers, the sink with the other.
+pub(crate) const PLAIN: &str = r#"format = 1
+actor = [{ name = "in", kind = "input", channel = 0 }, { name = "out", kind = "output", channel = 0 }]
+link = [{ from = "in", to = "out" }]"#;

@@ -1,8 +1,7 @@
-//! Designs run over devices that fail at one call, and how much a call asks for.
+//! Designs run over devices that fail at one call.
 
 use crate::designs::HALF;
-use crate::running::{end_of, run_by, run_file};
-use crate::runs::ramp_file;
+use crate::running::{end_of, run_file, run_with};
 use sdf_options::{Options, Runner};
 use sdf_wav::{FromRead, ToWrite};
 use std::alloc::Global;
@@ -10,12 +9,48 @@ use std::test::Fail;
 use std::thread::Threads;
 use test_devices::files::{CANONICAL, OPEN, Whole};
 use test_devices::{Faulty, Slip};
-use test_texts::says;
+use test_texts::row_says;
+
+/// What is seen of a run over devices: how many bytes each call of the reader asked for, and of the writer, what is
+/// written, and how the run ends.
+#[derive(Drop)]
+pub(crate) struct Trace {
+    pub(crate) read: Vec<usize>,
+    pub(crate) written: Vec<usize>,
+    pub(crate) output: Vec<u8>,
+    pub(crate) end: String,
+}
+
+/// What is seen of a run of a design by a runner.
+pub(crate) fn seen<T: Threads + AllocGlobal + Sync>(
+    rt: &T,
+    graph: &str,
+    runner: Runner,
+    input: Faulty<&[u8]>,
+    output: Faulty<Vec<u8>>,
+) -> Result<Trace, Fail> {
+    let options = Options {
+        runner,
+        ..Options::DEFAULT
+    };
+    let mut reader = FromRead::new(input);
+    let mut writer = ToWrite::new(output);
+    let run = run_with(rt, graph, &options, &mut reader, &mut writer);
+    let end = end_of(rt.alloc(), run)?;
+    let writer = writer.into_inner();
+    Ok(Trace {
+        read: reader.into_inner().asked,
+        written: writer.asked,
+        output: writer.device,
+        end,
+    })
+}
 
 /// A file, how many bytes a call moves at most, and how many calls come: of the reader before the output is begun and
 /// in all, and of the writer.
 #[derive(Clone, Copy)]
 struct Trip {
+    name: &'static str,
     file: Whole,
     most: usize,
     before: usize,
@@ -25,6 +60,7 @@ struct Trip {
 
 const TRIPS: &[Trip] = &[
     Trip {
+        name: "the canonical file",
         file: CANONICAL,
         most: usize::MAX,
         before: 4,
@@ -32,6 +68,7 @@ const TRIPS: &[Trip] = &[
         writes: 2,
     },
     Trip {
+        name: "the canonical file, byte by byte",
         file: CANONICAL,
         most: 1,
         before: 44,
@@ -39,6 +76,7 @@ const TRIPS: &[Trip] = &[
         writes: 48,
     },
     Trip {
+        name: "a file whose size is open",
         file: OPEN,
         most: usize::MAX,
         before: 9,
@@ -46,6 +84,7 @@ const TRIPS: &[Trip] = &[
         writes: 2,
     },
     Trip {
+        name: "a file whose size is open, byte by byte",
         file: OPEN,
         most: 1,
         before: 87,
@@ -54,178 +93,127 @@ const TRIPS: &[Trip] = &[
     },
 ];
 
-/// How often a reader is asked that slips at this call, how much is written, and the end of the run.
-fn reading_told<T: Threads + AllocGlobal + Sync>(
+#[derive(Clone, Copy, Debug)]
+enum Side {
+    Reader,
+    Writer,
+}
+
+use Side::{Reader, Writer};
+
+/// Which device slips, and how.
+const SLIPS: &[(Side, Slip)] = &[
+    (Reader, Slip::Fails),
+    (Reader, Slip::IsInterrupted),
+    (Writer, Slip::Fails),
+    (Writer, Slip::IsInterrupted),
+    (Writer, Slip::MovesNothing),
+];
+
+/// How often a device is asked that slips at this call, whether a front of the whole output is written, how long it is,
+/// and the end of the run.
+fn told<T: Threads + AllocGlobal + Sync>(
     rt: &T,
     runner: Runner,
     trip: &Trip,
-    slip: Slip,
-    at: usize,
-) -> Result<String, Fail> {
-    let alloc = rt.alloc();
-    let mut reader = FromRead::new(Faulty::slipping(alloc, trip.file.bytes, trip.most, slip, at));
-    let mut writer = ToWrite::new(Vec::new(alloc));
-    let run = run_by(rt, HALF, runner, &mut reader, &mut writer);
-    let len = writer.into_inner().len();
-    let calls = reader.into_inner().asked.len();
-    let end = end_of(alloc, run)?;
-    Ok(format!(in alloc; "{slip:?} at {at}: {calls} {len} {end}")?)
-}
-
-/// What it has to be: a reader that slips is blamed, and asked no more; the header is written where the content was
-/// begun and its size is filled in. Past the last call all is written.
-fn reading_wanted(alloc: Global, trip: &Trip, slip: Slip, at: usize) -> Result<String, Fail> {
-    let calls = at.min(trip.reads);
-    let end = match at {
-        _ if at <= trip.before => "0 5 sdfw: 47 Read\n",
-        _ if at <= trip.reads => "44 5 sdfw: 47 Read\n",
-        _ => "48 no fault",
-    };
-    Ok(format!(in alloc; "{slip:?} at {at}: {calls} {end}")?)
-}
-
-/// Whether it is so.
-fn reads_until<T: Threads + AllocGlobal + Sync>(
-    rt: &T,
-    runner: Runner,
-    trip: &Trip,
-    slip: Slip,
-    at: usize,
-) -> Result<(), Fail> {
-    let wanted = reading_wanted(rt.alloc(), trip, slip, at)?;
-    says(reading_told(rt, runner, trip, slip, at), &wanted)
-}
-
-/// How often a writer is asked that slips at this call, whether it took a front of the output and how much, and the end
-/// of the run.
-fn writing_told<T: Threads + AllocGlobal + Sync>(
-    rt: &T,
-    runner: Runner,
-    trip: &Trip,
-    slip: Slip,
+    (side, slip): (Side, Slip),
     at: usize,
     whole: &[u8],
 ) -> Result<String, Fail> {
     let alloc = rt.alloc();
-    let mut reader = FromRead::new(trip.file.bytes);
-    let taken = Vec::new(alloc);
-    let mut writer = ToWrite::new(Faulty::slipping(alloc, taken, trip.most, slip, at));
-    let run = run_by(rt, HALF, runner, &mut reader, &mut writer);
-    let device = writer.into_inner();
-    let front = whole.starts_with(&device.device);
-    let (len, calls) = (device.device.len(), device.asked.len());
-    let end = end_of(alloc, run)?;
-    Ok(format!(in alloc; "{slip:?} at {at}: {calls} {front} {len} {end}")?)
+    let (reader_at, writer_at) = match side {
+        Reader => (at, 0),
+        Writer => (0, at),
+    };
+    let input = Faulty::slipping(alloc, trip.file.bytes, trip.most, slip, reader_at);
+    let output = Faulty::slipping(alloc, Vec::new(alloc), trip.most, slip, writer_at);
+    let seen = seen(rt, HALF, runner, input, output)?;
+    let calls = match side {
+        Reader => seen.read.len(),
+        Writer => seen.written.len(),
+    };
+    let front = whole.starts_with(&seen.output);
+    let (len, end) = (seen.output.len(), seen.end.as_str());
+    Ok(format!(in alloc; "{side:?} {slip:?} at {at}: {calls} {front} {len} {end}")?)
 }
 
-/// What it has to be: a writer that slips is blamed, took a front of the output, and is asked no more. The header and
-/// the samples are written by one call each, where a call takes them.
-fn writing_wanted(alloc: Global, trip: &Trip, slip: Slip, at: usize) -> Result<String, Fail> {
-    let calls = at.min(trip.writes);
-    let len = match at {
-        _ if trip.most == 1 => at.min(49).saturating_sub(1),
-        1 => 0,
-        2 => 44,
+/// What it has to be: a device that slips is blamed, and asked no more. The header is written where the content was
+/// begun and its size is filled in. The header and the samples are written by one call each, where a call takes them.
+/// Past the last call all is written.
+fn wanted(
+    alloc: Global,
+    trip: &Trip,
+    (side, slip): (Side, Slip),
+    at: usize,
+) -> Result<String, Fail> {
+    let (calls, fault) = match side {
+        Reader => (trip.reads, "5 sdfw: 47 Read\n"),
+        Writer => (trip.writes, "5 sdfw: 48 Write\n"),
+    };
+    let len = match side {
+        Reader if at <= trip.before => 0,
+        Reader if at <= trip.reads => 44,
+        Writer if trip.most == 1 => at.min(49).saturating_sub(1),
+        Writer if at == 1 => 0,
+        Writer if at == 2 => 44,
         _ => 48,
     };
-    let end = if at <= trip.writes {
-        "5 sdfw: 48 Write\n"
-    } else {
-        "no fault"
-    };
-    Ok(format!(in alloc; "{slip:?} at {at}: {calls} true {len} {end}")?)
+    let end = if at <= calls { fault } else { "no fault" };
+    let calls = calls.min(at);
+    Ok(format!(in alloc; "{side:?} {slip:?} at {at}: {calls} true {len} {end}")?)
 }
 
-/// Whether it is so.
-fn writes_until<T: Threads + AllocGlobal + Sync>(
+/// Whether each call of a device that slips is seen, and past the last none.
+fn calls_are_seen<T: Threads + AllocGlobal + Sync>(
     rt: &T,
     runner: Runner,
     trip: &Trip,
-    slip: Slip,
-    at: usize,
+    slip: (Side, Slip),
     whole: &[u8],
 ) -> Result<(), Fail> {
-    let wanted = writing_wanted(rt.alloc(), trip, slip, at)?;
-    says(writing_told(rt, runner, trip, slip, at, whole), &wanted)
-}
-
-/// Whether each call of the reader that slips is seen, and past the last none.
-fn reads_are_seen<T: Threads + AllocGlobal + Sync>(
-    rt: &T,
-    runner: Runner,
-    trip: &Trip,
-) -> Result<(), Fail> {
-    for at in 1..trip.reads.saturating_add(3) {
-        reads_until(rt, runner, trip, Slip::Fails, at)?;
-        reads_until(rt, runner, trip, Slip::IsInterrupted, at)?;
+    let calls = match slip.0 {
+        Reader => trip.reads,
+        Writer => trip.writes,
+    };
+    for at in 1..calls.saturating_add(3) {
+        let wanted = wanted(rt.alloc(), trip, slip, at)?;
+        row_says(trip.name, told(rt, runner, trip, slip, at, whole), &wanted)?;
     }
     Ok(())
 }
 
-/// Whether each call of the writer that slips is seen, and past the last none.
-fn writes_are_seen<T: Threads + AllocGlobal + Sync>(
+/// Whether each slip is seen.
+fn slips_are_seen<T: Threads + AllocGlobal + Sync>(
     rt: &T,
     runner: Runner,
     trip: &Trip,
 ) -> Result<(), Fail> {
     let whole = run_file(rt, HALF, &Options::DEFAULT, trip.file.bytes)?;
-    for at in 1..trip.writes.saturating_add(3) {
-        writes_until(rt, runner, trip, Slip::Fails, at, &whole)?;
-        writes_until(rt, runner, trip, Slip::IsInterrupted, at, &whole)?;
-        writes_until(rt, runner, trip, Slip::MovesNothing, at, &whole)?;
+    for slip in SLIPS {
+        calls_are_seen(rt, runner, trip, *slip, &whole)?;
     }
     Ok(())
 }
 
-/// Whether each call of the devices that slips is seen.
-fn slips_are_seen<T: Threads + AllocGlobal + Sync>(rt: &T, runner: Runner) -> Result<(), Fail> {
+/// The same of each trip.
+fn trips_are_seen<T: Threads + AllocGlobal + Sync>(rt: &T, runner: Runner) -> Result<(), Fail> {
     for trip in TRIPS {
-        reads_are_seen(rt, runner, trip)?;
-        writes_are_seen(rt, runner, trip)?;
+        slips_are_seen(rt, runner, trip)?;
     }
     Ok(())
 }
 
 #[test]
-fn slips_on_one_thread(rt: HostRuntime) -> Result<(), Fail> {
-    slips_are_seen(&rt, Runner::One)
+fn on_one_thread(rt: HostRuntime) -> Result<(), Fail> {
+    trips_are_seen(&rt, Runner::One)
 }
 
 #[test]
-fn slips_by_rows(rt: HostRuntime) -> Result<(), Fail> {
-    slips_are_seen(&rt, Runner::Rows)
+fn by_rows(rt: HostRuntime) -> Result<(), Fail> {
+    trips_are_seen(&rt, Runner::Rows)
 }
 
 #[test]
-fn slips_over_rings(rt: HostRuntime) -> Result<(), Fail> {
-    slips_are_seen(&rt, Runner::Rings)
-}
-
-/// What the calls of the devices ask for in a run.
-fn asked_told<T: Threads + AllocGlobal + Sync>(
-    rt: &T,
-    runner: Runner,
-    file: &[u8],
-) -> Result<String, Fail> {
-    let alloc = rt.alloc();
-    let mut reader = FromRead::new(Faulty::moving(alloc, file, usize::MAX));
-    let mut writer = ToWrite::new(Faulty::moving(alloc, Vec::new(alloc), usize::MAX));
-    run_by(rt, HALF, runner, &mut reader, &mut writer)?;
-    let read = reader.into_inner().asked;
-    let written = writer.into_inner().asked;
-    Ok(format!(in alloc; "{:?} {:?}", read.as_slice(), written.as_slice())?)
-}
-
-/// What the calls of the devices ask for: runners with workers read 4,096 frames at a time, one thread the content
-/// whole; 4,096 frames are written at a time.
-#[test]
-fn pieces_are_4096_frames(rt: HostRuntime) -> Result<(), Fail> {
-    let file = ramp_file(rt.alloc(), 5_000)?;
-    says(
-        asked_told(&rt, Runner::One, &file),
-        "[12, 8, 16, 8, 10000] [44, 8192, 1808]",
-    )?;
-    let pieces = "[12, 8, 16, 8, 8192, 1808] [44, 8192, 1808]";
-    says(asked_told(&rt, Runner::Rows, &file), pieces)?;
-    says(asked_told(&rt, Runner::Rings, &file), pieces)
+fn over_rings(rt: HostRuntime) -> Result<(), Fail> {
+    trips_are_seen(&rt, Runner::Rings)
 }

@@ -1,109 +1,224 @@
-//! The text and the exit status of each fault that a run can end by.
+//! How runs end by the bytes of a sound, the options and the length of a design.
 
-use crate::designs::{HALF, SECOND, THREE_FOR_TWO};
-use crate::running::{end_of, file_of, mono, run_file, run_with};
+use crate::designs::HALF;
+use crate::running::{end_of, file_of, run_file, run_with};
 use sdf_options::{Options, Runner};
-use sdf_process::Fault;
 use sdf_wav::{FromRead, ToWrite};
 use std::alloc::Global;
 use std::test::Fail;
 use std::thread::Threads;
 use test_texts::{row_says, says};
 
-/// A file of these samples whose bytes from `place` on are these.
-fn file_with(alloc: Global, samples: &[i16], place: usize, bytes: &[u8]) -> Result<Vec<u8>, Fault> {
-    let mut file = file_of(alloc, 8000, 1, samples)?;
-    for (slot, byte) in file.iter_mut().skip(place).zip(bytes) {
+/// A file of these samples whose bytes from `place` on are these, and that ends after so many; and what is told of a
+/// run of a design on it with these options: how much is written, and how it ends.
+#[derive(Clone, Copy)]
+struct Row {
+    name: &'static str,
+    graph: &'static str,
+    options: Options,
+    samples: &'static [i16],
+    place: usize,
+    bytes: &'static [u8],
+    kept: usize,
+    told: &'static str,
+}
+
+/// A whole file of one sample.
+const ONE: Row = Row {
+    name: "",
+    graph: HALF,
+    options: Options::DEFAULT,
+    samples: &[5],
+    place: 0,
+    bytes: b"",
+    kept: 46,
+    told: "",
+};
+
+/// A file of three samples, whose data ends before its size.
+const THREE: Row = Row {
+    samples: &[1, 2, 3],
+    place: 40,
+    ..ONE
+};
+
+/// No sound.
+const EMPTY: Row = Row { kept: 0, ..ONE };
+
+const ROWS: &[Row] = &[
+    Row {
+        name: "no RIFF",
+        place: 0,
+        bytes: b"RIFX",
+        told: "0 4 sdfw: 34 NotRiff\n",
+        ..ONE
+    },
+    Row {
+        name: "no WAVE",
+        place: 8,
+        bytes: b"AVI ",
+        told: "0 4 sdfw: 35 NotWave\n",
+        ..ONE
+    },
+    Row {
+        name: "no format",
+        place: 12,
+        bytes: b"data",
+        told: "0 4 sdfw: 36 NoFormat\n",
+        ..ONE
+    },
+    Row {
+        name: "a short format",
+        place: 16,
+        bytes: b"\x0e\0\0\0",
+        told: "0 4 sdfw: 37 ShortFormat\n",
+        ..ONE
+    },
+    Row {
+        name: "other samples",
+        place: 20,
+        bytes: b"\x03\0",
+        told: "0 4 sdfw: 38 NotPcm16\n",
+        ..ONE
+    },
+    Row {
+        name: "no channels",
+        place: 22,
+        bytes: b"\0\0",
+        told: "0 4 sdfw: 39 Channels\n",
+        ..ONE
+    },
+    Row {
+        name: "nine channels",
+        place: 22,
+        bytes: b"\x09\0",
+        told: "0 4 sdfw: 39 Channels\n",
+        ..ONE
+    },
+    Row {
+        name: "no rate",
+        place: 24,
+        bytes: b"\0\0\0\0",
+        told: "0 4 sdfw: 40 RateZero\n",
+        ..ONE
+    },
+    Row {
+        name: "a wrong alignment",
+        place: 32,
+        bytes: b"\x04\0",
+        told: "0 4 sdfw: 41 BadAlign\n",
+        ..ONE
+    },
+    Row {
+        name: "no data",
+        place: 36,
+        bytes: b"LIST",
+        told: "0 4 sdfw: 42 NoData\n",
+        ..ONE
+    },
+    Row {
+        name: "less data than it says",
+        place: 40,
+        bytes: b"\x04\0\0\0",
+        told: "44 4 sdfw: 43 Truncated\n",
+        ..ONE
+    },
+    Row {
+        name: "a part of a frame",
+        place: 40,
+        bytes: b"\x01\0\0\0",
+        told: "0 4 sdfw: 44 PartialFrame\n",
+        ..ONE
+    },
+    Row {
+        name: "a rate that is too great",
+        place: 24,
+        bytes: b"\0\0\0\x80",
+        told: "0 4 sdfw: 46 RateTooLarge\n",
+        ..ONE
+    },
+    Row {
+        name: "a frame short",
+        bytes: b"\x06\0\0\0",
+        kept: 48,
+        told: "44 4 sdfw: 43 Truncated\n",
+        ..THREE
+    },
+    Row {
+        name: "an open size and a part of a frame",
+        bytes: b"\xFF\xFF\xFF\xFF",
+        kept: 47,
+        told: "0 4 sdfw: 44 PartialFrame\n",
+        ..THREE
+    },
+    Row {
+        name: "a size that is too great",
+        bytes: b"\xFE\xFF\xFF\xFF",
+        kept: 48,
+        told: "0 4 sdfw: 45 TooLong\n",
+        ..THREE
+    },
+    Row {
+        name: "no design",
+        graph: "",
+        told: "0 3 sdfw: 52 MissingKey top key format\n",
+        ..EMPTY
+    },
+    Row {
+        name: "a block of too many periods",
+        options: Options {
+            blocking: 65,
+            ..Options::DEFAULT
+        },
+        told: "0 3 sdfw: 11 BlockingFactor\n",
+        ..EMPTY
+    },
+    Row {
+        name: "too many workers",
+        options: Options {
+            workers: 17,
+            ..Options::DEFAULT
+        },
+        told: "0 3 sdfw: 12 WorkerCount\n",
+        ..EMPTY
+    },
+    Row {
+        name: "too much patience before too long a block",
+        options: Options {
+            runner: Runner::Rings,
+            patience: 1_000_001,
+            blocking: 65,
+            ..Options::DEFAULT
+        },
+        told: "0 3 sdfw: 31 Patience\n",
+        ..EMPTY
+    },
+];
+
+fn file_with(alloc: Global, row: &Row) -> Result<Vec<u8>, Fail> {
+    let mut file = file_of(alloc, 8000, 1, row.samples)?;
+    for (slot, byte) in file.iter_mut().skip(row.place).zip(row.bytes) {
         *slot = *byte;
     }
+    file.truncate(row.kept);
     Ok(file)
 }
 
-/// The end of a run of a design on a file.
-fn file_end<T: Threads + AllocGlobal + Sync>(
-    rt: &T,
-    graph: &str,
-    options: &Options,
-    input: &[u8],
-) -> Result<String, Fail> {
-    end_of(rt.alloc(), run_file(rt, graph, options, input))
-}
-
-/// The end of a run of `HALF` on a file whose bytes from `place` on are these.
-fn end_with<T: Threads + AllocGlobal + Sync>(
-    rt: &T,
-    place: usize,
-    bytes: &[u8],
-) -> Result<String, Fail> {
-    let file = file_with(rt.alloc(), &[5], place, bytes)?;
-    file_end(rt, HALF, &Options::DEFAULT, &file)
-}
-
-/// A place in a file, the bytes there, and the fault.
-const FILES: &[(usize, &[u8], &str)] = &[
-    (0, b"RIFX", "4 sdfw: 34 NotRiff\n"),
-    (8, b"AVI ", "4 sdfw: 35 NotWave\n"),
-    (12, b"data", "4 sdfw: 36 NoFormat\n"),
-    (16, b"\x0e\0\0\0", "4 sdfw: 37 ShortFormat\n"),
-    (20, b"\x03\0", "4 sdfw: 38 NotPcm16\n"),
-    (22, b"\0\0", "4 sdfw: 39 Channels\n"),
-    (22, b"\x09\0", "4 sdfw: 39 Channels\n"),
-    (24, b"\0\0\0\0", "4 sdfw: 40 RateZero\n"),
-    (32, b"\x04\0", "4 sdfw: 41 BadAlign\n"),
-    (36, b"LIST", "4 sdfw: 42 NoData\n"),
-    (40, b"\x04\0\0\0", "4 sdfw: 43 Truncated\n"),
-    (40, b"\x01\0\0\0", "4 sdfw: 44 PartialFrame\n"),
-    (24, b"\0\0\0\x80", "4 sdfw: 46 RateTooLarge\n"),
-];
-
-#[test]
-fn wav_files_have_their_faults(rt: HostRuntime) -> Result<(), Fail> {
-    for (place, bytes, wanted) in FILES {
-        says(end_with(&rt, *place, bytes), wanted)?;
-    }
-    says(
-        mono(&rt, THREE_FOR_TWO, 32_001, &[1]),
-        "4 sdfw: 60 RateNotWhole\n",
-    )?;
-    says(
-        mono(&rt, SECOND, 32_001, &[1]),
-        "4 sdfw: 59 ChannelsMissing\n",
-    )
-}
-
-/// How much a run of `HALF` writes of these bytes, and its end.
-fn written<T: Threads + AllocGlobal + Sync>(rt: &T, bytes: &[u8]) -> Result<String, Fail> {
+fn told<T: Threads + AllocGlobal + Sync>(rt: &T, row: &Row) -> Result<String, Fail> {
     let alloc = rt.alloc();
+    let file = file_with(alloc, row)?;
+    let mut reader = FromRead::new(file.as_slice());
     let mut writer = ToWrite::new(Vec::new(alloc));
-    let mut reader = FromRead::new(bytes);
-    let run = run_with(rt, HALF, &Options::DEFAULT, &mut reader, &mut writer);
-    let len = writer.into_inner().len();
+    let run = run_with(rt, row.graph, &row.options, &mut reader, &mut writer);
     let end = end_of(alloc, run)?;
-    Ok(format!(in alloc; "{len} {end}")?)
+    Ok(format!(in alloc; "{} {end}", writer.into_inner().len())?)
 }
 
-/// The same of a file of three samples whose data has this announced size, and that ends there.
-fn written_of<T: Threads + AllocGlobal + Sync>(
-    rt: &T,
-    size: &[u8],
-    end: usize,
-) -> Result<String, Fail> {
-    let mut file = file_with(rt.alloc(), &[1, 2, 3], 40, size)?;
-    file.truncate(end);
-    written(rt, &file)
-}
-
-/// The size of the data, the length of the file, how much is written, and the fault.
-const SIZES: &[(&[u8], usize, &str)] = &[
-    (b"\x06\0\0\0", 48, "44 4 sdfw: 43 Truncated\n"),
-    (b"\xFF\xFF\xFF\xFF", 47, "0 4 sdfw: 44 PartialFrame\n"),
-    (b"\xFE\xFF\xFF\xFF", 48, "0 4 sdfw: 45 TooLong\n"),
-];
-
+/// Refuses a fault by which more is written than the header, or less.
 #[test]
 fn faults_leave_the_header_or_nothing(rt: HostRuntime) -> Result<(), Fail> {
-    for (size, end, wanted) in SIZES {
-        says(written_of(&rt, size, *end), wanted)?;
+    for row in ROWS {
+        row_says(row.name, told(&rt, row), row.told)?;
     }
     Ok(())
 }
@@ -118,49 +233,9 @@ fn linked(alloc: Global, links: usize) -> Result<String, Fail> {
     Ok(text)
 }
 
-/// The end of a run of it.
-fn linked_end<T: Threads + AllocGlobal + Sync>(rt: &T, links: usize) -> Result<String, Fail> {
-    let graph = linked(rt.alloc(), links)?;
-    file_end(rt, graph.as_str(), &Options::DEFAULT, b"")
-}
-
-/// Options beyond their limits, and the fault.
-const OPTIONS: &[(Options, &str)] = &[
-    (
-        Options {
-            blocking: 65,
-            ..Options::DEFAULT
-        },
-        "3 sdfw: 11 BlockingFactor\n",
-    ),
-    (
-        Options {
-            workers: 17,
-            ..Options::DEFAULT
-        },
-        "3 sdfw: 12 WorkerCount\n",
-    ),
-    (
-        Options {
-            runner: Runner::Rings,
-            patience: 1_000_001,
-            blocking: 65,
-            ..Options::DEFAULT
-        },
-        "3 sdfw: 31 Patience\n",
-    ),
-];
-
 #[test]
-fn designs_have_their_faults(rt: HostRuntime) -> Result<(), Fail> {
-    row_says(
-        "no design",
-        file_end(&rt, "", &Options::DEFAULT, b""),
-        "3 sdfw: 52 MissingKey top key format\n",
-    )?;
-    says(linked_end(&rt, 257), "3 sdfw: 3 ChannelCount\n")?;
-    for (options, wanted) in OPTIONS {
-        says(file_end(&rt, HALF, options, b""), wanted)?;
-    }
-    Ok(())
+fn designs_can_be_too_long(rt: HostRuntime) -> Result<(), Fail> {
+    let graph = linked(rt.alloc(), 257)?;
+    let run = run_file(&rt, &graph, &Options::DEFAULT, b"");
+    says(end_of(rt.alloc(), run), "3 sdfw: 3 ChannelCount\n")
 }

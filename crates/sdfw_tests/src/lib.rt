@@ -9,7 +9,7 @@
 #[cfg(test)]
 mod arguments;
 #[cfg(test)]
-mod cycles;
+mod as_one;
 #[cfg(test)]
 mod damaged;
 #[cfg(test)]
@@ -17,35 +17,21 @@ mod designs;
 #[cfg(test)]
 mod devices;
 #[cfg(test)]
-mod document_texts;
+mod fault_rows;
 #[cfg(test)]
 mod faults;
 #[cfg(test)]
-mod lines;
-#[cfg(test)]
-mod long_sounds;
+mod made;
 #[cfg(test)]
 mod meetings;
 #[cfg(test)]
-mod parallel;
-#[cfg(test)]
 mod pieces;
 #[cfg(test)]
-mod refused_words;
-#[cfg(test)]
-mod rings;
-#[cfg(test)]
-mod roomy_plans;
-#[cfg(test)]
-mod rows;
+mod plans;
 #[cfg(test)]
 mod running;
 #[cfg(test)]
-mod runs;
-#[cfg(test)]
 mod schedules;
-#[cfg(test)]
-mod short_sounds;
 #[cfg(test)]
 mod small_patience;
 #[cfg(test)]

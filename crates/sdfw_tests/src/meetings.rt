@@ -1,167 +1,398 @@
-//! What workers do between a file and a file, seen by gates: the runner is the one that was asked for.
+//! What workers do between a file and a file, seen by gates: the runner is the one that was asked for, and each worker
+//! runs as far ahead of the others as its plan says.
 
-use crate::rows::run_gated;
-use crate::running::{file_of, makes};
-use sdf_options::{Options, Runner};
-use sdf_process::Fault;
+use crate::designs::{DEALT, PAIR, PLAIN, SUM};
+use crate::running::Samples::{Counted, These};
+use crate::running::{Samples, row_makes, run_gated, sound};
+use sdf_options::{Options, Placement, Policy, Runner};
 use std::alloc::Global;
 use std::test::Fail;
 use std::thread::Threads;
 use test_actors::gates::{Hold, MANY_TURNS, Watch};
-use test_texts::says;
+use test_texts::row_says;
 
-/// Blocks of two samples, dealt by threes to two outputs. The source and `left` are at home with one of two workers,
-/// the others with the other.
-const DEALT: &str = r#"format = 2
-actor = [{ name = "in", kind = "input", channel = 0, block = 2 }, { name = "deal", kind = "deal", ways = 2, run = 3 },
-    { name = "left", kind = "output", channel = 0, block = 3 }, { name = "right", kind = "output", channel = 1, block = 3 }]
-link = [{ from = "in", to = "deal" }, { from = "deal:0", to = "left" }, { from = "deal:1", to = "right" }]"#;
-
-/// Holds the second firing of `deal` until `in` has begun its fourth, which stands in the next block and wants what the
-/// first of `deal` did.
-const ACROSS: Hold<'static> = Hold {
-    held: &[1],
-    first: 1,
-    many: 1,
-    awaited: &[0],
-    ahead: 2,
-    turns: MANY_TURNS,
-};
-
-/// The runners, each on two workers that are patient.
-fn by(runner: Runner) -> Options {
-    Options {
-        runner,
-        workers: 2,
-        patience: 1_000_000,
-        ..Options::DEFAULT
-    }
-}
-
-/// The file of so many samples, whose size is filled in or not.
-fn sound(alloc: Global, samples: &[i16], filled: bool) -> Result<Vec<u8>, Fault> {
-    let mut file = file_of(alloc, 8000, 1, samples)?;
-    if !filled && file.len() >= 44 {
-        file[40..44].fill(0xFF);
-    }
-    Ok(file)
-}
-
-/// Whether a run of `DEALT` with this gate makes of a file what one thread makes.
-fn as_one_thread<T: Threads + AllocGlobal + Sync>(
-    rt: &T,
-    options: &Options,
-    input: &[u8],
-    watch: &Watch,
-) -> Result<(), Fail> {
-    let made = run_gated(rt, DEALT, options, input, watch)?;
-    makes(run_gated(rt, DEALT, &Options::DEFAULT, input, watch), &made)
-}
-
-/// How many firings missed another one in that run, how many passed out of turn, and how many of `deal` passed.
-fn watched<T: Threads + AllocGlobal + Sync>(
-    rt: &T,
-    runner: Runner,
-    input: &[u8],
-    hold: Hold<'static>,
-) -> Result<String, Fail> {
-    let watch = Watch::new(rt.alloc(), 2, 4, hold)?;
-    as_one_thread(rt, &by(runner), input, &watch)?;
-    Ok(format!(in rt.alloc(); "{} {} {}", watch.missed(), watch.odd(), watch.passed(1, 1))?)
-}
-
-/// Whether two blocks overlap over rings and do not by rows, where the size of the data is filled in or not.
-fn overlaps<T: Threads + AllocGlobal + Sync>(rt: &T, filled: bool) -> Result<(), Fail> {
-    let input = sound(rt.alloc(), &[1, 2, 3, 4, 5, 6, 7, 8, 9, 10, 11, 12], filled)?;
-    says(watched(rt, Runner::Rings, &input, ACROSS), "0 0 4")?;
-    says(watched(rt, Runner::Rows, &input, ACROSS.in_vain()), "1 0 4")
-}
-
-/// Two blocks: over rings a worker is in the second while another is in the first, by rows none is.
-#[test]
-fn over_rings_blocks_overlap(rt: HostRuntime) -> Result<(), Fail> {
-    overlaps(&rt, true)?;
-    overlaps(&rt, false)
-}
-
-/// How many firings of each actor passed on a worker.
-fn passed(alloc: Global, watch: &Watch, processor: usize) -> Result<String, Fail> {
-    let counts = [
-        watch.passed(processor, 0),
-        watch.passed(processor, 1),
-        watch.passed(processor, 2),
-        watch.passed(processor, 3),
-    ];
-    Ok(format!(in alloc; "{counts:?}")?)
-}
-
-/// The same of both workers, in a run of `DEALT` which makes what one thread makes.
-fn passings<T: Threads + AllocGlobal + Sync>(
-    rt: &T,
-    runner: Runner,
-    input: &[u8],
-) -> Result<String, Fail> {
-    let alloc = rt.alloc();
-    let watch = Watch::new(alloc, 2, 4, Hold::NONE)?;
-    as_one_thread(rt, &by(runner), input, &watch)?;
-    let first = passed(alloc, &watch, 0)?;
-    let second = passed(alloc, &watch, 1)?;
-    Ok(format!(in alloc; "{first} {second}")?)
-}
-
-/// Whether all firings of three blocks pass, where the size of the data is filled in or not: of each block three of
-/// `in` and one of `left` on one worker, two of `deal` and one of `right` on the other.
-fn each_passes<T: Threads + AllocGlobal + Sync>(rt: &T, filled: bool) -> Result<(), Fail> {
-    let input = sound(
-        rt.alloc(),
-        &[1, 2, 3, 4, 5, 6, 7, 8, 9, 10, 11, 12, 13],
-        filled,
-    )?;
-    let all = "[9, 0, 3, 0] [0, 6, 0, 3]";
-    says(
-        passings(rt, Runner::One, &input),
-        "[0, 0, 0, 0] [0, 0, 0, 0]",
-    )?;
-    says(passings(rt, Runner::Rows, &input), all)?;
-    says(passings(rt, Runner::Rings, &input), all)
-}
-
-/// Two blocks and a part of a third, which is filled up: each firing passes on its worker. On one thread none does.
-#[test]
-fn each_firing_passes(rt: HostRuntime) -> Result<(), Fail> {
-    each_passes(&rt, true)?;
-    each_passes(&rt, false)
-}
-
-const IN_A_ROW: Hold<'static> = Hold {
-    held: &[2],
+/// Holds nothing.
+const NOTHING: Hold<'static> = Hold {
+    held: &[],
     first: 0,
     many: 1,
-    awaited: &[1],
-    ahead: 1,
-    turns: MANY_TURNS,
-};
-
-const BETWEEN: Hold<'static> = Hold {
-    held: &[3],
-    first: 0,
-    many: 1,
-    awaited: &[2],
+    awaited: &[],
     ahead: 0,
     turns: MANY_TURNS,
 };
 
-/// Whether they meet in a sound shorter than a block, where the size of the data is filled in or not.
-fn meet_in_one_block<T: Threads + AllocGlobal + Sync>(rt: &T, filled: bool) -> Result<(), Fail> {
-    let input = sound(rt.alloc(), &[1, 2, 3], filled)?;
-    says(watched(rt, Runner::Rows, &input, IN_A_ROW), "0 0 2")?;
-    says(watched(rt, Runner::Rings, &input, BETWEEN), "0 0 2")
+/// Two workers without patience.
+const TWO_WORKERS: Options = Options {
+    workers: 2,
+    patience: 0,
+    ..Options::DEFAULT
+};
+
+const PATIENT: Options = Options {
+    workers: 2,
+    patience: 1_000_000,
+    ..Options::DEFAULT
+};
+
+const BLOCKS_OF_FOUR: Options = Options {
+    workers: 2,
+    blocking: 4,
+    ..Options::DEFAULT
+};
+
+/// Workers whose actors are spread.
+const SPREAD_OUT: Options = Options {
+    workers: 2,
+    policy: Policy::Runs,
+    placement: Placement::Spread,
+    runner: Runner::Rings,
+    ..Options::DEFAULT
+};
+
+/// Holds the first firing of the sum, before it takes a sample, until the source has begun its first, or a later one.
+const THE_SUM: Hold<'static> = Hold {
+    held: &[2],
+    awaited: &[0],
+    ..NOTHING
+};
+
+/// A design of so many actors, how it is run on a sound, what a gate holds there and whether that is in vain, and what
+/// is told: how many firings were held in vain, how many did not pass in turn, and of each actor how many passed on the
+/// first worker and on the second.
+#[derive(Clone, Copy)]
+struct Row {
+    name: &'static str,
+    graph: &'static str,
+    actors: usize,
+    options: Options,
+    channels: u16,
+    samples: Samples,
+    /// Of each run, whether the size of the data is filled in.
+    filled: &'static [bool],
+    hold: Hold<'static>,
+    in_vain: bool,
+    told: &'static str,
 }
 
-/// A sound shorter than a block, which is filled up and run at the end: `left` meets the second firing of `deal` in a
-/// row, and over rings `right` begins after `left`, whose worker looks at its neighbour.
+/// The first firings of two gains wait for each other, in three runs.
+const TWO_GAINS: Row = Row {
+    name: "",
+    graph: PAIR,
+    actors: 6,
+    options: TWO_WORKERS,
+    channels: 1,
+    samples: These(&[1, 2, 3]),
+    filled: &[true, true, true],
+    hold: Hold {
+        held: &[2, 3],
+        awaited: &[2, 3],
+        ..NOTHING
+    },
+    in_vain: false,
+    told: "",
+};
+
+/// Two blocks. The second firing of `deal` is held until `in` has begun its fourth, which stands in the next block and
+/// wants what the first of `deal` did.
+const TWO_BLOCKS: Row = Row {
+    graph: DEALT,
+    actors: 4,
+    options: PATIENT,
+    samples: These(&[1, 2, 3, 4, 5, 6, 7, 8, 9, 10, 11, 12]),
+    filled: &[true, false],
+    hold: Hold {
+        held: &[1],
+        first: 1,
+        awaited: &[0],
+        ahead: 2,
+        ..NOTHING
+    },
+    ..TWO_GAINS
+};
+
+/// Two blocks and a part of a third, which is filled up.
+const THREE_BLOCKS: Row = Row {
+    samples: These(&[1, 2, 3, 4, 5, 6, 7, 8, 9, 10, 11, 12, 13]),
+    hold: NOTHING,
+    ..TWO_BLOCKS
+};
+
+/// A sound shorter than a block, which is filled up and run at the end.
+const A_LAST_BLOCK: Row = Row {
+    samples: These(&[1, 2, 3]),
+    ..TWO_BLOCKS
+};
+
+/// One sample, in blocks of four, of a sound whose size was never filled in.
+const ONE_SAMPLE: Row = Row {
+    graph: PLAIN,
+    actors: 2,
+    options: BLOCKS_OF_FOUR,
+    samples: These(&[7]),
+    filled: &[false],
+    hold: NOTHING,
+    ..TWO_GAINS
+};
+
+/// A sum that is spread. Its first firing is held, before it takes a sample, until the source has begun the last firing
+/// for which there is room: a block has 1,024 periods, and the ring takes 16 blocks.
+const SPREAD: Row = Row {
+    graph: SUM,
+    actors: 4,
+    options: SPREAD_OUT,
+    channels: 2,
+    samples: Counted(40_960),
+    filled: &[true],
+    hold: Hold {
+        ahead: 16_383,
+        ..THE_SUM
+    },
+    ..TWO_GAINS
+};
+
+/// The same by the file, where a ring takes one block of 64 periods.
+const BY_THE_FILE: Row = Row {
+    options: Options {
+        blocking: 64,
+        placement: Placement::File,
+        ..SPREAD_OUT
+    },
+    samples: Counted(8192),
+    hold: Hold {
+        ahead: 63,
+        ..THE_SUM
+    },
+    ..SPREAD
+};
+
+const ROWS: &[Row] = &[
+    Row {
+        name: "firings of a row meet",
+        options: Options {
+            runner: Runner::Rows,
+            ..TWO_WORKERS
+        },
+        told: "0 in vain, 0 odd, [[3, 0], [3, 0], [3, 0], [0, 3], [0, 3], [0, 3]]",
+        ..TWO_GAINS
+    },
+    Row {
+        name: "workers over rings meet",
+        options: Options {
+            runner: Runner::Rings,
+            ..TWO_WORKERS
+        },
+        told: "0 in vain, 0 odd, [[3, 0], [3, 0], [3, 0], [0, 3], [0, 3], [0, 3]]",
+        ..TWO_GAINS
+    },
+    Row {
+        name: "over rings a worker is in the next block while another is in this one",
+        options: Options {
+            runner: Runner::Rings,
+            ..PATIENT
+        },
+        told: "0 in vain, 0 odd, [[6, 0], [0, 4], [2, 0], [0, 2]]",
+        ..TWO_BLOCKS
+    },
+    Row {
+        name: "by rows no worker is in the next block while another is in this one",
+        options: Options {
+            runner: Runner::Rows,
+            ..PATIENT
+        },
+        in_vain: true,
+        told: "1 in vain, 0 odd, [[6, 0], [0, 4], [2, 0], [0, 2]]",
+        ..TWO_BLOCKS
+    },
+    Row {
+        name: "on one thread no firing passes",
+        told: "0 in vain, 0 odd, [[0, 0], [0, 0], [0, 0], [0, 0]]",
+        ..THREE_BLOCKS
+    },
+    Row {
+        name: "by rows each firing passes on its worker",
+        options: Options {
+            runner: Runner::Rows,
+            ..PATIENT
+        },
+        told: "0 in vain, 0 odd, [[9, 0], [0, 6], [3, 0], [0, 3]]",
+        ..THREE_BLOCKS
+    },
+    Row {
+        name: "over rings each firing passes on its worker",
+        options: Options {
+            runner: Runner::Rings,
+            ..PATIENT
+        },
+        told: "0 in vain, 0 odd, [[9, 0], [0, 6], [3, 0], [0, 3]]",
+        ..THREE_BLOCKS
+    },
+    Row {
+        name: "`left` meets the second firing of `deal` in a row",
+        options: Options {
+            runner: Runner::Rows,
+            ..PATIENT
+        },
+        hold: Hold {
+            held: &[2],
+            awaited: &[1],
+            ahead: 1,
+            ..NOTHING
+        },
+        told: "0 in vain, 0 odd, [[3, 0], [0, 2], [1, 0], [0, 1]]",
+        ..A_LAST_BLOCK
+    },
+    Row {
+        name: "over rings `right` begins after `left`, whose worker looks at its neighbour",
+        options: Options {
+            runner: Runner::Rings,
+            ..PATIENT
+        },
+        hold: Hold {
+            held: &[3],
+            awaited: &[2],
+            ..NOTHING
+        },
+        told: "0 in vain, 0 odd, [[3, 0], [0, 2], [1, 0], [0, 1]]",
+        ..A_LAST_BLOCK
+    },
+    Row {
+        name: "one sample on one thread",
+        told: "0 in vain, 0 odd, [[0, 0], [0, 0]]",
+        ..ONE_SAMPLE
+    },
+    Row {
+        name: "one sample on one thread, by one worker",
+        options: Options {
+            workers: 1,
+            ..BLOCKS_OF_FOUR
+        },
+        told: "0 in vain, 0 odd, [[0, 0], [0, 0]]",
+        ..ONE_SAMPLE
+    },
+    Row {
+        name: "one sample by rows",
+        options: Options {
+            runner: Runner::Rows,
+            ..BLOCKS_OF_FOUR
+        },
+        told: "0 in vain, 0 odd, [[4, 0], [0, 4]]",
+        ..ONE_SAMPLE
+    },
+    Row {
+        name: "one sample by rows, by one worker",
+        options: Options {
+            runner: Runner::Rows,
+            workers: 1,
+            ..BLOCKS_OF_FOUR
+        },
+        told: "0 in vain, 0 odd, [[4, 0], [4, 0]]",
+        ..ONE_SAMPLE
+    },
+    Row {
+        name: "one sample over rings",
+        options: Options {
+            runner: Runner::Rings,
+            ..BLOCKS_OF_FOUR
+        },
+        told: "0 in vain, 0 odd, [[4, 0], [0, 4]]",
+        ..ONE_SAMPLE
+    },
+    Row {
+        name: "one sample over rings, by one worker",
+        options: Options {
+            runner: Runner::Rings,
+            workers: 1,
+            ..BLOCKS_OF_FOUR
+        },
+        told: "0 in vain, 0 odd, [[4, 0], [4, 0]]",
+        ..ONE_SAMPLE
+    },
+    Row {
+        name: "a worker that is spread runs sixteen blocks ahead",
+        told: "0 in vain, 0 odd, [[20480, 0], [20480, 0], [0, 20480], [0, 20480]]",
+        ..SPREAD
+    },
+    Row {
+        name: "a worker that is spread runs no further ahead",
+        hold: Hold {
+            ahead: 16_384,
+            ..THE_SUM
+        },
+        in_vain: true,
+        told: "1 in vain, 0 odd, [[20480, 0], [20480, 0], [0, 20480], [0, 20480]]",
+        ..SPREAD
+    },
+    Row {
+        name: "a worker of the file runs a block ahead",
+        told: "0 in vain, 0 odd, [[4096, 0], [4096, 0], [0, 4096], [0, 4096]]",
+        ..BY_THE_FILE
+    },
+    Row {
+        name: "a worker of the file runs no further ahead",
+        hold: Hold {
+            ahead: 64,
+            ..THE_SUM
+        },
+        in_vain: true,
+        told: "1 in vain, 0 odd, [[4096, 0], [4096, 0], [0, 4096], [0, 4096]]",
+        ..BY_THE_FILE
+    },
+];
+
+/// Whether a row's run makes of a file what one thread makes, on which no firing passes.
+fn makes_as_one<T: Threads + AllocGlobal + Sync>(
+    rt: &T,
+    row: &Row,
+    input: &[u8],
+    watch: &Watch,
+) -> Result<(), Fail> {
+    let made = run_gated(rt, row.graph, &row.options, input, watch)?;
+    let one = run_gated(rt, row.graph, &Options::DEFAULT, input, watch);
+    row_makes(row.name, &row.options, one, &made)
+}
+
+fn told(alloc: Global, row: &Row, watch: &Watch) -> Result<String, Fail> {
+    let mut passed = Vec::new(alloc);
+    for actor in 0..row.actors {
+        passed.push([watch.passed(0, actor), watch.passed(1, actor)])?;
+    }
+    let (missed, odd) = (watch.missed(), watch.odd());
+    Ok(format!(in alloc; "{missed} in vain, {odd} odd, {passed:?}")?)
+}
+
+/// What is told of a row's run.
+fn told_of<T: Threads + AllocGlobal + Sync>(
+    rt: &T,
+    row: &Row,
+    filled: bool,
+) -> Result<String, Fail> {
+    let mut input = sound(rt.alloc(), row.channels, row.samples)?;
+    if !filled && input.len() >= 44 {
+        input[40..44].fill(0xFF);
+    }
+    let hold = if row.in_vain {
+        row.hold.in_vain()
+    } else {
+        row.hold
+    };
+    let watch = Watch::new(rt.alloc(), 2, row.actors, hold)?;
+    makes_as_one(rt, row, &input, &watch)?;
+    told(rt.alloc(), row, &watch)
+}
+
+fn is_told<T: Threads + AllocGlobal + Sync>(rt: &T, row: &Row) -> Result<(), Fail> {
+    for filled in row.filled {
+        row_says(row.name, told_of(rt, row, *filled), row.told)?;
+    }
+    Ok(())
+}
+
+/// Refuses one thread where workers were asked for, also where one was, a block too many, and rings that take one block
+/// where the actors are spread, or more where they are not.
 #[test]
-fn firings_of_a_last_block_meet(rt: HostRuntime) -> Result<(), Fail> {
-    meet_in_one_block(&rt, true)?;
-    meet_in_one_block(&rt, false)
+fn what_gates_see(rt: HostRuntime) -> Result<(), Fail> {
+    for row in ROWS {
+        is_told(&rt, row)?;
+    }
+    Ok(())
 }

@@ -1,91 +1,235 @@
-//! Sounds that workers read, run and write piece by piece.
+//! Sounds that are read, run and written piece by piece: what the calls of the devices ask for, and what is written of
+//! a sound that is cut off.
 
-use crate::designs::CHAIN;
-use crate::rows::on_one_thread;
-use crate::running::{end_of, makes, run_file, run_with};
-use crate::runs::ramp_file;
-use sdf_options::{Options, Runner};
+use crate::designs::{CHAIN, HALF, SUM};
+use crate::devices::seen;
+use crate::running::Samples::Counted;
+use crate::running::{end_of, file_of, half_of, run_file, run_with, samples_of, sound};
+use sdf_options::{Options, Placement, Policy, Runner};
 use sdf_wav::{FromRead, ToWrite};
 use std::test::Fail;
 use std::thread::Threads;
-use test_texts::says;
+use test_devices::Faulty;
+use test_texts::row_says;
 
-/// The options of a run with one worker.
-fn in_blocks(runner: Runner, blocking: u32) -> Options {
-    Options {
-        runner,
-        blocking,
-        workers: 1,
-        ..Options::DEFAULT
-    }
-}
+/// What runs `HALF`, how many samples it reads, more than 16 bits count among them, and what the calls of the reader
+/// and of the writer ask for.
+const ASKED: &[(&str, Runner, usize, &str)] = &[
+    (
+        "one thread reads the content whole",
+        Runner::One,
+        5000,
+        "[12, 8, 16, 8, 10000] [44, 8192, 1808] true",
+    ),
+    (
+        "rows read 4,096 frames at a time",
+        Runner::Rows,
+        5000,
+        "[12, 8, 16, 8, 8192, 1808] [44, 8192, 1808] true",
+    ),
+    (
+        "workers over rings read 4,096 frames at a time",
+        Runner::Rings,
+        5000,
+        "[12, 8, 16, 8, 8192, 1808] [44, 8192, 1808] true",
+    ),
+    (
+        "one thread and a long sound",
+        Runner::One,
+        70_000,
+        "[12, 8, 16, 8, 16384, 16384, 16384, 16384, 16384, 16384, 16384, 16384, 8928] [44, 8192, 8192, 8192, \
+         8192, 8192, 8192, 8192, 8192, 8192, 8192, 8192, 8192, 8192, 8192, 8192, 8192, 8192, 736] true",
+    ),
+    (
+        "rows and a long sound",
+        Runner::Rows,
+        70_000,
+        "[12, 8, 16, 8, 8192, 8192, 8192, 8192, 8192, 8192, 8192, 8192, 8192, 8192, 8192, 8192, 8192, 8192, \
+         8192, 8192, 8192, 736] [44, 8192, 8192, 8192, 8192, 8192, 8192, 8192, 8192, 8192, 8192, 8192, 8192, \
+         8192, 8192, 8192, 8192, 8192, 736] true",
+    ),
+    (
+        "workers over rings and a long sound",
+        Runner::Rings,
+        70_000,
+        "[12, 8, 16, 8, 8192, 8192, 8192, 8192, 8192, 8192, 8192, 8192, 8192, 8192, 8192, 8192, 8192, 8192, \
+         8192, 8192, 8192, 736] [44, 8192, 8192, 8192, 8192, 8192, 8192, 8192, 8192, 8192, 8192, 8192, 8192, \
+         8192, 8192, 8192, 8192, 8192, 736] true",
+    ),
+];
 
-/// Whether the chain makes this of a sound by a runner with workers.
-fn made_in_blocks<T: Threads + AllocGlobal + Sync>(
+/// What they ask for, and whether the samples are halved.
+fn asked_told<T: Threads + AllocGlobal + Sync>(
     rt: &T,
     runner: Runner,
-    sound: &[u8],
-    wanted: &[u8],
-) -> Result<(), Fail> {
-    makes(run_file(rt, CHAIN, &in_blocks(runner, 1), sound), wanted)?;
-    makes(run_file(rt, CHAIN, &in_blocks(runner, 2), sound), wanted)
+    many: usize,
+) -> Result<String, Fail> {
+    let alloc = rt.alloc();
+    let samples = samples_of(alloc, Counted(many))?;
+    let file = file_of(alloc, 44_100, 1, &samples)?;
+    let input = Faulty::moving(alloc, file.as_slice(), usize::MAX);
+    let output = Faulty::moving(alloc, Vec::new(alloc), usize::MAX);
+    let seen = seen(rt, HALF, runner, input, output)?;
+    let same = seen.output.as_slice() == half_of(alloc, &samples)?.as_slice();
+    let (read, written) = (seen.read.as_slice(), seen.written.as_slice());
+    Ok(format!(in alloc; "{read:?} {written:?} {same}")?)
 }
 
-/// 4,096 frames and then 904 are read: whole blocks of each, and a last one.
+/// What is written at a time is 4,096 frames.
 #[test]
-fn pieces_are_one_run(rt: HostRuntime) -> Result<(), Fail> {
-    let sound = ramp_file(rt.alloc(), 5000)?;
-    let one = on_one_thread(&rt, &sound, 44 + 2 * 5600)?;
-    made_in_blocks(&rt, Runner::Rows, &sound, &one)?;
-    made_in_blocks(&rt, Runner::Rings, &sound, &one)
+fn what_calls_ask_for(rt: HostRuntime) -> Result<(), Fail> {
+    for (name, runner, many, wanted) in ASKED {
+        row_says(name, asked_told(&rt, *runner, *many), wanted)?;
+    }
+    Ok(())
 }
 
-/// How much a run writes of a content that is cut off, whether that is a front of the whole output, and the fault that
-/// it ends by.
-fn cut_off<T: Threads + AllocGlobal + Sync>(
+/// A design, how it is run on a sound of which so many bytes are there, and what is told: how many bytes are written,
+/// whether they are a front of what one thread writes of the whole sound, and how the run ends.
+#[derive(Clone, Copy)]
+struct Cut {
+    name: &'static str,
+    graph: &'static str,
+    options: Options,
+    channels: u16,
+    samples: usize,
+    kept: usize,
+    told: &'static str,
+}
+
+/// 4,500 frames of 5,000. The whole blocks of the 4,096 frames that were read before the fault are written: 27 of one
+/// period, or 13 of two.
+const CHAINED: Cut = Cut {
+    name: "",
+    graph: CHAIN,
+    options: Options::DEFAULT,
+    channels: 1,
+    samples: 5000,
+    kept: 9044,
+    told: "8684 true 4 sdfw: 43 Truncated\n",
+};
+
+const SPREAD_OUT: Options = Options {
+    workers: 2,
+    blocking: 64,
+    policy: Policy::Runs,
+    placement: Placement::Spread,
+    runner: Runner::Rings,
+    ..Options::DEFAULT
+};
+
+/// A sound of 70,000 frames, for a plan whose actors are spread: 65,536 of them are read at a time.
+const SPREAD: Cut = Cut {
+    graph: SUM,
+    options: SPREAD_OUT,
+    channels: 2,
+    samples: 140_000,
+    ..CHAINED
+};
+
+/// The same by Hu's rule: 4,096 are.
+const BY_HU: Cut = Cut {
+    options: Options {
+        placement: Placement::Hu,
+        runner: Runner::Rows,
+        ..SPREAD_OUT
+    },
+    ..SPREAD
+};
+
+const CUTS: &[Cut] = &[
+    Cut {
+        name: "one thread",
+        told: "44 true 4 sdfw: 43 Truncated\n",
+        ..CHAINED
+    },
+    Cut {
+        name: "rows",
+        options: Options {
+            runner: Runner::Rows,
+            ..Options::DEFAULT
+        },
+        ..CHAINED
+    },
+    Cut {
+        name: "rings",
+        options: Options {
+            runner: Runner::Rings,
+            ..Options::DEFAULT
+        },
+        ..CHAINED
+    },
+    Cut {
+        name: "rows of blocks of two",
+        options: Options {
+            runner: Runner::Rows,
+            blocking: 2,
+            ..Options::DEFAULT
+        },
+        told: "8364 true 4 sdfw: 43 Truncated\n",
+        ..CHAINED
+    },
+    Cut {
+        name: "rings and blocks of two",
+        options: Options {
+            runner: Runner::Rings,
+            blocking: 2,
+            ..Options::DEFAULT
+        },
+        told: "8364 true 4 sdfw: 43 Truncated\n",
+        ..CHAINED
+    },
+    Cut {
+        name: "spread, a frame short of 65,536",
+        kept: 262_184,
+        told: "44 true 4 sdfw: 43 Truncated\n",
+        ..SPREAD
+    },
+    Cut {
+        name: "spread, 65,536 frames",
+        kept: 262_188,
+        told: "131116 true 4 sdfw: 43 Truncated\n",
+        ..SPREAD
+    },
+    Cut {
+        name: "by Hu's rule, a frame short of 4,096",
+        kept: 16_424,
+        told: "44 true 4 sdfw: 43 Truncated\n",
+        ..BY_HU
+    },
+    Cut {
+        name: "by Hu's rule, 4,096 frames",
+        kept: 16_428,
+        told: "8236 true 4 sdfw: 43 Truncated\n",
+        ..BY_HU
+    },
+];
+
+fn cut_told<T: Threads + AllocGlobal + Sync>(
     rt: &T,
-    options: &Options,
+    row: &Cut,
     cut: &[u8],
     whole: &[u8],
 ) -> Result<String, Fail> {
     let alloc = rt.alloc();
     let mut writer = ToWrite::new(Vec::new(alloc));
-    let run = run_with(rt, CHAIN, options, &mut FromRead::new(cut), &mut writer);
+    let mut reader = FromRead::new(cut);
+    let run = run_with(rt, row.graph, &row.options, &mut reader, &mut writer);
     let end = end_of(alloc, run)?;
     let output = writer.into_inner();
     let front = whole.starts_with(&output);
     Ok(format!(in alloc; "{} {front} {end}", output.len())?)
 }
 
-/// A runner, the periods in a block, and what it writes.
-const CUTS: &[(Runner, u32, &str)] = &[
-    (Runner::One, 1, "44 true 4 sdfw: 43 Truncated\n"),
-    (Runner::Rows, 1, "8684 true 4 sdfw: 43 Truncated\n"),
-    (Runner::Rings, 1, "8684 true 4 sdfw: 43 Truncated\n"),
-    (Runner::Rows, 2, "8364 true 4 sdfw: 43 Truncated\n"),
-    (Runner::Rings, 2, "8364 true 4 sdfw: 43 Truncated\n"),
-];
-
-/// Whether each runner writes so much of a sound of which this front is there.
-fn each_writes<T: Threads + AllocGlobal + Sync>(
-    rt: &T,
-    cut: &[u8],
-    whole: &[u8],
-) -> Result<(), Fail> {
-    for (runner, blocking, wanted) in CUTS {
-        says(
-            cut_off(rt, &in_blocks(*runner, *blocking), cut, whole),
-            wanted,
-        )?;
-    }
-    Ok(())
-}
-
-/// The whole blocks of the 4,096 frames that were read before the fault: 27 of one period, or 13 of two.
+/// What is read at a time is run and written before more is read. For a `frames_at_a_time` of another number, as
+/// `FRAMES` alone.
 #[test]
 fn what_was_read_is_written(rt: HostRuntime) -> Result<(), Fail> {
-    let mut sound = ramp_file(rt.alloc(), 5000)?;
-    let whole = run_file(&rt, CHAIN, &Options::DEFAULT, &sound)?;
-    sound.truncate(44 + 2 * 4500);
-    each_writes(&rt, &sound, &whole)
+    for row in CUTS {
+        let mut sound = sound(rt.alloc(), row.channels, Counted(row.samples))?;
+        let whole = run_file(&rt, row.graph, &Options::DEFAULT, &sound)?;
+        sound.truncate(row.kept);
+        row_says(row.name, cut_told(&rt, row, &sound, &whole), row.told)?;
+    }
+    Ok(())
 }

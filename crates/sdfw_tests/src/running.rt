@@ -1,11 +1,12 @@
 //! Designs run over memory, from bytes to bytes, and what is told of it.
 
-use sdf_file::{Design, read_design};
-use sdf_options::{Options, Runner};
+use sdf_file::read_design;
+use sdf_options::Options;
 use sdf_process::planning::plan;
-use sdf_process::process::process;
+use sdf_process::process::{process, process_with};
 use sdf_process::{Fault, fault_text, status};
-use sdf_wav::{FromRead, Reader, ToWrite, Wav, Writer, read_wav, write_wav};
+use sdf_run::Gate;
+use sdf_wav::{FromRead, Reader, ToWrite, Wav, Writer, write_wav};
 use std::alloc::Global;
 use std::test::Fail;
 use std::thread::Threads;
@@ -23,16 +24,39 @@ pub(crate) fn file_of(
     Ok(writer.into_inner())
 }
 
-/// Runs a design that was read.
-fn run_design<T: Threads + AllocGlobal + Sync, R: Reader, W: Writer>(
-    rt: &T,
-    design: &Design,
-    options: &Options,
-    reader: &mut R,
-    writer: &mut W,
-) -> Result<(), Fault> {
-    let plan = plan(rt.alloc(), design, options)?;
-    process(rt, reader, writer, design, &plan)
+/// The samples of a sound.
+#[derive(Clone, Copy)]
+pub(crate) enum Samples {
+    These(&'static [i16]),
+    /// So many of 0, 1, 2 and so on, up to 4,999 and then anew.
+    Counted(usize),
+}
+
+pub(crate) fn samples_of(alloc: Global, samples: Samples) -> Result<Vec<i16>, Fault> {
+    match samples {
+        Samples::These(samples) => Ok(samples.to_vec(alloc)?),
+        Samples::Counted(many) => {
+            let mut counted = Vec::new(alloc);
+            for i in 0..many {
+                counted.push((i % 5000) as i16)?;
+            }
+            Ok(counted)
+        }
+    }
+}
+
+/// The file of samples of so many channels, 44,100 frames a second.
+pub(crate) fn sound(alloc: Global, channels: u16, samples: Samples) -> Result<Vec<u8>, Fault> {
+    file_of(alloc, 44_100, channels, &samples_of(alloc, samples)?)
+}
+
+/// The file of the halves of these samples, each rounded up.
+pub(crate) fn half_of(alloc: Global, samples: &[i16]) -> Result<Vec<u8>, Fault> {
+    let mut halves = Vec::new(alloc);
+    for sample in samples {
+        halves.push(sample.saturating_add(1) >> 1)?;
+    }
+    file_of(alloc, 44_100, 1, &halves)
 }
 
 /// Runs a design with these options.
@@ -44,22 +68,8 @@ pub(crate) fn run_with<T: Threads + AllocGlobal + Sync, R: Reader, W: Writer>(
     writer: &mut W,
 ) -> Result<(), Fault> {
     let design = read_design(rt.alloc(), graph.as_bytes(), &[])?;
-    run_design(rt, &design, options, reader, writer)
-}
-
-/// Runs a design by a runner.
-pub(crate) fn run_by<T: Threads + AllocGlobal + Sync, R: Reader, W: Writer>(
-    rt: &T,
-    graph: &str,
-    runner: Runner,
-    reader: &mut R,
-    writer: &mut W,
-) -> Result<(), Fault> {
-    let options = Options {
-        runner,
-        ..Options::DEFAULT
-    };
-    run_with(rt, graph, &options, reader, writer)
+    let plan = plan(rt.alloc(), &design, options)?;
+    process(rt, reader, writer, &design, &plan)
 }
 
 /// What a design makes of a file.
@@ -74,21 +84,20 @@ pub(crate) fn run_file<T: Threads + AllocGlobal + Sync>(
     Ok(writer.into_inner())
 }
 
-/// What a design makes of a sound of one channel.
-pub(crate) fn run_mono<T: Threads + AllocGlobal + Sync>(
+/// The same with this gate.
+pub(crate) fn run_gated<T: Threads + AllocGlobal + Sync, G: Gate>(
     rt: &T,
     graph: &str,
-    rate: u32,
-    samples: &[i16],
-) -> Result<Wav, Fault> {
-    let input = file_of(rt.alloc(), rate, 1, samples)?;
-    let output = run_file(rt, graph, &Options::DEFAULT, &input)?;
-    read(rt.alloc(), &output)
-}
-
-/// The sound of a file.
-fn read(alloc: Global, bytes: &[u8]) -> Result<Wav, Fault> {
-    Ok(read_wav(alloc, &mut FromRead::new(bytes))?)
+    options: &Options,
+    input: &[u8],
+    gate: &G,
+) -> Result<Vec<u8>, Fault> {
+    let design = read_design(rt.alloc(), graph.as_bytes(), &[])?;
+    let plan = plan(rt.alloc(), &design, options)?;
+    let mut reader = FromRead::new(input);
+    let mut writer = ToWrite::new(Vec::new(rt.alloc()));
+    process_with(rt, &mut reader, &mut writer, &design, &plan, gate)?;
+    Ok(writer.into_inner())
 }
 
 /// The exit status of a fault, and its line.
@@ -105,26 +114,17 @@ pub(crate) fn end_of<T: Drop>(alloc: Global, run: Result<T, Fault>) -> Result<St
     }
 }
 
-/// The rate and the samples of what a design makes of a sound of one channel, or the fault.
-pub(crate) fn mono<T: Threads + AllocGlobal + Sync>(
-    rt: &T,
-    graph: &str,
-    rate: u32,
-    samples: &[i16],
-) -> Result<String, Fail> {
-    let alloc = rt.alloc();
-    match run_mono(rt, graph, rate, samples) {
-        Ok(wav) => Ok(format!(in alloc; "{} {:?}", wav.rate(), wav.samples())?),
-        Err(fault) => fault_told(alloc, &fault),
-    }
-}
-
-/// Fails where a run makes another file than the one wanted, or none.
-pub(crate) fn makes(run: Result<Vec<u8>, Fault>, wanted: &[u8]) -> Result<(), Fail> {
+/// Fails where the run of a row with these options makes another file than the one wanted, or none.
+pub(crate) fn row_makes(
+    name: &str,
+    options: &Options,
+    run: Result<Vec<u8>, Fault>,
+    wanted: &[u8],
+) -> Result<(), Fail> {
     let made = run?;
     if made.as_slice() == wanted {
         return Ok(());
     }
     let made = made.as_slice();
-    Err(Fail::new(format_args!("{made:?} in place of {wanted:?}")))
+    Err(Fail::new(format_args!("{name}, {options:?}: {made:?} in place of {wanted:?}")))
 }

@@ -1,147 +1,15 @@
-//! The line and the exit status of each fault.
+//! The line and the exit status of each fault, and what it means.
 
-use crate::document_texts::{documents, other_documents, text};
+use crate::fault_rows::{ALL, At, Given, Row, Wrong};
 use crate::running::fault_told;
-use sdf_actor::{NetFault, Side};
-use sdf_file::FileFault;
-use sdf_graph::GraphFault;
+use sdf_file::{DocumentFault, FileFault, Place};
 use sdf_options::WordFault;
-use sdf_prec::{Firing, PrecFault};
+use sdf_options::printable::printable;
 use sdf_process::{Fault, Progress, Stalled};
-use sdf_run::RunFault;
-use sdf_wav::{FormatFault, WavFault};
 use sdf_words::explained;
-use std::alloc::Global;
+use std::alloc::{AllocError, Global};
 use std::test::Fail;
 use test_texts::{row_says, says};
-
-/// Graphs and nets: status 3.
-const NETS: &[(NetFault, &str)] = &[
-    (NetFault::Graph(GraphFault::ActorCount), "2 ActorCount"),
-    (NetFault::Graph(GraphFault::ChannelCount), "3 ChannelCount"),
-    (
-        NetFault::Graph(GraphFault::BadEnd { channel: 5 }),
-        "4 BadEnd link 5",
-    ),
-    (
-        NetFault::Graph(GraphFault::BadRate { channel: 6 }),
-        "5 BadRate link 6",
-    ),
-    (
-        NetFault::Graph(GraphFault::InitialCount { channel: 7 }),
-        "6 InitialCount link 7",
-    ),
-    (
-        NetFault::Graph(GraphFault::NotConnected { actor: 8 }),
-        "7 NotConnected actor 8",
-    ),
-    (
-        NetFault::Graph(GraphFault::Inconsistent { channel: 9 }),
-        "8 Inconsistent link 9",
-    ),
-    (
-        NetFault::Graph(GraphFault::PeriodTooLong),
-        "9 PeriodTooLong",
-    ),
-    (
-        NetFault::Graph(GraphFault::CycleLength { channel: 255 }),
-        "63 CycleLength link 255",
-    ),
-    (NetFault::NoPort { link: 10 }, "20 NoPort link 10"),
-    (NetFault::PortTwice { link: 11 }, "21 PortTwice link 11"),
-    (
-        NetFault::PortOpen {
-            actor: 12,
-            side: Side::Input,
-            port: 15,
-        },
-        "22 PortOpen actor 12 input 15",
-    ),
-    (
-        NetFault::PortOpen {
-            actor: 13,
-            side: Side::Output,
-            port: 0,
-        },
-        "22 PortOpen actor 13 output 0",
-    ),
-    (NetFault::ExtTwice { actor: 14 }, "23 ExtTwice actor 14"),
-    (NetFault::InputRates { actor: 15 }, "24 InputRates actor 15"),
-    (
-        NetFault::OutputRates { actor: 63 },
-        "25 OutputRates actor 63",
-    ),
-    (NetFault::NoInput, "26 NoInput"),
-    (NetFault::NoOutput { channel: 1 }, "27 NoOutput channel 1"),
-];
-
-const FIRING: Firing = Firing {
-    actor: 1,
-    number: 2,
-};
-
-/// Tables: status 3.
-const TABLES: &[(PrecFault, &str)] = &[
-    (PrecFault::BlockingFactor, "11 BlockingFactor"),
-    (PrecFault::WorkerCount, "12 WorkerCount"),
-    (PrecFault::BlockTooLong, "13 BlockTooLong"),
-    (
-        PrecFault::FiringMissing { firing: FIRING },
-        "14 FiringMissing",
-    ),
-    (
-        PrecFault::FiringTwice {
-            row: 3,
-            firing: FIRING,
-        },
-        "15 FiringTwice",
-    ),
-    (
-        PrecFault::FiringUnknown {
-            row: 3,
-            firing: FIRING,
-        },
-        "16 FiringUnknown",
-    ),
-    (PrecFault::RowTooWide { row: 3 }, "17 RowTooWide"),
-    (
-        PrecFault::TooEarly {
-            row: 3,
-            firing: FIRING,
-            needs: FIRING,
-        },
-        "18 TooEarly",
-    ),
-    (PrecFault::BadHome { actor: 16 }, "19 BadHome actor 16"),
-    (PrecFault::BadCost { actor: 17 }, "62 BadCost actor 17"),
-];
-
-/// WAV files: status 4.
-const SOUNDS: &[(FormatFault, &str)] = &[
-    (FormatFault::NotRiff, "34 NotRiff"),
-    (FormatFault::NotWave, "35 NotWave"),
-    (FormatFault::NoFormat, "36 NoFormat"),
-    (FormatFault::ShortFormat, "37 ShortFormat"),
-    (FormatFault::NotPcm16, "38 NotPcm16"),
-    (FormatFault::Channels, "39 Channels"),
-    (FormatFault::RateZero, "40 RateZero"),
-    (FormatFault::BadAlign, "41 BadAlign"),
-    (FormatFault::NoData, "42 NoData"),
-    (FormatFault::Truncated, "43 Truncated"),
-    (FormatFault::PartialFrame, "44 PartialFrame"),
-    (FormatFault::TooLong, "45 TooLong"),
-    (FormatFault::RateTooLarge, "46 RateTooLarge"),
-];
-
-/// Runs.
-const RUNS: &[(RunFault, u8, &str)] = &[
-    (RunFault::OutOfMemory, 6, "1 OutOfMemory"),
-    (RunFault::InputLength, 3, "29 InputLength"),
-    (RunFault::NotHomed, 3, "30 NotHomed"),
-    (RunFault::Patience, 3, "31 Patience"),
-    (RunFault::NoWorker, 6, "32 NoWorker"),
-    (RunFault::SessionFailed, 6, "33 SessionFailed"),
-];
 
 /// The number that a text begins with.
 fn number_of(text: &str) -> u32 {
@@ -171,127 +39,85 @@ fn is_explained(alloc: Global, text: &str) -> Result<(), Fail> {
     Err(Fail::new(format_args!("{text:?} is explained by {meaning:?}")))
 }
 
-/// Whether a fault has this line and status. Its number and name are those of its explanation, and it names a place
-/// where that says how. The number is added to the others.
-fn has_line(
-    alloc: Global,
-    fault: &Fault,
-    code: u8,
-    text: &str,
-    numbers: &mut Vec<u32>,
-) -> Result<(), Fail> {
-    numbers.push(number_of(text))?;
-    let wanted = format!(in alloc; "{code} sdfw: {text}\n")?;
-    row_says(text, fault_told(alloc, fault), &wanted)?;
-    is_explained(alloc, text)
+fn place(alloc: Global, at: At) -> Result<Place, AllocError> {
+    match at {
+        At::Top => Ok(Place::Top),
+        At::Actor(actor) => Ok(Place::Actor(actor)),
+        At::Link(link) => Ok(Place::Link(link)),
+        At::File => Ok(Place::File(String::from_str(alloc, "a.toml")?)),
+    }
 }
 
-/// The same of a fault that is given.
-pub(crate) fn given(
-    alloc: Global,
-    fault: Fault,
-    code: u8,
-    text: &str,
-    numbers: &mut Vec<u32>,
-) -> Result<(), Fail> {
-    has_line(alloc, &fault, code, text, numbers)
+/// What is wrong in a document, with its key.
+fn document(alloc: Global, wrong: Wrong, key: &'static str) -> Result<DocumentFault, AllocError> {
+    match wrong {
+        Wrong::ActorCount => Ok(DocumentFault::ActorCount),
+        Wrong::ChannelCount => Ok(DocumentFault::ChannelCount),
+        Wrong::KitValue(at) => Ok(DocumentFault::KitValue(place(alloc, at)?, key)),
+        Wrong::NotToml(at) => Ok(DocumentFault::NotToml(place(alloc, at)?)),
+        Wrong::Format(at) => Ok(DocumentFault::Format(place(alloc, at)?)),
+        Wrong::UnknownKey(at) => {
+            let own = String::from_str(alloc, key)?;
+            Ok(DocumentFault::UnknownKey(place(alloc, at)?, own))
+        }
+        Wrong::MissingKey(at) => Ok(DocumentFault::MissingKey(place(alloc, at)?, key)),
+        Wrong::WrongType(at) => Ok(DocumentFault::WrongType(place(alloc, at)?, key)),
+        Wrong::BadName(at) => Ok(DocumentFault::BadName(place(alloc, at)?, key)),
+        Wrong::NameTwice(actor) => Ok(DocumentFault::NameTwice(actor)),
+        Wrong::UnknownKind(actor) => Ok(DocumentFault::UnknownKind(actor)),
+        Wrong::BadPort(link) => Ok(DocumentFault::BadPort(link, key)),
+        Wrong::NoFile => Ok(DocumentFault::NoFile(String::from_str(alloc, key)?)),
+    }
 }
 
-/// How far an actor of a period of two firings came.
-fn progress(alloc: Global, name: &str, done: u32, short: Option<usize>) -> Result<Progress, Fail> {
-    Ok(Progress {
-        name: text(alloc, name)?,
-        done,
-        of: 2,
-        short,
+/// Actors of two firings a period, how many each did, and what it was short of.
+fn stalled(alloc: Global, short: &[(&str, u32, Option<usize>)]) -> Result<Stalled, AllocError> {
+    let mut actors = Vec::new(alloc);
+    for (name, done, short) in short {
+        actors.push(Progress {
+            name: String::from_str(alloc, name)?,
+            done: *done,
+            of: 2,
+            short: *short,
+        })?;
+    }
+    Ok(Stalled { actors })
+}
+
+fn fault_of(alloc: Global, given: Given) -> Result<Fault, AllocError> {
+    Ok(match given {
+        Given::Net(fault) => Fault::from(FileFault::from(fault)),
+        Given::Table(fault) => Fault::from(fault),
+        Given::Sound(fault) => Fault::Wav(fault),
+        Given::Run(fault) => Fault::from(fault),
+        Given::Device(fault) => Fault::from(fault),
+        Given::Document(wrong, key) => {
+            Fault::File(FileFault::Document(document(alloc, wrong, key)?))
+        }
+        Given::Deadlock(short) => Fault::Deadlock(stalled(alloc, short)?),
+        Given::Memory => Fault::OutOfMemory,
+        Given::Words => Fault::Words(WordFault::OutOfMemory),
+        Given::BlockingFactor => Fault::BlockingFactor,
+        Given::WorkerCount => Fault::WorkerCount,
+        Given::ChannelsMissing => Fault::ChannelsMissing,
+        Given::RateNotWhole => Fault::RateNotWhole,
     })
 }
 
-fn stuck(alloc: Global) -> Result<Fault, Fail> {
-    let mut actors = Vec::new(alloc);
-    actors.push(progress(alloc, "in", 2, None)?)?;
-    actors.push(progress(alloc, "add", 0, Some(4))?)?;
-    Ok(Fault::Deadlock(Stalled { actors }))
+fn told(alloc: Global, given: Given) -> Result<String, Fail> {
+    fault_told(alloc, &fault_of(alloc, given)?)
 }
 
-fn nets(alloc: Global, numbers: &mut Vec<u32>) -> Result<(), Fail> {
-    for (fault, text) in NETS {
-        given(
-            alloc,
-            Fault::from(FileFault::from(*fault)),
-            3,
-            text,
-            numbers,
-        )?;
+/// Whether each fault has its line and status. Its number and name are those of its explanation, and it names a place
+/// where that says how. The numbers are added to the others.
+fn have_lines(alloc: Global, rows: &[Row], numbers: &mut Vec<u32>) -> Result<(), Fail> {
+    for (given, code, text) in rows {
+        numbers.push(number_of(text))?;
+        let wanted = format!(in alloc; "{code} sdfw: {text}\n")?;
+        row_says(text, told(alloc, *given), &wanted)?;
+        is_explained(alloc, text)?;
     }
     Ok(())
-}
-
-fn tables(alloc: Global, numbers: &mut Vec<u32>) -> Result<(), Fail> {
-    for (fault, text) in TABLES {
-        given(alloc, Fault::from(*fault), 3, text, numbers)?;
-    }
-    Ok(())
-}
-
-fn sounds(alloc: Global, numbers: &mut Vec<u32>) -> Result<(), Fail> {
-    for (fault, text) in SOUNDS {
-        given(alloc, Fault::Wav(*fault), 4, text, numbers)?;
-    }
-    Ok(())
-}
-
-fn runs(alloc: Global, numbers: &mut Vec<u32>) -> Result<(), Fail> {
-    for (fault, code, text) in RUNS {
-        given(alloc, Fault::from(*fault), *code, text, numbers)?;
-    }
-    Ok(())
-}
-
-/// The program's own faults.
-fn own_faults(alloc: Global, numbers: &mut Vec<u32>) -> Result<(), Fail> {
-    given(alloc, Fault::OutOfMemory, 6, "1 OutOfMemory", numbers)?;
-    let words = Fault::Words(WordFault::OutOfMemory);
-    given(alloc, words, 6, "1 OutOfMemory", numbers)?;
-    given(
-        alloc,
-        Fault::BlockingFactor,
-        3,
-        "11 BlockingFactor",
-        numbers,
-    )?;
-    given(alloc, Fault::WorkerCount, 3, "12 WorkerCount", numbers)?;
-    given(
-        alloc,
-        Fault::ChannelsMissing,
-        4,
-        "59 ChannelsMissing",
-        numbers,
-    )?;
-    given(alloc, Fault::RateNotWhole, 4, "60 RateNotWhole", numbers)
-}
-
-/// Faults of devices.
-fn devices(alloc: Global, numbers: &mut Vec<u32>) -> Result<(), Fail> {
-    let memory = Fault::from(WavFault::OutOfMemory);
-    given(alloc, memory, 6, "1 OutOfMemory", numbers)?;
-    given(alloc, Fault::from(WavFault::Read), 5, "47 Read", numbers)?;
-    given(alloc, Fault::from(WavFault::Write), 5, "48 Write", numbers)
-}
-
-/// Deadlocks, with no actors and with two.
-fn deadlocks(alloc: Global, numbers: &mut Vec<u32>) -> Result<(), Fail> {
-    let none = Stalled {
-        actors: Vec::new(alloc),
-    };
-    given(alloc, Fault::Deadlock(none), 3, "10 Deadlock", numbers)?;
-    given(
-        alloc,
-        stuck(alloc)?,
-        3,
-        "10 Deadlock\nin 2 of 2\nadd 0 of 2 short link 4",
-        numbers,
-    )
 }
 
 /// The numbers from 1 to 63 that are not among these.
@@ -308,17 +134,52 @@ fn others(alloc: Global, numbers: &[u32]) -> Result<String, Fail> {
 /// A fault without its line's end, or with another's number, is refused here.
 #[test]
 fn each_fault_has_its_line(rt: HostRuntime) -> Result<(), Fail> {
-    let alloc = rt.alloc();
-    let mut numbers = Vec::new(alloc);
-    nets(alloc, &mut numbers)?;
-    tables(alloc, &mut numbers)?;
-    sounds(alloc, &mut numbers)?;
-    runs(alloc, &mut numbers)?;
-    documents(alloc, &mut numbers)?;
-    other_documents(alloc, &mut numbers)?;
-    own_faults(alloc, &mut numbers)?;
-    devices(alloc, &mut numbers)?;
-    deadlocks(alloc, &mut numbers)?;
+    let mut numbers = Vec::new(rt.alloc());
+    for rows in ALL {
+        have_lines(rt.alloc(), rows, &mut numbers)?;
+    }
     // 61 was answered by earlier versions alone.
-    says(others(alloc, &numbers), "[61]")
+    says(others(rt.alloc(), &numbers), "[61]")
+}
+
+/// What a fault means, where its text has each of the parts.
+fn parts_of(alloc: Global, number: u32) -> Result<String, Fail> {
+    let text = explained(alloc, number)?;
+    let first = text.split(' ').next();
+    let means = text.contains("\nmeans: ");
+    let remedy = text.contains("\nremedy: ");
+    Ok(format!(in alloc; "{first:?} {means} {remedy}")?)
+}
+
+#[test]
+fn each_fault_is_explained(rt: HostRuntime) -> Result<(), Fail> {
+    let alloc = rt.alloc();
+    for number in 1..=63u32 {
+        let wanted = format!(in alloc; "Some(\"{number}\") true true")?;
+        says(parts_of(alloc, number), &wanted)?;
+    }
+    says(
+        Ok(explained(alloc, 11)?),
+        "11 BlockingFactor\nmeans: The number of periods in a block is out of range.\nlimits: 1 to 64\n\
+         remedy: Change `--blocking`.\n",
+    )
+}
+
+/// A text, and what is printed of it.
+const TEXTS: &[(&str, &str)] = &[
+    ("", ""),
+    ("gain", "gain"),
+    ("a\nb", "a\\u{a}b"),
+    ("\u{1b}[2J", "\\u{1b}[2J"),
+    ("\0\u{1f} ~\u{7f}", "\\u{0}\\u{1f} ~\\u{7f}"),
+    ("\u{80}\u{9f}\u{a0}", "\\u{80}\\u{9f}\u{a0}"),
+    ("\\u{a} süß €", "\\u{a} süß €"),
+];
+
+#[test]
+fn control_characters_are_numbers(rt: HostRuntime) -> Result<(), Fail> {
+    for (text, wanted) in TEXTS {
+        row_says(text, Ok(printable(rt.alloc(), text)?), wanted)?;
+    }
+    Ok(())
 }

@@ -1,4 +1,5 @@
-//! Which word of the command line means which field.
+//! Which word of the command line means which field, words that stand at one command and not at another, and words
+//! behind the last one of a command.
 
 use sdf_options::Options;
 use sdf_process::{Fault, status};
@@ -7,21 +8,224 @@ use std::alloc::Global;
 use std::test::Fail;
 use test_texts::{row_says, says};
 
-/// Options as one text.
-fn options_told(alloc: Global, options: &Options) -> Result<String, Fail> {
-    Ok(format!(in alloc;
-        "{} {} {:?} {:?} {:?} {}",
-        options.blocking,
-        options.workers,
-        options.policy,
-        options.placement,
-        options.runner,
-        options.patience
-    )?)
-}
+/// The name of a row, the words behind the program's name, and what is read.
+type Row = (&'static str, &'static str, &'static str);
 
-/// The options of a run whose files are g, i and o.
-fn run_told<'a>(alloc: Global, line: &'a [&'a str]) -> Result<String, Fail> {
+/// Runs: the options and the crew.
+const RUNS: &[Row] = &[
+    ("defaults", "run g i o", "1 1 Round Homed One 1000 None"),
+    (
+        "a policy",
+        "run g i o --policy round",
+        "1 1 Round Homed One 1000 None",
+    ),
+    (
+        "a policy",
+        "run g i o --policy lean",
+        "1 1 Lean Homed One 1000 None",
+    ),
+    (
+        "a policy",
+        "run g i o --policy runs",
+        "1 1 Runs Homed One 1000 None",
+    ),
+    (
+        "a placement",
+        "run g i o --placement hu",
+        "1 1 Round Hu One 1000 None",
+    ),
+    (
+        "a placement",
+        "run g i o --placement homed",
+        "1 1 Round Homed One 1000 None",
+    ),
+    (
+        "a placement",
+        "run g i o --placement file",
+        "1 1 Round File One 1000 None",
+    ),
+    (
+        "a placement",
+        "run g i o --placement spread",
+        "1 1 Round Spread One 1000 None",
+    ),
+    (
+        "a runner",
+        "run g i o --runner one",
+        "1 1 Round Homed One 1000 None",
+    ),
+    (
+        "a runner",
+        "run g i o --runner rows",
+        "1 1 Round Homed Rows 1000 None",
+    ),
+    (
+        "a runner",
+        "run g i o --runner rings",
+        "1 1 Round Homed Rings 1000 None",
+    ),
+    (
+        "periods in a block",
+        "run g i o --blocking 1",
+        "1 1 Round Homed One 1000 None",
+    ),
+    (
+        "periods in a block",
+        "run g i o --blocking 2",
+        "2 1 Round Homed One 1000 None",
+    ),
+    (
+        "periods in a block",
+        "run g i o --blocking 64",
+        "64 1 Round Homed One 1000 None",
+    ),
+    (
+        "workers",
+        "run g i o --workers 1",
+        "1 1 Round Homed One 1000 None",
+    ),
+    (
+        "workers",
+        "run g i o --workers 3",
+        "1 3 Round Homed One 1000 None",
+    ),
+    (
+        "workers",
+        "run g i o --workers 16",
+        "1 16 Round Homed One 1000 None",
+    ),
+    (
+        "patience",
+        "run g i o --patience 0",
+        "1 1 Round Homed One 0 None",
+    ),
+    (
+        "patience",
+        "run g i o --patience 1",
+        "1 1 Round Homed One 1 None",
+    ),
+    (
+        "patience",
+        "run g i o --patience 1000000",
+        "1 1 Round Homed One 1000000 None",
+    ),
+    (
+        "a crew",
+        "run g i o --parallel",
+        "1 1 Round Homed One 1000 Some(Processors)",
+    ),
+    (
+        "a crew of one",
+        "run g i o --parallel 1",
+        "1 1 Round Homed One 1000 Some(Workers(1))",
+    ),
+    (
+        "a crew before the files",
+        "run --parallel=16 g i o",
+        "1 1 Round Homed One 1000 Some(Workers(16))",
+    ),
+];
+
+/// Other commands, whole. Refuses other defaults than those that the help has.
+const COMMANDS: &[Row] = &[
+    ("kinds", "kinds", "Kinds"),
+    ("a number", "explain 1", "Explain { number: 1 }"),
+    ("a number", "explain 10", "Explain { number: 10 }"),
+    ("a number", "explain 63", "Explain { number: 63 }"),
+    (
+        "a band-pass from its defaults",
+        "fir bandpass --rate 9 --pass 1 --stop 2",
+        "Fir { wanted: Wanted { rate: 9, band: Middle { low_stop: 0, low_pass: 0, pass: 1, stop: 2 }, \
+         attenuation: 96, up: 1, shift: 15 } }",
+    ),
+    (
+        "a conversion by its defaults",
+        "resample 1 2 f",
+        "Resample { conversion: Conversion { from: 1, to: 2, folder: \"f\", channels: 1, attenuation: 96 } }",
+    ),
+];
+
+/// Words that an option or a command does not have: the exit status.
+const OTHER_WORDS: &[Row] = &[
+    ("a number past its limits", "run g i o --blocking 0", "2"),
+    ("a number past its limits", "run g i o --blocking 65", "2"),
+    ("a number past its limits", "run g i o --workers 0", "2"),
+    ("a number past its limits", "run g i o --workers 17", "2"),
+    (
+        "a number past its limits",
+        "run g i o --patience 1000001",
+        "2",
+    ),
+    ("a word that there is not", "run g i o --policy Round", "2"),
+    (
+        "a word that there is not",
+        "run g i o --placement home",
+        "2",
+    ),
+    ("a word that there is not", "run g i o --runner two", "2"),
+    ("an option that there is not", "run g i o --speed 1", "2"),
+    ("a crew past its limits", "run g i o --parallel 0", "2"),
+    ("a crew past its limits", "run g i o --parallel 17", "2"),
+    ("a number that there is not", "explain 0", "2"),
+    ("a number that there is not", "explain 64", "2"),
+    ("a number that there is not", "explain -1", "2"),
+    ("no number", "explain x", "2"),
+    ("no number", "explain ", "2"),
+];
+
+/// Lines that are no commands: the exit status. Refuses a command that takes the options of another one, and a name
+/// that is explained whatever stands behind it.
+const MISTAKES: &[Row] = &[
+    ("a command that there is not", "play", "2"),
+    ("too few words", "check", "2"),
+    ("too few words", "run g i", "2"),
+    ("too few words", "explain", "2"),
+    ("a word too many", "kinds fir", "2"),
+    ("a word too many", "help play", "2"),
+    ("two forms of an answer", "check g --why --json", "2"),
+    ("two forms of an answer", "schedule g --json --why", "2"),
+    ("more than a name", "explain Deadlock Read", "2"),
+    ("more than a number", "explain 10 47", "2"),
+    ("a check by workers", "check g --workers 2", "2"),
+    ("a schedule by a runner", "schedule g --runner rows", "2"),
+    ("a schedule with patience", "schedule g --patience 1", "2"),
+    ("an analysis by a runner", "analyze g --runner rings", "2"),
+    ("an analysis with more", "analyze g --why", "2"),
+    ("a picture in JSON", "draw g --json", "2"),
+    ("a picture with more", "draw g --why", "2"),
+    ("a run in JSON", "run g i o --json", "2"),
+    ("a profile by workers", "profile g i --workers 2", "2"),
+    ("a profile with an OUT", "profile g i o", "2"),
+    ("a flag with a value", "check g --why=yes", "2"),
+    ("a flag that stands twice", "check g --why --why", "2"),
+    (
+        "a number that stands twice",
+        "schedule g --workers 2 --workers 2",
+        "2",
+    ),
+    (
+        "a shape that there is not",
+        "fir low --rate 8000 --pass 1 --stop 2",
+        "2",
+    ),
+    (
+        "a filter without a rate",
+        "fir lowpass --pass 1 --stop 2",
+        "2",
+    ),
+];
+
+/// Lines that ask for help, which is no mistake: the exit status.
+const HELP: &[Row] = &[
+    ("help", "--help", "0"),
+    ("help", "run -h", "0"),
+    ("help", "help", "0"),
+    ("help", "help run", "0"),
+    ("a version", "--version", "0"),
+];
+
+/// What is read of a line: of a run its options and its crew, another command whole, or the exit status.
+fn told<'a>(alloc: Global, line: &'a [&'a str]) -> Result<String, Fail> {
     match words(alloc, line) {
         Ok(
             Words::Run {
@@ -29,207 +233,62 @@ fn run_told<'a>(alloc: Global, line: &'a [&'a str]) -> Result<String, Fail> {
                 input: "i",
                 output: "o",
                 options,
-                parallel: None,
+                parallel,
                 why: false,
             },
-        ) => options_told(alloc, &options),
-        _ => Ok(String::new(alloc)),
-    }
-}
-
-/// The same with one option.
-fn option_told(alloc: Global, option: &str, word: &str) -> Result<String, Fail> {
-    run_told(alloc, &["sdfw", "run", "g", "i", "o", option, word])
-}
-
-/// What is read of a line, or the exit status.
-fn told<'a>(alloc: Global, line: &'a [&'a str]) -> Result<String, Fail> {
-    match words(alloc, line) {
+        ) => Ok(format!(in alloc;
+            "{} {} {:?} {:?} {:?} {} {parallel:?}",
+            options.blocking,
+            options.workers,
+            options.policy,
+            options.placement,
+            options.runner,
+            options.patience
+        )?),
         Ok(read) => Ok(format!(in alloc; "{read:?}")?),
         Err(fault) => Ok(format!(in alloc; "{}", status(&Fault::from(fault)))?),
     }
 }
 
+fn are_read(alloc: Global, rows: &[Row]) -> Result<(), Fail> {
+    for (name, line, wanted) in rows {
+        let mut words = Vec::new(alloc);
+        words.push("sdfw")?;
+        for word in line.split(' ') {
+            words.push(word)?;
+        }
+        let name = format!(in alloc; "{name}, {line}")?;
+        row_says(&name, told(alloc, &words), wanted)?;
+    }
+    Ok(())
+}
+
 #[test]
-fn options_have_their_defaults(rt: HostRuntime) -> Result<(), Fail> {
+fn words_mean_their_fields(rt: HostRuntime) -> Result<(), Fail> {
     let alloc = rt.alloc();
+    are_read(alloc, RUNS)?;
+    are_read(alloc, COMMANDS)?;
+    are_read(alloc, OTHER_WORDS)?;
+    are_read(alloc, MISTAKES)?;
+    are_read(alloc, HELP)
+}
+
+/// A word can hold a blank, and there can be none.
+#[test]
+fn other_lines_and_defaults(rt: HostRuntime) -> Result<(), Fail> {
+    let alloc = rt.alloc();
+    says(told(alloc, &["sdfw"]), "2")?;
     says(
-        options_told(alloc, &Options::DEFAULT),
-        "1 1 Round Homed One 1000",
+        told(alloc, &["sdfw", "check", "a b"]),
+        "Check { graph: \"a b\", why: false, json: false }",
     )?;
     says(
-        run_told(alloc, &["sdfw", "run", "g", "i", "o"]),
-        "1 1 Round Homed One 1000",
+        told(alloc, &["sdfw", "schedule", "a b", "--workers", "2"]),
+        "Schedule { graph: \"a b\", options: Options { blocking: 1, workers: 2, policy: Round, placement: Homed, \
+         runner: One, patience: 1000 }, why: false, json: false }",
+    )?;
+    says(
+        Ok(format!(in alloc; "{:?}", Options::DEFAULT)?),
+        "Options { blocking: 1, workers: 1, policy: Round, placement: Homed, runner: One, patience: 1000 }",
     )
-}
-
-/// An option, its word, and the options.
-type Asked = (&'static str, &'static str, &'static str);
-
-const WORDS: &[Asked] = &[
-    ("--policy", "round", "1 1 Round Homed One 1000"),
-    ("--policy", "lean", "1 1 Lean Homed One 1000"),
-    ("--policy", "runs", "1 1 Runs Homed One 1000"),
-    ("--placement", "hu", "1 1 Round Hu One 1000"),
-    ("--placement", "homed", "1 1 Round Homed One 1000"),
-    ("--placement", "file", "1 1 Round File One 1000"),
-    ("--placement", "spread", "1 1 Round Spread One 1000"),
-    ("--runner", "one", "1 1 Round Homed One 1000"),
-    ("--runner", "rows", "1 1 Round Homed Rows 1000"),
-    ("--runner", "rings", "1 1 Round Homed Rings 1000"),
-];
-
-const NUMBERS: &[Asked] = &[
-    ("--blocking", "1", "1 1 Round Homed One 1000"),
-    ("--blocking", "2", "2 1 Round Homed One 1000"),
-    ("--blocking", "64", "64 1 Round Homed One 1000"),
-    ("--workers", "1", "1 1 Round Homed One 1000"),
-    ("--workers", "3", "1 3 Round Homed One 1000"),
-    ("--workers", "16", "1 16 Round Homed One 1000"),
-    ("--patience", "0", "1 1 Round Homed One 0"),
-    ("--patience", "1", "1 1 Round Homed One 1"),
-    ("--patience", "1000000", "1 1 Round Homed One 1000000"),
-];
-
-fn each_is_read(alloc: Global, asked: &[Asked]) -> Result<(), Fail> {
-    for (option, word, wanted) in asked {
-        row_says(option, option_told(alloc, option, word), wanted)?;
-    }
-    Ok(())
-}
-
-#[test]
-fn words_have_their_fields(rt: HostRuntime) -> Result<(), Fail> {
-    each_is_read(rt.alloc(), WORDS)
-}
-
-#[test]
-fn numbers_have_their_fields(rt: HostRuntime) -> Result<(), Fail> {
-    each_is_read(rt.alloc(), NUMBERS)
-}
-
-/// A line, and what is read of it.
-type Line = (&'static [&'static str], &'static str);
-
-const COMMANDS: &[Line] = &[
-    (
-        &["sdfw", "check", "a b"],
-        "Check { graph: \"a b\", why: false, json: false }",
-    ),
-    (
-        &["sdfw", "schedule", "a b", "--workers", "2"],
-        "Schedule { graph: \"a b\", options: Options { blocking: 1, workers: 2, policy: Round, placement: Homed, runner: One, patience: 1000 }, why: false, json: false }",
-    ),
-    (&["sdfw", "kinds"], "Kinds"),
-    (&["sdfw", "explain", "1"], "Explain { number: 1 }"),
-    (&["sdfw", "explain", "10"], "Explain { number: 10 }"),
-    (&["sdfw", "explain", "63"], "Explain { number: 63 }"),
-];
-
-#[test]
-fn commands_have_their_arguments(rt: HostRuntime) -> Result<(), Fail> {
-    for (line, wanted) in COMMANDS {
-        says(told(rt.alloc(), line), wanted)?;
-    }
-    Ok(())
-}
-
-/// What is read of a run with one option, or the exit status.
-fn run_with(alloc: Global, option: &str, word: &str) -> Result<String, Fail> {
-    told(alloc, &["sdfw", "run", "g", "i", "o", option, word])
-}
-
-/// What is read of a run in parallel.
-fn crew_told<'a>(alloc: Global, line: &'a [&'a str]) -> Result<String, Fail> {
-    match words(alloc, line) {
-        Ok(Words::Run { parallel, .. }) => Ok(format!(in alloc; "{parallel:?}")?),
-        _ => Ok(String::new(alloc)),
-    }
-}
-
-const CREWS: &[Line] = &[
-    (&["sdfw", "run", "g", "i", "o"], "None"),
-    (
-        &["sdfw", "run", "g", "i", "o", "--parallel"],
-        "Some(Processors)",
-    ),
-    (
-        &["sdfw", "run", "g", "i", "o", "--parallel", "1"],
-        "Some(Workers(1))",
-    ),
-    (
-        &["sdfw", "run", "--parallel=16", "g", "i", "o"],
-        "Some(Workers(16))",
-    ),
-];
-
-#[test]
-fn crews_have_their_workers(rt: HostRuntime) -> Result<(), Fail> {
-    for (line, wanted) in CREWS {
-        says(crew_told(rt.alloc(), line), wanted)?;
-    }
-    Ok(())
-}
-
-/// Options that are none, and words that they do not have.
-const OPTIONS: &[(&str, &str)] = &[
-    ("--blocking", "0"),
-    ("--blocking", "65"),
-    ("--workers", "0"),
-    ("--workers", "17"),
-    ("--patience", "1000001"),
-    ("--policy", "Round"),
-    ("--placement", "home"),
-    ("--runner", "two"),
-    ("--speed", "1"),
-    ("--parallel", "0"),
-    ("--parallel", "17"),
-];
-
-/// Lines that are no commands.
-const MISTAKES: &[&[&str]] = &[
-    &["sdfw", "explain", "0"],
-    &["sdfw", "explain", "64"],
-    &["sdfw", "explain", "-1"],
-    &["sdfw", "explain", "x"],
-    &["sdfw", "explain", ""],
-    &["sdfw"],
-    &["sdfw", "play"],
-    &["sdfw", "check"],
-    &["sdfw", "run", "g", "i"],
-    &["sdfw", "explain"],
-    &["sdfw", "kinds", "fir"],
-    &["sdfw", "help", "play"],
-    &["sdfw", "check", "g", "--why", "--json"],
-    &["sdfw", "schedule", "g", "--json", "--why"],
-];
-
-/// Lines that ask for help.
-const HELP: &[&[&str]] = &[
-    &["sdfw", "--help"],
-    &["sdfw", "run", "-h"],
-    &["sdfw", "help"],
-    &["sdfw", "help", "run"],
-    &["sdfw", "--version"],
-];
-
-/// Whether each line ends by this exit status.
-fn each_ends(alloc: Global, lines: &[&'static [&'static str]], wanted: &str) -> Result<(), Fail> {
-    for line in lines {
-        says(told(alloc, line), wanted)?;
-    }
-    Ok(())
-}
-
-#[test]
-fn mistakes_are_usage(rt: HostRuntime) -> Result<(), Fail> {
-    for (option, word) in OPTIONS {
-        row_says(option, run_with(rt.alloc(), option, word), "2")?;
-    }
-    each_ends(rt.alloc(), MISTAKES, "2")
-}
-
-#[test]
-fn help_is_no_mistake(rt: HostRuntime) -> Result<(), Fail> {
-    each_ends(rt.alloc(), HELP, "0")
 }

@@ -1,5 +1,5 @@
 use Rattle.sdf_actor.specs.Wires.{lists}
-use Rattle.sdf_tests.proofs.feeds.in_pieces.Goals as goal
+use Rattle.sdf_tests.proofs.small_nets.in_pieces.Goals as goal
 
 pub resume_one-requires-clause-rest : goal.resume_one-requires-clause-rest
 resume_one-requires-clause-rest g c κs within =

@@ -1,0 +1,303 @@
+//! What commands answer over files in memory.
+
+use crate::commands::{Row, are_told, told};
+use std::test::Fail;
+use std::thread::Threads;
+use std::time::Clock;
+use test_texts::row_says;
+
+/// The table of kinds of `docs/FORMATS.md`, and the keys that every actor may have.
+const KINDS: &str = "0
+input: channel 0..7, block 1..1024 (1)
+output: channel 0..7, block 1..1024 (1)
+fir: up 1..64 (1), down 1..64 (1), shift 0..15, taps or file: 1..1024 values of -32768..32767
+decimate: factor 1..64
+interpolate: factor 1..64
+add: ways 2..16
+fork: ways 2..16
+gain: gain -32768..32767, shift 0..15
+delay: length 0..65536
+table: offset of 32 bits, values or file: 1..65536 values of 32 bits
+deal, format 2: ways 2..16, run 1..64 (1)
+gather, format 2: ways 2..16, run 1..64 (1)
+clip, format 2: least -32768..32767 (-32768), greatest least..32767 (32767)
+offset, format 2: value -32768..32767
+every kind: processor 0..15 or absent, cost 1..1000000 (1)
+--
+--
+";
+
+/// The schedules of `begun.toml` for one worker. There is none with `in` on processor 1, and all others are alike: the
+/// tables don't go by the policy, and `in` comes first, as the lower of two actors of one level.
+const COMPARED: &str = "0
+policy placement workers     makespan  speedup    rows        samples
+round  hu              1           *2    *1.00      *2             *3
+round  homed           1           *2    *1.00      *2             *3
+round  file            1      refused 19
+lean   hu              1           *2    *1.00      *2             *3
+lean   homed           1           *2    *1.00      *2             *3
+lean   file            1      refused 19
+runs   hu              1           *2    *1.00      *2             *3
+runs   homed           1           *2    *1.00      *2             *3
+runs   file            1      refused 19
+--
+--
+";
+
+/// Answers on standard output. Refuses a program that schedules by the default options, or that takes help for a fault.
+const ANSWERS: &[Row] = &[
+    (
+        "a check",
+        "check plain.toml",
+        "0\nactors 2\nlinks 1\nperiod 2\nq in 1\nq out 1\ninput 1 output 1\n--\n--\n",
+    ),
+    (
+        "a schedule by its options",
+        "schedule begun.toml --blocking 3 --workers 2 --policy lean --placement file",
+        "0\nperiod 2\nq in 1\nq out 1\norder out in\nblocking 3\nworkers 2\nrows 6\nrow out.0 -\nrow - in.0\nrow \
+         out.1 -\nrow - in.1\nrow out.2 -\nrow - in.2\ncapacity in:0 out:0 2\n--\n--\n",
+    ),
+    (
+        "an analysis",
+        "analyze begun.toml --workers 2",
+        "0\nmakespan 1\nwork 2\nspan 1\nbound 1\nspeedup 2.00 of 2\nworker 0 100 %\nworker 1 100 %\nsamples held \
+         3, 12 bytes\ncapacity in:0 out:0 3, 12 bytes\n--\n--\n",
+    ),
+    (
+        "a fault by its number",
+        "explain 11",
+        "0\n11 BlockingFactor\nmeans: The number of periods in a block is out of range.\nlimits: 1 to 64\nremedy: \
+         Change `--blocking`.\n--\n--\n",
+    ),
+    (
+        "a fault by its name",
+        "explain WorkerCount",
+        "0\n12 WorkerCount\nmeans: The number of workers is out of range.\nlimits: 1 to 16\nremedy: Change \
+         `--workers`.\n--\n--\n",
+    ),
+    ("a version", "--version", "0\nsdfw 0.1.0\n--\n--\n"),
+    (
+        "help",
+        "check -h",
+        "0\nChecks a graph file and prints its period\n\nUsage: sdfw check [OPTIONS] <GRAPH>\n\nArguments:\n  \
+         <GRAPH>  The graph file\n\nOptions:\n      --why   Says more of a fault: names, values and limits\n      \
+         --json  Answers in JSON, also of a fault\n  -h, --help  Print help (see more with '--help')\n\n\
+         Examples:\n  sdfw check graph.toml\n  sdfw check graph.toml --why\n--\n--\n",
+    ),
+    (
+        "longer help",
+        "help kinds",
+        "0\nLists the kinds of actors, their keys and limits: a line for each kind, and a last one for the keys\n\
+         that every actor may have. A number in parentheses stands where the key is absent.\n\nUsage: sdfw kinds\n\
+         \nOptions:\n  -h, --help\n          Print help (see a summary with '-h')\n\nExamples:\n  sdfw kinds\n  \
+         sdfw kinds | grep fir\n--\n--\n",
+    ),
+    (
+        "schedules compared",
+        "analyze begun.toml --compare",
+        COMPARED,
+    ),
+    ("kinds", "kinds", KINDS),
+];
+
+/// Answers in JSON. Refuses an answer that is text, one of another command, and a fault that is a line of text.
+const IN_JSON: &[Row] = &[
+    (
+        "a check",
+        "check plain.toml --json",
+        "0\n{\"actors\":[{\"firings\":1,\"name\":\"in\"},{\"firings\":1,\"name\":\"out\"}],\"input\":1,\
+         \"links\":[{\"from\":{\"actor\":\"in\",\"port\":0},\"to\":{\"actor\":\"out\",\"port\":0}}],\"output\":1,\
+         \"period\":2}\n--\n--\n",
+    ),
+    (
+        "a schedule",
+        "schedule plain.toml --json --policy lean",
+        "0\n{\"actors\":[{\"firings\":1,\"name\":\"in\",\"worker\":0},{\"firings\":1,\"name\":\"out\",\
+         \"worker\":0}],\"blocking\":1,\"links\":[{\"capacity\":1,\"from\":{\"actor\":\"in\",\"port\":0},\
+         \"to\":{\"actor\":\"out\",\"port\":0}}],\"order\":[{\"actor\":\"in\",\"firings\":1},{\"actor\":\"out\",\
+         \"firings\":1}],\"period\":2,\"placement\":\"homed\",\"policy\":\"lean\",\"rows\":[[{\"actor\":\"in\",\
+         \"firing\":0}],[{\"actor\":\"out\",\"firing\":0}]],\"workers\":1}\n--\n--\n",
+    ),
+    (
+        "an analysis",
+        "analyze plain.toml --json --blocking 3",
+        "0\n{\"blocking\":3,\"bound\":6,\"links\":[{\"capacity\":2,\"from\":{\"actor\":\"in\",\"port\":0},\
+         \"to\":{\"actor\":\"out\",\"port\":0}}],\"loads\":[6],\"makespan\":6,\"placement\":\"homed\",\
+         \"policy\":\"round\",\"samples\":2,\"span\":4,\"speedup_hundredths\":100,\"work\":6,\"workers\":1}\n--\n--\n",
+    ),
+    (
+        "a coefficient file that is not there",
+        "check lacking.toml --json",
+        "3\n--\n{\"fault\":58,\"file\":\"two.toml\",\"name\":\"NoFile\"}\n--\n",
+    ),
+    (
+        "a design that is not there",
+        "schedule none.toml --json",
+        "5\n--\n{\"fault\":47,\"name\":\"Read\"}\n--\n",
+    ),
+    (
+        "an actor without a home",
+        "analyze plain.toml --placement file --json",
+        "3\n--\n{\"actor\":0,\"fault\":19,\"name\":\"BadHome\"}\n--\n",
+    ),
+    (
+        "schedules compared",
+        "analyze plain.toml --compare --json",
+        "0\n[{\"blocking\":1,\"makespan\":2,\"placement\":\"hu\",\"policy\":\"round\",\"rows\":2,\"samples\":1,\
+         \"speedup_hundredths\":100,\"workers\":1},…",
+    ),
+];
+
+/// Pictures and profiles. Refuses a picture without the design's names, a graph for Graphviz that is a picture or wants
+/// a schedule, a fault that is drawn, a profile that lacks an actor or its firings, and one that writes a sound.
+const VIEWS: &[Row] = &[
+    (
+        "a picture, with the names of its workers",
+        "draw plain.toml --workers 2",
+        "0\n<svg …>worker 1<…</svg>\n--\n--\n",
+    ),
+    (
+        "a graph for Graphviz",
+        "draw plain.toml --dot",
+        "0\ndigraph …",
+    ),
+    (
+        "the graph of a design that has no schedule",
+        "draw stuck.toml --dot",
+        "0\ndigraph {\n…",
+    ),
+    (
+        "a design that has no schedule",
+        "draw stuck.toml",
+        "3\n--\nsdfw: 10 Deadlock\n…",
+    ),
+    (
+        "a profile",
+        "profile plain.toml in.wav",
+        "0\nshare in … %, 64 firings of …\nshare out …\ncost in …\ncost out …--\n--\n",
+    ),
+    (
+        "a sound that is not there",
+        "profile plain.toml none.wav",
+        "5\n--\nsdfw: 47 Read\n--\n",
+    ),
+];
+
+/// Runs follow their options. Refuses a program that plans by the default options: with `in` on processor 1 a plan for
+/// one worker has a fault, and so has one by rings without homes, or of a long block.
+const RUNS: &[Row] = &[
+    (
+        "all options",
+        "run begun.toml in.wav out.wav --blocking 3 --workers 2 --policy lean --placement file --runner rings --patience 7",
+        "0\n--\n--\n<7 8>",
+    ),
+    (
+        "two workers, runner one",
+        "run blocks.toml in.wav no.wav --workers 2 --runner one",
+        "5\n--\nsdfw: 48 Write\n--\n",
+    ),
+    (
+        "two workers, placement hu",
+        "run blocks.toml in.wav no.wav --workers 2 --placement hu",
+        "5\n--\nsdfw: 48 Write\n--\n",
+    ),
+    (
+        "two workers, policy lean",
+        "run blocks.toml in.wav no.wav --workers 2 --policy lean",
+        "5\n--\nsdfw: 48 Write\n--\n",
+    ),
+    (
+        "rings without homes",
+        "run blocks.toml in.wav out.wav --runner rings --workers 2 --placement hu",
+        "3\n--\nsdfw: 30 NotHomed\n--\n",
+    ),
+    (
+        "a home past the last worker",
+        "run begun.toml in.wav out.wav --runner rows --placement file --workers 1",
+        "3\n--\nsdfw: 19 BadHome actor 0\n--\n",
+    ),
+    (
+        "a long block",
+        "run long.toml in.wav out.wav --runner rows --blocking 64 --workers 2",
+        "3\n--\nsdfw: 13 BlockTooLong\n--\n",
+    ),
+];
+
+#[test]
+fn what_commands_answer(rt: HostRuntime) -> Result<(), Fail> {
+    are_told(&rt, ANSWERS)?;
+    are_told(&rt, IN_JSON)?;
+    are_told(&rt, VIEWS)?;
+    are_told(&rt, RUNS)
+}
+
+/// What is counted in what is told of a line, and how often it stands there: the ends of the lines that compare
+/// schedules by one worker and by two, of which four are not the table's; the schedules by two; and the coefficient
+/// files of a conversion. Refuses a comparison that is made by the default options, where each policy and placement has
+/// a line for two workers, and a conversion in two stages of which the first alone is written.
+const COUNTED: &[(&str, &str, &str, &str)] = &[
+    (
+        "lines",
+        "analyze begun.toml --compare --workers 2",
+        "\n",
+        "22",
+    ),
+    (
+        "schedules in JSON",
+        "analyze begun.toml --compare --json --workers 2",
+        "\"workers\":2",
+        "9",
+    ),
+    (
+        "coefficient files",
+        "resample 44100 48000 made --attenuation 40",
+        "# fir up ",
+        "2",
+    ),
+];
+
+fn times<T: Threads + AllocGlobal + Clock + Clone + Drop + Sync>(
+    rt: &T,
+    line: &str,
+    what: &str,
+) -> Result<String, Fail> {
+    let told = told(rt, line)?;
+    let parts = told.as_str().split(what).count();
+    Ok(format!(in rt.alloc(); "{}", parts.saturating_sub(1))?)
+}
+
+#[test]
+fn how_often(rt: HostRuntime) -> Result<(), Fail> {
+    for (name, line, what, wanted) in COUNTED {
+        row_says(name, times(&rt, line, what), wanted)?;
+    }
+    Ok(())
+}
+
+/// Whether a fault is explained by its name as by its number.
+fn is_named<T: Threads + AllocGlobal + Clock + Clone + Drop + Sync>(
+    rt: &T,
+    number: u32,
+) -> Result<(), Fail> {
+    let alloc = rt.alloc();
+    let by_number = told(rt, &format!(in alloc; "explain {number}")?)?;
+    let mut words = by_number.as_str().split(&[' ', '\n']);
+    let name = match words.nth(2) {
+        Some(name) => name,
+        None => "",
+    };
+    row_says(
+        name,
+        told(rt, &format!(in alloc; "explain {name}")?),
+        by_number.as_str(),
+    )
+}
+
+/// Refuses a name that is not looked for.
+#[test]
+fn names_are_explained(rt: HostRuntime) -> Result<(), Fail> {
+    for number in 1..=63 {
+        is_named(&rt, number)?;
+    }
+    Ok(())
+}

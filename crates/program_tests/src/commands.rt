@@ -1,0 +1,167 @@
+//! Commands over files in memory, and what is told of them.
+
+use crate::shelf::{HEADER, NEW_SOUND, SOUND, Shelf};
+use sdf_program::files::MOST_BYTES;
+use sdf_program::program::{World, serve};
+use sdf_program::storage::Storage;
+use std::cell::RefCell;
+use std::io::{self, Error, ErrorKind, Write};
+use std::test::Fail;
+use std::thread::Threads;
+use std::time::Clock;
+
+/// The name of a row, the words behind the program's name, and what is told of them, with `…` in the place of any text.
+pub(crate) type Row = (&'static str, &'static str, &'static str);
+
+/// A stream that keeps what is written, or refuses it by this kind of error.
+#[derive(Drop)]
+pub(crate) struct Stream {
+    pub(crate) refuses: Option<ErrorKind>,
+    pub(crate) written: Vec<u8>,
+}
+
+impl Write for Stream {
+    fn write(&mut self, bytes: &[u8]) -> io::Result<usize> {
+        match self.refuses {
+            Some(kind) => Err(Error::from(kind)),
+            None => self.written.write(bytes),
+        }
+    }
+
+    fn flush(&mut self) -> io::Result<()> {
+        match self.refuses {
+            Some(kind) => Err(Error::from(kind)),
+            None => Ok(()),
+        }
+    }
+}
+
+/// The exit status of some words, the program's name in front of them.
+pub(crate) fn status_of<S: Storage, T: Threads + AllocGlobal + Clock + Clone + Drop + Sync>(
+    world: &World<S, T>,
+    mut stdin: &[u8],
+    out: &mut Stream,
+    err: &mut Stream,
+    words: &[&str],
+) -> Result<u8, Fail> {
+    let alloc = world.threads.alloc();
+    let mut given = Vec::new(alloc);
+    given.push(String::from_str(alloc, "sdfw")?)?;
+    for word in words {
+        given.push(String::from_str(alloc, word)?)?;
+    }
+    Ok(serve(world, &mut stdin, out, err, Ok(given)))
+}
+
+/// What stands around a command: standard input, how long files may be, and what refuses standard output and standard
+/// error.
+#[derive(Clone, Copy)]
+pub(crate) struct Around {
+    pub(crate) stdin: &'static [u8],
+    pub(crate) most: u32,
+    pub(crate) output: Option<ErrorKind>,
+    pub(crate) error: Option<ErrorKind>,
+}
+
+/// Nothing is in the way.
+pub(crate) const OPEN: Around = Around {
+    stdin: b"",
+    most: MOST_BYTES,
+    output: None,
+    error: None,
+};
+
+/// A text, or a sound of the tests by its samples.
+fn text_of(bytes: &[u8]) -> &str {
+    if bytes == SOUND {
+        return "<5 -5>";
+    }
+    if bytes == NEW_SOUND {
+        return "<7 8>";
+    }
+    if bytes == HEADER {
+        return "<5 -5 to come>";
+    }
+    match str::from_utf8(bytes) {
+        Ok(text) => text,
+        Err(_) => "<another sound>",
+    }
+}
+
+/// The exit status of a line of words, and behind it what stands on standard output, on standard error and in the file
+/// that is written.
+pub(crate) fn told_around<T: Threads + AllocGlobal + Clock + Clone + Drop + Sync>(
+    rt: &T,
+    around: &Around,
+    line: &str,
+) -> Result<String, Fail> {
+    let alloc = rt.alloc();
+    let mut words = Vec::new(alloc);
+    for word in line.split(' ') {
+        words.push(word)?;
+    }
+    let files = RefCell::new(Vec::new(alloc));
+    let world = World {
+        storage: &Shelf { written: &files },
+        threads: rt,
+        most: around.most,
+    };
+    let mut out = Stream {
+        refuses: around.output,
+        written: Vec::new(alloc),
+    };
+    let mut err = Stream {
+        refuses: around.error,
+        written: Vec::new(alloc),
+    };
+    let status = status_of(&world, around.stdin, &mut out, &mut err, &words)?;
+    let files = files.into_inner();
+    let (out, err) = (text_of(&out.written), text_of(&err.written));
+    Ok(format!(in alloc; "{status}\n{out}--\n{err}--\n{}", text_of(&files))?)
+}
+
+/// The same where nothing is in the way.
+pub(crate) fn told<T: Threads + AllocGlobal + Clock + Clone + Drop + Sync>(
+    rt: &T,
+    line: &str,
+) -> Result<String, Fail> {
+    told_around(rt, &OPEN, line)
+}
+
+/// Whether a text has all that is wanted, one behind the other.
+fn has(text: &str, wanted: &str) -> bool {
+    let mut parts = wanted.split("…");
+    let Some(first) = parts.next() else {
+        return false;
+    };
+    let Some(mut rest) = text.strip_prefix(first) else {
+        return false;
+    };
+    for part in parts {
+        match rest.split_once(part) {
+            Some((_, behind)) => rest = behind,
+            None => return false,
+        }
+    }
+    rest.is_empty() || wanted.ends_with("…")
+}
+
+/// Fails where a text is told for a row that has not what is wanted, or none.
+pub(crate) fn is_told(name: &str, told: Result<String, Fail>, wanted: &str) -> Result<(), Fail> {
+    let text = told?;
+    if has(&text, wanted) {
+        return Ok(());
+    }
+    Err(Fail::new(format_args!("{name}: {text:?} in place of {wanted:?}")))
+}
+
+/// Whether that is told of each row.
+pub(crate) fn are_told<T: Threads + AllocGlobal + Clock + Clone + Drop + Sync>(
+    rt: &T,
+    rows: &[Row],
+) -> Result<(), Fail> {
+    for (name, line, wanted) in rows {
+        is_told(name, told(rt, line), wanted)?;
+    }
+    Ok(())
+}

@@ -1,0 +1,103 @@
+//! What words ask of filters and converters: each of them means what its name says, over files in memory.
+
+use crate::commands::{Row, are_told};
+use std::test::Fail;
+
+/// Filters. Refuses a line of what taps do that stands on standard output, and a fault with another status.
+const FILTERS: &[Row] = &[
+    (
+        "a high-pass",
+        "fir highpass --rate 8000 --stop 1000 --pass 2500 --attenuation 40",
+        "0\n# fir up 1 shift 15, high-pass 1000..2500 Hz at 8000 Hz, 40 dB\n…",
+    ),
+    (
+        "a band-pass",
+        "fir bandpass --rate 8000 --low-stop 200 --low-pass 1200 --pass 2000 --stop 3000 --attenuation 41",
+        "0\n# fir up 1 shift 15, band-pass 200..1200..2000..3000 Hz at 8000 Hz, 41 dB\n…",
+    ),
+    (
+        "keys of the actor",
+        "fir lowpass --rate 512000 --pass 100 --stop 4000 --up 64 --shift 14",
+        "0\n# fir up 64 shift 14, low-pass 100..4000 Hz at 512000 Hz, 96 dB\n…",
+    ),
+    (
+        "the greatest attenuation",
+        "fir lowpass --rate 8000 --pass 100 --stop 3900 --attenuation 200",
+        "0\n# fir up 1 shift 15, low-pass 100..3900 Hz at 8000 Hz, 200 dB\n…",
+    ),
+    (
+        "a factor that is too great",
+        "fir lowpass --rate 8000 --pass 1000 --stop 2500 --up 65",
+        "2\n--\n…",
+    ),
+    (
+        "a low-pass, and what its taps do on standard error",
+        "fir lowpass --rate 8000 --pass 1000 --stop 3000",
+        "0\n# fir up 1 shift 15, low-pass 1000..3000 Hz…--\n26 taps: …",
+    ),
+    (
+        "a band that ends before it begins",
+        "fir lowpass --rate 8000 --pass 3000 --stop 1000",
+        "2\n--\nerror: what passes ends at 3000 Hz…",
+    ),
+];
+
+/// Converters. Refuses a graph file without its coefficient file, texts in one another's place, a conversion the other
+/// way, a folder that is looked at for a graph file alone or for the first coefficient file, one that may not be, one
+/// that is written over another, and a design that is written before it is planned.
+const CONVERTERS: &[Row] = &[
+    (
+        "channels",
+        "resample 8000 8000 made --channels 8",
+        "0\n--\n--\n# from 8000\n# to 8000\n# channels 8\n…",
+    ),
+    (
+        "too many channels",
+        "resample 8000 8000 made --channels 9",
+        "2\n--\n…",
+    ),
+    (
+        "a folder that has a coefficient file",
+        "resample 8000 16000 begun",
+        "2\n--\nerror: FOLDER has a file stage1.toml already\n…",
+    ),
+    (
+        "a folder that has a second coefficient file",
+        "resample 44100 48000 ended --attenuation 40",
+        "2\n--\nerror: FOLDER has a file stage2.toml already\n…",
+    ),
+    (
+        "a design whose period is too long",
+        "resample 250047 262144 made --attenuation 9",
+        "3\n--\nsdfw: 9 PeriodTooLong\n--\n",
+    ),
+    (
+        "a graph file alone",
+        "resample 8000 8000 made",
+        "0\n--\n--\n# from 8000\n# to 8000\n# channels 1\nformat = 1\n\n[[actor]]\nname = \"in\"\nkind = \
+         \"input\"\nchannel = 0\n\n[[actor]]\nname = \"out\"\nkind = \"output\"\nchannel = 0\n\n[[link]]\nfrom = \
+         \"in\"\nto = \"out\"\n",
+    ),
+    (
+        "a folder that can't be made",
+        "resample 8000 8000 elsewhere",
+        "5\n--\nsdfw: 48 Write\n--\n",
+    ),
+    (
+        "a folder that has a graph file",
+        "resample 8000 8000 full",
+        "2\n--\nerror: FOLDER has a file graph.toml already\n…",
+    ),
+    (
+        "a coefficient file, what it does on standard error, and the graph file",
+        "resample 8000 16000 made --attenuation 40",
+        "0\n--\n… dB down\n--\n# fir up 2 shift 15, low-pass 3636..4364 Hz at 16000 Hz, 40 dB\nformat = 1\nvalues \
+         = […\n]\n# from 8000\n# to 16000\n# channels 1\n…to = \"out\"\n",
+    ),
+];
+
+#[test]
+fn filters_and_converters_are_those_asked_for(rt: HostRuntime) -> Result<(), Fail> {
+    are_told(&rt, FILTERS)?;
+    are_told(&rt, CONVERTERS)
+}

@@ -1,0 +1,287 @@
+//! Small nets on one thread, which are run at once or fed in two pieces.
+
+use crate::nets::{chain, list, pair, two_sums};
+use sdf_actor::{Actor, Net};
+use sdf_run::{feed_one, resume_one, run_one};
+use sdf_sched::class_s::class_s;
+use sdf_sched::{Lean, Round};
+use std::alloc::Global;
+use std::test::Fail;
+use test_actors::{Sum, Swap, Twice};
+use test_texts::row_says;
+
+#[derive(Clone, Copy)]
+enum Small {
+    /// A source of a block and a sink of a block, with samples between them.
+    Linked(u32, u32, &'static [i64]),
+    /// A state that lasts.
+    Summed,
+    /// Two phases.
+    Doubled,
+}
+
+use Small::{Doubled, Linked, Summed};
+
+/// A net, whether it is scheduled by the lean policy, how many periods it is run, on which samples if there is a list
+/// of them, how many it is fed then and with which, and what comes of it.
+#[derive(Clone, Copy)]
+struct Row {
+    name: &'static str,
+    net: Small,
+    lean: bool,
+    periods: u32,
+    samples: Option<&'static [i64]>,
+    later: Option<(u32, &'static [i64])>,
+    told: &'static str,
+}
+
+const ONE_TWO_THREE: Row = Row {
+    name: "",
+    net: Summed,
+    lean: false,
+    periods: 3,
+    samples: Some(&[1, 2, 3]),
+    later: None,
+    told: "",
+};
+
+/// Eleven samples for blocks of two and of three.
+const ELEVEN: Row = Row {
+    net: Linked(2, 3, &[]),
+    samples: Some(&[1, 2, 3, 4, 5, 6, 7, 8, 9, 10, 11]),
+    ..ONE_TWO_THREE
+};
+
+const ROWS: &[Row] = &[
+    Row {
+        name: "blocks of two and three",
+        net: Linked(2, 3, &[]),
+        periods: 2,
+        samples: Some(&[1, 2, 3, 4, 5, 6, 7, 0, 0, 0, 0, 0]),
+        told: "[[1, 2, 3, 4, 5, 6, 7, 0, 0, 0, 0, 0]] in 0 rounds",
+        ..ONE_TWO_THREE
+    },
+    Row {
+        name: "initial samples come first",
+        net: Linked(1, 1, &[7, 8]),
+        told: "[[7, 8, 1]] in 0 rounds",
+        ..ONE_TWO_THREE
+    },
+    Row {
+        name: "initial samples come first by the lean policy",
+        net: Linked(1, 1, &[7, 8]),
+        lean: true,
+        told: "[[7, 8, 1]] in 0 rounds",
+        ..ONE_TWO_THREE
+    },
+    Row {
+        name: "a state lasts",
+        told: "[[1, 3, 6]] in 0 rounds",
+        ..ONE_TWO_THREE
+    },
+    Row {
+        name: "phases go on from period to period",
+        net: Doubled,
+        told: "[[1, 1, 2, 2, 3, 3]] in 0 rounds",
+        ..ONE_TWO_THREE
+    },
+    Row {
+        name: "phases go on from period to period by the lean policy",
+        net: Doubled,
+        lean: true,
+        told: "[[1, 1, 2, 2, 3, 3]] in 0 rounds",
+        ..ONE_TWO_THREE
+    },
+    Row {
+        name: "a short input is refused",
+        periods: 2,
+        told: "29 InputLength",
+        ..ELEVEN
+    },
+    Row {
+        name: "a longer one is not",
+        periods: 1,
+        told: "[[1, 2, 3, 4, 5, 6]] in 0 rounds",
+        ..ELEVEN
+    },
+    Row {
+        name: "a list that is not there is refused",
+        periods: 0,
+        samples: None,
+        told: "29 InputLength",
+        ..ELEVEN
+    },
+    Row {
+        name: "a state goes on",
+        periods: 2,
+        samples: Some(&[1, 2]),
+        later: Some((1, &[3])),
+        told: "[[[1, 3]], [[6]]]",
+        ..ONE_TWO_THREE
+    },
+    Row {
+        name: "phases begin anew",
+        net: Doubled,
+        periods: 1,
+        samples: Some(&[1]),
+        later: Some((2, &[2, 3])),
+        told: "[[[1, 1]], [[2, 2, 3, 3]]]",
+        ..ONE_TWO_THREE
+    },
+    Row {
+        name: "held samples come first",
+        net: Linked(1, 1, &[7, 8]),
+        later: Some((2, &[4, 5])),
+        told: "[[[7, 8, 1]], [[2, 3]]]",
+        ..ONE_TWO_THREE
+    },
+    Row {
+        name: "an empty feed",
+        net: Linked(1, 1, &[7, 8]),
+        periods: 0,
+        samples: Some(&[]),
+        later: Some((1, &[4])),
+        told: "[[[]], [[7]]]",
+        ..ONE_TWO_THREE
+    },
+];
+
+/// The output lists of a run, and in how many rounds it is done; or the text of what it is refused with.
+fn run_told<A: Actor<Token = i64>>(
+    alloc: Global,
+    net: &Net<A>,
+    row: &Row,
+    inputs: &[Vec<i64>],
+) -> Result<String, Fail> {
+    let period = if row.lean {
+        class_s(alloc, net.graph(), net.repetitions(), &mut Lean)?
+    } else {
+        class_s(alloc, net.graph(), net.repetitions(), &mut Round::new())?
+    };
+    match run_one(alloc, net, &period, row.periods, inputs) {
+        Ok(ran) => Ok(format!(in alloc; "{:?} in {} rounds", ran.outputs, ran.rounds)?),
+        Err(fault) => Ok(fault.to_string(alloc)?),
+    }
+}
+
+/// What a run of some periods makes, and then what a further one makes.
+fn in_pieces<A: Actor>(
+    alloc: Global,
+    net: &Net<A>,
+    periods: (u32, u32),
+    first: &[Vec<A::Token>],
+    later: &[Vec<A::Token>],
+) -> Result<Vec<Vec<Vec<A::Token>>>, Fail> {
+    let period = class_s(alloc, net.graph(), net.repetitions(), &mut Round::new())?;
+    let (ran, rest) = feed_one(alloc, net, &period, periods.0, first)?;
+    let (more, _last) = resume_one(alloc, net, &period, &rest, periods.1, later)?;
+    let mut made = Vec::new(alloc);
+    made.push(ran.outputs)?;
+    made.push(more.outputs)?;
+    Ok(made)
+}
+
+/// What comes of a row's net.
+fn told<A: Actor<Token = i64>>(alloc: Global, net: &Net<A>, row: &Row) -> Result<String, Fail> {
+    let inputs = match row.samples {
+        Some(samples) => list(alloc, samples)?,
+        None => Vec::new(alloc),
+    };
+    match row.later {
+        Some((periods, later)) => {
+            let later = list(alloc, later)?;
+            let made = in_pieces(alloc, net, (row.periods, periods), &inputs, &later)?;
+            Ok(format!(in alloc; "{made:?}")?)
+        }
+        None => run_told(alloc, net, row, &inputs),
+    }
+}
+
+fn told_of(alloc: Global, row: &Row) -> Result<String, Fail> {
+    match row.net {
+        Linked(put, taken, begun) => told(alloc, &pair(alloc, put, taken, begun)?, row),
+        Summed => told(alloc, &chain(alloc, Sum)?, row),
+        Doubled => told(alloc, &chain(alloc, Twice)?, row),
+    }
+}
+
+#[test]
+fn what_small_nets_make(rt: HostRuntime) -> Result<(), Fail> {
+    for row in ROWS {
+        row_says(row.name, told_of(rt.alloc(), row), row.told)?;
+    }
+    Ok(())
+}
+
+/// The output lists of a net.
+fn outputs_of<A: Actor>(
+    alloc: Global,
+    net: &Net<A>,
+    periods: u32,
+    inputs: &[Vec<A::Token>],
+) -> Result<Vec<Vec<A::Token>>, Fail> {
+    let period = class_s(alloc, net.graph(), net.repetitions(), &mut Round::new())?;
+    let ran = run_one(alloc, net, &period, periods, inputs)?;
+    Ok(ran.outputs)
+}
+
+/// How long each output list is of a run of some periods, of a net of cyclic rates. 4,096 periods are one block.
+fn lengths(alloc: Global, periods: u32) -> Result<String, Fail> {
+    let net = chain(alloc, Twice)?;
+    let inputs = list(alloc, &[7; 10_000])?;
+    let mut lengths = Vec::new(alloc);
+    for made in &outputs_of(alloc, &net, periods, &inputs)? {
+        lengths.push(made.len())?;
+    }
+    Ok(format!(in alloc; "{lengths:?}")?)
+}
+
+/// What a run makes of a pair, which it turns.
+fn turned(alloc: Global) -> Result<String, Fail> {
+    let net = chain(alloc, Swap)?;
+    let inputs = list(alloc, &[[1, 2]])?;
+    let outputs = outputs_of(alloc, &net, 1, &inputs)?;
+    Ok(format!(in alloc; "{outputs:?}")?)
+}
+
+/// How many balls make a pyramid of so many triangles of them.
+fn pyramid(layers: i64) -> i64 {
+    let twice = layers.wrapping_mul(layers.wrapping_add(1));
+    twice.wrapping_mul(layers.wrapping_add(2)) / 6
+}
+
+/// How many samples a list has that are five zeros, and then pyramids.
+fn pyramids(samples: &[i64]) -> Result<usize, Fail> {
+    let mut layers: i64 = -5;
+    for sample in samples {
+        layers = layers.wrapping_add(1);
+        let expected = if layers > 0 { pyramid(layers) } else { 0 };
+        if *sample != expected {
+            return Err(Fail::new(format_args!("{sample} in layer {layers}")));
+        }
+    }
+    Ok(samples.len())
+}
+
+/// How many pyramids two sums make of the numbers from 1 on over many blocks.
+fn sums_of_sums(alloc: Global) -> Result<String, Fail> {
+    let net = two_sums(alloc)?;
+    let mut samples = Vec::new(alloc);
+    for sample in 1..12_001 {
+        samples.push(sample)?;
+    }
+    let outputs = outputs_of(alloc, &net, 2000, &list(alloc, &samples)?)?;
+    match outputs.first() {
+        Some(made) => Ok(format!(in alloc; "{} {}", outputs.len(), pyramids(made)?)?),
+        None => Ok(String::new(alloc)),
+    }
+}
+
+#[test]
+fn what_larger_runs_make(rt: HostRuntime) -> Result<(), Fail> {
+    let alloc = rt.alloc();
+    row_says("a short run", lengths(alloc, 1), "[2]")?;
+    row_says("a long run", lengths(alloc, 10_000), "[20000]")?;
+    row_says("sums of sums", sums_of_sums(alloc), "1 12000")?;
+    row_says("samples need not be numbers", turned(alloc), "[[[2, 1]]]")
+}

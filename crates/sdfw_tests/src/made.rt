@@ -1,0 +1,343 @@
+//! What designs make of sounds, and the faults that they have.
+
+use crate::designs::{
+    BLOCKS, CHAIN, DELAYED, EARLY, HALF, INITIAL, LATER, LOOP, PAIR, PAIRS, SECOND, SECOND_DOUBLED,
+    STUCK, SWAP, THREE_FOR_TWO, TURNED, TWICE, UNEVEN,
+};
+use crate::running::{Samples, end_of, file_of, row_makes, run_file, sound};
+use sdf_options::{Options, Placement, Runner};
+use sdf_process::Fault;
+use sdf_wav::{FromRead, Wav, read_wav};
+use std::test::Fail;
+use std::thread::Threads;
+use test_texts::{row_says, says};
+
+/// What comes of a run.
+#[derive(Clone, Copy)]
+enum Wanted {
+    /// A file of this rate, of so many channels and of these samples.
+    Sound(u32, u16, &'static [i16]),
+    /// A file of these bytes.
+    Bytes(&'static [u8]),
+    /// An exit status and the line of a fault.
+    Ends(&'static str),
+}
+
+use Wanted::{Bytes, Ends, Sound};
+
+/// A design, its options, the sound that it reads, and what comes of it.
+#[derive(Clone, Copy)]
+struct Row {
+    name: &'static str,
+    graph: &'static str,
+    options: Options,
+    rate: u32,
+    channels: u16,
+    samples: &'static [i16],
+    wanted: Wanted,
+}
+
+/// One sample, 8,000 a second, on one thread.
+const ONE: Row = Row {
+    name: "",
+    graph: "",
+    options: Options::DEFAULT,
+    rate: 8000,
+    channels: 1,
+    samples: &[1],
+    wanted: Bytes(&[]),
+};
+
+/// The samples 3 and -2, 44,100 a second.
+const HALVES: &[u8; 48] =
+    b"RIFF\x28\0\0\0WAVEfmt \x10\0\0\0\x01\0\x01\0\x44\xAC\0\0\x88\x58\x01\0\x02\0\x10\0data\x04\0\0\0\x03\0\xFE\xFF";
+
+/// No samples.
+const NOTHING: &[u8; 44] =
+    b"RIFF\x24\0\0\0WAVEfmt \x10\0\0\0\x01\0\x01\0\x44\xAC\0\0\x88\x58\x01\0\x02\0\x10\0data\0\0\0\0";
+
+/// Sounds.
+const SOUNDS: &[Row] = &[
+    Row {
+        name: "halves",
+        graph: HALF,
+        rate: 44_100,
+        samples: &[5, -5],
+        wanted: Bytes(HALVES),
+        ..ONE
+    },
+    Row {
+        name: "halves of one channel of two",
+        graph: HALF,
+        rate: 44_100,
+        channels: 2,
+        samples: &[5, 100, -5, 200],
+        wanted: Bytes(HALVES),
+        ..ONE
+    },
+    Row {
+        name: "halves of nothing",
+        graph: HALF,
+        rate: 44_100,
+        samples: &[],
+        wanted: Bytes(NOTHING),
+        ..ONE
+    },
+    Row {
+        name: "the last block is filled up",
+        graph: BLOCKS,
+        samples: &[1, 2, 3, 4, 5, 6, 7],
+        wanted: Sound(8000, 1, &[1, 2, 3, 4, 5, 6, 7, 0, 0, 0, 0, 0]),
+        ..ONE
+    },
+    Row {
+        name: "another rate",
+        graph: THREE_FOR_TWO,
+        rate: 32_000,
+        samples: &[10, 20],
+        wanted: Sound(48_000, 1, &[10, 10, 20]),
+        ..ONE
+    },
+    Row {
+        name: "a loop",
+        graph: LOOP,
+        samples: &[1, 2, 3],
+        wanted: Sound(8000, 1, &[1, 1, 2]),
+        ..ONE
+    },
+    Row {
+        name: "samples that stand on a link",
+        graph: INITIAL,
+        samples: &[1, 2, 3],
+        wanted: Sound(8000, 1, &[7, 8, 1]),
+        ..ONE
+    },
+    Row {
+        name: "a sum that is too great",
+        graph: TWICE,
+        samples: &[32_767],
+        wanted: Sound(8000, 1, &[32_767]),
+        ..ONE
+    },
+    Row {
+        name: "a product that is too great",
+        graph: TURNED,
+        samples: &[-32_768],
+        wanted: Sound(8000, 1, &[32_767]),
+        ..ONE
+    },
+    Row {
+        name: "channels swapped",
+        graph: SWAP,
+        channels: 2,
+        samples: &[1, 10, -2, 20, 32_767, -32_768],
+        wanted: Sound(8000, 2, &[10, 1, 20, -2, -32_768, 32_767]),
+        ..ONE
+    },
+    Row {
+        name: "dealt and gathered one by one",
+        graph: SECOND_DOUBLED,
+        samples: &[1, 2, 3, 4, 5],
+        wanted: Sound(8000, 1, &[1, 4, 3, 8, 5, 0]),
+        ..ONE
+    },
+    Row {
+        name: "dealt by twos",
+        graph: PAIRS,
+        samples: &[1, 2, 3, 4, 5, 6, 7, 8],
+        wanted: Sound(8000, 1, &[1, 3, 2, 4, 5, 7, 6, 8]),
+        ..ONE
+    },
+    Row {
+        name: "two that wait",
+        graph: PAIR,
+        samples: &[1, 2, 3],
+        wanted: Sound(8000, 1, &[0, 2, 4]),
+        ..ONE
+    },
+];
+
+/// Faults.
+const FAULTS: &[Row] = &[
+    Row {
+        name: "a rate that is not whole",
+        graph: THREE_FOR_TWO,
+        rate: 32_001,
+        samples: &[10, 20],
+        wanted: Ends("4 sdfw: 60 RateNotWhole\n"),
+        ..ONE
+    },
+    Row {
+        name: "a rate that is not whole, of one sample",
+        graph: THREE_FOR_TWO,
+        rate: 32_001,
+        wanted: Ends("4 sdfw: 60 RateNotWhole\n"),
+        ..ONE
+    },
+    Row {
+        name: "a channel that is not there",
+        graph: SECOND,
+        wanted: Ends("4 sdfw: 59 ChannelsMissing\n"),
+        ..ONE
+    },
+    Row {
+        name: "the same at a rate that is not whole",
+        graph: SECOND,
+        rate: 32_001,
+        wanted: Ends("4 sdfw: 59 ChannelsMissing\n"),
+        ..ONE
+    },
+    Row {
+        name: "a deadlock, whose actors have a line each, and their short links",
+        graph: STUCK,
+        wanted: Ends(
+            "3 sdfw: 10 Deadlock\nin 1 of 1\nadd 0 of 1 short link 4\nfork 0 of 1 short link 1\n\
+             gain 0 of 1 short link 3\nout 0 of 1 short link 2\n",
+        ),
+        ..ONE
+    },
+    Row {
+        name: "a delay is no initial sample",
+        graph: DELAYED,
+        wanted: Ends(
+            "3 sdfw: 10 Deadlock\nin 1 of 1\nadd 0 of 1 short link 5\nfork 0 of 1 short link 1\n\
+             gain 0 of 1 short link 3\nlate 0 of 1 short link 4\nout 0 of 1 short link 2\n",
+        ),
+        ..ONE
+    },
+    Row {
+        name: "uneven branches",
+        graph: UNEVEN,
+        wanted: Ends("3 sdfw: 8 Inconsistent link 3\n"),
+        ..ONE
+    },
+    Row {
+        name: "a format that is not there",
+        graph: LATER,
+        wanted: Ends("3 sdfw: 50 Format top\n"),
+        ..ONE
+    },
+    Row {
+        name: "a kind of a later format",
+        graph: EARLY,
+        wanted: Ends("3 sdfw: 56 UnknownKind actor 1\n"),
+        ..ONE
+    },
+    Row {
+        name: "an actor that no worker over rings has alone",
+        graph: BLOCKS,
+        options: Options {
+            runner: Runner::Rings,
+            placement: Placement::Hu,
+            workers: 2,
+            patience: 0,
+            ..Options::DEFAULT
+        },
+        samples: &[1, 2, 3, 4, 5, 6, 7],
+        wanted: Ends("3 sdfw: 30 NotHomed\n"),
+        ..ONE
+    },
+];
+
+/// Keys, which can hold what begins a line or reaches the terminal, and forge no lines.
+const KEYS: &[Row] = &[
+    Row {
+        name: "a key with a line's end",
+        graph: "format = 1\n\"x\\nsdfw: 1 OutOfMemory\" = 1",
+        wanted: Ends("3 sdfw: 51 UnknownKey top key x\\u{a}sdfw: 1 OutOfMemory\n"),
+        ..ONE
+    },
+    Row {
+        name: "a key with an escape",
+        graph: "format = 1\n\"\\u001B[31m\" = 1",
+        wanted: Ends("3 sdfw: 51 UnknownKey top key \\u{1b}[31m\n"),
+        ..ONE
+    },
+    Row {
+        name: "a key with the first and the last of the upper control characters",
+        graph: "format = 1\n\"\\u007F\\u0080\" = 1",
+        wanted: Ends("3 sdfw: 51 UnknownKey top key \\u{7f}\\u{80}\n"),
+        ..ONE
+    },
+    Row {
+        name: "a key with a letter",
+        graph: "format = 1\n\"é\" = 1",
+        wanted: Ends("3 sdfw: 51 UnknownKey top key é\n"),
+        ..ONE
+    },
+];
+
+/// Whether what is wanted comes of each row.
+fn are_made<T: Threads + AllocGlobal + Sync>(rt: &T, rows: &[Row]) -> Result<(), Fail> {
+    for row in rows {
+        is_made(rt, row)?;
+    }
+    Ok(())
+}
+
+fn is_made<T: Threads + AllocGlobal + Sync>(rt: &T, row: &Row) -> Result<(), Fail> {
+    let alloc = rt.alloc();
+    let input = file_of(alloc, row.rate, row.channels, row.samples)?;
+    let run = run_file(rt, row.graph, &row.options, &input);
+    match row.wanted {
+        Sound(rate, channels, samples) => {
+            let wanted = file_of(alloc, rate, channels, samples)?;
+            row_makes(row.name, &row.options, run, &wanted)
+        }
+        Bytes(bytes) => row_makes(row.name, &row.options, run, bytes),
+        Ends(end) => row_says(row.name, end_of(alloc, run), end),
+    }
+}
+
+#[test]
+fn what_designs_make(rt: HostRuntime) -> Result<(), Fail> {
+    are_made(&rt, SOUNDS)?;
+    are_made(&rt, FAULTS)?;
+    are_made(&rt, KEYS)
+}
+
+/// What the chain makes of the first so many samples.
+fn converted<T: Threads + AllocGlobal + Sync>(rt: &T, many: usize) -> Result<Wav, Fault> {
+    let input = sound(rt.alloc(), 1, Samples::Counted(many))?;
+    let output = run_file(rt, CHAIN, &Options::DEFAULT, &input)?;
+    Ok(read_wav(rt.alloc(), &mut FromRead::new(output.as_slice()))?)
+}
+
+/// Whether 320 samples are half of these, what is left of a sound that ended there, and zeros.
+fn is_filled_up(part: &[i16], whole: &[i16]) -> bool {
+    for (i, (cut, kept)) in part.iter().zip(whole).enumerate() {
+        let expected = match i {
+            0..160 => *kept,
+            160..163 => 147,
+            _ => 0,
+        };
+        if *cut != expected {
+            return false;
+        }
+    }
+    part.len() == 320 && whole.len() == 320
+}
+
+/// The rate of what the chain makes of 294 samples, how many there are, some of them, and whether what it makes of half
+/// of them is filled up.
+fn converted_told<T: Threads + AllocGlobal + Sync>(rt: &T) -> Result<String, Fail> {
+    let whole = converted(rt, 294)?;
+    let part = converted(rt, 148)?;
+    let samples = whole.samples();
+    let begins = samples.starts_with(&[0, 0, 0, 2, 3, 4, 5, 5, 6, 7]);
+    let (middle, next, last) = (samples.get(159), samples.get(160), samples.get(319));
+    let filled = is_filled_up(part.samples(), samples);
+    Ok(format!(in rt.alloc();
+        "{} {} {begins} {middle:?} {next:?} {last:?} {filled}",
+        whole.rate(),
+        samples.len()
+    )?)
+}
+
+#[test]
+fn converts_44100_to_48000_and_fills_up(rt: HostRuntime) -> Result<(), Fail> {
+    says(
+        converted_told(&rt),
+        "48000 320 true Some(145) Some(147) Some(292) true",
+    )
+}
