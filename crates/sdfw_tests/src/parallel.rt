@@ -19,7 +19,7 @@ fn spread_over(workers: usize) -> Options {
         policy: Policy::Runs,
         placement: Placement::Spread,
         runner: Runner::Rings,
-        patience: 100_000,
+        patience: 1_000_000,
         ..Options::DEFAULT
     }
 }
@@ -61,7 +61,7 @@ fn crew_told(alloc: Global) -> Result<String, Fail> {
 /// Refuses workers that are less patient than the help says.
 #[test]
 fn crews_are_patient(rt: HostRuntime) -> Result<(), Fail> {
-    says(crew_told(rt.alloc()), "Rings 100000 16 16")
+    says(crew_told(rt.alloc()), "Rings 1000000 16 16")
 }
 
 /// A last block of 6 periods that is cut, behind a whole one: 1,024 samples are moved on a link by three of them.
