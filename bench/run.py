@@ -10,6 +10,8 @@ import array, pathlib, random, shutil, statistics, struct, subprocess, sys, temp
 TOP = pathlib.Path(__file__).resolve().parent.parent
 CONVERTER, CROSSOVER, ECHO = (TOP / "examples" / name for name in ("44100-to-48000", "crossover", "echo"))
 RATE, ROUNDS = 44100, 5
+# Of runs in parallel more, since the system places their threads anew each time.
+MANY_ROUNDS = 9
 ONE = {"sdfw": []}
 ROWS = {"sdfw, rows": ["--runner", "rows", "--workers", "2", "--blocking", "16"]}
 WORKERS = (1, 2, 4)
@@ -138,10 +140,10 @@ def run(meter, command):
     return float(seconds), int(memory)
 
 
-def measure(meter, title, seconds, commands, made):
+def measure(meter, title, seconds, commands, made, rounds):
     """Measures commands by name in turn; those in C have names that begin with C."""
     seen = {name: [] for name in commands}
-    for _ in range(ROUNDS):
+    for _ in range(rounds):
         for name, command in commands.items():
             seen[name].append(run(meter, command))
     least = {name: min(took for took, _ in runs) for name, runs in seen.items()}
@@ -163,7 +165,17 @@ OTHERS = {
 
 
 def compare(
-    folder, title, graph, programs, channels=1, rate=False, halvings=1, runners=ONE, lengths=(10, 60), homes=None
+    folder,
+    title,
+    graph,
+    programs,
+    channels=1,
+    rate=False,
+    halvings=1,
+    runners=ONE,
+    lengths=(10, 60),
+    homes=None,
+    rounds=ROUNDS,
 ):
     """Measures a design by some runners beside programs, on noise of some seconds."""
     for seconds in lengths:
@@ -182,7 +194,7 @@ def compare(
             if rate and shutil.which(name):
                 paths = iter((str(source), str(made[name])))
                 commands[name] = [word or next(paths) for word in words]
-        measure(compiled(folder, "measure"), title, seconds, commands, made)
+        measure(compiled(folder, "measure"), title, seconds, commands, made, rounds)
 
 
 def main():
@@ -228,13 +240,13 @@ def workers(folder, graph):
     great.mkdir()
     taps(great / "taps.h", GREAT_BANK)
     many, _ = bank(great / "filters", GREAT_BANK)
-    runners = {**ONE, **PARALLEL}
-    compare(folder, "a bank of eight filters, --parallel", graph, threads(folder), runners=runners)
-    compare(great, "a bank of 32 filters, --parallel", many, threads(great), runners=runners)
+    ways = {"runners": {**ONE, **PARALLEL}, "rounds": MANY_ROUNDS}
+    compare(folder, "a bank of eight filters, --parallel", graph, threads(folder), **ways)
+    compare(great, "a bank of 32 filters, --parallel", many, threads(great), **ways)
     plain = {"C, plain loop": compiled(folder, "crossover")}
-    compare(folder, "crossover, --parallel", CROSSOVER / "graph.toml", plain, runners=runners)
+    compare(folder, "crossover, --parallel", CROSSOVER / "graph.toml", plain, **ways)
     stereo, chain = CONVERTER / "graph-stereo.toml", {"C, plain loop": compiled(folder, "plain")}
-    compare(folder, "44,100 to 48,000, stereo, --parallel", stereo, chain, channels=2, runners=runners)
+    compare(folder, "44,100 to 48,000, stereo, --parallel", stereo, chain, channels=2, **ways)
 
 
 if __name__ == "__main__":

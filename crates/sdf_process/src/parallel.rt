@@ -15,8 +15,9 @@ use sdf_prec::Table;
 use sdf_prec::spread::{heaviest, weight_to};
 use std::alloc::{AllocError, Global};
 
-/// Repeated tests in the round of a worker of such a run.
-pub const CREW_PATIENCE: u32 = 100_000;
+/// Repeated tests in the round of a worker of such a run, as many as may be asked for: a worker that leaves its round
+/// leaves a core idle until all others have stopped for want of it.
+pub const CREW_PATIENCE: u32 = 1_000_000;
 
 /// As many tenths of the speed of one thread several workers must be able to reach.
 pub const LEAST_TENTHS: u64 = 12;

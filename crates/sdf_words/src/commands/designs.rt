@@ -108,7 +108,7 @@ const PARALLEL: Switch = Switch {
     help: "Runs in parallel, by as many workers as there are processors or by M",
     more: "Runs in parallel, where that can be faster: by M workers, 1 to 16, or by as many as there are processors,
 and by fewer where a frame is too little work for so many.
-It is `--runner rings --placement spread --policy runs` with a patience of 100000; and one thread, where a
+It is `--runner rings --placement spread --policy runs` with a patience of 1000000; and one thread, where a
 frame is too little work for two, where the workers could not be 1.2 times as fast by what the actors
 weigh, or where there is no table for them. With `--why` a line on standard error says which",
     against: &[
