@@ -56,7 +56,7 @@ fn plans_and_what_they_want(rt: HostRuntime) -> Result<(), Fail> {
     row_says(
         "crews are patient",
         crew_told(rt.alloc()),
-        "Rings 100000 16 16",
+        "Rings 1000000 16 16",
     )?;
     row_says(
         "runs want whole periods",
