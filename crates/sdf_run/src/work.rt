@@ -76,20 +76,22 @@ fn fire_many_into<A: Actor>(
     phase: u32,
     times: usize,
     state: &mut A::State,
-    taken: &[A::Token],
+    taken: &Vec<A::Token>,
+    all: usize,
     put: &mut Vec<A::Token>,
     many: usize,
 )
     requires phase { phase < A.steps.cycle actor.now }
-    requires taken { length taken.now ≡ sum_in A.steps actor.now phase times }
+    requires taken { all ≤ length taken.now.items }
+    requires all { all ≡ sum_in A.steps actor.now phase times }
     requires put { many ≤ length put.old.items }
     requires many { many ≡ sum_out A.steps actor.now phase times }
-    ensures state { state.new ≡ state_at A.steps actor.now phase state.old taken.now times }
-    ensures put { take many put.new.items ≡ puts_to A.steps actor.now phase state.old taken.now times }
+    ensures state { state.new ≡ state_at A.steps actor.now phase state.old (take all taken.now.items) times }
+    ensures put { take many put.new.items ≡ puts_to A.steps actor.now phase state.old (take all taken.now.items) times }
     ensures len { length put.new.items ≡ length put.old.items }
 {
     let (front, _) = put.as_mut_slice().split_at_mut(many);
-    actor.fire_many(phase, times, state, taken, front);
+    actor.fire_many(phase, times, state, &taken[..all], front);
 }
 
 /// Puts the first samples of a block on the channels of the ports.
@@ -413,7 +415,7 @@ impl<'a, A: Actor> Work<'a, A> {
             take_fronts(ins, times, size, filler, taken, all, queues);
             let more = lengths[*phase as usize];
             let many = blocks(times, more, put.len());
-            fire_many_into(*actor, *phase, times, state, &taken[..all], put, many);
+            fire_many_into(*actor, *phase, times, state, taken, all, put, many);
             put_fronts(outs, times, more, filler, put, many, queues);
         }
     }
