@@ -14,8 +14,9 @@ pub mod Steady
 pub mod AtOnce
 pub mod AtOnceWorks
 pub mod FiringAtOnce
+pub mod FiringMany
 pub mod Left
-pub mod Chained
+pub mod Joined
 pub mod BlocksTaken
 pub mod Many
 mod Feeding

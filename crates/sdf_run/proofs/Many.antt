@@ -28,12 +28,14 @@ use Rattle.sdf_answer.specs.Blocks.{nothing, samples, room, at_ports, ArePorts, 
 use Rattle.sdf_answer.specs.Moves.{FitsPorts}
 use Rattle.sdf_answer.specs.Sizes.{Rows, IsPlan, AreSizes, at_phase, in_all, out_all}
 use Rattle.sdf_run.specs.Firings.{made, phase_at, IsActor, IsFired}
-use Rattle.sdf_run.specs.Many.{chained, front_at, dealt, GoesByMany, HasItsBlocks, Fit, HaveManyWorked, CanFireMany}
+use Rattle.sdf_node.specs.Many.{joined}
+use Rattle.sdf_answer.specs.Blocks.{front_at, dealt}
+use Rattle.sdf_run.specs.Many.{GoesByMany, HasItsBlocks, Fit, HaveManyWorked, CanFireMany}
 use Rattle.sdf_run.specs.Many.{AreManyFired}
 use Rattle.sdf_run.specs.Runs.{HasBlocks, IsWork, Stands}
 use Rattle.sdf_run.proofs.AtOnceWorks.{at_none, sum_of_equal}
 use Rattle.sdf_run.proofs.BlocksTaken.{at_one, one_more, at_sum, at_zero, cut_more, front_long}
-use Rattle.sdf_run.proofs.Chained.{chained_none, chained_part}
+use Rattle.sdf_run.proofs.Joined.{joined_none, joined_part}
 use Rattle.sdf_run.proofs.Known.{Known, ins_all}
 use Rattle.sdf_run.proofs.Longer.{reaches}
 use Rattle.sdf_run.proofs.Parts.{flat_map_same, spread_none}
@@ -122,7 +124,7 @@ stands_along s n inputs many k m works works' qs qs' outputs same st same_works 
 
 -- what so many firings put is what each puts, one after another
 puts_chained : {A S T : Type 0} (s : Steps A S T) (x : A) (j : ℕ) (state : S) (b : List T) (i : ℕ) →
-    puts_to s x j state b i ≡ chained (λ i. s.puts x (phase s x (j + i)) (state_at s x j state b i)
+    puts_to s x j state b i ≡ joined (λ i. s.puts x (phase s x (j + i)) (state_at s x j state b i)
     (block_at s x j b i)) i
 puts_chained s x j state b zero = refl
 puts_chained s x j state b (suc i) = ap (λ ys. ys
@@ -267,6 +269,7 @@ module _ {A S T Z : Type 0} (s : Steps A S T) (fits : (x : A) → PutsFit s x) (
       omega (arith, at_cycle, inner.3.cycle),
       inner.3.lengths_are j at_cycle ∙ more_is,
       omega (arith, fit.1, ap (λ v. times * v) (inner.3.lengths_are j at_cycle ∙ more_is)),
+      size_is,
     );
   }
     where
@@ -304,7 +307,7 @@ module _ {A S T Z : Type 0} (s : Steps A S T) (fits : (x : A) → PutsFit s x) (
   f = front_at takes ins qs
 
   abbrev whole : List T
-  whole = chained f times
+  whole = joined f times
 
   abbrev all : List T
   all = puts_to s actor.now j state whole times
@@ -349,11 +352,11 @@ module _ {A S T Z : Type 0} (s : Steps A S T) (fits : (x : A) → PutsFit s x) (
   block_is i l =
       let wide : sum_in s actor.now j (i + 1) - sum_in s actor.now j i ≡ size =
       omega (arith, sums_in i, sums_in (i + 1), one_more i size) in
-      (λ e. take (wide e) (drop (sums_in i e) whole)) ∙ chained_part f size times i (λ e h. f_long e (omega arith)) l
+      (λ e. take (wide e) (drop (sums_in i e) whole)) ∙ joined_part f size times i (λ e h. f_long e (omega arith)) l
 
   none_dealt : (p : ℕ) → p < length ins → (i : ℕ) → dealt puts outs more all (get_or ins p 0) i ≡ []
   none_dealt p l i =
-      chained_none (λ e. spread (λ d. get_or puts d 0) outs (take more (drop (e * more) all)) (get_or ins p 0)) i
+      joined_none (λ e. spread (λ d. get_or puts d 0) outs (take more (drop (e * more) all)) (get_or ins p 0)) i
       (λ e h. spread_none (λ d. get_or puts d 0) outs (take more (drop (e * more) all)) (get_or ins p 0)
       (λ r g same. apart p r l g (sym same)))
 
@@ -460,7 +463,7 @@ module _ {A S T Z : Type 0} (s : Steps A S T) (fits : (x : A) → PutsFit s x) (
       put_is : take more (drop (i * more) all) ≡ made s (w i) (front takes ins (q i))
       put_is =
           ap (λ ys. take more (drop (i * more) ys)) (puts_chained s actor.now j state whole times) ∙
-          (chained_part piece more times i (λ e h. each e h (cases_lt e i)) l
+          (joined_part piece more times i (λ e h. each e h (cases_lt e i)) l
           ∙ (λ e. s.puts actor.now (same_phase (j + i) e) (state_i i) ((block_is i l ∙ sym (front_is i l)) e)))
         where
           each : (e : ℕ) → e ≤ i → (e < i) ⊎ (i ≤ e) → length (piece e) ≡ more

@@ -9,23 +9,11 @@ use Rattle.sdf_run.specs.declared.work.Work.{Work}
 use Rattle.sdf_run.specs.declared.work.Work.TheVariants.{Inner}
 use Rattle.sdf_run.specs.declared.run.Run.{Run}
 use Rattle.sdf_answer.specs.Held.{Held}
-use Rattle.sdf_answer.specs.Blocks.{samples, room, at_ports, ArePorts}
+use Rattle.sdf_node.specs.Many.{joined}
+use Rattle.sdf_answer.specs.Blocks.{samples, room, at_ports, front_at, dealt, ArePorts}
 use Rattle.sdf_answer.specs.Sizes.{at_phase}
 use Rattle.sdf_run.specs.Firings.{phase_at}
 use Rattle.sdf_run.specs.Runs.{HasBlocks, FiresAlone}
-
--- the blocks of the first so many firings, one after another
-abbrev pub chained : {T : Type 0} → (ℕ → List T) → ℕ → List T
-chained block zero = []
-chained block (suc i) = chained block i ++ block i
-
--- the block of firing i, of those that stand at the fronts of the queues
-abbrev pub front_at : {T : Type 0} → List ℕ → List ℕ → List (Held T) → ℕ → List T
-front_at takes ins qs i = flat_map (λ c. take (slice_index takes c) (drop (i * slice_index takes c) (samples qs c))) ins
-
--- what so many firings put on channel c, where block b has a part of the size more for each
-abbrev pub dealt : {T : Type 0} → List ℕ → List ℕ → ℕ → List T → ℕ → ℕ → List T
-dealt puts outs more b c times = chained (λ i. spread (slice_index puts) outs (take more (drop (i * more) b)) c) times
 
 -- an actor of one phase that puts on no channel that it takes from
 abbrev pub GoesByMany : {A S T : Type 0} → Steps A S T → Work A T S → List ℕ → List ℕ → Type 0
@@ -65,7 +53,7 @@ CanWorkMany s times (Inner actor phase state taken put lengths) many more =
     (phase < s.cycle actor.now) × (times * many ≡ sum_in s actor.now phase times)
     × (times * more ≡ sum_out s actor.now phase times) ×
     (times * many ≤ vec_capacity taken) × (phase < length lengths.items) × (slice_index lengths.items phase ≡ more)
-    × (times * more ≤ length put.items)
+    × (times * more ≤ length put.items) × (total_in s actor.now phase ≡ many)
 CanWorkMany s times w many more = ⊥
 
 -- an actor that takes from the channels ins and puts on the channels outs can fire so many times
@@ -83,11 +71,11 @@ pub record CanFireMany {A S T : Type 0} (s : Steps A S T) (times : ℕ) (ins out
 -- and this is what they do
 pub record AreManyFired {A S T : Type 0} (s : Steps A S T) (times : ℕ) (ins outs takes puts : List ℕ)
     (w w' : Work A T S) (qs qs' : List (Held T)) : Type 0 where
-  pub work : HaveManyWorked s times w (chained (front_at takes ins qs) times) w'
+  pub work : HaveManyWorked s times w (joined (front_at takes ins qs) times) w'
   pub queues : (c : ℕ) → c < length qs →
       samples qs' c ≡ drop (at_ports ins (times * slice_index takes c) c) (samples qs c) ++
       dealt puts outs (sum_by (slice_index puts) outs)
-      (all_put s w (chained (front_at takes ins qs) times) times) c times
+      (all_put s w (joined (front_at takes ins qs) times) times) c times
   pub rooms : (c : ℕ) → c < length qs → room qs' c ≡ room qs c
 
 -- node a of a run can fire so many times

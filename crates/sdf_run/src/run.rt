@@ -109,7 +109,7 @@ impl<'a, A: Actor> Run<'a, A> {
             channels: self.net.channels_out(a),
             sizes: self.sizes.on(Side::Output, phase),
         };
-        self.works[a].fire_many(times, &ins, &outs, &mut self.queues);
+        self.works[a].fire_many(times, self.filler, &ins, &outs, &mut self.queues);
         self.done[a] += times;
     }
 

@@ -1,19 +1,22 @@
 //! Nodes at work.
 
 ghost use Rattle.std.specs.Prelude.{◌≡◌, ◌+◌, ◌*◌, ◌<◌, ◌≤◌, ◌++◌, ℕ, length, slice_index, take, drop, IsTrue, false};
+ghost use Rattle.std.specs.Prelude.{vec_capacity};
 ghost use Rattle.std.specs.List.{sum_by};
 ghost use Rattle.sdf_actor.specs.Histories.{spread};
 ghost use Rattle.sdf_actor.specs.Steps.{total_in, total_out, sum_in, sum_out, state_at, puts_to};
 ghost use Rattle.sdf_actor.specs.Wires.{lists};
 ghost use Rattle.sdf_run.specs.AtOnce.{fronts};
-ghost use Rattle.sdf_run.specs.Many.{chained, front_at, dealt};
-ghost use Rattle.sdf_answer.specs.Blocks.{samples, room, at_ports, ArePorts, HaveRoom};
+ghost use Rattle.sdf_node.specs.Many.{joined};
+ghost use Rattle.sdf_answer.specs.Blocks.{samples, room, at_ports, front_at, dealt, ArePorts, HaveRoom};
 
-use crate::block::{put_blocks, take_blocks, whole_blocks};
+use crate::block::whole_blocks;
 use sdf_actor::Actor;
 use sdf_actor::actor::next_phase;
 use sdf_answer::Queue;
 use sdf_answer::blocks::{put_block, take_block};
+use sdf_answer::many_blocks::{put_blocks, take_blocks};
+use sdf_answer::queue::lengthen;
 
 /// What a node does in a firing.
 #[derive(Drop)]
@@ -74,19 +77,21 @@ fn fire_many_into<A: Actor>(
     times: usize,
     state: &mut A::State,
     taken: &Vec<A::Token>,
+    all: usize,
     put: &mut Vec<A::Token>,
     many: usize,
 )
     requires phase { phase < A.steps.cycle actor.now }
-    requires taken { length taken.now.items ≡ sum_in A.steps actor.now phase times }
+    requires taken { all ≤ length taken.now.items }
+    requires all { all ≡ sum_in A.steps actor.now phase times }
     requires put { many ≤ length put.old.items }
     requires many { many ≡ sum_out A.steps actor.now phase times }
-    ensures state { state.new ≡ state_at A.steps actor.now phase state.old taken.now.items times }
-    ensures put { take many put.new.items ≡ puts_to A.steps actor.now phase state.old taken.now.items times }
+    ensures state { state.new ≡ state_at A.steps actor.now phase state.old (take all taken.now.items) times }
+    ensures put { take many put.new.items ≡ puts_to A.steps actor.now phase state.old (take all taken.now.items) times }
     ensures len { length put.new.items ≡ length put.old.items }
 {
     let (front, _) = put.as_mut_slice().split_at_mut(many);
-    actor.fire_many(phase, times, state, taken.as_slice(), front);
+    actor.fire_many(phase, times, state, &taken[..all], front);
 }
 
 /// Puts the first samples of a block on the channels of the ports.
@@ -103,11 +108,43 @@ fn put_front<T: Copy>(ports: &Ports, block: &Vec<T>, many: usize, queues: &mut [
     put_block(ports.channels, ports.sizes, &block[..many], queues);
 }
 
+/// Takes so many firings' blocks, each of a size, from the channels of the ports to the front of a block with room for
+/// them.
+fn take_fronts<T: Copy>(
+    ports: &Ports,
+    times: usize,
+    size: usize,
+    filler: T,
+    block: &mut Vec<T>,
+    many: usize,
+    queues: &mut [Queue<T>],
+)
+    requires ports { ArePorts ports.now.channels.now ports.now.sizes.now (length queues.old) }
+    requires held { (n : ℕ) → n < length ports.now.channels.now →
+        times * slice_index ports.now.sizes.now (slice_index ports.now.channels.now n) ≤
+        length (samples queues.old (slice_index ports.now.channels.now n)) }
+    requires room { many ≤ vec_capacity block.old }
+    requires many { many ≡ times * size }
+    requires size { size ≡ sum_by (slice_index ports.now.sizes.now) ports.now.channels.now }
+    ensures long { many ≤ length block.new.items }
+    ensures block { take many block.new.items ≡
+        joined (front_at ports.now.sizes.now ports.now.channels.now queues.old) times }
+    ensures capacity { vec_capacity block.new ≡ vec_capacity block.old }
+    ensures queues { (c : ℕ) → c < length queues.old → samples queues.new c ≡
+        drop (at_ports ports.now.channels.now (times * slice_index ports.now.sizes.now c) c) (samples queues.old c) }
+    ensures rooms { (c : ℕ) → c < length queues.old → room queues.new c ≡ room queues.old c }
+{
+    lengthen(block, many, filler);
+    let (front, _) = block.as_mut_slice().split_at_mut(many);
+    take_blocks(ports.channels, ports.sizes, times, size, queues, front);
+}
+
 /// Puts the first samples of a block on the channels of the ports: so many firings' blocks, each of a size.
 fn put_fronts<T: Copy>(
     ports: &Ports,
     times: usize,
     size: usize,
+    filler: T,
     block: &Vec<T>,
     many: usize,
     queues: &mut [Queue<T>],
@@ -130,6 +167,7 @@ fn put_fronts<T: Copy>(
         ports.sizes,
         times,
         size,
+        filler,
         &block[..many],
         queues,
     );
@@ -353,6 +391,7 @@ impl<'a, A: Actor> Work<'a, A> {
     pub(crate) fn fire_many(
         &mut self,
         times: usize,
+        filler: A::Token,
         ins: &Ports,
         outs: &Ports,
         queues: &mut [Queue<A::Token>],
@@ -371,12 +410,13 @@ impl<'a, A: Actor> Work<'a, A> {
             lengths,
         } = self
         {
-            taken.clear();
-            take_blocks(ins.channels, ins.sizes, times, queues, taken);
-            let size = lengths[*phase as usize];
-            let many = blocks(times, size, put.len());
-            fire_many_into(*actor, *phase, times, state, taken, put, many);
-            put_fronts(outs, times, size, put, many, queues);
+            let size = actor.samples_in(*phase);
+            let all = blocks(times, size, taken.capacity());
+            take_fronts(ins, times, size, filler, taken, all, queues);
+            let more = lengths[*phase as usize];
+            let many = blocks(times, more, put.len());
+            fire_many_into(*actor, *phase, times, state, taken, all, put, many);
+            put_fronts(outs, times, more, filler, put, many, queues);
         }
     }
 }

@@ -1,15 +1,24 @@
-use Rattle.std.proofs.Common.{◌≡◌, ◌++◌, length, ap, ◌∙◌}
-use Rattle.sdf_run.specs.Many.{chained, front_at}
-use Rattle.sdf_run.proofs.BlocksTaken.{fronts_long}
+use Rattle.std.proofs.Common.{◌≡◌, take, slice_index, ap, ◌∙◌, arith}
+use Rattle.std.proofs.lemmas.List.{get_or_read}
+use Rattle.std.specs.List.{sum_by}
+use Rattle.sdf_run.proofs.FiringMany.{many_fired_inner}
 use Rattle.sdf_run.proofs.work.Work.fire_many.Goals as goal
 
-pub fire_many_into-requires-clause-taken : goal.fire_many_into-requires-clause-taken
-fire_many_into-requires-clause-taken g c =
+pub returns-in-Inner : goal.returns-in-Inner
+returns-in-Inner g c =
     let can = rw c.in-Inner.is at c.requires.work in
-    let ports = c.args.ins.now.channels.now in
-    let sizes = c.args.ins.now.sizes.now in
-    let b = chained (front_at sizes ports c.args.queues.now) c.args.times in
-    let taken : c.take_blocks.new.block.items ≡ b =
-    c.take_blocks.ensures.block ∙ ap (λ xs. xs ++ b) c.clear.ensures.items in
-    λ κs within. ap length taken ∙ (fronts_long ports sizes c.args.times c.args.queues.now c.requires.ins_are
-    c.requires.held ∙ can.1)
+    let more_is : c.index-more.result.now ≡
+    sum_by (slice_index c.args.outs.now.sizes.now) c.args.outs.now.channels.now =
+    get_or_read c.in-Inner.lengths.items c.in-Inner.phase c.index-more.result.now (omega (arith, can.4))
+    c.index-more.ensures 0 ∙ can.5 in
+    many_fired_inner g.A.Actor.steps c.args.times c.args.ins.now.channels.now c.args.outs.now.channels.now
+    c.args.ins.now.sizes.now c.args.outs.now.sizes.now c.args.queues.now c.put_fronts.new.queues c.args.self.now
+    c.in-Inner.actor c.in-Inner.phase c.in-Inner.state c.fire_many_into.new.state c.in-Inner.taken c.in-Inner.put
+    c.take_fronts.new.block c.fire_many_into.new.put c.in-Inner.lengths c.take_fronts.new.queues
+    (take c.blocks-all.result c.take_fronts.new.block.items)
+    (take c.blocks-many.result c.fire_many_into.new.put.items) c.index-more.result.now
+    c.in-Inner.is c.take_fronts.ensures.block
+    c.fire_many_into.ensures.state c.fire_many_into.ensures.put more_is c.take_fronts.ensures.capacity
+    c.fire_many_into.ensures.len c.take_fronts.ensures.queues
+    (λ d l. c.put_fronts.ensures.queues d (omega (arith, c.take_fronts.auto.queues)))
+    c.take_fronts.ensures.rooms (λ d l. c.put_fronts.ensures.rooms d (omega (arith, c.take_fronts.auto.queues)))
