@@ -1,19 +1,20 @@
 //! Worked times, counted by hand: a fork of two ways with three rows of costs, a table that was made for other costs,
 //! and bounds.
 
-use crate::graphs::{costs_of, longer_fork, pair, period_of};
+use crate::graphs::{BLOCKS, LONGER_FORK, costs_of, period_of};
 use crate::slow_times::by_times;
 use sdf_prec::hu::hu;
 use sdf_prec::{Firing, Table};
 use sdf_times::{bound, span, work};
 use std::alloc::{AllocError, Global};
 use std::test::Fail;
+use test_actors::graphs::graph;
 use test_texts::says;
 
 /// Of Hu's table of the fork in two columns, homed: the starts in row order, the makespan, the loads of both columns,
 /// the span, the work and the bound.
 fn of_a_fork(alloc: Global, costs: &[u32]) -> Result<String, Fail> {
-    let graph = longer_fork(alloc)?;
+    let graph = graph(alloc, 7, LONGER_FORK)?;
     graph.channels();
     let period = period_of(alloc, &graph)?;
     let costs = costs_of(alloc, &graph, costs)?;
@@ -75,7 +76,7 @@ fn cells(alloc: Global, row: &[(usize, u32)]) -> Result<Vec<Option<Firing>>, All
 
 /// A firing starts at a time of its own: the sink's second one waits for its first, which costs 10.
 fn of_other_rows(alloc: Global) -> Result<String, Fail> {
-    let graph = pair(alloc, &[2], &[3], 0)?;
+    let graph = graph(alloc, 2, BLOCKS)?;
     let period = period_of(alloc, &graph)?;
     let mut rows = Vec::new(alloc);
     for row in [
