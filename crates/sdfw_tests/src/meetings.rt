@@ -209,20 +209,42 @@ const ROWS: &[Row] = &[
         ..THREE_BLOCKS
     },
     Row {
-        name: "by rows each firing passes on its worker",
+        name: "by rows each firing passes on its worker, in feeds, of which the last numbers anew",
         options: Options {
             runner: Runner::Rows,
             ..PATIENT
         },
+        filled: &[true],
+        told: "0 in vain, 7 odd, [[9, 0], [0, 6], [3, 0], [0, 3]]",
+        ..THREE_BLOCKS
+    },
+    Row {
+        name: "by rows each firing passes on its worker, at once",
+        options: Options {
+            runner: Runner::Rows,
+            ..PATIENT
+        },
+        filled: &[false],
         told: "0 in vain, 0 odd, [[9, 0], [0, 6], [3, 0], [0, 3]]",
         ..THREE_BLOCKS
     },
     Row {
-        name: "over rings each firing passes on its worker",
+        name: "over rings each firing passes on its worker, in feeds, of which the last numbers anew",
         options: Options {
             runner: Runner::Rings,
             ..PATIENT
         },
+        filled: &[true],
+        told: "0 in vain, 7 odd, [[9, 0], [0, 6], [3, 0], [0, 3]]",
+        ..THREE_BLOCKS
+    },
+    Row {
+        name: "over rings each firing passes on its worker, at once",
+        options: Options {
+            runner: Runner::Rings,
+            ..PATIENT
+        },
+        filled: &[false],
         told: "0 in vain, 0 odd, [[9, 0], [0, 6], [3, 0], [0, 3]]",
         ..THREE_BLOCKS
     },
