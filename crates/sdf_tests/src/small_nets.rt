@@ -1,10 +1,15 @@
 //! Small nets on one thread, which are run at once or fed in two pieces.
 
+ghost use Rattle.std.specs.Prelude.{IfOk};
+ghost use Rattle.sdf_graph.specs.Rates.{rates};
+ghost use Rattle.sdf_actor.specs.Graphs.{graph_of};
+ghost use Rattle.sdf_sched.specs.Period.{IsPeriodOf};
+
 use crate::nets::{chain, list, pair, two_sums};
 use sdf_actor::{Actor, Net};
 use sdf_run::{feed_one, resume_one, run_one};
 use sdf_sched::class_s::class_s;
-use sdf_sched::{Lean, Round};
+use sdf_sched::{Lean, Period, Round};
 use std::alloc::Global;
 use std::test::Fail;
 use test_actors::{Sum, Swap, Twice};
@@ -146,6 +151,17 @@ const ROWS: &[Row] = &[
     },
 ];
 
+/// A period of a net, by the lean policy or in rounds.
+fn period_of<A: Actor>(alloc: Global, net: &Net<A>, lean: bool) -> Result<Period, Fail>
+    ensures { IfOk result (IsPeriodOf (rates (graph_of A.steps net.now))) }
+{
+    if lean {
+        Ok(class_s(alloc, net.graph(), net.repetitions(), &mut Lean)?)
+    } else {
+        Ok(class_s(alloc, net.graph(), net.repetitions(), &mut Round::new())?)
+    }
+}
+
 /// The output lists of a run, and in how many rounds it is done; or the text of what it is refused with.
 fn run_told<A: Actor<Token = i64>>(
     alloc: Global,
@@ -153,11 +169,7 @@ fn run_told<A: Actor<Token = i64>>(
     row: &Row,
     inputs: &[Vec<i64>],
 ) -> Result<String, Fail> {
-    let period = if row.lean {
-        class_s(alloc, net.graph(), net.repetitions(), &mut Lean)?
-    } else {
-        class_s(alloc, net.graph(), net.repetitions(), &mut Round::new())?
-    };
+    let period = period_of(alloc, net, row.lean)?;
     match run_one(alloc, net, &period, row.periods, inputs) {
         Ok(ran) => Ok(format!(in alloc; "{:?} in {} rounds", ran.outputs, ran.rounds)?),
         Err(fault) => Ok(fault.to_string(alloc)?),
