@@ -4,8 +4,10 @@
 The programs take turns, so that what else the machine does falls on all of them. Of each it prints the least and the
 median seconds, the least over that of the fastest C, the greatest memory, and whether it wrote the bytes of the plain
 loop in C. It asserts nothing.
+
+    bench/run.py [--seconds N] [WORD ..]    designs whose titles hold one of the words; sound of N seconds alone
 """
-import array, pathlib, random, shutil, statistics, struct, subprocess, sys, tempfile, tomllib
+import argparse, array, pathlib, random, shutil, statistics, struct, subprocess, sys, tempfile, tomllib
 
 TOP = pathlib.Path(__file__).resolve().parent.parent
 CONVERTER, CROSSOVER, ECHO = (TOP / "examples" / name for name in ("44100-to-48000", "crossover", "echo"))
@@ -178,7 +180,9 @@ def compare(
     rounds=ROUNDS,
 ):
     """Measures a design by some runners beside programs, on noise of some seconds."""
-    for seconds in lengths:
+    if WANTED.words and not any(word in title for word in WANTED.words):
+        return
+    for seconds in [WANTED.seconds] if WANTED.seconds else lengths:
         source = folder / f"{seconds}-{channels}-{halvings}.wav"
         if not source.exists():
             noise(source, seconds, channels, halvings)
@@ -195,6 +199,16 @@ def compare(
                 paths = iter((str(source), str(made[name])))
                 commands[name] = [word or next(paths) for word in words]
         measure(compiled(folder, "measure"), title, seconds, commands, made, rounds)
+
+
+def wanted():
+    words = argparse.ArgumentParser(usage=__doc__)
+    words.add_argument("--seconds", type=int)
+    words.add_argument("words", nargs="*")
+    return words.parse_args()
+
+
+WANTED = wanted()
 
 
 def main():

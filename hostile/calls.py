@@ -12,7 +12,7 @@ WORKERS = {"rows": ["--runner", "rows", "--workers", "2"],
            "rings": ["--runner", "rings", "--workers", "2", "--patience", "0"]}
 RUNNERS = {"one": [], **WORKERS}
 POLICIES = ["round", "lean", "runs"]
-PLACEMENTS = ["hu", "homed", "file"]
+PLACEMENTS = ["hu", "homed", "file", "spread"]
 NO_MEMORY = b"1 OutOfMemory\n"
 NO_WORKER = b"32 NoWorker\n"
 SPENT = b"33 SessionFailed\n"
@@ -20,6 +20,11 @@ SPENT = b"33 SessionFailed\n"
 # The designs whose workers are held up, and in how many runs on each number of workers from 1 to 16: 10,000 in all.
 HELD = {"chain.toml": 25, "blocks.toml": 150, "loop.toml": 150, "fork.toml": 150, "bank.toml": 150}
 HELD_SECONDS = 1800
+
+# The designs of which one worker is held up at a time, and all until another goes on: each by four runs, on so many
+# workers.
+HOLDING = ["chain.toml", "blocks.toml", "loop.toml", "fork.toml"]
+WORKERS_HELD = [1, 2, 3, 16]
 
 
 def call_words(call, design, *options):
@@ -112,24 +117,32 @@ def sounds(lists):
         refuse(lists, f"process {runner}", words, "memory", told_with_text(NO_MEMORY, 320))
 
 
+def held_runs(lists, name, words, wanted):
+    """Runs whose workers are held up make what one thread makes: as many as wanted on each number of workers."""
+    if not lists.wants(name):
+        return
+    begun = time.monotonic()
+    ended = run([CALLS, *words], seconds=HELD_SECONDS)
+    lines = re.findall(r"^\S+ (\d+): (\d+) runs, (\d+) same, (\d+) refused, (\d+) turns$",
+                       ended.printed.decode(), re.MULTILINE)
+    counts = [[int(number) for number in line] for line in lines]
+    wrong = [f"workers, runs, same, refused, turns: {line}" for line in counts
+             if line[1:4] != [wanted.get(line[0]), line[1], 0] or line[4] == 0]
+    if ended.status != 0 or [line[0] for line in counts] != list(wanted):
+        wrong.append(describe(ended))
+    turns = sum(line[4] for line in counts)
+    lists.end(name, f"{ended.calls('thread')} threads, {turns} turns", sum(wanted.values()), begun, wrong)
+
+
 def held(lists):
-    """Runs whose workers are held up for turns of a seeded generator make what one thread makes."""
+    """Workers held up for turns of a seeded generator; each in turn before all of its firings, and then all of them
+    until another goes on."""
     for seed, (design, each) in enumerate(HELD.items()):
-        name = f"held up: {design}"
-        if not lists.wants(name):
-            continue
-        begun = time.monotonic()
-        ended = run([CALLS, "disturb", str(each), str(seed), design], seconds=HELD_SECONDS)
-        lines = re.findall(r"^\S+ (\d+): (\d+) runs, (\d+) same, (\d+) refused, (\d+) turns$",
-                           ended.printed.decode(), re.MULTILINE)
-        counts = [[int(number) for number in line] for line in lines]
-        wrong = [f"workers, runs, same, refused, turns: {line}" for line in counts
-                 if line[1:4] != [each, each, 0] or line[4] == 0]
-        if ended.status != 0 or [line[0] for line in counts] != list(range(1, 17)):
-            wrong.append(describe(ended))
-        turns = sum(line[4] for line in counts)
-        lists.end(name, f"{ended.calls('thread')} threads, {turns} turns", sum(line[1] for line in counts), begun,
-                  wrong)
+        wanted = {workers: each for workers in range(1, 17)}
+        held_runs(lists, f"held up: {design}", ["disturb", str(each), str(seed), design], wanted)
+    for design in HOLDING:
+        wanted = {workers: 4 * (workers + 1) for workers in WORKERS_HELD}
+        held_runs(lists, f"held one by one: {design}", ["hold", design], wanted)
 
 
 def all_lists(lists):

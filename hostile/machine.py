@@ -128,8 +128,9 @@ class Lists:
         else:
             self.passed += 1
 
-    def refuse(self, name, words, kind, allowed, none=False, **how):
-        """Refuses each call of a kind in turn, to one past the last. `allowed(ended, ample, at)` judges a run.
+    def refuse(self, name, words, kind, allowed, none=False, answer=Ended.answer, **how):
+        """Refuses each call of a kind in turn, to one past the last. `allowed(ended, ample, at)` judges a run, and past
+        the last call `answer` has to be as it was.
 
         Where workers take turns the number of calls may differ from run to run, so the last run is the first one in
         which nothing was left to refuse. With `none` there has to be no such call, and else some.
@@ -142,7 +143,7 @@ class Lists:
 
         def judge(at):
             ended = run(words, kind=kind, at=at, **how)
-            right = allowed(ended, ample, at) if ended.refused() else ended.answer() == ample.answer()
+            right = allowed(ended, ample, at) if ended.refused() else answer(ended) == answer(ample)
             line = f"{kind} {at} {how}: {describe(ended)} from {' '.join(map(str, words))}"
             return ended.refused(), None if right and ended.status is not None else line
 

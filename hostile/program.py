@@ -1,5 +1,6 @@
 """The lists of the shipped program."""
 import os
+import re
 import struct
 import threading
 
@@ -36,6 +37,9 @@ PRINTED = [
     ("analyze --compare", ["analyze", "blocks.toml", "--compare"]),
     ("draw", ["draw", "chain.toml", "--workers", "2"]),
     ("draw --dot", ["draw", "chain.toml", "--dot"]),
+    ("schedule by spread", ["schedule", "chain.toml", "--workers", "2", "--placement", "spread"]),
+    ("analyze by spread", ["analyze", "chain.toml", "--workers", "2", "--placement", "spread"]),
+    ("draw by spread", ["draw", "chain.toml", "--workers", "2", "--placement", "spread"]),
     ("check --json", ["check", "chain.toml", "--json"]),
     ("schedule --json", ["schedule", "blocks.toml", "--json"]),
     ("analyze --json", ["analyze", "blocks.toml", "--json"]),
@@ -92,6 +96,17 @@ def threads_of_sdfw(lists):
             lists.cases(f"sdfw run {name} {runner}: no thread at all", [("all refused", judged)])
 
 
+def timed(ended):
+    """An answer without the numbers that a clock gave."""
+    return ended.status, re.sub(rb"[0-9.]+", b"N", ended.printed), ended.told, ended.output
+
+
+def profile_of_sdfw(lists):
+    for name, design, sound, _, _ in RUNS + SPREAD:
+        allowed = lambda ended, ample, at: timed(ended) == timed(ample) or only(NO_MEMORY)(ended, ample, at)
+        lists.refuse(f"sdfw profile {name}: memory", [SDFW, "profile", design, sound], "memory", allowed, answer=timed)
+
+
 def with_no_thread(words, period):
     ample = run(words)
     ended = run(words, kind="thread", at="all")
@@ -102,12 +117,19 @@ def with_no_thread(words, period):
     return describe(ended)
 
 
+def why_or(fault, period):
+    """The ample answer, or the fault behind what is told of the workers, with a text in OUT."""
+    told = behind(fault, True)
+    return lambda ended, ample, at: told(ended, ample, at) and is_text(ended.output, ample.output, period)
+
+
 def parallel_of_sdfw(lists):
     """Runs that are to be sooner: by one thread, and by workers where these can be faster, with rooms and pieces of many
     blocks."""
     for name, design, sound, _, period in RUNS + SPREAD:
         words = [SDFW, "run", design, sound, "out.wav", "--parallel", "2"]
         lists.refuse(f"sdfw run {name} --parallel: memory", words, "memory", ample_or(NO_MEMORY, period))
+        lists.refuse(f"sdfw run {name} --parallel --why: memory", [*words, "--why"], "memory", why_or(NO_MEMORY, period))
     for name, design, sound, _, period in SPREAD:
         words = [SDFW, "run", design, sound, "out.wav", "--parallel", "2"]
         lists.refuse(f"sdfw run {name} --parallel: threads", words, "thread", ample_or(NO_WORKER, period))
@@ -375,6 +397,7 @@ def all_lists(lists):
     memory_of_sdfw(lists)
     threads_of_sdfw(lists)
     parallel_of_sdfw(lists)
+    profile_of_sdfw(lists)
     reads_of_sdfw(lists)
     writes_of_sdfw(lists)
     bytes_of_sdfw(lists)

@@ -18,6 +18,8 @@ const CHAIN: &str = r#"format = 2
 actor = [
     { name = "in", kind = "input", channel = 0 },
     { name = "gain", kind = "gain", gain = -3, shift = 1 },
+    { name = "offset", kind = "offset", value = 9 },
+    { name = "clip", kind = "clip", least = -20000, greatest = 20000 },
     { name = "delay", kind = "delay", length = 5 },
     { name = "table", kind = "table", offset = 2, values = [1, 2, 4, 8, 16] },
     { name = "up", kind = "interpolate", factor = 2 },
@@ -33,7 +35,9 @@ actor = [
 ]
 link = [
     { from = "in", to = "gain" },
-    { from = "gain", to = "delay" },
+    { from = "gain", to = "offset" },
+    { from = "offset", to = "clip" },
+    { from = "clip", to = "delay" },
     { from = "delay", to = "table" },
     { from = "table", to = "up" },
     { from = "up", to = "short" },

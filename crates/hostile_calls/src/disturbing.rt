@@ -21,32 +21,96 @@ use std::rt::Files;
 use std::sync::atomic::{AtomicU64, Ordering};
 use std::thread::Threads;
 
-/// Holds each firing for a number of turns that is seeded by its processor, its actor and its number: a turn reads what
-/// is shared.
+/// The turns for which one worker is held, and the most for which all are until another goes on.
+const TURNS: u64 = 1_000_000;
+
+/// Which firings of a run are held up, and for how many turns: in a turn what is shared is read.
+#[derive(Clone, Copy)]
+enum Hold {
+    /// Each for a number of turns that is seeded by this, its processor, its actor and its number.
+    Seeded(u64),
+    /// Those of one processor for a million turns.
+    Processor(usize),
+    /// Each until another worker's firing comes, or for a million turns.
+    UntilAnother,
+}
+
+/// Holds firings up.
 #[derive(Drop)]
-struct Shaken {
-    seed: u64,
+struct Holding {
+    hold: Hold,
+    /// The firings that have come.
+    come: AtomicU64,
     /// The turns that firings were held for.
     held: AtomicU64,
 }
 
-impl Shaken {
-    /// Mostly few turns, and at most 65,535.
-    fn turns(&self, processor: usize, actor: ActorId, firing: u64) -> u64 {
-        let place = (processor as u64) << 48 | (actor as u64) << 32;
-        let word = SplitMix64::seed_from_u64(self.seed ^ place ^ firing).next_u64();
-        let most = 1u64 << (word % 17);
-        (word >> 8) % most
+/// Mostly few turns, and at most 65,535.
+fn seeded_turns(seed: u64, processor: usize, actor: ActorId, firing: u64) -> u64 {
+    let place = (processor as u64) << 48 | (actor as u64) << 32;
+    let word = SplitMix64::seed_from_u64(seed ^ place ^ firing).next_u64();
+    let most = 1u64 << (word % 17);
+    (word >> 8) % most
+}
+
+impl Holding {
+    fn new(hold: Hold) -> Self {
+        Self {
+            hold,
+            come: AtomicU64::new(0),
+            held: AtomicU64::new(0),
+        }
+    }
+
+    /// Waits for so many turns, or until as many firings have come.
+    fn wait(&self, turns: u64, until: u64) {
+        let mut waited = 0u64;
+        for turn in 0..turns {
+            if self.come.load(Ordering::SeqCst) >= until {
+                break;
+            }
+            waited = turn.saturating_add(1);
+        }
+        self.held.fetch_add(waited, Ordering::SeqCst);
     }
 }
 
-impl Gate for Shaken {
+impl Gate for Holding {
     fn before(&self, processor: usize, actor: ActorId, firing: u64) {
-        let turns = self.turns(processor, actor, firing);
-        for _ in 0..turns {
-            let _ = self.held.load(Ordering::SeqCst);
+        let next = self.come.fetch_add(1, Ordering::SeqCst).saturating_add(2);
+        match self.hold {
+            Hold::Seeded(seed) => {
+                self.wait(seeded_turns(seed, processor, actor, firing), u64::MAX);
+            }
+            Hold::Processor(held) if held == processor => self.wait(TURNS, u64::MAX),
+            Hold::Processor(_) => {}
+            Hold::UntilAnother => self.wait(TURNS, next),
         }
-        self.held.fetch_add(turns, Ordering::SeqCst);
+    }
+}
+
+/// What holds up the runs of a table, one after another.
+#[derive(Drop)]
+enum Holds {
+    /// Turns that are seeded anew for each run.
+    Seeded(SplitMix64),
+    /// Each of so many processors for a run of each patience, and then all until another goes on.
+    OneByOne(usize),
+}
+
+impl Holds {
+    fn of_run(&mut self, number: usize) -> Hold {
+        match self {
+            Holds::Seeded(seeds) => Hold::Seeded(seeds.next_u64()),
+            Holds::OneByOne(workers) => {
+                let processor = number / PATIENCES.len();
+                if processor < *workers {
+                    Hold::Processor(processor)
+                } else {
+                    Hold::UntilAnother
+                }
+            }
+        }
     }
 }
 
@@ -60,7 +124,7 @@ fn run_held<R: AllocGlobal + Sync + Threads>(
     table: &BlockTable,
     inputs: &[Vec<i32>],
     patience: Option<u32>,
-    gate: &Shaken,
+    gate: &Holding,
 ) -> Result<Ran<i32>, RunFault>
     requires fits { IsBlockTableOf (rates (graph_of kit_steps net.now)) table.now }
 {
@@ -113,8 +177,8 @@ fn disturb_table<R: AllocGlobal + Sync + Threads>(
     rt: &R,
     net: &Net<Kit>,
     table: &BlockTable,
-    runs: u32,
-    seeds: &mut SplitMix64,
+    runs: usize,
+    holds: &mut Holds,
 ) -> Result<Counts>
     requires fits { IsBlockTableOf (rates (graph_of kit_steps net.now)) table.now }
 {
@@ -124,11 +188,8 @@ fn disturb_table<R: AllocGlobal + Sync + Threads>(
     let one = run_one(rt.alloc(), net, &table.period, periods, &inputs)?;
     let mut counts = Counts::NONE;
     for number in 0..runs {
-        let patience = PATIENCES[number as usize % PATIENCES.len()];
-        let gate = Shaken {
-            seed: seeds.next_u64(),
-            held: AtomicU64::new(0),
-        };
+        let patience = PATIENCES[number % PATIENCES.len()];
+        let gate = Holding::new(holds.of_run(number));
         let ran = run_held(rt, net, table, &inputs, patience, &gate);
         counts.add(ran, &one, firings);
         counts.held = counts.held.saturating_add(gate.held.load(Ordering::SeqCst));
@@ -136,14 +197,14 @@ fn disturb_table<R: AllocGlobal + Sync + Threads>(
     Ok(counts)
 }
 
-/// So many runs of a design on so many workers.
+/// So many runs of a design on so many workers, and a line with their counts.
 fn disturb_on<R: AllocGlobal + Print + Sync + Threads>(
     rt: &R,
-    design: &Design,
+    (graph, design): (&str, &Design),
     workers: usize,
-    runs: u32,
-    seeds: &mut SplitMix64,
-) -> Result<Counts> {
+    runs: usize,
+    holds: &mut Holds,
+) -> Result<()> {
     let options = Options {
         runner: Runner::Rings,
         workers,
@@ -151,30 +212,47 @@ fn disturb_on<R: AllocGlobal + Print + Sync + Threads>(
     };
     let plan = plan(rt.alloc(), design, &options)?;
     let table = plan.table().context("a plan of workers has a table")?;
-    disturb_table(rt, design.net(), table, runs, seeds)
+    let counts = disturb_table(rt, design.net(), table, runs, holds)?;
+    let Counts {
+        runs,
+        same,
+        refused,
+        held,
+    } = counts;
+    Ok(println!(rt;
+        "{graph} {workers}: {runs} runs, {same} same, {refused} refused, {held} turns"
+    )?)
 }
 
 /// So many runs of each design on each number of workers from 1 to 16.
 pub(crate) fn disturb<R: AllocGlobal + Files + Print + Sync + Threads>(
     rt: &R,
-    runs: u32,
+    runs: usize,
     seed: u64,
     graphs: &[&str],
 ) -> Result<()> {
-    let mut seeds = SplitMix64::seed_from_u64(seed);
+    let mut holds = Holds::Seeded(SplitMix64::seed_from_u64(seed));
     for graph in graphs {
         let design = design_at(rt, graph)?;
         for workers in 1..17 {
-            let counts = disturb_on(rt, &design, workers, runs, &mut seeds)?;
-            let Counts {
-                runs,
-                same,
-                refused,
-                held,
-            } = counts;
-            println!(rt;
-                "{graph} {workers}: {runs} runs, {same} same, {refused} refused, {held} turns"
-            )?;
+            disturb_on(rt, (*graph, &design), workers, runs, &mut holds)?;
+        }
+    }
+    Ok(())
+}
+
+/// Runs of each design on 1, 2, 3 and 16 workers, in which one worker is held up before all of its firings, and each
+/// until another goes on.
+pub(crate) fn hold_each<R: AllocGlobal + Files + Print + Sync + Threads>(
+    rt: &R,
+    graphs: &[&str],
+) -> Result<()> {
+    for graph in graphs {
+        let design = design_at(rt, graph)?;
+        for workers in [1usize, 2, 3, 16] {
+            let runs = PATIENCES.len().saturating_mul(workers.saturating_add(1));
+            let mut holds = Holds::OneByOne(workers);
+            disturb_on(rt, (*graph, &design), workers, runs, &mut holds)?;
         }
     }
     Ok(())

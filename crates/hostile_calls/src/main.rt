@@ -5,7 +5,7 @@
 //! or threads from the line `call` to the next one, so the second call has both.
 //!
 //! `hostile_calls disturb RUNS SEED GRAPH..` runs designs on workers that gates hold up, and counts the runs that make
-//! what one thread makes.
+//! what one thread makes. `hostile_calls hold GRAPH..` holds up one worker at a time, and each until another goes on.
 //!
 //! `hostile_calls count RUNNER WORKERS PERIODS BLOCKS`, or a policy in place of the runner, makes one run or one
 //! schedule between two lines, for `scripts/allocations`.
@@ -29,7 +29,7 @@ mod sounds;
 use anyhow::{Context, Result, bail};
 use calls::make;
 use counting::count;
-use disturbing::disturb;
+use disturbing::{disturb, hold_each};
 use files::load;
 use sdf_words::arguments::arguments;
 use sdf_words::{Words, words};
@@ -38,7 +38,7 @@ use std::thread::Threads;
 
 const USAGE: &str =
     "hostile_calls CALL run GRAPH IN OUT [OPTIONS]\nhostile_calls disturb RUNS SEED GRAPH..\n\
-    hostile_calls count RUNNER WORKERS PERIODS BLOCKS";
+    hostile_calls hold GRAPH..\nhostile_calls count RUNNER WORKERS PERIODS BLOCKS";
 
 /// The lines before a call and before the same one again.
 pub(crate) const TURNS: [&str; 2] = ["call", "again"];
@@ -47,10 +47,11 @@ pub(crate) const TURNS: [&str; 2] = ["call", "again"];
 fn obey<R: AllocGlobal + Files + Print + Sync + Threads>(rt: &R, line: &[&str]) -> Result<()> {
     match line {
         ["disturb", runs, seed, graphs @ ..] => {
-            let runs = runs.parse::<u32>().context("the number of runs")?;
+            let runs = runs.parse::<usize>().context("the number of runs")?;
             let seed = seed.parse::<u64>().context("the seed")?;
             disturb(rt, runs, seed, graphs)
         }
+        ["hold", graphs @ ..] => hold_each(rt, graphs),
         ["count", what, workers, j, blocks] => count(rt, what, [workers, j, blocks]),
         ["--help"] => Ok(println!(rt; "{USAGE}")?),
         [call, ..] => match words(rt.alloc(), line)? {

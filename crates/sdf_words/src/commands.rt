@@ -176,8 +176,8 @@ pub(crate) fn sdfw_command<'a>(alloc: Global) -> Result<Command<'a>, AllocError>
         .version("0.1.0")
         .after_help(EXAMPLES)
         .subcommand_required(true);
-    let command = with_commands(alloc, command, designs::rows())?;
-    let command = with_commands(alloc, command, views::rows())?;
-    let command = with_commands(alloc, command, filters::rows())?;
-    with_commands(alloc, command, told::rows())
+    let command = with_commands(alloc, command, designs::ROWS)?;
+    let command = with_commands(alloc, command, views::ROWS)?;
+    let command = with_commands(alloc, command, filters::ROWS)?;
+    with_commands(alloc, command, told::ROWS)
 }

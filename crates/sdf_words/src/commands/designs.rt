@@ -140,7 +140,7 @@ for a mistake in the words",
     value: None,
 };
 
-static ROWS: [Row; 3] = [
+pub(super) const ROWS: &[Row] = &[
     Row {
         name: "check",
         help: "Checks a graph file and prints its period",
@@ -181,8 +181,3 @@ outputs take to OUT. The bytes are the same whatever the options are.",
   sdfw run graph.toml - - --runner rings --workers 2 --blocking 64 < in.wav > out.wav",
     },
 ];
-
-/// These commands, as the help lists them.
-pub(super) fn rows() -> &'static [Row] {
-    ROWS.as_slice()
-}

@@ -119,7 +119,7 @@ const CHANNELS: Choice = Choice {
     default: Some("1"),
 };
 
-static ROWS: [Row; 2] = [
+pub(super) const ROWS: &[Row] = &[
     Row {
         name: "fir",
         help: "Prints a coefficient file for an actor of kind fir",
@@ -148,8 +148,3 @@ error.",
   sdfw resample 44100 96000 converter --channels 2 --attenuation 80",
     },
 ];
-
-/// These commands, as the help lists them.
-pub(super) fn rows() -> &'static [Row] {
-    ROWS.as_slice()
-}

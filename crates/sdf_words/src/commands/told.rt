@@ -10,7 +10,7 @@ const NUMBER: Place = Place {
     values: Values::Signed(1, MOST_FAULT as i64),
 };
 
-static ROWS: [Row; 2] = [
+pub(super) const ROWS: &[Row] = &[
     Row {
         name: "kinds",
         help: "Lists the kinds of actors, their keys and limits",
@@ -36,8 +36,3 @@ not come, and a remedy.",
   sdfw explain Deadlock",
     },
 ];
-
-/// These commands, as the help lists them.
-pub(super) fn rows() -> &'static [Row] {
-    ROWS.as_slice()
-}

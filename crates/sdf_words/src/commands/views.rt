@@ -38,7 +38,7 @@ is to have a table of its own, below a line `[[actor]]`, and its cost a line of 
     default: None,
 };
 
-static ROWS: [Row; 3] = [
+pub(super) const ROWS: &[Row] = &[
     Row {
         name: "analyze",
         help: "Prints how long a schedule takes and what its links hold",
@@ -80,8 +80,3 @@ is 1. What the run makes is not written.",
   sdfw profile graph.toml in.wav --write measured.toml",
     },
 ];
-
-/// These commands, as the help lists them.
-pub(super) fn rows() -> &'static [Row] {
-    ROWS.as_slice()
-}
