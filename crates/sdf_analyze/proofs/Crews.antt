@@ -7,7 +7,7 @@ use Rattle.sdf_options.specs.declared.options.Options.{Options}
 use Rattle.sdf_options.specs.declared.options.Policy.{Policy}
 use Rattle.sdf_options.specs.declared.options.Policy.TheVariants.{Round, Lean, Runs}
 use Rattle.sdf_options.specs.declared.options.Placement.{Placement}
-use Rattle.sdf_options.specs.declared.options.Placement.TheVariants.{Hu, Homed, File}
+use Rattle.sdf_options.specs.declared.options.Placement.TheVariants.{Hu, Homed, File, Spread}
 use Rattle.sdf_process.specs.Plans.{IsWorkers, AreSizes}
 use Rattle.sdf_analyze.specs.Ways.{way, crews, ways_placed, ways_by, ways}
 
@@ -29,9 +29,11 @@ sizes_placed o policy placement sizes =
 
 sizes_by : (o : Options) (policy : Policy) → AreSizes o → All AreSizes (ways_by o policy)
 sizes_by o policy sizes =
-    All-append AreSizes _ (ways_placed o policy File)
+    All-append AreSizes _ (ways_placed o policy Spread)
+    (All-append AreSizes _ (ways_placed o policy File)
     (All-append AreSizes (ways_placed o policy Hu) (ways_placed o policy Homed)
-    (sizes_placed o policy Hu sizes) (sizes_placed o policy Homed sizes)) (sizes_placed o policy File sizes)
+    (sizes_placed o policy Hu sizes) (sizes_placed o policy Homed sizes)) (sizes_placed o policy File sizes))
+    (sizes_placed o policy Spread sizes)
 
 pub sizes_of_ways : (o : Options) → AreSizes o → All AreSizes (ways o)
 sizes_of_ways o sizes =

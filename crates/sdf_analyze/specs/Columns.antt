@@ -1,6 +1,6 @@
 -- The columns of a comparison.
-use Rattle.std.specs.Prelude.{ℕ, ◌-◌, Bool, true, not, nat_lt, List, [], ◌∷◌, ◌++◌, if◌then◌else◌, length, replicate}
-use Rattle.std.specs.Prelude.{codes, decimal}
+use Rattle.std.specs.Prelude.{ℕ, ◌-◌, ◌==◌, ◌&&◌, Bool, true, not, nat_lt, List, [], ◌∷◌, ◌++◌, if◌then◌else◌}
+use Rattle.std.specs.Prelude.{length, replicate, codes, decimal}
 use Rattle.std.specs.List.{flat_map, list_all}
 use Rattle.sdf_file.specs.Texts.{end}
 use Rattle.sdf_options.specs.declared.options.Policy.{Policy}
@@ -43,10 +43,10 @@ value_in Speedup m = m.speedup
 value_in Rows m = m.rows
 value_in Samples m = m.held
 
--- of speedups the greater is better, of all others the less
+-- of speedups the greater is better, of all others the less, where the blocks have as many periods
 abbrev pub beats : Column → Measures → Measures → Bool
 beats Speedup a b = nat_lt b.speedup a.speedup
-beats column a b = nat_lt (value_in column a) (value_in column b)
+beats column a b = (a.blocking == b.blocking) && nat_lt (value_in column a) (value_in column b)
 
 -- the schedule, where there is one, does not beat this one
 abbrev pub lets : Column → Measures → Outcome → Bool
@@ -84,12 +84,18 @@ columns = Makespan ∷ Speedup ∷ Rows ∷ Samples ∷ []
 abbrev pub cells_text : List Entry → Measures → List ℕ
 cells_text entries m = flat_map (cell entries m) columns
 
-unfoldable pub refused_text : List ℕ → ℕ → List ℕ
-refused_text word number = right (places_of Makespan) word ++ codes " " ++ decimal number
+abbrev pub blocking_text : List ℕ → List ℕ
+blocking_text word = right 9 word
 
--- the columns of a schedule, or the number of the fault why there is none
+unfoldable pub made_text : List Entry → Measures → List ℕ
+made_text entries m = blocking_text (decimal m.blocking) ++ cells_text entries m
+
+unfoldable pub refused_text : List ℕ → ℕ → List ℕ
+refused_text word number = blocking_text [] ++ right (places_of Makespan) word ++ codes " " ++ decimal number
+
+-- the periods of a block and the columns of its schedule, or the number of the fault why there is none
 abbrev pub outcome_text : List Entry → Outcome → List ℕ
-outcome_text entries (Made m) = cells_text entries m
+outcome_text entries (Made m) = made_text entries m
 outcome_text entries (Refused number) = refused_text (codes "refused") number
 
 abbrev pub way_text : List ℕ → List ℕ → List ℕ → List ℕ
@@ -100,10 +106,13 @@ entry_line entries e =
     way_text (policy_word e.options.policy) (placement_word e.options.placement) (decimal e.options.workers)
     ++ outcome_text entries e.outcome ++ end
 
+abbrev pub headings_text : List ℕ
+headings_text = flat_map (λ column. right (places_of column) (heading column)) columns
+
 abbrev pub head_line : List ℕ
 head_line =
-    way_text (codes "policy") (codes "placement") (codes "workers")
-    ++ flat_map (λ column. right (places_of column) (heading column)) columns ++ end
+    way_text (codes "policy") (codes "placement") (codes "workers") ++ blocking_text (codes "blocking")
+    ++ headings_text ++ end
 
 -- a table with a line for each schedule
 abbrev pub comparison_text : List Entry → List ℕ

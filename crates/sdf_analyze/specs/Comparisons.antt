@@ -17,9 +17,10 @@ use Rattle.sdf_analyze.specs.Analyses.{IsFigured}
 use Rattle.sdf_analyze.specs.Ways.{ways}
 use Rattle.sdf_analyze.specs.Columns.{comparison_text}
 
--- what is compared of a table and its figures
-abbrev pub measures_of : Tabled → Figured → Measures
-measures_of t f = record {
+-- what is compared of the table of so many periods and its figures
+abbrev pub measures_of : ℕ → Tabled → Figured → Measures
+measures_of periods t f = record {
+  blocking = periods;
   makespan = f.makespan;
   speedup = hundredths f.work f.makespan;
   rows = length t.rows;
@@ -46,7 +47,7 @@ pub record IsMade (d : DesignValue) (o : Options) (m : Measures) : Type 0 where
   pub table : Tabled
   pub figures : Figured
   pub figured : IsFigured d o periods table figures
-  pub is : m ≡ measures_of table figures
+  pub is : m ≡ measures_of periods table figures
 
 -- they give none, and the number is that of the fault
 pub record IsRefused (d : DesignValue) (o : Options) (number : ℕ) : Type 0 where

@@ -5,7 +5,7 @@ use Rattle.sdf_options.specs.declared.options.Options.{Options}
 use Rattle.sdf_options.specs.declared.options.Policy.{Policy}
 use Rattle.sdf_options.specs.declared.options.Policy.TheVariants.{Round, Lean, Runs}
 use Rattle.sdf_options.specs.declared.options.Placement.{Placement}
-use Rattle.sdf_options.specs.declared.options.Placement.TheVariants.{Hu, Homed, File}
+use Rattle.sdf_options.specs.declared.options.Placement.TheVariants.{Hu, Homed, File, Spread}
 
 -- the options with another policy, placement and number of workers
 abbrev pub way : Options → Policy → Placement → ℕ → Options
@@ -19,7 +19,8 @@ abbrev pub ways_placed : Options → Policy → Placement → List Options
 ways_placed o policy placement = map (way o policy placement) (crews o.workers)
 
 abbrev pub ways_by : Options → Policy → List Options
-ways_by o policy = ways_placed o policy Hu ++ ways_placed o policy Homed ++ ways_placed o policy File
+ways_by o policy =
+    ways_placed o policy Hu ++ ways_placed o policy Homed ++ ways_placed o policy File ++ ways_placed o policy Spread
 
 -- all of them: a policy's stand together, and of these a placement's
 abbrev pub ways : Options → List Options

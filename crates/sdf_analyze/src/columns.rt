@@ -4,7 +4,8 @@ ghost use Rattle.std.specs.Prelude.{◌≡◌, ◌++◌, ◌-◌, IfOk, OnOk, le
 ghost use Rattle.std.specs.List.{flat_map};
 ghost use Rattle.sdf_analyze.specs.Columns.{policy_word, placement_word, spaces, left, right, value_in, beats, lets};
 ghost use Rattle.sdf_analyze.specs.Columns.{is_best, value_text, places_of, heading, cell, outcome_text, way_text};
-ghost use Rattle.sdf_analyze.specs.Columns.{cells_text, refused_text, entry_line, head_line, comparison_text};
+ghost use Rattle.sdf_analyze.specs.Columns.{cells_text, blocking_text, made_text, refused_text, entry_line, head_line};
+ghost use Rattle.sdf_analyze.specs.Columns.{headings_text, comparison_text};
 
 use crate::lines::push_with_point;
 use sdf_options::{Options, Placement, Policy};
@@ -19,9 +20,10 @@ pub(crate) enum Column {
     Samples,
 }
 
-/// What a schedule has in each column; the speedup in hundredths.
+/// The periods of a block, and what its schedule has in each column; the speedup in hundredths.
 #[derive(Clone, Copy)]
 pub struct Measures {
+    pub blocking: u32,
     pub makespan: u64,
     pub speedup: u64,
     pub rows: usize,
@@ -84,7 +86,7 @@ impl Column {
     {
         match self {
             Column::Speedup => other.speedup < one.speedup,
-            _ => self.value_in(one) < self.value_in(other),
+            _ => one.blocking == other.blocking && self.value_in(one) < self.value_in(other),
         }
     }
 
@@ -211,11 +213,35 @@ fn push_cells(
     Ok(())
 }
 
+/// Adds what a line says of the periods of its block.
+fn push_blocking(text: &mut String, word: &str) -> Result<(), AllocError>
+    ensures { OnOk result (string_bytes text.new ≡ string_bytes text.old ++ blocking_text word.now) }
+{
+    push_right(text, 9, word)
+}
+
+/// Adds a schedule's periods and its cells.
+#[tactic(auto, unfolding(crate::specs::Columns::made_text))]
+fn push_made(
+    alloc: Global,
+    text: &mut String,
+    entries: &[Entry],
+    measures: Measures,
+) -> Result<(), AllocError>
+    ensures { OnOk result (string_bytes text.new ≡ string_bytes text.old ++ made_text entries.now measures) }
+{
+    let blocking = measures.blocking;
+    let word = format!(in alloc; "{blocking}")?;
+    push_blocking(text, word.as_str())?;
+    push_cells(alloc, text, entries, measures)
+}
+
 /// Adds that there is no schedule, in the first column, and the number of the fault why.
 #[tactic(auto, unfolding(crate::specs::Columns::refused_text))]
 fn push_refused(text: &mut String, word: &str, number: u32) -> Result<(), AllocError>
     ensures { OnOk result (string_bytes text.new ≡ string_bytes text.old ++ refused_text word.now number) }
 {
+    push_blocking(text, "")?;
     push_right(text, Column::Makespan.places(), word)?;
     write!(text, " {number}")?;
     Ok(())
@@ -231,7 +257,7 @@ fn push_outcome(
     ensures { OnOk result (string_bytes text.new ≡ string_bytes text.old ++ outcome_text entries.now outcome) }
 {
     match outcome {
-        Outcome::Made(measures) => push_cells(alloc, text, entries, measures),
+        Outcome::Made(measures) => push_made(alloc, text, entries, measures),
         Outcome::Refused(number) => push_refused(text, "refused", number),
     }
 }
@@ -274,18 +300,28 @@ fn push_entry(
     text.push_str("\n")
 }
 
+/// Adds the headings of the columns.
+fn push_headings(text: &mut String) -> Result<(), AllocError>
+    ensures { OnOk result (string_bytes text.new ≡ string_bytes text.old ++ headings_text) }
+{
+    for column in COLUMNS {
+        push_right(text, column.places(), column.heading())?;
+    }
+    Ok(())
+}
+
 /// Adds the line of headings.
 fn push_head(text: &mut String) -> Result<(), AllocError>
     ensures { OnOk result (string_bytes text.new ≡ string_bytes text.old ++ head_line) }
 {
     push_way(text, "policy", "placement", "workers")?;
-    for column in COLUMNS {
-        push_right(text, column.places(), column.heading())?;
-    }
+    push_blocking(text, "blocking")?;
+    push_headings(text)?;
     text.push_str("\n")
 }
 
-/// A table with a line for each entry. The best of each column has a star, each of them where there are several.
+/// A table with a line for each entry. The best of each column has a star, each of them where there are several; of
+/// makespans, rows and samples those of blocks of as many periods are compared.
 pub(crate) fn comparison_text(alloc: Global, entries: &[Entry]) -> Result<String, AllocError>
     ensures { IfOk result (λ s. string_bytes s ≡ comparison_text entries.now) }
 {

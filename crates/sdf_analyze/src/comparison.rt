@@ -19,11 +19,12 @@ use sdf_prec::{PrecFault, Table};
 use sdf_process::Fault;
 use std::alloc::Global;
 
-/// What is compared of a table.
-fn measures_of(table: &Table, figures: &Figures) -> Measures
-    ensures { result ≡ measures_of table.now figures.now }
+/// What is compared of a table of so many periods.
+fn measures_of(periods: u32, table: &Table, figures: &Figures) -> Measures
+    ensures { result ≡ measures_of periods table.now figures.now }
 {
     Measures {
+        blocking: periods,
         makespan: figures.makespan(),
         speedup: figures.speedup(),
         rows: table.rows(),
@@ -68,7 +69,9 @@ fn outcome_of(alloc: Global, design: &Design, options: &Options) -> Result<Outco
     ensures { MatchResult result (IsOutcome design.now options.now) (IsScheduleFault design.now) }
 {
     match figured(alloc, design, options) {
-        Ok((_, table, figures)) => Ok(Outcome::Made(measures_of(&table, &figures))),
+        Ok((periods, table, figures)) => {
+            Ok(Outcome::Made(measures_of(periods, &table, &figures)))
+        }
         Err(fault) => refusal(fault),
     }
 }
@@ -92,8 +95,8 @@ fn entries_of(alloc: Global, design: &Design, ways: &[Options]) -> Result<Vec<En
 }
 
 /// The schedules of a design by each policy, each placement, and 1, 2, 4, .. workers up to those of the options: of
-/// each the makespan, the speedup, the rows and the samples held, or the number of the fault why there is none. A
-/// design without a schedule has none by any policy, and that is the answer.
+/// each the periods of its block, the makespan, the speedup, the rows and the samples held, or the number of the fault
+/// why there is none. A design without a schedule has none by any policy, and that is the answer.
 #[tactic(auto, using(crate::proofs::Crews::sizes_of_ways))]
 pub fn compared(alloc: Global, design: &Design, options: &Options) -> Result<Vec<Entry>, Fault>
     requires { AreSizes options.now }
@@ -105,7 +108,7 @@ pub fn compared(alloc: Global, design: &Design, options: &Options) -> Result<Vec
 }
 
 /// What the command `analyze --compare` prints: a table with a line for each schedule that is compared. A star stands
-/// at the best of a column, at each of several.
+/// at the best speedup, and at the best of each other column among blocks of as many periods, at each of several.
 pub fn compare(alloc: Global, design: &Design, options: &Options) -> Result<String, Fault>
     requires { AreSizes options.now }
     ensures { MatchResult result (λ s. IsComparison design.now options.now (string_bytes s))

@@ -35,7 +35,8 @@ fn push_by(ways: &mut Vec<Options>, options: &Options, policy: Policy) -> Result
 {
     push_placed(ways, options, policy, Placement::Hu)?;
     push_placed(ways, options, policy, Placement::Homed)?;
-    push_placed(ways, options, policy, Placement::File)
+    push_placed(ways, options, policy, Placement::File)?;
+    push_placed(ways, options, policy, Placement::Spread)
 }
 
 /// The options with each policy, each placement, and 1, 2, 4, .. workers up to theirs.

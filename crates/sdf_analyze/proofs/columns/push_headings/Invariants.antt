@@ -1,7 +1,7 @@
 use Rattle.std.proofs.Common.{◌≡◌, ◌++◌, take, string_bytes}
 use Rattle.std.specs.List.{flat_map}
 use Rattle.sdf_analyze.specs.Columns.{columns, right, places_of, heading}
-use Rattle.sdf_analyze.proofs.columns.push_head.Given as goal
+use Rattle.sdf_analyze.proofs.columns.push_headings.Given as goal
 
 abbrev pub invariant-loop-column : goal.invariant-loop-column
 invariant-loop-column l = record {
