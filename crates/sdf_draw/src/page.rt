@@ -34,13 +34,13 @@ const HEAD_TEXT: &str = "<svg xmlns='http://www.w3.org/2000/svg' font-size='12' 
 /// The colours, which those that see few colours tell apart, in light and in dark.
 const STYLE: &str = "<style>
 .page{fill:#ffffff}text{fill:#1a1a1a}.soft{fill:#5a5a5a}.mid{text-anchor:middle}.end{text-anchor:end}
-.box{fill:#f3f3f1;stroke-width:2}.way{fill:none;stroke-width:1.4;marker-end:url(#head)}
+.box{fill:#f3f3f1;stroke-width:2}.way{fill:none;stroke-width:1.4;marker-end:url(#head)}.way:hover{stroke-width:5}
 .dot{fill:#1a1a1a}.rule{fill:none;stroke:#bdbdbd}.bound{fill:none;stroke:#1a1a1a;stroke-width:1.6;stroke-dasharray:5 3}
 .s0{stroke:#0072b2}.s1{stroke:#d55e00}.s2{stroke:#009e73}.s3{stroke:#cc79a7}.s4{stroke:#e69f00}.s5{stroke:#56b4e9}
 .s6{stroke:#808080}
 .f0{fill:#0072b2}.f1{fill:#d55e00}.f2{fill:#009e73}.f3{fill:#cc79a7}.f4{fill:#e69f00}.f5{fill:#56b4e9}.f6{fill:#808080}
 @media (prefers-color-scheme:dark){.page{fill:#161618}text,.dot{fill:#ececec}.soft{fill:#a8a8a8}.box{fill:#242428}
-.rule{stroke:#55555c}.bound{stroke:#ececec}.s0{stroke:#3d9fdc}.f0{fill:#3d9fdc}}
+.rule{stroke:#55555c}.bound{stroke:#ececec}.s0{stroke:#3d9fdc}.f0{fill:#3d9fdc}.s5{stroke:#f0e442}.f5{fill:#f0e442}}
 </style>
 <defs><marker id='head' viewBox='0 0 8 8' refX='7' refY='4' markerWidth='8' markerHeight='8' \
 markerUnits='userSpaceOnUse' orient='auto'><path class='dot' d='M0 0 L8 4 L0 8 z'/></marker></defs>
