@@ -4,7 +4,7 @@ use Rattle.sdf_options.specs.declared.options.Options.{Options}
 use Rattle.sdf_file.specs.Designs.{DesignValue}
 use Rattle.sdf_wav.specs.Sound.{Sound}
 use Rattle.sdf_process.specs.declared.fault.Fault.{Fault}
-use Rattle.sdf_process.specs.Plans.{PlanValue, Suits, IsPlanFault}
+use Rattle.sdf_process.specs.Plans.{PlanValue, Suits, ArePassed, IsPlanFault}
 use Rattle.sdf_process.specs.Run.{HasOutput, IsProcessFault}
 
 -- the design was run on the whole input, a WAV file, and made an output of it; there is only one, which is what `run`
@@ -15,6 +15,6 @@ pub record HasRunOn (d : DesignValue) (input : List ℕ) : Type 0 where
   pub out : Sound
   pub output : HasOutput d.net plan.period.repetitions input out
 
--- a fault is one of a plan by some options, or one that a run answers
+-- a fault is one of a plan by some options that pass the tests of their numbers, or one that a run answers
 abbrev pub IsProfileFault : DesignValue → Fault → Type 0
-IsProfileFault d f = ((o : Options) × IsPlanFault d o f) ⊎ IsProcessFault f
+IsProfileFault d f = ((o : Options) × ArePassed o × IsPlanFault d o f) ⊎ IsProcessFault f

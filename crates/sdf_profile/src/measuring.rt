@@ -1,7 +1,7 @@
 //! A run whose firings are timed.
 
 ghost use Rattle.std.specs.Prelude.{MatchResult};
-ghost use Rattle.sdf_process.specs.Plans.{Suits};
+ghost use Rattle.sdf_process.specs.Plans.{Suits, ArePassed};
 ghost use Rattle.sdf_process.specs.Run.{IsProcessFault};
 ghost use Rattle.sdf_profile.specs.Profiles.{HasRunOn, IsProfileFault};
 
@@ -21,7 +21,9 @@ use std::thread::Threads;
 use std::time::Clock;
 
 /// The options of a run over rings by one worker, in blocks as long as they may be, so that firings go in runs.
-fn options_for(design: &Design) -> Options {
+fn options_for(design: &Design) -> Options
+    ensures { ArePassed result }
+{
     let period = u64::from(design.net().repetitions().period());
     let blocks = MOST_BLOCK.checked_div(period).unwrap_or(1);
     Options {
