@@ -1,17 +1,25 @@
 //! A graph at each limit at once, and tables of it: nothing answers that memory was refused where there is plenty.
 //!
 //! No clause forbids that answer. Seen to fail here: a `hu`, a `Table::by_homes` and a `Table::by_homes_in_runs` that
-//! give it for blocks of more than 60,000 firings or for 16 workers, and a `Table::accept` for more than 4,000 rows.
+//! give it for blocks of more than 60,000 firings or for 16 workers, a `Table::accept` for more than 4,000 rows, and a
+//! `Table::spread`, a `block_levels`, a `span` and a `Times::of` for more than 60,000 firings.
+
+ghost use Rattle.std.specs.Prelude.{◌≡◌, IfOk};
+ghost use Rattle.sdf_graph.specs.Rates.{rates};
+ghost use Rattle.sdf_prec.specs.Spread.{AreLoads};
+ghost use Rattle.sdf_times.specs.Times.{IsBlockTable};
 
 use crate::graphs::period_of;
 use crate::hu_rows::table;
 use sdf_graph::{Channel, Graph};
-use sdf_prec::{Firing, Table};
+use sdf_prec::levels::block_levels;
+use sdf_prec::{Costs, Firing, Table};
 use sdf_sched::class_s::class_s;
 use sdf_sched::{Lean, Pick, Round, Runs};
+use sdf_times::{Times, span};
 use std::alloc::{AllocError, Global};
 use std::test::Fail;
-use test_actors::graphs::graph;
+use test_actors::graphs::{Row, graph};
 use test_texts::row_says;
 
 /// How often an actor fires in a period, which is 65,536 firings of 64 actors.
@@ -151,6 +159,72 @@ fn has_tables(alloc: Global, graph: &Graph) -> Result<(), Fail> {
     row_says("as given", by_rule_again(alloc, graph), "65536")
 }
 
+/// Some weight for each actor.
+fn weights(alloc: Global, graph: &Graph) -> Result<Vec<u64>, AllocError>
+    ensures { IfOk result (λ v. AreLoads graph.now.actors v.items) }
+{
+    graph.channels();
+    vec![in alloc; 1u64; graph.actors()]
+}
+
+/// What 16 workers have to do together by a table, where each firing costs 1.
+fn done_by(alloc: Global, graph: &Graph, table: &Table) -> Result<String, Fail>
+    requires { IsBlockTable (rates graph.now) 16 table.now }
+{
+    let costs = Costs::unit(alloc, graph)?;
+    let times = Times::of(alloc, graph, table, 16, &costs)?;
+    let mut all = 0u64;
+    for worker in 0..16 {
+        all = all.saturating_add(times.load(worker));
+    }
+    Ok(format!(in alloc; "{all}")?)
+}
+
+/// How many firings there are in a block of some periods whose actors are spread over 16 workers, and what is done by
+/// its table; or why there is none.
+fn spread_out(alloc: Global, graph: &Graph, j: u32) -> Result<String, Fail> {
+    let period = period_of(alloc, graph)?;
+    let weights = weights(alloc, graph)?;
+    match Table::spread(alloc, graph, &period, j, 16, &weights) {
+        Ok(table) => {
+            let done = done_by(alloc, graph, &table)?;
+            Ok(format!(in alloc; "{} {done}", table.order().len())?)
+        }
+        Err(fault) => Ok(fault.to_string(alloc)?),
+    }
+}
+
+/// How long the longest chain of firings is in a block of some periods, whose levels are worked out first; or why there
+/// is none.
+fn longest(alloc: Global, graph: &Graph, j: u32) -> Result<String, Fail> {
+    let period = period_of(alloc, graph)?;
+    let costs = Costs::unit(alloc, graph)?;
+    if let Err(fault) = block_levels(alloc, graph, &period, j, &costs) {
+        return Ok(fault.to_string(alloc)?);
+    }
+    let span = span(alloc, graph, &period, j, &costs)?;
+    Ok(format!(in alloc; "{span}")?)
+}
+
+/// An actor that feeds itself, so that a period is one firing.
+const ALONE: &[Row] = &[(0, &[1], &[1], 0, 1)];
+
+/// Blocks of as many firings as there may be, and of one more.
+fn has_long_blocks(alloc: Global, graph: &Graph) -> Result<(), Fail> {
+    row_says("spread", spread_out(alloc, graph, 65_536), "65536 65536")?;
+    row_says(
+        "spread, one more",
+        spread_out(alloc, graph, 65_537),
+        "13 BlockTooLong",
+    )?;
+    row_says("a chain", longest(alloc, graph, 65_536), "65536")?;
+    row_says(
+        "a chain, one more",
+        longest(alloc, graph, 65_537),
+        "13 BlockTooLong",
+    )
+}
+
 #[test]
 fn a_period(rt: HostRuntime) -> Result<(), Fail> {
     has_periods(rt.alloc(), &largest(rt.alloc())?)
@@ -159,6 +233,20 @@ fn a_period(rt: HostRuntime) -> Result<(), Fail> {
 #[test]
 fn a_table(rt: HostRuntime) -> Result<(), Fail> {
     has_tables(rt.alloc(), &largest(rt.alloc())?)
+}
+
+#[test]
+fn a_spread_table(rt: HostRuntime) -> Result<(), Fail> {
+    row_says(
+        "the largest graph",
+        spread_out(rt.alloc(), &largest(rt.alloc())?, 1),
+        "65536 65536",
+    )
+}
+
+#[test]
+fn a_long_block(rt: HostRuntime) -> Result<(), Fail> {
+    has_long_blocks(rt.alloc(), &graph(rt.alloc(), 1, ALONE)?)
 }
 
 #[test]
