@@ -1,10 +1,13 @@
 -- The row that a crew makes, and sums of what has ended.
-use Rattle.std.proofs.Common.{◌≡◌, ℕ, zero, suc, ◌+◌, ◌*◌, ◌≤◌, ◌<◌, ◌⊎◌, List, [], ◌∷◌, ◌++◌, length, get_or, sum, ap}
-use Rattle.std.proofs.Common.{inl, inr, arith, refl, Option, Some, None, Bool, true, false}
+use Rattle.std.proofs.Common.{◌≡◌, ℕ, zero, suc, ◌+◌, ◌*◌, ◌≤◌, ◌<◌, ◌⊎◌, List, [], ◌∷◌, ◌++◌, length, get_or, sum, sym}
+use Rattle.std.proofs.Common.{replicate, subst, ap, ◌∙◌, inl, inr, arith, refl, Option, Some, None, Bool, true, false}
 use Rattle.std.proofs.lemmas.Option.{none-some}
+use Rattle.std.proofs.lemmas.Bool.{cases_lt}
+use Rattle.std.proofs.lemmas.List.{length-replicate, get_or-replicate, get_or_past}
 use Rattle.std.proofs.lemmas.Bool.{false≢true}
 use Rattle.std.proofs.lemmas.List.Sums.{sum_by-cons}
-use Rattle.sdf_graph.specs.Rates.{Rates, IsSound}
+use Rattle.sdf_limits.specs.declared.TheConstants.{MOST_COST}
+use Rattle.sdf_graph.specs.Rates.{Rates, Shape, rates, IsSound}
 use Rattle.sdf_graph.specs.Laws.{ListsSumWithin}
 use Rattle.sdf_prec.specs.declared.firing.Firing.{Firing}
 use Rattle.sdf_prec.specs.Tables.{firings}
@@ -12,7 +15,9 @@ use Rattle.sdf_prec.specs.Trying.{IsQueue}
 use Rattle.sdf_prec.specs.TimedRows.{Timed, IsSettled}
 use Rattle.sdf_prec.specs.Floor.{IsNextReady, IsFilling, AreStarted, IsDue, IsDone}
 use Rattle.sdf_prec.specs.Placing.{IsPlacing, AreWaiting}
-use Rattle.sdf_prec.specs.Crew.{IsRowAt}
+use Rattle.sdf_prec.specs.declared.crew.Job.{Job}
+use Rattle.sdf_prec.specs.Numbers.{number}
+use Rattle.sdf_prec.specs.Crew.{IsRowAt, Crewed, IsCrew, idle, IsDueTo, IsDoneBy, IsRowFor}
 use Rattle.sdf_prec.proofs.Starts.{starting_none}
 use Rattle.sdf_prec.proofs.Rules.{free_row, filled_each, filled_apart, free_stuck, homed_row, placed_each, placed_apart}
 use Rattle.sdf_prec.proofs.Rules.{homes_then, homed_stuck}
@@ -33,6 +38,7 @@ module _ (r : Rates) (n cost : ℕ → ℕ) (level : Firing → ℕ) (width : �
       (λ j. get_or u j 0) homes → (next : ℕ) → IsFilling u now width queue next cells →
       IsRowAt r n cost level width false past now ended started ends (λ j. get_or u j 0) homes cells
   row_free homes d next fill = record {
+    floor = d.floor;
     wide = fill.wide;
     by_rule = free_row r n cost level width past now ended started ends (λ j. get_or u j 0) d.floor s queue q cells u
         (λ j _. get_or u j 0) next fill;
@@ -55,6 +61,7 @@ module _ (r : Rates) (n cost : ℕ → ℕ) (level : Firing → ℕ) (width : �
       IsRowAt r n cost level width true past now ended started ends (λ j. get_or u j 0)
       (λ a. get_or homes' a None) cells
   row_homed homes homes' d weight weight_is wide placed waiting = record {
+    floor = d.floor;
     wide = placed.wide;
     by_rule = homed_row r n cost level width past now ended started ends (λ j. get_or u j 0) d.floor s queue q cells
         weight weight_is u (λ j _. get_or u j 0) homes homes' (d.homes_are refl) placed;
@@ -101,6 +108,63 @@ module _ (r : Rates) (n cost : ℕ → ℕ) (level : Firing → ℕ) (width : �
           IsSettled past a j
       back a j (inl x) = x
       back a j (inr (f, e, is)) = absurd (nothing_stands cells none j f e)
+
+-- nobody is at work yet
+pub idle_is : (g : Shape) (width : ℕ) → IsSound (rates g) → IsCrew (idle g width)
+idle_is g width s = record {
+  sound = s;
+  fired_all = length-replicate g.actors 0;
+  started_all = length-replicate g.actors 0;
+  ends_all = length-replicate g.actors 0;
+  homes_all = length-replicate g.actors None;
+  inside = λ a j is. absurd (none-some j (sym (same_all None a (cases_lt a g.actors)) ∙ is));
+  early = omega arith;
+  soon = λ a. subst (λ x. x ≤ 0 + MOST_COST) (sym (same_all 0 a (cases_lt a g.actors))) (omega arith);
+}
+  where
+    same_all : {A : Type 0} (x : A) (a : ℕ) → (a < g.actors) ⊎ (g.actors ≤ a) → get_or (replicate g.actors x) a x ≡ x
+    same_all x a (inl l) = get_or-replicate g.actors a x x l
+    same_all x a (inr h) = get_or_past (replicate g.actors x) a x (omega (arith, length-replicate g.actors x))
+
+-- a crew is done with its time where a row was due whose firings have started
+pub row_started : (job : Job) (old placed new : Crewed) (past : List Timed) (cells : List (Option Firing)) →
+    IsSound (rates old.counts.graph) → ((a : ℕ) → a < old.counts.graph.actors → 1 ≤ get_or job.costs.now a 0) →
+    IsDueTo job old past → placed ≡ record old { homes = placed.homes } → IsRowFor job placed past cells →
+    (firings cells ≡ [] → ⊥) →
+    new ≡ record placed { started = new.started; ends = new.ends; until = new.until } →
+    length new.until ≡ length placed.until →
+    AreStarted (λ a. get_or job.costs.now a 0) placed.time (length cells) cells
+    (λ a. get_or placed.started a 0) (λ a. get_or placed.ends a 0) (λ j. get_or placed.until j 0)
+    (λ a. get_or new.started a 0) (λ a. get_or new.ends a 0) (λ j. get_or new.until j 0) →
+    IsDoneBy job new (past ++ record { start = old.time; cells = cells } ∷ [])
+row_started job old placed new past cells s dear due is row some then columns begun = done
+  where
+    P : Crewed → (width : ℕ) → Type 0
+    P k width = IsDone (rates k.counts.graph) (λ a. get_or job.firings.now a 0) (λ a. get_or job.costs.now a 0)
+        (number job.levels.now) width job.homed (past ++ record { start = old.time; cells = cells } ∷ []) k.time
+        (λ a. get_or k.counts.fired a 0) (λ a. get_or new.started a 0) (λ a. get_or new.ends a 0)
+        (λ j. get_or new.until j 0) (λ a. get_or k.homes a None)
+
+    added : P (record old { homes = placed.homes }) (length old.until)
+    added = row_added _ _ _ _ _ _ _ _ _ _ _ _ _ _ s due cells
+        (subst (λ (k : Crewed). IsRowFor job k past cells) is row) dear some _ _ _
+        (subst (λ (k : Crewed). AreStarted (λ a. get_or job.costs.now a 0) k.time (length cells) cells
+        (λ a. get_or k.started a 0) (λ a. get_or k.ends a 0) (λ j. get_or k.until j 0)
+        (λ a. get_or new.started a 0) (λ a. get_or new.ends a 0) (λ j. get_or new.until j 0)) is begun)
+
+    here : P placed (length placed.until)
+    here = subst (λ (k : Crewed). P k (length k.until)) (sym is) added
+
+    done : P new (length new.until)
+    done = subst (λ (k : Crewed). P k (length new.until)) (sym then) (subst (P placed) (sym columns) here)
+
+-- or where it was empty
+pub row_skipped : (job : Job) (old new : Crewed) (past : List Timed) (cells : List (Option Firing)) →
+    IsSound (rates old.counts.graph) → IsDueTo job old past → new ≡ record old { homes = new.homes } →
+    IsRowFor job new past cells → firings cells ≡ [] → IsDoneBy job new past
+row_skipped job old new past cells s due is row none =
+    subst (λ (k : Crewed). IsDoneBy job k past) (sym is)
+    (row_left _ _ _ _ _ _ _ _ _ _ _ _ _ _ s due cells (subst (λ (k : Crewed). IsRowFor job k past cells) is row) none)
 
 pub sum_less : ListsSumWithin → (xs ys : List ℕ) (b : ℕ) → length xs ≡ length ys →
     ((a : ℕ) → get_or xs a 0 ≤ get_or ys a 0) → get_or xs b 0 < get_or ys b 0 → sum xs < sum ys

@@ -1,13 +1,12 @@
 //! Rows made one after the other, at the times at which an actor is through.
 
-ghost use Rattle.std.specs.Prelude.{◌≡◌, ℕ, ◌+◌, ◌*◌, ◌<◌, ◌≤◌, ◌^◌, List, length, sum, slice_index, slice_index_or};
-ghost use Rattle.std.specs.Prelude.{replicate, IfOk, Some, None};
-ghost use Rattle.sdf_graph.specs.Rates.{rates, IsSound};
+ghost use Rattle.std.specs.Prelude.{◌≡◌, ℕ, ◌<◌, List, length, sum, slice_index, IfOk, Some};
+ghost use Rattle.sdf_graph.specs.Rates.{rates};
 ghost use Rattle.sdf_graph.specs.Sequences.{IsPass};
 ghost use Rattle.sdf_prec.specs.Tables.{IsValid};
-ghost use Rattle.sdf_prec.specs.TimedRows.{cells_of, AreTimedRows};
-ghost use Rattle.sdf_prec.specs.Floor.{IsNextEnd};
-ghost use Rattle.sdf_prec.specs.Crew.{IsJobFor, IsCrewAt, IsDueTo, IsDoneBy, IsRowOf, rule_of};
+ghost use Rattle.sdf_prec.specs.TimedRows.{Timed, cells_of, AreTimedRows};
+ghost use Rattle.sdf_prec.specs.Floor.{AreStarted, IsNextEnd};
+ghost use Rattle.sdf_prec.specs.Crew.{IsJobFor, IsCrew, idle, IsDueTo, IsDoneBy, IsRowFor, rule_of};
 
 use crate::costs::Costs;
 use crate::filling::fill;
@@ -22,6 +21,7 @@ use crate::timed::TimedRow;
 use sdf_graph::laws::{counts_grow, graphs_are_sound, sums_rise};
 use sdf_graph::{Counts, Graph};
 use std::alloc::{AllocError, Global};
+use std::marker::Model;
 
 /// What rows are made of: how often each actor fires, levels, costs, what each actor's firings cost together, and
 /// whether actors have homes.
@@ -34,9 +34,11 @@ pub(crate) struct Job<'a> {
     pub(crate) homed: bool,
 }
 
-/// Who is at work: counts of ended and of started firings, when each actor and each column is through, and the homes.
+/// Who is at work at a time: counts of ended and of started firings, when each actor and each column is through, and
+/// the homes.
 #[derive(Drop)]
 struct Crew<'a> {
+    time: u64,
     counts: Counts<'a>,
     started: Vec<u32>,
     ends: Vec<u64>,
@@ -44,117 +46,148 @@ struct Crew<'a> {
     homes: Vec<Option<usize>>,
 }
 
-/// The row at time `now`, which may be empty. Actors whose first firing is in it get their homes.
-fn next_cells(
-    alloc: Global,
-    job: &Job,
-    now: u64,
-    crew: &mut Crew,
-) -> Result<Vec<Option<Firing>>, AllocError>
-    requires sound { IsSound (rates crew.old.counts.graph) }
-    requires job { IsJobFor crew.old.counts.graph job.now }
-    requires crew { IsCrewAt (length crew.old.until.items) now crew.old }
-    ensures counts { crew.new.counts ≡ crew.old.counts }
-    ensures started { crew.new.started ≡ crew.old.started }
-    ensures ends { crew.new.ends ≡ crew.old.ends }
-    ensures until { crew.new.until ≡ crew.old.until }
-    ensures homes { IfOk result (λ _. (length crew.new.homes.items ≡ length crew.old.homes.items)
-        × ((a j : ℕ) → slice_index_or crew.new.homes.items a None ≡ Some j → j < length crew.old.until.items)) }
-    ensures row { IfOk result (λ cells. IsRowOf crew.old.counts.graph job.now (length crew.old.until.items) crew.old
-        crew.new now cells.items) }
-{
-    let queue = ready_queue(alloc, &crew.counts, &crew.started, job.firings, job.levels)?;
-    if job.homed {
-        let cells = place(
-            alloc,
-            &queue,
-            &crew.until,
-            now,
-            job.weights,
-            &mut crew.homes,
-        )?;
-        Ok(cells)
-    } else {
-        let cells = fill(alloc, &queue, &crew.until, now)?;
-        Ok(cells)
-    }
+impl<'a> Model for Crew<'a> {
+    ghost use Rattle.sdf_prec.specs.Crew.{Crewed, IsCrew};
+
+    ghost Value = { Crewed };
+
+    ghost view = { λ c. record {
+      time = c.time;
+      counts = c.counts;
+      started = c.started.items;
+      ends = c.ends.items;
+      until = c.until.items;
+      homes = c.homes.items;
+    } };
+
+    ghost invariant = { λ c. IsCrew (record {
+      time = c.time;
+      counts = c.counts;
+      started = c.started.items;
+      ends = c.ends.items;
+      until = c.until.items;
+      homes = c.homes.items;
+    }) };
 }
 
-/// Adds the row at time `now`, where it is not empty.
-fn add_row(
-    alloc: Global,
-    job: &Job,
-    now: u64,
-    crew: &mut Crew,
-    rows: &mut Vec<TimedRow>,
-) -> Result<(), AllocError>
-    requires sound { IsSound (rates crew.old.counts.graph) }
-    requires job { IsJobFor crew.old.counts.graph job.now }
-    requires crew { IsCrewAt (length crew.old.until.items) now crew.old }
-    requires due { IsDueTo crew.old.counts.graph job.now (length crew.old.until.items) crew.old rows.old.items now }
-    ensures counts { crew.new.counts ≡ crew.old.counts }
-    ensures crew { IfOk result (λ _. IsCrewAt (length crew.old.until.items) now crew.new) }
-    ensures done { IfOk result (λ _. IsDoneBy crew.old.counts.graph job.now (length crew.old.until.items) crew.new
-        rows.new.items now) }
-{
-    sums_rise();
-    let cells = next_cells(alloc, job, now, crew)?;
-    if has_firing(&cells) {
+impl<'a> Crew<'a> {
+    /// Nobody is at work yet, at time 0.
+    fn new(alloc: Global, graph: &'a Graph, width: usize) -> Result<Crew<'a>, AllocError>
+        ensures { IfOk result (λ crew. crew ≡ idle graph.now width) }
+    {
+        graph.channels();
+        graphs_are_sound();
+        let actors = graph.actors();
+        Ok(Crew {
+            time: 0,
+            counts: Counts::new(alloc, graph)?,
+            started: vec![in alloc; 0u32; actors]?,
+            ends: vec![in alloc; 0u64; actors]?,
+            until: vec![in alloc; 0u64; width]?,
+            homes: vec![in alloc; None; actors]?,
+        })
+    }
+
+    /// The row of this time, which may be empty. Actors whose first firing is in it get their homes.
+    fn next_cells(&mut self, alloc: Global, job: &Job) -> Result<Vec<Option<Firing>>, AllocError>
+        requires job { IsJobFor self.old.counts.graph job.now }
+        ensures others { self.new ≡ record self.old { homes = self.new.homes } }
+        ensures row { IfOk result (λ cells. (past : List Timed) → IsDueTo job.now self.old past →
+            IsRowFor job.now self.new past cells.items) }
+    {
+        let queue = ready_queue(alloc, &self.counts, &self.started, job.firings, job.levels)?;
+        if job.homed {
+            let cells = place(
+                alloc,
+                &queue,
+                &self.until,
+                self.time,
+                job.weights,
+                &mut self.homes,
+            )?;
+            Ok(cells)
+        } else {
+            let cells = fill(alloc, &queue, &self.until, self.time)?;
+            Ok(cells)
+        }
+    }
+
+    /// Starts the firings of a row.
+    fn start(&mut self, job: &Job, cells: &[Option<Firing>])
+        requires job { IsJobFor self.old.counts.graph job.now }
+        requires row { (past : List Timed) × IsRowFor job.now self.old past cells.now }
+        ensures others { self.new ≡ record self.old {
+          started = self.new.started;
+          ends = self.new.ends;
+          until = self.new.until;
+        } }
+        ensures columns { length self.new.until ≡ length self.old.until }
+        ensures started { AreStarted (slice_index job.now.costs.now) self.old.time (length cells.now) cells.now
+            (slice_index self.old.started) (slice_index self.old.ends) (slice_index self.old.until)
+            (slice_index self.new.started) (slice_index self.new.ends) (slice_index self.new.until) }
+    {
+        sums_rise();
         start(
-            &cells,
-            now,
+            cells,
+            self.time,
             job.costs,
-            &mut crew.started,
-            &mut crew.ends,
-            &mut crew.until,
+            &mut self.started,
+            &mut self.ends,
+            &mut self.until,
         );
-        rows.push(TimedRow { start: now, cells })?;
     }
-    Ok(())
-}
 
-/// Nobody is at work yet.
-fn new_crew<'a>(alloc: Global, graph: &'a Graph, width: usize) -> Result<Crew<'a>, AllocError>
-    ensures counts { IfOk result (λ c. c.counts ≡ record { graph = graph.now; fired = replicate graph.now.actors 0 }) }
-    ensures started { IfOk result (λ c. c.started.items ≡ replicate graph.now.actors 0) }
-    ensures ends { IfOk result (λ c. c.ends.items ≡ replicate graph.now.actors 0) }
-    ensures until { IfOk result (λ c. c.until.items ≡ replicate width 0) }
-    ensures homes { IfOk result (λ c. c.homes.items ≡ replicate graph.now.actors None) }
-{
-    let actors = graph.actors();
-    Ok(Crew {
-        counts: Counts::new(alloc, graph)?,
-        started: vec![in alloc; 0u32; actors]?,
-        ends: vec![in alloc; 0u64; actors]?,
-        until: vec![in alloc; 0u64; width]?,
-        homes: vec![in alloc; None; actors]?,
-    })
-}
+    /// Adds the row of this time, where it is not empty.
+    fn add_row(
+        &mut self,
+        alloc: Global,
+        job: &Job,
+        rows: &mut Vec<TimedRow>,
+    ) -> Result<(), AllocError>
+        requires job { IsJobFor self.old.counts.graph job.now }
+        requires due { IsDueTo job.now self.old rows.old.items }
+        ensures counts { self.new.counts ≡ self.old.counts }
+        ensures columns { length self.new.until ≡ length self.old.until }
+        ensures done { IfOk result (λ _. IsDoneBy job.now self.new rows.new.items) }
+    {
+        let start = self.time;
+        let cells = self.next_cells(alloc, job)?;
+        if has_firing(&cells) {
+            self.start(job, &cells);
+            rows.push(TimedRow { start, cells })?;
+        }
+        Ok(())
+    }
 
-/// Goes on from time `now` to the next time at which an actor is through.
-fn turn(
-    alloc: Global,
-    job: &Job,
-    now: u64,
-    next: u64,
-    crew: &mut Crew,
-    rows: &mut Vec<TimedRow>,
-) -> Result<(), AllocError>
-    requires sound { IsSound (rates crew.old.counts.graph) }
-    requires job { IsJobFor crew.old.counts.graph job.now }
-    requires crew { IsCrewAt (length crew.old.until.items) now crew.old }
-    requires next { IsNextEnd crew.old.ends.items now (length crew.old.ends.items) (Some next) }
-    requires done { IsDoneBy crew.old.counts.graph job.now (length crew.old.until.items) crew.old rows.old.items now }
-    ensures graph { crew.new.counts.graph ≡ crew.old.counts.graph }
-    ensures columns { IfOk result (λ _. length crew.new.until.items ≡ length crew.old.until.items) }
-    ensures more { sum crew.old.counts.fired < sum crew.new.counts.fired }
-    ensures crew { IfOk result (λ _. IsCrewAt (length crew.old.until.items) next crew.new) }
-    ensures done { IfOk result (λ _. IsDoneBy crew.old.counts.graph job.now (length crew.old.until.items) crew.new
-        rows.new.items next) }
-{
-    sums_rise();
-    end_by(next, &crew.started, &crew.ends, &mut crew.counts);
-    add_row(alloc, job, next, crew, rows)
+    /// The least later time at which an actor is through.
+    fn next_end(&self) -> Option<u64>
+        ensures crew { IsCrew self.now }
+        ensures next { IsNextEnd self.now.ends self.now.time (length self.now.ends) result }
+    {
+        next_end(&self.ends, self.time)
+    }
+
+    /// Goes on to the next time at which an actor is through.
+    fn turn(
+        &mut self,
+        alloc: Global,
+        job: &Job,
+        next: u64,
+        rows: &mut Vec<TimedRow>,
+    ) -> Result<(), AllocError>
+        requires job { IsJobFor self.old.counts.graph job.now }
+        requires next { IsNextEnd self.old.ends self.old.time (length self.old.ends) (Some next) }
+        requires done { IsDoneBy job.now self.old rows.old.items }
+        ensures graph { self.new.counts.graph ≡ self.old.counts.graph }
+        ensures columns { length self.new.until ≡ length self.old.until }
+        ensures more { sum self.old.counts.fired < sum self.new.counts.fired }
+        ensures done { IfOk result (λ _. IsDoneBy job.now self.new rows.new.items) }
+    {
+        sums_rise();
+        end_by(next, &self.started, &self.ends, &mut self.counts);
+        self.time = next;
+        self.add_row(alloc, job, rows)
+    }
 }
 
 /// The rows of the rule, until each firing of the block stands.
@@ -172,18 +205,14 @@ pub(crate) fn timed_rows(
     ensures valid { IfOk result (λ rows. IsValid (rates graph.now) (slice_index job.now.firings.now)
         (cells_of rows.items)) }
 {
-    graph.channels();
-    graphs_are_sound();
     counts_grow();
     sums_rise();
     the_next_may_fire();
-    let mut crew = new_crew(alloc, graph, width)?;
+    let mut crew = Crew::new(alloc, graph, width)?;
     let mut rows = Vec::new(alloc);
-    let mut now = 0;
-    add_row(alloc, job, now, &mut crew, &mut rows)?;
-    while let Some(next) = next_end(&crew.ends, now) {
-        turn(alloc, job, now, next, &mut crew, &mut rows)?;
-        now = next;
+    crew.add_row(alloc, job, &mut rows)?;
+    while let Some(next) = crew.next_end() {
+        crew.turn(alloc, job, next, &mut rows)?;
     }
     Ok(rows)
 }

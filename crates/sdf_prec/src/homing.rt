@@ -110,6 +110,8 @@ pub(crate) fn place(
     requires known { (p : ℕ) → p < length queue.now → (firing queue.now p).actor < length homes.old }
     requires once { (p m : ℕ) → p < m → m < length queue.now → firing queue.now p ≡ firing queue.now m → ⊥ }
     requires inside { (a j : ℕ) → slice_index_or homes.old a None ≡ Some j → j < length until.now }
+    ensures all { length homes.new ≡ length homes.old }
+    ensures inside { (a j : ℕ) → slice_index_or homes.new a None ≡ Some j → j < length until.now }
     ensures placed { IfOk result (λ cells. IsPlacing (length homes.old) (length until.now) (slice_index weights.now)
         (λ j. slice_index until.now j ≤ now) (λ a. slice_index_or homes.old a None) queue.now (length queue.now)
         cells.items homes.new) }

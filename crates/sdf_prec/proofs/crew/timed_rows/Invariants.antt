@@ -1,14 +1,13 @@
-use Rattle.std.proofs.Common.{◌≡◌, ◌-◌, length, sum}
-use Rattle.sdf_prec.specs.Crew.{IsCrewAt, IsDoneBy}
+use Rattle.std.proofs.Common.{◌≡◌, ◌-◌, ◌+◌, length, sum}
+use Rattle.sdf_prec.specs.Crew.{IsDoneBy}
 use Rattle.sdf_prec.proofs.crew.timed_rows.Given as goal
 
 abbrev pub invariant-loop-next : goal.invariant-loop-next
 invariant-loop-next l = record {
   graph : l.crew.counts.graph ≡ l.graph;
-  columns : length l.crew.until.items ≡ l.width;
-  crew : IsCrewAt l.width l.now l.crew;
-  done : IsDoneBy l.graph l.job l.width l.crew l.rows.items l.now;
+  columns : length l.crew.until ≡ l.width;
+  done : IsDoneBy l.job l.crew l.rows.items;
 }
 
 abbrev pub decreases-loop-next : goal.decreases-loop-next
-decreases-loop-next l = sum l.job.firings.now - sum l.crew.counts.fired
+decreases-loop-next l = sum l.job.firings.now + 1 - sum l.crew.counts.fired

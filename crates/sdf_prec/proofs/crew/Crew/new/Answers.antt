@@ -1,0 +1,15 @@
+use Rattle.std.proofs.Common.{rules, ◌≡◌, None, replicate, ap, ◌∙◌}
+use Rattle.sdf_prec.proofs.Crews.{idle_is}
+use Rattle.sdf_prec.proofs.crew.Crew.new.Goals as goal
+
+pub invariant_of-result : goal.invariant_of-result
+invariant_of-result c =
+    let g = c.args.graph.now in
+    let started = c.in_ok-vec.ensures.items_if_clones_equal (λ y e. e)
+    ∙ ap (λ n. replicate n 0) c.actors-actors.ensures in
+    let ends = c.in_ok-vec-2.ensures.items_if_clones_equal (λ y e. e)
+    ∙ ap (λ n. replicate n 0) c.actors-actors.ensures in
+    let until = c.in_ok-vec-3.ensures.items_if_clones_equal (λ y e. e) in
+    let homes : c.in_ok-vec-4.field-0.items ≡ replicate g.actors None = search rules in
+    rw (c.in_ok-new.ensures, started, ends, until, homes)
+    (idle_is g c.args.width (c.graphs_are_sound.ensures g c.channels.ensures.shape))

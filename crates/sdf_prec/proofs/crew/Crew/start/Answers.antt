@@ -1,0 +1,60 @@
+use Rattle.std.proofs.Common.{◌≡◌, length, drop, sym, ap, ◌∙◌, subst, arith}
+use Rattle.std.proofs.lemmas.List.{take_at}
+use Rattle.sdf_prec.specs.Crew.{Crewed, IsJobFor, IsRowFor}
+use Rattle.sdf_prec.proofs.Jobs.{job_cheap}
+use Rattle.sdf_prec.proofs.Shifts.{few_ended, within_sum, soon_then}
+use Rattle.sdf_prec.proofs.crew.Crew.start.Goals as goal
+
+pub start-requires-clause-early : goal.start-requires-clause-early
+start-requires-clause-early c =
+    let k = c.self.invariant in
+    let row = subst (λ (x : Crewed). IsRowFor c.args.job.now x c.requires.row.0 c.args.cells.now) (sym c.self.view_is)
+    c.requires.row.1 in
+    let job = subst (λ (x : Crewed). IsJobFor x.counts.graph c.args.job.now) (sym c.self.view_is) c.requires.job in
+    omega (
+      arith,
+      k.early,
+      job.few,
+      few_ended _ _ _ _ _ _ _ _ _ _ row.floor k.fired_all job.firings_all c.sums_rise.ensures.lists,
+    )
+
+pub start-requires-clause-known : goal.start-requires-clause-known
+start-requires-clause-known c =
+    let row = subst (λ (x : Crewed). IsRowFor c.args.job.now x c.requires.row.0 c.args.cells.now) (sym c.self.view_is)
+    c.requires.row.1 in
+    rw c.deref_mut.ensures.value
+    (λ j f h. let k = (row.each j f h).0.known in omega (arith, c.self.invariant.started_all))
+
+pub start-requires-clause-room : goal.start-requires-clause-room
+start-requires-clause-room c = λ j f h. let k = (c.requires.row.1.each j f h).0.within in
+    omega (arith, c.requires.job.few, within_sum c.args.job.now.firings.now f.actor)
+
+pub invariant_of-self : goal.invariant_of-self
+invariant_of-self c =
+    let i = c.self.inside in
+    let k = c.self.invariant in
+    let s = c.start.new.started in
+    let n = c.start.new.ends in
+    let u = c.start.new.until in
+    let s_len : length s ≡ length i.started.items = c.start.ensures.actors ∙ ap length c.deref_mut.ensures.value in
+    let n_len : length n ≡ length i.ends.items = c.start.ensures.all ∙ ap length c.deref_mut-2.ensures.value in
+    let u_len : length u ≡ length i.until.items = c.start.ensures.columns ∙ ap length c.deref_mut-3.ensures.value in
+    let st = take_at s (drop (length s) i.started.items) i.started.len (s_len ∙ sym i.started.ok.0) in
+    let nt = take_at n (drop (length n) i.ends.items) i.ends.len (n_len ∙ sym i.ends.ok.0) in
+    let ut = take_at u (drop (length u) i.until.items) i.until.len (u_len ∙ sym i.until.ok.0) in
+    let begun = rw (c.deref_mut.ensures.value, c.deref_mut-2.ensures.value, c.deref_mut-3.ensures.value) at
+    c.start.ensures.started in
+    let row = subst (λ (x : Crewed). IsRowFor c.args.job.now x c.requires.row.0 c.args.cells.now) (sym c.self.view_is)
+    c.requires.row.1 in
+    let job = subst (λ (x : Crewed). IsJobFor x.counts.graph c.args.job.now) (sym c.self.view_is) c.requires.job in
+    rw (st, nt, ut) (record {
+      sound = k.sound;
+      fired_all = k.fired_all;
+      started_all = s_len ∙ k.started_all;
+      ends_all = n_len ∙ k.ends_all;
+      homes_all = k.homes_all;
+      inside = λ a j is. let l = k.inside a j is in omega (arith, u_len);
+      early = k.early;
+      soon = soon_then _ _ _ _ _ _ _ _ _ begun (λ j f h. job_cheap _ _ _ _ _ job f.actor
+          (row.each j f h).0.known) k.soon;
+    })
