@@ -39,7 +39,8 @@ hu_table r n cost level width homed past t are valid same exact levels = record 
     known i l = let e : length (cells_of past) ≡ length past = length-map past (λ (x : Timed). x.cells) in omega arith
 
 -- where the periods may be, what is wrong with their firings is a block's fault
-pub fault_block : (j : ℕ) (reps : List ℕ) (e : PrecFault) → IsBlocking j → IsLengthFault j reps e → IsBlockFault j reps e
+pub fault_block : (j : ℕ) (reps : List ℕ) (e : PrecFault) → IsBlocking j → IsLengthFault j reps e →
+    IsBlockFault j reps e
 fault_block j reps OutOfMemory few h = tt
 fault_block j reps BlockTooLong few h = (few, h)
 fault_block j reps _ few h = absurd h

@@ -8,7 +8,8 @@ use Rattle.sdf_graph.specs.Rates.{Rates, IsSound}
 use Rattle.sdf_graph.specs.Sequences.{IsEnabled}
 use Rattle.sdf_prec.specs.declared.firing.Firing.{Firing}
 use Rattle.sdf_prec.specs.Tables.{firings}
-use Rattle.sdf_prec.specs.TimedRows.{Timed, timed, StandsAt, end_at, IsSettled, IsLater, Rule, IsNextRow, AreTimed, hu_rule}
+use Rattle.sdf_prec.specs.TimedRows.{Timed, timed, StandsAt, end_at, IsSettled, IsLater, Rule, IsNextRow, AreTimed}
+use Rattle.sdf_prec.specs.TimedRows.{hu_rule}
 use Rattle.sdf_prec.specs.Floor.{IsNextReady, IsFloor, AreStarted, IsStuck, IsDue, IsDone}
 use Rattle.sdf_prec.proofs.Floors.{row_known, floor_later}
 use Rattle.sdf_prec.proofs.Pushes.{row_old, row_new, at_old, at_new, at_cases, floor_more}

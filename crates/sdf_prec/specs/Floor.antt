@@ -37,7 +37,8 @@ pub record IsFloor (r : Rates) (n cost : ℕ → ℕ) (width : ℕ) (past : List
   pub within : (a : ℕ) → a < r.actors → started a ≤ n a
   pub once : (i j k m : ℕ) (f : Firing) → StandsAt past i j f → StandsAt past k m f → (i ≡ k) × (j ≡ m)
   -- a firing has ended exactly where its number is among those that have
-  pub ended_is : (i j : ℕ) (f : Firing) → StandsAt past i j f → (end_at cost past i f ≤ now) ↔ (f.number < ended f.actor)
+  pub ended_is : (i j : ℕ) (f : Firing) → StandsAt past i j f →
+      (end_at cost past i f ≤ now) ↔ (f.number < ended f.actor)
   -- an actor's last firing ends where the actor is through
   pub last : (i j : ℕ) (f : Firing) → StandsAt past i j f → f.number + 1 ≡ started f.actor →
       ends f.actor ≡ end_at cost past i f
@@ -46,7 +47,8 @@ pub record IsFloor (r : Rates) (n cost : ℕ → ℕ) (width : ℕ) (past : List
   pub on : (a : ℕ) → a < r.actors → ended a < started a → IsEnabled r ended a
   -- a column is through where the last firing in it ends
   pub until_above : (i j : ℕ) (f : Firing) → StandsAt past i j f → end_at cost past i f ≤ until j
-  pub until_at : (j : ℕ) → (until j ≡ 0) ⊎ ((i : ℕ) × (f : Firing) × StandsAt past i j f × (until j ≡ end_at cost past i f))
+  pub until_at : (j : ℕ) → (until j ≡ 0) ⊎ ((i : ℕ) × (f : Firing) × StandsAt past i j f
+      × (until j ≡ end_at cost past i f))
 
 -- the firings of a row have started at time now
 pub record AreStarted (cost : ℕ → ℕ) (now i : ℕ) (cells : List (Option Firing))

@@ -1,11 +1,14 @@
 //! Hu's rule with costs: of the firings that are ready those of highest level first.
 
-ghost use Rattle.std.specs.Prelude.{◌≡◌, ℕ, ◌*◌, length, slice_index, IfOk, MatchResult};
+ghost use Rattle.std.specs.Prelude.{◌≡◌, ℕ, ◌*◌, ◌<◌, List, length, slice_index, IfOk, MatchResult};
 ghost use Rattle.sdf_graph.specs.Rates.{rates};
+ghost use Rattle.sdf_graph.specs.Sequences.{IsPass};
 ghost use Rattle.sdf_sched.specs.Period.{IsPeriodOf};
 ghost use Rattle.sdf_prec.specs.Blocks.{block, IsSizeFault};
 ghost use Rattle.sdf_prec.specs.Accepting.{IsSize};
 ghost use Rattle.sdf_prec.specs.Costs.{AreCosts};
+ghost use Rattle.sdf_prec.specs.Crew.{IsJobFor};
+ghost use Rattle.sdf_prec.specs.Levels.{AreLevels};
 ghost use Rattle.sdf_prec.specs.HuTables.{IsHuTable};
 
 use crate::block::{block_firings, size_fault};
@@ -32,6 +35,22 @@ fn weights_of(alloc: Global, firings: &[u32], costs: &Costs) -> Result<Vec<u64>,
         weights.push(u64::from(firings[actor]) * u64::from(costs.of(actor)))?;
     }
     Ok(weights)
+}
+
+/// The table of the rule's rows, by the levels of the block's firings.
+fn table_for(alloc: Global, graph: &Graph, job: &Job, width: usize) -> Result<Table, AllocError>
+    requires job { IsJobFor graph.now job.now }
+    requires levels { AreLevels (rates graph.now) job.now.firings.now (slice_index job.now.costs.now)
+        job.now.levels.now }
+    requires width { 0 < width }
+    requires pass { (w : List ℕ) × IsPass (rates graph.now) (slice_index job.now.firings.now) w }
+    ensures { IfOk result (λ t. IsHuTable (rates graph.now) (slice_index job.now.firings.now)
+        (slice_index job.now.costs.now) width job.now.homed t) }
+{
+    let rows = timed_rows(alloc, graph, job, width)?;
+    let cells = without_times(alloc, rows)?;
+    let table = Table::of_rows(alloc, graph, cells)?;
+    Ok(table)
 }
 
 /// The table of Hu's rule with costs for a block of `j` periods and `m` workers, free or with a home for each actor.
@@ -70,8 +89,6 @@ pub fn hu(
         weights: &weights,
         homed,
     };
-    let rows = timed_rows(alloc, graph, &job, m)?;
-    let cells = without_times(alloc, rows)?;
-    let table = Table::of_rows(alloc, graph, cells)?;
+    let table = table_for(alloc, graph, &job, m)?;
     Ok(table)
 }

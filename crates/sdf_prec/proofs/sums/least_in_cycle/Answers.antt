@@ -1,6 +1,32 @@
-use Rattle.std.proofs.Common.{arith}
-use Rattle.sdf_prec.proofs.Cyclic.{least_is}
+use Rattle.std.proofs.Common.{ℕ, arith}
+use Rattle.sdf_prec.proofs.Cyclic.{few_moved, one_more, still_in, below_more, least_is}
 use Rattle.sdf_prec.proofs.sums.least_in_cycle.Goals as goal
+
+pub overflow_add-moved : goal.overflow_add-moved
+overflow_add-moved c =
+    let v = c.loop-moved.invariant in
+    let rates = c.requires.cycle in
+    omega (
+      arith,
+      c.from-moved.ensures,
+      rates.small c.loop-moved.firings,
+      rates.short,
+      v.is,
+      v.within,
+      few_moved c.cycles_begin_anew.ensures.small c.args.rates.now rates c.loop-moved.firings,
+    )
+
+pub loop-moved-preserved : goal.loop-moved-preserved
+loop-moved-preserved c =
+    let v = c.loop-moved.invariant in
+    let xs = c.args.rates.now in
+    let i : ℕ = c.loop-moved.firings in
+    let within = still_in xs c.args.amount c.loop-moved.moved i v.within v.is c.loop-moved-test.true c.requires.within in
+    record {
+      is = omega (arith, v.is, c.from-moved.ensures, one_more xs i within);
+      within = omega (arith, within);
+      below = below_more c.sums_rise.ensures.all xs c.args.amount c.loop-moved.moved i v.is c.loop-moved-test.true;
+    }
 
 pub returns-clause-least : goal.returns-clause-least
 returns-clause-least c =
