@@ -211,7 +211,14 @@ module _ (n : Netlist Kit ℤ) (p : Schedule) (t : Stream) (ready : IsReady n p 
     -- and the run can go on
     pub ready_on : (o : Owed) (frames : ℕ) (r : Result (Unit {0}) Fault) →
         IfOk r (λ x. o ≡ record t.output { missing = t.output.missing - frames }) →
-        IfOk r (λ x. IsReady n p (record { session = w; output = o; exchange = t.exchange; blocking = t.blocking }))
+        IfOk r (λ x. IsReady n p (record {
+          session = w;
+          output = o;
+          exchange = t.exchange;
+          blocking = t.blocking;
+          rate = t.rate;
+          channels = t.channels;
+        }))
     ready_on o frames (Err f) owed = tt
     ready_on o frames (Ok x) owed = record {
       live = (fed.rest, ap (λ (z : SessionValue Kit (List ℤ) ℤ). z.rest) fed.now);
@@ -221,6 +228,9 @@ module _ (n : Netlist Kit ℤ) (p : Schedule) (t : Stream) (ready : IsReady n p 
       has = ready.has;
       some = ready.some;
       fits = ready.fits;
+      some_rate = ready.some_rate;
+      one_channel = ready.one_channel;
+      few_channels = ready.few_channels;
       exchange = ready.exchange;
       limits = ready.limits;
       unspent = ap (λ (z : Owed). z.spent) owed ∙ ready.unspent;
@@ -237,7 +247,8 @@ module _ (n : Netlist Kit ℤ) (p : Schedule) (t : Stream) (ready : IsReady n p 
 
 -- a plan's table can be run as its runner does, so memory alone may be refused
 pub opened_refused : (t : Tabled) (runner : Runner) (patience rooms : ℕ) → SuitsRunner runner t →
-    HasPatience runner patience → (e : RunFault) → IsModeFault t (mode_of runner patience rooms) e → of_run e ≡ OutOfMemory
+    HasPatience runner patience → (e : RunFault) → IsModeFault t (mode_of runner patience rooms) e →
+    of_run e ≡ OutOfMemory
 opened_refused t runners.One patience rooms homes few run.OutOfMemory why = refl
 opened_refused t runners.One patience rooms homes few run.InputLength why = absurd why
 opened_refused t runners.One patience rooms homes few run.NotHomed why = absurd why

@@ -27,6 +27,7 @@ use Rattle.sdf_wav.specs.Device.{Known, LosesFront}
 use Rattle.sdf_wav.specs.PiecesIn.{Reading, IsReading, IsReadTo, IsWithin, known_frames, sound_read}
 use Rattle.sdf_wav.specs.PiecesOut.{Owed}
 use Rattle.sdf_wav.specs.Sound.{Sound}
+use Rattle.sdf_wav.specs.declared.wav.TheConstants.{MOST_CHANNELS}
 use Rattle.sdf_process.specs.declared.exchange.Announced.{Announced}
 use Rattle.sdf_process.specs.declared.exchange.Exchange.{Exchange}
 use Rattle.sdf_process.specs.declared.exchange.Extent.{Extent}
@@ -205,10 +206,11 @@ module _ (n : Netlist Kit ℤ) (plan : PlanValue) (t : Tabled) (is : plan.table 
       }
 
   -- a run that is begun can go on
-  pub ready_first : (k : ℕ) → k ≡ plan.blocking → (v : SessionValue Kit (List ℤ) ℤ) (s : Sound) →
-      StandsAt n plan.period plan.blocking s 0 0 [] v →
-      IsReady n plan.period (record { session = v; output = o; exchange = x; blocking = k })
-  ready_first k blocking v s at = record {
+  pub ready_first : (k : ℕ) → k ≡ plan.blocking → (m e : ℕ) → 1 ≤ m → 1 ≤ e → e ≤ MOST_CHANNELS →
+      (v : SessionValue Kit (List ℤ) ℤ) (s : Sound) → StandsAt n plan.period plan.blocking s 0 0 [] v →
+      IsReady n plan.period
+      (record { session = v; output = o; exchange = x; blocking = k; rate = m; channels = e })
+  ready_first k blocking m e some_rate one few v s at = record {
     live = (at.stands.rest, at.stands.held);
     net = at.net;
     period = at.period;
@@ -216,6 +218,9 @@ module _ (n : Netlist Kit ℤ) (plan : PlanValue) (t : Tabled) (is : plan.table 
     has = has plan.period suits.period;
     some = omega (arith, factors.0, blocking);
     fits = omega (arith, factors.1, blocking);
+    some_rate = some_rate;
+    one_channel = one;
+    few_channels = few;
     exchange = there;
     limits = limits;
     unspent = ap (λ (y : Owed). y.spent) owed.2;

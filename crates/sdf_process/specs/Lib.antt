@@ -9,5 +9,6 @@ pub mod Plans
 pub mod Followed
 pub mod Schedules
 pub mod Statuses
+pub mod Tasks
 pub mod Laws
 pub mod Weights

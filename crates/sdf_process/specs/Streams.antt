@@ -15,6 +15,7 @@ use Rattle.sdf_wav.specs.Device.{AppendsFront, Known, LosesFront, one_more}
 use Rattle.sdf_wav.specs.PiecesIn.{Reading, IsReadTo, sound_read}
 use Rattle.sdf_wav.specs.PiecesOut.{Owed}
 use Rattle.sdf_wav.specs.Sound.{Sound, frames_of}
+use Rattle.sdf_wav.specs.declared.wav.TheConstants.{MOST_CHANNELS}
 use Rattle.sdf_options.specs.declared.options.Runner.{Runner}
 use Rattle.sdf_options.specs.declared.options.Runner.TheVariants as runners
 use Rattle.sdf_process.specs.declared.exchange.Exchange.{Exchange}
@@ -69,6 +70,9 @@ pub record IsReady (n : Netlist Kit ℤ) (p : Schedule) (t : Stream) : Type 0 wh
   pub has : HasPeriod kit_steps n p
   pub some : 0 < t.blocking
   pub fits : t.blocking ≤ 4294967295
+  pub some_rate : 1 ≤ t.rate
+  pub one_channel : 1 ≤ t.channels
+  pub few_channels : t.channels ≤ MOST_CHANNELS
   pub exchange : t.exchange ≡ exchange_of n p.repetitions
   pub limits : IsExchange t.exchange
   pub unspent : t.output.spent ≡ false

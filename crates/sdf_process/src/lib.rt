@@ -23,6 +23,7 @@ mod running;
 mod samples;
 pub mod schedule;
 mod streaming;
+mod task;
 mod weights;
 
 pub use fault::{Fault, Progress, Stalled, fault_text, status};

@@ -6,6 +6,7 @@ ghost use Rattle.sdf_process.specs.Run.{IsRun};
 use crate::fault::Fault;
 use crate::plan::Plan;
 use crate::running::run_net;
+use crate::task::Task;
 use sdf_file::Design;
 use sdf_run::{Gate, NoGate};
 use sdf_wav::{Reader, Writer};
@@ -33,7 +34,11 @@ pub fn process_with<T: Threads + AllocGlobal + Sync, R: Reader, W: Writer, G: Ga
         (W.contents writer.old) (W.contents writer.new)
         (R.failures reader.old) (R.failures reader.new) (W.failures writer.old) (W.failures writer.new) result }
 {
-    run_net(rt, reader, writer, design.net(), plan, gate)
+    let task = Task {
+        net: design.net(),
+        plan,
+    };
+    run_net(rt, reader, writer, task, gate)
 }
 
 /// The same with no gate: what the program does.

@@ -1,25 +1,28 @@
 //! A run from its input's first byte to its output's last.
 
-ghost use Rattle.std.specs.Prelude.{◌≡◌, ◌≤◌, Some, None};
-ghost use Rattle.sdf_actor.specs.declared.sides.Lists.TheVariants.{Inputs, Outputs};
-ghost use Rattle.sdf_actor.specs.Sides.{list_count};
-ghost use Rattle.sdf_wav.specs.PiecesIn.{known_frames, IsReading};
-ghost use Rattle.sdf_process.specs.Plans.{Suits};
+ghost use Rattle.std.specs.Prelude.{◌≡◌, None};
+ghost use Rattle.sdf_wav.specs.PiecesIn.{known_frames};
 ghost use Rattle.sdf_process.specs.Run.{IsRun};
 ghost use Rattle.sdf_process.specs.Stages.{RunsOn};
+ghost use Rattle.sdf_process.specs.Tasks.{IsUnheard, IsTask};
 
 use crate::exchange::{Announced, Exchange};
 use crate::fault::Fault;
 use crate::finishing::{Heard, finish};
 use crate::hearing::{begin, read_content, wav_laws};
-use crate::plan::Plan;
-use crate::playing::put_pieces;
-use crate::streaming::run_stream;
-use sdf_actor::Net;
-use sdf_kit::Kit;
+use crate::playing::{Player, put_pieces};
+use crate::streaming::{Hearing, run_stream};
+use crate::task::{SharedTask, Task};
 use sdf_run::Gate;
-use sdf_wav::{ContentIn, MOST_CHANNELS, Reader, Writer};
+use sdf_wav::{ContentIn, Reader, Writer};
 use std::thread::Threads;
+
+/// A content of so many frames that is still to be read: its size is filled in.
+#[derive(Drop)]
+struct Unheard {
+    content: ContentIn,
+    frames: usize,
+}
 
 /// Runs a net on a content whose size is filled in: the output is tested, and its header written, before the content is
 /// read.
@@ -27,23 +30,18 @@ fn run_ahead<T: Threads + AllocGlobal + Sync, R: Reader, W: Writer, G: Gate>(
     rt: &T,
     reader: &mut R,
     writer: &mut W,
-    net: &Net<Kit>,
-    plan: &Plan,
+    task: Task<'_>,
     gate: &G,
-    content: ContentIn,
-    frames: usize,
+    unheard: Unheard,
 ) -> Result<(), Fault>
-    requires plan { Suits net.now plan.now }
-    requires inputs { list_count Inputs net.now.nodes ≤ MOST_CHANNELS }
-    requires outputs { list_count Outputs net.now.nodes ≤ MOST_CHANNELS }
-    requires sound { IsReading content }
-    requires unread { content.gone ≡ 0 }
-    requires unspoilt { content.fault ≡ None }
-    requires known { known_frames content ≡ Some frames }
-    ensures { RunsOn net.now plan.now.period.repetitions content (R.remaining reader.old) (R.remaining reader.new)
-        (W.contents writer.old) (W.contents writer.new)
+    requires task { IsTask task }
+    requires content { IsUnheard unheard.content unheard.frames }
+    ensures { RunsOn task.entry.net.now task.entry.plan.now.period.repetitions unheard.content
+        (R.remaining reader.old) (R.remaining reader.new) (W.contents writer.old) (W.contents writer.new)
         (R.failures reader.old) (R.failures reader.new) (W.failures writer.old) (W.failures writer.new) result }
 {
+    let Task { net, plan } = task;
+    let Unheard { content, frames } = unheard;
     wav_laws();
     let period = plan.period();
     let exchange = Exchange::of_net(net);
@@ -56,20 +54,20 @@ fn run_ahead<T: Threads + AllocGlobal + Sync, R: Reader, W: Writer, G: Gate>(
     let mut output = begin(writer, exchange, extent)?;
     let Some(table) = plan.table() else {
         let input = read_content(rt.alloc(), reader, content)?;
-        let periods = extent.periods;
-        return put_pieces(
-            rt.alloc(),
-            writer,
+        let player = Player {
             net,
             period,
-            &input,
-            &mut output,
-            periods,
-        );
+            input: &input,
+        };
+        return put_pieces(rt.alloc(), writer, player, &mut output, extent.periods);
     };
-    run_stream(
-        rt, reader, writer, net, plan, table, gate, content, output, frames,
-    )
+    let shared = SharedTask { task, table };
+    let hearing = Hearing {
+        content,
+        frames,
+        output,
+    };
+    run_stream(rt, reader, writer, shared, gate, hearing)
 }
 
 /// Runs a net on a content whose size was never filled in: it is read whole before the output is tested and begun.
@@ -77,23 +75,20 @@ fn run_behind<T: Threads + AllocGlobal + Sync, R: Reader, W: Writer, G: Gate>(
     rt: &T,
     reader: &mut R,
     writer: &mut W,
-    net: &Net<Kit>,
-    plan: &Plan,
+    task: Task<'_>,
     gate: &G,
     content: ContentIn,
 ) -> Result<(), Fault>
-    requires plan { Suits net.now plan.now }
-    requires inputs { list_count Inputs net.now.nodes ≤ MOST_CHANNELS }
-    requires outputs { list_count Outputs net.now.nodes ≤ MOST_CHANNELS }
+    requires task { IsTask task }
     requires unread { content.gone ≡ 0 }
     requires unspoilt { content.fault ≡ None }
     requires unknown { known_frames content ≡ None }
-    ensures { RunsOn net.now plan.now.period.repetitions content (R.remaining reader.old) (R.remaining reader.new)
-        (W.contents writer.old) (W.contents writer.new)
+    ensures { RunsOn task.entry.net.now task.entry.plan.now.period.repetitions content
+        (R.remaining reader.old) (R.remaining reader.new) (W.contents writer.old) (W.contents writer.new)
         (R.failures reader.old) (R.failures reader.new) (W.failures writer.old) (W.failures writer.new) result }
 {
     wav_laws();
-    let exchange = Exchange::of_net(net);
+    let exchange = Exchange::of_net(task.net);
     let input = read_content(rt.alloc(), reader, content)?;
     let extent = exchange.extent(Announced::by(&input))?;
     let output = begin(writer, exchange, extent)?;
@@ -102,7 +97,7 @@ fn run_behind<T: Threads + AllocGlobal + Sync, R: Reader, W: Writer, G: Gate>(
         extent,
         output,
     };
-    finish(rt, writer, net, plan, gate, heard)
+    finish(rt, writer, task, gate, heard)
 }
 
 /// Runs a net on a WAV file, and writes the WAV file of its output.
@@ -110,21 +105,22 @@ pub(crate) fn run_net<T: Threads + AllocGlobal + Sync, R: Reader, W: Writer, G: 
     rt: &T,
     reader: &mut R,
     writer: &mut W,
-    net: &Net<Kit>,
-    plan: &Plan,
+    task: Task<'_>,
     gate: &G,
 ) -> Result<(), Fault>
-    requires plan { Suits net.now plan.now }
-    requires inputs { list_count Inputs net.now.nodes ≤ MOST_CHANNELS }
-    requires outputs { list_count Outputs net.now.nodes ≤ MOST_CHANNELS }
-    ensures { IsRun net.now plan.now.period.repetitions (R.remaining reader.old) (R.remaining reader.new)
+    requires { IsTask task }
+    ensures { IsRun task.entry.net.now task.entry.plan.now.period.repetitions (R.remaining reader.old)
+        (R.remaining reader.new)
         (W.contents writer.old) (W.contents writer.new)
         (R.failures reader.old) (R.failures reader.new) (W.failures writer.old) (W.failures writer.new) result }
 {
     wav_laws();
     let content = ContentIn::open(reader)?;
     match content.frames() {
-        Some(frames) => run_ahead(rt, reader, writer, net, plan, gate, content, frames),
-        None => run_behind(rt, reader, writer, net, plan, gate, content),
+        Some(frames) => {
+            let unheard = Unheard { content, frames };
+            run_ahead(rt, reader, writer, task, gate, unheard)
+        }
+        None => run_behind(rt, reader, writer, task, gate, content),
     }
 }

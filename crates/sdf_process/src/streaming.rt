@@ -3,12 +3,10 @@
 
 ghost use Rattle.std.specs.Prelude.{◌≡◌, ◌≢◌, ◌+◌, ◌-◌, ◌*◌, ◌%◌, ◌≤◌, ◌<◌, ℕ, ℤ, List, [], length, drop, Option, Some};
 ghost use Rattle.std.specs.Prelude.{None, Ok, Err, MatchResult, IfOk, false};
-ghost use Rattle.sdf_actor.specs.declared.sides.Lists.TheVariants.{Inputs, Outputs};
 ghost use Rattle.sdf_actor.specs.Nets.{Netlist};
-ghost use Rattle.sdf_actor.specs.Sides.{list_count};
 ghost use Rattle.sdf_kit.specs.declared.kit.Kit.{Kit as KitValue};
 ghost use Rattle.sdf_sched.specs.Period.{Schedule};
-ghost use Rattle.sdf_wav.specs.PiecesIn.{Reading, known_frames, sound_read, IsReading};
+ghost use Rattle.sdf_wav.specs.PiecesIn.{Reading, sound_read};
 ghost use Rattle.sdf_wav.specs.Sound.{Sound};
 ghost use Rattle.sdf_process.specs.declared.exchange.Extent.{Extent};
 ghost use Rattle.sdf_process.specs.declared.fault.Fault.TheVariants.{OutOfMemory};
@@ -17,11 +15,13 @@ ghost use Rattle.sdf_process.specs.Followed.{HasBlockTable};
 ghost use Rattle.sdf_process.specs.Plans.{Suits};
 ghost use Rattle.sdf_process.specs.Streams.{AreBehind, IsReady, PutsBlocks, PutsWhole, mode_of, ReadsBy, ReadsMore};
 ghost use Rattle.sdf_process.specs.Streams.{StandsAt, StandsWhole, Streams};
+ghost use Rattle.sdf_process.specs.Tasks.{IsUnheard, IsSharedTask};
 
 use crate::exchange::Exchange;
 use crate::fault::Fault;
 use crate::plan::Plan;
 use crate::putting::put_frames;
+use crate::task::{SharedTask, Task};
 use sdf_actor::Net;
 use sdf_actor::laws::nets_are_wired;
 use sdf_answer::BlockTable;
@@ -30,7 +30,7 @@ use sdf_options::Runner;
 use sdf_run::laws::{nets_can_run, nets_have_periods, runs_go_on};
 use sdf_run::{Gate, Mode, Session};
 use sdf_wav::laws::{pieces_join, puts_join};
-use sdf_wav::{ContentIn, ContentOut, MOST_CHANNELS, Reader, Wav, Writer};
+use sdf_wav::{ContentIn, ContentOut, Reader, Wav, Writer};
 use std::alloc::{AllocError, Global};
 use std::thread::Threads;
 
@@ -111,6 +111,22 @@ fn behind(alloc: Global, samples: &[i16], from: usize) -> Result<Vec<i16>, Alloc
     Ok(rest)
 }
 
+/// A content of so many frames that is to be read in pieces, and its output as far as it is begun.
+#[derive(Drop)]
+pub(crate) struct Hearing {
+    pub(crate) content: ContentIn,
+    pub(crate) frames: usize,
+    pub(crate) output: ContentOut,
+}
+
+/// So many blocks of a sound, with zeros past its end, and how many frames of what they make are written.
+#[derive(Clone, Copy)]
+struct Portion<'a> {
+    input: &'a Wav,
+    many: u32,
+    frames: usize,
+}
+
 /// A run that goes on block by block.
 #[derive(Drop)]
 struct Stream<'a> {
@@ -119,43 +135,54 @@ struct Stream<'a> {
     exchange: Exchange,
     /// Periods in a block.
     blocking: u32,
+    /// Frames a second of the sound.
+    rate: u32,
+    /// Samples in a frame of it.
+    channels: u16,
 }
 
 impl<'a> Stream<'a> {
-    /// Feeds some blocks of a sound, with zeros past its end, and writes the first frames that they make.
+    /// Feeds a portion of a sound, and writes the first frames that it makes.
     fn put<T: Threads + AllocGlobal + Sync, W: Writer, G: Gate>(
         &mut self,
         rt: &T,
         writer: &mut W,
         gate: &G,
-        input: &Wav,
-        blocks: u32,
-        frames: usize,
+        portion: Portion<'_>,
     ) -> Result<(), Fault>
         requires ready { (n : Netlist KitValue ℤ) × (p : Schedule) × IsReady n p self.old }
-        requires periods { blocks * self.old.blocking ≤ 4294967295 }
-        requires missing { frames ≤ self.old.output.missing }
+        requires periods { portion.many * self.old.blocking ≤ 4294967295 }
+        requires missing { portion.frames ≤ self.old.output.missing }
         ensures puts { (n : Netlist KitValue ℤ) (p : Schedule) (s : Sound) (few : ℕ) (bytes : List ℕ) →
             IsReady n p self.old →
             StandsWhole n p self.old.blocking s few bytes self.old.session →
-            lists_from (few * self.old.blocking) (blocks * self.old.blocking) (exchange_of n p.repetitions) s ≡
-            lists_from 0 (blocks * self.old.blocking) (exchange_of n p.repetitions) input.now →
-            PutsBlocks n p self.old.blocking s few blocks frames bytes (W.contents writer.old) (W.contents writer.new)
-            (W.failures writer.old) (W.failures writer.new) self.new.session result }
+            lists_from (few * self.old.blocking) (portion.entry.many * self.old.blocking)
+            (exchange_of n p.repetitions) s ≡
+            lists_from 0 (portion.entry.many * self.old.blocking) (exchange_of n p.repetitions)
+            portion.entry.input.now →
+            PutsBlocks n p self.old.blocking s few portion.entry.many portion.entry.frames bytes
+            (W.contents writer.old)
+            (W.contents writer.new) (W.failures writer.old) (W.failures writer.new) self.new.session result }
         ensures ready { (n : Netlist KitValue ℤ) (p : Schedule) → IsReady n p self.old →
             IfOk result (λ x. IsReady n p self.new) }
         ensures owed { IfOk result (λ x. (self.new.output ≡
-            record self.old.output { missing = self.old.output.missing - frames })
-            × (self.new.blocking ≡ self.old.blocking)) }
+            record self.old.output { missing = self.old.output.missing - portion.entry.frames })
+            × (self.new.blocking ≡ self.old.blocking) × (self.new.channels ≡ self.old.channels)) }
     {
         puts_join();
         nets_can_run::<Kit>();
         nets_are_wired::<Kit>();
         let alloc = rt.alloc();
-        let periods = blocks * self.blocking;
-        let inputs = self.exchange.inputs_from(alloc, input, 0, periods)?;
+        let periods = portion.many * self.blocking;
+        let inputs = self.exchange.inputs_from(alloc, portion.input, 0, periods)?;
         let ran = self.session.feed(rt, &inputs, gate)?;
-        put_frames(alloc, writer, &mut self.output, &ran.outputs, frames)
+        put_frames(
+            alloc,
+            writer,
+            &mut self.output,
+            &ran.outputs,
+            portion.frames,
+        )
     }
 
     /// Feeds the whole blocks of the samples that are kept, writes what they make, and keeps the others.
@@ -164,20 +191,16 @@ impl<'a> Stream<'a> {
         rt: &T,
         writer: &mut W,
         gate: &G,
-        rate: u32,
-        channels: u16,
         kept: Vec<i16>,
     ) -> Result<Vec<i16>, Fault>
         requires ready { (n : Netlist KitValue ℤ) × (p : Schedule) × IsReady n p self.old }
-        requires rate { 1 ≤ rate }
-        requires one_channel { 1 ≤ channels }
-        requires few_channels { channels ≤ MOST_CHANNELS }
-        requires whole { length kept.items % channels ≡ 0 }
+        requires whole { length kept.items % self.old.channels ≡ 0 }
         requires few { length kept.items ≤ 4294967295 }
-        requires missing { (periods : ℕ) → periods * self.old.exchange.taken * channels ≤ length kept.items →
+        requires missing { (periods : ℕ) →
+            periods * self.old.exchange.taken * self.old.channels ≤ length kept.items →
             periods * self.old.exchange.made ≤ self.old.output.missing }
         ensures puts { (n : Netlist KitValue ℤ) (p : Schedule) (c : Reading) (samples : List ℤ) (few : ℕ)
-            (bytes : List ℕ) → IsReady n p self.old → c.channels ≡ channels →
+            (bytes : List ℕ) → IsReady n p self.old → c.channels ≡ self.old.channels →
             StandsWhole n p self.old.blocking (sound_read c samples) few bytes self.old.session →
             AreBehind (exchange_of n p.repetitions) c samples (few * self.old.blocking) kept.items →
             MatchResult result
@@ -188,17 +211,23 @@ impl<'a> Stream<'a> {
             (W.failures writer.old) (W.failures writer.new) self.old.output self.new.output
             self.new.session (Err f)) }
         ensures ready { (n : Netlist KitValue ℤ) (p : Schedule) → IsReady n p self.old →
-            IfOk result (λ x. IsReady n p self.new × (self.new.blocking ≡ self.old.blocking)) }
+            IfOk result (λ x. IsReady n p self.new × (self.new.blocking ≡ self.old.blocking)
+            × (self.new.channels ≡ self.old.channels)) }
     {
-        let block = self.blocking as usize * self.exchange.taken * usize::from(channels);
+        let block = self.blocking as usize * self.exchange.taken * usize::from(self.channels);
         let blocks = kept.len() / block;
         if blocks == 0 {
             return Ok(kept);
         }
-        let input = Wav::new(rate, channels, kept)?;
+        let input = Wav::new(self.rate, self.channels, kept)?;
         let rest = behind(rt.alloc(), input.samples(), blocks * block)?;
         let frames = blocks * self.blocking as usize * self.exchange.made;
-        self.put(rt, writer, gate, &input, blocks as u32, frames)?;
+        let portion = Portion {
+            input: &input,
+            many: blocks as u32,
+            frames,
+        };
+        self.put(rt, writer, gate, portion)?;
         Ok(rest)
     }
 
@@ -208,19 +237,14 @@ impl<'a> Stream<'a> {
         rt: &T,
         writer: &mut W,
         gate: &G,
-        rate: u32,
-        channels: u16,
         kept: Vec<i16>,
     ) -> Result<(), Fault>
         requires ready { (n : Netlist KitValue ℤ) × (p : Schedule) × IsReady n p self.old }
-        requires rate { 1 ≤ rate }
-        requires one_channel { 1 ≤ channels }
-        requires few_channels { channels ≤ MOST_CHANNELS }
-        requires whole { length kept.items % channels ≡ 0 }
+        requires whole { length kept.items % self.old.channels ≡ 0 }
         ensures none { self.old.output.missing ≡ 0 → (result ≡ Ok tt) × (writer.new ≡ writer.old) }
         ensures puts { 0 < self.old.output.missing →
             (n : Netlist KitValue ℤ) (p : Schedule) (c : Reading) (samples : List ℤ) (few : ℕ) (bytes : List ℕ) →
-            IsReady n p self.old → c.channels ≡ channels →
+            IsReady n p self.old → c.channels ≡ self.old.channels →
             StandsWhole n p self.old.blocking (sound_read c samples) few bytes self.old.session →
             AreBehind (exchange_of n p.repetitions) c samples (few * self.old.blocking) kept.items →
             PutsBlocks n p self.old.blocking (sound_read c samples) few 1 self.old.output.missing bytes
@@ -231,8 +255,13 @@ impl<'a> Stream<'a> {
         if frames == 0 {
             return Ok(());
         }
-        let input = Wav::new(rate, channels, kept)?;
-        self.put(rt, writer, gate, &input, 1, frames)
+        let input = Wav::new(self.rate, self.channels, kept)?;
+        let portion = Portion {
+            input: &input,
+            many: 1,
+            frames,
+        };
+        self.put(rt, writer, gate, portion)
     }
 }
 
@@ -242,30 +271,28 @@ pub(crate) fn run_stream<T: Threads + AllocGlobal + Sync, R: Reader, W: Writer, 
     rt: &T,
     reader: &mut R,
     writer: &mut W,
-    net: &Net<Kit>,
-    plan: &Plan,
-    table: &BlockTable,
+    shared: SharedTask<'_>,
     gate: &G,
-    mut content: ContentIn,
-    output: ContentOut,
-    frames: usize,
+    hearing: Hearing,
 ) -> Result<(), Fault>
-    requires plan { Suits net.now plan.now }
-    requires table { HasBlockTable plan.now table.now }
-    requires inputs { list_count Inputs net.now.nodes ≤ MOST_CHANNELS }
-    requires outputs { list_count Outputs net.now.nodes ≤ MOST_CHANNELS }
-    requires sound { IsReading content }
-    requires unread { content.gone ≡ 0 }
-    requires unspoilt { content.fault ≡ None }
-    requires known { known_frames content ≡ Some frames }
-    requires owed { let x = exchange_of net.now plan.now.period.repetitions in
-        (e : Extent) × IsExtent x (record { rate = content.rate; channels = content.channels; frames = frames }) e
-        × (output ≡ record { channels = x.outputs; missing = e.periods * x.made; spent = false }) }
-    ensures { Streams net.now plan.now.period.repetitions content (R.remaining reader.old) (R.remaining reader.new)
-        (W.contents writer.old) (W.contents writer.new)
+    requires shared { IsSharedTask shared }
+    requires content { IsUnheard hearing.content hearing.frames }
+    requires owed { let x = exchange_of shared.task.net.now shared.task.plan.now.period.repetitions in
+        let c = hearing.content in
+        (e : Extent) × IsExtent x (record { rate = c.rate; channels = c.channels; frames = hearing.frames }) e
+        × (hearing.output ≡ record { channels = x.outputs; missing = e.periods * x.made; spent = false }) }
+    ensures { Streams shared.entry.task.net.now shared.entry.task.plan.now.period.repetitions hearing.content
+        (R.remaining reader.old) (R.remaining reader.new) (W.contents writer.old) (W.contents writer.new)
         (R.failures reader.old) (R.failures reader.new) (W.failures writer.old) (W.failures writer.new) result }
 {
     let alloc = rt.alloc();
+    let SharedTask { task, table } = shared;
+    let Task { net, plan } = task;
+    let Hearing {
+        mut content,
+        frames,
+        output,
+    } = hearing;
     runs_go_on::<Kit>();
     nets_have_periods(net);
     let exchange = Exchange::of_net(net);
@@ -275,6 +302,8 @@ pub(crate) fn run_stream<T: Threads + AllocGlobal + Sync, R: Reader, W: Writer, 
         output,
         exchange,
         blocking: plan.blocking(),
+        rate,
+        channels,
     };
     let most = frames_at_a_time(plan);
     let mut kept = Vec::new(alloc);
@@ -282,8 +311,8 @@ pub(crate) fn run_stream<T: Threads + AllocGlobal + Sync, R: Reader, W: Writer, 
     while unread > 0 {
         let many = most.min(unread);
         let samples = read_more(alloc, reader, &mut content, many, kept)?;
-        kept = stream.put_whole(rt, writer, gate, rate, channels, samples)?;
+        kept = stream.put_whole(rt, writer, gate, samples)?;
         unread -= many;
     }
-    stream.put_rest(rt, writer, gate, rate, channels, kept)
+    stream.put_rest(rt, writer, gate, kept)
 }

@@ -13,44 +13,50 @@ use Rattle.sdf_process.proofs.finishing.lists_of.Goals as goal
 
 pub run_blocks-requires-clause-fits : goal.run_blocks-requires-clause-fits
 run_blocks-requires-clause-fits g c κs within =
-    fits_net c.args.net.now c.args.plan.now c.args.table.now c.requires.plan c.requires.table
+    fits_net c.args.shared.task.net.now c.args.shared.task.plan.now c.args.shared.table.now c.requires.shared.task.suits
+    c.requires.shared.table
 
 pub run_blocks-requires-clause-homes : goal.run_blocks-requires-clause-homes
 run_blocks-requires-clause-homes g c κs within =
-    subst (λ (o : Option Tabled). IfSome o (SuitsRunner c.args.plan.now.runner)) c.requires.table.table
-    c.requires.plan.homes
+    subst (λ (o : Option Tabled). IfSome o (SuitsRunner c.args.shared.task.plan.now.runner))
+    c.requires.shared.table.table
+    c.requires.shared.task.suits.homes
 
 pub returns-in_err-ran : goal.returns-in_err-ran
 returns-in_err-ran g c =
     let same = c.blocking-2.ensures in
-    let q = c.args.plan.now.period.repetitions in
-    run_refused c.args.net.now q c.args.input c.of_net-exchange.result
-    (c.of_net-exchange.ensures.value q c.requires.plan.period.least)
-    (c.blocks_for-blocks.result * c.args.plan.now.blocking) (lists c.deref.result.now)
+    let q = c.args.shared.task.plan.now.period.repetitions in
+    run_refused c.args.shared.task.net.now q c.args.input c.of_net-exchange.result
+    (c.of_net-exchange.ensures.value q c.requires.shared.task.suits.period.least)
+    (c.blocks_for-blocks.result * c.args.shared.task.plan.now.blocking) (lists c.deref.result.now)
     (ap lists c.deref.ensures.value ∙ (c.in_ok-inputs.ensures
     ∙ ap (λ j. lists_to (c.blocks_for-blocks.result * j) c.of_net-exchange.result c.args.input) same))
     c.in_err-ran.field-0.0 c.from_residual-in_err-ran.result _
-    (subst (λ (j : ℕ). IsRunFault c.args.net.now q (c.blocks_for-blocks.result * j) (lists c.deref.result.now)
-    c.in_err-ran.field-0.0) c.requires.table.factor
-    (subst (λ (s : Schedule). IsRunFault c.args.net.now s.repetitions
-    (c.blocks_for-blocks.result * c.args.table.now.factor) (lists c.deref.result.now) c.in_err-ran.field-0.0)
-    c.requires.table.period c.in_err-ran.ensures))
+    (subst (λ (j : ℕ). IsRunFault c.args.shared.task.net.now q (c.blocks_for-blocks.result * j)
+    (lists c.deref.result.now)
+    c.in_err-ran.field-0.0) c.requires.shared.table.factor
+    (subst (λ (s : Schedule). IsRunFault c.args.shared.task.net.now s.repetitions
+    (c.blocks_for-blocks.result * c.args.shared.table.now.factor) (lists c.deref.result.now) c.in_err-ran.field-0.0)
+    c.requires.shared.table.period c.in_err-ran.ensures))
     c.from_residual-in_err-ran.ensures.1
 
 pub returns : goal.returns
 returns g c =
     let same = c.blocking-2.ensures in
     let first = c.blocking.ensures in
-    let p = c.args.plan.now.period in
-    run_begins c.runs_go_on.ensures c.args.net.now p (c.nets_have_periods.ensures p c.requires.plan.period)
-    c.args.input c.of_net-exchange.result (c.of_net-exchange.ensures.value p.repetitions c.requires.plan.period.least)
-    c.args.periods (c.blocks_for-blocks.result * c.args.plan.now.blocking) c.requires.periods
+    let p = c.args.shared.task.plan.now.period in
+    run_begins c.runs_go_on.ensures c.args.shared.task.net.now p
+    (c.nets_have_periods.ensures p c.requires.shared.task.suits.period)
+    c.args.input c.of_net-exchange.result (c.of_net-exchange.ensures.value p.repetitions
+    c.requires.shared.task.suits.period.least)
+    c.args.periods (c.blocks_for-blocks.result * c.args.shared.task.plan.now.blocking) c.requires.periods
     (subst (λ j. c.args.periods ≤ c.blocks_for-blocks.result * j) first c.blocks_for-blocks.ensures.enough)
     (lists c.deref.result.now) (lists c.in_ok-ran.ran.outputs.items)
     (ap lists c.deref.ensures.value ∙ (c.in_ok-inputs.ensures
     ∙ ap (λ j. lists_to (c.blocks_for-blocks.result * j) c.of_net-exchange.result c.args.input) same))
-    (subst (λ (j : ℕ). AreOutputs kit_steps c.args.net.now (lists c.deref.result.now)
+    (subst (λ (j : ℕ). AreOutputs kit_steps c.args.shared.task.net.now (lists c.deref.result.now)
     (firings p.repetitions (c.blocks_for-blocks.result * j)) (lists c.in_ok-ran.ran.outputs.items))
-    c.requires.table.factor (subst (λ (s : Schedule). AreOutputs kit_steps c.args.net.now (lists c.deref.result.now)
-    (firings s.repetitions (c.blocks_for-blocks.result * c.args.table.now.factor))
-    (lists c.in_ok-ran.ran.outputs.items)) c.requires.table.period c.in_ok-ran.ensures.1))
+    c.requires.shared.table.factor (subst (λ (s : Schedule). AreOutputs kit_steps c.args.shared.task.net.now
+    (lists c.deref.result.now)
+    (firings s.repetitions (c.blocks_for-blocks.result * c.args.shared.table.now.factor))
+    (lists c.in_ok-ran.ran.outputs.items)) c.requires.shared.table.period c.in_ok-ran.ensures.1))

@@ -7,12 +7,13 @@ use Rattle.sdf_process.proofs.playing.put_pieces.Given as goal
 abbrev pub invariant-loop-at : goal.invariant-loop-at
 invariant-loop-at g l = record {
   within : l.at ≤ l.periods;
-  plays : (frames : List ℕ) × PlaysTo l.net l.period.repetitions l.input l.at frames l.rest
+  plays : (frames : List ℕ) × PlaysTo l.player.net.now l.player.period.now.repetitions l.player.input.now
+      l.at frames l.rest
       × Appends (g.W.Writer.contents l.initial.writer) (g.W.Writer.contents l.writer) frames;
   counted : g.W.Writer.failures l.writer ≡ g.W.Writer.failures l.initial.writer;
   owed : l.output ≡ record l.initial.output {
     missing = l.initial.output.missing
-        - l.at * (exchange_of l.net l.period.repetitions).made;
+        - l.at * (exchange_of l.player.net.now l.player.period.now.repetitions).made;
   };
 }
 

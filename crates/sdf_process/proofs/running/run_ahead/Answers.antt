@@ -15,40 +15,47 @@ use Rattle.sdf_process.proofs.running.run_ahead.Goals as goal
 
 pub returns-in_err-extent : goal.returns-in_err-extent
 returns-in_err-extent g c =
-    let n = c.args.net.now in
-    let q = c.args.plan.now.period.repetitions in
-    let same = c.of_net-exchange.ensures.value q c.requires.plan.period.least in
-    let told = announced_same c.rate.result c.channels.result c.args.frames c.args.content.rate c.args.content.channels
-    c.args.frames c.rate.ensures.value c.channels.ensures.value refl in
-    run_fails (λ (x : Result (Unit {0}) Fault). RunsOn n q c.args.content (g.R.Reader.remaining c.args.reader.now)
+    let n = c.args.task.net.now in
+    let q = c.args.task.plan.now.period.repetitions in
+    let same = c.of_net-exchange.ensures.value q c.requires.task.suits.period.least in
+    let told = announced_same c.rate.result c.channels.result c.args.unheard.frames c.args.unheard.content.rate
+    c.args.unheard.content.channels
+    c.args.unheard.frames c.rate.ensures.value c.channels.ensures.value refl in
+    run_fails (λ (x : Result (Unit {0}) Fault). RunsOn n q c.args.unheard.content
+    (g.R.Reader.remaining c.args.reader.now)
     (g.R.Reader.remaining c.args.reader.now) (g.W.Writer.contents c.args.writer.now)
     (g.W.Writer.contents c.args.writer.now)
     (g.R.Reader.failures c.args.reader.now) (g.R.Reader.failures c.args.reader.now)
     (g.W.Writer.failures c.args.writer.now) (g.W.Writer.failures c.args.writer.now) x)
     c.in_err-extent.field-0.0 c.from_residual.result c.from_residual.ensures.1
     (λ read opened. refused_ahead c.wav_laws.ensures n q c.of_net-exchange.result same c.of_net-exchange.ensures.limits
-    read (g.R.Reader.remaining c.args.reader.now) c.args.content opened.answers c.requires.unread opened.only
-    c.args.frames c.requires.known (g.W.Writer.contents c.args.writer.now) (g.R.Reader.failures c.args.reader.now)
+    read (g.R.Reader.remaining c.args.reader.now) c.args.unheard.content opened.answers
+    c.requires.content.unread opened.only
+    c.args.unheard.frames c.requires.content.known (g.W.Writer.contents c.args.writer.now)
+    (g.R.Reader.failures c.args.reader.now)
     (g.R.Reader.failures c.args.reader.now) (g.W.Writer.failures c.args.writer.now)
     c.in_err-extent.field-0.0 (ap (announced_fault c.of_net-exchange.result) (sym told) ∙ c.in_err-extent.ensures) refl)
 
 pub returns-in_err-output : goal.returns-in_err-output
 returns-in_err-output g c =
-    let n = c.args.net.now in
-    let q = c.args.plan.now.period.repetitions in
-    let same = c.of_net-exchange.ensures.value q c.requires.plan.period.least in
-    let told = announced_same c.rate.result c.channels.result c.args.frames c.args.content.rate c.args.content.channels
-    c.args.frames c.rate.ensures.value c.channels.ensures.value refl in
-    run_fails (λ (x : Result (Unit {0}) Fault). RunsOn n q c.args.content (g.R.Reader.remaining c.args.reader.now)
+    let n = c.args.task.net.now in
+    let q = c.args.task.plan.now.period.repetitions in
+    let same = c.of_net-exchange.ensures.value q c.requires.task.suits.period.least in
+    let told = announced_same c.rate.result c.channels.result c.args.unheard.frames c.args.unheard.content.rate
+    c.args.unheard.content.channels
+    c.args.unheard.frames c.rate.ensures.value c.channels.ensures.value refl in
+    run_fails (λ (x : Result (Unit {0}) Fault). RunsOn n q c.args.unheard.content
+    (g.R.Reader.remaining c.args.reader.now)
     (g.R.Reader.remaining c.args.reader.now) (g.W.Writer.contents c.args.writer.now)
     (g.W.Writer.contents c.begin.new.writer)
     (g.R.Reader.failures c.args.reader.now) (g.R.Reader.failures c.args.reader.now)
     (g.W.Writer.failures c.args.writer.now) (g.W.Writer.failures c.begin.new.writer) x)
     c.in_err-output.field-0.0 c.from_residual-in_err-output.result c.from_residual-in_err-output.ensures.1
     (λ read opened. header_failed_ahead c.wav_laws.ensures n q c.of_net-exchange.result same
-    c.of_net-exchange.ensures.limits read (g.R.Reader.remaining c.args.reader.now) c.args.content opened.answers
-    c.requires.unread opened.only
-    c.args.frames c.requires.known c.in_ok-extent.extent
+    c.of_net-exchange.ensures.limits read (g.R.Reader.remaining c.args.reader.now)
+    c.args.unheard.content opened.answers
+    c.requires.content.unread opened.only
+    c.args.unheard.frames c.requires.content.known c.in_ok-extent.extent
     (subst (λ z. IsExtent c.of_net-exchange.result z c.in_ok-extent.extent) told c.in_ok-extent.ensures)
     (g.W.Writer.contents c.args.writer.now) (g.W.Writer.contents c.begin.new.writer)
     (g.R.Reader.failures c.args.reader.now) (g.R.Reader.failures c.args.reader.now)
@@ -57,21 +64,24 @@ returns-in_err-output g c =
 
 pub returns-in_err-input : goal.returns-in_err-input
 returns-in_err-input g c =
-    let n = c.args.net.now in
-    let q = c.args.plan.now.period.repetitions in
-    let same = c.of_net-exchange.ensures.value q c.requires.plan.period.least in
-    let told = announced_same c.rate.result c.channels.result c.args.frames c.args.content.rate c.args.content.channels
-    c.args.frames c.rate.ensures.value c.channels.ensures.value refl in
-    run_fails (λ (x : Result (Unit {0}) Fault). RunsOn n q c.args.content (g.R.Reader.remaining c.args.reader.now)
+    let n = c.args.task.net.now in
+    let q = c.args.task.plan.now.period.repetitions in
+    let same = c.of_net-exchange.ensures.value q c.requires.task.suits.period.least in
+    let told = announced_same c.rate.result c.channels.result c.args.unheard.frames c.args.unheard.content.rate
+    c.args.unheard.content.channels
+    c.args.unheard.frames c.rate.ensures.value c.channels.ensures.value refl in
+    run_fails (λ (x : Result (Unit {0}) Fault). RunsOn n q c.args.unheard.content
+    (g.R.Reader.remaining c.args.reader.now)
     (g.R.Reader.remaining c.read_content.new.reader) (g.W.Writer.contents c.args.writer.now)
     (g.W.Writer.contents c.begin.new.writer)
     (g.R.Reader.failures c.args.reader.now) (g.R.Reader.failures c.read_content.new.reader)
     (g.W.Writer.failures c.args.writer.now) (g.W.Writer.failures c.begin.new.writer) x)
     c.in_err-input.field-0.0 c.from_residual-in_err-input.result c.from_residual-in_err-input.ensures.1
     (λ read opened. content_failed_ahead c.wav_laws.ensures n q c.of_net-exchange.result same
-    c.of_net-exchange.ensures.limits read (g.R.Reader.remaining c.args.reader.now) c.args.content opened.answers
-    c.requires.unread opened.only
-    c.args.frames c.requires.known c.in_ok-extent.extent
+    c.of_net-exchange.ensures.limits read (g.R.Reader.remaining c.args.reader.now)
+    c.args.unheard.content opened.answers
+    c.requires.content.unread opened.only
+    c.args.unheard.frames c.requires.content.known c.in_ok-extent.extent
     (subst (λ z. IsExtent c.of_net-exchange.result z c.in_ok-extent.extent) told c.in_ok-extent.ensures)
     (g.R.Reader.remaining c.read_content.new.reader) (g.W.Writer.contents c.args.writer.now)
     (g.W.Writer.contents c.begin.new.writer)
@@ -82,22 +92,25 @@ returns-in_err-input g c =
 
 pub put_pieces-requires-clause-periods : goal.put_pieces-requires-clause-periods
 put_pieces-requires-clause-periods g c =
-    let known = frames_known c.args.content.size c.args.content.channels c.args.frames c.requires.known in
-    c.in_ok-extent.ensures.periods ∙ (ap (λ y. periods_for y c.args.frames)
+    let known = frames_known c.args.unheard.content.size c.args.unheard.content.channels c.args.unheard.frames
+    c.requires.content.known in
+    c.in_ok-extent.ensures.periods ∙ (ap (λ y. periods_for y c.args.unheard.frames)
     (c.of_net-exchange.ensures.value c.period-period.result.now.repetitions
-    (subst (λ p. IsLeastPeriod (rates (graph_of kit_steps c.args.net.now)) p.repetitions)
-    (sym c.period-period.ensures) c.requires.plan.period.least))
-    ∙ ap (periods_for (exchange_of c.args.net.now c.period-period.result.now.repetitions))
-    (sym (ap (λ (a : Announced). a.frames) (sound_announced c.args.content c.args.frames c.requires.known
+    (subst (λ p. IsLeastPeriod (rates (graph_of kit_steps c.args.task.net.now)) p.repetitions)
+    (sym c.period-period.ensures) c.requires.task.suits.period.least))
+    ∙ ap (periods_for (exchange_of c.args.task.net.now c.period-period.result.now.repetitions))
+    (sym (ap (λ (a : Announced). a.frames) (sound_announced c.args.unheard.content c.args.unheard.frames
+    c.requires.content.known
     c.in_ok-input.input c.in_ok-input.ensures.2 c.in_ok-input.ensures.3 (c.in_ok-input.ensures.4 known.0)))))
 
 pub returns-in_default : goal.returns-in_default
 returns-in_default g c = λ read opened.
-    let n = c.args.net.now in
-    let q = c.args.plan.now.period.repetitions in
-    let same = c.of_net-exchange.ensures.value q c.requires.plan.period.least in
-    let told = announced_same c.rate.result c.channels.result c.args.frames c.args.content.rate c.args.content.channels
-    c.args.frames c.rate.ensures.value c.channels.ensures.value refl in
+    let n = c.args.task.net.now in
+    let q = c.args.task.plan.now.period.repetitions in
+    let same = c.of_net-exchange.ensures.value q c.requires.task.suits.period.least in
+    let told = announced_same c.rate.result c.channels.result c.args.unheard.frames c.args.unheard.content.rate
+    c.args.unheard.content.channels
+    c.args.unheard.frames c.rate.ensures.value c.channels.ensures.value refl in
     answered c.wav_laws.ensures n q (subst IsExchange same c.of_net-exchange.ensures.limits)
     read (g.R.Reader.remaining c.read_content.new.reader) (g.W.Writer.contents c.args.writer.now)
     (g.W.Writer.contents c.begin.new.writer) (g.W.Writer.contents c.put_pieces.new.writer)
@@ -106,8 +119,9 @@ returns-in_default g c = λ read opened.
     (g.W.Writer.failures c.put_pieces.new.writer)
     c.in_ok-input.input c.in_ok-extent.extent c.in_ok-output.output
     (heard_ahead c.wav_laws.ensures n q c.of_net-exchange.result same c.of_net-exchange.ensures.limits read
-    (g.R.Reader.remaining c.args.reader.now) c.args.content opened.answers c.requires.unread opened.only
-    c.args.frames c.requires.known c.in_ok-extent.extent
+    (g.R.Reader.remaining c.args.reader.now) c.args.unheard.content opened.answers
+    c.requires.content.unread opened.only
+    c.args.unheard.frames c.requires.content.known c.in_ok-extent.extent
     (subst (λ z. IsExtent c.of_net-exchange.result z c.in_ok-extent.extent) told c.in_ok-extent.ensures)
     (g.R.Reader.remaining c.read_content.new.reader) (g.W.Writer.contents c.args.writer.now)
     (g.W.Writer.contents c.begin.new.writer)
@@ -123,14 +137,16 @@ returns-in_default g c = λ read opened.
 
 pub returns : goal.returns
 returns g c = λ read opened.
-    let n = c.args.net.now in
-    let q = c.args.plan.now.period.repetitions in
-    let same = c.of_net-exchange.ensures.value q c.requires.plan.period.least in
-    let told = announced_same c.rate.result c.channels.result c.args.frames c.args.content.rate c.args.content.channels
-    c.args.frames c.rate.ensures.value c.channels.ensures.value refl in
+    let n = c.args.task.net.now in
+    let q = c.args.task.plan.now.period.repetitions in
+    let same = c.of_net-exchange.ensures.value q c.requires.task.suits.period.least in
+    let told = announced_same c.rate.result c.channels.result c.args.unheard.frames c.args.unheard.content.rate
+    c.args.unheard.content.channels
+    c.args.unheard.frames c.rate.ensures.value c.channels.ensures.value refl in
     streamed c.wav_laws.ensures n q c.of_net-exchange.result same c.of_net-exchange.ensures.limits read
-    (g.R.Reader.remaining c.args.reader.now) c.args.content opened.answers c.requires.unread opened.only
-    c.args.frames c.requires.known c.in_ok-extent.extent
+    (g.R.Reader.remaining c.args.reader.now) c.args.unheard.content opened.answers
+    c.requires.content.unread opened.only
+    c.args.unheard.frames c.requires.content.known c.in_ok-extent.extent
     (subst (λ z. IsExtent c.of_net-exchange.result z c.in_ok-extent.extent) told c.in_ok-extent.ensures)
     (g.R.Reader.remaining c.run_stream.new.reader) (g.W.Writer.contents c.args.writer.now)
     (g.W.Writer.contents c.begin.new.writer) (g.W.Writer.contents c.run_stream.new.writer)

@@ -8,13 +8,13 @@ use Rattle.sdf_process.proofs.running.run_net.Goals as goal
 
 pub returns-in_err-content : goal.returns-in_err-content
 returns-in_err-content g c =
-    run_fails (λ (x : Result (Unit {0}) Fault). IsRun c.args.net.now c.args.plan.now.period.repetitions
+    run_fails (λ (x : Result (Unit {0}) Fault). IsRun c.args.task.net.now c.args.task.plan.now.period.repetitions
     (g.R.Reader.remaining c.args.reader.now) (g.R.Reader.remaining c.open.new.reader)
     (g.W.Writer.contents c.args.writer.now) (g.W.Writer.contents c.args.writer.now)
     (g.R.Reader.failures c.args.reader.now) (g.R.Reader.failures c.open.new.reader)
     (g.W.Writer.failures c.args.writer.now) (g.W.Writer.failures c.args.writer.now) x)
     (of_wav c.in_err-content.field-0.0) c.from_residual.result c.from_residual.ensures.1
-    (unopened c.wav_laws.ensures c.args.net.now c.args.plan.now.period.repetitions
+    (unopened c.wav_laws.ensures c.args.task.net.now c.args.task.plan.now.period.repetitions
     (g.R.Reader.remaining c.args.reader.now) (g.R.Reader.remaining c.open.new.reader)
     (g.W.Writer.contents c.args.writer.now)
     (g.R.Reader.failures c.args.reader.now) (g.R.Reader.failures c.open.new.reader)
@@ -23,7 +23,8 @@ returns-in_err-content g c =
 
 pub returns-in-Some : goal.returns-in-Some
 returns-in-Some g c =
-    subst (λ r. IsRun c.args.net.now c.args.plan.now.period.repetitions (g.R.Reader.remaining c.args.reader.now)
+    subst (λ r. IsRun c.args.task.net.now c.args.task.plan.now.period.repetitions
+    (g.R.Reader.remaining c.args.reader.now)
     (g.R.Reader.remaining c.run_ahead.new.reader) (g.W.Writer.contents c.args.writer.now)
     (g.W.Writer.contents c.run_ahead.new.writer)
     r (g.R.Reader.failures c.run_ahead.new.reader) (g.W.Writer.failures c.args.writer.now)
@@ -33,7 +34,8 @@ returns-in-Some g c =
 
 pub returns-in-None : goal.returns-in-None
 returns-in-None g c =
-    subst (λ r. IsRun c.args.net.now c.args.plan.now.period.repetitions (g.R.Reader.remaining c.args.reader.now)
+    subst (λ r. IsRun c.args.task.net.now c.args.task.plan.now.period.repetitions
+    (g.R.Reader.remaining c.args.reader.now)
     (g.R.Reader.remaining c.run_behind.new.reader) (g.W.Writer.contents c.args.writer.now)
     (g.W.Writer.contents c.run_behind.new.writer)
     r (g.R.Reader.failures c.run_behind.new.reader) (g.W.Writer.failures c.args.writer.now)

@@ -14,75 +14,86 @@ use Rattle.sdf_process.proofs.streaming.run_stream.Goals as goal
 
 pub returns-in_err-open_session : goal.returns-in_err-open_session
 returns-in_err-open_session g c =
-    run_fails (λ (r : Result (Unit {0}) Fault). Streams c.args.net.now c.args.plan.now.period.repetitions c.args.content
+    run_fails (λ (r : Result (Unit {0}) Fault). Streams c.args.shared.task.net.now
+    c.args.shared.task.plan.now.period.repetitions c.args.hearing.content
     (g.R.Reader.remaining c.args.reader.now) (g.R.Reader.remaining c.args.reader.now)
     (g.W.Writer.contents c.args.writer.now) (g.W.Writer.contents c.args.writer.now)
     (g.R.Reader.failures c.args.reader.now) (g.R.Reader.failures c.args.reader.now)
     (g.W.Writer.failures c.args.writer.now) (g.W.Writer.failures c.args.writer.now) r)
     c.in_err-open_session.field-0.0 c.from_residual.result c.from_residual.ensures.1
-    (unopened c.args.net.now c.args.plan.now.period.repetitions c.args.content (g.R.Reader.remaining c.args.reader.now)
+    (unopened c.args.shared.task.net.now c.args.shared.task.plan.now.period.repetitions c.args.hearing.content
+    (g.R.Reader.remaining c.args.reader.now)
     (g.W.Writer.contents c.args.writer.now) (g.R.Reader.failures c.args.reader.now)
     (g.W.Writer.failures c.args.writer.now)
     c.in_err-open_session.field-0.0 c.in_err-open_session.field-0.0 c.in_err-open_session.ensures.stands refl)
 
 pub loop-unread-init : goal.loop-unread-init
 loop-unread-init g c =
-    let n = c.args.net.now in
-    let p = c.args.plan.now.period in
-    let j = c.args.plan.now.blocking in
-    let d = c.args.content in
-    let can = can_flow n c.args.plan.now c.args.table.now.table c.requires.table.table c.requires.plan
+    let n = c.args.shared.task.net.now in
+    let p = c.args.shared.task.plan.now.period in
+    let j = c.args.shared.task.plan.now.blocking in
+    let d = c.args.hearing.content in
+    let can = can_flow n c.args.shared.task.plan.now c.args.shared.table.now.table c.requires.shared.table.table
+    c.requires.shared.task.suits
     c.nets_have_periods.ensures d
-    c.args.frames c.args.output
+    c.args.hearing.frames c.args.hearing.output
     c.of_net-exchange.result c.of_net-exchange.ensures.value c.of_net-exchange.ensures.limits c.requires.owed
-    c.runs_go_on.ensures c.requires.sound c.requires.unread c.requires.known in
+    c.runs_go_on.ensures c.requires.content.sound c.requires.content.unread c.requires.content.known in
     let v = c.in_ok-open_session.field-0 in
     let sound = sound_read d [] in
     record {
       within = omega arith;
-      ready = ready_first n c.args.plan.now c.args.table.now.table c.requires.table.table c.requires.plan
-          c.nets_have_periods.ensures d c.args.frames c.args.output
+      ready = ready_first n c.args.shared.task.plan.now c.args.shared.table.now.table c.requires.shared.table.table
+          c.requires.shared.task.suits
+          c.nets_have_periods.ensures d c.args.hearing.frames c.args.hearing.output
           c.of_net-exchange.result c.of_net-exchange.ensures.value c.of_net-exchange.ensures.limits c.requires.owed
-          c.blocking.result c.blocking.ensures v sound (c.in_ok-open_session.ensures.stands sound);
+          c.blocking.result c.blocking.ensures c.rate-rate.result c.channels-channels.result
+          c.rate-rate.ensures.above_0 c.channels-channels.ensures.above_0 c.channels-channels.ensures.few v sound
+          (c.in_ok-open_session.ensures.stands sound);
       blocking = c.blocking.ensures;
-      flows = flows_first n p j d c.args.frames c.args.output.missing can (g.R.Reader.remaining c.args.reader.now)
+      channels = c.channels-channels.ensures.value;
+      flows = flows_first n p j d c.args.hearing.frames c.args.hearing.output.missing can
+          (g.R.Reader.remaining c.args.reader.now)
           (g.W.Writer.contents c.args.writer.now) (g.R.Reader.failures c.args.reader.now)
           (g.W.Writer.failures c.args.writer.now)
-          c.new-kept.result.items c.args.output v (search rules) refl (c.in_ok-open_session.ensures.stands sound);
+          c.new-kept.result.items c.args.hearing.output v (search rules) refl
+          (c.in_ok-open_session.ensures.stands sound);
     }
 
 pub read_more-requires-clause-unspoilt : goal.read_more-requires-clause-unspoilt
 read_more-requires-clause-unspoilt g c =
-    let n = c.args.net.now in
-    let p = c.args.plan.now.period in
-    let j = c.args.plan.now.blocking in
-    let d = c.args.content in
-    let can = can_flow n c.args.plan.now c.args.table.now.table c.requires.table.table c.requires.plan
+    let n = c.args.shared.task.net.now in
+    let p = c.args.shared.task.plan.now.period in
+    let j = c.args.shared.task.plan.now.blocking in
+    let d = c.args.hearing.content in
+    let can = can_flow n c.args.shared.task.plan.now c.args.shared.table.now.table c.requires.shared.table.table
+    c.requires.shared.task.suits
     c.nets_have_periods.ensures d
-    c.args.frames c.args.output
+    c.args.hearing.frames c.args.hearing.output
     c.of_net-exchange.result c.of_net-exchange.ensures.value c.of_net-exchange.ensures.limits c.requires.owed
-    c.runs_go_on.ensures c.requires.sound c.requires.unread c.requires.known in
+    c.runs_go_on.ensures c.requires.content.sound c.requires.content.unread c.requires.content.known in
     let at = c.loop-unread.invariant in
-    unspoilt n p j d c.args.frames c.args.output.missing can c.loop-unread.unread at.within
+    unspoilt n p j d c.args.hearing.frames c.args.hearing.output.missing can c.loop-unread.unread at.within
     (g.R.Reader.remaining c.args.reader.now) (g.R.Reader.remaining c.loop-unread.reader)
     (g.W.Writer.contents c.args.writer.now) (g.W.Writer.contents c.loop-unread.writer)
     (g.R.Reader.failures c.args.reader.now) (g.R.Reader.failures c.loop-unread.reader)
     (g.W.Writer.failures c.args.writer.now) (g.W.Writer.failures c.loop-unread.writer) c.loop-unread.kept.items
-    c.loop-unread.content c.loop-unread.stream.output c.loop-unread.stream.session at.flows c.requires.unspoilt
+    c.loop-unread.content c.loop-unread.stream.output c.loop-unread.stream.session at.flows c.requires.content.unspoilt
 
 pub read_more-requires-clause-sized : goal.read_more-requires-clause-sized
 read_more-requires-clause-sized g c =
-    let n = c.args.net.now in
-    let p = c.args.plan.now.period in
-    let j = c.args.plan.now.blocking in
-    let d = c.args.content in
-    let can = can_flow n c.args.plan.now c.args.table.now.table c.requires.table.table c.requires.plan
+    let n = c.args.shared.task.net.now in
+    let p = c.args.shared.task.plan.now.period in
+    let j = c.args.shared.task.plan.now.blocking in
+    let d = c.args.hearing.content in
+    let can = can_flow n c.args.shared.task.plan.now c.args.shared.table.now.table c.requires.shared.table.table
+    c.requires.shared.task.suits
     c.nets_have_periods.ensures d
-    c.args.frames c.args.output
+    c.args.hearing.frames c.args.hearing.output
     c.of_net-exchange.result c.of_net-exchange.ensures.value c.of_net-exchange.ensures.limits c.requires.owed
-    c.runs_go_on.ensures c.requires.sound c.requires.unread c.requires.known in
+    c.runs_go_on.ensures c.requires.content.sound c.requires.content.unread c.requires.content.known in
     let at = c.loop-unread.invariant in
-    sized n p j d c.args.frames c.args.output.missing can c.loop-unread.unread at.within
+    sized n p j d c.args.hearing.frames c.args.hearing.output.missing can c.loop-unread.unread at.within
     (g.R.Reader.remaining c.args.reader.now) (g.R.Reader.remaining c.loop-unread.reader)
     (g.W.Writer.contents c.args.writer.now) (g.W.Writer.contents c.loop-unread.writer)
     (g.R.Reader.failures c.args.reader.now) (g.R.Reader.failures c.loop-unread.reader)
@@ -91,17 +102,18 @@ read_more-requires-clause-sized g c =
 
 pub read_more-requires-clause-enough : goal.read_more-requires-clause-enough
 read_more-requires-clause-enough g c =
-    let n = c.args.net.now in
-    let p = c.args.plan.now.period in
-    let j = c.args.plan.now.blocking in
-    let d = c.args.content in
-    let can = can_flow n c.args.plan.now c.args.table.now.table c.requires.table.table c.requires.plan
+    let n = c.args.shared.task.net.now in
+    let p = c.args.shared.task.plan.now.period in
+    let j = c.args.shared.task.plan.now.blocking in
+    let d = c.args.hearing.content in
+    let can = can_flow n c.args.shared.task.plan.now c.args.shared.table.now.table c.requires.shared.table.table
+    c.requires.shared.task.suits
     c.nets_have_periods.ensures d
-    c.args.frames c.args.output
+    c.args.hearing.frames c.args.hearing.output
     c.of_net-exchange.result c.of_net-exchange.ensures.value c.of_net-exchange.ensures.limits c.requires.owed
-    c.runs_go_on.ensures c.requires.sound c.requires.unread c.requires.known in
+    c.runs_go_on.ensures c.requires.content.sound c.requires.content.unread c.requires.content.known in
     let at = c.loop-unread.invariant in
-    asks_enough n p j d c.args.frames c.args.output.missing can c.loop-unread.unread at.within
+    asks_enough n p j d c.args.hearing.frames c.args.hearing.output.missing can c.loop-unread.unread at.within
     (g.R.Reader.remaining c.args.reader.now) (g.R.Reader.remaining c.loop-unread.reader)
     (g.W.Writer.contents c.args.writer.now) (g.W.Writer.contents c.loop-unread.writer)
     (g.R.Reader.failures c.args.reader.now) (g.R.Reader.failures c.loop-unread.reader)
@@ -111,23 +123,25 @@ read_more-requires-clause-enough g c =
 
 pub returns-in_err-samples : goal.returns-in_err-samples
 returns-in_err-samples g c =
-    let n = c.args.net.now in
-    let p = c.args.plan.now.period in
-    let j = c.args.plan.now.blocking in
-    let d = c.args.content in
-    let can = can_flow n c.args.plan.now c.args.table.now.table c.requires.table.table c.requires.plan
+    let n = c.args.shared.task.net.now in
+    let p = c.args.shared.task.plan.now.period in
+    let j = c.args.shared.task.plan.now.blocking in
+    let d = c.args.hearing.content in
+    let can = can_flow n c.args.shared.task.plan.now c.args.shared.table.now.table c.requires.shared.table.table
+    c.requires.shared.task.suits
     c.nets_have_periods.ensures d
-    c.args.frames c.args.output
+    c.args.hearing.frames c.args.hearing.output
     c.of_net-exchange.result c.of_net-exchange.ensures.value c.of_net-exchange.ensures.limits c.requires.owed
-    c.runs_go_on.ensures c.requires.sound c.requires.unread c.requires.known in
+    c.runs_go_on.ensures c.requires.content.sound c.requires.content.unread c.requires.content.known in
     let at = c.loop-unread.invariant in
-    run_fails (λ (r : Result (Unit {0}) Fault). Streams c.args.net.now c.args.plan.now.period.repetitions c.args.content
+    run_fails (λ (r : Result (Unit {0}) Fault). Streams c.args.shared.task.net.now
+    c.args.shared.task.plan.now.period.repetitions c.args.hearing.content
     (g.R.Reader.remaining c.args.reader.now) (g.R.Reader.remaining c.read_more.new.reader)
     (g.W.Writer.contents c.args.writer.now) (g.W.Writer.contents c.loop-unread.writer)
     (g.R.Reader.failures c.args.reader.now) (g.R.Reader.failures c.read_more.new.reader)
     (g.W.Writer.failures c.args.writer.now) (g.W.Writer.failures c.loop-unread.writer) r)
     c.in_err-samples.field-0.0 c.from_residual-in_err-samples.result c.from_residual-in_err-samples.ensures.1
-    (reading_failed n p j d c.args.frames c.args.output.missing can c.loop-unread.unread at.within
+    (reading_failed n p j d c.args.hearing.frames c.args.hearing.output.missing can c.loop-unread.unread at.within
     (g.R.Reader.remaining c.args.reader.now) (g.R.Reader.remaining c.loop-unread.reader)
     (g.W.Writer.contents c.args.writer.now) (g.W.Writer.contents c.loop-unread.writer)
     (g.R.Reader.failures c.args.reader.now) (g.R.Reader.failures c.loop-unread.reader)
@@ -139,22 +153,27 @@ returns-in_err-samples g c =
     (g.R.Reader.failures c.args.reader.now) at.flows.content_is at.flows.read at.flows.reader))
 
 pub put_whole-requires-clause-ready : goal.put_whole-requires-clause-ready
-put_whole-requires-clause-ready g c κs within = (c.args.net.now, c.args.plan.now.period, c.loop-unread.invariant.ready)
+put_whole-requires-clause-ready g c κs within = (
+  c.args.shared.task.net.now,
+  c.args.shared.task.plan.now.period,
+  c.loop-unread.invariant.ready,
+)
 
 pub put_whole-requires-clause-whole : goal.put_whole-requires-clause-whole
 put_whole-requires-clause-whole g c κs within =
-    let n = c.args.net.now in
-    let p = c.args.plan.now.period in
-    let j = c.args.plan.now.blocking in
-    let d = c.args.content in
-    let can = can_flow n c.args.plan.now c.args.table.now.table c.requires.table.table c.requires.plan
+    let n = c.args.shared.task.net.now in
+    let p = c.args.shared.task.plan.now.period in
+    let j = c.args.shared.task.plan.now.blocking in
+    let d = c.args.hearing.content in
+    let can = can_flow n c.args.shared.task.plan.now c.args.shared.table.now.table c.requires.shared.table.table
+    c.requires.shared.task.suits
     c.nets_have_periods.ensures d
-    c.args.frames c.args.output
+    c.args.hearing.frames c.args.hearing.output
     c.of_net-exchange.result c.of_net-exchange.ensures.value c.of_net-exchange.ensures.limits c.requires.owed
-    c.runs_go_on.ensures c.requires.sound c.requires.unread c.requires.known in
+    c.runs_go_on.ensures c.requires.content.sound c.requires.content.unread c.requires.content.known in
     let at = c.loop-unread.invariant in
-    subst (λ k. length c.in_ok-samples.samples.items % k ≡ 0) (sym c.channels-channels.ensures.value)
-    (held_whole n p j d c.args.frames c.args.output.missing can c.loop-unread.unread at.within
+    subst (λ k. length c.in_ok-samples.samples.items % k ≡ 0) (sym at.channels)
+    (held_whole n p j d c.args.hearing.frames c.args.hearing.output.missing can c.loop-unread.unread at.within
     (g.R.Reader.remaining c.args.reader.now) (g.R.Reader.remaining c.loop-unread.reader)
     (g.W.Writer.contents c.args.writer.now) (g.W.Writer.contents c.loop-unread.writer)
     (g.R.Reader.failures c.args.reader.now) (g.R.Reader.failures c.loop-unread.reader)
@@ -167,17 +186,18 @@ put_whole-requires-clause-whole g c κs within =
 
 pub put_whole-requires-clause-few : goal.put_whole-requires-clause-few
 put_whole-requires-clause-few g c κs within =
-    let n = c.args.net.now in
-    let p = c.args.plan.now.period in
-    let j = c.args.plan.now.blocking in
-    let d = c.args.content in
-    let can = can_flow n c.args.plan.now c.args.table.now.table c.requires.table.table c.requires.plan
+    let n = c.args.shared.task.net.now in
+    let p = c.args.shared.task.plan.now.period in
+    let j = c.args.shared.task.plan.now.blocking in
+    let d = c.args.hearing.content in
+    let can = can_flow n c.args.shared.task.plan.now c.args.shared.table.now.table c.requires.shared.table.table
+    c.requires.shared.task.suits
     c.nets_have_periods.ensures d
-    c.args.frames c.args.output
+    c.args.hearing.frames c.args.hearing.output
     c.of_net-exchange.result c.of_net-exchange.ensures.value c.of_net-exchange.ensures.limits c.requires.owed
-    c.runs_go_on.ensures c.requires.sound c.requires.unread c.requires.known in
+    c.runs_go_on.ensures c.requires.content.sound c.requires.content.unread c.requires.content.known in
     let at = c.loop-unread.invariant in
-    held_few n p j d c.args.frames c.args.output.missing can c.loop-unread.unread at.within
+    held_few n p j d c.args.hearing.frames c.args.hearing.output.missing can c.loop-unread.unread at.within
     (g.R.Reader.remaining c.args.reader.now) (g.R.Reader.remaining c.loop-unread.reader)
     (g.W.Writer.contents c.args.writer.now) (g.W.Writer.contents c.loop-unread.writer)
     (g.R.Reader.failures c.args.reader.now) (g.R.Reader.failures c.loop-unread.reader)
@@ -190,19 +210,20 @@ put_whole-requires-clause-few g c κs within =
 
 pub put_whole-requires-clause-missing : goal.put_whole-requires-clause-missing
 put_whole-requires-clause-missing g c κs within =
-    let n = c.args.net.now in
-    let p = c.args.plan.now.period in
-    let j = c.args.plan.now.blocking in
-    let d = c.args.content in
-    let can = can_flow n c.args.plan.now c.args.table.now.table c.requires.table.table c.requires.plan
+    let n = c.args.shared.task.net.now in
+    let p = c.args.shared.task.plan.now.period in
+    let j = c.args.shared.task.plan.now.blocking in
+    let d = c.args.hearing.content in
+    let can = can_flow n c.args.shared.task.plan.now c.args.shared.table.now.table c.requires.shared.table.table
+    c.requires.shared.task.suits
     c.nets_have_periods.ensures d
-    c.args.frames c.args.output
+    c.args.hearing.frames c.args.hearing.output
     c.of_net-exchange.result c.of_net-exchange.ensures.value c.of_net-exchange.ensures.limits c.requires.owed
-    c.runs_go_on.ensures c.requires.sound c.requires.unread c.requires.known in
+    c.runs_go_on.ensures c.requires.content.sound c.requires.content.unread c.requires.content.known in
     let at = c.loop-unread.invariant in
     λ periods there.
     subst (λ y. periods * y.made ≤ c.loop-unread.stream.output.missing) (sym at.ready.exchange)
-    (held_missing n p j d c.args.frames c.args.output.missing can c.loop-unread.unread at.within
+    (held_missing n p j d c.args.hearing.frames c.args.hearing.output.missing can c.loop-unread.unread at.within
     (g.R.Reader.remaining c.args.reader.now) (g.R.Reader.remaining c.loop-unread.reader)
     (g.W.Writer.contents c.args.writer.now) (g.W.Writer.contents c.loop-unread.writer)
     (g.R.Reader.failures c.args.reader.now) (g.R.Reader.failures c.loop-unread.reader)
@@ -214,29 +235,31 @@ put_whole-requires-clause-missing g c κs within =
     (g.R.Reader.failures c.args.reader.now) at.flows.content_is at.flows.read at.flows.reader)
     periods (subst (λ y. periods * y.taken * d.channels ≤ length c.in_ok-samples.samples.items) at.ready.exchange
     (subst (λ k. periods * c.loop-unread.stream.exchange.taken * k ≤ length c.in_ok-samples.samples.items)
-    c.channels-channels.ensures.value there)))
+    at.channels there)))
 
 pub returns-in_err-kept : goal.returns-in_err-kept
 returns-in_err-kept g c =
-    let n = c.args.net.now in
-    let p = c.args.plan.now.period in
-    let j = c.args.plan.now.blocking in
-    let d = c.args.content in
-    let can = can_flow n c.args.plan.now c.args.table.now.table c.requires.table.table c.requires.plan
+    let n = c.args.shared.task.net.now in
+    let p = c.args.shared.task.plan.now.period in
+    let j = c.args.shared.task.plan.now.blocking in
+    let d = c.args.hearing.content in
+    let can = can_flow n c.args.shared.task.plan.now c.args.shared.table.now.table c.requires.shared.table.table
+    c.requires.shared.task.suits
     c.nets_have_periods.ensures d
-    c.args.frames c.args.output
+    c.args.hearing.frames c.args.hearing.output
     c.of_net-exchange.result c.of_net-exchange.ensures.value c.of_net-exchange.ensures.limits c.requires.owed
-    c.runs_go_on.ensures c.requires.sound c.requires.unread c.requires.known in
+    c.runs_go_on.ensures c.requires.content.sound c.requires.content.unread c.requires.content.known in
     let at = c.loop-unread.invariant in
     let more = c.in_ok-samples.ensures d at.flows.samples (g.R.Reader.remaining c.args.reader.now)
     (g.R.Reader.failures c.args.reader.now) at.flows.content_is at.flows.read at.flows.reader in
-    run_fails (λ (r : Result (Unit {0}) Fault). Streams c.args.net.now c.args.plan.now.period.repetitions c.args.content
+    run_fails (λ (r : Result (Unit {0}) Fault). Streams c.args.shared.task.net.now
+    c.args.shared.task.plan.now.period.repetitions c.args.hearing.content
     (g.R.Reader.remaining c.args.reader.now) (g.R.Reader.remaining c.read_more.new.reader)
     (g.W.Writer.contents c.args.writer.now) (g.W.Writer.contents c.put_whole.new.writer)
     (g.R.Reader.failures c.args.reader.now) (g.R.Reader.failures c.read_more.new.reader)
     (g.W.Writer.failures c.args.writer.now) (g.W.Writer.failures c.put_whole.new.writer) r)
     c.in_err-kept.field-0.0 c.from_residual-in_err-kept.result c.from_residual-in_err-kept.ensures.1
-    (putting_failed n p j d c.args.frames c.args.output.missing can c.loop-unread.unread at.within
+    (putting_failed n p j d c.args.hearing.frames c.args.hearing.output.missing can c.loop-unread.unread at.within
     (g.R.Reader.remaining c.args.reader.now) (g.R.Reader.remaining c.loop-unread.reader)
     (g.W.Writer.contents c.args.writer.now) (g.W.Writer.contents c.loop-unread.writer)
     (g.R.Reader.failures c.args.reader.now) (g.R.Reader.failures c.loop-unread.reader)
@@ -254,10 +277,10 @@ returns-in_err-kept g c =
     c.loop-unread.stream.output c.put_whole.new.self.output c.put_whole.new.self.session
     (Err c.in_err-kept.field-0.0)) at.blocking
     (c.in_err-kept.ensures.puts n p d (at.flows.samples ++ more.0) at.flows.few at.flows.bytes at.ready
-    (sym c.channels-channels.ensures.value)
+    (sym at.channels)
     (subst (λ k. StandsWhole n p k (sound_read d (at.flows.samples ++ more.0)) at.flows.few at.flows.bytes
     c.loop-unread.stream.session) (sym at.blocking)
-    (stands_held n p j d c.args.frames c.args.output.missing can c.loop-unread.unread at.within
+    (stands_held n p j d c.args.hearing.frames c.args.hearing.output.missing can c.loop-unread.unread at.within
     (g.R.Reader.remaining c.args.reader.now) (g.R.Reader.remaining c.loop-unread.reader)
     (g.W.Writer.contents c.args.writer.now) (g.W.Writer.contents c.loop-unread.writer)
     (g.R.Reader.failures c.args.reader.now) (g.R.Reader.failures c.loop-unread.reader)
@@ -269,7 +292,7 @@ returns-in_err-kept g c =
     (g.R.Reader.failures c.args.reader.now) at.flows.content_is at.flows.read at.flows.reader)))
     (subst (λ k. AreBehind (exchange_of n p.repetitions) d (at.flows.samples ++ more.0) (at.flows.few * k)
     c.in_ok-samples.samples.items) (sym at.blocking)
-    (behind_held n p j d c.args.frames c.args.output.missing can c.loop-unread.unread at.within
+    (behind_held n p j d c.args.hearing.frames c.args.hearing.output.missing can c.loop-unread.unread at.within
     (g.R.Reader.remaining c.args.reader.now) (g.R.Reader.remaining c.loop-unread.reader)
     (g.W.Writer.contents c.args.writer.now) (g.W.Writer.contents c.loop-unread.writer)
     (g.R.Reader.failures c.args.reader.now) (g.R.Reader.failures c.loop-unread.reader)
@@ -282,15 +305,16 @@ returns-in_err-kept g c =
 
 pub loop-unread-preserved : goal.loop-unread-preserved
 loop-unread-preserved g c =
-    let n = c.args.net.now in
-    let p = c.args.plan.now.period in
-    let j = c.args.plan.now.blocking in
-    let d = c.args.content in
-    let can = can_flow n c.args.plan.now c.args.table.now.table c.requires.table.table c.requires.plan
+    let n = c.args.shared.task.net.now in
+    let p = c.args.shared.task.plan.now.period in
+    let j = c.args.shared.task.plan.now.blocking in
+    let d = c.args.hearing.content in
+    let can = can_flow n c.args.shared.task.plan.now c.args.shared.table.now.table c.requires.shared.table.table
+    c.requires.shared.task.suits
     c.nets_have_periods.ensures d
-    c.args.frames c.args.output
+    c.args.hearing.frames c.args.hearing.output
     c.of_net-exchange.result c.of_net-exchange.ensures.value c.of_net-exchange.ensures.limits c.requires.owed
-    c.runs_go_on.ensures c.requires.sound c.requires.unread c.requires.known in
+    c.runs_go_on.ensures c.requires.content.sound c.requires.content.unread c.requires.content.known in
     let at = c.loop-unread.invariant in
     let more = c.in_ok-samples.ensures d at.flows.samples (g.R.Reader.remaining c.args.reader.now)
     (g.R.Reader.failures c.args.reader.now) at.flows.content_is at.flows.read at.flows.reader in
@@ -299,7 +323,8 @@ loop-unread-preserved g c =
       within = search rules;
       ready = ready.0;
       blocking = ready.1 ∙ at.blocking;
-      flows = flows_on n p j d c.args.frames c.args.output.missing can c.loop-unread.unread at.within
+      channels = ready.2 ∙ at.channels;
+      flows = flows_on n p j d c.args.hearing.frames c.args.hearing.output.missing can c.loop-unread.unread at.within
           (g.R.Reader.remaining c.args.reader.now) (g.R.Reader.remaining c.loop-unread.reader)
           (g.W.Writer.contents c.args.writer.now) (g.W.Writer.contents c.loop-unread.writer)
           (g.R.Reader.failures c.args.reader.now) (g.R.Reader.failures c.loop-unread.reader)
@@ -318,10 +343,10 @@ loop-unread-preserved g c =
           c.loop-unread.stream.output c.put_whole.new.self.output c.put_whole.new.self.session
           (Ok c.in_ok-kept.kept.items)) at.blocking
           (c.in_ok-kept.ensures.puts n p d (at.flows.samples ++ more.0) at.flows.few at.flows.bytes at.ready
-          (sym c.channels-channels.ensures.value)
+          (sym at.channels)
           (subst (λ k. StandsWhole n p k (sound_read d (at.flows.samples ++ more.0)) at.flows.few at.flows.bytes
           c.loop-unread.stream.session) (sym at.blocking)
-          (stands_held n p j d c.args.frames c.args.output.missing can c.loop-unread.unread at.within
+          (stands_held n p j d c.args.hearing.frames c.args.hearing.output.missing can c.loop-unread.unread at.within
           (g.R.Reader.remaining c.args.reader.now) (g.R.Reader.remaining c.loop-unread.reader)
           (g.W.Writer.contents c.args.writer.now) (g.W.Writer.contents c.loop-unread.writer)
           (g.R.Reader.failures c.args.reader.now) (g.R.Reader.failures c.loop-unread.reader)
@@ -334,7 +359,7 @@ loop-unread-preserved g c =
           (g.R.Reader.failures c.args.reader.now) at.flows.content_is at.flows.read at.flows.reader)))
           (subst (λ k. AreBehind (exchange_of n p.repetitions) d (at.flows.samples ++ more.0) (at.flows.few * k)
           c.in_ok-samples.samples.items) (sym at.blocking)
-          (behind_held n p j d c.args.frames c.args.output.missing can c.loop-unread.unread at.within
+          (behind_held n p j d c.args.hearing.frames c.args.hearing.output.missing can c.loop-unread.unread at.within
           (g.R.Reader.remaining c.args.reader.now) (g.R.Reader.remaining c.loop-unread.reader)
           (g.W.Writer.contents c.args.writer.now) (g.W.Writer.contents c.loop-unread.writer)
           (g.R.Reader.failures c.args.reader.now) (g.R.Reader.failures c.loop-unread.reader)
@@ -348,23 +373,28 @@ loop-unread-preserved g c =
     }
 
 pub put_rest-requires-clause-ready : goal.put_rest-requires-clause-ready
-put_rest-requires-clause-ready g c κs within = (c.args.net.now, c.args.plan.now.period, c.loop-unread.invariant.ready)
+put_rest-requires-clause-ready g c κs within = (
+  c.args.shared.task.net.now,
+  c.args.shared.task.plan.now.period,
+  c.loop-unread.invariant.ready,
+)
 
 pub put_rest-requires-clause-whole : goal.put_rest-requires-clause-whole
 put_rest-requires-clause-whole g c κs within =
-    let n = c.args.net.now in
-    let p = c.args.plan.now.period in
-    let j = c.args.plan.now.blocking in
-    let d = c.args.content in
-    let can = can_flow n c.args.plan.now c.args.table.now.table c.requires.table.table c.requires.plan
+    let n = c.args.shared.task.net.now in
+    let p = c.args.shared.task.plan.now.period in
+    let j = c.args.shared.task.plan.now.blocking in
+    let d = c.args.hearing.content in
+    let can = can_flow n c.args.shared.task.plan.now c.args.shared.table.now.table c.requires.shared.table.table
+    c.requires.shared.task.suits
     c.nets_have_periods.ensures d
-    c.args.frames c.args.output
+    c.args.hearing.frames c.args.hearing.output
     c.of_net-exchange.result c.of_net-exchange.ensures.value c.of_net-exchange.ensures.limits c.requires.owed
-    c.runs_go_on.ensures c.requires.sound c.requires.unread c.requires.known in
+    c.runs_go_on.ensures c.requires.content.sound c.requires.content.unread c.requires.content.known in
     let at = c.loop-unread.invariant in
     let end : c.loop-unread.unread ≡ 0 = search rules in
-    subst (λ k. length c.loop-unread.kept.items % k ≡ 0) (sym c.channels-channels.ensures.value)
-    (kept_whole n p j d c.args.frames c.args.output.missing can c.loop-unread.unread at.within
+    subst (λ k. length c.loop-unread.kept.items % k ≡ 0) (sym at.channels)
+    (kept_whole n p j d c.args.hearing.frames c.args.hearing.output.missing can c.loop-unread.unread at.within
     (g.R.Reader.remaining c.args.reader.now) (g.R.Reader.remaining c.loop-unread.reader)
     (g.W.Writer.contents c.args.writer.now) (g.W.Writer.contents c.loop-unread.writer)
     (g.R.Reader.failures c.args.reader.now) (g.R.Reader.failures c.loop-unread.reader)
@@ -373,19 +403,20 @@ put_rest-requires-clause-whole g c κs within =
 
 pub returns : goal.returns
 returns g c =
-    let n = c.args.net.now in
-    let p = c.args.plan.now.period in
-    let j = c.args.plan.now.blocking in
-    let d = c.args.content in
-    let can = can_flow n c.args.plan.now c.args.table.now.table c.requires.table.table c.requires.plan
+    let n = c.args.shared.task.net.now in
+    let p = c.args.shared.task.plan.now.period in
+    let j = c.args.shared.task.plan.now.blocking in
+    let d = c.args.hearing.content in
+    let can = can_flow n c.args.shared.task.plan.now c.args.shared.table.now.table c.requires.shared.table.table
+    c.requires.shared.task.suits
     c.nets_have_periods.ensures d
-    c.args.frames c.args.output
+    c.args.hearing.frames c.args.hearing.output
     c.of_net-exchange.result c.of_net-exchange.ensures.value c.of_net-exchange.ensures.limits c.requires.owed
-    c.runs_go_on.ensures c.requires.sound c.requires.unread c.requires.known in
+    c.runs_go_on.ensures c.requires.content.sound c.requires.content.unread c.requires.content.known in
     let at = c.loop-unread.invariant in
     let end : c.loop-unread.unread ≡ 0 = search rules in
     elim (cases_lt 0 c.loop-unread.stream.output.missing) [
-      | inl some ↦ ended n p j d c.args.frames c.args.output.missing can c.loop-unread.unread at.within
+      | inl some ↦ ended n p j d c.args.hearing.frames c.args.hearing.output.missing can c.loop-unread.unread at.within
           (g.R.Reader.remaining c.args.reader.now) (g.R.Reader.remaining c.loop-unread.reader)
           (g.W.Writer.contents c.args.writer.now) (g.W.Writer.contents c.loop-unread.writer)
           (g.R.Reader.failures c.args.reader.now) (g.R.Reader.failures c.loop-unread.reader)
@@ -400,7 +431,7 @@ returns g c =
           (g.W.Writer.failures c.loop-unread.writer) (g.W.Writer.failures c.put_rest.new.writer)
           c.put_rest.new.self.session c.put_rest.result) at.blocking
           (c.put_rest.ensures.puts some n p d at.flows.samples at.flows.few at.flows.bytes at.ready
-          (sym c.channels-channels.ensures.value)
+          (sym at.channels)
           (subst (λ k. StandsWhole n p k (sound_read d at.flows.samples) at.flows.few at.flows.bytes
           c.loop-unread.stream.session) (sym at.blocking) at.flows.stands)
           (subst (λ k. AreBehind (exchange_of n p.repetitions) d at.flows.samples (at.flows.few * k)
@@ -417,7 +448,7 @@ returns g c =
           (g.W.Writer.contents y)
           (g.R.Reader.failures c.args.reader.now) (g.R.Reader.failures c.loop-unread.reader)
           (g.W.Writer.failures c.args.writer.now) (g.W.Writer.failures y) (Ok tt)) (sym nothing.1)
-          (ended_whole n p j d c.args.frames c.args.output.missing can c.loop-unread.unread at.within
+          (ended_whole n p j d c.args.hearing.frames c.args.hearing.output.missing can c.loop-unread.unread at.within
           (g.R.Reader.remaining c.args.reader.now) (g.R.Reader.remaining c.loop-unread.reader)
           (g.W.Writer.contents c.args.writer.now) (g.W.Writer.contents c.loop-unread.writer)
           (g.R.Reader.failures c.args.reader.now) (g.R.Reader.failures c.loop-unread.reader)

@@ -13,8 +13,10 @@ put-requires-clause-periods g c κs within = omega (arith, c.requires.ready.2.fi
 pub returns-clause-puts : goal.returns-clause-puts
 returns-clause-puts g c = λ some n p d samples few bytes ready same at behind.
     let j = c.args.self.now.blocking in
-    let sound = sound_made c.in_ok-input.input c.new.result c.args.rate c.args.channels c.args.kept.items c.new.ensures
-    c.in_ok-input.was c.requires.rate c.requires.one_channel c.requires.few_channels c.requires.whole in
+    let sound = sound_made c.in_ok-input.input c.new.result c.args.self.now.rate c.args.self.now.channels
+    c.args.kept.items c.new.ensures
+    c.in_ok-input.was c.requires.ready.2.some_rate c.requires.ready.2.one_channel c.requires.ready.2.few_channels
+    c.requires.whole in
     let lists = lists_behind (few * j) (1 * j) (exchange_of n p.repetitions) (sound_read d samples) c.in_ok-input.input
     (ap (λ (y : Sound). y.channels) sound ∙ sym same) (ap (λ (y : Sound). y.samples) sound ∙ behind.1) in
     subst (λ k. PutsBlocks n p j (sound_read d samples) few 1 k bytes (g.W.Writer.contents c.args.writer.now)

@@ -23,8 +23,10 @@ returns-then-blocks-eq0-clause-puts g c = λ n p d samples few bytes ready same 
       arith,
       long,
       no_block c.args.self.now.blocking c.args.self.now.exchange.taken
-          c.args.self.now.exchange.made c.from.result c.args.channels c.len.result ready.some ready.limits.some_taken
-          ready.limits.few_made c.from.ensures c.requires.one_channel (omega (arith, c.len.ensures, c.requires.few))
+          c.args.self.now.exchange.made c.from.result c.args.self.now.channels c.len.result ready.some
+          ready.limits.some_taken
+          ready.limits.few_made c.from.ensures c.requires.ready.2.one_channel
+          (omega (arith, c.len.ensures, c.requires.few))
           c.if-blocks-eq0.true,
       block,
     ) in
@@ -37,23 +39,23 @@ overflow_mul-frames-2 g c =
     omega (
       arith,
       frames_small c.args.self.now.blocking c.args.self.now.exchange.taken c.args.self.now.exchange.made
-          c.from.result c.args.channels c.len.result ready.some ready.limits.some_taken ready.limits.few_made
-          c.from.ensures c.requires.one_channel (omega (arith, c.len.ensures, c.requires.few)),
+          c.from.result c.args.self.now.channels c.len.result ready.some ready.limits.some_taken ready.limits.few_made
+          c.from.ensures c.requires.ready.2.one_channel (omega (arith, c.len.ensures, c.requires.few)),
     )
 
 pub put-requires-clause-periods : goal.put-requires-clause-periods
 put-requires-clause-periods g c κs within =
     let ready = c.requires.ready.2 in
     periods_small c.args.self.now.blocking c.args.self.now.exchange.taken c.args.self.now.exchange.made c.from.result
-    c.args.channels c.len.result ready.some ready.limits.some_taken ready.limits.few_made c.from.ensures
-    c.requires.one_channel (omega (arith, c.len.ensures, c.requires.few))
+    c.args.self.now.channels c.len.result ready.some ready.limits.some_taken ready.limits.few_made c.from.ensures
+    c.requires.ready.2.one_channel (omega (arith, c.len.ensures, c.requires.few))
 
 pub put-requires-clause-missing : goal.put-requires-clause-missing
 put-requires-clause-missing g c κs within =
     let ready = c.requires.ready.2 in
     let there = periods_there c.args.self.now.blocking c.args.self.now.exchange.taken c.args.self.now.exchange.made
-    c.from.result c.args.channels c.len.result ready.some ready.limits.some_taken ready.limits.few_made
-    c.from.ensures c.requires.one_channel (omega (arith, c.len.ensures, c.requires.few)) in
+    c.from.result c.args.self.now.channels c.len.result ready.some ready.limits.some_taken ready.limits.few_made
+    c.from.ensures c.requires.ready.2.one_channel (omega (arith, c.len.ensures, c.requires.few)) in
     c.requires.missing (c.len.result / (c.args.self.now.blocking * c.args.self.now.exchange.taken * c.from.result)
     * c.args.self.now.blocking) (omega (arith, there, c.len.ensures))
 
@@ -70,12 +72,16 @@ returns-in_err-put-clause-puts g c = λ n p d samples few bytes ready same at be
       arith,
       long,
       blocks_there c.args.self.now.blocking c.args.self.now.exchange.taken
-          c.args.self.now.exchange.made c.from.result c.args.channels c.len.result ready.some ready.limits.some_taken
-          ready.limits.few_made c.from.ensures c.requires.one_channel (omega (arith, c.len.ensures, c.requires.few)),
+          c.args.self.now.exchange.made c.from.result c.args.self.now.channels c.len.result ready.some
+          ready.limits.some_taken
+          ready.limits.few_made c.from.ensures c.requires.ready.2.one_channel
+          (omega (arith, c.len.ensures, c.requires.few)),
       ap (λ k. blocks * k) block,
     ) in
-    let sound = sound_made c.in_ok-input.input c.new.result c.args.rate c.args.channels c.args.kept.items c.new.ensures
-    c.in_ok-input.was c.requires.rate c.requires.one_channel c.requires.few_channels c.requires.whole in
+    let sound = sound_made c.in_ok-input.input c.new.result c.args.self.now.rate c.args.self.now.channels
+    c.args.kept.items c.new.ensures
+    c.in_ok-input.was c.requires.ready.2.some_rate c.requires.ready.2.one_channel c.requires.ready.2.few_channels
+    c.requires.whole in
     let kept = ap (λ (y : Sound). y.samples) sound in
     let lists = lists_behind (few * j) (blocks * j) x (sound_read d samples) c.in_ok-input.input
     (ap (λ (y : Sound). y.channels) sound ∙ sym same) (kept ∙ behind.1) in
@@ -100,12 +106,16 @@ returns-clause-puts g c = λ n p d samples few bytes ready same at behind.
       arith,
       long,
       blocks_there c.args.self.now.blocking c.args.self.now.exchange.taken
-          c.args.self.now.exchange.made c.from.result c.args.channels c.len.result ready.some ready.limits.some_taken
-          ready.limits.few_made c.from.ensures c.requires.one_channel (omega (arith, c.len.ensures, c.requires.few)),
+          c.args.self.now.exchange.made c.from.result c.args.self.now.channels c.len.result ready.some
+          ready.limits.some_taken
+          ready.limits.few_made c.from.ensures c.requires.ready.2.one_channel
+          (omega (arith, c.len.ensures, c.requires.few)),
       ap (λ k. blocks * k) block,
     ) in
-    let sound = sound_made c.in_ok-input.input c.new.result c.args.rate c.args.channels c.args.kept.items c.new.ensures
-    c.in_ok-input.was c.requires.rate c.requires.one_channel c.requires.few_channels c.requires.whole in
+    let sound = sound_made c.in_ok-input.input c.new.result c.args.self.now.rate c.args.self.now.channels
+    c.args.kept.items c.new.ensures
+    c.in_ok-input.was c.requires.ready.2.some_rate c.requires.ready.2.one_channel c.requires.ready.2.few_channels
+    c.requires.whole in
     let kept = ap (λ (y : Sound). y.samples) sound in
     let lists = lists_behind (few * j) (blocks * j) x (sound_read d samples) c.in_ok-input.input
     (ap (λ (y : Sound). y.channels) sound ∙ sym same) (kept ∙ behind.1) in
@@ -120,8 +130,8 @@ returns-clause-puts g c = λ n p d samples few bytes ready same at behind.
       length-drop (blocks * (j * x.taken * d.channels)) c.args.kept.items,
       long,
       rest_short c.args.self.now.blocking c.args.self.now.exchange.taken c.args.self.now.exchange.made c.from.result
-          c.args.channels c.len.result ready.some ready.limits.some_taken ready.limits.few_made c.from.ensures
-          c.requires.one_channel (omega (arith, c.len.ensures, c.requires.few)),
+          c.args.self.now.channels c.len.result ready.some ready.limits.some_taken ready.limits.few_made c.from.ensures
+          c.requires.ready.2.one_channel (omega (arith, c.len.ensures, c.requires.few)),
       block,
       ap (λ k. blocks * k) block,
     ) in
@@ -132,4 +142,5 @@ returns-clause-puts g c = λ n p d samples few bytes ready same at behind.
     (c.in_ok-put.ensures.puts n p (sound_read d samples) few bytes ready at lists)
 
 pub returns-clause-ready : goal.returns-clause-ready
-returns-clause-ready g c = λ n p ready. (c.in_ok-put.ensures.ready n p ready, c.in_ok-put.ensures.owed.1)
+returns-clause-ready g c = λ n p ready.
+    (c.in_ok-put.ensures.ready n p ready, c.in_ok-put.ensures.owed.1, c.in_ok-put.ensures.owed.2)

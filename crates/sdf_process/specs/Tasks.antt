@@ -1,0 +1,39 @@
+-- What is run, and on what.
+use Rattle.std.specs.Prelude.{◌≡◌, ℕ, ◌≤◌, None, Some}
+use Rattle.sdf_graph.specs.Rates.{rates}
+use Rattle.sdf_actor.specs.Graphs.{graph_of}
+use Rattle.sdf_actor.specs.Sides.{list_count}
+use Rattle.sdf_actor.specs.declared.sides.Lists.TheVariants.{Inputs, Outputs}
+use Rattle.sdf_kit.specs.Kit.{kit_steps}
+use Rattle.sdf_sched.specs.Period.{IsPeriodOf}
+use Rattle.sdf_wav.specs.PiecesIn.{Reading, known_frames, IsReading}
+use Rattle.sdf_wav.specs.declared.wav.TheConstants.{MOST_CHANNELS}
+use Rattle.sdf_process.specs.declared.playing.Player.{Player}
+use Rattle.sdf_process.specs.declared.task.SharedTask.{SharedTask}
+use Rattle.sdf_process.specs.declared.task.Task.{Task}
+use Rattle.sdf_process.specs.Followed.{HasBlockTable}
+use Rattle.sdf_process.specs.Plans.{Suits}
+
+-- the plan is one of the net's, and a WAV file can have the channels of the net
+pub record IsTask (t : Task) : Type 0 where
+  pub suits : Suits t.net.now t.plan.now
+  pub inputs : list_count Inputs t.net.now.nodes ≤ MOST_CHANNELS
+  pub outputs : list_count Outputs t.net.now.nodes ≤ MOST_CHANNELS
+
+-- and the table is the plan's
+pub record IsSharedTask (t : SharedTask) : Type 0 where
+  pub task : IsTask t.task
+  pub table : HasBlockTable t.task.plan.now t.table.now
+
+-- the period is one of the net's, and a WAV file can have the channels of the net
+pub record CanPlay (p : Player) : Type 0 where
+  pub period : IsPeriodOf (rates (graph_of kit_steps p.net.now)) p.period.now
+  pub inputs : list_count Inputs p.net.now.nodes ≤ MOST_CHANNELS
+  pub outputs : list_count Outputs p.net.now.nodes ≤ MOST_CHANNELS
+
+-- nothing was read of a content of so many frames
+pub record IsUnheard (c : Reading) (frames : ℕ) : Type 0 where
+  pub sound : IsReading c
+  pub unread : c.gone ≡ 0
+  pub unspoilt : c.fault ≡ None
+  pub known : known_frames c ≡ Some frames

@@ -1,0 +1,20 @@
+//! What is run.
+
+use crate::plan::Plan;
+use sdf_actor::Net;
+use sdf_answer::BlockTable;
+use sdf_kit::Kit;
+
+/// A net, and the plan by which it is run.
+#[derive(Clone, Copy)]
+pub(crate) struct Task<'a> {
+    pub(crate) net: &'a Net<Kit>,
+    pub(crate) plan: &'a Plan,
+}
+
+/// A task that workers share, and the table of blocks that they follow.
+#[derive(Clone, Copy)]
+pub(crate) struct SharedTask<'a> {
+    pub(crate) task: Task<'a>,
+    pub(crate) table: &'a BlockTable,
+}
