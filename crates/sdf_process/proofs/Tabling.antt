@@ -11,7 +11,8 @@ use Rattle.sdf_process.specs.Placements.{ArePeriodsOf}
 use Rattle.sdf_process.specs.Plans.{ArePassed, IsPlanFault, IsScheduleBy, IsTableFault}
 
 pub untabled : (d : DesignValue) (o : Options) (s : Schedule) (j : ℕ) (f : Fault) → ArePassed o →
-    IsScheduleBy o.policy (graph_of kit_steps d.net) s → ArePeriodsOf d o s j → IsTableFault d o s j f → IsPlanFault d o f
+    IsScheduleBy o.policy (graph_of kit_steps d.net) s → ArePeriodsOf d o s j → IsTableFault d o s j f →
+    IsPlanFault d o f
 untabled d o s j fault.OutOfMemory passed schedule periods is = (passed, tt)
 untabled d o s j (fault.Table f) passed schedule periods is = (
   is.0,

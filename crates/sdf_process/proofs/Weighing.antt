@@ -75,7 +75,8 @@ module _ (d : DesignValue) (by_kind : Bool) (s : Schedule) (is : IsDesign d) (pe
       slice_index (weights_by d by_kind s.repetitions) a ≤ MOST_BLOCK * MOST_COST
   small a (inl known) = subst (λ w. w ≤ MOST_BLOCK * MOST_COST) (sym (at a known)) (within a known).1
   small a (inr past) =
-      let none : slice_index (weights_by d by_kind s.repetitions) a ≡ 0 = get_or_past (weights_by d by_kind s.repetitions) a 0
+      let none : slice_index (weights_by d by_kind s.repetitions) a ≡ 0 =
+      get_or_past (weights_by d by_kind s.repetitions) a 0
       (subst (λ n. n ≤ a) (sym (length-map-range_with_len weight 0 (length d.net.nodes))) past) in
       omega (arith, none)
 

@@ -3,6 +3,7 @@ use Rattle.std.specs.Prelude.{◌≡◌, ℕ, ◌+◌, ◌-◌, ◌*◌, ◌/◌
 use Rattle.std.specs.Prelude.{map, option_map, slice_index_or, Option, Some, None}
 use Rattle.std.specs.Int.{w16, saturate_signed}
 use Rattle.std.specs.List.{flat_map, range_with_len}
+use Rattle.sdf_limits.specs.declared.TheConstants.{MOST_PERIOD, MOST_RATE}
 use Rattle.sdf_wav.specs.Sound.{Sound, frames_of}
 use Rattle.sdf_wav.specs.Canonical.{size_fault}
 use Rattle.sdf_wav.specs.PiecesOut.{file_header}
@@ -69,13 +70,12 @@ output_header x a = file_header (rate_for x a.rate) x.outputs (frames_for x a.fr
 abbrev pub sample : Sound → ℕ → ℕ → ℤ
 sample s e i = slice_index_or s.samples (i * s.channels + e) (pos 0)
 
--- the first n samples of a channel
-abbrev pub channel_samples : Sound → ℕ → ℕ → List ℤ
-channel_samples s n e = map (sample s e) (range_with_len 0 n)
-
--- n samples of a channel from a place on
+-- n samples of a channel from a place on, and the first n
 abbrev pub channel_samples_from : Sound → ℕ → ℕ → ℕ → List ℤ
 channel_samples_from s at n e = map (sample s e) (range_with_len at n)
+
+abbrev pub channel_samples : Sound → ℕ → ℕ → List ℤ
+channel_samples s n e = channel_samples_from s 0 n e
 
 -- each channel that is read, for so many periods
 abbrev pub lists_to : ℕ → Exchange → Sound → List (List ℤ)
@@ -93,12 +93,12 @@ input_lists x s = lists_to (periods_of x s) x s
 abbrev pub frame : List (List ℤ) → ℕ → List ℤ
 frame lists i = map (λ xs. saturate_signed w16 (slice_index_or xs i (pos 0))) lists
 
--- n frames, one after the other, and those from a place on
-abbrev pub interleaved : ℕ → List (List ℤ) → List ℤ
-interleaved n lists = flat_map (frame lists) (range_with_len 0 n)
-
+-- n frames from a place on, one after the other, and the first n
 abbrev pub interleaved_from : ℕ → ℕ → List (List ℤ) → List ℤ
 interleaved_from at n lists = flat_map (frame lists) (range_with_len at n)
+
+abbrev pub interleaved : ℕ → List (List ℤ) → List ℤ
+interleaved n lists = interleaved_from 0 n lists
 
 -- the sound of the output lists
 abbrev pub output_of : Exchange → Sound → List (List ℤ) → Sound
@@ -112,8 +112,8 @@ output_of x s lists = record {
 pub record IsExchange (x : Exchange) : Type 0 where
   pub some_taken : 0 < x.taken
   pub some_made : 0 < x.made
-  pub few_taken : x.taken ≤ 67108864
-  pub few_made : x.made ≤ 67108864
+  pub few_taken : x.taken ≤ MOST_RATE * MOST_PERIOD
+  pub few_made : x.made ≤ MOST_RATE * MOST_PERIOD
   pub few_inputs : x.inputs ≤ MOST_CHANNELS
   pub one_output : 1 ≤ x.outputs
   pub few_outputs : x.outputs ≤ MOST_CHANNELS

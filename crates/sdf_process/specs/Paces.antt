@@ -38,8 +38,8 @@ one_thread = record {
   patience = 1000;
 }
 
--- The workers of a plan's table can be at most so many tenths as fast as one: the worker with the heaviest actors has all
--- that these weigh to do.
+-- The workers of a plan's table can be at most so many tenths as fast as one: the worker with the heaviest actors has
+-- all that these weigh to do.
 pub record HasSpeed (d : DesignValue) (workers : ℕ) (p : PlanValue) (tenths : ℕ) : Type 0 where
   pub table : Tabled
   pub is : p.table ≡ Some table

@@ -22,4 +22,5 @@ returns-clause-loads c =
     let graph = c.graph.ensures.value ∙ ap (graph_of kit_steps) c.net-net.ensures.value in
     let few : length d.net.nodes ≤ 64 = subst (λ g. g.actors ≤ 64) graph c.channels.ensures.shape.few in
     let are : c.loop-actor.weights.items ≡ weights_by d c.args.by_kind c.args.period.now.repetitions = search rules in
-    subst (AreLoads (length d.net.nodes)) (sym are) (are_loads d c.args.by_kind c.args.period.now c.net-net.ensures.whole c.requires few)
+    subst (AreLoads (length d.net.nodes)) (sym are)
+    (are_loads d c.args.by_kind c.args.period.now c.net-net.ensures.whole c.requires few)
