@@ -28,7 +28,7 @@ use Rattle.sdf_process.proofs.Outcomes.{appends_join, front_join, keeps_same}
 use Rattle.sdf_process.proofs.Streamed.{behind_on, stands_on}
 use Rattle.sdf_process.proofs.Flow.{came_to, reads_lose, stood, CanFlow, Flows}
 
-module _ (n : Netlist Kit ℤ) (p : Schedule) (j : ℕ) (c : Reading) (frames all : ℕ)
+module _ {n : Netlist Kit ℤ} {p : Schedule} {j : ℕ} {c : Reading} {frames all : ℕ}
     (can : CanFlow n p j c frames all) where
   abbrev x : Exchange
   x = exchange_of n p.repetitions
@@ -92,8 +92,8 @@ module _ (n : Netlist Kit ℤ) (p : Schedule) (j : ℕ) (c : Reading) (frames al
       nothing : (k : ℕ) → ◌≡◌ {A = List ℤ} [] (drop k [])
       nothing k = sym (drop-nil k)
 
-  module _ (unread : ℕ) (some_left : unread ≤ frames) (old now before after : Option (List ℕ)) (r r1 w w1 : ℕ)
-      (kept : List ℤ) (content : Reading) (o : Owed) (v : SessionValue Kit (List ℤ) ℤ)
+  module _ {unread : ℕ} (some_left : unread ≤ frames) {old now before after : Option (List ℕ)} {r r1 w w1 : ℕ}
+      {kept : List ℤ} {content : Reading} {o : Owed} {v : SessionValue Kit (List ℤ) ℤ}
       (here : Here unread old now before after r r1 w w1 kept content o v) where
     within : 2 * length here.samples ≤ c.size
     within =

@@ -52,7 +52,8 @@ loop-unread-init g c =
           (c.in_ok-open_session.ensures.stands sound);
       blocking = c.blocking.ensures;
       channels = c.channels-channels.ensures.value;
-      flows = flows_first n p j d c.args.hearing.frames c.args.hearing.output.missing can
+      can = can;
+      flows = flows_first can
           (g.R.Reader.remaining c.args.reader.now)
           (g.W.Writer.contents c.args.writer.now) (g.R.Reader.failures c.args.reader.now)
           (g.W.Writer.failures c.args.writer.now)
@@ -62,91 +63,32 @@ loop-unread-init g c =
 
 pub read_more-requires-clause-unspoilt : goal.read_more-requires-clause-unspoilt
 read_more-requires-clause-unspoilt g c =
-    let n = c.args.shared.task.net.now in
-    let p = c.args.shared.task.plan.now.period in
-    let j = c.args.shared.task.plan.now.blocking in
-    let d = c.args.hearing.content in
-    let can = can_flow n c.args.shared.task.plan.now c.args.shared.table.now.table c.requires.shared.table.table
-    c.requires.shared.task.suits
-    c.nets_have_periods.ensures d
-    c.args.hearing.frames c.args.hearing.output
-    c.of_net-exchange.result c.of_net-exchange.ensures.value c.of_net-exchange.ensures.limits c.requires.owed
-    c.runs_go_on.ensures c.requires.content.sound c.requires.content.unread c.requires.content.known in
     let at = c.loop-unread.invariant in
-    unspoilt n p j d c.args.hearing.frames c.args.hearing.output.missing can c.loop-unread.unread at.within
-    (g.R.Reader.remaining c.args.reader.now) (g.R.Reader.remaining c.loop-unread.reader)
-    (g.W.Writer.contents c.args.writer.now) (g.W.Writer.contents c.loop-unread.writer)
-    (g.R.Reader.failures c.args.reader.now) (g.R.Reader.failures c.loop-unread.reader)
-    (g.W.Writer.failures c.args.writer.now) (g.W.Writer.failures c.loop-unread.writer) c.loop-unread.kept.items
-    c.loop-unread.content c.loop-unread.stream.output c.loop-unread.stream.session at.flows c.requires.content.unspoilt
+    unspoilt at.can at.within at.flows c.requires.content.unspoilt
 
 pub read_more-requires-clause-sized : goal.read_more-requires-clause-sized
 read_more-requires-clause-sized g c =
-    let n = c.args.shared.task.net.now in
-    let p = c.args.shared.task.plan.now.period in
-    let j = c.args.shared.task.plan.now.blocking in
-    let d = c.args.hearing.content in
-    let can = can_flow n c.args.shared.task.plan.now c.args.shared.table.now.table c.requires.shared.table.table
-    c.requires.shared.task.suits
-    c.nets_have_periods.ensures d
-    c.args.hearing.frames c.args.hearing.output
-    c.of_net-exchange.result c.of_net-exchange.ensures.value c.of_net-exchange.ensures.limits c.requires.owed
-    c.runs_go_on.ensures c.requires.content.sound c.requires.content.unread c.requires.content.known in
     let at = c.loop-unread.invariant in
-    sized n p j d c.args.hearing.frames c.args.hearing.output.missing can c.loop-unread.unread at.within
-    (g.R.Reader.remaining c.args.reader.now) (g.R.Reader.remaining c.loop-unread.reader)
-    (g.W.Writer.contents c.args.writer.now) (g.W.Writer.contents c.loop-unread.writer)
-    (g.R.Reader.failures c.args.reader.now) (g.R.Reader.failures c.loop-unread.reader)
-    (g.W.Writer.failures c.args.writer.now) (g.W.Writer.failures c.loop-unread.writer) c.loop-unread.kept.items
-    c.loop-unread.content c.loop-unread.stream.output c.loop-unread.stream.session at.flows
+    sized at.can at.within at.flows
 
 pub read_more-requires-clause-enough : goal.read_more-requires-clause-enough
 read_more-requires-clause-enough g c =
-    let n = c.args.shared.task.net.now in
-    let p = c.args.shared.task.plan.now.period in
-    let j = c.args.shared.task.plan.now.blocking in
-    let d = c.args.hearing.content in
-    let can = can_flow n c.args.shared.task.plan.now c.args.shared.table.now.table c.requires.shared.table.table
-    c.requires.shared.task.suits
-    c.nets_have_periods.ensures d
-    c.args.hearing.frames c.args.hearing.output
-    c.of_net-exchange.result c.of_net-exchange.ensures.value c.of_net-exchange.ensures.limits c.requires.owed
-    c.runs_go_on.ensures c.requires.content.sound c.requires.content.unread c.requires.content.known in
     let at = c.loop-unread.invariant in
-    asks_enough n p j d c.args.hearing.frames c.args.hearing.output.missing can c.loop-unread.unread at.within
-    (g.R.Reader.remaining c.args.reader.now) (g.R.Reader.remaining c.loop-unread.reader)
-    (g.W.Writer.contents c.args.writer.now) (g.W.Writer.contents c.loop-unread.writer)
-    (g.R.Reader.failures c.args.reader.now) (g.R.Reader.failures c.loop-unread.reader)
-    (g.W.Writer.failures c.args.writer.now) (g.W.Writer.failures c.loop-unread.writer) c.loop-unread.kept.items
-    c.loop-unread.content c.loop-unread.stream.output c.loop-unread.stream.session at.flows
-    c.min-many.result (search rules)
+    asks_enough at.can at.within at.flows c.min-many.result (search rules)
 
 pub returns-in_err-samples : goal.returns-in_err-samples
 returns-in_err-samples g c =
     let n = c.args.shared.task.net.now in
     let p = c.args.shared.task.plan.now.period in
-    let j = c.args.shared.task.plan.now.blocking in
     let d = c.args.hearing.content in
-    let can = can_flow n c.args.shared.task.plan.now c.args.shared.table.now.table c.requires.shared.table.table
-    c.requires.shared.task.suits
-    c.nets_have_periods.ensures d
-    c.args.hearing.frames c.args.hearing.output
-    c.of_net-exchange.result c.of_net-exchange.ensures.value c.of_net-exchange.ensures.limits c.requires.owed
-    c.runs_go_on.ensures c.requires.content.sound c.requires.content.unread c.requires.content.known in
     let at = c.loop-unread.invariant in
-    run_fails (λ (r : Result (Unit {0}) Fault). Streams c.args.shared.task.net.now
-    c.args.shared.task.plan.now.period.repetitions c.args.hearing.content
+    run_fails (λ (r : Result (Unit {0}) Fault). Streams n p.repetitions d
     (g.R.Reader.remaining c.args.reader.now) (g.R.Reader.remaining c.read_more.new.reader)
     (g.W.Writer.contents c.args.writer.now) (g.W.Writer.contents c.loop-unread.writer)
     (g.R.Reader.failures c.args.reader.now) (g.R.Reader.failures c.read_more.new.reader)
     (g.W.Writer.failures c.args.writer.now) (g.W.Writer.failures c.loop-unread.writer) r)
     c.in_err-samples.field-0.0 c.from_residual-in_err-samples.result c.from_residual-in_err-samples.ensures.1
-    (reading_failed n p j d c.args.hearing.frames c.args.hearing.output.missing can c.loop-unread.unread at.within
-    (g.R.Reader.remaining c.args.reader.now) (g.R.Reader.remaining c.loop-unread.reader)
-    (g.W.Writer.contents c.args.writer.now) (g.W.Writer.contents c.loop-unread.writer)
-    (g.R.Reader.failures c.args.reader.now) (g.R.Reader.failures c.loop-unread.reader)
-    (g.W.Writer.failures c.args.writer.now) (g.W.Writer.failures c.loop-unread.writer) c.loop-unread.kept.items
-    c.loop-unread.content c.loop-unread.stream.output c.loop-unread.stream.session at.flows
+    (reading_failed at.can at.within at.flows
     (g.R.Reader.remaining c.read_more.new.reader) (g.R.Reader.failures c.read_more.new.reader)
     c.in_err-samples.field-0.0 c.in_err-samples.field-0.0 refl
     (c.in_err-samples.ensures d at.flows.samples (g.R.Reader.remaining c.args.reader.now)
@@ -161,78 +103,36 @@ put_whole-requires-clause-ready g c κs within = (
 
 pub put_whole-requires-clause-whole : goal.put_whole-requires-clause-whole
 put_whole-requires-clause-whole g c κs within =
-    let n = c.args.shared.task.net.now in
-    let p = c.args.shared.task.plan.now.period in
-    let j = c.args.shared.task.plan.now.blocking in
     let d = c.args.hearing.content in
-    let can = can_flow n c.args.shared.task.plan.now c.args.shared.table.now.table c.requires.shared.table.table
-    c.requires.shared.task.suits
-    c.nets_have_periods.ensures d
-    c.args.hearing.frames c.args.hearing.output
-    c.of_net-exchange.result c.of_net-exchange.ensures.value c.of_net-exchange.ensures.limits c.requires.owed
-    c.runs_go_on.ensures c.requires.content.sound c.requires.content.unread c.requires.content.known in
     let at = c.loop-unread.invariant in
+    let more = c.in_ok-samples.ensures d at.flows.samples (g.R.Reader.remaining c.args.reader.now)
+    (g.R.Reader.failures c.args.reader.now) at.flows.content_is at.flows.read at.flows.reader in
     subst (λ k. length c.in_ok-samples.samples.items % k ≡ 0) (sym at.channels)
-    (held_whole n p j d c.args.hearing.frames c.args.hearing.output.missing can c.loop-unread.unread at.within
-    (g.R.Reader.remaining c.args.reader.now) (g.R.Reader.remaining c.loop-unread.reader)
-    (g.W.Writer.contents c.args.writer.now) (g.W.Writer.contents c.loop-unread.writer)
-    (g.R.Reader.failures c.args.reader.now) (g.R.Reader.failures c.loop-unread.reader)
-    (g.W.Writer.failures c.args.writer.now) (g.W.Writer.failures c.loop-unread.writer) c.loop-unread.kept.items
-    c.loop-unread.content c.loop-unread.stream.output c.loop-unread.stream.session at.flows
+    (held_whole at.can at.within at.flows
     c.min-many.result (search rules) (g.R.Reader.remaining c.read_more.new.reader)
-    (g.R.Reader.failures c.read_more.new.reader) c.read_more.new.content c.in_ok-samples.samples.items
-    (c.in_ok-samples.ensures d at.flows.samples (g.R.Reader.remaining c.args.reader.now)
-    (g.R.Reader.failures c.args.reader.now) at.flows.content_is at.flows.read at.flows.reader))
+    (g.R.Reader.failures c.read_more.new.reader) c.read_more.new.content c.in_ok-samples.samples.items more)
 
 pub put_whole-requires-clause-few : goal.put_whole-requires-clause-few
 put_whole-requires-clause-few g c κs within =
-    let n = c.args.shared.task.net.now in
-    let p = c.args.shared.task.plan.now.period in
-    let j = c.args.shared.task.plan.now.blocking in
     let d = c.args.hearing.content in
-    let can = can_flow n c.args.shared.task.plan.now c.args.shared.table.now.table c.requires.shared.table.table
-    c.requires.shared.task.suits
-    c.nets_have_periods.ensures d
-    c.args.hearing.frames c.args.hearing.output
-    c.of_net-exchange.result c.of_net-exchange.ensures.value c.of_net-exchange.ensures.limits c.requires.owed
-    c.runs_go_on.ensures c.requires.content.sound c.requires.content.unread c.requires.content.known in
     let at = c.loop-unread.invariant in
-    held_few n p j d c.args.hearing.frames c.args.hearing.output.missing can c.loop-unread.unread at.within
-    (g.R.Reader.remaining c.args.reader.now) (g.R.Reader.remaining c.loop-unread.reader)
-    (g.W.Writer.contents c.args.writer.now) (g.W.Writer.contents c.loop-unread.writer)
-    (g.R.Reader.failures c.args.reader.now) (g.R.Reader.failures c.loop-unread.reader)
-    (g.W.Writer.failures c.args.writer.now) (g.W.Writer.failures c.loop-unread.writer) c.loop-unread.kept.items
-    c.loop-unread.content c.loop-unread.stream.output c.loop-unread.stream.session at.flows
+    let more = c.in_ok-samples.ensures d at.flows.samples (g.R.Reader.remaining c.args.reader.now)
+    (g.R.Reader.failures c.args.reader.now) at.flows.content_is at.flows.read at.flows.reader in
+    held_few at.can at.within at.flows
     c.min-many.result (search rules) (g.R.Reader.remaining c.read_more.new.reader)
-    (g.R.Reader.failures c.read_more.new.reader) c.read_more.new.content c.in_ok-samples.samples.items
-    (c.in_ok-samples.ensures d at.flows.samples (g.R.Reader.remaining c.args.reader.now)
-    (g.R.Reader.failures c.args.reader.now) at.flows.content_is at.flows.read at.flows.reader)
+    (g.R.Reader.failures c.read_more.new.reader) c.read_more.new.content c.in_ok-samples.samples.items more
 
 pub put_whole-requires-clause-missing : goal.put_whole-requires-clause-missing
 put_whole-requires-clause-missing g c κs within =
-    let n = c.args.shared.task.net.now in
-    let p = c.args.shared.task.plan.now.period in
-    let j = c.args.shared.task.plan.now.blocking in
     let d = c.args.hearing.content in
-    let can = can_flow n c.args.shared.task.plan.now c.args.shared.table.now.table c.requires.shared.table.table
-    c.requires.shared.task.suits
-    c.nets_have_periods.ensures d
-    c.args.hearing.frames c.args.hearing.output
-    c.of_net-exchange.result c.of_net-exchange.ensures.value c.of_net-exchange.ensures.limits c.requires.owed
-    c.runs_go_on.ensures c.requires.content.sound c.requires.content.unread c.requires.content.known in
     let at = c.loop-unread.invariant in
+    let more = c.in_ok-samples.ensures d at.flows.samples (g.R.Reader.remaining c.args.reader.now)
+    (g.R.Reader.failures c.args.reader.now) at.flows.content_is at.flows.read at.flows.reader in
     λ periods there.
     subst (λ y. periods * y.made ≤ c.loop-unread.stream.output.missing) (sym at.ready.exchange)
-    (held_missing n p j d c.args.hearing.frames c.args.hearing.output.missing can c.loop-unread.unread at.within
-    (g.R.Reader.remaining c.args.reader.now) (g.R.Reader.remaining c.loop-unread.reader)
-    (g.W.Writer.contents c.args.writer.now) (g.W.Writer.contents c.loop-unread.writer)
-    (g.R.Reader.failures c.args.reader.now) (g.R.Reader.failures c.loop-unread.reader)
-    (g.W.Writer.failures c.args.writer.now) (g.W.Writer.failures c.loop-unread.writer) c.loop-unread.kept.items
-    c.loop-unread.content c.loop-unread.stream.output c.loop-unread.stream.session at.flows
+    (held_missing at.can at.within at.flows
     c.min-many.result (search rules) (g.R.Reader.remaining c.read_more.new.reader)
-    (g.R.Reader.failures c.read_more.new.reader) c.read_more.new.content c.in_ok-samples.samples.items
-    (c.in_ok-samples.ensures d at.flows.samples (g.R.Reader.remaining c.args.reader.now)
-    (g.R.Reader.failures c.args.reader.now) at.flows.content_is at.flows.read at.flows.reader)
+    (g.R.Reader.failures c.read_more.new.reader) c.read_more.new.content c.in_ok-samples.samples.items more
     periods (subst (λ y. periods * y.taken * d.channels ≤ length c.in_ok-samples.samples.items) at.ready.exchange
     (subst (λ k. periods * c.loop-unread.stream.exchange.taken * k ≤ length c.in_ok-samples.samples.items)
     at.channels there)))
@@ -241,34 +141,19 @@ pub returns-in_err-kept : goal.returns-in_err-kept
 returns-in_err-kept g c =
     let n = c.args.shared.task.net.now in
     let p = c.args.shared.task.plan.now.period in
-    let j = c.args.shared.task.plan.now.blocking in
     let d = c.args.hearing.content in
-    let can = can_flow n c.args.shared.task.plan.now c.args.shared.table.now.table c.requires.shared.table.table
-    c.requires.shared.task.suits
-    c.nets_have_periods.ensures d
-    c.args.hearing.frames c.args.hearing.output
-    c.of_net-exchange.result c.of_net-exchange.ensures.value c.of_net-exchange.ensures.limits c.requires.owed
-    c.runs_go_on.ensures c.requires.content.sound c.requires.content.unread c.requires.content.known in
     let at = c.loop-unread.invariant in
     let more = c.in_ok-samples.ensures d at.flows.samples (g.R.Reader.remaining c.args.reader.now)
     (g.R.Reader.failures c.args.reader.now) at.flows.content_is at.flows.read at.flows.reader in
-    run_fails (λ (r : Result (Unit {0}) Fault). Streams c.args.shared.task.net.now
-    c.args.shared.task.plan.now.period.repetitions c.args.hearing.content
+    run_fails (λ (r : Result (Unit {0}) Fault). Streams n p.repetitions d
     (g.R.Reader.remaining c.args.reader.now) (g.R.Reader.remaining c.read_more.new.reader)
     (g.W.Writer.contents c.args.writer.now) (g.W.Writer.contents c.put_whole.new.writer)
     (g.R.Reader.failures c.args.reader.now) (g.R.Reader.failures c.read_more.new.reader)
     (g.W.Writer.failures c.args.writer.now) (g.W.Writer.failures c.put_whole.new.writer) r)
     c.in_err-kept.field-0.0 c.from_residual-in_err-kept.result c.from_residual-in_err-kept.ensures.1
-    (putting_failed n p j d c.args.hearing.frames c.args.hearing.output.missing can c.loop-unread.unread at.within
-    (g.R.Reader.remaining c.args.reader.now) (g.R.Reader.remaining c.loop-unread.reader)
-    (g.W.Writer.contents c.args.writer.now) (g.W.Writer.contents c.loop-unread.writer)
-    (g.R.Reader.failures c.args.reader.now) (g.R.Reader.failures c.loop-unread.reader)
-    (g.W.Writer.failures c.args.writer.now) (g.W.Writer.failures c.loop-unread.writer) c.loop-unread.kept.items
-    c.loop-unread.content c.loop-unread.stream.output c.loop-unread.stream.session at.flows
+    (putting_failed at.can at.within at.flows
     c.min-many.result (search rules) (g.R.Reader.remaining c.read_more.new.reader)
-    (g.R.Reader.failures c.read_more.new.reader) c.read_more.new.content c.in_ok-samples.samples.items
-    (c.in_ok-samples.ensures d at.flows.samples (g.R.Reader.remaining c.args.reader.now)
-    (g.R.Reader.failures c.args.reader.now) at.flows.content_is at.flows.read at.flows.reader)
+    (g.R.Reader.failures c.read_more.new.reader) c.read_more.new.content c.in_ok-samples.samples.items more
     (g.W.Writer.contents c.put_whole.new.writer) (g.W.Writer.failures c.put_whole.new.writer)
     c.put_whole.new.self.output c.put_whole.new.self.session c.in_err-kept.field-0.0 c.in_err-kept.field-0.0 refl
     (subst (λ k. PutsWhole n p k d (at.flows.samples ++ more.0) at.flows.few at.flows.bytes
@@ -280,41 +165,20 @@ returns-in_err-kept g c =
     (sym at.channels)
     (subst (λ k. StandsWhole n p k (sound_read d (at.flows.samples ++ more.0)) at.flows.few at.flows.bytes
     c.loop-unread.stream.session) (sym at.blocking)
-    (stands_held n p j d c.args.hearing.frames c.args.hearing.output.missing can c.loop-unread.unread at.within
-    (g.R.Reader.remaining c.args.reader.now) (g.R.Reader.remaining c.loop-unread.reader)
-    (g.W.Writer.contents c.args.writer.now) (g.W.Writer.contents c.loop-unread.writer)
-    (g.R.Reader.failures c.args.reader.now) (g.R.Reader.failures c.loop-unread.reader)
-    (g.W.Writer.failures c.args.writer.now) (g.W.Writer.failures c.loop-unread.writer) c.loop-unread.kept.items
-    c.loop-unread.content c.loop-unread.stream.output c.loop-unread.stream.session at.flows
+    (stands_held at.can at.within at.flows
     c.min-many.result (search rules) (g.R.Reader.remaining c.read_more.new.reader)
-    (g.R.Reader.failures c.read_more.new.reader) c.read_more.new.content c.in_ok-samples.samples.items
-    (c.in_ok-samples.ensures d at.flows.samples (g.R.Reader.remaining c.args.reader.now)
-    (g.R.Reader.failures c.args.reader.now) at.flows.content_is at.flows.read at.flows.reader)))
+    (g.R.Reader.failures c.read_more.new.reader) c.read_more.new.content c.in_ok-samples.samples.items more))
     (subst (λ k. AreBehind (exchange_of n p.repetitions) d (at.flows.samples ++ more.0) (at.flows.few * k)
     c.in_ok-samples.samples.items) (sym at.blocking)
-    (behind_held n p j d c.args.hearing.frames c.args.hearing.output.missing can c.loop-unread.unread at.within
-    (g.R.Reader.remaining c.args.reader.now) (g.R.Reader.remaining c.loop-unread.reader)
-    (g.W.Writer.contents c.args.writer.now) (g.W.Writer.contents c.loop-unread.writer)
-    (g.R.Reader.failures c.args.reader.now) (g.R.Reader.failures c.loop-unread.reader)
-    (g.W.Writer.failures c.args.writer.now) (g.W.Writer.failures c.loop-unread.writer) c.loop-unread.kept.items
-    c.loop-unread.content c.loop-unread.stream.output c.loop-unread.stream.session at.flows
+    (behind_held at.can at.within at.flows
     c.min-many.result (search rules) (g.R.Reader.remaining c.read_more.new.reader)
-    (g.R.Reader.failures c.read_more.new.reader) c.read_more.new.content c.in_ok-samples.samples.items
-    (c.in_ok-samples.ensures d at.flows.samples (g.R.Reader.remaining c.args.reader.now)
-    (g.R.Reader.failures c.args.reader.now) at.flows.content_is at.flows.read at.flows.reader))))))
+    (g.R.Reader.failures c.read_more.new.reader) c.read_more.new.content c.in_ok-samples.samples.items more)))))
 
 pub loop-unread-preserved : goal.loop-unread-preserved
 loop-unread-preserved g c =
     let n = c.args.shared.task.net.now in
     let p = c.args.shared.task.plan.now.period in
-    let j = c.args.shared.task.plan.now.blocking in
     let d = c.args.hearing.content in
-    let can = can_flow n c.args.shared.task.plan.now c.args.shared.table.now.table c.requires.shared.table.table
-    c.requires.shared.task.suits
-    c.nets_have_periods.ensures d
-    c.args.hearing.frames c.args.hearing.output
-    c.of_net-exchange.result c.of_net-exchange.ensures.value c.of_net-exchange.ensures.limits c.requires.owed
-    c.runs_go_on.ensures c.requires.content.sound c.requires.content.unread c.requires.content.known in
     let at = c.loop-unread.invariant in
     let more = c.in_ok-samples.ensures d at.flows.samples (g.R.Reader.remaining c.args.reader.now)
     (g.R.Reader.failures c.args.reader.now) at.flows.content_is at.flows.read at.flows.reader in
@@ -324,17 +188,10 @@ loop-unread-preserved g c =
       ready = ready.0;
       blocking = ready.1 ∙ at.blocking;
       channels = ready.2 ∙ at.channels;
-      flows = flows_on n p j d c.args.hearing.frames c.args.hearing.output.missing can c.loop-unread.unread at.within
-          (g.R.Reader.remaining c.args.reader.now) (g.R.Reader.remaining c.loop-unread.reader)
-          (g.W.Writer.contents c.args.writer.now) (g.W.Writer.contents c.loop-unread.writer)
-          (g.R.Reader.failures c.args.reader.now) (g.R.Reader.failures c.loop-unread.reader)
-          (g.W.Writer.failures c.args.writer.now) (g.W.Writer.failures c.loop-unread.writer)
-          c.loop-unread.kept.items c.loop-unread.content c.loop-unread.stream.output
-          c.loop-unread.stream.session at.flows
+      can = at.can;
+      flows = flows_on at.can at.within at.flows
           c.min-many.result (search rules) (g.R.Reader.remaining c.read_more.new.reader)
-          (g.R.Reader.failures c.read_more.new.reader) c.read_more.new.content c.in_ok-samples.samples.items
-          (c.in_ok-samples.ensures d at.flows.samples (g.R.Reader.remaining c.args.reader.now)
-          (g.R.Reader.failures c.args.reader.now) at.flows.content_is at.flows.read at.flows.reader)
+          (g.R.Reader.failures c.read_more.new.reader) c.read_more.new.content c.in_ok-samples.samples.items more
           (g.W.Writer.contents c.put_whole.new.writer) (g.W.Writer.failures c.put_whole.new.writer)
           c.put_whole.new.self.output c.put_whole.new.self.session c.in_ok-kept.kept.items
           (subst (λ k. PutsWhole n p k d (at.flows.samples ++ more.0) at.flows.few at.flows.bytes
@@ -346,30 +203,14 @@ loop-unread-preserved g c =
           (sym at.channels)
           (subst (λ k. StandsWhole n p k (sound_read d (at.flows.samples ++ more.0)) at.flows.few at.flows.bytes
           c.loop-unread.stream.session) (sym at.blocking)
-          (stands_held n p j d c.args.hearing.frames c.args.hearing.output.missing can c.loop-unread.unread at.within
-          (g.R.Reader.remaining c.args.reader.now) (g.R.Reader.remaining c.loop-unread.reader)
-          (g.W.Writer.contents c.args.writer.now) (g.W.Writer.contents c.loop-unread.writer)
-          (g.R.Reader.failures c.args.reader.now) (g.R.Reader.failures c.loop-unread.reader)
-          (g.W.Writer.failures c.args.writer.now) (g.W.Writer.failures c.loop-unread.writer)
-          c.loop-unread.kept.items c.loop-unread.content c.loop-unread.stream.output
-          c.loop-unread.stream.session at.flows
+          (stands_held at.can at.within at.flows
           c.min-many.result (search rules) (g.R.Reader.remaining c.read_more.new.reader)
-          (g.R.Reader.failures c.read_more.new.reader) c.read_more.new.content c.in_ok-samples.samples.items
-          (c.in_ok-samples.ensures d at.flows.samples (g.R.Reader.remaining c.args.reader.now)
-          (g.R.Reader.failures c.args.reader.now) at.flows.content_is at.flows.read at.flows.reader)))
+          (g.R.Reader.failures c.read_more.new.reader) c.read_more.new.content c.in_ok-samples.samples.items more))
           (subst (λ k. AreBehind (exchange_of n p.repetitions) d (at.flows.samples ++ more.0) (at.flows.few * k)
           c.in_ok-samples.samples.items) (sym at.blocking)
-          (behind_held n p j d c.args.hearing.frames c.args.hearing.output.missing can c.loop-unread.unread at.within
-          (g.R.Reader.remaining c.args.reader.now) (g.R.Reader.remaining c.loop-unread.reader)
-          (g.W.Writer.contents c.args.writer.now) (g.W.Writer.contents c.loop-unread.writer)
-          (g.R.Reader.failures c.args.reader.now) (g.R.Reader.failures c.loop-unread.reader)
-          (g.W.Writer.failures c.args.writer.now) (g.W.Writer.failures c.loop-unread.writer)
-          c.loop-unread.kept.items c.loop-unread.content c.loop-unread.stream.output
-          c.loop-unread.stream.session at.flows
+          (behind_held at.can at.within at.flows
           c.min-many.result (search rules) (g.R.Reader.remaining c.read_more.new.reader)
-          (g.R.Reader.failures c.read_more.new.reader) c.read_more.new.content c.in_ok-samples.samples.items
-          (c.in_ok-samples.ensures d at.flows.samples (g.R.Reader.remaining c.args.reader.now)
-          (g.R.Reader.failures c.args.reader.now) at.flows.content_is at.flows.read at.flows.reader)))));
+          (g.R.Reader.failures c.read_more.new.reader) c.read_more.new.content c.in_ok-samples.samples.items more))));
     }
 
 pub put_rest-requires-clause-ready : goal.put_rest-requires-clause-ready
@@ -381,48 +222,20 @@ put_rest-requires-clause-ready g c κs within = (
 
 pub put_rest-requires-clause-whole : goal.put_rest-requires-clause-whole
 put_rest-requires-clause-whole g c κs within =
-    let n = c.args.shared.task.net.now in
-    let p = c.args.shared.task.plan.now.period in
-    let j = c.args.shared.task.plan.now.blocking in
-    let d = c.args.hearing.content in
-    let can = can_flow n c.args.shared.task.plan.now c.args.shared.table.now.table c.requires.shared.table.table
-    c.requires.shared.task.suits
-    c.nets_have_periods.ensures d
-    c.args.hearing.frames c.args.hearing.output
-    c.of_net-exchange.result c.of_net-exchange.ensures.value c.of_net-exchange.ensures.limits c.requires.owed
-    c.runs_go_on.ensures c.requires.content.sound c.requires.content.unread c.requires.content.known in
     let at = c.loop-unread.invariant in
     let end : c.loop-unread.unread ≡ 0 = search rules in
     subst (λ k. length c.loop-unread.kept.items % k ≡ 0) (sym at.channels)
-    (kept_whole n p j d c.args.hearing.frames c.args.hearing.output.missing can c.loop-unread.unread at.within
-    (g.R.Reader.remaining c.args.reader.now) (g.R.Reader.remaining c.loop-unread.reader)
-    (g.W.Writer.contents c.args.writer.now) (g.W.Writer.contents c.loop-unread.writer)
-    (g.R.Reader.failures c.args.reader.now) (g.R.Reader.failures c.loop-unread.reader)
-    (g.W.Writer.failures c.args.writer.now) (g.W.Writer.failures c.loop-unread.writer) c.loop-unread.kept.items
-    c.loop-unread.content c.loop-unread.stream.output c.loop-unread.stream.session at.flows end)
+    (kept_whole at.can at.within at.flows end)
 
 pub returns : goal.returns
 returns g c =
     let n = c.args.shared.task.net.now in
     let p = c.args.shared.task.plan.now.period in
-    let j = c.args.shared.task.plan.now.blocking in
     let d = c.args.hearing.content in
-    let can = can_flow n c.args.shared.task.plan.now c.args.shared.table.now.table c.requires.shared.table.table
-    c.requires.shared.task.suits
-    c.nets_have_periods.ensures d
-    c.args.hearing.frames c.args.hearing.output
-    c.of_net-exchange.result c.of_net-exchange.ensures.value c.of_net-exchange.ensures.limits c.requires.owed
-    c.runs_go_on.ensures c.requires.content.sound c.requires.content.unread c.requires.content.known in
     let at = c.loop-unread.invariant in
     let end : c.loop-unread.unread ≡ 0 = search rules in
     elim (cases_lt 0 c.loop-unread.stream.output.missing) [
-      | inl some ↦ ended n p j d c.args.hearing.frames c.args.hearing.output.missing can c.loop-unread.unread at.within
-          (g.R.Reader.remaining c.args.reader.now) (g.R.Reader.remaining c.loop-unread.reader)
-          (g.W.Writer.contents c.args.writer.now) (g.W.Writer.contents c.loop-unread.writer)
-          (g.R.Reader.failures c.args.reader.now) (g.R.Reader.failures c.loop-unread.reader)
-          (g.W.Writer.failures c.args.writer.now) (g.W.Writer.failures c.loop-unread.writer)
-          c.loop-unread.kept.items c.loop-unread.content c.loop-unread.stream.output
-          c.loop-unread.stream.session at.flows end
+      | inl some ↦ ended at.can at.within at.flows end
           (g.W.Writer.contents c.put_rest.new.writer) (g.W.Writer.failures c.put_rest.new.writer)
           c.put_rest.new.self.session c.put_rest.result
           (subst (λ k. PutsBlocks n p k (sound_read d at.flows.samples) at.flows.few 1
@@ -448,11 +261,5 @@ returns g c =
           (g.W.Writer.contents y)
           (g.R.Reader.failures c.args.reader.now) (g.R.Reader.failures c.loop-unread.reader)
           (g.W.Writer.failures c.args.writer.now) (g.W.Writer.failures y) (Ok tt)) (sym nothing.1)
-          (ended_whole n p j d c.args.hearing.frames c.args.hearing.output.missing can c.loop-unread.unread at.within
-          (g.R.Reader.remaining c.args.reader.now) (g.R.Reader.remaining c.loop-unread.reader)
-          (g.W.Writer.contents c.args.writer.now) (g.W.Writer.contents c.loop-unread.writer)
-          (g.R.Reader.failures c.args.reader.now) (g.R.Reader.failures c.loop-unread.reader)
-          (g.W.Writer.failures c.args.writer.now) (g.W.Writer.failures c.loop-unread.writer)
-          c.loop-unread.kept.items c.loop-unread.content c.loop-unread.stream.output c.loop-unread.stream.session
-          at.flows end (omega (arith, none))))
+          (ended_whole at.can at.within at.flows end (omega (arith, none))))
     ]
