@@ -32,7 +32,8 @@ pub timed_take : (rows : List Timed) (i k : ℕ) → k < i → timed (take i row
 timed_take rows i k l = get_or-take i rows k no_row l
 
 -- what stands in the first i rows
-pub at_take : (rows : List Timed) (i k j : ℕ) (g : Firing) → StandsAt (take i rows) k j g → (k < i) × StandsAt rows k j g
+pub at_take : (rows : List Timed) (i k j : ℕ) (g : Firing) → StandsAt (take i rows) k j g →
+    (k < i) × StandsAt rows k j g
 at_take rows i k j g e = go (cases_lt k i)
   where
     go : (k < i) ⊎ (i ≤ k) → (k < i) × StandsAt rows k j g
@@ -112,7 +113,8 @@ module _ (r : Rates) (n cost : ℕ → ℕ) (level : Firing → ℕ) (width : �
         low u g (inr (k, x, y, l, up, at)) is =
             let same = cells.once x y i j f at here in
             let less : k < i = omega (arith, same.0) in
-            let there : StandsAt rows k j g = sym (cell_at rows k j) ∙ (ap (cell (cells_of rows) k) (sym same.1) ∙ up) in
+            let there : StandsAt rows k j g = sym (cell_at rows k j)
+                ∙ (ap (cell (cells_of rows) k) (sym same.1) ∙ up) in
             let past : StandsAt (take i rows) k j g = subst (λ (x : Timed). cell_of x.cells j ≡ Some g)
             (sym (timed_take rows i k less)) there in
             omega (

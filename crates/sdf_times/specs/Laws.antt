@@ -40,7 +40,8 @@ abbrev pub RowsAreNoSooner : Type 0
 RowsAreNoSooner =
     (r : Rates) (n cost : ℕ → ℕ) (level : Firing → ℕ) (width : ℕ) (homed : Bool) (rows : List Timed)
     (start : Firing → ℕ) → AreTimedRows r n width (hu_rule r n cost level width homed) rows →
-    IsValid r n (cells_of rows) → AreStarts r cost (cells_of rows) start → (i j : ℕ) (f : Firing) → StandsAt rows i j f →
+    IsValid r n (cells_of rows) → AreStarts r cost (cells_of rows) start → (i j : ℕ) (f : Firing) →
+    StandsAt rows i j f →
     start f ≤ (timed rows i).start
 
 -- in rows by Hu's rule with costs of at least 1 each firing starts where its row does
