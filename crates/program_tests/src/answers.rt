@@ -28,18 +28,22 @@ every kind: processor 0..15 or absent, cost 1..1000000 (1)
 ";
 
 /// The schedules of `begun.toml` for one worker. There is none with `in` on processor 1, and all others are alike: the
-/// tables don't go by the policy, and `in` comes first, as the lower of two actors of one level.
+/// tables don't go by the policy, and `in` comes first, as the lower of two actors of one level. A long block has as
+/// many periods as samples of a channel.
 const COMPARED: &str = "0
-policy placement workers     makespan  speedup    rows        samples
-round  hu              1           *2    *1.00      *2             *3
-round  homed           1           *2    *1.00      *2             *3
-round  file            1      refused 19
-lean   hu              1           *2    *1.00      *2             *3
-lean   homed           1           *2    *1.00      *2             *3
-lean   file            1      refused 19
-runs   hu              1           *2    *1.00      *2             *3
-runs   homed           1           *2    *1.00      *2             *3
-runs   file            1      refused 19
+policy placement workers blocking     makespan  speedup    rows        samples
+round  hu              1        1           *2    *1.00      *2             *3
+round  homed           1        1           *2    *1.00      *2             *3
+round  file            1               refused 19
+round  spread          1     1024        *2048    *1.00   *2048          *1026
+lean   hu              1        1           *2    *1.00      *2             *3
+lean   homed           1        1           *2    *1.00      *2             *3
+lean   file            1               refused 19
+lean   spread          1     1024        *2048    *1.00   *2048          *1026
+runs   hu              1        1           *2    *1.00      *2             *3
+runs   homed           1        1           *2    *1.00      *2             *3
+runs   file            1               refused 19
+runs   spread          1     1024        *2048    *1.00   *2048          *1026
 --
 --
 ";
@@ -143,8 +147,8 @@ const IN_JSON: &[Row] = &[
     (
         "schedules compared",
         "analyze plain.toml --compare --json",
-        "0\n[{\"blocking\":1,\"makespan\":2,\"placement\":\"hu\",\"policy\":\"round\",\"rows\":2,\"samples\":1,\
-         \"speedup_hundredths\":100,\"workers\":1},…",
+        "0\n[{\"blocking\":1,\"makespan\":2,\"placement\":\"hu\",\"policy\":\"round\",\"rows\":2,\
+         \"samples\":1,\"speedup_hundredths\":100,\"workers\":1},…",
     ),
 ];
 
@@ -240,13 +244,13 @@ const COUNTED: &[(&str, &str, &str, &str)] = &[
         "lines",
         "analyze begun.toml --compare --workers 2",
         "\n",
-        "22",
+        "28",
     ),
     (
         "schedules in JSON",
         "analyze begun.toml --compare --json --workers 2",
         "\"workers\":2",
-        "9",
+        "12",
     ),
     (
         "coefficient files",

@@ -73,7 +73,7 @@ analysis_flat d o t f =
     omega (arith, flat)
 
 outcome_flat : (o : Outcome) → AreFlat (outcome_of o)
-outcome_flat (Made m) = (omega arith, (omega arith, (omega arith, (omega arith, tt))))
+outcome_flat (Made m) = (omega arith, (omega arith, (omega arith, (omega arith, (omega arith, tt)))))
 outcome_flat (Refused number) = (omega arith, tt)
 
 entry_flat : (e : Entry) → IsFlat 4 (entry_value e)

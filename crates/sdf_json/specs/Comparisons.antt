@@ -11,18 +11,19 @@ use Rattle.sdf_analyze.specs.Comparisons.{AreCompared}
 use Rattle.sdf_json.specs.Values.{natural, object_of, list_of, IsLineOf}
 use Rattle.sdf_json.specs.Schedules.{asked}
 
--- what is compared of a schedule
+-- what is compared of a schedule, with the periods of its block
 abbrev pub measures_of : Measures → List (List ℕ × Data)
 measures_of m =
-    (codes "makespan", natural m.makespan) ∷ (codes "speedup_hundredths", natural m.speedup)
-    ∷ (codes "rows", natural m.rows) ∷ (codes "samples", natural m.held) ∷ []
+    (codes "blocking", natural m.blocking) ∷ (codes "makespan", natural m.makespan)
+    ∷ (codes "speedup_hundredths", natural m.speedup) ∷ (codes "rows", natural m.rows)
+    ∷ (codes "samples", natural m.held) ∷ []
 
 -- this, or the number of the fault why there is none
 abbrev pub outcome_of : Outcome → List (List ℕ × Data)
 outcome_of (Made m) = measures_of m
 outcome_of (Refused number) = (codes "fault", natural number) ∷ []
 
--- behind the options that it was asked for with
+-- the options that it was asked for with, and what becomes of it
 abbrev pub entry_value : Entry → Data
 entry_value e = object_of (asked e.options ++ outcome_of e.outcome)
 

@@ -16,11 +16,12 @@ use sdf_process::Fault;
 use serde_json::Value;
 use std::alloc::{AllocError, Global};
 
-/// Adds what is compared of a schedule.
+/// Adds what is compared of a schedule; the periods of its block come in the place of those that were asked for.
 fn put_measures(members: &mut Members, alloc: Global, measures: Measures) -> Result<(), AllocError>
     ensures { OnOk result (members_view members.new.entries ≡
         with (members_view members.old.entries) (measures_of measures)) }
 {
+    put_number(members, alloc, "blocking", u64::from(measures.blocking))?;
     put_number(members, alloc, "makespan", measures.makespan)?;
     put_number(members, alloc, "speedup_hundredths", measures.speedup)?;
     put_number(members, alloc, "rows", measures.rows as u64)?;
@@ -64,8 +65,8 @@ fn comparison_value(alloc: Global, entries: &[Entry]) -> Result<Value, AllocErro
 }
 
 /// Schedules beside one another, as a line of JSON: an array of the schedules that `sdf_analyze::compared` compares, of
-/// each the options, and the makespan, the speedup in hundredths, the rows and the samples that all links hold at most,
-/// or the number of the fault why there is none.
+/// each the options, with the periods that its block has, and the makespan, the speedup in hundredths, the rows and the
+/// samples that all links hold at most, or the number of the fault why there is none.
 pub fn comparison_json(alloc: Global, design: &Design, options: &Options) -> Result<String, Fault>
     requires { AreSizes options.now }
     ensures { MatchResult result (λ text. IsComparisonJson design.now options.now (string_bytes text))

@@ -114,7 +114,7 @@ module _ (r : Rates) (n cost : ℕ → ℕ) (level : Firing → ℕ) (width : �
             let same = cells.once x y i j f at here in
             let less : k < i = omega (arith, same.0) in
             let there : StandsAt rows k j g = sym (cell_at rows k j)
-                ∙ (ap (cell (cells_of rows) k) (sym same.1) ∙ up) in
+            ∙ (ap (cell (cells_of rows) k) (sym same.1) ∙ up) in
             let past : StandsAt (take i rows) k j g = subst (λ (x : Timed). cell_of x.cells j ≡ Some g)
             (sym (timed_take rows i k less)) there in
             omega (

@@ -87,26 +87,34 @@ actor = [{ name = \"in\", kind = \"input\", channel = 0, block = 2, processor = 
 link = [{ from = \"in\", to = \"out\" }]";
 
 /// With four workers there would be three lines of each. For one worker `file` has no table, and by `runs` the link of
-/// the other holds six samples where by the other policies it holds four.
-const COMPARED: &str = "policy placement workers     makespan  speedup    rows        samples
-round  hu              1            5     1.00       5              6
-round  hu              2           *4    *1.25      *4              6
-round  homed           1            5     1.00       5              6
-round  homed           2           *4    *1.25      *4              6
-round  file            1      refused 19
-round  file            2           *4    *1.25       5             *4
-lean   hu              1            5     1.00       5              6
-lean   hu              2           *4    *1.25      *4              6
-lean   homed           1            5     1.00       5              6
-lean   homed           2           *4    *1.25      *4              6
-lean   file            1      refused 19
-lean   file            2           *4    *1.25       5             *4
-runs   hu              1            5     1.00       5              6
-runs   hu              2           *4    *1.25      *4              6
-runs   homed           1            5     1.00       5              6
-runs   homed           2           *4    *1.25      *4              6
-runs   file            1      refused 19
-runs   file            2           *4    *1.25       5              6
+/// the other holds six samples where by the other policies it holds four. By `spread` one worker has both actors, and a
+/// block has as many periods as 6 samples go into 1,024, all firings of `in` first.
+const COMPARED: &str =
+    "policy placement workers blocking     makespan  speedup    rows        samples
+round  hu              1        1            5     1.00       5              6
+round  hu              2        1           *4    *1.25      *4              6
+round  homed           1        1            5     1.00       5              6
+round  homed           2        1           *4    *1.25      *4              6
+round  file            1               refused 19
+round  file            2        1           *4    *1.25       5             *4
+round  spread          1      170         *850     1.00    *850          *1020
+round  spread          2      170         *850     1.00    *850          *1020
+lean   hu              1        1            5     1.00       5              6
+lean   hu              2        1           *4    *1.25      *4              6
+lean   homed           1        1            5     1.00       5              6
+lean   homed           2        1           *4    *1.25      *4              6
+lean   file            1               refused 19
+lean   file            2        1           *4    *1.25       5             *4
+lean   spread          1      170         *850     1.00    *850          *1020
+lean   spread          2      170         *850     1.00    *850          *1020
+runs   hu              1        1            5     1.00       5              6
+runs   hu              2        1           *4    *1.25      *4              6
+runs   homed           1        1            5     1.00       5              6
+runs   homed           2        1           *4    *1.25      *4              6
+runs   file            1               refused 19
+runs   file            2        1           *4    *1.25       5              6
+runs   spread          1      170         *850     1.00    *850          *1020
+runs   spread          2      170         *850     1.00    *850          *1020
 ";
 
 /// What is printed of the schedules of the blocks.

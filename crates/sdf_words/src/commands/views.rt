@@ -6,9 +6,10 @@ use super::{Choice, Row, Switch, Values};
 const COMPARE: Switch = Switch {
     name: "compare",
     help: "Compares the schedules of all policies, placements and numbers of workers",
-    more: "Compares the schedules of all policies, placements but spread, and numbers of workers 1, 2, 4 and so on
-up to `--workers`: a line for each, with a star at the best of each column and the number of a fault
-where there is no schedule. `--policy` and `--placement` have no effect with it",
+    more: "Compares the schedules of all policies, placements and numbers of workers 1, 2, 4 and so on up to
+`--workers`: a line for each, with a star at the best speedup, and at the best of each other column
+among blocks of as many periods, or with the number of a fault where there is no schedule. `--policy`
+and `--placement` have no effect with it",
     against: &[],
     value: None,
 };
