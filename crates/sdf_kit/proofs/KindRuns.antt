@@ -35,43 +35,31 @@ map_more f xs [] l = absurd (omega arith)
 map_more f xs (y ∷ []) l = sym (map-append f xs (y ∷ []))
 map_more f xs (y ∷ z ∷ b) l = absurd (omega arith)
 
-pub gain_run : (g : Scale) (kept : List ℤ) → IsRun kit_steps (Gain g) 1 kept (λ _. kept) (λ _ xs. map (scaled g) xs)
-gain_run g kept = record {
-  rate = λ _. refl;
+mapped_run : (k : Kit) (f : ℤ → ℤ) (kept : List ℤ) → ((n : ℕ) → total_in kit_steps k n ≡ 1) →
+    ((n : ℕ) (b : List ℤ) → kit_steps.next k n kept b ≡ kept) →
+    ((n : ℕ) (b : List ℤ) → kit_steps.puts k n kept b ≡ f (sample b 0) ∷ []) →
+    IsRun kit_steps k 1 kept (λ _. kept) (λ _ xs. map f xs)
+mapped_run k f kept rate next puts = record {
+  rate = rate;
   begins = refl;
   none = refl;
-  next = λ _ _ _ _ _ _. refl;
-  more = λ _ _ xs b _ one. map_more (scaled g) xs b one;
+  next = λ n _ _ b _ _. next n b;
+  more = λ n _ xs b _ one. ap (λ put. map f xs ++ put) (puts n b) ∙ map_more f xs b one;
 }
+
+pub gain_run : (g : Scale) (kept : List ℤ) → IsRun kit_steps (Gain g) 1 kept (λ _. kept) (λ _ xs. map (scaled g) xs)
+gain_run g kept = mapped_run (Gain g) (scaled g) kept (λ _. refl) (λ _ _. refl) (λ _ _. refl)
 
 pub table_run : (t : Lookup) (kept : List ℤ) → IsRun kit_steps (Table t) 1 kept (λ _. kept)
     (λ _ xs. map (looked_up t) xs)
-table_run t kept = record {
-  rate = λ _. refl;
-  begins = refl;
-  none = refl;
-  next = λ _ _ _ _ _ _. refl;
-  more = λ _ _ xs b _ one. map_more (looked_up t) xs b one;
-}
+table_run t kept = mapped_run (Table t) (looked_up t) kept (λ _. refl) (λ _ _. refl) (λ _ _. refl)
 
 pub clip_run : (c : Limits) (kept : List ℤ) → IsRun kit_steps (Clip c) 1 kept (λ _. kept) (λ _ xs. map (clipped c) xs)
-clip_run c kept = record {
-  rate = λ _. refl;
-  begins = refl;
-  none = refl;
-  next = λ _ _ _ _ _ _. refl;
-  more = λ _ _ xs b _ one. map_more (clipped c) xs b one;
-}
+clip_run c kept = mapped_run (Clip c) (clipped c) kept (λ _. refl) (λ _ _. refl) (λ _ _. refl)
 
 pub offset_run : (value : ℤ) (kept : List ℤ) → IsRun kit_steps (Offset value) 1 kept (λ _. kept)
     (λ _ xs. map (raised value) xs)
-offset_run value kept = record {
-  rate = λ _. refl;
-  begins = refl;
-  none = refl;
-  next = λ _ _ _ _ _ _. refl;
-  more = λ _ _ xs b _ one. map_more (raised value) xs b one;
-}
+offset_run value kept = mapped_run (Offset value) (raised value) kept (λ _. refl) (λ _ _. refl) (λ _ _. refl)
 
 decimate_run : (m : ℕ) (kept : List ℤ) → 1 ≤ m →
     IsRun kit_steps (Decimate m) m kept (λ _. kept) (λ i xs. map (λ n. sample xs (n * m)) (range_with_len 0 i))

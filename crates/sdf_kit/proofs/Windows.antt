@@ -1,7 +1,7 @@
 -- Windows: parts of samples, and dot products with them.
 use Rattle.std.proofs.Common.{◌≡◌, ℕ, zero, suc, ◌+◌, ◌-◌, ◌*◌, ◌<◌, ◌≤◌, ℤ, pos, negsuc, ◌+ℤ◌, ◌-ℤ◌, ◌*ℤ◌, List, []}
 use Rattle.std.proofs.Common.{◌∷◌, ◌++◌, length, map, take, drop, replicate, get_or, unsigned_abs, FitsSigned, Bool}
-use Rattle.std.proofs.Common.{true, false, w32, to_z, of_z, refl, sym, ap, subst, ◌∙◌, arith, ⊎_elim}
+use Rattle.std.proofs.Common.{true, false, w32, to_z, of_z, refl, sym, ap, subst, ◌∙◌, ◌⊎◌, arith, ⊎_elim}
 use Rattle.std.specs.Int.{w16, int_shr}
 use Rattle.std.proofs.lemmas.Int.{ints, fits_signed_from_abs, to_z-of_z, SFits-int_wrap}
 use Rattle.std.specs.Simd.Lanes.{Each1}
@@ -12,7 +12,8 @@ use Rattle.std.proofs.lemmas.List.{length-take-le, length-drop, length-append, l
 use Rattle.std.proofs.lemmas.List.{get_or-take, get_or-drop, get_or-replicate, get_or_append_left, get_or-append_right}
 use Rattle.std.proofs.lemmas.List.{ext_get_or}
 use Rattle.sdf_kit.specs.Dots.{AreWithin, joined, dot, total_abs, wrap}
-use Rattle.sdf_kit.specs.Window.{part_as, AreHeld, held, AreFit}
+use Rattle.sdf_kit.specs.Samples.{settled}
+use Rattle.sdf_kit.specs.Window.{Held, part_as, AreHeld, held, AreFit}
 use Rattle.sdf_kit.specs.declared.window.Part.TheVariants.{Whole, High, Low}
 use Rattle.sdf_kit.proofs.Exact.{bound, exact, split_exact}
 
@@ -95,10 +96,64 @@ split_value true h high low x y n peak at e are ex ey quiet room =
     (ap (λ z. (pos 256 *ℤ wrap (dot h a)) +ℤ wrap (dot h (take len (drop at z)))) ey ∙
     (split_exact h a b peak (la ∙ sym lb) wa wb (omega arith) ∙ sym (ap (dot h) moved)))
 
--- an element of an array of sums, as it is passed on
+-- a sum, as it is passed on
+pub passed : (r z : ℤ) → r ≡ wrap z → to_z w32 (of_z w32 r) ≡ wrap z
+passed r z e = ap (λ y. to_z w32 (of_z w32 y)) e ∙ to_z-of_z w32 (wrap z) (SFits-int_wrap w32 z)
+
+-- an element of an array of sums
 pub read : (sums : List ℤ) (i : ℕ) (z : ℤ) → get_or sums i (pos 0) ≡ wrap z →
     to_z w32 (of_z w32 (get_or sums i (pos 0))) ≡ wrap z
-read sums i z e = ap (λ y. to_z w32 (of_z w32 y)) e ∙ to_z-of_z w32 (wrap z) (SFits-int_wrap w32 z)
+read sums i z e = passed (get_or sums i (pos 0)) z e
+
+-- an output of a window w, by sums a of the samples or of their upper bits, and sums b of their lowest ones
+module _ {s : Bool} {high low : List ℤ} {n peak : ℕ} (are : AreHeld s high low n peak) {w : Held}
+    (seen : record { samples = held s high low n; peak = peak } ≡ w) (h : List ℤ)
+    (quiet : total_abs h * w.peak ≤ 2147467263) {x : List ℤ} (is_high : x ≡ take n high) where
+  quiet_held : total_abs h * peak ≤ 2147467263
+  quiet_held = subst (λ (v : Held). total_abs h * v.peak ≤ 2147467263) (sym seen) quiet
+
+  in_held : (at : ℕ) → at + length h ≤ length w.samples → at + length h ≤ length (held s high low n)
+  in_held at room = subst (λ (v : Held). at + length h ≤ length v.samples) (sym seen) room
+
+  whole : (at : ℕ) → at + length h ≤ length w.samples → s ≡ false →
+      (wrap (dot h (take (length h) (drop at x))) ≡ dot h (take (length h) (drop at (held s high low n))))
+      × (unsigned_abs (wrap (dot h (take (length h) (drop at x)))) ≤ 2147467263)
+  whole at room e = whole_value s h high low x n peak at e are is_high quiet_held (in_held at room)
+
+  pub whole_small : (a : ℤ) (at : ℕ) → at + length h ≤ length w.samples → s ≡ false →
+      to_z w32 (of_z w32 a) ≡ wrap (dot h (take (length h) (drop at x))) →
+      unsigned_abs (to_z w32 (of_z w32 a)) ≤ 2147467263
+  whole_small a at room e reads = subst (λ z. unsigned_abs z ≤ 2147467263) (sym reads) (whole at room e).1
+
+  pub whole_output : (a : ℤ) {r : ℤ} (shift at : ℕ) → at + length h ≤ length w.samples → s ≡ false →
+      to_z w32 (of_z w32 a) ≡ wrap (dot h (take (length h) (drop at x))) →
+      r ≡ settled (to_z w32 (of_z w32 a)) shift → FitsSigned w32 r →
+      to_z w32 (of_z w32 r) ≡ settled (dot h (take (length h) (drop at w.samples))) shift
+  whole_output a {r} shift at room e reads is fits =
+      subst (λ (v : Held). to_z w32 (of_z w32 r) ≡ settled (dot h (take (length h) (drop at v.samples))) shift) seen
+      (to_z-of_z w32 r fits ∙ (is ∙ ap (λ z. settled z shift) (reads ∙ (whole at room e).0)))
+
+  pub split_output : (a b : ℤ) {r : ℤ} (shift : ℕ) {y : List ℤ} → y ≡ take n low → (at : ℕ) →
+      at + length h ≤ length w.samples → s ≡ true →
+      to_z w32 (of_z w32 a) ≡ wrap (dot h (take (length h) (drop at x))) →
+      to_z w32 (of_z w32 b) ≡ wrap (dot h (take (length h) (drop at y))) →
+      r ≡ settled ((pos 256 *ℤ to_z w32 (of_z w32 a)) +ℤ to_z w32 (of_z w32 b)) shift → FitsSigned w32 r →
+      to_z w32 (of_z w32 r) ≡ settled (dot h (take (length h) (drop at w.samples))) shift
+  split_output a b {r} shift {y} is_low at room e reads_high reads_low is fits =
+      subst (λ (v : Held). to_z w32 (of_z w32 r) ≡ settled (dot h (take (length h) (drop at v.samples))) shift) seen
+      (to_z-of_z w32 r fits ∙ (is ∙ ap (λ z. settled z shift)
+      (ap (λ z. (pos 256 *ℤ z) +ℤ to_z w32 (of_z w32 b)) reads_high
+      ∙ (ap (λ z. (pos 256 *ℤ wrap (dot h (take (length h) (drop at x)))) +ℤ z) reads_low
+      ∙ split_value s h high low x y n peak at e are is_high is_low quiet_held (in_held at room)))))
+
+-- the samples that are read from a window, themselves or their upper bits
+pub front_long : {s : Bool} {high low x : List ℤ} {n peak : ℕ} → AreHeld s high low n peak → {w : Held} →
+    record { samples = held s high low n; peak = peak } ≡ w → (x ≡ take n high) ⊎ (x ≡ take n low) →
+    length x ≡ length w.samples
+front_long {s} {high} {low} {x} {n} {peak} are seen is =
+    ⊎_elim (λ e. ap length e ∙ length-take-le n high are.high_room)
+    (λ e. ap length e ∙ length-take-le n low are.low_room) is
+    ∙ (sym (length_held s high low n peak are) ∙ ap (λ (v : Held). length v.samples) seen)
 
 -- what is within a peak has parts within it
 pub whole_fit : (xs : List ℤ) (m peak : ℕ) → AreWithin m xs → m ≤ peak → peak ≤ 32767 → AreFit Whole xs

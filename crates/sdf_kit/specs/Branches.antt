@@ -4,10 +4,12 @@ use Rattle.std.specs.Prelude.{replicate, FitsSigned}
 use Rattle.std.specs.Int.{w16}
 use Rattle.std.specs.List.{range_with_len}
 use Rattle.std.specs.Simd.Lanes.{Each1}
+use Rattle.sdf_limits.specs.declared.TheConstants.{MOST_FACTOR, MOST_SHIFT}
 use Rattle.sdf_kit.specs.Samples.{sample, settled, upsampled}
 use Rattle.sdf_kit.specs.Fir.{convolved}
 use Rattle.sdf_kit.specs.Dots.{dot, total_abs}
 use Rattle.sdf_kit.specs.declared.branches.Branches.{Branches}
+use Rattle.sdf_kit.specs.declared.polyphase.Firings.{Firings}
 
 -- the branch of phase p: n taps, the last one first, and zeros where the filter has none
 abbrev pub branch : List ℤ → ℕ → ℕ → ℕ → List ℤ
@@ -33,6 +35,12 @@ pub record AreBranches (taps : List ℤ) (up : ℕ) (b : Branches) : Type 0 wher
   pub quiet : AreQuiet up b
   pub reach : (length taps - 1) / up < b.width
   pub are : (p : ℕ) → p < up → branch_at b p ≡ branch taps up p b.width
+
+-- a filter's values within their limits
+pub record AreFirings (f : Firings) : Type 0 where
+  pub up : (1 ≤ f.up) × (f.up ≤ MOST_FACTOR)
+  pub down : (1 ≤ f.down) × (f.down ≤ MOST_FACTOR)
+  pub shift : f.shift ≤ MOST_SHIFT
 
 -- output n of the branches on the samples of a window, where each input is `down` places after the one before
 abbrev pub branch_output : Branches → ℕ → ℕ → ℕ → List ℤ → ℕ → ℤ

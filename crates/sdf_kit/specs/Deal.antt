@@ -4,7 +4,7 @@ use Rattle.std.specs.List.{flat_map, range_with_len}
 use Rattle.sdf_kit.specs.Samples.{sample}
 use Rattle.sdf_kit.specs.Behaviour.{Behaviour}
 use Rattle.sdf_kit.specs.Turns.{Turns}
-use Rattle.sdf_kit.specs.declared.ports.Side.TheVariants.{Every, InTurn}
+use Rattle.sdf_kit.specs.declared.ports.PortRates.TheVariants.{Every, InTurn}
 
 -- a firing at phase j puts all that it takes at port j; run n / run of a port is run n / run * ways + p of x
 abbrev pub deal : Turns → Behaviour

@@ -4,7 +4,7 @@ use Rattle.std.specs.List.{range_with_len}
 use Rattle.sdf_kit.specs.Samples.{sample}
 use Rattle.sdf_kit.specs.Behaviour.{Behaviour}
 use Rattle.sdf_kit.specs.Turns.{Turns}
-use Rattle.sdf_kit.specs.declared.ports.Side.TheVariants.{Every, InTurn}
+use Rattle.sdf_kit.specs.declared.ports.PortRates.TheVariants.{Every, InTurn}
 
 -- a firing at phase j puts all that it takes at port j; run n / run is run n / (ways * run) of port n / run % ways
 abbrev pub gather : Turns → Behaviour

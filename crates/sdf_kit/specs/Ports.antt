@@ -1,17 +1,17 @@
 -- Ports, and how many samples a firing moves at each.
 use Rattle.std.specs.Prelude.{ℕ, ◌≤◌, ◌==◌, cond}
 use Rattle.sdf_limits.specs.declared.TheConstants.{MOST_PORTS}
-use Rattle.sdf_kit.specs.declared.ports.Side.{Side}
-use Rattle.sdf_kit.specs.declared.ports.Side.TheVariants.{Every, InTurn}
+use Rattle.sdf_kit.specs.declared.ports.PortRates.{PortRates}
+use Rattle.sdf_kit.specs.declared.ports.PortRates.TheVariants.{Every, InTurn}
 use Rattle.sdf_kit.specs.declared.ports.Ports.{Ports}
 
 -- how many ports a side has
-abbrev pub count : Side → ℕ
+abbrev pub count : PortRates → ℕ
 count (Every ports rate) = ports
 count (InTurn ports rate) = ports
 
 -- the samples that a firing at phase j moves at port p
-abbrev pub moved : Side → ℕ → ℕ → ℕ
+abbrev pub moved : PortRates → ℕ → ℕ → ℕ
 moved (Every ports rate) p j = rate
 moved (InTurn ports rate) p j = cond (p == j) rate 0
 
@@ -20,15 +20,15 @@ abbrev pub steady : ℕ → ℕ → ℕ → ℕ → Ports
 steady inputs take outputs put = record { cycle = 1; inputs = Every inputs take; outputs = Every outputs put }
 
 -- the samples that a port moves where it moves any
-abbrev pub rate : Side → ℕ
+abbrev pub rate : PortRates → ℕ
 rate (Every ports r) = r
 rate (InTurn ports r) = r
 
-pub record IsSide (s : Side) : Type 0 where
+pub record ArePortRates (s : PortRates) : Type 0 where
   pub few : count s ≤ MOST_PORTS
   pub some : 1 ≤ rate s
 
 pub record ArePorts (x : Ports) : Type 0 where
   pub cycle : 1 ≤ x.cycle
-  pub inputs : IsSide x.inputs
-  pub outputs : IsSide x.outputs
+  pub inputs : ArePortRates x.inputs
+  pub outputs : ArePortRates x.outputs

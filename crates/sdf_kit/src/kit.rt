@@ -40,7 +40,7 @@ use crate::interpolate::Interpolate;
 use crate::kept::Kept;
 use crate::offset::Offset;
 use crate::ports::Ports;
-use crate::table::Table;
+use crate::table::Lookup;
 use sdf_actor::Actor;
 use sdf_limits::MOST_DELAY;
 use std::alloc::{AllocError, Global};
@@ -57,7 +57,7 @@ pub enum Kit {
     Fork(Fork),
     Gain(Gain),
     Delay(Delay),
-    Table(Table),
+    Table(Lookup),
     Deal(Deal),
     Gather(Gather),
     Clip(Clip),
@@ -118,7 +118,7 @@ impl Kit {
     pub fn table(offset: i32, values: Vec<i32>) -> Result<Kit, KitFault>
         ensures { result ≡ kit_of kits.Table (lookup_of offset values.items) }
     {
-        Ok(Kit::Table(Table::new(offset, values)?))
+        Ok(Kit::Table(Lookup::new(offset, values)?))
     }
 
     /// One way dealt out to 2 to 16 `ways`, `run` samples, 1 to 64, to each in turn.

@@ -7,40 +7,36 @@ ghost use Rattle.std.specs.List.{range_with_len};
 ghost use Rattle.std.specs.Simd.Lanes.{Each1};
 ghost use Rattle.sdf_kit.specs.Samples.{sample, settled};
 ghost use Rattle.sdf_kit.specs.Dots.{dot, total_abs};
-ghost use Rattle.sdf_kit.specs.Branches.{AreQuiet, branch_output};
+ghost use Rattle.sdf_kit.specs.Branches.{AreFirings, AreQuiet, branch_output};
 
 use crate::branches::Branches;
 use crate::window::Window;
-use sdf_limits::{MOST_FACTOR, MOST_SHIFT};
+
+/// So many firings of a filter between rates.
+#[derive(Clone, Copy)]
+pub struct Firings {
+    pub up: u32,
+    pub down: u32,
+    pub shift: u32,
+    pub many: u32,
+}
 
 /// The outputs of many firings on a window.
-pub(crate) fn put_branches(
-    branches: &Branches,
-    window: &Window,
-    up: u32,
-    down: u32,
-    shift: u32,
-    many: u32,
-    put: &mut [i32],
-)
-    requires branches { AreQuiet up branches.now }
+pub(crate) fn put_branches(branches: &Branches, window: &Window, firings: Firings, put: &mut [i32])
+    requires branches { AreQuiet firings.up branches.now }
     requires peak { window.now.peak ≡ branches.now.peak }
-    requires up { 1 ≤ up }
-    requires up_small { up ≤ MOST_FACTOR }
-    requires down { 1 ≤ down }
-    requires down_small { down ≤ MOST_FACTOR }
-    requires shift { shift ≤ MOST_SHIFT }
-    requires many { many ≤ 1024 }
-    requires window { many * down + branches.now.width ≤ length window.now.samples + 1 }
-    requires put { length put.old ≡ many * up }
-    ensures { put.new ≡ map (branch_output branches.now up down shift window.now.samples)
-        (range_with_len 0 (many * up)) }
+    requires firings { AreFirings firings }
+    requires many { firings.many ≤ 1024 }
+    requires window { firings.many * firings.down + branches.now.width ≤ length window.now.samples + 1 }
+    requires put { length put.old ≡ firings.many * firings.up }
+    ensures { put.new ≡ map (branch_output branches.now firings.up firings.down firings.shift window.now.samples)
+        (range_with_len 0 (firings.many * firings.up)) }
 {
-    for j in 0..up {
-        let at = j * down;
-        let branch = branches.get((at % up) as usize);
-        let first = (at / up) as usize;
-        put_branch(branch, window, first, j, up, down, shift, many, put);
+    for j in 0..firings.up {
+        let at = j * firings.down;
+        let branch = branches.get((at % firings.up) as usize);
+        let first = (at / firings.up) as usize;
+        put_branch(branch, window, first, j, firings, put);
     }
 }
 
@@ -50,36 +46,34 @@ fn put_branch(
     window: &Window,
     first: usize,
     at: u32,
-    up: u32,
-    down: u32,
-    shift: u32,
-    many: u32,
+    firings: Firings,
     put: &mut [i32],
 )
     requires lanes { length branch.now % 8 ≡ 0 }
     requires short { Each1 (FitsSigned w16) branch.now }
     requires quiet { total_abs branch.now * window.now.peak ≤ 2147467263 }
-    requires first { first < down }
-    requires at { at < up }
-    requires up { up ≤ MOST_FACTOR }
-    requires down { down ≤ MOST_FACTOR }
-    requires shift { shift ≤ MOST_SHIFT }
-    requires many { many ≤ 1024 }
-    requires window { many * down + length branch.now ≤ length window.now.samples + 1 }
-    requires put { length put.old ≡ many * up }
+    requires first { first < firings.down }
+    requires at { at < firings.up }
+    requires firings { AreFirings firings }
+    requires many { firings.many ≤ 1024 }
+    requires window { firings.many * firings.down + length branch.now ≤ length window.now.samples + 1 }
+    requires put { length put.old ≡ firings.many * firings.up }
     ensures len { length put.new ≡ length put.old }
-    ensures done { (i : ℕ) → i < many → sample put.new (at + i * up) ≡
-        settled (dot branch.now (take (length branch.now) (drop (first + i * down) window.now.samples))) shift }
-    ensures others { (n : ℕ) → n % up ≢ at → sample put.new n ≡ sample put.old n }
+    ensures done { (i : ℕ) → i < firings.many → sample put.new (at + i * firings.up) ≡
+        settled (dot branch.now (take (length branch.now) (drop (first + i * firings.down) window.now.samples)))
+        firings.shift }
+    ensures others { (n : ℕ) → n % firings.up ≢ at → sample put.new n ≡ sample put.old n }
 {
-    let step = down as usize;
+    let up = firings.up;
+    let down = firings.down;
+    let shift = firings.shift;
     let mut done = 0u32;
-    'fours: while done + 4 <= many {
-        let sums = window.four(branch, first + (done * down) as usize, step, shift);
+    'fours: while done + 4 <= firings.many {
+        let sums = window.four(branch, first + (done * down) as usize, down as usize, shift);
         put_four(put, (at + done * up) as usize, up as usize, sums);
         done += 4;
     }
-    'ones: while done < many {
+    'ones: while done < firings.many {
         let sum = window.one(branch, first + (done * down) as usize, shift);
         put[(at + done * up) as usize] = sum;
         done += 1;

@@ -5,20 +5,20 @@ ghost use Rattle.sdf_kit.specs.Ports.{count, moved, steady};
 
 /// The ports of an actor on one side. They are numbered from 0.
 #[derive(Clone, Copy)]
-pub enum Side {
+pub enum PortRates {
     /// Each firing moves `rate` samples at every port.
     Every { ports: usize, rate: u32 },
     /// A firing at phase `j` moves `rate` samples at port `j`, and none at the others.
     InTurn { ports: usize, rate: u32 },
 }
 
-impl Side {
+impl PortRates {
     /// How many ports there are.
     pub fn count(self) -> usize
         ensures { result ≡ count self }
     {
         match self {
-            Side::Every { ports, .. } | Side::InTurn { ports, .. } => ports,
+            PortRates::Every { ports, .. } | PortRates::InTurn { ports, .. } => ports,
         }
     }
 
@@ -27,9 +27,9 @@ impl Side {
         ensures { result ≡ moved self port phase }
     {
         match self {
-            Side::Every { rate, .. } => rate,
-            Side::InTurn { rate, .. } if port == phase as usize => rate,
-            Side::InTurn { .. } => 0,
+            PortRates::Every { rate, .. } => rate,
+            PortRates::InTurn { rate, .. } if port == phase as usize => rate,
+            PortRates::InTurn { .. } => 0,
         }
     }
 }
@@ -38,8 +38,8 @@ impl Side {
 #[derive(Clone, Copy)]
 pub struct Ports {
     pub cycle: u32,
-    pub inputs: Side,
-    pub outputs: Side,
+    pub inputs: PortRates,
+    pub outputs: PortRates,
 }
 
 impl Ports {
@@ -49,11 +49,11 @@ impl Ports {
     {
         Ports {
             cycle: 1,
-            inputs: Side::Every {
+            inputs: PortRates::Every {
                 ports: inputs,
                 rate: take,
             },
-            outputs: Side::Every {
+            outputs: PortRates::Every {
                 ports: outputs,
                 rate: put,
             },

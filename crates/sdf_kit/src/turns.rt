@@ -1,12 +1,12 @@
 //! Ways that are served in turn.
 
 ghost use Rattle.std.specs.Prelude.{◌≡◌, ◌≤◌};
-ghost use Rattle.sdf_kit.specs.Ports.{IsSide};
+ghost use Rattle.sdf_kit.specs.Ports.{ArePortRates};
 ghost use Rattle.sdf_kit.specs.Turns.{turns_of};
-ghost use Rattle.sdf_kit.specs.declared.ports.Side.TheVariants.{Every, InTurn};
+ghost use Rattle.sdf_kit.specs.declared.ports.PortRates.TheVariants.{Every, InTurn};
 
 use crate::fault::{Key, Kind, KitFault, check, is_between};
-use crate::ports::Side;
+use crate::ports::PortRates;
 use sdf_limits::{LEAST_WAYS, MOST_RUN, MOST_WAYS};
 use std::marker::Model;
 
@@ -50,22 +50,22 @@ impl Turns {
     }
 
     /// The ports of the ways.
-    pub fn ways(&self) -> Side
+    pub fn ways(&self) -> PortRates
         ensures is { result ≡ InTurn self.now.ways self.now.run }
-        ensures limits { IsSide result }
+        ensures limits { ArePortRates result }
     {
-        Side::InTurn {
+        PortRates::InTurn {
             ports: self.ways,
             rate: self.run,
         }
     }
 
     /// The one port on the other side.
-    pub fn one(&self) -> Side
+    pub fn one(&self) -> PortRates
         ensures is { result ≡ Every 1 self.now.run }
-        ensures limits { IsSide result }
+        ensures limits { ArePortRates result }
     {
-        Side::Every {
+        PortRates::Every {
             ports: 1,
             rate: self.run,
         }

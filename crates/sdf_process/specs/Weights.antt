@@ -10,15 +10,15 @@ use Rattle.sdf_kit.specs.Fir.{kept_len}
 use Rattle.sdf_kit.specs.Kit.{behaviour}
 use Rattle.sdf_kit.specs.declared.kit.Kit.{Kit}
 use Rattle.sdf_kit.specs.declared.kit.Kit.TheVariants.{Fir}
-use Rattle.sdf_kit.specs.declared.ports.Side.{Side}
-use Rattle.sdf_kit.specs.declared.ports.Side.TheVariants.{Every, InTurn}
+use Rattle.sdf_kit.specs.declared.ports.PortRates.{PortRates}
+use Rattle.sdf_kit.specs.declared.ports.PortRates.TheVariants.{Every, InTurn}
 use Rattle.sdf_file.specs.Designs.{DesignValue}
 use Rattle.sdf_prec.specs.Spread.{weight_to}
 use Rattle.sdf_process.specs.Output.{exchange_of}
 use Rattle.sdf_process.specs.declared.weights.TheConstants.{SAMPLE_WEIGHT}
 
 -- the samples that a firing moves at all ports of a side
-abbrev pub moved_by : Side → ℕ
+abbrev pub moved_by : PortRates → ℕ
 moved_by (Every ports rate) = ports * rate
 moved_by (InTurn ports rate) = rate
 

@@ -4,7 +4,7 @@ ghost use Rattle.std.specs.Prelude.{◌≡◌, ◌≤◌, ◌<◌, ◌^◌, ◌*
 ghost use Rattle.std.specs.List.{range_with_len};
 ghost use Rattle.sdf_limits.specs.declared.TheConstants.{MOST_BLOCK, MOST_COST, MOST_PORTS};
 ghost use Rattle.sdf_actor.specs.Nets.{node};
-ghost use Rattle.sdf_kit.specs.Ports.{IsSide};
+ghost use Rattle.sdf_kit.specs.Ports.{ArePortRates};
 ghost use Rattle.sdf_sched.specs.Period.{IsPeriodOf};
 ghost use Rattle.sdf_process.specs.Placements.{rates_of};
 ghost use Rattle.sdf_process.specs.Weights.{moved_by, products_of, as_cost, load_of, is_free_of_costs};
@@ -13,7 +13,7 @@ ghost use Rattle.sdf_prec.specs.Spread.{AreLoads};
 
 use sdf_actor::Node;
 use sdf_file::Design;
-use sdf_kit::{Kit, Side};
+use sdf_kit::{Kit, PortRates};
 use sdf_limits::MOST_COST;
 use sdf_prec::spread::weight_to;
 use sdf_sched::Period;
@@ -23,14 +23,14 @@ use std::alloc::{AllocError, Global};
 pub const SAMPLE_WEIGHT: u64 = 32;
 
 /// The samples that a firing moves at all ports of a side.
-fn moved_by(side: Side) -> u64
-    requires { IsSide side }
+fn moved_by(side: PortRates) -> u64
+    requires { ArePortRates side }
     ensures is { result ≡ moved_by side }
     ensures few { result < 2 ^ 37 }
 {
     match side {
-        Side::Every { ports, rate } => ports as u64 * u64::from(rate),
-        Side::InTurn { rate, .. } => u64::from(rate),
+        PortRates::Every { ports, rate } => ports as u64 * u64::from(rate),
+        PortRates::InTurn { rate, .. } => u64::from(rate),
     }
 }
 

@@ -4,7 +4,7 @@ ghost use Rattle.std.specs.Prelude.{◌≡◌, ℕ, length, map, slice_index_or,
 ghost use Rattle.std.specs.List.{range_with_len};
 ghost use Rattle.sdf_actor.specs.declared.node.Node.TheVariants.{Sink};
 ghost use Rattle.sdf_actor.specs.Graphs.{channel_of};
-ghost use Rattle.sdf_kit.specs.declared.ports.Side.TheVariants.{Every, InTurn};
+ghost use Rattle.sdf_kit.specs.declared.ports.PortRates.TheVariants.{Every, InTurn};
 ghost use Rattle.sdf_kit.specs.Ports.{moved};
 ghost use Rattle.sdf_kit.specs.Kit.{kit_steps};
 ghost use Rattle.sdf_document.specs.Actors.{actor_view};
@@ -14,24 +14,24 @@ ghost use Rattle.sdf_why.specs.Channels.{ArePortsOf, nodes_of};
 
 use sdf_document::{ActorEntry, KindEntry, LinkEntry};
 use sdf_graph::Channel;
-use sdf_kit::{Ports, Side};
+use sdf_kit::{PortRates, Ports};
 use std::alloc::{AllocError, Global};
 
 /// One port, at which every firing moves a run.
-fn every(run: u32) -> Side
+fn every(run: u32) -> PortRates
     ensures { result ≡ Every 1 run }
 {
-    Side::Every {
+    PortRates::Every {
         ports: 1,
         rate: run,
     }
 }
 
 /// Ports that are served in turn, a run at each.
-fn in_turn(ways: u32, run: u32) -> Side
+fn in_turn(ways: u32, run: u32) -> PortRates
     ensures { result ≡ InTurn ways run }
 {
-    Side::InTurn {
+    PortRates::InTurn {
         ports: ways as usize,
         rate: run,
     }
@@ -87,7 +87,7 @@ fn ports_at(actors: &[ActorEntry], actor: usize) -> Ports
 }
 
 /// What the firings of a cycle move at a port.
-fn rates(alloc: Global, side: Side, port: usize, cycle: u32) -> Result<Vec<u32>, AllocError>
+fn rates(alloc: Global, side: PortRates, port: usize, cycle: u32) -> Result<Vec<u32>, AllocError>
     ensures { IfOk result (λ v. v.items ≡ map (moved side port) (range_with_len 0 cycle)) }
 {
     let mut rates = Vec::new(alloc);

@@ -8,13 +8,15 @@ use Rattle.sdf_kit.proofs.fir.put_plain.Goals as goal
 
 pub returns : goal.returns
 returns g c =
-    fill_by_all (λ k. settled (convolved c.args.taps.now (upsampled c.args.up (c.args.kept.now ++ c.args.taken.now))
-    (length c.args.kept.now * c.args.up + k * c.args.down)) c.args.shift) c.loop-j.put
-    (c.args.many * c.args.up) (pos 0)
+    fill_by_all (λ k. settled (convolved c.args.taps.now
+    (upsampled c.args.firings.up (c.args.kept.now ++ c.args.taken.now))
+    (length c.args.kept.now * c.args.firings.up + k * c.args.firings.down)) c.args.firings.shift) c.loop-j.put
+    (c.args.firings.many * c.args.firings.up) (pos 0)
     c.loop-j.invariant.0 (λ k l. c.loop-j.invariant.1 k (omega (arith, c.loop-j.invariant.0)))
 
 pub fir_output-requires-clause-at : goal.fir_output-requires-clause-at
 fir_output-requires-clause-at g c =
     rw (c.from.ensures, c.from-in-loop-j.ensures)
-    (place_in (length c.args.kept.now) (length c.args.taken.now) c.args.up c.args.down c.args.many c.loop-j.j
-    c.requires.taken c.requires.filter.down.0 (omega (arith, c.loop-j.invariant.0, c.loop-j-test.true)))
+    (place_in (length c.args.kept.now) (length c.args.taken.now) c.args.firings.up c.args.firings.down
+    c.args.firings.many c.loop-j.j
+    c.requires.taken c.requires.firings.down.0 (omega (arith, c.loop-j.invariant.0, c.loop-j-test.true)))

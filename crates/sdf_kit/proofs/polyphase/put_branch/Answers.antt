@@ -7,62 +7,65 @@ use Rattle.sdf_kit.proofs.polyphase.put_branch.Goals as goal
 
 pub four-sums-requires-clause-room : goal.four-sums-requires-clause-room
 four-sums-requires-clause-room c =
-    windows_fit c.args.down c.args.first c.fours.done 3 c.args.many (length c.args.branch.now)
+    windows_fit c.args.firings.down c.args.first c.fours.done 3 c.args.firings.many (length c.args.branch.now)
     (length c.args.window.now.samples) c.requires.first (omega (arith, c.fours-test.true)) c.requires.window
 
 pub put_four-requires : goal.put_four-requires
 put_four-requires c =
-    let fit = outputs_fit c.args.up c.args.at c.fours.done 3 c.args.many c.requires.at
+    let fit = outputs_fit c.args.firings.up c.args.at c.fours.done 3 c.args.firings.many c.requires.at
     (omega (arith, c.fours-test.true)) in
     omega (arith, fit, c.fours.invariant.put.len, c.requires.put)
 
 pub fours-preserved : goal.fours-preserved
 fours-preserved c =
     let few = c.fours-test.true in
-    let fit = outputs_fit c.args.up c.args.at c.fours.done 3 c.args.many c.requires.at (omega (arith, few)) in
-    let one : c.args.first + c.fours.done * c.args.down + c.args.down ≡
-    c.args.first + (c.fours.done + 1) * c.args.down =
-    (let p = further c.args.first c.fours.done 1 c.args.down in omega (arith, p)) in
-    let two : c.args.first + c.fours.done * c.args.down + 2 * c.args.down ≡
-    c.args.first + (c.fours.done + 2) * c.args.down = further c.args.first c.fours.done 2 c.args.down in
-    let three : c.args.first + c.fours.done * c.args.down + 3 * c.args.down ≡
-    c.args.first + (c.fours.done + 3) * c.args.down = further c.args.first c.fours.done 3 c.args.down in
+    let fit = outputs_fit c.args.firings.up c.args.at c.fours.done 3 c.args.firings.many c.requires.at
+    (omega (arith, few)) in
+    let one : c.args.first + c.fours.done * c.args.firings.down + c.args.firings.down ≡
+    c.args.first + (c.fours.done + 1) * c.args.firings.down =
+    (let p = further c.args.first c.fours.done 1 c.args.firings.down in omega (arith, p)) in
+    let two : c.args.first + c.fours.done * c.args.firings.down + 2 * c.args.firings.down ≡
+    c.args.first + (c.fours.done + 2) * c.args.firings.down = further c.args.first c.fours.done 2 c.args.firings.down in
+    let three : c.args.first + c.fours.done * c.args.firings.down + 3 * c.args.firings.down ≡
+    c.args.first + (c.fours.done + 3) * c.args.firings.down = further c.args.first c.fours.done 3 c.args.firings.down in
     record {
       put = fours_more (λ i. settled (dot c.args.branch.now
-          (take (length c.args.branch.now) (drop (c.args.first + i * c.args.down) c.args.window.now.samples)))
-          c.args.shift) c.args.up c.args.at c.args.put.now c.fours.put c.put_four.new.put c.fours.done
-          (c.args.at + c.fours.done * c.args.up)
+          (take (length c.args.branch.now) (drop (c.args.first + i * c.args.firings.down) c.args.window.now.samples)))
+          c.args.firings.shift) c.args.firings.up c.args.at c.args.put.now c.fours.put c.put_four.new.put c.fours.done
+          (c.args.at + c.fours.done * c.args.firings.up)
           (settled (dot c.args.branch.now (take (length c.args.branch.now)
-          (drop (c.args.first + c.fours.done * c.args.down) c.args.window.now.samples))) c.args.shift)
+          (drop (c.args.first + c.fours.done * c.args.firings.down) c.args.window.now.samples))) c.args.firings.shift)
           (settled (dot c.args.branch.now (take (length c.args.branch.now)
-          (drop (c.args.first + c.fours.done * c.args.down + c.args.down) c.args.window.now.samples)))
-          c.args.shift) (settled (dot c.args.branch.now
-          (take (length c.args.branch.now) (drop (c.args.first + c.fours.done * c.args.down + 2 * c.args.down)
-          c.args.window.now.samples))) c.args.shift)
+          (drop (c.args.first + c.fours.done * c.args.firings.down + c.args.firings.down) c.args.window.now.samples)))
+          c.args.firings.shift) (settled (dot c.args.branch.now
+          (take (length c.args.branch.now) (drop (c.args.first + c.fours.done * c.args.firings.down
+          + 2 * c.args.firings.down)
+          c.args.window.now.samples))) c.args.firings.shift)
           (settled (dot c.args.branch.now (take (length c.args.branch.now)
-          (drop (c.args.first + c.fours.done * c.args.down + 3 * c.args.down)
-          c.args.window.now.samples))) c.args.shift)
+          (drop (c.args.first + c.fours.done * c.args.firings.down + 3 * c.args.firings.down)
+          c.args.window.now.samples))) c.args.firings.shift)
           c.fours.invariant.put c.requires.at refl (omega (arith, fit, c.fours.invariant.put.len, c.requires.put))
           c.put_four.ensures c.four-sums.ensures
           refl (ap (λ n. settled (dot c.args.branch.now
-          (take (length c.args.branch.now) (drop n c.args.window.now.samples))) c.args.shift) one)
+          (take (length c.args.branch.now) (drop n c.args.window.now.samples))) c.args.firings.shift) one)
           (ap (λ n. settled (dot c.args.branch.now (take (length c.args.branch.now)
-          (drop n c.args.window.now.samples))) c.args.shift) two)
+          (drop n c.args.window.now.samples))) c.args.firings.shift) two)
           (ap (λ n. settled (dot c.args.branch.now (take (length c.args.branch.now)
-          (drop n c.args.window.now.samples))) c.args.shift) three);
+          (drop n c.args.window.now.samples))) c.args.firings.shift) three);
       few = few;
     }
 
 pub ones-preserved : goal.ones-preserved
 ones-preserved c =
     let few = c.ones-test.true in
-    let fit = outputs_fit c.args.up c.args.at c.ones.done 0 c.args.many c.requires.at (omega (arith, few)) in
+    let fit = outputs_fit c.args.firings.up c.args.at c.ones.done 0 c.args.firings.many c.requires.at
+    (omega (arith, few)) in
     let fits : FitsSigned w32 c.one-sum.result = record { sfits = c.one-sum.type_inv } in
     record {
       put = put_more (λ i. settled (dot c.args.branch.now
-          (take (length c.args.branch.now) (drop (c.args.first + i * c.args.down) c.args.window.now.samples)))
-          c.args.shift) c.args.up c.args.at c.args.put.now c.ones.put c.ones.done
-          (c.args.at + c.ones.done * c.args.up) (to_z w32 (of_z w32 c.one-sum.result))
+          (take (length c.args.branch.now) (drop (c.args.first + i * c.args.firings.down) c.args.window.now.samples)))
+          c.args.firings.shift) c.args.firings.up c.args.at c.args.put.now c.ones.put c.ones.done
+          (c.args.at + c.ones.done * c.args.firings.up) (to_z w32 (of_z w32 c.one-sum.result))
           c.ones.invariant.put c.requires.at refl (omega (arith, fit, c.ones.invariant.put.len, c.requires.put))
           (to_z-of_z w32 c.one-sum.result fits ∙ c.one-sum.ensures);
       few = omega (arith, few);

@@ -6,20 +6,22 @@ use Rattle.sdf_kit.proofs.polyphase.put_branch.Given as goal
 
 abbrev pub invariant-fours : goal.invariant-fours
 invariant-fours l = record {
-  put : IsPut (λ i. settled (dot l.branch (take (length l.branch) (drop (l.first + i * l.down) l.window.samples)))
-      l.shift) l.up l.at l.initial.put l.put l.done;
-  few : l.done ≤ l.many;
+  put : IsPut (λ i. settled (dot l.branch (take (length l.branch)
+      (drop (l.first + i * l.firings.down) l.window.samples)))
+      l.firings.shift) l.firings.up l.at l.initial.put l.put l.done;
+  few : l.done ≤ l.firings.many;
 }
 
 abbrev pub decreases-fours : goal.decreases-fours
-decreases-fours l = l.many - l.done
+decreases-fours l = l.firings.many - l.done
 
 abbrev pub invariant-ones : goal.invariant-ones
 invariant-ones l = record {
-  put : IsPut (λ i. settled (dot l.branch (take (length l.branch) (drop (l.first + i * l.down) l.window.samples)))
-      l.shift) l.up l.at l.fn.put l.put l.done;
-  few : l.done ≤ l.many;
+  put : IsPut (λ i. settled (dot l.branch (take (length l.branch)
+      (drop (l.first + i * l.firings.down) l.window.samples)))
+      l.firings.shift) l.firings.up l.at l.fn.put l.put l.done;
+  few : l.done ≤ l.firings.many;
 }
 
 abbrev pub decreases-ones : goal.decreases-ones
-decreases-ones l = l.many - l.done
+decreases-ones l = l.firings.many - l.done

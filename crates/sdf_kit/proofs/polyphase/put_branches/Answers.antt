@@ -9,30 +9,35 @@ use Rattle.sdf_kit.proofs.polyphase.put_branches.Goals as goal
 
 pub loop-j-preserved : goal.loop-j-preserved
 loop-j-preserved c =
-    let phase : c.loop-j.j * c.args.down % c.args.up < c.args.up =
-    mod_below (c.loop-j.j * c.args.down) c.args.up c.requires.up in
+    let phase : c.loop-j.j * c.args.firings.down % c.args.firings.up < c.args.firings.up =
+    mod_below (c.loop-j.j * c.args.firings.down) c.args.firings.up c.requires.firings.up.0 in
     let long : length c.get-branch.result.now ≡ c.args.branches.now.width =
-    ap length c.get-branch.ensures ∙ length-branch_at c.args.up c.args.branches.now
-    (c.loop-j.j * c.args.down % c.args.up) c.requires.branches phase in
+    ap length c.get-branch.ensures ∙ length-branch_at c.args.firings.up c.args.branches.now
+    (c.loop-j.j * c.args.firings.down % c.args.firings.up) c.requires.branches phase in
     record {
       len = c.put_branch.ensures.len ∙ c.loop-j.invariant.len;
       done = λ j i l h. ⊎_elim
-          (λ lt. c.put_branch.ensures.others (j + i * c.args.up)
-          (other_branch c.args.up j c.loop-j.j i lt c.loop-j-test.true) ∙ c.loop-j.invariant.done j i lt h)
+          (λ lt. c.put_branch.ensures.others (j + i * c.args.firings.up)
+          (other_branch c.args.firings.up j c.loop-j.j i lt c.loop-j-test.true) ∙ c.loop-j.invariant.done j i lt h)
           (λ ge.
           let e : j ≡ c.loop-j.j = omega (arith, l, ge) in
-          ap (λ k. get_or c.put_branch.new.put (k + i * c.args.up) (pos 0)) e ∙ (c.put_branch.ensures.done i h ∙
-          (branch_step c.args.branches.now c.args.up c.args.down c.args.shift c.args.window.now.samples
-          c.get-branch.result.now c.loop-j.j i (c.loop-j.j * c.args.down / c.args.up) c.requires.up
-          c.get-branch.ensures long refl ∙ ap (λ k. branch_output c.args.branches.now c.args.up c.args.down c.args.shift
-          c.args.window.now.samples (i * c.args.up + k)) (sym e))))
+          ap (λ k. get_or c.put_branch.new.put (k + i * c.args.firings.up) (pos 0)) e ∙ (c.put_branch.ensures.done i h ∙
+          (branch_step c.args.branches.now c.args.firings.up c.args.firings.down c.args.firings.shift
+          c.args.window.now.samples
+          c.get-branch.result.now c.loop-j.j i (c.loop-j.j * c.args.firings.down / c.args.firings.up)
+          c.requires.firings.up.0
+          c.get-branch.ensures long refl ∙ ap (λ k. branch_output c.args.branches.now c.args.firings.up
+          c.args.firings.down c.args.firings.shift
+          c.args.window.now.samples (i * c.args.firings.up + k)) (sym e))))
           (cases_lt j c.loop-j.j);
     }
 
 pub returns : goal.returns
 returns c =
-    fill_by_all (branch_output c.args.branches.now c.args.up c.args.down c.args.shift c.args.window.now.samples)
-    c.loop-j.put (c.args.many * c.args.up) (pos 0) c.loop-j.invariant.len
-    (all_put (branch_output c.args.branches.now c.args.up c.args.down c.args.shift c.args.window.now.samples) c.args.up
-    c.args.many c.loop-j.put c.requires.up
+    fill_by_all (branch_output c.args.branches.now c.args.firings.up c.args.firings.down c.args.firings.shift
+    c.args.window.now.samples)
+    c.loop-j.put (c.args.firings.many * c.args.firings.up) (pos 0) c.loop-j.invariant.len
+    (all_put (branch_output c.args.branches.now c.args.firings.up c.args.firings.down c.args.firings.shift
+    c.args.window.now.samples) c.args.firings.up
+    c.args.firings.many c.loop-j.put c.requires.firings.up.0
     (λ j i l h. c.loop-j.invariant.done j i (omega (arith, l, c.loop-j-test.false)) h))

@@ -29,3 +29,10 @@ returns-then-load c =
     c.self.inside.shift s) (range_with_len 0 (c.args.many * c.self.inside.up))) samples ∙
     block_is f c.self.inside.branches c.args.kept.now c.args.taken.now c.args.many pad c.self.invariant.filter
     c.self.invariant.branches long pads size))
+
+pub put_branches-requires-clause-firings : goal.put_branches-requires-clause-firings
+put_branches-requires-clause-firings c = record {
+  up = c.self.invariant.filter.up;
+  down = c.self.invariant.filter.down;
+  shift = c.self.invariant.filter.shift;
+}

@@ -1,7 +1,7 @@
 use Rattle.std.proofs.Common.{arith}
 use Rattle.sdf_kit.specs.Table.{looked_up}
 use Rattle.sdf_kit.proofs.Runs.{mapped_by}
-use Rattle.sdf_kit.proofs.table.Table.run.Goals as goal
+use Rattle.sdf_kit.proofs.table.Lookup.run.Goals as goal
 
 pub returns : goal.returns
 returns c =

@@ -1,7 +1,7 @@
 use Rattle.std.proofs.Common.{◌≡◌, ℕ, ◌<◌, length}
 use Rattle.sdf_kit.specs.Samples.{sample}
 use Rattle.sdf_kit.specs.Table.{looked_up}
-use Rattle.sdf_kit.proofs.table.Table.run.Given as goal
+use Rattle.sdf_kit.proofs.table.Lookup.run.Given as goal
 
 abbrev pub invariant-loop-i : goal.invariant-loop-i
 invariant-loop-i l = (length l.put ≡ length l.taken)

@@ -9,35 +9,35 @@ use std::sync::ledger::{Blank, Book, Ledger, Share};
 
 /// How many products were made. It takes no bytes, and only a product changes it.
 #[derive(Drop)]
-pub struct Steps<G: Ledger> {
+pub struct Products<G: Ledger> {
     book: Book<G>,
     share: Share<G>,
 }
 
-impl<G: Ledger> Model for Steps<G> {
+impl<G: Ledger> Model for Products<G> {
     ghost use Rattle.std.specs.Prelude.{ℕ, ◌<◌};
 
     ghost Value = { ℕ };
 
-    ghost view = { λ s. s.book.total };
+    ghost view = { λ p. p.book.total };
 
-    ghost invariant = { λ s. 0 < s.share.parts };
+    ghost invariant = { λ p. 0 < p.share.parts };
 }
 
-impl<G: Ledger> Steps<G> {
+impl<G: Ledger> Products<G> {
     /// None yet, of a ledger with parts.
-    pub fn open(blank: Blank) -> Steps<G>
+    pub fn open(blank: Blank) -> Products<G>
         requires name { blank.name ≡ G.name }
         requires parts { blank.parts ≡ G.parts }
         requires some { 0 < blank.parts }
         ensures { result ≡ 0 }
     {
         let (book, share) = blank.open::<G>();
-        Steps { book, share }
+        Products { book, share }
     }
 
     /// A factor of 16 bits times a sample, which counts one.
-    pub(crate) fn product(&mut self, factor: i32, sample: i32) -> i64
+    pub(crate) fn multiply(&mut self, factor: i32, sample: i32) -> i64
         requires { FitsSigned w16 factor }
         ensures value { result ≡ factor *ℤ sample }
         ensures small { unsigned_abs result ≤ 70368744177664 }

@@ -7,7 +7,7 @@ use Rattle.std.proofs.lemmas.Nat.{div-add-mod', mod_below, mod-mul-add}
 use Rattle.std.proofs.Math.Nat.{zero-mul, suc-mul}
 use Rattle.sdf_kit.specs.Ports.{moved}
 use Rattle.sdf_kit.specs.Formulas.{before, moved_in}
-use Rattle.sdf_kit.specs.declared.ports.Side.TheVariants.{InTurn}
+use Rattle.sdf_kit.specs.declared.ports.PortRates.TheVariants.{InTurn}
 use Rattle.sdf_kit.proofs.Totals.{sum_suc}
 
 -- one number more below a bound
