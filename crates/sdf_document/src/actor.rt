@@ -34,10 +34,10 @@ fn name_at<'a>(
 {
     let name = text_at(Place::Actor(actor), "name", table)?;
     if !is_name(name) {
-        return Err(ReadFault::Document(DocumentFault::BadName(Place::Actor(actor), "name")));
+        return Err(DocumentFault::BadName(Place::Actor(actor), "name").into());
     }
     if names.contains(name) {
-        return Err(ReadFault::Document(DocumentFault::NameTwice(actor)));
+        return Err(DocumentFault::NameTwice(actor).into());
     }
     Ok(name)
 }
@@ -67,7 +67,7 @@ pub(crate) fn actor_at(
     ensures within { IfOk result (IsActorWithin (are_read files.entry)) }
 {
     let Some(table) = value.as_table() else {
-        return Err(ReadFault::Document(DocumentFault::WrongType(Place::Actor(actor), "actor")));
+        return Err(DocumentFault::WrongType(Place::Actor(actor), "actor").into());
     };
     let name = name_at(actor, names, table)?;
     let word = word_at(actor, format, table)?;

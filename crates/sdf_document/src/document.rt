@@ -66,11 +66,11 @@ fn array_at<'a>(key: &'static str, table: &'a Table) -> Result<&'a [Value], Read
     ensures { Gives (λ s. items_view s.now) result (array_at key.now (table_view table.now)) }
 {
     let Some(value) = at(table, key) else {
-        return Err(ReadFault::Document(DocumentFault::MissingKey(Place::Top, key)));
+        return Err(DocumentFault::MissingKey(Place::Top, key).into());
     };
     match value.as_array() {
         Some(array) => Ok(array.as_slice()),
-        None => Err(ReadFault::Document(DocumentFault::WrongType(Place::Top, key))),
+        None => Err(DocumentFault::WrongType(Place::Top, key).into()),
     }
 }
 
@@ -99,10 +99,10 @@ fn parts_at(alloc: Global, table: &Table) -> Result<Parts<'_>, ReadFault>
     let actors = array_at("actor", table)?;
     let links = array_at("link", table)?;
     if actors.is_empty() || actors.len() > MOST_ACTORS {
-        return Err(ReadFault::Document(DocumentFault::ActorCount));
+        return Err(DocumentFault::ActorCount.into());
     }
     if links.len() > MOST_LINKS {
-        return Err(ReadFault::Document(DocumentFault::ChannelCount));
+        return Err(DocumentFault::ChannelCount.into());
     }
     Ok(Parts {
         format,

@@ -1,7 +1,7 @@
 //! Why a graph file was not read.
 ghost use Rattle.std.specs.Prelude.{◌≡◌, Some, ◌++◌, codes, decimal, IfOk};
 ghost use Rattle.sdf_document.specs.Fault.{place_view, spot_view};
-ghost use Rattle.sdf_document.specs.declared.fault.ReadFault.TheVariants.{OutOfMemory};
+ghost use Rattle.sdf_document.specs.declared.fault.ReadFault.TheVariants.{Document, OutOfMemory};
 
 use std::alloc::{AllocError, AllocFailed, Global};
 use std::fmt;
@@ -93,6 +93,14 @@ pub enum ReadFault {
     OutOfMemory,
     #[error(transparent)]
     Document(DocumentFault),
+}
+
+impl From<DocumentFault> for ReadFault {
+    ghost from_gives = { λ fault e. e ≡ Document fault };
+
+    fn from(fault: DocumentFault) -> ReadFault {
+        ReadFault::Document(fault)
+    }
 }
 
 impl From<AllocError> for ReadFault {

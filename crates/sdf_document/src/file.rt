@@ -48,7 +48,7 @@ pub(crate) fn coefficients(alloc: Global, name: &str, bytes: &[u8]) -> Result<Ve
     test_keys(alloc, spot, file_keys(), &table)?;
     let Some(values) = at(&table, "values") else {
         let place = spot.place(alloc)?;
-        return Err(ReadFault::Document(DocumentFault::MissingKey(place, "values")));
+        return Err(DocumentFault::MissingKey(place, "values").into());
     };
     integers_at(alloc, spot, "values", values)
 }

@@ -13,7 +13,7 @@ ghost use Rattle.sdf_document.specs.Kinds.{formed_at, values_at, HasForm, HaveFo
 use crate::entry::ListEntry;
 use crate::fault::{DocumentFault, Place, ReadFault};
 use crate::file::Files;
-use crate::list::list_at;
+use crate::list::{Limits, list_at};
 use crate::row::{Form, Key, shared_keys};
 use crate::value::{at, integer_in, natural_in};
 use std::alloc::{AllocError, Global};
@@ -82,8 +82,8 @@ fn natural_at(
     }
     match absent {
         Some(number) if least <= number && number <= most => Ok(number),
-        Some(_) => Err(ReadFault::Document(DocumentFault::KitValue(Place::Actor(actor), key))),
-        None => Err(ReadFault::Document(DocumentFault::MissingKey(Place::Actor(actor), key))),
+        Some(_) => Err(DocumentFault::KitValue(Place::Actor(actor), key).into()),
+        None => Err(DocumentFault::MissingKey(Place::Actor(actor), key).into()),
     }
 }
 
@@ -121,8 +121,8 @@ fn integer_at(
     }
     match absent {
         Some(number) if least <= number && number <= most => Ok(number),
-        Some(_) => Err(ReadFault::Document(DocumentFault::KitValue(Place::Actor(actor), key))),
-        None => Err(ReadFault::Document(DocumentFault::MissingKey(Place::Actor(actor), key))),
+        Some(_) => Err(DocumentFault::KitValue(Place::Actor(actor), key).into()),
+        None => Err(DocumentFault::MissingKey(Place::Actor(actor), key).into()),
     }
 }
 
@@ -157,7 +157,8 @@ fn formed_at(
             Ok(KeyValue::Integer(number))
         }
         Form::List(most, width) => {
-            let list = list_at(alloc, actor, key, most, width, files, table)?;
+            let limits = Limits { most, width };
+            let list = list_at(alloc, actor, key, limits, files, table)?;
             Ok(KeyValue::List(list))
         }
     }

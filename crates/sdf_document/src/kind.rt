@@ -43,7 +43,7 @@ pub(crate) fn word_at(actor: usize, format: u32, table: &Table) -> Result<KindWo
     let text = text_at(Place::Actor(actor), "kind", table)?;
     match kind_named(format, text) {
         Some(kind) => Ok(kind),
-        None => Err(ReadFault::Document(DocumentFault::UnknownKind(actor))),
+        None => Err(DocumentFault::UnknownKind(actor).into()),
     }
 }
 
@@ -182,6 +182,6 @@ pub(crate) fn kind_at(
     if is_ordered(&entry) {
         Ok(entry)
     } else {
-        Err(ReadFault::Document(DocumentFault::KitValue(Place::Actor(actor), "greatest")))
+        Err(DocumentFault::KitValue(Place::Actor(actor), "greatest").into())
     }
 }

@@ -72,7 +72,7 @@ fn end_at(
     let text = text_at(Place::Link(link), key, table)?;
     match end_of(names, text) {
         Some(end) => Ok(end),
-        None => Err(ReadFault::Document(DocumentFault::BadPort(link, key))),
+        None => Err(DocumentFault::BadPort(link, key).into()),
     }
 }
 
@@ -86,7 +86,7 @@ fn initial_at(alloc: Global, link: usize, table: &Table) -> Result<Vec<i32>, Rea
     let numbers = integers_at(alloc, Spot::Link(link), "initial", value)?;
     match all_of(alloc, Width::Bits32, numbers.as_slice())? {
         Some(samples) => Ok(samples),
-        None => Err(ReadFault::Document(DocumentFault::KitValue(Place::Link(link), "initial"))),
+        None => Err(DocumentFault::KitValue(Place::Link(link), "initial").into()),
     }
 }
 
@@ -109,7 +109,7 @@ pub(crate) fn link_at(
     ensures { Gives link_view result (link_at link (names_of names.now) (view value.now)) }
 {
     let Some(table) = value.as_table() else {
-        return Err(ReadFault::Document(DocumentFault::WrongType(Place::Link(link), "link")));
+        return Err(DocumentFault::WrongType(Place::Link(link), "link").into());
     };
     test_keys(alloc, Spot::Link(link), link_keys(), table)?;
     let from = end_at(link, "from", names, table)?;

@@ -16,6 +16,13 @@ use crate::value::{at, integers_at};
 use std::alloc::{AllocError, Global};
 use toml::{Table, Value};
 
+/// How many numbers a list may have, and how wide each of them.
+#[derive(Clone, Copy)]
+pub(crate) struct Limits {
+    pub(crate) most: usize,
+    pub(crate) width: Width,
+}
+
 /// The number, where it is of the width.
 fn fitting(width: Width, number: i64) -> Option<i32>
     ensures { result ≡ (if fits width number then Some number else None) }
@@ -45,19 +52,14 @@ pub(crate) fn all_of(
     Ok(Some(values))
 }
 
-fn list_of(
-    alloc: Global,
-    most: usize,
-    width: Width,
-    numbers: &[i64],
-) -> Result<Option<Vec<i32>>, AllocError>
+fn list_of(alloc: Global, limits: Limits, numbers: &[i64]) -> Result<Option<Vec<i32>>, AllocError>
     ensures { IfOk result (λ r. option_map (λ v. v.items) r ≡
-        (if is_list most width numbers.now then Some numbers.now else None)) }
+        (if is_list limits.most limits.width numbers.now then Some numbers.now else None)) }
 {
-    if numbers.is_empty() || numbers.len() > most {
+    if numbers.is_empty() || numbers.len() > limits.most {
         return Ok(None);
     }
-    all_of(alloc, width, numbers)
+    all_of(alloc, limits.width, numbers)
 }
 
 /// The numbers as a list of an actor, named by its key where they are none.
@@ -65,16 +67,15 @@ fn listed(
     alloc: Global,
     actor: usize,
     key: &'static str,
-    most: usize,
-    width: Width,
+    limits: Limits,
     numbers: &[i64],
 ) -> Result<Vec<i32>, ReadFault>
-    ensures given { Gives (λ v. v.items) result (listed actor key.now most width numbers.now) }
-    ensures within { IfOk result (λ v. IsTrue (is_list most width v.items)) }
+    ensures given { Gives (λ v. v.items) result (listed actor key.now limits.most limits.width numbers.now) }
+    ensures within { IfOk result (λ v. IsTrue (is_list limits.most limits.width v.items)) }
 {
-    match list_of(alloc, most, width, numbers)? {
+    match list_of(alloc, limits, numbers)? {
         Some(list) => Ok(list),
-        None => Err(ReadFault::Document(DocumentFault::KitValue(Place::Actor(actor), key))),
+        None => Err(DocumentFault::KitValue(Place::Actor(actor), key).into()),
     }
 }
 
@@ -83,12 +84,12 @@ fn name_in(actor: usize, value: &Value) -> Result<&str, ReadFault>
     ensures { Gives (λ s. s.now) result (name_in actor (view value.now)) }
 {
     let Some(name) = value.as_str() else {
-        return Err(ReadFault::Document(DocumentFault::WrongType(Place::Actor(actor), "file")));
+        return Err(DocumentFault::WrongType(Place::Actor(actor), "file").into());
     };
     if is_file_name(name) {
         Ok(name)
     } else {
-        Err(ReadFault::Document(DocumentFault::BadName(Place::Actor(actor), "file")))
+        Err(DocumentFault::BadName(Place::Actor(actor), "file").into())
     }
 }
 
@@ -97,38 +98,38 @@ fn name_in(actor: usize, value: &Value) -> Result<&str, ReadFault>
 fn filed_values(
     alloc: Global,
     actor: usize,
-    most: usize,
-    width: Width,
+    limits: Limits,
     files: Files<'_>,
     name: &str,
 ) -> Result<Vec<i32>, ReadFault>
-    ensures given { Gives (λ v. v.items) result (filed_values actor most width (lookup_of files.entry) name.now) }
-    ensures within { IfOk result (λ v. IsListed (are_read files.entry) most width v.items) }
+    ensures given { Gives (λ v. v.items) result (filed_values actor limits.most limits.width
+        (lookup_of files.entry) name.now) }
+    ensures within { IfOk result (λ v. IsListed (are_read files.entry) limits.most limits.width v.items) }
 {
     let Files::Given(files) = files else {
         return Ok(Vec::new(alloc));
     };
     let Some(bytes) = file_named(name, files) else {
-        return Err(ReadFault::Document(DocumentFault::NoFile(String::from_str(alloc, name)?)));
+        return Err(DocumentFault::NoFile(String::from_str(alloc, name)?).into());
     };
     let numbers = coefficients(alloc, name, bytes)?;
-    listed(alloc, actor, "file", most, width, numbers.as_slice())
+    listed(alloc, actor, "file", limits, numbers.as_slice())
 }
 
 #[tactic(auto, unfolding(crate::specs::Lists::filed_at))]
 fn filed_at(
     alloc: Global,
     actor: usize,
-    most: usize,
-    width: Width,
+    limits: Limits,
     files: Files<'_>,
     value: &Value,
 ) -> Result<ListEntry, ReadFault>
-    ensures given { Gives (λ l. l) result (filed_at actor most width (lookup_of files.entry) (view value.now)) }
-    ensures within { IfOk result (λ l. IsListed (are_read files.entry) most width l.values) }
+    ensures given { Gives (λ l. l) result (filed_at actor limits.most limits.width (lookup_of files.entry)
+        (view value.now)) }
+    ensures within { IfOk result (λ l. IsListed (are_read files.entry) limits.most limits.width l.values) }
 {
     let name = name_in(actor, value)?;
-    let values = filed_values(alloc, actor, most, width, files, name)?;
+    let values = filed_values(alloc, actor, limits, files, name)?;
     Ok(ListEntry {
         file: Some(String::from_str(alloc, name)?),
         values,
@@ -140,15 +141,14 @@ fn array_in(
     alloc: Global,
     actor: usize,
     key: &'static str,
-    most: usize,
-    width: Width,
+    limits: Limits,
     value: &Value,
 ) -> Result<ListEntry, ReadFault>
-    ensures given { Gives (λ l. l) result (array_in actor key.now most width (view value.now)) }
-    ensures within { IfOk result (λ l. IsTrue (is_list most width l.values)) }
+    ensures given { Gives (λ l. l) result (array_in actor key.now limits.most limits.width (view value.now)) }
+    ensures within { IfOk result (λ l. IsTrue (is_list limits.most limits.width l.values)) }
 {
     let numbers = integers_at(alloc, Spot::Actor(actor), key, value)?;
-    let values = listed(alloc, actor, key, most, width, numbers.as_slice())?;
+    let values = listed(alloc, actor, key, limits, numbers.as_slice())?;
     Ok(ListEntry { file: None, values })
 }
 
@@ -158,20 +158,19 @@ pub(crate) fn list_at(
     alloc: Global,
     actor: usize,
     key: &'static str,
-    most: usize,
-    width: Width,
+    limits: Limits,
     files: Files<'_>,
     table: &Table,
 ) -> Result<ListEntry, ReadFault>
-    ensures given { Gives (λ l. l) result (list_at actor key.now most width (lookup_of files.entry)
+    ensures given { Gives (λ l. l) result (list_at actor key.now limits.most limits.width (lookup_of files.entry)
         (table_view table.now)) }
-    ensures within { IfOk result (λ l. IsListed (are_read files.entry) most width l.values) }
+    ensures within { IfOk result (λ l. IsListed (are_read files.entry) limits.most limits.width l.values) }
 {
     if let Some(value) = at(table, key) {
-        return array_in(alloc, actor, key, most, width, value);
+        return array_in(alloc, actor, key, limits, value);
     }
     match at(table, "file") {
-        Some(value) => filed_at(alloc, actor, most, width, files, value),
-        None => Err(ReadFault::Document(DocumentFault::MissingKey(Place::Actor(actor), key))),
+        Some(value) => filed_at(alloc, actor, limits, files, value),
+        None => Err(DocumentFault::MissingKey(Place::Actor(actor), key).into()),
     }
 }

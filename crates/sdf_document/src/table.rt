@@ -19,7 +19,7 @@ pub(crate) fn table_in(alloc: Global, spot: Spot<'_>, bytes: &[u8]) -> Result<Ta
         Err(error) if error.is_memory() => Err(ReadFault::OutOfMemory),
         Err(_) => {
             let place = spot.place(alloc)?;
-            Err(ReadFault::Document(DocumentFault::NotToml(place)))
+            Err(DocumentFault::NotToml(place).into())
         }
     }
 }
@@ -36,17 +36,17 @@ pub(crate) fn format_at(
 {
     let Some(value) = at(table, "format") else {
         let place = spot.place(alloc)?;
-        return Err(ReadFault::Document(DocumentFault::MissingKey(place, "format")));
+        return Err(DocumentFault::MissingKey(place, "format").into());
     };
     let Some(format) = value.as_integer() else {
         let place = spot.place(alloc)?;
-        return Err(ReadFault::Document(DocumentFault::WrongType(place, "format")));
+        return Err(DocumentFault::WrongType(place, "format").into());
     };
     if 1 <= format && format <= i64::from(last) {
         Ok(format as u32)
     } else {
         let place = spot.place(alloc)?;
-        Err(ReadFault::Document(DocumentFault::Format(place)))
+        Err(DocumentFault::Format(place).into())
     }
 }
 
@@ -69,7 +69,7 @@ pub(crate) fn test_keys(
     for (key, _) in table {
         if !is_known(known, key.as_str()) {
             let place = spot.place(alloc)?;
-            return Err(ReadFault::Document(DocumentFault::UnknownKey(place, key.clone()?)));
+            return Err(DocumentFault::UnknownKey(place, key.clone()?).into());
         }
     }
     Ok(())

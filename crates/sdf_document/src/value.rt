@@ -26,11 +26,11 @@ pub(crate) fn text_at<'a>(
     ensures { Gives (λ s. s.now) result (text_at (place_view place) key.now (table_view table.now)) }
 {
     let Some(value) = at(table, key) else {
-        return Err(ReadFault::Document(DocumentFault::MissingKey(place, key)));
+        return Err(DocumentFault::MissingKey(place, key).into());
     };
     match value.as_str() {
         Some(text) => Ok(text),
-        None => Err(ReadFault::Document(DocumentFault::WrongType(place, key))),
+        None => Err(DocumentFault::WrongType(place, key).into()),
     }
 }
 
@@ -47,12 +47,12 @@ pub(crate) fn natural_in(
     ensures within { IfOk result (λ n. (least ≤ n) × (n ≤ most)) }
 {
     let Some(number) = value.as_integer() else {
-        return Err(ReadFault::Document(DocumentFault::WrongType(Place::Actor(actor), key)));
+        return Err(DocumentFault::WrongType(Place::Actor(actor), key).into());
     };
     if number >= 0 && i64::from(least) <= number && number <= i64::from(most) {
         Ok(number as u32)
     } else {
-        Err(ReadFault::Document(DocumentFault::KitValue(Place::Actor(actor), key)))
+        Err(DocumentFault::KitValue(Place::Actor(actor), key).into())
     }
 }
 
@@ -69,12 +69,12 @@ pub(crate) fn integer_in(
     ensures within { IfOk result (λ n. (least ≤ℤ n) × (n ≤ℤ most)) }
 {
     let Some(number) = value.as_integer() else {
-        return Err(ReadFault::Document(DocumentFault::WrongType(Place::Actor(actor), key)));
+        return Err(DocumentFault::WrongType(Place::Actor(actor), key).into());
     };
     if i64::from(least) <= number && number <= i64::from(most) {
         Ok(number as i32)
     } else {
-        Err(ReadFault::Document(DocumentFault::KitValue(Place::Actor(actor), key)))
+        Err(DocumentFault::KitValue(Place::Actor(actor), key).into())
     }
 }
 
@@ -104,13 +104,13 @@ pub(crate) fn integers_at(
 {
     let Some(array) = value.as_array() else {
         let place = spot.place(alloc)?;
-        return Err(ReadFault::Document(DocumentFault::WrongType(place, key)));
+        return Err(DocumentFault::WrongType(place, key).into());
     };
     match integers_in(alloc, array.as_slice())? {
         Some(numbers) => Ok(numbers),
         None => {
             let place = spot.place(alloc)?;
-            Err(ReadFault::Document(DocumentFault::WrongType(place, key)))
+            Err(DocumentFault::WrongType(place, key).into())
         }
     }
 }

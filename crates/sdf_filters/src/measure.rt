@@ -6,15 +6,15 @@ use std::num::saturating_f64_to_u64;
 /// At how many frequencies more than one a band is looked at.
 const STEPS: u32 = 2048;
 
-/// A level below this is taken for it: -240 dB.
-const LEAST_LEVEL: f64 = 1e-12;
+/// A magnitude below this is taken for it: -240 dB.
+const LEAST_MAGNITUDE: f64 = 1e-12;
 
 /// What a filter does to what passes and to what is stopped.
 #[derive(Debug, Clone, Copy, PartialEq, Eq)]
 pub struct Measured {
-    /// How far a level is from the unit at most, in ten-thousandths of a dB.
+    /// How far a magnitude is from the unit at most, in ten-thousandths of a dB.
     pub ripple: u64,
-    /// How far each level is below the unit at least, in tenths of a dB.
+    /// How far each magnitude is below the unit at least, in tenths of a dB.
     pub attenuation: u64,
 }
 
@@ -25,9 +25,9 @@ pub(crate) struct Range {
     pub(crate) to: f64,
 }
 
-/// The levels that a filter has in a range, as parts of the unit.
+/// The magnitudes that a filter has in a range, as parts of the unit.
 #[derive(Clone, Copy)]
-struct Levels {
+struct Magnitudes {
     least: f64,
     greatest: f64,
 }
@@ -40,8 +40,8 @@ pub(crate) struct Response<'a> {
     pub(crate) unit: f64,
 }
 
-/// How loud taps are at an angle for each sample, by Goertzel's recurrence.
-fn level(taps: &[i32], angle: f64) -> f64 {
+/// The magnitude of taps at an angle for each sample, by Goertzel's recurrence.
+fn magnitude(taps: &[i32], angle: f64) -> f64 {
     let turn = 2.0 * angle.cos();
     let mut last = 0.0;
     let mut before = 0.0;
@@ -55,42 +55,42 @@ fn level(taps: &[i32], angle: f64) -> f64 {
         .sqrt()
 }
 
-/// A level in dB.
-fn decibels(level: f64) -> f64 {
-    20.0 * level.max(LEAST_LEVEL).log10()
+/// A magnitude in dB.
+fn decibels(magnitude: f64) -> f64 {
+    20.0 * magnitude.max(LEAST_MAGNITUDE).log10()
 }
 
 impl Response<'_> {
-    /// The levels of a range.
-    fn levels(self, range: Range) -> Levels {
-        let mut levels = Levels {
+    /// The magnitudes of a range.
+    fn magnitudes(self, range: Range) -> Magnitudes {
+        let mut magnitudes = Magnitudes {
             least: f64::INFINITY,
             greatest: 0.0,
         };
         for step in 0..STEPS + 1 {
             let part = f64::from(step) / f64::from(STEPS);
             let frequency = range.from + (range.to - range.from) * part;
-            let level = level(self.taps, TAU * frequency / self.rate) / self.unit;
-            levels = Levels {
-                least: levels.least.min(level),
-                greatest: levels.greatest.max(level),
+            let magnitude = magnitude(self.taps, TAU * frequency / self.rate) / self.unit;
+            magnitudes = Magnitudes {
+                least: magnitudes.least.min(magnitude),
+                greatest: magnitudes.greatest.max(magnitude),
             };
         }
-        levels
+        magnitudes
     }
 
-    /// The loudest level of all these ranges.
+    /// The greatest magnitude of all these ranges.
     fn loudest(self, ranges: &[Range]) -> f64 {
         let mut loudest = 0.0f64;
         for range in ranges {
-            loudest = loudest.max(self.levels(*range).greatest);
+            loudest = loudest.max(self.magnitudes(*range).greatest);
         }
         loudest
     }
 
     /// What it does to the range that passes and to those that are stopped.
     pub(crate) fn measured(self, passed: Range, stopped: &[Range]) -> Measured {
-        let passed = self.levels(passed);
+        let passed = self.magnitudes(passed);
         let ripple = decibels(passed.greatest)
             .abs()
             .max(decibels(passed.least).abs());

@@ -3,6 +3,7 @@ use Rattle.std.proofs.Common.{◌≡◌, ◌≢◌, ℕ, ◌*◌, ◌≤◌, ◌
 use Rattle.std.proofs.Common.{sum, sym, ap, ◌∙◌, subst, inl, inr, ◌⊎◌, arith}
 use Rattle.std.proofs.lemmas.List.{get_or-set_same, get_or-set_other, length-set, length-replicate, get_or-replicate}
 use Rattle.std.proofs.lemmas.Bool.{cases_eq, both_ways}
+use Rattle.sdf_limits.specs.declared.TheConstants.{MOST_PERIOD}
 use Rattle.sdf_graph.specs.Rates.{Shape, Edge, IsShape, IsCycle, IsReached, channel, cycle, sum_to, rate_at}
 use Rattle.sdf_graph.specs.Faults.{numbers_fault}
 use Rattle.sdf_graph.specs.Marks.{is_marked, AreReached, IsClosed, IsJoin, IsAcross, IsBorder}
@@ -194,7 +195,7 @@ pub reduced_small : (n d a b : ℕ) → 0 < n → 0 < d → IsReduced n d a b �
 reduced_small n d a b top bottom red =
     (no_greater a n top (red.scale, red.top), no_greater b d bottom (red.scale, red.bottom))
 
-pub product_small : (a b : ℕ) → a ≤ 65536 → b ≤ 65536 → a * b ≤ 4294967296
+pub product_small : (a b : ℕ) → a ≤ MOST_PERIOD → b ≤ MOST_PERIOD → a * b ≤ MOST_PERIOD * MOST_PERIOD
 product_small a b h k = mul-le-mul h k
 
 -- what whole cycles put is so many times what one does

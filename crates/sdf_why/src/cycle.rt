@@ -10,6 +10,7 @@ ghost use Rattle.sdf_why.specs.Cycles.{done_at, short_at, Waits, IsCycle, held, 
 use crate::tables::{entry, text_at};
 use crate::words::{Lack, push_lack};
 use sdf_graph::{Channel, Graph};
+use sdf_limits::{MOST_INITIAL, MOST_RATE};
 use std::alloc::{AllocError, Global};
 use toml::Value;
 
@@ -98,9 +99,9 @@ fn cycle_of(alloc: Global, graph: &Graph, halts: &[Halt]) -> Result<Option<Vec<u
 /// How many samples the first firings of the source put.
 pub(crate) fn put_by(channel: &Channel, firings: u32) -> u64
     requires some { 0 < length channel.now.put }
-    requires rates { (i : ℕ) → rate_at channel.now.put i ≤ 1024 }
+    requires rates { (i : ℕ) → rate_at channel.now.put i ≤ MOST_RATE }
     ensures value { result ≡ sum_to (rate_at channel.now.put) firings }
-    ensures small { result ≤ firings * 1024 }
+    ensures small { result ≤ firings * MOST_RATE }
 {
     let mut samples = 0;
     for firing in 0..firings {
@@ -112,9 +113,9 @@ pub(crate) fn put_by(channel: &Channel, firings: u32) -> u64
 /// And how many those of the target take.
 pub(crate) fn taken_by(channel: &Channel, firings: u32) -> u64
     requires some { 0 < length channel.now.take }
-    requires rates { (i : ℕ) → rate_at channel.now.take i ≤ 1024 }
+    requires rates { (i : ℕ) → rate_at channel.now.take i ≤ MOST_RATE }
     ensures value { result ≡ sum_to (rate_at channel.now.take) firings }
-    ensures small { result ≤ firings * 1024 }
+    ensures small { result ≤ firings * MOST_RATE }
 {
     let mut samples = 0;
     for firing in 0..firings {
@@ -125,7 +126,7 @@ pub(crate) fn taken_by(channel: &Channel, firings: u32) -> u64
 
 /// What a channel holds.
 fn held(channel: &Channel, put: u64, taken: u64) -> u64
-    requires initial { channel.now.initial ≤ 65536 }
+    requires initial { channel.now.initial ≤ MOST_INITIAL }
     requires put { put ≤ 2 ^ 63 }
     ensures { result ≡ channel.now.initial + put - taken }
 {

@@ -12,7 +12,7 @@ ghost use Rattle.sdf_why.specs.Walks.{IsPace, ArePaces, IsMeeting};
 
 use crate::cycle::{put_by, taken_by};
 use sdf_graph::{Channel, Graph};
-use sdf_limits::{MOST_ACTORS, MOST_PERIOD};
+use sdf_limits::{MOST_ACTORS, MOST_CYCLE, MOST_PERIOD, MOST_RATE};
 use std::alloc::{AllocError, Global};
 
 pub(crate) fn is_marked(marked: &[bool], actor: usize) -> bool
@@ -104,7 +104,7 @@ struct Totals {
 fn put_in_cycle(graph: &Graph, number: usize) -> u64
     requires { number < length graph.now.channels }
     ensures value { result ≡ put_in_cycle graph.now number }
-    ensures small { result ≤ 65536 }
+    ensures small { result ≤ MOST_RATE * MOST_CYCLE }
 {
     let channel = &graph.channels()[number];
     put_by(channel, graph.cycle(channel.from))
@@ -114,7 +114,7 @@ fn put_in_cycle(graph: &Graph, number: usize) -> u64
 fn taken_in_cycle(graph: &Graph, number: usize) -> u64
     requires { number < length graph.now.channels }
     ensures value { result ≡ taken_in_cycle graph.now number }
-    ensures small { result ≤ 65536 }
+    ensures small { result ≤ MOST_RATE * MOST_CYCLE }
 {
     let channel = &graph.channels()[number];
     taken_by(channel, graph.cycle(channel.to))
@@ -128,8 +128,8 @@ fn totals_at(graph: &Graph, number: usize) -> Totals
     ensures to_in { result.to < graph.now.actors }
     ensures put_some { 0 < result.put }
     ensures taken_some { 0 < result.taken }
-    ensures put_small { result.put ≤ 65536 }
-    ensures taken_small { result.taken ≤ 65536 }
+    ensures put_small { result.put ≤ MOST_RATE * MOST_CYCLE }
+    ensures taken_small { result.taken ≤ MOST_RATE * MOST_CYCLE }
 {
     let channel = &graph.channels()[number];
     Totals {
@@ -192,8 +192,8 @@ fn turns_of(from: Pace, to: Pace) -> Pace
     requires from { IsPace from }
     requires to { IsPace to }
     ensures fewest { IsReduced (from.num * to.den) (to.num * from.den) result.num result.den }
-    ensures top_small { result.num ≤ 65536 * 65536 }
-    ensures bottom_small { result.den ≤ 65536 * 65536 }
+    ensures top_small { result.num ≤ MOST_PERIOD * MOST_PERIOD }
+    ensures bottom_small { result.den ≤ MOST_PERIOD * MOST_PERIOD }
 {
     reduced(from.num * to.den, to.num * from.den)
 }

@@ -9,6 +9,6 @@ returns-in-Ok c = ap (or_fault (not_toml (spot_view c.args.spot))) (table_found 
 
 pub returns-in_ok-place-in-Err-2 : goal.returns-in_ok-place-in-Err-2
 returns-in_ok-place-in-Err-2 c =
-    ap (or_fault (not_toml (spot_view c.args.spot)))
+    rw c.into.ensures (ap (or_fault (not_toml (spot_view c.args.spot)))
     (table_missing c.args.bytes.now (c.in-Err-2.ensures.refused (search rules)))
-    ∙ ap (λ p. Err (not_toml p)) (sym c.in_ok-place-in-Err-2.ensures)
+    ∙ ap (λ p. Err (not_toml p)) (sym c.in_ok-place-in-Err-2.ensures))

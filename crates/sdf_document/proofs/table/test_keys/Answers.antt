@@ -10,7 +10,7 @@ unfolding known_keys
 returns-then-not-is_known c =
     let same = sym c.loop-key.invariant ∙ stranger_found c.args.known.now c.loop-key.key-iterator c.next.new.self
     c.in-Some.key.now c.in-Some.field-0-1.now (search rules) (search rules) in
-    ap (none_of (unknown_key (spot_view c.args.spot))) same ∙ search rules
+    rw c.into.ensures (ap (none_of (unknown_key (spot_view c.args.spot))) same ∙ search rules)
 
 pub loop-key-preserved : goal.loop-key-preserved
 loop-key-preserved c =
