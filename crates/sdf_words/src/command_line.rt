@@ -9,8 +9,8 @@ ghost use Rattle.sdf_words.specs.declared.asked.TheConstants.{MOST_FAULT};
 use crate::asked::{Conversion, Crew, MOST_FAULT, Words};
 use crate::commands::sdfw_command;
 use crate::explain::number_named;
-use clap::ArgMatches;
 use clap::error::ErrorKind;
+use clap::{ArgMatches, Command};
 use sdf_filters::{Band, Wanted};
 use sdf_limits::{MOST_BLOCKING, MOST_PATIENCE, MOST_WORKERS};
 use sdf_options::{
@@ -236,15 +236,11 @@ fn explained_by_name(words: &[&str]) -> Option<u32>
     }
 }
 
-/// Reads a command line, of which the first word is the program's name.
-pub fn words<'a>(alloc: Global, words: &'a [&'a str]) -> Result<Words<'a>, WordFault>
+/// What a program's words mean to its command.
+fn read<'a>(command: &mut Command<'a>, words: &'a [&'a str]) -> Result<Words<'a>, WordFault>
     ensures within { IfOk result IsWithinLimits }
     ensures usage { IfErr result IsUsage }
 {
-    if let Some(number) = explained_by_name(words) {
-        return Ok(Words::Explain { number });
-    }
-    let mut command = sdfw_command(alloc)?;
     let matches = command.try_get_matches_from_mut(words)?;
     match words_of(&matches) {
         Some(read) => Ok(read),
@@ -253,6 +249,17 @@ pub fn words<'a>(alloc: Global, words: &'a [&'a str]) -> Result<Words<'a>, WordF
             "an argument is missing",
         )?)),
     }
+}
+
+/// Reads a command line, of which the first word is the program's name.
+pub fn words<'a>(alloc: Global, words: &'a [&'a str]) -> Result<Words<'a>, WordFault>
+    ensures within { IfOk result IsWithinLimits }
+    ensures usage { IfErr result IsUsage }
+{
+    if let Some(number) = explained_by_name(words) {
+        return Ok(Words::Explain { number });
+    }
+    read(&mut sdfw_command(alloc)?, words)
 }
 
 /// A mistake in the words that no command could read.
