@@ -1,5 +1,5 @@
 -- What firings cost in terms of the cheapest.
-use Rattle.std.specs.Prelude.{◌≡◌, ℕ, suc, ◌*◌, ◌+◌, ◌-◌, ◌/◌, ◌≤◌, ◌<◌, List, length, map, slice_index, min}
+use Rattle.std.specs.Prelude.{◌≡◌, ◌⊎◌, ℕ, suc, ◌*◌, ◌+◌, ◌-◌, ◌/◌, ◌≤◌, ◌<◌, List, length, map, slice_index, min}
 use Rattle.sdf_limits.specs.declared.TheConstants.{MOST_COST}
 
 -- how often the least time goes into a time, to the nearest
@@ -10,10 +10,19 @@ times_of least time = (2 * time + least) / (2 * least)
 abbrev pub cost_of : ℕ → ℕ → ℕ → ℕ
 cost_of most least time = min most (suc (times_of least time - 1))
 
+-- no time is above 0
+abbrev pub AreNone : List ℕ → Type 0
+AreNone times = (i : ℕ) → i < length times → slice_index times i ≡ 0
+
+-- one of the times is this
+abbrev pub IsOneOf : List ℕ → ℕ → Type 0
+IsOneOf times time = (i : ℕ) × (i < length times) × (slice_index times i ≡ time)
+
 -- the least of the times above 0; any above 0 where there is none
 pub record IsLeastTime (times : List ℕ) (least : ℕ) : Type 0 where
   pub some : 0 < least
   pub below : (i : ℕ) → i < length times → 0 < slice_index times i → least ≤ slice_index times i
+  pub reached : AreNone times ⊎ IsOneOf times least
 
 -- what firings cost that take these times
 pub record AreCostsOf (times costs : List ℕ) : Type 0 where

@@ -15,17 +15,17 @@ pub(crate) fn time_of(spent: u64, firings: u64) -> u64 {
     u64::try_from(time).unwrap_or(u64::MAX)
 }
 
-/// The least of the times above 0.
+/// The least of the times above 0, or 1 where there is none.
 fn least(times: &[u64]) -> u64
     ensures { IsLeastTime times.now result }
 {
-    let mut least = u64::MAX;
+    let mut least = 0u64;
     for time in times {
-        if 0 < *time && *time < least {
+        if least == 0 || (0 < *time && *time < least) {
             least = *time;
         }
     }
-    least
+    least.max(1)
 }
 
 /// How often the least time goes into a time, to the nearest, within the limits of the key `cost`.
