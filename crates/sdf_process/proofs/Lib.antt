@@ -2,6 +2,7 @@ pub mod Sizes
 pub mod Lists
 pub mod Outcomes
 pub mod Fronts
+pub mod Channels
 pub mod Contents
 pub mod Refusals
 pub mod Texts

@@ -7,7 +7,7 @@ ghost use Rattle.sdf_process.specs.Output.{interleaved};
 ghost use Rattle.sdf_process.specs.Stages.{PutsFrames};
 
 use crate::fault::Fault;
-use crate::samples::push_frames;
+use crate::samples::fill_frames;
 use sdf_wav::laws::puts_join;
 use sdf_wav::{ContentOut, Writer};
 use std::alloc::Global;
@@ -33,13 +33,13 @@ pub(crate) fn put_frames<W: Writer>(
     ensures owed { IfOk result (λ x. output.new ≡ record output.old { missing = output.old.missing - frames }) }
 {
     puts_join();
-    let mut piece = Vec::with_capacity(alloc, FRAMES.min(frames) * lists.len())?;
+    let mut piece = vec![in alloc; 0; FRAMES.min(frames) * lists.len()]?;
     let mut at = 0;
     while at < frames {
         let end = at + FRAMES.min(frames - at);
-        piece.clear();
-        push_frames(lists, at, end, &mut piece);
-        output.put(writer, &piece)?;
+        let part = &mut piece[..(end - at) * lists.len()];
+        fill_frames(lists, at, end, part);
+        output.put(writer, part)?;
         at = end;
     }
     Ok(())

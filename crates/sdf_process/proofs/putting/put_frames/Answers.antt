@@ -1,4 +1,4 @@
-use Rattle.std.proofs.Common.{◌≡◌, ◌≤◌, ◌+◌, ◌-◌, ◌*◌, ◌++◌, false, length, ap, ◌∙◌, subst, arith, rules}
+use Rattle.std.proofs.Common.{◌≡◌, ◌≤◌, ◌+◌, ◌-◌, ◌*◌, false, length, ap, ◌∙◌, subst, arith, rules}
 use Rattle.std.specs.Io.KnownBytes.{Appends}
 use Rattle.sdf_actor.specs.Wires.{lists as items_of}
 use Rattle.sdf_wav.specs.Canonical.{sample_bytes}
@@ -15,12 +15,10 @@ put-requires-clause-whole g c =
     let xs = items_of c.args.lists.now in
     let at = c.loop-at.at in
     let end = c.loop-at.at + c.min-in-loop-at.result in
-    let slice : c.deref.result.now ≡ interleaved_from at (end - at) xs =
-    c.deref.ensures.value ∙ (c.push_frames.ensures.appended
-    ∙ ap (λ l. l ++ interleaved_from at (end - at) xs) c.clear.ensures.items) in
-    let count : length c.deref.result.now ≡ (end - at) * length c.args.lists.now =
+    let slice : c.fill_frames.new.samples ≡ interleaved_from at (end - at) xs = c.fill_frames.ensures in
+    let count : length c.fill_frames.new.samples ≡ (end - at) * length c.args.lists.now =
     ap length slice ∙ (frames_length xs at (end - at) ∙ ap (λ k. (end - at) * k) (length-lists c.args.lists.now)) in
-    whole_frames (end - at) (length c.args.lists.now) (length c.deref.result.now) c.loop-at.output.channels count
+    whole_frames (end - at) (length c.args.lists.now) (length c.fill_frames.new.samples) c.loop-at.output.channels count
     (ap (λ (o : Owed). o.channels) c.loop-at.invariant.owed ∙ c.requires.channels)
 
 pub returns-in_err-put-clause-puts : goal.returns-in_err-put-clause-puts
@@ -28,10 +26,8 @@ returns-in_err-put-clause-puts g c =
     let xs = items_of c.args.lists.now in
     let at = c.loop-at.at in
     let end = c.loop-at.at + c.min-in-loop-at.result in
-    let slice : c.deref.result.now ≡ interleaved_from at (end - at) xs =
-    c.deref.ensures.value ∙ (c.push_frames.ensures.appended
-    ∙ ap (λ l. l ++ interleaved_from at (end - at) xs) c.clear.ensures.items) in
-    let count : length c.deref.result.now ≡ (end - at) * length c.args.lists.now =
+    let slice : c.fill_frames.new.samples ≡ interleaved_from at (end - at) xs = c.fill_frames.ensures in
+    let count : length c.fill_frames.new.samples ≡ (end - at) * length c.args.lists.now =
     ap length slice ∙ (frames_length xs at (end - at) ∙ ap (λ k. (end - at) * k) (length-lists c.args.lists.now)) in
     let unspent : c.loop-at.output.spent ≡ false =
     ap (λ (o : Owed). o.spent) c.loop-at.invariant.owed ∙ c.requires.unspent in
@@ -49,10 +45,8 @@ loop-at-preserved g c =
     let xs = items_of c.args.lists.now in
     let at = c.loop-at.at in
     let end = c.loop-at.at + c.min-in-loop-at.result in
-    let slice : c.deref.result.now ≡ interleaved_from at (end - at) xs =
-    c.deref.ensures.value ∙ (c.push_frames.ensures.appended
-    ∙ ap (λ l. l ++ interleaved_from at (end - at) xs) c.clear.ensures.items) in
-    let count : length c.deref.result.now ≡ (end - at) * length c.args.lists.now =
+    let slice : c.fill_frames.new.samples ≡ interleaved_from at (end - at) xs = c.fill_frames.ensures in
+    let count : length c.fill_frames.new.samples ≡ (end - at) * length c.args.lists.now =
     ap length slice ∙ (frames_length xs at (end - at) ∙ ap (λ k. (end - at) * k) (length-lists c.args.lists.now)) in
     let unspent : c.loop-at.output.spent ≡ false =
     ap (λ (o : Owed). o.spent) c.loop-at.invariant.owed ∙ c.requires.unspent in
@@ -67,6 +61,6 @@ loop-at-preserved g c =
           (g.W.Writer.contents c.put.new.writer) (sample_bytes l)) slice (c.in_ok-put.ensures.writes unspent)));
       counted = c.in_ok-put.ensures.counted unspent ∙ c.loop-at.invariant.counted;
       owed = c.in_ok-put.ensures.owed ∙ owed_on c.args.output.now c.loop-at.output at end (length c.args.lists.now)
-          (length c.deref.result.now) c.loop-at.invariant.owed count c.requires.channels
+          (length c.fill_frames.new.samples) c.loop-at.invariant.owed count c.requires.channels
           (subst (λ k. 1 ≤ k) c.requires.channels c.requires.some) (omega arith);
     }
