@@ -12,6 +12,7 @@ mod fault;
 mod finishing;
 mod hearing;
 pub mod laws;
+pub mod napping;
 pub mod parallel;
 mod placement;
 mod plan;

@@ -23,7 +23,7 @@ pub const CREW_PATIENCE: u32 = 1_000_000;
 pub const LEAST_TENTHS: u64 = 12;
 
 /// What a frame must weigh for each worker: less is sooner done than handed over.
-pub const LEAST_SHARE: u64 = 4_096;
+pub const LEAST_SHARE: u64 = 640;
 
 /// How a design is run where it is to be run in parallel.
 #[derive(Clone, Copy, Debug, PartialEq, Eq)]

@@ -4,6 +4,7 @@ ghost use Rattle.sdf_process.specs.Plans.{Suits};
 ghost use Rattle.sdf_process.specs.Run.{IsRun};
 
 use crate::fault::Fault;
+use crate::napping::Napping;
 use crate::plan::Plan;
 use crate::running::run_net;
 use crate::task::Task;
@@ -11,6 +12,7 @@ use sdf_file::Design;
 use sdf_run::{Gate, NoGate};
 use sdf_wav::{Reader, Writer};
 use std::thread::Threads;
+use std::time::Clock;
 
 /// Reads a WAV file, runs a design on it by its plan, and writes the canonical WAV file of the output, of which there
 /// is only one (`laws::one_output`).
@@ -41,8 +43,9 @@ pub fn process_with<T: Threads + AllocGlobal + Sync, R: Reader, W: Writer, G: Ga
     run_net(rt, reader, writer, task, gate)
 }
 
-/// The same with no gate: what the program does.
-pub fn process<T: Threads + AllocGlobal + Sync, R: Reader, W: Writer>(
+/// The same with a gate that lets each firing pass: what the program does. Where the rings of a plan have room for
+/// several blocks, a worker that waits sleeps now and then.
+pub fn process<T: Threads + AllocGlobal + Clock + Sync, R: Reader, W: Writer>(
     rt: &T,
     reader: &mut R,
     writer: &mut W,
@@ -54,5 +57,8 @@ pub fn process<T: Threads + AllocGlobal + Sync, R: Reader, W: Writer>(
         (W.contents writer.old) (W.contents writer.new)
         (R.failures reader.old) (R.failures reader.new) (W.failures writer.old) (W.failures writer.new) result }
 {
+    if plan.rooms() > 1 {
+        return process_with(rt, reader, writer, design, plan, &Napping::new(rt));
+    }
     process_with(rt, reader, writer, design, plan, &NoGate)
 }

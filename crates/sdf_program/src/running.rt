@@ -22,6 +22,7 @@ use sdf_words::Crew;
 use std::alloc::{AllocError, Global};
 use std::io::{Read, Write};
 use std::thread::{Threads, available_parallelism};
+use std::time::Clock;
 
 /// Workers of a parallel run where the system does not tell its processors.
 const WORKERS: usize = 4;
@@ -53,7 +54,7 @@ fn header_at<S: Storage>(storage: &S, input: &str) -> Option<Header> {
 }
 
 /// Runs a plan from the first byte of one stream to the last of another.
-fn run_between<T: Threads + AllocGlobal + Sync, R: Read + Drop, W: Write + Drop>(
+fn run_between<T: Threads + AllocGlobal + Clock + Sync, R: Read + Drop, W: Write + Drop>(
     threads: &T,
     from: R,
     to: W,
@@ -72,7 +73,7 @@ fn run_between<T: Threads + AllocGlobal + Sync, R: Read + Drop, W: Write + Drop>
 }
 
 /// Runs a plan on a stream that is open. OUT is made or emptied where none of the files that are read is OUT.
-fn run_from<S: Storage, T: Threads + AllocGlobal + Sync, R: Read + Drop, O: Write>(
+fn run_from<S: Storage, T: Threads + AllocGlobal + Clock + Sync, R: Read + Drop, O: Write>(
     world: &World<S, T>,
     from: R,
     out: &mut O,
@@ -96,7 +97,7 @@ fn run_from<S: Storage, T: Threads + AllocGlobal + Sync, R: Read + Drop, O: Writ
 
 /// Runs a design by its plan on a WAV file. OUT is made or emptied once IN is open, and none of the files that are read
 /// is OUT.
-fn run_planned<S: Storage, T: Threads + AllocGlobal + Sync, I: Read, O: Write>(
+fn run_planned<S: Storage, T: Threads + AllocGlobal + Clock + Sync, I: Read, O: Write>(
     world: &World<S, T>,
     stdin: &mut I,
     out: &mut O,
@@ -122,7 +123,7 @@ fn run_planned<S: Storage, T: Threads + AllocGlobal + Sync, I: Read, O: Write>(
 }
 
 /// Runs a design on a WAV file, once its plan stands.
-pub(crate) fn run<S: Storage, T: Threads + AllocGlobal + Sync, I: Read, O: Write>(
+pub(crate) fn run<S: Storage, T: Threads + AllocGlobal + Clock + Sync, I: Read, O: Write>(
     world: &World<S, T>,
     stdin: &mut I,
     out: &mut O,
@@ -186,7 +187,7 @@ fn pace_text(alloc: Global, pace: Pace) -> Result<String, AllocError> {
 /// asked for.
 pub(crate) fn run_parallel<
     S: Storage,
-    T: Threads + AllocGlobal + Sync,
+    T: Threads + AllocGlobal + Clock + Sync,
     I: Read,
     O: Write,
     E: Write,

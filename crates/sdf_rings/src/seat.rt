@@ -11,7 +11,6 @@ use crate::stand::{Stand, fire_one, is_ready};
 use crate::together::{fire_run, in_one_run};
 use sdf_actor::{Actor, Net};
 use sdf_node::Gate;
-use std::thread;
 
 /// So many firings at most go in one piece of work.
 const MOST_AT_ONCE: u64 = 65_536;
@@ -25,57 +24,75 @@ pub struct Seat<A: Actor> {
     pub next: usize,
 }
 
-/// Tests again while tries are left: each test that fails takes one.
-fn becomes_ready<A: Actor>(
-    net: &Net<A>,
-    inputs: &[Vec<A::Token>],
+/// What a worker goes by in a round.
+#[derive_where(Clone, Copy)]
+struct Orders<'a, A: Actor, G> {
+    net: &'a Net<A>,
+    inputs: &'a [Vec<A::Token>],
+    processor: usize,
+    gate: &'a G,
+}
+
+/// Tests again while tries are left: after each test that fails the worker pauses, which takes some of them.
+fn becomes_ready<A: Actor, G: Gate>(
+    orders: Orders<'_, A, G>,
     stand: &mut Stand<A>,
     tries: &mut u32,
 ) -> bool
-    requires { IsStand A.steps net.now (lists inputs.now) stand.old }
-    ensures stand { IsStand A.steps net.now (lists inputs.now) stand.new }
-    ensures moved { HasMoved A.steps net.now stand.old stand.new }
+    requires { IsStand A.steps orders.net.now (lists orders.inputs.now) stand.old }
+    ensures stand { IsStand A.steps orders.entry.net.now (lists orders.entry.inputs.now) stand.new }
+    ensures moved { HasMoved A.steps orders.entry.net.now stand.old stand.new }
     ensures done { stand.new.done ≡ stand.old.done }
-    ensures yes { IsTrue result → CanFire A.steps net.now stand.new }
-    ensures no { IsFalse result → CanFire A.steps net.now stand.new → ⊥ }
+    ensures yes { IsTrue result → CanFire A.steps orders.entry.net.now stand.new }
+    ensures no { IsFalse result → CanFire A.steps orders.entry.net.now stand.new → ⊥ }
     ensures fewer { tries.new ≤ tries.old }
     ensures spent { IsFalse result → tries.new ≡ 0 }
-    ensures at_once { CanFire A.steps net.now stand.old → tries.new ≡ tries.old }
+    ensures at_once { CanFire A.steps orders.entry.net.now stand.old → tries.new ≡ tries.old }
 {
-    let most = *tries;
-    for _ in 0..most {
+    let Orders {
+        net,
+        inputs,
+        processor,
+        gate,
+    } = orders;
+    let mut failed: u32 = 0;
+    while *tries > 0 {
         if is_ready(net, inputs, stand) {
             return true;
         }
-        *tries = tries.saturating_sub(1);
-        thread::yield_now();
+        let taken = gate.pause(processor, failed).max(1);
+        *tries = tries.saturating_sub(taken);
+        failed = failed.saturating_add(1);
     }
     is_ready(net, inputs, stand)
 }
 
 /// The next firings of the list that are one node's and known to be possible, in one piece of work where they go so.
 fn fire_known<A: Actor, G: Gate>(
-    net: &Net<A>,
-    inputs: &[Vec<A::Token>],
+    orders: Orders<'_, A, G>,
     stand: &mut Stand<A>,
     left: &Course,
     next: usize,
-    processor: usize,
-    gate: &G,
 ) -> usize
-    requires net { IsNet A.steps net.now }
-    requires stand { IsStand A.steps net.now (lists inputs.now) stand.old }
-    requires can { CanFire A.steps net.now stand.old }
+    requires net { IsNet A.steps orders.net.now }
+    requires stand { IsStand A.steps orders.net.now (lists orders.inputs.now) stand.old }
+    requires can { CanFire A.steps orders.net.now stand.old }
     requires some { next < length left.now }
     requires counts { stand.old.done + times_between (slice_index left.now next) left.now next (length left.now) ≡
         stand.old.asked }
-    ensures stand { IsStand A.steps net.now (lists inputs.now) stand.new }
-    ensures moved { HasMoved A.steps net.now stand.old stand.new }
+    ensures stand { IsStand A.steps orders.entry.net.now (lists orders.entry.inputs.now) stand.new }
+    ensures moved { HasMoved A.steps orders.entry.net.now stand.old stand.new }
     ensures done { stand.new.done ≡ stand.old.done + result }
     ensures some { 0 < result }
     ensures inside { next + result ≤ length left.now }
     ensures same { (j : ℕ) → j < result → slice_index left.now next ≡ slice_index left.now (next + j) }
 {
+    let Orders {
+        net,
+        inputs,
+        processor,
+        gate,
+    } = orders;
     let most = (stand.asked - stand.done).min(MOST_AT_ONCE) as usize;
     let known = in_one_run(net, inputs, stand, most);
     let many = left.in_a_row(next, known);
@@ -90,34 +107,31 @@ fn fire_known<A: Actor, G: Gate>(
 
 /// The next firings of a node, if the first becomes possible. The answer is their number.
 fn fire_next<A: Actor, G: Gate>(
-    net: &Net<A>,
-    inputs: &[Vec<A::Token>],
+    orders: Orders<'_, A, G>,
     stand: &mut Stand<A>,
     left: &Course,
     next: usize,
-    processor: usize,
     tries: &mut u32,
-    gate: &G,
 ) -> usize
-    requires net { IsNet A.steps net.now }
-    requires stand { IsStand A.steps net.now (lists inputs.now) stand.old }
+    requires net { IsNet A.steps orders.net.now }
+    requires stand { IsStand A.steps orders.net.now (lists orders.inputs.now) stand.old }
     requires some { next < length left.now }
     requires counts { stand.old.done + times_between (slice_index left.now next) left.now next (length left.now) ≡
         stand.old.asked }
-    ensures stand { IsStand A.steps net.now (lists inputs.now) stand.new }
-    ensures moved { HasMoved A.steps net.now stand.old stand.new }
+    ensures stand { IsStand A.steps orders.entry.net.now (lists orders.entry.inputs.now) stand.new }
+    ensures moved { HasMoved A.steps orders.entry.net.now stand.old stand.new }
     ensures done { stand.new.done ≡ stand.old.done + result }
     ensures inside { next + result ≤ length left.now }
     ensures same { (j : ℕ) → j < result → slice_index left.now next ≡ slice_index left.now (next + j) }
-    ensures no { result ≡ 0 → CanFire A.steps net.now stand.new → ⊥ }
+    ensures no { result ≡ 0 → CanFire A.steps orders.entry.net.now stand.new → ⊥ }
     ensures fewer { tries.new ≤ tries.old }
     ensures spent { result ≡ 0 → tries.new ≡ 0 }
-    ensures at_once { CanFire A.steps net.now stand.old → tries.new ≡ tries.old }
+    ensures at_once { CanFire A.steps orders.entry.net.now stand.old → tries.new ≡ tries.old }
 {
-    if !becomes_ready(net, inputs, stand, tries) {
+    if !becomes_ready(orders, stand, tries) {
         return 0;
     }
-    fire_known(net, inputs, stand, left, next, processor, gate)
+    fire_known(orders, stand, left, next)
 }
 
 /// The next firings of the list, if the first becomes possible. The answer is their number.
@@ -141,16 +155,18 @@ fn work_next<A: Actor, G: Gate>(
     ensures at_once { HasFirst A.steps net.now seat.old → tries.new ≡ tries.old }
 {
     let number = seat.left.stand(seat.next);
-    let processor = seat.processor;
-    let fired = fire_next(
+    let orders = Orders {
         net,
         inputs,
+        processor: seat.processor,
+        gate,
+    };
+    let fired = fire_next(
+        orders,
         &mut seat.stands[number],
         &seat.left,
         seat.next,
-        processor,
         tries,
-        gate,
     );
     seat.next += fired;
     fired

@@ -5,7 +5,7 @@ use Rattle.sdf_rings.proofs.seat.fire_known.Goals as goal
 
 pub fire_run-requires-clause-can : goal.fire_run-requires-clause-can
 fire_run-requires-clause-can g c κs within =
-    fewer_run g.A.Actor.steps c.args.net.now c.args.stand.now c.in_a_row-many.result c.in_one_run-known.result
+    fewer_run g.A.Actor.steps c.args.orders.net.now c.args.stand.now c.in_a_row-many.result c.in_one_run-known.result
     c.in_a_row-many.ensures.within (c.in_one_run-known.ensures.can (omega arith))
 
 pub fire_one-requires-clause-left : goal.fire_one-requires-clause-left
