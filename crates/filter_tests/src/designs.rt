@@ -5,82 +5,69 @@ use std::alloc::Global;
 use std::test::Fail;
 use test_texts::{row_says, says};
 
+/// A graph file: its format, the name, the kind and the keys of each actor, and the ends of each link.
+struct Graph {
+    format: u32,
+    actors: &'static [(&'static str, &'static str, &'static str)],
+    links: &'static [(&'static str, &'static str)],
+}
+
 /// An input and an output of other rates.
-const TWO: &str = "format = 1
-[[actor]]
-name = \"in\"
-kind = \"input\"
-channel = 0
-block = 2
-processor = 3
-[[actor]]
-name = \"out\"
-kind = \"output\"
-channel = 0
-block = 3
-cost = 7
-[[link]]
-from = \"in\"
-to = \"out\"
-";
+const TWO: Graph = Graph {
+    format: 1,
+    actors: &[
+        ("in", "input", "channel = 0\nblock = 2\nprocessor = 3\n"),
+        ("out", "output", "channel = 0\nblock = 3\ncost = 7\n"),
+    ],
+    links: &[("in", "out")],
+};
 
 /// A filter whose taps stand in a file.
-const FILTER: &str = "format = 1
-[[actor]]
-name = \"in\"
-kind = \"input\"
-channel = 0
-[[actor]]
-name = \"a\"
-kind = \"fir\"
-up = 3
-down = 2
-shift = 14
-file = \"h.toml\"
-[[actor]]
-name = \"out\"
-kind = \"output\"
-channel = 0
-[[link]]
-from = \"in\"
-to = \"a\"
-[[link]]
-from = \"a\"
-to = \"out\"
-";
+const FILTER: Graph = Graph {
+    format: 1,
+    actors: &[
+        ("in", "input", "channel = 0\n"),
+        (
+            "a",
+            "fir",
+            "up = 3\ndown = 2\nshift = 14\nfile = \"h.toml\"\n",
+        ),
+        ("out", "output", "channel = 0\n"),
+    ],
+    links: &[("in", "a"), ("a", "out")],
+};
 
 /// Dealt out to two ways by twos, and gathered by ones.
-const TURNS: &str = "format = 2
-[[actor]]
-name = \"in\"
-kind = \"input\"
-channel = 0
-[[actor]]
-name = \"deal\"
-kind = \"deal\"
-ways = 2
-run = 2
-[[actor]]
-name = \"gather\"
-kind = \"gather\"
-ways = 2
-[[actor]]
-name = \"out\"
-kind = \"output\"
-channel = 0
-[[link]]
-from = \"in\"
-to = \"deal\"
-[[link]]
-from = \"deal:0\"
-to = \"gather:0\"
-[[link]]
-from = \"deal:1\"
-to = \"gather:1\"
-[[link]]
-from = \"gather\"
-to = \"out\"
-";
+const TURNS: Graph = Graph {
+    format: 2,
+    actors: &[
+        ("in", "input", "channel = 0\n"),
+        ("deal", "deal", "ways = 2\nrun = 2\n"),
+        ("gather", "gather", "ways = 2\n"),
+        ("out", "output", "channel = 0\n"),
+    ],
+    links: &[
+        ("in", "deal"),
+        ("deal:0", "gather:0"),
+        ("deal:1", "gather:1"),
+        ("gather", "out"),
+    ],
+};
+
+/// Its text with one text in the place of another.
+fn text_of(alloc: Global, graph: &Graph, old: &str, new: &str) -> Result<String, Fail> {
+    let mut text = format!(in alloc; "format = {}\n", graph.format)?;
+    for (name, kind, keys) in graph.actors {
+        write!(
+            text,
+            "[[actor]]\nname = \"{name}\"\nkind = \"{kind}\"\n{keys}"
+        )?;
+    }
+    for (from, to) in graph.links {
+        write!(text, "[[link]]\nfrom = \"{from}\"\nto = \"{to}\"\n")?;
+    }
+    Ok(text.replace(alloc, old, new)?)
+}
 
 /// How many actors a design has, the name of the second, the homes and the costs, and what `check` prints.
 fn parts(alloc: Global, design: &Design) -> Result<String, Fail> {
@@ -108,8 +95,8 @@ fn files(alloc: Global, taps: &str) -> Result<Vec<(String, Vec<u8>)>, Fail> {
 }
 
 /// The same of the design of a graph with one text in the place of another, beside such a file, or the fault.
-fn read(alloc: Global, graph: &str, old: &str, new: &str, taps: &str) -> Result<String, Fail> {
-    let text = graph.replace(alloc, old, new)?;
+fn read(alloc: Global, graph: &Graph, old: &str, new: &str, taps: &str) -> Result<String, Fail> {
+    let text = text_of(alloc, graph, old, new)?;
     let files = files(alloc, taps)?;
     match read_design(alloc, text.as_bytes(), files.as_slice()) {
         Ok(design) => parts(alloc, &design),
@@ -118,7 +105,7 @@ fn read(alloc: Global, graph: &str, old: &str, new: &str, taps: &str) -> Result<
 }
 
 /// A graph, a text of it, what stands in its place, and the design, or the fault.
-const DESIGNS: &[(&str, &str, &str, &str)] = &[
+const DESIGNS: &[(Graph, &str, &str, &str)] = &[
     (
         TWO,
         "format = 1",
@@ -165,8 +152,8 @@ fn reads_and_checks_designs(rt: HostRuntime) -> Result<(), Fail> {
 }
 
 /// The names of the files that a graph with one text in the place of another wants, or the fault.
-fn wanted_files(alloc: Global, graph: &str, old: &str, new: &str) -> Result<String, Fail> {
-    let text = graph.replace(alloc, old, new)?;
+fn wanted_files(alloc: Global, graph: &Graph, old: &str, new: &str) -> Result<String, Fail> {
+    let text = text_of(alloc, graph, old, new)?;
     match design_files(alloc, text.as_bytes()) {
         Ok(names) => Ok(format!(in alloc; "{names:?}")?),
         Err(fault) => Ok(fault.to_string(alloc)?),
@@ -177,16 +164,16 @@ fn wanted_files(alloc: Global, graph: &str, old: &str, new: &str) -> Result<Stri
 fn reads_with_coefficient_files(rt: HostRuntime) -> Result<(), Fail> {
     let alloc = rt.alloc();
     says(
-        wanted_files(alloc, FILTER, "h.toml", "h.toml"),
+        wanted_files(alloc, &FILTER, "h.toml", "h.toml"),
         "{\"h.toml\"}",
     )?;
     says(
-        wanted_files(alloc, FILTER, "h.toml", "../h"),
+        wanted_files(alloc, &FILTER, "h.toml", "../h"),
         "54 BadName actor 1 key file",
     )?;
     let taps = "format = 1\nvalues = [16384, 16384, 16384]\n";
     says(
-        read(alloc, FILTER, "h.toml", "h.toml", taps),
+        read(alloc, &FILTER, "h.toml", "h.toml", taps),
         "3 a [None, None, None] [1, 1, 1]\n\
          actors 3\nlinks 2\nperiod 6\nq in 2\nq a 1\nq out 3\ninput 2 output 3\n",
     )

@@ -9,7 +9,7 @@ use sdf_actor::{Actor, Net, Node};
 use std::alloc::{AllocError, Global};
 use std::test::Fail;
 use test_actors::nets::{links, sink, source};
-use test_actors::{Deal, Sum, Swap};
+use test_actors::{Regroup, Sum, Swap};
 use test_texts::says;
 
 /// The nodes and links of a net, its lists, the samples of a period, and the actors of its graph.
@@ -64,7 +64,7 @@ fn has_two_phases<A: Actor>(alloc: Global, net: &Net<A>) -> Result<(), Fail> {
 }
 
 /// A net of parts and of links by their ends.
-fn net(alloc: Global, parts: &[Part], ends: &[[usize; 4]]) -> Result<Net<Deal>, Fail> {
+fn net(alloc: Global, parts: &[Part], ends: &[[usize; 4]]) -> Result<Net<Regroup>, Fail> {
     Ok(Net::new(alloc, nodes(alloc, parts)?, links(alloc, ends)?)?)
 }
 
@@ -124,18 +124,18 @@ fn swap_once(alloc: Global) -> Result<String, Fail> {
 }
 
 /// What an actor of two phases puts of two samples, and what it moves at a port at its second phase.
-fn deal_twice(alloc: Global) -> Result<String, Fail> {
-    let deal = Deal {
+fn regroup_twice(alloc: Global) -> Result<String, Fail> {
+    let regroup = Regroup {
         cycle: 2,
         first: 1,
         middle: 0,
         last: 1,
     };
     let mut put = [0, 0];
-    fire_once(alloc, &deal, 0, &[3, 4], &mut put)?;
+    fire_once(alloc, &regroup, 0, &[3, 4], &mut put)?;
     let mut none: [i32; 0] = [];
-    fire_once(alloc, &deal, 1, &[], &mut none)?;
-    let (taken, later) = (deal.take(0, 1), deal.put(1, 1));
+    fire_once(alloc, &regroup, 1, &[], &mut none)?;
+    let (taken, later) = (regroup.take(0, 1), regroup.put(1, 1));
     Ok(format!(in alloc; "{put:?} {taken} {later}")?)
 }
 
@@ -143,5 +143,5 @@ fn deal_twice(alloc: Global) -> Result<String, Fail> {
 fn fires_through_the_trait(rt: HostRuntime) -> Result<(), Fail> {
     says(sum_once(rt.alloc()), "[7] 7")?;
     says(swap_once(rt.alloc()), "[[2, 1]]")?;
-    says(deal_twice(rt.alloc()), "[3, 4] 0 0")
+    says(regroup_twice(rt.alloc()), "[3, 4] 0 0")
 }

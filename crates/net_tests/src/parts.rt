@@ -3,7 +3,7 @@
 use sdf_actor::{Link, Net, Node};
 use std::alloc::{AllocError, Global};
 use std::test::Fail;
-use test_actors::Deal;
+use test_actors::Regroup;
 use test_actors::nets::{sink, source, turning};
 
 /// A node: a source or a sink of a list and its block, or an actor of so many phases and its rates.
@@ -14,7 +14,7 @@ pub(crate) enum Part {
     Turning(u32, [u16; 3]),
 }
 
-pub(crate) fn nodes(alloc: Global, parts: &[Part]) -> Result<Vec<Node<Deal>>, AllocError> {
+pub(crate) fn nodes(alloc: Global, parts: &[Part]) -> Result<Vec<Node<Regroup>>, AllocError> {
     let mut nodes = Vec::new(alloc);
     for part in parts {
         nodes.push(match *part {

@@ -97,6 +97,11 @@ const ANSWERS: &[Row] = &[
          sdfw kinds | grep fir\n--\n--\n",
     ),
     (
+        "longer help of an option",
+        "draw --help",
+        "0\nDraws a graph and its schedule as one SVG…Which worker does a firing, and in which row of the table:…",
+    ),
+    (
         "schedules compared",
         "analyze begun.toml --compare",
         COMPARED,

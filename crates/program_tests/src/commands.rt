@@ -56,15 +56,15 @@ pub(crate) fn status_of<S: Storage, T: Threads + AllocGlobal + Clock + Clone + D
 /// What stands around a command: standard input, how long files may be, and what refuses standard output and standard
 /// error.
 #[derive(Clone, Copy)]
-pub(crate) struct Around {
-    pub(crate) stdin: &'static [u8],
+pub(crate) struct Around<'a> {
+    pub(crate) stdin: &'a [u8],
     pub(crate) most: u32,
     pub(crate) output: Option<ErrorKind>,
     pub(crate) error: Option<ErrorKind>,
 }
 
 /// Nothing is in the way.
-pub(crate) const OPEN: Around = Around {
+pub(crate) const OPEN: Around<'static> = Around {
     stdin: b"",
     most: MOST_BYTES,
     output: None,
@@ -88,13 +88,22 @@ fn text_of(bytes: &[u8]) -> &str {
     }
 }
 
-/// The exit status of a line of words, and behind it what stands on standard output, on standard error and in the file
+/// What a line of words leaves: its exit status, and what stands on standard output, on standard error and in the file
 /// that is written.
-pub(crate) fn told_around<T: Threads + AllocGlobal + Clock + Clone + Drop + Sync>(
+#[derive(Drop)]
+pub(crate) struct Served {
+    pub(crate) status: u8,
+    pub(crate) out: Vec<u8>,
+    pub(crate) err: Vec<u8>,
+    pub(crate) file: Vec<u8>,
+}
+
+/// Serves a line of words over the files of the tests.
+pub(crate) fn serve_line<T: Threads + AllocGlobal + Clock + Clone + Drop + Sync>(
     rt: &T,
-    around: &Around,
+    around: &Around<'_>,
     line: &str,
-) -> Result<String, Fail> {
+) -> Result<Served, Fail> {
     let alloc = rt.alloc();
     let mut words = Vec::new(alloc);
     for word in line.split(' ') {
@@ -115,9 +124,28 @@ pub(crate) fn told_around<T: Threads + AllocGlobal + Clock + Clone + Drop + Sync
         written: Vec::new(alloc),
     };
     let status = status_of(&world, around.stdin, &mut out, &mut err, &words)?;
-    let files = files.into_inner();
-    let (out, err) = (text_of(&out.written), text_of(&err.written));
-    Ok(format!(in alloc; "{status}\n{out}--\n{err}--\n{}", text_of(&files))?)
+    Ok(Served {
+        status,
+        out: out.written,
+        err: err.written,
+        file: files.into_inner(),
+    })
+}
+
+/// All of that as a text.
+pub(crate) fn told_around<T: Threads + AllocGlobal + Clock + Clone + Drop + Sync>(
+    rt: &T,
+    around: &Around<'_>,
+    line: &str,
+) -> Result<String, Fail> {
+    let Served {
+        status,
+        out,
+        err,
+        file,
+    } = serve_line(rt, around, line)?;
+    let (out, err) = (text_of(&out), text_of(&err));
+    Ok(format!(in rt.alloc(); "{status}\n{out}--\n{err}--\n{}", text_of(&file))?)
 }
 
 /// The same where nothing is in the way.

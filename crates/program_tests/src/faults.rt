@@ -153,6 +153,11 @@ const BESIDE: &[Row] = &[
          more information, try '--help'.\n--\n",
     ),
     (
+        "eight coefficient files",
+        "run eight.toml in.wav out.wav",
+        "0\n--\n--\n<5 -5>",
+    ),
+    (
         "two coefficient files that are not there",
         "run lacks/twice.toml in.wav out.wav --why",
         "3\n--\nsdfw: 58 NoFile file one.toml\n  actor 1 is \"same\", a fir\n  \"one.toml\": entity not found\n  \
@@ -208,6 +213,11 @@ const UNWRITTEN: &[Row] = &[
         "the same before an IN that is no sound",
         "profile plain.toml one.toml --write made/measured.toml",
         "2\n--\nerror: GRAPH has 0 lines [[actor]] for 2 actors…\n--\n",
+    ),
+    (
+        "a FILE for whose path memory is refused",
+        "profile commented.toml in.wav --write no-memory",
+        "6\n--\nsdfw: 1 OutOfMemory\n--\n",
     ),
     (
         "a FILE that can't be made",

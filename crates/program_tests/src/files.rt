@@ -230,6 +230,13 @@ fn loaded(rt: &HostRuntime, path: &str, most: u32) -> Result<String, Fail> {
     }
 }
 
+/// How much is read of a file of a million bytes.
+fn long_told(alloc: Global) -> Result<String, Fail> {
+    let file = vec![in alloc; b'x'; 1_000_000]?;
+    let read = read_told(alloc, file.as_slice(), MOST_BYTES)?;
+    Ok(format!(in alloc; "{}", read.len())?)
+}
+
 /// How many bytes may be read of `samples`, and what comes of that. Refuses a program that cuts a longer file.
 const LIMITS: &[(u32, &str)] = &[
     (0, "sdfw: 47 Read\n"),
@@ -239,7 +246,7 @@ const LIMITS: &[(u32, &str)] = &[
 ];
 
 /// Refuses a file that is read past its limit before it is refused: it may have no end, and is asked for no more than a
-/// byte past the limit.
+/// byte past the limit; and memory that is said to be refused for a long one.
 #[test]
 fn files_are_read_to_their_limit(rt: HostRuntime) -> Result<(), Fail> {
     let alloc = rt.alloc();
@@ -248,6 +255,7 @@ fn files_are_read_to_their_limit(rt: HostRuntime) -> Result<(), Fail> {
         read_told(alloc, Long { left: 8 }, 7),
         "sdfw: 47 Read\n",
     )?;
+    row_says("a million bytes", long_told(alloc), "1000000")?;
     for (most, wanted) in LIMITS {
         says(read_told(alloc, b"samples".as_slice(), *most), wanted)?;
     }

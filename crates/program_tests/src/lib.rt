@@ -26,6 +26,8 @@ mod parallel;
 #[cfg(test)]
 mod refused;
 #[cfg(test)]
+mod runners;
+#[cfg(test)]
 mod shelf;
 #[cfg(test)]
 mod streams;

@@ -7,8 +7,8 @@ use std::time::Clock;
 use test_texts::says;
 
 /// A parallel run writes what one thread writes. A frame of the two heavy branches weighs 8,641, so much that it is
-/// work for two workers and not for three: 4,288 of it the input, the fork and the first branch, which go to one
-/// worker.
+/// work for 13 workers and not for 14, who can't be faster than twice one: 4,288 of it are the input, the fork and the
+/// first branch, which go to one worker.
 const PARALLEL: &[Row] = &[
     (
         "heavy parallel 2",
@@ -23,12 +23,12 @@ const PARALLEL: &[Row] = &[
     (
         "heavy parallel 16 why",
         "run heavy.toml in.wav out.wav --parallel 16 --why",
-        "0\n--\n2 workers, blocks of 16 samples, at most 1.9 times\n--\n<5 -5>",
+        "0\n--\n13 workers, blocks of 16 samples, at most 2.0 times\n--\n<5 -5>",
     ),
     (
         "wider parallel 16 why",
         "run wider.toml in.wav out.wav --parallel 16 --why",
-        "0\n--\n3 workers, blocks of 16 samples, at most 2.9 times\n--\n<5 -5>",
+        "0\n--\n16 workers, blocks of 16 samples, at most 2.9 times\n--\n<5 -5>",
     ),
     (
         "sixty parallel 2 why",

@@ -148,6 +148,22 @@ actor = [{ name = "in", kind = "input", channel = 0 }, { name = "same", kind = "
     { name = "again", kind = "fir", shift = 0, file = "three.toml" }, { name = "out", kind = "output", channel = 0 }]
 link = [{ from = "in", to = "same" }, { from = "same", to = "again" }, { from = "again", to = "out" }]"#;
 
+/// Eight filters, each of which has its tap in a file of its own.
+const EIGHT: &str = r#"format = 1
+actor = [{ name = "in", kind = "input", channel = 0 },
+    { name = "a", kind = "fir", shift = 0, file = "one.toml" },
+    { name = "b", kind = "fir", shift = 0, file = "ten.toml" },
+    { name = "c", kind = "fir", shift = 0, file = "three.toml" },
+    { name = "d", kind = "fir", shift = 0, file = "four.toml" },
+    { name = "e", kind = "fir", shift = 0, file = "five.toml" },
+    { name = "f", kind = "fir", shift = 0, file = "six.toml" },
+    { name = "g", kind = "fir", shift = 0, file = "seven.toml" },
+    { name = "h", kind = "fir", shift = 0, file = "nine.toml" },
+    { name = "out", kind = "output", channel = 0 }]
+link = [{ from = "in", to = "a" }, { from = "a", to = "b" }, { from = "b", to = "c" }, { from = "c", to = "d" },
+    { from = "d", to = "e" }, { from = "e", to = "f" }, { from = "f", to = "g" }, { from = "g", to = "h" },
+    { from = "h", to = "out" }]"#;
+
 /// A sample becomes 4,096 and one again: a frame is work enough for sixteen workers.
 const STEEP: &str = r#"format = 1
 actor = [{ name = "in", kind = "input", channel = 0 }, { name = "up", kind = "interpolate", factor = 64 },
@@ -169,7 +185,7 @@ values = [1]
 ";
 
 /// The graph files and coefficient files of the tests.
-const TEXTS: [(&str, &str); 34] = [
+const TEXTS: [(&str, &str); 41] = [
     ("plain.toml", PLAIN),
     ("-", PLAIN),
     ("commented.toml", COMMENTED),
@@ -195,6 +211,13 @@ const TEXTS: [(&str, &str); 34] = [
     ("ended/stage2.toml", TAPS),
     ("twice.toml", TWICE),
     ("three.toml", TAPS),
+    ("four.toml", TAPS),
+    ("five.toml", TAPS),
+    ("six.toml", TAPS),
+    ("seven.toml", TAPS),
+    ("nine.toml", TAPS),
+    ("ten.toml", TAPS),
+    ("eight.toml", EIGHT),
     ("lacks/twice.toml", TWICE),
     ("torn/filtered.toml", FILTERED),
     ("torn/one.toml", BROKEN),

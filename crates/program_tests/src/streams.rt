@@ -13,34 +13,34 @@ use std::thread::Threads;
 use std::time::Clock;
 
 /// The name of a row, what stands around a command, the words behind the program's name, and what is told.
-type Row = (&'static str, Around, &'static str, &'static str);
+type Row = (&'static str, Around<'static>, &'static str, &'static str);
 
 /// A sound on standard input.
-const HEARD: Around = Around {
+const HEARD: Around<'static> = Around {
     stdin: SOUND,
     ..OPEN
 };
 
 /// The same with its last byte missing.
-const CUT: Around = Around {
+const CUT: Around<'static> = Around {
     stdin: b"RIFF\x28\0\0\0WAVEfmt \x10\0\0\0\x01\0\x01\0\x44\xAC\0\0\x88\x58\x01\0\x02\0\x10\0data\x04\0\0\0\x05\0\xFB",
     ..OPEN
 };
 
 /// Standard output is closed.
-const MUTE: Around = Around {
+const MUTE: Around<'static> = Around {
     output: Some(ErrorKind::BrokenPipe),
     ..OPEN
 };
 
 /// Standard output wants memory.
-const POOR: Around = Around {
+const POOR: Around<'static> = Around {
     output: Some(ErrorKind::OutOfMemory),
     ..OPEN
 };
 
 /// Standard error is closed.
-const UNTOLD: Around = Around {
+const UNTOLD: Around<'static> = Around {
     error: Some(ErrorKind::BrokenPipe),
     ..OPEN
 };
@@ -82,6 +82,12 @@ const ROWS: &[Row] = &[
         OPEN,
         "run plain.toml ./- out.wav",
         "0\n--\n--\n<5 -5>",
+    ),
+    (
+        "from a stream to the graph file",
+        HEARD,
+        "run plain.toml - plain.toml",
+        "2\n--\nerror: OUT is the same file as GRAPH\n…",
     ),
     (
         "to a file that is no stream",

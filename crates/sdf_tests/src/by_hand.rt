@@ -236,6 +236,8 @@ const ROWS: &[(&str, ByHand, &str)] = &[
     ),
 ];
 
+/// Refuses seats that are worked in turn, or without patience, where all are worked at once, and a gate that is left
+/// out.
 #[test]
 fn rounds_by_hand(rt: HostRuntime) -> Result<(), Fail> {
     for (name, by_hand, wanted) in ROWS {

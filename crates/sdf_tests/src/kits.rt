@@ -83,6 +83,8 @@ pub(crate) enum Worked {
     Converter,
     /// Each sample becomes 4,096, which are handed on one by one, and these one again.
     Wide,
+    /// As many actors and links as there may be: 64 and 256.
+    Large,
 }
 
 impl Worked {
@@ -97,6 +99,7 @@ impl Worked {
             Worked::Branches(ways) => branches(alloc, ways),
             Worked::Converter => joined(alloc, CONVERTER, CHAINED, &[]),
             Worked::Wide => joined(alloc, WIDE, WIDE_ENDS, &[]),
+            Worked::Large => large(alloc),
         }
     }
 }
@@ -170,4 +173,27 @@ fn branches(alloc: Global, ways: usize) -> Result<Net<Kit>, Fail> {
     parts.extend_from_slice(&[Add(ways), Out(0, 1)])?;
     ends.extend_from_slice(&[[0, 0, 1, 0], [adder, 0, adder.wrapping_add(1), 0]])?;
     joined(alloc, &parts, &ends, &begun)
+}
+
+/// Thirteen forks and adders in a line, with as many links between the two as they may have ports, or two fewer between
+/// the first two; and 36 gains.
+fn large(alloc: Global) -> Result<Net<Kit>, Fail> {
+    let mut parts = Vec::from_slice(alloc, &[In(1)])?;
+    let mut ends = Vec::new(alloc);
+    for pair in 0..13usize {
+        let fork = 2 * pair + 1;
+        let ways = if pair == 0 { 14 } else { 16 };
+        parts.extend_from_slice(&[Fork(ways), Add(ways)])?;
+        ends.push([fork - 1, 0, fork, 0])?;
+        for way in 0..ways {
+            ends.push([fork, way, fork + 1, way])?;
+        }
+    }
+    for gain in 27..63usize {
+        parts.push(Gain(1, 0))?;
+        ends.push([gain - 1, 0, gain, 0])?;
+    }
+    parts.push(Out(0, 1))?;
+    ends.push([62, 0, 63, 0])?;
+    joined(alloc, &parts, &ends, &[])
 }

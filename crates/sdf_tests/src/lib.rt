@@ -24,6 +24,8 @@ mod passes;
 #[cfg(test)]
 mod patience;
 #[cfg(test)]
+mod pauses;
+#[cfg(test)]
 mod sessions;
 #[cfg(test)]
 mod small_nets;

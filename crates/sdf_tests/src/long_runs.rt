@@ -50,11 +50,11 @@ const OTHERS: &[Row] = &[
     ("on one thread", PLAIN, None, "70000"),
 ];
 
-/// How many samples stand in the first of some lists.
+/// How many samples stand in the first of some lists, which has no room for twice as many.
 fn first_len(lists: &[Vec<i32>]) -> usize {
     match lists.first() {
-        Some(list) => list.len(),
-        None => 0,
+        Some(list) if list.capacity() / 2 < list.len() => list.len(),
+        _ => 0,
     }
 }
 

@@ -349,6 +349,8 @@ fn told_of<R: Threads + AllocGlobal + Sync>(rt: &R, row: &Row) -> Result<String,
     told(rt, &row.net.net(rt.alloc())?, row)
 }
 
+/// Refuses fewer threads than seats or firings of a row, a round that ends with its block, a worker that never looks at
+/// its neighbour within one, rows in the place of rings, and rings of another size.
 #[test]
 fn who_meets_whom(rt: HostRuntime) -> Result<(), Fail> {
     for row in ROWS {

@@ -151,6 +151,7 @@ const ROWS: &[Row] = &[
     ("three patient workers over rings", Kind::Homed(3), PATIENT),
 ];
 
+/// Refuses a gate that is left out, called twice or behind its firing, or told of another processor, actor or number.
 #[test]
 fn by_rows_and_over_rings(rt: HostRuntime) -> Result<(), Fail> {
     for row in ROWS {

@@ -385,6 +385,8 @@ fn told_of<R: Threads + AllocGlobal + Sync>(rt: &R, row: &Row) -> Result<String,
     told(rt, &row.net.net(rt.alloc())?, row)
 }
 
+/// Refuses a worker that tests once or at most 10,000 times whatever its patience, patience in the first round alone,
+/// a worker that never looks at its neighbour, and a round too few that is told of.
 #[test]
 fn what_runs_make_and_in_how_many_rounds(rt: HostRuntime) -> Result<(), Fail> {
     for row in ROWS {

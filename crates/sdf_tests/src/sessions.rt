@@ -1,13 +1,15 @@
 //! Sessions that are fed in pieces.
 
 use crate::kits::Worked;
-use crate::nets::{by_one, list, pair, planned, ramp};
+use crate::nets::{by_one, chain, pair, planned, ramp};
 use sdf_actor::{Actor, Net};
 use sdf_run::{Mode, NoGate, Session};
 use std::alloc::Global;
 use std::test::Fail;
 use std::thread::Threads;
-use test_texts::{row_says, says};
+use test_actors::Watched;
+use test_actors::gates::{Hold, Watch};
+use test_texts::row_says;
 
 /// Feeds the samples from one number to another, appends what is made of them, and tells how much there is then, or why
 /// nothing was made.
@@ -94,26 +96,105 @@ fn fed_in_pieces(rt: HostRuntime) -> Result<(), Fail> {
     pieces_are_one(&rt, &Worked::Converter.net(rt.alloc())?)
 }
 
-/// What a session over rings of sixteen blocks makes of one sample.
-fn made_of_one<R: Threads + AllocGlobal + Sync, A: Actor<Token = i64>>(
+/// What a session by so many workers makes of a block of samples of 1, where there are so many periods in a block: how
+/// many samples, the first one, and in how many rounds.
+fn made_of_a_block<R: Threads + AllocGlobal + Sync, A: Actor<Token = i64>>(
     rt: &R,
     net: &Net<A>,
+    factor: u32,
+    workers: usize,
+    mode: Mode,
 ) -> Result<String, Fail> {
-    let table = planned(rt.alloc(), net, 1, 2, true)?;
-    let inputs = list(rt.alloc(), &[1i64])?;
-    let mode = Mode::Rings {
-        patience: 0,
-        rooms: 16,
-    };
-    let mut session = Session::open(rt.alloc(), net, &table, mode)?;
+    let alloc = rt.alloc();
+    let table = planned(alloc, net, factor, workers, true)?;
+    let many = net.samples_in().wrapping_mul(factor as usize);
+    let mut inputs = Vec::new(alloc);
+    inputs.push(vec![in alloc; 1i64; many]?)?;
+    let mut session = Session::open(alloc, net, &table, mode)?;
     let ran = session.feed(rt, &inputs, &NoGate)?;
-    Ok(format!(in rt.alloc(); "{:?}", ran.outputs)?)
+    let rounds = session.close()?.rounds;
+    match ran.outputs.first() {
+        Some(made) => Ok(format!(in alloc; "{} {:?} {rounds}", made.len(), made.first())?),
+        None => Ok(String::new(alloc)),
+    }
+}
+
+const SIXTEEN_ROOMS: Mode = Mode::Rings {
+    patience: 0,
+    rooms: 16,
+};
+
+/// How many samples the source and the sink move, how many periods a block has, and the mode.
+const BEGUN: &[(&str, u32, u32, Mode, &str)] = &[
+    (
+        "over rings of sixteen blocks",
+        1,
+        1,
+        SIXTEEN_ROOMS,
+        "1 Some(7) 1",
+    ),
+    (
+        "over rings of sixteen long blocks",
+        1024,
+        64,
+        SIXTEEN_ROOMS,
+        "65536 Some(7) 1",
+    ),
+    ("by rows", 1, 1, Mode::Rows, "1 Some(7) 1"),
+    (
+        "by rows, in a long block",
+        1024,
+        64,
+        Mode::Rows,
+        "65536 Some(7) 64",
+    ),
+];
+
+/// The same of a source and a sink that move so many samples, between which as many stand as may be.
+fn made_of_begun<R: Threads + AllocGlobal + Sync>(
+    rt: &R,
+    block: u32,
+    factor: u32,
+    mode: Mode,
+) -> Result<String, Fail> {
+    let many = vec![in rt.alloc(); 7i64; 65_536]?;
+    made_of_a_block(rt, &pair(rt.alloc(), block, block, &many)?, factor, 2, mode)
 }
 
 /// Refuses memory that is not asked for where a channel begins with as many samples as it may, as by `enlarged` that
-/// answers no more than 1,000,000.
+/// answers no more than 1,000,000 or `make_queues` for over 130,000, and a round too many that is told of.
 #[test]
-fn rings_of_many_samples(rt: HostRuntime) -> Result<(), Fail> {
-    let many = vec![in rt.alloc(); 7i64; 65_536]?;
-    says(made_of_one(&rt, &pair(rt.alloc(), 1, 1, &many)?), "[[7]]")
+fn channels_of_many_samples(rt: HostRuntime) -> Result<(), Fail> {
+    for (name, block, factor, mode, wanted) in BEGUN {
+        row_says(name, made_of_begun(&rt, *block, *factor, *mode), wanted)?;
+    }
+    Ok(())
+}
+
+/// The same of a source, an actor with a cycle of 64 firings and a sink, by one worker.
+fn made_of_a_cycle<R: Threads + AllocGlobal + Sync>(rt: &R, mode: Mode) -> Result<String, Fail> {
+    let watch = Watch::new(rt.alloc(), 1, 3, Hold::NONE)?;
+    let actor = Watched {
+        cycle: 64,
+        two: false,
+        number: 1,
+        watch: &watch,
+    };
+    made_of_a_block(rt, &chain(rt.alloc(), actor)?, 1, 1, mode)
+}
+
+/// By rows the firings are done one by one, and over rings in one round. Refuses memory that is not asked for where an
+/// actor has as long a cycle as it may, as by `Sizes::new` for one of over 32 firings.
+#[test]
+fn a_long_cycle(rt: HostRuntime) -> Result<(), Fail> {
+    row_says(
+        "by rows",
+        made_of_a_cycle(&rt, Mode::Rows),
+        "64 Some(1) 192",
+    )?;
+    row_says(
+        "over rings",
+        made_of_a_cycle(&rt, SIXTEEN_ROOMS),
+        "64 Some(1) 1",
+    )
 }

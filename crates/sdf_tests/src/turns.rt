@@ -189,6 +189,7 @@ fn done_by_workers<A: Actor<Token = i32>>(
     Ok(())
 }
 
+/// Refuses rings that hold more than their table says: a sample more, or twice as many.
 #[test]
 fn in_any_order(rt: HostRuntime) -> Result<(), Fail> {
     done_by_workers(&rt, &BLOCKS.net(rt.alloc())?, 2)?;

@@ -96,6 +96,24 @@ actor = [{ name = "in0", kind = "input", channel = 0 }, { name = "in1", kind = "
 link = [{ from = "in0", to = "split" }, { from = "split:0", to = "out1" }, { from = "split:1", to = "nothing" },
     { from = "in1", to = "join:0" }, { from = "nothing", to = "join:1" }, { from = "join", to = "out0" }]"#;
 
+/// As many channels as a file may have, in turned order.
+pub(crate) const TURNED_ORDER: &str = r#"format = 2
+actor = [{ name = "a", kind = "input", channel = 0 }, { name = "b", kind = "input", channel = 1 },
+    { name = "c", kind = "input", channel = 2 }, { name = "d", kind = "input", channel = 3 },
+    { name = "e", kind = "input", channel = 4 }, { name = "f", kind = "input", channel = 5 },
+    { name = "g", kind = "input", channel = 6 }, { name = "h", kind = "input", channel = 7 },
+    { name = "gather", kind = "gather", ways = 8 }, { name = "deal", kind = "deal", ways = 8 },
+    { name = "s", kind = "output", channel = 0 }, { name = "t", kind = "output", channel = 1 },
+    { name = "u", kind = "output", channel = 2 }, { name = "v", kind = "output", channel = 3 },
+    { name = "w", kind = "output", channel = 4 }, { name = "x", kind = "output", channel = 5 },
+    { name = "y", kind = "output", channel = 6 }, { name = "z", kind = "output", channel = 7 }]
+link = [{ from = "a", to = "gather:0" }, { from = "b", to = "gather:1" }, { from = "c", to = "gather:2" },
+    { from = "d", to = "gather:3" }, { from = "e", to = "gather:4" }, { from = "f", to = "gather:5" },
+    { from = "g", to = "gather:6" }, { from = "h", to = "gather:7" }, { from = "gather", to = "deal" },
+    { from = "deal:0", to = "z" }, { from = "deal:1", to = "y" }, { from = "deal:2", to = "x" },
+    { from = "deal:3", to = "w" }, { from = "deal:4", to = "v" }, { from = "deal:5", to = "u" },
+    { from = "deal:6", to = "t" }, { from = "deal:7", to = "s" }]"#;
+
 /// Each second sample is doubled, on a way of its own.
 pub(crate) const SECOND_DOUBLED: &str = r#"format = 2
 actor = [{ name = "in", kind = "input", channel = 0 }, { name = "deal", kind = "deal", ways = 2 },

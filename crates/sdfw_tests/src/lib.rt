@@ -21,9 +21,13 @@ mod fault_rows;
 #[cfg(test)]
 mod faults;
 #[cfg(test)]
+mod long_lists;
+#[cfg(test)]
 mod made;
 #[cfg(test)]
 mod meetings;
+#[cfg(test)]
+mod naps;
 #[cfg(test)]
 mod pieces;
 #[cfg(test)]

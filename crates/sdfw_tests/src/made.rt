@@ -2,7 +2,7 @@
 
 use crate::designs::{
     BLOCKS, CHAIN, DELAYED, EARLY, HALF, INITIAL, LATER, LOOP, PAIR, PAIRS, SECOND, SECOND_DOUBLED,
-    STUCK, SWAP, THREE_FOR_TWO, TURNED, TWICE, UNEVEN,
+    STUCK, SWAP, THREE_FOR_TWO, TURNED, TURNED_ORDER, TWICE, UNEVEN,
 };
 use crate::running::{Samples, end_of, file_of, row_makes, run_file, sound};
 use sdf_options::{Options, Placement, Runner};
@@ -73,6 +73,18 @@ const SOUNDS: &[Row] = &[
         channels: 2,
         samples: &[5, 100, -5, 200],
         wanted: Bytes(HALVES),
+        ..ONE
+    },
+    Row {
+        name: "eight channels, for memory that is not asked for",
+        graph: TURNED_ORDER,
+        channels: 8,
+        samples: &[1, 2, 3, 4, 5, 6, 7, 8, 11, 12, 13, 14, 15, 16, 17, 18],
+        wanted: Sound(
+            8000,
+            8,
+            &[8, 7, 6, 5, 4, 3, 2, 1, 18, 17, 16, 15, 14, 13, 12, 11],
+        ),
         ..ONE
     },
     Row {

@@ -75,7 +75,8 @@ fn asked_told<T: Threads + AllocGlobal + Sync>(
     Ok(format!(in alloc; "{read:?} {written:?} {same}")?)
 }
 
-/// What is written at a time is 4,096 frames.
+/// What is written at a time is 4,096 frames. Refuses workers that read all frames at a time, or twice as many, and one
+/// thread in their place.
 #[test]
 fn what_calls_ask_for(rt: HostRuntime) -> Result<(), Fail> {
     for (name, runner, many, wanted) in ASKED {
@@ -221,8 +222,8 @@ fn cut_told<T: Threads + AllocGlobal + Sync>(
     Ok(format!(in alloc; "{} {front} {end}", output.len())?)
 }
 
-/// What is read at a time is run and written before more is read. For a `frames_at_a_time` of another number, as
-/// `FRAMES` alone.
+/// What is read at a time is run and written before more is read. Refuses a `frames_at_a_time` of another number, as
+/// `FRAMES` alone, and one thread where workers were asked for.
 #[test]
 fn what_was_read_is_written(rt: HostRuntime) -> Result<(), Fail> {
     for row in CUTS {

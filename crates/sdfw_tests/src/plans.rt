@@ -52,7 +52,7 @@ fn short_chain(alloc: Global) -> Result<String, Fail> {
 /// Refuses workers that are less patient than the help says, and another weight for each than `docs/FORMATS.md` has.
 #[test]
 fn plans_and_what_they_want(rt: HostRuntime) -> Result<(), Fail> {
-    assert_eq!(rt; LEAST_SHARE, 4_096);
+    assert_eq!(rt; LEAST_SHARE, 640);
     row_says(
         "crews are patient",
         crew_told(rt.alloc()),

@@ -3,9 +3,9 @@
 use sdf_file::read_design;
 use sdf_options::Options;
 use sdf_process::planning::plan;
-use sdf_process::process::{process, process_with};
+use sdf_process::process::process_with;
 use sdf_process::{Fault, fault_text, status};
-use sdf_run::Gate;
+use sdf_run::{Gate, NoGate};
 use sdf_wav::{FromRead, Reader, ToWrite, Wav, Writer, write_wav};
 use std::alloc::Global;
 use std::test::Fail;
@@ -69,7 +69,7 @@ pub(crate) fn run_with<T: Threads + AllocGlobal + Sync, R: Reader, W: Writer>(
 ) -> Result<(), Fault> {
     let design = read_design(rt.alloc(), graph.as_bytes(), &[])?;
     let plan = plan(rt.alloc(), &design, options)?;
-    process(rt, reader, writer, &design, &plan)
+    process_with(rt, reader, writer, &design, &plan, &NoGate)
 }
 
 /// What a design makes of a file.

@@ -185,14 +185,14 @@ impl Actor for Twice {
 /// At phase 0 of its cycle it takes `first + middle` and `last` samples, and puts them on as `first` and `middle +
 /// last`. At its other phases it moves none.
 #[derive(Drop)]
-pub struct Deal {
+pub struct Regroup {
     pub cycle: u32,
     pub first: u16,
     pub middle: u16,
     pub last: u16,
 }
 
-impl Actor for Deal {
+impl Actor for Regroup {
     type Token = i32;
 
     type State = u8;

@@ -10,5 +10,5 @@ pub mod graphs;
 pub mod nets;
 pub mod watched;
 
-pub use actors::{Deal, Sum, Swap, Twice};
+pub use actors::{Regroup, Sum, Swap, Twice};
 pub use watched::Watched;

@@ -5,7 +5,7 @@ ghost use Rattle.sdf_actor.specs.declared.node.Node.TheVariants.{Source, Sink, I
 ghost use Rattle.sdf_actor.specs.Wires.{wires};
 ghost use Rattle.test_actors.specs.Rows.{empty_wires};
 
-use crate::actors::Deal;
+use crate::actors::Regroup;
 use sdf_actor::{Link, Node};
 use std::alloc::{AllocError, Global};
 
@@ -24,17 +24,17 @@ pub fn sink<A>(ext: u8, block: u32) -> Node<A>
 }
 
 /// An actor of one phase.
-pub fn dealer(first: u16, middle: u16, last: u16) -> Node<Deal>
+pub fn dealer(first: u16, middle: u16, last: u16) -> Node<Regroup>
     ensures { result ≡ Inner (record { cycle = 1; first = first; middle = middle; last = last }) }
 {
     turning(1, first, middle, last)
 }
 
 /// An actor of so many phases.
-pub fn turning(cycle: u32, first: u16, middle: u16, last: u16) -> Node<Deal>
+pub fn turning(cycle: u32, first: u16, middle: u16, last: u16) -> Node<Regroup>
     ensures { result ≡ Inner (record { cycle = cycle; first = first; middle = middle; last = last }) }
 {
-    Node::Inner(Deal {
+    Node::Inner(Regroup {
         cycle,
         first,
         middle,

@@ -1,0 +1,133 @@
+//! Which runner a command uses, seen in what is written of a sound that ends too soon: one thread has written the
+//! header alone when it finds that out, rows and rings all whole pieces of 4,096 frames, and a parallel run of 65,536.
+
+use crate::commands::{Around, OPEN, serve_line};
+use std::alloc::{AllocError, Global};
+use std::test::Fail;
+use std::thread::Threads;
+use std::time::Clock;
+use test_texts::row_says;
+
+/// The header of 70,000 frames, 44,100 a second.
+const ANNOUNCED: &[u8] =
+    b"RIFF\x04\x23\x02\0WAVEfmt \x10\0\0\0\x01\0\x01\0\x44\xAC\0\0\x88\x58\x01\0\x02\0\x10\0data\xE0\x22\x02\0";
+
+/// So many of the frames that it announces, which are 0, 1, 2 and so on, up to 4,999 and then anew.
+fn cut(alloc: Global, frames: u32) -> Result<Vec<u8>, AllocError> {
+    let mut bytes = Vec::from_slice(alloc, ANNOUNCED)?;
+    for frame in 0..frames {
+        let sample = (frame % 5000) as u16;
+        bytes.extend_from_slice(&sample.to_le_bytes())?;
+    }
+    Ok(bytes)
+}
+
+/// Whether the samples behind one header are the first ones behind another.
+fn is_front(made: &[u8], read: &[u8]) -> bool {
+    match (made.get(44..), read.get(44..)) {
+        (Some(made), Some(read)) => read.starts_with(made),
+        _ => made.is_empty(),
+    }
+}
+
+/// The exit status of a line of words on so many frames, how many bytes are written, whether the samples are the first
+/// of those that are read, which each design of the rows hands on, and what stands on standard error.
+fn told<T: Threads + AllocGlobal + Clock + Clone + Drop + Sync>(
+    rt: &T,
+    frames: u32,
+    line: &str,
+) -> Result<String, Fail> {
+    let alloc = rt.alloc();
+    let input = cut(alloc, frames)?;
+    let around = Around {
+        stdin: &input,
+        ..OPEN
+    };
+    let served = serve_line(rt, &around, line)?;
+    let (status, made) = (served.status, &served.out);
+    let front = is_front(made, &input);
+    let err = str::from_utf8(&served.err)?;
+    Ok(format!(in alloc; "{status} {} {front} {err}", made.len())?)
+}
+
+/// The name of a row, how many of 70,000 frames are there, the words behind the program's name, and what is told.
+type Row = (&'static str, u32, &'static str, &'static str);
+
+const ROWS: &[Row] = &[
+    (
+        "no runner is asked for",
+        4096,
+        "run plain.toml - -",
+        "4 44 true sdfw: 43 Truncated\n",
+    ),
+    (
+        "one thread",
+        4096,
+        "run plain.toml - - --runner one",
+        "4 44 true sdfw: 43 Truncated\n",
+    ),
+    (
+        "rows",
+        4096,
+        "run plain.toml - - --runner rows",
+        "4 8236 true sdfw: 43 Truncated\n",
+    ),
+    (
+        "rows, for which no actor needs a home: 682 periods of six frames",
+        4096,
+        "run blocks.toml - - --runner rows --workers 2 --placement hu",
+        "4 8228 true sdfw: 43 Truncated\n",
+    ),
+    (
+        "rings",
+        4096,
+        "run plain.toml - - --runner rings --workers 2",
+        "4 8236 true sdfw: 43 Truncated\n",
+    ),
+    (
+        "rings, for which each needs one: for rings that go by rows",
+        4096,
+        "run blocks.toml - - --runner rings --workers 2 --placement hu",
+        "3 0 true sdfw: 30 NotHomed\n",
+    ),
+    (
+        "in parallel, for as many frames as rings of one block read",
+        4096,
+        "run heavy.toml - - --parallel 2",
+        "4 44 true sdfw: 43 Truncated\n",
+    ),
+    (
+        "in parallel, a frame short",
+        65_535,
+        "run heavy.toml - - --parallel 2",
+        "4 44 true sdfw: 43 Truncated\n",
+    ),
+    (
+        "in parallel: for one thread",
+        65_536,
+        "run heavy.toml - - --parallel 2",
+        "4 131116 true sdfw: 43 Truncated\n",
+    ),
+    (
+        "in parallel, one worker alone",
+        65_536,
+        "run heavy.toml - - --parallel 1",
+        "4 44 true sdfw: 43 Truncated\n",
+    ),
+    (
+        "in parallel, what is too light",
+        65_536,
+        "run branches.toml - - --parallel 2",
+        "4 44 true sdfw: 43 Truncated\n",
+    ),
+];
+
+/// Refuses a program that ignores `--runner`, one that goes by rows where rings are asked for, and a parallel run by
+/// one thread.
+#[test]
+fn the_runner_is_the_one_asked_for(rt: HostRuntime) -> Result<(), Fail> {
+    for (name, frames, line, wanted) in ROWS {
+        row_says(name, told(&rt, *frames, line), wanted)?;
+    }
+    Ok(())
+}

@@ -1,0 +1,195 @@
+//! Lists as long as they may be, in a graph file or in a coefficient file, and longer by one value.
+
+use crate::running::{fault_told, file_of};
+use sdf_file::read_design;
+use sdf_options::Options;
+use sdf_process::Fault;
+use sdf_process::planning::plan;
+use sdf_process::process::process;
+use sdf_wav::{FromRead, ToWrite, Wav, read_wav};
+use std::alloc::{AllocError, Global};
+use std::test::Fail;
+use std::thread::Threads;
+use std::time::Clock;
+use test_texts::row_says;
+
+/// A filter, a table and a link that begin with the values in the place of `LIST`; each of the first two may have them
+/// in a file.
+const FILTER: &str = r#"format = 1
+actor = [{ name = "in", kind = "input", channel = 0 }, { name = "sum", kind = "fir", shift = 0, taps = [LIST] },
+    { name = "out", kind = "output", channel = 0 }]
+link = [{ from = "in", to = "sum" }, { from = "sum", to = "out" }]"#;
+
+const FILTER_OF_FILE: &str = r#"format = 1
+actor = [{ name = "in", kind = "input", channel = 0 },
+    { name = "sum", kind = "fir", shift = 0, file = "list.toml" }, { name = "out", kind = "output", channel = 0 }]
+link = [{ from = "in", to = "sum" }, { from = "sum", to = "out" }]"#;
+
+const TABLE: &str = r#"format = 1
+actor = [{ name = "in", kind = "input", channel = 0 },
+    { name = "look", kind = "table", offset = 32768, values = [LIST] }, { name = "out", kind = "output", channel = 0 }]
+link = [{ from = "in", to = "look" }, { from = "look", to = "out" }]"#;
+
+const TABLE_OF_FILE: &str = r#"format = 1
+actor = [{ name = "in", kind = "input", channel = 0 },
+    { name = "look", kind = "table", offset = 32768, file = "list.toml" },
+    { name = "out", kind = "output", channel = 0 }]
+link = [{ from = "in", to = "look" }, { from = "look", to = "out" }]"#;
+
+const BEGUN: &str = r#"format = 1
+actor = [{ name = "in", kind = "input", channel = 0 }, { name = "out", kind = "output", channel = 0 }]
+link = [{ from = "in", to = "out", initial = [LIST] }]"#;
+
+/// A text with so many values in the place of `LIST`: 1, 2, 3 and so on, up to 9 and then anew.
+fn with_list(alloc: Global, text: &str, many: usize) -> Result<String, AllocError> {
+    let mut list = String::new(alloc);
+    for number in 0..many {
+        list.push(char::from(b'1' + (number % 9) as u8))?;
+        list.push(',')?;
+    }
+    text.replace(alloc, "LIST", list.as_str())
+}
+
+/// A design in whose list stand so many values, and the sound that it is run on: its first sample, which zeros follow,
+/// and how many there are. It is told how many are made, and the last one, which the last value makes.
+#[derive(Clone, Copy)]
+struct Row {
+    name: &'static str,
+    graph: &'static str,
+    values: usize,
+    first: i16,
+    frames: usize,
+    told: &'static str,
+}
+
+/// A sample that goes through all taps.
+const TAPS: Row = Row {
+    name: "",
+    graph: FILTER,
+    values: 1024,
+    first: 1,
+    frames: 1024,
+    told: "1024 Some(7)",
+};
+
+/// A sample that stands for the last value.
+const VALUES: Row = Row {
+    graph: TABLE,
+    values: 65_536,
+    first: 32_767,
+    frames: 1,
+    told: "1 Some(7)",
+    ..TAPS
+};
+
+/// As many frames as samples stand on the link.
+const SAMPLES: Row = Row {
+    graph: BEGUN,
+    values: 65_536,
+    first: 0,
+    frames: 65_536,
+    told: "65536 Some(7)",
+    ..TAPS
+};
+
+const ROWS: &[Row] = &[
+    Row {
+        name: "taps",
+        ..TAPS
+    },
+    Row {
+        name: "a tap more",
+        values: 1025,
+        told: "3 sdfw: 28 KitValue actor 1 key taps\n",
+        ..TAPS
+    },
+    Row {
+        name: "taps in a file",
+        graph: FILTER_OF_FILE,
+        ..TAPS
+    },
+    Row {
+        name: "a tap more in a file",
+        graph: FILTER_OF_FILE,
+        values: 1025,
+        told: "3 sdfw: 28 KitValue actor 1 key file\n",
+        ..TAPS
+    },
+    Row {
+        name: "values",
+        ..VALUES
+    },
+    Row {
+        name: "a value more",
+        values: 65_537,
+        told: "3 sdfw: 28 KitValue actor 1 key values\n",
+        ..VALUES
+    },
+    Row {
+        name: "values in a file",
+        graph: TABLE_OF_FILE,
+        ..VALUES
+    },
+    Row {
+        name: "a value more in a file",
+        graph: TABLE_OF_FILE,
+        values: 65_537,
+        told: "3 sdfw: 28 KitValue actor 1 key file\n",
+        ..VALUES
+    },
+    Row {
+        name: "samples on a link",
+        ..SAMPLES
+    },
+    Row {
+        name: "a sample more on a link",
+        values: 65_537,
+        told: "3 sdfw: 6 InitialCount link 0\n",
+        ..SAMPLES
+    },
+];
+
+/// What a row's design makes.
+fn run_long<T: Threads + AllocGlobal + Clock + Sync>(rt: &T, row: &Row) -> Result<Wav, Fault> {
+    let alloc = rt.alloc();
+    let graph = with_list(alloc, row.graph, row.values)?;
+    let list = with_list(alloc, "format = 1\nvalues = [LIST]", row.values)?;
+    let mut files = Vec::new(alloc);
+    files.push((String::from_str(alloc, "list.toml")?, list.into_bytes()))?;
+    let design = read_design(alloc, graph.as_bytes(), &files)?;
+    let plan = plan(alloc, &design, &Options::DEFAULT)?;
+    let mut samples = vec![in alloc; 0i16; row.frames]?;
+    if let Some(first) = samples.first_mut() {
+        *first = row.first;
+    }
+    let input = file_of(alloc, 8000, 1, &samples)?;
+    let mut writer = ToWrite::new(Vec::new(alloc));
+    process(
+        rt,
+        &mut FromRead::new(input.as_slice()),
+        &mut writer,
+        &design,
+        &plan,
+    )?;
+    let made = writer.into_inner();
+    Ok(read_wav(alloc, &mut FromRead::new(made.as_slice()))?)
+}
+
+fn told<T: Threads + AllocGlobal + Clock + Sync>(rt: &T, row: &Row) -> Result<String, Fail> {
+    match run_long(rt, row) {
+        Ok(made) => {
+            let samples = made.samples();
+            Ok(format!(in rt.alloc(); "{} {:?}", samples.len(), samples.last())?)
+        }
+        Err(fault) => fault_told(rt.alloc(), &fault),
+    }
+}
+
+/// Refuses a list that is said to want memory where there is plenty, one that is cut, and a longer one that is taken.
+#[test]
+fn as_long_as_they_may_be(rt: HostRuntime) -> Result<(), Fail> {
+    for row in ROWS {
+        row_says(row.name, told(&rt, row), row.told)?;
+    }
+    Ok(())
+}
