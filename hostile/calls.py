@@ -27,8 +27,8 @@ HOLDING = ["chain.toml", "blocks.toml", "loop.toml", "fork.toml"]
 WORKERS_HELD = [1, 2, 3, 16]
 
 
-def call_words(call, design, *options):
-    return [CALLS, call, "run", design, "short.wav", "out.wav", *options]
+def call_words(call, design, *options, sound="short.wav"):
+    return [CALLS, call, "run", design, sound, "out.wav", *options]
 
 
 def parts(ended):
@@ -89,6 +89,9 @@ def designs(lists):
     for call in ("design_files", "read_design"):
         refuse(lists, call, call_words(call, "chain.toml"), "memory", told(NO_MEMORY))
     for runner, policy, placement in product(RUNNERS, POLICIES, PLACEMENTS):
+        if placement == "spread" and policy != "runs":
+            # A block by spread is in runs whatever the policy, and long: each plan asks for some thousand rows.
+            continue
         options = ["--workers", "2", "--runner", runner, "--policy", policy, "--placement", placement]
         refuse(lists, f"plan {runner} {policy} {placement}", call_words("plan", "fork.toml", *options), "memory",
                told(NO_MEMORY))
@@ -115,6 +118,9 @@ def sounds(lists):
     for runner in RUNNERS:
         words = call_words("process", "chain.toml", *RUNNERS[runner])
         refuse(lists, f"process {runner}", words, "memory", told_with_text(NO_MEMORY, 320))
+    for runner in WORKERS:
+        words = call_words("process", "loop.toml", *WORKERS[runner], sound="few.wav")
+        both(lists, f"process {runner} loop", words, lambda fault: told_with_text(fault, 2))
 
 
 def held_runs(lists, name, words, wanted):

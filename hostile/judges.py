@@ -1,4 +1,5 @@
 """What a run may answer whose call was refused."""
+import re
 
 NO_MEMORY = (6, b"sdfw: 1 OutOfMemory\n")
 NO_MEMORY_IN_JSON = (6, b'{"fault":1,"name":"OutOfMemory"}\n')
@@ -6,6 +7,12 @@ NO_WORKER = (6, b"sdfw: 32 NoWorker\n")
 NO_READ = (5, b"sdfw: 47 Read\n")
 NO_WRITE = (5, b"sdfw: 48 Write\n")
 NO_WRITE_IN_JSON = (5, b'{"fault":48,"name":"Write"}\n')
+
+
+def timed(ended):
+    """An answer without the numbers that a clock gave."""
+    printed, output = (text and re.sub(rb"[0-9.]+", b"N", text) for text in (ended.printed, ended.output))
+    return ended.status, printed, ended.told, output
 
 
 def is_text(output, whole, period):
@@ -25,7 +32,7 @@ def ample_or(fault, period=None, text=True, less=False):
         if ended.answer() == ample.answer():
             return True
         if less and ended.fault() == (ample.status, ample.told.split(b"\n  ", 1)[0] + b"\n"):
-            return not ended.printed
+            return not ended.printed and ended.output == ample.output
         written = is_text(ended.output, ample.output, period or 2) if text else is_front(ended.output, ample.output)
         return ended.refused() == 1 and ended.fault() == fault and not ended.printed and written
 

@@ -39,11 +39,12 @@ class Ended:
         return self.counts[6]
 
 
-def wav(samples, size=None, before=b""):
-    """A mono file of 44,100 samples a second; its data may announce another size, and chunks may stand before them."""
+def wav(samples, size=None, before=b"", channels=1):
+    """A file of 44,100 frames a second; its data may announce another size, and chunks may stand before them."""
     data = struct.pack(f"<{len(samples)}h", *samples)
     size = len(data) if size is None else size
-    head = b"WAVE" + before + struct.pack("<4sIHHIIHH", b"fmt ", 16, 1, 1, 44100, 88200, 2, 16)
+    form = struct.pack("<IHHIIHH", 16, 1, channels, 44100, 88200 * channels, 2 * channels, 16)
+    head = b"WAVE" + before + b"fmt " + form
     return b"RIFF" + struct.pack("<I", min(36 + size, 0xFFFFFFFF)) + head + struct.pack("<4sI", b"data", size) + data
 
 
@@ -52,8 +53,12 @@ SOUNDS = {
     "few.wav": wav([3, -2, 500, 7]),
     "long.wav": wav([7 * n % 1000 - 500 for n in range(9000)]),
     "longer.wav": wav([7 * n % 1000 - 500 for n in range(100000)]),
+    "open.wav": wav([1, 2], size=0xFFFFFFFF),
     "huge.wav": wav([1, 2], size=0xFFFFFF00),
+    "most.wav": wav([1, 2], size=0xFFFFFFFE),
+    "stereo.wav": wav([1, 2], size=0xFFFFFFFE, channels=2),
     "list.wav": wav([1, 2], before=struct.pack("<4sI", b"LIST", 0xFFFFFFFF)),
+    "format.wav": wav([1, 2], before=struct.pack("<4sI", b"fmt ", 0xFFFFFFFE)),
 }
 
 
@@ -73,9 +78,10 @@ class Folder:
         return cls.own.path
 
 
-def run(words, kind=None, at=0, how="error", one=False, window=None, printed=subprocess.PIPE, told=subprocess.PIPE,
-        seconds=SECONDS):
-    """Runs a program with a call refused. `printed` and `told` may be other ends for its standard output and error."""
+def run(words, kind=None, at=0, how="error", one=False, window=None, sound=None, printed=subprocess.PIPE,
+        told=subprocess.PIPE, seconds=SECONDS):
+    """Runs a program with a call refused. `printed` and `told` may be other ends for its standard output and error.
+    Where a file is named as the sound, it is standard input, and what is printed is OUT."""
     folder = Folder.here()
     counts = folder / "counts"
     output = folder / "out.wav"
@@ -88,7 +94,8 @@ def run(words, kind=None, at=0, how="error", one=False, window=None, printed=sub
         setting["HOSTILE_BYTES"] = "one"
     if window:
         setting["HOSTILE_WINDOW"] = window
-    process = subprocess.Popen(words, cwd=folder, env=setting, stdin=subprocess.DEVNULL, stdout=printed, stderr=told)
+    with open(folder / sound if sound else os.devnull, "rb") as given:
+        process = subprocess.Popen(words, cwd=folder, env=setting, stdin=given, stdout=printed, stderr=told)
     try:
         said, faults = process.communicate(timeout=seconds)
         status = process.returncode
@@ -97,6 +104,8 @@ def run(words, kind=None, at=0, how="error", one=False, window=None, printed=sub
         said, faults = process.communicate()
         status = None
     made = output.read_bytes() if output.is_file() else None
+    if sound:
+        said, made = b"", said
     return Ended(status, said, faults, made, struct.unpack("<8Q", counts.read_bytes()))
 
 
@@ -138,7 +147,7 @@ class Lists:
         if not self.wants(name):
             return
         begun = time.monotonic()
-        ample = run(words, **{key: how[key] for key in ("one", "window") if key in how})
+        ample = run(words, **{key: how[key] for key in ("one", "window", "sound") if key in how})
         count = ample.calls(kind)
 
         def judge(at):

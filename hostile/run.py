@@ -9,6 +9,7 @@ import sys
 import time
 
 import calls
+import devices
 import program
 from machine import Folder, Lists
 
@@ -18,6 +19,7 @@ def main():
     begun = time.monotonic()
     try:
         program.all_lists(lists)
+        devices.all_lists(lists)
         calls.all_lists(lists)
     finally:
         shutil.rmtree(Folder.top, ignore_errors=True)
