@@ -1,5 +1,6 @@
 //! What no clause says of filters and of designs from files: that taps are those of the formulas, that a split is a
-//! cheap one, that designs that convert between usual rates are accepted, the texts of designs, and the texts of faults.
+//! cheap one, that designs that convert between usual rates are accepted, the texts of designs, and the texts of
+//! faults.
 //!
 //! It stands on `sdf_filters`, on `sdf_document` and `sdf_file`, which read the designs, and on `test_texts`, and has
 //! no functions: tests stand in a crate of their own, since a crate's functions are proved once more with its tests.

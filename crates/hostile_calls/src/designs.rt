@@ -3,14 +3,13 @@
 use crate::TURNS;
 use crate::files::Sources;
 use anyhow::Result;
-use indexmap::IndexSet;
 use sdf_file::{Design, FileFault, check_text, design_files, read_design};
 use sdf_options::Options;
 use sdf_prec::Table;
 use sdf_process::planning::plan;
 use sdf_process::{Fault, Plan};
 
-fn show_names(rt: &impl Print, answer: Result<IndexSet<String>, FileFault>) -> Result<()> {
+fn show_names(rt: &impl Print, answer: Result<Vec<String>, FileFault>) -> Result<()> {
     match answer {
         Ok(names) => {
             for name in &names {

@@ -7,7 +7,7 @@ use Rattle.std.proofs.lemmas.List.Elements.{filter-append, filter_map-append}
 use Rattle.std.proofs.lemmas.List.{map_more, append-nil}
 use Rattle.std.proofs.lemmas.Slice.Eq.{bytes_eq-Decides}
 use Rattle.sdf_document.specs.Document.{first_seen, actor_file}
-use Rattle.sdf_document.proofs.Names.{with_name}
+use Rattle.sdf_document.specs.Names.{with_name}
 use Rattle.sdf_document.specs.Actors.{actor_view}
 use Rattle.sdf_document.specs.declared.entry.ActorEntry.{ActorEntry}
 

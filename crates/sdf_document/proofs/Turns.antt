@@ -1,12 +1,8 @@
 -- Actors and links one after the other, as loops read them.
-use Rattle.std.specs.Prelude.{bytes_eq, string_eq}
-use Rattle.std.specs.List.{list_any}
 use Rattle.std.proofs.lemmas.List.{drop_all}
-use Rattle.indexmap.specs.IndexSet.{insert_key}
 use Rattle.toml.specs.Data.{Data}
-use Rattle.sdf_document.proofs.Names.{names_inserted}
-use Rattle.std.proofs.Common.{◌≡◌, ◌∙◌, false, map, String, string_bytes, Global, ◌<◌, ◌≤◌, ◌+◌, Ok, Err, Result, ℕ}
-use Rattle.std.proofs.Common.{List, [], ◌∷◌, ◌++◌, length, drop, get_or, ap, refl, sym, suc}
+use Rattle.std.proofs.Common.{◌≡◌, ◌∙◌, ◌<◌, ◌≤◌, ◌+◌, Ok, Err, Result, ℕ, List, [], ◌∷◌, ◌++◌, length, drop, get_or}
+use Rattle.std.proofs.Common.{ap, refl, sym, suc}
 use Rattle.toml.proofs.Views.{items_view-drop}
 use Rattle.toml.specs.View.{view, items_view}
 use Rattle.toml.specs.declared.value.Value.{Value}
@@ -44,12 +40,6 @@ module _ {E : Type 0} (one : ℕ → List E → Data → Result E Fault) where
   each_done vs a done total le so_far =
       let step : each_from one a done (items_view (drop a vs)) ≡ Ok done = rw (drop_all a vs le) refl in
       sym so_far ∙ step
-
--- a new name goes last
-pub names_pushed : (ks : List (String Global)) (k : String Global) (names : List (List ℕ)) (s : List ℕ) →
-    map string_bytes ks ≡ names → string_bytes k ≡ s
-    → list_any (bytes_eq s) names ≡ false → map string_bytes (insert_key string_eq ks k) ≡ names ++ s ∷ []
-names_pushed ks k names s same is fresh = names_inserted ks k ∙ rw (same, is, fresh) refl
 
 pub item_count_view : (vs : List Value) → item_count (items_view vs) ≡ length vs
 item_count_view [] = refl

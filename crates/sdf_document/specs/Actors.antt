@@ -1,10 +1,11 @@
 -- What an actor's table says, with the first test that it fails.
 use Rattle.std.specs.Prelude.{ℕ, Bool, List, [], ◌∷◌, codes, Option, Result, Ok, Err, bytes_eq, if◌then◌else◌}
-use Rattle.std.specs.Prelude.{string_bytes}
+use Rattle.std.specs.Prelude.{string_bytes, map}
 use Rattle.std.specs.List.{list_any}
 use Rattle.toml.specs.Data.{Data, Members, as_table}
 use Rattle.sdf_document.specs.declared.entry.ActorEntry.{ActorEntry}
 use Rattle.sdf_document.specs.declared.entry.KindEntry.{KindEntry}
+use Rattle.sdf_document.specs.declared.row.KindWord.{KindWord}
 use Rattle.sdf_document.specs.declared.key.KeyValue.TheVariants.{Natural, Optional}
 use Rattle.sdf_document.specs.Fault.{actor, Fault, wrong_type, bad_name, name_twice, ◌>>=◌, or_fault}
 use Rattle.sdf_document.specs.Tables.{known_keys}
@@ -24,6 +25,10 @@ pub record ActorValue : Type 0 where
 abbrev pub actor_view : ActorEntry → ActorValue
 actor_view a = record { name = string_bytes a.name; kind = a.kind; processor = a.processor; cost = a.cost }
 
+-- the names of actors, in their order
+abbrev pub names_in : List ActorValue → List (List ℕ)
+names_in es = map (λ (e : ActorValue). e.name) es
+
 -- an actor's values are within their limits: those of its kind, and those that every actor has
 abbrev pub IsActorWithin : Bool → ActorEntry → Type 0
 IsActorWithin looked a = IsWithin looked a.kind × HaveForms looked shared_keys
@@ -36,13 +41,17 @@ name_at a names ms = do
   named ← if is_name s then Ok s else Err (bad_name (actor a) (codes "name"))
   if list_any (bytes_eq s) names then Err (name_twice a) else Ok s
 
+-- actor a of a kind has no other keys than an actor of this kind may have
+abbrev pub keys_at : ℕ → KindWord → Members → Result (Unit {0}) Fault
+keys_at a word ms = known_keys (actor a) (actor_keys (row_of word).keys ms) ms
+
 -- actor a, after actors of these names
 unfoldable pub actor_at : ℕ → ℕ → Lookup → List (List ℕ) → Data → Result ActorValue Fault
 actor_at a format files names d = do
   ms ← or_fault (wrong_type (actor a) (codes "actor")) (as_table d)
   name ← name_at a names ms
   word ← word_at a format ms
-  known ← known_keys (actor a) (actor_keys (row_of word).keys ms) ms
+  known ← keys_at a word ms
   kind ← kind_at a files word ms
   shared ← values_at a files shared_keys ms
   Ok (record { name = name; kind = kind; processor = optional (first shared); cost = natural (second shared) })

@@ -13,13 +13,10 @@ use Rattle.sdf_document.specs.Lists.{Files, Lookup, unread, read}
 use Rattle.sdf_limits.specs.declared.TheConstants.{MOST_ACTORS, MOST_LINKS}
 use Rattle.sdf_document.specs.declared.entry.KindEntry.{KindEntry}
 use Rattle.sdf_document.specs.declared.entry.KindEntry.TheVariants.{Fir, Table}
-use Rattle.sdf_document.specs.Actors.{ActorValue, actor_view, actor_at}
+use Rattle.sdf_document.specs.Actors.{ActorValue, actor_view, names_in, actor_at}
 use Rattle.sdf_document.specs.Links.{LinkValue, link_view, link_at}
 
 -- ---- one after the other
-
-abbrev pub names_in : List ActorValue → List (List ℕ)
-names_in es = map (λ (e : ActorValue). e.name) es
 
 -- each item in turn, from number i on, after those done
 unfoldable pub each_from : {E : Type 0} → (ℕ → List E → Data → Result E Fault) → ℕ → List E → Items →

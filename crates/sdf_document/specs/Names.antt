@@ -1,13 +1,15 @@
 -- Names of actors and of coefficient files.
-use Rattle.std.specs.Prelude.{ℕ, ◌==◌, ◌&&◌, ◌||◌, not, Bool, List, length, nat_le, slice_index, map, String}
-use Rattle.std.specs.Prelude.{string_bytes}
-use Rattle.std.specs.List.{list_all}
+use Rattle.std.specs.Prelude.{ℕ, ◌==◌, ◌&&◌, ◌||◌, not, Bool, List, [], ◌∷◌, ◌++◌, length, nat_le, slice_index, map}
+use Rattle.std.specs.Prelude.{String, string_bytes, bytes_eq, if◌then◌else◌}
+use Rattle.std.specs.List.{list_all, list_any}
 use Rattle.std.specs.declared.alloc.Global.{Global}
-use Rattle.indexmap.specs.IndexSet.{IndexSet, keys}
 
--- the names in first-seen order
-abbrev pub names_of : {S : Type 0} → IndexSet (String Global) S → List (List ℕ)
-names_of s = map string_bytes (keys s)
+abbrev pub names_of : List (String Global) → List (List ℕ)
+names_of ss = map string_bytes ss
+
+-- a name put last, unless it is there
+abbrev pub with_name : List (List ℕ) → List ℕ → List (List ℕ)
+with_name names x = if list_any (bytes_eq x) names then names else names ++ x ∷ []
 
 -- A-Z a-z
 abbrev pub is_letter : ℕ → Bool

@@ -1,13 +1,12 @@
 //! Actors, from their tables.
-ghost use Rattle.std.specs.Prelude.{◌≡◌, IfOk, false, map, option_map, string_bytes, bytes_eq};
+ghost use Rattle.std.specs.Prelude.{◌≡◌, IfOk, map, option_map, string_bytes, bytes_eq};
 ghost use Rattle.std.specs.List.{list_any};
 ghost use Rattle.std.specs.Vec.Iter.{into_iter_items};
 ghost use Rattle.toml.specs.View.{table_view, view};
 ghost use Rattle.sdf_document.specs.Fault.{Gives};
-ghost use Rattle.sdf_document.specs.Names.{names_of};
 ghost use Rattle.sdf_document.specs.Lists.{lookup_of, are_read};
 ghost use Rattle.sdf_document.specs.Kinds.{first, rest, optional};
-ghost use Rattle.sdf_document.specs.Actors.{name_at, actor_at, actor_view, IsActorWithin};
+ghost use Rattle.sdf_document.specs.Actors.{name_at, names_in, keys_at, actor_at, actor_view, IsActorWithin};
 
 use crate::entry::ActorEntry;
 use crate::fault::{DocumentFault, Place, ReadFault, Spot};
@@ -15,31 +14,45 @@ use crate::file::Files;
 use crate::key::{KeyValue, actor_keys, values_at};
 use crate::kind::{kind_at, natural, optional, word_at};
 use crate::name::is_name;
-use crate::row::{row_of, shared_keys};
+use crate::row::{KindWord, row_of, shared_keys};
 use crate::table::test_keys;
 use crate::value::text_at;
-use indexmap::IndexSet;
 use std::alloc::Global;
 use std::vec;
 use toml::{Table, Value};
 
-#[tactic(auto, using(crate::proofs::Names::list_any_names), unfolding(crate::specs::Actors::name_at))]
-fn name_at<'a>(
-    actor: usize,
-    names: &IndexSet<String>,
-    table: &'a Table,
-) -> Result<&'a str, ReadFault>
-    ensures given { Gives (λ s. s.now) result (name_at actor (names_of names.now) (table_view table.now)) }
-    ensures fresh { IfOk result (λ s. list_any (bytes_eq s.now) (names_of names.now) ≡ false) }
+/// Whether one of the actors has a name.
+fn is_taken(actors: &[ActorEntry], name: &str) -> bool
+    ensures { result ≡ list_any (λ a. bytes_eq name.now (string_bytes a.name)) actors.now }
+{
+    actors.iter().any(|actor| name == actor.name.as_str())
+}
+
+#[tactic(auto, using(crate::proofs::Names::list_any_named), unfolding(crate::specs::Actors::name_at))]
+fn name_at<'a>(actor: usize, before: &[ActorEntry], table: &'a Table) -> Result<&'a str, ReadFault>
+    ensures { Gives (λ s. s.now) result (name_at actor (names_in (map actor_view before.now)) (table_view table.now)) }
 {
     let name = text_at(Place::Actor(actor), "name", table)?;
     if !is_name(name) {
         return Err(DocumentFault::BadName(Place::Actor(actor), "name").into());
     }
-    if names.contains(name) {
+    if is_taken(before, name) {
         return Err(DocumentFault::NameTwice(actor).into());
     }
     Ok(name)
+}
+
+/// Refuses the least key that an actor of a kind can't have.
+fn test_actor_keys(
+    alloc: Global,
+    actor: usize,
+    word: KindWord,
+    table: &Table,
+) -> Result<(), ReadFault>
+    ensures { Gives (λ x. x) result (keys_at actor word (table_view table.now)) }
+{
+    let known = actor_keys(alloc, row_of(word).keys, table)?;
+    test_keys(alloc, Spot::Actor(actor), known.as_slice(), table)
 }
 
 /// The next value as a processor, where it is there.
@@ -51,28 +64,26 @@ fn processor(values: &mut vec::IntoIter<KeyValue>) -> Option<usize>
     Some(number as usize)
 }
 
-/// The actor of a number, after those of the names.
+/// The actor of a number, after those before it.
 #[tactic(auto, unfolding(crate::specs::Actors::actor_at))]
 pub(crate) fn actor_at(
     alloc: Global,
     actor: usize,
     format: u32,
     files: Files<'_>,
-    names: &IndexSet<String>,
+    before: &[ActorEntry],
     value: &Value,
 ) -> Result<ActorEntry, ReadFault>
-    ensures given { Gives actor_view result (actor_at actor format (lookup_of files.entry) (names_of names.now)
-        (view value.now)) }
-    ensures fresh { IfOk result (λ a. list_any (bytes_eq (string_bytes a.name)) (names_of names.now) ≡ false) }
+    ensures given { Gives actor_view result (actor_at actor format (lookup_of files.entry)
+        (names_in (map actor_view before.now)) (view value.now)) }
     ensures within { IfOk result (IsActorWithin (are_read files.entry)) }
 {
     let Some(table) = value.as_table() else {
         return Err(DocumentFault::WrongType(Place::Actor(actor), "actor").into());
     };
-    let name = name_at(actor, names, table)?;
+    let name = name_at(actor, before, table)?;
     let word = word_at(actor, format, table)?;
-    let known = actor_keys(alloc, row_of(word).keys, table)?;
-    test_keys(alloc, Spot::Actor(actor), known.as_slice(), table)?;
+    test_actor_keys(alloc, actor, word, table)?;
     let kind = kind_at(alloc, actor, files, word, table)?;
     let mut shared = values_at(alloc, actor, files, shared_keys(), table)?.into_iter();
     Ok(ActorEntry {

@@ -4,12 +4,12 @@ ghost use Rattle.std.specs.Prelude.{string_bytes, bytes_eq, length, List};
 ghost use Rattle.std.specs.List.{All, list_any, filter_map};
 ghost use Rattle.toml.specs.View.{items_view, table_view, view};
 ghost use Rattle.sdf_document.specs.Fault.{Gives};
-ghost use Rattle.sdf_document.specs.Names.{names_of};
+ghost use Rattle.sdf_document.specs.Names.{names_of, with_name};
 ghost use Rattle.sdf_document.specs.Tables.{texts_of};
 ghost use Rattle.sdf_document.specs.Lists.{files_view, lookup_of, are_read};
-ghost use Rattle.sdf_document.specs.Actors.{actor_view, IsActorWithin};
+ghost use Rattle.sdf_document.specs.Actors.{actor_view, names_in, IsActorWithin};
 ghost use Rattle.sdf_document.specs.Links.{link_view};
-ghost use Rattle.sdf_document.specs.Document.{names_in, actors_in, links_in, array_at, item_count, top_keys, parts_at};
+ghost use Rattle.sdf_document.specs.Document.{actors_in, links_in, array_at, item_count, top_keys, parts_at};
 ghost use Rattle.sdf_document.specs.Document.{parts_view, document_view, document_of, kind_file, actor_file};
 ghost use Rattle.sdf_document.specs.Document.{first_seen, file_names_of};
 
@@ -20,7 +20,6 @@ use crate::file::Files;
 use crate::link::link_at;
 use crate::table::{format_at, table_in, test_keys};
 use crate::value::at;
-use indexmap::IndexSet;
 use sdf_limits::{MOST_ACTORS, MOST_LINKS};
 use std::alloc::{AllocError, Global};
 use toml::{Table, Value};
@@ -30,32 +29,30 @@ fn actors_in(
     format: u32,
     files: Files<'_>,
     items: &[Value],
-) -> Result<(Vec<ActorEntry>, IndexSet<String>), ReadFault>
-    ensures given { Gives (λ x. map actor_view x.0.items) result
+) -> Result<Vec<ActorEntry>, ReadFault>
+    ensures given { Gives (λ v. map actor_view v.items) result
         (actors_in format (lookup_of files.entry) (items_view items.now)) }
-    ensures named { IfOk result (λ x. names_of x.1 ≡ names_in (map actor_view x.0.items)) }
-    ensures within { IfOk result (λ x. All (IsActorWithin (are_read files.entry)) x.0.items) }
+    ensures within { IfOk result (λ v. All (IsActorWithin (are_read files.entry)) v.items) }
 {
     let mut actors = Vec::new(alloc);
-    let mut names = IndexSet::new(alloc);
     for (number, value) in items.iter().enumerate() {
-        let actor = actor_at(alloc, number, format, files, &names, value)?;
-        names.insert(actor.name.clone()?)?;
+        let actor = actor_at(alloc, number, format, files, &actors, value)?;
         actors.push(actor)?;
     }
-    Ok((actors, names))
+    Ok(actors)
 }
 
 fn links_in(
     alloc: Global,
-    names: &IndexSet<String>,
+    actors: &[ActorEntry],
     items: &[Value],
 ) -> Result<Vec<LinkEntry>, ReadFault>
-    ensures { Gives (λ v. map link_view v.items) result (links_in (names_of names.now) (items_view items.now)) }
+    ensures { Gives (λ v. map link_view v.items) result
+        (links_in (names_in (map actor_view actors.now)) (items_view items.now)) }
 {
     let mut links = Vec::new(alloc);
     for (number, value) in items.iter().enumerate() {
-        let link = link_at(alloc, number, names, value)?;
+        let link = link_at(alloc, number, actors, value)?;
         links.push(link)?;
     }
     Ok(links)
@@ -125,8 +122,8 @@ pub fn read_document(
 {
     let table = table_in(alloc, Spot::Top, graph)?;
     let parts = parts_at(alloc, &table)?;
-    let (actors, names) = actors_in(alloc, parts.format, Files::Given(files), parts.actors)?;
-    let links = links_in(alloc, &names, parts.links)?;
+    let actors = actors_in(alloc, parts.format, Files::Given(files), parts.actors)?;
+    let links = links_in(alloc, &actors, parts.links)?;
     Ok(Document { actors, links })
 }
 
@@ -145,15 +142,33 @@ fn file_of(kind: &KindEntry) -> Option<&str>
     }
 }
 
-/// The coefficient files that actors name.
-#[tactic(auto, using(crate::proofs::FirstSeen::wanted_more, crate::proofs::FirstSeen::wanted_same, crate::proofs::Names::names_inserted))]
-fn names_wanted(alloc: Global, actors: &[ActorEntry]) -> Result<IndexSet<String>, AllocError>
-    ensures { IfOk result (λ names. names_of names ≡ first_seen (filter_map actor_file (map actor_view actors.now))) }
+/// Whether a name is among names.
+fn is_among(names: &[String], name: &str) -> bool
+    ensures { result ≡ list_any (λ s. bytes_eq name.now (string_bytes s)) names.now }
 {
-    let mut names = IndexSet::new(alloc);
+    names.iter().any(|known| name == known.as_str())
+}
+
+/// Puts a name last, unless it is there.
+#[tactic(auto, using(crate::proofs::Names::name_put, crate::proofs::Names::name_there))]
+fn put_name(alloc: Global, names: &mut Vec<String>, name: &str) -> Result<(), AllocError>
+    ensures { OnOk result (names_of names.new.items ≡ with_name (names_of names.old.items) name.now) }
+{
+    if !is_among(names, name) {
+        names.push(String::from_str(alloc, name)?)?;
+    }
+    Ok(())
+}
+
+/// The coefficient files that actors name.
+#[tactic(auto, using(crate::proofs::FirstSeen::wanted_more, crate::proofs::FirstSeen::wanted_same))]
+fn names_wanted(alloc: Global, actors: &[ActorEntry]) -> Result<Vec<String>, AllocError>
+    ensures { IfOk result (λ v. names_of v.items ≡ first_seen (filter_map actor_file (map actor_view actors.now))) }
+{
+    let mut names = Vec::new(alloc);
     for actor in actors {
         if let Some(name) = file_of(&actor.kind) {
-            names.insert(String::from_str(alloc, name)?)?;
+            put_name(alloc, &mut names, name)?;
         }
     }
     Ok(names)
@@ -162,11 +177,11 @@ fn names_wanted(alloc: Global, actors: &[ActorEntry]) -> Result<IndexSet<String>
 /// The coefficient files that a graph file names, each once, where it stands first, or the first test that it fails
 /// of those that need no such file: all but those of the links.
 #[tactic(auto, unfolding(crate::specs::Document::file_names_of))]
-pub fn file_names(alloc: Global, graph: &[u8]) -> Result<IndexSet<String>, ReadFault>
-    ensures { Gives names_of result (file_names_of graph.now) }
+pub fn file_names(alloc: Global, graph: &[u8]) -> Result<Vec<String>, ReadFault>
+    ensures { Gives (λ v. names_of v.items) result (file_names_of graph.now) }
 {
     let table = table_in(alloc, Spot::Top, graph)?;
     let parts = parts_at(alloc, &table)?;
-    let (actors, _) = actors_in(alloc, parts.format, Files::Unread, parts.actors)?;
+    let actors = actors_in(alloc, parts.format, Files::Unread, parts.actors)?;
     Ok(names_wanted(alloc, actors.as_slice())?)
 }

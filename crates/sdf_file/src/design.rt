@@ -13,7 +13,6 @@ ghost use Rattle.sdf_file.specs.Designs.{IsNamesFault};
 
 use crate::fault::FileFault;
 use crate::parts::{links_of, parts_of};
-use indexmap::IndexSet;
 use sdf_actor::Net;
 use sdf_document::{Document, file_names, read_document};
 use sdf_kit::Kit;
@@ -60,16 +59,8 @@ impl Design {
         &self.net
     }
 
-    /// The name of an actor.
-    pub fn name(&self, actor: usize) -> &str
-        requires { actor < length self.now.net.nodes }
-        ensures { result.now ≡ slice_index_or self.now.names actor [] }
-    {
-        self.names[actor].as_str()
-    }
-
     /// The name of an actor, or no letters where there is no such actor.
-    pub(crate) fn name_of(&self, actor: usize) -> &str
+    pub fn name(&self, actor: usize) -> &str
         ensures { result.now ≡ slice_index_or self.now.names actor [] }
     {
         match self.names.get(actor) {
@@ -106,8 +97,8 @@ impl Design {
 
 /// The coefficient files that a graph file names, each once, where it stands first; or the first test that it fails of
 /// those that look into no coefficient file, all but those of the links and of the net.
-pub fn design_files(alloc: Global, graph: &[u8]) -> Result<IndexSet<String>, FileFault>
-    ensures { MatchResult result (λ names. AreFileNames graph.now (names_of names)) (IsNamesFault graph.now) }
+pub fn design_files(alloc: Global, graph: &[u8]) -> Result<Vec<String>, FileFault>
+    ensures { MatchResult result (λ v. AreFileNames graph.now (names_of v.items)) (IsNamesFault graph.now) }
 {
     Ok(file_names(alloc, graph)?)
 }

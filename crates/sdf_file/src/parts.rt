@@ -2,6 +2,8 @@
 ghost use Rattle.std.specs.Prelude.{◌≡◌, ◌≤◌, ◌+◌, ◌++◌, ◌∷◌, [], true, length, IsTrue, map, Ok, IfOk, OnOk};
 ghost use Rattle.std.specs.Prelude.{string_bytes};
 ghost use Rattle.std.specs.List.{All};
+ghost use Rattle.std.specs.Result.{result_map_both};
+ghost use Rattle.sdf_actor.specs.declared.node.Node.TheVariants.{Inner};
 ghost use Rattle.sdf_document.specs.declared.row.Width.TheVariants as width;
 ghost use Rattle.sdf_limits.specs.declared.TheConstants.{MOST_CHANNEL, MOST_FACTOR, MOST_SHIFT, MOST_TAPS};
 ghost use Rattle.sdf_document.specs.Lists.{is_list};
@@ -38,6 +40,16 @@ fn filter_of(up: u32, down: u32, shift: u32, taps: Vec<i32>) -> Result<Kit, KitF
     Kit::fir(up, down, taps, shift)
 }
 
+/// A kit as an inner node.
+fn inner(kit: Result<Kit, KitFault>) -> Result<Node<Kit>, KitFault>
+    ensures { result ≡ result_map_both Inner (λ e. e) kit }
+{
+    match kit {
+        Ok(kit) => Ok(Node::Inner(kit)),
+        Err(fault) => Err(fault),
+    }
+}
+
 /// A kind whose values are within their limits: no test of the kit fails.
 fn tested_node(kind: KindEntry) -> Result<Node<Kit>, KitFault>
     requires { IsWithin true kind }
@@ -57,20 +69,18 @@ fn tested_node(kind: KindEntry) -> Result<Node<Kit>, KitFault>
             down,
             shift,
             taps,
-        } => Ok(Node::Inner(filter_of(up, down, shift, moved(taps))?)),
-        KindEntry::Decimate { factor } => Ok(Node::Inner(Kit::decimate(factor)?)),
-        KindEntry::Interpolate { factor } => Ok(Node::Inner(Kit::interpolate(factor)?)),
-        KindEntry::Add { ways } => Ok(Node::Inner(Kit::add(ways as usize)?)),
-        KindEntry::Fork { ways } => Ok(Node::Inner(Kit::fork(ways as usize)?)),
-        KindEntry::Gain { gain, shift } => Ok(Node::Inner(Kit::gain(gain, shift)?)),
-        KindEntry::Delay { length } => Ok(Node::Inner(Kit::delay(length as usize)?)),
-        KindEntry::Table { offset, values } => {
-            Ok(Node::Inner(Kit::table(offset, moved(values))?))
-        }
-        KindEntry::Deal { ways, run } => Ok(Node::Inner(Kit::deal(ways as usize, run)?)),
-        KindEntry::Gather { ways, run } => Ok(Node::Inner(Kit::gather(ways as usize, run)?)),
-        KindEntry::Clip { least, greatest } => Ok(Node::Inner(Kit::clip(least, greatest)?)),
-        KindEntry::Offset { value } => Ok(Node::Inner(Kit::offset(value)?)),
+        } => inner(filter_of(up, down, shift, moved(taps))),
+        KindEntry::Decimate { factor } => inner(Kit::decimate(factor)),
+        KindEntry::Interpolate { factor } => inner(Kit::interpolate(factor)),
+        KindEntry::Add { ways } => inner(Kit::add(ways as usize)),
+        KindEntry::Fork { ways } => inner(Kit::fork(ways as usize)),
+        KindEntry::Gain { gain, shift } => inner(Kit::gain(gain, shift)),
+        KindEntry::Delay { length } => inner(Kit::delay(length as usize)),
+        KindEntry::Table { offset, values } => inner(Kit::table(offset, moved(values))),
+        KindEntry::Deal { ways, run } => inner(Kit::deal(ways as usize, run)),
+        KindEntry::Gather { ways, run } => inner(Kit::gather(ways as usize, run)),
+        KindEntry::Clip { least, greatest } => inner(Kit::clip(least, greatest)),
+        KindEntry::Offset { value } => inner(Kit::offset(value)),
     }
 }
 

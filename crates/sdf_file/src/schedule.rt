@@ -39,7 +39,7 @@ fn push_stretch(
     ensures { OnOk result (string_bytes text.new ≡
         string_bytes text.old ++ codes " " ++ stretch_text design.now (record { actor = actor; firings = firings })) }
 {
-    let name = design.name_of(actor);
+    let name = design.name(actor);
     if firings == 1 {
         write!(text, " {name}")?;
     } else {
@@ -75,7 +75,7 @@ fn push_cell(text: &mut String, design: &Design, cell: Option<Firing>) -> Result
 {
     match cell {
         Some(Firing { actor, number }) => {
-            let name = design.name_of(actor);
+            let name = design.name(actor);
             write!(text, " {name}.{number}")?;
         }
         None => text.push_str(" -")?,
@@ -120,7 +120,7 @@ fn push_end(text: &mut String, design: &Design, end: (usize, usize)) -> Result<(
     ensures { OnOk result (string_bytes text.new ≡ string_bytes text.old ++ end_text design.now end) }
 {
     let (actor, port) = end;
-    let name = design.name_of(actor);
+    let name = design.name(actor);
     write!(text, "{name}:{port}")?;
     Ok(())
 }

@@ -7,7 +7,6 @@ ghost use Rattle.sdf_graph.specs.Rates.{rates};
 ghost use Rattle.sdf_graph.specs.Periods.{IsLeastPeriod};
 ghost use Rattle.sdf_actor.specs.Graphs.{graph_of};
 ghost use Rattle.sdf_kit.specs.Kit.{kit_steps};
-ghost use Rattle.sdf_file.specs.Schedules.{name_of};
 ghost use Rattle.sdf_json.specs.Values.{with, each_to};
 ghost use Rattle.sdf_json.specs.Designs.{actor_value, end_value, ends_of, link_value, check_value, IsCheckJson};
 
@@ -16,17 +15,6 @@ use sdf_file::Design;
 use sdf_graph::Repetitions;
 use serde_json::{Map, Value, put};
 use std::alloc::{AllocError, Global};
-
-/// The name of an actor, or no letters where there is no such actor.
-pub(crate) fn name_of(design: &Design, actor: usize) -> &str
-    ensures { result.now ≡ name_of design.now actor }
-{
-    if actor < design.net().len() {
-        design.name(actor)
-    } else {
-        ""
-    }
-}
 
 fn actor_value(
     alloc: Global,
@@ -38,7 +26,7 @@ fn actor_value(
     ensures { IfOk result (λ v. view v ≡ actor_value design.now repetitions.now actor) }
 {
     let mut members = Map::new(alloc);
-    put_text(&mut members, alloc, "name", name_of(design, actor))?;
+    put_text(&mut members, alloc, "name", design.name(actor))?;
     put_number(
         &mut members,
         alloc,
@@ -70,7 +58,7 @@ fn end_value(alloc: Global, design: &Design, end: (usize, usize)) -> Result<Valu
 {
     let (actor, port) = end;
     let mut members = Map::new(alloc);
-    put_text(&mut members, alloc, "actor", name_of(design, actor))?;
+    put_text(&mut members, alloc, "actor", design.name(actor))?;
     put_number(&mut members, alloc, "port", port as u64)?;
     Ok(Value::Object(members))
 }

@@ -6,7 +6,7 @@ ghost use Rattle.sdf_file.specs.Schedules.{stretches};
 ghost use Rattle.sdf_json.specs.Values.{each_to};
 ghost use Rattle.sdf_json.specs.Tables.{stretch_value, cell_value, row_value, homed_value, capacity_value};
 
-use crate::designs::{ends_of, name_of};
+use crate::designs::ends_of;
 use crate::values::{perhaps, put_number, put_text};
 use sdf_file::{Design, stretch_at};
 use sdf_prec::{Firing, Table};
@@ -23,7 +23,7 @@ fn stretch_value(
     ensures { IfOk result (λ v. view v ≡ stretch_value design.now (record { actor = actor; firings = firings })) }
 {
     let mut members = Map::new(alloc);
-    put_text(&mut members, alloc, "actor", name_of(design, actor))?;
+    put_text(&mut members, alloc, "actor", design.name(actor))?;
     put_number(&mut members, alloc, "firings", firings as u64)?;
     Ok(Value::Object(members))
 }
@@ -53,7 +53,7 @@ fn cell_value(alloc: Global, design: &Design, cell: Option<Firing>) -> Result<Va
         return Ok(Value::Null);
     };
     let mut members = Map::new(alloc);
-    put_text(&mut members, alloc, "actor", name_of(design, actor))?;
+    put_text(&mut members, alloc, "actor", design.name(actor))?;
     put_number(&mut members, alloc, "firing", u64::from(number))?;
     Ok(Value::Object(members))
 }
@@ -93,7 +93,7 @@ fn homed_value(
 {
     let firings = period.repetitions()[actor];
     let mut members = Map::new(alloc);
-    put_text(&mut members, alloc, "name", name_of(design, actor))?;
+    put_text(&mut members, alloc, "name", design.name(actor))?;
     put_number(&mut members, alloc, "firings", u64::from(firings))?;
     put(&mut members, alloc, "worker", perhaps(table.home(actor)))?;
     Ok(Value::Object(members))

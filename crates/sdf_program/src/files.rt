@@ -5,7 +5,6 @@ ghost use Rattle.std.specs.IoError.{error_kind};
 ghost use Rattle.sdf_process.specs.declared.fault.Fault.TheVariants.{OutOfMemory};
 
 use crate::storage::Storage;
-use indexmap::IndexSet;
 use sdf_file::{Design, design_files, read_design};
 use sdf_process::Fault;
 use sdf_why::Header;
@@ -122,7 +121,7 @@ fn read_files<S: Storage>(
     alloc: Global,
     storage: &S,
     graph: &str,
-    names: IndexSet<String>,
+    names: Vec<String>,
     most: u32,
     refused: &mut Vec<Refused>,
 ) -> Result<Vec<(String, Vec<u8>)>, Fault> {
