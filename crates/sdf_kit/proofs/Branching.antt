@@ -72,31 +72,31 @@ total_abs_more (x ∷ xs) (suc i) l =
 
 -- so many lanes hold each branch, and so many places all branches
 pub record Fits (kept up width : ℕ) : Type 0 where
-  pub lanes : width % 8 ≡ 0
+  pub lanes : width % 16 ≡ 0
   pub more : kept < width
   pub few : width ≤ 1024
-  pub room : up * width ≤ 1536
+  pub room : up * width ≤ 2048
 
 pub width_fits : (len up : ℕ) → 1 ≤ len → len ≤ 1024 → 1 ≤ up → up ≤ 64 →
-    Fits ((len - 1) / up) up (((len - 1) / up + 8) / 8 * 8)
+    Fits ((len - 1) / up) up (((len - 1) / up + 16) / 16 * 16)
 width_fits len up some few up_some up_few =
     let kept : ℕ = (len - 1) / up in
     let back : kept * up + (len - 1) % up ≡ len - 1 = div-add-mod' (len - 1) up in
     let least : kept * 1 ≤ kept * up = mul-le-mul_left kept up_some in
-    let width : ℕ = (kept + 8) / 8 * 8 in
-    let wide : width ≤ kept + 8 = omega arith in
+    let width : ℕ = (kept + 16) / 16 * 16 in
+    let wide : width ≤ kept + 16 = omega arith in
     let turned : up * width ≡ width * up = mul_comm up width in
-    let most : width * up ≤ (kept + 8) * up = mul-le-mul_right up wide in
-    let parts : (kept + 8) * up ≡ kept * up + 8 * up = add-mul kept 8 up in
+    let most : width * up ≤ (kept + 16) * up = mul-le-mul_right up wide in
+    let parts : (kept + 16) * up ≡ kept * up + 16 * up = add-mul kept 16 up in
     record { lanes = omega arith; more = omega arith; few = omega arith; room = omega arith }
 
 pub branches_are : (taps table : List ℤ) (up width peak gain : ℕ) → AreTaps taps →
-    Fits ((length taps - 1) / up) up width → table ≡ map (place_tap taps up width) (range_with_len 0 1536) →
+    Fits ((length taps - 1) / up) up width → table ≡ map (place_tap taps up width) (range_with_len 0 2048) →
     ((p : ℕ) → p < up → total_abs (take width (drop (p * width) table)) ≤ gain) → gain * peak ≤ 2147467263 →
     peak ≤ 32767 →
     AreBranches taps up (record { table = table; width = width; peak = peak })
 branches_are taps table up width peak gain are fits is greatest quiet small =
-    let long : length table ≡ 1536 = ap length is ∙ length-map-range_with_len (place_tap taps up width) 0 1536 in
+    let long : length table ≡ 2048 = ap length is ∙ length-map-range_with_len (place_tap taps up width) 0 2048 in
     record {
       quiet = record {
         lanes = fits.lanes;
@@ -115,7 +115,7 @@ branches_are taps table up width peak gain are fits is greatest quiet small =
     slice : (p : ℕ) → p < up → take width (drop (p * width) table) ≡ branch taps up p width
     slice p l =
         let row : p * width + width ≤ up * width = row_fits p width up width l (omega arith) in
-        ap (λ xs. take width (drop (p * width) xs)) is ∙ slice_is taps up width p 1536 (omega (arith, row, fits.room))
+        ap (λ xs. take width (drop (p * width) xs)) is ∙ slice_is taps up width p 2048 (omega (arith, row, fits.room))
 
 pub length-branch_at : (up : ℕ) (b : Branches) (p : ℕ) → AreQuiet up b → p < up → length (branch_at b p) ≡ b.width
 length-branch_at up b p q l =

@@ -5,13 +5,13 @@ use Rattle.std.specs.Int.{Width, w16}
 use Rattle.std.proofs.lemmas.Int.{ints, to_z-of_z, int_wrap-add_left, int_wrap-add_right, int_wrap-add_same}
 use Rattle.std.proofs.lemmas.Int.{SFits-int_wrap}
 use Rattle.std.proofs.lemmas.Simd.{length-zip2}
-use Rattle.std.proofs.lemmas.List.{length-append}
+use Rattle.std.proofs.lemmas.List.{length-append, length-take-le, length-drop}
 use Rattle.std.specs.Simd.Lanes.{zip2, Each1}
 use Rattle.sdf_kit.specs.Dots.{wrap, neighbours, AreLanes, total, dot}
 
 -- sums of 32 bits that come to the dot product of the first n
 pub record IsDot (h x : List ℤ) (n : ℕ) (sums : List ℤ) : Type 0 where
-  pub lanes : AreLanes w32 4 sums
+  pub lanes : AreLanes w32 8 sums
   pub value : wrap (total sums) ≡ wrap (dot (take n h) (take n x))
 
 -- what a call passes
@@ -70,7 +70,7 @@ total_products [] x = refl
 total_products (h ∷ hs) [] = refl
 total_products (h ∷ hs) (x ∷ xs) = ap (λ z. (h *ℤ x) +ℤ z) (total_products hs xs)
 
--- the first n, and the next eight
+-- the first n, and the next m
 pub dot_more : (n m : ℕ) (h x : List ℤ) → dot (take (n + m) h) (take (n + m) x) ≡
     dot (take n h) (take n x) +ℤ dot (take m (drop n h)) (take m (drop n x))
 dot_more zero m h x =
@@ -98,35 +98,35 @@ dot_more (suc n) m (h ∷ hs) (x ∷ xs) =
     dot (take n hs) (take n xs) +ℤ dot (take m (drop n hs)) (take m (drop n xs)) = dot_more n m hs xs in
     rw e (omega (arith, ints))
 
-pub step : (h x sums more : List ℤ) (n : ℕ) → IsDot h x n sums → AreLanes w32 4 more →
-    wrap (total more) ≡ wrap (total sums +ℤ dot (take 8 (drop n h)) (take 8 (drop n x))) → IsDot h x (n + 8) more
+pub step : (h x sums more : List ℤ) (n : ℕ) → IsDot h x n sums → AreLanes w32 8 more →
+    wrap (total more) ≡ wrap (total sums +ℤ dot (take 16 (drop n h)) (take 16 (drop n x))) → IsDot h x (n + 16) more
 step h x sums more n is lanes e =
-    let next : ℤ = dot (take 8 (drop n h)) (take 8 (drop n x)) in
+    let next : ℤ = dot (take 16 (drop n h)) (take 16 (drop n x)) in
     let same : wrap (total sums +ℤ next) ≡ wrap (dot (take n h) (take n x) +ℤ next) =
     int_wrap-add_same w32 (total sums) (dot (take n h) (take n x)) next is.value in
-    record { lanes = lanes; value = e ∙ (same ∙ ap wrap (sym (dot_more n 8 h x))) }
+    record { lanes = lanes; value = e ∙ (same ∙ ap wrap (sym (dot_more n 16 h x))) }
 
 -- what `products` gives
-pub made : (h x p : List ℤ) → AreLanes w16 8 h → AreLanes w16 8 x →
+pub made : (h x p : List ℤ) → AreLanes w16 16 h → AreLanes w16 16 x →
     p ≡ neighbours (zip2 (λ a b. a *ℤ b) (map (to_z w16) (map (of_z w16) h)) (map (to_z w16) (map (of_z w16) x))) →
-    AreLanes w32 4 p × (wrap (total p) ≡ wrap (dot h x))
+    AreLanes w32 8 p × (wrap (total p) ≡ wrap (dot h x))
 made h x p lh lx e =
     let is : p ≡ neighbours (zip2 (λ a b. a *ℤ b) h x) = rw (same_lanes w16 h lh.fits, same_lanes w16 x lx.fits) at e in
-    let long : length (zip2 (λ a b. a *ℤ b) h x) ≡ 4 + 4 =
+    let long : length (zip2 (λ a b. a *ℤ b) h x) ≡ 8 + 8 =
     length-zip2 (λ a b. a *ℤ b) h x (lh.many ∙ sym lx.many) ∙ lh.many in (
-      rw is (lanes_neighbours 4 (zip2 (λ a b. a *ℤ b) h x) long),
-      ap (λ z. wrap (total z)) is ∙ (total_neighbours 4 (zip2 (λ a b. a *ℤ b) h x) long ∙ ap wrap (total_products h x)),
+      rw is (lanes_neighbours 8 (zip2 (λ a b. a *ℤ b) h x) long),
+      ap (λ z. wrap (total z)) is ∙ (total_neighbours 8 (zip2 (λ a b. a *ℤ b) h x) long ∙ ap wrap (total_products h x)),
     )
 
 -- what `plus` gives
-pub joined : (sums p r : List ℤ) (z : ℤ) → AreLanes w32 4 sums → AreLanes w32 4 p → wrap (total p) ≡ wrap z →
+pub joined : (sums p r : List ℤ) (z : ℤ) → AreLanes w32 8 sums → AreLanes w32 8 p → wrap (total p) ≡ wrap z →
     r ≡ zip2 (λ x y. wrap (x +ℤ y)) (map (to_z w32) (map (of_z w32) sums)) (map (to_z w32) (map (of_z w32) p)) →
-    AreLanes w32 4 r × (wrap (total r) ≡ wrap (total sums +ℤ z))
+    AreLanes w32 8 r × (wrap (total r) ≡ wrap (total sums +ℤ z))
 joined sums p r z ls lp same e =
     let is : r ≡ zip2 (λ x y. wrap (x +ℤ y)) sums p = rw (same_lanes w32 sums ls.fits, same_lanes w32 p lp.fits) at e in
     let turned : total sums +ℤ total p ≡ total p +ℤ total sums = omega (arith, ints) in
     let back : z +ℤ total sums ≡ total sums +ℤ z = omega (arith, ints) in (
-      rw is (lanes_plus 4 sums p ls.many lp.many),
+      rw is (lanes_plus 8 sums p ls.many lp.many),
       ap (λ z. wrap (total z)) is ∙ (total_plus sums p (ls.many ∙ sym lp.many)
           ∙ (ap wrap turned ∙ (int_wrap-add_same w32 (total p) z (total sums) same ∙ ap wrap back))),
     )
@@ -148,6 +148,26 @@ one (a ∷ []) e = absurd (omega (arith, e))
 one (a ∷ b ∷ []) e = absurd (omega (arith, e))
 one (a ∷ b ∷ c ∷ []) e = absurd (omega (arith, e))
 one (a ∷ b ∷ c ∷ d ∷ f ∷ rest) e = absurd (omega (arith, e))
+
+total_halves : (n : ℕ) (xs : List ℤ) → total (take n xs) +ℤ total (drop n xs) ≡ total xs
+total_halves zero xs = omega (arith, ints)
+total_halves (suc n) [] = refl
+total_halves (suc n) (x ∷ xs) =
+    let ih : total (take n xs) +ℤ total (drop n xs) ≡ total xs = total_halves n xs in
+    rw (sym ih) (omega (arith, ints))
+
+-- what `folded` gives
+pub folded : (a r : List ℤ) → AreLanes w32 8 a →
+    r ≡ zip2 (λ x y. wrap (x +ℤ y)) (take 4 (map (to_z w32) (map (of_z w32) a)))
+    (drop 4 (map (to_z w32) (map (of_z w32) a))) →
+    AreLanes w32 4 r × (wrap (total r) ≡ wrap (total a))
+folded a r l e =
+    let is : r ≡ zip2 (λ x y. wrap (x +ℤ y)) (take 4 a) (drop 4 a) = rw (same_lanes w32 a l.fits) at e in
+    let low : length (take 4 a) ≡ 4 = length-take-le 4 a (rw l.many (omega arith)) in
+    let high : length (drop 4 a) ≡ 4 = length-drop 4 a ∙ rw l.many refl in (
+      rw is (lanes_plus 4 (take 4 a) (drop 4 a) low high),
+      ap (λ z. wrap (total z)) is ∙ (total_plus (take 4 a) (drop 4 a) (low ∙ sym high) ∙ ap wrap (total_halves 4 a)),
+    )
 
 -- what `pairs` gives
 pub paired : (a b p : List ℤ) → AreLanes w32 4 a → AreLanes w32 4 b →
@@ -186,7 +206,8 @@ four_totals a b c d p q r la lb lc ld lr ep eq er =
     ) refl))
 
 -- before the first chunk
-pub nothing : (h x : List ℤ) → IsDot h x 0 (pos 0 ∷ pos 0 ∷ pos 0 ∷ pos 0 ∷ [])
+pub nothing : (h x : List ℤ) →
+    IsDot h x 0 (pos 0 ∷ pos 0 ∷ pos 0 ∷ pos 0 ∷ pos 0 ∷ pos 0 ∷ pos 0 ∷ pos 0 ∷ [])
 nothing h x =
     let zero_fits : FitsSigned w32 (pos 0) = record { sfits = omega arith } in
     record {
@@ -194,25 +215,29 @@ nothing h x =
         many = refl;
         fits = (
           zero_fits,
-          (zero_fits, (zero_fits, (zero_fits, tt))),
+          (
+            zero_fits,
+            (zero_fits, (zero_fits, (zero_fits, (zero_fits, (zero_fits, (zero_fits, tt)))))),
+          ),
         );
       };
       value = refl;
     }
 
 -- one chunk more
-pub next : (h x a hs xs r : List ℤ) (k : ℕ) → IsDot h x (8 * k) a → AreLanes w16 8 hs → hs ≡ take 8 (drop (8 * k) h) →
-    AreLanes w16 8 xs → xs ≡ take 8 (drop (8 * k) x) →
-    AreLanes w32 4 r → wrap (total r) ≡ wrap (total a +ℤ dot (map (to_z w16) (map (of_z w16) hs))
+pub next : (h x a hs xs r : List ℤ) (k : ℕ) → IsDot h x (16 * k) a → AreLanes w16 16 hs →
+    hs ≡ take 16 (drop (16 * k) h) →
+    AreLanes w16 16 xs → xs ≡ take 16 (drop (16 * k) x) →
+    AreLanes w32 8 r → wrap (total r) ≡ wrap (total a +ℤ dot (map (to_z w16) (map (of_z w16) hs))
     (map (to_z w16) (map (of_z w16) xs))) →
-    IsDot h x (8 * (k + 1)) (map (to_z w32) (map (of_z w32) r))
+    IsDot h x (16 * (k + 1)) (map (to_z w32) (map (of_z w32) r))
 next h x a hs xs r k is lh eh lx ex lr e =
-    let place : 8 * (k + 1) ≡ 8 * k + 8 = omega arith in
-    let taps : map (to_z w16) (map (of_z w16) hs) ≡ take 8 (drop (8 * k) h) = same_lanes w16 hs lh.fits ∙ eh in
-    let samples : map (to_z w16) (map (of_z w16) xs) ≡ take 8 (drop (8 * k) x) = same_lanes w16 xs lx.fits ∙ ex in
-    let here : wrap (total r) ≡ wrap (total a +ℤ dot (take 8 (drop (8 * k) h)) (take 8 (drop (8 * k) x))) =
+    let place : 16 * (k + 1) ≡ 16 * k + 16 = omega arith in
+    let taps : map (to_z w16) (map (of_z w16) hs) ≡ take 16 (drop (16 * k) h) = same_lanes w16 hs lh.fits ∙ eh in
+    let samples : map (to_z w16) (map (of_z w16) xs) ≡ take 16 (drop (16 * k) x) = same_lanes w16 xs lx.fits ∙ ex in
+    let here : wrap (total r) ≡ wrap (total a +ℤ dot (take 16 (drop (16 * k) h)) (take 16 (drop (16 * k) x))) =
     rw (taps, samples) at e in
-    rw (place, same_lanes w32 r lr.fits) (step h x a r (8 * k) is lr here)
+    rw (place, same_lanes w32 r lr.fits) (step h x a r (16 * k) is lr here)
 
 -- all chunks
 pub whole_dot : (h x a : List ℤ) (n : ℕ) → IsDot h x n a → length h ≤ n → length x ≡ length h →

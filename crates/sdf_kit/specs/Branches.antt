@@ -22,7 +22,7 @@ branch_at b p = take b.width (drop (p * b.width) b.table)
 -- so many branches that vectors of eight can be used on, and that stay within 32 bits on samples within the peak, also
 -- where half of 2^15 is added to round
 pub record AreQuiet (up : ℕ) (b : Branches) : Type 0 where
-  pub lanes : b.width % 8 ≡ 0
+  pub lanes : b.width % 16 ≡ 0
   pub some : 1 ≤ b.width
   pub few : b.width ≤ 1024
   pub room : up * b.width ≤ length b.table

@@ -8,9 +8,9 @@ ghost use Rattle.sdf_kit.specs.Dots.{total_abs};
 ghost use Rattle.sdf_kit.specs.Branches.{AreBranches, branch_at};
 
 /// Places of a table: the taps of a filter, and fewer than eight zeros for each branch.
-pub(crate) const PLACES: usize = 1536;
+pub(crate) const PLACES: usize = 2048;
 
-/// The taps of each phase, the last one first, after zeros that make them a multiple of eight.
+/// The taps of each phase, the last one first, after zeros that make them a multiple of sixteen.
 #[derive(Drop)]
 pub(crate) struct Branches {
     pub(crate) table: [i16; PLACES],
@@ -29,7 +29,7 @@ impl Branches {
         requires few { up ≤ 64 }
         ensures { AreBranches taps.now up result }
     {
-        let width = ((taps.len() - 1) / up as usize + 8) / 8 * 8;
+        let width = ((taps.len() - 1) / up as usize + 16) / 16 * 16;
         let table = table_of(taps, up, width);
         let peak = peak_of(gain(&table, up, width));
         Branches { table, width, peak }
@@ -53,7 +53,7 @@ fn table_of(taps: &[i32], up: u32, width: usize) -> [i16; PLACES]
     requires some { 1 ≤ width }
     requires few { width ≤ 1024 }
     ensures { result ≡ map (λ place. sample taps.now (place / width + (width - 1 - place % width) * up))
-        (range_with_len 0 1536) }
+        (range_with_len 0 2048) }
 {
     let mut table = [0; PLACES];
     for place in 0..PLACES {

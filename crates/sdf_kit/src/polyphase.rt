@@ -49,7 +49,7 @@ fn put_branch(
     firings: Firings,
     put: &mut [i32],
 )
-    requires lanes { length branch.now % 8 ≡ 0 }
+    requires lanes { length branch.now % 16 ≡ 0 }
     requires short { Each1 (FitsSigned w16) branch.now }
     requires quiet { total_abs branch.now * window.now.peak ≤ 2147467263 }
     requires first { first < firings.down }

@@ -77,7 +77,7 @@ impl Window {
 
     /// The outputs of a branch at four places.
     pub(crate) fn four(&self, h: &[i16], at: usize, step: usize, shift: u32) -> [i32; 4]
-        requires lanes { length h.now % 8 ≡ 0 }
+        requires lanes { length h.now % 16 ≡ 0 }
         requires short { Each1 (FitsSigned w16) h.now }
         requires quiet { total_abs h.now * self.now.peak ≤ 2147467263 }
         requires room { at + 3 * step + length h.now ≤ length self.now.samples }
@@ -110,7 +110,7 @@ impl Window {
 
     /// The output of a branch at a place.
     pub(crate) fn one(&self, h: &[i16], at: usize, shift: u32) -> i32
-        requires lanes { length h.now % 8 ≡ 0 }
+        requires lanes { length h.now % 16 ≡ 0 }
         requires short { Each1 (FitsSigned w16) h.now }
         requires quiet { total_abs h.now * self.now.peak ≤ 2147467263 }
         requires room { at + length h.now ≤ length self.now.samples }
@@ -131,7 +131,7 @@ impl Window {
 
 /// Four dot products with the same taps, so many samples apart.
 fn four_dots(h: &[i16], x: &[i16], at: usize, step: usize) -> [i32; 4]
-    requires lanes { length h.now % 8 ≡ 0 }
+    requires lanes { length h.now % 16 ≡ 0 }
     requires short { Each1 (FitsSigned w16) h.now }
     requires samples { Each1 (FitsSigned w16) x.now }
     requires room { at + 3 * step + length h.now ≤ length x.now }
@@ -154,7 +154,7 @@ fn four_dots(h: &[i16], x: &[i16], at: usize, step: usize) -> [i32; 4]
 
 /// A dot product.
 fn one_dot(h: &[i16], x: &[i16], at: usize) -> i32
-    requires lanes { length h.now % 8 ≡ 0 }
+    requires lanes { length h.now % 16 ≡ 0 }
     requires short { Each1 (FitsSigned w16) h.now }
     requires samples { Each1 (FitsSigned w16) x.now }
     requires room { at + length h.now ≤ length x.now }

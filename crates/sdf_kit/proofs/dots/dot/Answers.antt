@@ -1,5 +1,6 @@
 use Rattle.std.proofs.Common.{map, to_z, w32}
-use Rattle.sdf_kit.proofs.LaneTotals.{nothing, next}
+use Rattle.std.specs.Int.{w16}
+use Rattle.sdf_kit.proofs.LaneTotals.{passed, nothing, next}
 use Rattle.sdf_kit.proofs.dots.dot.Goals as goal
 
 pub chunks-init : goal.chunks-init
@@ -11,3 +12,9 @@ chunks-preserved c =
     c.chunks.k c.chunks.invariant
     c.load.ensures.lanes c.load.ensures.value c.load-in-chunks.ensures.lanes c.load-in-chunks.ensures.value
     c.more-a.ensures.lanes c.more-a.ensures.value
+
+pub more-a-requires-clause-h : goal.more-a-requires-clause-h
+more-a-requires-clause-h c = passed w16 16 c.load.result c.load.ensures.lanes
+
+pub more-a-requires-clause-x : goal.more-a-requires-clause-x
+more-a-requires-clause-x c = passed w16 16 c.load-in-chunks.result c.load-in-chunks.ensures.lanes

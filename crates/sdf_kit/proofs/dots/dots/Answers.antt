@@ -1,6 +1,7 @@
 use Rattle.std.proofs.Common.{ap, refl, of_z, ◌≤◌, ◌∙◌, ◌*◌, length, map, to_z, w32, arith}
+use Rattle.std.specs.Int.{w16}
 use Rattle.sdf_kit.specs.Dots.{total}
-use Rattle.sdf_kit.proofs.LaneTotals.{nothing, next, whole_dot, four_wrapped}
+use Rattle.sdf_kit.proofs.LaneTotals.{passed, nothing, next, whole_dot, four_wrapped}
 use Rattle.sdf_kit.proofs.dots.dots.Goals as goal
 
 pub chunks-init : goal.chunks-init
@@ -43,6 +44,30 @@ more-c-requires-clause-sums c = c.chunks.invariant.2.lanes
 pub more-d-requires-clause-sums : goal.more-d-requires-clause-sums
 more-d-requires-clause-sums c = c.chunks.invariant.3.lanes
 
+pub more-a-requires-clause-h : goal.more-a-requires-clause-h
+more-a-requires-clause-h c = passed w16 16 c.load-taps.result c.load-taps.ensures.lanes
+
+pub more-a-requires-clause-x : goal.more-a-requires-clause-x
+more-a-requires-clause-x c = passed w16 16 c.load.result c.load.ensures.lanes
+
+pub more-b-requires-clause-h : goal.more-b-requires-clause-h
+more-b-requires-clause-h c = passed w16 16 c.load-taps.result c.load-taps.ensures.lanes
+
+pub more-b-requires-clause-x : goal.more-b-requires-clause-x
+more-b-requires-clause-x c = passed w16 16 c.load-in-chunks.result c.load-in-chunks.ensures.lanes
+
+pub more-c-requires-clause-h : goal.more-c-requires-clause-h
+more-c-requires-clause-h c = passed w16 16 c.load-taps.result c.load-taps.ensures.lanes
+
+pub more-c-requires-clause-x : goal.more-c-requires-clause-x
+more-c-requires-clause-x c = passed w16 16 c.load-in-chunks-2.result c.load-in-chunks-2.ensures.lanes
+
+pub more-d-requires-clause-h : goal.more-d-requires-clause-h
+more-d-requires-clause-h c = passed w16 16 c.load-taps.result c.load-taps.ensures.lanes
+
+pub more-d-requires-clause-x : goal.more-d-requires-clause-x
+more-d-requires-clause-x c = passed w16 16 c.load-in-chunks-3.result c.load-in-chunks-3.ensures.lanes
+
 pub totals-requires-clause-a : goal.totals-requires-clause-a
 totals-requires-clause-a c = c.chunks.invariant.0.lanes
 
@@ -57,14 +82,14 @@ totals-requires-clause-d c = c.chunks.invariant.3.lanes
 
 pub returns : goal.returns
 returns c =
-    let over : length c.args.h.now ≤ 8 * c.chunks.k = omega (arith, c.requires.whole, c.chunks-test.false) in
-    let a = whole_dot c.args.h.now c.args.x.now (map (to_z w32) c.chunks.a) (8 * c.chunks.k) c.chunks.invariant.0 over
+    let over : length c.args.h.now ≤ 16 * c.chunks.k = omega (arith, c.requires.whole, c.chunks-test.false) in
+    let a = whole_dot c.args.h.now c.args.x.now (map (to_z w32) c.chunks.a) (16 * c.chunks.k) c.chunks.invariant.0 over
     c.requires.x in
-    let b = whole_dot c.args.h.now c.args.y.now (map (to_z w32) c.chunks.b) (8 * c.chunks.k) c.chunks.invariant.1 over
+    let b = whole_dot c.args.h.now c.args.y.now (map (to_z w32) c.chunks.b) (16 * c.chunks.k) c.chunks.invariant.1 over
     c.requires.y in
-    let d = whole_dot c.args.h.now c.args.z.now (map (to_z w32) c.chunks.c) (8 * c.chunks.k) c.chunks.invariant.2 over
+    let d = whole_dot c.args.h.now c.args.z.now (map (to_z w32) c.chunks.c) (16 * c.chunks.k) c.chunks.invariant.2 over
     c.requires.z in
-    let e = whole_dot c.args.h.now c.args.w.now (map (to_z w32) c.chunks.d) (8 * c.chunks.k) c.chunks.invariant.3 over
+    let e = whole_dot c.args.h.now c.args.w.now (map (to_z w32) c.chunks.d) (16 * c.chunks.k) c.chunks.invariant.3 over
     c.requires.w in
     ap (λ r. map (to_z w32) (map (of_z w32) r)) c.totals.ensures ∙
     (four_wrapped (total (map (to_z w32) c.chunks.a)) (total (map (to_z w32) c.chunks.b))

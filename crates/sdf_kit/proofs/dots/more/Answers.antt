@@ -5,22 +5,22 @@ use Rattle.sdf_kit.proofs.LaneTotals.{passed, same_lanes, made, joined}
 use Rattle.sdf_kit.proofs.dots.more.Goals as goal
 
 pub products-requires-clause-x : goal.products-requires-clause-x
-products-requires-clause-x c = passed w16 8 c.args.h c.requires.h
+products-requires-clause-x c = passed w16 16 c.args.h c.requires.h
 
 pub products-requires-clause-h : goal.products-requires-clause-h
-products-requires-clause-h c = passed w16 8 c.args.x c.requires.x
+products-requires-clause-h c = passed w16 16 c.args.x c.requires.x
 
 pub plus-requires-clause-a : goal.plus-requires-clause-a
-plus-requires-clause-a c = passed w32 4 c.args.sums c.requires.sums
+plus-requires-clause-a c = passed w32 8 c.args.sums c.requires.sums
 
 pub plus-requires-clause-b : goal.plus-requires-clause-b
-plus-requires-clause-b c = passed w32 4 c.products.result
+plus-requires-clause-b c = passed w32 8 c.products.result
     (made c.args.h c.args.x c.products.result c.requires.h c.requires.x c.products.ensures).0
 
 pub returns-clause-lanes : goal.returns-clause-lanes
 returns-clause-lanes c =
     let m = made c.args.h c.args.x c.products.result c.requires.h c.requires.x c.products.ensures in
-    passed w32 4 c.plus.result (joined c.args.sums c.products.result c.plus.result (dot c.args.h c.args.x)
+    passed w32 8 c.plus.result (joined c.args.sums c.products.result c.plus.result (dot c.args.h c.args.x)
     c.requires.sums m.0 m.1 c.plus.ensures).0
 
 pub returns-clause-value : goal.returns-clause-value

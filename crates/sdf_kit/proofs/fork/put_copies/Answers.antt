@@ -6,16 +6,14 @@ use Rattle.std.proofs.lemmas.List.FromFn.{fill_by_all}
 use Rattle.std.proofs.lemmas.Nat.{div-mul-add}
 use Rattle.std.proofs.Math.Nat.{mul-le-mul_right, add-mul}
 use Rattle.sdf_kit.specs.Samples.{sample}
-use Rattle.sdf_kit.proofs.fork.Fork.run.Goals as goal
+use Rattle.sdf_kit.proofs.fork.put_copies.Goals as goal
 
 pub put_same-requires : goal.put_same-requires
 put_same-requires c =
-    let ways : ℕ = c.args.self.now in
+    let ways : ℕ = c.args.ways in
     let one : c.loop-i.i + 1 ≤ length c.args.taken.now = omega (arith, c.loop-i-test.true) in
     let next : (c.loop-i.i + 1) * ways ≡ c.loop-i.i * ways + 1 * ways = add-mul c.loop-i.i 1 ways in
-    let same : c.self.inside.ways ≡ ways = c.self.view_is in
-    let place : c.loop-i.i * c.self.inside.ways ≡ c.loop-i.i * ways = ap (λ n. c.loop-i.i * n) same in
-    omega (arith, c.loop-i.invariant.0, c.requires, next, place, same, mul-le-mul_right ways one)
+    omega (arith, c.loop-i.invariant.0, c.requires.put, next, mul-le-mul_right ways one)
 
 pub loop-i-preserved : goal.loop-i-preserved
 loop-i-preserved c = (c.put_same.ensures.len ∙ c.loop-i.invariant.0, λ k l. go k l (cases_lt k (i * ways)))
@@ -24,31 +22,24 @@ loop-i-preserved c = (c.put_same.ensures.len ∙ c.loop-i.invariant.0, λ k l. g
     i = c.loop-i.i
 
     ways : ℕ
-    ways = c.args.self.now
-
-    same : c.self.inside.ways ≡ ways
-    same = c.self.view_is
-
-    place : i * c.self.inside.ways ≡ i * ways
-    place = ap (λ n. i * n) same
+    ways = c.args.ways
 
     go : (k : ℕ) → k < (i + 1) * ways → (k < i * ways) ⊎ (i * ways ≤ k) →
         sample c.put_same.new.to k ≡ sample c.args.taken.now (k / ways)
-    go k l (inl before) = c.put_same.ensures.before k (omega (arith, place)) ∙ c.loop-i.invariant.1 k before
+    go k l (inl before) = c.put_same.ensures.before k before ∙ c.loop-i.invariant.1 k before
     go k l (inr later) =
         let x : ℤ = sample c.args.taken.now i in
         let fits : FitsSigned w32 x = search rules in
         let q : ℕ = k - i * ways in
         let next : (i + 1) * ways ≡ i * ways + 1 * ways = add-mul i 1 ways in
         let inside : q < ways = omega (arith, l, next) in
-        let at : i * c.self.inside.ways + q ≡ k = omega (arith, place) in
-        let turn : k ≡ i * ways + q = omega arith in
-        let row : k / ways ≡ i = ap (λ n. n / ways) turn ∙ div-mul-add i ways q inside in
-        ap (sample c.put_same.new.to) (sym at) ∙ (c.put_same.ensures.put q (omega (arith, same))
+        let at : i * ways + q ≡ k = omega (arith, later) in
+        let row : k / ways ≡ i = ap (λ n. n / ways) (sym at) ∙ div-mul-add i ways q inside in
+        ap (sample c.put_same.new.to) (sym at) ∙ (c.put_same.ensures.put q inside
         ∙ (to_z-of_z w32 x fits ∙ ap (sample c.args.taken.now) (sym row)))
 
 pub returns : goal.returns
 returns c =
-    fill_by_all (λ n. sample c.args.taken.now (n / c.args.self.now)) c.loop-i.put (length c.args.put.now) (pos 0)
+    fill_by_all (λ n. sample c.args.taken.now (n / c.args.ways)) c.loop-i.put (length c.args.put.now) (pos 0)
     c.loop-i.invariant.0
-    (λ n l. c.loop-i.invariant.1 n (omega (arith, l, c.requires, mul-le-mul_right c.args.self.now c.loop-i-test.false)))
+    (λ n l. c.loop-i.invariant.1 n (omega (arith, l, c.requires.put, mul-le-mul_right c.args.ways c.loop-i-test.false)))
