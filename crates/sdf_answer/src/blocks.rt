@@ -8,70 +8,72 @@ ghost use Rattle.sdf_answer.specs.Blocks.{samples, room, front, at_ports, ArePor
 use crate::queue::Queue;
 use sdf_node::append;
 
+/// The channels at a node's ports on a side, and how many samples a firing moves on each channel of the net.
+#[derive(Clone, Copy)]
+pub struct Ports<'a> {
+    pub channels: &'a [usize],
+    pub sizes: &'a [usize],
+}
+
 /// Copies the oldest samples at each port to the end of a block with room for them: of each channel its size.
-pub fn read_fronts<T: Copy>(
-    ports: &[usize],
-    sizes: &[usize],
-    queues: &[Queue<T>],
-    block: &mut Vec<T>,
-)
-    requires ports { ArePorts ports.now sizes.now (length queues.now) }
-    requires held { HoldBlocks ports.now sizes.now queues.now }
-    requires room { vec_len block.old + sum_by (slice_index sizes.now) ports.now ≤ vec_capacity block.old }
-    ensures block { block.new.items ≡ block.old.items ++ front sizes.now ports.now queues.now }
+pub fn read_fronts<T: Copy>(ports: &Ports, queues: &[Queue<T>], block: &mut Vec<T>)
+    requires ports { ArePorts ports.now.channels.now ports.now.sizes.now (length queues.now) }
+    requires held { HoldBlocks ports.now.channels.now ports.now.sizes.now queues.now }
+    requires room { vec_len block.old + sum_by (slice_index ports.now.sizes.now) ports.now.channels.now ≤
+        vec_capacity block.old }
+    ensures block { block.new.items ≡ block.old.items ++ front ports.now.sizes.now ports.now.channels.now queues.now }
     ensures capacity { vec_capacity block.new ≡ vec_capacity block.old }
 {
-    for c in ports {
-        append(block, queues[*c].oldest(sizes[*c]));
+    for c in ports.channels {
+        append(block, queues[*c].oldest(ports.sizes[*c]));
     }
 }
 
 /// Drops the oldest samples at each port: of each channel its size.
-pub fn skip_fronts<T: Copy>(ports: &[usize], sizes: &[usize], queues: &mut [Queue<T>])
-    requires ports { ArePorts ports.now sizes.now (length queues.old) }
-    requires held { HoldBlocks ports.now sizes.now queues.old }
+pub fn skip_fronts<T: Copy>(ports: &Ports, queues: &mut [Queue<T>])
+    requires ports { ArePorts ports.now.channels.now ports.now.sizes.now (length queues.old) }
+    requires held { HoldBlocks ports.now.channels.now ports.now.sizes.now queues.old }
     ensures queues { (c : ℕ) → c < length queues.old →
-        samples queues.new c ≡ drop (at_ports ports.now (slice_index sizes.now c) c) (samples queues.old c) }
+        samples queues.new c ≡ drop (at_ports ports.now.channels.now (slice_index ports.now.sizes.now c) c)
+        (samples queues.old c) }
     ensures rooms { (c : ℕ) → c < length queues.old → room queues.new c ≡ room queues.old c }
 {
-    for c in ports {
-        queues[*c].release(sizes[*c]);
+    for c in ports.channels {
+        queues[*c].release(ports.sizes[*c]);
     }
 }
 
 /// Moves the oldest samples at each port to the end of a block with room for them: from each channel its size.
-pub fn take_block<T: Copy>(
-    ports: &[usize],
-    sizes: &[usize],
-    queues: &mut [Queue<T>],
-    block: &mut Vec<T>,
-)
-    requires ports { ArePorts ports.now sizes.now (length queues.old) }
-    requires held { HoldBlocks ports.now sizes.now queues.old }
-    requires room { vec_len block.old + sum_by (slice_index sizes.now) ports.now ≤ vec_capacity block.old }
-    ensures block { block.new.items ≡ block.old.items ++ front sizes.now ports.now queues.old }
+pub fn take_block<T: Copy>(ports: &Ports, queues: &mut [Queue<T>], block: &mut Vec<T>)
+    requires ports { ArePorts ports.now.channels.now ports.now.sizes.now (length queues.old) }
+    requires held { HoldBlocks ports.now.channels.now ports.now.sizes.now queues.old }
+    requires room { vec_len block.old + sum_by (slice_index ports.now.sizes.now) ports.now.channels.now ≤
+        vec_capacity block.old }
+    ensures block { block.new.items ≡ block.old.items ++ front ports.now.sizes.now ports.now.channels.now queues.old }
     ensures capacity { vec_capacity block.new ≡ vec_capacity block.old }
     ensures queues { (c : ℕ) → c < length queues.old →
-        samples queues.new c ≡ drop (at_ports ports.now (slice_index sizes.now c) c) (samples queues.old c) }
+        samples queues.new c ≡ drop (at_ports ports.now.channels.now (slice_index ports.now.sizes.now c) c)
+        (samples queues.old c) }
     ensures rooms { (c : ℕ) → c < length queues.old → room queues.new c ≡ room queues.old c }
 {
-    for c in ports {
-        queues[*c].take(sizes[*c], block);
+    for c in ports.channels {
+        queues[*c].take(ports.sizes[*c], block);
     }
 }
 
 /// Puts a block on the channels of the ports, to each channel its size.
-pub fn put_block<T: Copy>(ports: &[usize], sizes: &[usize], block: &[T], queues: &mut [Queue<T>])
-    requires ports { ArePorts ports.now sizes.now (length queues.old) }
-    requires room { HaveRoom ports.now sizes.now queues.old }
-    requires length { length block.now ≡ sum_by (slice_index sizes.now) ports.now }
+pub fn put_block<T: Copy>(ports: &Ports, block: &[T], queues: &mut [Queue<T>])
+    requires ports { ArePorts ports.now.channels.now ports.now.sizes.now (length queues.old) }
+    requires room { HaveRoom ports.now.channels.now ports.now.sizes.now queues.old }
+    requires length { length block.now ≡ sum_by (slice_index ports.now.sizes.now) ports.now.channels.now }
     ensures queues { (c : ℕ) → c < length queues.old →
-        samples queues.new c ≡ samples queues.old c ++ spread (slice_index sizes.now) ports.now block.now c }
+        samples queues.new c ≡ samples queues.old c ++ spread (slice_index ports.now.sizes.now)
+        ports.now.channels.now block.now c }
     ensures rooms { (c : ℕ) → c < length queues.old → room queues.new c ≡ room queues.old c }
 {
     let mut rest = block;
-    for c in ports {
-        let (now, later) = rest.split_at(sizes[*c]);
+    for c in ports.channels {
+        let (now, later) = rest.split_at(ports.sizes[*c]);
         queues[*c].put(now);
         rest = later;
     }

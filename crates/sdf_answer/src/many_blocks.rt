@@ -5,6 +5,7 @@ ghost use Rattle.std.specs.List.{sum_by};
 ghost use Rattle.sdf_node.specs.Many.{nth_block, joined};
 ghost use Rattle.sdf_answer.specs.Blocks.{samples, room, at_ports, front_at, dealt, ArePorts};
 
+use crate::blocks::Ports;
 use crate::parts::deal_row;
 use crate::queue::Queue;
 use sdf_node::laws::blocks_join;
@@ -35,28 +36,28 @@ fn take_row<T: Copy>(
 /// Moves what so many firings take from the queues at the ports to their blocks, each of a size, which lie one behind
 /// another.
 pub fn take_blocks<T: Copy>(
-    ports: &[usize],
-    sizes: &[usize],
+    ports: &Ports,
     times: usize,
     size: usize,
     queues: &mut [Queue<T>],
     blocks: &mut [T],
 )
-    requires ports { ArePorts ports.now sizes.now (length queues.old) }
-    requires held { (n : ℕ) → n < length ports.now →
-        times * slice_index sizes.now (slice_index ports.now n) ≤
-        length (samples queues.old (slice_index ports.now n)) }
-    requires size { size ≡ sum_by (slice_index sizes.now) ports.now }
+    requires ports { ArePorts ports.now.channels.now ports.now.sizes.now (length queues.old) }
+    requires held { (n : ℕ) → n < length ports.now.channels.now →
+        times * slice_index ports.now.sizes.now (slice_index ports.now.channels.now n) ≤
+        length (samples queues.old (slice_index ports.now.channels.now n)) }
+    requires size { size ≡ sum_by (slice_index ports.now.sizes.now) ports.now.channels.now }
     requires length { length blocks.old ≡ times * size }
-    ensures blocks { blocks.new ≡ joined (front_at sizes.now ports.now queues.old) times }
+    ensures blocks { blocks.new ≡ joined (front_at ports.now.sizes.now ports.now.channels.now queues.old) times }
     ensures queues { (c : ℕ) → c < length queues.old →
-        samples queues.new c ≡ drop (at_ports ports.now (times * slice_index sizes.now c) c) (samples queues.old c) }
+        samples queues.new c ≡ drop (at_ports ports.now.channels.now (times * slice_index ports.now.sizes.now c) c)
+        (samples queues.old c) }
     ensures rooms { (c : ℕ) → c < length queues.old → room queues.new c ≡ room queues.old c }
 {
     blocks_join::<T>();
     let mut at = 0;
-    for c in ports {
-        let width = sizes[*c];
+    for c in ports.channels {
+        let width = ports.sizes[*c];
         take_row(&mut queues[*c], blocks, at, width, times, size);
         at += width;
     }
@@ -64,28 +65,28 @@ pub fn take_blocks<T: Copy>(
 
 /// Puts the blocks of so many firings, each of a size, on the channels of the ports.
 pub fn put_blocks<T: Copy>(
-    ports: &[usize],
-    sizes: &[usize],
+    ports: &Ports,
     times: usize,
     size: usize,
-    filler: T,
     block: &[T],
     queues: &mut [Queue<T>],
 )
-    requires ports { ArePorts ports.now sizes.now (length queues.old) }
-    requires room { (n : ℕ) → n < length ports.now →
-        length (samples queues.old (slice_index ports.now n))
-        + times * slice_index sizes.now (slice_index ports.now n) ≤ room queues.old (slice_index ports.now n) }
-    requires size { size ≡ sum_by (slice_index sizes.now) ports.now }
+    requires ports { ArePorts ports.now.channels.now ports.now.sizes.now (length queues.old) }
+    requires room { (n : ℕ) → n < length ports.now.channels.now →
+        length (samples queues.old (slice_index ports.now.channels.now n))
+        + times * slice_index ports.now.sizes.now (slice_index ports.now.channels.now n) ≤
+        room queues.old (slice_index ports.now.channels.now n) }
+    requires size { size ≡ sum_by (slice_index ports.now.sizes.now) ports.now.channels.now }
     requires length { length block.now ≡ times * size }
     ensures queues { (c : ℕ) → c < length queues.old →
-        samples queues.new c ≡ samples queues.old c ++ dealt sizes.now ports.now size block.now c times }
+        samples queues.new c ≡ samples queues.old c ++ dealt ports.now.sizes.now ports.now.channels.now size
+        block.now c times }
     ensures rooms { (c : ℕ) → c < length queues.old → room queues.new c ≡ room queues.old c }
 {
     let mut at = 0;
-    for c in ports {
-        let width = sizes[*c];
-        queues[*c].put_row(block, at, width, times, size, filler);
+    for c in ports.channels {
+        let width = ports.sizes[*c];
+        queues[*c].put_row(block, at, width, times, size);
         at += width;
     }
 }

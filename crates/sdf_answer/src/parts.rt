@@ -26,7 +26,8 @@ fn copy_part<T: Copy>(from: &[T], start: usize, to: &mut [T], at: usize, width: 
 }
 
 /// Copies so many samples of one list to places in another.
-fn copy_samples<T: Copy>(from: &[T], out: Stride, to: &mut [T], into: Stride, many: usize)
+#[inline(always)]
+fn copy_each<T: Copy>(from: &[T], out: Stride, to: &mut [T], into: Stride, many: usize)
     requires from { HoldsParts out 1 many from.now }
     requires to { HoldsParts into 1 many to.old }
     requires apart { 1 ≤ into.step }
@@ -35,6 +36,36 @@ fn copy_samples<T: Copy>(from: &[T], out: Stride, to: &mut [T], into: Stride, ma
 {
     for i in 0..many {
         to[into.first + into.step * i] = from[out.first + out.step * i];
+    }
+}
+
+/// The same, several at a time where it is known how far apart they are: those of every other place into a row, and
+/// those of a row to every other place.
+fn copy_samples<T: Copy>(from: &[T], out: Stride, to: &mut [T], into: Stride, many: usize)
+    requires from { HoldsParts out 1 many from.now }
+    requires to { HoldsParts into 1 many to.old }
+    requires apart { 1 ≤ into.step }
+    ensures copied { (i : ℕ) → i < many → part_of into 1 to.new i ≡ part_of out 1 from.now i }
+    ensures others { KeepsOthers into 1 many to.old to.new }
+{
+    if out.step == 2 && into.step == 1 {
+        copy_each(from, every(2, out), to, every(1, into), many);
+    } else if out.step == 1 && into.step == 2 {
+        copy_each(from, every(1, out), to, every(2, into), many);
+    } else {
+        copy_each(from, out, to, into, many);
+    }
+}
+
+/// A stride of a step that is known.
+#[inline(always)]
+fn every(step: usize, stride: Stride) -> Stride
+    requires { step ≡ stride.step }
+    ensures { result ≡ stride }
+{
+    Stride {
+        first: stride.first,
+        step,
     }
 }
 

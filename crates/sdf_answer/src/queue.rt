@@ -22,7 +22,7 @@ use std::mem;
 /// sample put.
 #[derive(Drop)]
 pub struct Queue<T> {
-    /// The samples, from `start` to `end`. What follows them are fillers.
+    /// The samples, from `start` to `end`. What else stands there is no sample of the channel.
     items: Vec<T>,
     start: usize,
     end: usize,
@@ -34,7 +34,7 @@ impl<T> Model for Queue<T> {
 
     ghost view = { λ q. record { samples = between q.start q.end q.items.items; room = q.room } };
 
-    ghost invariant = { λ q. (q.start ≤ q.end) × (q.end ≤ vec_len q.items) × (q.room + q.room ≤ vec_capacity q.items) };
+    ghost invariant = { λ q. (q.start ≤ q.end) × (q.end ≤ vec_len q.items) × (q.room + q.room ≤ vec_len q.items) };
 }
 
 /// Lengthens a list by fillers, within its room, where it is shorter than that.
@@ -55,44 +55,30 @@ pub fn lengthen<T: Copy>(list: &mut Vec<T>, len: usize, filler: T)
 fn place_for<T: Copy>(list: &mut Vec<T>, start: usize, end: usize, more: usize) -> (usize, usize)
     requires rise { start ≤ end }
     requires within { end ≤ vec_len list.old }
-    requires room { end - start + more ≤ vec_capacity list.old }
+    requires room { end - start + more ≤ vec_len list.old }
     ensures same { between result.0 result.1 list.new.items ≡ between start end list.old.items }
     ensures rise { result.0 ≤ result.1 }
-    ensures within { result.1 ≤ vec_len list.new }
-    ensures room { result.1 + more ≤ vec_capacity list.new }
-    ensures capacity { vec_capacity list.new ≡ vec_capacity list.old }
+    ensures within { result.1 + more ≤ vec_len list.new }
+    ensures len { vec_len list.new ≡ vec_len list.old }
 {
-    if list.capacity() - end >= more {
+    if list.len() - end >= more {
         return (start, end);
     }
     list.copy_within(start..end, 0);
     (0, end - start)
 }
 
-/// The same, where fillers stand in the room behind it.
-fn place_with_fillers<T: Copy>(
-    list: &mut Vec<T>,
-    start: usize,
-    end: usize,
-    more: usize,
-    filler: T,
-) -> (usize, usize)
-    requires rise { start ≤ end }
-    requires within { end ≤ vec_len list.old }
-    requires room { end - start + more ≤ vec_capacity list.old }
-    ensures same { between result.0 result.1 list.new.items ≡ between start end list.old.items }
-    ensures rise { result.0 ≤ result.1 }
-    ensures within { result.1 + more ≤ vec_len list.new }
-    ensures capacity { vec_capacity list.new ≡ vec_capacity list.old }
-{
-    let place = place_for(list, start, end, more);
-    lengthen(list, place.1 + more, filler);
-    place
+/// So many firings of an actor, from a phase on.
+#[derive_where(Clone, Copy)]
+pub struct Firings<'a, A> {
+    pub actor: &'a A,
+    pub phase: u32,
+    pub times: usize,
 }
 
 impl<T: Copy> Queue<T> {
-    /// The samples that a channel begins with, and room for a number of samples in all.
-    pub fn new(alloc: Global, initial: &[T], room: usize) -> Result<Queue<T>, AllocError>
+    /// The samples that a channel begins with, and room for a number of samples in all. The filler is any sample.
+    pub fn new(alloc: Global, initial: &[T], room: usize, filler: T) -> Result<Queue<T>, AllocError>
         requires initial { length initial.now ≤ room }
         requires room { room ≤ 4_611_686_018_427_387_904 }
         ensures { IfOk result (λ q. q ≡ record { samples = initial.now; room = room }) }
@@ -100,6 +86,7 @@ impl<T: Copy> Queue<T> {
         let mut items = Vec::with_capacity(alloc, room + room)?;
         append(&mut items, initial);
         let end = items.len();
+        lengthen(&mut items, room + room, filler);
         Ok(Queue {
             items,
             start: 0,
@@ -128,10 +115,10 @@ impl<T: Copy> Queue<T> {
         ensures { self.new ≡ record self.old { samples = self.old.samples ++ block.now } }
     {
         let place = place_for(&mut self.items, self.start, self.end, block.len());
-        self.items.truncate(place.1);
-        append(&mut self.items, block);
+        let last = place.1 + block.len();
+        self.items[place.1..last].copy_from_slice(block);
         self.start = place.0;
-        self.end = self.items.len();
+        self.end = last;
     }
 
     /// Moves the oldest samples to the end of a list with room for them.
@@ -167,26 +154,30 @@ impl<T: Copy> Queue<T> {
     /// Fires an actor so many times at once, into the room behind the samples, which takes what it puts.
     pub fn put_fired<A: Actor<Token = T>>(
         &mut self,
-        actor: &A,
-        phase: u32,
-        times: usize,
+        firings: Firings<'_, A>,
         state: &mut A::State,
         taken: &[T],
         made: usize,
-        filler: T,
     )
-        requires phase { phase < A.steps.cycle actor.now }
-        requires taken { length taken.now ≡ sum_in A.steps actor.now phase times }
-        requires made { made ≡ sum_out A.steps actor.now phase times }
+        requires phase { firings.phase < A.steps.cycle firings.actor.now }
+        requires taken { length taken.now ≡ sum_in A.steps firings.actor.now firings.phase firings.times }
+        requires made { made ≡ sum_out A.steps firings.actor.now firings.phase firings.times }
         requires room { length self.old.samples + made ≤ self.old.room }
-        ensures state { state.new ≡ state_at A.steps actor.now phase state.old taken.now times }
+        ensures state { state.new ≡ state_at A.steps firings.entry.actor.now firings.entry.phase state.old taken.now
+            firings.entry.times }
         ensures queue { self.new ≡ record self.old {
           samples = self.old.samples
-              ++ puts_to A.steps actor.now phase state.old taken.now times;
+              ++ puts_to A.steps firings.entry.actor.now firings.entry.phase state.old taken.now firings.entry.times;
         } }
-        ensures long { length (puts_to A.steps actor.now phase state.old taken.now times) ≡ made }
+        ensures long { length (puts_to A.steps firings.entry.actor.now firings.entry.phase state.old taken.now
+            firings.entry.times) ≡ made }
     {
-        let place = place_with_fillers(&mut self.items, self.start, self.end, made, filler);
+        let Firings {
+            actor,
+            phase,
+            times,
+        } = firings;
+        let place = place_for(&mut self.items, self.start, self.end, made);
         let end = place.1 + made;
         actor.fire_many(phase, times, state, taken, &mut self.items[place.1..end]);
         self.start = place.0;
@@ -194,15 +185,7 @@ impl<T: Copy> Queue<T> {
     }
 
     /// Puts a row behind the samples, gathered from blocks of a size: from each its part from a place on.
-    pub fn put_row(
-        &mut self,
-        blocks: &[T],
-        at: usize,
-        width: usize,
-        many: usize,
-        size: usize,
-        filler: T,
-    )
+    pub fn put_row(&mut self, blocks: &[T], at: usize, width: usize, many: usize, size: usize)
         requires inside { at + width ≤ size }
         requires blocks { length blocks.now ≡ size * many }
         requires room { length self.old.samples + width * many ≤ self.old.room }
@@ -212,7 +195,7 @@ impl<T: Copy> Queue<T> {
         } }
     {
         let made = width * many;
-        let place = place_with_fillers(&mut self.items, self.start, self.end, made, filler);
+        let place = place_for(&mut self.items, self.start, self.end, made);
         let last = place.1 + made;
         let row = &mut self.items[place.1..last];
         gather_row(blocks, row, at, width, many, size);

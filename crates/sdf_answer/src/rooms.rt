@@ -43,6 +43,7 @@ pub fn make_queues<A: Actor>(
     net: &Net<A>,
     repetitions: &[u32],
     periods: u32,
+    filler: A::Token,
 ) -> Result<Vec<Queue<A::Token>>, AllocError>
     requires all { length repetitions.now ≡ length net.now.nodes }
     requires short { (a : ℕ) → a < length repetitions.now → slice_index repetitions.now a ≤ 65536 }
@@ -58,7 +59,7 @@ pub fn make_queues<A: Actor>(
     let mut queues = Vec::with_capacity(alloc, net.channels())?;
     for (c, channel) in graph.channels().iter().enumerate() {
         let room = channel.initial + put_in(channel, repetitions[channel.from], periods);
-        queues.push(Queue::new(alloc, &net.link(c).initial, room)?)?;
+        queues.push(Queue::new(alloc, &net.link(c).initial, room, filler)?)?;
     }
     Ok(queues)
 }

@@ -14,7 +14,7 @@ ghost use Rattle.sdf_answer.specs.Rows.{IsBlockTableOf};
 ghost use Rattle.sdf_node.specs.Kept.{kept_of};
 
 use crate::collect::collect;
-use crate::fired::{Blocks, fire, rounds_of};
+use crate::fired::{TableBlocks, fire, rounds_of};
 use sdf_actor::{Actor, Begun, Net, Rest};
 use sdf_answer::inputs::{are_inputs, first_sample};
 use sdf_answer::laws::{
@@ -23,7 +23,7 @@ use sdf_answer::laws::{
 use sdf_answer::outputs::make_outputs;
 use sdf_answer::queue::held;
 use sdf_answer::sizes::samples_of_blocks;
-use sdf_answer::{BlockTable, Ran, RunFault};
+use sdf_answer::{Ran, RunFault};
 use sdf_node::laws::nodes_keep_states;
 use sdf_node::{Gate, NodeState, kept};
 use std::alloc::{AllocError, Global};
@@ -51,7 +51,7 @@ fn kept_by<A: Actor>(
 fn fill<R: Threads + AllocGlobal + Sync, A: Actor, G: Gate>(
     rt: &R,
     net: &Net<A>,
-    plan: &Blocks,
+    plan: &TableBlocks,
     inputs: &[Vec<A::Token>],
     gate: &G,
 ) -> Result<(Vec<Vec<A::Token>>, Rest<A::Token, A::State>), AllocError>
@@ -69,12 +69,12 @@ fn fill<R: Threads + AllocGlobal + Sync, A: Actor, G: Gate>(
     let mut outputs = make_outputs(alloc, net.outputs(), 0)?;
     match first_sample(inputs) {
         Some(filler) => {
-            let mut fired = fire(rt, net, plan, inputs, filler, gate)?;
+            let mut stage = fire(rt, net, plan, inputs, filler, gate)?;
             let rest = Rest {
-                states: kept_by(alloc, net, &fired.states)?,
-                held: held(alloc, &fired.queues)?,
+                states: kept_by(alloc, net, &stage.states)?,
+                held: held(alloc, &stage.queues)?,
             };
-            collect(net, &mut fired.states, &mut outputs);
+            collect(net, &mut stage.states, &mut outputs);
             Ok((outputs, rest))
         }
         None => Ok((outputs, net.first_rest(alloc)?)),
@@ -85,27 +85,26 @@ fn fill<R: Threads + AllocGlobal + Sync, A: Actor, G: Gate>(
 pub fn feed_rows<R: Threads + AllocGlobal + Sync, A: Actor, G: Gate>(
     rt: &R,
     net: &Net<A>,
-    table: &BlockTable,
-    blocks: u32,
+    plan: &TableBlocks,
     inputs: &[Vec<A::Token>],
     gate: &G,
 ) -> Result<(Ran<A::Token>, Rest<A::Token, A::State>), RunFault>
-    requires fits { IsBlockTableOf (rates (graph_of A.steps net.now)) table.now }
-    ensures { let q = table.now.period.repetitions in let j = table.now.factor in MatchResult result
-        (λ fed. HasInputs net.now q (blocks * j) (lists inputs.now)
-        × HasRun A.steps net.now (lists inputs.now) (periods_of q (blocks * j)) (lists fed.0.outputs.items) fed.1
-        × (fed.0.rounds ≡ blocks * length table.now.table.rows))
-        (IsRunFault net.now q (blocks * j) (lists inputs.now)) }
+    requires fits { IsBlockTableOf (rates (graph_of A.steps net.now)) plan.now.table.now }
+    ensures { let t = plan.now.table.now in let q = t.period.repetitions in
+        let periods = plan.now.blocks * t.factor in MatchResult result
+        (λ fed. HasInputs net.now q periods (lists inputs.now)
+        × HasRun A.steps net.now (lists inputs.now) (periods_of q periods) (lists fed.0.outputs.items) fed.1
+        × (fed.0.rounds ≡ plan.now.blocks * length t.table.rows))
+        (IsRunFault net.now q periods (lists inputs.now)) }
 {
     sdf_prec::laws::tables_count();
     blocks_are_small(net);
-    let least = samples_of_blocks(blocks, table.factor, net.samples_in());
+    let least = samples_of_blocks(plan.blocks, plan.table.factor, net.samples_in());
     if !are_inputs(inputs, net.inputs(), least) {
         return Err(RunFault::InputLength);
     }
-    let plan = Blocks { table, blocks };
-    let (outputs, rest) = fill(rt, net, &plan, inputs, gate)?;
-    let rounds = rounds_of(blocks, table.table.rows());
+    let (outputs, rest) = fill(rt, net, plan, inputs, gate)?;
+    let rounds = rounds_of(plan.blocks, plan.table.table.rows());
     Ok((Ran { outputs, rounds }, rest))
 }
 
@@ -114,22 +113,22 @@ pub fn feed_rows<R: Threads + AllocGlobal + Sync, A: Actor, G: Gate>(
 pub fn resume_rows<R: Threads + AllocGlobal + Sync, A: Actor, G: Gate>(
     rt: &R,
     net: &Net<A>,
-    table: &BlockTable,
+    plan: &TableBlocks,
     rest: &Rest<A::Token, A::State>,
-    blocks: u32,
     inputs: &[Vec<A::Token>],
     gate: &G,
 ) -> Result<(Ran<A::Token>, Rest<A::Token, A::State>), RunFault>
-    requires fits { IsBlockTableOf (rates (graph_of A.steps net.now)) table.now }
+    requires fits { IsBlockTableOf (rates (graph_of A.steps net.now)) plan.now.table.now }
     requires rest { (first : List (List A.Token)) × (few : ℕ)
-        × IsRest A.steps net.now first (periods_of table.now.period.repetitions few) rest.now }
-    ensures { let q = table.now.period.repetitions in let j = table.now.factor in MatchResult result
-        (λ fed. GoesOnBy A.steps net.now q rest.now (blocks * j) (lists inputs.now) (lists fed.0.outputs.items) fed.1
-        × (fed.0.rounds ≡ blocks * length table.now.table.rows))
-        (IsRunFault net.now q (blocks * j) (lists inputs.now)) }
+        × IsRest A.steps net.now first (periods_of plan.now.table.now.period.repetitions few) rest.now }
+    ensures { let t = plan.now.table.now in let q = t.period.repetitions in
+        let periods = plan.now.blocks * t.factor in MatchResult result
+        (λ fed. GoesOnBy A.steps net.now q rest.now periods (lists inputs.now) (lists fed.0.outputs.items) fed.1
+        × (fed.0.rounds ≡ plan.now.blocks * length t.table.rows))
+        (IsRunFault net.now q periods (lists inputs.now)) }
 {
     nets_have_periods(net);
     begun_nets_go_on::<A, Begun<A>>();
     let begun = net.begun(rt.alloc(), rest)?;
-    feed_rows(rt, &begun, table, blocks, inputs, gate)
+    feed_rows(rt, &begun, plan, inputs, gate)
 }

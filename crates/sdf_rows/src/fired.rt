@@ -10,33 +10,27 @@ ghost use Rattle.sdf_answer.specs.Answer.{HasInputs};
 ghost use Rattle.sdf_answer.specs.Rows.{IsBlockTableOf};
 ghost use Rattle.sdf_rows.specs.Blocks.{IsOver};
 
-use crate::runs::{Course, run_blocks};
+use crate::runs::{Timetable, run_blocks};
+use crate::scene::Scene;
 use crate::setup::{make_jobs, make_states};
-use crate::stage::Scene;
+use crate::stage::Stage;
 use sdf_actor::{Actor, Net};
 use sdf_answer::laws::{
     blocks_are_small, histories_make_outputs, net_facts, nets_can_run, nets_have_periods,
 };
 use sdf_answer::rooms::make_queues;
 use sdf_answer::sizes::samples_of_blocks;
-use sdf_answer::{BlockTable, Queue, Sizes};
-use sdf_node::{Gate, NodeState};
+use sdf_answer::{BlockTable, Sizes};
+use sdf_node::Gate;
 use sdf_prec::Table;
 use std::alloc::{AllocError, Global};
 use std::thread::Threads;
 
 /// What is run: so many blocks, as a table says.
-#[derive(Drop)]
-pub(crate) struct Blocks<'a> {
-    pub(crate) table: &'a BlockTable,
-    pub(crate) blocks: u32,
-}
-
-/// A run that has fired all its blocks.
-#[derive(Drop)]
-pub(crate) struct Fired<A: Actor> {
-    pub(crate) states: Vec<NodeState<A::Token, A::State>>,
-    pub(crate) queues: Vec<Queue<A::Token>>,
+#[derive(Clone, Copy)]
+pub struct TableBlocks<'a> {
+    pub table: &'a BlockTable,
+    pub blocks: u32,
 }
 
 /// How often each node has fired before a run.
@@ -46,20 +40,20 @@ fn none_done(alloc: Global, repetitions: &[u32]) -> Result<Vec<u64>, AllocError>
     repetitions.iter().map(|_| 0u64).collect(alloc)
 }
 
-/// Fires all blocks.
+/// Fires all blocks, and gives what stands behind them.
 pub(crate) fn fire<R: Threads + AllocGlobal + Sync, A: Actor, G: Gate>(
     rt: &R,
     net: &Net<A>,
-    plan: &Blocks,
+    plan: &TableBlocks,
     inputs: &[Vec<A::Token>],
     filler: A::Token,
     gate: &G,
-) -> Result<Fired<A>, AllocError>
+) -> Result<Stage<A>, AllocError>
     requires fits { IsBlockTableOf (rates (graph_of A.steps net.now)) plan.now.table.now }
     requires inputs { HasInputs net.now plan.now.table.now.period.repetitions
         (plan.now.blocks * plan.now.table.now.factor) (lists inputs.now) }
-    ensures { let t = plan.now.table.now in IfOk result (λ run. IsOver A.steps net.now (lists inputs.now)
-        t.period.repetitions t.factor plan.now.blocks run.states.items run.queues.items) }
+    ensures { let t = plan.now.table.now in IfOk result (λ stage. IsOver A.steps net.now (lists inputs.now)
+        t.period.repetitions t.factor plan.now.blocks stage.states.items stage.queues.items) }
 {
     net_facts(net);
     nets_have_periods(net);
@@ -71,29 +65,25 @@ pub(crate) fn fire<R: Threads + AllocGlobal + Sync, A: Actor, G: Gate>(
     let table = plan.table;
     let repetitions = table.period.repetitions();
     let room = samples_of_blocks(plan.blocks, table.factor, net.samples_out());
-    let mut states = make_states(alloc, net, room)?;
-    let mut queues = make_queues(alloc, net, repetitions, table.factor)?;
+    let mut stage = Stage {
+        states: make_states(alloc, net, room)?,
+        queues: make_queues(alloc, net, repetitions, table.factor, filler)?,
+        done: none_done(alloc, repetitions)?,
+    };
     let mut jobs = make_jobs(alloc, net, table.table.columns(), filler)?;
-    let mut done = none_done(alloc, repetitions)?;
-    let sizes = Sizes::new(alloc, net)?;
-    let scene = Scene { net, inputs, sizes };
-    let course = Course {
+    let scene = Scene {
+        net,
+        inputs,
+        sizes: Sizes::new(alloc, net)?,
+        gate,
+    };
+    let timetable = Timetable {
         table: &table.table,
         repetitions,
         j: table.factor,
     };
-    run_blocks(
-        rt,
-        &scene,
-        &course,
-        plan.blocks,
-        &mut jobs,
-        &mut states,
-        &mut queues,
-        &mut done,
-        gate,
-    );
-    Ok(Fired { states, queues })
+    run_blocks(rt, &scene, &timetable, plan.blocks, &mut jobs, &mut stage);
+    Ok(stage)
 }
 
 /// How many rows are fired in so many blocks.

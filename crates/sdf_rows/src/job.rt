@@ -6,9 +6,10 @@ ghost use Rattle.sdf_actor.specs.Wires.{lists};
 ghost use Rattle.sdf_node.specs.Nodes.{CanStep, IsAt};
 ghost use Rattle.sdf_rows.specs.Jobs.{JobFits, HasFired};
 
-use sdf_actor::{Actor, Net, Node, Side};
-use sdf_answer::blocks::read_fronts;
-use sdf_answer::{Queue, Sizes};
+use crate::scene::Scene;
+use sdf_actor::{Actor, Node, Side};
+use sdf_answer::Queue;
+use sdf_answer::blocks::{Ports, read_fronts};
 use sdf_node::{ActorId, Gate, NodeState, puts, step};
 use std::thread;
 use std::thread::Threads;
@@ -49,44 +50,42 @@ fn step_into<A: Actor>(
 }
 
 /// One firing, of the samples that stand on the channels.
-fn fire_job<A: Actor, G: Gate>(
-    net: &Net<A>,
-    inputs: &[Vec<A::Token>],
-    sizes: &Sizes,
-    queues: &[Queue<A::Token>],
-    job: &mut Job<A>,
-    gate: &G,
-)
-    requires { JobFits A.steps net.now (lists inputs.now) sizes.now queues.now job.old }
-    ensures { HasFired A.steps net.now (lists inputs.now) sizes.now queues.now job.old job.new }
+fn fire_job<A: Actor, G: Gate>(scene: &Scene<A, G>, queues: &[Queue<A::Token>], job: &mut Job<A>)
+    requires { JobFits A.steps scene.now.net.now (lists scene.now.inputs.now) scene.now.sizes queues.now job.old }
+    ensures { HasFired A.steps scene.now.net.now (lists scene.now.inputs.now) scene.now.sizes queues.now job.old
+        job.new }
 {
-    gate.before(job.processor, job.actor, job.firing);
+    scene.gate.before(job.processor, job.actor, job.firing);
     job.taken.clear();
-    read_fronts(
-        net.channels_in(job.actor),
-        sizes.on(Side::Input, job.phase),
-        queues,
-        &mut job.taken,
-    );
-    let node = net.node(job.actor);
+    let ins = Ports {
+        channels: scene.net.channels_in(job.actor),
+        sizes: scene.sizes.on(Side::Input, job.phase),
+    };
+    read_fronts(&ins, queues, &mut job.taken);
+    let node = scene.net.node(job.actor);
     let many = puts(node, job.phase);
-    step_into(node, inputs, &mut job.state, &job.taken, &mut job.put, many);
+    step_into(
+        node,
+        scene.inputs,
+        &mut job.state,
+        &job.taken,
+        &mut job.put,
+        many,
+    );
 }
 
 /// Each firing in a worker of its own, or a single one here. All are back when it returns.
 pub(crate) fn fire_jobs<R: Threads + Sync, A: Actor, G: Gate>(
     rt: &R,
-    net: &Net<A>,
-    inputs: &[Vec<A::Token>],
-    sizes: &Sizes,
+    scene: &Scene<A, G>,
     queues: &[Queue<A::Token>],
     jobs: &mut [Job<A>],
-    gate: &G,
 )
-    requires { All (JobFits A.steps net.now (lists inputs.now) sizes.now queues.now) jobs.old }
+    requires { All (JobFits A.steps scene.now.net.now (lists scene.now.inputs.now) scene.now.sizes
+        queues.now) jobs.old }
     ensures { (i : ℕ) (j : _) → i < length jobs.old →
-        HasFired A.steps net.now (lists inputs.now) sizes.now queues.now (slice_index_or jobs.old i j)
-        (slice_index_or jobs.new i j) }
+        HasFired A.steps scene.now.net.now (lists scene.now.inputs.now) scene.now.sizes queues.now
+        (slice_index_or jobs.old i j) (slice_index_or jobs.new i j) }
 {
     let threads = jobs.len();
     if threads > 0 {
@@ -95,11 +94,12 @@ pub(crate) fn fire_jobs<R: Threads + Sync, A: Actor, G: Gate>(
             jobs,
             threads,
             &|_: usize, job: &mut Job<A>|
-                requires { JobFits A.steps net.now (lists inputs.now) sizes.now queues.now job.now }
-                ensures { HasFired A.steps net.entry.now (lists inputs.entry.now) sizes.entry.now queues.entry.now
-                    job.entry.now job.exit.now }
+                requires { JobFits A.steps scene.now.net.now (lists scene.now.inputs.now) scene.now.sizes queues.now
+                    job.now }
+                ensures { HasFired A.steps scene.entry.now.net.now (lists scene.entry.now.inputs.now)
+                    scene.entry.now.sizes queues.entry.now job.entry.now job.exit.now }
             {
-                fire_job(net, inputs, sizes, queues, job, gate);
+                fire_job(scene, queues, job);
             },
         );
     }

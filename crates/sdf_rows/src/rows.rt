@@ -8,6 +8,7 @@ ghost use Rattle.sdf_answer.specs.Answer.{HasInputs, AreOutputs, periods_of, IsR
 ghost use Rattle.sdf_answer.specs.Rows.{IsBlockTableOf};
 
 use crate::feed::feed_rows;
+use crate::fired::TableBlocks;
 use sdf_actor::{Actor, Net};
 use sdf_answer::{BlockTable, Ran, RunFault};
 use sdf_node::Gate;
@@ -34,6 +35,7 @@ pub fn run_rows<R: Threads + AllocGlobal + Sync, A: Actor, G: Gate>(
         × (ran.rounds ≡ blocks * length table.now.table.rows))
         (IsRunFault net.now q (blocks * j) (lists inputs.now)) }
 {
-    let (ran, _) = feed_rows(rt, net, table, blocks, inputs, gate)?;
+    let plan = TableBlocks { table, blocks };
+    let (ran, _) = feed_rows(rt, net, &plan, inputs, gate)?;
     Ok(ran)
 }

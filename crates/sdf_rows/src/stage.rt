@@ -13,13 +13,23 @@ ghost use Rattle.sdf_rows.specs.Stage.{CanLoad, HasLoaded, AreLoaded, CanSettle,
 ghost use Rattle.sdf_rows.specs.Stands.{HaveBlocks, KeepBlocks, IsFilling, IsSettling, IsBetween, IsRow, IsScene};
 
 use crate::job::{Job, fire_jobs};
-use sdf_actor::{Actor, Net, Side};
-use sdf_answer::blocks::{put_block, skip_fronts};
-use sdf_answer::{Queue, Sizes};
+use crate::scene::Scene;
+use sdf_actor::{Actor, Side};
+use sdf_answer::Queue;
+use sdf_answer::blocks::{Ports, put_block, skip_fronts};
 use sdf_node::{ActorId, Gate, NodeState, puts};
 use sdf_prec::Firing;
 use std::mem;
 use std::thread::Threads;
+
+/// What stands between two rows: the state of each node, the samples on each channel, and how often each node has
+/// fired.
+#[derive(Drop)]
+pub(crate) struct Stage<A: Actor> {
+    pub(crate) states: Vec<NodeState<A::Token, A::State>>,
+    pub(crate) queues: Vec<Queue<A::Token>>,
+    pub(crate) done: Vec<u64>,
+}
 
 /// Fills the job of an actor's next firing. The actor's state is in it until the firing is settled.
 fn load<A: Actor>(
@@ -93,40 +103,29 @@ pub(crate) fn load_row<A: Actor>(
 }
 
 /// Drops from the channels what a firing took, puts on them what it made, and gives its actor the state back.
-fn settle<A: Actor>(
-    net: &Net<A>,
-    sizes: &Sizes,
+fn settle<A: Actor, G>(
+    scene: &Scene<A, G>,
     job: &mut Job<A>,
     state: &mut NodeState<A::Token, A::State>,
     queues: &mut [Queue<A::Token>],
 )
-    requires { CanSettle A.steps net.now sizes.now job.old queues.old }
-    ensures queues { HasSettled A.steps net.now sizes.now job.old queues.old queues.new }
+    requires { CanSettle A.steps scene.now.net.now scene.now.sizes job.old queues.old }
+    ensures queues { HasSettled A.steps scene.now.net.now scene.now.sizes job.old queues.old queues.new }
     ensures state { state.new ≡ job.old.state }
     ensures job { job.new ≡ record job.old { state = state.old } }
 {
-    let sized = job.phase;
-    skip_fronts(
-        net.channels_in(job.actor),
-        sizes.on(Side::Input, sized),
-        queues,
-    );
-    let many = puts(net.node(job.actor), sized);
-    put_block(
-        net.channels_out(job.actor),
-        sizes.on(Side::Output, sized),
-        &job.put[..many],
-        queues,
-    );
+    let ins = Ports {
+        channels: scene.net.channels_in(job.actor),
+        sizes: scene.sizes.on(Side::Input, job.phase),
+    };
+    skip_fronts(&ins, queues);
+    let outs = Ports {
+        channels: scene.net.channels_out(job.actor),
+        sizes: scene.sizes.on(Side::Output, job.phase),
+    };
+    let many = puts(scene.net.node(job.actor), job.phase);
+    put_block(&outs, &job.put[..many], queues);
     mem::swap(&mut job.state, state);
-}
-
-/// What all firings of a run share.
-#[derive(Drop)]
-pub(crate) struct Scene<'a, A: Actor> {
-    pub(crate) net: &'a Net<A>,
-    pub(crate) inputs: &'a [Vec<A::Token>],
-    pub(crate) sizes: Sizes,
 }
 
 /// The laws that a row stands on.
@@ -146,119 +145,106 @@ pub(crate) fn row_laws<A: Actor>()
 }
 
 /// Settles a firing, and counts it.
-fn settle_at<A: Actor>(
-    scene: &Scene<A>,
-    job: &mut Job<A>,
-    states: &mut [NodeState<A::Token, A::State>],
-    queues: &mut [Queue<A::Token>],
-    done: &mut [u64],
-)
-    requires can { CanSettle A.steps scene.now.net.now scene.now.sizes job.old queues.old }
-    requires state { job.old.actor < length states.old }
-    requires counted { job.old.actor < length done.old }
-    requires small { slice_index done.old job.old.actor < 2 ^ 63 }
-    ensures queues { HasSettled A.steps scene.now.net.now scene.now.sizes job.old queues.old queues.new }
-    ensures states { states.new ≡ slice_set states.old job.old.actor job.old.state }
-    ensures done { done.new ≡ slice_set done.old job.old.actor (slice_index done.old job.old.actor + 1) }
+fn settle_at<A: Actor, G>(scene: &Scene<A, G>, job: &mut Job<A>, stage: &mut Stage<A>)
+    requires can { CanSettle A.steps scene.now.net.now scene.now.sizes job.old stage.old.queues.items }
+    requires state { job.old.actor < length stage.old.states.items }
+    requires counted { job.old.actor < length stage.old.done.items }
+    requires small { slice_index stage.old.done.items job.old.actor < 2 ^ 63 }
+    ensures queues { HasSettled A.steps scene.now.net.now scene.now.sizes job.old stage.old.queues.items
+        stage.new.queues.items }
+    ensures states { stage.new.states.items ≡ slice_set stage.old.states.items job.old.actor job.old.state }
+    ensures done { stage.new.done.items ≡ slice_set stage.old.done.items job.old.actor
+        (slice_index stage.old.done.items job.old.actor + 1) }
     ensures taken { job.new.taken ≡ job.old.taken }
     ensures put { job.new.put ≡ job.old.put }
 {
     let actor = job.actor;
-    settle(scene.net, &scene.sizes, job, &mut states[actor], queues);
-    done[actor] += 1;
+    settle(scene, job, &mut stage.states[actor], &mut stage.queues);
+    stage.done[actor] += 1;
 }
 
 /// Settles all firings of a row, whose jobs these are.
-pub(crate) fn settle_row<A: Actor>(
-    scene: &Scene<A>,
+pub(crate) fn settle_row<A: Actor, G>(
+    scene: &Scene<A, G>,
     jobs: &mut [Job<A>],
-    states: &mut [NodeState<A::Token, A::State>],
-    queues: &mut [Queue<A::Token>],
-    done: &mut [u64],
+    stage: &mut Stage<A>,
 )
     requires scene { IsScene A.steps scene.now.net.now scene.now.sizes }
     requires back { (many low high : ℕ → ℕ) × IsSettling A.steps scene.now.net.now (lists scene.now.inputs.now) many low
-        high (actors_of jobs.old) 0 (slice_index done.old) states.old queues.old jobs.old }
-    requires counted { length done.old ≡ length scene.now.net.now.nodes }
+        high (actors_of jobs.old) 0 (slice_index stage.old.done.items) stage.old.states.items stage.old.queues.items
+        jobs.old }
+    requires counted { length stage.old.done.items ≡ length scene.now.net.now.nodes }
     ensures settled { (many low high : ℕ → ℕ) → IsSettling A.steps scene.now.net.now (lists scene.now.inputs.now) many
-        low high (actors_of jobs.old) 0 (slice_index done.old) states.old queues.old jobs.old →
+        low high (actors_of jobs.old) 0 (slice_index stage.old.done.items) stage.old.states.items
+        stage.old.queues.items jobs.old →
         IsSettling A.steps scene.now.net.now (lists scene.now.inputs.now) many low high (actors_of jobs.old)
-        (length jobs.old) (slice_index done.new) states.new queues.new jobs.new }
-    ensures done { (a : ℕ) → slice_index done.new a ≡ slice_index done.old a + times (actors_of jobs.old) a }
-    ensures counts { length done.new ≡ length done.old }
+        (length jobs.old) (slice_index stage.new.done.items) stage.new.states.items stage.new.queues.items jobs.new }
+    ensures done { (a : ℕ) → slice_index stage.new.done.items a ≡
+        slice_index stage.old.done.items a + times (actors_of jobs.old) a }
+    ensures counts { length stage.new.done.items ≡ length stage.old.done.items }
     ensures blocks { KeepBlocks jobs.old jobs.new }
 {
     row_laws::<A>();
     sdf_graph::laws::counts_grow();
     for place in 0..jobs.len() {
-        settle_at(scene, &mut jobs[place], states, queues, done);
+        settle_at(scene, &mut jobs[place], stage);
     }
 }
 
 /// Fires the row whose jobs these are: all its firings at once, and then one after another they are settled.
 pub(crate) fn fire_row<R: Threads + Sync, A: Actor, G: Gate>(
     rt: &R,
-    scene: &Scene<A>,
+    scene: &Scene<A, G>,
     jobs: &mut [Job<A>],
-    states: &mut [NodeState<A::Token, A::State>],
-    queues: &mut [Queue<A::Token>],
-    done: &mut [u64],
-    gate: &G,
+    stage: &mut Stage<A>,
 )
     requires scene { IsScene A.steps scene.now.net.now scene.now.sizes }
     requires filled { (many low high : ℕ → ℕ) × IsFilling A.steps scene.now.net.now (lists scene.now.inputs.now) many
-        low high (actors_of jobs.old) 0 (slice_index done.old) states.old queues.old jobs.old }
-    requires counted { length done.old ≡ length scene.now.net.now.nodes }
+        low high (actors_of jobs.old) 0 (slice_index stage.old.done.items) stage.old.states.items
+        stage.old.queues.items jobs.old }
+    requires counted { length stage.old.done.items ≡ length scene.now.net.now.nodes }
     ensures settled { (many low high : ℕ → ℕ) → IsFilling A.steps scene.now.net.now (lists scene.now.inputs.now) many
-        low high (actors_of jobs.old) 0 (slice_index done.old) states.old queues.old jobs.old →
-        IsBetween A.steps scene.now.net.now (lists scene.now.inputs.now) many low high (slice_index done.new)
-        states.new queues.new }
-    ensures done { (a : ℕ) → slice_index done.new a ≡ slice_index done.old a + times (actors_of jobs.old) a }
-    ensures counts { length done.new ≡ length done.old }
+        low high (actors_of jobs.old) 0 (slice_index stage.old.done.items) stage.old.states.items
+        stage.old.queues.items jobs.old →
+        IsBetween A.steps scene.now.net.now (lists scene.now.inputs.now) many low high
+        (slice_index stage.new.done.items) stage.new.states.items stage.new.queues.items }
+    ensures done { (a : ℕ) → slice_index stage.new.done.items a ≡
+        slice_index stage.old.done.items a + times (actors_of jobs.old) a }
+    ensures counts { length stage.new.done.items ≡ length stage.old.done.items }
     ensures blocks { KeepBlocks jobs.old jobs.new }
 {
     row_laws::<A>();
-    fire_jobs(
-        rt,
-        scene.net,
-        scene.inputs,
-        &scene.sizes,
-        queues,
-        jobs,
-        gate,
-    );
-    settle_row(scene, jobs, states, queues, done);
+    fire_jobs(rt, scene, &stage.queues, jobs);
+    settle_row(scene, jobs, stage);
 }
 
 /// Fires a row of a table.
 pub(crate) fn run_row<R: Threads + Sync, A: Actor, G: Gate>(
     rt: &R,
-    scene: &Scene<A>,
+    scene: &Scene<A, G>,
     row: &[Option<Firing>],
     jobs: &mut [Job<A>],
-    states: &mut [NodeState<A::Token, A::State>],
-    queues: &mut [Queue<A::Token>],
-    done: &mut [u64],
-    gate: &G,
+    stage: &mut Stage<A>,
 )
     requires scene { IsScene A.steps scene.now.net.now scene.now.sizes }
     requires between { (many low high : ℕ → ℕ) × IsBetween A.steps scene.now.net.now (lists scene.now.inputs.now) many
-        low high (slice_index done.old) states.old queues.old
-        × IsRow A.steps scene.now.net.now (slice_index done.old) high (row_actors row.now) }
-    requires counted { length done.old ≡ length scene.now.net.now.nodes }
+        low high (slice_index stage.old.done.items) stage.old.states.items stage.old.queues.items
+        × IsRow A.steps scene.now.net.now (slice_index stage.old.done.items) high (row_actors row.now) }
+    requires counted { length stage.old.done.items ≡ length scene.now.net.now.nodes }
     requires blocks { HaveBlocks A.steps scene.now.net.now jobs.old }
     requires few { length (firings row.now) ≤ length jobs.old }
     ensures between { (many low high : ℕ → ℕ) → IsBetween A.steps scene.now.net.now (lists scene.now.inputs.now) many
-        low high (slice_index done.old) states.old queues.old →
-        IsRow A.steps scene.now.net.now (slice_index done.old) high (row_actors row.now) →
-        IsBetween A.steps scene.now.net.now (lists scene.now.inputs.now) many low high (slice_index done.new)
-        states.new queues.new }
-    ensures done { (a : ℕ) → slice_index done.new a ≡ slice_index done.old a + times (row_actors row.now) a }
-    ensures counts { length done.new ≡ length done.old }
+        low high (slice_index stage.old.done.items) stage.old.states.items stage.old.queues.items →
+        IsRow A.steps scene.now.net.now (slice_index stage.old.done.items) high (row_actors row.now) →
+        IsBetween A.steps scene.now.net.now (lists scene.now.inputs.now) many low high
+        (slice_index stage.new.done.items) stage.new.states.items stage.new.queues.items }
+    ensures done { (a : ℕ) → slice_index stage.new.done.items a ≡
+        slice_index stage.old.done.items a + times (row_actors row.now) a }
+    ensures counts { length stage.new.done.items ≡ length stage.old.done.items }
     ensures blocks { KeepBlocks jobs.old jobs.new }
 {
     row_laws::<A>();
-    let many = load_row(row, done, states, jobs);
+    let many = load_row(row, &stage.done, &mut stage.states, jobs);
     let (front, _) = jobs.split_at_mut(many);
-    fire_row(rt, scene, front, states, queues, done, gate);
+    fire_row(rt, scene, front, stage);
 }

@@ -25,7 +25,8 @@ pub many_fired_inner : {A S T : Type 0} (s : Steps A S T) (times : ℕ) (ins out
     ((c : ℕ) → c < length qs → samples qs' c ≡ samples mid c ++ dealt puts outs more p c times) →
     ((c : ℕ) → c < length qs → room mid c ≡ room qs c) → ((c : ℕ) → c < length qs → room qs' c ≡ room mid c) →
     AreManyFired s times ins outs takes puts w (Inner actor phase state' taken' put' lengths) qs qs'
-many_fired_inner s times ins outs takes puts qs qs' w actor phase state state' taken put taken' put' lengths mid b p more
+many_fired_inner s times ins outs takes puts qs qs' w actor phase state state' taken put taken' put'
+    lengths mid b p more
     is front next made more_is cap len moved deals rooms rooms' =
     subst (λ w. AreManyFired s times ins outs takes puts w (Inner actor phase state' taken' put' lengths) qs qs')
     (sym is)

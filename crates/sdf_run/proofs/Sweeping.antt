@@ -23,7 +23,7 @@ use Rattle.sdf_answer.specs.Sizes.{phase_of, at_phase}
 use Rattle.sdf_run.specs.Firings.{phase_at, IsActor}
 use Rattle.sdf_run.specs.AtOnce.{GoesAtOnce, CanFireAtOnceAt, AreFiredAt}
 use Rattle.sdf_run.specs.Many.{GoesByMany, HasItsBlocks, Fit, CanFireManyAt, AreManyFiredAt}
-use Rattle.sdf_run.specs.Runs.{FiringLaws, Stands, FiresAlone, CanFireAt, IsFiredAt}
+use Rattle.sdf_run.specs.Runs.{FiringLaws, Stands, IsInRun, FiresAlone, CanFireAt, IsFiredAt}
 use Rattle.sdf_answer.specs.Answer.{periods_of}
 use Rattle.sdf_run.specs.Sweeps.{Sweeps, IsSwept, MayFire, HasRoom, Keeps, IsMoved, AreHeld}
 use Rattle.sdf_run.proofs.Readings.{some_of}
@@ -228,6 +228,16 @@ module _ {A S T : Type 0} (s : Steps A S T) (r : Run A T S) (sw : IsSwept s r) (
   at d = standing.at s r.net.now net r.sizes sw.sizes (lists r.inputs.now) (periods_of r.repetitions.now r.periods)
       before a known r.works.items r.queues.items r.outputs.items sw.stands d
 
+  in_run : IsInRun r a times
+  in_run = record {
+    known = known;
+    worked = omega (arith, sw.stands.nodes, known);
+    takes_known = λ d. omega (arith, at d, sw.sizes.takes_known a (before a) known);
+    puts_known = λ d. omega (arith, at d, sw.sizes.puts_known a (before a) known);
+    counted = place;
+    few = few;
+  }
+
   -- where the runner stands at the counts after them, it is swept
   module _ (r' : Run A T S) (alone : FiresAlone r r' a times)
       (kept_rooms : (c : ℕ) → c < length r.queues.items → room r'.queues.items c ≡ room r.queues.items c)
@@ -299,20 +309,7 @@ module _ {A S T : Type 0} (s : Steps A S T) (r : Run A T S) (sw : IsSwept s r) (
 
   pub can_fire : CanFireAt s r a
   can_fire = record {
-    known = may.0;
-    worked = omega (arith, sw.stands.nodes, may.0);
-    takes_known = λ d. omega (
-      arith,
-      at s r sw net a may.0 1 next d,
-      sw.sizes.takes_known a (get_or r.done.items a 0) may.0,
-    );
-    puts_known = λ d. omega (
-      arith,
-      at s r sw net a may.0 1 next d,
-      sw.sizes.puts_known a (get_or r.done.items a 0) may.0,
-    );
-    counted = place s r sw net a may.0 1 next;
-    few = omega (arith, few s r sw net a may.0 1 next);
+    inside = in_run s r sw net a may.0 1 next;
     can = λ d.
         standing.can_fire s r.net.now net r.sizes sw.sizes (lists r.inputs.now) (periods_of r.repetitions.now r.periods)
         (λ b. get_or r.done.items b 0) a may.0 r.works.items r.queues.items r.outputs.items sw.stands d
@@ -368,20 +365,7 @@ module _ {A S T : Type 0} (s : Steps A S T) (r : Run A T S) (sw : IsSwept s r) (
     ((wiring s r.net.now).outs a)) (held : AreHeld s r a times) where
   pub can_fire_at_once : CanFireAtOnceAt s r a times
   can_fire_at_once = record {
-    known = known;
-    worked = omega (arith, sw.stands.nodes, known);
-    takes_known = λ d. omega (
-      arith,
-      at s r sw net a known times inside d,
-      sw.sizes.takes_known a (get_or r.done.items a 0) known,
-    );
-    puts_known = λ d. omega (
-      arith,
-      at s r sw net a known times inside d,
-      sw.sizes.puts_known a (get_or r.done.items a 0) known,
-    );
-    counted = place s r sw net a known times inside;
-    few = few s r sw net a known times inside;
+    inside = in_run s r sw net a known times inside;
     can = λ d.
         at_once.can_fire s r.net.now net r.sizes sw.sizes (lists r.inputs.now) (periods_of r.repetitions.now r.periods)
         (λ b. get_or r.done.items b 0) a known r.works.items r.queues.items r.outputs.items sw.stands d (goes d)
@@ -425,20 +409,7 @@ module _ {A S T : Type 0} (s : Steps A S T) (fits : (x : A) → PutsFit s x) (r 
 
   pub can_fire_many_at : ((d : Work A T S) → Fit s (get_or r.works.items a d) times) → CanFireManyAt s r a times
   can_fire_many_at fit = record {
-    known = known;
-    worked = omega (arith, sw.stands.nodes, known);
-    takes_known = λ d. omega (
-      arith,
-      at s r sw net a known times inside d,
-      sw.sizes.takes_known a (get_or r.done.items a 0) known,
-    );
-    puts_known = λ d. omega (
-      arith,
-      at s r sw net a known times inside d,
-      sw.sizes.puts_known a (get_or r.done.items a 0) known,
-    );
-    counted = place s r sw net a known times inside;
-    few = few s r sw net a known times inside;
+    inside = in_run s r sw net a known times inside;
     can = λ d.
         can_fire_many s fits r.net.now net r.sizes sw.sizes (lists r.inputs.now)
         (periods_of r.repetitions.now r.periods) (λ b. get_or r.done.items b 0) a known r.works.items r.queues.items

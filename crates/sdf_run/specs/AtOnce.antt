@@ -1,5 +1,5 @@
 -- So many firings of a node at once: when they can be done, and what they do.
-use Rattle.std.specs.Prelude.{◌≡◌, ℕ, ◌+◌, ◌*◌, ◌^◌, ◌≤◌, ◌<◌, List, [], ◌++◌, length, take, drop, slice_index}
+use Rattle.std.specs.Prelude.{◌≡◌, ℕ, ◌+◌, ◌*◌, ◌≤◌, ◌<◌, List, [], ◌++◌, length, take, drop, slice_index}
 use Rattle.std.specs.Prelude.{slice_index_or}
 use Rattle.std.specs.List.{flat_map, between}
 use Rattle.std.specs.declared.vec.Vec.{Vec}
@@ -15,7 +15,7 @@ use Rattle.sdf_answer.specs.Blocks.{samples, room, at_ports, ArePorts}
 use Rattle.sdf_answer.specs.Sizes.{at_phase}
 use Rattle.sdf_answer.specs.Lists.{list, capacity}
 use Rattle.sdf_run.specs.Firings.{phase_at, added}
-use Rattle.sdf_run.specs.Runs.{FiresAlone}
+use Rattle.sdf_run.specs.Runs.{IsInRun, FiresAlone}
 
 -- a node whose firings can be done at once: it has one phase, and a channel on each side at most, not the same on both
 abbrev pub GoesAtOnce : {A S T : Type 0} → Steps A S T → Work A T S → List ℕ → List ℕ → Type 0
@@ -80,12 +80,7 @@ pub record AreFired {A S T Z : Type 0} (s : Steps A S T) (inputs : List (List T)
 
 -- node a of a run can fire so many times at once
 pub record CanFireAtOnceAt {A S T : Type 0} (s : Steps A S T) (r : Run A T S) (a times : ℕ) : Type 0 where
-  pub known : a < length r.net.now.nodes
-  pub worked : a < length r.works.items
-  pub takes_known : (d : Work A T S) → phase_at (slice_index_or r.works.items a d) < length r.sizes.takes
-  pub puts_known : (d : Work A T S) → phase_at (slice_index_or r.works.items a d) < length r.sizes.puts
-  pub counted : a < length r.done.items
-  pub few : slice_index r.done.items a + times < 2 ^ 63
+  pub inside : IsInRun r a times
   pub can : (d : Work A T S) → let w = slice_index_or r.works.items a d in
       CanFireAtOnce s (lists r.inputs.now) times ((wiring s r.net.now).ins a) ((wiring s r.net.now).outs a)
       (at_phase r.sizes.takes (phase_at w)) (at_phase r.sizes.puts (phase_at w)) w r.queues.items r.outputs.items

@@ -1,5 +1,5 @@
 -- So many firings of an actor with several ports, through its blocks: when they can be done, and what they do.
-use Rattle.std.specs.Prelude.{◌≡◌, ℕ, zero, suc, ◌+◌, ◌*◌, ◌^◌, ◌≤◌, ◌<◌, List, [], ◌++◌, length, take, drop}
+use Rattle.std.specs.Prelude.{◌≡◌, ℕ, zero, suc, ◌+◌, ◌*◌, ◌≤◌, ◌<◌, List, [], ◌++◌, length, take, drop}
 use Rattle.std.specs.Prelude.{slice_index, slice_index_or, vec_capacity}
 use Rattle.std.specs.List.{flat_map, sum_by}
 use Rattle.sdf_actor.specs.Steps.{Steps, total_in, sum_in, sum_out, state_at, puts_to}
@@ -13,7 +13,7 @@ use Rattle.sdf_node.specs.Many.{joined}
 use Rattle.sdf_answer.specs.Blocks.{samples, room, at_ports, front_at, dealt, ArePorts}
 use Rattle.sdf_answer.specs.Sizes.{at_phase}
 use Rattle.sdf_run.specs.Firings.{phase_at}
-use Rattle.sdf_run.specs.Runs.{HasBlocks, FiresAlone}
+use Rattle.sdf_run.specs.Runs.{HasBlocks, IsInRun, FiresAlone}
 
 -- an actor of one phase that puts on no channel that it takes from
 abbrev pub GoesByMany : {A S T : Type 0} → Steps A S T → Work A T S → List ℕ → List ℕ → Type 0
@@ -80,12 +80,7 @@ pub record AreManyFired {A S T : Type 0} (s : Steps A S T) (times : ℕ) (ins ou
 
 -- node a of a run can fire so many times
 pub record CanFireManyAt {A S T : Type 0} (s : Steps A S T) (r : Run A T S) (a times : ℕ) : Type 0 where
-  pub known : a < length r.net.now.nodes
-  pub worked : a < length r.works.items
-  pub takes_known : (d : Work A T S) → phase_at (slice_index_or r.works.items a d) < length r.sizes.takes
-  pub puts_known : (d : Work A T S) → phase_at (slice_index_or r.works.items a d) < length r.sizes.puts
-  pub counted : a < length r.done.items
-  pub few : slice_index r.done.items a + times < 2 ^ 63
+  pub inside : IsInRun r a times
   pub can : (d : Work A T S) → let w = slice_index_or r.works.items a d in
       CanFireMany s times ((wiring s r.net.now).ins a) ((wiring s r.net.now).outs a)
       (at_phase r.sizes.takes (phase_at w)) (at_phase r.sizes.puts (phase_at w)) w r.queues.items

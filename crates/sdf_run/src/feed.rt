@@ -1,19 +1,18 @@
 //! A run on one thread that another one goes on from.
 
-ghost use Rattle.std.specs.Prelude.{◌≡◌, ◌*◌, ◌<◌, ℕ, List, map, MatchResult, IfOk};
+ghost use Rattle.std.specs.Prelude.{◌≡◌, ◌^◌, ◌<◌, ℕ, List, map, MatchResult, IfOk};
 ghost use Rattle.sdf_graph.specs.Rates.{rates};
 ghost use Rattle.sdf_sched.specs.Period.{IsPeriodOf};
 ghost use Rattle.sdf_actor.specs.Graphs.{graph_of};
 ghost use Rattle.sdf_actor.specs.Rests.{IsRest};
-ghost use Rattle.sdf_actor.specs.Sides.{list_count, period_samples};
+ghost use Rattle.sdf_actor.specs.Sides.{period_samples};
 ghost use Rattle.sdf_actor.specs.Wires.{lists};
-ghost use Rattle.sdf_actor.specs.declared.sides.Lists.TheVariants.{Inputs, Outputs};
+ghost use Rattle.sdf_actor.specs.declared.sides.Lists.TheVariants.{Inputs};
 ghost use Rattle.sdf_answer.specs.Answer.{HasInputs, periods_of, IsRunFault};
 ghost use Rattle.sdf_answer.specs.Feeds.{HasRun, GoesOnBy};
-ghost use Rattle.sdf_answer.specs.Lists.{AreEmpty};
-ghost use Rattle.sdf_run.specs.Fired.{state_in};
+ghost use Rattle.sdf_run.specs.Fired.{IsPassage, TakeWhatItMakes, state_in};
 
-use crate::fired::fired;
+use crate::fired::{Passage, fired};
 use crate::work::Work;
 use sdf_actor::{Actor, Begun, Net, Rest};
 use sdf_answer::inputs::{are_inputs, first_sample};
@@ -51,24 +50,20 @@ fn states_of<A: Actor>(
 /// What a run makes and leaves.
 fn run<A: Actor>(
     alloc: Global,
-    net: &Net<A>,
-    period: &Period,
-    periods: u32,
-    inputs: &[Vec<A::Token>],
+    passage: Passage<'_, A>,
     filler: A::Token,
     outputs: Vec<Vec<A::Token>>,
 ) -> Result<(Vec<Vec<A::Token>>, Rest<A::Token, A::State>), AllocError>
-    requires period { IsPeriodOf (rates (graph_of A.steps net.now)) period.now }
-    requires inputs { HasInputs net.now period.now.repetitions periods (lists inputs.now) }
-    requires outputs { AreEmpty outputs.items (list_count Outputs net.now.nodes)
-        (periods * period_samples net.now.nodes Outputs period.now.repetitions) }
-    ensures { IfOk result (λ made. HasRun A.steps net.now (lists inputs.now) (periods_of period.now.repetitions periods)
-        (lists made.0.items) made.1) }
+    requires passage { IsPassage A.steps passage }
+    requires short { passage.periods < 2 ^ 32 }
+    requires outputs { TakeWhatItMakes passage outputs.items }
+    ensures { IfOk result (λ made. HasRun A.steps passage.entry.net.now (lists passage.entry.inputs.now)
+        (periods_of passage.entry.period.now.repetitions passage.entry.periods) (lists made.0.items) made.1) }
 {
-    net_facts(net);
+    net_facts(passage.net);
     histories_make_runs::<A>();
     sdf_actor::laws::nets_are_wired::<A>();
-    let finished = fired(alloc, net, period, periods, inputs, filler, outputs)?;
+    let finished = fired(alloc, passage, filler, outputs)?;
     let rest = Rest {
         states: states_of(alloc, &finished.works)?,
         held: held(alloc, &finished.queues)?,
@@ -79,25 +74,21 @@ fn run<A: Actor>(
 /// What a run makes and leaves. Without a sample there are no periods, and nothing fires.
 fn fill<A: Actor>(
     alloc: Global,
-    net: &Net<A>,
-    period: &Period,
-    periods: u32,
-    inputs: &[Vec<A::Token>],
+    passage: Passage<'_, A>,
     outputs: Vec<Vec<A::Token>>,
 ) -> Result<(Vec<Vec<A::Token>>, Rest<A::Token, A::State>), AllocError>
-    requires period { IsPeriodOf (rates (graph_of A.steps net.now)) period.now }
-    requires inputs { HasInputs net.now period.now.repetitions periods (lists inputs.now) }
-    requires some { 0 < period_samples net.now.nodes Inputs period.now.repetitions }
-    requires outputs { AreEmpty outputs.items (list_count Outputs net.now.nodes)
-        (periods * period_samples net.now.nodes Outputs period.now.repetitions) }
-    ensures { IfOk result (λ made. HasRun A.steps net.now (lists inputs.now) (periods_of period.now.repetitions periods)
-        (lists made.0.items) made.1) }
+    requires passage { IsPassage A.steps passage }
+    requires short { passage.periods < 2 ^ 32 }
+    requires some { 0 < period_samples passage.net.now.nodes Inputs passage.period.now.repetitions }
+    requires outputs { TakeWhatItMakes passage outputs.items }
+    ensures { IfOk result (λ made. HasRun A.steps passage.entry.net.now (lists passage.entry.inputs.now)
+        (periods_of passage.entry.period.now.repetitions passage.entry.periods) (lists made.0.items) made.1) }
 {
-    net_facts(net);
+    net_facts(passage.net);
     histories_make_runs::<A>();
-    match first_sample(inputs) {
-        Some(filler) => run(alloc, net, period, periods, inputs, filler, outputs),
-        None => Ok((outputs, net.first_rest(alloc)?)),
+    match first_sample(passage.inputs) {
+        Some(filler) => run(alloc, passage, filler, outputs),
+        None => Ok((outputs, passage.net.first_rest(alloc)?)),
     }
 }
 
@@ -122,7 +113,13 @@ pub fn feed_one<A: Actor>(
     }
     let room = periods as usize * net.samples_out();
     let outputs = make_outputs(alloc, net.outputs(), room)?;
-    let (outputs, rest) = fill(alloc, net, period, periods, inputs, outputs)?;
+    let passage = Passage {
+        net,
+        period,
+        periods,
+        inputs,
+    };
+    let (outputs, rest) = fill(alloc, passage, outputs)?;
     Ok((Ran { outputs, rounds: 0 }, rest))
 }
 

@@ -1,15 +1,8 @@
 //! The firings of a run on one thread.
 
-ghost use Rattle.std.specs.Prelude.{◌≡◌, ◌*◌, ◌≤◌, ◌<◌, map, IfOk};
-ghost use Rattle.sdf_graph.specs.Rates.{rates};
-ghost use Rattle.sdf_sched.specs.Period.{IsPeriodOf};
-ghost use Rattle.sdf_actor.specs.Graphs.{graph_of};
+ghost use Rattle.std.specs.Prelude.{◌≡◌, ◌^◌, ◌≤◌, ◌<◌, map, IfOk};
 ghost use Rattle.sdf_actor.specs.Wires.{lists};
-ghost use Rattle.sdf_actor.specs.Sides.{list_count, period_samples};
-ghost use Rattle.sdf_actor.specs.declared.sides.Lists.TheVariants.{Outputs};
-ghost use Rattle.sdf_answer.specs.Lists.{AreEmpty};
-ghost use Rattle.sdf_answer.specs.Answer.{HasInputs};
-ghost use Rattle.sdf_run.specs.Fired.{HasFiredPeriods};
+ghost use Rattle.sdf_run.specs.Fired.{IsPassage, TakeWhatItMakes, HasFiredPeriods};
 
 use crate::run::Run;
 use crate::setup::make_works;
@@ -43,22 +36,34 @@ fn block_periods(samples: usize) -> u32
     }
 }
 
+/// What is run: so many periods of a net, on inputs that hold them.
+#[derive_where(Clone, Copy)]
+pub(crate) struct Passage<'a, A: Actor> {
+    pub(crate) net: &'a Net<A>,
+    pub(crate) period: &'a Period,
+    pub(crate) periods: u32,
+    pub(crate) inputs: &'a [Vec<A::Token>],
+}
+
 /// A run that has fired all its periods.
 pub(crate) fn fired<'a, A: Actor>(
     alloc: Global,
-    net: &'a Net<A>,
-    period: &'a Period,
-    periods: u32,
-    inputs: &'a [Vec<A::Token>],
+    passage: Passage<'a, A>,
     filler: A::Token,
     outputs: Vec<Vec<A::Token>>,
 ) -> Result<Run<'a, A>, AllocError>
-    requires period { IsPeriodOf (rates (graph_of A.steps net.now)) period.now }
-    requires inputs { HasInputs net.now period.now.repetitions periods (lists inputs.now) }
-    requires outputs { AreEmpty outputs.items (list_count Outputs net.now.nodes)
-        (periods * period_samples net.now.nodes Outputs period.now.repetitions) }
-    ensures { IfOk result (λ run. HasFiredPeriods A.steps net.now (lists inputs.now) period.now.repetitions periods run) }
+    requires passage { IsPassage A.steps passage }
+    requires short { passage.periods < 2 ^ 32 }
+    requires outputs { TakeWhatItMakes passage outputs.items }
+    ensures { IfOk result (λ run. HasFiredPeriods A.steps passage.entry.net.now (lists passage.entry.inputs.now)
+        passage.entry.period.now.repetitions passage.entry.periods run) }
 {
+    let Passage {
+        net,
+        period,
+        periods,
+        inputs,
+    } = passage;
     net_facts(net);
     nets_have_periods(net);
     nets_can_run::<A>();
@@ -68,7 +73,7 @@ pub(crate) fn fired<'a, A: Actor>(
     let works = make_works(alloc, net, &sizes, filler)?;
     let repetitions = period.repetitions();
     let size = block_periods(net.samples_in());
-    let queues = make_queues(alloc, net, repetitions, size)?;
+    let queues = make_queues(alloc, net, repetitions, size, filler)?;
     let done = none_done(alloc, repetitions)?;
     let mut run = Run {
         net,

@@ -22,6 +22,6 @@ pub use mode::Mode;
 pub use one::run_one;
 pub use sdf_answer::{BlockTable, Ran, RunFault, laws};
 pub use sdf_node::{ActorId, Gate, NoGate};
-pub use sdf_rings::{Rings, run_rings};
+pub use sdf_rings::{Rings, Workers, run_rings};
 pub use sdf_rows::run_rows;
 pub use session::{Closed, Session};

@@ -2,15 +2,18 @@
 
 ghost use Rattle.std.specs.Prelude.{◌≡◌, ◌+◌, ◌*◌, ◌≤◌, ◌<◌, ◌↔◌, ℕ, true, false, length, slice_index, slice_index_or};
 ghost use Rattle.std.specs.Prelude.{IsTrue};
+ghost use Rattle.sdf_actor.specs.Nets.{wiring};
 ghost use Rattle.sdf_actor.specs.Steps.{PutsFit};
+ghost use Rattle.sdf_answer.specs.Sizes.{at_phase};
 ghost use Rattle.sdf_run.specs.AtOnce.{CanFireAtOnceAt, AreFiredAt};
 ghost use Rattle.sdf_run.specs.Many.{Fit, CanFireManyAt, AreManyFiredAt};
 ghost use Rattle.sdf_run.specs.Runs.{FiringLaws, CanFireAt, IsFiredAt};
 ghost use Rattle.sdf_run.specs.Sweeps.{IsSwept, MayFire, HasRoom, Keeps, IsMoved, IsLeft, AreHeld};
 
 use crate::block::{blocks_held, hold_blocks};
-use crate::work::{Ports, Work};
+use crate::work::{NodePorts, Work};
 use sdf_actor::{Actor, Net, Side};
+use sdf_answer::blocks::Ports;
 use sdf_answer::{Queue, Sizes};
 
 /// What a run holds. Its net, inputs, sizes, period and length stay as they are.
@@ -36,6 +39,28 @@ pub(crate) struct Run<'a, A: Actor> {
     pub(crate) filler: A::Token,
 }
 
+/// The ports of a node, and what its firings at a phase move there.
+fn ports_at<'b, A: Actor>(net: &'b Net<A>, sizes: &'b Sizes, a: usize, phase: u32) -> NodePorts<'b>
+    requires known { a < length net.now.nodes }
+    requires takes { phase < length sizes.now.takes }
+    requires puts { phase < length sizes.now.puts }
+    ensures ins { result.ins.channels.now ≡ (wiring A.steps net.entry.now).ins a }
+    ensures takes { result.ins.sizes.now ≡ at_phase sizes.entry.now.takes phase }
+    ensures outs { result.outs.channels.now ≡ (wiring A.steps net.entry.now).outs a }
+    ensures puts { result.outs.sizes.now ≡ at_phase sizes.entry.now.puts phase }
+{
+    NodePorts {
+        ins: Ports {
+            channels: net.channels_in(a),
+            sizes: sizes.on(Side::Input, phase),
+        },
+        outs: Ports {
+            channels: net.channels_out(a),
+            sizes: sizes.on(Side::Output, phase),
+        },
+    }
+}
+
 /// The laws that a firing in a run stands on.
 fn step_laws<A: Actor>()
     ensures laws { FiringLaws A.steps }
@@ -57,15 +82,8 @@ impl<'a, A: Actor> Run<'a, A> {
         ensures { IsFiredAt A.steps self.old self.new a }
     {
         let phase = self.works[a].phase();
-        let ins = Ports {
-            channels: self.net.channels_in(a),
-            sizes: self.sizes.on(Side::Input, phase),
-        };
-        let outs = Ports {
-            channels: self.net.channels_out(a),
-            sizes: self.sizes.on(Side::Output, phase),
-        };
-        self.works[a].fire(&ins, &outs, &mut self.queues);
+        let ports = ports_at(self.net, &self.sizes, a, phase);
+        self.works[a].fire(&ports, &mut self.queues);
         self.done[a] += 1;
     }
 
@@ -75,19 +93,10 @@ impl<'a, A: Actor> Run<'a, A> {
         ensures { AreFiredAt A.steps self.old self.new a times }
     {
         let phase = self.works[a].phase();
-        let ins = Ports {
-            channels: self.net.channels_in(a),
-            sizes: self.sizes.on(Side::Input, phase),
-        };
-        let outs = Ports {
-            channels: self.net.channels_out(a),
-            sizes: self.sizes.on(Side::Output, phase),
-        };
+        let ports = ports_at(self.net, &self.sizes, a, phase);
         self.works[a].fire_at_once(
             times,
-            self.filler,
-            &ins,
-            &outs,
+            &ports,
             self.inputs,
             &mut self.queues,
             &mut self.outputs,
@@ -101,15 +110,8 @@ impl<'a, A: Actor> Run<'a, A> {
         ensures { AreManyFiredAt A.steps self.old self.new a times }
     {
         let phase = self.works[a].phase();
-        let ins = Ports {
-            channels: self.net.channels_in(a),
-            sizes: self.sizes.on(Side::Input, phase),
-        };
-        let outs = Ports {
-            channels: self.net.channels_out(a),
-            sizes: self.sizes.on(Side::Output, phase),
-        };
-        self.works[a].fire_many(times, self.filler, &ins, &outs, &mut self.queues);
+        let ports = ports_at(self.net, &self.sizes, a, phase);
+        self.works[a].fire_many(times, self.filler, &ports, &mut self.queues);
         self.done[a] += times;
     }
 

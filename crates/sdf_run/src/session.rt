@@ -22,8 +22,8 @@ use sdf_answer::{BlockTable, Ran, RunFault};
 use sdf_limits::MOST_PATIENCE;
 use sdf_node::Gate;
 use sdf_prec::Table;
-use sdf_rings::{RoomyTable, resume_rings};
-use sdf_rows::resume_rows;
+use sdf_rings::{RoomyTable, Workers, resume_rings};
+use sdf_rows::{TableBlocks, resume_rows};
 use std::alloc::Global;
 use std::marker::Model;
 use std::thread::Threads;
@@ -117,34 +117,46 @@ fn blocks_in<T>(inputs: &[Vec<T>], many: usize, samples: usize) -> Option<u32>
     Some(blocks as u32)
 }
 
+/// What a session keeps to: a net, a table of its blocks, and how these are run.
+#[derive_where(Clone, Copy)]
+struct Terms<'a, A: Actor> {
+    net: &'a Net<A>,
+    table: &'a BlockTable,
+    mode: Mode,
+}
+
 /// Goes on by some blocks.
 fn go_on<R: Threads + AllocGlobal + Sync, A: Actor, G: Gate>(
     rt: &R,
-    net: &Net<A>,
-    table: &BlockTable,
-    mode: Mode,
+    terms: Terms<'_, A>,
     rest: &Rest<A::Token, A::State>,
     blocks: u32,
     inputs: &[Vec<A::Token>],
     gate: &G,
 ) -> Result<(Ran<A::Token>, Rest<A::Token, A::State>), RunFault>
-    requires fits { IsBlockTableOf (rates (graph_of A.steps net.now)) table.now }
-    requires may { MayRun table.now.table mode }
+    requires fits { IsBlockTableOf (rates (graph_of A.steps terms.net.now)) terms.table.now }
+    requires may { MayRun terms.table.now.table terms.mode }
     requires rest { (first : List (List A.Token)) × (few : ℕ)
-        × IsRest A.steps net.now first (periods_of table.now.period.repetitions few) rest.now }
-    ensures { let q = table.now.period.repetitions in let j = table.now.factor in MatchResult result
-        (λ fed. GoesOnBy A.steps net.now q rest.now (blocks * j) (lists inputs.now) (lists fed.0.outputs.items) fed.1
-        × HasRounds table.now.table q j mode blocks fed.0.rounds)
-        (IsRunFault net.now q (blocks * j) (lists inputs.now)) }
+        × IsRest A.steps terms.net.now first (periods_of terms.table.now.period.repetitions few) rest.now }
+    ensures { let n = terms.entry.net.now in let t = terms.entry.table.now in let q = t.period.repetitions in
+        MatchResult result
+        (λ fed. GoesOnBy A.steps n q rest.now (blocks * t.factor) (lists inputs.now) (lists fed.0.outputs.items) fed.1
+        × HasRounds t.table q t.factor terms.entry.mode blocks fed.0.rounds)
+        (IsRunFault n q (blocks * t.factor) (lists inputs.now)) }
 {
+    let Terms { net, table, mode } = terms;
     match mode {
-        Mode::Rows => resume_rows(rt, net, table, rest, blocks, inputs, gate),
+        Mode::Rows => {
+            let plan = TableBlocks { table, blocks };
+            resume_rows(rt, net, &plan, rest, inputs, gate)
+        }
         Mode::Rings { patience, rooms } => {
             let given = RoomyTable {
                 table,
                 rooms: rooms.max(1),
             };
-            resume_rings(rt, net, &given, rest, blocks, inputs, patience, gate)
+            let workers = Workers { rt, gate, patience };
+            resume_rings(workers, net, &given, rest, blocks, inputs)
         }
     }
 }
@@ -219,9 +231,12 @@ impl<'a, A: Actor> Session<'a, A> {
         let Some(blocks) = blocks_in(inputs, self.net.inputs(), samples) else {
             return Err(RunFault::InputLength);
         };
-        let fed = go_on(
-            rt, self.net, self.table, self.mode, rest, blocks, inputs, gate,
-        );
+        let terms = Terms {
+            net: self.net,
+            table: self.table,
+            mode: self.mode,
+        };
+        let fed = go_on(rt, terms, rest, blocks, inputs, gate);
         match fed {
             Ok((ran, last)) => {
                 self.rest = Some(last);

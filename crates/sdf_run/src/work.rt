@@ -14,9 +14,9 @@ use crate::block::whole_blocks;
 use sdf_actor::Actor;
 use sdf_actor::actor::next_phase;
 use sdf_answer::Queue;
-use sdf_answer::blocks::{put_block, take_block};
+use sdf_answer::blocks::{Ports, put_block, take_block};
 use sdf_answer::many_blocks::{put_blocks, take_blocks};
-use sdf_answer::queue::lengthen;
+use sdf_answer::queue::{Firings, lengthen};
 
 /// What a node does in a firing.
 #[derive(Drop)]
@@ -42,11 +42,11 @@ pub(crate) enum Work<'a, A: Actor> {
     },
 }
 
-/// The channels at a node's ports on a side, and how many samples a firing moves on each channel of the net.
+/// The ports of a node on both sides.
 #[derive(Clone, Copy)]
-pub(crate) struct Ports<'a> {
-    pub(crate) channels: &'a [usize],
-    pub(crate) sizes: &'a [usize],
+pub(crate) struct NodePorts<'a> {
+    pub(crate) ins: Ports<'a>,
+    pub(crate) outs: Ports<'a>,
 }
 
 /// Fires an actor at a phase on the block taken. What it puts stands at the front of the other block.
@@ -70,26 +70,32 @@ fn fire_into<A: Actor>(
     actor.fire(phase, state, taken.as_slice(), front);
 }
 
-/// Fires an actor so many times from a phase on the blocks taken. What it puts stands at the front of the other block.
+/// Fires an actor so many times on the first samples of the block taken. What it puts stands at the front of the other
+/// block.
 fn fire_many_into<A: Actor>(
-    actor: &A,
-    phase: u32,
-    times: usize,
+    firings: Firings<'_, A>,
     state: &mut A::State,
     taken: &Vec<A::Token>,
     all: usize,
     put: &mut Vec<A::Token>,
     many: usize,
 )
-    requires phase { phase < A.steps.cycle actor.now }
+    requires phase { firings.phase < A.steps.cycle firings.actor.now }
     requires taken { all ≤ length taken.now.items }
-    requires all { all ≡ sum_in A.steps actor.now phase times }
+    requires all { all ≡ sum_in A.steps firings.actor.now firings.phase firings.times }
     requires put { many ≤ length put.old.items }
-    requires many { many ≡ sum_out A.steps actor.now phase times }
-    ensures state { state.new ≡ state_at A.steps actor.now phase state.old (take all taken.now.items) times }
-    ensures put { take many put.new.items ≡ puts_to A.steps actor.now phase state.old (take all taken.now.items) times }
+    requires many { many ≡ sum_out A.steps firings.actor.now firings.phase firings.times }
+    ensures state { state.new ≡ state_at A.steps firings.entry.actor.now firings.entry.phase state.old
+        (take all taken.now.items) firings.entry.times }
+    ensures put { take many put.new.items ≡ puts_to A.steps firings.entry.actor.now firings.entry.phase state.old
+        (take all taken.now.items) firings.entry.times }
     ensures len { length put.new.items ≡ length put.old.items }
 {
+    let Firings {
+        actor,
+        phase,
+        times,
+    } = firings;
     let (front, _) = put.as_mut_slice().split_at_mut(many);
     actor.fire_many(phase, times, state, &taken[..all], front);
 }
@@ -105,38 +111,33 @@ fn put_front<T: Copy>(ports: &Ports, block: &Vec<T>, many: usize, queues: &mut [
         (take many block.now.items) c }
     ensures rooms { (c : ℕ) → c < length queues.old → room queues.new c ≡ room queues.old c }
 {
-    put_block(ports.channels, ports.sizes, &block[..many], queues);
+    put_block(ports, &block[..many], queues);
 }
 
-/// Takes so many firings' blocks, each of a size, from the channels of the ports to the front of a block with room for
-/// them.
+/// Takes so many firings' blocks, each of a size, from the channels of the ports to the front of a block.
 fn take_fronts<T: Copy>(
     ports: &Ports,
     times: usize,
     size: usize,
-    filler: T,
     block: &mut Vec<T>,
-    many: usize,
     queues: &mut [Queue<T>],
 )
     requires ports { ArePorts ports.now.channels.now ports.now.sizes.now (length queues.old) }
     requires held { (n : ℕ) → n < length ports.now.channels.now →
         times * slice_index ports.now.sizes.now (slice_index ports.now.channels.now n) ≤
         length (samples queues.old (slice_index ports.now.channels.now n)) }
-    requires room { many ≤ vec_capacity block.old }
-    requires many { many ≡ times * size }
+    requires long { times * size ≤ length block.old.items }
     requires size { size ≡ sum_by (slice_index ports.now.sizes.now) ports.now.channels.now }
-    ensures long { many ≤ length block.new.items }
-    ensures block { take many block.new.items ≡
+    ensures block { take (times * size) block.new.items ≡
         joined (front_at ports.now.sizes.now ports.now.channels.now queues.old) times }
+    ensures len { length block.new.items ≡ length block.old.items }
     ensures capacity { vec_capacity block.new ≡ vec_capacity block.old }
     ensures queues { (c : ℕ) → c < length queues.old → samples queues.new c ≡
         drop (at_ports ports.now.channels.now (times * slice_index ports.now.sizes.now c) c) (samples queues.old c) }
     ensures rooms { (c : ℕ) → c < length queues.old → room queues.new c ≡ room queues.old c }
 {
-    lengthen(block, many, filler);
-    let (front, _) = block.as_mut_slice().split_at_mut(many);
-    take_blocks(ports.channels, ports.sizes, times, size, queues, front);
+    let (front, _) = block.as_mut_slice().split_at_mut(times * size);
+    take_blocks(ports, times, size, queues, front);
 }
 
 /// Puts the first samples of a block on the channels of the ports: so many firings' blocks, each of a size.
@@ -144,9 +145,7 @@ fn put_fronts<T: Copy>(
     ports: &Ports,
     times: usize,
     size: usize,
-    filler: T,
     block: &Vec<T>,
-    many: usize,
     queues: &mut [Queue<T>],
 )
     requires ports { ArePorts ports.now.channels.now ports.now.sizes.now (length queues.old) }
@@ -154,23 +153,14 @@ fn put_fronts<T: Copy>(
         length (samples queues.old (slice_index ports.now.channels.now n))
         + times * slice_index ports.now.sizes.now (slice_index ports.now.channels.now n) ≤
         room queues.old (slice_index ports.now.channels.now n) }
-    requires long { many ≤ length block.now.items }
-    requires many { many ≡ times * size }
+    requires long { times * size ≤ length block.now.items }
     requires size { size ≡ sum_by (slice_index ports.now.sizes.now) ports.now.channels.now }
     ensures queues { (c : ℕ) → c < length queues.old →
         samples queues.new c ≡ samples queues.old c ++ dealt ports.now.sizes.now ports.now.channels.now size
-        (take many block.now.items) c times }
+        (take (times * size) block.now.items) c times }
     ensures rooms { (c : ℕ) → c < length queues.old → room queues.new c ≡ room queues.old c }
 {
-    put_blocks(
-        ports.channels,
-        ports.sizes,
-        times,
-        size,
-        filler,
-        &block[..many],
-        queues,
-    );
+    put_blocks(ports, times, size, &block[..times * size], queues);
 }
 
 /// Whether no channel is on both sides.
@@ -208,54 +198,44 @@ fn blocks(times: usize, size: usize, _most: usize) -> usize
 
 /// Fires an actor so many times at once, from one queue's memory to another's.
 fn fire_through<A: Actor>(
-    actor: &A,
-    phase: u32,
-    times: usize,
+    firings: Firings<'_, A>,
     state: &mut A::State,
-    filler: A::Token,
-    ins: &Ports,
-    outs: &Ports,
+    ports: &NodePorts,
     queues: &mut [Queue<A::Token>],
 )
-    requires phase { phase < A.steps.cycle actor.now }
-    requires ins { ArePorts ins.now.channels.now ins.now.sizes.now (length queues.old) }
-    requires outs { ArePorts outs.now.channels.now outs.now.sizes.now (length queues.old) }
-    requires one_in { length ins.now.channels.now ≡ 1 }
-    requires one_out { length outs.now.channels.now ≡ 1 }
-    requires apart { slice_index ins.now.channels.now 0 ≡ slice_index outs.now.channels.now 0 → ⊥ }
-    requires taken { times * slice_index ins.now.sizes.now (slice_index ins.now.channels.now 0) ≡
-        sum_in A.steps actor.now phase times }
-    requires put { times * slice_index outs.now.sizes.now (slice_index outs.now.channels.now 0) ≡
-        sum_out A.steps actor.now phase times }
-    requires held { times * slice_index ins.now.sizes.now (slice_index ins.now.channels.now 0) ≤
-        length (samples queues.old (slice_index ins.now.channels.now 0)) }
-    requires room { length (samples queues.old (slice_index outs.now.channels.now 0))
-        + times * slice_index outs.now.sizes.now (slice_index outs.now.channels.now 0) ≤
-        room queues.old (slice_index outs.now.channels.now 0) }
-    ensures state { state.new ≡ state_at A.steps actor.now phase state.old
-        (fronts times ins.now.sizes.now ins.now.channels.now queues.old) times }
-    ensures queues { (c : ℕ) → c < length queues.old →
-        samples queues.new c ≡ drop (at_ports ins.now.channels.now (times * slice_index ins.now.sizes.now c) c)
+    requires phase { firings.phase < A.steps.cycle firings.actor.now }
+    requires ins { ArePorts ports.now.ins.channels.now ports.now.ins.sizes.now (length queues.old) }
+    requires outs { ArePorts ports.now.outs.channels.now ports.now.outs.sizes.now (length queues.old) }
+    requires one_in { length ports.now.ins.channels.now ≡ 1 }
+    requires one_out { length ports.now.outs.channels.now ≡ 1 }
+    requires apart { slice_index ports.now.ins.channels.now 0 ≡ slice_index ports.now.outs.channels.now 0 → ⊥ }
+    requires taken { firings.times * slice_index ports.now.ins.sizes.now (slice_index ports.now.ins.channels.now 0) ≡
+        sum_in A.steps firings.actor.now firings.phase firings.times }
+    requires put { firings.times * slice_index ports.now.outs.sizes.now (slice_index ports.now.outs.channels.now 0) ≡
+        sum_out A.steps firings.actor.now firings.phase firings.times }
+    requires held { firings.times * slice_index ports.now.ins.sizes.now (slice_index ports.now.ins.channels.now 0) ≤
+        length (samples queues.old (slice_index ports.now.ins.channels.now 0)) }
+    requires room { length (samples queues.old (slice_index ports.now.outs.channels.now 0))
+        + firings.times * slice_index ports.now.outs.sizes.now (slice_index ports.now.outs.channels.now 0) ≤
+        room queues.old (slice_index ports.now.outs.channels.now 0) }
+    ensures state { state.new ≡ state_at A.steps firings.entry.actor.now firings.entry.phase state.old
+        (fronts firings.entry.times ports.now.ins.sizes.now ports.now.ins.channels.now queues.old)
+        firings.entry.times }
+    ensures queues { (c : ℕ) → c < length queues.old → samples queues.new c ≡
+        drop (at_ports ports.now.ins.channels.now (firings.entry.times * slice_index ports.now.ins.sizes.now c) c)
         (samples queues.old c) ++
-        spread (λ d. times * slice_index outs.now.sizes.now d) outs.now.channels.now
-        (puts_to A.steps actor.now phase state.old (fronts times ins.now.sizes.now ins.now.channels.now
-        queues.old) times) c }
+        spread (λ d. firings.entry.times * slice_index ports.now.outs.sizes.now d) ports.now.outs.channels.now
+        (puts_to A.steps firings.entry.actor.now firings.entry.phase state.old
+        (fronts firings.entry.times ports.now.ins.sizes.now ports.now.ins.channels.now queues.old)
+        firings.entry.times) c }
     ensures rooms { (c : ℕ) → c < length queues.old → room queues.new c ≡ room queues.old c }
 {
-    let from = ins.channels[0];
-    let to = outs.channels[0];
-    let many = blocks(times, ins.sizes[from], queues[from].len());
-    let more = blocks(times, outs.sizes[to], queues[to].room());
+    let from = ports.ins.channels[0];
+    let to = ports.outs.channels[0];
+    let many = blocks(firings.times, ports.ins.sizes[from], queues[from].len());
+    let more = blocks(firings.times, ports.outs.sizes[to], queues[to].room());
     let mut target = queues[to].lift();
-    target.put_fired(
-        actor,
-        phase,
-        times,
-        state,
-        queues[from].oldest(many),
-        more,
-        filler,
-    );
+    target.put_fired(firings, state, queues[from].oldest(many), more);
     queues[from].release(many);
     queues[to] = target;
 }
@@ -277,10 +257,12 @@ impl<'a, A: Actor> Work<'a, A> {
 
     /// One firing of an actor: from each channel into it its block is taken, and on each channel out of it a block is
     /// put.
-    pub(crate) fn fire(&mut self, ins: &Ports, outs: &Ports, queues: &mut [Queue<A::Token>])
-        requires { ActorCanFire A.steps ins.now.channels.now outs.now.channels.now ins.now.sizes.now outs.now.sizes.now
+    pub(crate) fn fire(&mut self, ports: &NodePorts, queues: &mut [Queue<A::Token>])
+        requires { ActorCanFire A.steps ports.now.ins.channels.now ports.now.outs.channels.now ports.now.ins.sizes.now
+            ports.now.outs.sizes.now
             self.old queues.old }
-        ensures { IsFired A.steps ins.now.channels.now outs.now.channels.now ins.now.sizes.now outs.now.sizes.now
+        ensures { IsFired A.steps ports.now.ins.channels.now ports.now.outs.channels.now ports.now.ins.sizes.now
+            ports.now.outs.sizes.now
             self.old self.new queues.old queues.new }
     {
         if let Work::Inner {
@@ -293,10 +275,10 @@ impl<'a, A: Actor> Work<'a, A> {
         } = self
         {
             taken.clear();
-            take_block(ins.channels, ins.sizes, queues, taken);
+            take_block(&ports.ins, queues, taken);
             let many = lengths[*phase as usize];
             fire_into(*actor, *phase, state, taken, put, many);
-            put_front(outs, put, many, queues);
+            put_front(&ports.outs, put, many, queues);
             *phase = next_phase(*phase, actor.cycle());
         }
     }
@@ -319,27 +301,26 @@ impl<'a, A: Actor> Work<'a, A> {
     pub(crate) fn fire_at_once(
         &mut self,
         times: usize,
-        filler: A::Token,
-        ins: &Ports,
-        outs: &Ports,
+        ports: &NodePorts,
         inputs: &[Vec<A::Token>],
         queues: &mut [Queue<A::Token>],
         outputs: &mut [Vec<A::Token>],
     )
-        requires { CanFireAtOnce A.steps (lists inputs.now) times ins.now.channels.now outs.now.channels.now
-            ins.now.sizes.now outs.now.sizes.now self.old queues.old outputs.old }
-        ensures { AreFired A.steps (lists inputs.now) times ins.now.channels.now outs.now.channels.now ins.now.sizes.now
-            outs.now.sizes.now self.old self.new queues.old queues.new outputs.old outputs.new }
+        requires { CanFireAtOnce A.steps (lists inputs.now) times ports.now.ins.channels.now ports.now.outs.channels.now
+            ports.now.ins.sizes.now ports.now.outs.sizes.now self.old queues.old outputs.old }
+        ensures { AreFired A.steps (lists inputs.now) times ports.now.ins.channels.now ports.now.outs.channels.now
+            ports.now.ins.sizes.now
+            ports.now.outs.sizes.now self.old self.new queues.old queues.new outputs.old outputs.new }
     {
         match self {
             Work::Source { ext, next, block } => {
                 let last = *next + *block * times;
-                queues[outs.channels[0]].put(&inputs[*ext][*next..last]);
+                queues[ports.outs.channels[0]].put(&inputs[*ext][*next..last]);
                 *next = last;
             }
             Work::Sink { ext } => {
-                let from = ins.channels[0];
-                let many = blocks(times, ins.sizes[from], queues[from].len());
+                let from = ports.ins.channels[0];
+                let many = blocks(times, ports.ins.sizes[from], queues[from].len());
                 queues[from].take(many, &mut outputs[*ext]);
             }
             Work::Inner {
@@ -347,7 +328,14 @@ impl<'a, A: Actor> Work<'a, A> {
                 phase,
                 state,
                 ..
-            } => fire_through(*actor, *phase, times, state, filler, ins, outs, queues),
+            } => {
+                let firings = Firings {
+                    actor: *actor,
+                    phase: *phase,
+                    times,
+                };
+                fire_through(firings, state, ports, queues);
+            }
         }
     }
 
@@ -392,14 +380,15 @@ impl<'a, A: Actor> Work<'a, A> {
         &mut self,
         times: usize,
         filler: A::Token,
-        ins: &Ports,
-        outs: &Ports,
+        ports: &NodePorts,
         queues: &mut [Queue<A::Token>],
     )
-        requires { CanFireMany A.steps times ins.now.channels.now outs.now.channels.now ins.now.sizes.now
-            outs.now.sizes.now self.old queues.old }
-        ensures { AreManyFired A.steps times ins.now.channels.now outs.now.channels.now ins.now.sizes.now
-            outs.now.sizes.now self.old self.new queues.old queues.new }
+        requires { CanFireMany A.steps times ports.now.ins.channels.now ports.now.outs.channels.now
+            ports.now.ins.sizes.now
+            ports.now.outs.sizes.now self.old queues.old }
+        ensures { AreManyFired A.steps times ports.now.ins.channels.now ports.now.outs.channels.now
+            ports.now.ins.sizes.now
+            ports.now.outs.sizes.now self.old self.new queues.old queues.new }
     {
         if let Work::Inner {
             actor,
@@ -411,12 +400,17 @@ impl<'a, A: Actor> Work<'a, A> {
         } = self
         {
             let size = actor.samples_in(*phase);
-            let all = blocks(times, size, taken.capacity());
-            take_fronts(ins, times, size, filler, taken, all, queues);
+            let all = times * size;
+            lengthen(taken, all, filler);
+            take_fronts(&ports.ins, times, size, taken, queues);
             let more = lengths[*phase as usize];
-            let many = blocks(times, more, put.len());
-            fire_many_into(*actor, *phase, times, state, taken, all, put, many);
-            put_fronts(outs, times, more, filler, put, many, queues);
+            let firings = Firings {
+                actor: *actor,
+                phase: *phase,
+                times,
+            };
+            fire_many_into(firings, state, taken, all, put, times * more);
+            put_fronts(&ports.outs, times, more, put, queues);
         }
     }
 }

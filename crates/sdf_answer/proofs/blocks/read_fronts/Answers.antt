@@ -7,10 +7,11 @@ use Rattle.sdf_answer.proofs.blocks.read_fronts.Goals as goal
 
 pub oldest-requires : goal.oldest-requires
 oldest-requires g c =
-    let ports = c.args.ports.now in
+    let ports = c.args.ports.now.channels.now in
     let ls = c.args.queues.now in
     let i = c.loop-c.c-index in
-    let x = same_x ports c.args.sizes.now (length ls) c.requires.ports (slice_index c.args.sizes.now) ls ls i
+    let x = same_x ports c.args.ports.now.sizes.now (length ls) c.requires.ports
+    (slice_index c.args.ports.now.sizes.now) ls ls i
     c.loop-c-test.true
     c.index-queues-c.result c.index-queues-c.result refl in
     let e = ap (λ q. q.samples) c.index-queues-c.is in
@@ -18,13 +19,13 @@ oldest-requires g c =
 
 pub loop-c-preserved : goal.loop-c-preserved
 loop-c-preserved g c =
-    let ports = c.args.ports.now in
-    let sizes = c.args.sizes.now in
+    let ports = c.args.ports.now.channels.now in
+    let sizes = c.args.ports.now.sizes.now in
     let ls = c.args.queues.now in
     let i = c.loop-c.c-index in
     let l = c.loop-c-test.true in
     let size : ℕ = get_or sizes (get_or ports i 0) 0 in
-    let x = same_x ports sizes (length ls) c.requires.ports (slice_index c.args.sizes.now) ls ls i l
+    let x = same_x ports sizes (length ls) c.requires.ports (slice_index c.args.ports.now.sizes.now) ls ls i l
     c.index-queues-c.result
     c.index-queues-c.result refl in
     let e = ap (λ q. q.samples) c.index-queues-c.is in

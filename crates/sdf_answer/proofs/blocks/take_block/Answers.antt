@@ -7,7 +7,8 @@ use Rattle.sdf_answer.proofs.blocks.take_block.Goals as goal
 
 pub take-requires-clause-held : goal.take-requires-clause-held
 take-requires-clause-held g c =
-    holds c.args.ports.now c.args.sizes.now (length c.args.queues.now) c.requires.ports (slice_index c.args.sizes.now)
+    holds c.args.ports.now.channels.now c.args.ports.now.sizes.now (length c.args.queues.now) c.requires.ports
+    (slice_index c.args.ports.now.sizes.now)
     c.args.queues.now c.loop-c.queues c.loop-c.c-index c.loop-c-test.true c.index-queues-c.result
     c.index-queues-c.result
     c.loop-c.auto.queues
@@ -15,14 +16,15 @@ take-requires-clause-held g c =
 
 pub loop-c-preserved : goal.loop-c-preserved
 loop-c-preserved g c =
-    let ports = c.args.ports.now in
-    let sizes = c.args.sizes.now in
+    let ports = c.args.ports.now.channels.now in
+    let sizes = c.args.ports.now.sizes.now in
     let was = c.args.queues.now in
     let i = c.loop-c.c-index in
     let l = c.loop-c-test.true in
     let d : ℕ = get_or ports i 0 in
     let size : ℕ = get_or sizes d 0 in
-    let old = whole ports sizes (length was) c.requires.ports (slice_index c.args.sizes.now) was c.loop-c.queues i l
+    let old = whole ports sizes (length was) c.requires.ports (slice_index c.args.ports.now.sizes.now) was
+    c.loop-c.queues i l
     c.index-queues-c.result
     c.take.new.self c.loop-c.auto.queues c.loop-c.invariant.queues in
     record {
@@ -35,11 +37,13 @@ loop-c-preserved g c =
       len = let more = sum_by-drop_more (λ d. get_or sizes d 0) ports i 0 l in
           omega (arith, c.take.ensures.len, c.take.ensures.capacity);
       capacity = c.take.ensures.capacity ∙ c.loop-c.invariant.capacity;
-      queues = taken_more ports sizes (length was) c.requires.ports (slice_index c.args.sizes.now) was c.loop-c.queues i
+      queues = taken_more ports sizes (length was) c.requires.ports (slice_index c.args.ports.now.sizes.now) was
+          c.loop-c.queues i
           l c.index-queues-c.result
           c.take.new.self c.loop-c.auto.queues
           (ap (λ q. q.samples) c.take.ensures.queue) c.loop-c.invariant.queues;
-      rooms = rooms_more ports sizes (length was) c.requires.ports (slice_index c.args.sizes.now) was c.loop-c.queues i
+      rooms = rooms_more ports sizes (length was) c.requires.ports (slice_index c.args.ports.now.sizes.now) was
+          c.loop-c.queues i
           l c.index-queues-c.result
           c.take.new.self c.loop-c.auto.queues
           (ap (λ q. q.room) c.take.ensures.queue) c.loop-c.invariant.rooms;

@@ -5,11 +5,13 @@ use Rattle.sdf_answer.proofs.blocks.take_block.Given as goal
 
 abbrev pub invariant-loop-c : goal.invariant-loop-c
 invariant-loop-c g l = record {
-  block : l.block.items ≡ l.initial.block.items ++ front l.sizes (take l.c-index l.ports) l.initial.queues;
-  len : vec_len l.block + sum_by (slice_index l.sizes) (drop l.c-index l.ports) ≤ vec_capacity l.block;
+  block : l.block.items ≡ l.initial.block.items ++ front l.ports.sizes.now (take l.c-index l.ports.channels.now)
+      l.initial.queues;
+  len : vec_len l.block + sum_by (slice_index l.ports.sizes.now) (drop l.c-index l.ports.channels.now) ≤
+      vec_capacity l.block;
   capacity : vec_capacity l.block ≡ vec_capacity l.initial.block;
   queues : (c : ℕ) → c < length l.initial.queues →
-      samples l.queues c ≡ drop (at_ports (take l.c-index l.ports) (slice_index l.sizes c) c)
+      samples l.queues c ≡ drop (at_ports (take l.c-index l.ports.channels.now) (slice_index l.ports.sizes.now c) c)
       (samples l.initial.queues c);
   rooms : (c : ℕ) → c < length l.initial.queues → room l.queues c ≡ room l.initial.queues c;
 }

@@ -9,8 +9,8 @@ use Rattle.sdf_answer.proofs.many_blocks.put_blocks.Goals as goal
 
 pub loop-c-preserved : goal.loop-c-preserved
 loop-c-preserved g c =
-    let ports = c.args.ports.now in
-    let sizes = c.args.sizes.now in
+    let ports = c.args.ports.now.channels.now in
+    let sizes = c.args.ports.now.sizes.now in
     let was = c.args.queues.now in
     let i = c.loop-c.c-index in
     let l = c.loop-c-test.true in
@@ -34,8 +34,8 @@ loop-c-preserved g c =
 
 pub returns-clause-queues : goal.returns-clause-queues
 returns-clause-queues g c = λ e k.
-    let ports = c.args.ports.now in
-    let size = slice_index c.args.sizes.now in
+    let ports = c.args.ports.now.channels.now in
+    let size = slice_index c.args.ports.now.sizes.now in
     let i = c.loop-c.c-index in
     let part = λ (j : ℕ). drop c.loop-c.at (take c.args.size (drop (j * c.args.size) c.args.block.now)) in
     let none = joined_none (λ j. spread size (drop i ports) (part j) e) c.args.times

@@ -10,15 +10,15 @@ use Rattle.sdf_answer.proofs.many_blocks.take_blocks.Goals as goal
 
 pub take_row-requires-clause-held : goal.take_row-requires-clause-held
 take_row-requires-clause-held g c =
-    holds c.args.ports.now c.args.sizes.now (length c.args.queues.now) c.requires.ports
-    (λ d. c.args.times * slice_index c.args.sizes.now d) c.args.queues.now
+    holds c.args.ports.now.channels.now c.args.ports.now.sizes.now (length c.args.queues.now) c.requires.ports
+    (λ d. c.args.times * slice_index c.args.ports.now.sizes.now d) c.args.queues.now
     c.loop-c.queues c.loop-c.c-index c.loop-c-test.true c.index-queues-c.result c.index-queues-c.result
     c.loop-c.auto.queues c.requires.held c.loop-c.invariant.queues
 
 pub loop-c-preserved : goal.loop-c-preserved
 loop-c-preserved g c =
-    let ports = c.args.ports.now in
-    let sizes = c.args.sizes.now in
+    let ports = c.args.ports.now.channels.now in
+    let sizes = c.args.ports.now.sizes.now in
     let was = c.args.queues.now in
     let i = c.loop-c.c-index in
     let l = c.loop-c-test.true in
@@ -47,8 +47,8 @@ loop-c-preserved g c =
 
 pub returns-clause-blocks : goal.returns-clause-blocks
 returns-clause-blocks g c =
-    let ports = c.args.ports.now in
-    let sizes = c.args.sizes.now in
+    let ports = c.args.ports.now.channels.now in
+    let sizes = c.args.ports.now.sizes.now in
     let i = c.loop-c.c-index in
     let past = c.loop-c-test.false in
     let none : sum_by (slice_index sizes) (drop i ports) ≡ 0 =

@@ -13,40 +13,42 @@ rounds_of-rounds-requires g c =
     omega (
       arith,
       rows_few c.tables_count.ensures (rates (graph_of g.A.Actor.steps c.args.net.now))
-          c.args.table.now.period.repetitions c.args.table.now.factor c.args.table.now.table
+          c.args.plan.now.table.now.period.repetitions c.args.plan.now.table.now.factor c.args.plan.now.table.now.table
           c.requires.fits.period.least.is.all c.requires.fits.table,
       c.rows.ensures,
     )
 
 pub returns : goal.returns
 returns g c =
-    let q = c.args.table.now.period.repetitions in (
-      given c.args.net.now q (c.args.blocks * c.args.table.now.factor) c.inputs.result c.samples_of_blocks-least.result
+    let q = c.args.plan.now.table.now.period.repetitions in (
+      given c.args.net.now q (c.args.plan.now.blocks * c.args.plan.now.table.now.factor) c.inputs.result
+          c.samples_of_blocks-least.result
           c.samples_in.result (lists c.args.inputs.now) (c.if-not-are_inputs.ensures.0 refl) c.inputs.ensures
           c.samples_of_blocks-least.ensures
           (c.samples_in.ensures.value q c.requires.fits.period.least),
       c.in_ok-outputs.ensures,
-      c.rounds_of-rounds.ensures ∙ ap (λ m. c.args.blocks * m) c.rows.ensures,
+      c.rounds_of-rounds.ensures ∙ ap (λ m. c.args.plan.now.blocks * m) c.rows.ensures,
     )
 
 pub samples_of_blocks-least-requires : goal.samples_of_blocks-least-requires
 samples_of_blocks-least-requires g c =
-    let q = c.args.table.now.period.repetitions in
-    let few = c.blocks_are_small.ensures c.args.table.now.factor q Inputs c.requires.fits.period.least
+    let q = c.args.plan.now.table.now.period.repetitions in
+    let few = c.blocks_are_small.ensures c.args.plan.now.table.now.factor q Inputs c.requires.fits.period.least
     c.requires.fits.table.short in
     omega (
       arith,
       few,
-      ap (λ m. c.args.table.now.factor * m)
+      ap (λ m. c.args.plan.now.table.now.factor * m)
           (c.samples_in.ensures.value q c.requires.fits.period.least),
     )
 
 pub returns-then-not-are_inputs : goal.returns-then-not-are_inputs
 returns-then-not-are_inputs g c = λ has.
-    let q = c.args.table.now.period.repetitions in
+    let q = c.args.plan.now.table.now.period.repetitions in
     both_ways false refl
     (c.if-not-are_inputs.ensures.1
-    (asked c.args.net.now q (c.args.blocks * c.args.table.now.factor) c.inputs.result c.samples_of_blocks-least.result
+    (asked c.args.net.now q (c.args.plan.now.blocks * c.args.plan.now.table.now.factor) c.inputs.result
+    c.samples_of_blocks-least.result
     c.samples_in.result (lists c.args.inputs.now) has c.inputs.ensures c.samples_of_blocks-least.ensures
     (c.samples_in.ensures.value q c.requires.fits.period.least)))
 
@@ -55,13 +57,14 @@ fill-requires-clause-fits g c = λ κs within. c.requires.fits
 
 pub fill-requires-clause-inputs : goal.fill-requires-clause-inputs
 fill-requires-clause-inputs g c = λ κs within.
-    let q = c.args.table.now.period.repetitions in
-    given c.args.net.now q (c.args.blocks * c.args.table.now.factor) c.inputs.result c.samples_of_blocks-least.result
+    let q = c.args.plan.now.table.now.period.repetitions in
+    given c.args.net.now q (c.args.plan.now.blocks * c.args.plan.now.table.now.factor) c.inputs.result
+    c.samples_of_blocks-least.result
     c.samples_in.result (lists c.args.inputs.now) (c.if-not-are_inputs.ensures.0 refl) c.inputs.ensures
     c.samples_of_blocks-least.ensures
     (c.samples_in.ensures.value q c.requires.fits.period.least)
 
 pub fill-requires-clause-some : goal.fill-requires-clause-some
 fill-requires-clause-some g c = λ κs within. subst (λ m. 0 < m)
-    (c.samples_in.ensures.value c.args.table.now.period.repetitions c.requires.fits.period.least)
+    (c.samples_in.ensures.value c.args.plan.now.table.now.period.repetitions c.requires.fits.period.least)
     c.samples_in.ensures.some

@@ -22,8 +22,8 @@ returns-in_ok-held-in-Some g c =
     let q = p.table.now.period.repetitions in
     let made = c.collect.new.outputs in
     let items = c.in_ok-outputs.outputs.items in
-    let run = c.in_ok-fired-in-Some.fired in
-    let over = c.in_ok-fired-in-Some.ensures in
+    let run = c.in_ok-stage-in-Some.stage in
+    let over = c.in_ok-stage-in-Some.ensures in
     let rest : Rest g.row.A-Token.Denot g.row.A-State.Denot =
     record { states = c.in_ok-kept_by-in-Some.field-0; held = c.in_ok-held-in-Some.field-0 } in
     let same : length made ≡ length items = c.collect.ensures.all ∙ ap length c.deref_mut-in-Some.ensures.value in

@@ -1,9 +1,8 @@
-use Rattle.std.proofs.Common.{◌≡◌, ◌*◌, ◌≤◌, ◌++◌, ℕ, length, get_or, take, drop, ap, sym, ◌∙◌, subst, arith}
+use Rattle.std.proofs.Common.{◌*◌, ◌≤◌, ℕ, length, get_or, ap, sym, ◌∙◌, subst, arith}
 use Rattle.std.specs.Prelude.{sum}
 use Rattle.std.proofs.Math.ListN.{get_or-map}
 use Rattle.std.proofs.lemmas.List.{length-map}
 use Rattle.std.proofs.lemmas.List.Sums.{get_or-le-sum_by}
-use Rattle.std.proofs.Math.Seq.{take-append_seam}
 use Rattle.sdf_limits.specs.declared.TheConstants.{MOST_BLOCK}
 use Rattle.sdf_graph.specs.Rates.{rates}
 use Rattle.sdf_graph.specs.Periods.{IsLeastPeriod}
@@ -40,17 +39,15 @@ run_blocks-requires-clause-start g c = λ κs within.
     short (omega arith)
     c.samples_of_blocks-room.result (c.samples_of_blocks-room.ensures
     ∙ ap (λ m. p.blocks * p.table.now.factor * m) (c.samples_out.ensures.value q least))
-    c.deref_mut-4.result.now (λ a. ap (λ xs. get_or xs a 0) (c.deref_mut-4.ensures.value ∙ c.in_ok-done.ensures)
+    c.in_ok-none_done.field-0.items (λ a. ap (λ xs. get_or xs a 0) c.in_ok-none_done.ensures
     ∙ get_or-map (λ (x : ℕ). the_none) q a 0)
-    c.deref_mut-2.result.now c.deref_mut-3.result.now
-    (ap length c.deref_mut-2.ensures.value ∙ (vec_long c.in_ok-states.states ∙ c.in_ok-states.ensures.0))
-    (λ a w l. rw (c.deref_mut-2.ensures.value) (c.in_ok-states.ensures.1 a w l))
-    (ap length c.deref_mut-3.ensures.value ∙ (vec_long c.in_ok-queues.queues ∙ c.in_ok-queues.ensures.0))
-    (λ d l. rw (c.deref_mut-3.ensures.value) (c.in_ok-queues.ensures.1 d l))
+    c.in_ok-make_states.field-0.items c.in_ok-make_queues.field-0.items
+    (vec_long c.in_ok-make_states.field-0 ∙ c.in_ok-make_states.ensures.0) c.in_ok-make_states.ensures.1
+    (vec_long c.in_ok-make_queues.field-0 ∙ c.in_ok-make_queues.ensures.0) c.in_ok-make_queues.ensures.1
 
 pub run_blocks-requires-clause-blocks : goal.run_blocks-requires-clause-blocks
 run_blocks-requires-clause-blocks g c = λ κs within.
-    have_blocks g.A.Actor.steps c.args.net.now c.in_ok-sizes.sizes c.in_ok-sizes.ensures c.deref_mut.result.now
+    have_blocks g.A.Actor.steps c.args.net.now c.in_ok-new.field-0 c.in_ok-new.ensures c.deref_mut.result.now
     c.columns.result
     (ap length c.deref_mut.ensures.value ∙ (vec_long c.in_ok-jobs.jobs ∙ c.in_ok-jobs.ensures.0))
     (λ i d h. rw (c.deref_mut.ensures.value) (c.in_ok-jobs.ensures.1 i d h))
@@ -68,39 +65,18 @@ run_blocks-requires-clause-wide g c = λ κs within. λ i h.
 
 pub returns : goal.returns
 returns g c =
-    let s = g.A.Actor.steps in
-    let n = c.args.net.now in
     let p = c.args.plan.now in
-    let k : ℕ → ℕ = (λ a. get_or c.run_blocks.new.done a 0) in
-    let made = c.run_blocks.new.states in
-    let rest = subst (λ r. IsResting s n (lists c.args.inputs.now) r p.table.now.factor p.blocks p.blocks k made
-    c.run_blocks.new.queues) c.repetitions-repetitions.ensures c.run_blocks.ensures.over in
-    let long : c.in_ok-states.states.len ≡ length made = omega (arith, c.in_ok-states.ensures.0, rest.between.nodes) in
-    let whole = ap (λ m. take m (made ++ drop (length made) c.in_ok-states.states.items)) long
-    ∙ take-append_seam made (drop (length made) c.in_ok-states.states.items) in
-    let held = c.run_blocks.new.queues in
-    let held_long : c.in_ok-queues.queues.len ≡ length held =
-    omega (arith, c.in_ok-queues.ensures.0, rest.between.channels) in
-    let held_whole = ap (λ m. take m (held ++ drop (length held) c.in_ok-queues.queues.items)) held_long
-    ∙ take-append_seam held (drop (length held) c.in_ok-queues.queues.items) in (
+    let k : ℕ → ℕ = (λ a. get_or c.run_blocks.new.stage.done.items a 0) in (
       k,
-      subst (λ v. IsResting s n (lists c.args.inputs.now) p.table.now.period.repetitions p.table.now.factor
-          p.blocks p.blocks k v
-          (take c.in_ok-queues.queues.len (held ++ drop (length held) c.in_ok-queues.queues.items))) (sym whole)
-          (subst (λ v. IsResting s n (lists c.args.inputs.now) p.table.now.period.repetitions p.table.now.factor
-          p.blocks p.blocks k made v)
-          (sym held_whole) rest),
+      subst (λ r. IsResting g.A.Actor.steps c.args.net.now (lists c.args.inputs.now) r p.table.now.factor
+          p.blocks p.blocks
+          k c.run_blocks.new.stage.states.items c.run_blocks.new.stage.queues.items) c.repetitions-repetitions.ensures
+          c.run_blocks.ensures.over,
     )
 
 pub run_blocks-requires-clause-scene : goal.run_blocks-requires-clause-scene
 run_blocks-requires-clause-scene g c = λ κs within.
-    record { good = c.net_facts.ensures.net; sizes = c.in_ok-sizes.ensures }
-
-pub run_blocks-requires-clause-graph : goal.run_blocks-requires-clause-graph
-run_blocks-requires-clause-graph g c = λ κs within. c.net_facts.ensures.graph
-
-pub run_blocks-requires-clause-alike : goal.run_blocks-requires-clause-alike
-run_blocks-requires-clause-alike g c = λ κs within. c.net_facts.ensures.alike
+    record { good = c.net_facts.ensures.net; sizes = c.in_ok-new.ensures }
 
 pub run_blocks-requires-clause-period : goal.run_blocks-requires-clause-period
 run_blocks-requires-clause-period g c = λ κs within. subst
@@ -114,7 +90,7 @@ run_blocks-requires-clause-table g c = λ κs within.
 
 pub run_blocks-requires-clause-counted : goal.run_blocks-requires-clause-counted
 run_blocks-requires-clause-counted g c = λ κs within.
-    ap length (c.deref_mut-4.ensures.value ∙ c.in_ok-done.ensures)
+    ap length c.in_ok-none_done.ensures
     ∙ (length-map c.repetitions-repetitions.result.now (λ (x : ℕ). the_none)
     ∙ (ap length c.repetitions-repetitions.ensures ∙ c.requires.fits.period.least.is.all))
 

@@ -13,27 +13,30 @@ use Rattle.sdf_rows.proofs.runs.run_block.Goals as goal
 use Rattle.sdf_rows.proofs.runs.run_block.Goals.{In-loop-i}
 
 next : (g : Rattle.sdf_rows.proofs.runs.run_block.Given.Over) (c : In-loop-i g) →
-    IsRow g.A.Actor.steps c.args.scene.now.net.now (λ a. get_or c.loop-i.done a 0)
-    (block_after c.args.course.now.repetitions.now c.args.course.now.j (λ a. get_or c.args.done.now a 0))
-    (row_actors (row c.args.course.now.table.now.rows c.loop-i.i))
+    IsRow g.A.Actor.steps c.args.scene.now.net.now (λ a. get_or c.loop-i.stage.done.items a 0)
+    (block_after c.args.timetable.now.repetitions.now c.args.timetable.now.j (λ a. get_or c.args.stage.now.done.items a 0))
+    (row_actors (row c.args.timetable.now.table.now.rows c.loop-i.i))
 next g c =
     row_is g.A.Actor.steps c.args.scene.now.net.now (rates (graph_of g.A.Actor.steps c.args.scene.now.net.now))
-    c.requires.alike (c.graphs_are_sound.ensures (graph_of g.A.Actor.steps c.args.scene.now.net.now)
-    c.requires.graph)
-    c.rows_may_fire.ensures (λ a. get_or (block c.args.course.now.j c.args.course.now.repetitions.now) a 0)
-    c.args.course.now.table.now.rows c.requires.table.table.valid (λ a. get_or c.args.done.now a 0)
+    c.net_facts.ensures.alike (c.graphs_are_sound.ensures (graph_of g.A.Actor.steps c.args.scene.now.net.now)
+    c.net_facts.ensures.graph)
+    c.rows_may_fire.ensures (λ a. get_or (block c.args.timetable.now.j c.args.timetable.now.repetitions.now) a 0)
+    c.args.timetable.now.table.now.rows c.requires.table.table.valid (λ a. get_or c.args.stage.now.done.items a 0)
     c.requires.round c.loop-i.i
-    (omega (arith, c.loop-i-test.true, c.rows-i-end.ensures)) (λ a. get_or c.loop-i.done a 0) c.loop-i.invariant.done
+    (omega (arith, c.loop-i-test.true, c.rows-i-end.ensures)) (λ a. get_or c.loop-i.stage.done.items a 0)
+    c.loop-i.invariant.done
 
 pub run_row-requires-clause-between : goal.run_row-requires-clause-between
 run_row-requires-clause-between g c = λ κs within.
     let b = c.requires.start in
-    let high = block_after c.args.course.now.repetitions.now c.args.course.now.j (λ a. get_or c.args.done.now a 0) in (
+    let high = block_after c.args.timetable.now.repetitions.now c.args.timetable.now.j
+    (λ a. get_or c.args.stage.now.done.items a 0) in (
       b.0,
-      (λ a. get_or c.args.done.now a 0),
+      (λ a. get_or c.args.stage.now.done.items a 0),
       high,
       c.loop-i.invariant.over b.0 b.1,
-      subst (λ r. IsRow g.A.Actor.steps c.args.scene.now.net.now (λ a. get_or c.loop-i.done a 0) high (row_actors r))
+      subst (λ r. IsRow g.A.Actor.steps c.args.scene.now.net.now (λ a. get_or c.loop-i.stage.done.items a 0) high
+          (row_actors r))
           (sym c.row.ensures) (next g (goal.at.run_row-requires-clause-between g c).In-loop-i),
     )
 
@@ -53,13 +56,13 @@ run_row-requires-clause-few g c = λ κs within.
 
 pub loop-i-preserved : goal.loop-i-preserved
 loop-i-preserved g c =
-    let rows = c.args.course.now.table.now.rows in
-    let low : ℕ → ℕ = λ a. get_or c.args.done.now a 0 in
-    let high = block_after c.args.course.now.repetitions.now c.args.course.now.j low in
+    let rows = c.args.timetable.now.table.now.rows in
+    let low : ℕ → ℕ = λ a. get_or c.args.stage.now.done.items a 0 in
+    let high = block_after c.args.timetable.now.repetitions.now c.args.timetable.now.j low in
     record {
       over = λ many st.
           c.run_row.ensures.between many low high (c.loop-i.invariant.over many st)
-          (subst (λ r. IsRow g.A.Actor.steps c.args.scene.now.net.now (λ a. get_or c.loop-i.done a 0) high
+          (subst (λ r. IsRow g.A.Actor.steps c.args.scene.now.net.now (λ a. get_or c.loop-i.stage.done.items a 0) high
           (row_actors r)) (sym c.row.ensures) (next g (goal.at.loop-i-preserved g c).In-loop-i));
       done = λ a. omega (
         arith,
@@ -76,9 +79,9 @@ loop-i-preserved g c =
 pub returns-clause-done : goal.returns-clause-done
 returns-clause-done g c = λ a l.
     let r = rates (graph_of g.A.Actor.steps c.args.scene.now.net.now) in
-    c.loop-i.invariant.done a ∙ ap (λ t. get_or c.args.done.now a 0 + t)
+    c.loop-i.invariant.done a ∙ ap (λ t. get_or c.args.stage.now.done.items a 0 + t)
     (block_counts c.orders_are_passes.ensures.admissible r
-    (λ a. get_or (block c.args.course.now.j c.args.course.now.repetitions.now) a 0)
-    c.args.course.now.table.now.rows c.loop-i.i a
+    (λ a. get_or (block c.args.timetable.now.j c.args.timetable.now.repetitions.now) a 0)
+    c.args.timetable.now.table.now.rows c.loop-i.i a
     c.requires.table.table.valid (omega (arith, c.loop-i-test.false, c.rows-i-end.ensures))
-    (omega (arith, l, c.requires.alike.actors)))
+    (omega (arith, l, c.net_facts.ensures.alike.actors)))

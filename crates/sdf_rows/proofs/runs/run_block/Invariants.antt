@@ -9,14 +9,16 @@ use Rattle.sdf_rows.proofs.runs.run_block.Given as goal
 abbrev pub invariant-loop-i : goal.invariant-loop-i
 invariant-loop-i g l = record {
   over : (many : ℕ → ℕ) →
-      IsBetween g.A.Actor.steps l.scene.net.now (lists l.scene.inputs.now) many (slice_index l.initial.done)
-      (block_after l.course.repetitions.now l.course.j (slice_index l.initial.done)) (slice_index l.initial.done)
-      l.initial.states l.initial.queues →
-      IsBetween g.A.Actor.steps l.scene.net.now (lists l.scene.inputs.now) many (slice_index l.initial.done)
-      (block_after l.course.repetitions.now l.course.j (slice_index l.initial.done)) (slice_index l.done)
-      l.states l.queues;
-  done : (a : ℕ) → slice_index l.done a ≡ slice_index l.initial.done a
-      + times (sequence (take l.i l.course.table.now.rows)) a;
-  counts : length l.done ≡ length l.initial.done;
+      IsBetween g.A.Actor.steps l.scene.net.now (lists l.scene.inputs.now) many (slice_index l.initial.stage.done.items)
+      (block_after l.timetable.repetitions.now l.timetable.j (slice_index l.initial.stage.done.items))
+      (slice_index l.initial.stage.done.items)
+      l.initial.stage.states.items l.initial.stage.queues.items →
+      IsBetween g.A.Actor.steps l.scene.net.now (lists l.scene.inputs.now) many (slice_index l.initial.stage.done.items)
+      (block_after l.timetable.repetitions.now l.timetable.j (slice_index l.initial.stage.done.items))
+      (slice_index l.stage.done.items)
+      l.stage.states.items l.stage.queues.items;
+  done : (a : ℕ) → slice_index l.stage.done.items a ≡ slice_index l.initial.stage.done.items a
+      + times (sequence (take l.i l.timetable.table.now.rows)) a;
+  counts : length l.stage.done.items ≡ length l.initial.stage.done.items;
   blocks : KeepBlocks l.initial.jobs l.jobs;
 }

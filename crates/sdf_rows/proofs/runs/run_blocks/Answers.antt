@@ -11,25 +11,28 @@ pub run_block-requires-clause-start : goal.run_block-requires-clause-start
 run_block-requires-clause-start g c = λ κs within.
     let s = g.A.Actor.steps in
     let n = c.args.scene.now.net.now in
-    let q = c.args.course.now.repetitions.now in
-    let j = c.args.course.now.j in (
+    let q = c.args.timetable.now.repetitions.now in
+    let j = c.args.timetable.now.j in (
       (λ a. c.args.blocks * (j * get_or q a 0)),
-      block_begins s n (rates (graph_of s n)) c.requires.alike
-          (c.graphs_are_sound.ensures (graph_of s n) c.requires.graph) q
-          (c.graphs_have_periods.ensures (graph_of s n) q c.requires.graph c.requires.period.is)
-          (lists c.args.scene.now.inputs.now) j c.args.blocks c.loop.counter (λ a. get_or c.loop.done a 0) c.loop.states
-          c.loop.queues c.loop.invariant.rests c.loop-test.true,
+      block_begins s n (rates (graph_of s n)) c.net_facts.ensures.alike
+          (c.graphs_are_sound.ensures (graph_of s n) c.net_facts.ensures.graph) q
+          (c.graphs_have_periods.ensures (graph_of s n) q c.net_facts.ensures.graph c.requires.period.is)
+          (lists c.args.scene.now.inputs.now) j c.args.blocks c.loop.counter (λ a. get_or c.loop.stage.done.items a 0)
+          c.loop.stage.states.items
+          c.loop.stage.queues.items c.loop.invariant.rests c.loop-test.true,
     )
 
 pub run_block-requires-clause-round : goal.run_block-requires-clause-round
 run_block-requires-clause-round g c = λ κs within.
     let s = g.A.Actor.steps in
     let n = c.args.scene.now.net.now in
-    let q = c.args.course.now.repetitions.now in
-    round_here s n (rates (graph_of s n)) c.requires.alike (c.graphs_are_sound.ensures (graph_of s n) c.requires.graph)
-    q (c.graphs_have_periods.ensures (graph_of s n) q c.requires.graph c.requires.period.is)
-    (lists c.args.scene.now.inputs.now) c.args.course.now.j c.args.blocks c.loop.counter (λ a. get_or c.loop.done a 0)
-    c.loop.states c.loop.queues c.loop.invariant.rests
+    let q = c.args.timetable.now.repetitions.now in
+    round_here s n (rates (graph_of s n)) c.net_facts.ensures.alike
+    (c.graphs_are_sound.ensures (graph_of s n) c.net_facts.ensures.graph)
+    q (c.graphs_have_periods.ensures (graph_of s n) q c.net_facts.ensures.graph c.requires.period.is)
+    (lists c.args.scene.now.inputs.now) c.args.timetable.now.j c.args.blocks c.loop.counter
+    (λ a. get_or c.loop.stage.done.items a 0)
+    c.loop.stage.states.items c.loop.stage.queues.items c.loop.invariant.rests
 
 pub run_block-requires-clause-blocks : goal.run_block-requires-clause-blocks
 run_block-requires-clause-blocks g c = λ κs within.
@@ -40,21 +43,24 @@ pub loop-preserved : goal.loop-preserved
 loop-preserved g c =
     let s = g.A.Actor.steps in
     let n = c.args.scene.now.net.now in
-    let q = c.args.course.now.repetitions.now in
-    let j = c.args.course.now.j in
+    let q = c.args.timetable.now.repetitions.now in
+    let j = c.args.timetable.now.j in
     let begins =
-    block_begins s n (rates (graph_of s n)) c.requires.alike
-    (c.graphs_are_sound.ensures (graph_of s n) c.requires.graph) q
-    (c.graphs_have_periods.ensures (graph_of s n) q c.requires.graph c.requires.period.is)
-    (lists c.args.scene.now.inputs.now) j c.args.blocks c.loop.counter (λ a. get_or c.loop.done a 0) c.loop.states
-    c.loop.queues c.loop.invariant.rests c.loop-test.true in
+    block_begins s n (rates (graph_of s n)) c.net_facts.ensures.alike
+    (c.graphs_are_sound.ensures (graph_of s n) c.net_facts.ensures.graph) q
+    (c.graphs_have_periods.ensures (graph_of s n) q c.net_facts.ensures.graph c.requires.period.is)
+    (lists c.args.scene.now.inputs.now) j c.args.blocks c.loop.counter (λ a. get_or c.loop.stage.done.items a 0)
+    c.loop.stage.states.items
+    c.loop.stage.queues.items c.loop.invariant.rests c.loop-test.true in
     record {
-      rests = block_ends s n (rates (graph_of s n)) c.requires.alike
-          (c.graphs_are_sound.ensures (graph_of s n) c.requires.graph) q
-          (c.graphs_have_periods.ensures (graph_of s n) q c.requires.graph c.requires.period.is)
-          (lists c.args.scene.now.inputs.now) j c.args.blocks c.loop.counter (λ a. get_or c.loop.done a 0) c.loop.states
-          c.loop.queues c.loop.invariant.rests
-          (λ a. get_or c.run_block.new.done a 0) c.run_block.new.states c.run_block.new.queues c.run_block.ensures.done
+      rests = block_ends s n (rates (graph_of s n)) c.net_facts.ensures.alike
+          (c.graphs_are_sound.ensures (graph_of s n) c.net_facts.ensures.graph) q
+          (c.graphs_have_periods.ensures (graph_of s n) q c.net_facts.ensures.graph c.requires.period.is)
+          (lists c.args.scene.now.inputs.now) j c.args.blocks c.loop.counter (λ a. get_or c.loop.stage.done.items a 0)
+          c.loop.stage.states.items
+          c.loop.stage.queues.items c.loop.invariant.rests
+          (λ a. get_or c.run_block.new.stage.done.items a 0) c.run_block.new.stage.states.items
+          c.run_block.new.stage.queues.items c.run_block.ensures.done
           (c.run_block.ensures.over (λ a. c.args.blocks * (j * get_or q a 0)) begins);
       counts = c.run_block.ensures.counts ∙ c.loop.invariant.counts;
       blocks = keep_twice c.args.jobs.now c.loop.jobs c.run_block.new.jobs c.loop.invariant.blocks
@@ -67,7 +73,8 @@ returns g c =
     let n = c.args.scene.now.net.now in
     let e : c.loop.counter ≡ c.args.blocks = omega (arith, c.loop-test.false, c.loop.auto.counter-end) in
     record {
-      over = subst (λ b. IsResting s n (lists c.args.scene.now.inputs.now) c.args.course.now.repetitions.now
-          c.args.course.now.j c.args.blocks b (λ a. get_or c.loop.done a 0) c.loop.states c.loop.queues) e
+      over = subst (λ b. IsResting s n (lists c.args.scene.now.inputs.now) c.args.timetable.now.repetitions.now
+          c.args.timetable.now.j c.args.blocks b (λ a. get_or c.loop.stage.done.items a 0) c.loop.stage.states.items
+          c.loop.stage.queues.items) e
           c.loop.invariant.rests;
     }

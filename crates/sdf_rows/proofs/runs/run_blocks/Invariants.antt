@@ -6,8 +6,8 @@ use Rattle.sdf_rows.proofs.runs.run_blocks.Given as goal
 
 abbrev pub invariant-loop : goal.invariant-loop
 invariant-loop g l = record {
-  rests : IsResting g.A.Actor.steps l.scene.net.now (lists l.scene.inputs.now) l.course.repetitions.now l.course.j
-      l.blocks l.counter (slice_index l.done) l.states l.queues;
-  counts : length l.done ≡ length l.initial.done;
+  rests : IsResting g.A.Actor.steps l.scene.net.now (lists l.scene.inputs.now) l.timetable.repetitions.now l.timetable.j
+      l.blocks l.counter (slice_index l.stage.done.items) l.stage.states.items l.stage.queues.items;
+  counts : length l.stage.done.items ≡ length l.initial.stage.done.items;
   blocks : KeepBlocks l.initial.jobs l.jobs;
 }

@@ -1,12 +1,15 @@
-use Rattle.std.proofs.Common.{◌+◌, length, get_or, ap, ◌∙◌, arith}
+use Rattle.std.proofs.Common.{ℕ, ◌+◌, ◌<◌, length, get_or, sym, ap, ◌∙◌, subst, arith}
+use Rattle.std.specs.List.{All}
 use Rattle.std.proofs.lemmas.List.{length-map}
 use Rattle.sdf_graph.specs.Sequences.{times}
 use Rattle.sdf_actor.specs.Wires.{lists}
+use Rattle.sdf_rows.specs.declared.job.Job.{Job}
+use Rattle.sdf_rows.specs.Jobs.{JobFits, HasFired}
 use Rattle.sdf_rows.specs.Stage.{actors_of}
 use Rattle.sdf_rows.proofs.Known.{Known}
 use Rattle.sdf_rows.proofs.Fills.{all_fit, same_actors, all_back_here, fired_keep, row_over, keep_twice}
 use Rattle.sdf_rows.proofs.stage.fire_row.Goals as goal
-use Rattle.sdf_rows.proofs.stage.fire_row.Goals.{After-row_laws}
+use Rattle.sdf_rows.proofs.stage.fire_row.Goals.{After-row_laws, After-fire_jobs}
 
 net : (g : Rattle.sdf_rows.proofs.stage.fire_row.Given.Over) (c : After-row_laws g) →
     Known g.A.Actor.steps c.args.scene.now.net.now
@@ -19,14 +22,25 @@ net g c = record {
   moves = c.row_laws.ensures.moves;
 }
 
+-- each job has fired on the samples that stood on the channels
+fired : (g : Rattle.sdf_rows.proofs.stage.fire_row.Given.Over) (c : After-fire_jobs g) (i : ℕ)
+    (j : Job g.row.A.Denot g.row.A-Token.Denot g.row.A-State.Denot) → i < length c.args.jobs.now →
+    HasFired g.A.Actor.steps c.args.scene.now.net.now (lists c.args.scene.now.inputs.now) c.args.scene.now.sizes
+    c.args.stage.now.queues.items (get_or c.args.jobs.now i j) (get_or c.fire_jobs.new.jobs i j)
+fired g c i j l = subst (λ qs. HasFired g.A.Actor.steps c.args.scene.now.net.now (lists c.args.scene.now.inputs.now)
+    c.args.scene.now.sizes qs (get_or c.args.jobs.now i j) (get_or c.fire_jobs.new.jobs i j)) c.deref.ensures.value
+    (c.fire_jobs.ensures i j l)
+
 pub fire_jobs-requires-after_bounds : goal.fire_jobs-requires-after_bounds
 fire_jobs-requires-after_bounds g c = λ κs within.
     let b = c.requires.filled in
-    all_fit g.A.Actor.steps c.args.scene.now.net.now
+    subst (λ qs. All (JobFits g.A.Actor.steps c.args.scene.now.net.now (lists c.args.scene.now.inputs.now)
+    c.args.scene.now.sizes qs) c.args.jobs.now) (sym c.deref.ensures.value)
+    (all_fit g.A.Actor.steps c.args.scene.now.net.now
     (net g (goal.at.fire_jobs-requires-after_bounds g c).After-row_laws) c.args.scene.now.sizes
     c.requires.scene.sizes (lists c.args.scene.now.inputs.now)
-    c.row_laws.ensures.steps c.row_laws.ensures.phases b.0 b.1 b.2 (λ a. get_or c.args.done.now a 0) c.args.states.now
-    c.args.queues.now c.args.jobs.now b.3
+    c.row_laws.ensures.steps c.row_laws.ensures.phases b.0 b.1 b.2 (λ a. get_or c.args.stage.now.done.items a 0)
+    c.args.stage.now.states.items c.args.stage.now.queues.items c.args.jobs.now b.3)
 
 pub settle_row-requires-clause-back : goal.settle_row-requires-clause-back
 settle_row-requires-clause-back g c = λ κs within.
@@ -37,9 +51,10 @@ settle_row-requires-clause-back g c = λ κs within.
       all_back_here g.A.Actor.steps c.args.scene.now.net.now
           (net g (goal.at.settle_row-requires-clause-back g c).After-row_laws) c.args.scene.now.sizes
           c.requires.scene.sizes (lists c.args.scene.now.inputs.now)
-          c.row_laws.ensures.steps c.row_laws.ensures.phases b.0 b.1 b.2 (λ a. get_or c.args.done.now a 0)
-          c.args.states.now c.args.queues.now c.args.jobs.now b.3
-          c.fire_jobs.new.jobs c.fire_jobs.auto.jobs c.fire_jobs.ensures,
+          c.row_laws.ensures.steps c.row_laws.ensures.phases b.0 b.1 b.2 (λ a. get_or c.args.stage.now.done.items a 0)
+          c.args.stage.now.states.items c.args.stage.now.queues.items c.args.jobs.now b.3
+          c.fire_jobs.new.jobs c.fire_jobs.auto.jobs (fired g
+          (goal.at.settle_row-requires-clause-back g c).After-fire_jobs),
     )
 
 pub returns-clause-settled : goal.returns-clause-settled
@@ -50,11 +65,13 @@ returns-clause-settled g c = λ many low high was.
     let back =
     all_back_here s n (net g (goal.at.returns-clause-settled g c).After-row_laws) c.args.scene.now.sizes
     c.requires.scene.sizes inputs
-    c.row_laws.ensures.steps c.row_laws.ensures.phases many low high (λ a. get_or c.args.done.now a 0) c.args.states.now
-    c.args.queues.now c.args.jobs.now was
-    c.fire_jobs.new.jobs c.fire_jobs.auto.jobs c.fire_jobs.ensures in
+    c.row_laws.ensures.steps c.row_laws.ensures.phases many low high (λ a. get_or c.args.stage.now.done.items a 0)
+    c.args.stage.now.states.items
+    c.args.stage.now.queues.items c.args.jobs.now was
+    c.fire_jobs.new.jobs c.fire_jobs.auto.jobs (fired g (goal.at.returns-clause-settled g c).After-fire_jobs) in
     row_over s n inputs many low high (actors_of c.fire_jobs.new.jobs) (length c.fire_jobs.new.jobs)
-    (λ a. get_or c.settle_row.new.done a 0) c.settle_row.new.states c.settle_row.new.queues c.settle_row.new.jobs
+    (λ a. get_or c.settle_row.new.stage.done.items a 0) c.settle_row.new.stage.states.items
+    c.settle_row.new.stage.queues.items c.settle_row.new.jobs
     (omega (arith, length-map c.fire_jobs.new.jobs (λ j. j.actor))) (c.settle_row.ensures.settled many low high back)
 
 pub returns-clause-done : goal.returns-clause-done
@@ -63,10 +80,11 @@ returns-clause-done g c = λ a.
     let same =
     same_actors g.A.Actor.steps c.args.scene.now.net.now (net g (goal.at.returns-clause-done g c).After-row_laws)
     c.args.scene.now.sizes c.requires.scene.sizes (lists c.args.scene.now.inputs.now)
-    c.row_laws.ensures.steps c.row_laws.ensures.phases b.0 b.1 b.2 (λ a. get_or c.args.done.now a 0) c.args.states.now
-    c.args.queues.now c.args.jobs.now b.3
-    c.fire_jobs.new.jobs c.fire_jobs.auto.jobs c.fire_jobs.ensures in
-    c.settle_row.ensures.done a ∙ ap (λ w. get_or c.args.done.now a 0 + times w a) same
+    c.row_laws.ensures.steps c.row_laws.ensures.phases b.0 b.1 b.2 (λ a. get_or c.args.stage.now.done.items a 0)
+    c.args.stage.now.states.items
+    c.args.stage.now.queues.items c.args.jobs.now b.3
+    c.fire_jobs.new.jobs c.fire_jobs.auto.jobs (fired g (goal.at.returns-clause-done g c).After-fire_jobs) in
+    c.settle_row.ensures.done a ∙ ap (λ w. get_or c.args.stage.now.done.items a 0 + times w a) same
 
 pub returns-clause-blocks : goal.returns-clause-blocks
 returns-clause-blocks g c =
@@ -74,6 +92,8 @@ returns-clause-blocks g c =
     keep_twice c.args.jobs.now c.fire_jobs.new.jobs c.settle_row.new.jobs
     (fired_keep g.A.Actor.steps c.args.scene.now.net.now (net g (goal.at.returns-clause-blocks g c).After-row_laws)
     c.args.scene.now.sizes c.requires.scene.sizes (lists c.args.scene.now.inputs.now)
-    c.row_laws.ensures.steps c.row_laws.ensures.phases b.0 b.1 b.2 (λ a. get_or c.args.done.now a 0) c.args.states.now
-    c.args.queues.now c.args.jobs.now b.3
-    c.fire_jobs.new.jobs c.fire_jobs.auto.jobs c.fire_jobs.ensures) c.settle_row.ensures.blocks
+    c.row_laws.ensures.steps c.row_laws.ensures.phases b.0 b.1 b.2 (λ a. get_or c.args.stage.now.done.items a 0)
+    c.args.stage.now.states.items
+    c.args.stage.now.queues.items c.args.jobs.now b.3
+    c.fire_jobs.new.jobs c.fire_jobs.auto.jobs (fired g (goal.at.returns-clause-blocks g c).After-fire_jobs))
+    c.settle_row.ensures.blocks

@@ -1,5 +1,5 @@
 use Rattle.std.proofs.Common.{◌≡◌, ◌+◌, ◌<◌, length, get_or, subst, ap, ◌∙◌, arith}
-use Rattle.std.proofs.lemmas.List.{take_all, length-map}
+use Rattle.std.proofs.lemmas.List.{take_all, length-map, length-set}
 use Rattle.sdf_graph.specs.Sequences.{times}
 use Rattle.sdf_actor.specs.Wires.{lists}
 use Rattle.sdf_rows.specs.Stage.{actors_of}
@@ -25,7 +25,7 @@ acts_long : (g : Rattle.sdf_rows.proofs.stage.settle_row.Given.Over) (c : In-loo
 acts_long g c = omega (arith, length-map c.args.jobs.now (λ j. j.actor), c.loop-place-test.true, c.loop-place.auto.jobs)
 
 counted : (g : Rattle.sdf_rows.proofs.stage.settle_row.Given.Over) (c : In-loop-place g) →
-    length c.loop-place.done ≡ length c.args.scene.now.net.now.nodes
+    length c.loop-place.stage.done.items ≡ length c.args.scene.now.net.now.nodes
 counted g c = c.loop-place.invariant.counted ∙ c.requires.counted
 
 pub settle_at-requires-clause-can : goal.settle_at-requires-clause-can
@@ -34,7 +34,8 @@ settle_at-requires-clause-can g c = λ κs within.
     let b = c.requires.back in
     can_settle g.A.Actor.steps c.args.scene.now.net.now (net g c') c.args.scene.now.sizes c.requires.scene.sizes
     (lists c.args.scene.now.inputs.now) b.0 b.1 b.2 (actors_of c.args.jobs.now) c.loop-place.place
-    (λ a. get_or c.loop-place.done a 0) c.loop-place.states c.loop-place.queues c.loop-place.jobs
+    (λ a. get_or c.loop-place.stage.done.items a 0) c.loop-place.stage.states.items c.loop-place.stage.queues.items
+    c.loop-place.jobs
     (c.loop-place.invariant.settled b.0 b.1 b.2 b.3) (acts_long g c') c.index-jobs-place.result
 
 pub settle_at-requires-clause-state : goal.settle_at-requires-clause-state
@@ -43,7 +44,7 @@ settle_at-requires-clause-state g c = λ κs within.
     let b = c.requires.back in
     has_state g.A.Actor.steps c.args.scene.now.net.now (net g c') c.args.scene.now.sizes c.requires.scene.sizes
     (lists c.args.scene.now.inputs.now) b.0 b.1 b.2 (actors_of c.args.jobs.now) c.loop-place.place
-    c.loop-place.done c.loop-place.states c.loop-place.queues c.loop-place.jobs
+    c.loop-place.stage.done.items c.loop-place.stage.states.items c.loop-place.stage.queues.items c.loop-place.jobs
     (c.loop-place.invariant.settled b.0 b.1 b.2 b.3) (acts_long g c') c.index-jobs-place.result (counted g c')
 
 pub settle_at-requires-clause-counted : goal.settle_at-requires-clause-counted
@@ -52,7 +53,7 @@ settle_at-requires-clause-counted g c = λ κs within.
     let b = c.requires.back in
     has_count g.A.Actor.steps c.args.scene.now.net.now (net g c') c.args.scene.now.sizes c.requires.scene.sizes
     (lists c.args.scene.now.inputs.now) b.0 b.1 b.2 (actors_of c.args.jobs.now) c.loop-place.place
-    c.loop-place.done c.loop-place.states c.loop-place.queues c.loop-place.jobs
+    c.loop-place.stage.done.items c.loop-place.stage.states.items c.loop-place.stage.queues.items c.loop-place.jobs
     (c.loop-place.invariant.settled b.0 b.1 b.2 b.3) (acts_long g c') c.index-jobs-place.result (counted g c')
 
 pub settle_at-requires-clause-small : goal.settle_at-requires-clause-small
@@ -61,7 +62,7 @@ settle_at-requires-clause-small g c = λ κs within.
     let b = c.requires.back in
     count_small g.A.Actor.steps c.args.scene.now.net.now (net g c') c.args.scene.now.sizes c.requires.scene.sizes
     (lists c.args.scene.now.inputs.now) b.0 b.1 b.2 (actors_of c.args.jobs.now) c.loop-place.place
-    c.loop-place.done c.loop-place.states c.loop-place.queues c.loop-place.jobs
+    c.loop-place.stage.done.items c.loop-place.stage.states.items c.loop-place.stage.queues.items c.loop-place.jobs
     (c.loop-place.invariant.settled b.0 b.1 b.2 b.3) (acts_long g c') c.index-jobs-place.result (counted g c')
 
 pub loop-place-preserved : goal.loop-place-preserved
@@ -73,19 +74,25 @@ loop-place-preserved g c =
       settled = λ many low high was.
           settled_next g.A.Actor.steps c.args.scene.now.net.now (net g c') c.args.scene.now.sizes c.requires.scene.sizes
           (lists c.args.scene.now.inputs.now) many low high (actors_of c.args.jobs.now) c.loop-place.place
-          c.loop-place.done c.loop-place.states c.loop-place.queues c.loop-place.jobs
+          c.loop-place.stage.done.items c.loop-place.stage.states.items c.loop-place.stage.queues.items
+          c.loop-place.jobs
           (c.loop-place.invariant.settled many low high was) (acts_long g c') d (counted g c')
-          c.settle_at.new.queues c.settle_at.ensures.queues c.settle_at.new.states c.settle_at.new.done
+          c.settle_at.new.stage.queues.items c.settle_at.ensures.queues c.settle_at.new.stage.states.items
+          c.settle_at.new.stage.done.items
           c.settle_at.new.job c.settle_at.ensures.states c.settle_at.ensures.done;
       done = counts_next g.A.Actor.steps c.args.scene.now.net.now (net g c') c.args.scene.now.sizes
           c.requires.scene.sizes (lists c.args.scene.now.inputs.now) b.0 b.1 b.2 (actors_of c.args.jobs.now)
           c.loop-place.place
-          c.loop-place.done c.loop-place.states c.loop-place.queues c.loop-place.jobs
+          c.loop-place.stage.done.items c.loop-place.stage.states.items c.loop-place.stage.queues.items
+          c.loop-place.jobs
           (c.loop-place.invariant.settled b.0 b.1 b.2 b.3) (acts_long g c') d (counted g c')
-          c.settle_at.new.queues c.settle_at.ensures.queues c.settle_at.new.states c.settle_at.new.done
+          c.settle_at.new.stage.queues.items c.settle_at.ensures.queues c.settle_at.new.stage.states.items
+          c.settle_at.new.stage.done.items
           c.settle_at.new.job c.settle_at.ensures.states c.settle_at.ensures.done
-          c.counts_grow.ensures.last c.counts_grow.ensures.others c.args.done.now c.loop-place.invariant.done;
-      counted = omega (arith, c.settle_at.auto.done, c.loop-place.invariant.counted);
+          c.counts_grow.ensures.last c.counts_grow.ensures.others c.args.stage.now.done.items
+          c.loop-place.invariant.done;
+      counted = ap length c.settle_at.ensures.done
+          ∙ (length-set _ _ _ ∙ c.loop-place.invariant.counted);
       blocks = kept_set c.args.jobs.now c.loop-place.jobs c.loop-place.place c.settle_at.new.job d
           c.loop-place.invariant.blocks (omega (arith, c.loop-place-test.true, c.loop-place.auto.jobs))
           c.settle_at.ensures.taken c.settle_at.ensures.put;
@@ -96,7 +103,8 @@ returns-clause-settled g c = λ many low high was.
     let e : c.loop-place.place ≡ length c.args.jobs.now =
     omega (arith, c.loop-place-test.false, c.loop-place.auto.place-end, c.loop-place.auto.jobs) in
     subst (λ i. IsSettling g.A.Actor.steps c.args.scene.now.net.now (lists c.args.scene.now.inputs.now) many low high
-    (actors_of c.args.jobs.now) i (λ a. get_or c.loop-place.done a 0) c.loop-place.states c.loop-place.queues
+    (actors_of c.args.jobs.now) i (λ a. get_or c.loop-place.stage.done.items a 0) c.loop-place.stage.states.items
+    c.loop-place.stage.queues.items
     c.loop-place.jobs) e
     (c.loop-place.invariant.settled many low high was)
 
@@ -105,5 +113,5 @@ returns-clause-done g c = λ a.
     let acts = actors_of c.args.jobs.now in
     let e : c.loop-place.place ≡ length c.args.jobs.now =
     omega (arith, c.loop-place-test.false, c.loop-place.auto.place-end, c.loop-place.auto.jobs) in
-    c.loop-place.invariant.done a ∙ ap (λ w. get_or c.args.done.now a 0 + times w a)
+    c.loop-place.invariant.done a ∙ ap (λ w. get_or c.args.stage.now.done.items a 0 + times w a)
     (take_all c.loop-place.place acts (omega (arith, e, length-map c.args.jobs.now (λ j. j.actor))))

@@ -7,18 +7,19 @@ use Rattle.sdf_run.proofs.work.Work.fire.Goals as goal
 use Rattle.sdf_run.proofs.work.Work.fire.Goals.{After-take_block}
 
 block : (g : Rattle.sdf_run.proofs.work.Work.fire.Given.Over) (c : After-take_block g) →
-    c.take_block.new.block.items ≡ front c.args.ins.now.sizes.now c.args.ins.now.channels.now c.args.queues.now
+    c.take_block.new.block.items ≡ front c.args.ports.now.ins.sizes.now c.args.ports.now.ins.channels.now
+    c.args.queues.now
 block g c = c.take_block.ensures.block ∙ ap (λ xs. xs
-    ++ front c.args.ins.now.sizes.now c.args.ins.now.channels.now c.args.queues.now) c.clear.ensures.items
+    ++ front c.args.ports.now.ins.sizes.now c.args.ports.now.ins.channels.now c.args.queues.now) c.clear.ensures.items
 
 pub fire_into-requires-clause-taken : goal.fire_into-requires-clause-taken
 fire_into-requires-clause-taken g c =
     let can = rw c.in-Inner.is at c.requires.work in
-    let b = front c.args.ins.now.sizes.now c.args.ins.now.channels.now c.args.queues.now in
+    let b = front c.args.ports.now.ins.sizes.now c.args.ports.now.ins.channels.now c.args.queues.now in
     let taken : c.take_block.new.block.items ≡ b =
     c.take_block.ensures.block ∙ ap (λ xs. xs ++ b) c.clear.ensures.items in
-    let all : length b ≡ sum_by (λ d. get_or c.args.ins.now.sizes.now d 0) c.args.ins.now.channels.now =
-    length_front c.args.ins.now.sizes.now c.args.ins.now.channels.now c.args.queues.now c.requires.held in
+    let all : length b ≡ sum_by (λ d. get_or c.args.ports.now.ins.sizes.now d 0) c.args.ports.now.ins.channels.now =
+    length_front c.args.ports.now.ins.sizes.now c.args.ports.now.ins.channels.now c.args.queues.now c.requires.held in
     λ κs within. ap length taken ∙ (all ∙ can.1)
 
 pub returns-in-Inner : goal.returns-in-Inner
@@ -26,8 +27,8 @@ returns-in-Inner g c =
     let s = g.A.Actor.steps in
     let b = block g (goal.at.returns-in-Inner g c).After-take_block in
     let put = c.fire_into.ensures.put ∙ ap (s.puts c.in-Inner.actor.now c.in-Inner.phase c.in-Inner.state) b in
-    fired_inner s c.args.ins.now.channels.now c.args.outs.now.channels.now c.args.ins.now.sizes.now
-    c.args.outs.now.sizes.now c.args.queues.now c.put_front.new.queues
+    fired_inner s c.args.ports.now.ins.channels.now c.args.ports.now.outs.channels.now c.args.ports.now.ins.sizes.now
+    c.args.ports.now.outs.sizes.now c.args.queues.now c.put_front.new.queues
     c.args.self.now c.in-Inner.actor c.in-Inner.phase c.next_phase.result c.in-Inner.state c.fire_into.new.state
     c.in-Inner.taken c.in-Inner.put c.take_block.new.block c.fire_into.new.put c.in-Inner.lengths
     c.take_block.new.queues
@@ -37,6 +38,6 @@ returns-in-Inner g c =
     (c.take_block.ensures.capacity ∙ c.clear.ensures.capacity) c.fire_into.ensures.len
     c.take_block.ensures.queues
     (λ d l. c.put_front.ensures.queues d (omega (arith, c.take_block.auto.queues)) ∙
-    ap (λ ys. samples c.take_block.new.queues d ++ spread (λ e. get_or c.args.outs.now.sizes.now e 0)
-    c.args.outs.now.channels.now ys d) put)
+    ap (λ ys. samples c.take_block.new.queues d ++ spread (λ e. get_or c.args.ports.now.outs.sizes.now e 0)
+    c.args.ports.now.outs.channels.now ys d) put)
     c.take_block.ensures.rooms (λ d l. c.put_front.ensures.rooms d (omega (arith, c.take_block.auto.queues)))

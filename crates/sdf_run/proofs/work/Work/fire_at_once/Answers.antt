@@ -27,13 +27,13 @@ overflow_add-last g c =
 pub put-requires : goal.put-requires
 put-requires g c =
     let can = rw c.in-Source.is at c.requires.work in
-    let to : ℕ = get_or c.args.outs.now.channels.now 0 0 in
+    let to : ℕ = get_or c.args.ports.now.outs.channels.now 0 0 in
     let last : ℕ = c.in-Source.next + c.in-Source.block * c.args.times in
     let known : to < length c.args.queues.now = c.requires.outs_are.known 0 (omega (arith, can.1)) in
-    let x = get_or_default c.args.queues.now to nothing c.index-queues-outs.result known in
-    let fits : length (get_or c.args.queues.now to c.index-queues-outs.result).samples
-    + c.args.times * get_or c.args.outs.now.sizes.now to 0 ≤
-    (get_or c.args.queues.now to c.index-queues-outs.result).room =
+    let x = get_or_default c.args.queues.now to nothing c.index-queues-ports.result known in
+    let fits : length (get_or c.args.queues.now to c.index-queues-ports.result).samples
+    + c.args.times * get_or c.args.ports.now.outs.sizes.now to 0 ≤
+    (get_or c.args.queues.now to c.index-queues-ports.result).room =
     rw (sym x) (c.requires.room 0 (omega (arith, can.1))) in
     let items : list c.args.inputs.now c.in-Source.ext ≡ c.deref.result.now =
     list_is c.args.inputs.now c.in-Source.ext c.index-inputs-ext.result
@@ -51,21 +51,21 @@ returns-in-Source g c =
     list_is c.args.inputs.now c.in-Source.ext c.index-inputs-ext.result
     (omega (arith, can.3, length-map c.args.inputs.now (λ v. v.items)))
     ∙ (ap (λ v. v.items) (sym c.index-inputs-ext.is) ∙ sym c.deref.ensures.value) in
-    fired_source g.A.Actor.steps (lists c.args.inputs.now) c.args.times c.args.ins.now.channels.now
-    c.args.outs.now.channels.now c.args.ins.now.sizes.now c.args.outs.now.sizes.now c.args.queues.now
+    fired_source g.A.Actor.steps (lists c.args.inputs.now) c.args.times c.args.ports.now.ins.channels.now
+    c.args.ports.now.outs.channels.now c.args.ports.now.ins.sizes.now c.args.ports.now.outs.sizes.now c.args.queues.now
     c.args.outputs.now
-    c.args.self.now c.in-Source.ext c.in-Source.next c.in-Source.block c.put.new.self c.index-queues-outs.result
+    c.args.self.now c.in-Source.ext c.in-Source.next c.in-Source.block c.put.new.self c.index-queues-ports.result
     c.in-Source.is c.requires
     (ap (λ q. q.samples) c.put.ensures ∙ ap (λ ys.
-    (get_or c.args.queues.now (get_or c.args.outs.now.channels.now 0 0) c.index-queues-outs.result).samples
+    (get_or c.args.queues.now (get_or c.args.ports.now.outs.channels.now 0 0) c.index-queues-ports.result).samples
     ++ between c.in-Source.next last ys) (sym items))
     (ap (λ q. q.room) c.put.ensures)
 
 pub returns-in-Sink : goal.returns-in-Sink
 returns-in-Sink g c =
-    let from : ℕ = get_or c.args.ins.now.channels.now 0 0 in
-    fired_sink g.A.Actor.steps (lists c.args.inputs.now) c.args.times c.args.ins.now.channels.now
-    c.args.outs.now.channels.now c.args.ins.now.sizes.now c.args.outs.now.sizes.now c.args.queues.now
+    let from : ℕ = get_or c.args.ports.now.ins.channels.now 0 0 in
+    fired_sink g.A.Actor.steps (lists c.args.inputs.now) c.args.times c.args.ports.now.ins.channels.now
+    c.args.ports.now.outs.channels.now c.args.ports.now.ins.sizes.now c.args.ports.now.outs.sizes.now c.args.queues.now
     c.args.outputs.now
     c.args.self.now c.in-Sink.ext c.take.new.list c.index-outputs-ext.result c.take.new.self
     c.index-queues-from-in-Sink.result c.in-Sink.is c.requires

@@ -1,6 +1,6 @@
 use Rattle.std.proofs.Common.{◌≡◌, ◌<◌, ℕ}
 use Rattle.sdf_answer.specs.Parts.{part_of, KeepsOthers}
-use Rattle.sdf_answer.proofs.parts.copy_samples.Given as goal
+use Rattle.sdf_answer.proofs.parts.copy_each.Given as goal
 
 abbrev pub invariant-loop-i : goal.invariant-loop-i
 invariant-loop-i g l = record {

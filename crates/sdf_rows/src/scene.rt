@@ -1,0 +1,13 @@
+//! What all firings of a run share.
+
+use sdf_actor::{Actor, Net};
+use sdf_answer::Sizes;
+
+/// What all firings of a run share.
+#[derive(Drop)]
+pub(crate) struct Scene<'a, A: Actor, G> {
+    pub(crate) net: &'a Net<A>,
+    pub(crate) inputs: &'a [Vec<A::Token>],
+    pub(crate) sizes: Sizes,
+    pub(crate) gate: &'a G,
+}
