@@ -6,9 +6,9 @@ use sdf_actor::Net;
 use sdf_answer::BlockTable;
 use sdf_file::read_design;
 use sdf_kit::Kit;
-use sdf_prec::Costs;
 use sdf_prec::hu::hu;
-use sdf_run::{NoGate, run_one, run_rings, run_rows};
+use sdf_prec::{Costs, Team};
+use sdf_run::{NoGate, Workers, run_one, run_rings, run_rows};
 use sdf_sched::class_s::class_s;
 use sdf_sched::{Lean, Pick, Round, Runs};
 use std::thread::Threads;
@@ -74,7 +74,11 @@ fn run<R: AllocGlobal + Print + Sync + Threads>(
     let graph = net.graph();
     let period = class_s(alloc, graph, net.repetitions(), &mut Round::new())?;
     let costs = Costs::unit(alloc, graph)?;
-    let table = hu(alloc, graph, &period, j, workers, true, &costs)?;
+    let team = Team {
+        workers,
+        homed: true,
+    };
+    let table = hu(alloc, graph, &period, j, team, &costs)?;
     let table = BlockTable {
         period,
         factor: j,
@@ -87,7 +91,14 @@ fn run<R: AllocGlobal + Print + Sync + Threads>(
     let ran = match what {
         "one" => run_one(alloc, net, &table.period, periods, &inputs)?,
         "rows" => run_rows(rt, net, &table, blocks, &inputs, &NoGate)?,
-        _ => run_rings(rt, net, &table, blocks, &inputs, 1000, &NoGate)?,
+        _ => {
+            let workers = Workers {
+                rt,
+                gate: &NoGate,
+                patience: 1000,
+            };
+            run_rings(workers, net, &table, blocks, &inputs)?
+        }
     };
     println!(rt; "end")?;
     Ok(ran.outputs.first().context("an output")?.len())

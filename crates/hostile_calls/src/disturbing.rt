@@ -16,7 +16,7 @@ use sdf_file::Design;
 use sdf_kit::Kit;
 use sdf_options::{Options, Runner};
 use sdf_process::planning::plan;
-use sdf_run::{ActorId, Gate, Ran, RunFault, run_one, run_rings, run_rows};
+use sdf_run::{ActorId, Gate, Ran, RunFault, Workers, run_one, run_rings, run_rows};
 use std::rt::Files;
 use std::sync::atomic::{AtomicU64, Ordering};
 use std::thread::Threads;
@@ -129,7 +129,10 @@ fn run_held<R: AllocGlobal + Sync + Threads>(
     requires fits { IsBlockTableOf (rates (graph_of kit_steps net.now)) table.now }
 {
     match patience {
-        Some(patience) => run_rings(rt, net, table, BLOCKS, inputs, patience, gate),
+        Some(patience) => {
+            let workers = Workers { rt, gate, patience };
+            run_rings(workers, net, table, BLOCKS, inputs)
+        }
         None => run_rows(rt, net, table, BLOCKS, inputs, gate),
     }
 }

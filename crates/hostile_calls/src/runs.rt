@@ -13,7 +13,7 @@ use sdf_answer::BlockTable;
 use sdf_kit::Kit;
 use sdf_options::Runner;
 use sdf_process::Plan;
-use sdf_run::{Gate, NoGate, Ran, RunFault, run_one, run_rings, run_rows};
+use sdf_run::{Gate, NoGate, Ran, RunFault, Workers, run_one, run_rings, run_rows};
 use std::alloc::{AllocError, Global};
 use std::io;
 use std::thread::Threads;
@@ -61,7 +61,14 @@ pub(crate) fn run_blocks<R: AllocGlobal + Sync + Threads, G: Gate>(
     requires fits { IsBlockTableOf (rates (graph_of kit_steps net.now)) table.now }
 {
     match plan.runner() {
-        Runner::Rings => run_rings(rt, net, table, BLOCKS, inputs, plan.patience(), gate),
+        Runner::Rings => {
+            let workers = Workers {
+                rt,
+                gate,
+                patience: plan.patience(),
+            };
+            run_rings(workers, net, table, BLOCKS, inputs)
+        }
         _ => run_rows(rt, net, table, BLOCKS, inputs, gate),
     }
 }

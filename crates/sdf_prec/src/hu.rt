@@ -18,6 +18,7 @@ use crate::facts::graph_laws;
 use crate::fault::PrecFault;
 use crate::levels::levels;
 use crate::table::Table;
+use crate::team::Team;
 use crate::timed::without_times;
 use sdf_graph::Graph;
 use sdf_sched::Period;
@@ -53,7 +54,7 @@ fn table_for(alloc: Global, graph: &Graph, job: &Job, width: usize) -> Result<Ta
     Ok(table)
 }
 
-/// The table of Hu's rule with costs for a block of `j` periods and `m` workers, free or with a home for each actor.
+/// The table of Hu's rule with costs for a block of `j` periods and a team, free or with a home for each actor.
 ///
 /// A fault is the first of `BlockingFactor`, `WorkerCount`, `BlockTooLong`. The time is linear in the firings, each
 /// times the actors and links of the graph. (Hu 1961; costs, columns, homes and ties are the profile's.)
@@ -63,20 +64,19 @@ pub fn hu(
     graph: &Graph,
     period: &Period,
     j: u32,
-    m: usize,
-    homed: bool,
+    team: Team,
     costs: &Costs,
 ) -> Result<Table, PrecFault>
     requires period { IsPeriodOf (rates graph.now) period.now }
     requires costs { AreCosts graph.now.actors costs.now }
     ensures { MatchResult result
-        (λ t. IsSize j m period.now.repetitions × IsHuTable (rates graph.now)
-        (slice_index (block j period.now.repetitions)) (slice_index costs.now) m homed t)
-        (IsSizeFault j m period.now.repetitions) }
+        (λ t. IsSize j team.workers period.now.repetitions × IsHuTable (rates graph.now)
+        (slice_index (block j period.now.repetitions)) (slice_index costs.now) team.workers team.homed t)
+        (IsSizeFault j team.workers period.now.repetitions) }
 {
     graph.channels();
     graph_laws();
-    if let Some(fault) = size_fault(j, m, period.repetitions()) {
+    if let Some(fault) = size_fault(j, team.workers, period.repetitions()) {
         return Err(fault);
     }
     let by_level = levels(alloc, graph, period, j, costs)?;
@@ -87,8 +87,8 @@ pub fn hu(
         levels: &by_level,
         costs,
         weights: &weights,
-        homed,
+        homed: team.homed,
     };
-    let table = table_for(alloc, graph, &job, m)?;
+    let table = table_for(alloc, graph, &job, team.workers)?;
     Ok(table)
 }

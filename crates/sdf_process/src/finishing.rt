@@ -22,7 +22,7 @@ use crate::task::{SharedTask, Task};
 use sdf_kit::Kit;
 use sdf_options::Runner;
 use sdf_run::laws::{nets_have_periods, runs_go_on};
-use sdf_run::{Gate, Ran, RunFault, run_rings, run_rows};
+use sdf_run::{Gate, Ran, RunFault, Workers, run_rings, run_rows};
 use sdf_wav::{ContentOut, Wav, Writer};
 use std::thread::Threads;
 
@@ -54,8 +54,12 @@ fn run_blocks<T: Threads + AllocGlobal + Sync, G: Gate>(
     let SharedTask { task, table } = shared;
     match task.plan.runner() {
         Runner::Rings => {
-            let patience = task.plan.patience();
-            run_rings(rt, task.net, table, blocks, inputs, patience, gate)
+            let workers = Workers {
+                rt,
+                gate,
+                patience: task.plan.patience(),
+            };
+            run_rings(workers, task.net, table, blocks, inputs)
         }
         _ => run_rows(rt, task.net, table, blocks, inputs, gate),
     }

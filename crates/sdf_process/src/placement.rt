@@ -9,7 +9,7 @@ use sdf_file::Design;
 use sdf_options::{Options, Placement, Policy};
 use sdf_prec::hu::hu;
 use sdf_prec::long::long_block;
-use sdf_prec::{PrecFault, Table};
+use sdf_prec::{PrecFault, Table, Team};
 use sdf_sched::Period;
 use std::alloc::Global;
 
@@ -39,24 +39,20 @@ pub(crate) fn table_by(
     let graph = design.net().graph();
     let m = options.workers;
     match options.placement {
-        Placement::Hu => hu(
-            alloc,
-            graph,
-            period,
-            j,
-            m,
-            false,
-            &design.firing_costs(alloc)?,
-        ),
-        Placement::Homed => hu(
-            alloc,
-            graph,
-            period,
-            j,
-            m,
-            true,
-            &design.firing_costs(alloc)?,
-        ),
+        Placement::Hu => {
+            let team = Team {
+                workers: m,
+                homed: false,
+            };
+            hu(alloc, graph, period, j, team, &design.firing_costs(alloc)?)
+        }
+        Placement::Homed => {
+            let team = Team {
+                workers: m,
+                homed: true,
+            };
+            hu(alloc, graph, period, j, team, &design.firing_costs(alloc)?)
+        }
         Placement::File => match options.policy {
             Policy::Runs => Table::by_homes_in_runs(alloc, graph, period, j, m, design.homes()),
             Policy::Round | Policy::Lean => Table::by_homes(

@@ -22,7 +22,8 @@ use Rattle.sdf_answer.specs.Sizes.{sizes}
 use Rattle.sdf_rings.specs.Stands.{OwnBegin, IsStand, HasMoved}
 use Rattle.sdf_rings.proofs.Blocks.{block_in}
 use Rattle.sdf_rings.proofs.Known.{out_in, in_in, sent_at, received_at}
-use Rattle.sdf_rings.proofs.Knowing.{FiringLaws, IsOneMore, one_more}
+use Rattle.sdf_rings.specs.FiringLaws.{FiringLaws}
+use Rattle.sdf_rings.proofs.Knowing.{IsOneMore, one_more}
 use Rattle.sdf_rings.proofs.Onward.{HasGoneOn, gone_on}
 use Rattle.sdf_rings.proofs.Tells.{some}
 use Rattle.sdf_rings.proofs.Looking.{vec_in}

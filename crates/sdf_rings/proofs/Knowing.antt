@@ -11,22 +11,15 @@ use Rattle.std.proofs.lemmas.Bool.{cases_eq, cond-true, cond-false, eq-eqb, ne_e
 use mathlib.Core.List.{IsPrefix}
 use Rattle.sdf_actor.specs.Steps.{Steps}
 use Rattle.sdf_actor.specs.Histories.{Wiring, IsWired, taken, taken_before, spread}
-use Rattle.sdf_actor.specs.Laws.{NetsAreWired, PortsHaveChannels, TakenStays}
-use Rattle.sdf_actor.specs.Locals.{IsLocal, LocalsGrow}
+use Rattle.sdf_actor.specs.Locals.{IsLocal}
 use Rattle.sdf_actor.specs.Nets.{Netlist, wire, node, wiring, answers, answer_of, inputs_of, outputs_of, to_port, IsNet}
 use Rattle.sdf_actor.specs.declared.sides.Side.TheVariants.{Input, Output}
 use Rattle.sdf_rings.specs.Blocks.{start_at, block_of}
 use Rattle.sdf_answer.specs.Sizes.{sizes}
+use Rattle.sdf_rings.specs.FiringLaws.{FiringLaws}
 use Rattle.sdf_rings.proofs.Blocks.{block_in}
 use Rattle.sdf_rings.proofs.Deals.{blocks_joined}
 use Rattle.sdf_rings.proofs.PortBlocks.{size_at, port_of, consumed_is, all_out}
-
--- the laws that a firing stands on
-pub record FiringLaws {A S T : Type 0} (s : Steps A S T) : Type 0 where
-  pub wired : NetsAreWired s
-  pub ports : PortsHaveChannels s
-  pub grows : LocalsGrow s
-  pub stays : TakenStays s
 
 -- one block a firing
 pub length_taken_before : {A : Type 0} (f : Wiring A) (V : ℕ → List A) (a i : ℕ) → length (taken_before f V a i) ≡ i

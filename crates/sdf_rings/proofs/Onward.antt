@@ -19,7 +19,7 @@ use Rattle.sdf_rings.specs.declared.stand.Stand.{Stand}
 use Rattle.sdf_rings.specs.Ends.{DrewEach, GaveEach}
 use Rattle.sdf_rings.specs.Stands.{IsStand, HasMoved}
 use Rattle.sdf_rings.proofs.Known.{received_at, in_in, port_at}
-use Rattle.sdf_rings.proofs.Knowing.{FiringLaws}
+use Rattle.sdf_rings.specs.FiringLaws.{FiringLaws}
 use Rattle.sdf_rings.proofs.OwnEnds.{own_pairs_kept}
 use Rattle.sdf_rings.proofs.Looking.{vec_in, items_long}
 

@@ -10,7 +10,8 @@ use Rattle.sdf_actor.specs.Histories.{Wiring, Answers, taken, put, taken_before,
 use Rattle.sdf_actor.specs.Nets.{Netlist, node, wiring, answers, IsNet, IsHistoryOf}
 use Rattle.sdf_rings.specs.Machine.{Machine, Event, Take, Put, at_start, happens, IsAllowed, IsRun, after}
 use Rattle.sdf_rings.specs.MachineLaws.{blocks_left, Idle, resting, firings, capacity, IsQuiescent, IsStateOf, HasGrown}
-use Rattle.sdf_rings.specs.MachineLaws.{IsWithin, IsMachinePlan, MachinePlan, IsLike, QuiescentReached, QuiescentIsReached}
+use Rattle.sdf_rings.specs.MachineLaws.{IsWithin, IsMachinePlan, MachinePlan, IsLike, QuiescentReached}
+use Rattle.sdf_rings.specs.MachineLaws.{QuiescentIsReached}
 use Rattle.sdf_rings.proofs.Kept.{NetLaws, Keeps, keeps_start, keeps_run, last_agrees}
 use Rattle.sdf_rings.proofs.Plans.{sequence_of, plan_sequence, room_first}
 use Rattle.sdf_rings.proofs.Progress.{goes_on}
@@ -142,7 +143,8 @@ module _ {A S T : Type 0} (s : Steps A S T) (laws : NetLaws s) (n : Netlist A T)
 
 module _ (last : LastCountsMore) (others : OthersCountSame) (alike : AlikeSequences) (repeats : TablesRepeat)
     {A S T : Type 0} (s : Steps A S T) (laws : NetLaws s) where
-  module _ (n : Netlist A T) (inputs : List (List T)) (p : MachinePlan) (b : ℕ) (plan : IsMachinePlan s n p) (y : Idle S T)
+  module _ (n : Netlist A T) (inputs : List (List T)) (p : MachinePlan) (b : ℕ)
+      (plan : IsMachinePlan s n p) (y : Idle S T)
       (quiet : IsQuiescent s n inputs (capacity p) y)
       (short : (a : ℕ) → a < length n.nodes → y.done a ≤ firings p b a) where
     -- from where the history is kept a run leads to the quiescent state

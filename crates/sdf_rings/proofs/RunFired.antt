@@ -25,17 +25,20 @@ use Rattle.sdf_node.specs.Many.{nth_block, listed, joined, AreWhole, CanStepMany
 use Rattle.sdf_node.specs.Nodes.{phase_at, takes_of, puts_of, IsAt}
 use Rattle.sdf_node.specs.declared.node.NodeState.{NodeState}
 use Rattle.sdf_answer.specs.Sizes.{sizes, phase_of, at_phase, AreRows}
+use Rattle.sdf_rings.specs.declared.run_ends.RunBlocks.{RunBlocks}
 use Rattle.sdf_rings.specs.declared.stand.Stand.{Stand}
 use Rattle.sdf_rings.specs.Blocks.{start_at, block_of}
+use Rattle.sdf_rings.specs.RunBlocks.{HasPorts}
 use Rattle.sdf_rings.specs.Ends.{Drew, Gave, DrewEach, GaveEach, HoldsEach, HasRoomEach}
 use Rattle.sdf_rings.specs.Stands.{IsStand, HasMoved}
 use Rattle.sdf_rings.specs.Together.{GoesInRuns, CanRun}
 use Rattle.sdf_rings.proofs.Blocks.{block_in}
 use Rattle.sdf_rings.proofs.Deals.{start_at_same, start_at_all}
-use Rattle.sdf_rings.proofs.Knowing.{FiringLaws, length_taken_before}
+use Rattle.sdf_rings.specs.FiringLaws.{FiringLaws}
+use Rattle.sdf_rings.proofs.Knowing.{length_taken_before}
 use Rattle.sdf_rings.proofs.Onward.{HasGoneOn, gone_on}
 use Rattle.sdf_rings.proofs.RunEnds.{same_joined, few_kept}
-use Rattle.sdf_rings.proofs.Standing.{phase_is, row_size, row_sum, row_part}
+use Rattle.sdf_rings.proofs.Standing.{phase_is, row_all, row_size, row_sum, row_part}
 use Rattle.sdf_rings.proofs.PortBlocks.{sizes_taken, sizes_put, ins_long, consumed_in, produced_out}
 use Rattle.sdf_rings.proofs.Running.{IsManyMore, many_more}
 
@@ -164,20 +167,26 @@ module _ {A S T : Type 0} (s : Steps A S T) (laws : FiringLaws s) (join : Blocks
     pub zero_phase : 0 ≡ phase_at x.state
     zero_phase = sym (phase_is s keep n inputs x st ∙ (λ k. one k x.done))
 
-    module _ (z : Node A) (z_is : z ≡ node n x.actor) (size : ℕ) (row : List ℕ) where
-      pub in_size : size ≡ takes_of s z 0 → row ≡ at_phase (lists x.takes.items) 0 → (ports : ℕ) →
-          ports ≡ inputs_of s (node n x.actor) → size ≡ start_at (λ p. get_or row p 0) ports
-      in_size size_is row_is ports all =
-          size_is ∙ (ap (λ v. takes_of s v 0) z_is ∙ (in_all
-          ∙ (sym (row_sum s keep n inputs x st Input (lists x.takes.items) st.takes 0 zero_phase row row_is)
-          ∙ ap (start_at (λ p. get_or row p 0)) (sym all))))
+    module _ (z : Node A) (z_is : z ≡ node n x.actor) (r : RunBlocks) where
+      pub in_ports : r.size ≡ takes_of s z 0 → r.sizes.now ≡ at_phase (lists x.takes.items) 0 → (ports : ℕ) →
+          ports ≡ inputs_of s (node n x.actor) → HasPorts r ports
+      in_ports size_is row_is ports all = record {
+        all = all
+            ∙ sym (row_all s keep n inputs x st Input (lists x.takes.items) st.takes 0 zero_phase r.sizes.now row_is);
+        size_is = size_is ∙ (ap (λ v. takes_of s v 0) z_is ∙ (in_all
+            ∙ (sym (row_sum s keep n inputs x st Input (lists x.takes.items) st.takes 0 zero_phase r.sizes.now row_is)
+            ∙ ap (start_at (λ p. get_or r.sizes.now p 0)) (sym all))));
+      }
 
-      pub out_size : size ≡ puts_of s z 0 → row ≡ at_phase (lists x.puts.items) 0 → (ports : ℕ) →
-          ports ≡ outputs_of s (node n x.actor) → size ≡ start_at (λ p. get_or row p 0) ports
-      out_size size_is row_is ports all =
-          size_is ∙ (ap (λ v. puts_of s v 0) z_is ∙ (out_all
-          ∙ (sym (row_sum s keep n inputs x st Output (lists x.puts.items) st.puts 0 zero_phase row row_is)
-          ∙ ap (start_at (λ p. get_or row p 0)) (sym all))))
+      pub out_ports : r.size ≡ puts_of s z 0 → r.sizes.now ≡ at_phase (lists x.puts.items) 0 → (ports : ℕ) →
+          ports ≡ outputs_of s (node n x.actor) → HasPorts r ports
+      out_ports size_is row_is ports all = record {
+        all = all
+            ∙ sym (row_all s keep n inputs x st Output (lists x.puts.items) st.puts 0 zero_phase r.sizes.now row_is);
+        size_is = size_is ∙ (ap (λ v. puts_of s v 0) z_is ∙ (out_all
+            ∙ (sym (row_sum s keep n inputs x st Output (lists x.puts.items) st.puts 0 zero_phase r.sizes.now row_is)
+            ∙ ap (start_at (λ p. get_or r.sizes.now p 0)) (sym all))));
+      }
 
     pub holds_run : (row : List ℕ) → row ≡ at_phase (lists x.takes.items) 0 →
         (ends : List (Consumer T Global AnyItems)) → ends ≡ x.ins.items → HoldsEach (λ i. many * get_or row i 0) ends

@@ -10,7 +10,8 @@ use Rattle.sdf_node.specs.Many.{listed, joined}
 use Rattle.sdf_answer.specs.Sizes.{sizes}
 use Rattle.sdf_rings.specs.Blocks.{start_at, block_of}
 use Rattle.sdf_rings.proofs.Deals.{start_at_same, block_same}
-use Rattle.sdf_rings.proofs.Knowing.{FiringLaws, IsOneMore, one_more}
+use Rattle.sdf_rings.specs.FiringLaws.{FiringLaws}
+use Rattle.sdf_rings.proofs.Knowing.{IsOneMore, one_more}
 use Rattle.sdf_rings.proofs.PortBlocks.{outs_long, out_block, port_of}
 
 -- from V to W it took the blocks t and put the blocks b in so many firings from firing k on

@@ -7,7 +7,8 @@ use Rattle.sdf_actor.specs.Steps.{Steps}
 use Rattle.sdf_actor.specs.Nets.{Netlist, wiring, IsHistoryOf}
 use Rattle.sdf_actor.specs.Laws.{HistoryExists}
 use Rattle.sdf_rings.specs.Machine.{Event, at_start}
-use Rattle.sdf_rings.specs.MachineLaws.{MachinePlan, IsMachinePlan, IsRunOf, firings, capacity, reached, RunsPutPrefixes}
+use Rattle.sdf_rings.specs.MachineLaws.{MachinePlan, IsMachinePlan, IsRunOf, firings, capacity, reached}
+use Rattle.sdf_rings.specs.MachineLaws.{RunsPutPrefixes}
 use Rattle.sdf_rings.specs.MachineLaws.{RunsKeepWithin, RunsEndInHistories}
 use Rattle.sdf_rings.proofs.Kept.{NetLaws, Keeps, keeps_start, keeps_run, long, begins}
 use Rattle.sdf_rings.proofs.Plans.{plan_sequence, sequence_of, room_first}

@@ -1,6 +1,6 @@
 -- Nodes and seats before their first firing.
 use Rattle.std.specs.Prelude.{ℕ, ◌≡◌, ◌<◌, ◌==◌, List, [], length, map, slice_index, slice_index_or, take, Option, Some}
-use Rattle.std.specs.Prelude.{None}
+use Rattle.std.specs.Prelude.{None, vec_len}
 use Rattle.std.specs.Global.{Global}
 use Rattle.rtrb.specs.declared.producer.Producer.{Producer}
 use Rattle.rtrb.specs.declared.consumer.Consumer.{Consumer}
@@ -9,7 +9,11 @@ use Rattle.std.specs.List.{count_by}
 use Rattle.sdf_actor.specs.Steps.{Steps}
 use Rattle.rtrb.specs.Ring.{sent, received}
 use Rattle.sdf_actor.specs.Nets.{Netlist, wire, node, wiring, inputs_of, outputs_of, cycle_of, IsNet}
+use Rattle.sdf_actor.specs.Wires.{lists}
 use Rattle.sdf_node.specs.Nodes.{CanBegin}
+use Rattle.sdf_answer.specs.Sizes.{AreSizes}
+use Rattle.sdf_rings.specs.declared.setup.deals.Deal.{Deal}
+use Rattle.sdf_rings.specs.declared.setup.stands.Start.{Start}
 use Rattle.sdf_rings.specs.declared.stand.Stand.{Stand}
 use Rattle.sdf_rings.specs.declared.seat.Seat.{Seat}
 use Rattle.sdf_rings.specs.Asks.{dealt}
@@ -28,6 +32,10 @@ standing places seat = count_by (λ p. p.0 == seat) places
 abbrev pub AreNext : List (ℕ × ℕ) → Type 0
 AreNext places = (a : ℕ) → a < length places → (place places a).1 ≡ standing (take a places) (place places a).0
 
+-- each firing to be dealt out is one of a node that stands somewhere
+abbrev pub IsDeal : Deal → Type 0
+IsDeal d = (i : ℕ) → i < length d.order.now → slice_index d.order.now i < length d.places.now
+
 -- each node can do the firings that are asked of it, where a sink has so much room, and there are samples to fill
 -- blocks with where any is asked
 pub record CanStart {A S T : Type 0} (s : Steps A S T) (n : Netlist A T) (inputs : List (List T)) (asked : ℕ → ℕ)
@@ -36,6 +44,12 @@ pub record CanStart {A S T : Type 0} (s : Steps A S T) (n : Netlist A T) (inputs
   pub phases : (a : ℕ) → a < length n.nodes → 0 < cycle_of s (node n a)
   pub begin : (a : ℕ) → a < length n.nodes → CanBegin inputs (asked a) room (node n a)
   pub fillers : (a : ℕ) → a < length n.nodes → filler ≡ None → asked a ≡ 0
+
+-- what a run begins with: nodes that can start, what their firings move, and how many are asked of each
+pub record IsStart {A S T : Type 0} (s : Steps A S T) (x : Start A T S) : Type 0 where
+  pub can : CanStart s x.net.now (lists x.inputs.now) (slice_index x.asked.items) x.room x.filler
+  pub sizes_are : AreSizes s x.net.now x.sizes
+  pub asked_all : vec_len x.asked ≡ length x.net.now.nodes
 
 -- the ends of rings at the ports of node a
 pub record HasIns {A S T : Type 0} (s : Steps A S T) (n : Netlist A T) (a : ℕ)

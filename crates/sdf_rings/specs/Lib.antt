@@ -2,7 +2,9 @@ pub mod Machine
 pub mod MachineLaws
 pub mod Pair
 pub mod Blocks
+pub mod RunBlocks
 pub mod Ends
+pub mod FiringLaws
 pub mod Stands
 pub mod Seats
 pub mod Places

@@ -45,7 +45,8 @@ abbrev pub capacity : MachinePlan → ℕ → ℕ
 capacity p c = roomy p.rooms (slice_index p.table.caps) c
 
 -- a run of b blocks, and where it leads
-abbrev pub IsRunOf : {A S T : Type 0} → Steps A S T → Netlist A T → List (List T) → MachinePlan → ℕ → List Event → Type 0
+abbrev pub IsRunOf : {A S T : Type 0} → Steps A S T → Netlist A T → List (List T) → MachinePlan → ℕ → List Event →
+    Type 0
 IsRunOf s n inputs p b es = IsRun (wiring s n) (answers s n inputs) (firings p b) (capacity p)
     (at_start (wiring s n)) es
 
@@ -202,7 +203,8 @@ QuiescentReached {A} {S} {T} s =
     IsLike n (after (wiring s n) (answers s n inputs) (resting s n x) es) (resting s n y))
 
 -- a run of b blocks leads to a state where all actors are idle
-abbrev pub IsReached : {A S T : Type 0} → Steps A S T → Netlist A T → List (List T) → MachinePlan → ℕ → Idle S T → Type 0
+abbrev pub IsReached : {A S T : Type 0} → Steps A S T → Netlist A T → List (List T) → MachinePlan → ℕ → Idle S T →
+    Type 0
 IsReached s n inputs p b x = (es : List Event) × IsRunOf s n inputs p b es
     × IsLike n (reached s n inputs es) (resting s n x)
 

@@ -12,6 +12,7 @@ ghost use Rattle.sdf_rings.specs.Outcome.{HasRunInRounds, HasGoneOn, IsRingsFaul
 
 use crate::roomy_table::RoomyTable;
 use crate::runner::run_through;
+use crate::workers::Workers;
 use sdf_actor::{Actor, Begun, Net, Rest};
 use sdf_answer::laws::{begun_nets_go_on, feeds_go_on, nets_have_periods};
 use sdf_answer::{Ran, RunFault};
@@ -22,23 +23,21 @@ use std::thread::Threads;
 /// Runs a net as `run_rings` does, over rings that may take more, and gives what the run leaves beside what it makes.
 /// `Net::begun` goes on from there.
 pub fn feed_rings<R: Threads + AllocGlobal + Sync, A: Actor, G: Gate>(
-    rt: &R,
+    workers: Workers<'_, R, G>,
     net: &Net<A>,
     given: &RoomyTable,
     blocks: u32,
     inputs: &[Vec<A::Token>],
-    patience: u32,
-    gate: &G,
 ) -> Result<(Ran<A::Token>, Rest<A::Token, A::State>), RunFault>
     requires fits { IsBlockTableOf (rates (graph_of A.steps net.now)) given.now.table.now }
     requires rooms { 1 ≤ given.now.rooms }
     ensures { let t = given.now.table.now in let q = t.period.repetitions in let j = t.factor in MatchResult result
-        (λ fed. HasRunInRounds A.steps net.now q j t.table blocks (lists inputs.now) patience
+        (λ fed. HasRunInRounds A.steps net.now q j t.table blocks (lists inputs.now) workers.entry.patience
         (lists fed.0.outputs.items) fed.0.rounds ×
         feeds.HasRun A.steps net.now (lists inputs.now) (periods_of q (blocks * j)) (lists fed.0.outputs.items) fed.1)
-        (IsRingsFault net.now q (blocks * j) (lists inputs.now) t.table patience) }
+        (IsRingsFault net.now q (blocks * j) (lists inputs.now) t.table workers.entry.patience) }
 {
-    let (rings, rounds) = run_through(rt, net, given, blocks, inputs, patience, gate)?;
+    let (rings, rounds) = run_through(workers, net, given, blocks, inputs)?;
     let (outputs, rest) = rings.leave()?;
     Ok((Ran { outputs, rounds }, rest))
 }
@@ -46,27 +45,25 @@ pub fn feed_rings<R: Threads + AllocGlobal + Sync, A: Actor, G: Gate>(
 /// Goes on from where runs of a net left it, with all samples read: by further blocks on further inputs. What it makes,
 /// joined to what they made, is what one run on all inputs makes.
 pub fn resume_rings<R: Threads + AllocGlobal + Sync, A: Actor, G: Gate>(
-    rt: &R,
+    workers: Workers<'_, R, G>,
     net: &Net<A>,
     given: &RoomyTable,
     rest: &Rest<A::Token, A::State>,
     blocks: u32,
     inputs: &[Vec<A::Token>],
-    patience: u32,
-    gate: &G,
 ) -> Result<(Ran<A::Token>, Rest<A::Token, A::State>), RunFault>
     requires fits { IsBlockTableOf (rates (graph_of A.steps net.now)) given.now.table.now }
     requires rooms { 1 ≤ given.now.rooms }
     requires rest { (first : List (List A.Token)) × (few : ℕ)
         × IsRest A.steps net.now first (periods_of given.now.table.now.period.repetitions few) rest.now }
     ensures { let t = given.now.table.now in let q = t.period.repetitions in let j = t.factor in MatchResult result
-        (λ fed. HasGoneOn A.steps net.now q j t.table rest.now blocks (lists inputs.now) patience
+        (λ fed. HasGoneOn A.steps net.now q j t.table rest.now blocks (lists inputs.now) workers.entry.patience
         (lists fed.0.outputs.items) fed.0.rounds fed.1)
-        (IsRingsFault net.now q (blocks * j) (lists inputs.now) t.table patience) }
+        (IsRingsFault net.now q (blocks * j) (lists inputs.now) t.table workers.entry.patience) }
 {
     nets_have_periods(net);
     feeds_go_on::<A, Begun<A>>();
     begun_nets_go_on::<A, Begun<A>>();
-    let begun = net.begun(rt.alloc(), rest)?;
-    feed_rings(rt, &begun, given, blocks, inputs, patience, gate)
+    let begun = net.begun(workers.rt.alloc(), rest)?;
+    feed_rings(workers, &begun, given, blocks, inputs)
 }

@@ -6,8 +6,8 @@
 //! over `stand`, a node with its ends of rings, and `together`, runs of a node's firings: `specs/Stands.antt`,
 //! `specs/Together.antt` and `specs/Seats.antt` say what a node knows of its own channels, and when its firings go as
 //! runs. `ends` moves the blocks of one firing, `run_ends` those of a run; `own_rings` is about the channels from a
-//! node to itself. `round` has all workers at once, `meet` tells all ends, `rest` says what then stands where, and
-//! `rings` has rounds by hand. `prepare` makes the seats of a run, `run` goes on until nothing is left, `finish` gives
+//! node to itself. `round` has all workers at once (`workers`), `meet` tells all ends, `rest` says what then stands
+//! where, and `rings` has rounds by hand and until nothing is left. `prepare` makes the seats of a run, `finish` gives
 //! out the lists of the sinks and `leave` what else the seats hold, and `runner` does all of it (`specs/Asks.antt`,
 //! `specs/Outcome.antt`); `feed` has runs that another one goes on from, over rings that may hold several blocks
 //! (`roomy_table`).
@@ -15,6 +15,7 @@
 
 mod course;
 mod ends;
+mod facts;
 pub mod feed;
 mod finish;
 pub mod laws;
@@ -27,13 +28,13 @@ mod rest;
 pub mod rings;
 pub mod roomy_table;
 mod round;
-mod run;
 mod run_ends;
 pub mod runner;
 pub mod seat;
 mod setup;
 pub mod stand;
 mod together;
+mod workers;
 
 pub use course::Course;
 pub use feed::{feed_rings, resume_rings};
@@ -42,3 +43,4 @@ pub use roomy_table::RoomyTable;
 pub use runner::run_rings;
 pub use seat::{Seat, work};
 pub use stand::Stand;
+pub use workers::Workers;

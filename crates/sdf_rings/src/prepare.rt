@@ -9,13 +9,13 @@ ghost use Rattle.sdf_actor.specs.Sides.{period_samples};
 ghost use Rattle.sdf_actor.specs.Wires.{lists};
 ghost use Rattle.sdf_answer.specs.Answer.{HasInputs};
 ghost use Rattle.sdf_answer.specs.Rows.{IsBlockTableOf};
-ghost use Rattle.sdf_answer.specs.Sizes.{AreSizes};
-ghost use Rattle.sdf_rings.specs.Begun.{CanStart};
+ghost use Rattle.sdf_rings.specs.Begun.{IsStart};
 ghost use Rattle.sdf_rings.specs.Prepared.{IsPrepared, IsAsked, IsPrepareFault};
 
 use crate::rings::Rings;
 use crate::roomy_table::RoomyTable;
 use crate::setup::asked::asked;
+use crate::setup::deals::Deal;
 use crate::setup::openings::open_rings;
 use crate::setup::places::places;
 use crate::setup::seats::seats;
@@ -36,10 +36,7 @@ fn lay_out<'a, A: Actor>(
     given: &RoomyTable,
     blocks: u32,
 ) -> Result<Rings<'a, A>, AllocError>
-    requires start { CanStart A.steps start.now.net.now (lists start.now.inputs.now) (slice_index start.now.asked.items)
-        start.now.room start.now.filler }
-    requires sizes { AreSizes A.steps start.now.net.now start.now.sizes }
-    requires asked { vec_len start.now.asked ≡ length start.now.net.now.nodes }
+    requires start { IsStart A.steps start.now }
     requires plan { IsAsked A.steps start.now.net.now given.now.table.now.table given.now.rooms blocks
         (slice_index start.now.asked.items) }
     requires homed { IsHomed given.now.table.now.table }
@@ -52,15 +49,12 @@ fn lay_out<'a, A: Actor>(
     let table = &given.table.table;
     let places = places(alloc, table, start.net.len())?;
     let mut ends = open_rings(alloc, start.net, given)?;
-    let seats = seats(
-        alloc,
-        start,
-        &places,
-        table.order(),
+    let deal = Deal {
+        places: &places,
+        order: table.order(),
         blocks,
-        &mut ends,
-        table.columns(),
-    )?;
+    };
+    let seats = seats(alloc, start, &deal, &mut ends, table.columns())?;
     let outputs = make_outputs(alloc, start.net.outputs(), 0)?;
     Ok(Rings::new(alloc, start.net, start.inputs, seats, places, outputs))
 }

@@ -6,7 +6,7 @@ ghost use Rattle.rtrb.specs.Ring.{known_items};
 ghost use Rattle.sdf_rings.specs.Seats.{HasFirst, HasWorked, HasRounded};
 ghost use Rattle.sdf_rings.specs.Rests.{stand_of, consumer_of, AreRings, HaveMet, AreAtRest};
 ghost use Rattle.sdf_rings.specs.Quiescence.{AreQuiescent};
-ghost use Rattle.sdf_rings.specs.Asks.{IsPlanned};
+ghost use Rattle.sdf_rings.specs.Asks.{IsPlanned, SomeFirst};
 ghost use Rattle.sdf_rings.specs.Totals.{total_left};
 ghost use Rattle.sdf_actor.specs.Laws.{AreCountsOf};
 ghost use Rattle.sdf_actor.specs.Sides.{list_count};
@@ -18,10 +18,10 @@ ghost use Rattle.sdf_answer.specs.Feeds.{HasRun};
 use crate::finish::collect;
 use crate::leave::leave;
 use crate::meet::meet_all;
-use crate::rest::{met_is_quiescent, met_is_rest};
+use crate::rest::{met_goes_on, met_is_quiescent, met_is_rest};
 use crate::round::run_round;
-use crate::run::run_all;
 use crate::seat::{Seat, work};
+use crate::workers::Workers;
 use sdf_actor::{Actor, Net, Rest};
 use sdf_answer::laws::{histories_make_outputs, net_facts};
 use sdf_node::Gate;
@@ -151,7 +151,7 @@ impl<'a, A: Actor> Rings<'a, A> {
     }
 
     /// A round of all workers, each in a thread of its own.
-    pub fn work_all<R: Threads + Sync, G: Gate>(&mut self, rt: &R, patience: u32, gate: &G)
+    pub fn work_all<R: Threads + Sync, G: Gate>(&mut self, workers: Workers<'_, R, G>)
         ensures rounded { (i : ℕ) (e : _) → i < length self.old.seats →
             HasRounded A.steps self.new.net self.new.inputs (slice_index_or self.old.seats i e)
             (slice_index_or self.new.seats i e) }
@@ -164,7 +164,7 @@ impl<'a, A: Actor> Rings<'a, A> {
         let net = self.net;
         let inputs = self.inputs;
         let _whole = net.graph();
-        run_round(rt, net, inputs, &mut self.seats, patience, gate);
+        run_round(workers, net, inputs, &mut self.seats);
     }
 
     /// How many firings are left in all seats.
@@ -209,8 +209,7 @@ impl<'a, A: Actor> Rings<'a, A> {
         let inputs = self.inputs;
         let _whole = net.graph();
         meet_all(self.alloc, net, inputs, &mut self.seats, &self.places);
-        met_is_rest(net, inputs, &self.seats, &self.places);
-        met_is_quiescent(net, inputs, &self.seats, &self.places);
+        self.at_rest();
     }
 
     /// Where all ends have met, as `prepare` and `meet` leave them, what was put is the history at the firings done,
@@ -224,8 +223,34 @@ impl<'a, A: Actor> Rings<'a, A> {
         met_is_quiescent(self.net, self.inputs, &self.seats, &self.places);
     }
 
+    /// Where all ends have met and firings of a plan are left, the first of some seat is known to be possible.
+    fn goes_on(&self)
+        requires met { HaveMet self.now.net self.now.seats self.now.places }
+        requires planned { (order : List ℕ) × ((cap : ℕ → ℕ)
+            × IsPlanned A.steps self.now.net self.now.seats self.now.places order cap) }
+        requires some { 0 < total_left self.now.seats }
+        ensures { SomeFirst A.steps self.now.net self.now.seats }
+    {
+        met_goes_on(self.net, self.inputs, &self.seats, &self.places);
+    }
+
+    /// One round and its end. Some firing is done where one is known to be possible.
+    fn round<R: Threads + Sync, G: Gate>(&mut self, workers: Workers<'_, R, G>)
+        ensures met { HaveMet self.new.net self.new.seats self.new.places }
+        ensures planned { (order : List ℕ) (cap : ℕ → ℕ) →
+            IsPlanned A.steps self.old.net self.old.seats self.old.places order cap →
+            IsPlanned A.steps self.new.net self.new.seats self.new.places order cap }
+        ensures same { (self.new.net ≡ self.old.net) × (self.new.inputs ≡ self.old.inputs)
+            × (self.new.places ≡ self.old.places) }
+        ensures progress { SomeFirst A.steps self.old.net self.old.seats →
+            total_left self.new.seats < total_left self.old.seats }
+    {
+        self.work_all(workers);
+        self.meet();
+    }
+
     /// Rounds until nothing is left of a plan, and how many there were. Each does at least one firing.
-    pub fn run<R: Threads + Sync, G: Gate>(&mut self, rt: &R, patience: u32, gate: &G) -> u64
+    pub fn run<R: Threads + Sync, G: Gate>(&mut self, workers: Workers<'_, R, G>) -> u64
         requires met { HaveMet self.old.net self.old.seats self.old.places }
         requires planned { (order : List ℕ) × ((cap : ℕ → ℕ)
             × IsPlanned A.steps self.old.net self.old.seats self.old.places order cap) }
@@ -240,18 +265,13 @@ impl<'a, A: Actor> Rings<'a, A> {
         ensures rounds { result ≤ total_left self.old.seats }
         ensures some { 0 < total_left self.old.seats → 0 < result }
     {
-        let net = self.net;
-        let inputs = self.inputs;
-        run_all(
-            rt,
-            self.alloc,
-            net,
-            inputs,
-            &mut self.seats,
-            &self.places,
-            patience,
-            gate,
-        )
+        let mut rounds = 0;
+        'rounds: while self.left() > 0 {
+            self.goes_on();
+            self.round(workers);
+            rounds += 1;
+        }
+        rounds
     }
 
     /// The output lists, where nothing is left of a plan and all ends have met. It takes no memory.

@@ -6,6 +6,7 @@ ghost use Rattle.sdf_actor.specs.Wires.{lists};
 ghost use Rattle.sdf_rings.specs.Seats.{IsSeat, HasRounded};
 
 use crate::seat::{Seat, work};
+use crate::workers::Workers;
 use sdf_actor::{Actor, Net};
 use sdf_node::Gate;
 use std::thread;
@@ -13,18 +14,17 @@ use std::thread::Threads;
 
 /// Each seat works in a thread of its own.
 pub(crate) fn run_round<R: Threads + Sync, A: Actor, G: Gate>(
-    rt: &R,
+    workers: Workers<'_, R, G>,
     net: &Net<A>,
     inputs: &[Vec<A::Token>],
     seats: &mut [Seat<A>],
-    patience: u32,
-    gate: &G,
 )
     requires net { IsNet A.steps net.now }
     requires seats { All (IsSeat A.steps net.now (lists inputs.now)) seats.old }
     ensures { (i : ℕ) (s : _) → i < length seats.old →
         HasRounded A.steps net.now (lists inputs.now) (slice_index_or seats.old i s) (slice_index_or seats.new i s) }
 {
+    let Workers { rt, gate, patience } = workers;
     let threads = seats.len();
     if threads > 0 {
         thread::for_each_mut(

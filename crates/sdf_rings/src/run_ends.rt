@@ -4,8 +4,9 @@
 ghost use Rattle.std.specs.Prelude.{◌≡◌, ◌≤◌, ◌<◌, ◌+◌, ◌*◌, length, ℕ, take, slice_range, slice_index};
 ghost use Rattle.rtrb.specs.Ring.{known_items, known_free};
 ghost use Rattle.sdf_node.specs.Many.{nth_block, joined};
-ghost use Rattle.sdf_rings.specs.Blocks.{start_at, block_of};
+ghost use Rattle.sdf_rings.specs.Blocks.{block_of};
 ghost use Rattle.sdf_rings.specs.Ends.{Drew, Gave, DrewEach, GaveEach, HoldsEach, HasRoomEach};
+ghost use Rattle.sdf_rings.specs.RunBlocks.{HasPorts, sizes_of_run, port_blocks};
 
 use crate::ends::{put_block, put_each, take_block, take_each};
 use rtrb::{Consumer, Producer};
@@ -50,233 +51,208 @@ pub(crate) fn blocks_free<T>(sizes: &[usize], ends: &[Producer<T, Global>], most
     many
 }
 
-/// Takes the blocks of one firing, to the part of `taken` that begins at `at`.
-fn take_each_at<T: Copy>(
-    sizes: &[usize],
-    ends: &mut [Consumer<T, Global>],
-    taken: &mut [T],
-    at: usize,
-    size: usize,
-)
-    requires ports { length ends.old ≡ length sizes.now }
-    requires size { size ≡ start_at (slice_index sizes.now) (length ends.old) }
-    requires inside { at + size ≤ length taken.old }
-    requires known { HoldsEach (slice_index sizes.now) ends.old }
-    ensures drew { DrewEach ends.old ends.new (λ p. block_of (slice_index sizes.now) p
-        (slice_range taken.new at (at + size))) }
-    ensures before { (n : ℕ) → n ≤ at → take n taken.new ≡ take n taken.old }
-{
-    take_each(sizes, ends, &mut taken[at..at + size]);
+/// The blocks of a run of a node's firings at its ports, those into it or those out of it.
+#[derive(Clone, Copy)]
+pub(crate) struct RunBlocks<'a> {
+    /// The size of a firing's block at each port.
+    pub(crate) sizes: &'a [usize],
+    /// How many samples a firing moves at all ports.
+    pub(crate) size: usize,
+    /// How many firings the run has.
+    pub(crate) many: usize,
 }
 
-/// Takes the blocks of so many firings, those of one firing after those of another.
-fn take_by_firing<T: Copy>(
-    sizes: &[usize],
-    ends: &mut [Consumer<T, Global>],
-    taken: &mut [T],
-    many: usize,
-    size: usize,
-)
-    requires ports { length ends.old ≡ length sizes.now }
-    requires size { size ≡ start_at (slice_index sizes.now) (length ends.old) }
-    requires length { length taken.old ≡ size * many }
-    requires known { HoldsEach (λ i. many * slice_index sizes.now i) ends.old }
-    ensures { DrewEach ends.old ends.new (λ p. joined
-        (λ i. block_of (slice_index sizes.now) p (nth_block size taken.new i)) many) }
-{
-    let mut at = 0;
-    for _ in 0..many {
-        take_each_at(sizes, ends, taken, at, size);
-        at += size;
+impl<'a> RunBlocks<'a> {
+    /// Takes the blocks of one firing, to the part of `taken` that begins at `at`.
+    fn take_firing<T: Copy>(&self, ends: &mut [Consumer<T, Global>], taken: &mut [T], at: usize)
+        requires ports { HasPorts self.now (length ends.old) }
+        requires inside { at + self.now.size ≤ length taken.old }
+        requires known { HoldsEach (slice_index self.now.sizes.now) ends.old }
+        ensures drew { DrewEach ends.old ends.new (λ p. block_of (slice_index self.now.sizes.now) p
+            (slice_range taken.new at (at + self.now.size))) }
+        ensures before { (n : ℕ) → n ≤ at → take n taken.new ≡ take n taken.old }
+    {
+        take_each(self.sizes, ends, &mut taken[at..at + self.size]);
     }
-}
 
-/// Takes what so many firings take at one port, in one call.
-fn take_part<T: Copy>(
-    end: &mut Consumer<T, Global>,
-    taken: &mut [T],
-    scratch: &mut [T],
-    at: usize,
-    width: usize,
-    many: usize,
-    size: usize,
-)
-    requires inside { at + width ≤ size }
-    requires length { length taken.old ≡ size * many }
-    requires long { length taken.old ≤ length scratch.old }
-    requires known { many * width ≤ length (known_items end.old) }
-    ensures drew { Drew end.old end.new (joined (λ i. slice_range (nth_block size taken.new i) at (at + width)) many) }
-    ensures before { (i a w : ℕ) → i < many → a + w ≤ at →
-        slice_range (nth_block size taken.new i) a (a + w) ≡ slice_range (nth_block size taken.old i) a (a + w) }
-{
-    sdf_node::laws::blocks_join::<T>();
-    take_block(end, &mut scratch[..width * many]);
-    let row = &scratch[..width * many];
-    deal_row(row, taken, at, width, many, size);
-}
-
-/// Takes the blocks of so many firings, at each port in one call. A list as long as all of them holds those of a port
-/// until they are dealt out.
-#[tactic(auto, using(crate::proofs::Blocks::block_in))]
-fn take_by_port<T: Copy>(
-    sizes: &[usize],
-    ends: &mut [Consumer<T, Global>],
-    taken: &mut [T],
-    scratch: &mut [T],
-    many: usize,
-    size: usize,
-)
-    requires ports { length ends.old ≡ length sizes.now }
-    requires size { size ≡ start_at (slice_index sizes.now) (length ends.old) }
-    requires length { length taken.old ≡ size * many }
-    requires long { length taken.old ≤ length scratch.old }
-    requires known { HoldsEach (λ i. many * slice_index sizes.now i) ends.old }
-    ensures { DrewEach ends.old ends.new (λ p. joined
-        (λ i. block_of (slice_index sizes.now) p (nth_block size taken.new i)) many) }
-{
-    let mut at = 0;
-    for i in 0..ends.len() {
-        let width = sizes[i];
-        take_part(&mut ends[i], taken, scratch, at, width, many, size);
-        at += width;
+    /// Takes the blocks of all firings, those of one firing after those of another.
+    fn take_by_firing<T: Copy>(&self, ends: &mut [Consumer<T, Global>], taken: &mut [T])
+        requires ports { HasPorts self.now (length ends.old) }
+        requires length { length taken.old ≡ self.now.size * self.now.many }
+        requires known { HoldsEach (sizes_of_run self.now) ends.old }
+        ensures { DrewEach ends.old ends.new (port_blocks self.now taken.new) }
+    {
+        let mut at = 0;
+        for _ in 0..self.many {
+            self.take_firing(ends, taken, at);
+            at += self.size;
+        }
     }
-}
 
-/// Takes the blocks of so many firings at each port: in one call a port, where the other list has room for them.
-pub(crate) fn take_run<T: Copy>(
-    sizes: &[usize],
-    ends: &mut [Consumer<T, Global>],
-    taken: &mut [T],
-    scratch: &mut [T],
-    many: usize,
-    size: usize,
-)
-    requires ports { length ends.old ≡ length sizes.now }
-    requires size { size ≡ start_at (slice_index sizes.now) (length ends.old) }
-    requires length { length taken.old ≡ size * many }
-    requires known { HoldsEach (λ i. many * slice_index sizes.now i) ends.old }
-    ensures { DrewEach ends.old ends.new (λ p. joined
-        (λ i. block_of (slice_index sizes.now) p (nth_block size taken.new i)) many) }
-{
-    sdf_node::laws::blocks_join::<T>();
-    if ends.len() == 1 {
-        take_block(&mut ends[0], taken);
-    } else if taken.len() <= scratch.len() {
-        take_by_port(sizes, ends, taken, scratch, many, size);
-    } else {
-        take_by_firing(sizes, ends, taken, many, size);
+    /// Takes what the run takes at one port, in one call.
+    fn take_part<T: Copy>(
+        &self,
+        end: &mut Consumer<T, Global>,
+        taken: &mut [T],
+        scratch: &mut [T],
+        at: usize,
+        width: usize,
+    )
+        requires inside { at + width ≤ self.now.size }
+        requires length { length taken.old ≡ self.now.size * self.now.many }
+        requires long { length taken.old ≤ length scratch.old }
+        requires known { self.now.many * width ≤ length (known_items end.old) }
+        ensures drew { Drew end.old end.new
+            (joined (λ i. slice_range (nth_block self.now.size taken.new i) at (at + width)) self.now.many) }
+        ensures before { (i a w : ℕ) → i < self.now.many → a + w ≤ at →
+            slice_range (nth_block self.now.size taken.new i) a (a + w) ≡
+            slice_range (nth_block self.now.size taken.old i) a (a + w) }
+    {
+        sdf_node::laws::blocks_join::<T>();
+        take_block(end, &mut scratch[..width * self.many]);
+        let row = &scratch[..width * self.many];
+        deal_row(row, taken, at, width, self.many, self.size);
     }
-}
 
-/// Puts the blocks of one firing, which begin at `at`.
-fn put_each_at<T: Copy>(
-    sizes: &[usize],
-    ends: &mut [Producer<T, Global>],
-    put: &[T],
-    at: usize,
-    size: usize,
-)
-    requires ports { length ends.old ≡ length sizes.now }
-    requires size { size ≡ start_at (slice_index sizes.now) (length ends.old) }
-    requires inside { at + size ≤ length put.now }
-    requires room { HasRoomEach (slice_index sizes.now) ends.old }
-    ensures { GaveEach ends.old ends.new (λ p. block_of (slice_index sizes.now) p
-        (slice_range put.now at (at + size))) }
-{
-    put_each(sizes, ends, &put[at..at + size]);
-}
-
-/// Puts the blocks of so many firings, those of one firing after those of another.
-fn put_by_firing<T: Copy>(
-    sizes: &[usize],
-    ends: &mut [Producer<T, Global>],
-    put: &[T],
-    many: usize,
-    size: usize,
-)
-    requires ports { length ends.old ≡ length sizes.now }
-    requires size { size ≡ start_at (slice_index sizes.now) (length ends.old) }
-    requires length { length put.now ≡ size * many }
-    requires room { HasRoomEach (λ i. many * slice_index sizes.now i) ends.old }
-    ensures { GaveEach ends.old ends.new (λ p. joined
-        (λ i. block_of (slice_index sizes.now) p (nth_block size put.now i)) many) }
-{
-    let mut at = 0;
-    for _ in 0..many {
-        put_each_at(sizes, ends, put, at, size);
-        at += size;
+    /// Takes all blocks, at each port in one call. A list as long as all of them holds those of a port until they are
+    /// dealt out.
+    #[tactic(auto, using(crate::proofs::Blocks::block_in))]
+    fn take_by_port<T: Copy>(
+        &self,
+        ends: &mut [Consumer<T, Global>],
+        taken: &mut [T],
+        scratch: &mut [T],
+    )
+        requires ports { HasPorts self.now (length ends.old) }
+        requires length { length taken.old ≡ self.now.size * self.now.many }
+        requires long { length taken.old ≤ length scratch.old }
+        requires known { HoldsEach (sizes_of_run self.now) ends.old }
+        ensures { DrewEach ends.old ends.new (port_blocks self.now taken.new) }
+    {
+        let mut at = 0;
+        for i in 0..ends.len() {
+            let width = self.sizes[i];
+            self.take_part(&mut ends[i], taken, scratch, at, width);
+            at += width;
+        }
     }
-}
 
-/// Puts what so many firings put at one port, in one call.
-fn put_part<T: Copy>(
-    end: &mut Producer<T, Global>,
-    put: &[T],
-    scratch: &mut [T],
-    at: usize,
-    width: usize,
-    many: usize,
-    size: usize,
-)
-    requires inside { at + width ≤ size }
-    requires length { length put.now ≡ size * many }
-    requires long { length put.now ≤ length scratch.old }
-    requires room { many * width ≤ known_free end.old }
-    ensures { Gave end.old end.new (joined (λ i. slice_range (nth_block size put.now i) at (at + width)) many) }
-{
-    let row = &mut scratch[..width * many];
-    gather_row(put, row, at, width, many, size);
-    put_block(end, row);
-}
-
-/// Puts the blocks of so many firings, at each port in one call. A list as long as all of them serves to gather them.
-#[tactic(auto, using(crate::proofs::Blocks::block_in))]
-fn put_by_port<T: Copy>(
-    sizes: &[usize],
-    ends: &mut [Producer<T, Global>],
-    put: &[T],
-    scratch: &mut [T],
-    many: usize,
-    size: usize,
-)
-    requires ports { length ends.old ≡ length sizes.now }
-    requires size { size ≡ start_at (slice_index sizes.now) (length ends.old) }
-    requires length { length put.now ≡ size * many }
-    requires long { length put.now ≤ length scratch.old }
-    requires room { HasRoomEach (λ i. many * slice_index sizes.now i) ends.old }
-    ensures { GaveEach ends.old ends.new (λ p. joined
-        (λ i. block_of (slice_index sizes.now) p (nth_block size put.now i)) many) }
-{
-    let mut at = 0;
-    for i in 0..ends.len() {
-        let width = sizes[i];
-        put_part(&mut ends[i], put, scratch, at, width, many, size);
-        at += width;
+    /// Takes all blocks: in one call a port, where the other list has room for them.
+    fn take<T: Copy>(&self, ends: &mut [Consumer<T, Global>], taken: &mut [T], scratch: &mut [T])
+        requires ports { HasPorts self.now (length ends.old) }
+        requires length { length taken.old ≡ self.now.size * self.now.many }
+        requires known { HoldsEach (sizes_of_run self.now) ends.old }
+        ensures { DrewEach ends.old ends.new (port_blocks self.now taken.new) }
+    {
+        sdf_node::laws::blocks_join::<T>();
+        if ends.len() == 1 {
+            take_block(&mut ends[0], taken);
+        } else if taken.len() <= scratch.len() {
+            self.take_by_port(ends, taken, scratch);
+        } else {
+            self.take_by_firing(ends, taken);
+        }
     }
-}
 
-/// Puts the blocks of so many firings at each port: in one call a port, where the other list has room to gather them.
-pub(crate) fn put_run<T: Copy>(
-    sizes: &[usize],
-    ends: &mut [Producer<T, Global>],
-    put: &[T],
-    scratch: &mut [T],
-    many: usize,
-    size: usize,
-)
-    requires ports { length ends.old ≡ length sizes.now }
-    requires size { size ≡ start_at (slice_index sizes.now) (length ends.old) }
-    requires length { length put.now ≡ size * many }
-    requires room { HasRoomEach (λ i. many * slice_index sizes.now i) ends.old }
-    ensures { GaveEach ends.old ends.new (λ p. joined
-        (λ i. block_of (slice_index sizes.now) p (nth_block size put.now i)) many) }
-{
-    sdf_node::laws::blocks_join::<T>();
-    if ends.len() == 1 {
-        put_block(&mut ends[0], put);
-    } else if put.len() <= scratch.len() {
-        put_by_port(sizes, ends, put, scratch, many, size);
-    } else {
-        put_by_firing(sizes, ends, put, many, size);
+    /// Takes all blocks, to the front of `taken`.
+    pub(crate) fn take_front<T: Copy>(
+        &self,
+        ends: &mut [Consumer<T, Global>],
+        taken: &mut [T],
+        scratch: &mut [T],
+    )
+        requires ports { HasPorts self.now (length ends.old) }
+        requires long { self.now.size * self.now.many ≤ length taken.old }
+        requires known { HoldsEach (sizes_of_run self.now) ends.old }
+        ensures { DrewEach ends.old ends.new
+            (port_blocks self.now (take (self.now.size * self.now.many) taken.new)) }
+    {
+        let (front, _) = taken.split_at_mut(self.size * self.many);
+        self.take(ends, front, scratch);
+    }
+
+    /// Puts the blocks of one firing, which begin at `at`.
+    fn put_firing<T: Copy>(&self, ends: &mut [Producer<T, Global>], put: &[T], at: usize)
+        requires ports { HasPorts self.now (length ends.old) }
+        requires inside { at + self.now.size ≤ length put.now }
+        requires room { HasRoomEach (slice_index self.now.sizes.now) ends.old }
+        ensures { GaveEach ends.old ends.new (λ p. block_of (slice_index self.now.sizes.now) p
+            (slice_range put.now at (at + self.now.size))) }
+    {
+        put_each(self.sizes, ends, &put[at..at + self.size]);
+    }
+
+    /// Puts the blocks of all firings, those of one firing after those of another.
+    fn put_by_firing<T: Copy>(&self, ends: &mut [Producer<T, Global>], put: &[T])
+        requires ports { HasPorts self.now (length ends.old) }
+        requires length { length put.now ≡ self.now.size * self.now.many }
+        requires room { HasRoomEach (sizes_of_run self.now) ends.old }
+        ensures { GaveEach ends.old ends.new (port_blocks self.now put.now) }
+    {
+        let mut at = 0;
+        for _ in 0..self.many {
+            self.put_firing(ends, put, at);
+            at += self.size;
+        }
+    }
+
+    /// Puts what the run puts at one port, in one call.
+    fn put_part<T: Copy>(
+        &self,
+        end: &mut Producer<T, Global>,
+        put: &[T],
+        scratch: &mut [T],
+        at: usize,
+        width: usize,
+    )
+        requires inside { at + width ≤ self.now.size }
+        requires length { length put.now ≡ self.now.size * self.now.many }
+        requires long { length put.now ≤ length scratch.old }
+        requires room { self.now.many * width ≤ known_free end.old }
+        ensures { Gave end.old end.new
+            (joined (λ i. slice_range (nth_block self.now.size put.now i) at (at + width)) self.now.many) }
+    {
+        let row = &mut scratch[..width * self.many];
+        gather_row(put, row, at, width, self.many, self.size);
+        put_block(end, row);
+    }
+
+    /// Puts all blocks, at each port in one call. A list as long as all of them serves to gather them.
+    #[tactic(auto, using(crate::proofs::Blocks::block_in))]
+    fn put_by_port<T: Copy>(&self, ends: &mut [Producer<T, Global>], put: &[T], scratch: &mut [T])
+        requires ports { HasPorts self.now (length ends.old) }
+        requires length { length put.now ≡ self.now.size * self.now.many }
+        requires long { length put.now ≤ length scratch.old }
+        requires room { HasRoomEach (sizes_of_run self.now) ends.old }
+        ensures { GaveEach ends.old ends.new (port_blocks self.now put.now) }
+    {
+        let mut at = 0;
+        for i in 0..ends.len() {
+            let width = self.sizes[i];
+            self.put_part(&mut ends[i], put, scratch, at, width);
+            at += width;
+        }
+    }
+
+    /// Puts all blocks: in one call a port, where the other list has room to gather them.
+    pub(crate) fn put<T: Copy>(
+        &self,
+        ends: &mut [Producer<T, Global>],
+        put: &[T],
+        scratch: &mut [T],
+    )
+        requires ports { HasPorts self.now (length ends.old) }
+        requires length { length put.now ≡ self.now.size * self.now.many }
+        requires room { HasRoomEach (sizes_of_run self.now) ends.old }
+        ensures { GaveEach ends.old ends.new (port_blocks self.now put.now) }
+    {
+        sdf_node::laws::blocks_join::<T>();
+        if ends.len() == 1 {
+            put_block(&mut ends[0], put);
+        } else if put.len() <= scratch.len() {
+            self.put_by_port(ends, put, scratch);
+        } else {
+            self.put_by_firing(ends, put);
+        }
     }
 }

@@ -10,6 +10,7 @@ ghost use Rattle.sdf_rings.specs.Outcome.{HasRunInRounds, HasEnded, IsRingsFault
 use crate::prepare::prepare_roomy;
 use crate::rings::Rings;
 use crate::roomy_table::RoomyTable;
+use crate::workers::Workers;
 use sdf_actor::{Actor, Net};
 use sdf_answer::laws::nets_have_periods;
 use sdf_answer::{BlockTable, Ran, RunFault};
@@ -20,19 +21,18 @@ use std::thread::Threads;
 
 /// The seats of a run after its rounds, and how many rounds there were. The tests come first, in their order.
 pub(crate) fn run_through<'a, R: Threads + AllocGlobal + Sync, A: Actor, G: Gate>(
-    rt: &R,
+    workers: Workers<'_, R, G>,
     net: &'a Net<A>,
     given: &RoomyTable,
     blocks: u32,
     inputs: &'a [Vec<A::Token>],
-    patience: u32,
-    gate: &G,
 ) -> Result<(Rings<'a, A>, u64), RunFault>
     requires fits { IsBlockTableOf (rates (graph_of A.steps net.now)) given.now.table.now }
     requires rooms { 1 ≤ given.now.rooms }
     ensures { let t = given.now.table.now in let q = t.period.repetitions in let j = t.factor in MatchResult result
-        (λ ran. HasEnded A.steps net.now q j t.table given.now.rooms blocks (lists inputs.now) patience ran.0 ran.1)
-        (IsRingsFault net.now q (blocks * j) (lists inputs.now) t.table patience) }
+        (λ ran. HasEnded A.steps net.now q j t.table given.now.rooms blocks (lists inputs.now)
+        workers.entry.patience ran.0 ran.1)
+        (IsRingsFault net.now q (blocks * j) (lists inputs.now) t.table workers.entry.patience) }
 {
     sdf_graph::laws::graphs_are_sound();
     sdf_graph::laws::graphs_have_periods();
@@ -42,38 +42,36 @@ pub(crate) fn run_through<'a, R: Threads + AllocGlobal + Sync, A: Actor, G: Gate
     if !given.table.table.homed() {
         return Err(RunFault::NotHomed);
     }
-    if patience > MOST_PATIENCE {
+    if workers.patience > MOST_PATIENCE {
         return Err(RunFault::Patience);
     }
-    let mut rings = prepare_roomy(rt.alloc(), net, given, blocks, inputs)?;
+    let mut rings = prepare_roomy(workers.rt.alloc(), net, given, blocks, inputs)?;
     rings.facts();
-    let rounds = rings.run(rt, patience, gate);
+    let rounds = rings.run(workers);
     Ok((rings, rounds))
 }
 
 /// Runs a net for a number of blocks. There is a worker for each column of the table, which does the
 /// firings of the actors at home there in the table's order, as samples and room come; each channel has a ring of the
 /// table's capacity. In each round the workers run at once, until their lists are empty or a test has failed more often
-/// than `patience` says.
+/// than their patience says.
 ///
 /// All room is taken before the first firing. The faults, in this order: 30 NotHomed, 31 Patience, 29 InputLength.
 pub fn run_rings<R: Threads + AllocGlobal + Sync, A: Actor, G: Gate>(
-    rt: &R,
+    workers: Workers<'_, R, G>,
     net: &Net<A>,
     table: &BlockTable,
     blocks: u32,
     inputs: &[Vec<A::Token>],
-    patience: u32,
-    gate: &G,
 ) -> Result<Ran<A::Token>, RunFault>
     requires fits { IsBlockTableOf (rates (graph_of A.steps net.now)) table.now }
     ensures { let t = table.now in let q = t.period.repetitions in let j = t.factor in MatchResult result
-        (λ ran. HasRunInRounds A.steps net.now q j t.table blocks (lists inputs.now) patience
+        (λ ran. HasRunInRounds A.steps net.now q j t.table blocks (lists inputs.now) workers.entry.patience
         (lists ran.outputs.items) ran.rounds)
-        (IsRingsFault net.now q (blocks * j) (lists inputs.now) t.table patience) }
+        (IsRingsFault net.now q (blocks * j) (lists inputs.now) t.table workers.entry.patience) }
 {
     let given = RoomyTable { table, rooms: 1 };
-    let (rings, rounds) = run_through(rt, net, &given, blocks, inputs, patience, gate)?;
+    let (rings, rounds) = run_through(workers, net, &given, blocks, inputs)?;
     let outputs = rings.finish();
     Ok(Ran { outputs, rounds })
 }

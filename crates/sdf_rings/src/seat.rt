@@ -49,22 +49,16 @@ fn becomes_ready<A: Actor, G: Gate>(
     ensures spent { IsFalse result → tries.new ≡ 0 }
     ensures at_once { CanFire A.steps orders.entry.net.now stand.old → tries.new ≡ tries.old }
 {
-    let Orders {
-        net,
-        inputs,
-        processor,
-        gate,
-    } = orders;
     let mut failed: u32 = 0;
     while *tries > 0 {
-        if is_ready(net, inputs, stand) {
+        if is_ready(orders.net, orders.inputs, stand) {
             return true;
         }
-        let taken = gate.pause(processor, failed).max(1);
+        let taken = orders.gate.pause(orders.processor, failed).max(1);
         *tries = tries.saturating_sub(taken);
         failed = failed.saturating_add(1);
     }
-    is_ready(net, inputs, stand)
+    is_ready(orders.net, orders.inputs, stand)
 }
 
 /// The next firings of the list that are one node's and known to be possible, in one piece of work where they go so.
@@ -87,21 +81,24 @@ fn fire_known<A: Actor, G: Gate>(
     ensures inside { next + result ≤ length left.now }
     ensures same { (j : ℕ) → j < result → slice_index left.now next ≡ slice_index left.now (next + j) }
 {
-    let Orders {
-        net,
-        inputs,
-        processor,
-        gate,
-    } = orders;
     let most = (stand.asked - stand.done).min(MOST_AT_ONCE) as usize;
-    let known = in_one_run(net, inputs, stand, most);
+    let known = in_one_run(orders.net, orders.inputs, stand, most);
     let many = left.in_a_row(next, known);
     if many > 1 {
-        fire_run(net, inputs, stand, processor, many, gate);
+        fire_run(
+            orders.net,
+            orders.inputs,
+            stand,
+            orders.processor,
+            many,
+            orders.gate,
+        );
         return many;
     }
-    gate.before(processor, stand.actor, stand.done);
-    fire_one(net, inputs, stand);
+    orders
+        .gate
+        .before(orders.processor, stand.actor, stand.done);
+    fire_one(orders.net, orders.inputs, stand);
     1
 }
 

@@ -11,6 +11,7 @@ ghost use Rattle.sdf_answer.specs.Sizes.{at_phase};
 ghost use Rattle.sdf_rings.specs.Stands.{OwnArePairs, OwnBegin, IsStand, CanFire, HasMoved};
 
 use crate::ends::{have_room_each, hold_each, put_each, take_each};
+use crate::facts::firing_laws;
 use crate::own_rings::tell_own;
 use rtrb::{Consumer, Producer};
 use sdf_actor::{Actor, Net, Node};
@@ -116,9 +117,7 @@ fn fire_blocks<A: Actor>(net: &Net<A>, inputs: &[Vec<A::Token>], stand: &mut Sta
         × HasMoved A.steps net.now stand.old (record stand.new { done = stand.old.done + 1 }) }
     ensures done { stand.new.done ≡ stand.old.done }
 {
-    sdf_actor::laws::nets_are_wired::<A>();
-    sdf_actor::laws::taken_stays::<A>();
-    sdf_actor::laws::locals_grow::<A>();
+    firing_laws::<A>();
     sdf_node::laws::nodes_can_step::<A>();
     let node = net.node(stand.actor);
     let phase = stand.state.phase();

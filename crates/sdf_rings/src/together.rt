@@ -4,18 +4,15 @@ ghost use Rattle.std.specs.Prelude.{◌≡◌, ◌+◌, ◌*◌, ◌<◌, ◌≤
 ghost use Rattle.sdf_actor.specs.Nets.{answer_of, wire, IsNet};
 ghost use Rattle.sdf_actor.specs.Wires.{lists};
 ghost use Rattle.sdf_node.specs.Nodes.{takes_of, puts_of, IsAt};
-ghost use Rattle.sdf_node.specs.Many.{nth_block, listed, joined, AreWhole, CanStepMany};
-ghost use Rattle.sdf_rings.specs.Blocks.{start_at, block_of};
-ghost use Rattle.sdf_rings.specs.Ends.{DrewEach, HoldsEach};
+ghost use Rattle.sdf_node.specs.Many.{nth_block, listed, AreWhole, CanStepMany};
 ghost use Rattle.sdf_rings.specs.Stands.{IsStand, HasMoved};
 ghost use Rattle.sdf_rings.specs.Together.{GoesInRuns, CanRun};
 
-use crate::run_ends::{blocks_free, blocks_held, put_run, take_run, whole_blocks};
+use crate::facts::firing_laws;
+use crate::run_ends::{RunBlocks, blocks_free, blocks_held, whole_blocks};
 use crate::stand::{Stand, row};
-use rtrb::Consumer;
 use sdf_actor::{Actor, Net, Node};
 use sdf_node::{ActorId, Gate, NodeState, puts, step_many, takes};
-use std::alloc::Global;
 
 /// Whether no channel leads from a node to itself.
 fn is_apart<A: Actor>(net: &Net<A>, actor: ActorId) -> bool
@@ -52,53 +49,32 @@ fn pass_gate<G: Gate>(gate: &G, processor: usize, actor: ActorId, done: u64, man
     }
 }
 
-/// Takes the blocks of so many firings, to the front of `taken`.
-fn take_front_run<T: Copy>(
-    sizes: &[usize],
-    ends: &mut [Consumer<T, Global>],
-    taken: &mut [T],
-    scratch: &mut [T],
-    many: usize,
-    size: usize,
-    all: usize,
-)
-    requires ports { length ends.old ≡ length sizes.now }
-    requires size { size ≡ start_at (slice_index sizes.now) (length ends.old) }
-    requires all { all ≡ size * many }
-    requires long { all ≤ length taken.old }
-    requires known { HoldsEach (λ i. many * slice_index sizes.now i) ends.old }
-    ensures { DrewEach ends.old ends.new (λ p. joined
-        (λ i. block_of (slice_index sizes.now) p (nth_block size (take all taken.new) i)) many) }
-{
-    let (front, _) = taken.split_at_mut(all);
-    take_run(sizes, ends, front, scratch, many, size);
-}
-
 /// Fires a node so often, on the blocks taken. What it puts stands at the front of the other block.
 fn step_front_many<A: Actor>(
     node: &Node<A>,
     inputs: &[Vec<A::Token>],
     state: &mut NodeState<A::Token, A::State>,
-    many: usize,
     taken: &[A::Token],
+    outs: &RunBlocks<'_>,
     put: &mut [A::Token],
-    all: usize,
 )
-    requires can { CanStepMany A.steps (lists inputs.now) node.now state.old many (length taken.now) all }
-    requires long { all ≤ length put.old }
+    requires can { CanStepMany A.steps (lists inputs.now) node.now state.old outs.now.many (length taken.now)
+        (outs.now.size * outs.now.many) }
+    requires long { outs.now.size * outs.now.many ≤ length put.old }
     ensures state { (asked : ℕ) (past : List (List A.Token)) →
         IsAt A.steps (lists inputs.now) asked node.now past state.old →
         IsAt A.steps (lists inputs.now) asked node.now
-        (past ++ listed (nth_block (takes_of A.steps node.now 0) taken.now) many) state.new }
+        (past ++ listed (nth_block (takes_of A.steps node.now 0) taken.now) outs.now.many) state.new }
     ensures put { (asked : ℕ) (past : List (List A.Token)) →
         IsAt A.steps (lists inputs.now) asked node.now past state.old → AreWhole A.steps node.now past →
-        (i : ℕ) → i < many → nth_block (puts_of A.steps node.now 0) (take all put.new) i ≡
+        (i : ℕ) → i < outs.now.many →
+        nth_block (puts_of A.steps node.now 0) (take (outs.now.size * outs.now.many) put.new) i ≡
         answer_of A.steps (lists inputs.now) node.now
         (past ++ listed (nth_block (takes_of A.steps node.now 0) taken.now) i)
         (nth_block (takes_of A.steps node.now 0) taken.now i) }
 {
-    let (front, _) = put.split_at_mut(all);
-    step_many(node, inputs, state, many, taken, front);
+    let (front, _) = put.split_at_mut(outs.size * outs.many);
+    step_many(node, inputs, state, outs.many, taken, front);
 }
 
 /// Takes the blocks of so many firings, fires so often and puts all their blocks. The firings are still to be counted.
@@ -116,42 +92,38 @@ fn fire_run_blocks<A: Actor>(
     ensures done { stand.new.done ≡ stand.old.done }
     ensures asked { stand.new.asked ≡ stand.old.asked }
 {
-    sdf_actor::laws::nets_are_wired::<A>();
-    sdf_actor::laws::taken_stays::<A>();
-    sdf_actor::laws::locals_grow::<A>();
+    firing_laws::<A>();
     sdf_node::laws::nodes_can_step::<A>();
     sdf_node::laws::nodes_can_step_many::<A>();
     sdf_node::laws::blocks_join::<A::Token>();
     let node = net.node(stand.actor);
-    let size = takes(node, 0);
-    let made = puts(node, 0);
-    let taken = size * many;
-    let put = made * many;
-    take_front_run(
-        row(&stand.takes, 0),
+    let ins = RunBlocks {
+        sizes: row(&stand.takes, 0),
+        size: takes(node, 0),
+        many,
+    };
+    let outs = RunBlocks {
+        sizes: row(&stand.puts, 0),
+        size: puts(node, 0),
+        many,
+    };
+    ins.take_front(
         stand.ins.as_mut_slice(),
         stand.taken.as_mut_slice(),
         stand.put.as_mut_slice(),
-        many,
-        size,
-        taken,
     );
     step_front_many(
         node,
         inputs,
         &mut stand.state,
-        many,
-        &stand.taken[..taken],
+        &stand.taken[..ins.size * many],
+        &outs,
         stand.put.as_mut_slice(),
-        put,
     );
-    put_run(
-        row(&stand.puts, 0),
+    outs.put(
         stand.outs.as_mut_slice(),
-        &stand.put[..put],
+        &stand.put[..outs.size * many],
         stand.taken.as_mut_slice(),
-        many,
-        made,
     );
 }
 

@@ -7,8 +7,8 @@ use crate::nets::{planned, ramp};
 use crate::patience::{Held, Hold, LATE, PAUSE, SHORT};
 use sdf_actor::{Actor, Net};
 use sdf_node::NoGate;
-use sdf_rings::Rings;
 use sdf_rings::prepare::prepare;
+use sdf_rings::{Rings, Workers};
 use std::alloc::Global;
 use std::process::Abort;
 use std::sync::atomic::Ordering;
@@ -128,7 +128,11 @@ fn at_once<R: Abort + Threads + AllocGlobal + Sync, A: Actor<Token = i32>>(
     let inputs = ramp(rt.alloc(), 1, 3, 0)?;
     let held = Held::new(Hold { turns, ..LATE });
     let mut rings = prepare(rt.alloc(), net, &table, 2, &inputs)?;
-    rings.work_all(rt, patience, &held);
+    rings.work_all(Workers {
+        rt,
+        gate: &held,
+        patience,
+    });
     let begun = held.begun.load(Ordering::SeqCst);
     let missed = held.missed.load(Ordering::SeqCst);
     Ok(format!(in rt.alloc(); "{} left, {begun}, {missed}", rings.left())?)

@@ -10,8 +10,8 @@ use sdf_actor::{Actor, Link, Net, Node};
 use sdf_answer::BlockTable;
 use sdf_node::Gate;
 use sdf_prec::hu::hu;
-use sdf_prec::{Costs, Table};
-use sdf_run::{Mode, Ran, RunFault, Session, run_one, run_rings, run_rows};
+use sdf_prec::{Costs, Table, Team};
+use sdf_run::{Mode, Ran, RunFault, Session, Workers, run_one, run_rings, run_rows};
 use sdf_sched::class_s::class_s;
 use sdf_sched::{Period, Round};
 use std::alloc::{AllocError, Global};
@@ -103,7 +103,8 @@ pub(crate) fn planned<A: Actor>(
 {
     let period = class_s(alloc, net.graph(), net.repetitions(), &mut Round::new())?;
     let costs = Costs::unit(alloc, net.graph())?;
-    let table = hu(alloc, net.graph(), &period, j, m, homed, &costs)?;
+    let team = Team { workers: m, homed };
+    let table = hu(alloc, net.graph(), &period, j, team, &costs)?;
     Ok(BlockTable {
         period,
         factor: j,
@@ -148,7 +149,8 @@ pub(crate) fn run_by<R: Threads + AllocGlobal + Sync, A: Actor, G: Gate>(
     match mode {
         Mode::Rows => run_rows(rt, net, table, blocks, inputs, gate),
         Mode::Rings { patience, .. } => {
-            run_rings(rt, net, table, blocks, inputs, patience, gate)
+            let workers = Workers { rt, gate, patience };
+            run_rings(workers, net, table, blocks, inputs)
         }
     }
 }

@@ -7,7 +7,7 @@ ghost use Rattle.sdf_prec.specs.Tables.{IsExact};
 use crate::graphs::{BLOCKS, FORK, LONGER_FORK, costs_of, period_of};
 use sdf_graph::Graph;
 use sdf_prec::hu::hu;
-use sdf_prec::{Costs, Table};
+use sdf_prec::{Costs, Table, Team};
 use std::alloc::Global;
 use std::test::Fail;
 use test_actors::graphs::{Row, graph};
@@ -26,7 +26,8 @@ pub(crate) fn table(
 {
     let costs = costs_of(alloc, graph, costs)?;
     let period = period_of(alloc, graph)?;
-    Ok(hu(alloc, graph, &period, j, m, homed, &costs)?)
+    let team = Team { workers: m, homed };
+    Ok(hu(alloc, graph, &period, j, team, &costs)?)
 }
 
 /// How many rows a table has, the capacity of channel 0, and the cells, row by row, each as its actor, and 9 where
@@ -58,7 +59,11 @@ fn told(alloc: Global, graph: &Graph, j: u32, homed: bool, costs: &[u32]) -> Res
 fn refusal(alloc: Global, graph: &Graph, m: usize) -> Result<String, Fail> {
     let costs = Costs::unit(alloc, graph)?;
     let period = period_of(alloc, graph)?;
-    match hu(alloc, graph, &period, 1, m, true, &costs) {
+    let team = Team {
+        workers: m,
+        homed: true,
+    };
+    match hu(alloc, graph, &period, 1, team, &costs) {
         Ok(_) => Ok(String::new(alloc)),
         Err(fault) => Ok(fault.to_string(alloc)?),
     }

@@ -1,8 +1,8 @@
 //! A graph at each limit at once, and tables of it: nothing answers that memory was refused where there is plenty.
 //!
 //! No clause forbids that answer. Seen to fail here: a `hu`, a `Table::by_homes` and a `Table::by_homes_in_runs` that
-//! give it for blocks of more than 60,000 firings or for 16 workers, and a `Table::accept` for more than 4,000 rows. The
-//! rows of `Table::spread`, `block_levels`, `span` and `Times::of` are for the same; of these it was not tried.
+//! give it for blocks of more than 60,000 firings or for 16 workers, and a `Table::accept` for more than 4,000 rows.
+//! The rows of `Table::spread`, `block_levels`, `span` and `Times::of` are for the same; of these it was not tried.
 
 ghost use Rattle.std.specs.Prelude.{◌≡◌, IfOk};
 ghost use Rattle.sdf_graph.specs.Rates.{rates};

@@ -10,7 +10,7 @@ ghost use Rattle.sdf_times.specs.Times.{IsBlockTable, IsInTable, HasStart};
 use crate::graphs::{BLOCKS, LONGER_FORK, costs_of, period_of};
 use sdf_graph::{Channel, Graph};
 use sdf_prec::hu::hu;
-use sdf_prec::{Costs, Firing, Table};
+use sdf_prec::{Costs, Firing, Table, Team};
 use sdf_times::{Times, bound, span, work};
 use std::alloc::{AllocError, Global};
 use std::test::Fail;
@@ -222,7 +222,11 @@ fn both(alloc: Global, graph: &Graph, costs: &[u32]) -> Result<(String, String),
     graph.channels();
     let period = period_of(alloc, graph)?;
     let priced = costs_of(alloc, graph, costs)?;
-    let table = hu(alloc, graph, &period, 1, 2, false, &priced)?;
+    let team = Team {
+        workers: 2,
+        homed: false,
+    };
+    let table = hu(alloc, graph, &period, 1, team, &priced)?;
     let model = by_model(alloc, graph, &table, costs)?;
     let mut numbers = by_times(alloc, graph, &table, &priced)?;
     let span = span(alloc, graph, &period, 1, &priced)?;

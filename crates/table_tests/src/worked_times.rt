@@ -4,7 +4,7 @@
 use crate::graphs::{BLOCKS, LONGER_FORK, costs_of, period_of};
 use crate::slow_times::by_times;
 use sdf_prec::hu::hu;
-use sdf_prec::{Firing, Table};
+use sdf_prec::{Firing, Table, Team};
 use sdf_times::{bound, span, work};
 use std::alloc::{AllocError, Global};
 use std::test::Fail;
@@ -18,7 +18,11 @@ fn of_a_fork(alloc: Global, costs: &[u32]) -> Result<String, Fail> {
     graph.channels();
     let period = period_of(alloc, &graph)?;
     let costs = costs_of(alloc, &graph, costs)?;
-    let table = hu(alloc, &graph, &period, 1, 2, true, &costs)?;
+    let team = Team {
+        workers: 2,
+        homed: true,
+    };
+    let table = hu(alloc, &graph, &period, 1, team, &costs)?;
     let numbers = by_times(alloc, &graph, &table, &costs)?;
     let span = span(alloc, &graph, &period, 1, &costs)?;
     let work = work(period.repetitions(), 1, &costs);

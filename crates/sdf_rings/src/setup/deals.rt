@@ -1,10 +1,9 @@
 //! The firings of a table dealt out to seats.
 
-ghost use Rattle.std.specs.Prelude.{◌≡◌, ◌<◌, ◌==◌, ◌++◌, ◌∷◌, [], ℕ, if◌then◌else◌, length, map, slice_index, OnOk};
-ghost use Rattle.std.specs.Prelude.{IfOk};
+ghost use Rattle.std.specs.Prelude.{◌≡◌, ◌==◌, ◌++◌, ◌∷◌, [], if◌then◌else◌, map, IfOk, OnOk};
 ghost use Rattle.sdf_graph.specs.Sequences.{repeated};
 ghost use Rattle.sdf_rings.specs.Asks.{dealt};
-ghost use Rattle.sdf_rings.specs.Begun.{place};
+ghost use Rattle.sdf_rings.specs.Begun.{place, IsDeal};
 
 use crate::course::Course;
 use std::alloc::{AllocError, Global};
@@ -19,35 +18,37 @@ fn deal_one(place: (usize, usize), seat: usize, left: &mut Vec<usize>) -> Result
     Ok(())
 }
 
-/// A seat's firings of a block.
-fn deal_block(
-    alloc: Global,
-    places: &[(usize, usize)],
-    order: &[usize],
-    seat: usize,
-) -> Result<Vec<usize>, AllocError>
-    requires { (i : ℕ) → i < length order.now → slice_index order.now i < length places.now }
-    ensures { IfOk result (λ left. left.items ≡ map (λ a. (place places.now a).1) (dealt places.now order.now seat)) }
-{
-    let mut left = Vec::new(alloc);
-    for actor in order {
-        deal_one(places[*actor], seat, &mut left)?;
-    }
-    Ok(left)
+/// The firings of so many blocks, which are dealt out to seats by where their nodes stand.
+#[derive(Clone, Copy)]
+pub(crate) struct Deal<'a> {
+    /// Where each node stands: its seat, and its place there.
+    pub(crate) places: &'a [(usize, usize)],
+    /// The nodes of a block's firings, in order.
+    pub(crate) order: &'a [usize],
+    pub(crate) blocks: u32,
 }
 
-/// A seat's firings of so many blocks.
-pub(crate) fn deal(
-    alloc: Global,
-    places: &[(usize, usize)],
-    order: &[usize],
-    blocks: u32,
-    seat: usize,
-) -> Result<Course, AllocError>
-    requires { (i : ℕ) → i < length order.now → slice_index order.now i < length places.now }
-    ensures { IfOk result (λ left. left ≡ map (λ a. (place places.now a).1)
-        (dealt places.now (repeated blocks order.now) seat)) }
-{
-    let block = deal_block(alloc, places, order, seat)?;
-    Course::new(block, blocks)
+impl<'a> Deal<'a> {
+    /// A seat's firings of a block.
+    fn block_of(&self, alloc: Global, seat: usize) -> Result<Vec<usize>, AllocError>
+        requires { IsDeal self.now }
+        ensures { IfOk result (λ left. left.items ≡ map (λ a. (place self.now.places.now a).1)
+            (dealt self.now.places.now self.now.order.now seat)) }
+    {
+        let mut left = Vec::new(alloc);
+        for actor in self.order {
+            deal_one(self.places[*actor], seat, &mut left)?;
+        }
+        Ok(left)
+    }
+
+    /// A seat's firings of all blocks.
+    pub(crate) fn course_of(&self, alloc: Global, seat: usize) -> Result<Course, AllocError>
+        requires { IsDeal self.now }
+        ensures { IfOk result (λ left. left ≡ map (λ a. (place self.now.places.now a).1)
+            (dealt self.now.places.now (repeated self.now.blocks self.now.order.now) seat)) }
+    {
+        let block = self.block_of(alloc, seat)?;
+        Course::new(block, self.blocks)
+    }
 }

@@ -4,12 +4,11 @@ ghost use Rattle.std.specs.Prelude.{◌≡◌, ◌<◌, ℕ, length, slice_index
 ghost use Rattle.sdf_graph.specs.Sequences.{repeated};
 ghost use Rattle.sdf_actor.specs.Nets.{wire};
 ghost use Rattle.sdf_actor.specs.Wires.{lists};
-ghost use Rattle.sdf_answer.specs.Sizes.{AreSizes};
 ghost use Rattle.sdf_rings.specs.Openings.{end_at, HasEnds};
-ghost use Rattle.sdf_rings.specs.Begun.{place, AreNext, CanStart, AreBegun, IsBegun};
+ghost use Rattle.sdf_rings.specs.Begun.{place, AreNext, IsDeal, IsStart, AreBegun, IsBegun};
 
 use crate::seat::Seat;
-use crate::setup::deals::deal;
+use crate::setup::deals::Deal;
 use crate::setup::openings::Ends;
 use crate::setup::stands::{Start, begin_stand};
 use crate::stand::Stand;
@@ -24,10 +23,7 @@ fn stands<A: Actor>(
     ends: &mut Ends<A::Token>,
     seat: usize,
 ) -> Result<Vec<Stand<A>>, AllocError>
-    requires start { CanStart A.steps start.now.net.now (lists start.now.inputs.now) (slice_index start.now.asked.items)
-        start.now.room start.now.filler }
-    requires sizes { AreSizes A.steps start.now.net.now start.now.sizes }
-    requires asked { vec_len start.now.asked ≡ length start.now.net.now.nodes }
+    requires start { IsStart A.steps start.now }
     requires all { length places.now ≡ length start.now.net.now.nodes }
     requires next { AreNext places.now }
     requires ends { (a : ℕ) → a < length places.now → (place places.now a).0 ≡ seat →
@@ -54,31 +50,28 @@ fn stands<A: Actor>(
 fn begin_seat<A: Actor>(
     alloc: Global,
     start: &Start<A>,
-    places: &[(usize, usize)],
-    order: &[usize],
-    blocks: u32,
+    deal: &Deal<'_>,
     ends: &mut Ends<A::Token>,
     seat: usize,
 ) -> Result<Seat<A>, AllocError>
-    requires start { CanStart A.steps start.now.net.now (lists start.now.inputs.now) (slice_index start.now.asked.items)
-        start.now.room start.now.filler }
-    requires sizes { AreSizes A.steps start.now.net.now start.now.sizes }
-    requires asked { vec_len start.now.asked ≡ length start.now.net.now.nodes }
-    requires all { length places.now ≡ length start.now.net.now.nodes }
-    requires next { AreNext places.now }
-    requires order { (i : ℕ) → i < length order.now → slice_index order.now i < length places.now }
-    requires ends { (a : ℕ) → a < length places.now → (place places.now a).0 ≡ seat →
+    requires start { IsStart A.steps start.now }
+    requires all { length deal.now.places.now ≡ length start.now.net.now.nodes }
+    requires next { AreNext deal.now.places.now }
+    requires deal { IsDeal deal.now }
+    requires ends { (a : ℕ) → a < length deal.now.places.now → (place deal.now.places.now a).0 ≡ seat →
         HasEnds start.now.net.now a ends.old.producers.items ends.old.consumers.items }
     ensures begun { IfOk result (IsBegun A.steps start.now.net.now (lists start.now.inputs.now)
-        (slice_index start.now.asked.items) ends.old.producers.items ends.old.consumers.items places.now
-        (repeated blocks order.now) seat) }
-    ensures producers { OnOk result ((c : ℕ) → ((place places.now (wire start.now.net.now c).from.0).0 ≡ seat → ⊥) →
+        (slice_index start.now.asked.items) ends.old.producers.items ends.old.consumers.items deal.now.places.now
+        (repeated deal.now.blocks deal.now.order.now) seat) }
+    ensures producers { OnOk result ((c : ℕ) → ((place deal.now.places.now
+        (wire start.now.net.now c).from.0).0 ≡ seat → ⊥) →
         end_at ends.new.producers.items c ≡ end_at ends.old.producers.items c) }
-    ensures consumers { OnOk result ((c : ℕ) → ((place places.now (wire start.now.net.now c).to.0).0 ≡ seat → ⊥) →
+    ensures consumers { OnOk result ((c : ℕ) → ((place deal.now.places.now
+        (wire start.now.net.now c).to.0).0 ≡ seat → ⊥) →
         end_at ends.new.consumers.items c ≡ end_at ends.old.consumers.items c) }
 {
-    let stands = stands(alloc, start, places, ends, seat)?;
-    let left = deal(alloc, places, order, blocks, seat)?;
+    let stands = stands(alloc, start, deal.places, ends, seat)?;
+    let left = deal.course_of(alloc, seat)?;
     Ok(Seat {
         processor: seat,
         stands,
@@ -91,30 +84,26 @@ fn begin_seat<A: Actor>(
 pub(crate) fn seats<A: Actor>(
     alloc: Global,
     start: &Start<A>,
-    places: &[(usize, usize)],
-    order: &[usize],
-    blocks: u32,
+    deal: &Deal<'_>,
     ends: &mut Ends<A::Token>,
     many: usize,
 ) -> Result<Vec<Seat<A>>, AllocError>
-    requires start { CanStart A.steps start.now.net.now (lists start.now.inputs.now) (slice_index start.now.asked.items)
-        start.now.room start.now.filler }
-    requires sizes { AreSizes A.steps start.now.net.now start.now.sizes }
-    requires asked { vec_len start.now.asked ≡ length start.now.net.now.nodes }
-    requires all { length places.now ≡ length start.now.net.now.nodes }
-    requires next { AreNext places.now }
-    requires order { (i : ℕ) → i < length order.now → slice_index order.now i < length places.now }
-    requires ends { (a : ℕ) → a < length places.now →
+    requires start { IsStart A.steps start.now }
+    requires all { length deal.now.places.now ≡ length start.now.net.now.nodes }
+    requires next { AreNext deal.now.places.now }
+    requires deal { IsDeal deal.now }
+    requires ends { (a : ℕ) → a < length deal.now.places.now →
         HasEnds start.now.net.now a ends.old.producers.items ends.old.consumers.items }
     ensures all { IfOk result (λ v. vec_len v ≡ many) }
     ensures each { IfOk result (λ v. (i : ℕ) (e : _) → i < many →
         IsBegun A.steps start.now.net.now (lists start.now.inputs.now) (slice_index start.now.asked.items)
-        ends.old.producers.items ends.old.consumers.items places.now (repeated blocks order.now) i
+        ends.old.producers.items ends.old.consumers.items deal.now.places.now
+        (repeated deal.now.blocks deal.now.order.now) i
         (slice_index_or v.items i e)) }
 {
     let mut seats = Vec::with_capacity(alloc, many)?;
     for seat in 0..many {
-        seats.push(begin_seat(alloc, start, places, order, blocks, ends, seat)?)?;
+        seats.push(begin_seat(alloc, start, deal, ends, seat)?)?;
     }
     Ok(seats)
 }

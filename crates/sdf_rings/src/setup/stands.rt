@@ -4,9 +4,8 @@ ghost use Rattle.std.specs.Prelude.{◌≡◌, ◌<◌, ℕ, None, length, slice
 ghost use Rattle.std.specs.Prelude.{IfOk, OnOk};
 ghost use Rattle.sdf_actor.specs.Nets.{wire, node};
 ghost use Rattle.sdf_actor.specs.Wires.{lists};
-ghost use Rattle.sdf_answer.specs.Sizes.{AreSizes};
 ghost use Rattle.sdf_rings.specs.Openings.{end_at, HasEnds};
-ghost use Rattle.sdf_rings.specs.Begun.{CanStart, HasIns, HasOuts, HasBegun};
+ghost use Rattle.sdf_rings.specs.Begun.{IsStart, HasIns, HasOuts, HasBegun};
 ghost use Rattle.sdf_rings.specs.Stands.{OwnArePairs, IsStand};
 
 use crate::setup::openings::Ends;
@@ -90,10 +89,7 @@ fn make_stand<A: Actor>(
     outs: Vec<Producer<A::Token, Global>>,
 ) -> Result<Stand<A>, AllocError>
     requires known { a < length start.now.net.now.nodes }
-    requires start { CanStart A.steps start.now.net.now (lists start.now.inputs.now) (slice_index start.now.asked.items)
-        start.now.room start.now.filler }
-    requires sizes { AreSizes A.steps start.now.net.now start.now.sizes }
-    requires asked { vec_len start.now.asked ≡ length start.now.net.now.nodes }
+    requires start { IsStart A.steps start.now }
     requires ins { HasIns A.steps start.now.net.now a ins.items }
     requires outs { HasOuts A.steps start.now.net.now a outs.items }
     requires own { OwnArePairs start.now.net.now a ins.items outs.items }
@@ -127,10 +123,7 @@ pub(crate) fn begin_stand<A: Actor>(
     a: usize,
 ) -> Result<Stand<A>, AllocError>
     requires known { a < length start.now.net.now.nodes }
-    requires start { CanStart A.steps start.now.net.now (lists start.now.inputs.now) (slice_index start.now.asked.items)
-        start.now.room start.now.filler }
-    requires sizes { AreSizes A.steps start.now.net.now start.now.sizes }
-    requires asked { vec_len start.now.asked ≡ length start.now.net.now.nodes }
+    requires start { IsStart A.steps start.now }
     requires ends { HasEnds start.now.net.now a ends.old.producers.items ends.old.consumers.items }
     ensures begun { IfOk result (HasBegun A.steps start.now.net.now (lists start.now.inputs.now)
         (slice_index start.now.asked.items) ends.old.producers.items ends.old.consumers.items a) }

@@ -21,7 +21,8 @@ loop-moved-preserved c =
     let v = c.loop-moved.invariant in
     let xs = c.args.rates.now in
     let i : ℕ = c.loop-moved.firings in
-    let within = still_in xs c.args.amount c.loop-moved.moved i v.within v.is c.loop-moved-test.true c.requires.within in
+    let within = still_in xs c.args.amount c.loop-moved.moved i v.within v.is c.loop-moved-test.true
+        c.requires.within in
     record {
       is = omega (arith, v.is, c.from-moved.ensures, one_more xs i within);
       within = omega (arith, within);

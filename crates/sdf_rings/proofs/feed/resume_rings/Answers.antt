@@ -59,4 +59,4 @@ returns g c =
       rounds_few = made.0.rounds_few;
       rounds_some = made.0.rounds_some;
     })
-    (fault_of m n q periods later c.args.given.now.table.now.table c.args.patience asks.1)
+    (fault_of m n q periods later c.args.given.now.table.now.table c.args.workers.patience asks.1)

@@ -15,7 +15,7 @@ open_rings-requires-clause-held g c κs within =
     let s = g.A.Actor.steps in
     let x = c.args.start.now in
     let n = x.net.now in
-    let wired = c.nets_are_wired.ensures.wired n c.requires.start.net in
+    let wired = c.nets_are_wired.ensures.wired n c.requires.start.can.net in
     let alike = c.alike_sequences.ensures in
     let again = c.tables_repeat.ensures in
     let t = c.args.given.now.table.now.table in
@@ -31,7 +31,7 @@ columns-requires g c =
     let s = g.A.Actor.steps in
     let x = c.args.start.now in
     let n = x.net.now in
-    let wired = c.nets_are_wired.ensures.wired n c.requires.start.net in
+    let wired = c.nets_are_wired.ensures.wired n c.requires.start.can.net in
     let alike = c.alike_sequences.ensures in
     let again = c.tables_repeat.ensures in
     let t = c.args.given.now.table.now.table in
@@ -42,12 +42,12 @@ columns-requires g c =
     let is = c.requires.plan in
     (is.plan.width, plans.wide alike again s n wired t rooms b asked is)
 
-pub seats-requires-clause-order : goal.seats-requires-clause-order
-seats-requires-clause-order g c κs within =
+pub seats-requires-clause-deal : goal.seats-requires-clause-deal
+seats-requires-clause-deal g c κs within =
     let s = g.A.Actor.steps in
     let x = c.args.start.now in
     let n = x.net.now in
-    let wired = c.nets_are_wired.ensures.wired n c.requires.start.net in
+    let wired = c.nets_are_wired.ensures.wired n c.requires.start.can.net in
     let alike = c.alike_sequences.ensures in
     let again = c.tables_repeat.ensures in
     let t = c.args.given.now.table.now.table in
@@ -66,7 +66,7 @@ seats-requires-clause-ends g c κs within =
     let s = g.A.Actor.steps in
     let x = c.args.start.now in
     let n = x.net.now in
-    let wired = c.nets_are_wired.ensures.wired n c.requires.start.net in
+    let wired = c.nets_are_wired.ensures.wired n c.requires.start.can.net in
     let alike = c.alike_sequences.ensures in
     let again = c.tables_repeat.ensures in
     let t = c.args.given.now.table.now.table in
@@ -83,7 +83,7 @@ new-requires-clause-rings g c κs within =
     let s = g.A.Actor.steps in
     let x = c.args.start.now in
     let n = x.net.now in
-    let wired = c.nets_are_wired.ensures.wired n c.requires.start.net in
+    let wired = c.nets_are_wired.ensures.wired n c.requires.start.can.net in
     let alike = c.alike_sequences.ensures in
     let again = c.tables_repeat.ensures in
     let t = c.args.given.now.table.now.table in
@@ -115,7 +115,7 @@ new-requires-clause-rings g c κs within =
     c.order.ensures (c.in_ok-seats.ensures.each i e (omega (arith, many, h))))) in
     let known = plans.known alike again s n wired t rooms b asked is in
     let counts = plans.counts alike again s n wired t rooms b asked is in
-    begun.are_rings s n c.requires.start.net inputs asked ps xs caps c.in_ok-ends.ensures places all
+    begun.are_rings s n c.requires.start.can.net inputs asked ps xs caps c.in_ok-ends.ensures places all
     order known counts seats seated each
 
 pub returns : goal.returns
@@ -123,7 +123,7 @@ returns g c =
     let s = g.A.Actor.steps in
     let x = c.args.start.now in
     let n = x.net.now in
-    let wired = c.nets_are_wired.ensures.wired n c.requires.start.net in
+    let wired = c.nets_are_wired.ensures.wired n c.requires.start.can.net in
     let alike = c.alike_sequences.ensures in
     let again = c.tables_repeat.ensures in
     let t = c.args.given.now.table.now.table in
@@ -162,12 +162,12 @@ returns g c =
       columns = λ i h. c.columns.ensures i h ∙ sym many;
       processors = λ i e h. (each i e h).processor_is;
       homes = λ a l. c.in_ok-places.ensures.homes a (omega (arith, c.len.ensures, l));
-      undone = begun.undone s n c.requires.start.net inputs asked ps xs caps c.in_ok-ends.ensures places
+      undone = begun.undone s n c.requires.start.can.net inputs asked ps xs caps c.in_ok-ends.ensures places
           all order known counts seats seated each;
       first = λ i e h. (each i e h).first;
-      met = begun.have_met s n c.requires.start.net inputs asked ps xs caps c.in_ok-ends.ensures places
+      met = begun.have_met s n c.requires.start.can.net inputs asked ps xs caps c.in_ok-ends.ensures places
           all order known counts seats seated each;
-      planned = begun.is_planned s n c.requires.start.net inputs asked ps xs caps c.in_ok-ends.ensures
+      planned = begun.is_planned s n c.requires.start.can.net inputs asked ps xs caps c.in_ok-ends.ensures
           places all order known counts seats seated each
           (plans.admissible alike again s n wired t rooms b asked is)
           (plans.fits alike again s n wired t rooms b asked is);

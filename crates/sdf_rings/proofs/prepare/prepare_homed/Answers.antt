@@ -1,7 +1,9 @@
-use Rattle.std.proofs.Common.{◌*◌, map, ap, ◌∙◌, arith}
+use Rattle.std.proofs.Common.{◌*◌, length, map, sym, ap, ◌∙◌, arith}
 use Rattle.std.specs.Prelude.{sum}
+use Rattle.std.proofs.lemmas.List.{length-map}
 use Rattle.sdf_actor.specs.Wires.{lists}
 use Rattle.sdf_actor.specs.declared.sides.Lists.TheVariants.{Outputs}
+use Rattle.sdf_rings.proofs.Lists.{vec_long}
 use Rattle.sdf_rings.proofs.Starting.{can_start, is_asked}
 use Rattle.sdf_rings.proofs.prepare.prepare_homed.Goals as goal
 
@@ -18,15 +20,21 @@ lay_out-requires-clause-start g c κs within =
     let p = c.args.given.now.table.now.period in
     let b = c.args.blocks in
     let j = c.args.given.now.table.now.factor in
-    can_start g.A.Actor.steps c.nets_can_run.ensures n p
-    (c.nets_have_periods.ensures c.args.given.now.table.now.period c.requires.fits.period) b j
-    c.in_ok-asked.field-0.items
-    (c.in_ok-asked.ensures ∙ ap (map (λ q. b * (j * q))) c.repetitions.ensures)
-    (lists c.args.inputs.now) c.samples_of_blocks.result c.first_sample.result c.net_facts.ensures.phases
-    c.requires.inputs
-    (c.samples_of_blocks.ensures ∙ ap (λ m. b * j * m)
-    (c.samples_out.ensures.value p.repetitions c.requires.fits.period.least)) c.first_sample.ensures c.requires.some
-    (omega (arith, c.requires.inputs.count, c.net_facts.ensures.accepted.1.lists.input))
+    let asked = c.in_ok-asked.ensures ∙ ap (map (λ q. b * (j * q))) c.repetitions.ensures in
+    record {
+      can = can_start g.A.Actor.steps c.nets_can_run.ensures n p
+          (c.nets_have_periods.ensures c.args.given.now.table.now.period c.requires.fits.period) b j
+          c.in_ok-asked.field-0.items asked
+          (lists c.args.inputs.now) c.samples_of_blocks.result c.first_sample.result c.net_facts.ensures.phases
+          c.requires.inputs
+          (c.samples_of_blocks.ensures ∙ ap (λ m. b * j * m)
+          (c.samples_out.ensures.value p.repetitions c.requires.fits.period.least)) c.first_sample.ensures
+          c.requires.some
+          (omega (arith, c.requires.inputs.count, c.net_facts.ensures.accepted.1.lists.input));
+      sizes_are = c.in_ok-new.ensures;
+      asked_all = sym (vec_long c.in_ok-asked.field-0) ∙ (ap length asked ∙ (length-map p.repetitions (λ q. b * (j * q))
+          ∙ c.requires.fits.period.least.is.all));
+    }
 
 pub lay_out-requires-clause-plan : goal.lay_out-requires-clause-plan
 lay_out-requires-clause-plan g c κs within =

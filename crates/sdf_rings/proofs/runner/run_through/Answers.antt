@@ -28,6 +28,6 @@ returns g c =
     c.args.given.now.table.now.factor c.args.given.now.table.now.table
     c.requires.fits.table c.args.blocks c.args.given.now.rooms (lists c.args.inputs.now) c.in_ok-rings.rings
     c.facts.ensures c.in_ok-rings.ensures.2
-    c.run-rounds.new.self c.args.patience c.run-rounds.result c.in_ok-rings.ensures.0
-    (omega (arith, c.if-patience-gt-MOST_PATIENCE.false)) c.in_ok-rings.ensures.1
+    c.run-rounds.new.self c.args.workers.patience c.run-rounds.result c.in_ok-rings.ensures.0
+    (omega (arith, c.if-workers-gt-MOST_PATIENCE.false)) c.in_ok-rings.ensures.1
     run.same run.planned run.met run.done run.rounds run.some

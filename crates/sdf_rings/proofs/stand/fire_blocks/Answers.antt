@@ -137,12 +137,7 @@ returns-clause-fired g c =
     let gave = gave_by_firing s keep n inputs x st j j_is c.row-2.result.now c.row-2.ensures c.as_mut_slice-5.result.now
     (c.as_mut_slice-5.ensures.len ∙ st.outs_all) c.put_told.new.outs (take more c.step_front.new.put)
     (rw out at c.put_told.ensures.gave) in
-    fired s (record {
-      wired = c.nets_are_wired.ensures.wired;
-      ports = c.nets_are_wired.ensures.ports;
-      grows = c.locals_grow.ensures.grows;
-      stays = c.taken_stays.ensures;
-    }) n c.requires.net inputs x st
+    fired s c.firing_laws.ensures n c.requires.net inputs x st
     c.requires.left
     (take many c.take_front.new.taken) (take more c.step_front.new.put) c.step_front.new.state
     (with_items mid c.put_told.new.ins) (with_items x.outs c.put_told.new.outs)

@@ -3,33 +3,22 @@ use Rattle.std.specs.Vec.{with_items}
 use Rattle.std.proofs.lemmas.List.{with_items_is, length-take-le}
 use Rattle.sdf_actor.specs.Wires.{lists}
 use Rattle.sdf_node.specs.Nodes.{takes_of, puts_of}
-use Rattle.sdf_rings.proofs.Knowing.{FiringLaws}
-use Rattle.sdf_rings.proofs.RunFired.{in_size, out_size, holds_run, room_run, drew_run, gave_run, can_step_run}
+use Rattle.sdf_rings.proofs.RunFired.{in_ports, out_ports, holds_run, room_run, drew_run, gave_run, can_step_run}
 use Rattle.sdf_rings.proofs.RunFired.{taken_within, put_within, run_fired}
 use Rattle.sdf_rings.proofs.together.fire_run_blocks.Goals as goal
 
-pub take_front_run-requires-clause-size : goal.take_front_run-requires-clause-size
-take_front_run-requires-clause-size g c =
-    let laws : FiringLaws g.A.Actor.steps = record {
-      wired = c.nets_are_wired.ensures.wired;
-      ports = c.nets_are_wired.ensures.ports;
-      grows = c.locals_grow.ensures.grows;
-      stays = c.taken_stays.ensures;
-    } in
-    in_size g.A.Actor.steps laws c.blocks_join.ensures c.args.net.now c.requires.net (lists c.args.inputs.now)
+pub take_front-requires-clause-ports : goal.take_front-requires-clause-ports
+take_front-requires-clause-ports g c =
+    in_ports g.A.Actor.steps c.firing_laws.ensures c.blocks_join.ensures c.args.net.now c.requires.net
+    (lists c.args.inputs.now)
     c.args.stand.now c.requires.stand c.args.many c.requires.can c.nodes_can_step.ensures.phases
-    c.node-node.result.now c.node-node.ensures c.takes-size.result c.row.result.now c.takes-size.ensures c.row.ensures
+    c.node-node.result.now c.node-node.ensures _ c.takes.ensures c.row.ensures
     (length c.as_mut_slice.result.now) (c.as_mut_slice.ensures.len ∙ c.requires.stand.ins_all)
 
-pub take_front_run-requires-clause-known : goal.take_front_run-requires-clause-known
-take_front_run-requires-clause-known g c =
-    let laws : FiringLaws g.A.Actor.steps = record {
-      wired = c.nets_are_wired.ensures.wired;
-      ports = c.nets_are_wired.ensures.ports;
-      grows = c.locals_grow.ensures.grows;
-      stays = c.taken_stays.ensures;
-    } in
-    holds_run g.A.Actor.steps laws c.blocks_join.ensures c.args.net.now c.requires.net (lists c.args.inputs.now)
+pub take_front-requires-clause-known : goal.take_front-requires-clause-known
+take_front-requires-clause-known g c =
+    holds_run g.A.Actor.steps c.firing_laws.ensures c.blocks_join.ensures c.args.net.now c.requires.net
+    (lists c.args.inputs.now)
     c.args.stand.now c.requires.stand c.args.many c.requires.can c.nodes_can_step.ensures.phases
     c.row.result.now c.row.ensures c.as_mut_slice.result.now c.as_mut_slice.ensures.value
 
@@ -37,44 +26,30 @@ pub step_front_many-requires-clause-can : goal.step_front_many-requires-clause-c
 step_front_many-requires-clause-can g c κs within =
     let s = g.A.Actor.steps in
     let x = c.args.stand.now in
-    let all = c.takes-size.result * c.args.many in
-    let laws : FiringLaws s = record {
-      wired = c.nets_are_wired.ensures.wired;
-      ports = c.nets_are_wired.ensures.ports;
-      grows = c.locals_grow.ensures.grows;
-      stays = c.taken_stays.ensures;
-    } in
-    let fits = taken_within s laws c.blocks_join.ensures c.args.net.now c.requires.net (lists c.args.inputs.now) x
-    c.requires.stand c.args.many c.requires.can c.node-node.result.now c.node-node.ensures c.takes-size.result
-    c.takes-size.ensures in
-    can_step_run s laws c.blocks_join.ensures c.args.net.now c.requires.net (lists c.args.inputs.now) x c.requires.stand
+    let all = c.takes.result * c.args.many in
+    let fits = taken_within s c.firing_laws.ensures c.blocks_join.ensures c.args.net.now c.requires.net
+    (lists c.args.inputs.now) x
+    c.requires.stand c.args.many c.requires.can c.node-node.result.now c.node-node.ensures c.takes.result
+    c.takes.ensures in
+    can_step_run s c.firing_laws.ensures c.blocks_join.ensures c.args.net.now c.requires.net (lists c.args.inputs.now) x
+    c.requires.stand
     c.args.many c.requires.can c.nodes_can_step_many.ensures
-    c.node-node.result.now c.node-node.ensures c.takes-size.result c.puts-made.result
-    (length (take all c.deref.result.now)) (c.puts-made.result * c.args.many)
-    c.takes-size.ensures c.puts-made.ensures (length-take-le all c.deref.result.now (omega arith)) refl
+    c.node-node.result.now c.node-node.ensures c.takes.result c.puts.result
+    (length (take all c.deref.result.now)) (c.puts.result * c.args.many)
+    c.takes.ensures c.puts.ensures (length-take-le all c.deref.result.now (omega arith)) refl
 
-pub put_run-requires-clause-size : goal.put_run-requires-clause-size
-put_run-requires-clause-size g c =
-    let laws : FiringLaws g.A.Actor.steps = record {
-      wired = c.nets_are_wired.ensures.wired;
-      ports = c.nets_are_wired.ensures.ports;
-      grows = c.locals_grow.ensures.grows;
-      stays = c.taken_stays.ensures;
-    } in
-    out_size g.A.Actor.steps laws c.blocks_join.ensures c.args.net.now c.requires.net (lists c.args.inputs.now)
+pub put-requires-clause-ports : goal.put-requires-clause-ports
+put-requires-clause-ports g c =
+    out_ports g.A.Actor.steps c.firing_laws.ensures c.blocks_join.ensures c.args.net.now c.requires.net
+    (lists c.args.inputs.now)
     c.args.stand.now c.requires.stand c.args.many c.requires.can c.nodes_can_step.ensures.phases
-    c.node-node.result.now c.node-node.ensures c.puts-made.result c.row-2.result.now c.puts-made.ensures c.row-2.ensures
+    c.node-node.result.now c.node-node.ensures _ c.puts.ensures c.row-2.ensures
     (length c.as_mut_slice-5.result.now) (c.as_mut_slice-5.ensures.len ∙ c.requires.stand.outs_all)
 
-pub put_run-requires-clause-room : goal.put_run-requires-clause-room
-put_run-requires-clause-room g c =
-    let laws : FiringLaws g.A.Actor.steps = record {
-      wired = c.nets_are_wired.ensures.wired;
-      ports = c.nets_are_wired.ensures.ports;
-      grows = c.locals_grow.ensures.grows;
-      stays = c.taken_stays.ensures;
-    } in
-    room_run g.A.Actor.steps laws c.blocks_join.ensures c.args.net.now c.requires.net (lists c.args.inputs.now)
+pub put-requires-clause-room : goal.put-requires-clause-room
+put-requires-clause-room g c =
+    room_run g.A.Actor.steps c.firing_laws.ensures c.blocks_join.ensures c.args.net.now c.requires.net
+    (lists c.args.inputs.now)
     c.args.stand.now c.requires.stand c.args.many c.requires.can c.nodes_can_step.ensures.phases
     c.row-2.result.now c.row-2.ensures c.as_mut_slice-5.result.now c.as_mut_slice-5.ensures.value
 
@@ -89,68 +64,58 @@ returns-clause-fired g c =
     let y = c.node-node.result.now in
     let y_is = c.node-node.ensures in
     let many = c.args.many in
-    let all = c.takes-size.result * many in
-    let more = c.puts-made.result * many in
-    let laws : FiringLaws s = record {
-      wired = c.nets_are_wired.ensures.wired;
-      ports = c.nets_are_wired.ensures.ports;
-      grows = c.locals_grow.ensures.grows;
-      stays = c.taken_stays.ensures;
-    } in
+    let all = c.takes.result * many in
+    let more = c.puts.result * many in
     let join = c.blocks_join.ensures in
-    let size_is = c.takes-size.ensures ∙ ap (λ v. takes_of s v 0) y_is in
-    let made_is = c.puts-made.ensures ∙ ap (λ v. puts_of s v 0) y_is in
-    let fits = taken_within s laws join n c.requires.net inputs x st many c.requires.can y y_is c.takes-size.result
-    c.takes-size.ensures in
-    let holds = put_within s laws join n c.requires.net inputs x st many c.requires.can y y_is c.puts-made.result
-    c.puts-made.ensures in
-    let seen_taken = with_items x.taken c.take_front_run.new.taken in
-    let taken = with_items_is x.taken c.take_front_run.new.taken (omega arith) in
-    let after = with_items_is seen_taken c.put_run.new.scratch (omega (arith, ap length taken)) in
-    let seen_put = with_items x.put c.take_front_run.new.scratch in
-    let gathered = with_items_is x.put c.take_front_run.new.scratch (omega arith) in
+    let size_is = c.takes.ensures ∙ ap (λ v. takes_of s v 0) y_is in
+    let made_is = c.puts.ensures ∙ ap (λ v. puts_of s v 0) y_is in
+    let fits = taken_within s c.firing_laws.ensures join n c.requires.net inputs x st many c.requires.can y
+    y_is c.takes.result
+    c.takes.ensures in
+    let holds = put_within s c.firing_laws.ensures join n c.requires.net inputs x st many c.requires.can y
+    y_is c.puts.result
+    c.puts.ensures in
+    let seen_taken = with_items x.taken c.take_front.new.taken in
+    let taken = with_items_is x.taken c.take_front.new.taken (omega arith) in
+    let after = with_items_is seen_taken c.put.new.scratch (omega (arith, ap length taken)) in
+    let seen_put = with_items x.put c.take_front.new.scratch in
+    let gathered = with_items_is x.put c.take_front.new.scratch (omega arith) in
     let put = with_items_is seen_put c.step_front_many.new.put (omega (arith, ap length gathered)) in
-    let ins = with_items_is x.ins c.take_front_run.new.ends (omega arith) in
-    let outs = with_items_is x.outs c.put_run.new.ends (omega arith) in
+    let ins = with_items_is x.ins c.take_front.new.ends (omega arith) in
+    let outs = with_items_is x.outs c.put.new.ends (omega arith) in
     let seen = ap (take all) (c.deref.ensures.value ∙ taken) in
     let out = ap (take more) (c.deref-2.ensures.value ∙ put) in
-    let t = take all c.take_front_run.new.taken in
+    let t = take all c.take_front.new.taken in
     let b = take more c.step_front_many.new.put in
-    let drew = drew_run s laws join n c.requires.net inputs x st many c.requires.can keep c.row.result.now c.row.ensures
-    c.takes-size.result size_is c.as_mut_slice.result.now c.take_front_run.new.ends c.as_mut_slice.ensures.value t
-    c.take_front_run.ensures in
-    let gave = gave_run s laws join n c.requires.net inputs x st many c.requires.can keep c.row-2.result.now
-    c.row-2.ensures c.puts-made.result made_is c.as_mut_slice-5.result.now c.put_run.new.ends
+    let drew = drew_run s c.firing_laws.ensures join n c.requires.net inputs x st many c.requires.can keep
+    c.row.result.now c.row.ensures
+    c.takes.result size_is c.as_mut_slice.result.now c.take_front.new.ends c.as_mut_slice.ensures.value t
+    c.take_front.ensures in
+    let gave = gave_run s c.firing_laws.ensures join n c.requires.net inputs x st many c.requires.can keep
+    c.row-2.result.now
+    c.row-2.ensures c.puts.result made_is c.as_mut_slice-5.result.now c.put.new.ends
     c.as_mut_slice-5.ensures.value b
-    (rw out at c.put_run.ensures) in
-    run_fired s laws join n c.requires.net inputs x st many c.requires.can t b
-    (length-take-le all c.take_front_run.new.taken (omega arith) ∙ ap (λ m. m * many) size_is)
+    (rw out at c.put.ensures) in
+    run_fired s c.firing_laws.ensures join n c.requires.net inputs x st many c.requires.can t b
+    (length-take-le all c.take_front.new.taken (omega arith) ∙ ap (λ m. m * many) size_is)
     (length-take-le more c.step_front_many.new.put (omega arith) ∙ ap (λ m. m * many) made_is)
     c.step_front_many.new.state
     (rw (seen, y_is) at c.step_front_many.ensures.state)
     (rw (seen, y_is) at c.step_front_many.ensures.put)
-    (with_items x.ins c.take_front_run.new.ends) (with_items x.outs c.put_run.new.ends)
-    (with_items seen_taken c.put_run.new.scratch) (with_items seen_put c.step_front_many.new.put)
+    (with_items x.ins c.take_front.new.ends) (with_items x.outs c.put.new.ends)
+    (with_items seen_taken c.put.new.scratch) (with_items seen_put c.step_front_many.new.put)
     (rw ins drew) (rw outs gave) (omega arith) (omega arith) (ap length after ∙ omega (arith, ap length taken))
     (ap length put ∙ omega (arith, ap length gathered))
 
-pub take_front_run-requires-clause-all : goal.take_front_run-requires-clause-all
-take_front_run-requires-clause-all g c = refl
-
-pub take_front_run-requires-clause-long : goal.take_front_run-requires-clause-long
-take_front_run-requires-clause-long g c =
+pub take_front-requires-clause-long : goal.take_front-requires-clause-long
+take_front-requires-clause-long g c =
     let s = g.A.Actor.steps in
     let x = c.args.stand.now in
-    let laws : FiringLaws s = record {
-      wired = c.nets_are_wired.ensures.wired;
-      ports = c.nets_are_wired.ensures.ports;
-      grows = c.locals_grow.ensures.grows;
-      stays = c.taken_stays.ensures;
-    } in
-    let fits = taken_within s laws c.blocks_join.ensures c.args.net.now c.requires.net (lists c.args.inputs.now) x
-    c.requires.stand c.args.many c.requires.can c.node-node.result.now c.node-node.ensures c.takes-size.result
-    c.takes-size.ensures in
-    subst (λ ts. c.takes-size.result * c.args.many ≤ length ts) (sym c.as_mut_slice-2.ensures.value) fits
+    let fits = taken_within s c.firing_laws.ensures c.blocks_join.ensures c.args.net.now c.requires.net
+    (lists c.args.inputs.now) x
+    c.requires.stand c.args.many c.requires.can c.node-node.result.now c.node-node.ensures c.takes.result
+    c.takes.ensures in
+    subst (λ ts. c.takes.result * c.args.many ≤ length ts) (sym c.as_mut_slice-2.ensures.value) fits
 
 pub returns-clause-done : goal.returns-clause-done
 returns-clause-done g c = refl

@@ -12,7 +12,7 @@ pub take_ends-requires-clause-once : goal.take_ends-requires-clause-once
 take_ends-requires-clause-once g c =
     let s = g.A.Actor.steps in
     let n = c.args.start.now.net.now in
-    let good = c.requires.start.net in
+    let good = c.requires.start.can.net in
     subst (λ cs. (i k : ℕ) → i < length cs → k < length cs → slice_index cs i ≡ slice_index cs k → i ≡ k)
     (sym c.channels_in.ensures)
     (λ i k hi hk e. ins_once s c.nets_are_wired.ensures.ports n good (c.nets_are_wired.ensures.wired n good) c.args.a i
@@ -22,7 +22,7 @@ pub make_stand-requires-clause-ins : goal.make_stand-requires-clause-ins
 make_stand-requires-clause-ins g c κs within =
     let s = g.A.Actor.steps in
     let n = c.args.start.now.net.now in
-    let good = c.requires.start.net in
+    let good = c.requires.start.can.net in
     let ends = c.args.ends.now in
     let ins = c.in_ok-ins.ins in
     has_ins s c.nets_are_wired.ensures.ports n good (c.nets_are_wired.ensures.wired n good) c.args.a c.requires.known
@@ -36,7 +36,7 @@ pub make_stand-requires-clause-outs : goal.make_stand-requires-clause-outs
 make_stand-requires-clause-outs g c κs within =
     let s = g.A.Actor.steps in
     let n = c.args.start.now.net.now in
-    let good = c.requires.start.net in
+    let good = c.requires.start.can.net in
     let ends = c.args.ends.now in
     let outs = c.in_ok-outs.outs in
     has_outs s c.nets_are_wired.ensures.ports n good (c.nets_are_wired.ensures.wired n good) c.args.a c.requires.known
@@ -50,7 +50,7 @@ pub make_stand-requires-clause-own : goal.make_stand-requires-clause-own
 make_stand-requires-clause-own g c κs within =
     let s = g.A.Actor.steps in
     let n = c.args.start.now.net.now in
-    let good = c.requires.start.net in
+    let good = c.requires.start.can.net in
     let wired = c.nets_are_wired.ensures.wired n good in
     let ports = c.nets_are_wired.ensures.ports in
     let ends = c.args.ends.now in
@@ -76,7 +76,7 @@ returns-clause-begun g c =
     let start = c.args.start.now in
     let n = start.net.now in
     let a = c.args.a in
-    let good = c.requires.start.net in
+    let good = c.requires.start.can.net in
     let wired = c.nets_are_wired.ensures.wired n good in
     let ports = c.nets_are_wired.ensures.ports in
     let ends = c.args.ends.now in

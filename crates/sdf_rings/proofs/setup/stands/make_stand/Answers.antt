@@ -17,18 +17,19 @@ returns-clause-stand g c =
     let is = c.node-node.ensures in
     let asked = c.index.result.now in
     let asked_is = c.index.ensures ∙ get_or_default x.asked.items a asked 0
-    (omega (arith, vec_long x.asked, c.requires.asked, c.requires.known)) in
+    (omega (arith, vec_long x.asked, c.requires.start.asked_all, c.requires.known)) in
     let can = subst (λ m. CanBegin inputs m x.room (node n a)) (sym asked_is)
-    (c.requires.start.begin a c.requires.known) in
-    stand_begun s c.locals_grow.ensures.begins n c.requires.start.net
-    (c.nets_are_wired.ensures.wired n c.requires.start.net) inputs a c.requires.known
+    (c.requires.start.can.begin a c.requires.known) in
+    stand_begun s c.locals_grow.ensures.begins n c.requires.start.can.net
+    (c.nets_are_wired.ensures.wired n c.requires.start.can.net) inputs a c.requires.known
     c.in_ok-begin.field-0 c.args.ins c.args.outs c.in_ok-rows.field-0 c.in_ok-rows-2.field-0 c.in_ok-fillers.field-0
     c.in_ok-fillers-2.field-0 asked x.filler c.max-many.result
-    c.requires.ins c.requires.outs c.requires.own (c.requires.start.phases a c.requires.known)
+    c.requires.ins c.requires.outs c.requires.own (c.requires.start.can.phases a c.requires.known)
     (subst (λ y. IsAt s inputs asked y [] c.in_ok-begin.field-0) is
     (c.in_ok-begin.ensures inputs asked (subst (λ y. CanBegin inputs asked x.room y) (sym is) can)))
     c.in_ok-rows.ensures c.in_ok-rows-2.ensures
     (subst (λ y. (j : ℕ) → j < cycle_of s y → (takes_of s y j ≤ c.max-many.result)
     × (puts_of s y j ≤ c.max-many.result)) is (λ j l. let within = c.most.ensures j l in let up =
     c.max-many.ensures in (omega arith, omega arith)))
-    c.in_ok-fillers.ensures c.in_ok-fillers-2.ensures (λ e. asked_is ∙ c.requires.start.fillers a c.requires.known e)
+    c.in_ok-fillers.ensures c.in_ok-fillers-2.ensures
+    (λ e. asked_is ∙ c.requires.start.can.fillers a c.requires.known e)
