@@ -6,9 +6,9 @@ use std::thread::{Threads, available_parallelism};
 use std::time::Clock;
 use test_texts::says;
 
-/// A parallel run writes what one thread writes. A frame of the two heavy branches weighs 8,641, so much that it is
-/// work for 13 workers and not for 14, who can't be faster than twice one: 4,288 of it are the input, the fork and the
-/// first branch, which go to one worker.
+/// A parallel run writes what one thread writes. The two heavy branches are nine actors, so that 16 workers would be
+/// seven too many. A frame of them weighs 8,641, work enough for 13; they can't be faster than twice one: 4,288 of it
+/// are the input, the fork and the first branch, which go to one worker.
 const PARALLEL: &[Row] = &[
     (
         "heavy parallel 2",
@@ -23,12 +23,12 @@ const PARALLEL: &[Row] = &[
     (
         "heavy parallel 16 why",
         "run heavy.toml in.wav out.wav --parallel 16 --why",
-        "0\n--\n13 workers, blocks of 16 samples, at most 2.0 times\n--\n<5 -5>",
+        "0\n--\n9 workers, blocks of 16 samples, at most 2.0 times\n--\n<5 -5>",
     ),
     (
         "wider parallel 16 why",
         "run wider.toml in.wav out.wav --parallel 16 --why",
-        "0\n--\n16 workers, blocks of 16 samples, at most 2.9 times\n--\n<5 -5>",
+        "0\n--\n12 workers, blocks of 16 samples, at most 2.9 times\n--\n<5 -5>",
     ),
     (
         "sixty parallel 2 why",

@@ -47,9 +47,9 @@ pub record HasSpeed (d : DesignValue) (workers : ℕ) (p : PlanValue) (tenths : 
   pub heaviest : IsHeaviest (weights_of d p.period.repetitions) table.homes workers most
   pub speed : tenths ≡ 10 * weight_to (weights_of d p.period.repetitions) (length d.net.nodes) / most
 
--- for how many of m workers a frame is enough work, by the period of a plan
+-- for how many of m workers there is an actor each and a frame is enough work, by the period of a plan
 abbrev pub crew_of : DesignValue → ℕ → PlanValue → ℕ
-crew_of d m p = min m (frame_weight d p.period.repetitions / LEAST_SHARE)
+crew_of d m p = min (min m (length d.net.nodes)) (frame_weight d p.period.repetitions / LEAST_SHARE)
 
 -- there is no plan by these options, but memory was not refused
 abbrev pub IsUnplanned : DesignValue → Options → Type 0

@@ -28,8 +28,8 @@ pub const LEAST_SHARE: u64 = 640;
 /// How a design is run where it is to be run in parallel.
 #[derive(Clone, Copy, Debug, PartialEq, Eq)]
 pub enum Pace {
-    /// By so many workers, as many as are asked for and a frame is enough work for, in blocks of so many samples of
-    /// each input; at most so many tenths as fast as by one.
+    /// By so many workers, as many as are asked for, have an actor each and find enough work in a frame, in blocks of
+    /// so many samples of each input; at most so many tenths as fast as by one.
     Crew {
         workers: usize,
         samples: u64,
@@ -70,11 +70,11 @@ fn crew_options(workers: usize) -> Options
     }
 }
 
-/// For how many of so many workers a frame of some weight is enough work.
-fn fed(workers: usize, weight: u64) -> usize
-    ensures { result ≡ min workers (weight / LEAST_SHARE) }
+/// For how many of so many workers there is an actor each, and a frame of some weight is enough work.
+fn fed(workers: usize, actors: usize, weight: u64) -> usize
+    ensures { result ≡ min (min workers actors) (weight / LEAST_SHARE) }
 {
-    (weight / LEAST_SHARE).min(workers as u64) as usize
+    (weight / LEAST_SHARE).min(workers.min(actors) as u64) as usize
 }
 
 /// The homes of so many actors by a table.
@@ -166,9 +166,9 @@ fn unplanned(design: &Design, crew: usize, fault: Fault, alone: Plan) -> Result<
     })
 }
 
-/// Plans a run over rings by so many workers, or by as many fewer as a frame is enough work for, at homes by which the
-/// weight of the actors is spread and in long blocks, where these can be 1.2 times as fast as one by what the actors
-/// weigh; and else a run in one thread. A fault is one of a plan for one thread.
+/// Plans a run over rings by so many workers, or by as many fewer as there are actors and a frame is enough work for,
+/// at homes by which the weight of the actors is spread and in long blocks, where these can be 1.2 times as fast as one
+/// by what the actors weigh; and else a run in one thread. A fault is one of a plan for one thread.
 pub fn parallel_plan(alloc: Global, design: &Design, workers: usize) -> Result<Paced, Fault>
     requires { IsWorkers workers }
 
@@ -187,7 +187,7 @@ pub fn parallel_plan(alloc: Global, design: &Design, workers: usize) -> Result<P
         });
     }
     let weight = frame_weight(alloc, design, alone.period())?;
-    let crew = fed(workers, weight);
+    let crew = fed(workers, design.net().len(), weight);
     if crew < 2 {
         return Ok(Paced {
             plan: alone,
