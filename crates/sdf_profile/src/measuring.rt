@@ -16,6 +16,7 @@ use sdf_process::process::process_with;
 use sdf_process::{Fault, Plan};
 use sdf_run::Gate;
 use sdf_wav::{FromRead, ToWrite};
+use std::alloc::{AllocError, Global};
 use std::io;
 use std::thread::Threads;
 use std::time::Clock;
@@ -60,6 +61,47 @@ fn run_through<T: Threads + AllocGlobal + Sync, G: Gate>(
     process_with(rt, reader, writer, design, plan, gate)
 }
 
+/// What the actors of a run took that was timed.
+fn taken<C: Clock + Drop>(
+    alloc: Global,
+    design: &Design,
+    watch: &Stopwatch<C>,
+) -> Result<Measured, AllocError> {
+    let costs = costs_of(alloc, &times(alloc, design, watch)?)?;
+    let text = profile_text(alloc, design, watch, &costs)?;
+    Ok(Measured { text, costs })
+}
+
+/// Times a run by a plan.
+fn run_timed<T: Threads + AllocGlobal + Sync, C: Clock + Drop + Sync>(
+    rt: &T,
+    input: &[u8],
+    design: &Design,
+    plan: &Plan,
+    watch: &Stopwatch<C>,
+) -> Result<Measured, Fault>
+    requires { Suits design.now.net plan.now }
+    ensures { MatchResult result (λ _. HasRunOn design.now input.now) IsProcessFault }
+{
+    run_through(rt, input, design, plan, watch)?;
+    watch.pass_to(usize::MAX);
+    Ok(taken(rt.alloc(), design, watch)?)
+}
+
+/// Times a run by a plan, with a clock of its own.
+fn measure<T: Threads + AllocGlobal + Clock + Clone + Drop + Sync>(
+    rt: &T,
+    input: &[u8],
+    design: &Design,
+    plan: &Plan,
+) -> Result<Measured, Fault>
+    requires { Suits design.now.net plan.now }
+    ensures { MatchResult result (λ _. HasRunOn design.now input.now) IsProcessFault }
+{
+    let watch = Stopwatch::new(rt.alloc(), rt.clone()?, design.net().len())?;
+    run_timed(rt, input, design, plan, &watch)
+}
+
 /// Runs a design on the bytes of a WAV file in one thread, and tells how much of the time passes in the firings of
 /// each actor, how often each fired, and how long a firing takes; and what the keys `cost` would say, the least time as
 /// 1. What the run makes is dropped. What passes between two firings belongs to the first of them, so reading the clock
@@ -73,10 +115,5 @@ pub fn profile<T: Threads + AllocGlobal + Clock + Clone + Drop + Sync>(
 {
     let alloc = rt.alloc();
     let plan = plan(alloc, design, &options_for(design))?;
-    let watch = Stopwatch::new(alloc, rt.clone()?, design.net().len())?;
-    run_through(rt, input, design, &plan, &watch)?;
-    watch.pass_to(usize::MAX);
-    let costs = costs_of(alloc, &times(alloc, design, &watch)?)?;
-    let text = profile_text(alloc, design, &watch, &costs)?;
-    Ok(Measured { text, costs })
+    measure(rt, input, design, &plan)
 }

@@ -2,22 +2,40 @@
 
 ghost use Rattle.sdf_options.specs.Limits.{AreWithinLimits};
 
-use crate::files::{Loaded, Sources, load, load_into, put};
+use crate::files::{Sources, load, load_into, put};
 use crate::program::World;
 use crate::storage::Storage;
 use sdf_analyze::{analyze, compare};
+use sdf_document::kinds_text;
 use sdf_draw::{dot, svg};
-use sdf_file::check_text;
+use sdf_file::{Design, check_text};
 use sdf_json::{analysis_json, check_json, comparison_json, schedule_json};
 use sdf_options::Options;
 use sdf_process::Fault;
 use sdf_process::planning::plan;
 use sdf_process::schedule::schedule;
+use sdf_words::explained;
+use std::alloc::Global;
 use std::io::Write;
 
 /// Prints an answer.
 pub(crate) fn show<O: Write>(out: &mut O, answer: &str) -> Result<(), Fault> {
     put(out, answer.as_bytes())
+}
+
+/// Prints an answer that was made, if it was.
+fn show_made<O: Write>(out: &mut O, answer: Result<String, Fault>) -> Result<(), Fault> {
+    show(out, answer?.as_str())
+}
+
+/// What a design is, where it can be scheduled.
+fn checked(alloc: Global, design: &Design, json: bool) -> Result<String, Fault> {
+    plan(alloc, design, &Options::DEFAULT)?;
+    if json {
+        Ok(check_json(alloc, design)?)
+    } else {
+        Ok(check_text(alloc, design)?)
+    }
 }
 
 /// Says what a design is, where it can be scheduled.
@@ -29,14 +47,22 @@ pub(crate) fn check<S: Storage, T: AllocGlobal, O: Write>(
     sources: &mut Sources,
 ) -> Result<(), Fault> {
     let alloc = world.threads.alloc();
-    let Loaded { design, .. } = load_into(alloc, world.storage, graph, world.most, sources)?;
-    plan(alloc, &design, &Options::DEFAULT)?;
-    let text = if json {
-        check_json(alloc, &design)?
+    let loaded = load_into(alloc, world.storage, graph, world.most, sources)?;
+    show_made(out, checked(alloc, &loaded.design, json))
+}
+
+/// The schedule of a design.
+fn scheduled(
+    alloc: Global,
+    design: &Design,
+    options: &Options,
+    json: bool,
+) -> Result<String, Fault> {
+    if json {
+        schedule_json(alloc, design, options)
     } else {
-        check_text(alloc, &design)?
-    };
-    show(out, text.as_str())
+        schedule(alloc, design, options)
+    }
 }
 
 /// Prints the schedule of a design.
@@ -49,13 +75,26 @@ pub(crate) fn print_schedule<S: Storage, T: AllocGlobal, O: Write>(
     sources: &mut Sources,
 ) -> Result<(), Fault> {
     let alloc = world.threads.alloc();
-    let Loaded { design, .. } = load_into(alloc, world.storage, graph, world.most, sources)?;
-    let text = if json {
-        schedule_json(alloc, &design, options)?
-    } else {
-        schedule(alloc, &design, options)?
-    };
-    show(out, text.as_str())
+    let loaded = load_into(alloc, world.storage, graph, world.most, sources)?;
+    show_made(out, scheduled(alloc, &loaded.design, options, json))
+}
+
+/// How long the schedule of a design takes, or its schedules compared.
+fn analyzed(
+    alloc: Global,
+    design: &Design,
+    options: &Options,
+    compares: bool,
+    json: bool,
+) -> Result<String, Fault>
+    requires { AreWithinLimits options.now }
+{
+    match (compares, json) {
+        (true, true) => comparison_json(alloc, design, options),
+        (true, false) => compare(alloc, design, options),
+        (false, true) => analysis_json(alloc, design, options),
+        (false, false) => analyze(alloc, design, options),
+    }
 }
 
 /// Prints how long the schedule of a design takes, or compares its schedules.
@@ -70,14 +109,20 @@ pub(crate) fn print_analysis<S: Storage, T: AllocGlobal, O: Write>(
     requires { AreWithinLimits options.now }
 {
     let alloc = world.threads.alloc();
-    let Loaded { design, .. } = load(alloc, world.storage, graph, world.most)?;
-    let text = match (compares, json) {
-        (true, true) => comparison_json(alloc, &design, options)?,
-        (true, false) => compare(alloc, &design, options)?,
-        (false, true) => analysis_json(alloc, &design, options)?,
-        (false, false) => analyze(alloc, &design, options)?,
-    };
-    show(out, text.as_str())
+    let loaded = load(alloc, world.storage, graph, world.most)?;
+    show_made(
+        out,
+        analyzed(alloc, &loaded.design, options, compares, json),
+    )
+}
+
+/// The picture of a design and its schedule, or its graph for Graphviz.
+fn drawn(alloc: Global, design: &Design, options: &Options, as_dot: bool) -> Result<String, Fault> {
+    if as_dot {
+        Ok(dot(alloc, design)?)
+    } else {
+        svg(alloc, design, options)
+    }
 }
 
 /// Prints the picture of a design and its schedule, or its graph for Graphviz.
@@ -91,11 +136,23 @@ pub(crate) fn print_picture<S: Storage, T: AllocGlobal, O: Write>(
     requires { AreWithinLimits options.now }
 {
     let alloc = world.threads.alloc();
-    let Loaded { design, .. } = load(alloc, world.storage, graph, world.most)?;
-    let text = if as_dot {
-        dot(alloc, &design)?
-    } else {
-        svg(alloc, &design, options)?
-    };
-    show(out, text.as_str())
+    let loaded = load(alloc, world.storage, graph, world.most)?;
+    show_made(out, drawn(alloc, &loaded.design, options, as_dot))
+}
+
+/// Prints the table of kinds.
+pub(crate) fn print_kinds<S, T: AllocGlobal, O: Write>(
+    world: &World<S, T>,
+    out: &mut O,
+) -> Result<(), Fault> {
+    show(out, kinds_text(world.threads.alloc())?.as_str())
+}
+
+/// Prints what the fault of this number means.
+pub(crate) fn print_meaning<S, T: AllocGlobal, O: Write>(
+    world: &World<S, T>,
+    out: &mut O,
+    number: u32,
+) -> Result<(), Fault> {
+    show(out, explained(world.threads.alloc(), number)?.as_str())
 }

@@ -54,45 +54,125 @@ fn costed(alloc: Global, sources: &Sources, costs: &[u32]) -> Result<Vec<u8>, Fa
     }
 }
 
-/// Prints what each actor's firings take of the time of a run. Where a file is named, the graph file is written there
-/// with the costs, and before anything is measured it is tested that it is none of the files that are read, and that
-/// the graph file can be written so.
-pub(crate) fn print_profile<S: Storage, T, I: Read, O: Write>(
+/// What is measured: a run of GRAPH on IN. Where a FILE is named, the graph file is written there with the costs.
+#[derive(Clone, Copy)]
+pub(crate) struct Profiling<'a> {
+    pub(crate) graph: &'a str,
+    pub(crate) input: &'a str,
+    pub(crate) write: Option<&'a str>,
+}
+
+/// What was read of it: a design, its files, and the bytes of the sound.
+#[derive(Clone, Copy)]
+struct Subject<'a> {
+    loaded: &'a Loaded,
+    sources: &'a Sources,
+    bytes: &'a [u8],
+}
+
+/// Writes the graph file with the costs that were measured, and prints the profile where it does not stand there.
+fn write_measured<S: Storage, T: AllocGlobal, O: Write>(
     world: &World<S, T>,
-    stdin: &mut I,
     out: &mut O,
-    graph: &str,
-    input: &str,
-    write: Option<&str>,
+    output: &str,
+    sources: &Sources,
+    measured: &Measured,
+) -> Result<(), Fault> {
+    let written = costed(world.threads.alloc(), sources, &measured.costs)?;
+    if output == STANDARD {
+        return put(out, &written);
+    }
+    write_at(world.storage, output, &written)?;
+    show(out, measured.text.as_str())
+}
+
+/// Measures a run once it is tested that the file to write is none of those that are read, and that the graph file can
+/// be written with costs.
+fn measure_into<S: Storage, T, O: Write>(
+    world: &World<S, T>,
+    out: &mut O,
+    paths: Paths<'_>,
+    subject: Subject<'_>,
 ) -> Result<(), Fault>
 where
     T: Threads + AllocGlobal + Clock + Clone + Drop + Sync,
 {
     let alloc = world.threads.alloc();
-    let mut sources = Sources::new(alloc);
-    let Loaded { design, names } = load_into(
-        alloc,
-        world.storage,
-        graph,
-        world.most,
-        &mut sources,
-    )?;
-    let bytes = bytes_at(world, stdin, input)?;
-    let Some(output) = write else {
-        return show(out, profile(world.threads, &bytes, &design)?.text.as_str());
-    };
-    let paths = Paths {
+    let Subject {
+        loaded,
+        sources,
+        bytes,
+    } = subject;
+    keep_what_is_read(alloc, world.storage, "FILE", paths, &loaded.names)?;
+    costed(alloc, sources, loaded.design.costs())?;
+    let measured = profile(world.threads, bytes, &loaded.design)?;
+    write_measured(world, out, paths.output, sources, &measured)
+}
+
+/// Measures a run of what was read.
+fn measure<S: Storage, T, O: Write>(
+    world: &World<S, T>,
+    out: &mut O,
+    asked: Profiling<'_>,
+    subject: Subject<'_>,
+) -> Result<(), Fault>
+where
+    T: Threads + AllocGlobal + Clock + Clone + Drop + Sync,
+{
+    let Profiling {
         graph,
         input,
-        output,
-    };
-    keep_what_is_read(alloc, world.storage, "FILE", paths, &names)?;
-    costed(alloc, &sources, design.costs())?;
-    let Measured { text, costs } = profile(world.threads, &bytes, &design)?;
-    let written = costed(alloc, &sources, &costs)?;
-    if output == STANDARD {
-        return put(out, &written);
+        write,
+    } = asked;
+    match write {
+        Some(output) => {
+            let paths = Paths {
+                graph,
+                input,
+                output,
+            };
+            measure_into(world, out, paths, subject)
+        }
+        None => {
+            let measured = profile(world.threads, subject.bytes, &subject.loaded.design)?;
+            show(out, measured.text.as_str())
+        }
     }
-    write_at(world.storage, output, &written)?;
-    show(out, text.as_str())
+}
+
+/// Reads a sound, and measures a run of a design on it.
+fn measure_on<S: Storage, T, I: Read, O: Write>(
+    world: &World<S, T>,
+    stdin: &mut I,
+    out: &mut O,
+    asked: Profiling<'_>,
+    loaded: &Loaded,
+    sources: &Sources,
+) -> Result<(), Fault>
+where
+    T: Threads + AllocGlobal + Clock + Clone + Drop + Sync,
+{
+    let bytes = bytes_at(world, stdin, asked.input)?;
+    let subject = Subject {
+        loaded,
+        sources,
+        bytes: &bytes,
+    };
+    measure(world, out, asked, subject)
+}
+
+/// Prints what each actor's firings take of the time of a run, or writes the costs into a file that is named.
+pub(crate) fn print_profile<S: Storage, T, I: Read, O: Write>(
+    world: &World<S, T>,
+    stdin: &mut I,
+    out: &mut O,
+    asked: Profiling<'_>,
+    sources: &mut Sources,
+) -> Result<(), Fault>
+where
+    T: Threads + AllocGlobal + Clock + Clone + Drop + Sync,
+{
+    let alloc = world.threads.alloc();
+    let loaded = load_into(alloc, world.storage, asked.graph, world.most, sources)?;
+    measure_on(world, stdin, out, asked, &loaded, sources)
 }

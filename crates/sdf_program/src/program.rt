@@ -3,19 +3,22 @@
 ghost use Rattle.std.specs.Prelude.{◌≡◌, ◌⊎◌};
 ghost use Rattle.sdf_process.specs.Statuses.{status_of};
 ghost use Rattle.sdf_process.specs.declared.fault.Fault.TheVariants.{OutOfMemory};
+ghost use Rattle.sdf_words.specs.Limits.{IsWithinLimits};
 
+use crate::files::Sources;
 use crate::making::{fir, resample};
 use crate::overwriting::Paths;
-use crate::printing::{check, print_analysis, print_picture, print_schedule, show};
-use crate::profiling::print_profile;
+use crate::printing::{
+    check, print_analysis, print_kinds, print_meaning, print_picture, print_schedule, show,
+};
+use crate::profiling::{Profiling, print_profile};
 use crate::running::{Parallel, run, run_parallel};
 use crate::storage::Storage;
 use crate::telling::Background;
-use sdf_document::kinds_text;
 use sdf_json::fault_json;
-use sdf_options::{Options, WordFault};
+use sdf_options::WordFault;
 use sdf_process::{Fault, fault_text, status};
-use sdf_words::{Words, explained, words};
+use sdf_words::{Words, words};
 use std::alloc::{AllocError, Global};
 use std::io::{Read, Write};
 use std::thread::Threads;
@@ -33,9 +36,95 @@ pub struct World<'a, S, T> {
     pub most: u32,
 }
 
+/// Does what is asked for. What was read stands in `sources`.
+fn obey<
+    S: Storage,
+    T: Threads + AllocGlobal + Clock + Clone + Drop + Sync,
+    I: Read,
+    O: Write,
+    E: Write,
+>(
+    world: &World<S, T>,
+    stdin: &mut I,
+    out: &mut O,
+    err: &mut E,
+    asked: Words<'_>,
+    sources: &mut Sources,
+) -> Result<(), Fault>
+    requires { IsWithinLimits asked }
+{
+    match asked {
+        Words::Check { graph, json, .. } => check(world, out, graph, json, sources),
+        Words::Schedule {
+            graph,
+            options,
+            json,
+            ..
+        } => print_schedule(world, out, graph, &options, json, sources),
+        Words::Analyze {
+            graph,
+            options,
+            compare,
+            json,
+        } => print_analysis(world, out, graph, &options, compare, json),
+        Words::Draw {
+            graph,
+            options,
+            dot,
+        } => print_picture(world, out, graph, &options, dot),
+        Words::Profile {
+            graph,
+            input,
+            write,
+        } => {
+            let asked = Profiling {
+                graph,
+                input,
+                write,
+            };
+            print_profile(world, stdin, out, asked, sources)
+        }
+        Words::Run {
+            graph,
+            input,
+            output,
+            options,
+            parallel,
+            why,
+        } => {
+            let paths = Paths {
+                graph,
+                input,
+                output,
+            };
+            match parallel {
+                Some(crew) => {
+                    let asked = Parallel { paths, crew, why };
+                    run_parallel(world, stdin, out, err, asked, sources)
+                }
+                None => run(world, stdin, out, paths, &options, sources),
+            }
+        }
+        Words::Fir { wanted } => fir(world, out, err, wanted),
+        Words::Resample { conversion } => resample(world, err, conversion),
+        Words::Kinds => print_kinds(world, out),
+        Words::Explain { number } => print_meaning(world, out, number),
+    }
+}
+
+/// What is answered where the words ask for nothing that can be done. Help or the version is an answer.
+fn help_or_fault<O: Write>(alloc: Global, out: &mut O, fault: WordFault) -> Result<(), Fault> {
+    match fault {
+        WordFault::Usage(told) if !told.use_stderr() => {
+            show(out, format!(in alloc; "{told}")?.as_str())
+        }
+        fault => Err(Fault::from(fault)),
+    }
+}
+
 /// Does what the words ask for, of which the first is the program's name. What a fault can be told by is left in
 /// `background`.
-fn obey<
+fn follow<
     S: Storage,
     T: Threads + AllocGlobal + Clock + Clone + Drop + Sync,
     I: Read,
@@ -51,82 +140,11 @@ fn obey<
 ) -> Result<(), Fault> {
     let alloc = world.threads.alloc();
     match words(alloc, line) {
-        Ok(Words::Check { graph, why, json }) => {
-            background.asked_why(why, &Options::DEFAULT);
-            background.asked_json(json);
-            check(world, out, graph, json, &mut background.sources)
+        Ok(asked) => {
+            background.asked(&asked);
+            obey(world, stdin, out, err, asked, &mut background.sources)
         }
-        Ok(
-            Words::Schedule {
-                graph,
-                options,
-                why,
-                json,
-            },
-        ) => {
-            background.asked_why(why, &options);
-            background.asked_json(json);
-            print_schedule(world, out, graph, &options, json, &mut background.sources)
-        }
-        Ok(
-            Words::Analyze {
-                graph,
-                options,
-                compare,
-                json,
-            },
-        ) => {
-            background.asked_json(json);
-            print_analysis(world, out, graph, &options, compare, json)
-        }
-        Ok(
-            Words::Draw {
-                graph,
-                options,
-                dot,
-            },
-        ) => print_picture(world, out, graph, &options, dot),
-        Ok(
-            Words::Profile {
-                graph,
-                input,
-                write,
-            },
-        ) => print_profile(world, stdin, out, graph, input, write),
-        Ok(
-            Words::Run {
-                graph,
-                input,
-                output,
-                options,
-                parallel,
-                why,
-            },
-        ) => {
-            let paths = Paths {
-                graph,
-                input,
-                output,
-            };
-            background.asked_why(why, &options);
-            let sources = &mut background.sources;
-            match parallel {
-                Some(crew) => {
-                    let asked = Parallel { paths, crew, why };
-                    run_parallel(world, stdin, out, err, asked, sources)
-                }
-                None => run(world, stdin, out, paths, &options, sources),
-            }
-        }
-        Ok(Words::Fir { wanted }) => fir(world, out, err, wanted),
-        Ok(Words::Resample { conversion }) => resample(world, err, conversion),
-        Ok(Words::Kinds) => show(out, kinds_text(alloc)?.as_str()),
-        Ok(Words::Explain { number }) => show(out, explained(alloc, number)?.as_str()),
-        // Help or the version is an answer.
-        Err(WordFault::Usage(told)) if !told.use_stderr() => {
-            show(out, format!(in alloc; "{told}")?.as_str())
-        }
-        Err(fault) => Err(Fault::from(fault)),
+        Err(fault) => help_or_fault(alloc, out, fault),
     }
 }
 
@@ -187,7 +205,7 @@ fn answer<
     for word in &given {
         line.push(word.as_str())?;
     }
-    obey(world, stdin, out, err, line.as_slice(), background)
+    follow(world, stdin, out, err, line.as_slice(), background)
 }
 
 /// The whole program: what it was started with, what it works on and standard input come in, what it prints and

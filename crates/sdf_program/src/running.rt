@@ -54,10 +54,10 @@ fn header_at<S: Storage>(storage: &S, input: &str) -> Option<Header> {
 }
 
 /// Runs a plan from the first byte of one stream to the last of another.
-fn run_between<T: Threads + AllocGlobal + Clock + Sync, R: Read + Drop, W: Write + Drop>(
+fn run_between<T: Threads + AllocGlobal + Clock + Sync, R: Read, W: Write>(
     threads: &T,
-    from: R,
-    to: W,
+    from: &mut R,
+    to: &mut W,
     design: &Design,
     plan: &Plan,
 ) -> Result<(), Fault>
@@ -73,9 +73,9 @@ fn run_between<T: Threads + AllocGlobal + Clock + Sync, R: Read + Drop, W: Write
 }
 
 /// Runs a plan on a stream that is open. OUT is made or emptied where none of the files that are read is OUT.
-fn run_from<S: Storage, T: Threads + AllocGlobal + Clock + Sync, R: Read + Drop, O: Write>(
+fn run_from<S: Storage, T: Threads + AllocGlobal + Clock + Sync, R: Read, O: Write>(
     world: &World<S, T>,
-    from: R,
+    from: &mut R,
     out: &mut O,
     paths: Paths<'_>,
     planned: &Planned,
@@ -90,7 +90,7 @@ fn run_from<S: Storage, T: Threads + AllocGlobal + Clock + Sync, R: Read + Drop,
         return run_between(world.threads, from, out, &loaded.design, plan);
     }
     match world.storage.create(paths.output) {
-        Ok(to) => run_between(world.threads, from, to, &loaded.design, plan),
+        Ok(mut to) => run_between(world.threads, from, &mut to, &loaded.design, plan),
         Err(error) => Err(refuse(alloc, refused, paths.output, &error, Fault::Write)),
     }
 }
@@ -113,7 +113,7 @@ fn run_planned<S: Storage, T: Threads + AllocGlobal + Clock + Sync, I: Read, O: 
         return run_from(world, stdin, out, paths, planned, refused);
     }
     let ended = match world.storage.open(paths.input) {
-        Ok(from) => run_from(world, from, out, paths, planned, refused),
+        Ok(mut from) => run_from(world, &mut from, out, paths, planned, refused),
         Err(error) => Err(refuse(alloc, refused, paths.input, &error, Fault::Read)),
     };
     if let Err(Fault::ChannelsMissing | Fault::RateNotWhole) = &ended {

@@ -9,6 +9,7 @@ use sdf_process::{Fault, Stalled};
 use sdf_why::{
     Halt, channels_text, device_text, file_text, home_text, rate_text, stall_text, toml_text,
 };
+use sdf_words::Words;
 use std::alloc::{AllocError, Global};
 use std::io::Write;
 
@@ -121,18 +122,25 @@ impl Background {
         }
     }
 
-    /// More is asked for of a fault, or not, by a command with these options.
-    pub(crate) fn asked_why(&mut self, why: bool, options: &Options) {
-        if why {
-            self.telling = Telling::Why(*options);
-        }
-    }
-
-    /// JSON is asked for, or not.
-    pub(crate) fn asked_json(&mut self, json: bool) {
-        if json {
-            self.telling = Telling::Json;
-        }
+    /// A fault is told as is asked for.
+    pub(crate) fn asked(&mut self, words: &Words<'_>) {
+        self.telling = match words {
+            Words::Check { json: true, .. }
+            | Words::Schedule { json: true, .. }
+            | Words::Analyze { json: true, .. } => Telling::Json,
+            Words::Check { why: true, .. } => Telling::Why(Options::DEFAULT),
+            Words::Schedule {
+                options,
+                why: true,
+                ..
+            }
+            | Words::Run {
+                options,
+                why: true,
+                ..
+            } => Telling::Why(*options),
+            _ => Telling::Line,
+        };
     }
 
     /// Whether a fault is told in JSON.

@@ -1,6 +1,6 @@
 //! What is told of a fault, by the files of the design.
 
-ghost use Rattle.std.specs.Prelude.{◌≡◌, ◌++◌, IfOk, IfSome, OnOk, string_bytes};
+ghost use Rattle.std.specs.Prelude.{◌≡◌, ◌++◌, None, IfOk, IfSome, OnOk, string_bytes};
 ghost use Rattle.toml.specs.View.{view};
 ghost use Rattle.sdf_document.specs.Lists.{files_view};
 ghost use Rattle.sdf_document.specs.Listing.{kinds_text};
@@ -142,6 +142,16 @@ struct Basis {
     design: Design,
 }
 
+/// No design, unless it was memory that lacked.
+fn no_design(fault: &FileFault) -> Result<Option<Design>, AllocError>
+    ensures { IfOk result (λ r. r ≡ None) }
+{
+    match fault {
+        FileFault::OutOfMemory => Err(AllocError),
+        _ => Ok(None),
+    }
+}
+
 /// The design of files, if they give one.
 fn design_of(alloc: Global, sources: Sources<'_>) -> Result<Option<Design>, AllocError>
     ensures { IfOk result (λ r. IfSome r
@@ -149,8 +159,7 @@ fn design_of(alloc: Global, sources: Sources<'_>) -> Result<Option<Design>, Allo
 {
     match read_design(alloc, sources.graph, sources.files) {
         Ok(design) => Ok(Some(design)),
-        Err(FileFault::OutOfMemory) => Err(AllocError),
-        Err(_) => Ok(None),
+        Err(fault) => no_design(&fault),
     }
 }
 

@@ -27,23 +27,11 @@ enum Values {
     OneOf(&'static [&'static str]),
 }
 
-/// What a command is given by its place. `help` is what `-h` says of it and `more` what `--help` does, here and below.
-#[derive(Clone, Copy)]
-struct Place {
-    name: &'static str,
-    help: &'static str,
-    more: &'static str,
-    values: Values,
-}
-
 /// What a command can be given by name, and what it is where it is not given; without that it has to be given, but for
 /// a path.
 #[derive(Clone, Copy)]
 struct Choice {
-    name: &'static str,
     value_name: &'static str,
-    help: &'static str,
-    more: &'static str,
     values: Values,
     default: Option<&'static str>,
 }
@@ -52,22 +40,43 @@ struct Choice {
 /// name where it has one.
 #[derive(Clone, Copy)]
 struct Switch {
-    name: &'static str,
-    help: &'static str,
-    more: &'static str,
     against: &'static [&'static str],
     value: Option<(&'static str, Values)>,
 }
 
-/// A command, what it is given by place, and what by name. Its help ends with the examples.
+/// How a command is given something.
+#[derive(Clone, Copy)]
+enum Given {
+    /// By its place, always.
+    Place(Values),
+    Choice(Choice),
+    Switch(Switch),
+}
+
+/// Told by a name alone, beside any other.
+const PLAIN: Given = Given::Switch(Switch {
+    against: &[],
+    value: None,
+});
+
+/// What a command is given. `help` is what `-h` says of it and `more` what `--help` does, here and below.
+#[derive(Clone, Copy)]
+struct Argument {
+    name: &'static str,
+    help: &'static str,
+    more: &'static str,
+    given: Given,
+}
+
+/// A command, and what it is given: the options of a schedule first where it `schedules`. Its help ends with the
+/// examples.
 #[derive(Clone, Copy)]
 struct Row {
     name: &'static str,
     help: &'static str,
     more: &'static str,
-    places: &'static [Place],
-    choices: &'static [Choice],
-    switches: &'static [Switch],
+    schedules: bool,
+    arguments: &'static [Argument],
     examples: &'static str,
 }
 
@@ -80,20 +89,9 @@ fn parser_of<'a>(values: Values) -> ValueParser<'a> {
     }
 }
 
-fn argument<'a>(alloc: Global, place: Place) -> Arg<'a> {
-    Arg::new(alloc, place.name)
-        .required(true)
-        .help(place.help)
-        .long_help(place.more)
-        .value_parser(parser_of(place.values))
-}
-
-fn option<'a>(alloc: Global, choice: Choice) -> Arg<'a> {
-    let named = Arg::new(alloc, choice.name)
-        .long(choice.name)
+fn chosen<'a>(named: Arg<'a>, choice: Choice) -> Arg<'a> {
+    let named = named
         .value_name(choice.value_name)
-        .help(choice.help)
-        .long_help(choice.more)
         .value_parser(parser_of(choice.values));
     match choice.default {
         Some(default) => named.default_value(default),
@@ -101,52 +99,49 @@ fn option<'a>(alloc: Global, choice: Choice) -> Arg<'a> {
     }
 }
 
-fn flag<'a>(alloc: Global, switch: Switch) -> Result<Arg<'a>, AllocError> {
-    let flag = Arg::new(alloc, switch.name)
-        .long(switch.name)
-        .help(switch.help)
-        .long_help(switch.more);
+fn switched<'a>(named: Arg<'a>, switch: Switch) -> Result<Arg<'a>, AllocError> {
     let flag = match switch.value {
-        Some((value_name, values)) => flag
+        Some((value_name, values)) => named
             .value_name(value_name)
             .num_args(0..=1)
             .value_parser(parser_of(values)),
-        None => flag.action(ArgAction::SetTrue),
+        None => named.action(ArgAction::SetTrue),
     };
     flag.conflicts_with_all(switch.against)
 }
 
-fn with_places<'a>(
+fn arg_of<'a>(alloc: Global, argument: Argument) -> Result<Arg<'a>, AllocError> {
+    let arg = Arg::new(alloc, argument.name)
+        .help(argument.help)
+        .long_help(argument.more);
+    match argument.given {
+        Given::Place(values) => Ok(arg.required(true).value_parser(parser_of(values))),
+        Given::Choice(choice) => Ok(chosen(arg.long(argument.name), choice)),
+        Given::Switch(switch) => switched(arg.long(argument.name), switch),
+    }
+}
+
+fn with_argument<'a>(
+    alloc: Global,
+    command: Command<'a>,
+    argument: Argument,
+) -> Result<Command<'a>, AllocError> {
+    command.arg(arg_of(alloc, argument)?)
+}
+
+fn with_arguments<'a>(
     alloc: Global,
     mut command: Command<'a>,
-    places: &[Place],
+    arguments: &[Argument],
 ) -> Result<Command<'a>, AllocError> {
-    for place in places {
-        command = command.arg(argument(alloc, *place))?;
+    for argument in arguments {
+        command = with_argument(alloc, command, *argument)?;
     }
     Ok(command)
 }
 
-fn with_choices<'a>(
-    alloc: Global,
-    mut command: Command<'a>,
-    choices: &[Choice],
-) -> Result<Command<'a>, AllocError> {
-    for choice in choices {
-        command = command.arg(option(alloc, *choice))?;
-    }
-    Ok(command)
-}
-
-fn with_switches<'a>(
-    alloc: Global,
-    mut command: Command<'a>,
-    switches: &[Switch],
-) -> Result<Command<'a>, AllocError> {
-    for switch in switches {
-        command = command.arg(flag(alloc, *switch)?)?;
-    }
-    Ok(command)
+fn with_options<'a>(alloc: Global, command: Command<'a>) -> Result<Command<'a>, AllocError> {
+    with_arguments(alloc, command, designs::OPTIONS)
 }
 
 fn command_of<'a>(alloc: Global, row: Row) -> Result<Command<'a>, AllocError> {
@@ -154,8 +149,20 @@ fn command_of<'a>(alloc: Global, row: Row) -> Result<Command<'a>, AllocError> {
         .about(row.help)
         .long_about(row.more)
         .after_help(row.examples);
-    let command = with_choices(alloc, with_places(alloc, command, row.places)?, row.choices)?;
-    with_switches(alloc, command, row.switches)
+    let command = if row.schedules {
+        with_options(alloc, command)?
+    } else {
+        command
+    };
+    with_arguments(alloc, command, row.arguments)
+}
+
+fn with_command<'a>(
+    alloc: Global,
+    command: Command<'a>,
+    row: Row,
+) -> Result<Command<'a>, AllocError> {
+    command.subcommand(command_of(alloc, row)?)
 }
 
 fn with_commands<'a>(
@@ -164,7 +171,7 @@ fn with_commands<'a>(
     rows: &[Row],
 ) -> Result<Command<'a>, AllocError> {
     for row in rows {
-        command = command.subcommand(command_of(alloc, *row)?)?;
+        command = with_command(alloc, command, *row)?;
     }
     Ok(command)
 }

@@ -1,57 +1,60 @@
 //! The commands that check, schedule and run a design: what each takes, and what its help says.
 
-use super::{Choice, Place, Row, Switch, Values};
+use super::{Argument, Choice, Given, PLAIN, Row, Switch, Values};
 use sdf_limits::{MOST_BLOCKING, MOST_PATIENCE, MOST_WORKERS};
 use sdf_options::{PLACEMENT_WORDS, POLICY_WORDS, RUNNER_WORDS};
 
-pub(super) const GRAPH: Place = Place {
+pub(super) const GRAPH: Argument = Argument {
     name: "GRAPH",
     help: "The graph file",
     more: "The graph file, a TOML document that names actors and links them. The coefficient files that it
 names lie in its folder",
-    values: Values::Text,
+    given: Given::Place(Values::Text),
 };
 
-pub(super) const IN: Place = Place {
+pub(super) const IN: Argument = Argument {
     name: "IN",
     help: "The WAV file to read, `-` for standard input",
     more: "The WAV file to read: 16-bit PCM, 1 to 8 channels.
 `-` is standard input, and a file of that name is `./-`",
-    values: Values::Text,
+    given: Given::Place(Values::Text),
 };
 
-const OUT: Place = Place {
+const OUT: Argument = Argument {
     name: "OUT",
     help: "The WAV file to write, none that is read, `-` for standard output",
     more: "The WAV file to write, which may be none that is read. What was in it is gone.
 `-` is standard output, and a file of that name is `./-`",
-    values: Values::Text,
+    given: Given::Place(Values::Text),
 };
 
-pub(super) const BLOCKING: Choice = Choice {
+const BLOCKING: Argument = Argument {
     name: "blocking",
-    value_name: "J",
     help: "Periods in a block, 1 to 64",
     more: "Periods in a block, 1 to 64. The table has the firings of one block: in a longer block more of
 them can be done at the same time, and links hold more samples.
 In `run` it has no effect without `--runner rows` or `--runner rings`",
-    values: Values::Signed(1, MOST_BLOCKING as i64),
-    default: Some("1"),
+    given: Given::Choice(Choice {
+        value_name: "J",
+        values: Values::Signed(1, MOST_BLOCKING as i64),
+        default: Some("1"),
+    }),
 };
 
-pub(super) const WORKERS: Choice = Choice {
+const WORKERS: Argument = Argument {
     name: "workers",
-    value_name: "M",
     help: "Workers, 1 to 16",
     more: "Workers, 1 to 16: the columns of the table, each of which does its firings in a thread.
 In `run` it has no effect without `--runner rows` or `--runner rings`",
-    values: Values::Unsigned(1, MOST_WORKERS as u64),
-    default: Some("1"),
+    given: Given::Choice(Choice {
+        value_name: "M",
+        values: Values::Unsigned(1, MOST_WORKERS as u64),
+        default: Some("1"),
+    }),
 };
 
-pub(super) const POLICY: Choice = Choice {
+const POLICY: Argument = Argument {
     name: "policy",
-    value_name: "P",
     help: "Which actor fires next",
     more: "Which of the actors that may fire is next in the order of a period:
 - round: passes over the actors in file order, in which each that may fire fires once
@@ -59,13 +62,15 @@ pub(super) const POLICY: Choice = Choice {
 - runs: the same one while it may, and then the next in file order
 The table does not go by it without `--placement file`.
 In `run` it has no effect without that and `--runner rows` or `--runner rings`",
-    values: Values::OneOf(POLICY_WORDS),
-    default: Some("round"),
+    given: Given::Choice(Choice {
+        value_name: "P",
+        values: Values::OneOf(POLICY_WORDS),
+        default: Some("round"),
+    }),
 };
 
-pub(super) const PLACEMENT: Choice = Choice {
+const PLACEMENT: Argument = Argument {
     name: "placement",
-    value_name: "L",
     help: "How firings come to workers",
     more: "Which worker does a firing, and in which row of the table:
 - hu: any worker that is not busy; first those firings on which the longest chain of others waits
@@ -75,70 +80,83 @@ pub(super) const PLACEMENT: Choice = Choice {
   whole block by the policy runs. `--blocking` has no effect: a block is as many periods as keep to
   1024 samples
 In `run` it has no effect without `--runner rows` or `--runner rings`",
-    values: Values::OneOf(PLACEMENT_WORDS),
-    default: Some("homed"),
+    given: Given::Choice(Choice {
+        value_name: "L",
+        values: Values::OneOf(PLACEMENT_WORDS),
+        default: Some("homed"),
+    }),
 };
 
-const RUNNER: Choice = Choice {
+const RUNNER: Argument = Argument {
     name: "runner",
-    value_name: "R",
     help: "How firings are run",
     more: "How firings are run:
 - one: in one thread; `--blocking`, `--workers`, `--policy`, `--placement` and `--patience` have no effect
 - rows: the firings of a row of the table at once, then those of the next row
 - rings: each worker at its own pace, over a ring for each link; each actor needs one worker, as by
   `--placement homed` or `--placement file`",
-    values: Values::OneOf(RUNNER_WORDS),
-    default: Some("one"),
+    given: Given::Choice(Choice {
+        value_name: "R",
+        values: Values::OneOf(RUNNER_WORDS),
+        default: Some("one"),
+    }),
 };
 
-const PATIENCE: Choice = Choice {
+const PATIENCE: Argument = Argument {
     name: "patience",
-    value_name: "T",
     help: "Repeated tests in a round, at most 1000000",
     more: "How often a worker whose next firing lacks samples or room tests again, in all, before its round
 ends; at most 1000000.
 It has no effect without `--runner rings`",
-    values: Values::Signed(0, MOST_PATIENCE as i64),
-    default: Some("1000"),
+    given: Given::Choice(Choice {
+        value_name: "T",
+        values: Values::Signed(0, MOST_PATIENCE as i64),
+        default: Some("1000"),
+    }),
 };
 
-const PARALLEL: Switch = Switch {
+const PARALLEL: Argument = Argument {
     name: "parallel",
     help: "Runs in parallel, by as many workers as there are processors or by M",
     more: "Runs in parallel, where that can be faster: by M workers, 1 to 16, or by as many as there are processors,
-and by fewer where a frame is too little work for so many.
+and by fewer where there are fewer actors, or a frame is too little work for so many.
 It is `--runner rings --placement spread --policy runs` with a patience of 1000000; and one thread, where a
 frame is too little work for two, where the workers could not be 1.2 times as fast by what the actors
 weigh, or where there is no table for them. With `--why` a line on standard error says which",
-    against: &[
-        "blocking",
-        "workers",
-        "policy",
-        "placement",
-        "runner",
-        "patience",
-    ],
-    value: Some(("M", Values::Unsigned(1, MOST_WORKERS as u64))),
+    given: Given::Switch(Switch {
+        against: &[
+            "blocking",
+            "workers",
+            "policy",
+            "placement",
+            "runner",
+            "patience",
+        ],
+        value: Some(("M", Values::Unsigned(1, MOST_WORKERS as u64))),
+    }),
 };
 
-const WHY: Switch = Switch {
+const WHY: Argument = Argument {
     name: "why",
     help: "Says more of a fault: names, values and limits",
     more: "Says more of a fault: after its line come lines that begin with two blanks and have the names of
 actors and the ends of links, what stands at a key and what it wants, or a cycle that lacks samples",
-    against: &[],
-    value: None,
+    given: PLAIN,
 };
 
-pub(super) const JSON: Switch = Switch {
+pub(super) const JSON: Argument = Argument {
     name: "json",
     help: "Answers in JSON, also of a fault",
     more: "Answers in JSON: one value on one line in place of the text. A fault is one too, on standard error, but
 for a mistake in the words",
-    against: &["why"],
-    value: None,
+    given: Given::Switch(Switch {
+        against: &["why"],
+        value: None,
+    }),
 };
+
+/// The options of a schedule.
+pub(super) const OPTIONS: &[Argument] = &[BLOCKING, WORKERS, POLICY, PLACEMENT];
 
 pub(super) const ROWS: &[Row] = &[
     Row {
@@ -147,9 +165,8 @@ pub(super) const ROWS: &[Row] = &[
         more: "Checks a graph file and prints its period: how many actors and links there are, how many firings make
 a period, how many of them are each actor's, and how many samples an input puts and an output takes
 in one. A fault is a line on standard error, which `sdfw explain` explains.",
-        places: &[GRAPH],
-        choices: &[],
-        switches: &[WHY, JSON],
+        schedules: false,
+        arguments: &[GRAPH, WHY, JSON],
         examples: "Examples:
   sdfw check graph.toml
   sdfw check graph.toml --why",
@@ -160,9 +177,8 @@ in one. A fault is a line on standard error, which `sdfw explain` explains.",
         more: "Prints a schedule of a graph file for some workers: the order of a period's firings one by one, then
 the table of a block, a line for each row with the firing of each worker, and the most samples that
 each link holds.",
-        places: &[GRAPH],
-        choices: &[BLOCKING, WORKERS, POLICY, PLACEMENT],
-        switches: &[WHY, JSON],
+        schedules: true,
+        arguments: &[GRAPH, WHY, JSON],
         examples: "Examples:
   sdfw schedule graph.toml --policy lean
   sdfw schedule graph.toml --workers 2 --blocking 4",
@@ -172,9 +188,8 @@ each link holds.",
         help: "Processes a WAV file",
         more: "Processes a WAV file: runs as many periods of the design as it takes to read IN, and writes what its
 outputs take to OUT. The bytes are the same whatever the options are.",
-        places: &[GRAPH, IN, OUT],
-        choices: &[BLOCKING, WORKERS, POLICY, PLACEMENT, RUNNER, PATIENCE],
-        switches: &[PARALLEL, WHY],
+        schedules: true,
+        arguments: &[GRAPH, IN, OUT, RUNNER, PATIENCE, PARALLEL, WHY],
         examples: "Examples:
   sdfw run graph.toml in.wav out.wav
   sdfw run graph.toml in.wav out.wav --parallel

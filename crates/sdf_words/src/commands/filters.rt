@@ -1,8 +1,8 @@
 //! The commands that make filters and converters: what each takes, and what its help says.
 
-use super::{Choice, Place, Row, Values};
+use super::{Argument, Choice, Given, Row, Values};
 
-const SHAPE: Place = Place {
+const SHAPE: Argument = Argument {
     name: "SHAPE",
     help: "lowpass, highpass or bandpass",
     more: "What passes:
@@ -10,113 +10,131 @@ const SHAPE: Place = Place {
 - highpass: what is up to `--stop` is stopped, what is from `--pass` on passes
 - bandpass: what is up to `--low-stop` is stopped, what is from `--low-pass` to `--pass` passes, and
   what is from `--stop` on is stopped",
-    values: Values::OneOf(&["lowpass", "highpass", "bandpass"]),
+    given: Given::Place(Values::OneOf(&["lowpass", "highpass", "bandpass"])),
 };
 
-const RATE: Choice = Choice {
+const RATE: Argument = Argument {
     name: "rate",
-    value_name: "HZ",
     help: "Samples a second at the filter",
     more: "Samples a second at the filter: those of the actor's input times its `up`",
-    values: Values::Unsigned(1, u32::MAX as u64),
-    default: None,
+    given: Given::Choice(Choice {
+        value_name: "HZ",
+        values: Values::Unsigned(1, u32::MAX as u64),
+        default: None,
+    }),
 };
 
-const PASS: Choice = Choice {
+const PASS: Argument = Argument {
     name: "pass",
-    value_name: "HZ",
     help: "Where what passes ends, or begins",
     more: "The last frequency that passes, in Hz; of a high-pass the first one",
-    values: Values::Unsigned(0, u32::MAX as u64),
-    default: None,
+    given: Given::Choice(Choice {
+        value_name: "HZ",
+        values: Values::Unsigned(0, u32::MAX as u64),
+        default: None,
+    }),
 };
 
-const STOP: Choice = Choice {
+const STOP: Argument = Argument {
     name: "stop",
-    value_name: "HZ",
     help: "Where what is stopped begins, or ends",
     more: "The first frequency that is stopped, in Hz; of a high-pass the last one",
-    values: Values::Unsigned(0, u32::MAX as u64),
-    default: None,
+    given: Given::Choice(Choice {
+        value_name: "HZ",
+        values: Values::Unsigned(0, u32::MAX as u64),
+        default: None,
+    }),
 };
 
-const LOW_STOP: Choice = Choice {
+const LOW_STOP: Argument = Argument {
     name: "low-stop",
-    value_name: "HZ",
     help: "Of a band-pass, where what is stopped below ends",
     more: "Of a band-pass, the last frequency that is stopped below what passes, in Hz.
 It has no effect on other shapes",
-    values: Values::Unsigned(0, u32::MAX as u64),
-    default: Some("0"),
+    given: Given::Choice(Choice {
+        value_name: "HZ",
+        values: Values::Unsigned(0, u32::MAX as u64),
+        default: Some("0"),
+    }),
 };
 
-const LOW_PASS: Choice = Choice {
+const LOW_PASS: Argument = Argument {
     name: "low-pass",
-    value_name: "HZ",
     help: "Of a band-pass, where what passes begins",
     more: "Of a band-pass, the first frequency that passes, in Hz.
 It has no effect on other shapes",
-    values: Values::Unsigned(0, u32::MAX as u64),
-    default: Some("0"),
+    given: Given::Choice(Choice {
+        value_name: "HZ",
+        values: Values::Unsigned(0, u32::MAX as u64),
+        default: Some("0"),
+    }),
 };
 
-const ATTENUATION: Choice = Choice {
+const ATTENUATION: Argument = Argument {
     name: "attenuation",
-    value_name: "DB",
     help: "Of what is stopped, in dB, at most 200",
     more: "How far what is stopped is to be down, in dB, at most 200. Taps of 16 bits reach 66 to 82",
-    values: Values::Unsigned(0, 200),
-    default: Some("96"),
+    given: Given::Choice(Choice {
+        value_name: "DB",
+        values: Values::Unsigned(0, 200),
+        default: Some("96"),
+    }),
 };
 
-const UP: Choice = Choice {
+const UP: Argument = Argument {
     name: "up",
-    value_name: "U",
     help: "The actor's key `up`, 1 to 64",
     more: "The actor's key `up`, 1 to 64. The taps of each phase, which are as many, come to 2^shift, so a
 constant stays what it is; those of a high-pass and a band-pass to 0",
-    values: Values::Unsigned(1, 64),
-    default: Some("1"),
+    given: Given::Choice(Choice {
+        value_name: "U",
+        values: Values::Unsigned(1, 64),
+        default: Some("1"),
+    }),
 };
 
-const SHIFT: Choice = Choice {
+const SHIFT: Argument = Argument {
     name: "shift",
-    value_name: "S",
     help: "The actor's key `shift`, at most 15",
     more: "The actor's key `shift`, at most 15",
-    values: Values::Unsigned(0, 15),
-    default: Some("15"),
+    given: Given::Choice(Choice {
+        value_name: "S",
+        values: Values::Unsigned(0, 15),
+        default: Some("15"),
+    }),
 };
 
-const FROM: Place = Place {
+const FROM: Argument = Argument {
     name: "FROM",
     help: "The rate of what is read, in Hz",
     more: "The rate of what is read, in Hz",
-    values: Values::Unsigned(1, u32::MAX as u64),
+    given: Given::Place(Values::Unsigned(1, u32::MAX as u64)),
 };
 
-const TO: Place = Place {
+const TO: Argument = Argument {
     name: "TO",
     help: "The rate of what is written, in Hz",
     more: "The rate of what is written, in Hz",
-    values: Values::Unsigned(1, u32::MAX as u64),
+    given: Given::Place(Values::Unsigned(1, u32::MAX as u64)),
 };
 
-const FOLDER: Place = Place {
+const FOLDER: Argument = Argument {
     name: "FOLDER",
     help: "The folder that the design is written into",
     more: "The folder that the design is written into, which is made where it is not there: graph.toml, and a
 coefficient file for each stage. It may have none of these files already",
-    values: Values::Text,
+    given: Given::Place(Values::Text),
 };
 
-const CHANNELS: Choice = Choice {
+const CHANNELS: Argument = Argument {
     name: "channels",
-    value_name: "N",
     help: "Channels, 1 to 8",
     more: "Channels, 1 to 8: each has the same stages",
-    values: Values::Unsigned(1, 8),
-    default: Some("1"),
+    given: Given::Choice(Choice {
+        value_name: "N",
+        values: Values::Unsigned(1, 8),
+        default: Some("1"),
+    }),
 };
 
 pub(super) const ROWS: &[Row] = &[
@@ -126,9 +144,18 @@ pub(super) const ROWS: &[Row] = &[
         more: "Prints a coefficient file for an actor of kind fir: a sinc under Kaiser's window, in whole numbers of
 16 bits. How many there are and what they do, the ripple of what passes and how far what is stopped is
 down, is a line on standard error.",
-        places: &[SHAPE],
-        choices: &[RATE, PASS, STOP, LOW_STOP, LOW_PASS, ATTENUATION, UP, SHIFT],
-        switches: &[],
+        schedules: false,
+        arguments: &[
+            SHAPE,
+            RATE,
+            PASS,
+            STOP,
+            LOW_STOP,
+            LOW_PASS,
+            ATTENUATION,
+            UP,
+            SHIFT,
+        ],
         examples: "Examples:
   sdfw fir lowpass --rate 44100 --pass 2000 --stop 2900 > taps.toml
   sdfw fir lowpass --rate 336000 --pass 20000 --stop 24000 --up 7 > a.toml",
@@ -140,9 +167,8 @@ down, is a line on standard error.",
 The stages are those with the fewest products a second. What is up to ten elevenths of half the lower
 rate passes, and nothing else comes to lie there. What the taps of each stage do is a line on standard
 error.",
-        places: &[FROM, TO, FOLDER],
-        choices: &[CHANNELS, ATTENUATION],
-        switches: &[],
+        schedules: false,
+        arguments: &[FROM, TO, FOLDER, CHANNELS, ATTENUATION],
         examples: "Examples:
   sdfw resample 48000 44100 converter
   sdfw resample 44100 96000 converter --channels 2 --attenuation 80",

@@ -1,42 +1,42 @@
 //! The commands that show what a schedule does and what a run costs: what each takes, and what its help says.
 
-use super::designs::{BLOCKING, GRAPH, IN, JSON, PLACEMENT, POLICY, WORKERS};
-use super::{Choice, Row, Switch, Values};
+use super::designs::{GRAPH, IN, JSON};
+use super::{Argument, Choice, Given, PLAIN, Row, Values};
 
-const COMPARE: Switch = Switch {
+const COMPARE: Argument = Argument {
     name: "compare",
     help: "Compares the schedules of all policies, placements and numbers of workers",
     more: "Compares the schedules of all policies, placements and numbers of workers 1, 2, 4 and so on up to
 `--workers`: a line for each, with a star at the best speedup, and at the best of each other column
 among blocks of as many periods, or with the number of a fault where there is no schedule. `--policy`
 and `--placement` have no effect with it",
-    against: &[],
-    value: None,
+    given: PLAIN,
 };
 
-const FIGURES: Switch = Switch {
-    against: &[],
+const FIGURES: Argument = Argument {
+    given: PLAIN,
     ..JSON
 };
 
-const DOT: Switch = Switch {
+const DOT: Argument = Argument {
     name: "dot",
     help: "Writes the graph for Graphviz, without a schedule",
     more: "Writes the graph in the language of Graphviz, without a schedule: its actors, and its links with their
 rates and initial samples",
-    against: &[],
-    value: None,
+    given: PLAIN,
 };
 
-const WRITE: Choice = Choice {
+const WRITE: Argument = Argument {
     name: "write",
-    value_name: "FILE",
     help: "Writes the graph file with the measured costs, - for standard output",
     more: "Writes the graph file into FILE, with the key `cost` of each actor as it was measured and all else as it
 stands there; - for standard output, in place of the lines. FILE may be no file that is read. Each actor
 is to have a table of its own, below a line `[[actor]]`, and its cost a line of its own, `cost = 12`",
-    values: Values::Path,
-    default: None,
+    given: Given::Choice(Choice {
+        value_name: "FILE",
+        values: Values::Path,
+        default: None,
+    }),
 };
 
 pub(super) const ROWS: &[Row] = &[
@@ -47,9 +47,8 @@ pub(super) const ROWS: &[Row] = &[
 the time that the key `cost` of its actor says, 1 where it has none. The makespan is when the last one
 ends, the work what all cost together, and no schedule of the block ends before the bound. The speedup
 is the work over the makespan; of each worker is said how much of the makespan it fires.",
-        places: &[GRAPH],
-        choices: &[BLOCKING, WORKERS, POLICY, PLACEMENT],
-        switches: &[COMPARE, FIGURES],
+        schedules: true,
+        arguments: &[GRAPH, COMPARE, FIGURES],
         examples: "Examples:
   sdfw analyze graph.toml --workers 2
   sdfw analyze graph.toml --workers 8 --compare",
@@ -60,9 +59,8 @@ is the work over the makespan; of each worker is said how much of the makespan i
         more: "Draws a graph and its schedule as one SVG image on standard output, for a browser: the actors with
 their firings in a period, the links with their rates, initial samples and capacities, and below them
 the table against time, a lane for each worker.",
-        places: &[GRAPH],
-        choices: &[BLOCKING, WORKERS, POLICY, PLACEMENT],
-        switches: &[DOT],
+        schedules: true,
+        arguments: &[GRAPH, DOT],
         examples: "Examples:
   sdfw draw graph.toml --workers 2 > graph.svg
   sdfw draw graph.toml --dot | dot -Tpdf > graph.pdf",
@@ -73,9 +71,8 @@ the table against time, a lane for each worker.",
         more: "Measures the share of each actor in the time of a run over a WAV file in one thread, and the
 nanoseconds of a firing, and prints the keys `cost` to write into the graph file, of which the least
 is 1. What the run makes is not written.",
-        places: &[GRAPH, IN],
-        choices: &[WRITE],
-        switches: &[],
+        schedules: false,
+        arguments: &[GRAPH, IN, WRITE],
         examples: "Examples:
   sdfw profile graph.toml in.wav
   sdfw profile graph.toml in.wav --write measured.toml",
