@@ -21,6 +21,10 @@ import sys
 import textwrap
 
 TOP = pathlib.Path(__file__).resolve().parent.parent
+sys.dont_write_bytecode = True
+sys.path.insert(0, str(TOP / "scripts"))
+from sources import functions, places
+
 PAGE = TOP / "docs" / "FORMATS.md"
 PROOFS = TOP / "docs" / "PROOFS.md"
 HEAD = "Each with its number, its name and how its line goes on:\n\n"
@@ -65,45 +69,12 @@ def kinds(program):
     return ["docs/FORMATS.md: its table of kinds is not what `sdfw kinds` prints"]
 
 
-class Function:
-    """A function of a crate: its name with its type's, where it stands, and the names that its body calls."""
-
-    def __init__(self, file, text, found):
-        close = re.compile(rf"^{found['indent']}}}[ ]*$", re.M).search(text, found.end())
-        self.file, self.start, self.end = file, found.start(), close.end() if close else len(text)
-        self.public, self.name = found["public"] == "pub ", found["name"]
-        heads = re.findall(r"^(?:pub )?(impl|trait)\b([^{]*)\{", text[: found.start()], re.M) if found["indent"] else []
-        # The type's name without its parameters; an impl of a trait has none: the trait's contract is what it owes.
-        self.owner = ""
-        if heads:
-            head = re.sub(r"<[^<>]*>", "", re.sub(r"<[^<>]*>", "", heads[-1][1])).split("\n")[0].strip()
-            self.owner = "" if " for " in head else head.split(":")[0].split(" where")[0].strip()
-        whole = text[self.start : self.end]
-        head = re.split(r"\n\s*(?:ensures|requires|\{)|\{", whole, maxsplit=1)[0]
-        # A law gives nothing and changes nothing: its contract is a statement.
-        self.law = "->" not in head and "&mut" not in head
-        self.calls = set(re.findall(r"\b([a-z_0-9]+)(?:::<[^()]*>)?\(", whole[len(head) :]))
-
-    def shown(self):
-        return f"{self.owner}::{self.name}" if self.owner else self.name
-
-
-def functions(crate):
-    """All functions of a crate, and its files' texts by name."""
-    pattern = re.compile(r"^(?P<indent> *)(?P<public>pub(?:\([a-z]+\))? )?(?:const )?fn (?P<name>[a-z_0-9]+)", re.M)
-    texts = {path.relative_to(crate).as_posix(): path.read_text() for path in sorted((crate / "src").rglob("*.rt"))}
-    return [Function(file, text, found) for file, text in texts.items() for found in pattern.finditer(text)], texts
-
-
 def edited(crate):
     """The public functions of a crate, and those functions that reach an edit: in themselves, or in what they call."""
     every, texts = functions(crate)
     reached = set()
     for edit in [*crate.glob("must-fail/*.edit"), *crate.glob("mutants/*.edit")]:
-        lines = edit.read_text().splitlines()
-        file = next(line[6:].strip() for line in lines if line.startswith("file: "))
-        for line in lines:
-            at = texts.get(file, "").find(line[5:]) if line.startswith("old: ") else -1
+        for file, at in places(edit.read_text(), texts):
             inside = [one for one in every if one.file == file and one.start <= at <= one.end]
             reached |= {inside[-1]} if inside else set()
     while True:
