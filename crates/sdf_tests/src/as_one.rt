@@ -151,7 +151,7 @@ fn makes<R: Threads + AllocGlobal + Sync, A: Actor<Token = i32>>(
     let times = Times { blocks, mode };
     match held {
         Some(processor) => {
-            let gate = Delay::new(processor, turns, false);
+            let gate = Delay::new(processor, turns);
             make_as_one(rt, net, table, times, &inputs, &gate)
         }
         None => {

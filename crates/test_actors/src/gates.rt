@@ -204,34 +204,21 @@ impl<'a> Gate for Watch<'a> {
     }
 }
 
-/// Holds a processor before each of its firings: for so many turns, or no longer than until a firing has passed on
-/// another.
+/// Holds a processor before each of its firings, for so many turns.
 #[derive(Drop)]
 pub struct Delay {
     processor: usize,
     turns: u32,
-    until_another: bool,
-    /// The firings that passed on other processors.
-    others: AtomicU64,
+    /// Is read once a turn.
+    read: AtomicU64,
 }
 
 impl Delay {
-    pub fn new(processor: usize, turns: u32, until_another: bool) -> Delay {
+    pub fn new(processor: usize, turns: u32) -> Delay {
         Delay {
             processor,
             turns,
-            until_another,
-            others: AtomicU64::new(0),
-        }
-    }
-
-    fn wait(&self) {
-        let before = self.others.load(Ordering::SeqCst);
-        for _ in 0..self.turns {
-            let now = self.others.load(Ordering::SeqCst);
-            if self.until_another && now != before {
-                return;
-            }
+            read: AtomicU64::new(0),
         }
     }
 }
@@ -239,9 +226,9 @@ impl Delay {
 impl Gate for Delay {
     fn before(&self, processor: usize, _actor: ActorId, _firing: u64) {
         if processor == self.processor {
-            self.wait();
-        } else {
-            self.others.fetch_add(1, Ordering::SeqCst);
+            for _ in 0..self.turns {
+                let _ = self.read.load(Ordering::SeqCst);
+            }
         }
     }
 }

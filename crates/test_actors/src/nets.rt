@@ -23,13 +23,6 @@ pub fn sink<A>(ext: u8, block: u32) -> Node<A>
     Node::Sink { ext, block }
 }
 
-/// An actor of one phase.
-pub fn dealer(first: u16, middle: u16, last: u16) -> Node<Regroup>
-    ensures { result ≡ Inner (record { cycle = 1; first = first; middle = middle; last = last }) }
-{
-    turning(1, first, middle, last)
-}
-
 /// An actor of so many phases.
 pub fn turning(cycle: u32, first: u16, middle: u16, last: u16) -> Node<Regroup>
     ensures { result ≡ Inner (record { cycle = cycle; first = first; middle = middle; last = last }) }
