@@ -3,15 +3,17 @@
 .PHONY: help build demo announced try install documents examples test mutants times allocations bench hostile clean
 
 PREFIX ?= /usr/local
+CPU ?= x86-64-v2
 
 # Lists these targets.
 help:
 	@awk '/^# / { said = said (said ? " " : "") substr($$0, 3); next } \
 		/^[a-z]+:/ && said { name = $$0; sub(/:.*/, "", name); printf "%-12s %s\n", name, said } { said = "" }' Makefile
 
-# Proves the program and the crates that it stands on, a line each, and leaves it as build/sdfw.
+# Proves the program and the crates that it stands on, a line each, and leaves it as build/sdfw. With CPU=x86-64-v3 it
+# is faster, and wants a processor with AVX2.
 build:
-	scripts/prove
+	scripts/prove --cpu $(CPU)
 	cp crates/sdfw/out/sdfw build/sdfw
 	@echo "built: build/sdfw"
 
@@ -55,7 +57,7 @@ examples: build
 
 # Every proof from nothing, the must-fail edits, the tests, and each program as two compilers build it.
 test:
-	rt ci
+	RT_JOBS=$$(scripts/lanes) rt ci
 
 # The wrong bodies that the gate does not try: of one crate (CRATE=name), or of all.
 # With ALL=1 those too that it tries.

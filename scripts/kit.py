@@ -41,6 +41,11 @@ def is_refused(kind):
     return kind is True or kind in {getattr(rt, name, True) for name in ("REFUSED", "AT_LIMIT")}
 
 
+def copy_kept(folder, to):
+    """Copies what a check kept, by links where a kit knows of them: a check makes a file anew, and writes into none."""
+    getattr(rt, "linked", shutil.copytree)(folder, to)
+
+
 class Said:
     """A file of what a check says, each line with the seconds since it began."""
 
@@ -66,8 +71,9 @@ def crates_for(root, names):
 
 
 def memory(crate, jobs):
-    """The bytes that a check is likely to take: as rt ci plans, a process for each job."""
-    return rt.need(crate) * (1 + 0.6 * (jobs - 1))
+    """The bytes that a check is likely to take, by a process for each job: of what rt ci plans for it three fifths, the
+    most that a check was seen to take of that."""
+    return 0.6 * rt.need(crate) * (1 + 0.6 * (jobs - 1))
 
 
 def side_by_side(crates, work, lanes, jobs_for_one):
