@@ -74,7 +74,7 @@ fn end_at(
     table: &Table,
 ) -> Result<(usize, usize), ReadFault>
     ensures { Gives (λ e. e) result (end_at link key.now (names_in (map actor_view actors.now))
-          (table_view table.now)) }
+        (table_view table.now)) }
 {
     let text = text_at(Place::Link(link), key, table)?;
     match end_of(actors, text) {

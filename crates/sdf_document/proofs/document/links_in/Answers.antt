@@ -11,7 +11,7 @@ pub returns-in_err-link : goal.returns-in_err-link
 returns-in_err-link c =
     let p = err_from_is_err_and c.from_residual.result c.from_residual.ensures.1 in
     rw (p.1, p.2) (each_fail (link_after (names_in (map actor_view c.args.actors.now))) c.in_err-link.field-0.0
-          c.args.items.now
+    c.args.items.now
     c.loop-number.number c.index-items-number.result (map link_view c.loop-number.links.items) _ (omega arith)
     (search rules) c.loop-number.invariant)
 

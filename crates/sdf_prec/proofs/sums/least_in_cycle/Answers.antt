@@ -22,7 +22,7 @@ loop-moved-preserved c =
     let xs = c.args.rates.now in
     let i : ℕ = c.loop-moved.firings in
     let within = still_in xs c.args.amount c.loop-moved.moved i v.within v.is c.loop-moved-test.true
-        c.requires.within in
+    c.requires.within in
     record {
       is = omega (arith, v.is, c.from-moved.ensures, one_more xs i within);
       within = omega (arith, within);

@@ -39,14 +39,14 @@ pub settle_small-requires-else-self-2-clause-small : goal.settle_small-requires-
 settle_small-requires-else-self-2-clause-small c =
     whole_small c.self.invariant c.self.view_is c.args.h.now c.requires.quiet c.front-high.ensures
     (get_or c.four_dots-a.result 2 (pos 0)) (c.args.at + 2 * c.args.step) (omega (arith, c.requires.room))
-        c.if-self.false
+    c.if-self.false
     (read c.four_dots-a.result 2 _ (ap (λ xs. get_or xs 2 (pos 0)) c.four_dots-a.ensures))
 
 pub settle_small-requires-else-self-3-clause-small : goal.settle_small-requires-else-self-3-clause-small
 settle_small-requires-else-self-3-clause-small c =
     whole_small c.self.invariant c.self.view_is c.args.h.now c.requires.quiet c.front-high.ensures
     (get_or c.four_dots-a.result 3 (pos 0)) (c.args.at + 3 * c.args.step) (omega (arith, c.requires.room))
-        c.if-self.false
+    c.if-self.false
     (read c.four_dots-a.result 3 _ (ap (λ xs. get_or xs 3 (pos 0)) c.four_dots-a.ensures))
 
 pub returns-then-self : goal.returns-then-self
@@ -85,17 +85,17 @@ returns-else-self c =
     c.settle_small.ensures (record { sfits = c.settle_small.type_inv }) in
     let r1 = whole_output c.self.invariant c.self.view_is c.args.h.now c.requires.quiet c.front-high.ensures
     (get_or c.four_dots-a.result 1 (pos 0)) c.args.shift (c.args.at + c.args.step) (omega (arith, c.requires.room))
-        c.if-self.false
+    c.if-self.false
     (read c.four_dots-a.result 1 _ (ap (λ xs. get_or xs 1 (pos 0)) c.four_dots-a.ensures))
     c.settle_small-else-self.ensures (record { sfits = c.settle_small-else-self.type_inv }) in
     let r2 = whole_output c.self.invariant c.self.view_is c.args.h.now c.requires.quiet c.front-high.ensures
     (get_or c.four_dots-a.result 2 (pos 0)) c.args.shift (c.args.at + 2 * c.args.step) (omega (arith, c.requires.room))
-        c.if-self.false
+    c.if-self.false
     (read c.four_dots-a.result 2 _ (ap (λ xs. get_or xs 2 (pos 0)) c.four_dots-a.ensures))
     c.settle_small-else-self-2.ensures (record { sfits = c.settle_small-else-self-2.type_inv }) in
     let r3 = whole_output c.self.invariant c.self.view_is c.args.h.now c.requires.quiet c.front-high.ensures
     (get_or c.four_dots-a.result 3 (pos 0)) c.args.shift (c.args.at + 3 * c.args.step) (omega (arith, c.requires.room))
-        c.if-self.false
+    c.if-self.false
     (read c.four_dots-a.result 3 _ (ap (λ xs. get_or xs 3 (pos 0)) c.four_dots-a.ensures))
     c.settle_small-else-self-3.ensures (record { sfits = c.settle_small-else-self-3.type_inv }) in
     rw (r0, r1, r2, r3) refl
