@@ -4,6 +4,7 @@ use Rattle.std.specs.Prelude.{String, string_bytes, bytes_eq, if◌then◌else�
 use Rattle.std.specs.List.{list_all, list_any}
 use Rattle.std.specs.declared.alloc.Global.{Global}
 
+-- the bytes of each name, in their order
 abbrev pub names_of : List (String Global) → List (List ℕ)
 names_of ss = map string_bytes ss
 

@@ -19,8 +19,8 @@ branch taps up p n = map (λ i. sample taps (p + (n - 1 - i) * up)) (range_with_
 abbrev pub branch_at : Branches → ℕ → List ℤ
 branch_at b p = take b.width (drop (p * b.width) b.table)
 
--- so many branches that vectors of eight can be used on, and that stay within 32 bits on samples within the peak, also
--- where half of 2^15 is added to round
+-- so many branches that vectors of sixteen can be used on, and that stay within 32 bits on samples within the peak,
+-- also where half of 2^15 is added to round
 pub record AreQuiet (up : ℕ) (b : Branches) : Type 0 where
   pub lanes : b.width % 16 ≡ 0
   pub some : 1 ≤ b.width

@@ -7,7 +7,7 @@ ghost use Rattle.sdf_kit.specs.Fir.{AreTaps};
 ghost use Rattle.sdf_kit.specs.Dots.{total_abs};
 ghost use Rattle.sdf_kit.specs.Branches.{AreBranches, branch_at};
 
-/// Places of a table: the taps of a filter, and fewer than eight zeros for each branch.
+/// Places of a table: the taps of a filter, and fewer than sixteen zeros for each branch.
 pub(crate) const PLACES: usize = 2048;
 
 /// The taps of each phase, the last one first, after zeros that make them a multiple of sixteen.
