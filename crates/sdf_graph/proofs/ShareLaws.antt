@@ -10,10 +10,11 @@ use Rattle.sdf_graph.specs.Rates.{Shape, Edge, IsShape, channel, no_channel}
 use Rattle.sdf_graph.specs.Periods.{Divides, IsMultiple}
 use Rattle.sdf_graph.specs.Marks.{is_marked, IsClosed}
 use Rattle.sdf_graph.proofs.Marks.{is_marked-kept, only_first, all_marked}
+use Rattle.sdf_graph.proofs.Ties.{tied_by}
 use Rattle.sdf_graph.specs.declared.channel.Totals.{Totals}
 use Rattle.sdf_graph.specs.declared.repetitions.Ratio.{Ratio}
 use Rattle.sdf_graph.specs.Shares.{IsReduced, IsShare, IsSmall, IsWalk, AreShares, IsCommon, IsEven, IsCycleVector}
-use Rattle.sdf_graph.specs.Shares.{ratio, unreached, turns, totals, no_totals}
+use Rattle.sdf_graph.specs.Shares.{IsTied, start, IsEvenAt, IsEvenWithin, ratio, unreached, turns, totals, no_totals}
 
 -- what channels move in a cycle, read by number
 pub totals_read : (chs : List Edge) (c : ℕ) → c < length chs →
@@ -251,6 +252,8 @@ first_share g parts n are some marks = record {
   each = λ a h on. subst (λ a. IsShare g a (ratio parts a) × IsSmall (ratio parts a)) (sym (only_first n a on))
       (subst (λ (x : Ratio). IsShare g 0 x × IsSmall x) (sym one)
       (share, record { top = omega arith; bottom = omega arith }));
+  tied = λ a on. subst (IsTied g (IsEvenWithin g parts (set (replicate n false) 0 true)))
+      (sym (only_first n a on)) start;
 }
   where
     one : ratio parts 0 ≡ record { num = 1; den = 1 }
@@ -266,11 +269,14 @@ first_share g parts n are some marks = record {
 
 -- one actor more
 pub walk_more : (g : Shape) (parts : List Ratio) (marked : List Bool) (a : ℕ) (f : Ratio) → IsWalk g parts marked →
-    a < length marked → IsShare g a f → IsSmall f → IsWalk g (set parts a f) (set marked a true)
-walk_more g parts marked a f walk within share small = record {
+    a < length marked → IsShare g a f → IsSmall f →
+    ((b : ℕ) → is_marked (set marked a true) b ≡ true →
+    IsTied g (IsEvenWithin g (set parts a f) (set marked a true)) b) → IsWalk g (set parts a f) (set marked a true)
+walk_more g parts marked a f walk within share small tied = record {
   all = length-set parts a f ∙ walk.all;
   begun = is_marked-kept marked a 0 within walk.begun;
   each = λ b h on. each b h (cases_eq b a) on;
+  tied = tied;
 }
   where
     each : (b : ℕ) → b < g.actors → (b ≡ a) ⊎ (b ≡ a → ⊥) → is_marked (set marked a true) b ≡ true →
@@ -289,8 +295,12 @@ pub walked : (g : Shape) (shape : IsShape g) (parts : List Ratio) (marked : List
     IsClosed g.channels marked → AreShares g parts
 walked g shape parts marked walk closed = record {
   all = walk.all;
-  each = λ a h. walk.each a h (all_marked g marked walk.begun closed a (shape.connected a h));
+  each = λ a h. walk.each a h (marks a h);
+  tied = λ a h. tied_by g (IsEvenWithin g parts marked) (IsEvenAt g parts) (λ c e. e.even) a (walk.tied a (marks a h));
 }
+  where
+    marks : (a : ℕ) → a < g.actors → is_marked marked a ≡ true
+    marks a h = all_marked g marked walk.begun closed a (shape.connected a h)
 
 module _ (g : Shape) (shape : IsShape g) (parts : List Ratio) (walk : AreShares g parts) where
   -- no period where the common denominator is over the limit

@@ -2,7 +2,7 @@
 use Rattle.std.specs.Prelude.{◌≡◌, ℕ, ◌*◌, ◌/◌, ◌≤◌, ◌<◌, Bool, true, List, length, map, sum, slice_index}
 use Rattle.std.specs.Prelude.{slice_index_or}
 use Rattle.std.specs.List.{range_with_len}
-use Rattle.sdf_limits.specs.declared.TheConstants.{MOST_PERIOD}
+use Rattle.sdf_limits.specs.declared.TheConstants.{MOST_CYCLE, MOST_PERIOD, MOST_RATE}
 use Rattle.sdf_graph.specs.Rates.{Shape, Edge, channel}
 use Rattle.sdf_graph.specs.Periods.{Divides}
 use Rattle.sdf_graph.specs.Marks.{is_marked}
@@ -17,6 +17,15 @@ totals e = record { from = e.from; put = sum e.put; to = e.to; take = sum e.take
 
 abbrev pub no_totals : Totals
 no_totals = record { from = 0; put = 0; to = 0; take = 0 }
+
+-- both ends are actors, and each moves something, but not much
+pub record AreWithin (g : Shape) (t : Totals) : Type 0 where
+  pub from_in : t.from < g.actors
+  pub to_in : t.to < g.actors
+  pub put_some : 0 < t.put
+  pub take_some : 0 < t.take
+  pub put_small : t.put ≤ MOST_RATE * MOST_CYCLE
+  pub take_small : t.take ≤ MOST_RATE * MOST_CYCLE
 
 -- how often each actor goes through its cycle in a period
 pub record IsCycleVector (g : Shape) (p : List ℕ) : Type 0 where
@@ -54,21 +63,39 @@ pub record IsSmall (f : Ratio) : Type 0 where
   pub top : f.num ≤ MOST_PERIOD
   pub bottom : f.den ≤ MOST_PERIOD
 
--- all actors have their shares
-pub record AreShares (g : Shape) (parts : List Ratio) : Type 0 where
-  pub all : length parts ≡ g.actors
-  pub each : (a : ℕ) → a < g.actors → IsShare g a (ratio parts a) × IsSmall (ratio parts a)
-
--- the actors that are marked have theirs
-pub record IsWalk (g : Shape) (parts : List Ratio) (marked : List Bool) : Type 0 where
-  pub all : length parts ≡ g.actors
-  pub begun : is_marked marked 0 ≡ true
-  pub each : (a : ℕ) → a < g.actors → is_marked marked a ≡ true → IsShare g a (ratio parts a) × IsSmall (ratio parts a)
-
 -- the shares at the channel's ends balance it
 abbrev pub IsEven : List Ratio → Totals → Type 0
 IsEven parts c = (ratio parts c.from).num * c.put * (ratio parts c.to).den ≡
     (ratio parts c.to).num * c.take * (ratio parts c.from).den
+
+-- those at the ends of channel c do
+abbrev pub IsEvenAt : Shape → List Ratio → ℕ → Type 0
+IsEvenAt g parts c = IsEven parts (totals (channel g c))
+
+-- actors that channels of a property, walked both ways, join to actor 0
+pub data IsTied (g : Shape) (P : ℕ → Type 0) : ℕ → Type 0 where
+  start : IsTied g P 0
+  along : (c : ℕ) → c < length g.channels → P c → IsTied g P (channel g c).from → IsTied g P (channel g c).to
+  back : (c : ℕ) → c < length g.channels → P c → IsTied g P (channel g c).to → IsTied g P (channel g c).from
+
+-- all actors have their shares, and channels that these even join each to actor 0
+pub record AreShares (g : Shape) (parts : List Ratio) : Type 0 where
+  pub all : length parts ≡ g.actors
+  pub each : (a : ℕ) → a < g.actors → IsShare g a (ratio parts a) × IsSmall (ratio parts a)
+  pub tied : (a : ℕ) → a < g.actors → IsTied g (IsEvenAt g parts) a
+
+-- channel c is even, and both its ends are marked
+pub record IsEvenWithin (g : Shape) (parts : List Ratio) (marked : List Bool) (c : ℕ) : Type 0 where
+  pub even : IsEvenAt g parts c
+  pub from : is_marked marked (channel g c).from ≡ true
+  pub to : is_marked marked (channel g c).to ≡ true
+
+-- the actors that are marked have theirs, and such channels join each to actor 0
+pub record IsWalk (g : Shape) (parts : List Ratio) (marked : List Bool) : Type 0 where
+  pub all : length parts ≡ g.actors
+  pub begun : is_marked marked 0 ≡ true
+  pub each : (a : ℕ) → a < g.actors → is_marked marked a ≡ true → IsShare g a (ratio parts a) × IsSmall (ratio parts a)
+  pub tied : (a : ℕ) → is_marked marked a ≡ true → IsTied g (IsEvenWithin g parts marked) a
 
 -- m is the least number that the denominators of the first n parts divide: it divides every other
 pub record IsCommon (parts : List Ratio) (n m : ℕ) : Type 0 where

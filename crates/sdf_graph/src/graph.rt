@@ -2,7 +2,7 @@
 
 ghost use Rattle.std.specs.Prelude.{◌≡◌, ℕ, ◌^◌, ◌<◌, length, map, slice_index, slice_index_or, MatchResult, IfOk};
 ghost use Rattle.sdf_graph.specs.Rates.{Shape, IsShape, IsCycle, rates, channel, cycle, cycle_among, no_channel};
-ghost use Rattle.sdf_graph.specs.Shares.{totals};
+ghost use Rattle.sdf_graph.specs.Shares.{totals, AreWithin};
 ghost use Rattle.sdf_graph.specs.Adjacency.{AreOutgoing, AreIncoming, ListsExactly, actor_at};
 ghost use Rattle.sdf_graph.specs.Faults.{IsFaultless, IsFirstFault, numbers_fault};
 
@@ -96,6 +96,16 @@ impl Graph {
         self.cycles[actor]
     }
 
+    /// What a channel moves in a cycle of the actor at each end.
+    pub(crate) fn totals_at(&self, number: usize) -> Totals
+        requires { number < length self.now.channels }
+        ensures value { result ≡ totals (channel self.now number) }
+        ensures within { AreWithin self.now result }
+        ensures shape { IsShape self.now }
+    {
+        self.totals[number]
+    }
+
     /// The numbers of the channels that come from an actor, in rising order. One from the actor to itself is among
     /// them.
     pub fn outgoing(&self, actor: usize) -> &[usize]
@@ -126,7 +136,7 @@ impl Graph {
 }
 
 /// The first fault of the numbers of a graph.
-fn numbers_fault(actors: usize, channels: &[Channel]) -> Option<GraphFault>
+pub(crate) fn numbers_fault(actors: usize, channels: &[Channel]) -> Option<GraphFault>
     ensures { result ≡ numbers_fault (record { actors = actors; channels = channels.now }) }
 {
     if actors < 1 || actors > MOST_ACTORS {

@@ -1,12 +1,27 @@
 //! Which actors channels, walked both ways, join to actor 0.
 
-ghost use Rattle.std.specs.Prelude.{◌≡◌, ℕ, ◌<◌, length, slice_index_or, MatchOption};
+ghost use Rattle.std.specs.Prelude.{◌≡◌, ℕ, ◌<◌, Some, None, length, slice_index_or, MatchOption, MatchResult};
 ghost use Rattle.sdf_graph.specs.Rates.{Shape, no_channel};
 ghost use Rattle.sdf_graph.specs.Faults.{IsConnected, IsLowestUnreached, numbers_fault};
-ghost use Rattle.sdf_graph.specs.Marks.{AreReached, IsClosed, IsBorder, IsJoin};
+ghost use Rattle.sdf_graph.specs.Marks.{AreJoined, AreReached, IsClosed, IsBorder, IsJoin};
 
 use crate::channel::Channel;
+use crate::fault::GraphFault;
+use crate::graph::numbers_fault;
 use sdf_limits::MOST_ACTORS;
+
+/// Marks on those of so many actors that channels, walked both ways, join to actor 0; or the first fault of the numbers
+/// of such a graph.
+pub fn joined(actors: usize, channels: &[Channel]) -> Result<[bool; MOST_ACTORS], GraphFault>
+    ensures { let shape : Shape = record { actors = actors; channels = channels.now } in
+        MatchResult result (λ marked. (numbers_fault shape ≡ None) × AreJoined shape marked)
+        (λ fault. numbers_fault shape ≡ Some fault) }
+{
+    match numbers_fault(actors, channels) {
+        Some(fault) => Err(fault),
+        None => Ok(reached(actors, channels)),
+    }
+}
 
 /// The lowest actor that channels, walked both ways, do not join to actor 0.
 pub(crate) fn lowest_unreached(actors: usize, channels: &[Channel]) -> Option<usize>

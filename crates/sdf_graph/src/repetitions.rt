@@ -1,14 +1,14 @@
 // The least period vector: fractions of actor 0's firings, walked over the channels.
 
 ghost use Rattle.std.specs.Prelude.{◌≡◌, ℕ, ◌*◌, ◌≤◌, ◌<◌, ◌≢◌, ◌↔◌, List, length, map, sum, sum_by, slice_index};
-ghost use Rattle.std.specs.Prelude.{slice_index_or, IsTrue, MatchOption, MatchResult, IfOk};
+ghost use Rattle.std.specs.Prelude.{slice_index_or, set, IsTrue, MatchOption, MatchResult, IfOk};
 ghost use Rattle.std.specs.Int.{IsGcd};
 ghost use Rattle.sdf_graph.specs.Rates.{Shape, IsShape, rates};
 ghost use Rattle.sdf_graph.specs.Periods.{Divides, IsPeriodFault, IsLeastPeriod};
 ghost use Rattle.std.specs.List.{range_with_len};
 ghost use Rattle.sdf_graph.specs.Marks.{IsBorder};
 ghost use Rattle.sdf_graph.specs.Shares.{ratio, IsReduced, IsShare, IsSmall, IsWalk, AreShares, IsEven, IsCommon};
-ghost use Rattle.sdf_graph.specs.Shares.{firings, IsScaleFault, no_totals};
+ghost use Rattle.sdf_graph.specs.Shares.{firings, IsEvenAt, IsScaleFault, no_totals};
 
 use crate::channel::Totals;
 use crate::fault::GraphFault;
@@ -42,7 +42,7 @@ fn gcd(a: u64, b: u64) -> u64
 }
 
 /// A fraction in lowest terms.
-fn reduced(num: u64, den: u64) -> Ratio
+pub(crate) fn reduced(num: u64, den: u64) -> Ratio
     requires top { 0 < num }
     requires bottom { 0 < den }
     ensures { IsReduced num den result.num result.den }
@@ -157,18 +157,20 @@ fn scaled(
 fn beyond(graph: &Graph, parts: &[Ratio], marked: &[bool], channel: usize) -> Ratio
     requires walk { IsWalk graph.now parts.now marked.now }
     requires border { (a : ℕ) × IsBorder graph.now.channels marked.now channel a }
-    ensures { (a : ℕ) → IsBorder graph.now.channels marked.now channel a → IsShare graph.now a result }
+    ensures share { (a : ℕ) → IsBorder graph.now.channels marked.now channel a → IsShare graph.now a result }
+    ensures even { (a : ℕ) → IsBorder graph.now.channels marked.now channel a →
+        IsEvenAt graph.now (set parts.now a result) channel }
 {
-    let channel = graph.totals[channel];
-    if marked[channel.from] {
-        carried(parts[channel.from], channel.put, channel.take)
+    let totals = graph.totals_at(channel);
+    if marked[totals.from] {
+        carried(parts[totals.from], totals.put, totals.take)
     } else {
-        carried(parts[channel.to], channel.take, channel.put)
+        carried(parts[totals.to], totals.take, totals.put)
     }
 }
 
 /// The shares of all actors.
-fn walk(graph: &Graph, alloc: Global) -> Result<Vec<Ratio>, GraphFault>
+pub(crate) fn walk(graph: &Graph, alloc: Global) -> Result<Vec<Ratio>, GraphFault>
     ensures { MatchResult result (λ v. AreShares graph.now v.items) (IsPeriodFault graph.now) }
 {
     let mut parts = vec![in alloc; Ratio { num: 1, den: 1 }; graph.actors]?;

@@ -3,7 +3,6 @@ pub mod Items
 pub mod Lines
 pub mod Pieces
 pub mod Roots
-pub mod Walks
 pub mod Edges
 pub mod Grown
 pub mod Mores

@@ -7,7 +7,6 @@ pub mod Documents
 pub mod Nets
 pub mod Cycles
 pub mod Sounds
-pub mod Walks
 pub mod Channels
 pub mod More
 pub mod Told

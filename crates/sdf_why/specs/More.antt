@@ -1,23 +1,23 @@
 -- What is told of a net that the tables alone do not show: which actors are apart, and what meets at a link.
-use Rattle.std.specs.Prelude.{◌≡◌, ℕ, Bool, None, Ok, Some, List, [], ◌++◌, codes, decimal, Option, if◌then◌else◌}
+use Rattle.std.specs.Prelude.{◌≡◌, ◌≢◌, ℕ, Bool, None, Ok, Some, List, [], ◌++◌, codes, decimal, Option, if◌then◌else◌}
 use Rattle.std.specs.List.{flat_map, range_with_len}
 use Rattle.toml.specs.Data.{Data}
 use Rattle.sdf_graph.specs.Rates.{Shape, channel}
 use Rattle.sdf_graph.specs.Faults.{numbers_fault}
-use Rattle.sdf_graph.specs.Marks.{is_marked}
+use Rattle.sdf_graph.specs.Marks.{is_marked, AreJoined}
+use Rattle.sdf_graph.specs.Meetings.{IsMeeting}
 use Rattle.sdf_graph.specs.declared.fault.GraphFault.{GraphFault}
 use Rattle.sdf_graph.specs.declared.fault.GraphFault.TheVariants.{NotConnected, Inconsistent}
+use Rattle.sdf_graph.specs.declared.meeting.Meeting.{Meeting}
 use Rattle.sdf_actor.specs.declared.fault.NetFault.{NetFault}
 use Rattle.sdf_actor.specs.declared.fault.NetFault.TheVariants.{Graph}
 use Rattle.sdf_document.specs.Lists.{Files}
 use Rattle.sdf_document.specs.Document.{DocumentValue, document_of}
-use Rattle.sdf_why.specs.declared.walk.Meeting.{Meeting}
 use Rattle.sdf_why.specs.Words.{end, name_text, end_text}
 use Rattle.sdf_why.specs.Tables.{root, actor_text}
 use Rattle.sdf_why.specs.Actors.{actor_told}
 use Rattle.sdf_why.specs.Links.{end_at}
 use Rattle.sdf_why.specs.Channels.{graph_in}
-use Rattle.sdf_why.specs.Walks.{AreJoined, IsMeeting}
 
 -- ---- actors that are apart
 
@@ -62,10 +62,10 @@ samples_told d c m = samples_line m (end_at (codes "from") d c) (end_at (codes "
 unfoldable pub meeting_told : Data → Shape → ℕ → Meeting → List ℕ
 meeting_told d g c m = firings_told d g c m ++ samples_told d c m
 
--- what meets at link c, or nothing where the walk finds nothing
+-- what meets at link c, where the samples differ, or nothing
 pub data IsMeetingText (d : Data) (g : Shape) (c : ℕ) (text : List ℕ) : Type 0 where
   meeting :
-      (m : Meeting) → IsMeeting g c m → text ≡ meeting_told d g c m → IsMeetingText d g c text
+      (m : Meeting) → IsMeeting g c m → m.puts ≢ m.takes → text ≡ meeting_told d g c m → IsMeetingText d g c text
   none : text ≡ [] → IsMeetingText d g c text
 
 -- ---- by fault

@@ -97,7 +97,7 @@ fn cycle_of(alloc: Global, graph: &Graph, halts: &[Halt]) -> Result<Option<Vec<u
 }
 
 /// How many samples the first firings of the source put.
-pub(crate) fn put_by(channel: &Channel, firings: u32) -> u64
+fn put_by(channel: &Channel, firings: u32) -> u64
     requires some { 0 < length channel.now.put }
     requires rates { (i : ℕ) → rate_at channel.now.put i ≤ MOST_RATE }
     ensures value { result ≡ sum_to (rate_at channel.now.put) firings }
@@ -111,7 +111,7 @@ pub(crate) fn put_by(channel: &Channel, firings: u32) -> u64
 }
 
 /// And how many those of the target take.
-pub(crate) fn taken_by(channel: &Channel, firings: u32) -> u64
+fn taken_by(channel: &Channel, firings: u32) -> u64
     requires some { 0 < length channel.now.take }
     requires rates { (i : ℕ) → rate_at channel.now.take i ≤ MOST_RATE }
     ensures value { result ≡ sum_to (rate_at channel.now.take) firings }

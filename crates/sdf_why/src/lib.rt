@@ -3,9 +3,8 @@
 //! It stands on `sdf_document`, whose faults and table of kinds it tells, on `sdf_file`, which reads a design again, on
 //! `sdf_actor`, `sdf_graph` and `sdf_kit` for nets, and on `sdf_options`, which makes a text printable. Begin at
 //! `told`; `document`, `net`, `cycle` and `sound` have the lines of each fault, `limits` those of a key. `more` has
-//! what the tables of a net do not show: `channels` makes its graph, and `walk` follows the links. The definitions are
-//! in `specs/Told.antt`, `specs/Documents.antt`, `specs/Nets.antt`, `specs/More.antt`, `specs/Walks.antt`,
-//! `specs/Cycles.antt` and `specs/Words.antt`.
+//! what the tables of a net do not show, of the graph that `channels` makes. The definitions are in `specs/Told.antt`,
+//! `specs/Documents.antt`, `specs/Nets.antt`, `specs/More.antt`, `specs/Cycles.antt` and `specs/Words.antt`.
 #![tactic(auto)]
 
 mod actors;
@@ -21,7 +20,6 @@ mod said;
 mod sound;
 mod tables;
 mod told;
-mod walk;
 mod words;
 
 pub use cycle::Halt;

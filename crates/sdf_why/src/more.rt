@@ -1,10 +1,12 @@
 //! What is told of a net that the tables alone do not show: which actors are apart, and what meets at a link.
 
-ghost use Rattle.std.specs.Prelude.{◌≡◌, ℕ, ◌<◌, ◌++◌, None, length, IfOk, OnOk, option_map, string_bytes};
+ghost use Rattle.std.specs.Prelude.{◌≡◌, ◌≢◌, ℕ, ◌<◌, ◌++◌, None, length, IfOk, IfSome, OnOk, option_map, string_bytes};
 ghost use Rattle.std.specs.List.{flat_map, range_with_len};
 ghost use Rattle.toml.specs.View.{view};
 ghost use Rattle.sdf_graph.specs.Rates.{Shape};
 ghost use Rattle.sdf_graph.specs.Faults.{numbers_fault};
+ghost use Rattle.sdf_graph.specs.Marks.{is_marked};
+ghost use Rattle.sdf_graph.specs.Meetings.{IsMeeting};
 ghost use Rattle.sdf_actor.specs.declared.fault.NetFault.TheVariants as nets;
 ghost use Rattle.sdf_document.specs.Document.{document_view};
 ghost use Rattle.sdf_document.specs.Lists.{files_view};
@@ -18,13 +20,21 @@ use crate::channels::channels_of;
 use crate::links::end_at;
 use crate::tables::{actor_text, root};
 use crate::told::Sources;
-use crate::walk::{Meeting, is_marked, meeting_of, reached};
 use crate::words::{push_end, push_name};
 use sdf_actor::NetFault;
 use sdf_document::{Document, ReadFault, read_document};
-use sdf_graph::{Channel, Graph, GraphFault};
+use sdf_graph::{Channel, Graph, GraphFault, Meeting, joined};
 use std::alloc::{AllocError, Global};
 use toml::Value;
+
+fn is_marked(marked: &[bool], actor: usize) -> bool
+    ensures { result ≡ is_marked marked.now actor }
+{
+    match marked.get(actor) {
+        Some(mark) => *mark,
+        None => false,
+    }
+}
 
 /// Adds an actor that has no mark.
 #[tactic(auto, unfolding(crate::specs::More::apart_told))]
@@ -73,7 +83,9 @@ fn apart_text(
         IfOk result (λ text. numbers_fault shape ≡ None → IsApartText (view tables.now) shape (string_bytes text)) }
 {
     let mut text = String::new(alloc);
-    let marked = reached(actors, channels);
+    let Ok(marked) = joined(actors, channels) else {
+        return Ok(text);
+    };
     push_all_apart(alloc, &mut text, tables, &marked, actors)?;
     Ok(text)
 }
@@ -200,7 +212,22 @@ fn push_meeting(
     push_samples_of(alloc, text, tables, link, meeting)
 }
 
-/// What meets at a link.
+/// What meets at a link, where the samples differ.
+fn meeting_of(alloc: Global, graph: &Graph, link: usize) -> Result<Option<Meeting>, AllocError>
+    ensures { IfOk result (λ r. IfSome r (λ m. IsMeeting graph.now link m × (m.puts ≢ m.takes))) }
+{
+    if link >= graph.channels().len() {
+        return Ok(None);
+    }
+    match graph.meeting(alloc, link) {
+        Ok(meeting) if meeting.puts == meeting.takes => Ok(None),
+        Ok(meeting) => Ok(Some(meeting)),
+        Err(GraphFault::OutOfMemory) => Err(AllocError),
+        Err(_) => Ok(None),
+    }
+}
+
+/// What is told of it.
 fn meeting_text(
     alloc: Global,
     tables: &Value,

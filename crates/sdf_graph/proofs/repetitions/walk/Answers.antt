@@ -1,10 +1,11 @@
-use Rattle.std.proofs.Common.{◌<◌, ℕ, List, length, get_or, ap, sym, ◌∙◌, subst, arith, inl, inr}
+use Rattle.std.proofs.Common.{◌<◌, ℕ, List, true, length, get_or, set, ap, sym, ◌∙◌, subst, arith, inl, inr}
 use Rattle.sdf_graph.specs.Rates.{Shape, Edge, IsShape, no_channel}
 use Rattle.sdf_graph.specs.Marks.{IsBorder, IsClosed, IsJoin}
-use Rattle.sdf_graph.specs.Shares.{IsShare, IsWalk}
+use Rattle.sdf_graph.specs.Shares.{IsEvenAt, IsWalk}
 use Rattle.sdf_graph.specs.declared.repetitions.Ratio.{Ratio}
 use Rattle.sdf_graph.proofs.Marks.{border_in, fewer}
 use Rattle.sdf_graph.proofs.ShareLaws.{too_long, first_share, walk_more, walked}
+use Rattle.sdf_graph.proofs.Ties.{tied_more}
 use Rattle.sdf_graph.proofs.PeriodLaws.{none_long}
 use Rattle.sdf_graph.proofs.repetitions.walk.Goals as goal
 use Rattle.sdf_graph.proofs.repetitions.walk.Goals.{then-part-gt-MOST_PERIOD-via-then-part-gt-MOST_PERIOD}
@@ -23,7 +24,7 @@ returns-then-part-gt-MOST_PERIOD c =
     (c.deref.ensures.value ∙ ap (λ (s : Shape). s.channels) c.graph.view_is) c.in-Some.ensures in
     none_long c.args.graph.now shape (too_long c.args.graph.now c.in-Some.actor c.beyond-part.result
     (border_in c.args.graph.now shape c.loop-channel.marked c.in-Some.channel c.in-Some.actor border) shape.some
-    (c.beyond-part.ensures c.in-Some.actor border)
+    (c.beyond-part.ensures.share c.in-Some.actor border)
     (elim c.then-part-gt-MOST_PERIOD.branch [
       | then-part-gt-MOST_PERIOD-via-then-part-gt-MOST_PERIOD w ↦ inl
           w.if-part-gt-MOST_PERIOD.true
@@ -33,13 +34,19 @@ returns-then-part-gt-MOST_PERIOD c =
 
 pub loop-channel-preserved : goal.loop-channel-preserved
 loop-channel-preserved c =
-    let border = subst (λ (chs : List Edge). IsBorder chs c.loop-channel.marked c.in-Some.channel c.in-Some.actor)
+    let marked = c.loop-channel.marked in
+    let border = subst (λ (chs : List Edge). IsBorder chs marked c.in-Some.channel c.in-Some.actor)
     (c.deref.ensures.value ∙ ap (λ (s : Shape). s.channels) c.graph.view_is) c.in-Some.ensures in
-    walk_more _ c.loop-channel.parts.items c.loop-channel.marked c.in-Some.actor c.beyond-part.result
-    c.loop-channel.invariant border.within
-    (subst (λ (s : Shape). IsShare s c.in-Some.actor c.beyond-part.result) (sym c.graph.view_is)
-    (c.beyond-part.ensures c.in-Some.actor border))
-    (record { top = omega arith; bottom = omega arith })
+    let walk = subst (λ (s : Shape). IsWalk s c.loop-channel.parts.items marked) c.graph.view_is
+    c.loop-channel.invariant in
+    let even = subst (λ (ps : List Ratio). IsEvenAt c.args.graph.now (set ps c.in-Some.actor c.beyond-part.result)
+    c.in-Some.channel) c.deref-in-Some.ensures.value (c.beyond-part.ensures.even c.in-Some.actor border) in
+    subst (λ (s : Shape). IsWalk s (set c.loop-channel.parts.items c.in-Some.actor c.beyond-part.result)
+    (set marked c.in-Some.actor true)) (sym c.graph.view_is)
+    (walk_more _ c.loop-channel.parts.items marked c.in-Some.actor c.beyond-part.result walk border.within
+    (c.beyond-part.ensures.share c.in-Some.actor border) (record { top = omega arith; bottom = omega arith })
+    (tied_more c.args.graph.now c.loop-channel.parts.items marked c.in-Some.channel c.in-Some.actor
+    c.beyond-part.result border walk.tied even))
 
 pub returns : goal.returns
 returns c =

@@ -1,6 +1,6 @@
-use Rattle.std.proofs.Common.{◌≡◌, rules, string_bytes}
+use Rattle.std.proofs.Common.{◌≡◌, ◌≢◌, rules, string_bytes}
 use Rattle.toml.specs.View.{view}
-use Rattle.sdf_why.specs.Walks.{IsMeeting}
+use Rattle.sdf_graph.specs.Meetings.{IsMeeting}
 use Rattle.sdf_why.specs.More.{meeting_told, meeting}
 use Rattle.sdf_why.proofs.more.meeting_text.Goals as goal
 
@@ -10,7 +10,8 @@ push_meeting-requires c =
 
 pub returns : goal.returns
 returns c =
-    let is : IsMeeting c.args.graph.now c.args.link c.in-Some.meeting = search rules in
+    let m = c.in-Some.meeting in
+    let is : IsMeeting c.args.graph.now c.args.link m × (m.puts ≢ m.takes) = search rules in
     let told : string_bytes c.push_meeting.new.text ≡
-    meeting_told (view c.args.tables.now) c.args.graph.now c.args.link c.in-Some.meeting = search rules in
-    meeting c.in-Some.meeting is told
+    meeting_told (view c.args.tables.now) c.args.graph.now c.args.link m = search rules in
+    meeting m is.0 is.1 told

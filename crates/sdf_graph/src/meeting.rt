@@ -1,0 +1,64 @@
+//! What meets at a channel, whether or not its ends can be balanced.
+
+ghost use Rattle.std.specs.Prelude.{◌*◌, ◌≤◌, ◌<◌, length, MatchResult};
+ghost use Rattle.sdf_graph.specs.Periods.{IsPeriodFault};
+ghost use Rattle.sdf_graph.specs.Shares.{IsReduced, IsSmall, AreShares};
+ghost use Rattle.sdf_graph.specs.Meetings.{IsMeeting};
+
+use crate::fault::GraphFault;
+use crate::graph::Graph;
+use crate::repetitions::{Ratio, reduced, walk};
+use sdf_limits::MOST_PERIOD;
+use std::alloc::Global;
+
+/// What meets at a channel: how often its source and its target fire, and what these firings put and take.
+#[derive(Clone, Copy)]
+pub struct Meeting {
+    pub source: u64,
+    pub puts: u64,
+    pub target: u64,
+    pub takes: u64,
+}
+
+/// The fewest times that two actors with these shares go through their cycles, as a fraction.
+fn turns_of(from: Ratio, to: Ratio) -> Ratio
+    requires from_some { (0 < from.num) × (0 < from.den) }
+    requires to_some { (0 < to.num) × (0 < to.den) }
+    requires from_small { IsSmall from }
+    requires to_small { IsSmall to }
+    ensures fewest { IsReduced (from.num * to.den) (to.num * from.den) result.num result.den }
+    ensures top_small { result.num ≤ MOST_PERIOD * MOST_PERIOD }
+    ensures bottom_small { result.den ≤ MOST_PERIOD * MOST_PERIOD }
+{
+    reduced(from.num * to.den, to.num * from.den)
+}
+
+/// At these shares of the actors.
+fn meeting_at(graph: &Graph, parts: &[Ratio], channel: usize) -> Meeting
+    requires known { channel < length graph.now.channels }
+    requires shares { AreShares graph.now parts.now }
+    ensures { IsMeeting graph.now channel result }
+{
+    let totals = graph.totals_at(channel);
+    let turns = turns_of(parts[totals.from], parts[totals.to]);
+    Meeting {
+        source: turns.num * u64::from(graph.cycle(totals.from)),
+        puts: turns.num * u64::from(totals.put),
+        target: turns.den * u64::from(graph.cycle(totals.to)),
+        takes: turns.den * u64::from(totals.take),
+    }
+}
+
+impl Graph {
+    /// What meets at a channel: the firings of the fewest whole cycles of its two ends, at the shares that other
+    /// channels ask of them, and what these put and take.
+    ///
+    /// It is answered where no vector balances the channels, too; a fault is `PeriodTooLong` or `OutOfMemory`.
+    pub fn meeting(&self, alloc: Global, channel: usize) -> Result<Meeting, GraphFault>
+        requires { channel < length self.now.channels }
+        ensures { MatchResult result (IsMeeting self.now channel) (IsPeriodFault self.now) }
+    {
+        let parts = walk(self, alloc)?;
+        Ok(meeting_at(self, &parts, channel))
+    }
+}
