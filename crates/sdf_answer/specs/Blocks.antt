@@ -1,5 +1,5 @@
 -- Blocks taken from queues and put on queues, a part for each port.
-use Rattle.std.specs.Prelude.{◌≡◌, ℕ, ◌≤◌, ◌<◌, ◌+◌, ◌*◌, ◌==◌, cond, List, [], ◌∷◌, length, take, drop}
+use Rattle.std.specs.Prelude.{◌≡◌, ℕ, ◌≤◌, ◌<◌, ◌+◌, ◌*◌, ◌==◌, cond, List, [], ◌∷◌, ◌++◌, length, take, drop}
 use Rattle.std.specs.Prelude.{slice_index, slice_index_or}
 use Rattle.std.specs.List.{flat_map}
 use Rattle.sdf_actor.specs.Histories.{spread}
@@ -40,6 +40,30 @@ HoldBlocks ports sizes qs = (n : ℕ) → n < length ports →
 abbrev pub HaveRoom : {T : Type 0} → List ℕ → List ℕ → List (Held T) → Type 0
 HaveRoom ports sizes qs = (n : ℕ) → n < length ports →
     length (samples qs (slice_index ports n)) + slice_index sizes (slice_index ports n) ≤ room qs (slice_index ports n)
+
+-- it holds what so many firings take from it
+abbrev pub HoldManyBlocks : {T : Type 0} → ℕ → List ℕ → List ℕ → List (Held T) → Type 0
+HoldManyBlocks times ports sizes qs = (n : ℕ) → n < length ports →
+    times * slice_index sizes (slice_index ports n) ≤ length (samples qs (slice_index ports n))
+
+-- it has room for what so many firings put on it
+abbrev pub HaveRoomForMany : {T : Type 0} → ℕ → List ℕ → List ℕ → List (Held T) → Type 0
+HaveRoomForMany times ports sizes qs = (n : ℕ) → n < length ports →
+    length (samples qs (slice_index ports n)) + times * slice_index sizes (slice_index ports n) ≤
+    room qs (slice_index ports n)
+
+-- so many samples of a channel are gone from the front of its queue where it is one of the ports, and else none
+abbrev pub AreTaken : {T : Type 0} → List ℕ → (ℕ → ℕ) → List (Held T) → List (Held T) → Type 0
+AreTaken ports many qs qs' = (c : ℕ) → c < length qs →
+    samples qs' c ≡ drop (at_ports ports (many c) c) (samples qs c)
+
+-- behind the samples of each queue stand these
+abbrev pub ArePut : {T : Type 0} → (ℕ → List T) → List (Held T) → List (Held T) → Type 0
+ArePut put qs qs' = (c : ℕ) → c < length qs → samples qs' c ≡ samples qs c ++ put c
+
+-- each queue has the same room
+abbrev pub KeepRoom : {T : Type 0} → List (Held T) → List (Held T) → Type 0
+KeepRoom qs qs' = (c : ℕ) → c < length qs → room qs' c ≡ room qs c
 
 -- the block of firing i, of those that stand at the fronts of the queues
 abbrev pub front_at : {T : Type 0} → List ℕ → List ℕ → List (Held T) → ℕ → List T

@@ -18,3 +18,14 @@ HoldsParts s width many xs = (i : ℕ) → i < many → part_at s i + width ≤ 
 abbrev pub KeepsOthers : {T : Type 0} → Stride → ℕ → ℕ → List T → List T → Type 0
 KeepsOthers s width many xs ys = (a b : ℕ) → ((i : ℕ) → i < many → (b ≤ part_at s i) ⊎ (part_at s i + width ≤ a)) →
     slice_range ys a b ≡ slice_range xs a b
+
+-- so many parts of one list can be copied to places in another, which lie apart
+pub record CanCopy {T : Type 0} (out into : Stride) (width many : ℕ) (from to : List T) : Type 0 where
+  pub from_holds : HoldsParts out width many from
+  pub to_holds : HoldsParts into width many to
+  pub apart : width ≤ into.step
+
+-- and they were
+pub record AreCopied {T : Type 0} (out into : Stride) (width many : ℕ) (from to to' : List T) : Type 0 where
+  pub copied : (i : ℕ) → i < many → part_of into width to' i ≡ part_of out width from i
+  pub others : KeepsOthers into width many to to'

@@ -1,9 +1,9 @@
 //! Blocks of samples, a part for each port.
 
-ghost use Rattle.std.specs.Prelude.{◌≡◌, ℕ, ◌+◌, ◌≤◌, ◌<◌, ◌++◌, length, drop, slice_index, vec_len, vec_capacity};
+ghost use Rattle.std.specs.Prelude.{◌≡◌, ◌+◌, ◌≤◌, ◌++◌, length, slice_index, vec_len, vec_capacity};
 ghost use Rattle.std.specs.List.{sum_by};
 ghost use Rattle.sdf_actor.specs.Histories.{spread};
-ghost use Rattle.sdf_answer.specs.Blocks.{samples, room, front, at_ports, ArePorts, HoldBlocks, HaveRoom};
+ghost use Rattle.sdf_answer.specs.Blocks.{front, ArePorts, HoldBlocks, HaveRoom, AreTaken, ArePut, KeepRoom};
 
 use crate::queue::Queue;
 use sdf_node::append;
@@ -33,10 +33,8 @@ pub fn read_fronts<T: Copy>(ports: &Ports, queues: &[Queue<T>], block: &mut Vec<
 pub fn skip_fronts<T: Copy>(ports: &Ports, queues: &mut [Queue<T>])
     requires ports { ArePorts ports.now.channels.now ports.now.sizes.now (length queues.old) }
     requires held { HoldBlocks ports.now.channels.now ports.now.sizes.now queues.old }
-    ensures queues { (c : ℕ) → c < length queues.old →
-        samples queues.new c ≡ drop (at_ports ports.now.channels.now (slice_index ports.now.sizes.now c) c)
-        (samples queues.old c) }
-    ensures rooms { (c : ℕ) → c < length queues.old → room queues.new c ≡ room queues.old c }
+    ensures queues { AreTaken ports.now.channels.now (slice_index ports.now.sizes.now) queues.old queues.new }
+    ensures rooms { KeepRoom queues.old queues.new }
 {
     for c in ports.channels {
         queues[*c].release(ports.sizes[*c]);
@@ -51,10 +49,8 @@ pub fn take_block<T: Copy>(ports: &Ports, queues: &mut [Queue<T>], block: &mut V
         vec_capacity block.old }
     ensures block { block.new.items ≡ block.old.items ++ front ports.now.sizes.now ports.now.channels.now queues.old }
     ensures capacity { vec_capacity block.new ≡ vec_capacity block.old }
-    ensures queues { (c : ℕ) → c < length queues.old →
-        samples queues.new c ≡ drop (at_ports ports.now.channels.now (slice_index ports.now.sizes.now c) c)
-        (samples queues.old c) }
-    ensures rooms { (c : ℕ) → c < length queues.old → room queues.new c ≡ room queues.old c }
+    ensures queues { AreTaken ports.now.channels.now (slice_index ports.now.sizes.now) queues.old queues.new }
+    ensures rooms { KeepRoom queues.old queues.new }
 {
     for c in ports.channels {
         queues[*c].take(ports.sizes[*c], block);
@@ -66,10 +62,9 @@ pub fn put_block<T: Copy>(ports: &Ports, block: &[T], queues: &mut [Queue<T>])
     requires ports { ArePorts ports.now.channels.now ports.now.sizes.now (length queues.old) }
     requires room { HaveRoom ports.now.channels.now ports.now.sizes.now queues.old }
     requires length { length block.now ≡ sum_by (slice_index ports.now.sizes.now) ports.now.channels.now }
-    ensures queues { (c : ℕ) → c < length queues.old →
-        samples queues.new c ≡ samples queues.old c ++ spread (slice_index ports.now.sizes.now)
-        ports.now.channels.now block.now c }
-    ensures rooms { (c : ℕ) → c < length queues.old → room queues.new c ≡ room queues.old c }
+    ensures queues { ArePut (spread (slice_index ports.now.sizes.now) ports.now.channels.now block.now)
+        queues.old queues.new }
+    ensures rooms { KeepRoom queues.old queues.new }
 {
     let mut rest = block;
     for c in ports.channels {

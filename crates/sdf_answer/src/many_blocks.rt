@@ -3,12 +3,26 @@
 ghost use Rattle.std.specs.Prelude.{◌≡◌, ℕ, ◌+◌, ◌*◌, ◌≤◌, ◌<◌, ◌++◌, length, take, drop, slice_index};
 ghost use Rattle.std.specs.List.{sum_by};
 ghost use Rattle.sdf_node.specs.Many.{nth_block, joined};
-ghost use Rattle.sdf_answer.specs.Blocks.{samples, room, at_ports, front_at, dealt, ArePorts};
+ghost use Rattle.sdf_answer.specs.Blocks.{front_at, dealt, ArePorts, HoldManyBlocks, HaveRoomForMany, AreTaken, ArePut};
+ghost use Rattle.sdf_answer.specs.Blocks.{KeepRoom};
 
 use crate::blocks::Ports;
 use crate::parts::deal_row;
 use crate::queue::Queue;
 use sdf_node::laws::blocks_join;
+
+/// How many whole blocks of a size so many samples hold, up to a limit, which is the answer where they have no size.
+pub fn whole_blocks(samples: usize, size: usize, most: usize) -> usize
+    ensures within { result ≤ most }
+    ensures held { result * size ≤ samples }
+    ensures greatest { (many : ℕ) → many ≤ most → many * size ≤ samples → many ≤ result }
+{
+    if size == 0 {
+        most
+    } else {
+        most.min(samples / size)
+    }
+}
 
 /// Moves what so many firings take from one queue to their blocks, each of a size: behind what stands in them before a
 /// place.
@@ -43,16 +57,13 @@ pub fn take_blocks<T: Copy>(
     blocks: &mut [T],
 )
     requires ports { ArePorts ports.now.channels.now ports.now.sizes.now (length queues.old) }
-    requires held { (n : ℕ) → n < length ports.now.channels.now →
-        times * slice_index ports.now.sizes.now (slice_index ports.now.channels.now n) ≤
-        length (samples queues.old (slice_index ports.now.channels.now n)) }
+    requires held { HoldManyBlocks times ports.now.channels.now ports.now.sizes.now queues.old }
     requires size { size ≡ sum_by (slice_index ports.now.sizes.now) ports.now.channels.now }
     requires length { length blocks.old ≡ times * size }
     ensures blocks { blocks.new ≡ joined (front_at ports.now.sizes.now ports.now.channels.now queues.old) times }
-    ensures queues { (c : ℕ) → c < length queues.old →
-        samples queues.new c ≡ drop (at_ports ports.now.channels.now (times * slice_index ports.now.sizes.now c) c)
-        (samples queues.old c) }
-    ensures rooms { (c : ℕ) → c < length queues.old → room queues.new c ≡ room queues.old c }
+    ensures queues { AreTaken ports.now.channels.now (λ c. times * slice_index ports.now.sizes.now c)
+        queues.old queues.new }
+    ensures rooms { KeepRoom queues.old queues.new }
 {
     blocks_join::<T>();
     let mut at = 0;
@@ -72,16 +83,12 @@ pub fn put_blocks<T: Copy>(
     queues: &mut [Queue<T>],
 )
     requires ports { ArePorts ports.now.channels.now ports.now.sizes.now (length queues.old) }
-    requires room { (n : ℕ) → n < length ports.now.channels.now →
-        length (samples queues.old (slice_index ports.now.channels.now n))
-        + times * slice_index ports.now.sizes.now (slice_index ports.now.channels.now n) ≤
-        room queues.old (slice_index ports.now.channels.now n) }
+    requires room { HaveRoomForMany times ports.now.channels.now ports.now.sizes.now queues.old }
     requires size { size ≡ sum_by (slice_index ports.now.sizes.now) ports.now.channels.now }
     requires length { length block.now ≡ times * size }
-    ensures queues { (c : ℕ) → c < length queues.old →
-        samples queues.new c ≡ samples queues.old c ++ dealt ports.now.sizes.now ports.now.channels.now size
-        block.now c times }
-    ensures rooms { (c : ℕ) → c < length queues.old → room queues.new c ≡ room queues.old c }
+    ensures queues { ArePut (λ c. dealt ports.now.sizes.now ports.now.channels.now size block.now c times)
+        queues.old queues.new }
+    ensures rooms { KeepRoom queues.old queues.new }
 {
     let mut at = 0;
     for c in ports.channels {

@@ -3,7 +3,7 @@
 
 ghost use Rattle.std.specs.Prelude.{◌≡◌, ◌≤◌, ◌<◌, ◌+◌, ◌*◌, ℕ, length, take, drop, slice_range};
 ghost use Rattle.sdf_node.specs.Many.{nth_block, joined};
-ghost use Rattle.sdf_answer.specs.Parts.{part_of, HoldsParts, KeepsOthers};
+ghost use Rattle.sdf_answer.specs.Parts.{CanCopy, AreCopied};
 
 /// Where the first part begins, and how far behind it the next.
 #[derive(Clone, Copy)]
@@ -28,11 +28,8 @@ fn copy_part<T: Copy>(from: &[T], start: usize, to: &mut [T], at: usize, width: 
 /// Copies so many samples of one list to places in another.
 #[inline(always)]
 fn copy_each<T: Copy>(from: &[T], out: Stride, to: &mut [T], into: Stride, many: usize)
-    requires from { HoldsParts out 1 many from.now }
-    requires to { HoldsParts into 1 many to.old }
-    requires apart { 1 ≤ into.step }
-    ensures copied { (i : ℕ) → i < many → part_of into 1 to.new i ≡ part_of out 1 from.now i }
-    ensures others { KeepsOthers into 1 many to.old to.new }
+    requires { CanCopy out into 1 many from.now to.old }
+    ensures { AreCopied out into 1 many from.now to.old to.new }
 {
     for i in 0..many {
         to[into.first + into.step * i] = from[out.first + out.step * i];
@@ -42,11 +39,8 @@ fn copy_each<T: Copy>(from: &[T], out: Stride, to: &mut [T], into: Stride, many:
 /// The same, several at a time where it is known how far apart they are: those of every other place into a row, and
 /// those of a row to every other place.
 fn copy_samples<T: Copy>(from: &[T], out: Stride, to: &mut [T], into: Stride, many: usize)
-    requires from { HoldsParts out 1 many from.now }
-    requires to { HoldsParts into 1 many to.old }
-    requires apart { 1 ≤ into.step }
-    ensures copied { (i : ℕ) → i < many → part_of into 1 to.new i ≡ part_of out 1 from.now i }
-    ensures others { KeepsOthers into 1 many to.old to.new }
+    requires { CanCopy out into 1 many from.now to.old }
+    ensures { AreCopied out into 1 many from.now to.old to.new }
 {
     if out.step == 2 && into.step == 1 {
         copy_each(from, every(2, out), to, every(1, into), many);
@@ -78,11 +72,8 @@ fn copy_wide_parts<T: Copy>(
     width: usize,
     many: usize,
 )
-    requires from { HoldsParts out width many from.now }
-    requires to { HoldsParts into width many to.old }
-    requires apart { width ≤ into.step }
-    ensures copied { (i : ℕ) → i < many → part_of into width to.new i ≡ part_of out width from.now i }
-    ensures others { KeepsOthers into width many to.old to.new }
+    requires { CanCopy out into width many from.now to.old }
+    ensures { AreCopied out into width many from.now to.old to.new }
 {
     for i in 0..many {
         let start = out.first + out.step * i;
@@ -99,11 +90,8 @@ fn copy_parts<T: Copy>(
     width: usize,
     many: usize,
 )
-    requires from { HoldsParts out width many from.now }
-    requires to { HoldsParts into width many to.old }
-    requires apart { width ≤ into.step }
-    ensures copied { (i : ℕ) → i < many → part_of into width to.new i ≡ part_of out width from.now i }
-    ensures others { KeepsOthers into width many to.old to.new }
+    requires { CanCopy out into width many from.now to.old }
+    ensures { AreCopied out into width many from.now to.old to.new }
 {
     if width == 1 {
         copy_samples(from, out, to, into, many);

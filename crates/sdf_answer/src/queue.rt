@@ -1,7 +1,7 @@
 //! The samples that stand on a channel.
 
 ghost use Rattle.std.specs.Prelude.{◌≡◌, ◌+◌, ◌-◌, ◌*◌, ◌≤◌, ◌<◌, ◌++◌, IfOk, length, map, take, drop, slice_range};
-ghost use Rattle.std.specs.Prelude.{vec_len, vec_capacity};
+ghost use Rattle.std.specs.Prelude.{◌^◌, vec_len, vec_capacity};
 ghost use Rattle.std.specs.List.{between};
 ghost use Rattle.sdf_actor.specs.Steps.{sum_in, sum_out, state_at, puts_to};
 ghost use Rattle.sdf_actor.specs.Wires.{lists};
@@ -107,6 +107,14 @@ impl<T: Copy> Queue<T> {
         ensures { result ≡ self.now.room }
     {
         self.room
+    }
+
+    /// What it holds, and what it has room for, can be counted.
+    pub fn is_small(&self)
+        ensures held { length self.now.samples < 2 ^ 64 }
+        ensures room { self.now.room < 2 ^ 64 }
+    {
+        let _items = &self.items;
     }
 
     /// Puts a block behind the samples.

@@ -18,7 +18,7 @@ use Rattle.sdf_actor.specs.declared.node.Node.TheVariants as node
 use Rattle.sdf_node.specs.declared.node.NodeState.{NodeState}
 use Rattle.sdf_node.specs.declared.node.NodeState.TheVariants.{Source, Sink, Inner}
 use Rattle.sdf_node.specs.Nodes.{takes_of, puts_of, IsAt}
-use Rattle.sdf_node.specs.Many.{nth_block, listed, joined, AreWhole, CanStepMany}
+use Rattle.sdf_node.specs.Many.{nth_block, listed, joined, AreFullBlocks, CanStepMany}
 use Rattle.sdf_node.proofs.Nodes.{state_more}
 use Rattle.sdf_node.proofs.Joined.{length_after, flat_listed, joined_between, joined_blocks, length_nth, joined_part}
 
@@ -246,11 +246,11 @@ module _ {A S T : Type 0} (s : Steps A S T) (inputs : List (List T)) where
           subst (λ z. IsOn all many past t z (Inner j state')) (sym y_is)
           (still, next ∙ (ap (λ z. state_at s x j z t many) inner_at.1 ∙ states s x one j past t many))
 
-      pub inner_part : PutsFit s x → AreWhole s y past → (put : List T) → put ≡ puts_to s x j state t many → (i : ℕ) →
-          i < many → IsPart past t put i y
+      pub inner_part : PutsFit s x → AreFullBlocks s y past → (put : List T) → put ≡ puts_to s x j state t many →
+          (i : ℕ) → i < many → IsPart past t put i y
       inner_part fit whole put put_is i l =
           let one = can_inner.0 in
-          let whole' : AreWhole s (node.Inner x) past = subst (λ z. AreWhole s z past) y_is whole in
+          let whole' : AreFullBlocks s (node.Inner x) past = subst (λ z. AreFullBlocks s z past) y_is whole in
           subst (IsPart past t put i) (sym y_is)
           (ap (λ xs. nth_block (total_out s x 0) xs i) (put_is ∙ ap (λ z. puts_to s x j z t many) inner_at.1)
           ∙ part_is s x one fit j past t many whole' can_inner.2 i l)

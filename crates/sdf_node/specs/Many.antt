@@ -24,8 +24,8 @@ joined block zero = []
 joined block (suc i) = joined block i ++ block i
 
 -- each block has the length of what a firing of the node takes
-abbrev pub AreWhole : {A S T : Type 0} → Steps A S T → Node A → List (List T) → Type 0
-AreWhole s x past = (i : ℕ) → i < length past → length (slice_index_or past i []) ≡ takes_of s x 0
+abbrev pub AreFullBlocks : {A S T : Type 0} → Steps A S T → Node A → List (List T) → Type 0
+AreFullBlocks s x past = (i : ℕ) → i < length past → length (slice_index_or past i []) ≡ takes_of s x 0
 
 -- the next firings find what they read and have room for what they make, where so many samples are taken and put in all
 abbrev pub CanStepMany : {A S T : Type 0} → Steps A S T → List (List T) → Node A → NodeState T S → ℕ → ℕ → ℕ → Type 0

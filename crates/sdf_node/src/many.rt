@@ -4,7 +4,7 @@ ghost use Rattle.std.specs.Prelude.{◌≡◌, ◌<◌, ◌++◌, ℕ, List, len
 ghost use Rattle.sdf_actor.specs.Nets.{answer_of};
 ghost use Rattle.sdf_actor.specs.Wires.{lists};
 ghost use Rattle.sdf_node.specs.Nodes.{takes_of, puts_of, IsAt};
-ghost use Rattle.sdf_node.specs.Many.{nth_block, listed, AreWhole, CanStepMany};
+ghost use Rattle.sdf_node.specs.Many.{nth_block, listed, AreFullBlocks, CanStepMany};
 
 use crate::node::{NodeState, append, read_input};
 use sdf_actor::{Actor, Node};
@@ -25,7 +25,7 @@ pub fn step_many<A: Actor>(
         IsAt A.steps (lists inputs.now) all node.now
         (past ++ listed (nth_block (takes_of A.steps node.now 0) taken.now) many) state.new }
     ensures put { (all : ℕ) (past : List (List A.Token)) → IsAt A.steps (lists inputs.now) all node.now past state.old →
-        AreWhole A.steps node.now past →
+        AreFullBlocks A.steps node.now past →
         (i : ℕ) → i < many → nth_block (puts_of A.steps node.now 0) put.new i ≡
         answer_of A.steps (lists inputs.now) node.now
         (past ++ listed (nth_block (takes_of A.steps node.now 0) taken.now) i)

@@ -21,9 +21,10 @@ use Rattle.sdf_node.specs.Nodes.{takes_of, puts_of, IsAt}
 use Rattle.sdf_node.specs.declared.node.NodeState.{NodeState}
 use Rattle.sdf_answer.specs.Sizes.{AreRows}
 use Rattle.sdf_rings.specs.Stands.{OwnArePairs, IsStand}
-use Rattle.sdf_rings.specs.Openings.{end_at, HasEnds}
+use Rattle.sdf_rings.specs.Openings.{end_at, AreEndsAt, HasEnds}
 use Rattle.sdf_rings.specs.Begun.{HasIns, HasOuts}
 use Rattle.sdf_rings.proofs.Known.{out_channel, in_channel, port_at}
+use Rattle.sdf_rings.proofs.Lists.{vec_long}
 use Rattle.sdf_rings.proofs.PortBlocks.{ins_long, outs_long}
 
 -- fillers are long enough where firings are asked
@@ -81,84 +82,90 @@ module _ {A S T : Type 0} (s : Steps A S T) (begins : LocalsBegin s) (n : Netlis
             let l = filled filler asked many put long_put none left in omega arith;
       }
 
+-- an end for each of some channels, taken out
+pub record TakenOut {E : Type 0} (ends : List (Option E)) (channels : List ℕ) (taken : List E) : Type 0 where
+  pub all : length taken ≡ length channels
+  pub each : AreEndsAt ends channels taken
+
+pub taken_out : {E : Type 0} (ends : List (Option E)) (v : Vec E Global) (ks cs : List ℕ) → ks ≡ cs →
+    vec_len v ≡ length ks → AreEndsAt ends ks v.items → TakenOut ends cs v.items
+taken_out ends v ks cs same all each = subst (λ ds. TakenOut ends ds v.items) same
+    (record { all = vec_long v ∙ all; each = each })
+
+-- a node of a wired net, and the ends of rings at its ports
+pub record AtNode {A S T : Type 0} (s : Steps A S T) (n : Netlist A T) (a : ℕ)
+    (ps : List (Option (Producer T Global AnyItems))) (xs : List (Option (Consumer T Global AnyItems))) : Type 0 where
+  pub ports : PortsHaveChannels s
+  pub good : IsNet s n
+  pub wired : IsWired (wiring s n)
+  pub known : a < length n.nodes
+  pub has : HasEnds n a ps xs
+
 -- the ends that were taken out for a node are its own
-module _ {A S T : Type 0} (s : Steps A S T) (ports : PortsHaveChannels s) (n : Netlist A T) (good : IsNet s n)
-    (wired : IsWired (wiring s n)) (a : ℕ) (known : a < length n.nodes)
-    (ps : List (Option (Producer T Global AnyItems))) (xs : List (Option (Consumer T Global AnyItems)))
-    (has : HasEnds n a ps xs) where
-  -- the channel of a port ends there
-  pub into_here : (i : ℕ) → i < length ((wiring s n).ins a) →
-      (get_or ((wiring s n).ins a) i 0 < length n.wires) × ((wire n (get_or ((wiring s n).ins a) i 0)).to.0 ≡ a)
-  into_here i h = wired.ins_are a i known h
+module _ {A S T : Type 0} {s : Steps A S T} {n : Netlist A T} {a : ℕ}
+    {ps : List (Option (Producer T Global AnyItems))} {xs : List (Option (Consumer T Global AnyItems))}
+    (x : AtNode s n a ps xs) where
+  ins_all : length ((wiring s n).ins a) ≡ inputs_of s (node n a)
+  ins_all = ins_long s x.ports n x.good x.wired a x.known
 
-  pub out_here : (i : ℕ) → i < length ((wiring s n).outs a) →
-      (get_or ((wiring s n).outs a) i 0 < length n.wires) × ((wire n (get_or ((wiring s n).outs a) i 0)).from.0 ≡ a)
-  out_here i h = wired.outs_are a i known h
+  outs_all : length ((wiring s n).outs a) ≡ outputs_of s (node n a)
+  outs_all = outs_long s x.ports n x.good x.wired a x.known
 
-  module _ (ins : List (Consumer T Global AnyItems)) (all_in : length ins ≡ length ((wiring s n).ins a))
-      (taken_in : (i : ℕ) (d : Consumer T Global AnyItems) → i < length ((wiring s n).ins a) →
-      end_at xs (get_or ((wiring s n).ins a) i 0) ≡ Some (get_or ins i d)) where
+  -- none stands at two ports
+  pub ins_once : (i k : ℕ) → i < length ((wiring s n).ins a) → k < length ((wiring s n).ins a) →
+      get_or ((wiring s n).ins a) i 0 ≡ get_or ((wiring s n).ins a) k 0 → i ≡ k
+  ins_once i k hi hk e =
+      let at_i = port_at s x.ports n x.good a i x.known (omega (arith, ins_all)) in
+      let at_k = port_at s x.ports n x.good a k x.known (omega (arith, ins_all)) in
+      sym at_i.2 ∙ (ap (λ c. (wire n c).to.1) e ∙ at_k.2)
+
+  module _ (ins : List (Consumer T Global AnyItems)) (taken : TakenOut xs ((wiring s n).ins a) ins) where
     pub has_ins : HasIns s n a ins
     has_ins = record {
-      all = all_in ∙ ins_long s ports n good wired a known;
+      all = taken.all ∙ ins_all;
       untaken = λ i d h.
-          let l : i < length ((wiring s n).ins a) = omega arith in
-          let is = into_here i l in
-          let e = has.into (get_or ((wiring s n).ins a) i 0) is.0 is.1 in
-          ap (λ x. received x) (same_Some (get_or ins i d) e.0 (sym (taken_in i d l) ∙ e.1)) ∙ e.2;
+          let l : i < length ((wiring s n).ins a) = omega (arith, taken.all) in
+          let is = x.wired.ins_are a i x.known l in
+          let e = x.has.into (get_or ((wiring s n).ins a) i 0) is.0 is.1 in
+          ap (λ y. received y) (same_Some (get_or ins i d) e.0 (sym (taken.each i d l) ∙ e.1)) ∙ e.2;
     }
 
     pub ins_at : (c : ℕ) (d : Consumer T Global AnyItems) → c < length n.wires → (wire n c).to.0 ≡ a →
         end_at xs c ≡ Some (get_or ins (wire n c).to.1 d)
     ins_at c d l e =
         let at : get_or ((wiring s n).ins a) (wire n c).to.1 0 ≡ c =
-        ap (λ b. get_or ((wiring s n).ins b) (wire n c).to.1 0) (sym e) ∙ in_channel s ports n good c l in
+        ap (λ b. get_or ((wiring s n).ins b) (wire n c).to.1 0) (sym e) ∙ in_channel s x.ports n x.good c l in
         let long : (wire n c).to.1 < inputs_of s (node n a) =
-        subst (λ b. (wire n c).to.1 < inputs_of s (node n b)) e (good.to_in c l).1 in
-        let inside : (wire n c).to.1 < length ((wiring s n).ins a) = let m = ins_long s ports n good wired a known in
-        omega arith in
-        subst (λ k. end_at xs k ≡ Some (get_or ins (wire n c).to.1 d)) at (taken_in (wire n c).to.1 d inside)
+        subst (λ b. (wire n c).to.1 < inputs_of s (node n b)) e (x.good.to_in c l).1 in
+        subst (λ k. end_at xs k ≡ Some (get_or ins (wire n c).to.1 d)) at
+        (taken.each (wire n c).to.1 d (omega (arith, long, ins_all)))
 
-  module _ (outs : List (Producer T Global AnyItems)) (all_out : length outs ≡ length ((wiring s n).outs a))
-      (taken_out : (i : ℕ) (d : Producer T Global AnyItems) → i < length ((wiring s n).outs a) →
-      end_at ps (get_or ((wiring s n).outs a) i 0) ≡ Some (get_or outs i d)) where
+  module _ (outs : List (Producer T Global AnyItems)) (taken : TakenOut ps ((wiring s n).outs a) outs) where
     pub has_outs : HasOuts s n a outs
     has_outs = record {
-      all = all_out ∙ outs_long s ports n good wired a known;
+      all = taken.all ∙ outs_all;
       put = λ i d h.
-          let l : i < length ((wiring s n).outs a) = omega arith in
-          let is = out_here i l in
-          let e = has.out_of (get_or ((wiring s n).outs a) i 0) is.0 is.1 in
-          ap (λ x. sent x) (same_Some (get_or outs i d) e.0 (sym (taken_out i d l) ∙ e.1)) ∙ e.2;
+          let l : i < length ((wiring s n).outs a) = omega (arith, taken.all) in
+          let is = x.wired.outs_are a i x.known l in
+          let e = x.has.out_of (get_or ((wiring s n).outs a) i 0) is.0 is.1 in
+          ap (λ y. sent y) (same_Some (get_or outs i d) e.0 (sym (taken.each i d l) ∙ e.1)) ∙ e.2;
     }
 
     pub outs_at : (c : ℕ) (d : Producer T Global AnyItems) → c < length n.wires → (wire n c).from.0 ≡ a →
         end_at ps c ≡ Some (get_or outs (wire n c).from.1 d)
     outs_at c d l e =
         let at : get_or ((wiring s n).outs a) (wire n c).from.1 0 ≡ c =
-        ap (λ b. get_or ((wiring s n).outs b) (wire n c).from.1 0) (sym e) ∙ out_channel s ports n good c l in
+        ap (λ b. get_or ((wiring s n).outs b) (wire n c).from.1 0) (sym e) ∙ out_channel s x.ports n x.good c l in
         let long : (wire n c).from.1 < outputs_of s (node n a) =
-        subst (λ b. (wire n c).from.1 < outputs_of s (node n b)) e (good.from_in c l).1 in
-        let inside : (wire n c).from.1 < length ((wiring s n).outs a) = let m =
-        outs_long s ports n good wired a known in omega arith in
-        subst (λ k. end_at ps k ≡ Some (get_or outs (wire n c).from.1 d)) at (taken_out (wire n c).from.1 d inside)
+        subst (λ b. (wire n c).from.1 < outputs_of s (node n b)) e (x.good.from_in c l).1 in
+        subst (λ k. end_at ps k ≡ Some (get_or outs (wire n c).from.1 d)) at
+        (taken.each (wire n c).from.1 d (omega (arith, long, outs_all)))
 
-    pub own_are_pairs : (ins : List (Consumer T Global AnyItems)) →
-        ((c : ℕ) (d : Consumer T Global AnyItems) → c < length n.wires → (wire n c).to.0 ≡ a →
-        end_at xs c ≡ Some (get_or ins (wire n c).to.1 d)) → OwnArePairs n a ins outs
-    own_are_pairs ins at c d e l from to = has.own c (get_or outs (wire n c).from.1 e) (get_or ins (wire n c).to.1 d) l
-        from to (outs_at c e l from) (at c d l to)
-
--- no end stands at two ports
-pub ins_once : {A S T : Type 0} (s : Steps A S T) (ports : PortsHaveChannels s) (n : Netlist A T) (good : IsNet s n)
-    (wired : IsWired (wiring s n)) (a i k : ℕ) → a < length n.nodes →
-    i < length ((wiring s n).ins a) → k < length ((wiring s n).ins a) →
-    get_or ((wiring s n).ins a) i 0 ≡ get_or ((wiring s n).ins a) k 0 → i ≡ k
-ins_once s ports n good wired a i k known hi hk e =
-    let long = ins_long s ports n good wired a known in
-    let at_i = port_at s ports n good a i known (omega arith) in
-    let at_k = port_at s ports n good a k known (omega arith) in
-    sym at_i.2 ∙ (ap (λ c. (wire n c).to.1) e ∙ at_k.2)
+  pub own_are_pairs : (ins : List (Consumer T Global AnyItems)) (outs : List (Producer T Global AnyItems)) →
+      TakenOut xs ((wiring s n).ins a) ins → TakenOut ps ((wiring s n).outs a) outs → OwnArePairs n a ins outs
+  own_are_pairs ins outs of_ins of_outs c d e l from to =
+      x.has.own c (get_or outs (wire n c).from.1 e) (get_or ins (wire n c).to.1 d) l from to
+      (outs_at outs of_outs c e l from) (ins_at ins of_ins c d l to)
 
 pub some_in : {X : Type 0} (xs : List (Option X)) (c : ℕ) → IsSome (end_at xs c) → c < length xs
 some_in [] c is = absurd (let e : false ≡ true = is in cc)

@@ -8,22 +8,12 @@ use Rattle.sdf_actor.specs.Nets.{Netlist, node}
 use Rattle.sdf_actor.specs.Wires.{lists}
 use Rattle.sdf_answer.specs.Periods.{HasSinks}
 use Rattle.sdf_node.specs.Collected.{IsCollected}
-use Rattle.sdf_node.specs.declared.node.NodeState.TheVariants.{Sink}
 use Rattle.sdf_rings.specs.declared.stand.Stand.{Stand}
 use Rattle.sdf_rings.specs.declared.seat.Seat.{Seat}
-use Rattle.sdf_rings.specs.Places.{stand_at, IsUpdated}
-use Rattle.sdf_rings.specs.Rests.{stand_of, IsPlaced}
-use Rattle.sdf_rings.proofs.Looking.{vec_in}
-use Rattle.sdf_rings.proofs.Tells.{some}
+use Rattle.sdf_rings.specs.Places.{OnlyStand}
+use Rattle.sdf_rings.specs.Rests.{stand_of, IsPlaced, AreGiven}
+use Rattle.sdf_rings.proofs.Tells.{some_stand}
 use Rattle.sdf_rings.proofs.Placed.{one_node}
-
--- the lists of the sinks among the first m nodes stand among the outputs
-abbrev pub AreGiven : {A S T : Type 0} → Netlist A T → List (Seat A T S) → List (ℕ × ℕ) → ℕ → List (Vec T Global) →
-    Type 0
-AreGiven {A} {S} {T} n seats places m outputs =
-    (a ext block : ℕ) (made : Vec T Global) (e : Seat A T S) (d : Stand A T S) → a < m →
-    node n a ≡ kind.Sink ext block →
-    (stand_of n seats places e d a).state ≡ Sink made → get_or (lists outputs) ext [] ≡ made.items
 
 module _ {A S T : Type 0} (n : Netlist A T) (sinks : HasSinks n) (seats : List (Seat A T S)) (places : List (ℕ × ℕ))
     (placed : IsPlaced n seats places)
@@ -31,13 +21,11 @@ module _ {A S T : Type 0} (n : Netlist A T) (sinks : HasSinks n) (seats : List (
     (stands : (j : ℕ) (e : Seat A T S) → vec_len (get_or cur j e).stands ≡ vec_len (get_or seats j e).stands)
     (rest : (b : ℕ) (e : Seat A T S) (d : Stand A T S) → a ≤ b → b < length n.nodes →
     stand_of n cur places e d b ≡ stand_of n seats places e d b)
-    (u : (e : Seat A T S) (d : Stand A T S) → IsUpdated cur new (get_or places a (0, 0)).0 (get_or places a (0, 0)).1
-    (stand_at new (get_or places a (0, 0)).0 (get_or places a (0, 0)).1 e d)) where
+    (u : OnlyStand cur new (get_or places a (0, 0)).0 (get_or places a (0, 0)).1) where
   pub stands_more : (j : ℕ) (e : Seat A T S) → vec_len (get_or new j e).stands ≡ vec_len (get_or seats j e).stands
   stands_more j e =
-      let x = get_or seats (get_or places a (0, 0)).0 e in
-      let d = some x.stands.items (get_or places a (0, 0)).1
-      (vec_in x.stands (get_or places a (0, 0)).1 (placed.stand_in a e known)) in
+      let d = some_stand seats (get_or places a (0, 0)).0 (get_or places a (0, 0)).1
+      (λ f. placed.stand_in a f known) e in
       ((u e d).seats j e).stands_same ∙ stands j e
 
   pub rest_more : (b : ℕ) (e : Seat A T S) (d : Stand A T S) → a + 1 ≤ b → b < length n.nodes →

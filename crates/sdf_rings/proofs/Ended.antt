@@ -24,10 +24,9 @@ use Rattle.sdf_node.specs.Nodes.{IsAt}
 use Rattle.sdf_rings.specs.declared.stand.Stand.{Stand}
 use Rattle.sdf_rings.specs.declared.seat.Seat.{Seat}
 use Rattle.sdf_rings.specs.Seats.{times_between}
-use Rattle.sdf_rings.specs.Rests.{stand_of, AreRings, StandAtRest, AreAtRest, HoldRest}
+use Rattle.sdf_rings.specs.Rests.{stand_of, AreRings, StandAtRest, AreAtRest, HoldRest, AreGiven}
 use Rattle.sdf_rings.specs.Asks.{IsPlanned}
 use Rattle.sdf_rings.specs.Totals.{total_left}
-use Rattle.sdf_rings.proofs.Collects.{AreGiven}
 use Rattle.sdf_rings.proofs.Reading.{a_seat, a_stand, taker, rest_at}
 use Rattle.sdf_rings.proofs.Times.{times_none}
 use Rattle.sdf_rings.proofs.Totals.{total_some}

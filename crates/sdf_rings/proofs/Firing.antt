@@ -24,7 +24,7 @@ use Rattle.sdf_rings.proofs.Blocks.{block_in}
 use Rattle.sdf_rings.proofs.Known.{out_in, in_in, sent_at, received_at}
 use Rattle.sdf_rings.specs.FiringLaws.{FiringLaws}
 use Rattle.sdf_rings.proofs.Knowing.{IsOneMore, one_more}
-use Rattle.sdf_rings.proofs.Onward.{HasGoneOn, gone_on}
+use Rattle.sdf_rings.proofs.Onward.{stand_after, HasGoneOn, gone_on}
 use Rattle.sdf_rings.proofs.Tells.{some}
 use Rattle.sdf_rings.proofs.Looking.{vec_in}
 use Rattle.sdf_rings.proofs.PortBlocks.{outs_long, consumed_in, produced_out, out_block}
@@ -115,30 +115,10 @@ module _ {A S T : Type 0} (s : Steps A S T) (laws : FiringLaws s) (n : Netlist A
         );
   }
 
-  pub fired : IsStand s n inputs (record {
-    actor = x.actor;
-    state = w;
-    ins = ins;
-    outs = outs;
-    takes = x.takes;
-    puts = x.puts;
-    taken = tv;
-    put = pv;
-    done = x.done + 1;
-    asked = x.asked;
-  }) ×
-      HasMoved s n x (record {
-        actor = x.actor;
-        state = w;
-        ins = ins;
-        outs = outs;
-        takes = x.takes;
-        puts = x.puts;
-        taken = tv;
-        put = pv;
-        done = x.done + 1;
-        asked = x.asked;
-      })
+  abbrev y : Stand A T S
+  y = stand_after x 1 w ins outs tv pv
+
+  pub fired : IsStand s n inputs y × HasMoved s n x y
   fired =
       gone_on s laws n good inputs x st 1 (omega arith) more.0
       (λ i. block_of (sizes s Input (node n x.actor) x.done) i t)

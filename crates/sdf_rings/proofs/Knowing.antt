@@ -18,7 +18,7 @@ use Rattle.sdf_rings.specs.Blocks.{start_at, block_of}
 use Rattle.sdf_answer.specs.Sizes.{sizes}
 use Rattle.sdf_rings.specs.FiringLaws.{FiringLaws}
 use Rattle.sdf_rings.proofs.Blocks.{block_in}
-use Rattle.sdf_rings.proofs.Deals.{blocks_joined}
+use Rattle.sdf_rings.proofs.Spreads.{blocks_joined}
 use Rattle.sdf_rings.proofs.PortBlocks.{size_at, port_of, consumed_is, all_out}
 
 -- one block a firing

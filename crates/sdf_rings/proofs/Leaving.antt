@@ -10,28 +10,25 @@ use Rattle.sdf_actor.specs.Nets.{Netlist, wire}
 use Rattle.sdf_rings.specs.declared.stand.Stand.{Stand}
 use Rattle.sdf_rings.specs.declared.seat.Seat.{Seat}
 use Rattle.sdf_rings.specs.declared.meet.Spot.{Spot}
-use Rattle.sdf_rings.specs.Places.{stand_at, IsUpdated, TakesAt, SameStand, SameButEnds, IsEmptied, consumer_at}
-use Rattle.sdf_rings.specs.Rests.{consumer_of, IsPlaced, AreRings, spot_of}
-use Rattle.sdf_rings.proofs.Collects.{AreGiven}
+use Rattle.sdf_rings.specs.Places.{stand_at, consumer_at, HoldsOfStand, OnlyIns, TakesAt, SameStand, SameButEnds}
+use Rattle.sdf_rings.specs.Places.{IsEmptied}
+use Rattle.sdf_rings.specs.Rests.{consumer_of, IsPlaced, AreRings, spot_of, AreGiven}
 use Rattle.sdf_rings.proofs.Placed.{one_node, ins_of}
-use Rattle.sdf_rings.proofs.Swaps.{ins_changed, ends_join, seat_join_same, same_place, ButEnds, in_vec, same_stand_of}
-use Rattle.sdf_rings.proofs.Tells.{some}
+use Rattle.sdf_rings.proofs.Swaps.{ins_changed, ends_join, seat_join_same, same_place, ButEnds, same_stand_of}
+use Rattle.sdf_rings.proofs.Tells.{some, some_stand}
 
 module _ {A T S : Type 0} where
   -- the consumers of a stand are taken out, one is changed, and they are put back
   pub emptied : (s0 s1 s2 : List (Seat A T S)) (at : Spot) (v0 v1 : Vec (Consumer T Global AnyItems) Global)
       (c : Consumer T Global AnyItems)
       → TakesAt s0 at
-      → ((e : Seat A T S) (d : Stand A T S) → IsUpdated s0 s1 at.seat at.stand
-      (record (stand_at s0 at.seat at.stand e d) { ins = v0 }))
-      → ((e : Seat A T S) (d : Stand A T S) → v1 ≡ (stand_at s0 at.seat at.stand e d).ins)
-      → ((e : Seat A T S) (d : Stand A T S) → IsUpdated s1 s2 at.seat at.stand
-      (record (stand_at s1 at.seat at.stand e d) { ins = with_item v1 at.port c }))
+      → OnlyIns s0 s1 at.seat at.stand v0
+      → HoldsOfStand (λ (x : Stand A T S). v1 ≡ x.ins) s0 at.seat at.stand
+      → OnlyIns s1 s2 at.seat at.stand (with_item v1 at.port c)
       → IsEmptied s0 s2 at
   emptied s0 s1 s2 at v0 v1 c there u1 had u2 =
       let e0 = some s0 at.seat there.seat_in in
-      let d0 = some (get_or s0 at.seat e0).stands.items at.stand
-      (in_vec (get_or s0 at.seat e0).stands at.stand (there.stand_in e0)) in
+      let d0 = some_stand s0 at.seat at.stand there.stand_in e0 in
       let a = ins_changed s0 s1 at.seat at.stand v0 u1 in
       let z = ins_changed s1 s2 at.seat at.stand (with_item v1 at.port c) u2 in
       let but : (j l : ℕ) (e : Seat A T S) (d : Stand A T S) → ButEnds (stand_at s0 j l e d) (stand_at s2 j l e d) =

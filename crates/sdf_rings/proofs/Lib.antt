@@ -15,7 +15,7 @@ pub mod Blocks
 pub mod Each
 pub mod Walks
 pub mod Looks
-pub mod Deals
+pub mod Spreads
 pub mod PortBlocks
 pub mod Known
 pub mod OwnEnds

@@ -23,6 +23,18 @@ use Rattle.sdf_rings.specs.FiringLaws.{FiringLaws}
 use Rattle.sdf_rings.proofs.OwnEnds.{own_pairs_kept}
 use Rattle.sdf_rings.proofs.Looking.{vec_in, items_long}
 
+-- the stand behind its next so many firings, with a new state, its ends and its working blocks as they are then
+abbrev pub stand_after : {A S T : Type 0} → Stand A T S → ℕ → NodeState T S → Vec (Consumer T Global AnyItems) Global →
+    Vec (Producer T Global AnyItems) Global → Vec T Global → Vec T Global → Stand A T S
+stand_after x more w ins outs tv pv = record x {
+  state = w;
+  ins = ins;
+  outs = outs;
+  taken = tv;
+  put = pv;
+  done = x.done + more;
+}
+
 -- from own to W the node has fired more times: at each port it took and put so much more
 pub record HasGoneOn {A S T : Type 0} (s : Steps A S T) (n : Netlist A T) (inputs : List (List T)) (x : Stand A T S)
     (own W : ℕ → List T) (more : ℕ) (taken put : ℕ → List T) : Type 0 where
@@ -61,18 +73,10 @@ module _ {A S T : Type 0} (s : Steps A S T) (laws : FiringLaws s) (n : Netlist A
       (drew (wire n c).to.1 d h).received_then ∙ (ap (λ r. r ++ taken (wire n c).to.1)
       (received_at s laws.ports n good inputs x st x.actor refl c d l e) ∙ sym (on.into c l e))
 
-  on_stand : IsStand s n inputs (record {
-    actor = x.actor;
-    state = w;
-    ins = ins;
-    outs = outs;
-    takes = x.takes;
-    puts = x.puts;
-    taken = tv;
-    put = pv;
-    done = x.done + more;
-    asked = x.asked;
-  })
+  abbrev y : Stand A T S
+  y = stand_after x more w ins outs tv pv
+
+  on_stand : IsStand s n inputs y
   on_stand = record {
     known = st.known;
     own_pairs = own_pairs_kept n x.actor x.ins.items ins.items x.outs.items outs.items taken put
@@ -99,18 +103,7 @@ module _ {A S T : Type 0} (s : Steps A S T) (laws : FiringLaws s) (n : Netlist A
     put_long = λ few k. let long = st.put_long (omega arith) k in omega arith;
   }
 
-  on_moved : HasMoved s n x (record {
-    actor = x.actor;
-    state = w;
-    ins = ins;
-    outs = outs;
-    takes = x.takes;
-    puts = x.puts;
-    taken = tv;
-    put = pv;
-    done = x.done + more;
-    asked = x.asked;
-  })
+  on_moved : HasMoved s n x y
   on_moved = record {
     actor_kept = refl;
     asked_kept = refl;
@@ -125,28 +118,5 @@ module _ {A S T : Type 0} (s : Steps A S T) (laws : FiringLaws s) (n : Netlist A
     put_count = λ i h. on.put_count i (omega (arith, st.outs_all));
   }
 
-  pub gone_on : IsStand s n inputs (record {
-    actor = x.actor;
-    state = w;
-    ins = ins;
-    outs = outs;
-    takes = x.takes;
-    puts = x.puts;
-    taken = tv;
-    put = pv;
-    done = x.done + more;
-    asked = x.asked;
-  }) ×
-      HasMoved s n x (record {
-        actor = x.actor;
-        state = w;
-        ins = ins;
-        outs = outs;
-        takes = x.takes;
-        puts = x.puts;
-        taken = tv;
-        put = pv;
-        done = x.done + more;
-        asked = x.asked;
-      })
+  pub gone_on : IsStand s n inputs y × HasMoved s n x y
   gone_on = (on_stand, on_moved)

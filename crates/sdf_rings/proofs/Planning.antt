@@ -12,12 +12,22 @@ use Rattle.sdf_rings.specs.Prepared.{IsAsked}
 use Rattle.sdf_rings.proofs.Begun.{some_in, is_some}
 use Rattle.sdf_rings.proofs.Plans.{IsSequence, plan_sequence, room_first}
 
-module _ (alike : AlikeSequences) (repeats : TablesRepeat) {A S T : Type 0} (s : Steps A S T) (n : Netlist A T)
-    (wired : IsWired (wiring s n)) (t : Tabled) (rooms blocks : ℕ) (asked : ℕ → ℕ)
-    (is : IsAsked s n t rooms blocks asked) where
+-- a plan that is asked of a wired net, and the laws of its sequences
+pub record AskedPlan {A S T : Type 0} (s : Steps A S T) (n : Netlist A T) (t : Tabled) (rooms blocks : ℕ)
+    (asked : ℕ → ℕ) : Type 0 where
+  pub alike : AlikeSequences
+  pub repeats : TablesRepeat
+  pub wired : IsWired (wiring s n)
+  pub is : IsAsked s n t rooms blocks asked
+
+module _ {A S T : Type 0} {s : Steps A S T} {n : Netlist A T} {t : Tabled} {rooms blocks : ℕ} {asked : ℕ → ℕ}
+    (x : AskedPlan s n t rooms blocks asked) where
+  abbrev is : IsAsked s n t rooms blocks asked
+  is = x.is
+
   sequence : (b : ℕ) → IsSequence (wiring s n).rates (firings is.plan b) (capacity is.plan)
       (repeated b is.plan.table.order)
-  sequence b = plan_sequence alike repeats s n is.plan b is.is
+  sequence b = plan_sequence x.alike x.repeats s n is.plan b is.is
 
   pub admissible : IsAdmissible (wiring s n).rates (repeated blocks t.order)
   admissible = subst (λ (z : Tabled). IsAdmissible (wiring s n).rates (repeated blocks z.order)) is.table_is
@@ -48,7 +58,8 @@ module _ (alike : AlikeSequences) (repeats : TablesRepeat) {A S T : Type 0} (s :
   pub held : (c : ℕ) → c < length n.wires →
       length (wire n c).initial ≤ roomy rooms (λ d. get_or t.caps d 0) c
   held c l = subst (λ m. length (wire n c).initial ≤ m) (caps_are c)
-      (room_first (wiring s n).rates (firings is.plan 0) (capacity is.plan) (repeated 0 is.plan.table.order) wired.sound
+      (room_first (wiring s n).rates (firings is.plan 0) (capacity is.plan)
+      (repeated 0 is.plan.table.order) x.wired.sound
       (sequence 0) c l)
 
   pub caps_all : length t.caps ≡ length n.wires

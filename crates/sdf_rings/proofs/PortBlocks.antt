@@ -18,7 +18,7 @@ use Rattle.sdf_node.specs.Nodes.{takes_of, puts_of}
 use Rattle.sdf_rings.specs.Blocks.{start_at, block_of}
 use Rattle.sdf_answer.specs.Sizes.{sizes, at_phase, AreRows}
 use Rattle.sdf_rings.proofs.Blocks.{start_at_zero, start_at_next}
-use Rattle.sdf_rings.proofs.Deals.{start_at_same, start_at_all, start_at_range, spread_is_block, block_same}
+use Rattle.sdf_rings.proofs.Spreads.{start_at_same, start_at_all, start_at_range, spread_is_block, block_same}
 
 one_port : (g : ℕ → ℕ) → start_at g 1 ≡ g 0
 one_port g = let z = start_at_zero g in let e : start_at g 1 ≡ start_at g 0 + g 0 = start_at_next g 0 in omega arith

@@ -20,7 +20,7 @@ use Rattle.sdf_rings.specs.Stands.{IsStand}
 use Rattle.sdf_rings.specs.Rests.{stand_of, producer_of, consumer_of, IsPlaced, HaveMet, AreRings}
 use Rattle.sdf_rings.specs.Asks.{dealt, IsRoomOf, IsPlanned}
 use Rattle.sdf_rings.specs.Openings.{HasRing, HaveRings}
-use Rattle.sdf_rings.specs.Begun.{place, HasBegun, IsBegun}
+use Rattle.sdf_rings.specs.Begun.{place, HasBegun, IsBegun, HaveBegun}
 use Rattle.sdf_rings.proofs.Dealt.{part_times, part_all, times_map}
 
 in_vec : {X Z : Type 0} (v : Vec X Z) (i : ℕ) → i < length v.items → i < vec_len v
@@ -35,26 +35,32 @@ times_all xs from k none =
     ap (λ m. times_between k xs m (length xs)) none
     ∙ ap (λ w. times w k) (take_all (length xs - 0) xs (omega arith))
 
-module _ {A S T : Type 0} (s : Steps A S T) (n : Netlist A T) (good : IsNet s n) (inputs : List (List T))
-    (asked : ℕ → ℕ)
-    (ps : List (Option (Producer T Global AnyItems))) (xs : List (Option (Consumer T Global AnyItems))) (cap : ℕ → ℕ)
-    (rings : HaveRings s n cap ps xs)
-    (places : List (ℕ × ℕ)) (all : length places ≡ length n.nodes) (order : List ℕ)
-    (known : (j : ℕ) → j < length order → get_or order j 0 < length n.nodes)
-    (counts : (a : ℕ) → a < length n.nodes → times order a ≡ asked a)
-    (seats : List (Seat A T S)) (seated : (a : ℕ) → a < length n.nodes → (place places a).0 < length seats)
-    (each : (i : ℕ) (e : Seat A T S) → i < length seats →
-    IsBegun s n inputs asked ps xs places order i (get_or seats i e)) where
+-- each node stands on one of these seats, which are begun over open rings
+pub record AreLaidOut {A S T : Type 0} (s : Steps A S T) (n : Netlist A T) (inputs : List (List T)) (asked cap : ℕ → ℕ)
+    (order : List ℕ) (seats : List (Seat A T S)) (places : List (ℕ × ℕ)) : Type 0 where
+  pub good : IsNet s n
+  pub ps : List (Option (Producer T Global AnyItems))
+  pub xs : List (Option (Consumer T Global AnyItems))
+  pub rings : HaveRings s n cap ps xs
+  pub all : length places ≡ length n.nodes
+  pub known : (j : ℕ) → j < length order → get_or order j 0 < length n.nodes
+  pub counts : (a : ℕ) → a < length n.nodes → times order a ≡ asked a
+  pub seated : (a : ℕ) → a < length n.nodes → (place places a).0 < length seats
+  pub each : HaveBegun s n inputs asked ps xs places order (length seats) seats
+
+module _ {A S T : Type 0} {s : Steps A S T} {n : Netlist A T} {inputs : List (List T)} {asked cap : ℕ → ℕ}
+    {order : List ℕ} {seats : List (Seat A T S)} {places : List (ℕ × ℕ)}
+    (laid : AreLaidOut s n inputs asked cap order seats places) where
   -- the stand of a node
   here : (a : ℕ) (e : Seat A T S) (d : Stand A T S) → a < length n.nodes →
-      HasBegun s n inputs asked ps xs a (stand_of n seats places e d a)
-  here a e d l = (each (place places a).0 e (seated a l)).stands_are.here a d l refl
+      HasBegun s n inputs asked laid.ps laid.xs a (stand_of n seats places e d a)
+  here a e d l = (laid.each (place places a).0 e (laid.seated a l)).stands_are.here a d l refl
 
   pub placed : IsPlaced n seats places
   placed = record {
-    seat_in = seated;
+    seat_in = laid.seated;
     stand_in = λ a e l. in_vec (get_or seats (place places a).0 e).stands (place places a).1
-        ((each (place places a).0 e (seated a l)).stands_are.known a l refl);
+        ((laid.each (place places a).0 e (laid.seated a l)).stands_are.known a l refl);
     is = λ a e d l. (here a e d l).actor_is;
   }
 
@@ -75,7 +81,7 @@ module _ {A S T : Type 0} (s : Steps A S T) (n : Netlist A T) (good : IsNet s n)
   -- the firings of a seat are those of nodes that stand there
   dealt_here : (i j : ℕ) → j < length (dealt places order i) →
       (get_or (dealt places order i) j 0 < length n.nodes) × (home (get_or (dealt places order i) j 0) ≡ i)
-  dealt_here i = part_all home order i (λ a. a < length n.nodes) known
+  dealt_here i = part_all home order i (λ a. a < length n.nodes) laid.known
 
   -- how often the seat's list names the stand of a node
   named : (a : ℕ) (e : Seat A T S) (d : Stand A T S) → a < length n.nodes →
@@ -84,14 +90,14 @@ module _ {A S T : Type 0} (s : Steps A S T) (n : Netlist A T) (good : IsNet s n)
       times_map stand a (dealt places order (home a))
       (λ j h same. let is = dealt_here (home a) j h in
       one (get_or (dealt places order (home a)) j 0) a e d is.0 l is.1 same) ∙
-      (part_times home order (home a) a refl ∙ counts a l)
+      (part_times home order (home a) a refl ∙ laid.counts a l)
 
   module _ (i : ℕ) (e : Seat A T S) (inside : i < length seats) where
     abbrev x : Seat A T S
     x = get_or seats i e
 
-    begun : IsBegun s n inputs asked ps xs places order i x
-    begun = each i e inside
+    begun : IsBegun s n inputs asked laid.ps laid.xs places order i x
+    begun = laid.each i e inside
 
     -- a stand is a node's
     at_stand : (k : ℕ) (d : Stand A T S) → k < length x.stands.items →
@@ -104,8 +110,8 @@ module _ {A S T : Type 0} (s : Steps A S T) (n : Netlist A T) (good : IsNet s n)
     counted k d h =
         let o = at_stand k d h in
         let a : ℕ = o.0 in
-        let b : HasBegun s n inputs asked ps xs a (get_or x.stands.items k d) =
-        subst (λ m. HasBegun s n inputs asked ps xs a (get_or x.stands.items m d)) o.3
+        let b : HasBegun s n inputs asked laid.ps laid.xs a (get_or x.stands.items k d) =
+        subst (λ m. HasBegun s n inputs asked laid.ps laid.xs a (get_or x.stands.items m d)) o.3
         (begun.stands_are.here a d o.1 o.2) in
         let whole : times_between k x.left x.next (length x.left) ≡ times x.left k =
         times_all x.left x.next k begun.first in
@@ -144,16 +150,16 @@ module _ {A S T : Type 0} (s : Steps A S T) (n : Netlist A T) (good : IsNet s n)
   -- the ends of a channel are those that were opened
   module _ (c : ℕ) (e : Seat A T S) (d : Stand A T S) (v : Consumer T Global AnyItems) (w : Producer T Global AnyItems)
       (l : c < length n.wires) where
-    ring : HasRing s n cap c ps xs
-    ring = rings.each c l
+    ring : HasRing s n cap c laid.ps laid.xs
+    ring = laid.rings.each c l
 
     producer_is : producer_of n seats places e d w c ≡ ring.producer
     producer_is = same_Some (producer_of n seats places e d w c) ring.producer
-        (sym ((here (wire n c).from.0 e d (good.from_in c l).0).outs_are c w l refl) ∙ ring.puts)
+        (sym ((here (wire n c).from.0 e d (laid.good.from_in c l).0).outs_are c w l refl) ∙ ring.puts)
 
     consumer_is : consumer_of n seats places e d v c ≡ ring.consumer
     consumer_is = same_Some (consumer_of n seats places e d v c) ring.consumer
-        (sym ((here (wire n c).to.0 e d (good.to_in c l).0).ins_are c v l refl) ∙ ring.takes)
+        (sym ((here (wire n c).to.0 e d (laid.good.to_in c l).0).ins_are c v l refl) ∙ ring.takes)
 
     is_met : IsMet (producer_of n seats places e d w c) (consumer_of n seats places e d v c)
     is_met = subst (λ p. IsMet p (consumer_of n seats places e d v c)) (sym producer_is)
@@ -164,10 +170,10 @@ module _ {A S T : Type 0} (s : Steps A S T) (n : Netlist A T) (good : IsNet s n)
 
   pub are_rings : AreRings s (record { net = n; inputs = inputs; seats = seats; places = places })
   are_rings = record {
-    is_net = good;
+    is_net = laid.good;
     each = is_seat;
     placed = placed;
-    paired = record { all = all; pair = λ c e d v w l. (is_met c e d v w l).pair };
+    paired = record { all = laid.all; pair = λ c e d v w l. (is_met c e d v w l).pair };
   }
 
   pub is_planned : IsAdmissible (wiring s n).rates order → FitsIn (wiring s n).rates cap order →
@@ -176,13 +182,13 @@ module _ {A S T : Type 0} (s : Steps A S T) (n : Netlist A T) (good : IsNet s n)
     admissible = admissible;
     fits = fits;
     asks = record {
-      lists = λ i e h. (each i e h).left_is;
-      asked = λ a e d l. (here a e d l).asked_is ∙ sym (counts a l);
+      lists = λ i e h. (laid.each i e h).left_is;
+      asked = λ a e d l. (here a e d l).asked_is ∙ sym (laid.counts a l);
     };
     capacities = λ c e d w l.
-        let r = rings.each c l in
+        let r = laid.rings.each c l in
         let same = same_Some (producer_of n seats places e d w c) r.producer
-        (sym ((here (wire n c).from.0 e d (good.from_in c l).0).outs_are c w l refl) ∙ r.puts) in
+        (sym ((here (wire n c).from.0 e d (laid.good.from_in c l).0).outs_are c w l refl) ∙ r.puts) in
         subst (λ p. IsRoomOf (wiring s n).rates cap c (producer_capacity p)) (sym same) r.room;
   }
 

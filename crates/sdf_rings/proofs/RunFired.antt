@@ -21,7 +21,7 @@ use Rattle.sdf_actor.specs.declared.node.Node.{Node}
 use Rattle.sdf_actor.specs.declared.sides.Side.{Side}
 use Rattle.sdf_actor.specs.declared.sides.Side.TheVariants.{Input, Output}
 use Rattle.sdf_node.specs.Laws.{BlocksJoin, NodesKeepPhase, NodesCanStepMany}
-use Rattle.sdf_node.specs.Many.{nth_block, listed, joined, AreWhole, CanStepMany}
+use Rattle.sdf_node.specs.Many.{nth_block, listed, joined, AreFullBlocks, CanStepMany}
 use Rattle.sdf_node.specs.Nodes.{phase_at, takes_of, puts_of, IsAt}
 use Rattle.sdf_node.specs.declared.node.NodeState.{NodeState}
 use Rattle.sdf_answer.specs.Sizes.{sizes, phase_of, at_phase, AreRows}
@@ -33,10 +33,10 @@ use Rattle.sdf_rings.specs.Ends.{Drew, Gave, DrewEach, GaveEach, HoldsEach, HasR
 use Rattle.sdf_rings.specs.Stands.{IsStand, HasMoved}
 use Rattle.sdf_rings.specs.Together.{GoesInRuns, CanRun}
 use Rattle.sdf_rings.proofs.Blocks.{block_in}
-use Rattle.sdf_rings.proofs.Deals.{start_at_same, start_at_all}
+use Rattle.sdf_rings.proofs.Spreads.{start_at_same, start_at_all}
 use Rattle.sdf_rings.specs.FiringLaws.{FiringLaws}
 use Rattle.sdf_rings.proofs.Knowing.{length_taken_before}
-use Rattle.sdf_rings.proofs.Onward.{HasGoneOn, gone_on}
+use Rattle.sdf_rings.proofs.Onward.{stand_after, HasGoneOn, gone_on}
 use Rattle.sdf_rings.proofs.RunEnds.{same_joined, few_kept}
 use Rattle.sdf_rings.proofs.Standing.{phase_is, row_all, row_size, row_sum, row_part}
 use Rattle.sdf_rings.proofs.PortBlocks.{sizes_taken, sizes_put, ins_long, consumed_in, produced_out}
@@ -136,7 +136,7 @@ module _ {A S T : Type 0} (s : Steps A S T) (laws : FiringLaws s) (join : Blocks
           ap length (get_or_push (taken_before (wiring s n) st.own x.actor k) (taken (wiring s n) st.own x.actor k) [] i
           (omega (arith, count))) ∙ last
 
-  pub whole : AreWhole s (node n x.actor) past
+  pub whole : AreFullBlocks s (node n x.actor) past
   whole = whole_to x.done (omega arith)
 
   pub past_long : length past ≡ x.done
@@ -262,7 +262,7 @@ module _ {A S T : Type 0} (s : Steps A S T) (laws : FiringLaws s) (join : Blocks
       (moved : (all : ℕ) (past : List (List T)) → IsAt s inputs all (node n x.actor) past x.state →
       IsAt s inputs all (node n x.actor) (past ++ listed (nth_block (takes_of s (node n x.actor) 0) t) many) w)
       (puts : (all : ℕ) (past : List (List T)) → IsAt s inputs all (node n x.actor) past x.state →
-      AreWhole s (node n x.actor) past → (i : ℕ) → i < many →
+      AreFullBlocks s (node n x.actor) past → (i : ℕ) → i < many →
       nth_block (puts_of s (node n x.actor) 0) b i ≡
       answer_of s inputs (node n x.actor) (past ++ listed (nth_block (takes_of s (node n x.actor) 0) t) i)
       (nth_block (takes_of s (node n x.actor) 0) t i)) where
@@ -300,30 +300,7 @@ module _ {A S T : Type 0} (s : Steps A S T) (laws : FiringLaws s) (join : Blocks
         (λ i. block_of h p (nth_block (puts_of s (node n x.actor) 0) b i)) many) →
         vec_len ins ≡ vec_len x.ins → vec_len outs ≡ vec_len x.outs → length tv.items ≡ length x.taken.items →
         length pv.items ≡ length x.put.items →
-        IsStand s n inputs (record {
-          actor = x.actor;
-          state = w;
-          ins = ins;
-          outs = outs;
-          takes = x.takes;
-          puts = x.puts;
-          taken = tv;
-          put = pv;
-          done = x.done + many;
-          asked = x.asked;
-        }) ×
-        HasMoved s n x (record {
-          actor = x.actor;
-          state = w;
-          ins = ins;
-          outs = outs;
-          takes = x.takes;
-          puts = x.puts;
-          taken = tv;
-          put = pv;
-          done = x.done + many;
-          asked = x.asked;
-        })
+        IsStand s n inputs (stand_after x many w ins outs tv pv) × HasMoved s n x (stand_after x many w ins outs tv pv)
     run_fired ins outs tv pv drew gave ins_is outs_is tv_is pv_is =
         gone_on s laws n good inputs x st many can.left more.0
         (λ p. joined (λ i. block_of g p (nth_block (takes_of s (node n x.actor) 0) t i)) many)

@@ -9,7 +9,7 @@ use Rattle.sdf_actor.specs.declared.sides.Side.TheVariants.{Input, Output}
 use Rattle.sdf_node.specs.Many.{listed, joined}
 use Rattle.sdf_answer.specs.Sizes.{sizes}
 use Rattle.sdf_rings.specs.Blocks.{start_at, block_of}
-use Rattle.sdf_rings.proofs.Deals.{start_at_same, block_same}
+use Rattle.sdf_rings.proofs.Spreads.{start_at_same, block_same}
 use Rattle.sdf_rings.specs.FiringLaws.{FiringLaws}
 use Rattle.sdf_rings.proofs.Knowing.{IsOneMore, one_more}
 use Rattle.sdf_rings.proofs.PortBlocks.{outs_long, out_block, port_of}

@@ -13,7 +13,7 @@ use Rattle.sdf_actor.specs.Nets.{Netlist, wire}
 use Rattle.sdf_rings.specs.declared.stand.Stand.{Stand}
 use Rattle.sdf_rings.specs.declared.seat.Seat.{Seat}
 use Rattle.sdf_rings.specs.Openings.{end_at, HasEnds}
-use Rattle.sdf_rings.specs.Begun.{place, standing, AreNext, HasBegun, AreBegun, IsBegun}
+use Rattle.sdf_rings.specs.Begun.{place, standing, AreNext, HasBegun, AreBegun, IsBegun, HaveBegun}
 use Rattle.sdf_rings.proofs.Lists.{push_each}
 
 -- the ends at a node are there where they are as they were
@@ -158,7 +158,7 @@ module _ {A S T : Type 0} (s : Steps A S T) (n : Netlist A T) (inputs : List (Li
       -- the seats below i are begun, and the ends at the others are as they were
       pub record AreFilled (i : ℕ) (seats : List (Seat A T S)) (qs : List (Option (Producer T Global AnyItems)))
           (ys : List (Option (Consumer T Global AnyItems))) : Type 0 where
-        pub each : (k : ℕ) (e : Seat A T S) → k < i → IsBegun s n inputs asked ps xs places order k (get_or seats k e)
+        pub each : HaveBegun s n inputs asked ps xs places order i seats
         pub producers : (c : ℕ) → i ≤ (place places (wire n c).from.0).0 → end_at qs c ≡ end_at ps c
         pub consumers : (c : ℕ) → i ≤ (place places (wire n c).to.0).0 → end_at ys c ≡ end_at xs c
 

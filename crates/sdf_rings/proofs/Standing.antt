@@ -19,7 +19,7 @@ use Rattle.sdf_rings.specs.Blocks.{start_at, block_of}
 use Rattle.sdf_rings.specs.Ends.{Drew, Gave, DrewEach, GaveEach, HoldsEach, HasRoomEach}
 use Rattle.sdf_answer.specs.Sizes.{sizes, at_phase, AreRows}
 use Rattle.sdf_rings.specs.Stands.{IsStand}
-use Rattle.sdf_rings.proofs.Deals.{start_at_same, block_same}
+use Rattle.sdf_rings.proofs.Spreads.{start_at_same, block_same}
 use Rattle.sdf_rings.proofs.PortBlocks.{sizes_taken, sizes_put}
 use Rattle.sdf_rings.proofs.Knowing.{length_taken_before}
 

@@ -2,14 +2,14 @@
 use Rattle.std.proofs.Common.{◌≡◌, ◌≢◌, ℕ, ◌<◌, List, length, Vec, vec_len, slice_index_or, get_or-set_other, refl}
 use Rattle.std.proofs.Common.{arith, ◌∙◌, ap, ◌⊎◌, inl, inr}
 use Rattle.std.proofs.lemmas.Bool.Decides.{eqb_tells}
-use Rattle.std.specs.Vec.{with_item}
 use Rattle.std.specs.Global.{Global}
 use Rattle.rtrb.specs.declared.producer.Producer.{Producer}
 use Rattle.rtrb.specs.declared.consumer.Consumer.{Consumer}
 use Rattle.rtrb.specs.declared.AnyItems.{AnyItems}
 use Rattle.sdf_rings.specs.declared.stand.Stand.{Stand}
 use Rattle.sdf_rings.specs.declared.seat.Seat.{Seat}
-use Rattle.sdf_rings.specs.Places.{stand_at, SameSeat, SameStand, IsUpdated}
+use Rattle.sdf_rings.specs.declared.meet.Spot.{Spot}
+use Rattle.sdf_rings.specs.Places.{stand_at, producer_at, SameSeat, SameStand, IsUpdated, OnlyIns, OnlyProducer}
 
 pub same_place : (j l i k : ℕ) → ((j ≡ i) × (l ≡ k)) ⊎ ((j ≡ i) × (l ≡ k) → ⊥)
 same_place j l i k =
@@ -68,6 +68,41 @@ module _ {A T S : Type 0} where
     stands_same = q.stands_same ∙ p.stands_same;
   }
 
+  ends_same : (x : Stand A T S) → ButEnds x x
+  ends_same x = record {
+    actor_is = refl;
+    state_is = refl;
+    takes_is = refl;
+    puts_is = refl;
+    taken_is = refl;
+    put_is = refl;
+    done_is = refl;
+    asked_is = refl;
+  }
+
+  ends_other : (x : Stand A T S) (ins : Vec (Consumer T Global AnyItems) Global)
+      (outs : Vec (Producer T Global AnyItems) Global) → ButEnds x (record x { ins = ins; outs = outs })
+  ends_other x ins outs = record {
+    actor_is = refl;
+    state_is = refl;
+    takes_is = refl;
+    puts_is = refl;
+    taken_is = refl;
+    put_is = refl;
+    done_is = refl;
+    asked_is = refl;
+  }
+
+  -- where one stand is changed, what ties it to what it was, and each stand to itself, ties each to what it was
+  each_stand : (R : Stand A T S → Stand A T S → Type 0) → ((x : Stand A T S) → R x x) → (old new : List (Seat A T S))
+      (i k : ℕ) (x : Stand A T S) (e : Seat A T S) (d : Stand A T S) → R (stand_at old i k e d) x →
+      IsUpdated old new i k x → (j l : ℕ) → R (stand_at old j l e d) (stand_at new j l e d)
+  each_stand R same old new i k x e d here u j l =
+      elim (same_place j l i k) as (λ _. R (stand_at old j l e d) (stand_at new j l e d)) [
+        | inl h ↦ rw (h.0, h.1, u.here e d) here
+        | inr h ↦ rw (u.others j l e d h) (same (stand_at old j l e d))
+      ]
+
   -- other consumers came on a stand
   pub record InsChanged (old new : List (Seat A T S)) (i k : ℕ)
       (v : Vec (Consumer T Global AnyItems) Global) : Type 0 where
@@ -78,96 +113,41 @@ module _ {A T S : Type 0} where
     pub ins_other : (j l : ℕ) (e : Seat A T S) (d : Stand A T S) → ((j ≡ i) × (l ≡ k) → ⊥) →
         (stand_at new j l e d).ins ≡ (stand_at old j l e d).ins
 
-  pub ins_changed : (old new : List (Seat A T S)) (i k : ℕ) (v : Vec (Consumer T Global AnyItems) Global)
-      → ((e : Seat A T S) (d : Stand A T S) → IsUpdated old new i k (record (stand_at old i k e d) { ins = v })) →
-      InsChanged old new i k v
+  pub ins_changed : (old new : List (Seat A T S)) (i k : ℕ) (v : Vec (Consumer T Global AnyItems) Global) →
+      OnlyIns old new i k v → InsChanged old new i k v
   ins_changed old new i k v u = record {
-    but = λ j l e d. elim (same_place j l i k) as (λ _. ButEnds (stand_at old j l e d) (stand_at new j l e d)) [
-      | inl h ↦ rw (h.0, h.1, (u e d).here e d) (record {
-        actor_is = refl;
-        state_is = refl;
-        takes_is = refl;
-        puts_is = refl;
-        taken_is = refl;
-        put_is = refl;
-        done_is = refl;
-        asked_is = refl;
-      })
-      | inr h ↦ rw ((u e d).others j l e d h) (record {
-        actor_is = refl;
-        state_is = refl;
-        takes_is = refl;
-        puts_is = refl;
-        taken_is = refl;
-        put_is = refl;
-        done_is = refl;
-        asked_is = refl;
-      })
-    ];
-    outs_is = λ j l e d. elim (same_place j l i k) as (λ _. (stand_at new j l e d).outs ≡ (stand_at old j l e d).outs) [
-      | inl h ↦ rw (h.0, h.1, (u e d).here e d) refl
-      | inr h ↦ rw ((u e d).others j l e d h) refl
-    ];
+    but = λ j l e d. each_stand (λ x y. ButEnds x y) ends_same old new i k _ e d
+        (ends_other (stand_at old i k e d) v (stand_at old i k e d).outs) (u e d) j l;
+    outs_is = λ j l e d. each_stand (λ x y. y.outs ≡ x.outs) (λ x. refl) old new i k _ e d refl (u e d) j l;
     ins_here = λ e d. rw ((u e d).here e d) refl;
     ins_other = λ j l e d h. rw ((u e d).others j l e d h) refl;
   }
 
-  -- another producer came on a stand
-  pub record OutChanged (old new : List (Seat A T S)) (i k port : ℕ) : Type 0 where
+  -- another producer came to a place
+  pub record OutChanged (old new : List (Seat A T S)) (at : Spot) : Type 0 where
     pub but : (j l : ℕ) (e : Seat A T S) (d : Stand A T S) → ButEnds (stand_at old j l e d) (stand_at new j l e d)
     pub ins_is : (j l : ℕ) (e : Seat A T S) (d : Stand A T S) → (stand_at new j l e d).ins ≡ (stand_at old j l e d).ins
     pub outs_len : (j l : ℕ) (e : Seat A T S) (d : Stand A T S) →
         vec_len (stand_at new j l e d).outs ≡ vec_len (stand_at old j l e d).outs
-    pub out_other : (j l p : ℕ) (e : Seat A T S) (d : Stand A T S) (y : Producer T Global AnyItems) →
-        ((j ≡ i) × (l ≡ k) × (p ≡ port) → ⊥) → slice_index_or (stand_at new j l e d).outs.items p y ≡
-        slice_index_or (stand_at old j l e d).outs.items p y
+    pub out_other : (q : Spot) (e : Seat A T S) (d : Stand A T S) (y : Producer T Global AnyItems) →
+        ((q.seat ≡ at.seat) × (q.stand ≡ at.stand) × (q.port ≡ at.port) → ⊥) →
+        producer_at new q e d y ≡ producer_at old q e d y
 
-  pub out_changed : (old new : List (Seat A T S)) (i k port : ℕ)
-      → ((e : Seat A T S) (d : Stand A T S) (x : Producer T Global AnyItems) →
-      IsUpdated old new i k (record (stand_at old i k e d) {
-        outs = with_item (stand_at old i k e d).outs port
-            (slice_index_or (stand_at new i k e d).outs.items port x);
-      }))
-      → Producer T Global AnyItems
-      → OutChanged old new i k port
-  out_changed old new i k port u x0 = record {
-    but = λ j l e d. elim (same_place j l i k) as (λ _. ButEnds (stand_at old j l e d) (stand_at new j l e d)) [
-      | inl h ↦ rw (h.0, h.1, (u e d x0).here e d) (record {
-        actor_is = refl;
-        state_is = refl;
-        takes_is = refl;
-        puts_is = refl;
-        taken_is = refl;
-        put_is = refl;
-        done_is = refl;
-        asked_is = refl;
-      })
-      | inr h ↦ rw ((u e d x0).others j l e d h) (record {
-        actor_is = refl;
-        state_is = refl;
-        takes_is = refl;
-        puts_is = refl;
-        taken_is = refl;
-        put_is = refl;
-        done_is = refl;
-        asked_is = refl;
-      })
-    ];
-    ins_is = λ j l e d. elim (same_place j l i k) as (λ _. (stand_at new j l e d).ins ≡ (stand_at old j l e d).ins) [
-      | inl h ↦ rw (h.0, h.1, (u e d x0).here e d) refl
-      | inr h ↦ rw ((u e d x0).others j l e d h) refl
-    ];
-    outs_len = λ j l e d. elim (same_place j l i k) as (λ _. vec_len (stand_at new j l e d).outs ≡
-        vec_len (stand_at old j l e d).outs) [
-          | inl h ↦ rw (h.0, h.1) (ap (λ (s : Stand A T S). vec_len s.outs) ((u e d x0).here e d))
-          | inr h ↦ rw ((u e d x0).others j l e d h) refl
-        ];
-    out_other = λ j l p e d y apart. elim (same_place j l i k) as (λ _. slice_index_or (stand_at new j l e d).outs.items
-        p y ≡ slice_index_or (stand_at old j l e d).outs.items p y) [
-          | inl h ↦ let ne : p ≢ port = λ z. apart (h.0, h.1, z) in
-              rw (h.0, h.1) (ap (λ (s : Stand A T S). slice_index_or s.outs.items p y) ((u e d x0).here e d)
-              ∙ get_or-set_other (stand_at old i k e d).outs.items port p
-              (slice_index_or (stand_at new i k e d).outs.items port x0) y ne)
-          | inr h ↦ rw ((u e d x0).others j l e d h) refl
+  pub out_changed : (old new : List (Seat A T S)) (at : Spot) → OnlyProducer old new at → Producer T Global AnyItems →
+      OutChanged old new at
+  out_changed old new at u y0 = record {
+    but = λ j l e d. each_stand (λ x y. ButEnds x y) ends_same old new at.seat at.stand _ e d
+        (ends_other (stand_at old at.seat at.stand e d) (stand_at old at.seat at.stand e d).ins _) (u e d y0) j l;
+    ins_is = λ j l e d. each_stand (λ x y. y.ins ≡ x.ins) (λ x. refl) old new at.seat at.stand _ e d refl
+        (u e d y0) j l;
+    outs_len = λ j l e d. each_stand (λ x y. vec_len y.outs ≡ vec_len x.outs) (λ x. refl) old new at.seat at.stand _ e d
+        refl (u e d y0) j l;
+    out_other = λ q e d y apart. elim (same_place q.seat q.stand at.seat at.stand) as (λ _. producer_at new q e d y ≡
+        producer_at old q e d y) [
+          | inl h ↦ let ne : q.port ≢ at.port = λ z. apart (h.0, h.1, z) in
+              rw (h.0, h.1) (ap (λ (s : Stand A T S). slice_index_or s.outs.items q.port y) ((u e d y0).here e d)
+              ∙ get_or-set_other (stand_at old at.seat at.stand e d).outs.items at.port q.port
+              (producer_at new at e d y0) y ne)
+          | inr h ↦ rw ((u e d y0).others q.seat q.stand e d h) refl
         ];
   }

@@ -4,7 +4,7 @@ use Rattle.std.proofs.Common.{get_or-set_same, arith, ◌∙◌, ap, sym, inl, i
 use Rattle.std.proofs.lemmas.List.{get_or_default}
 use Rattle.std.specs.Vec.{with_item}
 use Rattle.std.specs.Global.{Global}
-use Rattle.rtrb.specs.Ring.{ConsumerLooked, ProducerLooked}
+use Rattle.rtrb.specs.Ring.{ConsumerLooked}
 use Rattle.rtrb.specs.declared.producer.Producer.{Producer}
 use Rattle.rtrb.specs.declared.consumer.Consumer.{Consumer}
 use Rattle.rtrb.specs.declared.AnyItems.{AnyItems}
@@ -12,7 +12,9 @@ use Rattle.sdf_rings.specs.declared.stand.Stand.{Stand}
 use Rattle.sdf_rings.specs.declared.seat.Seat.{Seat}
 use Rattle.sdf_rings.specs.declared.meet.Spot.{Spot}
 use Rattle.sdf_rings.specs.Ends.{IsMet}
-use Rattle.sdf_rings.specs.Places.{stand_at, IsUpdated, IsRing, IsTold, consumer_at}
+use Rattle.sdf_rings.specs.Places.{stand_at, consumer_at, HasStand, HoldsOfStand, HoldsOfProducer, OnlyIns}
+use Rattle.sdf_rings.specs.Places.{OnlyProducer}
+use Rattle.sdf_rings.specs.Places.{ProducerLookedAt, IsRing, IsTold}
 use Rattle.sdf_rings.proofs.Swaps.{ins_changed, out_changed, ends_join, seat_join_same, same_place, ButEnds, in_vec}
 use Rattle.sdf_rings.proofs.Swaps.{same_stand_of}
 
@@ -20,38 +22,31 @@ pub some : {X : Type 0} (xs : List X) (i : ℕ) → i < length xs → X
 some [] i h = absurd (omega arith)
 some (x ∷ xs) i h = x
 
+pub some_stand : {A T S : Type 0} (seats : List (Seat A T S)) (i k : ℕ) → HasStand seats i k → Seat A T S → Stand A T S
+some_stand seats i k has e = some (slice_index_or seats i e).stands.items k
+    (in_vec (slice_index_or seats i e).stands k (has e))
+
 module _ {A T S : Type 0} where
   pub told : (s0 s1 s2 s3 : List (Seat A T S)) (from to : Spot) (v0 v1 : Vec (Consumer T Global AnyItems) Global)
       (c c' : Consumer T Global AnyItems)
       → IsRing s0 from to
-      → ((e : Seat A T S) (d : Stand A T S) → IsUpdated s0 s1 to.seat to.stand
-      (record (stand_at s0 to.seat to.stand e d) { ins = v0 }))
-      → ((e : Seat A T S) (d : Stand A T S) → v1 ≡ (stand_at s0 to.seat to.stand e d).ins)
+      → OnlyIns s0 s1 to.seat to.stand v0
+      → HoldsOfStand (λ (x : Stand A T S). v1 ≡ x.ins) s0 to.seat to.stand
       → c ≡ slice_index_or v1.items to.port c
-      → ((e : Seat A T S) (d : Stand A T S) (x : Producer T Global AnyItems) →
-      IsUpdated s1 s2 from.seat from.stand (record (stand_at s1 from.seat from.stand e d) {
-        outs = with_item (stand_at s1 from.seat from.stand e d).outs from.port
-            (slice_index_or (stand_at s2 from.seat from.stand e d).outs.items from.port x);
-      }))
+      → OnlyProducer s1 s2 from
       → ConsumerLooked c c'
-      → ((e : Seat A T S) (d : Stand A T S) (x : Producer T Global AnyItems) →
-      ProducerLooked (slice_index_or (stand_at s1 from.seat from.stand e d).outs.items from.port x)
-      (slice_index_or (stand_at s2 from.seat from.stand e d).outs.items from.port x))
-      → ((e : Seat A T S) (d : Stand A T S) (x : Producer T Global AnyItems) →
-      IsMet (slice_index_or (stand_at s2 from.seat from.stand e d).outs.items from.port x) c')
-      → ((e : Seat A T S) (d : Stand A T S) → IsUpdated s2 s3 to.seat to.stand
-      (record (stand_at s2 to.seat to.stand e d) { ins = with_item v1 to.port c' }))
+      → ProducerLookedAt s1 s2 from
+      → HoldsOfProducer (λ (y : Producer T Global AnyItems). IsMet y c') s2 from
+      → OnlyIns s2 s3 to.seat to.stand (with_item v1 to.port c')
       → IsTold s0 s3 from to
   told s0 s1 s2 s3 from to v0 v1 c c' ring u1 had is u2 looked plooked met u3 =
       let e0 = some s0 to.seat ring.takes_there.seat_in in
-      let d0 = some (slice_index_or s0 to.seat e0).stands.items to.stand
-      (in_vec (slice_index_or s0 to.seat e0).stands to.stand (ring.takes_there.stand_in e0)) in
-      let f0 = some (slice_index_or s0 from.seat e0).stands.items from.stand
-      (in_vec (slice_index_or s0 from.seat e0).stands from.stand (ring.puts_there.stand_in e0)) in
+      let d0 = some_stand s0 to.seat to.stand ring.takes_there.stand_in e0 in
+      let f0 = some_stand s0 from.seat from.stand ring.puts_there.stand_in e0 in
       let y0 = some (stand_at s0 from.seat from.stand e0 f0).outs.items from.port
       (in_vec (stand_at s0 from.seat from.stand e0 f0).outs from.port (ring.puts_there.port_in e0 f0)) in
       let a = ins_changed s0 s1 to.seat to.stand v0 u1 in
-      let b = out_changed s1 s2 from.seat from.stand from.port u2 y0 in
+      let b = out_changed s1 s2 from u2 y0 in
       let z = ins_changed s2 s3 to.seat to.stand (with_item v1 to.port c') u3 in
       let but : (j l : ℕ) (e : Seat A T S) (d : Stand A T S) → ButEnds (stand_at s0 j l e d) (stand_at s3 j l e d) =
       λ j l e d. ends_join _ _ _ (ends_join _ _ _ (a.but j l e d) (b.but j l e d)) (z.but j l e d) in
@@ -100,5 +95,5 @@ module _ {A T S : Type 0} where
                   (z.ins_other q.seat q.stand e d h ∙ b.ins_is q.seat q.stand e d ∙ a.ins_other q.seat q.stand e d h)
             ];
         other_producers = λ q e d y apart. outs q.seat q.stand q.port e d y
-            ∙ b.out_other q.seat q.stand q.port e d y apart ∙ outs1 q.seat q.stand q.port e d y;
+            ∙ b.out_other q e d y apart ∙ outs1 q.seat q.stand q.port e d y;
       }

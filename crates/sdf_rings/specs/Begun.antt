@@ -12,7 +12,7 @@ use Rattle.sdf_actor.specs.Nets.{Netlist, wire, node, wiring, inputs_of, outputs
 use Rattle.sdf_actor.specs.Wires.{lists}
 use Rattle.sdf_node.specs.Nodes.{CanBegin}
 use Rattle.sdf_answer.specs.Sizes.{AreSizes}
-use Rattle.sdf_rings.specs.declared.setup.deals.Deal.{Deal}
+use Rattle.sdf_rings.specs.declared.setup.roster.Roster.{Roster}
 use Rattle.sdf_rings.specs.declared.setup.stands.Start.{Start}
 use Rattle.sdf_rings.specs.declared.stand.Stand.{Stand}
 use Rattle.sdf_rings.specs.declared.seat.Seat.{Seat}
@@ -32,9 +32,9 @@ standing places seat = count_by (λ p. p.0 == seat) places
 abbrev pub AreNext : List (ℕ × ℕ) → Type 0
 AreNext places = (a : ℕ) → a < length places → (place places a).1 ≡ standing (take a places) (place places a).0
 
--- each firing to be dealt out is one of a node that stands somewhere
-abbrev pub IsDeal : Deal → Type 0
-IsDeal d = (i : ℕ) → i < length d.order.now → slice_index d.order.now i < length d.places.now
+-- each firing is one of a node that stands somewhere
+abbrev pub IsRoster : Roster → Type 0
+IsRoster r = (i : ℕ) → i < length r.order.now → slice_index r.order.now i < length r.places.now
 
 -- each node can do the firings that are asked of it, where a sink has so much room, and there are samples to fill
 -- blocks with where any is asked
@@ -91,3 +91,8 @@ module _ {A S T : Type 0} (s : Steps A S T) (n : Netlist A T) (inputs : List (Li
     pub first : x.next ≡ 0
     pub stands_are : AreBegun places i x.stands.items
     pub left_is : x.left ≡ map (λ a. (place places a).1) (dealt places order i)
+
+  -- the first so many seats before their first firing
+  abbrev pub HaveBegun : List (ℕ × ℕ) → List ℕ → ℕ → List (Seat A T S) → Type 0
+  HaveBegun places order many seats = (i : ℕ) (e : Seat A T S) → i < many →
+      IsBegun places order i (slice_index_or seats i e)

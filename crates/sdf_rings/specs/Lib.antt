@@ -4,6 +4,7 @@ pub mod Pair
 pub mod Blocks
 pub mod RunBlocks
 pub mod Ends
+pub mod Changes
 pub mod FiringLaws
 pub mod Stands
 pub mod Seats

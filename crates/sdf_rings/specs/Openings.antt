@@ -26,6 +26,11 @@ pub record IsGreatestOf (xs : List ℕ) (m : ℕ) : Type 0 where
 abbrev pub end_at : {E : Type 0} → List (Option E) → ℕ → Option E
 end_at ends c = slice_index_or ends c None
 
+-- these are the ends at some numbers, in order
+abbrev pub AreEndsAt : {E : Type 0} → List (Option E) → List ℕ → List E → Type 0
+AreEndsAt {E} ends numbers taken = (i : ℕ) (d : E) → i < length numbers →
+    end_at ends (slice_index numbers i) ≡ Some (slice_index_or taken i d)
+
 -- the ring of channel c is open
 pub record HasRing {A S T : Type 0} (s : Steps A S T) (n : Netlist A T) (cap : ℕ → ℕ) (c : ℕ)
     (producers : List (Option (Producer T Global AnyItems)))

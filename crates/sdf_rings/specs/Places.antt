@@ -1,5 +1,7 @@
 -- Where ends of rings stand.
 use Rattle.std.specs.Prelude.{ℕ, ◌≡◌, ◌<◌, List, length, vec_len, slice_index_or}
+use Rattle.std.specs.Vec.{with_item}
+use Rattle.std.specs.declared.vec.Vec.{Vec}
 use Rattle.sdf_rings.specs.declared.stand.Stand.{Stand}
 use Rattle.sdf_rings.specs.declared.seat.Seat.{Seat}
 use Rattle.sdf_rings.specs.declared.meet.Spot.{Spot}
@@ -13,6 +15,14 @@ use Rattle.sdf_rings.specs.Ends.{IsMet}
 module _ {A T S : Type 0} where
   abbrev pub stand_at : List (Seat A T S) → ℕ → ℕ → Seat A T S → Stand A T S → Stand A T S
   stand_at seats i k e d = slice_index_or (slice_index_or seats i e).stands.items k d
+
+  -- seat i has a stand k
+  abbrev pub HasStand : List (Seat A T S) → ℕ → ℕ → Type 0
+  HasStand seats i k = (e : Seat A T S) → k < vec_len (slice_index_or seats i e).stands
+
+  -- P holds of stand k of seat i
+  abbrev pub HoldsOfStand : (Stand A T S → Type 0) → List (Seat A T S) → ℕ → ℕ → Type 0
+  HoldsOfStand P seats i k = (e : Seat A T S) (d : Stand A T S) → P (stand_at seats i k e d)
 
   -- all but what is on the stands
   pub record SameSeat (s t : Seat A T S) : Type 0 where
@@ -29,6 +39,14 @@ module _ {A T S : Type 0} where
     pub others : (j l : ℕ) (e : Seat A T S) (d : Stand A T S) → ((j ≡ i) × (l ≡ k) → ⊥) →
         stand_at new j l e d ≡ stand_at old j l e d
 
+  -- nothing but stand k of seat i is changed
+  abbrev pub OnlyStand : List (Seat A T S) → List (Seat A T S) → ℕ → ℕ → Type 0
+  OnlyStand old new i k = HoldsOfStand (IsUpdated old new i k) new i k
+
+  -- nothing but the consumers of stand k of seat i is changed, and they are v now
+  abbrev pub OnlyIns : List (Seat A T S) → List (Seat A T S) → ℕ → ℕ → Vec (Consumer T Global AnyItems) Global → Type 0
+  OnlyIns old new i k v = HoldsOfStand (λ x. IsUpdated old new i k (record x { ins = v })) old i k
+
   abbrev pub consumer_at : List (Seat A T S) → Spot → Seat A T S → Stand A T S → Consumer T Global AnyItems →
       Consumer T Global AnyItems
   consumer_at seats q e d x = slice_index_or (stand_at seats q.seat q.stand e d).ins.items q.port x
@@ -36,6 +54,28 @@ module _ {A T S : Type 0} where
   abbrev pub producer_at : List (Seat A T S) → Spot → Seat A T S → Stand A T S → Producer T Global AnyItems →
       Producer T Global AnyItems
   producer_at seats q e d x = slice_index_or (stand_at seats q.seat q.stand e d).outs.items q.port x
+
+  -- P holds of the consumer at a place
+  abbrev pub HoldsOfConsumer : (Consumer T Global AnyItems → Type 0) → List (Seat A T S) → Spot → Type 0
+  HoldsOfConsumer P seats q = (e : Seat A T S) (d : Stand A T S) (x : Consumer T Global AnyItems) →
+      P (consumer_at seats q e d x)
+
+  -- P holds of the producer at a place
+  abbrev pub HoldsOfProducer : (Producer T Global AnyItems → Type 0) → List (Seat A T S) → Spot → Type 0
+  HoldsOfProducer P seats q = (e : Seat A T S) (d : Stand A T S) (y : Producer T Global AnyItems) →
+      P (producer_at seats q e d y)
+
+  -- the producer at a place looked for room
+  abbrev pub ProducerLookedAt : List (Seat A T S) → List (Seat A T S) → Spot → Type 0
+  ProducerLookedAt old new q = (e : Seat A T S) (d : Stand A T S) (y : Producer T Global AnyItems) →
+      ProducerLooked (producer_at old q e d y) (producer_at new q e d y)
+
+  -- nothing but the producer at a place is changed
+  abbrev pub OnlyProducer : List (Seat A T S) → List (Seat A T S) → Spot → Type 0
+  OnlyProducer old new q = (e : Seat A T S) (d : Stand A T S) (y : Producer T Global AnyItems) →
+      IsUpdated old new q.seat q.stand (record (stand_at old q.seat q.stand e d) {
+        outs = with_item (stand_at old q.seat q.stand e d).outs q.port (producer_at new q e d y);
+      })
 
   -- all but the ends
   pub record SameStand (s t : Stand A T S) : Type 0 where
@@ -53,14 +93,14 @@ module _ {A T S : Type 0} where
   -- a place for a consumer
   pub record TakesAt (seats : List (Seat A T S)) (q : Spot) : Type 0 where
     pub seat_in : q.seat < length seats
-    pub stand_in : (e : Seat A T S) → q.stand < vec_len (slice_index_or seats q.seat e).stands
-    pub port_in : (e : Seat A T S) (d : Stand A T S) → q.port < vec_len (stand_at seats q.seat q.stand e d).ins
+    pub stand_in : HasStand seats q.seat q.stand
+    pub port_in : HoldsOfStand (λ x. q.port < vec_len x.ins) seats q.seat q.stand
 
   -- a place for a producer
   pub record PutsAt (seats : List (Seat A T S)) (q : Spot) : Type 0 where
     pub seat_in : q.seat < length seats
-    pub stand_in : (e : Seat A T S) → q.stand < vec_len (slice_index_or seats q.seat e).stands
-    pub port_in : (e : Seat A T S) (d : Stand A T S) → q.port < vec_len (stand_at seats q.seat q.stand e d).outs
+    pub stand_in : HasStand seats q.seat q.stand
+    pub port_in : HoldsOfStand (λ x. q.port < vec_len x.outs) seats q.seat q.stand
 
   -- the ring between two places
   pub record IsRing (seats : List (Seat A T S)) (from to : Spot) : Type 0 where
@@ -77,8 +117,7 @@ module _ {A T S : Type 0} where
         SameStand (stand_at old j l e d) (stand_at new j l e d)
     pub told_consumer : (e : Seat A T S) (d : Stand A T S) (x : Consumer T Global AnyItems) →
         ConsumerLooked (consumer_at old to e d x) (consumer_at new to e d x)
-    pub told_producer : (e : Seat A T S) (d : Stand A T S) (y : Producer T Global AnyItems) →
-        ProducerLooked (producer_at old from e d y) (producer_at new from e d y)
+    pub told_producer : ProducerLookedAt old new from
     pub met : (e : Seat A T S) (d : Stand A T S) (x : Consumer T Global AnyItems) (y : Producer T Global AnyItems) →
         IsMet (producer_at new from e d y) (consumer_at new to e d x)
     pub other_consumers : (q : Spot) (e : Seat A T S) (d : Stand A T S) (x : Consumer T Global AnyItems) →

@@ -1,5 +1,6 @@
 -- All ends in one hand: each node stands on one seat, and both ends of each ring know all of it.
-use Rattle.std.specs.Prelude.{ℕ, ◌≡◌, ◌<◌, List, [], length, drop, vec_len, slice_index_or, Option, Some, None}
+use Rattle.std.specs.Prelude.{ℕ, ◌≡◌, ◌<◌, List, [], All, length, drop, vec_len, slice_index_or, Option, Some, None}
+use Rattle.std.specs.declared.vec.Vec.{Vec}
 use Rattle.std.specs.Global.{Global}
 use Rattle.rtrb.specs.Ring.{sent, known_items, IsPair}
 use Rattle.rtrb.specs.declared.producer.Producer.{Producer}
@@ -8,6 +9,7 @@ use Rattle.rtrb.specs.declared.AnyItems.{AnyItems}
 use Rattle.sdf_actor.specs.Steps.{Steps}
 use Rattle.sdf_actor.specs.Histories.{taken_before}
 use Rattle.sdf_actor.specs.Nets.{Netlist, node, wire, wiring, IsNet, IsHistoryOf}
+use Rattle.sdf_actor.specs.declared.node.Node.TheVariants as kind
 use Rattle.sdf_actor.specs.declared.rest.Rest.{Rest}
 use Rattle.sdf_actor.specs.Wires.{lists}
 use Rattle.sdf_node.specs.Kept.{kept_of}
@@ -84,9 +86,19 @@ pub record InHand (A S T : Type 0) : Type 0 where
 
 pub record AreRings {A S T : Type 0} (s : Steps A S T) (r : InHand A S T) : Type 0 where
   pub is_net : IsNet s r.net
-  pub each : (i : ℕ) (e : Seat A T S) → i < length r.seats → IsSeat s r.net r.inputs (slice_index_or r.seats i e)
+  pub each : All (IsSeat s r.net r.inputs) r.seats
   pub placed : IsPlaced r.net r.seats r.places
   pub paired : HavePairs r.net r.seats r.places
+
+-- node a has done so many firings
+abbrev pub HasDone : {A S T : Type 0} → InHand A S T → ℕ → ℕ → Type 0
+HasDone {A} {S} {T} r a many = (e : Seat A T S) (d : Stand A T S) →
+    many ≡ (stand_of r.net r.seats r.places e d a).done
+
+-- channel c holds so many samples, by what the end that takes them knows
+abbrev pub HoldsSamples : {A S T : Type 0} → InHand A S T → ℕ → ℕ → Type 0
+HoldsSamples {A} {S} {T} r c many = (e : Seat A T S) (d : Stand A T S) (x : Consumer T Global AnyItems) →
+    many ≡ length (known_items (consumer_of r.net r.seats r.places e d x c))
 
 -- the place of an end of a link
 abbrev pub spot_of : List (ℕ × ℕ) → ℕ × ℕ → Spot
@@ -102,12 +114,29 @@ state_in (Source next) = None
 state_in (Sink list) = None
 state_in (Inner j state) = Some state
 
+-- the lists of the sinks among the first m nodes stand among the outputs, each at its number
+abbrev pub AreGiven : {A S T : Type 0} → Netlist A T → List (Seat A T S) → List (ℕ × ℕ) → ℕ → List (Vec T Global) →
+    Type 0
+AreGiven {A} {S} {T} n seats places m outputs =
+    (a ext block : ℕ) (made : Vec T Global) (e : Seat A T S) (d : Stand A T S) → a < m →
+    node n a ≡ kind.Sink ext block →
+    (stand_of n seats places e d a).state ≡ Sink made → slice_index_or (lists outputs) ext [] ≡ made.items
+
+-- these are the states of the actors, each at its node
+abbrev pub HoldStates : {A S T : Type 0} → Netlist A T → List (Seat A T S) → List (ℕ × ℕ) → List (Option S) → Type 0
+HoldStates {A} {S} {T} n seats places states = (a : ℕ) (e : Seat A T S) (d : Stand A T S) → a < length n.nodes →
+    slice_index_or states a None ≡ kept_of (node n a) (stand_of n seats places e d a).state
+
+-- these are the items that are known of each ring, at its channel
+abbrev pub HoldItems : {A S T : Type 0} → Netlist A T → List (Seat A T S) → List (ℕ × ℕ) → List (List T) → Type 0
+HoldItems {A} {S} {T} n seats places items =
+    (c : ℕ) (e : Seat A T S) (d : Stand A T S) (x : Consumer T Global AnyItems) → c < length n.wires →
+    slice_index_or items c [] ≡ known_items (consumer_of n seats places e d x c)
+
 -- a rest of what the seats hold: each actor's state, and the items that are known of each ring
 pub record HoldRest {A S T : Type 0} (n : Netlist A T) (seats : List (Seat A T S)) (places : List (ℕ × ℕ))
     (rest : Rest T S) : Type 0 where
   pub nodes : length rest.states.items ≡ length n.nodes
-  pub states_held : (a : ℕ) (e : Seat A T S) (d : Stand A T S) → a < length n.nodes →
-      slice_index_or rest.states.items a None ≡ kept_of (node n a) (stand_of n seats places e d a).state
+  pub states_held : HoldStates n seats places rest.states.items
   pub channels : length rest.held.items ≡ length n.wires
-  pub items_held : (c : ℕ) (e : Seat A T S) (d : Stand A T S) (x : Consumer T Global AnyItems) → c < length n.wires →
-      slice_index_or (lists rest.held.items) c [] ≡ known_items (consumer_of n seats places e d x c)
+  pub items_held : HoldItems n seats places (lists rest.held.items)

@@ -39,6 +39,10 @@ module _ {A S T : Type 0} (s : Steps A S T) (n : Netlist A T) where
         (slice_index_or y.stands.items k d).done ≡ (slice_index_or x.stands.items k d).done
         + times_between k x.left x.next y.next
 
+  -- nothing was done
+  abbrev pub HasIdled : Seat A T S → Seat A T S → Type 0
+  HasIdled x y = HasWorked x y × (y.next ≡ x.next)
+
   -- one worker's round: it ends where its list is empty or by what its ends know its first firing lacks samples or
   -- room, and does that where it was known to be possible
   pub record HasRounded (inputs : List (List T)) (x y : Seat A T S) : Type 0 where

@@ -1,17 +1,12 @@
 //! The lists of the sinks, when all is done.
 
-ghost use Rattle.std.specs.Prelude.{◌≡◌, ◌<◌, ℕ, [], length, vec_len, slice_index_or};
-ghost use Rattle.std.specs.declared.vec.Vec.{Vec};
-ghost use Rattle.std.specs.Global.{Global};
+ghost use Rattle.std.specs.Prelude.{◌≡◌, ◌<◌, ℕ, length};
 ghost use Rattle.sdf_actor.specs.declared.node.Node.TheVariants as kind;
 ghost use Rattle.sdf_actor.specs.declared.sides.Lists.TheVariants.{Outputs};
-ghost use Rattle.sdf_actor.specs.Nets.{node};
 ghost use Rattle.sdf_actor.specs.Sides.{list_count};
-ghost use Rattle.sdf_actor.specs.Wires.{lists};
 ghost use Rattle.sdf_node.specs.Collected.{IsCollected};
-ghost use Rattle.sdf_node.specs.declared.node.NodeState.TheVariants.{Sink};
-ghost use Rattle.sdf_rings.specs.Places.{stand_at, IsUpdated};
-ghost use Rattle.sdf_rings.specs.Rests.{stand_of, IsPlaced};
+ghost use Rattle.sdf_rings.specs.Places.{HasStand, HoldsOfStand, OnlyStand};
+ghost use Rattle.sdf_rings.specs.Rests.{IsPlaced, AreGiven};
 
 use crate::seat::Seat;
 use sdf_actor::{Actor, Net, Node};
@@ -27,11 +22,10 @@ fn collect_from<A: Actor>(
     outputs: &mut [Vec<A::Token>],
 )
     requires seat { seat < length seats.old }
-    requires stand { (e : _) → stand < vec_len (slice_index_or seats.old seat e).stands }
+    requires stand { HasStand seats.old seat stand }
     requires list { (ext block : ℕ) → node.now ≡ kind.Sink ext block → ext < length outputs.old }
-    ensures list { (e : _) (d : _) → IsCollected node.now (stand_at seats.old seat stand e d).state
-        outputs.old outputs.new }
-    ensures seats { (e : _) (d : _) → IsUpdated seats.old seats.new seat stand (stand_at seats.new seat stand e d) }
+    ensures list { HoldsOfStand (λ x. IsCollected node.now x.state outputs.old outputs.new) seats.old seat stand }
+    ensures seats { OnlyStand seats.old seats.new seat stand }
 {
     collect_at(node, &mut seats[seat].stands[stand].state, outputs);
 }
@@ -47,10 +41,7 @@ pub(crate) fn collect<A: Actor>(
     requires all { length places.now ≡ length net.now.nodes }
     requires outputs { length outputs.old ≡ list_count Outputs net.now.nodes }
     ensures count { length outputs.new ≡ length outputs.old }
-    ensures each { (a ext block : ℕ) (made : Vec A.Token Global) (e : _) (d : _) → a < length net.now.nodes →
-        node net.now a ≡ kind.Sink ext block →
-        (stand_of net.now seats.old places.now e d a).state ≡ Sink made →
-        slice_index_or (lists outputs.new) ext [] ≡ made.items }
+    ensures each { AreGiven net.now seats.old places.now (length net.now.nodes) outputs.new }
 {
     net_facts(net);
     for a in 0..net.len() {

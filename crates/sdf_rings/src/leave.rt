@@ -1,12 +1,10 @@
 //! What seats hold, when all is done: the states of their actors, and the samples in their rings.
 
-ghost use Rattle.std.specs.Prelude.{◌≡◌, ◌<◌, ℕ, List, None, [], length, slice_index_or, IfOk, OnOk};
+ghost use Rattle.std.specs.Prelude.{◌≡◌, List, length, IfOk, OnOk};
 ghost use Rattle.rtrb.specs.Ring.{known_items};
-ghost use Rattle.sdf_actor.specs.Nets.{node};
 ghost use Rattle.sdf_actor.specs.Wires.{lists};
-ghost use Rattle.sdf_node.specs.Kept.{kept_of};
-ghost use Rattle.sdf_rings.specs.Places.{TakesAt, SameButEnds, IsEmptied, consumer_at};
-ghost use Rattle.sdf_rings.specs.Rests.{stand_of, consumer_of, IsPlaced, AreRings, HoldRest};
+ghost use Rattle.sdf_rings.specs.Places.{TakesAt, HoldsOfConsumer, SameButEnds, IsEmptied};
+ghost use Rattle.sdf_rings.specs.Rests.{IsPlaced, AreRings, HoldStates, HoldItems, HoldRest};
 
 use crate::meet::{Spot, end_at, swap_ins};
 use crate::seat::Seat;
@@ -25,8 +23,7 @@ fn states_of<A: Actor>(
     requires placed { IsPlaced net.now seats.now places.now }
     requires all { length places.now ≡ length net.now.nodes }
     ensures all { IfOk result (λ v. length v.items ≡ length net.now.nodes) }
-    ensures each { IfOk result (λ v. (a : ℕ) (e : _) (d : _) → a < length net.now.nodes →
-        slice_index_or v.items a None ≡ kept_of (node net.now a) (stand_of net.now seats.now places.now e d a).state) }
+    ensures each { IfOk result (λ v. HoldStates net.now seats.now places.now v.items) }
 {
     let mut states = Vec::with_capacity(alloc, net.len())?;
     for a in 0..net.len() {
@@ -55,8 +52,7 @@ fn empty_at<A: Actor>(
     at: Spot,
 ) -> Result<Vec<A::Token>, AllocError>
     requires there { TakesAt seats.old at }
-    ensures items { IfOk result (λ v. (e : _) (d : _) (x : _) →
-        v.items ≡ known_items (consumer_at seats.old at e d x)) }
+    ensures items { IfOk result (λ v. HoldsOfConsumer (λ x. v.items ≡ known_items x) seats.old at) }
     ensures kept { OnOk result (IsEmptied seats.old seats.new at) }
 {
     let mut ins = Vec::new(alloc);
@@ -76,8 +72,7 @@ fn empty_all<A: Actor>(
     requires rings { (inputs : List (List A.Token))
         × AreRings A.steps (record { net = net.now; inputs = inputs; seats = seats.old; places = places.now }) }
     ensures all { IfOk result (λ v. length v.items ≡ length net.now.wires) }
-    ensures each { IfOk result (λ v. (c : ℕ) (e : _) (d : _) (x : _) → c < length net.now.wires →
-        slice_index_or (lists v.items) c [] ≡ known_items (consumer_of net.now seats.old places.now e d x c)) }
+    ensures each { IfOk result (λ v. HoldItems net.now seats.old places.now (lists v.items)) }
     ensures kept { OnOk result (SameButEnds seats.old seats.new) }
 {
     let mut held = Vec::with_capacity(alloc, net.channels())?;

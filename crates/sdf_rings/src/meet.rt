@@ -1,12 +1,13 @@
 //! Both ends of a ring in one hand.
 
-ghost use Rattle.std.specs.Prelude.{◌≡◌, ◌<◌, ℕ, length, vec_len, slice_index_or};
+ghost use Rattle.std.specs.Prelude.{◌≡◌, ◌<◌, length};
 ghost use Rattle.rtrb.specs.Ring.{known_items, IsPair, ConsumerLooked, ProducerLooked};
 ghost use Rattle.sdf_rings.specs.Ends.{IsMet};
-ghost use Rattle.sdf_rings.specs.Places.{stand_at, IsUpdated, IsRing, IsTold};
-ghost use Rattle.std.specs.Vec.{with_item};
+ghost use Rattle.sdf_rings.specs.Changes.{AllBecame};
+ghost use Rattle.sdf_rings.specs.Places.{HasStand, HoldsOfStand, HoldsOfProducer, OnlyIns, OnlyProducer, PutsAt};
+ghost use Rattle.sdf_rings.specs.Places.{ProducerLookedAt, IsRing, IsTold};
 ghost use Rattle.sdf_actor.specs.Wires.{lists};
-ghost use Rattle.sdf_rings.specs.Seats.{HasWorked};
+ghost use Rattle.sdf_rings.specs.Seats.{HasIdled};
 ghost use Rattle.sdf_rings.specs.Rests.{spot_of, AreRings, HaveMet};
 
 use crate::seat::Seat;
@@ -46,40 +47,27 @@ pub(crate) fn swap_ins<A: Actor>(
     ins: &mut Vec<Consumer<A::Token, Global>>,
 )
     requires seat { seat < length seats.old }
-    requires stand { (e : _) → stand < vec_len (slice_index_or seats.old seat e).stands }
-    ensures ins { (e : _) (d : _) → ins.new ≡ (stand_at seats.old seat stand e d).ins }
-    ensures seats { (e : _) (d : _) → IsUpdated seats.old seats.new seat stand
-        (record (stand_at seats.old seat stand e d) { ins = ins.old }) }
+    requires stand { HasStand seats.old seat stand }
+    ensures ins { HoldsOfStand (λ x. ins.new ≡ x.ins) seats.old seat stand }
+    ensures seats { OnlyIns seats.old seats.new seat stand ins.old }
 {
     mem::swap(&mut seats[seat].stands[stand].ins, ins);
 }
 
-/// Tells a consumer and the producer on a stand.
+/// Tells a consumer and the producer at a place.
 fn tell_producer<A: Actor>(
     seats: &mut [Seat<A>],
-    seat: usize,
-    stand: usize,
-    port: usize,
+    at: Spot,
     consumer: &mut Consumer<A::Token, Global>,
 )
-    requires seat { seat < length seats.old }
-    requires stand { (e : _) → stand < vec_len (slice_index_or seats.old seat e).stands }
-    requires port { (e : _) (d : _) → port < vec_len (stand_at seats.old seat stand e d).outs }
-    requires pair { (e : _) (d : _) (x : _) → IsPair
-        (slice_index_or (stand_at seats.old seat stand e d).outs.items port x) consumer.old }
+    requires there { PutsAt seats.old at }
+    requires pair { HoldsOfProducer (λ y. IsPair y consumer.old) seats.old at }
     ensures consumer { ConsumerLooked consumer.old consumer.new }
-    ensures producer { (e : _) (d : _) (x : _) → ProducerLooked
-        (slice_index_or (stand_at seats.old seat stand e d).outs.items port x)
-        (slice_index_or (stand_at seats.new seat stand e d).outs.items port x) }
-    ensures met { (e : _) (d : _) (x : _) → IsMet (slice_index_or (stand_at seats.new seat stand e d).outs.items port
-        x) consumer.new }
-    ensures seats { (e : _) (d : _) (x : _) → IsUpdated seats.old seats.new seat stand
-        (record (stand_at seats.old seat stand e d) {
-          outs = with_item (stand_at seats.old seat stand e d).outs port
-              (slice_index_or (stand_at seats.new seat stand e d).outs.items port x);
-        }) }
+    ensures producer { ProducerLookedAt seats.old seats.new at }
+    ensures met { HoldsOfProducer (λ y. IsMet y consumer.new) seats.new at }
+    ensures seats { OnlyProducer seats.old seats.new at }
 {
-    tell(consumer, &mut seats[seat].stands[stand].outs[port]);
+    tell(consumer, &mut seats[at.seat].stands[at.stand].outs[at.port]);
 }
 
 /// Tells the two ends of the ring between two places.
@@ -89,7 +77,7 @@ pub fn tell_at<A: Actor>(alloc: Global, seats: &mut [Seat<A>], from: Spot, to: S
 {
     let mut ins = Vec::new(alloc);
     swap_ins(seats, to.seat, to.stand, &mut ins);
-    tell_producer(seats, from.seat, from.stand, from.port, &mut ins[to.port]);
+    tell_producer(seats, from, &mut ins[to.port]);
     swap_ins(seats, to.seat, to.stand, &mut ins);
 }
 
@@ -127,9 +115,7 @@ pub(crate) fn meet_all<A: Actor>(
       places = places.now;
     }) }
     ensures met { HaveMet net.now seats.new places.now }
-    ensures idle { (i : ℕ) (e : _) → i < length seats.old →
-        HasWorked A.steps net.now (slice_index_or seats.old i e) (slice_index_or seats.new i e)
-        × ((slice_index_or seats.new i e).next ≡ (slice_index_or seats.old i e).next) }
+    ensures idle { AllBecame (HasIdled A.steps net.now) seats.old seats.new }
 {
     for c in 0..net.channels() {
         let link = net.link(c);

@@ -15,9 +15,9 @@ ghost use Rattle.sdf_rings.specs.Prepared.{IsPrepared, IsAsked, IsPrepareFault};
 use crate::rings::Rings;
 use crate::roomy_table::RoomyTable;
 use crate::setup::asked::asked;
-use crate::setup::deals::Deal;
 use crate::setup::openings::open_rings;
 use crate::setup::places::places;
+use crate::setup::roster::Roster;
 use crate::setup::seats::seats;
 use crate::setup::stands::Start;
 use sdf_actor::{Actor, Net};
@@ -49,12 +49,12 @@ fn lay_out<'a, A: Actor>(
     let table = &given.table.table;
     let places = places(alloc, table, start.net.len())?;
     let mut ends = open_rings(alloc, start.net, given)?;
-    let deal = Deal {
+    let roster = Roster {
         places: &places,
         order: table.order(),
         blocks,
     };
-    let seats = seats(alloc, start, &deal, &mut ends, table.columns())?;
+    let seats = seats(alloc, start, &roster, &mut ends, table.columns())?;
     let outputs = make_outputs(alloc, start.net.outputs(), 0)?;
     Ok(Rings::new(alloc, start.net, start.inputs, seats, places, outputs))
 }

@@ -1,6 +1,6 @@
 //! The end of a round: all ends in one hand.
 
-ghost use Rattle.std.specs.Prelude.{◌<◌, ℕ, List, length, slice_index_or};
+ghost use Rattle.std.specs.Prelude.{◌<◌, ℕ, List, All};
 ghost use Rattle.sdf_actor.specs.Nets.{IsNet};
 ghost use Rattle.sdf_actor.specs.Wires.{lists};
 ghost use Rattle.sdf_rings.specs.Seats.{IsSeat};
@@ -23,8 +23,7 @@ pub fn met_is_rest<A: Actor>(
     places: &[(usize, usize)],
 )
     requires net { IsNet A.steps net.now }
-    requires seats { (i : ℕ) (e : _) → i < length seats.now →
-        IsSeat A.steps net.now (lists inputs.now) (slice_index_or seats.now i e) }
+    requires seats { All (IsSeat A.steps net.now (lists inputs.now)) seats.now }
     requires placed { IsPlaced net.now seats.now places.now }
     requires met { HaveMet net.now seats.now places.now }
     ensures { AreAtRest A.steps net.now (lists inputs.now) seats.now places.now }

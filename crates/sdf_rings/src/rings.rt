@@ -1,10 +1,9 @@
 //! Rounds by hand: the seats of a run, and all their ends in one hand between two rounds.
 
-ghost use Rattle.std.specs.Prelude.{◌≡◌, ◌+◌, ◌<◌, ◌≤◌, ◌⊎◌, ◌^◌, ◌-◌, ℕ, List, length, min, vec_len, slice_index_or};
-ghost use Rattle.std.specs.Prelude.{IfOk};
-ghost use Rattle.rtrb.specs.Ring.{known_items};
-ghost use Rattle.sdf_rings.specs.Seats.{HasFirst, HasWorked, HasRounded};
-ghost use Rattle.sdf_rings.specs.Rests.{stand_of, consumer_of, AreRings, HaveMet, AreAtRest};
+ghost use Rattle.std.specs.Prelude.{◌≡◌, ◌+◌, ◌<◌, ◌≤◌, ◌⊎◌, ◌^◌, ◌-◌, ℕ, List, length, min, HoldsAt, IfOk};
+ghost use Rattle.sdf_rings.specs.Changes.{BecameAt, AllBecame, SameBut};
+ghost use Rattle.sdf_rings.specs.Seats.{HasFirst, HasWorked, HasIdled, HasRounded};
+ghost use Rattle.sdf_rings.specs.Rests.{AreRings, HaveMet, AreAtRest, HasDone, HoldsSamples};
 ghost use Rattle.sdf_rings.specs.Quiescence.{AreQuiescent};
 ghost use Rattle.sdf_rings.specs.Asks.{IsPlanned, SomeFirst};
 ghost use Rattle.sdf_rings.specs.Totals.{total_left};
@@ -117,7 +116,7 @@ impl<'a, A: Actor> Rings<'a, A> {
     /// How many firings of a node are done.
     pub fn done(&self, actor: usize) -> u64
         requires { actor < length self.now.net.nodes }
-        ensures { (e : _) (d : _) → result ≡ (stand_of self.now.net self.now.seats self.now.places e d actor).done }
+        ensures { HasDone self.now actor result }
     {
         let place = self.places[actor];
         self.seats[place.0].stands[place.1].done
@@ -126,23 +125,18 @@ impl<'a, A: Actor> Rings<'a, A> {
     /// One worker's round in the caller's thread.
     pub fn work_one<G: Gate>(&mut self, seat: usize, patience: u32, gate: &G) -> u64
         requires { seat < length self.old.seats }
-        ensures worked { (e : _) → HasWorked A.steps self.new.net (slice_index_or self.old.seats seat e)
-            (slice_index_or self.new.seats seat e) }
-        ensures count { (e : _) → (slice_index_or self.new.seats seat e).next ≡
-            (slice_index_or self.old.seats seat e).next + result }
-        ensures stopped { (e : _) → ((slice_index_or self.new.seats seat e).next ≡
-            length (slice_index_or self.new.seats seat e).left)
-            ⊎ (HasFirst A.steps self.new.net (slice_index_or self.new.seats seat e) → ⊥) }
-        ensures progress { (e : _) → (slice_index_or self.old.seats seat e).next <
-            length (slice_index_or self.old.seats seat e).left →
-            HasFirst A.steps self.old.net (slice_index_or self.old.seats seat e) → 0 < result }
+        ensures worked { BecameAt (HasWorked A.steps self.new.net) self.old.seats self.new.seats seat }
+        ensures count { BecameAt (λ old new. new.next ≡ old.next + result) self.old.seats self.new.seats seat }
+        ensures stopped { HoldsAt (λ x. (x.next ≡ length x.left) ⊎ (HasFirst A.steps self.new.net x → ⊥))
+            self.new.seats seat }
+        ensures progress { HoldsAt (λ x. x.next < length x.left → HasFirst A.steps self.old.net x → 0 < result)
+            self.old.seats seat }
         ensures same { (self.new.net ≡ self.old.net) × (self.new.inputs ≡ self.old.inputs)
             × (self.new.places ≡ self.old.places) × (length self.new.seats ≡ length self.old.seats) }
         ensures planned { (order : List ℕ) (cap : ℕ → ℕ) →
             IsPlanned A.steps self.old.net self.old.seats self.old.places order cap →
             IsPlanned A.steps self.new.net self.new.seats self.new.places order cap }
-        ensures others { (i : ℕ) (e : _) → (seat ≡ i → ⊥) →
-            slice_index_or self.new.seats i e ≡ slice_index_or self.old.seats i e }
+        ensures others { SameBut self.old.seats self.new.seats seat }
     {
         let net = self.net;
         let inputs = self.inputs;
@@ -152,9 +146,7 @@ impl<'a, A: Actor> Rings<'a, A> {
 
     /// A round of all workers, each in a thread of its own.
     pub fn work_all<R: Threads + Sync, G: Gate>(&mut self, workers: Workers<'_, R, G>)
-        ensures rounded { (i : ℕ) (e : _) → i < length self.old.seats →
-            HasRounded A.steps self.new.net self.new.inputs (slice_index_or self.old.seats i e)
-            (slice_index_or self.new.seats i e) }
+        ensures rounded { AllBecame (HasRounded A.steps self.new.net self.new.inputs) self.old.seats self.new.seats }
         ensures planned { (order : List ℕ) (cap : ℕ → ℕ) →
             IsPlanned A.steps self.old.net self.old.seats self.old.places order cap →
             IsPlanned A.steps self.new.net self.new.seats self.new.places order cap }
@@ -183,8 +175,7 @@ impl<'a, A: Actor> Rings<'a, A> {
     pub fn held(&self, channel: usize) -> usize
         requires known { channel < length self.now.net.wires }
         requires met { HaveMet self.now.net self.now.seats self.now.places }
-        ensures { (e : _) (d : _) (x : _) → result ≡
-            length (known_items (consumer_of self.now.net self.now.seats self.now.places e d x channel)) }
+        ensures { HoldsSamples self.now channel result }
     {
         let to = self.net.link(channel).to;
         let place = self.places[to.0];
@@ -196,9 +187,7 @@ impl<'a, A: Actor> Rings<'a, A> {
         ensures met { HaveMet self.new.net self.new.seats self.new.places }
         ensures rest { AreAtRest A.steps self.new.net self.new.inputs self.new.seats self.new.places }
         ensures quiescent { AreQuiescent A.steps self.new }
-        ensures idle { (i : ℕ) (e : _) → i < length self.old.seats →
-            HasWorked A.steps self.new.net (slice_index_or self.old.seats i e) (slice_index_or self.new.seats i e)
-            × ((slice_index_or self.new.seats i e).next ≡ (slice_index_or self.old.seats i e).next) }
+        ensures idle { AllBecame (HasIdled A.steps self.new.net) self.old.seats self.new.seats }
         ensures planned { (order : List ℕ) (cap : ℕ → ℕ) →
             IsPlanned A.steps self.old.net self.old.seats self.old.places order cap →
             IsPlanned A.steps self.new.net self.new.seats self.new.places order cap }

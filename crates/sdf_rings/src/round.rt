@@ -1,8 +1,9 @@
 //! A round: all seats at once.
 
-ghost use Rattle.std.specs.Prelude.{◌≡◌, ◌<◌, ℕ, All, length, slice_index_or};
+ghost use Rattle.std.specs.Prelude.{All};
 ghost use Rattle.sdf_actor.specs.Nets.{IsNet};
 ghost use Rattle.sdf_actor.specs.Wires.{lists};
+ghost use Rattle.sdf_rings.specs.Changes.{AllBecame};
 ghost use Rattle.sdf_rings.specs.Seats.{IsSeat, HasRounded};
 
 use crate::seat::{Seat, work};
@@ -21,8 +22,7 @@ pub(crate) fn run_round<R: Threads + Sync, A: Actor, G: Gate>(
 )
     requires net { IsNet A.steps net.now }
     requires seats { All (IsSeat A.steps net.now (lists inputs.now)) seats.old }
-    ensures { (i : ℕ) (s : _) → i < length seats.old →
-        HasRounded A.steps net.now (lists inputs.now) (slice_index_or seats.old i s) (slice_index_or seats.new i s) }
+    ensures { AllBecame (HasRounded A.steps net.now (lists inputs.now)) seats.old seats.new }
 {
     let Workers { rt, gate, patience } = workers;
     let threads = seats.len();

@@ -10,20 +10,9 @@ ghost use Rattle.sdf_rings.specs.RunBlocks.{HasPorts, sizes_of_run, port_blocks}
 
 use crate::ends::{put_block, put_each, take_block, take_each};
 use rtrb::{Consumer, Producer};
+use sdf_answer::many_blocks::whole_blocks;
 use sdf_answer::parts::{deal_row, gather_row};
 use std::alloc::Global;
-
-/// How many blocks of a size so many samples hold, up to a limit.
-pub(crate) fn whole_blocks(samples: usize, size: usize, most: usize) -> usize
-    ensures within { result ≤ most }
-    ensures held { result * size ≤ samples }
-{
-    if size == 0 {
-        most
-    } else {
-        most.min(samples / size)
-    }
-}
 
 /// How many blocks each port is known to hold, up to a limit.
 pub(crate) fn blocks_held<T>(sizes: &[usize], ends: &[Consumer<T, Global>], most: usize) -> usize

@@ -2,8 +2,8 @@
 //! worker, and on each seat its nodes and the list of their firings.
 
 pub(crate) mod asked;
-pub(crate) mod deals;
 pub(crate) mod openings;
 pub(crate) mod places;
+pub(crate) mod roster;
 pub(crate) mod seats;
 pub(crate) mod stands;

@@ -4,14 +4,15 @@ ghost use Rattle.std.specs.Prelude.{◌≡◌, ◌+◌, ◌*◌, ◌<◌, ◌≤
 ghost use Rattle.sdf_actor.specs.Nets.{answer_of, wire, IsNet};
 ghost use Rattle.sdf_actor.specs.Wires.{lists};
 ghost use Rattle.sdf_node.specs.Nodes.{takes_of, puts_of, IsAt};
-ghost use Rattle.sdf_node.specs.Many.{nth_block, listed, AreWhole, CanStepMany};
+ghost use Rattle.sdf_node.specs.Many.{nth_block, listed, AreFullBlocks, CanStepMany};
 ghost use Rattle.sdf_rings.specs.Stands.{IsStand, HasMoved};
 ghost use Rattle.sdf_rings.specs.Together.{GoesInRuns, CanRun};
 
 use crate::facts::firing_laws;
-use crate::run_ends::{RunBlocks, blocks_free, blocks_held, whole_blocks};
+use crate::run_ends::{RunBlocks, blocks_free, blocks_held};
 use crate::stand::{Stand, row};
 use sdf_actor::{Actor, Net, Node};
+use sdf_answer::many_blocks::whole_blocks;
 use sdf_node::{ActorId, Gate, NodeState, puts, step_many, takes};
 
 /// Whether no channel leads from a node to itself.
@@ -66,7 +67,7 @@ fn step_front_many<A: Actor>(
         IsAt A.steps (lists inputs.now) asked node.now
         (past ++ listed (nth_block (takes_of A.steps node.now 0) taken.now) outs.now.many) state.new }
     ensures put { (asked : ℕ) (past : List (List A.Token)) →
-        IsAt A.steps (lists inputs.now) asked node.now past state.old → AreWhole A.steps node.now past →
+        IsAt A.steps (lists inputs.now) asked node.now past state.old → AreFullBlocks A.steps node.now past →
         (i : ℕ) → i < outs.now.many →
         nth_block (puts_of A.steps node.now 0) (take (outs.now.size * outs.now.many) put.new) i ≡
         answer_of A.steps (lists inputs.now) node.now

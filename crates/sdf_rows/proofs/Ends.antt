@@ -1,8 +1,8 @@
 -- A run by rows before its first block and after its last.
-use Rattle.std.proofs.Common.{◌≡◌, ℕ, ◌+◌, ◌*◌, ◌≤◌, ◌<◌, ◌^◌, List, [], length, map, get_or, drop, None, refl, sym, ap}
+use Rattle.std.proofs.Common.{◌≡◌, ℕ, ◌+◌, ◌*◌, ◌≤◌, ◌<◌, ◌^◌, List, [], length, map, get_or, drop, refl, sym, ap}
 use Rattle.std.proofs.Common.{◌∙◌, subst, arith}
 use Rattle.std.specs.Prelude.{sum}
-use Rattle.std.specs.List.{flat_map}
+use Rattle.std.specs.List.{All, flat_map}
 use Rattle.std.specs.Global.{Global}
 use Rattle.std.specs.declared.vec.Vec.{Vec}
 use Rattle.std.proofs.Math.Nat.{mul-le-mul_left}
@@ -25,7 +25,7 @@ use Rattle.sdf_actor.specs.Sides.{list_count, period_samples}
 use Rattle.sdf_actor.specs.Wires.{lists}
 use Rattle.sdf_node.specs.declared.node.NodeState.{NodeState}
 use Rattle.sdf_node.specs.declared.node.NodeState.TheVariants.{Source, Sink, Inner}
-use Rattle.sdf_node.specs.Kept.{kept_of, NodesKeepStates}
+use Rattle.sdf_node.specs.Kept.{NodesKeepStates}
 use Rattle.sdf_node.specs.Nodes.{CanBegin, IsAt}
 use Rattle.sdf_rows.specs.declared.job.Job.{Job}
 use Rattle.sdf_answer.specs.Answer.{AreOutputs, periods_of}
@@ -33,22 +33,21 @@ use Rattle.sdf_answer.specs.Feeds.{HasRun, SinksMakeRuns}
 use Rattle.sdf_answer.specs.Held.{Held}
 use Rattle.sdf_answer.specs.Blocks.{room, nothing}
 use Rattle.sdf_answer.specs.Sizes.{Rows, AreSizes, phase_of}
-use Rattle.sdf_rows.specs.Setup.{IsUnfired, HasPlaces}
+use Rattle.sdf_rows.specs.Setup.{AreUnfired, HasPlaces}
 use Rattle.sdf_rows.specs.Stands.{HaveBlocks}
 use Rattle.sdf_rows.specs.Blocks.{IsResting}
-use Rattle.sdf_rows.specs.Collect.{AreCollected}
+use Rattle.sdf_rows.specs.Collect.{AreCollected, AreKept}
 use Rattle.sdf_rows.proofs.Readings.{some_of}
 use Rattle.sdf_answer.specs.Laws.{HistoriesBegin, SinksMakeOutputs}
 use Rattle.sdf_answer.specs.Periods.{CanRun}
 
 -- the blocks of a job, firing by firing
 pub have_blocks : {A S T : Type 0} (s : Steps A S T) (n : Netlist A T) (z : Rows) → AreSizes s n z →
-    (jobs : List (Job A T S)) (width : ℕ) → length jobs ≡ width →
-    ((i : ℕ) (d : Job A T S) → i < width → HasPlaces s n (get_or jobs i d)) → HaveBlocks s n jobs
-have_blocks s n z sizes jobs width all places i d h = record {
-  taken = λ a f l. (places i d (omega (arith, all)) a (phase_of s (nets.node n a) f) l
+    (jobs : List (Job A T S)) → All (HasPlaces s n) jobs → HaveBlocks s n jobs
+have_blocks s n z sizes jobs places i d h = record {
+  taken = λ a f l. (places i d h a (phase_of s (nets.node n a) f) l
       (mod_below f (cycle_of s (nets.node n a)) (sizes.some a l))).0;
-  put = λ a f l. (places i d (omega (arith, all)) a (phase_of s (nets.node n a) f) l
+  put = λ a f l. (places i d h a (phase_of s (nets.node n a) f) l
       (mod_below f (cycle_of s (nets.node n a)) (sizes.some a l))).1;
 }
 
@@ -94,8 +93,7 @@ module _ {A S T : Type 0} (s : Steps A S T) (begin : HistoriesBegin s) (n : Netl
   -- nothing has fired
   pub begins : (space : ℕ) → space ≡ blocks * j * period_samples n.nodes Outputs q → (done : List ℕ) →
       ((a : ℕ) → get_or done a 0 ≡ 0) → (states : List (NodeState T S)) (ls : List (Held T)) →
-      length states ≡ length n.nodes → ((a : ℕ) (w : NodeState T S) → a < length n.nodes →
-      IsUnfired s space (nets.node n a) (get_or states a w)) → length ls ≡ length n.wires →
+      length states ≡ length n.nodes → AreUnfired s space n states → length ls ≡ length n.wires →
       ((c : ℕ) → c < length n.wires → get_or ls c nothing ≡
       record {
         samples = (wire n c).initial;
@@ -189,9 +187,7 @@ module _ {A S T : Type 0} (s : Steps A S T) (n : Netlist A T) (inputs : List (Li
 
   -- copies of the actors' states and of the samples on the channels are what is left
   leaves : NodesKeepStates s → (rest : Rest T S) → length rest.states.items ≡ length n.nodes →
-      ((a : ℕ) (w : NodeState T S) → a < length n.nodes →
-      get_or rest.states.items a None ≡ kept_of (nets.node n a) (get_or states a w)) →
-      lists rest.held.items ≡ map (λ queue. queue.samples) ls →
+      AreKept n states rest.states.items → lists rest.held.items ≡ map (λ queue. queue.samples) ls →
       Leaves s n k over.between.history rest
   leaves keep rest all copies held = record {
     nodes = all;
@@ -213,9 +209,7 @@ module _ {A S T : Type 0} (s : Steps A S T) (n : Netlist A T) (inputs : List (Li
   pub row_run : SinksMakeRuns s → NodesKeepStates s → IsNet s n → (outputs : List (Vec T Global)) →
       AreCollected n (length n.nodes) states outputs → length outputs ≡ list_count Outputs n.nodes →
       (rest : Rest T S) → length rest.states.items ≡ length n.nodes →
-      ((a : ℕ) (w : NodeState T S) → a < length n.nodes →
-      get_or rest.states.items a None ≡ kept_of (nets.node n a) (get_or states a w)) →
-      lists rest.held.items ≡ map (λ queue. queue.samples) ls →
+      AreKept n states rest.states.items → lists rest.held.items ≡ map (λ queue. queue.samples) ls →
       HasRun s n inputs (periods_of q (blocks * j)) (lists outputs) rest
   row_run make keep good outputs collected count rest all copies held =
       make n inputs q (blocks * j) k over.between.history (lists outputs) rest good over.between.is all_done

@@ -13,11 +13,11 @@ use Rattle.sdf_rows.specs.declared.job.Job.{Job}
 use Rattle.sdf_answer.specs.Held.{Held}
 use Rattle.sdf_answer.specs.Blocks.{samples, front}
 use Rattle.sdf_answer.specs.Sizes.{Rows, AreSizes, at_phase, phase_of}
-use Rattle.sdf_rows.specs.Jobs.{JobFits, HasFired}
+use Rattle.sdf_rows.specs.Jobs.{JobFits, HasFired, HaveFired}
 use Rattle.sdf_rows.specs.Stage.{actors_of}
-use Rattle.sdf_rows.specs.Stands.{IsLoaded, IsBack, IsFilling, IsSettling, IsBetween, HaveBlocks, KeepBlocks}
+use Rattle.sdf_rows.specs.Stands.{IsLoaded, IsBack, IsFilling, IsSettling, IsBetween, KeepBlocks}
 use Rattle.sdf_rows.proofs.Known.{Known}
-use Rattle.sdf_rows.proofs.Settles.{plan, held, ports_in, in_cycle, takes_in, takes_are}
+use Rattle.sdf_rows.proofs.Settles.{AtPlace, plan, held, ports_in, in_cycle, takes_in, takes_are}
 
 -- all elements, each with a default of its own
 pub all_from : {X : Type 0} (P : X → Type 0) (xs : List X) → ((i : ℕ) (d : X) → i < length xs → P (get_or xs i d)) →
@@ -57,26 +57,23 @@ module _ {A S T : Type 0} (s : Steps A S T) (n : Netlist A T) (net : Known s n) 
   left : k who < many who
   left = let l = st.within i first h in omega (arith, l, st.top who (st.known i h))
 
+  here : AtPlace s n z inputs many low high acts 0 i k states ls jobs (IsLoaded s n inputs many) job.phase
+  here = record { net = net; sizes = sizes; st = st; first = first; inside = h; phase_is = has.phase }
+
   fits_at : JobFits s n inputs z ls (record job { actor = who })
   fits_at =
       let total : ℕ = sum_by (λ c. get_or (at_phase z.takes job.phase) c 0) ((wiring s n).ins who) in
-      let total_is : total ≡ takes_of s (node n who) job.phase =
-      takes_are s n net z sizes inputs many low high acts 0 i k states ls jobs (IsLoaded s n inputs many) st first h
-      job.phase has.phase in
+      let total_is : total ≡ takes_of s (node n who) job.phase = takes_are here in
       let can : CanStep s inputs (node n who) job.state (takes_of s (node n who) (phase_at job.state))
       (puts_of s (node n who) (phase_at job.state)) =
       steps inputs (node n who) (many who) (taken_before (wiring s n) st.history who (k who)) job.state has.state
       (sizes.some who (st.known i h)) (omega (arith, count, left)) in
       record {
         known = st.known i h;
-        in_cycle = in_cycle s n net z sizes inputs many low high acts 0 i k states ls jobs (IsLoaded s n inputs many) st
-            first h job.phase has.phase;
-        sized = takes_in s n net z sizes inputs many low high acts 0 i k states ls jobs (IsLoaded s n inputs many) st
-            first h job.phase has.phase;
-        ports = ports_in s n net z sizes inputs many low high acts 0 i k states ls jobs (IsLoaded s n inputs many) st
-            first h job.phase has.phase;
-        held = held s n net z sizes inputs many low high acts 0 i k states ls jobs (IsLoaded s n inputs many) st first h
-            job.phase has.phase;
+        in_cycle = in_cycle here;
+        sized = takes_in here;
+        ports = ports_in here;
+        held = held here;
         room = omega (
           arith,
           total_is,
@@ -96,9 +93,7 @@ module _ {A S T : Type 0} (s : Steps A S T) (n : Netlist A T) (net : Known s n) 
   block_is : front (at_phase z.takes job.phase) ((wiring s n).ins who) ls ≡ taken (wiring s n) st.history who (k who)
   block_is =
       net.stand n k who st.history (at_phase z.takes job.phase) (at_phase z.puts job.phase) (samples ls)
-      net.good (st.known i h)
-      (plan s n net z sizes inputs many low high acts 0 i k states ls jobs (IsLoaded s n inputs many) st first h
-      job.phase has.phase) st.left
+      net.good (st.known i h) (plan here) st.left
 
   pub is_back : (job' : Job A T S) → HasFired s n inputs z ls job job' → IsBack s n inputs many k st.history who job'
   is_back job' fired =
@@ -134,8 +129,7 @@ module _ {A S T : Type 0} (s : Steps A S T) (n : Netlist A T) (net : Known s n) 
       (omega (arith, acts_long)) d)
 
   module _ (jobs' : List (Job A T S)) (all : length jobs' ≡ length jobs)
-      (fired : (i : ℕ) (j : Job A T S) → i < length jobs →
-      HasFired s n inputs z ls (get_or jobs i j) (get_or jobs' i j)) where
+      (fired : HaveFired s n inputs z ls jobs jobs') where
     pub same_actors : actors_of jobs' ≡ actors_of jobs
     same_actors =
         same_lists (actors_of jobs') (actors_of jobs) (length-map jobs' (λ j. j.actor) ∙ (all ∙ sym acts_long))
@@ -209,20 +203,3 @@ row_over s n inputs many low high acts from k states ls jobs over st = record {
   able = λ i f h. absurd (omega arith);
   within = λ i f h. absurd (omega arith);
 }
-
-pub keep_twice : {A S T : Type 0} (x y z : List (Job A T S)) → KeepBlocks x y → KeepBlocks y z → KeepBlocks x z
-keep_twice x y z one two = record {
-  all = two.all ∙ one.all;
-  taken = λ i j h. two.taken i j (omega (arith, one.all)) ∙ one.taken i j h;
-  put = λ i j h. two.put i j (omega (arith, one.all)) ∙ one.put i j h;
-}
-
-pub keep_have : {A S T : Type 0} (s : Steps A S T) (n : Netlist A T) (x y : List (Job A T S)) → HaveBlocks s n x →
-    KeepBlocks x y → HaveBlocks s n y
-keep_have s n x y have keeps i j h =
-    let l : i < length x = omega (arith, keeps.all) in
-    let was = have i j l in
-    record {
-      taken = λ a p k. omega (arith, was.taken a p k, keeps.taken i j l);
-      put = λ a p k. omega (arith, was.put a p k, keeps.put i j l);
-    }

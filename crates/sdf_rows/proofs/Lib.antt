@@ -3,6 +3,7 @@ mod Readings
 mod Jobs
 mod Loads
 mod Settles
+mod Keeps
 mod Fills
 mod Between
 mod Blocks

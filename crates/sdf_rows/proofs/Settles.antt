@@ -1,9 +1,9 @@
 -- A row's firings settled, one by one.
 use Rattle.std.proofs.Common.{◌≡◌, ℕ, ◌+◌, ◌*◌, ◌^◌, ◌≤◌, ◌<◌, List, [], ◌∷◌, ◌++◌, length, get_or, set, take, drop}
-use Rattle.std.proofs.Common.{vec_capacity, refl, sym, ap, ◌∙◌, subst, inl, inr, ◌⊎◌, arith}
+use Rattle.std.proofs.Common.{refl, sym, ap, ◌∙◌, subst, inl, inr, ◌⊎◌, arith}
 use Rattle.std.specs.List.{sum_by}
 use Rattle.std.proofs.Math.Nat.{mul-le-mul_left}
-use Rattle.std.proofs.lemmas.List.{length-drop, get_or-set_same, get_or-set_other, get_or_default, length-set}
+use Rattle.std.proofs.lemmas.List.{length-drop, get_or-set_same, get_or-set_other, length-set}
 use Rattle.std.proofs.lemmas.Nat.{mod_below}
 use Rattle.std.proofs.lemmas.Bool.{cases_eq}
 use Rattle.sdf_graph.specs.Rates.{Rates}
@@ -22,7 +22,7 @@ use Rattle.sdf_answer.specs.Held.{Held}
 use Rattle.sdf_answer.specs.Blocks.{samples, room, at_ports, ArePorts, HoldBlocks}
 use Rattle.sdf_answer.specs.Sizes.{Rows, IsPlan, AreSizes, at_phase, phase_of, in_all, out_all}
 use Rattle.sdf_rows.specs.Stage.{CanSettle, HasSettled}
-use Rattle.sdf_rows.specs.Stands.{KeepBlocks, IsBack, IsStage, IsSettling}
+use Rattle.sdf_rows.specs.Stands.{IsBack, IsStage, IsSettling}
 use Rattle.sdf_answer.specs.Moves.{FitsPorts, MovesOn}
 use Rattle.sdf_rows.proofs.Known.{Known}
 
@@ -51,26 +51,34 @@ enabled_within : (r : Rates) (k : ℕ → ℕ) (a : ℕ) → IsEnabled r k a →
 enabled_within r k a on c l e = subst (λ n. r.consumed c (n + 1) ≤ r.initial c + r.produced c (k (r.source c)))
     (ap k e) (on c l e)
 
--- the actor at place i of a row, whose next firing is at phase p
-module _ {A S T : Type 0} (s : Steps A S T) (n : Netlist A T) (net : Known s n) (z : Rows) (sizes : AreSizes s n z)
-    (inputs : List (List T)) (many low high : ℕ → ℕ) (acts : List ℕ) (from i : ℕ) (k : ℕ → ℕ)
-    (states : List (NodeState T S)) (ls : List (Held T)) (jobs : List (Job A T S))
-    (P : (ℕ → ℕ) → (ℕ → List T) → ℕ → Job A T S → Type 0)
-    (st : IsStage s n inputs many P low high acts from k states ls jobs)
-    (first : from ≤ i) (h : i < length acts) (phase : ℕ)
-    (phase_is : phase ≡ phase_of s (node n (get_or acts i 0)) (k (get_or acts i 0))) where
+-- an actor stands at place i of a row, and its next firing is at this phase
+pub record AtPlace {A S T : Type 0} (s : Steps A S T) (n : Netlist A T) (z : Rows) (inputs : List (List T))
+    (many low high : ℕ → ℕ) (acts : List ℕ) (from i : ℕ) (k : ℕ → ℕ) (states : List (NodeState T S))
+    (ls : List (Held T)) (jobs : List (Job A T S)) (P : (ℕ → ℕ) → (ℕ → List T) → ℕ → Job A T S → Type 0)
+    (phase : ℕ) : Type 0 where
+  pub net : Known s n
+  pub sizes : AreSizes s n z
+  pub st : IsStage s n inputs many P low high acts from k states ls jobs
+  pub first : from ≤ i
+  pub inside : i < length acts
+  pub phase_is : phase ≡ phase_of s (node n (get_or acts i 0)) (k (get_or acts i 0))
+
+module _ {A S T : Type 0} {s : Steps A S T} {n : Netlist A T} {z : Rows} {inputs : List (List T)}
+    {many low high : ℕ → ℕ} {acts : List ℕ} {from i : ℕ} {k : ℕ → ℕ} {states : List (NodeState T S)}
+    {ls : List (Held T)} {jobs : List (Job A T S)} {P : (ℕ → ℕ) → (ℕ → List T) → ℕ → Job A T S → Type 0} {phase : ℕ}
+    (x : AtPlace s n z inputs many low high acts from i k states ls jobs P phase) where
   abbrev pub who : ℕ
   who = get_or acts i 0
 
   who_known : who < length n.nodes
-  who_known = st.known i h
+  who_known = x.st.known i x.inside
 
   who_on : IsEnabled (wiring s n).rates k who
-  who_on = st.able i first h
+  who_on = x.st.able i x.first x.inside
 
   pub plan : IsPlan s n who (k who) (at_phase z.takes phase) (at_phase z.puts phase)
-  plan = subst (λ p. IsPlan s n who (k who) (at_phase z.takes p) (at_phase z.puts p)) (sym phase_is)
-      (sizes.plan who (k who) who_known)
+  plan = subst (λ p. IsPlan s n who (k who) (at_phase z.takes p) (at_phase z.puts p)) (sym x.phase_is)
+      (x.sizes.plan who (k who) who_known)
 
   -- what stands on a channel
   standing : (c : ℕ) → c < length n.wires → length (samples ls c)
@@ -78,18 +86,18 @@ module _ {A S T : Type 0} (s : Steps A S T) (n : Netlist A T) (net : Known s n) 
       (wiring s n).rates.initial c + (wiring s n).rates.produced c (k ((wiring s n).rates.source c))
   standing c l =
       let q : length (samples ls c) ≡ length (drop ((wiring s n).rates.consumed c (k ((wiring s n).rates.target c)))
-      (st.history c)) = ap length (st.left c l) in
+      (x.st.history c)) = ap length (x.st.left c l) in
       omega (
         arith,
-        length-drop ((wiring s n).rates.consumed c (k ((wiring s n).rates.target c))) (st.history c),
-        st.is.enough c l,
-        st.is.lengths c l,
+        length-drop ((wiring s n).rates.consumed c (k ((wiring s n).rates.target c))) (x.st.history c),
+        x.st.is.enough c l,
+        x.st.is.lengths c l,
       )
 
   pub held : HoldBlocks ((wiring s n).ins who) (at_phase z.takes phase) ls
   held p l =
       let c : ℕ = get_or ((wiring s n).ins who) p 0 in
-      let is = net.wired.ins_are who p who_known l in
+      let is = x.net.wired.ins_are who p who_known l in
       let own : (wiring s n).rates.consumed c (k ((wiring s n).rates.target c)) ≡
       (wiring s n).rates.consumed c (k who) = ap (λ b. (wiring s n).rates.consumed c (k b)) is.1 in
       omega (
@@ -106,57 +114,76 @@ module _ {A S T : Type 0} (s : Steps A S T) (n : Netlist A T) (net : Known s n) 
       room ls (get_or ((wiring s n).outs who) p 0)
   fits p l =
       let c : ℕ = get_or ((wiring s n).outs who) p 0 in
-      let is = net.wired.outs_are who p who_known l in
+      let is = x.net.wired.outs_are who p who_known l in
       let was : (wiring s n).rates.produced c (k ((wiring s n).rates.source c)) ≡
       (wiring s n).rates.produced c (k who) = ap (λ b. (wiring s n).rates.produced c (k b)) is.1 in
       let end : (wiring s n).rates.produced c (high ((wiring s n).rates.source c)) ≡
       (wiring s n).rates.produced c (high who) = ap (λ b. (wiring s n).rates.produced c (high b)) is.1 in
-      let left = st.within i first h in
+      let left = x.st.within i x.first x.inside in
       let rise : (wiring s n).rates.produced c (k who + 1) ≤ (wiring s n).rates.produced c (high who) =
-      net.wired.sound.produced_rises c (k who + 1) (high who) (omega arith) in
+      x.net.wired.sound.produced_rises c (k who + 1) (high who) (omega arith) in
       let drawn : (wiring s n).rates.consumed c (low ((wiring s n).rates.target c)) ≤
       (wiring s n).rates.consumed c (k ((wiring s n).rates.target c)) =
-      net.wired.sound.consumed_rises c (low ((wiring s n).rates.target c)) (k ((wiring s n).rates.target c))
-      (st.above ((wiring s n).rates.target c) (net.wired.sound.target_in c is.0)) in
-      omega (arith, was, end, rise, drawn, standing c is.0, st.fits c is.0, plan.put c is.0 is.1)
+      x.net.wired.sound.consumed_rises c (low ((wiring s n).rates.target c)) (k ((wiring s n).rates.target c))
+      (x.st.above ((wiring s n).rates.target c) (x.net.wired.sound.target_in c is.0)) in
+      omega (arith, was, end, rise, drawn, standing c is.0, x.st.fits c is.0, plan.put c is.0 is.1)
 
   own_ports : FitsPorts s n who (k who) (at_phase z.takes phase) (at_phase z.puts phase)
-  own_ports = net.fit n who (k who) (at_phase z.takes phase) (at_phase z.puts phase) net.good who_known plan
+  own_ports = x.net.fit n who (k who) (at_phase z.takes phase) (at_phase z.puts phase) x.net.good who_known plan
 
   pub ports_in : ArePorts ((wiring s n).ins who) (at_phase z.takes phase) (length ls)
-  ports_in = subst (ArePorts ((wiring s n).ins who) (at_phase z.takes phase)) (sym st.channels) own_ports.ins_are
+  ports_in = subst (ArePorts ((wiring s n).ins who) (at_phase z.takes phase)) (sym x.st.channels) own_ports.ins_are
 
   pub ports_out : ArePorts ((wiring s n).outs who) (at_phase z.puts phase) (length ls)
-  ports_out = subst (ArePorts ((wiring s n).outs who) (at_phase z.puts phase)) (sym st.channels) own_ports.outs_are
+  ports_out = subst (ArePorts ((wiring s n).outs who) (at_phase z.puts phase)) (sym x.st.channels) own_ports.outs_are
 
   pub in_cycle : phase < cycle_of s (node n who)
-  in_cycle = omega (arith, phase_is, mod_below (k who) (cycle_of s (node n who)) (sizes.some who who_known))
+  in_cycle = omega (arith, x.phase_is, mod_below (k who) (cycle_of s (node n who)) (x.sizes.some who who_known))
 
   pub takes_in : phase < length z.takes
-  takes_in = omega (arith, phase_is, sizes.takes_known who (k who) who_known)
+  takes_in = omega (arith, x.phase_is, x.sizes.takes_known who (k who) who_known)
 
   pub puts_in : phase < length z.puts
-  puts_in = omega (arith, phase_is, sizes.puts_known who (k who) who_known)
+  puts_in = omega (arith, x.phase_is, x.sizes.puts_known who (k who) who_known)
 
   -- a whole block has the length of its phase
   pub takes_are : sum_by (λ c. get_or (at_phase z.takes phase) c 0) ((wiring s n).ins who) ≡
       takes_of s (node n who) phase
-  takes_are = own_ports.taken ∙ (in_is s (node n who) (k who) ∙ ap (takes_of s (node n who)) (sym phase_is))
+  takes_are = own_ports.taken ∙ (in_is s (node n who) (k who) ∙ ap (takes_of s (node n who)) (sym x.phase_is))
 
   pub puts_are : sum_by (λ c. get_or (at_phase z.puts phase) c 0) ((wiring s n).outs who) ≡ puts_of s (node n who) phase
-  puts_are = own_ports.put ∙ (out_is s (node n who) (k who) ∙ ap (puts_of s (node n who)) (sym phase_is))
+  puts_are = own_ports.put ∙ (out_is s (node n who) (k who) ∙ ap (puts_of s (node n who)) (sym x.phase_is))
 
-module _ {A S T : Type 0} (s : Steps A S T) (n : Netlist A T) (net : Known s n) (z : Rows) (sizes : AreSizes s n z)
-    (inputs : List (List T)) (many low high : ℕ → ℕ) (acts : List ℕ) (i : ℕ) (k : ℕ → ℕ)
-    (states : List (NodeState T S)) (ls : List (Held T)) (jobs : List (Job A T S))
-    (st : IsSettling s n inputs many low high acts i k states ls jobs) (h : i < length acts) (d : Job A T S) where
-  abbrev pub a : ℕ
+-- the firings of a row are settled up to place i, and one stands there
+pub record Settling {A S T : Type 0} (s : Steps A S T) (n : Netlist A T) (z : Rows) (inputs : List (List T))
+    (many low high : ℕ → ℕ) (acts : List ℕ) (i : ℕ) (done : List ℕ) (states : List (NodeState T S)) (ls : List (Held T))
+    (jobs : List (Job A T S)) : Type 0 where
+  pub net : Known s n
+  pub sizes : AreSizes s n z
+  pub so_far : IsSettling s n inputs many low high acts i (λ b. get_or done b 0) states ls jobs
+  pub inside : i < length acts
+  pub counted : length done ≡ length n.nodes
+
+module _ {A S T : Type 0} {s : Steps A S T} {n : Netlist A T} {z : Rows} {inputs : List (List T)}
+    {many low high : ℕ → ℕ} {acts : List ℕ} {i : ℕ} {done : List ℕ} {states : List (NodeState T S)}
+    {ls : List (Held T)} {jobs : List (Job A T S)}
+    (x : Settling s n z inputs many low high acts i done states ls jobs) (d : Job A T S) where
+  abbrev k : ℕ → ℕ
+  k b = get_or done b 0
+
+  abbrev st : IsSettling s n inputs many low high acts i k states ls jobs
+  st = x.so_far
+
+  abbrev h : i < length acts
+  h = x.inside
+
+  abbrev a : ℕ
   a = get_or acts i 0
 
-  abbrev pub job : Job A T S
+  abbrev job : Job A T S
   job = get_or jobs i d
 
-  abbrev pub V : ℕ → List T
+  abbrev V : ℕ → List T
   V = st.history
 
   known : a < length n.nodes
@@ -168,36 +195,32 @@ module _ {A S T : Type 0} (s : Steps A S T) (n : Netlist A T) (net : Known s n) 
   back : IsBack s n inputs many k V a job
   back = st.jobs_are i d (omega arith) h
 
+  here : AtPlace s n z inputs many low high acts i i k states ls jobs (IsBack s n inputs many) job.phase
+  here = record {
+    net = x.net;
+    sizes = x.sizes;
+    st = st;
+    first = omega arith;
+    inside = h;
+    phase_is = back.phase;
+  }
+
   sized : IsPlan s n a (k a) (at_phase z.takes job.phase) (at_phase z.puts job.phase)
-  sized = plan s n net z sizes inputs many low high acts i i k states ls jobs (IsBack s n inputs many) st (omega arith)
-      h job.phase back.phase
+  sized = plan here
 
   can_at : CanSettle s n z (record job { actor = a }) ls
-  can_at =
-      let first : i ≤ i = omega arith in
-      record {
-        known = known;
-        in_cycle = in_cycle s n net z sizes inputs many low high acts i i k states ls jobs (IsBack s n inputs many) st
-            first h job.phase back.phase;
-        takes_known = takes_in s n net z sizes inputs many low high acts i i k states ls jobs (IsBack s n inputs many)
-            st first h job.phase back.phase;
-        puts_known = puts_in s n net z sizes inputs many low high acts i i k states ls jobs (IsBack s n inputs many) st
-            first h job.phase back.phase;
-        ins_are = ports_in s n net z sizes inputs many low high acts i i k states ls jobs (IsBack s n inputs many) st
-            first h job.phase back.phase;
-        outs_are = ports_out s n net z sizes inputs many low high acts i i k states ls jobs (IsBack s n inputs many) st
-            first h job.phase back.phase;
-        held = held s n net z sizes inputs many low high acts i i k states ls jobs (IsBack s n inputs many) st first h
-            job.phase back.phase;
-        fits = λ p l. omega (
-          arith,
-          fits s n net z sizes inputs many low high acts i i k states ls jobs
-              (IsBack s n inputs many) st first h job.phase back.phase p l,
-        );
-        long = back.long;
-        whole = sym (puts_are s n net z sizes inputs many low high acts i i k states ls jobs (IsBack s n inputs many) st
-            first h job.phase back.phase);
-      }
+  can_at = record {
+    known = known;
+    in_cycle = in_cycle here;
+    takes_known = takes_in here;
+    puts_known = puts_in here;
+    ins_are = ports_in here;
+    outs_are = ports_out here;
+    held = held here;
+    fits = λ p l. omega (arith, fits here p l);
+    long = back.long;
+    whole = sym (puts_are here);
+  }
 
   same_job : record job { actor = a } ≡ job
   same_job = λ e. record job { actor = sym back.actor e }
@@ -205,18 +228,19 @@ module _ {A S T : Type 0} (s : Steps A S T) (n : Netlist A T) (net : Known s n) 
   pub can_settle : CanSettle s n z job ls
   can_settle = subst (λ j. CanSettle s n z j ls) same_job can_at
 
-  -- it is counted, and its number is small
-  pub actor_is : job.actor ≡ a
-  actor_is = back.actor
+  pub has_state : job.actor < length states
+  has_state = omega (arith, back.actor, known, st.nodes)
 
-  pub actor_known : a < length n.nodes
-  actor_known = known
+  pub has_count : job.actor < length done
+  has_count = omega (arith, back.actor, known, x.counted)
 
-  pub number_small : k a < 2 ^ 63
-  number_small = let left = st.within i (omega arith) h in omega (arith, left, st.top a known, st.small a known)
+  pub count_small : get_or done job.actor 0 < 2 ^ 63
+  count_small =
+      let left = st.within i (omega arith) h in
+      omega (arith, ap k back.actor, left, st.top a known, st.small a known)
 
   module _ (m : ℕ → ℕ) (one : m a ≡ k a + 1) (others : (b : ℕ) → (a ≡ b → ⊥) → m b ≡ k b) (ls' : List (Held T))
-      (done : HasSettled s n z job ls ls')
+      (did : HasSettled s n z job ls ls')
       (states' : List (NodeState T S)) (jobs' : List (Job A T S)) (states_all : length states' ≡ length states)
       (own : (w : NodeState T S) → get_or states' a w ≡ job.state)
       (rest : (b : ℕ) (w : NodeState T S) → (a ≡ b → ⊥) → get_or states' b w ≡ get_or states b w)
@@ -242,7 +266,8 @@ module _ {A S T : Type 0} (s : Steps A S T) (n : Netlist A T) (net : Known s n) 
     W = after_firing s n inputs k V a
 
     moves : MovesOn s n inputs k m a V (at_phase z.takes job.phase) (at_phase z.puts job.phase) (samples ls)
-    moves = net.moves n inputs k m a V (at_phase z.takes job.phase) (at_phase z.puts job.phase) (samples ls) net.good
+    moves = x.net.moves n inputs k m a V (at_phase z.takes job.phase) (at_phase z.puts job.phase)
+        (samples ls) x.net.good
         known on one others reach st.is sized st.left
 
     left_then : (c : ℕ) → c < length n.wires → samples ls' c ≡
@@ -254,7 +279,7 @@ module _ {A S T : Type 0} (s : Steps A S T) (n : Netlist A T) (net : Known s n) 
         ++ spread shares ((wiring s n).outs a) (take (puts_of s (node n a) job.phase) job.put.items) c =
         subst (λ b. samples ls' c ≡ drop (at_ports ((wiring s n).ins b) size c) (samples ls c)
         ++ spread shares ((wiring s n).outs b) (take (puts_of s (node n b) job.phase) job.put.items) c) back.actor
-        (done.left c (omega (arith, st.channels))) in
+        (did.left c (omega (arith, st.channels))) in
         all ∙ (ap (λ ys. drop (at_ports ((wiring s n).ins a) size c) (samples ls c)
         ++ spread shares ((wiring s n).outs a) ys c) back.put ∙ moves.left c l)
 
@@ -306,10 +331,10 @@ module _ {A S T : Type 0} (s : Steps A S T) (n : Netlist A T) (net : Known s n) 
 
       able_then : IsEnabled (wiring s n).rates m b
       able_then c l e =
-          let source_in = net.wired.sound.source_in c l in
+          let source_in = x.net.wired.sound.source_in c l in
           let rise : (wiring s n).rates.produced c (k ((wiring s n).rates.source c)) ≤
           (wiring s n).rates.produced c (m ((wiring s n).rates.source c)) =
-          net.wired.sound.produced_rises c (k ((wiring s n).rates.source c)) (m ((wiring s n).rates.source c))
+          x.net.wired.sound.produced_rises c (k ((wiring s n).rates.source c)) (m ((wiring s n).rates.source c))
           (more ((wiring s n).rates.source c) source_in) in
           let same : m ((wiring s n).rates.target c) ≡ k ((wiring s n).rates.target c) =
           ap m e ∙ (others b ne ∙ ap k (sym e)) in
@@ -319,18 +344,18 @@ module _ {A S T : Type 0} (s : Steps A S T) (n : Netlist A T) (net : Known s n) 
           ap (λ x. (wiring s n).rates.consumed c (x + 1)) same in
           omega (arith, was, rise, at)
 
-    pub settled : IsSettling s n inputs many low high acts (i + 1) m states' ls' jobs'
+    settled : IsSettling s n inputs many low high acts (i + 1) m states' ls' jobs'
     settled = record {
       small = st.small;
       reach = st.reach;
       top = st.top;
       history = W;
       is = moves.is;
-      channels = done.all ∙ st.channels;
+      channels = did.all ∙ st.channels;
       left = left_then;
       above = λ b l. omega (arith, st.above b l, more b l);
       below = less;
-      fits = λ c l. omega (arith, st.fits c l, done.rooms c (omega (arith, st.channels)));
+      fits = λ c l. omega (arith, st.fits c l, did.rooms c (omega (arith, st.channels)));
       nodes = states_all ∙ st.nodes;
       known = st.known;
       apart = st.apart;
@@ -340,98 +365,44 @@ module _ {A S T : Type 0} (s : Steps A S T) (n : Netlist A T) (net : Known s n) 
       within = λ p from q. omega (arith, others (get_or acts p 0) (ne p from q), st.within p (omega arith) q);
     }
 
-module _ {A S T : Type 0} (s : Steps A S T) (n : Netlist A T) (net : Known s n) (z : Rows) (sizes : AreSizes s n z)
-    (inputs : List (List T)) (many low high : ℕ → ℕ) (acts : List ℕ) (i : ℕ) (done : List ℕ)
-    (states : List (NodeState T S)) (ls : List (Held T)) (jobs : List (Job A T S))
-    (st : IsSettling s n inputs many low high acts i (λ b. get_or done b 0) states ls jobs) (h : i < length acts)
-    (d : Job A T S)
-    (counted : length done ≡ length n.nodes) where
-  name : (get_or jobs i d).actor ≡ get_or acts i 0
-  name = actor_is s n net z sizes inputs many low high acts i (λ b. get_or done b 0) states ls jobs st h d
-
-  named : get_or acts i 0 < length n.nodes
-  named = actor_known s n net z sizes inputs many low high acts i (λ b. get_or done b 0) states ls jobs st h d
-
-  pub has_state : (get_or jobs i d).actor < length states
-  has_state = omega (arith, name, named, st.nodes)
-
-  pub has_count : (get_or jobs i d).actor < length done
-  has_count = omega (arith, name, named, counted)
-
-  pub count_small : get_or done (get_or jobs i d).actor 0 < 2 ^ 63
-  count_small = omega (
-    arith,
-    ap (λ b. get_or done b 0) name,
-    number_small s n net z sizes inputs many low high acts i (λ b. get_or done b 0) states ls jobs st h d,
-  )
-
-  module _ (ls' : List (Held T)) (settles : HasSettled s n z (get_or jobs i d) ls ls') (states' : List (NodeState T S))
+  module _ (ls' : List (Held T)) (settles : HasSettled s n z job ls ls') (states' : List (NodeState T S))
       (done' : List ℕ) (job' : Job A T S)
-      (states_are : states' ≡ set states (get_or jobs i d).actor (get_or jobs i d).state)
-      (done_is : done' ≡ set done (get_or jobs i d).actor (get_or done (get_or jobs i d).actor 0 + 1)) where
-    states_at : states' ≡ set states (get_or acts i 0) (get_or jobs i d).state
-    states_at = states_are ∙ ap (λ b. set states b (get_or jobs i d).state) name
+      (states_are : states' ≡ set states job.actor job.state)
+      (done_is : done' ≡ set done job.actor (get_or done job.actor 0 + 1)) where
+    states_at : states' ≡ set states a job.state
+    states_at = states_are ∙ ap (λ b. set states b job.state) back.actor
 
-    done_at : done' ≡ set done (get_or acts i 0) (get_or done (get_or acts i 0) 0 + 1)
-    done_at = done_is ∙ ap (λ b. set done b (get_or done b 0 + 1)) name
+    done_at : done' ≡ set done a (get_or done a 0 + 1)
+    done_at = done_is ∙ ap (λ b. set done b (get_or done b 0 + 1)) back.actor
 
-    one : get_or done' (get_or acts i 0) 0 ≡ get_or done (get_or acts i 0) 0 + 1
-    one = ap (λ xs. get_or xs (get_or acts i 0) 0) done_at
-        ∙ get_or-set_same done (get_or acts i 0) (get_or done (get_or acts i 0) 0 + 1) 0 (omega (arith, named, counted))
+    one : get_or done' a 0 ≡ get_or done a 0 + 1
+    one = ap (λ xs. get_or xs a 0) done_at
+        ∙ get_or-set_same done a (get_or done a 0 + 1) 0 (omega (arith, known, x.counted))
 
-    others : (b : ℕ) → (get_or acts i 0 ≡ b → ⊥) → get_or done' b 0 ≡ get_or done b 0
+    others : (b : ℕ) → (a ≡ b → ⊥) → get_or done' b 0 ≡ get_or done b 0
     others b ne = ap (λ xs. get_or xs b 0) done_at
-        ∙ get_or-set_other done (get_or acts i 0) b (get_or done (get_or acts i 0) 0 + 1) 0 (λ e. ne (sym e))
+        ∙ get_or-set_other done a b (get_or done a 0 + 1) 0 (λ e. ne (sym e))
 
     pub settled_next : IsSettling s n inputs many low high acts (i + 1) (λ b. get_or done' b 0) states' ls'
         (set jobs i job')
     settled_next =
-        settled s n net z sizes inputs many low high acts i (λ b. get_or done b 0) states ls jobs st h d
-        (λ b. get_or done' b 0) one others ls' settles states' (set jobs i job')
-        (ap length states_are ∙ length-set states (get_or jobs i d).actor (get_or jobs i d).state)
-        (λ w. ap (λ xs. get_or xs (get_or acts i 0) w) states_at
-        ∙ get_or-set_same states (get_or acts i 0) (get_or jobs i d).state w (omega (arith, named, st.nodes)))
+        settled (λ b. get_or done' b 0) one others ls' settles states' (set jobs i job')
+        (ap length states_are ∙ length-set states job.actor job.state)
+        (λ w. ap (λ xs. get_or xs a w) states_at
+        ∙ get_or-set_same states a job.state w (omega (arith, known, st.nodes)))
         (λ b w ne. ap (λ xs. get_or xs b w) states_at
-        ∙ get_or-set_other states (get_or acts i 0) b (get_or jobs i d).state w (λ e. ne (sym e)))
+        ∙ get_or-set_other states a b job.state w (λ e. ne (sym e)))
         (λ p j ne. get_or-set_other jobs i p job' j (λ e. ne (sym e)))
 
     pub counts_next : LastCountsMore → OthersCountSame → (was : List ℕ) →
         ((b : ℕ) → get_or done b 0 ≡ get_or was b 0 + times (take i acts) b) →
         (b : ℕ) → get_or done' b 0 ≡ get_or was b 0 + times (take (i + 1) acts) b
-    counts_next last same was before b = go (cases_eq (get_or acts i 0) b)
+    counts_next last same was before b = go (cases_eq a b)
       where
-        go : (get_or acts i 0 ≡ b) ⊎ (get_or acts i 0 ≡ b → ⊥) →
+        go : (a ≡ b) ⊎ (a ≡ b → ⊥) →
             get_or done' b 0 ≡ get_or was b 0 + times (take (i + 1) acts) b
         go (inl e) =
             let here : get_or done' b 0 ≡ get_or done b 0 + 1 =
             subst (λ b. get_or done' b 0 ≡ get_or done b 0 + 1) e one in
             omega (arith, here, last acts i b h e, before b)
         go (inr ne) = omega (arith, others b ne, same acts i b h ne, before b)
-
--- a job that keeps its blocks
-pub kept_set : {A S T : Type 0} (was jobs : List (Job A T S)) (i : ℕ) (job' d : Job A T S) → KeepBlocks was jobs →
-    i < length jobs → job'.taken ≡ (get_or jobs i d).taken → job'.put ≡ (get_or jobs i d).put →
-    KeepBlocks was (set jobs i job')
-kept_set {A} {S} {T} was jobs i job' d keeps h taken_is put_is = record {
-  all = length-set jobs i job' ∙ keeps.all;
-  taken = λ p j l. cap p j (cases_eq i p) ∙ keeps.taken p j l;
-  put = λ p j l. long p j (cases_eq i p) ∙ keeps.put p j l;
-}
-  where
-    cap : (p : ℕ) (j : Job A T S) → (i ≡ p) ⊎ (i ≡ p → ⊥) →
-        vec_capacity (get_or (set jobs i job') p j).taken ≡ vec_capacity (get_or jobs p j).taken
-    cap p j (inl e) =
-        subst (λ p. vec_capacity (get_or (set jobs i job') p j).taken ≡ vec_capacity (get_or jobs p j).taken) e
-        (ap (λ (x : Job A T S). vec_capacity x.taken) (get_or-set_same jobs i job' j h)
-        ∙ (ap (λ v. vec_capacity v) taken_is ∙ ap (λ (x : Job A T S). vec_capacity x.taken)
-        (get_or_default jobs i d j h)))
-    cap p j (inr ne) = ap (λ (x : Job A T S). vec_capacity x.taken) (get_or-set_other jobs i p job' j (λ e. ne (sym e)))
-
-    long : (p : ℕ) (j : Job A T S) → (i ≡ p) ⊎ (i ≡ p → ⊥) →
-        length (get_or (set jobs i job') p j).put.items ≡ length (get_or jobs p j).put.items
-    long p j (inl e) =
-        subst (λ p. length (get_or (set jobs i job') p j).put.items ≡ length (get_or jobs p j).put.items) e
-        (ap (λ (x : Job A T S). length x.put.items) (get_or-set_same jobs i job' j h)
-        ∙ (ap (λ v. length v.items) put_is ∙ ap (λ (x : Job A T S). length x.put.items)
-        (get_or_default jobs i d j h)))
-    long p j (inr ne) = ap (λ (x : Job A T S). length x.put.items) (get_or-set_other jobs i p job' j (λ e. ne (sym e)))

@@ -1,5 +1,6 @@
 -- The firings of one row.
-use Rattle.std.specs.Prelude.{◌≡◌, ℕ, ◌≤◌, ◌<◌, List, [], ◌∷◌, ◌++◌, length, take, slice_index, vec_capacity}
+use Rattle.std.specs.Prelude.{◌≡◌, ℕ, ◌≤◌, ◌<◌, List, [], ◌∷◌, ◌++◌, length, take, slice_index, slice_index_or}
+use Rattle.std.specs.Prelude.{vec_capacity}
 use Rattle.std.specs.List.{sum_by}
 use Rattle.sdf_actor.specs.Steps.{Steps}
 use Rattle.sdf_actor.specs.Nets.{Netlist, node, wiring, cycle_of, answer_of}
@@ -38,3 +39,8 @@ module _ {A S T : Type 0} (s : Steps A S T) (n : Netlist A T) (inputs : List (Li
         IsAt s inputs many (node n j.actor) (past ++ block_of j ∷ []) k.state
     pub put : (many : ℕ) (past : List (List T)) → IsAt s inputs many (node n j.actor) past j.state →
         take (puts_of s (node n j.actor) j.phase) k.put.items ≡ answer_of s inputs (node n j.actor) past (block_of j)
+
+  -- so has each of some jobs
+  abbrev pub HaveFired : List (Job A T S) → List (Job A T S) → Type 0
+  HaveFired jobs jobs' = (i : ℕ) (j : Job A T S) → i < length jobs →
+      HasFired (slice_index_or jobs i j) (slice_index_or jobs' i j)

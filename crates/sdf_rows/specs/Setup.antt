@@ -1,5 +1,5 @@
 -- What a run by rows begins with.
-use Rattle.std.specs.Prelude.{ℕ, ◌≤◌, ◌<◌, List, [], length, vec_capacity}
+use Rattle.std.specs.Prelude.{ℕ, ◌≤◌, ◌<◌, List, [], length, slice_index_or, vec_capacity}
 use Rattle.sdf_actor.specs.Steps.{Steps}
 use Rattle.sdf_actor.specs.declared.node.Node.{Node}
 use Rattle.sdf_actor.specs.Nets.{Netlist, node, cycle_of}
@@ -11,6 +11,11 @@ use Rattle.sdf_rows.specs.declared.job.Job.{Job}
 abbrev pub IsUnfired : {A S T : Type 0} → Steps A S T → ℕ → Node A → NodeState T S → Type 0
 IsUnfired {A} {S} {T} s room x w = (inputs : List (List T)) (many : ℕ) → CanBegin inputs many room x →
     IsAt s inputs many x [] w
+
+-- so are those of all nodes
+abbrev pub AreUnfired : {A S T : Type 0} → Steps A S T → ℕ → Netlist A T → List (NodeState T S) → Type 0
+AreUnfired {A} {S} {T} s room n states = (a : ℕ) (w : NodeState T S) → a < length n.nodes →
+    IsUnfired s room (node n a) (slice_index_or states a w)
 
 -- a job's blocks have room for any firing of any node, phase by phase
 abbrev pub HasPlaces : {A S T : Type 0} → Steps A S T → Netlist A T → Job A T S → Type 0

@@ -1,9 +1,8 @@
 //! A run by rows that another one goes on from.
 
-ghost use Rattle.std.specs.Prelude.{◌≡◌, ◌*◌, ◌<◌, ℕ, List, length, MatchResult, IfOk, None, slice_index_or};
+ghost use Rattle.std.specs.Prelude.{◌≡◌, ◌*◌, ◌<◌, ℕ, List, length, MatchResult, IfOk};
 ghost use Rattle.sdf_graph.specs.Rates.{rates};
 ghost use Rattle.sdf_actor.specs.Graphs.{graph_of};
-ghost use Rattle.sdf_actor.specs.Nets.{node};
 ghost use Rattle.sdf_actor.specs.Rests.{IsRest};
 ghost use Rattle.sdf_actor.specs.Sides.{period_samples};
 ghost use Rattle.sdf_actor.specs.Wires.{lists};
@@ -11,7 +10,7 @@ ghost use Rattle.sdf_actor.specs.declared.sides.Lists.TheVariants.{Inputs};
 ghost use Rattle.sdf_answer.specs.Answer.{HasInputs, periods_of, IsRunFault};
 ghost use Rattle.sdf_answer.specs.Feeds.{HasRun, GoesOnBy};
 ghost use Rattle.sdf_answer.specs.Rows.{IsBlockTableOf};
-ghost use Rattle.sdf_node.specs.Kept.{kept_of};
+ghost use Rattle.sdf_rows.specs.Collect.{AreKept};
 
 use crate::collect::collect;
 use crate::fired::{TableBlocks, fire, rounds_of};
@@ -37,8 +36,7 @@ fn kept_by<A: Actor>(
 ) -> Result<Vec<Option<A::State>>, AllocError>
     requires { length states.now ≡ length net.now.nodes }
     ensures all { IfOk result (λ v. length v.items ≡ length net.now.nodes) }
-    ensures each { IfOk result (λ v. (a : ℕ) (d : _) → a < length net.now.nodes →
-        slice_index_or v.items a None ≡ kept_of (node net.now a) (slice_index_or states.now a d)) }
+    ensures each { IfOk result (λ v. AreKept net.now states.now v.items) }
 {
     let mut copies = Vec::new(alloc);
     for a in 0..net.len() {

@@ -1,10 +1,10 @@
 //! The firings of one row, at once.
 
-ghost use Rattle.std.specs.Prelude.{◌≡◌, ◌≤◌, ◌<◌, ◌++◌, ◌∷◌, [], ℕ, All, List, length, take, slice_index_or};
+ghost use Rattle.std.specs.Prelude.{◌≡◌, ◌≤◌, ◌<◌, ◌++◌, ◌∷◌, [], ℕ, All, List, length, take};
 ghost use Rattle.sdf_actor.specs.Nets.{answer_of, wiring};
 ghost use Rattle.sdf_actor.specs.Wires.{lists};
 ghost use Rattle.sdf_node.specs.Nodes.{CanStep, IsAt};
-ghost use Rattle.sdf_rows.specs.Jobs.{JobFits, HasFired};
+ghost use Rattle.sdf_rows.specs.Jobs.{JobFits, HasFired, HaveFired};
 
 use crate::scene::Scene;
 use sdf_actor::{Actor, Node, Side};
@@ -83,9 +83,8 @@ pub(crate) fn fire_jobs<R: Threads + Sync, A: Actor, G: Gate>(
 )
     requires { All (JobFits A.steps scene.now.net.now (lists scene.now.inputs.now) scene.now.sizes
         queues.now) jobs.old }
-    ensures { (i : ℕ) (j : _) → i < length jobs.old →
-        HasFired A.steps scene.now.net.now (lists scene.now.inputs.now) scene.now.sizes queues.now
-        (slice_index_or jobs.old i j) (slice_index_or jobs.new i j) }
+    ensures { HaveFired A.steps scene.now.net.now (lists scene.now.inputs.now) scene.now.sizes queues.now jobs.old
+        jobs.new }
 {
     let threads = jobs.len();
     if threads > 0 {

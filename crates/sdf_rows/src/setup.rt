@@ -1,9 +1,9 @@
 //! What a run by rows holds before its first firing.
 
-ghost use Rattle.std.specs.Prelude.{◌≡◌, ◌<◌, ℕ, length, slice_index_or, vec_len, IfOk};
+ghost use Rattle.std.specs.Prelude.{◌≡◌, ◌<◌, ℕ, All, length, vec_len, IfOk};
 ghost use Rattle.sdf_actor.specs.Nets.{node};
 ghost use Rattle.sdf_node.specs.Nodes.{IsMost};
-ghost use Rattle.sdf_rows.specs.Setup.{IsUnfired, HasPlaces};
+ghost use Rattle.sdf_rows.specs.Setup.{AreUnfired, HasPlaces};
 
 use crate::job::Job;
 use sdf_actor::{Actor, Net};
@@ -16,9 +16,7 @@ pub(crate) fn make_states<A: Actor>(
     net: &Net<A>,
     room: usize,
 ) -> Result<Vec<NodeState<A::Token, A::State>>, AllocError>
-    ensures { IfOk result (λ v. (vec_len v ≡ length net.now.nodes)
-        × ((a : ℕ) (d : _) → a < length net.now.nodes →
-        IsUnfired A.steps room (node net.now a) (slice_index_or v.items a d))) }
+    ensures { IfOk result (λ v. (vec_len v ≡ length net.now.nodes) × AreUnfired A.steps room net.now v.items) }
 {
     let mut states = Vec::with_capacity(alloc, net.len())?;
     for a in 0..net.len() {
@@ -68,8 +66,7 @@ pub(crate) fn make_jobs<A: Actor>(
     width: usize,
     filler: A::Token,
 ) -> Result<Vec<Job<A>>, AllocError>
-    ensures { IfOk result (λ v. (vec_len v ≡ width)
-        × ((i : ℕ) (d : _) → i < width → HasPlaces A.steps net.now (slice_index_or v.items i d))) }
+    ensures { IfOk result (λ v. (vec_len v ≡ width) × All (HasPlaces A.steps net.now) v.items) }
 {
     let places = most(net);
     let mut jobs = Vec::with_capacity(alloc, width)?;

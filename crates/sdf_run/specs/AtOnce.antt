@@ -11,11 +11,11 @@ use Rattle.sdf_run.specs.declared.work.Work.{Work}
 use Rattle.sdf_run.specs.declared.work.Work.TheVariants.{Source, Sink, Inner}
 use Rattle.sdf_run.specs.declared.run.Run.{Run}
 use Rattle.sdf_answer.specs.Held.{Held}
-use Rattle.sdf_answer.specs.Blocks.{samples, room, at_ports, ArePorts}
+use Rattle.sdf_answer.specs.Blocks.{samples, at_ports, ArePorts, HoldManyBlocks, HaveRoomForMany, KeepRoom}
 use Rattle.sdf_answer.specs.Sizes.{at_phase}
 use Rattle.sdf_answer.specs.Lists.{list, capacity}
 use Rattle.sdf_run.specs.Firings.{phase_at, added}
-use Rattle.sdf_run.specs.Runs.{IsInRun, FiresAlone}
+use Rattle.sdf_run.specs.Runs.{HoldsOfWork, IsInRun, FiresAlone}
 
 -- a node whose firings can be done at once: it has one phase, and a channel on each side at most, not the same on both
 abbrev pub GoesAtOnce : {A S T : Type 0} → Steps A S T → Work A T S → List ℕ → List ℕ → Type 0
@@ -58,11 +58,8 @@ pub record CanFireAtOnce {A S T Z : Type 0} (s : Steps A S T) (inputs : List (Li
     (ins outs takes puts : List ℕ) (w : Work A T S) (qs : List (Held T)) (outputs : List (Vec T Z)) : Type 0 where
   pub ins_are : ArePorts ins takes (length qs)
   pub outs_are : ArePorts outs puts (length qs)
-  pub held : (n : ℕ) → n < length ins → times * slice_index takes (slice_index ins n) ≤
-      length (samples qs (slice_index ins n))
-  pub room : (n : ℕ) → n < length outs →
-      length (samples qs (slice_index outs n)) + times * slice_index puts (slice_index outs n) ≤
-      room qs (slice_index outs n)
+  pub held : HoldManyBlocks times ins takes qs
+  pub room : HaveRoomForMany times outs puts qs
   pub work : CanWorkAtOnce s inputs times w ins outs (times * slice_index takes (slice_index ins 0))
       (times * slice_index puts (slice_index outs 0)) outputs
 
@@ -74,16 +71,16 @@ pub record AreFired {A S T Z : Type 0} (s : Steps A S T) (inputs : List (List T)
   pub queues : (c : ℕ) → c < length qs →
       samples qs' c ≡ drop (at_ports ins (times * slice_index takes c) c) (samples qs c) ++
       spread (λ d. times * slice_index puts d) outs (all_made s inputs times w (fronts times takes ins qs)) c
-  pub rooms : (c : ℕ) → c < length qs → room qs' c ≡ room qs c
+  pub rooms : KeepRoom qs qs'
   pub lists : (e : ℕ) → e < length outputs → list outputs' e ≡ list outputs e ++ added w (fronts times takes ins qs) e
   pub capacities : (e : ℕ) → e < length outputs → capacity outputs' e ≡ capacity outputs e
 
 -- node a of a run can fire so many times at once
 pub record CanFireAtOnceAt {A S T : Type 0} (s : Steps A S T) (r : Run A T S) (a times : ℕ) : Type 0 where
   pub inside : IsInRun r a times
-  pub can : (d : Work A T S) → let w = slice_index_or r.works.items a d in
-      CanFireAtOnce s (lists r.inputs.now) times ((wiring s r.net.now).ins a) ((wiring s r.net.now).outs a)
-      (at_phase r.sizes.takes (phase_at w)) (at_phase r.sizes.puts (phase_at w)) w r.queues.items r.outputs.items
+  pub can : HoldsOfWork r a (λ w. CanFireAtOnce s (lists r.inputs.now) times ((wiring s r.net.now).ins a)
+      ((wiring s r.net.now).outs a) (at_phase r.sizes.takes (phase_at w)) (at_phase r.sizes.puts (phase_at w)) w
+      r.queues.items r.outputs.items)
 
 -- and this is what they do
 pub record AreFiredAt {A S T : Type 0} (s : Steps A S T) (r r' : Run A T S) (a times : ℕ) : Type 0 where

@@ -7,7 +7,7 @@ use Rattle.sdf_actor.specs.Histories.{spread}
 use Rattle.sdf_run.specs.declared.work.Work.{Work}
 use Rattle.sdf_run.specs.declared.work.Work.TheVariants.{Source, Sink, Inner}
 use Rattle.sdf_answer.specs.Held.{Held}
-use Rattle.sdf_answer.specs.Blocks.{samples, room, front, at_ports, ArePorts, HoldBlocks}
+use Rattle.sdf_answer.specs.Blocks.{samples, room, front, at_ports, ArePorts, HoldBlocks, KeepRoom}
 
 -- the phase of the next firing
 abbrev pub phase_at : {A S T : Type 0} → Work A T S → ℕ
@@ -65,4 +65,4 @@ pub record IsFired {A S T : Type 0} (s : Steps A S T) (ins outs takes puts : Lis
   pub queues : (c : ℕ) → c < length qs →
       samples qs' c ≡ drop (at_ports ins (slice_index takes c) c) (samples qs c)
       ++ spread (slice_index puts) outs (made s w (front takes ins qs)) c
-  pub rooms : (c : ℕ) → c < length qs → room qs' c ≡ room qs c
+  pub rooms : KeepRoom qs qs'

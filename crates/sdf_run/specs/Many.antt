@@ -1,19 +1,19 @@
 -- So many firings of an actor with several ports, through its blocks: when they can be done, and what they do.
-use Rattle.std.specs.Prelude.{◌≡◌, ℕ, zero, suc, ◌+◌, ◌*◌, ◌≤◌, ◌<◌, List, [], ◌++◌, length, take, drop}
+use Rattle.std.specs.Prelude.{◌≡◌, ℕ, ◌*◌, ◌≤◌, ◌<◌, List, [], ◌++◌, length, drop}
 use Rattle.std.specs.Prelude.{slice_index, slice_index_or, vec_capacity}
-use Rattle.std.specs.List.{flat_map, sum_by}
+use Rattle.std.specs.List.{sum_by}
 use Rattle.sdf_actor.specs.Steps.{Steps, total_in, sum_in, sum_out, state_at, puts_to}
-use Rattle.sdf_actor.specs.Histories.{spread}
 use Rattle.sdf_actor.specs.Nets.{wiring}
 use Rattle.sdf_run.specs.declared.work.Work.{Work}
 use Rattle.sdf_run.specs.declared.work.Work.TheVariants.{Inner}
 use Rattle.sdf_run.specs.declared.run.Run.{Run}
 use Rattle.sdf_answer.specs.Held.{Held}
 use Rattle.sdf_node.specs.Many.{joined}
-use Rattle.sdf_answer.specs.Blocks.{samples, room, at_ports, front_at, dealt, ArePorts}
+use Rattle.sdf_answer.specs.Blocks.{samples, at_ports, front_at, dealt, ArePorts, HoldManyBlocks, HaveRoomForMany}
+use Rattle.sdf_answer.specs.Blocks.{KeepRoom}
 use Rattle.sdf_answer.specs.Sizes.{at_phase}
 use Rattle.sdf_run.specs.Firings.{phase_at}
-use Rattle.sdf_run.specs.Runs.{HasBlocks, IsInRun, FiresAlone}
+use Rattle.sdf_run.specs.Runs.{HasBlocks, HoldsOfWork, IsInRun, FiresAlone}
 
 -- an actor of one phase that puts on no channel that it takes from
 abbrev pub GoesByMany : {A S T : Type 0} → Steps A S T → Work A T S → List ℕ → List ℕ → Type 0
@@ -61,11 +61,8 @@ pub record CanFireMany {A S T : Type 0} (s : Steps A S T) (times : ℕ) (ins out
     (qs : List (Held T)) : Type 0 where
   pub ins_are : ArePorts ins takes (length qs)
   pub outs_are : ArePorts outs puts (length qs)
-  pub held : (n : ℕ) → n < length ins → times * slice_index takes (slice_index ins n) ≤
-      length (samples qs (slice_index ins n))
-  pub room : (n : ℕ) → n < length outs →
-      length (samples qs (slice_index outs n)) + times * slice_index puts (slice_index outs n) ≤
-      room qs (slice_index outs n)
+  pub held : HoldManyBlocks times ins takes qs
+  pub room : HaveRoomForMany times outs puts qs
   pub work : CanWorkMany s times w (sum_by (slice_index takes) ins) (sum_by (slice_index puts) outs)
 
 -- and this is what they do
@@ -76,14 +73,13 @@ pub record AreManyFired {A S T : Type 0} (s : Steps A S T) (times : ℕ) (ins ou
       samples qs' c ≡ drop (at_ports ins (times * slice_index takes c) c) (samples qs c) ++
       dealt puts outs (sum_by (slice_index puts) outs)
       (all_put s w (joined (front_at takes ins qs) times) times) c times
-  pub rooms : (c : ℕ) → c < length qs → room qs' c ≡ room qs c
+  pub rooms : KeepRoom qs qs'
 
 -- node a of a run can fire so many times
 pub record CanFireManyAt {A S T : Type 0} (s : Steps A S T) (r : Run A T S) (a times : ℕ) : Type 0 where
   pub inside : IsInRun r a times
-  pub can : (d : Work A T S) → let w = slice_index_or r.works.items a d in
-      CanFireMany s times ((wiring s r.net.now).ins a) ((wiring s r.net.now).outs a)
-      (at_phase r.sizes.takes (phase_at w)) (at_phase r.sizes.puts (phase_at w)) w r.queues.items
+  pub can : HoldsOfWork r a (λ w. CanFireMany s times ((wiring s r.net.now).ins a) ((wiring s r.net.now).outs a)
+      (at_phase r.sizes.takes (phase_at w)) (at_phase r.sizes.puts (phase_at w)) w r.queues.items)
 
 -- and this is what they do
 pub record AreManyFiredAt {A S T : Type 0} (s : Steps A S T) (r r' : Run A T S) (a times : ℕ) : Type 0 where

@@ -1,6 +1,6 @@
 -- A run in blocks of periods, whose nodes fire in whatever order their samples come.
 use Rattle.std.specs.Prelude.{◌≡◌, ℕ, ◌+◌, ◌*◌, ◌^◌, ◌≤◌, ◌<◌, Bool, false, IsTrue, List, length, slice_index}
-use Rattle.std.specs.Prelude.{slice_index_or, sum}
+use Rattle.std.specs.Prelude.{sum}
 use Rattle.std.specs.declared.vec.Vec.{Vec}
 use Rattle.sdf_graph.specs.Sequences.{IsRunnable}
 use Rattle.sdf_actor.specs.Steps.{Steps}
@@ -9,11 +9,11 @@ use Rattle.sdf_actor.specs.Wires.{lists}
 use Rattle.sdf_run.specs.declared.work.Work.{Work}
 use Rattle.sdf_run.specs.declared.run.Run.{Run}
 use Rattle.sdf_answer.specs.Held.{Held}
-use Rattle.sdf_answer.specs.Blocks.{samples, room}
+use Rattle.sdf_answer.specs.Blocks.{room, HoldManyBlocks, KeepRoom}
 use Rattle.sdf_answer.specs.Sizes.{Rows, AreSizes, at_phase}
 use Rattle.sdf_run.specs.Firings.{phase_at}
 use Rattle.sdf_answer.specs.Periods.{AreApart, IsPaced}
-use Rattle.sdf_run.specs.Runs.{Stands}
+use Rattle.sdf_run.specs.Runs.{Stands, HoldsOfWork}
 use Rattle.sdf_answer.specs.Answer.{periods_of}
 
 -- each node a has fired done a times, at least low and at most high periods, and the queues have room for all up to
@@ -53,10 +53,8 @@ IsLeft r a many = slice_index r.done.items a + many ≡ r.high * slice_index r.r
 
 -- each channel into a node holds what so many firings take
 abbrev pub AreHeld : {A S T : Type 0} → Steps A S T → Run A T S → ℕ → ℕ → Type 0
-AreHeld {A} {S} {T} s r a times =
-    (d : Work A T S) (n : ℕ) → let ins = (wiring s r.net.now).ins a in let c = slice_index ins n in
-    n < length ins → times * slice_index (at_phase r.sizes.takes (phase_at (slice_index_or r.works.items a d))) c ≤
-    length (samples r.queues.items c)
+AreHeld s r a times = HoldsOfWork r a (λ w.
+    HoldManyBlocks times ((wiring s r.net.now).ins a) (at_phase r.sizes.takes (phase_at w)) r.queues.items)
 
 -- the queues have room for a block of so many periods
 abbrev pub HasRoom : {A S T : Type 0} → Steps A S T → ℕ → Run A T S → Type 0
@@ -73,7 +71,7 @@ pub record Keeps {A S T : Type 0} (r r' : Run A T S) : Type 0 where
   pub periods : r'.periods ≡ r.periods
   pub outputs : length r'.outputs.items ≡ length r.outputs.items
   pub queues : length r'.queues.items ≡ length r.queues.items
-  pub rooms : (c : ℕ) → c < length r.queues.items → room r'.queues.items c ≡ room r.queues.items c
+  pub rooms : KeepRoom r.queues.items r'.queues.items
 
 -- and whether there were any
 pub record IsMoved {A S T : Type 0} (r r' : Run A T S) (moved : Bool) : Type 0 where

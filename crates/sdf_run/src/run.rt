@@ -1,13 +1,13 @@
 //! A run on one thread.
 
-ghost use Rattle.std.specs.Prelude.{◌≡◌, ◌+◌, ◌*◌, ◌≤◌, ◌<◌, ◌↔◌, ℕ, true, false, length, slice_index, slice_index_or};
+ghost use Rattle.std.specs.Prelude.{◌≡◌, ◌+◌, ◌*◌, ◌≤◌, ◌<◌, ◌↔◌, ℕ, true, false, length, slice_index};
 ghost use Rattle.std.specs.Prelude.{IsTrue};
 ghost use Rattle.sdf_actor.specs.Nets.{wiring};
 ghost use Rattle.sdf_actor.specs.Steps.{PutsFit};
 ghost use Rattle.sdf_answer.specs.Sizes.{at_phase};
 ghost use Rattle.sdf_run.specs.AtOnce.{CanFireAtOnceAt, AreFiredAt};
 ghost use Rattle.sdf_run.specs.Many.{Fit, CanFireManyAt, AreManyFiredAt};
-ghost use Rattle.sdf_run.specs.Runs.{FiringLaws, CanFireAt, IsFiredAt};
+ghost use Rattle.sdf_run.specs.Runs.{FiringLaws, HoldsOfWork, CanFireAt, IsFiredAt};
 ghost use Rattle.sdf_run.specs.Sweeps.{IsSwept, MayFire, HasRoom, Keeps, IsMoved, IsLeft, AreHeld};
 
 use crate::block::{blocks_held, hold_blocks};
@@ -162,7 +162,7 @@ impl<'a, A: Actor> Run<'a, A> {
         ensures left { slice_index self.now.done.items a + result ≤
             self.now.high * slice_index self.now.repetitions.now a }
         ensures held { AreHeld A.steps self.now a result }
-        ensures fit { (d : _) → Fit A.steps (slice_index_or self.now.works.items a d) result }
+        ensures fit { HoldsOfWork self.now a (λ w. Fit A.steps w result) }
     {
         let most = self.times(a);
         self.works[a].fits(most)

@@ -1,9 +1,9 @@
 //! What a run holds before its first firing.
 
-ghost use Rattle.std.specs.Prelude.{◌≡◌, ◌+◌, ◌*◌, ◌≤◌, ◌<◌, ℕ, length, slice_index, slice_index_or, vec_len, IfOk};
+ghost use Rattle.std.specs.Prelude.{◌≡◌, ◌+◌, ◌*◌, ◌≤◌, ◌<◌, ℕ, length, slice_index, vec_len, IfOk};
 ghost use Rattle.std.specs.List.{sum_by};
 ghost use Rattle.sdf_actor.specs.Nets.{node, IsNet};
-ghost use Rattle.sdf_run.specs.Runs.{BeginsWork};
+ghost use Rattle.sdf_run.specs.Runs.{BeginsWork, AllBeginWork};
 ghost use Rattle.sdf_answer.specs.Sizes.{AreSizes, at_phase, rows_on};
 
 use crate::work::Work;
@@ -140,9 +140,7 @@ pub(crate) fn make_works<'a, A: Actor>(
 ) -> Result<Vec<Work<'a, A>>, AllocError>
     requires net { IsNet A.steps net.now }
     requires sizes { AreSizes A.steps net.now sizes.now }
-    ensures { IfOk result (λ v. (vec_len v ≡ length net.now.nodes)
-        × ((a : ℕ) (d : _) → a < length net.now.nodes →
-        BeginsWork A.steps (node net.now a) (slice_index_or v.items a d))) }
+    ensures { IfOk result (λ v. (vec_len v ≡ length net.now.nodes) × AllBeginWork A.steps net.now v.items) }
 {
     let mut works = Vec::with_capacity(alloc, net.len())?;
     for a in 0..net.len() {

@@ -1,21 +1,18 @@
 //! Nodes at work.
 
 ghost use Rattle.std.specs.Prelude.{◌≡◌, ◌+◌, ◌*◌, ◌<◌, ◌≤◌, ◌++◌, ℕ, length, slice_index, take, drop, IsTrue, false};
-ghost use Rattle.std.specs.Prelude.{vec_capacity};
-ghost use Rattle.std.specs.List.{sum_by};
 ghost use Rattle.sdf_actor.specs.Histories.{spread};
 ghost use Rattle.sdf_actor.specs.Steps.{total_in, total_out, sum_in, sum_out, state_at, puts_to};
 ghost use Rattle.sdf_actor.specs.Wires.{lists};
 ghost use Rattle.sdf_run.specs.AtOnce.{fronts};
-ghost use Rattle.sdf_node.specs.Many.{joined};
-ghost use Rattle.sdf_answer.specs.Blocks.{samples, room, at_ports, front_at, dealt, ArePorts, HaveRoom};
+ghost use Rattle.sdf_answer.specs.Blocks.{samples, room, at_ports, ArePorts, KeepRoom};
 
-use crate::block::whole_blocks;
+use crate::block::{put_front, put_fronts, take_fronts};
 use sdf_actor::Actor;
 use sdf_actor::actor::next_phase;
 use sdf_answer::Queue;
-use sdf_answer::blocks::{Ports, put_block, take_block};
-use sdf_answer::many_blocks::{put_blocks, take_blocks};
+use sdf_answer::blocks::{Ports, take_block};
+use sdf_answer::many_blocks::whole_blocks;
 use sdf_answer::queue::{Firings, lengthen};
 
 /// What a node does in a firing.
@@ -100,69 +97,6 @@ fn fire_many_into<A: Actor>(
     actor.fire_many(phase, times, state, &taken[..all], front);
 }
 
-/// Puts the first samples of a block on the channels of the ports.
-fn put_front<T: Copy>(ports: &Ports, block: &Vec<T>, many: usize, queues: &mut [Queue<T>])
-    requires ports { ArePorts ports.now.channels.now ports.now.sizes.now (length queues.old) }
-    requires room { HaveRoom ports.now.channels.now ports.now.sizes.now queues.old }
-    requires long { many ≤ length block.now.items }
-    requires many { many ≡ sum_by (slice_index ports.now.sizes.now) ports.now.channels.now }
-    ensures queues { (c : ℕ) → c < length queues.old →
-        samples queues.new c ≡ samples queues.old c ++ spread (slice_index ports.now.sizes.now) ports.now.channels.now
-        (take many block.now.items) c }
-    ensures rooms { (c : ℕ) → c < length queues.old → room queues.new c ≡ room queues.old c }
-{
-    put_block(ports, &block[..many], queues);
-}
-
-/// Takes so many firings' blocks, each of a size, from the channels of the ports to the front of a block.
-fn take_fronts<T: Copy>(
-    ports: &Ports,
-    times: usize,
-    size: usize,
-    block: &mut Vec<T>,
-    queues: &mut [Queue<T>],
-)
-    requires ports { ArePorts ports.now.channels.now ports.now.sizes.now (length queues.old) }
-    requires held { (n : ℕ) → n < length ports.now.channels.now →
-        times * slice_index ports.now.sizes.now (slice_index ports.now.channels.now n) ≤
-        length (samples queues.old (slice_index ports.now.channels.now n)) }
-    requires long { times * size ≤ length block.old.items }
-    requires size { size ≡ sum_by (slice_index ports.now.sizes.now) ports.now.channels.now }
-    ensures block { take (times * size) block.new.items ≡
-        joined (front_at ports.now.sizes.now ports.now.channels.now queues.old) times }
-    ensures len { length block.new.items ≡ length block.old.items }
-    ensures capacity { vec_capacity block.new ≡ vec_capacity block.old }
-    ensures queues { (c : ℕ) → c < length queues.old → samples queues.new c ≡
-        drop (at_ports ports.now.channels.now (times * slice_index ports.now.sizes.now c) c) (samples queues.old c) }
-    ensures rooms { (c : ℕ) → c < length queues.old → room queues.new c ≡ room queues.old c }
-{
-    let (front, _) = block.as_mut_slice().split_at_mut(times * size);
-    take_blocks(ports, times, size, queues, front);
-}
-
-/// Puts the first samples of a block on the channels of the ports: so many firings' blocks, each of a size.
-fn put_fronts<T: Copy>(
-    ports: &Ports,
-    times: usize,
-    size: usize,
-    block: &Vec<T>,
-    queues: &mut [Queue<T>],
-)
-    requires ports { ArePorts ports.now.channels.now ports.now.sizes.now (length queues.old) }
-    requires room { (n : ℕ) → n < length ports.now.channels.now →
-        length (samples queues.old (slice_index ports.now.channels.now n))
-        + times * slice_index ports.now.sizes.now (slice_index ports.now.channels.now n) ≤
-        room queues.old (slice_index ports.now.channels.now n) }
-    requires long { times * size ≤ length block.now.items }
-    requires size { size ≡ sum_by (slice_index ports.now.sizes.now) ports.now.channels.now }
-    ensures queues { (c : ℕ) → c < length queues.old →
-        samples queues.new c ≡ samples queues.old c ++ dealt ports.now.sizes.now ports.now.channels.now size
-        (take (times * size) block.now.items) c times }
-    ensures rooms { (c : ℕ) → c < length queues.old → room queues.new c ≡ room queues.old c }
-{
-    put_blocks(ports, times, size, &block[..times * size], queues);
-}
-
 /// Whether no channel is on both sides.
 fn are_apart(ins: &[usize], outs: &[usize]) -> bool
     ensures { IsTrue result → (i j : ℕ) → i < length ins.now → j < length outs.now →
@@ -186,14 +120,6 @@ fn has(channels: &[usize], channel: usize) -> bool
         }
     }
     false
-}
-
-/// So many blocks of a size, within a limit.
-fn blocks(times: usize, size: usize, _most: usize) -> usize
-    requires { times * size ≤ _most }
-    ensures { result ≡ times * size }
-{
-    times * size
 }
 
 /// Fires an actor so many times at once, from one queue's memory to another's.
@@ -228,12 +154,14 @@ fn fire_through<A: Actor>(
         (puts_to A.steps firings.entry.actor.now firings.entry.phase state.old
         (fronts firings.entry.times ports.now.ins.sizes.now ports.now.ins.channels.now queues.old)
         firings.entry.times) c }
-    ensures rooms { (c : ℕ) → c < length queues.old → room queues.new c ≡ room queues.old c }
+    ensures rooms { KeepRoom queues.old queues.new }
 {
     let from = ports.ins.channels[0];
     let to = ports.outs.channels[0];
-    let many = blocks(firings.times, ports.ins.sizes[from], queues[from].len());
-    let more = blocks(firings.times, ports.outs.sizes[to], queues[to].room());
+    queues[from].is_small();
+    queues[to].is_small();
+    let many = firings.times * ports.ins.sizes[from];
+    let more = firings.times * ports.outs.sizes[to];
     let mut target = queues[to].lift();
     target.put_fired(firings, state, queues[from].oldest(many), more);
     queues[from].release(many);
@@ -320,7 +248,8 @@ impl<'a, A: Actor> Work<'a, A> {
             }
             Work::Sink { ext } => {
                 let from = ports.ins.channels[0];
-                let many = blocks(times, ports.ins.sizes[from], queues[from].len());
+                queues[from].is_small();
+                let many = times * ports.ins.sizes[from];
                 queues[from].take(many, &mut outputs[*ext]);
             }
             Work::Inner {

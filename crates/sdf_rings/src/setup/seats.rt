@@ -1,15 +1,15 @@
 //! Seats before their first firing.
 
-ghost use Rattle.std.specs.Prelude.{◌≡◌, ◌<◌, ℕ, length, slice_index, slice_index_or, vec_len, IfOk, OnOk};
+ghost use Rattle.std.specs.Prelude.{◌≡◌, ◌<◌, ℕ, length, slice_index, vec_len, IfOk, OnOk};
 ghost use Rattle.sdf_graph.specs.Sequences.{repeated};
 ghost use Rattle.sdf_actor.specs.Nets.{wire};
 ghost use Rattle.sdf_actor.specs.Wires.{lists};
 ghost use Rattle.sdf_rings.specs.Openings.{end_at, HasEnds};
-ghost use Rattle.sdf_rings.specs.Begun.{place, AreNext, IsDeal, IsStart, AreBegun, IsBegun};
+ghost use Rattle.sdf_rings.specs.Begun.{place, AreNext, IsRoster, IsStart, AreBegun, IsBegun, HaveBegun};
 
 use crate::seat::Seat;
-use crate::setup::deals::Deal;
 use crate::setup::openings::Ends;
+use crate::setup::roster::Roster;
 use crate::setup::stands::{Start, begin_stand};
 use crate::stand::Stand;
 use sdf_actor::Actor;
@@ -50,28 +50,28 @@ fn stands<A: Actor>(
 fn begin_seat<A: Actor>(
     alloc: Global,
     start: &Start<A>,
-    deal: &Deal<'_>,
+    roster: &Roster<'_>,
     ends: &mut Ends<A::Token>,
     seat: usize,
 ) -> Result<Seat<A>, AllocError>
     requires start { IsStart A.steps start.now }
-    requires all { length deal.now.places.now ≡ length start.now.net.now.nodes }
-    requires next { AreNext deal.now.places.now }
-    requires deal { IsDeal deal.now }
-    requires ends { (a : ℕ) → a < length deal.now.places.now → (place deal.now.places.now a).0 ≡ seat →
+    requires all { length roster.now.places.now ≡ length start.now.net.now.nodes }
+    requires next { AreNext roster.now.places.now }
+    requires roster { IsRoster roster.now }
+    requires ends { (a : ℕ) → a < length roster.now.places.now → (place roster.now.places.now a).0 ≡ seat →
         HasEnds start.now.net.now a ends.old.producers.items ends.old.consumers.items }
     ensures begun { IfOk result (IsBegun A.steps start.now.net.now (lists start.now.inputs.now)
-        (slice_index start.now.asked.items) ends.old.producers.items ends.old.consumers.items deal.now.places.now
-        (repeated deal.now.blocks deal.now.order.now) seat) }
-    ensures producers { OnOk result ((c : ℕ) → ((place deal.now.places.now
+        (slice_index start.now.asked.items) ends.old.producers.items ends.old.consumers.items roster.now.places.now
+        (repeated roster.now.blocks roster.now.order.now) seat) }
+    ensures producers { OnOk result ((c : ℕ) → ((place roster.now.places.now
         (wire start.now.net.now c).from.0).0 ≡ seat → ⊥) →
         end_at ends.new.producers.items c ≡ end_at ends.old.producers.items c) }
-    ensures consumers { OnOk result ((c : ℕ) → ((place deal.now.places.now
+    ensures consumers { OnOk result ((c : ℕ) → ((place roster.now.places.now
         (wire start.now.net.now c).to.0).0 ≡ seat → ⊥) →
         end_at ends.new.consumers.items c ≡ end_at ends.old.consumers.items c) }
 {
-    let stands = stands(alloc, start, deal.places, ends, seat)?;
-    let left = deal.course_of(alloc, seat)?;
+    let stands = stands(alloc, start, roster.places, ends, seat)?;
+    let left = roster.course_of(alloc, seat)?;
     Ok(Seat {
         processor: seat,
         stands,
@@ -84,26 +84,24 @@ fn begin_seat<A: Actor>(
 pub(crate) fn seats<A: Actor>(
     alloc: Global,
     start: &Start<A>,
-    deal: &Deal<'_>,
+    roster: &Roster<'_>,
     ends: &mut Ends<A::Token>,
     many: usize,
 ) -> Result<Vec<Seat<A>>, AllocError>
     requires start { IsStart A.steps start.now }
-    requires all { length deal.now.places.now ≡ length start.now.net.now.nodes }
-    requires next { AreNext deal.now.places.now }
-    requires deal { IsDeal deal.now }
-    requires ends { (a : ℕ) → a < length deal.now.places.now →
+    requires all { length roster.now.places.now ≡ length start.now.net.now.nodes }
+    requires next { AreNext roster.now.places.now }
+    requires roster { IsRoster roster.now }
+    requires ends { (a : ℕ) → a < length roster.now.places.now →
         HasEnds start.now.net.now a ends.old.producers.items ends.old.consumers.items }
     ensures all { IfOk result (λ v. vec_len v ≡ many) }
-    ensures each { IfOk result (λ v. (i : ℕ) (e : _) → i < many →
-        IsBegun A.steps start.now.net.now (lists start.now.inputs.now) (slice_index start.now.asked.items)
-        ends.old.producers.items ends.old.consumers.items deal.now.places.now
-        (repeated deal.now.blocks deal.now.order.now) i
-        (slice_index_or v.items i e)) }
+    ensures each { IfOk result (λ v. HaveBegun A.steps start.now.net.now (lists start.now.inputs.now)
+        (slice_index start.now.asked.items) ends.old.producers.items ends.old.consumers.items roster.now.places.now
+        (repeated roster.now.blocks roster.now.order.now) many v.items) }
 {
     let mut seats = Vec::with_capacity(alloc, many)?;
     for seat in 0..many {
-        seats.push(begin_seat(alloc, start, deal, ends, seat)?)?;
+        seats.push(begin_seat(alloc, start, roster, ends, seat)?)?;
     }
     Ok(seats)
 }

@@ -1,10 +1,10 @@
 //! A node before its first firing.
 
-ghost use Rattle.std.specs.Prelude.{◌≡◌, ◌<◌, ℕ, None, length, slice_index, slice_index_or, vec_len, IsSome, IfSome};
+ghost use Rattle.std.specs.Prelude.{◌≡◌, ◌<◌, ℕ, None, length, slice_index, vec_len, IsSome, IfSome};
 ghost use Rattle.std.specs.Prelude.{IfOk, OnOk};
 ghost use Rattle.sdf_actor.specs.Nets.{wire, node};
 ghost use Rattle.sdf_actor.specs.Wires.{lists};
-ghost use Rattle.sdf_rings.specs.Openings.{end_at, HasEnds};
+ghost use Rattle.sdf_rings.specs.Openings.{end_at, AreEndsAt, HasEnds};
 ghost use Rattle.sdf_rings.specs.Begun.{IsStart, HasIns, HasOuts, HasBegun};
 ghost use Rattle.sdf_rings.specs.Stands.{OwnArePairs, IsStand};
 
@@ -58,8 +58,7 @@ fn take_ends<E: Drop>(
     requires once { (i k : ℕ) → i < length channels.now → k < length channels.now →
         slice_index channels.now i ≡ slice_index channels.now k → i ≡ k }
     ensures all { IfOk result (λ v. vec_len v ≡ length channels.now) }
-    ensures each { IfOk result (λ v. (i : ℕ) (d : E) → i < length channels.now →
-        end_at ends.old.items (slice_index channels.now i) ≡ Some (slice_index_or v.items i d)) }
+    ensures each { IfOk result (λ v. AreEndsAt ends.old.items channels.now v.items) }
     ensures others { OnOk result ((c : ℕ) → ((i : ℕ) → i < length channels.now → slice_index channels.now i ≡ c → ⊥) →
         end_at ends.new.items c ≡ end_at ends.old.items c) }
 {

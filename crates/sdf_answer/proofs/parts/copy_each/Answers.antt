@@ -1,5 +1,6 @@
-use Rattle.std.proofs.Common.{◌+◌, ◌*◌, ℕ, arith, slice_set}
+use Rattle.std.proofs.Common.{◌≡◌, ◌+◌, ◌*◌, ℕ, subst, arith, slice_set}
 use Rattle.std.proofs.lemmas.List.{take-set-le, drop-set-lt}
+use Rattle.sdf_answer.specs.Parts.{AreCopied}
 use Rattle.sdf_answer.proofs.Gathers.{one_copied, parts_next, others_next}
 use Rattle.sdf_answer.proofs.parts.copy_each.Goals as goal
 
@@ -10,8 +11,8 @@ loop-i-preserved g c =
     let start : ℕ = c.args.out.first + c.args.out.step * i in
     let v = c.index-from-out.result in
     let was = c.loop-i.invariant in
-    let there = c.requires.from i c.loop-i-test.true in
-    let here = c.requires.to i c.loop-i-test.true in
+    let there = c.requires.from_holds i c.loop-i-test.true in
+    let here = c.requires.to_holds i c.loop-i-test.true in
     let before = take-set-le at c.loop-i.to at v (omega arith) in
     let behind = drop-set-lt (at + 1) c.loop-i.to at v (omega arith) in
     let new = one_copied c.args.from.now c.loop-i.to start at v (omega arith) (omega arith) c.index-from-out.is in
@@ -21,3 +22,9 @@ loop-i-preserved g c =
       others = others_next c.args.from.now c.args.to.now c.loop-i.to (slice_set c.loop-i.to at v) c.args.out c.args.into
           1 i c.requires.apart before behind was.others;
     }
+
+pub returns : goal.returns
+returns g c =
+    let all : c.loop-i.i ≡ c.args.many = omega (arith, c.loop-i-test.false, c.loop-i.auto.i-end) in
+    subst (λ many. AreCopied c.args.out c.args.into 1 many c.args.from.now c.args.to.now c.loop-i.to) all
+    c.loop-i.invariant

@@ -1,9 +1,14 @@
-use Rattle.std.proofs.Common.{◌∙◌, sym, length}
-use Rattle.sdf_answer.proofs.Gathers.{part_is, row_is, row_inside, before_kept, whole_part}
+use Rattle.std.proofs.Common.{◌∙◌, sym, length, arith}
+use Rattle.sdf_answer.proofs.Gathers.{part_is, row_is, parts_inside, row_inside, before_kept, whole_part}
 use Rattle.sdf_answer.proofs.parts.deal_row.Goals as goal
 
-pub copy_parts-requires-clause-from : goal.copy_parts-requires-clause-from
-copy_parts-requires-clause-from g c = row_inside c.args.width c.args.many (length c.args.row.now) c.requires.row
+pub copy_parts-requires : goal.copy_parts-requires
+copy_parts-requires g c = record {
+  from_holds = row_inside c.args.width c.args.many (length c.args.row.now) c.requires.row;
+  to_holds = λ i. parts_inside c.args.size c.args.at c.args.width c.args.many (length c.args.blocks.now) i
+      c.requires.inside c.requires.blocks;
+  apart = omega (arith, c.requires.inside);
+}
 
 pub returns-then-width-size-clause-dealt : goal.returns-then-width-size-clause-dealt
 returns-then-width-size-clause-dealt g c = λ i l.

@@ -1,10 +1,15 @@
 use Rattle.std.proofs.Common.{◌+◌, ◌∙◌, sym, slice_range, length, arith}
 use Rattle.sdf_node.specs.Many.{nth_block}
-use Rattle.sdf_answer.proofs.Gathers.{part_is, row_inside, row_joined, whole_part}
+use Rattle.sdf_answer.proofs.Gathers.{part_is, parts_inside, row_inside, row_joined, whole_part}
 use Rattle.sdf_answer.proofs.parts.gather_row.Goals as goal
 
-pub copy_parts-requires-clause-to : goal.copy_parts-requires-clause-to
-copy_parts-requires-clause-to g c = row_inside c.args.width c.args.many (length c.args.row.now) c.requires.row
+pub copy_parts-requires : goal.copy_parts-requires
+copy_parts-requires g c = record {
+  from_holds = λ i. parts_inside c.args.size c.args.at c.args.width c.args.many (length c.args.blocks.now) i
+      c.requires.inside c.requires.blocks;
+  to_holds = row_inside c.args.width c.args.many (length c.args.row.now) c.requires.row;
+  apart = omega arith;
+}
 
 pub returns-then-width-size : goal.returns-then-width-size
 returns-then-width-size g c =

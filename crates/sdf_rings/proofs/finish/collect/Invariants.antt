@@ -1,6 +1,5 @@
 use Rattle.std.proofs.Common.{◌≡◌, ◌<◌, ◌≤◌, ℕ, length, vec_len, slice_index_or}
-use Rattle.sdf_rings.specs.Rests.{stand_of}
-use Rattle.sdf_rings.proofs.Collects.{AreGiven}
+use Rattle.sdf_rings.specs.Rests.{stand_of, AreGiven}
 use Rattle.sdf_rings.proofs.finish.collect.Given as goal
 
 abbrev pub invariant-loop-a : goal.invariant-loop-a

@@ -1,32 +1,24 @@
-use Rattle.std.proofs.Common.{◌<◌, length, slice_index_or, slice_set, arith, sym, subst}
+use Rattle.std.proofs.Common.{slice_index_or, slice_set, sym, subst}
 use Rattle.std.specs.Vec.{with_item}
 use Rattle.sdf_node.specs.Collected.{IsCollected}
 use Rattle.sdf_rings.specs.declared.stand.Stand.{Stand}
 use Rattle.sdf_rings.specs.Places.{stand_at}
-use Rattle.sdf_rings.proofs.Places.{updated, seat_is, stand_is, update_as}
+use Rattle.sdf_rings.proofs.Places.{at_stand, stand_was, updated, update_as}
 use Rattle.sdf_rings.proofs.finish.collect_from.Goals as goal
 
 pub returns-clause-seats : goal.returns-clause-seats
 returns-clause-seats g c = λ e d.
-    let r = c.index-seats-seat.result in
-    let f = slice_index_or c.args.seats.now c.args.seat r in
-    let is = seat_is c.args.seats.now c.args.seat r c.requires.seat in
-    let below : c.args.stand < length f.stands.items = let h = c.requires.stand r in omega arith in
+    let f = slice_index_or c.args.seats.now c.args.seat c.index-seats-seat.result in
     let now = c.index_mut.result.now in
     let y = record now { state = c.collect_at.new.state } in
-    let u = updated c.args.seats.now c.args.seat c.args.stand f y c.requires.seat is below in
+    let u = updated (at_stand c.args.seats.now c.args.seat c.args.stand c.index-seats-seat.result now c.requires.seat
+    c.requires.stand c.index_mut.ensures.value) y in
     let new = slice_set c.args.seats.now c.args.seat (record f { stands = with_item f.stands c.args.stand y }) in
     update_as c.args.seats.now new c.args.seat c.args.stand y (stand_at new c.args.seat c.args.stand e d)
     (sym (u.here e d)) u
 
 pub returns-clause-list : goal.returns-clause-list
 returns-clause-list g c = λ e d.
-    let r = c.index-seats-seat.result in
-    let f = slice_index_or c.args.seats.now c.args.seat r in
-    let is = seat_is c.args.seats.now c.args.seat r c.requires.seat in
-    let below : c.args.stand < length f.stands.items = let h = c.requires.stand r in omega arith in
-    let now = c.index_mut.result.now in
-    let same = stand_is c.args.seats.now c.args.seat c.args.stand f now e d c.requires.seat is below
-    c.index_mut.ensures.value in
     subst (λ (z : Stand _ _ _). IsCollected c.args.node.now z.state c.args.outputs.now c.collect_at.new.outputs)
-    (sym same) c.collect_at.ensures
+    (sym (stand_was (at_stand c.args.seats.now c.args.seat c.args.stand c.index-seats-seat.result
+    c.index_mut.result.now c.requires.seat c.requires.stand c.index_mut.ensures.value) e d)) c.collect_at.ensures

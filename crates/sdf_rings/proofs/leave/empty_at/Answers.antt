@@ -3,22 +3,20 @@ use Rattle.std.proofs.lemmas.List.{get_or_default}
 use Rattle.rtrb.specs.Ring.{known_items}
 use Rattle.sdf_rings.proofs.Leaving.{emptied}
 use Rattle.sdf_rings.proofs.Swaps.{in_vec}
-use Rattle.sdf_rings.proofs.Tells.{some}
+use Rattle.sdf_rings.proofs.Tells.{some, some_stand}
 use Rattle.sdf_rings.proofs.leave.empty_at.Goals as goal
 
 pub index_mut-requires : goal.index_mut-requires
 index_mut-requires g c =
     let t = c.requires.there in
     let e0 = some c.args.seats.now c.args.at.seat t.seat_in in
-    let d0 = some (slice_index_or c.args.seats.now c.args.at.seat e0).stands.items c.args.at.stand
-    (in_vec (slice_index_or c.args.seats.now c.args.at.seat e0).stands c.args.at.stand (t.stand_in e0)) in
+    let d0 = some_stand c.args.seats.now c.args.at.seat c.args.at.stand t.stand_in e0 in
     rw (c.swap_ins.ensures.ins e0 d0) (t.port_in e0 d0)
 
 pub swap_ins-requires-2-clause-stand : goal.swap_ins-requires-2-clause-stand
 swap_ins-requires-2-clause-stand g c κs within = λ e.
     let t = c.requires.there in
-    let d = some (slice_index_or c.args.seats.now c.args.at.seat e).stands.items c.args.at.stand
-    (in_vec (slice_index_or c.args.seats.now c.args.at.seat e).stands c.args.at.stand (t.stand_in e)) in
+    let d = some_stand c.args.seats.now c.args.at.seat c.args.at.stand t.stand_in e in
     rw (((c.swap_ins.ensures.seats e d).seats c.args.at.seat e).stands_same) (t.stand_in e)
 
 pub returns-clause-items : goal.returns-clause-items

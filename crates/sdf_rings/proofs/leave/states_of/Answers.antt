@@ -4,8 +4,7 @@ use Rattle.sdf_rings.specs.declared.stand.Stand.{Stand}
 use Rattle.sdf_node.specs.Kept.{kept_of}
 use Rattle.sdf_rings.specs.Rests.{stand_of}
 use Rattle.sdf_rings.proofs.Lists.{push_each, vec_long}
-use Rattle.sdf_rings.proofs.Looking.{vec_in}
-use Rattle.sdf_rings.proofs.Places.{seat_is, stand_is}
+use Rattle.sdf_rings.proofs.Places.{at_stand, stand_was}
 use Rattle.sdf_rings.proofs.leave.states_of.Goals as goal
 
 pub loop-a-preserved : goal.loop-a-preserved
@@ -15,11 +14,10 @@ loop-a-preserved g c =
     let places = c.args.places.now in
     let a = c.loop-a.a in
     let l : a < length n.nodes = omega (arith, c.loop-a-test.true, c.len-a-end.ensures) in
-    let f = slice_index_or seats (slice_index_or places a (0, 0)).0 c.index-seats-place.result in
     let r = c.index-stand.result.now in
-    let inside = c.requires.placed.seat_in a l in
-    let below = vec_in f.stands (slice_index_or places a (0, 0)).1
-    (c.requires.placed.stand_in a c.index-seats-place.result l) in
+    let here = at_stand seats (slice_index_or places a (0, 0)).0 (slice_index_or places a (0, 0)).1
+    c.index-seats-place.result r (c.requires.placed.seat_in a l) (λ e. c.requires.placed.stand_in a e l)
+    c.index-stand.ensures in
     record {
       all = omega (
         arith,
@@ -33,8 +31,5 @@ loop-a-preserved g c =
           c.loop-a.states.items c.push.new.self.items c.in_ok-kept.field-0 a c.in_ok-push.ensures.items
           c.loop-a.invariant.all (λ k w m. c.loop-a.invariant.each k w e d m)
           (c.in_ok-kept.ensures ∙ (ap (λ x. kept_of x r.state) c.node.ensures ∙
-          ap (λ (y : Stand _ _ _). kept_of (node n a) y.state)
-          (sym (stand_is seats (slice_index_or places a (0, 0)).0 (slice_index_or places a (0, 0)).1 f r e d inside
-          (seat_is seats (slice_index_or places a (0, 0)).0 c.index-seats-place.result inside) below
-          c.index-stand.ensures)))) b z h;
+          ap (λ (y : Stand _ _ _). kept_of (node n a) y.state) (sym (stand_was here e d)))) b z h;
     }

@@ -3,87 +3,71 @@ use Rattle.std.specs.Vec.{with_item}
 use Rattle.sdf_rings.specs.declared.stand.Stand.{Stand}
 use Rattle.rtrb.specs.Ring.{IsPair}
 use Rattle.sdf_rings.specs.Ends.{IsMet}
-use Rattle.sdf_rings.specs.Places.{stand_at}
-use Rattle.sdf_rings.proofs.Places.{updated, seat_is, stand_is, update_as, looked_at}
+use Rattle.sdf_rings.specs.Places.{producer_at}
+use Rattle.sdf_rings.proofs.Places.{AtStand, at_stand, stand_was, updated, update_as, looked_at}
+use Rattle.sdf_rings.proofs.meet.tell_producer.Given.{Over}
+use Rattle.sdf_rings.proofs.meet.tell_producer.Goals.{After-index_mut}
 use Rattle.sdf_rings.proofs.meet.tell_producer.Goals as goal
 
-pub returns-clause-seats : goal.returns-clause-seats
-returns-clause-seats g c = λ e d x.
-    let r = c.index-seats-seat.result in
-    let f = slice_index_or c.args.seats.now c.args.seat r in
-    let is = seat_is c.args.seats.now c.args.seat r c.requires.seat in
-    let below : c.args.stand < length f.stands.items = let h = c.requires.stand r in omega arith in
-    let now = c.index_mut.result.now in
-    let p = c.tell.new.producer in
-    let y = record now { outs = with_item now.outs c.args.port p } in
-    let same = stand_is c.args.seats.now c.args.seat c.args.stand f now e d c.requires.seat is below
-    c.index_mut.ensures.value in
-    let u = updated c.args.seats.now c.args.seat c.args.stand f y c.requires.seat is below in
-    let new = slice_set c.args.seats.now c.args.seat (record f { stands = with_item f.stands c.args.stand y }) in
-    let h = c.requires.port r now in
-    let z = stand_is c.args.seats.now c.args.seat c.args.stand f now r now c.requires.seat is below
-    c.index_mut.ensures.value in
-    let port : c.args.port < length now.outs.items = let q = rw z at h in omega arith in
-    let told = ap (λ (s : Stand _ _ _). slice_index_or s.outs.items c.args.port x) (u.here e d)
-    ∙ get_or-set_same now.outs.items c.args.port p x port in
-    update_as c.args.seats.now new c.args.seat c.args.stand y _
-    (ap (λ v. record now { outs = with_item now.outs c.args.port v }) (sym told)
-    ∙ ap (λ (s : Stand _ _ _). record s {
-      outs = with_item s.outs c.args.port
-          (slice_index_or (stand_at new c.args.seat c.args.stand e d).outs.items c.args.port x);
-    }) (sym same))
-    u
+here : (g : Over) (c : After-index_mut g) → AtStand c.args.seats.now c.args.at.seat c.args.at.stand
+    (slice_index_or c.args.seats.now c.args.at.seat c.index-seats-at.result) c.index_mut.result.now
+here g c = at_stand c.args.seats.now c.args.at.seat c.args.at.stand c.index-seats-at.result c.index_mut.result.now
+    c.requires.there.seat_in c.requires.there.stand_in c.index_mut.ensures.value
 
-pub returns-clause-producer : goal.returns-clause-producer
-returns-clause-producer g c =
-    let r = c.index-seats-seat.result in
-    let f = slice_index_or c.args.seats.now c.args.seat r in
-    let is = seat_is c.args.seats.now c.args.seat r c.requires.seat in
-    let below : c.args.stand < length f.stands.items = let h = c.requires.stand r in omega arith in
+port_in : (g : Over) (c : After-index_mut g) → c.args.at.port < length c.index_mut.result.now.outs.items
+port_in g c =
+    let r = c.index-seats-at.result in
     let now = c.index_mut.result.now in
-    let h = c.requires.port r now in
-    let z = stand_is c.args.seats.now c.args.seat c.args.stand f now r now c.requires.seat is below
-    c.index_mut.ensures.value in
-    let port : c.args.port < length now.outs.items = let q = rw z at h in omega arith in
-    looked_at c.args.seats.now c.args.seat c.args.stand c.args.port f now c.index_mut-2.result.now c.tell.new.producer
-    c.requires.seat is below c.index_mut.ensures.value port c.index_mut-2.ensures.value c.tell.ensures.producer
+    let h = rw (stand_was (here g c) r now) at (c.requires.there.port_in r now) in
+    omega arith
 
-pub bounds-seats-seat : goal.bounds-seats-seat
-bounds-seats-seat g c = c.requires.seat
+pub bounds-seats-at : goal.bounds-seats-at
+bounds-seats-at g c = c.requires.there.seat_in
 
 pub index_mut-requires : goal.index_mut-requires
-index_mut-requires g c = c.requires.stand c.index-seats-seat.result
+index_mut-requires g c = c.requires.there.stand_in c.index-seats-at.result
 
 pub tell-requires : goal.tell-requires
 tell-requires g c =
-    let r = c.index-seats-seat.result in
-    let f = slice_index_or c.args.seats.now c.args.seat r in
-    let is = seat_is c.args.seats.now c.args.seat r c.requires.seat in
-    let below : c.args.stand < length f.stands.items = let h = c.requires.stand r in omega arith in
+    let r = c.index-seats-at.result in
     let now = c.index_mut.result.now in
-    let z = stand_is c.args.seats.now c.args.seat c.args.stand f now r now c.requires.seat is below
-    c.index_mut.ensures.value in
     let q = c.index_mut-2.result.now in
     subst (λ p. IsPair p c.args.consumer.now) (sym c.index_mut-2.ensures.value)
-    (subst (λ (s : Stand _ _ _). IsPair (slice_index_or s.outs.items c.args.port q) c.args.consumer.now) z
-    (c.requires.pair r now q))
+    (subst (λ (s : Stand _ _ _). IsPair (slice_index_or s.outs.items c.args.at.port q) c.args.consumer.now)
+    (stand_was (here g (goal.at.tell-requires g c).After-index_mut) r now) (c.requires.pair r now q))
 
 pub returns-clause-consumer : goal.returns-clause-consumer
 returns-clause-consumer g c = c.tell.ensures.consumer
 
+pub returns-clause-producer : goal.returns-clause-producer
+returns-clause-producer g c =
+    let at = (goal.at.returns-clause-producer g c).After-index_mut in
+    looked_at (here g at) c.args.at.port c.index_mut-2.result.now c.tell.new.producer (port_in g at)
+    c.index_mut-2.ensures.value c.tell.ensures.producer
+
 pub returns-clause-met : goal.returns-clause-met
 returns-clause-met g c = λ e d x.
-    let r = c.index-seats-seat.result in
-    let f = slice_index_or c.args.seats.now c.args.seat r in
-    let is = seat_is c.args.seats.now c.args.seat r c.requires.seat in
-    let below : c.args.stand < length f.stands.items = let h = c.requires.stand r in omega arith in
+    let at = (goal.at.returns-clause-met g c).After-index_mut in
     let now = c.index_mut.result.now in
-    let z = stand_is c.args.seats.now c.args.seat c.args.stand f now r now c.requires.seat is below
-    c.index_mut.ensures.value in
     let p = c.tell.new.producer in
-    let y = record now { outs = with_item now.outs c.args.port p } in
-    let u = updated c.args.seats.now c.args.seat c.args.stand f y c.requires.seat is below in
-    let port : c.args.port < length now.outs.items = let h = rw z at (c.requires.port r now) in omega arith in
-    let told = ap (λ (s : Stand _ _ _). slice_index_or s.outs.items c.args.port x) (u.here e d)
-    ∙ get_or-set_same now.outs.items c.args.port p x port in
+    let u = updated (here g at) (record now { outs = with_item now.outs c.args.at.port p }) in
+    let told = ap (λ (s : Stand _ _ _). slice_index_or s.outs.items c.args.at.port x) (u.here e d)
+    ∙ get_or-set_same now.outs.items c.args.at.port p x (port_in g at) in
     subst (λ v. IsMet v c.tell.new.consumer) (sym told) c.tell.ensures.met
+
+pub returns-clause-seats : goal.returns-clause-seats
+returns-clause-seats g c = λ e d x.
+    let at = (goal.at.returns-clause-seats g c).After-index_mut in
+    let f = slice_index_or c.args.seats.now c.args.at.seat c.index-seats-at.result in
+    let now = c.index_mut.result.now in
+    let p = c.tell.new.producer in
+    let y = record now { outs = with_item now.outs c.args.at.port p } in
+    let u = updated (here g at) y in
+    let new = slice_set c.args.seats.now c.args.at.seat (record f { stands = with_item f.stands c.args.at.stand y }) in
+    let told = ap (λ (s : Stand _ _ _). slice_index_or s.outs.items c.args.at.port x) (u.here e d)
+    ∙ get_or-set_same now.outs.items c.args.at.port p x (port_in g at) in
+    update_as c.args.seats.now new c.args.at.seat c.args.at.stand y _
+    (ap (λ v. record now { outs = with_item now.outs c.args.at.port v }) (sym told)
+    ∙ ap (λ (s : Stand _ _ _). record s {
+      outs = with_item s.outs c.args.at.port (producer_at new c.args.at e d x);
+    }) (sym (stand_was (here g at) e d))) u

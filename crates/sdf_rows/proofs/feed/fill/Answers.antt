@@ -1,15 +1,13 @@
-use Rattle.std.proofs.Common.{◌≡◌, ◌++◌, ◌*◌, length, map, get_or, take, drop, sym, ap, ◌∙◌, subst, arith}
+use Rattle.std.proofs.Common.{◌≡◌, ◌++◌, ◌*◌, length, map, take, drop, sym, ap, ◌∙◌, subst, arith}
 use Rattle.std.proofs.Math.Seq.{take-append_seam}
 use Rattle.std.proofs.lemmas.List.{length-map}
 use Rattle.sdf_actor.specs.declared.rest.Rest.{Rest}
-use Rattle.sdf_actor.specs.Nets.{node}
 use Rattle.sdf_actor.specs.Wires.{lists}
 use Rattle.sdf_actor.specs.declared.sides.Lists.TheVariants.{Outputs}
 use Rattle.sdf_actor.specs.Sides.{list_count}
 use Rattle.sdf_answer.specs.Answer.{periods_of}
 use Rattle.sdf_answer.specs.Feeds.{HasRun}
-use Rattle.sdf_node.specs.Kept.{kept_of}
-use Rattle.sdf_rows.specs.Collect.{AreCollected}
+use Rattle.sdf_rows.specs.Collect.{AreCollected, AreKept}
 use Rattle.sdf_rows.proofs.Readings.{vec_long}
 use Rattle.sdf_rows.proofs.Ends.{row_run}
 use Rattle.sdf_rows.proofs.feed.fill.Goals as goal
@@ -38,8 +36,7 @@ returns-in_ok-held-in-Some g c =
     (row_run s n (lists c.args.inputs.now) q p.table.now.factor p.blocks over.0 run.states.items run.queues.items over.1
     c.histories_make_runs.ensures.runs c.nodes_keep_states.ensures c.net_facts.ensures.net
     made collected count rest c.in_ok-kept_by-in-Some.ensures.all
-    (λ a w l. c.in_ok-kept_by-in-Some.ensures.each a w l
-    ∙ ap (λ xs. kept_of (node n a) (get_or xs a w)) c.deref.ensures.value)
+    (subst (λ ws. AreKept n ws rest.states.items) c.deref.ensures.value c.in_ok-kept_by-in-Some.ensures.each)
     (c.in_ok-held-in-Some.ensures ∙ ap (map (λ queue. queue.samples)) c.deref-in-Some.ensures.value))
 
 pub returns-in_ok-first_rest-in-None : goal.returns-in_ok-first_rest-in-None

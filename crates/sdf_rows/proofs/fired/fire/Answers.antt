@@ -48,9 +48,7 @@ run_blocks-requires-clause-start g c = λ κs within.
 pub run_blocks-requires-clause-blocks : goal.run_blocks-requires-clause-blocks
 run_blocks-requires-clause-blocks g c = λ κs within.
     have_blocks g.A.Actor.steps c.args.net.now c.in_ok-new.field-0 c.in_ok-new.ensures c.deref_mut.result.now
-    c.columns.result
-    (ap length c.deref_mut.ensures.value ∙ (vec_long c.in_ok-jobs.jobs ∙ c.in_ok-jobs.ensures.0))
-    (λ i d h. rw (c.deref_mut.ensures.value) (c.in_ok-jobs.ensures.1 i d h))
+    (rw (c.deref_mut.ensures.value) c.in_ok-jobs.ensures.1)
 
 pub run_blocks-requires-clause-wide : goal.run_blocks-requires-clause-wide
 run_blocks-requires-clause-wide g c = λ κs within. λ i h.

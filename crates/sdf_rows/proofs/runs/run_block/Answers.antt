@@ -8,13 +8,14 @@ use Rattle.sdf_rows.specs.Stage.{row_actors}
 use Rattle.sdf_rows.specs.Stands.{IsRow}
 use Rattle.sdf_rows.specs.Blocks.{block_after}
 use Rattle.sdf_rows.proofs.Blocks.{row_is, row_counts, block_counts}
-use Rattle.sdf_rows.proofs.Fills.{keep_twice, keep_have}
+use Rattle.sdf_rows.proofs.Keeps.{keep_twice, keep_have}
 use Rattle.sdf_rows.proofs.runs.run_block.Goals as goal
 use Rattle.sdf_rows.proofs.runs.run_block.Goals.{In-loop-i}
 
 next : (g : Rattle.sdf_rows.proofs.runs.run_block.Given.Over) (c : In-loop-i g) →
     IsRow g.A.Actor.steps c.args.scene.now.net.now (λ a. get_or c.loop-i.stage.done.items a 0)
-    (block_after c.args.timetable.now.repetitions.now c.args.timetable.now.j (λ a. get_or c.args.stage.now.done.items a 0))
+    (block_after c.args.timetable.now.repetitions.now c.args.timetable.now.j
+    (λ a. get_or c.args.stage.now.done.items a 0))
     (row_actors (row c.args.timetable.now.table.now.rows c.loop-i.i))
 next g c =
     row_is g.A.Actor.steps c.args.scene.now.net.now (rates (graph_of g.A.Actor.steps c.args.scene.now.net.now))

@@ -3,7 +3,7 @@ use Rattle.sdf_graph.specs.Rates.{rates}
 use Rattle.sdf_actor.specs.Graphs.{graph_of}
 use Rattle.sdf_actor.specs.Wires.{lists}
 use Rattle.sdf_rows.specs.Blocks.{IsResting}
-use Rattle.sdf_rows.proofs.Fills.{keep_twice, keep_have}
+use Rattle.sdf_rows.proofs.Keeps.{keep_twice, keep_have}
 use Rattle.sdf_rows.proofs.Rounds.{round_here, block_begins, block_ends}
 use Rattle.sdf_rows.proofs.runs.run_blocks.Goals as goal
 

@@ -14,5 +14,7 @@ loop-preserved g c = record {
 
 pub returns : goal.returns
 returns g c =
-    let e : c.loop.counter ≡ c.args.width = omega (arith, c.loop-test.false, c.loop.auto.counter-end) in
-    (c.loop.invariant.len ∙ e, λ i d h. c.loop.invariant.each i d (omega (arith, e, h)))
+    let e : c.loop.counter ≡ c.args.width = omega (arith, c.loop-test.false, c.loop.auto.counter-end) in (
+      c.loop.invariant.len ∙ e,
+      λ i d h. c.loop.invariant.each i d (omega (arith, vec_long c.loop.jobs, c.loop.invariant.len, h)),
+    )

@@ -1,13 +1,13 @@
-use Rattle.std.proofs.Common.{ℕ, ◌+◌, ◌<◌, length, get_or, sym, ap, ◌∙◌, subst, arith}
+use Rattle.std.proofs.Common.{◌+◌, length, get_or, sym, ap, ◌∙◌, subst, arith}
 use Rattle.std.specs.List.{All}
 use Rattle.std.proofs.lemmas.List.{length-map}
 use Rattle.sdf_graph.specs.Sequences.{times}
 use Rattle.sdf_actor.specs.Wires.{lists}
-use Rattle.sdf_rows.specs.declared.job.Job.{Job}
-use Rattle.sdf_rows.specs.Jobs.{JobFits, HasFired}
+use Rattle.sdf_rows.specs.Jobs.{JobFits, HaveFired}
 use Rattle.sdf_rows.specs.Stage.{actors_of}
 use Rattle.sdf_rows.proofs.Known.{Known}
-use Rattle.sdf_rows.proofs.Fills.{all_fit, same_actors, all_back_here, fired_keep, row_over, keep_twice}
+use Rattle.sdf_rows.proofs.Fills.{all_fit, same_actors, all_back_here, fired_keep, row_over}
+use Rattle.sdf_rows.proofs.Keeps.{keep_twice}
 use Rattle.sdf_rows.proofs.stage.fire_row.Goals as goal
 use Rattle.sdf_rows.proofs.stage.fire_row.Goals.{After-row_laws, After-fire_jobs}
 
@@ -23,13 +23,11 @@ net g c = record {
 }
 
 -- each job has fired on the samples that stood on the channels
-fired : (g : Rattle.sdf_rows.proofs.stage.fire_row.Given.Over) (c : After-fire_jobs g) (i : ℕ)
-    (j : Job g.row.A.Denot g.row.A-Token.Denot g.row.A-State.Denot) → i < length c.args.jobs.now →
-    HasFired g.A.Actor.steps c.args.scene.now.net.now (lists c.args.scene.now.inputs.now) c.args.scene.now.sizes
-    c.args.stage.now.queues.items (get_or c.args.jobs.now i j) (get_or c.fire_jobs.new.jobs i j)
-fired g c i j l = subst (λ qs. HasFired g.A.Actor.steps c.args.scene.now.net.now (lists c.args.scene.now.inputs.now)
-    c.args.scene.now.sizes qs (get_or c.args.jobs.now i j) (get_or c.fire_jobs.new.jobs i j)) c.deref.ensures.value
-    (c.fire_jobs.ensures i j l)
+fired : (g : Rattle.sdf_rows.proofs.stage.fire_row.Given.Over) (c : After-fire_jobs g) →
+    HaveFired g.A.Actor.steps c.args.scene.now.net.now (lists c.args.scene.now.inputs.now) c.args.scene.now.sizes
+    c.args.stage.now.queues.items c.args.jobs.now c.fire_jobs.new.jobs
+fired g c = subst (λ qs. HaveFired g.A.Actor.steps c.args.scene.now.net.now (lists c.args.scene.now.inputs.now)
+    c.args.scene.now.sizes qs c.args.jobs.now c.fire_jobs.new.jobs) c.deref.ensures.value c.fire_jobs.ensures
 
 pub fire_jobs-requires-after_bounds : goal.fire_jobs-requires-after_bounds
 fire_jobs-requires-after_bounds g c = λ κs within.

@@ -1,15 +1,18 @@
-use Rattle.std.proofs.Common.{◌≡◌, ◌+◌, ◌<◌, length, get_or, subst, ap, ◌∙◌, arith}
+use Rattle.std.proofs.Common.{◌≡◌, ◌+◌, ℕ, length, get_or, slice_index, subst, ap, ◌∙◌, arith}
 use Rattle.std.proofs.lemmas.List.{take_all, length-map, length-set}
 use Rattle.sdf_graph.specs.Sequences.{times}
 use Rattle.sdf_actor.specs.Wires.{lists}
 use Rattle.sdf_rows.specs.Stage.{actors_of}
 use Rattle.sdf_rows.specs.Stands.{IsSettling}
 use Rattle.sdf_rows.proofs.Known.{Known}
-use Rattle.sdf_rows.proofs.Settles.{can_settle, has_state, has_count, count_small, settled_next, counts_next, kept_set}
+use Rattle.sdf_rows.proofs.Settles.{Settling, can_settle, has_state, has_count, count_small, settled_next}
+use Rattle.sdf_rows.proofs.Settles.{counts_next}
+use Rattle.sdf_rows.proofs.Keeps.{kept_set}
+use Rattle.sdf_rows.proofs.stage.settle_row.Given.{Over}
 use Rattle.sdf_rows.proofs.stage.settle_row.Goals as goal
 use Rattle.sdf_rows.proofs.stage.settle_row.Goals.{In-loop-place}
 
-net : (g : Rattle.sdf_rows.proofs.stage.settle_row.Given.Over) (c : In-loop-place g) →
+net : (g : Over) (c : In-loop-place g) →
     Known g.A.Actor.steps c.args.scene.now.net.now
 net g c = record {
   good = c.requires.scene.good;
@@ -20,75 +23,63 @@ net g c = record {
   moves = c.row_laws.ensures.moves;
 }
 
-acts_long : (g : Rattle.sdf_rows.proofs.stage.settle_row.Given.Over) (c : In-loop-place g) →
-    c.loop-place.place < length (actors_of c.args.jobs.now)
-acts_long g c = omega (arith, length-map c.args.jobs.now (λ j. j.actor), c.loop-place-test.true, c.loop-place.auto.jobs)
-
-counted : (g : Rattle.sdf_rows.proofs.stage.settle_row.Given.Over) (c : In-loop-place g) →
-    length c.loop-place.stage.done.items ≡ length c.args.scene.now.net.now.nodes
-counted g c = c.loop-place.invariant.counted ∙ c.requires.counted
+here : (g : Over) (c : In-loop-place g) (many low high : ℕ → ℕ) →
+    IsSettling g.A.Actor.steps c.args.scene.now.net.now (lists c.args.scene.now.inputs.now) many low high
+    (actors_of c.args.jobs.now) 0 (slice_index c.args.stage.now.done.items) c.args.stage.now.states.items
+    c.args.stage.now.queues.items c.args.jobs.now →
+    Settling g.A.Actor.steps c.args.scene.now.net.now c.args.scene.now.sizes (lists c.args.scene.now.inputs.now) many
+    low high (actors_of c.args.jobs.now) c.loop-place.place c.loop-place.stage.done.items
+    c.loop-place.stage.states.items c.loop-place.stage.queues.items c.loop-place.jobs
+here g c many low high was = record {
+  net = net g c;
+  sizes = c.requires.scene.sizes;
+  so_far = c.loop-place.invariant.settled many low high was;
+  inside = omega (
+    arith,
+    length-map c.args.jobs.now (λ j. j.actor),
+    c.loop-place-test.true,
+    c.loop-place.auto.jobs,
+  );
+  counted = c.loop-place.invariant.counted ∙ c.requires.counted;
+}
 
 pub settle_at-requires-clause-can : goal.settle_at-requires-clause-can
 settle_at-requires-clause-can g c = λ κs within.
-    let c' = (goal.at.settle_at-requires-clause-can g c).In-loop-place in
     let b = c.requires.back in
-    can_settle g.A.Actor.steps c.args.scene.now.net.now (net g c') c.args.scene.now.sizes c.requires.scene.sizes
-    (lists c.args.scene.now.inputs.now) b.0 b.1 b.2 (actors_of c.args.jobs.now) c.loop-place.place
-    (λ a. get_or c.loop-place.stage.done.items a 0) c.loop-place.stage.states.items c.loop-place.stage.queues.items
-    c.loop-place.jobs
-    (c.loop-place.invariant.settled b.0 b.1 b.2 b.3) (acts_long g c') c.index-jobs-place.result
+    can_settle (here g (goal.at.settle_at-requires-clause-can g c).In-loop-place b.0 b.1 b.2 b.3)
+    c.index-jobs-place.result
 
 pub settle_at-requires-clause-state : goal.settle_at-requires-clause-state
 settle_at-requires-clause-state g c = λ κs within.
-    let c' = (goal.at.settle_at-requires-clause-state g c).In-loop-place in
     let b = c.requires.back in
-    has_state g.A.Actor.steps c.args.scene.now.net.now (net g c') c.args.scene.now.sizes c.requires.scene.sizes
-    (lists c.args.scene.now.inputs.now) b.0 b.1 b.2 (actors_of c.args.jobs.now) c.loop-place.place
-    c.loop-place.stage.done.items c.loop-place.stage.states.items c.loop-place.stage.queues.items c.loop-place.jobs
-    (c.loop-place.invariant.settled b.0 b.1 b.2 b.3) (acts_long g c') c.index-jobs-place.result (counted g c')
+    has_state (here g (goal.at.settle_at-requires-clause-state g c).In-loop-place b.0 b.1 b.2 b.3)
+    c.index-jobs-place.result
 
 pub settle_at-requires-clause-counted : goal.settle_at-requires-clause-counted
 settle_at-requires-clause-counted g c = λ κs within.
-    let c' = (goal.at.settle_at-requires-clause-counted g c).In-loop-place in
     let b = c.requires.back in
-    has_count g.A.Actor.steps c.args.scene.now.net.now (net g c') c.args.scene.now.sizes c.requires.scene.sizes
-    (lists c.args.scene.now.inputs.now) b.0 b.1 b.2 (actors_of c.args.jobs.now) c.loop-place.place
-    c.loop-place.stage.done.items c.loop-place.stage.states.items c.loop-place.stage.queues.items c.loop-place.jobs
-    (c.loop-place.invariant.settled b.0 b.1 b.2 b.3) (acts_long g c') c.index-jobs-place.result (counted g c')
+    has_count (here g (goal.at.settle_at-requires-clause-counted g c).In-loop-place b.0 b.1 b.2 b.3)
+    c.index-jobs-place.result
 
 pub settle_at-requires-clause-small : goal.settle_at-requires-clause-small
 settle_at-requires-clause-small g c = λ κs within.
-    let c' = (goal.at.settle_at-requires-clause-small g c).In-loop-place in
     let b = c.requires.back in
-    count_small g.A.Actor.steps c.args.scene.now.net.now (net g c') c.args.scene.now.sizes c.requires.scene.sizes
-    (lists c.args.scene.now.inputs.now) b.0 b.1 b.2 (actors_of c.args.jobs.now) c.loop-place.place
-    c.loop-place.stage.done.items c.loop-place.stage.states.items c.loop-place.stage.queues.items c.loop-place.jobs
-    (c.loop-place.invariant.settled b.0 b.1 b.2 b.3) (acts_long g c') c.index-jobs-place.result (counted g c')
+    count_small (here g (goal.at.settle_at-requires-clause-small g c).In-loop-place b.0 b.1 b.2 b.3)
+    c.index-jobs-place.result
 
 pub loop-place-preserved : goal.loop-place-preserved
 loop-place-preserved g c =
-    let c' = (goal.at.loop-place-preserved g c).In-loop-place in
     let b = c.requires.back in
     let d = c.index-jobs-place.result in
+    let now = here g (goal.at.loop-place-preserved g c).In-loop-place in
     record {
       settled = λ many low high was.
-          settled_next g.A.Actor.steps c.args.scene.now.net.now (net g c') c.args.scene.now.sizes c.requires.scene.sizes
-          (lists c.args.scene.now.inputs.now) many low high (actors_of c.args.jobs.now) c.loop-place.place
-          c.loop-place.stage.done.items c.loop-place.stage.states.items c.loop-place.stage.queues.items
-          c.loop-place.jobs
-          (c.loop-place.invariant.settled many low high was) (acts_long g c') d (counted g c')
-          c.settle_at.new.stage.queues.items c.settle_at.ensures.queues c.settle_at.new.stage.states.items
-          c.settle_at.new.stage.done.items
-          c.settle_at.new.job c.settle_at.ensures.states c.settle_at.ensures.done;
-      done = counts_next g.A.Actor.steps c.args.scene.now.net.now (net g c') c.args.scene.now.sizes
-          c.requires.scene.sizes (lists c.args.scene.now.inputs.now) b.0 b.1 b.2 (actors_of c.args.jobs.now)
-          c.loop-place.place
-          c.loop-place.stage.done.items c.loop-place.stage.states.items c.loop-place.stage.queues.items
-          c.loop-place.jobs
-          (c.loop-place.invariant.settled b.0 b.1 b.2 b.3) (acts_long g c') d (counted g c')
-          c.settle_at.new.stage.queues.items c.settle_at.ensures.queues c.settle_at.new.stage.states.items
-          c.settle_at.new.stage.done.items
-          c.settle_at.new.job c.settle_at.ensures.states c.settle_at.ensures.done
+          settled_next (now many low high was) d c.settle_at.new.stage.queues.items c.settle_at.ensures.queues
+          c.settle_at.new.stage.states.items c.settle_at.new.stage.done.items c.settle_at.new.job
+          c.settle_at.ensures.states c.settle_at.ensures.done;
+      done = counts_next (now b.0 b.1 b.2 b.3) d c.settle_at.new.stage.queues.items c.settle_at.ensures.queues
+          c.settle_at.new.stage.states.items c.settle_at.new.stage.done.items c.settle_at.new.job
+          c.settle_at.ensures.states c.settle_at.ensures.done
           c.counts_grow.ensures.last c.counts_grow.ensures.others c.args.stage.now.done.items
           c.loop-place.invariant.done;
       counted = ap length c.settle_at.ensures.done

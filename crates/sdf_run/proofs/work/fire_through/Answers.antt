@@ -1,4 +1,4 @@
-use Rattle.std.proofs.Common.{◌≡◌, ℕ, ◌++◌, length, get_or, take, drop, sym, ap, ◌∙◌}
+use Rattle.std.proofs.Common.{◌≡◌, ℕ, ◌*◌, ◌++◌, length, get_or, take, drop, sym, ap, ◌∙◌}
 use Rattle.std.proofs.lemmas.List.{get_or-set_other}
 use Rattle.sdf_actor.specs.Steps.{state_at, puts_to}
 use Rattle.sdf_run.specs.AtOnce.{fronts}
@@ -13,7 +13,8 @@ taken g c =
     let qs = c.args.queues.now in
     let ins = c.args.ports.now.ins.channels.now in
     let x = c.index-queues-from-2.result in
-    c.oldest.ensures ∙ ((λ i. take (c.blocks-many.ensures i) (get_or-set_other qs
+    let many : ℕ = c.args.firings.times * get_or c.args.ports.now.ins.sizes.now (get_or ins 0 0) 0 in
+    c.oldest.ensures ∙ ((λ i. take many (get_or-set_other qs
     (get_or c.args.ports.now.outs.channels.now 0 0) (get_or ins 0 0) c.lift-target.new.self x
     c.requires.apart i).samples)
     ∙ taken_through qs c.args.firings.times ins c.args.ports.now.ins.sizes.now x c.requires.ins c.requires.one_in)
@@ -40,7 +41,7 @@ returns-clause-queues g c = λ d l.
     through qs c.args.firings.times ins outs takes puts c.release.new.self c.put_fired.new.self e
     c.index-queues-from-3.result c.index-queues-to-2.result made
     c.requires.ins c.requires.outs c.requires.one_in c.requires.one_out c.requires.apart
-    (ap (λ q. q.samples) c.release.ensures ∙ (λ i. drop (c.blocks-many.ensures i)
+    (ap (λ q. q.samples) c.release.ensures ∙ (λ i. drop (c.args.firings.times * get_or takes from 0)
     (get_or-set_other qs to from e c.index-queues-from-3.result c.requires.apart i).samples))
     (ap (λ q. q.samples) c.put_fired.ensures.queue ∙ (λ i. (c.lift-target.ensures i).samples ++ same i))
-    (ap length (sym same) ∙ (c.put_fired.ensures.long ∙ c.blocks-more.ensures)) d
+    (ap length (sym same) ∙ c.put_fired.ensures.long) d

@@ -2,11 +2,10 @@ use Rattle.std.proofs.Common.{◌≡◌, length, ap, arith, sym, subst, ◌∙�
 use Rattle.std.proofs.lemmas.List.{with_items_is}
 use Rattle.sdf_actor.specs.Wires.{lists}
 use Rattle.sdf_answer.specs.Answer.{AreOutputs}
-use Rattle.sdf_rings.specs.Rests.{InHand, HaveMet, AreAtRest}
+use Rattle.sdf_rings.specs.Rests.{InHand, HaveMet, AreAtRest, AreGiven}
 use Rattle.sdf_rings.specs.Asks.{IsPlanned}
 use Rattle.sdf_rings.specs.Totals.{total_left}
 use Rattle.sdf_actor.specs.Laws.{AreCountsOf}
-use Rattle.sdf_rings.proofs.Collects.{AreGiven}
 use Rattle.sdf_rings.proofs.Ended.{outputs_given}
 use Rattle.sdf_rings.proofs.rings.Rings.finish.Goals as goal
 

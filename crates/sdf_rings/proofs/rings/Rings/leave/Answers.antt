@@ -3,11 +3,10 @@ use Rattle.std.proofs.lemmas.List.{with_items_is}
 use Rattle.sdf_actor.specs.Wires.{lists}
 use Rattle.sdf_answer.specs.Feeds.{HasRun}
 use Rattle.sdf_rings.specs.Places.{SameButEnds}
-use Rattle.sdf_rings.specs.Rests.{InHand, HaveMet, AreAtRest, IsPlaced, HoldRest}
+use Rattle.sdf_rings.specs.Rests.{InHand, HaveMet, AreAtRest, IsPlaced, HoldRest, AreGiven}
 use Rattle.sdf_rings.specs.Asks.{IsPlanned}
 use Rattle.sdf_rings.specs.Totals.{total_left}
 use Rattle.sdf_actor.specs.Laws.{AreCountsOf}
-use Rattle.sdf_rings.proofs.Collects.{AreGiven}
 use Rattle.sdf_rings.proofs.Ended.{run_given}
 use Rattle.sdf_rings.proofs.Leaving.{placed_kept, given_kept}
 use Rattle.sdf_rings.proofs.rings.Rings.leave.Goals as goal

@@ -1,5 +1,6 @@
-use Rattle.std.proofs.Common.{◌≡◌, ◌<◌, ◌⊎◌, length, slice_index_or, get_or-set_same, ap, sym, ◌∙◌, subst}
+use Rattle.std.proofs.Common.{◌≡◌, ◌<◌, ◌⊎◌, length, get_or-set_same, ap, sym, ◌∙◌, subst}
 use Rattle.std.proofs.Common.{arith}
+use Rattle.std.specs.List.{HoldsAt}
 use Rattle.std.proofs.lemmas.List.{get_or_default}
 use Rattle.sdf_actor.specs.Wires.{lists}
 use Rattle.sdf_rings.specs.declared.seat.Seat.{Seat}
@@ -33,10 +34,8 @@ returns-clause-progress g c =
     let l = ap (λ (v : InHand _ _ _). length v.seats) c.self.view_is in
     let items = c.self.inside.seats.items in
     let inside : c.args.seat < length items = omega (arith, l, c.requires) in
-    subst (λ (v : InHand _ _ _). (e : Seat _ _ _) →
-    (slice_index_or v.seats c.args.seat e).next < length (slice_index_or v.seats c.args.seat e).left →
-    HasFirst g.A.Actor.steps v.net (slice_index_or v.seats c.args.seat e) → 0 < c.work.result)
-    c.self.view_is
+    subst (λ (v : InHand _ _ _). HoldsAt (λ (z : Seat _ _ _). z.next < length z.left →
+    HasFirst g.A.Actor.steps v.net z → 0 < c.work.result) v.seats c.args.seat) c.self.view_is
     (λ e. subst (λ (z : Seat _ _ _). z.next < length z.left → HasFirst g.A.Actor.steps c.self.inside.net.now z →
     0 < c.work.result)
     (c.index_mut.ensures.value ∙ get_or_default items c.args.seat c.index_mut.result.now e inside)

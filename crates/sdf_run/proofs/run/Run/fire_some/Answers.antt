@@ -47,93 +47,59 @@ fire-requires-after_bounds g c κs inside =
     (actor_at r.works.items c.args.a (omega (arith, sw.stands.nodes, c.requires.may.0)) c.index.result.now
     c.index.ensures (c.goes_at_once.ensures.others c.if-goes_at_once.false))
 
-pub returns-then-goes_at_once-clause-swept : goal.returns-then-goes_at_once-clause-swept
-returns-then-goes_at_once-clause-swept g c =
+pub returns-then-goes_at_once : goal.returns-then-goes_at_once
+returns-then-goes_at_once g c =
     let s = g.A.Actor.steps in
     let r = c.args.self.now in
     let sw = c.requires.swept in
     let may = c.requires.may in
-    swept_at_once s r sw (known g (goal.at.returns-then-goes_at_once-clause-swept g c).After-step_laws) c.args.a may.0
-    c.times-times.result c.times-times.ensures.left
-    (goes_at s r c.args.a (omega (arith, sw.stands.nodes, may.0)) c.index.result.now c.channels_in-ins.result.now
-    c.channels_out-outs.result.now c.index.ensures c.channels_in-ins.ensures c.channels_out-outs.ensures
-    (c.goes_at_once.ensures.goes c.if-goes_at_once.true))
-    c.times-times.ensures.held c.fire_at_once.new.self c.fire_at_once.ensures
+    let net = known g (goal.at.returns-then-goes_at_once g c).After-step_laws in
+    let times = c.times-times.ensures in
+    let goes = goes_at s r c.args.a (omega (arith, sw.stands.nodes, may.0)) c.index.result.now
+    c.channels_in-ins.result.now c.channels_out-outs.result.now c.index.ensures c.channels_in-ins.ensures
+    c.channels_out-outs.ensures (c.goes_at_once.ensures.goes c.if-goes_at_once.true) in
+    let r' = c.fire_at_once.new.self in
+    let fired = c.fire_at_once.ensures in
+    record {
+      swept = swept_at_once s r sw net c.args.a may.0 c.times-times.result times.left goes times.held r' fired;
+      moved = moved_at_once s r sw net c.args.a may.0 c.times-times.result times.left goes times.held r'
+          fired times.some;
+      further = further s r r' c.args.a c.times-times.result sw may.0 fired.alone times.some;
+    }
 
-pub returns-then-goes_at_once-clause-moved : goal.returns-then-goes_at_once-clause-moved
-returns-then-goes_at_once-clause-moved g c =
+pub returns-then-goes_by_many : goal.returns-then-goes_by_many
+returns-then-goes_by_many g c =
     let s = g.A.Actor.steps in
+    let fits = c.step_laws.ensures.fits in
     let r = c.args.self.now in
     let sw = c.requires.swept in
     let may = c.requires.may in
-    moved_at_once s r sw (known g (goal.at.returns-then-goes_at_once-clause-moved g c).After-step_laws) c.args.a may.0
-    c.times-times.result c.times-times.ensures.left
-    (goes_at s r c.args.a (omega (arith, sw.stands.nodes, may.0)) c.index.result.now c.channels_in-ins.result.now
-    c.channels_out-outs.result.now c.index.ensures c.channels_in-ins.ensures c.channels_out-outs.ensures
-    (c.goes_at_once.ensures.goes c.if-goes_at_once.true))
-    c.times-times.ensures.held c.fire_at_once.new.self c.fire_at_once.ensures c.times-times.ensures.some
-
-pub returns-then-goes_at_once-clause-further : goal.returns-then-goes_at_once-clause-further
-returns-then-goes_at_once-clause-further g c =
-    further g.A.Actor.steps c.args.self.now c.fire_at_once.new.self c.args.a c.times-times.result c.requires.swept
-    c.requires.may.0 c.fire_at_once.ensures.alone c.times-times.ensures.some
-
-pub returns-then-goes_by_many-clause-swept : goal.returns-then-goes_by_many-clause-swept
-returns-then-goes_by_many-clause-swept g c =
-    let s = g.A.Actor.steps in
-    let r = c.args.self.now in
-    let sw = c.requires.swept in
-    let may = c.requires.may in
+    let net = known g (goal.at.returns-then-goes_by_many g c).After-step_laws in
+    let many = c.times_in_blocks-times.result in
     let times = c.times_in_blocks-times.ensures in
-    swept_many s c.step_laws.ensures.fits r sw (known g
-    (goal.at.returns-then-goes_by_many-clause-swept g c).After-step_laws) c.args.a may.0
-    c.times_in_blocks-times.result times.left
-    (many_at s r c.args.a (omega (arith, sw.stands.nodes, may.0)) c.index-else-goes_at_once.result.now
+    let goes = many_at s r c.args.a (omega (arith, sw.stands.nodes, may.0)) c.index-else-goes_at_once.result.now
     c.channels_in-ins.result.now c.channels_out-outs.result.now c.index-else-goes_at_once.ensures
-    c.channels_in-ins.ensures c.channels_out-outs.ensures (c.goes_by_many.ensures c.if-goes_by_many.true))
-    times.held c.fire_many.new.self c.fire_many.ensures
+    c.channels_in-ins.ensures c.channels_out-outs.ensures (c.goes_by_many.ensures c.if-goes_by_many.true) in
+    let r' = c.fire_many.new.self in
+    let fired = c.fire_many.ensures in
+    record {
+      swept = swept_many s fits r sw net c.args.a may.0 many times.left goes times.held r' fired;
+      moved = moved_many s fits r sw net c.args.a may.0 many times.left goes times.held r' fired times.some;
+      further = further s r r' c.args.a many sw may.0 fired.alone times.some;
+    }
 
-pub returns-then-goes_by_many-clause-moved : goal.returns-then-goes_by_many-clause-moved
-returns-then-goes_by_many-clause-moved g c =
+pub returns-else-goes_by_many : goal.returns-else-goes_by_many
+returns-else-goes_by_many g c =
     let s = g.A.Actor.steps in
     let r = c.args.self.now in
     let sw = c.requires.swept in
     let may = c.requires.may in
-    let times = c.times_in_blocks-times.ensures in
-    moved_many s c.step_laws.ensures.fits r sw (known g
-    (goal.at.returns-then-goes_by_many-clause-moved g c).After-step_laws) c.args.a may.0
-    c.times_in_blocks-times.result times.left
-    (many_at s r c.args.a (omega (arith, sw.stands.nodes, may.0)) c.index-else-goes_at_once.result.now
-    c.channels_in-ins.result.now c.channels_out-outs.result.now c.index-else-goes_at_once.ensures
-    c.channels_in-ins.ensures c.channels_out-outs.ensures (c.goes_by_many.ensures c.if-goes_by_many.true))
-    times.held c.fire_many.new.self c.fire_many.ensures times.some
-
-pub returns-then-goes_by_many-clause-further : goal.returns-then-goes_by_many-clause-further
-returns-then-goes_by_many-clause-further g c =
-    further g.A.Actor.steps c.args.self.now c.fire_many.new.self c.args.a c.times_in_blocks-times.result
-    c.requires.swept c.requires.may.0 c.fire_many.ensures.alone c.times_in_blocks-times.ensures.some
-
-pub returns-else-goes_by_many-clause-swept : goal.returns-else-goes_by_many-clause-swept
-returns-else-goes_by_many-clause-swept g c =
-    let r = c.args.self.now in
-    let sw = c.requires.swept in
-    swept g.A.Actor.steps r sw (known g (goal.at.returns-else-goes_by_many-clause-swept g c).After-step_laws)
-    c.args.a c.requires.may
-    (actor_at r.works.items c.args.a (omega (arith, sw.stands.nodes, c.requires.may.0)) c.index.result.now
-    c.index.ensures (c.goes_at_once.ensures.others c.if-goes_at_once.false))
-    c.fire.new.self c.fire.ensures
-
-pub returns-else-goes_by_many-clause-moved : goal.returns-else-goes_by_many-clause-moved
-returns-else-goes_by_many-clause-moved g c =
-    let r = c.args.self.now in
-    let sw = c.requires.swept in
-    moved g.A.Actor.steps r sw (known g (goal.at.returns-else-goes_by_many-clause-moved g c).After-step_laws)
-    c.args.a c.requires.may
-    (actor_at r.works.items c.args.a (omega (arith, sw.stands.nodes, c.requires.may.0)) c.index.result.now
-    c.index.ensures (c.goes_at_once.ensures.others c.if-goes_at_once.false))
-    c.fire.new.self c.fire.ensures
-
-pub returns-else-goes_by_many-clause-further : goal.returns-else-goes_by_many-clause-further
-returns-else-goes_by_many-clause-further g c =
-    further g.A.Actor.steps c.args.self.now c.fire.new.self c.args.a 1 c.requires.swept c.requires.may.0
-    c.fire.ensures.alone (omega arith)
+    let net = known g (goal.at.returns-else-goes_by_many g c).After-step_laws in
+    let actor = actor_at r.works.items c.args.a (omega (arith, sw.stands.nodes, may.0)) c.index.result.now
+    c.index.ensures (c.goes_at_once.ensures.others c.if-goes_at_once.false) in
+    let r' = c.fire.new.self in
+    record {
+      swept = swept s r sw net c.args.a may actor r' c.fire.ensures;
+      moved = moved s r sw net c.args.a may actor r' c.fire.ensures;
+      further = further s r r' c.args.a 1 sw may.0 c.fire.ensures.alone (omega arith);
+    }

@@ -1,4 +1,4 @@
-use Rattle.std.proofs.Common.{◌≡◌, ◌+◌, ◌-◌, ◌*◌, ◌≤◌, ◌<◌, ◌++◌, ℕ, length, take, drop, get_or, arith, ap, sym, ◌∙◌}
+use Rattle.std.proofs.Common.{◌≡◌, ◌+◌, ◌-◌, ◌*◌, ◌≤◌, ◌<◌, ◌++◌, ℕ, length, get_or, arith, ap, sym, ◌∙◌}
 use Rattle.std.specs.List.{between}
 use Rattle.std.proofs.Math.Facts.{Fits-le}
 use Rattle.std.proofs.lemmas.List.{length-map, get_or_default}
@@ -69,10 +69,5 @@ returns-in-Sink g c =
     c.args.outputs.now
     c.args.self.now c.in-Sink.ext c.take.new.list c.index-outputs-ext.result c.take.new.self
     c.index-queues-from-in-Sink.result c.in-Sink.is c.requires
-    (c.take.ensures.list ∙ ap (λ n. (get_or c.args.outputs.now c.in-Sink.ext c.index-outputs-ext.result).items
-    ++ take n (get_or c.args.queues.now from c.index-queues-from-in-Sink.result).samples) c.blocks-many.ensures)
-    c.take.ensures.capacity
-    (ap (λ q. q.samples) c.take.ensures.queue ∙ ap
-    (λ n. drop n (get_or c.args.queues.now from c.index-queues-from-in-Sink.result).samples)
-    c.blocks-many.ensures)
+    c.take.ensures.list c.take.ensures.capacity (ap (λ q. q.samples) c.take.ensures.queue)
     (ap (λ q. q.room) c.take.ensures.queue)

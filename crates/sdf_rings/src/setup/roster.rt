@@ -1,15 +1,15 @@
-//! The firings of a table dealt out to seats.
+//! Which firings of a table each seat does.
 
 ghost use Rattle.std.specs.Prelude.{◌≡◌, ◌==◌, ◌++◌, ◌∷◌, [], if◌then◌else◌, map, IfOk, OnOk};
 ghost use Rattle.sdf_graph.specs.Sequences.{repeated};
 ghost use Rattle.sdf_rings.specs.Asks.{dealt};
-ghost use Rattle.sdf_rings.specs.Begun.{place, IsDeal};
+ghost use Rattle.sdf_rings.specs.Begun.{place, IsRoster};
 
 use crate::course::Course;
 use std::alloc::{AllocError, Global};
 
 /// Puts a firing behind a seat's list where its actor stands there.
-fn deal_one(place: (usize, usize), seat: usize, left: &mut Vec<usize>) -> Result<(), AllocError>
+fn add_if_here(place: (usize, usize), seat: usize, left: &mut Vec<usize>) -> Result<(), AllocError>
     ensures { OnOk result (left.new.items ≡ left.old.items ++ (if place.0 == seat then place.1 ∷ [] else [])) }
 {
     if place.0 == seat {
@@ -18,9 +18,9 @@ fn deal_one(place: (usize, usize), seat: usize, left: &mut Vec<usize>) -> Result
     Ok(())
 }
 
-/// The firings of so many blocks, which are dealt out to seats by where their nodes stand.
+/// Where each node stands, and the firings of so many blocks: each seat does those of its nodes.
 #[derive(Clone, Copy)]
-pub(crate) struct Deal<'a> {
+pub(crate) struct Roster<'a> {
     /// Where each node stands: its seat, and its place there.
     pub(crate) places: &'a [(usize, usize)],
     /// The nodes of a block's firings, in order.
@@ -28,23 +28,23 @@ pub(crate) struct Deal<'a> {
     pub(crate) blocks: u32,
 }
 
-impl<'a> Deal<'a> {
+impl<'a> Roster<'a> {
     /// A seat's firings of a block.
     fn block_of(&self, alloc: Global, seat: usize) -> Result<Vec<usize>, AllocError>
-        requires { IsDeal self.now }
+        requires { IsRoster self.now }
         ensures { IfOk result (λ left. left.items ≡ map (λ a. (place self.now.places.now a).1)
             (dealt self.now.places.now self.now.order.now seat)) }
     {
         let mut left = Vec::new(alloc);
         for actor in self.order {
-            deal_one(self.places[*actor], seat, &mut left)?;
+            add_if_here(self.places[*actor], seat, &mut left)?;
         }
         Ok(left)
     }
 
     /// A seat's firings of all blocks.
     pub(crate) fn course_of(&self, alloc: Global, seat: usize) -> Result<Course, AllocError>
-        requires { IsDeal self.now }
+        requires { IsRoster self.now }
         ensures { IfOk result (λ left. left ≡ map (λ a. (place self.now.places.now a).1)
             (dealt self.now.places.now (repeated self.now.blocks self.now.order.now) seat)) }
     {

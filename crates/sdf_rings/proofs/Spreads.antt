@@ -1,4 +1,4 @@
--- A block dealt out by the places of ports and by the numbers of channels.
+-- A block spread over ports: by their places, and by the numbers of their channels.
 use Rattle.std.proofs.Common.{◌≡◌, ℕ, zero, suc, ◌+◌, ◌-◌, ◌<◌, ◌≤◌, List, [], ◌∷◌, ◌++◌, length, get_or, take, drop}
 use Rattle.std.proofs.Common.{eqb, refl, sym, ap, ◌∙◌, arith, add-one, drop-drop, append_assoc, append-nil}
 use Rattle.std.specs.List.{sum_by, between, range_with_len, flat_map}

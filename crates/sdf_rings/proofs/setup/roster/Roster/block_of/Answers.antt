@@ -1,7 +1,7 @@
 use Rattle.std.proofs.Common.{◌++◌, ◌∷◌, [], cond, eqb, get_or, sym, ap, ◌∙◌}
 use Rattle.sdf_rings.specs.Begun.{place}
 use Rattle.sdf_rings.proofs.Dealing.{dealt_more}
-use Rattle.sdf_rings.proofs.setup.deals.Deal.block_of.Goals as goal
+use Rattle.sdf_rings.proofs.setup.roster.Roster.block_of.Goals as goal
 
 pub loop-actor-preserved : goal.loop-actor-preserved
 loop-actor-preserved c =
@@ -10,5 +10,5 @@ loop-actor-preserved c =
     let i = c.loop-actor.actor-index in
     let more = cond (eqb (place places (get_or order i 0)).0 c.args.seat)
     ((place places (get_or order i 0)).1 ∷ []) [] in
-    c.in_ok-deal_one.ensures ∙
+    c.in_ok-add_if_here.ensures ∙
     (ap (λ xs. xs ++ more) c.loop-actor.invariant ∙ sym (dealt_more places c.args.seat order i c.loop-actor-test.true))

@@ -2,7 +2,7 @@ use Rattle.std.proofs.Common.{◌∙◌, ap}
 use Rattle.sdf_graph.specs.Sequences.{repeated}
 use Rattle.sdf_rings.proofs.Dealing.{dealt_all}
 use Rattle.sdf_rings.proofs.Lists.{ok_then}
-use Rattle.sdf_rings.proofs.setup.deals.Deal.course_of.Goals as goal
+use Rattle.sdf_rings.proofs.setup.roster.Roster.course_of.Goals as goal
 
 pub returns : goal.returns
 returns c =

@@ -1,7 +1,7 @@
 use Rattle.std.proofs.Common.{◌≡◌, map, take}
 use Rattle.sdf_rings.specs.Asks.{dealt}
 use Rattle.sdf_rings.specs.Begun.{place}
-use Rattle.sdf_rings.proofs.setup.deals.Deal.block_of.Given as goal
+use Rattle.sdf_rings.proofs.setup.roster.Roster.block_of.Given as goal
 
 abbrev pub invariant-loop-actor : goal.invariant-loop-actor
 invariant-loop-actor l = l.left.items ≡ map (λ a. (place l.self.places.now a).1)
