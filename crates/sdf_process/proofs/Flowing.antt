@@ -158,12 +158,23 @@ module _ {n : Netlist Kit ℤ} {p : Schedule} {j : ℕ} {c : Reading} {frames al
           mul-le-mul_right c.channels (let z : frames - (unread - many) ≤ frames = omega arith in z) in
           omega (arith, count_more, size, some)
 
-      pub behind_held : AreBehind x c all_read (here.few * j) held
+      behind_held : AreBehind x c all_read (here.few * j) held
       behind_held = let b = behind_on x c here.samples reads.0 kept (here.few * j) here.behind in (b.0, reads.1 ∙ b.1)
 
-      pub stands_held : StandsWhole n p j (sound_read c all_read) here.few here.bytes v
+      stands_held : StandsWhole n p j (sound_read c all_read) here.few here.bytes v
       stands_held = stands_on n p j c here.samples reads.0 here.few (here.few * j * x.made) here.bytes v can.lower
           here.behind.0 here.stands
+
+      -- what was put of them where the periods of a block have another name
+      pub puts_held : (last : Option (List ℕ)) (w2 : ℕ) (o' : Owed) (v' : SessionValue Kit (List ℤ) ℤ)
+          (made : Result (List ℤ) Fault) (b : ℕ) → b ≡ j →
+          (StandsWhole n p b (sound_read c all_read) here.few here.bytes v → AreBehind x c all_read (here.few * b) held →
+          PutsWhole n p b c all_read here.few here.bytes after last w1 w2 o o' v' made) →
+          PutsWhole n p j c all_read here.few here.bytes after last w1 w2 o o' v' made
+      puts_held last w2 o' v' made b is puts =
+          subst (λ (k : ℕ). PutsWhole n p k c all_read here.few here.bytes after last w1 w2 o o' v' made) is
+          (puts (subst (λ (k : ℕ). StandsWhole n p k (sound_read c all_read) here.few here.bytes v) (sym is) stands_held)
+          (subst (λ (k : ℕ). AreBehind x c all_read (here.few * k) held) (sym is) behind_held))
 
       held_long : length held ≡ length all_read - here.few * j * x.taken * c.channels
       held_long = ap length behind_held.1 ∙ length-drop (here.few * j * x.taken * c.channels) all_read

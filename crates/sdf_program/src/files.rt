@@ -116,24 +116,6 @@ fn read_beside<S: Storage>(
     }
 }
 
-/// The coefficient files that can be opened, each with its name. They lie in the folder of the graph file.
-fn read_files<S: Storage>(
-    alloc: Global,
-    storage: &S,
-    graph: &str,
-    names: Vec<String>,
-    most: u32,
-    refused: &mut Vec<Refused>,
-) -> Result<Vec<(String, Vec<u8>)>, Fault> {
-    let mut files = Vec::new(alloc);
-    for name in names {
-        if let Some(bytes) = read_beside(alloc, storage, graph, name.as_str(), most, refused)? {
-            files.push((name, bytes))?;
-        }
-    }
-    Ok(files)
-}
-
 /// What was read so far: the graph file and its path, its coefficient files that can be opened, each with its name, the
 /// header of the sound where it does not suit the design, and the files that the system refused.
 #[derive(Drop)]
@@ -158,6 +140,24 @@ impl Sources {
     }
 }
 
+/// Reads the coefficient files that can be opened, each with its name. They lie in the folder of the graph file.
+fn read_files<S: Storage>(
+    alloc: Global,
+    storage: &S,
+    graph: &str,
+    names: Vec<String>,
+    most: u32,
+    sources: &mut Sources,
+) -> Result<(), Fault> {
+    let Sources { files, refused, .. } = sources;
+    for name in names {
+        if let Some(bytes) = read_beside(alloc, storage, graph, name.as_str(), most, refused)? {
+            files.push((name, bytes))?;
+        }
+    }
+    Ok(())
+}
+
 /// A design, and the names of the coefficient files that it was read with.
 #[derive(Drop)]
 pub struct Loaded {
@@ -174,9 +174,37 @@ fn names_of(alloc: Global, files: &[(String, Vec<u8>)]) -> Result<Vec<String>, A
     Ok(names)
 }
 
+/// The design of files that were read.
+fn loaded_from(alloc: Global, sources: &Sources) -> Result<Loaded, Fault> {
+    let design = read_design(alloc, &sources.graph, &sources.files)?;
+    let names = names_of(alloc, &sources.files)?;
+    Ok(Loaded { design, names })
+}
+
 /// The bytes of a file, where they are at most `most`.
 fn read_at<S: Storage>(alloc: Global, storage: &S, path: &str, most: u32) -> io::Result<Vec<u8>> {
     bytes_of(alloc, storage.open(path)?, most)
+}
+
+/// Reads a graph file.
+fn read_graph<S: Storage>(
+    alloc: Global,
+    storage: &S,
+    graph: &str,
+    most: u32,
+    sources: &mut Sources,
+) -> Result<(), Fault> {
+    sources.path = format!(in alloc; "{graph}")?;
+    match read_at(alloc, storage, graph, most) {
+        Ok(bytes) => {
+            sources.graph = bytes;
+            Ok(())
+        }
+        Err(error) => {
+            let refused = &mut sources.refused;
+            Err(refuse(alloc, refused, graph, &error, Fault::Read))
+        }
+    }
 }
 
 /// The design of a graph file and the coefficient files that it names, none of which has over `most` bytes. What is
@@ -188,19 +216,10 @@ pub(crate) fn load_into<S: Storage>(
     most: u32,
     sources: &mut Sources,
 ) -> Result<Loaded, Fault> {
-    sources.path = format!(in alloc; "{graph}")?;
-    sources.graph = match read_at(alloc, storage, graph, most) {
-        Ok(bytes) => bytes,
-        Err(error) => {
-            let refused = &mut sources.refused;
-            return Err(refuse(alloc, refused, graph, &error, Fault::Read));
-        }
-    };
+    read_graph(alloc, storage, graph, most, sources)?;
     let names = design_files(alloc, &sources.graph)?;
-    sources.files = read_files(alloc, storage, graph, names, most, &mut sources.refused)?;
-    let design = read_design(alloc, &sources.graph, &sources.files)?;
-    let names = names_of(alloc, &sources.files)?;
-    Ok(Loaded { design, names })
+    read_files(alloc, storage, graph, names, most, sources)?;
+    loaded_from(alloc, sources)
 }
 
 /// The same where what was read is wanted no more.

@@ -2,14 +2,12 @@
 
 use crate::files::{device_fault, write_at};
 use crate::overwriting::{keep_file, only_path};
-use crate::printing::show;
+use crate::printing::{show, test_plan};
 use crate::program::World;
 use crate::storage::Storage;
 use sdf_file::{Design, read_design};
 use sdf_filters::{ConverterTexts, FilterFault, Wanted, converter_texts, filter_texts};
-use sdf_options::Options;
 use sdf_process::Fault;
-use sdf_process::planning::plan;
 use sdf_words::{Conversion, mistake};
 use std::alloc::Global;
 use std::io::Write;
@@ -101,8 +99,28 @@ fn write_all<S: Storage, T: AllocGlobal, E: Write>(
     write_into(world, folder, GRAPH, texts.graph.as_str())
 }
 
-/// Writes the design of a conversion. It is read and planned before anything is written: what is written can be run,
+/// Tests that the design that texts say can be scheduled.
+fn test_texts(alloc: Global, texts: &ConverterTexts) -> Result<(), Fault> {
+    let design = design_of(alloc, texts)?;
+    test_plan(alloc, &design)
+}
+
+/// Writes the files of a converter into a folder, once their design is read and scheduled: what is written can be run,
 /// and no file that was there is gone.
+fn write_design<S: Storage, T: AllocGlobal, E: Write>(
+    world: &World<S, T>,
+    err: &mut E,
+    folder: &str,
+    texts: &ConverterTexts,
+) -> Result<(), Fault> {
+    let alloc = world.threads.alloc();
+    test_texts(alloc, texts)?;
+    keep_all(alloc, world.storage, folder, texts)?;
+    make_folder(alloc, world.storage, folder)?;
+    write_all(world, err, folder, texts)
+}
+
+/// Writes the design of a conversion.
 pub(crate) fn resample<S: Storage, T: AllocGlobal, E: Write>(
     world: &World<S, T>,
     err: &mut E,
@@ -117,12 +135,7 @@ pub(crate) fn resample<S: Storage, T: AllocGlobal, E: Write>(
         attenuation,
     } = conversion;
     match converter_texts(alloc, from, to, channels, attenuation) {
-        Ok(texts) => {
-            plan(alloc, &design_of(alloc, &texts)?, &Options::DEFAULT)?;
-            keep_all(alloc, world.storage, folder, &texts)?;
-            make_folder(alloc, world.storage, folder)?;
-            write_all(world, err, folder, &texts)
-        }
+        Ok(texts) => write_design(world, err, folder, &texts),
         Err(fault) => Err(filter_fault(alloc, fault)),
     }
 }

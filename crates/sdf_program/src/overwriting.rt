@@ -6,7 +6,7 @@ use crate::storage::Storage;
 use sdf_options::printable::printable;
 use sdf_process::Fault;
 use sdf_words::mistake;
-use std::alloc::Global;
+use std::alloc::{AllocError, Global};
 use std::io::ErrorKind;
 use std::path::{Path, PathBuf};
 
@@ -47,7 +47,26 @@ fn same_file(alloc: Global, word: &str, what: &str) -> Fault {
     }
 }
 
-/// Refuses a file to write that is the same file as a coefficient file. These lie in the folder of the graph file.
+/// Whether a coefficient file is this file. It lies in the folder of the graph file.
+fn leads_beside<S: Storage>(
+    alloc: Global,
+    storage: &S,
+    graph: &str,
+    name: &str,
+    file: &str,
+) -> Result<bool, Fault> {
+    let path = Path::new(graph).with_file_name(alloc, name)?;
+    leads_to(alloc, storage, path.as_str(), file)
+}
+
+/// The refusal of a file to write that is also a coefficient file.
+fn same_coefficients(alloc: Global, word: &str, name: &str) -> Result<Fault, AllocError> {
+    let shown = printable(alloc, name)?;
+    let what = format!(in alloc; "the coefficient file {}", shown.as_str())?;
+    Ok(same_file(alloc, word, what.as_str()))
+}
+
+/// Refuses a file to write that is the same file as a coefficient file.
 fn keep_coefficients<S: Storage>(
     alloc: Global,
     storage: &S,
@@ -57,14 +76,30 @@ fn keep_coefficients<S: Storage>(
     out: &str,
 ) -> Result<(), Fault> {
     for name in names {
-        let path = Path::new(graph).with_file_name(alloc, name.as_str())?;
-        if leads_to(alloc, storage, path.as_str(), out)? {
-            let shown = printable(alloc, name.as_str())?;
-            let what = format!(in alloc; "the coefficient file {}", shown.as_str())?;
-            return Err(same_file(alloc, word, what.as_str()));
+        if leads_beside(alloc, storage, graph, name.as_str(), out)? {
+            return Err(same_coefficients(alloc, word, name.as_str())?);
         }
     }
     Ok(())
+}
+
+/// Refuses a file to write, by the word for it, that is the same file as IN, GRAPH or a coefficient file.
+fn keep_files<S: Storage>(
+    alloc: Global,
+    storage: &S,
+    word: &str,
+    paths: Paths<'_>,
+    names: &[String],
+    out: &str,
+) -> Result<(), Fault> {
+    let Paths { graph, input, .. } = paths;
+    if input != STANDARD && leads_to(alloc, storage, input, out)? {
+        return Err(same_file(alloc, word, "IN"));
+    }
+    if leads_to(alloc, storage, graph, out)? {
+        return Err(same_file(alloc, word, "GRAPH"));
+    }
+    keep_coefficients(alloc, storage, word, graph, names, out)
 }
 
 /// Refuses an output, by the word for it, that is the same file as IN, GRAPH or one of the coefficient files that
@@ -76,24 +111,13 @@ pub(crate) fn keep_what_is_read<S: Storage>(
     paths: Paths<'_>,
     names: &[String],
 ) -> Result<(), Fault> {
-    let Paths {
-        graph,
-        input,
-        output,
-    } = paths;
-    if output == STANDARD {
+    if paths.output == STANDARD {
         return Ok(());
     }
-    let Some(out) = only_path(alloc, storage, output)? else {
-        return Ok(());
-    };
-    if input != STANDARD && leads_to(alloc, storage, input, out.as_str())? {
-        return Err(same_file(alloc, word, "IN"));
+    match only_path(alloc, storage, paths.output)? {
+        Some(out) => keep_files(alloc, storage, word, paths, names, out.as_str()),
+        None => Ok(()),
     }
-    if leads_to(alloc, storage, graph, out.as_str())? {
-        return Err(same_file(alloc, word, "GRAPH"));
-    }
-    keep_coefficients(alloc, storage, word, graph, names, out.as_str())
 }
 
 /// Refuses a folder that has a file of this name.

@@ -28,9 +28,15 @@ fn show_made<O: Write>(out: &mut O, answer: Result<String, Fault>) -> Result<(),
     show(out, answer?.as_str())
 }
 
+/// Tests that a design can be scheduled.
+pub(crate) fn test_plan(alloc: Global, design: &Design) -> Result<(), Fault> {
+    plan(alloc, design, &Options::DEFAULT)?;
+    Ok(())
+}
+
 /// What a design is, where it can be scheduled.
 fn checked(alloc: Global, design: &Design, json: bool) -> Result<String, Fault> {
-    plan(alloc, design, &Options::DEFAULT)?;
+    test_plan(alloc, design)?;
     if json {
         Ok(check_json(alloc, design)?)
     } else {

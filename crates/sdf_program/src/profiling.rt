@@ -70,6 +70,21 @@ struct Subject<'a> {
     bytes: &'a [u8],
 }
 
+/// Writes the text of a graph file, and prints a profile where that text does not stand there.
+fn put_written<S: Storage, O: Write>(
+    storage: &S,
+    out: &mut O,
+    output: &str,
+    written: &[u8],
+    profile: &str,
+) -> Result<(), Fault> {
+    if output == STANDARD {
+        return put(out, written);
+    }
+    write_at(storage, output, written)?;
+    show(out, profile)
+}
+
 /// Writes the graph file with the costs that were measured, and prints the profile where it does not stand there.
 fn write_measured<S: Storage, T: AllocGlobal, O: Write>(
     world: &World<S, T>,
@@ -79,11 +94,8 @@ fn write_measured<S: Storage, T: AllocGlobal, O: Write>(
     measured: &Measured,
 ) -> Result<(), Fault> {
     let written = costed(world.threads.alloc(), sources, &measured.costs)?;
-    if output == STANDARD {
-        return put(out, &written);
-    }
-    write_at(world.storage, output, &written)?;
-    show(out, measured.text.as_str())
+    let profile = measured.text.as_str();
+    put_written(world.storage, out, output, &written, profile)
 }
 
 /// Measures a run once it is tested that the file to write is none of those that are read, and that the graph file can

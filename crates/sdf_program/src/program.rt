@@ -112,39 +112,17 @@ fn obey<
     }
 }
 
-/// What is answered where the words ask for nothing that can be done. Help or the version is an answer.
-fn help_or_fault<O: Write>(alloc: Global, out: &mut O, fault: WordFault) -> Result<(), Fault> {
-    match fault {
-        WordFault::Usage(told) if !told.use_stderr() => {
-            show(out, format!(in alloc; "{told}")?.as_str())
-        }
-        fault => Err(Fault::from(fault)),
-    }
+/// Prints help or the version.
+fn show_help<O: Write>(alloc: Global, out: &mut O, told: &clap::Error) -> Result<(), Fault> {
+    let text = format!(in alloc; "{told}")?;
+    show(out, text.as_str())
 }
 
-/// Does what the words ask for, of which the first is the program's name. What a fault can be told by is left in
-/// `background`.
-fn follow<
-    S: Storage,
-    T: Threads + AllocGlobal + Clock + Clone + Drop + Sync,
-    I: Read,
-    O: Write,
-    E: Write,
->(
-    world: &World<S, T>,
-    stdin: &mut I,
-    out: &mut O,
-    err: &mut E,
-    line: &[&str],
-    background: &mut Background,
-) -> Result<(), Fault> {
-    let alloc = world.threads.alloc();
-    match words(alloc, line) {
-        Ok(asked) => {
-            background.asked(&asked);
-            obey(world, stdin, out, err, asked, &mut background.sources)
-        }
-        Err(fault) => help_or_fault(alloc, out, fault),
+/// What is answered where the words ask for nothing that can be done. Help or the version is an answer.
+fn help_or_fault<O: Write>(alloc: Global, out: &mut O, fault: WordFault) -> Result<(), Fault> {
+    match &fault {
+        WordFault::Usage(told) if !told.use_stderr() => show_help(alloc, out, told),
+        _ => Err(Fault::from(fault)),
     }
 }
 
@@ -185,7 +163,17 @@ fn tell<E: Write>(alloc: Global, err: &mut E, fault: &Fault, background: &Backgr
     }
 }
 
-/// Does what the program was started for, if its words could be read.
+/// The words that a command line is read as.
+fn line_of(alloc: Global, given: &[String]) -> Result<Vec<&str>, AllocError> {
+    let mut line = Vec::new(alloc);
+    for word in given {
+        line.push(word.as_str())?;
+    }
+    Ok(line)
+}
+
+/// Does what the words ask for, of which the first is the program's name, if they could be had. What a fault can be
+/// told by is left in `background`.
 fn answer<
     S: Storage,
     T: Threads + AllocGlobal + Clock + Clone + Drop + Sync,
@@ -200,12 +188,29 @@ fn answer<
     given: Result<Vec<String>, WordFault>,
     background: &mut Background,
 ) -> Result<(), Fault> {
+    let alloc = world.threads.alloc();
     let given = given?;
-    let mut line = Vec::new(world.threads.alloc());
-    for word in &given {
-        line.push(word.as_str())?;
+    let line = line_of(alloc, &given)?;
+    match words(alloc, line.as_slice()) {
+        Ok(asked) => {
+            background.asked(&asked);
+            obey(world, stdin, out, err, asked, &mut background.sources)
+        }
+        Err(fault) => help_or_fault(alloc, out, fault),
     }
-    follow(world, stdin, out, err, line.as_slice(), background)
+}
+
+/// The exit status of what was done. A fault is told on standard error.
+fn ended<E: Write>(
+    alloc: Global,
+    err: &mut E,
+    done: Result<(), Fault>,
+    background: &Background,
+) -> u8 {
+    match done {
+        Ok(()) => 0,
+        Err(fault) => tell(alloc, err, &fault, background),
+    }
 }
 
 /// The whole program: what it was started with, what it works on and standard input come in, what it prints and
@@ -225,8 +230,6 @@ pub fn serve<
 ) -> u8 {
     let alloc = world.threads.alloc();
     let mut background = Background::new(alloc);
-    match answer(world, stdin, out, err, given, &mut background) {
-        Ok(()) => 0,
-        Err(fault) => tell(alloc, err, &fault, &background),
-    }
+    let done = answer(world, stdin, out, err, given, &mut background);
+    ended(alloc, err, done, &background)
 }

@@ -1,6 +1,6 @@
 //! The command that makes a sound of another.
 
-ghost use Rattle.std.specs.Prelude.{◌≤◌};
+ghost use Rattle.std.specs.Prelude.{◌≤◌, IfOk};
 ghost use Rattle.sdf_limits.specs.declared.TheConstants.{MOST_WORKERS};
 ghost use Rattle.sdf_process.specs.Plans.{Suits};
 ghost use Rattle.sdf_words.specs.Limits.{IsCrew};
@@ -37,10 +37,10 @@ pub(crate) struct Parallel<'a> {
 }
 
 /// A design and the plan of its run.
-#[derive(Drop)]
-struct Planned {
-    loaded: Loaded,
-    plan: Plan,
+#[derive(Clone, Copy)]
+struct Planned<'a> {
+    loaded: &'a Loaded,
+    plan: &'a Plan,
 }
 
 /// What the header of a sound says, where it can be read.
@@ -78,10 +78,10 @@ fn run_from<S: Storage, T: Threads + AllocGlobal + Clock + Sync, R: Read, O: Wri
     from: &mut R,
     out: &mut O,
     paths: Paths<'_>,
-    planned: &Planned,
+    planned: Planned<'_>,
     refused: &mut Vec<Refused>,
 ) -> Result<(), Fault>
-    requires { Suits planned.now.loaded.design.net planned.now.plan }
+    requires { Suits planned.loaded.now.design.net planned.plan.now }
 {
     let alloc = world.threads.alloc();
     let Planned { loaded, plan } = planned;
@@ -102,10 +102,10 @@ fn run_planned<S: Storage, T: Threads + AllocGlobal + Clock + Sync, I: Read, O: 
     stdin: &mut I,
     out: &mut O,
     paths: Paths<'_>,
-    planned: &Planned,
+    planned: Planned<'_>,
     sources: &mut Sources,
 ) -> Result<(), Fault>
-    requires { Suits planned.now.loaded.design.net planned.now.plan }
+    requires { Suits planned.loaded.now.design.net planned.plan.now }
 {
     let alloc = world.threads.alloc();
     let refused = &mut sources.refused;
@@ -134,8 +134,11 @@ pub(crate) fn run<S: Storage, T: Threads + AllocGlobal + Clock + Sync, I: Read, 
     let alloc = world.threads.alloc();
     let loaded = load_into(alloc, world.storage, paths.graph, world.most, sources)?;
     let plan = plan(alloc, &loaded.design, options)?;
-    let planned = Planned { loaded, plan };
-    run_planned(world, stdin, out, paths, &planned, sources)
+    let planned = Planned {
+        loaded: &loaded,
+        plan: &plan,
+    };
+    run_planned(world, stdin, out, paths, planned, sources)
 }
 
 /// How many workers are asked for.
@@ -183,6 +186,31 @@ fn pace_text(alloc: Global, pace: Pace) -> Result<String, AllocError> {
     }
 }
 
+/// Tells how a parallel run goes.
+fn tell_pace<E: Write>(alloc: Global, err: &mut E, pace: Pace) -> Result<(), AllocError> {
+    let text = pace_text(alloc, pace)?;
+    let _ = err.write_all(text.as_bytes());
+    Ok(())
+}
+
+/// The plan of a parallel run. How that goes is told where it is asked for.
+fn crew_plan<T: Threads + AllocGlobal, E: Write>(
+    threads: &T,
+    err: &mut E,
+    asked: Parallel<'_>,
+    design: &Design,
+) -> Result<Plan, Fault>
+    requires { IsCrew asked.crew }
+    ensures { IfOk result (λ plan. Suits design.now.net plan) }
+{
+    let alloc = threads.alloc();
+    let Paced { plan, pace } = parallel_plan(alloc, design, workers_of(threads, asked.crew))?;
+    if asked.why {
+        tell_pace(alloc, err, pace)?;
+    }
+    Ok(plan)
+}
+
 /// Runs a design on a WAV file in parallel where that can be faster, once its plan stands, and tells how where that is
 /// asked for.
 pub(crate) fn run_parallel<
@@ -204,14 +232,10 @@ pub(crate) fn run_parallel<
     let alloc = world.threads.alloc();
     let paths = asked.paths;
     let loaded = load_into(alloc, world.storage, paths.graph, world.most, sources)?;
-    let Paced { plan, pace } = parallel_plan(
-        alloc,
-        &loaded.design,
-        workers_of(world.threads, asked.crew),
-    )?;
-    if asked.why {
-        let _ = err.write_all(pace_text(alloc, pace)?.as_bytes());
-    }
-    let planned = Planned { loaded, plan };
-    run_planned(world, stdin, out, paths, &planned, sources)
+    let plan = crew_plan(world.threads, err, asked, &loaded.design)?;
+    let planned = Planned {
+        loaded: &loaded,
+        plan: &plan,
+    };
+    run_planned(world, stdin, out, paths, planned, sources)
 }

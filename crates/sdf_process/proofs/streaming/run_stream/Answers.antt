@@ -4,11 +4,11 @@ use Rattle.std.proofs.lemmas.Bool.{cases_lt}
 use Rattle.sdf_wav.specs.PiecesIn.{sound_read}
 use Rattle.sdf_process.specs.declared.fault.Fault.{Fault}
 use Rattle.sdf_process.specs.Output.{exchange_of}
-use Rattle.sdf_process.specs.Streams.{AreBehind, PutsBlocks, PutsWhole, StandsWhole, Streams}
+use Rattle.sdf_process.specs.Streams.{AreBehind, PutsBlocks, StandsWhole, Streams}
 use Rattle.sdf_process.proofs.Flow.{can_flow, ready_first, unopened}
-use Rattle.sdf_process.proofs.Flowing.{asks_enough, behind_held, ended, ended_whole, flows_first, flows_on, held_few}
-use Rattle.sdf_process.proofs.Flowing.{held_missing, held_whole, kept_whole, putting_failed, reading_failed, sized}
-use Rattle.sdf_process.proofs.Flowing.{stands_held, unspoilt}
+use Rattle.sdf_process.proofs.Flowing.{asks_enough, ended, ended_whole, flows_first, flows_on, held_few}
+use Rattle.sdf_process.proofs.Flowing.{held_missing, held_whole, kept_whole, puts_held, putting_failed, reading_failed}
+use Rattle.sdf_process.proofs.Flowing.{sized, unspoilt}
 use Rattle.sdf_process.proofs.Pieces.{run_fails}
 use Rattle.sdf_process.proofs.streaming.run_stream.Goals as goal
 
@@ -156,23 +156,14 @@ returns-in_err-kept g c =
     (g.R.Reader.failures c.read_more.new.reader) c.read_more.new.content c.in_ok-samples.samples.items more
     (g.W.Writer.contents c.put_whole.new.writer) (g.W.Writer.failures c.put_whole.new.writer)
     c.put_whole.new.self.output c.put_whole.new.self.session c.in_err-kept.field-0.0 c.in_err-kept.field-0.0 refl
-    (subst (λ k. PutsWhole n p k d (at.flows.samples ++ more.0) at.flows.few at.flows.bytes
-    (g.W.Writer.contents c.loop-unread.writer) (g.W.Writer.contents c.put_whole.new.writer)
-    (g.W.Writer.failures c.loop-unread.writer) (g.W.Writer.failures c.put_whole.new.writer)
-    c.loop-unread.stream.output c.put_whole.new.self.output c.put_whole.new.self.session
-    (Err c.in_err-kept.field-0.0)) at.blocking
+    (puts_held at.can at.within at.flows
+    c.min-many.result (search rules) (g.R.Reader.remaining c.read_more.new.reader)
+    (g.R.Reader.failures c.read_more.new.reader) c.read_more.new.content c.in_ok-samples.samples.items more
+    (g.W.Writer.contents c.put_whole.new.writer) (g.W.Writer.failures c.put_whole.new.writer)
+    c.put_whole.new.self.output c.put_whole.new.self.session (Err c.in_err-kept.field-0.0)
+    c.loop-unread.stream.blocking at.blocking
     (c.in_err-kept.ensures.puts n p d (at.flows.samples ++ more.0) at.flows.few at.flows.bytes at.ready
-    (sym at.channels)
-    (subst (λ k. StandsWhole n p k (sound_read d (at.flows.samples ++ more.0)) at.flows.few at.flows.bytes
-    c.loop-unread.stream.session) (sym at.blocking)
-    (stands_held at.can at.within at.flows
-    c.min-many.result (search rules) (g.R.Reader.remaining c.read_more.new.reader)
-    (g.R.Reader.failures c.read_more.new.reader) c.read_more.new.content c.in_ok-samples.samples.items more))
-    (subst (λ k. AreBehind (exchange_of n p.repetitions) d (at.flows.samples ++ more.0) (at.flows.few * k)
-    c.in_ok-samples.samples.items) (sym at.blocking)
-    (behind_held at.can at.within at.flows
-    c.min-many.result (search rules) (g.R.Reader.remaining c.read_more.new.reader)
-    (g.R.Reader.failures c.read_more.new.reader) c.read_more.new.content c.in_ok-samples.samples.items more)))))
+    (sym at.channels))))
 
 pub loop-unread-preserved : goal.loop-unread-preserved
 loop-unread-preserved g c =
@@ -194,23 +185,14 @@ loop-unread-preserved g c =
           (g.R.Reader.failures c.read_more.new.reader) c.read_more.new.content c.in_ok-samples.samples.items more
           (g.W.Writer.contents c.put_whole.new.writer) (g.W.Writer.failures c.put_whole.new.writer)
           c.put_whole.new.self.output c.put_whole.new.self.session c.in_ok-kept.kept.items
-          (subst (λ k. PutsWhole n p k d (at.flows.samples ++ more.0) at.flows.few at.flows.bytes
-          (g.W.Writer.contents c.loop-unread.writer) (g.W.Writer.contents c.put_whole.new.writer)
-          (g.W.Writer.failures c.loop-unread.writer) (g.W.Writer.failures c.put_whole.new.writer)
-          c.loop-unread.stream.output c.put_whole.new.self.output c.put_whole.new.self.session
-          (Ok c.in_ok-kept.kept.items)) at.blocking
+          (puts_held at.can at.within at.flows
+          c.min-many.result (search rules) (g.R.Reader.remaining c.read_more.new.reader)
+          (g.R.Reader.failures c.read_more.new.reader) c.read_more.new.content c.in_ok-samples.samples.items more
+          (g.W.Writer.contents c.put_whole.new.writer) (g.W.Writer.failures c.put_whole.new.writer)
+          c.put_whole.new.self.output c.put_whole.new.self.session (Ok c.in_ok-kept.kept.items)
+          c.loop-unread.stream.blocking at.blocking
           (c.in_ok-kept.ensures.puts n p d (at.flows.samples ++ more.0) at.flows.few at.flows.bytes at.ready
-          (sym at.channels)
-          (subst (λ k. StandsWhole n p k (sound_read d (at.flows.samples ++ more.0)) at.flows.few at.flows.bytes
-          c.loop-unread.stream.session) (sym at.blocking)
-          (stands_held at.can at.within at.flows
-          c.min-many.result (search rules) (g.R.Reader.remaining c.read_more.new.reader)
-          (g.R.Reader.failures c.read_more.new.reader) c.read_more.new.content c.in_ok-samples.samples.items more))
-          (subst (λ k. AreBehind (exchange_of n p.repetitions) d (at.flows.samples ++ more.0) (at.flows.few * k)
-          c.in_ok-samples.samples.items) (sym at.blocking)
-          (behind_held at.can at.within at.flows
-          c.min-many.result (search rules) (g.R.Reader.remaining c.read_more.new.reader)
-          (g.R.Reader.failures c.read_more.new.reader) c.read_more.new.content c.in_ok-samples.samples.items more))));
+          (sym at.channels)));
     }
 
 pub put_rest-requires-clause-ready : goal.put_rest-requires-clause-ready
