@@ -27,15 +27,6 @@ enum Values {
     OneOf(&'static [&'static str]),
 }
 
-/// What a command can be given by name, and what it is where it is not given; without that it has to be given, but for
-/// a path.
-#[derive(Clone, Copy)]
-struct Choice {
-    value_name: &'static str,
-    values: Values,
-    default: Option<&'static str>,
-}
-
 /// What a command can be told by a name alone, and others that can't be told beside it. A value may stand behind the
 /// name where it has one.
 #[derive(Clone, Copy)]
@@ -49,7 +40,9 @@ struct Switch {
 enum Given {
     /// By its place, always.
     Place(Values),
-    Choice(Choice),
+    /// By its name: what its value is called and has to be, and what it is where it is not given; without that it has
+    /// to be given, but for a path.
+    Choice(&'static str, Values, Option<&'static str>),
     Switch(Switch),
 }
 
@@ -89,13 +82,16 @@ fn parser_of<'a>(values: Values) -> ValueParser<'a> {
     }
 }
 
-fn chosen<'a>(named: Arg<'a>, choice: Choice) -> Arg<'a> {
-    let named = named
-        .value_name(choice.value_name)
-        .value_parser(parser_of(choice.values));
-    match choice.default {
+fn chosen<'a>(
+    named: Arg<'a>,
+    value_name: &'static str,
+    values: Values,
+    default: Option<&'static str>,
+) -> Arg<'a> {
+    let named = named.value_name(value_name).value_parser(parser_of(values));
+    match default {
         Some(default) => named.default_value(default),
-        None => named.required(!matches!(choice.values, Values::Path)),
+        None => named.required(!matches!(values, Values::Path)),
     }
 }
 
@@ -116,7 +112,10 @@ fn arg_of<'a>(alloc: Global, argument: Argument) -> Result<Arg<'a>, AllocError> 
         .long_help(argument.more);
     match argument.given {
         Given::Place(values) => Ok(arg.required(true).value_parser(parser_of(values))),
-        Given::Choice(choice) => Ok(chosen(arg.long(argument.name), choice)),
+        Given::Choice(value_name, values, default) => {
+            let named = arg.long(argument.name);
+            Ok(chosen(named, value_name, values, default))
+        }
         Given::Switch(switch) => switched(arg.long(argument.name), switch),
     }
 }

@@ -1,6 +1,6 @@
 //! The commands that check, schedule and run a design: what each takes, and what its help says.
 
-use super::{Argument, Choice, Given, PLAIN, Row, Switch, Values};
+use super::{Argument, Given, PLAIN, Row, Switch, Values};
 use sdf_limits::{MOST_BLOCKING, MOST_PATIENCE, MOST_WORKERS};
 use sdf_options::{PLACEMENT_WORDS, POLICY_WORDS, RUNNER_WORDS};
 
@@ -34,11 +34,7 @@ const BLOCKING: Argument = Argument {
     more: "Periods in a block, 1 to 64. The table has the firings of one block: in a longer block more of
 them can be done at the same time, and links hold more samples.
 In `run` it has no effect without `--runner rows` or `--runner rings`",
-    given: Given::Choice(Choice {
-        value_name: "J",
-        values: Values::Signed(1, MOST_BLOCKING as i64),
-        default: Some("1"),
-    }),
+    given: Given::Choice("J", Values::Signed(1, MOST_BLOCKING as i64), Some("1")),
 };
 
 const WORKERS: Argument = Argument {
@@ -46,11 +42,7 @@ const WORKERS: Argument = Argument {
     help: "Workers, 1 to 16",
     more: "Workers, 1 to 16: the columns of the table, each of which does its firings in a thread.
 In `run` it has no effect without `--runner rows` or `--runner rings`",
-    given: Given::Choice(Choice {
-        value_name: "M",
-        values: Values::Unsigned(1, MOST_WORKERS as u64),
-        default: Some("1"),
-    }),
+    given: Given::Choice("M", Values::Unsigned(1, MOST_WORKERS as u64), Some("1")),
 };
 
 const POLICY: Argument = Argument {
@@ -62,11 +54,7 @@ const POLICY: Argument = Argument {
 - runs: the same one while it may, and then the next in file order
 The table does not go by it without `--placement file`.
 In `run` it has no effect without that and `--runner rows` or `--runner rings`",
-    given: Given::Choice(Choice {
-        value_name: "P",
-        values: Values::OneOf(POLICY_WORDS),
-        default: Some("round"),
-    }),
+    given: Given::Choice("P", Values::OneOf(POLICY_WORDS), Some("round")),
 };
 
 const PLACEMENT: Argument = Argument {
@@ -80,11 +68,7 @@ const PLACEMENT: Argument = Argument {
   whole block by the policy runs. `--blocking` has no effect: a block is as many periods as keep to
   1024 samples
 In `run` it has no effect without `--runner rows` or `--runner rings`",
-    given: Given::Choice(Choice {
-        value_name: "L",
-        values: Values::OneOf(PLACEMENT_WORDS),
-        default: Some("homed"),
-    }),
+    given: Given::Choice("L", Values::OneOf(PLACEMENT_WORDS), Some("homed")),
 };
 
 const RUNNER: Argument = Argument {
@@ -95,11 +79,7 @@ const RUNNER: Argument = Argument {
 - rows: the firings of a row of the table at once, then those of the next row
 - rings: each worker at its own pace, over a ring for each link; each actor needs one worker, as by
   `--placement homed` or `--placement file`",
-    given: Given::Choice(Choice {
-        value_name: "R",
-        values: Values::OneOf(RUNNER_WORDS),
-        default: Some("one"),
-    }),
+    given: Given::Choice("R", Values::OneOf(RUNNER_WORDS), Some("one")),
 };
 
 const PATIENCE: Argument = Argument {
@@ -108,11 +88,7 @@ const PATIENCE: Argument = Argument {
     more: "How often a worker whose next firing lacks samples or room tests again, in all, before its round
 ends; at most 1000000.
 It has no effect without `--runner rings`",
-    given: Given::Choice(Choice {
-        value_name: "T",
-        values: Values::Signed(0, MOST_PATIENCE as i64),
-        default: Some("1000"),
-    }),
+    given: Given::Choice("T", Values::Signed(0, MOST_PATIENCE as i64), Some("1000")),
 };
 
 const PARALLEL: Argument = Argument {

@@ -1,6 +1,6 @@
 //! The commands that make filters and converters: what each takes, and what its help says.
 
-use super::{Argument, Choice, Given, Row, Values};
+use super::{Argument, Given, Row, Values};
 
 const SHAPE: Argument = Argument {
     name: "SHAPE",
@@ -17,33 +17,21 @@ const RATE: Argument = Argument {
     name: "rate",
     help: "Samples a second at the filter",
     more: "Samples a second at the filter: those of the actor's input times its `up`",
-    given: Given::Choice(Choice {
-        value_name: "HZ",
-        values: Values::Unsigned(1, u32::MAX as u64),
-        default: None,
-    }),
+    given: Given::Choice("HZ", Values::Unsigned(1, u32::MAX as u64), None),
 };
 
 const PASS: Argument = Argument {
     name: "pass",
     help: "Where what passes ends, or begins",
     more: "The last frequency that passes, in Hz; of a high-pass the first one",
-    given: Given::Choice(Choice {
-        value_name: "HZ",
-        values: Values::Unsigned(0, u32::MAX as u64),
-        default: None,
-    }),
+    given: Given::Choice("HZ", Values::Unsigned(0, u32::MAX as u64), None),
 };
 
 const STOP: Argument = Argument {
     name: "stop",
     help: "Where what is stopped begins, or ends",
     more: "The first frequency that is stopped, in Hz; of a high-pass the last one",
-    given: Given::Choice(Choice {
-        value_name: "HZ",
-        values: Values::Unsigned(0, u32::MAX as u64),
-        default: None,
-    }),
+    given: Given::Choice("HZ", Values::Unsigned(0, u32::MAX as u64), None),
 };
 
 const LOW_STOP: Argument = Argument {
@@ -51,11 +39,7 @@ const LOW_STOP: Argument = Argument {
     help: "Of a band-pass, where what is stopped below ends",
     more: "Of a band-pass, the last frequency that is stopped below what passes, in Hz.
 It has no effect on other shapes",
-    given: Given::Choice(Choice {
-        value_name: "HZ",
-        values: Values::Unsigned(0, u32::MAX as u64),
-        default: Some("0"),
-    }),
+    given: Given::Choice("HZ", Values::Unsigned(0, u32::MAX as u64), Some("0")),
 };
 
 const LOW_PASS: Argument = Argument {
@@ -63,22 +47,14 @@ const LOW_PASS: Argument = Argument {
     help: "Of a band-pass, where what passes begins",
     more: "Of a band-pass, the first frequency that passes, in Hz.
 It has no effect on other shapes",
-    given: Given::Choice(Choice {
-        value_name: "HZ",
-        values: Values::Unsigned(0, u32::MAX as u64),
-        default: Some("0"),
-    }),
+    given: Given::Choice("HZ", Values::Unsigned(0, u32::MAX as u64), Some("0")),
 };
 
 const ATTENUATION: Argument = Argument {
     name: "attenuation",
     help: "Of what is stopped, in dB, at most 200",
     more: "How far what is stopped is to be down, in dB, at most 200. Taps of 16 bits reach 66 to 82",
-    given: Given::Choice(Choice {
-        value_name: "DB",
-        values: Values::Unsigned(0, 200),
-        default: Some("96"),
-    }),
+    given: Given::Choice("DB", Values::Unsigned(0, 200), Some("96")),
 };
 
 const UP: Argument = Argument {
@@ -86,22 +62,14 @@ const UP: Argument = Argument {
     help: "The actor's key `up`, 1 to 64",
     more: "The actor's key `up`, 1 to 64. The taps of each phase, which are as many, come to 2^shift, so a
 constant stays what it is; those of a high-pass and a band-pass to 0",
-    given: Given::Choice(Choice {
-        value_name: "U",
-        values: Values::Unsigned(1, 64),
-        default: Some("1"),
-    }),
+    given: Given::Choice("U", Values::Unsigned(1, 64), Some("1")),
 };
 
 const SHIFT: Argument = Argument {
     name: "shift",
     help: "The actor's key `shift`, at most 15",
     more: "The actor's key `shift`, at most 15",
-    given: Given::Choice(Choice {
-        value_name: "S",
-        values: Values::Unsigned(0, 15),
-        default: Some("15"),
-    }),
+    given: Given::Choice("S", Values::Unsigned(0, 15), Some("15")),
 };
 
 const FROM: Argument = Argument {
@@ -130,11 +98,7 @@ const CHANNELS: Argument = Argument {
     name: "channels",
     help: "Channels, 1 to 8",
     more: "Channels, 1 to 8: each has the same stages",
-    given: Given::Choice(Choice {
-        value_name: "N",
-        values: Values::Unsigned(1, 8),
-        default: Some("1"),
-    }),
+    given: Given::Choice("N", Values::Unsigned(1, 8), Some("1")),
 };
 
 pub(super) const ROWS: &[Row] = &[

@@ -1,7 +1,7 @@
 //! The commands that show what a schedule does and what a run costs: what each takes, and what its help says.
 
 use super::designs::{GRAPH, IN, JSON};
-use super::{Argument, Choice, Given, PLAIN, Row, Values};
+use super::{Argument, Given, PLAIN, Row, Values};
 
 const COMPARE: Argument = Argument {
     name: "compare",
@@ -32,11 +32,7 @@ const WRITE: Argument = Argument {
     more: "Writes the graph file into FILE, with the key `cost` of each actor as it was measured and all else as it
 stands there; - for standard output, in place of the lines. FILE may be no file that is read. Each actor
 is to have a table of its own, below a line `[[actor]]`, and its cost a line of its own, `cost = 12`",
-    given: Given::Choice(Choice {
-        value_name: "FILE",
-        values: Values::Path,
-        default: None,
-    }),
+    given: Given::Choice("FILE", Values::Path, None),
 };
 
 pub(super) const ROWS: &[Row] = &[
