@@ -1,10 +1,10 @@
 //! Designs.
-ghost use Rattle.std.specs.Prelude.{◌≡◌, ◌<◌, ℕ, List, [], true, map, length, string_bytes, slice_index_or};
+ghost use Rattle.std.specs.Prelude.{◌≡◌, ◌<◌, ℕ, List, [], true, map, string_bytes, slice_index_or};
 ghost use Rattle.std.specs.Prelude.{IfOk, MatchResult};
 ghost use Rattle.std.specs.List.{All};
 ghost use Rattle.sdf_document.specs.Lists.{files_view};
 ghost use Rattle.sdf_document.specs.Actors.{IsActorWithin};
-ghost use Rattle.sdf_document.specs.Document.{document_view, file_names_of};
+ghost use Rattle.sdf_document.specs.Document.{document_view};
 ghost use Rattle.sdf_document.specs.Names.{names_of};
 ghost use Rattle.sdf_actor.specs.NetFaults.{IsAccepted};
 ghost use Rattle.sdf_kit.specs.Kit.{kit_steps};

@@ -3,7 +3,7 @@ ghost use Rattle.std.specs.Prelude.{◌≡◌, ◌+◌, ◌≤◌, ◌<◌, ◌+
 ghost use Rattle.std.specs.Prelude.{codes};
 ghost use Rattle.std.specs.List.{flat_map, range_with_len};
 ghost use Rattle.sdf_actor.specs.Nets.{wire};
-ghost use Rattle.sdf_file.specs.Schedules.{Stretch, stretches, stretch_text, order_items, order_line, cell_text};
+ghost use Rattle.sdf_file.specs.Schedules.{stretches, stretch_text, order_items, order_line, cell_text};
 ghost use Rattle.sdf_file.specs.Schedules.{row_line, end_text, link_text, capacity_line, blocking_of, workers_of};
 ghost use Rattle.sdf_file.specs.Schedules.{size_lines, table_text, schedule_text, IsScheduleText};
 

@@ -9,7 +9,6 @@ use Rattle.sdf_filters.specs.declared.stage.Stage.{Stage}
 use Rattle.sdf_filters.specs.declared.wanted.Band.TheVariants.{Low}
 use Rattle.sdf_filters.specs.declared.wanted.Wanted.{Wanted}
 use Rattle.sdf_filters.specs.declared.converter.StageFile.{StageFile}
-use Rattle.sdf_filters.specs.declared.converter.ConverterTexts.{ConverterTexts}
 use Rattle.sdf_filters.specs.Lowpass.{tested}
 use Rattle.sdf_filters.specs.Wanted.{IsFault}
 use Rattle.sdf_filters.specs.Filters.{AreFilterTexts}

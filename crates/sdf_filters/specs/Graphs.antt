@@ -1,5 +1,5 @@
 -- The graph file of a converter.
-use Rattle.std.specs.Prelude.{ℕ, zero, suc, ◌+◌, ◌==◌, List, [], ◌∷◌, ◌++◌, if◌then◌else◌, length, codes, decimal}
+use Rattle.std.specs.Prelude.{ℕ, zero, suc, ◌+◌, ◌==◌, List, [], ◌++◌, if◌then◌else◌, length, codes, decimal}
 use Rattle.std.specs.Prelude.{slice_get, Option, Some, None}
 use Rattle.sdf_filters.specs.declared.graph.TheConstants.{STAGE_SHIFT}
 use Rattle.sdf_filters.specs.declared.graph.End.{End}

@@ -7,7 +7,7 @@ use Rattle.sdf_filters.specs.declared.fault.FilterFault.TheVariants.{UpOfHighpas
 use Rattle.sdf_filters.specs.declared.wanted.Band.{Band}
 use Rattle.sdf_filters.specs.declared.wanted.Band.TheVariants.{Low, High, Middle}
 use Rattle.sdf_filters.specs.declared.wanted.Wanted.{Wanted}
-use Rattle.sdf_filters.specs.Asked.{Asked, asked, IsAsked}
+use Rattle.sdf_filters.specs.Asked.{Asked, asked}
 use Rattle.sdf_filters.specs.Lowpass.{tested, lowpass_of, IsCount, IsCountFault, IsTapFault, AreLowpassTaps}
 use Rattle.sdf_filters.specs.Differences.{AreHighpassTaps, AreBandpassTaps}
 

@@ -1,9 +1,9 @@
-use Rattle.std.proofs.Common.{◌≡◌, ◌∙◌, ◌∷◌, [], map, length, true, sym, ap, arith, append-nil}
+use Rattle.std.proofs.Common.{◌≡◌, ◌∙◌, ◌∷◌, map, length, true, sym, ap, arith}
 use Rattle.std.specs.Vec.Iter.{into_iter_items}
 use Rattle.std.proofs.lemmas.List.Elements.{All-tail}
 use Rattle.sdf_document.specs.Actors.{ActorValue, actor_view, IsActorWithin}
 use Rattle.sdf_file.specs.Designs.{node_of}
-use Rattle.sdf_file.proofs.Moves.{moved_more, nothing_left}
+use Rattle.sdf_file.proofs.Moves.{moved_more, moved_all}
 use Rattle.sdf_file.proofs.Whole.{few_lists, have_costs}
 use Rattle.sdf_actor.specs.declared.sides.Lists.TheVariants.{Inputs, Outputs}
 use Rattle.sdf_file.proofs.parts.parts_of.Goals as goal
@@ -32,32 +32,23 @@ loop-actor-preserved c =
 pub returns-clause-inputs : goal.returns-clause-inputs
 returns-clause-inputs c =
     let at = c.loop-actor in
-    let empty : into_iter_items at.actor-iterator ≡ [] =
-    nothing_left _ (sym at.invariant.left ∙ c.in-None.ensures.steps.0) in
-    let all : into_iter_items c.into_iter-actor-iterator.result ≡ c.args.actors.items =
-    c.into_iter-actor-iterator.ensures.into_iter_gives.0 in
-    let made : at.parts.nodes.items ≡ map (λ (a : ActorValue). node_of a.kind) (map actor_view c.args.actors.items) =
-    sym (append-nil at.parts.nodes.items) ∙ (rw (empty, all) at at.invariant.nodes) in
+    let made = moved_all actor_view (λ (a : ActorValue). node_of a.kind) at.parts.nodes.items _ _ c.args.actors.items
+    (sym at.invariant.left ∙ c.in-None.ensures.steps.0) c.into_iter-actor-iterator.ensures.into_iter_gives.0
+    at.invariant.nodes in
     rw made (few_lists Inputs c.args.actors.items c.requires)
 
 pub returns-clause-outputs : goal.returns-clause-outputs
 returns-clause-outputs c =
     let at = c.loop-actor in
-    let empty : into_iter_items at.actor-iterator ≡ [] =
-    nothing_left _ (sym at.invariant.left ∙ c.in-None.ensures.steps.0) in
-    let all : into_iter_items c.into_iter-actor-iterator.result ≡ c.args.actors.items =
-    c.into_iter-actor-iterator.ensures.into_iter_gives.0 in
-    let made : at.parts.nodes.items ≡ map (λ (a : ActorValue). node_of a.kind) (map actor_view c.args.actors.items) =
-    sym (append-nil at.parts.nodes.items) ∙ (rw (empty, all) at at.invariant.nodes) in
+    let made = moved_all actor_view (λ (a : ActorValue). node_of a.kind) at.parts.nodes.items _ _ c.args.actors.items
+    (sym at.invariant.left ∙ c.in-None.ensures.steps.0) c.into_iter-actor-iterator.ensures.into_iter_gives.0
+    at.invariant.nodes in
     rw made (few_lists Outputs c.args.actors.items c.requires)
 
 pub returns-clause-priced : goal.returns-clause-priced
 returns-clause-priced c =
     let at = c.loop-actor in
-    let empty : into_iter_items at.actor-iterator ≡ [] =
-    nothing_left _ (sym at.invariant.left ∙ c.in-None.ensures.steps.0) in
-    let all : into_iter_items c.into_iter-actor-iterator.result ≡ c.args.actors.items =
-    c.into_iter-actor-iterator.ensures.into_iter_gives.0 in
-    let made : at.parts.costs.items ≡ map (λ (a : ActorValue). a.cost) (map actor_view c.args.actors.items) =
-    sym (append-nil at.parts.costs.items) ∙ (rw (empty, all) at at.invariant.costs) in
+    let made = moved_all actor_view (λ (a : ActorValue). a.cost) at.parts.costs.items _ _ c.args.actors.items
+    (sym at.invariant.left ∙ c.in-None.ensures.steps.0) c.into_iter-actor-iterator.ensures.into_iter_gives.0
+    at.invariant.costs in
     rw made (have_costs c.args.actors.items c.requires)

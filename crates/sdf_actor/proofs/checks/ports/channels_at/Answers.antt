@@ -1,4 +1,4 @@
-use Rattle.std.proofs.Common.{arith, below_more, ◌≡◌, ◌<◌, ◌++◌, ◌∷◌, [], length, sym, ap, ◌∙◌, ℕ}
+use Rattle.std.proofs.Common.{arith, below_more, ◌≡◌, ◌++◌, ◌∷◌, [], sym, ap, ◌∙◌, ℕ}
 use Rattle.std.proofs.lemmas.List.FromFn.{map-range_with_len_more}
 use Rattle.sdf_actor.specs.Sides.{channel_at}
 use Rattle.sdf_actor.specs.Wires.{netlist}

@@ -1,4 +1,4 @@
-use Rattle.std.proofs.Common.{◌≡◌, ℕ, ◌<◌, true, false, sym, ap, ◌∙◌, arith, below_more}
+use Rattle.std.proofs.Common.{true, false, sym, ap, ◌∙◌, arith, below_more}
 use Rattle.std.proofs.lemmas.Bool.{both_ways, ltb-true, ltb-false}
 use Rattle.sdf_actor.proofs.Numbers.{too_large, some_moved, none_moves}
 use Rattle.sdf_actor.proofs.node.Node.has_rates.Goals.{then-moves, else-moves}
