@@ -13,11 +13,12 @@ use Rattle.sdf_graph.specs.declared.fault.GraphFault.{GraphFault}
 use Rattle.sdf_graph.specs.declared.fault.GraphFault.TheVariants.{OutOfMemory, PeriodTooLong}
 use Rattle.sdf_graph.specs.declared.repetitions.Ratio.{Ratio}
 use Rattle.sdf_graph.specs.Shares.{IsCycleVector, AreShares, IsCommon, IsEven, IsScaleFault, ratio, firings, turns}
-use Rattle.sdf_graph.specs.Shares.{totals}
+use Rattle.sdf_graph.specs.Shares.{totals, IsShareFault}
+use Rattle.sdf_graph.proofs.Marks.{border_in}
 use Rattle.sdf_graph.proofs.Cycles.{sum_within}
 use Rattle.sdf_graph.proofs.Shapes.{whole_cycles}
 use Rattle.sdf_graph.proofs.Faultless.{cycle_some}
-use Rattle.sdf_graph.proofs.ShareLaws.{some_scale, some_product, no_greater, is_period, multiple, entry}
+use Rattle.sdf_graph.proofs.ShareLaws.{some_scale, some_product, no_greater, is_period, multiple, entry, too_long}
 
 module _ (g : Shape) (shape : IsShape g) where
   -- how often each actor goes through its cycle, where it fires so often
@@ -165,3 +166,11 @@ module _ (g : Shape) (shape : IsShape g) where
     fault_of OutOfMemory f = tt
     fault_of PeriodTooLong f = λ p period. omega (arith, least_period.least p period, f)
     fault_of _ f = absurd f
+
+-- no period where an actor's share is too great
+pub share_fault : (g : Shape) (e : GraphFault) → IsShareFault g e → IsPeriodFault g e
+share_fault g OutOfMemory f = tt
+share_fault g PeriodTooLong far =
+    none_long g far.shape (too_long g far.actor far.share
+    (border_in g far.shape far.marked far.channel far.actor far.border) far.shape.some far.is_share far.far)
+share_fault g _ f = absurd f

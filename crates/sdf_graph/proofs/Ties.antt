@@ -5,7 +5,8 @@ use Rattle.std.proofs.lemmas.List.{get_or-set_same, get_or-set_other}
 use Rattle.std.proofs.lemmas.Bool.{both_ways}
 use Rattle.sdf_graph.specs.Rates.{Shape, channel}
 use Rattle.sdf_graph.specs.Marks.{is_marked, IsAcross, IsBorder}
-use Rattle.sdf_graph.specs.Shares.{IsReduced, IsTied, start, along, back, IsEvenAt, IsEvenWithin, ratio, totals, unreached}
+use Rattle.sdf_graph.specs.Shares.{IsReduced, IsTied, start, along, back, IsEvenAt, IsEvenWithin, ratio, totals}
+use Rattle.sdf_graph.specs.Shares.{unreached}
 use Rattle.sdf_graph.specs.declared.channel.Totals.{Totals}
 use Rattle.sdf_graph.specs.declared.repetitions.Ratio.{Ratio}
 use Rattle.sdf_graph.proofs.Marks.{is_marked-set, is_marked-kept, beyond_to, beyond_from}

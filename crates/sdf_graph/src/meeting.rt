@@ -1,8 +1,7 @@
 //! What meets at a channel, whether or not its ends can be balanced.
 
 ghost use Rattle.std.specs.Prelude.{◌*◌, ◌≤◌, ◌<◌, length, MatchResult};
-ghost use Rattle.sdf_graph.specs.Periods.{IsPeriodFault};
-ghost use Rattle.sdf_graph.specs.Shares.{IsReduced, IsSmall, AreShares};
+ghost use Rattle.sdf_graph.specs.Shares.{IsReduced, IsSmall, IsShareFault, AreShares};
 ghost use Rattle.sdf_graph.specs.Meetings.{IsMeeting};
 
 use crate::fault::GraphFault;
@@ -53,10 +52,11 @@ impl Graph {
     /// What meets at a channel: the firings of the fewest whole cycles of its two ends, at the shares that other
     /// channels ask of them, and what these put and take.
     ///
-    /// It is answered where no vector balances the channels, too; a fault is `PeriodTooLong` or `OutOfMemory`.
+    /// It is answered where no vector balances the channels, too. `PeriodTooLong` is an actor whose share of the cycles
+    /// of actor 0 passes 65,536 on one side.
     pub fn meeting(&self, alloc: Global, channel: usize) -> Result<Meeting, GraphFault>
         requires { channel < length self.now.channels }
-        ensures { MatchResult result (IsMeeting self.now channel) (IsPeriodFault self.now) }
+        ensures { MatchResult result (IsMeeting self.now channel) (IsShareFault self.now) }
     {
         let parts = walk(self, alloc)?;
         Ok(meeting_at(self, &parts, channel))

@@ -8,7 +8,7 @@ ghost use Rattle.sdf_graph.specs.Periods.{Divides, IsPeriodFault, IsLeastPeriod}
 ghost use Rattle.std.specs.List.{range_with_len};
 ghost use Rattle.sdf_graph.specs.Marks.{IsBorder};
 ghost use Rattle.sdf_graph.specs.Shares.{ratio, IsReduced, IsShare, IsSmall, IsWalk, AreShares, IsEven, IsCommon};
-ghost use Rattle.sdf_graph.specs.Shares.{firings, IsEvenAt, IsScaleFault, no_totals};
+ghost use Rattle.sdf_graph.specs.Shares.{firings, IsEvenAt, IsScaleFault, IsShareFault, no_totals};
 
 use crate::channel::Totals;
 use crate::fault::GraphFault;
@@ -171,7 +171,7 @@ fn beyond(graph: &Graph, parts: &[Ratio], marked: &[bool], channel: usize) -> Ra
 
 /// The shares of all actors.
 pub(crate) fn walk(graph: &Graph, alloc: Global) -> Result<Vec<Ratio>, GraphFault>
-    ensures { MatchResult result (λ v. AreShares graph.now v.items) (IsPeriodFault graph.now) }
+    ensures { MatchResult result (λ v. AreShares graph.now v.items) (IsShareFault graph.now) }
 {
     let mut parts = vec![in alloc; Ratio { num: 1, den: 1 }; graph.actors]?;
     let mut marked = [false; MOST_ACTORS];

@@ -1,13 +1,15 @@
 -- What is told of a net that the tables alone do not show: which actors are apart, and what meets at a link.
-use Rattle.std.specs.Prelude.{◌≡◌, ◌≢◌, ℕ, Bool, None, Ok, Some, List, [], ◌++◌, codes, decimal, Option, if◌then◌else◌}
+use Rattle.std.specs.Prelude.{◌≡◌, ◌≢◌, ◌≤◌, ℕ, Bool, None, Ok, Some, List, [], ◌++◌, length, codes, decimal, Option}
+use Rattle.std.specs.Prelude.{if◌then◌else◌}
 use Rattle.std.specs.List.{flat_map, range_with_len}
 use Rattle.toml.specs.Data.{Data}
 use Rattle.sdf_graph.specs.Rates.{Shape, channel}
-use Rattle.sdf_graph.specs.Faults.{numbers_fault}
+use Rattle.sdf_graph.specs.Faults.{numbers_fault, IsFirstFault}
 use Rattle.sdf_graph.specs.Marks.{is_marked, AreJoined}
 use Rattle.sdf_graph.specs.Meetings.{IsMeeting}
+use Rattle.sdf_graph.specs.Shares.{IsFar}
 use Rattle.sdf_graph.specs.declared.fault.GraphFault.{GraphFault}
-use Rattle.sdf_graph.specs.declared.fault.GraphFault.TheVariants.{NotConnected, Inconsistent}
+use Rattle.sdf_graph.specs.declared.fault.GraphFault.TheVariants.{OutOfMemory, NotConnected, Inconsistent}
 use Rattle.sdf_graph.specs.declared.meeting.Meeting.{Meeting}
 use Rattle.sdf_actor.specs.declared.fault.NetFault.{NetFault}
 use Rattle.sdf_actor.specs.declared.fault.NetFault.TheVariants.{Graph}
@@ -62,11 +64,18 @@ samples_told d c m = samples_line m (end_at (codes "from") d c) (end_at (codes "
 unfoldable pub meeting_told : Data → Shape → ℕ → Meeting → List ℕ
 meeting_told d g c m = firings_told d g c m ++ samples_told d c m
 
+-- there is no link c, as much is put on it as is taken, a share of the cycles is too great, or there is no such graph
+pub data IsUntold (g : Shape) (c : ℕ) : Type 0 where
+  past : length g.channels ≤ c → IsUntold g c
+  even : (m : Meeting) → IsMeeting g c m → m.puts ≡ m.takes → IsUntold g c
+  far : IsFar g → IsUntold g c
+  refused : (fault : GraphFault) → IsFirstFault g fault → (fault ≡ OutOfMemory → ⊥) → IsUntold g c
+
 -- what meets at link c, where the samples differ, or nothing
 pub data IsMeetingText (d : Data) (g : Shape) (c : ℕ) (text : List ℕ) : Type 0 where
   meeting :
       (m : Meeting) → IsMeeting g c m → m.puts ≢ m.takes → text ≡ meeting_told d g c m → IsMeetingText d g c text
-  none : text ≡ [] → IsMeetingText d g c text
+  none : IsUntold g c → text ≡ [] → IsMeetingText d g c text
 
 -- ---- by fault
 

@@ -1,9 +1,11 @@
 //! What is told of a net that the tables alone do not show: which actors are apart, and what meets at a link.
 
-ghost use Rattle.std.specs.Prelude.{◌≡◌, ◌≢◌, ℕ, ◌<◌, ◌++◌, None, length, IfOk, IfSome, OnOk, option_map, string_bytes};
+ghost use Rattle.std.specs.Prelude.{◌≡◌, ◌≢◌, ℕ, ◌<◌, ◌++◌, [], None, length, IfOk, OnOk, MatchOption, option_map};
+ghost use Rattle.std.specs.Prelude.{string_bytes};
 ghost use Rattle.std.specs.List.{flat_map, range_with_len};
 ghost use Rattle.toml.specs.View.{view};
 ghost use Rattle.sdf_graph.specs.Rates.{Shape};
+ghost use Rattle.sdf_graph.specs.declared.fault.GraphFault.TheVariants.{OutOfMemory};
 ghost use Rattle.sdf_graph.specs.Faults.{numbers_fault};
 ghost use Rattle.sdf_graph.specs.Marks.{is_marked};
 ghost use Rattle.sdf_graph.specs.Meetings.{IsMeeting};
@@ -12,8 +14,8 @@ ghost use Rattle.sdf_document.specs.Document.{document_view};
 ghost use Rattle.sdf_document.specs.Lists.{files_view};
 ghost use Rattle.sdf_why.specs.Channels.{graph_in};
 ghost use Rattle.sdf_why.specs.More.{apart_told, IsApartText, so_many, firings_line, moves_text};
-ghost use Rattle.sdf_why.specs.More.{samples_line, firings_told, samples_told, meeting_told, IsMeetingText, IsMoreOf};
-ghost use Rattle.sdf_why.specs.More.{IsMore};
+ghost use Rattle.sdf_why.specs.More.{samples_line, firings_told, samples_told, meeting_told, IsUntold, IsMeetingText};
+ghost use Rattle.sdf_why.specs.More.{IsMoreOf, IsMore};
 
 use crate::actors::push_actor_of;
 use crate::channels::channels_of;
@@ -214,7 +216,8 @@ fn push_meeting(
 
 /// What meets at a link, where the samples differ.
 fn meeting_of(alloc: Global, graph: &Graph, link: usize) -> Result<Option<Meeting>, AllocError>
-    ensures { IfOk result (λ r. IfSome r (λ m. IsMeeting graph.now link m × (m.puts ≢ m.takes))) }
+    ensures { IfOk result (λ r. MatchOption r (IsUntold graph.now link)
+        (λ m. IsMeeting graph.now link m × (m.puts ≢ m.takes))) }
 {
     if link >= graph.channels().len() {
         return Ok(None);
@@ -222,8 +225,8 @@ fn meeting_of(alloc: Global, graph: &Graph, link: usize) -> Result<Option<Meetin
     match graph.meeting(alloc, link) {
         Ok(meeting) if meeting.puts == meeting.takes => Ok(None),
         Ok(meeting) => Ok(Some(meeting)),
-        Err(GraphFault::OutOfMemory) => Err(AllocError),
-        Err(_) => Ok(None),
+        Err(GraphFault::PeriodTooLong) => Ok(None),
+        Err(_) => Err(AllocError),
     }
 }
 
@@ -244,6 +247,16 @@ fn meeting_text(
     Ok(text)
 }
 
+/// Nothing is told of a graph that has a fault.
+fn refused_text(alloc: Global, fault: GraphFault) -> Result<String, AllocError>
+    ensures { IfOk result (λ text. (string_bytes text ≡ []) × (fault ≡ OutOfMemory → ⊥)) }
+{
+    match fault {
+        GraphFault::OutOfMemory => Err(AllocError),
+        _ => Ok(String::new(alloc)),
+    }
+}
+
 /// The same of a graph by its channels.
 fn uneven_text(
     alloc: Global,
@@ -257,8 +270,7 @@ fn uneven_text(
 {
     match Graph::new(alloc, actors, channels) {
         Ok(graph) => meeting_text(alloc, tables, &graph, link),
-        Err(GraphFault::OutOfMemory) => Err(AllocError),
-        Err(_) => Ok(String::new(alloc)),
+        Err(fault) => refused_text(alloc, fault),
     }
 }
 

@@ -4,9 +4,8 @@ use Rattle.sdf_graph.specs.Marks.{IsBorder, IsClosed, IsJoin}
 use Rattle.sdf_graph.specs.Shares.{IsEvenAt, IsWalk}
 use Rattle.sdf_graph.specs.declared.repetitions.Ratio.{Ratio}
 use Rattle.sdf_graph.proofs.Marks.{border_in, fewer}
-use Rattle.sdf_graph.proofs.ShareLaws.{too_long, first_share, walk_more, walked}
+use Rattle.sdf_graph.proofs.ShareLaws.{first_share, walk_more, walked}
 use Rattle.sdf_graph.proofs.Ties.{tied_more}
-use Rattle.sdf_graph.proofs.PeriodLaws.{none_long}
 use Rattle.sdf_graph.proofs.repetitions.walk.Goals as goal
 use Rattle.sdf_graph.proofs.repetitions.walk.Goals.{then-part-gt-MOST_PERIOD-via-then-part-gt-MOST_PERIOD}
 use Rattle.sdf_graph.proofs.repetitions.walk.Goals.{then-part-gt-MOST_PERIOD-via-else-part-gt-MOST_PERIOD+then-part-gt-MOST_PERIOD-2}
@@ -19,18 +18,28 @@ loop-channel-init c =
 
 pub returns-then-part-gt-MOST_PERIOD : goal.returns-then-part-gt-MOST_PERIOD
 returns-then-part-gt-MOST_PERIOD c =
-    let shape = subst IsShape c.graph.view_is c.graph.invariant.shape in
-    let border = subst (λ (chs : List Edge). IsBorder chs c.loop-channel.marked c.in-Some.channel c.in-Some.actor)
+    let marked = c.loop-channel.marked in
+    let border = subst (λ (chs : List Edge). IsBorder chs marked c.in-Some.channel c.in-Some.actor)
     (c.deref.ensures.value ∙ ap (λ (s : Shape). s.channels) c.graph.view_is) c.in-Some.ensures in
-    none_long c.args.graph.now shape (too_long c.args.graph.now c.in-Some.actor c.beyond-part.result
-    (border_in c.args.graph.now shape c.loop-channel.marked c.in-Some.channel c.in-Some.actor border) shape.some
-    (c.beyond-part.ensures.share c.in-Some.actor border)
-    (elim c.then-part-gt-MOST_PERIOD.branch [
-      | then-part-gt-MOST_PERIOD-via-then-part-gt-MOST_PERIOD w ↦ inl
-          w.if-part-gt-MOST_PERIOD.true
-      | then-part-gt-MOST_PERIOD-via-else-part-gt-MOST_PERIOD+then-part-gt-MOST_PERIOD-2 w ↦ inr
-          w.if-part-gt-MOST_PERIOD-2.true
-    ]))
+    record {
+      shape = subst IsShape c.graph.view_is c.graph.invariant.shape;
+      parts = c.loop-channel.parts.items;
+      marked = marked;
+      walk = subst (λ (s : Shape). IsWalk s c.loop-channel.parts.items marked) c.graph.view_is c.loop-channel.invariant;
+      channel = c.in-Some.channel;
+      actor = c.in-Some.actor;
+      border = border;
+      share = c.beyond-part.result;
+      is_share = c.beyond-part.ensures.share c.in-Some.actor border;
+      even = subst (λ (ps : List Ratio). IsEvenAt c.args.graph.now (set ps c.in-Some.actor c.beyond-part.result)
+          c.in-Some.channel) c.deref-in-Some.ensures.value (c.beyond-part.ensures.even c.in-Some.actor border);
+      far = elim c.then-part-gt-MOST_PERIOD.branch [
+        | then-part-gt-MOST_PERIOD-via-then-part-gt-MOST_PERIOD w ↦ inl
+            w.if-part-gt-MOST_PERIOD.true
+        | then-part-gt-MOST_PERIOD-via-else-part-gt-MOST_PERIOD+then-part-gt-MOST_PERIOD-2 w ↦ inr
+            w.if-part-gt-MOST_PERIOD-2.true
+      ];
+    }
 
 pub loop-channel-preserved : goal.loop-channel-preserved
 loop-channel-preserved c =

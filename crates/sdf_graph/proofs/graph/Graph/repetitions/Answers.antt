@@ -1,4 +1,4 @@
-use Rattle.std.proofs.Common.{arith, ◌≡◌, ◌<◌, ◌≤◌, ℕ, List, get_or, length, sum, map, sym, ap, ◌∙◌, subst}
+use Rattle.std.proofs.Common.{arith, rules, ◌≡◌, ◌<◌, ◌≤◌, ℕ, List, get_or, length, sum, map, sym, ap, ◌∙◌, subst}
 use Rattle.std.proofs.lemmas.Result.{MatchResult-weaker}
 use Rattle.sdf_graph.specs.declared.channel.Totals.{Totals}
 use Rattle.sdf_graph.specs.declared.repetitions.Ratio.{Ratio}
@@ -11,8 +11,13 @@ use Rattle.std.proofs.lemmas.List.{length-map}
 use Rattle.sdf_graph.proofs.ShareLaws.{must_even, no_common, totals_read, each_totals, all_totals}
 use Rattle.sdf_graph.proofs.Shapes.{cycle_small}
 use Rattle.sdf_graph.proofs.Faultless.{cycles_few}
-use Rattle.sdf_graph.proofs.PeriodLaws.{cycles_in, in_cycles, none_long, fault_of, least_period}
+use Rattle.sdf_graph.proofs.PeriodLaws.{cycles_in, in_cycles, none_long, fault_of, least_period, share_fault}
 use Rattle.sdf_graph.proofs.graph.Graph.repetitions.Goals as goal
+
+pub returns-in_err-parts : goal.returns-in_err-parts
+returns-in_err-parts c =
+    let long = share_fault c.args.self.now c.in_err-parts.field-0.0 c.in_err-parts.ensures in
+    search rules
 
 pub returns-in-Some : goal.returns-in-Some
 returns-in-Some c =
