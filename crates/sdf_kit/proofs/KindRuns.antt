@@ -1,8 +1,8 @@
--- The kinds of one phase: what many firings leave and put.
+-- The kinds: what many firings leave and put.
 use Rattle.std.proofs.Common.{◌≡◌, ℕ, zero, suc, ◌+◌, ◌*◌, ◌/◌, ◌≤◌, ◌<◌, List, [], ◌∷◌, ◌++◌, length, map, replicate}
 use Rattle.std.proofs.Common.{take, drop, ℤ, pos, refl, sym, ◌∙◌, ap, subst, arith}
 use Rattle.std.specs.List.{range_with_len}
-use Rattle.std.proofs.lemmas.Nat.{div_below, div-mul-add}
+use Rattle.std.proofs.lemmas.Nat.{div_below, div-mul-add, mod_below}
 use Rattle.std.proofs.lemmas.List.{length-append, length-drop, append_assoc, append-nil, map-append, drop-drop}
 use Rattle.std.proofs.lemmas.List.{take-append-le, drop-append-le, get_or-drop, get_or_append_left, get_or-append-add}
 use Rattle.std.proofs.lemmas.List.FromFn.{length-map-range_with_len, get_or-map-range_with_len}
@@ -18,12 +18,15 @@ use Rattle.sdf_kit.specs.Gain.{Scale, scaled}
 use Rattle.sdf_kit.specs.Table.{Lookup, looked_up}
 use Rattle.sdf_kit.specs.Clip.{Limits, clipped}
 use Rattle.sdf_kit.specs.Offset.{raised}
+use Rattle.sdf_kit.specs.Turns.{Turns}
 use Rattle.sdf_kit.specs.Ports.{ArePorts}
 use Rattle.sdf_kit.specs.declared.ports.Ports.{Ports}
 use Rattle.sdf_kit.specs.Kit.{behaviour, kit_steps}
 use Rattle.sdf_kit.specs.declared.kit.Kit.{Kit}
-use Rattle.sdf_kit.specs.declared.kit.Kit.TheVariants.{Fir, Decimate, Interpolate, Add, Fork, Gain, Delay, Table, Clip}
-use Rattle.sdf_kit.specs.declared.kit.Kit.TheVariants.{Offset}
+use Rattle.sdf_kit.specs.declared.kit.Kit.TheVariants.{Fir, Decimate, Interpolate, Add, Fork, Gain, Delay, Table, Deal}
+use Rattle.sdf_kit.specs.declared.kit.Kit.TheVariants.{Gather, Clip, Offset}
+use Rattle.sdf_kit.proofs.TurnTotals.{turn_total}
+use Rattle.sdf_kit.proofs.Dealt.{dealt_is, gathered_is}
 use Rattle.sdf_kit.proofs.Upsampled.{upsampled_moved}
 use Rattle.sdf_kit.proofs.Blocks.{IsDone, done_begins, output, output_is}
 use Rattle.sdf_kit.proofs.Sums.{sum_below_same}
@@ -40,11 +43,11 @@ mapped_run : (k : Kit) (f : ℤ → ℤ) (kept : List ℤ) → ((n : ℕ) → to
     ((n : ℕ) (b : List ℤ) → kit_steps.puts k n kept b ≡ f (sample b 0) ∷ []) →
     IsRun kit_steps k 1 kept (λ _. kept) (λ _ xs. map f xs)
 mapped_run k f kept rate next puts = record {
-  rate = rate;
+  rate = λ n. rate (phase kit_steps k n);
   begins = refl;
   none = refl;
-  next = λ n _ _ b _ _. next n b;
-  more = λ n _ xs b _ one. ap (λ put. map f xs ++ put) (puts n b) ∙ map_more f xs b one;
+  next = λ n _ _ b _ _. next (phase kit_steps k n) b;
+  more = λ n _ xs b _ one. ap (λ put. map f xs ++ put) (puts (phase kit_steps k n) b) ∙ map_more f xs b one;
 }
 
 pub gain_run : (g : Scale) (kept : List ℤ) → IsRun kit_steps (Gain g) 1 kept (λ _. kept) (λ _ xs. map (scaled g) xs)
@@ -222,17 +225,43 @@ module _ (f : Filter) (kept : List ℤ) (some_up : 1 ≤ f.up) (some_down : 1 �
     more = λ _ i xs b long one. fir_more i xs b long one;
   }
 
+-- what is dealt or gathered goes on as it is
+pub deal_run : (t : Turns) (kept : List ℤ) → 0 < t.ways → IsRun kit_steps (Deal t) t.run kept (λ _. kept) (λ _ xs. xs)
+deal_run t kept some = record {
+  rate = λ _. omega arith;
+  begins = refl;
+  none = refl;
+  next = λ _ _ _ _ _ _. refl;
+  more = λ n _ xs b _ _. ap (λ put. xs ++ put)
+      (dealt_is b (phase kit_steps (Deal t) n) t.ways (mod_below n t.ways some));
+}
+
+turn_rate : (t : Turns) → 0 < t.ways → (n : ℕ) → total_in kit_steps (Gather t) (phase kit_steps (Gather t) n) ≡ t.run
+turn_rate t some n = turn_total t.ways t.run (phase kit_steps (Gather t) n) (mod_below n t.ways some)
+
+pub gather_run : (t : Turns) (kept : List ℤ) → 0 < t.ways →
+    IsRun kit_steps (Gather t) t.run kept (λ _. kept) (λ _ xs. xs)
+gather_run t kept some = record {
+  rate = turn_rate t some;
+  begins = refl;
+  none = refl;
+  next = λ _ _ _ _ _ _. refl;
+  more = λ _ _ xs b _ one. ap (λ put. xs ++ put) (sym (gathered_is b t.run one));
+}
+
 -- a kit that is of a kind: how many samples its firings take and put, and what they leave and put
 module _ (k x : Kit) (is : k ≡ x) (j many : ℕ) where
-  pub takes : (r n : ℕ) → ((i : ℕ) → total_in kit_steps x i ≡ r) → n ≡ sum_in kit_steps k j many → n ≡ many * r
+  pub takes : (r n : ℕ) → ((i : ℕ) → total_in kit_steps x (phase kit_steps x i) ≡ r) → n ≡ sum_in kit_steps k j many →
+      n ≡ many * r
   takes r n rate e =
       e ∙ (ap (λ y. sum_in kit_steps y j many) is ∙ same_sums (λ i. total_in kit_steps x (phase kit_steps x (j + i))) r
-      (λ i. rate (phase kit_steps x (j + i))) many)
+      (λ i. rate (j + i)) many)
 
-  pub gives : (r n : ℕ) → ((i : ℕ) → total_out kit_steps x i ≡ r) → n ≡ sum_out kit_steps k j many → n ≡ many * r
+  pub gives : (r n : ℕ) → ((i : ℕ) → total_out kit_steps x (phase kit_steps x i) ≡ r) → n ≡ sum_out kit_steps k j many →
+      n ≡ many * r
   gives r n rate e =
       e ∙ (ap (λ y. sum_out kit_steps y j many) is ∙ same_sums (λ i. total_out kit_steps x (phase kit_steps x (j + i)))
-      r (λ i. rate (phase kit_steps x (j + i))) many)
+      r (λ i. rate (j + i)) many)
 
   module _ {size : ℕ} {kept : List ℤ} {after : List ℤ → List ℤ} {all : ℕ → List ℤ → List ℤ}
       (run : IsRun kit_steps x size kept after all) (taken : List ℤ)
@@ -248,6 +277,26 @@ module _ (k x : Kit) (is : k ≡ x) (j many : ℕ) where
         sym (ap (λ y. puts_to kit_steps y j kept taken many) is
         ∙ run_puts kit_steps x size kept after all run j taken many
         (long ∙ ap (λ y. sum_in kit_steps y j many) is))
+
+-- a cycle with a phase has one
+pub some_ways : {k x : Kit} {j : ℕ} → k ≡ x → j < kit_steps.cycle k → 0 < kit_steps.cycle x
+some_ways {k} {x} {j} is below =
+    let here : j < kit_steps.cycle x = subst (λ y. j < kit_steps.cycle y) is below in
+    omega (arith, here)
+
+-- of what is dealt or gathered as much is put as taken
+module _ (k : Kit) (t : Turns) (j many n m : ℕ) (below : j < kit_steps.cycle k)
+    (taken : n ≡ sum_in kit_steps k j many) (put : m ≡ sum_out kit_steps k j many) where
+  pub deals_all : k ≡ Deal t → m ≡ n
+  deals_all is =
+      gives k (Deal t) is j many t.run m
+      (λ i. turn_total t.ways t.run (phase kit_steps (Deal t) i) (mod_below i t.ways (some_ways is below))) put ∙
+      sym (takes k (Deal t) is j many t.run n (λ _. omega arith) taken)
+
+  pub gathers_all : k ≡ Gather t → m ≡ n
+  gathers_all is =
+      gives k (Gather t) is j many t.run m (λ _. omega arith) put ∙
+      sym (takes k (Gather t) is j many t.run n (turn_rate t (some_ways is below)) taken)
 
 -- the runs of kinds whose rates are known by the ports of a kit
 module _ (k x : Kit) (is : k ≡ x) (p : Ports) (same : p ≡ (behaviour k).ports) (are : ArePorts p) where

@@ -20,19 +20,19 @@ same_sums f r same (suc i) = omega (arith, same_sums f r same i, same i, suc-mul
 -- `size`
 pub record IsRun {A S : Type 0} (s : Steps A S ℤ) (x : A) (size : ℕ) (state : S) (after : List ℤ → S)
     (all : ℕ → List ℤ → List ℤ) : Type 0 where
-  pub rate : (n : ℕ) → total_in s x n ≡ size
+  pub rate : (n : ℕ) → total_in s x (phase s x n) ≡ size
   pub begins : after [] ≡ state
   pub none : all 0 [] ≡ []
-  -- i firings took xs, and one more at phase n takes b
+  -- i firings took xs, and one more, at the phase of firing n, takes b
   pub next : (n i : ℕ) (xs b : List ℤ) → length xs ≡ i * size → length b ≡ size →
-      s.next x n (after xs) b ≡ after (xs ++ b)
+      s.next x (phase s x n) (after xs) b ≡ after (xs ++ b)
   pub more : (n i : ℕ) (xs b : List ℤ) → length xs ≡ i * size → length b ≡ size →
-      all i xs ++ s.puts x n (after xs) b ≡ all (suc i) (xs ++ b)
+      all i xs ++ s.puts x (phase s x n) (after xs) b ≡ all (suc i) (xs ++ b)
 
 module _ {A S : Type 0} (s : Steps A S ℤ) (x : A) (size : ℕ) (state : S) (after : List ℤ → S)
     (all : ℕ → List ℤ → List ℤ) (is : IsRun s x size state after all) (j : ℕ) where
   sums : (i : ℕ) → sum_in s x j i ≡ i * size
-  sums = same_sums (λ n. total_in s x (phase s x (j + n))) size (λ n. is.rate (phase s x (j + n)))
+  sums = same_sums (λ n. total_in s x (phase s x (j + n))) size (λ n. is.rate (j + n))
 
   module _ (taken : List ℤ) where
     block_is : (i : ℕ) → block_at s x j taken i ≡ take size (drop (i * size) taken)
@@ -59,9 +59,9 @@ module _ {A S : Type 0} (s : Steps A S ℤ) (x : A) (size : ℕ) (state : S) (af
         ap (λ ys. xs ++ ys) (block_is i) ∙ (sym (take-add (i * size) size taken)
         ∙ ap (λ n. take n taken) (sym step)) in (
           ap (λ z. s.next x (phase s x (j + i)) z b) before.0
-              ∙ (is.next (phase s x (j + i)) i xs b xs_long b_long ∙ ap after whole),
+              ∙ (is.next (j + i) i xs b xs_long b_long ∙ ap after whole),
           (λ k. before.1 k ++ s.puts x (phase s x (j + i)) (before.0 k) b)
-              ∙ (is.more (phase s x (j + i)) i xs b xs_long b_long ∙ ap (all (suc i)) whole),
+              ∙ (is.more (j + i) i xs b xs_long b_long ∙ ap (all (suc i)) whole),
         )
 
     module _ (many : ℕ) (long : length taken ≡ sum_in s x j many) where

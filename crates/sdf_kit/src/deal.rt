@@ -46,10 +46,9 @@ impl Deal {
         }
     }
 
-    /// One firing, at any phase: the samples go to the one port whose block is not empty.
+    /// One firing or many, at any phase: the samples of each go to the one port whose block is not empty.
     pub fn fire(&self, taken: &[i32], put: &mut [i32])
-        requires taken { length taken.now ≡ self.now.run }
-        requires put { length put.old ≡ self.now.run }
+        requires { length put.old ≡ length taken.now }
         ensures { put.new ≡ taken.now }
     {
         put.copy_from_slice(taken);

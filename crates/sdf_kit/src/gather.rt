@@ -1,8 +1,6 @@
 //! Several ways gathered into one.
 
-ghost use Rattle.std.specs.Prelude.{◌≡◌, length, map};
-ghost use Rattle.std.specs.List.{range_with_len};
-ghost use Rattle.sdf_kit.specs.Samples.{sample};
+ghost use Rattle.std.specs.Prelude.{◌≡◌, length};
 ghost use Rattle.sdf_kit.specs.Ports.{ArePorts};
 ghost use Rattle.sdf_kit.specs.Turns.{turns_of};
 ghost use Rattle.sdf_kit.specs.Gather.{gather};
@@ -48,11 +46,10 @@ impl Gather {
         }
     }
 
-    /// One firing, at any phase: the samples are of the one port whose block is not empty.
+    /// One firing or many, at any phase: the samples of each are of the one port whose block is not empty.
     pub fn fire(&self, taken: &[i32], put: &mut [i32])
-        requires taken { length taken.now ≡ self.now.run }
-        requires put { length put.old ≡ self.now.run }
-        ensures { put.new ≡ map (sample taken.now) (range_with_len 0 self.now.run) }
+        requires { length put.old ≡ length taken.now }
+        ensures { put.new ≡ taken.now }
     {
         put.copy_from_slice(taken);
     }

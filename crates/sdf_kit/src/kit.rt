@@ -7,8 +7,7 @@
 //! 4. a variant, a constructor and an arm of each `match` below, and a row of `specs/Kit.antt`;
 //! 5. a case in `specs/PutsFit.antt` (its blocks have their lengths) and in `proofs/Formulas.antt` (it puts its
 //!   formula);
-//! 6. where many firings in one call are worth it, a `run`, its arm in `fire_at_once`, and its lemma in
-//!   `proofs/KindRuns.antt`.
+//! 6. a `run` of many firings in one call, its arm in `fire_at_once`, and its lemma in `proofs/KindRuns.antt`.
 
 ghost use Rattle.std.specs.Prelude.{◌≡◌, ◌≤◌};
 ghost use Rattle.sdf_actor.specs.Steps.{Steps, total_in, total_out, PutsFit};
@@ -259,7 +258,8 @@ impl Actor for Kit {
             Kit::Offset(o) => o.run(taken, put),
             Kit::Add(a) => a.run(taken, put),
             Kit::Fork(f) => f.run(taken, put),
-            Kit::Deal(_) | Kit::Gather(_) => return false,
+            Kit::Deal(d) => d.fire(taken, put),
+            Kit::Gather(g) => g.fire(taken, put),
         }
         true
     }

@@ -3,10 +3,11 @@ use Rattle.std.specs.List.{range_with_len}
 use Rattle.sdf_kit.specs.Samples.{sample, upsampled}
 use Rattle.sdf_kit.specs.Add.{sum_at}
 use Rattle.sdf_kit.specs.PutsFit.{sum_ones}
-use Rattle.sdf_kit.specs.declared.kit.Kit.TheVariants.{Fir, Decimate, Interpolate, Add, Fork, Gain, Delay, Table, Clip}
-use Rattle.sdf_kit.specs.declared.kit.Kit.TheVariants.{Offset}
+use Rattle.sdf_kit.specs.declared.kit.Kit.TheVariants.{Fir, Decimate, Interpolate, Add, Fork, Gain, Delay, Table, Deal}
+use Rattle.sdf_kit.specs.declared.kit.Kit.TheVariants.{Gather, Clip, Offset}
 use Rattle.sdf_kit.proofs.KindRuns.{takes, gives, leaves, puts, fir_runs, decimate_runs, interpolate_runs, add_run}
 use Rattle.sdf_kit.proofs.KindRuns.{fork_run, gain_run, delay_run, table_run, clip_run, offset_run}
+use Rattle.sdf_kit.proofs.KindRuns.{deal_run, gather_run, deals_all, gathers_all, some_ways}
 use Rattle.sdf_kit.proofs.kit.KitActor.fire_at_once.Goals as goal
 
 pub run-requires-clause-taken : goal.run-requires-clause-taken
@@ -181,3 +182,36 @@ returns-in-Fork-clause-put c =
     c.run-in-Fork.ensures ∙ (ap (λ n. map (λ i. sample c.args.taken.now (i / c.in-Fork.f)) (range_with_len 0 n)) same
     ∙ puts c.args.self.now (Fork c.in-Fork.f) c.in-Fork.is c.args._phase c.args.many
     (fork_run c.in-Fork.f c.args.state.now) c.args.taken.now c.requires.taken)
+
+pub fire-requires : goal.fire-requires
+fire-requires c =
+    deals_all c.args.self.now c.in-Deal.d c.args._phase c.args.many (length c.args.taken.now) (length c.args.put.now)
+    c.requires.phase c.requires.taken c.requires.put c.in-Deal.is
+
+pub fire-requires-in-Gather : goal.fire-requires-in-Gather
+fire-requires-in-Gather c =
+    gathers_all c.args.self.now c.in-Gather.g c.args._phase c.args.many (length c.args.taken.now)
+    (length c.args.put.now) c.requires.phase c.requires.taken c.requires.put c.in-Gather.is
+
+pub returns-in-Deal-clause-state : goal.returns-in-Deal-clause-state
+returns-in-Deal-clause-state c =
+    leaves c.args.self.now (Deal c.in-Deal.d) c.in-Deal.is c.args._phase c.args.many
+    (deal_run c.in-Deal.d c.args.state.now (some_ways c.in-Deal.is c.requires.phase)) c.args.taken.now c.requires.taken
+
+pub returns-in-Deal-clause-put : goal.returns-in-Deal-clause-put
+returns-in-Deal-clause-put c =
+    c.fire.ensures ∙ puts c.args.self.now (Deal c.in-Deal.d) c.in-Deal.is c.args._phase c.args.many
+    (deal_run c.in-Deal.d c.args.state.now (some_ways c.in-Deal.is c.requires.phase)) c.args.taken.now
+    c.requires.taken
+
+pub returns-in-Gather-clause-state : goal.returns-in-Gather-clause-state
+returns-in-Gather-clause-state c =
+    leaves c.args.self.now (Gather c.in-Gather.g) c.in-Gather.is c.args._phase c.args.many
+    (gather_run c.in-Gather.g c.args.state.now (some_ways c.in-Gather.is c.requires.phase)) c.args.taken.now
+    c.requires.taken
+
+pub returns-in-Gather-clause-put : goal.returns-in-Gather-clause-put
+returns-in-Gather-clause-put c =
+    c.fire-in-Gather.ensures ∙ puts c.args.self.now (Gather c.in-Gather.g) c.in-Gather.is c.args._phase c.args.many
+    (gather_run c.in-Gather.g c.args.state.now (some_ways c.in-Gather.is c.requires.phase)) c.args.taken.now
+    c.requires.taken

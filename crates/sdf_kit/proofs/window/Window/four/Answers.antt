@@ -1,4 +1,4 @@
-use Rattle.std.proofs.Common.{◌≡◌, ◌+◌, ◌*◌, pos, length, take, get_or, FitsSigned, sym, ap, subst, refl, inl, inr}
+use Rattle.std.proofs.Common.{◌+◌, ◌*◌, pos, take, get_or, FitsSigned, sym, ap, subst, refl, inl, inr}
 use Rattle.std.proofs.Common.{arith}
 use Rattle.std.specs.Int.{w16}
 use Rattle.std.specs.Simd.Lanes.{Each1}

@@ -1,4 +1,4 @@
-use Rattle.std.proofs.Common.{◌≡◌, ◌+◌, length, take, FitsSigned, sym, subst, inl, inr, arith}
+use Rattle.std.proofs.Common.{take, FitsSigned, sym, subst, inl, inr, arith}
 use Rattle.std.specs.Int.{w16}
 use Rattle.std.specs.Simd.Lanes.{Each1}
 use Rattle.sdf_kit.proofs.Windows.{short_front, front_long, passed, whole_small, whole_output, split_output}
