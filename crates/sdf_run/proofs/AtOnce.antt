@@ -28,7 +28,7 @@ use Rattle.sdf_answer.specs.Periods.{AreApart}
 use Rattle.sdf_run.specs.Runs.{IsWork, Stands}
 use Rattle.sdf_run.proofs.Answered.{source_puts, states, actor_puts}
 use Rattle.sdf_run.proofs.AtOnceWorks as work
-use Rattle.sdf_run.proofs.AtOnceWorks.{at_none, all_answers}
+use Rattle.sdf_run.proofs.AtOnceWorks.{all_answers}
 use Rattle.sdf_run.proofs.Known.{Known, ins_all, into_sink}
 use Rattle.sdf_run.proofs.Longer.{GoesOn, goes_on}
 use Rattle.sdf_run.proofs.Parts.{take_on, none_of, one_of, spread_none}

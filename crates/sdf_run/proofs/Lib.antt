@@ -17,6 +17,10 @@ pub mod FiringAtOnce
 pub mod FiringMany
 pub mod Left
 pub mod Joined
-pub mod BlocksTaken
+pub mod AtPorts
+pub mod Turns
+pub mod WholeCycles
+pub mod ManyWorks
+pub mod CycleBlocks
 pub mod Many
 mod Feeding

@@ -1,175 +1,62 @@
--- What a runner holds after so many firings of an actor through its blocks: what as many single ones would leave.
-use Rattle.std.proofs.Common.{◌≡◌, ℕ, zero, suc, ◌+◌, ◌-◌, ◌*◌, ◌≤◌, ◌<◌, List, [], ◌∷◌, ◌++◌, length, map, get_or, set}
-use Rattle.std.proofs.Common.{take, drop, cond, eqb, refl, sym, ap, ◌∙◌, subst, inl, inr, ◌⊎◌, arith, add-one}
+-- What a runner holds after so many cycles of an actor through its blocks: what as many single firings would leave.
+use Rattle.std.proofs.Common.{◌≡◌, ℕ, zero, suc, ◌+◌, ◌-◌, ◌*◌, ◌%◌, ◌^◌, ◌≤◌, ◌<◌, List, [], ◌++◌, length, map}
+use Rattle.std.proofs.Common.{get_or, set, take, drop, cond, eqb, refl, sym, ap, ◌∙◌, subst, inl, inr, ◌⊎◌, arith}
+use Rattle.std.proofs.Common.{add-one}
 use Rattle.std.specs.Borrow.{Bor}
 use Rattle.std.specs.Global.{Global}
 use Rattle.std.specs.List.{between, flat_map, sum_by, range_with_len}
-use Rattle.std.proofs.Math.Nat.{zero-mul, mul-le-mul_right}
-use Rattle.std.proofs.lemmas.Nat.{mod_below}
+use Rattle.std.proofs.Math.Nat.{mod-eq_of_lt, mod-add-mod}
 use Rattle.std.proofs.lemmas.Bool.{cases_eq, cases_lt, eq-eqb, ne_eqb}
-use Rattle.std.proofs.lemmas.List.{append-nil, append_assoc, drop-append-le, get_or-set_same, get_or-set_other}
-use Rattle.std.proofs.lemmas.List.{length-set, length-append, length-drop, get_or_append_left, get_or_push}
+use Rattle.std.proofs.lemmas.List.{append-nil, append_assoc, drop-append-le, drop-drop, get_or-set_same}
+use Rattle.std.proofs.lemmas.List.{get_or-set_other, length-set, length-drop, length-take-le}
 use Rattle.std.proofs.lemmas.List.Edits.{length-between}
 use Rattle.std.proofs.lemmas.List.FromFn.{length-map-range_with_len, get_or-map-range_with_len}
-use Rattle.std.proofs.lemmas.List.Sums.{sum_by-cons}
 use Rattle.std.specs.declared.vec.Vec.{Vec}
 use Rattle.sdf_graph.specs.Sequences.{IsEnabled, tokens}
-use Rattle.sdf_actor.specs.declared.node.Node.{Node}
 use Rattle.sdf_actor.specs.declared.node.Node.TheVariants as node
-use Rattle.sdf_actor.specs.Steps.{Steps, phase, total_in, total_out, sum_in, sum_out, block_at, state_at, puts_to}
+use Rattle.sdf_actor.specs.Steps.{Steps, phase, total_in, total_out, sum_in, block_at, state_at, puts_to}
 use Rattle.sdf_actor.specs.Steps.{state_after, PutsFit}
-use Rattle.sdf_actor.specs.Histories.{Wiring, taken, taken_before, spread}
+use Rattle.sdf_actor.specs.Histories.{taken, taken_before, spread}
 use Rattle.sdf_actor.specs.Nets as nets
-use Rattle.sdf_actor.specs.Nets.{Netlist, wiring, cycle_of, InputsReach, IsHistoryOf}
+use Rattle.sdf_actor.specs.Nets.{Netlist, wiring, cycle_of, InputsReach}
+use Rattle.sdf_run.specs.declared.cycles.Cycles.{Cycles}
 use Rattle.sdf_run.specs.declared.work.Work.{Work}
 use Rattle.sdf_run.specs.declared.work.Work.TheVariants.{Source, Sink, Inner}
 use Rattle.sdf_answer.specs.Held.{Held}
-use Rattle.sdf_answer.specs.Blocks.{nothing, samples, room, at_ports, ArePorts, front}
-use Rattle.sdf_answer.specs.Moves.{FitsPorts}
-use Rattle.sdf_answer.specs.Sizes.{Rows, IsPlan, AreSizes, at_phase, in_all, out_all}
+use Rattle.sdf_answer.specs.Blocks.{nothing, samples, room, at_ports, front, HoldManyBlocks}
+use Rattle.sdf_answer.specs.Sizes.{Rows, IsPlan, AreSizes, at_phase}
+use Rattle.sdf_run.specs.Cycles.{AreCycles, IsInTurn}
 use Rattle.sdf_run.specs.Firings.{made, phase_at, IsActor, IsFired}
 use Rattle.sdf_node.specs.Many.{joined}
 use Rattle.sdf_answer.specs.Blocks.{front_at, dealt}
-use Rattle.sdf_run.specs.Many.{GoesByMany, HasItsBlocks, Fit, HaveManyWorked, CanFireMany}
-use Rattle.sdf_run.specs.Many.{AreManyFired}
+use Rattle.sdf_run.specs.Many.{GoesByMany, Fit, CanFireMany, AreManyFired}
 use Rattle.sdf_run.specs.Runs.{HasBlocks, IsWork, Stands}
-use Rattle.sdf_run.proofs.AtOnceWorks.{at_none, sum_of_equal}
-use Rattle.sdf_run.proofs.BlocksTaken.{at_one, one_more, at_sum, at_zero, cut_more, front_long}
-use Rattle.sdf_run.proofs.Joined.{joined_none, joined_part}
+use Rattle.sdf_run.proofs.CycleBlocks as blocks
+use Rattle.sdf_run.proofs.ManyWorks.{inner_work, worked_same, its_blocks, stands_along, puts_chained, taken_at}
+use Rattle.sdf_run.proofs.ManyWorks.{parts_long}
+use Rattle.sdf_run.proofs.AtPorts.{at_one, at_sum, at_zero}
+use Rattle.sdf_run.proofs.WholeCycles as cycle
+use Rattle.sdf_run.proofs.Joined.{joined_none}
 use Rattle.sdf_run.proofs.Known.{Known, ins_all}
 use Rattle.sdf_run.proofs.Longer.{reaches}
 use Rattle.sdf_run.proofs.Parts.{flat_map_same, spread_none}
 use Rattle.sdf_run.proofs.Standing as standing
-use Rattle.sdf_run.proofs.Steady as steady
-
--- what an actor's work says of its node
-inner_work : {A S T Z : Type 0} (s : Steps A S T) (inputs : List (List T)) (outputs : List (Vec T Z)) (many : ℕ)
-    (x : Node A) (past : List (List T)) (actor : Bor A) (j : ℕ) (state : S) (taken put : Vec T Global)
-    (lengths : Vec ℕ Global) →
-    IsWork s inputs outputs many x past (Inner actor j state taken put lengths) →
-    (x ≡ node.Inner actor.now) × (j ≡ phase s actor.now (length past)) × (state ≡ state_after s actor.now past)
-    × HasBlocks s actor.now taken put lengths
-inner_work s inputs outputs many (node.Source ext block) past actor j state taken put lengths is = absurd is
-inner_work s inputs outputs many (node.Sink ext block) past actor j state taken put lengths is = absurd is
-inner_work s inputs outputs many (node.Inner x) past actor j state taken put lengths is = (
-  ap node.Inner (sym is.0),
-  is.1 ∙ ap (λ y. phase s y (length past)) (sym is.0),
-  is.2 ∙ ap (λ y. state_after s y past) (sym is.0),
-  subst (λ y. HasBlocks s y taken put lengths) (sym is.0) is.3,
-)
-
--- and stays where its blocks keep their room
-worked_same : {A S T Z : Type 0} (s : Steps A S T) (inputs : List (List T)) (outputs : List (Vec T Z)) (many times : ℕ)
-    (x : Node A) (past : List (List T)) (actor : Bor A) (j : ℕ) (state : S) (taken put : Vec T Global)
-    (lengths : Vec ℕ Global) (b : List T) (y : Work A T S) →
-    HaveManyWorked s times (Inner actor j state taken put lengths) b y →
-    IsWork s inputs outputs many x past (Inner actor j (state_at s actor.now j state b times) taken put lengths) →
-    IsWork s inputs outputs many x past y
-worked_same s inputs outputs many times (node.Inner x) past actor j state taken put lengths b
-    (Inner actor' j' state' taken' put' lengths') worked is =
-    let same : lengths'.items ≡ lengths.items = ap (λ v. v.items) worked.5 in
-    let blocks = is.3 in (
-      ap (λ y. y.now) worked.0 ∙ is.0,
-      worked.1 ∙ is.1,
-      worked.2 ∙ is.2,
-      record {
-        some = blocks.some;
-        cycle = ap length same ∙ blocks.cycle;
-        taken_fits = λ i h. omega (arith, blocks.taken_fits i h, worked.3);
-        put_fits = λ i h. omega (arith, blocks.put_fits i h, worked.4);
-        lengths_are = λ i h. ap (λ ls. get_or ls i 0) same ∙ blocks.lengths_are i h;
-      },
-    )
-worked_same s inputs outputs many times (node.Source ext block) past actor j state taken put lengths b y worked is =
-    absurd is
-worked_same s inputs outputs many times (node.Sink ext block) past actor j state taken put lengths b y worked is =
-    absurd is
-worked_same s inputs outputs many times (node.Inner x) past actor j state taken put lengths b (Source ext next block)
-    worked is = absurd worked
-worked_same s inputs outputs many times (node.Inner x) past actor j state taken put lengths b (Sink ext) worked is =
-    absurd worked
-
--- an actor's blocks have room for its next firing
-pub its_blocks : {A S T Z : Type 0} (s : Steps A S T) (inputs : List (List T)) (outputs : List (Vec T Z)) (many : ℕ)
-    (x : Node A) (past : List (List T)) (w : Work A T S) → IsWork s inputs outputs many x past w → HasItsBlocks s w
-its_blocks s inputs outputs many x past (Source ext next block) is = tt
-its_blocks s inputs outputs many x past (Sink ext) is = tt
-its_blocks s inputs outputs many x past (Inner actor j state taken put lengths) is =
-    let it = inner_work s inputs outputs many x past actor j state taken put lengths is in
-    let below : phase s actor.now (length past) < s.cycle actor.now =
-    mod_below (length past) (s.cycle actor.now) it.3.some in
-    (omega (arith, it.1, below), it.3)
-
--- a run stands where what it holds is the same
-stands_along : {A S T Z : Type 0} (s : Steps A S T) (n : Netlist A T) (inputs : List (List T)) (many k m : ℕ → ℕ)
-    (works works' : List (Work A T S)) (qs qs' : List (Held T)) (outputs : List (Vec T Z)) → k ≡ m →
-    (st : Stands s n inputs many k works qs outputs) → length works' ≡ length works → length qs' ≡ length qs →
-    ((c : ℕ) → c < length n.wires → samples qs' c ≡ samples qs c) →
-    ((b : ℕ) (d : Work A T S) → b < length n.nodes →
-    IsWork s inputs outputs (many b) (nets.node n b) (taken_before (wiring s n) st.history b (k b))
-    (get_or works b d) →
-    IsWork s inputs outputs (many b) (nets.node n b) (taken_before (wiring s n) st.history b (k b))
-    (get_or works' b d)) →
-    Stands s n inputs many m works' qs' outputs
-stands_along s n inputs many k m works works' qs qs' outputs same st same_works same_queues left each =
-    subst (λ j. Stands s n inputs many j works' qs' outputs) same
-    (record {
-      history = st.history;
-      is = st.is;
-      channels = same_queues ∙ st.channels;
-      left = λ c l. left c l ∙ st.left c l;
-      nodes = same_works ∙ st.nodes;
-      each = λ b d l. each b d l (st.each b d l);
-    })
-
--- what so many firings put is what each puts, one after another
-puts_chained : {A S T : Type 0} (s : Steps A S T) (x : A) (j : ℕ) (state : S) (b : List T) (i : ℕ) →
-    puts_to s x j state b i ≡ joined (λ i. s.puts x (phase s x (j + i)) (state_at s x j state b i)
-    (block_at s x j b i)) i
-puts_chained s x j state b zero = refl
-puts_chained s x j state b (suc i) = ap (λ ys. ys
-    ++ s.puts x (phase s x (j + i)) (state_at s x j state b i) (block_at s x j b i)) (puts_chained s x j state b i)
-
--- what a firing took, of those before another
-taken_at : {T : Type 0} (f : Wiring T) (V : ℕ → List T) (a : ℕ) → ((i : ℕ) → length (taken_before f V a i) ≡ i) →
-    (i e : ℕ) → e < i → get_or (taken_before f V a i) e [] ≡ taken f V a e
-taken_at f V a counts zero e l = absurd (omega arith)
-taken_at f V a counts (suc i) e l = go (λ less. taken_at f V a counts i e less) (cases_lt e i)
-  where
-    long : length (taken_before f V a i) ≡ i
-    long = counts i
-
-    go : (e < i → get_or (taken_before f V a i) e [] ≡ taken f V a e) → (e < i) ⊎ (i ≤ e) →
-        get_or (taken_before f V a i ++ taken f V a i ∷ []) e [] ≡ taken f V a e
-    go before (inl less) = get_or_append_left (taken_before f V a i) (taken f V a i ∷ []) [] e
-        (omega (arith, long)) ∙ before less
-    go before (inr last) =
-        let same : i ≡ e = omega arith in
-        get_or_push (taken_before f V a i) (taken f V a i) [] e (long ∙ same) ∙ ap (taken f V a) same
-
--- parts that have their lengths, joined
-parts_long : {T : Type 0} (g : ℕ → List T) (size : ℕ → ℕ) (ds : List ℕ) →
-    ((i : ℕ) → i < length ds → length (g (get_or ds i 0)) ≡ size (get_or ds i 0)) →
-    length (flat_map g ds) ≡ sum_by size ds
-parts_long g size [] long = refl
-parts_long g size (d ∷ ds) long =
-    let one : length (g d) ≡ size d = long 0 (omega arith) in
-    let rest : length (flat_map g ds) ≡ sum_by size ds = parts_long g size ds (λ i l. long (suc i) (omega arith)) in
-    omega (arith, length-append (g d) (flat_map g ds), sum_by-cons size d ds)
+use Rattle.sdf_run.proofs.Turns.{joined_piece}
 
 module _ {A S T Z : Type 0} (s : Steps A S T) (fits : (x : A) → PutsFit s x) (n : Netlist A T) (net : Known s n)
-    (z : Rows) (sizes : AreSizes s n z) (inputs : List (List T)) (many k : ℕ → ℕ) (a : ℕ) (known : a < length n.nodes)
+    (z : Rows) (sizes : AreSizes s n z) (y : Cycles) (cycles : AreCycles s n y) (inputs : List (List T))
+    (many k : ℕ → ℕ) (a : ℕ) (known : a < length n.nodes)
     (works : List (Work A T S)) (qs : List (Held T)) (outputs : List (Vec T Z))
     (st : Stands s n inputs many k works qs outputs)
-    (actor : Bor A) (j : ℕ) (state : S) (taken' put' : Vec T Global) (lengths : Vec ℕ Global)
-    (does : (d : Work A T S) → get_or works a d ≡ Inner actor j state taken' put' lengths)
-    (one : s.cycle actor.now ≡ 1) (apart : (p q : ℕ) → p < length ((wiring s n).ins a) →
-    q < length ((wiring s n).outs a) → get_or ((wiring s n).ins a) p 0 ≡ get_or ((wiring s n).outs a) q 0 → ⊥)
-    (times : ℕ) (m : ℕ → ℕ) (own : m a ≡ k a + times) (others : (b : ℕ) → (a ≡ b → ⊥) → m b ≡ k b)
-    (below : (b : ℕ) → b < length n.nodes → m b ≤ many b)
-    (held : (i : ℕ) → i < length ((wiring s n).ins a) →
-    times * get_or (at_phase z.takes j) (get_or ((wiring s n).ins a) i 0) 0 ≤
-    length (samples qs (get_or ((wiring s n).ins a) i 0))) where
+    (actor : Bor A) (state : S) (taken' put' : Vec T Global) (lengths : Vec ℕ Global)
+    (does : (d : Work A T S) → get_or works a d ≡ Inner actor 0 state taken' put' lengths)
+    (apart : (p q : ℕ) → p < length ((wiring s n).ins a) → q < length ((wiring s n).outs a) →
+    get_or ((wiring s n).ins a) p 0 ≡ get_or ((wiring s n).outs a) q 0 → ⊥)
+    (turn_in : IsInTurn ((wiring s n).ins a) z.takes (s.cycle actor.now))
+    (turn_out : IsInTurn ((wiring s n).outs a) z.puts (s.cycle actor.now))
+    (times : ℕ) (m : ℕ → ℕ) (own : m a ≡ k a + times * s.cycle actor.now)
+    (others : (b : ℕ) → (a ≡ b → ⊥) → m b ≡ k b) (below : (b : ℕ) → b < length n.nodes → m b ≤ many b)
+    (held : HoldManyBlocks times ((wiring s n).ins a) y.takes.items qs) where
   abbrev ins : List ℕ
   ins = (wiring s n).ins a
 
@@ -177,13 +64,33 @@ module _ {A S T Z : Type 0} (s : Steps A S T) (fits : (x : A) → PutsFit s x) (
   outs = (wiring s n).outs a
 
   abbrev takes : List ℕ
-  takes = at_phase z.takes j
+  takes = y.takes.items
 
   abbrev puts : List ℕ
-  puts = at_phase z.puts j
+  puts = y.puts.items
+
+  -- how many firings a cycle has, and all of them
+  abbrev turns : ℕ
+  turns = s.cycle actor.now
+
+  abbrev firings : ℕ
+  firings = times * s.cycle actor.now
+
+  -- what firing i of them moves at each channel, and what those before it do
+  abbrev takes_at : ℕ → List ℕ
+  takes_at i = at_phase z.takes (i % s.cycle actor.now)
+
+  abbrev puts_at : ℕ → List ℕ
+  puts_at i = at_phase z.puts (i % s.cycle actor.now)
+
+  abbrev taken_by : ℕ → ℕ → ℕ
+  taken_by c i = (wiring s n).rates.consumed c i
+
+  abbrev put_by : ℕ → ℕ → ℕ
+  put_by c i = (wiring s n).rates.produced c i
 
   abbrev w0 : Work A T S
-  w0 = Inner actor j state taken' put' lengths
+  w0 = Inner actor 0 state taken' put' lengths
 
   abbrev size : ℕ
   size = sum_by (λ c. get_or takes c 0) ins
@@ -196,211 +103,267 @@ module _ {A S T Z : Type 0} (s : Steps A S T) (fits : (x : A) → PutsFit s x) (
       (does w0) (st.each a w0 known)
 
   inner :
-      (nets.node n a ≡ node.Inner actor.now) × (j ≡
+      (nets.node n a ≡ node.Inner actor.now) × (0 ≡
       phase s actor.now (length (taken_before (wiring s n) st.history a (k a)))) ×
       (state ≡ state_after s actor.now (taken_before (wiring s n) st.history a (k a)))
       × HasBlocks s actor.now taken' put' lengths
-  inner = inner_work s inputs outputs (many a) (nets.node n a) (taken_before (wiring s n) st.history a (k a)) actor j
+  inner = inner_work s inputs outputs (many a) (nets.node n a) (taken_before (wiring s n) st.history a (k a)) actor 0
       state taken' put' lengths is_work
 
-  one_phase : cycle_of s (nets.node n a) ≡ 1
-  one_phase = ap (cycle_of s) inner.0 ∙ one
+  begins : k a % turns ≡ 0
+  begins = sym (inner.1 ∙ ap (phase s actor.now) (net.laws.counts n st.history a (k a)))
 
-  zero_phase : j ≡ 0
-  zero_phase = inner.1 ∙ at_none s actor.now one (length (taken_before (wiring s n) st.history a (k a)))
+  plan : (i : ℕ) → IsPlan s n a i (takes_at i) (puts_at i)
+  plan = cycle.plan s n net z sizes y cycles a known actor.now inner.0
 
-  same_phase : (i : ℕ) → phase s actor.now i ≡ j
-  same_phase i = at_none s actor.now one i ∙ sym zero_phase
+  in_is : (i : ℕ) → total_in s actor.now (i % turns) ≡ sum_by (λ c. get_or (takes_at i) c 0) ins
+  in_is = cycle.in_is s n net z sizes y cycles a known actor.now inner.0
 
-  plan : (i : ℕ) → IsPlan s n a i takes puts
-  plan i = subst (λ w. IsPlan s n a i (at_phase z.takes (phase_at w)) (at_phase z.puts (phase_at w))) (does w0)
-      (steady.plan s n net z sizes inputs many k a known works qs outputs st w0 one_phase i)
+  out_is : (i : ℕ) → total_out s actor.now (i % turns) ≡ sum_by (λ c. get_or (puts_at i) c 0) outs
+  out_is = cycle.out_is s n net z sizes y cycles a known actor.now inner.0
 
-  ports_are : ArePorts ins takes (length qs)
-  ports_are = subst (λ w. ArePorts ins (at_phase z.takes (phase_at w)) (length qs)) (does w0)
-      (standing.ports_in s n net z sizes inputs many k a known works qs outputs st w0)
+  none_taken : (c : ℕ) → taken_by c 0 ≡ 0
+  none_taken = net.wired.sound.consumed_none
 
-  come : (c : ℕ) → c < length n.wires → (wiring s n).rates.target c ≡ a →
-      (wiring s n).rates.consumed c (k a + times) ≤
-      (wiring s n).rates.initial c + (wiring s n).rates.produced c (k ((wiring s n).rates.source c))
-  come =
-      steady.come s n net z sizes inputs many k a known works qs outputs st w0 one_phase times
-      (subst (λ w. (i : ℕ) → i < length ins → times * get_or (at_phase z.takes (phase_at w)) (get_or ins i 0) 0 ≤
-      length (samples qs (get_or ins i 0))) (sym (does w0)) held)
+  next_taken : (i c : ℕ) → c < length n.wires → (wiring s n).rates.target c ≡ a →
+      taken_by c i + get_or (takes_at i) c 0 ≡ taken_by c (suc i)
+  next_taken i c l e = sym (ap (taken_by c) (sym (add-one i)) ∙ (plan i).taken c l e)
 
-  fits_ports : FitsPorts s n a (k a) takes puts
-  fits_ports = net.laws.fit n a (k a) takes puts net.good known (plan (k a))
+  next_put : (i c : ℕ) → c < length n.wires → (wiring s n).rates.source c ≡ a →
+      put_by c i + get_or (puts_at i) c 0 ≡ put_by c (suc i)
+  next_put i c l e = sym (ap (put_by c) (sym (add-one i)) ∙ (plan i).put c l e)
 
-  size_is : total_in s actor.now j ≡ size
-  size_is =
-      sym (fits_ports.taken ∙ (ap (λ x. in_all s x (k a)) inner.0 ∙ ap (total_in s actor.now) (same_phase (k a))))
+  cycles_taken : (c : ℕ) → c < length n.wires → (wiring s n).rates.target c ≡ a → (t : ℕ) →
+      taken_by c (t * turns) ≡ t * get_or takes c 0
+  cycles_taken = cycle.taken_by s n net z sizes y cycles a known actor.now inner.0
 
-  more_is : total_out s actor.now j ≡ more
-  more_is =
-      sym (fits_ports.put ∙ (ap (λ x. out_all s x (k a)) inner.0 ∙ ap (total_out s actor.now) (same_phase (k a))))
+  cycles_put : (c : ℕ) → c < length n.wires → (wiring s n).rates.source c ≡ a → (t : ℕ) →
+      put_by c (t * turns) ≡ t * get_or puts c 0
+  cycles_put = cycle.put_by s n net z sizes y cycles a known actor.now inner.0
 
-  sums_in : (i : ℕ) → sum_in s actor.now j i ≡ i * size
-  sums_in i = sum_of_equal (λ e. total_in s actor.now (phase s actor.now (j + e))) size i
-      (λ e. ap (total_in s actor.now) (same_phase (j + e)) ∙ size_is)
+  -- in a channel into it stands what all of them take
+  all_held : (p : ℕ) → p < length ins → taken_by (get_or ins p 0) firings ≤ length (samples qs (get_or ins p 0))
+  all_held p l = let at = net.wired.ins_are a p known l in
+      omega (arith, held p l, cycles_taken (get_or ins p 0) at.0 at.1 times)
 
-  sums_out : (i : ℕ) → sum_out s actor.now j i ≡ i * more
-  sums_out i = sum_of_equal (λ e. total_out s actor.now (phase s actor.now (j + e))) more i
-      (λ e. ap (total_out s actor.now) (same_phase (j + e)) ∙ more_is)
+  ports_known : (p : ℕ) → p < length ins → get_or ins p 0 < length qs
+  ports_known p l = let at = net.wired.ins_are a p known l in omega (arith, at.0, st.channels)
 
   stood : (c : ℕ) → c < length n.wires → length (samples qs c)
       + (wiring s n).rates.consumed c (k ((wiring s n).rates.target c)) ≡
       (wiring s n).rates.initial c + (wiring s n).rates.produced c (k ((wiring s n).rates.source c))
   stood c l = standing.standing s n net z sizes inputs many k a known works qs outputs st w0 c l
 
+  come : (c : ℕ) → c < length n.wires → (wiring s n).rates.target c ≡ a →
+      taken_by c (k a + firings) ≤ (wiring s n).rates.initial c + put_by c (k ((wiring s n).rates.source c))
+  come c l e =
+      let at = ins_all s n net a known c l e in
+      let here : taken_by c firings ≤ length (samples qs c) =
+      subst (λ b. taken_by b firings ≤ length (samples qs b)) at.2 (all_held at.0 at.1) in
+      let mine : taken_by c (k ((wiring s n).rates.target c)) ≡ taken_by c (k a) = ap (λ b. taken_by c (k b)) e in
+      omega (
+        arith,
+        stood c l,
+        cycle.ahead_in s n net z sizes y cycles a known actor.now inner.0 (k a) begins c l e firings,
+      )
+
   -- they can be done
-  pub can_fire : Fit s w0 times → ((c : ℕ) → c < length n.wires → tokens (wiring s n).rates m c ≤ room qs c) →
+  pub can_fire : Fit w0 size more times → firings < 2 ^ 63 →
+      ((c : ℕ) → c < length n.wires → tokens (wiring s n).rates m c ≤ room qs c) →
       CanFireMany s times ins outs takes puts w0 qs
-  can_fire fit roomy = record {
-    ins_are = ports_are;
-    outs_are = subst (ArePorts outs puts) (sym st.channels)
-        fits_ports.outs_are;
+  can_fire fit few roomy = record {
+    ins_are = record {
+      known = ports_known;
+      sized = cycles.takes_all ∙ sym st.channels;
+      once = (cycle.fits_ports s n net z sizes y cycles a known actor.now inner.0 0).ins_are.once;
+    };
+    outs_are = record {
+      known = λ p l. omega (arith, (net.wired.outs_are a p known l).0, st.channels);
+      sized = cycles.puts_all ∙ sym st.channels;
+      once = (cycle.fits_ports s n net z sizes y cycles a known actor.now inner.0 0).outs_are.once;
+    };
     held = held;
     room = rooms;
     work = (
-      at_cycle,
-      sym (sums_in times),
-      sym (sums_out times),
-      omega (arith, fit.0, ap (λ v. times * v) size_is),
-      omega (arith, at_cycle, inner.3.cycle),
-      inner.3.lengths_are j at_cycle ∙ more_is,
-      omega (arith, fit.1, ap (λ v. times * v) (inner.3.lengths_are j at_cycle ∙ more_is)),
-      size_is,
+      inner.3.some,
+      cycle.all_in s n net z sizes y cycles a known actor.now inner.0 times,
+      cycle.all_out s n net z sizes y cycles a known actor.now inner.0 times,
+      fit.0,
+      fit.1,
+      omega (arith, one.0),
+      omega (arith, one.1),
+      few,
     );
   }
     where
-      at_cycle : j < s.cycle actor.now
-      at_cycle = omega (arith, one, zero_phase)
+      one : Fit w0 size more 1
+      one = its_blocks s n net z sizes y cycles inputs outputs (many a) a known
+          (taken_before (wiring s n) st.history a (k a)) w0 is_work
 
       rooms : (i : ℕ) → i < length outs → length (samples qs (get_or outs i 0))
           + times * get_or puts (get_or outs i 0) 0 ≤ room qs (get_or outs i 0)
       rooms i h =
           let is = net.wired.outs_are a i known h in
-          let from : (wiring s n).rates.produced c (m ((wiring s n).rates.source c)) ≡
-          (wiring s n).rates.produced c (k a + times) =
-          ap (λ b. (wiring s n).rates.produced c (m b)) is.1 ∙ ap ((wiring s n).rates.produced c) own in
-          let was : (wiring s n).rates.produced c (k ((wiring s n).rates.source c)) ≡
-          (wiring s n).rates.produced c (k a) = ap (λ b. (wiring s n).rates.produced c (k b)) is.1 in
-          let to : (wiring s n).rates.consumed c (m ((wiring s n).rates.target c)) ≡
-          (wiring s n).rates.consumed c (k ((wiring s n).rates.target c)) =
-          ap ((wiring s n).rates.consumed c) (others ((wiring s n).rates.target c) (λ e. loop is.0 (sym e))) in
-          omega (arith, roomy c is.0, stood c is.0, put is.0 is.1)
+          let from : put_by c (m ((wiring s n).rates.source c)) ≡ put_by c (k a + firings) =
+          ap (λ b. put_by c (m b)) is.1 ∙ ap (put_by c) own in
+          let was : put_by c (k ((wiring s n).rates.source c)) ≡ put_by c (k a) = ap (λ b. put_by c (k b)) is.1 in
+          let to : taken_by c (m ((wiring s n).rates.target c)) ≡ taken_by c (k ((wiring s n).rates.target c)) =
+          ap (taken_by c) (others ((wiring s n).rates.target c) (λ e. loop is.0 (sym e))) in
+          omega (
+            arith,
+            roomy c is.0,
+            stood c is.0,
+            cycle.ahead_out s n net z sizes y cycles a known actor.now inner.0 (k a) begins c is.0 is.1 firings,
+            cycles_put c is.0 is.1 times,
+          )
         where
           c : ℕ
           c = get_or outs i 0
 
-          put : c < length n.wires → (wiring s n).rates.source c ≡ a →
-              (wiring s n).rates.produced c (k a + times) ≡
-              (wiring s n).rates.produced c (k a) + times * get_or puts c 0
-          put l e = subst (λ w. (wiring s n).rates.produced c (k a + times) ≡
-              (wiring s n).rates.produced c (k a) + times * get_or (at_phase z.puts (phase_at w)) c 0) (does w0)
-              (steady.all_put s n net z sizes inputs many k a known works qs outputs st w0 one_phase c l e times)
-
           loop : c < length n.wires → (wiring s n).rates.target c ≡ a → ⊥
           loop l e = let at = ins_all s n net a known c l e in apart at.0 i at.1 h at.2
 
+  -- what firing i of them takes
   abbrev f : ℕ → List T
-  f = front_at takes ins qs
+  f i = flat_map (λ c. take (get_or (takes_at i) c 0) (drop (taken_by c i) (samples qs c))) ins
 
   abbrev whole : List T
-  whole = joined f times
+  whole = joined (front_at takes ins qs) times
 
   abbrev all : List T
-  all = puts_to s actor.now j state whole times
+  all = puts_to s actor.now 0 state whole firings
 
   abbrev state_i : ℕ → S
-  state_i i = state_at s actor.now j state whole i
+  state_i i = state_at s actor.now 0 state whole i
 
   abbrev w : ℕ → Work A T S
-  w i = Inner actor j (state_i i) taken' put' lengths
+  w i = Inner actor (i % turns) (state_i i) taken' put' lengths
 
   abbrev piece : ℕ → List T
-  piece i = s.puts actor.now (phase s actor.now (j + i)) (state_i i) (block_at s actor.now j whole i)
+  piece i = s.puts actor.now (phase s actor.now (0 + i)) (state_i i) (block_at s actor.now 0 whole i)
+
+  phase_is : (i : ℕ) → phase s actor.now (0 + i) ≡ i % turns
+  phase_is i = ap (phase s actor.now) (let v : 0 + i ≡ i = omega arith in v)
 
   -- what is left after i firings, and what they put
   abbrev cut : ℕ → ℕ → List T
-  cut i c = drop (at_ports ins (i * get_or takes c 0) c) (samples qs c)
+  cut i c = drop (at_ports ins (taken_by c i) c) (samples qs c)
+
+  abbrev made_by : ℕ → ℕ → List T
+  made_by i c = joined (λ e. spread (λ d. get_or (puts_at e) d 0) outs (piece e) c) i
 
   abbrev q : ℕ → List (Held T)
-  q i = map (λ c. record { samples = cut i c ++ dealt puts outs more all c i; room = room qs c })
-      (range_with_len 0 (length qs))
+  q i = map (λ c. record { samples = cut i c ++ made_by i c; room = room qs c }) (range_with_len 0 (length qs))
 
   q_long : (i : ℕ) → length (q i) ≡ length qs
   q_long i = length-map-range_with_len (λ c. record {
-    samples = cut i c ++ dealt puts outs more all c i;
+    samples = cut i c ++ made_by i c;
     room = room qs c;
   }) 0 (length qs)
 
   q_at : (i c : ℕ) → c < length qs → get_or (q i) c nothing ≡
-      record { samples = cut i c ++ dealt puts outs more all c i; room = room qs c }
-  q_at i c l = get_or-map-range_with_len (λ c. record {
-    samples = cut i c ++ dealt puts outs more all c i;
-    room = room qs c;
-  }) 0 (length qs) c c nothing l (omega arith)
+      record { samples = cut i c ++ made_by i c; room = room qs c }
+  q_at i c l = get_or-map-range_with_len (λ c. record { samples = cut i c ++ made_by i c; room = room qs c })
+      0 (length qs) c c nothing l (omega arith)
 
-  q_samples : (i c : ℕ) → c < length qs → samples (q i) c ≡ cut i c ++ dealt puts outs more all c i
+  q_samples : (i c : ℕ) → c < length qs → samples (q i) c ≡ cut i c ++ made_by i c
   q_samples i c l = ap (λ (h : Held T). h.samples) (q_at i c l)
 
-  f_long : (i : ℕ) → i < times → length (f i) ≡ size
-  f_long = front_long ins takes times qs ports_are held
+  -- firing i finds what it takes
+  part_held : (i p : ℕ) → i < firings → p < length ins →
+      taken_by (get_or ins p 0) (suc i) ≤ length (samples qs (get_or ins p 0))
+  part_held i p l h =
+      let rise = net.wired.sound.consumed_rises (get_or ins p 0) (suc i) firings (omega arith) in
+      omega (arith, rise, all_held p h)
 
-  block_is : (i : ℕ) → i < times → block_at s actor.now j whole i ≡ f i
+  f_long : (i : ℕ) → i < firings → length (f i) ≡ total_in s actor.now (i % turns)
+  f_long i l =
+      parts_long (λ c. take (get_or (takes_at i) c 0) (drop (taken_by c i) (samples qs c)))
+      (λ c. get_or (takes_at i) c 0) ins
+      (λ p h. let at = net.wired.ins_are a p known h in
+      length-take-le (get_or (takes_at i) (get_or ins p 0) 0)
+      (drop (taken_by (get_or ins p 0) i) (samples qs (get_or ins p 0)))
+      (omega (
+        arith,
+        length-drop (taken_by (get_or ins p 0) i) (samples qs (get_or ins p 0)),
+        part_held i p l h,
+        next_taken i (get_or ins p 0) at.0 at.1,
+      ))) ∙ sym (in_is i)
+
+  -- a cycle's block, channel by channel, is its firings' blocks, one after another
+  all_taken : whole ≡ joined f firings
+  all_taken = blocks.all_taken s n net z sizes y cycles a known actor.now inner.0 times qs turn_in
+
+  block_is : (i : ℕ) → i < firings → block_at s actor.now 0 whole i ≡ f i
   block_is i l =
-      let wide : sum_in s actor.now j (i + 1) - sum_in s actor.now j i ≡ size =
-      omega (arith, sums_in i, sums_in (i + 1), one_more i size) in
-      (λ e. take (wide e) (drop (sums_in i e) whole)) ∙ joined_part f size times i (λ e h. f_long e (omega arith)) l
+      (λ κ. between (sum_in s actor.now 0 i) (sum_in s actor.now 0 (add-one i κ)) (all_taken κ)) ∙
+      joined_piece f (sum_in s actor.now 0) firings i refl (λ e h. ap (λ v. sum_in s actor.now 0 e + v)
+      (f_long e h ∙ ap (total_in s actor.now) (sym (phase_is e)))) l
 
-  none_dealt : (p : ℕ) → p < length ins → (i : ℕ) → dealt puts outs more all (get_or ins p 0) i ≡ []
-  none_dealt p l i =
-      joined_none (λ e. spread (λ d. get_or puts d 0) outs (take more (drop (e * more) all)) (get_or ins p 0)) i
-      (λ e h. spread_none (λ d. get_or puts d 0) outs (take more (drop (e * more) all)) (get_or ins p 0)
+  none_made : (p : ℕ) → p < length ins → (i : ℕ) → made_by i (get_or ins p 0) ≡ []
+  none_made p l i =
+      joined_none (λ e. spread (λ d. get_or (puts_at e) d 0) outs (piece e) (get_or ins p 0)) i
+      (λ e h. spread_none (λ d. get_or (puts_at e) d 0) outs (piece e) (get_or ins p 0)
       (λ r g same. apart p r l g (sym same)))
 
-  front_is : (i : ℕ) → i < times → front takes ins (q i) ≡ f i
+  front_is : (i : ℕ) → i < firings → front (takes_at i) ins (q i) ≡ f i
   front_is i l =
-      flat_map_same (λ c. take (get_or takes c 0) (samples (q i) c))
-      (λ c. take (get_or takes c 0) (drop (i * get_or takes c 0) (samples qs c))) ins
+      flat_map_same (λ c. take (get_or (takes_at i) c 0) (samples (q i) c))
+      (λ c. take (get_or (takes_at i) c 0) (drop (taken_by c i) (samples qs c))) ins
       (λ p h.
       let c : ℕ = get_or ins p 0 in
-      ap (take (get_or takes c 0))
-      (q_samples i c (ports_are.known p h) ∙ ((λ e. cut i c ++ none_dealt p h i e)
+      ap (take (get_or (takes_at i) c 0))
+      (q_samples i c (ports_known p h) ∙ ((λ e. cut i c ++ none_made p h i e)
       ∙ (append-nil (cut i c) ∙ ap (λ v. drop v (samples qs c))
-      (at_one ins p (i * get_or takes c 0) c h refl)))))
+      (at_one ins p (taken_by c i) c h refl)))))
 
-  -- each firing finds what it takes
-  within : (i c : ℕ) → i < times → c < length n.wires →
-      at_ports ins ((i + 1) * get_or takes c 0) c ≤ length (samples qs c)
-  within i c l h = subst (λ v. v ≤ length (samples qs c))
-      (sym ((net.laws.theirs n a c net.good known h).1 ((i + 1) * get_or takes c 0)))
-      (go (cases_eq ((wiring s n).rates.target c) a))
+  -- so it does at each channel
+  at_channel : (c v : ℕ) → c < length n.wires → at_ports ins v c ≡ cond (eqb ((wiring s n).rates.target c) a) v 0
+  at_channel c v h = (net.laws.theirs n a c net.good known h).1 v
+
+  none_at : (c v : ℕ) → c < length n.wires → ((wiring s n).rates.target c ≡ a → ⊥) → at_ports ins v c ≡ 0
+  none_at c v h ne = at_channel c v h ∙ ap (λ t. cond t v 0) (ne_eqb ((wiring s n).rates.target c) a ne)
+
+  next_at : (i c : ℕ) → c < length n.wires →
+      at_ports ins (taken_by c i) c + at_ports ins (get_or (takes_at i) c 0) c ≡ at_ports ins (taken_by c (suc i)) c
+  next_at i c h = go (cases_eq ((wiring s n).rates.target c) a)
     where
       go : ((wiring s n).rates.target c ≡ a) ⊎ ((wiring s n).rates.target c ≡ a → ⊥) →
-          cond (eqb ((wiring s n).rates.target c) a) ((i + 1) * get_or takes c 0) 0 ≤ length (samples qs c)
+          at_ports ins (taken_by c i) c + at_ports ins (get_or (takes_at i) c 0) c ≡
+          at_ports ins (taken_by c (suc i)) c
+      go (inl e) = at_sum ins (taken_by c i) (get_or (takes_at i) c 0) c
+          ∙ ap (λ v. at_ports ins v c) (next_taken i c h e)
+      go (inr ne) = omega (
+        arith,
+        none_at c (taken_by c i) h ne,
+        none_at c (get_or (takes_at i) c 0) h ne,
+        none_at c (taken_by c (suc i)) h ne,
+      )
+
+  within : (i c : ℕ) → i < firings → c < length n.wires →
+      at_ports ins (taken_by c (suc i)) c ≤ length (samples qs c)
+  within i c l h = go (cases_eq ((wiring s n).rates.target c) a)
+    where
+      go : ((wiring s n).rates.target c ≡ a) ⊎ ((wiring s n).rates.target c ≡ a → ⊥) →
+          at_ports ins (taken_by c (suc i)) c ≤ length (samples qs c)
       go (inl e) =
           let at = ins_all s n net a known c h e in
-          let all_held : times * get_or takes c 0 ≤ length (samples qs c) =
-          subst (λ b. times * get_or takes b 0 ≤ length (samples qs b)) at.2 (held at.0 at.1) in
-          let up : (i + 1) * get_or takes c 0 ≤ times * get_or takes c 0 =
-          mul-le-mul_right (get_or takes c 0) (let v : i + 1 ≤ times = omega arith in v) in
-          subst (λ t. cond t ((i + 1) * get_or takes c 0) 0 ≤ length (samples qs c))
-          (sym (eq-eqb ((wiring s n).rates.target c) a e)) (omega (arith, all_held, up))
-      go (inr ne) = subst (λ t. cond t ((i + 1) * get_or takes c 0) 0 ≤ length (samples qs c))
-          (sym (ne_eqb ((wiring s n).rates.target c) a ne)) (let v : 0 ≤ length (samples qs c) = omega arith in v)
+          let here : taken_by c (suc i) ≤ length (samples qs c) =
+          subst (λ b. taken_by b (suc i) ≤ length (samples qs b)) at.2 (part_held i at.0 l at.1) in
+          let it : at_ports ins (taken_by c (suc i)) c ≡ taken_by c (suc i) =
+          at_one ins at.0 (taken_by c (suc i)) c at.1 at.2 in
+          omega (arith, here, it)
+      go (inr ne) = omega (arith, none_at c (taken_by c (suc i)) h ne)
 
-  next_cut : (i c : ℕ) → i < times → c < length n.wires →
-      drop (at_ports ins (get_or takes c 0) c) (cut i c ++ dealt puts outs more all c i) ≡
-      cut (suc i) c ++ dealt puts outs more all c i
+  next_cut : (i c : ℕ) → i < firings → c < length n.wires →
+      drop (at_ports ins (get_or (takes_at i) c 0) c) (cut i c ++ made_by i c) ≡ cut (suc i) c ++ made_by i c
   next_cut i c l h =
-      let v : ℕ = get_or takes c 0 in
-      let sum : at_ports ins (i * v) c + at_ports ins v c ≡ at_ports ins ((i + 1) * v) c =
-      at_sum ins (i * v) v c ∙ ap (λ e. at_ports ins e c) (sym (one_more i v)) in
-      drop-append-le (at_ports ins v c) (cut i c) (dealt puts outs more all c i)
-      (omega (arith, sum, within i c l h, length-drop (at_ports ins (i * v) c) (samples qs c))) ∙
-      ap (λ ys. ys ++ dealt puts outs more all c i) (cut_more ins v i c (samples qs c) ∙ ap (λ e. cut e c) (add-one i))
+      let v : ℕ = get_or (takes_at i) c 0 in
+      drop-append-le (at_ports ins v c) (cut i c) (made_by i c)
+      (omega (arith, next_at i c h, within i c l h, length-drop (at_ports ins (taken_by c i) c) (samples qs c))) ∙
+      ap (λ ys. ys ++ made_by i c)
+      (drop-drop (at_ports ins v c) (at_ports ins (taken_by c i) c) (samples qs c)
+      ∙ ap (λ e. drop e (samples qs c)) (next_at i c h))
 
   -- the counts after i of them
   abbrev kk : ℕ → ℕ → ℕ
@@ -418,20 +381,24 @@ module _ {A S T Z : Type 0} (s : Steps A S T) (fits : (x : A) → PutsFit s x) (
   rest : (i b : ℕ) (d : Work A T S) → (a ≡ b → ⊥) → get_or (set works a (w i)) b d ≡ get_or works b d
   rest i b d ne = get_or-set_other works a b (w i) d (λ e. ne (sym e))
 
-  module _ (i : ℕ) (l : i < times) (at : Stands s n inputs many (kk i) (set works a (w i)) (q i) outputs) where
+  -- what firing i puts, as it stands alone
+  piece_is : (i : ℕ) → i < firings → piece i ≡ s.puts actor.now (i % turns) (state_i i) (front (takes_at i) ins (q i))
+  piece_is i l = λ e. s.puts actor.now (phase_is i e) (state_i i) ((block_is i l ∙ sym (front_is i l)) e)
+
+  module _ (i : ℕ) (l : i < firings) (at : Stands s n inputs many (kk i) (set works a (w i)) (q i) outputs) where
     abbrev past : List (List T)
     past = taken_before (wiring s n) at.history a (kk i a)
 
-    here : (nets.node n a ≡ node.Inner actor.now) × (j ≡ phase s actor.now (length past))
+    here : (nets.node n a ≡ node.Inner actor.now) × (i % turns ≡ phase s actor.now (length past))
         × (state_i i ≡ state_after s actor.now past) × HasBlocks s actor.now taken' put' lengths
     here =
-        inner_work s inputs outputs (many a) (nets.node n a) past actor j (state_i i) taken' put' lengths
+        inner_work s inputs outputs (many a) (nets.node n a) past actor (i % turns) (state_i i) taken' put' lengths
         (subst (IsWork s inputs outputs (many a) (nets.node n a) past) (its i w0) (at.each a w0 known))
 
-    took : (e : ℕ) → e < kk i a → length (taken (wiring s n) at.history a e) ≡ size
+    took : (e : ℕ) → e < kk i a → length (taken (wiring s n) at.history a e) ≡ total_in s actor.now (e % turns)
     took e h =
         parts_long (λ c. between ((wiring s n).rates.consumed c e) ((wiring s n).rates.consumed c (e + 1))
-        (at.history c)) (λ c. get_or takes c 0) ins
+        (at.history c)) (λ c. get_or (takes_at e) c 0) ins
         (λ p g.
         let c : ℕ = get_or ins p 0 in
         let is = net.wired.ins_are a p known g in
@@ -444,86 +411,77 @@ module _ {A S T Z : Type 0} (s : Steps A S T) (fits : (x : A) → PutsFit s x) (
         (at.history c)) ≡ (wiring s n).rates.consumed c (e + 1) - (wiring s n).rates.consumed c e =
         length-between (at.history c) ((wiring s n).rates.consumed c e)
         ((wiring s n).rates.consumed c (e + 1)) reached in
-        omega (arith, long, (plan e).taken c is.0 is.1))
+        omega (arith, long, (plan e).taken c is.0 is.1)) ∙ sym (in_is e)
 
-    piece_long : length (piece i) ≡ more
+    piece_long : length (piece i) ≡ total_out s actor.now (i % turns)
     piece_long =
         let count : length past ≡ kk i a = net.laws.counts n at.history a (kk i a) in
         let put_at : piece i ≡ s.puts actor.now (phase s actor.now (length past)) (state_after s actor.now past) (f i) =
-        λ e. s.puts actor.now ((same_phase (j + i) ∙ here.1) e) (here.2 e) (block_is i l e) in
+        λ e. s.puts actor.now ((phase_is i ∙ here.1) e) (here.2 e) (block_is i l e) in
         ap length put_at ∙
         (fits actor.now past (f i)
         (λ e h. ap length (taken_at (wiring s n) at.history a (net.laws.counts n at.history a) (kk i a) e
-        (omega (arith, count, h))) ∙ (took e (omega (arith, count, h))
-        ∙ (sym size_is ∙ ap (total_in s actor.now) (sym (same_phase e)))))
-        (f_long i l ∙ (sym size_is ∙ ap (total_in s actor.now) here.1)) ∙
-        (ap (total_out s actor.now) (sym here.1) ∙ more_is))
+        (omega (arith, count, h))) ∙ took e (omega (arith, count, h)))
+        (f_long i l ∙ ap (total_in s actor.now) here.1) ∙
+        ap (total_out s actor.now) (sym here.1))
 
-    module _ (long : (e : ℕ) → e < i → length (piece e) ≡ more) where
-      put_is : take more (drop (i * more) all) ≡ made s (w i) (front takes ins (q i))
-      put_is =
-          ap (λ ys. take more (drop (i * more) ys)) (puts_chained s actor.now j state whole times) ∙
-          (joined_part piece more times i (λ e h. each e h (cases_lt e i)) l
-          ∙ (λ e. s.puts actor.now (same_phase (j + i) e) (state_i i) ((block_is i l ∙ sym (front_is i l)) e)))
-        where
-          each : (e : ℕ) → e ≤ i → (e < i) ⊎ (i ≤ e) → length (piece e) ≡ more
-          each e h (inl less) = long e less
-          each e h (inr last) = let same : i ≡ e = omega arith in subst (λ e. length (piece e) ≡ more) same piece_long
+    fired_one : IsFired s ins outs (takes_at i) (puts_at i) (w i) (w (suc i)) (q i) (q (suc i))
+    fired_one = record {
+      work = (
+        refl,
+        ap (λ v. v % turns) (sym (add-one i)) ∙ sym (mod-add-mod i turns 1),
+        λ e. s.next actor.now (phase_is i e) (state_i i) ((block_is i l ∙ sym (front_is i l)) e),
+        refl,
+        refl,
+        refl,
+      );
+      queues = λ c h.
+          let g : c < length qs = omega (arith, h, q_long i) in
+          let v : c < length n.wires = omega (arith, g, st.channels) in
+          q_samples (suc i) c g ∙
+          (sym (append_assoc (cut (suc i) c) (made_by i c) (spread (λ d. get_or (puts_at i) d 0) outs (piece i) c)) ∙
+          ((λ e. sym (next_cut i c l v) e ++ spread (λ d. get_or (puts_at i) d 0) outs (piece_is i l e) c) ∙
+          ap (λ ys. drop (at_ports ins (get_or (takes_at i) c 0) c) ys
+          ++ spread (λ d. get_or (puts_at i) d 0) outs (made s (w i) (front (takes_at i) ins (q i))) c)
+          (sym (q_samples i c g))));
+      rooms = λ c h. let g : c < length qs = omega (arith, h, q_long i) in
+          ap (λ (x : Held T). x.room) (q_at (suc i) c g) ∙ sym (ap (λ (x : Held T). x.room) (q_at i c g));
+    }
 
-      fired_one : IsFired s ins outs takes puts (w i) (w (suc i)) (q i) (q (suc i))
-      fired_one = record {
-        work = (refl, zero_phase ∙ sym (at_none s actor.now one (j + 1)), next_state, refl, refl, refl);
-        queues = λ c h.
-            let g : c < length qs = omega (arith, h, q_long i) in
-            let v : c < length n.wires = omega (arith, g, st.channels) in
-            q_samples (suc i) c g ∙
-            (sym (append_assoc (cut (suc i) c) (dealt puts outs more all c i)
-            (spread (λ d. get_or puts d 0) outs (take more (drop (i * more) all)) c)) ∙
-            ((λ e. sym (next_cut i c l v) e ++ spread (λ d. get_or puts d 0) outs (put_is e) c) ∙
-            ap (λ ys. drop (at_ports ins (get_or takes c 0) c) ys
-            ++ spread (λ d. get_or puts d 0) outs (made s (w i) (front takes ins (q i))) c)
-            (sym (q_samples i c g))));
-        rooms = λ c h. let g : c < length qs = omega (arith, h, q_long i) in
-            ap (λ (x : Held T). x.room) (q_at (suc i) c g) ∙ sym (ap (λ (x : Held T). x.room) (q_at i c g));
-      }
-        where
-          next_state : state_i (suc i) ≡ s.next actor.now j (state_i i) (front takes ins (q i))
-          next_state e = s.next actor.now (same_phase (j + i) e) (state_i i) ((block_is i l ∙ sym (front_is i l)) e)
+    enabled : IsEnabled (wiring s n).rates (kk i) a
+    enabled c h e =
+        let next : (wiring s n).rates.consumed c (kk i ((wiring s n).rates.target c) + 1) ≡
+        (wiring s n).rates.consumed c (k a + suc i) =
+        ap (λ b. (wiring s n).rates.consumed c (kk i b + 1)) e ∙ ap ((wiring s n).rates.consumed c)
+        (let v : kk i a + 1 ≡ k a + suc i = omega (arith, kk_own i) in v) in
+        let rise = net.wired.sound.consumed_rises c (k a + suc i) (k a + firings) (omega arith) in
+        let source : ℕ = (wiring s n).rates.source c in
+        let grew = net.wired.sound.produced_rises c (k source) (kk i source)
+        (let v : k source ≤ kk i source = omega arith in v) in
+        omega (arith, next, rise, come c h e, grew)
 
-      enabled : IsEnabled (wiring s n).rates (kk i) a
-      enabled c h e =
-          let next : (wiring s n).rates.consumed c (kk i ((wiring s n).rates.target c) + 1) ≡
-          (wiring s n).rates.consumed c (k a + suc i) =
-          ap (λ b. (wiring s n).rates.consumed c (kk i b + 1)) e ∙ ap ((wiring s n).rates.consumed c)
-          (let v : kk i a + 1 ≡ k a + suc i = omega (arith, kk_own i) in v) in
-          let rise = net.wired.sound.consumed_rises c (k a + suc i) (k a + times) (omega arith) in
-          let source : ℕ = (wiring s n).rates.source c in
-          let grew = net.wired.sound.produced_rises c (k source) (kk i source)
-          (let v : k source ≤ kk i source = omega arith in v) in
-          omega (arith, next, rise, come c h e, grew)
+    up : (b : ℕ) → b < length n.nodes → (a ≡ b) ⊎ (a ≡ b → ⊥) → kk (suc i) b ≤ many b
+    up b h (inl e) = subst (λ b. b < length n.nodes → kk (suc i) b ≤ many b) e
+        (λ g. omega (arith, kk_own (suc i), own, below a g)) h
+    up b h (inr ne) = omega (arith, kk_other (suc i) b ne, others b ne, below b h)
 
-      up : (b : ℕ) → b < length n.nodes → (a ≡ b) ⊎ (a ≡ b → ⊥) → kk (suc i) b ≤ many b
-      up b h (inl e) = subst (λ b. b < length n.nodes → kk (suc i) b ≤ many b) e
-          (λ g. omega (arith, kk_own (suc i), own, below a g)) h
-      up b h (inr ne) = omega (arith, kk_other (suc i) b ne, others b ne, below b h)
-
-      next_stands : InputsReach n inputs many → Stands s n inputs many (kk (suc i)) (set works a (w (suc i)))
-          (q (suc i)) outputs
-      next_stands reach =
-          standing.fired_stands s n net z sizes inputs many (kk i) a known (set works a (w i)) (q i) outputs at w0
-          (kk (suc i)) enabled (kk_own (suc i) ∙ ((let v : k a + suc i ≡ k a + i + 1 = omega arith in v)
-          ∙ ap (λ v. v + 1) (sym (kk_own i)))) (λ b ne. kk_other (suc i) b ne ∙ sym (kk_other i b ne))
-          (reaches n inputs many (kk (suc i)) reach (λ b h. up b h (cases_eq a b))) (subst IsActor (sym (its i w0)) tt)
-          (w (suc i)) (q (suc i))
-          (subst (λ x. IsFired s ins outs (at_phase z.takes (phase_at x)) (at_phase z.puts (phase_at x)) x (w (suc i))
-          (q i) (q (suc i))) (sym (its i w0)) fired_one)
-          (q_long (suc i) ∙ sym (q_long i)) (set works a (w (suc i)))
-          (length-set works a (w (suc i)) ∙ sym (length-set works a (w i)))
-          (its (suc i)) (λ b d ne. rest (suc i) b d ne ∙ sym (rest i b d ne))
+    next_stands : InputsReach n inputs many → Stands s n inputs many (kk (suc i)) (set works a (w (suc i)))
+        (q (suc i)) outputs
+    next_stands reach =
+        standing.fired_stands s n net z sizes inputs many (kk i) a known (set works a (w i)) (q i) outputs at w0
+        (kk (suc i)) enabled (kk_own (suc i) ∙ ((let v : k a + suc i ≡ k a + i + 1 = omega arith in v)
+        ∙ ap (λ v. v + 1) (sym (kk_own i)))) (λ b ne. kk_other (suc i) b ne ∙ sym (kk_other i b ne))
+        (reaches n inputs many (kk (suc i)) reach (λ b h. up b h (cases_eq a b))) (subst IsActor (sym (its i w0)) tt)
+        (w (suc i)) (q (suc i))
+        (subst (λ x. IsFired s ins outs (at_phase z.takes (phase_at x)) (at_phase z.puts (phase_at x)) x (w (suc i))
+        (q i) (q (suc i))) (sym (its i w0)) fired_one)
+        (q_long (suc i) ∙ sym (q_long i)) (set works a (w (suc i)))
+        (length-set works a (w (suc i)) ∙ sym (length-set works a (w i)))
+        (its (suc i)) (λ b d ne. rest (suc i) b d ne ∙ sym (rest i b d ne))
 
   abbrev Stood : ℕ → Type 0
   Stood i = Stands s n inputs many (kk i) (set works a (w i)) (q i) outputs
-      × ((e : ℕ) → e < i → length (piece e) ≡ more)
+      × ((e : ℕ) → e < i → length (piece e) ≡ total_out s actor.now (e % turns))
 
   begun : Stood 0
   begun = (
@@ -531,7 +489,7 @@ module _ {A S T Z : Type 0} (s : Steps A S T) (fits : (x : A) → PutsFit s x) (
         (λ e b. sym (none b (cases_eq a b)) e) st (length-set works a (w 0)) (q_long 0)
         (λ c h. let g : c < length qs = omega (arith, h, st.channels) in
         q_samples 0 c g ∙ (append-nil (cut 0 c) ∙ ap (λ v. drop v (samples qs c))
-        (ap (λ v. at_ports ins v c) (zero-mul (get_or takes c 0)) ∙ at_zero ins c)))
+        (ap (λ v. at_ports ins v c) (none_taken c) ∙ at_zero ins c)))
         (λ b d h is. same b d h is (cases_eq a b)),
     λ e h. absurd (let no : e < 0 = h in omega arith),
   )
@@ -549,95 +507,141 @@ module _ {A S T Z : Type 0} (s : Steps A S T) (fits : (x : A) → PutsFit s x) (
           subst (λ b. IsWork s inputs outputs (many b) (nets.node n b) (taken_before (wiring s n) st.history b (k b))
           (get_or (set works a (w 0)) b d)) e
           (subst (IsWork s inputs outputs (many a) (nets.node n a) (taken_before (wiring s n) st.history a (k a)))
-          (sym (its 0 d)) is_work)
+          (sym (its 0 d)) (subst (λ v. IsWork s inputs outputs (many a) (nets.node n a)
+          (taken_before (wiring s n) st.history a (k a)) (Inner actor v state taken' put' lengths))
+          (sym (mod-eq_of_lt inner.3.some)) is_work))
       same b d h is (inr ne) = subst (IsWork s inputs outputs (many b) (nets.node n b)
           (taken_before (wiring s n) st.history b (k b))) (sym (rest 0 b d ne)) is
 
-  chain : InputsReach n inputs many → (i : ℕ) → i ≤ times → Stood i
+  chain : InputsReach n inputs many → (i : ℕ) → i ≤ firings → Stood i
   chain reach zero h = begun
   chain reach (suc i) h = go (chain reach i (omega arith))
     where
       go : Stood i → Stood (suc i)
-      go (at, long) = (next_stands i (omega arith) at long reach, λ e g. each e g (cases_lt e i))
+      go (at, long) = (next_stands i (omega arith) at reach, λ e g. each e g (cases_lt e i))
         where
-          each : (e : ℕ) → e < suc i → (e < i) ⊎ (i ≤ e) → length (piece e) ≡ more
+          each : (e : ℕ) → e < suc i → (e < i) ⊎ (i ≤ e) → length (piece e) ≡ total_out s actor.now (e % turns)
           each e g (inl less) = long e less
           each e g (inr last) = let same : i ≡ e = omega arith in
-              subst (λ e. length (piece e) ≡ more) same (piece_long i (omega arith) at)
+              subst (λ e. length (piece e) ≡ total_out s actor.now (e % turns)) same (piece_long i (omega arith) at)
+
+  -- and what they put is dealt out so
+  all_dealt : ((e : ℕ) → e < firings → length (piece e) ≡ total_out s actor.now (e % turns)) → (c : ℕ) →
+      made_by firings c ≡ dealt puts outs more all c times
+  all_dealt long c =
+      blocks.all_dealt s n net z sizes y cycles a known actor.now inner.0 times turn_out piece long c ∙
+      ap (λ b. dealt puts outs more b c times) (sym (puts_chained s actor.now 0 state whole firings))
+
+  all_cut : (c : ℕ) → c < length n.wires →
+      at_ports ins (times * get_or takes c 0) c ≡ at_ports ins (taken_by c firings) c
+  all_cut c h = go (cases_eq ((wiring s n).rates.target c) a)
+    where
+      go : ((wiring s n).rates.target c ≡ a) ⊎ ((wiring s n).rates.target c ≡ a → ⊥) →
+          at_ports ins (times * get_or takes c 0) c ≡ at_ports ins (taken_by c firings) c
+      go (inl e) = ap (λ v. at_ports ins v c) (sym (cycles_taken c h e times))
+      go (inr ne) = none_at c (times * get_or takes c 0) h ne ∙ sym (none_at c (taken_by c firings) h ne)
 
   -- and what they leave stands at the counts after them
-  pub fired_stands : InputsReach n inputs many → (y : Work A T S) (qs' : List (Held T)) →
-      AreManyFired s times ins outs takes puts w0 y qs qs' → length qs' ≡ length qs →
-      (works' : List (Work A T S)) → length works' ≡ length works → ((d : Work A T S) → get_or works' a d ≡ y) →
+  pub fired_stands : InputsReach n inputs many → (after : Work A T S) (qs' : List (Held T)) →
+      AreManyFired s times ins outs takes puts w0 after qs qs' → length qs' ≡ length qs →
+      (works' : List (Work A T S)) → length works' ≡ length works → ((d : Work A T S) → get_or works' a d ≡ after) →
       ((b : ℕ) (d : Work A T S) → (a ≡ b → ⊥) → get_or works' b d ≡ get_or works b d) →
       Stands s n inputs many m works' qs' outputs
-  fired_stands reach y qs' fired same_queues works' same_works is others_are =
-      let at = chain reach times (omega arith) in
-      stands_along s n inputs many (kk times) m (set works a (w times)) works' (q times) qs' outputs
+  fired_stands reach after qs' fired same_queues works' same_works is others_are =
+      let at = chain reach firings (omega arith) in
+      stands_along s n inputs many (kk firings) m (set works a (w firings)) works' (q firings) qs' outputs
       (λ e b. count b (cases_eq a b) e) at.0
-      (same_works ∙ sym (length-set works a (w times))) (same_queues ∙ sym (q_long times))
-      (λ c h. let g : c < length qs = omega (arith, h, st.channels) in fired.queues c g ∙ sym (q_samples times c g))
+      (same_works ∙ sym (length-set works a (w firings))) (same_queues ∙ sym (q_long firings))
+      (λ c h. let g : c < length qs = omega (arith, h, st.channels) in
+      fired.queues c g ∙ ((λ κ. drop (all_cut c h κ) (samples qs c) ++ sym (all_dealt at.1 c) κ)
+      ∙ sym (q_samples firings c g)))
       (λ b d h x. each at.0 b d h x (cases_eq a b))
     where
-      count : (b : ℕ) → (a ≡ b) ⊎ (a ≡ b → ⊥) → kk times b ≡ m b
-      count b (inl e) = subst (λ b. kk times b ≡ m b) e (kk_own times ∙ sym own)
-      count b (inr ne) = kk_other times b ne ∙ sym (others b ne)
+      count : (b : ℕ) → (a ≡ b) ⊎ (a ≡ b → ⊥) → kk firings b ≡ m b
+      count b (inl e) = subst (λ b. kk firings b ≡ m b) e (kk_own firings ∙ sym own)
+      count b (inr ne) = kk_other firings b ne ∙ sym (others b ne)
 
-      each : (at : Stands s n inputs many (kk times) (set works a (w times)) (q times) outputs) (b : ℕ)
+      -- it is at the beginning of a cycle again
+      ends : firings % turns ≡ 0
+      ends = cycle.begins s n net z sizes y cycles a known actor.now inner.0 times
+
+      each : (at : Stands s n inputs many (kk firings) (set works a (w firings)) (q firings) outputs) (b : ℕ)
           (d : Work A T S) → b < length n.nodes →
-          IsWork s inputs outputs (many b) (nets.node n b) (taken_before (wiring s n) at.history b (kk times b))
-          (get_or (set works a (w times)) b d) → (a ≡ b) ⊎ (a ≡ b → ⊥) →
-          IsWork s inputs outputs (many b) (nets.node n b) (taken_before (wiring s n) at.history b (kk times b))
+          IsWork s inputs outputs (many b) (nets.node n b) (taken_before (wiring s n) at.history b (kk firings b))
+          (get_or (set works a (w firings)) b d) → (a ≡ b) ⊎ (a ≡ b → ⊥) →
+          IsWork s inputs outputs (many b) (nets.node n b) (taken_before (wiring s n) at.history b (kk firings b))
           (get_or works' b d)
       each at b d h x (inl e) =
           subst (λ b. IsWork s inputs outputs (many b) (nets.node n b)
-          (taken_before (wiring s n) at.history b (kk times b)) (get_or works' b d)) e
+          (taken_before (wiring s n) at.history b (kk firings b)) (get_or works' b d)) e
           (subst (IsWork s inputs outputs (many a) (nets.node n a)
-          (taken_before (wiring s n) at.history a (kk times a))) (sym (is d))
+          (taken_before (wiring s n) at.history a (kk firings a))) (sym (is d))
           (worked_same s inputs outputs (many a) times (nets.node n a)
-          (taken_before (wiring s n) at.history a (kk times a)) actor j state taken' put' lengths
-          whole y fired.work
+          (taken_before (wiring s n) at.history a (kk firings a)) actor 0 state taken' put' lengths
+          whole after fired.work
+          (subst (λ v. IsWork s inputs outputs (many a) (nets.node n a)
+          (taken_before (wiring s n) at.history a (kk firings a)) (Inner actor v (state_i firings) taken' put' lengths))
+          ends
           (subst (IsWork s inputs outputs (many a) (nets.node n a)
-          (taken_before (wiring s n) at.history a (kk times a))) (its times d)
+          (taken_before (wiring s n) at.history a (kk firings a))) (its firings d)
           (subst (λ b. IsWork s inputs outputs (many b) (nets.node n b)
-          (taken_before (wiring s n) at.history b (kk times b))
-          (get_or (set works a (w times)) b d)) (sym e) x))))
+          (taken_before (wiring s n) at.history b (kk firings b))
+          (get_or (set works a (w firings)) b d)) (sym e) x)))))
       each at b d h x (inr ne) =
-          subst (IsWork s inputs outputs (many b) (nets.node n b) (taken_before (wiring s n) at.history b (kk times b)))
-          (rest times b d ne ∙ sym (others_are b d ne)) x
+          subst (IsWork s inputs outputs (many b) (nets.node n b)
+          (taken_before (wiring s n) at.history b (kk firings b)))
+          (rest firings b d ne ∙ sym (others_are b d ne)) x
 
 -- the same, of a node's work as it stands
 module _ {A S T Z : Type 0} (s : Steps A S T) (fits : (x : A) → PutsFit s x) (n : Netlist A T) (net : Known s n)
-    (z : Rows) (sizes : AreSizes s n z) (inputs : List (List T)) (many k : ℕ → ℕ) (a : ℕ) (known : a < length n.nodes)
+    (z : Rows) (sizes : AreSizes s n z) (y : Cycles) (cycles : AreCycles s n y) (inputs : List (List T))
+    (many k : ℕ → ℕ) (a : ℕ) (known : a < length n.nodes)
     (works : List (Work A T S)) (qs : List (Held T)) (outputs : List (Vec T Z))
     (st : Stands s n inputs many k works qs outputs)
-    (times : ℕ) (m : ℕ → ℕ) (own : m a ≡ k a + times) (others : (b : ℕ) → (a ≡ b → ⊥) → m b ≡ k b)
-    (below : (b : ℕ) → b < length n.nodes → m b ≤ many b) where
-  abbrev pub HeldBy : Work A T S → Type 0
-  HeldBy w = (i : ℕ) → i < length ((wiring s n).ins a) →
-      times * get_or (at_phase z.takes (phase_at w)) (get_or ((wiring s n).ins a) i 0) 0 ≤
-      length (samples qs (get_or ((wiring s n).ins a) i 0))
+    (times : ℕ) (m : ℕ → ℕ) (own : m a ≡ k a + times * cycle_of s (nets.node n a))
+    (others : (b : ℕ) → (a ≡ b → ⊥) → m b ≡ k b) (below : (b : ℕ) → b < length n.nodes → m b ≤ many b)
+    (held : HoldManyBlocks times ((wiring s n).ins a) y.takes.items qs) where
+  node_is : (actor : Bor A) (j : ℕ) (state : S) (taken put : Vec T Global) (lengths : Vec ℕ Global) →
+      ((d : Work A T S) → get_or works a d ≡ Inner actor j state taken put lengths) →
+      nets.node n a ≡ node.Inner actor.now
+  node_is actor j state taken put lengths does =
+      (inner_work s inputs outputs (many a) (nets.node n a) (taken_before (wiring s n) st.history a (k a)) actor j
+      state taken put lengths
+      (subst (IsWork s inputs outputs (many a) (nets.node n a) (taken_before (wiring s n) st.history a (k a)))
+      (does (Inner actor j state taken put lengths))
+      (st.each a (Inner actor j state taken put lengths) known))).0
 
   pub can_fire_many : (w : Work A T S) → ((d : Work A T S) → get_or works a d ≡ w) →
-      GoesByMany s w ((wiring s n).ins a) ((wiring s n).outs a) → HeldBy w → Fit s w times →
+      GoesByMany s z w ((wiring s n).ins a) ((wiring s n).outs a) →
+      Fit w (sum_by (λ c. get_or y.takes.items c 0) ((wiring s n).ins a))
+      (sum_by (λ c. get_or y.puts.items c 0) ((wiring s n).outs a)) times →
+      times * cycle_of s (nets.node n a) < 2 ^ 63 →
       ((c : ℕ) → c < length n.wires → tokens (wiring s n).rates m c ≤ room qs c) →
-      CanFireMany s times ((wiring s n).ins a) ((wiring s n).outs a) (at_phase z.takes (phase_at w))
-      (at_phase z.puts (phase_at w)) w qs
-  can_fire_many (Inner actor j state taken put lengths) does goes held fit roomy =
-      can_fire s fits n net z sizes inputs many k a known works qs outputs st actor j state taken put lengths does
-      goes.0 goes.1 times m own others below held fit roomy
-  can_fire_many (Source ext next block) does goes held fit roomy = absurd goes
-  can_fire_many (Sink ext) does goes held fit roomy = absurd goes
+      CanFireMany s times ((wiring s n).ins a) ((wiring s n).outs a) y.takes.items y.puts.items w qs
+  can_fire_many (Inner actor j state taken put lengths) does goes fit few roomy =
+      let its = node_is actor j state taken put lengths does in
+      subst (λ v. CanFireMany s times ((wiring s n).ins a) ((wiring s n).outs a) y.takes.items y.puts.items
+      (Inner actor v state taken put lengths) qs) (sym goes.0)
+      (can_fire s fits n net z sizes y cycles inputs many k a known works qs outputs st actor state taken put lengths
+      (λ d. does d ∙ ap (λ v. Inner actor v state taken put lengths) goes.0) goes.1 goes.2 goes.3 times m
+      (own ∙ ap (λ v. k a + times * cycle_of s v) its) others below held fit
+      (subst (λ v. times * cycle_of s v < 2 ^ 63) its few) roomy)
+  can_fire_many (Source ext next block) does goes fit few roomy = absurd goes
+  can_fire_many (Sink ext) does goes fit few roomy = absurd goes
 
   pub stands_many : (w : Work A T S) → ((d : Work A T S) → get_or works a d ≡ w) →
-      GoesByMany s w ((wiring s n).ins a) ((wiring s n).outs a) → HeldBy w → InputsReach n inputs many →
-      (y : Work A T S) (qs' : List (Held T)) → AreManyFired s times ((wiring s n).ins a) ((wiring s n).outs a)
-      (at_phase z.takes (phase_at w)) (at_phase z.puts (phase_at w)) w y qs qs' → length qs' ≡ length qs →
-      (works' : List (Work A T S)) → length works' ≡ length works → ((d : Work A T S) → get_or works' a d ≡ y) →
+      GoesByMany s z w ((wiring s n).ins a) ((wiring s n).outs a) → InputsReach n inputs many →
+      (after : Work A T S) (qs' : List (Held T)) → AreManyFired s times ((wiring s n).ins a) ((wiring s n).outs a)
+      y.takes.items y.puts.items w after qs qs' → length qs' ≡ length qs →
+      (works' : List (Work A T S)) → length works' ≡ length works → ((d : Work A T S) → get_or works' a d ≡ after) →
       ((b : ℕ) (d : Work A T S) → (a ≡ b → ⊥) → get_or works' b d ≡ get_or works b d) →
       Stands s n inputs many m works' qs' outputs
-  stands_many (Inner actor j state taken put lengths) does goes held =
-      fired_stands s fits n net z sizes inputs many k a known works qs outputs st actor j state taken put lengths does
-      goes.0 goes.1 times m own others below held
-  stands_many (Source ext next block) does goes held = absurd goes
-  stands_many (Sink ext) does goes held = absurd goes
+  stands_many (Inner actor j state taken put lengths) does goes reach after qs' fired =
+      fired_stands s fits n net z sizes y cycles inputs many k a known works qs outputs st actor state taken put lengths
+      (λ d. does d ∙ ap (λ v. Inner actor v state taken put lengths) goes.0) goes.1 goes.2 goes.3 times m
+      (own ∙ ap (λ v. k a + times * cycle_of s v) (node_is actor j state taken put lengths does)) others below held
+      reach after qs'
+      (subst (λ v. AreManyFired s times ((wiring s n).ins a) ((wiring s n).outs a) y.takes.items y.puts.items
+      (Inner actor v state taken put lengths) after qs qs') goes.0 fired)
+  stands_many (Source ext next block) does goes reach after qs' fired = absurd goes
+  stands_many (Sink ext) does goes reach after qs' fired = absurd goes

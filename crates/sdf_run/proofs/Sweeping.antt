@@ -2,6 +2,7 @@
 use Rattle.std.proofs.Common.{◌≡◌, ℕ, zero, suc, ◌+◌, ◌-◌, ◌*◌, ◌^◌, ◌≤◌, ◌<◌, List, [], ◌∷◌, length, map, get_or, set}
 use Rattle.std.proofs.Common.{sum, cond, Bool, true, false, true≢false, IsTrue, refl, sym, ap, ◌∙◌, subst, inl, inr}
 use Rattle.std.proofs.Common.{◌⊎◌, arith}
+use Rattle.std.specs.List.{sum_by}
 use Rattle.std.proofs.Math.Nat.{mul-le-mul}
 use Rattle.std.proofs.lemmas.List.{length-map, length-set, get_or-set_same, get_or-set_other, get_or_default}
 use Rattle.std.proofs.lemmas.List.{get_or-map}
@@ -18,19 +19,20 @@ use Rattle.sdf_actor.specs.Wires.{lists}
 use Rattle.sdf_run.specs.declared.work.Work.{Work}
 use Rattle.sdf_run.specs.declared.run.Run.{Run}
 use Rattle.sdf_answer.specs.Held.{Held}
-use Rattle.sdf_answer.specs.Blocks.{room, ArePorts, HoldBlocks}
+use Rattle.sdf_answer.specs.Blocks.{room, ArePorts, HoldBlocks, HoldManyBlocks}
 use Rattle.sdf_answer.specs.Sizes.{phase_of, at_phase}
 use Rattle.sdf_run.specs.Firings.{phase_at, IsActor}
 use Rattle.sdf_run.specs.AtOnce.{GoesAtOnce, CanFireAtOnceAt, AreFiredAt}
-use Rattle.sdf_run.specs.Many.{GoesByMany, HasItsBlocks, Fit, CanFireManyAt, AreManyFiredAt}
-use Rattle.sdf_run.specs.Runs.{FiringLaws, Stands, IsInRun, FiresAlone, CanFireAt, IsFiredAt}
+use Rattle.sdf_run.specs.Many.{HasRows, GoesByMany, Fit, GoManyAt, CanFireManyAt, AreManyFiredAt, firings_in}
+use Rattle.sdf_run.specs.Runs.{FiringLaws, IsWork, Stands, IsInRun, FiresAlone, CanFireAt, IsFiredAt}
 use Rattle.sdf_answer.specs.Answer.{periods_of}
 use Rattle.sdf_run.specs.Sweeps.{Sweeps, IsSwept, MayFire, HasRoom, Keeps, IsMoved, AreHeld}
 use Rattle.sdf_run.proofs.Readings.{some_of}
 use Rattle.sdf_run.proofs.AtOnce as at_once
 use Rattle.sdf_run.proofs.Known.{Known}
 use Rattle.sdf_run.proofs.Longer.{reaches}
-use Rattle.sdf_run.proofs.Many.{its_blocks, can_fire_many, stands_many}
+use Rattle.sdf_run.proofs.Many.{can_fire_many, stands_many}
+use Rattle.sdf_run.proofs.ManyWorks.{its_blocks, has_rows}
 use Rattle.sdf_run.proofs.Standing as standing
 
 -- one step of a run after another
@@ -243,12 +245,13 @@ module _ {A S T : Type 0} (s : Steps A S T) (r : Run A T S) (sw : IsSwept s r) (
       (kept_rooms : (c : ℕ) → c < length r.queues.items → room r'.queues.items c ≡ room r.queues.items c)
       (stands : Stands s r.net.now (lists r.inputs.now) (periods_of r.repetitions.now r.periods) after r'.works.items
       r'.queues.items r'.outputs.items) where
-    sweeps : Sweeps s r.net.now (lists r.inputs.now) r.sizes r.repetitions.now r.periods r.high
+    sweeps : Sweeps s r.net.now (lists r.inputs.now) r.sizes r.cycles r.repetitions.now r.periods r.high
         (set r.done.items a (get_or r.done.items a 0 + times)) r'.works.items r'.queues.items r'.outputs.items
     sweeps = record {
       good = sw.good;
       apart = sw.apart;
       sizes = sw.sizes;
+      cycles = sw.cycles;
       reach = sw.reach;
       paced = sw.paced;
       short = sw.short;
@@ -264,20 +267,22 @@ module _ {A S T : Type 0} (s : Steps A S T) (r : Run A T S) (sw : IsSwept s r) (
 
     swept_on : IsSwept s r'
     swept_on =
-        subst (λ x. Sweeps s x.now (lists r'.inputs.now) r'.sizes r'.repetitions.now r'.periods r'.high r'.done.items
-        r'.works.items r'.queues.items r'.outputs.items) (sym alone.net)
-        (subst (λ x. Sweeps s r.net.now (lists x.now) r'.sizes r'.repetitions.now r'.periods r'.high r'.done.items
-        r'.works.items r'.queues.items r'.outputs.items) (sym alone.inputs)
-        (subst (λ x. Sweeps s r.net.now (lists r.inputs.now) x r'.repetitions.now r'.periods r'.high r'.done.items
-        r'.works.items r'.queues.items r'.outputs.items) (sym alone.sizes)
-        (subst (λ x. Sweeps s r.net.now (lists r.inputs.now) r.sizes x.now r'.periods r'.high r'.done.items
+        subst (λ x. Sweeps s x.now (lists r'.inputs.now) r'.sizes r'.cycles r'.repetitions.now r'.periods r'.high
+        r'.done.items r'.works.items r'.queues.items r'.outputs.items) (sym alone.net)
+        (subst (λ x. Sweeps s r.net.now (lists x.now) r'.sizes r'.cycles r'.repetitions.now r'.periods r'.high
+        r'.done.items r'.works.items r'.queues.items r'.outputs.items) (sym alone.inputs)
+        (subst (λ x. Sweeps s r.net.now (lists r.inputs.now) x r'.cycles r'.repetitions.now r'.periods r'.high
+        r'.done.items r'.works.items r'.queues.items r'.outputs.items) (sym alone.sizes)
+        (subst (λ x. Sweeps s r.net.now (lists r.inputs.now) r.sizes x r'.repetitions.now r'.periods r'.high
+        r'.done.items r'.works.items r'.queues.items r'.outputs.items) (sym alone.cycles)
+        (subst (λ x. Sweeps s r.net.now (lists r.inputs.now) r.sizes r.cycles x.now r'.periods r'.high r'.done.items
         r'.works.items r'.queues.items r'.outputs.items) (sym alone.repetitions)
-        (subst (λ x. Sweeps s r.net.now (lists r.inputs.now) r.sizes r.repetitions.now x r'.high r'.done.items
+        (subst (λ x. Sweeps s r.net.now (lists r.inputs.now) r.sizes r.cycles r.repetitions.now x r'.high r'.done.items
         r'.works.items r'.queues.items r'.outputs.items) (sym alone.periods)
-        (subst (λ x. Sweeps s r.net.now (lists r.inputs.now) r.sizes r.repetitions.now r.periods x r'.done.items
-        r'.works.items r'.queues.items r'.outputs.items) (sym alone.high)
-        (subst (λ x. Sweeps s r.net.now (lists r.inputs.now) r.sizes r.repetitions.now r.periods r.high x r'.works.items
-        r'.queues.items r'.outputs.items) (sym alone.done) sweeps))))))
+        (subst (λ x. Sweeps s r.net.now (lists r.inputs.now) r.sizes r.cycles r.repetitions.now r.periods x
+        r'.done.items r'.works.items r'.queues.items r'.outputs.items) (sym alone.high)
+        (subst (λ x. Sweeps s r.net.now (lists r.inputs.now) r.sizes r.cycles r.repetitions.now r.periods r.high x
+        r'.works.items r'.queues.items r'.outputs.items) (sym alone.done) sweeps)))))))
 
     more : sum r'.done.items ≡ sum r.done.items + times
     more = ap sum alone.done ∙ (let e = sum_by-set (λ x. x) r.done.items a (get_or r.done.items a 0 + times) 0
@@ -398,25 +403,29 @@ module _ {A S T : Type 0} (s : Steps A S T) (r : Run A T S) (sw : IsSwept s r) (
     moved_at_once some = moved_by s r sw net a known times inside r' fired.alone
         (fired.fired first).rooms all_stand some
 
--- so many firings of an actor through its blocks
+-- so many cycles of an actor through its blocks
 module _ {A S T : Type 0} (s : Steps A S T) (fits : (x : A) → PutsFit s x) (r : Run A T S) (sw : IsSwept s r)
     (net : Known s r.net.now) (a : ℕ) (known : a < length r.net.now.nodes) (times : ℕ)
-    (inside : get_or r.done.items a 0 + times ≤ r.high * get_or r.repetitions.now a 0)
-    (goes : (d : Work A T S) → GoesByMany s (get_or r.works.items a d) ((wiring s r.net.now).ins a)
-    ((wiring s r.net.now).outs a)) (held : AreHeld s r a times) where
+    (inside : get_or r.done.items a 0 + firings_in s r a times ≤ r.high * get_or r.repetitions.now a 0)
+    (go : GoManyAt s r a times) where
+  abbrev all : ℕ
+  all = firings_in s r a times
+
   does : (d e : Work A T S) → get_or r.works.items a e ≡ get_or r.works.items a d
   does d e = get_or_default r.works.items a e d (omega (arith, sw.stands.nodes, known))
 
-  pub can_fire_many_at : ((d : Work A T S) → Fit s (get_or r.works.items a d) times) → CanFireManyAt s r a times
-  can_fire_many_at fit = record {
-    inside = in_run s r sw net a known times inside;
+  pub can_fire_many_at : CanFireManyAt s r a times
+  can_fire_many_at = record {
+    inside = in_run s r sw net a known all inside;
     can = λ d.
-        can_fire_many s fits r.net.now net r.sizes sw.sizes (lists r.inputs.now)
+        can_fire_many s fits r.net.now net r.sizes sw.sizes r.cycles sw.cycles (lists r.inputs.now)
         (periods_of r.repetitions.now r.periods) (λ b. get_or r.done.items b 0) a known r.works.items r.queues.items
         r.outputs.items sw.stands
-        times (after s r sw net a known times inside) (own s r sw net a known times inside)
-        (others s r sw net a known times inside) (within s r sw net a known times inside)
-        (get_or r.works.items a d) (does d) (goes d) (held d) (fit d) (rooms s r sw net a known times inside);
+        times (after s r sw net a known all inside) (own s r sw net a known all inside)
+        (others s r sw net a known all inside) (within s r sw net a known all inside) go.held
+        (get_or r.works.items a d) (does d) (go.goes d) (go.fit d)
+        (let v : all < 2 ^ 63 = omega (arith, few s r sw net a known all inside) in v)
+        (rooms s r sw net a known all inside);
   }
 
   module _ (r' : Run A T S) (fired : AreManyFiredAt s r r' a times) where
@@ -424,25 +433,26 @@ module _ {A S T : Type 0} (s : Steps A S T) (fits : (x : A) → PutsFit s x) (r 
     its = some_of r.works.items a (omega (arith, sw.stands.nodes, known))
 
     many_stand : Stands s r.net.now (lists r.inputs.now) (periods_of r.repetitions.now r.periods)
-        (after s r sw net a known times inside) r'.works.items r'.queues.items r'.outputs.items
+        (after s r sw net a known all inside) r'.works.items r'.queues.items r'.outputs.items
     many_stand =
         subst (λ x. Stands s r.net.now (lists r.inputs.now) (periods_of r.repetitions.now r.periods)
-        (after s r sw net a known times inside) r'.works.items r'.queues.items x.items) (sym fired.lists)
-        (stands_many s fits r.net.now net r.sizes sw.sizes (lists r.inputs.now) (periods_of r.repetitions.now r.periods)
-        (λ b. get_or r.done.items b 0) a known r.works.items r.queues.items r.outputs.items sw.stands
-        times (after s r sw net a known times inside) (own s r sw net a known times inside)
-        (others s r sw net a known times inside) (within s r sw net a known times inside)
-        (get_or r.works.items a its) (does its) (goes its) (held its) sw.reach
+        (after s r sw net a known all inside) r'.works.items r'.queues.items x.items) (sym fired.lists)
+        (stands_many s fits r.net.now net r.sizes sw.sizes r.cycles sw.cycles (lists r.inputs.now)
+        (periods_of r.repetitions.now r.periods) (λ b. get_or r.done.items b 0) a known r.works.items r.queues.items
+        r.outputs.items sw.stands
+        times (after s r sw net a known all inside) (own s r sw net a known all inside)
+        (others s r sw net a known all inside) (within s r sw net a known all inside) go.held
+        (get_or r.works.items a its) (does its) (go.goes its) sw.reach
         (get_or r'.works.items a its) r'.queues.items (fired.fired its) fired.alone.queues r'.works.items
         fired.alone.works
         (λ e. get_or_default r'.works.items a e its (omega (arith, fired.alone.works, sw.stands.nodes, known)))
         fired.alone.others)
 
     pub swept_many : IsSwept s r'
-    swept_many = swept_on s r sw net a known times inside r' fired.alone (fired.fired its).rooms many_stand
+    swept_many = swept_on s r sw net a known all inside r' fired.alone (fired.fired its).rooms many_stand
 
-    pub moved_many : 0 < times → IsMoved r r' true
-    moved_many some = moved_by s r sw net a known times inside r' fired.alone (fired.fired its).rooms many_stand some
+    pub moved_many : 0 < all → IsMoved r r' true
+    moved_many some = moved_by s r sw net a known all inside r' fired.alone (fired.fired its).rooms many_stand some
 
 -- a node that fired has fired more often
 pub further : {A S T : Type 0} (s : Steps A S T) (r r' : Run A T S) (a times : ℕ) → IsSwept s r →
@@ -454,23 +464,84 @@ further s r r' a times sw known alone some =
     (omega (arith, sw.all, known)) in
     omega (arith, now, some)
 
--- the blocks of a node of a run
-pub blocks_at : {A S T : Type 0} (s : Steps A S T) (r : Run A T S) → IsSwept s r → (a : ℕ) →
-    a < length r.net.now.nodes → (d : Work A T S) → HasItsBlocks s (get_or r.works.items a d)
-blocks_at s r sw a known d =
-    its_blocks s (lists r.inputs.now) r.outputs.items (periods_of r.repetitions.now r.periods a) (node r.net.now a)
-    (taken_before (wiring s r.net.now) sw.stands.history a (get_or r.done.items a 0)) (get_or r.works.items a d)
-    (sw.stands.each a d known)
+-- the ports of a node of a run, its work as it is read, and what its cycles move
+module _ {A S T : Type 0} (s : Steps A S T) (r : Run A T S) (sw : IsSwept s r) (net : Known s r.net.now) (a : ℕ)
+    (known : a < length r.net.now.nodes) (w : Work A T S) (is : w ≡ get_or r.works.items a w) where
+  work_is : IsWork s (lists r.inputs.now) r.outputs.items (periods_of r.repetitions.now r.periods a) (node r.net.now a)
+      (taken_before (wiring s r.net.now) sw.stands.history a (get_or r.done.items a 0)) w
+  work_is = subst (IsWork s (lists r.inputs.now) r.outputs.items (periods_of r.repetitions.now r.periods a)
+      (node r.net.now a) (taken_before (wiring s r.net.now) sw.stands.history a (get_or r.done.items a 0)))
+      (sym is) (sw.stands.each a w known)
 
-pub many_at : {A S T : Type 0} (s : Steps A S T) (r : Run A T S) (a : ℕ) → a < length r.works.items →
-    (w : Work A T S) (ins outs : List ℕ) → w ≡ get_or r.works.items a w → ins ≡ (wiring s r.net.now).ins a →
-    outs ≡ (wiring s r.net.now).outs a →
-    GoesByMany s w ins outs → (d : Work A T S) → GoesByMany s (get_or r.works.items a d) ((wiring s r.net.now).ins a)
-    ((wiring s r.net.now).outs a)
-many_at s r a known w ins outs is into from goes d =
-    subst (λ x. GoesByMany s x ((wiring s r.net.now).ins a) ((wiring s r.net.now).outs a))
-    (is ∙ get_or_default r.works.items a w d known)
-    (subst (λ x. GoesByMany s w x ((wiring s r.net.now).outs a)) into (subst (λ x. GoesByMany s w ins x) from goes))
+  rows_are : HasRows s r.sizes w ((wiring s r.net.now).ins a) ((wiring s r.net.now).outs a)
+  rows_are = has_rows s r.net.now net r.sizes sw.sizes r.cycles sw.cycles (lists r.inputs.now) r.outputs.items
+      (periods_of r.repetitions.now r.periods a) a known
+      (taken_before (wiring s r.net.now) sw.stands.history a (get_or r.done.items a 0)) w work_is
+
+  module _ (ins outs takes puts : List ℕ) (qs : List (Held T)) (into : ins ≡ (wiring s r.net.now).ins a)
+      (from : outs ≡ (wiring s r.net.now).outs a) (by : takes ≡ r.cycles.takes.items)
+      (on : puts ≡ r.cycles.puts.items) (queues : qs ≡ r.queues.items) where
+    in_sum : sum_by (λ c. get_or takes c 0) ins ≡
+        sum_by (λ c. get_or r.cycles.takes.items c 0) ((wiring s r.net.now).ins a)
+    in_sum = λ i. sum_by (λ c. get_or (by i) c 0) (into i)
+
+    out_sum : sum_by (λ c. get_or puts c 0) outs ≡
+        sum_by (λ c. get_or r.cycles.puts.items c 0) ((wiring s r.net.now).outs a)
+    out_sum = λ i. sum_by (λ c. get_or (on i) c 0) (from i)
+
+    pub rows_at : HasRows s r.sizes w ins outs
+    rows_at = subst (λ x. HasRows s r.sizes w x outs) (sym into)
+        (subst (λ x. HasRows s r.sizes w ((wiring s r.net.now).ins a) x) (sym from) rows_are)
+
+    pub blocks_at : Fit w (sum_by (λ c. get_or takes c 0) ins) (sum_by (λ c. get_or puts c 0) outs) 1
+    blocks_at =
+        subst (λ v. Fit w v (sum_by (λ c. get_or puts c 0) outs) 1) (sym in_sum)
+        (subst (λ v. Fit w (sum_by (λ c. get_or r.cycles.takes.items c 0) ((wiring s r.net.now).ins a)) v 1)
+        (sym out_sum)
+        (its_blocks s r.net.now net r.sizes sw.sizes r.cycles sw.cycles (lists r.inputs.now) r.outputs.items
+        (periods_of r.repetitions.now r.periods a) a known
+        (taken_before (wiring s r.net.now) sw.stands.history a (get_or r.done.items a 0)) w work_is))
+
+    pub ins_at : ArePorts ins takes (length qs)
+    ins_at =
+        let ports = ports_in s r sw net a known w in
+        let all : length takes ≡ length r.queues.items =
+        ap length by ∙ (sw.cycles.takes_all ∙ sym sw.stands.channels) in
+        subst (λ x. ArePorts x takes (length qs)) (sym into)
+        (subst (λ x. ArePorts ((wiring s r.net.now).ins a) takes (length x)) (sym queues)
+        (record { known = ports.known; sized = all; once = ports.once }))
+
+    pub outs_at : ArePorts outs puts (length qs)
+    outs_at =
+        let all : length puts ≡ length r.queues.items = ap length on ∙ (sw.cycles.puts_all ∙ sym sw.stands.channels) in
+        subst (λ x. ArePorts x puts (length qs)) (sym from)
+        (subst (λ x. ArePorts ((wiring s r.net.now).outs a) puts (length x)) (sym queues)
+        (record {
+          known = λ p l. omega (arith, (net.wired.outs_are a p known l).0, sw.stands.channels);
+          sized = all;
+          once = λ p q l h. net.wired.outs_once a p q known l h;
+        }))
+
+    pub go_at : (times : ℕ) → GoesByMany s r.sizes w ins outs → HoldManyBlocks times ins takes qs →
+        Fit w (sum_by (λ c. get_or takes c 0) ins) (sum_by (λ c. get_or puts c 0) outs) times → GoManyAt s r a times
+    go_at times goes held fit = record {
+      goes = λ d. subst (λ x. GoesByMany s r.sizes x ((wiring s r.net.now).ins a) ((wiring s r.net.now).outs a))
+          (is ∙ get_or_default r.works.items a w d place_in)
+          (subst (λ x. GoesByMany s r.sizes w x ((wiring s r.net.now).outs a)) into
+          (subst (λ x. GoesByMany s r.sizes w ins x) from goes));
+      held = subst (λ x. HoldManyBlocks times x r.cycles.takes.items r.queues.items) into
+          (subst (λ x. HoldManyBlocks times ins x r.queues.items) by
+          (subst (λ x. HoldManyBlocks times ins takes x) queues held));
+      fit = λ d. subst (λ x. Fit x (sum_by (λ c. get_or r.cycles.takes.items c 0) ((wiring s r.net.now).ins a))
+          (sum_by (λ c. get_or r.cycles.puts.items c 0) ((wiring s r.net.now).outs a)) times)
+          (is ∙ get_or_default r.works.items a w d place_in)
+          (subst (λ v. Fit w v (sum_by (λ c. get_or r.cycles.puts.items c 0) ((wiring s r.net.now).outs a)) times)
+          in_sum
+          (subst (λ v. Fit w (sum_by (λ c. get_or takes c 0) ins) v times) out_sum fit));
+    }
+      where
+        place_in : a < length r.works.items
+        place_in = omega (arith, sw.stands.nodes, known)
 
 -- a sweep that fires leaves less, and one that does not is the last
 goes_less : (a b : Bool) (all x y : ℕ) → IsTrue a → x ≤ y → y ≤ all → (IsTrue b → x < y) →
@@ -548,12 +619,13 @@ room_along s size r r' keeps channels has =
 pub block_begins : {A S T : Type 0} (s : Steps A S T) (r : Run A T S) → IsSwept s r → (next size : ℕ) → r.high ≤ next →
     next ≤ r.periods → next ≤ r.high + size →
     ((a : ℕ) → a < length r.net.now.nodes → get_or r.done.items a 0 ≡ r.high * get_or r.repetitions.now a 0) →
-    HasRoom s size r → Sweeps s r.net.now (lists r.inputs.now) r.sizes r.repetitions.now r.periods next r.done.items
-    r.works.items r.queues.items r.outputs.items
+    HasRoom s size r → Sweeps s r.net.now (lists r.inputs.now) r.sizes r.cycles r.repetitions.now r.periods next
+    r.done.items r.works.items r.queues.items r.outputs.items
 block_begins s r sw next size rise under step at rooms = record {
   good = sw.good;
   apart = sw.apart;
   sizes = sw.sizes;
+  cycles = sw.cycles;
   reach = sw.reach;
   paced = sw.paced;
   short = sw.short;

@@ -6,11 +6,13 @@ use Rattle.sdf_graph.specs.Sequences.{IsRunnable}
 use Rattle.sdf_actor.specs.Steps.{Steps}
 use Rattle.sdf_actor.specs.Nets.{Netlist, wiring, IsNet, InputsReach}
 use Rattle.sdf_actor.specs.Wires.{lists}
+use Rattle.sdf_run.specs.declared.cycles.Cycles.{Cycles}
 use Rattle.sdf_run.specs.declared.work.Work.{Work}
 use Rattle.sdf_run.specs.declared.run.Run.{Run}
 use Rattle.sdf_answer.specs.Held.{Held}
 use Rattle.sdf_answer.specs.Blocks.{room, HoldManyBlocks, KeepRoom}
 use Rattle.sdf_answer.specs.Sizes.{Rows, AreSizes, at_phase}
+use Rattle.sdf_run.specs.Cycles.{AreCycles}
 use Rattle.sdf_run.specs.Firings.{phase_at}
 use Rattle.sdf_answer.specs.Periods.{AreApart, IsPaced}
 use Rattle.sdf_run.specs.Runs.{Stands, HoldsOfWork}
@@ -19,11 +21,12 @@ use Rattle.sdf_answer.specs.Answer.{periods_of}
 -- each node a has fired done a times, at least low and at most high periods, and the queues have room for all up to
 -- high
 pub record Sweeps {A S T Z : Type 0} (s : Steps A S T) (n : Netlist A T) (inputs : List (List T)) (z : Rows)
-    (q : List ℕ) (periods high : ℕ) (done : List ℕ) (works : List (Work A T S)) (qs : List (Held T))
+    (y : Cycles) (q : List ℕ) (periods high : ℕ) (done : List ℕ) (works : List (Work A T S)) (qs : List (Held T))
     (outputs : List (Vec T Z)) : Type 0 where
   pub good : IsNet s n
   pub apart : AreApart n
   pub sizes : AreSizes s n z
+  pub cycles : AreCycles s n y
   pub reach : InputsReach n inputs (periods_of q periods)
   pub paced : IsPaced (wiring s n).rates q
   pub short : periods < 2 ^ 32
@@ -40,7 +43,7 @@ pub record Sweeps {A S T Z : Type 0} (s : Steps A S T) (n : Netlist A T) (inputs
 
 -- so it is in a run
 abbrev pub IsSwept : {A S T : Type 0} → Steps A S T → Run A T S → Type 0
-IsSwept s r = Sweeps s r.net.now (lists r.inputs.now) r.sizes r.repetitions.now r.periods r.high r.done.items
+IsSwept s r = Sweeps s r.net.now (lists r.inputs.now) r.sizes r.cycles r.repetitions.now r.periods r.high r.done.items
     r.works.items r.queues.items r.outputs.items
 
 -- a node may fire within the block

@@ -4,6 +4,7 @@ ghost use Rattle.std.specs.Prelude.{◌≡◌, ◌^◌, ◌≤◌, ◌<◌, map,
 ghost use Rattle.sdf_actor.specs.Wires.{lists};
 ghost use Rattle.sdf_run.specs.Fired.{IsPassage, TakeWhatItMakes, HasFiredPeriods};
 
+use crate::cycles::make_cycles;
 use crate::run::Run;
 use crate::setup::make_works;
 use sdf_actor::{Actor, Net};
@@ -70,6 +71,7 @@ pub(crate) fn fired<'a, A: Actor>(
     histories_make_outputs::<A>();
     sdf_actor::laws::nets_are_wired::<A>();
     let sizes = Sizes::new(alloc, net)?;
+    let cycles = make_cycles(alloc, net)?;
     let works = make_works(alloc, net, &sizes, filler)?;
     let repetitions = period.repetitions();
     let size = block_periods(net.samples_in());
@@ -79,6 +81,7 @@ pub(crate) fn fired<'a, A: Actor>(
         net,
         inputs,
         sizes,
+        cycles,
         repetitions,
         periods,
         high: 0,

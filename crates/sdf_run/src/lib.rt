@@ -2,12 +2,13 @@
 //!
 //! It stands on `sdf_answer`, `sdf_rows`, `sdf_rings`, `sdf_graph`, `sdf_sched`, `sdf_prec`, `sdf_actor` and
 //! `sdf_node`. Begin at `feed`, a run on one thread and what it leaves, from which another one goes on; `one` gives
-//! the run alone. Then `fired`, its firings, `run`, what it holds, `work`, a node at work, and `block`, the blocks of
-//! its firings; `session`, a run that is fed in pieces, by rows (`sdf_rows`) or over rings (`sdf_rings`). What all
-//! runners are given and give is in `sdf_answer`.
+//! the run alone. Then `fired`, its firings, `run`, what it holds, `work`, a node at work, `block`, the blocks of
+//! its firings, and `cycles`, what whole cycles of a node move; `session`, a run that is fed in pieces, by rows
+//! (`sdf_rows`) or over rings (`sdf_rings`). What all runners are given and give is in `sdf_answer`.
 #![tactic(auto)]
 
 mod block;
+mod cycles;
 pub mod feed;
 mod fired;
 pub mod mode;

@@ -6,22 +6,24 @@ ghost use Rattle.sdf_actor.specs.Nets.{wiring};
 ghost use Rattle.sdf_actor.specs.Steps.{PutsFit};
 ghost use Rattle.sdf_answer.specs.Sizes.{at_phase};
 ghost use Rattle.sdf_run.specs.AtOnce.{CanFireAtOnceAt, AreFiredAt};
-ghost use Rattle.sdf_run.specs.Many.{Fit, CanFireManyAt, AreManyFiredAt};
+ghost use Rattle.sdf_run.specs.Many.{CanFireManyAt, AreManyFiredAt, GoManyAt, firings_in};
 ghost use Rattle.sdf_run.specs.Runs.{FiringLaws, HoldsOfWork, CanFireAt, IsFiredAt};
 ghost use Rattle.sdf_run.specs.Sweeps.{IsSwept, MayFire, HasRoom, Keeps, IsMoved, IsLeft, AreHeld};
 
 use crate::block::{blocks_held, hold_blocks};
+use crate::cycles::Cycles;
 use crate::work::{NodePorts, Work};
 use sdf_actor::{Actor, Net, Side};
 use sdf_answer::blocks::Ports;
 use sdf_answer::{Queue, Sizes};
 
-/// What a run holds. Its net, inputs, sizes, period and length stay as they are.
+/// What a run holds. Its net, inputs, sizes, cycles, period and length stay as they are.
 #[derive(Drop)]
 pub(crate) struct Run<'a, A: Actor> {
     pub(crate) net: &'a Net<A>,
     pub(crate) inputs: &'a [Vec<A::Token>],
     pub(crate) sizes: Sizes,
+    pub(crate) cycles: Cycles,
     /// How often each node fires in a period.
     pub(crate) repetitions: &'a [u32],
     /// How many periods there are in all.
@@ -57,6 +59,26 @@ fn ports_at<'b, A: Actor>(net: &'b Net<A>, sizes: &'b Sizes, a: usize, phase: u3
         outs: Ports {
             channels: net.channels_out(a),
             sizes: sizes.on(Side::Output, phase),
+        },
+    }
+}
+
+/// The ports of a node, and what its cycles move there.
+fn ports_of<'b, A: Actor>(net: &'b Net<A>, cycles: &'b Cycles, a: usize) -> NodePorts<'b>
+    requires { a < length net.now.nodes }
+    ensures ins { result.ins.channels.now ≡ (wiring A.steps net.entry.now).ins a }
+    ensures takes { result.ins.sizes.now ≡ cycles.entry.now.takes.items }
+    ensures outs { result.outs.channels.now ≡ (wiring A.steps net.entry.now).outs a }
+    ensures puts { result.outs.sizes.now ≡ cycles.entry.now.puts.items }
+{
+    NodePorts {
+        ins: Ports {
+            channels: net.channels_in(a),
+            sizes: &cycles.takes,
+        },
+        outs: Ports {
+            channels: net.channels_out(a),
+            sizes: &cycles.puts,
         },
     }
 }
@@ -104,15 +126,14 @@ impl<'a, A: Actor> Run<'a, A> {
         self.done[a] += times;
     }
 
-    /// Fires an actor so many times through its blocks.
+    /// Fires an actor for so many cycles through its blocks.
     fn fire_many(&mut self, a: usize, times: usize)
         requires { CanFireManyAt A.steps self.old a times }
         ensures { AreManyFiredAt A.steps self.old self.new a times }
     {
-        let phase = self.works[a].phase();
-        let ports = ports_at(self.net, &self.sizes, a, phase);
+        let ports = ports_of(self.net, &self.cycles, a);
         self.works[a].fire_many(times, self.filler, &ports, &mut self.queues);
-        self.done[a] += times;
+        self.done[a] += times * self.net.node(a).cycle() as usize;
     }
 
     /// How many firings a node has left within the block.
@@ -154,18 +175,23 @@ impl<'a, A: Actor> Run<'a, A> {
         blocks_held(self.net.channels_in(a), sizes, &self.queues, left)
     }
 
-    /// How many of them its own blocks have room for.
-    fn times_in_blocks(&self, a: usize) -> usize
-        requires may { MayFire A.steps self.now a }
+    /// How many cycles of a node can be done through its blocks, within the block: none of one whose firings go one by
+    /// one.
+    fn cycles_in_blocks(&self, a: usize) -> usize
+        requires known { a < length self.now.net.now.nodes }
         requires swept { IsSwept A.steps self.now }
-        ensures some { 0 < result }
-        ensures left { slice_index self.now.done.items a + result ≤
+        ensures left { slice_index self.now.done.items a + firings_in A.steps self.now a result ≤
             self.now.high * slice_index self.now.repetitions.now a }
-        ensures held { AreHeld A.steps self.now a result }
-        ensures fit { HoldsOfWork self.now a (λ w. Fit A.steps w result) }
+        ensures go { 0 < result → GoManyAt A.steps self.now a result }
     {
-        let most = self.times(a);
-        self.works[a].fits(most)
+        step_laws::<A>();
+        let ports = ports_of(self.net, &self.cycles, a);
+        if !self.works[a].goes_by_many(ports.ins.channels, ports.outs.channels, &self.sizes) {
+            return 0;
+        }
+        let left = self.left(a) / self.net.node(a).cycle() as usize;
+        let most = blocks_held(ports.ins.channels, ports.ins.sizes, &self.queues, left);
+        self.works[a].fits(&ports, most)
     }
 
     /// Fires a node that may fire: once, or as often in one piece of work as its samples and the block allow.
@@ -182,11 +208,13 @@ impl<'a, A: Actor> Run<'a, A> {
         if self.works[a].goes_at_once(ins, outs) {
             let times = self.times(a);
             self.fire_at_once(a, times);
-        } else if self.works[a].goes_by_many(ins, outs) {
-            let times = self.times_in_blocks(a);
-            self.fire_many(a, times);
         } else {
-            self.fire(a);
+            let cycles = self.cycles_in_blocks(a);
+            if cycles == 0 {
+                self.fire(a);
+            } else {
+                self.fire_many(a, cycles);
+            }
         }
     }
 

@@ -1,8 +1,10 @@
 //! What a run holds before its first firing.
 
-ghost use Rattle.std.specs.Prelude.{◌≡◌, ◌+◌, ◌*◌, ◌≤◌, ◌<◌, ℕ, length, slice_index, vec_len, IfOk};
+ghost use Rattle.std.specs.Prelude.{◌≡◌, ◌+◌, ◌≤◌, ◌<◌, ℕ, length, slice_index, vec_len, IfOk};
 ghost use Rattle.std.specs.List.{sum_by};
 ghost use Rattle.sdf_actor.specs.Nets.{node, IsNet};
+ghost use Rattle.sdf_graph.specs.Rates.{sum_to};
+ghost use Rattle.sdf_run.specs.Cycles.{AreRowsAt};
 ghost use Rattle.sdf_run.specs.Runs.{BeginsWork, AllBeginWork};
 ghost use Rattle.sdf_answer.specs.Sizes.{AreSizes, at_phase, rows_on};
 
@@ -11,21 +13,20 @@ use sdf_actor::{Actor, Net, Node, Side};
 use sdf_answer::Sizes;
 use std::alloc::{AllocError, Global};
 
-/// A block of fillers, with a place for each sample that a firing moves at some ports.
-fn make_block<T: Copy>(
-    alloc: Global,
+/// Puts a filler behind a block for each sample that a firing moves at some ports.
+fn extend_by<T: Copy>(
+    block: &mut Vec<T>,
     ports: &[usize],
     sizes: &[usize],
     filler: T,
-) -> Result<Vec<T>, AllocError>
+) -> Result<(), AllocError>
     requires { (i : ℕ) → i < length ports.now → slice_index ports.now i < length sizes.now }
-    ensures { IfOk result (λ v. vec_len v ≡ sum_by (slice_index sizes.now) ports.now) }
+    ensures { IfOk result (λ _. vec_len block.new ≡ vec_len block.old + sum_by (slice_index sizes.now) ports.now) }
 {
-    let mut block = Vec::new(alloc);
     for port in ports {
-        extend(&mut block, sizes[*port], filler)?;
+        extend(block, sizes[*port], filler)?;
     }
-    Ok(block)
+    Ok(())
 }
 
 /// Puts so many fillers behind a block.
@@ -38,19 +39,10 @@ fn extend<T: Copy>(block: &mut Vec<T>, many: usize, filler: T) -> Result<(), All
     Ok(())
 }
 
-/// The longer of two blocks.
-fn longer<T: Copy>(one: Vec<T>, other: Vec<T>) -> Vec<T>
-    ensures one { vec_len one ≤ vec_len result }
-    ensures other { vec_len other ≤ vec_len result }
-{
-    if one.len() < other.len() { other } else { one }
-}
-
-/// So many fillers more than a firing needs have the blocks of an actor, so that many firings fit.
+/// So many fillers more than a cycle needs have the blocks of an actor, so that many cycles fit.
 const MORE: usize = 1024;
 
-/// A block with a place for each sample that a firing at any phase moves at some ports and some more, and the length at
-/// each phase.
+/// A block with a place for each sample that a cycle moves at some ports and some more, and the length at each phase.
 fn make_blocks<T: Copy>(
     alloc: Global,
     ports: &[usize],
@@ -59,22 +51,20 @@ fn make_blocks<T: Copy>(
     cycle: u32,
     filler: T,
 ) -> Result<(Vec<T>, Vec<usize>), AllocError>
-    requires phases { (j : ℕ) → j < cycle → j < length (rows_on side sizes.now) }
-    requires ports { (j i : ℕ) → j < cycle → i < length ports.now →
-        slice_index ports.now i < length (at_phase (rows_on side sizes.now) j) }
+    requires { AreRowsAt ports.now (rows_on side sizes.now) cycle }
     ensures { IfOk result (λ b. (vec_len b.1 ≡ cycle) × ((j : ℕ) → j < cycle →
-        (slice_index b.1.items j ≡ sum_by (slice_index (at_phase (rows_on side sizes.now) j)) ports.now)
-        × (sum_by (slice_index (at_phase (rows_on side sizes.now) j)) ports.now ≤ vec_len b.0))) }
+        slice_index b.1.items j ≡ sum_by (slice_index (at_phase (rows_on side sizes.now) j)) ports.now)
+        × (sum_to (λ j. sum_by (slice_index (at_phase (rows_on side sizes.now) j)) ports.now) cycle ≤ vec_len b.0)) }
 {
-    let mut longest = Vec::new(alloc);
+    let mut block = Vec::new(alloc);
     let mut lengths = Vec::new(alloc);
     for phase in 0..cycle {
-        let block = make_block(alloc, ports, sizes.on(side, phase), filler)?;
-        lengths.push(block.len())?;
-        longest = longer(longest, block);
+        let before = block.len();
+        extend_by(&mut block, ports, sizes.on(side, phase), filler)?;
+        lengths.push(block.len() - before)?;
     }
-    extend(&mut longest, MORE, filler)?;
-    Ok((longest, lengths))
+    extend(&mut block, MORE, filler)?;
+    Ok((block, lengths))
 }
 
 /// A node before its first firing.

@@ -7,13 +7,14 @@ ghost use Rattle.sdf_actor.specs.Wires.{lists};
 ghost use Rattle.sdf_run.specs.AtOnce.{fronts};
 ghost use Rattle.sdf_answer.specs.Blocks.{samples, room, at_ports, ArePorts, KeepRoom};
 
-use crate::block::{put_front, put_fronts, take_fronts};
-use sdf_actor::Actor;
+use crate::block::{block_size, put_front, put_fronts, take_fronts};
+use crate::cycles::is_in_turn;
 use sdf_actor::actor::next_phase;
-use sdf_answer::Queue;
+use sdf_actor::{Actor, Side};
 use sdf_answer::blocks::{Ports, take_block};
 use sdf_answer::many_blocks::whole_blocks;
 use sdf_answer::queue::{Firings, lengthen};
+use sdf_answer::{Queue, Sizes};
 
 /// What a node does in a firing.
 #[derive(Drop)]
@@ -171,7 +172,8 @@ fn fire_through<A: Actor>(
 impl<'a, A: Actor> Work<'a, A> {
     ghost use Rattle.sdf_run.specs.Firings.{phase_at, IsActor, ActorCanFire, IsFired};
     ghost use Rattle.sdf_run.specs.AtOnce.{GoesAtOnce, CanFireAtOnce, AreFired};
-    ghost use Rattle.sdf_run.specs.Many.{GoesByMany, HasItsBlocks, Fit, CanFireMany, AreManyFired};
+    ghost use Rattle.std.specs.List.{sum_by};
+    ghost use Rattle.sdf_run.specs.Many.{HasRows, GoesByMany, Fit, CanFireMany, AreManyFired};
 
     /// The phase of the next firing.
     pub(crate) fn phase(&self) -> u32
@@ -268,43 +270,46 @@ impl<'a, A: Actor> Work<'a, A> {
         }
     }
 
-    /// Whether so many of its firings can be done through its blocks, where these are its channels.
-    pub(crate) fn goes_by_many(&self, ins: &[usize], outs: &[usize]) -> bool
-        requires { IsActor self.now }
-        ensures { IsTrue result → GoesByMany A.steps self.now ins.now outs.now }
+    /// Whether its cycles can be done through its blocks, where these are its channels: it is at the beginning of one,
+    /// and its ports are served in turn.
+    pub(crate) fn goes_by_many(&self, ins: &[usize], outs: &[usize], sizes: &Sizes) -> bool
+        requires { HasRows A.steps sizes.now self.now ins.now outs.now }
+        ensures { IsTrue result → GoesByMany A.steps sizes.now self.now ins.now outs.now }
     {
         match self {
-            Work::Inner { actor, .. } => actor.cycle() == 1 && are_apart(ins, outs),
+            Work::Inner { actor, phase, .. } => {
+                let cycle = actor.cycle();
+                *phase == 0
+                    && are_apart(ins, outs)
+                    && is_in_turn(ins, sizes, Side::Input, cycle)
+                    && is_in_turn(outs, sizes, Side::Output, cycle)
+            }
             _ => false,
         }
     }
 
-    /// For how many firings its blocks have room, up to a limit.
-    pub(crate) fn fits(&self, most: usize) -> usize
-        requires some { 0 < most }
-        requires blocks { HasItsBlocks A.steps self.now }
-        ensures some { 0 < result }
+    /// For how many cycles its blocks have room, up to a limit.
+    pub(crate) fn fits(&self, ports: &NodePorts, most: usize) -> usize
+        requires ins { ArePorts ports.now.ins.channels.now ports.now.ins.sizes.now (length ports.now.ins.sizes.now) }
+        requires outs { ArePorts ports.now.outs.channels.now ports.now.outs.sizes.now
+            (length ports.now.outs.sizes.now) }
+        requires blocks { Fit self.now (sum_by (slice_index ports.now.ins.sizes.now) ports.now.ins.channels.now)
+            (sum_by (slice_index ports.now.outs.sizes.now) ports.now.outs.channels.now) 1 }
         ensures within { result ≤ most }
-        ensures fit { Fit A.steps self.now result }
+        ensures fit { Fit self.now (sum_by (slice_index ports.now.ins.sizes.now) ports.now.ins.channels.now)
+            (sum_by (slice_index ports.now.outs.sizes.now) ports.now.outs.channels.now) result }
     {
         match self {
-            Work::Inner {
-                actor,
-                phase,
-                taken,
-                put,
-                lengths,
-                ..
-            } => {
-                let many = whole_blocks(taken.capacity(), actor.samples_in(*phase), most);
-                whole_blocks(put.len(), lengths[*phase as usize], many)
+            Work::Inner { taken, put, .. } => {
+                let many = whole_blocks(taken.capacity(), block_size(&ports.ins), most);
+                whole_blocks(put.len(), block_size(&ports.outs), many)
             }
             _ => most,
         }
     }
 
-    /// So many firings of an actor of one phase: from each channel into it their blocks are taken, and on each channel
-    /// out of it their blocks are put.
+    /// So many cycles of an actor: from each channel into it their blocks are taken, and on each channel out of it
+    /// their blocks are put.
     pub(crate) fn fire_many(
         &mut self,
         times: usize,
@@ -325,18 +330,18 @@ impl<'a, A: Actor> Work<'a, A> {
             state,
             taken,
             put,
-            lengths,
+            ..
         } = self
         {
-            let size = actor.samples_in(*phase);
+            let size = block_size(&ports.ins);
             let all = times * size;
             lengthen(taken, all, filler);
             take_fronts(&ports.ins, times, size, taken, queues);
-            let more = lengths[*phase as usize];
+            let more = block_size(&ports.outs);
             let firings = Firings {
                 actor: *actor,
                 phase: *phase,
-                times,
+                times: times * actor.cycle() as usize,
             };
             fire_many_into(firings, state, taken, all, put, times * more);
             put_fronts(&ports.outs, times, more, put, queues);

@@ -94,6 +94,14 @@ const OTHERS: &[Row] = &[
         turns: 10_000,
         ..BRANCHES
     },
+    Row {
+        net: Worked::Turned,
+        factor: 3,
+        blocks: 3,
+        samples: (1, 19),
+        turns: 1000,
+        ..SMALL
+    },
 ];
 
 const CONVERTERS: &[Row] = &[

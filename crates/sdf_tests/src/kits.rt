@@ -15,11 +15,12 @@ enum Part {
     Deal(usize, u32),
     Fork(usize),
     Gain(i32, u32),
+    Gather(usize, u32),
     /// A filter with as many taps of 1 as its first rate.
     Ones(u32, u32),
 }
 
-use Part::{Add, Deal, Fork, Gain, In, Ones, Out};
+use Part::{Add, Deal, Fork, Gain, Gather, In, Ones, Out};
 
 fn kit(alloc: Global, part: Part) -> Result<Node<Kit>, Fail> {
     Ok(match part {
@@ -29,6 +30,7 @@ fn kit(alloc: Global, part: Part) -> Result<Node<Kit>, Fail> {
         Deal(ways, run) => Node::Inner(Kit::deal(ways, run)?),
         Fork(ways) => Node::Inner(Kit::fork(ways)?),
         Gain(factor, shift) => Node::Inner(Kit::gain(factor, shift)?),
+        Gather(ways, run) => Node::Inner(Kit::gather(ways, run)?),
         Ones(up, down) => {
             Node::Inner(Kit::fir(up, down, vec![in alloc; 1i32; up as usize]?, 0)?)
         }
@@ -73,9 +75,12 @@ pub(crate) enum Worked {
     Pair(u32, u32, &'static [i32]),
     /// A loop: what comes out is fed back, turned round.
     Looped,
-    /// Blocks of two samples, dealt by threes to two sinks. The actor that deals has two phases, so it fires one by
-    /// one.
+    /// Blocks of two samples, dealt by threes to two sinks. The actor that deals has two phases, so over rings it fires
+    /// one by one.
     Dealt,
+    /// What is dealt by twos to a sink and to two loops is gathered with the input. The loops begin with two cycles and
+    /// a sample more, so both actors go by cycles and then stand between two phases.
+    Turned,
     /// A fork and an adder, and between them so many branches, each a gain that may fire from the start: actors 2 and
     /// on.
     Branches(usize),
@@ -96,6 +101,7 @@ impl Worked {
             }
             Worked::Looped => joined(alloc, LOOPED, LOOPED_ENDS, &[(4, ZERO)]),
             Worked::Dealt => joined(alloc, DEALT, DEALT_ENDS, &[]),
+            Worked::Turned => joined(alloc, TURNED, TURNED_ENDS, TURNED_BEGUN),
             Worked::Branches(ways) => branches(alloc, ways),
             Worked::Converter => joined(alloc, CONVERTER, CHAINED, &[]),
             Worked::Wide => joined(alloc, WIDE, WIDE_ENDS, &[]),
@@ -117,6 +123,18 @@ const LOOPED_ENDS: &[[usize; 4]] = &[
 const DEALT: &[Part] = &[In(2), Deal(2, 3), Out(0, 3), Out(1, 3)];
 
 const DEALT_ENDS: &[[usize; 4]] = &[[0, 0, 1, 0], [1, 0, 2, 0], [1, 1, 3, 0]];
+
+const TURNED: &[Part] = &[In(2), Gather(3, 2), Deal(3, 2), Out(0, 2)];
+
+const TURNED_ENDS: &[[usize; 4]] = &[
+    [0, 0, 1, 0],
+    [1, 0, 2, 0],
+    [2, 0, 3, 0],
+    [2, 1, 1, 2],
+    [2, 2, 1, 1],
+];
+
+const TURNED_BEGUN: &[(usize, &[i32])] = &[(3, &[-1, -2, -3, -4]), (4, &[-5, -6, -7, -8, -9])];
 
 const CONVERTER: &[Part] = &[
     In(1),

@@ -46,7 +46,7 @@ none g c a = ap (λ xs. get_or xs a 0) c.in_ok-done.ensures
 -- nothing has fired, and the first block has not begun
 begun : (g : Rattle.sdf_run.proofs.fired.fired.Given.Over) (c : After-run-1 g) →
     Sweeps g.A.Actor.steps c.args.passage.net.now (lists c.args.passage.inputs.now) c.in_ok-sizes.sizes
-    c.repetitions-repetitions.result.now c.args.passage.periods 0
+    c.in_ok-cycles.cycles c.repetitions-repetitions.result.now c.args.passage.periods 0
     c.in_ok-done.done.items c.in_ok-works.works.items c.in_ok-queues.queues.items c.args.outputs.items
 begun g c =
     let s = g.A.Actor.steps in
@@ -57,6 +57,7 @@ begun g c =
       good = c.net_facts.ensures.net;
       apart = c.net_facts.ensures.sinks.apart;
       sizes = c.in_ok-sizes.ensures;
+      cycles = c.in_ok-cycles.ensures;
       reach = (can g c).reach;
       paced = step;
       short = c.requires.short;

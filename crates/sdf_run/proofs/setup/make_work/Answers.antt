@@ -1,42 +1,28 @@
-use Rattle.std.proofs.Common.{◌≡◌, ◌<◌, ◌≤◌, length, get_or, vec_len, refl, sym, ◌∙◌, subst, arith}
+use Rattle.std.proofs.Common.{◌≡◌, ◌≤◌, get_or, vec_len, refl, sym, ◌∙◌, subst}
 use Rattle.std.specs.List.{sum_by}
 use Rattle.sdf_actor.specs.declared.node.Node.TheVariants.{Inner}
-use Rattle.sdf_actor.specs.Nets.{node}
+use Rattle.sdf_actor.specs.Nets.{node, wiring}
 use Rattle.sdf_answer.specs.Sizes.{at_phase}
-use Rattle.sdf_run.proofs.Beginnings.{first_plan, takes_row, puts_row, blocks, begun}
+use Rattle.sdf_graph.specs.Rates.{sum_to}
+use Rattle.sdf_run.specs.Cycles.{AreRowsAt}
+use Rattle.sdf_run.proofs.Beginnings.{rows_in, rows_out, blocks, begun}
 use Rattle.sdf_run.proofs.setup.make_work.Goals as goal
 
-pub make_blocks-requires-clause-phases : goal.make_blocks-requires-clause-phases
-make_blocks-requires-clause-phases g c = λ j h.
-    takes_row g.A.Actor.steps c.plans_fit.ensures c.args.net.now c.requires.net c.args.sizes.now c.requires.sizes
-    c.args.a c.requires.known c.in-Inner.actor (sym c.node.ensures ∙ c.in-Inner.is)
-    j (omega (arith, h, c.cycle-cycle.ensures))
+pub make_blocks-requires : goal.make_blocks-requires
+make_blocks-requires g c =
+    subst (λ cs. AreRowsAt cs c.args.sizes.now.takes c.cycle-cycle.result) (sym c.channels_in.ensures)
+    (subst (λ m. AreRowsAt ((wiring g.A.Actor.steps c.args.net.now).ins c.args.a) c.args.sizes.now.takes m)
+    (sym c.cycle-cycle.ensures)
+    (rows_in g.A.Actor.steps c.plans_fit.ensures c.args.net.now c.requires.net c.args.sizes.now c.requires.sizes
+    c.args.a c.requires.known c.in-Inner.actor (sym c.node.ensures ∙ c.in-Inner.is)))
 
-pub make_blocks-requires-clause-ports : goal.make_blocks-requires-clause-ports
-make_blocks-requires-clause-ports g c = λ j i h.
-    let plan = first_plan g.A.Actor.steps c.plans_fit.ensures c.args.net.now c.requires.net c.args.sizes.now
-    c.requires.sizes c.args.a c.requires.known c.in-Inner.actor (sym c.node.ensures ∙ c.in-Inner.is)
-    j (omega (arith, h, c.cycle-cycle.ensures)) in
-    subst (λ cs. i < length cs → get_or cs i 0 < length (at_phase c.args.sizes.now.takes j)) (sym c.channels_in.ensures)
-    (λ m. let fits = c.plans_fit.ensures c.args.net.now c.args.a j (at_phase c.args.sizes.now.takes j)
-    (at_phase c.args.sizes.now.puts j) c.requires.net c.requires.known plan in
-    omega (arith, plan.takes_all, fits.ins_are.known i m))
-
-pub make_blocks-requires-in-Inner-clause-phases : goal.make_blocks-requires-in-Inner-clause-phases
-make_blocks-requires-in-Inner-clause-phases g c = λ j h.
-    puts_row g.A.Actor.steps c.plans_fit.ensures c.args.net.now c.requires.net c.args.sizes.now c.requires.sizes
-    c.args.a c.requires.known c.in-Inner.actor (sym c.node.ensures ∙ c.in-Inner.is)
-    j (omega (arith, h, c.cycle-cycle.ensures))
-
-pub make_blocks-requires-in-Inner-clause-ports : goal.make_blocks-requires-in-Inner-clause-ports
-make_blocks-requires-in-Inner-clause-ports g c = λ j i h.
-    let plan = first_plan g.A.Actor.steps c.plans_fit.ensures c.args.net.now c.requires.net c.args.sizes.now
-    c.requires.sizes c.args.a c.requires.known c.in-Inner.actor (sym c.node.ensures ∙ c.in-Inner.is)
-    j (omega (arith, h, c.cycle-cycle.ensures)) in
-    subst (λ cs. i < length cs → get_or cs i 0 < length (at_phase c.args.sizes.now.puts j)) (sym c.channels_out.ensures)
-    (λ m. let fits = c.plans_fit.ensures c.args.net.now c.args.a j (at_phase c.args.sizes.now.takes j)
-    (at_phase c.args.sizes.now.puts j) c.requires.net c.requires.known plan in
-    omega (arith, plan.puts_all, fits.outs_are.known i m))
+pub make_blocks-requires-in-Inner : goal.make_blocks-requires-in-Inner
+make_blocks-requires-in-Inner g c =
+    subst (λ cs. AreRowsAt cs c.args.sizes.now.puts c.cycle-cycle.result) (sym c.channels_out.ensures)
+    (subst (λ m. AreRowsAt ((wiring g.A.Actor.steps c.args.net.now).outs c.args.a) c.args.sizes.now.puts m)
+    (sym c.cycle-cycle.ensures)
+    (rows_out g.A.Actor.steps c.plans_fit.ensures c.args.net.now c.requires.net c.args.sizes.now c.requires.sizes
+    c.args.a c.requires.known c.in-Inner.actor (sym c.node.ensures ∙ c.in-Inner.is)))
 
 pub returns-in_ok-put-in-Inner : goal.returns-in_ok-put-in-Inner
 returns-in_ok-put-in-Inner g c =
@@ -50,10 +36,10 @@ returns-in_ok-put-in-Inner g c =
     (blocks s fit c.args.net.now c.requires.net c.args.sizes.now c.requires.sizes c.args.a c.requires.known x is
     c.in_ok-taken-in-Inner.taken c.in_ok-put-in-Inner.put c.in_ok-put-in-Inner.lengths c.cycle-cycle.result
     c.cycle-cycle.ensures c.in_ok-put-in-Inner.ensures.0
-    (λ j h. subst (λ cs. sum_by (λ e. get_or (at_phase c.args.sizes.now.takes j) e 0) cs ≤
-    vec_len c.in_ok-taken-in-Inner.taken) c.channels_in.ensures (c.in_ok-taken-in-Inner.ensures.1 j h).1)
+    (subst (λ cs. sum_to (λ j. sum_by (λ e. get_or (at_phase c.args.sizes.now.takes j) e 0) cs) c.cycle-cycle.result ≤
+    vec_len c.in_ok-taken-in-Inner.taken) c.channels_in.ensures c.in_ok-taken-in-Inner.ensures.2)
     (λ j h. subst (λ cs. get_or c.in_ok-put-in-Inner.lengths.items j 0 ≡
     sum_by (λ e. get_or (at_phase c.args.sizes.now.puts j) e 0) cs) c.channels_out.ensures
-    (c.in_ok-put-in-Inner.ensures.1 j h).0)
-    (λ j h. subst (λ cs. sum_by (λ e. get_or (at_phase c.args.sizes.now.puts j) e 0) cs ≤
-    vec_len c.in_ok-put-in-Inner.put) c.channels_out.ensures (c.in_ok-put-in-Inner.ensures.1 j h).1))
+    (c.in_ok-put-in-Inner.ensures.1 j h))
+    (subst (λ cs. sum_to (λ j. sum_by (λ e. get_or (at_phase c.args.sizes.now.puts j) e 0) cs) c.cycle-cycle.result ≤
+    vec_len c.in_ok-put-in-Inner.put) c.channels_out.ensures c.in_ok-put-in-Inner.ensures.2))

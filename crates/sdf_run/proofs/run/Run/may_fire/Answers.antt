@@ -7,7 +7,7 @@ use Rattle.sdf_run.specs.Firings.{phase_at}
 use Rattle.sdf_run.proofs.Known.{Known}
 use Rattle.sdf_run.proofs.Sweeping.{net_known, phase_in, ports_in, may_from, may_holds, holds_along}
 use Rattle.sdf_run.proofs.run.Run.may_fire.Goals as goal
-use Rattle.sdf_run.proofs.run.Run.may_fire.Goals.{After-phase, After-hold_blocks}
+use Rattle.sdf_run.proofs.run.Run.may_fire.Goals.{After-phase}
 
 told : (b : Bool) → (b ≡ false → ⊥) → IsTrue b
 told true f = refl

@@ -1,4 +1,4 @@
-use Rattle.std.proofs.Common.{◌≡◌, ◌<◌, length, get_or, sym, ap, ◌∙◌, subst}
+use Rattle.std.proofs.Common.{◌≡◌, ◌<◌, length, get_or, sym, ap, ◌∙◌, subst, arith}
 use Rattle.sdf_actor.specs.Nets.{wiring}
 use Rattle.sdf_answer.specs.Blocks.{ArePorts}
 use Rattle.sdf_answer.specs.Sizes.{at_phase}
@@ -22,9 +22,9 @@ on-sizes-requires g c =
     c.index.result.now in
     subst (λ j. j < length c.args.self.now.sizes.takes) (at g c) k
 
-pub blocks_held-requires-clause-ports : goal.blocks_held-requires-clause-ports
-blocks_held-requires-clause-ports g c =
-    let p = (goal.at.blocks_held-requires-clause-ports g c).After-phase in
+pub blocks_held-requires : goal.blocks_held-requires
+blocks_held-requires g c =
+    let p = (goal.at.blocks_held-requires g c).After-phase in
     let r = c.args.self.now in
     let sizes : at_phase r.sizes.takes (phase_at (get_or r.works.items c.args.a c.index.result.now)) ≡
     c.on-sizes.result.now = ap (at_phase r.sizes.takes) (at g p) ∙ sym c.on-sizes.ensures in
@@ -35,16 +35,18 @@ blocks_held-requires-clause-ports g c =
     (ap length (sym c.deref.ensures.value))
     (ports_in g.A.Actor.steps r c.requires.swept (known g p) c.args.a c.requires.may.0 c.index.result.now)))
 
-pub blocks_held-requires-clause-held : goal.blocks_held-requires-clause-held
-blocks_held-requires-clause-held g c =
-    let p = (goal.at.blocks_held-requires-clause-held g c).After-phase in
+pub returns-clause-some : goal.returns-clause-some
+returns-clause-some g c =
+    let p = (goal.at.returns-clause-some g c).After-phase in
     let s = g.A.Actor.steps in
     let r = c.args.self.now in
     let w = c.index.result.now in
     let sizes : at_phase r.sizes.takes (phase_at (get_or r.works.items c.args.a w)) ≡ c.on-sizes.result.now =
     ap (at_phase r.sizes.takes) (at g p) ∙ sym c.on-sizes.ensures in
-    holds_along ((wiring s r.net.now).ins c.args.a) c.channels_in.result.now
+    c.blocks_held.ensures.some
+    (holds_along ((wiring s r.net.now).ins c.args.a) c.channels_in.result.now
     (at_phase r.sizes.takes (phase_at (get_or r.works.items c.args.a w))) c.on-sizes.result.now r.queues.items
     c.deref.result.now
     (sym c.channels_in.ensures) sizes (sym c.deref.ensures.value)
-    (may_holds s r c.requires.swept (known g p) c.args.a c.requires.may.0 w c.requires.may)
+    (may_holds s r c.requires.swept (known g p) c.args.a c.requires.may.0 w c.requires.may))
+    (omega (arith, c.left-left.ensures, c.requires.may.1))
