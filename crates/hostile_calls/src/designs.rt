@@ -5,9 +5,9 @@ use crate::files::Sources;
 use anyhow::Result;
 use sdf_file::{Design, FileFault, check_text, design_files, read_design};
 use sdf_options::Options;
+use sdf_plan::planning::plan;
+use sdf_plan::{Fault, Plan};
 use sdf_prec::Table;
-use sdf_process::planning::plan;
-use sdf_process::{Fault, Plan};
 
 fn show_names(rt: &impl Print, answer: Result<Vec<String>, FileFault>) -> Result<()> {
     match answer {

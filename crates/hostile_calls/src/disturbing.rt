@@ -15,7 +15,7 @@ use sdf_answer::BlockTable;
 use sdf_file::Design;
 use sdf_kit::Kit;
 use sdf_options::{Options, Runner};
-use sdf_process::planning::plan;
+use sdf_plan::planning::plan;
 use sdf_run::{ActorId, Gate, Ran, RunFault, Workers, run_one, run_rings, run_rows};
 use std::rt::Files;
 use std::sync::atomic::{AtomicU64, Ordering};

@@ -4,7 +4,7 @@ ghost use Rattle.sdf_graph.specs.Rates.{rates};
 ghost use Rattle.sdf_actor.specs.Graphs.{graph_of};
 ghost use Rattle.sdf_kit.specs.Kit.{kit_steps};
 ghost use Rattle.sdf_answer.specs.Rows.{IsBlockTableOf};
-ghost use Rattle.sdf_process.specs.Plans.{Suits};
+ghost use Rattle.sdf_plan.specs.Plans.{Suits};
 
 use crate::TURNS;
 use anyhow::Result;
@@ -12,7 +12,7 @@ use sdf_actor::Net;
 use sdf_answer::BlockTable;
 use sdf_kit::Kit;
 use sdf_options::Runner;
-use sdf_process::Plan;
+use sdf_plan::Plan;
 use sdf_run::{Gate, NoGate, Ran, RunFault, Workers, run_one, run_rings, run_rows};
 use std::alloc::{AllocError, Global};
 use std::io;

@@ -12,7 +12,7 @@ use sdf_actor::Net;
 use sdf_answer::BlockTable;
 use sdf_kit::Kit;
 use sdf_options::Runner;
-use sdf_process::Plan;
+use sdf_plan::Plan;
 use sdf_run::{Mode, NoGate, RunFault, Session};
 use std::alloc::Global;
 use std::io;

@@ -1,12 +1,12 @@
 //! Calls that run a design on a sound.
 
-ghost use Rattle.sdf_process.specs.Plans.{Suits};
+ghost use Rattle.sdf_plan.specs.Plans.{Suits};
 
 use crate::TURNS;
 use anyhow::Result;
 use sdf_file::Design;
+use sdf_plan::{Fault, Plan};
 use sdf_process::process::process;
-use sdf_process::{Fault, Plan};
 use sdf_wav::{FromRead, ToWrite};
 use std::io;
 use std::thread::Threads;

@@ -2,7 +2,7 @@
 
 use crate::commands::{Stream, is_told, status_of};
 use crate::shelf::SOUND;
-use sdf_process::fault_text;
+use sdf_plan::fault_text;
 use sdf_program::files::{MOST_BYTES, load, read_all};
 use sdf_program::program::World;
 use sdf_program::storage::Disk;

@@ -8,7 +8,7 @@ use Rattle.sdf_options.specs.declared.options.Policy.{Policy}
 use Rattle.sdf_options.specs.declared.options.Policy.TheVariants.{Round, Lean, Runs}
 use Rattle.sdf_options.specs.declared.options.Placement.{Placement}
 use Rattle.sdf_options.specs.declared.options.Placement.TheVariants.{Hu, Homed, File, Spread}
-use Rattle.sdf_process.specs.Plans.{IsWorkers, AreSizes}
+use Rattle.sdf_plan.specs.Plans.{IsWorkers, AreSizes}
 use Rattle.sdf_analyze.specs.Ways.{way, crews, ways_placed, ways_by, ways}
 
 few_workers : (most : ℕ) → All IsWorkers (crews most)

@@ -6,7 +6,7 @@ use Rattle.sdf_prec.specs.declared.fault.PrecFault.{PrecFault}
 use Rattle.sdf_prec.specs.declared.fault.PrecFault.TheVariants as prec
 use Rattle.sdf_file.specs.Designs.{DesignValue}
 use Rattle.sdf_options.specs.declared.options.Options.{Options}
-use Rattle.sdf_process.specs.Plans.{IsUnplaced}
+use Rattle.sdf_plan.specs.Plans.{IsUnplaced}
 use Rattle.sdf_analyze.specs.declared.columns.Measures.{Measures}
 use Rattle.sdf_analyze.specs.declared.columns.Outcome.{Outcome}
 use Rattle.sdf_analyze.specs.declared.columns.Outcome.TheVariants.{Made, Refused}

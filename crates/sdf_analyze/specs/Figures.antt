@@ -7,7 +7,7 @@ use Rattle.sdf_prec.specs.Tables.{Tabled}
 use Rattle.sdf_times.specs.Times.{IsInTable, AreStarts, HasStart, start_in, IsMakespan, load_of, work_of, IsSpan}
 use Rattle.sdf_times.specs.Times.{IsBound}
 use Rattle.sdf_file.specs.Designs.{DesignValue}
-use Rattle.sdf_process.specs.Placements.{rates_of, firings_of}
+use Rattle.sdf_plan.specs.Placements.{rates_of, firings_of}
 
 -- of each actor when its firings in a table start, and when the last firing of all ends; of the table's block the work,
 -- the span and the bound; the load of each column; and the sum of the channels' capacities

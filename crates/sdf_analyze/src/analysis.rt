@@ -1,20 +1,20 @@
 //! What a schedule does with its time and its links, as a text.
 
 ghost use Rattle.std.specs.Prelude.{MatchResult, string_bytes};
-ghost use Rattle.sdf_process.specs.Schedules.{IsShowFault};
+ghost use Rattle.sdf_plan.specs.Schedules.{IsShowFault};
 ghost use Rattle.sdf_analyze.specs.Analyses.{IsFigured, IsAnalysis};
 
 use crate::figures::Figures;
 use crate::lines::analysis_text;
 use sdf_file::Design;
 use sdf_options::Options;
+use sdf_plan::Fault;
+use sdf_plan::schedule::scheduled;
 use sdf_prec::Table;
-use sdf_process::Fault;
-use sdf_process::schedule::scheduled;
 use std::alloc::Global;
 
 /// The periods of a block and the table that options give a design, and its figures. The tests are those of
-/// `sdf_process::schedule::scheduled`.
+/// `sdf_plan::schedule::scheduled`.
 #[tactic(auto, using(crate::proofs::Refusals::memory_shows))]
 pub fn figured(
     alloc: Global,

@@ -3,8 +3,8 @@
 ghost use Rattle.std.specs.Prelude.{◌≡◌, MatchResult, map, string_bytes};
 ghost use Rattle.std.specs.List.{All};
 ghost use Rattle.sdf_prec.specs.declared.fault.PrecFault.{PrecFault};
-ghost use Rattle.sdf_process.specs.declared.fault.Fault.TheVariants as faults;
-ghost use Rattle.sdf_process.specs.Plans.{AreSizes, IsScheduleFault};
+ghost use Rattle.sdf_plan.specs.declared.fault.Fault.TheVariants as faults;
+ghost use Rattle.sdf_plan.specs.Plans.{AreSizes, IsScheduleFault};
 ghost use Rattle.sdf_analyze.specs.declared.columns.Entry.{Entry};
 ghost use Rattle.sdf_analyze.specs.declared.columns.Outcome.TheVariants.{Refused};
 ghost use Rattle.sdf_analyze.specs.Comparisons.{measures_of, number_of, IsOutcome, AreCompared, IsComparison};
@@ -15,8 +15,8 @@ use crate::figures::Figures;
 use crate::ways::ways;
 use sdf_file::Design;
 use sdf_options::Options;
+use sdf_plan::Fault;
 use sdf_prec::{PrecFault, Table};
-use sdf_process::Fault;
 use std::alloc::Global;
 
 /// What is compared of a table of so many periods.

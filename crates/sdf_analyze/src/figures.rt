@@ -7,7 +7,7 @@ ghost use Rattle.sdf_prec.specs.Tables.{IsTable};
 ghost use Rattle.sdf_prec.specs.declared.fault.PrecFault.TheVariants.{OutOfMemory};
 ghost use Rattle.sdf_prec.specs.declared.firing.Firing.{Firing};
 ghost use Rattle.sdf_times.specs.Times.{HasStart, start_in};
-ghost use Rattle.sdf_process.specs.Placements.{rates_of, firings_of};
+ghost use Rattle.sdf_plan.specs.Placements.{rates_of, firings_of};
 ghost use Rattle.sdf_analyze.specs.Figures.{AreFiguresOf};
 ghost use Rattle.sdf_analyze.specs.Texts.{hundredths};
 

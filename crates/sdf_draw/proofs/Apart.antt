@@ -1,15 +1,14 @@
 -- Boxes in columns do not overlap.
-use Rattle.std.proofs.Common.{◌≡◌, ℕ, ◌+◌, ◌*◌, ◌≤◌, ◌<◌, ◌⊎◌, List, length, get_or, take, inl, inr, ap, arith, sym}
-use Rattle.std.proofs.Common.{◌∙◌}
+use Rattle.std.proofs.Common.{◌≡◌, ℕ, ◌+◌, ◌≤◌, ◌<◌, ◌⊎◌, List, length, get_or, take, inl, inr, ap, arith}
 use Rattle.std.proofs.Common.{subst, eq-eqb}
-use Rattle.std.specs.Prelude.{if◌then◌else◌, slice_index}
+use Rattle.std.specs.Prelude.{if◌then◌else◌}
 use Rattle.std.specs.List.{sum_by}
 use Rattle.std.proofs.lemmas.Bool.{cases_lt}
 use Rattle.std.proofs.lemmas.List.{take-take, get_or-take, length-take-le}
 use Rattle.std.proofs.lemmas.List.Sums.{sum_by_more_le}
 use Rattle.sdf_file.specs.Designs.{DesignValue}
 use Rattle.sdf_draw.specs.declared.layout.Place.{Place}
-use Rattle.sdf_draw.specs.Layouts.{place, no_place, room_in, stacked, IsPlaced, ArePlaces, IsClear, AreApart}
+use Rattle.sdf_draw.specs.Layouts.{place, no_place, room_in, stacked, ArePlaces, IsClear, AreApart}
 
 -- the room of a box in its own column
 room_here : (k : ℕ) (p : Place) → p.depth ≡ k → room_in k p ≡ p.height + 26

@@ -1,14 +1,14 @@
 -- The firings of a design's table can be drawn, and why there is none.
-use Rattle.std.proofs.Common.{◌≡◌, ℕ, ◌+◌, ◌<◌, ◌≤◌, ◌^◌, length, subst, sym, arith, refl}
+use Rattle.std.proofs.Common.{◌≡◌, ℕ, ◌<◌, ◌^◌, length, subst, sym, arith, refl}
 use Rattle.sdf_sched.specs.Period.{Schedule}
 use Rattle.sdf_prec.specs.declared.fault.PrecFault.{PrecFault}
 use Rattle.sdf_prec.specs.declared.fault.PrecFault.TheVariants.{OutOfMemory}
 use Rattle.sdf_prec.specs.Tables.{Tabled, IsTable}
 use Rattle.sdf_file.specs.Designs.{DesignValue, IsDesign}
 use Rattle.sdf_options.specs.declared.options.Options.{Options}
-use Rattle.sdf_process.specs.Faults.{of_prec}
-use Rattle.sdf_process.specs.Placements.{rates_of, firings_of}
-use Rattle.sdf_process.specs.Schedules.{IsShowFault}
+use Rattle.sdf_plan.specs.Faults.{of_prec}
+use Rattle.sdf_plan.specs.Placements.{rates_of, firings_of}
+use Rattle.sdf_plan.specs.Schedules.{IsShowFault}
 use Rattle.sdf_analyze.specs.Figures.{Figured, AreFiguresOf}
 use Rattle.sdf_draw.specs.Bars.{AreDrawable}
 use Rattle.sdf_draw.proofs.Known.{known_firing}

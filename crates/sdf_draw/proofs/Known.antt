@@ -1,11 +1,11 @@
 -- The firings in a valid table are those of the block.
-use Rattle.std.proofs.Common.{◌≡◌, ℕ, zero, suc, ◌+◌, ◌<◌, List, [], ◌∷◌, ◌++◌, length, get_or, sym, subst, arith, refl}
+use Rattle.std.proofs.Common.{◌≡◌, ℕ, zero, suc, ◌+◌, ◌<◌, List, [], ◌∷◌, length, get_or, subst, arith}
 use Rattle.std.proofs.Common.{◌∙◌, Option, Some, None}
 use Rattle.std.proofs.lemmas.List.{get_or_append_left, get_or-append-add, length-append}
 use Rattle.std.proofs.lemmas.Option.{none-some, same_Some}
 use Rattle.sdf_graph.specs.Rates.{Rates}
 use Rattle.sdf_prec.specs.declared.firing.Firing.{Firing}
-use Rattle.sdf_prec.specs.Tables.{firing, firings, no_firing, cell, order, IsOfBlock, IsValid, Stands}
+use Rattle.sdf_prec.specs.Tables.{firings, no_firing, cell, order, IsValid, Stands}
 use Rattle.sdf_times.specs.Times.{IsInTable}
 
 stands_in : (cells : List (Option Firing)) (j : ℕ) (f : Firing) → get_or cells j None ≡ Some f →

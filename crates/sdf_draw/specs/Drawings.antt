@@ -4,7 +4,7 @@ use Rattle.sdf_sched.specs.Period.{Schedule}
 use Rattle.sdf_prec.specs.Tables.{Tabled}
 use Rattle.sdf_file.specs.Designs.{DesignValue}
 use Rattle.sdf_options.specs.declared.options.Options.{Options}
-use Rattle.sdf_process.specs.Schedules.{IsScheduled}
+use Rattle.sdf_plan.specs.Schedules.{IsScheduled}
 use Rattle.sdf_analyze.specs.Figures.{Figured, AreFiguresOf}
 use Rattle.sdf_draw.specs.declared.layout.Place.{Place}
 use Rattle.sdf_draw.specs.declared.layout.Route.{Route}

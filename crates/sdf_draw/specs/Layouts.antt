@@ -6,7 +6,7 @@ use Rattle.std.specs.List.{sum_by}
 use Rattle.sdf_actor.specs.Nets.{wire, node, inputs_of, outputs_of}
 use Rattle.sdf_kit.specs.Kit.{kit_steps}
 use Rattle.sdf_file.specs.Designs.{DesignValue}
-use Rattle.sdf_process.specs.Placements.{rates_of}
+use Rattle.sdf_plan.specs.Placements.{rates_of}
 use Rattle.sdf_draw.specs.declared.layout.TheConstants.{WIDTH, PITCH, GAP, PORT, MARGIN, LANE, HEAD}
 use Rattle.sdf_draw.specs.declared.layout.Place.{Place}
 use Rattle.sdf_draw.specs.declared.layout.Route.{Route}

@@ -3,7 +3,7 @@
 ghost use Rattle.std.specs.Prelude.{◌≡◌, ℕ, ◌+◌, ◌*◌, ◌<◌, ◌≤◌, ◌^◌, length, slice_index, max, IfOk};
 ghost use Rattle.sdf_limits.specs.declared.TheConstants.{MOST_ACTORS, MOST_LINKS, MOST_PERIOD, MOST_PORTS};
 ghost use Rattle.sdf_actor.specs.Nets.{wire};
-ghost use Rattle.sdf_process.specs.Placements.{rates_of};
+ghost use Rattle.sdf_plan.specs.Placements.{rates_of};
 ghost use Rattle.sdf_draw.specs.Layouts.{left_of, right_of, bottom_of, middle_of, stacked, place, lowest, rightmost};
 ghost use Rattle.sdf_draw.specs.Layouts.{lane_above, lane_below, ArePlaces, IsRoute, IsWithin, AreRoutes, IsLayout};
 

@@ -1,6 +1,6 @@
 //! A design as boxes and arrows, and the table of its schedule against time, as one SVG; its graph for Graphviz.
 //!
-//! It stands on `sdf_process`, which schedules a design by options, and on `sdf_analyze`, whose figures have the starts
+//! It stands on `sdf_plan`, which schedules a design by options, and on `sdf_analyze`, whose figures have the starts
 //! of the bars; on `sdf_options` for the options, on `sdf_file` for the names of actors, on `sdf_limits` for limits,
 //! and on what these are of: `sdf_times`, `sdf_kit`, `sdf_actor`, `sdf_prec`, `sdf_sched`, `sdf_graph`. Begin at
 //! `page`, then `layout` and `bars`, whose lengths are whole pixels and whole units of time; then `graphviz`. What is

@@ -2,7 +2,7 @@
 
 ghost use Rattle.std.specs.Prelude.{◌≡◌, ◌<◌, ◌≤◌, ◌++◌, IfOk, MatchResult, OnOk, length, string_bytes, codes};
 ghost use Rattle.sdf_limits.specs.declared.TheConstants.{MOST_WORKERS};
-ghost use Rattle.sdf_process.specs.Schedules.{IsShowFault};
+ghost use Rattle.sdf_plan.specs.Schedules.{IsShowFault};
 ghost use Rattle.sdf_draw.specs.Bars.{AreDrawable};
 ghost use Rattle.sdf_draw.specs.Drawings.{drawn_of, IsDrawing};
 ghost use Rattle.sdf_draw.specs.Pictures.{size_text, view_text, page_text, legend_text, head_text, chart_top};
@@ -16,9 +16,9 @@ use crate::texts::push_number;
 use sdf_analyze::Figures;
 use sdf_file::Design;
 use sdf_options::Options;
+use sdf_plan::Fault;
+use sdf_plan::schedule::scheduled;
 use sdf_prec::Table;
-use sdf_process::Fault;
-use sdf_process::schedule::scheduled;
 use sdf_sched::Period;
 use std::alloc::{AllocError, Global};
 
@@ -197,7 +197,7 @@ fn drawn(alloc: Global, design: &Design, options: &Options) -> Result<Drawing, F
 }
 
 /// What the command `draw` prints: one SVG of a design, its actors as boxes and its links as arrows, and below them the
-/// firings of its schedule against time. The tests are those of `sdf_process::schedule::scheduled`.
+/// firings of its schedule against time. The tests are those of `sdf_plan::schedule::scheduled`.
 pub fn svg(alloc: Global, design: &Design, options: &Options) -> Result<String, Fault>
     ensures { MatchResult result (λ s. IsPicture design.now options.now (string_bytes s))
         (IsShowFault design.now options.now) }

@@ -3,7 +3,7 @@
 ghost use Rattle.std.specs.Prelude.{◌≡◌, ◌<◌, ◌≤◌, ◌∷◌, ◌++◌, [], IfOk, OnOk, MatchResult, length, map, take, codes};
 ghost use Rattle.std.specs.Prelude.{string_bytes};
 ghost use Rattle.serde_json.specs.View.{view, members_view};
-ghost use Rattle.sdf_process.specs.Schedules.{IsShowFault};
+ghost use Rattle.sdf_plan.specs.Schedules.{IsShowFault};
 ghost use Rattle.sdf_json.specs.Values.{natural, with};
 ghost use Rattle.sdf_json.specs.Analyses.{times_of, analysis_value, IsAnalysisJson};
 
@@ -13,8 +13,8 @@ use crate::values::{Members, line_of, put_number};
 use sdf_analyze::{Figures, figured};
 use sdf_file::Design;
 use sdf_options::Options;
+use sdf_plan::Fault;
 use sdf_prec::Table;
-use sdf_process::Fault;
 use serde_json::{Value, put};
 use std::alloc::{AllocError, Global};
 

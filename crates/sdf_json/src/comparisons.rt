@@ -2,7 +2,7 @@
 
 ghost use Rattle.std.specs.Prelude.{◌≡◌, ◌++◌, IfOk, OnOk, MatchResult, map, take, string_bytes};
 ghost use Rattle.serde_json.specs.View.{view, members_view};
-ghost use Rattle.sdf_process.specs.Plans.{AreSizes, IsScheduleFault};
+ghost use Rattle.sdf_plan.specs.Plans.{AreSizes, IsScheduleFault};
 ghost use Rattle.sdf_json.specs.Values.{with};
 ghost use Rattle.sdf_json.specs.Comparisons.{measures_of, outcome_of, entry_value, comparison_value};
 ghost use Rattle.sdf_json.specs.Comparisons.{IsComparisonJson};
@@ -12,7 +12,7 @@ use crate::values::{Members, line_of, put_number};
 use sdf_analyze::{Entry, Measures, Outcome, compared};
 use sdf_file::Design;
 use sdf_options::Options;
-use sdf_process::Fault;
+use sdf_plan::Fault;
 use serde_json::Value;
 use std::alloc::{AllocError, Global};
 

@@ -1,6 +1,6 @@
 //! What the commands print as JSON: a design, its schedule, its analysis, schedules beside one another, and a fault.
 //!
-//! It stands on `sdf_process`, which schedules a design by options and has the faults, on `sdf_analyze` for what
+//! It stands on `sdf_plan`, which schedules a design by options and has the faults, on `sdf_analyze` for what
 //! schedules do, on `sdf_file` and `sdf_document` for the design and its faults, and on `sdf_options`, `sdf_wav`,
 //! `sdf_kit`, `sdf_actor`, `sdf_prec`, `sdf_sched` and `sdf_graph` for what these are of. Begin at `designs`, then
 //! `schedules`, `analyses`, `comparisons` and `faults`. The values are in `specs/Designs.antt`, `specs/Schedules.antt`,

@@ -3,7 +3,7 @@
 ghost use Rattle.std.specs.Prelude.{◌≡◌, IfOk, MatchResult, length, string_bytes};
 ghost use Rattle.serde_json.specs.Data.{no_members};
 ghost use Rattle.serde_json.specs.View.{view, members_view};
-ghost use Rattle.sdf_process.specs.Schedules.{IsShowFault};
+ghost use Rattle.sdf_plan.specs.Schedules.{IsShowFault};
 ghost use Rattle.sdf_json.specs.Values.{with};
 ghost use Rattle.sdf_json.specs.Schedules.{asked, schedule_value, IsScheduleJson};
 
@@ -12,9 +12,9 @@ use crate::values::{Members, line_of, put_number, put_text};
 use sdf_analyze::{placement_word, policy_word};
 use sdf_file::Design;
 use sdf_options::Options;
+use sdf_plan::Fault;
+use sdf_plan::schedule::scheduled;
 use sdf_prec::Table;
-use sdf_process::Fault;
-use sdf_process::schedule::scheduled;
 use sdf_sched::Period;
 use serde_json::{Map, Value, put};
 use std::alloc::{AllocError, Global};
@@ -62,7 +62,7 @@ fn schedule_value(
 }
 
 /// What a schedule is, as a line of JSON: the options, the period with its actors and its order, and the table with its
-/// rows and links. The tests are those of `sdf_process::schedule::scheduled`.
+/// rows and links. The tests are those of `sdf_plan::schedule::scheduled`.
 pub fn schedule_json(alloc: Global, design: &Design, options: &Options) -> Result<String, Fault>
     ensures { MatchResult result (λ text. IsScheduleJson design.now options.now (string_bytes text))
         (IsShowFault design.now options.now) }

@@ -29,11 +29,11 @@ use Rattle.sdf_wav.specs.Sound.{Sound}
 use Rattle.sdf_options.specs.declared.options.Runner.{Runner}
 use Rattle.sdf_options.specs.declared.options.Runner.TheVariants as runners
 use Rattle.sdf_process.specs.declared.exchange.Exchange.{Exchange}
-use Rattle.sdf_process.specs.declared.fault.Fault.{Fault}
-use Rattle.sdf_process.specs.declared.fault.Fault.TheVariants.{OutOfMemory}
-use Rattle.sdf_process.specs.Faults.{of_run}
+use Rattle.sdf_plan.specs.declared.fault.Fault.{Fault}
+use Rattle.sdf_plan.specs.declared.fault.Fault.TheVariants.{OutOfMemory}
+use Rattle.sdf_plan.specs.Faults.{of_run}
 use Rattle.sdf_process.specs.Output.{channel_samples, exchange_of, interleaved, lists_from, lists_to}
-use Rattle.sdf_process.specs.Plans.{HasPatience, SuitsRunner}
+use Rattle.sdf_plan.specs.Plans.{HasPatience, SuitsRunner}
 use Rattle.sdf_process.specs.Stages.{PutsFrames, SamplesJoin}
 use Rattle.sdf_process.specs.declared.streaming.Stream.{Stream}
 use Rattle.sdf_process.specs.Streams.{mode_of, IsReady, PutsBlocks, StandsAt, StandsWhole}

@@ -31,11 +31,11 @@ use Rattle.sdf_wav.specs.declared.wav.TheConstants.{MOST_CHANNELS}
 use Rattle.sdf_process.specs.declared.exchange.Announced.{Announced}
 use Rattle.sdf_process.specs.declared.exchange.Exchange.{Exchange}
 use Rattle.sdf_process.specs.declared.exchange.Extent.{Extent}
-use Rattle.sdf_process.specs.declared.fault.Fault.{Fault}
-use Rattle.sdf_process.specs.declared.fault.Fault.TheVariants.{ChannelsMissing, OutOfMemory}
+use Rattle.sdf_plan.specs.declared.fault.Fault.{Fault}
+use Rattle.sdf_plan.specs.declared.fault.Fault.TheVariants.{ChannelsMissing, OutOfMemory}
 use Rattle.sdf_process.specs.Output.{announced_fault, exchange_of, interleaved, lists_to, periods_for, IsExchange}
 use Rattle.sdf_process.specs.Output.{IsExtent}
-use Rattle.sdf_process.specs.Plans.{PlanValue, Suits}
+use Rattle.sdf_plan.specs.Plans.{PlanValue, Suits}
 use Rattle.sdf_process.specs.Streams.{AreBehind, IsReady, IsStream, ReadsBy, StandsAt, StandsWhole, Streams}
 use Rattle.sdf_process.proofs.Fed.{run_at}
 use Rattle.sdf_process.proofs.Opened.{frames_known}

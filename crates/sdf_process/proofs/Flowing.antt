@@ -17,7 +17,7 @@ use Rattle.sdf_wav.specs.PiecesIn.{Reading, IsReadTo, sound_read}
 use Rattle.sdf_wav.specs.PiecesOut.{Owed}
 use Rattle.sdf_wav.specs.Sound.{Sound, frames_of}
 use Rattle.sdf_process.specs.declared.exchange.Exchange.{Exchange}
-use Rattle.sdf_process.specs.declared.fault.Fault.{Fault}
+use Rattle.sdf_plan.specs.declared.fault.Fault.{Fault}
 use Rattle.sdf_process.specs.Output.{exchange_of, periods_for, periods_of}
 use Rattle.sdf_process.specs.Stages.{ReadsContent}
 use Rattle.sdf_process.specs.Streams.{AreBehind, IsStream, PutsBlocks, PutsWhole, ReadsMore, StandsAt, StandsWhole}
@@ -168,12 +168,14 @@ module _ {n : Netlist Kit ℤ} {p : Schedule} {j : ℕ} {c : Reading} {frames al
       -- what was put of them where the periods of a block have another name
       pub puts_held : (last : Option (List ℕ)) (w2 : ℕ) (o' : Owed) (v' : SessionValue Kit (List ℤ) ℤ)
           (made : Result (List ℤ) Fault) (b : ℕ) → b ≡ j →
-          (StandsWhole n p b (sound_read c all_read) here.few here.bytes v → AreBehind x c all_read (here.few * b) held →
+          (StandsWhole n p b (sound_read c all_read) here.few here.bytes v →
+          AreBehind x c all_read (here.few * b) held →
           PutsWhole n p b c all_read here.few here.bytes after last w1 w2 o o' v' made) →
           PutsWhole n p j c all_read here.few here.bytes after last w1 w2 o o' v' made
       puts_held last w2 o' v' made b is puts =
           subst (λ (k : ℕ). PutsWhole n p k c all_read here.few here.bytes after last w1 w2 o o' v' made) is
-          (puts (subst (λ (k : ℕ). StandsWhole n p k (sound_read c all_read) here.few here.bytes v) (sym is) stands_held)
+          (puts (subst (λ (k : ℕ). StandsWhole n p k (sound_read c all_read) here.few here.bytes v)
+          (sym is) stands_held)
           (subst (λ (k : ℕ). AreBehind x c all_read (here.few * k) held) (sym is) behind_held))
 
       held_long : length held ≡ length all_read - here.few * j * x.taken * c.channels

@@ -11,12 +11,8 @@ pub mod Finished
 pub mod Pieces
 pub mod Sounds
 pub mod Rendering
-pub mod Deadlocks
 pub mod Outputs
-pub mod Suiting
-pub mod Weighing
-pub mod Placing
-pub mod Tabling
+pub mod Fitting
 pub mod Played
 pub mod Pieced
 pub mod Parts

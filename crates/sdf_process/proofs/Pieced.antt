@@ -22,7 +22,7 @@ use Rattle.sdf_wav.specs.Device.{AppendsFront, one_more}
 use Rattle.sdf_wav.specs.PiecesOut.{Owed}
 use Rattle.sdf_wav.specs.Sound.{Sound}
 use Rattle.sdf_process.specs.declared.exchange.Exchange.{Exchange}
-use Rattle.sdf_process.specs.declared.fault.Fault.{Fault}
+use Rattle.sdf_plan.specs.declared.fault.Fault.{Fault}
 use Rattle.sdf_process.specs.Output.{exchange_of, interleaved, lists_from, lists_to, periods_of}
 use Rattle.sdf_process.specs.Run.{AreFrames}
 use Rattle.sdf_process.specs.Stages.{PlaysTo, PutsFrames, PutsOutput, PutsPiece, SamplesJoin}

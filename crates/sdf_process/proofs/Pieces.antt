@@ -15,9 +15,9 @@ use Rattle.sdf_wav.specs.Device.{failures_after, one_more}
 use Rattle.sdf_wav.specs.PiecesOut.{Owed, Puts}
 use Rattle.sdf_wav.specs.declared.fault.WavFault.{WavFault}
 use Rattle.sdf_wav.specs.declared.fault.WavFault.TheVariants as wav
-use Rattle.sdf_process.specs.declared.fault.Fault.{Fault}
-use Rattle.sdf_process.specs.Faults.{of_wav}
-use Rattle.sdf_process.specs.declared.fault.Fault.TheVariants.{OutOfMemory}
+use Rattle.sdf_plan.specs.declared.fault.Fault.{Fault}
+use Rattle.sdf_plan.specs.Faults.{of_wav}
+use Rattle.sdf_plan.specs.declared.fault.Fault.TheVariants.{OutOfMemory}
 use Rattle.sdf_process.specs.Output.{exchange_of, frame, interleaved, interleaved_from, output_frames, periods_of}
 use Rattle.sdf_process.specs.Run.{BeginWithOutput}
 use Rattle.sdf_process.specs.Stages.{PutsFrames, PutsOutput, SamplesJoin}

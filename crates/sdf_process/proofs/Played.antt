@@ -17,9 +17,9 @@ use Rattle.sdf_actor.specs.Sides.{period_samples}
 use Rattle.sdf_actor.specs.Steps.{Steps}
 use Rattle.sdf_answer.specs.Answer.{AreOutputs, HasInputs, IsRunFault, periods_of as firings}
 use Rattle.sdf_answer.specs.declared.fault.RunFault.{RunFault}
-use Rattle.sdf_process.specs.declared.fault.Fault.{Fault}
-use Rattle.sdf_process.specs.declared.fault.Fault.TheVariants.{OutOfMemory}
-use Rattle.sdf_process.specs.Faults.{of_run}
+use Rattle.sdf_plan.specs.declared.fault.Fault.{Fault}
+use Rattle.sdf_plan.specs.declared.fault.Fault.TheVariants.{OutOfMemory}
+use Rattle.sdf_plan.specs.Faults.{of_run}
 use Rattle.sdf_answer.specs.Feeds.{AreFull}
 use Rattle.sdf_answer.specs.Laws.{NetsCanRun}
 use Rattle.sdf_answer.specs.Periods.{HasPeriod}

@@ -20,9 +20,9 @@ use Rattle.sdf_answer.specs.declared.fault.RunFault.TheVariants as run
 use Rattle.sdf_sched.specs.Period.{Schedule}
 use Rattle.sdf_wav.specs.Sound.{Sound}
 use Rattle.sdf_process.specs.declared.exchange.Exchange.{Exchange}
-use Rattle.sdf_process.specs.declared.fault.Fault.{Fault}
-use Rattle.sdf_process.specs.declared.fault.Fault.TheVariants as fault
-use Rattle.sdf_process.specs.Faults.{of_run}
+use Rattle.sdf_plan.specs.declared.fault.Fault.{Fault}
+use Rattle.sdf_plan.specs.declared.fault.Fault.TheVariants as fault
+use Rattle.sdf_plan.specs.Faults.{of_run}
 use Rattle.sdf_process.specs.Output.{exchange_of, periods_of, sample, channel_samples, lists_to, input_lists, frame}
 use Rattle.sdf_process.specs.Output.{interleaved}
 use Rattle.sdf_process.specs.Run.{BeginWithOutput}

@@ -11,8 +11,8 @@ use Rattle.sdf_wav.specs.PiecesIn.{Reading, sound_read}
 use Rattle.sdf_wav.specs.PiecesOut.{Owed}
 use Rattle.sdf_wav.specs.Sound.{Sound}
 use Rattle.sdf_process.specs.declared.exchange.Exchange.{Exchange}
-use Rattle.sdf_process.specs.declared.fault.Fault.{Fault}
-use Rattle.sdf_process.specs.declared.fault.Fault.TheVariants.{OutOfMemory}
+use Rattle.sdf_plan.specs.declared.fault.Fault.{Fault}
+use Rattle.sdf_plan.specs.declared.fault.Fault.TheVariants.{OutOfMemory}
 use Rattle.sdf_process.specs.Output.{exchange_of}
 use Rattle.sdf_process.specs.Streams.{AreBehind, PutsBlocks, PutsWhole, StandsAt, StandsWhole}
 use Rattle.sdf_process.proofs.Parts.{lists_stay}

@@ -1,14 +1,6 @@
-pub mod Faults
 pub mod Output
 pub mod Run
 pub mod Stages
 pub mod Streams
-pub mod Placements
-pub mod Paces
-pub mod Plans
-pub mod Followed
-pub mod Schedules
-pub mod Statuses
 pub mod Tasks
 pub mod Laws
-pub mod Weights

@@ -11,8 +11,8 @@ use Rattle.sdf_wav.specs.declared.wav.TheConstants.{MOST_CHANNELS}
 use Rattle.sdf_process.specs.declared.playing.Player.{Player}
 use Rattle.sdf_process.specs.declared.task.SharedTask.{SharedTask}
 use Rattle.sdf_process.specs.declared.task.Task.{Task}
-use Rattle.sdf_process.specs.Followed.{HasBlockTable}
-use Rattle.sdf_process.specs.Plans.{Suits}
+use Rattle.sdf_plan.specs.Followed.{HasBlockTable}
+use Rattle.sdf_plan.specs.Plans.{Suits}
 
 -- the plan is one of the net's, and a WAV file can have the channels of the net
 pub record IsTask (t : Task) : Type 0 where

@@ -11,10 +11,10 @@ ghost use Rattle.sdf_kit.specs.Kit.{kit_steps};
 ghost use Rattle.sdf_process.specs.Output.{exchange_of, announced_by, announced_fault, periods_for, rate_for};
 ghost use Rattle.sdf_process.specs.Output.{lists_from, lists_to, IsExchange, IsExtent};
 
-use crate::fault::Fault;
 use crate::samples::channel_lists;
 use sdf_actor::Net;
 use sdf_kit::Kit;
+use sdf_plan::Fault;
 use sdf_wav::{FormatFault, MOST_CHANNELS, Wav};
 use std::alloc::{AllocError, Global};
 

@@ -6,7 +6,7 @@ ghost use Rattle.sdf_process.specs.Output.{IsExchange};
 ghost use Rattle.sdf_process.specs.Stages.{PutsHeader, ReadsContent, WavLaws};
 
 use crate::exchange::{Exchange, Extent};
-use crate::fault::Fault;
+use sdf_plan::Fault;
 use sdf_wav::laws::{files_are_canonical, one_outcome, pieces_join, puts_join};
 use sdf_wav::{ContentIn, ContentOut, Reader, Wav, Writer};
 use std::alloc::Global;

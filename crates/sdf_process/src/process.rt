@@ -1,14 +1,13 @@
 //! From a WAV file to a WAV file.
 
-ghost use Rattle.sdf_process.specs.Plans.{Suits};
+ghost use Rattle.sdf_plan.specs.Plans.{Suits};
 ghost use Rattle.sdf_process.specs.Run.{IsRun};
 
-use crate::fault::Fault;
 use crate::napping::Napping;
-use crate::plan::Plan;
 use crate::running::run_net;
 use crate::task::Task;
 use sdf_file::Design;
+use sdf_plan::{Fault, Plan};
 use sdf_run::{Gate, NoGate};
 use sdf_wav::{Reader, Writer};
 use std::thread::Threads;

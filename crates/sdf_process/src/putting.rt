@@ -6,8 +6,8 @@ ghost use Rattle.sdf_wav.specs.Canonical.{sample_bytes};
 ghost use Rattle.sdf_process.specs.Output.{interleaved};
 ghost use Rattle.sdf_process.specs.Stages.{PutsFrames};
 
-use crate::fault::Fault;
 use crate::samples::fill_frames;
+use sdf_plan::Fault;
 use sdf_wav::laws::puts_join;
 use sdf_wav::{ContentOut, Writer};
 use std::alloc::Global;

@@ -7,12 +7,12 @@ ghost use Rattle.sdf_process.specs.Stages.{RunsOn};
 ghost use Rattle.sdf_process.specs.Tasks.{IsUnheard, IsTask};
 
 use crate::exchange::{Announced, Exchange};
-use crate::fault::Fault;
 use crate::finishing::{Heard, finish};
 use crate::hearing::{begin, read_content, wav_laws};
 use crate::playing::{Player, put_pieces};
 use crate::streaming::{Hearing, run_stream};
 use crate::task::{SharedTask, Task};
+use sdf_plan::Fault;
 use sdf_run::Gate;
 use sdf_wav::{ContentIn, Reader, Writer};
 use std::thread::Threads;

@@ -1,9 +1,9 @@
 //! What is run.
 
-use crate::plan::Plan;
 use sdf_actor::Net;
 use sdf_answer::BlockTable;
 use sdf_kit::Kit;
+use sdf_plan::Plan;
 
 /// A net, and the plan by which it is run.
 #[derive(Clone, Copy)]

@@ -1,8 +1,8 @@
 -- What a run says of a profile.
 use Rattle.std.proofs.Common.{ℕ, List, Option, Some, Result, Ok, Err, MatchResult, refl}
 use Rattle.sdf_file.specs.Designs.{DesignValue}
-use Rattle.sdf_process.specs.declared.fault.Fault.{Fault}
-use Rattle.sdf_process.specs.Plans.{PlanValue, Suits}
+use Rattle.sdf_plan.specs.declared.fault.Fault.{Fault}
+use Rattle.sdf_plan.specs.Plans.{PlanValue, Suits}
 use Rattle.sdf_process.specs.Run.{IsRun, IsProcessFault}
 use Rattle.sdf_profile.specs.Profiles.{HasRunOn}
 

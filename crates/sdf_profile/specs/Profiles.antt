@@ -3,8 +3,8 @@ use Rattle.std.specs.Prelude.{ℕ, List, ◌⊎◌}
 use Rattle.sdf_options.specs.declared.options.Options.{Options}
 use Rattle.sdf_file.specs.Designs.{DesignValue}
 use Rattle.sdf_wav.specs.Sound.{Sound}
-use Rattle.sdf_process.specs.declared.fault.Fault.{Fault}
-use Rattle.sdf_process.specs.Plans.{PlanValue, Suits, ArePassed, IsPlanFault}
+use Rattle.sdf_plan.specs.declared.fault.Fault.{Fault}
+use Rattle.sdf_plan.specs.Plans.{PlanValue, Suits, ArePassed, IsPlanFault}
 use Rattle.sdf_process.specs.Run.{HasOutput, IsProcessFault}
 
 -- the design was run on the whole input, a WAV file, and made an output of it; there is only one, which is what `run`

@@ -1,7 +1,7 @@
 //! A run whose firings are timed.
 
 ghost use Rattle.std.specs.Prelude.{MatchResult};
-ghost use Rattle.sdf_process.specs.Plans.{Suits, ArePassed};
+ghost use Rattle.sdf_plan.specs.Plans.{Suits, ArePassed};
 ghost use Rattle.sdf_process.specs.Run.{IsProcessFault};
 ghost use Rattle.sdf_profile.specs.Profiles.{HasRunOn, IsProfileFault};
 
@@ -11,9 +11,9 @@ use crate::stopwatch::Stopwatch;
 use sdf_file::Design;
 use sdf_limits::{MOST_BLOCK, MOST_BLOCKING, MOST_PATIENCE};
 use sdf_options::{Options, Placement, Policy, Runner};
-use sdf_process::planning::plan;
+use sdf_plan::planning::plan;
+use sdf_plan::{Fault, Plan};
 use sdf_process::process::process_with;
-use sdf_process::{Fault, Plan};
 use sdf_run::Gate;
 use sdf_wav::{FromRead, ToWrite};
 use std::alloc::{AllocError, Global};

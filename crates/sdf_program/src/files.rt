@@ -2,11 +2,11 @@
 
 ghost use Rattle.std.specs.Prelude.{◌≡◌, ◌≢◌};
 ghost use Rattle.std.specs.IoError.{error_kind};
-ghost use Rattle.sdf_process.specs.declared.fault.Fault.TheVariants.{OutOfMemory};
+ghost use Rattle.sdf_plan.specs.declared.fault.Fault.TheVariants.{OutOfMemory};
 
 use crate::storage::Storage;
 use sdf_file::{Design, design_files, read_design};
-use sdf_process::Fault;
+use sdf_plan::Fault;
 use sdf_why::Header;
 use std::alloc::{AllocError, Global};
 use std::io::{self, ErrorKind, Read, Write};

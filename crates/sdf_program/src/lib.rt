@@ -1,12 +1,13 @@
 //! What the program `sdfw` does: its commands over a file system, streams and threads that the caller names.
 //!
-//! It stands on `sdf_words`, which reads the command line into the options of `sdf_options`, on `sdf_process`, which
-//! plans and runs a design, on `sdf_analyze`, `sdf_draw`, `sdf_json` and `sdf_profile`, which say what a schedule does
-//! and a run takes, on `sdf_filters`, which makes filters and converters, on `sdf_why`, which tells more of a fault
-//! (also of one of `sdf_prec`), on `sdf_file`, which reads a design, and on `sdf_document`, which lists the kinds; here
-//! are the files and what is printed. What the project is for is the contract of `sdf_process::process`; what reads and
-//! writes a WAV file's bytes is a device of `sdf_wav`. Begin at `program::serve`, then `printing`, `making`, `running`
-//! and `profiling`, which have the commands, `telling`, `files`, `overwriting` and `storage`.
+//! It stands on `sdf_words`, which reads the command line into the options of `sdf_options`, on `sdf_plan`, which
+//! plans a design, on `sdf_process`, which runs it, on `sdf_analyze`, `sdf_draw`, `sdf_json` and `sdf_profile`, which
+//! say what a schedule does and a run takes, on `sdf_filters`, which makes filters and converters, on `sdf_why`, which
+//! tells more of a fault (also of one of `sdf_prec`), on `sdf_file`, which reads a design, and on `sdf_document`, which
+//! lists the kinds; here are the files and what is printed. What the project is for is the contract of
+//! `sdf_process::process`; what reads and writes a WAV file's bytes is a device of `sdf_wav`. Begin at
+//! `program::serve`, then `printing`, `making`, `running` and `profiling`, which have the commands, `telling`, `files`,
+//! `overwriting` and `storage`.
 #![tactic(auto)]
 
 pub mod files;

@@ -7,7 +7,7 @@ use crate::program::World;
 use crate::storage::Storage;
 use sdf_file::{Design, read_design};
 use sdf_filters::{ConverterTexts, FilterFault, Wanted, converter_texts, filter_texts};
-use sdf_process::Fault;
+use sdf_plan::Fault;
 use sdf_words::{Conversion, mistake};
 use std::alloc::Global;
 use std::io::Write;

@@ -4,7 +4,7 @@
 use crate::program::STANDARD;
 use crate::storage::Storage;
 use sdf_options::printable::printable;
-use sdf_process::Fault;
+use sdf_plan::Fault;
 use sdf_words::mistake;
 use std::alloc::{AllocError, Global};
 use std::io::ErrorKind;

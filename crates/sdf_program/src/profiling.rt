@@ -5,7 +5,7 @@ use crate::overwriting::{Paths, keep_what_is_read};
 use crate::printing::show;
 use crate::program::{STANDARD, World};
 use crate::storage::Storage;
-use sdf_process::Fault;
+use sdf_plan::Fault;
 use sdf_profile::{Measured, Unwritten, costed_text, profile};
 use sdf_words::mistake;
 use std::alloc::{AllocError, Global};

@@ -1,8 +1,8 @@
 //! The whole program, over what it works on.
 
 ghost use Rattle.std.specs.Prelude.{◌≡◌, ◌⊎◌};
-ghost use Rattle.sdf_process.specs.Statuses.{status_of};
-ghost use Rattle.sdf_process.specs.declared.fault.Fault.TheVariants.{OutOfMemory};
+ghost use Rattle.sdf_plan.specs.Statuses.{status_of};
+ghost use Rattle.sdf_plan.specs.declared.fault.Fault.TheVariants.{OutOfMemory};
 ghost use Rattle.sdf_words.specs.Limits.{IsWithinLimits};
 
 use crate::files::Sources;
@@ -17,7 +17,7 @@ use crate::storage::Storage;
 use crate::telling::Background;
 use sdf_json::fault_json;
 use sdf_options::WordFault;
-use sdf_process::{Fault, fault_text, status};
+use sdf_plan::{Fault, fault_text, status};
 use sdf_words::{Words, words};
 use std::alloc::{AllocError, Global};
 use std::io::{Read, Write};

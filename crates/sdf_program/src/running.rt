@@ -2,7 +2,7 @@
 
 ghost use Rattle.std.specs.Prelude.{◌≤◌, IfOk};
 ghost use Rattle.sdf_limits.specs.declared.TheConstants.{MOST_WORKERS};
-ghost use Rattle.sdf_process.specs.Plans.{Suits};
+ghost use Rattle.sdf_plan.specs.Plans.{Suits};
 ghost use Rattle.sdf_words.specs.Limits.{IsCrew};
 
 use crate::files::{Loaded, Refused, Sources, load_into, refuse};
@@ -12,10 +12,10 @@ use crate::storage::Storage;
 use sdf_file::Design;
 use sdf_limits::MOST_WORKERS;
 use sdf_options::Options;
-use sdf_process::parallel::{Pace, Paced, parallel_plan};
-use sdf_process::planning::plan;
+use sdf_plan::parallel::{Pace, Paced, parallel_plan};
+use sdf_plan::planning::plan;
+use sdf_plan::{Fault, Plan};
 use sdf_process::process::process;
-use sdf_process::{Fault, Plan};
 use sdf_wav::{ContentIn, FromRead, ToWrite};
 use sdf_why::Header;
 use sdf_words::Crew;

@@ -4,8 +4,8 @@ use crate::files::Sources;
 use sdf_document::DocumentFault;
 use sdf_file::FileFault;
 use sdf_options::Options;
+use sdf_plan::{Fault, Stalled};
 use sdf_prec::PrecFault;
-use sdf_process::{Fault, Stalled};
 use sdf_why::{
     Halt, channels_text, device_text, file_text, home_text, rate_text, stall_text, toml_text,
 };

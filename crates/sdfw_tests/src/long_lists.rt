@@ -3,8 +3,8 @@
 use crate::running::{fault_told, file_of};
 use sdf_file::read_design;
 use sdf_options::Options;
-use sdf_process::Fault;
-use sdf_process::planning::plan;
+use sdf_plan::Fault;
+use sdf_plan::planning::plan;
 use sdf_process::process::process;
 use sdf_wav::{FromRead, ToWrite, Wav, read_wav};
 use std::alloc::{AllocError, Global};

@@ -6,7 +6,7 @@ use crate::designs::{
 };
 use crate::running::{Samples, end_of, file_of, row_makes, run_file, sound};
 use sdf_options::{Options, Placement, Runner};
-use sdf_process::Fault;
+use sdf_plan::Fault;
 use sdf_wav::{FromRead, Wav, read_wav};
 use std::test::Fail;
 use std::thread::Threads;

@@ -1,13 +1,13 @@
 //! Plans: what runs a design in parallel, and what a run of a plan wants.
 
-ghost use Rattle.sdf_process.specs.Plans.{Suits};
+ghost use Rattle.sdf_plan.specs.Plans.{Suits};
 
 use crate::designs::CHAIN;
 use sdf_file::{Design, read_design};
 use sdf_options::Options;
-use sdf_process::Plan;
-use sdf_process::parallel::{LEAST_SHARE, Paced, parallel_plan};
-use sdf_process::planning::plan;
+use sdf_plan::Plan;
+use sdf_plan::parallel::{LEAST_SHARE, Paced, parallel_plan};
+use sdf_plan::planning::plan;
 use sdf_run::run_one;
 use std::alloc::Global;
 use std::test::Fail;

@@ -2,9 +2,9 @@
 
 use sdf_file::read_design;
 use sdf_options::Options;
-use sdf_process::planning::plan;
+use sdf_plan::planning::plan;
+use sdf_plan::{Fault, fault_text, status};
 use sdf_process::process::process_with;
-use sdf_process::{Fault, fault_text, status};
 use sdf_run::{Gate, NoGate};
 use sdf_wav::{FromRead, Reader, ToWrite, Wav, Writer, write_wav};
 use std::alloc::Global;

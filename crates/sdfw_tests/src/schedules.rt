@@ -4,7 +4,7 @@ use crate::designs::{BLOCKS, INITIAL, SECOND_DOUBLED};
 use crate::running::fault_told;
 use sdf_file::read_design;
 use sdf_options::{Options, Placement, Policy};
-use sdf_process::schedule::schedule;
+use sdf_plan::schedule::schedule;
 use std::alloc::Global;
 use std::test::Fail;
 use test_texts::row_says;

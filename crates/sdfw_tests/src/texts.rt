@@ -5,7 +5,7 @@ use crate::running::fault_told;
 use sdf_file::{DocumentFault, FileFault, Place};
 use sdf_options::WordFault;
 use sdf_options::printable::printable;
-use sdf_process::{Fault, Progress, Stalled};
+use sdf_plan::{Fault, Progress, Stalled};
 use sdf_words::explained;
 use std::alloc::{AllocError, Global};
 use std::test::Fail;

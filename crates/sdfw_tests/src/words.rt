@@ -2,7 +2,7 @@
 //! behind the last one of a command.
 
 use sdf_options::Options;
-use sdf_process::{Fault, status};
+use sdf_plan::{Fault, status};
 use sdf_words::{Words, words};
 use std::alloc::Global;
 use std::test::Fail;

@@ -1,4 +1,4 @@
-use Rattle.std.proofs.Common.{◌≡◌, ℕ, ◌<◌, List, length, get_or, sym, subst, Option, Some, None}
+use Rattle.std.proofs.Common.{◌≡◌, ◌<◌, List, length, get_or, sym, subst, Option, Some, None}
 use Rattle.sdf_prec.specs.declared.firing.Firing.{Firing}
 use Rattle.std.specs.Prelude.{slice_index}
 use Rattle.std.specs.List.{All}

@@ -1,7 +1,4 @@
-use Rattle.std.proofs.Common.{◌≡◌, ℕ, ◌+◌, subst, arith}
-use Rattle.sdf_graph.specs.Rates.{rates}
-use Rattle.sdf_times.specs.Times.{IsGreatest}
-use Rattle.sdf_draw.specs.Feeds.{IsInDepth}
+use Rattle.std.proofs.Common.{arith}
 use Rattle.sdf_draw.proofs.depths.depth_of.Goals as goal
 
 pub overflow_add-result : goal.overflow_add-result

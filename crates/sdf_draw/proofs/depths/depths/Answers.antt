@@ -1,4 +1,4 @@
-use Rattle.std.proofs.Common.{◌≡◌, ℕ, ◌≤◌, ◌<◌, length, get_or, arith, refl}
+use Rattle.std.proofs.Common.{get_or, arith, refl}
 use Rattle.sdf_graph.specs.Rates.{rates}
 use Rattle.sdf_draw.proofs.Deep.{deep_more, deep_all}
 use Rattle.sdf_draw.proofs.depths.depths.Goals as goal

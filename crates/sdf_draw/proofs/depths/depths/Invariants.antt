@@ -1,4 +1,3 @@
-use Rattle.std.specs.Prelude.{slice_index}
 use Rattle.sdf_graph.specs.Rates.{rates}
 use Rattle.sdf_draw.proofs.Deep.{IsDeepSoFar}
 use Rattle.sdf_draw.proofs.depths.depths.Given as goal

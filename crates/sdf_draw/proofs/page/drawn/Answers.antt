@@ -1,4 +1,4 @@
-use Rattle.std.proofs.Common.{◌≡◌, ◌<◌, ◌^◌, ℕ, List, length, subst, ap, sym, arith, ◌∙◌}
+use Rattle.std.proofs.Common.{◌<◌, ◌^◌, ℕ, List, subst, arith, ◌∙◌}
 use Rattle.std.proofs.lemmas.List.{length-map}
 use Rattle.sdf_actor.specs.Graphs.{channel_of}
 use Rattle.sdf_kit.specs.Kit.{kit_steps}

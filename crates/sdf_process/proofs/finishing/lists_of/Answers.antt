@@ -6,9 +6,9 @@ use Rattle.sdf_actor.specs.Wires.{lists}
 use Rattle.sdf_kit.specs.Kit.{kit_steps}
 use Rattle.sdf_answer.specs.Answer.{AreOutputs, IsRunFault, periods_of as firings}
 use Rattle.sdf_process.specs.Output.{lists_to}
-use Rattle.sdf_process.specs.Plans.{SuitsRunner}
+use Rattle.sdf_plan.specs.Plans.{SuitsRunner}
 use Rattle.sdf_process.proofs.Rendering.{run_begins, run_refused}
-use Rattle.sdf_process.proofs.Suiting.{fits_net}
+use Rattle.sdf_process.proofs.Fitting.{fits_net}
 use Rattle.sdf_process.proofs.finishing.lists_of.Goals as goal
 
 pub run_blocks-requires-clause-fits : goal.run_blocks-requires-clause-fits

@@ -1,7 +1,7 @@
 use Rattle.std.proofs.Common.{◌≡◌, ◌≤◌, ◌<◌, ◌+◌, ◌-◌, ◌*◌, ◌++◌, [], refl, ap, ◌∙◌, subst, arith, rules}
 use Rattle.sdf_wav.specs.PiecesOut.{Owed}
 use Rattle.sdf_process.specs.declared.exchange.Exchange.{Exchange}
-use Rattle.sdf_process.specs.declared.fault.Fault.TheVariants.{OutOfMemory}
+use Rattle.sdf_plan.specs.declared.fault.Fault.TheVariants.{OutOfMemory}
 use Rattle.sdf_process.specs.Output.{exchange_of}
 use Rattle.sdf_process.proofs.Pieces.{appends_none, unrun}
 use Rattle.sdf_process.proofs.Outcomes.{appends_join, keeps_same}

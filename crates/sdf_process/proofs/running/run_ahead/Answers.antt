@@ -4,7 +4,7 @@ use Rattle.sdf_graph.specs.Rates.{rates}
 use Rattle.sdf_actor.specs.Graphs.{graph_of}
 use Rattle.sdf_kit.specs.Kit.{kit_steps}
 use Rattle.sdf_process.specs.declared.exchange.Announced.{Announced}
-use Rattle.sdf_process.specs.declared.fault.Fault.{Fault}
+use Rattle.sdf_plan.specs.declared.fault.Fault.{Fault}
 use Rattle.sdf_process.specs.Output.{announced_fault, exchange_of, periods_for, IsExchange, IsExtent}
 use Rattle.sdf_process.specs.Stages.{PutsOutput, RunsOn}
 use Rattle.sdf_process.proofs.Finished.{answered, streamed}

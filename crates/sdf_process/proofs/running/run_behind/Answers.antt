@@ -1,7 +1,7 @@
 use Rattle.std.proofs.Common.{◌≡◌, ◌*◌, false, ℕ, Result, refl, ap, sym, ◌∙◌, subst}
 use Rattle.sdf_process.specs.declared.exchange.Announced.{Announced}
 use Rattle.sdf_process.specs.declared.exchange.Exchange.{Exchange}
-use Rattle.sdf_process.specs.declared.fault.Fault.{Fault}
+use Rattle.sdf_plan.specs.declared.fault.Fault.{Fault}
 use Rattle.sdf_process.specs.Output.{announced_by, announced_fault, exchange_of, IsExchange, IsExtent}
 use Rattle.sdf_process.specs.Stages.{RunsOn}
 use Rattle.sdf_process.proofs.Finished.{answered}

@@ -1,11 +1,11 @@
 use Rattle.std.proofs.Common.{ap, ◌∙◌, subst}
 use Rattle.std.specs.Prelude.{IfSome}
 use Rattle.sdf_run.specs.Sessions.{IsModeFault}
-use Rattle.sdf_process.specs.Faults.{of_run}
-use Rattle.sdf_process.specs.Plans.{SuitsRunner}
+use Rattle.sdf_plan.specs.Faults.{of_run}
+use Rattle.sdf_plan.specs.Plans.{SuitsRunner}
 use Rattle.sdf_process.proofs.Fed.{opened_refused, stands_first}
 use Rattle.sdf_process.proofs.Refusals.{fails_by}
-use Rattle.sdf_process.proofs.Suiting.{fits_net}
+use Rattle.sdf_process.proofs.Fitting.{fits_net}
 use Rattle.sdf_process.proofs.streaming.open_session.Goals as goal
 
 pub open-requires-clause-fits : goal.open-requires-clause-fits

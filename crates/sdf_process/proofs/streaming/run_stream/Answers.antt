@@ -2,7 +2,7 @@ use Rattle.std.proofs.Common.{◌≡◌, ◌≤◌, ◌%◌, Result, Ok, Err, le
 use Rattle.std.proofs.Common.{subst, inl, inr}
 use Rattle.std.proofs.lemmas.Bool.{cases_lt}
 use Rattle.sdf_wav.specs.PiecesIn.{sound_read}
-use Rattle.sdf_process.specs.declared.fault.Fault.{Fault}
+use Rattle.sdf_plan.specs.declared.fault.Fault.{Fault}
 use Rattle.sdf_process.specs.Output.{exchange_of}
 use Rattle.sdf_process.specs.Streams.{AreBehind, PutsBlocks, StandsWhole, Streams}
 use Rattle.sdf_process.proofs.Flow.{can_flow, ready_first, unopened}

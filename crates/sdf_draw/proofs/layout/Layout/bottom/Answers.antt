@@ -1,4 +1,4 @@
-use Rattle.std.proofs.Common.{◌≡◌, ◌≤◌, ℕ, length, arith}
+use Rattle.std.proofs.Common.{◌≡◌, length, arith}
 use Rattle.sdf_draw.specs.Layouts.{bottom_of}
 use Rattle.sdf_draw.proofs.Lowest.{greatest_within}
 use Rattle.sdf_draw.proofs.layout.Layout.bottom.Goals as goal

@@ -1,0 +1,21 @@
+use Rattle.std.proofs.Common.{subst}
+use Rattle.sdf_graph.specs.Rates.{rates, IsShape}
+use Rattle.sdf_graph.specs.Periods.{IsLeastPeriod}
+use Rattle.sdf_actor.specs.Graphs.{graph_of}
+use Rattle.sdf_kit.specs.Kit.{kit_steps}
+use Rattle.sdf_plan.proofs.Deadlocks.{live_or_not, decides_of}
+use Rattle.sdf_plan.proofs.Suiting.{suits_of}
+use Rattle.sdf_plan.proofs.planning.plan.Goals as goal
+
+pub returns-clause-suits : goal.returns-clause-suits
+returns-clause-suits c = suits_of c.args.design.now c.args.options.now c.planned.result c.planned.ensures
+
+pub returns-clause-decides : goal.returns-clause-decides
+returns-clause-decides c passed =
+    let least = subst (λ n. IsLeastPeriod (rates (graph_of kit_steps n)) c.repetitions.result.now)
+    c.net-net.ensures.value c.repetitions.ensures.least in
+    let shape = subst (λ n. IsShape (graph_of kit_steps n)) c.net-net.ensures.value
+    (subst IsShape c.graph.ensures.value c.channels.ensures.shape) in
+    decides_of c.one_least_period.ensures c.args.design.now c.args.options.now c.planned.result passed c.planned.ensures
+    (live_or_not c.one_least_period.ensures c.args.design.now c.repetitions.result.now least
+    (c.graphs_are_sound.ensures (graph_of kit_steps c.args.design.now.net) shape) c.period_or_deadlock.ensures)

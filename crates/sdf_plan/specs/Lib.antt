@@ -1,0 +1,8 @@
+pub mod Faults
+pub mod Statuses
+pub mod Weights
+pub mod Placements
+pub mod Plans
+pub mod Followed
+pub mod Paces
+pub mod Schedules

@@ -1,0 +1,61 @@
+-- What the actors of a design weigh, by which they are spread over workers.
+use Rattle.std.specs.Prelude.{ℕ, ◌+◌, ◌*◌, ◌/◌, Bool, true, ◌==◌, min, max, if◌then◌else◌, List, length, map}
+use Rattle.std.specs.Prelude.{slice_index}
+use Rattle.std.specs.List.{list_all, range_with_len}
+use Rattle.sdf_limits.specs.declared.TheConstants.{MOST_COST}
+use Rattle.sdf_actor.specs.Nets.{node}
+use Rattle.sdf_actor.specs.Sides.{period_samples}
+use Rattle.sdf_actor.specs.declared.node.Node.{Node}
+use Rattle.sdf_actor.specs.declared.node.Node.TheVariants.{Source, Sink, Inner}
+use Rattle.sdf_actor.specs.declared.sides.Lists.TheVariants.{Inputs}
+use Rattle.sdf_kit.specs.Fir.{kept_len}
+use Rattle.sdf_kit.specs.Kit.{behaviour}
+use Rattle.sdf_kit.specs.declared.kit.Kit.{Kit}
+use Rattle.sdf_kit.specs.declared.kit.Kit.TheVariants.{Fir}
+use Rattle.sdf_kit.specs.declared.ports.PortRates.{PortRates}
+use Rattle.sdf_kit.specs.declared.ports.PortRates.TheVariants.{Every, InTurn}
+use Rattle.sdf_file.specs.Designs.{DesignValue}
+use Rattle.sdf_prec.specs.Spread.{weight_to}
+use Rattle.sdf_plan.specs.declared.weights.TheConstants.{SAMPLE_WEIGHT}
+
+-- the samples that a firing moves at all ports of a side
+abbrev pub moved_by : PortRates → ℕ
+moved_by (Every ports rate) = ports * rate
+moved_by (InTurn ports rate) = rate
+
+-- the products of a firing: of each sample that a filter puts, as many as it keeps samples, and one more
+abbrev pub products_of : Kit → ℕ
+products_of (Fir f) = f.up * (kept_len f + 1)
+products_of kit = 0
+
+-- a weight within the limits of a cost
+abbrev pub as_cost : ℕ → ℕ
+as_cost weight = max 1 (min MOST_COST weight)
+
+-- what a firing of a node weighs: 1 for each product, and more for each sample that it moves
+abbrev pub load_of : Node Kit → ℕ
+load_of (Source channel block) = as_cost (SAMPLE_WEIGHT * block)
+load_of (Sink channel block) = as_cost (SAMPLE_WEIGHT * block)
+load_of (Inner kit) =
+    as_cost (products_of kit
+    + SAMPLE_WEIGHT * (moved_by (behaviour kit).ports.inputs + moved_by (behaviour kit).ports.outputs))
+
+-- the design gives no costs: each is 1, as where the key `cost` is left out
+abbrev pub is_free_of_costs : DesignValue → Bool
+is_free_of_costs d = list_all (λ cost. cost == 1) d.costs
+
+-- what a firing of actor a weighs: what its node does, or its cost
+abbrev pub firing_weight : DesignValue → Bool → ℕ → ℕ
+firing_weight d by_kind a = if by_kind then load_of (node d.net a) else slice_index d.costs a
+
+-- what the firings of each actor in a period weigh
+abbrev pub weights_by : DesignValue → Bool → List ℕ → List ℕ
+weights_by d by_kind q = map (λ a. slice_index q a * firing_weight d by_kind a) (range_with_len 0 (length d.net.nodes))
+
+-- by costs where the design gives them, and else by what the nodes do
+abbrev pub weights_of : DesignValue → List ℕ → List ℕ
+weights_of d q = weights_by d (is_free_of_costs d) q
+
+-- what the nodes do in a period for each frame that it reads
+abbrev pub frame_weight : DesignValue → List ℕ → ℕ
+frame_weight d q = weight_to (weights_by d true q) (length d.net.nodes) / period_samples d.net.nodes Inputs q

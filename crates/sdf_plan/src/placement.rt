@@ -1,0 +1,72 @@
+//! The table of a design by the placement of the options.
+
+ghost use Rattle.std.specs.Prelude.{MatchResult};
+ghost use Rattle.sdf_sched.specs.Period.{IsPeriodOf};
+ghost use Rattle.sdf_plan.specs.Placements.{rates_of, ArePeriodsOf, IsTableBy, IsPlaceFault};
+
+use crate::weights::weights;
+use sdf_file::Design;
+use sdf_options::{Options, Placement, Policy};
+use sdf_prec::hu::hu;
+use sdf_prec::long::long_block;
+use sdf_prec::{PrecFault, Table, Team};
+use sdf_sched::Period;
+use std::alloc::Global;
+
+/// The periods of a block: those of the options, and by the placement `spread` those of a long block.
+pub(crate) fn blocking_by(design: &Design, options: &Options, period: &Period) -> u32
+    requires { IsPeriodOf (rates_of design.now) period.now }
+    ensures { ArePeriodsOf design.now options.now period.now result }
+{
+    match options.placement {
+        Placement::Spread => long_block(design.net().graph(), period.repetitions()),
+        Placement::Hu | Placement::Homed | Placement::File => options.blocking,
+    }
+}
+
+/// The table of a design's period for blocks of `j` periods by a placement.
+pub(crate) fn table_by(
+    alloc: Global,
+    design: &Design,
+    period: &Period,
+    options: &Options,
+    j: u32,
+) -> Result<Table, PrecFault>
+    requires { IsPeriodOf (rates_of design.now) period.now }
+    ensures { MatchResult result (IsTableBy design.now options.now period.now j)
+        (IsPlaceFault options.now.placement design.now j options.now.workers period.now) }
+{
+    let graph = design.net().graph();
+    let m = options.workers;
+    match options.placement {
+        Placement::Hu => {
+            let team = Team {
+                workers: m,
+                homed: false,
+            };
+            hu(alloc, graph, period, j, team, &design.firing_costs(alloc)?)
+        }
+        Placement::Homed => {
+            let team = Team {
+                workers: m,
+                homed: true,
+            };
+            hu(alloc, graph, period, j, team, &design.firing_costs(alloc)?)
+        }
+        Placement::File => match options.policy {
+            Policy::Runs => Table::by_homes_in_runs(alloc, graph, period, j, m, design.homes()),
+            Policy::Round | Policy::Lean => Table::by_homes(
+                alloc,
+                graph,
+                period,
+                j,
+                m,
+                design.homes(),
+            ),
+        },
+        Placement::Spread => {
+            let weights = weights(alloc, design, period)?;
+            Table::spread(alloc, graph, period, j, m, &weights)
+        }
+    }
+}

@@ -1,0 +1,160 @@
+//! How a design is run.
+
+ghost use Rattle.std.specs.Prelude.{◌≡◌, ℤ, IfSome, IfNone, None};
+ghost use Rattle.sdf_graph.specs.Rates.{rates};
+ghost use Rattle.sdf_actor.specs.Graphs.{graph_of};
+ghost use Rattle.sdf_actor.specs.Nets.{Netlist};
+ghost use Rattle.sdf_answer.specs.Rows.{IsBlockTableOf};
+ghost use Rattle.sdf_kit.specs.declared.kit.Kit.{Kit};
+ghost use Rattle.sdf_kit.specs.Kit.{kit_steps};
+ghost use Rattle.sdf_plan.specs.Followed.{blocking_in, period_in, table_in, HasBlockTable};
+ghost use Rattle.sdf_plan.specs.Plans.{rooms_of, Suits};
+
+use sdf_answer::BlockTable;
+use sdf_options::{Options, Placement, Runner};
+use sdf_prec::Table;
+use sdf_sched::Period;
+use std::marker::Model;
+
+/// How many times the capacities of its table the rings of a plan hold, where its actors are spread, and how many times
+/// 4,096 frames are read at a time.
+pub const SPREAD_ROOMS: u32 = 16;
+
+/// As many for a placement.
+pub(crate) fn rooms_of(placement: Placement) -> u32
+    ensures { result ≡ rooms_of placement }
+{
+    match placement {
+        Placement::Spread => SPREAD_ROOMS,
+        Placement::Hu | Placement::Homed | Placement::File => 1,
+    }
+}
+
+/// What a runner follows.
+#[derive(Drop)]
+enum Followed {
+    /// One period, and how many a block has.
+    OneThread { period: Period, blocking: u32 },
+    Workers(BlockTable),
+}
+
+/// What is followed with a table or without one.
+fn following(period: Period, blocking: u32, table: Option<Table>) -> Followed
+    ensures blocking { blocking_in result ≡ blocking }
+    ensures period { period_in result ≡ period }
+    ensures table { table_in result ≡ table }
+{
+    match table {
+        Some(table) => Followed::Workers(BlockTable {
+            period,
+            factor: blocking,
+            table,
+        }),
+        None => Followed::OneThread { period, blocking },
+    }
+}
+
+/// How a design is run: the firings of one period, and the table that a runner with workers needs.
+#[derive(Drop)]
+pub struct Plan {
+    runner: Runner,
+    patience: u32,
+    rooms: u32,
+    followed: Followed,
+}
+
+impl Model for Plan {
+    ghost use Rattle.sdf_plan.specs.Followed.{blocking_in, period_in, table_in};
+    ghost use Rattle.sdf_plan.specs.Plans.{PlanValue};
+
+    ghost Value = { PlanValue };
+
+    ghost view = { λ p. record {
+      blocking = blocking_in p.followed;
+      runner = p.runner;
+      patience = p.patience;
+      rooms = p.rooms;
+      period = period_in p.followed;
+      table = table_in p.followed;
+    } };
+}
+
+impl Plan {
+    /// A plan of these, for blocks of so many periods.
+    pub(crate) fn new(
+        options: &Options,
+        blocking: u32,
+        period: Period,
+        table: Option<Table>,
+    ) -> Plan
+        ensures { result ≡ record {
+          blocking = blocking;
+          runner = options.now.runner;
+          patience = options.now.patience;
+          rooms = rooms_of options.now.placement;
+          period = period;
+          table = table;
+        } }
+    {
+        Plan {
+            runner: options.runner,
+            patience: options.patience,
+            rooms: rooms_of(options.placement),
+            followed: following(period, blocking, table),
+        }
+    }
+
+    /// Periods in a block.
+    pub fn blocking(&self) -> u32
+        ensures { result ≡ self.now.blocking }
+    {
+        match &self.followed {
+            Followed::OneThread { blocking, .. } => *blocking,
+            Followed::Workers(table) => table.factor,
+        }
+    }
+
+    /// What runs it.
+    pub fn runner(&self) -> Runner
+        ensures { result ≡ self.now.runner }
+    {
+        self.runner
+    }
+
+    /// Repeated tests in a worker's round.
+    pub fn patience(&self) -> u32
+        ensures { result ≡ self.now.patience }
+    {
+        self.patience
+    }
+
+    /// How many times the capacities of the table its rings hold, and how many times 4,096 frames are read at a time.
+    pub fn rooms(&self) -> u32
+        ensures { result ≡ self.now.rooms }
+    {
+        self.rooms
+    }
+
+    /// The firings of one period in their order.
+    pub fn period(&self) -> &Period
+        ensures { result.now ≡ self.now.period }
+    {
+        match &self.followed {
+            Followed::OneThread { period, .. } => period,
+            Followed::Workers(table) => &table.period,
+        }
+    }
+
+    /// The table of its blocks, where the runner has workers.
+    pub fn table(&self) -> Option<&BlockTable>
+        ensures some { IfSome result (λ t. HasBlockTable self.now t.now) }
+        ensures none { IfNone result (self.now.table ≡ None) }
+        ensures fits { (n : Netlist Kit ℤ) → Suits n self.now →
+            IfSome result (λ t. IsBlockTableOf (rates (graph_of kit_steps n)) t.now) }
+    {
+        match &self.followed {
+            Followed::OneThread { .. } => None,
+            Followed::Workers(table) => Some(table),
+        }
+    }
+}

@@ -1,0 +1,195 @@
+//! Planning a run: one period of a design by a policy, or why there is none.
+
+ghost use Rattle.std.specs.Prelude.{◌≡◌, ◌<◌, length, map, MatchOption, MatchResult, IfOk};
+ghost use Rattle.std.specs.List.{range_with_len};
+ghost use Rattle.sdf_graph.specs.Rates.{rates};
+ghost use Rattle.sdf_graph.specs.Periods.{IsLeastPeriod};
+ghost use Rattle.sdf_actor.specs.Graphs.{graph_of};
+ghost use Rattle.sdf_kit.specs.Kit.{kit_steps};
+ghost use Rattle.sdf_sched.specs.Period.{IsPeriodOf};
+ghost use Rattle.sdf_plan.specs.Placements.{rates_of};
+ghost use Rattle.sdf_plan.specs.Plans.{AreSizes, IsSizeFault, ArePassed, IsOptionFault, IsPlanOf, IsPlanFault};
+ghost use Rattle.sdf_plan.specs.Plans.{IsTableFor, IsTableFault, Suits, Decides, IsScheduleBy, IsStuckFault};
+ghost use Rattle.sdf_plan.specs.Plans.{IsScheduleFault, progress_of, progress_view, short_of};
+
+use crate::fault::{Fault, Progress, Stalled};
+use crate::placement::{blocking_by, table_by};
+use crate::plan::Plan;
+use sdf_file::Design;
+use sdf_graph::laws::{graphs_are_sound, one_least_period};
+use sdf_graph::{Graph, Repetitions};
+use sdf_limits::{MOST_BLOCKING, MOST_PATIENCE, MOST_WORKERS};
+use sdf_options::{Options, Policy, Runner};
+use sdf_prec::Table;
+use sdf_sched::class_s::class_s;
+use sdf_sched::laws::period_or_deadlock;
+use sdf_sched::{Lean, Period, Round, Runs, SchedFault, Stuck};
+use std::alloc::{AllocError, Global};
+
+/// The channel that is told of an actor.
+fn short_channel(short: &[(usize, usize)], actor: usize) -> Option<usize>
+    ensures { result ≡ short_of short.now actor }
+{
+    short
+        .iter()
+        .find(|entry| entry.0 == actor)
+        .map(|entry| entry.1)
+}
+
+/// How far an actor came.
+fn progress_at(
+    alloc: Global,
+    design: &Design,
+    reps: &Repetitions,
+    stuck: &Stuck,
+    actor: usize,
+) -> Result<Progress, AllocError>
+    requires known { actor < length design.now.net.nodes }
+    requires all { length reps.now ≡ length design.now.net.nodes }
+    requires done { length stuck.now.done.items ≡ length design.now.net.nodes }
+    ensures { IfOk result (λ p. progress_view p ≡ progress_of design.now reps.now stuck.now actor) }
+{
+    Ok(Progress {
+        name: String::from_str(alloc, design.name(actor))?,
+        done: stuck.done[actor],
+        of: reps.of(actor),
+        short: short_channel(&stuck.short, actor),
+    })
+}
+
+/// How far each actor came, in file order.
+fn progress(
+    alloc: Global,
+    design: &Design,
+    reps: &Repetitions,
+    stuck: &Stuck,
+) -> Result<Vec<Progress>, AllocError>
+    requires all { length reps.now ≡ length design.now.net.nodes }
+    requires done { length stuck.now.done.items ≡ length design.now.net.nodes }
+    ensures { IfOk result (λ all. map progress_view all.items ≡
+        map (progress_of design.now reps.now stuck.now) (range_with_len 0 (length design.now.net.nodes))) }
+{
+    let mut all = Vec::new(alloc);
+    for actor in 0..design.net().len() {
+        all.push(progress_at(alloc, design, reps, stuck, actor)?)?;
+    }
+    Ok(all)
+}
+
+/// One period of a graph by a policy.
+fn class_s_by(
+    alloc: Global,
+    graph: &Graph,
+    reps: &Repetitions,
+    policy: Policy,
+) -> Result<Period, SchedFault>
+    requires { IsLeastPeriod (rates graph.now) reps.now }
+    ensures { MatchResult result (IsScheduleBy policy graph.now) (IsStuckFault graph.now reps.now) }
+{
+    match policy {
+        Policy::Round => class_s(alloc, graph, reps, &mut Round::new()),
+        Policy::Lean => class_s(alloc, graph, reps, &mut Lean),
+        Policy::Runs => class_s(alloc, graph, reps, &mut Runs::new()),
+    }
+}
+
+/// One period of a design by a policy.
+pub(crate) fn period_by(alloc: Global, design: &Design, policy: Policy) -> Result<Period, Fault>
+    ensures { MatchResult result (IsScheduleBy policy (graph_of kit_steps design.now.net))
+        (IsScheduleFault design.now) }
+{
+    let net = design.net();
+    let graph = net.graph();
+    let reps = net.repetitions();
+    match class_s_by(alloc, graph, reps, policy) {
+        Ok(period) => Ok(period),
+        Err(SchedFault::OutOfMemory) => Err(Fault::OutOfMemory),
+        Err(SchedFault::Deadlock(stuck)) => {
+            let actors = progress(alloc, design, reps, &stuck)?;
+            Err(Fault::Deadlock(Stalled { actors }))
+        }
+    }
+}
+
+/// The first of the tests that options fail by their numbers alone.
+pub(crate) fn size_fault(options: &Options) -> Option<Fault>
+    ensures { MatchOption result (AreSizes options.now) (IsSizeFault options.now) }
+{
+    if options.blocking < 1 || options.blocking > MOST_BLOCKING {
+        return Some(Fault::BlockingFactor);
+    }
+    if options.workers < 1 || options.workers > MOST_WORKERS {
+        return Some(Fault::WorkerCount);
+    }
+    None
+}
+
+/// The first of the tests that options fail by themselves.
+fn option_fault(options: &Options) -> Option<Fault>
+    ensures { MatchOption result (ArePassed options.now) (IsOptionFault options.now) }
+{
+    if options.runner == Runner::Rings && options.patience > MOST_PATIENCE {
+        return Some(Fault::Patience);
+    }
+    size_fault(options)
+}
+
+/// The table that a runner needs, for blocks of `j` periods.
+fn table_for(
+    alloc: Global,
+    design: &Design,
+    period: &Period,
+    options: &Options,
+    j: u32,
+) -> Result<Option<Table>, Fault>
+    requires { IsPeriodOf (rates_of design.now) period.now }
+    ensures { MatchResult result (IsTableFor options.now.runner design.now options.now period.now j)
+        (IsTableFault design.now options.now period.now j) }
+{
+    if options.runner == Runner::One {
+        return Ok(None);
+    }
+    let table = table_by(alloc, design, period, options, j)?;
+    if options.runner == Runner::Rings && !table.homed() {
+        return Err(Fault::NotHomed);
+    }
+    Ok(Some(table))
+}
+
+/// The tests in their order, and then the plan.
+#[tactic(auto, using(crate::proofs::Tabling::untabled))]
+fn planned(alloc: Global, design: &Design, options: &Options) -> Result<Plan, Fault>
+    ensures { MatchResult result (IsPlanOf design.now options.now) (IsPlanFault design.now options.now) }
+{
+    if let Some(fault) = option_fault(options) {
+        return Err(fault);
+    }
+    let period = period_by(alloc, design, options.policy)?;
+    let blocking = blocking_by(design, options, &period);
+    let table = table_for(alloc, design, &period, options, blocking)?;
+    Ok(Plan::new(options, blocking, period, table))
+}
+
+/// Plans a run. The tests in order: for the runner `rings` the patience is within its limit; the blocking factor and
+/// the workers are within theirs; the design has a schedule; for a runner with workers a block is not too long, and
+/// with the placement `file` each actor has a home among the workers; and for the runner `rings` each actor has a home
+/// in the table.
+pub fn plan(alloc: Global, design: &Design, options: &Options) -> Result<Plan, Fault>
+    // What is answered is so.
+    ensures answers { MatchResult result (IsPlanOf design.now options.now) (IsPlanFault design.now options.now) }
+
+    // The plan is one of the design's.
+    ensures suits { IfOk result (Suits design.now.net) }
+
+    // 10 is answered exactly where no sequence of enabled firings completes the least period, unless memory was
+    // refused.
+    ensures decides { ArePassed options.now → Decides design.now result }
+{
+    let net = design.net();
+    let _ = net.repetitions();
+    let _ = net.graph().channels();
+    graphs_are_sound();
+    one_least_period();
+    period_or_deadlock();
+    planned(alloc, design, options)
+}

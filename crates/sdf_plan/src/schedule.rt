@@ -1,0 +1,52 @@
+//! The schedule of a design for some workers, and its text.
+
+ghost use Rattle.std.specs.Prelude.{MatchResult, IfOk, string_bytes};
+ghost use Rattle.sdf_prec.specs.Tables.{IsTable};
+ghost use Rattle.sdf_plan.specs.Placements.{rates_of, firings_of};
+ghost use Rattle.sdf_prec.specs.Long.{IsLongSize};
+ghost use Rattle.sdf_plan.specs.Schedules.{IsScheduled, IsShown, IsShowFault};
+
+use crate::fault::Fault;
+use crate::placement::{blocking_by, table_by};
+use crate::planning::{period_by, size_fault};
+use sdf_file::{Design, schedule_text};
+use sdf_options::Options;
+use sdf_prec::Table;
+use sdf_sched::Period;
+use std::alloc::Global;
+
+/// One period of a design by the policy of options, the table of its block by their placement, and the periods of the
+/// block. The tests in order:
+/// the blocking factor and the workers are within their limits; the design has a schedule; a block is not too long;
+/// with the placement `file`, each actor has a home among the workers.
+pub fn scheduled(
+    alloc: Global,
+    design: &Design,
+    options: &Options,
+) -> Result<(Period, Table, u32), Fault>
+    ensures answers { MatchResult result (λ s. IsScheduled design.now options.now s.2 s.0 s.1)
+        (IsShowFault design.now options.now) }
+
+    // The table is one of the block.
+    ensures table { IfOk result (λ s. IsTable (rates_of design.now) (firings_of s.2 s.0)
+        options.now.workers s.1) }
+    ensures size { IfOk result (λ s. IsLongSize s.2 options.now.workers s.0.repetitions) }
+{
+    if let Some(fault) = size_fault(options) {
+        return Err(fault);
+    }
+    let period = period_by(alloc, design, options.policy)?;
+    let blocking = blocking_by(design, options, &period);
+    let table = table_by(alloc, design, &period, options, blocking)?;
+    Ok((period, table, blocking))
+}
+
+/// What the command `schedule` prints: the order of the policy, and the table of the placement. The tests are those of
+/// `scheduled`.
+pub fn schedule(alloc: Global, design: &Design, options: &Options) -> Result<String, Fault>
+    ensures { MatchResult result (λ s. IsShown design.now options.now (string_bytes s))
+        (IsShowFault design.now options.now) }
+{
+    let (period, table, _) = scheduled(alloc, design, options)?;
+    Ok(schedule_text(alloc, design, &period, &table)?)
+}

@@ -1,0 +1,141 @@
+//! What the actors of a design weigh, by which they are spread over workers.
+
+ghost use Rattle.std.specs.Prelude.{◌≡◌, ◌≤◌, ◌<◌, ◌^◌, ◌*◌, ℕ, length, map, slice_index, IfOk};
+ghost use Rattle.std.specs.List.{range_with_len};
+ghost use Rattle.sdf_limits.specs.declared.TheConstants.{MOST_BLOCK, MOST_COST, MOST_PORTS};
+ghost use Rattle.sdf_actor.specs.Nets.{node};
+ghost use Rattle.sdf_kit.specs.Ports.{ArePortRates};
+ghost use Rattle.sdf_sched.specs.Period.{IsPeriodOf};
+ghost use Rattle.sdf_plan.specs.Placements.{rates_of};
+ghost use Rattle.sdf_plan.specs.Weights.{moved_by, products_of, as_cost, load_of, is_free_of_costs};
+ghost use Rattle.sdf_plan.specs.Weights.{firing_weight, weights_by, weights_of, frame_weight};
+ghost use Rattle.sdf_prec.specs.Spread.{AreLoads};
+
+use sdf_actor::Node;
+use sdf_file::Design;
+use sdf_kit::{Kit, PortRates};
+use sdf_limits::MOST_COST;
+use sdf_prec::spread::weight_to;
+use sdf_sched::Period;
+use std::alloc::{AllocError, Global};
+
+/// What a sample weighs that a firing moves, where a product weighs 1.
+pub const SAMPLE_WEIGHT: u64 = 32;
+
+/// The samples that a firing moves at all ports of a side.
+fn moved_by(side: PortRates) -> u64
+    requires { ArePortRates side }
+    ensures is { result ≡ moved_by side }
+    ensures few { result < 2 ^ 37 }
+{
+    match side {
+        PortRates::Every { ports, rate } => ports as u64 * u64::from(rate),
+        PortRates::InTurn { rate, .. } => u64::from(rate),
+    }
+}
+
+/// The products of a firing.
+fn products_of(kit: &Kit) -> u64
+    ensures is { result ≡ products_of kit.now }
+    ensures few { result < 2 ^ 50 }
+{
+    match kit {
+        Kit::Fir(filter) => moved_by(filter.ports().outputs) * (filter.kept_len() as u64 + 1),
+        _ => 0,
+    }
+}
+
+/// A weight within the limits of a cost.
+fn as_cost(weight: u64) -> u64
+    ensures is { result ≡ as_cost weight }
+    ensures few { result ≤ MOST_COST }
+{
+    weight.min(u64::from(MOST_COST)).max(1)
+}
+
+/// What a firing of a node weighs.
+fn load_of(node: &Node<Kit>) -> u64
+    ensures is { result ≡ load_of node.now }
+    ensures few { result ≤ MOST_COST }
+{
+    match node {
+        Node::Source { block, .. } | Node::Sink { block, .. } => {
+            as_cost(SAMPLE_WEIGHT * u64::from(*block))
+        }
+        Node::Inner(kit) => {
+            let ports = kit.ports();
+            let moved = moved_by(ports.inputs) + moved_by(ports.outputs);
+            as_cost(products_of(kit) + SAMPLE_WEIGHT * moved)
+        }
+    }
+}
+
+/// Whether a design gives no costs.
+fn is_free_of_costs(design: &Design) -> bool
+    ensures { result ≡ is_free_of_costs design.now }
+{
+    design.costs().iter().all(|cost| *cost == 1)
+}
+
+/// What a firing of an actor weighs: by its kind, or as its cost.
+fn firing_weight(design: &Design, by_kind: bool, actor: usize) -> u64
+    requires known { actor < length design.now.net.nodes }
+    ensures is { result ≡ firing_weight design.now by_kind actor }
+    ensures few { result ≤ MOST_COST }
+{
+    let net = design.net();
+    if by_kind {
+        load_of(net.node(actor))
+    } else {
+        u64::from(design.costs()[actor])
+    }
+}
+
+/// What the firings of each actor in a period weigh: by kinds, or as their costs.
+fn weights_by(
+    alloc: Global,
+    design: &Design,
+    period: &Period,
+    by_kind: bool,
+) -> Result<Vec<u64>, AllocError>
+    requires { IsPeriodOf (rates_of design.now) period.now }
+    ensures are { IfOk result (λ v. v.items ≡ weights_by design.now by_kind period.now.repetitions) }
+    ensures loads { IfOk result (λ v. AreLoads (length design.now.net.nodes) v.items) }
+{
+    let net = design.net();
+    net.graph().channels();
+    let repetitions = period.repetitions();
+    let mut weights = Vec::new(alloc);
+    for actor in 0..net.len() {
+        weights.push(u64::from(repetitions[actor]) * firing_weight(design, by_kind, actor))?;
+    }
+    Ok(weights)
+}
+
+/// What the firings of each actor in a period weigh: of a firing its cost, where the design gives some cost above 1,
+/// and else 1 for each product and 32 for each sample that it moves, within the limits of a cost.
+pub(crate) fn weights(
+    alloc: Global,
+    design: &Design,
+    period: &Period,
+) -> Result<Vec<u64>, AllocError>
+    requires { IsPeriodOf (rates_of design.now) period.now }
+    ensures are { IfOk result (λ v. v.items ≡ weights_of design.now period.now.repetitions) }
+    ensures loads { IfOk result (λ v. AreLoads (length design.now.net.nodes) v.items) }
+{
+    weights_by(alloc, design, period, is_free_of_costs(design))
+}
+
+/// What the firings of a period weigh by their kinds for each frame that it reads.
+pub(crate) fn frame_weight(
+    alloc: Global,
+    design: &Design,
+    period: &Period,
+) -> Result<u64, AllocError>
+    requires { IsPeriodOf (rates_of design.now) period.now }
+    ensures { IfOk result (λ weight. weight ≡ frame_weight design.now period.now.repetitions) }
+{
+    let loads = weights_by(alloc, design, period, true)?;
+    let net = design.net();
+    Ok(weight_to(&loads, net.len()) / net.samples_in() as u64)
+}
