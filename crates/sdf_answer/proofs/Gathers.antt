@@ -1,7 +1,7 @@
 -- Parts of lists, copied, dealt out and gathered.
 use Rattle.std.proofs.Common.{◌≡◌, ℕ, zero, suc, ◌+◌, ◌-◌, ◌*◌, ◌≤◌, ◌<◌, ◌⊎◌, inl, inr, List, ◌∷◌, [], ◌++◌, length}
 use Rattle.std.proofs.Common.{take, drop, get_or, slice_range, slice_set, get_or-set_same, sym, ap, ◌∙◌, add-one, arith}
-use Rattle.std.proofs.Math.Nat.{mul-suc, mul-zero, mul-le-mul_left, mul-le-mul_right}
+use Rattle.std.proofs.Math.Nat.{mul-suc, mul-zero, mul-le-mul_left}
 use Rattle.std.proofs.Math.Seq.{take-add}
 use Rattle.std.proofs.lemmas.Bool.{cases_lt}
 use Rattle.std.proofs.lemmas.List.{take_all, drop-take, take-take, drop-drop, take-set}
