@@ -10,7 +10,8 @@ loop in C. It asserts nothing.
 import argparse, array, pathlib, random, shutil, statistics, struct, subprocess, sys, tempfile, tomllib
 
 TOP = pathlib.Path(__file__).resolve().parent.parent
-CONVERTER, CROSSOVER, ECHO = (TOP / "examples" / name for name in ("44100-to-48000", "crossover", "echo"))
+NAMES = ("44100-to-48000", "crossover", "echo", "interleave")
+CONVERTER, CROSSOVER, ECHO, INTERLEAVE = (TOP / "examples" / name for name in NAMES)
 RATE, ROUNDS = 44100, 5
 # Of runs in parallel more, since the system places their threads anew each time.
 MANY_ROUNDS = 9
@@ -239,6 +240,8 @@ def main():
             at_home = at_homes(folder, design, homes)
             compare(folder, f"{title}, by workers in runs", design, plain, runners=in_runs, lengths=(10,), homes=at_home)
         compare(folder, "echo", ECHO / "graph.toml", {"C, plain loop": compiled(folder, "echo")})
+        plain = {"C, plain loop": compiled(folder, "interleave")}
+        compare(folder, "interleave", INTERLEAVE / "graph.toml", plain, channels=2)
         workers(folder, graph)
 
 

@@ -70,16 +70,16 @@ def crates_for(root, names):
     return [it for it in crates if not names or it.name in wanted]
 
 
-def memory(crate, jobs):
-    """The bytes that a check is likely to take, by a process for each job: of what rt ci plans for it three fifths, the
-    most that a check was seen to take of that."""
-    return 0.6 * rt.need(crate) * (1 + 0.6 * (jobs - 1))
+def memory(crate):
+    """The bytes that a check is likely to take: of what rt ci plans for it three fifths, the most that a check was seen
+    to take of that."""
+    return 0.6 * rt.need(crate)
 
 
-def side_by_side(crates, work, lanes, jobs_for_one):
-    """Calls work(crate, jobs) for each crate once all below it are done, the longest chain of crates above it first,
-    and returns the names of those that failed or were not tried. Lanes that no crate waits for go to those that
-    begin."""
+def side_by_side(crates, work, lanes):
+    """Calls work(crate) for each crate once all below it are done, so many at a time, the longest chain of crates above
+    it first, and returns the names of those that failed or were not tried. Each is one job: by several a check reads
+    the libraries anew for every few functions, and took longer."""
     behind = {it.name: it.count(rb"\n") for it in crates}
     for crate in reversed(crates):
         for below in crate.below():
@@ -90,17 +90,15 @@ def side_by_side(crates, work, lanes, jobs_for_one):
     with ThreadPoolExecutor(lanes) as pool:
         while left or running:
             ready = [it for it in left if all(below.name in done for below in it.below())]
-            for at, crate in enumerate(ready):
-                idle = lanes - sum(jobs for _, jobs in running.values())
-                held = sum(memory(*it) for it in running.values())
+            for crate in ready:
+                held = sum(memory(it) for it in running.values())
                 if any(done[below.name] for below in crate.below()):
                     left.remove(crate)
                     done[crate.name] = 1
-                elif idle > 0 and (not running or held + memory(crate, 1) <= room):
+                elif len(running) < lanes and (not running or held + memory(crate) <= room):
                     left.remove(crate)
-                    jobs = max(1, min(jobs_for_one, idle // (len(ready) - at)))
-                    running[pool.submit(work, crate, jobs)] = crate, jobs
+                    running[pool.submit(work, crate)] = crate
             if running:
                 for it in wait(running, return_when=FIRST_COMPLETED).done:
-                    done[running.pop(it)[0].name] = it.result()
+                    done[running.pop(it).name] = it.result()
     return [name for name, status in done.items() if status]
