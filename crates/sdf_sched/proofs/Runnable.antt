@@ -6,44 +6,37 @@ use Rattle.std.specs.List.Sorted.{IsStrictlyIncreasing}
 use Rattle.std.proofs.lemmas.List.{get_or-set_same, get_or-set_other}
 use Rattle.std.proofs.lemmas.Bool.{cases_eq}
 use Rattle.sdf_graph.specs.Rates.{Rates, IsSound, Shape, rates, channel}
-use Rattle.sdf_graph.specs.Sequences.{IsEnabled, IsRunnable}
+use Rattle.std.specs.Prelude.{Option, Some, None}
+use Rattle.sdf_graph.specs.Sequences.{IsReady, IsRunnable}
 use Rattle.sdf_sched.specs.Pick.{IsRunnableList}
-use Rattle.sdf_sched.specs.ClassS.{IsUpdated}
+use Rattle.sdf_sched.specs.ClassS.{IsUpdated, IsPlaced, listed, over, waits, AreCandidates}
 use Rattle.sdf_sched.proofs.Greedy.{IsEnabled_rises}
 use Rattle.sdf_sched.proofs.Updates.{place_of}
 
--- a channel from actor a to actor b
-abbrev pub IsFed : Rates → ℕ → ℕ → ℕ → Type 0
-IsFed r a b c = (c < r.channels) × ((r.source c ≡ a) × (r.target c ≡ b))
-
--- the first n channels have one from a to b, or none of them is
-feeds : (r : Rates) (a b n : ℕ) → n ≤ r.channels →
-    ((c : ℕ) × IsFed r a b c) ⊎ ((c : ℕ) → c < n → (r.source c ≡ a) → (r.target c ≡ b) → ⊥)
-feeds r a b zero h = inr (λ c l e f. omega arith)
-feeds r a b (suc n) h = here (cases_eq (r.source n) a) (cases_eq (r.target n) b) (feeds r a b n (omega arith))
-  where
-    here : (r.source n ≡ a) ⊎ (r.source n ≡ a → ⊥) → (r.target n ≡ b) ⊎ (r.target n ≡ b → ⊥) →
-        ((c : ℕ) × IsFed r a b c) ⊎ ((c : ℕ) → c < n → (r.source c ≡ a) → (r.target c ≡ b) → ⊥) →
-        ((c : ℕ) × IsFed r a b c) ⊎ ((c : ℕ) → c < suc n → (r.source c ≡ a) → (r.target c ≡ b) → ⊥)
-    here (inl e) (inl f) z = inl (n, (omega arith, (e, f)))
-    here x y (inl found) = inl found
-    here (inr ne) y (inr none) = inr (λ c l e f. go c l e f (cases_eq c n))
-      where
-        go : (c : ℕ) → c < suc n → (r.source c ≡ a) → (r.target c ≡ b) → (c ≡ n) ⊎ (c ≡ n → ⊥) → ⊥
-        go c l e f (inl is) = ne (ap r.source (sym is) ∙ e)
-        go c l e f (inr less) = none c (omega arith) e f
-    here (inl e') (inr nf) (inr none) = inr (λ c l e f. go c l e f (cases_eq c n))
-      where
-        go : (c : ℕ) → c < suc n → (r.source c ≡ a) → (r.target c ≡ b) → (c ≡ n) ⊎ (c ≡ n → ⊥) → ⊥
-        go c l e f (inl is) = nf (ap r.target (sym is) ∙ f)
-        go c l e f (inr less) = none c (omega arith) e f
-
--- after a firing of a: xs lists runnable actors alone, and all of them but for some that a feeds by a channel of
--- `later`
-pub record IsCaughtUp (r : Rates) (q k : ℕ → ℕ) (a : ℕ) (later : ℕ → Type 0) (xs : List ℕ) : Type 0 where
+-- xs lists runnable actors alone, and all of them but for some that wait for channels of `later`
+pub record IsCaughtUp (r : Rates) (q k : ℕ → ℕ) (later : ℕ → Type 0) (xs : List ℕ) (ws : List (Option ℕ)) : Type 0 where
   pub rising : IsStrictlyIncreasing xs
   pub each : (b : ℕ) → Contains xs b → IsRunnable r q k b
-  pub all : (b : ℕ) → IsRunnable r q k b → Contains xs b ⊎ ((c : ℕ) × (IsFed r a b c × later c))
+  pub all : length ws ≡ r.actors
+  pub placed : (b : ℕ) → b < r.actors → IsPlaced r q k later xs ws b
+
+module _ (r : Rates) (q k : ℕ → ℕ) where
+  wider : (later : ℕ → Type 0) (xs : List ℕ) (ws : List (Option ℕ)) (a : ℕ) → IsPlaced r q k (λ _. ⊥) xs ws a →
+      IsPlaced r q k later xs ws a
+  wider later xs ws a (listed h) = listed h
+  wider later xs ws a (over h) = over h
+  wider later xs ws a (waits c e l t (inl x)) = absurd x
+  wider later xs ws a (waits c e l t (inr short)) = waits c e l t (inr short)
+
+  -- where an actor stands beside one that is tested
+  module _ (xs ys : List ℕ) (ws vs : List (Option ℕ)) (a : ℕ) (runnable : Type 0) (up : IsUpdated xs a runnable ys)
+      (others : (b : ℕ) → (b ≡ a → ⊥) → get_or vs b None ≡ get_or ws b None) where
+    beside : (later then : ℕ → Type 0) (b : ℕ) → (b ≡ a → ⊥) → ((c : ℕ) → r.target c ≡ b → later c → then c) →
+        IsPlaced r q k later xs ws b → IsPlaced r q k then ys vs b
+    beside later then b ne move (listed h) = listed ((up.others b ne).1 h)
+    beside later then b ne move (over h) = over h
+    beside later then b ne move (waits c e l t (inl x)) = waits c (others b ne ∙ e) l t (inl (move c t x))
+    beside later then b ne move (waits c e l t (inr short)) = waits c (others b ne ∙ e) l t (inr short)
 
 module _ (r : Rates) (sound : IsSound r) (q k m : ℕ → ℕ) (a : ℕ) (own : m a ≡ k a + 1)
     (other : (b : ℕ) → (b ≡ a → ⊥) → m b ≡ k b) where
@@ -62,99 +55,136 @@ module _ (r : Rates) (sound : IsSound r) (q k m : ℕ → ℕ) (a : ℕ) (own : 
     IsEnabled_rises r sound k m b (sym (other b ne)) (λ d l. rises d) on.2,
   )
 
-  -- and was so, where a does not feed it
-  was_runnable : (b : ℕ) → (b ≡ a → ⊥) → ((c : ℕ) → c < r.channels → (r.source c ≡ a) → (r.target c ≡ b) → ⊥) →
-      IsRunnable r q m b → IsRunnable r q k b
-  was_runnable b ne none on = (on.0, omega (arith, on.1, other b ne), enabled)
-    where
-      enabled : IsEnabled r k b
-      enabled c l e =
-          let apart : r.source c ≡ a → ⊥ = λ s. none c l s e in
-          let put : m (r.source c) ≡ k (r.source c) = other (r.source c) apart in
-          let taken : m (r.target c) ≡ k (r.target c) = ap m e ∙ (other b ne ∙ ap k (sym e)) in
-          subst (λ n. r.consumed c (n + 1) ≤ r.initial c + r.produced c (k (r.source c))) taken
-          (subst (λ n. r.consumed c (m (r.target c) + 1) ≤ r.initial c + r.produced c n) put (on.2 c l e))
+  -- a channel that holds too little does so still, where a does not feed it
+  still_short : (c b : ℕ) → r.target c ≡ b → (b ≡ a → ⊥) → (r.source c ≡ a → ⊥) → (IsReady r k c → ⊥) →
+      IsReady r m c → ⊥
+  still_short c b t ne apart short ready =
+      let put : m (r.source c) ≡ k (r.source c) = other (r.source c) apart in
+      let taken : m (r.target c) ≡ k (r.target c) = ap m t ∙ (other b ne ∙ ap k (sym t)) in
+      short (subst (λ n. r.consumed c (n + 1) ≤ r.initial c + r.produced c (k (r.source c))) taken
+      (subst (λ n. r.consumed c (m (r.target c) + 1) ≤ r.initial c + r.produced c n) put ready))
 
-  -- with a itself looked at again, only what it feeds may be missing
-  pub fired : (xs ys : List ℕ) → IsRunnableList r q k xs → IsUpdated xs a (IsRunnable r q m a) ys →
-      (later : ℕ → Type 0) → ((c : ℕ) → c < r.channels → r.source c ≡ a → later c) → IsCaughtUp r q m a later ys
-  fired xs ys list up later all = record {
+  -- with a itself tested again, only what it feeds may be missing
+  pub fired : (xs ys : List ℕ) (ws vs : List (Option ℕ)) → AreCandidates r q k xs ws →
+      IsUpdated xs a (IsRunnable r q m a) ys →
+      ((b : ℕ) → (b ≡ a → ⊥) → get_or vs b None ≡ get_or ws b None) → length vs ≡ length ws →
+      IsPlaced r q m (λ _. ⊥) ys vs a →
+      (later : ℕ → Type 0) → ((c : ℕ) → c < r.channels → r.source c ≡ a → later c) → IsCaughtUp r q m later ys vs
+  fired xs ys ws vs was up others long here later all = record {
     rising = up.rising;
     each = λ b h. each b h (cases_eq b a);
-    all = λ b on. found b on (cases_eq b a) (feeds r a b r.channels (omega arith));
+    all = long ∙ was.all;
+    placed = λ b l. place b (cases_eq b a) (was.placed b l);
   }
     where
       each : (b : ℕ) → Contains ys b → (b ≡ a) ⊎ (b ≡ a → ⊥) → IsRunnable r q m b
       each b h (inl e) = subst (IsRunnable r q m) (sym e) (up.here.0 (subst (Contains ys) e h))
-      each b h (inr ne) = stays_runnable b ne ((list.each b).0 ((up.others b ne).0 h))
+      each b h (inr ne) = stays_runnable b ne ((was.list.each b).0 ((up.others b ne).0 h))
 
-      found : (b : ℕ) → IsRunnable r q m b → (b ≡ a) ⊎ (b ≡ a → ⊥) →
-          ((c : ℕ) × IsFed r a b c) ⊎ ((c : ℕ) → c < r.channels → (r.source c ≡ a) → (r.target c ≡ b) → ⊥) →
-          Contains ys b ⊎ ((c : ℕ) × (IsFed r a b c × later c))
-      found b on (inl e) z = inl (subst (Contains ys) (sym e) (up.here.1 (subst (IsRunnable r q m) e on)))
-      found b on (inr ne) (inl (c, fed)) = inr (c, (fed, all c fed.0 fed.1.0))
-      found b on (inr ne) (inr none) = inl ((up.others b ne).1 ((list.each b).1 (was_runnable b ne none on)))
+      waiting : (b c : ℕ) → (b ≡ a → ⊥) → get_or ws b None ≡ Some c → c < r.channels → r.target c ≡ b →
+          (IsReady r k c → ⊥) → (r.source c ≡ a) ⊎ (r.source c ≡ a → ⊥) → IsPlaced r q m later ys vs b
+      waiting b c ne e l t short (inl fed) = waits c (others b ne ∙ e) l t (inl (all c l fed))
+      waiting b c ne e l t short (inr apart) =
+          waits c (others b ne ∙ e) l t (inr (still_short c b t ne apart short))
 
--- with the target of channel d looked at again, d is not among the later ones any more
-pub caught_up : (r : Rates) (q k : ℕ → ℕ) (a d : ℕ) (later then : ℕ → Type 0) →
-    ((c : ℕ) → (c ≡ d → ⊥) → later c → then c) → (xs ys : List ℕ) →
-    IsCaughtUp r q k a later xs → IsUpdated xs (r.target d) (IsRunnable r q k (r.target d)) ys →
-    IsCaughtUp r q k a then ys
-caught_up r q k a d later then rest xs ys was up = record {
-  rising = up.rising;
-  each = λ b h. each b h (cases_eq b (r.target d));
-  all = λ b on. found b on (cases_eq b (r.target d));
-}
-  where
-    each : (b : ℕ) → Contains ys b → (b ≡ r.target d) ⊎ (b ≡ r.target d → ⊥) → IsRunnable r q k b
-    each b h (inl e) = subst (IsRunnable r q k) (sym e) (up.here.0 (subst (Contains ys) e h))
-    each b h (inr ne) = was.each b ((up.others b ne).0 h)
+      place : (b : ℕ) → (b ≡ a) ⊎ (b ≡ a → ⊥) → IsPlaced r q k (λ _. ⊥) xs ws b → IsPlaced r q m later ys vs b
+      place b (inl e) z = subst (IsPlaced r q m later ys vs) (sym e) (wider r q m later ys vs a here)
+      place b (inr ne) (listed h) = listed ((up.others b ne).1 h)
+      place b (inr ne) (over h) = over (omega (arith, other b ne))
+      place b (inr ne) (waits c e l t (inl x)) = absurd x
+      place b (inr ne) (waits c e l t (inr short)) = waiting b c ne e l t short (cases_eq (r.source c) a)
 
-    found : (b : ℕ) → IsRunnable r q k b → (b ≡ r.target d) ⊎ (b ≡ r.target d → ⊥) →
-        Contains ys b ⊎ ((c : ℕ) × (IsFed r a b c × then c))
-    found b on (inl e) = inl (subst (Contains ys) (sym e) (up.here.1 (subst (IsRunnable r q k) e on)))
-    found b on (inr ne) = go (was.all b on)
-      where
-        go : Contains xs b ⊎ ((c : ℕ) × (IsFed r a b c × later c)) →
-            Contains ys b ⊎ ((c : ℕ) × (IsFed r a b c × then c))
-        go (inl h) = inl ((up.others b ne).1 h)
-        go (inr (c, (fed, l))) = inr (c, (fed, rest c (λ is. ne (sym fed.1.1 ∙ ap r.target is)) l))
+module _ (r : Rates) (q k : ℕ → ℕ) (d : ℕ) (later then : ℕ → Type 0)
+    (rest : (c : ℕ) → (c ≡ d → ⊥) → later c → then c) (xs : List ℕ) (ws : List (Option ℕ))
+    (was : IsCaughtUp r q k later xs ws) where
+  -- with the target of channel d tested again, d is not among the later ones any more
+  pub tested : (ys : List ℕ) (vs : List (Option ℕ)) → IsUpdated xs (r.target d) (IsRunnable r q k (r.target d)) ys →
+      ((b : ℕ) → (b ≡ r.target d → ⊥) → get_or vs b None ≡ get_or ws b None) → length vs ≡ length ws →
+      IsPlaced r q k (λ _. ⊥) ys vs (r.target d) → IsCaughtUp r q k then ys vs
+  tested ys vs up others long here = record {
+    rising = up.rising;
+    each = λ b h. each b h (cases_eq b (r.target d));
+    all = long ∙ was.all;
+    placed = λ b l. place b l (cases_eq b (r.target d));
+  }
+    where
+      each : (b : ℕ) → Contains ys b → (b ≡ r.target d) ⊎ (b ≡ r.target d → ⊥) → IsRunnable r q k b
+      each b h (inl e) = subst (IsRunnable r q k) (sym e) (up.here.0 (subst (Contains ys) e h))
+      each b h (inr ne) = was.each b ((up.others b ne).0 h)
+
+      place : (b : ℕ) → b < r.actors → (b ≡ r.target d) ⊎ (b ≡ r.target d → ⊥) → IsPlaced r q k then ys vs b
+      place b l (inl e) = subst (IsPlaced r q k then ys vs) (sym e) (wider r q k then ys vs (r.target d) here)
+      place b l (inr ne) = beside r q k xs ys ws vs (r.target d) (IsRunnable r q k (r.target d)) up others later then b ne
+          (λ c t x. rest c (λ is. ne (sym t ∙ ap r.target is)) x) (was.placed b l)
+
+  -- nor is it where its target does not wait for it
+  pub passed : (get_or ws (r.target d) None ≡ Some d → ⊥) → IsCaughtUp r q k then xs ws
+  passed other = record {
+    rising = was.rising;
+    each = was.each;
+    all = was.all;
+    placed = λ b l. place b (was.placed b l);
+  }
+    where
+      place : (b : ℕ) → IsPlaced r q k later xs ws b → IsPlaced r q k then xs ws b
+      place b (listed h) = listed h
+      place b (over h) = over h
+      place b (waits c e l t (inl x)) = waits c e l t (inl (rest c (λ is. other
+          (ap (λ b. get_or ws b None) (sym (ap r.target is) ∙ t) ∙ (e ∙ ap (λ c. Some c) is))) x))
+      place b (waits c e l t (inr short)) = waits c e l t (inr short)
 
 -- with none left, the list is whole
-pub all_caught_up : (r : Rates) (q k : ℕ → ℕ) (a : ℕ) (later : ℕ → Type 0) →
-    ((c : ℕ) → c < r.channels → r.source c ≡ a → later c → ⊥) → (xs : List ℕ) → IsCaughtUp r q k a later xs →
-    IsRunnableList r q k xs
-all_caught_up r q k a later none xs was = record {
-  rising = was.rising;
-  each = λ b. (was.each b, λ on. go b (was.all b on));
+pub all_caught_up : (r : Rates) (q k : ℕ → ℕ) (later : ℕ → Type 0) → ((c : ℕ) → later c → ⊥) → (xs : List ℕ)
+    (ws : List (Option ℕ)) → IsCaughtUp r q k later xs ws → AreCandidates r q k xs ws
+all_caught_up r q k later none xs ws was = record {
+  list = record {
+    rising = was.rising;
+    each = λ b. (was.each b, λ on. listed_of b on (was.placed b on.0));
+  };
+  all = was.all;
+  placed = λ b l. place b (was.placed b l);
 }
   where
-    go : (b : ℕ) → Contains xs b ⊎ ((c : ℕ) × (IsFed r a b c × later c)) → Contains xs b
-    go b (inl h) = h
-    go b (inr (c, (fed, l))) = absurd (none c fed.0 fed.1.0 l)
+    listed_of : (b : ℕ) → IsRunnable r q k b → IsPlaced r q k later xs ws b → Contains xs b
+    listed_of b on (listed h) = h
+    listed_of b on (over h) = absurd (omega (arith, on.1))
+    listed_of b on (waits c e l t (inl x)) = absurd (none c x)
+    listed_of b on (waits c e l t (inr short)) = absurd (short (on.2 c l t))
+
+    place : (b : ℕ) → IsPlaced r q k later xs ws b → IsPlaced r q k (λ _. ⊥) xs ws b
+    place b (listed h) = listed h
+    place b (over h) = over h
+    place b (waits c e l t (inl x)) = absurd (none c x)
+    place b (waits c e l t (inr short)) = waits c e l t (inr short)
 
 -- the runnable ones of the first n actors
-pub record IsCollected (r : Rates) (q k : ℕ → ℕ) (n : ℕ) (xs : List ℕ) : Type 0 where
+pub record IsCollected (r : Rates) (q k : ℕ → ℕ) (n : ℕ) (xs : List ℕ) (ws : List (Option ℕ)) : Type 0 where
   pub rising : IsStrictlyIncreasing xs
   pub early : (a : ℕ) → Contains xs a → a < n
   pub each : (a : ℕ) → Contains xs a → IsRunnable r q k a
-  pub all : (a : ℕ) → a < n → IsRunnable r q k a → Contains xs a
+  pub all : length ws ≡ r.actors
+  pub placed : (a : ℕ) → a < n → IsPlaced r q k (λ _. ⊥) xs ws a
 
-pub collected_none : (r : Rates) (q k : ℕ → ℕ) (xs : List ℕ) → xs ≡ [] → IsCollected r q k 0 xs
-collected_none r q k xs none = record {
+pub collected_none : (r : Rates) (q k : ℕ → ℕ) (xs : List ℕ) (ws : List (Option ℕ)) → xs ≡ [] →
+    length ws ≡ r.actors → IsCollected r q k 0 xs ws
+collected_none r q k xs ws none long = record {
   rising = λ i h. absurd (omega (arith, ap length none));
   early = λ a h. absurd (omega (arith, ap length none, h.1));
   each = λ a h. absurd (omega (arith, ap length none, h.1));
-  all = λ a h. absurd (omega arith);
+  all = long;
+  placed = λ a h. absurd (omega arith);
 }
 
-pub collected_more : (r : Rates) (q k : ℕ → ℕ) (n : ℕ) (xs ys : List ℕ) → IsCollected r q k n xs →
-    IsUpdated xs n (IsRunnable r q k n) ys → IsCollected r q k (n + 1) ys
-collected_more r q k n xs ys was up = record {
+pub collected_more : (r : Rates) (q k : ℕ → ℕ) (n : ℕ) (xs ys : List ℕ) (ws vs : List (Option ℕ)) →
+    IsCollected r q k n xs ws → IsUpdated xs n (IsRunnable r q k n) ys →
+    ((b : ℕ) → (b ≡ n → ⊥) → get_or vs b None ≡ get_or ws b None) → length vs ≡ length ws →
+    IsPlaced r q k (λ _. ⊥) ys vs n → IsCollected r q k (n + 1) ys vs
+collected_more r q k n xs ys ws vs was up others long here = record {
   rising = up.rising;
   early = λ a h. early a h (cases_eq a n);
   each = λ a h. each a h (cases_eq a n);
-  all = λ a h on. all a h on (cases_eq a n);
+  all = long ∙ was.all;
+  placed = λ a h. place a h (cases_eq a n);
 }
   where
     early : (a : ℕ) → Contains ys a → (a ≡ n) ⊎ (a ≡ n → ⊥) → a < n + 1
@@ -165,29 +195,35 @@ collected_more r q k n xs ys was up = record {
     each a h (inl e) = subst (IsRunnable r q k) (sym e) (up.here.0 (subst (Contains ys) e h))
     each a h (inr ne) = was.each a ((up.others a ne).0 h)
 
-    all : (a : ℕ) → a < n + 1 → IsRunnable r q k a → (a ≡ n) ⊎ (a ≡ n → ⊥) → Contains ys a
-    all a h on (inl e) = subst (Contains ys) (sym e) (up.here.1 (subst (IsRunnable r q k) e on))
-    all a h on (inr ne) = (up.others a ne).1 (was.all a (omega arith) on)
+    place : (a : ℕ) → a < n + 1 → (a ≡ n) ⊎ (a ≡ n → ⊥) → IsPlaced r q k (λ _. ⊥) ys vs a
+    place a h (inl e) = subst (IsPlaced r q k (λ _. ⊥) ys vs) (sym e) here
+    place a h (inr ne) = beside r q k xs ys ws vs n (IsRunnable r q k n) up others (λ _. ⊥) (λ _. ⊥) a ne
+        (λ c t x. x) (was.placed a (omega arith))
 
-pub collected_all : (r : Rates) (q k : ℕ → ℕ) (n : ℕ) (xs : List ℕ) → r.actors ≤ n → IsCollected r q k n xs →
-    IsRunnableList r q k xs
-collected_all r q k n xs whole was = record {
+pub collected_all : (r : Rates) (q k : ℕ → ℕ) (n : ℕ) (xs : List ℕ) (ws : List (Option ℕ)) → r.actors ≤ n →
+    IsCollected r q k n xs ws → AreCandidates r q k xs ws
+collected_all r q k n xs ws whole was = all_caught_up r q k (λ _. ⊥) (λ c x. x) xs ws (record {
   rising = was.rising;
-  each = λ a. (was.each a, λ on. was.all a (omega (arith, on.0)) on);
-}
+  each = was.each;
+  all = was.all;
+  placed = λ a h. was.placed a (omega arith);
+})
 
 -- `fired`, of counts that are kept in a list
 pub after_firing : (g h : Shape) → h ≡ g → IsSound (rates g) → (q : ℕ → ℕ) (before now : List ℕ) (a : ℕ) →
     a < length before → now ≡ set before a (get_or before a 0 + 1) →
-    (xs ys : List ℕ) → IsRunnableList (rates g) q (slice_index before) xs →
+    (xs ys : List ℕ) (ws vs : List (Option ℕ)) → AreCandidates (rates g) q (slice_index before) xs ws →
     IsUpdated xs a (IsRunnable (rates h) q (slice_index now) a) ys →
+    ((b : ℕ) → (b ≡ a → ⊥) → get_or vs b None ≡ get_or ws b None) → length vs ≡ length ws →
+    IsPlaced (rates h) q (slice_index now) (λ _. ⊥) ys vs a →
     (later : ℕ → Type 0) → ((c : ℕ) → c < length g.channels → (channel g c).from ≡ a → later c) →
-    IsCaughtUp (rates g) q (slice_index now) a later ys
-after_firing g h same sound q before now a known is xs ys list up later all =
+    IsCaughtUp (rates g) q (slice_index now) later ys vs
+after_firing g h same sound q before now a known is xs ys ws vs was up others long here later all =
     fired (rates g) sound q (slice_index before) (slice_index now) a
     (ap (λ (n : List ℕ). get_or n a 0) is ∙ get_or-set_same before a (get_or before a 0 + 1) 0 known)
     (λ b ne. ap (λ (n : List ℕ). get_or n b 0) is ∙ get_or-set_other before a b (get_or before a 0 + 1) 0 ne)
-    xs ys list (subst (λ (s : Shape). IsUpdated xs a (IsRunnable (rates s) q (slice_index now) a) ys) same up) later all
+    xs ys ws vs was (subst (λ (s : Shape). IsUpdated xs a (IsRunnable (rates s) q (slice_index now) a) ys) same up)
+    others long (subst (λ (s : Shape). IsPlaced (rates s) q (slice_index now) (λ _. ⊥) ys vs a) same here) later all
 
 -- c stands in xs at i or behind
 abbrev pub IsFrom : List ℕ → ℕ → ℕ → Type 0
@@ -206,13 +242,26 @@ from_none xs i c past (j, (h, (l, e))) = omega arith
 pub from_start : (xs : List ℕ) (c : ℕ) → Contains xs c → IsFrom xs 0 c
 from_start xs c h = let i = place_of xs c h in (i.0, (omega arith, i.1))
 
--- `caught_up`, as a loop's step tells it
-pub next_caught_up : (g h : Shape) → h ≡ g → (q k : ℕ → ℕ) (a : ℕ) (outs : List ℕ) (i t : ℕ) →
-    t ≡ (channel g (get_or outs i 0)).to → (xs ys : List ℕ) →
-    IsCaughtUp (rates g) q k a (IsFrom outs i) xs → IsUpdated xs t (IsRunnable (rates h) q k t) ys →
-    IsCaughtUp (rates g) q k a (IsFrom outs (i + 1)) ys
-next_caught_up g h same q k a outs i t is xs ys was up =
-    caught_up (rates g) q k a (get_or outs i 0) (IsFrom outs i) (IsFrom outs (i + 1))
-    (λ c ne l. from_next outs i (get_or outs i 0) c refl ne l) xs ys was
-    (subst (λ t. IsUpdated xs t (IsRunnable (rates g) q k t) ys) is
-    (subst (λ (s : Shape). IsUpdated xs t (IsRunnable (rates s) q k t) ys) same up))
+module _ (g : Shape) (q k : ℕ → ℕ) (outs : List ℕ) (i t : ℕ) (is : t ≡ (channel g (get_or outs i 0)).to)
+    (xs : List ℕ) (ws : List (Option ℕ)) (was : IsCaughtUp (rates g) q k (IsFrom outs i) xs ws) where
+  rest : (c : ℕ) → (c ≡ get_or outs i 0 → ⊥) → IsFrom outs i c → IsFrom outs (i + 1) c
+  rest c ne l = from_next outs i (get_or outs i 0) c refl ne l
+
+  -- `tested`, as a loop's step tells it
+  pub next_tested : (h : Shape) → h ≡ g → (ys : List ℕ) (vs : List (Option ℕ)) →
+      IsUpdated xs t (IsRunnable (rates h) q k t) ys →
+      ((b : ℕ) → (b ≡ t → ⊥) → get_or vs b None ≡ get_or ws b None) → length vs ≡ length ws →
+      IsPlaced (rates h) q k (λ _. ⊥) ys vs t → IsCaughtUp (rates g) q k (IsFrom outs (i + 1)) ys vs
+  next_tested h same ys vs up others long here =
+      tested (rates g) q k (get_or outs i 0) (IsFrom outs i) (IsFrom outs (i + 1)) rest xs ws was ys vs
+      (subst (λ t. IsUpdated xs t (IsRunnable (rates g) q k t) ys) is
+      (subst (λ (s : Shape). IsUpdated xs t (IsRunnable (rates s) q k t) ys) same up))
+      (λ b ne. others b (λ e. ne (e ∙ is))) long
+      (subst (IsPlaced (rates g) q k (λ _. ⊥) ys vs) is
+      (subst (λ (s : Shape). IsPlaced (rates s) q k (λ _. ⊥) ys vs t) same here))
+
+  -- `passed`, as a loop's step tells it
+  pub next_passed : (get_or ws t None ≡ Some (get_or outs i 0) → ⊥) →
+      IsCaughtUp (rates g) q k (IsFrom outs (i + 1)) xs ws
+  next_passed other = passed (rates g) q k (get_or outs i 0) (IsFrom outs i) (IsFrom outs (i + 1)) rest xs ws was
+      (λ e. other (ap (λ t. get_or ws t None) is ∙ e))

@@ -1,16 +1,17 @@
 //! Class S: while some actor is runnable, one of them fires.
 
 ghost use Rattle.std.specs.Prelude.{◌≡◌, ℕ, ◌+◌, ◌≤◌, ◌<◌, List, length, sum, slice_index, slice_set, IfOk, IfErr};
-ghost use Rattle.std.specs.Prelude.{MatchResult, MatchOption, vec_capacity, IsTrue, ◌↔◌, []};
+ghost use Rattle.std.specs.Prelude.{MatchResult, MatchOption, vec_capacity, IsTrue, ◌↔◌, ◌⊎◌, [], slice_index_or};
+ghost use Rattle.std.specs.Prelude.{Some, None};
 ghost use Rattle.std.specs.List.{Contains};
 ghost use Rattle.std.specs.List.Sorted.{IsStrictlyIncreasing};
 ghost use Rattle.sdf_graph.specs.Rates.{rates};
 ghost use Rattle.sdf_graph.specs.Sequences.{IsRunnable, IsPass};
 ghost use Rattle.sdf_graph.specs.Periods.{IsLeastPeriod};
-ghost use Rattle.sdf_sched.specs.Pick.{IsRunnableList, IsPicked};
+ghost use Rattle.sdf_sched.specs.Pick.{IsPicked};
 ghost use Rattle.sdf_sched.specs.Period.{IsPeriodOf};
 ghost use Rattle.sdf_sched.specs.Stuck.{IsShort, IsShortList, IsSchedFault};
-ghost use Rattle.sdf_sched.specs.ClassS.{IsGoing, IsUpdated};
+ghost use Rattle.sdf_sched.specs.ClassS.{IsGoing, IsUpdated, IsPlaced, AreCandidates};
 
 use crate::fault::SchedFault;
 use crate::laws::stuck_counts_mean_deadlock;
@@ -22,29 +23,36 @@ use sdf_graph::{Counts, Graph, Repetitions};
 use sdf_limits::MOST_PERIOD;
 use std::alloc::{AllocError, Global};
 
-/// Whether an actor may fire within the period.
-fn is_runnable(counts: &Counts, firings: &[u32], actor: usize) -> bool
-    requires all { length firings.now ≡ counts.now.graph.actors }
-    requires known { actor < length firings.now }
-    ensures { IsTrue result ↔ IsRunnable (rates counts.now.graph) (slice_index firings.now)
-        (slice_index counts.now.fired) actor }
-{
-    counts.fired(actor) < firings[actor] && counts.enabled(actor)
+/// The runnable actors in file order, and for each other actor whose firings are not over a channel that it waits for.
+#[derive(Drop)]
+struct Candidates {
+    runnable: Vec<usize>,
+    awaited: Vec<Option<usize>>,
 }
 
-/// Puts an actor into the list of those that are runnable, or takes it out.
-fn update(counts: &Counts, firings: &[u32], actor: usize, runnable: &mut Vec<usize>)
+/// Returns the lowest channel that `actor` lacks samples on, if its firings are not over.
+fn short_of(counts: &Counts, firings: &[u32], actor: usize) -> Option<usize>
     requires all { length firings.now ≡ counts.now.graph.actors }
     requires known { actor < length firings.now }
+    ensures { MatchOption result
+        ((slice_index firings.now actor ≤ slice_index counts.now.fired actor)
+        ⊎ IsRunnable (rates counts.now.graph) (slice_index firings.now) (slice_index counts.now.fired) actor)
+        (IsShort (rates counts.now.graph) (slice_index firings.now) (slice_index counts.now.fired) actor) }
+{
+    if counts.fired(actor) >= firings[actor] {
+        return None;
+    }
+    counts.short_channel(actor)
+}
+
+/// Puts `actor` into the rising list of runnable ones if it `fires`, and takes it out if it does not.
+fn update(actor: usize, fires: bool, runnable: &mut Vec<usize>)
+    requires known { actor < vec_capacity runnable.old }
     requires rising { IsStrictlyIncreasing runnable.old.items }
-    requires below { (a : ℕ) → Contains runnable.old.items a → a < length firings.now }
-    requires room { length firings.now ≤ vec_capacity runnable.old }
-    ensures list { IsUpdated runnable.old.items actor
-        (IsRunnable (rates counts.now.graph) (slice_index firings.now) (slice_index counts.now.fired) actor)
-        runnable.new.items }
+    requires below { (a : ℕ) → Contains runnable.old.items a → a < vec_capacity runnable.old }
+    ensures list { IsUpdated runnable.old.items actor (IsTrue fires) runnable.new.items }
     ensures capacity { vec_capacity runnable.new ≡ vec_capacity runnable.old }
 {
-    let fires = is_runnable(counts, firings, actor);
     match runnable.binary_search(&actor) {
         Ok(at) => {
             if !fires {
@@ -59,50 +67,85 @@ fn update(counts: &Counts, firings: &[u32], actor: usize, runnable: &mut Vec<usi
     }
 }
 
-/// The actors that are runnable before the first firing.
-fn collect(counts: &Counts, firings: &[u32], runnable: &mut Vec<usize>)
+/// Tests whether `actor` is runnable, and keeps the channel that it waits for if it is not.
+fn test(counts: &Counts, firings: &[u32], actor: usize, candidates: &mut Candidates)
     requires all { length firings.now ≡ counts.now.graph.actors }
-    requires empty { runnable.old.items ≡ [] }
-    requires room { length firings.now ≤ vec_capacity runnable.old }
-    ensures list { IsRunnableList (rates counts.now.graph) (slice_index firings.now) (slice_index counts.now.fired)
-        runnable.new.items }
-    ensures capacity { vec_capacity runnable.new ≡ vec_capacity runnable.old }
+    requires known { actor < length firings.now }
+    requires each { length candidates.old.awaited.items ≡ length firings.now }
+    requires rising { IsStrictlyIncreasing candidates.old.runnable.items }
+    requires below { (a : ℕ) → Contains candidates.old.runnable.items a → a < length firings.now }
+    requires room { length firings.now ≤ vec_capacity candidates.old.runnable }
+    ensures list { IsUpdated candidates.old.runnable.items actor
+        (IsRunnable (rates counts.now.graph) (slice_index firings.now) (slice_index counts.now.fired) actor)
+        candidates.new.runnable.items }
+    ensures each { length candidates.new.awaited.items ≡ length candidates.old.awaited.items }
+    ensures here { IsPlaced (rates counts.now.graph) (slice_index firings.now) (slice_index counts.now.fired) (λ _. ⊥)
+        candidates.new.runnable.items candidates.new.awaited.items actor }
+    ensures others { (b : ℕ) → (b ≡ actor → ⊥) →
+        slice_index_or candidates.new.awaited.items b None ≡ slice_index_or candidates.old.awaited.items b None }
+    ensures capacity { vec_capacity candidates.new.runnable ≡ vec_capacity candidates.old.runnable }
+{
+    let short = short_of(counts, firings, actor);
+    let fires = short.is_none() && counts.fired(actor) < firings[actor];
+    update(actor, fires, &mut candidates.runnable);
+    candidates.awaited[actor] = short;
+}
+
+/// Collects the actors that are runnable before the first firing.
+fn collect(counts: &Counts, firings: &[u32], candidates: &mut Candidates)
+    requires all { length firings.now ≡ counts.now.graph.actors }
+    requires each { length candidates.old.awaited.items ≡ length firings.now }
+    requires empty { candidates.old.runnable.items ≡ [] }
+    requires room { length firings.now ≤ vec_capacity candidates.old.runnable }
+    ensures list { AreCandidates (rates counts.now.graph) (slice_index firings.now) (slice_index counts.now.fired)
+        candidates.new.runnable.items candidates.new.awaited.items }
+    ensures capacity { vec_capacity candidates.new.runnable ≡ vec_capacity candidates.old.runnable }
 {
     for actor in 0..firings.len() {
-        update(counts, firings, actor, runnable);
+        test(counts, firings, actor, candidates);
     }
 }
 
-/// Fires a runnable actor. Besides it, only the actors that it feeds are looked at again.
+/// Fires a runnable actor. Besides it, only the actors that wait for a channel that it feeds are tested again.
 fn fire(
     graph: &Graph,
     firings: &[u32],
     actor: usize,
     counts: &mut Counts,
-    runnable: &mut Vec<usize>,
+    candidates: &mut Candidates,
 )
     requires same { counts.old.graph ≡ graph.now }
     requires all { length firings.now ≡ graph.now.actors }
     requires each { length counts.old.fired ≡ graph.now.actors }
     requires short { sum firings.now ≤ MOST_PERIOD }
-    requires room { length firings.now ≤ vec_capacity runnable.old }
-    requires list { IsRunnableList (rates graph.now) (slice_index firings.now) (slice_index counts.old.fired)
-        runnable.old.items }
-    requires fires { Contains runnable.old.items actor }
+    requires room { length firings.now ≤ vec_capacity candidates.old.runnable }
+    requires list { AreCandidates (rates graph.now) (slice_index firings.now) (slice_index counts.old.fired)
+        candidates.old.runnable.items candidates.old.awaited.items }
+    requires fires { Contains candidates.old.runnable.items actor }
     ensures fired { counts.new ≡ record counts.old
         { fired = slice_set counts.old.fired actor (slice_index counts.old.fired actor + 1) } }
-    ensures list { IsRunnableList (rates graph.now) (slice_index firings.now) (slice_index counts.new.fired)
-        runnable.new.items }
-    ensures capacity { vec_capacity runnable.new ≡ vec_capacity runnable.old }
+    ensures list { AreCandidates (rates graph.now) (slice_index firings.now) (slice_index counts.new.fired)
+        candidates.new.runnable.items candidates.new.awaited.items }
+    ensures capacity { vec_capacity candidates.new.runnable ≡ vec_capacity candidates.old.runnable }
 {
     graphs_are_sound();
     let channels = graph.channels();
     counts.fire(actor);
-    update(counts, firings, actor, runnable);
+    test(counts, firings, actor, candidates);
     for channel in graph.outgoing(actor) {
         let fed = &channels[*channel];
-        update(counts, firings, fed.to, runnable);
+        if awaits(&candidates.awaited, fed.to, *channel) {
+            test(counts, firings, fed.to, candidates);
+        }
     }
+}
+
+/// Returns whether `channel` is the one that `actor` waits for.
+fn awaits(awaited: &[Option<usize>], actor: usize, channel: usize) -> bool
+    requires { actor < length awaited.now }
+    ensures { IsTrue result ↔ (slice_index_or awaited.now actor None ≡ Some channel) }
+{
+    awaited[actor] == Some(channel)
 }
 
 /// Fires what the pick chooses while some actor is runnable.
@@ -111,54 +154,40 @@ fn fire_all<P: Pick>(
     firings: &[u32],
     counts: &mut Counts,
     order: &mut Vec<usize>,
-    runnable: &mut Vec<usize>,
+    candidates: &mut Candidates,
     pick: &mut P,
 )
     requires all { length firings.now ≡ graph.now.actors }
     requires short { sum firings.now ≤ MOST_PERIOD }
     requires room { sum firings.now ≤ vec_capacity order.old }
-    requires places { length firings.now ≤ vec_capacity runnable.old }
+    requires places { length firings.now ≤ vec_capacity candidates.old.runnable }
     requires begun { IsGoing P.chooses graph.now firings.now pick.old counts.old order.old.items pick.old
-        runnable.old.items }
+        candidates.old.runnable.items }
+    requires list { AreCandidates (rates graph.now) (slice_index firings.now) (slice_index counts.old.fired)
+        candidates.old.runnable.items candidates.old.awaited.items }
     ensures { IsGoing P.chooses graph.now firings.now pick.old counts.new order.new.items pick.new [] }
 {
     sums_rise();
-    while !runnable.is_empty() {
-        let at = pick.choose(graph, counts, runnable);
-        let actor = runnable[at];
+    while !candidates.runnable.is_empty() {
+        let at = pick.choose(graph, counts, &candidates.runnable);
+        let actor = candidates.runnable[at];
         order.push_reserved(actor);
-        fire(graph, firings, actor, counts, runnable);
+        fire(graph, firings, actor, counts, candidates);
     }
-}
-
-/// The channel that an unfinished actor lacks samples on.
-fn short_of(counts: &Counts, reps: &Repetitions, actor: usize) -> Option<usize>
-    requires all { length reps.now ≡ counts.now.graph.actors }
-    requires known { actor < length reps.now }
-    requires stopped { IsRunnable (rates counts.now.graph) (slice_index reps.now) (slice_index counts.now.fired) actor →
-        ⊥ }
-    ensures { MatchOption result
-        (slice_index reps.now actor ≤ slice_index counts.now.fired actor)
-        (IsShort (rates counts.now.graph) (slice_index reps.now) (slice_index counts.now.fired) actor) }
-{
-    if counts.fired(actor) >= reps.of(actor) {
-        return None;
-    }
-    counts.short_channel(actor)
 }
 
 /// The unfinished actors, each with its lowest channel that holds too little.
-fn collect_short(counts: &Counts, reps: &Repetitions, short: &mut Vec<(usize, usize)>)
-    requires all { length reps.now ≡ counts.now.graph.actors }
+fn collect_short(counts: &Counts, firings: &[u32], short: &mut Vec<(usize, usize)>)
+    requires all { length firings.now ≡ counts.now.graph.actors }
     requires empty { short.old.items ≡ [] }
-    requires room { length reps.now ≤ vec_capacity short.old }
-    requires stopped { (a : ℕ) → IsRunnable (rates counts.now.graph) (slice_index reps.now)
+    requires room { length firings.now ≤ vec_capacity short.old }
+    requires stopped { (a : ℕ) → IsRunnable (rates counts.now.graph) (slice_index firings.now)
         (slice_index counts.now.fired) a → ⊥ }
-    ensures { IsShortList (rates counts.now.graph) (slice_index reps.now) (slice_index counts.now.fired)
+    ensures { IsShortList (rates counts.now.graph) (slice_index firings.now) (slice_index counts.now.fired)
         short.new.items }
 {
-    for actor in 0..reps.len() {
-        if let Some(channel) = short_of(counts, reps, actor) {
+    for actor in 0..firings.len() {
+        if let Some(channel) = short_of(counts, firings, actor) {
             short.push_reserved((actor, channel));
         }
     }
@@ -206,9 +235,11 @@ fn fire_greedily<'a, P: Pick>(
 {
     let mut counts = Counts::new(alloc, graph)?;
     let mut order = Vec::with_capacity(alloc, total(firings))?;
-    let mut runnable = Vec::with_capacity(alloc, firings.len())?;
-    collect(&counts, firings, &mut runnable);
-    fire_all(graph, firings, &mut counts, &mut order, &mut runnable, pick);
+    let runnable = Vec::with_capacity(alloc, firings.len())?;
+    let awaited = vec![in alloc; None; firings.len()]?;
+    let mut candidates = Candidates { runnable, awaited };
+    collect(&counts, firings, &mut candidates);
+    fire_all(graph, firings, &mut counts, &mut order, &mut candidates, pick);
     Ok((counts, order))
 }
 
@@ -236,7 +267,7 @@ pub fn class_s<P: Pick>(
     let mut done = Vec::with_capacity(alloc, reps.len())?;
     let mut short = Vec::with_capacity(alloc, reps.len())?;
     let (counts, order) = fire_greedily(alloc, graph, reps.as_slice(), pick)?;
-    collect_short(&counts, reps, &mut short);
+    collect_short(&counts, reps.as_slice(), &mut short);
     collect_done(&counts, reps, &mut done);
     if !short.is_empty() {
         return Err(SchedFault::Deadlock(Stuck { done, short }));

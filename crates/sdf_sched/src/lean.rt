@@ -1,8 +1,9 @@
 //! The lean policy.
 
-ghost use Rattle.std.specs.Prelude.{◌≡◌, ℕ, ◌*◌, ◌≤◌, ◌<◌, ◌↔◌, length, slice_index, IsTrue};
+ghost use Rattle.std.specs.Prelude.{◌≡◌, ℕ, ◌+◌, ◌*◌, ◌≤◌, ◌<◌, ◌↔◌, length, slice_index, IsTrue};
 ghost use Rattle.sdf_graph.specs.Rates.{rates};
 ghost use Rattle.sdf_sched.specs.Lean.{moved_by, IsLeaner};
+ghost use Rattle.sdf_sched.specs.Flow.{IsFlow, AreSmall};
 
 use crate::pick::Pick;
 use sdf_graph::laws::sums_rise;
@@ -23,6 +24,13 @@ impl Pick for Lean {
     }
 }
 
+/// The samples that an actor's next firing puts on channels, and those that it takes from channels.
+#[derive(Clone, Copy)]
+struct Flow {
+    put: u64,
+    taken: u64,
+}
+
 /// The place of the leanest actor, the first of several.
 fn leanest(graph: &Graph, counts: &Counts, runnable: &[usize]) -> usize
     requires same { counts.now.graph ≡ graph.now }
@@ -36,25 +44,38 @@ fn leanest(graph: &Graph, counts: &Counts, runnable: &[usize]) -> usize
         (slice_index runnable.now result) (slice_index runnable.now i) }
 {
     let mut best = 0;
-    for (i, actor) in runnable.iter().enumerate() {
-        if is_leaner(graph, counts, *actor, runnable[best]) {
+    let mut least = flow_of(graph, counts, runnable[0]);
+    for i in 1..runnable.len() {
+        let flow = flow_of(graph, counts, runnable[i]);
+        if is_leaner(flow, least) {
             best = i;
+            least = flow;
         }
     }
     best
 }
 
-/// Whether a firing of one actor adds less to what the channels hold than a firing of another.
-fn is_leaner(graph: &Graph, counts: &Counts, one: usize, other: usize) -> bool
-    requires same { counts.now.graph ≡ graph.now }
-    requires one { one < graph.now.actors }
-    requires other { other < graph.now.actors }
-    ensures { IsTrue result ↔ IsLeaner (rates graph.now) (slice_index counts.now.fired) one other }
+/// Whether a firing with one flow adds less to what the channels hold than a firing with another.
+fn is_leaner(one: Flow, other: Flow) -> bool
+    requires one { AreSmall one }
+    requires other { AreSmall other }
+    ensures { IsTrue result ↔ (one.put + other.taken < other.put + one.taken) }
 {
-    let one_at = counts.fired(one);
-    let other_at = counts.fired(other);
-    moved_by(graph, one, End::Source, one_at) + moved_by(graph, other, End::Target, other_at)
-        < moved_by(graph, other, End::Source, other_at) + moved_by(graph, one, End::Target, one_at)
+    one.put + other.taken < other.put + one.taken
+}
+
+/// Returns the flow of `actor`'s next firing.
+fn flow_of(graph: &Graph, counts: &Counts, actor: usize) -> Flow
+    requires same { counts.now.graph ≡ graph.now }
+    requires known { actor < graph.now.actors }
+    ensures flow { IsFlow (rates graph.now) (slice_index counts.now.fired) actor result }
+    ensures small { AreSmall result }
+{
+    let i = counts.fired(actor);
+    Flow {
+        put: moved_by(graph, actor, End::Source, i),
+        taken: moved_by(graph, actor, End::Target, i),
+    }
 }
 
 /// The samples that firing `i` of an actor moves: what it puts on the channels of which it is the source, or what it

@@ -1,0 +1,16 @@
+-- What a firing moves, as the lean policy keeps it.
+use Rattle.std.specs.Prelude.{◌≡◌, ℕ, ◌*◌, ◌≤◌}
+use Rattle.sdf_limits.specs.declared.TheConstants.{MOST_RATE, MOST_LINKS}
+use Rattle.sdf_graph.specs.Rates.{Rates}
+use Rattle.sdf_sched.specs.Lean.{puts, takes}
+use Rattle.sdf_sched.specs.declared.lean.Flow.{Flow}
+
+-- the samples that actor a's next firing puts and takes at counts k
+pub record IsFlow (r : Rates) (k : ℕ → ℕ) (a : ℕ) (f : Flow) : Type 0 where
+  pub put : f.put ≡ puts r k a
+  pub taken : f.taken ≡ takes r k a
+
+-- they are no more than all channels move at most
+pub record AreSmall (f : Flow) : Type 0 where
+  pub put : f.put ≤ MOST_RATE * MOST_LINKS
+  pub taken : f.taken ≤ MOST_RATE * MOST_LINKS
