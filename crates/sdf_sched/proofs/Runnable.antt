@@ -9,7 +9,7 @@ use Rattle.sdf_graph.specs.Rates.{Rates, IsSound, Shape, rates, channel}
 use Rattle.std.specs.Prelude.{Option, Some, None}
 use Rattle.sdf_graph.specs.Sequences.{IsReady, IsRunnable}
 use Rattle.sdf_sched.specs.Pick.{IsRunnableList}
-use Rattle.sdf_sched.specs.ClassS.{IsUpdated, IsPlaced, listed, over, waits, AreCandidates}
+use Rattle.sdf_sched.specs.ClassS.{IsPlaced, listed, over, waits, IsTested, AreCandidates}
 use Rattle.sdf_sched.proofs.Greedy.{IsEnabled_rises}
 use Rattle.sdf_sched.proofs.Updates.{place_of}
 
@@ -29,14 +29,13 @@ module _ (r : Rates) (q k : ℕ → ℕ) where
   wider later xs ws a (waits c e l t (inr short)) = waits c e l t (inr short)
 
   -- where an actor stands beside one that is tested
-  module _ (xs ys : List ℕ) (ws vs : List (Option ℕ)) (a : ℕ) (runnable : Type 0) (up : IsUpdated xs a runnable ys)
-      (others : (b : ℕ) → (b ≡ a → ⊥) → get_or vs b None ≡ get_or ws b None) where
+  module _ (xs ys : List ℕ) (ws vs : List (Option ℕ)) (a : ℕ) (up : IsTested r q k a xs ws ys vs) where
     beside : (later then : ℕ → Type 0) (b : ℕ) → (b ≡ a → ⊥) → ((c : ℕ) → r.target c ≡ b → later c → then c) →
         IsPlaced r q k later xs ws b → IsPlaced r q k then ys vs b
-    beside later then b ne move (listed h) = listed ((up.others b ne).1 h)
+    beside later then b ne move (listed h) = listed ((up.list.others b ne).1 h)
     beside later then b ne move (over h) = over h
-    beside later then b ne move (waits c e l t (inl x)) = waits c (others b ne ∙ e) l t (inl (move c t x))
-    beside later then b ne move (waits c e l t (inr short)) = waits c (others b ne ∙ e) l t (inr short)
+    beside later then b ne move (waits c e l t (inl x)) = waits c (up.others b ne ∙ e) l t (inl (move c t x))
+    beside later then b ne move (waits c e l t (inr short)) = waits c (up.others b ne ∙ e) l t (inr short)
 
 module _ (r : Rates) (sound : IsSound r) (q k m : ℕ → ℕ) (a : ℕ) (own : m a ≡ k a + 1)
     (other : (b : ℕ) → (b ≡ a → ⊥) → m b ≡ k b) where
@@ -66,30 +65,28 @@ module _ (r : Rates) (sound : IsSound r) (q k m : ℕ → ℕ) (a : ℕ) (own : 
 
   -- with a itself tested again, only what it feeds may be missing
   pub fired : (xs ys : List ℕ) (ws vs : List (Option ℕ)) → AreCandidates r q k xs ws →
-      IsUpdated xs a (IsRunnable r q m a) ys →
-      ((b : ℕ) → (b ≡ a → ⊥) → get_or vs b None ≡ get_or ws b None) → length vs ≡ length ws →
-      IsPlaced r q m (λ _. ⊥) ys vs a →
+      IsTested r q m a xs ws ys vs →
       (later : ℕ → Type 0) → ((c : ℕ) → c < r.channels → r.source c ≡ a → later c) → IsCaughtUp r q m later ys vs
-  fired xs ys ws vs was up others long here later all = record {
-    rising = up.rising;
+  fired xs ys ws vs was up later all = record {
+    rising = up.list.rising;
     each = λ b h. each b h (cases_eq b a);
-    all = long ∙ was.all;
+    all = up.all ∙ was.all;
     placed = λ b l. place b (cases_eq b a) (was.placed b l);
   }
     where
       each : (b : ℕ) → Contains ys b → (b ≡ a) ⊎ (b ≡ a → ⊥) → IsRunnable r q m b
-      each b h (inl e) = subst (IsRunnable r q m) (sym e) (up.here.0 (subst (Contains ys) e h))
-      each b h (inr ne) = stays_runnable b ne ((was.list.each b).0 ((up.others b ne).0 h))
+      each b h (inl e) = subst (IsRunnable r q m) (sym e) (up.list.here.0 (subst (Contains ys) e h))
+      each b h (inr ne) = stays_runnable b ne ((was.list.each b).0 ((up.list.others b ne).0 h))
 
       waiting : (b c : ℕ) → (b ≡ a → ⊥) → get_or ws b None ≡ Some c → c < r.channels → r.target c ≡ b →
           (IsReady r k c → ⊥) → (r.source c ≡ a) ⊎ (r.source c ≡ a → ⊥) → IsPlaced r q m later ys vs b
-      waiting b c ne e l t short (inl fed) = waits c (others b ne ∙ e) l t (inl (all c l fed))
+      waiting b c ne e l t short (inl fed) = waits c (up.others b ne ∙ e) l t (inl (all c l fed))
       waiting b c ne e l t short (inr apart) =
-          waits c (others b ne ∙ e) l t (inr (still_short c b t ne apart short))
+          waits c (up.others b ne ∙ e) l t (inr (still_short c b t ne apart short))
 
       place : (b : ℕ) → (b ≡ a) ⊎ (b ≡ a → ⊥) → IsPlaced r q k (λ _. ⊥) xs ws b → IsPlaced r q m later ys vs b
-      place b (inl e) z = subst (IsPlaced r q m later ys vs) (sym e) (wider r q m later ys vs a here)
-      place b (inr ne) (listed h) = listed ((up.others b ne).1 h)
+      place b (inl e) z = subst (IsPlaced r q m later ys vs) (sym e) (wider r q m later ys vs a up.here)
+      place b (inr ne) (listed h) = listed ((up.list.others b ne).1 h)
       place b (inr ne) (over h) = over (omega (arith, other b ne))
       place b (inr ne) (waits c e l t (inl x)) = absurd x
       place b (inr ne) (waits c e l t (inr short)) = waiting b c ne e l t short (cases_eq (r.source c) a)
@@ -98,23 +95,21 @@ module _ (r : Rates) (q k : ℕ → ℕ) (d : ℕ) (later then : ℕ → Type 0)
     (rest : (c : ℕ) → (c ≡ d → ⊥) → later c → then c) (xs : List ℕ) (ws : List (Option ℕ))
     (was : IsCaughtUp r q k later xs ws) where
   -- with the target of channel d tested again, d is not among the later ones any more
-  pub tested : (ys : List ℕ) (vs : List (Option ℕ)) → IsUpdated xs (r.target d) (IsRunnable r q k (r.target d)) ys →
-      ((b : ℕ) → (b ≡ r.target d → ⊥) → get_or vs b None ≡ get_or ws b None) → length vs ≡ length ws →
-      IsPlaced r q k (λ _. ⊥) ys vs (r.target d) → IsCaughtUp r q k then ys vs
-  tested ys vs up others long here = record {
-    rising = up.rising;
+  pub tested : (ys : List ℕ) (vs : List (Option ℕ)) → IsTested r q k (r.target d) xs ws ys vs → IsCaughtUp r q k then ys vs
+  tested ys vs up = record {
+    rising = up.list.rising;
     each = λ b h. each b h (cases_eq b (r.target d));
-    all = long ∙ was.all;
+    all = up.all ∙ was.all;
     placed = λ b l. place b l (cases_eq b (r.target d));
   }
     where
       each : (b : ℕ) → Contains ys b → (b ≡ r.target d) ⊎ (b ≡ r.target d → ⊥) → IsRunnable r q k b
-      each b h (inl e) = subst (IsRunnable r q k) (sym e) (up.here.0 (subst (Contains ys) e h))
-      each b h (inr ne) = was.each b ((up.others b ne).0 h)
+      each b h (inl e) = subst (IsRunnable r q k) (sym e) (up.list.here.0 (subst (Contains ys) e h))
+      each b h (inr ne) = was.each b ((up.list.others b ne).0 h)
 
       place : (b : ℕ) → b < r.actors → (b ≡ r.target d) ⊎ (b ≡ r.target d → ⊥) → IsPlaced r q k then ys vs b
-      place b l (inl e) = subst (IsPlaced r q k then ys vs) (sym e) (wider r q k then ys vs (r.target d) here)
-      place b l (inr ne) = beside r q k xs ys ws vs (r.target d) (IsRunnable r q k (r.target d)) up others later then b ne
+      place b l (inl e) = subst (IsPlaced r q k then ys vs) (sym e) (wider r q k then ys vs (r.target d) up.here)
+      place b l (inr ne) = beside r q k xs ys ws vs (r.target d) up later then b ne
           (λ c t x. rest c (λ is. ne (sym t ∙ ap r.target is)) x) (was.placed b l)
 
   -- nor is it where its target does not wait for it
@@ -176,28 +171,26 @@ collected_none r q k xs ws none long = record {
 }
 
 pub collected_more : (r : Rates) (q k : ℕ → ℕ) (n : ℕ) (xs ys : List ℕ) (ws vs : List (Option ℕ)) →
-    IsCollected r q k n xs ws → IsUpdated xs n (IsRunnable r q k n) ys →
-    ((b : ℕ) → (b ≡ n → ⊥) → get_or vs b None ≡ get_or ws b None) → length vs ≡ length ws →
-    IsPlaced r q k (λ _. ⊥) ys vs n → IsCollected r q k (n + 1) ys vs
-collected_more r q k n xs ys ws vs was up others long here = record {
-  rising = up.rising;
+    IsCollected r q k n xs ws → IsTested r q k n xs ws ys vs → IsCollected r q k (n + 1) ys vs
+collected_more r q k n xs ys ws vs was up = record {
+  rising = up.list.rising;
   early = λ a h. early a h (cases_eq a n);
   each = λ a h. each a h (cases_eq a n);
-  all = long ∙ was.all;
+  all = up.all ∙ was.all;
   placed = λ a h. place a h (cases_eq a n);
 }
   where
     early : (a : ℕ) → Contains ys a → (a ≡ n) ⊎ (a ≡ n → ⊥) → a < n + 1
     early a h (inl e) = omega arith
-    early a h (inr ne) = omega (arith, was.early a ((up.others a ne).0 h))
+    early a h (inr ne) = omega (arith, was.early a ((up.list.others a ne).0 h))
 
     each : (a : ℕ) → Contains ys a → (a ≡ n) ⊎ (a ≡ n → ⊥) → IsRunnable r q k a
-    each a h (inl e) = subst (IsRunnable r q k) (sym e) (up.here.0 (subst (Contains ys) e h))
-    each a h (inr ne) = was.each a ((up.others a ne).0 h)
+    each a h (inl e) = subst (IsRunnable r q k) (sym e) (up.list.here.0 (subst (Contains ys) e h))
+    each a h (inr ne) = was.each a ((up.list.others a ne).0 h)
 
     place : (a : ℕ) → a < n + 1 → (a ≡ n) ⊎ (a ≡ n → ⊥) → IsPlaced r q k (λ _. ⊥) ys vs a
-    place a h (inl e) = subst (IsPlaced r q k (λ _. ⊥) ys vs) (sym e) here
-    place a h (inr ne) = beside r q k xs ys ws vs n (IsRunnable r q k n) up others (λ _. ⊥) (λ _. ⊥) a ne
+    place a h (inl e) = subst (IsPlaced r q k (λ _. ⊥) ys vs) (sym e) up.here
+    place a h (inr ne) = beside r q k xs ys ws vs n up (λ _. ⊥) (λ _. ⊥) a ne
         (λ c t x. x) (was.placed a (omega arith))
 
 pub collected_all : (r : Rates) (q k : ℕ → ℕ) (n : ℕ) (xs : List ℕ) (ws : List (Option ℕ)) → r.actors ≤ n →
@@ -213,17 +206,14 @@ collected_all r q k n xs ws whole was = all_caught_up r q k (λ _. ⊥) (λ c x.
 pub after_firing : (g h : Shape) → h ≡ g → IsSound (rates g) → (q : ℕ → ℕ) (before now : List ℕ) (a : ℕ) →
     a < length before → now ≡ set before a (get_or before a 0 + 1) →
     (xs ys : List ℕ) (ws vs : List (Option ℕ)) → AreCandidates (rates g) q (slice_index before) xs ws →
-    IsUpdated xs a (IsRunnable (rates h) q (slice_index now) a) ys →
-    ((b : ℕ) → (b ≡ a → ⊥) → get_or vs b None ≡ get_or ws b None) → length vs ≡ length ws →
-    IsPlaced (rates h) q (slice_index now) (λ _. ⊥) ys vs a →
+    IsTested (rates h) q (slice_index now) a xs ws ys vs →
     (later : ℕ → Type 0) → ((c : ℕ) → c < length g.channels → (channel g c).from ≡ a → later c) →
     IsCaughtUp (rates g) q (slice_index now) later ys vs
-after_firing g h same sound q before now a known is xs ys ws vs was up others long here later all =
+after_firing g h same sound q before now a known is xs ys ws vs was up later all =
     fired (rates g) sound q (slice_index before) (slice_index now) a
     (ap (λ (n : List ℕ). get_or n a 0) is ∙ get_or-set_same before a (get_or before a 0 + 1) 0 known)
     (λ b ne. ap (λ (n : List ℕ). get_or n b 0) is ∙ get_or-set_other before a b (get_or before a 0 + 1) 0 ne)
-    xs ys ws vs was (subst (λ (s : Shape). IsUpdated xs a (IsRunnable (rates s) q (slice_index now) a) ys) same up)
-    others long (subst (λ (s : Shape). IsPlaced (rates s) q (slice_index now) (λ _. ⊥) ys vs a) same here) later all
+    xs ys ws vs was (subst (λ (s : Shape). IsTested (rates s) q (slice_index now) a xs ws ys vs) same up) later all
 
 -- c stands in xs at i or behind
 abbrev pub IsFrom : List ℕ → ℕ → ℕ → Type 0
@@ -249,16 +239,11 @@ module _ (g : Shape) (q k : ℕ → ℕ) (outs : List ℕ) (i t : ℕ) (is : t �
 
   -- `tested`, as a loop's step tells it
   pub next_tested : (h : Shape) → h ≡ g → (ys : List ℕ) (vs : List (Option ℕ)) →
-      IsUpdated xs t (IsRunnable (rates h) q k t) ys →
-      ((b : ℕ) → (b ≡ t → ⊥) → get_or vs b None ≡ get_or ws b None) → length vs ≡ length ws →
-      IsPlaced (rates h) q k (λ _. ⊥) ys vs t → IsCaughtUp (rates g) q k (IsFrom outs (i + 1)) ys vs
-  next_tested h same ys vs up others long here =
+      IsTested (rates h) q k t xs ws ys vs → IsCaughtUp (rates g) q k (IsFrom outs (i + 1)) ys vs
+  next_tested h same ys vs up =
       tested (rates g) q k (get_or outs i 0) (IsFrom outs i) (IsFrom outs (i + 1)) rest xs ws was ys vs
-      (subst (λ t. IsUpdated xs t (IsRunnable (rates g) q k t) ys) is
-      (subst (λ (s : Shape). IsUpdated xs t (IsRunnable (rates s) q k t) ys) same up))
-      (λ b ne. others b (λ e. ne (e ∙ is))) long
-      (subst (IsPlaced (rates g) q k (λ _. ⊥) ys vs) is
-      (subst (λ (s : Shape). IsPlaced (rates s) q k (λ _. ⊥) ys vs t) same here))
+      (subst (λ t. IsTested (rates g) q k t xs ws ys vs) is
+      (subst (λ (s : Shape). IsTested (rates s) q k t xs ws ys vs) same up))
 
   -- `passed`, as a loop's step tells it
   pub next_passed : (get_or ws t None ≡ Some (get_or outs i 0) → ⊥) →

@@ -1,8 +1,8 @@
 //! Class S: while some actor is runnable, one of them fires.
 
 ghost use Rattle.std.specs.Prelude.{◌≡◌, ℕ, ◌+◌, ◌≤◌, ◌<◌, List, length, sum, slice_index, slice_set, IfOk, IfErr};
-ghost use Rattle.std.specs.Prelude.{MatchResult, MatchOption, vec_capacity, IsTrue, ◌↔◌, ◌⊎◌, [], slice_index_or};
-ghost use Rattle.std.specs.Prelude.{Some, None};
+ghost use Rattle.std.specs.Prelude.{MatchResult, vec_capacity, IsTrue, ◌↔◌, [], slice_index_or};
+ghost use Rattle.std.specs.Prelude.{Some, None, ⊤};
 ghost use Rattle.std.specs.List.{Contains};
 ghost use Rattle.std.specs.List.Sorted.{IsStrictlyIncreasing};
 ghost use Rattle.sdf_graph.specs.Rates.{rates};
@@ -10,8 +10,8 @@ ghost use Rattle.sdf_graph.specs.Sequences.{IsRunnable, IsPass};
 ghost use Rattle.sdf_graph.specs.Periods.{IsLeastPeriod};
 ghost use Rattle.sdf_sched.specs.Pick.{IsPicked};
 ghost use Rattle.sdf_sched.specs.Period.{IsPeriodOf};
-ghost use Rattle.sdf_sched.specs.Stuck.{IsShort, IsShortList, IsSchedFault};
-ghost use Rattle.sdf_sched.specs.ClassS.{IsGoing, IsUpdated, IsPlaced, AreCandidates};
+ghost use Rattle.sdf_sched.specs.Stuck.{IsShortList, IsSchedFault};
+ghost use Rattle.sdf_sched.specs.ClassS.{IsGoing, IsUpdated, IsTold, IsTested, AreCandidates};
 
 use crate::fault::SchedFault;
 use crate::laws::stuck_counts_mean_deadlock;
@@ -34,10 +34,7 @@ struct Candidates {
 fn short_of(counts: &Counts, firings: &[u32], actor: usize) -> Option<usize>
     requires all { length firings.now ≡ counts.now.graph.actors }
     requires known { actor < length firings.now }
-    ensures { MatchOption result
-        ((slice_index firings.now actor ≤ slice_index counts.now.fired actor)
-        ⊎ IsRunnable (rates counts.now.graph) (slice_index firings.now) (slice_index counts.now.fired) actor)
-        (IsShort (rates counts.now.graph) (slice_index firings.now) (slice_index counts.now.fired) actor) }
+    ensures { IsTold (rates counts.now.graph) (slice_index firings.now) (slice_index counts.now.fired) actor result }
 {
     if counts.fired(actor) >= firings[actor] {
         return None;
@@ -45,50 +42,74 @@ fn short_of(counts: &Counts, firings: &[u32], actor: usize) -> Option<usize>
     counts.short_channel(actor)
 }
 
-/// Puts `actor` into the rising list of runnable ones if it `fires`, and takes it out if it does not.
-fn update(actor: usize, fires: bool, runnable: &mut Vec<usize>)
+/// Returns whether `actor` is runnable, and keeps the channel that it waits for if it is not.
+fn test(counts: &Counts, firings: &[u32], actor: usize, awaited: &mut [Option<usize>]) -> bool
+    requires all { length firings.now ≡ counts.now.graph.actors }
+    requires known { actor < length firings.now }
+    requires each { length awaited.old ≡ length firings.now }
+    ensures fires { IsTrue result ↔
+        IsRunnable (rates counts.now.graph) (slice_index firings.now) (slice_index counts.now.fired) actor }
+    ensures here { IsTold (rates counts.now.graph) (slice_index firings.now) (slice_index counts.now.fired) actor
+        (slice_index_or awaited.new actor None) }
+    ensures each { length awaited.new ≡ length awaited.old }
+    ensures others { (b : ℕ) → (b ≡ actor → ⊥) →
+        slice_index_or awaited.new b None ≡ slice_index_or awaited.old b None }
+{
+    let short = short_of(counts, firings, actor);
+    awaited[actor] = short;
+    short.is_none() && counts.fired(actor) < firings[actor]
+}
+
+/// Puts `actor` into a rising list, if it is not there.
+fn insert(actor: usize, runnable: &mut Vec<usize>)
     requires known { actor < vec_capacity runnable.old }
     requires rising { IsStrictlyIncreasing runnable.old.items }
     requires below { (a : ℕ) → Contains runnable.old.items a → a < vec_capacity runnable.old }
-    ensures list { IsUpdated runnable.old.items actor (IsTrue fires) runnable.new.items }
+    ensures list { IsUpdated runnable.old.items actor ⊤ runnable.new.items }
     ensures capacity { vec_capacity runnable.new ≡ vec_capacity runnable.old }
 {
-    match runnable.binary_search(&actor) {
-        Ok(at) => {
-            if !fires {
-                runnable.remove(at);
-            }
-        }
-        Err(at) => {
-            if fires {
-                runnable.insert(at, actor).unwrap();
-            }
-        }
+    if let Err(at) = runnable.binary_search(&actor) {
+        runnable.insert(at, actor).unwrap();
     }
 }
 
-/// Tests whether `actor` is runnable, and keeps the channel that it waits for if it is not.
-fn test(counts: &Counts, firings: &[u32], actor: usize, candidates: &mut Candidates)
+/// Puts `actor` among the runnable ones if it is one of them.
+fn admit(counts: &Counts, firings: &[u32], actor: usize, candidates: &mut Candidates)
     requires all { length firings.now ≡ counts.now.graph.actors }
     requires known { actor < length firings.now }
     requires each { length candidates.old.awaited.items ≡ length firings.now }
     requires rising { IsStrictlyIncreasing candidates.old.runnable.items }
     requires below { (a : ℕ) → Contains candidates.old.runnable.items a → a < length firings.now }
     requires room { length firings.now ≤ vec_capacity candidates.old.runnable }
-    ensures list { IsUpdated candidates.old.runnable.items actor
-        (IsRunnable (rates counts.now.graph) (slice_index firings.now) (slice_index counts.now.fired) actor)
-        candidates.new.runnable.items }
-    ensures each { length candidates.new.awaited.items ≡ length candidates.old.awaited.items }
-    ensures here { IsPlaced (rates counts.now.graph) (slice_index firings.now) (slice_index counts.now.fired) (λ _. ⊥)
-        candidates.new.runnable.items candidates.new.awaited.items actor }
-    ensures others { (b : ℕ) → (b ≡ actor → ⊥) →
-        slice_index_or candidates.new.awaited.items b None ≡ slice_index_or candidates.old.awaited.items b None }
+    requires listed { Contains candidates.old.runnable.items actor →
+        IsRunnable (rates counts.now.graph) (slice_index firings.now) (slice_index counts.now.fired) actor }
+    ensures tested { IsTested (rates counts.now.graph) (slice_index firings.now) (slice_index counts.now.fired) actor
+        candidates.old.runnable.items candidates.old.awaited.items
+        candidates.new.runnable.items candidates.new.awaited.items }
     ensures capacity { vec_capacity candidates.new.runnable ≡ vec_capacity candidates.old.runnable }
 {
-    let short = short_of(counts, firings, actor);
-    let fires = short.is_none() && counts.fired(actor) < firings[actor];
-    update(actor, fires, &mut candidates.runnable);
-    candidates.awaited[actor] = short;
+    if test(counts, firings, actor, &mut candidates.awaited) {
+        insert(actor, &mut candidates.runnable);
+    }
+}
+
+/// Takes the actor at a place of the list out if it is not runnable any more.
+fn dismiss(counts: &Counts, firings: &[u32], at: usize, candidates: &mut Candidates)
+    requires all { length firings.now ≡ counts.now.graph.actors }
+    requires place { at < length candidates.old.runnable.items }
+    requires known { slice_index candidates.old.runnable.items at < length firings.now }
+    requires each { length candidates.old.awaited.items ≡ length firings.now }
+    requires rising { IsStrictlyIncreasing candidates.old.runnable.items }
+    ensures tested { IsTested (rates counts.now.graph) (slice_index firings.now) (slice_index counts.now.fired)
+        (slice_index candidates.old.runnable.items at)
+        candidates.old.runnable.items candidates.old.awaited.items
+        candidates.new.runnable.items candidates.new.awaited.items }
+    ensures capacity { vec_capacity candidates.new.runnable ≡ vec_capacity candidates.old.runnable }
+{
+    let actor = candidates.runnable[at];
+    if !test(counts, firings, actor, &mut candidates.awaited) {
+        candidates.runnable.remove(at);
+    }
 }
 
 /// Collects the actors that are runnable before the first firing.
@@ -102,15 +123,15 @@ fn collect(counts: &Counts, firings: &[u32], candidates: &mut Candidates)
     ensures capacity { vec_capacity candidates.new.runnable ≡ vec_capacity candidates.old.runnable }
 {
     for actor in 0..firings.len() {
-        test(counts, firings, actor, candidates);
+        admit(counts, firings, actor, candidates);
     }
 }
 
-/// Fires a runnable actor. Besides it, only the actors that wait for a channel that it feeds are tested again.
+/// Fires the actor at a place of the list. Besides it, only actors that wait for a channel that it feeds are tested.
 fn fire(
     graph: &Graph,
     firings: &[u32],
-    actor: usize,
+    at: usize,
     counts: &mut Counts,
     candidates: &mut Candidates,
 )
@@ -121,8 +142,8 @@ fn fire(
     requires room { length firings.now ≤ vec_capacity candidates.old.runnable }
     requires list { AreCandidates (rates graph.now) (slice_index firings.now) (slice_index counts.old.fired)
         candidates.old.runnable.items candidates.old.awaited.items }
-    requires fires { Contains candidates.old.runnable.items actor }
-    ensures fired { counts.new ≡ record counts.old
+    requires place { at < length candidates.old.runnable.items }
+    ensures fired { let actor = slice_index candidates.old.runnable.items at in counts.new ≡ record counts.old
         { fired = slice_set counts.old.fired actor (slice_index counts.old.fired actor + 1) } }
     ensures list { AreCandidates (rates graph.now) (slice_index firings.now) (slice_index counts.new.fired)
         candidates.new.runnable.items candidates.new.awaited.items }
@@ -130,12 +151,13 @@ fn fire(
 {
     graphs_are_sound();
     let channels = graph.channels();
+    let actor = candidates.runnable[at];
     counts.fire(actor);
-    test(counts, firings, actor, candidates);
+    dismiss(counts, firings, at, candidates);
     for channel in graph.outgoing(actor) {
         let fed = &channels[*channel];
         if awaits(&candidates.awaited, fed.to, *channel) {
-            test(counts, firings, fed.to, candidates);
+            admit(counts, firings, fed.to, candidates);
         }
     }
 }
@@ -170,9 +192,8 @@ fn fire_all<P: Pick>(
     sums_rise();
     while !candidates.runnable.is_empty() {
         let at = pick.choose(graph, counts, &candidates.runnable);
-        let actor = candidates.runnable[at];
-        order.push_reserved(actor);
-        fire(graph, firings, actor, counts, candidates);
+        order.push_reserved(candidates.runnable[at]);
+        fire(graph, firings, at, counts, candidates);
     }
 }
 

@@ -1,42 +1,59 @@
-use Rattle.std.proofs.Common.{◌≡◌, ℕ, ◌<◌, length, List, refl, get_or, ap, ◌∙◌, arith}
+use Rattle.std.proofs.Common.{◌≡◌, ℕ, ◌<◌, None, Option, length, List, refl, get_or, slice_index, ap, sym, subst, ◌∙◌}
+use Rattle.std.proofs.Common.{arith}
+use Rattle.std.proofs.lemmas.Bool.{false≢true}
 use Rattle.std.proofs.lemmas.List.{get_or_read}
 use Rattle.sdf_graph.specs.Rates.{Edge, channel, rates, Shape, no_channel}
+use Rattle.sdf_graph.specs.Sequences.{IsRunnable}
 use Rattle.sdf_graph.specs.Tally.{Tally}
+use Rattle.sdf_sched.specs.ClassS.{IsTested}
+use Rattle.sdf_sched.proofs.Updates.{stands_at}
 use Rattle.sdf_sched.proofs.Runnable.{after_firing, all_caught_up, from_start, from_none, next_tested, next_passed}
-use Rattle.std.specs.Prelude.{Option, None}
-use Rattle.std.proofs.lemmas.Bool.{false≢true}
 use Rattle.sdf_sched.proofs.class_s.fire.Goals as goal
 use Rattle.sdf_sched.proofs.class_s.fire.Goals.{then-awaits, else-awaits}
 
 pub fire-requires-clause-known : goal.fire-requires-clause-known
-fire-requires-clause-known c = omega (
-  arith,
-  ((c.requires.list.list.each c.args.actor).0 c.requires.fires).0,
-  ap (λ (s : Shape). s.actors) c.requires.same,
-)
-
-pub test-requires-clause-below : goal.test-requires-clause-below
-test-requires-clause-below c = λ a h. omega (arith, ((c.requires.list.list.each a).0 h).0)
+fire-requires-clause-known c =
+    let xs = c.args.candidates.now.runnable.items in
+    let is : c.index-actor.result.now ≡ get_or xs c.args.at 0 =
+    get_or_read xs c.args.at c.index-actor.result.now c.requires.place c.index-actor.ensures 0 in
+    omega (
+      arith,
+      ((c.requires.list.list.each (get_or xs c.args.at 0)).0 (stands_at xs _ c.args.at c.requires.place refl)).0,
+      ap (λ (s : Shape). s.actors) c.requires.same,
+    )
 
 pub loop-channel-init : goal.loop-channel-init
 loop-channel-init c =
+    let xs = c.args.candidates.now.runnable.items in
+    let ws = c.args.candidates.now.awaited.items in
+    let is : c.index-actor.result.now ≡ get_or xs c.args.at 0 =
+    get_or_read xs c.args.at c.index-actor.result.now c.requires.place c.index-actor.ensures 0 in
     let same : c.fire.new.self.graph ≡ c.args.graph.now =
     ap (λ (t : Tally). t.graph) c.fire.ensures ∙ c.requires.same in
-    let known = ((c.requires.list.list.each c.args.actor).0 c.requires.fires).0 in
+    let known = ((c.requires.list.list.each (get_or xs c.args.at 0)).0
+    (stands_at xs _ c.args.at c.requires.place refl)).0 in
     record {
       list = after_firing c.args.graph.now c.fire.new.self.graph same
           (c.graphs_are_sound.ensures c.args.graph.now c.channels-channels.ensures.shape) _ c.args.counts.now.fired
-          c.fire.new.self.fired c.args.actor (omega (arith, c.requires.each))
+          c.fire.new.self.fired c.index-actor.result.now (omega (arith, c.requires.each))
           (ap (λ (t : Tally). t.fired) c.fire.ensures)
-          c.args.candidates.now.runnable.items c.test.new.candidates.runnable.items
-          c.args.candidates.now.awaited.items c.test.new.candidates.awaited.items c.requires.list c.test.ensures.list
-          c.test.ensures.others c.test.ensures.each c.test.ensures.here
+          xs c.dismiss.new.candidates.runnable.items ws c.dismiss.new.candidates.awaited.items c.requires.list
+          (subst (λ a. IsTested (rates c.fire.new.self.graph) (slice_index c.args.firings.now)
+          (slice_index c.fire.new.self.fired) a xs ws c.dismiss.new.candidates.runnable.items
+          c.dismiss.new.candidates.awaited.items) (sym is) c.dismiss.ensures.tested)
           _ (λ d l e. from_start _ d (c.outgoing-channel-items.ensures.all d l e));
       capacity = refl;
     }
 
-pub test-requires-then-awaits-clause-below : goal.test-requires-then-awaits-clause-below
-test-requires-then-awaits-clause-below c = λ a h. omega (arith, (c.loop-channel.invariant.list.each a h).0)
+pub admit-requires-clause-below : goal.admit-requires-clause-below
+admit-requires-clause-below c = λ a h. omega (arith, (c.loop-channel.invariant.list.each a h).0)
+
+pub admit-requires-clause-listed : goal.admit-requires-clause-listed
+admit-requires-clause-listed c =
+    let same : c.fire.new.self.graph ≡ c.args.graph.now =
+    ap (λ (t : Tally). t.graph) c.fire.ensures ∙ c.requires.same in
+    λ h. subst (λ (s : Shape). IsRunnable (rates s) (slice_index c.args.firings.now)
+        (slice_index c.fire.new.self.fired) c.fed.inside.to) (sym same) (c.loop-channel.invariant.list.each _ h)
 
 pub loop-channel-preserved : goal.loop-channel-preserved
 loop-channel-preserved c =
@@ -61,9 +78,8 @@ loop-channel-preserved c =
           rw w.candidates-is (record {
             list = next_tested c.args.graph.now _ _ c.outgoing-channel-items.result.now c.loop-channel.channel-index
                 c.fed.inside.to to xs ws c.loop-channel.invariant.list c.fire.new.self.graph same _ _
-                w.test-then-awaits.ensures.list w.test-then-awaits.ensures.others w.test-then-awaits.ensures.each
-                w.test-then-awaits.ensures.here;
-            capacity = w.test-then-awaits.ensures.capacity ∙ c.loop-channel.invariant.capacity;
+                w.admit.ensures.tested;
+            capacity = w.admit.ensures.capacity ∙ c.loop-channel.invariant.capacity;
           })
       | else-awaits w ↦
           rw w.candidates-is (record {
