@@ -1,5 +1,5 @@
 -- How the list of runnable actors goes on over a firing.
-use Rattle.std.proofs.Common.{◌≡◌, ℕ, zero, suc, ◌+◌, ◌≤◌, ◌<◌, List, [], length, get_or, slice_index, set, refl, sym}
+use Rattle.std.proofs.Common.{◌≡◌, ℕ, ◌+◌, ◌≤◌, ◌<◌, List, [], length, get_or, slice_index, set, refl, sym}
 use Rattle.std.proofs.Common.{ap, ◌∙◌, subst, inl, inr, ◌⊎◌, arith}
 use Rattle.std.specs.List.{Contains}
 use Rattle.std.specs.List.Sorted.{IsStrictlyIncreasing}
@@ -8,7 +8,6 @@ use Rattle.std.proofs.lemmas.Bool.{cases_eq}
 use Rattle.sdf_graph.specs.Rates.{Rates, IsSound, Shape, rates, channel}
 use Rattle.std.specs.Prelude.{Option, Some, None}
 use Rattle.sdf_graph.specs.Sequences.{IsReady, IsRunnable}
-use Rattle.sdf_sched.specs.Pick.{IsRunnableList}
 use Rattle.sdf_sched.specs.ClassS.{IsPlaced, listed, over, waits, IsTested, AreCandidates}
 use Rattle.sdf_sched.proofs.Greedy.{IsEnabled_rises}
 use Rattle.sdf_sched.proofs.Updates.{place_of}

@@ -128,13 +128,7 @@ fn collect(counts: &Counts, firings: &[u32], candidates: &mut Candidates)
 }
 
 /// Fires the actor at a place of the list. Besides it, only actors that wait for a channel that it feeds are tested.
-fn fire(
-    graph: &Graph,
-    firings: &[u32],
-    at: usize,
-    counts: &mut Counts,
-    candidates: &mut Candidates,
-)
+fn fire(graph: &Graph, firings: &[u32], at: usize, counts: &mut Counts, candidates: &mut Candidates)
     requires same { counts.old.graph ≡ graph.now }
     requires all { length firings.now ≡ graph.now.actors }
     requires each { length counts.old.fired ≡ graph.now.actors }
@@ -260,7 +254,14 @@ fn fire_greedily<'a, P: Pick>(
     let awaited = vec![in alloc; None; firings.len()]?;
     let mut candidates = Candidates { runnable, awaited };
     collect(&counts, firings, &mut candidates);
-    fire_all(graph, firings, &mut counts, &mut order, &mut candidates, pick);
+    fire_all(
+        graph,
+        firings,
+        &mut counts,
+        &mut order,
+        &mut candidates,
+        pick,
+    );
     Ok((counts, order))
 }
 

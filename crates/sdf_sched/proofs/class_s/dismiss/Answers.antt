@@ -1,4 +1,4 @@
-use Rattle.std.proofs.Common.{◌≡◌, ℕ, length, drop, get_or, slice_index, sym, subst, arith}
+use Rattle.std.proofs.Common.{◌≡◌, length, drop, get_or, slice_index, sym, subst, arith}
 use Rattle.std.proofs.lemmas.Bool.{false≢true}
 use Rattle.std.proofs.lemmas.List.{get_or_read}
 use Rattle.std.specs.List.{remove}
@@ -17,8 +17,11 @@ returns-then-not-test-clause-tested c =
     get_or_read xs c.args.at c.index-actor.result.now c.requires.place c.index-actor.ensures 0 in
     let long : length vs ≡ length ws = rw c.deref_mut.ensures.value at c.test.ensures.each in
     let others = rw c.deref_mut.ensures.value at c.test.ensures.others in
-    rw (c.remove.ensures.items, whole c.args.candidates.now.awaited.len vs (drop (length vs) ws)
-    (omega (arith, long, c.args.candidates.now.awaited.ok.0)))
+    rw (
+      c.remove.ensures.items,
+      whole c.args.candidates.now.awaited.len vs (drop (length vs) ws)
+          (omega (arith, long, c.args.candidates.now.awaited.ok.0)),
+    )
     (subst (λ a. IsTested (rates c.args.counts.now.graph) (slice_index c.args.firings.now)
     (slice_index c.args.counts.now.fired) a xs ws (remove xs c.args.at) vs) is
     (tested_by (rates c.args.counts.now.graph) (slice_index c.args.firings.now) (slice_index c.args.counts.now.fired)

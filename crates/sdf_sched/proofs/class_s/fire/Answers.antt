@@ -53,7 +53,7 @@ admit-requires-clause-listed c =
     let same : c.fire.new.self.graph ≡ c.args.graph.now =
     ap (λ (t : Tally). t.graph) c.fire.ensures ∙ c.requires.same in
     λ h. subst (λ (s : Shape). IsRunnable (rates s) (slice_index c.args.firings.now)
-        (slice_index c.fire.new.self.fired) c.fed.inside.to) (sym same) (c.loop-channel.invariant.list.each _ h)
+    (slice_index c.fire.new.self.fired) c.fed.inside.to) (sym same) (c.loop-channel.invariant.list.each _ h)
 
 pub loop-channel-preserved : goal.loop-channel-preserved
 loop-channel-preserved c =
