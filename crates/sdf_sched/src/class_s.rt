@@ -60,7 +60,7 @@ fn test(counts: &Counts, firings: &[u32], actor: usize, awaited: &mut [Option<us
     short.is_none() && counts.fired(actor) < firings[actor]
 }
 
-/// Puts `actor` into a rising list, if it is not there.
+/// Puts `actor` into the rising list `runnable`, if it is not there.
 fn insert(actor: usize, runnable: &mut Vec<usize>)
     requires known { actor < vec_capacity runnable.old }
     requires rising { IsStrictlyIncreasing runnable.old.items }
@@ -73,7 +73,7 @@ fn insert(actor: usize, runnable: &mut Vec<usize>)
     }
 }
 
-/// Puts `actor` among the runnable ones if it is one of them.
+/// Puts `actor` into the list of runnable ones if it is runnable.
 fn admit(counts: &Counts, firings: &[u32], actor: usize, candidates: &mut Candidates)
     requires all { length firings.now ≡ counts.now.graph.actors }
     requires known { actor < length firings.now }
@@ -93,7 +93,7 @@ fn admit(counts: &Counts, firings: &[u32], actor: usize, candidates: &mut Candid
     }
 }
 
-/// Takes the actor at a place of the list out if it is not runnable any more.
+/// Takes the actor at place `at` out of the list if it is not runnable any more.
 fn dismiss(counts: &Counts, firings: &[u32], at: usize, candidates: &mut Candidates)
     requires all { length firings.now ≡ counts.now.graph.actors }
     requires place { at < length candidates.old.runnable.items }
@@ -127,7 +127,7 @@ fn collect(counts: &Counts, firings: &[u32], candidates: &mut Candidates)
     }
 }
 
-/// Fires the actor at a place of the list. Besides it, only actors that wait for a channel that it feeds are tested.
+/// Fires the actor at place `at` of the list. Besides it, only actors that wait for a channel that it feeds are tested.
 fn fire(graph: &Graph, firings: &[u32], at: usize, counts: &mut Counts, candidates: &mut Candidates)
     requires same { counts.old.graph ≡ graph.now }
     requires all { length firings.now ≡ graph.now.actors }

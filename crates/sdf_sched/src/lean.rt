@@ -55,7 +55,7 @@ fn leanest(graph: &Graph, counts: &Counts, runnable: &[usize]) -> usize
     best
 }
 
-/// Whether a firing with one flow adds less to what the channels hold than a firing with another.
+/// Returns whether a firing with flow `one` adds less to what the channels hold than one with flow `other`.
 fn is_leaner(one: Flow, other: Flow) -> bool
     requires one { AreSmall one }
     requires other { AreSmall other }
