@@ -117,6 +117,7 @@ idle_is g width s = record {
   started_all = length-replicate g.actors 0;
   ends_all = length-replicate g.actors 0;
   homes_all = length-replicate g.actors None;
+  marks_all = length-replicate g.actors true;
   inside = λ a j is. absurd (none-some j (sym (same_all None a (cases_lt a g.actors)) ∙ is));
   early = omega arith;
   soon = λ a. subst (λ x. x ≤ 0 + MOST_COST) (sym (same_all 0 a (cases_lt a g.actors))) (omega arith);
@@ -131,7 +132,7 @@ pub row_started : (job : Job) (old placed new : Crewed) (past : List Timed) (cel
     IsSound (rates old.counts.graph) → ((a : ℕ) → a < old.counts.graph.actors → 1 ≤ get_or job.costs.now a 0) →
     IsDueTo job old past → placed ≡ record old { homes = placed.homes } → IsRowFor job placed past cells →
     (firings cells ≡ [] → ⊥) →
-    new ≡ record placed { started = new.started; ends = new.ends; until = new.until } →
+    new ≡ record placed { started = new.started; ends = new.ends; until = new.until; queue = new.queue } →
     length new.until ≡ length placed.until →
     AreStarted (λ a. get_or job.costs.now a 0) placed.time (length cells) cells
     (λ a. get_or placed.started a 0) (λ a. get_or placed.ends a 0) (λ j. get_or placed.until j 0)

@@ -1,6 +1,6 @@
 -- Rows made one after the other.
 use Rattle.std.specs.Prelude.{◌≡◌, ℕ, ◌+◌, ◌*◌, ◌≤◌, ◌<◌, ◌⊎◌, ◌↔◌, List, length, sum, slice_index, slice_index_or}
-use Rattle.std.specs.Prelude.{replicate, Option, Some, None, Bool, IsTrue}
+use Rattle.std.specs.Prelude.{replicate, [], Option, Some, None, Bool, true, IsTrue}
 use Rattle.sdf_limits.specs.declared.TheConstants.{MOST_ACTORS, MOST_BLOCK, MOST_COST}
 use Rattle.sdf_graph.specs.Rates.{Rates, Shape, rates, IsSound}
 use Rattle.sdf_graph.specs.Tally.{Tally}
@@ -10,6 +10,8 @@ use Rattle.sdf_prec.specs.Costs.{AreCosts}
 use Rattle.sdf_prec.specs.Numbers.{Numbered, number}
 use Rattle.sdf_prec.specs.Tables.{cell_of}
 use Rattle.sdf_prec.specs.TimedRows.{Timed, Rule, IsSettled, hu_rule}
+use Rattle.sdf_prec.specs.Trying.{IsQueue}
+use Rattle.sdf_prec.specs.Queued.{IsQueueOf, IsUnmarked}
 use Rattle.sdf_prec.specs.Floor.{IsNextReady, IsFloor, AreStarted, IsStuck, IsDue, IsDone}
 
 -- what rows are made of
@@ -31,7 +33,8 @@ abbrev pub rule_of : Shape → Job → ℕ → Rule
 rule_of g job width = hu_rule (rates g) (slice_index job.firings.now) (slice_index job.costs.now)
     (number job.levels.now) width job.homed
 
--- who is at work at a time: counts of ended and of started firings, when each actor and each column is through, homes
+-- who is at work at a time: counts of ended and of started firings, when each actor and each column is through, homes,
+-- ready firings, and a mark for each actor that may have become ready
 pub record Crewed : Type 0 where
   pub time : ℕ
   pub counts : Tally
@@ -39,6 +42,8 @@ pub record Crewed : Type 0 where
   pub ends : List ℕ
   pub until : List ℕ
   pub homes : List (Option ℕ)
+  pub queue : List Firing
+  pub marks : List Bool
 
 -- lists for each actor, homes in columns, and a time that is no later than the costs of what has ended
 pub record IsCrew (crew : Crewed) : Type 0 where
@@ -47,6 +52,7 @@ pub record IsCrew (crew : Crewed) : Type 0 where
   pub started_all : length crew.started ≡ crew.counts.graph.actors
   pub ends_all : length crew.ends ≡ crew.counts.graph.actors
   pub homes_all : length crew.homes ≡ crew.counts.graph.actors
+  pub marks_all : length crew.marks ≡ crew.counts.graph.actors
   pub inside : (a j : ℕ) → slice_index_or crew.homes a None ≡ Some j → j < length crew.until
   pub early : crew.time ≤ MOST_COST * sum crew.counts.fired
   pub soon : (a : ℕ) → slice_index crew.ends a ≤ crew.time + MOST_COST
@@ -60,7 +66,23 @@ idle g width = record {
   ends = replicate g.actors 0;
   until = replicate width 0;
   homes = replicate g.actors None;
+  queue = [];
+  marks = replicate g.actors true;
 }
+
+-- a firing that a crew may start
+abbrev pub IsReadyTo : Job → Crewed → Firing → Type 0
+IsReadyTo job crew =
+    IsNextReady (rates crew.counts.graph) (slice_index job.firings.now) (slice_index crew.counts.fired)
+    (slice_index crew.started)
+
+-- a crew whose queue has all of them
+abbrev pub IsQueued : Job → Crewed → Type 0
+IsQueued job crew = IsQueue (number job.levels.now) (IsReadyTo job crew) crew.queue
+
+-- or all but those of marked actors
+abbrev pub IsQueuedBut : Job → Crewed → Type 0
+IsQueuedBut job crew = IsQueueOf (number job.levels.now) (IsReadyTo job crew) (IsUnmarked crew.marks) crew.queue
 
 -- a crew to which a row is due at its time, after some rows
 abbrev pub IsDueTo : Job → Crewed → List Timed → Type 0

@@ -7,6 +7,7 @@ ghost use Rattle.sdf_prec.specs.Tables.{IsValid};
 ghost use Rattle.sdf_prec.specs.TimedRows.{Timed, cells_of, AreTimedRows};
 ghost use Rattle.sdf_prec.specs.Floor.{AreStarted, IsNextEnd};
 ghost use Rattle.sdf_prec.specs.Crew.{IsJobFor, IsCrew, idle, IsDueTo, IsDoneBy, IsRowFor, rule_of};
+ghost use Rattle.sdf_prec.specs.Crew.{IsQueued, IsQueuedBut};
 
 use crate::costs::Costs;
 use crate::filling::fill;
@@ -15,11 +16,12 @@ use crate::floor::{end_by, next_end, start};
 use crate::homing::place;
 use crate::laws::the_next_may_fire;
 use crate::level::Levels;
-use crate::queue::ready_queue;
+use crate::queue::{leave, renew};
 use crate::tidy::has_firing;
 use crate::timed::TimedRow;
 use sdf_graph::laws::{counts_grow, graphs_are_sound, sums_rise};
 use sdf_graph::{Counts, Graph};
+use sdf_sched::laws::enabled_stays;
 use std::alloc::{AllocError, Global};
 use std::marker::Model;
 
@@ -34,8 +36,8 @@ pub(crate) struct Job<'a> {
     pub(crate) homed: bool,
 }
 
-/// Who is at work at a time: counts of ended and of started firings, when each actor and each column is through, and
-/// the homes.
+/// Who is at work at a time: counts of ended and of started firings, when each actor and each column is through, the
+/// homes, and which firings are ready. Actors are marked that may have become ready.
 #[derive(Drop)]
 struct Crew<'a> {
     time: u64,
@@ -44,6 +46,8 @@ struct Crew<'a> {
     ends: Vec<u64>,
     until: Vec<u64>,
     homes: Vec<Option<usize>>,
+    queue: Vec<Firing>,
+    marks: Vec<bool>,
 }
 
 impl<'a> Model for Crew<'a> {
@@ -58,6 +62,8 @@ impl<'a> Model for Crew<'a> {
       ends = c.ends.items;
       until = c.until.items;
       homes = c.homes.items;
+      queue = c.queue.items;
+      marks = c.marks.items;
     } };
 
     ghost invariant = { λ c. IsCrew (record {
@@ -67,6 +73,8 @@ impl<'a> Model for Crew<'a> {
       ends = c.ends.items;
       until = c.until.items;
       homes = c.homes.items;
+      queue = c.queue.items;
+      marks = c.marks.items;
     }) };
 }
 
@@ -85,21 +93,40 @@ impl<'a> Crew<'a> {
             ends: vec![in alloc; 0u64; actors]?,
             until: vec![in alloc; 0u64; width]?,
             homes: vec![in alloc; None; actors]?,
+            queue: Vec::new(alloc),
+            marks: vec![in alloc; true; actors]?,
         })
+    }
+
+    /// Puts the firings into the queue that have become ready.
+    fn renew_queue(&mut self, job: &Job) -> Result<(), AllocError>
+        requires job { IsJobFor self.old.counts.graph job.now }
+        requires queue { IsQueuedBut job.now self.old }
+        ensures others { self.new ≡ record self.old { queue = self.new.queue; marks = self.new.marks } }
+        ensures queue { IfOk result (λ _. IsQueued job.now self.new) }
+    {
+        renew(
+            &mut self.queue,
+            &self.counts,
+            &self.started,
+            job.firings,
+            job.levels,
+            &mut self.marks,
+        )
     }
 
     /// The row of this time, which may be empty. Actors whose first firing is in it get their homes.
     fn next_cells(&mut self, alloc: Global, job: &Job) -> Result<Vec<Option<Firing>>, AllocError>
         requires job { IsJobFor self.old.counts.graph job.now }
+        requires queue { IsQueued job.now self.old }
         ensures others { self.new ≡ record self.old { homes = self.new.homes } }
         ensures row { IfOk result (λ cells. (past : List Timed) → IsDueTo job.now self.old past →
             IsRowFor job.now self.new past cells.items) }
     {
-        let queue = ready_queue(alloc, &self.counts, &self.started, job.firings, job.levels)?;
         if job.homed {
             let cells = place(
                 alloc,
-                &queue,
+                &self.queue,
                 &self.until,
                 self.time,
                 job.weights,
@@ -107,24 +134,27 @@ impl<'a> Crew<'a> {
             )?;
             Ok(cells)
         } else {
-            let cells = fill(alloc, &queue, &self.until, self.time)?;
+            let cells = fill(alloc, &self.queue, &self.until, self.time)?;
             Ok(cells)
         }
     }
 
-    /// Starts the firings of a row.
+    /// Starts the firings of a row, which leave the queue.
     fn start(&mut self, job: &Job, cells: &[Option<Firing>])
         requires job { IsJobFor self.old.counts.graph job.now }
         requires row { (past : List Timed) × IsRowFor job.now self.old past cells.now }
+        requires queue { IsQueued job.now self.old }
         ensures others { self.new ≡ record self.old {
           started = self.new.started;
           ends = self.new.ends;
           until = self.new.until;
+          queue = self.new.queue;
         } }
         ensures columns { length self.new.until ≡ length self.old.until }
         ensures started { AreStarted (slice_index job.now.costs.now) self.old.time (length cells.now) cells.now
             (slice_index self.old.started) (slice_index self.old.ends) (slice_index self.old.until)
             (slice_index self.new.started) (slice_index self.new.ends) (slice_index self.new.until) }
+        ensures queue { IsQueued job.now self.new }
     {
         sums_rise();
         start(
@@ -135,6 +165,7 @@ impl<'a> Crew<'a> {
             &mut self.ends,
             &mut self.until,
         );
+        leave(&mut self.queue, &self.started);
     }
 
     /// Adds the row of this time, where it is not empty.
@@ -146,10 +177,13 @@ impl<'a> Crew<'a> {
     ) -> Result<(), AllocError>
         requires job { IsJobFor self.old.counts.graph job.now }
         requires due { IsDueTo job.now self.old rows.old.items }
+        requires queue { IsQueuedBut job.now self.old }
         ensures counts { self.new.counts ≡ self.old.counts }
         ensures columns { length self.new.until ≡ length self.old.until }
         ensures done { IfOk result (λ _. IsDoneBy job.now self.new rows.new.items) }
+        ensures queue { IfOk result (λ _. IsQueued job.now self.new) }
     {
+        self.renew_queue(job)?;
         let start = self.time;
         let cells = self.next_cells(alloc, job)?;
         if has_firing(&cells) {
@@ -171,20 +205,32 @@ impl<'a> Crew<'a> {
     fn turn(
         &mut self,
         alloc: Global,
+        graph: &Graph,
         job: &Job,
         next: u64,
         rows: &mut Vec<TimedRow>,
     ) -> Result<(), AllocError>
+        requires graph { self.old.counts.graph ≡ graph.now }
         requires job { IsJobFor self.old.counts.graph job.now }
         requires next { IsNextEnd self.old.ends self.old.time (length self.old.ends) (Some next) }
         requires done { IsDoneBy job.now self.old rows.old.items }
+        requires queue { IsQueued job.now self.old }
         ensures graph { self.new.counts.graph ≡ self.old.counts.graph }
         ensures columns { length self.new.until ≡ length self.old.until }
         ensures more { sum self.old.counts.fired < sum self.new.counts.fired }
         ensures done { IfOk result (λ _. IsDoneBy job.now self.new rows.new.items) }
+        ensures queue { IfOk result (λ _. IsQueued job.now self.new) }
     {
         sums_rise();
-        end_by(next, &self.started, &self.ends, &mut self.counts);
+        enabled_stays();
+        end_by(
+            next,
+            graph,
+            &self.started,
+            &self.ends,
+            &mut self.counts,
+            &mut self.marks,
+        );
         self.time = next;
         self.add_row(alloc, job, rows)
     }
@@ -212,7 +258,7 @@ pub(crate) fn timed_rows(
     let mut rows = Vec::new(alloc);
     crew.add_row(alloc, job, &mut rows)?;
     while let Some(next) = crew.next_end() {
-        crew.turn(alloc, job, next, &mut rows)?;
+        crew.turn(alloc, graph, job, next, &mut rows)?;
     }
     Ok(rows)
 }

@@ -24,7 +24,7 @@ pub(crate) fn fill(
     ensures { IfOk result (λ cells. (next : ℕ) × IsFilling until.now now (length until.now) queue.now
         next cells.items) }
 {
-    let mut cells = Vec::new(alloc);
+    let mut cells = Vec::with_capacity(alloc, until.len())?;
     let mut next = 0;
     for end in until {
         if *end <= now {

@@ -7,10 +7,11 @@ ghost use Rattle.sdf_prec.specs.declared.firing.Firing.{Firing};
 ghost use Rattle.sdf_prec.specs.Costs.{AreCosts};
 ghost use Rattle.sdf_prec.specs.Tables.{cell_of};
 ghost use Rattle.sdf_prec.specs.Floor.{AreStarted, IsNextEnd, AreEnded};
+ghost use Rattle.sdf_prec.specs.Queued.{IsUnmarked, IsApart, HasRested};
 
 use crate::costs::Costs;
 use crate::firing::Firing;
-use sdf_graph::Counts;
+use sdf_graph::{Counts, Graph};
 use sdf_sched::laws::enabled_stays;
 
 /// Starts the firings of a row at time `now`.
@@ -70,8 +71,33 @@ fn is_sooner(time: u64, other: Option<u64>) -> bool
     }
 }
 
-/// Ends the firings of the actors that are through by time `now`.
-pub(crate) fn end_by(now: u64, started: &[u32], ends: &[u64], counts: &mut Counts)
+/// Marks an actor and those to which its channels go.
+fn mark(graph: &Graph, actor: usize, marks: &mut [bool])
+    requires known { actor < graph.now.actors }
+    requires all { length marks.old ≡ graph.now.actors }
+    ensures same { length marks.new ≡ length marks.old }
+    ensures left { (a : ℕ) → IsUnmarked marks.new a → IsUnmarked marks.old a }
+    ensures apart { (a : ℕ) → IsUnmarked marks.new a → IsApart (rates graph.now) actor a }
+{
+    marks[actor] = true;
+    let channels = graph.channels();
+    for number in graph.outgoing(actor) {
+        let channel = &channels[*number];
+        marks[channel.to] = true;
+    }
+}
+
+/// Ends the firings of the actors that are through by time `now`, and marks the actors that may be ready then.
+pub(crate) fn end_by(
+    now: u64,
+    graph: &Graph,
+    started: &[u32],
+    ends: &[u64],
+    counts: &mut Counts,
+    marks: &mut [bool],
+)
+    requires graph { counts.old.graph ≡ graph.now }
+    requires marks { length marks.old ≡ counts.old.graph.actors }
     requires sound { IsSound (rates counts.old.graph) }
     requires started { length started.now ≡ counts.old.graph.actors }
     requires ends { length ends.now ≡ counts.old.graph.actors }
@@ -84,11 +110,15 @@ pub(crate) fn end_by(now: u64, started: &[u32], ends: &[u64], counts: &mut Count
     ensures same { counts.new.graph ≡ counts.old.graph }
     ensures ended { AreEnded (rates counts.old.graph) now counts.old.graph.actors (slice_index started.now)
         (slice_index ends.now) counts.old.fired counts.new.fired }
+    ensures marked { length marks.new ≡ length marks.old }
+    ensures rested { (a : ℕ) → IsUnmarked marks.new a →
+        HasRested (rates counts.old.graph) counts.old.fired counts.new.fired a }
 {
     enabled_stays();
     for actor in 0..started.len() {
         if counts.fired(actor) < started[actor] && ends[actor] <= now {
             counts.fire(actor);
+            mark(graph, actor, marks);
         }
     }
 }

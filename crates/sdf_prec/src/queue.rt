@@ -1,17 +1,18 @@
 //! Which firings are ready, in the order in which they are tried.
 
-ghost use Rattle.std.specs.Prelude.{◌≡◌, ℕ, ◌<◌, ◌≤◌, ◌↔◌, length, slice_index, IsTrue, IfOk};
+ghost use Rattle.std.specs.Prelude.{◌≡◌, ℕ, ◌<◌, ◌≤◌, ◌⊎◌, ◌↔◌, ◌==◌, length, filter, slice_index, IsTrue, IfOk};
 ghost use Rattle.sdf_graph.specs.Rates.{rates};
 ghost use Rattle.sdf_prec.specs.declared.firing.Firing.{Firing};
 ghost use Rattle.sdf_prec.specs.Numbers.{InBlock, number};
-ghost use Rattle.sdf_prec.specs.Tables.{firing};
-ghost use Rattle.sdf_prec.specs.Trying.{IsQueue};
+ghost use Rattle.sdf_prec.specs.Tables.{firing, Stands};
+ghost use Rattle.sdf_prec.specs.Trying.{IsTriedBefore, IsQueue};
 ghost use Rattle.sdf_prec.specs.Floor.{IsNextReady};
+ghost use Rattle.sdf_prec.specs.Queued.{AreInTurn, IsQueueOf, IsUnmarked, is_next};
 
 use crate::firing::Firing;
 use crate::level::Levels;
 use sdf_graph::Counts;
-use std::alloc::{AllocError, Global};
+use std::alloc::AllocError;
 
 /// Whether an actor's next firing may start: those before it have ended, and the ended ones leave it its samples.
 fn is_ready(counts: &Counts, started: &[u32], firings: &[u32], actor: usize) -> bool
@@ -27,46 +28,86 @@ fn is_ready(counts: &Counts, started: &[u32], firings: &[u32], actor: usize) -> 
         && counts.enabled(actor)
 }
 
-/// How many firings of a queue have no lower level than that.
-fn place_of(queue: &[Firing], levels: &Levels, level: u64) -> usize
-    requires { (p : ℕ) → p < length queue.now → InBlock levels.now.firings (firing queue.now p) }
+/// How many firings of a queue are tried before one of another actor.
+fn place_of(queue: &[Firing], levels: &Levels, ready: Firing) -> usize
+    requires each { (p : ℕ) → p < length queue.now → InBlock levels.now.firings (firing queue.now p) }
+    requires own { InBlock levels.now.firings ready }
     ensures within { result ≤ length queue.now }
-    ensures before { (p : ℕ) → p < result → level ≤ number levels.now (firing queue.now p) }
-    ensures after { result < length queue.now → number levels.now (firing queue.now result) < level }
+    ensures before { (p : ℕ) → p < result → IsTriedBefore (number levels.now) (firing queue.now p) ready }
+    ensures after { result < length queue.now →
+        (IsTriedBefore (number levels.now) ready (firing queue.now result))
+        ⊎ ((firing queue.now result).actor ≡ ready.actor) }
 {
-    for (place, firing) in queue.iter().enumerate() {
-        if levels.of(*firing) < level {
+    let level = levels.of(ready);
+    for (place, queued) in queue.iter().enumerate() {
+        let other = levels.of(*queued);
+        if other < level || other == level && ready.actor <= queued.actor {
             return place;
         }
     }
     queue.len()
 }
 
-/// The ready firings in the order in which they are tried. Each actor has at most one.
-pub(crate) fn ready_queue(
-    alloc: Global,
+/// Adds a firing to a queue, unless its actor has one there.
+fn add(queue: &mut Vec<Firing>, levels: &Levels, ready: Firing) -> Result<(), AllocError>
+    requires each { (p : ℕ) → p < length queue.old.items → InBlock levels.now.firings (firing queue.old.items p) }
+    requires own { InBlock levels.now.firings ready }
+    requires once { (p : ℕ) → p < length queue.old.items → (firing queue.old.items p).actor ≡ ready.actor →
+        firing queue.old.items p ≡ ready }
+    requires sorted { AreInTurn (number levels.now) queue.old.items }
+    ensures sorted { IfOk result (λ _. AreInTurn (number levels.now) queue.new.items) }
+    ensures stands { IfOk result (λ _. (f : Firing) → Stands queue.new.items f ↔
+        (Stands queue.old.items f ⊎ (f ≡ ready))) }
+{
+    let place = place_of(queue, levels, ready);
+    if place < queue.len() && queue[place].actor == ready.actor {
+        return Ok(());
+    }
+    queue.insert(place, ready)?;
+    Ok(())
+}
+
+/// Adds the firings that have become ready, of the actors that are marked, and takes the marks away.
+pub(crate) fn renew(
+    queue: &mut Vec<Firing>,
     counts: &Counts,
     started: &[u32],
     firings: &[u32],
     levels: &Levels,
-) -> Result<Vec<Firing>, AllocError>
+    marks: &mut [bool],
+) -> Result<(), AllocError>
     requires started { length started.now ≡ counts.now.graph.actors }
     requires firings { length firings.now ≡ counts.now.graph.actors }
+    requires marks { length marks.old ≡ counts.now.graph.actors }
     requires levels { levels.now.firings ≡ firings.now }
-    ensures { IfOk result (λ q. IsQueue (number levels.now)
+    requires queue { IsQueueOf (number levels.now)
         (IsNextReady (rates counts.now.graph) (slice_index firings.now) (slice_index counts.now.fired)
-        (slice_index started.now)) q.items) }
+        (slice_index started.now)) (IsUnmarked marks.old) queue.old.items }
+    ensures same { length marks.new ≡ length marks.old }
+    ensures queue { IfOk result (λ _. IsQueue (number levels.now)
+        (IsNextReady (rates counts.now.graph) (slice_index firings.now) (slice_index counts.now.fired)
+        (slice_index started.now)) queue.new.items) }
 {
-    let mut queue = Vec::new(alloc);
     for actor in 0..started.len() {
-        if is_ready(counts, started, firings, actor) {
-            let firing = Firing {
-                actor,
-                number: started[actor],
-            };
-            let place = place_of(&queue, levels, levels.of(firing));
-            queue.insert(place, firing)?;
+        if marks[actor] && is_ready(counts, started, firings, actor) {
+            let number = started[actor];
+            add(queue, levels, Firing { actor, number })?;
         }
+        marks[actor] = false;
     }
-    Ok(queue)
+    Ok(())
+}
+
+/// Whether so many firings of each actor have started that one is its actor's next.
+fn is_next(started: &[u32], firing: &Firing) -> bool
+    ensures { result ≡ is_next started.now firing.now }
+{
+    started.get(firing.actor).copied().unwrap_or(0) == firing.number
+}
+
+/// Takes out the firings that have started.
+pub(crate) fn leave(queue: &mut Vec<Firing>, started: &[u32])
+    ensures { queue.new.items ≡ filter (is_next started.now) queue.old.items }
+{
+    queue.retain(|firing| is_next(started, firing));
 }

@@ -16,6 +16,7 @@ loop-next-init c =
       columns = c.add_row.ensures.columns
           ∙ (ap (λ (x : Crewed). length x.until) first ∙ length-replicate c.args.width 0);
       done = c.in_ok-add_row.ensures.done;
+      queue = c.in_ok-add_row.ensures.queue;
     }
 
 pub loop-next-smaller : goal.loop-next-smaller
@@ -35,6 +36,7 @@ loop-next-preserved c =
       graph = c.turn.ensures.graph ∙ v.graph;
       columns = c.turn.ensures.columns ∙ v.columns;
       done = c.in_ok-turn.ensures.done;
+      queue = c.in_ok-turn.ensures.queue;
     }
 
 pub returns-clause-rows : goal.returns-clause-rows

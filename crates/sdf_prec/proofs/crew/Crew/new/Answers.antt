@@ -1,4 +1,4 @@
-use Rattle.std.proofs.Common.{rules, ◌≡◌, None, replicate, ap, ◌∙◌}
+use Rattle.std.proofs.Common.{rules, ◌≡◌, None, true, replicate, ap, ◌∙◌}
 use Rattle.sdf_prec.proofs.Crews.{idle_is}
 use Rattle.sdf_prec.proofs.crew.Crew.new.Goals as goal
 
@@ -11,5 +11,6 @@ invariant_of-result c =
     ∙ ap (λ n. replicate n 0) c.actors-actors.ensures in
     let until = c.in_ok-vec-3.ensures.items_if_clones_equal (λ y e. e) in
     let homes : c.in_ok-vec-4.field-0.items ≡ replicate g.actors None = search rules in
-    rw (c.in_ok-new.ensures, started, ends, until, homes)
+    let marks : c.in_ok-vec-5.field-0.items ≡ replicate g.actors true = search rules in
+    rw (c.in_ok-new.ensures, started, ends, until, homes, c.new-2.ensures.items, marks)
     (idle_is g c.args.width (c.graphs_are_sound.ensures g c.channels.ensures.shape))

@@ -4,17 +4,19 @@ use Rattle.sdf_graph.specs.Rates.{rates}
 use Rattle.sdf_prec.specs.Numbers.{number}
 use Rattle.sdf_prec.specs.Floor.{IsDue}
 use Rattle.sdf_prec.specs.Placing.{IsPlacing}
-use Rattle.sdf_prec.specs.Crew.{Crewed, IsJobFor, IsDueTo, IsRowAt, IsRowFor}
+use Rattle.sdf_prec.specs.Crew.{Crewed, IsJobFor, IsDueTo, IsQueued, IsRowAt, IsRowFor}
 use Rattle.sdf_prec.proofs.Rules.{queue_once}
 use Rattle.sdf_prec.proofs.Crews.{row_free, row_homed}
 use Rattle.sdf_prec.proofs.Jobs.{job_dear}
 use Rattle.sdf_prec.proofs.crew.Crew.next_cells.Goals as goal
 
 pub place-requires-clause-once : goal.place-requires-clause-once
-place-requires-clause-once c = rw c.deref-then-job.ensures.value (queue_once _ _ _ c.in_ok-queue.ensures)
+place-requires-clause-once c =
+    let q = subst (λ (x : Crewed). IsQueued c.args.job.now x) (sym c.self.view_is) c.requires.queue in
+    rw c.deref.ensures.value (queue_once _ _ _ q)
 
-pub returns-then-job-clause-row : goal.returns-then-job-clause-row
-returns-then-job-clause-row c =
+pub returns-in_ok-cells-clause-row : goal.returns-in_ok-cells-clause-row
+returns-in_ok-cells-clause-row c =
     let i = c.self.inside in
     let job = c.args.job.now in
     let k = c.self.invariant in
@@ -29,15 +31,15 @@ returns-then-job-clause-row c =
     let weight : ℕ → ℕ = λ a. get_or job.weights.now a 0 in
     let weight_is : weight ≡ (λ a. n a * cost a) = (λ i a. c.requires.job.weights_are a i) in
     let width : ℕ = length i.until.items in
-    let queue = c.in_ok-queue.queue.items in
+    let queue = i.queue.items in
     let cells = c.in_ok-cells.cells.items in
     let new = c.place.new.homes in
-    let q = rw c.deref.ensures.value at c.in_ok-queue.ensures in
-    let found = rw (c.deref-then-job.ensures.value, c.deref-then-job-2.ensures.value, c.deref_mut.ensures.value) at
+    let q = subst (λ (x : Crewed). IsQueued job x) (sym c.self.view_is) c.requires.queue in
+    let found = rw (c.deref.ensures.value, c.deref-then-job.ensures.value, c.deref_mut.ensures.value) at
     c.in_ok-cells.ensures.placed in
     let placed = subst (λ m. IsPlacing m width weight (λ j. get_or i.until.items j 0 ≤ i.time)
     (λ a. get_or i.homes.items a None) queue (length queue) cells new) k.homes_all found in
-    let waiting = rw (c.deref-then-job.ensures.value, c.deref-then-job-2.ensures.value) at
+    let waiting = rw (c.deref.ensures.value, c.deref-then-job.ensures.value) at
     c.in_ok-cells.ensures.waiting in
     let len : length new ≡ i.homes.len = placed.all ∙ (sym k.homes_all ∙ sym i.homes.ok.0) in
     let is = take_at new (drop (length new) i.homes.items) i.homes.len len in
@@ -50,8 +52,8 @@ returns-then-job-clause-row c =
     (subst (λ (h : Bool). IsDue r n cost level width h past i.time ended started ends until
     (λ a. get_or i.homes.items a None)) c.if-job.true d) weight weight_is refl placed waiting))
 
-pub returns-clause-row : goal.returns-clause-row
-returns-clause-row c =
+pub returns-in_ok-cells-2-clause-row : goal.returns-in_ok-cells-2-clause-row
+returns-in_ok-cells-2-clause-row c =
     let i = c.self.inside in
     let job = c.args.job.now in
     let k = c.self.invariant in
@@ -64,9 +66,9 @@ returns-clause-row c =
     let ends : ℕ → ℕ = λ a. get_or i.ends.items a 0 in
     let until : ℕ → ℕ = λ a. get_or i.until.items a 0 in
     let width : ℕ = length i.until.items in
-    let queue = c.in_ok-queue.queue.items in
+    let queue = i.queue.items in
     let cells = c.in_ok-cells-2.cells.items in
-    let q = rw c.deref.ensures.value at c.in_ok-queue.ensures in
+    let q = subst (λ (x : Crewed). IsQueued job x) (sym c.self.view_is) c.requires.queue in
     let fill = rw (c.deref-else-job.ensures.value, c.deref-else-job-2.ensures.value) at c.in_ok-cells-2.ensures in
     let its = subst (λ (x : Crewed). IsJobFor x.counts.graph job) (sym c.self.view_is) c.requires.job in
     (λ past due. let d = subst (λ (x : Crewed). IsDueTo job x past) (sym c.self.view_is) due in

@@ -1,6 +1,13 @@
-use Rattle.std.proofs.Common.{◌≡◌, length, drop, sym, ap, ◌∙◌, subst, arith}
+use Rattle.std.proofs.Common.{◌≡◌, ℕ, length, drop, get_or, Some, None, sym, ap, ◌∙◌, subst, arith}
 use Rattle.std.proofs.lemmas.List.{take_at}
-use Rattle.sdf_prec.specs.Crew.{Crewed, IsJobFor, IsRowFor}
+use Rattle.sdf_graph.specs.Rates.{rates}
+use Rattle.sdf_prec.specs.declared.firing.Firing.{Firing}
+use Rattle.sdf_prec.specs.Numbers.{number}
+use Rattle.sdf_prec.specs.Floor.{IsNextReady}
+use Rattle.sdf_prec.specs.Queued.{is_next}
+use Rattle.sdf_prec.specs.Crew.{Crewed, IsJobFor, IsRowFor, IsQueued}
+use Rattle.sdf_prec.proofs.Queues.{queue_left}
+use Rattle.sdf_prec.proofs.Readies.{still_ready, ready_then}
 use Rattle.sdf_prec.proofs.Jobs.{job_cheap}
 use Rattle.sdf_prec.proofs.Shifts.{few_ended, within_sum, soon_then}
 use Rattle.sdf_prec.proofs.crew.Crew.start.Goals as goal
@@ -53,8 +60,33 @@ invariant_of-self c =
       started_all = s_len ∙ k.started_all;
       ends_all = n_len ∙ k.ends_all;
       homes_all = k.homes_all;
+      marks_all = k.marks_all;
       inside = λ a j is. let l = k.inside a j is in omega (arith, u_len);
       early = k.early;
       soon = soon_then _ _ _ _ _ _ _ _ _ begun (λ j f h. job_cheap _ _ _ _ _ job f.actor
           (row.each j f h).0.known) k.soon;
     })
+
+pub returns-clause-queue : goal.returns-clause-queue
+returns-clause-queue c =
+    let i = c.self.inside in
+    let job = c.args.job.now in
+    let r = rates i.counts.graph in
+    let n : ℕ → ℕ = λ a. get_or job.firings.now a 0 in
+    let ended : ℕ → ℕ = λ a. get_or i.counts.fired a 0 in
+    let old : ℕ → ℕ = λ a. get_or i.started.items a 0 in
+    let begun = rw (c.deref_mut.ensures.value, c.deref_mut-2.ensures.value, c.deref_mut-3.ensures.value) at
+    c.start.ensures.started in
+    let row = subst (λ (x : Crewed). IsRowFor job x c.requires.row.0 c.args.cells.now) (sym c.self.view_is)
+    c.requires.row.1 in
+    let q = subst (λ (x : Crewed). IsQueued job x) (sym c.self.view_is) c.requires.queue in
+    let each : (j : ℕ) (f : Firing) → get_or c.args.cells.now j None ≡ Some f → IsNextReady r n ended old f =
+    (λ j f h. (row.each j f h).0) in
+    let left = queue_left (number job.levels.now) (IsNextReady r n ended old)
+    (IsNextReady r n ended (λ a. get_or c.start.new.started a 0)) i.queue.items q (is_next c.start.new.started)
+    (still_ready r n _ i.time c.args.cells.now ended old _ _ _ _ c.start.new.started begun each)
+    (ready_then r n _ i.time c.args.cells.now ended old _ _ _ _ c.start.new.started begun each) in
+    let s = c.start.new.started in
+    let s_len : length s ≡ length i.started.items = c.start.ensures.actors ∙ ap length c.deref_mut.ensures.value in
+    let st = take_at s (drop (length s) i.started.items) i.started.len (s_len ∙ sym i.started.ok.0) in
+    rw (c.leave.ensures, c.deref.ensures.value, st) left
