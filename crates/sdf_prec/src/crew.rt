@@ -36,8 +36,8 @@ pub(crate) struct Job<'a> {
     pub(crate) homed: bool,
 }
 
-/// Who is at work at a time: counts of ended and of started firings, when each actor and each column is through, the
-/// homes, and which firings are ready. Actors are marked that may have become ready.
+/// Who is at work at a time: counts of ended and of started firings, when each actor and each column is through, and
+/// the homes. Ready firings stand in a queue, and an actor is marked that may have become ready.
 #[derive(Drop)]
 struct Crew<'a> {
     time: u64,

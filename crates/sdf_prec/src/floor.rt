@@ -52,23 +52,14 @@ pub(crate) fn start(
 pub(crate) fn next_end(ends: &[u64], now: u64) -> Option<u64>
     ensures { IsNextEnd ends.now now (length ends.now) result }
 {
-    let mut next = None;
+    let (mut some, mut next) = (false, u64::MAX);
     for end in ends {
-        if *end > now && is_sooner(*end, next) {
-            next = Some(*end);
+        if *end > now {
+            some = true;
+            next = next.min(*end);
         }
     }
-    next
-}
-
-/// Whether a time is before another one, where there is one.
-fn is_sooner(time: u64, other: Option<u64>) -> bool
-    ensures { IsTrue result ↔ ((x : ℕ) → other ≡ Some x → time < x) }
-{
-    match other {
-        Some(least) => time < least,
-        None => true,
-    }
+    if some { Some(next) } else { None }
 }
 
 /// Marks an actor and those to which its channels go.

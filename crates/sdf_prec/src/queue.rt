@@ -1,6 +1,6 @@
 //! Which firings are ready, in the order in which they are tried.
 
-ghost use Rattle.std.specs.Prelude.{◌≡◌, ℕ, ◌<◌, ◌≤◌, ◌⊎◌, ◌↔◌, ◌==◌, length, filter, slice_index, IsTrue, IfOk};
+ghost use Rattle.std.specs.Prelude.{◌≡◌, ℕ, ◌<◌, ◌≤◌, ◌⊎◌, ◌↔◌, ◌==◌, length, filter, slice_index, IsTrue, IfOk, MatchBool};
 ghost use Rattle.sdf_graph.specs.Rates.{rates};
 ghost use Rattle.sdf_prec.specs.declared.firing.Firing.{Firing};
 ghost use Rattle.sdf_prec.specs.Numbers.{InBlock, number};
@@ -28,24 +28,38 @@ fn is_ready(counts: &Counts, started: &[u32], firings: &[u32], actor: usize) -> 
         && counts.enabled(actor)
 }
 
-/// How many firings of a queue are tried before one of another actor.
+/// Whether a firing is tried before one of another actor.
+fn is_before(levels: &Levels, queued: Firing, ready: Firing) -> bool
+    requires queued { InBlock levels.now.firings queued }
+    requires ready { InBlock levels.now.firings ready }
+    ensures { MatchBool result (IsTriedBefore (number levels.now) queued ready)
+        ((IsTriedBefore (number levels.now) ready queued) ⊎ (queued.actor ≡ ready.actor)) }
+{
+    let (level, other) = (levels.of(queued), levels.of(ready));
+    other < level || other == level && queued.actor < ready.actor
+}
+
+/// How many firings of a queue are tried before one of another actor, found by halves.
 fn place_of(queue: &[Firing], levels: &Levels, ready: Firing) -> usize
     requires each { (p : ℕ) → p < length queue.now → InBlock levels.now.firings (firing queue.now p) }
     requires own { InBlock levels.now.firings ready }
+    requires sorted { AreInTurn (number levels.now) queue.now }
     ensures within { result ≤ length queue.now }
     ensures before { (p : ℕ) → p < result → IsTriedBefore (number levels.now) (firing queue.now p) ready }
     ensures after { result < length queue.now →
         (IsTriedBefore (number levels.now) ready (firing queue.now result))
         ⊎ ((firing queue.now result).actor ≡ ready.actor) }
 {
-    let level = levels.of(ready);
-    for (place, queued) in queue.iter().enumerate() {
-        let other = levels.of(*queued);
-        if other < level || other == level && ready.actor <= queued.actor {
-            return place;
+    let (mut low, mut high) = (0, queue.len());
+    while low < high {
+        let middle = low + (high - low) / 2;
+        if is_before(levels, queue[middle], ready) {
+            low = middle + 1;
+        } else {
+            high = middle;
         }
     }
-    queue.len()
+    low
 }
 
 /// Adds a firing to a queue, unless its actor has one there.

@@ -1,5 +1,4 @@
-use Rattle.std.proofs.Common.{◌≡◌, ℕ, ◌+◌, ◌≤◌, ◌<◌, ◌⊎◌, length, get_or, sym, ap, ◌∙◌, subst, refl, inl, inr, arith, true, false}
-use Rattle.std.proofs.Common.{List, Vec, Global}
+use Rattle.std.proofs.Common.{ℕ, ◌+◌, ◌<◌, ◌⊎◌, length, get_or, sym, ◌∙◌, refl, inl, arith, true, false}
 use Rattle.std.proofs.lemmas.Bool.{false≢true}
 use Rattle.std.proofs.lemmas.List.{length-set, get_or-set_other, get_or_default}
 use Rattle.sdf_graph.specs.Rates.{rates}
@@ -29,7 +28,7 @@ loop-actor-preserved c =
     let next : ℕ → ℕ = λ a. get_or c.args.started.now a 0 in
     let x : Firing = record { actor = i; number = get_or c.args.started.now i 0 } in
     let skip : (ready x → IsUnmarked c.args.marks.now i) →
-        IsQueueOf level ready (λ a. (a < i + 1) ⊎ IsUnmarked c.args.marks.now a) c.loop-actor.queue.items =
+    IsQueueOf level ready (λ a. (a < i + 1) ⊎ IsUnmarked c.args.marks.now a) c.loop-actor.queue.items =
     (λ known. queue_skip level ready next (λ f h. h.next) (IsUnmarked c.args.marks.now) i c.loop-actor.queue.items
     known v.queue) in
     let here : i < length c.loop-actor.marks =
@@ -40,12 +39,12 @@ loop-actor-preserved c =
             (IsUnmarked c.args.marks.now) i c.loop-actor.queue.items w.add.new.queue.items
             (w.is_ready.ensures.0 w.if-is_ready.true) v.queue w.in_ok-add.ensures.sorted w.in_ok-add.ensures.stands)
         | else-marks-actor w ↦ rw w.queue-is (skip (elim w.else-marks-actor.branch [
-            | else-marks-actor-via-then-marks-actor+else-is_ready u ↦ λ h.
-                absurd (false≢true (u.if-is_ready.ensures.1 h))
-            | else-marks-actor-via-else-marks-actor u ↦ λ h.
-                (sym (v.left i (omega arith)) ∙ (get_or_default c.loop-actor.marks i true false here
-                ∙ u.if-marks-actor.false))
-          ]))
+          | else-marks-actor-via-then-marks-actor+else-is_ready u ↦ λ h.
+              absurd (false≢true (u.if-is_ready.ensures.1 h))
+          | else-marks-actor-via-else-marks-actor u ↦ λ h.
+              (sym (v.left i (omega arith)) ∙ (get_or_default c.loop-actor.marks i true false here
+              ∙ u.if-marks-actor.false))
+        ]))
       ];
       same = length-set c.loop-actor.marks i false ∙ v.same;
       left = λ a l. get_or-set_other c.loop-actor.marks i a false true (λ e. omega arith) ∙ v.left a (omega arith);
