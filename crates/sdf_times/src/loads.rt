@@ -1,6 +1,6 @@
 //! What the columns of a table do.
 
-ghost use Rattle.std.specs.Prelude.{◌≡◌, ℕ, ◌≤◌, ◌<◌, length, slice_index, IfOk, Option, Some};
+ghost use Rattle.std.specs.Prelude.{◌≡◌, ℕ, ◌+◌, ◌≤◌, ◌<◌, ◌^◌, length, slice_index, IfOk, Option, Some};
 ghost use Rattle.sdf_prec.specs.declared.firing.Firing.{Firing};
 ghost use Rattle.sdf_prec.specs.Tables.{row, cell};
 ghost use Rattle.sdf_times.specs.Times.{cost_in, load_of};
@@ -21,18 +21,20 @@ fn cost_at(costs: &Costs, cell: Option<Firing>) -> u64
     }
 }
 
-/// What the firings of a column cost together.
-fn load(table: &Table, costs: &Costs, column: usize) -> u64
-    requires wide { (i : ℕ) → i < length table.now.rows → column < length (row table.now.rows i) }
-    requires known { (i : ℕ) (f : Firing) → cell table.now.rows i column ≡ Some f → f.actor < length costs.now }
-    requires short { length table.now.rows ≤ MOST_BLOCK }
-    ensures { result ≡ load_of (slice_index costs.now) table.now.rows column }
+/// Adds what the firings of a row cost to the loads of their columns.
+fn add_row(table: &Table, costs: &Costs, i: usize, loads: &mut Vec<u64>)
+    requires within { i < length table.now.rows }
+    requires wide { length (row table.now.rows i) ≡ length loads.old.items }
+    requires known { (j : ℕ) (f : Firing) → cell table.now.rows i j ≡ Some f → f.actor < length costs.now }
+    requires room { (j : ℕ) → slice_index loads.old.items j < 2 ^ 63 }
+    ensures all { length loads.new.items ≡ length loads.old.items }
+    ensures each { (j : ℕ) → j < length loads.old.items → slice_index loads.new.items j ≡
+        slice_index loads.old.items j + cost_in (slice_index costs.now) (cell table.now.rows i j) }
+    ensures small { (j : ℕ) → slice_index loads.new.items j ≤ slice_index loads.old.items j + MOST_COST }
 {
-    let mut load = 0;
-    for i in 0..table.rows() {
-        load += cost_at(costs, table.row(i)[column]);
+    for (column, cell) in table.row(i).iter().enumerate() {
+        loads[column] += cost_at(costs, *cell);
     }
-    load
 }
 
 /// The load of each of so many columns.
@@ -49,9 +51,9 @@ pub(crate) fn loads(
     ensures each { IfOk result (λ v. (j : ℕ) → j < m →
         slice_index v.items j ≡ load_of (slice_index costs.now) table.now.rows j) }
 {
-    let mut loads = Vec::new(alloc);
-    for column in 0..m {
-        loads.push(load(table, costs, column))?;
+    let mut loads = vec![in alloc; 0u64; m]?;
+    for i in 0..table.rows() {
+        add_row(table, costs, i, &mut loads);
     }
     Ok(loads)
 }
