@@ -133,6 +133,10 @@ fn rate_at(rates: &[u32], i: u32) -> u32
     requires { 0 < length rates.now }
     ensures { result ≡ rate_at rates.now i }
 {
+    // A steady rate takes no division.
+    if rates.len() == 1 {
+        return rates[0];
+    }
     rates[i as usize % rates.len()]
 }
 
