@@ -1,6 +1,6 @@
 -- Tables of branches, and sums of absolute values.
 use Rattle.std.proofs.Common.{◌≡◌, ℕ, zero, suc, ◌+◌, ◌-◌, ◌*◌, ◌/◌, ◌%◌, ◌<◌, ◌≤◌, ℤ, pos, List, [], ◌∷◌, length, map}
-use Rattle.std.proofs.Common.{take, drop, get_or, unsigned_abs, FitsSigned, refl, sym, ap, subst, ◌∙◌, arith, ⊎_elim}
+use Rattle.std.proofs.Common.{take, drop, get_or, unsigned_abs, Bool, true, FitsSigned, refl, sym, ap, subst, ◌∙◌, arith, ⊎_elim}
 use Rattle.std.specs.Int.{w16}
 use Rattle.std.specs.List.{range_with_len}
 use Rattle.std.specs.Simd.Lanes.{Each1}
@@ -8,10 +8,11 @@ use Rattle.std.proofs.lemmas.Bool.{cases_lt}
 use Rattle.std.proofs.lemmas.Nat.{div-mul-add, mod-mul-add, row_fits, div-add-mod'}
 use Rattle.std.proofs.lemmas.List.{length-take-le, length-drop, get_or-take, get_or-drop, get_or_past}
 use Rattle.std.proofs.lemmas.List.FromFn.{fill_by_all, length-map-range_with_len, get_or-map-range_with_len}
-use Rattle.std.proofs.Math.Nat.{mul-le-mul_left, mul-le-mul_right, add-mul, mul_comm}
+use Rattle.std.proofs.Math.Nat.{mul-le-mul_left, mul-le-mul_right, add-mul, mul_assoc, mul_comm}
 use Rattle.sdf_kit.specs.Fir.{AreTaps}
 use Rattle.sdf_kit.specs.Dots.{total_abs}
 use Rattle.sdf_kit.specs.Branches.{branch, branch_at, AreQuiet, AreBranches}
+use Rattle.sdf_kit.specs.Stretches.{IsReach, AreStretches}
 use Rattle.sdf_kit.specs.declared.branches.Branches.{Branches}
 
 -- what a table has at a place
@@ -90,28 +91,117 @@ width_fits len up some few up_some up_few =
     let parts : (kept + 16) * up ≡ kept * up + 16 * up = add-mul kept 16 up in
     record { lanes = omega arith; more = omega arith; few = omega arith; room = omega arith }
 
-pub branches_are : (taps table : List ℤ) (up width peak gain : ℕ) → AreTaps taps →
+-- as many sixteens of all branches as there is room for
+pub sixteens_fit : (up width : ℕ) → width % 16 ≡ 0 → up * width ≤ 2048 → up * (width / 16) ≤ 128
+sixteens_fit up width whole room =
+    let all : width / 16 * 16 ≡ width = omega arith in
+    let same : up * (width / 16) * 16 ≡ up * width = mul_assoc up (width / 16) 16 ∙ ap (λ w. up * w) all in
+    omega arith
+
+-- the stretches of a branch, among those of all branches
+module _ (table : List ℤ) (stretches : List ℕ) (up width p : ℕ) (whole : width % 16 ≡ 0) (some : 1 ≤ width)
+    (room : up * width ≤ length table) (places : up * (width / 16) ≤ length stretches) (l : p < up) where
+  abbrev sixteens : ℕ
+  sixteens = width / 16
+
+  abbrev row : List ℤ
+  row = take width (drop (p * width) table)
+
+  abbrev lens : List ℕ
+  lens = take sixteens (drop (p * sixteens) stretches)
+
+  taps_fit : p * width + width ≤ length table
+  taps_fit = (let r : p * width + width ≤ up * width = row_fits p width up width l (omega arith) in omega arith)
+
+  lens_fit : p * sixteens + sixteens ≤ up * sixteens
+  lens_fit = row_fits p sixteens up sixteens l (omega arith)
+
+  pub row_long : length row ≡ width
+  row_long = length-take-le width (drop (p * width) table) (omega (arith, taps_fit, length-drop (p * width) table))
+
+  lens_long : length lens ≡ sixteens
+  lens_long = length-take-le sixteens (drop (p * sixteens) stretches)
+      (omega (arith, lens_fit, places, length-drop (p * sixteens) stretches))
+
+  len_is : (k : ℕ) → k < sixteens → get_or lens k 0 ≡ get_or stretches (p * sixteens + k) 0
+  len_is k h = get_or-take sixteens (drop (p * sixteens) stretches) k 0 h ∙ get_or-drop (p * sixteens) stretches k 0
+
+  pub row_stretches :
+      ((k : ℕ) → k < length (take (up * sixteens) stretches) → 1 ≤ get_or (take (up * sixteens) stretches) k 0) →
+      ((k : ℕ) → k < up * sixteens → IsReach (get_or stretches k 0)
+      (drop (16 * (k % sixteens)) (take width (drop (k / sixteens * width) table)))) →
+      AreStretches row lens
+  row_stretches each_some each = record {
+    many = lens_long ∙ sym (ap (λ n. n / 16) row_long);
+    some = λ k h.
+        let k_in : k < sixteens = omega (arith, lens_long) in
+        let all : p * sixteens + k < up * sixteens = omega (arith, lens_fit) in
+        subst (λ n. 1 ≤ n) (get_or-take (up * sixteens) stretches (p * sixteens + k) 0 all ∙ sym (len_is k k_in))
+        (each_some (p * sixteens + k)
+        (omega (arith, length-take-le (up * sixteens) stretches places)));
+    each = λ k h.
+        let k_in : k < sixteens = omega (arith, lens_long) in
+        let at : IsReach (get_or stretches (p * sixteens + k) 0)
+        (drop (16 * ((p * sixteens + k) % sixteens)) (take width (drop ((p * sixteens + k) / sixteens * width) table))) =
+        each (p * sixteens + k) (omega (arith, lens_fit)) in
+        let column : (p * sixteens + k) % sixteens ≡ k = mod-mul-add p sixteens k k_in in
+        let row_is : (p * sixteens + k) / sixteens ≡ p = div-mul-add p sixteens k k_in in
+        subst (λ m. IsReach m (drop (16 * k) row)) (sym (len_is k k_in))
+        (subst (λ c. IsReach (get_or stretches (p * sixteens + k) 0) (drop (16 * c) row)) column
+        (subst (λ r. IsReach (get_or stretches (p * sixteens + k) 0)
+        (drop (16 * ((p * sixteens + k) % sixteens)) (take width (drop (r * width) table)))) row_is at));
+  }
+
+pub branches_are : (taps table : List ℤ) (stretches : List ℕ) (up width peak gain : ℕ) (wide : Bool) → AreTaps taps →
     Fits ((length taps - 1) / up) up width → table ≡ map (place_tap taps up width) (range_with_len 0 2048) →
+    length stretches ≡ 128 →
+    ((k : ℕ) → k < up * (width / 16) → IsReach (get_or stretches k 0)
+    (drop (16 * (k % (width / 16))) (take width (drop (k / (width / 16) * width) table)))) →
+    (wide ≡ true → (k : ℕ) → k < length (take (up * (width / 16)) stretches) →
+    1 ≤ get_or (take (up * (width / 16)) stretches) k 0) →
     ((p : ℕ) → p < up → total_abs (take width (drop (p * width) table)) ≤ gain) → gain * peak ≤ 2147467263 →
     peak ≤ 32767 →
-    AreBranches taps up (record { table = table; width = width; peak = peak })
-branches_are taps table up width peak gain are fits is greatest quiet small =
-    let long : length table ≡ 2048 = ap length is ∙ length-map-range_with_len (place_tap taps up width) 0 2048 in
+    AreBranches taps up (record {
+      table = table;
+      stretches = stretches;
+      width = width;
+      limits = record { peak = peak; is_wide = wide };
+    })
+branches_are taps table stretches up width peak gain wide are fits is places each each_some greatest quiet small =
     record {
       quiet = record {
-        lanes = fits.lanes;
-        some = let more = fits.more in omega arith;
+        some = some;
         few = fits.few;
-        room = let room = fits.room in omega arith;
-        short = λ p l. subst (λ xs. Each1 (FitsSigned w16) xs) (sym (slice p l)) (branch_short taps up p width are);
-        quiet = λ p l. let g : total_abs (take width (drop (p * width) table)) * peak ≤ gain * peak =
-            mul-le-mul_right peak (greatest p l) in omega arith;
+        room = room;
+        stretches_room = sixteens_room;
         peak = small;
+        each = λ p l. record {
+          vectors = record {
+            whole = ap (λ n. n % 16) (row_long table stretches up width p fits.lanes some room sixteens_room l) ∙ fits.lanes;
+            few = omega (arith, row_long table stretches up width p fits.lanes some room sixteens_room l, fits.few);
+            short = subst (λ xs. Each1 (FitsSigned w16) xs) (sym (slice p l)) (branch_short taps up p width are);
+          };
+          quiet = let g : total_abs (take width (drop (p * width) table)) * peak ≤ gain * peak =
+              mul-le-mul_right peak (greatest p l) in omega arith;
+          wide = λ e. row_stretches table stretches up width p fits.lanes some room sixteens_room l (each_some e) each;
+        };
       };
       reach = fits.more;
       are = λ p l. slice p l;
     }
   where
+    long : length table ≡ 2048
+    long = ap length is ∙ length-map-range_with_len (place_tap taps up width) 0 2048
+
+    some : 1 ≤ width
+    some = let more = fits.more in omega arith
+
+    room : up * width ≤ length table
+    room = omega (arith, fits.room, long)
+
+    sixteens_room : up * (width / 16) ≤ length stretches
+    sixteens_room = omega (arith, sixteens_fit up width fits.lanes fits.room, places)
+
     slice : (p : ℕ) → p < up → take width (drop (p * width) table) ≡ branch taps up p width
     slice p l =
         let row : p * width + width ≤ up * width = row_fits p width up width l (omega arith) in

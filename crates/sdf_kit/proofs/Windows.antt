@@ -1,19 +1,24 @@
 -- Windows: parts of samples, and dot products with them.
 use Rattle.std.proofs.Common.{◌≡◌, ℕ, zero, suc, ◌+◌, ◌-◌, ◌*◌, ◌<◌, ◌≤◌, ℤ, pos, negsuc, ◌+ℤ◌, ◌-ℤ◌, ◌*ℤ◌, List, []}
-use Rattle.std.proofs.Common.{◌∷◌, ◌++◌, length, map, take, drop, replicate, get_or, unsigned_abs, FitsSigned, Bool}
-use Rattle.std.proofs.Common.{true, false, w32, to_z, of_z, refl, sym, ap, subst, ◌∙◌, ◌⊎◌, arith, ⊎_elim}
+use Rattle.std.proofs.Common.{◌∷◌, ◌++◌, length, map, take, drop, replicate, get_or, unsigned_abs, FitsSigned}
+use Rattle.std.proofs.Common.{◌≤ℤ◌, ◌^◌, true, w32, w64, to_z, of_z, refl, sym, ap, subst, ◌∙◌, ◌⊎◌, arith, ⊎_elim}
 use Rattle.std.specs.Int.{w16, int_shr}
 use Rattle.std.proofs.lemmas.Int.{ints, fits_signed_from_abs, to_z-of_z, SFits-int_wrap}
 use Rattle.std.specs.Simd.Lanes.{Each1}
 use Rattle.sdf_kit.proofs.Branching.{each1}
-use Rattle.std.proofs.lemmas.Bool.{cases_lt, true≢false, false≢true}
-use Rattle.std.proofs.lemmas.Simd.{length-zip2}
+use Rattle.std.proofs.lemmas.Bool.{cases_lt}
+use Rattle.std.proofs.lemmas.Simd.{length-zip2, Each1-replicate, Each1-chunk}
 use Rattle.std.proofs.lemmas.List.{length-take-le, length-drop, length-append, length-replicate, length-map}
 use Rattle.std.proofs.lemmas.List.{get_or-take, get_or-drop, get_or-replicate, get_or_append_left, get_or-append_right}
 use Rattle.std.proofs.lemmas.List.{ext_get_or}
 use Rattle.sdf_kit.specs.Dots.{AreWithin, joined, dot, total_abs, wrap}
 use Rattle.sdf_kit.specs.Samples.{settled}
-use Rattle.sdf_kit.specs.Window.{Held, part_as, AreHeld, held, AreFit}
+use Rattle.sdf_kit.specs.Window.{Held, part_as, AreHeld, held, seen, output_of, AreFit}
+use Rattle.sdf_kit.specs.Stretches.{IsBranch, AreStretches}
+use Rattle.sdf_kit.specs.declared.branches.Limits.{Limits}
+use Rattle.sdf_kit.specs.declared.window.Way.{Way}
+use Rattle.sdf_kit.specs.declared.window.Way.TheVariants.{Quiet, Wide, Split}
+use Rattle.sdf_kit.proofs.InStretches.{dot_small}
 use Rattle.sdf_kit.specs.declared.window.Part.TheVariants.{Whole, High, Low}
 use Rattle.sdf_kit.proofs.Exact.{bound, exact, split_exact}
 
@@ -30,13 +35,14 @@ take_joined (suc n) [] b = refl
 take_joined (suc n) (x ∷ a) [] = refl
 take_joined (suc n) (x ∷ a) (y ∷ b) = ap (λ z. ((pos 256 *ℤ x) +ℤ y) ∷ z) (take_joined n a b)
 
-pub length_held : (s : Bool) (high low : List ℤ) (n peak : ℕ) → AreHeld s high low n peak →
-    length (held s high low n) ≡ n
-length_held true high low n peak are =
+pub length_held : (way : Way) (high low : List ℤ) (n : ℕ) (limits : Limits) → AreHeld way high low n limits →
+    length (held way high low n) ≡ n
+length_held Quiet high low n limits are = length-take-le n high are.high_room
+length_held Wide high low n limits are = length-take-le n high are.high_room
+length_held Split high low n limits are =
     let ha : length (take n high) ≡ n = length-take-le n high are.high_room in
     let hb : length (take n low) ≡ n = length-take-le n low are.low_room in
     length-zip2 (λ a b. (pos 256 *ℤ a) +ℤ b) (take n high) (take n low) (ha ∙ sym hb) ∙ ha
-length_held false high low n peak are = length-take-le n high are.high_room
 
 within_part : (xs : List ℤ) (m at len : ℕ) → AreWithin m xs → at + len ≤ length xs → AreWithin m (take len (drop at xs))
 within_part xs m at len w room k l =
@@ -51,50 +57,51 @@ short_front xs peak w low = each1 (FitsSigned w16) xs
     (λ k l. let h : unsigned_abs (get_or xs k (pos 0)) ≤ peak = w k l in
     fits_signed_from_abs w16 (get_or xs k (pos 0)) (omega arith))
 
-pub low_held : (s : Bool) (high low : List ℤ) (n peak : ℕ) → s ≡ true → AreHeld s high low n peak →
-    AreWithin peak (take n low)
-low_held s high low n peak e are = are.low_small e
+-- the numbers that are held have 16 bits
+pub high_short : (way : Way) (high low : List ℤ) (n : ℕ) (limits : Limits) → AreHeld way high low n limits →
+    Each1 (FitsSigned w16) (take n high)
+high_short Quiet high low n limits are = short_front (take n high) limits.peak are.within are.small
+high_short Wide high low n limits are = are.within.1
+high_short Split high low n limits are = short_front (take n high) limits.peak are.within.0 are.small
 
--- where the samples themselves are held, from which x is taken
-pub whole_value : (s : Bool) (h high low x : List ℤ) (n peak at : ℕ) → s ≡ false → AreHeld s high low n peak →
-    x ≡ take n high → total_abs h * peak ≤ 2147467263 → at + length h ≤ length (held s high low n) →
-    (wrap (dot h (take (length h) (drop at x))) ≡ dot h (take (length h) (drop at (held s high low n))))
-    × (unsigned_abs (wrap (dot h (take (length h) (drop at x)))) ≤ 2147467263)
-whole_value true h high low x n peak at e are is quiet room = absurd (true≢false e)
-whole_value false h high low x n peak at e are is quiet room =
+pub low_short : (high low : List ℤ) (n : ℕ) (limits : Limits) → AreHeld Split high low n limits →
+    Each1 (FitsSigned w16) (take n low)
+low_short high low n limits are = short_front (take n low) limits.peak are.within.1 are.small
+
+-- where none of the samples is past the peak
+quiet_value : (h high low : List ℤ) (n at : ℕ) (limits : Limits) → AreHeld Quiet high low n limits →
+    total_abs h * limits.peak ≤ 2147467263 → at + length h ≤ length (take n high) →
+    (wrap (dot h (seen h (take n high) at)) ≡ dot h (seen h (take n high) at))
+    × (unsigned_abs (wrap (dot h (seen h (take n high) at))) ≤ 2147467263)
+quiet_value h high low n at limits are quiet room =
     let part : List ℤ = take (length h) (drop at (take n high)) in
-    let w : AreWithin peak part = within_part (take n high) peak at (length h) are.high_small room in
-    let same : wrap (dot h part) ≡ dot h part = exact h part peak w (omega arith) in
-    let b : unsigned_abs (dot h part) ≤ total_abs h * peak = bound h part peak w in
-    let moved : wrap (dot h (take (length h) (drop at x))) ≡ dot h part =
-    ap (λ y. wrap (dot h (take (length h) (drop at y)))) is ∙ same in
-    (moved, subst (λ z. unsigned_abs z ≤ 2147467263) (sym moved) (omega arith))
+    let w : AreWithin limits.peak part = within_part (take n high) limits.peak at (length h) are.within room in
+    let same : wrap (dot h part) ≡ dot h part = exact h part limits.peak w (omega arith) in
+    let b : unsigned_abs (dot h part) ≤ total_abs h * limits.peak = bound h part limits.peak w in
+    (same, subst (λ z. unsigned_abs z ≤ 2147467263) (sym same) (omega arith))
 
--- where upper bits and lowest ones are, from which x and y are taken
-pub split_value : (s : Bool) (h high low x y : List ℤ) (n peak at : ℕ) → s ≡ true → AreHeld s high low n peak →
-    x ≡ take n high → y ≡ take n low → total_abs h * peak ≤ 2147467263 →
-    at + length h ≤ length (held s high low n) →
-    (pos 256 *ℤ wrap (dot h (take (length h) (drop at x)))) +ℤ wrap (dot h (take (length h) (drop at y))) ≡
-    dot h (take (length h) (drop at (held s high low n)))
-split_value false h high low x y n peak at e are ex ey quiet room = absurd (false≢true e)
-split_value true h high low x y n peak at e are ex ey quiet room =
+-- where upper bits and lowest ones are held
+split_value : (h high low : List ℤ) (n at : ℕ) (limits : Limits) → AreHeld Split high low n limits →
+    total_abs h * limits.peak ≤ 2147467263 → at + length h ≤ length (joined (take n high) (take n low)) →
+    (pos 256 *ℤ wrap (dot h (seen h (take n high) at))) +ℤ wrap (dot h (seen h (take n low) at)) ≡
+    dot h (seen h (joined (take n high) (take n low)) at)
+split_value h high low n at limits are quiet room =
     let len : ℕ = length h in
+    let peak : ℕ = limits.peak in
     let ha : length (take n high) ≡ n = length-take-le n high are.high_room in
     let hb : length (take n low) ≡ n = length-take-le n low are.low_room in
-    let all : length (joined (take n high) (take n low)) ≡ n = length_held true high low n peak are in
+    let all : length (joined (take n high) (take n low)) ≡ n = length_held Split high low n limits are in
     let a : List ℤ = take len (drop at (take n high)) in
     let b : List ℤ = take len (drop at (take n low)) in
     let la : length a ≡ len = length-take-le len (drop at (take n high))
     (omega (arith, length-drop at (take n high))) in
     let lb : length b ≡ len = length-take-le len (drop at (take n low)) (omega (arith, length-drop at (take n low))) in
-    let wa = within_part (take n high) peak at len are.high_small (omega arith) in
-    let wb = within_part (take n low) peak at len (are.low_small refl) (omega arith) in
+    let wa = within_part (take n high) peak at len are.within.0 (omega arith) in
+    let wb = within_part (take n low) peak at len are.within.1 (omega arith) in
     let moved : take len (drop at (joined (take n high) (take n low))) ≡ joined a b =
     ap (take len) (drop_joined at (take n high) (take n low) (ha ∙ sym hb))
     ∙ take_joined len (drop at (take n high)) (drop at (take n low)) in
-    ap (λ z. (pos 256 *ℤ wrap (dot h (take len (drop at z)))) +ℤ wrap (dot h (take len (drop at y)))) ex ∙
-    (ap (λ z. (pos 256 *ℤ wrap (dot h a)) +ℤ wrap (dot h (take len (drop at z)))) ey ∙
-    (split_exact h a b peak (la ∙ sym lb) wa wb (omega arith) ∙ sym (ap (dot h) moved)))
+    split_exact h a b peak (la ∙ sym lb) wa wb (omega arith) ∙ sym (ap (dot h) moved)
 
 -- a sum, as it is passed on
 pub passed : (r z : ℤ) → r ≡ wrap z → to_z w32 (of_z w32 r) ≡ wrap z
@@ -105,55 +112,92 @@ pub read : (sums : List ℤ) (i : ℕ) (z : ℤ) → get_or sums i (pos 0) ≡ w
     to_z w32 (of_z w32 (get_or sums i (pos 0))) ≡ wrap z
 read sums i z e = passed (get_or sums i (pos 0)) z e
 
--- an output of a window w, by sums a of the samples or of their upper bits, and sums b of their lowest ones
-module _ {s : Bool} {high low : List ℤ} {n peak : ℕ} (are : AreHeld s high low n peak) {w : Held}
-    (seen : record { samples = held s high low n; peak = peak } ≡ w) (h : List ℤ)
-    (quiet : total_abs h * w.peak ≤ 2147467263) {x : List ℤ} (is_high : x ≡ take n high) where
-  quiet_held : total_abs h * peak ≤ 2147467263
-  quiet_held = subst (λ (v : Held). total_abs h * v.peak ≤ 2147467263) (sym seen) quiet
+-- what is known of a window w whose samples are held in this way
+module _ {way : Way} {high low : List ℤ} {n : ℕ} {limits : Limits} (are : AreHeld way high low n limits) {w : Held}
+    (view : record { samples = held way high low n; limits = limits } ≡ w) {h : List ℤ} {lens : List ℕ}
+    (branch : IsBranch w.limits h lens) where
+  pub branch_held : IsBranch limits h lens
+  branch_held = subst (λ (v : Held). IsBranch v.limits h lens) (sym view) branch
 
-  in_held : (at : ℕ) → at + length h ≤ length w.samples → at + length h ≤ length (held s high low n)
-  in_held at room = subst (λ (v : Held). at + length h ≤ length v.samples) (sym seen) room
+  pub in_held : (at : ℕ) → at + length h ≤ length w.samples → at + length h ≤ length (held way high low n)
+  in_held at room = subst (λ (v : Held). at + length h ≤ length v.samples) (sym view) room
 
-  whole : (at : ℕ) → at + length h ≤ length w.samples → s ≡ false →
-      (wrap (dot h (take (length h) (drop at x))) ≡ dot h (take (length h) (drop at (held s high low n))))
-      × (unsigned_abs (wrap (dot h (take (length h) (drop at x)))) ≤ 2147467263)
-  whole at room e = whole_value s h high low x n peak at e are is_high quiet_held (in_held at room)
+  pub held_are : (other : Way) → way ≡ other → AreHeld other high low n limits
+  held_are other e = subst (λ o. AreHeld o high low n limits) e are
 
-  pub whole_small : (a : ℤ) (at : ℕ) → at + length h ≤ length w.samples → s ≡ false →
-      to_z w32 (of_z w32 a) ≡ wrap (dot h (take (length h) (drop at x))) →
+  pub room_as : (other : Way) → way ≡ other → (at : ℕ) → at + length h ≤ length w.samples →
+      at + length h ≤ length (held other high low n)
+  room_as other e at room = subst (λ o. at + length h ≤ length (held o high low n)) e (in_held at room)
+
+  -- an output, told of what is held
+  pub output_is : (other : Way) → way ≡ other → {r : ℤ} (at shift : ℕ) → FitsSigned w32 r →
+      r ≡ output_of h (held other high low n) at shift → to_z w32 (of_z w32 r) ≡ output_of h w.samples at shift
+  output_is other e {r} at shift fits is =
+      to_z-of_z w32 r fits ∙ (is ∙ (ap (λ o. output_of h (held o high low n) at shift) (sym e)
+      ∙ ap (λ (v : Held). output_of h v.samples at shift) view))
+
+  -- where none of the samples x is past the peak, by a sum a
+  pub quiet_small : way ≡ Quiet → {x : List ℤ} → x ≡ take n high → (a : ℤ) (at : ℕ) →
+      at + length h ≤ length w.samples → to_z w32 (of_z w32 a) ≡ wrap (dot h (seen h x at)) →
       unsigned_abs (to_z w32 (of_z w32 a)) ≤ 2147467263
-  whole_small a at room e reads = subst (λ z. unsigned_abs z ≤ 2147467263) (sym reads) (whole at room e).1
+  quiet_small e {x} is a at room reads =
+      subst (λ z. unsigned_abs z ≤ 2147467263) (sym (reads ∙ ap (λ y. wrap (dot h (seen h y at))) is))
+      (quiet_value h high low n at limits (held_are Quiet e) branch_held.quiet (room_as Quiet e at room)).1
 
-  pub whole_output : (a : ℤ) {r : ℤ} (shift at : ℕ) → at + length h ≤ length w.samples → s ≡ false →
-      to_z w32 (of_z w32 a) ≡ wrap (dot h (take (length h) (drop at x))) →
+  pub quiet_output : way ≡ Quiet → {x : List ℤ} → x ≡ take n high → (a : ℤ) {r : ℤ} (at shift : ℕ) →
+      at + length h ≤ length w.samples → to_z w32 (of_z w32 a) ≡ wrap (dot h (seen h x at)) →
       r ≡ settled (to_z w32 (of_z w32 a)) shift → FitsSigned w32 r →
-      to_z w32 (of_z w32 r) ≡ settled (dot h (take (length h) (drop at w.samples))) shift
-  whole_output a {r} shift at room e reads is fits =
-      subst (λ (v : Held). to_z w32 (of_z w32 r) ≡ settled (dot h (take (length h) (drop at v.samples))) shift) seen
-      (to_z-of_z w32 r fits ∙ (is ∙ ap (λ z. settled z shift) (reads ∙ (whole at room e).0)))
+      to_z w32 (of_z w32 r) ≡ output_of h w.samples at shift
+  quiet_output e {x} is a {r} at shift room reads value fits =
+      output_is Quiet e at shift fits (value ∙ ap (λ z. settled z shift) (reads
+      ∙ (ap (λ y. wrap (dot h (seen h y at))) is
+      ∙ (quiet_value h high low n at limits (held_are Quiet e) branch_held.quiet (room_as Quiet e at room)).0)))
 
-  pub split_output : (a b : ℤ) {r : ℤ} (shift : ℕ) {y : List ℤ} → y ≡ take n low → (at : ℕ) →
-      at + length h ≤ length w.samples → s ≡ true →
-      to_z w32 (of_z w32 a) ≡ wrap (dot h (take (length h) (drop at x))) →
-      to_z w32 (of_z w32 b) ≡ wrap (dot h (take (length h) (drop at y))) →
+  -- where the samples x have 16 bits
+  pub stretches_held : way ≡ Wide → AreStretches h lens
+  stretches_held e = branch_held.wide (held_are Wide e).within.0
+
+  pub wide_small : (x : List ℤ) → Each1 (FitsSigned w16) x → (at : ℕ) →
+      unsigned_abs (dot h (seen h x at)) ≤ 2 ^ 56
+  wide_small x short at =
+      let small = dot_small h (seen h x at) branch_held.vectors.short (Each1-chunk (FitsSigned w16) at (length h) x short) in
+      omega (arith, branch_held.vectors.few)
+
+  pub wide_sent : (x : List ℤ) → Each1 (FitsSigned w16) x → (at : ℕ) → {a : ℤ} → a ≡ dot h (seen h x at) →
+      to_z w64 (of_z w64 a) ≡ dot h (seen h x at)
+  wide_sent x short at {a} is =
+      let fits : FitsSigned w64 (dot h (seen h x at)) =
+      fits_signed_from_abs w64 (dot h (seen h x at)) (omega (arith, wide_small x short at)) in
+      to_z-of_z w64 a (subst (FitsSigned w64) (sym is) fits) ∙ is
+
+  pub wide_output : way ≡ Wide → {x : List ℤ} → x ≡ take n high → (a : ℤ) {r : ℤ} (at shift : ℕ) →
+      a ≡ dot h (seen h x at) → r ≡ settled a shift → FitsSigned w32 r →
+      to_z w32 (of_z w32 r) ≡ output_of h w.samples at shift
+  wide_output e {x} is a {r} at shift reads value fits =
+      output_is Wide e at shift fits (value ∙ ap (λ z. settled z shift)
+      (reads ∙ ap (λ y. dot h (seen h y at)) is))
+
+  -- by a sum a of the samples' upper bits x, and a sum b of their lowest ones y
+  pub split_output : way ≡ Split → {x y : List ℤ} → x ≡ take n high → y ≡ take n low → (a b : ℤ) {r : ℤ}
+      (at shift : ℕ) → at + length h ≤ length w.samples →
+      to_z w32 (of_z w32 a) ≡ wrap (dot h (seen h x at)) → to_z w32 (of_z w32 b) ≡ wrap (dot h (seen h y at)) →
       r ≡ settled ((pos 256 *ℤ to_z w32 (of_z w32 a)) +ℤ to_z w32 (of_z w32 b)) shift → FitsSigned w32 r →
-      to_z w32 (of_z w32 r) ≡ settled (dot h (take (length h) (drop at w.samples))) shift
-  split_output a b {r} shift {y} is_low at room e reads_high reads_low is fits =
-      subst (λ (v : Held). to_z w32 (of_z w32 r) ≡ settled (dot h (take (length h) (drop at v.samples))) shift) seen
-      (to_z-of_z w32 r fits ∙ (is ∙ ap (λ z. settled z shift)
-      (ap (λ z. (pos 256 *ℤ z) +ℤ to_z w32 (of_z w32 b)) reads_high
-      ∙ (ap (λ z. (pos 256 *ℤ wrap (dot h (take (length h) (drop at x)))) +ℤ z) reads_low
-      ∙ split_value s h high low x y n peak at e are is_high is_low quiet_held (in_held at room)))))
+      to_z w32 (of_z w32 r) ≡ output_of h w.samples at shift
+  split_output e {x} {y} is_high is_low a b {r} at shift room reads_high reads_low value fits =
+      output_is Split e at shift fits (value ∙ ap (λ z. settled z shift)
+      (ap (λ z. (pos 256 *ℤ z) +ℤ to_z w32 (of_z w32 b)) (reads_high ∙ ap (λ v. wrap (dot h (seen h v at))) is_high)
+      ∙ (ap (λ z. (pos 256 *ℤ wrap (dot h (seen h (take n high) at))) +ℤ z)
+      (reads_low ∙ ap (λ v. wrap (dot h (seen h v at))) is_low)
+      ∙ split_value h high low n at limits (held_are Split e) branch_held.quiet (room_as Split e at room))))
 
 -- the samples that are read from a window, themselves or their upper bits
-pub front_long : {s : Bool} {high low x : List ℤ} {n peak : ℕ} → AreHeld s high low n peak → {w : Held} →
-    record { samples = held s high low n; peak = peak } ≡ w → (x ≡ take n high) ⊎ (x ≡ take n low) →
-    length x ≡ length w.samples
-front_long {s} {high} {low} {x} {n} {peak} are seen is =
+pub front_long : {way : Way} {high low x : List ℤ} {n : ℕ} {limits : Limits} → AreHeld way high low n limits →
+    {w : Held} → record { samples = held way high low n; limits = limits } ≡ w →
+    (x ≡ take n high) ⊎ (x ≡ take n low) → length x ≡ length w.samples
+front_long {way} {high} {low} {x} {n} {limits} are view is =
     ⊎_elim (λ e. ap length e ∙ length-take-le n high are.high_room)
     (λ e. ap length e ∙ length-take-le n low are.low_room) is
-    ∙ (sym (length_held s high low n peak are) ∙ ap (λ (v : Held). length v.samples) seen)
+    ∙ (sym (length_held way high low n limits are) ∙ ap (λ (v : Held). length v.samples) view)
 
 -- what is within a peak has parts within it
 pub whole_fit : (xs : List ℤ) (m peak : ℕ) → AreWithin m xs → m ≤ peak → peak ≤ 32767 → AreFit Whole xs
@@ -283,57 +327,96 @@ pub whole_all : (xs : List ℤ) → map (part_as Whole) xs ≡ xs
 whole_all [] = refl
 whole_all (x ∷ xs) = ap (λ ys. x ∷ ys) (whole_all xs)
 
--- a window that was loaded with the samples themselves
-module _ (high low : List ℤ) (pad peak : ℕ) (kept taken : List ℤ) (high_long : length high ≡ 2048)
-    (low_long : length low ≡ 2048) (room : pad + (length kept + length taken) ≤ 2048) (few : peak ≤ 32767) where
+-- samples of at most 32,768 that are not that have 16 bits
+pub short_fit : (xs : List ℤ) (m : ℕ) → AreWithin m xs → m ≤ 32768 →
+    ((k : ℕ) → k < length xs → get_or xs k (pos 0) ≤ℤ pos 32767) → AreFit Whole xs
+short_fit xs m w few low k l = one (get_or xs k (pos 0)) (w k l) (low k l)
+  where
+    one : (x : ℤ) → unsigned_abs x ≤ m → x ≤ℤ pos 32767 → FitsSigned w16 x
+    one (pos n) h g = record { sfits = omega (arith, ints) }
+    one (negsuc n) h g = record { sfits = omega (arith, ints) }
+
+-- a window that was loaded
+module _ (high low : List ℤ) (pad : ℕ) (kept taken : List ℤ) (limits : Limits) (high_long : length high ≡ 2048)
+    (low_long : length low ≡ 2048) (room : pad + (length kept + length taken) ≤ 2048) (few : limits.peak ≤ 32767) where
   abbrev loaded : List ℤ
   loaded = replicate pad (pos 0) ++ (kept ++ taken)
 
   abbrev held_len : ℕ
   held_len = pad + length kept + length taken
 
+  abbrev peak : ℕ
+  peak = limits.peak
+
   joined_len : held_len ≡ pad + (length kept + length taken)
   joined_len = omega arith
 
-  pub whole_loaded : (a b : ℕ) → AreWithin a kept → AreWithin b taken → a ≤ peak → b ≤ peak →
-      take (pad + (length kept + length taken)) high ≡ map (part_as Whole) loaded → AreHeld false high low held_len peak
-  whole_loaded a b wa wb la lb written = record {
+  front : (xs : List ℤ) (f : ℤ → ℤ) → take (pad + (length kept + length taken)) xs ≡ map f loaded →
+      take held_len xs ≡ map f loaded
+  front xs f written = ap (λ n. take n xs) joined_len ∙ written
+
+  pub quiet_loaded : (a b : ℕ) → AreWithin a kept → AreWithin b taken → a ≤ peak → b ≤ peak →
+      take (pad + (length kept + length taken)) high ≡ map (part_as Whole) loaded →
+      AreHeld Quiet high low held_len limits
+  quiet_loaded a b wa wb la lb written = record {
     high_room = omega arith;
     low_room = omega arith;
     small = few;
-    high_small = subst (λ xs. AreWithin peak xs) (sym (ap (λ n. take n high) joined_len ∙ written))
+    within = subst (λ xs. AreWithin peak xs) (sym (front high (part_as Whole) written))
         (parts_within (part_as Whole) pad peak refl kept taken
         (λ k l. let w : unsigned_abs (get_or kept k (pos 0)) ≤ a = wa k l in omega arith)
         (λ k l. let w : unsigned_abs (get_or taken k (pos 0)) ≤ b = wb k l in omega arith));
-    low_small = λ e. absurd (false≢true e);
   }
 
   pub whole_samples : take (pad + (length kept + length taken)) high ≡ map (part_as Whole) loaded →
       take held_len high ≡ loaded
-  whole_samples written = ap (λ n. take n high) joined_len ∙ (written ∙ whole_all loaded)
+  whole_samples written = front high (part_as Whole) written ∙ whole_all loaded
+
+  pub wide_loaded : limits.is_wide ≡ true → AreFit Whole kept → AreFit Whole taken →
+      take (pad + (length kept + length taken)) high ≡ map (part_as Whole) loaded →
+      AreHeld Wide high low held_len limits
+  wide_loaded wide old new written = record {
+    high_room = omega arith;
+    low_room = omega arith;
+    small = few;
+    within = (wide, subst (λ xs. Each1 (FitsSigned w16) xs) (sym (whole_samples written)) short);
+  }
+    where
+      zeros_fit : (m : ℕ) → Each1 (FitsSigned w16) (replicate m (pos 0))
+      zeros_fit m = Each1-replicate (FitsSigned w16) m (pos 0) (record { sfits = omega arith })
+
+      both_fit : (xs ys : List ℤ) → Each1 (FitsSigned w16) xs → Each1 (FitsSigned w16) ys →
+          Each1 (FitsSigned w16) (xs ++ ys)
+      both_fit [] ys f g = g
+      both_fit (x ∷ xs) ys f g = (f.0, both_fit xs ys f.1 g)
+
+      short : Each1 (FitsSigned w16) loaded
+      short = both_fit (replicate pad (pos 0)) (kept ++ taken) (zeros_fit pad)
+          (both_fit kept taken (each1 (FitsSigned w16) kept old) (each1 (FitsSigned w16) taken new))
 
   pub split_loaded : (a b : ℕ) → AreWithin a kept → AreWithin b taken → a ≤ 255 * peak → b ≤ 255 * peak → 255 ≤ peak →
       take (pad + (length kept + length taken)) high ≡ map (part_as High) loaded →
-      take (pad + (length kept + length taken)) low ≡ map (part_as Low) loaded → AreHeld true high low held_len peak
+      take (pad + (length kept + length taken)) low ≡ map (part_as Low) loaded → AreHeld Split high low held_len limits
   split_loaded a b wa wb la lb some written_high written_low = record {
     high_room = omega arith;
     low_room = omega arith;
     small = few;
-    high_small = subst (λ xs. AreWithin peak xs) (sym (ap (λ n. take n high) joined_len ∙ written_high))
-        (parts_within (part_as High) pad peak refl kept taken
-        (λ k l. let w : unsigned_abs (get_or kept k (pos 0)) ≤ a = wa k l in
-        high_small (get_or kept k (pos 0)) peak (omega arith))
-        (λ k l. let w : unsigned_abs (get_or taken k (pos 0)) ≤ b = wb k l in
-        high_small (get_or taken k (pos 0)) peak (omega arith)));
-    low_small = λ e. subst (λ xs. AreWithin peak xs) (sym (ap (λ n. take n low) joined_len ∙ written_low))
-        (parts_within (part_as Low) pad peak refl kept taken (λ k l. low_small (get_or kept k (pos 0)) peak some)
-        (λ k l. low_small (get_or taken k (pos 0)) peak some));
+    within = (
+      subst (λ xs. AreWithin peak xs) (sym (front high (part_as High) written_high))
+          (parts_within (part_as High) pad peak refl kept taken
+          (λ k l. let w : unsigned_abs (get_or kept k (pos 0)) ≤ a = wa k l in
+          high_small (get_or kept k (pos 0)) peak (omega arith))
+          (λ k l. let w : unsigned_abs (get_or taken k (pos 0)) ≤ b = wb k l in
+          high_small (get_or taken k (pos 0)) peak (omega arith))),
+      subst (λ xs. AreWithin peak xs) (sym (front low (part_as Low) written_low))
+          (parts_within (part_as Low) pad peak refl kept taken (λ k l. low_small (get_or kept k (pos 0)) peak some)
+          (λ k l. low_small (get_or taken k (pos 0)) peak some)),
+    );
   }
 
   pub split_samples : take (pad + (length kept + length taken)) high ≡ map (part_as High) loaded →
       take (pad + (length kept + length taken)) low ≡ map (part_as Low) loaded →
       joined (take held_len high) (take held_len low) ≡ loaded
   split_samples written_high written_low =
-      ap (λ n. joined (take n high) (take n low)) joined_len ∙
-      (ap (λ xs. joined xs (take (pad + (length kept + length taken)) low)) written_high
-      ∙ (ap (joined (map (part_as High) loaded)) written_low ∙ parts_join loaded))
+      ap (λ xs. joined xs (take held_len low)) (front high (part_as High) written_high)
+      ∙ (ap (joined (map (part_as High) loaded)) (front low (part_as Low) written_low) ∙ parts_join loaded)

@@ -1,13 +1,12 @@
 -- Branches of a polyphase filter: the taps of each phase by themselves.
 use Rattle.std.specs.Prelude.{ℕ, ◌≡◌, ◌+◌, ◌-◌, ◌*◌, ◌/◌, ◌%◌, ◌<◌, ◌≤◌, ℤ, pos, List, ◌++◌, length, map, take, drop}
-use Rattle.std.specs.Prelude.{replicate, FitsSigned}
-use Rattle.std.specs.Int.{w16}
+use Rattle.std.specs.Prelude.{replicate}
 use Rattle.std.specs.List.{range_with_len}
-use Rattle.std.specs.Simd.Lanes.{Each1}
 use Rattle.sdf_limits.specs.declared.TheConstants.{MOST_FACTOR, MOST_SHIFT}
 use Rattle.sdf_kit.specs.Samples.{sample, settled, upsampled}
 use Rattle.sdf_kit.specs.Fir.{convolved}
-use Rattle.sdf_kit.specs.Dots.{dot, total_abs}
+use Rattle.sdf_kit.specs.Dots.{dot}
+use Rattle.sdf_kit.specs.Stretches.{IsBranch}
 use Rattle.sdf_kit.specs.declared.branches.Branches.{Branches}
 use Rattle.sdf_kit.specs.declared.polyphase.Firings.{Firings}
 
@@ -19,16 +18,18 @@ branch taps up p n = map (λ i. sample taps (p + (n - 1 - i) * up)) (range_with_
 abbrev pub branch_at : Branches → ℕ → List ℤ
 branch_at b p = take b.width (drop (p * b.width) b.table)
 
--- so many branches that vectors of sixteen can be used on, and that stay within 32 bits on samples within the peak,
--- also where half of 2^15 is added to round
+-- its stretches
+abbrev pub stretches_at : Branches → ℕ → List ℕ
+stretches_at b p = take (b.width / 16) (drop (p * (b.width / 16)) b.stretches)
+
+-- so many branches that vectors of sixteen can be used on
 pub record AreQuiet (up : ℕ) (b : Branches) : Type 0 where
-  pub lanes : b.width % 16 ≡ 0
   pub some : 1 ≤ b.width
   pub few : b.width ≤ 1024
   pub room : up * b.width ≤ length b.table
-  pub short : (p : ℕ) → p < up → Each1 (FitsSigned w16) (branch_at b p)
-  pub quiet : (p : ℕ) → p < up → total_abs (branch_at b p) * b.peak ≤ 2147467263
-  pub peak : b.peak ≤ 32767
+  pub stretches_room : up * (b.width / 16) ≤ length b.stretches
+  pub peak : b.limits.peak ≤ 32767
+  pub each : (p : ℕ) → p < up → IsBranch b.limits (branch_at b p) (stretches_at b p)
 
 -- and they are those of a filter, each with all of its taps
 pub record AreBranches (taps : List ℤ) (up : ℕ) (b : Branches) : Type 0 where

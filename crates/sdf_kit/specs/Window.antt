@@ -1,26 +1,45 @@
 -- The samples of a window, by their upper bits and their lowest ones.
-use Rattle.std.specs.Prelude.{ℕ, ◌≡◌, ◌<◌, ◌≤◌, Bool, true, cond, ℤ, pos, ◌-ℤ◌, ◌*ℤ◌, FitsSigned, List, length, take}
+use Rattle.std.specs.Prelude.{ℕ, ◌≡◌, ◌<◌, ◌≤◌, true, ℤ, pos, ◌-ℤ◌, ◌*ℤ◌, FitsSigned, List, length, take, drop}
 use Rattle.std.specs.Int.{w16, int_shr}
-use Rattle.sdf_kit.specs.Samples.{sample}
+use Rattle.std.specs.Simd.Lanes.{Each1}
+use Rattle.sdf_kit.specs.Samples.{sample, settled}
+use Rattle.sdf_kit.specs.declared.branches.Limits.{Limits}
+use Rattle.sdf_kit.specs.declared.window.Way.{Way}
+use Rattle.sdf_kit.specs.declared.window.Way.TheVariants.{Quiet, Wide, Split}
 use Rattle.sdf_kit.specs.declared.window.Part.{Part}
 use Rattle.sdf_kit.specs.declared.window.Part.TheVariants.{Whole, High, Low}
-use Rattle.sdf_kit.specs.Dots.{AreWithin, joined}
+use Rattle.sdf_kit.specs.Dots.{AreWithin, dot, joined}
 
 pub record Held : Type 0 where
   pub samples : List ℤ
-  pub peak : ℕ
+  pub limits : Limits
 
 -- the first n of the numbers themselves, or of those that upper bits and lowest ones make
-abbrev pub held : Bool → List ℤ → List ℤ → ℕ → List ℤ
-held is_split high low n = cond is_split (joined (take n high) (take n low)) (take n high)
+abbrev pub held : Way → List ℤ → List ℤ → ℕ → List ℤ
+held Quiet high low n = take n high
+held Wide high low n = take n high
+held Split high low n = joined (take n high) (take n low)
 
--- the first n are within the peak
-pub record AreHeld (is_split : Bool) (high low : List ℤ) (n peak : ℕ) : Type 0 where
+-- none is past the peak, or any samples of 16 bits will do
+abbrev pub AreWithinLimits : Way → List ℤ → List ℤ → Limits → Type 0
+AreWithinLimits Quiet high low limits = AreWithin limits.peak high
+AreWithinLimits Wide high low limits = (limits.is_wide ≡ true) × Each1 (FitsSigned w16) high
+AreWithinLimits Split high low limits = AreWithin limits.peak high × AreWithin limits.peak low
+
+-- the first n are within the limits
+pub record AreHeld (way : Way) (high low : List ℤ) (n : ℕ) (limits : Limits) : Type 0 where
   pub high_room : n ≤ length high
   pub low_room : n ≤ length low
-  pub small : peak ≤ 32767
-  pub high_small : AreWithin peak (take n high)
-  pub low_small : is_split ≡ true → AreWithin peak (take n low)
+  pub small : limits.peak ≤ 32767
+  pub within : AreWithinLimits way (take n high) (take n low) limits
+
+-- the samples that taps meet from a place on
+abbrev pub seen : List ℤ → List ℤ → ℕ → List ℤ
+seen h x at = take (length h) (drop at x)
+
+-- the output of a branch at a place
+abbrev pub output_of : List ℤ → List ℤ → ℕ → ℕ → ℤ
+output_of h x at shift = settled (dot h (seen h x at)) shift
 
 -- a sample, its upper bits, or its lowest eight
 abbrev pub part_as : Part → ℤ → ℤ

@@ -1,23 +1,40 @@
 //! The branches of a polyphase filter: the taps of each phase in one piece of memory.
 
-ghost use Rattle.std.specs.Prelude.{ℕ, ◌≡◌, ◌+◌, ◌-◌, ◌*◌, ◌/◌, ◌%◌, ◌<◌, ◌≤◌, length, map, take, drop};
+ghost use Rattle.std.specs.Prelude.{ℕ, ◌≡◌, ◌+◌, ◌-◌, ◌*◌, ◌/◌, ◌%◌, ◌<◌, ◌≤◌, length, map, take, drop, true};
+ghost use Rattle.std.specs.Prelude.{slice_index_or};
 ghost use Rattle.std.specs.List.{range_with_len};
 ghost use Rattle.sdf_kit.specs.Samples.{sample};
 ghost use Rattle.sdf_kit.specs.Fir.{AreTaps};
 ghost use Rattle.sdf_kit.specs.Dots.{total_abs};
-ghost use Rattle.sdf_kit.specs.Branches.{AreBranches, branch_at};
+ghost use Rattle.sdf_kit.specs.Branches.{AreBranches, branch_at, stretches_at};
+ghost use Rattle.sdf_kit.specs.Stretches.{IsReach};
+
+use crate::stretches::{Branch, reach};
 
 /// Places of a table: the taps of a filter, and fewer than sixteen zeros for each branch.
 pub(crate) const PLACES: usize = 2048;
+
+/// The sixteens of a table.
+const SIXTEENS: usize = PLACES / 16;
 
 /// The taps of each phase, the last one first, after zeros that make them a multiple of sixteen.
 #[derive(Drop)]
 pub(crate) struct Branches {
     pub(crate) table: [i16; PLACES],
+    /// How many sixteens the stretch from each sixteen on has within its branch.
+    pub(crate) stretches: [u8; SIXTEENS],
     /// The taps of a branch.
     pub(crate) width: usize,
+    pub(crate) limits: Limits,
+}
+
+/// The samples that the branches of a filter may meet.
+#[derive(Clone, Copy)]
+pub(crate) struct Limits {
     /// Where no sample passes this, no sum of products passes 32 bits.
     pub(crate) peak: u32,
+    /// Whether any samples of 16 bits will do, a stretch at a time.
+    pub(crate) is_wide: bool,
 }
 
 impl Branches {
@@ -31,18 +48,33 @@ impl Branches {
     {
         let width = ((taps.len() - 1) / up as usize + 16) / 16 * 16;
         let table = table_of(taps, up, width);
-        let peak = peak_of(gain(&table, up, width));
-        Branches { table, width, peak }
+        let stretches = stretches_of(&table, up, width);
+        let limits = Limits {
+            peak: peak_of(gain(&table, up, width)),
+            is_wide: are_some(&stretches[..up as usize * (width / 16)]),
+        };
+        Branches {
+            table,
+            stretches,
+            width,
+            limits,
+        }
     }
 
     /// The branch of a phase.
-    pub(crate) fn get(&self, phase: usize) -> &[i16]
+    pub(crate) fn get(&self, phase: usize) -> Branch
         requires few { phase ≤ 64 }
         requires width { self.now.width ≤ 1024 }
         requires room { phase * self.now.width + self.now.width ≤ length self.now.table }
-        ensures { result.now ≡ branch_at self.now phase }
+        requires stretches_room { phase * (self.now.width / 16) + self.now.width / 16 ≤ length self.now.stretches }
+        ensures taps { result.taps.now ≡ branch_at self.now phase }
+        ensures stretches { result.stretches.now ≡ stretches_at self.now phase }
     {
-        &self.table[phase * self.width..phase * self.width + self.width]
+        let sixteens = self.width / 16;
+        Branch {
+            taps: &self.table[phase * self.width..phase * self.width + self.width],
+            stretches: &self.stretches[phase * sixteens..phase * sixteens + sixteens],
+        }
     }
 }
 
@@ -70,6 +102,40 @@ fn tap_at(taps: &[i32], at: usize) -> i16
     ensures { result ≡ sample taps.now at }
 {
     if at < taps.len() { taps[at] as i16 } else { 0 }
+}
+
+/// How far the stretch from each sixteen on reaches within its branch.
+fn stretches_of(table: &[i16], up: u32, width: usize) -> [u8; SIXTEENS]
+    requires up { up ≤ 64 }
+    requires whole { width % 16 ≡ 0 }
+    requires few { width ≤ 1024 }
+    requires some { 1 ≤ width }
+    requires room { up * width ≤ length table.now }
+    requires places { up * width ≤ 2048 }
+    ensures len { length result ≡ 128 }
+    ensures each { (k : ℕ) → k < up * (width / 16) → IsReach (slice_index_or result k 0)
+        (drop (16 * (k % (width / 16))) (take width (drop (k / (width / 16) * width) table.now))) }
+{
+    let mut stretches = [0; SIXTEENS];
+    let sixteens = width / 16;
+    for k in 0..up as usize * sixteens {
+        let start = k / sixteens * width;
+        let branch = &table[start..start + width];
+        stretches[k] = reach(&branch[16 * (k % sixteens)..]);
+    }
+    stretches
+}
+
+/// Whether none is 0.
+fn are_some(stretches: &[u8]) -> bool
+    ensures { result ≡ true → (k : ℕ) → k < length stretches.now → 1 ≤ slice_index_or stretches.now k 0 }
+{
+    for sixteens in stretches {
+        if *sixteens == 0 {
+            return false;
+        }
+    }
+    true
 }
 
 /// The greatest sum of absolute values of a branch.

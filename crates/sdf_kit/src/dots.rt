@@ -1,9 +1,11 @@
 //! Dot products of 16-bit samples and taps, sixteen at a time.
 
-ghost use Rattle.std.specs.Prelude.{◌≡◌, ◌≤◌, ◌+◌, ◌*◌, ◌%◌, ◌*ℤ◌, ◌+ℤ◌, [], ◌∷◌, length, ◌++◌, take, drop, FitsSigned};
+ghost use Rattle.std.specs.Prelude.{ℕ, ◌≡◌, ◌≤◌, ◌+◌, ◌*◌, ◌/◌, ◌%◌, pos, ◌*ℤ◌, ◌+ℤ◌, ◌-ℤ◌, [], ◌∷◌, length, ◌++◌};
+ghost use Rattle.std.specs.Prelude.{map, take, drop, FitsSigned};
 ghost use Rattle.std.specs.Simd.Lanes.{zip2, Each1};
-ghost use Rattle.std.specs.Int.{w16, w32};
+ghost use Rattle.std.specs.Int.{w16, w32, int_shr};
 ghost use Rattle.sdf_kit.specs.Dots.{neighbours, AreLanes, wrap, total, dot};
+ghost use Rattle.sdf_kit.specs.Stretches.{weight, IsStretch, AreLanesWithin, AreSums};
 
 use std::simd::prelude::*;
 
@@ -43,6 +45,24 @@ fn folded(a: i32x8) -> i32x4
     a.swizzle([0, 1, 2, 3]) + a.swizzle([4, 5, 6, 7])
 }
 
+/// The upper sixteen bits of each lane.
+fn upper(a: i32x8) -> i32x8
+    requires { AreLanes w32 8 a }
+    ensures lanes { AreLanes w32 8 result }
+    ensures value { result ≡ map (λ x. int_shr x 16) a }
+{
+    a >> i32x8::splat(16)
+}
+
+/// The lowest sixteen bits of each lane.
+fn lower(a: i32x8) -> i32x8
+    requires { AreLanes w32 8 a }
+    ensures lanes { AreLanes w32 8 result }
+    ensures value { result ≡ map (λ x. x -ℤ (pos 65536 *ℤ int_shr x 16)) a }
+{
+    a & i32x8::splat(65_535)
+}
+
 /// The totals of four vectors.
 fn totals(a: i32x8, b: i32x8, c: i32x8, d: i32x8) -> i32x4
     requires a { AreLanes w32 8 a }
@@ -71,8 +91,76 @@ fn more(sums: i32x8, h: i16x16, x: i16x16) -> i32x8
     requires x { AreLanes w16 16 x }
     ensures lanes { AreLanes w32 8 result }
     ensures value { wrap (total result) ≡ wrap (total sums +ℤ dot h x) }
+    ensures exact { (m : ℕ) → AreLanesWithin m sums → m + weight h * 32768 ≤ 2147483647 →
+        AreLanesWithin (m + weight h * 32768) result × (total result ≡ total sums +ℤ dot h x) }
 {
     plus(sums, products(h, x))
+}
+
+/// The products of taps and samples, summed lane by lane.
+#[inline(always)]
+fn sums(h: &[i16], x: &[i16]) -> i32x8
+    requires whole { length h.now % 16 ≡ 0 }
+    requires h_short { Each1 (FitsSigned w16) h.now }
+    requires x_short { Each1 (FitsSigned w16) x.now }
+    requires x { length x.now ≡ length h.now }
+    ensures { AreSums h.now x.now result }
+{
+    let mut a = i32x8::splat(0);
+    'chunks: for k in 0..h.len() / 16 {
+        a = more(a, load(h, 16 * k), load(x, 16 * k));
+    }
+    a
+}
+
+/// The sums of the same taps' products with samples of four places, lane by lane.
+#[derive(Clone, Copy)]
+struct FourSums {
+    a: i32x8,
+    b: i32x8,
+    c: i32x8,
+    d: i32x8,
+}
+
+/// Four dot products with the same taps.
+#[derive(Clone, Copy)]
+pub(crate) struct FourDots {
+    pub(crate) a: i64,
+    pub(crate) b: i64,
+    pub(crate) c: i64,
+    pub(crate) d: i64,
+}
+
+/// The products of the same taps and samples of four places, summed lane by lane.
+#[inline(always)]
+fn four_sums(h: &[i16], x: &[i16], y: &[i16], z: &[i16], w: &[i16]) -> FourSums
+    requires whole { length h.now % 16 ≡ 0 }
+    requires h_short { Each1 (FitsSigned w16) h.now }
+    requires x_short { Each1 (FitsSigned w16) x.now }
+    requires y_short { Each1 (FitsSigned w16) y.now }
+    requires z_short { Each1 (FitsSigned w16) z.now }
+    requires w_short { Each1 (FitsSigned w16) w.now }
+    requires x { length x.now ≡ length h.now }
+    requires y { length y.now ≡ length h.now }
+    requires z { length z.now ≡ length h.now }
+    requires w { length w.now ≡ length h.now }
+    ensures a { AreSums h.now x.now result.a }
+    ensures b { AreSums h.now y.now result.b }
+    ensures c { AreSums h.now z.now result.c }
+    ensures d { AreSums h.now w.now result.d }
+{
+    let mut a = i32x8::splat(0);
+    let mut b = i32x8::splat(0);
+    let mut c = i32x8::splat(0);
+    let mut d = i32x8::splat(0);
+    'chunks: for k in 0..h.len() / 16 {
+        let taps = load(h, 16 * k);
+        a = more(a, taps, load(x, 16 * k));
+        b = more(b, taps, load(y, 16 * k));
+        c = more(c, taps, load(z, 16 * k));
+        d = more(d, taps, load(w, 16 * k));
+    }
+    FourSums { a, b, c, d }
 }
 
 /// Four dot products with the same taps, each within 32 bits.
@@ -90,18 +178,8 @@ pub(crate) fn dots(h: &[i16], x: &[i16], y: &[i16], z: &[i16], w: &[i16]) -> i32
     ensures { result ≡ wrap (dot h.now x.now) ∷ wrap (dot h.now y.now) ∷ wrap (dot h.now z.now)
         ∷ wrap (dot h.now w.now) ∷ [] }
 {
-    let mut a = i32x8::splat(0);
-    let mut b = i32x8::splat(0);
-    let mut c = i32x8::splat(0);
-    let mut d = i32x8::splat(0);
-    'chunks: for k in 0..h.len() / 16 {
-        let taps = load(h, 16 * k);
-        a = more(a, taps, load(x, 16 * k));
-        b = more(b, taps, load(y, 16 * k));
-        c = more(c, taps, load(z, 16 * k));
-        d = more(d, taps, load(w, 16 * k));
-    }
-    totals(a, b, c, d)
+    let sums = four_sums(h, x, y, z, w);
+    totals(sums.a, sums.b, sums.c, sums.d)
 }
 
 /// A dot product within 32 bits.
@@ -112,9 +190,71 @@ pub(crate) fn dot(h: &[i16], x: &[i16]) -> i32
     requires x { length x.now ≡ length h.now }
     ensures { result ≡ wrap (dot h.now x.now) }
 {
-    let mut a = i32x8::splat(0);
-    'chunks: for k in 0..h.len() / 16 {
-        a = more(a, load(h, 16 * k), load(x, 16 * k));
-    }
+    let a = sums(h, x);
     totals(a, a, a, a).to_array()[0]
+}
+
+/// The number of which these are the totals of the upper halves and of the lower ones.
+fn join(high: i32, low: i32) -> i64
+    ensures { result ≡ (pos 65536 *ℤ high) +ℤ low }
+{
+    65_536 * i64::from(high) + i64::from(low)
+}
+
+/// The totals of four vectors, of more than 32 bits.
+#[inline(always)]
+fn wide_totals(a: i32x8, b: i32x8, c: i32x8, d: i32x8) -> FourDots
+    requires a { AreLanes w32 8 a }
+    requires b { AreLanes w32 8 b }
+    requires c { AreLanes w32 8 c }
+    requires d { AreLanes w32 8 d }
+    ensures a { result.a ≡ total a }
+    ensures b { result.b ≡ total b }
+    ensures c { result.c ≡ total c }
+    ensures d { result.d ≡ total d }
+{
+    let high = totals(upper(a), upper(b), upper(c), upper(d)).to_array();
+    let low = totals(lower(a), lower(b), lower(c), lower(d)).to_array();
+    FourDots {
+        a: join(high[0], low[0]),
+        b: join(high[1], low[1]),
+        c: join(high[2], low[2]),
+        d: join(high[3], low[3]),
+    }
+}
+
+/// Four dot products with the taps of a stretch.
+#[inline(always)]
+pub(crate) fn stretch_dots(h: &[i16], x: &[i16], y: &[i16], z: &[i16], w: &[i16]) -> FourDots
+    requires whole { length h.now % 16 ≡ 0 }
+    requires stretch { IsStretch (length h.now / 16) h.now }
+    requires h_short { Each1 (FitsSigned w16) h.now }
+    requires x_short { Each1 (FitsSigned w16) x.now }
+    requires y_short { Each1 (FitsSigned w16) y.now }
+    requires z_short { Each1 (FitsSigned w16) z.now }
+    requires w_short { Each1 (FitsSigned w16) w.now }
+    requires x { length x.now ≡ length h.now }
+    requires y { length y.now ≡ length h.now }
+    requires z { length z.now ≡ length h.now }
+    requires w { length w.now ≡ length h.now }
+    ensures a { result.a ≡ dot h.now x.now }
+    ensures b { result.b ≡ dot h.now y.now }
+    ensures c { result.c ≡ dot h.now z.now }
+    ensures d { result.d ≡ dot h.now w.now }
+{
+    let sums = four_sums(h, x, y, z, w);
+    wide_totals(sums.a, sums.b, sums.c, sums.d)
+}
+
+/// A dot product with the taps of a stretch.
+pub(crate) fn stretch_dot(h: &[i16], x: &[i16]) -> i64
+    requires whole { length h.now % 16 ≡ 0 }
+    requires stretch { IsStretch (length h.now / 16) h.now }
+    requires h_short { Each1 (FitsSigned w16) h.now }
+    requires x_short { Each1 (FitsSigned w16) x.now }
+    requires x { length x.now ≡ length h.now }
+    ensures { result ≡ dot h.now x.now }
+{
+    let a = sums(h, x);
+    wide_totals(a, a, a, a).a
 }

@@ -1,15 +1,15 @@
 //! Outputs of many firings, branch by branch.
 
 ghost use Rattle.std.specs.Prelude.{ℕ, ◌≡◌, ◌≢◌, ◌+◌, ◌-◌, ◌*◌, ◌/◌, ◌%◌, ◌<◌, ◌≤◌, length, map, take, drop, set};
-ghost use Rattle.std.specs.Prelude.{slice_index, FitsSigned};
-ghost use Rattle.std.specs.Int.{w16};
+ghost use Rattle.std.specs.Prelude.{slice_index};
 ghost use Rattle.std.specs.List.{range_with_len};
-ghost use Rattle.std.specs.Simd.Lanes.{Each1};
-ghost use Rattle.sdf_kit.specs.Samples.{sample, settled};
-ghost use Rattle.sdf_kit.specs.Dots.{dot, total_abs};
+ghost use Rattle.sdf_kit.specs.Samples.{sample};
+ghost use Rattle.sdf_kit.specs.Stretches.{IsBranch};
+ghost use Rattle.sdf_kit.specs.Window.{output_of};
 ghost use Rattle.sdf_kit.specs.Branches.{AreFirings, AreQuiet, branch_output};
 
 use crate::branches::Branches;
+use crate::stretches::Branch;
 use crate::window::Window;
 
 /// So many firings of a filter between rates.
@@ -24,7 +24,7 @@ pub struct Firings {
 /// The outputs of many firings on a window.
 pub(crate) fn put_branches(branches: &Branches, window: &Window, firings: Firings, put: &mut [i32])
     requires branches { AreQuiet firings.up branches.now }
-    requires peak { window.now.peak ≡ branches.now.peak }
+    requires limits { window.now.limits ≡ branches.now.limits }
     requires firings { AreFirings firings }
     requires many { firings.many ≤ 1024 }
     requires window { firings.many * firings.down + branches.now.width ≤ length window.now.samples + 1 }
@@ -42,26 +42,23 @@ pub(crate) fn put_branches(branches: &Branches, window: &Window, firings: Firing
 
 /// One output of each firing: those whose place leaves `at` when divided by `up`.
 fn put_branch(
-    branch: &[i16],
+    branch: Branch,
     window: &Window,
     first: usize,
     at: u32,
     firings: Firings,
     put: &mut [i32],
 )
-    requires lanes { length branch.now % 16 ≡ 0 }
-    requires short { Each1 (FitsSigned w16) branch.now }
-    requires quiet { total_abs branch.now * window.now.peak ≤ 2147467263 }
+    requires branch { IsBranch window.now.limits branch.taps.now branch.stretches.now }
     requires first { first < firings.down }
     requires at { at < firings.up }
     requires firings { AreFirings firings }
     requires many { firings.many ≤ 1024 }
-    requires window { firings.many * firings.down + length branch.now ≤ length window.now.samples + 1 }
+    requires window { firings.many * firings.down + length branch.taps.now ≤ length window.now.samples + 1 }
     requires put { length put.old ≡ firings.many * firings.up }
     ensures len { length put.new ≡ length put.old }
     ensures done { (i : ℕ) → i < firings.many → sample put.new (at + i * firings.up) ≡
-        settled (dot branch.now (take (length branch.now) (drop (first + i * firings.down) window.now.samples)))
-        firings.shift }
+        output_of branch.entry.taps.now window.now.samples (first + i * firings.down) firings.shift }
     ensures others { (n : ℕ) → n % firings.up ≢ at → sample put.new n ≡ sample put.old n }
 {
     let up = firings.up;

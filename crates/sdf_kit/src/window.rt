@@ -1,15 +1,18 @@
 //! The samples that a block of firings sees, as 16-bit numbers.
 
 ghost use Rattle.std.specs.Prelude.{ℕ, ◌≡◌, ◌+◌, ◌*◌, ◌%◌, ◌<◌, ◌≤◌, ℤ, pos, true, [], ◌∷◌, ◌++◌, length, take, drop};
-ghost use Rattle.std.specs.Prelude.{replicate, FitsSigned, ◌*ℤ◌, ◌+ℤ◌, map};
+ghost use Rattle.std.specs.Prelude.{replicate, FitsSigned, ◌*ℤ◌, ◌+ℤ◌, ◌≤ℤ◌, map};
 ghost use Rattle.std.specs.Int.{w16};
 ghost use Rattle.std.specs.Simd.Lanes.{Each1};
 ghost use Rattle.sdf_kit.specs.Samples.{sample, settled};
-ghost use Rattle.sdf_kit.specs.Dots.{AreWithin, dot as dot_of, total_abs, wrap};
-ghost use Rattle.sdf_kit.specs.Window.{part_as, AreFit};
+ghost use Rattle.sdf_kit.specs.Dots.{AreWithin, dot as dot_of, wrap};
+ghost use Rattle.sdf_kit.specs.Stretches.{AreStretches, AreVectors, IsBranch};
+ghost use Rattle.sdf_kit.specs.Window.{part_as, seen, output_of, AreFit};
 
 use crate::arithmetic::{settle, settle_small};
-use crate::dots::{dot, dots};
+use crate::branches::Limits;
+use crate::dots::{FourDots, dot, dots};
+use crate::stretches::{Branch, wide_dot, wide_dots};
 use sdf_limits::MOST_SHIFT;
 use std::marker::Model;
 
@@ -22,8 +25,19 @@ pub(crate) struct Window {
     high: [i16; ROOM],
     low: [i16; ROOM],
     len: usize,
-    peak: u32,
-    is_split: bool,
+    limits: Limits,
+    way: Way,
+}
+
+/// How samples are held.
+#[derive(Clone, Copy)]
+enum Way {
+    /// Themselves, none past the peak.
+    Quiet,
+    /// Themselves, of 16 bits.
+    Wide,
+    /// By their upper bits and their lowest eight.
+    Split,
 }
 
 impl Model for Window {
@@ -31,9 +45,9 @@ impl Model for Window {
 
     ghost Value = { Held };
 
-    ghost view = { λ w. record { samples = held w.is_split w.high w.low w.len; peak = w.peak } };
+    ghost view = { λ w. record { samples = held w.way w.high w.low w.len; limits = w.limits } };
 
-    ghost invariant = { λ w. AreHeld w.is_split w.high w.low w.len w.peak };
+    ghost invariant = { λ w. AreHeld w.way w.high w.low w.len w.limits };
 }
 
 impl Window {
@@ -43,32 +57,42 @@ impl Window {
             high: [0; ROOM],
             low: [0; ROOM],
             len: 0,
-            peak: 0,
-            is_split: false,
+            limits: Limits {
+                peak: 0,
+                is_wide: false,
+            },
+            way: Way::Quiet,
         }
     }
 
     /// Takes in so many zeros, the samples kept and those taken. It answers false where a sample is too large.
-    pub(crate) fn load(&mut self, pad: usize, kept: &[i32], taken: &[i32], peak: u32) -> bool
+    pub(crate) fn load(&mut self, pad: usize, kept: &[i32], taken: &[i32], limits: Limits) -> bool
         requires room { pad + (length kept.now + length taken.now) ≤ 2048 }
-        requires peak { peak ≤ 32767 }
-        ensures peak { result ≡ true → self.new.peak ≡ peak }
+        requires peak { limits.peak ≤ 32767 }
+        ensures limits { result ≡ true → self.new.limits ≡ limits }
         ensures samples { result ≡ true → self.new.samples ≡ replicate pad (pos 0) ++ (kept.now ++ taken.now) }
     {
         let most = most(kept).max(most(taken));
         let len = pad + kept.len() + taken.len();
+        let peak = limits.peak;
         self.len = 0;
-        self.is_split = false;
-        self.peak = peak;
+        self.way = Way::Quiet;
+        self.limits = limits;
         if most <= peak {
             write_all(&mut self.high, Part::Whole, pad, kept, taken);
+            self.len = len;
+            return true;
+        }
+        if limits.is_wide && most <= 32_768 && are_short(kept) && are_short(taken) {
+            write_all(&mut self.high, Part::Whole, pad, kept, taken);
+            self.way = Way::Wide;
             self.len = len;
             return true;
         }
         if 255 <= peak && most <= 255 * peak {
             write_all(&mut self.high, Part::High, pad, kept, taken);
             write_all(&mut self.low, Part::Low, pad, kept, taken);
-            self.is_split = true;
+            self.way = Way::Split;
             self.len = len;
             return true;
         }
@@ -76,55 +100,64 @@ impl Window {
     }
 
     /// The outputs of a branch at four places.
-    pub(crate) fn four(&self, h: &[i16], at: usize, step: usize, shift: u32) -> [i32; 4]
-        requires lanes { length h.now % 16 ≡ 0 }
-        requires short { Each1 (FitsSigned w16) h.now }
-        requires quiet { total_abs h.now * self.now.peak ≤ 2147467263 }
-        requires room { at + 3 * step + length h.now ≤ length self.now.samples }
+    pub(crate) fn four(&self, branch: Branch, at: usize, step: usize, shift: u32) -> [i32; 4]
+        requires branch { IsBranch self.now.limits branch.taps.now branch.stretches.now }
+        requires room { at + 3 * step + length branch.taps.now ≤ length self.now.samples }
         requires shift { shift ≤ MOST_SHIFT }
-        ensures { result ≡ settled (dot_of h.now (take (length h.now) (drop at self.now.samples))) shift
-            ∷ settled (dot_of h.now (take (length h.now) (drop (at + step) self.now.samples))) shift
-            ∷ settled (dot_of h.now (take (length h.now) (drop (at + 2 * step) self.now.samples))) shift
-            ∷ settled (dot_of h.now (take (length h.now) (drop (at + 3 * step) self.now.samples))) shift ∷ [] }
+        ensures { result ≡ output_of branch.entry.taps.now self.now.samples at shift
+            ∷ output_of branch.entry.taps.now self.now.samples (at + step) shift
+            ∷ output_of branch.entry.taps.now self.now.samples (at + 2 * step) shift
+            ∷ output_of branch.entry.taps.now self.now.samples (at + 3 * step) shift ∷ [] }
     {
         let high = front(&self.high, self.len);
-        let a = four_dots(h, high, at, step);
-        if self.is_split {
-            let low = front(&self.low, self.len);
-            let b = four_dots(h, low, at, step);
-            [
-                join(a[0], b[0], shift),
-                join(a[1], b[1], shift),
-                join(a[2], b[2], shift),
-                join(a[3], b[3], shift),
-            ]
-        } else {
-            [
-                settle_small(a[0], shift),
-                settle_small(a[1], shift),
-                settle_small(a[2], shift),
-                settle_small(a[3], shift),
-            ]
+        match self.way {
+            Way::Quiet => {
+                let a = four_dots(branch.taps, high, at, step);
+                [
+                    settle_small(a[0], shift),
+                    settle_small(a[1], shift),
+                    settle_small(a[2], shift),
+                    settle_small(a[3], shift),
+                ]
+            }
+            Way::Wide => {
+                let sums = four_wide_dots(branch, high, at, step);
+                [
+                    settle(sums.a, shift),
+                    settle(sums.b, shift),
+                    settle(sums.c, shift),
+                    settle(sums.d, shift),
+                ]
+            }
+            Way::Split => {
+                let a = four_dots(branch.taps, high, at, step);
+                let b = four_dots(branch.taps, front(&self.low, self.len), at, step);
+                [
+                    join(a[0], b[0], shift),
+                    join(a[1], b[1], shift),
+                    join(a[2], b[2], shift),
+                    join(a[3], b[3], shift),
+                ]
+            }
         }
     }
 
     /// The output of a branch at a place.
-    pub(crate) fn one(&self, h: &[i16], at: usize, shift: u32) -> i32
-        requires lanes { length h.now % 16 ≡ 0 }
-        requires short { Each1 (FitsSigned w16) h.now }
-        requires quiet { total_abs h.now * self.now.peak ≤ 2147467263 }
-        requires room { at + length h.now ≤ length self.now.samples }
+    pub(crate) fn one(&self, branch: Branch, at: usize, shift: u32) -> i32
+        requires branch { IsBranch self.now.limits branch.taps.now branch.stretches.now }
+        requires room { at + length branch.taps.now ≤ length self.now.samples }
         requires shift { shift ≤ MOST_SHIFT }
-        ensures { result ≡ settled (dot_of h.now (take (length h.now) (drop at self.now.samples))) shift }
+        ensures { result ≡ output_of branch.entry.taps.now self.now.samples at shift }
     {
         let high = front(&self.high, self.len);
-        let a = one_dot(h, high, at);
-        if self.is_split {
-            let low = front(&self.low, self.len);
-            let b = one_dot(h, low, at);
-            join(a, b, shift)
-        } else {
-            settle_small(a, shift)
+        match self.way {
+            Way::Quiet => settle_small(one_dot(branch.taps, high, at), shift),
+            Way::Wide => settle(wide_dot(branch, piece(high, at, branch.taps.len())), shift),
+            Way::Split => {
+                let a = one_dot(branch.taps, high, at);
+                let b = one_dot(branch.taps, front(&self.low, self.len), at);
+                join(a, b, shift)
+            }
         }
     }
 }
@@ -141,15 +174,35 @@ fn four_dots(h: &[i16], x: &[i16], at: usize, step: usize) -> [i32; 4]
         ∷ wrap (dot_of h.now (take (length h.now) (drop (at + 3 * step) x.now))) ∷ [] }
 {
     let len = h.len();
-    let (b, c, d) = (at + step, at + 2 * step, at + 3 * step);
     let sums = dots(
         h,
-        &x[at..at + len],
-        &x[b..b + len],
-        &x[c..c + len],
-        &x[d..d + len],
+        piece(x, at, len),
+        piece(x, at + step, len),
+        piece(x, at + 2 * step, len),
+        piece(x, at + 3 * step, len),
     );
     sums.to_array()
+}
+
+/// The same of samples of 16 bits that are past the peak.
+fn four_wide_dots(branch: Branch, x: &[i16], at: usize, step: usize) -> FourDots
+    requires taps { AreVectors branch.taps.now }
+    requires stretches { AreStretches branch.taps.now branch.stretches.now }
+    requires samples { Each1 (FitsSigned w16) x.now }
+    requires room { at + 3 * step + length branch.taps.now ≤ length x.now }
+    ensures a { result.a ≡ dot_of branch.entry.taps.now (seen branch.entry.taps.now x.now at) }
+    ensures b { result.b ≡ dot_of branch.entry.taps.now (seen branch.entry.taps.now x.now (at + step)) }
+    ensures c { result.c ≡ dot_of branch.entry.taps.now (seen branch.entry.taps.now x.now (at + 2 * step)) }
+    ensures d { result.d ≡ dot_of branch.entry.taps.now (seen branch.entry.taps.now x.now (at + 3 * step)) }
+{
+    let len = branch.taps.len();
+    wide_dots(
+        branch,
+        piece(x, at, len),
+        piece(x, at + step, len),
+        piece(x, at + 2 * step, len),
+        piece(x, at + 3 * step, len),
+    )
 }
 
 /// A dot product.
@@ -160,7 +213,15 @@ fn one_dot(h: &[i16], x: &[i16], at: usize) -> i32
     requires room { at + length h.now ≤ length x.now }
     ensures { result ≡ wrap (dot_of h.now (take (length h.now) (drop at x.now))) }
 {
-    dot(h, &x[at..at + h.len()])
+    dot(h, piece(x, at, h.len()))
+}
+
+/// So many from a place on.
+fn piece(numbers: &[i16], at: usize, len: usize) -> &[i16]
+    requires { at + len ≤ length numbers.now }
+    ensures { result.now ≡ take len (drop at numbers.now) }
+{
+    &numbers[at..at + len]
 }
 
 /// The first so many.
@@ -188,6 +249,17 @@ fn most(samples: &[i32]) -> u32
         most = most.max(sample.unsigned_abs());
     }
     most
+}
+
+/// Whether none of samples of at most 32,768 is that.
+fn are_short(samples: &[i32]) -> bool
+    ensures { result ≡ true → (k : ℕ) → k < length samples.now → sample samples.now k ≤ℤ pos 32767 }
+{
+    let mut greatest = 0;
+    for sample in samples {
+        greatest = greatest.max(*sample);
+    }
+    greatest <= 32_767
 }
 
 /// What is written of a sample: all of it, its upper bits or its lowest eight.

@@ -1,20 +1,26 @@
-use Rattle.std.proofs.Common.{map, to_z, w32}
-use Rattle.std.specs.Int.{w16}
-use Rattle.sdf_kit.proofs.LaneTotals.{passed, nothing, next}
+use Rattle.std.proofs.Common.{◌≡◌, ◌∙◌, ap, get_or, map, of_z, to_z, pos, w32}
+use Rattle.std.proofs.lemmas.Int.{to_z-of_z, SFits-int_wrap}
+use Rattle.sdf_kit.specs.Dots.{wrap, dot}
+use Rattle.sdf_kit.proofs.LaneTotals.{passed}
+use Rattle.sdf_kit.proofs.LaneSums.{sums_passed}
 use Rattle.sdf_kit.proofs.dots.dot.Goals as goal
 
-pub chunks-init : goal.chunks-init
-chunks-init c = nothing c.args.h.now c.args.x.now
+pub totals-requires-clause-a : goal.totals-requires-clause-a
+totals-requires-clause-a c = passed w32 8 c.sums-a.result c.sums-a.ensures.lanes
 
-pub chunks-preserved : goal.chunks-preserved
-chunks-preserved c =
-    next c.args.h.now c.args.x.now (map (to_z w32) c.chunks.a) c.load.result c.load-in-chunks.result c.more-a.result
-    c.chunks.k c.chunks.invariant
-    c.load.ensures.lanes c.load.ensures.value c.load-in-chunks.ensures.lanes c.load-in-chunks.ensures.value
-    c.more-a.ensures.lanes c.more-a.ensures.value
+pub totals-requires-clause-b : goal.totals-requires-clause-b
+totals-requires-clause-b c = passed w32 8 c.sums-a.result c.sums-a.ensures.lanes
 
-pub more-a-requires-clause-h : goal.more-a-requires-clause-h
-more-a-requires-clause-h c = passed w16 16 c.load.result c.load.ensures.lanes
+pub totals-requires-clause-c : goal.totals-requires-clause-c
+totals-requires-clause-c c = passed w32 8 c.sums-a.result c.sums-a.ensures.lanes
 
-pub more-a-requires-clause-x : goal.more-a-requires-clause-x
-more-a-requires-clause-x c = passed w16 16 c.load-in-chunks.result c.load-in-chunks.ensures.lanes
+pub totals-requires-clause-d : goal.totals-requires-clause-d
+totals-requires-clause-d c = passed w32 8 c.sums-a.result c.sums-a.ensures.lanes
+
+pub returns : goal.returns
+returns c =
+    let a = sums_passed c.args.h.now c.args.x.now c.sums-a.result c.sums-a.ensures in
+    let same : to_z w32 (of_z w32 (wrap (dot c.args.h.now c.args.x.now))) ≡ wrap (dot c.args.h.now c.args.x.now) =
+    to_z-of_z w32 (wrap (dot c.args.h.now c.args.x.now)) (SFits-int_wrap w32 (dot c.args.h.now c.args.x.now)) in
+    ap (λ r. to_z w32 (of_z w32 (get_or (map (to_z w32) (map (of_z w32) r)) 0 (pos 0)))) c.totals.ensures
+    ∙ (ap (λ z. to_z w32 (of_z w32 (to_z w32 (of_z w32 z)))) a.value ∙ (ap (λ z. to_z w32 (of_z w32 z)) same ∙ same))

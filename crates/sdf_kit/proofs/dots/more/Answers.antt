@@ -2,6 +2,7 @@ use Rattle.std.proofs.Common.{w32, ap, ◌∙◌}
 use Rattle.std.specs.Int.{w16}
 use Rattle.sdf_kit.specs.Dots.{wrap, total, dot}
 use Rattle.sdf_kit.proofs.LaneTotals.{passed, same_lanes, made, joined}
+use Rattle.sdf_kit.proofs.LaneSums.{more_exact}
 use Rattle.sdf_kit.proofs.dots.more.Goals as goal
 
 pub products-requires-clause-x : goal.products-requires-clause-x
@@ -29,3 +30,8 @@ returns-clause-value c =
     let j = joined c.args.sums c.products.result c.plus.result (dot c.args.h c.args.x) c.requires.sums m.0 m.1
     c.plus.ensures in
     ap (λ z. wrap (total z)) (same_lanes w32 c.plus.result j.0.fits) ∙ j.1
+
+pub returns-clause-exact : goal.returns-clause-exact
+returns-clause-exact c m within few =
+    more_exact c.args.sums c.args.h c.args.x c.products.result c.plus.result m c.requires.sums c.requires.h c.requires.x
+    c.products.ensures c.plus.ensures within few

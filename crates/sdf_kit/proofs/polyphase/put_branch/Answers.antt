@@ -7,7 +7,7 @@ use Rattle.sdf_kit.proofs.polyphase.put_branch.Goals as goal
 
 pub four-sums-requires-clause-room : goal.four-sums-requires-clause-room
 four-sums-requires-clause-room c =
-    windows_fit c.args.firings.down c.args.first c.fours.done 3 c.args.firings.many (length c.args.branch.now)
+    windows_fit c.args.firings.down c.args.first c.fours.done 3 c.args.firings.many (length c.args.branch.taps.now)
     (length c.args.window.now.samples) c.requires.first (omega (arith, c.fours-test.true)) c.requires.window
 
 pub put_four-requires : goal.put_four-requires
@@ -29,28 +29,28 @@ fours-preserved c =
     let three : c.args.first + c.fours.done * c.args.firings.down + 3 * c.args.firings.down ≡
     c.args.first + (c.fours.done + 3) * c.args.firings.down = further c.args.first c.fours.done 3 c.args.firings.down in
     record {
-      put = fours_more (λ i. settled (dot c.args.branch.now
-          (take (length c.args.branch.now) (drop (c.args.first + i * c.args.firings.down) c.args.window.now.samples)))
+      put = fours_more (λ i. settled (dot c.args.branch.taps.now
+          (take (length c.args.branch.taps.now) (drop (c.args.first + i * c.args.firings.down) c.args.window.now.samples)))
           c.args.firings.shift) c.args.firings.up c.args.at c.args.put.now c.fours.put c.put_four.new.put c.fours.done
           (c.args.at + c.fours.done * c.args.firings.up)
-          (settled (dot c.args.branch.now (take (length c.args.branch.now)
+          (settled (dot c.args.branch.taps.now (take (length c.args.branch.taps.now)
           (drop (c.args.first + c.fours.done * c.args.firings.down) c.args.window.now.samples))) c.args.firings.shift)
-          (settled (dot c.args.branch.now (take (length c.args.branch.now)
+          (settled (dot c.args.branch.taps.now (take (length c.args.branch.taps.now)
           (drop (c.args.first + c.fours.done * c.args.firings.down + c.args.firings.down) c.args.window.now.samples)))
-          c.args.firings.shift) (settled (dot c.args.branch.now
-          (take (length c.args.branch.now) (drop (c.args.first + c.fours.done * c.args.firings.down
+          c.args.firings.shift) (settled (dot c.args.branch.taps.now
+          (take (length c.args.branch.taps.now) (drop (c.args.first + c.fours.done * c.args.firings.down
           + 2 * c.args.firings.down)
           c.args.window.now.samples))) c.args.firings.shift)
-          (settled (dot c.args.branch.now (take (length c.args.branch.now)
+          (settled (dot c.args.branch.taps.now (take (length c.args.branch.taps.now)
           (drop (c.args.first + c.fours.done * c.args.firings.down + 3 * c.args.firings.down)
           c.args.window.now.samples))) c.args.firings.shift)
           c.fours.invariant.put c.requires.at refl (omega (arith, fit, c.fours.invariant.put.len, c.requires.put))
           c.put_four.ensures c.four-sums.ensures
-          refl (ap (λ n. settled (dot c.args.branch.now
-          (take (length c.args.branch.now) (drop n c.args.window.now.samples))) c.args.firings.shift) one)
-          (ap (λ n. settled (dot c.args.branch.now (take (length c.args.branch.now)
+          refl (ap (λ n. settled (dot c.args.branch.taps.now
+          (take (length c.args.branch.taps.now) (drop n c.args.window.now.samples))) c.args.firings.shift) one)
+          (ap (λ n. settled (dot c.args.branch.taps.now (take (length c.args.branch.taps.now)
           (drop n c.args.window.now.samples))) c.args.firings.shift) two)
-          (ap (λ n. settled (dot c.args.branch.now (take (length c.args.branch.now)
+          (ap (λ n. settled (dot c.args.branch.taps.now (take (length c.args.branch.taps.now)
           (drop n c.args.window.now.samples))) c.args.firings.shift) three);
       few = few;
     }
@@ -62,8 +62,8 @@ ones-preserved c =
     (omega (arith, few)) in
     let fits : FitsSigned w32 c.one-sum.result = record { sfits = c.one-sum.type_inv } in
     record {
-      put = put_more (λ i. settled (dot c.args.branch.now
-          (take (length c.args.branch.now) (drop (c.args.first + i * c.args.firings.down) c.args.window.now.samples)))
+      put = put_more (λ i. settled (dot c.args.branch.taps.now
+          (take (length c.args.branch.taps.now) (drop (c.args.first + i * c.args.firings.down) c.args.window.now.samples)))
           c.args.firings.shift) c.args.firings.up c.args.at c.args.put.now c.ones.put c.ones.done
           (c.args.at + c.ones.done * c.args.firings.up) (to_z w32 (of_z w32 c.one-sum.result))
           c.ones.invariant.put c.requires.at refl (omega (arith, fit, c.ones.invariant.put.len, c.requires.put))

@@ -1,10 +1,10 @@
 use Rattle.std.proofs.Common.{arith}
-use Rattle.sdf_kit.proofs.Windows.{whole_loaded, whole_samples, split_loaded, split_samples}
+use Rattle.sdf_kit.proofs.Windows.{quiet_loaded, wide_loaded, short_fit, whole_samples, split_loaded, split_samples}
 use Rattle.sdf_kit.proofs.window.Window.load.Goals as goal
 
 pub invariant_of-self : goal.invariant_of-self
 invariant_of-self c =
-    whole_loaded c.write_all.new.to c.self.inside.low c.args.pad c.args.peak c.args.kept.now c.args.taken.now
+    quiet_loaded c.write_all.new.to c.self.inside.low c.args.pad c.args.kept.now c.args.taken.now c.args.limits
     (omega (arith, c.write_all.ensures.len, c.self.told.0)) c.self.told.1 c.requires.room c.requires.peak
     c.most.result c.most-2.result c.most.ensures c.most-2.ensures
     (omega (arith, c.max-most.ensures, c.if-most-peak.true))
@@ -12,14 +12,31 @@ invariant_of-self c =
 
 pub returns-then-most-peak-clause-samples : goal.returns-then-most-peak-clause-samples
 returns-then-most-peak-clause-samples c =
-    λ e. whole_samples c.write_all.new.to c.self.inside.low c.args.pad c.args.peak c.args.kept.now c.args.taken.now
+    λ e. whole_samples c.write_all.new.to c.self.inside.low c.args.pad c.args.kept.now c.args.taken.now c.args.limits
     (omega (arith, c.write_all.ensures.len, c.self.told.0)) c.self.told.1 c.requires.room c.requires.peak
     c.write_all.ensures.written
 
+pub invariant_of-self-then-are_short-2 : goal.invariant_of-self-then-are_short-2
+invariant_of-self-then-are_short-2 c =
+    wide_loaded c.write_all-then-are_short-2.new.to c.self.inside.low c.args.pad c.args.kept.now c.args.taken.now
+    c.args.limits (omega (arith, c.write_all-then-are_short-2.ensures.len, c.self.told.0)) c.self.told.1
+    c.requires.room c.requires.peak c.if-limits.true
+    (short_fit c.args.kept.now c.most.result c.most.ensures (omega (arith, c.max-most.ensures, c.if-most-le32768.true))
+    (c.are_short.ensures c.if-are_short.true))
+    (short_fit c.args.taken.now c.most-2.result c.most-2.ensures
+    (omega (arith, c.max-most.ensures, c.if-most-le32768.true))
+    (c.are_short-then-are_short.ensures c.if-are_short-2.true)) c.write_all-then-are_short-2.ensures.written
+
+pub returns-then-are_short-2-clause-samples : goal.returns-then-are_short-2-clause-samples
+returns-then-are_short-2-clause-samples c =
+    λ e. whole_samples c.write_all-then-are_short-2.new.to c.self.inside.low c.args.pad c.args.kept.now
+    c.args.taken.now c.args.limits (omega (arith, c.write_all-then-are_short-2.ensures.len, c.self.told.0))
+    c.self.told.1 c.requires.room c.requires.peak c.write_all-then-are_short-2.ensures.written
+
 pub invariant_of-self-then-most-peak-2 : goal.invariant_of-self-then-most-peak-2
 invariant_of-self-then-most-peak-2 c =
-    split_loaded c.write_all-then-most-peak-2.new.to c.write_all-then-most-peak-2-2.new.to c.args.pad c.args.peak
-    c.args.kept.now c.args.taken.now
+    split_loaded c.write_all-then-most-peak-2.new.to c.write_all-then-most-peak-2-2.new.to c.args.pad c.args.kept.now
+    c.args.taken.now c.args.limits
     (omega (arith, c.write_all-then-most-peak-2.ensures.len, c.self.told.0))
     (omega (arith, c.write_all-then-most-peak-2-2.ensures.len, c.self.told.1)) c.requires.room c.requires.peak
     c.most.result c.most-2.result c.most.ensures c.most-2.ensures
@@ -29,8 +46,8 @@ invariant_of-self-then-most-peak-2 c =
 
 pub returns-then-most-peak-2-clause-samples : goal.returns-then-most-peak-2-clause-samples
 returns-then-most-peak-2-clause-samples c =
-    λ e. split_samples c.write_all-then-most-peak-2.new.to c.write_all-then-most-peak-2-2.new.to c.args.pad c.args.peak
-    c.args.kept.now c.args.taken.now
+    λ e. split_samples c.write_all-then-most-peak-2.new.to c.write_all-then-most-peak-2-2.new.to c.args.pad
+    c.args.kept.now c.args.taken.now c.args.limits
     (omega (arith, c.write_all-then-most-peak-2.ensures.len, c.self.told.0))
     (omega (arith, c.write_all-then-most-peak-2-2.ensures.len, c.self.told.1)) c.requires.room c.requires.peak
     c.write_all-then-most-peak-2.ensures.written c.write_all-then-most-peak-2-2.ensures.written

@@ -1,41 +1,65 @@
-use Rattle.std.proofs.Common.{take, FitsSigned, sym, subst, inl, inr, arith}
+use Rattle.std.proofs.Common.{◌∙◌, ap, FitsSigned, sym, subst, inl, inr, unsigned_abs, w64, ◌≤◌, ◌^◌, arith}
 use Rattle.std.specs.Int.{w16}
 use Rattle.std.specs.Simd.Lanes.{Each1}
-use Rattle.sdf_kit.proofs.Windows.{short_front, front_long, passed, whole_small, whole_output, split_output}
+use Rattle.std.proofs.lemmas.Int.{to_z-of_z}
+use Rattle.sdf_kit.specs.Dots.{dot}
+use Rattle.sdf_kit.specs.declared.window.Way.TheVariants.{Split}
+use Rattle.sdf_kit.proofs.Windows.{high_short, low_short, front_long, passed, held_are, quiet_small, quiet_output}
+use Rattle.sdf_kit.proofs.Windows.{wide_small, wide_output, split_output}
 use Rattle.sdf_kit.proofs.window.Window.one.Goals as goal
+
+pub one_dot-requires-clause-samples : goal.one_dot-requires-clause-samples
+one_dot-requires-clause-samples c = subst (λ xs. Each1 (FitsSigned w16) xs) (sym c.front-high.ensures)
+    (high_short c.self.inside.way c.self.inside.high c.self.inside.low c.self.inside.len c.self.inside.limits
+    c.self.invariant)
 
 pub one_dot-a-requires-clause-samples : goal.one_dot-a-requires-clause-samples
 one_dot-a-requires-clause-samples c = subst (λ xs. Each1 (FitsSigned w16) xs) (sym c.front-high.ensures)
-    (short_front (take c.self.inside.len c.self.inside.high) c.self.inside.peak
-    c.self.invariant.high_small c.self.invariant.small)
+    (high_short c.self.inside.way c.self.inside.high c.self.inside.low c.self.inside.len c.self.inside.limits
+    c.self.invariant)
+
+pub one_dot-b-requires-clause-samples : goal.one_dot-b-requires-clause-samples
+one_dot-b-requires-clause-samples c = subst (λ xs. Each1 (FitsSigned w16) xs) (sym c.front.ensures)
+    (low_short c.self.inside.high c.self.inside.low c.self.inside.len c.self.inside.limits
+    (held_are c.self.invariant c.self.view_is c.requires.branch Split c.in-Split.is))
 
 pub one_dot-a-requires-clause-room : goal.one_dot-a-requires-clause-room
 one_dot-a-requires-clause-room c =
     omega (arith, c.requires.room, front_long c.self.invariant c.self.view_is (inl c.front-high.ensures))
 
-pub one_dot-b-requires-clause-samples : goal.one_dot-b-requires-clause-samples
-one_dot-b-requires-clause-samples c = subst (λ xs. Each1 (FitsSigned w16) xs) (sym c.front-low.ensures)
-    (short_front (take c.self.inside.len c.self.inside.low) c.self.inside.peak
-    (c.self.invariant.low_small c.if-self.true) c.self.invariant.small)
-
 pub one_dot-b-requires-clause-room : goal.one_dot-b-requires-clause-room
 one_dot-b-requires-clause-room c =
-    omega (arith, c.requires.room, front_long c.self.invariant c.self.view_is (inr c.front-low.ensures))
+    omega (arith, c.requires.room, front_long c.self.invariant c.self.view_is (inr c.front.ensures))
 
 pub settle_small-requires-clause-small : goal.settle_small-requires-clause-small
 settle_small-requires-clause-small c =
-    whole_small c.self.invariant c.self.view_is c.args.h.now c.requires.quiet c.front-high.ensures c.one_dot-a.result
-    c.args.at c.requires.room c.if-self.false (passed c.one_dot-a.result _ c.one_dot-a.ensures)
+    quiet_small c.self.invariant c.self.view_is c.requires.branch c.in-Quiet.is c.front-high.ensures c.one_dot.result c.args.at c.requires.room
+    (passed c.one_dot.result _ c.one_dot.ensures)
 
-pub returns-then-self : goal.returns-then-self
-returns-then-self c =
-    split_output c.self.invariant c.self.view_is c.args.h.now c.requires.quiet c.front-high.ensures c.one_dot-a.result
-    c.one_dot-b.result c.args.shift c.front-low.ensures c.args.at c.requires.room c.if-self.true
-    (passed c.one_dot-a.result _ c.one_dot-a.ensures) (passed c.one_dot-b.result _ c.one_dot-b.ensures)
-    c.join.ensures (record { sfits = c.join.type_inv })
+pub settle-requires-clause-small : goal.settle-requires-clause-small
+settle-requires-clause-small c =
+    subst (λ z. unsigned_abs z ≤ 2 ^ 56)
+    (sym (to_z-of_z w64 c.wide_dot.result (record { sfits = c.wide_dot.type_inv })
+    ∙ (c.wide_dot.ensures ∙ ap (dot c.args.branch.taps.now) c.piece.ensures)))
+    (wide_small c.self.invariant c.self.view_is c.requires.branch c.front-high.result.now
+    (subst (λ xs. Each1 (FitsSigned w16) xs) (sym c.front-high.ensures)
+    (high_short c.self.inside.way c.self.inside.high c.self.inside.low c.self.inside.len c.self.inside.limits
+    c.self.invariant)) c.args.at)
 
-pub returns-else-self : goal.returns-else-self
-returns-else-self c =
-    whole_output c.self.invariant c.self.view_is c.args.h.now c.requires.quiet c.front-high.ensures c.one_dot-a.result
-    c.args.shift c.args.at c.requires.room c.if-self.false (passed c.one_dot-a.result _ c.one_dot-a.ensures)
-    c.settle_small.ensures (record { sfits = c.settle_small.type_inv })
+pub returns-in-Quiet : goal.returns-in-Quiet
+returns-in-Quiet c =
+    quiet_output c.self.invariant c.self.view_is c.requires.branch c.in-Quiet.is c.front-high.ensures c.one_dot.result c.args.at c.args.shift c.requires.room
+    (passed c.one_dot.result _ c.one_dot.ensures) c.settle_small.ensures (record { sfits = c.settle_small.type_inv })
+
+pub returns-in-Wide : goal.returns-in-Wide
+returns-in-Wide c =
+    wide_output c.self.invariant c.self.view_is c.requires.branch c.in-Wide.is c.front-high.ensures _ c.args.at c.args.shift
+    (to_z-of_z w64 c.wide_dot.result (record { sfits = c.wide_dot.type_inv })
+    ∙ (c.wide_dot.ensures ∙ ap (dot c.args.branch.taps.now) c.piece.ensures))
+    c.settle.ensures (record { sfits = c.settle.type_inv })
+
+pub returns-in-Split : goal.returns-in-Split
+returns-in-Split c =
+    split_output c.self.invariant c.self.view_is c.requires.branch c.in-Split.is c.front-high.ensures c.front.ensures c.one_dot-a.result c.one_dot-b.result
+    c.args.at c.args.shift c.requires.room (passed c.one_dot-a.result _ c.one_dot-a.ensures)
+    (passed c.one_dot-b.result _ c.one_dot-b.ensures) c.join.ensures (record { sfits = c.join.type_inv })

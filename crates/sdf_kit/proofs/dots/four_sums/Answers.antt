@@ -1,0 +1,89 @@
+use Rattle.std.proofs.Common.{map, to_z, w32}
+use Rattle.std.specs.Int.{w16}
+use Rattle.sdf_kit.proofs.LaneTotals.{passed}
+use Rattle.sdf_kit.proofs.LaneSums.{so_far_nothing, so_far_next, so_far_all}
+use Rattle.sdf_kit.proofs.dots.four_sums.Goals as goal
+
+pub chunks-init : goal.chunks-init
+chunks-init c = record {
+  a = so_far_nothing c.args.h.now c.args.x.now;
+  b = so_far_nothing c.args.h.now c.args.y.now;
+  c = so_far_nothing c.args.h.now c.args.z.now;
+  d = so_far_nothing c.args.h.now c.args.w.now;
+}
+
+pub chunks-preserved : goal.chunks-preserved
+chunks-preserved c = record {
+  a = so_far_next c.args.h.now c.args.x.now (map (to_z w32) c.chunks.a) c.load-taps.result c.load.result
+      c.more-a.result c.chunks.k c.chunks.invariant.a c.load-taps.ensures.lanes c.load-taps.ensures.value
+      c.load.ensures.lanes c.load.ensures.value c.more-a.ensures.lanes c.more-a.ensures.value
+      c.more-a.ensures.exact;
+  b = so_far_next c.args.h.now c.args.y.now (map (to_z w32) c.chunks.b) c.load-taps.result c.load-in-chunks.result
+      c.more-b.result c.chunks.k c.chunks.invariant.b c.load-taps.ensures.lanes c.load-taps.ensures.value
+      c.load-in-chunks.ensures.lanes c.load-in-chunks.ensures.value c.more-b.ensures.lanes c.more-b.ensures.value
+      c.more-b.ensures.exact;
+  c = so_far_next c.args.h.now c.args.z.now (map (to_z w32) c.chunks.c) c.load-taps.result c.load-in-chunks-2.result
+      c.more-c.result c.chunks.k c.chunks.invariant.c c.load-taps.ensures.lanes c.load-taps.ensures.value
+      c.load-in-chunks-2.ensures.lanes c.load-in-chunks-2.ensures.value c.more-c.ensures.lanes c.more-c.ensures.value
+      c.more-c.ensures.exact;
+  d = so_far_next c.args.h.now c.args.w.now (map (to_z w32) c.chunks.d) c.load-taps.result c.load-in-chunks-3.result
+      c.more-d.result c.chunks.k c.chunks.invariant.d c.load-taps.ensures.lanes c.load-taps.ensures.value
+      c.load-in-chunks-3.ensures.lanes c.load-in-chunks-3.ensures.value c.more-d.ensures.lanes c.more-d.ensures.value
+      c.more-d.ensures.exact;
+}
+
+pub more-a-requires-clause-sums : goal.more-a-requires-clause-sums
+more-a-requires-clause-sums c = c.chunks.invariant.a.some.lanes
+
+pub more-a-requires-clause-h : goal.more-a-requires-clause-h
+more-a-requires-clause-h c = passed w16 16 c.load-taps.result c.load-taps.ensures.lanes
+
+pub more-a-requires-clause-x : goal.more-a-requires-clause-x
+more-a-requires-clause-x c = passed w16 16 c.load.result c.load.ensures.lanes
+
+pub more-b-requires-clause-sums : goal.more-b-requires-clause-sums
+more-b-requires-clause-sums c = c.chunks.invariant.b.some.lanes
+
+pub more-b-requires-clause-h : goal.more-b-requires-clause-h
+more-b-requires-clause-h c = passed w16 16 c.load-taps.result c.load-taps.ensures.lanes
+
+pub more-b-requires-clause-x : goal.more-b-requires-clause-x
+more-b-requires-clause-x c = passed w16 16 c.load-in-chunks.result c.load-in-chunks.ensures.lanes
+
+pub more-c-requires-clause-sums : goal.more-c-requires-clause-sums
+more-c-requires-clause-sums c = c.chunks.invariant.c.some.lanes
+
+pub more-c-requires-clause-h : goal.more-c-requires-clause-h
+more-c-requires-clause-h c = passed w16 16 c.load-taps.result c.load-taps.ensures.lanes
+
+pub more-c-requires-clause-x : goal.more-c-requires-clause-x
+more-c-requires-clause-x c = passed w16 16 c.load-in-chunks-2.result c.load-in-chunks-2.ensures.lanes
+
+pub more-d-requires-clause-sums : goal.more-d-requires-clause-sums
+more-d-requires-clause-sums c = c.chunks.invariant.d.some.lanes
+
+pub more-d-requires-clause-h : goal.more-d-requires-clause-h
+more-d-requires-clause-h c = passed w16 16 c.load-taps.result c.load-taps.ensures.lanes
+
+pub more-d-requires-clause-x : goal.more-d-requires-clause-x
+more-d-requires-clause-x c = passed w16 16 c.load-in-chunks-3.result c.load-in-chunks-3.ensures.lanes
+
+pub returns-clause-a : goal.returns-clause-a
+returns-clause-a c =
+    so_far_all c.args.h.now c.args.x.now (map (to_z w32) c.chunks.a) c.chunks.k c.requires.whole c.chunks-test.false
+    c.chunks.auto.k-end c.requires.x c.chunks.invariant.a
+
+pub returns-clause-b : goal.returns-clause-b
+returns-clause-b c =
+    so_far_all c.args.h.now c.args.y.now (map (to_z w32) c.chunks.b) c.chunks.k c.requires.whole c.chunks-test.false
+    c.chunks.auto.k-end c.requires.y c.chunks.invariant.b
+
+pub returns-clause-c : goal.returns-clause-c
+returns-clause-c c =
+    so_far_all c.args.h.now c.args.z.now (map (to_z w32) c.chunks.c) c.chunks.k c.requires.whole c.chunks-test.false
+    c.chunks.auto.k-end c.requires.z c.chunks.invariant.c
+
+pub returns-clause-d : goal.returns-clause-d
+returns-clause-d c =
+    so_far_all c.args.h.now c.args.w.now (map (to_z w32) c.chunks.d) c.chunks.k c.requires.whole c.chunks-test.false
+    c.chunks.auto.k-end c.requires.w c.chunks.invariant.d

@@ -1,0 +1,69 @@
+-- Stretches of taps: as many sixteens as no lane of their products with 16-bit samples needs more than 32 bits for.
+use Rattle.std.specs.Prelude.{ℕ, zero, suc, ◌≡◌, ◌<◌, ◌≤◌, ◌+◌, ◌*◌, ◌/◌, max, List, [], ◌∷◌, ℤ, unsigned_abs, length}
+use Rattle.std.specs.Prelude.{take, drop, ◌%◌, ◌^◌, slice_index_or, FitsSigned, true}
+use Rattle.std.specs.Int.{w16, w32}
+use Rattle.std.specs.Simd.Lanes.{Each1}
+use Rattle.sdf_kit.specs.declared.branches.Limits.{Limits}
+use Rattle.sdf_kit.specs.declared.dots.FourDots.{FourDots}
+use Rattle.sdf_kit.specs.Dots.{wrap, AreLanes, total, total_abs, dot}
+
+-- the greatest sum of the absolute values of two neighbours, whose products are summed in one lane
+abbrev pub weight : List ℤ → ℕ
+weight [] = 0
+weight (x ∷ []) = 0
+weight (x ∷ y ∷ xs) = max (unsigned_abs x + unsigned_abs y) (weight xs)
+
+-- the weights of the first n sixteens, summed
+abbrev pub weight_of : ℕ → List ℤ → ℕ
+weight_of zero h = 0
+weight_of (suc n) h = weight_of n h + weight (take 16 (drop (16 * n) h))
+
+-- the first n sixteens are a stretch: 65,535 times 32,768 is less than 2^31
+abbrev pub IsStretch : ℕ → List ℤ → Type 0
+IsStretch n h = weight_of n h ≤ 65535
+
+-- a stretch of so many sixteens is at the front of the taps
+pub record IsReach (n : ℕ) (h : List ℤ) : Type 0 where
+  pub within : 16 * n ≤ length h
+  pub stretch : IsStretch n h
+
+-- how many sixteens the stretch from each sixteen on has, at least itself
+pub record AreStretches (h : List ℤ) (lens : List ℕ) : Type 0 where
+  pub many : length lens ≡ length h / 16
+  pub some : (k : ℕ) → k < length lens → 1 ≤ slice_index_or lens k 0
+  pub each : (k : ℕ) → k < length lens → IsReach (slice_index_or lens k 0) (drop (16 * k) h)
+
+-- taps of a branch that vectors of sixteen can be used on
+pub record AreVectors (h : List ℤ) : Type 0 where
+  pub whole : length h % 16 ≡ 0
+  pub few : length h ≤ 1024
+  pub short : Each1 (FitsSigned w16) h
+
+-- samples of 16 bits for each tap
+pub record AreSeen (h x : List ℤ) : Type 0 where
+  pub many : length x ≡ length h
+  pub short : Each1 (FitsSigned w16) x
+
+-- sums far from 64 bits
+pub record AreSmall (sums : FourDots) : Type 0 where
+  pub a : unsigned_abs sums.a ≤ 2 ^ 50
+  pub b : unsigned_abs sums.b ≤ 2 ^ 50
+  pub c : unsigned_abs sums.c ≤ 2 ^ 50
+  pub d : unsigned_abs sums.d ≤ 2 ^ 50
+
+-- lanes that are no further from 0
+abbrev pub AreLanesWithin : ℕ → List ℤ → Type 0
+AreLanesWithin m sums = Each1 (λ z. unsigned_abs z ≤ m) sums
+
+-- lanes whose total is a dot product, but for a multiple of 2^32, and none at all where the taps are a stretch
+pub record AreSums (h x sums : List ℤ) : Type 0 where
+  pub lanes : AreLanes w32 8 sums
+  pub value : wrap (total sums) ≡ wrap (dot h x)
+  pub exact : IsStretch (length h / 16) h → total sums ≡ dot h x
+
+-- taps that stay within 32 bits on samples within the peak, also where half of 2^15 is added to round, and on any
+-- samples of 16 bits a stretch at a time
+pub record IsBranch (limits : Limits) (h : List ℤ) (lens : List ℕ) : Type 0 where
+  pub vectors : AreVectors h
+  pub quiet : total_abs h * limits.peak ≤ 2147467263
+  pub wide : limits.is_wide ≡ true → AreStretches h lens
