@@ -1,3 +1,4 @@
 pub mod Works
 pub mod Crews
 pub mod Refusals
+pub mod Sharing

@@ -4,3 +4,5 @@ pub mod Analyses
 pub mod Ways
 pub mod Columns
 pub mod Comparisons
+pub mod Periods
+pub mod Sharing

@@ -1,7 +1,12 @@
 //! What a schedule does with its time and its links, as a text.
 
 ghost use Rattle.std.specs.Prelude.{MatchResult, string_bytes};
+ghost use Rattle.sdf_sched.specs.Period.{IsPeriodOf};
+ghost use Rattle.sdf_prec.specs.Long.{IsLongSize};
+ghost use Rattle.sdf_prec.specs.Tables.{IsTable};
+ghost use Rattle.sdf_plan.specs.Placements.{rates_of, firings_of};
 ghost use Rattle.sdf_plan.specs.Schedules.{IsShowFault};
+ghost use Rattle.sdf_analyze.specs.Figures.{AreFiguresOf};
 ghost use Rattle.sdf_analyze.specs.Analyses.{IsFigured, IsAnalysis};
 
 use crate::figures::Figures;
@@ -11,11 +16,35 @@ use sdf_options::Options;
 use sdf_plan::Fault;
 use sdf_plan::schedule::scheduled;
 use sdf_prec::Table;
+use sdf_sched::Period;
 use std::alloc::Global;
+
+/// The figures of the table that options give a design's period for blocks of so many periods.
+#[tactic(auto, using(crate::proofs::Refusals::memory_shows))]
+pub(crate) fn figures_of(
+    alloc: Global,
+    design: &Design,
+    options: &Options,
+    blocking: u32,
+    period: &Period,
+    table: &Table,
+) -> Result<Figures, Fault>
+    requires period { IsPeriodOf (rates_of design.now) period.now }
+    requires size { IsLongSize blocking options.now.workers period.now.repetitions }
+    requires table { IsTable (rates_of design.now) (firings_of blocking period.now) options.now.workers table.now }
+    ensures { MatchResult result
+        (AreFiguresOf design.now blocking options.now.workers period.now table.now)
+        (IsShowFault design.now options.now) }
+{
+    let placed = Options {
+        blocking,
+        ..*options
+    };
+    Ok(Figures::of(alloc, design, &placed, period, table)?)
+}
 
 /// The periods of a block and the table that options give a design, and its figures. The tests are those of
 /// `sdf_plan::schedule::scheduled`.
-#[tactic(auto, using(crate::proofs::Refusals::memory_shows))]
 pub fn figured(
     alloc: Global,
     design: &Design,
@@ -25,11 +54,7 @@ pub fn figured(
         (IsShowFault design.now options.now) }
 {
     let (period, table, blocking) = scheduled(alloc, design, options)?;
-    let placed = Options {
-        blocking,
-        ..*options
-    };
-    let figures = Figures::of(alloc, design, &placed, &period, &table)?;
+    let figures = figures_of(alloc, design, options, blocking, &period, &table)?;
     Ok((blocking, table, figures))
 }
 

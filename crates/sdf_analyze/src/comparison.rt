@@ -1,22 +1,31 @@
 //! Schedules beside one another.
 
-ghost use Rattle.std.specs.Prelude.{◌≡◌, MatchResult, map, string_bytes};
-ghost use Rattle.std.specs.List.{All};
+ghost use Rattle.std.specs.Prelude.{◌≡◌, ◌↔◌, MatchResult, IfSome, IsTrue, map, string_bytes};
+ghost use Rattle.std.specs.List.{All, Contains};
+ghost use Rattle.sdf_actor.specs.Graphs.{graph_of};
+ghost use Rattle.sdf_kit.specs.Kit.{kit_steps};
 ghost use Rattle.sdf_prec.specs.declared.fault.PrecFault.{PrecFault};
 ghost use Rattle.sdf_plan.specs.declared.fault.Fault.TheVariants as faults;
-ghost use Rattle.sdf_plan.specs.Plans.{AreSizes, IsScheduleFault};
+ghost use Rattle.sdf_plan.specs.Plans.{AreSizes, IsScheduleBy, IsScheduleFault};
+ghost use Rattle.sdf_plan.specs.Schedules.{IsShowFault};
 ghost use Rattle.sdf_analyze.specs.declared.columns.Entry.{Entry};
 ghost use Rattle.sdf_analyze.specs.declared.columns.Outcome.TheVariants.{Refused};
-ghost use Rattle.sdf_analyze.specs.Comparisons.{measures_of, number_of, IsOutcome, AreCompared, IsComparison};
+ghost use Rattle.sdf_analyze.specs.Comparisons.{measures_of, number_of, IsMade, IsOutcome, AreCompared, IsComparison};
+ghost use Rattle.sdf_analyze.specs.Periods.{AreByPolicies};
+ghost use Rattle.sdf_analyze.specs.Sharing.{ShareTable};
 
-use crate::analysis::figured;
+use crate::analysis::figures_of;
 use crate::columns::{Entry, Measures, Outcome, comparison_text};
 use crate::figures::Figures;
+use crate::periods::Periods;
 use crate::ways::ways;
 use sdf_file::Design;
-use sdf_options::Options;
+use sdf_graph::laws::one_least_period;
+use sdf_options::{Options, Placement};
 use sdf_plan::Fault;
+use sdf_plan::schedule::tabled;
 use sdf_prec::{PrecFault, Table};
+use sdf_sched::Period;
 use std::alloc::Global;
 
 /// What is compared of a table of so many periods.
@@ -63,20 +72,85 @@ fn refusal(fault: Fault) -> Result<Outcome, Fault>
     }
 }
 
-/// What becomes of a schedule.
-fn outcome_of(alloc: Global, design: &Design, options: &Options) -> Result<Outcome, Fault>
-    requires { AreSizes options.now }
+/// What is compared of the table that options give a period by their policy.
+fn made(
+    alloc: Global,
+    design: &Design,
+    options: &Options,
+    period: &Period,
+) -> Result<Measures, Fault>
+    requires sizes { AreSizes options.now }
+    requires by_policy { IsScheduleBy options.now.policy (graph_of kit_steps design.now.net) period.now }
+    ensures { MatchResult result (IsMade design.now options.now) (IsShowFault design.now options.now) }
+{
+    let (table, blocking) = tabled(alloc, design, options, period)?;
+    let figures = figures_of(alloc, design, options, blocking, period, &table)?;
+    Ok(measures_of(blocking, &table, &figures))
+}
+
+/// What becomes of the schedule that options give a period by their policy.
+fn outcome_of(
+    alloc: Global,
+    design: &Design,
+    options: &Options,
+    period: &Period,
+) -> Result<Outcome, Fault>
+    requires sizes { AreSizes options.now }
+    requires by_policy { IsScheduleBy options.now.policy (graph_of kit_steps design.now.net) period.now }
     ensures { MatchResult result (IsOutcome design.now options.now) (IsScheduleFault design.now) }
 {
-    match figured(alloc, design, options) {
-        Ok((periods, table, figures)) => {
-            Ok(Outcome::Made(measures_of(periods, &table, &figures)))
-        }
+    match made(alloc, design, options, period) {
+        Ok(measures) => Ok(Outcome::Made(measures)),
         Err(fault) => refusal(fault),
     }
 }
 
-/// What becomes of each of some schedules.
+/// Whether options give the same table, since they differ in the policy alone and their placement looks at no order.
+fn share_table(options: &Options, other: &Options) -> bool
+    ensures { IsTrue result ↔ ShareTable options.now other.now }
+{
+    let by_policy = Options {
+        policy: other.policy,
+        ..*options
+    };
+    options.placement != Placement::File && by_policy == *other
+}
+
+/// The outcome of the first entry whose table is that of some options too.
+fn shared(entries: &[Entry], options: &Options) -> Option<Outcome>
+    ensures { IfSome result (λ w. (e : Entry) × Contains entries.now e × ShareTable e.options options.now
+        × (w ≡ e.outcome)) }
+{
+    for entry in entries {
+        if share_table(&entry.options, options) {
+            return Some(entry.outcome);
+        }
+    }
+    None
+}
+
+/// What becomes of a schedule beside those that are known.
+fn outcome_beside(
+    alloc: Global,
+    design: &Design,
+    periods: &Periods,
+    entries: &[Entry],
+    options: &Options,
+) -> Result<Outcome, Fault>
+    requires sizes { AreSizes options.now }
+    requires periods { AreByPolicies design.now periods.now }
+    requires known { All (λ (e : Entry). IsOutcome design.now e.options e.outcome) entries.now }
+    ensures { MatchResult result (IsOutcome design.now options.now) (IsScheduleFault design.now) }
+{
+    one_least_period();
+    let period = periods.by(options.policy);
+    match shared(entries, options) {
+        Some(outcome) => Ok(outcome),
+        None => outcome_of(alloc, design, options, period),
+    }
+}
+
+/// What becomes of each of some schedules. A table that several of them have is made once.
 fn entries_of(alloc: Global, design: &Design, ways: &[Options]) -> Result<Vec<Entry>, Fault>
     requires { All AreSizes ways.now }
     ensures { MatchResult result
@@ -84,11 +158,13 @@ fn entries_of(alloc: Global, design: &Design, ways: &[Options]) -> Result<Vec<En
         × All (λ (e : Entry). IsOutcome design.now e.options e.outcome) v.items)
         (IsScheduleFault design.now) }
 {
+    let periods = Periods::of(alloc, design)?;
     let mut entries = Vec::new(alloc);
     for options in ways {
+        let outcome = outcome_beside(alloc, design, &periods, &entries, options)?;
         entries.push(Entry {
             options: *options,
-            outcome: outcome_of(alloc, design, options)?,
+            outcome,
         })?;
     }
     Ok(entries)

@@ -12,6 +12,7 @@ mod columns;
 pub mod comparison;
 pub mod figures;
 pub mod lines;
+mod periods;
 mod ways;
 
 pub use analysis::{analyze, figured};

@@ -93,8 +93,8 @@ fn class_s_by(
     }
 }
 
-/// One period of a design by a policy.
-pub(crate) fn period_by(alloc: Global, design: &Design, policy: Policy) -> Result<Period, Fault>
+/// One period of a design by a policy. That no sequence of enabled firings completes it is one answer for all policies.
+pub fn period_by(alloc: Global, design: &Design, policy: Policy) -> Result<Period, Fault>
     ensures { MatchResult result (IsScheduleBy policy (graph_of kit_steps design.now.net))
         (IsScheduleFault design.now) }
 {

@@ -1,9 +1,12 @@
 //! The schedule of a design for some workers, and its text.
 
 ghost use Rattle.std.specs.Prelude.{MatchResult, IfOk, string_bytes};
+ghost use Rattle.sdf_actor.specs.Graphs.{graph_of};
+ghost use Rattle.sdf_kit.specs.Kit.{kit_steps};
 ghost use Rattle.sdf_prec.specs.Tables.{IsTable};
 ghost use Rattle.sdf_plan.specs.Placements.{rates_of, firings_of};
 ghost use Rattle.sdf_prec.specs.Long.{IsLongSize};
+ghost use Rattle.sdf_plan.specs.Plans.{AreSizes, IsScheduleBy};
 ghost use Rattle.sdf_plan.specs.Schedules.{IsScheduled, IsShown, IsShowFault};
 
 use crate::fault::Fault;
@@ -36,9 +39,31 @@ pub fn scheduled(
         return Err(fault);
     }
     let period = period_by(alloc, design, options.policy)?;
-    let blocking = blocking_by(design, options, &period);
-    let table = table_by(alloc, design, &period, options, blocking)?;
+    let (table, blocking) = tabled(alloc, design, options, &period)?;
     Ok((period, table, blocking))
+}
+
+/// The table that options give a period of a design by their policy, and the periods of its block. The tests in order:
+/// a block is not too long; with the placement `file`, each actor has a home among the workers.
+pub fn tabled(
+    alloc: Global,
+    design: &Design,
+    options: &Options,
+    period: &Period,
+) -> Result<(Table, u32), Fault>
+    requires sizes { AreSizes options.now }
+    requires by_policy { IsScheduleBy options.now.policy (graph_of kit_steps design.now.net) period.now }
+    ensures answers { MatchResult result (λ s. IsScheduled design.now options.now s.1 period.now s.0)
+        (IsShowFault design.now options.now) }
+
+    // The table is one of the block.
+    ensures table { IfOk result (λ s. IsTable (rates_of design.now) (firings_of s.1 period.now)
+        options.now.workers s.0) }
+    ensures size { IfOk result (λ s. IsLongSize s.1 options.now.workers period.now.repetitions) }
+{
+    let blocking = blocking_by(design, options, period);
+    let table = table_by(alloc, design, period, options, blocking)?;
+    Ok((table, blocking))
 }
 
 /// What the command `schedule` prints: the order of the policy, and the table of the placement. The tests are those of

@@ -3,5 +3,5 @@ use Rattle.sdf_analyze.proofs.comparison.outcome_of.Goals as goal
 
 pub returns-in-Err : goal.returns-in-Err
 returns-in-Err c =
-    outcome c.args.design.now c.args.options.now c.in-Err.fault c.refusal.result c.requires c.in-Err.ensures
+    outcome c.args.design.now c.args.options.now c.in-Err.fault c.refusal.result c.requires.sizes c.in-Err.ensures
     c.refusal.ensures

@@ -1,0 +1,12 @@
+use Rattle.std.proofs.Common.{subst, sym}
+use Rattle.sdf_actor.specs.Graphs.{graph_of}
+use Rattle.sdf_kit.specs.Kit.{kit_steps}
+use Rattle.sdf_plan.specs.Plans.{IsScheduleBy}
+use Rattle.sdf_analyze.proofs.Sharing.{by_policy, shared_outcome}
+use Rattle.sdf_analyze.proofs.comparison.outcome_beside.Goals as goal
+
+pub returns-in-Some : goal.returns-in-Some
+returns-in-Some c =
+    shared_outcome c.one_least_period.ensures c.args.design.now c.args.entries.now c.args.options.now
+    _ c.in-Some.outcome c.requires.known
+    (by_policy c.args.design.now c.args.periods.now c.args.options.now.policy c.requires.periods) c.in-Some.ensures
