@@ -8,7 +8,7 @@
 ghost use Rattle.std.specs.Prelude.{IfSome};
 ghost use Rattle.sdf_filters.specs.Stages.{IsPart};
 
-use crate::ratio::{PLACES, Ratio};
+use crate::ratio::Ratio;
 use crate::stage::Stage;
 use sdf_limits::{MOST_FACTOR, MOST_TAPS};
 use std::f64::consts::TAU;
@@ -77,17 +77,28 @@ impl Weights {
         Best { cost, place }
     }
 
-    /// The cheapest split of a ratio into so many stages, or fewer.
+    /// The cheapest split of a ratio into so many stages, or fewer. What is left behind a stage costs nothing at least,
+    /// so it is not split where the stage alone costs too much.
     fn best(self, rate: f64, left: Ratio, stages: u32) -> Best {
         let mut best = self.whole(rate, left);
-        if stages > 1 {
-            for place in 1..PLACES {
+        if stages < 2 {
+            return best;
+        }
+        for row in 0..MOST_FACTOR {
+            if left.up % (row + 1) != 0 {
+                continue;
+            }
+            let start = row * MOST_FACTOR;
+            for place in start..start + MOST_FACTOR {
                 if let Some(stage) = left.part(place) {
-                    let put = rate * f64::from(stage.up) / f64::from(stage.down);
-                    let rest = self.best(put, left.after(stage), stages - 1);
-                    let cost = self.stage(rate, stage.up, stage.down) + rest.cost;
-                    if cost < best.cost {
-                        best = Best { cost, place };
+                    let own = self.stage(rate, stage.up, stage.down);
+                    if own < best.cost {
+                        let put = rate * f64::from(stage.up) / f64::from(stage.down);
+                        let rest = self.best(put, left.after(stage), stages - 1);
+                        let cost = own + rest.cost;
+                        if cost < best.cost {
+                            best = Best { cost, place };
+                        }
                     }
                 }
             }

@@ -2,9 +2,13 @@
 
 use std::f64::consts::TAU;
 use std::num::saturating_f64_to_u64;
+use std::simd::prelude::*;
 
 /// At how many frequencies more than one a band is looked at.
 const STEPS: u32 = 2048;
+
+/// How many frequencies are looked at side by side.
+const SIDE: u32 = 8;
 
 /// A magnitude below this is taken for it: -240 dB.
 const LEAST_MAGNITUDE: f64 = 1e-12;
@@ -40,19 +44,18 @@ pub(crate) struct Response<'a> {
     pub(crate) unit: f64,
 }
 
-/// The magnitude of taps at an angle for each sample, by Goertzel's recurrence.
-fn magnitude(taps: &[i32], angle: f64) -> f64 {
-    let turn = 2.0 * angle.cos();
-    let mut last = 0.0;
-    let mut before = 0.0;
+/// The magnitudes of taps at angles for each sample, by Goertzel's recurrence.
+fn magnitudes_at(taps: &[i32], angles: [f64; 8]) -> [f64; 8] {
+    let turns = f64x8::from_array(angles.map(|angle| 2.0 * angle.cos()));
+    let mut last = f64x8::splat(0.0);
+    let mut before = f64x8::splat(0.0);
     for &tap in taps {
-        let next = turn * last - before + f64::from(tap);
+        let next = turns * last - before + f64x8::splat(f64::from(tap));
         before = last;
         last = next;
     }
-    (last * last + before * before - turn * last * before)
-        .max(0.0)
-        .sqrt()
+    let squares = last * last + before * before - turns * last * before;
+    squares.to_array().map(|square| square.max(0.0).sqrt())
 }
 
 /// A magnitude in dB.
@@ -61,20 +64,37 @@ fn decibels(magnitude: f64) -> f64 {
 }
 
 impl Response<'_> {
+    /// The angle for each sample of a frequency of a range.
+    fn angle(self, range: Range, step: u32) -> f64 {
+        let part = f64::from(step) / f64::from(STEPS);
+        let frequency = range.from + (range.to - range.from) * part;
+        TAU * frequency / self.rate
+    }
+
+    /// The magnitudes at a frequency of a range and at those behind it. Past the range stands its last one.
+    fn magnitudes_from(self, range: Range, step: u32) -> [f64; 8] {
+        let mut angles = [0.0; 8];
+        for lane in 0..SIDE {
+            let step = step.saturating_add(lane).min(STEPS);
+            angles[lane as usize] = self.angle(range, step);
+        }
+        magnitudes_at(self.taps, angles)
+    }
+
     /// The magnitudes of a range.
     fn magnitudes(self, range: Range) -> Magnitudes {
         let mut magnitudes = Magnitudes {
             least: f64::INFINITY,
             greatest: 0.0,
         };
-        for step in 0..STEPS + 1 {
-            let part = f64::from(step) / f64::from(STEPS);
-            let frequency = range.from + (range.to - range.from) * part;
-            let magnitude = magnitude(self.taps, TAU * frequency / self.rate) / self.unit;
-            magnitudes = Magnitudes {
-                least: magnitudes.least.min(magnitude),
-                greatest: magnitudes.greatest.max(magnitude),
-            };
+        for group in 0..STEPS / SIDE + 1 {
+            for height in self.magnitudes_from(range, group * SIDE) {
+                let magnitude = height / self.unit;
+                magnitudes = Magnitudes {
+                    least: magnitudes.least.min(magnitude),
+                    greatest: magnitudes.greatest.max(magnitude),
+                };
+            }
         }
         magnitudes
     }

@@ -1,6 +1,6 @@
 //! Making the taps of each phase come to one total: in whole numbers, whatever rounding gave.
 
-ghost use Rattle.std.specs.Prelude.{◌≡◌, ◌<◌, ◌≤◌, ◌%◌, ◌+ℤ◌, ℕ, length, slice_set, unsigned_abs, OnOk, IfErr};
+ghost use Rattle.std.specs.Prelude.{◌≡◌, ◌<◌, ◌≤◌, ◌/◌, ◌%◌, ◌+ℤ◌, ℕ, length, slice_set, unsigned_abs, OnOk, IfErr};
 ghost use Rattle.std.specs.Prelude.{MatchResult};
 ghost use Rattle.sdf_filters.specs.Phases.{tap, counted, phase_sum, steps, has_16_bits, Have16Bits};
 ghost use Rattle.sdf_filters.specs.Lowpass.{IsTapFault};
@@ -62,6 +62,24 @@ fn past_16_bits(tap: i32) -> FilterFault
     }
 }
 
+/// The taps of a phase, and whether they are moved up.
+#[derive(Clone, Copy)]
+struct Way {
+    up: usize,
+    phase: usize,
+    rise: bool,
+}
+
+/// The place of the tap of a phase that has so many of them before it, of `count` taps.
+fn place_of(count: usize, way: Way, turn: usize) -> usize
+    requires phase { way.phase < way.up }
+    requires turn { turn < count / way.up }
+    ensures within { result < count }
+    ensures of { result % way.up ≡ way.phase }
+{
+    turn * way.up + way.phase
+}
+
 /// How late a tap is moved: how far it stands beyond its real value in the direction of the step, and for the middle
 /// one the bias more.
 fn lateness(taps: &[i32], reals: &[f64], rise: bool, bias: f64, place: usize) -> f64
@@ -69,7 +87,7 @@ fn lateness(taps: &[i32], reals: &[f64], rise: bool, bias: f64, place: usize) ->
     requires place { place < length taps.now }
     requires few { length taps.now ≤ MOST_TAPS }
 {
-    let over = beyond(taps[place], reals[place], rise);
+    let over = beyond(f64::from(taps[place]), reals[place], rise);
     if 2 * place + 1 == taps.len() {
         over + bias
     } else {
@@ -77,35 +95,88 @@ fn lateness(taps: &[i32], reals: &[f64], rise: bool, bias: f64, place: usize) ->
     }
 }
 
-/// Whether a tap is moved before another: it is less late, or as late and stands nearer to the middle.
-fn is_sooner(taps: &[i32], reals: &[f64], rise: bool, bias: f64, place: usize, other: usize) -> bool
-    requires same { length reals.now ≡ length taps.now }
-    requires place { place < length taps.now }
-    requires other { other < length taps.now }
-    requires few { length taps.now ≤ MOST_TAPS }
+/// Whether a place of so many is nearer to their middle than another.
+fn is_nearer(count: usize, place: usize, other: usize) -> bool
+    requires place { place < count }
+    requires other { other < count }
+    requires few { count ≤ MOST_TAPS }
 {
-    let here = lateness(taps, reals, rise, bias, place);
-    let there = lateness(taps, reals, rise, bias, other);
-    let last = taps.len() - 1;
-    here < there || here == there && last.abs_diff(2 * place) < last.abs_diff(2 * other)
+    let last = count - 1;
+    last.abs_diff(2 * place) < last.abs_diff(2 * other)
 }
 
-/// The tap of a phase to move next.
-fn next_place(taps: &[i32], reals: &[f64], up: usize, phase: usize, rise: bool, bias: f64) -> usize
+/// The tap of a phase to move next: the least late one, of those as late the nearest to the middle, and of two of them
+/// the first.
+fn next_place(taps: &[i32], reals: &[f64], way: Way, bias: f64) -> usize
     requires same { length reals.now ≡ length taps.now }
-    requires phase { phase < up }
-    requires whole { up ≤ length taps.now }
+    requires phase { way.phase < way.up }
+    requires whole { way.up ≤ length taps.now }
     requires few { length taps.now ≤ MOST_TAPS }
     ensures within { result < length taps.now }
-    ensures of { result % up ≡ phase }
+    ensures of { result % way.up ≡ way.phase }
 {
-    let mut best = phase;
-    for place in 0..taps.len() {
-        if place % up == phase && is_sooner(taps, reals, rise, bias, place, best) {
+    let mut best = way.phase;
+    let mut least = lateness(taps, reals, way.rise, bias, best);
+    for turn in 1..taps.len() / way.up {
+        let place = place_of(taps.len(), way, turn);
+        let late = lateness(taps, reals, way.rise, bias, place);
+        if late < least || late == least && is_nearer(taps.len(), place, best) {
             best = place;
+            least = late;
         }
     }
     best
+}
+
+/// Whether each tap of a phase is moved before any of them is moved twice: now each is less late than any is one step
+/// on.
+fn is_round(taps: &[i32], reals: &[f64], way: Way) -> bool
+    requires same { length reals.now ≡ length taps.now }
+    requires phase { way.phase < way.up }
+{
+    let step = if way.rise { 1.0 } else { -1.0 };
+    let mut latest = f64::NEG_INFINITY;
+    let mut soonest = f64::INFINITY;
+    for turn in 0..taps.len() / way.up {
+        let place = place_of(taps.len(), way, turn);
+        let tap = f64::from(taps[place]);
+        latest = latest.max(beyond(tap, reals[place], way.rise));
+        soonest = soonest.min(beyond(tap + step, reals[place], way.rise));
+    }
+    latest < soonest
+}
+
+/// The tap of a phase to move next: in a round the one that has `turn` of them before it, else the one that `next_place`
+/// finds.
+fn chosen_place(
+    taps: &[i32],
+    reals: &[f64],
+    way: Way,
+    in_round: bool,
+    turn: usize,
+    bias: f64,
+) -> usize
+    requires same { length reals.now ≡ length taps.now }
+    requires phase { way.phase < way.up }
+    requires whole { way.up ≤ length taps.now }
+    requires few { length taps.now ≤ MOST_TAPS }
+    requires turn { turn < length taps.now / way.up }
+    ensures within { result < length taps.now }
+    ensures of { result % way.up ≡ way.phase }
+{
+    if in_round {
+        place_of(taps.len(), way, turn)
+    } else {
+        next_place(taps, reals, way, bias)
+    }
+}
+
+/// The turn behind one of so many: behind the last one it is the first again.
+fn next_turn(turn: usize, many: usize) -> usize
+    requires { turn < many }
+    ensures { result < many }
+{
+    if turn + 1 < many { turn + 1 } else { 0 }
 }
 
 /// A tap, one step on.
@@ -130,39 +201,10 @@ fn step_tap(taps: &mut [i32], place: usize, rise: bool) -> Result<(), FilterFaul
     Ok(())
 }
 
-/// Moves taps of a phase by so many steps, all up or all down.
-fn move_taps(
-    taps: &mut [i32],
-    reals: &[f64],
-    up: usize,
-    phase: usize,
-    rise: bool,
-    times: u64,
-) -> Result<(), FilterFault>
-    requires same { length reals.now ≡ length taps.old }
-    requires phase { phase < up }
-    requires whole { up ≤ length taps.old }
-    requires few { length taps.old ≤ MOST_TAPS }
-    ensures moves { OnOk result (phase_sum taps.new up phase ≡ phase_sum taps.old up phase +ℤ steps rise times) }
-    ensures others { OnOk result ((q : ℕ) → (q ≡ phase → ⊥) → phase_sum taps.new up q ≡ phase_sum taps.old up q) }
-    ensures fault { IfErr result IsTapFault }
-{
-    for done in 0..times {
-        let bias = middle_bias(done, times, taps.len() / up);
-        let place = next_place(taps, reals, up, phase, rise, bias);
-        step_tap(taps, place, rise)?;
-    }
-    Ok(())
-}
-
-/// How much later than by its value the middle tap is moved. Of the steps that are left when each of so many taps has
-/// moved as often, an odd number begins with it, and an even one leaves it out: so taps stay symmetric.
-fn middle_bias(done: u64, times: u64, many: usize) -> f64
-    requires done { done ≤ times }
-    requires many { 0 < many }
-{
-    let last = times % many as u64;
-    let left = times - done;
+/// How much later than by its value the middle tap is moved, where so many steps are left. Of the `last` ones, when each
+/// tap of the phase has moved as often, an odd number begins with it, and an even one leaves it out: so taps stay
+/// symmetric.
+fn middle_bias(left: u64, last: u64) -> f64 {
     if last % 2 == 1 && left == last {
         -1.0
     } else if last % 2 == 0 && left <= last {
@@ -170,6 +212,35 @@ fn middle_bias(done: u64, times: u64, many: usize) -> f64
     } else {
         0.0
     }
+}
+
+/// Moves taps of a phase by so many steps. In a round that moves each of them once their order is all one.
+fn move_taps(taps: &mut [i32], reals: &[f64], way: Way, times: u64) -> Result<(), FilterFault>
+    requires same { length reals.now ≡ length taps.old }
+    requires phase { way.phase < way.up }
+    requires whole { way.up ≤ length taps.old }
+    requires few { length taps.old ≤ MOST_TAPS }
+    ensures moves { OnOk result
+        (phase_sum taps.new way.up way.phase ≡ phase_sum taps.old way.up way.phase +ℤ steps way.rise times) }
+    ensures others { OnOk result
+        ((q : ℕ) → (q ≡ way.phase → ⊥) → phase_sum taps.new way.up q ≡ phase_sum taps.old way.up q) }
+    ensures fault { IfErr result IsTapFault }
+{
+    let many = taps.len() / way.up;
+    let last = times % many as u64;
+    let mut turn = 0;
+    let mut in_round = false;
+    for done in 0..times {
+        let left = times - done;
+        if turn == 0 {
+            in_round = left > last && is_round(taps, reals, way);
+        }
+        let bias = middle_bias(left, last);
+        let place = chosen_place(taps, reals, way, in_round, turn, bias);
+        step_tap(taps, place, way.rise)?;
+        turn = next_turn(turn, many);
+    }
+    Ok(())
 }
 
 /// Moves taps of a phase until they come to the total.
@@ -191,7 +262,8 @@ fn settle_phase(
     let sum = phase_sum(taps, up, phase);
     let rise = sum < total;
     let times = total.abs_diff(sum);
-    move_taps(taps, reals, up, phase, rise, times)?;
+    let way = Way { up, phase, rise };
+    move_taps(taps, reals, way, times)?;
     Ok(())
 }
 

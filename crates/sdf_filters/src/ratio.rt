@@ -8,7 +8,7 @@ use crate::stage::Stage;
 use sdf_limits::MOST_FACTOR;
 
 /// How many places there are for stages: each `up` with each `down`.
-pub(crate) const PLACES: u32 = MOST_FACTOR * MOST_FACTOR;
+const PLACES: u32 = MOST_FACTOR * MOST_FACTOR;
 
 /// A ratio: `up` samples for `down`.
 #[derive(Clone, Copy)]

@@ -13,6 +13,8 @@ pub(crate) struct Sinc {
     edge: f64,
     /// The window's parameter.
     beta: f64,
+    /// The window's height at its middle, before it is made 1.
+    peak: f64,
     up: f64,
     unit: f64,
     middle: f64,
@@ -22,9 +24,11 @@ impl Sinc {
     /// So many places, of a filter that has half its height at `edge` times the rate.
     pub(crate) fn new(edge: f64, attenuation: u32, up: f64, unit: f64, count: usize) -> Sinc {
         let last = count.saturating_sub(1);
+        let beta = shape(f64::from(attenuation));
         Sinc {
             edge,
-            beta: shape(f64::from(attenuation)),
+            beta,
+            peak: bessel(beta),
             up,
             unit,
             middle: nearest_usize_to_f64(last) / 2.0,
@@ -40,7 +44,7 @@ impl Sinc {
             from_middle / self.middle
         };
         let inside = (1.0 - part * part).max(0.0).sqrt();
-        let window = bessel(self.beta * inside) / bessel(self.beta);
+        let window = bessel(self.beta * inside) / self.peak;
         self.up * sine_over(self.edge, from_middle) * window * self.unit
     }
 }
@@ -95,7 +99,12 @@ pub(crate) fn real_taps(alloc: Global, sinc: Sinc, count: usize) -> Result<Vec<f
     let mut reals = Vec::new(alloc);
     for place in 0..count {
         let other = count - 1 - place;
-        reals.push(sinc.at(place.min(other)))?;
+        let real = if other < place {
+            reals[other]
+        } else {
+            sinc.at(place)
+        };
+        reals.push(real)?;
     }
     Ok(reals)
 }
@@ -112,7 +121,7 @@ pub(crate) fn rounded_taps(alloc: Global, reals: &[f64]) -> Result<Vec<i32>, All
 }
 
 /// How far a tap stands beyond its real value, in the direction of a step.
-pub(crate) fn beyond(tap: i32, real: f64, rise: bool) -> f64 {
-    let over = f64::from(tap) - real;
+pub(crate) fn beyond(tap: f64, real: f64, rise: bool) -> f64 {
+    let over = tap - real;
     if rise { over } else { -over }
 }
