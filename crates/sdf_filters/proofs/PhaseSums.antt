@@ -8,7 +8,7 @@ use Rattle.std.proofs.lemmas.Int.{ints}
 use Rattle.std.proofs.lemmas.Bool.{cases_eq}
 use Rattle.std.proofs.lemmas.Bool.Decides.{nat_tests}
 use Rattle.std.proofs.lemmas.List.{length-set, get_or-set_same, get_or-set_other}
-use Rattle.sdf_filters.specs.Phases.{tap, counted, sum_before, phase_sum, steps, has_16_bits}
+use Rattle.sdf_filters.specs.Phases.{tap, counted, sum_before, phase_sum, steps, has_16_bits, AreMoved}
 
 -- a loop's start and step
 pub sum_before-zero : (h : List ℤ) (up phase : ℕ) → sum_before h up phase zero ≡ pos 0
@@ -89,14 +89,33 @@ pub moved_elsewhere : (h : List ℤ) (up phase k : ℕ) (x : ℤ) → (k % up �
 moved_elsewhere h up phase k x other =
     ap (sum_before (set h k x) up phase) (length-set h k x) ∙ elsewhere h up phase k x (length h) other
 
--- one step more
-pub steps_more : (rise : Bool) (n : ℕ) (s : ℤ) → (s +ℤ steps rise n) +ℤ steps rise 1 ≡ s +ℤ steps rise (n + 1)
-steps_more true n s = omega (arith, ints)
-steps_more false n s = omega (arith, ints)
+-- no step, one, and some after others
+pub moved_none : (up phase : ℕ) (rise : Bool) (h : List ℤ) → AreMoved up phase rise 0 h h
+moved_none up phase rise h = record { sum = sym (steps_none rise (phase_sum h up phase)); others = λ q other. refl }
+  where
+    steps_none : (rise : Bool) (s : ℤ) → s +ℤ steps rise 0 ≡ s
+    steps_none true s = omega (arith, ints)
+    steps_none false s = omega (arith, ints)
 
-pub steps_none : (rise : Bool) (s : ℤ) → s +ℤ steps rise 0 ≡ s
-steps_none true s = omega (arith, ints)
-steps_none false s = omega (arith, ints)
+pub moved_once : (up phase : ℕ) (rise : Bool) (h g : List ℤ) (k : ℕ) → k < length h → k % up ≡ phase →
+    g ≡ set h k (tap h k +ℤ steps rise 1) → AreMoved up phase rise 1 h g
+moved_once up phase rise h g k within is e = record {
+  sum = ap (λ t. phase_sum t up phase) e ∙ moved_here h up phase k (steps rise 1) within is;
+  others = λ q other. ap (λ t. phase_sum t up q) e
+      ∙ moved_elsewhere h up q k (tap h k +ℤ steps rise 1) (λ same. other (sym same ∙ is));
+}
+
+pub moved_more : (up phase : ℕ) (rise : Bool) (m n all : ℕ) → m + n ≡ all → (f g h : List ℤ) →
+    AreMoved up phase rise m f g → AreMoved up phase rise n g h → AreMoved up phase rise all f h
+moved_more up phase rise m n all e f g h before after = record {
+  sum = after.sum ∙ (ap (λ z. z +ℤ steps rise n) before.sum
+      ∙ (steps_more rise (phase_sum f up phase) ∙ ap (λ k. phase_sum f up phase +ℤ steps rise k) e));
+  others = λ q other. after.others q other ∙ before.others q other;
+}
+  where
+    steps_more : (rise : Bool) (s : ℤ) → (s +ℤ steps rise m) +ℤ steps rise n ≡ s +ℤ steps rise (m + n)
+    steps_more true s = omega (arith, ints)
+    steps_more false s = omega (arith, ints)
 
 -- as many steps as lack lead to the total
 pub steps_reach : (rise : Bool) (s total : ℤ) → int_lt s total ≡ rise →

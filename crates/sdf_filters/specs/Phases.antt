@@ -1,5 +1,5 @@
 -- The taps of a phase, and what they come to.
-use Rattle.std.specs.Prelude.{ℕ, zero, suc, ◌<◌, ◌%◌, ◌==◌, cond, Bool, true, false, nat_lt, ℤ, pos, negsuc, ◌+ℤ◌, ◌-ℤ◌}
+use Rattle.std.specs.Prelude.{◌≡◌, ℕ, zero, suc, ◌<◌, ◌%◌, ◌==◌, cond, Bool, true, false, nat_lt, ℤ, pos, negsuc, ◌+ℤ◌, ◌-ℤ◌}
 use Rattle.std.specs.Prelude.{FitsSigned, List, length, slice_index_or}
 use Rattle.std.specs.Int.{w16}
 
@@ -24,6 +24,11 @@ phase_sum h up phase = sum_before h up phase (length h)
 abbrev pub steps : Bool → ℕ → ℤ
 steps true n = pos n
 steps false n = pos 0 -ℤ pos n
+
+-- so many steps of taps of a phase lead from some taps to others
+pub record AreMoved (up phase : ℕ) (rise : Bool) (times : ℕ) (old new : List ℤ) : Type 0 where
+  pub sum : phase_sum new up phase ≡ phase_sum old up phase +ℤ steps rise times
+  pub others : (q : ℕ) → (q ≡ phase → ⊥) → phase_sum new up q ≡ phase_sum old up q
 
 -- z is one of -32768 .. 32767
 abbrev pub has_16_bits : ℤ → Bool

@@ -3,7 +3,7 @@
 //!
 //! It stands on `sdf_limits` alone. Begin at `wanted`, what one asks for in plain numbers, `filter`, the taps that
 //! come, and `texts`, what is printed of them by `sdfw fir`; they stand on `lowpass`, `phases`, which makes each
-//! phase's sum exact, `differences`, high-passes and band-passes, and `coefficients`, the text of taps. A conversion is
+//! phase's sum exact, in the `order` of taps, `differences`, high-passes and band-passes, and `coefficients`, the text of taps. A conversion is
 //! split into stages by `split`, and `converter` makes its design of them for `sdfw resample`, the graph file by
 //! `graph`. `sinc`, `cost` and `measure` compute with floats, of which no clause says anything. The definitions are in
 //! `specs/Wanted.antt`, `specs/Phases.antt` (what the taps of a phase come to), `specs/Stages.antt` and
@@ -19,6 +19,7 @@ mod filter;
 mod graph;
 mod lowpass;
 mod measure;
+mod order;
 mod phases;
 mod ratio;
 mod sinc;

@@ -2,15 +2,20 @@
 
 ghost use Rattle.std.specs.Prelude.{◌≡◌, ◌<◌, ◌≤◌, ◌/◌, ◌%◌, ◌+ℤ◌, ℕ, length, slice_set, unsigned_abs, OnOk, IfErr};
 ghost use Rattle.std.specs.Prelude.{MatchResult};
-ghost use Rattle.sdf_filters.specs.Phases.{tap, counted, phase_sum, steps, has_16_bits, Have16Bits};
+ghost use Rattle.sdf_filters.specs.Phases.{tap, counted, phase_sum, steps, has_16_bits, Have16Bits, AreMoved};
 ghost use Rattle.sdf_filters.specs.Lowpass.{IsTapFault};
 
 use crate::fault::FilterFault;
-use crate::sinc::beyond;
+use crate::order::{Way, first_turn, is_round, place_of, renew, tree_of};
 use sdf_limits::MOST_TAPS;
 
 /// A tap is moved no further than this.
 const FARTHEST: u32 = 65_536;
+
+/// So few steps look at all taps each, and so few taps are looked at by each step.
+const FEW_STEPS: u64 = 8;
+
+const FEW_TAPS: usize = 64;
 
 /// A tap where its place is one of the phase, else 0.
 fn counted(up: usize, phase: usize, place: usize, tap: i32) -> i32
@@ -62,123 +67,6 @@ fn past_16_bits(tap: i32) -> FilterFault
     }
 }
 
-/// The taps of a phase, and whether they are moved up.
-#[derive(Clone, Copy)]
-struct Way {
-    up: usize,
-    phase: usize,
-    rise: bool,
-}
-
-/// The place of the tap of a phase that has so many of them before it, of `count` taps.
-fn place_of(count: usize, way: Way, turn: usize) -> usize
-    requires phase { way.phase < way.up }
-    requires turn { turn < count / way.up }
-    ensures within { result < count }
-    ensures of { result % way.up ≡ way.phase }
-{
-    turn * way.up + way.phase
-}
-
-/// How late a tap is moved: how far it stands beyond its real value in the direction of the step, and for the middle
-/// one the bias more.
-fn lateness(taps: &[i32], reals: &[f64], rise: bool, bias: f64, place: usize) -> f64
-    requires same { length reals.now ≡ length taps.now }
-    requires place { place < length taps.now }
-    requires few { length taps.now ≤ MOST_TAPS }
-{
-    let over = beyond(f64::from(taps[place]), reals[place], rise);
-    if 2 * place + 1 == taps.len() {
-        over + bias
-    } else {
-        over
-    }
-}
-
-/// Whether a place of so many is nearer to their middle than another.
-fn is_nearer(count: usize, place: usize, other: usize) -> bool
-    requires place { place < count }
-    requires other { other < count }
-    requires few { count ≤ MOST_TAPS }
-{
-    let last = count - 1;
-    last.abs_diff(2 * place) < last.abs_diff(2 * other)
-}
-
-/// The tap of a phase to move next: the least late one, of those as late the nearest to the middle, and of two of them
-/// the first.
-fn next_place(taps: &[i32], reals: &[f64], way: Way, bias: f64) -> usize
-    requires same { length reals.now ≡ length taps.now }
-    requires phase { way.phase < way.up }
-    requires whole { way.up ≤ length taps.now }
-    requires few { length taps.now ≤ MOST_TAPS }
-    ensures within { result < length taps.now }
-    ensures of { result % way.up ≡ way.phase }
-{
-    let mut best = way.phase;
-    let mut least = lateness(taps, reals, way.rise, bias, best);
-    for turn in 1..taps.len() / way.up {
-        let place = place_of(taps.len(), way, turn);
-        let late = lateness(taps, reals, way.rise, bias, place);
-        if late < least || late == least && is_nearer(taps.len(), place, best) {
-            best = place;
-            least = late;
-        }
-    }
-    best
-}
-
-/// Whether each tap of a phase is moved before any of them is moved twice: now each is less late than any is one step
-/// on.
-fn is_round(taps: &[i32], reals: &[f64], way: Way) -> bool
-    requires same { length reals.now ≡ length taps.now }
-    requires phase { way.phase < way.up }
-{
-    let step = if way.rise { 1.0 } else { -1.0 };
-    let mut latest = f64::NEG_INFINITY;
-    let mut soonest = f64::INFINITY;
-    for turn in 0..taps.len() / way.up {
-        let place = place_of(taps.len(), way, turn);
-        let tap = f64::from(taps[place]);
-        latest = latest.max(beyond(tap, reals[place], way.rise));
-        soonest = soonest.min(beyond(tap + step, reals[place], way.rise));
-    }
-    latest < soonest
-}
-
-/// The tap of a phase to move next: in a round the one that has `turn` of them before it, else the one that `next_place`
-/// finds.
-fn chosen_place(
-    taps: &[i32],
-    reals: &[f64],
-    way: Way,
-    in_round: bool,
-    turn: usize,
-    bias: f64,
-) -> usize
-    requires same { length reals.now ≡ length taps.now }
-    requires phase { way.phase < way.up }
-    requires whole { way.up ≤ length taps.now }
-    requires few { length taps.now ≤ MOST_TAPS }
-    requires turn { turn < length taps.now / way.up }
-    ensures within { result < length taps.now }
-    ensures of { result % way.up ≡ way.phase }
-{
-    if in_round {
-        place_of(taps.len(), way, turn)
-    } else {
-        next_place(taps, reals, way, bias)
-    }
-}
-
-/// The turn behind one of so many: behind the last one it is the first again.
-fn next_turn(turn: usize, many: usize) -> usize
-    requires { turn < many }
-    ensures { result < many }
-{
-    if turn + 1 < many { turn + 1 } else { 0 }
-}
-
 /// A tap, one step on.
 fn stepped(tap: i32, rise: bool) -> i32
     requires { unsigned_abs tap ≤ 65536 }
@@ -201,45 +89,129 @@ fn step_tap(taps: &mut [i32], place: usize, rise: bool) -> Result<(), FilterFaul
     Ok(())
 }
 
-/// How much later than by its value the middle tap is moved, where so many steps are left. Of the `last` ones, when each
-/// tap of the phase has moved as often, an odd number begins with it, and an even one leaves it out: so taps stay
-/// symmetric.
-fn middle_bias(left: u64, last: u64) -> f64 {
-    if last % 2 == 1 && left == last {
-        -1.0
-    } else if last % 2 == 0 && left <= last {
-        1.0
+/// Moves a tap of a phase by one step, by its turn.
+fn step_turn(taps: &mut [i32], way: Way, turn: usize) -> Result<(), FilterFault>
+    requires phase { way.phase < way.up }
+    requires turn { turn < length taps.old / way.up }
+    ensures moves { OnOk result (AreMoved way.up way.phase way.rise 1 taps.old taps.new) }
+    ensures fault { IfErr result IsTapFault }
+{
+    let place = place_of(taps.len(), way, turn);
+    step_tap(taps, place, way.rise)?;
+    Ok(())
+}
+
+/// Moves each tap of a phase by one step.
+fn move_each(taps: &mut [i32], way: Way) -> Result<(), FilterFault>
+    requires phase { way.phase < way.up }
+    ensures moves { OnOk result (AreMoved way.up way.phase way.rise (length taps.old / way.up) taps.old taps.new) }
+    ensures fault { IfErr result IsTapFault }
+{
+    for turn in 0..taps.len() / way.up {
+        step_turn(taps, way, turn)?;
+    }
+    Ok(())
+}
+
+/// Moves taps of a phase by so many steps, each of which looks at all of them.
+fn move_few(taps: &mut [i32], reals: &[f64], way: Way, times: u64) -> Result<(), FilterFault>
+    requires same { length reals.now ≡ length taps.old }
+    requires few { length taps.old ≤ MOST_TAPS }
+    requires phase { way.phase < way.up }
+    requires whole { way.up ≤ length taps.old }
+    ensures moves { OnOk result (AreMoved way.up way.phase way.rise times taps.old taps.new) }
+    ensures fault { IfErr result IsTapFault }
+{
+    for _ in 0..times {
+        let turn = first_turn(taps, reals, way);
+        step_turn(taps, way, turn)?;
+    }
+    Ok(())
+}
+
+/// Moves taps of a phase by so many steps, as a tree of them says.
+fn move_many(taps: &mut [i32], reals: &[f64], way: Way, times: u64) -> Result<(), FilterFault>
+    requires same { length reals.now ≡ length taps.old }
+    requires few { length taps.old ≤ MOST_TAPS }
+    requires phase { way.phase < way.up }
+    requires whole { way.up ≤ length taps.old }
+    ensures moves { OnOk result (AreMoved way.up way.phase way.rise times taps.old taps.new) }
+    ensures fault { IfErr result IsTapFault }
+{
+    let mut tree = tree_of(taps, reals, way);
+    for _ in 0..times {
+        let turn = tree[1];
+        step_turn(taps, way, turn)?;
+        renew(&mut tree, taps, reals, way, turn);
+    }
+    Ok(())
+}
+
+/// Moves taps of a phase by so many steps, one after another.
+fn move_soonest(taps: &mut [i32], reals: &[f64], way: Way, times: u64) -> Result<(), FilterFault>
+    requires same { length reals.now ≡ length taps.old }
+    requires few { length taps.old ≤ MOST_TAPS }
+    requires phase { way.phase < way.up }
+    requires whole { way.up ≤ length taps.old }
+    ensures moves { OnOk result (AreMoved way.up way.phase way.rise times taps.old taps.new) }
+    ensures fault { IfErr result IsTapFault }
+{
+    if times > FEW_STEPS && taps.len() / way.up > FEW_TAPS {
+        move_many(taps, reals, way, times)
     } else {
-        0.0
+        move_few(taps, reals, way, times)
     }
 }
 
-/// Moves taps of a phase by so many steps. In a round that moves each of them once their order is all one.
-fn move_taps(taps: &mut [i32], reals: &[f64], way: Way, times: u64) -> Result<(), FilterFault>
+/// Moves taps of a phase by as many steps as it has taps: each once, where none is moved before all others were.
+fn move_round(taps: &mut [i32], reals: &[f64], way: Way) -> Result<(), FilterFault>
     requires same { length reals.now ≡ length taps.old }
+    requires few { length taps.old ≤ MOST_TAPS }
     requires phase { way.phase < way.up }
     requires whole { way.up ≤ length taps.old }
-    requires few { length taps.old ≤ MOST_TAPS }
-    ensures moves { OnOk result
-        (phase_sum taps.new way.up way.phase ≡ phase_sum taps.old way.up way.phase +ℤ steps way.rise times) }
-    ensures others { OnOk result
-        ((q : ℕ) → (q ≡ way.phase → ⊥) → phase_sum taps.new way.up q ≡ phase_sum taps.old way.up q) }
+    ensures moves { OnOk result (AreMoved way.up way.phase way.rise (length taps.old / way.up) taps.old taps.new) }
     ensures fault { IfErr result IsTapFault }
 {
-    let many = taps.len() / way.up;
-    let last = times % many as u64;
-    let mut turn = 0;
-    let mut in_round = false;
-    for done in 0..times {
-        let left = times - done;
-        if turn == 0 {
-            in_round = left > last && is_round(taps, reals, way);
-        }
-        let bias = middle_bias(left, last);
-        let place = chosen_place(taps, reals, way, in_round, turn, bias);
-        step_tap(taps, place, way.rise)?;
-        turn = next_turn(turn, many);
+    if is_round(taps, reals, way) {
+        move_each(taps, way)
+    } else {
+        let many = taps.len() / way.up;
+        move_soonest(taps, reals, way, many as u64)
     }
+}
+
+/// Moves taps of a phase by fewer steps than it has taps. An odd number begins with the middle tap, and an even one
+/// leaves it out: so taps stay symmetric.
+fn move_last(taps: &mut [i32], reals: &[f64], way: Way, times: u64) -> Result<(), FilterFault>
+    requires same { length reals.now ≡ length taps.old }
+    requires few { length taps.old ≤ MOST_TAPS }
+    requires phase { way.phase < way.up }
+    requires whole { way.up ≤ length taps.old }
+    ensures moves { OnOk result (AreMoved way.up way.phase way.rise times taps.old taps.new) }
+    ensures fault { IfErr result IsTapFault }
+{
+    if times % 2 == 0 {
+        return move_soonest(taps, reals, Way { bias: 1.0, ..way }, times);
+    }
+    move_few(taps, reals, Way { bias: -1.0, ..way }, 1)?;
+    move_soonest(taps, reals, way, times - 1)?;
+    Ok(())
+}
+
+/// Moves taps of a phase by so many steps: each tap as often, and those whose turn it is once more.
+fn move_taps(taps: &mut [i32], reals: &[f64], way: Way, times: u64) -> Result<(), FilterFault>
+    requires same { length reals.now ≡ length taps.old }
+    requires few { length taps.old ≤ MOST_TAPS }
+    requires phase { way.phase < way.up }
+    requires whole { way.up ≤ length taps.old }
+    ensures moves { OnOk result (AreMoved way.up way.phase way.rise times taps.old taps.new) }
+    ensures fault { IfErr result IsTapFault }
+{
+    let many = (taps.len() / way.up) as u64;
+    for _ in 0..times / many {
+        move_round(taps, reals, way)?;
+    }
+    move_last(taps, reals, way, times % many)?;
     Ok(())
 }
 
@@ -262,7 +234,12 @@ fn settle_phase(
     let sum = phase_sum(taps, up, phase);
     let rise = sum < total;
     let times = total.abs_diff(sum);
-    let way = Way { up, phase, rise };
+    let way = Way {
+        up,
+        phase,
+        rise,
+        bias: 0.0,
+    };
     move_taps(taps, reals, way, times)?;
     Ok(())
 }

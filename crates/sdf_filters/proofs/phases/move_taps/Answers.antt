@@ -1,25 +1,22 @@
-use Rattle.std.proofs.Common.{◌∙◌, ◌+ℤ◌, ℕ, ℤ, List, length, ap, sym, refl, arith}
-use Rattle.std.proofs.lemmas.Nat.{le-div}
-use Rattle.sdf_filters.specs.Phases.{tap, phase_sum, steps}
-use Rattle.sdf_filters.proofs.PhaseSums.{moved_here, moved_elsewhere, steps_more, steps_none}
+use Rattle.std.proofs.Common.{◌≡◌, ℕ, ◌+◌, ◌*◌, ◌/◌, ◌%◌, length, ap, ◌∙◌, div-add-mod', arith}
+use Rattle.sdf_filters.proofs.PhaseSums.{moved_more}
 use Rattle.sdf_filters.proofs.phases.move_taps.Goals as goal
 
-pub loop-done-init : goal.loop-done-init
-loop-done-init c = (le-div 1 (length c.args.taps.now) c.args.way.up (omega arith) (omega arith), sym (steps_none c.args.way.rise (phase_sum c.args.taps.now c.args.way.up c.args.way.phase)), λ q other. refl)
+pub loop-preserved : goal.loop-preserved
+loop-preserved c =
+    let many : ℕ = length c.args.taps.now / c.args.way.up in
+    let same : length c.loop.taps ≡ length c.args.taps.now = omega arith in
+    let e : c.loop.counter * many + many ≡ (c.loop.counter + 1) * many = omega arith in
+    moved_more c.args.way.up c.args.way.phase c.args.way.rise (c.loop.counter * many) (length c.loop.taps / c.args.way.up)
+    ((c.loop.counter + 1) * many) (ap (λ n. c.loop.counter * many + n / c.args.way.up) same ∙ e)
+    c.args.taps.now c.loop.taps c.move_round.new.taps c.loop.invariant c.in_ok-move_round.ensures.moves
 
-pub loop-done-preserved : goal.loop-done-preserved
-loop-done-preserved c =
-    let h : List ℤ = c.loop-done.taps in
-    let k : ℕ = c.chosen_place-place.result in
-    let moves = c.in_ok-step_tap.ensures.moves in (
-      c.next_turn-turn.ensures,
-      ap (λ (g : List ℤ). phase_sum g c.args.way.up c.args.way.phase) moves ∙
-          (moved_here h c.args.way.up c.args.way.phase k (steps c.args.way.rise 1) c.chosen_place-place.ensures.within
-          c.chosen_place-place.ensures.of ∙
-          (ap (λ z. z +ℤ steps c.args.way.rise 1) c.loop-done.invariant.1
-          ∙ steps_more c.args.way.rise c.loop-done.done (phase_sum c.args.taps.now c.args.way.up c.args.way.phase))),
-      λ q other.
-          ap (λ (g : List ℤ). phase_sum g c.args.way.up q) moves ∙
-          (moved_elsewhere h c.args.way.up q k (tap h k +ℤ steps c.args.way.rise 1)
-          (λ e. other (sym e ∙ c.chosen_place-place.ensures.of)) ∙ c.loop-done.invariant.2 q other),
-    )
+pub returns-clause-moves : goal.returns-clause-moves
+returns-clause-moves c =
+    let many : ℕ = length c.args.taps.now / c.args.way.up in
+    let times : ℕ = c.args.times in
+    let rounds : c.loop.counter ≡ times / many = omega arith in
+    let e : c.loop.counter * many + times % many ≡ times =
+    ap (λ k. k * many + times % many) rounds ∙ div-add-mod' times many in
+    moved_more c.args.way.up c.args.way.phase c.args.way.rise (c.loop.counter * many) (times % many) times e
+    c.args.taps.now c.loop.taps c.move_last.new.taps c.loop.invariant c.in_ok-move_last.ensures.moves

@@ -12,4 +12,4 @@ returns-clause-exact c =
     reached (phase_sum c.args.taps.now c.args.up c.args.phase) (phase_sum c.move_taps.new.taps c.args.up c.args.phase)
     sum total (to_z w64 (of_z w64 sum)) (to_z w64 (of_z w64 total)) c.abs_diff-times.result
     (to_z-of_z w64 c.phase_sum-sum.result fits) (to_z-of_z w64 c.args.total c.ranges.total)
-    c.phase_sum-sum.ensures c.abs_diff-times.ensures c.in_ok-move_taps.ensures.moves
+    c.phase_sum-sum.ensures c.abs_diff-times.ensures c.in_ok-move_taps.ensures.moves.sum

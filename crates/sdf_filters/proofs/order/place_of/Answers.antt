@@ -1,7 +1,7 @@
 use Rattle.std.proofs.Common.{arith}
 use Rattle.std.proofs.lemmas.Nat.{mod-mul-add}
 use Rattle.sdf_filters.proofs.Counts.{within_phases}
-use Rattle.sdf_filters.proofs.phases.place_of.Goals as goal
+use Rattle.sdf_filters.proofs.order.place_of.Goals as goal
 
 pub overflow_mul-result : goal.overflow_mul-result
 overflow_mul-result c =

@@ -1,0 +1,152 @@
+//! Which tap of a phase is moved next. No clause says more of it than that it is one of the phase.
+
+ghost use Rattle.std.specs.Prelude.{◌≡◌, ◌<◌, ◌≤◌, ◌/◌, ◌%◌, ◌⊎◌, length};
+ghost use Rattle.std.specs.List.{All};
+ghost use Rattle.sdf_filters.specs.declared.order.TheConstants.{NODES};
+
+use crate::sinc::beyond;
+use sdf_limits::MOST_TAPS;
+
+/// How many nodes a tree of the taps of a phase has at most, with the taps themselves.
+const NODES: usize = 2 * MOST_TAPS;
+
+/// The taps of a phase, whether they are moved up, and how much later than by its value the middle tap is moved. Each
+/// of them has a turn, counted from 0.
+#[derive(Clone, Copy)]
+pub(crate) struct Way {
+    pub(crate) up: usize,
+    pub(crate) phase: usize,
+    pub(crate) rise: bool,
+    pub(crate) bias: f64,
+}
+
+/// What of a tap says when it is moved: how far it stands beyond its real value in the direction of the step, how far
+/// it is from the middle, in half places, and its turn.
+#[derive(Clone, Copy)]
+struct Rank {
+    late: f64,
+    away: usize,
+    turn: usize,
+}
+
+/// The place of a tap among `count` taps, by its turn.
+pub(crate) fn place_of(count: usize, way: Way, turn: usize) -> usize
+    requires phase { way.phase < way.up }
+    requires turn { turn < count / way.up }
+    ensures within { result < count }
+    ensures of { result % way.up ≡ way.phase }
+{
+    turn * way.up + way.phase
+}
+
+/// The rank of a tap, by its turn.
+fn rank_of(taps: &[i32], reals: &[f64], way: Way, turn: usize) -> Rank
+    requires same { length reals.now ≡ length taps.now }
+    requires few { length taps.now ≤ MOST_TAPS }
+    requires phase { way.phase < way.up }
+    requires turn { turn < length taps.now / way.up }
+    ensures { result.turn ≡ turn }
+{
+    let place = place_of(taps.len(), way, turn);
+    let over = beyond(f64::from(taps[place]), reals[place], way.rise);
+    let away = (taps.len() - 1).abs_diff(2 * place);
+    let late = if away == 0 { over + way.bias } else { over };
+    Rank { late, away, turn }
+}
+
+/// The rank of the tap that is moved before the other: the less late one, of two as late the one nearer to the middle,
+/// and of two as near the earlier one.
+fn sooner(one: Rank, other: Rank) -> Rank
+    ensures { (result.turn ≡ one.turn) ⊎ (result.turn ≡ other.turn) }
+{
+    let is_before = if one.late == other.late {
+        one.away < other.away || one.away == other.away && one.turn < other.turn
+    } else {
+        one.late < other.late
+    };
+    if is_before { one } else { other }
+}
+
+/// The turn of the tap that is moved first.
+pub(crate) fn first_turn(taps: &[i32], reals: &[f64], way: Way) -> usize
+    requires same { length reals.now ≡ length taps.now }
+    requires few { length taps.now ≤ MOST_TAPS }
+    requires phase { way.phase < way.up }
+    requires whole { way.up ≤ length taps.now }
+    ensures { result < length taps.now / way.up }
+{
+    let mut first = rank_of(taps, reals, way, 0);
+    for turn in 1..taps.len() / way.up {
+        first = sooner(rank_of(taps, reals, way, turn), first);
+    }
+    first.turn
+}
+
+/// Whether each tap of a phase is moved before any of them is moved twice: now each is less late than any is one step
+/// on.
+pub(crate) fn is_round(taps: &[i32], reals: &[f64], way: Way) -> bool
+    requires same { length reals.now ≡ length taps.now }
+    requires phase { way.phase < way.up }
+{
+    let step = if way.rise { 1.0 } else { -1.0 };
+    let mut latest = f64::NEG_INFINITY;
+    let mut soonest = f64::INFINITY;
+    for turn in 0..taps.len() / way.up {
+        let place = place_of(taps.len(), way, turn);
+        let tap = f64::from(taps[place]);
+        latest = latest.max(beyond(tap, reals[place], way.rise));
+        soonest = soonest.min(beyond(tap + step, reals[place], way.rise));
+    }
+    latest < soonest
+}
+
+/// Lets the taps of a node's two branches meet: the turn of the one that is moved first stands at the node.
+fn meet(tree: &mut [usize], taps: &[i32], reals: &[f64], way: Way, node: usize)
+    requires room { length tree.old ≡ NODES }
+    requires same { length reals.now ≡ length taps.now }
+    requires few { length taps.now ≤ MOST_TAPS }
+    requires phase { way.phase < way.up }
+    requires node { node < length taps.now / way.up }
+    requires turns { All (λ turn. turn < length taps.now / way.up) tree.old }
+    ensures { All (λ turn. turn < length taps.now / way.up) tree.new }
+{
+    let one = rank_of(taps, reals, way, tree[2 * node]);
+    let other = rank_of(taps, reals, way, tree[2 * node + 1]);
+    tree[node] = sooner(one, other).turn;
+}
+
+/// The tree of the taps of a phase: the turns stand behind its nodes, and the first one at node 1.
+pub(crate) fn tree_of(taps: &[i32], reals: &[f64], way: Way) -> [usize; NODES]
+    requires same { length reals.now ≡ length taps.now }
+    requires few { length taps.now ≤ MOST_TAPS }
+    requires phase { way.phase < way.up }
+    requires whole { way.up ≤ length taps.now }
+    ensures { All (λ turn. turn < length taps.now / way.up) result }
+{
+    let many = taps.len() / way.up;
+    let mut tree = [0; NODES];
+    for turn in 0..many {
+        tree[many + turn] = turn;
+    }
+    for back in 1..many {
+        meet(&mut tree, taps, reals, way, many - back);
+    }
+    tree
+}
+
+/// Lets a tap that was moved meet the others once more, by its turn.
+pub(crate) fn renew(tree: &mut [usize], taps: &[i32], reals: &[f64], way: Way, turn: usize)
+    requires room { length tree.old ≡ NODES }
+    requires same { length reals.now ≡ length taps.now }
+    requires few { length taps.now ≤ MOST_TAPS }
+    requires phase { way.phase < way.up }
+    requires turn { turn < length taps.now / way.up }
+    requires turns { All (λ turn. turn < length taps.now / way.up) tree.old }
+    ensures { All (λ turn. turn < length taps.now / way.up) tree.new }
+{
+    let mut node = taps.len() / way.up + turn;
+    while node > 1 {
+        node /= 2;
+        meet(tree, taps, reals, way, node);
+    }
+}
