@@ -4,13 +4,22 @@
 //!
 //! It stands on `sdf_filters`, on `sdf_document` and `sdf_file`, which read the designs, and on `test_texts`, and has
 //! no functions: tests stand in a crate of their own, since a crate's functions are proved once more with its tests.
-//! Begin at `taps`, then `designs`.
+//! Begin at `taps`, then `designs`. `plain_taps`, `plain_levels` and `plain_splits` work out in the plainest way what
+//! `sdf_filters` does in a quicker one, and compare the two on filters and rates of `made`.
 #![tactic(auto)]
 
 #[cfg(test)]
 mod converters;
 #[cfg(test)]
 mod designs;
+#[cfg(test)]
+mod made;
+#[cfg(test)]
+mod plain_levels;
+#[cfg(test)]
+mod plain_splits;
+#[cfg(test)]
+mod plain_taps;
 #[cfg(test)]
 mod stages;
 #[cfg(test)]

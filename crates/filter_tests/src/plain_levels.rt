@@ -1,0 +1,153 @@
+//! What is told of taps, against what is measured in the plainest way: one frequency after another.
+
+use crate::made::Numbers;
+use sdf_filters::{Band, Wanted, filter_texts, taps_of};
+use std::alloc::Global;
+use std::f64::consts::TAU;
+use std::num::saturating_f64_to_u64;
+use std::test::Fail;
+use test_texts::says;
+
+/// The least and the greatest magnitude.
+#[derive(Clone, Copy)]
+struct Heights {
+    least: f64,
+    greatest: f64,
+}
+
+/// The magnitude of taps at an angle for each sample.
+fn magnitude(taps: &[i32], angle: f64) -> f64 {
+    let turn = 2.0 * angle.cos();
+    let mut last = 0.0;
+    let mut before = 0.0;
+    for &tap in taps {
+        let next = turn * last - before + f64::from(tap);
+        before = last;
+        last = next;
+    }
+    (last * last + before * before - turn * last * before)
+        .max(0.0)
+        .sqrt()
+}
+
+/// A magnitude in dB.
+fn decibels(magnitude: f64) -> f64 {
+    20.0 * magnitude.max(1e-12).log10()
+}
+
+/// The magnitudes of a filter's taps between two frequencies, as parts of the unit.
+fn magnitudes(wanted: Wanted, taps: &[i32], from: u32, to: u32) -> Heights {
+    let unit = f64::from(wanted.up) * f64::from(wanted.shift).exp2();
+    let from = f64::from(from);
+    let to = f64::from(to);
+    let mut magnitudes = Heights {
+        least: f64::INFINITY,
+        greatest: 0.0,
+    };
+    for step in 0..2049u32 {
+        let part = f64::from(step) / 2048.0;
+        let frequency = from + (to - from) * part;
+        let magnitude = magnitude(taps, TAU * frequency / f64::from(wanted.rate)) / unit;
+        magnitudes = Heights {
+            least: magnitudes.least.min(magnitude),
+            greatest: magnitudes.greatest.max(magnitude),
+        };
+    }
+    magnitudes
+}
+
+/// What is told of taps.
+fn plain_told(alloc: Global, wanted: Wanted, taps: &[i32]) -> Result<String, Fail> {
+    let half = wanted.rate / 2;
+    let (passed, loudest) = match wanted.band {
+        Band::Low { pass, stop } => (
+            magnitudes(wanted, taps, 0, pass),
+            magnitudes(wanted, taps, stop, half).greatest,
+        ),
+        Band::High { stop, pass } => (
+            magnitudes(wanted, taps, pass, half),
+            magnitudes(wanted, taps, 0, stop).greatest,
+        ),
+        Band::Middle {
+            low_stop,
+            low_pass,
+            pass,
+            stop,
+        } => (
+            magnitudes(wanted, taps, low_pass, pass),
+            magnitudes(wanted, taps, 0, low_stop)
+                .greatest
+                .max(magnitudes(wanted, taps, stop, half).greatest),
+        ),
+    };
+    let ripple = decibels(passed.greatest)
+        .abs()
+        .max(decibels(passed.least).abs());
+    let ripple = saturating_f64_to_u64((ripple * 1e4).round());
+    let down = saturating_f64_to_u64((-decibels(loudest) * 10.0).round());
+    Ok(format!(in alloc;
+        "{} taps: {}.{:04} dB of ripple, what is stopped at least {}.{} dB down\n",
+        taps.len(),
+        ripple / 10_000,
+        ripple % 10_000,
+        down / 10,
+        down % 10
+    )?)
+}
+
+/// Adds a filter of whose taps something else is told.
+fn push_other(alloc: Global, text: &mut String, wanted: Wanted) -> Result<usize, Fail> {
+    let Ok(taps) = taps_of(alloc, wanted) else {
+        return Ok(0);
+    };
+    let plain = plain_told(alloc, wanted, &taps)?;
+    let told = filter_texts(alloc, wanted)?.told;
+    if plain.as_str() != told.as_str() {
+        writeln!(text, "{wanted:?}: {told}in place of {plain}")?;
+    }
+    Ok(taps.len())
+}
+
+/// How many taps there are of low-passes with few, and which of them are told something else of than is measured
+/// plainly.
+fn few(alloc: Global) -> Result<String, Fail> {
+    let mut text = String::new(alloc);
+    for attenuation in [0, 8, 12, 20] {
+        let band = Band::Low {
+            pass: 1000,
+            stop: 3000,
+        };
+        let wanted = Wanted {
+            rate: 8000,
+            band,
+            attenuation,
+            up: 1,
+            shift: 14,
+        };
+        let taps = push_other(alloc, &mut text, wanted)?;
+        write!(text, "{taps} ")?;
+    }
+    Ok(text)
+}
+
+/// How many filters of a seed there are, and of which of them something else is told than is measured plainly.
+fn made(alloc: Global, seed: u64) -> Result<String, Fail> {
+    let mut text = String::new(alloc);
+    let mut numbers = Numbers::new(seed);
+    let mut filters = 0u32;
+    for _ in 0..24 {
+        let wanted = numbers.wanted();
+        if push_other(alloc, &mut text, wanted)? > 0 {
+            filters = filters.saturating_add(1);
+        }
+    }
+    write!(text, "{filters} filters")?;
+    Ok(text)
+}
+
+/// Refuses a frequency that is passed over, and one that stands outside the band.
+#[test]
+fn levels_as_plainly(rt: HostRuntime) -> Result<(), Fail> {
+    says(few(rt.alloc()), "1 2 3 5 ")?;
+    says(made(rt.alloc(), 4), "18 filters")
+}

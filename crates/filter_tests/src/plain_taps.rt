@@ -1,0 +1,361 @@
+//! Taps against those that are worked out in the plainest way: each step looks at every place for the tap to move.
+
+use crate::made::Numbers;
+use sdf_filters::{Band, Wanted, taps_of};
+use std::alloc::Global;
+use std::f64::consts::{PI, TAU};
+use std::num::{nearest_usize_to_f64, saturating_f64_to_i32, saturating_f64_to_usize};
+use std::test::Fail;
+use test_texts::says;
+
+/// A low-pass with so many taps.
+#[derive(Clone, Copy)]
+struct Plain {
+    edge: f64,
+    attenuation: f64,
+    up: usize,
+    unit: i32,
+    count: usize,
+}
+
+/// Kaiser's formula for the window's parameter.
+fn shape(attenuation: f64) -> f64 {
+    if attenuation > 50.0 {
+        0.1102 * (attenuation - 8.7)
+    } else if attenuation > 21.0 {
+        0.5842 * (attenuation - 21.0).powf(0.4) + 0.07886 * (attenuation - 21.0)
+    } else {
+        0.0
+    }
+}
+
+/// The modified Bessel function of order 0.
+fn bessel(x: f64) -> f64 {
+    let mut total = 1.0;
+    let mut term = 1.0;
+    for k in 1u32..500 {
+        if term <= total * 1e-17 {
+            break;
+        }
+        let ratio = x / f64::from(2 * k);
+        term *= ratio * ratio;
+        total += term;
+    }
+    total
+}
+
+/// The sinc of a low-pass of unit height.
+fn sine_over(edge: f64, from_middle: f64) -> f64 {
+    if from_middle == 0.0 {
+        2.0 * edge
+    } else {
+        (TAU * edge * from_middle).sin() / (PI * from_middle)
+    }
+}
+
+/// How many taps a filter of one phase wants.
+fn kaiser_length(wanted: Wanted, pass: u32, stop: u32) -> usize {
+    let width = TAU * f64::from(stop.saturating_sub(pass)) / f64::from(wanted.rate);
+    let order = (f64::from(wanted.attenuation) - 7.95) / (2.285 * width);
+    saturating_f64_to_usize(order.ceil()).saturating_add(1)
+}
+
+/// A number of taps, made up to whole phases.
+fn whole(count: usize, up: usize) -> usize {
+    count.max(1).div_ceil(up.max(1)).saturating_mul(up)
+}
+
+/// Which tap a step moves, and how.
+#[derive(Clone, Copy)]
+struct Step {
+    phase: usize,
+    rise: bool,
+    bias: f64,
+}
+
+/// How much later than by its value the middle tap is moved.
+fn middle_bias(done: u64, times: u64, many: u64) -> f64 {
+    let last = times % many.max(1);
+    let left = times.saturating_sub(done);
+    if last % 2 == 1 && left == last {
+        -1.0
+    } else if last % 2 == 0 && left <= last {
+        1.0
+    } else {
+        0.0
+    }
+}
+
+impl Plain {
+    /// The low-pass of a filter between two frequencies.
+    fn new(wanted: Wanted, pass: u32, stop: u32, count: usize) -> Plain {
+        Plain {
+            edge: (f64::from(pass) + f64::from(stop)) / f64::from(wanted.rate) / 2.0,
+            attenuation: f64::from(wanted.attenuation),
+            up: wanted.up as usize,
+            unit: 1i32.wrapping_shl(wanted.shift),
+            count,
+        }
+    }
+
+    /// The value at a place.
+    fn at(self, place: usize) -> f64 {
+        let beta = shape(self.attenuation);
+        let middle = nearest_usize_to_f64(self.count.saturating_sub(1)) / 2.0;
+        let from_middle = nearest_usize_to_f64(place) - middle;
+        let part = if middle == 0.0 {
+            0.0
+        } else {
+            from_middle / middle
+        };
+        let inside = (1.0 - part * part).max(0.0).sqrt();
+        let window = bessel(beta * inside) / bessel(beta);
+        let up = nearest_usize_to_f64(self.up);
+        up * sine_over(self.edge, from_middle) * window * f64::from(self.unit)
+    }
+
+    /// The values at all places.
+    fn reals(self, alloc: Global) -> Result<Vec<f64>, Fail> {
+        let mut reals = Vec::new(alloc);
+        for place in 0..self.count {
+            let other = self.count.saturating_sub(1).saturating_sub(place);
+            reals.push(self.at(place.min(other)))?;
+        }
+        Ok(reals)
+    }
+
+    /// How late a tap is moved.
+    fn lateness(self, taps: &[i32], reals: &[f64], step: Step, place: usize) -> f64 {
+        let tap = taps.get(place).copied().unwrap_or(0);
+        let real = reals.get(place).copied().unwrap_or(0.0);
+        let over = f64::from(tap) - real;
+        let over = if step.rise { over } else { -over };
+        if place.saturating_mul(2).saturating_add(1) == self.count {
+            over + step.bias
+        } else {
+            over
+        }
+    }
+
+    /// Whether a tap is moved before another.
+    fn is_sooner(
+        self,
+        taps: &[i32],
+        reals: &[f64],
+        step: Step,
+        place: usize,
+        other: usize,
+    ) -> bool {
+        let here = self.lateness(taps, reals, step, place);
+        let there = self.lateness(taps, reals, step, other);
+        let last = self.count.saturating_sub(1);
+        let near = last.abs_diff(place.saturating_mul(2));
+        here < there || here == there && near < last.abs_diff(other.saturating_mul(2))
+    }
+
+    /// The place of the tap that a step moves.
+    fn next_place(self, taps: &[i32], reals: &[f64], step: Step) -> usize {
+        let mut best = step.phase;
+        for place in 0..self.count {
+            if place % self.up.max(1) == step.phase
+                && self.is_sooner(taps, reals, step, place, best)
+            {
+                best = place;
+            }
+        }
+        best
+    }
+
+    /// What the taps of a phase come to.
+    fn sum(self, taps: &[i32], phase: usize) -> i64 {
+        let mut sum = 0i64;
+        for (place, tap) in taps.iter().enumerate() {
+            if place % self.up.max(1) == phase {
+                sum = sum.wrapping_add(i64::from(*tap));
+            }
+        }
+        sum
+    }
+
+    /// Moves taps of a phase until they come to the unit.
+    fn settle_phase(self, taps: &mut [i32], reals: &[f64], phase: usize) {
+        let sum = self.sum(taps, phase);
+        let rise = sum < i64::from(self.unit);
+        let times = i64::from(self.unit).abs_diff(sum);
+        let many = (self.count / self.up.max(1)) as u64;
+        for done in 0..times {
+            let bias = middle_bias(done, times, many);
+            let place = self.next_place(taps, reals, Step { phase, rise, bias });
+            if let Some(tap) = taps.get_mut(place) {
+                *tap = tap.wrapping_add(if rise { 1 } else { -1 });
+            }
+        }
+    }
+
+    /// The taps, where each has 16 bits.
+    fn taps(self, alloc: Global) -> Result<Option<Vec<i32>>, Fail> {
+        let reals = self.reals(alloc)?;
+        let mut taps = Vec::new(alloc);
+        for real in &reals {
+            taps.push(saturating_f64_to_i32(real.round_ties_even()))?;
+        }
+        if taps.iter().any(|tap| i16::try_from(*tap).is_err()) {
+            return Ok(None);
+        }
+        for phase in 0..self.up {
+            self.settle_phase(&mut taps, &reals, phase);
+        }
+        if taps.iter().any(|tap| i16::try_from(*tap).is_err()) {
+            return Ok(None);
+        }
+        Ok(Some(taps))
+    }
+}
+
+/// The taps of a low-pass, where there are any: with one more in each phase where one has over 16 bits.
+fn low(alloc: Global, wanted: Wanted, pass: u32, stop: u32) -> Result<Option<Vec<i32>>, Fail> {
+    let up = wanted.up as usize;
+    let count = whole(kaiser_length(wanted, pass, stop), up);
+    if count > 1024 {
+        return Ok(None);
+    }
+    if let Some(taps) = Plain::new(wanted, pass, stop, count).taps(alloc)? {
+        return Ok(Some(taps));
+    }
+    let more = whole(count.saturating_add(1), up);
+    if more > 1024 {
+        return Ok(None);
+    }
+    Plain::new(wanted, pass, stop, more).taps(alloc)
+}
+
+/// The first taps less the second ones, where each has 16 bits.
+fn less(alloc: Global, from: &[i32], taps: &[i32]) -> Result<Option<Vec<i32>>, Fail> {
+    let mut left = Vec::new(alloc);
+    for (from, tap) in from.iter().zip(taps) {
+        let tap = from.wrapping_sub(*tap);
+        if i16::try_from(tap).is_err() {
+            return Ok(None);
+        }
+        left.push(tap)?;
+    }
+    Ok(Some(left))
+}
+
+/// The taps of a high-pass, where there are any.
+fn high(alloc: Global, wanted: Wanted, stop: u32, pass: u32) -> Result<Option<Vec<i32>>, Fail> {
+    let count = whole(kaiser_length(wanted, stop, pass), 1) | 1;
+    if count > 1024 {
+        return Ok(None);
+    }
+    let filter = Plain::new(wanted, stop, pass, count);
+    let Some(low) = filter.taps(alloc)? else {
+        return Ok(None);
+    };
+    let mut impulse = vec![in alloc; 0; count]?;
+    if let Some(middle) = impulse.get_mut(count / 2) {
+        *middle = filter.unit;
+    }
+    less(alloc, &impulse, &low)
+}
+
+/// The taps of a filter, where there are any.
+fn plain_taps(alloc: Global, wanted: Wanted) -> Result<Option<Vec<i32>>, Fail> {
+    match wanted.band {
+        Band::Low { pass, stop } => low(alloc, wanted, pass, stop),
+        Band::High { stop, pass } => high(alloc, wanted, stop, pass),
+        Band::Middle {
+            low_stop,
+            low_pass,
+            pass,
+            stop,
+        } => {
+            let up = wanted.up as usize;
+            let many = whole(kaiser_length(wanted, pass, stop), up);
+            let count = many.max(whole(kaiser_length(wanted, low_stop, low_pass), up));
+            if count > 1024 {
+                return Ok(None);
+            }
+            let wide = Plain::new(wanted, pass, stop, count).taps(alloc)?;
+            let narrow = Plain::new(wanted, low_stop, low_pass, count).taps(alloc)?;
+            match (wide, narrow) {
+                (Some(wide), Some(narrow)) => less(alloc, &wide, &narrow),
+                _ => Ok(None),
+            }
+        }
+    }
+}
+
+/// Adds a filter whose taps are others.
+fn push_other(alloc: Global, text: &mut String, wanted: Wanted) -> Result<usize, Fail> {
+    let plain = plain_taps(alloc, wanted)?;
+    let taps = taps_of(alloc, wanted).ok();
+    if plain != taps {
+        writeln!(text, "{wanted:?}")?;
+    }
+    Ok(plain.map_or(0, |taps| taps.len()))
+}
+
+/// The filters whose taps are others than those that are worked out plainly, and whether there were many taps.
+fn others(alloc: Global, seed: u64, filters: u32) -> Result<String, Fail> {
+    let mut text = String::new(alloc);
+    let mut numbers = Numbers::new(seed);
+    let mut taps = 0usize;
+    for _ in 0..filters {
+        let wanted = numbers.wanted();
+        taps = taps.saturating_add(push_other(alloc, &mut text, wanted)?);
+    }
+    if taps > 5000 {
+        text.push_str("many taps")?;
+    }
+    Ok(text)
+}
+
+/// Refuses another choice of the tap to move: one of two as late that stands further from the middle, a middle one that
+/// makes taps not symmetric, and rounds in which a tap is moved twice.
+#[test]
+fn taps_as_plainly(rt: HostRuntime) -> Result<(), Fail> {
+    says(others(rt.alloc(), 5, 60), "many taps")
+}
+
+/// Taps that stand far below the total, so that each is moved many times.
+#[test]
+fn many_steps_as_plainly(rt: HostRuntime) -> Result<(), Fail> {
+    let mut text = String::new(rt.alloc());
+    for (stop, up, shift) in [(500, 1, 15), (450, 1, 14), (900, 4, 12), (3000, 64, 9)] {
+        let wanted = Wanted {
+            rate: 480_000,
+            band: Band::Low { pass: 0, stop },
+            attenuation: 8,
+            up,
+            shift,
+        };
+        push_other(rt.alloc(), &mut text, wanted)?;
+    }
+    says(Ok(text), "")
+}
+
+/// Phases with a tap less and a tap more than are looked through at each step, and steps of which some are fewer and some
+/// more than that. Refuses a tree in which a tap does not meet all others.
+#[test]
+fn trees_as_plainly(rt: HostRuntime) -> Result<(), Fail> {
+    let mut text = String::new(rt.alloc());
+    let mut numbers = Numbers::new(6);
+    for width in [568, 562, 553, 545, 534, 250] {
+        for _ in 0..8 {
+            let pass = numbers.below(200_000);
+            let wanted = Wanted {
+                rate: 480_000,
+                band: Band::Low {
+                    pass,
+                    stop: pass.saturating_add(width),
+                },
+                attenuation: 9,
+                up: 1,
+                shift: 12,
+            };
+            push_other(rt.alloc(), &mut text, wanted)?;
+        }
+    }
+    says(Ok(text), "")
+}
