@@ -1,5 +1,5 @@
 -- A table by a placement that looks at no order, and what is compared of it, is one for all policies.
-use Rattle.std.proofs.Common.{◌≡◌, ◌≢◌, ℕ, List, length, slice_index, refl, sym, subst}
+use Rattle.std.proofs.Common.{◌≡◌, ◌≢◌, ℕ, List, slice_index, refl, sym, subst}
 use Rattle.std.specs.List.{All, Contains}
 use Rattle.sdf_graph.specs.Rates.{Rates, rates}
 use Rattle.sdf_graph.specs.Laws.{OneLeastPeriod}
@@ -22,7 +22,7 @@ use Rattle.sdf_analyze.specs.declared.columns.Outcome.TheVariants.{Made, Refused
 use Rattle.sdf_analyze.specs.declared.periods.Periods.{Periods}
 use Rattle.sdf_analyze.specs.Figures.{Figured, AreFigures}
 use Rattle.sdf_analyze.specs.Analyses.{IsFigured}
-use Rattle.sdf_analyze.specs.Comparisons.{IsMade, IsRefused, IsOutcome}
+use Rattle.sdf_analyze.specs.Comparisons.{IsOutcome}
 use Rattle.sdf_analyze.specs.Periods.{period_in, AreByPolicies}
 use Rattle.sdf_analyze.specs.Sharing.{ShareTable}
 

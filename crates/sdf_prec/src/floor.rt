@@ -1,6 +1,6 @@
 //! Who is at work while rows are made: counts of started firings, and when each actor and each column is through.
 
-ghost use Rattle.std.specs.Prelude.{◌≡◌, ℕ, ◌+◌, ◌<◌, ◌≤◌, ◌^◌, ◌⊎◌, length, slice_index, ◌↔◌, IsTrue, Some};
+ghost use Rattle.std.specs.Prelude.{◌≡◌, ℕ, ◌+◌, ◌<◌, ◌≤◌, ◌^◌, ◌⊎◌, length, slice_index, Some};
 ghost use Rattle.sdf_graph.specs.Rates.{rates, IsSound};
 ghost use Rattle.sdf_graph.specs.Sequences.{IsEnabled};
 ghost use Rattle.sdf_prec.specs.declared.firing.Firing.{Firing};

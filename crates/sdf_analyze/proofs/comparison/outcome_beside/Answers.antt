@@ -1,7 +1,3 @@
-use Rattle.std.proofs.Common.{subst, sym}
-use Rattle.sdf_actor.specs.Graphs.{graph_of}
-use Rattle.sdf_kit.specs.Kit.{kit_steps}
-use Rattle.sdf_plan.specs.Plans.{IsScheduleBy}
 use Rattle.sdf_analyze.proofs.Sharing.{by_policy, shared_outcome}
 use Rattle.sdf_analyze.proofs.comparison.outcome_beside.Goals as goal
 
