@@ -5,11 +5,11 @@ ghost use Rattle.std.specs.Prelude.{replicate, FitsSigned, ◌*ℤ◌, ◌+ℤ�
 ghost use Rattle.std.specs.Int.{w16};
 ghost use Rattle.std.specs.Simd.Lanes.{Each1};
 ghost use Rattle.sdf_kit.specs.Samples.{sample, settled};
-ghost use Rattle.sdf_kit.specs.Dots.{AreWithin, dot as dot_of, wrap};
+ghost use Rattle.sdf_kit.specs.Dots.{dot as dot_of, wrap};
 ghost use Rattle.sdf_kit.specs.Stretches.{AreStretches, AreVectors, IsBranch};
 ghost use Rattle.sdf_kit.specs.Window.{part_as, seen, output_of, AreFit};
 
-use crate::arithmetic::{settle, settle_small};
+use crate::arithmetic::{most, settle, settle_small};
 use crate::branches::Limits;
 use crate::dots::{FourDots, dot, dots};
 use crate::stretches::{Branch, wide_dot, wide_dots};
@@ -238,17 +238,6 @@ fn join(high: i32, low: i32, shift: u32) -> i32
     ensures { result ≡ settled ((pos 256 *ℤ high) +ℤ low) shift }
 {
     settle(256 * i64::from(high) + i64::from(low), shift)
-}
-
-/// The greatest absolute value.
-fn most(samples: &[i32]) -> u32
-    ensures { AreWithin result samples.now }
-{
-    let mut most = 0;
-    for sample in samples {
-        most = most.max(sample.unsigned_abs());
-    }
-    most
 }
 
 /// Whether none of samples of at most 32,768 is that.
