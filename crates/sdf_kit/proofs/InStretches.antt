@@ -11,7 +11,8 @@ use Rattle.std.proofs.lemmas.List.{take_all, drop-take, take-take, length-take-l
 use Rattle.sdf_kit.specs.Dots.{dot}
 use Rattle.sdf_kit.specs.Stretches.{weight, weight_of, IsStretch, IsReach, AreStretches, AreVectors, AreSeen}
 use Rattle.sdf_kit.proofs.Settling.{abs_add}
-use Rattle.sdf_kit.proofs.LaneSums.{abs_16, product_small}
+use Rattle.sdf_kit.proofs.LaneSums.{product_small}
+use Rattle.sdf_kit.proofs.Lanes.{abs_16}
 use Rattle.sdf_kit.proofs.LaneTotals.{dot_more}
 
 -- one pair more

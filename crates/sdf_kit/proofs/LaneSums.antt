@@ -8,12 +8,9 @@ use Rattle.std.proofs.Math.Nat.{le-max_left, le-max_right, mul-le-mul_left}
 use Rattle.std.specs.Simd.Lanes.{zip2, Each1}
 use Rattle.sdf_kit.specs.Dots.{wrap, neighbours, AreLanes, total, dot}
 use Rattle.sdf_kit.specs.Stretches.{weight, weight_of, IsStretch, AreLanesWithin, AreSums}
+use Rattle.sdf_kit.proofs.Lanes.{abs_16}
 use Rattle.sdf_kit.proofs.Settling.{abs_add}
 use Rattle.sdf_kit.proofs.LaneTotals.{IsDot, same_lanes, made, lanes_plus, dot_more, nothing, next, whole_dot}
-
-pub abs_16 : (a : ℤ) → FitsSigned w16 a → unsigned_abs a ≤ 32768
-abs_16 (pos n) f = omega (arith, f.sfits)
-abs_16 (negsuc n) f = omega (arith, f.sfits)
 
 pub product_small : (a b : ℤ) → FitsSigned w16 b → unsigned_abs (a *ℤ b) ≤ unsigned_abs a * 32768
 product_small a b f =

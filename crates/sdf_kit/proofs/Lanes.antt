@@ -115,7 +115,7 @@ wider = act1 (cast signed signed w32) (s_int w16) (s_int w32)
 abbrev times_lane : ℕ → ℕ → ℕ
 times_lane = act2 wrap_mul (s_int w32) (s_int w32) (s_int w32)
 
-abs_16 : (a : ℤ) → FitsSigned w16 a → unsigned_abs a ≤ 32768
+pub abs_16 : (a : ℤ) → FitsSigned w16 a → unsigned_abs a ≤ 32768
 abs_16 (pos n) f = omega (arith, f.sfits)
 abs_16 (negsuc n) f = omega (arith, f.sfits)
 

@@ -199,11 +199,7 @@ front_long {way} {high} {low} {x} {n} {limits} are view is =
     (λ e. ap length e ∙ length-take-le n low are.low_room) is
     ∙ (sym (length_held way high low n limits are) ∙ ap (λ (v : Held). length v.samples) view)
 
--- what is within a peak has parts within it
-pub whole_fit : (xs : List ℤ) (m peak : ℕ) → AreWithin m xs → m ≤ peak → peak ≤ 32767 → AreFit Whole xs
-whole_fit xs m peak w low few k l = let h : unsigned_abs (get_or xs k (pos 0)) ≤ m = w k l in
-    fits_signed_from_abs w16 (get_or xs k (pos 0)) (omega arith)
-
+-- the parts of what is within a peak are within it
 pub high_small : (x : ℤ) (peak : ℕ) → unsigned_abs x ≤ 255 * peak → unsigned_abs (part_as High x) ≤ peak
 high_small (pos n) peak h = omega (arith, h)
 high_small (negsuc n) peak h = omega (arith, h)
@@ -211,19 +207,6 @@ high_small (negsuc n) peak h = omega (arith, h)
 pub low_small : (x : ℤ) (peak : ℕ) → 255 ≤ peak → unsigned_abs (part_as Low x) ≤ peak
 low_small (pos n) peak h = omega (arith, ints)
 low_small (negsuc n) peak h = omega (arith, ints)
-
-pub high_fit : (xs : List ℤ) (m peak : ℕ) → AreWithin m xs → m ≤ 255 * peak → peak ≤ 32767 → AreFit High xs
-high_fit xs m peak w low few k l =
-    let h : unsigned_abs (get_or xs k (pos 0)) ≤ m = w k l in
-    let s : unsigned_abs (part_as High (get_or xs k (pos 0))) ≤ peak =
-    high_small (get_or xs k (pos 0)) peak (omega arith) in
-    fits_signed_from_abs w16 (part_as High (get_or xs k (pos 0))) (omega arith)
-
-pub low_fit : (xs : List ℤ) → AreFit Low xs
-low_fit xs k l =
-    let s : unsigned_abs (part_as Low (get_or xs k (pos 0))) ≤ 255 =
-    low_small (get_or xs k (pos 0)) 255 (omega arith) in
-    fits_signed_from_abs w16 (part_as Low (get_or xs k (pos 0))) (omega arith)
 
 mapped : (f : ℤ → ℤ) (xs : List ℤ) (k : ℕ) → k < length xs → get_or (map f xs) k (pos 0) ≡ f (get_or xs k (pos 0))
 mapped f [] k l = absurd (omega arith)

@@ -2,7 +2,8 @@ use Rattle.std.proofs.Common.{◌≡◌, ◌≤◌, ◌*ℤ◌, ◌∙◌, FitsS
 use Rattle.std.specs.Int.{w16}
 use Rattle.std.proofs.lemmas.Int.{fits_signed_mul, to_z-of_z}
 use Rattle.sdf_kit.specs.Samples.{settled}
-use Rattle.sdf_kit.proofs.LaneSums.{abs_16, product_small}
+use Rattle.sdf_kit.proofs.LaneSums.{product_small}
+use Rattle.sdf_kit.proofs.Lanes.{abs_16}
 use Rattle.sdf_kit.proofs.Settling.{fits_wider}
 use Rattle.sdf_kit.proofs.gain.scale_small.Goals as goal
 
