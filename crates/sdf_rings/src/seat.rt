@@ -61,7 +61,7 @@ fn becomes_ready<A: Actor, G: Gate>(
     is_ready(orders.net, orders.inputs, stand)
 }
 
-/// The next firings of the list that are one node's and known to be possible, in one piece of work where they go so.
+/// Fires the next firings of the list that are one node's and known to be possible, in one batch if there are several.
 fn fire_known<A: Actor, G: Gate>(
     orders: Orders<'_, A, G>,
     stand: &mut Stand<A>,
@@ -82,18 +82,20 @@ fn fire_known<A: Actor, G: Gate>(
     ensures same { (j : ℕ) → j < result → slice_index left.now next ≡ slice_index left.now (next + j) }
 {
     let most = (stand.asked - stand.done).min(MOST_AT_ONCE) as usize;
-    let known = in_one_run(orders.net, orders.inputs, stand, most);
-    let many = left.in_a_row(next, known);
-    if many > 1 {
-        fire_run(
-            orders.net,
-            orders.inputs,
-            stand,
-            orders.processor,
-            many,
-            orders.gate,
-        );
-        return many;
+    if left.in_a_row(next, most.min(2)) > 1 {
+        let known = in_one_run(orders.net, orders.inputs, stand, most);
+        let many = left.in_a_row(next, known);
+        if many > 1 {
+            fire_run(
+                orders.net,
+                orders.inputs,
+                stand,
+                orders.processor,
+                many,
+                orders.gate,
+            );
+            return many;
+        }
     }
     orders
         .gate
