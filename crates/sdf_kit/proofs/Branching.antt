@@ -1,6 +1,7 @@
 -- Tables of branches, and sums of absolute values.
 use Rattle.std.proofs.Common.{◌≡◌, ℕ, zero, suc, ◌+◌, ◌-◌, ◌*◌, ◌/◌, ◌%◌, ◌<◌, ◌≤◌, ℤ, pos, List, [], ◌∷◌, length, map}
-use Rattle.std.proofs.Common.{take, drop, get_or, unsigned_abs, Bool, true, FitsSigned, refl, sym, ap, subst, ◌∙◌, arith, ⊎_elim}
+use Rattle.std.proofs.Common.{take, drop, get_or, unsigned_abs, Bool, true, FitsSigned, refl, sym, ap, subst, ◌∙◌}
+use Rattle.std.proofs.Common.{arith, ⊎_elim}
 use Rattle.std.specs.Int.{w16}
 use Rattle.std.specs.List.{range_with_len}
 use Rattle.std.specs.Simd.Lanes.{Each1}
@@ -142,7 +143,8 @@ module _ (table : List ℤ) (stretches : List ℕ) (up width p : ℕ) (whole : w
     each = λ k h.
         let k_in : k < sixteens = omega (arith, lens_long) in
         let at : IsReach (get_or stretches (p * sixteens + k) 0)
-        (drop (16 * ((p * sixteens + k) % sixteens)) (take width (drop ((p * sixteens + k) / sixteens * width) table))) =
+        (drop (16 * ((p * sixteens + k) % sixteens))
+        (take width (drop ((p * sixteens + k) / sixteens * width) table))) =
         each (p * sixteens + k) (omega (arith, lens_fit)) in
         let column : (p * sixteens + k) % sixteens ≡ k = mod-mul-add p sixteens k k_in in
         let row_is : (p * sixteens + k) / sixteens ≡ p = div-mul-add p sixteens k k_in in
@@ -177,7 +179,8 @@ branches_are taps table stretches up width peak gain wide are fits is places eac
         peak = small;
         each = λ p l. record {
           vectors = record {
-            whole = ap (λ n. n % 16) (row_long table stretches up width p fits.lanes some room sixteens_room l) ∙ fits.lanes;
+            whole = ap (λ n. n % 16) (row_long table stretches up width p fits.lanes some room sixteens_room
+                l) ∙ fits.lanes;
             few = omega (arith, row_long table stretches up width p fits.lanes some room sixteens_room l, fits.few);
             short = subst (λ xs. Each1 (FitsSigned w16) xs) (sym (slice p l)) (branch_short taps up p width are);
           };

@@ -1,6 +1,7 @@
 -- Weights of taps, and dot products a stretch at a time.
 use Rattle.std.proofs.Common.{◌≡◌, ◌≤◌, ◌<◌, ℕ, zero, suc, ◌+◌, ◌-◌, ◌*◌, ◌/◌, ◌%◌, ◌^◌, ℤ, pos, ◌+ℤ◌, ◌*ℤ◌, List, []}
-use Rattle.std.proofs.Common.{◌∷◌, length, take, drop, get_or, w64, FitsSigned, unsigned_abs, max, refl, sym, ap, subst, ◌∙◌}
+use Rattle.std.proofs.Common.{◌∷◌, length, take, drop, get_or, w64, FitsSigned, unsigned_abs, max, refl, sym, ap, subst}
+use Rattle.std.proofs.Common.{◌∙◌}
 use Rattle.std.proofs.Common.{arith, nat_cmp}
 use Rattle.std.specs.Ordering.{ord_max}
 use Rattle.std.specs.Int.{w16}
@@ -17,7 +18,8 @@ use Rattle.sdf_kit.proofs.LaneTotals.{dot_more}
 
 -- one pair more
 pub weight_more : (xs : List ℤ) (i : ℕ) → 2 * i + 1 < length xs → weight (take (2 * (i + 1)) xs) ≡
-    max (weight (take (2 * i) xs)) (unsigned_abs (get_or xs (2 * i) (pos 0)) + unsigned_abs (get_or xs (2 * i + 1) (pos 0)))
+    max (weight (take (2 * i) xs)) (unsigned_abs (get_or xs (2 * i) (pos 0))
+    + unsigned_abs (get_or xs (2 * i + 1) (pos 0)))
 weight_more [] i l = absurd (omega arith)
 weight_more (x ∷ []) i l = absurd (omega arith)
 weight_more (x ∷ y ∷ xs) zero l = omega arith
@@ -89,9 +91,6 @@ module _ (h : List ℤ) (lens : List ℕ) (done : ℕ) (vectors : AreVectors h) 
       let front : weight_of n (take (done + 16 * n - done) (drop done h)) ≡ weight_of n (drop done h) =
       weight_of_front n (done + 16 * n - done) (drop done h) (omega arith) in
       subst (λ m. IsStretch m (piece h)) (sym long) (omega (arith, front, reaches.stretch))
-
-  pub piece_seen : (xs : List ℤ) → AreSeen h xs → length (piece xs) ≡ length (piece h)
-  piece_seen xs seen = piece_long xs seen.many ∙ sym (piece_long h refl)
 
   pub piece_short : (xs : List ℤ) → Each1 (FitsSigned w16) xs → Each1 (FitsSigned w16) (piece xs)
   piece_short xs f = Each1-chunk (FitsSigned w16) done (done + 16 * n - done) xs f

@@ -1,8 +1,11 @@
 -- Sums of lanes that do not wrap.
-use Rattle.std.proofs.Common.{◌≡◌, ◌≤◌, ℕ, zero, suc, ◌+◌, ◌*◌, ◌/◌, ℤ, pos, negsuc, ◌+ℤ◌, ◌*ℤ◌, ◌-ℤ◌, List, [], ◌∷◌, map, length}
-use Rattle.std.proofs.Common.{◌%◌, take, drop, of_z, to_z, w32, w64, FitsSigned, unsigned_abs, refl, sym, ap, subst, ◌∙◌, arith}
+use Rattle.std.proofs.Common.{◌≡◌, ◌≤◌, ℕ, zero, suc, ◌+◌, ◌*◌, ◌/◌, ℤ, pos, negsuc, ◌+ℤ◌, ◌*ℤ◌, ◌-ℤ◌, List, [], ◌∷◌}
+use Rattle.std.proofs.Common.{map, length}
+use Rattle.std.proofs.Common.{◌%◌, take, drop, of_z, to_z, w32, w64, FitsSigned, unsigned_abs, refl, sym, ap, subst}
+use Rattle.std.proofs.Common.{◌∙◌, arith}
 use Rattle.std.specs.Int.{w16, int_shr}
-use Rattle.std.proofs.lemmas.Int.{ints, int_wrap_fits, to_z-of_z, SFits-int_wrap, fits_signed_from_abs, unsigned_abs-mul}
+use Rattle.std.proofs.lemmas.Int.{ints, int_wrap_fits, to_z-of_z, SFits-int_wrap, fits_signed_from_abs}
+use Rattle.std.proofs.lemmas.Int.{unsigned_abs-mul}
 use Rattle.std.proofs.lemmas.List.{take_all}
 use Rattle.std.proofs.Math.Nat.{le-max_left, le-max_right, mul-le-mul_left}
 use Rattle.std.specs.Simd.Lanes.{zip2, Each1}
@@ -15,7 +18,8 @@ use Rattle.sdf_kit.proofs.LaneTotals.{IsDot, same_lanes, made, lanes_plus, dot_m
 pub product_small : (a b : ℤ) → FitsSigned w16 b → unsigned_abs (a *ℤ b) ≤ unsigned_abs a * 32768
 product_small a b f =
     let e : unsigned_abs (a *ℤ b) ≡ unsigned_abs a * unsigned_abs b = unsigned_abs-mul a b in
-    let low : unsigned_abs a * unsigned_abs b ≤ unsigned_abs a * 32768 = mul-le-mul_left (unsigned_abs a) (abs_16 b f) in
+    let low : unsigned_abs a * unsigned_abs b ≤ unsigned_abs a * 32768 =
+    mul-le-mul_left (unsigned_abs a) (abs_16 b f) in
     omega arith
 
 -- what `products` gives, where the taps are light
@@ -75,7 +79,8 @@ pub more_exact : (sums h x p r : List ℤ) (m : ℕ) → AreLanes w32 8 sums →
     AreLanesWithin (m + weight h * 32768) (map (to_z w32) (map (of_z w32) r))
     × (total (map (to_z w32) (map (of_z w32) r)) ≡ total sums +ℤ dot h x)
 more_exact sums h x p r m ls lh lx ep er within few =
-    let is : p ≡ neighbours (zip2 (λ a b. a *ℤ b) h x) = rw (same_lanes w16 h lh.fits, same_lanes w16 x lx.fits) at ep in
+    let is : p ≡ neighbours (zip2 (λ a b. a *ℤ b) h x) =
+    rw (same_lanes w16 h lh.fits, same_lanes w16 x lx.fits) at ep in
     let lp = (made h x p lh lx ep).0 in
     let sum : r ≡ zip2 (λ x y. wrap (x +ℤ y)) sums p =
     rw (same_lanes w32 sums ls.fits, same_lanes w32 p lp.fits) at er in
@@ -171,7 +176,8 @@ pub exact_next : (h x sums more : List ℤ) (k : ℕ) → IsExact h x k sums →
     IsExact h x (k + 1) more
 exact_next h x sums more k is on light =
     let one : suc k ≡ k + 1 = omega arith in
-    let heavier : weight_of k h + weight (take 16 (drop (16 * k) h)) ≡ weight_of (k + 1) h = ap (λ n. weight_of n h) one in
+    let heavier : weight_of k h + weight (take 16 (drop (16 * k) h)) ≡ weight_of (k + 1) h =
+    ap (λ n. weight_of n h) one in
     let before = is (omega (arith, heavier)) in
     let now = on (weight_of k h * 32768) before.0 (omega (arith, heavier)) in
     let place : 16 * k + 16 ≡ 16 * (k + 1) = omega arith in

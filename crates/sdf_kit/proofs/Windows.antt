@@ -154,13 +154,11 @@ module _ {way : Way} {high low : List ℤ} {n : ℕ} {limits : Limits} (are : Ar
       ∙ (quiet_value h high low n at limits (held_are Quiet e) branch_held.quiet (room_as Quiet e at room)).0)))
 
   -- where the samples x have 16 bits
-  pub stretches_held : way ≡ Wide → AreStretches h lens
-  stretches_held e = branch_held.wide (held_are Wide e).within.0
-
   pub wide_small : (x : List ℤ) → Each1 (FitsSigned w16) x → (at : ℕ) →
       unsigned_abs (dot h (seen h x at)) ≤ 2 ^ 56
   wide_small x short at =
-      let small = dot_small h (seen h x at) branch_held.vectors.short (Each1-chunk (FitsSigned w16) at (length h) x short) in
+      let small = dot_small h (seen h x at) branch_held.vectors.short
+      (Each1-chunk (FitsSigned w16) at (length h) x short) in
       omega (arith, branch_held.vectors.few)
 
   pub wide_sent : (x : List ℤ) → Each1 (FitsSigned w16) x → (at : ℕ) → {a : ℤ} → a ≡ dot h (seen h x at) →

@@ -104,7 +104,7 @@ fn tap_at(taps: &[i32], at: usize) -> i16
     if at < taps.len() { taps[at] as i16 } else { 0 }
 }
 
-/// How far the stretch from each sixteen on reaches within its branch.
+/// How far the stretch from each sixteen on reaches within its branch, or one sixteen at most if none begins there.
 fn stretches_of(table: &[i16], up: u32, width: usize) -> [u8; SIXTEENS]
     requires up { up ≤ 64 }
     requires whole { width % 16 ≡ 0 }
@@ -118,12 +118,30 @@ fn stretches_of(table: &[i16], up: u32, width: usize) -> [u8; SIXTEENS]
 {
     let mut stretches = [0; SIXTEENS];
     let sixteens = width / 16;
+    let mut next = 0;
     for k in 0..up as usize * sixteens {
         let start = k / sixteens * width;
         let branch = &table[start..start + width];
-        stretches[k] = reach(&branch[16 * (k % sixteens)..]);
+        let reached = reach_from(&branch[16 * (k % sixteens)..], k == next);
+        next = next.max(k + usize::from(reached.max(1)));
+        stretches[k] = reached;
     }
     stretches
+}
+
+/// Returns how many sixteens the stretch from the first tap on has. It looks past the first sixteen only if a stretch
+/// of the branch `begins` there, so that each sixteen is looked at a fixed number of times.
+fn reach_from(taps: &[i16], begins: bool) -> u8
+    requires whole { length taps.now % 16 ≡ 0 }
+    requires few { length taps.now ≤ 1024 }
+    requires some { 16 ≤ length taps.now }
+    ensures { IsReach result taps.now }
+{
+    if begins {
+        reach(taps)
+    } else {
+        reach(&taps[..16])
+    }
 }
 
 /// Whether none is 0.

@@ -30,7 +30,8 @@ fours-preserved c =
     c.args.first + (c.fours.done + 3) * c.args.firings.down = further c.args.first c.fours.done 3 c.args.firings.down in
     record {
       put = fours_more (λ i. settled (dot c.args.branch.taps.now
-          (take (length c.args.branch.taps.now) (drop (c.args.first + i * c.args.firings.down) c.args.window.now.samples)))
+          (take (length c.args.branch.taps.now) (drop (c.args.first + i * c.args.firings.down)
+          c.args.window.now.samples)))
           c.args.firings.shift) c.args.firings.up c.args.at c.args.put.now c.fours.put c.put_four.new.put c.fours.done
           (c.args.at + c.fours.done * c.args.firings.up)
           (settled (dot c.args.branch.taps.now (take (length c.args.branch.taps.now)
@@ -63,7 +64,8 @@ ones-preserved c =
     let fits : FitsSigned w32 c.one-sum.result = record { sfits = c.one-sum.type_inv } in
     record {
       put = put_more (λ i. settled (dot c.args.branch.taps.now
-          (take (length c.args.branch.taps.now) (drop (c.args.first + i * c.args.firings.down) c.args.window.now.samples)))
+          (take (length c.args.branch.taps.now) (drop (c.args.first + i * c.args.firings.down)
+          c.args.window.now.samples)))
           c.args.firings.shift) c.args.firings.up c.args.at c.args.put.now c.ones.put c.ones.done
           (c.args.at + c.ones.done * c.args.firings.up) (to_z w32 (of_z w32 c.one-sum.result))
           c.ones.invariant.put c.requires.at refl (omega (arith, fit, c.ones.invariant.put.len, c.requires.put))

@@ -5,7 +5,8 @@ use Rattle.sdf_kit.proofs.stretches.wide_dot.Goals as goal
 
 pub stretch_dot-sum-requires-clause-stretch : goal.stretch_dot-sum-requires-clause-stretch
 stretch_dot-sum-requires-clause-stretch c =
-    piece_stretch c.args.branch.taps.now c.args.branch.stretches.now c.stretches.done c.requires.taps c.requires.stretches
+    piece_stretch c.args.branch.taps.now c.args.branch.stretches.now c.stretches.done c.requires.taps
+    c.requires.stretches
     c.stretches.invariant.whole c.stretches-test.true c.from.result c.from.ensures
 
 pub overflow_add-sum : goal.overflow_add-sum
@@ -19,15 +20,19 @@ pub stretches-preserved : goal.stretches-preserved
 stretches-preserved c =
     let fits : FitsSigned w64 c.stretch_dot-sum.result = record { sfits = c.stretch_dot-sum.type_inv } in
     let here = to_z-of_z w64 c.stretch_dot-sum.result fits ∙ c.stretch_dot-sum.ensures in
-    let sum_fits = piece_added c.args.branch.taps.now c.args.branch.stretches.now c.stretches.done c.requires.taps c.requires.stretches
+    let sum_fits = piece_added c.args.branch.taps.now c.args.branch.stretches.now c.stretches.done c.requires.taps
+    c.requires.stretches
     c.stretches.invariant.whole c.stretches-test.true c.from.result c.from.ensures c.args.x.now c.requires.x
     c.stretches.invariant.sum here in
     record {
-      within = within_taps c.args.branch.taps.now c.args.branch.stretches.now c.stretches.done c.requires.taps c.requires.stretches
+      within = within_taps c.args.branch.taps.now c.args.branch.stretches.now c.stretches.done c.requires.taps
+          c.requires.stretches
           c.stretches.invariant.whole c.stretches-test.true c.from.result c.from.ensures;
       whole = omega (arith, c.stretches.invariant.whole);
-      sum = to_z-of_z w64 _ sum_fits ∙ piece_more c.args.branch.taps.now c.args.branch.stretches.now c.stretches.done c.requires.taps c.requires.stretches
-          c.stretches.invariant.whole c.stretches-test.true c.from.result c.from.ensures c.args.x.now refl c.stretches.invariant.sum here;
+      sum = to_z-of_z w64 _ sum_fits ∙ piece_more c.args.branch.taps.now c.args.branch.stretches.now c.stretches.done
+          c.requires.taps c.requires.stretches
+          c.stretches.invariant.whole c.stretches-test.true c.from.result c.from.ensures c.args.x.now refl
+          c.stretches.invariant.sum here;
     }
 
 pub returns : goal.returns

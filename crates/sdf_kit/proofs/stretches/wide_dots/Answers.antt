@@ -5,56 +5,70 @@ use Rattle.sdf_kit.proofs.stretches.wide_dots.Goals as goal
 
 pub stretch_dots-more-requires-clause-stretch : goal.stretch_dots-more-requires-clause-stretch
 stretch_dots-more-requires-clause-stretch c =
-    piece_stretch c.args.branch.taps.now c.args.branch.stretches.now c.stretches.done c.requires.taps c.requires.stretches
+    piece_stretch c.args.branch.taps.now c.args.branch.stretches.now c.stretches.done c.requires.taps
+    c.requires.stretches
     c.stretches.invariant.whole c.stretches-test.true c.from.result c.from.ensures
 
 pub plus-sums-requires-clause-sums : goal.plus-sums-requires-clause-sums
 plus-sums-requires-clause-sums c = record {
   a = subst (λ z. unsigned_abs z ≤ 2 ^ 50) (sym c.stretches.invariant.a)
-      (front_small c.args.branch.taps.now c.args.branch.stretches.now c.stretches.done c.requires.taps c.requires.stretches
+      (front_small c.args.branch.taps.now c.args.branch.stretches.now c.stretches.done c.requires.taps
+      c.requires.stretches
       c.stretches.invariant.whole c.stretches-test.true c.from.result c.from.ensures c.args.x.now c.requires.x);
   b = subst (λ z. unsigned_abs z ≤ 2 ^ 50) (sym c.stretches.invariant.b)
-      (front_small c.args.branch.taps.now c.args.branch.stretches.now c.stretches.done c.requires.taps c.requires.stretches
+      (front_small c.args.branch.taps.now c.args.branch.stretches.now c.stretches.done c.requires.taps
+      c.requires.stretches
       c.stretches.invariant.whole c.stretches-test.true c.from.result c.from.ensures c.args.y.now c.requires.y);
   c = subst (λ z. unsigned_abs z ≤ 2 ^ 50) (sym c.stretches.invariant.c)
-      (front_small c.args.branch.taps.now c.args.branch.stretches.now c.stretches.done c.requires.taps c.requires.stretches
+      (front_small c.args.branch.taps.now c.args.branch.stretches.now c.stretches.done c.requires.taps
+      c.requires.stretches
       c.stretches.invariant.whole c.stretches-test.true c.from.result c.from.ensures c.args.z.now c.requires.z);
   d = subst (λ z. unsigned_abs z ≤ 2 ^ 50) (sym c.stretches.invariant.d)
-      (front_small c.args.branch.taps.now c.args.branch.stretches.now c.stretches.done c.requires.taps c.requires.stretches
+      (front_small c.args.branch.taps.now c.args.branch.stretches.now c.stretches.done c.requires.taps
+      c.requires.stretches
       c.stretches.invariant.whole c.stretches-test.true c.from.result c.from.ensures c.args.w.now c.requires.w);
 }
 
 pub plus-sums-requires-clause-more : goal.plus-sums-requires-clause-more
 plus-sums-requires-clause-more c = record {
   a = subst (λ z. unsigned_abs z ≤ 2 ^ 50) (sym c.stretch_dots-more.ensures.a)
-      (piece_small c.args.branch.taps.now c.args.branch.stretches.now c.stretches.done c.requires.taps c.requires.stretches
+      (piece_small c.args.branch.taps.now c.args.branch.stretches.now c.stretches.done c.requires.taps
+      c.requires.stretches
       c.stretches.invariant.whole c.stretches-test.true c.from.result c.from.ensures c.args.x.now c.requires.x);
   b = subst (λ z. unsigned_abs z ≤ 2 ^ 50) (sym c.stretch_dots-more.ensures.b)
-      (piece_small c.args.branch.taps.now c.args.branch.stretches.now c.stretches.done c.requires.taps c.requires.stretches
+      (piece_small c.args.branch.taps.now c.args.branch.stretches.now c.stretches.done c.requires.taps
+      c.requires.stretches
       c.stretches.invariant.whole c.stretches-test.true c.from.result c.from.ensures c.args.y.now c.requires.y);
   c = subst (λ z. unsigned_abs z ≤ 2 ^ 50) (sym c.stretch_dots-more.ensures.c)
-      (piece_small c.args.branch.taps.now c.args.branch.stretches.now c.stretches.done c.requires.taps c.requires.stretches
+      (piece_small c.args.branch.taps.now c.args.branch.stretches.now c.stretches.done c.requires.taps
+      c.requires.stretches
       c.stretches.invariant.whole c.stretches-test.true c.from.result c.from.ensures c.args.z.now c.requires.z);
   d = subst (λ z. unsigned_abs z ≤ 2 ^ 50) (sym c.stretch_dots-more.ensures.d)
-      (piece_small c.args.branch.taps.now c.args.branch.stretches.now c.stretches.done c.requires.taps c.requires.stretches
+      (piece_small c.args.branch.taps.now c.args.branch.stretches.now c.stretches.done c.requires.taps
+      c.requires.stretches
       c.stretches.invariant.whole c.stretches-test.true c.from.result c.from.ensures c.args.w.now c.requires.w);
 }
 
 pub stretches-preserved : goal.stretches-preserved
 stretches-preserved c = record {
-  within = within_taps c.args.branch.taps.now c.args.branch.stretches.now c.stretches.done c.requires.taps c.requires.stretches
+  within = within_taps c.args.branch.taps.now c.args.branch.stretches.now c.stretches.done c.requires.taps
+      c.requires.stretches
       c.stretches.invariant.whole c.stretches-test.true c.from.result c.from.ensures;
   whole = omega (arith, c.stretches.invariant.whole);
-  a = piece_more c.args.branch.taps.now c.args.branch.stretches.now c.stretches.done c.requires.taps c.requires.stretches
+  a = piece_more c.args.branch.taps.now c.args.branch.stretches.now c.stretches.done c.requires.taps
+      c.requires.stretches
       c.stretches.invariant.whole c.stretches-test.true c.from.result c.from.ensures c.args.x.now
       c.plus-sums.ensures.a c.stretches.invariant.a c.stretch_dots-more.ensures.a;
-  b = piece_more c.args.branch.taps.now c.args.branch.stretches.now c.stretches.done c.requires.taps c.requires.stretches
+  b = piece_more c.args.branch.taps.now c.args.branch.stretches.now c.stretches.done c.requires.taps
+      c.requires.stretches
       c.stretches.invariant.whole c.stretches-test.true c.from.result c.from.ensures c.args.y.now
       c.plus-sums.ensures.b c.stretches.invariant.b c.stretch_dots-more.ensures.b;
-  c = piece_more c.args.branch.taps.now c.args.branch.stretches.now c.stretches.done c.requires.taps c.requires.stretches
+  c = piece_more c.args.branch.taps.now c.args.branch.stretches.now c.stretches.done c.requires.taps
+      c.requires.stretches
       c.stretches.invariant.whole c.stretches-test.true c.from.result c.from.ensures c.args.z.now
       c.plus-sums.ensures.c c.stretches.invariant.c c.stretch_dots-more.ensures.c;
-  d = piece_more c.args.branch.taps.now c.args.branch.stretches.now c.stretches.done c.requires.taps c.requires.stretches
+  d = piece_more c.args.branch.taps.now c.args.branch.stretches.now c.stretches.done c.requires.taps
+      c.requires.stretches
       c.stretches.invariant.whole c.stretches-test.true c.from.result c.from.ensures c.args.w.now
       c.plus-sums.ensures.d c.stretches.invariant.d c.stretch_dots-more.ensures.d;
 }

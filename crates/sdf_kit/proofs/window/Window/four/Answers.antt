@@ -32,31 +32,36 @@ four_dots-b-requires-clause-room c =
 
 pub settle_small-requires-clause-small : goal.settle_small-requires-clause-small
 settle_small-requires-clause-small c =
-    quiet_small c.self.invariant c.self.view_is c.requires.branch c.in-Quiet.is c.front-high.ensures (get_or c.four_dots-a.result 0 (pos 0))
+    quiet_small c.self.invariant c.self.view_is c.requires.branch c.in-Quiet.is c.front-high.ensures
+    (get_or c.four_dots-a.result 0 (pos 0))
     c.args.at (omega (arith, c.requires.room))
     (read c.four_dots-a.result 0 _ (ap (λ xs. get_or xs 0 (pos 0)) c.four_dots-a.ensures))
 
 pub settle_small-requires-in-Quiet-clause-small : goal.settle_small-requires-in-Quiet-clause-small
 settle_small-requires-in-Quiet-clause-small c =
-    quiet_small c.self.invariant c.self.view_is c.requires.branch c.in-Quiet.is c.front-high.ensures (get_or c.four_dots-a.result 1 (pos 0))
+    quiet_small c.self.invariant c.self.view_is c.requires.branch c.in-Quiet.is c.front-high.ensures
+    (get_or c.four_dots-a.result 1 (pos 0))
     (c.args.at + c.args.step) (omega (arith, c.requires.room))
     (read c.four_dots-a.result 1 _ (ap (λ xs. get_or xs 1 (pos 0)) c.four_dots-a.ensures))
 
 pub settle_small-requires-in-Quiet-2-clause-small : goal.settle_small-requires-in-Quiet-2-clause-small
 settle_small-requires-in-Quiet-2-clause-small c =
-    quiet_small c.self.invariant c.self.view_is c.requires.branch c.in-Quiet.is c.front-high.ensures (get_or c.four_dots-a.result 2 (pos 0))
+    quiet_small c.self.invariant c.self.view_is c.requires.branch c.in-Quiet.is c.front-high.ensures
+    (get_or c.four_dots-a.result 2 (pos 0))
     (c.args.at + 2 * c.args.step) (omega (arith, c.requires.room))
     (read c.four_dots-a.result 2 _ (ap (λ xs. get_or xs 2 (pos 0)) c.four_dots-a.ensures))
 
 pub settle_small-requires-in-Quiet-3-clause-small : goal.settle_small-requires-in-Quiet-3-clause-small
 settle_small-requires-in-Quiet-3-clause-small c =
-    quiet_small c.self.invariant c.self.view_is c.requires.branch c.in-Quiet.is c.front-high.ensures (get_or c.four_dots-a.result 3 (pos 0))
+    quiet_small c.self.invariant c.self.view_is c.requires.branch c.in-Quiet.is c.front-high.ensures
+    (get_or c.four_dots-a.result 3 (pos 0))
     (c.args.at + 3 * c.args.step) (omega (arith, c.requires.room))
     (read c.four_dots-a.result 3 _ (ap (λ xs. get_or xs 3 (pos 0)) c.four_dots-a.ensures))
 
 pub settle-requires-clause-small : goal.settle-requires-clause-small
 settle-requires-clause-small c =
-    let short : Each1 (FitsSigned w16) c.front-high.result.now = subst (λ xs. Each1 (FitsSigned w16) xs) (sym c.front-high.ensures)
+    let short : Each1 (FitsSigned w16) c.front-high.result.now =
+    subst (λ xs. Each1 (FitsSigned w16) xs) (sym c.front-high.ensures)
     (high_short c.self.inside.way c.self.inside.high c.self.inside.low c.self.inside.len c.self.inside.limits
     c.self.invariant) in
     subst (λ z. unsigned_abs z ≤ 2 ^ 56)
@@ -66,33 +71,42 @@ settle-requires-clause-small c =
 
 pub settle-requires-in-Wide-clause-small : goal.settle-requires-in-Wide-clause-small
 settle-requires-in-Wide-clause-small c =
-    let short : Each1 (FitsSigned w16) c.front-high.result.now = subst (λ xs. Each1 (FitsSigned w16) xs) (sym c.front-high.ensures)
+    let short : Each1 (FitsSigned w16) c.front-high.result.now =
+    subst (λ xs. Each1 (FitsSigned w16) xs) (sym c.front-high.ensures)
     (high_short c.self.inside.way c.self.inside.high c.self.inside.low c.self.inside.len c.self.inside.limits
     c.self.invariant) in
     subst (λ z. unsigned_abs z ≤ 2 ^ 56)
-    (sym (wide_sent c.self.invariant c.self.view_is c.requires.branch c.front-high.result.now short (c.args.at + c.args.step)
+    (sym (wide_sent c.self.invariant c.self.view_is c.requires.branch c.front-high.result.now short
+    (c.args.at + c.args.step)
     c.four_wide_dots-sums.ensures.b))
-    (wide_small c.self.invariant c.self.view_is c.requires.branch c.front-high.result.now short (c.args.at + c.args.step))
+    (wide_small c.self.invariant c.self.view_is c.requires.branch c.front-high.result.now short
+    (c.args.at + c.args.step))
 
 pub settle-requires-in-Wide-2-clause-small : goal.settle-requires-in-Wide-2-clause-small
 settle-requires-in-Wide-2-clause-small c =
-    let short : Each1 (FitsSigned w16) c.front-high.result.now = subst (λ xs. Each1 (FitsSigned w16) xs) (sym c.front-high.ensures)
+    let short : Each1 (FitsSigned w16) c.front-high.result.now =
+    subst (λ xs. Each1 (FitsSigned w16) xs) (sym c.front-high.ensures)
     (high_short c.self.inside.way c.self.inside.high c.self.inside.low c.self.inside.len c.self.inside.limits
     c.self.invariant) in
     subst (λ z. unsigned_abs z ≤ 2 ^ 56)
-    (sym (wide_sent c.self.invariant c.self.view_is c.requires.branch c.front-high.result.now short (c.args.at + 2 * c.args.step)
+    (sym (wide_sent c.self.invariant c.self.view_is c.requires.branch c.front-high.result.now short
+    (c.args.at + 2 * c.args.step)
     c.four_wide_dots-sums.ensures.c))
-    (wide_small c.self.invariant c.self.view_is c.requires.branch c.front-high.result.now short (c.args.at + 2 * c.args.step))
+    (wide_small c.self.invariant c.self.view_is c.requires.branch c.front-high.result.now short
+    (c.args.at + 2 * c.args.step))
 
 pub settle-requires-in-Wide-3-clause-small : goal.settle-requires-in-Wide-3-clause-small
 settle-requires-in-Wide-3-clause-small c =
-    let short : Each1 (FitsSigned w16) c.front-high.result.now = subst (λ xs. Each1 (FitsSigned w16) xs) (sym c.front-high.ensures)
+    let short : Each1 (FitsSigned w16) c.front-high.result.now =
+    subst (λ xs. Each1 (FitsSigned w16) xs) (sym c.front-high.ensures)
     (high_short c.self.inside.way c.self.inside.high c.self.inside.low c.self.inside.len c.self.inside.limits
     c.self.invariant) in
     subst (λ z. unsigned_abs z ≤ 2 ^ 56)
-    (sym (wide_sent c.self.invariant c.self.view_is c.requires.branch c.front-high.result.now short (c.args.at + 3 * c.args.step)
+    (sym (wide_sent c.self.invariant c.self.view_is c.requires.branch c.front-high.result.now short
+    (c.args.at + 3 * c.args.step)
     c.four_wide_dots-sums.ensures.d))
-    (wide_small c.self.invariant c.self.view_is c.requires.branch c.front-high.result.now short (c.args.at + 3 * c.args.step))
+    (wide_small c.self.invariant c.self.view_is c.requires.branch c.front-high.result.now short
+    (c.args.at + 3 * c.args.step))
 
 pub returns-in-Quiet : goal.returns-in-Quiet
 returns-in-Quiet c =
@@ -116,45 +130,59 @@ returns-in-Quiet c =
 
 pub returns-in-Wide : goal.returns-in-Wide
 returns-in-Wide c =
-    let short : Each1 (FitsSigned w16) c.front-high.result.now = subst (λ xs. Each1 (FitsSigned w16) xs) (sym c.front-high.ensures)
+    let short : Each1 (FitsSigned w16) c.front-high.result.now =
+    subst (λ xs. Each1 (FitsSigned w16) xs) (sym c.front-high.ensures)
     (high_short c.self.inside.way c.self.inside.high c.self.inside.low c.self.inside.len c.self.inside.limits
     c.self.invariant) in
-    let r0 = wide_output c.self.invariant c.self.view_is c.requires.branch c.in-Wide.is c.front-high.ensures _ c.args.at c.args.shift
+    let r0 = wide_output c.self.invariant c.self.view_is c.requires.branch c.in-Wide.is c.front-high.ensures
+    _ c.args.at c.args.shift
     (wide_sent c.self.invariant c.self.view_is c.requires.branch c.front-high.result.now short c.args.at
     c.four_wide_dots-sums.ensures.a) c.settle.ensures (record { sfits = c.settle.type_inv }) in
-    let r1 = wide_output c.self.invariant c.self.view_is c.requires.branch c.in-Wide.is c.front-high.ensures _ (c.args.at + c.args.step) c.args.shift
+    let r1 = wide_output c.self.invariant c.self.view_is c.requires.branch c.in-Wide.is c.front-high.ensures
+    _ (c.args.at + c.args.step) c.args.shift
     (wide_sent c.self.invariant c.self.view_is c.requires.branch c.front-high.result.now short (c.args.at + c.args.step)
     c.four_wide_dots-sums.ensures.b) c.settle-in-Wide.ensures (record { sfits = c.settle-in-Wide.type_inv }) in
-    let r2 = wide_output c.self.invariant c.self.view_is c.requires.branch c.in-Wide.is c.front-high.ensures _ (c.args.at + 2 * c.args.step) c.args.shift
-    (wide_sent c.self.invariant c.self.view_is c.requires.branch c.front-high.result.now short (c.args.at + 2 * c.args.step)
+    let r2 = wide_output c.self.invariant c.self.view_is c.requires.branch c.in-Wide.is c.front-high.ensures
+    _ (c.args.at + 2 * c.args.step) c.args.shift
+    (wide_sent c.self.invariant c.self.view_is c.requires.branch c.front-high.result.now short
+    (c.args.at + 2 * c.args.step)
     c.four_wide_dots-sums.ensures.c) c.settle-in-Wide-2.ensures (record { sfits = c.settle-in-Wide-2.type_inv }) in
-    let r3 = wide_output c.self.invariant c.self.view_is c.requires.branch c.in-Wide.is c.front-high.ensures _ (c.args.at + 3 * c.args.step) c.args.shift
-    (wide_sent c.self.invariant c.self.view_is c.requires.branch c.front-high.result.now short (c.args.at + 3 * c.args.step)
+    let r3 = wide_output c.self.invariant c.self.view_is c.requires.branch c.in-Wide.is c.front-high.ensures
+    _ (c.args.at + 3 * c.args.step) c.args.shift
+    (wide_sent c.self.invariant c.self.view_is c.requires.branch c.front-high.result.now short
+    (c.args.at + 3 * c.args.step)
     c.four_wide_dots-sums.ensures.d) c.settle-in-Wide-3.ensures (record { sfits = c.settle-in-Wide-3.type_inv }) in
     rw (r0, r1, r2, r3) refl
 
 pub returns-in-Split : goal.returns-in-Split
 returns-in-Split c =
-    let r0 = split_output c.self.invariant c.self.view_is c.requires.branch c.in-Split.is c.front-high.ensures c.front.ensures
+    let r0 = split_output c.self.invariant c.self.view_is c.requires.branch c.in-Split.is c.front-high.ensures
+    c.front.ensures
     (get_or c.four_dots-a-in-Split.result 0 (pos 0)) (get_or c.four_dots-b.result 0 (pos 0)) c.args.at c.args.shift
     (omega (arith, c.requires.room))
     (read c.four_dots-a-in-Split.result 0 _ (ap (λ xs. get_or xs 0 (pos 0)) c.four_dots-a-in-Split.ensures))
     (read c.four_dots-b.result 0 _ (ap (λ xs. get_or xs 0 (pos 0)) c.four_dots-b.ensures))
     c.join.ensures (record { sfits = c.join.type_inv }) in
-    let r1 = split_output c.self.invariant c.self.view_is c.requires.branch c.in-Split.is c.front-high.ensures c.front.ensures
-    (get_or c.four_dots-a-in-Split.result 1 (pos 0)) (get_or c.four_dots-b.result 1 (pos 0)) (c.args.at + c.args.step) c.args.shift
+    let r1 = split_output c.self.invariant c.self.view_is c.requires.branch c.in-Split.is c.front-high.ensures
+    c.front.ensures
+    (get_or c.four_dots-a-in-Split.result 1 (pos 0)) (get_or c.four_dots-b.result 1 (pos 0))
+    (c.args.at + c.args.step) c.args.shift
     (omega (arith, c.requires.room))
     (read c.four_dots-a-in-Split.result 1 _ (ap (λ xs. get_or xs 1 (pos 0)) c.four_dots-a-in-Split.ensures))
     (read c.four_dots-b.result 1 _ (ap (λ xs. get_or xs 1 (pos 0)) c.four_dots-b.ensures))
     c.join-in-Split.ensures (record { sfits = c.join-in-Split.type_inv }) in
-    let r2 = split_output c.self.invariant c.self.view_is c.requires.branch c.in-Split.is c.front-high.ensures c.front.ensures
-    (get_or c.four_dots-a-in-Split.result 2 (pos 0)) (get_or c.four_dots-b.result 2 (pos 0)) (c.args.at + 2 * c.args.step) c.args.shift
+    let r2 = split_output c.self.invariant c.self.view_is c.requires.branch c.in-Split.is c.front-high.ensures
+    c.front.ensures
+    (get_or c.four_dots-a-in-Split.result 2 (pos 0)) (get_or c.four_dots-b.result 2 (pos 0))
+    (c.args.at + 2 * c.args.step) c.args.shift
     (omega (arith, c.requires.room))
     (read c.four_dots-a-in-Split.result 2 _ (ap (λ xs. get_or xs 2 (pos 0)) c.four_dots-a-in-Split.ensures))
     (read c.four_dots-b.result 2 _ (ap (λ xs. get_or xs 2 (pos 0)) c.four_dots-b.ensures))
     c.join-in-Split-2.ensures (record { sfits = c.join-in-Split-2.type_inv }) in
-    let r3 = split_output c.self.invariant c.self.view_is c.requires.branch c.in-Split.is c.front-high.ensures c.front.ensures
-    (get_or c.four_dots-a-in-Split.result 3 (pos 0)) (get_or c.four_dots-b.result 3 (pos 0)) (c.args.at + 3 * c.args.step) c.args.shift
+    let r3 = split_output c.self.invariant c.self.view_is c.requires.branch c.in-Split.is c.front-high.ensures
+    c.front.ensures
+    (get_or c.four_dots-a-in-Split.result 3 (pos 0)) (get_or c.four_dots-b.result 3 (pos 0))
+    (c.args.at + 3 * c.args.step) c.args.shift
     (omega (arith, c.requires.room))
     (read c.four_dots-a-in-Split.result 3 _ (ap (λ xs. get_or xs 3 (pos 0)) c.four_dots-a-in-Split.ensures))
     (read c.four_dots-b.result 3 _ (ap (λ xs. get_or xs 3 (pos 0)) c.four_dots-b.ensures))

@@ -33,7 +33,8 @@ one_dot-b-requires-clause-room c =
 
 pub settle_small-requires-clause-small : goal.settle_small-requires-clause-small
 settle_small-requires-clause-small c =
-    quiet_small c.self.invariant c.self.view_is c.requires.branch c.in-Quiet.is c.front-high.ensures c.one_dot.result c.args.at c.requires.room
+    quiet_small c.self.invariant c.self.view_is c.requires.branch c.in-Quiet.is c.front-high.ensures c.one_dot.result
+    c.args.at c.requires.room
     (passed c.one_dot.result _ c.one_dot.ensures)
 
 pub settle-requires-clause-small : goal.settle-requires-clause-small
@@ -48,18 +49,21 @@ settle-requires-clause-small c =
 
 pub returns-in-Quiet : goal.returns-in-Quiet
 returns-in-Quiet c =
-    quiet_output c.self.invariant c.self.view_is c.requires.branch c.in-Quiet.is c.front-high.ensures c.one_dot.result c.args.at c.args.shift c.requires.room
+    quiet_output c.self.invariant c.self.view_is c.requires.branch c.in-Quiet.is c.front-high.ensures c.one_dot.result
+    c.args.at c.args.shift c.requires.room
     (passed c.one_dot.result _ c.one_dot.ensures) c.settle_small.ensures (record { sfits = c.settle_small.type_inv })
 
 pub returns-in-Wide : goal.returns-in-Wide
 returns-in-Wide c =
-    wide_output c.self.invariant c.self.view_is c.requires.branch c.in-Wide.is c.front-high.ensures _ c.args.at c.args.shift
+    wide_output c.self.invariant c.self.view_is c.requires.branch c.in-Wide.is c.front-high.ensures
+    _ c.args.at c.args.shift
     (to_z-of_z w64 c.wide_dot.result (record { sfits = c.wide_dot.type_inv })
     ∙ (c.wide_dot.ensures ∙ ap (dot c.args.branch.taps.now) c.piece.ensures))
     c.settle.ensures (record { sfits = c.settle.type_inv })
 
 pub returns-in-Split : goal.returns-in-Split
 returns-in-Split c =
-    split_output c.self.invariant c.self.view_is c.requires.branch c.in-Split.is c.front-high.ensures c.front.ensures c.one_dot-a.result c.one_dot-b.result
+    split_output c.self.invariant c.self.view_is c.requires.branch c.in-Split.is c.front-high.ensures c.front.ensures
+    c.one_dot-a.result c.one_dot-b.result
     c.args.at c.args.shift c.requires.room (passed c.one_dot-a.result _ c.one_dot-a.ensures)
     (passed c.one_dot-b.result _ c.one_dot-b.ensures) c.join.ensures (record { sfits = c.join.type_inv })
