@@ -1,4 +1,4 @@
-//! What is told of taps, against what is measured in the plainest way: one frequency after another.
+//! Measures of taps, compared with the plainest way to work them out: one frequency after another.
 
 use crate::made::Numbers;
 use sdf_filters::{Band, Wanted, filter_texts, taps_of};
@@ -56,7 +56,7 @@ fn magnitudes(wanted: Wanted, taps: &[i32], from: u32, to: u32) -> Heights {
     magnitudes
 }
 
-/// What is told of taps.
+/// The measures of taps.
 fn plain_told(alloc: Global, wanted: Wanted, taps: &[i32]) -> Result<String, Fail> {
     let half = wanted.rate / 2;
     let (passed, loudest) = match wanted.band {
@@ -95,7 +95,7 @@ fn plain_told(alloc: Global, wanted: Wanted, taps: &[i32]) -> Result<String, Fai
     )?)
 }
 
-/// Adds a filter of whose taps something else is told.
+/// Adds a filter whose printed measures differ from the plain ones.
 fn push_other(alloc: Global, text: &mut String, wanted: Wanted) -> Result<usize, Fail> {
     let Ok(taps) = taps_of(alloc, wanted) else {
         return Ok(0);
@@ -130,7 +130,7 @@ fn few(alloc: Global) -> Result<String, Fail> {
     Ok(text)
 }
 
-/// How many filters of a seed there are, and of which of them something else is told than is measured plainly.
+/// Returns the number of filters that a seed makes, and those whose printed measures differ from the plain ones.
 fn made(alloc: Global, seed: u64) -> Result<String, Fail> {
     let mut text = String::new(alloc);
     let mut numbers = Numbers::new(seed);

@@ -69,7 +69,7 @@ fn put(rate: f64, stage: Stage) -> f64 {
 }
 
 impl Weights {
-    /// What a stage costs that takes so many samples a second.
+    /// Returns the cost of a stage at the `rate` of its input.
     fn stage(self, rate: f64, stage: Stage) -> f64 {
         let up = f64::from(stage.up);
         let put = put(rate, stage);

@@ -8,7 +8,7 @@ use std::num::{nearest_usize_to_f64, saturating_f64_to_i32, saturating_f64_to_us
 use std::test::Fail;
 use test_texts::says;
 
-/// A low-pass with so many taps.
+/// Returns a low-pass with the given number of taps.
 #[derive(Clone, Copy)]
 struct Plain {
     edge: f64,
