@@ -84,13 +84,12 @@ impl<T: Copy> Queue<T> {
         ensures { IfOk result (λ q. q ≡ record { samples = initial.now; room = room }) }
     {
         let mut items = Vec::with_capacity(alloc, room + room)?;
-        append(&mut items, initial);
-        let end = items.len();
-        lengthen(&mut items, room + room, filler);
+        items.extend_from_slice(initial)?;
+        items.resize(room + room, filler)?;
         Ok(Queue {
             items,
             start: 0,
-            end,
+            end: initial.len(),
             room,
         })
     }

@@ -33,14 +33,34 @@ fn extend_by<T: Copy>(
 fn extend<T: Copy>(block: &mut Vec<T>, many: usize, filler: T) -> Result<(), AllocError>
     ensures { IfOk result (λ _. vec_len block.new ≡ vec_len block.old + many) }
 {
-    for _ in 0..many {
-        block.push(filler)?;
-    }
-    Ok(())
+    block.reserve(many)?;
+    let len = block.len() + many;
+    block.resize(len, filler)
 }
 
-/// So many fillers more than a cycle needs have the blocks of an actor, so that many cycles fit.
+/// So many fillers more than a cycle needs have the blocks of an actor, if its firings pass them: many cycles fit.
 const MORE: usize = 1024;
+
+/// What the blocks of an actor are made of: a sample to fill them with, and how many more than a cycle needs.
+#[derive(Clone, Copy)]
+struct Blank<T> {
+    filler: T,
+    more: usize,
+}
+
+impl<T: Copy> Blank<T> {
+    /// Describes the blocks of an actor with these channels. With one phase and one channel on each side its firings go
+    /// from channel to channel at once, and pass no block.
+    fn new(filler: T, cycle: u32, ins: &[usize], outs: &[usize]) -> Blank<T>
+        ensures few { result.more ≤ 1024 }
+    {
+        let is_direct = cycle == 1 && ins.len() == 1 && outs.len() == 1;
+        Blank {
+            filler,
+            more: if is_direct { 0 } else { MORE },
+        }
+    }
+}
 
 /// A block with a place for each sample that a cycle moves at some ports and some more, and the length at each phase.
 fn make_blocks<T: Copy>(
@@ -49,21 +69,22 @@ fn make_blocks<T: Copy>(
     sizes: &Sizes,
     side: Side,
     cycle: u32,
-    filler: T,
+    blank: Blank<T>,
 ) -> Result<(Vec<T>, Vec<usize>), AllocError>
-    requires { AreRowsAt ports.now (rows_on side sizes.now) cycle }
+    requires rows { AreRowsAt ports.now (rows_on side sizes.now) cycle }
+    requires few { blank.more ≤ 1024 }
     ensures { IfOk result (λ b. (vec_len b.1 ≡ cycle) × ((j : ℕ) → j < cycle →
         slice_index b.1.items j ≡ sum_by (slice_index (at_phase (rows_on side sizes.now) j)) ports.now)
         × (sum_to (λ j. sum_by (slice_index (at_phase (rows_on side sizes.now) j)) ports.now) cycle ≤ vec_len b.0)) }
 {
-    let mut block = Vec::new(alloc);
-    let mut lengths = Vec::new(alloc);
+    let mut block = Vec::with_capacity(alloc, 2 * blank.more)?;
+    let mut lengths = Vec::with_capacity(alloc, cycle as usize)?;
     for phase in 0..cycle {
         let before = block.len();
-        extend_by(&mut block, ports, sizes.on(side, phase), filler)?;
+        extend_by(&mut block, ports, sizes.on(side, phase), blank.filler)?;
         lengths.push(block.len() - before)?;
     }
-    extend(&mut block, MORE, filler)?;
+    extend(&mut block, blank.more, blank.filler)?;
     Ok((block, lengths))
 }
 
@@ -93,22 +114,11 @@ fn make_work<'a, A: Actor>(
             sdf_answer::laws::plans_fit::<A>();
             let cycle = actor.cycle();
             let state = actor.start(alloc)?;
-            let (taken, _) = make_blocks(
-                alloc,
-                net.channels_in(a),
-                sizes,
-                Side::Input,
-                cycle,
-                filler,
-            )?;
-            let (put, lengths) = make_blocks(
-                alloc,
-                net.channels_out(a),
-                sizes,
-                Side::Output,
-                cycle,
-                filler,
-            )?;
+            let ins = net.channels_in(a);
+            let outs = net.channels_out(a);
+            let blank = Blank::new(filler, cycle, ins, outs);
+            let (taken, _) = make_blocks(alloc, ins, sizes, Side::Input, cycle, blank)?;
+            let (put, lengths) = make_blocks(alloc, outs, sizes, Side::Output, cycle, blank)?;
             Ok(Work::Inner {
                 actor,
                 phase: 0,

@@ -8,12 +8,12 @@ use Rattle.sdf_run.proofs.Readings.{vec_long}
 use Rattle.sdf_run.proofs.setup.make_blocks.Goals as goal
 
 pub on-requires : goal.on-requires
-on-requires g c = (c.requires c.loop-phase.phase c.loop-phase-test.true).0
+on-requires g c = (c.requires.rows c.loop-phase.phase c.loop-phase-test.true).0
 
 pub extend_by-requires : goal.extend_by-requires
 extend_by-requires g c = λ i h. omega (
   arith,
-  (c.requires c.loop-phase.phase c.loop-phase-test.true).1 i h,
+  (c.requires.rows c.loop-phase.phase c.loop-phase-test.true).1 i h,
   ap length c.on.ensures,
 )
 

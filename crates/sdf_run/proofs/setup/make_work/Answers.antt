@@ -8,17 +8,17 @@ use Rattle.sdf_run.specs.Cycles.{AreRowsAt}
 use Rattle.sdf_run.proofs.Beginnings.{rows_in, rows_out, blocks, begun}
 use Rattle.sdf_run.proofs.setup.make_work.Goals as goal
 
-pub make_blocks-requires : goal.make_blocks-requires
-make_blocks-requires g c =
-    subst (λ cs. AreRowsAt cs c.args.sizes.now.takes c.cycle-cycle.result) (sym c.channels_in.ensures)
+pub make_blocks-requires-clause-rows : goal.make_blocks-requires-clause-rows
+make_blocks-requires-clause-rows g c =
+    subst (λ cs. AreRowsAt cs c.args.sizes.now.takes c.cycle-cycle.result) (sym c.channels_in-ins.ensures)
     (subst (λ m. AreRowsAt ((wiring g.A.Actor.steps c.args.net.now).ins c.args.a) c.args.sizes.now.takes m)
     (sym c.cycle-cycle.ensures)
     (rows_in g.A.Actor.steps c.plans_fit.ensures c.args.net.now c.requires.net c.args.sizes.now c.requires.sizes
     c.args.a c.requires.known c.in-Inner.actor (sym c.node.ensures ∙ c.in-Inner.is)))
 
-pub make_blocks-requires-in-Inner : goal.make_blocks-requires-in-Inner
-make_blocks-requires-in-Inner g c =
-    subst (λ cs. AreRowsAt cs c.args.sizes.now.puts c.cycle-cycle.result) (sym c.channels_out.ensures)
+pub make_blocks-requires-in-Inner-clause-rows : goal.make_blocks-requires-in-Inner-clause-rows
+make_blocks-requires-in-Inner-clause-rows g c =
+    subst (λ cs. AreRowsAt cs c.args.sizes.now.puts c.cycle-cycle.result) (sym c.channels_out-outs.ensures)
     (subst (λ m. AreRowsAt ((wiring g.A.Actor.steps c.args.net.now).outs c.args.a) c.args.sizes.now.puts m)
     (sym c.cycle-cycle.ensures)
     (rows_out g.A.Actor.steps c.plans_fit.ensures c.args.net.now c.requires.net c.args.sizes.now c.requires.sizes
@@ -37,9 +37,9 @@ returns-in_ok-put-in-Inner g c =
     c.in_ok-taken-in-Inner.taken c.in_ok-put-in-Inner.put c.in_ok-put-in-Inner.lengths c.cycle-cycle.result
     c.cycle-cycle.ensures c.in_ok-put-in-Inner.ensures.0
     (subst (λ cs. sum_to (λ j. sum_by (λ e. get_or (at_phase c.args.sizes.now.takes j) e 0) cs) c.cycle-cycle.result ≤
-    vec_len c.in_ok-taken-in-Inner.taken) c.channels_in.ensures c.in_ok-taken-in-Inner.ensures.2)
+    vec_len c.in_ok-taken-in-Inner.taken) c.channels_in-ins.ensures c.in_ok-taken-in-Inner.ensures.2)
     (λ j h. subst (λ cs. get_or c.in_ok-put-in-Inner.lengths.items j 0 ≡
-    sum_by (λ e. get_or (at_phase c.args.sizes.now.puts j) e 0) cs) c.channels_out.ensures
+    sum_by (λ e. get_or (at_phase c.args.sizes.now.puts j) e 0) cs) c.channels_out-outs.ensures
     (c.in_ok-put-in-Inner.ensures.1 j h))
     (subst (λ cs. sum_to (λ j. sum_by (λ e. get_or (at_phase c.args.sizes.now.puts j) e 0) cs) c.cycle-cycle.result ≤
-    vec_len c.in_ok-put-in-Inner.put) c.channels_out.ensures c.in_ok-put-in-Inner.ensures.2))
+    vec_len c.in_ok-put-in-Inner.put) c.channels_out-outs.ensures c.in_ok-put-in-Inner.ensures.2))
