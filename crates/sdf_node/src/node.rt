@@ -9,6 +9,7 @@ ghost use Rattle.sdf_node.specs.Nodes.{phase_at, takes_of, puts_of, CanStep, Can
 use sdf_actor::actor::next_phase;
 use sdf_actor::{Actor, Node};
 use std::alloc::{AllocError, Global};
+use std::mem;
 
 /// What a node keeps from one firing to the next. It holds no reference.
 #[derive(Drop)]
@@ -91,9 +92,12 @@ pub fn append<T: Copy>(list: &mut Vec<T>, block: &[T])
     ensures len { vec_len list.new ≡ vec_len list.old + length block.now }
     ensures capacity { vec_capacity list.new ≡ vec_capacity list.old }
 {
+    // In a list of its own the length stays in a register, so that code can copy several samples at a time.
+    let mut longer = mem::replace(list, Vec::new(*list.allocator()));
     for sample in block {
-        list.push_reserved(*sample);
+        longer.push_reserved(*sample);
     }
+    *list = longer;
 }
 
 fn read_block<T: Copy>(list: &[T], next: usize, put: &mut [T]) -> usize
