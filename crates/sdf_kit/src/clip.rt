@@ -73,5 +73,5 @@ fn between(least: i32, greatest: i32, sample: i32) -> i32
     requires { least ≤ℤ greatest }
     ensures { result ≡ clipped (record { least = least; greatest = greatest }) sample }
 {
-    sample.clamp(least, greatest)
+    sample.max(least).min(greatest)
 }

@@ -5,7 +5,6 @@ ghost use Rattle.sdf_kit.specs.Samples.{sample};
 ghost use Rattle.sdf_kit.specs.Ports.{ArePorts};
 ghost use Rattle.sdf_kit.specs.Offset.{offset, value_of, raised};
 
-use crate::arithmetic::saturate;
 use crate::block::put_one;
 use crate::fault::{Key, Kind, KitFault, check, has_16_bits};
 use crate::ports::Ports;
@@ -68,5 +67,9 @@ impl Offset {
 fn raise(value: i32, sample: i32) -> i32
     ensures { result ≡ raised value sample }
 {
-    saturate(i64::from(sample) + i64::from(value))
+    if value >= 0 {
+        sample.min(i32::MAX - value) + value
+    } else {
+        sample.max(i32::MIN - value) + value
+    }
 }
