@@ -1,14 +1,20 @@
 //! Taps against those that are worked out in the plainest way: each step looks at every place for the tap to move.
 
 use crate::made::Numbers;
-use sdf_filters::{Band, Wanted, taps_of};
+use sdf_filters::{Band, FilterFault, Wanted, taps_of};
 use std::alloc::Global;
 use std::f64::consts::{PI, TAU};
 use std::num::{nearest_usize_to_f64, saturating_f64_to_i32, saturating_f64_to_usize};
 use std::test::Fail;
 use test_texts::says;
 
-/// Returns a low-pass with the given number of taps.
+/// A tap that stands further than this is moved no more.
+const FARTHEST: u32 = 65_536;
+
+/// The taps of a filter, or the size of a tap of over 16 bits; 0 where a filter wants too many taps.
+type Taps = Result<Vec<i32>, u32>;
+
+/// A low-pass with a number of taps.
 #[derive(Clone, Copy)]
 struct Plain {
     edge: f64,
@@ -177,8 +183,8 @@ impl Plain {
         sum
     }
 
-    /// Moves taps of a phase until they come to the unit.
-    fn settle_phase(self, taps: &mut [i32], reals: &[f64], phase: usize) {
+    /// Moves taps of a phase until they come to the unit, or one stands too far.
+    fn settle_phase(self, taps: &mut [i32], reals: &[f64], phase: usize) -> Result<(), u32> {
         let sum = self.sum(taps, phase);
         let rise = sum < i64::from(self.unit);
         let times = i64::from(self.unit).abs_diff(sum);
@@ -187,80 +193,107 @@ impl Plain {
             let bias = middle_bias(done, times, many);
             let place = self.next_place(taps, reals, Step { phase, rise, bias });
             if let Some(tap) = taps.get_mut(place) {
+                if tap.unsigned_abs() > FARTHEST {
+                    return Err(tap.unsigned_abs());
+                }
                 *tap = tap.wrapping_add(if rise { 1 } else { -1 });
             }
         }
+        Ok(())
+    }
+
+    /// Moves the taps of all phases until each has 16 bits.
+    fn settle(self, taps: &mut [i32], reals: &[f64]) -> Result<(), u32> {
+        test_16_bits(taps)?;
+        for phase in 0..self.up {
+            self.settle_phase(taps, reals, phase)?;
+        }
+        test_16_bits(taps)
     }
 
     /// The taps, where each has 16 bits.
-    fn taps(self, alloc: Global) -> Result<Option<Vec<i32>>, Fail> {
+    fn taps(self, alloc: Global) -> Result<Taps, Fail> {
         let reals = self.reals(alloc)?;
         let mut taps = Vec::new(alloc);
         for real in &reals {
             taps.push(saturating_f64_to_i32(real.round_ties_even()))?;
         }
-        if taps.iter().any(|tap| i16::try_from(*tap).is_err()) {
-            return Ok(None);
-        }
-        for phase in 0..self.up {
-            self.settle_phase(&mut taps, &reals, phase);
-        }
-        if taps.iter().any(|tap| i16::try_from(*tap).is_err()) {
-            return Ok(None);
-        }
-        Ok(Some(taps))
+        Ok(match self.settle(&mut taps, &reals) {
+            Ok(()) => Ok(taps),
+            Err(size) => Err(size),
+        })
     }
 }
 
-/// The taps of a low-pass, where there are any: with one more in each phase where one has over 16 bits.
-fn low(alloc: Global, wanted: Wanted, pass: u32, stop: u32) -> Result<Option<Vec<i32>>, Fail> {
+/// The size of the first tap of over 16 bits.
+fn test_16_bits(taps: &[i32]) -> Result<(), u32> {
+    for tap in taps {
+        if i16::try_from(*tap).is_err() {
+            return Err(tap.unsigned_abs());
+        }
+    }
+    Ok(())
+}
+
+/// The taps of a low-pass: with one more in each phase where one has over 16 bits.
+fn low(alloc: Global, wanted: Wanted, pass: u32, stop: u32) -> Result<Taps, Fail> {
     let up = wanted.up as usize;
     let count = whole(kaiser_length(wanted, pass, stop), up);
     if count > 1024 {
-        return Ok(None);
+        return Ok(Err(0));
     }
-    if let Some(taps) = Plain::new(wanted, pass, stop, count).taps(alloc)? {
-        return Ok(Some(taps));
+    if let Ok(taps) = Plain::new(wanted, pass, stop, count).taps(alloc)? {
+        return Ok(Ok(taps));
     }
     let more = whole(count.saturating_add(1), up);
     if more > 1024 {
-        return Ok(None);
+        return Ok(Err(0));
     }
     Plain::new(wanted, pass, stop, more).taps(alloc)
 }
 
 /// The first taps less the second ones, where each has 16 bits.
-fn less(alloc: Global, from: &[i32], taps: &[i32]) -> Result<Option<Vec<i32>>, Fail> {
+fn less(alloc: Global, from: &[i32], taps: &[i32]) -> Result<Taps, Fail> {
     let mut left = Vec::new(alloc);
     for (from, tap) in from.iter().zip(taps) {
         let tap = from.wrapping_sub(*tap);
         if i16::try_from(tap).is_err() {
-            return Ok(None);
+            return Ok(Err(tap.unsigned_abs()));
         }
         left.push(tap)?;
     }
-    Ok(Some(left))
+    Ok(Ok(left))
 }
 
-/// The taps of a high-pass, where there are any.
-fn high(alloc: Global, wanted: Wanted, stop: u32, pass: u32) -> Result<Option<Vec<i32>>, Fail> {
+/// The taps of a high-pass.
+fn high(alloc: Global, wanted: Wanted, stop: u32, pass: u32) -> Result<Taps, Fail> {
     let count = whole(kaiser_length(wanted, stop, pass), 1) | 1;
     if count > 1024 {
-        return Ok(None);
+        return Ok(Err(0));
     }
     let filter = Plain::new(wanted, stop, pass, count);
-    let Some(low) = filter.taps(alloc)? else {
-        return Ok(None);
-    };
-    let mut impulse = vec![in alloc; 0; count]?;
-    if let Some(middle) = impulse.get_mut(count / 2) {
-        *middle = filter.unit;
+    match filter.taps(alloc)? {
+        Ok(low) => {
+            let mut impulse = vec![in alloc; 0; count]?;
+            if let Some(middle) = impulse.get_mut(count / 2) {
+                *middle = filter.unit;
+            }
+            less(alloc, &impulse, &low)
+        }
+        Err(size) => Ok(Err(size)),
     }
-    less(alloc, &impulse, &low)
 }
 
-/// The taps of a filter, where there are any.
-fn plain_taps(alloc: Global, wanted: Wanted) -> Result<Option<Vec<i32>>, Fail> {
+/// The taps of a low-pass less those of another, of which the first one's fault comes first.
+fn middle(alloc: Global, wide: Plain, narrow: Plain) -> Result<Taps, Fail> {
+    match (wide.taps(alloc)?, narrow.taps(alloc)?) {
+        (Ok(wide), Ok(narrow)) => less(alloc, &wide, &narrow),
+        (Err(size), _) | (Ok(_), Err(size)) => Ok(Err(size)),
+    }
+}
+
+/// The taps of a filter, or why there are none.
+fn plain_taps(alloc: Global, wanted: Wanted) -> Result<Taps, Fail> {
     match wanted.band {
         Band::Low { pass, stop } => low(alloc, wanted, pass, stop),
         Band::High { stop, pass } => high(alloc, wanted, stop, pass),
@@ -274,22 +307,27 @@ fn plain_taps(alloc: Global, wanted: Wanted) -> Result<Option<Vec<i32>>, Fail> {
             let many = whole(kaiser_length(wanted, pass, stop), up);
             let count = many.max(whole(kaiser_length(wanted, low_stop, low_pass), up));
             if count > 1024 {
-                return Ok(None);
+                return Ok(Err(0));
             }
-            let wide = Plain::new(wanted, pass, stop, count).taps(alloc)?;
-            let narrow = Plain::new(wanted, low_stop, low_pass, count).taps(alloc)?;
-            match (wide, narrow) {
-                (Some(wide), Some(narrow)) => less(alloc, &wide, &narrow),
-                _ => Ok(None),
-            }
+            let wide = Plain::new(wanted, pass, stop, count);
+            let narrow = Plain::new(wanted, low_stop, low_pass, count);
+            middle(alloc, wide, narrow)
         }
+    }
+}
+
+/// The size of a tap of over 16 bits, and 0 of another fault.
+fn size_in(fault: FilterFault) -> u32 {
+    match fault {
+        FilterFault::TapTooLarge { size } => size,
+        _ => 0,
     }
 }
 
 /// Adds a filter whose taps are others.
 fn push_other(alloc: Global, text: &mut String, wanted: Wanted) -> Result<usize, Fail> {
     let plain = plain_taps(alloc, wanted)?;
-    let taps = taps_of(alloc, wanted).ok();
+    let taps = taps_of(alloc, wanted).map_err(size_in);
     if plain != taps {
         writeln!(text, "{wanted:?}")?;
     }
@@ -335,8 +373,8 @@ fn many_steps_as_plainly(rt: HostRuntime) -> Result<(), Fail> {
     says(Ok(text), "")
 }
 
-/// Phases with a tap less and a tap more than are looked through at each step, and steps of which some are fewer and some
-/// more than that. Refuses a tree in which a tap does not meet all others.
+/// Phases with a tap less and a tap more than are looked through at each step, and steps of which some are fewer and
+/// some more than that. Refuses a tree in which a tap does not meet all others.
 #[test]
 fn trees_as_plainly(rt: HostRuntime) -> Result<(), Fail> {
     let mut text = String::new(rt.alloc());
@@ -358,4 +396,40 @@ fn trees_as_plainly(rt: HostRuntime) -> Result<(), Fail> {
         }
     }
     says(Ok(text), "")
+}
+
+/// Adds a word for a filter that has a tap of over 16 bits, and the filter if another size is named.
+fn push_size(alloc: Global, text: &mut String, band: Band) -> Result<(), Fail> {
+    let wanted = Wanted {
+        rate: 48_000,
+        band,
+        attenuation: 60,
+        up: 4,
+        shift: 15,
+    };
+    push_other(alloc, text, wanted)?;
+    if plain_taps(alloc, wanted)?.is_err_and(|size| size > 0) {
+        text.push_str("too large ")?;
+    }
+    Ok(())
+}
+
+/// Filters of which a tap has over 16 bits, also where one more was tried. Refuses the size of another tap.
+#[test]
+fn sizes_as_plainly(rt: HostRuntime) -> Result<(), Fail> {
+    let mut text = String::new(rt.alloc());
+    for (pass, stop) in [(9_000, 12_000), (12_000, 18_000), (20_000, 23_000)] {
+        push_size(rt.alloc(), &mut text, Band::Low { pass, stop })?;
+        let band = Band::Middle {
+            low_stop: 500,
+            low_pass: 3_500,
+            pass,
+            stop,
+        };
+        push_size(rt.alloc(), &mut text, band)?;
+    }
+    says(
+        Ok(text),
+        "too large too large too large too large too large too large ",
+    )
 }
