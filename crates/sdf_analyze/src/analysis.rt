@@ -19,7 +19,7 @@ use sdf_prec::Table;
 use sdf_sched::Period;
 use std::alloc::Global;
 
-/// The figures of the table that options give a design's period for blocks of so many periods.
+/// Returns the figures of `table`, which `options` give `design` for blocks of `blocking` periods.
 #[tactic(auto, using(crate::proofs::Refusals::memory_shows))]
 pub(crate) fn figures_of(
     alloc: Global,

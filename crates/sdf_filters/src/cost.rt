@@ -77,8 +77,8 @@ impl Weights {
         Best { cost, place }
     }
 
-    /// The cheapest split of a ratio into so many stages, or fewer. What is left behind a stage costs nothing at least,
-    /// so it is not split where the stage alone costs too much.
+    /// Returns the cheapest split of the ratio `left` into at most `stages` stages. The rest behind a stage is not
+    /// split if the stage alone costs too much.
     fn best(self, rate: f64, left: Ratio, stages: u32) -> Best {
         let mut best = self.whole(rate, left);
         if stages < 2 {

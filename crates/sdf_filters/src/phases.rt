@@ -113,7 +113,7 @@ fn move_each(taps: &mut [i32], way: Way) -> Result<(), FilterFault>
     Ok(())
 }
 
-/// Moves taps of a phase by so many steps, each of which looks at all of them.
+/// Moves taps of a phase by `times` steps. Each step looks at all of them.
 fn move_few(taps: &mut [i32], reals: &[f64], way: Way, times: u64) -> Result<(), FilterFault>
     requires same { length reals.now ≡ length taps.old }
     requires few { length taps.old ≤ MOST_TAPS }
@@ -129,7 +129,7 @@ fn move_few(taps: &mut [i32], reals: &[f64], way: Way, times: u64) -> Result<(),
     Ok(())
 }
 
-/// Moves taps of a phase by so many steps, as a tree of them says.
+/// Moves taps of a phase by `times` steps. A tree of the taps says which one is next.
 fn move_many(taps: &mut [i32], reals: &[f64], way: Way, times: u64) -> Result<(), FilterFault>
     requires same { length reals.now ≡ length taps.old }
     requires few { length taps.old ≤ MOST_TAPS }
@@ -147,7 +147,7 @@ fn move_many(taps: &mut [i32], reals: &[f64], way: Way, times: u64) -> Result<()
     Ok(())
 }
 
-/// Moves taps of a phase by so many steps, one after another.
+/// Moves taps of a phase by `times` steps, one after another.
 fn move_soonest(taps: &mut [i32], reals: &[f64], way: Way, times: u64) -> Result<(), FilterFault>
     requires same { length reals.now ≡ length taps.old }
     requires few { length taps.old ≤ MOST_TAPS }
@@ -198,7 +198,7 @@ fn move_last(taps: &mut [i32], reals: &[f64], way: Way, times: u64) -> Result<()
     Ok(())
 }
 
-/// Moves taps of a phase by so many steps: each tap as often, and those whose turn it is once more.
+/// Moves taps of a phase by `times` steps: whole rounds, in which each tap moves once, and then single steps.
 fn move_taps(taps: &mut [i32], reals: &[f64], way: Way, times: u64) -> Result<(), FilterFault>
     requires same { length reals.now ≡ length taps.old }
     requires few { length taps.old ≤ MOST_TAPS }

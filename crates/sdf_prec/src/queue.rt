@@ -112,7 +112,7 @@ pub(crate) fn renew(
     Ok(())
 }
 
-/// Whether so many firings of each actor have started that one is its actor's next.
+/// Returns whether `firing` is its actor's next one, given how many firings each actor has started.
 fn is_next(started: &[u32], firing: &Firing) -> bool
     ensures { result ≡ is_next started.now firing.now }
 {

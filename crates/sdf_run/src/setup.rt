@@ -29,7 +29,7 @@ fn extend_by<T: Copy>(
     Ok(())
 }
 
-/// Puts so many fillers behind a block.
+/// Puts `many` fillers behind a block.
 fn extend<T: Copy>(block: &mut Vec<T>, many: usize, filler: T) -> Result<(), AllocError>
     ensures { IfOk result (λ _. vec_len block.new ≡ vec_len block.old + many) }
 {
@@ -38,10 +38,10 @@ fn extend<T: Copy>(block: &mut Vec<T>, many: usize, filler: T) -> Result<(), All
     block.resize(len, filler)
 }
 
-/// So many fillers more than a cycle needs have the blocks of an actor, if its firings pass them: many cycles fit.
+/// Samples of working space beyond one cycle, so that cycles can be batched.
 const MORE: usize = 1024;
 
-/// What the blocks of an actor are made of: a sample to fill them with, and how many more than a cycle needs.
+/// The makings of an actor's blocks: a sample to fill them with, and the samples beyond one cycle.
 #[derive(Clone, Copy)]
 struct Blank<T> {
     filler: T,
@@ -49,8 +49,8 @@ struct Blank<T> {
 }
 
 impl<T: Copy> Blank<T> {
-    /// Describes the blocks of an actor with these channels. With one phase and one channel on each side its firings go
-    /// from channel to channel at once, and pass no block.
+    /// Describes the blocks of an actor between the channels `ins` and `outs`. An actor with one phase and one channel
+    /// on each side fires from channel to channel, so its blocks need no space beyond one cycle.
     fn new(filler: T, cycle: u32, ins: &[usize], outs: &[usize]) -> Blank<T>
         ensures few { result.more ≤ 1024 }
     {
