@@ -213,9 +213,25 @@ so_far_next h x a hs xs r k is lh eh lx ex lr value exact =
           (exact_next h x a r k is.exact (rw (taps, samples) at exact));
     }
 
-pub so_far_all : (h x a : List ℤ) (k : ℕ) → length h % 16 ≡ 0 → length h / 16 ≤ k → k ≤ length h / 16 →
-    length x ≡ length h → AreSoFar h x k a → AreSums h x a
-so_far_all h x a k whole over under same is =
+-- the same at a place, which is so many sixteens
+pub so_far_on : (h x a hs xs r : List ℤ) (at : ℕ) → at ≡ 16 * (at / 16) → AreSoFar h x (at / 16) a →
+    AreLanes w16 16 hs →
+    hs ≡ take 16 (drop at h) → AreLanes w16 16 xs → xs ≡ take 16 (drop at x) → AreLanes w32 8 r →
+    wrap (total r) ≡ wrap (total a +ℤ dot (map (to_z w16) (map (of_z w16) hs)) (map (to_z w16) (map (of_z w16) xs))) →
+    ((m : ℕ) → AreLanesWithin m a → m + weight (map (to_z w16) (map (of_z w16) hs)) * 32768 ≤ 2147483647 →
+    AreLanesWithin (m + weight (map (to_z w16) (map (of_z w16) hs)) * 32768) r
+    × (total r ≡ total a +ℤ dot (map (to_z w16) (map (of_z w16) hs)) (map (to_z w16) (map (of_z w16) xs)))) →
+    AreSoFar h x ((at + 16) / 16) (map (to_z w32) (map (of_z w32) r))
+so_far_on h x a hs xs r at whole is lh eh lx ex lr value exact =
+    let one : at / 16 + 1 ≡ (at + 16) / 16 = omega arith in
+    subst (λ k. AreSoFar h x k (map (to_z w32) (map (of_z w32) r))) one
+    (so_far_next h x a hs xs r (at / 16) is lh (eh ∙ ap (λ n. take 16 (drop n h)) whole) lx
+    (ex ∙ ap (λ n. take 16 (drop n x)) whole) lr value exact)
+
+pub so_far_all : (h x a : List ℤ) (at : ℕ) → length h % 16 ≡ 0 → length h ≤ at → at ≤ length h →
+    length x ≡ length h → AreSoFar h x (at / 16) a → AreSums h x a
+so_far_all h x a at whole over under same is =
+    let k : ℕ = at / 16 in
     let last : length h / 16 ≡ k = omega arith in
     let all : length h ≤ 16 * k = omega arith in
     let taps : take (16 * k) h ≡ h = take_all (16 * k) h all in

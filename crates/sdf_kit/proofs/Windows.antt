@@ -14,7 +14,7 @@ use Rattle.std.proofs.lemmas.List.{ext_get_or}
 use Rattle.sdf_kit.specs.Dots.{AreWithin, joined, dot, total_abs, wrap}
 use Rattle.sdf_kit.specs.Samples.{settled}
 use Rattle.sdf_kit.specs.Window.{Held, part_as, AreHeld, held, seen, output_of, AreFit}
-use Rattle.sdf_kit.specs.Stretches.{IsBranch, AreStretches}
+use Rattle.sdf_kit.specs.Stretches.{IsBranch}
 use Rattle.sdf_kit.specs.declared.branches.Limits.{Limits}
 use Rattle.sdf_kit.specs.declared.window.Way.{Way}
 use Rattle.sdf_kit.specs.declared.window.Way.TheVariants.{Quiet, Wide, Split}

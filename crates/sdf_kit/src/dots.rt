@@ -97,6 +97,8 @@ fn more(sums: i32x8, h: i16x16, x: i16x16) -> i32x8
     plus(sums, products(h, x))
 }
 
+// The loops over sixteens go by their places: by their numbers, each turn would take more instructions.
+
 /// The products of taps and samples, summed lane by lane.
 #[inline(always)]
 fn sums(h: &[i16], x: &[i16]) -> i32x8
@@ -107,8 +109,10 @@ fn sums(h: &[i16], x: &[i16]) -> i32x8
     ensures { AreSums h.now x.now result }
 {
     let mut a = i32x8::splat(0);
-    'chunks: for k in 0..h.len() / 16 {
-        a = more(a, load(h, 16 * k), load(x, 16 * k));
+    let mut at = 0;
+    'chunks: while at < h.len() {
+        a = more(a, load(h, at), load(x, at));
+        at += 16;
     }
     a
 }
@@ -153,12 +157,14 @@ fn four_sums(h: &[i16], x: &[i16], y: &[i16], z: &[i16], w: &[i16]) -> FourSums
     let mut b = i32x8::splat(0);
     let mut c = i32x8::splat(0);
     let mut d = i32x8::splat(0);
-    'chunks: for k in 0..h.len() / 16 {
-        let taps = load(h, 16 * k);
-        a = more(a, taps, load(x, 16 * k));
-        b = more(b, taps, load(y, 16 * k));
-        c = more(c, taps, load(z, 16 * k));
-        d = more(d, taps, load(w, 16 * k));
+    let mut at = 0;
+    'chunks: while at < h.len() {
+        let taps = load(h, at);
+        a = more(a, taps, load(x, at));
+        b = more(b, taps, load(y, at));
+        c = more(c, taps, load(z, at));
+        d = more(d, taps, load(w, at));
+        at += 16;
     }
     FourSums { a, b, c, d }
 }

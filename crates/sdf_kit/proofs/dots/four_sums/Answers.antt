@@ -1,11 +1,13 @@
-use Rattle.std.proofs.Common.{map, to_z, w32}
+use Rattle.std.proofs.Common.{map, to_z, w32, arith}
 use Rattle.std.specs.Int.{w16}
 use Rattle.sdf_kit.proofs.LaneTotals.{passed}
-use Rattle.sdf_kit.proofs.LaneSums.{so_far_nothing, so_far_next, so_far_all}
+use Rattle.sdf_kit.proofs.LaneSums.{so_far_nothing, so_far_on, so_far_all}
 use Rattle.sdf_kit.proofs.dots.four_sums.Goals as goal
 
 pub chunks-init : goal.chunks-init
 chunks-init c = record {
+  within = omega arith;
+  whole = omega arith;
   a = so_far_nothing c.args.h.now c.args.x.now;
   b = so_far_nothing c.args.h.now c.args.y.now;
   c = so_far_nothing c.args.h.now c.args.z.now;
@@ -14,20 +16,26 @@ chunks-init c = record {
 
 pub chunks-preserved : goal.chunks-preserved
 chunks-preserved c = record {
-  a = so_far_next c.args.h.now c.args.x.now (map (to_z w32) c.chunks.a) c.load-taps.result c.load.result
-      c.more-a.result c.chunks.k c.chunks.invariant.a c.load-taps.ensures.lanes c.load-taps.ensures.value
+  within = omega (arith, c.requires.whole, c.chunks.invariant.whole, c.chunks-test.true);
+  whole = omega (arith, c.chunks.invariant.whole);
+  a = so_far_on c.args.h.now c.args.x.now (map (to_z w32) c.chunks.a)
+      c.load-taps.result c.load.result c.more-a.result c.chunks.at c.chunks.invariant.whole
+      c.chunks.invariant.a c.load-taps.ensures.lanes c.load-taps.ensures.value
       c.load.ensures.lanes c.load.ensures.value c.more-a.ensures.lanes c.more-a.ensures.value
       c.more-a.ensures.exact;
-  b = so_far_next c.args.h.now c.args.y.now (map (to_z w32) c.chunks.b) c.load-taps.result c.load-in-chunks.result
-      c.more-b.result c.chunks.k c.chunks.invariant.b c.load-taps.ensures.lanes c.load-taps.ensures.value
+  b = so_far_on c.args.h.now c.args.y.now (map (to_z w32) c.chunks.b)
+      c.load-taps.result c.load-in-chunks.result c.more-b.result c.chunks.at c.chunks.invariant.whole
+      c.chunks.invariant.b c.load-taps.ensures.lanes c.load-taps.ensures.value
       c.load-in-chunks.ensures.lanes c.load-in-chunks.ensures.value c.more-b.ensures.lanes c.more-b.ensures.value
       c.more-b.ensures.exact;
-  c = so_far_next c.args.h.now c.args.z.now (map (to_z w32) c.chunks.c) c.load-taps.result c.load-in-chunks-2.result
-      c.more-c.result c.chunks.k c.chunks.invariant.c c.load-taps.ensures.lanes c.load-taps.ensures.value
+  c = so_far_on c.args.h.now c.args.z.now (map (to_z w32) c.chunks.c)
+      c.load-taps.result c.load-in-chunks-2.result c.more-c.result c.chunks.at c.chunks.invariant.whole
+      c.chunks.invariant.c c.load-taps.ensures.lanes c.load-taps.ensures.value
       c.load-in-chunks-2.ensures.lanes c.load-in-chunks-2.ensures.value c.more-c.ensures.lanes c.more-c.ensures.value
       c.more-c.ensures.exact;
-  d = so_far_next c.args.h.now c.args.w.now (map (to_z w32) c.chunks.d) c.load-taps.result c.load-in-chunks-3.result
-      c.more-d.result c.chunks.k c.chunks.invariant.d c.load-taps.ensures.lanes c.load-taps.ensures.value
+  d = so_far_on c.args.h.now c.args.w.now (map (to_z w32) c.chunks.d)
+      c.load-taps.result c.load-in-chunks-3.result c.more-d.result c.chunks.at c.chunks.invariant.whole
+      c.chunks.invariant.d c.load-taps.ensures.lanes c.load-taps.ensures.value
       c.load-in-chunks-3.ensures.lanes c.load-in-chunks-3.ensures.value c.more-d.ensures.lanes c.more-d.ensures.value
       c.more-d.ensures.exact;
 }
@@ -70,20 +78,20 @@ more-d-requires-clause-x c = passed w16 16 c.load-in-chunks-3.result c.load-in-c
 
 pub returns-clause-a : goal.returns-clause-a
 returns-clause-a c =
-    so_far_all c.args.h.now c.args.x.now (map (to_z w32) c.chunks.a) c.chunks.k c.requires.whole c.chunks-test.false
-    c.chunks.auto.k-end c.requires.x c.chunks.invariant.a
+    so_far_all c.args.h.now c.args.x.now (map (to_z w32) c.chunks.a) c.chunks.at c.requires.whole c.chunks-test.false
+    c.chunks.invariant.within c.requires.x c.chunks.invariant.a
 
 pub returns-clause-b : goal.returns-clause-b
 returns-clause-b c =
-    so_far_all c.args.h.now c.args.y.now (map (to_z w32) c.chunks.b) c.chunks.k c.requires.whole c.chunks-test.false
-    c.chunks.auto.k-end c.requires.y c.chunks.invariant.b
+    so_far_all c.args.h.now c.args.y.now (map (to_z w32) c.chunks.b) c.chunks.at c.requires.whole c.chunks-test.false
+    c.chunks.invariant.within c.requires.y c.chunks.invariant.b
 
 pub returns-clause-c : goal.returns-clause-c
 returns-clause-c c =
-    so_far_all c.args.h.now c.args.z.now (map (to_z w32) c.chunks.c) c.chunks.k c.requires.whole c.chunks-test.false
-    c.chunks.auto.k-end c.requires.z c.chunks.invariant.c
+    so_far_all c.args.h.now c.args.z.now (map (to_z w32) c.chunks.c) c.chunks.at c.requires.whole c.chunks-test.false
+    c.chunks.invariant.within c.requires.z c.chunks.invariant.c
 
 pub returns-clause-d : goal.returns-clause-d
 returns-clause-d c =
-    so_far_all c.args.h.now c.args.w.now (map (to_z w32) c.chunks.d) c.chunks.k c.requires.whole c.chunks-test.false
-    c.chunks.auto.k-end c.requires.w c.chunks.invariant.d
+    so_far_all c.args.h.now c.args.w.now (map (to_z w32) c.chunks.d) c.chunks.at c.requires.whole c.chunks-test.false
+    c.chunks.invariant.within c.requires.w c.chunks.invariant.d

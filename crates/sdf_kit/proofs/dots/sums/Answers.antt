@@ -1,21 +1,28 @@
-use Rattle.std.proofs.Common.{map, to_z, w32}
+use Rattle.std.proofs.Common.{map, to_z, w32, arith}
 use Rattle.std.specs.Int.{w16}
 use Rattle.sdf_kit.proofs.LaneTotals.{passed}
-use Rattle.sdf_kit.proofs.LaneSums.{so_far_nothing, so_far_next, so_far_all}
+use Rattle.sdf_kit.proofs.LaneSums.{so_far_nothing, so_far_on, so_far_all}
 use Rattle.sdf_kit.proofs.dots.sums.Goals as goal
 
 pub chunks-init : goal.chunks-init
-chunks-init c = so_far_nothing c.args.h.now c.args.x.now
+chunks-init c = record {
+  within = omega arith;
+  whole = omega arith;
+  a = so_far_nothing c.args.h.now c.args.x.now;
+}
 
 pub chunks-preserved : goal.chunks-preserved
-chunks-preserved c =
-    so_far_next c.args.h.now c.args.x.now (map (to_z w32) c.chunks.a) c.load.result c.load-in-chunks.result
-    c.more-a.result c.chunks.k c.chunks.invariant
-    c.load.ensures.lanes c.load.ensures.value c.load-in-chunks.ensures.lanes c.load-in-chunks.ensures.value
-    c.more-a.ensures.lanes c.more-a.ensures.value c.more-a.ensures.exact
+chunks-preserved c = record {
+  within = omega (arith, c.requires.whole, c.chunks.invariant.whole, c.chunks-test.true);
+  whole = omega (arith, c.chunks.invariant.whole);
+  a = so_far_on c.args.h.now c.args.x.now (map (to_z w32) c.chunks.a) c.load.result c.load-in-chunks.result
+      c.more-a.result c.chunks.at c.chunks.invariant.whole c.chunks.invariant.a
+      c.load.ensures.lanes c.load.ensures.value c.load-in-chunks.ensures.lanes c.load-in-chunks.ensures.value
+      c.more-a.ensures.lanes c.more-a.ensures.value c.more-a.ensures.exact;
+}
 
 pub more-a-requires-clause-sums : goal.more-a-requires-clause-sums
-more-a-requires-clause-sums c = c.chunks.invariant.some.lanes
+more-a-requires-clause-sums c = c.chunks.invariant.a.some.lanes
 
 pub more-a-requires-clause-h : goal.more-a-requires-clause-h
 more-a-requires-clause-h c = passed w16 16 c.load.result c.load.ensures.lanes
@@ -25,5 +32,5 @@ more-a-requires-clause-x c = passed w16 16 c.load-in-chunks.result c.load-in-chu
 
 pub returns : goal.returns
 returns c =
-    so_far_all c.args.h.now c.args.x.now (map (to_z w32) c.chunks.a) c.chunks.k c.requires.whole c.chunks-test.false
-    c.chunks.auto.k-end c.requires.x c.chunks.invariant
+    so_far_all c.args.h.now c.args.x.now (map (to_z w32) c.chunks.a) c.chunks.at c.requires.whole c.chunks-test.false
+    c.chunks.invariant.within c.requires.x c.chunks.invariant.a
