@@ -51,7 +51,7 @@ pub fn lengthen<T: Copy>(list: &mut Vec<T>, len: usize, filler: T)
 }
 
 /// Where a part of a list begins and ends that has room for more behind it: it moves to the front where the room is not
-/// there.
+/// there. An empty part begins at the front again, so that a queue that is emptied often uses little of its buffer.
 fn place_for<T: Copy>(list: &mut Vec<T>, start: usize, end: usize, more: usize) -> (usize, usize)
     requires rise { start ≤ end }
     requires within { end ≤ vec_len list.old }
@@ -61,6 +61,9 @@ fn place_for<T: Copy>(list: &mut Vec<T>, start: usize, end: usize, more: usize) 
     ensures within { result.1 + more ≤ vec_len list.new }
     ensures len { vec_len list.new ≡ vec_len list.old }
 {
+    if start == end {
+        return (0, 0);
+    }
     if list.len() - end >= more {
         return (start, end);
     }
