@@ -97,6 +97,28 @@ impl<T: Copy> Queue<T> {
         })
     }
 
+    /// Drops the samples and begins anew with `initial` and `room`, in the same buffer if a new one would be as long.
+    pub fn renewed(self, initial: &[T], room: usize, filler: T) -> Result<Queue<T>, AllocError>
+        requires initial { length initial.now ≤ room }
+        requires room { room ≤ 4_611_686_018_427_387_904 }
+        ensures { IfOk result (λ q. q ≡ record { samples = initial.now; room = room }) }
+    {
+        let items = self.items;
+        if items.len() != room + room {
+            let alloc = *items.allocator();
+            drop(items);
+            return Queue::new(alloc, initial, room, filler);
+        }
+        let mut queue = Queue {
+            items,
+            start: 0,
+            end: 0,
+            room,
+        };
+        queue.put(initial);
+        Ok(queue)
+    }
+
     /// How many samples there are.
     pub fn len(&self) -> usize
         ensures { result ≡ length self.now.samples }

@@ -37,6 +37,25 @@ fn put_by(channel: &Channel, firings: u32) -> usize
     total
 }
 
+/// Makes the queue of `channel`, in the buffer of `spares[channel]` if there is one, which is left with no room.
+fn renew_queue<T: Copy>(
+    alloc: Global,
+    spares: &mut [Queue<T>],
+    channel: usize,
+    initial: &[T],
+    room: usize,
+    filler: T,
+) -> Result<Queue<T>, AllocError>
+    requires initial { length initial.now ≤ room }
+    requires room { room ≤ 4_611_686_018_427_387_904 }
+    ensures { IfOk result (λ q. q ≡ record { samples = initial.now; room = room }) }
+{
+    if channel < spares.len() {
+        return spares[channel].lift().renewed(initial, room, filler);
+    }
+    Queue::new(alloc, initial, room, filler)
+}
+
 /// The samples that each channel begins with, and room for these and what so many periods put there.
 pub fn make_queues<A: Actor>(
     alloc: Global,
@@ -55,11 +74,36 @@ pub fn make_queues<A: Actor>(
           room = length (wire net.now c).initial + periods * r.produced c (slice_index repetitions.now (r.source c));
         })) }
 {
+    let mut spares = Vec::new(alloc);
+    renew_queues(alloc, net, repetitions, periods, filler, &mut spares)
+}
+
+/// Makes the queues that `make_queues` makes, in the buffers of `spares`: queues of an earlier run, by channel. It takes
+/// the buffers out of them.
+pub fn renew_queues<A: Actor>(
+    alloc: Global,
+    net: &Net<A>,
+    repetitions: &[u32],
+    periods: u32,
+    filler: A::Token,
+    spares: &mut [Queue<A::Token>],
+) -> Result<Vec<Queue<A::Token>>, AllocError>
+    requires all { length repetitions.now ≡ length net.now.nodes }
+    requires short { (a : ℕ) → a < length repetitions.now → slice_index repetitions.now a ≤ 65536 }
+    requires few { periods ≤ 65536 }
+    ensures { let r = rates (graph_of A.steps net.now) in
+        IfOk result (λ v. (vec_len v ≡ length net.now.wires) × ((c : ℕ) → c < length net.now.wires →
+        slice_index_or v.items c nothing ≡ record {
+          samples = (wire net.now c).initial;
+          room = length (wire net.now c).initial + periods * r.produced c (slice_index repetitions.now (r.source c));
+        })) }
+{
     let graph = net.graph();
     let mut queues = Vec::with_capacity(alloc, net.channels())?;
     for (c, channel) in graph.channels().iter().enumerate() {
         let room = channel.initial + put_in(channel, repetitions[channel.from], periods);
-        queues.push(Queue::new(alloc, &net.link(c).initial, room, filler)?)?;
+        let initial = &net.link(c).initial;
+        queues.push(renew_queue(alloc, spares, c, initial, room, filler)?)?;
     }
     Ok(queues)
 }

@@ -13,11 +13,11 @@ ghost use Rattle.sdf_answer.specs.Feeds.{HasRun, GoesOnBy};
 ghost use Rattle.sdf_run.specs.Fired.{IsPassage, TakeWhatItMakes, state_in};
 
 use crate::fired::{Passage, fired};
+use crate::spares::Spares;
 use crate::work::Work;
 use sdf_actor::{Actor, Begun, Net, Rest};
 use sdf_answer::inputs::{are_inputs, first_sample};
 use sdf_answer::laws::{begun_nets_go_on, histories_make_runs, net_facts, nets_have_periods};
-use sdf_answer::outputs::make_outputs;
 use sdf_answer::queue::held;
 use sdf_answer::{Ran, RunFault};
 use sdf_sched::Period;
@@ -53,6 +53,7 @@ fn run<A: Actor>(
     passage: Passage<'_, A>,
     filler: A::Token,
     outputs: Vec<Vec<A::Token>>,
+    spares: &mut Spares<A::Token>,
 ) -> Result<(Vec<Vec<A::Token>>, Rest<A::Token, A::State>), AllocError>
     requires passage { IsPassage A.steps passage }
     requires short { passage.periods < 2 ^ 32 }
@@ -63,11 +64,12 @@ fn run<A: Actor>(
     net_facts(passage.net);
     histories_make_runs::<A>();
     sdf_actor::laws::nets_are_wired::<A>();
-    let finished = fired(alloc, passage, filler, outputs)?;
+    let finished = fired(alloc, passage, filler, outputs, &mut spares.queues)?;
     let rest = Rest {
         states: states_of(alloc, &finished.works)?,
         held: held(alloc, &finished.queues)?,
     };
+    spares.queues = finished.queues;
     Ok((finished.outputs, rest))
 }
 
@@ -76,6 +78,7 @@ fn fill<A: Actor>(
     alloc: Global,
     passage: Passage<'_, A>,
     outputs: Vec<Vec<A::Token>>,
+    spares: &mut Spares<A::Token>,
 ) -> Result<(Vec<Vec<A::Token>>, Rest<A::Token, A::State>), AllocError>
     requires passage { IsPassage A.steps passage }
     requires short { passage.periods < 2 ^ 32 }
@@ -87,7 +90,7 @@ fn fill<A: Actor>(
     net_facts(passage.net);
     histories_make_runs::<A>();
     match first_sample(passage.inputs) {
-        Some(filler) => run(alloc, passage, filler, outputs),
+        Some(filler) => run(alloc, passage, filler, outputs, spares),
         None => Ok((outputs, passage.net.first_rest(alloc)?)),
     }
 }
@@ -107,19 +110,45 @@ pub fn feed_one<A: Actor>(
         × (fed.0.rounds ≡ 0))
         (IsRunFault net.now q periods (lists inputs.now)) }
 {
+    feed_one_in(
+        alloc,
+        net,
+        period,
+        periods,
+        inputs,
+        &mut Spares::none(alloc),
+    )
+}
+
+/// Runs a net as `feed_one` does, in the memory that earlier runs left in `spares`.
+fn feed_one_in<A: Actor>(
+    alloc: Global,
+    net: &Net<A>,
+    period: &Period,
+    periods: u32,
+    inputs: &[Vec<A::Token>],
+    spares: &mut Spares<A::Token>,
+) -> Result<(Ran<A::Token>, Rest<A::Token, A::State>), RunFault>
+    requires period { IsPeriodOf (rates (graph_of A.steps net.now)) period.now }
+    ensures { let q = period.now.repetitions in MatchResult result
+        (λ fed. HasInputs net.now q periods (lists inputs.now)
+        × HasRun A.steps net.now (lists inputs.now) (periods_of q periods) (lists fed.0.outputs.items) fed.1
+        × (fed.0.rounds ≡ 0))
+        (IsRunFault net.now q periods (lists inputs.now)) }
+{
     let least = periods as usize * net.samples_in();
     if !are_inputs(inputs, net.inputs(), least) {
         return Err(RunFault::InputLength);
     }
     let room = periods as usize * net.samples_out();
-    let outputs = make_outputs(alloc, net.outputs(), room)?;
+    let outputs = spares.take_outputs(alloc, net.outputs(), room)?;
     let passage = Passage {
         net,
         period,
         periods,
         inputs,
     };
-    let (outputs, rest) = fill(alloc, passage, outputs)?;
+    let (outputs, rest) = fill(alloc, passage, outputs, spares)?;
     Ok((Ran { outputs, rounds: 0 }, rest))
 }
 
@@ -141,8 +170,40 @@ pub fn resume_one<A: Actor>(
         × (fed.0.rounds ≡ 0))
         (IsRunFault net.now q periods (lists inputs.now)) }
 {
+    let passage = Passage {
+        net,
+        period,
+        periods,
+        inputs,
+    };
+    resume_one_in(alloc, passage, rest, &mut Spares::none(alloc))
+}
+
+/// Goes on as `resume_one` does, in the memory that earlier runs left in `spares`, and leaves its own there. In this
+/// way a sound that is run in many pieces asks for most of its memory once.
+pub fn resume_one_in<A: Actor>(
+    alloc: Global,
+    passage: Passage<'_, A>,
+    rest: &Rest<A::Token, A::State>,
+    spares: &mut Spares<A::Token>,
+) -> Result<(Ran<A::Token>, Rest<A::Token, A::State>), RunFault>
+    requires period { IsPeriodOf (rates (graph_of A.steps passage.net.now)) passage.period.now }
+    requires rest { (first : List (List A.Token)) × (few : ℕ)
+        × IsRest A.steps passage.net.now first (periods_of passage.period.now.repetitions few) rest.now }
+    ensures { let q = passage.entry.period.now.repetitions in MatchResult result
+        (λ fed. GoesOnBy A.steps passage.entry.net.now q rest.now passage.entry.periods
+        (lists passage.entry.inputs.now) (lists fed.0.outputs.items) fed.1
+        × (fed.0.rounds ≡ 0))
+        (IsRunFault passage.entry.net.now q passage.entry.periods (lists passage.entry.inputs.now)) }
+{
+    let Passage {
+        net,
+        period,
+        periods,
+        inputs,
+    } = passage;
     nets_have_periods(net);
     begun_nets_go_on::<A, Begun<A>>();
     let begun = net.begun(alloc, rest)?;
-    feed_one(alloc, &begun, period, periods, inputs)
+    feed_one_in(alloc, &begun, period, periods, inputs, spares)
 }

@@ -8,9 +8,9 @@ use crate::cycles::make_cycles;
 use crate::run::Run;
 use crate::setup::make_works;
 use sdf_actor::{Actor, Net};
-use sdf_answer::Sizes;
 use sdf_answer::laws::{histories_make_outputs, net_facts, nets_can_run, nets_have_periods};
-use sdf_answer::rooms::make_queues;
+use sdf_answer::rooms::renew_queues;
+use sdf_answer::{Queue, Sizes};
 use sdf_sched::Period;
 use std::alloc::{AllocError, Global};
 
@@ -37,21 +37,23 @@ fn block_periods(samples: usize) -> u32
     }
 }
 
-/// What is run: so many periods of a net, on inputs that hold them.
+/// A net, its period, and the inputs on which it is run for `periods` periods.
 #[derive_where(Clone, Copy)]
-pub(crate) struct Passage<'a, A: Actor> {
-    pub(crate) net: &'a Net<A>,
-    pub(crate) period: &'a Period,
-    pub(crate) periods: u32,
-    pub(crate) inputs: &'a [Vec<A::Token>],
+pub struct Passage<'a, A: Actor> {
+    pub net: &'a Net<A>,
+    pub period: &'a Period,
+    pub periods: u32,
+    /// The input lists, by number.
+    pub inputs: &'a [Vec<A::Token>],
 }
 
-/// A run that has fired all its periods.
+/// Fires all periods of a run, whose queues are made in the buffers of `spares`.
 pub(crate) fn fired<'a, A: Actor>(
     alloc: Global,
     passage: Passage<'a, A>,
     filler: A::Token,
     outputs: Vec<Vec<A::Token>>,
+    spares: &mut [Queue<A::Token>],
 ) -> Result<Run<'a, A>, AllocError>
     requires passage { IsPassage A.steps passage }
     requires short { passage.periods < 2 ^ 32 }
@@ -75,7 +77,7 @@ pub(crate) fn fired<'a, A: Actor>(
     let works = make_works(alloc, net, &sizes, filler)?;
     let repetitions = period.repetitions();
     let size = block_periods(net.samples_in());
-    let queues = make_queues(alloc, net, repetitions, size, filler)?;
+    let queues = renew_queues(alloc, net, repetitions, size, filler, spares)?;
     let done = none_done(alloc, repetitions)?;
     let mut run = Run {
         net,

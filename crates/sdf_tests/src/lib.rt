@@ -30,4 +30,6 @@ mod sessions;
 #[cfg(test)]
 mod small_nets;
 #[cfg(test)]
+mod spare_memory;
+#[cfg(test)]
 mod turns;

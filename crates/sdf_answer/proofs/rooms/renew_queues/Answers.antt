@@ -5,7 +5,7 @@ use Rattle.sdf_actor.specs.Graphs.{graph_of}
 use Rattle.sdf_actor.specs.Nets.{wire}
 use Rattle.sdf_answer.specs.Blocks.{nothing}
 use Rattle.sdf_answer.proofs.Readings.{vec_long}
-use Rattle.sdf_answer.proofs.rooms.make_queues.Goals as goal
+use Rattle.sdf_answer.proofs.rooms.renew_queues.Goals as goal
 
 the_channel : (items : List Edge) (x : Shape) (e : Edge) (i : ℕ) → e ≡ get_or items i e → i < length items →
     items ≡ x.channels → e ≡ channel x i
@@ -48,7 +48,7 @@ loop-c-preserved g c =
     let r = rates (graph_of g.A.Actor.steps n) in
     let q = c.args.repetitions.now in
     let was = c.loop-c.queues.items in
-    let new = c.in_ok-new.field-0 in
+    let new = c.in_ok-renew_queue.field-0 in
     let list = c.channels-channel-items.ensures.list in
     let edge = the_channel c.channels-channel-items.result.now (graph_of g.A.Actor.steps n) c.channel-item.result i
     c.channel-item.is l (list ∙ ap (λ x. x.channels) c.graph-graph.ensures.value) in
@@ -69,5 +69,5 @@ loop-c-preserved g c =
           (λ k h. ap (λ qs. get_or qs k nothing) c.in_ok-push.ensures.items
           ∙ (get_or_append_left was _ nothing k (omega (arith, long, h)) ∙ c.loop-c.invariant.each k h))
           (ap (λ qs. get_or qs i nothing) c.in_ok-push.ensures.items ∙ (get_or_push was new nothing i long
-          ∙ (c.in_ok-new.ensures ∙ (λ κ. record { samples = samples κ; room = begins κ + put κ }))));
+          ∙ (c.in_ok-renew_queue.ensures ∙ (λ κ. record { samples = samples κ; room = begins κ + put κ }))));
     }

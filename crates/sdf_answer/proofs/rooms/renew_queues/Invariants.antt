@@ -3,7 +3,7 @@ use Rattle.sdf_graph.specs.Rates.{rates}
 use Rattle.sdf_actor.specs.Nets.{wire}
 use Rattle.sdf_actor.specs.Graphs.{graph_of}
 use Rattle.sdf_answer.specs.Blocks.{nothing}
-use Rattle.sdf_answer.proofs.rooms.make_queues.Given as goal
+use Rattle.sdf_answer.proofs.rooms.renew_queues.Given as goal
 
 abbrev pub invariant-loop-c : goal.invariant-loop-c
 invariant-loop-c g l = record {

@@ -1,0 +1,46 @@
+//! The memory that runs on one thread hand on.
+
+ghost use Rattle.std.specs.Prelude.{IfOk};
+ghost use Rattle.sdf_answer.specs.Lists.{AreEmpty};
+
+use sdf_answer::Queue;
+use sdf_answer::outputs::renew_outputs;
+use std::alloc::{AllocError, Global};
+use std::mem;
+
+/// The memory that a run on one thread leaves to the next one: its queues, and its output lists once they are given
+/// back. Its size follows the last run.
+#[derive(Drop)]
+pub struct Spares<T> {
+    pub(crate) queues: Vec<Queue<T>>,
+    pub(crate) outputs: Vec<Vec<T>>,
+}
+
+impl<T: Copy> Spares<T> {
+    /// Begins with no memory, and takes none.
+    pub fn none(alloc: Global) -> Spares<T> {
+        Spares {
+            queues: Vec::new(alloc),
+            outputs: Vec::new(alloc),
+        }
+    }
+
+    /// Keeps the memory of the output lists of a run. The next run drops their samples.
+    pub fn give_back(&mut self, outputs: Vec<Vec<T>>) {
+        self.outputs = outputs;
+    }
+
+    /// Makes `many` empty output lists with room for `room` samples each, of those that were given back if they fit. The
+    /// others are freed.
+    pub(crate) fn take_outputs(
+        &mut self,
+        alloc: Global,
+        many: usize,
+        room: usize,
+    ) -> Result<Vec<Vec<T>>, AllocError>
+        ensures { IfOk result (λ v. AreEmpty v.items many room) }
+    {
+        let mut lists = mem::replace(&mut self.outputs, Vec::new(alloc));
+        renew_outputs(alloc, many, room, &mut lists)
+    }
+}
