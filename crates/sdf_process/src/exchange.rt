@@ -140,22 +140,25 @@ impl Exchange {
         requires { IsExchange self }
         ensures { IfOk result (λ all. items_of all.items ≡ lists_to periods self input) }
     {
-        channel_lists(alloc, &input, 0, periods as usize * self.taken, self.inputs)
+        let len = periods as usize * self.taken;
+        channel_lists(alloc, &input, 0, len, self.inputs, &mut [])
     }
 
-    /// The input lists for some periods behind the first ones, with zeros past the end of the sound.
+    /// Makes the input lists for `periods` periods behind the first `at`, with zeros past the end of the sound, in the
+    /// memory of `spares`.
     pub(crate) fn inputs_from(
         self,
         alloc: Global,
         input: &Wav,
         at: u32,
         periods: u32,
+        spares: &mut [Vec<i32>],
     ) -> Result<Vec<Vec<i32>>, AllocError>
         requires { IsExchange self }
         ensures { IfOk result (λ all. items_of all.items ≡ lists_from at periods self input.now) }
     {
         let from = at as usize * self.taken;
         let len = periods as usize * self.taken;
-        channel_lists(alloc, input, from, len, self.inputs)
+        channel_lists(alloc, input, from, len, self.inputs, spares)
     }
 }

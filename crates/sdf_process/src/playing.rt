@@ -1,4 +1,5 @@
-//! A net that plays a sound on one thread, some periods at a time: what is held is what these periods read and make.
+//! A net that plays a sound on one thread, some periods at a time: what is held is what these periods read and make,
+//! and the memory of the periods before, which they use again.
 
 ghost use Rattle.std.specs.Prelude.{◌≡◌, ◌+◌, ◌-◌, ◌*◌, ◌≤◌, ◌<◌, ℕ, List, false, IfOk, MatchResult};
 ghost use Rattle.sdf_actor.specs.declared.sides.Lists.TheVariants.{Outputs};
@@ -18,7 +19,7 @@ use sdf_actor::{Net, Rest};
 use sdf_kit::{Kept, Kit};
 use sdf_plan::Fault;
 use sdf_run::laws::{histories_make_runs, net_facts, nets_can_run, nets_have_periods};
-use sdf_run::resume_one;
+use sdf_run::{Passage, Spares, resume_one_in};
 use sdf_sched::Period;
 use sdf_wav::laws::puts_join;
 use sdf_wav::{ContentOut, Wav, Writer};
@@ -42,6 +43,26 @@ struct Piece {
     many: u32,
 }
 
+/// The memory that each piece of a sound leaves to the next one.
+#[derive(Drop)]
+struct Memory {
+    alloc: Global,
+    /// The input lists of the last piece.
+    inputs: Vec<Vec<i32>>,
+    spares: Spares<i32>,
+}
+
+impl Memory {
+    /// Begins with none.
+    fn new(alloc: Global) -> Memory {
+        Memory {
+            alloc,
+            inputs: Vec::new(alloc),
+            spares: Spares::none(alloc),
+        }
+    }
+}
+
 /// How many periods make a piece.
 fn piece_periods(exchange: Exchange) -> u32
     requires { IsExchange exchange }
@@ -57,7 +78,7 @@ fn piece_periods(exchange: Exchange) -> u32
 
 /// Runs some more periods of a sound, with zeros past its end.
 fn play(
-    alloc: Global,
+    memory: &mut Memory,
     player: Player<'_>,
     rest: &Rest<i32, Kept>,
     piece: Piece,
@@ -71,14 +92,26 @@ fn play(
         (λ e. e ≡ OutOfMemory) }
 {
     let exchange = Exchange::of_net(player.net);
-    let inputs = exchange.inputs_from(alloc, player.input, piece.at, piece.many)?;
-    let (ran, last) = resume_one(alloc, player.net, player.period, rest, piece.many, &inputs)?;
+    let Memory {
+        alloc,
+        inputs,
+        spares,
+    } = memory;
+    let lists = exchange.inputs_from(*alloc, player.input, piece.at, piece.many, inputs)?;
+    let passage = Passage {
+        net: player.net,
+        period: player.period,
+        periods: piece.many,
+        inputs: &lists,
+    };
+    let (ran, last) = resume_one_in(*alloc, passage, rest, spares)?;
+    *inputs = lists;
     Ok((ran.outputs, last))
 }
 
 /// Runs some more periods of a sound, and writes their frames.
 fn put_piece<W: Writer>(
-    alloc: Global,
+    memory: &mut Memory,
     writer: &mut W,
     player: Player<'_>,
     output: &mut ContentOut,
@@ -110,14 +143,15 @@ fn put_piece<W: Writer>(
     nets_can_run::<Kit>();
     nets_are_wired::<Kit>();
     let exchange = Exchange::of_net(player.net);
-    let (lists, last) = play(alloc, player, rest, piece)?;
+    let (lists, last) = play(memory, player, rest, piece)?;
     put_frames(
-        alloc,
+        memory.alloc,
         writer,
         output,
         &lists,
         piece.many as usize * exchange.made,
     )?;
+    memory.spares.give_back(lists);
     Ok(last)
 }
 
@@ -144,11 +178,13 @@ pub(crate) fn put_pieces<W: Writer>(
     histories_make_runs::<Kit>();
     let exchange = Exchange::of_net(player.net);
     let most = piece_periods(exchange);
+    let mut memory = Memory::new(alloc);
     let mut rest = player.net.first_rest(alloc)?;
     let mut at = 0;
     while at < periods {
         let many = most.min(periods - at);
-        rest = put_piece(alloc, writer, player, output, &rest, Piece { at, many })?;
+        let piece = Piece { at, many };
+        rest = put_piece(&mut memory, writer, player, output, &rest, piece)?;
         at += many;
     }
     Ok(())

@@ -7,30 +7,60 @@ ghost use Rattle.std.specs.List.{range_with_len};
 ghost use Rattle.sdf_actor.specs.Wires.{lists as items_of};
 ghost use Rattle.sdf_process.specs.Output.{channel_samples_from, interleaved_from};
 
+use sdf_answer::outputs::take_spare;
 use sdf_wav::Wav;
 use std::alloc::{AllocError, Global};
 
-/// Puts every so many-th sample from a place on into a silent list, as far as there are samples.
-fn copy_channel(samples: &[i16], start: usize, channels: usize, list: &mut [i32])
+/// Fills `list` with one sample in `channels` from `start` on, and with zeros past the end of `samples`.
+fn fill_channel(samples: &[i16], start: usize, channels: usize, list: &mut [i32])
     requires channels { 1 ≤ channels }
-    requires silent { (at : ℕ) → slice_index_or list.old at (pos 0) ≡ pos 0 }
     ensures copied { (at : ℕ) → at < length list.old → slice_index_or list.new at (pos 0) ≡
         slice_index_or samples.now (start + at * channels) (pos 0) }
     ensures count { length list.new ≡ length list.old }
 {
     let left = samples.len().saturating_sub(start);
-    for at in 0..left.div_ceil(channels).min(list.len()) {
+    let many = left.div_ceil(channels).min(list.len());
+    silence(list, many);
+    // With a stride of 1 that is known, the compiler copies several samples at a time.
+    if channels == 1 {
+        copy_channel(samples, start, 1, list, many);
+    } else {
+        copy_channel(samples, start, channels, list, many);
+    }
+}
+
+/// Puts zeros from the place `from` on.
+fn silence(list: &mut [i32], from: usize)
+    requires { from ≤ length list.old }
+    ensures silent { (at : ℕ) → from ≤ at → slice_index_or list.new at (pos 0) ≡ pos 0 }
+    ensures count { length list.new ≡ length list.old }
+{
+    list[from..].fill(0);
+}
+
+/// Copies `many` samples to the front of `list`: one in `channels` from `start` on.
+#[inline(always)]
+fn copy_channel(samples: &[i16], start: usize, channels: usize, list: &mut [i32], many: usize)
+    requires room { many ≤ length list.old }
+    requires within { (at : ℕ) → at < many → start + at * channels < length samples.now }
+    ensures copied { (at : ℕ) → at < many → slice_index_or list.new at (pos 0) ≡
+        slice_index_or samples.now (start + at * channels) (pos 0) }
+    ensures kept { (at : ℕ) → many ≤ at → slice_index_or list.new at (pos 0) ≡ slice_index_or list.old at (pos 0) }
+    ensures count { length list.new ≡ length list.old }
+{
+    for at in 0..many {
         list[at] = i32::from(samples[start + at * channels]);
     }
 }
 
-/// Samples of a channel from a place on, with zeros past the end.
+/// Makes the list of `len` samples of a channel from frame `from` on, with zeros past the end, in the memory of
+/// `spare`.
 fn channel_list(
-    alloc: Global,
     input: &Wav,
     from: usize,
     len: usize,
     channel: usize,
+    spare: Vec<i32>,
 ) -> Result<Vec<i32>, AllocError>
     requires channel { channel < 2 ^ 32 }
     requires len { from + len < 2 ^ 59 }
@@ -38,18 +68,20 @@ fn channel_list(
 {
     let channels = usize::from(input.channels());
     let start = from * channels + channel;
-    let mut list = vec![in alloc; 0; len]?;
-    copy_channel(input.samples(), start, channels, &mut list);
+    let mut list = spare;
+    list.resize(len, 0)?;
+    fill_channel(input.samples(), start, channels, &mut list);
     Ok(list)
 }
 
-/// So many samples of each of the lowest channels, from a place on.
+/// Makes lists of `len` samples of each of the lowest channels, from frame `from` on, in the memory of `spares`.
 pub(crate) fn channel_lists(
     alloc: Global,
     input: &Wav,
     from: usize,
     len: usize,
     channels: usize,
+    spares: &mut [Vec<i32>],
 ) -> Result<Vec<Vec<i32>>, AllocError>
     requires channels { channels < 2 ^ 32 }
     requires len { from + len < 2 ^ 59 }
@@ -58,7 +90,8 @@ pub(crate) fn channel_lists(
 {
     let mut all = Vec::new(alloc);
     for channel in 0..channels {
-        all.push(channel_list(alloc, input, from, len, channel)?)?;
+        let spare = take_spare(alloc, spares, channel);
+        all.push(channel_list(input, from, len, channel, spare)?)?;
     }
     Ok(all)
 }
@@ -81,6 +114,27 @@ fn samples_between(list: &[i32], from: usize, to: usize) -> &[i32]
 
 /// Puts a list's samples into a channel of frames that is silent yet, each sample clamped to 16 bits.
 fn put_channel(list: &[i32], channel: usize, channels: usize, samples: &mut [i16])
+    requires channel { channel < channels }
+    requires room { length list.now * channels ≤ length samples.old }
+    requires silent { (at : ℕ) → slice_index_or samples.old (at * channels + channel) (pos 0) ≡ pos 0 }
+    ensures put { (at : ℕ) → slice_index_or samples.new (at * channels + channel) (pos 0) ≡
+        saturate_signed w16 (slice_index_or list.now at (pos 0)) }
+    ensures kept { (at other : ℕ) → other < channels → other ≢ channel →
+        slice_index_or samples.new (at * channels + other) (pos 0) ≡
+        slice_index_or samples.old (at * channels + other) (pos 0) }
+    ensures count { length samples.new ≡ length samples.old }
+{
+    // With a stride of 1 that is known, the compiler puts several samples at a time.
+    if channels == 1 {
+        put_samples(list, channel, 1, samples);
+    } else {
+        put_samples(list, channel, channels, samples);
+    }
+}
+
+/// Puts the samples of `list` into `channel` of frames that are silent there, each sample clamped to 16 bits.
+#[inline(always)]
+fn put_samples(list: &[i32], channel: usize, channels: usize, samples: &mut [i16])
     requires channel { channel < channels }
     requires room { length list.now * channels ≤ length samples.old }
     requires silent { (at : ℕ) → slice_index_or samples.old (at * channels + channel) (pos 0) ≡ pos 0 }

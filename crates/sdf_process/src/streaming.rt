@@ -173,7 +173,8 @@ impl<'a> Stream<'a> {
         nets_are_wired::<Kit>();
         let alloc = rt.alloc();
         let periods = portion.many * self.blocking;
-        let inputs = self.exchange.inputs_from(alloc, portion.input, 0, periods)?;
+        let exchange = self.exchange;
+        let inputs = exchange.inputs_from(alloc, portion.input, 0, periods, &mut [])?;
         let ran = self.session.feed(rt, &inputs, gate)?;
         put_frames(
             alloc,

@@ -10,5 +10,5 @@ returns-in_err-ran c =
     (c.of_net-exchange.ensures.value c.args.player.period.now.repetitions c.requires.player.period.least)
     c.args.piece.at c.args.piece.many
     (items_of c.deref.result.now)
-    (ap items_of c.deref.ensures.value ∙ c.in_ok-inputs.ensures) c.in_err-ran.field-0.0
+    (ap items_of c.deref.ensures.value ∙ c.in_ok-lists.ensures) c.in_err-ran.field-0.0
     c.from_residual-in_err-ran.result _ c.in_err-ran.ensures c.from_residual-in_err-ran.ensures.1

@@ -3,7 +3,7 @@ use Rattle.std.specs.Int.{saturate_signed}
 use Rattle.std.proofs.lemmas.Int.{to_z-of_z}
 use Rattle.std.proofs.lemmas.Nat.{mul-add-lt}
 use Rattle.sdf_process.proofs.Channels.{channel_more, other_channel}
-use Rattle.sdf_process.proofs.samples.put_channel.Goals as goal
+use Rattle.sdf_process.proofs.samples.put_samples.Goals as goal
 
 pub loop-at-preserved : goal.loop-at-preserved
 loop-at-preserved c =

@@ -1,6 +1,6 @@
 use Rattle.std.proofs.Common.{◌≡◌, ◌≢◌, ℕ, ◌+◌, ◌*◌, ◌<◌, get_or, pos, take}
 use Rattle.std.specs.Int.{w16, saturate_signed}
-use Rattle.sdf_process.proofs.samples.put_channel.Given as goal
+use Rattle.sdf_process.proofs.samples.put_samples.Given as goal
 
 abbrev pub invariant-loop-at : goal.invariant-loop-at
 invariant-loop-at l = record {
