@@ -1,4 +1,4 @@
-//! Runs on one thread in the memory of earlier runs, also of other nets and lengths, beside runs in new memory.
+//! Compares runs on one thread in the memory of earlier runs with runs in new memory, across nets and lengths.
 
 use crate::kits::{BLOCKS, PLAIN, Worked};
 use crate::nets::ramp;
@@ -10,7 +10,7 @@ use std::alloc::Global;
 use std::test::Fail;
 use test_texts::row_says;
 
-/// A name, a net, a number of periods, and what is told. The rows run one after another in the same memory, each twice.
+/// A name, a net, a number of periods, and the wanted text. Each row runs twice, in the memory of the runs before.
 type Row = (&'static str, Worked, u32, &'static str);
 
 const ROWS: &[Row] = &[
@@ -27,8 +27,8 @@ const ROWS: &[Row] = &[
     ("longer than before", Worked::Converter, 130, "alike"),
 ];
 
-/// Resumes a run in new memory and in `spares`, and says whether both make the same and leave the same samples.
-fn told<A: Actor<Token = i32>>(
+/// Resumes a run in new memory and in `spares`, and compares the outputs and the samples on the channels.
+fn compare<A: Actor<Token = i32>>(
     alloc: Global,
     net: &Net<A>,
     periods: u32,
@@ -62,8 +62,8 @@ fn runs_in_the_memory_of_others(rt: HostRuntime) -> Result<(), Fail> {
     let mut spares = Spares::none(alloc);
     for (name, worked, periods, wanted) in ROWS {
         let net = worked.net(alloc)?;
-        row_says(name, told(alloc, &net, *periods, &mut spares), wanted)?;
-        row_says(name, told(alloc, &net, *periods, &mut spares), wanted)?;
+        row_says(name, compare(alloc, &net, *periods, &mut spares), wanted)?;
+        row_says(name, compare(alloc, &net, *periods, &mut spares), wanted)?;
     }
     Ok(())
 }
