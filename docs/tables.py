@@ -6,7 +6,6 @@
 - The head of each crate's root file names the crates that crates.txt says it stands on, and where to begin; so does
   the list of crates in docs/ARCHITECTURE.md.
 - What an edit of must-fail/ or mutants/ is to replace stands once in its file.
-- Designs that a test repeats are those of examples/.
 - Blocks marked `console`, in each document: each command, run at the top of the repository, prints what stands below.
 - No line of a document is over 120 columns.
 
@@ -28,7 +27,7 @@ from sources import functions, places
 PAGE = TOP / "docs" / "FORMATS.md"
 PROOFS = TOP / "docs" / "PROOFS.md"
 HEAD = "Each with its number, its name and how its line goes on:\n\n"
-PAPERS = [*TOP.glob("*.md"), *TOP.glob("docs/*.md"), *TOP.glob("examples/*.md")]
+PAPERS = [*TOP.glob("*.md"), *TOP.glob("docs/*.md"), *TOP.glob("examples/*.md"), *TOP.glob("hostile/*.md")]
 WIDTH = 120
 
 
@@ -168,17 +167,6 @@ def stands_on():
     return wrong
 
 
-def designs():
-    """What is wrong with the texts of examples that tests repeat."""
-    path = TOP / "crates" / "sdfw_tests" / "src" / "examples.rt"
-    test = path.read_text() if path.exists() else ""
-    repeated = re.findall(r'^/// `(examples/\S+)`\.\nconst \w+: &str =\s+r#"(.*?)"#;', test, re.M | re.S)
-    wrong = [f"{path} is not what the tests say" for path, text in repeated if (TOP / path).read_text() != text]
-    if len(repeated) != test.count("const "):
-        wrong.append("crates/sdfw_tests/src/examples.rt: a design that is not compared")
-    return wrong
-
-
 def consoles(program):
     """What is wrong with the blocks marked `console`."""
     wrong = []
@@ -210,7 +198,7 @@ def main():
     program = words[0] if words else os.path.relpath(TOP / "build" / "sdfw", TOP)
     os.chdir(TOP)
     wrong = faults(program, "--write" in sys.argv) + kinds(program) + unedited() + edits() + heads() + stands_on()
-    wrong += designs() + consoles(program) + widths()
+    wrong += consoles(program) + widths()
     print("\n".join(wrong) or "the documents say what the program and the sources say")
     sys.exit(1 if wrong else 0)
 
