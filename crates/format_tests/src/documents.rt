@@ -165,6 +165,11 @@ const READ: &[(&str, &str, &str)] = &[
         "54 BadName actor 2 key name",
     ),
     (
+        "name = \"out\"",
+        "name = \"out\"\ncost = 0",
+        "28 KitValue actor 2 key cost",
+    ),
+    (
         "kind = \"gain\"",
         "kind = \"again\"",
         "56 UnknownKind actor 1",
@@ -180,6 +185,11 @@ const READ: &[(&str, &str, &str)] = &[
         "57 BadPort link 0 key from",
     ),
     ("to = \"out\"", "to = \"outer\"", "57 BadPort link 1 key to"),
+    (
+        "to = \"g:0\"",
+        "to = \"g:0\"\ninitial = [1, \"a\"]",
+        "53 WrongType link 0 key initial",
+    ),
     (
         "initial = [1, -2]",
         "initial = [1, \"a\"]",

@@ -37,6 +37,11 @@ const FILES: &[(&[u8], &[u8], &str)] = &[
         b"data\xFF\xFF\xFF\xFF\x01\0\xFE",
         "44 PartialFrame",
     ),
+    (
+        EXTENSIBLE,
+        b"data\x04\0\0\0\x01\0\xFE\xFFmore",
+        "44100 [1, -2]",
+    ),
     (EXTENSIBLE, b"data\x04\0\0\0\x01\0\xFE", "43 Truncated"),
     (EXTENSIBLE, b"data\x03\0\0\0\x01\0\xFE", "44 PartialFrame"),
     (EXTENSIBLE, b"", "42 NoData"),

@@ -57,6 +57,14 @@ const THREE: Hold<'static> = Hold {
     turns: MANY_TURNS,
 };
 
+/// The first firings of two branches wait for each other.
+const TWO: Hold<'static> = Hold {
+    held: &[2, 3],
+    many: 1,
+    awaited: &[2, 3],
+    ..THREE
+};
+
 const FOUR: Hold<'static> = Hold {
     held: &[2, 3, 4, 5],
     awaited: &[2, 3, 4, 5],
@@ -201,6 +209,14 @@ const ROWS: &[Row] = &[
     },
     Row {
         name: "three meet over rings",
+        ..BRANCHES
+    },
+    Row {
+        name: "the first firings of two meet over rings without patience",
+        net: Worked::Branches(2),
+        workers: 2,
+        mode: IMPATIENT,
+        hold: TWO,
         ..BRANCHES
     },
     Row {

@@ -1,6 +1,6 @@
 //! Designs run by workers, in blocks or by another policy: what is written is what one thread writes.
 
-use crate::designs::{BLOCKS, CHAIN, INITIAL, LOOP, SWAP};
+use crate::designs::{BLOCKS, CHAIN, INITIAL, LOOP, SECOND_DOUBLED, SWAP};
 use crate::running::Samples::{Counted, These};
 use crate::running::{Samples, row_makes, run_file, sound};
 use sdf_options::Runner::{Rings, Rows};
@@ -121,6 +121,22 @@ const CREWED: &[Row] = &[
         options: HU,
         by: &[(Rows, 2, 2, 1000)],
     },
+    Row {
+        name: "dealt and gathered one by one",
+        graph: SECOND_DOUBLED,
+        channels: 1,
+        samples: These(&[1, 2, 3, 4, 5]),
+        len: 56,
+        options: Options::DEFAULT,
+        by: &[
+            (Rows, 1, 1, 1000),
+            (Rows, 2, 1, 1000),
+            (Rows, 2, 2, 1000),
+            (Rings, 1, 1, 0),
+            (Rings, 2, 1, 0),
+            (Rings, 3, 2, 1000),
+        ],
+    },
 ];
 
 /// By homes that are worked out.
@@ -169,6 +185,15 @@ const OTHERS: &[Row] = &[
             (Rings, 1, 1, 1000),
             (Rings, 1, 2, 1000),
         ],
+    },
+    Row {
+        name: "one thread in blocks of two periods and of 64",
+        graph: CHAIN,
+        channels: 1,
+        samples: Counted(148),
+        len: 684,
+        options: Options::DEFAULT,
+        by: &[(Runner::One, 1, 2, 1000), (Runner::One, 1, 64, 1000)],
     },
     Row {
         name: "blocks by a lean order",

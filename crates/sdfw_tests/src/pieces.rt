@@ -1,12 +1,14 @@
-//! Sounds that are read, run and written piece by piece: what the calls of the devices ask for, and what is written of
-//! a sound that is cut off.
+//! Sounds that are read, run and written piece by piece: what the calls of the devices ask for, how many blocks are fed
+//! at a time, and what is written of a sound that is cut off.
 
 use crate::designs::{CHAIN, HALF, SUM};
 use crate::devices::seen;
 use crate::running::Samples::Counted;
-use crate::running::{end_of, file_of, half_of, run_file, run_with, samples_of, sound};
+use crate::running::{end_of, file_of, half_of, run_file, run_gated, run_with, samples_of, sound};
 use sdf_options::{Options, Placement, Policy, Runner};
+use sdf_run::{ActorId, Gate};
 use sdf_wav::{FromRead, ToWrite};
+use std::sync::atomic::{AtomicU64, Ordering};
 use std::test::Fail;
 use std::thread::Threads;
 use test_devices::Faulty;
@@ -81,6 +83,56 @@ fn asked_told<T: Threads + AllocGlobal + Sync>(
 fn what_calls_ask_for(rt: HostRuntime) -> Result<(), Fail> {
     for (name, runner, many, wanted) in ASKED {
         row_says(name, asked_told(&rt, *runner, *many), wanted)?;
+    }
+    Ok(())
+}
+
+/// Firings of the source of `CHAIN`, which fires 147 times in a block: the first of a block in each row.
+const NUMBERS: &[u64] = &[0, 882, 1029, 3822, 3969];
+
+/// Counts how often the source begins each of `NUMBERS`. Each feed numbers its firings anew.
+#[derive(Drop)]
+struct Starts {
+    begun: Vec<AtomicU64>,
+}
+
+impl Gate for Starts {
+    fn before(&self, _processor: usize, actor: ActorId, firing: u64) {
+        if actor == 0 {
+            for (count, number) in self.begun.iter().zip(NUMBERS) {
+                if firing == *number {
+                    count.fetch_add(1, Ordering::SeqCst);
+                }
+            }
+        }
+    }
+}
+
+/// Returns how often each of them is begun while 5,000 frames are run.
+fn begun_told<T: Threads + AllocGlobal + Sync>(rt: &T, runner: Runner) -> Result<String, Fail> {
+    let alloc = rt.alloc();
+    let mut begun = Vec::new(alloc);
+    for _ in NUMBERS {
+        begun.push(AtomicU64::new(0))?;
+    }
+    let gate = Starts { begun };
+    let options = Options {
+        runner,
+        ..Options::DEFAULT
+    };
+    run_gated(rt, CHAIN, &options, &sound(alloc, 1, Counted(5000))?, &gate)?;
+    let mut told = Vec::new(alloc);
+    for count in &gate.begun {
+        told.push(count.load(Ordering::SeqCst))?;
+    }
+    Ok(format!(in alloc; "{told:?}")?)
+}
+
+/// 4,096 frames hold 27 blocks, the 127 that are left and 904 more hold 7, and the last 2 are filled up to one.
+#[test]
+fn how_many_blocks_are_fed(rt: HostRuntime) -> Result<(), Fail> {
+    for (name, runner) in [("rows", Runner::Rows), ("rings", Runner::Rings)] {
+        row_says(name, begun_told(&rt, runner), "[3, 2, 1, 1, 0]")?;
     }
     Ok(())
 }

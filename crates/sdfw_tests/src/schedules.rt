@@ -1,13 +1,13 @@
-//! What `schedule` prints of worked designs, whole.
+//! What `schedule` and `check` print of worked designs, whole.
 
-use crate::designs::{BLOCKS, INITIAL, SECOND_DOUBLED};
+use crate::designs::{BLOCKS, CHAIN, INITIAL, PAIR, SECOND_DOUBLED};
 use crate::running::fault_told;
-use sdf_file::read_design;
+use sdf_file::{check_text, read_design};
 use sdf_options::{Options, Placement, Policy};
 use sdf_plan::schedule::schedule;
 use std::alloc::Global;
 use std::test::Fail;
-use test_texts::row_says;
+use test_texts::{row_says, says};
 
 /// Two gains side by side, one of them behind another, and what they cost.
 const SIDES: &str = r#"format = 1
@@ -166,6 +166,25 @@ const ROWS: &[Row] = &[
         ..TWO
     },
     Row {
+        name: "a fork in two, whose links each hold one sample at most",
+        graph: PAIR,
+        changes: &[(", initial = [0]", "")],
+        printed: "period 6\nq in 1\nq fork 1\nq x 1\nq y 1\nq add 1\nq out 1\norder in fork x y add out\n\
+                  blocking 1\nworkers 2\nrows 5\nrow in.0 -\nrow - fork.0\nrow x.0 y.0\nrow add.0 -\n\
+                  row - out.0\ncapacity in:0 fork:0 1\ncapacity fork:0 x:0 1\ncapacity fork:1 y:0 1\n\
+                  capacity x:0 add:0 1\ncapacity y:0 add:1 1\ncapacity add:0 out:0 1\n",
+        ..TWO
+    },
+    Row {
+        name: "two gains that wait: both fire in the first row",
+        graph: PAIR,
+        printed: "period 6\nq in 1\nq fork 1\nq x 1\nq y 1\nq add 1\nq out 1\norder in fork x y add out\n\
+                  blocking 1\nworkers 2\nrows 3\nrow x.0 y.0\nrow in.0 add.0\nrow fork.0 out.0\n\
+                  capacity in:0 fork:0 1\ncapacity fork:0 x:0 1\ncapacity fork:1 y:0 1\n\
+                  capacity x:0 add:0 1\ncapacity y:0 add:1 1\ncapacity add:0 out:0 1\n",
+        ..TWO
+    },
+    Row {
         name: "a sink at home with a second worker of one",
         changes: &[
             ("block = 2", "processor = 0, block = 2"),
@@ -205,10 +224,20 @@ fn printed(alloc: Global, row: &Row) -> Result<String, Fail> {
     }
 }
 
+/// What `check` prints of a design.
+fn checked(alloc: Global, graph: &str) -> Result<String, Fail> {
+    let design = read_design(alloc, graph.as_bytes(), &[])?;
+    Ok(check_text(alloc, &design)?)
+}
+
 #[test]
 fn what_is_printed(rt: HostRuntime) -> Result<(), Fail> {
     for row in ROWS {
         row_says(row.name, printed(rt.alloc(), row), row.printed)?;
     }
-    Ok(())
+    says(
+        checked(rt.alloc(), CHAIN),
+        "actors 6\nlinks 5\nperiod 612\nq in 147\nq a 147\nq b 98\nq c 28\nq d 32\nq out 160\n\
+         input 147 output 160\n",
+    )
 }

@@ -139,13 +139,19 @@ fn has_limits(alloc: Global, short: &Graph) -> Result<(), Fail> {
     )
 }
 
+/// What the first two of three actors put, for periods of which two are too many: of 32,769 and of 65,536 firings.
+const LONG: &[(&[u32], &[u32])] = &[(&[128], &[255]), (&[255], &[256])];
+
 #[test]
 fn limits_of_levels(rt: HostRuntime) -> Result<(), Fail> {
     let alloc = rt.alloc();
     has_limits(alloc, &graph(alloc, 2, BLOCKS)?)?;
-    let long: [Row; 2] = [(0, &[128], &[1], 1, 0), (1, &[255], &[1], 2, 0)];
-    says(
-        refusal(alloc, &graph(alloc, 3, &long)?, 2),
-        "13 BlockTooLong",
-    )
+    for (first, second) in LONG {
+        let long: [Row; 2] = [(0, first, &[1], 1, 0), (1, second, &[1], 2, 0)];
+        says(
+            refusal(alloc, &graph(alloc, 3, &long)?, 2),
+            "13 BlockTooLong",
+        )?;
+    }
+    Ok(())
 }
