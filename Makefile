@@ -1,6 +1,7 @@
 # The gate, the proved program, and the programs that show it at work.
 
-.PHONY: help build demo announced try install documents examples test mutants times allocations bench hostile clean
+.PHONY: help build demo announced try install uninstall deb documents examples test mutants times allocations bench \
+	hostile clean
 
 PREFIX ?= /usr/local
 CPU ?= x86-64-v2
@@ -33,7 +34,7 @@ announced:
 try:
 	@scripts/try
 
-# Copies the built program, its man page and its completions below PREFIX (/usr/local).
+# Copies the built program, its man page, its completions and its documents below PREFIX (/usr/local).
 install:
 	@test -x build/sdfw || { echo "there is no build/sdfw: make build"; exit 1; }
 	install -D -m 755 build/sdfw $(DESTDIR)$(PREFIX)/bin/sdfw
@@ -41,6 +42,20 @@ install:
 	install -D -m 644 docs/completions/sdfw.bash $(DESTDIR)$(PREFIX)/share/bash-completion/completions/sdfw
 	install -D -m 644 docs/completions/_sdfw $(DESTDIR)$(PREFIX)/share/zsh/site-functions/_sdfw
 	install -D -m 644 docs/completions/sdfw.fish $(DESTDIR)$(PREFIX)/share/fish/vendor_completions.d/sdfw.fish
+	install -d $(DESTDIR)$(PREFIX)/share/doc/sdfw
+	install -m 644 README.md LICENSE CHANGELOG.md docs/TUTORIAL.md docs/FORMATS.md $(DESTDIR)$(PREFIX)/share/doc/sdfw
+
+# Removes what `install` copied.
+uninstall:
+	rm -f $(DESTDIR)$(PREFIX)/bin/sdfw $(DESTDIR)$(PREFIX)/share/man/man1/sdfw.1
+	rm -f $(DESTDIR)$(PREFIX)/share/bash-completion/completions/sdfw
+	rm -f $(DESTDIR)$(PREFIX)/share/zsh/site-functions/_sdfw
+	rm -f $(DESTDIR)$(PREFIX)/share/fish/vendor_completions.d/sdfw.fish
+	rm -rf $(DESTDIR)$(PREFIX)/share/doc/sdfw
+
+# Makes a Debian package of the built program, its man page, completions and documents: build/sdfw.deb.
+deb:
+	scripts/deb
 
 # Whether the documents say what the program and the sources say: kinds, faults, functions without an edit, pages,
 # the pictures of the examples (wants python3).

@@ -78,7 +78,7 @@ const RUNNER: Argument = Argument {
 - one: in one thread; `--blocking`, `--workers`, `--policy`, `--placement` and `--patience` have no effect
 - rows: the firings of a row of the table at once, then those of the next row
 - rings: each worker at its own pace, over a ring for each link; each actor needs one worker, as by
-  `--placement homed` or `--placement file`",
+  `--placement homed`, `--placement file` or `--placement spread`",
     given: Given::Choice("R", Values::OneOf(RUNNER_WORDS), Some("one")),
 };
 

@@ -53,7 +53,8 @@ It has no effect on other shapes",
 const ATTENUATION: Argument = Argument {
     name: "attenuation",
     help: "Of what is stopped, in dB, at most 200",
-    more: "How far what is stopped is to be down, in dB, at most 200. Taps of 16 bits reach 66 to 82",
+    more: "How far what is stopped is to be down, in dB, at most 200. Taps of 16 bits limit it: what a filter
+reaches is printed with it",
     given: Given::Choice("DB", Values::Unsigned(0, 200), Some("96")),
 };
 
@@ -128,8 +129,8 @@ down, is a line on standard error.",
         name: "resample",
         help: "Writes a design that converts between two rates",
         more: "Writes a design that converts between two rates: its graph file and a coefficient file for each stage.
-The stages are those with the fewest products a second. What is up to ten elevenths of half the lower
-rate passes, and nothing else comes to lie there. What the taps of each stage do is a line on standard
+The stages are the cheapest of at most three, by products a second. What is up to ten elevenths of half
+the lower rate passes, and nothing else comes to lie there. What the taps of each stage do is a line on standard
 error.",
         schedules: false,
         arguments: &[FROM, TO, FOLDER, CHANNELS, ATTENUATION],

@@ -64,7 +64,7 @@ pub(super) static MEANINGS: [Meaning; 12] = [
         number: 8,
         name: "Inconsistent",
         place: "link C",
-        means: "No numbers of firings put as much on every link as they take from it.",
+        means: "There are no numbers of firings that put as much on every link as they take from it.",
         limits: "",
         remedy: "Compare the rates on the two ways that meet at this link, and change one of them.",
     },
@@ -82,7 +82,7 @@ pub(super) static MEANINGS: [Meaning; 12] = [
         place: "",
         means: "No sequence of firings completes a period: each actor that has not finished waits for samples. A line for each actor says how often it fired and its first link that holds too little.",
         limits: "",
-        remedy: "Give a link of each loop that is named initial samples: `initial = [0]`, or more zeros where its target takes several in a firing.",
+        remedy: "Give one link of each loop initial samples: `initial = [0]`, or more zeros if its target takes several in a firing. `--why` names a loop.",
     },
     Meaning {
         number: 11,
