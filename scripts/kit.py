@@ -41,6 +41,11 @@ def is_refused(kind):
     return kind is True or kind in {getattr(rt, name, True) for name in ("REFUSED", "AT_LIMIT")}
 
 
+def is_at_limit(kind):
+    """Whether an edit was refused by a limit of the prover alone, of which older kits tell nothing."""
+    return kind == getattr(rt, "AT_LIMIT", None)
+
+
 def copy_kept(folder, to):
     """Copies what a check kept, by links where a kit knows of them: a check makes a file anew, and writes into none."""
     getattr(rt, "linked", shutil.copytree)(folder, to)
