@@ -61,6 +61,7 @@ deb:
 # the pictures of the examples (wants python3).
 documents: build
 	python3 docs/tables.py
+	scripts/tried
 	scripts/pages --check
 	for it in $(filter-out examples/stuck/%,$(wildcard examples/*/graph.toml)); do \
 		build/sdfw draw $$it --workers 2 | cmp - $${it%.toml}.svg || exit 1; done
