@@ -9,6 +9,7 @@ ghost use Rattle.sdf_kit.specs.Dots.{total_abs};
 ghost use Rattle.sdf_kit.specs.Branches.{AreBranches, branch_at, stretches_at};
 ghost use Rattle.sdf_kit.specs.Stretches.{IsReach};
 
+use crate::arithmetic::MOST_SUM;
 use crate::stretches::{Branch, reach};
 
 /// Places of a table: the taps of a filter, and fewer than sixteen zeros for each branch.
@@ -189,5 +190,5 @@ fn peak_of(gain: u32) -> u32
     ensures small { result ≤ 32767 }
     ensures greatest { result < 32767 → 2147467263 < gain * (result + 1) }
 {
-    (2_147_467_263 / gain.max(1)).min(32_767)
+    (MOST_SUM / gain.max(1)).min(32_767)
 }
