@@ -10,7 +10,7 @@ ghost use Rattle.sdf_kit.specs.Stretches.{AreStretches, AreVectors, IsBranch};
 ghost use Rattle.sdf_kit.specs.Window.{part_as, seen, output_of, AreFit};
 
 use crate::arithmetic::{most, settle, settle_small};
-use crate::branches::Limits;
+use crate::branches::{LEAST_PEAK_TO_SPLIT, Limits};
 use crate::dots::{FourDots, dot, dots};
 use crate::stretches::{Branch, wide_dot, wide_dots};
 use sdf_limits::MOST_SHIFT;
@@ -89,7 +89,7 @@ impl Window {
             self.len = len;
             return true;
         }
-        if 255 <= peak && most <= 255 * peak {
+        if LEAST_PEAK_TO_SPLIT <= peak && most <= 255 * peak {
             write_all(&mut self.high, Part::High, pad, kept, taken);
             write_all(&mut self.low, Part::Low, pad, kept, taken);
             self.way = Way::Split;

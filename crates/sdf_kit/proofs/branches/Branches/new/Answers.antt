@@ -37,8 +37,8 @@ slice_bounds-stretches-end c =
     subst (λ n. c.args.up * (width / 16) ≤ n) (sym c.stretches_of-stretches.ensures.len)
     (sixteens_fit c.args.up width fits.lanes fits.room)
 
-pub slice_bounds-are_some-end : goal.slice_bounds-are_some-end
-slice_bounds-are_some-end c =
+pub slice_bounds-is_wide-end : goal.slice_bounds-is_wide-end
+slice_bounds-is_wide-end c =
     let width : ℕ = ((length c.args.taps.now - 1) / c.args.up + 16) / 16 * 16 in
     let fits = width_fits (length c.args.taps.now) c.args.up c.requires.some c.requires.taps.few c.requires.up
     c.requires.few in
@@ -52,6 +52,6 @@ returns c =
     let fits = width_fits (length c.args.taps.now) c.args.up c.requires.some c.requires.taps.few c.requires.up
     c.requires.few in
     branches_are c.args.taps.now c.table_of-table.result c.stretches_of-stretches.result c.args.up width
-    c.peak_of.result c.gain.result c.are_some.result c.requires.taps fits c.table_of-table.ensures
-    c.stretches_of-stretches.ensures.len c.stretches_of-stretches.ensures.each c.are_some.ensures
-    c.gain.ensures.greatest c.peak_of.ensures.quiet c.peak_of.ensures.small
+    c.peak_of-peak.result c.gain.result c.is_wide.result c.requires.taps fits c.table_of-table.ensures
+    c.stretches_of-stretches.ensures.len c.stretches_of-stretches.ensures.each c.is_wide.ensures
+    c.gain.ensures.greatest c.peak_of-peak.ensures.quiet c.peak_of-peak.ensures.small

@@ -41,7 +41,7 @@ invariant_of-self-then-most-peak-2 c =
     (omega (arith, c.write_all-then-most-peak-2-2.ensures.len, c.self.told.1)) c.requires.room c.requires.peak
     c.most.result c.most-2.result c.most.ensures c.most-2.ensures
     (omega (arith, c.max-most.ensures, c.if-most-peak-2.true))
-    (omega (arith, c.max-most.ensures, c.if-most-peak-2.true)) c.if-peak-ge255.true
+    (omega (arith, c.max-most.ensures, c.if-most-peak-2.true)) c.if-peak-ge-LEAST_PEAK_TO_SPLIT.true
     c.write_all-then-most-peak-2.ensures.written c.write_all-then-most-peak-2-2.ensures.written
 
 pub returns-then-most-peak-2-clause-samples : goal.returns-then-most-peak-2-clause-samples
