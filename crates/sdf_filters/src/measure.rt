@@ -7,8 +7,11 @@ use std::simd::prelude::*;
 /// At how many frequencies more than one a band is looked at.
 const STEPS: u32 = 2048;
 
-/// How many frequencies are looked at side by side.
-const SIDE: u32 = 8;
+/// Frequencies in one pass over the taps. Fewer wait for the sums of the tap before, and more are out of registers.
+const SIDE: usize = 16;
+
+/// A number for each frequency of one pass.
+type Lanes = Simd<f64, SIDE>;
 
 /// A magnitude below this is taken for it: -240 dB.
 const LEAST_MAGNITUDE: f64 = 1e-12;
@@ -44,13 +47,13 @@ pub(crate) struct Response<'a> {
     pub(crate) unit: f64,
 }
 
-/// The magnitudes of taps at angles for each sample, by Goertzel's recurrence.
-fn magnitudes_at(taps: &[i32], angles: [f64; 8]) -> [f64; 8] {
-    let turns = f64x8::from_array(angles.map(|angle| 2.0 * angle.cos()));
-    let mut last = f64x8::splat(0.0);
-    let mut before = f64x8::splat(0.0);
+/// Returns the magnitudes of `taps` at `angles` for each sample, by Goertzel's recurrence.
+fn magnitudes_at(taps: &[i32], angles: [f64; SIDE]) -> [f64; SIDE] {
+    let turns = Lanes::from_array(angles.map(|angle| 2.0 * angle.cos()));
+    let mut last = Lanes::splat(0.0);
+    let mut before = Lanes::splat(0.0);
     for &tap in taps {
-        let next = turns * last - before + f64x8::splat(f64::from(tap));
+        let next = turns * last - before + Lanes::splat(f64::from(tap));
         before = last;
         last = next;
     }
@@ -71,12 +74,12 @@ impl Response<'_> {
         TAU * frequency / self.rate
     }
 
-    /// The magnitudes at a frequency of a range and at those behind it. Past the range stands its last one.
-    fn magnitudes_from(self, range: Range, step: u32) -> [f64; 8] {
-        let mut angles = [0.0; 8];
+    /// Returns the magnitudes from frequency `step` of `range` on. The last one of the range is repeated past its end.
+    fn magnitudes_from(self, range: Range, step: u32) -> [f64; SIDE] {
+        let mut angles = [0.0; SIDE];
         for lane in 0..SIDE {
-            let step = step.saturating_add(lane).min(STEPS);
-            angles[lane as usize] = self.angle(range, step);
+            let step = step.saturating_add(lane as u32).min(STEPS);
+            angles[lane] = self.angle(range, step);
         }
         magnitudes_at(self.taps, angles)
     }
@@ -87,8 +90,8 @@ impl Response<'_> {
             least: f64::INFINITY,
             greatest: 0.0,
         };
-        for group in 0..STEPS / SIDE + 1 {
-            for height in self.magnitudes_from(range, group * SIDE) {
+        for step in (0..=STEPS).step_by(SIDE) {
+            for height in self.magnitudes_from(range, step) {
                 let magnitude = height / self.unit;
                 magnitudes = Magnitudes {
                     least: magnitudes.least.min(magnitude),
