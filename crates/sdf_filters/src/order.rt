@@ -82,8 +82,8 @@ pub(crate) fn first_turn(taps: &[i32], reals: &[f64], way: Way) -> usize
     first.turn
 }
 
-/// Whether each tap of a phase is moved before any of them is moved twice: now each is less late than any is one step
-/// on.
+/// Returns whether each tap of a phase is less late now than any of them is one step on. Each is then moved once before
+/// any is moved twice. That can be so too if this is not.
 pub(crate) fn is_round(taps: &[i32], reals: &[f64], way: Way) -> bool
     requires same { length reals.now ≡ length taps.now }
     requires phase { way.phase < way.up }

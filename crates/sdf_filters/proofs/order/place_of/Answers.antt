@@ -5,11 +5,19 @@ use Rattle.sdf_filters.proofs.order.place_of.Goals as goal
 
 pub overflow_mul-result : goal.overflow_mul-result
 overflow_mul-result c =
-    omega (arith, within_phases c.args.count c.args.way.up c.args.way.phase c.args.turn c.requires.phase c.requires.turn)
+    omega (
+      arith,
+      within_phases c.args.count c.args.way.up c.args.way.phase c.args.turn c.requires.phase
+          c.requires.turn,
+    )
 
 pub overflow_add-result : goal.overflow_add-result
 overflow_add-result c =
-    omega (arith, within_phases c.args.count c.args.way.up c.args.way.phase c.args.turn c.requires.phase c.requires.turn)
+    omega (
+      arith,
+      within_phases c.args.count c.args.way.up c.args.way.phase c.args.turn c.requires.phase
+          c.requires.turn,
+    )
 
 pub returns-clause-within : goal.returns-clause-within
 returns-clause-within c =

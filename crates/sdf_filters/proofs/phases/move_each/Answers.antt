@@ -8,4 +8,5 @@ loop-turn-init c = moved_none c.args.way.up c.args.way.phase c.args.way.rise c.a
 pub loop-turn-preserved : goal.loop-turn-preserved
 loop-turn-preserved c =
     moved_more c.args.way.up c.args.way.phase c.args.way.rise c.loop-turn.turn 1
-    (c.loop-turn.turn + 1) refl c.args.taps.now c.loop-turn.taps c.step_turn.new.taps c.loop-turn.invariant c.in_ok-step_turn.ensures.moves
+    (c.loop-turn.turn + 1) refl c.args.taps.now c.loop-turn.taps c.step_turn.new.taps c.loop-turn.invariant
+    c.in_ok-step_turn.ensures.moves

@@ -8,4 +8,5 @@ loop-init c = moved_none c.args.way.up c.args.way.phase c.args.way.rise c.args.t
 pub loop-preserved : goal.loop-preserved
 loop-preserved c =
     moved_more c.args.way.up c.args.way.phase c.args.way.rise c.loop.counter 1
-    (c.loop.counter + 1) refl c.args.taps.now c.loop.taps c.step_turn.new.taps c.loop.invariant c.in_ok-step_turn.ensures.moves
+    (c.loop.counter + 1) refl c.args.taps.now c.loop.taps c.step_turn.new.taps c.loop.invariant
+    c.in_ok-step_turn.ensures.moves

@@ -7,7 +7,8 @@ loop-preserved c =
     let many : ℕ = length c.args.taps.now / c.args.way.up in
     let same : length c.loop.taps ≡ length c.args.taps.now = omega arith in
     let e : c.loop.counter * many + many ≡ (c.loop.counter + 1) * many = omega arith in
-    moved_more c.args.way.up c.args.way.phase c.args.way.rise (c.loop.counter * many) (length c.loop.taps / c.args.way.up)
+    moved_more c.args.way.up c.args.way.phase c.args.way.rise (c.loop.counter * many)
+    (length c.loop.taps / c.args.way.up)
     ((c.loop.counter + 1) * many) (ap (λ n. c.loop.counter * many + n / c.args.way.up) same ∙ e)
     c.args.taps.now c.loop.taps c.move_round.new.taps c.loop.invariant c.in_ok-move_round.ensures.moves
 
