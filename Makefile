@@ -4,19 +4,19 @@
 	hostile clean
 
 PREFIX ?= /usr/local
-CPU ?= x86-64-v2
+CPU ?= $(shell scripts/cpu)
 
 # Lists these targets.
 help:
 	@awk '/^# / { said = said (said ? " " : "") substr($$0, 3); next } \
 		/^[a-z]+:/ && said { name = $$0; sub(/:.*/, "", name); printf "%-12s %s\n", name, said } { said = "" }' Makefile
 
-# Proves the program and the crates that it stands on, a line each, and leaves it as build/sdfw. With CPU=x86-64-v3 it
-# is faster, and wants a processor with AVX2.
+# Proves the program and the crates that it depends on, a line each, and leaves it as build/sdfw, for the processor of
+# this machine. With CPU=x86-64-v2 it runs on any processor since 2009.
 build:
 	scripts/prove --cpu $(CPU)
 	cp crates/sdfw/out/sdfw build/sdfw
-	@echo "built: build/sdfw"
+	@echo "built: build/sdfw, for $(CPU)"
 
 # Proves and builds the program, then converts a real 44,100 Hz file to 48,000 Hz.
 demo: announced build
@@ -53,7 +53,8 @@ uninstall:
 	rm -f $(DESTDIR)$(PREFIX)/share/fish/vendor_completions.d/sdfw.fish
 	rm -rf $(DESTDIR)$(PREFIX)/share/doc/sdfw
 
-# Makes a Debian package of the built program, its man page, completions and documents: build/sdfw.deb.
+# Makes a Debian package of the built program, its man page, completions and documents: build/sdfw.deb. Build it with
+# CPU=x86-64-v2 first, so that it runs on every processor.
 deb:
 	scripts/deb
 
