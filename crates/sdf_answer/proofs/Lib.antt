@@ -16,3 +16,5 @@ mod Moves
 mod Feeds
 mod BegunLists
 mod Begun
+mod ByTurns
+mod TwoPorts

@@ -47,6 +47,11 @@ block_is size i xs =
     let from : size * i ≡ i * size = omega arith in
     λ k. take (long k) (drop (from k) xs)
 
+-- a row's part of a firing's block
+pub row_block : {T : Type 0} (xs : List T) (width times i : ℕ) → i < times →
+    nth_block width (take (times * width) xs) i ≡ take width (drop (i * width) xs)
+row_block xs width times i l = block_is width i (take (times * width) xs) ∙ piece_of_front xs width times i l
+
 -- a part of a list from a place on
 part_from : {T : Type 0} (at width : ℕ) (xs : List T) → slice_range xs at (at + width) ≡ take width (drop at xs)
 part_from at width xs = let long : at + width - at ≡ width = omega arith in ap (λ n. take n (drop at xs)) long
@@ -69,8 +74,7 @@ row_taken xs ys zs at width times size are before i l =
         ∙ between_from_start (nth_block size zs i) at)
 
     new : take width (drop at (nth_block size ys i)) ≡ take width (drop (i * width) xs)
-    new = sym (part_from at width (nth_block size ys i)) ∙ (are i l
-        ∙ (block_is width i (take (times * width) xs) ∙ piece_of_front xs width times i l))
+    new = sym (part_from at width (nth_block size ys i)) ∙ (are i l ∙ row_block xs width times i l)
 
 -- a firing's block with a port more
 pub front_more : {T : Type 0} (f : ℕ → List T) (ports : List ℕ) (i : ℕ) (old new part : List T) → i < length ports →

@@ -10,3 +10,4 @@ pub mod Moves
 pub mod GraphLaws
 pub mod Laws
 pub mod Feeds
+pub mod TwoPorts

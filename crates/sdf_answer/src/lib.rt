@@ -4,8 +4,8 @@
 //! at `specs/Answer.antt`: which inputs a run is given, and that its outputs are the lists of the histories. Then
 //! `inputs` and `outputs`, the tests and the lists of a run, `sizes`, how many samples firings move, `queue`, the
 //! samples that stand on a channel, `blocks`, those that a firing moves at its ports, `many_blocks`, those that many
-//! firings move (`parts`: at one port), `rooms`, how many stand on a channel, `block_table`, what workers follow
-//! (`specs/Rows.antt`), and `laws`, what every runner's proof uses.
+//! firings move (`parts`: at one port; `pairs`: at two), `rooms`, how many stand on a channel, `block_table`, what
+//! workers follow (`specs/Rows.antt`), and `laws`, what every runner's proof uses.
 #![tactic(auto)]
 
 pub mod block_table;
@@ -15,6 +15,7 @@ pub mod inputs;
 pub mod laws;
 pub mod many_blocks;
 pub mod outputs;
+pub mod pairs;
 pub mod parts;
 pub mod queue;
 pub mod rooms;

@@ -5,10 +5,13 @@ ghost use Rattle.std.specs.List.{sum_by};
 ghost use Rattle.sdf_node.specs.Many.{nth_block, joined};
 ghost use Rattle.sdf_answer.specs.Blocks.{front_at, dealt, ArePorts, HoldManyBlocks, HaveRoomForMany, AreTaken, ArePut};
 ghost use Rattle.sdf_answer.specs.Blocks.{KeepRoom};
+ghost use Rattle.sdf_answer.specs.TwoPorts.{ArePairs};
+ghost use Rattle.std.specs.Prelude.{IsTrue};
 
 use crate::blocks::Ports;
+use crate::pairs::weave;
 use crate::parts::deal_row;
-use crate::queue::Queue;
+use crate::queue::{Queue, put_pairs};
 use sdf_node::laws::blocks_join;
 
 /// How many whole blocks of a size so many samples hold, up to a limit, which is the answer where they have no size.
@@ -47,6 +50,56 @@ fn take_row<T: Copy>(
     queue.release(many);
 }
 
+/// Returns whether the ports are two channels, and a firing moves one sample on each.
+fn are_pairs(ports: &Ports) -> bool
+    requires { (n : ℕ) → n < length ports.now.channels.now →
+        slice_index ports.now.channels.now n < length ports.now.sizes.now }
+    ensures { IsTrue result → ArePairs ports.now.channels.now ports.now.sizes.now }
+{
+    let channels = ports.channels;
+    channels.len() == 2 && ports.sizes[channels[0]] == 1 && ports.sizes[channels[1]] == 1
+}
+
+/// Moves what `times` firings take from two queues to their blocks, one sample of each for a firing.
+fn take_pairs<T: Copy>(ports: &Ports, times: usize, queues: &mut [Queue<T>], blocks: &mut [T])
+    requires ports { ArePorts ports.now.channels.now ports.now.sizes.now (length queues.old) }
+    requires pairs { ArePairs ports.now.channels.now ports.now.sizes.now }
+    requires held { HoldManyBlocks times ports.now.channels.now ports.now.sizes.now queues.old }
+    requires length { length blocks.old ≡ 2 * times }
+    ensures blocks { blocks.new ≡ joined (front_at ports.now.sizes.now ports.now.channels.now queues.old) times }
+    ensures queues { AreTaken ports.now.channels.now (λ c. times * slice_index ports.now.sizes.now c)
+        queues.old queues.new }
+    ensures rooms { KeepRoom queues.old queues.new }
+{
+    let first = ports.channels[0];
+    let second = ports.channels[1];
+    weave(
+        queues[first].oldest(times),
+        queues[second].oldest(times),
+        blocks,
+        times,
+    );
+    queues[first].release(times);
+    queues[second].release(times);
+}
+
+/// Puts the blocks of `times` firings on two channels, one sample of a block on each.
+fn put_on_pairs<T: Copy>(ports: &Ports, times: usize, block: &[T], queues: &mut [Queue<T>])
+    requires ports { ArePorts ports.now.channels.now ports.now.sizes.now (length queues.old) }
+    requires pairs { ArePairs ports.now.channels.now ports.now.sizes.now }
+    requires room { HaveRoomForMany times ports.now.channels.now ports.now.sizes.now queues.old }
+    requires length { length block.now ≡ 2 * times }
+    ensures queues { ArePut (λ c. dealt ports.now.sizes.now ports.now.channels.now 2 block.now c times)
+        queues.old queues.new }
+    ensures rooms { KeepRoom queues.old queues.new }
+{
+    let first = ports.channels[0];
+    let second = ports.channels[1];
+    let mut target = queues[second].lift();
+    put_pairs(&mut queues[first], &mut target, block, times);
+    queues[second] = target;
+}
+
 /// Moves what so many firings take from the queues at the ports to their blocks, each of a size, which lie one behind
 /// another.
 pub fn take_blocks<T: Copy>(
@@ -65,6 +118,10 @@ pub fn take_blocks<T: Copy>(
         queues.old queues.new }
     ensures rooms { KeepRoom queues.old queues.new }
 {
+    if are_pairs(ports) {
+        take_pairs(ports, times, queues, blocks);
+        return;
+    }
     blocks_join::<T>();
     let mut at = 0;
     for c in ports.channels {
@@ -90,6 +147,10 @@ pub fn put_blocks<T: Copy>(
         queues.old queues.new }
     ensures rooms { KeepRoom queues.old queues.new }
 {
+    if are_pairs(ports) {
+        put_on_pairs(ports, times, block, queues);
+        return;
+    }
     let mut at = 0;
     for c in ports.channels {
         let width = ports.sizes[*c];

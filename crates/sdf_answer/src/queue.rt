@@ -8,6 +8,7 @@ ghost use Rattle.sdf_actor.specs.Wires.{lists};
 ghost use Rattle.sdf_node.specs.Many.{nth_block, joined};
 ghost use Rattle.sdf_answer.specs.Held.{Held};
 
+use crate::pairs::unweave;
 use crate::parts::gather_row;
 use sdf_actor::Actor;
 use sdf_node::append;
@@ -248,6 +249,30 @@ impl<T: Copy> Queue<T> {
         };
         mem::replace(self, empty)
     }
+}
+
+/// Puts the samples of `pairs` by turns behind those of two queues, `many` on each.
+pub fn put_pairs<T: Copy>(first: &mut Queue<T>, second: &mut Queue<T>, pairs: &[T], many: usize)
+    requires pairs { length pairs.now ≡ 2 * many }
+    requires first { length first.old.samples + many ≤ first.old.room }
+    requires second { length second.old.samples + many ≤ second.old.room }
+    ensures first { first.new ≡ record first.old {
+      samples = first.old.samples ++ joined (λ i. slice_range (nth_block 2 pairs.now i) 0 1) many;
+    } }
+    ensures second { second.new ≡ record second.old {
+      samples = second.old.samples ++ joined (λ i. slice_range (nth_block 2 pairs.now i) 1 2) many;
+    } }
+{
+    let place = place_for(&mut first.items, first.start, first.end, many);
+    let other = place_for(&mut second.items, second.start, second.end, many);
+    let last = place.1 + many;
+    let end = other.1 + many;
+    let left = &mut first.items[place.1..last];
+    unweave(pairs, left, &mut second.items[other.1..end], many);
+    first.start = place.0;
+    first.end = last;
+    second.start = other.0;
+    second.end = end;
 }
 
 /// Copies of the samples in each queue.

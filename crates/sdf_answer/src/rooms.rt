@@ -78,8 +78,8 @@ pub fn make_queues<A: Actor>(
     renew_queues(alloc, net, repetitions, periods, filler, &mut spares)
 }
 
-/// Makes the queues that `make_queues` makes, in the buffers of `spares`: queues of an earlier run, by channel. It takes
-/// the buffers out of them.
+/// Makes the queues that `make_queues` makes, in the buffers of `spares`: queues of an earlier run, by channel. These
+/// lose their buffers.
 pub fn renew_queues<A: Actor>(
     alloc: Global,
     net: &Net<A>,

@@ -1,11 +1,28 @@
-use Rattle.std.proofs.Common.{ℕ, ◌*◌, ◌++◌, length, take, drop, get_or, slice_index, arith, ap, sym, ◌∙◌}
+use Rattle.std.proofs.Common.{◌≡◌, ℕ, ◌*◌, ◌++◌, length, take, drop, get_or, slice_index, arith, ap, sym, ◌∙◌}
 use Rattle.std.proofs.lemmas.List.{append-nil, drop_all}
 use Rattle.std.proofs.lemmas.List.Sums.{sum_by-drop_more}
 use Rattle.sdf_actor.specs.Histories.{spread}
 use Rattle.sdf_answer.specs.Blocks.{samples, dealt}
 use Rattle.sdf_answer.proofs.Ports.{untouched_more, rooms_more}
 use Rattle.sdf_answer.proofs.ManyPorts.{puts_more, row_put, joined_none}
+use Rattle.sdf_answer.proofs.TwoPorts.{pair_size}
 use Rattle.sdf_answer.proofs.many_blocks.put_blocks.Goals as goal
+
+pub put_on_pairs-requires-clause-length : goal.put_on_pairs-requires-clause-length
+put_on_pairs-requires-clause-length g c =
+    let two = pair_size c.args.ports.now.channels.now c.args.ports.now.sizes.now (length c.args.queues.now)
+    c.requires.ports (c.are_pairs.ensures c.if-are_pairs.true) in
+    let turn : c.args.times * 2 ≡ 2 * c.args.times = omega arith in
+    c.requires.length ∙ (ap (λ n. c.args.times * n) (c.requires.size ∙ two) ∙ turn)
+
+pub returns-then-are_pairs-clause-queues : goal.returns-then-are_pairs-clause-queues
+returns-then-are_pairs-clause-queues g c = λ d k.
+    let ports = c.args.ports.now.channels.now in
+    let sizes = c.args.ports.now.sizes.now in
+    let two = pair_size ports sizes (length c.args.queues.now) c.requires.ports
+    (c.are_pairs.ensures c.if-are_pairs.true) in
+    c.put_on_pairs.ensures.queues d k ∙ ap (λ n. samples c.args.queues.now d
+    ++ dealt sizes ports n c.args.block.now d c.args.times) (sym (c.requires.size ∙ two))
 
 pub loop-c-preserved : goal.loop-c-preserved
 loop-c-preserved g c =

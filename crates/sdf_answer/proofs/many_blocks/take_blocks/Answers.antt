@@ -6,7 +6,15 @@ use Rattle.sdf_answer.specs.Blocks.{samples, front_at}
 use Rattle.sdf_node.specs.Many.{nth_block}
 use Rattle.sdf_answer.proofs.Ports.{whole, holds, rooms_more, taken_more}
 use Rattle.sdf_answer.proofs.ManyPorts.{front_more, blocks_whole}
+use Rattle.sdf_answer.proofs.TwoPorts.{pair_size}
 use Rattle.sdf_answer.proofs.many_blocks.take_blocks.Goals as goal
+
+pub take_pairs-requires-clause-length : goal.take_pairs-requires-clause-length
+take_pairs-requires-clause-length g c =
+    let two = pair_size c.args.ports.now.channels.now c.args.ports.now.sizes.now (length c.args.queues.now)
+    c.requires.ports (c.are_pairs.ensures c.if-are_pairs.true) in
+    let turn : c.args.times * 2 ≡ 2 * c.args.times = omega arith in
+    c.requires.length ∙ (ap (λ n. c.args.times * n) (c.requires.size ∙ two) ∙ turn)
 
 pub take_row-requires-clause-held : goal.take_row-requires-clause-held
 take_row-requires-clause-held g c =

@@ -1,0 +1,6 @@
+-- Two ports, at each of which a firing moves one sample.
+use Rattle.std.specs.Prelude.{◌≡◌, ℕ, ◌<◌, List, length, slice_index}
+
+pub record ArePairs (ports sizes : List ℕ) : Type 0 where
+  pub two : length ports ≡ 2
+  pub one : (n : ℕ) → n < length ports → slice_index sizes (slice_index ports n) ≡ 1
