@@ -73,7 +73,7 @@ fn run<A: Actor>(
     Ok((finished.outputs, rest))
 }
 
-/// What a run makes and leaves. Without a sample there are no periods, and nothing fires.
+/// Returns what a run makes and leaves. Without a sample nothing fires, and the memory of earlier queues is freed.
 fn fill<A: Actor>(
     alloc: Global,
     passage: Passage<'_, A>,
@@ -91,7 +91,10 @@ fn fill<A: Actor>(
     histories_make_runs::<A>();
     match first_sample(passage.inputs) {
         Some(filler) => run(alloc, passage, filler, outputs, spares),
-        None => Ok((outputs, passage.net.first_rest(alloc)?)),
+        None => {
+            spares.queues = Vec::new(alloc);
+            Ok((outputs, passage.net.first_rest(alloc)?))
+        }
     }
 }
 
