@@ -3,13 +3,14 @@
 use crate::TURNS;
 use crate::files::Sources;
 use anyhow::Result;
+use indexmap::IndexSet;
 use sdf_file::{Design, FileFault, check_text, design_files, read_design};
 use sdf_options::Options;
 use sdf_plan::planning::plan;
 use sdf_plan::{Fault, Plan};
 use sdf_prec::Table;
 
-fn show_names(rt: &impl Print, answer: Result<Vec<String>, FileFault>) -> Result<()> {
+fn show_names(rt: &impl Print, answer: Result<IndexSet<String>, FileFault>) -> Result<()> {
     match answer {
         Ok(names) => {
             for name in &names {

@@ -6,8 +6,8 @@ use Rattle.std.specs.List.{list_any, filter, filter_map}
 use Rattle.std.proofs.lemmas.List.Elements.{filter-append, filter_map-append}
 use Rattle.std.proofs.lemmas.List.{map_more, append-nil}
 use Rattle.std.proofs.lemmas.Slice.Eq.{bytes_eq-Decides}
-use Rattle.sdf_document.specs.Document.{first_seen, actor_file}
-use Rattle.sdf_document.specs.Names.{with_name}
+use Rattle.sdf_document.specs.Document.{first_seen, actor_file, AreDistinct}
+use Rattle.sdf_document.specs.Names.{with_name, IsNamed}
 use Rattle.sdf_document.specs.Actors.{actor_view}
 use Rattle.sdf_document.specs.declared.entry.ActorEntry.{ActorEntry}
 
@@ -77,6 +77,12 @@ first_seen_push (y ∷ xs) x = ap (λ zs. y ∷ without y zs) (first_seen_push x
         with_name (y ∷ without y (first_seen xs)) x
     go true e = rw e (ap (λ zs. y ∷ zs) (push_same x y (first_seen xs) e))
     go false e = push_other x y (first_seen xs) e
+
+-- names stay distinct where a new one is put last
+pub distinct_more : (names : List (List ℕ)) (x : List ℕ) (named : List (List ℕ)) → AreDistinct names →
+    IsNamed names x named → AreDistinct named
+distinct_more names x named once new = rw new.1
+    (first_seen_push names x ∙ (ap (λ ns. with_name ns x) once ∙ rw new.0 refl))
 
 -- after one more actor
 one_more : (es : List ActorEntry) (i : ℕ) (e : ActorEntry) → i < length es

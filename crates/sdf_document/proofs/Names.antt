@@ -1,15 +1,14 @@
-use Rattle.std.proofs.Common.{◌≡◌, ◌∙◌, true, false, Some, None, cond, not, ltb, length, suc, ◌+◌, ℕ, List, []}
-use Rattle.std.proofs.Common.{◌∷◌, ◌++◌, map, ap, refl, String, string_bytes, Global, Bor}
+use Rattle.std.proofs.Common.{◌≡◌, ◌∙◌, Bool, true, false, Some, None, cond, not, ltb, length, suc, ◌+◌, ℕ, List, []}
+use Rattle.std.proofs.Common.{◌∷◌, map, ap, refl, String, string_bytes, Global, Bor}
 use Rattle.toml.proofs.Views.{Entry}
 use Rattle.toml.specs.View.{members_view}
 use Rattle.toml.specs.declared.value.Value.{Value}
 use Rattle.std.specs.List.{list_any, position, position_or_len}
-use Rattle.std.specs.Prelude.{◌||◌, bytes_eq}
+use Rattle.std.specs.Prelude.{◌||◌, bytes_eq, string_eq}
 use Rattle.sdf_document.specs.Tables.{stranger, texts_of}
-use Rattle.sdf_document.specs.Names.{names_of, with_name}
+use Rattle.indexmap.specs.IndexSet.{insert_key}
+use Rattle.sdf_document.specs.Names.{with_name}
 use Rattle.std.proofs.lemmas.List.{map_push}
-use Rattle.sdf_document.specs.Actors.{actor_view, names_in}
-use Rattle.sdf_document.specs.declared.entry.ActorEntry.{ActorEntry}
 
 -- whether a text is in a list, each item seen by f
 any_map : {X : Type 0} (f : X → List ℕ) (s : List ℕ) (ks : List X) →
@@ -17,31 +16,24 @@ any_map : {X : Type 0} (f : X → List ℕ) (s : List ℕ) (ks : List X) →
 any_map f s [] = refl
 any_map f s (k ∷ ks) = ap (λ b. bytes_eq s (f k) || b) (any_map f s ks)
 
--- a name that is put last, and one that is there
-pub name_put : (ks : List (String Global)) (k : String Global) →
-    list_any (λ x. bytes_eq (string_bytes k) (string_bytes x)) ks ≡ false →
-    names_of (ks ++ k ∷ []) ≡ with_name (names_of ks) (string_bytes k)
-name_put ks k h = rw (any_map string_bytes (string_bytes k) ks ∙ h) (map_push string_bytes ks k)
+-- a text is among names exactly where it is a key's
+pub list_any_names : (s : List ℕ) (ks : List (String Global)) →
+    list_any (bytes_eq s) (map string_bytes ks) ≡ list_any (λ k. bytes_eq s (string_bytes k)) ks
+list_any_names s ks = any_map string_bytes s ks
 
-pub name_there : (ks : List (String Global)) (s : List ℕ) → list_any (λ x. bytes_eq s (string_bytes x)) ks ≡ true →
-    with_name (names_of ks) s ≡ names_of ks
-name_there ks s h = rw (any_map string_bytes s ks ∙ h) refl
+-- a name that is put into a set
+pub names_inserted : (ks : List (String Global)) (k : String Global) →
+    map string_bytes (insert_key string_eq ks k) ≡ with_name (map string_bytes ks) (string_bytes k)
+names_inserted ks k = go (list_any (λ x. bytes_eq (string_bytes k) (string_bytes x)) ks) refl
+  where
+    go : (b : Bool) → list_any (λ x. bytes_eq (string_bytes k) (string_bytes x)) ks ≡ b →
+        map string_bytes (insert_key string_eq ks k) ≡ with_name (map string_bytes ks) (string_bytes k)
+    go true h = rw (h, list_any_names (string_bytes k) ks ∙ h) refl
+    go false h = rw (h, list_any_names (string_bytes k) ks ∙ h) (map_push string_bytes ks k)
 
 pub list_any_texts : (s : List ℕ) (ts : List (Bor (List ℕ))) →
     list_any (bytes_eq s) (texts_of ts) ≡ list_any (λ t. bytes_eq s t.now) ts
 list_any_texts s ts = any_map (λ t. t.now) s ts
-
--- the name of an actor, by its entry
-abbrev entry_name : ActorEntry → List ℕ
-entry_name e = string_bytes e.name
-
-names_in_view : (es : List ActorEntry) → names_in (map actor_view es) ≡ map entry_name es
-names_in_view [] = refl
-names_in_view (e ∷ es) = ap (λ ns. entry_name e ∷ ns) (names_in_view es)
-
-pub list_any_named : (s : List ℕ) (es : List ActorEntry) →
-    list_any (bytes_eq s) (names_in (map actor_view es)) ≡ list_any (λ e. bytes_eq s (string_bytes e.name)) es
-list_any_named s es = ap (list_any (bytes_eq s)) (names_in_view es) ∙ any_map entry_name s es
 
 -- a known key in front
 pub stranger_known : (ts : List (Bor (List ℕ))) (s t : List Entry) (k : String Global) (v : Value) → s ≡ (k, v) ∷ t
@@ -76,10 +68,10 @@ position_map f s ks =
     ∙ ap (λ m. cond (ltb (position_or_len (λ k. bytes_eq s (f k)) ks) m)
     (Some (position_or_len (λ k. bytes_eq s (f k)) ks)) None) (same_length f ks)
 
--- the place of a text among the names of actors
-pub position_named : (s : List ℕ) (es : List ActorEntry) →
-    position (bytes_eq s) (names_in (map actor_view es)) ≡ position (λ e. bytes_eq s (string_bytes e.name)) es
-position_named s es = ap (position (bytes_eq s)) (names_in_view es) ∙ position_map entry_name s es
+-- the place of a text among names
+pub position_names : (s : List ℕ) (ks : List (String Global)) →
+    position (bytes_eq s) (map string_bytes ks) ≡ position (λ k. bytes_eq s (string_bytes k)) ks
+position_names s ks = position_map string_bytes s ks
 
 pub position_texts : (s : List ℕ) (ts : List (Bor (List ℕ))) →
     position (bytes_eq s) (texts_of ts) ≡ position (λ t. bytes_eq s t.now) ts

@@ -1,5 +1,6 @@
 -- A whole graph file, with the first test that it fails.
-use Rattle.std.specs.Prelude.{ℕ, suc, ◌+◌, ◌&&◌, not, List, [], ◌∷◌, ◌++◌, codes, map, Option, None, Result, Ok, Err}
+use Rattle.std.specs.Prelude.{◌≡◌, ℕ, suc, ◌+◌, ◌&&◌, not, List, [], ◌∷◌, ◌++◌, codes, map, Option, None, Result, Ok}
+use Rattle.std.specs.Prelude.{Err}
 use Rattle.std.specs.Prelude.{nat_le, bytes_eq, if◌then◌else◌}
 use Rattle.std.specs.List.{filter, filter_map}
 use Rattle.toml.specs.Data.{Data, Items, no_items, item, Members, get_member, as_array}
@@ -80,14 +81,19 @@ pub record DocumentValue : Type 0 where
 abbrev pub document_view : Document → DocumentValue
 document_view d = record { actors = map actor_view d.actors.items; links = map link_view d.links.items }
 
+-- the actors, and the links between them
+abbrev pub entries_at : Files → PartsValue → Result DocumentValue Fault
+entries_at files parts = do
+  actors ← actors_in parts.format (read files) parts.actors
+  links ← links_in (names_in actors) parts.links
+  Ok (record { actors = actors; links = links })
+
 -- what the bytes of a graph file say, beside its coefficient files
 unfoldable pub document_of : List ℕ → Files → Result DocumentValue Fault
 document_of bytes files = do
   ms ← or_fault (not_toml top) (table_in bytes)
   parts ← parts_at ms
-  actors ← actors_in parts.format (read files) parts.actors
-  links ← links_in (names_in actors) parts.links
-  Ok (record { actors = actors; links = links })
+  entries_at files parts
 
 -- ---- the coefficient files that it names
 
@@ -104,6 +110,10 @@ actor_file a = kind_file a.kind
 abbrev pub first_seen : List (List ℕ) → List (List ℕ)
 first_seen [] = []
 first_seen (x ∷ xs) = x ∷ filter (λ y. not (bytes_eq x y)) (first_seen xs)
+
+-- no name stands twice
+abbrev pub AreDistinct : List (List ℕ) → Type 0
+AreDistinct names = first_seen names ≡ names
 
 -- the tests without links and without a look into the files
 unfoldable pub file_names_of : List ℕ → Result (List (List ℕ)) Fault

@@ -1,16 +1,21 @@
 -- Names of actors and of coefficient files.
-use Rattle.std.specs.Prelude.{ℕ, ◌==◌, ◌&&◌, ◌||◌, not, Bool, List, [], ◌∷◌, ◌++◌, length, nat_le, slice_index, map}
-use Rattle.std.specs.Prelude.{String, string_bytes, bytes_eq, if◌then◌else◌}
+use Rattle.std.specs.Prelude.{◌≡◌, ℕ, ◌==◌, ◌&&◌, ◌||◌, not, Bool, false, List, [], ◌∷◌, ◌++◌, length, nat_le}
+use Rattle.std.specs.Prelude.{slice_index, map, String, string_bytes, bytes_eq, if◌then◌else◌}
 use Rattle.std.specs.List.{list_all, list_any}
 use Rattle.std.specs.declared.alloc.Global.{Global}
+use Rattle.indexmap.specs.IndexSet.{IndexSet, keys}
 
--- the bytes of each name, in their order
-abbrev pub names_of : List (String Global) → List (List ℕ)
-names_of ss = map string_bytes ss
+-- the names in first-seen order
+abbrev pub names_of : {S : Type 0} → IndexSet (String Global) S → List (List ℕ)
+names_of s = map string_bytes (keys s)
 
 -- a name put last, unless it is there
 abbrev pub with_name : List (List ℕ) → List ℕ → List (List ℕ)
 with_name names x = if list_any (bytes_eq x) names then names else names ++ x ∷ []
+
+-- a new name, put last
+abbrev pub IsNamed : List (List ℕ) → List ℕ → List (List ℕ) → Type 0
+IsNamed names x named = (list_any (bytes_eq x) names ≡ false) × (named ≡ names ++ x ∷ [])
 
 -- A-Z a-z
 abbrev pub is_letter : ℕ → Bool

@@ -1,44 +1,46 @@
 //! Actors, from their tables.
-ghost use Rattle.std.specs.Prelude.{◌≡◌, IfOk, map, option_map, string_bytes, bytes_eq};
-ghost use Rattle.std.specs.List.{list_any};
+ghost use Rattle.std.specs.Prelude.{◌≡◌, IfOk, option_map, string_bytes};
 ghost use Rattle.std.specs.Vec.Iter.{into_iter_items};
 ghost use Rattle.toml.specs.View.{table_view, view};
 ghost use Rattle.sdf_document.specs.Fault.{Gives};
+ghost use Rattle.sdf_document.specs.Names.{names_of, IsNamed};
 ghost use Rattle.sdf_document.specs.Lists.{lookup_of, are_read};
 ghost use Rattle.sdf_document.specs.Kinds.{first, rest, optional};
-ghost use Rattle.sdf_document.specs.Actors.{name_at, names_in, keys_at, actor_at, actor_view, IsActorWithin};
+ghost use Rattle.sdf_document.specs.Actors.{name_at, keys_at, actor_at, actor_view, IsActorWithin};
 
 use crate::entry::ActorEntry;
 use crate::fault::{DocumentFault, Place, ReadFault, Spot};
 use crate::file::Files;
 use crate::key::{KeyValue, actor_keys, values_at};
 use crate::kind::{kind_at, natural, optional, word_at};
-use crate::name::is_name;
+use crate::name::{is_name, is_taken, put_name};
 use crate::row::{KindWord, row_of, shared_keys};
 use crate::table::test_keys;
 use crate::value::text_at;
+use indexmap::IndexSet;
 use std::alloc::Global;
 use std::vec;
 use toml::{Table, Value};
 
-/// Whether one of the actors has a name.
-fn is_taken(actors: &[ActorEntry], name: &str) -> bool
-    ensures { result ≡ list_any (λ a. bytes_eq name.now (string_bytes a.name)) actors.now }
-{
-    actors.iter().any(|actor| name == actor.name.as_str())
-}
-
-#[tactic(auto, using(crate::proofs::Names::list_any_named), unfolding(crate::specs::Actors::name_at))]
-fn name_at<'a>(actor: usize, before: &[ActorEntry], table: &'a Table) -> Result<&'a str, ReadFault>
-    ensures { Gives (λ s. s.now) result (name_at actor (names_in (map actor_view before.now)) (table_view table.now)) }
+/// Returns the name of an actor, and adds it to those of the actors before it.
+#[tactic(auto, unfolding(crate::specs::Actors::name_at))]
+fn name_at<'a>(
+    alloc: Global,
+    actor: usize,
+    names: &mut IndexSet<String>,
+    table: &'a Table,
+) -> Result<&'a str, ReadFault>
+    ensures given { Gives (λ s. s.now) result (name_at actor (names_of names.old) (table_view table.now)) }
+    ensures named { IfOk result (λ s. IsNamed (names_of names.old) s.now (names_of names.new)) }
 {
     let name = text_at(Place::Actor(actor), "name", table)?;
     if !is_name(name) {
         return Err(DocumentFault::BadName(Place::Actor(actor), "name").into());
     }
-    if is_taken(before, name) {
+    if is_taken(names, name) {
         return Err(DocumentFault::NameTwice(actor).into());
     }
+    put_name(alloc, names, name)?;
     Ok(name)
 }
 
@@ -64,24 +66,25 @@ fn processor(values: &mut vec::IntoIter<KeyValue>) -> Option<usize>
     Some(number as usize)
 }
 
-/// The actor of a number, after those before it.
+/// Returns actor number `actor`, and adds its name to those of the actors before it.
 #[tactic(auto, unfolding(crate::specs::Actors::actor_at))]
 pub(crate) fn actor_at(
     alloc: Global,
     actor: usize,
     format: u32,
     files: Files<'_>,
-    before: &[ActorEntry],
+    names: &mut IndexSet<String>,
     value: &Value,
 ) -> Result<ActorEntry, ReadFault>
-    ensures given { Gives actor_view result (actor_at actor format (lookup_of files.entry)
-        (names_in (map actor_view before.now)) (view value.now)) }
+    ensures given { Gives actor_view result (actor_at actor format (lookup_of files.entry) (names_of names.old)
+        (view value.now)) }
+    ensures named { IfOk result (λ a. IsNamed (names_of names.old) (string_bytes a.name) (names_of names.new)) }
     ensures within { IfOk result (IsActorWithin (are_read files.entry)) }
 {
     let Some(table) = value.as_table() else {
         return Err(DocumentFault::WrongType(Place::Actor(actor), "actor").into());
     };
-    let name = name_at(actor, before, table)?;
+    let name = name_at(alloc, actor, names, table)?;
     let word = word_at(actor, format, table)?;
     test_actor_keys(alloc, actor, word, table)?;
     let kind = kind_at(alloc, actor, files, word, table)?;

@@ -1,42 +1,49 @@
 //! Whole graph files.
 ghost use Rattle.std.specs.Prelude.{◌≡◌, ◌++◌, [], map, IfOk, OnOk, Some, true, is_some, None, option_map};
-ghost use Rattle.std.specs.Prelude.{string_bytes, bytes_eq, length, List};
-ghost use Rattle.std.specs.List.{All, list_any, filter_map};
+ghost use Rattle.std.specs.Prelude.{string_bytes, length, List};
+ghost use Rattle.std.specs.List.{All, filter_map};
 ghost use Rattle.toml.specs.View.{items_view, table_view, view};
 ghost use Rattle.sdf_document.specs.Fault.{Gives};
-ghost use Rattle.sdf_document.specs.Names.{names_of, with_name};
+ghost use Rattle.sdf_document.specs.Names.{names_of};
 ghost use Rattle.sdf_document.specs.Tables.{texts_of};
-ghost use Rattle.sdf_document.specs.Lists.{files_view, lookup_of, are_read};
+ghost use Rattle.sdf_document.specs.Lists.{files_view, lookup_of, are_read, unread};
 ghost use Rattle.sdf_document.specs.Actors.{actor_view, names_in, IsActorWithin};
 ghost use Rattle.sdf_document.specs.Links.{link_view};
 ghost use Rattle.sdf_document.specs.Document.{actors_in, links_in, array_at, item_count, top_keys, parts_at};
 ghost use Rattle.sdf_document.specs.Document.{parts_view, document_view, document_of, kind_file, actor_file};
-ghost use Rattle.sdf_document.specs.Document.{first_seen, file_names_of};
+ghost use Rattle.sdf_document.specs.Document.{entries_at, first_seen, file_names_of, AreDistinct};
 
 use crate::actor::actor_at;
 use crate::entry::{ActorEntry, Document, KindEntry, LinkEntry};
 use crate::fault::{DocumentFault, Place, ReadFault, Spot};
 use crate::file::Files;
 use crate::link::link_at;
+use crate::name::put_name;
 use crate::table::{format_at, table_in, test_keys};
 use crate::value::at;
+use indexmap::IndexSet;
 use sdf_limits::{MOST_ACTORS, MOST_LINKS};
 use std::alloc::{AllocError, Global};
 use toml::{Table, Value};
 
+/// Returns the actors, and puts their names into `names`.
 fn actors_in(
     alloc: Global,
     format: u32,
     files: Files<'_>,
+    names: &mut IndexSet<String>,
     items: &[Value],
 ) -> Result<Vec<ActorEntry>, ReadFault>
+    requires { names_of names.old ≡ [] }
     ensures given { Gives (λ v. map actor_view v.items) result
         (actors_in format (lookup_of files.entry) (items_view items.now)) }
+    ensures named { IfOk result (λ v. names_of names.new ≡ names_in (map actor_view v.items)) }
+    ensures distinct { IfOk result (λ v. AreDistinct (names_in (map actor_view v.items))) }
     ensures within { IfOk result (λ v. All (IsActorWithin (are_read files.entry)) v.items) }
 {
     let mut actors = Vec::new(alloc);
     for (number, value) in items.iter().enumerate() {
-        let actor = actor_at(alloc, number, format, files, &actors, value)?;
+        let actor = actor_at(alloc, number, format, files, names, value)?;
         actors.push(actor)?;
     }
     Ok(actors)
@@ -44,15 +51,14 @@ fn actors_in(
 
 fn links_in(
     alloc: Global,
-    actors: &[ActorEntry],
+    names: &IndexSet<String>,
     items: &[Value],
 ) -> Result<Vec<LinkEntry>, ReadFault>
-    ensures { Gives (λ v. map link_view v.items) result
-        (links_in (names_in (map actor_view actors.now)) (items_view items.now)) }
+    ensures { Gives (λ v. map link_view v.items) result (links_in (names_of names.now) (items_view items.now)) }
 {
     let mut links = Vec::new(alloc);
     for (number, value) in items.iter().enumerate() {
-        let link = link_at(alloc, number, actors, value)?;
+        let link = link_at(alloc, number, names, value)?;
         links.push(link)?;
     }
     Ok(links)
@@ -108,6 +114,29 @@ fn parts_at(alloc: Global, table: &Table) -> Result<Parts<'_>, ReadFault>
     })
 }
 
+/// Returns the actors and links of a graph file, and puts the names of its actors into `names`.
+fn document_in(
+    alloc: Global,
+    parts: Parts<'_>,
+    files: &[(String, Vec<u8>)],
+    names: &mut IndexSet<String>,
+) -> Result<Document, ReadFault>
+    requires { names_of names.old ≡ [] }
+    ensures given { Gives document_view result (entries_at (files_view files.now) (parts_view parts.entry)) }
+    ensures distinct { IfOk result (λ d. AreDistinct (names_in (map actor_view d.actors.items))) }
+    ensures within { IfOk result (λ d. All (IsActorWithin true) d.actors.items) }
+{
+    let actors = actors_in(
+        alloc,
+        parts.format,
+        Files::Given(files),
+        names,
+        parts.actors,
+    )?;
+    let links = links_in(alloc, names, parts.links)?;
+    Ok(Document { actors, links })
+}
+
 /// What a graph file says, or the first test that it fails.
 ///
 /// Each file is a name and its bytes; of two files of one name the first counts.
@@ -118,13 +147,13 @@ pub fn read_document(
     files: &[(String, Vec<u8>)],
 ) -> Result<Document, ReadFault>
     ensures given { Gives document_view result (document_of graph.now (files_view files.now)) }
+    ensures distinct { IfOk result (λ d. AreDistinct (names_in (map actor_view d.actors.items))) }
     ensures within { IfOk result (λ d. All (IsActorWithin true) d.actors.items) }
 {
     let table = table_in(alloc, Spot::Top, graph)?;
     let parts = parts_at(alloc, &table)?;
-    let actors = actors_in(alloc, parts.format, Files::Given(files), parts.actors)?;
-    let links = links_in(alloc, &actors, parts.links)?;
-    Ok(Document { actors, links })
+    let mut names = IndexSet::new(alloc);
+    document_in(alloc, parts, files, &mut names)
 }
 
 /// The coefficient file that a kind's list stands in.
@@ -142,46 +171,50 @@ fn file_of(kind: &KindEntry) -> Option<&str>
     }
 }
 
-/// Whether a name is among names.
-fn is_among(names: &[String], name: &str) -> bool
-    ensures { result ≡ list_any (λ s. bytes_eq name.now (string_bytes s)) names.now }
+/// Puts the coefficient files that actors name into `names`.
+#[tactic(auto, using(crate::proofs::FirstSeen::wanted_more, crate::proofs::FirstSeen::wanted_same))]
+fn put_files(
+    alloc: Global,
+    names: &mut IndexSet<String>,
+    actors: &[ActorEntry],
+) -> Result<(), AllocError>
+    requires { names_of names.old ≡ [] }
+    ensures { OnOk result (names_of names.new ≡ first_seen (filter_map actor_file (map actor_view actors.now))) }
 {
-    names.iter().any(|known| name == known.as_str())
-}
-
-/// Puts a name last, unless it is there.
-#[tactic(auto, using(crate::proofs::Names::name_put, crate::proofs::Names::name_there))]
-fn put_name(alloc: Global, names: &mut Vec<String>, name: &str) -> Result<(), AllocError>
-    ensures { OnOk result (names_of names.new.items ≡ with_name (names_of names.old.items) name.now) }
-{
-    if !is_among(names, name) {
-        names.push(String::from_str(alloc, name)?)?;
+    for actor in actors {
+        if let Some(name) = file_of(&actor.kind) {
+            put_name(alloc, names, name)?;
+        }
     }
     Ok(())
 }
 
-/// The coefficient files that actors name.
-#[tactic(auto, using(crate::proofs::FirstSeen::wanted_more, crate::proofs::FirstSeen::wanted_same))]
-fn names_wanted(alloc: Global, actors: &[ActorEntry]) -> Result<Vec<String>, AllocError>
-    ensures { IfOk result (λ v. names_of v.items ≡ first_seen (filter_map actor_file (map actor_view actors.now))) }
+/// Returns the coefficient files that actors name.
+fn names_wanted(alloc: Global, actors: &[ActorEntry]) -> Result<IndexSet<String>, AllocError>
+    ensures { IfOk result (λ s. names_of s ≡ first_seen (filter_map actor_file (map actor_view actors.now))) }
 {
-    let mut names = Vec::new(alloc);
-    for actor in actors {
-        if let Some(name) = file_of(&actor.kind) {
-            put_name(alloc, &mut names, name)?;
-        }
-    }
+    let mut names = IndexSet::new(alloc);
+    put_files(alloc, &mut names, actors)?;
     Ok(names)
+}
+
+/// Returns the actors of a graph file, with no look into its coefficient files.
+fn actors_alone(alloc: Global, parts: Parts<'_>) -> Result<Vec<ActorEntry>, ReadFault>
+    ensures { Gives (λ v. map actor_view v.items) result
+        (actors_in parts.entry.format unread (items_view parts.entry.actors.now)) }
+{
+    let mut names = IndexSet::new(alloc);
+    actors_in(alloc, parts.format, Files::Unread, &mut names, parts.actors)
 }
 
 /// The coefficient files that a graph file names, each once, where it stands first, or the first test that it fails
 /// of those that need no such file: all but those of the links.
 #[tactic(auto, unfolding(crate::specs::Document::file_names_of))]
-pub fn file_names(alloc: Global, graph: &[u8]) -> Result<Vec<String>, ReadFault>
-    ensures { Gives (λ v. names_of v.items) result (file_names_of graph.now) }
+pub fn file_names(alloc: Global, graph: &[u8]) -> Result<IndexSet<String>, ReadFault>
+    ensures { Gives names_of result (file_names_of graph.now) }
 {
     let table = table_in(alloc, Spot::Top, graph)?;
     let parts = parts_at(alloc, &table)?;
-    let actors = actors_in(alloc, parts.format, Files::Unread, parts.actors)?;
+    let actors = actors_alone(alloc, parts)?;
     Ok(names_wanted(alloc, actors.as_slice())?)
 }

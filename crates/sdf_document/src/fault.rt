@@ -56,68 +56,35 @@ impl Spot<'_> {
 /// The first test that a graph file or one of its coefficient files fails.
 ///
 /// It prints its number, its name and its place.
-#[derive(Debug, Drop)]
+#[derive(Debug, Drop, Error)]
 pub enum DocumentFault {
+    #[error("2 ActorCount")]
     ActorCount,
+    #[error("3 ChannelCount")]
     ChannelCount,
+    #[error("28 KitValue {0} key {1}")]
     KitValue(Place, &'static str),
+    #[error("49 NotToml {0}")]
     NotToml(Place),
+    #[error("50 Format {0}")]
     Format(Place),
+    #[error("51 UnknownKey {0} key {1}")]
     UnknownKey(Place, String),
+    #[error("52 MissingKey {0} key {1}")]
     MissingKey(Place, &'static str),
+    #[error("53 WrongType {0} key {1}")]
     WrongType(Place, &'static str),
+    #[error("54 BadName {0} key {1}")]
     BadName(Place, &'static str),
+    #[error("55 NameTwice actor {0}")]
     NameTwice(usize),
+    #[error("56 UnknownKind actor {0}")]
     UnknownKind(usize),
+    #[error("57 BadPort link {0} key {1}")]
     BadPort(usize, &'static str),
+    #[error("58 NoFile file {0}")]
     NoFile(String),
 }
-
-/// Writes what fails, and where.
-fn write_at<P: fmt::Display, W: fmt::Write>(
-    f: &mut fmt::Formatter<W>,
-    what: &str,
-    place: &P,
-) -> fmt::Result {
-    write!(f, "{what} {place}")
-}
-
-/// The same with a key.
-fn write_key<P: fmt::Display, W: fmt::Write>(
-    f: &mut fmt::Formatter<W>,
-    what: &str,
-    place: &P,
-    key: &str,
-) -> fmt::Result {
-    write!(f, "{what} {place} key {key}")
-}
-
-impl fmt::Display for DocumentFault {
-    fn fmt<W: fmt::Write>(&self, f: &mut fmt::Formatter<W>) -> fmt::Result {
-        match self {
-            DocumentFault::ActorCount => f.write_str("2 ActorCount"),
-            DocumentFault::ChannelCount => f.write_str("3 ChannelCount"),
-            DocumentFault::KitValue(place, key) => write_key(f, "28 KitValue", place, key),
-            DocumentFault::NotToml(place) => write_at(f, "49 NotToml", place),
-            DocumentFault::Format(place) => write_at(f, "50 Format", place),
-            DocumentFault::UnknownKey(place, key) => write_key(
-                f,
-                "51 UnknownKey",
-                place,
-                key.as_str(),
-            ),
-            DocumentFault::MissingKey(place, key) => write_key(f, "52 MissingKey", place, key),
-            DocumentFault::WrongType(place, key) => write_key(f, "53 WrongType", place, key),
-            DocumentFault::BadName(place, key) => write_key(f, "54 BadName", place, key),
-            DocumentFault::NameTwice(actor) => write_at(f, "55 NameTwice actor", actor),
-            DocumentFault::UnknownKind(actor) => write_at(f, "56 UnknownKind actor", actor),
-            DocumentFault::BadPort(link, key) => write_key(f, "57 BadPort link", link, key),
-            DocumentFault::NoFile(name) => write_at(f, "58 NoFile file", name),
-        }
-    }
-}
-
-impl std::error::Error for DocumentFault {}
 
 /// Why a document was not read: memory was refused, or it fails a test.
 #[derive(Debug, Drop, Error)]

@@ -1,19 +1,20 @@
 //! Links, from their tables.
-ghost use Rattle.std.specs.Prelude.{◌≡◌, map, codes, option_map, string_bytes, bytes_eq};
+ghost use Rattle.std.specs.Prelude.{◌≡◌, codes, option_map, bytes_eq};
 ghost use Rattle.std.specs.List.{position};
 ghost use Rattle.toml.specs.View.{table_view, view};
 ghost use Rattle.sdf_document.specs.Fault.{Gives};
-ghost use Rattle.sdf_document.specs.Actors.{actor_view, names_in};
+ghost use Rattle.sdf_document.specs.Names.{names_of};
 ghost use Rattle.sdf_document.specs.Tables.{texts_of};
 ghost use Rattle.sdf_document.specs.Links.{named, port_of, port_texts, end_of, end_at, initial_at, link_at, link_view};
 ghost use Rattle.sdf_document.specs.Links.{link_keys};
 
-use crate::entry::{ActorEntry, LinkEntry};
+use crate::entry::LinkEntry;
 use crate::fault::{DocumentFault, Place, ReadFault, Spot};
 use crate::list::all_of;
 use crate::row::Width;
 use crate::table::test_keys;
 use crate::value::{at, integers_at, text_at};
+use indexmap::IndexSet;
 use std::alloc::Global;
 use toml::{Table, Value};
 
@@ -39,30 +40,23 @@ fn port_of(text: &str) -> Option<usize>
     position_of(ports(), text)
 }
 
-/// The place of the first actor of a name.
-fn place_of(actors: &[ActorEntry], name: &str) -> Option<usize>
-    ensures { result ≡ position (λ a. bytes_eq name.now (string_bytes a.name)) actors.now }
+#[tactic(auto, using(crate::proofs::Names::position_names))]
+fn named(names: &IndexSet<String>, text: &str) -> Option<usize>
+    ensures { result ≡ named (names_of names.now) text.now }
 {
-    actors.iter().position(|actor| name == actor.name.as_str())
-}
-
-#[tactic(auto, using(crate::proofs::Names::position_named))]
-fn named(actors: &[ActorEntry], text: &str) -> Option<usize>
-    ensures { result ≡ named (names_in (map actor_view actors.now)) text.now }
-{
-    place_of(actors, text)
+    names.get_index_of(text)
 }
 
 #[tactic(auto, using(std::proofs::lemmas::Str::Pattern::split_once_first), unfolding(crate::specs::Links::end_of))]
-fn end_of(actors: &[ActorEntry], text: &str) -> Option<(usize, usize)>
-    ensures { result ≡ end_of (names_in (map actor_view actors.now)) text.now }
+fn end_of(names: &IndexSet<String>, text: &str) -> Option<(usize, usize)>
+    ensures { result ≡ end_of (names_of names.now) text.now }
 {
     match text.split_once(':') {
         Some((name, port)) => {
-            let actor = named(actors, name)?;
+            let actor = named(names, name)?;
             Some((actor, port_of(port)?))
         }
-        None => Some((named(actors, text)?, 0)),
+        None => Some((named(names, text)?, 0)),
     }
 }
 
@@ -70,14 +64,13 @@ fn end_of(actors: &[ActorEntry], text: &str) -> Option<(usize, usize)>
 fn end_at(
     link: usize,
     key: &'static str,
-    actors: &[ActorEntry],
+    names: &IndexSet<String>,
     table: &Table,
 ) -> Result<(usize, usize), ReadFault>
-    ensures { Gives (λ e. e) result (end_at link key.now (names_in (map actor_view actors.now))
-        (table_view table.now)) }
+    ensures { Gives (λ e. e) result (end_at link key.now (names_of names.now) (table_view table.now)) }
 {
     let text = text_at(Place::Link(link), key, table)?;
-    match end_of(actors, text) {
+    match end_of(names, text) {
         Some(end) => Ok(end),
         None => Err(DocumentFault::BadPort(link, key).into()),
     }
@@ -105,22 +98,22 @@ fn link_keys() -> &'static [&'static str]
     LINK_KEYS.as_slice()
 }
 
-/// The link of a number between these actors.
+/// Returns link number `link`, between actors of these names.
 #[tactic(auto, unfolding(crate::specs::Links::link_at))]
 pub(crate) fn link_at(
     alloc: Global,
     link: usize,
-    actors: &[ActorEntry],
+    names: &IndexSet<String>,
     value: &Value,
 ) -> Result<LinkEntry, ReadFault>
-    ensures { Gives link_view result (link_at link (names_in (map actor_view actors.now)) (view value.now)) }
+    ensures { Gives link_view result (link_at link (names_of names.now) (view value.now)) }
 {
     let Some(table) = value.as_table() else {
         return Err(DocumentFault::WrongType(Place::Link(link), "link").into());
     };
     test_keys(alloc, Spot::Link(link), link_keys(), table)?;
-    let from = end_at(link, "from", actors, table)?;
-    let to = end_at(link, "to", actors, table)?;
+    let from = end_at(link, "from", names, table)?;
+    let to = end_at(link, "to", names, table)?;
     let initial = initial_at(alloc, link, table)?;
     Ok(LinkEntry { from, to, initial })
 }

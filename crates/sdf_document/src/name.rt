@@ -1,7 +1,11 @@
 //! Names of actors and of coefficient files.
-ghost use Rattle.std.specs.Prelude.{◌≡◌};
-ghost use Rattle.std.specs.List.{list_all};
+ghost use Rattle.std.specs.Prelude.{◌≡◌, OnOk, bytes_eq};
+ghost use Rattle.std.specs.List.{list_all, list_any};
 ghost use Rattle.sdf_document.specs.Names.{is_letter, is_name_byte, is_name, is_file_byte, is_file_name};
+ghost use Rattle.sdf_document.specs.Names.{names_of, with_name};
+
+use indexmap::IndexSet;
+use std::alloc::{AllocError, Global};
 
 fn is_letter(b: u8) -> bool
     ensures { result ≡ is_letter b }
@@ -49,4 +53,25 @@ pub(crate) fn is_file_name(text: &str) -> bool
         return false;
     };
     bytes.len() <= 64 && *first != b'.' && are_file_bytes(bytes)
+}
+
+/// Puts a name last, unless it is there.
+#[tactic(auto, using(crate::proofs::Names::names_inserted))]
+pub(crate) fn put_name(
+    alloc: Global,
+    names: &mut IndexSet<String>,
+    name: &str,
+) -> Result<(), AllocError>
+    ensures { OnOk result (names_of names.new ≡ with_name (names_of names.old) name.now) }
+{
+    names.insert(String::from_str(alloc, name)?)?;
+    Ok(())
+}
+
+/// Whether a name is among `names`.
+#[tactic(auto, using(crate::proofs::Names::list_any_names))]
+pub(crate) fn is_taken(names: &IndexSet<String>, name: &str) -> bool
+    ensures { result ≡ list_any (bytes_eq name.now) (names_of names.now) }
+{
+    names.contains(name)
 }

@@ -1,10 +1,10 @@
 //! Designs.
-ghost use Rattle.std.specs.Prelude.{◌≡◌, ◌<◌, ℕ, List, [], true, map, string_bytes, slice_index_or};
+ghost use Rattle.std.specs.Prelude.{◌≡◌, ◌<◌, ℕ, List, [], true, map, slice_index_or};
 ghost use Rattle.std.specs.Prelude.{IfOk, MatchResult};
 ghost use Rattle.std.specs.List.{All};
 ghost use Rattle.sdf_document.specs.Lists.{files_view};
-ghost use Rattle.sdf_document.specs.Actors.{IsActorWithin};
-ghost use Rattle.sdf_document.specs.Document.{document_view};
+ghost use Rattle.sdf_document.specs.Actors.{actor_view, names_in, IsActorWithin};
+ghost use Rattle.sdf_document.specs.Document.{document_view, AreDistinct};
 ghost use Rattle.sdf_document.specs.Names.{names_of};
 ghost use Rattle.sdf_actor.specs.NetFaults.{IsAccepted};
 ghost use Rattle.sdf_kit.specs.Kit.{kit_steps};
@@ -13,6 +13,7 @@ ghost use Rattle.sdf_file.specs.Designs.{IsNamesFault};
 
 use crate::fault::FileFault;
 use crate::parts::{links_of, parts_of};
+use indexmap::IndexSet;
 use sdf_actor::Net;
 use sdf_document::{Document, file_names, read_document};
 use sdf_kit::Kit;
@@ -24,27 +25,27 @@ use std::marker::Model;
 #[derive(Drop)]
 pub struct Design {
     net: Net<Kit>,
-    names: Vec<String>,
+    names: IndexSet<String>,
     homes: Vec<Option<usize>>,
     costs: Vec<u32>,
 }
 
 impl Model for Design {
-    ghost use Rattle.std.specs.Prelude.{map, string_bytes};
+    ghost use Rattle.sdf_document.specs.Names.{names_of};
     ghost use Rattle.sdf_file.specs.Designs.{DesignValue, IsDesign};
 
     ghost Value = { DesignValue };
 
     ghost view = { λ d. record {
       net = d.net;
-      names = map string_bytes d.names.items;
+      names = names_of d.names;
       homes = d.homes.items;
       costs = d.costs.items;
     } };
 
     ghost invariant = { λ d. IsDesign (record {
       net = d.net;
-      names = map string_bytes d.names.items;
+      names = names_of d.names;
       homes = d.homes.items;
       costs = d.costs.items;
     }) };
@@ -63,7 +64,7 @@ impl Design {
     pub fn name(&self, actor: usize) -> &str
         ensures { result.now ≡ slice_index_or self.now.names actor [] }
     {
-        match self.names.get(actor) {
+        match self.names.get_index(actor) {
             Some(name) => name.as_str(),
             None => "",
         }
@@ -97,15 +98,16 @@ impl Design {
 
 /// The coefficient files that a graph file names, each once, where it stands first; or the first test that it fails of
 /// those that look into no coefficient file, all but those of the links and of the net.
-pub fn design_files(alloc: Global, graph: &[u8]) -> Result<Vec<String>, FileFault>
-    ensures { MatchResult result (λ v. AreFileNames graph.now (names_of v.items)) (IsNamesFault graph.now) }
+pub fn design_files(alloc: Global, graph: &[u8]) -> Result<IndexSet<String>, FileFault>
+    ensures { MatchResult result (λ s. AreFileNames graph.now (names_of s)) (IsNamesFault graph.now) }
 {
     Ok(file_names(alloc, graph)?)
 }
 
 /// A document as a design, or the first test that its net fails.
 fn design_of(alloc: Global, document: Document) -> Result<Design, FileFault>
-    requires { All (IsActorWithin true) document.actors.items }
+    requires distinct { AreDistinct (names_in (map actor_view document.actors.items)) }
+    requires within { All (IsActorWithin true) document.actors.items }
     ensures { MatchResult result
         (λ d. (d ≡ design_of (document_view document)) × ((q : List ℕ) × IsAccepted kit_steps d.net q))
         (IsMadeFault (design_of (document_view document)).net) }

@@ -5,6 +5,7 @@ ghost use Rattle.std.specs.IoError.{error_kind};
 ghost use Rattle.sdf_plan.specs.declared.fault.Fault.TheVariants.{OutOfMemory};
 
 use crate::storage::Storage;
+use indexmap::IndexSet;
 use sdf_file::{Design, design_files, read_design};
 use sdf_plan::Fault;
 use sdf_why::Header;
@@ -145,7 +146,7 @@ fn read_files<S: Storage>(
     alloc: Global,
     storage: &S,
     graph: &str,
-    names: Vec<String>,
+    names: IndexSet<String>,
     most: u32,
     sources: &mut Sources,
 ) -> Result<(), Fault> {
