@@ -171,7 +171,7 @@ fn file_of(kind: &KindEntry) -> Option<&str>
     }
 }
 
-/// Puts the coefficient files that actors name into `names`.
+/// Puts the names of the coefficient files of `actors` into `names`, each once.
 #[tactic(auto, using(crate::proofs::FirstSeen::wanted_more, crate::proofs::FirstSeen::wanted_same))]
 fn put_files(
     alloc: Global,
@@ -189,7 +189,7 @@ fn put_files(
     Ok(())
 }
 
-/// Returns the coefficient files that actors name.
+/// Returns the names of the coefficient files of `actors`, each once, in first-seen order.
 fn names_wanted(alloc: Global, actors: &[ActorEntry]) -> Result<IndexSet<String>, AllocError>
     ensures { IfOk result (λ s. names_of s ≡ first_seen (filter_map actor_file (map actor_view actors.now))) }
 {
@@ -198,7 +198,7 @@ fn names_wanted(alloc: Global, actors: &[ActorEntry]) -> Result<IndexSet<String>
     Ok(names)
 }
 
-/// Returns the actors of a graph file, with no look into its coefficient files.
+/// Returns the actors of a graph file, without a look into coefficient files.
 fn actors_alone(alloc: Global, parts: Parts<'_>) -> Result<Vec<ActorEntry>, ReadFault>
     ensures { Gives (λ v. map actor_view v.items) result
         (actors_in parts.entry.format unread (items_view parts.entry.actors.now)) }

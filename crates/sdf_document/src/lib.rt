@@ -1,7 +1,7 @@
 //! Graph files and coefficient files: TOML tables, tested in order, as entries.
 //!
 //! `read_document` gives what a graph file says, or the first test that it fails; `file_names` the coefficient files
-//! that it names; `kinds_text` the table of kinds as a text. It stands on `toml` and `sdf_limits` alone.
+//! that it names; `kinds_text` the table of kinds as a text. It depends on `toml`, `indexmap` and `sdf_limits` alone.
 //! Begin at `entry`, `row` and `document`; the definitions, in the order of the tests, are in `specs/Document.antt`,
 //! `specs/Actors.antt`, `specs/Rows.antt`, `specs/Kinds.antt` and `specs/Links.antt`, and that of the text in
 //! `specs/Listing.antt`.

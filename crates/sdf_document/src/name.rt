@@ -55,7 +55,7 @@ pub(crate) fn is_file_name(text: &str) -> bool
     bytes.len() <= 64 && *first != b'.' && are_file_bytes(bytes)
 }
 
-/// Puts a name last, unless it is there.
+/// Puts `name` last, unless it is there.
 #[tactic(auto, using(crate::proofs::Names::names_inserted))]
 pub(crate) fn put_name(
     alloc: Global,
@@ -68,7 +68,7 @@ pub(crate) fn put_name(
     Ok(())
 }
 
-/// Whether a name is among `names`.
+/// Returns whether `name` is among `names`.
 #[tactic(auto, using(crate::proofs::Names::list_any_names))]
 pub(crate) fn is_taken(names: &IndexSet<String>, name: &str) -> bool
     ensures { result ≡ list_any (bytes_eq name.now) (names_of names.now) }
