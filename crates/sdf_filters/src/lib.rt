@@ -7,7 +7,7 @@
 //! of taps. A conversion is split into stages by `split`, and `converter` makes its design of them for `sdfw resample`,
 //! the graph file by `graph`. `sinc`, `cost` and `measure` compute with floats, of which no clause says anything. The
 //! definitions are in `specs/Wanted.antt`, `specs/Phases.antt` (what the taps of a phase come to), `specs/Stages.antt`
-//! and `specs/Converters.antt`.
+//! and `specs/Converters.antt`. `rounds` has the one test that calls a private function.
 #![tactic(auto)]
 
 mod coefficients;
@@ -22,6 +22,8 @@ mod measure;
 mod order;
 mod phases;
 mod ratio;
+#[cfg(test)]
+mod rounds;
 mod sinc;
 mod split;
 mod stage;
