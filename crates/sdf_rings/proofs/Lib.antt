@@ -49,6 +49,7 @@ pub mod Starting
 pub mod Totals
 pub mod Planned
 pub mod CanGo
+pub mod RoundsFire
 pub mod Collects
 pub mod Reading
 pub mod Ended

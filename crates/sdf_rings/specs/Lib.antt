@@ -18,3 +18,4 @@ pub mod Prepared
 pub mod Outcome
 pub mod Together
 pub mod Quiescence
+pub mod Laws

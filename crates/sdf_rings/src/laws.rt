@@ -1,8 +1,9 @@
-//! Laws of the ring machine, each the contract of a function that does nothing but call laws.
+//! Laws of the ring machine and of rounds, each the contract of a function that does nothing but call laws.
 
 ghost use Rattle.std.specs.Prelude.{◌≡◌, ℕ};
 ghost use Rattle.sdf_rings.specs.MachineLaws.{roomy, RunsPutPrefixes, RunsKeepWithin, RunsGoOn, RunsMoveBlocks};
 ghost use Rattle.sdf_rings.specs.MachineLaws.{RunsEndInHistories, OwnNeverWaits, QuiescentReached, QuiescentIsReached};
+ghost use Rattle.sdf_rings.specs.Laws.{SomeSeatGoesOn, RoundsFire};
 
 use sdf_actor::Actor;
 
@@ -73,6 +74,18 @@ pub fn quiescent_reached<A: Actor>()
     sdf_actor::laws::nets_are_wired::<A>();
     sdf_actor::laws::taken_stays::<A>();
     sdf_actor::laws::put_stays::<A>();
+}
+
+/// Where all ends have met and firings of a plan are left, some seat can do its first, and a round of all seats, also
+/// one made by hand, does at least one.
+pub fn rounds_go_on<A: Actor>()
+    ensures some { SomeSeatGoesOn A.steps }
+    ensures fires { RoundsFire A.steps }
+{
+    sdf_actor::laws::nets_are_wired::<A>();
+    sdf_actor::laws::taken_stays::<A>();
+    sdf_actor::laws::locals_are_history::<A>();
+    sdf_prec::laws::the_next_may_fire();
 }
 
 /// A channel with room for one block may hold its capacity, no more and no less.

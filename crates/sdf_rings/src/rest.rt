@@ -1,13 +1,11 @@
 //! The end of a round: all ends in one hand.
 
-ghost use Rattle.std.specs.Prelude.{◌<◌, ℕ, List, All};
+ghost use Rattle.std.specs.Prelude.{All};
 ghost use Rattle.sdf_actor.specs.Nets.{IsNet};
 ghost use Rattle.sdf_actor.specs.Wires.{lists};
 ghost use Rattle.sdf_rings.specs.Seats.{IsSeat};
 ghost use Rattle.sdf_rings.specs.Rests.{IsPlaced, AreRings, HaveMet, AreAtRest};
 ghost use Rattle.sdf_rings.specs.Quiescence.{AreQuiescent};
-ghost use Rattle.sdf_rings.specs.Asks.{IsPlanned, SomeFirst};
-ghost use Rattle.sdf_rings.specs.Totals.{total_left};
 
 use crate::laws::quiescent_reached;
 use crate::seat::Seat;
@@ -62,28 +60,5 @@ pub fn met_is_quiescent<A: Actor>(
     sdf_prec::laws::tables_repeat();
     quiescent_reached::<A>();
     net_facts(net);
-    met_is_rest(net, inputs, seats, places);
-}
-
-/// Where all ends have met and firings of a plan are left, the first of some seat is known to be possible.
-pub fn met_goes_on<A: Actor>(
-    net: &Net<A>,
-    inputs: &[Vec<A::Token>],
-    seats: &[Seat<A>],
-    places: &[(usize, usize)],
-)
-    requires rings { AreRings A.steps (record {
-      net = net.now;
-      inputs = lists inputs.now;
-      seats = seats.now;
-      places = places.now;
-    }) }
-    requires met { HaveMet net.now seats.now places.now }
-    requires planned { (order : List ℕ) × ((cap : ℕ → ℕ) × IsPlanned A.steps net.now seats.now places.now order cap) }
-    requires some { 0 < total_left seats.now }
-    ensures { SomeFirst A.steps net.now seats.now }
-{
-    sdf_actor::laws::nets_are_wired::<A>();
-    sdf_prec::laws::the_next_may_fire();
     met_is_rest(net, inputs, seats, places);
 }

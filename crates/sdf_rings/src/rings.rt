@@ -5,7 +5,7 @@ ghost use Rattle.sdf_rings.specs.Changes.{BecameAt, AllBecame, SameBut};
 ghost use Rattle.sdf_rings.specs.Seats.{HasFirst, HasWorked, HasIdled, HasRounded};
 ghost use Rattle.sdf_rings.specs.Rests.{AreRings, HaveMet, AreAtRest, HasDone, HoldsSamples};
 ghost use Rattle.sdf_rings.specs.Quiescence.{AreQuiescent};
-ghost use Rattle.sdf_rings.specs.Asks.{IsPlanned, SomeFirst};
+ghost use Rattle.sdf_rings.specs.Asks.{IsPlanned};
 ghost use Rattle.sdf_rings.specs.Totals.{total_left};
 ghost use Rattle.sdf_actor.specs.Laws.{AreCountsOf};
 ghost use Rattle.sdf_actor.specs.Sides.{list_count};
@@ -15,9 +15,10 @@ ghost use Rattle.sdf_answer.specs.Answer.{AreOutputs};
 ghost use Rattle.sdf_answer.specs.Feeds.{HasRun};
 
 use crate::finish::collect;
+use crate::laws::rounds_go_on;
 use crate::leave::leave;
 use crate::meet::meet_all;
-use crate::rest::{met_goes_on, met_is_quiescent, met_is_rest};
+use crate::rest::{met_is_quiescent, met_is_rest};
 use crate::round::run_round;
 use crate::seat::{Seat, work};
 use crate::workers::Workers;
@@ -144,15 +145,20 @@ impl<'a, A: Actor> Rings<'a, A> {
         work(net, inputs, &mut self.seats[seat], patience, gate)
     }
 
-    /// A round of all workers, each in a thread of its own.
+    /// Works all seats at once, each in a thread of its own. Where all ends have met and firings of a plan are left, it
+    /// does at least one of them.
     pub fn work_all<R: Threads + Sync, G: Gate>(&mut self, workers: Workers<'_, R, G>)
         ensures rounded { AllBecame (HasRounded A.steps self.new.net self.new.inputs) self.old.seats self.new.seats }
+        ensures fires { HaveMet self.old.net self.old.seats self.old.places → (order : List ℕ) (cap : ℕ → ℕ) →
+            IsPlanned A.steps self.old.net self.old.seats self.old.places order cap →
+            0 < total_left self.old.seats → total_left self.new.seats < total_left self.old.seats }
         ensures planned { (order : List ℕ) (cap : ℕ → ℕ) →
             IsPlanned A.steps self.old.net self.old.seats self.old.places order cap →
             IsPlanned A.steps self.new.net self.new.seats self.new.places order cap }
         ensures same { (self.new.net ≡ self.old.net) × (self.new.inputs ≡ self.old.inputs)
             × (self.new.places ≡ self.old.places) × (length self.new.seats ≡ length self.old.seats) }
     {
+        rounds_go_on::<A>();
         let net = self.net;
         let inputs = self.inputs;
         let _whole = net.graph();
@@ -172,14 +178,14 @@ impl<'a, A: Actor> Rings<'a, A> {
     }
 
     /// How many samples a channel holds, where its ends have met.
-    pub fn held(&self, channel: usize) -> usize
+    pub fn held(&self, channel: usize) -> u64
         requires known { channel < length self.now.net.wires }
         requires met { HaveMet self.now.net self.now.seats self.now.places }
         ensures { HoldsSamples self.now channel result }
     {
         let to = self.net.link(channel).to;
         let place = self.places[to.0];
-        self.seats[place.0].stands[place.1].ins[to.1].cached_slots()
+        self.seats[place.0].stands[place.1].ins[to.1].cached_slots() as u64
     }
 
     /// The end of a round: each end is told what the other did.
@@ -212,18 +218,7 @@ impl<'a, A: Actor> Rings<'a, A> {
         met_is_quiescent(self.net, self.inputs, &self.seats, &self.places);
     }
 
-    /// Where all ends have met and firings of a plan are left, the first of some seat is known to be possible.
-    fn goes_on(&self)
-        requires met { HaveMet self.now.net self.now.seats self.now.places }
-        requires planned { (order : List ℕ) × ((cap : ℕ → ℕ)
-            × IsPlanned A.steps self.now.net self.now.seats self.now.places order cap) }
-        requires some { 0 < total_left self.now.seats }
-        ensures { SomeFirst A.steps self.now.net self.now.seats }
-    {
-        met_goes_on(self.net, self.inputs, &self.seats, &self.places);
-    }
-
-    /// One round and its end. Some firing is done where one is known to be possible.
+    /// Makes one round and its end.
     fn round<R: Threads + Sync, G: Gate>(&mut self, workers: Workers<'_, R, G>)
         ensures met { HaveMet self.new.net self.new.seats self.new.places }
         ensures planned { (order : List ℕ) (cap : ℕ → ℕ) →
@@ -231,8 +226,9 @@ impl<'a, A: Actor> Rings<'a, A> {
             IsPlanned A.steps self.new.net self.new.seats self.new.places order cap }
         ensures same { (self.new.net ≡ self.old.net) × (self.new.inputs ≡ self.old.inputs)
             × (self.new.places ≡ self.old.places) }
-        ensures progress { SomeFirst A.steps self.old.net self.old.seats →
-            total_left self.new.seats < total_left self.old.seats }
+        ensures fires { HaveMet self.old.net self.old.seats self.old.places → (order : List ℕ) (cap : ℕ → ℕ) →
+            IsPlanned A.steps self.old.net self.old.seats self.old.places order cap →
+            0 < total_left self.old.seats → total_left self.new.seats < total_left self.old.seats }
     {
         self.work_all(workers);
         self.meet();
@@ -256,24 +252,22 @@ impl<'a, A: Actor> Rings<'a, A> {
     {
         let mut rounds = 0;
         'rounds: while self.left() > 0 {
-            self.goes_on();
             self.round(workers);
             rounds += 1;
         }
         rounds
     }
 
-    /// The output lists, where nothing is left of a plan and all ends have met. It takes no memory.
+    /// Returns the output lists, if nothing is left of a plan. It takes no memory.
     pub fn finish(self) -> Vec<Vec<A::Token>>
         requires left { total_left self.seats ≡ 0 }
-        requires met { HaveMet self.net self.seats self.places }
         ensures { (order : List ℕ) (cap k : ℕ → ℕ) →
             IsPlanned A.steps self.entry.net self.entry.seats self.entry.places order cap →
             AreCountsOf self.entry.net order k →
             AreOutputs A.steps self.entry.net self.entry.inputs k (lists result.items) }
     {
         let Rings {
-            alloc: _,
+            alloc,
             net,
             inputs,
             mut seats,
@@ -283,6 +277,7 @@ impl<'a, A: Actor> Rings<'a, A> {
         net_facts(net);
         histories_make_outputs::<A>();
         sdf_node::laws::sinks_hold_lists::<A>();
+        meet_all(alloc, net, inputs, &mut seats, &places);
         met_is_rest(net, inputs, &seats, &places);
         collect(net, &mut seats, &places, &mut outputs);
         outputs

@@ -88,7 +88,6 @@ fn rounds<A: Actor<Token = i32>>(
         both_and_meet(rt, &mut rings, turn);
         left.push(rings.left())?;
     }
-    rings.meet();
     assert!(rt; rings.left() == 0);
     Ok(format!(in rt.alloc(); "{left:?} {:?}", rings.finish())?)
 }

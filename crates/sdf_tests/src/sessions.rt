@@ -2,6 +2,7 @@
 
 use crate::kits::Worked;
 use crate::nets::{by_one, chain, pair, planned, ramp};
+use crate::patience::{Held, LATE};
 use sdf_actor::{Actor, Net};
 use sdf_run::{Mode, NoGate, Session};
 use std::alloc::Global;
@@ -91,9 +92,33 @@ fn pieces_are_one<R: Threads + AllocGlobal + Sync, A: Actor<Token = i32>>(
     Ok(())
 }
 
+/// Tells the rounds of a feed of two blocks and those that its session sums, for a source whose second sample comes
+/// late.
+fn rounds_of_a_feed<R: Threads + AllocGlobal + Sync, A: Actor<Token = i32>>(
+    rt: &R,
+    net: &Net<A>,
+) -> Result<String, Fail> {
+    let table = planned(rt.alloc(), net, 1, 2, true)?;
+    let inputs = ramp(rt.alloc(), 1, 3, 0)?;
+    let mode = Mode::Rings {
+        patience: 0,
+        rooms: 1,
+    };
+    let mut session = Session::open(rt.alloc(), net, &table, mode)?;
+    let ran = session.feed(rt, &inputs, &Held::new(LATE))?;
+    let closed = session.close()?;
+    Ok(format!(in rt.alloc(); "{} {}", ran.rounds, closed.rounds)?)
+}
+
+/// Refuses a feed over rings that tells of one round whatever it did, which no clause can.
 #[test]
 fn fed_in_pieces(rt: HostRuntime) -> Result<(), Fail> {
-    pieces_are_one(&rt, &Worked::Converter.net(rt.alloc())?)
+    pieces_are_one(&rt, &Worked::Converter.net(rt.alloc())?)?;
+    row_says(
+        "a feed whose sink finds nothing more at first, without patience, takes two rounds",
+        rounds_of_a_feed(&rt, &Worked::Pair(1, 1, &[7]).net(rt.alloc())?),
+        "2 2",
+    )
 }
 
 /// What a session by so many workers makes of a block of samples of 1, where there are so many periods in a block: how

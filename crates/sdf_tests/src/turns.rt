@@ -92,7 +92,7 @@ fn held_by_count<A: Actor>(rt: &impl Abort, rings: &Rings<A>, net: &Net<A>, tabl
         let channel = &channels[c];
         assert!(rt; channel.from < net.len());
         assert!(rt; channel.to < net.len());
-        let held = rings.held(c) as u64;
+        let held = rings.held(c);
         let put = rings.done(channel.from).wrapping_mul(rate(&channel.put));
         let taken = rings.done(channel.to).wrapping_mul(rate(&channel.take));
         let begun = channel.initial as u64;
@@ -137,7 +137,6 @@ fn done_by<A: Actor<Token = i32>>(
 {
     let mut rings = prepare(rt.alloc(), net, table, periods, inputs)?;
     rounds(rt, &mut rings, net, &table.table, turns);
-    rings.meet();
     assert!(rt; rings.left() == 0);
     Ok(format!(in rt.alloc(); "{:?}", rings.finish())?)
 }

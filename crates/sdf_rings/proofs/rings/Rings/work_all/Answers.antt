@@ -1,8 +1,10 @@
-use Rattle.std.proofs.Common.{◌≡◌, length, ap, arith, sym, subst, ◌∙◌}
+use Rattle.std.proofs.Common.{◌≡◌, ◌<◌, length, ap, arith, sym, subst, ◌∙◌}
 use Rattle.std.proofs.lemmas.List.{with_items_is}
 use Rattle.sdf_actor.specs.Wires.{lists}
 use Rattle.sdf_rings.proofs.Placed.{rings_all}
-use Rattle.sdf_rings.specs.Rests.{InHand}
+use Rattle.sdf_rings.specs.Rests.{InHand, HaveMet}
+use Rattle.sdf_rings.specs.Laws.{AreLeft}
+use Rattle.sdf_rings.specs.Totals.{total_left}
 use Rattle.sdf_rings.specs.Asks.{IsPlanned}
 use Rattle.sdf_rings.proofs.Planned.{planned_kept}
 use Rattle.sdf_rings.proofs.rings.Rings.work_all.Goals as goal
@@ -40,3 +42,28 @@ returns-clause-planned g c = λ order cap plan.
     let rounded = rw v at c.run_round.ensures in
     rw same (planned_kept s x.net.now (lists x.inputs.now) x.seats.items c.run_round.new.seats x.places.items
     c.self.invariant.0 len (λ j e h. (rounded j e h).worked) order cap mine)
+
+pub returns-clause-fires : goal.returns-clause-fires
+returns-clause-fires g c = λ met order cap plan some.
+    let x = c.self.inside in
+    let s = g.A.Actor.steps in
+    let l = c.run_round.auto.seats in
+    let m = c.deref_mut.ensures.len in
+    let v = c.deref_mut.ensures.value in
+    let same = with_items_is x.seats c.run_round.new.seats (omega arith) in
+    let len : length c.run_round.new.seats ≡ length x.seats.items = l ∙ ap length v in
+    let old : InHand _ _ _ = record {
+      net = x.net.now;
+      inputs = lists x.inputs.now;
+      seats = x.seats.items;
+      places = x.places.items;
+    } in
+    let left : AreLeft s old order cap = record {
+      rings = c.self.invariant.0;
+      met = subst (λ (v : InHand _ _ _). HaveMet v.net v.seats v.places) (sym c.self.view_is) met;
+      planned = subst (λ (v : InHand _ _ _). IsPlanned s v.net v.seats v.places order cap) (sym c.self.view_is) plan;
+      some = subst (λ (v : InHand _ _ _). 0 < total_left v.seats) (sym c.self.view_is) some;
+    } in
+    let rounded = rw v at c.run_round.ensures in
+    rw (same, ← c.self.view_is) (c.rounds_go_on.ensures.fires old order cap c.run_round.new.seats left len
+    (λ i e h. let w = rounded i e h in record { worked = w.worked; progress = w.progress }))
