@@ -25,6 +25,22 @@ def memory_of_sdfw(lists):
         lists.refuse(f"sdfw run - - {runner}: memory", words, "memory", ample_or(NO_MEMORY, period), sound=sound)
 
 
+def pieces_of_sdfw(lists):
+    """A sound of four pieces on one thread, each in the memory of the one before: memory is refused in all of them."""
+    name, words = "sdfw run four pieces one: memory", run_words("pieces.toml", "longer.wav", "one")
+    allowed, left = ample_or(NO_MEMORY, 2048), set()
+
+    def judge(ended, ample, at):
+        left.add(len(ended.output or b""))
+        return allowed(ended, ample, at)
+
+    lists.refuse(name, words, "memory", judge)
+    if left:
+        pieces = [44 + 65536 * piece for piece in range(4)]
+        lists.cases(f"{name}, in each piece", [
+            (f"{size} bytes are left", lambda size=size: size in left or f"only {sorted(left)}") for size in pieces])
+
+
 def threads_of_sdfw(lists):
     for runner in ("rows", "rings"):
         for name, design, sound, more, period in RUNS[1:]:
@@ -147,6 +163,7 @@ def asked_by_run(runner, samples, sound):
 
 def all_lists(lists):
     memory_of_sdfw(lists)
+    pieces_of_sdfw(lists)
     threads_of_sdfw(lists)
     parallel_of_sdfw(lists)
     profile_of_sdfw(lists)
