@@ -155,9 +155,9 @@ fn reach_from(taps: &[i16], begins: bool) -> u8
     }
 }
 
-/// Returns whether loud samples of 16 bits go by stretches, which need to have each sixteen.
+/// Returns whether loud samples of 16 bits are summed by stretches.
 ///
-/// The stretches have to be few, unless the peak is too low to split samples in two parts.
+/// One has to begin at each sixteen. If the peak also lets samples be split, they have to cost less than a second pass.
 fn is_wide(stretches: &[u8], up: u32, peak: u32) -> bool
     requires up { up ≤ 64 }
     requires few { length stretches.now ≤ 128 }

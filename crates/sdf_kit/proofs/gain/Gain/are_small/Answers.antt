@@ -1,5 +1,5 @@
-use Rattle.std.proofs.Common.{◌≡◌, ◌∙◌, ◌*◌, ◌≤◌, ℕ, ℤ, ◌*ℤ◌, pos, get_or, unsigned_abs, of_z, to_z, w32, ap, refl, subst}
-use Rattle.std.proofs.Common.{arith}
+use Rattle.std.proofs.Common.{◌≡◌, ◌∙◌, ◌*◌, ◌≤◌, ℕ, ℤ, ◌*ℤ◌, pos, get_or, unsigned_abs, of_z, to_z, w32, ap, refl}
+use Rattle.std.proofs.Common.{subst, arith}
 use Rattle.std.proofs.lemmas.Bool.{leb-true}
 use Rattle.std.proofs.lemmas.Int.{to_z-of_z, unsigned_abs-mul}
 use Rattle.std.proofs.Math.Nat.{mul-le-mul_right}
@@ -10,7 +10,8 @@ use Rattle.sdf_kit.proofs.gain.Gain.are_small.Goals as goal
 product_small : (sample gain : ℤ) (peak : ℕ) → unsigned_abs sample ≤ peak → peak * unsigned_abs gain ≤ 2147467263 →
     unsigned_abs (sample *ℤ gain) ≤ 2147467263
 product_small sample gain peak within room =
-    let parts : unsigned_abs (sample *ℤ gain) ≡ unsigned_abs sample * unsigned_abs gain = unsigned_abs-mul sample gain in
+    let parts : unsigned_abs (sample *ℤ gain) ≡ unsigned_abs sample * unsigned_abs gain =
+    unsigned_abs-mul sample gain in
     let low : unsigned_abs sample * unsigned_abs gain ≤ peak * unsigned_abs gain =
     mul-le-mul_right (unsigned_abs gain) within in
     omega arith
