@@ -76,8 +76,8 @@ pub fn quiescent_reached<A: Actor>()
     sdf_actor::laws::put_stays::<A>();
 }
 
-/// Where all ends have met and firings of a plan are left, some seat can do its first, and a round of all seats, also
-/// one made by hand, does at least one.
+/// If all ends have met and firings of a plan are left, some seat can do its first. A round of all seats, also one made
+/// by hand, then does at least one.
 pub fn rounds_go_on<A: Actor>()
     ensures some { SomeSeatGoesOn A.steps }
     ensures fires { RoundsFire A.steps }
