@@ -4,8 +4,9 @@
 //!
 //! It stands on `sdf_filters`, on `sdf_document` and `sdf_file`, which read the designs, and on `test_texts`, and has
 //! no functions: tests stand in a crate of their own, since a crate's functions are proved once more with its tests.
-//! Begin at `taps`, then `designs`. `plain_taps`, `plain_levels` and `plain_splits` work out in the plainest way what
-//! `sdf_filters` does in a quicker one, and compare the two on filters and rates of `made`.
+//! Begin at `taps`, then `designs`. `plain_taps` works out in the plainest way what `sdf_filters` does in a quicker
+//! one, and `tap_rows` compares the two on rows of filters and on those of `made`. `plain_levels` and `plain_splits` do
+//! both.
 #![tactic(auto)]
 
 #[cfg(test)]
@@ -22,6 +23,8 @@ mod plain_splits;
 mod plain_taps;
 #[cfg(test)]
 mod stages;
+#[cfg(test)]
+mod tap_rows;
 #[cfg(test)]
 mod taps;
 #[cfg(test)]

@@ -108,21 +108,40 @@ fn push_other(alloc: Global, text: &mut String, wanted: Wanted) -> Result<usize,
     Ok(taps.len())
 }
 
-/// How many taps there are of low-passes with few, and which of them are told something else of than is measured
-/// plainly.
-fn few(alloc: Global) -> Result<String, Fail> {
+/// Low-passes at 8000 Hz: `pass`, `stop`, the attenuation and `shift`. The first four have few taps. The ripple of each
+/// other one depends on one frequency, of which each stands in a lane of its own, from the second one on.
+const LOW_PASSES: &[(u32, u32, u32, u32)] = &[
+    (1000, 3000, 0, 14),
+    (1000, 3000, 8, 14),
+    (1000, 3000, 12, 14),
+    (1000, 3000, 20, 14),
+    (3210, 3270, 25, 15),
+    (3156, 3236, 30, 15),
+    (2940, 3002, 29, 15),
+    (3250, 3310, 28, 15),
+    (2346, 2612, 27, 15),
+    (2522, 2601, 25, 15),
+    (2710, 3052, 24, 15),
+    (3295, 3383, 24, 15),
+    (2946, 3119, 23, 15),
+    (2582, 2876, 32, 15),
+    (1505, 2024, 36, 15),
+    (1779, 2282, 24, 15),
+    (2969, 3037, 25, 15),
+    (2203, 2402, 26, 15),
+    (2568, 2629, 27, 15),
+];
+
+/// Returns the number of taps of each low-pass, and those whose printed measures differ from the plain ones.
+fn low_passes(alloc: Global) -> Result<String, Fail> {
     let mut text = String::new(alloc);
-    for attenuation in [0, 8, 12, 20] {
-        let band = Band::Low {
-            pass: 1000,
-            stop: 3000,
-        };
+    for &(pass, stop, attenuation, shift) in LOW_PASSES {
         let wanted = Wanted {
             rate: 8000,
-            band,
+            band: Band::Low { pass, stop },
             attenuation,
             up: 1,
-            shift: 14,
+            shift,
         };
         let taps = push_other(alloc, &mut text, wanted)?;
         write!(text, "{taps} ")?;
@@ -145,9 +164,12 @@ fn made(alloc: Global, seed: u64) -> Result<String, Fail> {
     Ok(text)
 }
 
-/// Refuses a frequency that is passed over, and one that stands outside the band.
+/// Refuses a lane whose frequency is passed over, and a frequency outside the band.
 #[test]
 fn levels_as_plainly(rt: HostRuntime) -> Result<(), Fail> {
-    says(few(rt.alloc()), "1 2 3 5 ")?;
+    says(
+        low_passes(rt.alloc()),
+        "1 2 3 5 160 155 191 188 41 122 28 103 50 47 32 19 141 52 176 ",
+    )?;
     says(made(rt.alloc(), 4), "18 filters")
 }

@@ -1,18 +1,16 @@
-//! Taps against those that are worked out in the plainest way: each step looks at every place for the tap to move.
+//! Taps that are worked out in the plainest way: each step looks at every place for the tap to move.
 
-use crate::made::Numbers;
-use sdf_filters::{Band, FilterFault, Wanted, taps_of};
+use sdf_filters::{Band, Wanted};
 use std::alloc::Global;
 use std::f64::consts::{PI, TAU};
 use std::num::{nearest_usize_to_f64, saturating_f64_to_i32, saturating_f64_to_usize};
 use std::test::Fail;
-use test_texts::says;
 
 /// A tap that stands further than this is moved no more.
 const FARTHEST: u32 = 65_536;
 
 /// The taps of a filter, or the size of a tap of over 16 bits; 0 where a filter wants too many taps.
-type Taps = Result<Vec<i32>, u32>;
+pub(crate) type Taps = Result<Vec<i32>, u32>;
 
 /// A low-pass with a number of taps.
 #[derive(Clone, Copy)]
@@ -292,8 +290,8 @@ fn middle(alloc: Global, wide: Plain, narrow: Plain) -> Result<Taps, Fail> {
     }
 }
 
-/// The taps of a filter, or why there are none.
-fn plain_taps(alloc: Global, wanted: Wanted) -> Result<Taps, Fail> {
+/// Returns the taps of a filter, or why there are none.
+pub(crate) fn plain_taps(alloc: Global, wanted: Wanted) -> Result<Taps, Fail> {
     match wanted.band {
         Band::Low { pass, stop } => low(alloc, wanted, pass, stop),
         Band::High { stop, pass } => high(alloc, wanted, stop, pass),
@@ -314,122 +312,4 @@ fn plain_taps(alloc: Global, wanted: Wanted) -> Result<Taps, Fail> {
             middle(alloc, wide, narrow)
         }
     }
-}
-
-/// The size of a tap of over 16 bits, and 0 of another fault.
-fn size_in(fault: FilterFault) -> u32 {
-    match fault {
-        FilterFault::TapTooLarge { size } => size,
-        _ => 0,
-    }
-}
-
-/// Adds a filter whose taps are others.
-fn push_other(alloc: Global, text: &mut String, wanted: Wanted) -> Result<usize, Fail> {
-    let plain = plain_taps(alloc, wanted)?;
-    let taps = taps_of(alloc, wanted).map_err(size_in);
-    if plain != taps {
-        writeln!(text, "{wanted:?}")?;
-    }
-    Ok(plain.map_or(0, |taps| taps.len()))
-}
-
-/// The filters whose taps are others than those that are worked out plainly, and whether there were many taps.
-fn others(alloc: Global, seed: u64, filters: u32) -> Result<String, Fail> {
-    let mut text = String::new(alloc);
-    let mut numbers = Numbers::new(seed);
-    let mut taps = 0usize;
-    for _ in 0..filters {
-        let wanted = numbers.wanted();
-        taps = taps.saturating_add(push_other(alloc, &mut text, wanted)?);
-    }
-    if taps > 5000 {
-        text.push_str("many taps")?;
-    }
-    Ok(text)
-}
-
-/// Refuses another choice of the tap to move: one of two as late that stands further from the middle, a middle one that
-/// makes taps not symmetric, and rounds in which a tap is moved twice.
-#[test]
-fn taps_as_plainly(rt: HostRuntime) -> Result<(), Fail> {
-    says(others(rt.alloc(), 5, 60), "many taps")
-}
-
-/// Taps that stand far below the total, so that each is moved many times.
-#[test]
-fn many_steps_as_plainly(rt: HostRuntime) -> Result<(), Fail> {
-    let mut text = String::new(rt.alloc());
-    for (stop, up, shift) in [(500, 1, 15), (450, 1, 14), (900, 4, 12), (3000, 64, 9)] {
-        let wanted = Wanted {
-            rate: 480_000,
-            band: Band::Low { pass: 0, stop },
-            attenuation: 8,
-            up,
-            shift,
-        };
-        push_other(rt.alloc(), &mut text, wanted)?;
-    }
-    says(Ok(text), "")
-}
-
-/// Phases with a tap less and a tap more than are looked through at each step, and steps of which some are fewer and
-/// some more than that. Refuses a tree in which a tap does not meet all others.
-#[test]
-fn trees_as_plainly(rt: HostRuntime) -> Result<(), Fail> {
-    let mut text = String::new(rt.alloc());
-    let mut numbers = Numbers::new(6);
-    for width in [568, 562, 553, 545, 534, 250] {
-        for _ in 0..8 {
-            let pass = numbers.below(200_000);
-            let wanted = Wanted {
-                rate: 480_000,
-                band: Band::Low {
-                    pass,
-                    stop: pass.saturating_add(width),
-                },
-                attenuation: 9,
-                up: 1,
-                shift: 12,
-            };
-            push_other(rt.alloc(), &mut text, wanted)?;
-        }
-    }
-    says(Ok(text), "")
-}
-
-/// Adds a word for a filter that has a tap of over 16 bits, and the filter if another size is named.
-fn push_size(alloc: Global, text: &mut String, band: Band) -> Result<(), Fail> {
-    let wanted = Wanted {
-        rate: 48_000,
-        band,
-        attenuation: 60,
-        up: 4,
-        shift: 15,
-    };
-    push_other(alloc, text, wanted)?;
-    if plain_taps(alloc, wanted)?.is_err_and(|size| size > 0) {
-        text.push_str("too large ")?;
-    }
-    Ok(())
-}
-
-/// Filters of which a tap has over 16 bits, also where one more was tried. Refuses the size of another tap.
-#[test]
-fn sizes_as_plainly(rt: HostRuntime) -> Result<(), Fail> {
-    let mut text = String::new(rt.alloc());
-    for (pass, stop) in [(9_000, 12_000), (12_000, 18_000), (20_000, 23_000)] {
-        push_size(rt.alloc(), &mut text, Band::Low { pass, stop })?;
-        let band = Band::Middle {
-            low_stop: 500,
-            low_pass: 3_500,
-            pass,
-            stop,
-        };
-        push_size(rt.alloc(), &mut text, band)?;
-    }
-    says(
-        Ok(text),
-        "too large too large too large too large too large too large ",
-    )
 }
