@@ -1,0 +1,9 @@
+mod Pieces
+mod Counting
+mod Cyclic
+mod Late
+mod Forgetting
+mod Running
+mod KeptSamples
+mod Warming
+mod Parts

@@ -1,0 +1,95 @@
+-- The laws of nets that forget.
+use Rattle.std.specs.Prelude.{◌≡◌, ℕ, ◌+◌, List, length}
+use Rattle.sdf_graph.specs.Sequences.{IsAdmissible}
+use Rattle.sdf_sched.specs.Period.{Schedule}
+use Rattle.sdf_actor.specs.declared.rest.Rest.{Rest}
+use Rattle.sdf_actor.specs.Laws.{AreCountsOf}
+use Rattle.sdf_actor.specs.Nets.{Netlist, wiring, IsNet, IsHistoryOf}
+use Rattle.sdf_actor.specs.Rests.{AreWhole, Leaves, AllRead, AreJoined}
+use Rattle.sdf_actor.specs.Steps.{Steps}
+use Rattle.sdf_answer.specs.Answer.{HasInputs, periods_of}
+use Rattle.sdf_answer.specs.Feeds.{HasRun, AreFull, GoesOnBy}
+use Rattle.sdf_answer.specs.Periods.{HasPeriod}
+use Rattle.sdf_fission.specs.Warm.{IsWarm}
+use Rattle.sdf_fission.specs.WarmUps.{WarmsIn}
+
+-- V is the history of net n where each node a has fired k a times, whole periods of it, and then m a times. U is that
+-- of the same net where each has fired m a times on the input of these alone, which is enough for it to be warm
+pub record StartsLate {A S T : Type 0} (s : Steps A S T) (n : Netlist A T) (first later all : List (List T))
+    (k m memory since : ℕ → ℕ) (w : List ℕ) (V U : ℕ → List T) : Type 0 where
+  pub net : IsNet s n
+  pub whole : AreWhole s n k
+  pub warm : IsWarm s n m memory since
+  pub order : IsAdmissible (wiring s n).rates w
+  pub counts : AreCountsOf n w m
+  pub read : AllRead n first k
+  pub joined : AreJoined first later all
+  pub long : IsHistoryOf s n all (λ a. k a + m a) V
+  pub short : IsHistoryOf s n later m U
+
+-- both leave the same
+abbrev pub RestsForget : {A S T : Type 0} → Steps A S T → Type 0
+RestsForget {A} {S} {T} s =
+    (n : Netlist A T) (first later all : List (List T)) (k m memory since : ℕ → ℕ) (w : List ℕ) (V U : ℕ → List T)
+    (rest : Rest T S) → StartsLate s n first later all k m memory since w V U →
+    Leaves s n m U rest → Leaves s n (λ a. k a + m a) V rest
+
+-- a run of net n on the last periods of the input of another one, enough of them for the net to be warm: that one made
+-- these outputs
+pub record RunsLate {A S T : Type 0} (s : Steps A S T) (n : Netlist A T) (p : Schedule) (few warm : ℕ)
+    (first later all outputs : List (List T)) (rest : Rest T S) : Type 0 where
+  pub period : HasPeriod s n p
+  pub memory : ℕ → ℕ
+  pub since : ℕ → ℕ
+  pub warm_up : IsWarm s n (periods_of p.repetitions warm) memory since
+  pub given : HasInputs n p.repetitions few first
+  pub full : AreFull n p.repetitions few first
+  pub joined : AreJoined first later all
+  -- what it makes is let go
+  pub made : List (List T)
+  pub short : HasRun s n later (periods_of p.repetitions warm) made rest
+  pub other : Rest T S
+  pub long : HasRun s n all (periods_of p.repetitions (few + warm)) outputs other
+
+-- what it leaves is what the long run leaves
+abbrev pub WarmRunsLeave : {A S T : Type 0} → Steps A S T → Type 0
+WarmRunsLeave {A} {S} {T} s =
+    (n : Netlist A T) (p : Schedule) (few warm : ℕ) (first later all outputs : List (List T)) (rest : Rest T S) →
+    RunsLate s n p few warm first later all outputs rest →
+    HasRun s n all (periods_of p.repetitions (few + warm)) outputs rest
+
+-- so a run that goes on from there is the next part of the long run
+abbrev pub WarmRunsGoOn : {A S T : Type 0} → Steps A S T → Type 0
+WarmRunsGoOn {A} {S} {T} s =
+    (n : Netlist A T) (p : Schedule) (few warm more : ℕ) (first before front later all outputs on joined : List (List T))
+    (rest last : Rest T S) →
+    RunsLate s n p few warm first before front outputs rest →
+    HasInputs n p.repetitions (few + warm) front → AreFull n p.repetitions (few + warm) front →
+    GoesOnBy s n p.repetitions rest more later on last →
+    AreJoined front later all → AreJoined outputs on joined → length joined ≡ length outputs →
+    HasRun s n all (periods_of p.repetitions (few + warm + more)) joined last
+
+-- A run goes on from a rest by some periods, and makes these lists. Another one is started late, on the last `warm` of
+-- these periods alone, and goes on from what it has left there, on the lists after them
+pub record ArePartsOf {A S T : Type 0} (s : Steps A S T) (n : Netlist A T) (p : Schedule) (spare warm more : ℕ)
+    (before tail front after on next : List (List T)) (rest last end : Rest T S) : Type 0 where
+  pub period : HasPeriod s n p
+  pub warm_up : WarmsIn s n p.repetitions warm
+  pub given : HasInputs n p.repetitions spare before
+  pub full : AreFull n p.repetitions spare before
+  pub joined : AreJoined before tail front
+  pub fed : AreFull n p.repetitions (spare + warm) front
+  pub goes : GoesOnBy s n p.repetitions rest (spare + warm) front on last
+  pub made : List (List T)
+  pub back : Rest T S
+  pub short : HasRun s n tail (periods_of p.repetitions warm) made back
+  pub late : GoesOnBy s n p.repetitions back more after next end
+
+-- the lists of both, joined, are what one run makes that goes on from the rest by all these periods
+abbrev pub PartsGoOn : {A S T : Type 0} → Steps A S T → Type 0
+PartsGoOn {A} {S} {T} s =
+    (n : Netlist A T) (p : Schedule) (spare warm more : ℕ) (before tail front after all on next joined : List (List T))
+    (rest last end : Rest T S) →
+    ArePartsOf s n p spare warm more before tail front after on next rest last end →
+    AreJoined front after all → length all ≡ length front → AreJoined on next joined → length joined ≡ length on →
+    GoesOnBy s n p.repetitions rest (spare + warm + more) all joined end

@@ -1,0 +1,43 @@
+//! What actors remember.
+
+ghost use Rattle.std.specs.Prelude.{◌≡◌, IfSome};
+ghost use Rattle.sdf_kit.specs.Kit.{kit_steps};
+ghost use Rattle.sdf_kit.specs.declared.kit.Kit.TheVariants as kits;
+ghost use Rattle.sdf_fission.specs.Warm.{Forgets};
+
+use sdf_actor::Actor;
+use sdf_kit::Kit;
+use sdf_kit::delay::Delay;
+use sdf_kit::fir::Fir;
+
+/// An actor that may be known to forget.
+pub trait Forgetful: Actor {
+    /// Returns how many of its last firings it remembers at most, if that is known.
+    fn memory(&self) -> Option<u32>
+        ensures { IfSome result (Forgets Self.steps self.now) };
+}
+
+impl Forgetful for Kit {
+    fn memory(&self) -> Option<u32> {
+        match self {
+            Kit::Fir(fir) => Some(fir_memory(fir)),
+            Kit::Delay(delay) => Some(delay_memory(delay)),
+            _ => Some(0),
+        }
+    }
+}
+
+/// Returns the memory of a filter: the firings that take the last of its inputs that it keeps.
+fn fir_memory(fir: &Fir) -> u32
+    ensures { Forgets kit_steps (kits.Fir fir.now) result }
+{
+    let rate = fir.ports().inputs.moved(0, 0) as usize;
+    fir.kept_len().div_ceil(rate) as u32
+}
+
+/// Returns the memory of a delay: a firing for each sample that it keeps.
+fn delay_memory(delay: &Delay) -> u32
+    ensures { Forgets kit_steps (kits.Delay delay.now) result }
+{
+    delay.length() as u32
+}
