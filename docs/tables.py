@@ -15,6 +15,7 @@
 import os
 import pathlib
 import re
+import shutil
 import subprocess
 import sys
 import textwrap
@@ -170,6 +171,8 @@ def stands_on():
 def consoles(program):
     """What is wrong with the blocks marked `console`."""
     wrong = []
+    # `resample` overwrites no file.
+    shutil.rmtree(TOP / "build" / "converter", ignore_errors=True)
     for paper in PAPERS:
         for block in re.findall(r"^```console\n(.*?)^```$", paper.read_text(), re.M | re.S):
             for part in re.split(r"^\$ ", block, flags=re.M)[1:]:

@@ -94,11 +94,10 @@ It has no effect without `--runner rings`",
 const PARALLEL: Argument = Argument {
     name: "parallel",
     help: "Runs in parallel, by as many workers as there are processors or by M",
-    more: "Runs in parallel, where that can be faster: by M workers, 1 to 16, or by as many as there are processors,
-and by fewer where there are fewer actors, or a frame is too little work for so many.
-It is `--runner rings --placement spread --policy runs` with a patience of 1000000; and one thread, where a
-frame is too little work for two, where the workers could not be 1.2 times as fast by what the actors
-weigh, or where there is no table for them. With `--why` a line on standard error says which",
+    more: "Runs in parallel, by M workers, 1 to 16, or by as many as there are processors: each runs the whole design on
+a part of the sound of its own, after a warm-up on the samples before it. It is one thread if a loop of the
+design keeps samples for ever, if the warm-up would be too long, or if M is 1. With `--why` a line on
+standard error says which. The sound is read whole, as by `--runner one`",
     given: Given::Switch(Switch {
         against: &[
             "blocking",
