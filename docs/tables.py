@@ -145,7 +145,7 @@ def heads():
         if "stands on the libraries" in head:
             continue
         named = set(re.findall(r"`(\w+)(?:::\w+)*`", head))
-        below = re.search(r"stands on (.*?)(?:Begin|$)", head)
+        below = re.search(r"(?:stands|depends) on (.*?)(?:Begin|$)", head)
         extra = {one for one in re.findall(r"`(\w+)`", below[1] if below else "") if is_crate(one)} - wanted
         differ = (wanted - named | extra) - {"sdf_limits"}
         if not below or differ:

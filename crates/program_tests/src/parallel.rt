@@ -6,9 +6,8 @@ use std::thread::{Threads, available_parallelism};
 use std::time::Clock;
 use test_texts::says;
 
-/// A parallel run writes what one thread writes. The two heavy branches are nine actors, so that 16 workers would be
-/// seven too many. A frame of them weighs 8,641, work enough for 13; they can't be faster than twice one: 4,288 of it
-/// are the input, the fork and the first branch, which go to one worker.
+/// A parallel run writes what one thread writes. The filter of `kept` keeps five inputs, and the loop of `lasting`
+/// keeps its samples for ever.
 const PARALLEL: &[Row] = &[
     (
         "heavy parallel 2",
@@ -18,27 +17,22 @@ const PARALLEL: &[Row] = &[
     (
         "heavy parallel 2 why",
         "run heavy.toml in.wav out.wav --parallel 2 --why",
-        "0\n--\n2 workers, blocks of 16 samples, at most 1.9 times\n--\n<5 -5>",
-    ),
-    (
-        "heavy parallel 16 why",
-        "run heavy.toml in.wav out.wav --parallel 16 --why",
-        "0\n--\n9 workers, blocks of 16 samples, at most 2.0 times\n--\n<5 -5>",
+        "0\n--\n2 workers, each on its own part of the sound after 0 periods (0 samples) of warm-up\n--\n<5 -5>",
     ),
     (
         "wider parallel 16 why",
         "run wider.toml in.wav out.wav --parallel 16 --why",
-        "0\n--\n12 workers, blocks of 16 samples, at most 2.9 times\n--\n<5 -5>",
+        "0\n--\n16 workers, each on its own part of the sound after 0 periods (0 samples) of warm-up\n--\n<5 -5>",
     ),
     (
-        "sixty parallel 2 why",
-        "run sixty.toml in.wav out.wav --parallel 2 --why",
-        "0\n--\n2 workers, blocks of 16 samples, at most 1.2 times\n--\n<5 -5>",
+        "kept parallel 3 why",
+        "run kept.toml in.wav out.wav --parallel 3 --why",
+        "0\n--\n3 workers, each on its own part of the sound after 5 periods (5 samples) of warm-up\n--\n<5 -5>",
     ),
     (
-        "hundred parallel 2 why",
-        "run hundred.toml in.wav out.wav --parallel 2 --why",
-        "0\n--\none thread: workers could be at most 1.1 times as fast\n--\n<5 -5>",
+        "lasting parallel 4 why",
+        "run lasting.toml in.wav out.wav --parallel 4 --why",
+        "0\n--\none thread: the design keeps samples for ever, or for too long\n--\n<5 -5>",
     ),
     (
         "heavy parallel 1 why",
@@ -48,12 +42,12 @@ const PARALLEL: &[Row] = &[
     (
         "branches parallel 2 why",
         "run branches.toml in.wav out.wav --parallel 2 --why",
-        "0\n--\none thread: a frame weighs 386, too little for two workers\n--\n<5 -5>",
+        "0\n--\n2 workers, each on its own part of the sound after 0 periods (0 samples) of warm-up\n--\n<5 -5>",
     ),
     (
         "line parallel 4 why",
         "run line.toml in.wav out.wav --parallel 4 --why",
-        "0\n--\none thread: workers could be at most 1.0 times as fast\n--\n<5 -5>",
+        "0\n--\n4 workers, each on its own part of the sound after 0 periods (0 samples) of warm-up\n--\n<5 -5>",
     ),
     (
         "plain parallel",

@@ -91,22 +91,10 @@ const ROWS: &[Row] = &[
         "3 0 true sdfw: 30 NotHomed\n",
     ),
     (
-        "in parallel, for as many frames as rings of one block read",
-        4096,
-        "run heavy.toml - - --parallel 2",
-        "4 44 true sdfw: 43 Truncated\n",
-    ),
-    (
-        "in parallel, a frame short",
-        65_535,
-        "run heavy.toml - - --parallel 2",
-        "4 44 true sdfw: 43 Truncated\n",
-    ),
-    (
-        "in parallel: for one thread",
+        "in parallel, in parts of a sound that is read whole",
         65_536,
         "run heavy.toml - - --parallel 2",
-        "4 131116 true sdfw: 43 Truncated\n",
+        "4 44 true sdfw: 43 Truncated\n",
     ),
     (
         "in parallel, one worker alone",
@@ -115,15 +103,15 @@ const ROWS: &[Row] = &[
         "4 44 true sdfw: 43 Truncated\n",
     ),
     (
-        "in parallel, what is too light",
+        "in parallel, what keeps its samples for ever",
         65_536,
-        "run branches.toml - - --parallel 2",
+        "run lasting.toml - - --parallel 2",
         "4 44 true sdfw: 43 Truncated\n",
     ),
 ];
 
-/// Refuses a program that ignores `--runner`, one that goes by rows where rings are asked for, and a parallel run by
-/// one thread.
+/// Refuses a program that ignores `--runner`, one that goes by rows where rings are asked for, and a parallel run that
+/// does not read the sound whole.
 #[test]
 fn the_runner_is_the_one_asked_for(rt: HostRuntime) -> Result<(), Fail> {
     for (name, frames, line, wanted) in ROWS {

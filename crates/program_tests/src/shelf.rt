@@ -60,27 +60,19 @@ link = [{ from = "in", to = "fork" }, { from = "fork:0", to = "up" }, { from = "
     { from = "same", to = "add:0" }, { from = "none", to = "add:1" }, { from = "nothing", to = "add:2" },
     { from = "add", to = "out" }]"#;
 
-/// The same branches by costs: the worker of the first one has 50 of 60 to do.
-const SIXTY: &str = r#"format = 1
-actor = [{ name = "in", kind = "input", channel = 0 }, { name = "fork", kind = "fork", ways = 2 },
-    { name = "up", kind = "interpolate", factor = 64, cost = 47 }, { name = "same", kind = "decimate", factor = 64 },
-    { name = "high", kind = "interpolate", factor = 64, cost = 6 }, { name = "low", kind = "decimate", factor = 64 },
-    { name = "none", kind = "gain", gain = 0, shift = 0 },
-    { name = "add", kind = "add", ways = 2 }, { name = "out", kind = "output", channel = 0 }]
-link = [{ from = "in", to = "fork" }, { from = "fork:0", to = "up" }, { from = "up", to = "same" },
-    { from = "fork:1", to = "high" }, { from = "high", to = "low" }, { from = "low", to = "none" },
-    { from = "same", to = "add:0" }, { from = "none", to = "add:1" }, { from = "add", to = "out" }]"#;
+/// A filter that keeps five inputs and hands on the newest.
+const KEPT: &str = r#"format = 1
+actor = [{ name = "in", kind = "input", channel = 0 },
+    { name = "same", kind = "fir", shift = 0, taps = [1, 0, 0, 0, 0, 0] }, { name = "out", kind = "output", channel = 0 }]
+link = [{ from = "in", to = "same" }, { from = "same", to = "out" }]"#;
 
-/// It has 100 of 110.
-const HUNDRED: &str = r#"format = 1
-actor = [{ name = "in", kind = "input", channel = 0 }, { name = "fork", kind = "fork", ways = 2 },
-    { name = "up", kind = "interpolate", factor = 64, cost = 97 }, { name = "same", kind = "decimate", factor = 64 },
-    { name = "high", kind = "interpolate", factor = 64, cost = 6 }, { name = "low", kind = "decimate", factor = 64 },
-    { name = "none", kind = "gain", gain = 0, shift = 0 },
-    { name = "add", kind = "add", ways = 2 }, { name = "out", kind = "output", channel = 0 }]
-link = [{ from = "in", to = "fork" }, { from = "fork:0", to = "up" }, { from = "up", to = "same" },
-    { from = "fork:1", to = "high" }, { from = "high", to = "low" }, { from = "low", to = "none" },
-    { from = "same", to = "add:0" }, { from = "none", to = "add:1" }, { from = "add", to = "out" }]"#;
+/// A loop on which one sample stands adds nothing to what comes in.
+const LASTING: &str = r#"format = 1
+actor = [{ name = "in", kind = "input", channel = 0 }, { name = "add", kind = "add", ways = 2 },
+    { name = "fork", kind = "fork", ways = 2 }, { name = "none", kind = "gain", gain = 0, shift = 0 },
+    { name = "out", kind = "output", channel = 0 }]
+link = [{ from = "in", to = "add:0" }, { from = "add", to = "fork" }, { from = "fork:0", to = "out" },
+    { from = "fork:1", to = "none" }, { from = "none", to = "add:1", initial = [0] }]"#;
 
 /// As much work in one line, in which each actor alone feeds the next.
 const LINE: &str = r#"format = 1
@@ -194,8 +186,8 @@ const TEXTS: [(&str, &str); 41] = [
     ("heavy.toml", HEAVY),
     ("wider.toml", WIDER),
     ("steep.toml", STEEP),
-    ("sixty.toml", SIXTY),
-    ("hundred.toml", HUNDRED),
+    ("kept.toml", KEPT),
+    ("lasting.toml", LASTING),
     ("line.toml", LINE),
     ("blocks.toml", BLOCKS),
     ("long.toml", LONG),

@@ -40,12 +40,14 @@ use Rattle.sdf_plan.specs.declared.fault.Fault.TheVariants.{Deadlock, Table, Not
 use Rattle.sdf_plan.specs.Placements.{ArePeriodsOf, IsTableBy, IsPlaceFault}
 
 -- what runs a design, the periods of a block, a worker's repeated tests, how many times the capacities of the table
--- the rings hold, the order of one period, and the table of a block
+-- the rings hold, how many parts of a sound one thread each runs at once, the order of one period, and the table of a
+-- block
 pub record PlanValue : Type 0 where
   pub blocking : ℕ
   pub runner : Runner
   pub patience : ℕ
   pub rooms : ℕ
+  pub parts : ℕ
   pub period : Schedule
   pub table : Option Tabled
 
@@ -119,6 +121,7 @@ pub record IsPlanOf (d : DesignValue) (o : Options) (p : PlanValue) : Type 0 whe
   pub same_runner : p.runner ≡ o.runner
   pub same_patience : p.patience ≡ o.patience
   pub rooms : p.rooms ≡ rooms_of o.placement
+  pub whole : p.parts ≡ 1
   pub schedule : IsScheduleBy o.policy (graph_of kit_steps d.net) p.period
   pub by_placement : IsTableFor o.runner d o p.period p.blocking p.table
 

@@ -1,13 +1,11 @@
 -- What the actors of a design weigh, by which they are spread over workers.
-use Rattle.std.specs.Prelude.{ℕ, ◌+◌, ◌*◌, ◌/◌, Bool, true, ◌==◌, min, max, if◌then◌else◌, List, length, map}
+use Rattle.std.specs.Prelude.{ℕ, ◌+◌, ◌*◌, Bool, true, ◌==◌, min, max, if◌then◌else◌, List, length, map}
 use Rattle.std.specs.Prelude.{slice_index}
 use Rattle.std.specs.List.{list_all, range_with_len}
 use Rattle.sdf_limits.specs.declared.TheConstants.{MOST_COST}
 use Rattle.sdf_actor.specs.Nets.{node}
-use Rattle.sdf_actor.specs.Sides.{period_samples}
 use Rattle.sdf_actor.specs.declared.node.Node.{Node}
 use Rattle.sdf_actor.specs.declared.node.Node.TheVariants.{Source, Sink, Inner}
-use Rattle.sdf_actor.specs.declared.sides.Lists.TheVariants.{Inputs}
 use Rattle.sdf_kit.specs.Fir.{kept_len}
 use Rattle.sdf_kit.specs.Kit.{behaviour}
 use Rattle.sdf_kit.specs.declared.kit.Kit.{Kit}
@@ -15,7 +13,6 @@ use Rattle.sdf_kit.specs.declared.kit.Kit.TheVariants.{Fir}
 use Rattle.sdf_kit.specs.declared.ports.PortRates.{PortRates}
 use Rattle.sdf_kit.specs.declared.ports.PortRates.TheVariants.{Every, InTurn}
 use Rattle.sdf_file.specs.Designs.{DesignValue}
-use Rattle.sdf_prec.specs.Spread.{weight_to}
 use Rattle.sdf_plan.specs.declared.weights.TheConstants.{SAMPLE_WEIGHT}
 
 -- the samples that a firing moves at all ports of a side
@@ -55,7 +52,3 @@ weights_by d by_kind q = map (λ a. slice_index q a * firing_weight d by_kind a)
 -- by costs where the design gives them, and else by what the nodes do
 abbrev pub weights_of : DesignValue → List ℕ → List ℕ
 weights_of d q = weights_by d (is_free_of_costs d) q
-
--- what the nodes do in a period for each frame that it reads
-abbrev pub frame_weight : DesignValue → List ℕ → ℕ
-frame_weight d q = weight_to (weights_by d true q) (length d.net.nodes) / period_samples d.net.nodes Inputs q

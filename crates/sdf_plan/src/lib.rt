@@ -1,10 +1,11 @@
 //! How a design is run: its plan, by options or for workers where these can be faster, and its printed schedule.
 //!
 //! It stands on `sdf_options` for the options, on `sdf_file`, `sdf_kit`, `sdf_actor` and `sdf_graph` for the design, on
-//! `sdf_sched` and `sdf_prec` for the order of a period and the table of a block, and on `sdf_answer` for what workers
-//! follow. It runs nothing. `fault` gathers the faults of the program, those of a run (`sdf_answer`) and of WAV files
-//! (`sdf_wav`) too, with their texts and exit statuses. Begin at `planning`; then `parallel` and `schedule`. The
-//! definitions are in `specs/Plans.antt`, `specs/Placements.antt`, `specs/Paces.antt` and `specs/Schedules.antt`.
+//! `sdf_sched` and `sdf_prec` for the order of a period and the table of a block, on `sdf_fission` for the warm-up of a
+//! part, and on `sdf_answer` for what workers follow. It runs nothing. `fault` gathers the faults of the program, those
+//! of a run (`sdf_answer`) and of WAV files (`sdf_wav`) too, with their texts and exit statuses. Begin at `planning`;
+//! then `parallel` and `schedule`. The definitions are in `specs/Plans.antt`, `specs/Placements.antt`,
+//! `specs/Paces.antt` and `specs/Schedules.antt`.
 #![tactic(auto)]
 
 mod fault;

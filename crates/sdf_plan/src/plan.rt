@@ -60,6 +60,7 @@ pub struct Plan {
     runner: Runner,
     patience: u32,
     rooms: u32,
+    parts: u32,
     followed: Followed,
 }
 
@@ -74,6 +75,7 @@ impl Model for Plan {
       runner = p.runner;
       patience = p.patience;
       rooms = p.rooms;
+      parts = p.parts;
       period = period_in p.followed;
       table = table_in p.followed;
     } };
@@ -92,6 +94,7 @@ impl Plan {
           runner = options.now.runner;
           patience = options.now.patience;
           rooms = rooms_of options.now.placement;
+          parts = 1;
           period = period;
           table = table;
         } }
@@ -100,7 +103,21 @@ impl Plan {
             runner: options.runner,
             patience: options.patience,
             rooms: rooms_of(options.placement),
+            parts: 1,
             followed: following(period, blocking, table),
+        }
+    }
+
+    /// Cuts the sound of a plan for one thread into parts, so that `parts` of them can be run at once.
+    pub(crate) fn in_parts(self, parts: u32) -> Plan
+        ensures { result ≡ record self { parts = parts } }
+    {
+        Plan {
+            runner: self.runner,
+            patience: self.patience,
+            rooms: self.rooms,
+            parts,
+            followed: self.followed,
         }
     }
 
@@ -133,6 +150,13 @@ impl Plan {
         ensures { result ≡ self.now.rooms }
     {
         self.rooms
+    }
+
+    /// Returns how many parts of a sound run at once, if the plan is for one thread.
+    pub fn parts(&self) -> u32
+        ensures { result ≡ self.now.parts }
+    {
+        self.parts
     }
 
     /// The firings of one period in their order.

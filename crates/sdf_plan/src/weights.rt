@@ -8,14 +8,13 @@ ghost use Rattle.sdf_kit.specs.Ports.{ArePortRates};
 ghost use Rattle.sdf_sched.specs.Period.{IsPeriodOf};
 ghost use Rattle.sdf_plan.specs.Placements.{rates_of};
 ghost use Rattle.sdf_plan.specs.Weights.{moved_by, products_of, as_cost, load_of, is_free_of_costs};
-ghost use Rattle.sdf_plan.specs.Weights.{firing_weight, weights_by, weights_of, frame_weight};
+ghost use Rattle.sdf_plan.specs.Weights.{firing_weight, weights_by, weights_of};
 ghost use Rattle.sdf_prec.specs.Spread.{AreLoads};
 
 use sdf_actor::Node;
 use sdf_file::Design;
 use sdf_kit::{Kit, PortRates};
 use sdf_limits::MOST_COST;
-use sdf_prec::spread::weight_to;
 use sdf_sched::Period;
 use std::alloc::{AllocError, Global};
 
@@ -124,18 +123,4 @@ pub(crate) fn weights(
     ensures loads { IfOk result (λ v. AreLoads (length design.now.net.nodes) v.items) }
 {
     weights_by(alloc, design, period, is_free_of_costs(design))
-}
-
-/// What the firings of a period weigh by their kinds for each frame that it reads.
-pub(crate) fn frame_weight(
-    alloc: Global,
-    design: &Design,
-    period: &Period,
-) -> Result<u64, AllocError>
-    requires { IsPeriodOf (rates_of design.now) period.now }
-    ensures { IfOk result (λ weight. weight ≡ frame_weight design.now period.now.repetitions) }
-{
-    let loads = weights_by(alloc, design, period, true)?;
-    let net = design.net();
-    Ok(weight_to(&loads, net.len()) / net.samples_in() as u64)
 }

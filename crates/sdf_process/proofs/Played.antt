@@ -111,6 +111,10 @@ piece_given n q s few more = record {
   enough = λ e l. omega (arith, from_at few more (exchange_of n q) s e l);
 }
 
+pub piece_full : (n : Netlist Kit ℤ) (q : List ℕ) (s : Sound) (few more : ℕ) →
+    AreFull n q more (lists_from few more (exchange_of n q) s)
+piece_full n q s few more e l = from_at few more (exchange_of n q) s e l
+
 -- so a piece fails by memory alone
 pub piece_refused : {X : Type 0} (n : Netlist Kit ℤ) (q : List ℕ) (s : Sound) (x : Exchange) → x ≡ exchange_of n q →
     (at many : ℕ) (inputs : List (List ℤ)) → inputs ≡ lists_from at many x s →

@@ -1,13 +1,17 @@
 -- What is run, and on what.
-use Rattle.std.specs.Prelude.{◌≡◌, ℕ, ◌≤◌, None, Some}
+use Rattle.std.specs.Prelude.{◌≡◌, ℕ, ℤ, ◌≤◌, List, Option, None, Some, IfSome}
 use Rattle.sdf_graph.specs.Rates.{rates}
 use Rattle.sdf_actor.specs.Graphs.{graph_of}
 use Rattle.sdf_actor.specs.Sides.{list_count}
 use Rattle.sdf_actor.specs.declared.sides.Lists.TheVariants.{Inputs, Outputs}
+use Rattle.sdf_actor.specs.Nets.{Netlist}
+use Rattle.sdf_fission.specs.WarmUps.{WarmsIn}
 use Rattle.sdf_kit.specs.Kit.{kit_steps}
+use Rattle.sdf_kit.specs.declared.kit.Kit.{Kit}
 use Rattle.sdf_sched.specs.Period.{IsPeriodOf}
 use Rattle.sdf_wav.specs.PiecesIn.{Reading, known_frames, IsReading}
 use Rattle.sdf_wav.specs.declared.wav.TheConstants.{MOST_CHANNELS}
+use Rattle.sdf_process.specs.declared.playing.Cut.{Cut}
 use Rattle.sdf_process.specs.declared.playing.Player.{Player}
 use Rattle.sdf_process.specs.declared.task.SharedTask.{SharedTask}
 use Rattle.sdf_process.specs.declared.task.Task.{Task}
@@ -30,6 +34,10 @@ pub record CanPlay (p : Player) : Type 0 where
   pub period : IsPeriodOf (rates (graph_of kit_steps p.net.now)) p.period.now
   pub inputs : list_count Inputs p.net.now.nodes ≤ MOST_CHANNELS
   pub outputs : list_count Outputs p.net.now.nodes ≤ MOST_CHANNELS
+
+-- a sound is cut in time for a net that is warm after the periods of warm-up, unless it is run on one thread
+abbrev pub IsCut : Netlist Kit ℤ → List ℕ → Option Cut → Type 0
+IsCut n q cut = IfSome cut (λ (c : Cut). WarmsIn kit_steps n q c.warm)
 
 -- nothing was read of a content of so many frames
 pub record IsUnheard (c : Reading) (frames : ℕ) : Type 0 where

@@ -123,8 +123,9 @@ pub(crate) fn finish<T: Threads + AllocGlobal + Sync, W: Writer, G: Gate>(
             net,
             period,
             input: &input,
+            parts: plan.parts(),
         };
-        return put_pieces(alloc, writer, player, &mut output, periods);
+        return put_pieces(rt, writer, player, &mut output, periods);
     };
     let exchange = Exchange::of_net(net);
     let shared = SharedTask { task, table };

@@ -2,9 +2,9 @@
 //!
 //! It stands on `sdf_plan` for the plan and the faults, on `sdf_options` for the plan's runner, on `sdf_file`,
 //! `sdf_kit`, `sdf_actor`, `sdf_graph`, `sdf_sched` and `sdf_prec` for the design, its period and its table, on
-//! `sdf_run`, `sdf_rings` and `sdf_answer` for the run and on `sdf_wav` for the files. Begin at `process`, whose
-//! contract carries what the project is for; then `laws`. The definitions are in `specs/Output.antt` and
-//! `specs/Run.antt`.
+//! `sdf_run`, `sdf_rings`, `sdf_split`, `sdf_fission` and `sdf_answer` for the run and on `sdf_wav` for the files.
+//! Begin at `process`, whose contract carries what the project is for; then `laws`. The definitions are in
+//! `specs/Output.antt` and `specs/Run.antt`.
 #![tactic(auto)]
 
 mod exchange;

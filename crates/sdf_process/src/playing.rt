@@ -1,84 +1,154 @@
-//! A net that plays a sound on one thread, some periods at a time: what is held is what these periods read and make,
-//! and the memory of the periods before, which they use again.
+//! A net that plays a sound some periods at a time, on one thread or in parts at once. It holds what these periods read
+//! and make, and the memory of the periods before, which they use again.
 
-ghost use Rattle.std.specs.Prelude.{◌≡◌, ◌+◌, ◌-◌, ◌*◌, ◌≤◌, ◌<◌, ℕ, List, false, IfOk, MatchResult};
+ghost use Rattle.std.specs.Prelude.{◌≡◌, ◌+◌, ◌-◌, ◌*◌, ◌^◌, ◌≤◌, ◌<◌, ℕ, ℤ, List, false, IfOk, MatchResult};
+ghost use Rattle.sdf_graph.specs.Rates.{rates};
+ghost use Rattle.sdf_sched.specs.Period.{IsPeriodOf};
+ghost use Rattle.sdf_actor.specs.Graphs.{graph_of};
+ghost use Rattle.sdf_actor.specs.Rests.{IsRest};
 ghost use Rattle.sdf_actor.specs.declared.sides.Lists.TheVariants.{Outputs};
 ghost use Rattle.sdf_actor.specs.Sides.{list_count};
 ghost use Rattle.sdf_actor.specs.Wires.{lists as items_of};
-ghost use Rattle.sdf_answer.specs.Feeds.{GoesOnBy};
+ghost use Rattle.sdf_answer.specs.Answer.{HasInputs, IsRunFault, periods_of as firings};
+ghost use Rattle.sdf_answer.specs.Feeds.{AreFull, GoesOnBy};
 ghost use Rattle.sdf_kit.specs.Kit.{kit_steps};
 ghost use Rattle.sdf_plan.specs.declared.fault.Fault.TheVariants.{OutOfMemory};
 ghost use Rattle.sdf_process.specs.Output.{exchange_of, lists_from, periods_of, IsExchange};
 ghost use Rattle.sdf_process.specs.Stages.{PlaysTo, PutsOutput, PutsPiece};
-ghost use Rattle.sdf_process.specs.Tasks.{CanPlay};
+ghost use Rattle.sdf_process.specs.Tasks.{CanPlay, IsCut};
 
 use crate::exchange::Exchange;
 use crate::putting::put_frames;
 use sdf_actor::laws::nets_are_wired;
 use sdf_actor::{Net, Rest};
+use sdf_fission::warm_up::warm_up;
 use sdf_kit::{Kept, Kit};
 use sdf_plan::Fault;
 use sdf_run::laws::{histories_make_runs, net_facts, nets_can_run, nets_have_periods};
-use sdf_run::{Passage, Spares, resume_one_in};
+use sdf_run::{Passage, Ran, RunFault, Spares, resume_one_in};
 use sdf_sched::Period;
+use sdf_split::{Split, part_size, resume_split};
 use sdf_wav::laws::puts_join;
 use sdf_wav::{ContentOut, Wav, Writer};
-use std::alloc::Global;
+use std::alloc::{AllocError, Global};
+use std::thread::Threads;
 
-/// How many frames a piece reads or makes, where a period has no more.
+/// The most frames that a part of a piece reads or makes, unless a period has more.
 const PIECE: usize = 32_768;
 
-/// A net, one of its periods, and the sound that it plays.
+/// A net, one of its periods, the sound that it plays, and the most parts of it that are run at once.
 #[derive(Clone, Copy)]
 pub(crate) struct Player<'a> {
     pub(crate) net: &'a Net<Kit>,
     pub(crate) period: &'a Period,
     pub(crate) input: &'a Wav,
+    pub(crate) parts: u32,
 }
 
-/// Some periods of a sound, and how many come before them.
+/// How a piece is cut in time: the most parts that are run at once, and the periods of warm-up before a part.
+#[derive(Clone, Copy)]
+pub(crate) struct Cut {
+    parts: u32,
+    pub(crate) warm: u32,
+}
+
+/// The periods of a piece of a sound, how many come before them, and how they are cut, unless they are run on one
+/// thread.
 #[derive(Clone, Copy)]
 struct Piece {
     at: u32,
     many: u32,
+    cut: Option<Cut>,
 }
 
 /// The memory that each piece of a sound leaves to the next one.
 #[derive(Drop)]
-struct Memory {
-    alloc: Global,
+struct Memory<'a, T> {
+    rt: &'a T,
     /// The input lists of the last piece.
     inputs: Vec<Vec<i32>>,
     spares: Spares<i32>,
 }
 
-impl Memory {
+impl<'a, T: AllocGlobal> Memory<'a, T> {
     /// Begins with none.
-    fn new(alloc: Global) -> Memory {
+    fn new(rt: &'a T) -> Memory<'a, T> {
         Memory {
-            alloc,
-            inputs: Vec::new(alloc),
-            spares: Spares::none(alloc),
+            rt,
+            inputs: Vec::new(rt.alloc()),
+            spares: Spares::none(rt.alloc()),
         }
     }
 }
 
-/// How many periods make a piece.
-fn piece_periods(exchange: Exchange) -> u32
+/// Returns how a sound is cut in time, if it is to be run in several parts and the net is known to forget.
+fn cut_of(alloc: Global, player: Player<'_>) -> Result<Option<Cut>, AllocError>
+    requires { CanPlay player }
+    ensures { IfOk result (IsCut player.entry.net.now player.entry.period.now.repetitions) }
+{
+    if player.parts < 2 {
+        return Ok(None);
+    }
+    let Some(warm) = warm_up(alloc, player.net)? else {
+        return Ok(None);
+    };
+    let parts = player.parts;
+    Ok(Some(Cut { parts, warm }))
+}
+
+/// Returns how many periods make a piece: a part that reads and makes up to `PIECE` frames, for each worker.
+fn piece_periods(exchange: Exchange, cut: Option<Cut>) -> u32
     requires { IsExchange exchange }
     ensures { 0 < result }
 {
     let most = exchange.taken.max(exchange.made);
-    if most > PIECE {
-        1
-    } else {
-        (PIECE / most) as u32
+    let part = (PIECE / most).max(1) as u32;
+    match cut {
+        Some(Cut { parts, warm }) => part_size(part, 1, warm).saturating_mul(parts).max(1),
+        None => part,
     }
 }
 
+/// Goes on from a rest as `resume_one` does, in parts at once if the periods are cut.
+fn resume<T: Threads + AllocGlobal + Sync>(
+    rt: &T,
+    cut: Option<Cut>,
+    passage: Passage<'_, Kit>,
+    rest: &Rest<i32, Kept>,
+    spares: &mut Spares<i32>,
+) -> Result<(Ran<i32>, Rest<i32, Kept>), RunFault>
+    requires period { IsPeriodOf (rates (graph_of kit_steps passage.net.now)) passage.period.now }
+    requires given { HasInputs passage.net.now passage.period.now.repetitions passage.periods
+        (items_of passage.inputs.now) }
+    requires full { AreFull passage.net.now passage.period.now.repetitions passage.periods
+        (items_of passage.inputs.now) }
+    requires short { passage.periods < 2 ^ 32 }
+    requires cut { IsCut passage.net.now passage.period.now.repetitions cut }
+    requires rest { (first : List (List ℤ)) × (few : ℕ)
+        × IsRest kit_steps passage.net.now first (firings passage.period.now.repetitions few) rest.now }
+    ensures { let q = passage.entry.period.now.repetitions in MatchResult result
+        (λ fed. GoesOnBy kit_steps passage.entry.net.now q rest.now passage.entry.periods
+        (items_of passage.entry.inputs.now) (items_of fed.0.outputs.items) fed.1
+        × (fed.0.rounds ≡ 0))
+        (IsRunFault passage.entry.net.now q passage.entry.periods (items_of passage.entry.inputs.now)) }
+{
+    let Some(Cut { parts, warm }) = cut else {
+        return resume_one_in(rt.alloc(), passage, rest, spares);
+    };
+    let split = Split {
+        net: passage.net,
+        period: passage.period,
+        periods: passage.periods,
+        inputs: passage.inputs,
+        warm,
+        size: part_size(passage.periods, parts.max(1), warm),
+    };
+    resume_split(rt, rt.alloc(), split, rest)
+}
+
 /// Runs some more periods of a sound, with zeros past its end.
-fn play(
-    memory: &mut Memory,
+fn play<T: Threads + AllocGlobal + Sync>(
+    memory: &mut Memory<'_, T>,
     player: Player<'_>,
     rest: &Rest<i32, Kept>,
     piece: Piece,
@@ -86,32 +156,30 @@ fn play(
     requires player { CanPlay player }
     requires played { (frames : List ℕ) ×
         PlaysTo player.net.now player.period.now.repetitions player.input.now piece.at frames rest.now }
+    requires cut { IsCut player.net.now player.period.now.repetitions piece.cut }
+    requires short { piece.many < 2 ^ 32 }
     ensures { let n = player.entry.net.now in let q = player.entry.period.now.repetitions in MatchResult result
         (λ r. GoesOnBy kit_steps n q rest.now piece.many
         (lists_from piece.at piece.many (exchange_of n q) player.entry.input.now) (items_of r.0.items) r.1)
         (λ e. e ≡ OutOfMemory) }
 {
     let exchange = Exchange::of_net(player.net);
-    let Memory {
-        alloc,
-        inputs,
-        spares,
-    } = memory;
-    let lists = exchange.inputs_from(*alloc, player.input, piece.at, piece.many, inputs)?;
+    let Memory { rt, inputs, spares } = memory;
+    let lists = exchange.inputs_from(rt.alloc(), player.input, piece.at, piece.many, inputs)?;
     let passage = Passage {
         net: player.net,
         period: player.period,
         periods: piece.many,
         inputs: &lists,
     };
-    let (ran, last) = resume_one_in(*alloc, passage, rest, spares)?;
+    let (ran, last) = resume(*rt, piece.cut, passage, rest, spares)?;
     *inputs = lists;
     Ok((ran.outputs, last))
 }
 
 /// Runs some more periods of a sound, and writes their frames.
-fn put_piece<W: Writer>(
-    memory: &mut Memory,
+fn put_piece<T: Threads + AllocGlobal + Sync, W: Writer>(
+    memory: &mut Memory<'_, T>,
     writer: &mut W,
     player: Player<'_>,
     output: &mut ContentOut,
@@ -121,6 +189,8 @@ fn put_piece<W: Writer>(
     requires player { CanPlay player }
     requires played { (frames : List ℕ) ×
         PlaysTo player.net.now player.period.now.repetitions player.input.now piece.at frames rest.now }
+    requires cut { IsCut player.net.now player.period.now.repetitions piece.cut }
+    requires short { piece.many < 2 ^ 32 }
     requires unspent { output.old.spent ≡ false }
     requires channels { output.old.channels ≡ list_count Outputs player.net.now.nodes }
     requires missing { piece.many * (exchange_of player.net.now player.period.now.repetitions).made ≤
@@ -145,7 +215,7 @@ fn put_piece<W: Writer>(
     let exchange = Exchange::of_net(player.net);
     let (lists, last) = play(memory, player, rest, piece)?;
     put_frames(
-        memory.alloc,
+        memory.rt.alloc(),
         writer,
         output,
         &lists,
@@ -156,8 +226,8 @@ fn put_piece<W: Writer>(
 }
 
 /// Runs a net on a sound, a piece at a time, and writes the frames of each before the next one is run.
-pub(crate) fn put_pieces<W: Writer>(
-    alloc: Global,
+pub(crate) fn put_pieces<T: Threads + AllocGlobal + Sync, W: Writer>(
+    rt: &T,
     writer: &mut W,
     player: Player<'_>,
     output: &mut ContentOut,
@@ -177,13 +247,14 @@ pub(crate) fn put_pieces<W: Writer>(
     net_facts(player.net);
     histories_make_runs::<Kit>();
     let exchange = Exchange::of_net(player.net);
-    let most = piece_periods(exchange);
-    let mut memory = Memory::new(alloc);
-    let mut rest = player.net.first_rest(alloc)?;
+    let cut = cut_of(rt.alloc(), player)?;
+    let most = piece_periods(exchange, cut);
+    let mut memory = Memory::new(rt);
+    let mut rest = player.net.first_rest(rt.alloc())?;
     let mut at = 0;
     while at < periods {
         let many = most.min(periods - at);
-        let piece = Piece { at, many };
+        let piece = Piece { at, many, cut };
         rest = put_piece(&mut memory, writer, player, output, &rest, piece)?;
         at += many;
     }

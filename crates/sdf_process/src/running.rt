@@ -58,8 +58,9 @@ fn run_ahead<T: Threads + AllocGlobal + Sync, R: Reader, W: Writer, G: Gate>(
             net,
             period,
             input: &input,
+            parts: plan.parts(),
         };
-        return put_pieces(rt.alloc(), writer, player, &mut output, extent.periods);
+        return put_pieces(rt, writer, player, &mut output, extent.periods);
     };
     let shared = SharedTask { task, table };
     let hearing = Hearing {

@@ -159,30 +159,20 @@ fn workers_of<T: Threads>(threads: &T, crew: Crew) -> usize
 /// How a parallel run goes, on one line.
 fn pace_text(alloc: Global, pace: Pace) -> Result<String, AllocError> {
     match pace {
-        Pace::Crew {
+        Pace::Parts {
             workers,
+            periods,
             samples,
-            tenths,
         } => {
-            let (whole, tenth) = (tenths / 10, tenths % 10);
             format!(in alloc;
-                "{workers} workers, blocks of {samples} samples, at most {whole}.{tenth} times\n"
+                "{workers} workers, each on its own part of the sound after {periods} periods ({samples} samples) of warm-up\n"
             )
         }
-        Pace::Slow { tenths } => {
-            let (whole, tenth) = (tenths / 10, tenths % 10);
-            format!(in alloc;
-                "one thread: workers could be at most {whole}.{tenth} times as fast\n"
-            )
-        }
-        Pace::Light { weight } => {
-            format!(in alloc; "one thread: a frame weighs {weight}, too little for two workers\n")
-        }
-        Pace::Alone => String::from_str(alloc, "one thread: one worker is asked for\n"),
-        Pace::Unplanned => String::from_str(
+        Pace::Lasting => String::from_str(
             alloc,
-            "one thread: there is no plan for the workers\n",
+            "one thread: the design keeps samples for ever, or for too long\n",
         ),
+        Pace::Alone => String::from_str(alloc, "one thread: one worker is asked for\n"),
     }
 }
 

@@ -6,30 +6,36 @@ use crate::designs::CHAIN;
 use sdf_file::{Design, read_design};
 use sdf_options::Options;
 use sdf_plan::Plan;
-use sdf_plan::parallel::{LEAST_SHARE, Paced, parallel_plan};
+use sdf_plan::parallel::{Paced, parallel_plan};
 use sdf_plan::planning::plan;
 use sdf_run::run_one;
 use std::alloc::Global;
 use std::test::Fail;
 use test_texts::row_says;
 
-/// Two branches, each of 64 samples a frame and back: a frame is work enough for two workers.
-const HEAVY: &str = r#"format = 1
+/// A delay of seven samples beside one of five, and then a filter of four taps that takes two samples at a time.
+const KEPT: &str = r#"format = 1
 actor = [{ name = "in", kind = "input", channel = 0 }, { name = "fork", kind = "fork", ways = 2 },
-    { name = "up", kind = "interpolate", factor = 64 }, { name = "same", kind = "decimate", factor = 64 },
-    { name = "high", kind = "interpolate", factor = 64 }, { name = "low", kind = "decimate", factor = 64 },
-    { name = "add", kind = "add", ways = 2 }, { name = "out", kind = "output", channel = 0 }]
-link = [{ from = "in", to = "fork" }, { from = "fork:0", to = "up" }, { from = "up", to = "same" },
-    { from = "fork:1", to = "high" }, { from = "high", to = "low" },
-    { from = "same", to = "add:0" }, { from = "low", to = "add:1" }, { from = "add", to = "out" }]"#;
+    { name = "seven", kind = "delay", length = 7 }, { name = "five", kind = "delay", length = 5 },
+    { name = "add", kind = "add", ways = 2 }, { name = "low", kind = "fir", down = 2, shift = 0, taps = [1, 1, 1, 1] },
+    { name = "out", kind = "output", channel = 0 }]
+link = [{ from = "in", to = "fork" }, { from = "fork:0", to = "seven" }, { from = "fork:1", to = "five" },
+    { from = "seven", to = "add:0" }, { from = "five", to = "add:1" }, { from = "add", to = "low" },
+    { from = "low", to = "out" }]"#;
 
-/// What runs it in parallel, with which patience, over rings of how many blocks, and of how many periods these are.
-fn crew_told(alloc: Global) -> Result<String, Fail> {
-    let design = read_design(alloc, HEAVY.as_bytes(), &[])?;
-    let Paced { plan, .. } = parallel_plan(alloc, &design, 2)?;
-    let (runner, patience) = (plan.runner(), plan.patience());
-    let (rooms, blocking) = (plan.rooms(), plan.blocking());
-    Ok(format!(in alloc; "{runner:?} {patience} {rooms} {blocking}")?)
+/// A loop that keeps what comes in for ever.
+const LASTING: &str = r#"format = 1
+actor = [{ name = "in", kind = "input", channel = 0 }, { name = "add", kind = "add", ways = 2 },
+    { name = "fork", kind = "fork", ways = 2 }, { name = "out", kind = "output", channel = 0 }]
+link = [{ from = "in", to = "add:0" }, { from = "add", to = "fork" }, { from = "fork:0", to = "out" },
+    { from = "fork:1", to = "add:1", initial = [0] }]"#;
+
+/// What runs a design in parallel, in how many parts at once, and why.
+fn parts_told(alloc: Global, text: &str) -> Result<String, Fail> {
+    let design = read_design(alloc, text.as_bytes(), &[])?;
+    let Paced { plan, pace } = parallel_plan(alloc, &design, 3)?;
+    let (runner, parts) = (plan.runner(), plan.parts());
+    Ok(format!(in alloc; "{runner:?} {parts} {pace:?}")?)
 }
 
 /// The fault of a run of two periods of the chain on one sample less.
@@ -49,14 +55,24 @@ fn short_chain(alloc: Global) -> Result<String, Fail> {
     short_told(alloc, &design, &plan)
 }
 
-/// Refuses workers that are less patient than the help says, and another weight for each than `docs/FORMATS.md` has.
+/// Refuses another warm-up than the least. Seven samples of the sum come from before, and the first four firings of the
+/// filter take these. Two firings later it has forgotten them, after six periods. Refuses a loop that is cut, too.
 #[test]
 fn plans_and_what_they_want(rt: HostRuntime) -> Result<(), Fail> {
-    assert_eq!(rt; LEAST_SHARE, 640);
     row_says(
-        "crews are patient",
-        crew_told(rt.alloc()),
-        "Rings 1000000 16 16",
+        "parts begin warm",
+        parts_told(rt.alloc(), KEPT),
+        "One 3 Parts { workers: 3, periods: 6, samples: 12 }",
+    )?;
+    row_says(
+        "a loop keeps its samples",
+        parts_told(rt.alloc(), LASTING),
+        "One 1 Lasting",
+    )?;
+    row_says(
+        "a chain that keeps no sample is warm at once",
+        parts_told(rt.alloc(), CHAIN),
+        "One 3 Parts { workers: 3, periods: 0, samples: 0 }",
     )?;
     row_says(
         "runs want whole periods",

@@ -9,11 +9,19 @@ use Rattle.sdf_process.proofs.Pieced.{owed_more, owed_none, piece_few, piece_mis
 use Rattle.sdf_process.proofs.Pieced.{plays_first}
 use Rattle.sdf_process.proofs.playing.put_pieces.Goals as goal
 
+pub returns-in_err-cut : goal.returns-in_err-cut
+returns-in_err-cut g c =
+    unrun c.args.player.net.now c.args.player.period.now.repetitions c.args.player.input.now
+    (g.W.Writer.contents c.args.writer.now)
+    (g.W.Writer.failures c.args.writer.now) OutOfMemory c.from_residual.result refl
+    c.from_residual.ensures.1
+
 pub returns-in_err-rest : goal.returns-in_err-rest
 returns-in_err-rest g c =
     unrun c.args.player.net.now c.args.player.period.now.repetitions c.args.player.input.now
     (g.W.Writer.contents c.args.writer.now)
-    (g.W.Writer.failures c.args.writer.now) OutOfMemory c.from_residual.result refl c.from_residual.ensures.1
+    (g.W.Writer.failures c.args.writer.now) OutOfMemory c.from_residual-in_err-rest.result refl
+    c.from_residual-in_err-rest.ensures.1
 
 pub loop-at-init : goal.loop-at-init
 loop-at-init g c =
@@ -36,14 +44,14 @@ loop-at-init g c =
     }
 
 pub put_piece-requires-clause-missing : goal.put_piece-requires-clause-missing
-put_piece-requires-clause-missing g c =
+put_piece-requires-clause-missing g c κs within =
     let made = (exchange_of c.args.player.net.now c.args.player.period.now.repetitions).made in
     piece_missing c.args.periods c.loop-at.at c.min-many.result made c.loop-at.output.missing (search rules)
     (ap (λ (o : Owed). o.missing) c.loop-at.invariant.owed
     ∙ ap (λ (o : Owed). o.missing - c.loop-at.at * made) c.requires.owed)
 
 pub put_piece-requires-clause-few : goal.put_piece-requires-clause-few
-put_piece-requires-clause-few g c =
+put_piece-requires-clause-few g c κs within =
     let x = exchange_of c.args.player.net.now c.args.player.period.now.repetitions in
     piece_few c.args.periods c.min-many.result x.made x.outputs 4294967259 (search rules) c.requires.few
 

@@ -91,7 +91,7 @@ returns-in_err-input g c =
     refl c.in_ok-output.ensures.puts.0 c.in_ok-output.ensures.puts.1 c.in_err-input.field-0.0 c.in_err-input.ensures)
 
 pub put_pieces-requires-clause-periods : goal.put_pieces-requires-clause-periods
-put_pieces-requires-clause-periods g c =
+put_pieces-requires-clause-periods g c κs within =
     let known = frames_known c.args.unheard.content.size c.args.unheard.content.channels c.args.unheard.frames
     c.requires.content.known in
     c.in_ok-extent.ensures.periods ∙ (ap (λ y. periods_for y c.args.unheard.frames)
