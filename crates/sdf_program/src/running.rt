@@ -165,7 +165,8 @@ fn pace_text(alloc: Global, pace: Pace) -> Result<String, AllocError> {
             samples,
         } => {
             format!(in alloc;
-                "{workers} workers, each on its own part of the sound after {periods} periods ({samples} samples) of warm-up\n"
+                "{workers} workers, each on its own part of the sound after {periods} periods ({samples} samples) of \
+                 warm-up\n"
             )
         }
         Pace::Lasting => String::from_str(
