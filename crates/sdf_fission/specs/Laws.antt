@@ -61,7 +61,8 @@ WarmRunsLeave {A} {S} {T} s =
 -- so a run that goes on from there is the next part of the long run
 abbrev pub WarmRunsGoOn : {A S T : Type 0} → Steps A S T → Type 0
 WarmRunsGoOn {A} {S} {T} s =
-    (n : Netlist A T) (p : Schedule) (few warm more : ℕ) (first before front later all outputs on joined : List (List T))
+    (n : Netlist A T) (p : Schedule) (few warm more : ℕ)
+    (first before front later all outputs on joined : List (List T))
     (rest last : Rest T S) →
     RunsLate s n p few warm first before front outputs rest →
     HasInputs n p.repetitions (few + warm) front → AreFull n p.repetitions (few + warm) front →

@@ -6,7 +6,8 @@ ghost use Rattle.sdf_graph.specs.Periods.{IsLeastPeriod};
 ghost use Rattle.sdf_graph.specs.Rates.{rates, no_channel, IsCycle};
 ghost use Rattle.sdf_actor.specs.Graphs.{graph_of};
 ghost use Rattle.sdf_fission.specs.Warm.{NodeForgets};
-ghost use Rattle.sdf_fission.specs.WarmUps.{WarmsIn, AreFirings, AreMemories, IsChannel, cold, IsLate, AreLate, AreWithin};
+ghost use Rattle.sdf_fission.specs.WarmUps.{WarmsIn, AreFirings, AreMemories, IsChannel, cold, IsLate, AreLate};
+ghost use Rattle.sdf_fission.specs.WarmUps.{AreWithin};
 
 use crate::memory::Forgetful;
 use crate::sums::moved_by;

@@ -54,7 +54,8 @@ module _ (periods size : ℕ) (some : 0 < size) where
 
   pub ends_last : (i : ℕ) → i + 1 ≡ count → end_of size periods (i * size) ≡ periods
   ends_last i e =
-      let all : periods ≤ (i + 1) * size = subst (λ k. periods ≤ k * size) (sym e) (div_ceil_times periods size some).0 in
+      let all : periods ≤ (i + 1) * size = subst (λ k. periods ≤ k * size) (sym e)
+      (div_ceil_times periods size some).0 in
       let below : i * size < periods = begins i (omega arith) in
       omega arith
 

@@ -1,5 +1,6 @@
 -- The parts of a run that is split in time.
-use Rattle.std.specs.Prelude.{◌≡◌, ℕ, ◌+◌, ◌-◌, ◌*◌, ◌^◌, ◌≤◌, ◌<◌, min, List, length, slice_index_or, Result, MatchResult}
+use Rattle.std.specs.Prelude.{◌≡◌, ℕ, ◌+◌, ◌-◌, ◌*◌, ◌^◌, ◌≤◌, ◌<◌, min, List, length, slice_index_or, Result}
+use Rattle.std.specs.Prelude.{MatchResult}
 use Rattle.std.specs.Int.{div_ceil}
 use Rattle.std.specs.declared.vec.Vec.{Vec}
 use Rattle.sdf_graph.specs.Rates.{rates}
@@ -64,7 +65,8 @@ IsMade s w rest i r =
 abbrev pub AreMade : {A S T Z : Type 0} → Steps A S T → Split A T S → Rest T S →
     List (Result (Vec (Vec T Z) Z × Rest T S) RunFault) → Type 0
 AreMade {A} {S} {T} {Z} s w rest rs =
-    (i : ℕ) (d : Result (Vec (Vec T Z) Z × Rest T S) RunFault) → i < length rs → IsMade s w rest i (slice_index_or rs i d)
+    (i : ℕ) (d : Result (Vec (Vec T Z) Z × Rest T S) RunFault) → i < length rs →
+    IsMade s w rest i (slice_index_or rs i d)
 
 -- how many parts there are
 abbrev pub part_count : {A S T : Type 0} → Split A T S → ℕ

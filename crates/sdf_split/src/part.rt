@@ -16,8 +16,8 @@ use sdf_run::{feed_one, resume_one};
 use sdf_sched::Period;
 use std::alloc::Global;
 
-/// A run of `periods` periods of a net in parts of `size` periods, each after `warm` periods of warm-up except the first.
-/// The inputs hold these periods and no more.
+/// A run of `periods` periods of a net in parts of `size` periods, each after `warm` periods of warm-up except the
+/// first. The inputs hold these periods and no more.
 #[derive_where(Clone, Copy)]
 pub struct Split<'a, A: Actor> {
     pub net: &'a Net<A>,

@@ -6,4 +6,5 @@ use Rattle.sdf_fission.proofs.KeptSamples.{delay_forgets}
 use Rattle.sdf_fission.proofs.memory.delay_memory.Goals as goal
 
 pub returns : goal.returns
-returns c = subst (Forgets kit_steps (Delay c.args.delay.now)) (sym c.length.ensures.is) (delay_forgets c.args.delay.now)
+returns c = subst (Forgets kit_steps (Delay c.args.delay.now)) (sym c.length.ensures.is)
+    (delay_forgets c.args.delay.now)
