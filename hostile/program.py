@@ -85,8 +85,7 @@ def why_or(fault, period):
 
 
 def parallel_of_sdfw(lists):
-    """Runs that are to be sooner: by one thread, and by workers where these can be faster, with rooms and pieces of
-    many blocks."""
+    """Parallel runs, in parts of the sound or on one thread."""
     for name, design, sound, _, period in RUNS + SPREAD:
         words, told = [SDFW, "run", design, sound, "out.wav", "--parallel", "2"], f"sdfw run {name} --parallel"
         lists.refuse(f"{told}: memory", words, "memory", ample_or(NO_MEMORY, period))

@@ -22,7 +22,7 @@ def stream_words(design, runner, *more):
 RUNS = [("chain", "chain.toml", "short.wav", [], 320), ("loop", "loop.toml", "few.wav", [], 2),
         ("pieces", "pieces.toml", "long.wav", ["--blocking", "4"], 2048)]
 
-# That of a design that is spread over two workers.
+# That of a design with two heavy branches.
 SPREAD = [("heavy", "heavy.toml", "long.wav", [], 2)]
 
 # What writes measured costs into a file.

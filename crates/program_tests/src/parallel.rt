@@ -128,7 +128,7 @@ fn by_number<T: Threads + AllocGlobal + Clock + Clone + Drop + Sync>(
     told(rt, &line)
 }
 
-/// Refuses another number of workers where none is given, of which sixteen have enough work.
+/// Refuses another number of workers where none is given.
 #[test]
 fn runs_in_parallel(rt: HostRuntime) -> Result<(), Fail> {
     are_told(&rt, PARALLEL)?;

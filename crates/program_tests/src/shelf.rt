@@ -34,7 +34,7 @@ actor = [{ name = "in", kind = "input", channel = 0 }, { name = "fork", kind = "
 link = [{ from = "in", to = "fork" }, { from = "fork:0", to = "same" }, { from = "fork:1", to = "none" },
     { from = "same", to = "add:0" }, { from = "none", to = "add:1" }, { from = "add", to = "out" }]"#;
 
-/// The same branches, each of 64 samples a frame and back, so that a frame is work enough for two workers.
+/// The same branches, each of 64 samples a frame and back.
 const HEAVY: &str = r#"format = 1
 actor = [{ name = "in", kind = "input", channel = 0 }, { name = "fork", kind = "fork", ways = 2 },
     { name = "up", kind = "interpolate", factor = 64 }, { name = "same", kind = "decimate", factor = 64 },
@@ -45,7 +45,7 @@ link = [{ from = "in", to = "fork" }, { from = "fork:0", to = "up" }, { from = "
     { from = "fork:1", to = "high" }, { from = "high", to = "low" }, { from = "low", to = "none" },
     { from = "same", to = "add:0" }, { from = "none", to = "add:1" }, { from = "add", to = "out" }]"#;
 
-/// A third such branch, so that a frame is work enough for three workers.
+/// A third such branch.
 const WIDER: &str = r#"format = 1
 actor = [{ name = "in", kind = "input", channel = 0 }, { name = "fork", kind = "fork", ways = 3 },
     { name = "up", kind = "interpolate", factor = 64 }, { name = "same", kind = "decimate", factor = 64 },

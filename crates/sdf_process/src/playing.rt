@@ -1,5 +1,5 @@
 //! A net that plays a sound some periods at a time, on one thread or in parts at once. It holds what these periods read
-//! and make, and the memory of the periods before, which they use again.
+//! and make, and on one thread the memory of the periods before, which they use again.
 
 ghost use Rattle.std.specs.Prelude.{◌≡◌, ◌+◌, ◌-◌, ◌*◌, ◌^◌, ◌≤◌, ◌<◌, ℕ, ℤ, List, false, IfOk, MatchResult};
 ghost use Rattle.sdf_graph.specs.Rates.{rates};
@@ -33,7 +33,7 @@ use sdf_wav::{ContentOut, Wav, Writer};
 use std::alloc::{AllocError, Global};
 use std::thread::Threads;
 
-/// The most frames that a part of a piece reads or makes, unless a period has more.
+/// The most frames that a part of a piece reads or makes, unless a period or eight warm-ups have more.
 const PIECE: usize = 32_768;
 
 /// A net, one of its periods, the sound that it plays, and the most parts of it that are run at once.
@@ -61,7 +61,7 @@ struct Piece {
     cut: Option<Cut>,
 }
 
-/// The memory that each piece of a sound leaves to the next one.
+/// The memory that each piece of a sound leaves to the next one. Parts do not use the queues.
 #[derive(Drop)]
 struct Memory<'a, T> {
     rt: &'a T,
@@ -96,7 +96,7 @@ fn cut_of(alloc: Global, player: Player<'_>) -> Result<Option<Cut>, AllocError>
     Ok(Some(Cut { parts, warm }))
 }
 
-/// Returns how many periods make a piece: a part that reads and makes up to `PIECE` frames, for each worker.
+/// Returns how many periods make a piece: for each worker a part of up to `PIECE` frames, or of eight warm-ups.
 fn piece_periods(exchange: Exchange, cut: Option<Cut>) -> u32
     requires { IsExchange exchange }
     ensures { 0 < result }

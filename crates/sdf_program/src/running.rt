@@ -202,8 +202,8 @@ fn crew_plan<T: Threads + AllocGlobal, E: Write>(
     Ok(plan)
 }
 
-/// Runs a design on a WAV file in parallel where that can be faster, once its plan stands, and tells how where that is
-/// asked for.
+/// Runs a design on a WAV file in parts of the sound if the design forgets, once its plan stands. It tells how if that
+/// is asked for.
 pub(crate) fn run_parallel<
     S: Storage,
     T: Threads + AllocGlobal + Clock + Sync,
