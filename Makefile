@@ -1,6 +1,6 @@
 # The gate, the proved program, and the programs that show it at work.
 
-.PHONY: help build demo announced try install uninstall deb documents examples test mutants times allocations bench \
+.PHONY: help build demo announced try install uninstall deb documents examples test mutants tried times allocations bench \
 	hostile clean
 
 PREFIX ?= /usr/local
@@ -62,7 +62,6 @@ deb:
 # the pictures of the examples (wants python3).
 documents: build
 	python3 docs/tables.py
-	scripts/tried
 	scripts/pages --check
 	for it in $(filter-out examples/stuck/%,$(wildcard examples/*/graph.toml)); do \
 		build/sdfw draw $$it --workers 2 | cmp - $${it%.toml}.svg || exit 1; done
@@ -80,6 +79,10 @@ test:
 # With ALL=1 those too that it tries.
 mutants:
 	scripts/mutants $(if $(ALL),--all) $(CRATE)
+
+# Which crates have changed by more than ten commits since their wrong bodies were last tried.
+tried:
+	scripts/tried
 
 # Where a whole check's time goes: each crate and the fifty dearest functions, on a copy.
 times:
