@@ -1,23 +1,21 @@
 //! What the faults mean.
 
-ghost use Rattle.std.specs.Prelude.{◌≡◌, suc, IfOk, IfSome, OnOk, option_map, position, string_bytes};
-ghost use Rattle.std.specs.Str.{bytes_eq};
-ghost use Rattle.sdf_words.specs.Meanings.{name_of, IsLonger, IsExplanation};
-ghost use Rattle.sdf_words.specs.declared.explain.names.TheConstants.{NAMES};
+ghost use Rattle.std.specs.Prelude.{◌≡◌, ◌≤◌, IfSome};
+ghost use Rattle.sdf_words.specs.declared.asked.TheConstants.{MOST_FAULT};
 
 mod documents;
 mod graphs;
-mod names;
 mod sounds;
 mod tables;
 
-use names::NAMES;
+use crate::asked::MOST_FAULT;
 use std::alloc::{AllocError, Global};
 
 /// What a fault means, within which limits it does not come, and what to do about it. `place` is how its line goes on.
 #[derive(Clone, Copy)]
 struct Meaning {
     number: u32,
+    name: &'static str,
     place: &'static str,
     means: &'static str,
     limits: &'static str,
@@ -44,53 +42,44 @@ fn meaning_of(number: u32) -> Option<Meaning>
         .find(|meaning| meaning.number == number)
 }
 
-/// Returns the name of the fault `number`.
-fn name_of(number: u32) -> Option<&'static str>
-    ensures { option_map (λ name. name.now) result ≡ name_of number }
-{
-    let before = number.checked_sub(1)?;
-    NAMES.get(before as usize).copied()
+/// Whether the fault of this number has this name.
+fn is_named(number: u32, name: &str) -> bool {
+    match meaning_of(number) {
+        Some(meaning) => meaning.name == name,
+        None => false,
+    }
 }
 
-/// Returns the number of the fault whose name is `name`.
+/// The number of the fault of this name.
 pub(crate) fn number_named(name: &str) -> Option<u32>
-    ensures { result ≡ option_map suc (position (λ known. bytes_eq known.now name.now) NAMES.now) }
+    ensures { IfSome result (λ number. (1 ≤ number) × (number ≤ MOST_FAULT)) }
 {
-    let before = NAMES.iter().position(|known| *known == name)?;
-    Some(before as u32 + 1)
+    for number in 1..=MOST_FAULT {
+        if is_named(number, name) {
+            return Some(number);
+        }
+    }
+    None
 }
 
 /// A line of an explanation, where there is something to say.
-fn push_line(text: &mut String, label: &str, said: &str) -> Result<(), AllocError>
-    ensures { OnOk result (IsLonger (string_bytes text.old) (string_bytes text.new)) }
-{
+fn push_line(text: &mut String, label: &str, said: &str) -> Result<(), AllocError> {
     if said.is_empty() {
         return Ok(());
     }
     writeln!(text, "{label}: {said}")
 }
 
-/// Adds the lines of what the fault `number` means.
-fn push_meaning(text: &mut String, number: u32) -> Result<(), AllocError>
-    ensures { OnOk result (IsLonger (string_bytes text.old) (string_bytes text.new)) }
-{
-    let Some(meaning) = meaning_of(number) else {
-        return Ok(());
-    };
-    push_line(text, "where", meaning.place)?;
-    push_line(text, "means", meaning.means)?;
-    push_line(text, "limits", meaning.limits)?;
-    push_line(text, "remedy", meaning.remedy)
-}
-
-/// Explains the fault `number`, line by line. The text is empty if no fault has the number.
-pub fn explained(alloc: Global, number: u32) -> Result<String, AllocError>
-    ensures { IfOk result (λ text. IsExplanation number (string_bytes text)) }
-{
+/// What a fault is, line by line, or nothing where no fault has the number.
+pub fn explained(alloc: Global, number: u32) -> Result<String, AllocError> {
     let mut text = String::new(alloc);
-    if let Some(name) = name_of(number) {
+    if let Some(meaning) = meaning_of(number) {
+        let name = meaning.name;
         writeln!(text, "{number} {name}")?;
-        push_meaning(&mut text, number)?;
+        push_line(&mut text, "where", meaning.place)?;
+        push_line(&mut text, "means", meaning.means)?;
+        push_line(&mut text, "limits", meaning.limits)?;
+        push_line(&mut text, "remedy", meaning.remedy)?;
     }
     Ok(text)
 }
