@@ -33,8 +33,12 @@ use sdf_wav::{ContentOut, Wav, Writer};
 use std::alloc::{AllocError, Global};
 use std::thread::Threads;
 
-/// The most frames that a part of a piece reads or makes, unless a period or eight warm-ups have more.
+/// The most frames that a piece reads or makes on one thread, unless a period has more.
 const PIECE: usize = 32_768;
+
+/// The most frames that a part of a piece reads or makes, unless a period or eight warm-ups have more. Longer parts have
+/// less warm-up, and threads are started less often.
+const PART: usize = 131_072;
 
 /// A net, one of its periods, the sound that it plays, and the most parts of it that are run at once.
 #[derive(Clone, Copy)]
@@ -96,16 +100,17 @@ fn cut_of(alloc: Global, player: Player<'_>) -> Result<Option<Cut>, AllocError>
     Ok(Some(Cut { parts, warm }))
 }
 
-/// Returns how many periods make a piece: for each worker a part of up to `PIECE` frames, or of eight warm-ups.
+/// Returns how many periods make a piece: for each worker a part of up to `PART` frames, or of eight warm-ups.
 fn piece_periods(exchange: Exchange, cut: Option<Cut>) -> u32
     requires { IsExchange exchange }
     ensures { 0 < result }
 {
     let most = exchange.taken.max(exchange.made);
-    let part = (PIECE / most).max(1) as u32;
+    let piece = (PIECE / most).max(1) as u32;
+    let part = (PART / most).max(1) as u32;
     match cut {
         Some(Cut { parts, warm }) => part_size(part, 1, warm).saturating_mul(parts).max(1),
-        None => part,
+        None => piece,
     }
 }
 
