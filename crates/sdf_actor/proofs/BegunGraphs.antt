@@ -5,7 +5,6 @@ use Rattle.std.specs.List.{range_with_len}
 use Rattle.std.proofs.lemmas.Bool.{cases_lt}
 use Rattle.std.proofs.lemmas.List.{take_all, get_or-map, length-map, length-drop, same_lists, get_or_append_left}
 use Rattle.std.proofs.lemmas.List.{get_or_push}
-use Rattle.sdf_graph.specs.Laws.{SumsRise}
 use Rattle.sdf_graph.specs.Sequences.{IsPeriod}
 use Rattle.sdf_actor.specs.declared.node.Node.{Node}
 use Rattle.sdf_actor.specs.declared.node.Node.TheVariants.{Source, Sink, Inner}
@@ -34,10 +33,10 @@ each_pushed {X} P xs y d n long each last i h = go (cases_lt i n)
         subst (P i) (sym (get_or_push xs y d i (long ∙ at))) (subst (λ j. P j y) at last)
 
 -- before its first firing the channels have what they begin with
-pub no_firing : SumsRise → {A S T : Type 0} (s : Steps A S T) (n : Netlist A T) → IsNet s n → (inputs : List (List T)) →
+pub no_firing : {A S T : Type 0} (s : Steps A S T) (n : Netlist A T) → IsNet s n → (inputs : List (List T)) →
     IsHistoryOf s n inputs (λ _. 0) (wiring s n).starts
-no_firing rise s n good inputs =
-    let sound = (wired s n good rise).sound in
+no_firing s n good inputs =
+    let sound = (wired s n good).sound in
     record {
       begins = λ c l. take_all (length (wire n c).initial) (wire n c).initial (omega arith);
       lengths = λ c l. omega (arith, sound.produced_none c);

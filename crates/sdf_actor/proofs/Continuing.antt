@@ -4,7 +4,6 @@ use Rattle.std.proofs.Common.{eqb, ◌&&◌, Bool, not, cond, Option, Some, None
 use Rattle.std.specs.List.{between, position_or_len, range_with_len}
 use Rattle.std.proofs.Math.Nat.{mul-add, add-mul-mod_self_right}
 use Rattle.std.proofs.lemmas.List.{drop_at, take_at, length-append}
-use Rattle.sdf_graph.specs.Laws.{SumsRise}
 use Rattle.sdf_graph.specs.Periods.{Divides}
 use Rattle.sdf_graph.specs.Rates.{sum_to}
 use Rattle.sdf_actor.specs.declared.node.Node.{Node}
@@ -106,7 +105,7 @@ first_same test (x ∷ xs) (y ∷ ys) e h =
     first_same test xs ys (omega arith) (λ c l. h (suc c) (omega arith)) in
     λ κ. cond (not (here κ)) (1 + more κ) 0
 
-module _ {A B S T : Type 0} (rise : SumsRise) (s : Steps A S T) (r : Steps B S T) (n : Netlist A T) (m : Netlist B T)
+module _ {A B S T : Type 0} (s : Steps A S T) (r : Steps B S T) (n : Netlist A T) (m : Netlist B T)
     (first later : List (List T)) (k i : ℕ → ℕ)
     (V U : ℕ → List T) (rest : Rest T S) (h : GoesOn s r n m first later k i V U rest) where
   from_same : (c : ℕ) → c < length n.wires → (wire m c).from ≡ (wire n c).from
@@ -154,7 +153,7 @@ module _ {A B S T : Type 0} (rise : SumsRise) (s : Steps A S T) (r : Steps B S T
   }
 
   here : IsWired (wiring s n)
-  here = wired s n h.net rise
+  here = wired s n h.net
 
   abbrev before : ℕ → List (List T)
   before a = taken_before (wiring s n) V a (k a)

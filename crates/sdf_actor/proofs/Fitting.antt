@@ -4,7 +4,6 @@ use Rattle.std.proofs.Common.{subst, inl, inr, ◌⊎◌, arith}
 use Rattle.std.specs.List.{sum_by, range_with_len}
 use Rattle.std.proofs.lemmas.Bool.{cases_lt}
 use Rattle.std.proofs.lemmas.List.{get_or_append_left, get_or-append_right, length-append}
-use Rattle.sdf_graph.specs.Laws.{SumsRise}
 use Rattle.sdf_graph.specs.Periods.{Divides}
 use Rattle.sdf_actor.specs.declared.node.Node.{Node}
 use Rattle.sdf_actor.specs.declared.node.Node.TheVariants.{Source, Sink, Inner}
@@ -64,7 +63,7 @@ module _ {A S T : Type 0} (s : Steps A S T) (x : A) (fits : PutsFit s x) (before
       (fits (before ++ past) now (all_sized past each) (size ∙ ap (total_in s x) (sym at)) ∙
       ap (total_out s x) at)
 
-module _ (rise : SumsRise) {A S T : Type 0} (s : Steps A S T) (fits : (x : A) → PutsFit s x) (n : Netlist A T)
+module _ {A S T : Type 0} (s : Steps A S T) (fits : (x : A) → PutsFit s x) (n : Netlist A T)
     (good : IsNet s n) (inputs : List (List T)) (k : ℕ → ℕ) (whole : AreWhole s n k)
     (V : ℕ → List T) (r : IsHistoryOf s n inputs k V) (a : ℕ) (known : a < length n.nodes) (x : A)
     (is : node n a ≡ Inner x) where
@@ -79,7 +78,7 @@ module _ (rise : SumsRise) {A S T : Type 0} (s : Steps A S T) (fits : (x : A) �
       blocks : (i : ℕ) → i < k a → length (get_or (taken_before (wiring s n) V a (k a)) i []) ≡
           total_in s x (phase s x i)
       blocks i h =
-          blocks_long (wiring s n) (wired s n good rise) V a (k a) known
+          blocks_long (wiring s n) (wired s n good) V a (k a) known
           (λ c l e.
           let own : (wiring s n).rates.consumed c (k ((wiring s n).rates.target c)) ≡
           (wiring s n).rates.consumed c (k a) = ap (λ b. (wiring s n).rates.consumed c (k b)) e in
@@ -91,10 +90,10 @@ module _ (rise : SumsRise) {A S T : Type 0} (s : Steps A S T) (fits : (x : A) �
           ap (λ f. sum_by f (range_with_len 0 (s.inputs x))) (λ κ p. sum_to_one (λ j. s.take x p (phase s x j)) i κ)))
 
 -- so each node may begin there
-pub may_begin : SumsRise → {A S T : Type 0} (s : Steps A S T) → ((x : A) → PutsFit s x) → (n : Netlist A T) →
+pub may_begin : {A S T : Type 0} (s : Steps A S T) → ((x : A) → PutsFit s x) → (n : Netlist A T) →
     IsNet s n → (inputs : List (List T)) (k : ℕ → ℕ) → AreWhole s n k → (rest : Rest T S) → IsRest s n inputs k rest →
     (a : ℕ) → a < length n.nodes → MayBegin s (get_or rest.states.items a None) (node n a)
-may_begin rise {A} s fits n good inputs k whole rest is a known = go (node n a) refl
+may_begin {A} s fits n good inputs k whole rest is a known = go (node n a) refl
   where
     go : (x : Node A) → node n a ≡ x → MayBegin s (get_or rest.states.items a None) x
     go (Source ext block) e = tt
@@ -102,5 +101,5 @@ may_begin rise {A} s fits n good inputs k whole rest is a known = go (node n a) 
     go (Inner x) e = (
       state_after s x (taken_before (wiring s n) is.history a (k a)),
       is.left.states a known ∙ ap (λ y. state_left s y (taken_before (wiring s n) is.history a (k a))) e,
-      fits_left rise s fits n good inputs k whole is.history is.is a known x e,
+      fits_left s fits n good inputs k whole is.history is.is a known x e,
     )

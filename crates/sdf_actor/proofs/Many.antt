@@ -7,7 +7,7 @@ use Rattle.std.proofs.lemmas.List.Sums.{sum_by-cons}
 use Rattle.std.proofs.lemmas.Slice.{take-put_mid}
 use Rattle.std.proofs.Math.Nat.{mod-add-mod, mod-eq_of_lt}
 use borrow.Rule.Slice.PartMut.{put_mid, same_len_mid}
-use Rattle.sdf_graph.specs.Laws.{SumsRise}
+use Rattle.sdf_graph.proofs.Theorems.{sums_rise}
 use Rattle.sdf_graph.specs.Rates.{sum_to}
 use Rattle.sdf_actor.specs.Steps.{Steps, phase, total_in, total_out, sum_in, sum_out, block_at, state_at, puts_to}
 
@@ -33,8 +33,8 @@ sum_more : (f : ℕ → ℕ) (i : ℕ) → sum_to f (i + 1) ≡ sum_to f i + f i
 sum_more f i = ap (sum_to f) (add-one i)
 
 -- each term but the last has the later ones behind it
-sum_within : SumsRise → (f : ℕ → ℕ) (i many term : ℕ) → i < many → term ≡ f i → sum_to f i + term ≤ sum_to f many
-sum_within rise f i many term l is = omega (arith, sum_more f i, rise f (i + 1) many (omega arith))
+sum_within : (f : ℕ → ℕ) (i many term : ℕ) → i < many → term ≡ f i → sum_to f i + term ≤ sum_to f many
+sum_within f i many term l is = omega (arith, sum_more f i, sums_rise f (i + 1) many (omega arith))
 
 module _ {A S T : Type 0} (s : Steps A S T) (x : A) (j : ℕ) where
   pub begins : j < s.cycle x → j ≡ phase s x (j + 0)
@@ -47,15 +47,15 @@ module _ {A S T : Type 0} (s : Steps A S T) (x : A) (j : ℕ) where
         (let e : j + i + 1 ≡ j + (i + 1) = omega arith in e))
 
     -- what the firing takes and puts lies behind what was taken and put before it
-    module _ (many now place more long : ℕ) (rise : SumsRise) (at : now ≡ phase s x (j + i)) where
+    module _ (many now place more long : ℕ) (at : now ≡ phase s x (j + i)) where
       pub read_within : more ≡ total_in s x now → place ≡ sum_in s x j i → i < many → long ≡ sum_in s x j many →
           place + more ≤ long
-      read_within is was l all = let e = sum_within rise (λ n. total_in s x (phase s x (j + n))) i many more l
+      read_within is was l all = let e = sum_within (λ n. total_in s x (phase s x (j + n))) i many more l
           (is ∙ ap (total_in s x) at) in omega arith
 
       pub written_within : more ≡ total_out s x now → place ≡ sum_out s x j i → i < many → long ≡ sum_out s x j many →
           place + more ≤ long
-      written_within is was l all = let e = sum_within rise (λ n. total_out s x (phase s x (j + n))) i many more l
+      written_within is was l all = let e = sum_within (λ n. total_out s x (phase s x (j + n))) i many more l
           (is ∙ ap (total_out s x) at) in omega arith
 
     module _ (now place more : ℕ) (at : now ≡ phase s x (j + i)) where

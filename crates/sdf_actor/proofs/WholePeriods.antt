@@ -5,7 +5,7 @@ use Rattle.std.proofs.Math.Nat.{mul_assoc}
 use Rattle.std.proofs.lemmas.Bool.{cases_eq}
 use Rattle.std.proofs.lemmas.List.{get_or-map, length-map}
 use Rattle.std.proofs.lemmas.List.FromFn.{length-map-range_with_len}
-use Rattle.sdf_graph.specs.Laws.{SumsRise, GraphsHavePeriods}
+use Rattle.sdf_graph.specs.Laws.{GraphsHavePeriods}
 use Rattle.sdf_graph.specs.Periods.{IsPeriodVector}
 use Rattle.sdf_graph.specs.Rates.{Shape, Edge, IsShape, IsSound, IsAlike, IsReached, start, along, back, rates, channel}
 use Rattle.sdf_graph.specs.Rates.{cycle, no_channel}
@@ -147,7 +147,7 @@ module _ {A S T : Type 0} (s : Steps A S T) (n : Netlist A T) where
               apart : Some 0 ≡ list_of Outputs (Inner x) → ⊥
               apart same = cc
 
-  module _ (rise : SumsRise) (periods : GraphsHavePeriods) (good : IsNet s n) (shape : IsShape (graph_of s n))
+  module _ (periods : GraphsHavePeriods) (good : IsNet s n) (shape : IsShape (graph_of s n))
       (alike : IsAlike (rates (graph_of s n)) (wiring s n).rates) (q : List ℕ) (accepted : IsAccepted s n q) where
     vector : IsPeriodVector (rates (graph_of s n)) q
     vector = accepted.period.is
@@ -213,4 +213,4 @@ module _ {A S T : Type 0} (s : Steps A S T) (n : Netlist A T) where
     }
       where
         sound : IsSound (wiring s n).rates
-        sound = (wired s n good rise).sound
+        sound = (wired s n good).sound

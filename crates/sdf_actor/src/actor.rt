@@ -128,7 +128,6 @@ pub trait Actor: Sync + Drop {
         if self.fire_at_once(phase, many, state, taken, put) {
             return;
         }
-        sdf_graph::laws::sums_rise();
         let mut now = phase;
         let mut read = 0;
         let mut written = 0;

@@ -15,7 +15,6 @@ use crate::link::Link;
 use crate::net::Net;
 use crate::node::Node;
 use crate::rest::Rest;
-use sdf_graph::laws::sums_rise;
 use std::alloc::{AllocError, Global};
 
 /// A node, where an actor begins in a state.
@@ -139,7 +138,6 @@ impl<A: Actor> Net<A> {
     pub fn first_rest(&self, alloc: Global) -> Result<Rest<A::Token, A::State>, AllocError>
         ensures { IfOk result (λ rest. (inputs : List (List A.Token)) → IsRest A.steps self.now inputs (λ _. 0) rest) }
     {
-        sums_rise();
         Ok(Rest {
             states: first_states(alloc, &self.nodes)?,
             held: first_held(alloc, &self.links)?,
@@ -157,7 +155,6 @@ impl<A: Actor> Net<A> {
         ensures begins { IfOk result (λ net. BeginsWith A.steps (begun_steps A.Actor) self.now rest.now net) }
         ensures graph { IfOk result (λ net. graph_of (begun_steps A.Actor) net ≡ graph_of A.steps self.now) }
     {
-        sums_rise();
         let nodes = nodes_in(alloc, &self.nodes, &rest.states)?;
         let links = links_with(alloc, &self.links, &rest.held)?;
         match Net::new(alloc, nodes, links) {

@@ -9,7 +9,7 @@ use Rattle.sdf_graph.specs.Rates.{sum_to, rate_at}
 use Rattle.sdf_graph.specs.Laws.{ListsSumWithin}
 
 pub sum_to_more : (f : ℕ → ℕ) (i : ℕ) → sum_to f (i + 1) ≡ sum_to f i + f i
-sum_to_more f i = rw add-one refl
+sum_to_more f i = ap (sum_to f) (add-one i)
 
 pub sum_to_rises : (f : ℕ → ℕ) (i j : ℕ) → i ≤ j → sum_to f i ≤ sum_to f j
 sum_to_rises f i zero h = let z : 0 ≡ i = omega arith in subst (λ i. sum_to f i ≤ 0) z (omega arith)

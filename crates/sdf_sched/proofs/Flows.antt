@@ -11,7 +11,7 @@ use Rattle.sdf_graph.specs.declared.channel.End.TheVariants.{Source, Target}
 use Rattle.sdf_graph.specs.Moved.{moves}
 use Rattle.sdf_graph.specs.Rates.{Shape, IsShape, rates, channel, sum_to}
 use Rattle.sdf_sched.specs.Lean.{moved_by}
-use Rattle.sdf_graph.specs.Laws.{SumsGrow}
+use Rattle.sdf_graph.proofs.Theorems.{sums_grow}
 use Rattle.sdf_sched.proofs.Updates.{place_of, stands_at, apart, length_within}
 
 -- the numbers below n + 1 of an end a are those below n, and n where it has that end
@@ -115,16 +115,16 @@ few_own P n xs lists = length_within xs lists.rising n
     (λ c h. let i = place_of xs c h in omega (arith, (lists.each i.0 i.1.0).0, i.1.1))
 
 -- what one firing moves
-step_of : SumsGrow → (f : ℕ → ℕ) (n i : ℕ) → n ≡ i → f i ≡ sum_to f (n + 1) - sum_to f n
-step_of grow f n i e = subst (λ i. f i ≡ sum_to f (n + 1) - sum_to f n) e (omega (arith, grow f n))
+step_of : (f : ℕ → ℕ) (n i : ℕ) → n ≡ i → f i ≡ sum_to f (n + 1) - sum_to f n
+step_of f n i e = subst (λ i. f i ≡ sum_to f (n + 1) - sum_to f n) e (omega (arith, sums_grow f n))
 
 -- what is summed over the list of an actor's channels is what its firing i moves, over all channels
-pub flow_of : SumsGrow → (of : ℕ → ℕ) (rate : ℕ → ℕ → ℕ) (a n m : ℕ) (xs : List ℕ) → ListsExactly (λ c. of c ≡ a) m xs →
+pub flow_of : (of : ℕ → ℕ) (rate : ℕ → ℕ → ℕ) (a n m : ℕ) (xs : List ℕ) → ListsExactly (λ c. of c ≡ a) m xs →
     (i : ℕ) → n ≡ i → (j : ℕ) → length xs ≤ j → (total : ℕ) → total ≡ sum_by (λ c. rate c i) (take j xs) →
     total ≡ sum_by (λ c. cond (eqb (of c) a) (sum_to (rate c) (n + 1) - sum_to (rate c) n) 0) (range_with_len 0 m)
-flow_of grow of rate a n m xs lists i e j past total is =
+flow_of of rate a n m xs lists i e j past total is =
     is ∙ (ap (sum_by (λ c. rate c i)) (take_all j xs past)
-    ∙ (ap (λ (f : ℕ → ℕ). sum_by f xs) (λ z c. step_of grow (rate c) n i e z)
+    ∙ (ap (λ (f : ℕ → ℕ). sum_by f xs) (λ z c. step_of (rate c) n i e z)
     ∙ sym (sum_of_own of a (λ c. sum_to (rate c) (n + 1) - sum_to (rate c) n) m xs lists)))
 
 -- so it is at either end

@@ -18,7 +18,7 @@ use crate::laws::stuck_counts_mean_deadlock;
 use crate::period::Period;
 use crate::pick::Pick;
 use crate::stuck::Stuck;
-use sdf_graph::laws::{graphs_are_sound, sums_rise};
+use sdf_graph::laws::graphs_are_sound;
 use sdf_graph::{Counts, Graph, Repetitions};
 use sdf_limits::MOST_PERIOD;
 use std::alloc::{AllocError, Global};
@@ -183,7 +183,6 @@ fn fire_all<P: Pick>(
         candidates.old.runnable.items candidates.old.awaited.items }
     ensures { IsGoing P.chooses graph.now firings.now pick.old counts.new order.new.items pick.new [] }
 {
-    sums_rise();
     while !candidates.runnable.is_empty() {
         let at = pick.choose(graph, counts, &candidates.runnable);
         order.push_reserved(candidates.runnable[at]);
@@ -226,7 +225,6 @@ fn total(firings: &[u32]) -> usize
     requires { sum firings.now ≤ MOST_PERIOD }
     ensures { result ≡ sum firings.now }
 {
-    sums_rise();
     let mut total = 0;
     for many in firings {
         total += *many as usize;

@@ -6,7 +6,6 @@ ghost use Rattle.sdf_sched.specs.Lean.{moved_by, IsLeaner};
 ghost use Rattle.sdf_sched.specs.Flow.{IsFlow, AreSmall};
 
 use crate::pick::Pick;
-use sdf_graph::laws::sums_rise;
 use sdf_graph::{Counts, End, Graph};
 use sdf_limits::{MOST_LINKS, MOST_RATE};
 
@@ -85,7 +84,6 @@ fn moved_by(graph: &Graph, actor: usize, end: End, i: u32) -> u64
     ensures sum { (k : ℕ → ℕ) → k actor ≡ i → result ≡ moved_by end (rates graph.now) k actor }
     ensures small { result ≤ MOST_RATE * MOST_LINKS }
 {
-    sums_rise();
     let channels = graph.channels();
     let mut moved = 0;
     for channel in graph.channels_at(actor, end) {

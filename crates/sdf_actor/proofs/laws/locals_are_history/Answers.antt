@@ -5,5 +5,5 @@ use Rattle.sdf_actor.proofs.laws.locals_are_history.Goals as goal
 
 pub returns : goal.returns
 returns g c = λ n inputs k own good.
-    locals_are_history (wiring g.A.Actor.steps n) (wired g.A.Actor.steps n good c.sums_rise.ensures.all)
+    locals_are_history (wiring g.A.Actor.steps n) (wired g.A.Actor.steps n good)
     (answers g.A.Actor.steps n inputs) k own

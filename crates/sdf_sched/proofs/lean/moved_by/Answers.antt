@@ -15,7 +15,7 @@ overflow_add-moved c =
 pub returns-clause-sum : goal.returns-clause-sum
 returns-clause-sum c = λ k is.
     flow_at c.args.end c.args.graph.now k c.args.actor c.loop-channel.moved
-    (flow_of c.sums_rise.ensures.one (λ x. actor_at c.args.end (channel c.args.graph.now x))
+    (flow_of (λ x. actor_at c.args.end (channel c.args.graph.now x))
     (λ x. moves c.args.end (channel c.args.graph.now x)) c.args.actor (k c.args.actor)
     (length c.args.graph.now.channels)
     c.channels_at-channel-items.result.now c.channels_at-channel-items.ensures c.args.i is c.loop-channel.channel-index

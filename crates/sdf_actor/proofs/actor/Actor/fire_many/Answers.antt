@@ -23,14 +23,14 @@ pub end_of-reads-requires : goal.end_of-reads-requires
 end_of-reads-requires g c =
     let inv = c.loop.invariant in
     read_within g.Self.Actor.steps c.args.self.now c.args.phase c.loop.counter c.args.many c.loop.now c.loop.read
-    c.samples_in.result (length c.args.taken.now) c.sums_rise.ensures.all inv.now c.samples_in.ensures inv.read
+    c.samples_in.result (length c.args.taken.now) inv.now c.samples_in.ensures inv.read
     c.loop-test.true c.requires.taken
 
 pub end_of-writes-requires : goal.end_of-writes-requires
 end_of-writes-requires g c =
     let inv = c.loop.invariant in
     written_within g.Self.Actor.steps c.args.self.now c.args.phase c.loop.counter c.args.many c.loop.now c.loop.written
-    c.samples_out.result (length c.loop.put) c.sums_rise.ensures.all inv.now c.samples_out.ensures inv.written
+    c.samples_out.result (length c.loop.put) inv.now c.samples_out.ensures inv.written
     c.loop-test.true (inv.long ∙ c.requires.put)
 
 pub loop-preserved : goal.loop-preserved

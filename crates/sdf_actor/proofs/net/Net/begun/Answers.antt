@@ -17,7 +17,7 @@ nodes_in-requires-clause-each g c κs within = λ a h.
     let fits = (g.met.A.Actor g.world.𝓛 g.world.𝓜 g.world.𝓡 ((λ s x. x), (λ x. x), (λ x. x), (λ x. x))).puts_fit in
     subst (λ v. MayBegin s (get_or c.deref-2.result.now a None) (get_or v a (Sink 0 0))) (sym nodes)
     (subst (λ v. MayBegin s (get_or v a None) (get_or c.args.self.now.nodes a (Sink 0 0))) (sym c.deref-2.ensures.value)
-    (may_begin c.sums_rise.ensures.all s fits c.args.self.now good c.requires.rest.0 c.requires.rest.1 c.requires.rest.2
+    (may_begin s fits c.args.self.now good c.requires.rest.0 c.requires.rest.1 c.requires.rest.2
     c.args.rest.now c.requires.rest.3 a (subst (λ v. a < length v) nodes h)))
 
 pub returns-in-Ok-clause-begins : goal.returns-in-Ok-clause-begins

@@ -12,20 +12,19 @@ pub returns : goal.returns
 returns g c = λ inputs.
     let s = g.A.Actor.steps in
     let n = netlist c.self.inside.nodes.items c.self.inside.links.items in
-    let rise = c.sums_rise.ensures.all in
     let good = c.self.invariant.is_net in
     let begins = λ (w : Wire g.row.A-Token.Denot). w.initial in
     let nodes = c.deref.ensures.value in
     let held : lists c.in_ok-first_held.field-0.items ≡ map begins (wires c.self.inside.links.items) =
     c.in_ok-first_held.ensures ∙ ap (λ ls. map begins (wires ls)) c.deref-2.ensures.value in
-    let none = (wired s n good rise).sound.consumed_none in
+    let none = (wired s n good).sound.consumed_none in
     subst (λ v. IsRest s v inputs (λ _. 0) (record {
       states = c.in_ok-first_states.field-0;
       held = c.in_ok-first_held.field-0;
     })) c.self.view_is
     (record {
       history = (wiring s n).starts;
-      is = no_firing rise s n good inputs;
+      is = no_firing s n good inputs;
       left = record {
         nodes = c.in_ok-first_states.ensures.all ∙ ap length nodes;
         states = λ a l. c.in_ok-first_states.ensures.each a (subst (λ v. a < length v) (sym nodes) l)
