@@ -1,17 +1,17 @@
 mod Many
-pub mod Pieces
-pub mod Agree
-pub mod Exists
-pub mod Netlists
-pub mod HistoryLaws
-pub mod Readings
-pub mod Counts
-pub mod Tabling
-pub mod Making
-pub mod Numbers
-pub mod Example
-pub mod Locals
-pub mod Dealt
+mod Pieces
+mod Agree
+mod Exists
+mod Netlists
+mod HistoryLaws
+mod Readings
+mod Counts
+mod Tabling
+mod Making
+mod Numbers
+mod Example
+mod Locals
+mod Dealt
 mod GoesOn
 mod Continuing
 mod Fitting

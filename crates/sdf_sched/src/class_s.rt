@@ -18,7 +18,6 @@ use crate::laws::stuck_counts_mean_deadlock;
 use crate::period::Period;
 use crate::pick::Pick;
 use crate::stuck::Stuck;
-use sdf_graph::laws::graphs_are_sound;
 use sdf_graph::{Counts, Graph, Repetitions};
 use sdf_limits::MOST_PERIOD;
 use std::alloc::{AllocError, Global};
@@ -143,7 +142,6 @@ fn fire(graph: &Graph, firings: &[u32], at: usize, counts: &mut Counts, candidat
         candidates.new.runnable.items candidates.new.awaited.items }
     ensures capacity { vec_capacity candidates.new.runnable ≡ vec_capacity candidates.old.runnable }
 {
-    graphs_are_sound();
     let channels = graph.channels();
     let actor = candidates.runnable[at];
     counts.fire(actor);
@@ -281,7 +279,6 @@ pub fn class_s<P: Pick>(
 {
     // the graph has a shape, so its rates are sound, and counts that are stuck mean a deadlock
     graph.channels();
-    graphs_are_sound();
     stuck_counts_mean_deadlock();
     reps.period();
     let mut done = Vec::with_capacity(alloc, reps.len())?;
@@ -316,7 +313,6 @@ pub fn class_s_of<P: Pick>(
     ensures unmoved { IfErr result (λ _. pick.new ≡ pick.old) }
 {
     graph.channels();
-    graphs_are_sound();
     stuck_counts_mean_deadlock();
     let (_, order) = fire_greedily(alloc, graph, firings, pick)?;
     Ok(order)

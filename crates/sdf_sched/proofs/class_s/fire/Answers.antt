@@ -5,6 +5,7 @@ use Rattle.std.proofs.lemmas.List.{get_or_read}
 use Rattle.sdf_graph.specs.Rates.{Edge, channel, rates, Shape, no_channel}
 use Rattle.sdf_graph.specs.Sequences.{IsRunnable}
 use Rattle.sdf_graph.specs.Tally.{Tally}
+use Rattle.sdf_graph.proofs.Theorems.{graphs_are_sound}
 use Rattle.sdf_sched.specs.ClassS.{IsTested}
 use Rattle.sdf_sched.proofs.Updates.{stands_at}
 use Rattle.sdf_sched.proofs.Runnable.{after_firing, all_caught_up, from_start, from_none, next_tested, next_passed}
@@ -34,7 +35,7 @@ loop-channel-init c =
     (stands_at xs _ c.args.at c.requires.place refl)).0 in
     record {
       list = after_firing c.args.graph.now c.fire.new.self.graph same
-          (c.graphs_are_sound.ensures c.args.graph.now c.channels-channels.ensures.shape) _ c.args.counts.now.fired
+          (graphs_are_sound c.args.graph.now c.channels-channels.ensures.shape) _ c.args.counts.now.fired
           c.fire.new.self.fired c.index-actor.result.now (omega (arith, c.requires.each))
           (ap (λ (t : Tally). t.fired) c.fire.ensures)
           xs c.dismiss.new.candidates.runnable.items ws c.dismiss.new.candidates.awaited.items c.requires.list
