@@ -17,3 +17,4 @@ mod Continuing
 mod Fitting
 mod BegunGraphs
 mod WholePeriods
+pub mod Theorems

@@ -18,3 +18,4 @@ mod BegunLists
 mod Begun
 mod ByTurns
 mod TwoPorts
+mod GraphTheorems

@@ -8,7 +8,6 @@ ghost use Rattle.sdf_actor.specs.Nets.{node, wiring, cycle_of, IsNet};
 ghost use Rattle.sdf_actor.specs.NetFaults.{IsAccepted};
 ghost use Rattle.sdf_answer.specs.Feeds.{FeedsGoOn, BegunNetsAsk, BegunNetsMake, SinksMakeRuns, NothingRuns};
 ghost use Rattle.sdf_answer.specs.Feeds.{PeriodsMayLeave, BegunRunsGoOn, BegunRunsFail};
-ghost use Rattle.sdf_answer.specs.GraphLaws.{GraphLaws};
 ghost use Rattle.sdf_answer.specs.Periods.{HasPeriod, HasSinks, AreBlocksSmall};
 ghost use Rattle.sdf_answer.specs.Laws.{RunsGoOn, NetsCanRun, HistoriesBegin, SinksTakeAll, SinksMakeOutputs};
 ghost use Rattle.sdf_answer.specs.Laws.{NothingMakesNothing};
@@ -19,9 +18,6 @@ use sdf_actor::laws::{
     rests_go_on, taken_stays,
 };
 use sdf_actor::{Actor, Net};
-use sdf_graph::laws::{
-    alike_sequences, graphs_are_sound, graphs_have_periods, one_least_period, periods_repeat,
-};
 
 /// The facts that a run stands on, as the net's accessors have them.
 pub fn net_facts<A: Actor>(net: &Net<A>)
@@ -52,29 +48,15 @@ pub fn blocks_are_small<A: Actor>(net: &Net<A>)
     nets_are_wired::<A>();
 }
 
-/// The laws of graphs that the laws of runs stand on.
-fn graph_laws()
-    ensures { GraphLaws }
-{
-    graphs_are_sound();
-    graphs_have_periods();
-    one_least_period();
-    periods_repeat();
-    alike_sequences();
-}
-
 /// A net that has a period can be run for as many as its inputs reach.
 pub fn nets_can_run<A: Actor>()
     ensures { NetsCanRun A.steps }
-{
-    graph_laws();
-}
+{}
 
 /// A run of more periods goes on where one of fewer ends: its outputs begin with those.
 pub fn runs_go_on<A: Actor>()
     ensures { RunsGoOn A.steps }
 {
-    graph_laws();
     nets_are_wired::<A>();
     one_history::<A>();
     histories_grow::<A>();
@@ -86,7 +68,6 @@ pub fn feeds_go_on<A: Actor, B: Actor<Token = A::Token, State = A::State>>()
     ensures inputs { BegunNetsAsk A.steps B.steps }
     ensures outputs { BegunNetsMake A.steps B.steps }
 {
-    graph_laws();
     periods_are_whole::<A>();
     rests_go_on::<A, B>();
 }
@@ -97,7 +78,6 @@ pub fn begun_nets_go_on<A: Actor, B: Actor<Token = A::Token, State = A::State>>(
     ensures runs { BegunRunsGoOn A.steps B.steps }
     ensures faults { BegunRunsFail A.steps B.steps }
 {
-    graph_laws();
     periods_are_whole::<A>();
     feeds_go_on::<A, B>();
 }

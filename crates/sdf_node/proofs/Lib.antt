@@ -1,6 +1,6 @@
-pub mod Nodes
-pub mod Stepping
-pub mod Collected
-pub mod Joined
-pub mod ManyFirings
-pub mod Keeping
+mod Nodes
+mod Stepping
+mod Collected
+mod Joined
+mod ManyFirings
+mod Keeping

@@ -1,8 +1,9 @@
+use Rattle.sdf_answer.proofs.GraphTheorems.{graph_laws}
 use Rattle.sdf_answer.proofs.Begun.{periods_may_leave, begun_runs_go_on, begun_runs_fail}
 use Rattle.sdf_answer.proofs.laws.begun_nets_go_on.Goals as goal
 
 pub returns-clause-whole : goal.returns-clause-whole
-returns-clause-whole g c = periods_may_leave c.graph_laws.ensures g.A.Actor.steps c.periods_are_whole.ensures
+returns-clause-whole g c = periods_may_leave graph_laws g.A.Actor.steps c.periods_are_whole.ensures
 
 pub returns-clause-runs : goal.returns-clause-runs
 returns-clause-runs g c = begun_runs_go_on g.A.Actor.steps g.B.Actor.steps c.feeds_go_on.ensures.runs

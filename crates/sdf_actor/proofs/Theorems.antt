@@ -1,0 +1,64 @@
+-- What proofs of other crates cite of this one: laws of histories and nets, by their lemmas, for actors of any steps.
+use Rattle.std.proofs.Common.{◌∙◌, length, arith}
+use Rattle.std.proofs.lemmas.List.{take_all}
+use Rattle.sdf_graph.proofs.Theorems.{graphs_have_periods}
+use Rattle.sdf_actor.specs.GoingOn.{HistoriesGoOn, RestsGoOn, ArrivalsGoOn, PeriodsAreWhole}
+use Rattle.sdf_actor.specs.Laws.{HistoryIsUnique, HistoriesGrow, NetsAreWired, PortsHaveChannels, TakenStays}
+use Rattle.sdf_actor.specs.Laws.{PutIsDealt, PutStays}
+use Rattle.sdf_actor.specs.Locals.{LocalsBegin, LocalsGrow, LocalsMeet}
+use Rattle.sdf_actor.specs.Nets.{wiring, answers}
+use Rattle.sdf_actor.specs.Steps.{Steps}
+use Rattle.sdf_actor.proofs.Agree.{taken_before_agrees}
+use Rattle.sdf_actor.proofs.Continuing.{history_goes_on, rest_goes_on, arrivals_go_on as arrivals_on}
+use Rattle.sdf_actor.proofs.Dealt.{put_is_dealt as is_dealt, put_agrees}
+use Rattle.sdf_actor.proofs.HistoryLaws.{history_is_unique as is_unique, histories_grow as all_grow}
+use Rattle.sdf_actor.proofs.Locals.{local_begins, local_grows, locals_are_history}
+use Rattle.sdf_actor.proofs.Netlists.{wired, to_port_is, from_port_is}
+use Rattle.sdf_actor.proofs.WholePeriods.{are_whole}
+
+pub history_is_unique : {A S T : Type 0} (s : Steps A S T) → HistoryIsUnique s
+history_is_unique = is_unique
+
+pub histories_grow : {A S T : Type 0} (s : Steps A S T) → HistoriesGrow s
+histories_grow = all_grow
+
+pub nets_are_wired : {A S T : Type 0} (s : Steps A S T) → NetsAreWired s
+nets_are_wired = wired
+
+pub ports_have_channels : {A S T : Type 0} (s : Steps A S T) → PortsHaveChannels s
+ports_have_channels s n a p good known = (to_port_is s n good a p known, from_port_is s n good a p known)
+
+pub taken_stays : {A S T : Type 0} (s : Steps A S T) → TakenStays s
+taken_stays s n V W a i good known within on =
+    taken_before_agrees (wiring s n) (wired s n good) V W (λ d. length (V d)) a i known within
+    (λ d l. take_all (length (V d)) (V d) (omega arith) ∙ on d l) i (omega arith)
+
+pub put_is_dealt : {A S T : Type 0} (s : Steps A S T) → PutIsDealt s
+put_is_dealt s n V ch i good = is_dealt (wiring s n) (wired s n good) V ch i
+
+pub put_stays : {A S T : Type 0} (s : Steps A S T) → PutStays s
+put_stays s n V W a i good = put_agrees (wiring s n) (wired s n good) V W a i
+
+pub locals_begin : {A S T : Type 0} (s : Steps A S T) → LocalsBegin s
+locals_begin s n inputs a good = local_begins (wiring s n) (wired s n good) (answers s n inputs) a
+
+pub locals_grow : {A S T : Type 0} (s : Steps A S T) → LocalsGrow s
+locals_grow s n inputs a k V W b good known local once =
+    local_grows (wiring s n) (wired s n good) (answers s n inputs) a k known V W local b once
+
+pub locals_meet : {A S T : Type 0} (s : Steps A S T) → LocalsMeet s
+locals_meet s n inputs k own good =
+    locals_are_history (wiring s n) (wired s n good) (answers s n inputs) k own
+
+pub periods_are_whole : {A S T : Type 0} (s : Steps A S T) → PeriodsAreWhole s
+periods_are_whole s n q b good shape alike accepted =
+    are_whole s n graphs_have_periods good shape alike q accepted b
+
+pub histories_go_on : {A B S T : Type 0} (s : Steps A S T) (r : Steps B S T) → HistoriesGoOn s r
+histories_go_on s r n m first later all k i V U rest h = history_goes_on s r n m first later k i V U rest h all
+
+pub rests_go_on : {A B S T : Type 0} (s : Steps A S T) (r : Steps B S T) → RestsGoOn s r
+rests_go_on s r n m first later k i V U rest last h = rest_goes_on s r n m first later k i V U rest h last
+
+pub arrivals_go_on : {A B S T : Type 0} (s : Steps A S T) (r : Steps B S T) → ArrivalsGoOn s r
+arrivals_go_on s r n m first later k i V U rest h = arrivals_on s r n m first later k i V U rest h
