@@ -1,7 +1,8 @@
-pub mod Names
-pub mod Lists
-pub mod Turns
-pub mod Tables
-pub mod FirstSeen
-pub mod Keys
-pub mod Within
+mod Names
+mod Lists
+mod Turns
+mod Tables
+mod FirstSeen
+mod Keys
+mod Within
+pub mod Theorems

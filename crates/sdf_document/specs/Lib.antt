@@ -9,3 +9,4 @@ pub mod Kinds
 pub mod Actors
 pub mod Links
 pub mod Document
+pub mod Laws

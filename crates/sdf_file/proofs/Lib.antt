@@ -1,5 +1,5 @@
-pub mod Limits
-pub mod Moves
-pub mod Whole
-pub mod Lines
-pub mod Stretches
+mod Limits
+mod Moves
+mod Whole
+mod Lines
+mod Stretches

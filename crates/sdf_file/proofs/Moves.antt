@@ -4,7 +4,7 @@ use Rattle.std.proofs.Common.{arith}
 use Rattle.std.specs.List.{fold}
 use Rattle.sdf_document.specs.Document.{first_seen, AreDistinct}
 use Rattle.sdf_document.specs.Names.{with_name}
-use Rattle.sdf_document.proofs.FirstSeen.{first_seen_push}
+use Rattle.sdf_document.proofs.Theorems.{first_seen_grows}
 
 pub nothing_left : {X : Type 0} (l : List X) → length l ≡ 0 → l ≡ []
 nothing_left [] h = refl
@@ -36,7 +36,7 @@ named_more f made later total rest left x is put so_far =
 all_put : (done left : List (List ℕ)) → fold with_name (first_seen done) left ≡ first_seen (done ++ left)
 all_put done [] = ap first_seen (sym (append-nil done))
 all_put done (x ∷ left) =
-    ap (λ names. fold with_name names left) (sym (first_seen_push done x))
+    ap (λ names. fold with_name names left) (sym (first_seen_grows done x))
     ∙ (all_put (done ++ x ∷ []) left ∙ ap first_seen (append_assoc done (x ∷ []) left))
 
 -- all names of a list, where none stands twice
