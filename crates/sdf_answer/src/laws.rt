@@ -13,10 +13,7 @@ ghost use Rattle.sdf_answer.specs.Laws.{RunsGoOn, NetsCanRun, HistoriesBegin, Si
 ghost use Rattle.sdf_answer.specs.Laws.{NothingMakesNothing};
 ghost use Rattle.sdf_answer.specs.Laws.{BlocksAreCounted, NodesTakeTheirs, PlansFit, BlocksStand, FiringsMoveOn};
 
-use sdf_actor::laws::{
-    histories_grow, history_grows_by_firing, nets_are_wired, one_history, periods_are_whole,
-    rests_go_on, taken_stays,
-};
+use sdf_actor::laws::{history_grows_by_firing, one_history};
 use sdf_actor::{Actor, Net};
 
 /// The facts that a run stands on, as the net's accessors have them.
@@ -28,7 +25,6 @@ pub fn net_facts<A: Actor>(net: &Net<A>)
     ensures phases { (a : ℕ) → a < length net.now.nodes → 0 < cycle_of A.steps (node net.now a) }
     ensures sinks { HasSinks net.now }
 {
-    periods_are_whole::<A>();
     let _channels = net.graph().channels();
     let _repetitions = net.repetitions();
 }
@@ -45,7 +41,6 @@ pub fn blocks_are_small<A: Actor>(net: &Net<A>)
     ensures { AreBlocksSmall A.steps net.now }
 {
     net_facts(net);
-    nets_are_wired::<A>();
 }
 
 /// A net that has a period can be run for as many as its inputs reach.
@@ -57,9 +52,7 @@ pub fn nets_can_run<A: Actor>()
 pub fn runs_go_on<A: Actor>()
     ensures { RunsGoOn A.steps }
 {
-    nets_are_wired::<A>();
     one_history::<A>();
-    histories_grow::<A>();
 }
 
 /// A run that is fed in pieces makes, joined, what one run makes, and leaves what it leaves.
@@ -67,10 +60,7 @@ pub fn feeds_go_on<A: Actor, B: Actor<Token = A::Token, State = A::State>>()
     ensures runs { FeedsGoOn A.steps B.steps }
     ensures inputs { BegunNetsAsk A.steps B.steps }
     ensures outputs { BegunNetsMake A.steps B.steps }
-{
-    periods_are_whole::<A>();
-    rests_go_on::<A, B>();
-}
+{}
 
 /// A net that begins with what periods left is run in place of the net, from there on.
 pub fn begun_nets_go_on<A: Actor, B: Actor<Token = A::Token, State = A::State>>()
@@ -78,7 +68,6 @@ pub fn begun_nets_go_on<A: Actor, B: Actor<Token = A::Token, State = A::State>>(
     ensures runs { BegunRunsGoOn A.steps B.steps }
     ensures faults { BegunRunsFail A.steps B.steps }
 {
-    periods_are_whole::<A>();
     feeds_go_on::<A, B>();
 }
 
@@ -88,31 +77,23 @@ pub fn histories_make_outputs<A: Actor>()
     ensures took { SinksTakeAll A.steps }
     ensures outputs { SinksMakeOutputs A.steps }
     ensures nothing { NothingMakesNothing A.steps }
-{
-    nets_are_wired::<A>();
-}
+{}
 
 /// What its sinks took and what is left is a run.
 pub fn histories_make_runs<A: Actor>()
     ensures runs { SinksMakeRuns A.steps }
     ensures nothing { NothingRuns A.steps }
-{
-    nets_are_wired::<A>();
-}
+{}
 
 /// A node takes from the channels that lead to it, each at one of its ports, and from no other.
 pub fn nodes_take_theirs<A: Actor>()
     ensures { NodesTakeTheirs A.steps }
-{
-    nets_are_wired::<A>();
-}
+{}
 
 /// The sizes of a firing fit its node's ports.
 pub fn plans_fit<A: Actor>()
     ensures { PlansFit A.steps }
-{
-    nets_are_wired::<A>();
-}
+{}
 
 /// A firing of an enabled node takes its block from the front of its channels, and they go on from one history to the
 /// next.
@@ -121,8 +102,6 @@ pub fn firings_move_on<A: Actor>()
     ensures stand { BlocksStand A.steps }
     ensures moves { FiringsMoveOn A.steps }
 {
-    nets_are_wired::<A>();
     plans_fit::<A>();
-    taken_stays::<A>();
     history_grows_by_firing::<A>();
 }

@@ -9,7 +9,6 @@ ghost use Rattle.sdf_actor.specs.Wires.{lists};
 ghost use Rattle.sdf_answer.specs.Sizes.{AreSizes, AreRows, at_phase, rates_on, rows_on};
 
 use crate::laws::net_facts;
-use sdf_actor::laws::nets_are_wired;
 use sdf_actor::{Actor, Net, Side};
 use sdf_graph::Channel;
 use std::alloc::{AllocError, Global};
@@ -76,7 +75,6 @@ impl Sizes {
         ensures { IfOk result (λ v. AreRows A.steps side (node net.now a) (lists v.items)) }
     {
         net_facts(net);
-        nets_are_wired::<A>();
         let channels = channels_of(net, a, side);
         let mut rows = Vec::new(alloc);
         for phase in 0..net.node(a).cycle() {
