@@ -1,9 +1,9 @@
 -- What meets at a channel, at shares of the actors.
-use Rattle.std.proofs.Common.{◌≡◌, ℕ, ◌*◌, ◌≤◌, ◌<◌, List, length, sym, ap, ◌∙◌, subst}
+use Rattle.std.proofs.Common.{◌≡◌, ℕ, ◌*◌, ◌≤◌, ◌<◌, List, length, sym, ap, ◌∙◌, subst, arith}
 use Rattle.std.proofs.Math.Nat.{mul-le-mul}
 use Rattle.sdf_limits.specs.declared.TheConstants.{MOST_PERIOD}
 use Rattle.sdf_graph.specs.Rates.{Shape, IsShape, channel, cycle}
-use Rattle.sdf_graph.specs.Shares.{AreShares, IsReduced, ratio, totals}
+use Rattle.sdf_graph.specs.Shares.{AreShares, IsReduced, IsEven, IsEvenAt, ratio, totals}
 use Rattle.sdf_graph.specs.Meetings.{IsMeeting}
 use Rattle.sdf_graph.specs.declared.channel.Totals.{Totals}
 use Rattle.sdf_graph.specs.declared.repetitions.Ratio.{Ratio}
@@ -46,3 +46,16 @@ meets g shape parts shares c known t e turns red m source target puts takes = re
 
     answered : m.target ≡ turns.den * cycle g (channel g c).to
     answered = target ∙ ap (λ (t : Totals). turns.den * cycle g t.to) e
+
+-- where as much is put as is taken, the shares balance the channel
+pub evenly : (g : Shape) (parts : List Ratio) (c : ℕ) (t : Totals) → t ≡ totals (channel g c) → (turns : Ratio) →
+    IsReduced ((ratio parts t.from).num * (ratio parts t.to).den) ((ratio parts t.to).num * (ratio parts t.from).den)
+    turns.num turns.den →
+    turns.num * t.put ≡ turns.den * t.take → IsEvenAt g parts c
+evenly g parts c t e turns red same = subst (IsEven parts) e
+    (omega (
+      arith,
+      ap (λ m. m * t.put) red.top,
+      ap (λ m. m * t.take) red.bottom,
+      ap (λ m. red.scale * m) same,
+    ))

@@ -1,6 +1,6 @@
 -- Whole cycles and their firings: the period vectors of a graph are the vectors that balance what cycles move, by the
 -- lengths of the cycles.
-use Rattle.std.proofs.Common.{◌≡◌, ℕ, ◌*◌, ◌/◌, ◌≤◌, ◌<◌, List, length, get_or, map, sum, sym, ap, ◌∙◌, subst, inl, inr}
+use Rattle.std.proofs.Common.{◌≡◌, ℕ, ◌*◌, ◌/◌, ◌≤◌, ◌<◌, Bool, List, length, get_or, map, sum, sym, ap, ◌∙◌, subst, inl, inr}
 use Rattle.std.proofs.Common.{◌⊎◌, arith, zero-add}
 use Rattle.std.specs.List.{range_with_len}
 use Rattle.std.proofs.Math.Nat.{mul-div_cancel, mul-le-mul_left}
@@ -8,12 +8,15 @@ use Rattle.std.proofs.lemmas.List.{get_or_past}
 use Rattle.std.proofs.lemmas.List.FromFn.{length-map-range_with_len, get_or-map-range_with_len}
 use Rattle.std.proofs.lemmas.Bool.{cases_lt}
 use Rattle.sdf_graph.specs.Rates.{Shape, IsShape, rates, channel, cycle}
-use Rattle.sdf_graph.specs.Periods.{IsPeriodVector, IsLeastPeriod, IsMultiple, IsPeriodFault}
+use Rattle.sdf_graph.specs.Periods.{IsPeriodVector, IsLeastPeriod, IsMultiple}
+use Rattle.sdf_graph.specs.Faults.{IsPeriodFault}
 use Rattle.sdf_graph.specs.declared.fault.GraphFault.{GraphFault}
 use Rattle.sdf_graph.specs.declared.fault.GraphFault.TheVariants.{OutOfMemory, PeriodTooLong}
 use Rattle.sdf_graph.specs.declared.repetitions.Ratio.{Ratio}
 use Rattle.sdf_graph.specs.Shares.{IsCycleVector, AreShares, IsCommon, IsEven, IsScaleFault, ratio, firings, turns}
-use Rattle.sdf_graph.specs.Shares.{totals, IsShareFault}
+use Rattle.sdf_graph.specs.Shares.{totals, IsShare}
+use Rattle.sdf_graph.specs.Marks.{IsBorder}
+use Rattle.sdf_limits.specs.declared.TheConstants.{MOST_PERIOD}
 use Rattle.sdf_graph.proofs.Marks.{border_in}
 use Rattle.sdf_graph.proofs.Cycles.{sum_within}
 use Rattle.sdf_graph.proofs.Shapes.{whole_cycles}
@@ -167,10 +170,9 @@ module _ (g : Shape) (shape : IsShape g) where
     fault_of PeriodTooLong f = λ p period. omega (arith, least_period.least p period, f)
     fault_of _ f = absurd f
 
--- no period where an actor's share is too great
-pub share_fault : (g : Shape) (e : GraphFault) → IsShareFault g e → IsPeriodFault g e
-share_fault g OutOfMemory f = tt
-share_fault g PeriodTooLong far =
-    none_long g far.shape (too_long g far.actor far.share
-    (border_in g far.shape far.marked far.channel far.actor far.border) far.shape.some far.is_share far.far)
-share_fault g _ f = absurd f
+-- no period where the share of the actor beyond a border is too great
+pub share_long : (g : Shape) → IsShape g → (marked : List Bool) (c a : ℕ) → IsBorder g.channels marked c a →
+    (f : Ratio) → IsShare g a f → (MOST_PERIOD < f.num) ⊎ (MOST_PERIOD < f.den) →
+    (p : List ℕ) → IsPeriodVector (rates g) p → MOST_PERIOD < sum p
+share_long g shape marked c a border f share far =
+    none_long g shape (too_long g a f (border_in g shape marked c a border) shape.some share far)

@@ -5,7 +5,7 @@ use Rattle.std.proofs.Math.Nat.{mul-div_cancel, eq_of_mul-eq-mul_left, mul-le-mu
 use Rattle.std.proofs.lemmas.List.{get_or-map, get_or_past, length-map, get_or-set_same, get_or-set_other, length-set}
 use Rattle.std.proofs.lemmas.List.{length-replicate, get_or-replicate}
 use Rattle.std.proofs.lemmas.List.Sums.{get_or-le-sum_by}
-use Rattle.std.proofs.lemmas.Bool.{cases_lt, cases_eq}
+use Rattle.std.proofs.lemmas.Bool.{cases_lt, cases_eq, both_ways}
 use Rattle.sdf_graph.specs.Rates.{Shape, Edge, IsShape, channel, no_channel}
 use Rattle.sdf_graph.specs.Periods.{Divides, IsMultiple}
 use Rattle.sdf_graph.specs.Marks.{is_marked, IsClosed}
@@ -14,7 +14,7 @@ use Rattle.sdf_graph.proofs.Ties.{tied_by}
 use Rattle.sdf_graph.specs.declared.channel.Totals.{Totals}
 use Rattle.sdf_graph.specs.declared.repetitions.Ratio.{Ratio}
 use Rattle.sdf_graph.specs.Shares.{IsReduced, IsShare, IsSmall, IsWalk, AreShares, IsCommon, IsEven, IsCycleVector}
-use Rattle.sdf_graph.specs.Shares.{IsTied, start, IsEvenAt, IsEvenWithin, ratio, unreached, turns, totals, no_totals}
+use Rattle.sdf_graph.specs.Shares.{IsTied, start, IsEvenAt, IsEvenWithin, ratio, unreached, one, turns, totals, no_totals}
 
 -- what channels move in a cycle, read by number
 pub totals_read : (chs : List Edge) (c : ℕ) → c < length chs →
@@ -244,22 +244,23 @@ module _ (g : Shape) (shape : IsShape g) (parts : List Ratio) (marked : List Boo
       }
 
 -- at first actor 0 alone has its share, which is one
-pub first_share : (g : Shape) (parts : List Ratio) (n : ℕ) → parts ≡ replicate g.actors (record { num = 1; den = 1 }) →
+pub first_share : (g : Shape) (parts : List Ratio) (n : ℕ) → parts ≡ replicate g.actors one →
     0 < g.actors → 0 < n → IsWalk g parts (set (replicate n false) 0 true)
 first_share g parts n are some marks = record {
   all = ap length are ∙ length-replicate g.actors _;
+  first = is_one;
   begun = get_or-set_same (replicate n false) 0 true false (omega (arith, length-replicate n false));
   each = λ a h on. subst (λ a. IsShare g a (ratio parts a) × IsSmall (ratio parts a)) (sym (only_first n a on))
-      (subst (λ (x : Ratio). IsShare g 0 x × IsSmall x) (sym one)
+      (subst (λ (x : Ratio). IsShare g 0 x × IsSmall x) (sym is_one)
       (share, record { top = omega arith; bottom = omega arith }));
   tied = λ a on. subst (IsTied g (IsEvenWithin g parts (set (replicate n false) 0 true)))
       (sym (only_first n a on)) start;
 }
   where
-    one : ratio parts 0 ≡ record { num = 1; den = 1 }
-    one = ap (λ (xs : List Ratio). ratio xs 0) are ∙ get_or-replicate g.actors 0 _ unreached some
+    is_one : ratio parts 0 ≡ one
+    is_one = ap (λ (xs : List Ratio). ratio xs 0) are ∙ get_or-replicate g.actors 0 _ unreached some
 
-    share : IsShare g 0 (record { num = 1; den = 1 })
+    share : IsShare g 0 one
     share = record {
       top_some = omega arith;
       bottom_some = omega arith;
@@ -269,11 +270,13 @@ first_share g parts n are some marks = record {
 
 -- one actor more
 pub walk_more : (g : Shape) (parts : List Ratio) (marked : List Bool) (a : ℕ) (f : Ratio) → IsWalk g parts marked →
-    a < length marked → IsShare g a f → IsSmall f →
+    a < length marked → is_marked marked a ≡ false → IsShare g a f → IsSmall f →
     ((b : ℕ) → is_marked (set marked a true) b ≡ true →
     IsTied g (IsEvenWithin g (set parts a f) (set marked a true)) b) → IsWalk g (set parts a f) (set marked a true)
-walk_more g parts marked a f walk within share small tied = record {
+walk_more g parts marked a f walk within fresh share small tied = record {
   all = length-set parts a f ∙ walk.all;
+  first = get_or-set_other parts a 0 f unreached (λ same. both_ways (is_marked marked 0)
+      (ap (is_marked marked) same ∙ fresh) walk.begun) ∙ walk.first;
   begun = is_marked-kept marked a 0 within walk.begun;
   each = λ b h on. each b h (cases_eq b a) on;
   tied = tied;
@@ -295,6 +298,7 @@ pub walked : (g : Shape) (shape : IsShape g) (parts : List Ratio) (marked : List
     IsClosed g.channels marked → AreShares g parts
 walked g shape parts marked walk closed = record {
   all = walk.all;
+  first = walk.first;
   each = λ a h. walk.each a h (marks a h);
   tied = λ a h. tied_by g (IsEvenWithin g parts marked) (IsEvenAt g parts) (λ c e. e.even) a (walk.tied a (marks a h));
 }

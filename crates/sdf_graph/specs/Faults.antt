@@ -1,11 +1,17 @@
--- The faults of a graph, in the order of their tests. The first one that holds is the one that is answered.
-use Rattle.std.specs.Prelude.{◌≡◌, ℕ, ◌+◌, ◌<◌, ◌==◌, ◌&&◌, ◌||◌, Bool, true, List, [], ◌∷◌, length, sum, nat_le}
+-- The faults of a graph, in the order of their tests: the first one that holds is the one that is answered. And why a
+-- graph has no period.
+use Rattle.std.specs.Prelude.{◌≡◌, ◌≢◌, ℕ, ◌+◌, ◌<◌, ◌==◌, ◌&&◌, ◌||◌, Bool, true, List, [], ◌∷◌, length, sum, nat_le}
 use Rattle.std.specs.Prelude.{nat_lt, Option, Some, None, if◌then◌else◌}
 use Rattle.sdf_limits.specs.declared.TheConstants.{MOST_ACTORS, MOST_LINKS, MOST_RATE, MOST_CYCLE, MOST_INITIAL}
-use Rattle.sdf_graph.specs.Rates.{Shape, Edge, IsReached, cycle_among}
+use Rattle.sdf_limits.specs.declared.TheConstants.{MOST_PERIOD}
+use Rattle.sdf_graph.specs.Rates.{Shape, Edge, IsReached, cycle_among, rates}
+use Rattle.sdf_graph.specs.Periods.{IsPeriodVector}
+use Rattle.sdf_graph.specs.Meetings.{IsMeeting}
+use Rattle.sdf_graph.specs.declared.meeting.Meeting.{Meeting}
 use Rattle.sdf_graph.specs.declared.fault.GraphFault.{GraphFault}
 use Rattle.sdf_graph.specs.declared.fault.GraphFault.TheVariants.{OutOfMemory, ActorCount, ChannelCount, BadEnd}
 use Rattle.sdf_graph.specs.declared.fault.GraphFault.TheVariants.{BadRate, CycleLength, InitialCount, NotConnected}
+use Rattle.sdf_graph.specs.declared.fault.GraphFault.TheVariants.{Inconsistent, PeriodTooLong}
 
 abbrev pub is_within : ℕ → ℕ → ℕ → Bool
 is_within least most n = nat_le least n && nat_le n most
@@ -82,3 +88,16 @@ abbrev pub IsFirstFault : Shape → GraphFault → Type 0
 IsFirstFault g OutOfMemory = Unit {0}
 IsFirstFault g (NotConnected a) = (numbers_fault g ≡ None) × IsLowestUnreached g a
 IsFirstFault g fault = numbers_fault g ≡ Some fault
+
+-- no period vector balances all channels, and what meets at channel c differs
+pub record IsInconsistent (g : Shape) (c : ℕ) (m : Meeting) : Type 0 where
+  pub none : (p : List ℕ) → IsPeriodVector (rates g) p → ⊥
+  pub meets : IsMeeting g c m
+  pub differs : m.puts ≢ m.takes
+
+-- why there is no period: a refusal is true of the graph
+abbrev pub IsPeriodFault : Shape → GraphFault → Type 0
+IsPeriodFault g OutOfMemory = Unit {0}
+IsPeriodFault g (Inconsistent c m) = IsInconsistent g c m
+IsPeriodFault g PeriodTooLong = (p : List ℕ) → IsPeriodVector (rates g) p → MOST_PERIOD < sum p
+IsPeriodFault g _ = ⊥

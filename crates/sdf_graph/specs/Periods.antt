@@ -1,9 +1,6 @@
 -- Period vectors, and which is the least.
 use Rattle.std.specs.Prelude.{◌≡◌, ℕ, ◌*◌, ◌≤◌, ◌<◌, List, length, slice_index, sum}
-use Rattle.sdf_limits.specs.declared.TheConstants.{MOST_PERIOD}
-use Rattle.sdf_graph.specs.Rates.{Rates, Shape, rates}
-use Rattle.sdf_graph.specs.declared.fault.GraphFault.{GraphFault}
-use Rattle.sdf_graph.specs.declared.fault.GraphFault.TheVariants.{OutOfMemory, Inconsistent, PeriodTooLong}
+use Rattle.sdf_graph.specs.Rates.{Rates}
 
 -- d divides n
 abbrev pub Divides : ℕ → ℕ → Type 0
@@ -26,10 +23,3 @@ pub record IsLeastPeriod (r : Rates) (q : List ℕ) : Type 0 where
   pub is : IsPeriodVector r q
   pub least : (p : List ℕ) → IsPeriodVector r p → sum q ≤ sum p
   pub divides : (p : List ℕ) → IsPeriodVector r p → IsMultiple p q
-
--- why there is no answer: a refusal is true of the graph
-abbrev pub IsPeriodFault : Shape → GraphFault → Type 0
-IsPeriodFault g OutOfMemory = Unit {0}
-IsPeriodFault g (Inconsistent c) = (c < length g.channels) × ((p : List ℕ) → IsPeriodVector (rates g) p → ⊥)
-IsPeriodFault g PeriodTooLong = (p : List ℕ) → IsPeriodVector (rates g) p → MOST_PERIOD < sum p
-IsPeriodFault g _ = ⊥

@@ -1,11 +1,11 @@
 -- What the walk over the channels knows: each reached actor's share of actor 0's cycles.
-use Rattle.std.specs.Prelude.{◌≡◌, ℕ, ◌*◌, ◌/◌, ◌≤◌, ◌<◌, ◌⊎◌, Bool, true, List, length, map, sum, slice_index}
-use Rattle.std.specs.Prelude.{slice_index_or, set}
+use Rattle.std.specs.Prelude.{◌≡◌, ℕ, ◌*◌, ◌/◌, ◌≤◌, ◌<◌, Bool, true, List, length, map, sum, slice_index}
+use Rattle.std.specs.Prelude.{slice_index_or}
 use Rattle.std.specs.List.{range_with_len}
 use Rattle.sdf_limits.specs.declared.TheConstants.{MOST_CYCLE, MOST_PERIOD, MOST_RATE}
-use Rattle.sdf_graph.specs.Rates.{Shape, Edge, IsShape, channel}
+use Rattle.sdf_graph.specs.Rates.{Shape, Edge, channel}
 use Rattle.sdf_graph.specs.Periods.{Divides}
-use Rattle.sdf_graph.specs.Marks.{is_marked, IsBorder}
+use Rattle.sdf_graph.specs.Marks.{is_marked}
 use Rattle.sdf_graph.specs.declared.channel.Totals.{Totals}
 use Rattle.sdf_graph.specs.declared.fault.GraphFault.{GraphFault}
 use Rattle.sdf_graph.specs.declared.fault.GraphFault.TheVariants.{OutOfMemory, PeriodTooLong}
@@ -36,6 +36,10 @@ pub record IsCycleVector (g : Shape) (p : List ℕ) : Type 0 where
 
 abbrev pub unreached : Ratio
 unreached = record { num = 0; den = 0 }
+
+-- that of actor 0
+abbrev pub one : Ratio
+one = record { num = 1; den = 1 }
 
 abbrev pub ratio : List Ratio → ℕ → Ratio
 ratio parts a = slice_index_or parts a unreached
@@ -81,6 +85,7 @@ pub data IsTied (g : Shape) (P : ℕ → Type 0) : ℕ → Type 0 where
 -- all actors have their shares, and channels that these even join each to actor 0
 pub record AreShares (g : Shape) (parts : List Ratio) : Type 0 where
   pub all : length parts ≡ g.actors
+  pub first : ratio parts 0 ≡ one
   pub each : (a : ℕ) → a < g.actors → IsShare g a (ratio parts a) × IsSmall (ratio parts a)
   pub tied : (a : ℕ) → a < g.actors → IsTied g (IsEvenAt g parts) a
 
@@ -93,30 +98,10 @@ pub record IsEvenWithin (g : Shape) (parts : List Ratio) (marked : List Bool) (c
 -- the actors that are marked have theirs, and such channels join each to actor 0
 pub record IsWalk (g : Shape) (parts : List Ratio) (marked : List Bool) : Type 0 where
   pub all : length parts ≡ g.actors
+  pub first : ratio parts 0 ≡ one
   pub begun : is_marked marked 0 ≡ true
   pub each : (a : ℕ) → a < g.actors → is_marked marked a ≡ true → IsShare g a (ratio parts a) × IsSmall (ratio parts a)
   pub tied : (a : ℕ) → is_marked marked a ≡ true → IsTied g (IsEvenWithin g parts marked) a
-
--- such channels lead from actors that have their shares to one whose own, by which the last of these is even, is past
--- what a period may have
-pub record IsFar (g : Shape) : Type 0 where
-  pub shape : IsShape g
-  pub parts : List Ratio
-  pub marked : List Bool
-  pub walk : IsWalk g parts marked
-  pub channel : ℕ
-  pub actor : ℕ
-  pub border : IsBorder g.channels marked channel actor
-  pub share : Ratio
-  pub is_share : IsShare g actor share
-  pub even : IsEvenAt g (set parts actor share) channel
-  pub far : (MOST_PERIOD < share.num) ⊎ (MOST_PERIOD < share.den)
-
--- why the shares can't be given
-abbrev pub IsShareFault : Shape → GraphFault → Type 0
-IsShareFault g OutOfMemory = Unit {0}
-IsShareFault g PeriodTooLong = IsFar g
-IsShareFault g _ = ⊥
 
 -- m is the least number that the denominators of the first n parts divide: it divides every other
 pub record IsCommon (parts : List Ratio) (n m : ℕ) : Type 0 where

@@ -1,17 +1,15 @@
 //! What meets at a channel, whether or not its ends can be balanced.
 
-ghost use Rattle.std.specs.Prelude.{◌*◌, ◌≤◌, ◌<◌, length, MatchResult};
-ghost use Rattle.sdf_graph.specs.Shares.{IsReduced, IsSmall, IsShareFault, AreShares};
+ghost use Rattle.std.specs.Prelude.{◌≡◌, ◌*◌, ◌≤◌, ◌<◌, length};
+ghost use Rattle.sdf_graph.specs.Shares.{IsReduced, IsSmall, IsEvenAt, AreShares};
 ghost use Rattle.sdf_graph.specs.Meetings.{IsMeeting};
 
-use crate::fault::GraphFault;
 use crate::graph::Graph;
-use crate::repetitions::{Ratio, reduced, walk};
+use crate::repetitions::{Ratio, reduced};
 use sdf_limits::MOST_PERIOD;
-use std::alloc::Global;
 
 /// What meets at a channel: how often its source and its target fire, and what these firings put and take.
-#[derive(Clone, Copy)]
+#[derive(Debug, Clone, Copy, PartialEq, Eq)]
 pub struct Meeting {
     pub source: u64,
     pub puts: u64,
@@ -32,11 +30,13 @@ fn turns_of(from: Ratio, to: Ratio) -> Ratio
     reduced(from.num * to.den, to.num * from.den)
 }
 
-/// At these shares of the actors.
-fn meeting_at(graph: &Graph, parts: &[Ratio], channel: usize) -> Meeting
+/// Returns the firings of the fewest whole cycles of the two ends of `channel`, at `parts`, and what these put and
+/// take.
+pub(crate) fn meeting_at(graph: &Graph, parts: &[Ratio], channel: usize) -> Meeting
     requires known { channel < length graph.now.channels }
     requires shares { AreShares graph.now parts.now }
-    ensures { IsMeeting graph.now channel result }
+    ensures meeting { IsMeeting graph.now channel result }
+    ensures even { result.puts ≡ result.takes → IsEvenAt graph.now parts.now channel }
 {
     let totals = graph.totals_at(channel);
     let turns = turns_of(parts[totals.from], parts[totals.to]);
@@ -45,20 +45,5 @@ fn meeting_at(graph: &Graph, parts: &[Ratio], channel: usize) -> Meeting
         puts: turns.num * u64::from(totals.put),
         target: turns.den * u64::from(graph.cycle(totals.to)),
         takes: turns.den * u64::from(totals.take),
-    }
-}
-
-impl Graph {
-    /// What meets at a channel: the firings of the fewest whole cycles of its two ends, at the shares that other
-    /// channels ask of them, and what these put and take.
-    ///
-    /// It is answered where no vector balances the channels, too. `PeriodTooLong` is an actor whose share of the cycles
-    /// of actor 0 passes 65,536 on one side.
-    pub fn meeting(&self, alloc: Global, channel: usize) -> Result<Meeting, GraphFault>
-        requires { channel < length self.now.channels }
-        ensures { MatchResult result (IsMeeting self.now channel) (IsShareFault self.now) }
-    {
-        let parts = walk(self, alloc)?;
-        Ok(meeting_at(self, &parts, channel))
     }
 }

@@ -4,15 +4,17 @@ ghost use Rattle.std.specs.Prelude.{◌≡◌, ℕ, ◌*◌, ◌≤◌, ◌<◌,
 ghost use Rattle.std.specs.Prelude.{slice_index_or, set, IsTrue, MatchOption, MatchResult, IfOk};
 ghost use Rattle.std.specs.Int.{IsGcd};
 ghost use Rattle.sdf_graph.specs.Rates.{Shape, IsShape, rates};
-ghost use Rattle.sdf_graph.specs.Periods.{Divides, IsPeriodFault, IsLeastPeriod};
+ghost use Rattle.sdf_graph.specs.Periods.{Divides, IsLeastPeriod};
+ghost use Rattle.sdf_graph.specs.Faults.{IsPeriodFault};
 ghost use Rattle.std.specs.List.{range_with_len};
 ghost use Rattle.sdf_graph.specs.Marks.{IsBorder};
 ghost use Rattle.sdf_graph.specs.Shares.{ratio, IsReduced, IsShare, IsSmall, IsWalk, AreShares, IsEven, IsCommon};
-ghost use Rattle.sdf_graph.specs.Shares.{firings, IsEvenAt, IsScaleFault, IsShareFault, no_totals};
+ghost use Rattle.sdf_graph.specs.Shares.{firings, IsEvenAt, IsScaleFault, no_totals};
 
 use crate::channel::Totals;
 use crate::fault::GraphFault;
 use crate::graph::Graph;
+use crate::meeting::meeting_at;
 use crate::reach::border;
 use sdf_limits::{MOST_ACTORS, MOST_CYCLE, MOST_PERIOD, MOST_RATE};
 use std::alloc::Global;
@@ -170,8 +172,8 @@ fn beyond(graph: &Graph, parts: &[Ratio], marked: &[bool], channel: usize) -> Ra
 }
 
 /// The shares of all actors.
-pub(crate) fn walk(graph: &Graph, alloc: Global) -> Result<Vec<Ratio>, GraphFault>
-    ensures { MatchResult result (λ v. AreShares graph.now v.items) (IsShareFault graph.now) }
+fn walk(graph: &Graph, alloc: Global) -> Result<Vec<Ratio>, GraphFault>
+    ensures { MatchResult result (λ v. AreShares graph.now v.items) (IsPeriodFault graph.now) }
 {
     let mut parts = vec![in alloc; Ratio { num: 1, den: 1 }; graph.actors]?;
     let mut marked = [false; MOST_ACTORS];
@@ -250,7 +252,8 @@ impl Graph {
     {
         let parts = walk(self, alloc)?;
         if let Some(channel) = uneven(&self.totals, &parts) {
-            return Err(GraphFault::Inconsistent { channel });
+            let meeting = meeting_at(self, &parts, channel);
+            return Err(GraphFault::Inconsistent { channel, meeting });
         }
         let Some(all) = common(&parts) else {
             return Err(GraphFault::PeriodTooLong);

@@ -81,7 +81,7 @@ graph_flat (graph.BadRate channel) = at_flat 5 (codes "BadRate") (codes "link") 
 graph_flat (graph.InitialCount channel) = at_flat 6 (codes "InitialCount") (codes "link") channel
 graph_flat (graph.CycleLength channel) = at_flat 63 (codes "CycleLength") (codes "link") channel
 graph_flat (graph.NotConnected actor) = at_flat 7 (codes "NotConnected") (codes "actor") actor
-graph_flat (graph.Inconsistent channel) = at_flat 8 (codes "Inconsistent") (codes "link") channel
+graph_flat (graph.Inconsistent channel meeting) = at_flat 8 (codes "Inconsistent") (codes "link") channel
 graph_flat graph.PeriodTooLong = plain_flat 9 (codes "PeriodTooLong")
 
 pub net_flat : (f : NetFault) → IsFlat 3 (net_value f)

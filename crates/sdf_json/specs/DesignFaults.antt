@@ -23,7 +23,7 @@ graph_value (graph.BadRate channel) = at 5 (codes "BadRate") (codes "link") chan
 graph_value (graph.InitialCount channel) = at 6 (codes "InitialCount") (codes "link") channel
 graph_value (graph.CycleLength channel) = at 63 (codes "CycleLength") (codes "link") channel
 graph_value (graph.NotConnected actor) = at 7 (codes "NotConnected") (codes "actor") actor
-graph_value (graph.Inconsistent channel) = at 8 (codes "Inconsistent") (codes "link") channel
+graph_value (graph.Inconsistent channel meeting) = at 8 (codes "Inconsistent") (codes "link") channel
 graph_value graph.PeriodTooLong = plain 9 (codes "PeriodTooLong")
 
 abbrev pub side_word : Side → List ℕ

@@ -29,7 +29,7 @@ fn graph_value(alloc: Global, fault: &GraphFault) -> Result<Value, AllocError>
         GraphFault::InitialCount { channel } => at(alloc, 6, "InitialCount", "link", *channel),
         GraphFault::CycleLength { channel } => at(alloc, 63, "CycleLength", "link", *channel),
         GraphFault::NotConnected { actor } => at(alloc, 7, "NotConnected", "actor", *actor),
-        GraphFault::Inconsistent { channel } => at(alloc, 8, "Inconsistent", "link", *channel),
+        GraphFault::Inconsistent { channel, .. } => at(alloc, 8, "Inconsistent", "link", *channel),
         GraphFault::PeriodTooLong => plain(alloc, 9, "PeriodTooLong"),
     }
 }

@@ -1,15 +1,13 @@
 -- What is told of a net that the tables alone do not show: which actors are apart, and what meets at a link.
-use Rattle.std.specs.Prelude.{◌≡◌, ◌≢◌, ◌≤◌, ℕ, Bool, None, Ok, Some, List, [], ◌++◌, length, codes, decimal, Option}
-use Rattle.std.specs.Prelude.{if◌then◌else◌}
+use Rattle.std.specs.Prelude.{◌≡◌, ℕ, Bool, None, Ok, Some, List, [], ◌++◌, length, codes, decimal, Option, nat_lt}
+use Rattle.std.specs.Prelude.{slice_index_or, if◌then◌else◌}
 use Rattle.std.specs.List.{flat_map, range_with_len}
 use Rattle.toml.specs.Data.{Data}
-use Rattle.sdf_graph.specs.Rates.{Shape, channel}
-use Rattle.sdf_graph.specs.Faults.{numbers_fault, IsFirstFault}
+use Rattle.sdf_graph.specs.Rates.{Shape, Edge, no_channel}
+use Rattle.sdf_graph.specs.Faults.{numbers_fault}
 use Rattle.sdf_graph.specs.Marks.{is_marked, AreJoined}
-use Rattle.sdf_graph.specs.Meetings.{IsMeeting}
-use Rattle.sdf_graph.specs.Shares.{IsFar}
 use Rattle.sdf_graph.specs.declared.fault.GraphFault.{GraphFault}
-use Rattle.sdf_graph.specs.declared.fault.GraphFault.TheVariants.{OutOfMemory, NotConnected, Inconsistent}
+use Rattle.sdf_graph.specs.declared.fault.GraphFault.TheVariants.{NotConnected, Inconsistent}
 use Rattle.sdf_graph.specs.declared.meeting.Meeting.{Meeting}
 use Rattle.sdf_actor.specs.declared.fault.NetFault.{NetFault}
 use Rattle.sdf_actor.specs.declared.fault.NetFault.TheVariants.{Graph}
@@ -54,35 +52,23 @@ samples_line m from to =
     codes "  samples on this link: " ++ moves_text from (codes " puts ") m.puts ++ codes ", "
     ++ moves_text to (codes " takes ") m.takes ++ end
 
-unfoldable pub firings_told : Data → Shape → ℕ → Meeting → List ℕ
-firings_told d g c m = firings_line m
-    (actor_text (codes "name") d (channel g c).from) (actor_text (codes "name") d (channel g c).to)
+unfoldable pub firings_told : Data → Edge → Meeting → List ℕ
+firings_told d e m = firings_line m (actor_text (codes "name") d e.from) (actor_text (codes "name") d e.to)
 
 unfoldable pub samples_told : Data → ℕ → Meeting → List ℕ
 samples_told d c m = samples_line m (end_at (codes "from") d c) (end_at (codes "to") d c)
 
-unfoldable pub meeting_told : Data → Shape → ℕ → Meeting → List ℕ
-meeting_told d g c m = firings_told d g c m ++ samples_told d c m
-
--- there is no link c, as much is put on it as is taken, a share of the cycles is too great, or there is no such graph
-pub data IsUntold (g : Shape) (c : ℕ) : Type 0 where
-  past : length g.channels ≤ c → IsUntold g c
-  even : (m : Meeting) → IsMeeting g c m → m.puts ≡ m.takes → IsUntold g c
-  far : IsFar g → IsUntold g c
-  refused : (fault : GraphFault) → IsFirstFault g fault → (fault ≡ OutOfMemory → ⊥) → IsUntold g c
-
--- what meets at link c, where the samples differ, or nothing
-pub data IsMeetingText (d : Data) (g : Shape) (c : ℕ) (text : List ℕ) : Type 0 where
-  meeting :
-      (m : Meeting) → IsMeeting g c m → m.puts ≢ m.takes → text ≡ meeting_told d g c m → IsMeetingText d g c text
-  none : IsUntold g c → text ≡ [] → IsMeetingText d g c text
+-- at link c of some channels, where there is one
+unfoldable pub meeting_told : Data → List Edge → ℕ → Meeting → List ℕ
+meeting_told d channels c m = if nat_lt c (length channels) then
+    firings_told d (slice_index_or channels c no_channel) m ++ samples_told d c m else []
 
 -- ---- by fault
 
 -- of a fault of the graph. That one is apart is tested of graphs alone whose numbers have no fault
 abbrev pub IsMoreOf : Data → Shape → GraphFault → List ℕ → Type 0
 IsMoreOf d g (NotConnected a) text = numbers_fault g ≡ None → IsApartText d g text
-IsMoreOf d g (Inconsistent c) text = IsMeetingText d g c text
+IsMoreOf d g (Inconsistent c m) text = text ≡ meeting_told d g.channels c m
 IsMoreOf d g fault text = text ≡ []
 
 -- of a fault of the net that files say

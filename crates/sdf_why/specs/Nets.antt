@@ -79,7 +79,7 @@ graph_told (graph.BadRate c) d = ends_told d c
 graph_told (graph.InitialCount c) d = begun d c
 graph_told (graph.CycleLength c) d = ends_told d c
 graph_told (graph.NotConnected a) d = []
-graph_told (graph.Inconsistent c) d = ends_told d c
+graph_told (graph.Inconsistent c m) d = ends_told d c
 graph_told graph.PeriodTooLong d = []
 
 abbrev pub net_told : List ℕ → NetFault → Data → List ℕ

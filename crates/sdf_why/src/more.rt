@@ -1,21 +1,18 @@
 //! What is told of a net that the tables alone do not show: which actors are apart, and what meets at a link.
 
-ghost use Rattle.std.specs.Prelude.{◌≡◌, ◌≢◌, ℕ, ◌<◌, ◌++◌, [], None, length, IfOk, OnOk, MatchOption, option_map};
+ghost use Rattle.std.specs.Prelude.{◌≡◌, ℕ, ◌++◌, [], None, IfOk, OnOk, option_map};
 ghost use Rattle.std.specs.Prelude.{string_bytes};
 ghost use Rattle.std.specs.List.{flat_map, range_with_len};
 ghost use Rattle.toml.specs.View.{view};
 ghost use Rattle.sdf_graph.specs.Rates.{Shape};
-ghost use Rattle.sdf_graph.specs.declared.fault.GraphFault.TheVariants.{OutOfMemory};
 ghost use Rattle.sdf_graph.specs.Faults.{numbers_fault};
 ghost use Rattle.sdf_graph.specs.Marks.{is_marked};
-ghost use Rattle.sdf_graph.specs.Meetings.{IsMeeting};
 ghost use Rattle.sdf_actor.specs.declared.fault.NetFault.TheVariants as nets;
 ghost use Rattle.sdf_document.specs.Document.{document_view};
 ghost use Rattle.sdf_document.specs.Lists.{files_view};
 ghost use Rattle.sdf_why.specs.Channels.{graph_in};
 ghost use Rattle.sdf_why.specs.More.{apart_told, IsApartText, so_many, firings_line, moves_text};
-ghost use Rattle.sdf_why.specs.More.{samples_line, firings_told, samples_told, meeting_told, IsUntold, IsMeetingText};
-ghost use Rattle.sdf_why.specs.More.{IsMoreOf, IsMore};
+ghost use Rattle.sdf_why.specs.More.{samples_line, firings_told, samples_told, meeting_told, IsMoreOf, IsMore};
 
 use crate::actors::push_actor_of;
 use crate::channels::channels_of;
@@ -25,7 +22,7 @@ use crate::told::Sources;
 use crate::words::{push_end, push_name};
 use sdf_actor::NetFault;
 use sdf_document::{Document, ReadFault, read_document};
-use sdf_graph::{Channel, Graph, GraphFault, Meeting, joined};
+use sdf_graph::{Channel, GraphFault, Meeting, joined};
 use std::alloc::{AllocError, Global};
 use toml::Value;
 
@@ -166,15 +163,12 @@ fn push_firings_of(
     alloc: Global,
     text: &mut String,
     tables: &Value,
-    graph: &Graph,
-    link: usize,
+    channel: &Channel,
     meeting: Meeting,
 ) -> Result<(), AllocError>
-    requires { link < length graph.now.channels }
     ensures { OnOk result (string_bytes text.new ≡ string_bytes text.old
-        ++ firings_told (view tables.now) graph.now link meeting) }
+        ++ firings_told (view tables.now) channel.now meeting) }
 {
-    let channel = &graph.channels()[link];
     let source = actor_text(tables, "name", channel.from);
     let target = actor_text(tables, "name", channel.to);
     push_firings(alloc, text, meeting, source, target)
@@ -196,82 +190,23 @@ fn push_samples_of(
     push_samples(alloc, text, meeting, from, to)
 }
 
-/// Adds what meets at a link.
+/// Returns what meets at a link of these channels, or nothing if there is no such link.
 #[tactic(auto, unfolding(crate::specs::More::meeting_told))]
-fn push_meeting(
-    alloc: Global,
-    text: &mut String,
-    tables: &Value,
-    graph: &Graph,
-    link: usize,
-    meeting: Meeting,
-) -> Result<(), AllocError>
-    requires { link < length graph.now.channels }
-    ensures { OnOk result (string_bytes text.new ≡ string_bytes text.old
-        ++ meeting_told (view tables.now) graph.now link meeting) }
-{
-    push_firings_of(alloc, text, tables, graph, link, meeting)?;
-    push_samples_of(alloc, text, tables, link, meeting)
-}
-
-/// What meets at a link, where the samples differ.
-fn meeting_of(alloc: Global, graph: &Graph, link: usize) -> Result<Option<Meeting>, AllocError>
-    ensures { IfOk result (λ r. MatchOption r (IsUntold graph.now link)
-        (λ m. IsMeeting graph.now link m × (m.puts ≢ m.takes))) }
-{
-    if link >= graph.channels().len() {
-        return Ok(None);
-    }
-    match graph.meeting(alloc, link) {
-        Ok(meeting) if meeting.puts == meeting.takes => Ok(None),
-        Ok(meeting) => Ok(Some(meeting)),
-        Err(GraphFault::PeriodTooLong) => Ok(None),
-        Err(_) => Err(AllocError),
-    }
-}
-
-/// What is told of it.
 fn meeting_text(
     alloc: Global,
     tables: &Value,
-    graph: &Graph,
+    channels: &[Channel],
     link: usize,
+    meeting: Meeting,
 ) -> Result<String, AllocError>
-    ensures { IfOk result (λ text. IsMeetingText (view tables.now) graph.now link (string_bytes text)) }
+    ensures { IfOk result (λ text. string_bytes text ≡ meeting_told (view tables.now) channels.now link meeting) }
 {
     let mut text = String::new(alloc);
-    let Some(meeting) = meeting_of(alloc, graph, link)? else {
-        return Ok(text);
-    };
-    push_meeting(alloc, &mut text, tables, graph, link, meeting)?;
+    if link < channels.len() {
+        push_firings_of(alloc, &mut text, tables, &channels[link], meeting)?;
+        push_samples_of(alloc, &mut text, tables, link, meeting)?;
+    }
     Ok(text)
-}
-
-/// Nothing is told of a graph that has a fault.
-fn refused_text(alloc: Global, fault: GraphFault) -> Result<String, AllocError>
-    ensures { IfOk result (λ text. (string_bytes text ≡ []) × (fault ≡ OutOfMemory → ⊥)) }
-{
-    match fault {
-        GraphFault::OutOfMemory => Err(AllocError),
-        _ => Ok(String::new(alloc)),
-    }
-}
-
-/// The same of a graph by its channels.
-fn uneven_text(
-    alloc: Global,
-    tables: &Value,
-    actors: usize,
-    channels: Vec<Channel>,
-    link: usize,
-) -> Result<String, AllocError>
-    ensures { let shape : Shape = record { actors = actors; channels = channels.items } in
-        IfOk result (λ text. IsMeetingText (view tables.now) shape link (string_bytes text)) }
-{
-    match Graph::new(alloc, actors, channels) {
-        Ok(graph) => meeting_text(alloc, tables, &graph, link),
-        Err(fault) => refused_text(alloc, fault),
-    }
 }
 
 /// What more is told of a fault of a document's graph.
@@ -288,8 +223,8 @@ fn graph_more(
     let channels = channels_of(alloc, &document.actors, &document.links)?;
     match fault {
         GraphFault::NotConnected { .. } => apart_text(alloc, tables, actors, &channels),
-        GraphFault::Inconsistent { channel } => {
-            uneven_text(alloc, tables, actors, channels, channel)
+        GraphFault::Inconsistent { channel, meeting } => {
+            meeting_text(alloc, tables, &channels, channel, meeting)
         }
         _ => Ok(String::new(alloc)),
     }

@@ -202,7 +202,7 @@ fn push_graph(
         GraphFault::BadEnd { channel }
         | GraphFault::BadRate { channel }
         | GraphFault::CycleLength { channel }
-        | GraphFault::Inconsistent { channel } => push_ends(alloc, text, graph, channel),
+        | GraphFault::Inconsistent { channel, .. } => push_ends(alloc, text, graph, channel),
         GraphFault::InitialCount { channel } => push_begun(alloc, text, graph, channel),
     }
 }

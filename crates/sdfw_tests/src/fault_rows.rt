@@ -1,7 +1,7 @@
 //! The faults that a run can end by, each with its exit status and its text.
 
 use sdf_actor::{NetFault, Side};
-use sdf_graph::GraphFault;
+use sdf_graph::{GraphFault, Meeting};
 use sdf_prec::{Firing, PrecFault};
 use sdf_run::RunFault;
 use sdf_wav::{FormatFault, WavFault};
@@ -98,7 +98,15 @@ const NETS: &[Row] = &[
         "7 NotConnected actor 8",
     ),
     (
-        Net(NetFault::Graph(GraphFault::Inconsistent { channel: 9 })),
+        Net(NetFault::Graph(GraphFault::Inconsistent {
+            channel: 9,
+            meeting: Meeting {
+                source: 1,
+                puts: 1,
+                target: 2,
+                takes: 2,
+            },
+        })),
         3,
         "8 Inconsistent link 9",
     ),

@@ -4,7 +4,7 @@ use Rattle.sdf_graph.specs.Marks.{IsAcross, IsBorder}
 use Rattle.sdf_graph.specs.Shares.{IsShare, totals}
 use Rattle.sdf_graph.specs.declared.channel.Totals.{Totals}
 use Rattle.sdf_graph.specs.declared.repetitions.Ratio.{Ratio}
-use Rattle.sdf_graph.proofs.Marks.{border_in, beyond_from, beyond_to}
+use Rattle.sdf_graph.proofs.Marks.{border_in, end_in, beyond_from, beyond_to}
 use Rattle.sdf_graph.proofs.ShareLaws.{share_to, share_from}
 use Rattle.sdf_graph.proofs.Ties.{even_from, even_to}
 use Rattle.sdf_graph.proofs.repetitions.beyond.Goals as goal
@@ -17,6 +17,13 @@ ends_of g marked c a t border is =
 has_share : (g : Shape) (shape : IsShape g) (marked : List Bool) (c a : ℕ) (parts : List Ratio) →
     length parts ≡ g.actors → IsBorder g.channels marked c a → a < length parts
 has_share g shape marked c a parts all border = omega (arith, border_in g shape marked c a border, all)
+
+pub bounds-marked-totals : goal.bounds-marked-totals
+bounds-marked-totals c =
+    let t = c.totals_at-totals in
+    let border = c.requires.border.1 in
+    end_in c.args.marked.now t.result.from t.result.to c.requires.border.0 border.within
+    (ends_of c.args.graph.now c.args.marked.now c.args.channel c.requires.border.0 t.result border t.ensures.value)
 
 pub returns-then-marked-totals-clause-share : goal.returns-then-marked-totals-clause-share
 returns-then-marked-totals-clause-share c a border =

@@ -5,6 +5,7 @@ use Rattle.sdf_graph.specs.Shares.{IsEvenAt, IsWalk}
 use Rattle.sdf_graph.specs.declared.repetitions.Ratio.{Ratio}
 use Rattle.sdf_graph.proofs.Marks.{border_in, fewer}
 use Rattle.sdf_graph.proofs.ShareLaws.{first_share, walk_more, walked}
+use Rattle.sdf_graph.proofs.PeriodLaws.{share_long}
 use Rattle.sdf_graph.proofs.Ties.{tied_more}
 use Rattle.sdf_graph.proofs.repetitions.walk.Goals as goal
 use Rattle.sdf_graph.proofs.repetitions.walk.Goals.{then-part-gt-MOST_PERIOD-via-then-part-gt-MOST_PERIOD}
@@ -21,25 +22,14 @@ returns-then-part-gt-MOST_PERIOD c =
     let marked = c.loop-channel.marked in
     let border = subst (λ (chs : List Edge). IsBorder chs marked c.in-Some.channel c.in-Some.actor)
     (c.deref.ensures.value ∙ ap (λ (s : Shape). s.channels) c.graph.view_is) c.in-Some.ensures in
-    record {
-      shape = subst IsShape c.graph.view_is c.graph.invariant.shape;
-      parts = c.loop-channel.parts.items;
-      marked = marked;
-      walk = subst (λ (s : Shape). IsWalk s c.loop-channel.parts.items marked) c.graph.view_is c.loop-channel.invariant;
-      channel = c.in-Some.channel;
-      actor = c.in-Some.actor;
-      border = border;
-      share = c.beyond-part.result;
-      is_share = c.beyond-part.ensures.share c.in-Some.actor border;
-      even = subst (λ (ps : List Ratio). IsEvenAt c.args.graph.now (set ps c.in-Some.actor c.beyond-part.result)
-          c.in-Some.channel) c.deref-in-Some.ensures.value (c.beyond-part.ensures.even c.in-Some.actor border);
-      far = elim c.then-part-gt-MOST_PERIOD.branch [
-        | then-part-gt-MOST_PERIOD-via-then-part-gt-MOST_PERIOD w ↦ inl
-            w.if-part-gt-MOST_PERIOD.true
-        | then-part-gt-MOST_PERIOD-via-else-part-gt-MOST_PERIOD+then-part-gt-MOST_PERIOD-2 w ↦ inr
-            w.if-part-gt-MOST_PERIOD-2.true
-      ];
-    }
+    share_long c.args.graph.now (subst IsShape c.graph.view_is c.graph.invariant.shape) marked c.in-Some.channel
+    c.in-Some.actor border c.beyond-part.result (c.beyond-part.ensures.share c.in-Some.actor border)
+    (elim c.then-part-gt-MOST_PERIOD.branch [
+      | then-part-gt-MOST_PERIOD-via-then-part-gt-MOST_PERIOD w ↦ inl
+          w.if-part-gt-MOST_PERIOD.true
+      | then-part-gt-MOST_PERIOD-via-else-part-gt-MOST_PERIOD+then-part-gt-MOST_PERIOD-2 w ↦ inr
+          w.if-part-gt-MOST_PERIOD-2.true
+    ])
 
 pub loop-channel-preserved : goal.loop-channel-preserved
 loop-channel-preserved c =
@@ -52,7 +42,7 @@ loop-channel-preserved c =
     c.in-Some.channel) c.deref-in-Some.ensures.value (c.beyond-part.ensures.even c.in-Some.actor border) in
     subst (λ (s : Shape). IsWalk s (set c.loop-channel.parts.items c.in-Some.actor c.beyond-part.result)
     (set marked c.in-Some.actor true)) (sym c.graph.view_is)
-    (walk_more _ c.loop-channel.parts.items marked c.in-Some.actor c.beyond-part.result walk border.within
+    (walk_more _ c.loop-channel.parts.items marked c.in-Some.actor c.beyond-part.result walk border.within border.fresh
     (c.beyond-part.ensures.share c.in-Some.actor border) (record { top = omega arith; bottom = omega arith })
     (tied_more c.args.graph.now c.loop-channel.parts.items marked c.in-Some.channel c.in-Some.actor
     c.beyond-part.result border walk.tied even))

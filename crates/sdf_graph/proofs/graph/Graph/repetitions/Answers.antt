@@ -1,23 +1,18 @@
-use Rattle.std.proofs.Common.{arith, rules, ◌≡◌, ◌<◌, ◌≤◌, ℕ, List, get_or, length, sum, map, sym, ap, ◌∙◌, subst}
+use Rattle.std.proofs.Common.{arith, ◌≡◌, ◌<◌, ◌≤◌, ℕ, List, get_or, length, sum, map, sym, ap, ◌∙◌, subst}
 use Rattle.std.proofs.lemmas.Result.{MatchResult-weaker}
 use Rattle.sdf_graph.specs.declared.channel.Totals.{Totals}
 use Rattle.sdf_graph.specs.declared.repetitions.Ratio.{Ratio}
 use Rattle.sdf_graph.specs.Rates.{Shape, IsShape, rates, cycle}
 use Rattle.sdf_graph.specs.Periods.{Divides, IsLeastPeriod}
-use Rattle.sdf_graph.specs.Shares.{IsEven, IsCommon, IsScaleFault, firings, ratio, totals, no_totals}
+use Rattle.sdf_graph.specs.Shares.{IsEven, IsEvenAt, IsCommon, IsScaleFault, firings, ratio, totals, no_totals}
 use Rattle.std.proofs.Common.{MatchResult}
 use Rattle.std.specs.List.{range_with_len}
 use Rattle.std.proofs.lemmas.List.{length-map}
 use Rattle.sdf_graph.proofs.ShareLaws.{must_even, no_common, totals_read, each_totals, all_totals}
 use Rattle.sdf_graph.proofs.Shapes.{cycle_small}
 use Rattle.sdf_graph.proofs.Faultless.{cycles_few}
-use Rattle.sdf_graph.proofs.PeriodLaws.{cycles_in, in_cycles, none_long, fault_of, least_period, share_fault}
+use Rattle.sdf_graph.proofs.PeriodLaws.{cycles_in, in_cycles, none_long, fault_of, least_period}
 use Rattle.sdf_graph.proofs.graph.Graph.repetitions.Goals as goal
-
-pub returns-in_err-parts : goal.returns-in_err-parts
-returns-in_err-parts c =
-    let long = share_fault c.args.self.now c.in_err-parts.field-0.0 c.in_err-parts.ensures in
-    search rules
 
 pub returns-in-Some : goal.returns-in-Some
 returns-in-Some c =
@@ -31,13 +26,18 @@ returns-in-Some c =
     × (IsEven ps (get_or c.deref.result.now c.in-Some.channel no_totals) → ⊥)) c.deref-2.ensures.value
     c.in-Some.ensures) in
     let within : c.in-Some.channel < length c.args.self.now.channels =
-    omega (arith, uneven.0, length-map c.args.self.now.channels totals) in (
-      within,
-      λ p period. uneven.1 (subst (IsEven c.in_ok-parts.parts.items)
-          (sym (totals_read c.args.self.now.channels c.in-Some.channel within))
-          (must_even c.args.self.now c.in_ok-parts.parts.items walk (cycles_in c.args.self.now shape p)
-          (in_cycles c.args.self.now shape p period) shape c.in-Some.channel within)),
-    )
+    omega (arith, uneven.0, length-map c.args.self.now.channels totals) in
+    let odd : IsEvenAt c.args.self.now c.in_ok-parts.parts.items c.in-Some.channel → ⊥ = λ even.
+    uneven.1 (subst (IsEven c.in_ok-parts.parts.items)
+    (sym (totals_read c.args.self.now.channels c.in-Some.channel within)) even) in
+    record {
+      none = λ p period. odd (must_even c.args.self.now c.in_ok-parts.parts.items walk
+          (cycles_in c.args.self.now shape p) (in_cycles c.args.self.now shape p period) shape c.in-Some.channel
+          within);
+      meets = c.meeting_at-meeting.ensures.meeting;
+      differs = λ same. odd (subst (λ (ps : List Ratio). IsEvenAt c.args.self.now ps c.in-Some.channel)
+          c.deref-in-Some.ensures.value (c.meeting_at-meeting.ensures.even same));
+    }
 
 pub returns-in_default-common : goal.returns-in_default-common
 returns-in_default-common c =
