@@ -1,12 +1,13 @@
 //! A file that is read in pieces.
 
-ghost use Rattle.std.specs.Prelude.{◌≡◌, ◌≤◌, ◌+◌, ◌*◌, ◌%◌, ℕ, List, Option, Some, None, [], length, IfOk, IfErr};
+ghost use Rattle.std.specs.Prelude.{◌≡◌, ◌≢◌, ◌≤◌, ◌+◌, ◌*◌, ◌%◌, ℕ, List, Option, Some, None, [], length, IfOk, IfErr};
 ghost use Rattle.std.specs.Prelude.{IsErrOf, Err};
 ghost use Rattle.sdf_wav.specs.declared.fault.WavFault.{WavFault};
 ghost use Rattle.sdf_wav.specs.declared.wav.TheConstants.{MOST_CHANNELS};
 ghost use Rattle.sdf_wav.specs.Device.{failures_after, one_more, Known, LosesFront};
 ghost use Rattle.sdf_wav.specs.Fault.{IsOpeningFault, IsReadingFault};
-ghost use Rattle.sdf_wav.specs.PiecesIn.{IsReading, IsPiece, IsReadTo, OpenFails, AnswersBy, known_frames, next_at};
+ghost use Rattle.sdf_wav.specs.PiecesIn.{IsReading, IsPiece, IsReadTo, IsSizedFault, OpenFails, AnswersBy};
+ghost use Rattle.sdf_wav.specs.PiecesIn.{known_frames, next_at};
 ghost use Rattle.sdf_wav.specs.WavIn.{reader_of, reader_name, reading};
 
 use crate::content_in::ContentIn;
@@ -105,6 +106,8 @@ impl<'a, R: Reader> WavIn<'a, R> {
             record (reading self.old) { gone = (reading self.old).gone + 2 * length v.items }) }
         ensures stops { IfErr result (λ e. reading self.new ≡ record (reading self.old) { fault = Some e }) }
         ensures fault { IfErr result IsReadingFault }
+        ensures cut { (reading self.old).fault ≡ None → (reading self.old).size ≢ 0xFFFFFFFF →
+            IfErr result IsSizedFault }
         ensures sound { IsReading (reading self.new) }
     {
         self.content.next(self.alloc, self.reader, frames)
