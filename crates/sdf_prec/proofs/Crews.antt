@@ -32,76 +32,76 @@ nothing_stands (None ∷ cells) e (suc j) f is = nothing_stands cells e j f is
 nothing_stands (Some g ∷ cells) e j f is = let l : suc (length (firings cells)) ≡ 0 = ap length e in omega arith
 
 module _ (r : Rates) (n cost : ℕ → ℕ) (level : Firing → ℕ) (width : ℕ) (past : List Timed) (now : ℕ)
-    (ended started ends : ℕ → ℕ) (u : List ℕ) (s : IsSound r) (dear : (a : ℕ) → a < r.actors → 1 ≤ cost a)
+    (ended started whose : ℕ → ℕ) (u : List ℕ) (s : IsSound r) (dear : (a : ℕ) → a < r.actors → 1 ≤ cost a)
     (queue : List Firing) (q : IsQueue level (IsNextReady r n ended started) queue) (cells : List (Option Firing)) where
-  pub row_free : (homes : ℕ → Option ℕ) → IsDue r n cost level width false past now ended started ends
+  pub row_free : (homes : ℕ → Option ℕ) → IsDue r n cost level width false past now ended started whose
       (λ j. get_or u j 0) homes → (next : ℕ) → IsFilling u now width queue next cells →
-      IsRowAt r n cost level width false past now ended started ends (λ j. get_or u j 0) homes cells
+      IsRowAt r n cost level width false past now ended started whose (λ j. get_or u j 0) homes cells
   row_free homes d next fill = record {
     floor = d.floor;
     wide = fill.wide;
-    by_rule = free_row r n cost level width past now ended started ends (λ j. get_or u j 0) d.floor s queue q cells u
+    by_rule = free_row r n cost level width past now ended started whose (λ j. get_or u j 0) d.floor s queue q cells u
         (λ j _. get_or u j 0) next fill;
-    each = filled_each r n cost level width past now ended started ends (λ j. get_or u j 0) d.floor s queue q cells u
+    each = filled_each r n cost level width past now ended started whose (λ j. get_or u j 0) d.floor s queue q cells u
         (λ j _. get_or u j 0) next fill;
-    apart = filled_apart r n cost level width past now ended started ends (λ j. get_or u j 0) d.floor s queue q cells u
+    apart = filled_apart r n cost level width past now ended started whose (λ j. get_or u j 0) d.floor s queue q cells u
         (λ j _. get_or u j 0) next fill;
     homes_then = λ never. absurd (false≢true never);
-    stuck = λ started' ends' until' b f h. inr (free_stuck r n cost level width past now ended started ends
-        (λ j. get_or u j 0) d.floor s queue q cells started' ends' until' dear
-        (filled_each r n cost level width past now ended started ends (λ j. get_or u j 0) d.floor s queue q cells u
+    stuck = λ started' whose' until' b f h. inr (free_stuck r n cost level width past now ended started whose
+        (λ j. get_or u j 0) d.floor s queue q cells started' whose' until' dear
+        (filled_each r n cost level width past now ended started whose (λ j. get_or u j 0) d.floor s queue q cells u
         (λ j _. get_or u j 0) next fill) b u (λ j _. get_or u j 0) next fill f h);
   }
 
   pub row_homed : (homes homes' : List (Option ℕ)) →
-      IsDue r n cost level width true past now ended started ends (λ j. get_or u j 0) (λ a. get_or homes a None) →
+      IsDue r n cost level width true past now ended started whose (λ j. get_or u j 0) (λ a. get_or homes a None) →
       (weight : ℕ → ℕ) → weight ≡ (λ a. n a * cost a) → length u ≡ width →
       IsPlacing r.actors width weight (λ j. get_or u j 0 ≤ now) (λ a. get_or homes a None) queue (length queue) cells
       homes' → AreWaiting u now queue (length queue) cells homes' →
-      IsRowAt r n cost level width true past now ended started ends (λ j. get_or u j 0)
+      IsRowAt r n cost level width true past now ended started whose (λ j. get_or u j 0)
       (λ a. get_or homes' a None) cells
   row_homed homes homes' d weight weight_is wide placed waiting = record {
     floor = d.floor;
     wide = placed.wide;
-    by_rule = homed_row r n cost level width past now ended started ends (λ j. get_or u j 0) d.floor s queue q cells
+    by_rule = homed_row r n cost level width past now ended started whose (λ j. get_or u j 0) d.floor s queue q cells
         weight weight_is u (λ j _. get_or u j 0) homes homes' (d.homes_are refl) placed;
-    each = placed_each r n cost level width past now ended started ends (λ j. get_or u j 0) d.floor s queue q cells
+    each = placed_each r n cost level width past now ended started whose (λ j. get_or u j 0) d.floor s queue q cells
         weight weight_is u (λ j _. get_or u j 0) homes homes' (d.homes_are refl) placed;
-    apart = placed_apart r n cost level width past now ended started ends (λ j. get_or u j 0) d.floor s queue q cells
+    apart = placed_apart r n cost level width past now ended started whose (λ j. get_or u j 0) d.floor s queue q cells
         weight weight_is u (λ j _. get_or u j 0) homes homes' (d.homes_are refl) placed;
-    homes_then = λ _. homes_then r n cost level width past now ended started ends (λ j. get_or u j 0) d.floor s queue q
+    homes_then = λ _. homes_then r n cost level width past now ended started whose (λ j. get_or u j 0) d.floor s queue q
         cells weight weight_is u (λ j _. get_or u j 0) homes homes' (d.homes_are refl) placed;
-    stuck = λ started' ends' until' b. homed_stuck r n cost level width past now ended started ends (λ j. get_or u j 0)
-        d.floor s queue q cells started' ends' until' dear
-        (placed_each r n cost level width past now ended started ends (λ j. get_or u j 0) d.floor s queue q cells weight
+    stuck = λ started' whose' until' b. homed_stuck r n cost level width past now ended started whose (λ j. get_or u j 0)
+        d.floor s queue q cells started' whose' until' dear
+        (placed_each r n cost level width past now ended started whose (λ j. get_or u j 0) d.floor s queue q cells weight
         weight_is u (λ j _. get_or u j 0) homes homes' (d.homes_are refl) placed) b u (λ j _. get_or u j 0)
         homes' wide waiting;
   }
 
 module _ (r : Rates) (n cost : ℕ → ℕ) (level : Firing → ℕ) (width : ℕ) (homed : Bool) (past : List Timed) (now : ℕ)
-    (ended started ends until : ℕ → ℕ) (homes homes' : ℕ → Option ℕ) (s : IsSound r)
-    (d : IsDue r n cost level width homed past now ended started ends until homes) (cells : List (Option Firing))
-    (row : IsRowAt r n cost level width homed past now ended started ends until homes' cells) where
+    (ended started whose until : ℕ → ℕ) (homes homes' : ℕ → Option ℕ) (s : IsSound r)
+    (d : IsDue r n cost level width homed past now ended started whose until homes) (cells : List (Option Firing))
+    (row : IsRowAt r n cost level width homed past now ended started whose until homes' cells) where
   -- a row with a firing is added
   pub row_added : (dear : (a : ℕ) → a < r.actors → 1 ≤ cost a) → (firings cells ≡ [] → ⊥) →
-      (started' ends' until' : ℕ → ℕ) → AreStarted cost now (length cells) cells started ends until
-      started' ends' until' →
+      (started' whose' until' : ℕ → ℕ) → AreStarted cost now (length cells) cells started whose until
+      started' whose' until' →
       IsDone r n cost level width homed (past ++ record { start = now; cells = cells } ∷ []) now ended started'
-      ends' until' homes'
-  row_added dear some started' ends' until' b =
-      done_row r n cost level width s homed past now ended started ends until homes d started' ends' until' homes' cells
+      whose' until' homes'
+  row_added dear some started' whose' until' b =
+      done_row r n cost level width s homed past now ended started whose until homes d started' whose' until' homes' cells
       row.by_rule row.wide some dear row.each row.apart b
       (λ h. row.homes_then h (past ++ record { start = now; cells = cells } ∷ [])
       (settled_more past (record { start = now; cells = cells })))
-      (row.stuck started' ends' until' b)
+      (row.stuck started' whose' until' b)
 
   -- an empty one is not
-  pub row_left : firings cells ≡ [] → IsDone r n cost level width homed past now ended started ends until homes'
+  pub row_left : firings cells ≡ [] → IsDone r n cost level width homed past now ended started whose until homes'
   row_left none =
-      done_none r n cost level width s homed past now ended started ends until homes d started ends until homes' cells
+      done_none r n cost level width s homed past now ended started whose until homes d started whose until homes' cells
       row.by_rule none
       (λ h. row.homes_then h past (λ a j. (λ x. inl x, back a j)))
-      (row.stuck started ends until (starting_none cost now (length cells) cells started ends until
+      (row.stuck started whose until (starting_none cost now (length cells) cells started whose until
       (λ j f l e. nothing_stands cells none j f e)))
     where
       back : (a j : ℕ) → IsSettled past a j ⊎ ((f : Firing) × (get_or cells j None ≡ Some f) × (f.actor ≡ a)) →
@@ -115,43 +115,43 @@ idle_is g width s = record {
   sound = s;
   fired_all = length-replicate g.actors 0;
   started_all = length-replicate g.actors 0;
-  ends_all = length-replicate g.actors 0;
+  whose_all = refl;
   homes_all = length-replicate g.actors None;
   marks_all = length-replicate g.actors true;
-  inside = λ a j is. absurd (none-some j (sym (same_all None a (cases_lt a g.actors)) ∙ is));
+  inside = λ a j is. absurd (none-some j (sym (same_all g.actors None a (cases_lt a g.actors)) ∙ is));
   early = omega arith;
-  soon = λ a. subst (λ x. x ≤ 0 + MOST_COST) (sym (same_all 0 a (cases_lt a g.actors))) (omega arith);
+  soon = λ j. subst (λ x. x ≤ 0 + MOST_COST) (sym (same_all width 0 j (cases_lt j width))) (omega arith);
 }
   where
-    same_all : {A : Type 0} (x : A) (a : ℕ) → (a < g.actors) ⊎ (g.actors ≤ a) → get_or (replicate g.actors x) a x ≡ x
-    same_all x a (inl l) = get_or-replicate g.actors a x x l
-    same_all x a (inr h) = get_or_past (replicate g.actors x) a x (omega (arith, length-replicate g.actors x))
+    same_all : {A : Type 0} (n : ℕ) (x : A) (a : ℕ) → (a < n) ⊎ (n ≤ a) → get_or (replicate n x) a x ≡ x
+    same_all n x a (inl l) = get_or-replicate n a x x l
+    same_all n x a (inr h) = get_or_past (replicate n x) a x (omega (arith, length-replicate n x))
 
 -- a crew is done with its time where a row was due whose firings have started
 pub row_started : (job : Job) (old placed new : Crewed) (past : List Timed) (cells : List (Option Firing)) →
     IsSound (rates old.counts.graph) → ((a : ℕ) → a < old.counts.graph.actors → 1 ≤ get_or job.costs.now a 0) →
     IsDueTo job old past → placed ≡ record old { homes = placed.homes } → IsRowFor job placed past cells →
     (firings cells ≡ [] → ⊥) →
-    new ≡ record placed { started = new.started; ends = new.ends; until = new.until; queue = new.queue } →
+    new ≡ record placed { started = new.started; whose = new.whose; until = new.until; queue = new.queue } →
     length new.until ≡ length placed.until →
     AreStarted (λ a. get_or job.costs.now a 0) placed.time (length cells) cells
-    (λ a. get_or placed.started a 0) (λ a. get_or placed.ends a 0) (λ j. get_or placed.until j 0)
-    (λ a. get_or new.started a 0) (λ a. get_or new.ends a 0) (λ j. get_or new.until j 0) →
+    (λ a. get_or placed.started a 0) (λ a. get_or placed.whose a 0) (λ j. get_or placed.until j 0)
+    (λ a. get_or new.started a 0) (λ a. get_or new.whose a 0) (λ j. get_or new.until j 0) →
     IsDoneBy job new (past ++ record { start = old.time; cells = cells } ∷ [])
 row_started job old placed new past cells s dear due is row some then columns begun = done
   where
     P : Crewed → (width : ℕ) → Type 0
     P k width = IsDone (rates k.counts.graph) (λ a. get_or job.firings.now a 0) (λ a. get_or job.costs.now a 0)
         (number job.levels.now) width job.homed (past ++ record { start = old.time; cells = cells } ∷ []) k.time
-        (λ a. get_or k.counts.fired a 0) (λ a. get_or new.started a 0) (λ a. get_or new.ends a 0)
+        (λ a. get_or k.counts.fired a 0) (λ a. get_or new.started a 0) (λ a. get_or new.whose a 0)
         (λ j. get_or new.until j 0) (λ a. get_or k.homes a None)
 
     added : P (record old { homes = placed.homes }) (length old.until)
     added = row_added _ _ _ _ _ _ _ _ _ _ _ _ _ _ s due cells
         (subst (λ (k : Crewed). IsRowFor job k past cells) is row) dear some _ _ _
         (subst (λ (k : Crewed). AreStarted (λ a. get_or job.costs.now a 0) k.time (length cells) cells
-        (λ a. get_or k.started a 0) (λ a. get_or k.ends a 0) (λ j. get_or k.until j 0)
-        (λ a. get_or new.started a 0) (λ a. get_or new.ends a 0) (λ j. get_or new.until j 0)) is begun)
+        (λ a. get_or k.started a 0) (λ a. get_or k.whose a 0) (λ j. get_or k.until j 0)
+        (λ a. get_or new.started a 0) (λ a. get_or new.whose a 0) (λ j. get_or new.until j 0)) is begun)
 
     here : P placed (length placed.until)
     here = subst (λ (k : Crewed). P k (length k.until)) (sym is) added

@@ -18,7 +18,7 @@ use Rattle.sdf_prec.specs.Next.{IsNext}
 use Rattle.sdf_prec.specs.Laws.{SomeIsNext, NextMayFire}
 use Rattle.sdf_prec.specs.TimedRows.{Timed, no_row, timed, cells_of, StandsAt, Occurs, IsReadyAt, AreTimed, hu_rule}
 use Rattle.sdf_prec.specs.Floor.{IsNextReady, IsFloor, IsStuck}
-use Rattle.sdf_prec.proofs.Floors.{row_known, none_busy}
+use Rattle.sdf_prec.proofs.Floors.{row_known, none_busy, none_at_work}
 use Rattle.sdf_prec.proofs.RowCells.{stands_at}
 use Rattle.sdf_prec.proofs.RowMarks.{row_order, in_order}
 use Rattle.sdf_prec.proofs.Sufficing.{stands_in}
@@ -68,22 +68,17 @@ module _ (some : SomeIsNext) (may_fire : NextMayFire) (last : LastCountsMore) (f
 
   -- so where none can start none is left
   pub all_stand : (r : Rates) (n cost : ℕ → ℕ) (width : ℕ) (homed : Bool) (past : List Timed) (now : ℕ)
-      (ended started ends until : ℕ → ℕ) (homes : ℕ → Option ℕ) (w : List ℕ) → IsSound r → 0 < width → IsPass r n w →
-      IsFloor r n cost width past now ended started ends until → IsStuck r n ended started until homes width now homed →
-      ((a : ℕ) → a < r.actors → ends a ≤ now) → (f : Firing) → IsOfBlock r n f → Occurs past f
-  all_stand r n cost width homed past now ended started ends until homes w s some_column pass floor stuck none f of =
+      (ended started whose until : ℕ → ℕ) (homes : ℕ → Option ℕ) (w : List ℕ) → IsSound r → 0 < width → IsPass r n w →
+      IsFloor r n cost width past now ended started whose until → IsStuck r n ended started until homes width now homed →
+      ((j : ℕ) → j < width → until j ≤ now) → (f : Firing) → IsOfBlock r n f → Occurs past f
+  all_stand r n cost width homed past now ended started whose until homes w s some_column pass floor stuck none f of =
       go (cases_lt f.number (started f.actor))
     where
       through : (a : ℕ) → a < r.actors → ended a ≡ started a
-      through a l = at (floor.through a l)
-        where
-          at : ((ended a ≡ started a) × (ends a ≤ now)) ⊎ ((ended a + 1 ≡ started a) × (now < ends a)) →
-              ended a ≡ started a
-          at (inl x) = x.0
-          at (inr x) = let h = none a l in absurd (omega (arith, x.1))
+      through = none_at_work r n cost width past now ended started whose until floor none
 
       busy : (j : ℕ) → now < until j → ⊥
-      busy = none_busy r n cost width past now ended started ends until floor none
+      busy = none_busy r n cost width past now ended started whose until floor none
 
       go : (f.number < started f.actor) ⊎ (started f.actor ≤ f.number) → Occurs past f
       go (inl l) = (floor.occurs f of.0).0 l
@@ -210,10 +205,10 @@ row_ready r n cost level width false past t cells rule j f e = go (rule.filled.o
 
 -- the rows are a valid table
 pub rows_valid : (r : Rates) (n cost : ℕ → ℕ) (level : Firing → ℕ) (width : ℕ) (homed : Bool) (past : List Timed)
-    (now : ℕ) (ended started ends until : ℕ → ℕ) → IsFloor r n cost width past now ended started ends until →
+    (now : ℕ) (ended started whose until : ℕ → ℕ) → IsFloor r n cost width past now ended started whose until →
     AreTimed width (hu_rule r n cost level width homed) past → ((f : Firing) → IsOfBlock r n f → Occurs past f) →
     IsValid r n (cells_of past)
-rows_valid r n cost level width homed past now ended started ends until floor rows all = record {
+rows_valid r n cost level width homed past now ended started whose until floor rows all = record {
   known = λ p l. known (firing (order (cells_of past)) p)
       (occurs_all past (firing (order (cells_of past)) p) (p, l, refl));
   all = λ f of. order_all past f (all f of);

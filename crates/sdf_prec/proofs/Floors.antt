@@ -9,7 +9,7 @@ use Rattle.sdf_graph.specs.Sequences.{IsEnabled}
 use Rattle.sdf_prec.specs.declared.firing.Firing.{Firing}
 use Rattle.sdf_prec.specs.Precedence.{WaitsFor}
 use Rattle.sdf_prec.specs.TimedRows.{Timed, no_row, StandsAt, HasEnded, IsBusy, IsReadyAt, end_at}
-use Rattle.sdf_prec.specs.Floor.{IsNextReady, IsFloor}
+use Rattle.sdf_prec.specs.Floor.{IsNextReady, IsFloor, AreAtWork}
 
 -- a firing stands in a row that is there
 pub row_known : (past : List Timed) (i j : ℕ) (f : Firing) → StandsAt past i j f → i < length past
@@ -28,14 +28,14 @@ column_known cells j f e = go (cases_lt j (length cells))
     go (inl l) = l
     go (inr h) = absurd (none-some f (sym (get_or_past cells j None h) ∙ e))
 
-module _ (r : Rates) (n cost : ℕ → ℕ) (width : ℕ) (past : List Timed) (t : ℕ) (ended started ends until : ℕ → ℕ)
-    (w : IsFloor r n cost width past t ended started ends until) where
+module _ (r : Rates) (n cost : ℕ → ℕ) (width : ℕ) (past : List Timed) (t : ℕ) (ended started whose until : ℕ → ℕ)
+    (w : IsFloor r n cost width past t ended started whose until) where
   pub behind : (a : ℕ) → a < r.actors → ended a ≤ started a
   behind a l = go (w.through a l)
     where
-      go : ((ended a ≡ started a) × (ends a ≤ t)) ⊎ ((ended a + 1 ≡ started a) × (t < ends a)) → ended a ≤ started a
-      go (inl x) = omega (arith, x.0)
-      go (inr x) = omega (arith, x.0)
+      go : (ended a ≡ started a) ⊎ (ended a + 1 ≡ started a) → ended a ≤ started a
+      go (inl x) = omega arith
+      go (inr x) = omega arith
 
   pub to_ended : (f : Firing) → HasEnded cost past t f → f.number < ended f.actor
   to_ended f (i, j, at, h) = (w.ended_is i j f at).0 h
@@ -129,91 +129,227 @@ module _ (r : Rates) (n cost : ℕ → ℕ) (width : ℕ) (past : List Timed) (t
               (h.waits (record { actor = r.source c; number = ended (r.source c) }) (inr (c, l, e, refl, lacks))) in
               absurd (omega (arith, before))
 
-  -- the same rows later on
-  pub floor_later : (t' : ℕ) (ended' : ℕ → ℕ) → t ≤ t' →
-      ((a : ℕ) → a < r.actors → ends a ≤ t' → ended' a ≡ started a) →
-      ((a : ℕ) → a < r.actors → t' < ends a → ended' a ≡ ended a) →
-      ((a : ℕ) → a < r.actors → ended' a < started a → IsEnabled r ended' a) →
-      IsFloor r n cost width past t' ended' started ends until
-  floor_later t' ended' later done same on' = record {
+  -- a firing that has not ended is the last one that its actor started
+  pub at_last : (i j : ℕ) (f : Firing) → StandsAt past i j f → t < end_at cost past i f →
+      (f.number ≡ ended f.actor) × (ended f.actor + 1 ≡ started f.actor)
+  at_last i j f at late = go (cases_lt f.number (ended f.actor)) (w.through f.actor known)
+    where
+      known : f.actor < r.actors
+      known = (w.known i j f at).0
+
+      low : f.number < started f.actor
+      low = (w.occurs f known).1 (i, j, at)
+
+      go : (f.number < ended f.actor) ⊎ (ended f.actor ≤ f.number) →
+          (ended f.actor ≡ started f.actor) ⊎ (ended f.actor + 1 ≡ started f.actor) →
+          (f.number ≡ ended f.actor) × (ended f.actor + 1 ≡ started f.actor)
+      go (inl l) _ = absurd (omega (arith, (w.ended_is i j f at).1 l))
+      go (inr h) (inl e) = absurd (omega (arith, low))
+      go (inr h) (inr e) = (omega (arith, low), e)
+
+  -- so an actor has one at most
+  pub one_at_work : (i j k m : ℕ) (f g : Firing) → StandsAt past i j f → StandsAt past k m g →
+      t < end_at cost past i f → t < end_at cost past k g → f.actor ≡ g.actor →
+      (i ≡ k) × (j ≡ m) × (end_at cost past i f ≡ end_at cost past k g)
+  one_at_work i j k m f g at at' late late' is = (one.0, one.1, end)
+    where
+      number : f.number ≡ g.number
+      number = (at_last i j f at late).0 ∙ (ap ended is ∙ sym (at_last k m g at' late').0)
+
+      same : f ≡ g
+      same = λ p. record { actor = is p; number = number p }
+
+      one : (i ≡ k) × (j ≡ m)
+      one = w.once i j k m g (at ∙ ap Some same) at'
+
+      end : end_at cost past i f ≡ end_at cost past k g
+      end = ap (λ x. end_at cost past x f) one.0 ∙ ap (end_at cost past k) same
+
+  -- an actor that has not ended what it started is at work
+  pub work_of : (a : ℕ) → a < r.actors → ended a + 1 ≡ started a →
+      (i : ℕ) × (j : ℕ) × (f : Firing) × StandsAt past i j f × (f.actor ≡ a) × (t < end_at cost past i f)
+  work_of a l e =
+      let f : Firing = record { actor = a; number = ended a } in
+      let o = (w.occurs (record { actor = a; number = ended a }) l).0 (omega arith) in (
+        o.0,
+        o.1,
+        record { actor = a; number = ended a },
+        o.2,
+        refl,
+        late o.0 o.1 o.2
+            (cases_lt t (end_at cost past o.0 (record { actor = a; number = ended a }))),
+      )
+    where
+      late : (i j : ℕ) → StandsAt past i j (record { actor = a; number = ended a }) →
+          (t < end_at cost past i (record { actor = a; number = ended a }))
+          ⊎ (end_at cost past i (record { actor = a; number = ended a }) ≤ t) →
+          t < end_at cost past i (record { actor = a; number = ended a })
+      late i j at (inl h) = h
+      late i j at (inr h) = absurd (omega (arith, (w.ended_is i j (record { actor = a; number = ended a }) at).0 h))
+
+  -- the firing for which a column is at work
+  pub work_at : (j : ℕ) → t < until j → (i : ℕ) × (f : Firing) × StandsAt past i j f × (until j ≡ end_at cost past i f)
+  work_at j h = go (w.until_at j)
+    where
+      go : (until j ≡ 0) ⊎ ((i : ℕ) × (f : Firing) × StandsAt past i j f × (until j ≡ end_at cost past i f)) →
+          (i : ℕ) × (f : Firing) × StandsAt past i j f × (until j ≡ end_at cost past i f)
+      go (inl e) = absurd (omega arith)
+      go (inr x) = x
+
+  -- where each column is through, no column is busy, and all that started has ended
+  pub none_busy : ((j : ℕ) → j < width → until j ≤ t) → (j : ℕ) → t < until j → ⊥
+  none_busy all j h =
+      let x = work_at j h in
+      omega (arith, all j (w.known x.0 j x.1 x.2).1)
+
+  pub none_at_work : ((j : ℕ) → j < width → until j ≤ t) → (a : ℕ) → a < r.actors → ended a ≡ started a
+  none_at_work all a l = go (w.through a l)
+    where
+      go : (ended a ≡ started a) ⊎ (ended a + 1 ≡ started a) → ended a ≡ started a
+      go (inl e) = e
+      go (inr e) =
+          let x = work_of a l e in
+          absurd (omega (arith, x.5, w.until_above x.0 x.1 x.2 x.3, all x.1 (w.known x.0 x.1 x.2 x.3).1))
+
+  -- the same rows later on, where no column is through
+  pub floor_before : (t' : ℕ) → t ≤ t' → ((j : ℕ) → j < width → t < until j → t' < until j) →
+      IsFloor r n cost width past t' ended started whose until
+  floor_before t' later busy = record {
     occurs = w.occurs;
     known = λ i j f at. let k = w.known i j f at in (k.0, k.1, omega (arith, k.2));
     within = w.within;
     once = w.once;
     ended_is = λ i j f at. (
-      ended_to i j f at (cases_lt t' (ends f.actor)),
-      ended_from i j f at (cases_lt t' (ends f.actor)),
+      ended_to i j f at (cases_lt t (end_at cost past i f)),
+      λ h. omega (arith, (w.ended_is i j f at).1 h),
     );
-    last = w.last;
-    through = λ a l. through a l (cases_lt t' (ends a)) (w.through a l);
-    on = on';
+    through = w.through;
+    on = w.on;
+    at_work = λ i j f at late. w.at_work i j f at (omega arith);
     until_above = w.until_above;
     until_at = w.until_at;
   }
     where
-      started_at : (i j : ℕ) (f : Firing) → StandsAt past i j f → f.number < started f.actor
-      started_at i j f at = (w.occurs f (w.known i j f at).0).1 (i, j, at)
+      ended_to : (i j : ℕ) (f : Firing) → StandsAt past i j f → (t < end_at cost past i f) ⊎ (end_at cost past i f ≤ t) →
+          end_at cost past i f ≤ t' → f.number < ended f.actor
+      ended_to i j f at (inr h) e = (w.ended_is i j f at).0 h
+      ended_to i j f at (inl h) e =
+          let is = (w.at_work i j f at h).1 in
+          absurd (omega (arith, busy j (w.known i j f at).1 (omega arith)))
 
-      ended_to : (i j : ℕ) (f : Firing) → StandsAt past i j f → (t' < ends f.actor) ⊎ (ends f.actor ≤ t') →
-          end_at cost past i f ≤ t' → f.number < ended' f.actor
-      ended_to i j f at (inr h) e = let d = done f.actor (w.known i j f at).0 h in omega (arith, started_at i j f at)
-      ended_to i j f at (inl h) e = go (cases_lt f.number (ended f.actor))
-        where
-          its : ended' f.actor ≡ ended f.actor
-          its = same f.actor (w.known i j f at).0 h
+  -- and where some are
+  module _ (next : ℕ) (ended' : ℕ → ℕ) (later : t < next)
+      (least : (j : ℕ) → j < width → t < until j → next ≤ until j)
+      (through : (j : ℕ) → j < width → until j ≡ next → ended' (whose j) ≡ ended (whose j) + 1)
+      (same : (a : ℕ) → ((j : ℕ) → j < width → until j ≡ next → whose j ≡ a → ⊥) → ended' a ≡ ended a)
+      (rises : (a : ℕ) → ended a ≤ ended' a) where
+    -- the firings that end then
+    now_ended : (i j : ℕ) (f : Firing) → StandsAt past i j f → t < end_at cost past i f → end_at cost past i f ≤ next →
+        ended' f.actor ≡ ended f.actor + 1
+    now_ended i j f at late low =
+        let at_work = w.at_work i j f at late in
+        let inside = (w.known i j f at).1 in
+        let is : until j ≡ next = omega (arith, at_work.1, least j inside (omega (arith, at_work.1))) in
+        subst (λ a. ended' a ≡ ended a + 1) at_work.0 (through j inside is)
 
-          go : (f.number < ended f.actor) ⊎ (ended f.actor ≤ f.number) → f.number < ended' f.actor
-          go (inl l) = omega (arith, its)
-          go (inr l) = absurd (at_last (w.through f.actor (w.known i j f at).0))
-            where
-              at_last : ((ended f.actor ≡ started f.actor) × (ends f.actor ≤ t))
-                  ⊎ ((ended f.actor + 1 ≡ started f.actor) × (t < ends f.actor)) → ⊥
-              at_last (inl x) = omega (arith, x.0, started_at i j f at)
-              at_last (inr x) =
-                  let is : f.number + 1 ≡ started f.actor = omega (arith, x.0, started_at i j f at) in
-                  let end = w.last i j f at is in
-                  omega (arith, end)
+    -- and those that end later
+    not_yet : (i j : ℕ) (f : Firing) → StandsAt past i j f → next < end_at cost past i f → ended' f.actor ≡ ended f.actor
+    not_yet i j f at late = same f.actor none
+      where
+        none : (m : ℕ) → m < width → until m ≡ next → whose m ≡ f.actor → ⊥
+        none m l is its =
+            let x = work_at m (omega arith) in
+            let late' : t < end_at cost past x.0 x.1 = omega (arith, x.3) in
+            let actor : x.1.actor ≡ f.actor = sym (w.at_work x.0 m x.1 x.2 late').0 ∙ its in
+            let one = one_at_work x.0 m i j x.1 f x.2 at late' (omega arith) actor in
+            omega (arith, one.2, x.3)
 
-      ended_from : (i j : ℕ) (f : Firing) → StandsAt past i j f → (t' < ends f.actor) ⊎ (ends f.actor ≤ t') →
-          f.number < ended' f.actor → end_at cost past i f ≤ t'
-      ended_from i j f at (inl h) l =
-          let its : ended' f.actor ≡ ended f.actor = same f.actor (w.known i j f at).0 h in
-          let before = (w.ended_is i j f at).1 (omega arith) in
-          omega (arith, before)
-      ended_from i j f at (inr h) l = go (cases_lt f.number (ended f.actor))
-        where
-          go : (f.number < ended f.actor) ⊎ (ended f.actor ≤ f.number) → end_at cost past i f ≤ t'
-          go (inl k) = let before = (w.ended_is i j f at).1 k in omega (arith, before)
-          go (inr k) = at_last (w.through f.actor (w.known i j f at).0)
-            where
-              at_last : ((ended f.actor ≡ started f.actor) × (ends f.actor ≤ t))
-                  ⊎ ((ended f.actor + 1 ≡ started f.actor) × (t < ends f.actor)) → end_at cost past i f ≤ t'
-              at_last (inl x) = absurd (omega (arith, x.0, started_at i j f at))
-              at_last (inr x) =
-                  let is : f.number + 1 ≡ started f.actor = omega (arith, x.0, started_at i j f at) in
-                  let end = w.last i j f at is in
-                  omega (arith, end)
+    pub through_then : (a : ℕ) → a < r.actors → (ended' a ≡ started a) ⊎ ((ended' a ≡ ended a) × (ended a + 1 ≡ started a))
+    through_then a l = go (w.through a l)
+      where
+        go : (ended a ≡ started a) ⊎ (ended a + 1 ≡ started a) →
+            (ended' a ≡ started a) ⊎ ((ended' a ≡ ended a) × (ended a + 1 ≡ started a))
+        go (inl e) = inl (same a none ∙ e)
+          where
+            none : (m : ℕ) → m < width → until m ≡ next → whose m ≡ a → ⊥
+            none m k is its =
+                let x = work_at m (omega arith) in
+                let late : t < end_at cost past x.0 x.1 = omega (arith, x.3) in
+                let actor : x.1.actor ≡ a = sym (w.at_work x.0 m x.1 x.2 late).0 ∙ its in
+                let last = subst (λ a. ended a + 1 ≡ started a) actor (at_last x.0 m x.1 x.2 late).1 in
+                omega arith
+        go (inr e) = at (cases_lt next (end_at cost past x.0 x.2))
+          where
+            x : (i : ℕ) × (j : ℕ) × (f : Firing) × StandsAt past i j f × (f.actor ≡ a) × (t < end_at cost past i f)
+            x = work_of a l e
 
-      through : (a : ℕ) → a < r.actors → (t' < ends a) ⊎ (ends a ≤ t') →
-          ((ended a ≡ started a) × (ends a ≤ t)) ⊎ ((ended a + 1 ≡ started a) × (t < ends a)) →
-          ((ended' a ≡ started a) × (ends a ≤ t')) ⊎ ((ended' a + 1 ≡ started a) × (t' < ends a))
-      through a l (inr h) x = inl (done a l h, h)
-      through a l (inl h) (inl x) = absurd (omega (arith, x.1))
-      through a l (inl h) (inr x) = let its = same a l h in
-          inr (let e : ended' a + 1 ≡ started a = omega (arith, x.0) in e, h)
+            at : (next < end_at cost past x.0 x.2) ⊎ (end_at cost past x.0 x.2 ≤ next) →
+                (ended' a ≡ started a) ⊎ ((ended' a ≡ ended a) × (ended a + 1 ≡ started a))
+            at (inl h) = inr (subst (λ a. ended' a ≡ ended a) x.4 (not_yet x.0 x.1 x.2 x.3 h), e)
+            at (inr h) = inl (subst (λ a. ended' a ≡ ended a + 1) x.4 (now_ended x.0 x.1 x.2 x.3 x.5 h) ∙ e)
 
-  -- where all that started has ended, no column is busy
-  pub none_busy : ((a : ℕ) → a < r.actors → ends a ≤ t) → (j : ℕ) → t < until j → ⊥
-  none_busy all j h =
-      let b = busy_of j h in
-      let k = (w.known b.0 j b.1 b.2).0 in
-      go b.0 b.1 b.2 b.3 k (w.through b.1.actor k)
+    pub floor_later : ((a : ℕ) → a < r.actors → ended' a < started a → IsEnabled r ended' a) →
+        IsFloor r n cost width past next ended' started whose until
+    floor_later on' = record {
+      occurs = w.occurs;
+      known = λ i j f at. let k = w.known i j f at in (k.0, k.1, omega (arith, k.2));
+      within = w.within;
+      once = w.once;
+      ended_is = λ i j f at. (
+        ended_to i j f at (cases_lt t (end_at cost past i f)),
+        ended_from i j f at (cases_lt next (end_at cost past i f)),
+      );
+      through = λ a l. now (through_then a l);
+      on = on';
+      at_work = λ i j f at late. w.at_work i j f at (omega arith);
+      until_above = w.until_above;
+      until_at = w.until_at;
+    }
+      where
+        ended_to : (i j : ℕ) (f : Firing) → StandsAt past i j f →
+            (t < end_at cost past i f) ⊎ (end_at cost past i f ≤ t) → end_at cost past i f ≤ next →
+            f.number < ended' f.actor
+        ended_to i j f at (inr h) e = omega (arith, (w.ended_is i j f at).0 h, rises f.actor)
+        ended_to i j f at (inl h) e = omega (arith, now_ended i j f at h e, (at_last i j f at h).0)
+
+        ended_from : (i j : ℕ) (f : Firing) → StandsAt past i j f →
+            (next < end_at cost past i f) ⊎ (end_at cost past i f ≤ next) → f.number < ended' f.actor →
+            end_at cost past i f ≤ next
+        ended_from i j f at (inr h) l = h
+        ended_from i j f at (inl h) l = absurd (omega (
+          arith,
+          not_yet i j f at h,
+          (at_last i j f at (omega arith)).0,
+        ))
+
+        now : {a : ℕ} → (ended' a ≡ started a) ⊎ ((ended' a ≡ ended a) × (ended a + 1 ≡ started a)) →
+            (ended' a ≡ started a) ⊎ (ended' a + 1 ≡ started a)
+        now (inl e) = inl e
+        now (inr x) = inr (ap (λ k. k + 1) x.0 ∙ x.1)
+
+  -- the columns that are through at the next time
+  pub columns_at : (next : ℕ) → t < next → AreAtWork r next width ended whose until
+  columns_at next later = record {
+    known = λ j l is. let x = at j is in subst (λ a. a < r.actors) (sym x.4) (w.known x.0 j x.1 x.2).0;
+    on = λ j l is. let x = at j is in
+        let last = (at_last x.0 j x.1 x.2 x.3).1 in
+        subst (IsEnabled r ended) (sym x.4) (w.on x.1.actor (w.known x.0 j x.1 x.2).0 (omega arith));
+    apart = λ j m l k is is' same.
+        let x = at j is in
+        let y = at m is' in
+        (one_at_work x.0 j y.0 m x.1 y.1 x.2 y.2 x.3 y.3 (sym x.4 ∙ (same ∙ y.4))).1;
+  }
     where
-      go : (i : ℕ) (f : Firing) (at : StandsAt past i j f) → t < end_at cost past i f → f.actor < r.actors →
-          ((ended f.actor ≡ started f.actor) × (ends f.actor ≤ t))
-          ⊎ ((ended f.actor + 1 ≡ started f.actor) × (t < ends f.actor)) → ⊥
-      go i f at late k (inr x) = omega (arith, all f.actor k, x.1)
-      go i f at late k (inl x) =
-          let l = (w.occurs f k).1 (i, j, at) in
-          let e = (w.ended_is i j f at).1 (omega (arith, x.0)) in
-          omega (arith, e)
+      at : (j : ℕ) → until j ≡ next → (i : ℕ) × (f : Firing) × StandsAt past i j f × (t < end_at cost past i f)
+          × (whose j ≡ f.actor)
+      at j is =
+          let x = work_at j (omega arith) in
+          let late : t < end_at cost past x.0 x.1 = omega (arith, x.3) in
+          (x.0, x.1, x.2, late, (w.at_work x.0 j x.1 x.2 late).0)
+
+  -- whose actors have not ended what they started
+  pub at_next : (next : ℕ) → t < next → (j : ℕ) → until j ≡ next → ended (whose j) + 1 ≡ started (whose j)
+  at_next next later j is =
+      let x = work_at j (omega arith) in
+      let late : t < end_at cost past x.0 x.1 = omega (arith, x.3) in
+      subst (λ a. ended a + 1 ≡ started a) (sym (w.at_work x.0 j x.1 x.2 late).0) (at_last x.0 j x.1 x.2 late).1

@@ -69,13 +69,13 @@ module _ (past : List Timed) (x : Timed) where
       go (inr (inr l)) = let k = row_known (past ++ x ∷ []) i j f at in absurd (omega (arith, length_push past x))
 
 module _ (r : Rates) (n cost : ℕ → ℕ) (width : ℕ) (past : List Timed) (now : ℕ)
-    (ended started ends until started' ends' until' : ℕ → ℕ) (cells : List (Option Firing))
-    (w : IsFloor r n cost width past now ended started ends until) (dear : (a : ℕ) → a < r.actors → 1 ≤ cost a)
+    (ended started whose until started' whose' until' : ℕ → ℕ) (cells : List (Option Firing))
+    (w : IsFloor r n cost width past now ended started whose until) (dear : (a : ℕ) → a < r.actors → 1 ≤ cost a)
     (each : (j : ℕ) (f : Firing) → get_or cells j None ≡ Some f →
     IsNextReady r n ended started f × (j < width) × (until j ≤ now))
     (apart : (j m : ℕ) (f g : Firing) → get_or cells j None ≡ Some f → get_or cells m None ≡ Some g →
     f.actor ≡ g.actor → j ≡ m)
-    (b : AreStarted cost now (length cells) cells started ends until started' ends' until') where
+    (b : AreStarted cost now (length cells) cells started whose until started' whose' until') where
   abbrev new : Timed
   new = record { start = now; cells = cells }
 
@@ -83,21 +83,21 @@ module _ (r : Rates) (n cost : ℕ → ℕ) (width : ℕ) (past : List Timed) (n
   rows = past ++ record { start = now; cells = cells } ∷ []
 
   begun : (j : ℕ) (f : Firing) → get_or cells j None ≡ Some f →
-      (started' f.actor ≡ f.number + 1) × (ends' f.actor ≡ now + cost f.actor) × (until' j ≡ now + cost f.actor)
+      (started' f.actor ≡ f.number + 1) × (whose' j ≡ f.actor) × (until' j ≡ now + cost f.actor)
   begun j f e = b.each j f (column_known cells j f e) e
 
   kept : (a : ℕ) → ((j : ℕ) (f : Firing) → get_or cells j None ≡ Some f → f.actor ≡ a → ⊥) →
-      (started' a ≡ started a) × (ends' a ≡ ends a)
+      started' a ≡ started a
   kept a none = b.others a (λ j f l. none j f)
 
   -- an actor of the row, with its firing's number
   more : (a j : ℕ) (f : Firing) → get_or cells j None ≡ Some f → f.actor ≡ a →
-      (started' a ≡ started a + 1) × (ends' a ≡ now + cost a) × (ended a ≡ started a) × IsEnabled r ended a
+      (started' a ≡ started a + 1) × (ended a ≡ started a) × IsEnabled r ended a
   more a j f e is =
       let s = begun j f e in
       let h = (each j f e).0 in
-      subst (λ a. (started' a ≡ started a + 1) × (ends' a ≡ now + cost a) × (ended a ≡ started a) × IsEnabled r ended a)
-      is (omega (arith, s.0, h.next), s.1, h.through, h.on)
+      subst (λ a. (started' a ≡ started a + 1) × (ended a ≡ started a) × IsEnabled r ended a)
+      is (omega (arith, s.0, h.next), h.through, h.on)
 
   rises : (a : ℕ) → started a ≤ started' a
   rises a = go (actor_in cells a)
@@ -105,7 +105,7 @@ module _ (r : Rates) (n cost : ℕ → ℕ) (width : ℕ) (past : List Timed) (n
       go : ((j : ℕ) × (f : Firing) × (get_or cells j None ≡ Some f) × (f.actor ≡ a))
           ⊎ ((j : ℕ) (f : Firing) → get_or cells j None ≡ Some f → f.actor ≡ a → ⊥) → started a ≤ started' a
       go (inl (j, f, e, is)) = omega (arith, (more a j f e is).0)
-      go (inr none) = omega (arith, (kept a none).0)
+      go (inr none) = omega (arith, kept a none)
 
   end_old : (i : ℕ) (f : Firing) → i < length past → end_at cost rows i f ≡ end_at cost past i f
   end_old i f l = ap (λ (y : Timed). y.start + cost f.actor) (row_old past (record { start = now; cells = cells }) i l)
@@ -133,7 +133,7 @@ module _ (r : Rates) (n cost : ℕ → ℕ) (width : ℕ) (past : List Timed) (n
 
       go : ((j : ℕ) × (g : Firing) × (get_or cells j None ≡ Some g) × (g.actor ≡ f.actor))
           ⊎ ((j : ℕ) (g : Firing) → get_or cells j None ≡ Some g → g.actor ≡ f.actor → ⊥) → Occurs rows f
-      go (inr none) = old (let e = (kept f.actor none).0 in omega arith)
+      go (inr none) = old (let e = kept f.actor none in omega arith)
       go (inl (j, g, e, is)) = at (cases_lt f.number (started f.actor))
         where
           at : (f.number < started f.actor) ⊎ (started f.actor ≤ f.number) → Occurs rows f
@@ -153,16 +153,16 @@ module _ (r : Rates) (n cost : ℕ → ℕ) (width : ℕ) (past : List Timed) (n
       go (inl (_, old)) = omega (arith, low i j f old, rises f.actor)
       go (inr (_, e)) = omega (arith, (begun j f e).0)
 
-  pub floor_more : IsFloor r n cost width rows now ended started' ends' until'
+  pub floor_more : IsFloor r n cost width rows now ended started' whose' until'
   floor_more = record {
     occurs = λ f k. (occurs_to f k, occurs_from f k);
     known = λ i j f at. known i j f (cases i j f at);
     within = λ a l. within a l (actor_in cells a);
     once = λ i j k m f at at'. once i j k m f (cases i j f at) (cases k m f at');
     ended_is = λ i j f at. ended_is i j f (cases i j f at);
-    last = λ i j f at e. last i j f (cases i j f at) (actor_in cells f.actor) e;
     through = λ a l. through a l (actor_in cells a);
     on = λ a l h. on a l h (actor_in cells a);
+    at_work = λ i j f at late. at_work i j f (cases i j f at) (get_or cells j None) (λ _. get_or cells j None) late;
     until_above = λ i j f at. above i j f (cases i j f at) (get_or cells j None) (λ _. get_or cells j None);
     until_at = λ j. until_at j (get_or cells j None) (λ _. get_or cells j None);
   }
@@ -188,7 +188,7 @@ module _ (r : Rates) (n cost : ℕ → ℕ) (width : ℕ) (past : List Timed) (n
           let room : f.number < n a = subst (λ a. f.number < n a) is h.within in
           let next : f.number ≡ started a = h.next ∙ ap started is in
           omega arith
-      within a l (inr none) = omega (arith, (kept a none).0, w.within a l)
+      within a l (inr none) = omega (arith, kept a none, w.within a l)
 
       -- what is ready stands in no earlier row
       fresh : (i j m : ℕ) (f : Firing) → StandsAt past i j f → get_or cells m None ≡ Some f → ⊥
@@ -219,37 +219,37 @@ module _ (r : Rates) (n cost : ℕ → ℕ) (width : ℕ) (past : List Timed) (n
             λ x. absurd (omega (arith, h.next, h.through)),
           )
 
-      last : (i j : ℕ) (f : Firing) → ((i < length past) × StandsAt past i j f)
-          ⊎ ((i ≡ length past) × (get_or cells j None ≡ Some f)) →
-          ((m : ℕ) × (g : Firing) × (get_or cells m None ≡ Some g) × (g.actor ≡ f.actor))
-          ⊎ ((m : ℕ) (g : Firing) → get_or cells m None ≡ Some g → g.actor ≡ f.actor → ⊥) →
-          f.number + 1 ≡ started' f.actor → ends' f.actor ≡ end_at cost rows i f
-      last i j f (inr (l, e)) _ _ = (begun j f e).1 ∙ sym (end_new i f l)
-      last i j f (inl (l, at)) (inl (m, g, e, is)) h = let s = (more f.actor m g e is).0 in
-          absurd (omega (arith, low i j f at))
-      last i j f (inl (l, at)) (inr none) h = let k = kept f.actor none in
-          k.1 ∙ (w.last i j f at (h ∙ k.0) ∙ sym (end_old i f l))
-
       through : (a : ℕ) → a < r.actors → ((j : ℕ) × (f : Firing) × (get_or cells j None ≡ Some f) × (f.actor ≡ a))
           ⊎ ((j : ℕ) (f : Firing) → get_or cells j None ≡ Some f → f.actor ≡ a → ⊥) →
-          ((ended a ≡ started' a) × (ends' a ≤ now)) ⊎ ((ended a + 1 ≡ started' a) × (now < ends' a))
-      through a l (inl (j, f, e, is)) = let m = more a j f e is in let c = dear a l in
-          inr (let x : ended a + 1 ≡ started' a = omega (arith, m.0, m.2) in x, omega (arith, m.1))
-      through a l (inr none) = let k = kept a none in
-          subst (λ s. ((ended a ≡ s) × (ends' a ≤ now)) ⊎ ((ended a + 1 ≡ s) × (now < ends' a))) (sym k.0)
-          (subst (λ s. ((ended a ≡ started a) × (s ≤ now)) ⊎ ((ended a + 1 ≡ started a) × (now < s))) (sym k.1)
-          (w.through a l))
+          (ended a ≡ started' a) ⊎ (ended a + 1 ≡ started' a)
+      through a l (inl (j, f, e, is)) = let m = more a j f e is in
+          inr (let x : ended a + 1 ≡ started' a = omega (arith, m.0, m.1) in x)
+      through a l (inr none) =
+          subst (λ s. (ended a ≡ s) ⊎ (ended a + 1 ≡ s)) (sym (kept a none)) (w.through a l)
 
       on : (a : ℕ) → a < r.actors → ended a < started' a →
           ((j : ℕ) × (f : Firing) × (get_or cells j None ≡ Some f) × (f.actor ≡ a))
           ⊎ ((j : ℕ) (f : Firing) → get_or cells j None ≡ Some f → f.actor ≡ a → ⊥) → IsEnabled r ended a
-      on a l h (inl (j, f, e, is)) = (more a j f e is).3
-      on a l h (inr none) = w.on a l (let k = (kept a none).0 in omega arith)
+      on a l h (inl (j, f, e, is)) = (more a j f e is).2
+      on a l h (inr none) = w.on a l (let k = kept a none in omega arith)
 
       -- the column of a new firing was through
       column_rises : (j : ℕ) (o : Option Firing) → get_or cells j None ≡ o → until j ≤ until' j
-      column_rises j None e = let k = b.columns j (λ f l is. none-some f (sym e ∙ is)) in omega arith
+      column_rises j None e = let k = (b.columns j (λ f l is. none-some f (sym e ∙ is))).1 in omega arith
       column_rises j (Some g) e = let k = (each j g e).2 in omega (arith, (begun j g e).2)
+
+      at_work : (i j : ℕ) (f : Firing) → ((i < length past) × StandsAt past i j f)
+          ⊎ ((i ≡ length past) × (get_or cells j None ≡ Some f)) → (o : Option Firing) → get_or cells j None ≡ o →
+          now < end_at cost rows i f → (whose' j ≡ f.actor) × (until' j ≡ end_at cost rows i f)
+      at_work i j f (inr (l, e)) _ _ late = ((begun j f e).1, (begun j f e).2 ∙ sym (end_new i f l))
+      at_work i j f (inl (l, at)) None e late =
+          let is = end_old i f l in
+          let same = b.columns j (λ f l is. none-some f (sym e ∙ is)) in
+          let old = w.at_work i j f at (omega arith) in
+          (same.0 ∙ old.0, same.1 ∙ (old.1 ∙ sym is))
+      at_work i j f (inl (l, at)) (Some g) e late =
+          -- the column was not through
+          absurd (omega (arith, end_old i f l, w.until_above i j f at, (each j g e).2))
 
       above : (i j : ℕ) (f : Firing) → ((i < length past) × StandsAt past i j f)
           ⊎ ((i ≡ length past) × (get_or cells j None ≡ Some f)) → (o : Option Firing) → get_or cells j None ≡ o →
@@ -268,7 +268,7 @@ module _ (r : Rates) (n cost : ℕ → ℕ) (width : ℕ) (past : List Timed) (n
       until_at j None e = go (w.until_at j)
         where
           same : until' j ≡ until j
-          same = b.columns j (λ f l is. none-some f (sym e ∙ is))
+          same = (b.columns j (λ f l is. none-some f (sym e ∙ is))).1
 
           go : (until j ≡ 0) ⊎ ((i : ℕ) × (f : Firing) × StandsAt past i j f × (until j ≡ end_at cost past i f)) →
               (until' j ≡ 0) ⊎ ((i : ℕ) × (f : Firing) × StandsAt rows i j f × (until' j ≡ end_at cost rows i f))

@@ -143,37 +143,35 @@ module _ (level : Firing → ℕ) where
         go (inr e) = (k, omega (arith, longer), get_or-insert_at q k x no_firing fits ∙ sym e)
 
   module _ (ready : Firing → Type 0) where
-    module _ (next : ℕ → ℕ) (own : (f : Firing) → ready f → f.number ≡ next f.actor) (rest : ℕ → Type 0)
-        (i : ℕ) where
+    -- actors of one kind are of another, or are this one
+    module _ (next : ℕ → ℕ) (own : (f : Firing) → ready f → f.number ≡ next f.actor) (kind more : ℕ → Type 0)
+        (i : ℕ) (known : (a : ℕ) → more a → kind a ⊎ (a ≡ i)) where
       its_next : (f : Firing) → f.actor ≡ i → ready f → f ≡ record { actor = i; number = next i }
       its_next f e h =
           let number : f.number ≡ next i = own f h ∙ ap next e in
           (λ k. record { actor = e k; number = number k })
 
-      -- the next actor has no ready firing that is not known
-      pub queue_skip : (q : List Firing) → (ready (record { actor = i; number = next i }) → rest i) →
-          IsQueueOf level ready (λ a. (a < i) ⊎ rest a) q → IsQueueOf level ready (λ a. (a < i + 1) ⊎ rest a) q
-      queue_skip q known s = record {
+      -- this one has no ready firing
+      pub queue_skip : (q : List Firing) → (ready (record { actor = i; number = next i }) → ⊥) →
+          IsQueueOf level ready kind q → IsQueueOf level ready more q
+      queue_skip q none s = record {
         each = s.each;
-        all = λ f h kind. go f h kind (cases_lt f.actor i);
+        all = λ f h k. go f h (known f.actor k);
         sorted = s.sorted;
       }
         where
-          go : (f : Firing) → ready f → (f.actor < i + 1) ⊎ rest f.actor → (f.actor < i) ⊎ (i ≤ f.actor) → Stands q f
-          go f h kind (inl low) = s.all f h (inl low)
-          go f h (inr r) (inr high) = s.all f h (inr r)
-          go f h (inl l) (inr high) =
-              let e : f.actor ≡ i = omega arith in
-              s.all f h (inr (subst rest (sym e) (known (subst ready (its_next f e h) h))))
+          go : (f : Firing) → ready f → kind f.actor ⊎ (f.actor ≡ i) → Stands q f
+          go f h (inl k) = s.all f h k
+          go f h (inr e) = absurd (none (subst ready (its_next f e h) h))
 
       -- or it has one, which comes to stand in the queue
       pub queue_more : (q longer : List Firing) → ready (record { actor = i; number = next i }) →
-          IsQueueOf level ready (λ a. (a < i) ⊎ rest a) q → AreInTurn level longer →
+          IsQueueOf level ready kind q → AreInTurn level longer →
           ((f : Firing) → Stands longer f ↔ (Stands q f ⊎ (f ≡ record { actor = i; number = next i }))) →
-          IsQueueOf level ready (λ a. (a < i + 1) ⊎ rest a) longer
+          IsQueueOf level ready more longer
       queue_more q longer on s turn stands = record {
         each = λ f h. each f ((stands f).0 h);
-        all = λ f h kind. go f h kind (cases_lt f.actor i);
+        all = λ f h k. go f h (known f.actor k);
         sorted = turn;
       }
         where
@@ -181,11 +179,9 @@ module _ (level : Firing → ℕ) where
           each f (inl h) = s.each f h
           each f (inr e) = subst ready (sym e) on
 
-          go : (f : Firing) → ready f → (f.actor < i + 1) ⊎ rest f.actor → (f.actor < i) ⊎ (i ≤ f.actor) →
-              Stands longer f
-          go f h kind (inl low) = (stands f).1 (inl (s.all f h (inl low)))
-          go f h (inr r) (inr high) = (stands f).1 (inl (s.all f h (inr r)))
-          go f h (inl l) (inr high) = let e : f.actor ≡ i = omega arith in (stands f).1 (inr (its_next f e h))
+          go : (f : Firing) → ready f → kind f.actor ⊎ (f.actor ≡ i) → Stands longer f
+          go f h (inl k) = (stands f).1 (inl (s.all f h k))
+          go f h (inr e) = (stands f).1 (inr (its_next f e h))
 
     -- a queue with the ready firings of all actors
     pub queue_all : (kind : ℕ → Type 0) (q : List Firing) → ((f : Firing) → ready f → kind f.actor) →

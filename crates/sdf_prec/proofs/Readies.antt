@@ -13,8 +13,8 @@ use Rattle.sdf_prec.proofs.Pushes.{actor_in}
 
 -- the firings of a row have started
 module _ (r : Rates) (n cost : ℕ → ℕ) (now : ℕ) (cells : List (Option Firing)) (ended : ℕ → ℕ)
-    (started ends until ends' until' : ℕ → ℕ) (starts : List ℕ)
-    (begun : AreStarted cost now (length cells) cells started ends until (λ a. get_or starts a 0) ends' until')
+    (started whose until whose' until' : ℕ → ℕ) (starts : List ℕ)
+    (begun : AreStarted cost now (length cells) cells started whose until (λ a. get_or starts a 0) whose' until')
     (each : (j : ℕ) (f : Firing) → get_or cells j None ≡ Some f → IsNextReady r n ended started f) where
   pub still_ready : (f : Firing) → IsNextReady r n ended (λ a. get_or starts a 0) f →
       IsNextReady r n ended started f × (is_next starts f ≡ true)
@@ -30,7 +30,7 @@ module _ (r : Rates) (n cost : ℕ → ℕ) (now : ℕ) (cells : List (Option Fi
           ap ended (sym is) ∙ ((each j g at).through ∙ sym (each j g at).next) in
           absurd (omega (arith, h.through))
       go (inr none) =
-          let same : get_or starts f.actor 0 ≡ started f.actor = (begun.others f.actor (λ j g l. none j g)).0 in
+          let same : get_or starts f.actor 0 ≡ started f.actor = begun.others f.actor (λ j g l. none j g) in
           record {
             known = h.known;
             within = h.within;
@@ -52,20 +52,26 @@ module _ (r : Rates) (n cost : ℕ → ℕ) (now : ℕ) (cells : List (Option Fi
       }
 
 -- firings have ended
-module _ (r : Rates) (n : ℕ → ℕ) (now i : ℕ) (started ends : ℕ → ℕ) (old new : List ℕ)
-    (ended : AreEnded r now i started ends old new) where
+module _ (r : Rates) (n : ℕ → ℕ) (now i : ℕ) (started whose until : ℕ → ℕ) (old new : List ℕ)
+    (ended : AreEnded now i whose until old new) (rises : (a : ℕ) → get_or old a 0 ≤ get_or new a 0)
+    (busy : (j : ℕ) → until j ≡ now → get_or old (whose j) 0 + 1 ≡ started (whose j)) where
   pub ready_on : EnabledStays → IsSound r → (f : Firing) → IsNextReady r n (λ a. get_or old a 0) started f →
       IsNextReady r n (λ a. get_or new a 0) started f
   ready_on stays sound f h =
-      let same : get_or new f.actor 0 ≡ get_or old f.actor 0 =
-      ended.same f.actor (λ l e less. omega (arith, h.through)) in
+      let same : get_or new f.actor 0 ≡ get_or old f.actor 0 = ended.same f.actor (λ j l is its. idle j is its) in
       record {
         known = h.known;
         within = h.within;
         next = h.next;
         through = same ∙ h.through;
-        on = stays r sound (λ a. get_or old a 0) (λ a. get_or new a 0) f.actor (sym same) (λ b l. ended.rises b) h.on;
+        on = stays r sound (λ a. get_or old a 0) (λ a. get_or new a 0) f.actor (sym same) (λ b l. rises b) h.on;
       }
+    where
+      -- an actor that is at work has no ready firing
+      idle : (j : ℕ) → until j ≡ now → whose j ≡ f.actor → ⊥
+      idle j is its =
+          let last = subst (λ a. get_or old a 0 + 1 ≡ started a) its (busy j is) in
+          omega (arith, h.through)
 
   pub ready_before : (f : Firing) → IsNextReady r n (λ a. get_or new a 0) started f → HasRested r old new f.actor →
       IsNextReady r n (λ a. get_or old a 0) started f

@@ -6,12 +6,13 @@ use Rattle.std.proofs.lemmas.List.{take_at, take-append-le, length_push}
 use Rattle.std.proofs.lemmas.Bool.{cases_lt, cases_eq, false≢true}
 use Rattle.sdf_graph.specs.Rates.{Rates, IsSound}
 use Rattle.sdf_graph.specs.Sequences.{IsEnabled}
+use Rattle.sdf_sched.specs.Laws.{EnabledStays}
 use Rattle.sdf_prec.specs.declared.firing.Firing.{Firing}
 use Rattle.sdf_prec.specs.Tables.{firings}
-use Rattle.sdf_prec.specs.TimedRows.{Timed, timed, StandsAt, end_at, IsSettled, IsLater, Rule, IsNextRow, AreTimed}
+use Rattle.sdf_prec.specs.TimedRows.{Timed, timed, StandsAt, IsSettled, IsLater, Rule, IsNextRow, AreTimed}
 use Rattle.sdf_prec.specs.TimedRows.{hu_rule}
 use Rattle.sdf_prec.specs.Floor.{IsNextReady, IsFloor, AreStarted, IsStuck, IsDue, IsDone}
-use Rattle.sdf_prec.proofs.Floors.{row_known, floor_later}
+use Rattle.sdf_prec.proofs.Floors.{row_known, work_at, floor_before, floor_later, through_then}
 use Rattle.sdf_prec.proofs.Pushes.{row_old, row_new, at_old, at_new, at_cases, floor_more}
 use Rattle.sdf_prec.proofs.Rules.{free_empty, homed_empty}
 
@@ -53,24 +54,24 @@ settled_more past x a j = (
 
 module _ (r : Rates) (n cost : ℕ → ℕ) (level : Firing → ℕ) (width : ℕ) (s : IsSound r) where
   -- where no ready firing can start, the rule's row is empty
-  pub stuck_empty : (homed : Bool) (past : List Timed) (t : ℕ) (ended started ends until : ℕ → ℕ)
-      (homes : ℕ → Option ℕ) → IsFloor r n cost width past t ended started ends until →
+  pub stuck_empty : (homed : Bool) (past : List Timed) (t : ℕ) (ended started whose until : ℕ → ℕ)
+      (homes : ℕ → Option ℕ) → IsFloor r n cost width past t ended started whose until →
       (IsTrue homed → (a j : ℕ) → a < r.actors → (homes a ≡ Some j) ↔ IsSettled past a j) →
       IsStuck r n ended started until homes width t homed →
       (cells : List (Option Firing)) → hu_rule r n cost level width homed past t cells → firings cells ≡ []
-  stuck_empty true past t ended started ends until homes w homes_are stuck cells row =
-      homed_empty r n cost level width past t ended started ends until w s homes (homes_are refl) stuck cells row
-  stuck_empty false past t ended started ends until homes w homes_are stuck cells row =
-      free_empty r n cost level width past t ended started ends until w s (λ f h. go f (stuck f h)) cells row
+  stuck_empty true past t ended started whose until homes w homes_are stuck cells row =
+      homed_empty r n cost level width past t ended started whose until w s homes (homes_are refl) stuck cells row
+  stuck_empty false past t ended started whose until homes w homes_are stuck cells row =
+      free_empty r n cost level width past t ended started whose until w s (λ f h. go f (stuck f h)) cells row
     where
       go : (f : Firing) → ((k : ℕ) × IsTrue false × (homes f.actor ≡ Some k) × (t < until k))
           ⊎ ((j : ℕ) → j < width → t < until j) → (j : ℕ) → j < width → t < until j
       go f (inl x) = absurd (false≢true x.1)
       go f (inr all) = all
 
-  module _ (homed : Bool) (past : List Timed) (now : ℕ) (ended started ends until : ℕ → ℕ) (homes : ℕ → Option ℕ)
-      (d : IsDue r n cost level width homed past now ended started ends until homes)
-      (started' ends' until' : ℕ → ℕ) (homes' : ℕ → Option ℕ) (cells : List (Option Firing))
+  module _ (homed : Bool) (past : List Timed) (now : ℕ) (ended started whose until : ℕ → ℕ) (homes : ℕ → Option ℕ)
+      (d : IsDue r n cost level width homed past now ended started whose until homes)
+      (started' whose' until' : ℕ → ℕ) (homes' : ℕ → Option ℕ) (cells : List (Option Firing))
       (by_rule : hu_rule r n cost level width homed past now cells) where
     -- a row with a firing
     pub done_row : length cells ≡ width → (firings cells ≡ [] → ⊥) → (dear : (a : ℕ) → a < r.actors → 1 ≤ cost a) →
@@ -78,14 +79,14 @@ module _ (r : Rates) (n cost : ℕ → ℕ) (level : Firing → ℕ) (width : �
         IsNextReady r n ended started f × (j < width) × (until j ≤ now)) →
         ((j m : ℕ) (f g : Firing) → get_or cells j None ≡ Some f → get_or cells m None ≡ Some g →
         f.actor ≡ g.actor → j ≡ m) →
-        AreStarted cost now (length cells) cells started ends until started' ends' until' →
+        AreStarted cost now (length cells) cells started whose until started' whose' until' →
         (IsTrue homed → (a j : ℕ) → a < r.actors → (homes' a ≡ Some j) ↔
         IsSettled (past ++ record { start = now; cells = cells } ∷ []) a j) →
         IsStuck r n ended started' until' homes' width now homed →
         IsDone r n cost level width homed (past ++ record { start = now; cells = cells } ∷ []) now ended started'
-        ends' until' homes'
+        whose' until' homes'
     done_row wide some dear each apart begun homes_are stuck = record {
-      floor = floor_more r n cost width past now ended started ends until started' ends' until' cells d.floor dear
+      floor = floor_more r n cost width past now ended started whose until started' whose' until' cells d.floor dear
           each apart begun;
       rows = timed_more width (hu_rule r n cost level width homed) past (record { start = now; cells = cells })
           d.rows (record {
@@ -122,7 +123,7 @@ module _ (r : Rates) (n cost : ℕ → ℕ) (level : Firing → ℕ) (width : �
     -- an empty row
     pub done_none : firings cells ≡ [] → (IsTrue homed → (a j : ℕ) → a < r.actors →
         (homes' a ≡ Some j) ↔ IsSettled past a j) → IsStuck r n ended started until homes' width now homed →
-        IsDone r n cost level width homed past now ended started ends until homes'
+        IsDone r n cost level width homed past now ended started whose until homes'
     done_none none homes_are stuck = record {
       floor = d.floor;
       rows = d.rows;
@@ -135,58 +136,27 @@ module _ (r : Rates) (n cost : ℕ → ℕ) (level : Firing → ℕ) (width : �
         gap : (t : ℕ) → IsLater past t → (t ≡ now) ⊎ (t ≡ now → ⊥) → t ≤ now → (cells' : List (Option Firing)) →
             length cells' ≡ width → hu_rule r n cost level width homed past t cells' → firings cells' ≡ []
         gap t later (inr ne) low cells' wide row = d.gap t later (omega arith) cells' wide row
-        gap t later (inl e) low cells' wide row = stuck_empty homed past now ended started ends until homes' d.floor
+        gap t later (inl e) low cells' wide row = stuck_empty homed past now ended started whose until homes' d.floor
             homes_are stuck cells' (subst (λ t. hu_rule r n cost level width homed past t cells') e row)
 
-  -- on to the next time at which an actor is through
-  module _ (homed : Bool) (past : List Timed) (now : ℕ) (ended started ends until : ℕ → ℕ) (homes : ℕ → Option ℕ)
-      (d : IsDone r n cost level width homed past now ended started ends until homes)
-      (next : ℕ) (ended' : ℕ → ℕ) (further : now < next) (some : (a : ℕ) × (a < r.actors) × (ends a ≡ next))
-      (least : (a : ℕ) → a < r.actors → now < ends a → next ≤ ends a)
-      (through : (a : ℕ) → a < r.actors → ends a ≤ next → ended' a ≡ started a)
-      (same : (a : ℕ) → a < r.actors → next < ends a → ended' a ≡ ended a)
-      (on : (a : ℕ) → a < r.actors → ended' a < started a → IsEnabled r ended' a) where
-    -- between the two times nothing ends
-    floor_between : (t : ℕ) → now ≤ t → t < next → IsFloor r n cost width past t ended started ends until
-    floor_between t low high = floor_later r n cost width past now ended started ends until d.floor t ended low done
-        (λ a l h. (λ _. ended a)) (λ a l h. d.floor.on a l h)
-      where
-        done : (a : ℕ) → a < r.actors → ends a ≤ t → ended a ≡ started a
-        done a l h = go (d.floor.through a l)
-          where
-            go : ((ended a ≡ started a) × (ends a ≤ now)) ⊎ ((ended a + 1 ≡ started a) × (now < ends a)) →
-                ended a ≡ started a
-            go (inl x) = x.0
-            go (inr x) = let m = least a l x.1 in absurd (omega arith)
-
+  -- on to the next time at which a column is through
+  module _ (homed : Bool) (past : List Timed) (now : ℕ) (ended started whose until : ℕ → ℕ) (homes : ℕ → Option ℕ)
+      (d : IsDone r n cost level width homed past now ended started whose until homes)
+      (next : ℕ) (ended' : ℕ → ℕ) (further : now < next) (some : (j : ℕ) × (j < width) × (until j ≡ next))
+      (least : (j : ℕ) → j < width → now < until j → next ≤ until j)
+      (through : (j : ℕ) → j < width → until j ≡ next → ended' (whose j) ≡ ended (whose j) + 1)
+      (same : (a : ℕ) → ((j : ℕ) → j < width → until j ≡ next → whose j ≡ a → ⊥) → ended' a ≡ ended a)
+      (rises : (a : ℕ) → ended a ≤ ended' a) where
     -- a column that is busy stays so
     busy_until : (j : ℕ) → now < until j → next ≤ until j
-    busy_until j h = go (d.floor.until_at j)
-      where
-        go : (until j ≡ 0) ⊎ ((i : ℕ) × (f : Firing) × StandsAt past i j f × (until j ≡ end_at cost past i f)) →
-            next ≤ until j
-        go (inl e) = absurd (omega arith)
-        go (inr (i, f, at, e)) = at_last (d.floor.through f.actor known)
-          where
-            known : f.actor < r.actors
-            known = (d.floor.known i j f at).0
+    busy_until j h =
+        let x = work_at r n cost width past now ended started whose until d.floor j h in
+        least j (d.floor.known x.0 j x.1 x.2).1 h
 
-            low : f.number < started f.actor
-            low = (d.floor.occurs f known).1 (i, j, at)
-
-            high : (f.number < ended f.actor) ⊎ (ended f.actor ≤ f.number) → ended f.actor ≤ f.number
-            high (inl l) = let x = (d.floor.ended_is i j f at).1 l in absurd (omega arith)
-            high (inr l) = l
-
-            at_last : ((ended f.actor ≡ started f.actor) × (ends f.actor ≤ now))
-                ⊎ ((ended f.actor + 1 ≡ started f.actor) × (now < ends f.actor)) → next ≤ until j
-            at_last (inl x) = let y = high (cases_lt f.number (ended f.actor)) in absurd (omega (arith, x.0, low))
-            at_last (inr x) =
-                let y = high (cases_lt f.number (ended f.actor)) in
-                let is : f.number + 1 ≡ started f.actor = omega (arith, x.0, low) in
-                let end = d.floor.last i j f at is in
-                let m = least f.actor known x.1 in
-                omega arith
+    -- between the two times nothing ends
+    floor_between : (t : ℕ) → now ≤ t → t < next → IsFloor r n cost width past t ended started whose until
+    floor_between t low high = floor_before r n cost width past now ended started whose until d.floor t low
+        (λ j l h. omega (arith, busy_until j h))
 
     stuck_between : (t : ℕ) → t < next → IsStuck r n ended started until homes width t homed
     stuck_between t high f h = go (d.stuck f h)
@@ -197,29 +167,36 @@ module _ (r : Rates) (n cost : ℕ → ℕ) (level : Firing → ℕ) (width : �
         go (inl (k, is, home, busy)) = inl (k, is, home, (let m = busy_until k busy in omega arith))
         go (inr all) = inr (λ j l. let m = busy_until j (all j l) in omega arith)
 
-    pub due_next : IsDue r n cost level width homed past next ended' started ends until homes
-    due_next = record {
-      floor = floor_later r n cost width past now ended started ends until d.floor next ended' (omega arith)
-          through same on;
+    -- an actor that is still at work was so before
+    on_then : EnabledStays → (a : ℕ) → a < r.actors → ended' a < started a → IsEnabled r ended' a
+    on_then stays a l h = go (through_then r n cost width past now ended started whose until d.floor next ended' further
+        least through same rises a l)
+      where
+        go : (ended' a ≡ started a) ⊎ ((ended' a ≡ ended a) × (ended a + 1 ≡ started a)) → IsEnabled r ended' a
+        go (inl e) = absurd (omega arith)
+        go (inr x) = stays r s ended ended' a (sym x.0) (λ b _. rises b) (d.floor.on a l (omega (arith, x.1)))
+
+    pub due_next : EnabledStays → IsDue r n cost level width homed past next ended' started whose until homes
+    due_next stays = record {
+      floor = floor_later r n cost width past now ended started whose until d.floor next ended' further least through
+          same rises (on_then stays);
       rows = d.rows;
       later = λ i l. let h = d.starts i l in omega arith;
       gap = λ t later high cells wide row. gap t later high (cases_lt now t) cells wide row;
-      begins = λ e. absurd (begins e some.0 some.1 some.2 (d.floor.through some.0 some.1));
+      begins = λ e. absurd (begins e);
       homes_are = d.homes_are;
     }
       where
         gap : (t : ℕ) → IsLater past t → t < next → (now < t) ⊎ (t ≤ now) → (cells : List (Option Firing)) →
             length cells ≡ width → hu_rule r n cost level width homed past t cells → firings cells ≡ []
         gap t later high (inr low) cells wide row = d.gap t later low cells wide row
-        gap t later high (inl low) cells wide row = stuck_empty homed past t ended started ends until homes
+        gap t later high (inl low) cells wide row = stuck_empty homed past t ended started whose until homes
             (floor_between t (omega arith) high) d.homes_are (stuck_between t high) cells row
 
-        -- an actor that is not through stands in some row
-        begins : past ≡ [] → (a : ℕ) → a < r.actors → ends a ≡ next →
-            ((ended a ≡ started a) × (ends a ≤ now)) ⊎ ((ended a + 1 ≡ started a) × (now < ends a)) → ⊥
-        begins e a l is (inl x) = omega (arith, x.1)
-        begins e a l is (inr x) =
-            let o = (d.floor.occurs (record { actor = a; number = 0 }) l).0 (omega (arith, x.0)) in
-            let k = row_known past o.0 o.1 (record { actor = a; number = 0 }) o.2 in
+        -- the firing that ends then stands in some row
+        begins : past ≡ [] → ⊥
+        begins e =
+            let x = work_at r n cost width past now ended started whose until d.floor some.0 (omega (arith, some.2)) in
+            let k = row_known past x.0 some.0 x.1 x.2 in
             let z = ap length e in
             omega arith

@@ -33,29 +33,29 @@ abbrev pub rule_of : Shape → Job → ℕ → Rule
 rule_of g job width = hu_rule (rates g) (slice_index job.firings.now) (slice_index job.costs.now)
     (number job.levels.now) width job.homed
 
--- who is at work at a time: counts of ended and of started firings, when each actor and each column is through, homes,
--- ready firings, and a mark for each actor that may have become ready
+-- who is at work at a time: counts of ended and of started firings, whose firing each column had last and when it is
+-- through, homes, ready firings, and a mark for each actor that may have become ready
 pub record Crewed : Type 0 where
   pub time : ℕ
   pub counts : Tally
   pub started : List ℕ
-  pub ends : List ℕ
+  pub whose : List ℕ
   pub until : List ℕ
   pub homes : List (Option ℕ)
   pub queue : List Firing
   pub marks : List Bool
 
--- lists for each actor, homes in columns, and a time that is no later than the costs of what has ended
+-- lists for each actor or column, homes in columns, and a time that is no later than the costs of what has ended
 pub record IsCrew (crew : Crewed) : Type 0 where
   pub sound : IsSound (rates crew.counts.graph)
   pub fired_all : length crew.counts.fired ≡ crew.counts.graph.actors
   pub started_all : length crew.started ≡ crew.counts.graph.actors
-  pub ends_all : length crew.ends ≡ crew.counts.graph.actors
+  pub whose_all : length crew.whose ≡ length crew.until
   pub homes_all : length crew.homes ≡ crew.counts.graph.actors
   pub marks_all : length crew.marks ≡ crew.counts.graph.actors
   pub inside : (a j : ℕ) → slice_index_or crew.homes a None ≡ Some j → j < length crew.until
   pub early : crew.time ≤ MOST_COST * sum crew.counts.fired
-  pub soon : (a : ℕ) → slice_index crew.ends a ≤ crew.time + MOST_COST
+  pub soon : (j : ℕ) → slice_index crew.until j ≤ crew.time + MOST_COST
 
 -- nobody is at work yet
 abbrev pub idle : Shape → (width : ℕ) → Crewed
@@ -63,7 +63,7 @@ idle g width = record {
   time = 0;
   counts = record { graph = g; fired = replicate g.actors 0 };
   started = replicate g.actors 0;
-  ends = replicate g.actors 0;
+  whose = replicate width 0;
   until = replicate width 0;
   homes = replicate g.actors None;
   queue = [];
@@ -89,7 +89,7 @@ abbrev pub IsDueTo : Job → Crewed → List Timed → Type 0
 IsDueTo job crew past =
     IsDue (rates crew.counts.graph) (slice_index job.firings.now) (slice_index job.costs.now) (number job.levels.now)
     (length crew.until) job.homed past crew.time
-    (slice_index crew.counts.fired) (slice_index crew.started) (slice_index crew.ends) (slice_index crew.until)
+    (slice_index crew.counts.fired) (slice_index crew.started) (slice_index crew.whose) (slice_index crew.until)
     (λ a. slice_index_or crew.homes a None)
 
 -- and one that is done with its time
@@ -97,13 +97,13 @@ abbrev pub IsDoneBy : Job → Crewed → List Timed → Type 0
 IsDoneBy job crew past =
     IsDone (rates crew.counts.graph) (slice_index job.firings.now) (slice_index job.costs.now) (number job.levels.now)
     (length crew.until) job.homed past crew.time
-    (slice_index crew.counts.fired) (slice_index crew.started) (slice_index crew.ends) (slice_index crew.until)
+    (slice_index crew.counts.fired) (slice_index crew.started) (slice_index crew.whose) (slice_index crew.until)
     (λ a. slice_index_or crew.homes a None)
 
 -- the cells of the rule's row at time now, with the homes after it
 pub record IsRowAt (r : Rates) (n cost : ℕ → ℕ) (level : Firing → ℕ) (width : ℕ) (homed : Bool) (past : List Timed)
-    (now : ℕ) (ended started ends until : ℕ → ℕ) (homes : ℕ → Option ℕ) (cells : List (Option Firing)) : Type 0 where
-  pub floor : IsFloor r n cost width past now ended started ends until
+    (now : ℕ) (ended started whose until : ℕ → ℕ) (homes : ℕ → Option ℕ) (cells : List (Option Firing)) : Type 0 where
+  pub floor : IsFloor r n cost width past now ended started whose until
   pub wide : length cells ≡ width
   pub by_rule : hu_rule r n cost level width homed past now cells
   pub each : (j : ℕ) (f : Firing) → cell_of cells j ≡ Some f →
@@ -113,13 +113,13 @@ pub record IsRowAt (r : Rates) (n cost : ℕ → ℕ) (level : Firing → ℕ) (
       ((a j : ℕ) → IsSettled rows a j ↔ (IsSettled past a j
       ⊎ ((f : Firing) × (cell_of cells j ≡ Some f) × (f.actor ≡ a)))) →
       (a j : ℕ) → a < r.actors → (homes a ≡ Some j) ↔ IsSettled rows a j
-  pub stuck : (started' ends' until' : ℕ → ℕ) → AreStarted cost now (length cells) cells started ends until started'
-      ends' until' → IsStuck r n ended started' until' homes width now homed
+  pub stuck : (started' whose' until' : ℕ → ℕ) → AreStarted cost now (length cells) cells started whose until started'
+      whose' until' → IsStuck r n ended started' until' homes width now homed
 
 -- the cells of the rule's row for a crew that has the homes after it
 abbrev pub IsRowFor : Job → Crewed → List Timed → List (Option Firing) → Type 0
 IsRowFor job crew past cells =
     IsRowAt (rates crew.counts.graph) (slice_index job.firings.now) (slice_index job.costs.now)
     (number job.levels.now) (length crew.until) job.homed past crew.time
-    (slice_index crew.counts.fired) (slice_index crew.started) (slice_index crew.ends) (slice_index crew.until)
+    (slice_index crew.counts.fired) (slice_index crew.started) (slice_index crew.whose) (slice_index crew.until)
     (λ a. slice_index_or crew.homes a None) cells

@@ -1,5 +1,5 @@
--- What is known while rows are made: counts of started and of ended firings, when each actor and each column is
--- through.
+-- What is known while rows are made: counts of started and of ended firings, whose firing each column had last, and
+-- when it is through.
 use Rattle.std.specs.Prelude.{◌≡◌, ℕ, ◌+◌, ◌≤◌, ◌<◌, ◌⊎◌, ◌↔◌, List, [], length, slice_index, Option, Some, None, Bool}
 use Rattle.std.specs.Prelude.{IsTrue}
 use Rattle.sdf_graph.specs.Rates.{Rates}
@@ -30,7 +30,7 @@ pub record IsFilling (until : List ℕ) (now i : ℕ) (queue : List Firing) (nex
 
 -- after some rows, at time now
 pub record IsFloor (r : Rates) (n cost : ℕ → ℕ) (width : ℕ) (past : List Timed) (now : ℕ)
-    (ended started ends until : ℕ → ℕ) : Type 0 where
+    (ended started whose until : ℕ → ℕ) : Type 0 where
   pub occurs : (f : Firing) → f.actor < r.actors → (f.number < started f.actor) ↔ Occurs past f
   pub known : (i j : ℕ) (f : Firing) → StandsAt past i j f →
       (f.actor < r.actors) × (j < width) × ((timed past i).start ≤ now)
@@ -39,12 +39,12 @@ pub record IsFloor (r : Rates) (n cost : ℕ → ℕ) (width : ℕ) (past : List
   -- a firing has ended exactly where its number is among those that have
   pub ended_is : (i j : ℕ) (f : Firing) → StandsAt past i j f →
       (end_at cost past i f ≤ now) ↔ (f.number < ended f.actor)
-  -- an actor's last firing ends where the actor is through
-  pub last : (i j : ℕ) (f : Firing) → StandsAt past i j f → f.number + 1 ≡ started f.actor →
-      ends f.actor ≡ end_at cost past i f
-  pub through : (a : ℕ) → a < r.actors → ((ended a ≡ started a) × (ends a ≤ now))
-      ⊎ ((ended a + 1 ≡ started a) × (now < ends a))
+  -- an actor has ended all that it started, or all but the last
+  pub through : (a : ℕ) → a < r.actors → (ended a ≡ started a) ⊎ (ended a + 1 ≡ started a)
   pub on : (a : ℕ) → a < r.actors → ended a < started a → IsEnabled r ended a
+  -- a firing that has not ended is the last one in its column
+  pub at_work : (i j : ℕ) (f : Firing) → StandsAt past i j f → now < end_at cost past i f →
+      (whose j ≡ f.actor) × (until j ≡ end_at cost past i f)
   -- a column is through where the last firing in it ends
   pub until_above : (i j : ℕ) (f : Firing) → StandsAt past i j f → end_at cost past i f ≤ until j
   pub until_at : (j : ℕ) → (until j ≡ 0) ⊎ ((i : ℕ) × (f : Firing) × StandsAt past i j f
@@ -52,28 +52,32 @@ pub record IsFloor (r : Rates) (n cost : ℕ → ℕ) (width : ℕ) (past : List
 
 -- the firings of a row have started at time now
 pub record AreStarted (cost : ℕ → ℕ) (now i : ℕ) (cells : List (Option Firing))
-    (started ends until started' ends' until' : ℕ → ℕ) : Type 0 where
+    (started whose until started' whose' until' : ℕ → ℕ) : Type 0 where
   pub each : (j : ℕ) (f : Firing) → j < i → cell_of cells j ≡ Some f →
-      (started' f.actor ≡ f.number + 1) × (ends' f.actor ≡ now + cost f.actor) × (until' j ≡ now + cost f.actor)
+      (started' f.actor ≡ f.number + 1) × (whose' j ≡ f.actor) × (until' j ≡ now + cost f.actor)
   pub others : (a : ℕ) → ((j : ℕ) (f : Firing) → j < i → cell_of cells j ≡ Some f → f.actor ≡ a → ⊥) →
-      (started' a ≡ started a) × (ends' a ≡ ends a)
-  pub columns : (j : ℕ) → ((f : Firing) → j < i → cell_of cells j ≡ Some f → ⊥) → until' j ≡ until j
+      started' a ≡ started a
+  pub columns : (j : ℕ) → ((f : Firing) → j < i → cell_of cells j ≡ Some f → ⊥) →
+      (whose' j ≡ whose j) × (until' j ≡ until j)
 
 -- the least of the first i ends that is later than now
 abbrev pub IsNextEnd : List ℕ → ℕ → ℕ → Option ℕ → Type 0
-IsNextEnd ends now i None = (a : ℕ) → a < i → slice_index ends a ≤ now
-IsNextEnd ends now i (Some t) = (now < t) × ((a : ℕ) × (a < i) × (slice_index ends a ≡ t))
-    × ((a : ℕ) → a < i → now < slice_index ends a → t ≤ slice_index ends a)
+IsNextEnd ends now i None = (j : ℕ) → j < i → slice_index ends j ≤ now
+IsNextEnd ends now i (Some t) = (now < t) × ((j : ℕ) × (j < i) × (slice_index ends j ≡ t))
+    × ((j : ℕ) → j < i → now < slice_index ends j → t ≤ slice_index ends j)
 
--- of the first i actors those that are through by time now have ended all that they started, the others as much as
--- before
-pub record AreEnded (r : Rates) (now i : ℕ) (started ends : ℕ → ℕ) (old new : List ℕ) : Type 0 where
-  pub all : length new ≡ length old
-  pub through : (a : ℕ) → a < i → ends a ≤ now → slice_index old a < started a → slice_index new a ≡ started a
-  pub same : (a : ℕ) → (a < i → ends a ≤ now → slice_index old a < started a → ⊥) →
+-- each column that is through at time now was at work for an enabled actor, and no two of them for one
+pub record AreAtWork (r : Rates) (now width : ℕ) (ended whose until : ℕ → ℕ) : Type 0 where
+  pub known : (j : ℕ) → j < width → until j ≡ now → whose j < r.actors
+  pub on : (j : ℕ) → j < width → until j ≡ now → IsEnabled r ended (whose j)
+  pub apart : (j m : ℕ) → j < width → m < width → until j ≡ now → until m ≡ now → whose j ≡ whose m → j ≡ m
+
+-- the actors whose columns, of the first i, are through at time now have ended one firing more, no others
+pub record AreEnded (now i : ℕ) (whose until : ℕ → ℕ) (old new : List ℕ) : Type 0 where
+  pub through : (j : ℕ) → j < i → until j ≡ now →
+      slice_index new (whose j) ≡ slice_index old (whose j) + 1
+  pub same : (a : ℕ) → ((j : ℕ) → j < i → until j ≡ now → whose j ≡ a → ⊥) →
       slice_index new a ≡ slice_index old a
-  pub rises : (a : ℕ) → slice_index old a ≤ slice_index new a
-  pub on : (a : ℕ) → a < r.actors → slice_index new a < started a → IsEnabled r (slice_index new) a
 
 -- no ready firing can start: its home is busy, or all columns are
 abbrev pub IsStuck : Rates → (ℕ → ℕ) → (ℕ → ℕ) → (ℕ → ℕ) → (ℕ → ℕ) → (ℕ → Option ℕ) → ℕ → ℕ → (homed : Bool) → Type 0
@@ -82,8 +86,8 @@ IsStuck r n ended started until homes width now homed = (f : Firing) → IsNextR
 
 -- a row is due at time now: all earlier times are behind, and at none of them since the last row was there another one
 pub record IsDue (r : Rates) (n cost : ℕ → ℕ) (level : Firing → ℕ) (width : ℕ) (homed : Bool) (past : List Timed)
-    (now : ℕ) (ended started ends until : ℕ → ℕ) (homes : ℕ → Option ℕ) : Type 0 where
-  pub floor : IsFloor r n cost width past now ended started ends until
+    (now : ℕ) (ended started whose until : ℕ → ℕ) (homes : ℕ → Option ℕ) : Type 0 where
+  pub floor : IsFloor r n cost width past now ended started whose until
   pub rows : AreTimed width (hu_rule r n cost level width homed) past
   pub later : IsLater past now
   pub gap : (t : ℕ) → IsLater past t → t < now → (cells : List (Option Firing)) → length cells ≡ width →
@@ -93,8 +97,8 @@ pub record IsDue (r : Rates) (n cost : ℕ → ℕ) (level : Firing → ℕ) (wi
 
 -- time now is done: its row stands, or it has none, and no ready firing can start
 pub record IsDone (r : Rates) (n cost : ℕ → ℕ) (level : Firing → ℕ) (width : ℕ) (homed : Bool) (past : List Timed)
-    (now : ℕ) (ended started ends until : ℕ → ℕ) (homes : ℕ → Option ℕ) : Type 0 where
-  pub floor : IsFloor r n cost width past now ended started ends until
+    (now : ℕ) (ended started whose until : ℕ → ℕ) (homes : ℕ → Option ℕ) : Type 0 where
+  pub floor : IsFloor r n cost width past now ended started whose until
   pub rows : AreTimed width (hu_rule r n cost level width homed) past
   pub starts : (i : ℕ) → i < length past → (timed past i).start ≤ now
   pub gap : (t : ℕ) → IsLater past t → t ≤ now → (cells : List (Option Firing)) → length cells ≡ width →

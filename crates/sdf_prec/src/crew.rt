@@ -1,4 +1,4 @@
-//! Rows made one after the other, at the times at which an actor is through.
+//! Rows made one after the other, at the times at which a column is through.
 
 ghost use Rattle.std.specs.Prelude.{◌≡◌, ℕ, ◌<◌, List, length, sum, slice_index, IfOk, Some};
 ghost use Rattle.sdf_graph.specs.Rates.{rates};
@@ -16,6 +16,7 @@ use crate::floor::{end_by, next_end, start};
 use crate::homing::place;
 use crate::laws::the_next_may_fire;
 use crate::level::Levels;
+use crate::marked::Marks;
 use crate::queue::{leave, renew};
 use crate::tidy::has_firing;
 use crate::timed::TimedRow;
@@ -36,18 +37,18 @@ pub(crate) struct Job<'a> {
     pub(crate) homed: bool,
 }
 
-/// Who is at work at a time: counts of ended and of started firings, when each actor and each column is through, and
-/// the homes. Ready firings stand in a queue, and an actor is marked that may have become ready.
+/// Who is at work at a time: counts of ended and of started firings, whose firing each column had last and when it is
+/// through, and the homes. Ready firings stand in a queue, and an actor is marked that may have become ready.
 #[derive(Drop)]
 struct Crew<'a> {
     time: u64,
     counts: Counts<'a>,
     started: Vec<u32>,
-    ends: Vec<u64>,
+    whose: Vec<usize>,
     until: Vec<u64>,
     homes: Vec<Option<usize>>,
     queue: Vec<Firing>,
-    marks: Vec<bool>,
+    marks: Marks,
 }
 
 impl<'a> Model for Crew<'a> {
@@ -59,22 +60,22 @@ impl<'a> Model for Crew<'a> {
       time = c.time;
       counts = c.counts;
       started = c.started.items;
-      ends = c.ends.items;
+      whose = c.whose.items;
       until = c.until.items;
       homes = c.homes.items;
       queue = c.queue.items;
-      marks = c.marks.items;
+      marks = c.marks;
     } };
 
     ghost invariant = { λ c. IsCrew (record {
       time = c.time;
       counts = c.counts;
       started = c.started.items;
-      ends = c.ends.items;
+      whose = c.whose.items;
       until = c.until.items;
       homes = c.homes.items;
       queue = c.queue.items;
-      marks = c.marks.items;
+      marks = c.marks;
     }) };
 }
 
@@ -90,11 +91,11 @@ impl<'a> Crew<'a> {
             time: 0,
             counts: Counts::new(alloc, graph)?,
             started: vec![in alloc; 0u32; actors]?,
-            ends: vec![in alloc; 0u64; actors]?,
+            whose: vec![in alloc; 0; width]?,
             until: vec![in alloc; 0u64; width]?,
             homes: vec![in alloc; None; actors]?,
             queue: Vec::new(alloc),
-            marks: vec![in alloc; true; actors]?,
+            marks: Marks::of_all(alloc, actors)?,
         })
     }
 
@@ -146,14 +147,14 @@ impl<'a> Crew<'a> {
         requires queue { IsQueued job.now self.old }
         ensures others { self.new ≡ record self.old {
           started = self.new.started;
-          ends = self.new.ends;
+          whose = self.new.whose;
           until = self.new.until;
           queue = self.new.queue;
         } }
         ensures columns { length self.new.until ≡ length self.old.until }
         ensures started { AreStarted (slice_index job.now.costs.now) self.old.time (length cells.now) cells.now
-            (slice_index self.old.started) (slice_index self.old.ends) (slice_index self.old.until)
-            (slice_index self.new.started) (slice_index self.new.ends) (slice_index self.new.until) }
+            (slice_index self.old.started) (slice_index self.old.whose) (slice_index self.old.until)
+            (slice_index self.new.started) (slice_index self.new.whose) (slice_index self.new.until) }
         ensures queue { IsQueued job.now self.new }
     {
         sums_rise();
@@ -162,7 +163,7 @@ impl<'a> Crew<'a> {
             self.time,
             job.costs,
             &mut self.started,
-            &mut self.ends,
+            &mut self.whose,
             &mut self.until,
         );
         leave(&mut self.queue, &self.started);
@@ -193,15 +194,15 @@ impl<'a> Crew<'a> {
         Ok(())
     }
 
-    /// The least later time at which an actor is through.
+    /// The least later time at which a column is through.
     fn next_end(&self) -> Option<u64>
         ensures crew { IsCrew self.now }
-        ensures next { IsNextEnd self.now.ends self.now.time (length self.now.ends) result }
+        ensures next { IsNextEnd self.now.until self.now.time (length self.now.until) result }
     {
-        next_end(&self.ends, self.time)
+        next_end(&self.until, self.time)
     }
 
-    /// Goes on to the next time at which an actor is through.
+    /// Goes on to the next time at which a column is through.
     fn turn(
         &mut self,
         alloc: Global,
@@ -212,12 +213,12 @@ impl<'a> Crew<'a> {
     ) -> Result<(), AllocError>
         requires graph { self.old.counts.graph ≡ graph.now }
         requires job { IsJobFor self.old.counts.graph job.now }
-        requires next { IsNextEnd self.old.ends self.old.time (length self.old.ends) (Some next) }
+        requires next { IsNextEnd self.old.until self.old.time (length self.old.until) (Some next) }
         requires done { IsDoneBy job.now self.old rows.old.items }
         requires queue { IsQueued job.now self.old }
         ensures graph { self.new.counts.graph ≡ self.old.counts.graph }
         ensures columns { length self.new.until ≡ length self.old.until }
-        ensures more { sum self.old.counts.fired < sum self.new.counts.fired }
+        ensures more { IfOk result (λ _. sum self.old.counts.fired < sum self.new.counts.fired) }
         ensures done { IfOk result (λ _. IsDoneBy job.now self.new rows.new.items) }
         ensures queue { IfOk result (λ _. IsQueued job.now self.new) }
     {
@@ -226,11 +227,11 @@ impl<'a> Crew<'a> {
         end_by(
             next,
             graph,
-            &self.started,
-            &self.ends,
+            &self.whose,
+            &self.until,
             &mut self.counts,
             &mut self.marks,
-        );
+        )?;
         self.time = next;
         self.add_row(alloc, job, rows)
     }

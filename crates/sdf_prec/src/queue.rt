@@ -11,6 +11,7 @@ ghost use Rattle.sdf_prec.specs.Queued.{AreInTurn, IsQueueOf, IsUnmarked, is_nex
 
 use crate::firing::Firing;
 use crate::level::Levels;
+use crate::marked::Marks;
 use sdf_graph::Counts;
 use std::alloc::AllocError;
 
@@ -88,7 +89,7 @@ pub(crate) fn renew(
     started: &[u32],
     firings: &[u32],
     levels: &Levels,
-    marks: &mut [bool],
+    marks: &mut Marks,
 ) -> Result<(), AllocError>
     requires started { length started.now ≡ counts.now.graph.actors }
     requires firings { length firings.now ≡ counts.now.graph.actors }
@@ -102,12 +103,11 @@ pub(crate) fn renew(
         (IsNextReady (rates counts.now.graph) (slice_index firings.now) (slice_index counts.now.fired)
         (slice_index started.now)) queue.new.items) }
 {
-    for actor in 0..started.len() {
-        if marks[actor] && is_ready(counts, started, firings, actor) {
+    while let Some(actor) = marks.take() {
+        if is_ready(counts, started, firings, actor) {
             let number = started[actor];
             add(queue, levels, Firing { actor, number })?;
         }
-        marks[actor] = false;
     }
     Ok(())
 }

@@ -26,7 +26,7 @@ loop-next-smaller c =
     let few : sum c.loop-next.crew.counts.fired ≤ sum c.args.job.now.firings.now =
     few_ended _ _ _ _ _ _ _ _ _ _ v.done.floor c.next_end.ensures.crew.fired_all
     (c.requires.job.firings_all ∙ sym its) c.sums_rise.ensures.lists in
-    let more : sum c.loop-next.crew.counts.fired < sum c.turn.new.self.counts.fired = c.turn.ensures.more in
+    let more : sum c.loop-next.crew.counts.fired < sum c.turn.new.self.counts.fired = c.in_ok-turn.ensures.more in
     omega arith
 
 pub loop-next-preserved : goal.loop-next-preserved
@@ -43,24 +43,22 @@ pub returns-clause-rows : goal.returns-clause-rows
 returns-clause-rows c =
     let v = c.loop-next.invariant in
     let k = c.in_default.ensures.crew in
-    let its = ap (λ (g : Shape). g.actors) v.graph in
     let done = rw (v.graph, v.columns) at v.done in
     let sound = rw v.graph at k.sound in
     record {
       rows_are = done.rows;
       all = all_stand c.the_next_may_fire.ensures.some c.the_next_may_fire.ensures.may_fire c.counts_grow.ensures.last
           c.counts_grow.ensures.front _ _ _ _ _ _ _ _ _ _ _ _ c.requires.pass.0 sound c.requires.width c.requires.pass.1
-          done.floor done.stuck (λ a l. c.in_default.ensures.next a (omega (arith, l, k.ends_all, its)));
+          done.floor done.stuck (λ j l. c.in_default.ensures.next j (omega (arith, l, v.columns)));
     }
 
 pub returns-clause-valid : goal.returns-clause-valid
 returns-clause-valid c =
     let v = c.loop-next.invariant in
     let k = c.in_default.ensures.crew in
-    let its = ap (λ (g : Shape). g.actors) v.graph in
     let done = rw (v.graph, v.columns) at v.done in
     let sound = rw v.graph at k.sound in
     let all = all_stand c.the_next_may_fire.ensures.some c.the_next_may_fire.ensures.may_fire c.counts_grow.ensures.last
     c.counts_grow.ensures.front _ _ _ _ _ _ _ _ _ _ _ _ c.requires.pass.0 sound c.requires.width c.requires.pass.1
-    done.floor done.stuck (λ a l. c.in_default.ensures.next a (omega (arith, l, k.ends_all, its))) in
+    done.floor done.stuck (λ j l. c.in_default.ensures.next j (omega (arith, l, v.columns))) in
     rows_valid _ _ _ (number c.args.job.now.levels.now) _ c.args.job.now.homed _ _ _ _ _ _ done.floor done.rows all

@@ -1,62 +1,86 @@
-use Rattle.std.proofs.Common.{◌≡◌, ℕ, ◌+◌, ◌<◌, length, get_or, refl, sym, ◌∙◌, subst, inl, inr, arith}
+use Rattle.std.proofs.Common.{◌≡◌, ℕ, ◌+◌, ◌<◌, length, get_or, refl, sym, ◌∙◌, subst, arith}
 use Rattle.std.proofs.lemmas.List.{length-set}
 use Rattle.sdf_graph.specs.Rates.{Shape, rates}
 use Rattle.sdf_prec.specs.Queued.{IsApart}
-use Rattle.sdf_prec.proofs.Starts.{ending_begins, ending_more, ending_skips}
+use Rattle.sdf_prec.proofs.Starts.{ending_begins, ending_more, ending_skips, rises_more}
 use Rattle.sdf_prec.proofs.Readies.{rested_more}
-use Rattle.sdf_prec.proofs.floor.end_by.Goals.{then-fired-started+then-ends-actor, else-fired-started}
-use Rattle.sdf_prec.proofs.floor.end_by.Goals.{else-fired-started-via-then-fired-started+else-ends-actor}
-use Rattle.sdf_prec.proofs.floor.end_by.Goals.{else-fired-started-via-else-fired-started}
+use Rattle.sdf_prec.proofs.floor.end_by.Goals.{then-until-column+in_ok-mark, else-until-column}
 use Rattle.sdf_prec.proofs.floor.end_by.Goals as goal
 
-pub loop-actor-init : goal.loop-actor-init
-loop-actor-init c = record {
+pub loop-column-init : goal.loop-column-init
+loop-column-init c = record {
   same = refl;
-  each = c.requires.each;
-  ended = ending_begins (rates c.args.counts.now.graph) c.args.now (λ a. get_or c.args.started.now a 0)
-      (λ a. get_or c.args.ends.now a 0) c.args.counts.now.fired c.requires.on;
+  all = refl;
+  ended = ending_begins c.args.now _ _ _;
+  rises = λ a. omega arith;
   marked = refl;
   rested = λ a h. record { own = refl; sources = λ k l to. refl };
 }
 
-pub loop-actor-preserved : goal.loop-actor-preserved
-loop-actor-preserved c =
+pub fire-requires-clause-known : goal.fire-requires-clause-known
+fire-requires-clause-known c = rw c.loop-column.invariant.same
+    (c.requires.at_work.known c.loop-column.column c.loop-column-test.true c.if-until-column.true)
+
+pub fire-requires-clause-enabled : goal.fire-requires-clause-enabled
+fire-requires-clause-enabled c =
+    let i : ℕ = c.loop-column.column in
+    let v = c.loop-column.invariant in
+    let work = c.requires.at_work in
+    let its = c.if-until-column.true in
+    let actor : ℕ = get_or c.args.whose.now i 0 in
+    let same : get_or c.loop-column.counts.fired actor 0 ≡ get_or c.args.counts.now.fired actor 0 =
+    v.ended.same actor (λ j l e is. let same = work.apart j i (omega (arith, c.loop-column-test.true))
+    c.loop-column-test.true e its is in omega arith) in
+    rw v.same (c.enabled_stays.ensures (rates c.args.counts.now.graph) c.requires.sound
+    (λ a. get_or c.args.counts.now.fired a 0) (λ a. get_or c.loop-column.counts.fired a 0) actor (sym same)
+    (λ b l. v.rises b) (work.on i c.loop-column-test.true its))
+
+pub fire-requires-clause-room : goal.fire-requires-clause-room
+fire-requires-clause-room c =
+    let i : ℕ = c.loop-column.column in
+    let v = c.loop-column.invariant in
+    let its = c.if-until-column.true in
+    let actor : ℕ = get_or c.args.whose.now i 0 in
+    let same : get_or c.loop-column.counts.fired actor 0 ≡ get_or c.args.counts.now.fired actor 0 =
+    v.ended.same actor (λ j l e is. let same = c.requires.at_work.apart j i (omega (arith, c.loop-column-test.true))
+    c.loop-column-test.true e its is in omega arith) in
+    omega (arith, same, c.requires.room actor)
+
+pub loop-column-preserved : goal.loop-column-preserved
+loop-column-preserved c =
     let r = rates c.args.counts.now.graph in
-    let i : ℕ = c.loop-actor.actor in
-    let v = c.loop-actor.invariant in
-    let started : ℕ → ℕ = λ a. get_or c.args.started.now a 0 in
-    let ends : ℕ → ℕ = λ a. get_or c.args.ends.now a 0 in
+    let i : ℕ = c.loop-column.column in
+    let v = c.loop-column.invariant in
+    let whose : ℕ → ℕ = λ j. get_or c.args.whose.now j 0 in
+    let until : ℕ → ℕ = λ j. get_or c.args.until.now j 0 in
     let old = c.args.counts.now.fired in
-    let fired = c.loop-actor.counts.fired in
-    let untouched : get_or fired i 0 ≡ get_or old i 0 = v.ended.same i (λ l. absurd (omega arith)) in
-    elim c.if-fired-started.branch [
-      | then-fired-started+then-ends-actor w ↦
-          let l : i < length fired = omega (arith, c.loop-actor-test.true, v.each, c.requires.started) in
-          let low : get_or fired i 0 < get_or c.args.started.now i 0 =
-          omega (arith, c.fired.ensures, w.if-fired-started.true) in
-          let last : get_or old i 0 + 1 ≡ get_or c.args.started.now i 0 =
-          elim (c.requires.behind i (omega (arith, c.loop-actor-test.true, c.requires.started))) as (λ _. get_or old i 0
-          + 1 ≡ get_or c.args.started.now i 0) [ inl e ↦ absurd (omega arith) | inr e ↦ e ] in
+    let fired = c.loop-column.counts.fired in
+    elim c.if-until-column.branch [
+      | then-until-column+in_ok-mark w ↦
+          let its : until i ≡ c.args.now = w.if-until-column.true in
+          let known = c.requires.at_work.known i c.loop-column-test.true its in
+          let l : whose i < length fired = omega (arith, known, v.all, c.requires.each) in
           rw (w.counts-is, w.fire.ensures, w.marks-is) (record {
             same = v.same;
-            each = length-set fired i (get_or fired i 0 + 1) ∙ v.each;
-            ended = ending_more r c.args.now i started ends old fired v.ended c.enabled_stays.ensures c.requires.sound l
-                last w.if-ends-actor.true;
+            all = length-set fired (whose i) (get_or fired (whose i) 0 + 1) ∙ v.all;
+            ended = ending_more c.args.now i whose until old fired v.ended l its (λ j k e is.
+                let same = c.requires.at_work.apart j i (omega (arith, c.loop-column-test.true))
+                c.loop-column-test.true e its is in
+                omega arith);
+            rises = rises_more old fired (whose i) l v.rises;
             marked = w.mark.ensures.same ∙ v.marked;
-            rested = λ a h. rested_more r i (get_or fired i 0 + 1) a old fired (v.rested a (w.mark.ensures.left a h))
-                (subst (λ (g : Shape). IsApart (rates g) i a) (sym c.requires.graph) (w.mark.ensures.apart a h));
+            rested = λ a h. rested_more r (whose i) (get_or fired (whose i) 0 + 1) a old fired
+                (v.rested a (w.in_ok-mark.ensures.left a h))
+                (subst (λ (g : Shape). IsApart (rates g) (whose i) a) (sym c.requires.graph)
+                (w.in_ok-mark.ensures.apart a h));
           })
-      | else-fired-started w ↦
+      | else-until-column w ↦
           rw (w.counts-is, w.marks-is) (record {
             same = v.same;
-            each = v.each;
-            ended = ending_skips r c.args.now i started ends old fired v.ended
-                (elim w.else-fired-started.branch [
-                  | else-fired-started-via-then-fired-started+else-ends-actor u ↦ λ h k.
-                      (let no' = u.if-ends-actor.false in omega arith)
-                  | else-fired-started-via-else-fired-started u ↦ λ h k.
-                      (let no' = u.if-fired-started.false in omega (arith, c.fired.ensures))
-                ]);
+            all = v.all;
+            ended = ending_skips c.args.now i whose until old fired v.ended (λ e.
+                (let no' = w.if-until-column.false in absurd (no' e)));
+            rises = v.rises;
             marked = v.marked;
             rested = v.rested;
           })

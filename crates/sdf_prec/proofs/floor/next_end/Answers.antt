@@ -51,7 +51,7 @@ module _ (ends : List ℕ) (now i next : ℕ) where
 
 pub loop-end-preserved : goal.loop-end-preserved
 loop-end-preserved c =
-    let ends = c.args.ends.now in
+    let ends = c.args.until.now in
     let now : ℕ = c.args.now in
     let i : ℕ = c.loop-end.end-index in
     let v = c.loop-end.invariant in
@@ -59,7 +59,7 @@ loop-end-preserved c =
       | then-end-now w ↦ rw (w.some-is, w.next-is) (record {
         some = λ _. subst (λ x. IsNextEnd ends now (i + 1) (Some x)) (sym w.min-next.ensures) (sooner ends now i
             c.loop-end.next c.loop-end.some w.if-end-now.true (λ s. v.some s) (λ s. v.none s)
-            (λ s. omega (arith, v.most s, c.type_inv.ends i)) (cases_Bool c.loop-end.some));
+            (λ s. omega (arith, v.most s, c.type_inv.until i)) (cases_Bool c.loop-end.some));
         none = λ no. absurd (false≢true (sym no));
         most = λ no. absurd (false≢true (sym no));
       })

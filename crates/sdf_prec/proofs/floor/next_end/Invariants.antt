@@ -4,7 +4,7 @@ use Rattle.sdf_prec.proofs.floor.next_end.Given as goal
 
 abbrev pub invariant-loop-end : goal.invariant-loop-end
 invariant-loop-end l = record {
-  some : l.some ≡ true → IsNextEnd l.ends l.now l.end-index (Some l.next);
-  none : l.some ≡ false → IsNextEnd l.ends l.now l.end-index None;
+  some : l.some ≡ true → IsNextEnd l.until l.now l.end-index (Some l.next);
+  none : l.some ≡ false → IsNextEnd l.until l.now l.end-index None;
   most : l.some ≡ false → l.next ≡ 2 ^ 64 - 1;
 }

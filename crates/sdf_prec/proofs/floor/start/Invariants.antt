@@ -6,9 +6,9 @@ use Rattle.sdf_prec.proofs.floor.start.Given as goal
 abbrev pub invariant-loop-column : goal.invariant-loop-column
 invariant-loop-column l = record {
   begun : AreStarted (slice_index l.costs) l.now l.column l.cells (slice_index l.initial.started)
-      (slice_index l.initial.ends) (slice_index l.initial.until) (slice_index l.started) (slice_index l.ends)
+      (slice_index l.initial.whose) (slice_index l.initial.until) (slice_index l.started) (slice_index l.whose)
       (slice_index l.until);
   actors : length l.started ≡ length l.initial.started;
-  all : length l.ends ≡ length l.initial.ends;
+  all : length l.whose ≡ length l.initial.whose;
   columns : length l.until ≡ length l.initial.until;
 }

@@ -7,10 +7,9 @@ invariant_of-result c =
     let g = c.args.graph.now in
     let started = c.in_ok-vec.ensures.items_if_clones_equal (λ y e. e)
     ∙ ap (λ n. replicate n 0) c.actors-actors.ensures in
-    let ends = c.in_ok-vec-2.ensures.items_if_clones_equal (λ y e. e)
-    ∙ ap (λ n. replicate n 0) c.actors-actors.ensures in
+    let whose = c.in_ok-vec-2.ensures.items_if_clones_equal (λ y e. e) in
     let until = c.in_ok-vec-3.ensures.items_if_clones_equal (λ y e. e) in
     let homes : c.in_ok-vec-4.field-0.items ≡ replicate g.actors None = search rules in
-    let marks : c.in_ok-vec-5.field-0.items ≡ replicate g.actors true = search rules in
-    rw (c.in_ok-new.ensures, started, ends, until, homes, c.new-2.ensures.items, marks)
+    let marks = c.in_ok-of_all.ensures ∙ ap (λ n. replicate n true) c.actors-actors.ensures in
+    rw (c.in_ok-new.ensures, started, whose, until, homes, c.new-2.ensures.items, marks)
     (idle_is g c.args.width (c.graphs_are_sound.ensures g c.channels.ensures.shape))

@@ -26,7 +26,7 @@ returns-in_ok-cells-clause-row c =
     let level = number job.levels.now in
     let ended : ℕ → ℕ = λ a. get_or i.counts.fired a 0 in
     let started : ℕ → ℕ = λ a. get_or i.started.items a 0 in
-    let ends : ℕ → ℕ = λ a. get_or i.ends.items a 0 in
+    let whose : ℕ → ℕ = λ j. get_or i.whose.items j 0 in
     let until : ℕ → ℕ = λ a. get_or i.until.items a 0 in
     let weight : ℕ → ℕ = λ a. get_or job.weights.now a 0 in
     let weight_is : weight ≡ (λ a. n a * cost a) = (λ i a. c.requires.job.weights_are a i) in
@@ -45,11 +45,11 @@ returns-in_ok-cells-clause-row c =
     let is = take_at new (drop (length new) i.homes.items) i.homes.len len in
     let its = subst (λ (x : Crewed). IsJobFor x.counts.graph job) (sym c.self.view_is) c.requires.job in
     rw is (λ past due. let d = subst (λ (x : Crewed). IsDueTo job x past) (sym c.self.view_is) due in
-    subst (λ (h : Bool). IsRowAt r n cost level width h past i.time ended started ends until
+    subst (λ (h : Bool). IsRowAt r n cost level width h past i.time ended started whose until
     (λ a. get_or new a None) cells) (sym c.if-job.true)
-    (row_homed r n cost level width past i.time ended started ends i.until.items k.sound
+    (row_homed r n cost level width past i.time ended started whose i.until.items k.sound
     (job_dear _ _ _ _ _ its) queue q cells i.homes.items new
-    (subst (λ (h : Bool). IsDue r n cost level width h past i.time ended started ends until
+    (subst (λ (h : Bool). IsDue r n cost level width h past i.time ended started whose until
     (λ a. get_or i.homes.items a None)) c.if-job.true d) weight weight_is refl placed waiting))
 
 pub returns-in_ok-cells-2-clause-row : goal.returns-in_ok-cells-2-clause-row
@@ -63,7 +63,7 @@ returns-in_ok-cells-2-clause-row c =
     let level = number job.levels.now in
     let ended : ℕ → ℕ = λ a. get_or i.counts.fired a 0 in
     let started : ℕ → ℕ = λ a. get_or i.started.items a 0 in
-    let ends : ℕ → ℕ = λ a. get_or i.ends.items a 0 in
+    let whose : ℕ → ℕ = λ j. get_or i.whose.items j 0 in
     let until : ℕ → ℕ = λ a. get_or i.until.items a 0 in
     let width : ℕ = length i.until.items in
     let queue = i.queue.items in
@@ -73,9 +73,9 @@ returns-in_ok-cells-2-clause-row c =
     let its = subst (λ (x : Crewed). IsJobFor x.counts.graph job) (sym c.self.view_is) c.requires.job in
     (λ past due. let d = subst (λ (x : Crewed). IsDueTo job x past) (sym c.self.view_is) due in
     subst (λ (x : Crewed). IsRowFor job x past cells) c.self.view_is
-    (subst (λ (h : Bool). IsRowAt r n cost level width h past i.time ended started ends until
+    (subst (λ (h : Bool). IsRowAt r n cost level width h past i.time ended started whose until
     (λ a. get_or i.homes.items a None) cells) (sym c.if-job.false)
-    (row_free r n cost level width past i.time ended started ends i.until.items k.sound
+    (row_free r n cost level width past i.time ended started whose i.until.items k.sound
     (job_dear _ _ _ _ _ its) queue q cells (λ a. get_or i.homes.items a None)
-    (subst (λ (h : Bool). IsDue r n cost level width h past i.time ended started ends until
+    (subst (λ (h : Bool). IsDue r n cost level width h past i.time ended started whose until
     (λ a. get_or i.homes.items a None)) c.if-job.false d) fill.0 fill.1)))

@@ -41,24 +41,24 @@ invariant_of-self c =
     let i = c.self.inside in
     let k = c.self.invariant in
     let s = c.start.new.started in
-    let n = c.start.new.ends in
+    let w = c.start.new.whose in
     let u = c.start.new.until in
     let s_len : length s ≡ length i.started.items = c.start.ensures.actors ∙ ap length c.deref_mut.ensures.value in
-    let n_len : length n ≡ length i.ends.items = c.start.ensures.all ∙ ap length c.deref_mut-2.ensures.value in
+    let w_len : length w ≡ length i.whose.items = c.start.ensures.all ∙ ap length c.deref_mut-2.ensures.value in
     let u_len : length u ≡ length i.until.items = c.start.ensures.columns ∙ ap length c.deref_mut-3.ensures.value in
     let st = take_at s (drop (length s) i.started.items) i.started.len (s_len ∙ sym i.started.ok.0) in
-    let nt = take_at n (drop (length n) i.ends.items) i.ends.len (n_len ∙ sym i.ends.ok.0) in
+    let wt = take_at w (drop (length w) i.whose.items) i.whose.len (w_len ∙ sym i.whose.ok.0) in
     let ut = take_at u (drop (length u) i.until.items) i.until.len (u_len ∙ sym i.until.ok.0) in
     let begun = rw (c.deref_mut.ensures.value, c.deref_mut-2.ensures.value, c.deref_mut-3.ensures.value) at
     c.start.ensures.started in
     let row = subst (λ (x : Crewed). IsRowFor c.args.job.now x c.requires.row.0 c.args.cells.now) (sym c.self.view_is)
     c.requires.row.1 in
     let job = subst (λ (x : Crewed). IsJobFor x.counts.graph c.args.job.now) (sym c.self.view_is) c.requires.job in
-    rw (st, nt, ut) (record {
+    rw (st, wt, ut) (record {
       sound = k.sound;
       fired_all = k.fired_all;
       started_all = s_len ∙ k.started_all;
-      ends_all = n_len ∙ k.ends_all;
+      whose_all = w_len ∙ (k.whose_all ∙ sym u_len);
       homes_all = k.homes_all;
       marks_all = k.marks_all;
       inside = λ a j is. let l = k.inside a j is in omega (arith, u_len);
