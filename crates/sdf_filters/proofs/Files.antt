@@ -8,7 +8,9 @@ use Rattle.std.proofs.lemmas.Option.{slice_get_read, slice_get-get_or}
 use Rattle.sdf_filters.specs.declared.stage.Stage.{Stage}
 use Rattle.sdf_filters.specs.declared.wanted.Wanted.{Wanted}
 use Rattle.sdf_filters.specs.declared.converter.StageFile.{StageFile}
-use Rattle.sdf_filters.specs.Converters.{put, rate_at, stage_wanted, IsStageFile, IsFileOf, AreFilesTo}
+use Rattle.sdf_filters.specs.declared.fault.FilterFault.{FilterFault}
+use Rattle.sdf_filters.specs.Converters.{put, rate_at, stage_wanted, IsStageFile, IsFileOf, AreFilesTo, IsStageFault}
+use Rattle.sdf_filters.specs.Converters.{IsStagesFault}
 
 pub no_files : (from pass attenuation : ℕ) (stages : List Stage) (files : List StageFile) → length files ≡ 0 →
     (length files ≡ 0) × ((from ≡ rate_at from stages 0) × AreFilesTo from pass attenuation stages files 0)
@@ -69,3 +71,17 @@ file_added from pass attenuation stages xs ys n rate s w f long is_rate before g
         (slice_get v k)) (sym added)
         (subst (λ o. IsFileOf (rate_at from stages k) pass attenuation (k + 1) (slice_get stages k) o)
         (sym (same_before xs f k (omega (arith, long)))) (before k (omega arith)))
+
+-- a stage has no file, and those before it have theirs
+pub stage_fails : (from pass attenuation : ℕ) (stages : List Stage) (xs : List StageFile) (n rate : ℕ) (s : Stage)
+    (fault : FilterFault) → rate ≡ rate_at from stages n → AreFilesTo from pass attenuation stages xs n →
+    slice_get stages n ≡ Some s → IsStageFault rate pass attenuation s fault →
+    IsStagesFault from pass attenuation stages fault
+stage_fails from pass attenuation stages xs n rate s fault is_rate before got is = record {
+  place = n;
+  stage = s;
+  stands = got;
+  files = xs;
+  before = before;
+  fault_is = subst (λ r. IsStageFault r pass attenuation s fault) is_rate is;
+}

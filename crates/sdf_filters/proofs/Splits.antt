@@ -1,13 +1,14 @@
 -- Stages one after another, and what is left of a ratio.
 use Rattle.std.proofs.Common.{◌≡◌, ℕ, zero, suc, ◌+◌, ◌*◌, ◌/◌, ◌%◌, ◌<◌, ◌≤◌, ◌⊎◌, inl, inr, List, [], ◌∷◌, ◌++◌}
-use Rattle.std.proofs.Common.{sym, ap, ◌∙◌, mul-le-mul_right, mul_assoc, arith}
+use Rattle.std.proofs.Common.{sym, ap, ◌∙◌, mul-le-mul_right, mul_assoc, arith, rules}
 use Rattle.std.proofs.Math.Nat.{mod_self, mul-mod_left}
 use Rattle.std.proofs.lemmas.Bool.{cases_lt}
+use Rattle.std.proofs.lemmas.List.Elements.{All-push}
 use Rattle.std.proofs.lemmas.Nat.Gcd.{mod-eq-zero_of_dvd}
 use Rattle.std.specs.Int.{IsGcd}
 use Rattle.sdf_filters.specs.declared.stage.Stage.{Stage}
 use Rattle.sdf_filters.specs.Stages.{ups, downs, IsSplit, IsLowest, IsSplitOf, IsPart, IsTooLarge, HasNoFactor}
-use Rattle.sdf_filters.specs.Stages.{IsPartFault, IsSplitFault}
+use Rattle.sdf_filters.specs.Stages.{IsPartFault, IsSplitFault, DoesSomething}
 use Rattle.sdf_filters.specs.declared.fault.FilterFault.{FilterFault}
 use Rattle.sdf_filters.specs.declared.fault.FilterFault.TheVariants.{OutOfMemory, Up, Shift, Attenuation}
 use Rattle.sdf_filters.specs.declared.fault.FilterFault.TheVariants.{PassNotBelowStop, StopOverHalf, TooManyTaps}
@@ -48,6 +49,7 @@ none_yet up down up_some down_some = record {
   down_is = omega arith;
   up_some = up_some;
   down_some = down_some;
+  each = search rules;
 }
 
 -- one stage more
@@ -65,6 +67,7 @@ one_more up down up_left down_left stages s before part =
           ∙ (ap (λ m. downs stages * m) down_is ∙ before.down_is));
       up_some = factor_some s.up (up_left / s.up) up_left up_is before.up_some;
       down_some = factor_some s.down (down_left / s.down) down_left down_is before.down_some;
+      each = All-push DoesSomething stages s before.each part.some;
     }
 
 -- less is left
@@ -102,6 +105,7 @@ all_done up down up_left down_left stages split few =
       down_is = ap (λ m. downs stages * m) (sym one') ∙ split.down_is;
       up_some = omega arith;
       down_some = omega arith;
+      each = split.each;
     }
 
 -- what is too large of what is left is too large of all
@@ -127,8 +131,11 @@ split_is from to up down stages lowest split =
     let u : ups stages ≡ up = omega (arith, split.up_is) in
     let d : downs stages ≡ down = omega (arith, split.down_is) in
     let turned : up * (lowest.common * down) ≡ down * (lowest.common * up) = omega arith in
-    ap (λ m. m * from) u ∙ (ap (λ m. up * m) lowest.from_is
-    ∙ (turned ∙ (ap (λ m. down * m) (sym lowest.to_is) ∙ ap (λ m. m * to) (sym d))))
+    record {
+      product = ap (λ m. m * from) u ∙ (ap (λ m. up * m) lowest.from_is
+          ∙ (turned ∙ (ap (λ m. down * m) (sym lowest.to_is) ∙ ap (λ m. m * to) (sym d))));
+      each = split.each;
+    }
 
 -- a number over 1 that no number from 2 to 64 divides is over 64
 pub over_limit : (n : ℕ) → 1 < n → HasNoFactor n → 64 < n

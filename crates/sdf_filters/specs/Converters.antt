@@ -72,21 +72,30 @@ abbrev pub channels_test : ℕ → Result (Unit {0}) FilterFault
 channels_test channels = tested (nat_le 1 channels && nat_le channels (MOST_CHANNEL + 1)) (Channels channels) (Ok tt)
 
 -- a rate has over 32 bits
-pub record IsRateFault (fault : FilterFault) : Type 0 where
-  pub rate : ℕ
+pub record IsRateFault (rate : ℕ) (fault : FilterFault) : Type 0 where
   pub large : 2 ^ 32 ≤ rate
   pub is : fault ≡ RateTooLarge rate
 
--- there are no taps of a filter
-pub record IsFilterFault (fault : FilterFault) : Type 0 where
-  pub wanted : Wanted
-  pub is : IsFault wanted fault
+-- why there is no file of a stage that takes this rate: its filter's rate is too large, or the filter has no taps
+abbrev pub IsStageFault : ℕ → ℕ → ℕ → Stage → FilterFault → Type 0
+IsStageFault rate pass attenuation s fault =
+    IsRateFault (rate * s.up) fault ⊎ IsFault (stage_wanted rate pass attenuation s) fault
 
--- why there is no file of a stage
-abbrev pub IsStageFault : FilterFault → Type 0
-IsStageFault fault = (fault ≡ OutOfMemory) ⊎ (IsRateFault fault ⊎ IsFilterFault fault)
+-- the stage at a place has no file, and all before it have theirs
+pub record IsStagesFault (from pass attenuation : ℕ) (stages : List Stage) (fault : FilterFault) : Type 0 where
+  pub place : ℕ
+  pub stage : Stage
+  pub stands : slice_get stages place ≡ Some stage
+  pub files : List StageFile
+  pub before : AreFilesTo from pass attenuation stages files place
+  pub fault_is : IsStageFault (rate_at from stages place) pass attenuation stage fault
 
--- why there is no design: the channels, the ratio of the rates, or a stage
-abbrev pub IsConverterFault : ℕ → ℕ → ℕ → FilterFault → Type 0
-IsConverterFault from to channels fault =
-    (channels_test channels ≡ Err fault) ⊎ (IsSplitFault from to fault ⊎ IsStageFault fault)
+-- why there is no design: the channels, then the ratio of the rates, then a stage. Memory may be refused at any place
+pub data IsConverterFault (from to channels attenuation : ℕ) (fault : FilterFault) : Type 0 where
+  memory : fault ≡ OutOfMemory → IsConverterFault from to channels attenuation fault
+  channels : channels_test channels ≡ Err fault → IsConverterFault from to channels attenuation fault
+  split : channels_test channels ≡ Ok tt → IsSplitFault from to fault →
+      IsConverterFault from to channels attenuation fault
+  stage : channels_test channels ≡ Ok tt → (stages : List Stage) → IsSplit from to stages →
+      IsStagesFault from (passed from to) attenuation stages fault →
+      IsConverterFault from to channels attenuation fault

@@ -1,6 +1,7 @@
 -- Stages of a conversion, and what they come to.
 use Rattle.std.specs.Prelude.{◌≡◌, ◌≢◌, ℕ, ◌+◌, ◌*◌, ◌%◌, ◌<◌, ◌≤◌, ◌⊎◌, List, [], ◌∷◌}
 use Rattle.std.specs.Int.{IsGcd}
+use Rattle.std.specs.List.{All}
 use Rattle.sdf_limits.specs.declared.TheConstants.{MOST_FACTOR}
 use Rattle.sdf_filters.specs.declared.stage.Stage.{Stage}
 use Rattle.sdf_filters.specs.declared.fault.FilterFault.{FilterFault}
@@ -16,9 +17,14 @@ abbrev pub downs : List Stage → ℕ
 downs [] = 1
 downs (s ∷ ss) = s.down * downs ss
 
--- the stages come to to / from
-abbrev pub IsSplit : ℕ → ℕ → List Stage → Type 0
-IsSplit from to stages = ups stages * from ≡ downs stages * to
+-- a stage is no 1 / 1
+abbrev pub DoesSomething : Stage → Type 0
+DoesSomething s = 2 < s.up + s.down
+
+-- the stages come to to / from, and each does something
+pub record IsSplit (from to : ℕ) (stages : List Stage) : Type 0 where
+  pub product : ups stages * from ≡ downs stages * to
+  pub each : All DoesSomething stages
 
 -- up / down is to / from in lowest terms
 pub record IsLowest (from to up down : ℕ) : Type 0 where
@@ -35,12 +41,13 @@ pub record IsSplitOf (up down up_left down_left : ℕ) (stages : List Stage) : T
   pub down_is : downs stages * down_left ≡ down
   pub up_some : 0 < up_left
   pub down_some : 0 < down_left
+  pub each : All DoesSomething stages
 
 -- a stage is a part of up / down, and does something
 pub record IsPart (up down : ℕ) (s : Stage) : Type 0 where
   pub up_divides : up % s.up ≡ 0
   pub down_divides : down % s.down ≡ 0
-  pub some : 2 < s.up + s.down
+  pub some : DoesSomething s
 
 -- no number from 2 to 64 divides it
 abbrev pub HasNoFactor : ℕ → Type 0

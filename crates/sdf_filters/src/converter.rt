@@ -4,8 +4,9 @@ ghost use Rattle.std.specs.Prelude.{◌≡◌, ◌+◌, ◌*◌, ◌/◌, ◌<�
 ghost use Rattle.std.specs.Prelude.{string_bytes, codes, length};
 ghost use Rattle.sdf_filters.specs.Graphs.{stage_name};
 ghost use Rattle.sdf_filters.specs.Converters.{passed, stage_wanted, rate_at, IsStageFile, AreStageFiles};
-ghost use Rattle.sdf_filters.specs.Converters.{channels_test, IsRateFault, IsStageFault, IsConverter};
+ghost use Rattle.sdf_filters.specs.Converters.{channels_test, IsRateFault, IsStagesFault, IsConverter};
 ghost use Rattle.sdf_filters.specs.Converters.{IsConverterFault};
+ghost use Rattle.sdf_filters.specs.Wanted.{IsFault};
 
 use crate::fault::{FilterFault, test};
 use crate::graph::{STAGE_SHIFT, graph_text, push_stage_name};
@@ -50,7 +51,7 @@ fn passed(from: u32, to: u32) -> u32
 
 /// A rate of 32 bits.
 fn rate_of(rate: u64) -> Result<u32, FilterFault>
-    ensures { MatchResult result (λ given. given ≡ rate) IsRateFault }
+    ensures { MatchResult result (λ given. given ≡ rate) (IsRateFault rate) }
 {
     match u32::try_from(rate) {
         Ok(rate) => Ok(rate),
@@ -60,7 +61,8 @@ fn rate_of(rate: u64) -> Result<u32, FilterFault>
 
 /// The filter of a stage that takes this rate: no image of what passes is left, and nothing comes to lie on it.
 fn stage_wanted(rate: u32, pass: u32, attenuation: u32, stage: Stage) -> Result<Wanted, FilterFault>
-    ensures { MatchResult result (λ wanted. wanted ≡ stage_wanted rate pass attenuation stage) IsRateFault }
+    ensures { MatchResult result (λ wanted. wanted ≡ stage_wanted rate pass attenuation stage)
+        (IsRateFault (rate * stage.up)) }
 {
     let at = rate_of(u64::from(rate) * u64::from(stage.up))?;
     let stop = rate.min(at / stage.down).saturating_sub(pass);
@@ -85,7 +87,7 @@ fn file_name(alloc: Global, number: usize) -> Result<String, AllocError>
 
 /// The coefficient file of a stage.
 fn stage_file(alloc: Global, number: usize, wanted: Wanted) -> Result<StageFile, FilterFault>
-    ensures { MatchResult result (IsStageFile wanted number) IsStageFault }
+    ensures { MatchResult result (IsStageFile wanted number) (IsFault wanted) }
 {
     let texts = filter_texts(alloc, wanted)?;
     let name = file_name(alloc, number)?;
@@ -112,7 +114,8 @@ fn stage_files(
     attenuation: u32,
     stages: &[Stage],
 ) -> Result<Vec<StageFile>, FilterFault>
-    ensures { MatchResult result (λ files. AreStageFiles from pass attenuation stages.now files.items) IsStageFault }
+    ensures { MatchResult result (λ files. AreStageFiles from pass attenuation stages.now files.items)
+        (IsStagesFault from pass attenuation stages.now) }
 {
     let mut files = Vec::new(alloc);
     let mut rate = from;
@@ -139,7 +142,7 @@ pub fn converter_texts(
 ) -> Result<ConverterTexts, FilterFault>
     ensures { MatchResult result
         (λ texts. IsConverter from to channels attenuation (string_bytes texts.graph) texts.files.items)
-        (IsConverterFault from to channels) }
+        (IsConverterFault from to channels attenuation) }
 {
     test_channels(channels)?;
     let stages = stages(alloc, from, to, attenuation)?;

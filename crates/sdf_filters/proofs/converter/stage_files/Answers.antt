@@ -1,6 +1,10 @@
-use Rattle.std.proofs.Common.{rules, ap, refl, length}
+use Rattle.std.proofs.Common.{rules, ap, refl, length, inl, inr, subst}
 use Rattle.std.proofs.lemmas.Option.{slice_get_read}
-use Rattle.sdf_filters.proofs.Files.{no_files, file_added}
+use Rattle.std.proofs.lemmas.Result.{err_from_is_err_and}
+use Rattle.sdf_filters.specs.declared.fault.FilterFault.TheVariants.{OutOfMemory}
+use Rattle.sdf_filters.specs.declared.wanted.Wanted.{Wanted}
+use Rattle.sdf_filters.specs.Wanted.{IsFault}
+use Rattle.sdf_filters.proofs.Files.{no_files, file_added, stage_fails}
 use Rattle.sdf_filters.proofs.converter.stage_files.Goals as goal
 
 pub loop-place-init : goal.loop-place-init
@@ -16,3 +20,33 @@ loop-place-preserved c =
     (slice_get_read c.args.stages.now (length c.args.stages.now) c.loop-place.place c.index-stages-place.result refl
     (search rules) c.index-stages-place.is)
     c.in_ok-wanted.ensures c.in_ok-file.ensures c.in_ok-add_file.ensures
+
+pub returns-in_err-wanted : goal.returns-in_err-wanted
+returns-in_err-wanted c =
+    let p = err_from_is_err_and c.from_residual.result c.from_residual.ensures.1 in
+    rw (p.1, p.2) (stage_fails c.args.from c.args.pass c.args.attenuation c.args.stages.now c.loop-place.files.items
+    c.loop-place.place c.loop-place.rate c.index-stages-place.result c.in_err-wanted.field-0.0
+    c.loop-place.invariant.1.0 c.loop-place.invariant.1.1
+    (slice_get_read c.args.stages.now (length c.args.stages.now) c.loop-place.place c.index-stages-place.result refl
+    (search rules) c.index-stages-place.is)
+    (inl c.in_err-wanted.ensures))
+
+pub returns-in_err-file : goal.returns-in_err-file
+returns-in_err-file c =
+    let p = err_from_is_err_and c.from_residual-in_err-file.result c.from_residual-in_err-file.ensures.1 in
+    rw (p.1, p.2) (stage_fails c.args.from c.args.pass c.args.attenuation c.args.stages.now c.loop-place.files.items
+    c.loop-place.place c.loop-place.rate c.index-stages-place.result c.in_err-file.field-0.0
+    c.loop-place.invariant.1.0 c.loop-place.invariant.1.1
+    (slice_get_read c.args.stages.now (length c.args.stages.now) c.loop-place.place c.index-stages-place.result refl
+    (search rules) c.index-stages-place.is)
+    (inr (subst (λ (w : Wanted). IsFault w c.in_err-file.field-0.0) c.in_ok-wanted.ensures c.in_err-file.ensures)))
+
+pub returns-in_err-add_file : goal.returns-in_err-add_file
+returns-in_err-add_file c =
+    let p = err_from_is_err_and c.from_residual-in_err-add_file.result c.from_residual-in_err-add_file.ensures.1 in
+    rw (p.1, p.2) (stage_fails c.args.from c.args.pass c.args.attenuation c.args.stages.now c.loop-place.files.items
+    c.loop-place.place c.loop-place.rate c.index-stages-place.result OutOfMemory
+    c.loop-place.invariant.1.0 c.loop-place.invariant.1.1
+    (slice_get_read c.args.stages.now (length c.args.stages.now) c.loop-place.place c.index-stages-place.result refl
+    (search rules) c.index-stages-place.is)
+    (inr (inr (inr tt))))
