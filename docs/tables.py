@@ -6,10 +6,14 @@
 - The head of each crate's root file names the crates that crates.txt says it stands on, and where to begin; so does
   the list of crates in docs/ARCHITECTURE.md.
 - What an edit of must-fail/ or mutants/ is to replace stands once in its file.
+- Blocks whose first line is a comment with a path, `# examples/..` or `// crates/..`, in each document: the file at
+  that path is the block, but for its comments. A block for `build/` is written there, for the commands below it.
 - Blocks marked `console`, in each document: each command, run at the top of the repository, prints what stands below.
+- The JSON schemas in docs/ describe graph files and what `--json` prints (`schemas.py`).
 - No line of a document is over 120 columns.
 
-`python3 docs/tables.py [--write] [PROGRAM]`: the program is build/sdfw where none is named.
+`python3 docs/tables.py [--write] [PROGRAM]`: the program is build/sdfw if none is named. `--write` writes the list of
+faults, the schema of graph files and what is shown of commands anew, to be read before it is committed.
 """
 
 import os
@@ -22,7 +26,8 @@ import textwrap
 
 TOP = pathlib.Path(__file__).resolve().parent.parent
 sys.dont_write_bytecode = True
-sys.path.insert(0, str(TOP / "scripts"))
+sys.path[:0] = [str(TOP / "scripts"), str(TOP / "docs")]
+import schemas
 from sources import functions, places
 
 PAGE = TOP / "docs" / "FORMATS.md"
@@ -168,21 +173,54 @@ def stands_on():
     return wrong
 
 
-def consoles(program):
-    """What is wrong with the blocks marked `console`."""
+def without_comments(text):
+    """The lines of a text that are no comments and hold something."""
+    return [line for line in text.splitlines() if line.strip() and not line.lstrip().startswith(("#:", "# ", "//"))]
+
+
+def named_block(text):
+    """What is wrong with a block whose first line names a file. A file of build/ is written."""
+    found = re.match(r"(?:#|//) ((?:build|examples|crates)/\S+)\n", text)
+    if not found:
+        return []
+    file = TOP / found[1]
+    if found[1].startswith("build/"):
+        file.parent.mkdir(parents=True, exist_ok=True)
+        file.write_text(text)
+    same = file.exists() and without_comments(file.read_text()) == without_comments(text)
+    return [] if same else [f"the block of {found[1]} is not that file"]
+
+
+def session(program, text):
+    """What a console block becomes: its commands, each with what it prints."""
+    made = []
+    for part in re.split(r"^\$ ", text, flags=re.M)[1:]:
+        written = re.match(r"(?:.*\\\n)*.*\n", part)[0]
+        command = re.sub(r"\\\n\s*", "", written).replace("build/sdfw", str(program))
+        # `resample` overwrites no file.
+        if folder := re.search(r" resample \d+ \d+ (build/\S+)", command):
+            shutil.rmtree(TOP / folder[1], ignore_errors=True)
+        ran = subprocess.run(
+            ["bash", "-c", command], cwd=TOP, stdout=subprocess.PIPE, stderr=subprocess.STDOUT, text=True
+        )
+        made.append(f"$ {written}" + "".join(f"{line.rstrip()}\n" for line in ran.stdout.rstrip().splitlines()))
+    return made
+
+
+def sessions(program, write):
+    """What is wrong with the blocks of the documents that name a file or are marked `console`."""
     wrong = []
-    # `resample` overwrites no file.
-    shutil.rmtree(TOP / "build" / "converter", ignore_errors=True)
     for paper in PAPERS:
-        for block in re.findall(r"^```console\n(.*?)^```$", paper.read_text(), re.M | re.S):
-            for part in re.split(r"^\$ ", block, flags=re.M)[1:]:
-                command, _, wanted = re.sub(r"\\\n\s*", "", part).partition("\n")
-                ran = subprocess.run(
-                    ["bash", "-c", command.replace("build/sdfw", str(program))],
-                    cwd=TOP, stdout=subprocess.PIPE, stderr=subprocess.STDOUT, text=True,
-                )
-                if ran.stdout.rstrip() != wanted.rstrip():
-                    wrong.append(f"{paper.relative_to(TOP)}: `{command}` prints\n{ran.stdout}")
+        page = paper.read_text()
+        for mark, block in re.findall(r"^```(\w*)\n(.*?)^```$", page, re.M | re.S):
+            wrong += [f"{paper.relative_to(TOP)}: {mistake}" for mistake in named_block(block)]
+            made = session(program, block) if mark == "console" else []
+            if write and made:
+                page = page.replace(f"```console\n{block}```", f"```console\n{''.join(made)}```")
+            elif made and "".join(made) != block:
+                wrong += [f"{paper.relative_to(TOP)}: this is printed:\n{part}" for part in made if part not in block]
+        if write:
+            paper.write_text(page)
     return wrong
 
 
@@ -200,8 +238,9 @@ def main():
     words = [word for word in sys.argv[1:] if word != "--write"]
     program = words[0] if words else os.path.relpath(TOP / "build" / "sdfw", TOP)
     os.chdir(TOP)
-    wrong = faults(program, "--write" in sys.argv) + kinds(program) + unedited() + edits() + heads() + stands_on()
-    wrong += consoles(program) + widths()
+    write = "--write" in sys.argv
+    wrong = faults(program, write) + kinds(program) + unedited() + edits() + heads() + stands_on()
+    wrong += schemas.differences(program, write) + sessions(program, write) + widths()
     print("\n".join(wrong) or "the documents say what the program and the sources say")
     sys.exit(1 if wrong else 0)
 

@@ -1,0 +1,49 @@
+//! Runs the design `graph.toml` on the WAV file at standard input, and prints the WAV file that the design makes.
+//!
+//! It depends on `sdf_file`, which reads the design, on `sdf_plan` and `sdf_options`, which plan it, on `sdf_process`,
+//! which runs it from bytes to bytes, and on `sdf_wav` for its reader and its writer. Begin at `main`.
+#![tactic(auto)]
+
+use anyhow::Result;
+use sdf_file::{Design, design_files, read_design};
+use sdf_options::Options;
+use sdf_plan::planning::plan;
+use sdf_process::process::process;
+use sdf_wav::{FromRead, ToWrite};
+use std::fs;
+use std::io::{Read, Write};
+use std::rt::Files;
+use std::thread::Threads;
+use std::time::Clock;
+
+/// Reads the graph file at `path` and the coefficient files that it names, which lie where the program runs.
+fn load<R: AllocGlobal + Files>(rt: &R, path: &str) -> Result<Design> {
+    let graph = fs::read(rt, path)?;
+    let mut files = Vec::new(rt.alloc());
+    for name in design_files(rt.alloc(), &graph)? {
+        let bytes = fs::read(rt, name.as_str())?;
+        files.push((name, bytes))?;
+    }
+    Ok(read_design(rt.alloc(), &graph, &files)?)
+}
+
+/// Plans `design` for one thread, and runs it on the bytes of a WAV file.
+fn processed<R: AllocGlobal + Clock + Sync + Threads>(
+    rt: &R,
+    design: &Design,
+    sound: &[u8],
+) -> Result<Vec<u8>> {
+    let plan = plan(rt.alloc(), design, &Options::DEFAULT)?;
+    let mut reader = FromRead::new(sound);
+    let mut writer = ToWrite::new(Vec::new(rt.alloc()));
+    process(rt, &mut reader, &mut writer, design, &plan)?;
+    Ok(writer.into_inner())
+}
+
+fn main(rt: HostRuntime) -> Result<()> {
+    let design = load(&rt, "graph.toml")?;
+    let mut sound = Vec::new(rt.alloc());
+    rt.stdin().read_to_end(&mut sound)?;
+    let made = processed(&rt, &design, &sound)?;
+    Ok(rt.stdout().write_all(&made)?)
+}
