@@ -44,6 +44,7 @@ install:
 	install -D -m 644 docs/completions/sdfw.fish $(DESTDIR)$(PREFIX)/share/fish/vendor_completions.d/sdfw.fish
 	install -d $(DESTDIR)$(PREFIX)/share/doc/sdfw
 	install -m 644 README.md LICENSE CHANGELOG.md docs/TUTORIAL.md docs/FORMATS.md $(DESTDIR)$(PREFIX)/share/doc/sdfw
+	install -m 644 docs/graph.schema.json docs/answers.schema.json $(DESTDIR)$(PREFIX)/share/doc/sdfw
 
 # Removes what `install` copied.
 uninstall:
@@ -58,8 +59,8 @@ uninstall:
 deb:
 	scripts/deb
 
-# Whether the documents say what the program and the sources say: kinds, faults, functions without an edit, pages,
-# the pictures of the examples (wants python3).
+# Whether the documents say what the program and the sources say: kinds, faults, JSON schemas, what commands print,
+# functions without an edit, pages, the pictures of the examples.
 documents: build
 	python3 docs/tables.py
 	scripts/pages --check

@@ -35,7 +35,10 @@ def form(text):
         return name, {"type": "array", "minItems": 1, "maxItems": int(most), "items": value}, "list"
     if rest == "of 32 bits":
         return name, whole(-BITS, BITS - 1), "needed"
-    least, most, absent, optional = re.fullmatch(r"(\S+)\.\.(-?\d+)(?: \((-?\d+)\)| (or absent))?", rest).groups()
+    numbers = re.fullmatch(r"(\S+)\.\.(-?\d+)(?: \((-?\d+)\)| (or absent))?", rest)
+    if not numbers:
+        raise SystemExit(f"docs/schemas.py: `{text}` of `sdfw kinds` has no form that is known here")
+    least, most, absent, optional = numbers.groups()
     # `least..32767` is no less than the key `least`, which no schema can say.
     least = -(int(most) + 1) if least == "least" else int(least)
     made = whole(least, int(most), int(absent) if absent else None)
