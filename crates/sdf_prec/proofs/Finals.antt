@@ -1,5 +1,5 @@
 -- The table of the rule's rows.
-use Rattle.std.proofs.Common.{◌≡◌, ℕ, ◌<◌, List, [], ◌∷◌, length, sym, ap, ◌∙◌, subst, arith, refl, Bool}
+use Rattle.std.proofs.Common.{◌≡◌, ℕ, ◌<◌, List, [], ◌∷◌, length, sym, ap, ◌∙◌, subst, arith, refl, Bool, Option}
 use Rattle.std.proofs.lemmas.List.{length-map}
 use Rattle.sdf_graph.specs.Rates.{Rates}
 use Rattle.sdf_prec.specs.declared.firing.Firing.{Firing}
@@ -8,7 +8,7 @@ use Rattle.sdf_prec.specs.declared.fault.PrecFault.TheVariants.{OutOfMemory, Blo
 use Rattle.sdf_prec.specs.Blocks.{IsBlocking, IsWorkers, IsBlockFault, IsLengthFault, IsSizeFault}
 use Rattle.sdf_prec.specs.Levels.{IsLevel}
 use Rattle.sdf_prec.specs.Tables.{firings, row, Tabled, IsValid, IsExact, IsOfBlock}
-use Rattle.sdf_prec.specs.TimedRows.{Timed, cells_of, AreTimedRows, hu_rule}
+use Rattle.sdf_prec.specs.TimedRows.{Timed, cells_of, AreHuRows}
 use Rattle.sdf_prec.specs.HuTables.{IsHuTable}
 use Rattle.sdf_prec.proofs.Ends.{row_of}
 
@@ -16,23 +16,23 @@ some_firing : (fs : List Firing) → (fs ≡ [] → ⊥) → 0 < length fs
 some_firing [] none = absurd (none refl)
 some_firing (f ∷ fs) none = omega arith
 
-pub hu_table : (r : Rates) (n cost : ℕ → ℕ) (level : Firing → ℕ) (width : ℕ) (homed : Bool) (past : List Timed)
-    (t : Tabled) → AreTimedRows r n width (hu_rule r n cost level width homed) past → IsValid r n (cells_of past) →
-    t.rows ≡ cells_of past → IsExact r t → ((f : Firing) → IsOfBlock r n f → IsLevel r n cost f (level f)) →
+pub hu_table : (r : Rates) (n cost : ℕ → ℕ) (level : Firing → ℕ) (width : ℕ) (homed : Bool)
+    (rows : List (List (Option Firing))) (t : Tabled) → AreHuRows r n cost level width homed rows →
+    IsValid r n rows → t.rows ≡ rows → IsExact r t → ((f : Firing) → IsOfBlock r n f → IsLevel r n cost f (level f)) →
     IsHuTable r n cost width homed t
-hu_table r n cost level width homed past t are valid same exact levels = record {
+hu_table r n cost level width homed rows t (past, is, are) valid same exact levels = record {
   table = record {
     valid = subst (IsValid r n) (sym same) valid;
-    wide = subst (λ rows. (i : ℕ) → i < length rows → length (row rows i) ≡ width) (sym same)
+    wide = subst (λ rows. (i : ℕ) → i < length rows → length (row rows i) ≡ width) (is ∙ sym same)
         (λ i l. ap length (row_of past i) ∙ (are.rows_are i (known i l)).wide);
-    some = subst (λ rows. (i : ℕ) → i < length rows → 0 < length (firings (row rows i))) (sym same)
+    some = subst (λ rows. (i : ℕ) → i < length rows → 0 < length (firings (row rows i))) (is ∙ sym same)
         (λ i l. some_firing (firings (row (cells_of past) i))
         (λ none. (are.rows_are i (known i l)).some (ap firings (sym (row_of past i)) ∙ none)));
     exact = exact;
   };
   level = level;
   levels_are = levels;
-  rows_are = (past, sym same, are);
+  rows_are = (past, is ∙ sym same, are);
 }
   where
     known : (i : ℕ) → i < length (cells_of past) → i < length past

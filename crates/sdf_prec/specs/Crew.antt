@@ -9,7 +9,7 @@ use Rattle.sdf_prec.specs.declared.crew.Job.{Job}
 use Rattle.sdf_prec.specs.Costs.{AreCosts}
 use Rattle.sdf_prec.specs.Numbers.{Numbered, number}
 use Rattle.sdf_prec.specs.Tables.{cell_of}
-use Rattle.sdf_prec.specs.TimedRows.{Timed, Rule, IsSettled, hu_rule}
+use Rattle.sdf_prec.specs.TimedRows.{Timed, cells_of, IsSettled, hu_rule}
 use Rattle.sdf_prec.specs.Trying.{IsQueue}
 use Rattle.sdf_prec.specs.Queued.{IsQueueOf, IsUnmarked}
 use Rattle.sdf_prec.specs.Floor.{IsNextReady, IsFloor, AreStarted, IsStuck, IsDue, IsDone}
@@ -27,11 +27,6 @@ pub record IsJob (actors : ℕ) (firings : List ℕ) (levels : Numbered) (costs 
 -- a job for a graph
 abbrev pub IsJobFor : Shape → Job → Type 0
 IsJobFor g job = IsJob g.actors job.firings.now job.levels.now job.costs.now job.weights.now
-
--- its rule, for so many columns
-abbrev pub rule_of : Shape → Job → ℕ → Rule
-rule_of g job width = hu_rule (rates g) (slice_index job.firings.now) (slice_index job.costs.now)
-    (number job.levels.now) width job.homed
 
 -- who is at work at a time: counts of ended and of started firings, whose firing each column had last and when it is
 -- through, homes, ready firings, and a mark for each actor that may have become ready
@@ -99,6 +94,13 @@ IsDoneBy job crew past =
     (length crew.until) job.homed past crew.time
     (slice_index crew.counts.fired) (slice_index crew.started) (slice_index crew.whose) (slice_index crew.until)
     (λ a. slice_index_or crew.homes a None)
+
+-- a crew to which a row is due after these rows, with some start times, and one that is done after them
+abbrev pub IsDueAfter : Job → Crewed → List (List (Option Firing)) → Type 0
+IsDueAfter job crew rows = (past : List Timed) × (cells_of past ≡ rows) × IsDueTo job crew past
+
+abbrev pub IsDoneAfter : Job → Crewed → List (List (Option Firing)) → Type 0
+IsDoneAfter job crew rows = (past : List Timed) × (cells_of past ≡ rows) × IsDoneBy job crew past
 
 -- the cells of the rule's row at time now, with the homes after it
 pub record IsRowAt (r : Rates) (n cost : ℕ → ℕ) (level : Firing → ℕ) (width : ℕ) (homed : Bool) (past : List Timed)

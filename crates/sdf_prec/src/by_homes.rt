@@ -14,6 +14,7 @@ use crate::block::{block_firings, block_order, size_fault};
 use crate::facts::graph_laws;
 use crate::fault::PrecFault;
 use crate::firing::Firing;
+use crate::rows::Rows;
 use crate::table::Table;
 use sdf_graph::Graph;
 use sdf_limits::MOST_BLOCK;
@@ -55,21 +56,6 @@ fn home_of(homes: &[Option<usize>], actor: usize) -> usize
     homes[actor].unwrap_or(0)
 }
 
-/// A row of `m` columns with one firing.
-fn row_of(
-    alloc: Global,
-    m: usize,
-    home: usize,
-    firing: Firing,
-) -> Result<Vec<Option<Firing>>, AllocError>
-    requires { home < m }
-    ensures { IfOk result (λ row. row.items ≡ slice_set (replicate m None) home (Some firing)) }
-{
-    let mut row = vec![in alloc; None; m]?;
-    row[home] = Some(firing);
-    Ok(row)
-}
-
 /// The firings of an order, one a row, each in its actor's home.
 fn rows_of(
     alloc: Global,
@@ -77,22 +63,24 @@ fn rows_of(
     actors: usize,
     m: usize,
     homes: &[Option<usize>],
-) -> Result<Vec<Vec<Option<Firing>>>, AllocError>
+) -> Result<Rows, AllocError>
     requires known { (p : ℕ) → p < length order.now → slice_index order.now p < actors }
     requires few { length order.now ≤ MOST_BLOCK }
     requires homed { (a : ℕ) → a < actors → HasHome homes.now m a }
-    ensures { IfOk result (λ rows. AreByHomes homes.now m order.now (map (λ r. r.items) rows.items)) }
+    ensures { IfOk result (λ rows. AreByHomes homes.now m order.now rows.rows) }
 {
     graph_laws();
     let mut done = vec![in alloc; 0u32; actors]?;
-    let mut rows = Vec::new(alloc);
+    let mut rows = Rows::new(alloc, m);
+    let mut row = vec![in alloc; None; m]?;
     for actor in order {
         let actor = *actor;
         let number = done[actor];
         done[actor] = number + 1;
         let home = home_of(homes, actor);
-        let row = row_of(alloc, m, home, Firing { actor, number })?;
-        rows.push(row)?;
+        row[home] = Some(Firing { actor, number });
+        rows.push(&row)?;
+        row[home] = None;
     }
     Ok(rows)
 }

@@ -1,12 +1,13 @@
 //! Rows made one after the other, at the times at which a column is through.
 
 ghost use Rattle.std.specs.Prelude.{◌≡◌, ℕ, ◌<◌, List, length, sum, slice_index, IfOk, Some};
-ghost use Rattle.sdf_graph.specs.Rates.{rates};
+ghost use Rattle.sdf_graph.specs.Rates.{rates, IsSound};
 ghost use Rattle.sdf_graph.specs.Sequences.{IsPass};
 ghost use Rattle.sdf_prec.specs.Tables.{IsValid};
-ghost use Rattle.sdf_prec.specs.TimedRows.{Timed, cells_of, AreTimedRows};
+ghost use Rattle.sdf_prec.specs.Numbers.{number};
+ghost use Rattle.sdf_prec.specs.TimedRows.{Timed, AreHuRows};
 ghost use Rattle.sdf_prec.specs.Floor.{AreStarted, IsNextEnd};
-ghost use Rattle.sdf_prec.specs.Crew.{IsJobFor, IsCrew, idle, IsDueTo, IsDoneBy, IsRowFor, rule_of};
+ghost use Rattle.sdf_prec.specs.Crew.{IsJobFor, IsCrew, idle, IsDueTo, IsDueAfter, IsDoneAfter, IsRowFor};
 ghost use Rattle.sdf_prec.specs.Crew.{IsQueued, IsQueuedBut};
 
 use crate::costs::Costs;
@@ -18,8 +19,8 @@ use crate::laws::the_next_may_fire;
 use crate::level::Levels;
 use crate::marked::Marks;
 use crate::queue::{leave, renew};
+use crate::rows::Rows;
 use crate::tidy::has_firing;
-use crate::timed::TimedRow;
 use sdf_graph::laws::{counts_grow, graphs_are_sound, sums_rise};
 use sdf_graph::{Counts, Graph};
 use sdf_sched::laws::enabled_stays;
@@ -121,6 +122,7 @@ impl<'a> Crew<'a> {
         requires job { IsJobFor self.old.counts.graph job.now }
         requires queue { IsQueued job.now self.old }
         ensures others { self.new ≡ record self.old { homes = self.new.homes } }
+        ensures sound { IsSound (rates self.old.counts.graph) }
         ensures row { IfOk result (λ cells. (past : List Timed) → IsDueTo job.now self.old past →
             IsRowFor job.now self.new past cells.items) }
     {
@@ -170,26 +172,22 @@ impl<'a> Crew<'a> {
     }
 
     /// Adds the row of this time, where it is not empty.
-    fn add_row(
-        &mut self,
-        alloc: Global,
-        job: &Job,
-        rows: &mut Vec<TimedRow>,
-    ) -> Result<(), AllocError>
+    fn add_row(&mut self, alloc: Global, job: &Job, rows: &mut Rows) -> Result<(), AllocError>
         requires job { IsJobFor self.old.counts.graph job.now }
-        requires due { IsDueTo job.now self.old rows.old.items }
+        requires wide { rows.old.width ≡ length self.old.until }
+        requires due { IsDueAfter job.now self.old rows.old.rows }
         requires queue { IsQueuedBut job.now self.old }
         ensures counts { self.new.counts ≡ self.old.counts }
         ensures columns { length self.new.until ≡ length self.old.until }
-        ensures done { IfOk result (λ _. IsDoneBy job.now self.new rows.new.items) }
+        ensures wide { rows.new.width ≡ rows.old.width }
+        ensures done { IfOk result (λ _. IsDoneAfter job.now self.new rows.new.rows) }
         ensures queue { IfOk result (λ _. IsQueued job.now self.new) }
     {
         self.renew_queue(job)?;
-        let start = self.time;
         let cells = self.next_cells(alloc, job)?;
         if has_firing(&cells) {
             self.start(job, &cells);
-            rows.push(TimedRow { start, cells })?;
+            rows.push(&cells)?;
         }
         Ok(())
     }
@@ -209,17 +207,19 @@ impl<'a> Crew<'a> {
         graph: &Graph,
         job: &Job,
         next: u64,
-        rows: &mut Vec<TimedRow>,
+        rows: &mut Rows,
     ) -> Result<(), AllocError>
         requires graph { self.old.counts.graph ≡ graph.now }
         requires job { IsJobFor self.old.counts.graph job.now }
         requires next { IsNextEnd self.old.until self.old.time (length self.old.until) (Some next) }
-        requires done { IsDoneBy job.now self.old rows.old.items }
+        requires wide { rows.old.width ≡ length self.old.until }
+        requires done { IsDoneAfter job.now self.old rows.old.rows }
         requires queue { IsQueued job.now self.old }
         ensures graph { self.new.counts.graph ≡ self.old.counts.graph }
         ensures columns { length self.new.until ≡ length self.old.until }
+        ensures wide { rows.new.width ≡ rows.old.width }
         ensures more { IfOk result (λ _. sum self.old.counts.fired < sum self.new.counts.fired) }
-        ensures done { IfOk result (λ _. IsDoneBy job.now self.new rows.new.items) }
+        ensures done { IfOk result (λ _. IsDoneAfter job.now self.new rows.new.rows) }
         ensures queue { IfOk result (λ _. IsQueued job.now self.new) }
     {
         sums_rise();
@@ -243,20 +243,19 @@ pub(crate) fn timed_rows(
     graph: &Graph,
     job: &Job,
     width: usize,
-) -> Result<Vec<TimedRow>, AllocError>
+) -> Result<Rows, AllocError>
     requires job { IsJobFor graph.now job.now }
     requires width { 0 < width }
     requires pass { (w : List ℕ) × IsPass (rates graph.now) (slice_index job.now.firings.now) w }
-    ensures rows { IfOk result (λ rows. AreTimedRows (rates graph.now) (slice_index job.now.firings.now) width
-        (rule_of graph.now job.now width) rows.items) }
-    ensures valid { IfOk result (λ rows. IsValid (rates graph.now) (slice_index job.now.firings.now)
-        (cells_of rows.items)) }
+    ensures rows { IfOk result (λ rows. AreHuRows (rates graph.now) (slice_index job.now.firings.now)
+        (slice_index job.now.costs.now) (number job.now.levels.now) width job.now.homed rows.rows) }
+    ensures valid { IfOk result (λ rows. IsValid (rates graph.now) (slice_index job.now.firings.now) rows.rows) }
 {
     counts_grow();
     sums_rise();
     the_next_may_fire();
     let mut crew = Crew::new(alloc, graph, width)?;
-    let mut rows = Vec::new(alloc);
+    let mut rows = Rows::new(alloc, width);
     crew.add_row(alloc, job, &mut rows)?;
     while let Some(next) = crew.next_end() {
         crew.turn(alloc, graph, job, next, &mut rows)?;

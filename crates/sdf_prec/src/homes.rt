@@ -6,6 +6,7 @@ ghost use Rattle.sdf_prec.specs.Tables.{firings, row, Stands, IsHome};
 ghost use Rattle.sdf_prec.specs.Homes.{AreStanding, also, home_of, standing_of};
 
 use crate::firing::Firing;
+use crate::rows::Rows;
 use std::alloc::{AllocError, Global};
 
 /// Where the firings of an actor stand: in no column, in one, or in several.
@@ -54,14 +55,13 @@ fn see(standing: &mut [Standing], firing: Firing, column: usize)
 }
 
 /// Where each actor stands once row `i` is seen too.
-fn see_row(rows: &[Vec<Option<Firing>>], i: usize, standing: &mut [Standing])
-    requires within { i < length rows.now }
-    requires known { (f : Firing) → Stands (firings (row (map (λ r. r.items) rows.now) i)) f →
-        f.actor < length standing.old }
-    requires before { AreStanding (map (λ r. r.items) rows.now) i 0 standing.old }
-    ensures { AreStanding (map (λ r. r.items) rows.now) (i + 1) 0 standing.new }
+fn see_row(rows: &Rows, i: usize, standing: &mut [Standing])
+    requires within { i < length rows.now.rows }
+    requires known { (f : Firing) → Stands (firings (row rows.now.rows i)) f → f.actor < length standing.old }
+    requires before { AreStanding rows.now.rows i 0 standing.old }
+    ensures { AreStanding rows.now.rows (i + 1) 0 standing.new }
 {
-    for (column, cell) in rows[i].iter().enumerate() {
+    for (column, cell) in rows.row(i).iter().enumerate() {
         if let Some(firing) = cell {
             see(standing, *firing, column);
         }
@@ -83,13 +83,13 @@ fn homes_of(alloc: Global, standing: &[Standing]) -> Result<Vec<Option<usize>>, 
 pub(crate) fn homes(
     alloc: Global,
     actors: usize,
-    rows: &[Vec<Option<Firing>>],
+    rows: &Rows,
 ) -> Result<Vec<Option<usize>>, AllocError>
-    requires { (i : ℕ) (f : Firing) → i < length rows.now → Stands (firings (row (map (λ r. r.items) rows.now) i)) f →
+    requires { (i : ℕ) (f : Firing) → i < length rows.now.rows → Stands (firings (row rows.now.rows i)) f →
         f.actor < actors }
     ensures all { IfOk result (λ v. length v.items ≡ actors) }
     ensures each { IfOk result (λ v. (a j : ℕ) → a < actors →
-        (slice_index_or v.items a None ≡ Some j) ↔ IsHome (map (λ r. r.items) rows.now) a j) }
+        (slice_index_or v.items a None ≡ Some j) ↔ IsHome rows.now.rows a j) }
 {
     let mut standing = vec![in alloc; Standing::Nowhere; actors]?;
     for i in 0..rows.len() {

@@ -19,7 +19,6 @@ use crate::fault::PrecFault;
 use crate::levels::levels;
 use crate::table::Table;
 use crate::team::Team;
-use crate::timed::without_times;
 use sdf_graph::Graph;
 use sdf_sched::Period;
 use std::alloc::{AllocError, Global};
@@ -49,8 +48,7 @@ fn table_for(alloc: Global, graph: &Graph, job: &Job, width: usize) -> Result<Ta
         (slice_index job.now.costs.now) width job.now.homed t) }
 {
     let rows = timed_rows(alloc, graph, job, width)?;
-    let cells = without_times(alloc, rows)?;
-    let table = Table::of_rows(alloc, graph, cells)?;
+    let table = Table::of_rows(alloc, graph, rows)?;
     Ok(table)
 }
 

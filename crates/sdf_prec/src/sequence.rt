@@ -4,6 +4,7 @@ ghost use Rattle.std.specs.Prelude.{◌≡◌, ◌++◌, map, IfOk};
 ghost use Rattle.sdf_prec.specs.Tables.{firings, sequence};
 
 use crate::firing::Firing;
+use crate::rows::Rows;
 use std::alloc::{AllocError, Global};
 
 /// Appends the actors of a row's firings.
@@ -19,15 +20,12 @@ fn push_row(row: &[Option<Firing>], order: &mut Vec<usize>) -> Result<(), AllocE
 }
 
 /// The actors of the firings of rows, by row, then by column.
-pub(crate) fn sequence(
-    alloc: Global,
-    rows: &[Vec<Option<Firing>>],
-) -> Result<Vec<usize>, AllocError>
-    ensures { IfOk result (λ order. order.items ≡ sequence (map (λ r. r.items) rows.now)) }
+pub(crate) fn sequence(alloc: Global, rows: &Rows) -> Result<Vec<usize>, AllocError>
+    ensures { IfOk result (λ order. order.items ≡ sequence rows.now.rows) }
 {
     let mut order = Vec::new(alloc);
-    for row in rows {
-        push_row(row, &mut order)?;
+    for i in 0..rows.len() {
+        push_row(rows.row(i), &mut order)?;
     }
     Ok(order)
 }

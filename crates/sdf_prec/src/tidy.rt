@@ -6,6 +6,7 @@ ghost use Rattle.sdf_prec.specs.Refusals.{AreNarrow};
 ghost use Rattle.sdf_prec.specs.Tidied.{tidied};
 
 use crate::firing::Firing;
+use crate::rows::Rows;
 use std::alloc::{AllocError, Global};
 
 /// Whether a firing stands in a row.
@@ -26,16 +27,18 @@ pub(crate) fn tidied(
     alloc: Global,
     width: usize,
     rows: &[Vec<Option<Firing>>],
-) -> Result<Vec<Vec<Option<Firing>>>, AllocError>
+) -> Result<Rows, AllocError>
     requires { AreNarrow width (map (λ r. r.items) rows.now) (length rows.now) }
-    ensures { IfOk result (λ t. map (λ r. r.items) t.items ≡ tidied width (map (λ r. r.items) rows.now)) }
+    ensures { IfOk result (λ t. t.rows ≡ tidied width (map (λ r. r.items) rows.now)) }
 {
-    let mut kept = Vec::new(alloc);
+    let mut kept = Rows::new(alloc, width);
+    let mut full = Vec::new(alloc);
     for row in rows {
         if has_firing(row) {
-            let mut full = Vec::from_slice(alloc, row)?;
+            full.clear();
+            full.extend_from_slice(row)?;
             full.resize(width, None)?;
-            kept.push(full)?;
+            kept.push(&full)?;
         }
     }
     Ok(kept)

@@ -1,6 +1,5 @@
-use Rattle.std.proofs.Common.{◌≡◌, ℕ, ◌<◌, List, length, map, Option, sym, subst, arith}
+use Rattle.std.proofs.Common.{◌≡◌, ℕ, ◌<◌, length, sym, subst, arith}
 use Rattle.sdf_graph.specs.Rates.{rates}
-use Rattle.sdf_prec.specs.declared.firing.Firing.{Firing}
 use Rattle.sdf_prec.specs.Tables.{row, firings, IsValid}
 use Rattle.sdf_prec.proofs.Placing.{rows_valid, rows_wide, rows_some}
 use Rattle.sdf_prec.proofs.by_homes.by_order.Goals as goal
@@ -10,7 +9,7 @@ rows_of-requires-clause-known c = λ p l. omega (arith, (c.requires.pass.1.0 p l
 
 pub of_rows-requires : goal.of_rows-requires
 of_rows-requires c =
-    let rs : List (List (Option Firing)) = map (λ r. r.items) c.in_ok-rows.rows.items in (
+    let rs = c.in_ok-rows.rows.rows in (
       c.requires.pass.0,
       rows_valid c.graph_laws.ensures (rates c.args.graph.now) c.requires.pass.0 c.args.order.now
           (c.graph_laws.ensures.sound c.args.graph.now c.channels.ensures.shape) c.requires.pass.1 c.args.homes.now
@@ -21,7 +20,7 @@ of_rows-requires c =
 pub returns-clause-table : goal.returns-clause-table
 returns-clause-table c = λ n pass.
     let r = rates c.args.graph.now in
-    let rs : List (List (Option Firing)) = map (λ r. r.items) c.in_ok-rows.rows.items in
+    let rs = c.in_ok-rows.rows.rows in
     let sound = c.graph_laws.ensures.sound c.args.graph.now c.channels.ensures.shape in
     let kept : rs ≡ c.in_ok-table.table.rows = sym c.in_ok-table.ensures.rows in
     record {

@@ -1,10 +1,11 @@
-use Rattle.std.proofs.Common.{◌≡◌, ℕ, ◌+◌, get_or, set, map, replicate, Vec, Global, Option, Some, None, ap, ◌∙◌, arith}
-use Rattle.std.proofs.lemmas.List.{length-set, get_or_read, map_push}
+use Rattle.std.proofs.Common.{◌≡◌, ℕ, ◌+◌, get_or, set, length, replicate, Option, Some, None, ap, ◌∙◌, arith}
+use Rattle.std.proofs.lemmas.List.{length-set, length-replicate, get_or_read}
 use Rattle.sdf_prec.specs.declared.firing.Firing.{Firing}
 use Rattle.sdf_prec.specs.ByHomes.{firing_at}
 use Rattle.sdf_prec.proofs.Capacities.{counts_more}
 use Rattle.sdf_prec.proofs.Standings.{some_within}
 use Rattle.sdf_prec.proofs.Placing.{times_small, by_homes_more}
+use Rattle.sdf_prec.proofs.RowsIn.{cleared}
 use Rattle.sdf_prec.proofs.by_homes.rows_of.Goals as goal
 
 pub overflow_add-number : goal.overflow_add-number
@@ -30,11 +31,45 @@ home_of-home-requires c =
     (c.requires.known c.loop-actor.actor-index c.loop-actor-test.true) in
     some_within c.args.homes.now (get_or c.args.order.now c.loop-actor.actor-index 0) home.0 home.1
 
-pub row_of-requires : goal.row_of-requires
-row_of-requires c =
+pub index_mut-requires-in-loop-actor : goal.index_mut-requires-in-loop-actor
+index_mut-requires-in-loop-actor c =
     let home = c.requires.homed (get_or c.args.order.now c.loop-actor.actor-index 0)
     (c.requires.known c.loop-actor.actor-index c.loop-actor-test.true) in
-    omega (arith, c.home_of-home.ensures home.0 home.1, home.2)
+    omega (
+      arith,
+      c.home_of-home.ensures home.0 home.1,
+      home.2,
+      c.loop-actor.row.ok.0,
+      ap length c.loop-actor.invariant.empty,
+      length-replicate {A = Option Firing} c.args.m None,
+    )
+
+pub push-requires-clause-some : goal.push-requires-clause-some
+push-requires-clause-some c =
+    let home = c.requires.homed (get_or c.args.order.now c.loop-actor.actor-index 0)
+    (c.requires.known c.loop-actor.actor-index c.loop-actor-test.true) in
+    omega (
+      arith,
+      c.home_of-home.ensures home.0 home.1,
+      home.2,
+      c.loop-actor.row.ok.0,
+      ap length c.loop-actor.invariant.empty,
+      length-replicate {A = Option Firing} c.args.m None,
+      c.deref.ensures.len,
+    )
+
+pub index_mut-requires-in-loop-actor-2 : goal.index_mut-requires-in-loop-actor-2
+index_mut-requires-in-loop-actor-2 c =
+    let home = c.requires.homed (get_or c.args.order.now c.loop-actor.actor-index 0)
+    (c.requires.known c.loop-actor.actor-index c.loop-actor-test.true) in
+    omega (
+      arith,
+      c.home_of-home.ensures home.0 home.1,
+      home.2,
+      c.loop-actor.row.ok.0,
+      ap length c.loop-actor.invariant.empty,
+      length-replicate {A = Option Firing} c.args.m None,
+    )
 
 pub loop-actor-preserved : goal.loop-actor-preserved
 loop-actor-preserved c =
@@ -49,17 +84,17 @@ loop-actor-preserved c =
     let its : record { actor = a; number = number } ≡ firing_at w i =
     (λ k. record { actor = a; number = (read ∙ c.loop-actor.invariant.done a known) k }) in
     let at = c.home_of-home.ensures home.0 home.1 in
-    let is : c.in_ok-row.row.items ≡ set (replicate c.args.m None) home.0 (Some (firing_at w i)) =
-    c.in_ok-row.ensures ∙ (λ k. set (replicate c.args.m None) (at k) (Some (its k))) in
+    let is : c.deref.result.now ≡ set (replicate c.args.m None) home.0 (Some (firing_at w i)) =
+    c.deref.ensures.value ∙ (λ k. set (c.loop-actor.invariant.empty k) (at k) (Some (its k))) in
     record {
       each = length-set done a (number + 1) ∙ c.loop-actor.invariant.each;
       done = counts_more c.graph_laws.ensures w done i c.args.actors (number + 1) c.loop-actor-test.true known
           c.loop-actor.invariant.each c.loop-actor.invariant.done (ap (λ k. k + 1) read);
-      rows = rw (
-        c.in_ok-push.ensures.items,
-        map_push (λ (r : Vec (Option Firing) Global). r.items)
-            c.loop-actor.rows.items c.in_ok-row.row,
-      )
-          (by_homes_more c.args.homes.now c.args.m w i home.0 (map (λ r. r.items) c.loop-actor.rows.items)
-          c.in_ok-row.row.items c.loop-actor-test.true c.loop-actor.invariant.rows home.1 is);
+      rows = rw c.in_ok-push.ensures.rows
+          (by_homes_more c.args.homes.now c.args.m w i home.0 c.loop-actor.rows.rows
+          c.deref.result.now c.loop-actor-test.true c.loop-actor.invariant.rows home.1 is);
+      wide = c.push.ensures.width ∙ c.loop-actor.invariant.wide;
+      empty = ap (λ cells. set (set cells c.home_of-home.result
+          (Some (record { actor = a; number = number }))) c.home_of-home.result None) c.loop-actor.invariant.empty
+          ∙ cleared c.args.m c.home_of-home.result (Some (record { actor = a; number = number }));
     }

@@ -1,8 +1,7 @@
-use Rattle.std.proofs.Common.{◌≡◌, ℕ, ◌<◌, ◌↔◌, List, length, get_or, map, Option, Some, None, sym, ap, ◌∙◌, subst}
+use Rattle.std.proofs.Common.{◌≡◌, ℕ, ◌<◌, ◌↔◌, length, get_or, map, Some, None, sym, ap, ◌∙◌, subst}
 use Rattle.std.proofs.Common.{arith}
-use Rattle.std.proofs.lemmas.List.{get_or-map, length-map}
+use Rattle.std.proofs.lemmas.List.{get_or-map}
 use Rattle.std.proofs.lemmas.Result.{IfOk-weaker}
-use Rattle.sdf_prec.specs.declared.firing.Firing.{Firing}
 use Rattle.sdf_prec.specs.declared.homes.Standing.TheVariants.{Nowhere}
 use Rattle.sdf_prec.specs.Tables.{IsHome}
 use Rattle.sdf_prec.specs.Homes.{home_of, AreStanding, standing_of}
@@ -12,20 +11,16 @@ use Rattle.sdf_prec.proofs.homes.homes.Goals as goal
 pub see_row-requires-clause-known : goal.see_row-requires-clause-known
 see_row-requires-clause-known c = λ f st. omega (
   arith,
-  c.requires c.loop-i.i f c.loop-i-test.true st,
+  c.requires c.loop-i.i f (omega (arith, c.loop-i-test.true)) st,
   ap length c.deref_mut.ensures.value,
   c.loop-i.invariant.all,
 )
 
 pub returns-clause-each : goal.returns-clause-each
 returns-clause-each c =
-    let rs : List (List (Option Firing)) = map (λ r. r.items) c.args.rows.now in
+    let rs = c.args.rows.now.rows in
     let all = c.deref.result.now in
-    let whole : c.loop-i.i ≡ length rs = omega (
-      arith,
-      c.loop-i-test.false,
-      length-map c.args.rows.now (λ r. r.items),
-    ) in
+    let whole : c.loop-i.i ≡ length rs = omega (arith, c.loop-i-test.false) in
     let are : AreStanding rs (length rs) 0 all = subst (λ i. AreStanding rs i 0 all) whole
     (subst (AreStanding rs c.loop-i.i 0) (sym c.deref.ensures.value) c.loop-i.invariant.are) in
     let long : length all ≡ c.args.actors = ap length c.deref.ensures.value ∙ c.loop-i.invariant.all in

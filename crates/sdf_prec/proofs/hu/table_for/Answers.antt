@@ -1,7 +1,6 @@
-use Rattle.std.proofs.Common.{get_or, sym, ◌∙◌, subst, arith}
+use Rattle.std.proofs.Common.{get_or, arith}
 use Rattle.sdf_graph.specs.Rates.{rates}
 use Rattle.sdf_prec.specs.Numbers.{number}
-use Rattle.sdf_prec.specs.Tables.{IsValid}
 use Rattle.sdf_prec.proofs.Shifts.{within_sum}
 use Rattle.sdf_prec.proofs.Finals.{hu_table}
 use Rattle.sdf_prec.proofs.hu.table_for.Goals as goal
@@ -10,8 +9,7 @@ pub of_rows-requires : goal.of_rows-requires
 of_rows-requires c =
     let firings = c.args.job.now.firings.now in (
       (λ a. get_or firings a 0),
-      subst (IsValid (rates c.args.graph.now) (λ a. get_or firings a 0)) (sym c.in_ok-cells.ensures)
-          c.in_ok-rows.ensures.valid,
+      c.in_ok-rows.ensures.valid,
       λ a. omega (arith, within_sum firings a, c.requires.job.few),
     )
 
@@ -19,7 +17,6 @@ pub returns : goal.returns
 returns c =
     let job = c.args.job.now in
     hu_table (rates c.args.graph.now) (λ a. get_or job.firings.now a 0) (λ a. get_or job.costs.now a 0)
-    (number job.levels.now) c.args.width job.homed c.in_ok-rows.rows.items c.in_ok-table.table
-    c.in_ok-rows.ensures.rows c.in_ok-rows.ensures.valid (c.in_ok-table.ensures.rows ∙ c.in_ok-cells.ensures)
-    c.in_ok-table.ensures.exact
+    (number job.levels.now) c.args.width job.homed c.in_ok-rows.rows.rows c.in_ok-table.table
+    c.in_ok-rows.ensures.rows c.in_ok-rows.ensures.valid c.in_ok-table.ensures.rows c.in_ok-table.ensures.exact
     (λ f of. c.requires.levels.each f (omega (arith, of.0, c.requires.job.firings_all), of.1))

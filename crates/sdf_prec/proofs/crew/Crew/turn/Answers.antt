@@ -14,16 +14,16 @@ use Rattle.sdf_prec.proofs.crew.Crew.turn.Goals as goal
 
 pub end_by-requires-clause-at_work : goal.end_by-requires-clause-at_work
 end_by-requires-clause-at_work c =
-    let done = subst (λ (x : Crewed). IsDoneBy c.args.job.now x c.args.rows.now.items) (sym c.self.view_is)
-    c.requires.done in
+    let done = subst (λ (x : Crewed). IsDoneBy c.args.job.now x c.requires.done.0) (sym c.self.view_is)
+    c.requires.done.2 in
     let next = subst (λ (x : Crewed). IsNextEnd x.until x.time (length x.until) (Some c.args.next)) (sym c.self.view_is)
     c.requires.next in
     rw (c.deref.ensures.value, c.deref-2.ensures.value) (columns_at _ _ _ _ _ _ _ _ _ _ done.floor c.args.next next.0)
 
 pub end_by-requires-clause-room : goal.end_by-requires-clause-room
 end_by-requires-clause-room c =
-    let done = subst (λ (x : Crewed). IsDoneBy c.args.job.now x c.args.rows.now.items) (sym c.self.view_is)
-    c.requires.done in
+    let done = subst (λ (x : Crewed). IsDoneBy c.args.job.now x c.requires.done.0) (sym c.self.view_is)
+    c.requires.done.2 in
     let job = subst (λ (x : Crewed). IsJobFor x.counts.graph c.args.job.now) (sym c.self.view_is) c.requires.job in
     room_left _ _ _ _ _ _ _ _ _ _ done.floor c.self.invariant.fired_all job.firings_all job.few
     c.sums_rise.ensures.lists
@@ -55,8 +55,8 @@ pub invariant_of-self-2 : goal.invariant_of-self-2
 invariant_of-self-2 c =
     let i = c.self.inside in
     let k = c.self.invariant in
-    let done = subst (λ (x : Crewed). IsDoneBy c.args.job.now x c.args.rows.now.items) (sym c.self.view_is)
-    c.requires.done in
+    let done = subst (λ (x : Crewed). IsDoneBy c.args.job.now x c.requires.done.0) (sym c.self.view_is)
+    c.requires.done.2 in
     let next = subst (λ (x : Crewed). IsNextEnd x.until x.time (length x.until) (Some c.args.next)) (sym c.self.view_is)
     c.requires.next in
     let ended = rw (c.deref.ensures.value, c.deref-2.ensures.value) at c.in_ok-end_by.ensures.ended in
@@ -80,21 +80,21 @@ pub add_row-requires-clause-due : goal.add_row-requires-clause-due
 add_row-requires-clause-due c =
     let i = c.self.inside in
     let k = c.self.invariant in
-    let done = subst (λ (x : Crewed). IsDoneBy c.args.job.now x c.args.rows.now.items) (sym c.self.view_is)
-    c.requires.done in
+    let done = subst (λ (x : Crewed). IsDoneBy c.args.job.now x c.requires.done.0) (sym c.self.view_is)
+    c.requires.done.2 in
     let next = subst (λ (x : Crewed). IsNextEnd x.until x.time (length x.until) (Some c.args.next)) (sym c.self.view_is)
     c.requires.next in
     let ended = rw (c.deref.ensures.value, c.deref-2.ensures.value) at c.in_ok-end_by.ensures.ended in
     let due = shift_due (rates i.counts.graph) _ _ _ _ _ _ i.time c.args.next i.counts.fired c.end_by.new.counts.fired
     i.until.items _ _ _ k.sound done refl next ended c.end_by.ensures.rises c.enabled_stays.ensures in
-    rw c.end_by.ensures.same due
+    (c.requires.done.0, c.requires.done.1, rw c.end_by.ensures.same due)
 
 pub returns-clause-more : goal.returns-clause-more
 returns-clause-more c =
     let i = c.self.inside in
     let k = c.self.invariant in
-    let done = subst (λ (x : Crewed). IsDoneBy c.args.job.now x c.args.rows.now.items) (sym c.self.view_is)
-    c.requires.done in
+    let done = subst (λ (x : Crewed). IsDoneBy c.args.job.now x c.requires.done.0) (sym c.self.view_is)
+    c.requires.done.2 in
     let next = subst (λ (x : Crewed). IsNextEnd x.until x.time (length x.until) (Some c.args.next)) (sym c.self.view_is)
     c.requires.next in
     let ended = rw (c.deref.ensures.value, c.deref-2.ensures.value) at c.in_ok-end_by.ensures.ended in
@@ -113,7 +113,7 @@ add_row-requires-clause-queue c =
     let n : ℕ → ℕ = λ a. get_or job.firings.now a 0 in
     let started : ℕ → ℕ = λ a. get_or i.started.items a 0 in
     let q = subst (λ (x : Crewed). IsQueued job x) (sym c.self.view_is) c.requires.queue in
-    let done = subst (λ (x : Crewed). IsDoneBy job x c.args.rows.now.items) (sym c.self.view_is) c.requires.done in
+    let done = subst (λ (x : Crewed). IsDoneBy job x c.requires.done.0) (sym c.self.view_is) c.requires.done.2 in
     let next = subst (λ (x : Crewed). IsNextEnd x.until x.time (length x.until) (Some c.args.next)) (sym c.self.view_is)
     c.requires.next in
     let ended = rw (c.deref.ensures.value, c.deref-2.ensures.value) at c.in_ok-end_by.ensures.ended in

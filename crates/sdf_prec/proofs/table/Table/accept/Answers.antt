@@ -39,7 +39,7 @@ of_rows-requires c =
     (c.graphs_are_sound.ensures g c.channels.ensures.shape) reps c.args.j m
     c.in_ok-fault.field-0 (map (λ r. r.items) c.deref.result.now) rs c.in_ok-firings.firings.items c.in_default-2.is
     (ap (map (λ r. r.items)) c.deref.ensures.value) c.in_ok-firings.ensures c.in_ok-fault.ensures in
-    let kept : map (λ r. r.items) c.in_ok-kept.kept.items ≡ tidied m rs =
+    let kept : c.in_ok-kept.kept.rows ≡ tidied m rs =
     c.in_ok-kept.ensures ∙ ap (λ xs. tidied m (map (λ r. r.items) xs)) c.deref-2.ensures.value in (
       n,
       subst (IsValid (rates g) n) (sym kept) (tidied_valid m rs (rates g) n valid.1),
@@ -57,7 +57,7 @@ returns c =
     (c.graphs_are_sound.ensures g c.channels.ensures.shape) reps c.args.j m
     c.in_ok-fault.field-0 (map (λ r. r.items) c.deref.result.now) rs c.in_ok-firings.firings.items c.in_default-2.is
     (ap (map (λ r. r.items)) c.deref.ensures.value) c.in_ok-firings.ensures c.in_ok-fault.ensures in
-    let kept : map (λ r. r.items) c.in_ok-kept.kept.items ≡ tidied m rs =
+    let kept : c.in_ok-kept.kept.rows ≡ tidied m rs =
     c.in_ok-kept.ensures ∙ ap (λ xs. tidied m (map (λ r. r.items) xs)) c.deref-2.ensures.value in (
       record { factor = c.in_default.ensures.0; workers = c.in_default.ensures.1; short = c.in_default.ensures.2 },
       accepted (rates g) n m rs c.in_ok-table.table valid.0 valid.1 (c.in_ok-table.ensures.rows ∙ kept)
