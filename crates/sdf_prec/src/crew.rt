@@ -117,28 +117,28 @@ impl<'a> Crew<'a> {
         )
     }
 
-    /// The row of this time, which may be empty. Actors whose first firing is in it get their homes.
-    fn next_cells(&mut self, alloc: Global, job: &Job) -> Result<Vec<Option<Firing>>, AllocError>
+    /// Makes `cells` the row of this time, which may be empty. Actors whose first firing is in it get their homes.
+    fn next_cells(&mut self, job: &Job, cells: &mut Vec<Option<Firing>>) -> Result<(), AllocError>
         requires job { IsJobFor self.old.counts.graph job.now }
         requires queue { IsQueued job.now self.old }
         ensures others { self.new ≡ record self.old { homes = self.new.homes } }
         ensures sound { IsSound (rates self.old.counts.graph) }
-        ensures row { IfOk result (λ cells. (past : List Timed) → IsDueTo job.now self.old past →
-            IsRowFor job.now self.new past cells.items) }
+        ensures row { IfOk result (λ _. (past : List Timed) → IsDueTo job.now self.old past →
+            IsRowFor job.now self.new past cells.new.items) }
     {
         if job.homed {
-            let cells = place(
-                alloc,
+            place(
                 &self.queue,
                 &self.until,
                 self.time,
                 job.weights,
                 &mut self.homes,
+                cells,
             )?;
-            Ok(cells)
+            Ok(())
         } else {
-            let cells = fill(alloc, &self.queue, &self.until, self.time)?;
-            Ok(cells)
+            fill(&self.queue, &self.until, self.time, cells)?;
+            Ok(())
         }
     }
 
@@ -171,8 +171,13 @@ impl<'a> Crew<'a> {
         leave(&mut self.queue, &self.started);
     }
 
-    /// Adds the row of this time, where it is not empty.
-    fn add_row(&mut self, alloc: Global, job: &Job, rows: &mut Rows) -> Result<(), AllocError>
+    /// Adds the row of this time, which is made in `cells`, if it is not empty.
+    fn add_row(
+        &mut self,
+        job: &Job,
+        rows: &mut Rows,
+        cells: &mut Vec<Option<Firing>>,
+    ) -> Result<(), AllocError>
         requires job { IsJobFor self.old.counts.graph job.now }
         requires wide { rows.old.width ≡ length self.old.until }
         requires due { IsDueAfter job.now self.old rows.old.rows }
@@ -184,10 +189,10 @@ impl<'a> Crew<'a> {
         ensures queue { IfOk result (λ _. IsQueued job.now self.new) }
     {
         self.renew_queue(job)?;
-        let cells = self.next_cells(alloc, job)?;
-        if has_firing(&cells) {
-            self.start(job, &cells);
-            rows.push(&cells)?;
+        self.next_cells(job, cells)?;
+        if has_firing(cells) {
+            self.start(job, cells);
+            rows.push(cells)?;
         }
         Ok(())
     }
@@ -203,11 +208,11 @@ impl<'a> Crew<'a> {
     /// Goes on to the next time at which a column is through.
     fn turn(
         &mut self,
-        alloc: Global,
         graph: &Graph,
         job: &Job,
         next: u64,
         rows: &mut Rows,
+        cells: &mut Vec<Option<Firing>>,
     ) -> Result<(), AllocError>
         requires graph { self.old.counts.graph ≡ graph.now }
         requires job { IsJobFor self.old.counts.graph job.now }
@@ -233,7 +238,7 @@ impl<'a> Crew<'a> {
             &mut self.marks,
         )?;
         self.time = next;
-        self.add_row(alloc, job, rows)
+        self.add_row(job, rows, cells)
     }
 }
 
@@ -256,9 +261,10 @@ pub(crate) fn timed_rows(
     the_next_may_fire();
     let mut crew = Crew::new(alloc, graph, width)?;
     let mut rows = Rows::new(alloc, width);
-    crew.add_row(alloc, job, &mut rows)?;
+    let mut cells = Vec::new(alloc);
+    crew.add_row(job, &mut rows, &mut cells)?;
     while let Some(next) = crew.next_end() {
-        crew.turn(alloc, graph, job, next, &mut rows)?;
+        crew.turn(graph, job, next, &mut rows, &mut cells)?;
     }
     Ok(rows)
 }

@@ -5,7 +5,7 @@ ghost use Rattle.sdf_prec.specs.Floor.{IsFilling};
 ghost use Rattle.std.specs.Prelude.{ℕ};
 
 use crate::firing::Firing;
-use std::alloc::{AllocError, Global};
+use std::alloc::AllocError;
 
 /// The firing at a place of a queue, where there is one.
 fn firing_at(queue: &[Firing], place: usize) -> Option<Firing>
@@ -14,17 +14,17 @@ fn firing_at(queue: &[Firing], place: usize) -> Option<Firing>
     queue.get(place).copied()
 }
 
-/// A row in which the first firings of a queue stand in the columns that are through by time `now`.
+/// Makes `cells` the row in which the first firings of `queue` stand in the columns that are through by time `now`.
 pub(crate) fn fill(
-    alloc: Global,
     queue: &[Firing],
     until: &[u64],
     now: u64,
-) -> Result<Vec<Option<Firing>>, AllocError>
-    ensures { IfOk result (λ cells. (next : ℕ) × IsFilling until.now now (length until.now) queue.now
-        next cells.items) }
+    cells: &mut Vec<Option<Firing>>,
+) -> Result<(), AllocError>
+    ensures { IfOk result (λ _. (next : ℕ) × IsFilling until.now now (length until.now) queue.now
+        next cells.new.items) }
 {
-    let mut cells = Vec::with_capacity(alloc, until.len())?;
+    cells.clear();
     let mut next = 0;
     for end in until {
         if *end <= now {
@@ -34,5 +34,5 @@ pub(crate) fn fill(
             cells.push(None)?;
         }
     }
-    Ok(cells)
+    Ok(())
 }

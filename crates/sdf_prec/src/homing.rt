@@ -9,7 +9,7 @@ ghost use Rattle.sdf_prec.specs.Placing.{AreWeights, load_by, IsOpen, IsBest, Is
 
 use crate::firing::Firing;
 use sdf_graph::laws::sums_rise;
-use std::alloc::{AllocError, Global};
+use std::alloc::AllocError;
 
 /// The weights of the actors at home in a column.
 pub(crate) fn load_of(weights: &[u64], homes: &[Option<usize>], column: usize) -> u64
@@ -96,35 +96,36 @@ fn column_for(
     }
 }
 
-/// A row in which each firing of a queue stands in its actor's home, where that is open. An actor without a home gets
-/// the open column of least load when its first firing is tried.
+/// Makes `cells` the row in which each firing of `queue` stands in its actor's home if that is open. An actor without a
+/// home gets the open column of least load when its first firing is tried.
 pub(crate) fn place(
-    alloc: Global,
     queue: &[Firing],
     until: &[u64],
     now: u64,
     weights: &[u64],
     homes: &mut [Option<usize>],
-) -> Result<Vec<Option<Firing>>, AllocError>
+    cells: &mut Vec<Option<Firing>>,
+) -> Result<(), AllocError>
     requires weights { AreWeights weights.now homes.old }
     requires known { (p : ℕ) → p < length queue.now → (firing queue.now p).actor < length homes.old }
     requires once { (p m : ℕ) → p < m → m < length queue.now → firing queue.now p ≡ firing queue.now m → ⊥ }
     requires inside { (a j : ℕ) → slice_index_or homes.old a None ≡ Some j → j < length until.now }
     ensures all { length homes.new ≡ length homes.old }
     ensures inside { (a j : ℕ) → slice_index_or homes.new a None ≡ Some j → j < length until.now }
-    ensures placed { IfOk result (λ cells. IsPlacing (length homes.old) (length until.now) (slice_index weights.now)
+    ensures placed { IfOk result (λ _. IsPlacing (length homes.old) (length until.now) (slice_index weights.now)
         (λ j. slice_index until.now j ≤ now) (λ a. slice_index_or homes.old a None) queue.now (length queue.now)
-        cells.items homes.new) }
-    ensures waiting { IfOk result (λ cells. AreWaiting until.now now queue.now (length queue.now)
-        cells.items homes.new) }
+        cells.new.items homes.new) }
+    ensures waiting { IfOk result (λ _. AreWaiting until.now now queue.now (length queue.now)
+        cells.new.items homes.new) }
 {
-    let mut cells = vec![in alloc; None; until.len()]?;
+    cells.clear();
+    cells.resize(until.len(), None)?;
     for firing in queue {
         let home = homes[firing.actor];
-        if let Some(column) = column_for(home, until, now, &cells, weights, homes) {
+        if let Some(column) = column_for(home, until, now, cells, weights, homes) {
             cells[column] = Some(*firing);
             homes[firing.actor] = Some(column);
         }
     }
-    Ok(cells)
+    Ok(())
 }

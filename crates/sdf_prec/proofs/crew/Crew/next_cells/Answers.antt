@@ -15,8 +15,8 @@ place-requires-clause-once c =
     let q = subst (λ (x : Crewed). IsQueued c.args.job.now x) (sym c.self.view_is) c.requires.queue in
     rw c.deref.ensures.value (queue_once _ _ _ q)
 
-pub returns-in_ok-cells-clause-row : goal.returns-in_ok-cells-clause-row
-returns-in_ok-cells-clause-row c =
+pub returns-in_ok-place-clause-row : goal.returns-in_ok-place-clause-row
+returns-in_ok-place-clause-row c =
     let i = c.self.inside in
     let job = c.args.job.now in
     let k = c.self.invariant in
@@ -32,15 +32,15 @@ returns-in_ok-cells-clause-row c =
     let weight_is : weight ≡ (λ a. n a * cost a) = (λ i a. c.requires.job.weights_are a i) in
     let width : ℕ = length i.until.items in
     let queue = i.queue.items in
-    let cells = c.in_ok-cells.cells.items in
+    let cells = c.place.new.cells.items in
     let new = c.place.new.homes in
     let q = subst (λ (x : Crewed). IsQueued job x) (sym c.self.view_is) c.requires.queue in
     let found = rw (c.deref.ensures.value, c.deref-then-job.ensures.value, c.deref_mut.ensures.value) at
-    c.in_ok-cells.ensures.placed in
+    c.in_ok-place.ensures.placed in
     let placed = subst (λ m. IsPlacing m width weight (λ j. get_or i.until.items j 0 ≤ i.time)
     (λ a. get_or i.homes.items a None) queue (length queue) cells new) k.homes_all found in
     let waiting = rw (c.deref.ensures.value, c.deref-then-job.ensures.value) at
-    c.in_ok-cells.ensures.waiting in
+    c.in_ok-place.ensures.waiting in
     let len : length new ≡ i.homes.len = placed.all ∙ (sym k.homes_all ∙ sym i.homes.ok.0) in
     let is = take_at new (drop (length new) i.homes.items) i.homes.len len in
     let its = subst (λ (x : Crewed). IsJobFor x.counts.graph job) (sym c.self.view_is) c.requires.job in
@@ -52,8 +52,8 @@ returns-in_ok-cells-clause-row c =
     (subst (λ (h : Bool). IsDue r n cost level width h past i.time ended started whose until
     (λ a. get_or i.homes.items a None)) c.if-job.true d) weight weight_is refl placed waiting))
 
-pub returns-in_ok-cells-2-clause-row : goal.returns-in_ok-cells-2-clause-row
-returns-in_ok-cells-2-clause-row c =
+pub returns-in_ok-fill-clause-row : goal.returns-in_ok-fill-clause-row
+returns-in_ok-fill-clause-row c =
     let i = c.self.inside in
     let job = c.args.job.now in
     let k = c.self.invariant in
@@ -67,9 +67,9 @@ returns-in_ok-cells-2-clause-row c =
     let until : ℕ → ℕ = λ a. get_or i.until.items a 0 in
     let width : ℕ = length i.until.items in
     let queue = i.queue.items in
-    let cells = c.in_ok-cells-2.cells.items in
+    let cells = c.fill.new.cells.items in
     let q = subst (λ (x : Crewed). IsQueued job x) (sym c.self.view_is) c.requires.queue in
-    let fill = rw (c.deref-else-job.ensures.value, c.deref-else-job-2.ensures.value) at c.in_ok-cells-2.ensures in
+    let fill = rw (c.deref-else-job.ensures.value, c.deref-else-job-2.ensures.value) at c.in_ok-fill.ensures in
     let its = subst (λ (x : Crewed). IsJobFor x.counts.graph job) (sym c.self.view_is) c.requires.job in
     (λ past due. let d = subst (λ (x : Crewed). IsDueTo job x past) (sym c.self.view_is) due in
     subst (λ (x : Crewed). IsRowFor job x past cells) c.self.view_is
