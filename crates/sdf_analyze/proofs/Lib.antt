@@ -2,3 +2,4 @@ pub mod Works
 pub mod Crews
 pub mod Refusals
 pub mod Sharing
+pub mod Known

@@ -5,4 +5,5 @@ pub mod Ways
 pub mod Columns
 pub mod Comparisons
 pub mod Periods
+pub mod Spans
 pub mod Sharing

@@ -21,7 +21,7 @@ use std::alloc::Global;
 
 /// Returns the figures of `table`, which `options` give `design` for blocks of `blocking` periods.
 #[tactic(auto, using(crate::proofs::Refusals::memory_shows))]
-pub(crate) fn figures_of(
+fn figures_of(
     alloc: Global,
     design: &Design,
     options: &Options,

@@ -13,11 +13,12 @@ ghost use Rattle.sdf_analyze.specs.declared.columns.Outcome.TheVariants.{Refused
 ghost use Rattle.sdf_analyze.specs.Comparisons.{measures_of, number_of, IsMade, IsOutcome, AreCompared, IsComparison};
 ghost use Rattle.sdf_analyze.specs.Periods.{AreByPolicies};
 ghost use Rattle.sdf_analyze.specs.Sharing.{ShareTable};
+ghost use Rattle.sdf_analyze.specs.Spans.{AreSpans};
 
-use crate::analysis::figures_of;
 use crate::columns::{Entry, Measures, Outcome, comparison_text};
 use crate::figures::Figures;
 use crate::periods::Periods;
+use crate::spans::{BlockSpan, span_once};
 use crate::ways::ways;
 use sdf_file::Design;
 use sdf_graph::laws::one_least_period;
@@ -72,19 +73,28 @@ fn refusal(fault: Fault) -> Result<Outcome, Fault>
     }
 }
 
-/// What is compared of the table that options give a period by their policy.
+/// What is compared of the table that options give a period by their policy. `spans` are those of blocks so far.
+#[tactic(auto, using(crate::proofs::Refusals::memory_shows))]
 fn made(
     alloc: Global,
     design: &Design,
     options: &Options,
     period: &Period,
+    spans: &mut Vec<BlockSpan>,
 ) -> Result<Measures, Fault>
+    requires spans { AreSpans design.now spans.old.items }
     requires sizes { AreSizes options.now }
     requires by_policy { IsScheduleBy options.now.policy (graph_of kit_steps design.now.net) period.now }
-    ensures { MatchResult result (IsMade design.now options.now) (IsShowFault design.now options.now) }
+    ensures spans { AreSpans design.now spans.new.items }
+    ensures made { MatchResult result (IsMade design.now options.now) (IsShowFault design.now options.now) }
 {
     let (table, blocking) = tabled(alloc, design, options, period)?;
-    let figures = figures_of(alloc, design, options, blocking, period, &table)?;
+    let placed = Options {
+        blocking,
+        ..*options
+    };
+    let span = span_once(alloc, design, spans, blocking, period)?;
+    let figures = Figures::with_span(alloc, design, &placed, period, &table, span)?;
     Ok(measures_of(blocking, &table, &figures))
 }
 
@@ -94,12 +104,15 @@ fn outcome_of(
     design: &Design,
     options: &Options,
     period: &Period,
+    spans: &mut Vec<BlockSpan>,
 ) -> Result<Outcome, Fault>
+    requires spans { AreSpans design.now spans.old.items }
     requires sizes { AreSizes options.now }
     requires by_policy { IsScheduleBy options.now.policy (graph_of kit_steps design.now.net) period.now }
-    ensures { MatchResult result (IsOutcome design.now options.now) (IsScheduleFault design.now) }
+    ensures spans { AreSpans design.now spans.new.items }
+    ensures outcome { MatchResult result (IsOutcome design.now options.now) (IsScheduleFault design.now) }
 {
-    match made(alloc, design, options, period) {
+    match made(alloc, design, options, period, spans) {
         Ok(measures) => Ok(Outcome::Made(measures)),
         Err(fault) => refusal(fault),
     }
@@ -136,21 +149,24 @@ fn outcome_beside(
     periods: &Periods,
     entries: &[Entry],
     options: &Options,
+    spans: &mut Vec<BlockSpan>,
 ) -> Result<Outcome, Fault>
+    requires spans { AreSpans design.now spans.old.items }
     requires sizes { AreSizes options.now }
     requires periods { AreByPolicies design.now periods.now }
     requires known { All (λ (e : Entry). IsOutcome design.now e.options e.outcome) entries.now }
-    ensures { MatchResult result (IsOutcome design.now options.now) (IsScheduleFault design.now) }
+    ensures spans { AreSpans design.now spans.new.items }
+    ensures outcome { MatchResult result (IsOutcome design.now options.now) (IsScheduleFault design.now) }
 {
     one_least_period();
     let period = periods.by(options.policy);
     match shared(entries, options) {
         Some(outcome) => Ok(outcome),
-        None => outcome_of(alloc, design, options, period),
+        None => outcome_of(alloc, design, options, period, spans),
     }
 }
 
-/// What becomes of each of some schedules. A table that several of them have is made once.
+/// What becomes of each of some schedules. A table that several of them have is made once, and so is a block's span.
 fn entries_of(alloc: Global, design: &Design, ways: &[Options]) -> Result<Vec<Entry>, Fault>
     requires { All AreSizes ways.now }
     ensures { MatchResult result
@@ -160,8 +176,9 @@ fn entries_of(alloc: Global, design: &Design, ways: &[Options]) -> Result<Vec<En
 {
     let periods = Periods::of(alloc, design)?;
     let mut entries = Vec::new(alloc);
+    let mut spans = Vec::new(alloc);
     for options in ways {
-        let outcome = outcome_beside(alloc, design, &periods, &entries, options)?;
+        let outcome = outcome_beside(alloc, design, &periods, &entries, options, &mut spans)?;
         entries.push(Entry {
             options: *options,
             outcome,

@@ -6,17 +6,18 @@ ghost use Rattle.sdf_prec.specs.Blocks.{IsWorkers, IsShort};
 ghost use Rattle.sdf_prec.specs.Tables.{IsTable};
 ghost use Rattle.sdf_prec.specs.declared.fault.PrecFault.TheVariants.{OutOfMemory};
 ghost use Rattle.sdf_prec.specs.declared.firing.Firing.{Firing};
-ghost use Rattle.sdf_times.specs.Times.{HasStart, start_in};
+ghost use Rattle.sdf_times.specs.Times.{HasStart, start_in, IsSpan};
 ghost use Rattle.sdf_plan.specs.Placements.{rates_of, firings_of};
 ghost use Rattle.sdf_analyze.specs.Figures.{AreFiguresOf};
 ghost use Rattle.sdf_analyze.specs.Texts.{hundredths};
 
+use crate::spans::block_span;
 use sdf_file::Design;
 use sdf_limits::{MOST_ACTORS, MOST_BLOCK, MOST_COST};
 use sdf_options::Options;
 use sdf_prec::{Firing, PrecFault, Table};
 use sdf_sched::Period;
-use sdf_times::{Times, bound, held, span, work};
+use sdf_times::{Times, bound, held, work};
 use std::alloc::Global;
 use std::marker::Model;
 
@@ -56,7 +57,6 @@ impl Model for Figures {
 impl Figures {
     /// Those of the table of a design's period for a block of the options, which may have more than 64 periods. The
     /// only fault is that memory was refused.
-    #[tactic(auto, using(crate::proofs::Works::only_memory))]
     pub fn of(
         alloc: Global,
         design: &Design,
@@ -73,12 +73,36 @@ impl Figures {
             (AreFiguresOf design.now options.now.blocking options.now.workers period.now table.now)
             (λ fault. fault ≡ OutOfMemory) }
     {
+        let span = block_span(alloc, design, options.blocking, period)?;
+        let figures = Figures::with_span(alloc, design, options, period, table, span)?;
+        Ok(figures)
+    }
+
+    /// The same for a block whose span is known.
+    pub(crate) fn with_span(
+        alloc: Global,
+        design: &Design,
+        options: &Options,
+        period: &Period,
+        table: &Table,
+        span: u64,
+    ) -> Result<Figures, PrecFault>
+        requires period { IsPeriodOf (rates_of design.now) period.now }
+        requires workers { IsWorkers options.now.workers }
+        requires short { IsShort options.now.blocking period.now.repetitions }
+        requires table { IsTable (rates_of design.now) (firings_of options.now.blocking period.now)
+            options.now.workers table.now }
+        requires span { IsSpan (rates_of design.now) (firings_of options.now.blocking period.now)
+            (slice_index design.now.costs) span }
+        ensures { MatchResult result
+            (AreFiguresOf design.now options.now.blocking options.now.workers period.now table.now)
+            (λ fault. fault ≡ OutOfMemory) }
+    {
         let graph = design.net().graph();
         let _ = graph.channels();
         let costs = design.firing_costs(alloc)?;
         let times = Times::of(alloc, graph, table, options.workers, &costs)?;
         let work = work(period.repetitions(), options.blocking, &costs);
-        let span = span(alloc, graph, period, options.blocking, &costs)?;
         Ok(Figures {
             times,
             work,

@@ -13,6 +13,7 @@ pub mod comparison;
 pub mod figures;
 pub mod lines;
 mod periods;
+mod spans;
 mod ways;
 
 pub use analysis::{analyze, figured};

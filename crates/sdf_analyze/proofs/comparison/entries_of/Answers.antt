@@ -11,8 +11,9 @@ loop-options-preserved c = record {
   ways_are =
       rw (c.in_ok-push.ensures.items, map_push, c.loop-options.invariant.ways_are)
       (sym (take_more c.args.ways.now c.loop-options.options-index _ c.loop-options-test.true));
+  spans = c.outcome_beside.ensures.spans;
   each =
       subst (All (λ (e : Entry). IsOutcome c.args.design.now e.options e.outcome)) (sym c.in_ok-push.ensures.items)
       (All-push (λ (e : Entry). IsOutcome c.args.design.now e.options e.outcome) c.loop-options.entries.items _
-      c.loop-options.invariant.each c.in_ok-outcome.ensures);
+      c.loop-options.invariant.each c.in_ok-outcome.ensures.outcome);
 }

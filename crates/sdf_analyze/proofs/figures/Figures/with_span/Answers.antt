@@ -6,7 +6,7 @@ use Rattle.sdf_times.specs.Times.{work_of}
 use Rattle.sdf_analyze.specs.Figures.{Figured}
 use Rattle.sdf_analyze.proofs.Works.{figures_of, work_small}
 use Rattle.sdf_analyze.specs.declared.figures.TheConstants.{MOST_WORK}
-use Rattle.sdf_analyze.proofs.figures.Figures.of.Goals as goal
+use Rattle.sdf_analyze.proofs.figures.Figures.with_span.Goals as goal
 
 pub work-work-requires-clause-few : goal.work-work-requires-clause-few
 work-work-requires-clause-few c =
@@ -47,7 +47,7 @@ returns c =
       starts = c.in_ok-times.times.starts;
       makespan = c.in_ok-times.times.makespan;
       work = c.work-work.result;
-      span = c.in_ok-span.span;
+      span = c.args.span;
       bound = c.bound.result;
       loads = c.in_ok-times.times.loads;
       held = c.held.result;
@@ -63,7 +63,7 @@ returns c =
           c.repetitions.result.now)) (slice_index c.in_ok-costs.costs)) actors
           ∙ ap (λ reps. work_of c.graph-graph.result.now.actors (slice_index (block c.args.options.now.blocking reps))
           (slice_index c.in_ok-costs.costs)) c.repetitions.ensures);
-      span = c.in_ok-span.ensures.1;
+      span = rw (graph, c.in_ok-costs.ensures) c.requires.span;
       bound = c.bound.ensures;
       columns = c.in_ok-times.ensures.columns;
       loads = c.in_ok-times.ensures.loads;

@@ -1,0 +1,91 @@
+//! The spans of a design's blocks.
+
+ghost use Rattle.std.specs.Prelude.{◌≡◌, ◌++◌, ◌∷◌, [], slice_index, MatchResult, IfSome};
+ghost use Rattle.std.specs.List.{Contains};
+ghost use Rattle.sdf_sched.specs.Period.{IsPeriodOf};
+ghost use Rattle.sdf_prec.specs.Blocks.{IsShort};
+ghost use Rattle.sdf_prec.specs.declared.fault.PrecFault.TheVariants.{OutOfMemory};
+ghost use Rattle.sdf_times.specs.Times.{IsSpan};
+ghost use Rattle.sdf_plan.specs.Placements.{rates_of, firings_of};
+ghost use Rattle.sdf_analyze.specs.Spans.{AreSpans};
+
+use sdf_file::Design;
+use sdf_graph::laws::one_least_period;
+use sdf_prec::PrecFault;
+use sdf_sched::Period;
+use sdf_times::span;
+use std::alloc::{AllocError, Global};
+
+/// The periods of a block, and its span.
+#[derive(Clone, Copy)]
+pub(crate) struct BlockSpan {
+    pub(crate) periods: u32,
+    pub(crate) span: u64,
+}
+
+/// The span of a design's block of so many periods. The only fault is that memory was refused.
+#[tactic(auto, using(crate::proofs::Works::only_memory))]
+pub(crate) fn block_span(
+    alloc: Global,
+    design: &Design,
+    periods: u32,
+    period: &Period,
+) -> Result<u64, PrecFault>
+    requires period { IsPeriodOf (rates_of design.now) period.now }
+    requires short { IsShort periods period.now.repetitions }
+    ensures { MatchResult result
+        (IsSpan (rates_of design.now) (firings_of periods period.now) (slice_index design.now.costs))
+        (λ fault. fault ≡ OutOfMemory) }
+{
+    let graph = design.net().graph();
+    let _ = graph.channels();
+    let costs = design.firing_costs(alloc)?;
+    let span = span(alloc, graph, period, periods, &costs)?;
+    Ok(span)
+}
+
+/// The span of a block of so many periods among those that are known.
+fn known_span(known: &[BlockSpan], periods: u32) -> Option<u64>
+    ensures { IfSome result (λ span. Contains known.now (record { periods = periods; span = span })) }
+{
+    for block in known {
+        if block.periods == periods {
+            return Some(block.span);
+        }
+    }
+    None
+}
+
+/// Adds a block's span to those that are known.
+fn keep(known: &mut Vec<BlockSpan>, block: BlockSpan) -> Result<(), AllocError>
+    ensures { MatchResult result (λ _. known.new.items ≡ known.old.items ++ block ∷ [])
+        (λ _. known.new.items ≡ known.old.items) }
+{
+    known.push(block)?;
+    Ok(())
+}
+
+/// A block's span, which is worked out only if it is not known yet.
+pub(crate) fn span_once(
+    alloc: Global,
+    design: &Design,
+    known: &mut Vec<BlockSpan>,
+    periods: u32,
+    period: &Period,
+) -> Result<u64, PrecFault>
+    requires period { IsPeriodOf (rates_of design.now) period.now }
+    requires short { IsShort periods period.now.repetitions }
+    requires known { AreSpans design.now known.old.items }
+    ensures known { AreSpans design.now known.new.items }
+    ensures span { MatchResult result
+        (IsSpan (rates_of design.now) (firings_of periods period.now) (slice_index design.now.costs))
+        (λ fault. fault ≡ OutOfMemory) }
+{
+    one_least_period();
+    if let Some(span) = known_span(known, periods) {
+        return Ok(span);
+    }
+    let span = block_span(alloc, design, periods, period)?;
+    keep(known, BlockSpan { periods, span })?;
+    Ok(span)
+}
