@@ -1,8 +1,8 @@
 -- What is told of a deadlock: a cycle of links that hold too little.
-use Rattle.std.specs.Prelude.{◌≡◌, ℕ, ◌<◌, List, [], ◌∷◌, length, codes, Option, Some, option_and_then}
-use Rattle.std.specs.Prelude.{slice_get}
+use Rattle.std.specs.Prelude.{◌≡◌, ℕ, ◌<◌, List, [], ◌∷◌, length, codes, Option, Some, None, option_and_then, is_some}
+use Rattle.std.specs.Prelude.{slice_get, slice_index_or, drop, find}
 use Rattle.std.specs.Option.{option_map_or}
-use Rattle.std.specs.List.{flat_map}
+use Rattle.std.specs.List.{flat_map, range_with_len}
 use Rattle.toml.specs.Data.{Data}
 use Rattle.sdf_graph.specs.Rates.{Shape, channel, rates, rate_at}
 use Rattle.sdf_graph.specs.Sequences.{tokens}
@@ -30,6 +30,17 @@ abbrev pub IsChain : Shape → List Halt → ℕ → List ℕ → ℕ → Type 0
 IsChain g halts a [] b = a ≡ b
 IsChain g halts a (c ∷ cs) b = (m : ℕ) × Waits g halts a c m × IsChain g halts m cs b
 
+-- the first actor that waits
+abbrev pub first_waiting : List Halt → Option ℕ
+first_waiting halts = find (λ a. is_some (short_at halts a)) (range_with_len 0 (length halts))
+
+-- no actor waits, or the walk from the first that does comes to one that waits for none
+pub data HasNoCycle (g : Shape) (halts : List Halt) : Type 0 where
+  none_waits : first_waiting halts ≡ None → HasNoCycle g halts
+  ends :
+      (a : ℕ) (cs : List ℕ) (b : ℕ) → first_waiting halts ≡ Some a → IsChain g halts a cs b →
+      ((c m : ℕ) → Waits g halts b c m → ⊥) → HasNoCycle g halts
+
 -- the channels of a cycle of actors that each wait for the next one
 pub record IsCycle (g : Shape) (halts : List Halt) (cs : List ℕ) : Type 0 where
   pub actor : ℕ
@@ -50,7 +61,15 @@ lack_is g halts c d =
 unfoldable pub lack_told : Data → Shape → List Halt → ℕ → List ℕ
 lack_told d g halts c = lines_of (lack_is g halts c) (entry (codes "link") c d)
 
--- one cycle, or nothing where the walk finds none
+-- what the walk from an actor knows: the channels that it took, and of each actor that it left the place there
+pub record IsWalk (g : Shape) (halts : List Halt) (first : ℕ) (path : List ℕ) (places : List (Option ℕ)) (actor : ℕ) :
+    Type 0 where
+  pub all : length places ≡ length halts
+  pub way : IsChain g halts first path actor
+  pub left : (a p : ℕ) → slice_index_or places a None ≡ Some p →
+      (p < length path) × IsChain g halts a (drop p path) actor
+
+-- one cycle, or nothing where there is none
 pub data IsCycleText (d : Data) (g : Shape) (halts : List Halt) (text : List ℕ) : Type 0 where
   cycle : (cs : List ℕ) → IsCycle g halts cs → text ≡ flat_map (lack_told d g halts) cs → IsCycleText d g halts text
-  none : text ≡ [] → IsCycleText d g halts text
+  none : HasNoCycle g halts → text ≡ [] → IsCycleText d g halts text

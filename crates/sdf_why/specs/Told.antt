@@ -1,5 +1,5 @@
 -- What is told of a fault, by the files of the design.
-use Rattle.std.specs.Prelude.{◌≡◌, ℕ, ◌-◌, List, [], ◌++◌, codes, Some}
+use Rattle.std.specs.Prelude.{◌≡◌, ℕ, ◌-◌, List, [], ◌++◌, codes, Some, None}
 use Rattle.toml.specs.Data.{Data}
 use Rattle.sdf_graph.specs.Rates.{rates}
 use Rattle.sdf_graph.specs.Periods.{IsLeastPeriod}
@@ -13,7 +13,7 @@ use Rattle.sdf_document.specs.Lists.{Files}
 use Rattle.sdf_document.specs.Listing.{kinds_text}
 use Rattle.sdf_file.specs.declared.fault.FileFault.{FileFault}
 use Rattle.sdf_file.specs.declared.fault.FileFault.TheVariants.{OutOfMemory, Document, Net}
-use Rattle.sdf_file.specs.Designs.{DesignValue, IsDesignOf}
+use Rattle.sdf_file.specs.Designs.{DesignValue, IsDesignOf, IsFileFault}
 use Rattle.sdf_why.specs.declared.cycle.Halt.{Halt}
 use Rattle.sdf_why.specs.declared.sound.Header.{Header}
 use Rattle.sdf_why.specs.Tables.{root, entry}
@@ -56,11 +56,16 @@ pub record Says (graph : List ℕ) (files : Files) (document : Data) (d : Design
   pub tables : root graph ≡ Some document
   pub design : IsDesignOf graph files d
 
--- of a design: what holds of the text by its tables, or nothing where the files say none
+-- the graph file is no document, or the files have a fault
+pub data SaysNone (graph : List ℕ) (files : Files) : Type 0 where
+  no_tables : root graph ≡ None → SaysNone graph files
+  refused : (fault : FileFault) → IsFileFault graph files fault → (fault ≡ OutOfMemory → ⊥) → SaysNone graph files
+
+-- of a design: what holds of the text by its tables, and nothing where the files say none
 pub data IsDesignText (graph : List ℕ) (files : Files) (P : Data → DesignValue → Type 0) (text : List ℕ) : Type 0 where
   told : (document : Data) (d : DesignValue) → Says graph files document d → P document d →
       IsDesignText graph files P text
-  nothing : text ≡ [] → IsDesignText graph files P text
+  nothing : SaysNone graph files → text ≡ [] → IsDesignText graph files P text
 
 -- a cycle of a deadlock whose actors came so far
 abbrev pub IsStallText : List ℕ → Files → List Halt → List ℕ → Type 0

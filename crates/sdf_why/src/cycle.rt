@@ -1,11 +1,12 @@
 //! What is told of a deadlock: a cycle of links that hold too little.
 
-ghost use Rattle.std.specs.Prelude.{◌≡◌, ℕ, ◌*◌, ◌+◌, ◌-◌, ◌^◌, ◌≤◌, ◌<◌, ◌++◌, length, IfOk, IfSome, OnOk};
+ghost use Rattle.std.specs.Prelude.{◌≡◌, ℕ, ◌*◌, ◌+◌, ◌-◌, ◌^◌, ◌≤◌, ◌<◌, ◌++◌, Some, length, IfOk, OnOk, MatchOption};
 ghost use Rattle.std.specs.Prelude.{string_bytes};
 ghost use Rattle.std.specs.List.{All, flat_map};
 ghost use Rattle.toml.specs.View.{view};
 ghost use Rattle.sdf_graph.specs.Rates.{sum_to, rate_at};
-ghost use Rattle.sdf_why.specs.Cycles.{done_at, short_at, Waits, IsCycle, held, wanted, lack_told, IsCycleText};
+ghost use Rattle.sdf_why.specs.Cycles.{done_at, short_at, first_waiting, Waits, HasNoCycle, IsCycle, held, wanted};
+ghost use Rattle.sdf_why.specs.Cycles.{lack_told, IsCycleText};
 
 use crate::tables::{entry, text_at};
 use crate::words::{Lack, push_lack};
@@ -36,9 +37,17 @@ fn short_at(halts: &[Halt], actor: usize) -> Option<usize>
     halts.get(actor)?.short
 }
 
+/// The first actor that waits.
+fn first_waiting(halts: &[Halt]) -> Option<usize>
+    ensures { result ≡ first_waiting halts.now }
+{
+    (0..halts.len()).find(|actor| short_at(halts, *actor).is_some())
+}
+
 /// The channel that an actor waits for, and the actor that it comes from.
 fn next(graph: &Graph, halts: &[Halt], actor: usize) -> Option<(usize, usize)>
-    ensures { IfSome result (λ r. Waits graph.now halts.now actor r.0 r.1) }
+    ensures { MatchOption result ((c m : ℕ) → Waits graph.now halts.now actor c m → ⊥)
+        (λ r. Waits graph.now halts.now actor r.0 r.1) }
 {
     let number = short_at(halts, actor)?;
     let channels = graph.channels();
@@ -53,45 +62,37 @@ fn next(graph: &Graph, halts: &[Halt], actor: usize) -> Option<(usize, usize)>
     }
 }
 
-/// An actor that waits for itself, over as many others as there are.
-fn waiting(graph: &Graph, halts: &[Halt]) -> Option<usize> {
-    let mut actor = halts.iter().position(|halt| halt.short.is_some())?;
-    for _ in 0..halts.len() {
-        let (_, source) = next(graph, halts, actor)?;
-        actor = source;
-    }
-    Some(actor)
-}
-
-/// The channels from an actor back to itself, where it waits for itself.
-fn cycle_from(
+/// The channels of the cycle to which the walk from an actor comes. Each actor on the way waits for the next one.
+fn cycle_behind(
     alloc: Global,
     graph: &Graph,
     halts: &[Halt],
-    start: usize,
+    first: usize,
 ) -> Result<Option<Vec<usize>>, AllocError>
-    ensures { IfOk result (λ r. IfSome r (λ v. IsCycle graph.now halts.now v.items)) }
+    requires { first_waiting halts.now ≡ Some first }
+    ensures { IfOk result (λ r. MatchOption r (HasNoCycle graph.now halts.now)
+        (λ v. IsCycle graph.now halts.now v.items)) }
 {
-    let mut channels = Vec::new(alloc);
-    let mut actor = start;
-    for _ in 0..halts.len() {
-        let Some((number, source)) = next(graph, halts, actor) else {
-            return Ok(None);
-        };
-        channels.push(number)?;
-        actor = source;
-        if actor == start {
-            return Ok(Some(channels));
+    let mut path = Vec::new(alloc);
+    let mut places = vec![in alloc; None; halts.len()]?;
+    let mut actor = first;
+    while let Some((channel, source)) = next(graph, halts, actor) {
+        if let Some(place) = places[actor] {
+            return Ok(Some(path.split_off(place)?));
         }
+        places[actor] = Some(path.len());
+        path.push(channel)?;
+        actor = source;
     }
     Ok(None)
 }
 
 fn cycle_of(alloc: Global, graph: &Graph, halts: &[Halt]) -> Result<Option<Vec<usize>>, AllocError>
-    ensures { IfOk result (λ r. IfSome r (λ v. IsCycle graph.now halts.now v.items)) }
+    ensures { IfOk result (λ r. MatchOption r (HasNoCycle graph.now halts.now)
+        (λ v. IsCycle graph.now halts.now v.items)) }
 {
-    match waiting(graph, halts) {
-        Some(actor) => cycle_from(alloc, graph, halts, actor),
+    match first_waiting(halts) {
+        Some(actor) => cycle_behind(alloc, graph, halts, actor),
         None => Ok(None),
     }
 }

@@ -2,7 +2,7 @@
 
 ghost use Rattle.std.specs.Prelude.{◌≡◌, IfOk, string_bytes};
 ghost use Rattle.sdf_why.specs.Words.{said_line};
-ghost use Rattle.sdf_why.specs.Said.{IsTomlText};
+ghost use Rattle.sdf_why.specs.Said.{IsSaid, IsTomlText};
 
 use crate::marks::before;
 use crate::words::push_said;
@@ -28,16 +28,16 @@ fn said_of(alloc: Global, error: &Error) -> Result<String, AllocError> {
 
 /// What is told of a file by an error of its reader.
 fn error_text(alloc: Global, name: &str, error: &Error) -> Result<String, AllocError>
-    ensures { IfOk result (λ text. IsTomlText name.now (string_bytes text)) }
+    ensures { IfOk result (λ text. IsSaid name.now (string_bytes text)) }
 {
     let said = said_of(alloc, error)?;
     let text = device_text(alloc, name, said.as_str())?;
     Ok(text)
 }
 
-/// What is told of a file that is no TOML document: where it is none, and nothing where it is one.
+/// Returns what is wrong with `bytes` that are not TOML, and where; empty if they are.
 pub fn toml_text(alloc: Global, name: &str, bytes: &[u8]) -> Result<String, AllocError>
-    ensures { IfOk result (λ text. IsTomlText name.now (string_bytes text)) }
+    ensures { IfOk result (λ text. IsTomlText name.now bytes.now (string_bytes text)) }
 {
     match toml::table_from_slice(alloc, bytes) {
         Ok(_) => Ok(String::new(alloc)),

@@ -1,9 +1,10 @@
 //! What is told of a fault, by the files of the design.
 
-ghost use Rattle.std.specs.Prelude.{◌≡◌, ◌++◌, None, IfOk, IfSome, OnOk, string_bytes};
+ghost use Rattle.std.specs.Prelude.{◌≡◌, ◌++◌, None, IfOk, OnOk, MatchOption, string_bytes};
 ghost use Rattle.toml.specs.View.{view};
 ghost use Rattle.sdf_document.specs.Lists.{files_view};
 ghost use Rattle.sdf_document.specs.Listing.{kinds_text};
+ghost use Rattle.sdf_file.specs.declared.fault.FileFault.TheVariants.{OutOfMemory};
 ghost use Rattle.sdf_file.specs.Designs.{IsDesignOf};
 ghost use Rattle.sdf_actor.specs.declared.sides.Lists.TheVariants.{Inputs};
 ghost use Rattle.sdf_actor.specs.Sides.{list_count};
@@ -11,7 +12,7 @@ ghost use Rattle.sdf_actor.specs.Graphs.{graph_of};
 ghost use Rattle.sdf_kit.specs.Kit.{kit_steps};
 ghost use Rattle.sdf_why.specs.Sounds.{channels_told};
 ghost use Rattle.sdf_why.specs.Cycles.{IsCycleText};
-ghost use Rattle.sdf_why.specs.Told.{net_text, IsNetText, IsFileText, processor_line, home_is, home_text, Says};
+ghost use Rattle.sdf_why.specs.Told.{net_text, IsNetText, IsFileText, processor_line, home_is, home_text, Says, SaysNone};
 ghost use Rattle.sdf_why.specs.Told.{IsStallText, IsChannelsText, IsRateOf, IsRateText};
 
 use crate::actors::push_actor_table;
@@ -144,7 +145,7 @@ struct Basis {
 
 /// No design, unless it was memory that lacked.
 fn no_design(fault: &FileFault) -> Result<Option<Design>, AllocError>
-    ensures { IfOk result (λ r. r ≡ None) }
+    ensures { IfOk result (λ r. (r ≡ None) × (fault.now ≡ OutOfMemory → ⊥)) }
 {
     match fault {
         FileFault::OutOfMemory => Err(AllocError),
@@ -154,7 +155,7 @@ fn no_design(fault: &FileFault) -> Result<Option<Design>, AllocError>
 
 /// The design of files, if they give one.
 fn design_of(alloc: Global, sources: Sources<'_>) -> Result<Option<Design>, AllocError>
-    ensures { IfOk result (λ r. IfSome r
+    ensures { IfOk result (λ r. MatchOption r (SaysNone sources.entry.graph.now (files_view sources.entry.files.now))
         (IsDesignOf sources.entry.graph.now (files_view sources.entry.files.now))) }
 {
     match read_design(alloc, sources.graph, sources.files) {
@@ -165,8 +166,8 @@ fn design_of(alloc: Global, sources: Sources<'_>) -> Result<Option<Design>, Allo
 
 /// The tables and the design of files, if they give one.
 fn read(alloc: Global, sources: Sources<'_>) -> Result<Option<Basis>, AllocError>
-    ensures { IfOk result (λ r. IfSome r (λ x. Says sources.entry.graph.now (files_view sources.entry.files.now)
-        (view x.document) x.design)) }
+    ensures { IfOk result (λ r. MatchOption r (SaysNone sources.entry.graph.now (files_view sources.entry.files.now))
+        (λ x. Says sources.entry.graph.now (files_view sources.entry.files.now) (view x.document) x.design)) }
 {
     let Some(document) = root(alloc, sources.graph)? else {
         return Ok(None);
