@@ -10,6 +10,8 @@
   that path is the block, but for its comments. A block for `build/` is written there, for the commands below it.
 - Blocks marked `console`, in each document: each command, run at the top of the repository, prints what stands below.
 - The JSON schemas in docs/ describe graph files and what `--json` prints (`schemas.py`).
+- A path that a document names is there, but in CHANGELOG.md. README.md names each document, examples/README.md each
+  folder there, hostile/README.md each program there, and CONTRIBUTING.md each crate of tests.
 - No line of a document is over 120 columns.
 
 `python3 docs/tables.py [--write] [PROGRAM]`: the program is build/sdfw if none is named. `--write` writes the list of
@@ -64,7 +66,7 @@ def faults(program, write):
 
 
 def kinds(program):
-    """Whether the document's kinds are those that the program lists: a row of the table as a line, without its marks."""
+    """Whether the document's kinds are those that the program lists: a row of the table as a line, without marks."""
     page = PAGE.read_text()
     rows = page[page.index("| kind | keys") :].split("\n\n", 1)[0].splitlines()[2:]
     lines = [row.strip("| ").replace("`", "").replace(" | ", ": ", 1) for row in rows]
@@ -224,6 +226,35 @@ def sessions(program, write):
     return wrong
 
 
+def paths():
+    """The paths that documents name and that are not there. What is in capitals stands for a name."""
+    wrong = []
+    for paper in PAPERS:
+        if paper.name == "CHANGELOG.md":
+            continue
+        folders = "examples|docs|scripts|crates|bench|hostile|sdf_\\w+"
+        for path in sorted(set(re.findall(rf"(?<![\w/.-])((?:{folders})/[\w./-]*\w)", paper.read_text()))):
+            if not re.search("NAME|KIND", path) and not (TOP / path).exists() and not (TOP / "crates" / path).exists():
+                wrong.append(f"{paper.relative_to(TOP)}: {path} is not there")
+    return wrong
+
+
+def named():
+    """What a page is to name and does not."""
+    owed = {
+        "README.md": [f"docs/{path.name}" for path in TOP.glob("docs/*.md")] + ["CONTRIBUTING.md", "CHANGELOG.md"],
+        "examples/README.md": [f"{path.name}/" for path in TOP.glob("examples/*") if path.is_dir()],
+        "hostile/README.md": [path.name for path in [*TOP.glob("hostile/*.py"), *TOP.glob("hostile/*.c")]],
+        "CONTRIBUTING.md": [path.name for path in TOP.glob("crates/*") if re.search("_tests$|^test_", path.name)],
+    }
+    return [
+        f"{paper}: it does not name {name}"
+        for paper, names in owed.items()
+        for name in sorted(names)
+        if name not in (TOP / paper).read_text()
+    ]
+
+
 def widths():
     """The lines that are too long."""
     return [
@@ -240,7 +271,7 @@ def main():
     os.chdir(TOP)
     write = "--write" in sys.argv
     wrong = faults(program, write) + kinds(program) + unedited() + edits() + heads() + stands_on()
-    wrong += schemas.differences(program, write) + sessions(program, write) + widths()
+    wrong += schemas.differences(program, write) + sessions(program, write) + paths() + named() + widths()
     print("\n".join(wrong) or "the documents say what the program and the sources say")
     sys.exit(1 if wrong else 0)
 
