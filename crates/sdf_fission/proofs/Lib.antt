@@ -7,3 +7,5 @@ mod Running
 mod KeptSamples
 mod Warming
 mod Parts
+mod Walks
+mod Passing

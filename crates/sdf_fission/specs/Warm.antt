@@ -2,6 +2,7 @@
 -- run from the start (fission: Gordon, Thies and Amarasinghe 2006 split actors without state; here a whole net is split
 -- in time, and its actors may keep what they soon forget).
 use Rattle.std.specs.Prelude.{◌≡◌, ℕ, ◌+◌, ◌≤◌, ◌<◌, List, [], ◌++◌, length, slice_index_or}
+use Rattle.sdf_graph.specs.Rates.{Rates}
 use Rattle.sdf_actor.specs.declared.node.Node.{Node}
 use Rattle.sdf_actor.specs.declared.node.Node.TheVariants.{Source, Sink, Inner}
 use Rattle.sdf_actor.specs.Steps.{Steps, phase, total_in, state_after}
@@ -19,6 +20,11 @@ Forgets {A} {S} {T} s x m =
     AreTaken s x (early ++ later) → AreTaken s x (other ++ later) →
     state_after s x (early ++ later) ≡ state_after s x (other ++ later)
 
+-- the least number with a property
+pub record IsLeast (P : ℕ → Type 0) (m : ℕ) : Type 0 where
+  pub is : P m
+  pub least : (k : ℕ) → P k → m ≤ k
+
 -- sources and sinks keep nothing
 abbrev pub NodeForgets : {A S T : Type 0} → Steps A S T → Node A → ℕ → Type 0
 NodeForgets s (Source ext block) m = Unit {0}
@@ -34,3 +40,18 @@ pub record IsWarm {A S T : Type 0} (s : Steps A S T) (n : Netlist A T) (k memory
       let r = (wiring s n).rates in
       r.initial c + r.produced c (since (r.source c) + memory (r.source c)) ≤ r.consumed c (since (r.target c))
   pub within : (a : ℕ) → a < length n.nodes → since a + memory a ≤ k a
+
+-- no counts of at most this many firings of each node warm the net up
+abbrev pub StaysCold : {A S T : Type 0} → Steps A S T → Netlist A T → ℕ → Type 0
+StaysCold s n most =
+    (k memory since : ℕ → ℕ) → IsWarm s n k memory since → ((a : ℕ) → a < length n.nodes → k a ≤ most) → ⊥
+
+-- one channel or more lead from one actor to another
+pub data Leads (r : Rates) : ℕ → ℕ → Type 0 where
+  one : (c : ℕ) → c < r.channels → Leads r (r.source c) (r.target c)
+  more : (a c : ℕ) → c < r.channels → Leads r a (r.source c) → Leads r a (r.target c)
+
+-- a loop, in which samples may go round for ever: channels lead from an actor back to it
+pub record HasLoop (r : Rates) : Type 0 where
+  pub actor : ℕ
+  pub back : Leads r actor actor

@@ -1,20 +1,21 @@
 //! What actors remember.
 
-ghost use Rattle.std.specs.Prelude.{◌≡◌, IfSome};
+ghost use Rattle.std.specs.Prelude.{◌≡◌, ℕ, MatchOption};
 ghost use Rattle.sdf_kit.specs.Kit.{kit_steps};
 ghost use Rattle.sdf_kit.specs.declared.kit.Kit.TheVariants as kits;
-ghost use Rattle.sdf_fission.specs.Warm.{Forgets};
+ghost use Rattle.sdf_fission.specs.Warm.{Forgets, IsLeast};
 
 use sdf_actor::Actor;
 use sdf_kit::Kit;
 use sdf_kit::delay::Delay;
 use sdf_kit::fir::Fir;
 
-/// An actor that may be known to forget.
+/// An actor that tells its memory.
 pub trait Forgetful: Actor {
-    /// Returns how many of its last firings it remembers at most, if that is known.
+    /// Returns the number of its last firings that the actor remembers, unless it keeps samples for ever.
     fn memory(&self) -> Option<u32>
-        ensures { IfSome result (Forgets Self.steps self.now) };
+        ensures { MatchOption result ((m : ℕ) → Forgets Self.steps self.now m → ⊥)
+            (IsLeast (Forgets Self.steps self.now)) };
 }
 
 impl Forgetful for Kit {
@@ -29,7 +30,7 @@ impl Forgetful for Kit {
 
 /// Returns the memory of a filter: the firings that take the last of its inputs that it keeps.
 fn fir_memory(fir: &Fir) -> u32
-    ensures { Forgets kit_steps (kits.Fir fir.now) result }
+    ensures { IsLeast (Forgets kit_steps (kits.Fir fir.now)) result }
 {
     let rate = fir.ports().inputs.moved(0, 0) as usize;
     fir.kept_len().div_ceil(rate) as u32
@@ -37,7 +38,7 @@ fn fir_memory(fir: &Fir) -> u32
 
 /// Returns the memory of a delay: a firing for each sample that it keeps.
 fn delay_memory(delay: &Delay) -> u32
-    ensures { Forgets kit_steps (kits.Delay delay.now) result }
+    ensures { IsLeast (Forgets kit_steps (kits.Delay delay.now)) result }
 {
     delay.length() as u32
 }

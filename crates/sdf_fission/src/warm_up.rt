@@ -1,27 +1,37 @@
 //! How many periods of warm-up a net needs until it has forgotten where it began.
 
 ghost use Rattle.std.specs.Prelude.{◌≡◌, ◌+◌, ◌*◌, ◌≤◌, ◌<◌, ℕ, List, length, slice_index};
-ghost use Rattle.std.specs.Prelude.{IfOk, IfSome, IsTrue};
+ghost use Rattle.std.specs.Prelude.{◌⊎◌, IfOk, IfSome, IfNone, MatchOption};
 ghost use Rattle.sdf_graph.specs.Periods.{IsLeastPeriod};
-ghost use Rattle.sdf_graph.specs.Rates.{rates, no_channel, IsCycle};
+ghost use Rattle.sdf_graph.specs.Rates.{rates, rate_at, sum_to, IsCycle};
 ghost use Rattle.sdf_actor.specs.Graphs.{graph_of};
-ghost use Rattle.sdf_fission.specs.Warm.{NodeForgets};
-ghost use Rattle.sdf_fission.specs.WarmUps.{WarmsIn, AreFirings, AreMemories, IsChannel, cold, IsLate, AreLate};
-ghost use Rattle.sdf_fission.specs.WarmUps.{AreWithin};
+ghost use Rattle.sdf_fission.specs.Warm.{NodeForgets, IsLeast, StaysCold, HasLoop};
+ghost use Rattle.sdf_fission.specs.WarmUps.{WarmsIn, AreFirings, AreMemories, IsChannel, cold, AreLate, AreEarly};
+ghost use Rattle.sdf_fission.specs.WarmUps.{AreFar, NoneIsLate, IsMove, IsPass, IsEnd, AreWithin, IsLasting};
 
 use crate::memory::Forgetful;
 use crate::sums::moved_by;
 use sdf_actor::{Net, Node};
-use sdf_graph::laws::one_least_period;
+use sdf_graph::laws::{one_least_period, sums_rise};
 use sdf_graph::{Channel, Graph};
 use std::alloc::{AllocError, Global};
 
 /// The most firings of an actor that are looked at. A longer warm-up would take more time than it saves.
 pub const MAX_FIRINGS: u32 = 1_048_576;
 
-/// Returns what a node remembers.
+/// How the firing from which a target is looked at changes.
+#[derive(Clone, Copy)]
+enum Move {
+    Stays,
+    MovesOn,
+    /// More than `MAX_FIRINGS` firings are needed.
+    TooFar,
+}
+
+/// Returns what a node remembers, unless it keeps samples for ever.
 fn node_memory<A: Forgetful>(node: &Node<A>) -> Option<u32>
-    ensures { IfSome result (NodeForgets A.steps node.now) }
+    ensures { MatchOption result ((m : ℕ) → NodeForgets A.steps node.now m → ⊥)
+        (IsLeast (NodeForgets A.steps node.now)) }
 {
     match node {
         Node::Inner(actor) => actor.memory(),
@@ -29,10 +39,10 @@ fn node_memory<A: Forgetful>(node: &Node<A>) -> Option<u32>
     }
 }
 
-/// Returns what each node remembers.
+/// Returns what each node remembers, if none remembers too much.
 fn memories_of<A: Forgetful>(alloc: Global, net: &Net<A>) -> Result<Option<Vec<u32>>, AllocError>
-    ensures { IfOk result (λ r. IfSome r (λ v. AreFirings (length net.now.nodes) v.items
-        × AreMemories A.steps net.now v.items)) }
+    ensures { IfOk result (λ r. MatchOption r (StaysCold A.steps net.now MAX_FIRINGS)
+        (λ v. AreFirings (length net.now.nodes) v.items × AreMemories A.steps net.now v.items)) }
 {
     let mut memories = Vec::new(alloc);
     for a in 0..net.len() {
@@ -50,41 +60,19 @@ fn cold_samples(channel: &Channel, memory: &[u32], since: &[u32]) -> u64
     requires channel { IsChannel (length since.now) channel.now }
     requires memory { AreFirings (length since.now) memory.now }
     requires since { AreFirings (length since.now) since.now }
-    ensures { result ≡ cold channel.now memory.now since.now }
+    ensures { result ≡ cold channel.now (slice_index memory.now) (slice_index since.now) }
 {
     channel.initial as u64 + moved_by(&channel.put, since[channel.from] + memory[channel.from])
-}
-
-/// Returns whether the target of a channel takes none of these from its firing `since` on.
-fn is_late(channel: &Channel, memory: &[u32], since: &[u32]) -> bool
-    requires channel { IsChannel (length since.now) channel.now }
-    requires memory { AreFirings (length since.now) memory.now }
-    requires since { AreFirings (length since.now) since.now }
-    ensures { IsTrue result → IsLate channel.now memory.now since.now }
-{
-    cold_samples(channel, memory, since) <= moved_by(&channel.take, since[channel.to])
-}
-
-/// Returns whether that is so of each channel.
-fn are_late(graph: &Graph, memory: &[u32], since: &[u32]) -> bool
-    requires all { length since.now ≡ graph.now.actors }
-    requires memory { AreFirings (length since.now) memory.now }
-    requires since { AreFirings (length since.now) since.now }
-    ensures { IsTrue result → AreLate graph.now.channels no_channel memory.now since.now }
-{
-    for channel in graph.channels() {
-        if !is_late(channel, memory, since) {
-            return false;
-        }
-    }
-    true
 }
 
 /// Finds the first firing that has `amount` samples of a list of rates behind it, by halves, if it is not too far.
 fn first_past(rates: &[u32], amount: u64) -> Option<u32>
     requires { (n : ℕ) × IsCycle n rates.now }
-    ensures { IfSome result (λ firings. firings ≤ MAX_FIRINGS) }
+    ensures few { IfSome result (λ firings. firings ≤ MAX_FIRINGS) }
+    ensures first { MatchOption result (AreFar rates.now amount)
+        (IsLeast (λ firings. amount ≤ sum_to (rate_at rates.now) firings)) }
 {
+    sums_rise();
     let mut low = 0;
     let mut high = MAX_FIRINGS;
     while low < high {
@@ -102,44 +90,83 @@ fn first_past(rates: &[u32], amount: u64) -> Option<u32>
     }
 }
 
-/// Moves the firings `since` of targets on to where their channels are late. Returns whether one was moved, or none if
-/// one is too far.
-fn move_on(graph: &Graph, memory: &[u32], since: &mut [u32]) -> Option<bool>
+/// Moves the firing of a channel's target on to where the channel is late.
+fn move_target(channel: &Channel, memory: &[u32], since: &mut [u32]) -> Move
+    requires channel { IsChannel (length since.old) channel.now }
+    requires memory { AreFirings (length since.old) memory.now }
+    requires since { AreFirings (length since.old) since.old }
+    ensures since { AreFirings (length since.old) since.new }
+    ensures is { IsMove channel.now (slice_index memory.now) since.old since.new result }
+{
+    sums_rise();
+    match first_past(&channel.take, cold_samples(channel, memory, since)) {
+        Some(firing) if since[channel.to] < firing => {
+            since[channel.to] = firing;
+            Move::MovesOn
+        }
+        Some(_) => Move::Stays,
+        None => Move::TooFar,
+    }
+}
+
+/// Moves the firings `since` of targets on to where their channels are late, each channel once.
+fn move_on(graph: &Graph, memory: &[u32], since: &mut [u32]) -> Move
     requires all { length since.old ≡ graph.now.actors }
     requires memory { AreFirings (length since.old) memory.now }
     requires since { AreFirings (length since.old) since.old }
-    ensures { AreFirings (length since.old) since.new }
+    requires early { AreEarly graph.now (slice_index memory.now) since.old }
+    ensures since { AreFirings (length since.old) since.new }
+    ensures early { AreEarly graph.now (slice_index memory.now) since.new }
+    ensures pass { IsPass graph.now (slice_index memory.now) since.old since.new result }
 {
-    let mut moved = false;
+    sums_rise();
+    let mut moves = Move::Stays;
     for channel in graph.channels() {
-        let firing = first_past(&channel.take, cold_samples(channel, memory, since))?;
-        if since[channel.to] < firing {
-            since[channel.to] = firing;
-            moved = true;
+        match move_target(channel, memory, since) {
+            Move::Stays => {}
+            Move::MovesOn => moves = Move::MovesOn,
+            Move::TooFar => return Move::TooFar,
         }
     }
-    Some(moved)
+    moves
 }
 
-/// Returns the firing of each actor from which on it does what it does in a run from the start, if it can be found.
-/// Without a lasting loop as many passes as there are actors find it.
-fn since_of(alloc: Global, graph: &Graph, memory: &[u32]) -> Result<Option<Vec<u32>>, AllocError>
-    requires memory { AreFirings graph.now.actors memory.now }
-    ensures { IfOk result (λ r. IfSome r (λ v. AreFirings graph.now.actors v.items
-        × AreLate graph.now.channels no_channel memory.now v.items)) }
+/// Moves the firings `since` on until all channels are late. Without a loop each pass but the last moves an actor that is
+/// one channel further from the first ones.
+fn settle(graph: &Graph, memory: &[u32], since: &mut [u32]) -> Move
+    requires all { length since.old ≡ graph.now.actors }
+    requires memory { AreFirings (length since.old) memory.now }
+    requires since { AreFirings (length since.old) since.old }
+    requires early { AreEarly graph.now (slice_index memory.now) since.old }
+    ensures since { AreFirings (length since.old) since.new }
+    ensures early { AreEarly graph.now (slice_index memory.now) since.new }
+    ensures end { IsEnd graph.now (slice_index memory.now) since.new result }
 {
-    let mut since = vec![in alloc; 0; graph.actors()]?;
-    for _ in 0..graph.actors() {
-        match move_on(graph, memory, &mut since) {
-            Some(true) => {}
-            Some(false) => break,
-            None => return Ok(None),
+    if graph.channels().is_empty() {
+        return Move::Stays;
+    }
+    for _ in 0..graph.actors() + 1 {
+        match move_on(graph, memory, since) {
+            Move::MovesOn => {}
+            end => return end,
         }
     }
-    if are_late(graph, memory, &since) {
-        Ok(Some(since))
-    } else {
-        Ok(None)
+    Move::MovesOn
+}
+
+/// Returns the first firing of each actor from which on it does what it does in a run from the start, if there are such
+/// firings and none is too far.
+fn since_of(alloc: Global, graph: &Graph, memory: &[u32]) -> Result<Option<Vec<u32>>, AllocError>
+    requires memory { AreFirings graph.now.actors memory.now }
+    ensures { IfOk result (λ r. MatchOption r
+        (HasLoop (rates graph.now) ⊎ NoneIsLate graph.now (slice_index memory.now) MAX_FIRINGS)
+        (λ v. AreFirings graph.now.actors v.items × AreLate graph.now (slice_index memory.now) (slice_index v.items)
+        × AreEarly graph.now (slice_index memory.now) v.items)) }
+{
+    let mut since = vec![in alloc; 0; graph.actors()]?;
+    match settle(graph, memory, &mut since) {
+        Move::Stays => Ok(Some(since)),
+        _ => Ok(None),
     }
 }
 
@@ -148,6 +175,7 @@ fn periods_with(periods: u32, firings: u32, in_period: u32) -> u32
     requires { 0 < in_period }
     ensures enough { firings ≤ result * in_period }
     ensures rises { periods ≤ result }
+    ensures least { (p : ℕ) → periods ≤ p → firings ≤ p * in_period → result ≤ p }
     ensures few { periods ≤ 2 * MAX_FIRINGS → firings ≤ 2 * MAX_FIRINGS → result ≤ 2 * MAX_FIRINGS }
 {
     let wanted = firings.div_ceil(in_period);
@@ -159,7 +187,7 @@ fn periods_for(repetitions: &[u32], memory: &[u32], since: &[u32]) -> u32
     requires some { (a : ℕ) → a < length repetitions.now → 0 < slice_index repetitions.now a }
     requires memory { AreFirings (length repetitions.now) memory.now }
     requires since { AreFirings (length repetitions.now) since.now }
-    ensures enough { AreWithin repetitions.now result memory.now since.now }
+    ensures least { IsLeast (λ p. AreWithin repetitions.now p memory.now since.now) result }
     ensures few { result ≤ 2 * MAX_FIRINGS }
 {
     let mut periods = 0;
@@ -170,14 +198,24 @@ fn periods_for(repetitions: &[u32], memory: &[u32], since: &[u32]) -> u32
 }
 
 /// Returns how many periods of warm-up a net needs: a run that is started this much earlier, on nothing before, leaves
-/// what the run from the start leaves. There is none if an actor is not known to forget, if a loop keeps samples for
-/// ever, or if the memory of the net is too long.
+/// what the run from the start leaves.
 pub fn warm_up<A: Forgetful>(alloc: Global, net: &Net<A>) -> Result<Option<u32>, AllocError>
+    // These periods are enough.
     ensures warms { IfOk result (λ r. IfSome r (λ periods. (q : List ℕ) →
         IsLeastPeriod (rates (graph_of A.steps net.now)) q → WarmsIn A.steps net.now q periods)) }
+
+    // Fewer are not.
+    ensures least { IfOk result (λ r. IfSome r (λ periods. (q : List ℕ) (fewer : ℕ) →
+        IsLeastPeriod (rates (graph_of A.steps net.now)) q → WarmsIn A.steps net.now q fewer → periods ≤ fewer)) }
+
+    // They are few.
     ensures few { IfOk result (λ r. IfSome r (λ periods. periods ≤ 2 * MAX_FIRINGS)) }
+
+    // A net without a warm-up keeps samples for ever, or for too long.
+    ensures lasts { IfOk result (λ r. IfNone r (IsLasting A.steps net.now)) }
 {
     one_least_period();
+    sums_rise();
     let graph = net.graph();
     let Some(memory) = memories_of(alloc, net)? else {
         return Ok(None);

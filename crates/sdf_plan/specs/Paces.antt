@@ -3,7 +3,7 @@ use Rattle.std.specs.Prelude.{◌≡◌, ◌≢◌, ℕ, ◌*◌, ◌≤◌}
 use Rattle.sdf_actor.specs.Sides.{period_samples}
 use Rattle.sdf_actor.specs.declared.sides.Lists.TheVariants.{Inputs}
 use Rattle.sdf_kit.specs.Kit.{kit_steps}
-use Rattle.sdf_fission.specs.WarmUps.{WarmsIn}
+use Rattle.sdf_fission.specs.WarmUps.{WarmsIn, IsLasting}
 use Rattle.sdf_file.specs.Designs.{DesignValue}
 use Rattle.sdf_options.specs.declared.options.Options.{Options}
 use Rattle.sdf_options.specs.declared.options.Placement.TheVariants.{Homed}
@@ -37,5 +37,5 @@ pub record IsInParts (d : DesignValue) (m : ℕ) (p : PlanValue) (workers period
 -- the plan runs a design by m workers in this way
 abbrev pub IsPaced : DesignValue → ℕ → PlanValue → Pace → Type 0
 IsPaced d m p (Parts workers periods samples) = IsInParts d m p workers periods samples
-IsPaced d m p Lasting = IsPlanOf d one_thread p × (m ≢ 1)
+IsPaced d m p Lasting = IsPlanOf d one_thread p × (m ≢ 1) × IsLasting kit_steps d.net
 IsPaced d m p Alone = IsPlanOf d one_thread p × (m ≡ 1)

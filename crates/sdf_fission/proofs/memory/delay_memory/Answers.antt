@@ -1,10 +1,10 @@
 use Rattle.std.proofs.Common.{sym, subst}
 use Rattle.sdf_kit.specs.Kit.{kit_steps}
 use Rattle.sdf_kit.specs.declared.kit.Kit.TheVariants.{Delay}
-use Rattle.sdf_fission.specs.Warm.{Forgets}
-use Rattle.sdf_fission.proofs.KeptSamples.{delay_forgets}
+use Rattle.sdf_fission.specs.Warm.{Forgets, IsLeast}
+use Rattle.sdf_fission.proofs.KeptSamples.{delay_memory}
 use Rattle.sdf_fission.proofs.memory.delay_memory.Goals as goal
 
 pub returns : goal.returns
-returns c = subst (Forgets kit_steps (Delay c.args.delay.now)) (sym c.length.ensures.is)
-    (delay_forgets c.args.delay.now)
+returns c = subst (IsLeast (Forgets kit_steps (Delay c.args.delay.now))) (sym c.length.ensures.is)
+    (delay_memory c.args.delay.now)

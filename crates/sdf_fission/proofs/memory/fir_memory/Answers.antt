@@ -4,8 +4,8 @@ use Rattle.sdf_kit.specs.Fir.{kept_len}
 use Rattle.sdf_kit.specs.Kit.{kit_steps}
 use Rattle.sdf_kit.specs.Ports.{moved, rate}
 use Rattle.sdf_kit.specs.declared.kit.Kit.TheVariants.{Fir}
-use Rattle.sdf_fission.specs.Warm.{Forgets}
-use Rattle.sdf_fission.proofs.KeptSamples.{fir_forgets}
+use Rattle.sdf_fission.specs.Warm.{Forgets, IsLeast}
+use Rattle.sdf_fission.proofs.KeptSamples.{fir_memory}
 use Rattle.sdf_fission.proofs.memory.fir_memory.Goals as goal
 
 pub returns : goal.returns
@@ -15,4 +15,4 @@ returns c =
     let is : c.div_ceil.result ≡ div_ceil (kept_len f) f.down =
     c.div_ceil.ensures ∙ (λ κ. div_ceil (c.kept_len.ensures.is κ) (down κ)) in
     let some : 1 ≤ f.down = subst (λ p. 1 ≤ rate p.inputs) c.ports.ensures.is c.ports.ensures.limits.inputs.some in
-    subst (Forgets kit_steps (Fir f)) (sym is) (fir_forgets f (omega arith))
+    subst (IsLeast (Forgets kit_steps (Fir f))) (sym is) (fir_memory f (omega arith))
