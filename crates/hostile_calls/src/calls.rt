@@ -23,7 +23,6 @@ use sdf_plan::planning::plan;
 use std::fs;
 use std::rt::Files;
 use std::thread::Threads;
-use std::time::Clock;
 
 /// Makes a call that needs a table.
 fn make_tabled<R: AllocGlobal + Print + Sync + Threads>(
@@ -44,7 +43,7 @@ fn make_tabled<R: AllocGlobal + Print + Sync + Threads>(
 }
 
 /// Makes a call that needs a plan.
-fn make_planned<R: AllocGlobal + Clock + Files + Print + Sync + Threads>(
+fn make_planned<R: AllocGlobal + Files + Print + Sync + Threads>(
     rt: &R,
     call: &str,
     design: &Design,
@@ -65,7 +64,7 @@ fn make_planned<R: AllocGlobal + Clock + Files + Print + Sync + Threads>(
 }
 
 /// Makes a call with the files and the options of a run.
-pub(crate) fn make<R: AllocGlobal + Clock + Files + Print + Sync + Threads>(
+pub(crate) fn make<R: AllocGlobal + Files + Print + Sync + Threads>(
     rt: &R,
     call: &str,
     sources: &Sources,

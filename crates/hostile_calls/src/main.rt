@@ -35,7 +35,6 @@ use sdf_words::arguments::arguments;
 use sdf_words::{Words, words};
 use std::rt::Files;
 use std::thread::Threads;
-use std::time::Clock;
 
 const USAGE: &str =
     "hostile_calls CALL run GRAPH IN OUT [OPTIONS]\nhostile_calls disturb RUNS SEED GRAPH..\n\
@@ -45,10 +44,7 @@ const USAGE: &str =
 pub(crate) const TURNS: [&str; 2] = ["call", "again"];
 
 /// Does what the words ask for, of which the first is the name of a call.
-fn obey<R: AllocGlobal + Clock + Files + Print + Sync + Threads>(
-    rt: &R,
-    line: &[&str],
-) -> Result<()> {
+fn obey<R: AllocGlobal + Files + Print + Sync + Threads>(rt: &R, line: &[&str]) -> Result<()> {
     match line {
         ["disturb", runs, seed, graphs @ ..] => {
             let runs = runs.parse::<usize>().context("the number of runs")?;

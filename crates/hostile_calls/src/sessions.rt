@@ -30,7 +30,6 @@ fn open<'a>(
     let mode = match plan.runner() {
         Runner::Rings => Mode::Rings {
             patience: plan.patience(),
-            rooms: 1,
         },
         _ => Mode::Rows,
     };

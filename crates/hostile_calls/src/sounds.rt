@@ -10,7 +10,6 @@ use sdf_process::process::process;
 use sdf_wav::{FromRead, ToWrite};
 use std::io;
 use std::thread::Threads;
-use std::time::Clock;
 
 /// Room for what is written, so that the writer asks for no memory.
 const MOST_WRITTEN: usize = 65_536;
@@ -24,7 +23,7 @@ fn show_end(rt: &impl Print, answer: Result<(), Fault>, written: &[u8]) -> io::R
 }
 
 /// A run of a design from a file in memory to another.
-pub(crate) fn process_twice<R: AllocGlobal + Clock + Print + Sync + Threads>(
+pub(crate) fn process_twice<R: AllocGlobal + Print + Sync + Threads>(
     rt: &R,
     design: &Design,
     plan: &Plan,

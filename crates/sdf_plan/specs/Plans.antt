@@ -30,23 +30,18 @@ use Rattle.sdf_options.specs.declared.options.Policy.{Policy}
 use Rattle.sdf_options.specs.declared.options.Policy.TheVariants as policies
 use Rattle.sdf_options.specs.declared.options.Runner.{Runner}
 use Rattle.sdf_options.specs.declared.options.Runner.TheVariants.{One, Rows, Rings}
-use Rattle.sdf_options.specs.declared.options.Placement.{Placement}
-use Rattle.sdf_options.specs.declared.options.Placement.TheVariants.{Spread}
-use Rattle.sdf_plan.specs.declared.plan.TheConstants.{SPREAD_ROOMS}
 use Rattle.sdf_plan.specs.declared.fault.Progress.{Progress}
 use Rattle.sdf_plan.specs.declared.fault.Fault.{Fault}
 use Rattle.sdf_plan.specs.declared.fault.Fault.TheVariants.{OutOfMemory, Patience, BlockingFactor, WorkerCount}
 use Rattle.sdf_plan.specs.declared.fault.Fault.TheVariants.{Deadlock, Table, NotHomed}
 use Rattle.sdf_plan.specs.Placements.{ArePeriodsOf, IsTableBy, IsPlaceFault}
 
--- what runs a design, the periods of a block, a worker's repeated tests, how many times the capacities of the table
--- the rings hold, how many parts of a sound one thread each runs at once, the order of one period, and the table of a
--- block
+-- what runs a design, the periods of a block, a worker's repeated tests, how many parts of a sound one thread each runs
+-- at once, the order of one period, and the table of a block
 pub record PlanValue : Type 0 where
   pub blocking : ℕ
   pub runner : Runner
   pub patience : ℕ
-  pub rooms : ℕ
   pub parts : ℕ
   pub period : Schedule
   pub table : Option Tabled
@@ -109,18 +104,12 @@ IsTableFor Rows d o s j (Some t) = IsTableBy d o s j t
 IsTableFor Rings d o s j (Some t) = IsTableBy d o s j t × IsHomed t
 IsTableFor runner d o s j None = ⊥
 
--- how many times the capacities of the table the rings hold by a placement
-abbrev pub rooms_of : Placement → ℕ
-rooms_of Spread = SPREAD_ROOMS
-rooms_of placement = 1
-
 -- the plan of a design by options that pass all tests
 pub record IsPlanOf (d : DesignValue) (o : Options) (p : PlanValue) : Type 0 where
   pub options : ArePassed o
   pub blocking : ArePeriodsOf d o p.period p.blocking
   pub same_runner : p.runner ≡ o.runner
   pub same_patience : p.patience ≡ o.patience
-  pub rooms : p.rooms ≡ rooms_of o.placement
   pub whole : p.parts ≡ 1
   pub schedule : IsScheduleBy o.policy (graph_of kit_steps d.net) p.period
   pub by_placement : IsTableFor o.runner d o p.period p.blocking p.table

@@ -8,27 +8,13 @@ ghost use Rattle.sdf_answer.specs.Rows.{IsBlockTableOf};
 ghost use Rattle.sdf_kit.specs.declared.kit.Kit.{Kit};
 ghost use Rattle.sdf_kit.specs.Kit.{kit_steps};
 ghost use Rattle.sdf_plan.specs.Followed.{blocking_in, period_in, table_in, HasBlockTable};
-ghost use Rattle.sdf_plan.specs.Plans.{rooms_of, Suits};
+ghost use Rattle.sdf_plan.specs.Plans.{Suits};
 
 use sdf_answer::BlockTable;
-use sdf_options::{Options, Placement, Runner};
+use sdf_options::{Options, Runner};
 use sdf_prec::Table;
 use sdf_sched::Period;
 use std::marker::Model;
-
-/// How many times the capacities of its table the rings of a plan hold, where its actors are spread, and how many times
-/// 4,096 frames are read at a time.
-pub const SPREAD_ROOMS: u32 = 16;
-
-/// As many for a placement.
-pub(crate) fn rooms_of(placement: Placement) -> u32
-    ensures { result ≡ rooms_of placement }
-{
-    match placement {
-        Placement::Spread => SPREAD_ROOMS,
-        Placement::Hu | Placement::Homed | Placement::File => 1,
-    }
-}
 
 /// What a runner follows.
 #[derive(Drop)]
@@ -59,7 +45,6 @@ fn following(period: Period, blocking: u32, table: Option<Table>) -> Followed
 pub struct Plan {
     runner: Runner,
     patience: u32,
-    rooms: u32,
     parts: u32,
     followed: Followed,
 }
@@ -74,7 +59,6 @@ impl Model for Plan {
       blocking = blocking_in p.followed;
       runner = p.runner;
       patience = p.patience;
-      rooms = p.rooms;
       parts = p.parts;
       period = period_in p.followed;
       table = table_in p.followed;
@@ -93,7 +77,6 @@ impl Plan {
           blocking = blocking;
           runner = options.now.runner;
           patience = options.now.patience;
-          rooms = rooms_of options.now.placement;
           parts = 1;
           period = period;
           table = table;
@@ -102,7 +85,6 @@ impl Plan {
         Plan {
             runner: options.runner,
             patience: options.patience,
-            rooms: rooms_of(options.placement),
             parts: 1,
             followed: following(period, blocking, table),
         }
@@ -115,7 +97,6 @@ impl Plan {
         Plan {
             runner: self.runner,
             patience: self.patience,
-            rooms: self.rooms,
             parts,
             followed: self.followed,
         }
@@ -143,13 +124,6 @@ impl Plan {
         ensures { result ≡ self.now.patience }
     {
         self.patience
-    }
-
-    /// How many times the capacities of the table its rings hold, and how many times 4,096 frames are read at a time.
-    pub fn rooms(&self) -> u32
-        ensures { result ≡ self.now.rooms }
-    {
-        self.rooms
     }
 
     /// Returns how many parts of a sound run at once, if the plan is for one thread.

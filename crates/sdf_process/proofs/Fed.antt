@@ -246,27 +246,26 @@ module _ (n : Netlist Kit ℤ) (p : Schedule) (t : Stream) (ready : IsReady n p 
 -- ---- a session that was fed nothing
 
 -- a plan's table can be run as its runner does, so memory alone may be refused
-pub opened_refused : (t : Tabled) (runner : Runner) (patience rooms : ℕ) → SuitsRunner runner t →
-    HasPatience runner patience → (e : RunFault) → IsModeFault t (mode_of runner patience rooms) e →
-    of_run e ≡ OutOfMemory
-opened_refused t runners.One patience rooms homes few run.OutOfMemory why = refl
-opened_refused t runners.One patience rooms homes few run.InputLength why = absurd why
-opened_refused t runners.One patience rooms homes few run.NotHomed why = absurd why
-opened_refused t runners.One patience rooms homes few run.Patience why = absurd why
-opened_refused t runners.One patience rooms homes few run.NoWorker why = absurd why
-opened_refused t runners.One patience rooms homes few run.SessionFailed why = absurd why
-opened_refused t runners.Rows patience rooms homes few run.OutOfMemory why = refl
-opened_refused t runners.Rows patience rooms homes few run.InputLength why = absurd why
-opened_refused t runners.Rows patience rooms homes few run.NotHomed why = absurd why
-opened_refused t runners.Rows patience rooms homes few run.Patience why = absurd why
-opened_refused t runners.Rows patience rooms homes few run.NoWorker why = absurd why
-opened_refused t runners.Rows patience rooms homes few run.SessionFailed why = absurd why
-opened_refused t runners.Rings patience rooms homes few run.OutOfMemory why = refl
-opened_refused t runners.Rings patience rooms homes few run.InputLength why = absurd why
-opened_refused t runners.Rings patience rooms homes few run.NotHomed why = absurd (why homes)
-opened_refused t runners.Rings patience rooms homes few run.Patience why = absurd (omega (arith, few, why.1))
-opened_refused t runners.Rings patience rooms homes few run.NoWorker why = absurd why
-opened_refused t runners.Rings patience rooms homes few run.SessionFailed why = absurd why
+pub opened_refused : (t : Tabled) (runner : Runner) (patience : ℕ) → SuitsRunner runner t →
+    HasPatience runner patience → (e : RunFault) → IsModeFault t (mode_of runner patience) e → of_run e ≡ OutOfMemory
+opened_refused t runners.One patience homes few run.OutOfMemory why = refl
+opened_refused t runners.One patience homes few run.InputLength why = absurd why
+opened_refused t runners.One patience homes few run.NotHomed why = absurd why
+opened_refused t runners.One patience homes few run.Patience why = absurd why
+opened_refused t runners.One patience homes few run.NoWorker why = absurd why
+opened_refused t runners.One patience homes few run.SessionFailed why = absurd why
+opened_refused t runners.Rows patience homes few run.OutOfMemory why = refl
+opened_refused t runners.Rows patience homes few run.InputLength why = absurd why
+opened_refused t runners.Rows patience homes few run.NotHomed why = absurd why
+opened_refused t runners.Rows patience homes few run.Patience why = absurd why
+opened_refused t runners.Rows patience homes few run.NoWorker why = absurd why
+opened_refused t runners.Rows patience homes few run.SessionFailed why = absurd why
+opened_refused t runners.Rings patience homes few run.OutOfMemory why = refl
+opened_refused t runners.Rings patience homes few run.InputLength why = absurd why
+opened_refused t runners.Rings patience homes few run.NotHomed why = absurd (why homes)
+opened_refused t runners.Rings patience homes few run.Patience why = absurd (omega (arith, few, why.1))
+opened_refused t runners.Rings patience homes few run.NoWorker why = absurd why
+opened_refused t runners.Rings patience homes few run.SessionFailed why = absurd why
 
 -- it stands after nothing
 pub stands_first : (n : Netlist Kit ℤ) (p : Schedule) (j : ℕ) (v : SessionValue Kit (List ℤ) ℤ) → v.net ≡ n →

@@ -42,9 +42,9 @@ ReadsMore c before frames kept old new r r' now (Ok all) =
 ReadsMore c before frames kept old new r r' now (Err f) = ReadsContent c old new r r' (Err f)
 
 -- how a session goes on that a runner with workers has
-abbrev pub mode_of : Runner → ℕ → ℕ → Mode
-mode_of runners.Rings patience rooms = Rings patience rooms
-mode_of runner patience rooms = Rows
+abbrev pub mode_of : Runner → ℕ → Mode
+mode_of runners.Rings patience = Rings patience
+mode_of runner patience = Rows
 
 -- A session of net n stands after the first blocks of j periods of a sound, and these are the bytes of the first frames
 -- of what it made of them.

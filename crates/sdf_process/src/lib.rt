@@ -11,7 +11,6 @@ mod exchange;
 mod finishing;
 mod hearing;
 pub mod laws;
-pub mod napping;
 mod playing;
 pub mod process;
 mod putting;

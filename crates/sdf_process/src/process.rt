@@ -3,7 +3,6 @@
 ghost use Rattle.sdf_plan.specs.Plans.{Suits};
 ghost use Rattle.sdf_process.specs.Run.{IsRun};
 
-use crate::napping::Napping;
 use crate::running::run_net;
 use crate::task::Task;
 use sdf_file::Design;
@@ -11,7 +10,6 @@ use sdf_plan::{Fault, Plan};
 use sdf_run::{Gate, NoGate};
 use sdf_wav::{Reader, Writer};
 use std::thread::Threads;
-use std::time::Clock;
 
 /// Reads a WAV file, runs a design on it by its plan, and writes the canonical WAV file of the output, of which there
 /// is only one (`laws::one_output`).
@@ -42,9 +40,8 @@ pub fn process_with<T: Threads + AllocGlobal + Sync, R: Reader, W: Writer, G: Ga
     run_net(rt, reader, writer, task, gate)
 }
 
-/// The same with a gate that lets each firing pass: what the program does. Where the rings of a plan have room for
-/// several blocks, a worker that waits sleeps now and then.
-pub fn process<T: Threads + AllocGlobal + Clock + Sync, R: Reader, W: Writer>(
+/// The same with a gate that lets each firing pass: what the program does.
+pub fn process<T: Threads + AllocGlobal + Sync, R: Reader, W: Writer>(
     rt: &T,
     reader: &mut R,
     writer: &mut W,
@@ -56,8 +53,5 @@ pub fn process<T: Threads + AllocGlobal + Clock + Sync, R: Reader, W: Writer>(
         (W.contents writer.old) (W.contents writer.new)
         (R.failures reader.old) (R.failures reader.new) (W.failures writer.old) (W.failures writer.new) result }
 {
-    if plan.rooms() > 1 {
-        return process_with(rt, reader, writer, design, plan, &Napping::new(rt));
-    }
     process_with(rt, reader, writer, design, plan, &NoGate)
 }

@@ -33,24 +33,16 @@ use sdf_wav::{ContentIn, ContentOut, Reader, Wav, Writer};
 use std::alloc::{AllocError, Global};
 use std::thread::Threads;
 
-/// Frames that are read at a time, where the rings of a plan hold no more than the capacities of its table.
-const FRAMES: usize = 4096;
-
 /// Frames that are read at a time.
-fn frames_at_a_time(plan: &Plan) -> usize
-    ensures { 0 < result }
-{
-    FRAMES * plan.rooms().max(1) as usize
-}
+const FRAMES: usize = 4096;
 
 /// How the blocks of a plan are run.
 fn mode(plan: &Plan) -> Mode
-    ensures { result ≡ mode_of plan.now.runner plan.now.patience plan.now.rooms }
+    ensures { result ≡ mode_of plan.now.runner plan.now.patience }
 {
     match plan.runner() {
         Runner::Rings => Mode::Rings {
             patience: plan.patience(),
-            rooms: plan.rooms(),
         },
         _ => Mode::Rows,
     }
@@ -68,7 +60,7 @@ fn open_session<'a>(
     ensures stands { MatchResult result
         (λ v. (s : Sound) → StandsAt net.now plan.now.period plan.now.blocking s 0 0 [] v)
         (λ e. e ≡ OutOfMemory) }
-    ensures mode { IfOk result (λ v. v.mode ≡ mode_of plan.now.runner plan.now.patience plan.now.rooms) }
+    ensures mode { IfOk result (λ v. v.mode ≡ mode_of plan.now.runner plan.now.patience) }
 {
     let session = Session::open(alloc, net, table, mode(plan))?;
     Ok(session)
@@ -305,11 +297,10 @@ pub(crate) fn run_stream<T: Threads + AllocGlobal + Sync, R: Reader, W: Writer, 
         rate,
         channels,
     };
-    let most = frames_at_a_time(plan);
     let mut kept = Vec::new(alloc);
     let mut unread = frames;
     while unread > 0 {
-        let many = most.min(unread);
+        let many = FRAMES.min(unread);
         let samples = read_more(alloc, reader, &mut content, many, kept)?;
         kept = stream.put_whole(rt, writer, gate, samples)?;
         unread -= many;

@@ -22,7 +22,6 @@ use sdf_words::Crew;
 use std::alloc::{AllocError, Global};
 use std::io::{Read, Write};
 use std::thread::{Threads, available_parallelism};
-use std::time::Clock;
 
 /// Workers of a parallel run where the system does not tell its processors.
 const WORKERS: usize = 4;
@@ -54,7 +53,7 @@ fn header_at<S: Storage>(storage: &S, input: &str) -> Option<Header> {
 }
 
 /// Runs a plan from the first byte of one stream to the last of another.
-fn run_between<T: Threads + AllocGlobal + Clock + Sync, R: Read, W: Write>(
+fn run_between<T: Threads + AllocGlobal + Sync, R: Read, W: Write>(
     threads: &T,
     from: &mut R,
     to: &mut W,
@@ -73,7 +72,7 @@ fn run_between<T: Threads + AllocGlobal + Clock + Sync, R: Read, W: Write>(
 }
 
 /// Runs a plan on a stream that is open. OUT is made or emptied where none of the files that are read is OUT.
-fn run_from<S: Storage, T: Threads + AllocGlobal + Clock + Sync, R: Read, O: Write>(
+fn run_from<S: Storage, T: Threads + AllocGlobal + Sync, R: Read, O: Write>(
     world: &World<S, T>,
     from: &mut R,
     out: &mut O,
@@ -97,7 +96,7 @@ fn run_from<S: Storage, T: Threads + AllocGlobal + Clock + Sync, R: Read, O: Wri
 
 /// Runs a design by its plan on a WAV file. OUT is made or emptied once IN is open, and none of the files that are read
 /// is OUT.
-fn run_planned<S: Storage, T: Threads + AllocGlobal + Clock + Sync, I: Read, O: Write>(
+fn run_planned<S: Storage, T: Threads + AllocGlobal + Sync, I: Read, O: Write>(
     world: &World<S, T>,
     stdin: &mut I,
     out: &mut O,
@@ -123,7 +122,7 @@ fn run_planned<S: Storage, T: Threads + AllocGlobal + Clock + Sync, I: Read, O: 
 }
 
 /// Runs a design on a WAV file, once its plan stands.
-pub(crate) fn run<S: Storage, T: Threads + AllocGlobal + Clock + Sync, I: Read, O: Write>(
+pub(crate) fn run<S: Storage, T: Threads + AllocGlobal + Sync, I: Read, O: Write>(
     world: &World<S, T>,
     stdin: &mut I,
     out: &mut O,
@@ -206,7 +205,7 @@ fn crew_plan<T: Threads + AllocGlobal, E: Write>(
 /// is asked for.
 pub(crate) fn run_parallel<
     S: Storage,
-    T: Threads + AllocGlobal + Clock + Sync,
+    T: Threads + AllocGlobal + Sync,
     I: Read,
     O: Write,
     E: Write,

@@ -22,7 +22,6 @@ use Rattle.sdf_answer.specs.Feeds as feeds
 use Rattle.sdf_answer.specs.Periods.{HasPeriod}
 use Rattle.sdf_answer.specs.Rows.{IsTableOf}
 use Rattle.sdf_rings.specs.Asks.{IsPlanned}
-use Rattle.sdf_rings.specs.MachineLaws.{roomy}
 use Rattle.sdf_rings.specs.Outcome.{HasRunInRounds, HasEnded}
 use Rattle.sdf_rings.specs.Prepared.{IsPrepared}
 use Rattle.sdf_rings.specs.Rests.{InHand, AreRings, HaveMet}
@@ -68,16 +67,16 @@ module _ (sound : GraphsAreSound) (periods : GraphsHavePeriods) (repeats : Table
       let all : 1 * 1 ≤ b * (j * get_or q 0 0) = mul-le-mul more some in
       omega (arith, all, ap (λ m. b * m) each, blocks.counts 0 known)
 
-  module _ (rooms : ℕ) (inputs : List (List T)) (r : InHand A S T) (rings : AreRings s r)
-      (prepared : IsPrepared s n inputs t rooms b r) where
+  module _ (inputs : List (List T)) (r : InHand A S T) (rings : AreRings s r)
+      (prepared : IsPrepared s n inputs t b r) where
     -- what is asked, of the net in hand
-    pub asked : IsPlanned s r.net r.seats r.places (repeated b t.order) (roomy rooms (λ c. get_or t.caps c 0))
-    asked = subst (λ m. IsPlanned s m r.seats r.places (repeated b t.order) (roomy rooms (λ c. get_or t.caps c 0)))
+    pub asked : IsPlanned s r.net r.seats r.places (repeated b t.order) (λ c. get_or t.caps c 0)
+    asked = subst (λ m. IsPlanned s m r.seats r.places (repeated b t.order) (λ c. get_or t.caps c 0))
         (sym prepared.net_is) prepared.planned
 
     few_left : total_left r.seats ≤ length (repeated b t.order)
     few_left = left_few s r.net r.inputs r.seats r.places rings (repeated b t.order)
-        (roomy rooms (λ c. get_or t.caps c 0)) asked
+        (λ c. get_or t.caps c 0) asked
 
     pub few_rounds : b < 2 ^ 32 → total_left r.seats < 2 ^ 64
     few_rounds few = omega (arith, few_left, order_few few)
@@ -89,7 +88,7 @@ module _ (sound : GraphsAreSound) (periods : GraphsHavePeriods) (repeats : Table
         IsPlanned s new.net new.seats new.places order cap) →
         HaveMet new.net new.seats new.places → total_left new.seats ≡ 0 → rounds ≤ total_left r.seats →
         (0 < total_left r.seats → 0 < rounds) →
-        HasEnded s n q j t rooms b inputs patience new rounds
+        HasEnded s n q j t b inputs patience new rounds
     has_ended new patience rounds homed patient fits same kept met none most least =
         let net : new.net ≡ n = same.0 ∙ prepared.net_is in
         record {
@@ -100,18 +99,18 @@ module _ (sound : GraphsAreSound) (periods : GraphsHavePeriods) (repeats : Table
           inputs_are = same.1 ∙ prepared.inputs_are;
           met = met;
           none_left = none;
-          planned = kept (repeated b t.order) (roomy rooms (λ c. get_or t.caps c 0)) asked;
+          planned = kept (repeated b t.order) (λ c. get_or t.caps c 0) asked;
           counts = subst (λ m. AreCountsOf m (repeated b t.order) (periods_of q (b * j))) (sym net) counts_are;
           rounds_few = omega (arith, most, few_left, order_long);
           rounds_some = λ more. least (left_some s r.net r.inputs r.seats r.places rings (repeated b t.order)
-              (roomy rooms (λ c. get_or t.caps c 0)) asked 0
+              (λ c. get_or t.caps c 0) asked 0
               (subst (λ m. 0 < length m.nodes) (sym prepared.net_is) some_node)
               (λ e d. prepared.undone 0 e d some_node) (some_asked more));
         }
 
-module _ {A S T : Type 0} (s : Steps A S T) (n : Netlist A T) (q : List ℕ) (j : ℕ) (t : Tabled) (rooms b : ℕ)
+module _ {A S T : Type 0} (s : Steps A S T) (n : Netlist A T) (q : List ℕ) (j : ℕ) (t : Tabled) (b : ℕ)
     (inputs : List (List T)) (patience : ℕ) (r : InHand A S T) (rounds : ℕ)
-    (ended : HasEnded s n q j t rooms b inputs patience r rounds) where
+    (ended : HasEnded s n q j t b inputs patience r rounds) where
   -- what holds at the counts of a plan's firings holds of the run
   at_counts : (P : Netlist A T → List (List T) → (ℕ → ℕ) → Type 0) →
       ((order : List ℕ) (cap k : ℕ → ℕ) → IsPlanned s r.net r.seats r.places order cap → AreCountsOf r.net order k →
@@ -119,7 +118,7 @@ module _ {A S T : Type 0} (s : Steps A S T) (n : Netlist A T) (q : List ℕ) (j 
   at_counts P given =
       let k : ℕ → ℕ = periods_of q (b * j) in
       subst (λ is. P n is k) ended.inputs_are (subst (λ m. P m r.inputs k) ended.net_is
-      (given (repeated b t.order) (roomy rooms (λ c. get_or t.caps c 0)) k ended.planned ended.counts))
+      (given (repeated b t.order) (λ c. get_or t.caps c 0) k ended.planned ended.counts))
 
   run_with : (outputs : List (List T)) → AreOutputs s n inputs (periods_of q (b * j)) outputs →
       HasRunInRounds s n q j t b inputs patience outputs rounds

@@ -288,5 +288,4 @@ module _ {A S T : Type 0} (s : Steps A S T) where
     sound = (wired pair net).sound;
     period = is_period;
     table = table;
-    some_room = omega arith;
   }

@@ -7,22 +7,22 @@ use Rattle.sdf_prec.specs.Laws.{TablesRepeat}
 use Rattle.sdf_actor.specs.Steps.{Steps}
 use Rattle.sdf_actor.specs.Histories.{IsWired}
 use Rattle.sdf_actor.specs.Nets.{Netlist, wire, wiring}
-use Rattle.sdf_rings.specs.MachineLaws.{firings, capacity, roomy}
+use Rattle.sdf_rings.specs.MachineLaws.{firings, capacity}
 use Rattle.sdf_rings.specs.Prepared.{IsAsked}
 use Rattle.sdf_rings.proofs.Begun.{some_in, is_some}
 use Rattle.sdf_rings.proofs.Plans.{IsSequence, plan_sequence, room_first}
 
 -- a plan that is asked of a wired net, and the laws of its sequences
-pub record AskedPlan {A S T : Type 0} (s : Steps A S T) (n : Netlist A T) (t : Tabled) (rooms blocks : ℕ)
+pub record AskedPlan {A S T : Type 0} (s : Steps A S T) (n : Netlist A T) (t : Tabled) (blocks : ℕ)
     (asked : ℕ → ℕ) : Type 0 where
   pub alike : AlikeSequences
   pub repeats : TablesRepeat
   pub wired : IsWired (wiring s n)
-  pub is : IsAsked s n t rooms blocks asked
+  pub is : IsAsked s n t blocks asked
 
-module _ {A S T : Type 0} {s : Steps A S T} {n : Netlist A T} {t : Tabled} {rooms blocks : ℕ} {asked : ℕ → ℕ}
-    (x : AskedPlan s n t rooms blocks asked) where
-  abbrev is : IsAsked s n t rooms blocks asked
+module _ {A S T : Type 0} {s : Steps A S T} {n : Netlist A T} {t : Tabled} {blocks : ℕ} {asked : ℕ → ℕ}
+    (x : AskedPlan s n t blocks asked) where
+  abbrev is : IsAsked s n t blocks asked
   is = x.is
 
   sequence : (b : ℕ) → IsSequence (wiring s n).rates (firings is.plan b) (capacity is.plan)
@@ -34,12 +34,11 @@ module _ {A S T : Type 0} {s : Steps A S T} {n : Netlist A T} {t : Tabled} {room
       (sequence blocks).admissible
 
   -- what the rings take is what the plan's channels may hold
-  caps_are : (c : ℕ) → capacity is.plan c ≡ roomy rooms (λ d. get_or t.caps d 0) c
-  caps_are c = ap (λ (z : Tabled). roomy is.plan.rooms (λ d. get_or z.caps d 0) c) is.table_is
-      ∙ ap (λ (m : ℕ). roomy m (λ d. get_or t.caps d 0) c) is.rooms_are
+  caps_are : (c : ℕ) → capacity is.plan c ≡ get_or t.caps c 0
+  caps_are c = ap (λ (z : Tabled). get_or z.caps c 0) is.table_is
 
-  pub fits : FitsIn (wiring s n).rates (roomy rooms (λ c. get_or t.caps c 0)) (repeated blocks t.order)
-  fits = subst (λ (z : Tabled). FitsIn (wiring s n).rates (roomy rooms (λ c. get_or t.caps c 0))
+  pub fits : FitsIn (wiring s n).rates (λ c. get_or t.caps c 0) (repeated blocks t.order)
+  fits = subst (λ (z : Tabled). FitsIn (wiring s n).rates (λ c. get_or t.caps c 0)
       (repeated blocks z.order)) is.table_is
       (λ m h c l. let r = (sequence blocks).room m h c l in let e = caps_are c in omega arith)
 
@@ -55,8 +54,7 @@ module _ {A S T : Type 0} {s : Steps A S T} {n : Netlist A T} {t : Tabled} {room
   order_known = subst (λ (z : Tabled). (i : ℕ) → i < length z.order → get_or z.order i 0 < length n.nodes) is.table_is
       (λ i h. ((sequence 1).admissible i h).0)
 
-  pub held : (c : ℕ) → c < length n.wires →
-      length (wire n c).initial ≤ roomy rooms (λ d. get_or t.caps d 0) c
+  pub held : (c : ℕ) → c < length n.wires → length (wire n c).initial ≤ get_or t.caps c 0
   held c l = subst (λ m. length (wire n c).initial ≤ m) (caps_are c)
       (room_first (wiring s n).rates (firings is.plan 0) (capacity is.plan)
       (repeated 0 is.plan.table.order) x.wired.sound

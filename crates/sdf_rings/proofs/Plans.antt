@@ -1,7 +1,6 @@
 -- What a plan says of the firings of all its blocks.
 use Rattle.std.proofs.Common.{◌≡◌, ℕ, zero, suc, ◌+◌, ◌*◌, ◌≤◌, ◌<◌, ◌⊎◌, inl, inr, List, get_or, length, take, sym, ap}
 use Rattle.std.proofs.Common.{◌∙◌, subst, arith, add-one}
-use Rattle.std.proofs.Math.Nat.{mul-le-mul_right}
 use Rattle.std.proofs.lemmas.Bool.{cases_eq}
 use Rattle.std.proofs.lemmas.List.{take_all}
 use Rattle.sdf_graph.specs.Rates.{Rates, IsAlike, IsSound}
@@ -11,7 +10,7 @@ use Rattle.sdf_prec.specs.Blocks.{block}
 use Rattle.sdf_prec.specs.Laws.{TablesRepeat, AreBlocks}
 use Rattle.sdf_actor.specs.Steps.{Steps}
 use Rattle.sdf_actor.specs.Nets.{Netlist, wiring}
-use Rattle.sdf_rings.specs.MachineLaws.{MachinePlan, IsMachinePlan, firings, capacity, roomy}
+use Rattle.sdf_rings.specs.MachineLaws.{MachinePlan, IsMachinePlan, firings, capacity}
 
 -- a sequence of firings that fires each actor a k a times, and what it needs
 pub record IsSequence (r : Rates) (k cap : ℕ → ℕ) (w : List ℕ) : Type 0 where
@@ -33,12 +32,6 @@ tokens_alike r t k c alike l =
     alike.consumed c (k (r.target c)) l ∙ ap (λ a. t.consumed c (k a)) (alike.target c l) in
     omega arith
 
--- what fits a capacity fits so many times the capacity
-room_more : (rooms : ℕ) (cap : ℕ → ℕ) (c : ℕ) → 1 ≤ rooms → cap c ≤ roomy rooms cap c
-room_more rooms cap c some =
-    let more : 1 * cap c ≤ rooms * cap c = mul-le-mul_right (cap c) some in
-    omega (arith, more)
-
 pub plan_sequence : AlikeSequences → TablesRepeat →
     {A S T : Type 0} (s : Steps A S T) (n : Netlist A T) (p : MachinePlan) (b : ℕ) → IsMachinePlan s n p →
     IsSequence (wiring s n).rates (firings p b) (capacity p) (sequence_of p b)
@@ -53,7 +46,6 @@ plan_sequence alike repeats s n p b plan =
           omega (
             arith,
             all.within i h c known,
-            room_more p.rooms (λ d. get_or p.table.caps d 0) c plan.some_room,
             tokens_alike p.rates (wiring s n).rates
                 (times (take i (sequence_of p b))) c plan.alike known,
           );

@@ -72,17 +72,15 @@ module _ {A S T : Type 0} (s : Steps A S T) (can : NetsCanRun s) (n : Netlist A 
       go a l (Sink ext block) x = omega (arith, run.makes a ext block l x, ap (λ m. block * m) (counted a l), room_is)
       go a l (Inner y) x = tt
 
-  pub is_asked : GraphsAreSound → GraphsHavePeriods → (t : Tabled) (rooms : ℕ) →
-      IsTableOf (rates (graph_of s n)) p.repetitions j t → 1 ≤ rooms →
-      IsAsked s n t rooms blocks (λ a. get_or asked a 0)
-  is_asked sound periods t rooms table some = record {
+  pub is_asked : GraphsAreSound → GraphsHavePeriods → (t : Tabled) →
+      IsTableOf (rates (graph_of s n)) p.repetitions j t → IsAsked s n t blocks (λ a. get_or asked a 0)
+  is_asked sound periods t table = record {
     plan = record {
       rates = rates (graph_of s n);
       period = p.repetitions;
       factor = j;
       width = table.width;
       table = t;
-      rooms = rooms;
     };
     is = record {
       net = period.net;
@@ -90,10 +88,8 @@ module _ {A S T : Type 0} (s : Steps A S T) (can : NetsCanRun s) (n : Netlist A 
       sound = sound (graph_of s n) period.shape;
       period = periods (graph_of s n) p.repetitions period.shape period.period.least.is;
       table = table.table;
-      some_room = some;
     };
     table_is = refl;
-    rooms_are = refl;
     asked_are = λ a l. many a l ∙ ap (λ m. blocks * m)
         (sym (get_or-map (λ (q : ℕ). j * q) p.repetitions a 0 0 (omega (arith, all))));
   }

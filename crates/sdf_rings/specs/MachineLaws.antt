@@ -13,36 +13,29 @@ use Rattle.sdf_actor.specs.Histories.{Wiring, put, taken, taken_before}
 use Rattle.sdf_actor.specs.Nets.{Netlist, node, answers, wiring, IsNet, IsHistoryOf, InputsReach}
 use Rattle.sdf_rings.specs.Machine.{Machine, Event, put_on, taken_from, at_start, IsAllowed, IsRun, after}
 
--- a period of a graph, how many periods make a block, a table of a block's firings with so many columns, and how many
--- times the table's capacities the channels may hold
+-- a period of a graph, how many periods make a block, and a table of a block's firings with so many columns
 pub record MachinePlan : Type 0 where
   pub rates : Rates
   pub period : List ℕ
   pub factor : ℕ
   pub width : ℕ
   pub table : Tabled
-  pub rooms : ℕ
 
--- the graph is the net's, the table is valid, and channels may hold no less than it says. Where its actors are at home
--- is not asked: the laws hold of each valid table
+-- the graph is the net's, and the table is valid. Where its actors are at home is not asked: the laws hold of each
+-- valid table
 pub record IsMachinePlan {A S T : Type 0} (s : Steps A S T) (n : Netlist A T) (p : MachinePlan) : Type 0 where
   pub net : IsNet s n
   pub alike : IsAlike p.rates (wiring s n).rates
   pub sound : IsSound p.rates
   pub period : IsPeriod p.rates (slice_index p.period)
   pub table : IsTable p.rates (slice_index (block p.factor p.period)) p.width p.table
-  pub some_room : 1 ≤ p.rooms
 
--- so many times each capacity
-abbrev pub roomy : ℕ → (ℕ → ℕ) → ℕ → ℕ
-roomy rooms cap c = rooms * cap c
-
--- how often each actor fires in b blocks, and what each channel may hold
+-- how often each actor fires in b blocks, and what each channel may hold: its capacity in the table
 abbrev pub firings : MachinePlan → ℕ → ℕ → ℕ
 firings p b a = b * slice_index (block p.factor p.period) a
 
 abbrev pub capacity : MachinePlan → ℕ → ℕ
-capacity p c = roomy p.rooms (slice_index p.table.caps) c
+capacity p = slice_index p.table.caps
 
 -- a run of b blocks, and where it leads
 abbrev pub IsRunOf : {A S T : Type 0} → Steps A S T → Netlist A T → List (List T) → MachinePlan → ℕ → List Event →

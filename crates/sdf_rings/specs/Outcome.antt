@@ -9,7 +9,6 @@ use Rattle.sdf_actor.specs.Steps.{Steps}
 use Rattle.sdf_actor.specs.Nets.{Netlist}
 use Rattle.sdf_answer.specs.Feeds.{GoesOnBy}
 use Rattle.sdf_rings.specs.Asks.{IsPlanned}
-use Rattle.sdf_rings.specs.MachineLaws.{roomy}
 use Rattle.sdf_rings.specs.Rests.{InHand, HaveMet}
 use Rattle.sdf_rings.specs.Totals.{total_left}
 use Rattle.sdf_answer.specs.Answer.{HasInputs, AreOutputs, periods_of}
@@ -38,10 +37,10 @@ pub record HasGoneOn {A S T : Type 0} (s : Steps A S T) (n : Netlist A T) (q : L
   pub rounds_few : rounds ≤ blocks * (j * sum q)
   pub rounds_some : 0 < blocks → 0 < rounds
 
--- after the rounds of a run over rings of so many times the table's capacities, where no test fails: nothing is left of
--- the blocks of the table, and all ends have met
+-- after the rounds of a run over rings, where no test fails: nothing is left of the blocks of the table, and all ends
+-- have met
 pub record HasEnded {A S T : Type 0} (s : Steps A S T) (n : Netlist A T) (q : List ℕ) (j : ℕ) (t : Tabled)
-    (rooms blocks : ℕ) (inputs : List (List T)) (patience : ℕ) (r : InHand A S T) (rounds : ℕ) : Type 0 where
+    (blocks : ℕ) (inputs : List (List T)) (patience : ℕ) (r : InHand A S T) (rounds : ℕ) : Type 0 where
   pub homed : IsHomed t
   pub patient : patience ≤ MOST_PATIENCE
   pub has : HasInputs n q (blocks * j) inputs
@@ -49,8 +48,7 @@ pub record HasEnded {A S T : Type 0} (s : Steps A S T) (n : Netlist A T) (q : Li
   pub inputs_are : r.inputs ≡ inputs
   pub met : HaveMet r.net r.seats r.places
   pub none_left : total_left r.seats ≡ 0
-  pub planned : IsPlanned s r.net r.seats r.places (repeated blocks t.order)
-      (roomy rooms (slice_index t.caps))
+  pub planned : IsPlanned s r.net r.seats r.places (repeated blocks t.order) (slice_index t.caps)
   pub counts : AreCountsOf r.net (repeated blocks t.order) (periods_of q (blocks * j))
   pub rounds_few : rounds ≤ blocks * (j * sum q)
   pub rounds_some : 0 < blocks → 0 < rounds

@@ -29,7 +29,6 @@ plan s = record {
     homes = Some 0 ∷ Some 1 ∷ [];
     caps = 6 ∷ [];
   };
-  rooms = 1;
 }
 
 -- what the ring holds

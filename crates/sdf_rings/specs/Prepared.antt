@@ -11,13 +11,13 @@ use Rattle.sdf_rings.specs.declared.stand.Stand.{Stand}
 use Rattle.sdf_rings.specs.declared.seat.Seat.{Seat}
 use Rattle.sdf_rings.specs.Rests.{stand_of, InHand, HaveMet}
 use Rattle.sdf_rings.specs.Asks.{IsPlanned}
-use Rattle.sdf_rings.specs.MachineLaws.{MachinePlan, IsMachinePlan, firings, roomy}
+use Rattle.sdf_rings.specs.MachineLaws.{MachinePlan, IsMachinePlan, firings}
 use Rattle.sdf_rings.specs.Begun.{place}
 
 -- there is a seat for each column of the table and each node stands at home. Nothing has fired, all ends have met, so
--- many blocks of the table are asked, and the rings take so many times its capacities
+-- many blocks of the table are asked, and the rings take its capacities
 pub record IsPrepared {A S T : Type 0} (s : Steps A S T) (n : Netlist A T) (inputs : List (List T)) (t : Tabled)
-    (rooms blocks : ℕ) (r : InHand A S T) : Type 0 where
+    (blocks : ℕ) (r : InHand A S T) : Type 0 where
   pub net_is : r.net ≡ n
   pub inputs_are : r.inputs ≡ inputs
   pub columns : (i : ℕ) → i < length t.rows → length (row t.rows i) ≡ length r.seats
@@ -27,16 +27,14 @@ pub record IsPrepared {A S T : Type 0} (s : Steps A S T) (n : Netlist A T) (inpu
       (stand_of n r.seats r.places e d a).done ≡ 0
   pub first : (i : ℕ) (e : Seat A T S) → i < length r.seats → (slice_index_or r.seats i e).next ≡ 0
   pub met : HaveMet n r.seats r.places
-  pub planned : IsPlanned s n r.seats r.places (repeated blocks t.order)
-      (roomy rooms (slice_index t.caps))
+  pub planned : IsPlanned s n r.seats r.places (repeated blocks t.order) (slice_index t.caps)
 
--- the table is one of a plan of the net for rings of so many times its capacities, and so many blocks of it are asked
-pub record IsAsked {A S T : Type 0} (s : Steps A S T) (n : Netlist A T) (t : Tabled) (rooms blocks : ℕ)
+-- the table is one of a plan of the net, and so many blocks of it are asked
+pub record IsAsked {A S T : Type 0} (s : Steps A S T) (n : Netlist A T) (t : Tabled) (blocks : ℕ)
     (asked : ℕ → ℕ) : Type 0 where
   pub plan : MachinePlan
   pub is : IsMachinePlan s n plan
   pub table_is : plan.table ≡ t
-  pub rooms_are : plan.rooms ≡ rooms
   pub asked_are : (a : ℕ) → a < length n.nodes → asked a ≡ firings plan blocks a
 
 -- a fault is true of what was given. That an actor has no home is tested first

@@ -1,6 +1,6 @@
 //! A run over rings that another one goes on from.
 
-ghost use Rattle.std.specs.Prelude.{◌*◌, ◌≤◌, ℕ, List, MatchResult};
+ghost use Rattle.std.specs.Prelude.{◌*◌, ℕ, List, MatchResult};
 ghost use Rattle.sdf_graph.specs.Rates.{rates};
 ghost use Rattle.sdf_actor.specs.Graphs.{graph_of};
 ghost use Rattle.sdf_actor.specs.Rests.{IsRest};
@@ -10,34 +10,31 @@ ghost use Rattle.sdf_answer.specs.Feeds as feeds;
 ghost use Rattle.sdf_answer.specs.Rows.{IsBlockTableOf};
 ghost use Rattle.sdf_rings.specs.Outcome.{HasRunInRounds, HasGoneOn, IsRingsFault};
 
-use crate::roomy_table::RoomyTable;
 use crate::runner::run_through;
 use crate::workers::Workers;
 use sdf_actor::{Actor, Begun, Net, Rest};
 use sdf_answer::laws::{begun_nets_go_on, feeds_go_on, nets_have_periods};
-use sdf_answer::{Ran, RunFault};
+use sdf_answer::{BlockTable, Ran, RunFault};
 use sdf_node::Gate;
 use std::alloc::AllocGlobal;
 use std::thread::Threads;
 
-/// Runs a net as `run_rings` does, over rings that may take more, and gives what the run leaves beside what it makes.
-/// `Net::begun` goes on from there.
+/// Runs a net as `run_rings` does, and gives what the run leaves beside what it makes. `Net::begun` goes on from there.
 pub fn feed_rings<R: Threads + AllocGlobal + Sync, A: Actor, G: Gate>(
     workers: Workers<'_, R, G>,
     net: &Net<A>,
-    given: &RoomyTable,
+    table: &BlockTable,
     blocks: u32,
     inputs: &[Vec<A::Token>],
 ) -> Result<(Ran<A::Token>, Rest<A::Token, A::State>), RunFault>
-    requires fits { IsBlockTableOf (rates (graph_of A.steps net.now)) given.now.table.now }
-    requires rooms { 1 ≤ given.now.rooms }
-    ensures { let t = given.now.table.now in let q = t.period.repetitions in let j = t.factor in MatchResult result
+    requires fits { IsBlockTableOf (rates (graph_of A.steps net.now)) table.now }
+    ensures { let t = table.now in let q = t.period.repetitions in let j = t.factor in MatchResult result
         (λ fed. HasRunInRounds A.steps net.now q j t.table blocks (lists inputs.now) workers.entry.patience
         (lists fed.0.outputs.items) fed.0.rounds ×
         feeds.HasRun A.steps net.now (lists inputs.now) (periods_of q (blocks * j)) (lists fed.0.outputs.items) fed.1)
         (IsRingsFault net.now q (blocks * j) (lists inputs.now) t.table workers.entry.patience) }
 {
-    let (rings, rounds) = run_through(workers, net, given, blocks, inputs)?;
+    let (rings, rounds) = run_through(workers, net, table, blocks, inputs)?;
     let (outputs, rest) = rings.leave()?;
     Ok((Ran { outputs, rounds }, rest))
 }
@@ -47,16 +44,15 @@ pub fn feed_rings<R: Threads + AllocGlobal + Sync, A: Actor, G: Gate>(
 pub fn resume_rings<R: Threads + AllocGlobal + Sync, A: Actor, G: Gate>(
     workers: Workers<'_, R, G>,
     net: &Net<A>,
-    given: &RoomyTable,
+    table: &BlockTable,
     rest: &Rest<A::Token, A::State>,
     blocks: u32,
     inputs: &[Vec<A::Token>],
 ) -> Result<(Ran<A::Token>, Rest<A::Token, A::State>), RunFault>
-    requires fits { IsBlockTableOf (rates (graph_of A.steps net.now)) given.now.table.now }
-    requires rooms { 1 ≤ given.now.rooms }
+    requires fits { IsBlockTableOf (rates (graph_of A.steps net.now)) table.now }
     requires rest { (first : List (List A.Token)) × (few : ℕ)
-        × IsRest A.steps net.now first (periods_of given.now.table.now.period.repetitions few) rest.now }
-    ensures { let t = given.now.table.now in let q = t.period.repetitions in let j = t.factor in MatchResult result
+        × IsRest A.steps net.now first (periods_of table.now.period.repetitions few) rest.now }
+    ensures { let t = table.now in let q = t.period.repetitions in let j = t.factor in MatchResult result
         (λ fed. HasGoneOn A.steps net.now q j t.table rest.now blocks (lists inputs.now) workers.entry.patience
         (lists fed.0.outputs.items) fed.0.rounds fed.1)
         (IsRingsFault net.now q (blocks * j) (lists inputs.now) t.table workers.entry.patience) }
@@ -65,5 +61,5 @@ pub fn resume_rings<R: Threads + AllocGlobal + Sync, A: Actor, G: Gate>(
     feeds_go_on::<A, Begun<A>>();
     begun_nets_go_on::<A, Begun<A>>();
     let begun = net.begun(workers.rt.alloc(), rest)?;
-    feed_rings(workers, &begun, given, blocks, inputs)
+    feed_rings(workers, &begun, table, blocks, inputs)
 }

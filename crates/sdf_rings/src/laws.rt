@@ -1,7 +1,6 @@
 //! Laws of the ring machine and of rounds, each the contract of a function that does nothing but call laws.
 
-ghost use Rattle.std.specs.Prelude.{◌≡◌, ℕ};
-ghost use Rattle.sdf_rings.specs.MachineLaws.{roomy, RunsPutPrefixes, RunsKeepWithin, RunsGoOn, RunsMoveBlocks};
+ghost use Rattle.sdf_rings.specs.MachineLaws.{RunsPutPrefixes, RunsKeepWithin, RunsGoOn, RunsMoveBlocks};
 ghost use Rattle.sdf_rings.specs.MachineLaws.{RunsEndInHistories, OwnNeverWaits, QuiescentReached, QuiescentIsReached};
 ghost use Rattle.sdf_rings.specs.Laws.{SomeSeatGoesOn, RoundsFire};
 
@@ -87,8 +86,3 @@ pub fn rounds_go_on<A: Actor>()
     sdf_actor::laws::locals_are_history::<A>();
     sdf_prec::laws::the_next_may_fire();
 }
-
-/// A channel with room for one block may hold its capacity, no more and no less.
-pub fn one_room_is_the_capacity()
-    ensures { (cap : ℕ → ℕ) → roomy 1 cap ≡ cap }
-{}

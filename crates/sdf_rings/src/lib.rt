@@ -9,8 +9,7 @@
 //! `own_rings` is about the channels from a node to itself. `round` has all workers at once (`workers`), `meet` tells
 //! all ends, `rest` says what then stands where, and `rings` has rounds by hand and until nothing is left. `prepare`
 //! makes the seats of a run, `finish` gives out the lists of the sinks and `leave` what else the seats hold, and
-//! `runner` does all of it (`specs/Asks.antt`, `specs/Outcome.antt`); `feed` has runs that another one goes on from,
-//! over rings that may hold several blocks (`roomy_table`).
+//! `runner` does all of it (`specs/Asks.antt`, `specs/Outcome.antt`); `feed` has runs that another one goes on from.
 #![tactic(auto)]
 
 mod course;
@@ -26,7 +25,6 @@ pub mod pair;
 pub mod prepare;
 mod rest;
 pub mod rings;
-pub mod roomy_table;
 mod round;
 mod run_ends;
 pub mod runner;
@@ -39,7 +37,6 @@ mod workers;
 pub use course::Course;
 pub use feed::{feed_rings, resume_rings};
 pub use rings::Rings;
-pub use roomy_table::RoomyTable;
 pub use runner::run_rings;
 pub use seat::{Seat, work};
 pub use stand::Stand;

@@ -13,7 +13,6 @@ ghost use Rattle.sdf_rings.specs.Begun.{IsStart};
 ghost use Rattle.sdf_rings.specs.Prepared.{IsPrepared, IsAsked, IsPrepareFault};
 
 use crate::rings::Rings;
-use crate::roomy_table::RoomyTable;
 use crate::setup::asked::asked;
 use crate::setup::openings::open_rings;
 use crate::setup::places::places;
@@ -33,22 +32,19 @@ use std::alloc::{AllocError, Global};
 fn lay_out<'a, A: Actor>(
     alloc: Global,
     start: &Start<'a, A>,
-    given: &RoomyTable,
+    table: &Table,
     blocks: u32,
 ) -> Result<Rings<'a, A>, AllocError>
     requires start { IsStart A.steps start.now }
-    requires plan { IsAsked A.steps start.now.net.now given.now.table.now.table given.now.rooms blocks
-        (slice_index start.now.asked.items) }
-    requires homed { IsHomed given.now.table.now.table }
-    ensures { IfOk result (IsPrepared A.steps start.now.net.now (lists start.now.inputs.now) given.now.table.now.table
-        given.now.rooms blocks) }
+    requires plan { IsAsked A.steps start.now.net.now table.now blocks (slice_index start.now.asked.items) }
+    requires homed { IsHomed table.now }
+    ensures { IfOk result (IsPrepared A.steps start.now.net.now (lists start.now.inputs.now) table.now blocks) }
 {
     sdf_actor::laws::nets_are_wired::<A>();
     sdf_graph::laws::alike_sequences();
     sdf_prec::laws::tables_repeat();
-    let table = &given.table.table;
     let places = places(alloc, table, start.net.len())?;
-    let mut ends = open_rings(alloc, start.net, given)?;
+    let mut ends = open_rings(alloc, start.net, table)?;
     let roster = Roster {
         places: &places,
         order: table.order(),
@@ -63,18 +59,16 @@ fn lay_out<'a, A: Actor>(
 fn prepare_homed<'a, A: Actor>(
     alloc: Global,
     net: &'a Net<A>,
-    given: &RoomyTable,
+    table: &BlockTable,
     blocks: u32,
     inputs: &'a [Vec<A::Token>],
 ) -> Result<Rings<'a, A>, AllocError>
-    requires fits { IsBlockTableOf (rates (graph_of A.steps net.now)) given.now.table.now }
-    requires rooms { 1 ≤ given.now.rooms }
-    requires homed { IsHomed given.now.table.now.table }
-    requires inputs { let t = given.now.table.now in
+    requires fits { IsBlockTableOf (rates (graph_of A.steps net.now)) table.now }
+    requires homed { IsHomed table.now.table }
+    requires inputs { let t = table.now in
         HasInputs net.now t.period.repetitions (blocks * t.factor) (lists inputs.now) }
-    requires some { 0 < period_samples net.now.nodes Inputs given.now.table.now.period.repetitions }
-    ensures { IfOk result (IsPrepared A.steps net.now (lists inputs.now) given.now.table.now.table given.now.rooms
-        blocks) }
+    requires some { 0 < period_samples net.now.nodes Inputs table.now.period.repetitions }
+    ensures { IfOk result (IsPrepared A.steps net.now (lists inputs.now) table.now.table blocks) }
 {
     net_facts(net);
     blocks_are_small(net);
@@ -82,7 +76,6 @@ fn prepare_homed<'a, A: Actor>(
     nets_can_run::<A>();
     sdf_graph::laws::graphs_are_sound();
     sdf_graph::laws::graphs_have_periods();
-    let table = given.table;
     let start = Start {
         net,
         inputs,
@@ -91,39 +84,12 @@ fn prepare_homed<'a, A: Actor>(
         room: samples_of_blocks(blocks, table.factor, net.samples_out()),
         filler: first_sample(inputs),
     };
-    lay_out(alloc, &start, given, blocks)
-}
-
-/// As `prepare`, over rings that may take more than the table's capacities.
-pub(crate) fn prepare_roomy<'a, A: Actor>(
-    alloc: Global,
-    net: &'a Net<A>,
-    given: &RoomyTable,
-    blocks: u32,
-    inputs: &'a [Vec<A::Token>],
-) -> Result<Rings<'a, A>, RunFault>
-    requires fits { IsBlockTableOf (rates (graph_of A.steps net.now)) given.now.table.now }
-    requires rooms { 1 ≤ given.now.rooms }
-    ensures { let t = given.now.table.now in let q = t.period.repetitions in let j = t.factor in MatchResult result
-        (λ r. IsHomed t.table × HasInputs net.now q (blocks * j) (lists inputs.now)
-        × IsPrepared A.steps net.now (lists inputs.now) t.table given.now.rooms blocks r)
-        (IsPrepareFault net.now q (blocks * j) (lists inputs.now) t.table) }
-{
-    blocks_are_small(net);
-    let table = given.table;
-    if !table.table.homed() {
-        return Err(RunFault::NotHomed);
-    }
-    let least = samples_of_blocks(blocks, table.factor, net.samples_in());
-    if !are_inputs(inputs, net.inputs(), least) {
-        return Err(RunFault::InputLength);
-    }
-    Ok(prepare_homed(alloc, net, given, blocks, inputs)?)
+    lay_out(alloc, &start, &table.table, blocks)
 }
 
 /// What a run of so many blocks holds before its first round: a seat for each column of its table, each
 /// actor at home, each channel with what it begins with, and each seat's list of firings. First of all 30 where an
-/// actor has no home. Each ring takes the table's capacity, once.
+/// actor has no home. Each ring takes the table's capacity.
 pub fn prepare<'a, A: Actor>(
     alloc: Global,
     net: &'a Net<A>,
@@ -134,9 +100,16 @@ pub fn prepare<'a, A: Actor>(
     requires fits { IsBlockTableOf (rates (graph_of A.steps net.now)) table.now }
     ensures { let t = table.now in let q = t.period.repetitions in let j = t.factor in MatchResult result
         (λ r. IsHomed t.table × HasInputs net.now q (blocks * j) (lists inputs.now)
-        × IsPrepared A.steps net.now (lists inputs.now) t.table 1 blocks r)
+        × IsPrepared A.steps net.now (lists inputs.now) t.table blocks r)
         (IsPrepareFault net.now q (blocks * j) (lists inputs.now) t.table) }
 {
-    let given = RoomyTable { table, rooms: 1 };
-    prepare_roomy(alloc, net, &given, blocks, inputs)
+    blocks_are_small(net);
+    if !table.table.homed() {
+        return Err(RunFault::NotHomed);
+    }
+    let least = samples_of_blocks(blocks, table.factor, net.samples_in());
+    if !are_inputs(inputs, net.inputs(), least) {
+        return Err(RunFault::InputLength);
+    }
+    Ok(prepare_homed(alloc, net, table, blocks, inputs)?)
 }

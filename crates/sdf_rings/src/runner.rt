@@ -1,15 +1,14 @@
 //! The runner over rings.
 
-ghost use Rattle.std.specs.Prelude.{◌*◌, ◌≤◌, ℕ, MatchResult};
+ghost use Rattle.std.specs.Prelude.{◌*◌, MatchResult};
 ghost use Rattle.sdf_graph.specs.Rates.{rates};
 ghost use Rattle.sdf_actor.specs.Graphs.{graph_of};
 ghost use Rattle.sdf_actor.specs.Wires.{lists};
 ghost use Rattle.sdf_answer.specs.Rows.{IsBlockTableOf};
 ghost use Rattle.sdf_rings.specs.Outcome.{HasRunInRounds, HasEnded, IsRingsFault};
 
-use crate::prepare::prepare_roomy;
+use crate::prepare::prepare;
 use crate::rings::Rings;
-use crate::roomy_table::RoomyTable;
 use crate::workers::Workers;
 use sdf_actor::{Actor, Net};
 use sdf_answer::laws::nets_have_periods;
@@ -23,14 +22,13 @@ use std::thread::Threads;
 pub(crate) fn run_through<'a, R: Threads + AllocGlobal + Sync, A: Actor, G: Gate>(
     workers: Workers<'_, R, G>,
     net: &'a Net<A>,
-    given: &RoomyTable,
+    table: &BlockTable,
     blocks: u32,
     inputs: &'a [Vec<A::Token>],
 ) -> Result<(Rings<'a, A>, u64), RunFault>
-    requires fits { IsBlockTableOf (rates (graph_of A.steps net.now)) given.now.table.now }
-    requires rooms { 1 ≤ given.now.rooms }
-    ensures { let t = given.now.table.now in let q = t.period.repetitions in let j = t.factor in MatchResult result
-        (λ ran. HasEnded A.steps net.now q j t.table given.now.rooms blocks (lists inputs.now)
+    requires fits { IsBlockTableOf (rates (graph_of A.steps net.now)) table.now }
+    ensures { let t = table.now in let q = t.period.repetitions in let j = t.factor in MatchResult result
+        (λ ran. HasEnded A.steps net.now q j t.table blocks (lists inputs.now)
         workers.entry.patience ran.0 ran.1)
         (IsRingsFault net.now q (blocks * j) (lists inputs.now) t.table workers.entry.patience) }
 {
@@ -39,13 +37,13 @@ pub(crate) fn run_through<'a, R: Threads + AllocGlobal + Sync, A: Actor, G: Gate
     sdf_prec::laws::tables_repeat();
     sdf_prec::laws::tables_count();
     nets_have_periods(net);
-    if !given.table.table.homed() {
+    if !table.table.homed() {
         return Err(RunFault::NotHomed);
     }
     if workers.patience > MOST_PATIENCE {
         return Err(RunFault::Patience);
     }
-    let mut rings = prepare_roomy(workers.rt.alloc(), net, given, blocks, inputs)?;
+    let mut rings = prepare(workers.rt.alloc(), net, table, blocks, inputs)?;
     rings.facts();
     let rounds = rings.run(workers);
     Ok((rings, rounds))
@@ -70,8 +68,7 @@ pub fn run_rings<R: Threads + AllocGlobal + Sync, A: Actor, G: Gate>(
         (lists ran.outputs.items) ran.rounds)
         (IsRingsFault net.now q (blocks * j) (lists inputs.now) t.table workers.entry.patience) }
 {
-    let given = RoomyTable { table, rooms: 1 };
-    let (rings, rounds) = run_through(workers, net, &given, blocks, inputs)?;
+    let (rings, rounds) = run_through(workers, net, table, blocks, inputs)?;
     let outputs = rings.finish();
     Ok(Ran { outputs, rounds })
 }

@@ -11,6 +11,7 @@ use crate::stand::{Stand, fire_one, is_ready};
 use crate::together::{fire_run, in_one_run};
 use sdf_actor::{Actor, Net};
 use sdf_node::Gate;
+use std::thread;
 
 /// So many firings at most go in one piece of work.
 const MOST_AT_ONCE: u64 = 65_536;
@@ -33,7 +34,7 @@ struct Orders<'a, A: Actor, G> {
     gate: &'a G,
 }
 
-/// Tests again while tries are left: after each test that fails the worker pauses, which takes some of them.
+/// Tests again while tries are left: each test that fails takes one, and lets another thread run.
 fn becomes_ready<A: Actor, G: Gate>(
     orders: Orders<'_, A, G>,
     stand: &mut Stand<A>,
@@ -49,14 +50,12 @@ fn becomes_ready<A: Actor, G: Gate>(
     ensures spent { IsFalse result → tries.new ≡ 0 }
     ensures at_once { CanFire A.steps orders.entry.net.now stand.old → tries.new ≡ tries.old }
 {
-    let mut failed: u32 = 0;
     while *tries > 0 {
         if is_ready(orders.net, orders.inputs, stand) {
             return true;
         }
-        let taken = orders.gate.pause(orders.processor, failed).max(1);
-        *tries = tries.saturating_sub(taken);
-        failed = failed.saturating_add(1);
+        *tries -= 1;
+        thread::yield_now();
     }
     is_ready(orders.net, orders.inputs, stand)
 }

@@ -43,20 +43,20 @@ pub record SessionValue (A S T : Type 0) : Type 0 where
 -- how a table can be run
 abbrev pub MayRun : Tabled → Mode → Type 0
 MayRun t Rows = Unit {0}
-MayRun t (Rings patience rooms) = IsHomed t × (patience ≤ MOST_PATIENCE)
+MayRun t (Rings patience) = IsHomed t × (patience ≤ MOST_PATIENCE)
 
 -- the first test of that which fails
 abbrev pub IsModeFault : Tabled → Mode → RunFault → Type 0
 IsModeFault t mode OutOfMemory = Unit {0}
 IsModeFault t Rows fault = ⊥
-IsModeFault t (Rings patience rooms) NotHomed = IsHomed t → ⊥
-IsModeFault t (Rings patience rooms) Patience = IsHomed t × (MOST_PATIENCE < patience)
-IsModeFault t (Rings patience rooms) fault = ⊥
+IsModeFault t (Rings patience) NotHomed = IsHomed t → ⊥
+IsModeFault t (Rings patience) Patience = IsHomed t × (MOST_PATIENCE < patience)
+IsModeFault t (Rings patience) fault = ⊥
 
 -- a run of so many blocks takes so many rounds: over rings each does some firing
 abbrev pub HasRounds : Tabled → List ℕ → ℕ → Mode → ℕ → ℕ → Type 0
 HasRounds t q j Rows blocks rounds = rounds ≡ blocks * length t.rows
-HasRounds t q j (Rings patience rooms) blocks rounds = (rounds ≤ blocks * (j * sum q)) × (0 < blocks → 0 < rounds)
+HasRounds t q j (Rings patience) blocks rounds = (rounds ≤ blocks * (j * sum q)) × (0 < blocks → 0 < rounds)
 
 -- counts stop at their greatest number
 abbrev pub counted : ℕ → ℕ

@@ -22,7 +22,7 @@ use sdf_answer::{BlockTable, Ran, RunFault};
 use sdf_limits::MOST_PATIENCE;
 use sdf_node::Gate;
 use sdf_prec::Table;
-use sdf_rings::{RoomyTable, Workers, resume_rings};
+use sdf_rings::{Workers, resume_rings};
 use sdf_rows::{TableBlocks, resume_rows};
 use std::alloc::Global;
 use std::marker::Model;
@@ -84,7 +84,7 @@ fn may_run(table: &Table, mode: Mode) -> Result<(), RunFault>
 {
     match mode {
         Mode::Rows => Ok(()),
-        Mode::Rings { patience, .. } => {
+        Mode::Rings { patience } => {
             if !table.homed() {
                 return Err(RunFault::NotHomed);
             }
@@ -150,13 +150,9 @@ fn go_on<R: Threads + AllocGlobal + Sync, A: Actor, G: Gate>(
             let plan = TableBlocks { table, blocks };
             resume_rows(rt, net, &plan, rest, inputs, gate)
         }
-        Mode::Rings { patience, rooms } => {
-            let given = RoomyTable {
-                table,
-                rooms: rooms.max(1),
-            };
+        Mode::Rings { patience } => {
             let workers = Workers { rt, gate, patience };
-            resume_rings(workers, net, &given, rest, blocks, inputs)
+            resume_rings(workers, net, table, rest, blocks, inputs)
         }
     }
 }

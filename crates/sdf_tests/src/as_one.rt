@@ -29,20 +29,13 @@ struct Row {
     turns: u32,
 }
 
-const IMPATIENT: Mode = Mode::Rings {
-    patience: 0,
-    rooms: 1,
-};
+const IMPATIENT: Mode = Mode::Rings { patience: 0 };
 
 const PATIENT: Mode = Mode::Rings {
     patience: 1_000_000,
-    rooms: 1,
 };
 
-const SOON_PATIENT: Mode = Mode::Rings {
-    patience: 1,
-    rooms: 1,
-};
+const SOON_PATIENT: Mode = Mode::Rings { patience: 1 };
 
 /// Two periods of a small net.
 const SMALL: Row = Row {

@@ -24,7 +24,6 @@ mod passes;
 #[cfg(test)]
 mod patience;
 #[cfg(test)]
-mod pauses;
 #[cfg(test)]
 mod sessions;
 #[cfg(test)]

@@ -10,10 +10,7 @@ use std::thread::Threads;
 use test_actors::gates::{Hold, Watch};
 use test_texts::row_says;
 
-const RINGS: Mode = Mode::Rings {
-    patience: 0,
-    rooms: 1,
-};
+const RINGS: Mode = Mode::Rings { patience: 0 };
 
 /// A net that reads 70,000 samples, how it is run by one worker, and how many samples are made, firings of the source
 /// and of the sink pass, and do not pass in turn; or how many samples one thread makes.

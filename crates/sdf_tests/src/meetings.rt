@@ -15,18 +15,9 @@ use test_texts::row_says;
 /// Tests again so often that a worker goes on once its neighbour has moved.
 const PATIENT: Mode = Mode::Rings {
     patience: 1_000_000,
-    rooms: 1,
 };
 
-const IMPATIENT: Mode = Mode::Rings {
-    patience: 0,
-    rooms: 1,
-};
-
-const THREE_ROOMS: Mode = Mode::Rings {
-    patience: 0,
-    rooms: 3,
-};
+const IMPATIENT: Mode = Mode::Rings { patience: 0 };
 
 /// Holds the second firing of the actor that deals until the source has begun its fourth, which stands in the next
 /// block: it wants the room that the first of those made, and the sample that the first of those put for a sink of the
@@ -271,7 +262,7 @@ const ROWS: &[Row] = &[
         ..ONE_BY_ONE
     },
     Row {
-        name: "a run takes no more than one block: for `rooms: 16` in `run_rings`",
+        name: "a run takes no more than one block: for rings of twice the capacity",
         hold: Hold {
             ahead: 1,
             ..THE_SINK
@@ -281,33 +272,13 @@ const ROWS: &[Row] = &[
         ..ONE_BY_ONE
     },
     Row {
-        name: "a ring of one block takes one",
+        name: "a feed takes one block",
         ..FED_ONE_BY_ONE
     },
     Row {
-        name: "a ring of one block takes no more",
+        name: "a feed takes no more than one block",
         hold: Hold {
             ahead: 1,
-            ..THE_SINK
-        },
-        in_vain: true,
-        told: "2 in vain, 0 odd",
-        ..FED_ONE_BY_ONE
-    },
-    Row {
-        name: "a ring of three blocks takes three: for 1 in place of `rooms.max(1)` in `Session`",
-        mode: THREE_ROOMS,
-        hold: Hold {
-            ahead: 2,
-            ..THE_SINK
-        },
-        ..FED_ONE_BY_ONE
-    },
-    Row {
-        name: "a ring of three blocks takes no more",
-        mode: THREE_ROOMS,
-        hold: Hold {
-            ahead: 3,
             ..THE_SINK
         },
         in_vain: true,

@@ -148,7 +148,7 @@ pub(crate) fn run_by<R: Threads + AllocGlobal + Sync, A: Actor, G: Gate>(
     let Times { blocks, mode } = times;
     match mode {
         Mode::Rows => run_rows(rt, net, table, blocks, inputs, gate),
-        Mode::Rings { patience, .. } => {
+        Mode::Rings { patience } => {
             let workers = Workers { rt, gate, patience };
             run_rings(workers, net, table, blocks, inputs)
         }

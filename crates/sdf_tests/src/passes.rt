@@ -121,15 +121,9 @@ fn all_pass_on<R: Abort + Threads + AllocGlobal + Sync>(rt: &R, row: &Row) -> Re
     all_pass(rt, &watched(rt.alloc(), &watch)?, row, &watch)
 }
 
-const IMPATIENT: Mode = Mode::Rings {
-    patience: 0,
-    rooms: 1,
-};
+const IMPATIENT: Mode = Mode::Rings { patience: 0 };
 
-const PATIENT: Mode = Mode::Rings {
-    patience: 1000,
-    rooms: 1,
-};
+const PATIENT: Mode = Mode::Rings { patience: 1000 };
 
 const ROWS: &[Row] = &[
     ("one worker by rows, in runs", Kind::InRuns, Mode::Rows),

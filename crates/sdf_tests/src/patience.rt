@@ -109,30 +109,19 @@ struct Row {
     told: &'static str,
 }
 
-const IMPATIENT: Mode = Mode::Rings {
-    patience: 0,
-    rooms: 1,
-};
+const IMPATIENT: Mode = Mode::Rings { patience: 0 };
 
 const PATIENT: Mode = Mode::Rings {
     patience: 1_000_000,
-    rooms: 1,
 };
 
-const LITTLE_PATIENT: Mode = Mode::Rings {
-    patience: 10_000,
-    rooms: 1,
-};
+const LITTLE_PATIENT: Mode = Mode::Rings { patience: 10_000 };
 
-const MORE_PATIENT: Mode = Mode::Rings {
-    patience: 20_000,
-    rooms: 1,
-};
+const MORE_PATIENT: Mode = Mode::Rings { patience: 20_000 };
 
 /// More than a worker may be.
 const TOO_PATIENT: Mode = Mode::Rings {
     patience: 1_000_001,
-    rooms: 1,
 };
 
 /// A sample for the sink's first firing is there, and those for its second and so on come after it has tested for them.

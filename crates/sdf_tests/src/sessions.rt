@@ -62,23 +62,9 @@ fn wanted<A: Actor<Token = i32>>(alloc: Global, net: &Net<A>) -> Result<String, 
     Ok(format!(in alloc; "160 160 29 InputLength 320 2 {one}")?)
 }
 
-const MODES: &[(&str, Mode)] = &[
-    ("by rows", Mode::Rows),
-    (
-        "over rings",
-        Mode::Rings {
-            patience: 0,
-            rooms: 1,
-        },
-    ),
-    (
-        "over rings of three blocks",
-        Mode::Rings {
-            patience: 0,
-            rooms: 3,
-        },
-    ),
-];
+const RINGS: Mode = Mode::Rings { patience: 0 };
+
+const MODES: &[(&str, Mode)] = &[("by rows", Mode::Rows), ("over rings", RINGS)];
 
 /// Whether it is so in each mode.
 fn pieces_are_one<R: Threads + AllocGlobal + Sync, A: Actor<Token = i32>>(
@@ -100,11 +86,7 @@ fn rounds_of_a_feed<R: Threads + AllocGlobal + Sync, A: Actor<Token = i32>>(
 ) -> Result<String, Fail> {
     let table = planned(rt.alloc(), net, 1, 2, true)?;
     let inputs = ramp(rt.alloc(), 1, 3, 0)?;
-    let mode = Mode::Rings {
-        patience: 0,
-        rooms: 1,
-    };
-    let mut session = Session::open(rt.alloc(), net, &table, mode)?;
+    let mut session = Session::open(rt.alloc(), net, &table, RINGS)?;
     let ran = session.feed(rt, &inputs, &Held::new(LATE))?;
     let closed = session.close()?;
     Ok(format!(in rt.alloc(); "{} {}", ran.rounds, closed.rounds)?)
@@ -144,38 +126,27 @@ fn made_of_a_block<R: Threads + AllocGlobal + Sync, A: Actor<Token = i64>>(
     }
 }
 
-const SIXTEEN_ROOMS: Mode = Mode::Rings {
-    patience: 0,
-    rooms: 16,
-};
-
 /// How many samples the source and the sink move, how many periods a block has, and the mode.
 const BEGUN: &[(&str, u32, u32, Mode, &str)] = &[
+    ("over rings", 1, 1, RINGS, "1 Some(7) 1"),
     (
-        "over rings of sixteen blocks",
-        1,
-        1,
-        SIXTEEN_ROOMS,
-        "1 Some(7) 1",
-    ),
-    (
-        "over rings of sixteen long blocks",
+        "over rings, in a long block",
         1024,
         64,
-        SIXTEEN_ROOMS,
+        RINGS,
         "65536 Some(7) 1",
     ),
-    ("by rows", 1, 1, Mode::Rows, "1 Some(7) 1"),
+    ("by rows", 1, 1, Mode::Rows, "1 Some(7) 2"),
     (
         "by rows, in a long block",
         1024,
         64,
         Mode::Rows,
-        "65536 Some(7) 64",
+        "65536 Some(7) 128",
     ),
 ];
 
-/// The same of a source and a sink that move so many samples, between which as many stand as may be.
+/// The same of a source and a sink that move so many samples, between which as many stand as may be, by one worker.
 fn made_of_begun<R: Threads + AllocGlobal + Sync>(
     rt: &R,
     block: u32,
@@ -183,11 +154,11 @@ fn made_of_begun<R: Threads + AllocGlobal + Sync>(
     mode: Mode,
 ) -> Result<String, Fail> {
     let many = vec![in rt.alloc(); 7i64; 65_536]?;
-    made_of_a_block(rt, &pair(rt.alloc(), block, block, &many)?, factor, 2, mode)
+    made_of_a_block(rt, &pair(rt.alloc(), block, block, &many)?, factor, 1, mode)
 }
 
-/// Refuses memory that is not asked for where a channel begins with as many samples as it may, as by `enlarged` that
-/// answers no more than 1,000,000 or `make_queues` for over 130,000, and a round too many that is told of.
+/// Refuses memory that is not asked for if a channel begins with as many samples as it may, as by `room_of` that answers
+/// no more than 66,000 or `make_queues` for over 66,000, and a round too many that is told of.
 #[test]
 fn channels_of_many_samples(rt: HostRuntime) -> Result<(), Fail> {
     for (name, block, factor, mode, wanted) in BEGUN {
@@ -217,9 +188,5 @@ fn a_long_cycle(rt: HostRuntime) -> Result<(), Fail> {
         made_of_a_cycle(&rt, Mode::Rows),
         "64 Some(1) 192",
     )?;
-    row_says(
-        "over rings",
-        made_of_a_cycle(&rt, SIXTEEN_ROOMS),
-        "64 Some(1) 1",
-    )
+    row_says("over rings", made_of_a_cycle(&rt, RINGS), "64 Some(1) 1")
 }

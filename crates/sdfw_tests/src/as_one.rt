@@ -23,7 +23,7 @@ struct Row {
     by: &'static [By],
 }
 
-/// Homes that are worked out from weights, in long blocks and over roomier rings.
+/// Homes that are worked out from weights, in long blocks.
 const SPREAD: Options = Options {
     policy: Policy::Runs,
     placement: Placement::Spread,

@@ -27,7 +27,6 @@ mod made;
 #[cfg(test)]
 mod meetings;
 #[cfg(test)]
-mod naps;
 #[cfg(test)]
 mod pieces;
 #[cfg(test)]

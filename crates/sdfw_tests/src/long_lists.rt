@@ -10,7 +10,6 @@ use sdf_wav::{FromRead, ToWrite, Wav, read_wav};
 use std::alloc::{AllocError, Global};
 use std::test::Fail;
 use std::thread::Threads;
-use std::time::Clock;
 use test_texts::row_says;
 
 /// A filter, a table and a link that begin with the values in the place of `LIST`; each of the first two may have them
@@ -150,7 +149,7 @@ const ROWS: &[Row] = &[
 ];
 
 /// What a row's design makes.
-fn run_long<T: Threads + AllocGlobal + Clock + Sync>(rt: &T, row: &Row) -> Result<Wav, Fault> {
+fn run_long<T: Threads + AllocGlobal + Sync>(rt: &T, row: &Row) -> Result<Wav, Fault> {
     let alloc = rt.alloc();
     let graph = with_list(alloc, row.graph, row.values)?;
     let list = with_list(alloc, "format = 1\nvalues = [LIST]", row.values)?;
@@ -175,7 +174,7 @@ fn run_long<T: Threads + AllocGlobal + Clock + Sync>(rt: &T, row: &Row) -> Resul
     Ok(read_wav(alloc, &mut FromRead::new(made.as_slice()))?)
 }
 
-fn told<T: Threads + AllocGlobal + Clock + Sync>(rt: &T, row: &Row) -> Result<String, Fail> {
+fn told<T: Threads + AllocGlobal + Sync>(rt: &T, row: &Row) -> Result<String, Fail> {
     match run_long(rt, row) {
         Ok(made) => {
             let samples = made.samples();

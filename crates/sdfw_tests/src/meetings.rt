@@ -135,29 +135,28 @@ const ONE_SAMPLE: Row = Row {
 };
 
 /// A sum that is spread. Its first firing is held, before it takes a sample, until the source has begun the last firing
-/// for which there is room: a block has 1,024 periods, and the ring takes 16 blocks.
+/// for which there is room: a block has 1,024 periods, and the ring takes one block.
 const SPREAD: Row = Row {
     graph: SUM,
     actors: 4,
     options: SPREAD_OUT,
     channels: 2,
-    samples: Counted(40_960),
+    samples: Counted(8192),
     filled: &[true],
     hold: Hold {
-        ahead: 16_383,
+        ahead: 1023,
         ..THE_SUM
     },
     ..TWO_GAINS
 };
 
-/// The same by the file, where a ring takes one block of 64 periods.
+/// The same by the file, in blocks of 64 periods.
 const BY_THE_FILE: Row = Row {
     options: Options {
         blocking: 64,
         placement: Placement::File,
         ..SPREAD_OUT
     },
-    samples: Counted(8192),
     hold: Hold {
         ahead: 63,
         ..THE_SUM
@@ -330,18 +329,18 @@ const ROWS: &[Row] = &[
         ..ONE_SAMPLE
     },
     Row {
-        name: "a worker that is spread runs sixteen blocks ahead",
-        told: "0 in vain, 0 odd, [[20480, 0], [20480, 0], [0, 20480], [0, 20480]]",
+        name: "a worker that is spread runs a long block ahead",
+        told: "0 in vain, 0 odd, [[4096, 0], [4096, 0], [0, 4096], [0, 4096]]",
         ..SPREAD
     },
     Row {
         name: "a worker that is spread runs no further ahead",
         hold: Hold {
-            ahead: 16_384,
+            ahead: 1024,
             ..THE_SUM
         },
         in_vain: true,
-        told: "1 in vain, 0 odd, [[20480, 0], [20480, 0], [0, 20480], [0, 20480]]",
+        told: "1 in vain, 0 odd, [[4096, 0], [4096, 0], [0, 4096], [0, 4096]]",
         ..SPREAD
     },
     Row {
@@ -409,8 +408,8 @@ fn is_told<T: Threads + AllocGlobal + Sync>(rt: &T, row: &Row) -> Result<(), Fai
     Ok(())
 }
 
-/// Refuses one thread where workers were asked for, also where one was, a block too many, and rings that take one block
-/// where the actors are spread, or more where they are not.
+/// Refuses one thread where workers were asked for, also where one was, a block too many, and rings that take more than
+/// a block.
 #[test]
 fn what_gates_see(rt: HostRuntime) -> Result<(), Fail> {
     for row in ROWS {

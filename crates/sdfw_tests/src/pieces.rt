@@ -171,16 +171,16 @@ const SPREAD_OUT: Options = Options {
     ..Options::DEFAULT
 };
 
-/// A sound of 70,000 frames, for a plan whose actors are spread: 65,536 of them are read at a time.
+/// A sound of 5,000 frames, for a plan whose actors are spread: 4,096 of them are read at a time, four long blocks.
 const SPREAD: Cut = Cut {
     graph: SUM,
     options: SPREAD_OUT,
     channels: 2,
-    samples: 140_000,
+    samples: 10_000,
     ..CHAINED
 };
 
-/// The same by Hu's rule: 4,096 are.
+/// The same by Hu's rule, in blocks of 64 periods.
 const BY_HU: Cut = Cut {
     options: Options {
         placement: Placement::Hu,
@@ -233,15 +233,15 @@ const CUTS: &[Cut] = &[
         ..CHAINED
     },
     Cut {
-        name: "spread, a frame short of 65,536",
-        kept: 262_184,
+        name: "spread, a frame short of 4,096",
+        kept: 16_424,
         told: "44 true 4 sdfw: 43 Truncated\n",
         ..SPREAD
     },
     Cut {
-        name: "spread, 65,536 frames",
-        kept: 262_188,
-        told: "131116 true 4 sdfw: 43 Truncated\n",
+        name: "spread, 4,096 frames",
+        kept: 16_428,
+        told: "8236 true 4 sdfw: 43 Truncated\n",
         ..SPREAD
     },
     Cut {
@@ -274,8 +274,8 @@ fn cut_told<T: Threads + AllocGlobal + Sync>(
     Ok(format!(in alloc; "{} {front} {end}", output.len())?)
 }
 
-/// What is read at a time is run and written before more is read. Refuses a `frames_at_a_time` of another number, as
-/// `FRAMES` alone, and one thread where workers were asked for.
+/// What is read at a time is run and written before more is read. Refuses `FRAMES` of another number, and one thread where
+/// workers were asked for.
 #[test]
 fn what_was_read_is_written(rt: HostRuntime) -> Result<(), Fail> {
     for row in CUTS {

@@ -1,17 +1,16 @@
 //! Rings before the first firing: each holds what its channel begins with.
 
-ghost use Rattle.std.specs.Prelude.{◌≡◌, ◌<◌, ◌≤◌, ◌*◌, ℕ, length, slice_index, IfOk};
+ghost use Rattle.std.specs.Prelude.{◌≡◌, ◌<◌, ◌≤◌, ℕ, length, slice_index, IfOk};
 ghost use Rattle.rtrb.specs.Ring.{producer_capacity};
 ghost use Rattle.sdf_actor.specs.Nets.{wire, wiring};
 ghost use Rattle.sdf_rings.specs.Asks.{IsRoomOf};
-ghost use Rattle.sdf_rings.specs.MachineLaws.{roomy};
 ghost use Rattle.sdf_rings.specs.Openings.{IsOpened, IsGreatestOf, HaveRings};
 
 use crate::meet::tell;
-use crate::roomy_table::RoomyTable;
 use rtrb::{Consumer, Producer, RingBuffer};
 use sdf_actor::{Actor, Net};
 use sdf_graph::Channel;
+use sdf_prec::Table;
 use std::alloc::{AllocError, Global};
 
 /// The ends of rings, by channel. Those that stand at a node are taken out.
@@ -59,27 +58,16 @@ fn greatest_put(channel: &Channel) -> u32
     greatest(&channel.put)
 }
 
-/// So many times a capacity. More than a memory has can't be reserved.
-fn enlarged(cap: usize, rooms: u32) -> Result<usize, AllocError>
-    ensures { IfOk result (λ room. room ≡ rooms * cap) }
-{
-    match cap.checked_mul(rooms as usize) {
-        Some(room) => Ok(room),
-        None => Err(AllocError),
-    }
-}
-
-/// How many samples the ring of a channel takes: so many times what the table says that it may hold, and where it leads
-/// from an actor to itself another block. More than a memory has can't be reserved.
-fn room_of<A: Actor>(net: &Net<A>, given: &RoomyTable, c: usize) -> Result<usize, AllocError>
+/// Returns how many samples the ring of channel `c` takes: the capacity in the table, and another block if the channel
+/// leads from an actor to itself. More than a memory has can't be reserved.
+fn room_of<A: Actor>(net: &Net<A>, table: &Table, c: usize) -> Result<usize, AllocError>
     requires known { c < length net.now.wires }
-    requires caps { length given.now.table.now.table.caps ≡ length net.now.wires }
-    ensures { IfOk result (IsRoomOf (wiring A.steps net.now).rates
-        (roomy given.now.rooms (slice_index given.now.table.now.table.caps)) c) }
+    requires caps { length table.now.caps ≡ length net.now.wires }
+    ensures { IfOk result (IsRoomOf (wiring A.steps net.now).rates (slice_index table.now.caps) c) }
 {
     sdf_graph::laws::sums_rise();
     let link = net.link(c);
-    let held = enlarged(given.table.table.cap(c) as usize, given.rooms)?;
+    let held = table.cap(c) as usize;
     if link.from.0 != link.to.0 {
         return Ok(held);
     }
@@ -94,19 +82,18 @@ fn room_of<A: Actor>(net: &Net<A>, given: &RoomyTable, c: usize) -> Result<usize
 pub(crate) fn open_rings<A: Actor>(
     alloc: Global,
     net: &Net<A>,
-    given: &RoomyTable,
+    table: &Table,
 ) -> Result<Ends<A::Token>, AllocError>
-    requires caps { length given.now.table.now.table.caps ≡ length net.now.wires }
+    requires caps { length table.now.caps ≡ length net.now.wires }
     requires held { (c : ℕ) → c < length net.now.wires →
-        length (wire net.now c).initial ≤ roomy given.now.rooms (slice_index given.now.table.now.table.caps) c }
-    ensures { IfOk result (λ ends. HaveRings A.steps net.now
-        (roomy given.now.rooms (slice_index given.now.table.now.table.caps)) ends.producers.items
+        length (wire net.now c).initial ≤ slice_index table.now.caps c }
+    ensures { IfOk result (λ ends. HaveRings A.steps net.now (slice_index table.now.caps) ends.producers.items
         ends.consumers.items) }
 {
     let mut producers = Vec::with_capacity(alloc, net.channels())?;
     let mut consumers = Vec::with_capacity(alloc, net.channels())?;
     for c in 0..net.channels() {
-        let room = room_of(net, given, c)?;
+        let room = room_of(net, table, c)?;
         let ring = open_ring(alloc, room, &net.link(c).initial)?;
         producers.push(Some(ring.0))?;
         consumers.push(Some(ring.1))?;

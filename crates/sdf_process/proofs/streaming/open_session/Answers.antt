@@ -18,8 +18,7 @@ returns-in_err-session-clause-stands c =
     let homes = subst (λ o. IfSome o (SuitsRunner c.args.plan.now.runner)) c.requires.table.table
     c.requires.plan.homes in
     fails_by c.from_residual.result (of_run c.in_err-session.field-0.0) _ _ c.from_residual.ensures.1
-    (opened_refused t c.args.plan.now.runner c.args.plan.now.patience c.args.plan.now.rooms homes
-    c.requires.plan.patience
+    (opened_refused t c.args.plan.now.runner c.args.plan.now.patience homes c.requires.plan.patience
     c.in_err-session.field-0.0 (subst (λ m. IsModeFault t m c.in_err-session.field-0.0) c.mode.ensures
     c.in_err-session.ensures.tests))
 

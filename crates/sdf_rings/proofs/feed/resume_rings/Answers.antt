@@ -14,17 +14,17 @@ use Rattle.sdf_rings.proofs.feed.resume_rings.Goals as goal
 
 pub begun-requires-clause-rest : goal.begun-requires-clause-rest
 begun-requires-clause-rest g c κs within =
-    let q = c.args.given.now.table.now.period.repetitions in (
+    let q = c.args.table.now.period.repetitions in (
       c.requires.rest.0,
       periods_of q c.requires.rest.1,
-      c.begun_nets_go_on.ensures.whole c.args.net.now c.args.given.now.table.now.period c.requires.rest.1
-          (c.nets_have_periods.ensures c.args.given.now.table.now.period c.requires.fits.period),
+      c.begun_nets_go_on.ensures.whole c.args.net.now c.args.table.now.period c.requires.rest.1
+          (c.nets_have_periods.ensures c.args.table.now.period c.requires.fits.period),
       c.requires.rest.2,
     )
 
 pub feed_rings-requires-clause-fits : goal.feed_rings-requires-clause-fits
 feed_rings-requires-clause-fits g c κs within =
-    subst (λ x. IsBlockTableOf (rates x) c.args.given.now.table.now) (sym c.in_ok-begun.ensures.graph) c.requires.fits
+    subst (λ x. IsBlockTableOf (rates x) c.args.table.now) (sym c.in_ok-begun.ensures.graph) c.requires.fits
 
 -- a fault of the one net is one of the other, where they are given the same inputs
 fault_of : {A B T : Type 0} (m : Netlist B T) (n : Netlist A T) (q : List ℕ) (periods : ℕ) (inputs : List (List T))
@@ -42,8 +42,8 @@ pub returns : goal.returns
 returns g c =
     let n = c.args.net.now in
     let m = c.in_ok-begun.begun in
-    let q = c.args.given.now.table.now.period.repetitions in
-    let periods : ℕ = c.args.blocks * c.args.given.now.table.now.factor in
+    let q = c.args.table.now.period.repetitions in
+    let periods : ℕ = c.args.blocks * c.args.table.now.factor in
     let later = lists c.args.inputs.now in
     let begins = c.in_ok-begun.ensures.begins in
     let asks = c.feeds_go_on.ensures.inputs n c.args.rest.now m q periods later begins in
@@ -51,12 +51,12 @@ returns g c =
     (λ fed made. record {
       homed = made.0.homed;
       patient = made.0.patient;
-      goes_on = c.begun_nets_go_on.ensures.runs n m c.args.given.now.table.now.period periods later
+      goes_on = c.begun_nets_go_on.ensures.runs n m c.args.table.now.period periods later
           (lists fed.0.outputs.items)
-          c.args.rest.now fed.1 (c.nets_have_periods.ensures c.args.given.now.table.now.period
+          c.args.rest.now fed.1 (c.nets_have_periods.ensures c.args.table.now.period
           c.requires.fits.period) begins
           made.0.has made.1;
       rounds_few = made.0.rounds_few;
       rounds_some = made.0.rounds_some;
     })
-    (fault_of m n q periods later c.args.given.now.table.now.table c.args.workers.patience asks.1)
+    (fault_of m n q periods later c.args.table.now.table c.args.workers.patience asks.1)

@@ -2,7 +2,6 @@ use Rattle.std.proofs.Common.{◌≡◌, ◌<◌, ℕ, length, slice_index, slic
 use Rattle.sdf_graph.specs.Sequences.{repeated}
 use Rattle.sdf_actor.specs.Wires.{lists}
 use Rattle.sdf_rings.specs.Begun.{place, IsBegun}
-use Rattle.sdf_rings.specs.MachineLaws.{roomy}
 use Rattle.sdf_rings.specs.Prepared.{IsPrepared}
 use Rattle.sdf_rings.proofs.Lists.{vec_long}
 use Rattle.sdf_rings.proofs.Openings.{has_ends}
@@ -15,8 +14,8 @@ use Rattle.sdf_rings.proofs.prepare.lay_out.Goals.{After-tables_repeat, In_ok-se
 use Rattle.sdf_rings.proofs.prepare.lay_out.Goals as goal
 
 asked : (g : Over) (c : After-tables_repeat g) →
-    AskedPlan g.A.Actor.steps c.args.start.now.net.now c.args.given.now.table.now.table c.args.given.now.rooms
-    c.args.blocks (slice_index c.args.start.now.asked.items)
+    AskedPlan g.A.Actor.steps c.args.start.now.net.now c.args.table.now c.args.blocks
+    (slice_index c.args.start.now.asked.items)
 asked g c = record {
   alike = c.alike_sequences.ensures;
   repeats = c.tables_repeat.ensures;
@@ -28,12 +27,12 @@ many : (g : Over) (c : In_ok-seats g) → length c.in_ok-seats.seats.items ≡ c
 many g c = vec_long c.in_ok-seats.seats ∙ c.in_ok-seats.ensures.all
 
 laid : (g : Over) (c : In_ok-seats g) →
-    AskedPlan g.A.Actor.steps c.args.start.now.net.now c.args.given.now.table.now.table c.args.given.now.rooms
-    c.args.blocks (slice_index c.args.start.now.asked.items) →
+    AskedPlan g.A.Actor.steps c.args.start.now.net.now c.args.table.now c.args.blocks
+    (slice_index c.args.start.now.asked.items) →
     AreLaidOut g.A.Actor.steps c.args.start.now.net.now (lists c.args.start.now.inputs.now)
     (slice_index c.args.start.now.asked.items)
-    (roomy c.args.given.now.rooms (slice_index c.args.given.now.table.now.table.caps))
-    (repeated c.args.blocks c.args.given.now.table.now.table.order) c.in_ok-seats.seats.items
+    (slice_index c.args.table.now.caps)
+    (repeated c.args.blocks c.args.table.now.order) c.in_ok-seats.seats.items
     c.in_ok-places.places.items
 laid g c plan =
     let s = g.A.Actor.steps in
@@ -62,7 +61,7 @@ laid g c plan =
             (c.in_ok-places.ensures.homes a (omega (arith, c.len.ensures, l))),
       );
       each = λ i e h. subst
-          (λ zs. IsBegun s n inputs counts ps xs zs (repeated b c.args.given.now.table.now.table.order) i
+          (λ zs. IsBegun s n inputs counts ps xs zs (repeated b c.args.table.now.order) i
           (slice_index_or seats i e)) c.deref.ensures.value
           (subst (λ w. IsBegun s n inputs counts ps xs c.deref.result.now (repeated b w) i (slice_index_or seats i e))
           c.order.ensures (c.in_ok-seats.ensures.each i e (omega (arith, wide, h))));
@@ -88,7 +87,7 @@ seats-requires-clause-roster g c κs within =
 pub seats-requires-clause-ends : goal.seats-requires-clause-ends
 seats-requires-clause-ends g c κs within = λ a h.
     has_ends g.A.Actor.steps c.args.start.now.net.now
-    (roomy c.args.given.now.rooms (slice_index c.args.given.now.table.now.table.caps))
+    (slice_index c.args.table.now.caps)
     c.in_ok-ends.ends.producers.items c.in_ok-ends.ends.consumers.items c.in_ok-ends.ensures a
 
 pub new-requires-clause-rings : goal.new-requires-clause-rings
@@ -102,7 +101,7 @@ returns g c =
     let plan = asked g here.After-tables_repeat in
     let all = laid g here.In_ok-seats plan in
     subst (λ r. IsPrepared g.A.Actor.steps c.args.start.now.net.now (lists c.args.start.now.inputs.now)
-    c.args.given.now.table.now.table c.args.given.now.rooms c.args.blocks r) (sym c.new.ensures)
+    c.args.table.now c.args.blocks r) (sym c.new.ensures)
     (record {
       net_is = refl;
       inputs_are = refl;

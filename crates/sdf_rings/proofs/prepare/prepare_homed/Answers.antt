@@ -11,19 +11,19 @@ pub asked-requires : goal.asked-requires
 asked-requires g c = omega (
   arith,
   c.requires.fits.table.short,
-  ap (λ r. c.args.given.now.table.now.factor * sum r) c.repetitions.ensures,
+  ap (λ r. c.args.table.now.factor * sum r) c.repetitions.ensures,
 )
 
 pub lay_out-requires-clause-start : goal.lay_out-requires-clause-start
 lay_out-requires-clause-start g c κs within =
     let n = c.args.net.now in
-    let p = c.args.given.now.table.now.period in
+    let p = c.args.table.now.period in
     let b = c.args.blocks in
-    let j = c.args.given.now.table.now.factor in
+    let j = c.args.table.now.factor in
     let asked = c.in_ok-asked.ensures ∙ ap (map (λ q. b * (j * q))) c.repetitions.ensures in
     record {
       can = can_start g.A.Actor.steps c.nets_can_run.ensures n p
-          (c.nets_have_periods.ensures c.args.given.now.table.now.period c.requires.fits.period) b j
+          (c.nets_have_periods.ensures c.args.table.now.period c.requires.fits.period) b j
           c.in_ok-asked.field-0.items asked
           (lists c.args.inputs.now) c.samples_of_blocks.result c.first_sample.result c.net_facts.ensures.phases
           c.requires.inputs
@@ -39,24 +39,24 @@ lay_out-requires-clause-start g c κs within =
 pub lay_out-requires-clause-plan : goal.lay_out-requires-clause-plan
 lay_out-requires-clause-plan g c κs within =
     let n = c.args.net.now in
-    let p = c.args.given.now.table.now.period in
+    let p = c.args.table.now.period in
     let b = c.args.blocks in
-    let j = c.args.given.now.table.now.factor in
+    let j = c.args.table.now.factor in
     is_asked g.A.Actor.steps c.nets_can_run.ensures n p
-    (c.nets_have_periods.ensures c.args.given.now.table.now.period c.requires.fits.period) b j
+    (c.nets_have_periods.ensures c.args.table.now.period c.requires.fits.period) b j
     c.in_ok-asked.field-0.items
     (c.in_ok-asked.ensures ∙ ap (map (λ q. b * (j * q))) c.repetitions.ensures)
-    c.graphs_are_sound.ensures c.graphs_have_periods.ensures c.args.given.now.table.now.table c.args.given.now.rooms
-    c.requires.fits.table c.requires.rooms
+    c.graphs_are_sound.ensures c.graphs_have_periods.ensures c.args.table.now.table
+    c.requires.fits.table
 
 pub samples_of_blocks-requires : goal.samples_of_blocks-requires
 samples_of_blocks-requires g c =
-    let q = c.args.given.now.table.now.period.repetitions in
-    let few = c.blocks_are_small.ensures c.args.given.now.table.now.factor q Outputs c.requires.fits.period.least
+    let q = c.args.table.now.period.repetitions in
+    let few = c.blocks_are_small.ensures c.args.table.now.factor q Outputs c.requires.fits.period.least
     c.requires.fits.table.short in
     omega (
       arith,
       few,
-      ap (λ m. c.args.given.now.table.now.factor * m)
+      ap (λ m. c.args.table.now.factor * m)
           (c.samples_out.ensures.value q c.requires.fits.period.least),
     )

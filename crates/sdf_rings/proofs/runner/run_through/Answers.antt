@@ -12,10 +12,10 @@ run-rounds-requires-clause-met g c κs within =
 pub run-rounds-requires-clause-count : goal.run-rounds-requires-clause-count
 run-rounds-requires-clause-count g c κs within =
     few_rounds c.graphs_are_sound.ensures c.graphs_have_periods.ensures c.tables_repeat.ensures c.tables_count.ensures
-    g.A.Actor.steps c.args.net.now c.args.given.now.table.now.period
-    (c.nets_have_periods.ensures c.args.given.now.table.now.period c.requires.fits.period)
-    c.args.given.now.table.now.factor c.args.given.now.table.now.table
-    c.requires.fits.table c.args.blocks c.args.given.now.rooms (lists c.args.inputs.now) c.in_ok-rings.rings
+    g.A.Actor.steps c.args.net.now c.args.table.now.period
+    (c.nets_have_periods.ensures c.args.table.now.period c.requires.fits.period)
+    c.args.table.now.factor c.args.table.now.table
+    c.requires.fits.table c.args.blocks (lists c.args.inputs.now) c.in_ok-rings.rings
     c.facts.ensures c.in_ok-rings.ensures.2
     (omega (arith, c.ranges.blocks.fits))
 
@@ -23,10 +23,10 @@ pub returns : goal.returns
 returns g c =
     let run = c.run-rounds.ensures in
     has_ended c.graphs_are_sound.ensures c.graphs_have_periods.ensures c.tables_repeat.ensures c.tables_count.ensures
-    g.A.Actor.steps c.args.net.now c.args.given.now.table.now.period
-    (c.nets_have_periods.ensures c.args.given.now.table.now.period c.requires.fits.period)
-    c.args.given.now.table.now.factor c.args.given.now.table.now.table
-    c.requires.fits.table c.args.blocks c.args.given.now.rooms (lists c.args.inputs.now) c.in_ok-rings.rings
+    g.A.Actor.steps c.args.net.now c.args.table.now.period
+    (c.nets_have_periods.ensures c.args.table.now.period c.requires.fits.period)
+    c.args.table.now.factor c.args.table.now.table
+    c.requires.fits.table c.args.blocks (lists c.args.inputs.now) c.in_ok-rings.rings
     c.facts.ensures c.in_ok-rings.ensures.2
     c.run-rounds.new.self c.args.workers.patience c.run-rounds.result c.in_ok-rings.ensures.0
     (omega (arith, c.if-workers-gt-MOST_PATIENCE.false)) c.in_ok-rings.ensures.1

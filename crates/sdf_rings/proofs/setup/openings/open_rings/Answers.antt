@@ -1,7 +1,6 @@
 use Rattle.std.proofs.Common.{ℕ, length, slice_index, sym, ap, ◌∙◌, subst, arith}
 use Rattle.sdf_actor.specs.Nets.{wiring}
 use Rattle.sdf_rings.specs.Asks.{IsRoomOf}
-use Rattle.sdf_rings.specs.MachineLaws.{roomy}
 use Rattle.sdf_rings.specs.Openings.{IsOpened}
 use Rattle.sdf_rings.proofs.Lists.{vec_long}
 use Rattle.sdf_rings.proofs.Openings.{room_enough, rings_more}
@@ -10,7 +9,7 @@ use Rattle.sdf_rings.proofs.setup.openings.open_rings.Goals as goal
 pub open_ring-requires : goal.open_ring-requires
 open_ring-requires g c =
     let n = c.args.net.now in
-    let caps : ℕ → ℕ = roomy c.args.given.now.rooms (slice_index c.args.given.now.table.now.table.caps) in
+    let caps : ℕ → ℕ = slice_index c.args.table.now.caps in
     let enough = room_enough (wiring g.A.Actor.steps n).rates caps c.loop-c.c
     c.in_ok-room.room c.in_ok-room.ensures in
     let held = c.requires.held c.loop-c.c (omega arith) in
@@ -21,7 +20,7 @@ pub loop-c-preserved : goal.loop-c-preserved
 loop-c-preserved g c =
     let s = g.A.Actor.steps in
     let n = c.args.net.now in
-    let caps : ℕ → ℕ = roomy c.args.given.now.rooms (slice_index c.args.given.now.table.now.table.caps) in
+    let caps : ℕ → ℕ = slice_index c.args.table.now.caps in
     let i = c.loop-c.c in
     let ring = c.in_ok-ring.ring in
     let is = c.deref.ensures.value ∙ ap (λ w. w.initial) c.link.ensures in

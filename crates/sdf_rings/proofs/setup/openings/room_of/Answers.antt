@@ -23,6 +23,6 @@ returns-in-Some g c =
         c.greatest_put-block.result,
         greatest_is c.sums_rise.ensures.one shape (wiring g.A.Actor.steps n).rates c.graph.ensures.rates c.args.c
             c.greatest_put-block.result inside (omega (arith, put.all, put.some)) greatest,
-        omega (arith, c.in-Some.ensures.1, c.in_ok-held.ensures, ap (λ m. c.args.given.now.rooms * m) c.cap.ensures),
+        omega (arith, c.in-Some.ensures.1, c.cap-held.ensures),
       );
     }
