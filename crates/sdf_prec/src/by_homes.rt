@@ -1,7 +1,7 @@
 //! Tables by given homes: one firing a row.
 
-ghost use Rattle.std.specs.Prelude.{◌≡◌, ℕ, ◌≤◌, ◌<◌, ◌^◌, ◌↔◌, length, map, replicate, slice_index, slice_index_or};
-ghost use Rattle.std.specs.Prelude.{slice_set, IfOk, IsTrue, MatchOption, MatchResult, Some, None};
+ghost use Rattle.std.specs.Prelude.{◌≡◌, ℕ, ◌≤◌, ◌<◌, ◌^◌, ◌↔◌, length, slice_index, slice_index_or, IfOk, IsTrue};
+ghost use Rattle.std.specs.Prelude.{MatchOption, MatchResult, Some, None};
 ghost use Rattle.sdf_graph.specs.Rates.{rates};
 ghost use Rattle.sdf_graph.specs.Sequences.{repeated, IsPass};
 ghost use Rattle.sdf_sched.specs.Period.{IsPeriodOf};
