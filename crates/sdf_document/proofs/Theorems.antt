@@ -1,6 +1,10 @@
--- What proofs of other crates cite of this one: the statement of specs/Laws.antt, by its lemma.
-use Rattle.sdf_document.specs.Laws.{FirstSeenGrows}
+-- What proofs of other crates cite of this one: the statements of specs/Laws.antt, by their lemmas.
+use Rattle.sdf_document.specs.Laws.{FirstSeenGrows, NamesAreInserted}
 use Rattle.sdf_document.proofs.FirstSeen.{first_seen_push}
+use Rattle.sdf_document.proofs.Names.{names_inserted}
 
 pub first_seen_grows : FirstSeenGrows
 first_seen_grows = first_seen_push
+
+pub names_are_inserted : NamesAreInserted
+names_are_inserted = names_inserted

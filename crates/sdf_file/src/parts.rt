@@ -107,7 +107,7 @@ pub(crate) struct Parts {
 }
 
 impl Parts {
-    #[tactic(auto, using(sdf_document::proofs::Names::names_inserted))]
+    #[tactic(auto, using(sdf_document::proofs::Theorems::names_are_inserted))]
     fn push(&mut self, actor: ActorEntry) -> Result<(), AllocError>
         requires { IsActorWithin true actor }
         ensures nodes { OnOk result (self.new.nodes.items ≡ self.old.nodes.items ++ node_of actor.kind ∷ []) }
