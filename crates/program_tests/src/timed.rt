@@ -71,14 +71,20 @@ fn told_by_clock<R: Threads + AllocGlobal + Sync>(rt: &R, line: &str) -> Result<
 }
 
 /// Refuses time that goes to the actor that begins, a last firing that takes none, figures in another order, and two
-/// workers, whose firings can't be timed so; and costs that stand in the graph file already, 1, 3 and 1, in place of
-/// those that are measured: the last firing of the second actor is the long one.
+/// workers, whose firings can't be timed so; costs of all firings of an actor in place of one; and costs that stand in
+/// the graph file already, 1, 3 and 1, in place of those that are measured: the last firing of the second actor is the
+/// long one.
 #[test]
 fn profiles_by_a_clock(rt: HostRuntime) -> Result<(), Fail> {
     says(
         told_by_clock(&rt, "profile plain.toml in.wav"),
         "0\nshare in 12.80 %, 64 firings of 1000.0 ns\nshare out 87.20 %, 64 firings of 6812.5 ns\n\
          cost in 1\ncost out 7\n--\n--\nfalse",
+    )?;
+    says(
+        told_by_clock(&rt, "profile blocks.toml in.wav"),
+        "0\nshare in 81.50 %, 192 firings of 2937.5 ns\nshare out 18.49 %, 128 firings of 1000.0 ns\n\
+         cost in 3\ncost out 1\n--\n--\nfalse",
     )?;
     let wanted = MEASURED.replace(rt.alloc(), "cost = 20", "cost = 7")?;
     let wanted = wanted

@@ -1,3 +1,4 @@
 pub mod Costs
+pub mod Times
 pub mod Written
 pub mod Profiles

@@ -1,18 +1,39 @@
 //! What firings cost in terms of the cheapest.
 
-ghost use Rattle.std.specs.Prelude.{◌≡◌, ◌<◌, IfOk};
+ghost use Rattle.std.specs.Prelude.{◌≡◌, ◌<◌, map, IfOk};
 ghost use Rattle.sdf_limits.specs.declared.TheConstants.{MOST_COST};
 ghost use Rattle.sdf_profile.specs.Costs.{cost_of, IsLeastTime, AreCostsOf};
+ghost use Rattle.sdf_profile.specs.Times.{quotient, time_of};
 
+use crate::stopwatch::Spent;
 use sdf_limits::MOST_COST;
 use std::alloc::{AllocError, Global};
 
-/// A firing's time in picoseconds, by the nanoseconds of so many firings; 0 where there is none.
-pub(crate) fn time_of(spent: u64, firings: u64) -> u64 {
-    let time = (u128::from(spent) * 1000)
-        .checked_div(u128::from(firings))
-        .unwrap_or(0);
-    u64::try_from(time).unwrap_or(u64::MAX)
+/// Divides `many` by `by`; 0 if there is nothing to divide by.
+pub(crate) fn quotient(many: u128, by: u64) -> u128
+    ensures { result ≡ quotient many by }
+{
+    if by == 0 { 0 } else { many / u128::from(by) }
+}
+
+/// Returns the picoseconds of a firing; 0 if there was none.
+pub(crate) fn time_of(spent: Spent) -> u64
+    ensures { result ≡ time_of spent }
+{
+    let time = quotient(u128::from(spent.nanoseconds) * 1000, spent.firings);
+    time.min(u128::from(u64::MAX)) as u64
+}
+
+/// Returns the picoseconds of a firing of each actor.
+#[tactic(auto, using(std::proofs::lemmas::List::map_more))]
+pub(crate) fn times_of(alloc: Global, spent: &[Spent]) -> Result<Vec<u64>, AllocError>
+    ensures { IfOk result (λ times. times.items ≡ map time_of spent.now) }
+{
+    let mut times = Vec::new(alloc);
+    for one in spent {
+        times.push(time_of(*one))?;
+    }
+    Ok(times)
 }
 
 /// The least of the times above 0, or 1 where there is none.

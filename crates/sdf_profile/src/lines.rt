@@ -1,25 +1,30 @@
 //! The lines of a profile.
 
-use crate::costs::time_of;
-use crate::stopwatch::Stopwatch;
+ghost use Rattle.std.specs.Prelude.{◌≡◌, ◌≤◌, ◌++◌, length, IfOk, OnOk, string_bytes};
+ghost use Rattle.sdf_profile.specs.Times.{whole, percent, time_text, share_line, cost_line, shares_to, costs_to};
+ghost use Rattle.sdf_profile.specs.Times.{profile_text};
+
+use crate::costs::{quotient, time_of};
+use crate::stopwatch::Spent;
 use sdf_file::Design;
 use std::alloc::{AllocError, Global};
-use std::time::Clock;
 
 /// The nanoseconds of all firings.
-fn whole<C: Clock + Drop>(design: &Design, watch: &Stopwatch<C>) -> u64 {
+fn whole(spent: &[Spent]) -> u64
+    ensures { result ≡ whole spent.now }
+{
     let mut whole = 0u64;
-    for actor in 0..design.net().len() {
-        whole = whole.saturating_add(watch.spent(actor));
+    for one in spent {
+        whole = whole.saturating_add(one.nanoseconds);
     }
     whole
 }
 
 /// Adds how much of the whole a part is, in percent, rounded down to hundredths.
-fn push_share(text: &mut String, part: u64, whole: u64) -> Result<(), AllocError> {
-    let share = (u128::from(part) * 10_000)
-        .checked_div(u128::from(whole))
-        .unwrap_or(0);
+fn push_share(text: &mut String, part: u64, whole: u64) -> Result<(), AllocError>
+    ensures { OnOk result (string_bytes text.new ≡ string_bytes text.old ++ percent part whole) }
+{
+    let share = quotient(u128::from(part) * 10_000, whole);
     let ones = share / 100;
     let tenths = share / 10 % 10;
     let rest = share % 10;
@@ -27,8 +32,10 @@ fn push_share(text: &mut String, part: u64, whole: u64) -> Result<(), AllocError
     Ok(())
 }
 
-/// Adds a picoseconds' time in nanoseconds.
-fn push_time(text: &mut String, time: u64) -> Result<(), AllocError> {
+/// Adds a time of so many picoseconds, in nanoseconds.
+fn push_time(text: &mut String, time: u64) -> Result<(), AllocError>
+    ensures { OnOk result (string_bytes text.new ≡ string_bytes text.old ++ time_text time) }
+{
     let nanoseconds = time / 1000;
     let tenths = time / 100 % 10;
     write!(text, "{nanoseconds}.{tenths} ns")?;
@@ -36,67 +43,63 @@ fn push_time(text: &mut String, time: u64) -> Result<(), AllocError> {
 }
 
 /// Adds the line of an actor's share.
-fn push_actor<C: Clock + Drop>(
-    text: &mut String,
-    name: &str,
-    actor: usize,
-    whole: u64,
-    watch: &Stopwatch<C>,
-) -> Result<(), AllocError> {
-    let spent = watch.spent(actor);
-    let firings = watch.firings(actor);
+#[tactic(auto, unfolding(crate::specs::Times::share_line))]
+fn push_actor(text: &mut String, name: &str, whole: u64, spent: Spent) -> Result<(), AllocError>
+    ensures { OnOk result (string_bytes text.new ≡ string_bytes text.old ++ share_line name.now whole spent) }
+{
+    let firings = spent.firings;
     write!(text, "share {name}")?;
-    push_share(text, spent, whole)?;
+    push_share(text, spent.nanoseconds, whole)?;
     write!(text, ", {firings} firings of ")?;
-    push_time(text, time_of(spent, firings))?;
+    push_time(text, time_of(spent))?;
     text.push_str("\n")
 }
 
 /// Adds the lines of shares, those of the actors in file order.
-fn push_shares<C: Clock + Drop>(
-    text: &mut String,
-    design: &Design,
-    watch: &Stopwatch<C>,
-) -> Result<(), AllocError> {
-    let whole = whole(design, watch);
-    for actor in 0..design.net().len() {
-        push_actor(text, design.name(actor), actor, whole, watch)?;
+#[tactic(auto, unfolding(crate::specs::Times::shares_to))]
+fn push_shares(text: &mut String, design: &Design, spent: &[Spent]) -> Result<(), AllocError>
+    ensures { OnOk result (string_bytes text.new ≡
+        string_bytes text.old ++ shares_to design.now.names spent.now (length spent.now)) }
+{
+    let whole = whole(spent);
+    for actor in 0..spent.len() {
+        push_actor(text, design.name(actor), whole, spent[actor])?;
     }
     Ok(())
 }
 
-/// The time of a firing of each actor.
-pub(crate) fn times<C: Clock + Drop>(
-    alloc: Global,
-    design: &Design,
-    watch: &Stopwatch<C>,
-) -> Result<Vec<u64>, AllocError> {
-    let mut times = Vec::new(alloc);
-    for actor in 0..design.net().len() {
-        times.push(time_of(watch.spent(actor), watch.firings(actor)))?;
-    }
-    Ok(times)
+/// Adds the line of what a firing of an actor costs.
+#[tactic(auto, unfolding(crate::specs::Times::cost_line))]
+fn push_cost(text: &mut String, name: &str, cost: u32) -> Result<(), AllocError>
+    ensures { OnOk result (string_bytes text.new ≡ string_bytes text.old ++ cost_line name.now cost) }
+{
+    writeln!(text, "cost {name} {cost}")?;
+    Ok(())
 }
 
 /// Adds the lines of what a firing of each actor costs.
-fn push_costs(text: &mut String, design: &Design, costs: &[u32]) -> Result<(), AllocError> {
-    for actor in 0..design.net().len() {
-        let name = design.name(actor);
-        let cost = costs.get(actor).copied().unwrap_or(1);
-        writeln!(text, "cost {name} {cost}")?;
+#[tactic(auto, unfolding(crate::specs::Times::costs_to))]
+fn push_costs(text: &mut String, design: &Design, costs: &[u32]) -> Result<(), AllocError>
+    ensures { OnOk result (string_bytes text.new ≡
+        string_bytes text.old ++ costs_to design.now.names costs.now (length costs.now)) }
+{
+    for actor in 0..costs.len() {
+        push_cost(text, design.name(actor), costs[actor])?;
     }
     Ok(())
 }
 
 /// The text of a profile.
-pub(crate) fn profile_text<C: Clock + Drop>(
+pub(crate) fn profile_text(
     alloc: Global,
     design: &Design,
-    watch: &Stopwatch<C>,
+    spent: &[Spent],
     costs: &[u32],
-) -> Result<String, AllocError> {
+) -> Result<String, AllocError>
+    ensures { IfOk result (λ text. string_bytes text ≡ profile_text design.now.names spent.now costs.now) }
+{
     let mut text = String::new(alloc);
-    push_shares(&mut text, design, watch)?;
+    push_shares(&mut text, design, spent)?;
     push_costs(&mut text, design, costs)?;
     Ok(text)
 }

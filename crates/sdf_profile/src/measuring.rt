@@ -1,13 +1,14 @@
 //! A run whose firings are timed.
 
-ghost use Rattle.std.specs.Prelude.{MatchResult};
-ghost use Rattle.sdf_plan.specs.Plans.{Suits, ArePassed};
-ghost use Rattle.sdf_process.specs.Run.{IsProcessFault};
-ghost use Rattle.sdf_profile.specs.Profiles.{HasRunOn, IsProfileFault};
+ghost use Rattle.std.specs.Prelude.{IfOk, MatchResult, string_bytes};
+ghost use Rattle.sdf_plan.specs.Plans.{Suits};
+ghost use Rattle.sdf_profile.specs.Profiles.{HasRunOn, IsMeasured, AreProfileOptions, IsRunFault, IsMeasuringFault};
+ghost use Rattle.sdf_profile.specs.Profiles.{IsProfileFault};
+ghost use Rattle.sdf_profile.specs.Times.{AreMeasured};
 
-use crate::costs::costs_of;
-use crate::lines::{profile_text, times};
-use crate::stopwatch::Stopwatch;
+use crate::costs::{costs_of, times_of};
+use crate::lines::profile_text;
+use crate::stopwatch::{Spent, Stopwatch};
 use sdf_file::Design;
 use sdf_limits::{MOST_BLOCK, MOST_BLOCKING, MOST_PATIENCE};
 use sdf_options::{Options, Placement, Policy, Runner};
@@ -23,7 +24,7 @@ use std::time::Clock;
 
 /// The options of a run over rings by one worker, in blocks as long as they may be, so that firings go in runs.
 fn options_for(design: &Design) -> Options
-    ensures { ArePassed result }
+    ensures { AreProfileOptions design.now result }
 {
     let period = u64::from(design.net().repetitions().period());
     let blocks = MOST_BLOCK.checked_div(period).unwrap_or(1);
@@ -54,11 +55,20 @@ fn run_through<T: Threads + AllocGlobal + Sync, G: Gate>(
     gate: &G,
 ) -> Result<(), Fault>
     requires { Suits design.now.net plan.now }
-    ensures { MatchResult result (λ _. HasRunOn design.now input.now) IsProcessFault }
+    ensures { MatchResult result (λ _. HasRunOn design.now input.now) (IsRunFault design.now input.now) }
 {
     let reader = &mut FromRead::new(input);
     let writer = &mut ToWrite::new(io::sink());
     process_with(rt, reader, writer, design, plan, gate)
+}
+
+/// The text and the costs of what firings took.
+fn told(alloc: Global, design: &Design, spent: &[Spent]) -> Result<Measured, AllocError>
+    ensures { IfOk result (λ m. AreMeasured design.now.names spent.now (string_bytes m.text) m.costs.items) }
+{
+    let costs = costs_of(alloc, &times_of(alloc, spent)?)?;
+    let text = profile_text(alloc, design, spent, &costs)?;
+    Ok(Measured { text, costs })
 }
 
 /// What the actors of a run took that was timed.
@@ -66,10 +76,11 @@ fn taken<C: Clock + Drop>(
     alloc: Global,
     design: &Design,
     watch: &Stopwatch<C>,
-) -> Result<Measured, AllocError> {
-    let costs = costs_of(alloc, &times(alloc, design, watch)?)?;
-    let text = profile_text(alloc, design, watch, &costs)?;
-    Ok(Measured { text, costs })
+) -> Result<Measured, AllocError>
+    ensures { IfOk result (IsMeasured design.now) }
+{
+    let spent = watch.spent(alloc, design.net().len())?;
+    told(alloc, design, &spent)
 }
 
 /// Times a run by a plan.
@@ -81,7 +92,8 @@ fn run_timed<T: Threads + AllocGlobal + Sync, C: Clock + Drop + Sync>(
     watch: &Stopwatch<C>,
 ) -> Result<Measured, Fault>
     requires { Suits design.now.net plan.now }
-    ensures { MatchResult result (λ _. HasRunOn design.now input.now) IsProcessFault }
+    ensures { MatchResult result (λ m. HasRunOn design.now input.now × IsMeasured design.now m)
+        (IsMeasuringFault design.now input.now) }
 {
     run_through(rt, input, design, plan, watch)?;
     watch.pass_to(usize::MAX);
@@ -96,7 +108,8 @@ fn measure<T: Threads + AllocGlobal + Clock + Clone + Drop + Sync>(
     plan: &Plan,
 ) -> Result<Measured, Fault>
     requires { Suits design.now.net plan.now }
-    ensures { MatchResult result (λ _. HasRunOn design.now input.now) IsProcessFault }
+    ensures { MatchResult result (λ m. HasRunOn design.now input.now × IsMeasured design.now m)
+        (IsMeasuringFault design.now input.now) }
 {
     let watch = Stopwatch::new(rt.alloc(), rt.clone()?, design.net().len())?;
     run_timed(rt, input, design, plan, &watch)
@@ -111,7 +124,8 @@ pub fn profile<T: Threads + AllocGlobal + Clock + Clone + Drop + Sync>(
     input: &[u8],
     design: &Design,
 ) -> Result<Measured, Fault>
-    ensures { MatchResult result (λ _. HasRunOn design.now input.now) (IsProfileFault design.now) }
+    ensures { MatchResult result (λ m. HasRunOn design.now input.now × IsMeasured design.now m)
+        (IsProfileFault design.now input.now) }
 {
     let alloc = rt.alloc();
     let plan = plan(alloc, design, &options_for(design))?;

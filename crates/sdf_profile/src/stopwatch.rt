@@ -1,9 +1,18 @@
 //! The time that passes, by what it passes in.
 
+ghost use Rattle.std.specs.Prelude.{◌≡◌, length, IfOk};
+
 use sdf_run::Gate;
 use std::alloc::{AllocError, Global};
 use std::sync::atomic::{AtomicU64, Ordering};
 use std::time::Clock;
+
+/// Nanoseconds of an actor's firings, and how many these are.
+#[derive(Clone, Copy)]
+pub(crate) struct Spent {
+    pub(crate) nanoseconds: u64,
+    pub(crate) firings: u64,
+}
 
 /// Counts of 0.
 fn counts(alloc: Global, many: usize) -> Result<Vec<AtomicU64>, AllocError> {
@@ -67,14 +76,20 @@ impl<C: Clock + Drop> Stopwatch<C> {
         add(&self.spent, fired as usize, now.saturating_sub(before));
     }
 
-    /// The nanoseconds that passed in an actor's firings.
-    pub(crate) fn spent(&self, actor: usize) -> u64 {
-        count(&self.spent, actor)
-    }
-
-    /// How often an actor fired.
-    pub(crate) fn firings(&self, actor: usize) -> u64 {
-        count(&self.begun, actor)
+    /// What the firings of each of the first `actors` actors took.
+    pub(crate) fn spent(&self, alloc: Global, actors: usize) -> Result<Vec<Spent>, AllocError>
+        ensures { IfOk result (λ all. length all.items ≡ actors) }
+    {
+        let mut all = Vec::new(alloc);
+        for actor in 0..actors {
+            let nanoseconds = count(&self.spent, actor);
+            let firings = count(&self.begun, actor);
+            all.push(Spent {
+                nanoseconds,
+                firings,
+            })?;
+        }
+        Ok(all)
     }
 }
 
