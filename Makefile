@@ -67,7 +67,7 @@ documents: build
 	for it in $(filter-out examples/stuck/%,$(wildcard examples/*/graph.toml)); do \
 		build/sdfw draw $$it --workers 2 | cmp - $${it%.toml}.svg || exit 1; done
 
-# Whether each design of examples/ makes the bytes that Python's own arithmetic makes (wants python3.11; about a
+# Whether each design of examples/ makes the bytes that Python's own arithmetic makes (needs python3.11; about a
 # minute).
 examples: build
 	scripts/examples
@@ -90,16 +90,16 @@ times:
 	scripts/times $(CRATE)
 
 # How many requests for memory a short run and a long one make, by each runner, and schedules: as many, but for threads
-# (wants python3 and gcc).
+# (needs python3 and gcc).
 allocations:
 	scripts/allocations
 
-# Seconds and memory on noise, in turn with C, and with sox and ffmpeg where they are installed (wants python3 and gcc).
+# Seconds and memory on noise, in turn with C, and with sox and ffmpeg where they are installed (needs python3 and gcc).
 bench: build
 	python3 bench/run.py
 
 # Memory, reads, writes and threads refused, one call at a time, devices that fail, and workers that are held up
-# (wants python3 and gcc).
+# (needs python3 and gcc).
 hostile: build
 	scripts/prove hostile_calls
 	cp crates/hostile_calls/out/hostile_calls build/hostile_calls

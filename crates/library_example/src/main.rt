@@ -14,7 +14,6 @@ use std::fs;
 use std::io::{Read, Write};
 use std::rt::Files;
 use std::thread::Threads;
-use std::time::Clock;
 
 /// Reads the graph file at `path` and the coefficient files that it names, which lie where the program runs.
 fn load<R: AllocGlobal + Files>(rt: &R, path: &str) -> Result<Design> {
@@ -28,7 +27,7 @@ fn load<R: AllocGlobal + Files>(rt: &R, path: &str) -> Result<Design> {
 }
 
 /// Plans `design` for one thread, and runs it on the bytes of a WAV file.
-fn processed<R: AllocGlobal + Clock + Sync + Threads>(
+fn processed<R: AllocGlobal + Sync + Threads>(
     rt: &R,
     design: &Design,
     sound: &[u8],
