@@ -73,7 +73,7 @@ fn refusal(fault: Fault) -> Result<Outcome, Fault>
     }
 }
 
-/// What is compared of the table that options give a period by their policy. `spans` are those of blocks so far.
+/// What is compared of the table that options give a period by their policy. A span that is new goes to `spans`.
 #[tactic(auto, using(crate::proofs::Refusals::memory_shows))]
 fn made(
     alloc: Global,

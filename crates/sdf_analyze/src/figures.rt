@@ -78,7 +78,7 @@ impl Figures {
         Ok(figures)
     }
 
-    /// The same for a block whose span is known.
+    /// Returns the same figures, given the span of the block.
     pub(crate) fn with_span(
         alloc: Global,
         design: &Design,

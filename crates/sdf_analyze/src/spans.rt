@@ -23,7 +23,7 @@ pub(crate) struct BlockSpan {
     pub(crate) span: u64,
 }
 
-/// The span of a design's block of so many periods. The only fault is that memory was refused.
+/// Returns the span of a design's block of `periods` periods. The only fault is that memory was refused.
 #[tactic(auto, using(crate::proofs::Works::only_memory))]
 pub(crate) fn block_span(
     alloc: Global,
@@ -44,7 +44,7 @@ pub(crate) fn block_span(
     Ok(span)
 }
 
-/// The span of a block of so many periods among those that are known.
+/// Returns the span of a block of `periods` periods if it is known.
 fn known_span(known: &[BlockSpan], periods: u32) -> Option<u64>
     ensures { IfSome result (λ span. Contains known.now (record { periods = periods; span = span })) }
 {
@@ -56,7 +56,7 @@ fn known_span(known: &[BlockSpan], periods: u32) -> Option<u64>
     None
 }
 
-/// Adds a block's span to those that are known.
+/// Adds `block` to the spans that are known.
 fn keep(known: &mut Vec<BlockSpan>, block: BlockSpan) -> Result<(), AllocError>
     ensures { MatchResult result (λ _. known.new.items ≡ known.old.items ++ block ∷ [])
         (λ _. known.new.items ≡ known.old.items) }
@@ -65,7 +65,7 @@ fn keep(known: &mut Vec<BlockSpan>, block: BlockSpan) -> Result<(), AllocError>
     Ok(())
 }
 
-/// A block's span, which is worked out only if it is not known yet.
+/// Returns a block's span, and works it out only if it is not known yet.
 pub(crate) fn span_once(
     alloc: Global,
     design: &Design,

@@ -71,10 +71,10 @@ module _ (r : Rates) (n cost : ℕ → ℕ) (level : Firing → ℕ) (width : �
         weight weight_is u (λ j _. get_or u j 0) homes homes' (d.homes_are refl) placed;
     homes_then = λ _. homes_then r n cost level width past now ended started whose (λ j. get_or u j 0) d.floor s queue q
         cells weight weight_is u (λ j _. get_or u j 0) homes homes' (d.homes_are refl) placed;
-    stuck = λ started' whose' until' b. homed_stuck r n cost level width past now ended started whose (λ j. get_or u j 0)
-        d.floor s queue q cells started' whose' until' dear
-        (placed_each r n cost level width past now ended started whose (λ j. get_or u j 0) d.floor s queue q cells weight
-        weight_is u (λ j _. get_or u j 0) homes homes' (d.homes_are refl) placed) b u (λ j _. get_or u j 0)
+    stuck = λ started' whose' until' b. homed_stuck r n cost level width past now ended started whose
+        (λ j. get_or u j 0) d.floor s queue q cells started' whose' until' dear
+        (placed_each r n cost level width past now ended started whose (λ j. get_or u j 0) d.floor s queue q cells
+        weight weight_is u (λ j _. get_or u j 0) homes homes' (d.homes_are refl) placed) b u (λ j _. get_or u j 0)
         homes' wide waiting;
   }
 
@@ -89,8 +89,8 @@ module _ (r : Rates) (n cost : ℕ → ℕ) (level : Firing → ℕ) (width : �
       IsDone r n cost level width homed (past ++ record { start = now; cells = cells } ∷ []) now ended started'
       whose' until' homes'
   row_added dear some started' whose' until' b =
-      done_row r n cost level width s homed past now ended started whose until homes d started' whose' until' homes' cells
-      row.by_rule row.wide some dear row.each row.apart b
+      done_row r n cost level width s homed past now ended started whose until homes d started' whose' until' homes'
+      cells row.by_rule row.wide some dear row.each row.apart b
       (λ h. row.homes_then h (past ++ record { start = now; cells = cells } ∷ [])
       (settled_more past (record { start = now; cells = cells })))
       (row.stuck started' whose' until' b)

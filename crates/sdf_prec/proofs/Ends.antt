@@ -69,7 +69,8 @@ module _ (some : SomeIsNext) (may_fire : NextMayFire) (last : LastCountsMore) (f
   -- so where none can start none is left
   pub all_stand : (r : Rates) (n cost : ℕ → ℕ) (width : ℕ) (homed : Bool) (past : List Timed) (now : ℕ)
       (ended started whose until : ℕ → ℕ) (homes : ℕ → Option ℕ) (w : List ℕ) → IsSound r → 0 < width → IsPass r n w →
-      IsFloor r n cost width past now ended started whose until → IsStuck r n ended started until homes width now homed →
+      IsFloor r n cost width past now ended started whose until →
+      IsStuck r n ended started until homes width now homed →
       ((j : ℕ) → j < width → until j ≤ now) → (f : Firing) → IsOfBlock r n f → Occurs past f
   all_stand r n cost width homed past now ended started whose until homes w s some_column pass floor stuck none f of =
       go (cases_lt f.number (started f.actor))

@@ -230,7 +230,8 @@ module _ (r : Rates) (n cost : ℕ → ℕ) (width : ℕ) (past : List Timed) (t
     until_at = w.until_at;
   }
     where
-      ended_to : (i j : ℕ) (f : Firing) → StandsAt past i j f → (t < end_at cost past i f) ⊎ (end_at cost past i f ≤ t) →
+      ended_to : (i j : ℕ) (f : Firing) → StandsAt past i j f →
+          (t < end_at cost past i f) ⊎ (end_at cost past i f ≤ t) →
           end_at cost past i f ≤ t' → f.number < ended f.actor
       ended_to i j f at (inr h) e = (w.ended_is i j f at).0 h
       ended_to i j f at (inl h) e =
@@ -253,7 +254,8 @@ module _ (r : Rates) (n cost : ℕ → ℕ) (width : ℕ) (past : List Timed) (t
         subst (λ a. ended' a ≡ ended a + 1) at_work.0 (through j inside is)
 
     -- and those that end later
-    not_yet : (i j : ℕ) (f : Firing) → StandsAt past i j f → next < end_at cost past i f → ended' f.actor ≡ ended f.actor
+    not_yet : (i j : ℕ) (f : Firing) → StandsAt past i j f → next < end_at cost past i f →
+        ended' f.actor ≡ ended f.actor
     not_yet i j f at late = same f.actor none
       where
         none : (m : ℕ) → m < width → until m ≡ next → whose m ≡ f.actor → ⊥
@@ -264,7 +266,8 @@ module _ (r : Rates) (n cost : ℕ → ℕ) (width : ℕ) (past : List Timed) (t
             let one = one_at_work x.0 m i j x.1 f x.2 at late' (omega arith) actor in
             omega (arith, one.2, x.3)
 
-    pub through_then : (a : ℕ) → a < r.actors → (ended' a ≡ started a) ⊎ ((ended' a ≡ ended a) × (ended a + 1 ≡ started a))
+    pub through_then : (a : ℕ) → a < r.actors →
+        (ended' a ≡ started a) ⊎ ((ended' a ≡ ended a) × (ended a + 1 ≡ started a))
     through_then a l = go (w.through a l)
       where
         go : (ended a ≡ started a) ⊎ (ended a + 1 ≡ started a) →

@@ -52,7 +52,7 @@ impl Marks {
         Ok(())
     }
 
-    /// Takes a mark away, and returns whose it was.
+    /// Takes a mark away if there is one, and returns whose it was.
     pub(crate) fn take(&mut self) -> Option<usize>
         ensures whose { MatchOption result ((a : ℕ) → slice_index_or self.old a false ≡ false)
             (λ actor. slice_index_or self.old actor false ≡ true) }

@@ -17,8 +17,8 @@ loop-column-preserved c =
           let known = c.requires.known i w.in-Some.firing w.in-Some.is in
           let end : c.args.now + w.from.result ≡ c.args.now + cost w.in-Some.firing.actor =
           omega (arith, w.from.ensures, w.of.ensures.is) in
-          let begun = starting_more cost c.args.now i c.args.cells.now s0 w0 u0 c.loop-column.started c.loop-column.whose
-          c.loop-column.until v.begun w.in-Some.firing (c.args.now + w.from.result) w.in-Some.is end
+          let begun = starting_more cost c.args.now i c.args.cells.now s0 w0 u0 c.loop-column.started
+          c.loop-column.whose c.loop-column.until v.begun w.in-Some.firing (c.args.now + w.from.result) w.in-Some.is end
           (omega (arith, known, v.actors))
           (omega (arith, c.loop-column-test.true, v.all, c.requires.whose, c.requires.wide))
           (omega (arith, c.loop-column-test.true, v.columns, c.requires.wide)) c.requires.once in
