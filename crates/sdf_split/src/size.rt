@@ -1,6 +1,8 @@
 //! How long the parts of a run are.
 
-ghost use Rattle.std.specs.Prelude.{◌≤◌, ◌<◌, ◌*◌};
+ghost use Rattle.sdf_fission.specs.Warm.{IsLeast};
+ghost use Rattle.sdf_split.specs.Sizes.{IsPartSize};
+ghost use Rattle.std.specs.Prelude.{◌<◌};
 
 /// The least length of a part, in warm-ups: less than an eighth of the work is then done twice.
 const LEAST_WARM_UPS: u32 = 8;
@@ -9,9 +11,7 @@ const LEAST_WARM_UPS: u32 = 8;
 /// warm-up.
 pub fn part_size(periods: u32, parts: u32, warm: u32) -> u32
     requires { 0 < parts }
-    ensures some { 0 < result }
-    ensures long { warm ≤ result }
-    ensures few { periods ≤ parts * result }
+    ensures { IsLeast (IsPartSize periods parts warm) result }
 {
     periods
         .div_ceil(parts)
