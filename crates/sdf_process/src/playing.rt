@@ -27,7 +27,7 @@ use sdf_plan::Fault;
 use sdf_run::laws::{histories_make_runs, net_facts, nets_can_run, nets_have_periods};
 use sdf_run::{Passage, Ran, RunFault, Spares, resume_one_in};
 use sdf_sched::Period;
-use sdf_split::{Split, part_size, resume_split};
+use sdf_split::{Split, Workers, part_size, resume_split};
 use sdf_wav::laws::puts_join;
 use sdf_wav::{ContentOut, Wav, Writer};
 use std::alloc::{AllocError, Global};
@@ -65,13 +65,16 @@ struct Piece {
     cut: Option<Cut>,
 }
 
-/// The memory that each piece of a sound leaves to the next one. Parts do not use the queues.
+/// The memory that each piece of a sound leaves to the next one.
 #[derive(Drop)]
 struct Memory<'a, T> {
     rt: &'a T,
     /// The input lists of the last piece.
     inputs: Vec<Vec<i32>>,
+    /// The memory of runs on one thread.
     spares: Spares<i32>,
+    /// The workers that run parts.
+    workers: Workers<i32, Kept>,
 }
 
 impl<'a, T: AllocGlobal> Memory<'a, T> {
@@ -81,6 +84,15 @@ impl<'a, T: AllocGlobal> Memory<'a, T> {
             rt,
             inputs: Vec::new(rt.alloc()),
             spares: Spares::none(rt.alloc()),
+            workers: Workers::none(rt.alloc()),
+        }
+    }
+
+    /// Keeps the memory of the output lists of a piece, for the next one.
+    fn give_back(&mut self, piece: Piece, outputs: Vec<Vec<i32>>) {
+        match piece.cut {
+            Some(_) => self.workers.give_back(outputs),
+            None => self.spares.give_back(outputs),
         }
     }
 }
@@ -121,6 +133,7 @@ fn resume<T: Threads + AllocGlobal + Sync>(
     passage: Passage<'_, Kit>,
     rest: &Rest<i32, Kept>,
     spares: &mut Spares<i32>,
+    workers: &mut Workers<i32, Kept>,
 ) -> Result<(Ran<i32>, Rest<i32, Kept>), RunFault>
     requires period { IsPeriodOf (rates (graph_of kit_steps passage.net.now)) passage.period.now }
     requires given { HasInputs passage.net.now passage.period.now.repetitions passage.periods
@@ -148,7 +161,7 @@ fn resume<T: Threads + AllocGlobal + Sync>(
         warm,
         size: part_size(passage.periods, parts.max(1), warm),
     };
-    resume_split(rt, rt.alloc(), split, rest)
+    resume_split(rt, rt.alloc(), split, rest, workers)
 }
 
 /// Runs some more periods of a sound, with zeros past its end.
@@ -169,7 +182,12 @@ fn play<T: Threads + AllocGlobal + Sync>(
         (λ e. e ≡ OutOfMemory) }
 {
     let exchange = Exchange::of_net(player.net);
-    let Memory { rt, inputs, spares } = memory;
+    let Memory {
+        rt,
+        inputs,
+        spares,
+        workers,
+    } = memory;
     let lists = exchange.inputs_from(rt.alloc(), player.input, piece.at, piece.many, inputs)?;
     let passage = Passage {
         net: player.net,
@@ -177,7 +195,7 @@ fn play<T: Threads + AllocGlobal + Sync>(
         periods: piece.many,
         inputs: &lists,
     };
-    let (ran, last) = resume(*rt, piece.cut, passage, rest, spares)?;
+    let (ran, last) = resume(*rt, piece.cut, passage, rest, spares, workers)?;
     *inputs = lists;
     Ok((ran.outputs, last))
 }
@@ -226,7 +244,7 @@ fn put_piece<T: Threads + AllocGlobal + Sync, W: Writer>(
         &lists,
         piece.many as usize * exchange.made,
     )?;
-    memory.spares.give_back(lists);
+    memory.give_back(piece, lists);
     Ok(last)
 }
 

@@ -20,7 +20,7 @@ use Rattle.sdf_answer.specs.Feeds.{AreFull, GoesOnBy}
 use Rattle.sdf_answer.specs.Periods.{HasPeriod}
 use Rattle.sdf_fission.specs.Laws.{ArePartsOf, PartsGoOn}
 use Rattle.sdf_fission.specs.WarmUps.{WarmsIn}
-use Rattle.sdf_split.specs.Parts.{read_by, end_of, IsLatePart}
+use Rattle.sdf_split.specs.Parts.{read_by, end_of, IsPart}
 use Rattle.sdf_split.proofs.Appending.{same_lists}
 use Rattle.sdf_split.proofs.Cutting.{reads_join, reads_many, are_given, are_full, cut_at}
 
@@ -81,11 +81,19 @@ module _ {A S T : Type 0} (s : Steps A S T) (go_on : PartsGoOn s) (n : Netlist A
   front_full to l = subst (λ k. AreFull n q k (front to)) (let e : to - 0 ≡ to = omega arith in e)
       (are_full n q inputs periods given full 0 to (omega arith) l)
 
+  -- the first part
+  pub first_part : (from to : ℕ) → from ≡ 0 → (on : List (List T)) (last : Rest T S) →
+      IsPart s n q inputs rest warm from to on last → GoesOnBy s n q rest to (front to) on last
+  first_part from to none on last part =
+      subst (λ k. GoesOnBy s n q rest k (front to) on last) (let e : to - 0 ≡ to = omega arith in e)
+      (subst (λ f. GoesOnBy s n q rest (to - f) (read_by n q inputs f to) on last) none
+      (subst (λ r. GoesOnBy s n q r (to - from) (read_by n q inputs from to) on last) (part.first none) part.goes))
+
   -- a part more
   pub one_more : (at to : ℕ) → warm ≤ at → at ≤ to → to ≤ periods → (on next joined : List (List T))
-      (last end : Rest T S) → GoesOnBy s n q rest at (front at) on last → IsLatePart s n q inputs warm at to next end →
-      AreJoined on next joined → length joined ≡ length on → GoesOnBy s n q rest to (front to) joined end
-  one_more at to enough order within on next joined last end goes late are many =
+      (last end : Rest T S) → GoesOnBy s n q rest at (front at) on last →
+      IsPart s n q inputs rest warm at to next end → 0 < at → AreJoined on next joined → length joined ≡ length on → GoesOnBy s n q rest to (front to) joined end
+  one_more at to enough order within on next joined last end goes part late are many =
       let all : at - warm + warm ≡ at = omega arith in
       let parts : ArePartsOf s n p (at - warm) warm (to - at) (front (at - warm)) (read_by n q inputs (at - warm) at)
       (front at) (read_by n q inputs at to) on next rest last end = record {
@@ -96,10 +104,10 @@ module _ {A S T : Type 0} (s : Steps A S T) (go_on : PartsGoOn s) (n : Netlist A
         joined = reads_join n q inputs 0 (at - warm) at (omega arith) (omega arith);
         fed = subst (λ k. AreFull n q k (front at)) (sym all) (front_full at (omega arith));
         goes = subst (λ k. GoesOnBy s n q rest k (front at) on last) (sym all) goes;
-        made = late.made;
-        back = late.back;
-        short = late.short;
-        late = late.late;
+        made = (part.late late).0;
+        back = part.begin;
+        short = (part.late late).1;
+        late = part.goes;
       } in
       subst (λ k. GoesOnBy s n q rest k (front to) joined end)
       (let e : at - warm + warm + (to - at) ≡ to = omega arith in e)

@@ -7,26 +7,29 @@ ghost use Rattle.sdf_split.specs.Cuts.{cut};
 
 use std::alloc::{AllocError, Global};
 
-/// Copies the samples of a list from one place to another.
+/// Copies the samples of a list from one place to another, into the memory of `spare`.
 fn cut_list<T: Copy>(
-    alloc: Global,
     list: &Vec<T>,
     from: usize,
     to: usize,
+    mut spare: Vec<T>,
 ) -> Result<Vec<T>, AllocError>
     requires order { from ≤ to }
     requires within { to ≤ length list.now.items }
     ensures { IfOk result (λ v. v.items ≡ between from to list.now.items) }
 {
-    Vec::from_slice(alloc, &list[from..to])
+    spare.clear();
+    spare.extend_from_slice(&list[from..to])?;
+    Ok(spare)
 }
 
-/// Copies the samples of each list from one place to another.
+/// Copies the samples of each list from one place to another, into the memory of `spares`.
 pub(crate) fn cut<T: Copy>(
     alloc: Global,
     inputs: &[Vec<T>],
     from: usize,
     to: usize,
+    mut spares: Vec<Vec<T>>,
 ) -> Result<Vec<Vec<T>>, AllocError>
     requires order { from ≤ to }
     requires within { (e : ℕ) → e < length inputs.now → to ≤ length (slice_index_or (lists inputs.now) e []) }
@@ -34,7 +37,8 @@ pub(crate) fn cut<T: Copy>(
 {
     let mut cuts = Vec::with_capacity(alloc, inputs.len())?;
     for list in inputs {
-        cuts.push(cut_list(alloc, list, from, to)?)?;
+        let spare = spares.pop().unwrap_or(Vec::new(alloc));
+        cuts.push(cut_list(list, from, to, spare)?)?;
     }
     Ok(cuts)
 }

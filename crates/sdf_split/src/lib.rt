@@ -1,8 +1,9 @@
 //! Runs that are split in time: parts of one run, made at once.
 //!
-//! It stands on `sdf_fission`, `sdf_run`, `sdf_answer`, `sdf_actor`, `sdf_graph` and `sdf_sched`. Begin at `split`: a
-//! run in parts goes on from a rest as a run on one thread does (`sdf_run::resume_one`). Then `part`, one of its parts,
-//! how long it is (`size`), what it reads (`cut`), and `append`, which joins what parts make.
+//! It depends on `sdf_fission`, `sdf_run`, `sdf_answer`, `sdf_actor`, `sdf_graph`, `sdf_sched` and `sdf_limits`. Begin
+//! with `split`: a run in parts goes on from a rest as a run on one thread does (`sdf_run::resume_one`). Then read
+//! `workers` (who run the parts, in memory that lasts), `part` (one of the parts), `size` (how long it is), `cut` (what
+//! it reads) and `append`, which joins what parts make.
 #![tactic(auto)]
 
 mod append;
@@ -10,7 +11,9 @@ mod cut;
 mod part;
 mod size;
 pub mod split;
+mod workers;
 
 pub use part::Split;
 pub use size::part_size;
 pub use split::resume_split;
+pub use workers::Workers;
