@@ -5,20 +5,43 @@ use sdf_file::{Design, design_files, read_design};
 use std::fs;
 use std::rt::Files;
 
+/// Reads a file in a folder of `designs`.
+fn bytes_at<R: AllocGlobal + Files>(rt: &R, folder: &str, name: &str) -> Result<Vec<u8>> {
+    let path = format!(in rt.alloc(); "designs/{folder}/{name}")?;
+    Ok(fs::read(rt, path.as_str())?)
+}
+
+/// Adds a coefficient file, with its name.
+fn push_file<R: AllocGlobal + Files>(
+    rt: &R,
+    folder: &str,
+    name: String,
+    files: &mut Vec<(String, Vec<u8>)>,
+) -> Result<()> {
+    let bytes = bytes_at(rt, folder, &name)?;
+    Ok(files.push((name, bytes))?)
+}
+
+/// Reads the coefficient files that a graph file names.
+fn files_beside<R: AllocGlobal + Files>(
+    rt: &R,
+    folder: &str,
+    graph: &[u8],
+) -> Result<Vec<(String, Vec<u8>)>> {
+    let mut files = Vec::new(rt.alloc());
+    for name in design_files(rt.alloc(), graph)? {
+        push_file(rt, folder, name, &mut files)?;
+    }
+    Ok(files)
+}
+
 /// Reads the design of a graph file in a folder of `designs`.
 pub(crate) fn design_at<R: AllocGlobal + Files>(
     rt: &R,
     folder: &str,
     graph: &str,
 ) -> Result<Design> {
-    let alloc = rt.alloc();
-    let path = format!(in alloc; "designs/{folder}/{graph}")?;
-    let graph = fs::read(rt, path.as_str())?;
-    let mut beside = Vec::new(alloc);
-    for name in design_files(alloc, &graph)? {
-        let path = format!(in alloc; "designs/{folder}/{name}")?;
-        let bytes = fs::read(rt, path.as_str())?;
-        beside.push((name, bytes))?;
-    }
-    Ok(read_design(alloc, &graph, &beside)?)
+    let graph = bytes_at(rt, folder, graph)?;
+    let files = files_beside(rt, folder, &graph)?;
+    Ok(read_design(rt.alloc(), &graph, &files)?)
 }

@@ -6,25 +6,23 @@
 //! `bench_jobs small SEED` does a little of every job that reads no file. Designs are read from the folder `designs`
 //! where the program runs.
 //!
-//! It stands on `sdf_process`, `sdf_plan`, `sdf_file`, `sdf_document`, `sdf_wav` and `sdf_options`, which play a
-//! design, on `sdf_analyze`, `sdf_draw` and `sdf_json`, which report on schedules, on `sdf_filters` and `sdf_profile`,
-//! which make texts, and on `sdf_kit`, `sdf_actor` and `sdf_graph`. Begin at `main`, then `playing`, `tables` and
-//! `making`.
+//! It stands on `bench_inputs`, which makes graphs and noise, on `sdf_process`, `sdf_plan`, `sdf_file`, `sdf_document`,
+//! `sdf_wav` and `sdf_options`, which play a design, on `sdf_analyze`, `sdf_draw` and `sdf_json`, which report on
+//! schedules, on `sdf_filters` and `sdf_profile`, which make texts, and on `sdf_kit`, `sdf_actor` and `sdf_graph`.
+//! Begin at `main`, then `playing`, `tables` and `making`.
 #![tactic(auto)]
 
 mod files;
-mod graphs;
 mod making;
-mod numbers;
 mod playing;
-mod sounds;
 mod tables;
 
 use anyhow::{Context, Result, bail};
+use bench_inputs::noise::Length;
+use bench_inputs::numbers::Numbers;
 use making::make;
-use numbers::Numbers;
 use playing::Playing;
-use sounds::Length;
+use std::alloc::{AllocError, Global};
 use std::env;
 use std::rt::Files;
 use std::thread::Threads;
@@ -34,6 +32,8 @@ use tables::print_reports;
 const USAGE: &str =
     "bench_jobs convert|filters|actors|workers SEED SECONDS\nbench_jobs tables SEED FIRINGS\n\
     bench_jobs making SEED FILTERS\nbench_jobs small SEED";
+
+const UNKNOWN: &str = "these are no words of a job: see --help";
 
 /// Reads a number of 32 bits.
 fn number(word: &str) -> Result<u32> {
@@ -45,12 +45,74 @@ fn do_little<R: AllocGlobal + Clock + Files + Print + Sync + Threads>(
     rt: &R,
     seed: u32,
 ) -> Result<()> {
-    let mut playing = Playing::new(rt, seed, Length::Frames(2000));
+    little_playing(&mut Playing::new(rt, seed, Length::Frames(2000)))?;
+    print_reports(rt, &mut Numbers::new(seed), 700)
+}
+
+/// Plays and makes a little.
+fn little_playing<R: AllocGlobal + Clock + Files + Print + Sync + Threads>(
+    playing: &mut Playing<'_, R>,
+) -> Result<()> {
     playing.play_bank(8)?;
     playing.play_small()?;
-    playing.play_by_workers(8)?;
-    make(&mut playing, 1)?;
-    print_reports(rt, &mut Numbers::new(seed), 700)
+    playing.share_bank(8)?;
+    make(playing, 1)
+}
+
+/// A job that has a seed and a size.
+#[derive(Clone, Copy)]
+enum Job {
+    Convert,
+    Filters,
+    Actors,
+    Workers,
+    Tables,
+    Making,
+}
+
+impl Job {
+    /// Returns the job that a word names.
+    fn named(word: &str) -> Option<Job> {
+        match word {
+            "convert" => Some(Job::Convert),
+            "filters" => Some(Job::Filters),
+            "actors" => Some(Job::Actors),
+            "workers" => Some(Job::Workers),
+            "tables" => Some(Job::Tables),
+            "making" => Some(Job::Making),
+            _ => None,
+        }
+    }
+
+    /// Does the job, with the numbers of a seed.
+    fn run<R: AllocGlobal + Clock + Files + Print + Sync + Threads>(
+        self,
+        rt: &R,
+        seed: u32,
+        size: u32,
+    ) -> Result<()> {
+        let length = match self {
+            Job::Tables => return print_reports(rt, &mut Numbers::new(seed), size),
+            Job::Making => Length::Frames(70_000),
+            _ => Length::Seconds(size),
+        };
+        self.play(&mut Playing::new(rt, seed, length), size)
+    }
+
+    /// Does a job that plays.
+    fn play<R: AllocGlobal + Clock + Files + Print + Sync + Threads>(
+        self,
+        playing: &mut Playing<'_, R>,
+        size: u32,
+    ) -> Result<()> {
+        match self {
+            Job::Convert => playing.convert(),
+            Job::Filters => playing.filter(),
+            Job::Actors => playing.play_actors(),
+            Job::Workers => playing.share(),
+            _ => make(playing, size),
+        }
+    }
 }
 
 /// Does the job that the words name.
@@ -59,31 +121,23 @@ fn obey<R: AllocGlobal + Clock + Files + Print + Sync + Threads>(
     line: &[&str],
 ) -> Result<()> {
     match line {
-        ["convert", seed, seconds] => {
-            Playing::new(rt, number(seed)?, Length::Seconds(number(seconds)?)).convert()
-        }
-        ["filters", seed, seconds] => {
-            Playing::new(rt, number(seed)?, Length::Seconds(number(seconds)?)).filter()
-        }
-        ["actors", seed, seconds] => {
-            let mut playing = Playing::new(rt, number(seed)?, Length::Seconds(number(seconds)?));
-            playing.echo()?;
-            playing.play_small()
-        }
-        ["workers", seed, seconds] => {
-            Playing::new(rt, number(seed)?, Length::Seconds(number(seconds)?)).share()
-        }
-        ["tables", seed, firings] => {
-            print_reports(rt, &mut Numbers::new(number(seed)?), number(firings)?)
-        }
-        ["making", seed, filters] => {
-            let mut playing = Playing::new(rt, number(seed)?, Length::Frames(70_000));
-            make(&mut playing, number(filters)?)
-        }
+        [job, seed, size] => match Job::named(job) {
+            Some(job) => job.run(rt, number(seed)?, number(size)?),
+            None => bail!("{UNKNOWN}"),
+        },
         ["small", seed] => do_little(rt, number(seed)?),
         ["--help"] => Ok(println!(rt; "{USAGE}")?),
-        _ => bail!("these are no words of a job: see --help"),
+        _ => bail!("{UNKNOWN}"),
     }
+}
+
+/// Returns the words as a line.
+fn line_of(alloc: Global, given: &[String]) -> Result<Vec<&str>, AllocError> {
+    let mut line = Vec::new(alloc);
+    for word in given {
+        line.push(word.as_str())?;
+    }
+    Ok(line)
 }
 
 fn main(rt: HostRuntime) -> Result<()> {
@@ -91,9 +145,5 @@ fn main(rt: HostRuntime) -> Result<()> {
     for word in env::args(&rt)?.skip(1) {
         given.push(word)?;
     }
-    let mut line = Vec::new(rt.alloc());
-    for word in &given {
-        line.push(word.as_str())?;
-    }
-    obey(&rt, line.as_slice())
+    obey(&rt, &line_of(rt.alloc(), &given)?)
 }

@@ -3,10 +3,10 @@
 ghost use Rattle.sdf_plan.specs.Plans.{Suits};
 
 use crate::files::design_at;
-use crate::graphs::{bank, chain, interleaved};
-use crate::numbers::{Numbers, show};
-use crate::sounds::{Length, Level, Noise};
 use anyhow::Result;
+use bench_inputs::graphs::Graph;
+use bench_inputs::noise::{Length, Level, Noise};
+use bench_inputs::numbers::{Numbers, show};
 use sdf_file::{Design, read_design};
 use sdf_options::{Options, Runner};
 use sdf_plan::Plan;
@@ -20,6 +20,32 @@ use std::time::Clock;
 
 /// Output bytes for each input byte, at most.
 const MOST_OUTPUTS: usize = 8;
+
+/// A design that a seed makes, that is shipped in a folder, or that is read from a text and coefficient files.
+#[derive(Clone, Copy)]
+pub(crate) enum Source<'a> {
+    Made(Graph),
+    Shipped(&'a str, &'a str),
+    Text(&'a [u8], &'a [(String, Vec<u8>)]),
+}
+
+/// How a design is run.
+#[derive(Clone, Copy)]
+pub(crate) enum Way {
+    OneThread,
+    /// On one thread at half scale and at full scale, which are its names.
+    TwoLevels,
+    Rings,
+    FourWorkers,
+}
+
+/// The shipped converter.
+const CONVERTER: Source<'static> = Source::Shipped("44100-to-48000", "graph.toml");
+
+const OVER_RINGS: Options = Options {
+    runner: Runner::Rings,
+    ..Options::DEFAULT
+};
 
 /// Runs designs, each on new noise.
 #[derive(Drop)]
@@ -52,18 +78,9 @@ impl<'a, R: AllocGlobal + Clock + Files + Print + Sync + Threads> Playing<'a, R>
     fn play_by(&mut self, name: &str, design: &Design, plan: &Plan, noise: Noise) -> Result<()>
         requires { Suits design.now.net plan.now }
     {
-        let alloc = self.rt.alloc();
-        let file = noise.file(alloc, &mut self.numbers)?;
-        let room = file.len().saturating_mul(MOST_OUTPUTS);
-        let mut reader = FromRead::new(file.as_slice());
-        let mut writer = ToWrite::new(Vec::with_capacity(alloc, room)?);
-        process(self.rt, &mut reader, &mut writer, design, plan)?;
-        Ok(show(self.rt, name, writer.into_inner().as_slice())?)
-    }
-
-    /// Runs a design on one thread.
-    pub(crate) fn play(&mut self, name: &str, design: &Design, noise: Noise) -> Result<()> {
-        self.play_with(name, design, &Options::DEFAULT, noise)
+        let file = noise.file(self.rt.alloc(), &mut self.numbers)?;
+        let made = made_of(self.rt, &file, design, plan)?;
+        Ok(show(self.rt, name, &made)?)
     }
 
     /// Runs a design by options.
@@ -78,75 +95,133 @@ impl<'a, R: AllocGlobal + Clock + Files + Print + Sync + Threads> Playing<'a, R>
         self.play_by(name, design, &plan, noise)
     }
 
-    /// Runs a design of one channel at half scale and at full scale.
-    fn play_twice(&mut self, folder: &str) -> Result<()> {
-        let design = design_at(self.rt, folder, "graph.toml")?;
-        let plan = plan(self.rt.alloc(), &design, &Options::DEFAULT)?;
-        self.play_by("half scale", &design, &plan, self.noise(1, Level::Half))?;
-        self.play_by("full scale", &design, &plan, self.noise(1, Level::Full))
+    /// Runs a design of one channel by a plan at half scale and at full scale.
+    fn play_levels(&mut self, design: &Design, plan: &Plan) -> Result<()>
+        requires { Suits design.now.net plan.now }
+    {
+        self.play_by("half scale", design, plan, self.noise(1, Level::Half))?;
+        self.play_by("full scale", design, plan, self.noise(1, Level::Full))
+    }
+
+    /// Runs a design of one channel at both levels.
+    fn play_twice(&mut self, design: &Design) -> Result<()> {
+        let plan = plan(self.rt.alloc(), design, &Options::DEFAULT)?;
+        self.play_levels(design, &plan)
+    }
+
+    /// Runs a design by four workers.
+    fn play_by_workers(&mut self, name: &str, design: &Design, noise: Noise) -> Result<()> {
+        let paced = parallel_plan(self.rt.alloc(), design, 4)?;
+        self.play_by(name, design, &paced.plan, noise)
+    }
+
+    /// Runs a design in a way.
+    fn play(&mut self, name: &str, design: &Design, way: Way, noise: Noise) -> Result<()> {
+        match way {
+            Way::OneThread => self.play_with(name, design, &Options::DEFAULT, noise),
+            Way::TwoLevels => self.play_twice(design),
+            Way::Rings => self.play_with(name, design, &OVER_RINGS, noise),
+            Way::FourWorkers => self.play_by_workers(name, design, noise),
+        }
+    }
+
+    /// Makes or reads a design.
+    fn design(&mut self, source: Source<'_>) -> Result<Design> {
+        match source {
+            Source::Made(graph) => self.made(graph),
+            Source::Shipped(folder, graph) => design_at(self.rt, folder, graph),
+            Source::Text(graph, files) => Ok(read_design(self.rt.alloc(), graph, files)?),
+        }
+    }
+
+    /// Makes a design.
+    fn made(&mut self, graph: Graph) -> Result<Design> {
+        let text = graph.text(self.rt.alloc(), &mut self.numbers)?;
+        Ok(read_design(self.rt.alloc(), text.as_bytes(), &[])?)
+    }
+
+    /// Makes or reads a design, and runs it.
+    pub(crate) fn run(
+        &mut self,
+        name: &str,
+        source: Source<'_>,
+        way: Way,
+        noise: Noise,
+    ) -> Result<()> {
+        let design = self.design(source)?;
+        self.play(name, &design, way, noise)
     }
 
     /// Runs the shipped converter on one channel and on two.
     pub(crate) fn convert(&mut self) -> Result<()> {
-        self.play_twice("44100-to-48000")?;
-        let stereo = design_at(self.rt, "44100-to-48000", "graph-stereo.toml")?;
-        self.play("stereo", &stereo, self.noise(2, Level::Half))
+        let noise = self.noise(1, Level::Half);
+        self.run("", CONVERTER, Way::TwoLevels, noise)?;
+        let stereo = Source::Shipped("44100-to-48000", "graph-stereo.toml");
+        let noise = self.noise(2, Level::Half);
+        self.run("stereo", stereo, Way::OneThread, noise)
     }
 
     /// Runs the shipped crossover, and a bank of 32 filters.
     pub(crate) fn filter(&mut self) -> Result<()> {
-        self.play_twice("crossover")?;
+        let crossover = Source::Shipped("crossover", "graph.toml");
+        let noise = self.noise(1, Level::Half);
+        self.run("", crossover, Way::TwoLevels, noise)?;
         self.length = self.length.part(10);
         self.play_bank(32)
     }
 
     /// Runs a bank of `filters` filters on one thread.
     pub(crate) fn play_bank(&mut self, filters: u32) -> Result<()> {
-        let design = self.bank(filters)?;
-        self.play("bank", &design, self.noise(1, Level::Half))
+        let noise = self.noise(1, Level::Half);
+        let bank = Source::Made(Graph::Bank { filters });
+        self.run("bank", bank, Way::OneThread, noise)
     }
 
-    /// Returns a bank of `filters` filters.
-    fn bank(&mut self, filters: u32) -> Result<Design> {
-        let graph = bank(self.rt.alloc(), &mut self.numbers, filters)?;
-        Ok(read_design(self.rt.alloc(), graph.as_bytes(), &[])?)
-    }
-
-    /// Runs the shipped echo.
-    pub(crate) fn echo(&mut self) -> Result<()> {
-        let echo = design_at(self.rt, "echo", "graph.toml")?;
-        self.play("echo", &echo, self.noise(1, Level::Half))
+    /// Runs the shipped echo, and small actors.
+    pub(crate) fn play_actors(&mut self) -> Result<()> {
+        let echo = Source::Shipped("echo", "graph.toml");
+        let noise = self.noise(1, Level::Half);
+        self.run("echo", echo, Way::OneThread, noise)?;
+        self.play_small()
     }
 
     /// Gathers two channels into one and deals them out again, and runs a long chain of small actors.
     pub(crate) fn play_small(&mut self) -> Result<()> {
-        let alloc = self.rt.alloc();
-        let graph = interleaved(alloc, &mut self.numbers)?;
-        let design = read_design(alloc, graph.as_bytes(), &[])?;
-        self.play("gathered", &design, self.noise(2, Level::Full))?;
-        let graph = chain(alloc, &mut self.numbers)?;
-        let design = read_design(alloc, graph.as_bytes(), &[])?;
+        let noise = self.noise(2, Level::Full);
+        let gathered = Source::Made(Graph::Gathered);
+        self.run("gathered", gathered, Way::OneThread, noise)?;
         self.length = self.length.part(2);
-        self.play("chain", &design, self.noise(1, Level::Half))
+        let noise = self.noise(1, Level::Half);
+        self.run("chain", Source::Made(Graph::Chain), Way::OneThread, noise)
     }
 
     /// Runs a bank of 32 filters by four workers, and the converter over rings with the default options.
     pub(crate) fn share(&mut self) -> Result<()> {
-        self.play_by_workers(32)?;
-        let converter = design_at(self.rt, "44100-to-48000", "graph.toml")?;
-        let options = Options {
-            runner: Runner::Rings,
-            ..Options::DEFAULT
-        };
+        self.share_bank(32)?;
         let noise = self.noise(1, Level::Half);
-        self.play_with("over rings", &converter, &options, noise)
+        self.run("over rings", CONVERTER, Way::Rings, noise)
     }
 
     /// Runs a bank of `filters` filters by four workers.
-    pub(crate) fn play_by_workers(&mut self, filters: u32) -> Result<()> {
-        let design = self.bank(filters)?;
-        let paced = parallel_plan(self.rt.alloc(), &design, 4)?;
+    pub(crate) fn share_bank(&mut self, filters: u32) -> Result<()> {
         let noise = self.noise(1, Level::Half);
-        self.play_by("by four workers", &design, &paced.plan, noise)
+        let bank = Source::Made(Graph::Bank { filters });
+        self.run("by four workers", bank, Way::FourWorkers, noise)
     }
+}
+
+/// Returns what a design makes of a WAV file by a plan.
+fn made_of<R: AllocGlobal + Clock + Sync + Threads>(
+    rt: &R,
+    file: &[u8],
+    design: &Design,
+    plan: &Plan,
+) -> Result<Vec<u8>>
+    requires { Suits design.now.net plan.now }
+{
+    let room = file.len().saturating_mul(MOST_OUTPUTS);
+    let mut reader = FromRead::new(file);
+    let mut writer = ToWrite::new(Vec::with_capacity(rt.alloc(), room)?);
+    process(rt, &mut reader, &mut writer, design, plan)?;
+    Ok(writer.into_inner())
 }

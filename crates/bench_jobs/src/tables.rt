@@ -2,9 +2,10 @@
 
 ghost use Rattle.sdf_plan.specs.Plans.{AreSizes};
 
-use crate::graphs::GraphText;
-use crate::numbers::{Numbers, show};
+use crate::making::converter_design;
 use anyhow::Result;
+use bench_inputs::graphs::Graph;
+use bench_inputs::numbers::{Numbers, show};
 use sdf_analyze::{analyze, compare};
 use sdf_draw::svg;
 use sdf_file::{Design, read_design};
@@ -12,173 +13,35 @@ use sdf_filters::converter_texts;
 use sdf_json::schedule_json;
 use sdf_options::{Options, Placement, Policy};
 use sdf_plan::schedule::schedule;
-use std::alloc::{AllocError, Global};
+use std::alloc::Global;
 
-/// How many stages have sixteen links side by side, and how many have two different branches.
-const WIDE: u32 = 10;
-
-const SPLIT: u32 = 10;
-
-/// The factor by which the stages' rate is above that of the input and the output.
-const FACTOR: u32 = 3;
-
-/// Firings in a period for each sample of an input's block.
-const FIRINGS: u32 = 2 + FACTOR * (2 * WIDE + 4 * SPLIT);
-
-/// Adds a fork and an add with sixteen links between them.
-fn push_wide(text: &mut String, numbers: &mut Numbers, stage: u32) -> Result<(), AllocError> {
-    let (one, other) = (numbers.between(1, 1000), numbers.between(1, 1000));
-    write!(
-        text,
-        "
-[[actor]]
-name = \"a{stage}\"
-kind = \"fork\"
-ways = 16
-cost = {one}
-
-[[actor]]
-name = \"z{stage}\"
-kind = \"add\"
-ways = 16
-cost = {other}
-"
-    )?;
-    for port in 0..16 {
-        write!(
-            text,
-            "\n[[link]]\nfrom = \"a{stage}:{port}\"\nto = \"z{stage}:{port}\"\n"
-        )?;
-    }
-    Ok(())
+/// A design that a seed makes.
+#[derive(Clone, Copy)]
+enum Input {
+    /// Stages whose period has about `firings` firings.
+    Staged { firings: u32 },
+    /// A converter between two common rates.
+    Converter { attenuation: u32 },
 }
 
-/// Adds a fork, a gain and a delay on its two branches, and an add.
-fn push_split(text: &mut String, numbers: &mut Numbers, stage: u32) -> Result<(), AllocError> {
-    let (one, other) = (numbers.between(1, 1000), numbers.between(1, 1000));
-    write!(
-        text,
-        "
-[[actor]]
-name = \"a{stage}\"
-kind = \"fork\"
-ways = 2
-cost = {one}
-
-[[actor]]
-name = \"z{stage}\"
-kind = \"add\"
-ways = 2
-cost = {other}
-
-[[link]]
-from = \"a{stage}:0\"
-to = \"g{stage}\"
-
-[[link]]
-from = \"a{stage}:1\"
-to = \"d{stage}\"
-"
-    )?;
-    push_branches(text, numbers, stage)
-}
-
-/// Adds a gain and a delay that lead to an add.
-fn push_branches(text: &mut String, numbers: &mut Numbers, stage: u32) -> Result<(), AllocError> {
-    let (one, other) = (numbers.between(1, 1000), numbers.between(1, 1000));
-    write!(
-        text,
-        "
-[[actor]]
-name = \"g{stage}\"
-kind = \"gain\"
-gain = 3
-shift = 2
-cost = {one}
-
-[[actor]]
-name = \"d{stage}\"
-kind = \"delay\"
-length = 9
-cost = {other}
-
-[[link]]
-from = \"g{stage}\"
-to = \"z{stage}:0\"
-
-[[link]]
-from = \"d{stage}\"
-to = \"z{stage}:1\"
-"
-    )
-}
-
-/// Adds an input and an output that move `block` samples a firing, and the actors that change the rate.
-fn push_ends(text: &mut String, block: u32) -> Result<(), AllocError> {
-    write!(
-        text,
-        "
-[[actor]]
-name = \"in\"
-kind = \"input\"
-channel = 0
-block = {block}
-
-[[actor]]
-name = \"up\"
-kind = \"interpolate\"
-factor = {FACTOR}
-
-[[actor]]
-name = \"down\"
-kind = \"decimate\"
-factor = {FACTOR}
-
-[[actor]]
-name = \"out\"
-kind = \"output\"
-channel = 0
-block = {block}
-"
-    )
-}
-
-/// Adds the link from a stage to the next one, or to the end.
-fn push_next(text: &mut String, stage: u32) -> Result<(), AllocError> {
-    write!(text, "\n[[link]]\nfrom = \"z{stage}\"\n")?;
-    let next = stage.saturating_add(1);
-    if next < WIDE + SPLIT {
-        write!(text, "to = \"a{next}\"\n")
-    } else {
-        text.push_str("to = \"down\"\n")
-    }
-}
-
-/// Returns a graph of stages in random order, between an input and an output that move `block` samples a firing.
-fn staged(alloc: Global, numbers: &mut Numbers, block: u32) -> Result<String, AllocError> {
-    let mut graph = GraphText::new(alloc)?;
-    push_ends(&mut graph.text, block)?;
-    graph.link("in", "up")?;
-    graph.link("up", "a0")?;
-    graph.link("down", "out")?;
-    let mut wide = WIDE;
-    for stage in 0..WIDE + SPLIT {
-        let left = (WIDE + SPLIT).saturating_sub(stage);
-        if numbers.between(1, left) <= wide {
-            push_wide(&mut graph.text, numbers, stage)?;
-            wide = wide.saturating_sub(1);
-        } else {
-            push_split(&mut graph.text, numbers, stage)?;
+impl Input {
+    /// Returns the design.
+    fn design(self, alloc: Global, numbers: &mut Numbers) -> Result<Design> {
+        match self {
+            Input::Staged { firings } => staged(alloc, numbers, firings),
+            Input::Converter { attenuation } => converter(alloc, attenuation),
         }
-        push_next(&mut graph.text, stage)?;
     }
-    Ok(graph.text)
 }
 
-/// Returns a design of stages whose period has about `firings` firings.
-fn staged_design(alloc: Global, numbers: &mut Numbers, firings: u32) -> Result<Design> {
-    let graph = staged(alloc, numbers, (firings / FIRINGS).max(1))?;
-    Ok(read_design(alloc, graph.as_bytes(), &[])?)
+fn staged(alloc: Global, numbers: &mut Numbers, firings: u32) -> Result<Design> {
+    let text = Graph::Staged { firings }.text(alloc, numbers)?;
+    Ok(read_design(alloc, text.as_bytes(), &[])?)
+}
+
+fn converter(alloc: Global, attenuation: u32) -> Result<Design> {
+    let texts = converter_texts(alloc, 44_100, 48_000, 1, attenuation)?;
+    converter_design(alloc, &texts)
 }
 
 /// What is printed of a schedule.
@@ -188,19 +51,23 @@ enum Report {
     Json,
     Analysis,
     Comparison,
+    /// A comparison of blocks of several periods.
+    Blocks,
     Picture,
 }
 
 impl Report {
     /// Returns the text of a report on the schedule that `options` give a design.
     fn text(self, alloc: Global, design: &Design, options: &Options) -> Result<String> {
-        Ok(match self {
-            Report::Schedule => schedule(alloc, design, options)?,
-            Report::Json => schedule_json(alloc, design, options)?,
-            Report::Analysis => analyze(alloc, design, options)?,
-            Report::Comparison => compare(alloc, design, &widest(options))?,
-            Report::Picture => svg(alloc, design, options)?,
-        })
+        let text = match self {
+            Report::Schedule => schedule(alloc, design, options),
+            Report::Json => schedule_json(alloc, design, options),
+            Report::Analysis => analyze(alloc, design, options),
+            Report::Comparison => compare(alloc, design, &widest(options)),
+            Report::Blocks => compare(alloc, design, &in_blocks(options)),
+            Report::Picture => svg(alloc, design, options),
+        };
+        Ok(text?)
     }
 }
 
@@ -211,6 +78,17 @@ fn widest(options: &Options) -> Options
     Options {
         workers: 16,
         blocking: 1,
+        ..*options
+    }
+}
+
+/// Returns the options with 4 workers and blocks of 4 periods.
+fn in_blocks(options: &Options) -> Options
+    ensures { AreSizes result }
+{
+    Options {
+        workers: 4,
+        blocking: 4,
         ..*options
     }
 }
@@ -293,46 +171,55 @@ const QUESTIONS: [Question; 8] = [
     },
 ];
 
-/// Prints a digest of each report, on a new design whose period has about `firings` firings.
+impl Question {
+    /// Returns the options of the schedule.
+    fn options(&self) -> Options {
+        Options {
+            workers: self.workers,
+            policy: self.policy,
+            placement: self.placement,
+            ..Options::DEFAULT
+        }
+    }
+}
+
+const CONVERTED: Question = Question {
+    name: "comparison of a converter",
+    report: Report::Blocks,
+    policy: Policy::Round,
+    placement: Placement::Homed,
+    workers: 4,
+    part: 1,
+};
+
+/// Prints a digest of each report, on new designs whose periods have about `firings` firings, and on a converter.
 pub(crate) fn print_reports<R: AllocGlobal + Print>(
     rt: &R,
     numbers: &mut Numbers,
     firings: u32,
 ) -> Result<()> {
-    let alloc = rt.alloc();
     for question in &QUESTIONS {
-        let design = staged_design(
-            alloc,
-            numbers,
-            firings.checked_div(question.part).unwrap_or(0),
-        )?;
-        let options = Options {
-            workers: question.workers,
-            policy: question.policy,
-            placement: question.placement,
-            ..Options::DEFAULT
-        };
-        let text = question.report.text(alloc, &design, &options)?;
-        show(rt, question.name, text.as_bytes())?;
+        let firings = firings.checked_div(question.part).unwrap_or(0);
+        print_report(rt, numbers, question, Input::Staged { firings })?;
     }
-    compare_converter(rt, numbers)
+    let attenuation = numbers.between(60, 100);
+    print_report(rt, numbers, &CONVERTED, Input::Converter { attenuation })
 }
 
-/// Compares the schedules of a converter between two common rates, in blocks of several periods.
-fn compare_converter<R: AllocGlobal + Print>(rt: &R, numbers: &mut Numbers) -> Result<()> {
-    let alloc = rt.alloc();
-    let attenuation = numbers.between(60, 100);
-    let texts = converter_texts(alloc, 44_100, 48_000, 1, attenuation)?;
-    let mut files = Vec::new(alloc);
-    for file in texts.files {
-        files.push((file.name, Vec::from_slice(alloc, file.text.as_bytes())?))?;
-    }
-    let design = read_design(alloc, texts.graph.as_bytes(), &files)?;
-    let options = Options {
-        workers: 4,
-        blocking: 4,
-        ..Options::DEFAULT
-    };
-    let text = compare(alloc, &design, &options)?;
-    Ok(show(rt, "comparison of a converter", text.as_bytes())?)
+/// Prints a digest of a report on a new design.
+fn print_report<R: AllocGlobal + Print>(
+    rt: &R,
+    numbers: &mut Numbers,
+    question: &Question,
+    input: Input,
+) -> Result<()> {
+    let design = input.design(rt.alloc(), numbers)?;
+    answer(rt, question, &design)
+}
+
+/// Prints a digest of a report on a design.
+fn answer<R: AllocGlobal + Print>(rt: &R, question: &Question, design: &Design) -> Result<()> {
+    let options = question.options();
+    let text = question.report.text(rt.alloc(), design, &options)?;
+    Ok(show(rt, question.name, text.as_bytes())?)
 }

@@ -6,12 +6,12 @@ use std::io;
 
 /// A seeded sequence of numbers.
 #[derive(Drop)]
-pub(crate) struct Numbers {
+pub struct Numbers {
     source: SplitMix64,
 }
 
 impl Numbers {
-    pub(crate) fn new(seed: u32) -> Numbers {
+    pub fn new(seed: u32) -> Numbers {
         Numbers {
             source: SplitMix64::seed_from_u64(u64::from(seed)),
         }
@@ -29,7 +29,7 @@ impl Numbers {
     }
 
     /// Returns a number from `least` to `most`.
-    pub(crate) fn between(&mut self, least: u32, most: u32) -> u32 {
+    pub fn between(&mut self, least: u32, most: u32) -> u32 {
         let more = most.saturating_sub(least).saturating_add(1);
         least.saturating_add(self.below(more))
     }
@@ -60,7 +60,7 @@ fn mixed(digest: u64, word: u64) -> u64 {
 }
 
 /// Prints the length and the digest of a result.
-pub(crate) fn show(rt: &impl Print, name: &str, bytes: &[u8]) -> io::Result<()> {
+pub fn show(rt: &impl Print, name: &str, bytes: &[u8]) -> io::Result<()> {
     let (len, digest) = (bytes.len(), digest(bytes));
     println!(rt; "{name}: {len} bytes, {digest:016x}")
 }

@@ -8,14 +8,14 @@ const RATE: u32 = 44_100;
 
 /// The length of a sound.
 #[derive(Clone, Copy)]
-pub(crate) enum Length {
+pub enum Length {
     Seconds(u32),
     Frames(u32),
 }
 
 impl Length {
     /// Returns the length in frames.
-    pub(crate) fn frames(self) -> u32 {
+    fn frames(self) -> u32 {
         match self {
             Length::Seconds(seconds) => seconds.saturating_mul(RATE),
             Length::Frames(frames) => frames,
@@ -23,14 +23,14 @@ impl Length {
     }
 
     /// Returns the length divided by `parts`.
-    pub(crate) fn part(self, parts: u32) -> Length {
+    pub fn part(self, parts: u32) -> Length {
         Length::Frames(self.frames().checked_div(parts).unwrap_or(0))
     }
 }
 
 /// The level of noise.
 #[derive(Clone, Copy)]
-pub(crate) enum Level {
+pub enum Level {
     /// Uniform over all 16-bit values.
     Full,
     /// 6 dB below that.
@@ -39,10 +39,10 @@ pub(crate) enum Level {
 
 /// White noise of 16 bits.
 #[derive(Clone, Copy)]
-pub(crate) struct Noise {
-    pub(crate) length: Length,
-    pub(crate) channels: u16,
-    pub(crate) level: Level,
+pub struct Noise {
+    pub length: Length,
+    pub channels: u16,
+    pub level: Level,
 }
 
 impl Noise {
@@ -55,33 +55,50 @@ impl Noise {
         samples.saturating_mul(2)
     }
 
-    /// Adds the header of its WAV file.
-    fn push_header(self, file: &mut Vec<u8>) -> Result<(), AllocError> {
-        let frame = self.channels.saturating_mul(2);
-        file.extend_from_slice(b"RIFF")?;
-        file.extend_from_slice(&self.data().saturating_add(36).to_le_bytes())?;
-        file.extend_from_slice(b"WAVEfmt \x10\0\0\0\x01\0")?;
-        file.extend_from_slice(&self.channels.to_le_bytes())?;
-        file.extend_from_slice(&RATE.to_le_bytes())?;
-        file.extend_from_slice(&RATE.saturating_mul(u32::from(frame)).to_le_bytes())?;
-        file.extend_from_slice(&frame.to_le_bytes())?;
-        file.extend_from_slice(b"\x10\0data")?;
-        file.extend_from_slice(&self.data().to_le_bytes())
+    /// Returns the header of its WAV file, as words of 32 bits, least byte first.
+    fn header(self) -> [u32; 11] {
+        let (data, channels) = (self.data(), u32::from(self.channels));
+        let frame = channels.saturating_mul(2);
+        [
+            u32::from_le_bytes(*b"RIFF"),
+            data.saturating_add(36),
+            u32::from_le_bytes(*b"WAVE"),
+            u32::from_le_bytes(*b"fmt "),
+            16,
+            channels << 16 | 1,
+            RATE,
+            RATE.saturating_mul(frame),
+            16 << 16 | frame,
+            u32::from_le_bytes(*b"data"),
+            data,
+        ]
     }
 
     /// Returns its WAV file.
-    pub(crate) fn file(self, alloc: Global, numbers: &mut Numbers) -> Result<Vec<u8>, AllocError> {
-        let data = self.data() as usize;
-        let mut file = Vec::with_capacity(alloc, data.saturating_add(64))?;
+    pub fn file(self, alloc: Global, numbers: &mut Numbers) -> Result<Vec<u8>, AllocError> {
+        let room = (self.data() as usize).saturating_add(64);
+        let mut file = Vec::with_capacity(alloc, room)?;
         self.push_header(&mut file)?;
+        self.push_samples(&mut file, numbers)?;
+        Ok(file)
+    }
+
+    /// Adds its header.
+    fn push_header(self, file: &mut Vec<u8>) -> Result<(), AllocError> {
+        for word in &self.header() {
+            file.extend_from_slice(&word.to_le_bytes())?;
+        }
+        Ok(())
+    }
+
+    /// Adds its samples.
+    fn push_samples(self, file: &mut Vec<u8>, numbers: &mut Numbers) -> Result<(), AllocError> {
+        let data = self.data() as usize;
         for _ in 0..data / 8 {
             file.extend_from_slice(&self.levelled(numbers.word()).to_le_bytes())?;
         }
         let last = self.levelled(numbers.word()).to_le_bytes();
-        for place in 0..data % 8 {
-            file.push(last[place])?;
-        }
-        Ok(file)
+        file.extend_from_slice(&last[..data % 8])
     }
 
     /// Scales the four samples of a word to the noise's level.
