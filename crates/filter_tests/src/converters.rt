@@ -42,6 +42,40 @@ fn wrong_conversions(alloc: Global) -> Result<String, Fail> {
     Ok(wrong)
 }
 
+/// The stages of a conversion, as its graph file has them, and how many dB are asked for in the files of their taps.
+fn stages(alloc: Global, from: u32, to: u32, attenuation: u32) -> Result<String, Fail> {
+    let texts = converter_texts(alloc, from, to, 1, attenuation)?;
+    let mut text = String::new(alloc);
+    for line in texts.graph.as_str().lines() {
+        if line.starts_with("up = ") || line.starts_with("down = ") {
+            write!(text, "{line} ")?;
+        }
+    }
+    let asked = format!(in alloc; " Hz, {attenuation} dB\n")?;
+    for file in &texts.files {
+        let is_asked = file.text.as_str().contains(asked.as_str());
+        write!(text, "{is_asked} ")?;
+    }
+    Ok(text)
+}
+
+/// Refuses the stages and the taps of another attenuation.
+#[test]
+fn stages_by_attenuation(rt: HostRuntime) -> Result<(), Fail> {
+    says(
+        stages(rt.alloc(), 44_100, 8000, 96),
+        "up = 20 down = 63 up = 4 down = 7 true true ",
+    )?;
+    says(
+        stages(rt.alloc(), 44_100, 8000, 120),
+        "up = 16 down = 49 up = 5 down = 9 true true ",
+    )?;
+    says(
+        stages(rt.alloc(), 8000, 22_050, 150),
+        "up = 7 down = 5 up = 21 down = 16 up = 3 down = 2 true true true ",
+    )
+}
+
 /// How many actors and links a design of so many channels has.
 fn size(alloc: Global, channels: u32) -> Result<String, Fail> {
     let texts = converter_texts(alloc, 48_000, 44_100, channels, 96)?;

@@ -16,6 +16,15 @@ const HIGH: Band = Band::High {
     pass: 2500,
 };
 
+/// The low-pass at 8000 Hz.
+const LOW_PASS: Wanted = Wanted {
+    rate: 8000,
+    band: LOW,
+    attenuation: 40,
+    up: 1,
+    shift: 15,
+};
+
 /// A filter at 8000 Hz.
 fn wanted(band: Band, up: u32) -> Wanted {
     Wanted {
@@ -107,6 +116,91 @@ const PRINTED: &[(Band, u32, &str)] = &[
 fn filters(rt: HostRuntime) -> Result<(), Fail> {
     for (band, up, text) in PRINTED {
         says(printed(rt.alloc(), wanted(*band, *up)), text)?;
+    }
+    Ok(())
+}
+
+/// Filters, and the lines of what their taps do: a band-pass with the steeper slope above and one with it below, which
+/// have as many taps as the steeper slope asks for; low-passes of 12 and 16 phases; and low-passes of 110 and 150 dB.
+const TOLD: &[(Wanted, &str)] = &[
+    (
+        Wanted {
+            rate: 8000,
+            band: Band::Middle {
+                low_stop: 200,
+                low_pass: 1200,
+                pass: 2000,
+                stop: 2500,
+            },
+            attenuation: 40,
+            up: 1,
+            shift: 15,
+        },
+        "37 taps: 0.1067 dB of ripple, what is stopped at least 39.2 dB down\n",
+    ),
+    (
+        Wanted {
+            rate: 8000,
+            band: Band::Middle {
+                low_stop: 950,
+                low_pass: 1200,
+                pass: 2000,
+                stop: 3000,
+            },
+            attenuation: 40,
+            up: 1,
+            shift: 15,
+        },
+        "73 taps: 0.0987 dB of ripple, what is stopped at least 41.4 dB down\n",
+    ),
+    (
+        Wanted {
+            rate: 384_000,
+            band: Band::Low {
+                pass: 5000,
+                stop: 12_000,
+            },
+            attenuation: 40,
+            up: 12,
+            shift: 14,
+        },
+        "132 taps: 0.0700 dB of ripple, what is stopped at least 41.4 dB down\n",
+    ),
+    (
+        Wanted {
+            rate: 384_000,
+            band: Band::Low {
+                pass: 5000,
+                stop: 12_000,
+            },
+            attenuation: 40,
+            up: 16,
+            shift: 15,
+        },
+        "128 taps: 0.0577 dB of ripple, what is stopped at least 42.2 dB down\n",
+    ),
+    (
+        Wanted {
+            attenuation: 110,
+            ..LOW_PASS
+        },
+        "39 taps: 0.0010 dB of ripple, what is stopped at least 78.0 dB down\n",
+    ),
+    (
+        Wanted {
+            attenuation: 150,
+            ..LOW_PASS
+        },
+        "54 taps: 0.0010 dB of ripple, what is stopped at least 74.3 dB down\n",
+    ),
+];
+
+/// Refuses a band-pass with the taps of its wider slope, a filter of eight phases in place of more, and a window of
+/// 96 dB in place of more.
+#[test]
+fn taps_are_told(rt: HostRuntime) -> Result<(), Fail> {
+    for (wanted, told) in TOLD {
+        says(Ok(filter_texts(rt.alloc(), *wanted)?.told), told)?;
     }
     Ok(())
 }

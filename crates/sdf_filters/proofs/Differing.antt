@@ -1,14 +1,16 @@
 -- What differences of taps come to.
-use Rattle.std.proofs.Common.{◌≡◌, ℕ, zero, suc, ◌+◌, ◌<◌, ◌≤◌, ◌/◌, ◌^◌, ◌⊎◌, inl, inr, ℤ, pos, ◌+ℤ◌, ◌-ℤ◌, List}
+use Rattle.std.proofs.Common.{◌≡◌, ℕ, zero, suc, ◌+◌, ◌-◌, ◌<◌, ◌≤◌, ◌/◌, ◌%◌, ◌^◌, ◌⊎◌, inl, inr, ℤ, pos, ◌+ℤ◌, ◌-ℤ◌}
+use Rattle.std.proofs.Common.{List}
 use Rattle.std.proofs.Common.{length, set, replicate, [], ◌∷◌, ◌++◌, FitsSigned, refl, sym, ap, subst, ◌∙◌, arith}
 use Rattle.std.proofs.lemmas.Int.{ints}
 use Rattle.std.proofs.lemmas.Bool.{cases_eq}
 use Rattle.std.specs.Int.{w16}
 use Rattle.std.proofs.lemmas.Bool.Decides.{nat_tests}
-use Rattle.std.proofs.lemmas.List.{length-set, length-replicate, get_or-replicate, get_or_push, get_or_append_left}
+use Rattle.std.proofs.lemmas.List.{length-set, length-replicate, get_or-set_other, get_or-replicate, get_or_push}
+use Rattle.std.proofs.lemmas.List.{get_or_append_left}
 use Rattle.std.proofs.lemmas.List.{length_push}
 use Rattle.std.proofs.Math.Nat.{mod-one}
-use Rattle.sdf_filters.specs.Phases.{tap, counted, sum_before, phase_sum}
+use Rattle.sdf_filters.specs.Phases.{tap, counted, sum_before, phase_sum, IsSymmetric}
 use Rattle.sdf_filters.specs.Asked.{Asked}
 use Rattle.sdf_filters.specs.Lowpass.{AreLowpassTaps}
 use Rattle.sdf_filters.specs.Differences.{IsDifference, AreDifferences, AreHighpassTaps, AreBandpassTaps, impulse}
@@ -116,6 +118,37 @@ all_differences a b xs i long within over each = record {
   small = λ n below. (each n (omega arith)).1;
 }
 
+impulse_long : (count : ℕ) (height : ℤ) → length (impulse count height) ≡ count
+impulse_long count height =
+    length-set (replicate count (pos 0)) (count / 2) height ∙ length-replicate count (pos 0)
+
+-- the middle of an odd number of places is its own mirror image
+impulse_symmetric : (count : ℕ) (height : ℤ) → count % 2 ≡ 1 → IsSymmetric (impulse count height)
+impulse_symmetric count height odd n known =
+    ap (λ l. tap (impulse count height) (l - 1 - n)) (impulse_long count height)
+    ∙ go (omega (arith, impulse_long count height)) (cases_eq n (count / 2))
+  where
+    away : (k : ℕ) → k < count → (k ≡ count / 2 → ⊥) → tap (impulse count height) k ≡ pos 0
+    away k below other = get_or-set_other (replicate count (pos 0)) (count / 2) k height (pos 0) other
+        ∙ get_or-replicate count k (pos 0) (pos 0) below
+
+    go : n < count → (n ≡ count / 2) ⊎ (n ≡ count / 2 → ⊥) →
+        tap (impulse count height) (count - 1 - n) ≡ tap (impulse count height) n
+    go below (inl e) = ap (tap (impulse count height)) (omega (arith, e, odd))
+    go below (inr other) = away (count - 1 - n) (omega arith) (λ e. other (omega (arith, e, odd)))
+        ∙ sym (away n below other)
+
+-- differences of symmetric taps are symmetric
+differences_symmetric : (a b d : List ℤ) → length b ≡ length a → AreDifferences a b d → IsSymmetric a → IsSymmetric b →
+    IsSymmetric d
+differences_symmetric a b d same are first second n known =
+    let below : n < length a = omega (arith, are.all) in
+    ap (λ l. tap d (l - 1 - n)) are.all
+    ∙ (are.each (length a - 1 - n) (omega arith)
+    ∙ (ap (λ z. z -ℤ tap b (length a - 1 - n)) (first n below)
+    ∙ (ap (λ z. tap a n -ℤ z) (ap (λ l. tap b (l - 1 - n)) (sym same) ∙ second n (omega (arith, same)))
+    ∙ sym (are.each n below))))
+
 -- what the taps of a band-pass are, where a and b are the low-passes' as the code has them
 pub band_taps : (f g : Asked) (count : ℕ) (wide narrow a b h : List ℤ) → a ≡ wide → b ≡ narrow → g.up ≡ f.up →
     g.shift ≡ f.shift → AreLowpassTaps f count wide → AreLowpassTaps g count narrow → AreDifferences a b h →
@@ -137,13 +170,17 @@ band_taps f g count wide narrow a b h is_wide is_narrow same_up same_shift first
           (second.exact phase (omega (arith, same_up)) ∙ ap (λ n. pos (2 ^ n)) same_shift) in
           band_sum wide narrow h f.up phase (pos (2 ^ f.shift)) (second.all ∙ sym first.all)
           (first.exact phase below) sum band;
+      symmetric = λ can. differences_symmetric wide narrow h (second.all ∙ sym first.all) band
+          (first.symmetric can) (second.symmetric (subst (λ (n : ℕ). (n % 2 ≡ 0) ⊎ ((count % 2 ≡ 1) ⊎ (0 < g.shift)))
+          (sym same_up) (subst (λ (n : ℕ). (f.up % 2 ≡ 0) ⊎ ((count % 2 ≡ 1) ⊎ (0 < n))) (sym same_shift) can)));
     }
 
 -- and those of a high-pass
 pub high_taps : (f : Asked) (count : ℕ) (low top a b h : List ℤ) → a ≡ top → b ≡ low →
-    top ≡ impulse count (pos (2 ^ f.shift)) → f.up ≡ 1 → 0 < count → AreLowpassTaps f count low → AreDifferences a b h →
-    AreHighpassTaps f count h
-high_taps f count low top a b h is_top is_low is_impulse one some first are =
+    top ≡ impulse count (pos (2 ^ f.shift)) → f.up ≡ 1 → count % 2 ≡ 1 → AreLowpassTaps f count low →
+    AreDifferences a b h → AreHighpassTaps f count h
+high_taps f count low top a b h is_top is_low is_impulse one odd first are =
+    let some : 0 < count = omega arith in
     let inverse : AreDifferences (impulse count (pos (2 ^ f.shift))) low h =
     subst (λ (v : List ℤ). AreDifferences v low h) (is_top ∙ is_impulse)
     (subst (λ (v : List ℤ). AreDifferences a v h) is_low are) in
@@ -156,4 +193,7 @@ high_taps f count low top a b h is_top is_low is_impulse one some first are =
       low_is = first;
       inverse = inverse;
       none = inverse_sum low h count (pos (2 ^ f.shift)) some first.all sum inverse;
+      symmetric = differences_symmetric (impulse count (pos (2 ^ f.shift))) low h
+          (first.all ∙ sym (impulse_long count (pos (2 ^ f.shift)))) inverse
+          (impulse_symmetric count (pos (2 ^ f.shift)) odd) (first.symmetric (inr (inl odd)));
     }

@@ -1,4 +1,5 @@
 pub mod PhaseSums
+pub mod Mirrored
 pub mod Splits
 pub mod Values
 pub mod Counts

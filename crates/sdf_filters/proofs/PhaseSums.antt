@@ -1,7 +1,7 @@
 -- What the taps of a phase come to where one tap moves.
-use Rattle.std.proofs.Common.{◌≡◌, ℕ, zero, suc, ◌+◌, ◌<◌, ◌≤◌, ◌%◌, ◌⊎◌, inl, inr, Bool, true, false}
+use Rattle.std.proofs.Common.{◌≡◌, ℕ, zero, suc, ◌+◌, ◌*◌, ◌<◌, ◌≤◌, ◌%◌, ◌⊎◌, inl, inr, Bool, true, false}
 use Rattle.std.proofs.Common.{ℤ, pos, negsuc, ◌+ℤ◌, ◌-ℤ◌, unsigned_abs, FitsSigned, List, length, set, refl}
-use Rattle.std.proofs.Common.{sym, ap, ◌∙◌, arith}
+use Rattle.std.proofs.Common.{sym, ap, ◌∙◌, subst, arith}
 use Rattle.std.specs.Prelude.{int_lt}
 use Rattle.std.specs.Int.{w16}
 use Rattle.std.proofs.lemmas.Int.{ints}
@@ -9,6 +9,7 @@ use Rattle.std.proofs.lemmas.Bool.{cases_eq}
 use Rattle.std.proofs.lemmas.Bool.Decides.{nat_tests}
 use Rattle.std.proofs.lemmas.List.{length-set, get_or-set_same, get_or-set_other}
 use Rattle.sdf_filters.specs.Phases.{tap, counted, sum_before, phase_sum, steps, has_16_bits, AreMoved}
+use Rattle.sdf_filters.specs.Phases.{IsSumMoved}
 
 -- a loop's start and step
 pub sum_before-zero : (h : List ℤ) (up phase : ℕ) → sum_before h up phase zero ≡ pos 0
@@ -20,10 +21,10 @@ pub sum_before_more : (h : List ℤ) (up phase n : ℕ) →
 unfolding sum_before
 sum_before_more h up phase n = let e : n + 1 ≡ suc n = omega arith in rw e refl
 
-counted_other : (up phase n : ℕ) (x y : ℤ) → (n % up ≡ phase → ⊥) → counted up phase n x ≡ counted up phase n y
+pub counted_other : (up phase n : ℕ) (x y : ℤ) → (n % up ≡ phase → ⊥) → counted up phase n x ≡ counted up phase n y
 counted_other up phase n x y other = grind (arith, nat_tests)
 
-counted_here : (up phase n : ℕ) (x : ℤ) → n % up ≡ phase → counted up phase n x ≡ x
+pub counted_here : (up phase n : ℕ) (x : ℤ) → n % up ≡ phase → counted up phase n x ≡ x
 counted_here up phase n x here = grind (arith, nat_tests)
 
 -- a tap at a later place
@@ -89,33 +90,67 @@ pub moved_elsewhere : (h : List ℤ) (up phase k : ℕ) (x : ℤ) → (k % up �
 moved_elsewhere h up phase k x other =
     ap (sum_before (set h k x) up phase) (length-set h k x) ∙ elsewhere h up phase k x (length h) other
 
--- no step, one, and some after others
-pub moved_none : (up phase : ℕ) (rise : Bool) (h : List ℤ) → AreMoved up phase rise 0 h h
-moved_none up phase rise h = record { sum = sym (steps_none rise (phase_sum h up phase)); others = λ q other. refl }
-  where
-    steps_none : (rise : Bool) (s : ℤ) → s +ℤ steps rise 0 ≡ s
-    steps_none true s = omega (arith, ints)
-    steps_none false s = omega (arith, ints)
+pub steps_none : (rise : Bool) (s : ℤ) → s +ℤ steps rise 0 ≡ s
+steps_none true s = omega (arith, ints)
+steps_none false s = omega (arith, ints)
 
-pub moved_once : (up phase : ℕ) (rise : Bool) (h g : List ℤ) (k : ℕ) → k < length h → k % up ≡ phase →
-    g ≡ set h k (tap h k +ℤ steps rise 1) → AreMoved up phase rise 1 h g
-moved_once up phase rise h g k within is e = record {
-  sum = ap (λ t. phase_sum t up phase) e ∙ moved_here h up phase k (steps rise 1) within is;
-  others = λ q other. ap (λ t. phase_sum t up q) e
-      ∙ moved_elsewhere h up q k (tap h k +ℤ steps rise 1) (λ same. other (sym same ∙ is));
+pub steps_more : (rise : Bool) (s : ℤ) (m n : ℕ) → (s +ℤ steps rise m) +ℤ steps rise n ≡ s +ℤ steps rise (m + n)
+steps_more true s m n = omega (arith, ints)
+steps_more false s m n = omega (arith, ints)
+
+-- no step, and some after others
+pub moved_none : (up phase : ℕ) (rise : Bool) (h : List ℤ) → AreMoved up phase rise 0 h h
+moved_none up phase rise h = record {
+  all = refl;
+  sum = sym (steps_none rise (phase_sum h up phase));
+  others = λ q other apart. refl;
+  symmetric = λ s. s;
 }
 
 pub moved_more : (up phase : ℕ) (rise : Bool) (m n all : ℕ) → m + n ≡ all → (f g h : List ℤ) →
     AreMoved up phase rise m f g → AreMoved up phase rise n g h → AreMoved up phase rise all f h
 moved_more up phase rise m n all e f g h before after = record {
+  all = after.all ∙ before.all;
   sum = after.sum ∙ (ap (λ z. z +ℤ steps rise n) before.sum
-      ∙ (steps_more rise (phase_sum f up phase) ∙ ap (λ k. phase_sum f up phase +ℤ steps rise k) e));
+      ∙ (steps_more rise (phase_sum f up phase) m n ∙ ap (λ k. phase_sum f up phase +ℤ steps rise k) e));
+  others = λ q other apart. after.others q other apart ∙ before.others q other apart;
+  symmetric = λ s. after.symmetric (before.symmetric s);
+}
+
+-- a loop of steps with one weight: none, and one more
+pub moved_start : (up phase w : ℕ) (rise : Bool) (h : List ℤ) → AreMoved up phase rise (w * 0) h h
+moved_start up phase w rise h =
+    let e : 0 ≡ w * 0 = omega arith in subst (λ n. AreMoved up phase rise n h h) e (moved_none up phase rise h)
+
+pub moved_step : (up phase w : ℕ) (rise : Bool) (n : ℕ) (f g h : List ℤ) → AreMoved up phase rise (w * n) f g →
+    AreMoved up phase rise w g h → AreMoved up phase rise (w * (n + 1)) f h
+moved_step up phase w rise n f g h before after =
+    moved_more up phase rise (w * n) w (w * (n + 1)) (omega arith) f g h before after
+
+-- of one tap alone
+pub one_moved : (up phase : ℕ) (rise : Bool) (h g : List ℤ) (k : ℕ) → k < length h → k % up ≡ phase →
+    g ≡ set h k (tap h k +ℤ steps rise 1) → IsSumMoved up phase rise 1 h g
+one_moved up phase rise h g k within is e = record {
+  sum = ap (λ t. phase_sum t up phase) e ∙ moved_here h up phase k (steps rise 1) within is;
+  others = λ q other. ap (λ t. phase_sum t up q) e
+      ∙ moved_elsewhere h up q k (tap h k +ℤ steps rise 1) (λ same. other (sym same ∙ is));
+}
+
+-- in the phase around the middle no other sum has changed
+pub sum_moved : (up phase : ℕ) (rise : Bool) (times : ℕ) (h g : List ℤ) → 2 * phase + 1 ≡ up →
+    AreMoved up phase rise times h g → IsSumMoved up phase rise times h g
+sum_moved up phase rise times h g middle moved = record {
+  sum = moved.sum;
+  others = λ q other. moved.others q other (λ e. other (omega arith));
+}
+
+pub sum_moved_more : (up phase : ℕ) (rise : Bool) (m n all : ℕ) → m + n ≡ all → (f g h : List ℤ) →
+    IsSumMoved up phase rise m f g → IsSumMoved up phase rise n g h → IsSumMoved up phase rise all f h
+sum_moved_more up phase rise m n all e f g h before after = record {
+  sum = after.sum ∙ (ap (λ z. z +ℤ steps rise n) before.sum
+      ∙ (steps_more rise (phase_sum f up phase) m n ∙ ap (λ k. phase_sum f up phase +ℤ steps rise k) e));
   others = λ q other. after.others q other ∙ before.others q other;
 }
-  where
-    steps_more : (rise : Bool) (s : ℤ) → (s +ℤ steps rise m) +ℤ steps rise n ≡ s +ℤ steps rise (m + n)
-    steps_more true s = omega (arith, ints)
-    steps_more false s = omega (arith, ints)
 
 -- as many steps as lack lead to the total
 pub steps_reach : (rise : Bool) (s total : ℤ) → int_lt s total ≡ rise →
@@ -139,13 +174,3 @@ fits_16 (negsuc n) e = let l : n < 32768 = grind (arith, nat_tests) in record { 
 pub past_16 : (z : ℤ) → has_16_bits z ≡ false → 32768 ≤ unsigned_abs z
 past_16 (pos n) e = let l : 32768 ≤ n = grind (arith, nat_tests) in l
 past_16 (negsuc n) e = let l : 32768 ≤ n = grind (arith, nat_tests) in omega arith
-
--- the sum of one phase more is the total
-pub one_phase_more : (h g : List ℤ) (up phase : ℕ) (total : ℤ) → phase_sum g up phase ≡ total →
-    ((q : ℕ) → (q ≡ phase → ⊥) → phase_sum g up q ≡ phase_sum h up q) →
-    ((q : ℕ) → q < phase → phase_sum h up q ≡ total) → (q : ℕ) → q < phase + 1 → phase_sum g up q ≡ total
-one_phase_more h g up phase total exact others before q below = go (cases_eq q phase)
-  where
-    go : (q ≡ phase) ⊎ (q ≡ phase → ⊥) → phase_sum g up q ≡ total
-    go (inl e) = ap (phase_sum g up) e ∙ exact
-    go (inr ne) = others q ne ∙ before q (omega arith)

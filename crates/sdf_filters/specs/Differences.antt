@@ -2,8 +2,8 @@
 use Rattle.std.specs.Prelude.{◌≡◌, ℕ, ◌<◌, ◌/◌, ◌^◌, ℤ, pos, ◌-ℤ◌, FitsSigned, List, length, replicate, slice_set}
 use Rattle.std.specs.Int.{w16}
 use Rattle.sdf_filters.specs.Asked.{Asked}
-use Rattle.sdf_filters.specs.Phases.{tap, phase_sum, Have16Bits}
-use Rattle.sdf_filters.specs.Lowpass.{AreLowpassTaps}
+use Rattle.sdf_filters.specs.Phases.{tap, phase_sum, Have16Bits, IsSymmetric}
+use Rattle.sdf_filters.specs.Lowpass.{AreLowpassTaps, CanBeSymmetric}
 
 pub record IsDifference (from tap left : ℤ) : Type 0 where
   pub is : left ≡ from -ℤ tap
@@ -26,6 +26,7 @@ pub record AreHighpassTaps (f : Asked) (count : ℕ) (h : List ℤ) : Type 0 whe
   pub low_is : AreLowpassTaps f count low
   pub inverse : AreDifferences (impulse count (pos (2 ^ f.shift))) low h
   pub none : phase_sum h 1 0 ≡ pos 0
+  pub symmetric : IsSymmetric h
 
 -- a band-pass: the taps of one low-pass less those of another, each phase's of which come to 0
 pub record AreBandpassTaps (f g : Asked) (count : ℕ) (h : List ℤ) : Type 0 where
@@ -36,3 +37,4 @@ pub record AreBandpassTaps (f g : Asked) (count : ℕ) (h : List ℤ) : Type 0 w
   pub narrow_is : AreLowpassTaps g count narrow
   pub band : AreDifferences wide narrow h
   pub none : (phase : ℕ) → phase < f.up → phase_sum h f.up phase ≡ pos 0
+  pub symmetric : CanBeSymmetric f count → IsSymmetric h

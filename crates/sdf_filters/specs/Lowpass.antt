@@ -1,5 +1,6 @@
 -- What a low-pass may be asked for, and what its taps are.
-use Rattle.std.specs.Prelude.{◌≡◌, ℕ, ◌<◌, ◌≤◌, ◌*◌, ◌%◌, ◌^◌, Bool, true, false, ◌&&◌, nat_lt, nat_le, ℤ, pos, List}
+use Rattle.std.specs.Prelude.{◌≡◌, ℕ, ◌<◌, ◌≤◌, ◌*◌, ◌%◌, ◌^◌, ◌⊎◌, Bool, true, false, ◌&&◌, nat_lt, nat_le, ℤ, pos}
+use Rattle.std.specs.Prelude.{List}
 use Rattle.std.specs.Prelude.{length, Result, Ok, Err}
 use Rattle.sdf_limits.specs.declared.TheConstants.{MOST_FACTOR, MOST_SHIFT, MOST_TAPS}
 use Rattle.sdf_filters.specs.declared.lowpass.TheConstants.{MOST_ATTENUATION}
@@ -8,7 +9,7 @@ use Rattle.sdf_filters.specs.declared.fault.FilterFault.TheVariants.{OutOfMemory
 use Rattle.sdf_filters.specs.declared.fault.FilterFault.TheVariants.{PassNotBelowStop, StopOverHalf, TooManyTaps}
 use Rattle.sdf_filters.specs.declared.fault.FilterFault.TheVariants.{TapTooLarge}
 use Rattle.sdf_filters.specs.Asked.{Asked}
-use Rattle.sdf_filters.specs.Phases.{phase_sum, Have16Bits}
+use Rattle.sdf_filters.specs.Phases.{phase_sum, Have16Bits, IsSymmetric}
 
 -- the fault of a test that fails, else what the later tests give
 abbrev pub tested : {X : Type 0} → Bool → FilterFault → Result X FilterFault → Result X FilterFault
@@ -34,11 +35,16 @@ pub record IsCount (up count : ℕ) : Type 0 where
   pub few : count ≤ MOST_TAPS
   pub whole : count % up ≡ 0
 
--- so many taps of 16 bits, each phase's with the sum 2^shift
+-- So many taps can be symmetric: no phase is its own mirror image, one tap stands in the middle, or each sum is even.
+abbrev pub CanBeSymmetric : Asked → ℕ → Type 0
+CanBeSymmetric f count = (f.up % 2 ≡ 0) ⊎ ((count % 2 ≡ 1) ⊎ (0 < f.shift))
+
+-- so many taps of 16 bits, each phase's with the sum 2^shift, of linear phase where they can be
 pub record AreLowpassTaps (f : Asked) (count : ℕ) (h : List ℤ) : Type 0 where
   pub all : length h ≡ count
   pub small : Have16Bits h
   pub exact : (phase : ℕ) → phase < f.up → phase_sum h f.up phase ≡ pos (2 ^ f.shift)
+  pub symmetric : CanBeSymmetric f count → IsSymmetric h
 
 -- the only fault of a number of taps
 abbrev pub IsCountFault : FilterFault → Type 0

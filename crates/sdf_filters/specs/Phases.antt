@@ -1,5 +1,6 @@
 -- The taps of a phase, and what they come to.
-use Rattle.std.specs.Prelude.{◌≡◌, ℕ, zero, suc, ◌<◌, ◌%◌, ◌==◌, cond, Bool, true, false, nat_lt, ℤ, pos, negsuc, ◌+ℤ◌}
+use Rattle.std.specs.Prelude.{◌≡◌, ℕ, zero, suc, ◌+◌, ◌-◌, ◌*◌, ◌<◌, ◌%◌, ◌==◌, if◌then◌else◌, cond, Bool, true}
+use Rattle.std.specs.Prelude.{false, nat_lt, ℤ, pos, negsuc, ◌+ℤ◌}
 use Rattle.std.specs.Prelude.{◌-ℤ◌, FitsSigned, List, length, slice_index_or}
 use Rattle.std.specs.Int.{w16}
 
@@ -25,10 +26,29 @@ abbrev pub steps : Bool → ℕ → ℤ
 steps true n = pos n
 steps false n = pos 0 -ℤ pos n
 
--- so many steps of taps of a phase lead from some taps to others
-pub record AreMoved (up phase : ℕ) (rise : Bool) (times : ℕ) (old new : List ℤ) : Type 0 where
+-- each tap is the one at the same distance on the other side of the middle
+abbrev pub IsSymmetric : List ℤ → Type 0
+IsSymmetric h = (n : ℕ) → n < length h → tap h (length h - 1 - n) ≡ tap h n
+
+-- a number is twice another
+abbrev pub IsEven : ℤ → Type 0
+IsEven z = (half : ℤ) × (z ≡ half +ℤ half)
+
+-- the sum of a phase has changed by so many steps, and no other one
+pub record IsSumMoved (up phase : ℕ) (rise : Bool) (times : ℕ) (old new : List ℤ) : Type 0 where
   pub sum : phase_sum new up phase ≡ phase_sum old up phase +ℤ steps rise times
   pub others : (q : ℕ) → (q ≡ phase → ⊥) → phase_sum new up q ≡ phase_sum old up q
+
+-- by how much the sum of a phase changes where a tap and its mirror image move by one step
+unfoldable pub weight : ℕ → ℕ → ℕ
+weight up phase = if 2 * phase + 1 == up then 2 else 1
+
+-- the sum of a phase has changed by so many steps, and none but that of its mirror image: taps stay symmetric
+pub record AreMoved (up phase : ℕ) (rise : Bool) (times : ℕ) (old new : List ℤ) : Type 0 where
+  pub all : length new ≡ length old
+  pub sum : phase_sum new up phase ≡ phase_sum old up phase +ℤ steps rise times
+  pub others : (q : ℕ) → (q ≡ phase → ⊥) → (q + phase + 1 ≡ up → ⊥) → phase_sum new up q ≡ phase_sum old up q
+  pub symmetric : IsSymmetric old → IsSymmetric new
 
 -- z is one of -32768 .. 32767
 abbrev pub has_16_bits : ℤ → Bool

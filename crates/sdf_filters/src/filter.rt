@@ -121,7 +121,8 @@ fn middle_taps(alloc: Global, wide: &Lowpass, narrow: &Lowpass) -> Result<Vec<i3
 /// The taps of a filter: whole numbers of 16 bits. Those of each phase come to `2^shift` where a constant passes, else
 /// to 0.
 ///
-/// How near the filter comes to what is asked for no clause says.
+/// They are symmetric, so that all frequencies are late by the same time, unless `up` is odd, their number even and
+/// `shift` 0. How near the filter comes to what is asked for no clause says.
 pub fn taps_of(alloc: Global, wanted: Wanted) -> Result<Vec<i32>, FilterFault>
     ensures { MatchResult result (λ taps. AreTaps wanted taps.items) (IsFault wanted) }
 {

@@ -2,12 +2,12 @@
 //! two rates.
 //!
 //! It stands on `sdf_limits` alone. Begin at `wanted`, what one asks for in plain numbers, `filter`, the taps that
-//! come, and `texts`, what is printed of them by `sdfw fir`; they stand on `lowpass`, `phases`, which makes each
-//! phase's sum exact, in the `order` of taps, `differences`, high-passes and band-passes, and `coefficients`, the text
-//! of taps. A conversion is split into stages by `split`, and `converter` makes its design of them for `sdfw resample`,
-//! the graph file by `graph`. `sinc`, `cost` and `measure` compute with floats, of which no clause says anything. The
-//! definitions are in `specs/Wanted.antt`, `specs/Phases.antt` (what the taps of a phase come to), `specs/Stages.antt`
-//! and `specs/Converters.antt`. `rounds` has the one test that calls a private function.
+//! come, and `texts`, what is printed of them by `sdfw fir`; they stand on `lowpass`, `settling`, which makes each
+//! phase's sum exact by the steps of `phases`, in the `order` of taps, `differences`, high-passes and band-passes, and
+//! `coefficients`, the text of taps. A conversion is split into stages by `split`, and `converter` makes its design of
+//! them for `sdfw resample`, the graph file by `graph`. `sinc`, `cost` and `measure` compute with floats, of which no
+//! clause says anything. The definitions are in `specs/Wanted.antt`, `specs/Phases.antt` (what the taps of a phase come
+//! to), `specs/Stages.antt` and `specs/Converters.antt`. `rounds` has the one test that calls a private function.
 #![tactic(auto)]
 
 mod coefficients;
@@ -24,6 +24,7 @@ mod phases;
 mod ratio;
 #[cfg(test)]
 mod rounds;
+mod settling;
 mod sinc;
 mod split;
 mod stage;

@@ -8,7 +8,8 @@ ghost use Rattle.sdf_filters.specs.Differences.{AreHighpassTaps, AreBandpassTaps
 
 use crate::differences::{differences, impulse};
 use crate::fault::{FilterFault, test};
-use crate::phases::{settle, test_16_bits};
+use crate::phases::test_16_bits;
+use crate::settling::settle;
 use crate::sinc::{Sinc, kaiser_length, real_taps, rounded_taps};
 use sdf_limits::{MOST_FACTOR, MOST_SHIFT, MOST_TAPS};
 use std::alloc::Global;

@@ -1,6 +1,6 @@
 //! Which tap of a phase is moved next. No clause says more of it than that it is one of the phase.
 
-ghost use Rattle.std.specs.Prelude.{◌≡◌, ◌<◌, ◌≤◌, ◌/◌, ◌%◌, ◌⊎◌, length};
+ghost use Rattle.std.specs.Prelude.{◌≡◌, ◌<◌, ◌≤◌, ◌+◌, ◌*◌, ◌/◌, ◌%◌, ◌⊎◌, length};
 ghost use Rattle.std.specs.List.{All};
 ghost use Rattle.sdf_filters.specs.declared.order.TheConstants.{NODES};
 
@@ -10,14 +10,13 @@ use sdf_limits::MOST_TAPS;
 /// How many nodes a tree of the taps of a phase has at most, with the taps themselves.
 const NODES: usize = 2 * MOST_TAPS;
 
-/// The taps of a phase, whether they are moved up, and how much later than by its value the middle tap is moved. Each
-/// of them has a turn, counted from 0.
+/// The first taps of a phase, as many as there are turns, counted from 0, and whether they are moved up.
 #[derive(Clone, Copy)]
 pub(crate) struct Way {
     pub(crate) up: usize,
     pub(crate) phase: usize,
+    pub(crate) turns: usize,
     pub(crate) rise: bool,
-    pub(crate) bias: f64,
 }
 
 /// What of a tap says when it is moved: how far it stands beyond its real value in the direction of the step, how far
@@ -34,6 +33,7 @@ pub(crate) fn place_of(count: usize, way: Way, turn: usize) -> usize
     requires phase { way.phase < way.up }
     requires turn { turn < count / way.up }
     ensures within { result < count }
+    ensures is { result ≡ turn * way.up + way.phase }
     ensures of { result % way.up ≡ way.phase }
 {
     turn * way.up + way.phase
@@ -44,13 +44,13 @@ fn rank_of(taps: &[i32], reals: &[f64], way: Way, turn: usize) -> Rank
     requires same { length reals.now ≡ length taps.now }
     requires few { length taps.now ≤ MOST_TAPS }
     requires phase { way.phase < way.up }
-    requires turn { turn < length taps.now / way.up }
+    requires turns { way.turns ≤ length taps.now / way.up }
+    requires turn { turn < way.turns }
     ensures { result.turn ≡ turn }
 {
     let place = place_of(taps.len(), way, turn);
-    let over = beyond(f64::from(taps[place]), reals[place], way.rise);
+    let late = beyond(f64::from(taps[place]), reals[place], way.rise);
     let away = (taps.len() - 1).abs_diff(2 * place);
-    let late = if away == 0 { over + way.bias } else { over };
     Rank { late, away, turn }
 }
 
@@ -72,11 +72,12 @@ pub(crate) fn first_turn(taps: &[i32], reals: &[f64], way: Way) -> usize
     requires same { length reals.now ≡ length taps.now }
     requires few { length taps.now ≤ MOST_TAPS }
     requires phase { way.phase < way.up }
-    requires whole { way.up ≤ length taps.now }
-    ensures { result < length taps.now / way.up }
+    requires turns { way.turns ≤ length taps.now / way.up }
+    requires some { 0 < way.turns }
+    ensures { result < way.turns }
 {
     let mut first = rank_of(taps, reals, way, 0);
-    for turn in 1..taps.len() / way.up {
+    for turn in 1..way.turns {
         first = sooner(rank_of(taps, reals, way, turn), first);
     }
     first.turn
@@ -87,11 +88,12 @@ pub(crate) fn first_turn(taps: &[i32], reals: &[f64], way: Way) -> usize
 pub(crate) fn is_round(taps: &[i32], reals: &[f64], way: Way) -> bool
     requires same { length reals.now ≡ length taps.now }
     requires phase { way.phase < way.up }
+    requires turns { way.turns ≤ length taps.now / way.up }
 {
     let step = if way.rise { 1.0 } else { -1.0 };
     let mut latest = f64::NEG_INFINITY;
     let mut soonest = f64::INFINITY;
-    for turn in 0..taps.len() / way.up {
+    for turn in 0..way.turns {
         let place = place_of(taps.len(), way, turn);
         let tap = f64::from(taps[place]);
         latest = latest.max(beyond(tap, reals[place], way.rise));
@@ -106,9 +108,10 @@ fn meet(tree: &mut [usize], taps: &[i32], reals: &[f64], way: Way, node: usize)
     requires same { length reals.now ≡ length taps.now }
     requires few { length taps.now ≤ MOST_TAPS }
     requires phase { way.phase < way.up }
-    requires node { node < length taps.now / way.up }
-    requires turns { All (λ turn. turn < length taps.now / way.up) tree.old }
-    ensures { All (λ turn. turn < length taps.now / way.up) tree.new }
+    requires turns { way.turns ≤ length taps.now / way.up }
+    requires node { node < way.turns }
+    requires tree { All (λ turn. turn < way.turns) tree.old }
+    ensures { All (λ turn. turn < way.turns) tree.new }
 {
     let one = rank_of(taps, reals, way, tree[2 * node]);
     let other = rank_of(taps, reals, way, tree[2 * node + 1]);
@@ -120,10 +123,11 @@ pub(crate) fn tree_of(taps: &[i32], reals: &[f64], way: Way) -> [usize; NODES]
     requires same { length reals.now ≡ length taps.now }
     requires few { length taps.now ≤ MOST_TAPS }
     requires phase { way.phase < way.up }
-    requires whole { way.up ≤ length taps.now }
-    ensures { All (λ turn. turn < length taps.now / way.up) result }
+    requires turns { way.turns ≤ length taps.now / way.up }
+    requires some { 0 < way.turns }
+    ensures { All (λ turn. turn < way.turns) result }
 {
-    let many = taps.len() / way.up;
+    let many = way.turns;
     let mut tree = [0; NODES];
     for turn in 0..many {
         tree[many + turn] = turn;
@@ -140,11 +144,12 @@ pub(crate) fn renew(tree: &mut [usize], taps: &[i32], reals: &[f64], way: Way, t
     requires same { length reals.now ≡ length taps.now }
     requires few { length taps.now ≤ MOST_TAPS }
     requires phase { way.phase < way.up }
-    requires turn { turn < length taps.now / way.up }
-    requires turns { All (λ turn. turn < length taps.now / way.up) tree.old }
-    ensures { All (λ turn. turn < length taps.now / way.up) tree.new }
+    requires turns { way.turns ≤ length taps.now / way.up }
+    requires turn { turn < way.turns }
+    requires tree { All (λ turn. turn < way.turns) tree.old }
+    ensures { All (λ turn. turn < way.turns) tree.new }
 {
-    let mut node = taps.len() / way.up + turn;
+    let mut node = way.turns + turn;
     while node > 1 {
         node /= 2;
         meet(tree, taps, reals, way, node);

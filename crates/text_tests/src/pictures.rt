@@ -27,9 +27,10 @@ const LOOP_DOT: &str = "digraph {
 }
 ";
 
-/// What stands in the picture for two workers: boxes in three columns, the arrow that leads back below them, its two
-/// samples, the last bar, the bound and the makespan.
+/// What stands in the picture for two workers: the namespace, boxes in three columns, the arrow that leads back below
+/// them, its two samples, the last bar, the bound and the makespan.
 const PARTS: &[&str] = &[
+    "<svg xmlns='http://www.w3.org/2000/svg' ",
     "<polygon class='box s0' points=' 320,86 456,86 470,106 456,126 320,126'/>",
     "<polygon class='box s1' points=' 640,86 790,86 790,156 640,156'/>",
     "<polygon class='box s2' points=' 960,86 1110,86 1110,156 960,156'/>",
@@ -74,7 +75,7 @@ fn missing_parts(alloc: Global) -> Result<String, Fail> {
     Ok(missing)
 }
 
-/// A `svg` that always says that there is no memory fails here.
+/// A `svg` that always says that there is no memory fails here, and one in another namespace, which no browser shows.
 #[test]
 fn loop_drawn(rt: HostRuntime) -> Result<(), Fail> {
     says(missing_parts(rt.alloc()), "")

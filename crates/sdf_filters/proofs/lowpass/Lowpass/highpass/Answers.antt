@@ -1,4 +1,4 @@
-use Rattle.std.proofs.Common.{arith, ◌∙◌, ◌^◌, pos, ap, FitsSigned, w32}
+use Rattle.std.proofs.Common.{◌∙◌, ◌^◌, pos, ap, FitsSigned, w32}
 use Rattle.std.proofs.lemmas.Int.{to_z-of_z}
 use Rattle.sdf_filters.specs.Asked.{Asked}
 use Rattle.sdf_filters.specs.Differences.{impulse}
@@ -12,4 +12,4 @@ returns c =
     (to_z-of_z w32 c.height.result fits ∙ (c.height.ensures ∙ ap (λ (f : Asked). pos (2 ^ f.shift)) c.self.view_is)) in
     high_taps c.args.self.now c.args.count c.in_ok-low.low.items c.in_ok-impulse.impulse.items
     c.deref.result.now c.deref-2.result.now c.in_ok-taps.taps.items c.deref.ensures.value c.deref-2.ensures.value
-    top c.requires.up (omega arith) c.in_ok-low.ensures c.in_ok-taps.ensures
+    top c.requires.up c.requires.odd c.in_ok-low.ensures c.in_ok-taps.ensures

@@ -1,6 +1,0 @@
-use Rattle.std.proofs.Common.{◌*◌}
-use Rattle.sdf_filters.specs.Phases.{AreMoved}
-use Rattle.sdf_filters.proofs.phases.move_taps.Given as goal
-
-abbrev pub invariant-loop : goal.invariant-loop
-invariant-loop l = AreMoved l.way.up l.way.phase l.way.rise (l.counter * l.many) l.initial.taps l.taps
