@@ -32,7 +32,7 @@ use counting::count;
 use disturbing::{disturb, hold_each};
 use files::load;
 use sdf_words::arguments::arguments;
-use sdf_words::{Words, words};
+use sdf_words::{Run, Task, Words, words};
 use std::rt::Files;
 use std::thread::Threads;
 
@@ -55,10 +55,9 @@ fn obey<R: AllocGlobal + Files + Print + Sync + Threads>(rt: &R, line: &[&str]) 
         ["count", what, workers, j, blocks] => count(rt, what, [workers, j, blocks]),
         ["--help"] => Ok(println!(rt; "{USAGE}")?),
         [call, ..] => match words(rt.alloc(), line)? {
-            Words::Run {
+            Words::Design {
                 graph,
-                input,
-                options,
+                task: Task::Run(Run { input, options, .. }),
                 ..
             } => make(rt, call, &load(rt, graph)?, input, &options),
             _ => bail!("these are no words of a run"),

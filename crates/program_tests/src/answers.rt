@@ -84,8 +84,9 @@ const ANSWERS: &[Row] = &[
         "help",
         "check -h",
         "0\nChecks a graph file and prints its period\n\nUsage: sdfw check [OPTIONS] <GRAPH>\n\nArguments:\n  \
-         <GRAPH>  The graph file\n\nOptions:\n      --why   Says more of a fault: names, values and limits\n      \
-         --json  Answers in JSON, also of a fault\n  -h, --help  Print help (see more with '--help')\n\n\
+         <GRAPH>  The graph file\n\nOptions:\n      --why     Says more of a fault: names, values and limits\n      \
+         --no-why  Prints a fault's line alone, at a terminal too\n      --json    Answers in JSON, also of a \
+         fault\n  -h, --help    Print help (see more with '--help')\n\n\
          Examples:\n  sdfw check graph.toml\n  sdfw check graph.toml --why\n--\n--\n",
     ),
     (
@@ -143,6 +144,11 @@ const IN_JSON: &[Row] = &[
         "a design that is not there",
         "schedule none.toml --json",
         "5\n--\n{\"fault\":47,\"name\":\"Read\"}\n--\n",
+    ),
+    (
+        "a mistake in the words",
+        "check --json",
+        "2\n--\n{\"fault\":0,\"name\":\"Usage\",\"text\":\"error: …\"}\n--\n",
     ),
     (
         "an actor without a home",

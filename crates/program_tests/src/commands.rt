@@ -53,14 +53,15 @@ pub(crate) fn status_of<S: Storage, T: Threads + AllocGlobal + Clock + Clone + D
     Ok(serve(world, &mut stdin, out, err, Ok(given)))
 }
 
-/// What stands around a command: standard input, how long files may be, and what refuses standard output and standard
-/// error.
+/// What stands around a command: standard input, how long files may be, what refuses standard output and standard
+/// error, and whether standard error is a terminal.
 #[derive(Clone, Copy)]
 pub(crate) struct Around<'a> {
     pub(crate) stdin: &'a [u8],
     pub(crate) most: u32,
     pub(crate) output: Option<ErrorKind>,
     pub(crate) error: Option<ErrorKind>,
+    pub(crate) terminal: bool,
 }
 
 /// Nothing is in the way.
@@ -69,6 +70,7 @@ pub(crate) const OPEN: Around<'static> = Around {
     most: MOST_BYTES,
     output: None,
     error: None,
+    terminal: false,
 };
 
 /// A text, or a sound of the tests by its samples.
@@ -114,6 +116,7 @@ pub(crate) fn serve_line<T: Threads + AllocGlobal + Clock + Clone + Drop + Sync>
         storage: &Shelf { written: &files },
         threads: rt,
         most: around.most,
+        terminal: around.terminal,
     };
     let mut out = Stream {
         refuses: around.output,

@@ -14,6 +14,21 @@ const FAULTS: &[Row] = &[
          '--help'.\n--\n",
     ),
     (
+        "a name that there is not, and one that is like it",
+        "explain Deadlok",
+        "2\n--\nerror: no fault has the name 'Deadlok'\n\n  tip: did you mean 'Deadlock'?\n\n…",
+    ),
+    (
+        "a front of a name",
+        "explain Dead",
+        "2\n--\nerror: no fault has the name 'Dead'\n\n…",
+    ),
+    (
+        "a name that is like none",
+        "explain Dreadnought",
+        "2\n--\nerror: no fault has the name 'Dreadnought'\n\nUsage: …",
+    ),
+    (
         "a design in place of a sound",
         "run plain.toml plain.toml out.wav",
         "4\n--\nsdfw: 34 NotRiff\n--\n",
@@ -36,8 +51,7 @@ const FAULTS: &[Row] = &[
     (
         "an OUT that is IN",
         "run plain.toml in.wav in.wav",
-        "2\n--\nerror: OUT is the same file as IN\n\nUsage: sdfw <COMMAND>\n\nFor more information, try '--help'.\n\
-         --\n",
+        "2\n--\nerror: OUT is the same file as IN\n--\n",
     ),
 ];
 
@@ -101,13 +115,14 @@ const WHY: &[Row] = &[
     (
         "a channel that is not there",
         "run right.toml in.wav out.wav --why",
-        "4\n--\nsdfw: 59 ChannelsMissing\n  the design reads 2 channels, the sound has 1\n  actor 0 is \"left\", \
+        "4\n--\nsdfw: 59 ChannelsMissing\n  \"in.wav\": has 44100 samples a second in 1 channel\n  the design reads 2 \
+         channels, the sound has 1\n  actor 0 is \"left\", \
          an input\n  channel = 0, wants 0..7\n  actor 1 is \"right\", an input\n  channel = 1, wants 0..7\n--\n",
     ),
     (
         "a rate that is not whole",
         "run eighth.toml in.wav out.wav --why",
-        "4\n--\nsdfw: 60 RateNotWhole\n  44100 * 1 / 8 = 5512 and 4/8\n--\n",
+        "4\n--\nsdfw: 60 RateNotWhole\n  \"in.wav\": has 44100 samples a second in 1 channel\n  44100 * 1 / 8 = 5512 and 4/8\n--\n",
     ),
 ];
 
@@ -149,8 +164,7 @@ const BESIDE: &[Row] = &[
     (
         "an OUT that is the second coefficient file",
         "run twice.toml in.wav three.toml",
-        "2\n--\nerror: OUT is the same file as the coefficient file three.toml\n\nUsage: sdfw <COMMAND>\n\nFor \
-         more information, try '--help'.\n--\n",
+        "2\n--\nerror: OUT is the same file as the coefficient file three.toml\n--\n",
     ),
     (
         "eight coefficient files",
@@ -192,22 +206,22 @@ const UNWRITTEN: &[Row] = &[
     (
         "a FILE that is GRAPH",
         "profile commented.toml in.wav --write commented.toml",
-        "2\n--\nerror: FILE is the same file as GRAPH\n…\n--\n",
+        "2\n--\nerror: FILE is the same file as GRAPH\n--\n",
     ),
     (
         "a FILE that is IN",
         "profile commented.toml in.wav --write in.wav",
-        "2\n--\nerror: FILE is the same file as IN\n…\n--\n",
+        "2\n--\nerror: FILE is the same file as IN\n--\n",
     ),
     (
         "a FILE that is a coefficient file",
         "profile filtered.toml in.wav --write one.toml",
-        "2\n--\nerror: FILE is the same file as the coefficient file one.toml\n…\n--\n",
+        "2\n--\nerror: FILE is the same file as the coefficient file one.toml\n--\n",
     ),
     (
         "a GRAPH without lines for actors",
         "profile plain.toml in.wav --write made/measured.toml",
-        "2\n--\nerror: GRAPH has 0 lines [[actor]] for 2 actors: costs want one for each\n…\n--\n",
+        "2\n--\nerror: GRAPH has 0 lines [[actor]] for 2 actors: costs want one for each\n--\n",
     ),
     (
         "the same before an IN that is no sound",

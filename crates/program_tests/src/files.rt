@@ -98,6 +98,7 @@ pub(crate) fn told<R: Files, T: Threads + AllocGlobal + Clock + Clone + Drop + S
         storage: &Disk { rt },
         threads,
         most: MOST_BYTES,
+        terminal: false,
     };
     let mut out = Stream {
         refuses: None,

@@ -32,4 +32,6 @@ mod shelf;
 #[cfg(test)]
 mod streams;
 #[cfg(test)]
+mod terminal;
+#[cfg(test)]
 mod timed;

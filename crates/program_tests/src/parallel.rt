@@ -17,37 +17,44 @@ const PARALLEL: &[Row] = &[
     (
         "heavy parallel 2 why",
         "run heavy.toml in.wav out.wav --parallel 2 --why",
-        "0\n--\n2 workers, each on its own part of the sound after 0 periods (0 samples) of warm-up\n--\n<5 -5>",
+        "0\n--\n2 workers, each on its own part of the sound after 0 periods (0 samples) of warm-up\n\
+         output 0: 2 frames, peak -76.3 dB, 0 samples at full scale\n--\n<5 -5>",
     ),
     (
         "wider parallel 16 why",
         "run wider.toml in.wav out.wav --parallel 16 --why",
-        "0\n--\n16 workers, each on its own part of the sound after 0 periods (0 samples) of warm-up\n--\n<5 -5>",
+        "0\n--\n16 workers, each on its own part of the sound after 0 periods (0 samples) of warm-up\n\
+         output 0: 2 frames, peak -76.3 dB, 0 samples at full scale\n--\n<5 -5>",
     ),
     (
         "kept parallel 3 why",
         "run kept.toml in.wav out.wav --parallel 3 --why",
-        "0\n--\n3 workers, each on its own part of the sound after 5 periods (5 samples) of warm-up\n--\n<5 -5>",
+        "0\n--\n3 workers, each on its own part of the sound after 5 periods (5 samples) of warm-up\n\
+         output 0: 2 frames, peak -76.3 dB, 0 samples at full scale\n--\n<5 -5>",
     ),
     (
         "lasting parallel 4 why",
         "run lasting.toml in.wav out.wav --parallel 4 --why",
-        "0\n--\none thread: the design keeps samples for ever, or for too long\n--\n<5 -5>",
+        "0\n--\none thread: the design keeps samples for ever, or for too long\n\
+         output 0: 2 frames, peak -76.3 dB, 0 samples at full scale\n--\n<5 -5>",
     ),
     (
         "heavy parallel 1 why",
         "run heavy.toml in.wav out.wav --parallel 1 --why",
-        "0\n--\none thread: one worker is asked for\n--\n<5 -5>",
+        "0\n--\none thread: one worker is asked for\n\
+         output 0: 2 frames, peak -76.3 dB, 0 samples at full scale\n--\n<5 -5>",
     ),
     (
         "branches parallel 2 why",
         "run branches.toml in.wav out.wav --parallel 2 --why",
-        "0\n--\n2 workers, each on its own part of the sound after 0 periods (0 samples) of warm-up\n--\n<5 -5>",
+        "0\n--\n2 workers, each on its own part of the sound after 0 periods (0 samples) of warm-up\n\
+         output 0: 2 frames, peak -76.3 dB, 0 samples at full scale\n--\n<5 -5>",
     ),
     (
         "line parallel 4 why",
         "run line.toml in.wav out.wav --parallel 4 --why",
-        "0\n--\n4 workers, each on its own part of the sound after 0 periods (0 samples) of warm-up\n--\n<5 -5>",
+        "0\n--\n4 workers, each on its own part of the sound after 0 periods (0 samples) of warm-up\n\
+         output 0: 2 frames, peak -76.3 dB, 0 samples at full scale\n--\n<5 -5>",
     ),
     (
         "plain parallel",

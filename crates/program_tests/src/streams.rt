@@ -259,6 +259,7 @@ fn unread<T: Threads + AllocGlobal + Clock + Clone + Drop + Sync>(rt: &T) -> Res
         storage: &Shelf { written: &written },
         threads: rt,
         most: MOST_BYTES,
+        terminal: false,
     };
     let mut stdin = b"".as_slice();
     let mut out = Vec::new(alloc);

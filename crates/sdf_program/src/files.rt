@@ -4,11 +4,11 @@ ghost use Rattle.std.specs.Prelude.{◌≡◌, ◌≢◌};
 ghost use Rattle.std.specs.IoError.{error_kind};
 ghost use Rattle.sdf_plan.specs.declared.fault.Fault.TheVariants.{OutOfMemory};
 
+use crate::input::InputTrace;
 use crate::storage::Storage;
 use indexmap::IndexSet;
 use sdf_file::{Design, design_files, read_design};
 use sdf_plan::Fault;
-use sdf_why::Header;
 use std::alloc::{AllocError, Global};
 use std::io::{self, ErrorKind, Read, Write};
 use std::path::Path;
@@ -28,7 +28,7 @@ pub(crate) fn device_fault(error: &io::Error, blamed: Fault) -> Fault
 }
 
 /// All of a file's bytes, where they are at most `most`.
-fn bytes_of<F: Read + Drop>(alloc: Global, file: F, most: u32) -> io::Result<Vec<u8>> {
+pub(crate) fn bytes_of<F: Read + Drop>(alloc: Global, file: F, most: u32) -> io::Result<Vec<u8>> {
     let mut bytes = Vec::new(alloc);
     file.take(u64::from(most) + 1).read_to_end(&mut bytes)?;
     if bytes.len() <= most as usize {
@@ -95,6 +95,11 @@ pub(crate) fn refuse(
     }
 }
 
+/// Notes how the system refused a file that was open, unless memory is refused for it.
+pub(crate) fn refuse_kind(alloc: Global, refused: &mut Vec<Refused>, name: &str, kind: ErrorKind) {
+    let _ = note(alloc, refused, name, &io::Error::from(kind));
+}
+
 /// A coefficient file's bytes, unless it can't be opened.
 fn read_beside<S: Storage>(
     alloc: Global,
@@ -117,14 +122,14 @@ fn read_beside<S: Storage>(
     }
 }
 
-/// What was read so far: the graph file and its path, its coefficient files that can be opened, each with its name, the
-/// header of the sound where it does not suit the design, and the files that the system refused.
+/// What was read so far: the graph file and its path, its coefficient files that can be opened, each with its name,
+/// what is known of the sound, and the files that the system refused.
 #[derive(Drop)]
 pub struct Sources {
     pub path: String,
     pub graph: Vec<u8>,
     pub files: Vec<(String, Vec<u8>)>,
-    pub header: Option<Header>,
+    pub trace: InputTrace,
     pub refused: Vec<Refused>,
 }
 
@@ -135,7 +140,7 @@ impl Sources {
             path: String::new(alloc),
             graph: Vec::new(alloc),
             files: Vec::new(alloc),
-            header: None,
+            trace: InputTrace::new(alloc),
             refused: Vec::new(alloc),
         }
     }
@@ -177,13 +182,18 @@ fn names_of(alloc: Global, files: &[(String, Vec<u8>)]) -> Result<Vec<String>, A
 
 /// The design of files that were read.
 fn loaded_from(alloc: Global, sources: &Sources) -> Result<Loaded, Fault> {
-    let design = read_design(alloc, &sources.graph, &sources.files)?;
     let names = names_of(alloc, &sources.files)?;
+    let design = read_design(alloc, &sources.graph, &sources.files)?;
     Ok(Loaded { design, names })
 }
 
 /// The bytes of a file, where they are at most `most`.
-fn read_at<S: Storage>(alloc: Global, storage: &S, path: &str, most: u32) -> io::Result<Vec<u8>> {
+pub(crate) fn read_at<S: Storage>(
+    alloc: Global,
+    storage: &S,
+    path: &str,
+    most: u32,
+) -> io::Result<Vec<u8>> {
     bytes_of(alloc, storage.open(path)?, most)
 }
 

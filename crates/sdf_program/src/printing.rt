@@ -2,9 +2,8 @@
 
 ghost use Rattle.sdf_options.specs.Limits.{AreWithinLimits};
 
-use crate::files::{Sources, load, load_into, put};
+use crate::files::put;
 use crate::program::World;
-use crate::storage::Storage;
 use sdf_analyze::{analyze, compare};
 use sdf_document::kinds_text;
 use sdf_draw::{dot, svg};
@@ -24,7 +23,7 @@ pub(crate) fn show<O: Write>(out: &mut O, answer: &str) -> Result<(), Fault> {
 }
 
 /// Prints an answer that was made, if it was.
-fn show_made<O: Write>(out: &mut O, answer: Result<String, Fault>) -> Result<(), Fault> {
+pub(crate) fn show_made<O: Write>(out: &mut O, answer: Result<String, Fault>) -> Result<(), Fault> {
     show(out, answer?.as_str())
 }
 
@@ -35,7 +34,7 @@ pub(crate) fn test_plan(alloc: Global, design: &Design) -> Result<(), Fault> {
 }
 
 /// What a design is, where it can be scheduled.
-fn checked(alloc: Global, design: &Design, json: bool) -> Result<String, Fault> {
+pub(crate) fn checked(alloc: Global, design: &Design, json: bool) -> Result<String, Fault> {
     test_plan(alloc, design)?;
     if json {
         Ok(check_json(alloc, design)?)
@@ -44,21 +43,8 @@ fn checked(alloc: Global, design: &Design, json: bool) -> Result<String, Fault> 
     }
 }
 
-/// Says what a design is, where it can be scheduled.
-pub(crate) fn check<S: Storage, T: AllocGlobal, O: Write>(
-    world: &World<S, T>,
-    out: &mut O,
-    graph: &str,
-    json: bool,
-    sources: &mut Sources,
-) -> Result<(), Fault> {
-    let alloc = world.threads.alloc();
-    let loaded = load_into(alloc, world.storage, graph, world.most, sources)?;
-    show_made(out, checked(alloc, &loaded.design, json))
-}
-
 /// The schedule of a design.
-fn scheduled(
+pub(crate) fn scheduled(
     alloc: Global,
     design: &Design,
     options: &Options,
@@ -71,22 +57,8 @@ fn scheduled(
     }
 }
 
-/// Prints the schedule of a design.
-pub(crate) fn print_schedule<S: Storage, T: AllocGlobal, O: Write>(
-    world: &World<S, T>,
-    out: &mut O,
-    graph: &str,
-    options: &Options,
-    json: bool,
-    sources: &mut Sources,
-) -> Result<(), Fault> {
-    let alloc = world.threads.alloc();
-    let loaded = load_into(alloc, world.storage, graph, world.most, sources)?;
-    show_made(out, scheduled(alloc, &loaded.design, options, json))
-}
-
 /// How long the schedule of a design takes, or its schedules compared.
-fn analyzed(
+pub(crate) fn analyzed(
     alloc: Global,
     design: &Design,
     options: &Options,
@@ -103,47 +75,18 @@ fn analyzed(
     }
 }
 
-/// Prints how long the schedule of a design takes, or compares its schedules.
-pub(crate) fn print_analysis<S: Storage, T: AllocGlobal, O: Write>(
-    world: &World<S, T>,
-    out: &mut O,
-    graph: &str,
-    options: &Options,
-    compares: bool,
-    json: bool,
-) -> Result<(), Fault>
-    requires { AreWithinLimits options.now }
-{
-    let alloc = world.threads.alloc();
-    let loaded = load(alloc, world.storage, graph, world.most)?;
-    show_made(
-        out,
-        analyzed(alloc, &loaded.design, options, compares, json),
-    )
-}
-
 /// The picture of a design and its schedule, or its graph for Graphviz.
-fn drawn(alloc: Global, design: &Design, options: &Options, as_dot: bool) -> Result<String, Fault> {
+pub(crate) fn drawn(
+    alloc: Global,
+    design: &Design,
+    options: &Options,
+    as_dot: bool,
+) -> Result<String, Fault> {
     if as_dot {
         Ok(dot(alloc, design)?)
     } else {
         svg(alloc, design, options)
     }
-}
-
-/// Prints the picture of a design and its schedule, or its graph for Graphviz.
-pub(crate) fn print_picture<S: Storage, T: AllocGlobal, O: Write>(
-    world: &World<S, T>,
-    out: &mut O,
-    graph: &str,
-    options: &Options,
-    as_dot: bool,
-) -> Result<(), Fault>
-    requires { AreWithinLimits options.now }
-{
-    let alloc = world.threads.alloc();
-    let loaded = load(alloc, world.storage, graph, world.most)?;
-    show_made(out, drawn(alloc, &loaded.design, options, as_dot))
 }
 
 /// Prints the table of kinds.

@@ -1,6 +1,6 @@
 //! The command that measures a run.
 
-use crate::files::{Loaded, Sources, device_fault, load_into, put, read_all, write_at};
+use crate::files::{Loaded, Sources, bytes_of, put, read_at, refuse, write_at};
 use crate::overwriting::{Paths, keep_what_is_read};
 use crate::printing::show;
 use crate::program::{STANDARD, World};
@@ -9,23 +9,38 @@ use sdf_plan::Fault;
 use sdf_profile::{Measured, Unwritten, costed_text, profile};
 use sdf_words::mistake;
 use std::alloc::{AllocError, Global};
-use std::io::{Read, Write};
+use std::io::{self, Read, Write};
 use std::thread::Threads;
 use std::time::Clock;
 
-/// The bytes of a file, or of standard input.
+/// Reads all bytes of a file, or of standard input.
+fn read_input<S: Storage, T: AllocGlobal, I: Read>(
+    world: &World<S, T>,
+    stdin: &mut I,
+    path: &str,
+) -> io::Result<Vec<u8>> {
+    let alloc = world.threads.alloc();
+    if path == STANDARD {
+        return bytes_of(alloc, stdin, world.most);
+    }
+    read_at(alloc, world.storage, path, world.most)
+}
+
+/// Reads all bytes of a sound, which is noted, or how the system refused it.
 fn bytes_at<S: Storage, T: AllocGlobal, I: Read>(
     world: &World<S, T>,
     stdin: &mut I,
     path: &str,
+    sources: &mut Sources,
 ) -> Result<Vec<u8>, Fault> {
     let alloc = world.threads.alloc();
-    if path == STANDARD {
-        return read_all(alloc, stdin, world.most);
-    }
-    match world.storage.open(path) {
-        Ok(file) => read_all(alloc, file, world.most),
-        Err(error) => Err(device_fault(&error, Fault::Read)),
+    match read_input(world, stdin, path) {
+        Ok(bytes) => {
+            sources.trace.name = String::from_str(alloc, path)?;
+            sources.trace.note(&bytes);
+            Ok(bytes)
+        }
+        Err(error) => Err(refuse(alloc, &mut sources.refused, path, &error, Fault::Read)),
     }
 }
 
@@ -58,16 +73,9 @@ fn costed(alloc: Global, sources: &Sources, costs: &[u32]) -> Result<Vec<u8>, Fa
 #[derive(Clone, Copy)]
 pub(crate) struct Profiling<'a> {
     pub(crate) graph: &'a str,
+    pub(crate) loaded: &'a Loaded,
     pub(crate) input: &'a str,
     pub(crate) write: Option<&'a str>,
-}
-
-/// What was read of it: a design, its files, and the bytes of the sound.
-#[derive(Clone, Copy)]
-struct Subject<'a> {
-    loaded: &'a Loaded,
-    sources: &'a Sources,
-    bytes: &'a [u8],
 }
 
 /// Writes the text of a graph file, and prints a profile where that text does not stand there.
@@ -103,22 +111,30 @@ fn write_measured<S: Storage, T: AllocGlobal, O: Write>(
 fn measure_into<S: Storage, T, O: Write>(
     world: &World<S, T>,
     out: &mut O,
-    paths: Paths<'_>,
-    subject: Subject<'_>,
+    asked: Profiling<'_>,
+    output: &str,
+    sources: &Sources,
+    bytes: &[u8],
 ) -> Result<(), Fault>
 where
     T: Threads + AllocGlobal + Clock + Clone + Drop + Sync,
 {
     let alloc = world.threads.alloc();
-    let Subject {
+    let Profiling {
+        graph,
         loaded,
-        sources,
-        bytes,
-    } = subject;
+        input,
+        ..
+    } = asked;
+    let paths = Paths {
+        graph,
+        input,
+        output,
+    };
     keep_what_is_read(alloc, world.storage, "FILE", paths, &loaded.names)?;
     costed(alloc, sources, loaded.design.costs())?;
     let measured = profile(world.threads, bytes, &loaded.design)?;
-    write_measured(world, out, paths.output, sources, &measured)
+    write_measured(world, out, output, sources, &measured)
 }
 
 /// Measures a run of what was read.
@@ -126,51 +142,19 @@ fn measure<S: Storage, T, O: Write>(
     world: &World<S, T>,
     out: &mut O,
     asked: Profiling<'_>,
-    subject: Subject<'_>,
+    sources: &Sources,
+    bytes: &[u8],
 ) -> Result<(), Fault>
 where
     T: Threads + AllocGlobal + Clock + Clone + Drop + Sync,
 {
-    let Profiling {
-        graph,
-        input,
-        write,
-    } = asked;
-    match write {
-        Some(output) => {
-            let paths = Paths {
-                graph,
-                input,
-                output,
-            };
-            measure_into(world, out, paths, subject)
-        }
+    match asked.write {
+        Some(output) => measure_into(world, out, asked, output, sources, bytes),
         None => {
-            let measured = profile(world.threads, subject.bytes, &subject.loaded.design)?;
+            let measured = profile(world.threads, bytes, &asked.loaded.design)?;
             show(out, measured.text.as_str())
         }
     }
-}
-
-/// Reads a sound, and measures a run of a design on it.
-fn measure_on<S: Storage, T, I: Read, O: Write>(
-    world: &World<S, T>,
-    stdin: &mut I,
-    out: &mut O,
-    asked: Profiling<'_>,
-    loaded: &Loaded,
-    sources: &Sources,
-) -> Result<(), Fault>
-where
-    T: Threads + AllocGlobal + Clock + Clone + Drop + Sync,
-{
-    let bytes = bytes_at(world, stdin, asked.input)?;
-    let subject = Subject {
-        loaded,
-        sources,
-        bytes: &bytes,
-    };
-    measure(world, out, asked, subject)
 }
 
 /// Prints what each actor's firings take of the time of a run, or writes the costs into a file that is named.
@@ -184,7 +168,6 @@ pub(crate) fn print_profile<S: Storage, T, I: Read, O: Write>(
 where
     T: Threads + AllocGlobal + Clock + Clone + Drop + Sync,
 {
-    let alloc = world.threads.alloc();
-    let loaded = load_into(alloc, world.storage, asked.graph, world.most, sources)?;
-    measure_on(world, stdin, out, asked, &loaded, sources)
+    let bytes = bytes_at(world, stdin, asked.input, sources)?;
+    measure(world, out, asked, sources, &bytes)
 }

@@ -3,22 +3,21 @@
 ghost use Rattle.std.specs.Prelude.{◌≡◌, ◌⊎◌};
 ghost use Rattle.sdf_plan.specs.Statuses.{status_of};
 ghost use Rattle.sdf_plan.specs.declared.fault.Fault.TheVariants.{OutOfMemory};
-ghost use Rattle.sdf_words.specs.Limits.{IsWithinLimits};
+ghost use Rattle.sdf_words.specs.Limits.{IsTaskWithinLimits, IsWithinLimits};
 
-use crate::files::Sources;
+use crate::files::{Loaded, Sources, load_into};
 use crate::making::{fir, resample};
-use crate::overwriting::Paths;
 use crate::printing::{
-    check, print_analysis, print_kinds, print_meaning, print_picture, print_schedule, show,
+    analyzed, checked, drawn, print_kinds, print_meaning, scheduled, show, show_made,
 };
 use crate::profiling::{Profiling, print_profile};
-use crate::running::{Parallel, run, run_parallel};
+use crate::running::{Running, run};
 use crate::storage::Storage;
 use crate::telling::Background;
 use sdf_json::fault_json;
 use sdf_options::WordFault;
 use sdf_plan::{Fault, fault_text, status};
-use sdf_words::{Words, words};
+use sdf_words::{Task, Why, Words, words};
 use std::alloc::{AllocError, Global};
 use std::io::{Read, Write};
 use std::thread::Threads;
@@ -34,6 +33,113 @@ pub struct World<'a, S, T> {
     pub threads: &'a T,
     /// The most bytes of a graph file or a coefficient file.
     pub most: u32,
+    /// Whether standard error is a terminal.
+    pub terminal: bool,
+}
+
+/// A task for a design, and when more is said than faults.
+#[derive(Clone, Copy)]
+struct Asked<'a> {
+    graph: &'a str,
+    task: Task<'a>,
+    why: Why,
+}
+
+/// A task for a design that was read.
+#[derive(Clone, Copy)]
+struct Job<'a> {
+    graph: &'a str,
+    task: Task<'a>,
+    loaded: &'a Loaded,
+    /// Whether more is said than faults.
+    is_said: bool,
+}
+
+/// Does a task for a design that was read.
+fn work<
+    S: Storage,
+    T: Threads + AllocGlobal + Clock + Clone + Drop + Sync,
+    I: Read,
+    O: Write,
+    E: Write,
+>(
+    world: &World<S, T>,
+    stdin: &mut I,
+    out: &mut O,
+    err: &mut E,
+    job: Job<'_>,
+    sources: &mut Sources,
+) -> Result<(), Fault>
+    requires { IsTaskWithinLimits job.task }
+{
+    let alloc = world.threads.alloc();
+    let Job {
+        graph,
+        task,
+        loaded,
+        is_said,
+    } = job;
+    let design = &loaded.design;
+    match task {
+        Task::Check { json } => show_made(out, checked(alloc, design, json)),
+        Task::Schedule { options, json } => show_made(
+            out,
+            scheduled(alloc, design, &options, json),
+        ),
+        Task::Analyze {
+            options,
+            compare,
+            json,
+        } => show_made(out, analyzed(alloc, design, &options, compare, json)),
+        Task::Draw { options, dot } => show_made(out, drawn(alloc, design, &options, dot)),
+        Task::Run(asked) => {
+            let running = Running {
+                graph,
+                loaded,
+                asked,
+                is_said,
+            };
+            run(world, stdin, out, err, running, sources)
+        }
+        Task::Profile { input, write } => {
+            let asked = Profiling {
+                graph,
+                input,
+                write,
+                loaded,
+            };
+            print_profile(world, stdin, out, asked, sources)
+        }
+    }
+}
+
+/// Reads a design, and does a task for it. What was read stands in `sources`.
+fn work_on<
+    S: Storage,
+    T: Threads + AllocGlobal + Clock + Clone + Drop + Sync,
+    I: Read,
+    O: Write,
+    E: Write,
+>(
+    world: &World<S, T>,
+    stdin: &mut I,
+    out: &mut O,
+    err: &mut E,
+    asked: Asked<'_>,
+    sources: &mut Sources,
+) -> Result<(), Fault>
+    requires { IsTaskWithinLimits asked.task }
+{
+    let Asked { graph, task, why } = asked;
+    let alloc = world.threads.alloc();
+    let loaded = load_into(alloc, world.storage, graph, world.most, sources)?;
+    let job = Job {
+        graph,
+        task,
+        loaded: &loaded,
+        is_said: why.is_said(world.terminal),
+    };
+    work(world, stdin, out, err, job, sources)
 }
 
 /// Does what is asked for. What was read stands in `sources`.
@@ -54,56 +160,9 @@ fn obey<
     requires { IsWithinLimits asked }
 {
     match asked {
-        Words::Check { graph, json, .. } => check(world, out, graph, json, sources),
-        Words::Schedule {
-            graph,
-            options,
-            json,
-            ..
-        } => print_schedule(world, out, graph, &options, json, sources),
-        Words::Analyze {
-            graph,
-            options,
-            compare,
-            json,
-        } => print_analysis(world, out, graph, &options, compare, json),
-        Words::Draw {
-            graph,
-            options,
-            dot,
-        } => print_picture(world, out, graph, &options, dot),
-        Words::Profile {
-            graph,
-            input,
-            write,
-        } => {
-            let asked = Profiling {
-                graph,
-                input,
-                write,
-            };
-            print_profile(world, stdin, out, asked, sources)
-        }
-        Words::Run {
-            graph,
-            input,
-            output,
-            options,
-            parallel,
-            why,
-        } => {
-            let paths = Paths {
-                graph,
-                input,
-                output,
-            };
-            match parallel {
-                Some(crew) => {
-                    let asked = Parallel { paths, crew, why };
-                    run_parallel(world, stdin, out, err, asked, sources)
-                }
-                None => run(world, stdin, out, paths, &options, sources),
-            }
+        Words::Design { graph, task, why } => {
+            let asked = Asked { graph, task, why };
+            work_on(world, stdin, out, err, asked, sources)
         }
         Words::Fir { wanted } => fir(world, out, err, wanted),
         Words::Resample { conversion } => resample(world, err, conversion),
@@ -126,11 +185,21 @@ fn help_or_fault<O: Write>(alloc: Global, out: &mut O, fault: WordFault) -> Resu
     }
 }
 
+/// The text of a mistake, for standard error: its first line alone if it is none of the words. The usage does not
+/// help there.
+fn mistake_text(alloc: Global, told: &clap::Error, is_read: bool) -> Result<String, AllocError> {
+    let whole = format!(in alloc; "{told}")?;
+    match whole.as_str().split_once('\n') {
+        Some((first, _)) if is_read => format!(in alloc; "{first}\n"),
+        _ => Ok(whole),
+    }
+}
+
 /// The text of a fault, for standard error.
-fn told(alloc: Global, fault: &Fault, json: bool) -> Result<String, AllocError> {
+fn told(alloc: Global, fault: &Fault, background: &Background) -> Result<String, AllocError> {
     match fault {
-        Fault::Words(WordFault::Usage(told)) => format!(in alloc; "{told}"),
-        other if json => fault_json(alloc, other),
+        other if background.is_json() => fault_json(alloc, other),
+        Fault::Words(WordFault::Usage(told)) => mistake_text(alloc, told, background.is_read()),
         other => fault_text(alloc, other),
     }
 }
@@ -149,15 +218,14 @@ fn told_without_memory(json: bool) -> &'static [u8] {
 fn tell<E: Write>(alloc: Global, err: &mut E, fault: &Fault, background: &Background) -> u8
     ensures { (result ≡ status_of fault.now) ⊎ (result ≡ status_of OutOfMemory) }
 {
-    let json = background.is_json();
-    match told(alloc, fault, json) {
+    match told(alloc, fault, background) {
         Ok(text) => {
             let _ = err.write_all(text.as_bytes());
             background.tell(alloc, err, fault);
             status(fault)
         }
         Err(_) => {
-            let _ = err.write_all(told_without_memory(json));
+            let _ = err.write_all(told_without_memory(background.is_json()));
             status(&Fault::OutOfMemory)
         }
     }
@@ -193,10 +261,13 @@ fn answer<
     let line = line_of(alloc, &given)?;
     match words(alloc, line.as_slice()) {
         Ok(asked) => {
-            background.asked(&asked);
+            background.asked(&asked, world.terminal);
             obey(world, stdin, out, err, asked, &mut background.sources)
         }
-        Err(fault) => help_or_fault(alloc, out, fault),
+        Err(fault) => {
+            background.misread(&line);
+            help_or_fault(alloc, out, fault)
+        }
     }
 }
 

@@ -1,24 +1,25 @@
 //! The command that makes a sound of another.
 
-ghost use Rattle.std.specs.Prelude.{◌≤◌, IfOk};
+ghost use Rattle.std.specs.Prelude.{◌≤◌, IfOk, IfSome};
 ghost use Rattle.sdf_limits.specs.declared.TheConstants.{MOST_WORKERS};
 ghost use Rattle.sdf_plan.specs.Plans.{Suits};
 ghost use Rattle.sdf_words.specs.Limits.{IsCrew};
 
-use crate::files::{Loaded, Refused, Sources, load_into, refuse};
+use crate::files::{Loaded, Refused, Sources, refuse, refuse_kind};
+use crate::input::Input;
+use crate::levels::Levels;
+use crate::output::Output;
 use crate::overwriting::{Paths, keep_what_is_read};
 use crate::program::{STANDARD, World};
 use crate::storage::Storage;
 use sdf_file::Design;
 use sdf_limits::MOST_WORKERS;
-use sdf_options::Options;
 use sdf_plan::parallel::{Pace, Paced, parallel_plan};
 use sdf_plan::planning::plan;
 use sdf_plan::{Fault, Plan};
 use sdf_process::process::process;
-use sdf_wav::{ContentIn, FromRead, ToWrite};
-use sdf_why::Header;
-use sdf_words::Crew;
+use sdf_wav::{FromRead, ToWrite};
+use sdf_words::{Crew, Run};
 use std::alloc::{AllocError, Global};
 use std::io::{Read, Write};
 use std::thread::{Threads, available_parallelism};
@@ -26,30 +27,32 @@ use std::thread::{Threads, available_parallelism};
 /// Workers of a parallel run where the system does not tell its processors.
 const WORKERS: usize = 4;
 
-/// What a parallel run is asked for.
+/// A run that is asked for, of a design that was read.
 #[derive(Clone, Copy)]
-pub(crate) struct Parallel<'a> {
-    pub(crate) paths: Paths<'a>,
-    pub(crate) crew: Crew,
-    /// Whether it is told how it runs.
-    pub(crate) why: bool,
+pub(crate) struct Running<'a> {
+    pub(crate) graph: &'a str,
+    pub(crate) loaded: &'a Loaded,
+    pub(crate) asked: Run<'a>,
+    /// Whether more is said than faults.
+    pub(crate) is_said: bool,
 }
 
-/// A design and the plan of its run.
+impl<'a> Running<'a> {
+    /// What is read and written.
+    fn paths(self) -> Paths<'a> {
+        Paths {
+            graph: self.graph,
+            input: self.asked.input,
+            output: self.asked.output,
+        }
+    }
+}
+
+/// A run and its plan.
 #[derive(Clone, Copy)]
 struct Planned<'a> {
-    loaded: &'a Loaded,
+    running: Running<'a>,
     plan: &'a Plan,
-}
-
-/// What the header of a sound says, where it can be read.
-fn header_at<S: Storage>(storage: &S, input: &str) -> Option<Header> {
-    let from = storage.open(input).ok()?;
-    let content = ContentIn::open(&mut FromRead::new(from)).ok()?;
-    Some(Header {
-        rate: content.rate(),
-        channels: u32::from(content.channels()),
-    })
 }
 
 /// Runs a plan from the first byte of one stream to the last of another.
@@ -71,73 +74,111 @@ fn run_between<T: Threads + AllocGlobal + Sync, R: Read, W: Write>(
     )
 }
 
-/// Runs a plan on a stream that is open. OUT is made or emptied where none of the files that are read is OUT.
-fn run_from<S: Storage, T: Threads + AllocGlobal + Sync, R: Read, O: Write>(
-    world: &World<S, T>,
+/// Says how loud the outputs of a run are.
+fn tell_levels<E: Write>(alloc: Global, err: &mut E, levels: &Levels) -> Result<(), AllocError> {
+    let text = levels.text(alloc)?;
+    let _ = err.write_all(text.as_bytes());
+    Ok(())
+}
+
+/// Runs a plan on a stream into another one. A run that ends well says how loud its outputs are if more is said than
+/// faults.
+fn run_into<T: Threads + AllocGlobal + Sync, R: Read, W: Write, E: Write>(
+    threads: &T,
     from: &mut R,
-    out: &mut O,
-    paths: Paths<'_>,
+    to: &mut W,
+    err: &mut E,
     planned: Planned<'_>,
     refused: &mut Vec<Refused>,
 ) -> Result<(), Fault>
-    requires { Suits planned.loaded.now.design.net planned.plan.now }
+    requires { Suits planned.running.loaded.now.design.net planned.plan.now }
 {
-    let alloc = world.threads.alloc();
-    let Planned { loaded, plan } = planned;
-    keep_what_is_read(alloc, world.storage, "OUT", paths, &loaded.names)?;
-    if paths.output == STANDARD {
-        return run_between(world.threads, from, out, &loaded.design, plan);
+    let Planned { running, plan } = planned;
+    let mut output = Output::new(to, running.is_said);
+    let ended = run_between(threads, from, &mut output, &running.loaded.design, plan);
+    if let Some(kind) = output.refused {
+        refuse_kind(threads.alloc(), refused, running.asked.output, kind);
     }
-    match world.storage.create(paths.output) {
-        Ok(mut to) => run_between(world.threads, from, &mut to, &loaded.design, plan),
-        Err(error) => Err(refuse(alloc, refused, paths.output, &error, Fault::Write)),
-    }
-}
-
-/// Runs a design by its plan on a WAV file. OUT is made or emptied once IN is open, and none of the files that are read
-/// is OUT.
-fn run_planned<S: Storage, T: Threads + AllocGlobal + Sync, I: Read, O: Write>(
-    world: &World<S, T>,
-    stdin: &mut I,
-    out: &mut O,
-    paths: Paths<'_>,
-    planned: Planned<'_>,
-    sources: &mut Sources,
-) -> Result<(), Fault>
-    requires { Suits planned.loaded.now.design.net planned.plan.now }
-{
-    let alloc = world.threads.alloc();
-    let refused = &mut sources.refused;
-    if paths.input == STANDARD {
-        return run_from(world, stdin, out, paths, planned, refused);
-    }
-    let ended = match world.storage.open(paths.input) {
-        Ok(mut from) => run_from(world, &mut from, out, paths, planned, refused),
-        Err(error) => Err(refuse(alloc, refused, paths.input, &error, Fault::Read)),
-    };
-    if let Err(Fault::ChannelsMissing | Fault::RateNotWhole) = &ended {
-        sources.header = header_at(world.storage, paths.input);
+    if let (Ok(()), Some(levels)) = (&ended, &output.levels) {
+        tell_levels(threads.alloc(), err, levels)?;
     }
     ended
 }
 
-/// Runs a design on a WAV file, once its plan stands.
-pub(crate) fn run<S: Storage, T: Threads + AllocGlobal + Sync, I: Read, O: Write>(
+/// Runs a plan on a stream that is open. OUT is made or emptied where none of the files that are read is OUT.
+fn run_from<S: Storage, T: Threads + AllocGlobal + Sync, R: Read, O: Write, E: Write>(
+    world: &World<S, T>,
+    from: &mut R,
+    out: &mut O,
+    err: &mut E,
+    planned: Planned<'_>,
+    refused: &mut Vec<Refused>,
+) -> Result<(), Fault>
+    requires { Suits planned.running.loaded.now.design.net planned.plan.now }
+{
+    let alloc = world.threads.alloc();
+    let paths = planned.running.paths();
+    let names = &planned.running.loaded.names;
+    keep_what_is_read(alloc, world.storage, "OUT", paths, names)?;
+    if paths.output == STANDARD {
+        return run_into(world.threads, from, out, err, planned, refused);
+    }
+    match world.storage.create(paths.output) {
+        Ok(mut to) => run_into(world.threads, from, &mut to, err, planned, refused),
+        Err(error) => Err(refuse(alloc, refused, paths.output, &error, Fault::Write)),
+    }
+}
+
+/// Runs a plan on a stream that is open, of which is noted what is read.
+fn run_traced<S: Storage, T: Threads + AllocGlobal + Sync, R: Read, O: Write, E: Write>(
+    world: &World<S, T>,
+    from: &mut R,
+    out: &mut O,
+    err: &mut E,
+    planned: Planned<'_>,
+    sources: &mut Sources,
+) -> Result<(), Fault>
+    requires { Suits planned.running.loaded.now.design.net planned.plan.now }
+{
+    let alloc = world.threads.alloc();
+    let Sources { trace, refused, .. } = sources;
+    let Run {
+        input: name,
+        open_ended,
+        ..
+    } = planned.running.asked;
+    trace.name = String::from_str(alloc, name)?;
+    let mut input = Input::new(from, trace, open_ended);
+    let ended = run_from(world, &mut input, out, err, planned, refused);
+    if let Some(kind) = trace.refused {
+        refuse_kind(alloc, refused, name, kind);
+    }
+    ended
+}
+
+/// Runs a design by its plan on a WAV file. OUT is made or emptied once IN is open, and none of the files that are read
+/// is OUT.
+fn run_planned<S: Storage, T: Threads + AllocGlobal + Sync, I: Read, O: Write, E: Write>(
     world: &World<S, T>,
     stdin: &mut I,
     out: &mut O,
-    paths: Paths<'_>,
-    options: &Options,
+    err: &mut E,
+    planned: Planned<'_>,
     sources: &mut Sources,
-) -> Result<(), Fault> {
-    let alloc = world.threads.alloc();
-    let loaded = load_into(alloc, world.storage, paths.graph, world.most, sources)?;
-    let plan = plan(alloc, &loaded.design, options)?;
-    let planned = Planned {
-        loaded: &loaded,
-        plan: &plan,
-    };
-    run_planned(world, stdin, out, paths, planned, sources)
+) -> Result<(), Fault>
+    requires { Suits planned.running.loaded.now.design.net planned.plan.now }
+{
+    let input = planned.running.asked.input;
+    if input == STANDARD {
+        return run_traced(world, stdin, out, err, planned, sources);
+    }
+    match world.storage.open(input) {
+        Ok(mut from) => run_traced(world, &mut from, out, err, planned, sources),
+        Err(error) => {
+            let alloc = world.threads.alloc();
+            Err(refuse(alloc, &mut sources.refused, input, &error, Fault::Read))
+        }
+    }
 }
 
 /// How many workers are asked for.
@@ -183,49 +224,57 @@ fn tell_pace<E: Write>(alloc: Global, err: &mut E, pace: Pace) -> Result<(), All
     Ok(())
 }
 
-/// The plan of a parallel run. How that goes is told where it is asked for.
+/// The plan of a parallel run. How that goes is told where more is said than faults.
 fn crew_plan<T: Threads + AllocGlobal, E: Write>(
     threads: &T,
     err: &mut E,
-    asked: Parallel<'_>,
     design: &Design,
+    crew: Crew,
+    is_said: bool,
 ) -> Result<Plan, Fault>
-    requires { IsCrew asked.crew }
+    requires { IsCrew crew }
     ensures { IfOk result (λ plan. Suits design.now.net plan) }
 {
     let alloc = threads.alloc();
-    let Paced { plan, pace } = parallel_plan(alloc, design, workers_of(threads, asked.crew))?;
-    if asked.why {
+    let Paced { plan, pace } = parallel_plan(alloc, design, workers_of(threads, crew))?;
+    if is_said {
         tell_pace(alloc, err, pace)?;
     }
     Ok(plan)
 }
 
-/// Runs a design on a WAV file in parts of the sound if the design forgets, once its plan stands. It tells how if that
-/// is asked for.
-pub(crate) fn run_parallel<
-    S: Storage,
-    T: Threads + AllocGlobal + Sync,
-    I: Read,
-    O: Write,
-    E: Write,
->(
+/// The plan of a run.
+fn plan_of<T: Threads + AllocGlobal, E: Write>(
+    threads: &T,
+    err: &mut E,
+    running: Running<'_>,
+) -> Result<Plan, Fault>
+    requires { IfSome running.asked.parallel IsCrew }
+    ensures { IfOk result (λ plan. Suits running.entry.loaded.now.design.net plan) }
+{
+    let design = &running.loaded.design;
+    match running.asked.parallel {
+        Some(crew) => crew_plan(threads, err, design, crew, running.is_said),
+        None => plan(threads.alloc(), design, &running.asked.options),
+    }
+}
+
+/// Runs a design on a WAV file, once its plan stands: in parts of the sound if that is asked for and the design
+/// forgets.
+pub(crate) fn run<S: Storage, T: Threads + AllocGlobal + Sync, I: Read, O: Write, E: Write>(
     world: &World<S, T>,
     stdin: &mut I,
     out: &mut O,
     err: &mut E,
-    asked: Parallel<'_>,
+    running: Running<'_>,
     sources: &mut Sources,
 ) -> Result<(), Fault>
-    requires { IsCrew asked.crew }
+    requires { IfSome running.asked.parallel IsCrew }
 {
-    let alloc = world.threads.alloc();
-    let paths = asked.paths;
-    let loaded = load_into(alloc, world.storage, paths.graph, world.most, sources)?;
-    let plan = crew_plan(world.threads, err, asked, &loaded.design)?;
+    let plan = plan_of(world.threads, err, running)?;
     let planned = Planned {
-        loaded: &loaded,
+        running,
         plan: &plan,
     };
-    run_planned(world, stdin, out, paths, planned, sources)
+    run_planned(world, stdin, out, err, planned, sources)
 }

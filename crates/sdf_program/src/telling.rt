@@ -1,6 +1,8 @@
 //! What more is told of a fault.
 
 use crate::files::Sources;
+use crate::input::InputTrace;
+use crate::sounds::{format_text, header_of, unsuited_text};
 use sdf_document::DocumentFault;
 use sdf_file::FileFault;
 use sdf_options::Options;
@@ -9,7 +11,7 @@ use sdf_prec::PrecFault;
 use sdf_why::{
     Halt, channels_text, device_text, file_text, home_text, rate_text, stall_text, toml_text,
 };
-use sdf_words::Words;
+use sdf_words::{Task, Words};
 use std::alloc::{AllocError, Global};
 use std::io::Write;
 
@@ -62,16 +64,32 @@ fn design_text(
     format!(in alloc; "{told}{said}")
 }
 
-/// What is told of a sound that does not suit a design.
+/// What is told of a sound that does not suit a design: its file, and how it does not.
+fn unsuited(
+    alloc: Global,
+    trace: &InputTrace,
+    told: Result<String, AllocError>,
+) -> Result<String, AllocError> {
+    let mut text = unsuited_text(alloc, trace)?;
+    text.push_str(told?.as_str())?;
+    Ok(text)
+}
+
+/// What is told of a sound that is refused, or does not suit a design.
 fn sound_text(
     alloc: Global,
     fault: &Fault,
-    sources: &Sources,
+    trace: &InputTrace,
     given: sdf_why::Sources<'_>,
 ) -> Result<String, AllocError> {
-    match (fault, sources.header) {
-        (Fault::ChannelsMissing, Some(header)) => channels_text(alloc, header, given),
-        (Fault::RateNotWhole, Some(header)) => rate_text(alloc, header, given),
+    match (fault, header_of(trace)) {
+        (Fault::Wav(fault), _) => format_text(alloc, *fault, trace),
+        (Fault::ChannelsMissing, Some(header)) => {
+            unsuited(alloc, trace, channels_text(alloc, header, given))
+        }
+        (Fault::RateNotWhole, Some(header)) => {
+            unsuited(alloc, trace, rate_text(alloc, header, given))
+        }
         _ => Ok(String::new(alloc)),
     }
 }
@@ -94,7 +112,7 @@ fn why(
         Fault::Table(PrecFault::BadHome { actor }) => {
             home_text(alloc, options.workers, *actor, given.graph)
         }
-        _ => sound_text(alloc, fault, sources, given),
+        _ => sound_text(alloc, fault, &sources.trace, given),
     }
 }
 
@@ -106,11 +124,35 @@ enum Telling {
     Json,
 }
 
+/// The options of a task, by which its faults are told.
+fn options_of(task: &Task<'_>) -> Options {
+    match task {
+        Task::Schedule { options, .. }
+        | Task::Analyze { options, .. }
+        | Task::Draw { options, .. } => *options,
+        Task::Run(run) => run.options,
+        Task::Check { .. } | Task::Profile { .. } => Options::DEFAULT,
+    }
+}
+
+/// How the faults of a task are told.
+fn telling_of(task: &Task<'_>, is_said: bool) -> Telling {
+    match task {
+        Task::Check { json: true }
+        | Task::Schedule { json: true, .. }
+        | Task::Analyze { json: true, .. } => Telling::Json,
+        _ if is_said => Telling::Why(options_of(task)),
+        _ => Telling::Line,
+    }
+}
+
 /// What a fault can be told by: what was read, and how it is to be told.
 #[derive(Drop)]
 pub(crate) struct Background {
     pub(crate) sources: Sources,
     telling: Telling,
+    /// Whether the words were read, so that a mistake is not theirs.
+    is_read: bool,
 }
 
 impl Background {
@@ -119,33 +161,33 @@ impl Background {
         Background {
             sources: Sources::new(alloc),
             telling: Telling::Line,
+            is_read: false,
         }
     }
 
-    /// A fault is told as is asked for.
-    pub(crate) fn asked(&mut self, words: &Words<'_>) {
-        self.telling = match words {
-            Words::Check { json: true, .. }
-            | Words::Schedule { json: true, .. }
-            | Words::Analyze { json: true, .. } => Telling::Json,
-            Words::Check { why: true, .. } => Telling::Why(Options::DEFAULT),
-            Words::Schedule {
-                options,
-                why: true,
-                ..
-            }
-            | Words::Run {
-                options,
-                why: true,
-                ..
-            } => Telling::Why(*options),
-            _ => Telling::Line,
-        };
+    /// A fault is told as is asked for. `terminal` is whether standard error is a terminal.
+    pub(crate) fn asked(&mut self, words: &Words<'_>, terminal: bool) {
+        self.is_read = true;
+        if let Words::Design { task, why, .. } = words {
+            self.telling = telling_of(task, why.is_said(terminal));
+        }
+    }
+
+    /// A mistake in the words of `line` is told in JSON if they ask for that.
+    pub(crate) fn misread(&mut self, line: &[&str]) {
+        if line.iter().any(|word| *word == "--json") {
+            self.telling = Telling::Json;
+        }
     }
 
     /// Whether a fault is told in JSON.
     pub(crate) fn is_json(&self) -> bool {
         self.telling == Telling::Json
+    }
+
+    /// Whether the words were read.
+    pub(crate) fn is_read(&self) -> bool {
+        self.is_read
     }
 
     /// Tells what more is known of a fault, where that is asked for, unless memory is refused for it.

@@ -6,22 +6,27 @@ use Rattle.sdf_words.specs.declared.asked.TheConstants.{MOST_FAULT}
 use Rattle.sdf_words.specs.declared.asked.Crew.{Crew}
 use Rattle.sdf_words.specs.declared.asked.Crew.TheVariants.{Processors, Workers}
 use Rattle.sdf_words.specs.declared.asked.Words.{Words}
-use Rattle.sdf_words.specs.declared.asked.Words.TheVariants.{Check, Schedule, Analyze, Draw, Run, Profile}
-use Rattle.sdf_words.specs.declared.asked.Words.TheVariants.{Fir, Resample, Kinds, Explain}
+use Rattle.sdf_words.specs.declared.asked.Words.TheVariants.{Design, Fir, Resample, Kinds, Explain}
+use Rattle.sdf_words.specs.declared.asked.Task.{Task}
+use Rattle.sdf_words.specs.declared.asked.Task.TheVariants.{Check, Schedule, Analyze, Draw, Run, Profile}
 
 -- there may be so many workers
 abbrev pub IsCrew : Crew → Type 0
 IsCrew Processors = Unit {0}
 IsCrew (Workers workers) = (1 ≤ workers) × (workers ≤ MOST_WORKERS)
 
--- the numbers of a command are within their limits
+-- the numbers of a task are within their limits
+abbrev pub IsTaskWithinLimits : Task → Type 0
+IsTaskWithinLimits (Check json) = Unit {0}
+IsTaskWithinLimits (Schedule options json) = AreWithinLimits options
+IsTaskWithinLimits (Analyze options compare json) = AreWithinLimits options
+IsTaskWithinLimits (Draw options dot) = AreWithinLimits options
+IsTaskWithinLimits (Run run) = AreWithinLimits run.options × IfSome run.parallel IsCrew
+IsTaskWithinLimits (Profile input write) = Unit {0}
+
+-- those of a command are
 abbrev pub IsWithinLimits : Words → Type 0
-IsWithinLimits (Check graph why json) = Unit {0}
-IsWithinLimits (Schedule graph options why json) = AreWithinLimits options
-IsWithinLimits (Analyze graph options compare json) = AreWithinLimits options
-IsWithinLimits (Draw graph options dot) = AreWithinLimits options
-IsWithinLimits (Run graph input output options parallel why) = AreWithinLimits options × IfSome parallel IsCrew
-IsWithinLimits (Profile graph input write) = Unit {0}
+IsWithinLimits (Design graph task why) = IsTaskWithinLimits task
 IsWithinLimits (Fir wanted) = Unit {0}
 IsWithinLimits (Resample conversion) = Unit {0}
 IsWithinLimits Kinds = Unit {0}

@@ -1,5 +1,7 @@
 //! What a command line asks for.
 
+ghost use Rattle.std.specs.Prelude.{◌≡◌, true, false};
+
 use sdf_filters::Wanted;
 use sdf_options::Options;
 
@@ -26,25 +28,54 @@ pub enum Crew {
     Workers(usize),
 }
 
-/// A command, its files by their paths. With `why` more is told of a fault; with `json` the answer and the fault are
-/// JSON.
+/// When more is said of a fault than its line, and of a run that it ends well.
 #[derive(Clone, Copy, Debug, PartialEq, Eq)]
-pub enum Words<'a> {
+pub enum Why {
+    /// If standard error is a terminal.
+    AtTerminal,
+    Always,
+    Never,
+}
+
+impl Why {
+    /// Returns whether more is said. `terminal` is whether standard error is a terminal.
+    pub fn is_said(self, terminal: bool) -> bool
+        ensures terminal { self ≡ Why.AtTerminal → result ≡ terminal }
+        ensures always { self ≡ Why.Always → result ≡ true }
+        ensures never { self ≡ Why.Never → result ≡ false }
+    {
+        match self {
+            Why::AtTerminal => terminal,
+            Why::Always => true,
+            Why::Never => false,
+        }
+    }
+}
+
+/// A run from one file to another. With `parallel` the options mean nothing. With `open_ended` the samples are read to
+/// the end of the input.
+#[derive(Clone, Copy, Debug, PartialEq, Eq)]
+pub struct Run<'a> {
+    pub input: &'a str,
+    pub output: &'a str,
+    pub options: Options,
+    pub parallel: Option<Crew>,
+    pub open_ended: bool,
+}
+
+/// What is asked of a design, with files by their paths. With `json` the answer and a fault are JSON.
+#[derive(Clone, Copy, Debug, PartialEq, Eq)]
+pub enum Task<'a> {
     Check {
-        graph: &'a str,
-        why: bool,
         json: bool,
     },
     /// The options but the runner and the patience.
     Schedule {
-        graph: &'a str,
         options: Options,
-        why: bool,
         json: bool,
     },
     /// The options as of a schedule. With `compare` the policy and the placement mean nothing.
     Analyze {
-        graph: &'a str,
         options: Options,
         compare: bool,
         json: bool,
@@ -52,24 +83,25 @@ pub enum Words<'a> {
     /// The picture of a design and its schedule. The options as of a schedule. With `dot` the graph alone, for
     /// Graphviz.
     Draw {
-        graph: &'a str,
         options: Options,
         dot: bool,
     },
-    /// With `parallel` the options mean nothing.
-    Run {
-        graph: &'a str,
-        input: &'a str,
-        output: &'a str,
-        options: Options,
-        parallel: Option<Crew>,
-        why: bool,
-    },
+    Run(Run<'a>),
     /// Each actor's share of the time of a run. With `write` the graph file is written there with what was measured.
     Profile {
-        graph: &'a str,
         input: &'a str,
         write: Option<&'a str>,
+    },
+}
+
+/// A command.
+#[derive(Clone, Copy, Debug, PartialEq, Eq)]
+pub enum Words<'a> {
+    /// A task for the design of the graph file at `graph`.
+    Design {
+        graph: &'a str,
+        task: Task<'a>,
+        why: Why,
     },
     /// The coefficient file of a filter.
     Fir {

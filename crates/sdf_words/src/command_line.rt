@@ -3,16 +3,18 @@
 ghost use Rattle.std.specs.Prelude.{◌≡◌, ◌≤◌, IfOk, IfErr, IfSome, option_and_then, position, slice_get};
 ghost use Rattle.std.specs.Str.{bytes_eq};
 ghost use Rattle.sdf_options.specs.Limits.{AreWithinLimits, IsUsage};
-ghost use Rattle.sdf_words.specs.Limits.{IsCrew, IsWithinLimits};
+ghost use Rattle.sdf_words.specs.Limits.{IsCrew, IsTaskWithinLimits, IsWithinLimits};
 ghost use Rattle.sdf_words.specs.declared.asked.TheConstants.{MOST_FAULT};
 
-use crate::asked::{Conversion, Crew, MOST_FAULT, Words};
+use crate::asked::{Conversion, Crew, MOST_FAULT, Run, Task, Why, Words};
 use crate::commands::sdfw_command;
-use crate::explain::number_named;
+use crate::explain::{NAMES, number_named};
+use crate::similar::nearest;
 use clap::error::ErrorKind;
 use clap::{ArgMatches, Command};
 use sdf_filters::{Band, Wanted};
 use sdf_limits::{MOST_BLOCKING, MOST_PATIENCE, MOST_WORKERS};
+use sdf_options::printable::printable;
 use sdf_options::{
     Options, PLACEMENT_WORDS, PLACEMENTS, POLICIES, POLICY_WORDS, RUNNER_WORDS, RUNNERS, WordFault,
 };
@@ -67,35 +69,32 @@ fn options_of(matches: &ArgMatches<'_>) -> Option<Options>
     })
 }
 
-/// What `check` is asked for.
-fn check_of<'a>(matches: &ArgMatches<'a>) -> Option<Words<'a>>
-    ensures { IfSome result IsWithinLimits }
-{
-    Some(Words::Check {
-        graph: matches.get_str("GRAPH")?,
-        why: matches.get_flag("why"),
-        json: matches.get_flag("json"),
-    })
+/// When more is said of a fault.
+fn why_of(matches: &ArgMatches<'_>) -> Why {
+    if matches.get_flag("why") {
+        Why::Always
+    } else if matches.get_flag("no-why") {
+        Why::Never
+    } else {
+        Why::AtTerminal
+    }
 }
 
 /// What `schedule` is asked for.
-fn schedule_of<'a>(matches: &ArgMatches<'a>) -> Option<Words<'a>>
-    ensures { IfSome result IsWithinLimits }
+fn schedule_of<'a>(matches: &ArgMatches<'a>) -> Option<Task<'a>>
+    ensures { IfSome result IsTaskWithinLimits }
 {
-    Some(Words::Schedule {
-        graph: matches.get_str("GRAPH")?,
+    Some(Task::Schedule {
         options: plan_options_of(matches)?,
-        why: matches.get_flag("why"),
         json: matches.get_flag("json"),
     })
 }
 
 /// What `analyze` is asked for.
-fn analyze_of<'a>(matches: &ArgMatches<'a>) -> Option<Words<'a>>
-    ensures { IfSome result IsWithinLimits }
+fn analyze_of<'a>(matches: &ArgMatches<'a>) -> Option<Task<'a>>
+    ensures { IfSome result IsTaskWithinLimits }
 {
-    Some(Words::Analyze {
-        graph: matches.get_str("GRAPH")?,
+    Some(Task::Analyze {
         options: plan_options_of(matches)?,
         compare: matches.get_flag("compare"),
         json: matches.get_flag("json"),
@@ -103,22 +102,20 @@ fn analyze_of<'a>(matches: &ArgMatches<'a>) -> Option<Words<'a>>
 }
 
 /// What `draw` is asked for.
-fn draw_of<'a>(matches: &ArgMatches<'a>) -> Option<Words<'a>>
-    ensures { IfSome result IsWithinLimits }
+fn draw_of<'a>(matches: &ArgMatches<'a>) -> Option<Task<'a>>
+    ensures { IfSome result IsTaskWithinLimits }
 {
-    Some(Words::Draw {
-        graph: matches.get_str("GRAPH")?,
+    Some(Task::Draw {
         options: plan_options_of(matches)?,
         dot: matches.get_flag("dot"),
     })
 }
 
 /// What `profile` is asked for.
-fn profile_of<'a>(matches: &ArgMatches<'a>) -> Option<Words<'a>>
-    ensures { IfSome result IsWithinLimits }
+fn profile_of<'a>(matches: &ArgMatches<'a>) -> Option<Task<'a>>
+    ensures { IfSome result IsTaskWithinLimits }
 {
-    Some(Words::Profile {
-        graph: matches.get_str("GRAPH")?,
+    Some(Task::Profile {
         input: matches.get_str("IN")?,
         write: matches.get_str("write"),
     })
@@ -136,16 +133,43 @@ fn crew_of(matches: &ArgMatches<'_>) -> Option<Crew>
 }
 
 /// What `run` is asked for.
-fn run_of<'a>(matches: &ArgMatches<'a>) -> Option<Words<'a>>
-    ensures { IfSome result IsWithinLimits }
+fn run_of<'a>(matches: &ArgMatches<'a>) -> Option<Task<'a>>
+    ensures { IfSome result IsTaskWithinLimits }
 {
-    Some(Words::Run {
-        graph: matches.get_str("GRAPH")?,
+    Some(Task::Run(Run {
         input: matches.get_str("IN")?,
         output: matches.get_str("OUT")?,
         options: options_of(matches)?,
         parallel: crew_of(matches),
-        why: matches.get_flag("why"),
+        open_ended: matches.get_flag("open-ended"),
+    }))
+}
+
+/// What a command asks of a design, by its name.
+fn task_of<'a>(name: &str, matches: &ArgMatches<'a>) -> Option<Task<'a>>
+    ensures { IfSome result IsTaskWithinLimits }
+{
+    match name {
+        "check" => Some(Task::Check {
+            json: matches.get_flag("json"),
+        }),
+        "schedule" => schedule_of(matches),
+        "analyze" => analyze_of(matches),
+        "draw" => draw_of(matches),
+        "profile" => profile_of(matches),
+        "run" => run_of(matches),
+        _ => None,
+    }
+}
+
+/// What is asked of a design, and when more is said of a fault.
+fn design_of<'a>(name: &str, matches: &ArgMatches<'a>) -> Option<Words<'a>>
+    ensures { IfSome result IsWithinLimits }
+{
+    Some(Words::Design {
+        graph: matches.get_str("GRAPH")?,
+        task: task_of(name, matches)?,
+        why: why_of(matches),
     })
 }
 
@@ -203,19 +227,13 @@ fn asked<'a>(name: &str, matches: &ArgMatches<'a>) -> Option<Words<'a>>
     ensures { IfSome result IsWithinLimits }
 {
     match name {
-        "check" => check_of(matches),
-        "schedule" => schedule_of(matches),
-        "analyze" => analyze_of(matches),
-        "draw" => draw_of(matches),
-        "profile" => profile_of(matches),
-        "run" => run_of(matches),
         "fir" => fir_of(matches),
         "resample" => resample_of(matches),
         "kinds" => Some(Words::Kinds),
         "explain" => Some(Words::Explain {
             number: number_of(matches, "NUMBER", 1, MOST_FAULT)?,
         }),
-        _ => None,
+        _ => design_of(name, matches),
     }
 }
 
@@ -224,16 +242,6 @@ fn words_of<'a>(matches: &ArgMatches<'a>) -> Option<Words<'a>>
 {
     let (name, inner) = matches.subcommand()?;
     asked(name, inner)
-}
-
-/// The number of a fault that is to be explained by its name.
-fn explained_by_name(words: &[&str]) -> Option<u32>
-    ensures { IfSome result (λ n. (1 ≤ n) × (n ≤ MOST_FAULT)) }
-{
-    match words {
-        [_, "explain", name] => number_named(name),
-        _ => None,
-    }
 }
 
 /// What a program's words mean to its command.
@@ -251,17 +259,6 @@ fn read<'a>(command: &mut Command<'a>, words: &'a [&'a str]) -> Result<Words<'a>
     }
 }
 
-/// Reads a command line, of which the first word is the program's name.
-pub fn words<'a>(alloc: Global, words: &'a [&'a str]) -> Result<Words<'a>, WordFault>
-    ensures within { IfOk result IsWithinLimits }
-    ensures usage { IfErr result IsUsage }
-{
-    if let Some(number) = explained_by_name(words) {
-        return Ok(Words::Explain { number });
-    }
-    read(&mut sdfw_command(alloc)?, words)
-}
-
 /// A mistake in the words that no command could read.
 fn refuse(alloc: Global, text: &str) -> Result<clap::Error, AllocError> {
     sdfw_command(alloc)?.error(ErrorKind::InvalidValue, text)
@@ -274,5 +271,54 @@ pub fn mistake(alloc: Global, text: &str) -> WordFault
     match refuse(alloc, text) {
         Ok(error) => WordFault::from(error),
         Err(_) => WordFault::OutOfMemory,
+    }
+}
+
+/// Whether a word begins as the names of faults do.
+fn is_name(word: &str) -> bool {
+    matches!(word.as_bytes(), [b'A'..=b'Z' | b'a'..=b'z', ..])
+}
+
+/// What is said of a name that no fault has.
+fn unnamed_text(alloc: Global, name: &str) -> Result<String, AllocError> {
+    let shown = printable(alloc, name)?;
+    let shown = shown.as_str();
+    match nearest(alloc, NAMES, name)? {
+        Some(near) => {
+            format!(in alloc; "no fault has the name '{shown}'\n\n  tip: did you mean '{near}'?")
+        }
+        None => format!(in alloc; "no fault has the name '{shown}'"),
+    }
+}
+
+/// The mistake of a name that no fault has.
+fn unnamed(alloc: Global, name: &str) -> WordFault
+    ensures { IsUsage result }
+{
+    match unnamed_text(alloc, name) {
+        Ok(text) => mistake(alloc, text.as_str()),
+        Err(_) => WordFault::OutOfMemory,
+    }
+}
+
+/// The fault of this name is to be explained.
+fn explain<'a>(alloc: Global, name: &str) -> Result<Words<'a>, WordFault>
+    ensures within { IfOk result IsWithinLimits }
+    ensures usage { IfErr result IsUsage }
+{
+    match number_named(name) {
+        Some(number) => Ok(Words::Explain { number }),
+        None => Err(unnamed(alloc, name)),
+    }
+}
+
+/// Reads a command line, of which the first word is the program's name.
+pub fn words<'a>(alloc: Global, words: &'a [&'a str]) -> Result<Words<'a>, WordFault>
+    ensures within { IfOk result IsWithinLimits }
+    ensures usage { IfErr result IsUsage }
+{
+    match words {
+        [_, "explain", name] if is_name(name) => explain(alloc, name),
+        _ => read(&mut sdfw_command(alloc)?, words),
     }
 }

@@ -1,58 +1,83 @@
 //! What the faults mean.
 
-ghost use Rattle.std.specs.Prelude.{◌≡◌, ◌≤◌, IfSome};
+ghost use Rattle.std.specs.Prelude.{◌≡◌, ◌≤◌, ◌<◌, ℕ, List, [], length, map, get_or, true, false, ◌++◌, IfOk, IfSome, IfNone, IsSome, OnOk, string_bytes};
 ghost use Rattle.sdf_words.specs.declared.asked.TheConstants.{MOST_FAULT};
+ghost use Rattle.sdf_words.specs.Names.{heading, IsNamed, Explains};
 
 mod documents;
 mod graphs;
+mod names;
 mod sounds;
 mod tables;
 
 use crate::asked::MOST_FAULT;
+pub(crate) use names::NAMES;
 use std::alloc::{AllocError, Global};
 
 /// What a fault means, within which limits it does not come, and what to do about it. `place` is how its line goes on.
 #[derive(Clone, Copy)]
 struct Meaning {
-    number: u32,
-    name: &'static str,
     place: &'static str,
     means: &'static str,
     limits: &'static str,
     remedy: &'static str,
 }
 
-/// What the faults near this number mean.
-fn meanings_near(number: u32) -> &'static [Meaning] {
+/// What the fault of this number means.
+fn meaning_of(number: u32) -> Option<Meaning>
+    ensures { 1 ≤ number → number ≤ MOST_FAULT → IsSome result }
+{
+    let number = number as usize;
     match number {
-        0..=12 => graphs::MEANINGS.as_slice(),
-        13..=33 => tables::MEANINGS.as_slice(),
-        34..=48 => sounds::MEANINGS.as_slice(),
-        _ => documents::MEANINGS.as_slice(),
+        1..=12 => graphs::MEANINGS.get(number - 1).copied(),
+        13..=33 => tables::MEANINGS.get(number - 13).copied(),
+        34..=48 => sounds::MEANINGS.get(number - 34).copied(),
+        49..=63 => documents::MEANINGS.get(number - 49).copied(),
+        _ => None,
     }
 }
 
-/// What the fault of this number means.
-fn meaning_of(number: u32) -> Option<Meaning>
-    ensures { IfSome result (λ meaning. meaning.number ≡ number) }
+/// Returns the word at `place`, if there is one.
+fn word_at<'a>(words: &[&'a str], place: usize) -> Option<&'a str>
+    ensures found { IfSome result (λ word. (place < length words.now)
+        × (get_or (map (λ w. w.now) words.now) place [] ≡ word.now)) }
+    ensures none { IfNone result (length words.now ≤ place) }
 {
-    meanings_near(number)
-        .iter()
-        .copied()
-        .find(|meaning| meaning.number == number)
+    if place < words.len() {
+        Some(words[place])
+    } else {
+        None
+    }
 }
 
-/// Whether the fault of this number has this name.
-fn is_named(number: u32, name: &str) -> bool {
-    match meaning_of(number) {
-        Some(meaning) => meaning.name == name,
+/// The name of the fault of this number.
+fn name_of(number: u32) -> Option<&'static str>
+    ensures named { IfSome result (λ name. IsNamed number name.now) }
+    ensures some { 1 ≤ number → number ≤ MOST_FAULT → IsSome result }
+    ensures none { IfNone result ((name : List ℕ) → IsNamed number name → ⊥) }
+{
+    if number == 0 {
+        return None;
+    }
+    word_at(NAMES, number as usize - 1)
+}
+
+/// Whether this is the whole name of the fault of this number.
+fn is_named(number: u32, name: &str) -> bool
+    ensures named { result ≡ true → IsNamed number name.now }
+    ensures other { result ≡ false → IsNamed number name.now → ⊥ }
+{
+    match name_of(number) {
+        Some(known) => known == name,
         None => false,
     }
 }
 
-/// The number of the fault of this name.
+/// Returns the number of the fault that has this whole name.
 pub(crate) fn number_named(name: &str) -> Option<u32>
-    ensures { IfSome result (λ number. (1 ≤ number) × (number ≤ MOST_FAULT)) }
+    ensures within { IfSome result (λ number. (1 ≤ number) × (number ≤ MOST_FAULT)) }
+    ensures named { IfSome result (λ number. IsNamed number name.now) }
+    ensures none { IfNone result ((number : ℕ) → IsNamed number name.now → ⊥) }
 {
     for number in 1..=MOST_FAULT {
         if is_named(number, name) {
@@ -70,16 +95,34 @@ fn push_line(text: &mut String, label: &str, said: &str) -> Result<(), AllocErro
     writeln!(text, "{label}: {said}")
 }
 
-/// What a fault is, line by line, or nothing where no fault has the number.
-pub fn explained(alloc: Global, number: u32) -> Result<String, AllocError> {
+/// Adds the first line of an explanation.
+#[tactic(auto, unfolding(crate::specs::Names::heading))]
+fn push_heading(text: &mut String, number: u32, name: &str) -> Result<(), AllocError>
+    ensures { OnOk result (string_bytes text.new ≡ string_bytes text.old ++ heading number name.now) }
+{
+    writeln!(text, "{number} {name}")?;
+    Ok(())
+}
+
+/// The lines below the first one of an explanation.
+fn lines(alloc: Global, meaning: Meaning) -> Result<String, AllocError> {
     let mut text = String::new(alloc);
-    if let Some(meaning) = meaning_of(number) {
-        let name = meaning.name;
-        writeln!(text, "{number} {name}")?;
-        push_line(&mut text, "where", meaning.place)?;
-        push_line(&mut text, "means", meaning.means)?;
-        push_line(&mut text, "limits", meaning.limits)?;
-        push_line(&mut text, "remedy", meaning.remedy)?;
-    }
+    push_line(&mut text, "where", meaning.place)?;
+    push_line(&mut text, "means", meaning.means)?;
+    push_line(&mut text, "limits", meaning.limits)?;
+    push_line(&mut text, "remedy", meaning.remedy)?;
+    Ok(text)
+}
+
+/// What a fault is, line by line, or nothing where no fault has the number.
+pub fn explained(alloc: Global, number: u32) -> Result<String, AllocError>
+    ensures { 1 ≤ number → number ≤ MOST_FAULT → IfOk result (λ text. Explains number (string_bytes text)) }
+{
+    let mut text = String::new(alloc);
+    let (Some(name), Some(meaning)) = (name_of(number), meaning_of(number)) else {
+        return Ok(text);
+    };
+    push_heading(&mut text, number, name)?;
+    text.push_str(lines(alloc, meaning)?.as_str())?;
     Ok(text)
 }

@@ -8,6 +8,7 @@ use sdf_program::files::MOST_BYTES;
 use sdf_program::program::{World, serve};
 use sdf_program::storage::Disk;
 use sdf_words::arguments::arguments;
+use std::io::IsTerminal;
 use std::process::ExitCode;
 
 fn main(rt: HostRuntime) -> ExitCode {
@@ -16,6 +17,7 @@ fn main(rt: HostRuntime) -> ExitCode {
         storage: &Disk { rt: &rt },
         threads: &rt,
         most: MOST_BYTES,
+        terminal: rt.stderr().is_terminal(),
     };
     ExitCode::from(serve(
         &world,

@@ -3,7 +3,7 @@
 
 use sdf_options::Options;
 use sdf_plan::{Fault, status};
-use sdf_words::{Words, words};
+use sdf_words::{Run, Task, Why, Words, words};
 use std::alloc::Global;
 use std::test::Fail;
 use test_texts::{row_says, says};
@@ -132,6 +132,24 @@ const COMMANDS: &[Row] = &[
     ("a number", "explain 1", "Explain { number: 1 }"),
     ("a number", "explain 10", "Explain { number: 10 }"),
     ("a number", "explain 63", "Explain { number: 63 }"),
+    ("a name", "explain Deadlock", "Explain { number: 10 }"),
+    (
+        "more",
+        "check g --why",
+        "Design { graph: \"g\", task: Check { json: false }, why: Always }",
+    ),
+    (
+        "no more",
+        "profile g i --no-why",
+        "Design { graph: \"g\", task: Profile { input: \"i\", write: None }, why: Never }",
+    ),
+    (
+        "a run to the end",
+        "run g i o --open-ended",
+        "Design { graph: \"g\", task: Run(Run { input: \"i\", output: \"o\", options: Options { blocking: 1, \
+         workers: 1, policy: Round, placement: Homed, runner: One, patience: 1000 }, parallel: None, open_ended: \
+         true }), why: AtTerminal }",
+    ),
     (
         "a band-pass from its defaults",
         "fir bandpass --rate 9 --pass 1 --stop 2",
@@ -170,6 +188,8 @@ const OTHER_WORDS: &[Row] = &[
     ("a number that there is not", "explain 64", "2"),
     ("a number that there is not", "explain -1", "2"),
     ("no number", "explain x", "2"),
+    ("a front of a name", "explain Dead", "2"),
+    ("a name and more", "explain Deadlocks", "2"),
     ("no number", "explain ", "2"),
 ];
 
@@ -190,9 +210,10 @@ const MISTAKES: &[Row] = &[
     ("a schedule by a runner", "schedule g --runner rows", "2"),
     ("a schedule with patience", "schedule g --patience 1", "2"),
     ("an analysis by a runner", "analyze g --runner rings", "2"),
-    ("an analysis with more", "analyze g --why", "2"),
+    ("more in JSON", "analyze g --why --json", "2"),
     ("a picture in JSON", "draw g --json", "2"),
-    ("a picture with more", "draw g --why", "2"),
+    ("more and no more", "draw g --why --no-why", "2"),
+    ("a check to the end", "check g --open-ended", "2"),
     ("a run in JSON", "run g i o --json", "2"),
     ("a profile by workers", "profile g i --workers 2", "2"),
     ("a profile with an OUT", "profile g i o", "2"),
@@ -228,13 +249,17 @@ const HELP: &[Row] = &[
 fn told<'a>(alloc: Global, line: &'a [&'a str]) -> Result<String, Fail> {
     match words(alloc, line) {
         Ok(
-            Words::Run {
+            Words::Design {
                 graph: "g",
-                input: "i",
-                output: "o",
-                options,
-                parallel,
-                why: false,
+                task:
+                    Task::Run(Run {
+                        input: "i",
+                        output: "o",
+                        options,
+                        parallel,
+                        open_ended: false,
+                    }),
+                why: Why::AtTerminal,
             },
         ) => Ok(format!(in alloc;
             "{} {} {:?} {:?} {:?} {} {parallel:?}",
@@ -280,12 +305,12 @@ fn other_lines_and_defaults(rt: HostRuntime) -> Result<(), Fail> {
     says(told(alloc, &["sdfw"]), "2")?;
     says(
         told(alloc, &["sdfw", "check", "a b"]),
-        "Check { graph: \"a b\", why: false, json: false }",
+        "Design { graph: \"a b\", task: Check { json: false }, why: AtTerminal }",
     )?;
     says(
         told(alloc, &["sdfw", "schedule", "a b", "--workers", "2"]),
-        "Schedule { graph: \"a b\", options: Options { blocking: 1, workers: 2, policy: Round, placement: Homed, \
-         runner: One, patience: 1000 }, why: false, json: false }",
+        "Design { graph: \"a b\", task: Schedule { options: Options { blocking: 1, workers: 2, policy: Round, \
+         placement: Homed, runner: One, patience: 1000 }, json: false }, why: AtTerminal }",
     )?;
     says(
         Ok(format!(in alloc; "{:?}", Options::DEFAULT)?),

@@ -111,11 +111,38 @@ standard error says which. The sound is read whole, as by `--runner one`",
     }),
 };
 
-const WHY: Argument = Argument {
+pub(super) const WHY: Argument = Argument {
     name: "why",
     help: "Says more of a fault: names, values and limits",
-    more: "Says more of a fault: after its line come lines that begin with two blanks and have the names of
-actors and the ends of links, what stands at a key and what it wants, or a cycle that lacks samples",
+    more: "Says more of a fault: after its line come lines that begin with two blanks and have the names of files and
+actors and the ends of links, what stands in a file or at a key and what it wants, or a cycle that lacks
+samples. It is on by itself if standard error is a terminal",
+    given: PLAIN,
+};
+
+pub(super) const NO_WHY: Argument = Argument {
+    name: "no-why",
+    help: "Prints a fault's line alone, at a terminal too",
+    more: "Prints a fault's line alone, at a terminal too",
+    given: Given::Switch(Switch {
+        against: &["why"],
+        value: None,
+    }),
+};
+
+const LEVELS: Argument = Argument {
+    more: "Says more of a fault: after its line come lines that begin with two blanks and have the names of files and
+actors and the ends of links, what stands in a file or at a key and what it wants, or a cycle that lacks
+samples. A run that ends well says of each output its frames, its peak below full scale in dB, and how many
+of its samples are at full scale. It is on by itself if standard error is a terminal",
+    ..WHY
+};
+
+const OPEN_ENDED: Argument = Argument {
+    name: "open-ended",
+    help: "Reads samples to the end of IN, whatever its header says",
+    more: "Reads samples to the end of IN, whatever size of the samples its header says: for programs that write to
+a pipe and do not know the size yet. The sound is read whole before OUT is written",
     given: PLAIN,
 };
 
@@ -141,7 +168,7 @@ pub(super) const ROWS: &[Row] = &[
 a period, how many of them are each actor's, and how many samples an input puts and an output takes
 in one. A fault is a line on standard error, which `sdfw explain` explains.",
         schedules: false,
-        arguments: &[GRAPH, WHY, JSON],
+        arguments: &[GRAPH, WHY, NO_WHY, JSON],
         examples: "Examples:
   sdfw check graph.toml
   sdfw check graph.toml --why",
@@ -153,7 +180,7 @@ in one. A fault is a line on standard error, which `sdfw explain` explains.",
 the table of a block, a line for each row with the firing of each worker, and the most samples that
 each link holds.",
         schedules: true,
-        arguments: &[GRAPH, WHY, JSON],
+        arguments: &[GRAPH, WHY, NO_WHY, JSON],
         examples: "Examples:
   sdfw schedule graph.toml --policy lean
   sdfw schedule graph.toml --workers 2 --blocking 4",
@@ -164,7 +191,9 @@ each link holds.",
         more: "Processes a WAV file: runs as many periods of the design as it takes to read IN, and writes what its
 outputs take to OUT. The bytes are the same whatever the options are.",
         schedules: true,
-        arguments: &[GRAPH, IN, OUT, RUNNER, PATIENCE, PARALLEL, WHY],
+        arguments: &[
+            GRAPH, IN, OUT, RUNNER, PATIENCE, PARALLEL, OPEN_ENDED, LEVELS, NO_WHY,
+        ],
         examples: "Examples:
   sdfw run graph.toml in.wav out.wav
   sdfw run graph.toml in.wav out.wav --parallel

@@ -1,6 +1,6 @@
 //! The commands that show what a schedule does and what a run costs: what each takes, and what its help says.
 
-use super::designs::{GRAPH, IN, JSON};
+use super::designs::{GRAPH, IN, JSON, NO_WHY, WHY};
 use super::{Argument, Given, PLAIN, Row, Values};
 
 const COMPARE: Argument = Argument {
@@ -11,11 +11,6 @@ const COMPARE: Argument = Argument {
 among blocks of as many periods, or with the number of a fault where there is no schedule. `--policy`
 and `--placement` have no effect with it",
     given: PLAIN,
-};
-
-const FIGURES: Argument = Argument {
-    given: PLAIN,
-    ..JSON
 };
 
 const DOT: Argument = Argument {
@@ -44,7 +39,7 @@ the time that the key `cost` of its actor says, 1 where it has none. The makespa
 ends, the work what all cost together, and no schedule of the block ends before the bound. The speedup
 is the work over the makespan; of each worker is said how much of the makespan it fires.",
         schedules: true,
-        arguments: &[GRAPH, COMPARE, FIGURES],
+        arguments: &[GRAPH, COMPARE, WHY, NO_WHY, JSON],
         examples: "Examples:
   sdfw analyze graph.toml --workers 2
   sdfw analyze graph.toml --workers 8 --compare",
@@ -56,7 +51,7 @@ is the work over the makespan; of each worker is said how much of the makespan i
 their firings in a period, the links with their rates, initial samples and capacities, and below them
 the table against time, a lane for each worker.",
         schedules: true,
-        arguments: &[GRAPH, DOT],
+        arguments: &[GRAPH, DOT, WHY, NO_WHY],
         examples: "Examples:
   sdfw draw graph.toml --workers 2 > graph.svg
   sdfw draw graph.toml --dot | dot -Tpdf > graph.pdf",
@@ -68,7 +63,7 @@ the table against time, a lane for each worker.",
 nanoseconds of a firing, and prints the keys `cost` to write into the graph file, of which the least
 is 1. What the run makes is not written.",
         schedules: false,
-        arguments: &[GRAPH, IN, WRITE],
+        arguments: &[GRAPH, IN, WRITE, WHY, NO_WHY],
         examples: "Examples:
   sdfw profile graph.toml in.wav
   sdfw profile graph.toml in.wav --write measured.toml",

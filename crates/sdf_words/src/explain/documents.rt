@@ -4,121 +4,106 @@ use super::Meaning;
 
 /// What the faults 49 to 63 mean, in this order.
 pub(super) static MEANINGS: [Meaning; 15] = [
+    // 49 NotToml
     Meaning {
-        number: 49,
-        name: "NotToml",
         place: "PLACE",
         means: "The file is not a TOML document. PLACE is `top` for the graph file.",
         limits: "",
         remedy: "Correct the text; text values need quotes. `--why` names the line and the column.",
     },
+    // 50 Format
     Meaning {
-        number: 50,
-        name: "Format",
         place: "PLACE",
         means: "`format` is a whole number that this version does not know.",
         limits: "1 or 2 in a graph file, 1 in a coefficient file",
         remedy: "Write `format = 1`, or `format = 2` for a kind that `sdfw kinds` lists with `format 2`.",
     },
+    // 51 UnknownKey
     Meaning {
-        number: 51,
-        name: "UnknownKey",
         place: "PLACE key K",
         means: "A key does not belong there, or `file` stands beside `taps` or `values`, which it replaces.",
         limits: "the keys of the kind (`sdfw kinds`), `name`, `kind`, `processor` and `cost`",
         remedy: "Remove it, or correct its spelling; keep either the list or `file`.",
     },
+    // 52 MissingKey
     Meaning {
-        number: 52,
-        name: "MissingKey",
         place: "PLACE key K",
         means: "A key is missing.",
         limits: "",
         remedy: "Add it.",
     },
+    // 53 WrongType
     Meaning {
-        number: 53,
-        name: "WrongType",
         place: "PLACE key K",
         means: "A value does not have the type that its key needs.",
         limits: "",
         remedy: "Write whole numbers without a point, text in quotes and lists in brackets.",
     },
+    // 54 BadName
     Meaning {
-        number: 54,
-        name: "BadName",
         place: "PLACE key K",
         means: "A name breaks its rule.",
         limits: "actors: 1 to 32 of `A-Z a-z 0-9 _ -`, the first a letter; files: 1 to 64 of `A-Z a-z 0-9 _ - .`, the first no dot",
         remedy: "Change the name.",
     },
+    // 55 NameTwice
     Meaning {
-        number: 55,
-        name: "NameTwice",
         place: "actor A",
         means: "An earlier actor has this name.",
         limits: "",
         remedy: "Change one of the names.",
     },
+    // 56 UnknownKind
     Meaning {
-        number: 56,
-        name: "UnknownKind",
         place: "actor A",
         means: "No kind has this name, or `format = 1` does not have it.",
         limits: "",
         remedy: "See `sdfw kinds`; a kind that it lists with `format 2` needs `format = 2`.",
     },
+    // 57 BadPort
     Meaning {
-        number: 57,
-        name: "BadPort",
         place: "link C key K",
         means: "An end is not `name` or `name:port`, names no actor, or has a port over 15.",
         limits: "ports 0 to 15, in decimal without leading zeros",
         remedy: "Mend the end.",
     },
+    // 58 NoFile
     Meaning {
-        number: 58,
-        name: "NoFile",
         place: "file NAME",
         means: "A coefficient file is missing, or can't be opened.",
         limits: "",
         remedy: "Put it into the folder of the graph file, or correct its name.",
     },
+    // 59 ChannelsMissing
     Meaning {
-        number: 59,
-        name: "ChannelsMissing",
         place: "",
         means: "The design reads a channel that the WAV file does not have. OUT is left empty.",
         limits: "`channel` below the file's channels",
         remedy: "Use a file with more channels, or lower `channel`.",
     },
+    // 60 RateNotWhole
     Meaning {
-        number: 60,
-        name: "RateNotWhole",
         place: "",
         means: "The output's rate would not be a whole number. OUT is left empty.",
         limits: "the rate times what an output takes in a period is a multiple of what an input puts",
         remedy: "Use a file with another rate, or other factors.",
     },
+    // 61 NotYet
     Meaning {
-        number: 61,
-        name: "NotYet",
         place: "",
         means: "An early version gave this where something was not built yet. This version never gives it.",
         limits: "",
         remedy: "Nothing has to be done.",
     },
+    // 62 BadCost
     Meaning {
-        number: 62,
-        name: "BadCost",
         place: "actor A",
         means: "An actor's cost is out of range. Only a program that makes graphs in code meets this: a graph file has 28 in its place.",
         limits: "1 to 1,000,000",
         remedy: "Change `cost`.",
     },
+    // 63 CycleLength
     Meaning {
-        number: 63,
-        name: "CycleLength",
         place: "link C",
         means: "A link has another number of rates than its actor's cycle has firings. Only a program that makes graphs in code meets this: a kind always has its own rates.",
         limits: "1 to 64 rates, the same number at each link of an actor",

@@ -4,121 +4,106 @@ use super::Meaning;
 
 /// What the faults 34 to 48 mean, in this order.
 pub(super) static MEANINGS: [Meaning; 15] = [
+    // 34 NotRiff
     Meaning {
-        number: 34,
-        name: "NotRiff",
         place: "",
         means: "The input does not begin with `RIFF`.",
         limits: "",
         remedy: "Give a WAV file; convert other formats first.",
     },
+    // 35 NotWave
     Meaning {
-        number: 35,
-        name: "NotWave",
         place: "",
         means: "The input is a RIFF file, but not a WAVE file.",
         limits: "",
         remedy: "Give a WAV file; convert other formats first.",
     },
+    // 36 NoFormat
     Meaning {
-        number: 36,
-        name: "NoFormat",
         place: "",
         means: "The WAV file has no `fmt ` chunk before its samples.",
         limits: "",
         remedy: "The program that wrote the file left its format out: write the file again with another one.",
     },
+    // 37 ShortFormat
     Meaning {
-        number: 37,
-        name: "ShortFormat",
         place: "",
         means: "The `fmt ` chunk is too short.",
         limits: "16 bytes, 40 in the extensible form",
         remedy: "The program that wrote the file cut its format short: write the file again with another one.",
     },
+    // 38 NotPcm16
     Meaning {
-        number: 38,
-        name: "NotPcm16",
         place: "",
         means: "The samples are not 16-bit PCM.",
         limits: "16-bit PCM, plain or extensible",
         remedy: "Convert the file: `sox IN -b 16 -e signed-integer OUT.wav`, or `ffmpeg -i IN -c:a pcm_s16le OUT.wav`.",
     },
+    // 39 Channels
     Meaning {
-        number: 39,
-        name: "Channels",
         place: "",
         means: "The WAV file has no channels, or too many.",
         limits: "1 to 8 channels",
         remedy: "Convert the file to at most 8 channels.",
     },
+    // 40 RateZero
     Meaning {
-        number: 40,
-        name: "RateZero",
         place: "",
         means: "The WAV file's header says 0 samples a second.",
         limits: "at least 1 sample a second",
         remedy: "Write the file again with its true rate.",
     },
+    // 41 BadAlign
     Meaning {
-        number: 41,
-        name: "BadAlign",
         place: "",
         means: "The WAV file's header says a frame size that is not two bytes for each channel.",
         limits: "",
         remedy: "Write the file again with another program: its header contradicts itself.",
     },
+    // 42 NoData
     Meaning {
-        number: 42,
-        name: "NoData",
         place: "",
         means: "The WAV file has no samples: it ends before a `data` chunk.",
         limits: "",
         remedy: "Write the file again: what made it stopped before the first sample.",
     },
+    // 43 Truncated
     Meaning {
-        number: 43,
-        name: "Truncated",
         place: "",
         means: "The WAV file is empty or ends within one of its parts. OUT is left empty, or ends early too.",
         limits: "",
         remedy: "Get the whole file: a copy was cut off, or nothing was written to it.",
     },
+    // 44 PartialFrame
     Meaning {
-        number: 44,
-        name: "PartialFrame",
         place: "",
         means: "The size of the samples is not a whole number of frames.",
         limits: "",
         remedy: "Write the file again: its last frame is cut off, or its header says another number of channels than it has.",
     },
+    // 45 TooLong
     Meaning {
-        number: 45,
-        name: "TooLong",
         place: "",
         means: "Too many chunks or bytes of samples.",
         limits: "65,536 chunks before the samples; 4,294,967,294 bytes read to an unknown end; 4,294,967,259 bytes written",
         remedy: "Split the file.",
     },
+    // 46 RateTooLarge
     Meaning {
-        number: 46,
-        name: "RateTooLarge",
         place: "",
         means: "The output's rate, or its bytes a second, do not fit in 32 bits.",
         limits: "4,294,967,295",
         remedy: "Use fewer output channels or a lower rate.",
     },
+    // 47 Read
     Meaning {
-        number: 47,
-        name: "Read",
         place: "",
         means: "A file can't be opened, or reading it failed, or it is too long to be read whole.",
         limits: "1,073,741,824 bytes of GRAPH, a coefficient file or the IN of `profile`",
         remedy: "Check that the file exists, is not a folder and may be read.",
     },
+    // 48 Write
     Meaning {
-        number: 48,
-        name: "Write",
         place: "",
         means: "OUT can't be created, or writing it or the answer failed.",
         limits: "",

@@ -4,169 +4,148 @@ use super::Meaning;
 
 /// What the faults 13 to 33 mean, in this order.
 pub(super) static MEANINGS: [Meaning; 21] = [
+    // 13 BlockTooLong
     Meaning {
-        number: 13,
-        name: "BlockTooLong",
         place: "",
         means: "A block has too many firings for a table.",
         limits: "at most 65,536 firings in a block",
         remedy: "Use a smaller `--blocking`.",
     },
+    // 14 FiringMissing
     Meaning {
-        number: 14,
-        name: "FiringMissing",
         place: "",
         means: "A table lacks a firing. Only a program that makes tables in code meets this.",
         limits: "",
         remedy: "Give each firing of the block a place.",
     },
+    // 15 FiringTwice
     Meaning {
-        number: 15,
-        name: "FiringTwice",
         place: "",
         means: "A table has a firing twice. Only a program that makes tables in code meets this.",
         limits: "",
         remedy: "Take one of its places away.",
     },
+    // 16 FiringUnknown
     Meaning {
-        number: 16,
-        name: "FiringUnknown",
         place: "",
         means: "A table names a firing that the block does not have. Only a program that makes tables in code meets this.",
         limits: "",
         remedy: "Remove it.",
     },
+    // 17 RowTooWide
     Meaning {
-        number: 17,
-        name: "RowTooWide",
         place: "",
         means: "A row of a table has more places than there are workers. Only a program that makes tables in code meets this.",
         limits: "",
         remedy: "Split the row, or use more workers.",
     },
+    // 18 TooEarly
     Meaning {
-        number: 18,
-        name: "TooEarly",
         place: "",
         means: "A table has a firing before one that it needs. Only a program that makes tables in code meets this.",
         limits: "",
         remedy: "Move it to a later row.",
     },
+    // 19 BadHome
     Meaning {
-        number: 19,
-        name: "BadHome",
         place: "actor A",
         means: "The actor has no key `processor`, or one past the last worker, and the placement is `file`.",
         limits: "`processor` below the number of workers",
         remedy: "Change `processor`, or use more workers.",
     },
+    // 20 NoPort
     Meaning {
-        number: 20,
-        name: "NoPort",
         place: "link C",
         means: "An end of the link names a port that the actor does not have, or an input where an output is needed.",
         limits: "ports 0 to 15, by the actor's kind",
         remedy: "`from` is an output port, `to` an input port; docs/FORMATS.md lists the ports of each kind.",
     },
+    // 21 PortTwice
     Meaning {
-        number: 21,
-        name: "PortTwice",
         place: "link C",
         means: "An end of the link is already an end of an earlier link.",
         limits: "one link at each port",
         remedy: "Use a `fork` to send samples two ways, and an `add` to join two streams.",
     },
+    // 22 PortOpen
     Meaning {
-        number: 22,
-        name: "PortOpen",
         place: "actor A input P",
         means: "A port has no link. It may be `output P` in place of `input P`.",
         limits: "one link at each port",
         remedy: "Link the port, or use a smaller `ways`.",
     },
+    // 23 ExtTwice
     Meaning {
-        number: 23,
-        name: "ExtTwice",
         place: "actor A",
         means: "A second input or a second output of one channel.",
         limits: "one input and one output for each channel",
         remedy: "Change `channel`, or use one input and a `fork`.",
     },
+    // 24 InputRates
     Meaning {
-        number: 24,
-        name: "InputRates",
         place: "actor A",
         means: "The input puts another number of samples in a period than the first input.",
         limits: "the same number at each input",
         remedy: "Make the rates behind the two inputs alike.",
     },
+    // 25 OutputRates
     Meaning {
-        number: 25,
-        name: "OutputRates",
         place: "actor A",
         means: "The output takes another number of samples in a period than the first output.",
         limits: "the same number at each output",
         remedy: "Make the rates before the two outputs alike.",
     },
+    // 26 NoInput
     Meaning {
-        number: 26,
-        name: "NoInput",
         place: "",
         means: "The design has no actor of kind `input`.",
         limits: "at least one input",
         remedy: "Add an input; its samples also say how long the output is.",
     },
+    // 27 NoOutput
     Meaning {
-        number: 27,
-        name: "NoOutput",
         place: "channel E",
         means: "No actor of kind `output` has this channel.",
         limits: "outputs of channels 0, 1 and so on without a gap",
         remedy: "Add an output, or renumber the outputs.",
     },
+    // 28 KitValue
     Meaning {
-        number: 28,
-        name: "KitValue",
         place: "PLACE key K",
         means: "A value is outside its limits, or a list is empty or too long.",
         limits: "those of the key, as `sdfw kinds` lists them",
         remedy: "Change the value.",
     },
+    // 29 InputLength
     Meaning {
-        number: 29,
-        name: "InputLength",
         place: "",
         means: "Too few samples were handed to a runner. The program itself always fills up with zeros.",
         limits: "",
         remedy: "Hand in whole periods.",
     },
+    // 30 NotHomed
     Meaning {
-        number: 30,
-        name: "NotHomed",
         place: "",
         means: "With the runner `rings` each actor has one worker, and the table has an actor in two columns.",
         limits: "",
         remedy: "Use `--placement homed`.",
     },
+    // 31 Patience
     Meaning {
-        number: 31,
-        name: "Patience",
         place: "",
         means: "The number of repeated tests is out of range. The program refuses it as a mistake of usage.",
         limits: "0 to 1,000,000",
         remedy: "Change `--patience`.",
     },
+    // 32 NoWorker
     Meaning {
-        number: 32,
-        name: "NoWorker",
         place: "",
         means: "A thread could not be started. This version's threads run one after another then, and never give this.",
         limits: "",
         remedy: "Use fewer workers.",
     },
+    // 33 SessionFailed
     Meaning {
-        number: 33,
-        name: "SessionFailed",
         place: "",
         means: "A session was used again after it had failed. Only a program that runs sessions in code meets this.",
         limits: "",

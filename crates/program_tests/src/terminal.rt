@@ -1,0 +1,230 @@
+//! What is told at a terminal, and in the same words where more is asked for, over files in memory.
+
+use crate::commands::{Around, OPEN, Row, is_told, told_around};
+use crate::shelf::SOUND;
+use std::test::Fail;
+use std::thread::Threads;
+use std::time::Clock;
+
+/// Standard error is a terminal.
+const TERMINAL: Around<'static> = Around {
+    terminal: true,
+    ..OPEN
+};
+
+/// The same, with a sound on standard input.
+const HEARD: Around<'static> = Around {
+    stdin: SOUND,
+    ..TERMINAL
+};
+
+/// What is told at a terminal. Refuses a program that says no more there, that does so where it is told not to, or that
+/// says more beside JSON.
+const AT_TERMINAL: &[Row] = &[
+    (
+        "a design that is not there",
+        "check none.toml",
+        "5\n--\nsdfw: 47 Read\n  \"none.toml\": entity not found\n--\n",
+    ),
+    (
+        "a schedule",
+        "schedule begun.toml --placement file",
+        "3\n--\nsdfw: 19 BadHome actor 0\n  actor 0 is \"in\", an input\n  processor = 1, wants 0..0\n--\n",
+    ),
+    (
+        "an analysis, by its options",
+        "analyze far.toml --placement file --workers 2",
+        "3\n--\nsdfw: 19 BadHome actor 0\n  actor 0 is \"in\", an input\n  processor = 3, wants 0..1\n--\n",
+    ),
+    (
+        "a picture, by its options",
+        "draw far.toml --placement file --workers 3",
+        "3\n--\nsdfw: 19 BadHome actor 0\n  actor 0 is \"in\", an input\n  processor = 3, wants 0..2\n--\n",
+    ),
+    (
+        "a profile of a sound that is not there",
+        "profile plain.toml none.wav",
+        "5\n--\nsdfw: 47 Read\n  \"none.wav\": entity not found\n--\n",
+    ),
+    (
+        "a profile of a design",
+        "profile plain.toml one.toml",
+        "4\n--\nsdfw: 34 NotRiff\n  \"one.toml\": has \"form\" at byte 0, wants \"RIFF\"\n--\n",
+    ),
+    (
+        "a fault without more",
+        "check none.toml --no-why",
+        "5\n--\nsdfw: 47 Read\n--\n",
+    ),
+    (
+        "a fault in JSON",
+        "check none.toml --json",
+        "5\n--\n{\"fault\":47,\"name\":\"Read\"}\n--\n",
+    ),
+    (
+        "a run that ends well",
+        "run plain.toml in.wav out.wav",
+        "0\n--\noutput 0: 2 frames, peak -76.3 dB, 0 samples at full scale\n--\n<5 -5>",
+    ),
+    (
+        "the same without more",
+        "run plain.toml in.wav out.wav --no-why",
+        "0\n--\n--\n<5 -5>",
+    ),
+    (
+        "a run to standard output",
+        "run plain.toml in.wav -",
+        "0\n<5 -5>--\noutput 0: 2 frames, peak -76.3 dB, 0 samples at full scale\n--\n",
+    ),
+    (
+        "a run that fails",
+        "run plain.toml in.wav else.wav",
+        "5\n--\nsdfw: 48 Write\n  \"else.wav\": permission denied\n--\n",
+    ),
+    (
+        "a check that ends well",
+        "check plain.toml",
+        "0\nactors 2\nlinks 1\nperiod 2\nq in 1\nq out 1\ninput 1 output 1\n--\n--\n",
+    ),
+    (
+        "a mistake that is found while running",
+        "run plain.toml in.wav in.wav",
+        "2\n--\nerror: OUT is the same file as IN\n--\n",
+    ),
+    (
+        "a mistake in the words",
+        "explain",
+        "2\n--\nerror: …Usage: …",
+    ),
+];
+
+/// Whether that is told of each row with what stands around it.
+fn are_told_around<T: Threads + AllocGlobal + Clock + Clone + Drop + Sync>(
+    rt: &T,
+    around: &Around<'_>,
+    rows: &[Row],
+) -> Result<(), Fail> {
+    for (name, line, wanted) in rows {
+        is_told(name, told_around(rt, around, line), wanted)?;
+    }
+    Ok(())
+}
+
+#[test]
+fn what_is_told_at_a_terminal(rt: HostRuntime) -> Result<(), Fail> {
+    are_told_around(&rt, &TERMINAL, AT_TERMINAL)?;
+    is_told(
+        "a sound on standard input",
+        told_around(&rt, &HEARD, "run plain.toml - out.wav"),
+        "0\n--\noutput 0: 2 frames, peak -76.3 dB, 0 samples at full scale\n--\n<5 -5>",
+    )
+}
+
+/// Faults of a sound on standard input: its bytes, and the lines on standard error. Refuses a program that says of a
+/// sound what stands at another place, or that reads a size as the number behind it.
+const SOUNDS: &[(&[u8], &str)] = &[
+    (
+        b"fLaC\0\0\0\x22",
+        "4\n--\nsdfw: 34 NotRiff\n  \"-\": has \"fLaC\" at byte 0, wants \"RIFF\"\n--\n",
+    ),
+    (
+        b"RIFF\x28\0\0\0AVI\0LIST",
+        "4\n--\nsdfw: 35 NotWave\n  \"-\": has \"AVI\\x00\" at byte 8, wants \"WAVE\"\n--\n",
+    ),
+    (
+        b"RIFF\x28\0\0\0WAVEJUNK\x01\0\0\0\0\0data\x04\0\0\0\x05\0\xFB\xFF",
+        "4\n--\nsdfw: 36 NoFormat\n  \"-\": has its chunk \"data\" at byte 22, and no chunk \"fmt \" before it\n--\n",
+    ),
+    (
+        b"RIFF\x28\0\0\0WAVEJUNK\x01\0\0\0\0\0",
+        "4\n--\nsdfw: 36 NoFormat\n  \"-\": ends after 22 bytes, without a chunk \"fmt \"\n--\n",
+    ),
+    (
+        b"RIFF\x28\0\0\0WAVEfmt \x0E\0\0\0\x01\0\x01\0\x44\xAC\0\0\x88\x58\x01\0\x02\0",
+        "4\n--\nsdfw: 37 ShortFormat\n  \"-\": has a chunk \"fmt \" of 14 bytes, wants 16\n--\n",
+    ),
+    (
+        b"RIFF\x28\0\0\0WAVEfmt \x10\0\0\0\x03\0\x01\0\x44\xAC\0\0\x10\xB1\x02\0\x04\0\x20\0data\0\0\0\0",
+        "4\n--\nsdfw: 38 NotPcm16\n  \"-\": has samples of 32 bits in format 3 (floating point), wants 16 bits in \
+         format 1\n--\n",
+    ),
+    (
+        b"RIFF\x28\0\0\0WAVEfmt \x10\0\0\0\x01\0\x09\0\x44\xAC\0\0\x88\x58\x01\0\x12\0\x10\0data\0\0\0\0",
+        "4\n--\nsdfw: 39 Channels\n  \"-\": has 44100 samples a second in 9 channels\n--\n",
+    ),
+    (
+        b"RIFF\x28\0\0\0WAVEfmt \x10\0\0\0\x01\0\x01\0\0\0\0\0\x88\x58\x01\0\x02\0\x10\0data\0\0\0\0",
+        "4\n--\nsdfw: 40 RateZero\n  \"-\": has 0 samples a second in 1 channel\n--\n",
+    ),
+    (
+        b"RIFF\x28\0\0\0WAVEfmt \x10\0\0\0\x01\0\x01\0\x44\xAC\0\0\x88\x58\x01\0\x03\0\x10\0data\0\0\0\0",
+        "4\n--\nsdfw: 41 BadAlign\n  \"-\": has frames of 3 bytes, wants 2 for 1 channels\n--\n",
+    ),
+    (
+        b"RIFF\x28\0\0\0WAVEfmt \x10\0\0\0\x01\0\x01\0\x44\xAC\0\0\x88\x58\x01\0\x02\0\x10\0",
+        "4\n--\nsdfw: 42 NoData\n  \"-\": ends after 36 bytes\n--\n",
+    ),
+    (
+        b"RIFF\x28\0\0\0WAVEfmt \x10\0\0\0\x01\0\x01\0\x44\xAC\0\0\x88\x58\x01\0\x02\0\x10\0data\x04\0\0\0\x05",
+        "4\n--\nsdfw: 43 Truncated\n  \"-\": ends after 45 bytes, wants 48\n--\n<5 -5 to come>",
+    ),
+    (
+        b"",
+        "4\n--\nsdfw: 43 Truncated\n  \"-\": ends after 0 bytes\n--\n",
+    ),
+    (
+        b"RIFF\x28\0\0\0WAVEfmt \x10\0\0\0\x01\0\x01\0\x44\xAC\0\0\x88\x58\x01\0\x02\0\x10\0data\x03\0\0\0\x05\0\xFB",
+        "4\n--\nsdfw: 44 PartialFrame\n  \"-\": has 3 bytes of samples, wants frames of 2 bytes\n--\n",
+    ),
+    (
+        b"RIFF\x28\0\0\0WAVEfmt \x10\0\0\0\x01\0\x01\0\xFF\xFF\xFF\xFF\x88\x58\x01\0\x02\0\x10\0data\x04\0\0\0\x05\0\xFB\xFF",
+        "4\n--\nsdfw: 46 RateTooLarge\n  \"-\": has 4294967295 samples a second in 1 channel\n--\n",
+    ),
+];
+
+#[test]
+fn what_is_told_of_sounds(rt: HostRuntime) -> Result<(), Fail> {
+    for (stdin, wanted) in SOUNDS {
+        let around = Around { stdin, ..OPEN };
+        is_told(
+            wanted,
+            told_around(&rt, &around, "run plain.toml - out.wav --why"),
+            wanted,
+        )?;
+    }
+    Ok(())
+}
+
+/// Sounds whose size is not true, and what a run makes of them. Refuses a program that believes the size, that looks for
+/// it at one place, or that believes none where it is not told to.
+const OPEN_ENDED: &[(&[u8], &str, &str)] = &[
+    (
+        b"RIFF\x28\0\0\0WAVEfmt \x10\0\0\0\x01\0\x01\0\x44\xAC\0\0\x88\x58\x01\0\x02\0\x10\0data\0\0\0\0\x05\0\xFB\xFF",
+        "run plain.toml - out.wav --open-ended",
+        "0\n--\n--\n<5 -5>",
+    ),
+    (
+        b"RIFF\x28\0\0\0WAVEfmt \x10\0\0\0\x01\0\x01\0\x44\xAC\0\0\x88\x58\x01\0\x02\0\x10\0data\0\xF0\xFF\x7F\x05\0\xFB\xFF",
+        "run plain.toml - out.wav --open-ended --runner rings",
+        "0\n--\n--\n<5 -5>",
+    ),
+    (
+        b"RIFF\x28\0\0\0WAVEJUNK\x01\0\0\0\0\0fmt \x10\0\0\0\x01\0\x01\0\x44\xAC\0\0\x88\x58\x01\0\x02\0\x10\0data\0\0\0\x80\x05\0\xFB\xFF",
+        "run plain.toml - out.wav --open-ended --parallel 2",
+        "0\n--\n--\n<5 -5>",
+    ),
+    (
+        b"RIFF\x28\0\0\0WAVEfmt \x10\0\0\0\x01\0\x01\0\x44\xAC\0\0\x88\x58\x01\0\x02\0\x10\0data\0\xF0\xFF\x7F\x05\0\xFB\xFF",
+        "run plain.toml - out.wav",
+        "4\n--\nsdfw: 43 Truncated\n--\n<another sound>",
+    ),
+];
+
+#[test]
+fn sounds_to_the_end(rt: HostRuntime) -> Result<(), Fail> {
+    for (stdin, line, wanted) in OPEN_ENDED {
+        let around = Around { stdin, ..OPEN };
+        is_told(line, told_around(&rt, &around, line), wanted)?;
+    }
+    Ok(())
+}

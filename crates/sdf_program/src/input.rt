@@ -1,0 +1,89 @@
+//! What is read of a sound as it goes by.
+
+ghost use Rattle.std.specs.Prelude.{None, is_some, if◌then◌else◌};
+
+use crate::opening::Opening;
+use std::alloc::Global;
+use std::io::{self, ErrorKind, Read};
+
+/// The most bytes of a sound's front that are kept.
+const MOST_FRONT: usize = 16_384;
+
+/// What is known of a sound that was read: its path, its first bytes, how many came in all, and how the system refused
+/// the next.
+#[derive(Drop)]
+pub struct InputTrace {
+    pub name: String,
+    pub front: Vec<u8>,
+    pub bytes: u64,
+    pub(crate) refused: Option<ErrorKind>,
+}
+
+impl InputTrace {
+    /// Before anything is read.
+    pub(crate) fn new(alloc: Global) -> InputTrace {
+        InputTrace {
+            name: String::new(alloc),
+            front: Vec::new(alloc),
+            bytes: 0,
+            refused: None,
+        }
+    }
+
+    /// Notes bytes that were read. The front ends where memory is refused for it.
+    pub(crate) fn note(&mut self, bytes: &[u8]) {
+        if self.front.len() as u64 == self.bytes {
+            let room = MOST_FRONT.saturating_sub(self.front.len());
+            let kept = bytes.len().min(room);
+            let _ = self.front.extend_from_slice(&bytes[..kept]);
+        }
+        self.bytes = self.bytes.saturating_add(bytes.len() as u64);
+    }
+}
+
+/// A reader that hands on what another one reads and notes it. With an opening the header says no size of the samples.
+#[derive(Drop)]
+pub(crate) struct Input<'a, R> {
+    from: &'a mut R,
+    trace: &'a mut InputTrace,
+    opening: Option<Opening>,
+}
+
+impl<'a, R: Read> Input<'a, R> {
+    /// Returns a reader at the start of a sound.
+    pub(crate) fn new(
+        from: &'a mut R,
+        trace: &'a mut InputTrace,
+        open_ended: bool,
+    ) -> Input<'a, R> {
+        Input {
+            from,
+            trace,
+            opening: if open_ended {
+                Some(Opening::new())
+            } else {
+                None
+            },
+        }
+    }
+}
+
+impl<R: Read> Read for Input<'_, R> {
+    ghost remaining = { λ input. if is_some input.opening then None else R.remaining input.from.now };
+
+    fn read(&mut self, buf: &mut [u8]) -> io::Result<usize> {
+        match self.from.read(buf) {
+            Ok(count) => {
+                if let Some(opening) = &mut self.opening {
+                    opening.open(&mut buf[..count]);
+                }
+                self.trace.note(&buf[..count]);
+                Ok(count)
+            }
+            Err(error) => {
+                self.trace.refused = Some(error.kind());
+                Err(error)
+            }
+        }
+    }
+}

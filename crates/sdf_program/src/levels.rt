@@ -1,0 +1,152 @@
+//! How loud a sound is that is written.
+
+ghost use Rattle.std.specs.Prelude.{◌≤◌};
+
+use std::alloc::{AllocError, Global};
+use std::num::saturating_f64_to_u64;
+
+/// The bytes of a canonical header.
+const HEADER: usize = 44;
+
+/// The most channels of a sound.
+const MOST_CHANNELS: usize = 8;
+
+/// What is counted of an output.
+#[derive(Clone, Copy)]
+struct Level {
+    frames: u64,
+    /// The greatest distance from 0.
+    peak: u16,
+    /// The samples that are the least or the greatest of 16 bits.
+    full: u64,
+}
+
+impl Level {
+    const NONE: Level = Level {
+        frames: 0,
+        peak: 0,
+        full: 0,
+    };
+
+    /// Counts a sample.
+    fn count(&mut self, sample: i16) {
+        self.frames = self.frames.saturating_add(1);
+        self.peak = self.peak.max(sample.unsigned_abs());
+        if sample == i16::MIN || sample == i16::MAX {
+            self.full = self.full.saturating_add(1);
+        }
+    }
+}
+
+/// The header of a sound that is written, as far as it was, and its outputs.
+#[derive(Clone, Copy)]
+pub(crate) struct Levels {
+    header: [u8; HEADER],
+    written: usize,
+    /// The first byte of a sample whose second one has yet to come.
+    low: Option<u8>,
+    /// The output that the next sample is of.
+    next: usize,
+    outputs: [Level; MOST_CHANNELS],
+}
+
+impl Levels {
+    /// Before anything is written.
+    pub(crate) fn new() -> Levels {
+        Levels {
+            header: [0; HEADER],
+            written: 0,
+            low: None,
+            next: 0,
+            outputs: [Level::NONE; MOST_CHANNELS],
+        }
+    }
+
+    /// How many outputs there are.
+    fn channels(&self) -> usize
+        ensures { result ≤ 8 }
+    {
+        usize::from(self.header[22]).min(MOST_CHANNELS)
+    }
+
+    /// Whether the header is there whole.
+    fn is_open(&self) -> bool {
+        self.written >= HEADER
+    }
+
+    /// Counts a sample of the next output.
+    fn count(&mut self, sample: i16) {
+        if let Some(level) = self.outputs.get_mut(self.next) {
+            level.count(sample);
+        }
+        self.next = self.next.saturating_add(1);
+        if self.next >= self.channels() {
+            self.next = 0;
+        }
+    }
+
+    /// Takes the next byte of the samples.
+    fn take(&mut self, byte: u8) {
+        match self.low {
+            None => self.low = Some(byte),
+            Some(low) => {
+                self.low = None;
+                self.count(i16::from_le_bytes([low, byte]));
+            }
+        }
+    }
+
+    /// Takes the next byte.
+    fn note_byte(&mut self, byte: u8) {
+        match self.header.get_mut(self.written) {
+            Some(place) => {
+                *place = byte;
+                self.written = self.written.saturating_add(1);
+            }
+            None => self.take(byte),
+        }
+    }
+
+    /// Takes bytes that were written.
+    pub(crate) fn note(&mut self, bytes: &[u8]) {
+        for byte in bytes {
+            self.note_byte(*byte);
+        }
+    }
+
+    /// What is said of the outputs, a line for each.
+    pub(crate) fn text(&self, alloc: Global) -> Result<String, AllocError> {
+        let mut text = String::new(alloc);
+        if self.is_open() {
+            for output in 0..self.channels() {
+                push_level(&mut text, output, self.outputs[output])?;
+            }
+        }
+        Ok(text)
+    }
+}
+
+/// Adds the line of an output.
+fn push_level(text: &mut String, output: usize, level: Level) -> Result<(), AllocError> {
+    let Level { frames, peak, full } = level;
+    write!(text, "output {output}: {frames} frames, ")?;
+    push_peak(text, peak)?;
+    writeln!(text, ", {full} samples at full scale")
+}
+
+/// How far a peak is below full scale, in tenths of a dB.
+fn tenths_below(peak: u16) -> u64 {
+    let part = f64::from(peak) / 32768.0;
+    saturating_f64_to_u64((-200.0 * part.log10()).round())
+}
+
+/// Adds a peak in dB.
+fn push_peak(text: &mut String, peak: u16) -> Result<(), AllocError> {
+    if peak == 0 {
+        return text.push_str("no peak");
+    }
+    let tenths = tenths_below(peak);
+    let (whole, tenth) = (tenths / 10, tenths % 10);
+    let sign = if tenths == 0 { "" } else { "-" };
+    write!(text, "peak {sign}{whole}.{tenth} dB")
+}

@@ -1,0 +1,263 @@
+//! What stands in a sound that is refused.
+
+use crate::input::InputTrace;
+use byteorder::{ByteOrder, LittleEndian};
+use sdf_wav::FormatFault;
+use sdf_why::{Header, device_text};
+use std::alloc::{AllocError, Global};
+
+/// The tag of a format that has its own format in a longer chunk.
+const EXTENSIBLE: u32 = 0xFFFE;
+
+/// The size of samples that was never filled in.
+const UNKNOWN: u32 = 0xFFFF_FFFF;
+
+/// The front of a sound.
+#[derive(Clone, Copy)]
+struct Front<'a> {
+    bytes: &'a [u8],
+}
+
+/// A chunk: the place of its content, and the size that it says.
+#[derive(Clone, Copy)]
+struct Chunk {
+    at: usize,
+    size: u32,
+}
+
+impl<'a> Front<'a> {
+    /// Returns the number of 2 bytes at `at`.
+    fn short(self, at: usize) -> Option<u32> {
+        let bytes = self.bytes.get(at..at.checked_add(2)?)?;
+        Some(u32::from(LittleEndian::read_u16(bytes)))
+    }
+
+    /// Returns the number of 4 bytes at `at`.
+    fn long(self, at: usize) -> Option<u32> {
+        let bytes = self.bytes.get(at..at.checked_add(4)?)?;
+        Some(LittleEndian::read_u32(bytes))
+    }
+
+    /// Returns the 4 bytes at `at`.
+    fn id(self, at: usize) -> Option<&'a [u8]> {
+        self.bytes.get(at..at.checked_add(4)?)
+    }
+
+    /// Returns the first chunk with this id, if it stands in the front.
+    fn chunk(self, id: &[u8]) -> Option<Chunk> {
+        let mut at = 12usize;
+        for _ in 0..self.bytes.len() {
+            let size = self.long(at.checked_add(4)?)?;
+            let content = at.checked_add(8)?;
+            if self.id(at)? == id {
+                return Some(Chunk { at: content, size });
+            }
+            at = content
+                .checked_add(size as usize)?
+                .checked_add(size as usize % 2)?;
+        }
+        None
+    }
+
+    /// Returns the chunk of the format.
+    fn format(self) -> Option<Chunk> {
+        self.chunk(b"fmt ".as_slice())
+    }
+
+    /// Returns the chunk of the samples.
+    fn data(self) -> Option<Chunk> {
+        self.chunk(b"data".as_slice())
+    }
+
+    /// Returns the number of 2 bytes at `at` in the format.
+    fn in_format(self, at: usize) -> Option<u32> {
+        self.short(self.format()?.at.checked_add(at)?)
+    }
+
+    /// Returns the channels and the rate.
+    fn header(self) -> Option<Header> {
+        let format = self.format()?;
+        Some(Header {
+            channels: self.short(format.at.checked_add(2)?)?,
+            rate: self.long(format.at.checked_add(4)?)?,
+        })
+    }
+
+    /// Returns the tag of the format of the samples, that of a longer chunk if it has one.
+    fn tag(self) -> Option<u32> {
+        match self.in_format(0)? {
+            EXTENSIBLE => self.in_format(24),
+            tag => Some(tag),
+        }
+    }
+}
+
+/// Returns what is known of the front of a sound.
+fn front_of(trace: &InputTrace) -> Front<'_> {
+    Front {
+        bytes: trace.front.as_slice(),
+    }
+}
+
+/// Returns the channels and the rate that a sound says, if they are among its first bytes.
+pub(crate) fn header_of(trace: &InputTrace) -> Option<Header> {
+    front_of(trace).header()
+}
+
+/// Returns the text of the four bytes at `at`, where others are wanted.
+fn id_text(alloc: Global, front: Front<'_>, at: usize, wanted: &str) -> Result<String, AllocError> {
+    let Some(bytes) = front.id(at) else {
+        return Ok(String::new(alloc));
+    };
+    format!(in alloc;
+        "has \"{}\" at byte {at}, wants \"{wanted}\"",
+        bytes.escape_ascii()
+    )
+}
+
+/// Returns the text of a format that does not stand before the samples.
+fn missing_text(alloc: Global, front: Front<'_>, bytes: u64) -> Result<String, AllocError> {
+    match front.data() {
+        Some(Chunk { at, .. }) => {
+            let begin = at.saturating_sub(8);
+            format!(in alloc;
+                "has its chunk \"data\" at byte {begin}, and no chunk \"fmt \" before it"
+            )
+        }
+        None if front.bytes.len() as u64 == bytes => {
+            format!(in alloc; "ends after {bytes} bytes, without a chunk \"fmt \"")
+        }
+        None => String::from_str(alloc, "has no chunk \"fmt \" before its samples"),
+    }
+}
+
+/// Returns the text of a chunk of the format that is too short.
+fn short_text(alloc: Global, front: Front<'_>) -> Result<String, AllocError> {
+    let Some(Chunk { size, .. }) = front.format() else {
+        return Ok(String::new(alloc));
+    };
+    let wanted = if size < 16 { 16 } else { 40 };
+    format!(in alloc; "has a chunk \"fmt \" of {size} bytes, wants {wanted}")
+}
+
+/// Returns the name of the format with this tag, if it is a common one.
+fn format_name(tag: u32) -> &'static str {
+    match tag {
+        1 => " (PCM)",
+        2 => " (ADPCM)",
+        3 => " (floating point)",
+        6 => " (A-law)",
+        7 => " (mu-law)",
+        17 => " (IMA ADPCM)",
+        85 => " (MP3)",
+        _ => "",
+    }
+}
+
+/// Returns the text of samples that are not 16-bit PCM.
+fn samples_text(alloc: Global, front: Front<'_>) -> Result<String, AllocError> {
+    let (Some(tag), Some(bits)) = (front.tag(), front.in_format(14)) else {
+        return Ok(String::new(alloc));
+    };
+    let name = format_name(tag);
+    format!(in alloc; "has samples of {bits} bits in format {tag}{name}, wants 16 bits in format 1")
+}
+
+/// Returns the text of the channels and the rate.
+fn header_text(alloc: Global, front: Front<'_>) -> Result<String, AllocError> {
+    let Some(Header { rate, channels }) = front.header() else {
+        return Ok(String::new(alloc));
+    };
+    let plural = if channels == 1 { "" } else { "s" };
+    format!(in alloc; "has {rate} samples a second in {channels} channel{plural}")
+}
+
+/// Returns the text of the size of a frame that is not that of its channels.
+fn align_text(alloc: Global, front: Front<'_>) -> Result<String, AllocError> {
+    let (Some(align), Some(channels)) = (front.in_format(12), front.in_format(2)) else {
+        return Ok(String::new(alloc));
+    };
+    let wanted = channels.saturating_mul(2);
+    format!(in alloc; "has frames of {align} bytes, wants {wanted} for {channels} channels")
+}
+
+/// Returns the text of a sound that ends too early.
+fn end_text(alloc: Global, front: Front<'_>, bytes: u64) -> Result<String, AllocError> {
+    match front.data() {
+        Some(Chunk { at, size }) if size != UNKNOWN => {
+            let whole = (at as u64).saturating_add(u64::from(size));
+            format!(in alloc; "ends after {bytes} bytes, wants {whole}")
+        }
+        _ => format!(in alloc; "ends after {bytes} bytes"),
+    }
+}
+
+/// Returns the text of samples that are no whole frames.
+fn frames_text(alloc: Global, front: Front<'_>, bytes: u64) -> Result<String, AllocError> {
+    let (Some(data), Some(channels)) = (front.data(), front.in_format(2)) else {
+        return Ok(String::new(alloc));
+    };
+    let samples = match data.size {
+        UNKNOWN => bytes.saturating_sub(data.at as u64),
+        size => u64::from(size),
+    };
+    let frame = channels.saturating_mul(2);
+    format!(in alloc; "has {samples} bytes of samples, wants frames of {frame} bytes")
+}
+
+/// Returns the text of a sound that is too long, or of which a longer one would come.
+fn length_text(alloc: Global, front: Front<'_>, bytes: u64) -> Result<String, AllocError> {
+    match front.data() {
+        Some(Chunk { size, .. }) if size != UNKNOWN => {
+            format!(in alloc; "has {size} bytes of samples")
+        }
+        _ => format!(in alloc; "has more than {bytes} bytes"),
+    }
+}
+
+/// Returns the text of what stands in a sound that has this fault, or no text if that is not known.
+fn said_of(
+    alloc: Global,
+    fault: FormatFault,
+    front: Front<'_>,
+    bytes: u64,
+) -> Result<String, AllocError> {
+    match fault {
+        FormatFault::NotRiff => id_text(alloc, front, 0, "RIFF"),
+        FormatFault::NotWave => id_text(alloc, front, 8, "WAVE"),
+        FormatFault::NoFormat => missing_text(alloc, front, bytes),
+        FormatFault::ShortFormat => short_text(alloc, front),
+        FormatFault::NotPcm16 => samples_text(alloc, front),
+        FormatFault::BadAlign => align_text(alloc, front),
+        FormatFault::NoData | FormatFault::Truncated => end_text(alloc, front, bytes),
+        FormatFault::PartialFrame => frames_text(alloc, front, bytes),
+        FormatFault::TooLong => length_text(alloc, front, bytes),
+        FormatFault::Channels | FormatFault::RateZero | FormatFault::RateTooLarge => {
+            header_text(alloc, front)
+        }
+    }
+}
+
+/// Returns the line of the file `name`, if something is said of it.
+fn line_of(alloc: Global, name: &str, said: &str) -> Result<String, AllocError> {
+    if said.is_empty() {
+        return Ok(String::new(alloc));
+    }
+    device_text(alloc, name, said)
+}
+
+/// Returns the line of a sound with the fault `fault`: its file and what stands there.
+pub(crate) fn format_text(
+    alloc: Global,
+    fault: FormatFault,
+    trace: &InputTrace,
+) -> Result<String, AllocError> {
+    let said = said_of(alloc, fault, front_of(trace), trace.bytes)?;
+    line_of(alloc, trace.name.as_str(), said.as_str())
+}
+
+/// Returns the line of a sound that does not suit a design: its file, its rate and its channels.
+pub(crate) fn unsuited_text(alloc: Global, trace: &InputTrace) -> Result<String, AllocError> {
+    let said = header_text(alloc, front_of(trace))?;
+    line_of(alloc, trace.name.as_str(), said.as_str())
+}
