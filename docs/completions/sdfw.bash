@@ -40,12 +40,12 @@ _sdfw() {
     resample:--attenuation) :; return ;;
   esac
   case ${COMP_WORDS[1]}:$word in
-    check:-*) mapfile -t COMPREPLY < <(compgen -W "--why --json --help" -- "$word") ;;
-    schedule:-*) mapfile -t COMPREPLY < <(compgen -W "--blocking --workers --policy --placement --why --json --help" -- "$word") ;;
-    run:-*) mapfile -t COMPREPLY < <(compgen -W "--blocking --workers --policy --placement --runner --patience --parallel --why --help" -- "$word") ;;
-    analyze:-*) mapfile -t COMPREPLY < <(compgen -W "--blocking --workers --policy --placement --compare --json --help" -- "$word") ;;
-    draw:-*) mapfile -t COMPREPLY < <(compgen -W "--blocking --workers --policy --placement --dot --help" -- "$word") ;;
-    profile:-*) mapfile -t COMPREPLY < <(compgen -W "--write --help" -- "$word") ;;
+    check:-*) mapfile -t COMPREPLY < <(compgen -W "--why --no-why --json --help" -- "$word") ;;
+    schedule:-*) mapfile -t COMPREPLY < <(compgen -W "--blocking --workers --policy --placement --why --no-why --json --help" -- "$word") ;;
+    run:-*) mapfile -t COMPREPLY < <(compgen -W "--blocking --workers --policy --placement --runner --patience --parallel --open-ended --why --no-why --help" -- "$word") ;;
+    analyze:-*) mapfile -t COMPREPLY < <(compgen -W "--blocking --workers --policy --placement --compare --why --no-why --json --help" -- "$word") ;;
+    draw:-*) mapfile -t COMPREPLY < <(compgen -W "--blocking --workers --policy --placement --dot --why --no-why --help" -- "$word") ;;
+    profile:-*) mapfile -t COMPREPLY < <(compgen -W "--write --why --no-why --help" -- "$word") ;;
     fir:-*) mapfile -t COMPREPLY < <(compgen -W "--rate --pass --stop --low-stop --low-pass --attenuation --up --shift --help" -- "$word") ;;
     fir:*) mapfile -t COMPREPLY < <(compgen -W "lowpass highpass bandpass" -- "$word") ;;
     resample:-*) mapfile -t COMPREPLY < <(compgen -W "--channels --attenuation --help" -- "$word") ;;
