@@ -1,7 +1,7 @@
 //! A net that plays a sound some periods at a time, on one thread or in parts at once. It holds what these periods read
 //! and make, and on one thread the memory of the periods before, which they use again.
 
-ghost use Rattle.std.specs.Prelude.{◌≡◌, ◌+◌, ◌-◌, ◌*◌, ◌^◌, ◌≤◌, ◌<◌, ℕ, ℤ, List, false, IfOk, MatchResult};
+ghost use Rattle.std.specs.Prelude.{◌≡◌, ◌+◌, ◌-◌, ◌*◌, ◌^◌, ◌≤◌, ◌<◌, ℕ, ℤ, List, false, IfOk, IfSome, IfNone, MatchResult};
 ghost use Rattle.sdf_graph.specs.Rates.{rates};
 ghost use Rattle.sdf_sched.specs.Period.{IsPeriodOf};
 ghost use Rattle.sdf_actor.specs.Graphs.{graph_of};
@@ -11,8 +11,10 @@ ghost use Rattle.sdf_actor.specs.Sides.{list_count};
 ghost use Rattle.sdf_actor.specs.Wires.{lists as items_of};
 ghost use Rattle.sdf_answer.specs.Answer.{HasInputs, IsRunFault, periods_of as firings};
 ghost use Rattle.sdf_answer.specs.Feeds.{AreFull, GoesOnBy};
+ghost use Rattle.sdf_fission.specs.WarmUps.{IsLasting};
 ghost use Rattle.sdf_kit.specs.Kit.{kit_steps};
 ghost use Rattle.sdf_plan.specs.declared.fault.Fault.TheVariants.{OutOfMemory};
+ghost use Rattle.sdf_process.specs.declared.playing.Cut.{Cut};
 ghost use Rattle.sdf_process.specs.Output.{exchange_of, lists_from, periods_of, IsExchange};
 ghost use Rattle.sdf_process.specs.Stages.{PlaysTo, PutsOutput, PutsPiece};
 ghost use Rattle.sdf_process.specs.Tasks.{CanPlay, IsCut};
@@ -100,7 +102,10 @@ impl<'a, T: AllocGlobal> Memory<'a, T> {
 /// Returns how a sound is cut in time, if it is to be run in several parts and the net is known to forget.
 fn cut_of(alloc: Global, player: Player<'_>) -> Result<Option<Cut>, AllocError>
     requires { CanPlay player }
-    ensures { IfOk result (IsCut player.entry.net.now player.entry.period.now.repetitions) }
+    ensures warm { IfOk result (IsCut player.entry.net.now player.entry.period.now.repetitions) }
+    ensures parts { IfOk result (λ cut. IfSome cut (λ (c : Cut). c.parts ≡ player.entry.parts)) }
+    ensures whole { IfOk result (λ cut. IfNone cut (2 ≤ player.entry.parts →
+        IsLasting kit_steps player.entry.net.now)) }
 {
     if player.parts < 2 {
         return Ok(None);
