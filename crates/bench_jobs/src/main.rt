@@ -26,7 +26,6 @@ use std::alloc::{AllocError, Global};
 use std::env;
 use std::rt::Files;
 use std::thread::Threads;
-use std::time::Clock;
 use tables::print_reports;
 
 const USAGE: &str =
@@ -41,16 +40,13 @@ fn number(word: &str) -> Result<u32> {
 }
 
 /// Does a little of every job that reads no file.
-fn do_little<R: AllocGlobal + Clock + Files + Print + Sync + Threads>(
-    rt: &R,
-    seed: u32,
-) -> Result<()> {
+fn do_little<R: AllocGlobal + Files + Print + Sync + Threads>(rt: &R, seed: u32) -> Result<()> {
     little_playing(&mut Playing::new(rt, seed, Length::Frames(2000)))?;
     print_reports(rt, &mut Numbers::new(seed), 700)
 }
 
 /// Plays and makes a little.
-fn little_playing<R: AllocGlobal + Clock + Files + Print + Sync + Threads>(
+fn little_playing<R: AllocGlobal + Files + Print + Sync + Threads>(
     playing: &mut Playing<'_, R>,
 ) -> Result<()> {
     playing.play_bank(8)?;
@@ -85,7 +81,7 @@ impl Job {
     }
 
     /// Does the job, with the numbers of a seed.
-    fn run<R: AllocGlobal + Clock + Files + Print + Sync + Threads>(
+    fn run<R: AllocGlobal + Files + Print + Sync + Threads>(
         self,
         rt: &R,
         seed: u32,
@@ -100,7 +96,7 @@ impl Job {
     }
 
     /// Does a job that plays.
-    fn play<R: AllocGlobal + Clock + Files + Print + Sync + Threads>(
+    fn play<R: AllocGlobal + Files + Print + Sync + Threads>(
         self,
         playing: &mut Playing<'_, R>,
         size: u32,
@@ -116,10 +112,7 @@ impl Job {
 }
 
 /// Does the job that the words name.
-fn obey<R: AllocGlobal + Clock + Files + Print + Sync + Threads>(
-    rt: &R,
-    line: &[&str],
-) -> Result<()> {
+fn obey<R: AllocGlobal + Files + Print + Sync + Threads>(rt: &R, line: &[&str]) -> Result<()> {
     match line {
         [job, seed, size] => match Job::named(job) {
             Some(job) => job.run(rt, number(seed)?, number(size)?),

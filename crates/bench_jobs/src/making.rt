@@ -12,7 +12,6 @@ use sdf_profile::costed_text;
 use std::alloc::Global;
 use std::rt::Files;
 use std::thread::Threads;
-use std::time::Clock;
 
 /// Pairs of rates to convert between.
 const RATES: [(u32, u32); 6] = [
@@ -25,7 +24,7 @@ const RATES: [(u32, u32); 6] = [
 ];
 
 /// Makes `filters` filters of each kind, one with sums far from their totals, converters and long documents.
-pub(crate) fn make<R: AllocGlobal + Clock + Files + Print + Sync + Threads>(
+pub(crate) fn make<R: AllocGlobal + Files + Print + Sync + Threads>(
     playing: &mut Playing<'_, R>,
     filters: u32,
 ) -> Result<()> {
@@ -163,7 +162,7 @@ fn show_design<R: AllocGlobal + Print>(rt: &R, design: &Design) -> Result<()> {
 }
 
 /// Reads a chain of filters that name the same file, writes other costs into its text, and runs it.
-fn read_same<R: AllocGlobal + Clock + Files + Print + Sync + Threads>(
+fn read_same<R: AllocGlobal + Files + Print + Sync + Threads>(
     playing: &mut Playing<'_, R>,
 ) -> Result<()> {
     let alloc = playing.rt.alloc();
@@ -174,7 +173,7 @@ fn read_same<R: AllocGlobal + Clock + Files + Print + Sync + Threads>(
 }
 
 /// Runs the chain.
-fn play_same<R: AllocGlobal + Clock + Files + Print + Sync + Threads>(
+fn play_same<R: AllocGlobal + Files + Print + Sync + Threads>(
     playing: &mut Playing<'_, R>,
     graph: &[u8],
     files: &[(String, Vec<u8>)],

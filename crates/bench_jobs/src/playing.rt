@@ -16,7 +16,6 @@ use sdf_process::process::process;
 use sdf_wav::{FromRead, ToWrite};
 use std::rt::Files;
 use std::thread::Threads;
-use std::time::Clock;
 
 /// Output bytes for each input byte, at most.
 const MOST_OUTPUTS: usize = 8;
@@ -55,7 +54,7 @@ pub(crate) struct Playing<'a, R> {
     pub(crate) length: Length,
 }
 
-impl<'a, R: AllocGlobal + Clock + Files + Print + Sync + Threads> Playing<'a, R> {
+impl<'a, R: AllocGlobal + Files + Print + Sync + Threads> Playing<'a, R> {
     /// Begins with the noise of a seed.
     pub(crate) fn new(rt: &'a R, seed: u32, length: Length) -> Playing<'a, R> {
         Playing {
@@ -211,7 +210,7 @@ impl<'a, R: AllocGlobal + Clock + Files + Print + Sync + Threads> Playing<'a, R>
 }
 
 /// Returns what a design makes of a WAV file by a plan.
-fn made_of<R: AllocGlobal + Clock + Sync + Threads>(
+fn made_of<R: AllocGlobal + Sync + Threads>(
     rt: &R,
     file: &[u8],
     design: &Design,
