@@ -1,7 +1,7 @@
-//! Inputs of the benchmark, made by a seed: texts of graph files, and noise as WAV files.
+//! Inputs of the program `bench_jobs`, made by a seed: texts of graph files, and noise as WAV files. They have a crate
+//! of their own, so that they are proved without the libraries of that program.
 //!
-//! It stands on std, `rand_core` and `rand_xoshiro`, so that its functions are proved without the libraries of
-//! `bench_jobs`, which uses it. Begin at `graphs`, then `noise` and `numbers`.
+//! It stands on std, `rand_core` and `rand_xoshiro`. Begin at `graphs`, then `noise` and `numbers`.
 #![tactic(auto)]
 
 mod chain;
