@@ -195,8 +195,8 @@ fn what_is_told_of_sounds(rt: HostRuntime) -> Result<(), Fail> {
     Ok(())
 }
 
-/// Sounds whose size is not true, and what a run makes of them. Refuses a program that believes the size, that looks for
-/// it at one place, or that believes none where it is not told to.
+/// Sounds whose size is not true, and what a run makes of them. Refuses a program that believes the size, that looks
+/// for it at one place, or that believes none where it is not told to.
 const OPEN_ENDED: &[(&[u8], &str, &str)] = &[
     (
         b"RIFF\x28\0\0\0WAVEfmt \x10\0\0\0\x01\0\x01\0\x44\xAC\0\0\x88\x58\x01\0\x02\0\x10\0data\0\0\0\0\x05\0\xFB\xFF",

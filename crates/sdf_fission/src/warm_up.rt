@@ -131,8 +131,8 @@ fn move_on(graph: &Graph, memory: &[u32], since: &mut [u32]) -> Move
     moves
 }
 
-/// Moves the firings `since` on until all channels are late. Without a loop each pass but the last moves an actor that is
-/// one channel further from the first ones.
+/// Moves the firings `since` on until all channels are late. Without a loop each pass but the last moves an actor that
+/// is one channel further from the first ones.
 fn settle(graph: &Graph, memory: &[u32], since: &mut [u32]) -> Move
     requires all { length since.old ≡ graph.now.actors }
     requires memory { AreFirings (length since.old) memory.now }

@@ -14,7 +14,8 @@ use Rattle.sdf_graph.proofs.Ties.{tied_by}
 use Rattle.sdf_graph.specs.declared.channel.Totals.{Totals}
 use Rattle.sdf_graph.specs.declared.repetitions.Ratio.{Ratio}
 use Rattle.sdf_graph.specs.Shares.{IsReduced, IsShare, IsSmall, IsWalk, AreShares, IsCommon, IsEven, IsCycleVector}
-use Rattle.sdf_graph.specs.Shares.{IsTied, start, IsEvenAt, IsEvenWithin, ratio, unreached, one, turns, totals, no_totals}
+use Rattle.sdf_graph.specs.Shares.{IsTied, start, IsEvenAt, IsEvenWithin, ratio, unreached, one, turns, totals}
+use Rattle.sdf_graph.specs.Shares.{no_totals}
 
 -- what channels move in a cycle, read by number
 pub totals_read : (chs : List Edge) (c : ℕ) → c < length chs →

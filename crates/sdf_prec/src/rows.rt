@@ -27,7 +27,7 @@ impl Model for Rows {
 }
 
 impl Rows {
-    /// Makes no rows, of `width` cells each.
+    /// Returns an empty list of rows with `width` cells each.
     pub(crate) fn new(alloc: Global, width: usize) -> Rows
         ensures { result ≡ record { width = width; rows = [] } }
     {

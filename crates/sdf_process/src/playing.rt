@@ -1,7 +1,8 @@
 //! A net that plays a sound some periods at a time, on one thread or in parts at once. It holds what these periods read
 //! and make, and on one thread the memory of the periods before, which they use again.
 
-ghost use Rattle.std.specs.Prelude.{◌≡◌, ◌+◌, ◌-◌, ◌*◌, ◌^◌, ◌≤◌, ◌<◌, ℕ, ℤ, List, false, IfOk, IfSome, IfNone, MatchResult};
+ghost use Rattle.std.specs.Prelude.{◌≡◌, ◌+◌, ◌-◌, ◌*◌, ◌^◌, ◌≤◌, ◌<◌, ℕ, ℤ, List, false, IfOk, IfSome, IfNone};
+ghost use Rattle.std.specs.Prelude.{MatchResult};
 ghost use Rattle.sdf_graph.specs.Rates.{rates};
 ghost use Rattle.sdf_sched.specs.Period.{IsPeriodOf};
 ghost use Rattle.sdf_actor.specs.Graphs.{graph_of};
@@ -38,8 +39,8 @@ use std::thread::Threads;
 /// The most frames that a piece reads or makes on one thread, unless a period has more.
 const PIECE: usize = 32_768;
 
-/// The most frames that a part of a piece reads or makes, unless a period or eight warm-ups have more. Longer parts have
-/// less warm-up, and threads are started less often.
+/// The most frames that a part of a piece reads or makes, unless a period or eight warm-ups have more. Longer parts
+/// have less warm-up, and threads are started less often.
 const PART: usize = 131_072;
 
 /// A net, one of its periods, the sound that it plays, and the most parts of it that are run at once.

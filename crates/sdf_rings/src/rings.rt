@@ -145,8 +145,8 @@ impl<'a, A: Actor> Rings<'a, A> {
         work(net, inputs, &mut self.seats[seat], patience, gate)
     }
 
-    /// Works all seats at once, each in a thread of its own. If all ends have met and firings of a plan are left, it does
-    /// at least one of them.
+    /// Works all seats at once, each in a thread of its own. If all ends have met and firings of a plan are left, it
+    /// does at least one of them.
     pub fn work_all<R: Threads + Sync, G: Gate>(&mut self, workers: Workers<'_, R, G>)
         ensures rounded { AllBecame (HasRounded A.steps self.new.net self.new.inputs) self.old.seats self.new.seats }
         ensures fires { HaveMet self.old.net self.old.seats self.old.places → (order : List ℕ) (cap : ℕ → ℕ) →

@@ -94,7 +94,8 @@ module _ (r : Rates) (q k : ℕ → ℕ) (d : ℕ) (later then : ℕ → Type 0)
     (rest : (c : ℕ) → (c ≡ d → ⊥) → later c → then c) (xs : List ℕ) (ws : List (Option ℕ))
     (was : IsCaughtUp r q k later xs ws) where
   -- with the target of channel d tested again, d is not among the later ones any more
-  pub tested : (ys : List ℕ) (vs : List (Option ℕ)) → IsTested r q k (r.target d) xs ws ys vs → IsCaughtUp r q k then ys vs
+  pub tested : (ys : List ℕ) (vs : List (Option ℕ)) → IsTested r q k (r.target d) xs ws ys vs →
+      IsCaughtUp r q k then ys vs
   tested ys vs up = record {
     rising = up.list.rising;
     each = λ b h. each b h (cases_eq b (r.target d));

@@ -51,7 +51,8 @@ module _ {A S T : Type 0} (s : Steps A S T) (go_on : PartsGoOn s) (w : Split A T
 
     first : j ≡ 0 → Goal
     first z =
-        let goes = first_part s go_on w.net.now w.period.now inputs w.periods w.warm rest has is.warm_up is.given is.full
+        let goes = first_part s go_on w.net.now w.period.now inputs w.periods w.warm rest has is.warm_up
+        is.given is.full
         (j * w.size) to (ap (λ k. k * w.size) z ∙ zero-mul w.size) (lists x.outputs.items) x.rest part in
         let same : joined ≡ lists x.outputs.items =
         same_lists joined (lists x.outputs.items) (many ∙ (count ∙ sym goes.count))
@@ -113,5 +114,6 @@ only_one s go_on w is has rest on last few part =
     subst (λ xs. GoesOnBy s w.net.now q rest w.periods xs on last)
     (all_read s go_on w.net.now w.period.now (lists w.inputs.now) w.periods w.warm rest has is.warm_up is.given is.full)
     (subst (λ k. GoesOnBy s w.net.now q rest k (read_by w.net.now q (lists w.inputs.now) 0 k) on last) end
-    (first_part s go_on w.net.now w.period.now (lists w.inputs.now) w.periods w.warm rest has is.warm_up is.given is.full
+    (first_part s go_on w.net.now w.period.now (lists w.inputs.now) w.periods w.warm rest has is.warm_up
+    is.given is.full
     0 (end_of w.size w.periods 0) refl on last part))

@@ -92,7 +92,8 @@ module _ {A S T : Type 0} (s : Steps A S T) (go_on : PartsGoOn s) (n : Netlist A
   -- a part more
   pub one_more : (at to : ℕ) → warm ≤ at → at ≤ to → to ≤ periods → (on next joined : List (List T))
       (last end : Rest T S) → GoesOnBy s n q rest at (front at) on last →
-      IsPart s n q inputs rest warm at to next end → 0 < at → AreJoined on next joined → length joined ≡ length on → GoesOnBy s n q rest to (front to) joined end
+      IsPart s n q inputs rest warm at to next end → 0 < at → AreJoined on next joined → length joined ≡ length on →
+      GoesOnBy s n q rest to (front to) joined end
   one_more at to enough order within on next joined last end goes part late are many =
       let all : at - warm + warm ≡ at = omega arith in
       let parts : ArePartsOf s n p (at - warm) warm (to - at) (front (at - warm)) (read_by n q inputs (at - warm) at)

@@ -20,7 +20,8 @@ blank count = replicate count []
 blank_at : {T : Type 0} (count e : ℕ) → ◌≡◌ {A = List T} (get_or (blank count) e []) []
 blank_at {T = T} count e = ⊎_elim
     (λ l. get_or-replicate count e [] [] l)
-    (λ past. get_or_past (blank {T = T} count) e [] (let long : length (blank {T = T} count) ≡ count = length-replicate count [] in omega (arith, long)))
+    (λ past. get_or_past (blank {T = T} count) e []
+    (let long : length (blank {T = T} count) ≡ count = length-replicate count [] in omega (arith, long)))
     (cases_lt e count)
 
 -- no period leaves what no firing leaves
@@ -35,7 +36,8 @@ pub warmed : {A S T : Type 0} (s : Steps A S T) → NothingRuns s → (n : Netli
     ((given : List (List T)) → IsRest s n given (λ _. 0) first) → (on : List (List T)) (last : Rest T S) →
     GoesOnBy s n q first (from - (from - warm)) (read_by n q inputs (from - warm) from) on last →
     IsWarmedUp s n q inputs warm from last
-warmed {A = A} {S = S} {T = T} s nothing n q inputs periods warm from given full before within good some sized first is on last goes =
+warmed {A = A} {S = S} {T = T} s nothing n q inputs periods warm from given full before within good some sized first
+    is on last goes =
     let f : ℕ = from - warm in
     let none : List (List T) = read_by n q inputs f f in
     let made : List (List T) = blank (list_count Outputs n.nodes) in

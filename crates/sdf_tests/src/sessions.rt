@@ -157,8 +157,8 @@ fn made_of_begun<R: Threads + AllocGlobal + Sync>(
     made_of_a_block(rt, &pair(rt.alloc(), block, block, &many)?, factor, 1, mode)
 }
 
-/// Refuses memory that is not asked for if a channel begins with as many samples as it may, as by `room_of` that answers
-/// no more than 66,000 or `make_queues` for over 66,000, and a round too many that is told of.
+/// Refuses memory that is not asked for if a channel begins with as many samples as it may, as by `room_of` that
+/// answers no more than 66,000 or `make_queues` for over 66,000, and a round too many that is told of.
 #[test]
 fn channels_of_many_samples(rt: HostRuntime) -> Result<(), Fail> {
     for (name, block, factor, mode, wanted) in BEGUN {

@@ -12,7 +12,8 @@ ghost use Rattle.sdf_actor.specs.Graphs.{graph_of};
 ghost use Rattle.sdf_kit.specs.Kit.{kit_steps};
 ghost use Rattle.sdf_why.specs.Sounds.{channels_told};
 ghost use Rattle.sdf_why.specs.Cycles.{IsCycleText};
-ghost use Rattle.sdf_why.specs.Told.{net_text, IsNetText, IsFileText, processor_line, home_is, home_text, Says, SaysNone};
+ghost use Rattle.sdf_why.specs.Told.{net_text, IsNetText, IsFileText, processor_line, home_is, home_text, Says};
+ghost use Rattle.sdf_why.specs.Told.{SaysNone};
 ghost use Rattle.sdf_why.specs.Told.{IsStallText, IsChannelsText, IsRateOf, IsRateText};
 
 use crate::actors::push_actor_table;

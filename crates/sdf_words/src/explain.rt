@@ -1,6 +1,7 @@
 //! What the faults mean.
 
-ghost use Rattle.std.specs.Prelude.{◌≡◌, ◌≤◌, ◌<◌, ℕ, List, [], length, map, get_or, true, false, ◌++◌, IfOk, IfSome, IfNone, IsSome, OnOk, string_bytes};
+ghost use Rattle.std.specs.Prelude.{◌≡◌, ◌≤◌, ◌<◌, ℕ, List, [], length, map, get_or, true, false, ◌++◌, IfOk, IfSome};
+ghost use Rattle.std.specs.Prelude.{IfNone, IsSome, OnOk, string_bytes};
 ghost use Rattle.sdf_words.specs.declared.asked.TheConstants.{MOST_FAULT};
 ghost use Rattle.sdf_words.specs.Names.{heading, IsNamed, Explains};
 

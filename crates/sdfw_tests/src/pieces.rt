@@ -274,8 +274,8 @@ fn cut_told<T: Threads + AllocGlobal + Sync>(
     Ok(format!(in alloc; "{} {front} {end}", output.len())?)
 }
 
-/// What is read at a time is run and written before more is read. Refuses `FRAMES` of another number, and one thread where
-/// workers were asked for.
+/// What is read at a time is run and written before more is read. Refuses `FRAMES` of another number, and one thread
+/// where workers were asked for.
 #[test]
 fn what_was_read_is_written(rt: HostRuntime) -> Result<(), Fail> {
     for row in CUTS {

@@ -251,14 +251,15 @@ fn told<'a>(alloc: Global, line: &'a [&'a str]) -> Result<String, Fail> {
         Ok(
             Words::Design {
                 graph: "g",
-                task:
-                    Task::Run(Run {
+                task: Task::Run(
+                    Run {
                         input: "i",
                         output: "o",
                         options,
                         parallel,
                         open_ended: false,
-                    }),
+                    },
+                ),
                 why: Why::AtTerminal,
             },
         ) => Ok(format!(in alloc;

@@ -9,7 +9,8 @@ pub returns-clause-runs : goal.returns-clause-runs
 returns-clause-runs g c =
     λ n m p few more first later all made on joined rest last has given full before begins after all_are joined_are as_many.
     run_in_all graph_laws g.A.Actor.steps g.B.Actor.steps (periods_are_whole g.A.Actor.steps)
-    (histories_go_on g.A.Actor.steps g.B.Actor.steps) (rests_go_on g.A.Actor.steps g.B.Actor.steps) (arrivals_go_on g.A.Actor.steps g.B.Actor.steps)
+    (histories_go_on g.A.Actor.steps g.B.Actor.steps) (rests_go_on g.A.Actor.steps g.B.Actor.steps)
+    (arrivals_go_on g.A.Actor.steps g.B.Actor.steps)
     n m p few more first later all made on joined rest last has given full before begins after all_are
     joined_are as_many
 

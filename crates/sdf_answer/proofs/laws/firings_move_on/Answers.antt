@@ -6,7 +6,8 @@ pub returns-clause-counts : goal.returns-clause-counts
 returns-clause-counts g c = blocks_are_counted g.A.Actor.steps
 
 pub returns-clause-stand : goal.returns-clause-stand
-returns-clause-stand g c = blocks_stand g.A.Actor.steps (nets_are_wired g.A.Actor.steps) (ports_have_channels g.A.Actor.steps)
+returns-clause-stand g c = blocks_stand g.A.Actor.steps (nets_are_wired g.A.Actor.steps)
+    (ports_have_channels g.A.Actor.steps)
 
 pub returns-clause-moves : goal.returns-clause-moves
 returns-clause-moves g c =

@@ -21,7 +21,8 @@ returns-clause-warms g c = λ q least.
     let alike : IsAlike (rates (graph_of s n)) (wiring s n).rates =
     subst (λ x. IsAlike (rates x) (wiring s n).rates) c.graph-graph.ensures.value c.graph-graph.ensures.rates in
     let all : AreMemories s n memory = search rules in
-    let own_late : AreLate c.graph-graph.result.now (slice_index c.deref.result.now) (slice_index since) = search rules in
+    let own_late : AreLate c.graph-graph.result.now (slice_index c.deref.result.now) (slice_index since) =
+    search rules in
     let late : AreLate (graph_of s n) (slice_index memory) (slice_index since) =
     subst (λ x. AreLate x (slice_index memory) (slice_index since)) c.graph-graph.ensures.value
     (subst (λ xs. AreLate c.graph-graph.result.now (slice_index xs) (slice_index since)) c.deref.ensures.value own_late)

@@ -8,7 +8,8 @@ use Rattle.sdf_prec.specs.Tidied.{filled}
 use Rattle.sdf_prec.proofs.RowMarks.{row_read}
 use Rattle.sdf_prec.proofs.RowsIn.{some_cells}
 use Rattle.sdf_prec.proofs.Keeping.{tidied_some, tidied_none, not_some}
-use Rattle.sdf_prec.proofs.tidy.tidied.Goals.{then-has_firing+in_ok-extend_from_slice+in_ok-resize+in_ok-push, else-has_firing}
+use Rattle.sdf_prec.proofs.tidy.tidied.Goals.{then-has_firing+in_ok-extend_from_slice+in_ok-resize+in_ok-push}
+use Rattle.sdf_prec.proofs.tidy.tidied.Goals.{else-has_firing}
 use Rattle.sdf_prec.proofs.tidy.tidied.Goals as goal
 
 pub push-requires-clause-some : goal.push-requires-clause-some
@@ -58,7 +59,8 @@ loop-row-preserved c =
           let full : w.deref-then-has_firing-2.result.now ≡ filled c.args.width (row rs i) =
           w.deref-then-has_firing-2.ensures.value ∙ (w.in_ok-resize.ensures.items
           ∙ ((λ n. take c.args.width (copied n) ++ replicate (c.args.width - long n) None) ∙
-          ap (λ xs. xs ++ replicate (c.args.width - length (row rs i)) None) (take_all c.args.width (row rs i) fits))) in
+          ap (λ xs. xs ++ replicate (c.args.width - length (row rs i)) None)
+          (take_all c.args.width (row rs i) fits))) in
           rw w.kept-is (record {
             wide = w.push.ensures.width ∙ c.loop-row.invariant.wide;
             rows = w.in_ok-push.ensures.rows ∙ ((λ n. c.loop-row.invariant.rows n ++ full n ∷ [])

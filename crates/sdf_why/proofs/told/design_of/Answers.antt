@@ -9,6 +9,7 @@ use Rattle.sdf_why.proofs.told.design_of.Goals as goal
 pub returns-in-Err : goal.returns-in-Err
 returns-in-Err c =
     IfOk-weaker c.no_design.result _ _
-    (λ r (is, other). subst (λ r. MatchOption r (SaysNone c.args.sources.graph.now (files_view c.args.sources.files.now))
+    (λ r (is, other). subst (λ r. MatchOption r (SaysNone c.args.sources.graph.now
+    (files_view c.args.sources.files.now))
     (IsDesignOf c.args.sources.graph.now (files_view c.args.sources.files.now))) (sym is)
     (refused c.in-Err.fault c.in-Err.ensures other)) c.no_design.ensures

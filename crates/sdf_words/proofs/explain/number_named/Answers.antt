@@ -8,4 +8,5 @@ loop-number-preserved c = λ number. none_up_to (λ n. IsNamed n c.args.name.now
     c.loop-number.invariant (c.if-is_named.ensures.other refl)
 
 pub returns-clause-none : goal.returns-clause-none
-returns-clause-none c = λ number named. c.loop-number.invariant number (omega (arith, named.within, c.loop-number-test.false)) named
+returns-clause-none c = λ number named. c.loop-number.invariant number
+    (omega (arith, named.within, c.loop-number-test.false)) named
