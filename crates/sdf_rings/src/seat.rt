@@ -83,19 +83,17 @@ fn fire_known<A: Actor, G: Gate>(
     let most = (stand.asked - stand.done).min(MOST_AT_ONCE) as usize;
     if left.in_a_row(next, most.min(2)) > 1 {
         let known = in_one_run(orders.net, orders.inputs, stand, most);
-        if known > 1 {
-            let many = left.in_a_row(next, known);
-            if many > 1 {
-                fire_run(
-                    orders.net,
-                    orders.inputs,
-                    stand,
-                    orders.processor,
-                    many,
-                    orders.gate,
-                );
-                return many;
-            }
+        let many = left.in_a_row(next, known);
+        if many > 1 {
+            fire_run(
+                orders.net,
+                orders.inputs,
+                stand,
+                orders.processor,
+                many,
+                orders.gate,
+            );
+            return many;
         }
     }
     orders
