@@ -186,7 +186,7 @@ pub(crate) fn is_told(name: &str, told: Result<String, Fail>, wanted: &str) -> R
     Err(Fail::new(format_args!("{name}: {text:?} in place of {wanted:?}")))
 }
 
-/// Whether that is told of each row.
+/// Compares what each row prints with what it wants.
 pub(crate) fn are_told<T: Threads + AllocGlobal + Clock + Clone + Drop + Sync>(
     rt: &T,
     rows: &[Row],

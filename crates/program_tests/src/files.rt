@@ -116,7 +116,7 @@ pub(crate) fn told<R: Files, T: Threads + AllocGlobal + Clock + Clone + Drop + S
 /// The name of a row, a line of words, and what is told of it.
 pub(crate) type Row = (&'static str, &'static str, &'static str);
 
-/// Whether that is told of each row in a folder.
+/// Compares what each row prints in a folder with what it wants.
 pub(crate) fn are_told(
     rt: &(impl Files + Threads + AllocGlobal + Clock + Clone + Drop + Sync),
     folder: &str,

@@ -1,4 +1,4 @@
-//! What is told at a terminal, and in the same words where more is asked for, over files in memory.
+//! Diagnostics at a terminal and by `--why`, over files in memory.
 
 use crate::commands::{Around, OPEN, Row, is_told, told_around};
 use crate::shelf::SOUND;
@@ -18,8 +18,8 @@ const HEARD: Around<'static> = Around {
     ..TERMINAL
 };
 
-/// What is told at a terminal. Refuses a program that says no more there, that does so where it is told not to, or that
-/// says more beside JSON.
+/// Diagnostics at a terminal. Refuses a program that prints no more there, one that ignores `--no-why`, and one that
+/// prints more beside JSON.
 const AT_TERMINAL: &[Row] = &[
     (
         "a design that is not there",
@@ -98,7 +98,7 @@ const AT_TERMINAL: &[Row] = &[
     ),
 ];
 
-/// Whether that is told of each row with what stands around it.
+/// Compares the diagnostics of each row with the wanted ones.
 fn are_told_around<T: Threads + AllocGlobal + Clock + Clone + Drop + Sync>(
     rt: &T,
     around: &Around<'_>,

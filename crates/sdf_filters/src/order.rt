@@ -10,7 +10,7 @@ use sdf_limits::MOST_TAPS;
 /// How many nodes a tree of the taps of a phase has at most, with the taps themselves.
 const NODES: usize = 2 * MOST_TAPS;
 
-/// The first taps of a phase, as many as there are turns, counted from 0, and whether they are moved up.
+/// A phase, the number of its first taps that are moved, and whether they are moved up.
 #[derive(Clone, Copy)]
 pub(crate) struct Way {
     pub(crate) up: usize,

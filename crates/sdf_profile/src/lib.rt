@@ -4,8 +4,8 @@
 //! on `sdf_run` for the gate, on `sdf_wav` for the adapters of readers and writers, on `sdf_options`, on `sdf_file` for
 //! the names of actors, on `sdf_actor` for how many there are, on `sdf_graph` and `sdf_kit` for the length of a period,
 //! on `sdf_document`, which reads a graph file, and on `sdf_limits`.
-//! Begin at `measuring`; `stopwatch` measures, `lines` and `costs` have what is told of it, and `costing` writes the
-//! costs into a graph file's text. Nothing is said of time itself. The definitions are in `specs/Profiles.antt`,
+//! Begin with `measuring`. `stopwatch` measures, `lines` and `costs` make the report, and `costing` writes the costs
+//! into a graph file's text. Nothing is said of time itself. The definitions are in `specs/Profiles.antt`,
 //! `specs/Times.antt`, `specs/Costs.antt` and `specs/Written.antt`.
 #![tactic(auto)]
 

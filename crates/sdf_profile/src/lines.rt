@@ -32,7 +32,7 @@ fn push_share(text: &mut String, part: u64, whole: u64) -> Result<(), AllocError
     Ok(())
 }
 
-/// Adds a time of so many picoseconds, in nanoseconds.
+/// Adds a time in picoseconds as a text in nanoseconds.
 fn push_time(text: &mut String, time: u64) -> Result<(), AllocError>
     ensures { OnOk result (string_bytes text.new ≡ string_bytes text.old ++ time_text time) }
 {
