@@ -20,8 +20,7 @@ const SIXTEENS: usize = PLACES / 16;
 
 /// Sixteens of a second pass that cost as much as one stretch after the first of its branch.
 ///
-/// Sketches of both loops measured 3 on x86-64-v2 and 6 with AVX2. By the greater, sums by stretches are nowhere slower
-/// than sums of split samples by more than a twentieth.
+/// Sketches of both loops measured 3 on x86-64-v2 and 6 with AVX2.
 const STRETCH_COST: usize = 6;
 
 /// The taps of each phase, the last one first, after zeros that make them a multiple of sixteen.

@@ -16,7 +16,7 @@ pub(crate) struct Branch<'a> {
     pub(crate) stretches: &'a [u8],
 }
 
-/// How many sixteens the longest stretch from the first tap on has.
+/// Returns how many sixteens a stretch from the first tap on has. That it is the longest no clause says.
 pub(crate) fn reach(taps: &[i16]) -> u8
     requires whole { length taps.now % 16 ≡ 0 }
     requires few { length taps.now ≤ 1024 }
