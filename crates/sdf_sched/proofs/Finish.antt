@@ -47,7 +47,8 @@ module _ (P : Type 0) (chooses : Chooses P) (g : Shape) (q : List ℕ) (p : P) w
         where
           go : (get_or t.fired a 0 < get_or q a 0) ⊎ (get_or q a 0 ≤ get_or t.fired a 0) →
               get_or t.fired a 0 ≡ get_or q a 0
-          go (inl less) = absurd (stuck_counts (rates g) (slice_index q) (slice_index t.fired) sound none_left a h less v pass)
+          go (inl less) = absurd
+              (stuck_counts (rates g) (slice_index q) (slice_index t.fired) sound none_left a h less v pass)
           go (inr full) = omega (arith, now.within a)
 
       pub is_pass : IsPass (rates g) (slice_index q) w
