@@ -19,3 +19,4 @@ mod Begun
 mod ByTurns
 mod TwoPorts
 mod GraphTheorems
+pub mod Theorems

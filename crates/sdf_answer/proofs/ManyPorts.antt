@@ -7,7 +7,7 @@ use Rattle.std.proofs.Math.Seq.{take-add}
 use Rattle.std.proofs.lemmas.List.{take_more, flat_map_more, drop-drop, drop-take, take-take, take_all, append-nil}
 use Rattle.std.proofs.lemmas.Slice.{between_from_start}
 use Rattle.sdf_actor.specs.Histories.{spread}
-use Rattle.sdf_node.specs.Laws.{BlocksJoin}
+use Rattle.sdf_node.proofs.Theorems.{blocks_join}
 use Rattle.sdf_node.specs.Many.{nth_block, joined}
 use Rattle.sdf_answer.specs.Held.{Held}
 use Rattle.sdf_answer.specs.Blocks.{samples, ArePorts}
@@ -84,11 +84,11 @@ front_more f ports i old new part l before here is = is ∙ ((λ k. before k ++ 
     ∙ (flat_map_more f [] (take i ports) (get_or ports i 0) ∙ ap (flat_map f) (sym (take_more ports i 0 l))))
 
 -- the blocks, once they are whole
-pub blocks_whole : {T : Type 0} → BlocksJoin T → (f : ℕ → List T) (size times at : ℕ) (xs : List T) →
+pub blocks_whole : {T : Type 0} (f : ℕ → List T) (size times at : ℕ) (xs : List T) →
     length xs ≡ times * size → size ≤ at →
     ((i : ℕ) → i < times → take at (nth_block size xs i) ≡ f i) → xs ≡ joined f times
-blocks_whole law f size times at xs long past each =
-    let are = law size times xs (omega (arith, long)) in
+blocks_whole f size times at xs long past each =
+    let are = blocks_join size times xs (omega (arith, long)) in
     sym are.1 ∙ same_joined (nth_block size xs) f times
     (λ i l. sym (take_all at (nth_block size xs i) (omega (arith, are.0 i l))) ∙ each i l)
 

@@ -67,9 +67,7 @@ pub fn begun_nets_go_on<A: Actor, B: Actor<Token = A::Token, State = A::State>>(
     ensures whole { PeriodsMayLeave A.steps }
     ensures runs { BegunRunsGoOn A.steps B.steps }
     ensures faults { BegunRunsFail A.steps B.steps }
-{
-    feeds_go_on::<A, B>();
-}
+{}
 
 /// A history begins with what the channels begin with, and what its sinks took are the outputs.
 pub fn histories_make_outputs<A: Actor>()
@@ -102,6 +100,5 @@ pub fn firings_move_on<A: Actor>()
     ensures stand { BlocksStand A.steps }
     ensures moves { FiringsMoveOn A.steps }
 {
-    plans_fit::<A>();
     history_grows_by_firing::<A>();
 }

@@ -12,7 +12,6 @@ use crate::blocks::Ports;
 use crate::pairs::weave;
 use crate::parts::deal_row;
 use crate::queue::{Queue, put_pairs};
-use sdf_node::laws::blocks_join;
 
 /// How many whole blocks of a size so many samples hold, up to a limit, which is the answer where they have no size.
 pub fn whole_blocks(samples: usize, size: usize, most: usize) -> usize
@@ -44,7 +43,6 @@ fn take_row<T: Copy>(
     ensures blocks { (i : ℕ) → i < times → take (at + width) (nth_block size blocks.new i) ≡
         take at (nth_block size blocks.old i) ++ take width (drop (i * width) queue.old.samples) }
 {
-    blocks_join::<T>();
     let many = times * width;
     deal_row(queue.oldest(many), blocks, at, width, times, size);
     queue.release(many);
@@ -122,7 +120,6 @@ pub fn take_blocks<T: Copy>(
         take_pairs(ports, times, queues, blocks);
         return;
     }
-    blocks_join::<T>();
     let mut at = 0;
     for c in ports.channels {
         let width = ports.sizes[*c];

@@ -4,3 +4,4 @@ mod Collected
 mod Joined
 mod ManyFirings
 mod Keeping
+pub mod Theorems

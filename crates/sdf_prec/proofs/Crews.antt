@@ -8,7 +8,7 @@ use Rattle.std.proofs.lemmas.Bool.{false≢true}
 use Rattle.std.proofs.lemmas.List.Sums.{sum_by-cons}
 use Rattle.sdf_limits.specs.declared.TheConstants.{MOST_COST}
 use Rattle.sdf_graph.specs.Rates.{Rates, Shape, rates, IsSound}
-use Rattle.sdf_graph.specs.Laws.{ListsSumWithin}
+use Rattle.sdf_graph.proofs.Theorems.{lists_sum_within}
 use Rattle.sdf_prec.specs.declared.firing.Firing.{Firing}
 use Rattle.sdf_prec.specs.Tables.{firings}
 use Rattle.sdf_prec.specs.Trying.{IsQueue}
@@ -167,18 +167,18 @@ row_skipped job old new past cells s due is row none =
     subst (λ (k : Crewed). IsDoneBy job k past) (sym is)
     (row_left _ _ _ _ _ _ _ _ _ _ _ _ _ _ s due cells (subst (λ (k : Crewed). IsRowFor job k past cells) is row) none)
 
-pub sum_less : ListsSumWithin → (xs ys : List ℕ) (b : ℕ) → length xs ≡ length ys →
+pub sum_less : (xs ys : List ℕ) (b : ℕ) → length xs ≡ length ys →
     ((a : ℕ) → get_or xs a 0 ≤ get_or ys a 0) → get_or xs b 0 < get_or ys b 0 → sum xs < sum ys
-sum_less lists [] [] b e h l = absurd (omega arith)
-sum_less lists [] (y ∷ ys) b e h l = absurd (omega arith)
-sum_less lists (x ∷ xs) [] b e h l = absurd (omega arith)
-sum_less lists (x ∷ xs) (y ∷ ys) zero e h l =
-    let rest = lists xs ys (omega arith) (λ a. h (suc a)) in
+sum_less [] [] b e h l = absurd (omega arith)
+sum_less [] (y ∷ ys) b e h l = absurd (omega arith)
+sum_less (x ∷ xs) [] b e h l = absurd (omega arith)
+sum_less (x ∷ xs) (y ∷ ys) zero e h l =
+    let rest = lists_sum_within xs ys (omega arith) (λ a. h (suc a)) in
     let one : sum (x ∷ xs) ≡ x + sum xs = sum_by-cons (λ z. z) x xs in
     let other : sum (y ∷ ys) ≡ y + sum ys = sum_by-cons (λ z. z) y ys in
     omega arith
-sum_less lists (x ∷ xs) (y ∷ ys) (suc b) e h l =
-    let rest = sum_less lists xs ys b (omega arith) (λ a. h (suc a)) l in
+sum_less (x ∷ xs) (y ∷ ys) (suc b) e h l =
+    let rest = sum_less xs ys b (omega arith) (λ a. h (suc a)) l in
     let one : sum (x ∷ xs) ≡ x + sum xs = sum_by-cons (λ z. z) x xs in
     let other : sum (y ∷ ys) ≡ y + sum ys = sum_by-cons (λ z. z) y ys in
     omega (arith, h 0)

@@ -10,88 +10,87 @@ use Rattle.std.proofs.lemmas.Option.{slice_get_within, get_or_from_slice_get}
 use Rattle.std.proofs.lemmas.Bool.{cases_lt}
 use Rattle.sdf_graph.specs.Rates.{Rates, IsSound}
 use Rattle.sdf_graph.specs.Sequences.{times, IsPass, FitsIn}
-use Rattle.sdf_graph.specs.Laws.{LastCountsMore, FrontsCountWithin}
+use Rattle.sdf_graph.proofs.Theorems.{fronts_count_within, last_counts_more}
 use Rattle.sdf_prec.specs.declared.firing.Firing.{Firing}
 use Rattle.sdf_prec.specs.Precedence.{WaitsFor}
 use Rattle.sdf_prec.specs.Tables.{firing, firings, no_firing, row, order, Stands, IsOfBlock, IsValid}
 use Rattle.sdf_prec.specs.Next.{IsNext}
-use Rattle.sdf_prec.specs.Laws.{SomeIsNext, NextMayFire}
 use Rattle.sdf_prec.specs.TimedRows.{Timed, no_row, timed, cells_of, StandsAt, Occurs, IsReadyAt, AreTimed, hu_rule}
 use Rattle.sdf_prec.specs.Floor.{IsNextReady, IsFloor, IsStuck}
 use Rattle.sdf_prec.proofs.Floors.{row_known, none_busy, none_at_work}
 use Rattle.sdf_prec.proofs.RowCells.{stands_at}
 use Rattle.sdf_prec.proofs.RowMarks.{row_order, in_order}
 use Rattle.sdf_prec.proofs.Sufficing.{stands_in}
+use Rattle.sdf_prec.proofs.Theorems.{next_may_fire, some_is_next}
 
 -- capacities that no channel passes in a sequence
 abbrev wide_cap : Rates → List ℕ → ℕ → ℕ
 wide_cap r w c = r.initial c + r.produced c (times w (r.source c))
 
 -- where all that started has ended and a firing is left, some firing is ready
-module _ (some : SomeIsNext) (may_fire : NextMayFire) (last : LastCountsMore) (front : FrontsCountWithin) where
-  pub some_ready : (r : Rates) (n ended started : ℕ → ℕ) (w : List ℕ) → IsSound r → IsPass r n w →
-      ((a : ℕ) → a < r.actors → ended a ≡ started a) → (a : ℕ) → a < r.actors → started a < n a →
-      (f : Firing) × IsNextReady r n ended started f
-  some_ready r n ended started w s pass all a l left = go (some ended w a (omega (arith, pass.1 a l, all a l)))
-    where
-      fits : FitsIn r (wide_cap r w) w
-      fits m h c k = omega (
-        arith,
-        s.produced_rises c (times (take m w) (r.source c)) (times w (r.source c))
-            (front w m (r.source c)),
-      )
+pub some_ready : (r : Rates) (n ended started : ℕ → ℕ) (w : List ℕ) → IsSound r → IsPass r n w →
+    ((a : ℕ) → a < r.actors → ended a ≡ started a) → (a : ℕ) → a < r.actors → started a < n a →
+    (f : Firing) × IsNextReady r n ended started f
+some_ready r n ended started w s pass all a l left = go (some_is_next ended w a (omega (arith, pass.1 a l, all a l)))
+  where
+    fits : FitsIn r (wide_cap r w) w
+    fits m h c k = omega (
+      arith,
+      s.produced_rises c (times (take m w) (r.source c)) (times w (r.source c))
+          (fronts_count_within w m (r.source c)),
+    )
 
-      go : (p : ℕ) × IsNext ended w p → (f : Firing) × IsNextReady r n ended started f
-      go (p, next) =
-          let fires = may_fire r ended (wide_cap r w) w p s pass.0 fits next in
-          let b = get_or w p 0 in
-          let known : get_or w p 0 < r.actors = (pass.0 p next.within).0 in
-          let more : times (take (p + 1) w) (get_or w p 0) ≡ times (take p w) (get_or w p 0) + 1 =
-          last w p (get_or w p 0) next.within refl in
-          let within : started (get_or w p 0) < n (get_or w p 0) =
-          omega (
-            arith,
-            front w (p + 1) (get_or w p 0),
-            pass.1 (get_or w p 0) known,
-            all (get_or w p 0) known,
-            fires.0,
-          ) in (
-            record { actor = get_or w p 0; number = started (get_or w p 0) },
-            record {
-              known = known;
-              within = within;
-              next = refl;
-              through = all (get_or w p 0) known;
-              on = fires.1;
-            },
-          )
+    go : (p : ℕ) × IsNext ended w p → (f : Firing) × IsNextReady r n ended started f
+    go (p, next) =
+        let fires = next_may_fire r ended (wide_cap r w) w p s pass.0 fits next in
+        let b = get_or w p 0 in
+        let known : get_or w p 0 < r.actors = (pass.0 p next.within).0 in
+        let more : times (take (p + 1) w) (get_or w p 0) ≡ times (take p w) (get_or w p 0) + 1 =
+        last_counts_more w p (get_or w p 0) next.within refl in
+        let within : started (get_or w p 0) < n (get_or w p 0) =
+        omega (
+          arith,
+          fronts_count_within w (p + 1) (get_or w p 0),
+          pass.1 (get_or w p 0) known,
+          all (get_or w p 0) known,
+          fires.0,
+        ) in (
+          record { actor = get_or w p 0; number = started (get_or w p 0) },
+          record {
+            known = known;
+            within = within;
+            next = refl;
+            through = all (get_or w p 0) known;
+            on = fires.1;
+          },
+        )
 
-  -- so where none can start none is left
-  pub all_stand : (r : Rates) (n cost : ℕ → ℕ) (width : ℕ) (homed : Bool) (past : List Timed) (now : ℕ)
-      (ended started whose until : ℕ → ℕ) (homes : ℕ → Option ℕ) (w : List ℕ) → IsSound r → 0 < width → IsPass r n w →
-      IsFloor r n cost width past now ended started whose until →
-      IsStuck r n ended started until homes width now homed →
-      ((j : ℕ) → j < width → until j ≤ now) → (f : Firing) → IsOfBlock r n f → Occurs past f
-  all_stand r n cost width homed past now ended started whose until homes w s some_column pass floor stuck none f of =
-      go (cases_lt f.number (started f.actor))
-    where
-      through : (a : ℕ) → a < r.actors → ended a ≡ started a
-      through = none_at_work r n cost width past now ended started whose until floor none
+-- so where none can start none is left
+pub all_stand : (r : Rates) (n cost : ℕ → ℕ) (width : ℕ) (homed : Bool) (past : List Timed) (now : ℕ)
+    (ended started whose until : ℕ → ℕ) (homes : ℕ → Option ℕ) (w : List ℕ) → IsSound r → 0 < width → IsPass r n w →
+    IsFloor r n cost width past now ended started whose until →
+    IsStuck r n ended started until homes width now homed →
+    ((j : ℕ) → j < width → until j ≤ now) → (f : Firing) → IsOfBlock r n f → Occurs past f
+all_stand r n cost width homed past now ended started whose until homes w s some_column pass floor stuck none f of =
+    go (cases_lt f.number (started f.actor))
+  where
+    through : (a : ℕ) → a < r.actors → ended a ≡ started a
+    through = none_at_work r n cost width past now ended started whose until floor none
 
-      busy : (j : ℕ) → now < until j → ⊥
-      busy = none_busy r n cost width past now ended started whose until floor none
+    busy : (j : ℕ) → now < until j → ⊥
+    busy = none_busy r n cost width past now ended started whose until floor none
 
-      go : (f.number < started f.actor) ⊎ (started f.actor ≤ f.number) → Occurs past f
-      go (inl l) = (floor.occurs f of.0).0 l
-      go (inr h) = at (some_ready r n ended started w s pass through f.actor of.0 (omega (arith, of.1)))
-        where
-          at : (g : Firing) × IsNextReady r n ended started g → Occurs past f
-          at (g, ready) = none_left (stuck g ready)
-            where
-              none_left : ((k : ℕ) × IsTrue homed × (homes g.actor ≡ Some k) × (now < until k))
-                  ⊎ ((j : ℕ) → j < width → now < until j) → Occurs past f
-              none_left (inl (k, _, _, b)) = absurd (busy k b)
-              none_left (inr all) = absurd (busy 0 (all 0 some_column))
+    go : (f.number < started f.actor) ⊎ (started f.actor ≤ f.number) → Occurs past f
+    go (inl l) = (floor.occurs f of.0).0 l
+    go (inr h) = at (some_ready r n ended started w s pass through f.actor of.0 (omega (arith, of.1)))
+      where
+        at : (g : Firing) × IsNextReady r n ended started g → Occurs past f
+        at (g, ready) = none_left (stuck g ready)
+          where
+            none_left : ((k : ℕ) × IsTrue homed × (homes g.actor ≡ Some k) × (now < until k))
+                ⊎ ((j : ℕ) → j < width → now < until j) → Occurs past f
+            none_left (inl (k, _, _, b)) = absurd (busy k b)
+            none_left (inr all) = absurd (busy 0 (all 0 some_column))
 
 -- a row without its time
 pub row_of : (past : List Timed) (i : ℕ) → row (cells_of past) i ≡ (timed past i).cells

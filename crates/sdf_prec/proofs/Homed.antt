@@ -6,7 +6,6 @@ use Rattle.std.proofs.lemmas.List.{get_or-set_same, get_or-set_other, length-rep
 use Rattle.std.proofs.lemmas.Option.{none-some}
 use Rattle.sdf_graph.specs.Rates.{Rates}
 use Rattle.sdf_graph.specs.Sequences.{times, IsPass}
-use Rattle.sdf_prec.specs.GraphLaws.{GraphLaws}
 use Rattle.sdf_prec.specs.declared.firing.Firing.{Firing}
 use Rattle.sdf_prec.specs.Blocks.{block}
 use Rattle.sdf_prec.specs.Tables.{cell, cell_of, Tabled, home_in, IsHome, IsExact, IsHomed}
@@ -46,7 +45,7 @@ block_fires j q a some fires =
     let least : j * 1 ≤ j * get_or q a 0 = mul-le-mul_left j (omega arith) in
     omega (arith, block_at j q a, least)
 
-module _ (laws : GraphLaws) (r : Rates) (n : ℕ → ℕ) (w : List ℕ) (pass : IsPass r n w) (homes : List (Option ℕ))
+module _ (r : Rates) (n : ℕ → ℕ) (w : List ℕ) (pass : IsPass r n w) (homes : List (Option ℕ))
     (m : ℕ) (homed : (a : ℕ) → a < r.actors → HasHome homes m a) (t : Tabled) (by : AreByHomes homes m w t.rows) where
   -- a firing stands in its actor's home
   at_home : (i k : ℕ) (f : Firing) → cell t.rows i k ≡ Some f → get_or homes f.actor None ≡ Some k
@@ -65,7 +64,7 @@ module _ (laws : GraphLaws) (r : Rates) (n : ℕ → ℕ) (w : List ℕ) (pass :
           let home = homed a l in
           let counts : times (take (length w) w) a ≡ n a =
           ap (λ v. times v a) (take_all (length w) w (omega arith)) ∙ pass.1 a l in
-          let at = place_of laws w a 0 (length w) (omega arith) (omega (arith, counts)) in (
+          let at = place_of w a 0 (length w) (omega arith) (omega (arith, counts)) in (
             at.0,
             firing_at w at.0,
             omega (arith, by.all, at.1),

@@ -7,7 +7,6 @@ use Rattle.std.proofs.lemmas.Bool.{cases_lt}
 use Rattle.sdf_limits.specs.declared.TheConstants.{MOST_BLOCK}
 use Rattle.sdf_graph.specs.Rates.{Rates, Shape, IsShape, IsCycle, channel, rates, rate_at, sum_to}
 use Rattle.sdf_graph.specs.Periods.{IsPeriodVector}
-use Rattle.sdf_graph.specs.Laws.{CyclesBeginAnew}
 use Rattle.sdf_prec.specs.declared.long.TheConstants.{MOST_MOVED}
 use Rattle.sdf_prec.specs.Blocks.{IsShort}
 use Rattle.sdf_prec.specs.Long.{moved, IsWithinLong, IsLongest}
@@ -15,20 +14,20 @@ use Rattle.sdf_prec.proofs.Cyclic.{whole_cycles, product_small}
 use Rattle.sdf_prec.proofs.Shifts.{within_sum}
 
 -- whole cycles move something
-cycles_move : CyclesBeginAnew → (xs : List ℕ) (n k q : ℕ) → IsCycle n xs → q ≡ k * n → 0 < q →
+cycles_move : (xs : List ℕ) (n k q : ℕ) → IsCycle n xs → q ≡ k * n → 0 < q →
     0 < sum_to (rate_at xs) q
-cycles_move anew xs n zero q ok is some = absurd (omega arith)
-cycles_move anew xs n (suc k) q ok is some =
+cycles_move xs n zero q ok is some = absurd (omega arith)
+cycles_move xs n (suc k) q ok is some =
     let same : q ≡ suc k * length xs = is ∙ ap (λ n. suc k * n) (sym ok.all) in
     let more : suc k * 1 ≤ suc k * sum xs = mul-le-mul_left (suc k) (omega (arith, ok.moves)) in
-    omega (arith, ap (sum_to (rate_at xs)) same, whole_cycles anew xs (suc k), more)
+    omega (arith, ap (sum_to (rate_at xs)) same, whole_cycles xs (suc k), more)
 
-pub channel_moves : CyclesBeginAnew → (g : Shape) → IsShape g → (q : List ℕ) → IsPeriodVector (rates g) q → (c : ℕ) →
+pub channel_moves : (g : Shape) → IsShape g → (q : List ℕ) → IsPeriodVector (rates g) q → (c : ℕ) →
     c < length g.channels → 0 < moved (rates g) q c
-channel_moves anew g ok q period c l =
+channel_moves g ok q period c l =
     let from = ok.from_in c l in
     let whole = period.whole (channel g c).from from in
-    cycles_move anew (channel g c).put ((rates g).cycle (channel g c).from) whole.0 (get_or q (channel g c).from 0)
+    cycles_move (channel g c).put ((rates g).cycle (channel g c).from) whole.0 (get_or q (channel g c).from 0)
     (ok.put c l) whole.1 (period.positive (channel g c).from from)
 
 -- and each actor fires

@@ -5,7 +5,7 @@ use Rattle.std.proofs.Math.Nat.{mul-le-mul_left}
 use Rattle.std.proofs.lemmas.Bool.{cases_lt, cases_eq}
 use Rattle.sdf_graph.specs.Rates.{Rates, IsSound, IsCycle, rates, channel, sum_to, rate_at}
 use Rattle.sdf_graph.specs.Sequences.{IsPeriod}
-use Rattle.sdf_graph.specs.Laws.{CyclesBeginAnew}
+use Rattle.sdf_graph.proofs.Theorems.{cycles_begin_anew}
 use Rattle.sdf_prec.specs.Blocks.{block}
 use Rattle.sdf_prec.specs.Laws.{NeedsExist}
 use Rattle.sdf_prec.proofs.Periods.{block_at}
@@ -40,22 +40,22 @@ module _ (f : ℕ → ℕ) (amount : ℕ) where
       go (inr least) = least
       go (inl low) = absurd (omega (arith, low n (omega arith)))
 
-cycles_reach : CyclesBeginAnew → (n : ℕ) (xs : List ℕ) → IsCycle n xs → (amount : ℕ) →
+cycles_reach : (n : ℕ) (xs : List ℕ) → IsCycle n xs → (amount : ℕ) →
     amount ≤ sum_to (rate_at xs) (amount * length xs)
-cycles_reach anew n xs ok amount = omega (
+cycles_reach n xs ok amount = omega (
   arith,
-  anew xs amount 0,
+  cycles_begin_anew xs amount 0,
   ap (sum_to (rate_at xs)) (zero-add (amount * length xs)),
   mul-le-mul_left amount (let h : 1 ≤ sum xs = omega (arith, ok.moves) in h),
 )
 
-pub needs_exist : CyclesBeginAnew → NeedsExist
-needs_exist anew g ok c k l =
+pub needs_exist : NeedsExist
+needs_exist g ok c k l =
     let taken = (rates g).consumed c (k + 1) in
     let there = (rates g).initial c in
     let put = rate_at (channel g c).put in
     let least = least_from (sum_to put) (taken - there) ((taken - there) * length (channel g c).put)
-    (cycles_reach anew _ _ (ok.put c l) (taken - there)) in
+    (cycles_reach _ _ (ok.put c l) (taken - there)) in
     (least.0, record { suffice = omega (arith, least.1); least = λ j enough. least.2 j (omega arith) })
 
 -- a block of j periods puts on each channel what it takes

@@ -6,7 +6,7 @@ use Rattle.std.proofs.lemmas.List.{get_or-take, get_or_append_left}
 use Rattle.std.proofs.lemmas.Bool.{cases_lt, cases_eq, cases_order}
 use Rattle.sdf_graph.specs.Rates.{Rates, IsSound}
 use Rattle.sdf_graph.specs.Sequences.{times, IsPass}
-use Rattle.sdf_prec.specs.GraphLaws.{GraphLaws}
+use Rattle.sdf_graph.proofs.Theorems.{fronts_count_within, last_counts_more, others_count_same}
 use Rattle.sdf_prec.specs.declared.firing.Firing.{Firing}
 use Rattle.sdf_prec.specs.Precedence.{WaitsFor}
 use Rattle.sdf_prec.specs.Tables.{firing, firings, no_firing, row, order, Stands, IsOfBlock, IsValid}
@@ -22,7 +22,7 @@ firings_set zero j f l = absurd (omega arith)
 firings_set (suc m) zero f l = ap (λ fs. f ∷ fs) (firings_empty m)
 firings_set (suc m) (suc j) f l = firings_set m j f (omega arith)
 
-module _ (laws : GraphLaws) (r : Rates) (n : ℕ → ℕ) (w : List ℕ) (s : IsSound r) (pass : IsPass r n w)
+module _ (r : Rates) (n : ℕ → ℕ) (w : List ℕ) (s : IsSound r) (pass : IsPass r n w)
     (homes : List (Option ℕ)) (m : ℕ)
     (homed : (a : ℕ) → a < r.actors → HasHome homes m a) (rows : List (List (Option Firing)))
     (by : AreByHomes homes m w rows) where
@@ -82,15 +82,15 @@ module _ (laws : GraphLaws) (r : Rates) (n : ℕ → ℕ) (w : List ℕ) (s : Is
   stands_before : (i : ℕ) → i ≤ length w → (g : Firing) → g.number < times (take i w) g.actor →
       Stands (order (take i rows)) g
   stands_before i h g l =
-      let at = place_of laws w g.actor g.number i h l in
+      let at = place_of w g.actor g.number i h l in
       let b = begins i h in
       let number : times (take at.0 w) (get_or w at.0 0) ≡ g.number = ap (times (take at.0 w)) at.2 ∙ at.3 in
       (at.0, omega (arith, b.long, at.1), b.are at.0 at.1 ∙ (λ k. record { actor = at.2 k; number = number k }))
 
   rises : (p q a : ℕ) → p < q → q ≤ length w → get_or w p 0 ≡ a → times (take p w) a < times (take q w) a
   rises p q a l h e =
-      let more = laws.last w p a (omega arith) e in
-      let within : times (take (p + 1) (take q w)) a ≤ times (take q w) a = laws.front (take q w) (p + 1) a in
+      let more = last_counts_more w p a (omega arith) e in
+      let within : times (take (p + 1) (take q w)) a ≤ times (take q w) a = fronts_count_within (take q w) (p + 1) a in
       let same : times (take (p + 1) (take q w)) a ≡ times (take (p + 1) w) a =
       ap (λ v. times v a) (take-take (p + 1) q w (omega arith)) in
       omega arith
@@ -102,8 +102,8 @@ module _ (laws : GraphLaws) (r : Rates) (n : ℕ → ℕ) (w : List ℕ) (s : Is
       known p h =
           let l : p < length w = omega (arith, long) in
           let a : ℕ = get_or w p 0 in
-          let more = laws.last w p a l (λ _. get_or w p 0) in
-          let within = laws.front w (p + 1) a in
+          let more = last_counts_more w p a l (λ _. get_or w p 0) in
+          let within = fronts_count_within w (p + 1) a in
           let total = pass.1 a (pass.0 p l).0 in
           subst (IsOfBlock r n) (sym (are p l)) ((pass.0 p l).0, omega arith)
 
@@ -186,13 +186,13 @@ last_row [] new = refl
 last_row (x ∷ rows) new = last_row rows new
 
 -- no actor fires more often than there are firings
-pub times_small : GraphLaws → (w : List ℕ) (i a : ℕ) → i ≤ length w → times (take i w) a ≤ i
-times_small laws w zero a h = omega arith
-times_small laws w (suc i) a h = rw add-one at (go (times_small laws w i a (omega arith)) (cases_eq (get_or w i 0) a))
+pub times_small : (w : List ℕ) (i a : ℕ) → i ≤ length w → times (take i w) a ≤ i
+times_small w zero a h = omega arith
+times_small w (suc i) a h = rw add-one at (go (times_small w i a (omega arith)) (cases_eq (get_or w i 0) a))
   where
     go : times (take i w) a ≤ i → (get_or w i 0 ≡ a) ⊎ (get_or w i 0 ≡ a → ⊥) → times (take (i + 1) w) a ≤ i + 1
-    go low (inl e) = omega (arith, laws.last w i a h e)
-    go low (inr ne) = omega (arith, laws.others w i a h ne)
+    go low (inl e) = omega (arith, last_counts_more w i a h e)
+    go low (inr ne) = omega (arith, others_count_same w i a h ne)
 
 -- one row more
 pub by_homes_more : (homes : List (Option ℕ)) (m : ℕ) (w : List ℕ) (i home : ℕ) (rows : List (List (Option Firing)))

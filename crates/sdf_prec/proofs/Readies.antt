@@ -4,7 +4,7 @@ use Rattle.std.proofs.Common.{Option, Some, None, true}
 use Rattle.std.proofs.lemmas.Bool.{eq-eqb, eqb-true}
 use Rattle.std.proofs.lemmas.List.{get_or-set_other}
 use Rattle.sdf_graph.specs.Rates.{Rates, IsSound}
-use Rattle.sdf_sched.specs.Laws.{EnabledStays}
+use Rattle.sdf_sched.proofs.Theorems.{enabled_stays}
 use Rattle.sdf_prec.specs.declared.firing.Firing.{Firing}
 use Rattle.sdf_prec.specs.Floor.{IsNextReady, AreStarted, AreEnded}
 use Rattle.sdf_prec.specs.Queued.{IsApart, HasRested, is_next}
@@ -55,16 +55,16 @@ module _ (r : Rates) (n cost : ℕ → ℕ) (now : ℕ) (cells : List (Option Fi
 module _ (r : Rates) (n : ℕ → ℕ) (now i : ℕ) (started whose until : ℕ → ℕ) (old new : List ℕ)
     (ended : AreEnded now i whose until old new) (rises : (a : ℕ) → get_or old a 0 ≤ get_or new a 0)
     (busy : (j : ℕ) → until j ≡ now → get_or old (whose j) 0 + 1 ≡ started (whose j)) where
-  pub ready_on : EnabledStays → IsSound r → (f : Firing) → IsNextReady r n (λ a. get_or old a 0) started f →
+  pub ready_on : IsSound r → (f : Firing) → IsNextReady r n (λ a. get_or old a 0) started f →
       IsNextReady r n (λ a. get_or new a 0) started f
-  ready_on stays sound f h =
+  ready_on sound f h =
       let same : get_or new f.actor 0 ≡ get_or old f.actor 0 = ended.same f.actor (λ j l is its. idle j is its) in
       record {
         known = h.known;
         within = h.within;
         next = h.next;
         through = same ∙ h.through;
-        on = stays r sound (λ a. get_or old a 0) (λ a. get_or new a 0) f.actor (sym same) (λ b l. rises b) h.on;
+        on = enabled_stays r sound (λ a. get_or old a 0) (λ a. get_or new a 0) f.actor (sym same) (λ b l. rises b) h.on;
       }
     where
       -- an actor that is at work has no ready firing

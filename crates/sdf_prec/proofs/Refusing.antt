@@ -6,7 +6,6 @@ use Rattle.std.proofs.lemmas.List.Sums.{sum_by_more_le}
 use Rattle.std.proofs.lemmas.Bool.{cases_lt}
 use Rattle.sdf_graph.specs.Rates.{Rates, IsSound, Shape, IsShape, rates}
 use Rattle.sdf_prec.specs.Blocks.{block}
-use Rattle.sdf_prec.specs.Laws.{TestsSuffice, NeedsExist}
 use Rattle.sdf_prec.specs.declared.firing.Firing.{Firing}
 use Rattle.sdf_prec.specs.declared.fault.PrecFault.{PrecFault}
 use Rattle.sdf_prec.specs.declared.fault.PrecFault.TheVariants.{FiringMissing, TooEarly}
@@ -16,6 +15,7 @@ use Rattle.sdf_prec.specs.Seen.{AreFresh, AreMarked, IsMarkedBy, IsCellsFault, I
 use Rattle.sdf_prec.specs.Refusals.{before, AreNarrow, IsFresh, IsBefore, IsLate, IsEarlier, CellsPass, AllPass}
 use Rattle.sdf_prec.specs.Refusals.{IsAtCell, StandsFirst}
 use Rattle.sdf_prec.proofs.RowMarks.{in_order, marked_earlier, late_earlier, first_late_earlier}
+use Rattle.sdf_prec.proofs.Theorems.{needs_exist, tests_suffice}
 
 -- no actor of a block fires more often than all together
 pub one_of_all : (n : List ℕ) (most : ℕ) → sum n ≤ most → (a : ℕ) → get_or n a 0 ≤ most
@@ -135,16 +135,17 @@ module _ (r : Rates) (n : List ℕ) (each : length n ≡ r.actors) (width : ℕ)
       )
 
 -- rows of which no test fails are valid
-pub valid_if_none : TestsSuffice → NeedsExist → (g : Shape) → IsShape g → IsSound (rates g) →
+pub valid_if_none : (g : Shape) → IsShape g → IsSound (rates g) →
     (reps : List ℕ) (j width : ℕ) (o : Option PrecFault) (given rows : List (List (Option Firing))) (n : List ℕ) →
     o ≡ None → given ≡ rows → n ≡ block j reps → MatchOption o (AllPass (rates g) (λ a. get_or n a 0) width given)
     (StandsFirst (rates g) (λ a. get_or n a 0) width given) →
     AreNarrow width rows (length rows) × IsValid (rates g) (λ a. get_or (block j reps) a 0) rows
-valid_if_none suffice exist g ok sound reps j width o given rows n none same is tested =
+valid_if_none g ok sound reps j width o given rows n none same is tested =
     let all : AllPass (rates g) (λ a. get_or n a 0) width given =
     subst (λ o. MatchOption o (AllPass (rates g) (λ a. get_or n a 0) width given)
     (StandsFirst (rates g) (λ a. get_or n a 0) width given)) none tested in
     let pass : AllPass (rates g) (λ a. get_or (block j reps) a 0) width rows =
     subst (λ n. AllPass (rates g) (λ a. get_or n a 0) width rows) is
     (subst (AllPass (rates g) (λ a. get_or n a 0) width) same all) in
-    (pass.cells.narrow, suffice (rates g) (λ a. get_or (block j reps) a 0) width rows sound (exist g ok) pass)
+    let m : ℕ → ℕ = λ a. get_or (block j reps) a 0 in
+    (pass.cells.narrow, tests_suffice (rates g) m width rows sound (needs_exist g ok) pass)

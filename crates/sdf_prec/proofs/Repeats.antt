@@ -3,9 +3,10 @@ use Rattle.std.proofs.Common.{◌≡◌, ℕ, zero, suc, ◌+◌, ◌*◌, ◌<�
 use Rattle.std.proofs.Math.ListN.{get_or-map}
 use Rattle.sdf_graph.specs.Rates.{Rates, IsSound}
 use Rattle.sdf_graph.specs.Sequences.{IsPass, IsPeriod}
-use Rattle.sdf_graph.specs.Laws.{PeriodsRepeat, CapacitiesRepeat}
+use Rattle.sdf_graph.proofs.Theorems.{capacities_repeat, periods_repeat}
 use Rattle.sdf_prec.specs.Blocks.{block}
-use Rattle.sdf_prec.specs.Laws.{OrdersAreAdmissible, OrdersFit, TablesRepeat}
+use Rattle.sdf_prec.specs.Laws.{TablesRepeat}
+use Rattle.sdf_prec.proofs.Orders.{orders_are_admissible, orders_fit}
 
 -- what grows by the same in each period grows by so many times that in so many periods
 grows_by : (f : ℕ → ℕ) (p : ℕ) → ((i : ℕ) → f (i + p) ≡ f i + f p) → (i j : ℕ) → f (i + j * p) ≡ f i + j * f p
@@ -56,15 +57,16 @@ module _ (r : Rates) (sound : IsSound r) (q : List ℕ) (period : IsPeriod r (λ
     consumed_anew = λ c i l. taken_in j c i l ∙ ap (λ n. r.consumed c i + n) (sym (taken_all j c l));
   }
 
-pub tables_repeat : OrdersAreAdmissible → OrdersFit → PeriodsRepeat → CapacitiesRepeat → TablesRepeat
-tables_repeat admissible fit words capacities r q j width t b sound period table =
+pub tables_repeat : TablesRepeat
+tables_repeat r q j width t b sound period table =
     let n : ℕ → ℕ = λ a. get_or (block j q) a 0 in
     let whole : IsPeriod r n = block_is_period r sound q period j in
-    let pass : IsPass r n t.order = subst (IsPass r n) (sym table.exact.order_is) (admissible r n t.rows table.valid) in
-    let all = words r n t.order b sound whole pass in
+    let pass : IsPass r n t.order =
+    subst (IsPass r n) (sym table.exact.order_is) (orders_are_admissible r n t.rows table.valid) in
+    let all = periods_repeat r n t.order b sound whole pass in
     record {
       admissible = all.0;
-      within = capacities r n (λ c. get_or t.caps c 0) t.order b sound whole pass
-          (fit r (λ c. get_or t.caps c 0) t.order table.exact.caps_each);
+      within = capacities_repeat r n (λ c. get_or t.caps c 0) t.order b sound whole pass
+          (orders_fit r (λ c. get_or t.caps c 0) t.order table.exact.caps_each);
       counts = all.1;
     }

@@ -10,13 +10,12 @@ use Rattle.sdf_graph.specs.Sequences.{times, IsEnabled}
 use Rattle.sdf_prec.specs.declared.firing.Firing.{Firing}
 use Rattle.sdf_prec.specs.Tables.{firing, firings, no_firing, row, order, sequence, Stands, IsOfBlock, IsValid}
 use Rattle.sdf_prec.specs.PlainRows.{IsReadyFor}
-use Rattle.sdf_prec.specs.GraphLaws.{GraphLaws}
 use Rattle.sdf_prec.specs.Laws.{RowsMayFire}
 use Rattle.sdf_prec.proofs.Next.{place_of}
 use Rattle.sdf_prec.proofs.Orders.{split, is_number}
 use Rattle.sdf_prec.proofs.Ready.{ready_is_next}
 
-module _ (laws : GraphLaws) (r : Rates) (n : ℕ → ℕ) (rows : List (List (Option Firing))) (i : ℕ) (s : IsSound r)
+module _ (r : Rates) (n : ℕ → ℕ) (rows : List (List (Option Firing))) (i : ℕ) (s : IsSound r)
     (v : IsValid r n rows) (l : i < length rows) where
   abbrev before : List Firing
   before = order (take i rows)
@@ -56,7 +55,7 @@ module _ (laws : GraphLaws) (r : Rates) (n : ℕ → ℕ) (rows : List (List (Op
       there : Stands before f → f.number < k f.actor
       there st =
           let here : firing (order rows) st.0 ≡ f = early st.0 st.1 ∙ st.2 in
-          let low = (split laws r n rows v (length before) (omega (arith, long))).before st.0 st.1 in
+          let low = (split r n rows v (length before) (omega (arith, long))).before st.0 st.1 in
           let low_f : f.number < times (take (length before) (sequence rows)) f.actor =
           subst (λ (x : Firing). x.number < times (take (length before) (sequence rows)) x.actor) here low in
           omega (arith, counts f.actor)
@@ -64,13 +63,13 @@ module _ (laws : GraphLaws) (r : Rates) (n : ℕ → ℕ) (rows : List (List (Op
       back : f.number < k f.actor → Stands before f
       back h =
           let all : length (sequence rows) ≡ length (order rows) = length-map (order rows) (λ (f : Firing). f.actor) in
-          let x = place_of laws (sequence rows) f.actor f.number (length before) (omega (arith, all, long))
+          let x = place_of (sequence rows) f.actor f.number (length before) (omega (arith, all, long))
           (omega (arith, counts f.actor)) in
           let m : x.0 < length (order rows) = omega (arith, x.1, long) in
           let is_a : (firing (order rows) x.0).actor ≡ f.actor =
           sym (get_or-map (λ (f : Firing). f.actor) (order rows) x.0 no_firing 0 m) ∙ x.2 in
           let its : (firing (order rows) x.0).number ≡ f.number =
-          is_number laws r n rows v x.0 m ∙ (ap (times (take x.0 (sequence rows))) is_a ∙ x.3) in
+          is_number r n rows v x.0 m ∙ (ap (times (take x.0 (sequence rows))) is_a ∙ x.3) in
           let same : firing (order rows) x.0 ≡ f = λ j. record { actor = is_a j; number = its j } in
           (x.0, x.1, sym (early x.0 x.1) ∙ same)
 
@@ -119,5 +118,5 @@ module _ (laws : GraphLaws) (r : Rates) (n : ℕ → ℕ) (rows : List (List (Op
       (firing (firings (row rows i)) p).actor ≡ (firing (firings (row rows i)) m).actor → p ≡ m
   firings_apart = apart
 
-pub rows_may_fire : GraphLaws → RowsMayFire
-rows_may_fire laws r n rows i s v l = (firings_may laws r n rows i s v l, firings_apart laws r n rows i s v l)
+pub rows_may_fire : RowsMayFire
+rows_may_fire r n rows i s v l = (firings_may r n rows i s v l, firings_apart r n rows i s v l)

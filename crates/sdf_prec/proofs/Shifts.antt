@@ -7,8 +7,7 @@ use Rattle.std.proofs.lemmas.Bool.{cases_lt}
 use Rattle.std.proofs.lemmas.List.Sums.{sum_by-cons}
 use Rattle.sdf_limits.specs.declared.TheConstants.{MOST_BLOCK, MOST_COST}
 use Rattle.sdf_graph.specs.Rates.{Rates, IsSound}
-use Rattle.sdf_graph.specs.Laws.{ListsSumWithin}
-use Rattle.sdf_sched.specs.Laws.{EnabledStays}
+use Rattle.sdf_graph.proofs.Theorems.{lists_sum_within}
 use Rattle.sdf_prec.specs.declared.firing.Firing.{Firing}
 use Rattle.sdf_prec.specs.TimedRows.{Timed}
 use Rattle.sdf_prec.specs.Floor.{AreEnded, AreStarted, IsDue, IsDone, IsNextEnd, IsFloor}
@@ -27,8 +26,8 @@ module _ (r : Rates) (n : List ℕ) (cost : ℕ → ℕ) (width : ℕ) (past : L
     started whose until)
     (fired_all : length fired ≡ r.actors) (n_all : length n ≡ r.actors) where
   -- no more have ended than there are
-  pub few_ended : ListsSumWithin → sum fired ≤ sum n
-  few_ended lists = lists fired n (fired_all ∙ sym n_all) (λ a. at a (cases_lt a r.actors))
+  pub few_ended : sum fired ≤ sum n
+  few_ended = lists_sum_within fired n (fired_all ∙ sym n_all) (λ a. at a (cases_lt a r.actors))
     where
       at : (a : ℕ) → (a < r.actors) ⊎ (r.actors ≤ a) → get_or fired a 0 ≤ get_or n a 0
       at a (inl l) = omega (
@@ -40,8 +39,8 @@ module _ (r : Rates) (n : List ℕ) (cost : ℕ → ℕ) (width : ℕ) (past : L
       at a (inr h) = omega (arith, get_or_past fired a 0 (omega arith))
 
   -- so an actor can end one more
-  pub room_left : sum n ≤ MOST_BLOCK → ListsSumWithin → (a : ℕ) → get_or fired a 0 + 1 < 2 ^ 32
-  room_left few lists a = omega (arith, few_ended lists, within_sum fired a, few)
+  pub room_left : sum n ≤ MOST_BLOCK → (a : ℕ) → get_or fired a 0 + 1 < 2 ^ 32
+  room_left few a = omega (arith, few_ended, within_sum fired a, few)
 
 -- the ends of a row that starts now
 pub soon_then : (cost : ℕ → ℕ) (now : ℕ) (cells : List (Option Firing))
@@ -64,7 +63,7 @@ module _ (r : Rates) (n cost : ℕ → ℕ) (level : Firing → ℕ) (width : �
     (wide : length ends ≡ width) (at : IsNextEnd ends now (length ends) (Some next))
     (e : AreEnded next (length ends) whose (λ j. get_or ends j 0) old new)
     (rises : (a : ℕ) → get_or old a 0 ≤ get_or new a 0) where
-  pub shift_due : EnabledStays → IsDue r n cost level width homed past next (λ a. get_or new a 0) started whose
+  pub shift_due : IsDue r n cost level width homed past next (λ a. get_or new a 0) started whose
       (λ j. get_or ends j 0) homes
   shift_due = due_next r n cost level width s homed past now (λ a. get_or old a 0) started whose (λ j. get_or ends j 0)
       homes d next (λ a. get_or new a 0) at.0 (let x = at.1 in (x.0, omega (arith, x.1, wide), x.2))
@@ -72,14 +71,14 @@ module _ (r : Rates) (n cost : ℕ → ℕ) (level : Firing → ℕ) (width : �
       (λ a none. e.same a (λ j l. none j (omega (arith, wide)))) rises
 
   -- the actor of some column has ended one more
-  pub shift_sum : ListsSumWithin → length new ≡ length old → sum old < sum new
-  shift_sum lists all = sum_less lists old new (whose at.1.0) (sym all) rises
+  pub shift_sum : length new ≡ length old → sum old < sum new
+  shift_sum all = sum_less old new (whose at.1.0) (sym all) rises
       (omega (arith, e.through at.1.0 at.1.1 at.1.2))
 
-  pub shift_early : ListsSumWithin → length new ≡ length old → now ≤ MOST_COST * sum old →
+  pub shift_early : length new ≡ length old → now ≤ MOST_COST * sum old →
       ((j : ℕ) → get_or ends j 0 ≤ now + MOST_COST) →
       (next ≤ MOST_COST * sum new) × ((j : ℕ) → get_or ends j 0 ≤ next + MOST_COST)
-  shift_early lists all early soon =
-      let more = shift_sum lists all in
+  shift_early all early soon =
+      let more = shift_sum all in
       let x = at.1 in
       (omega (arith, soon x.0, x.2), λ j. omega (arith, soon j, at.0))

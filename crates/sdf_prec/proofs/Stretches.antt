@@ -5,7 +5,7 @@ use Rattle.std.proofs.lemmas.Nat.{div_below}
 use Rattle.std.proofs.lemmas.Bool.{cases_lt}
 use Rattle.std.proofs.lemmas.List.{get_or_push, get_or_append_left, length_push}
 use Rattle.sdf_graph.specs.Rates.{Rates, IsSound, sum_to}
-use Rattle.sdf_graph.specs.Laws.{SumsRise}
+use Rattle.sdf_graph.proofs.Theorems.{sums_rise}
 use Rattle.sdf_prec.specs.ByHomes.{HasHome}
 use Rattle.sdf_prec.specs.Spread.{AreLoads, MayPart, IsFirst, IsPast, share, AreSpread}
 
@@ -22,12 +22,12 @@ parts_last r s = record {
   fed = λ h. omega (arith, s.target_in h.some.0 h.some.1, h.some.2);
 }
 
-middle_below : SumsRise → (f : ℕ → ℕ) (first past all : ℕ) → first < past → past ≤ all → 0 < f first →
+middle_below : (f : ℕ → ℕ) (first past all : ℕ) → first < past → past ≤ all → 0 < f first →
     sum_to f first + sum_to f past < 2 * sum_to f all
-middle_below rise f first past all order known some =
+middle_below f first past all order known some =
     let step : sum_to f (first + 1) ≡ sum_to f first + f first = rw add-one refl in
-    let one = rise f (first + 1) all (omega arith) in
-    let two = rise f past all known in
+    let one = sums_rise f (first + 1) all (omega arith) in
+    let two = sums_rise f past all known in
     omega arith
 
 share_below : (m middle all : ℕ) → 0 < m → middle < 2 * all → m * middle / (2 * all) < m
@@ -36,22 +36,22 @@ share_below m middle all some below =
     div_below (m * middle) (2 * all) m (omega arith) (omega arith)
 
 -- the worker of a stretch is one of m
-pub share_within : SumsRise → (weights : List ℕ) → AreLoads (length weights) weights → (m first past : ℕ) → 0 < m →
+pub share_within : (weights : List ℕ) → AreLoads (length weights) weights → (m first past : ℕ) → 0 < m →
     first < past → past ≤ length weights → share weights m first past < m
-share_within rise weights loads m first past some order known =
+share_within weights loads m first past some order known =
     let f : ℕ → ℕ = λ a. get_or weights a 0 in
     share_below m (sum_to f first + sum_to f past) (sum_to f (length weights)) some
-    (middle_below rise f first past (length weights) order known (loads.some first (omega arith)))
+    (middle_below f first past (length weights) order known (loads.some first (omega arith)))
 
 -- so each actor has a home
-pub spread_homed : SumsRise → (r : Rates) (weights : List ℕ) (m : ℕ) (homes : List (Option ℕ)) →
+pub spread_homed : (r : Rates) (weights : List ℕ) (m : ℕ) (homes : List (Option ℕ)) →
     AreLoads r.actors weights → 0 < m → AreSpread r weights m homes → (a : ℕ) → a < r.actors → HasHome homes m a
-spread_homed rise r weights m homes loads some spread a l =
+spread_homed r weights m homes loads some spread a l =
     let e = spread.each a l in
     let all = loads.all in (
       share weights m e.0 e.1,
       e.4,
-      share_within rise weights (subst (λ n. AreLoads n weights) (sym all) loads) m e.0 e.1 some
+      share_within weights (subst (λ n. AreLoads n weights) (sym all) loads) m e.0 e.1 some
           (omega (arith, e.2.within, e.3.behind)) (omega (arith, e.3.within, all)),
     )
 

@@ -7,9 +7,9 @@ use Rattle.std.proofs.lemmas.List.Sums.{sum_by-cons}
 use Rattle.sdf_graph.specs.Sequences.{times}
 use Rattle.sdf_prec.specs.Blocks.{block}
 use Rattle.sdf_prec.specs.Counts.{TablesCount}
-use Rattle.sdf_prec.specs.Laws.{OrdersAreAdmissible}
 use Rattle.sdf_prec.specs.Tables.{sequence}
 use Rattle.sdf_prec.proofs.Periods.{block_sum, block_length, repeated_length}
+use Rattle.sdf_prec.proofs.Orders.{orders_are_admissible}
 
 -- the sum of the first values
 abbrev total : (ℕ → ℕ) → ℕ → ℕ
@@ -58,9 +58,9 @@ counted (x ∷ w) m known =
     total_same (times (x ∷ w)) (λ a. one_at x a + times w a) m (λ a h. sum_by-cons (λ b. cond (eqb b a) 1 0) x w) in
     omega (arith, ih, split, total_both (one_at x) (times w) m, total_one x m (known 0 (omega arith)))
 
-pub tables_count : OrdersAreAdmissible → TablesCount
-tables_count passes r q j width t b all is =
-    let pass = passes r (λ a. get_or (block j q) a 0) t.rows is.valid in
+pub tables_count : TablesCount
+tables_count r q j width t b all is =
+    let pass = orders_are_admissible r (λ a. get_or (block j q) a 0) t.rows is.valid in
     let w = sequence t.rows in
     let long : total (times w) r.actors ≡ length w = counted w r.actors (λ i h. (pass.0 i h).0) in
     let same : total (times w) r.actors ≡ total (λ a. get_or (block j q) a 0) r.actors =

@@ -6,7 +6,7 @@ use Rattle.std.proofs.lemmas.List.{take_at, take-append-le, length_push}
 use Rattle.std.proofs.lemmas.Bool.{cases_lt, cases_eq, false≢true}
 use Rattle.sdf_graph.specs.Rates.{Rates, IsSound}
 use Rattle.sdf_graph.specs.Sequences.{IsEnabled}
-use Rattle.sdf_sched.specs.Laws.{EnabledStays}
+use Rattle.sdf_sched.proofs.Theorems.{enabled_stays}
 use Rattle.sdf_prec.specs.declared.firing.Firing.{Firing}
 use Rattle.sdf_prec.specs.Tables.{firings}
 use Rattle.sdf_prec.specs.TimedRows.{Timed, timed, StandsAt, IsSettled, IsLater, Rule, IsNextRow, AreTimed}
@@ -168,18 +168,18 @@ module _ (r : Rates) (n cost : ℕ → ℕ) (level : Firing → ℕ) (width : �
         go (inr all) = inr (λ j l. let m = busy_until j (all j l) in omega arith)
 
     -- an actor that is still at work was so before
-    on_then : EnabledStays → (a : ℕ) → a < r.actors → ended' a < started a → IsEnabled r ended' a
-    on_then stays a l h = go (through_then r n cost width past now ended started whose until d.floor next ended' further
+    on_then : (a : ℕ) → a < r.actors → ended' a < started a → IsEnabled r ended' a
+    on_then a l h = go (through_then r n cost width past now ended started whose until d.floor next ended' further
         least through same rises a l)
       where
         go : (ended' a ≡ started a) ⊎ ((ended' a ≡ ended a) × (ended a + 1 ≡ started a)) → IsEnabled r ended' a
         go (inl e) = absurd (omega arith)
-        go (inr x) = stays r s ended ended' a (sym x.0) (λ b _. rises b) (d.floor.on a l (omega (arith, x.1)))
+        go (inr x) = enabled_stays r s ended ended' a (sym x.0) (λ b _. rises b) (d.floor.on a l (omega (arith, x.1)))
 
-    pub due_next : EnabledStays → IsDue r n cost level width homed past next ended' started whose until homes
-    due_next stays = record {
+    pub due_next : IsDue r n cost level width homed past next ended' started whose until homes
+    due_next = record {
       floor = floor_later r n cost width past now ended started whose until d.floor next ended' further least through
-          same rises (on_then stays);
+          same rises on_then;
       rows = d.rows;
       later = λ i l. let h = d.starts i l in omega arith;
       gap = λ t later high cells wide row. gap t later high (cases_lt now t) cells wide row;

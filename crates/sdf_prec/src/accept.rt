@@ -14,13 +14,11 @@ use crate::cells::mark_rows;
 use crate::fault::PrecFault;
 use crate::firing::Firing;
 use crate::late::first_late_in;
-use crate::laws::{needs_exist, tests_suffice};
 use crate::missing::first_missing;
 use crate::numbers::Numbers;
 use crate::table::Table;
 use crate::tidy::tidied;
 use sdf_graph::Graph;
-use sdf_graph::laws::{graphs_are_sound, graphs_have_periods};
 use sdf_limits::MOST_BLOCK;
 use std::alloc::{AllocError, Global};
 
@@ -76,10 +74,6 @@ impl Table {
             (IsTableFault (rates graph.now) j m reps.now given) }
     {
         graph.channels();
-        graphs_are_sound();
-        graphs_have_periods();
-        needs_exist();
-        tests_suffice();
         if let Some(fault) = size_fault(j, m, reps) {
             return Err(fault);
         }

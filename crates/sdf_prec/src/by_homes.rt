@@ -11,7 +11,6 @@ ghost use Rattle.sdf_prec.specs.Accepting.{IsSize};
 ghost use Rattle.sdf_prec.specs.ByHomes.{HasHome, IsBadHome, AreByHomes, AreRunsByHomes, IsHomesFault};
 
 use crate::block::{block_firings, block_order, size_fault};
-use crate::facts::graph_laws;
 use crate::fault::PrecFault;
 use crate::firing::Firing;
 use crate::rows::Rows;
@@ -19,7 +18,6 @@ use crate::table::Table;
 use sdf_graph::Graph;
 use sdf_limits::MOST_BLOCK;
 use sdf_sched::class_s::class_s_of;
-use sdf_sched::laws::runs_stay;
 use sdf_sched::{Period, Runs};
 use std::alloc::{AllocError, Global};
 
@@ -69,7 +67,6 @@ fn rows_of(
     requires homed { (a : ℕ) → a < actors → HasHome homes.now m a }
     ensures { IfOk result (λ rows. AreByHomes homes.now m order.now rows.rows) }
 {
-    graph_laws();
     let mut done = vec![in alloc; 0u32; actors]?;
     let mut rows = Rows::new(alloc, m);
     let mut row = vec![in alloc; None; m]?;
@@ -117,7 +114,6 @@ fn by_order(
     ensures rows { IfOk result (λ t. AreByHomes homes.now m order.now t.rows) }
 {
     graph.channels();
-    graph_laws();
     let rows = rows_of(alloc, order, graph.actors(), m, homes)?;
     let table = Table::of_rows(alloc, graph, rows)?;
     Ok(table)
@@ -142,8 +138,6 @@ pub(crate) fn in_runs(
         homes.now m t.rows) }
 {
     graph.channels();
-    graph_laws();
-    runs_stay();
     let firings = block_firings(alloc, j, period.repetitions())?;
     let order = class_s_of(alloc, graph, &firings, &mut Runs::new())?;
     let table = by_order(alloc, graph, &order, m, homes)?;
@@ -171,7 +165,6 @@ impl Table {
             (IsHomesFault j m period.now.repetitions homes.now) }
     {
         graph.channels();
-        graph_laws();
         if let Some(fault) = homes_fault(j, m, period.repetitions(), homes) {
             return Err(fault);
         }
@@ -200,7 +193,6 @@ impl Table {
             (IsHomesFault j m period.now.repetitions homes.now) }
     {
         graph.channels();
-        graph_laws();
         if let Some(fault) = homes_fault(j, m, period.repetitions(), homes) {
             return Err(fault);
         }

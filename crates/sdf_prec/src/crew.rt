@@ -15,15 +15,12 @@ use crate::filling::fill;
 use crate::firing::Firing;
 use crate::floor::{end_by, next_end, start};
 use crate::homing::place;
-use crate::laws::the_next_may_fire;
 use crate::level::Levels;
 use crate::marked::Marks;
 use crate::queue::{leave, renew};
 use crate::rows::Rows;
 use crate::tidy::has_firing;
-use sdf_graph::laws::{counts_grow, graphs_are_sound, sums_rise};
 use sdf_graph::{Counts, Graph};
-use sdf_sched::laws::enabled_stays;
 use std::alloc::{AllocError, Global};
 use std::marker::Model;
 
@@ -86,7 +83,6 @@ impl<'a> Crew<'a> {
         ensures { IfOk result (λ crew. crew ≡ idle graph.now width) }
     {
         graph.channels();
-        graphs_are_sound();
         let actors = graph.actors();
         Ok(Crew {
             time: 0,
@@ -159,7 +155,6 @@ impl<'a> Crew<'a> {
             (slice_index self.new.started) (slice_index self.new.whose) (slice_index self.new.until) }
         ensures queue { IsQueued job.now self.new }
     {
-        sums_rise();
         start(
             cells,
             self.time,
@@ -227,8 +222,6 @@ impl<'a> Crew<'a> {
         ensures done { IfOk result (λ _. IsDoneAfter job.now self.new rows.new.rows) }
         ensures queue { IfOk result (λ _. IsQueued job.now self.new) }
     {
-        sums_rise();
-        enabled_stays();
         end_by(
             next,
             graph,
@@ -256,9 +249,6 @@ pub(crate) fn timed_rows(
         (slice_index job.now.costs.now) (number job.now.levels.now) width job.now.homed rows.rows) }
     ensures valid { IfOk result (λ rows. IsValid (rates graph.now) (slice_index job.now.firings.now) rows.rows) }
 {
-    counts_grow();
-    sums_rise();
-    the_next_may_fire();
     let mut crew = Crew::new(alloc, graph, width)?;
     let mut rows = Rows::new(alloc, width);
     let mut cells = Vec::new(alloc);

@@ -12,7 +12,6 @@ use crate::costs::Costs;
 use crate::firing::Firing;
 use crate::marked::Marks;
 use sdf_graph::{Counts, Graph};
-use sdf_sched::laws::enabled_stays;
 use std::alloc::AllocError;
 
 /// Starts the firings of a row at time `now`.
@@ -105,7 +104,6 @@ pub(crate) fn end_by(
     ensures rested { IfOk result (λ _. (a : ℕ) → IsUnmarked marks.new a →
         HasRested (rates counts.old.graph) counts.old.fired counts.new.fired a) }
 {
-    enabled_stays();
     for column in 0..until.len() {
         if until[column] == now {
             mark(graph, whose[column], marks)?;

@@ -8,7 +8,6 @@ ghost use Rattle.sdf_prec.specs.Trying.{IsPlace};
 ghost use Rattle.sdf_prec.specs.Placing.{AreWeights, load_by, IsOpen, IsBest, IsNowhere, IsPlacing, AreWaiting};
 
 use crate::firing::Firing;
-use sdf_graph::laws::sums_rise;
 use std::alloc::AllocError;
 
 /// The weights of the actors at home in a column.
@@ -16,7 +15,6 @@ pub(crate) fn load_of(weights: &[u64], homes: &[Option<usize>], column: usize) -
     requires weights { AreWeights weights.now homes.now }
     ensures { result ≡ load_by weights.now homes.now column }
 {
-    sums_rise();
     let mut load = 0;
     for actor in 0..homes.len() {
         if homes[actor] == Some(column) {

@@ -14,7 +14,6 @@ ghost use Rattle.sdf_prec.specs.HuTables.{IsHuTable};
 use crate::block::{block_firings, size_fault};
 use crate::costs::Costs;
 use crate::crew::{Job, timed_rows};
-use crate::facts::graph_laws;
 use crate::fault::PrecFault;
 use crate::levels::levels;
 use crate::table::Table;
@@ -73,7 +72,6 @@ pub fn hu(
         (IsSizeFault j team.workers period.now.repetitions) }
 {
     graph.channels();
-    graph_laws();
     if let Some(fault) = size_fault(j, team.workers, period.repetitions()) {
         return Err(fault);
     }

@@ -16,7 +16,6 @@ use crate::spread::spread;
 use crate::sums::moved_by;
 use crate::table::Table;
 use sdf_graph::Graph;
-use sdf_graph::laws::cycles_begin_anew;
 use sdf_limits::{MOST_BLOCK, MOST_WORKERS};
 use sdf_sched::Period;
 use std::alloc::Global;
@@ -32,7 +31,6 @@ fn moved(graph: &Graph, repetitions: &[u32], channel: usize) -> u64
     ensures is { result ≡ moved (rates graph.now) repetitions.now channel }
     ensures some { 0 < result }
 {
-    cycles_begin_anew();
     let channel = &graph.channels()[channel];
     moved_by(&channel.put, u64::from(repetitions[channel.from]))
 }

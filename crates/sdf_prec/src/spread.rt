@@ -10,7 +10,6 @@ ghost use Rattle.sdf_prec.specs.Spread.{AreSpread, IsHeaviest};
 
 use crate::homing::load_of;
 use sdf_graph::Graph;
-use sdf_graph::laws::{graphs_are_sound, sums_rise};
 use std::alloc::{AllocError, Global};
 
 /// Whether a channel leads from an actor at a place or behind it to one before the place.
@@ -66,7 +65,6 @@ fn past_of(graph: &Graph, actor: usize) -> usize
     ensures { IsPast (rates graph.now) actor result }
 {
     graph.channels();
-    graphs_are_sound();
     for k in actor + 1..graph.actors() {
         if may_part(graph, k) {
             return k;
@@ -82,7 +80,6 @@ pub fn weight_to(weights: &[u64], actors: usize) -> u64
     ensures is { result ≡ weight_to weights.now actors }
     ensures small { result ≤ MOST_BLOCK * MOST_COST * actors }
 {
-    sums_rise();
     let mut weight = 0;
     for actor in 0..actors {
         weight += weights[actor];
@@ -99,7 +96,6 @@ fn share(weights: &[u64], m: usize, first: usize, past: usize) -> usize
     ensures is { result ≡ share weights.now m first past }
     ensures within { result < m }
 {
-    sums_rise();
     let middle = weight_to(weights, first) + weight_to(weights, past);
     let all = weight_to(weights, weights.len());
     (m as u64 * middle / (2 * all)) as usize
@@ -120,7 +116,6 @@ pub fn spread(
     ensures spread { IfOk result (λ v. AreSpread (rates graph.now) weights.now m v.items) }
     ensures homed { IfOk result (λ v. (a : ℕ) → a < graph.now.actors → HasHome v.items m a) }
 {
-    sums_rise();
     let mut homes = Vec::new(alloc);
     for actor in 0..graph.actors() {
         let first = first_of(graph, actor);

@@ -8,16 +8,16 @@ use Rattle.sdf_actor.specs.Steps.{Steps}
 use Rattle.sdf_actor.specs.Histories.{taken_before}
 use Rattle.sdf_actor.specs.Nets.{Netlist, node, wiring}
 use Rattle.sdf_node.specs.Nodes.{IsAt}
-use Rattle.sdf_node.specs.Laws.{NodesKeepPhase}
 use Rattle.sdf_node.specs.declared.node.NodeState.{NodeState}
 use Rattle.sdf_prec.specs.declared.firing.Firing.{Firing}
 use Rattle.sdf_prec.specs.Tables.{firing, firings, no_firing, cell_of}
+use Rattle.sdf_node.proofs.Theorems.{nodes_keep_phase}
+use Rattle.sdf_answer.proofs.Theorems.{blocks_are_counted}
 use Rattle.sdf_rows.specs.declared.job.Job.{Job}
 use Rattle.sdf_answer.specs.Held.{Held}
 use Rattle.sdf_answer.specs.Sizes.{phase_of}
 use Rattle.sdf_rows.specs.Stage.{actors_of, row_actors, AreLoaded}
 use Rattle.sdf_rows.specs.Stands.{HaveBlocks, IsLoaded, IsFilling, IsBetween, IsRow, KeepBlocks}
-use Rattle.sdf_answer.specs.Laws.{BlocksAreCounted}
 
 abbrev bit : Option Firing → ℕ
 bit None = 0
@@ -50,8 +50,8 @@ cells_known s n k high row is j f l cell =
     subst (λ (x : Firing). x.actor < length n.nodes) at.2
     (subst (λ a. a < length n.nodes) (actor_at (firings row) at.0 at.1) known)
 
-module _ {A S T : Type 0} (s : Steps A S T) (n : Netlist A T) (inputs : List (List T)) (phases : NodesKeepPhase s)
-    (counts : BlocksAreCounted s) (many low high k : ℕ → ℕ) (states states' : List (NodeState T S)) (ls : List (Held T))
+module _ {A S T : Type 0} (s : Steps A S T) (n : Netlist A T) (inputs : List (List T)) (many low high k : ℕ → ℕ)
+    (states states' : List (NodeState T S)) (ls : List (Held T))
     (jobs jobs' : List (Job A T S))
     (row : List (Option Firing)) (st : IsBetween s n inputs many low high k states ls)
     (is : IsRow s n k high (row_actors row)) (blocks : HaveBlocks s n jobs) (few : length (firings row) ≤ length jobs)
@@ -87,9 +87,10 @@ module _ {A S T : Type 0} (s : Steps A S T) (n : Netlist A T) (inputs : List (Li
       (subst (λ a. IsLoaded s n inputs many k st.history a (get_or jobs' i j)) (sym (actor_at fs i h))
       (record {
         actor = fill.actor;
-        phase = fill.phase ∙ (phases inputs (node n a) (many a) (taken_before (wiring s n) st.history a (k a))
+        phase = fill.phase ∙ (nodes_keep_phase s inputs (node n a) (many a)
+            (taken_before (wiring s n) st.history a (k a))
             (get_or states a w) at ∙
-            ap (phase_of s (node n a)) (counts n st.history a (k a)));
+            ap (phase_of s (node n a)) (blocks_are_counted s n st.history a (k a)));
         state = subst (IsAt s inputs (many a) (node n a) (taken_before (wiring s n) st.history a (k a)))
             (sym fill.state) at;
         blocks = record {

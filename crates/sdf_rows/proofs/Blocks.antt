@@ -6,11 +6,11 @@ use Rattle.std.proofs.lemmas.List.Concat.{flat_map-append}
 use Rattle.std.proofs.lemmas.List.Sums.{sum_by-append}
 use Rattle.sdf_graph.specs.Rates.{Rates, IsSound, IsAlike}
 use Rattle.sdf_graph.specs.Sequences.{times, IsEnabled}
+use Rattle.sdf_prec.proofs.Theorems.{orders_are_admissible, rows_may_fire}
 use Rattle.sdf_actor.specs.Steps.{Steps}
 use Rattle.sdf_actor.specs.Nets.{Netlist, wiring}
 use Rattle.sdf_prec.specs.declared.firing.Firing.{Firing}
 use Rattle.sdf_prec.specs.Tables.{firing, firings, no_firing, row, order, sequence, IsValid}
-use Rattle.sdf_prec.specs.Laws.{RowsMayFire, OrdersAreAdmissible}
 use Rattle.sdf_rows.specs.Stage.{row_actors}
 use Rattle.sdf_rows.specs.Stands.{IsRow}
 use Rattle.sdf_rows.specs.Blocks.{IsRound}
@@ -32,13 +32,13 @@ row_counts rows i a l =
     ap (λ w. times w a) all ∙ times_both (sequence (take i rows)) (row_actors (row rows i)) a
 
 -- and all rows to the block
-pub block_counts : OrdersAreAdmissible → (r : Rates) (n : ℕ → ℕ) (rows : List (List (Option Firing))) (i a : ℕ) →
+pub block_counts : (r : Rates) (n : ℕ → ℕ) (rows : List (List (Option Firing))) (i a : ℕ) →
     IsValid r n rows → length rows ≤ i → a < r.actors → times (sequence (take i rows)) a ≡ n a
-block_counts passes r n rows i a valid h l = ap (λ xs. times (sequence xs) a) (take_all i rows h)
-    ∙ (passes r n rows valid).1 a l
+block_counts r n rows i a valid h l = ap (λ xs. times (sequence xs) a) (take_all i rows h)
+    ∙ (orders_are_admissible r n rows valid).1 a l
 
 module _ {A S T : Type 0} (s : Steps A S T) (n : Netlist A T) (r : Rates) (alike : IsAlike r (wiring s n).rates)
-    (sound : IsSound r) (may : RowsMayFire) (many : ℕ → ℕ) (rows : List (List (Option Firing)))
+    (sound : IsSound r) (many : ℕ → ℕ) (rows : List (List (Option Firing)))
     (valid : IsValid r many rows) (start : ℕ → ℕ) (round : IsRound s n start) (i : ℕ) (l : i < length rows) (k : ℕ → ℕ)
     (k_is : (a : ℕ) → k a ≡ start a + times (sequence (take i rows)) a) where
   abbrev fs : List Firing
@@ -78,16 +78,16 @@ module _ {A S T : Type 0} (s : Steps A S T) (n : Netlist A T) (r : Rates) (alike
   -- the next row may be fired
   pub row_is : IsRow s n k (λ a. start a + many a) (row_actors (row rows i))
   row_is = record {
-    known = λ p h. let is = (may r many rows i sound valid l).0 p (omega (arith, long)) in
+    known = λ p h. let is = (rows_may_fire r many rows i sound valid l).0 p (omega (arith, long)) in
         omega (arith, actor_at p (omega (arith, long)), is.0.0, alike.actors);
     apart = λ p m hp hm e.
-        (may r many rows i sound valid l).1 p m (omega (arith, long)) (omega (arith, long))
+        (rows_may_fire r many rows i sound valid l).1 p m (omega (arith, long)) (omega (arith, long))
         (sym (actor_at p (omega (arith, long))) ∙ (e ∙ actor_at m (omega (arith, long))));
     able = λ p h.
-        let is = (may r many rows i sound valid l).0 p (omega (arith, long)) in
+        let is = (rows_may_fire r many rows i sound valid l).0 p (omega (arith, long)) in
         subst (IsEnabled (wiring s n).rates k) (sym (actor_at p (omega (arith, long)))) (on (firing fs p).actor is.2);
     within = λ p h.
-        let is = (may r many rows i sound valid l).0 p (omega (arith, long)) in
+        let is = (rows_may_fire r many rows i sound valid l).0 p (omega (arith, long)) in
         subst (λ a. k a < start a + many a) (sym (actor_at p (omega (arith, long))))
         (omega (arith, k_is (firing fs p).actor, is.0.1, is.1));
   }

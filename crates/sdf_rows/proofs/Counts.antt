@@ -11,7 +11,7 @@ use Rattle.sdf_graph.specs.Sequences.{repeated}
 use Rattle.sdf_prec.specs.declared.firing.Firing.{Firing}
 use Rattle.sdf_prec.specs.Tables.{firings, row, order, sequence, Tabled}
 use Rattle.sdf_prec.specs.Blocks.{IsShort}
-use Rattle.sdf_prec.specs.Counts.{TablesCount}
+use Rattle.sdf_prec.proofs.Theorems.{tables_count}
 use Rattle.sdf_answer.specs.Rows.{IsTableOf}
 
 -- rows with some firing are no more than their firings
@@ -23,14 +23,14 @@ some_each (cells ∷ rows) some =
     omega (arith, ih, some 0 (omega arith), length-append (firings cells) (order rows))
 
 -- a table has no more rows than its block has firings
-pub rows_few : TablesCount → (r : Rates) (q : List ℕ) (j : ℕ) (t : Tabled) → length q ≡ r.actors → IsTableOf r q j t →
+pub rows_few : (r : Rates) (q : List ℕ) (j : ℕ) (t : Tabled) → length q ≡ r.actors → IsTableOf r q j t →
     length t.rows ≤ MOST_BLOCK
-rows_few counts r q j t all is =
+rows_few r q j t all is =
     let once : repeated 1 t.order ≡ t.order = refl in
     let order_is : t.order ≡ sequence t.rows = is.table.exact.order_is in
     omega (
       arith,
-      counts r q j is.width t 1 all is.table,
+      tables_count r q j is.width t 1 all is.table,
       ap length once,
       ap length order_is,
       is.short,

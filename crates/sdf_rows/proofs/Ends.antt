@@ -25,11 +25,12 @@ use Rattle.sdf_actor.specs.Sides.{list_count, period_samples}
 use Rattle.sdf_actor.specs.Wires.{lists}
 use Rattle.sdf_node.specs.declared.node.NodeState.{NodeState}
 use Rattle.sdf_node.specs.declared.node.NodeState.TheVariants.{Source, Sink, Inner}
-use Rattle.sdf_node.specs.Kept.{NodesKeepStates}
 use Rattle.sdf_node.specs.Nodes.{CanBegin, IsAt}
+use Rattle.sdf_node.proofs.Theorems.{nodes_keep_states}
+use Rattle.sdf_answer.proofs.Theorems.{histories_begin, sinks_make_runs}
 use Rattle.sdf_rows.specs.declared.job.Job.{Job}
 use Rattle.sdf_answer.specs.Answer.{AreOutputs, periods_of}
-use Rattle.sdf_answer.specs.Feeds.{HasRun, SinksMakeRuns}
+use Rattle.sdf_answer.specs.Feeds.{HasRun}
 use Rattle.sdf_answer.specs.Held.{Held}
 use Rattle.sdf_answer.specs.Blocks.{room, nothing}
 use Rattle.sdf_answer.specs.Sizes.{Rows, AreSizes, phase_of}
@@ -38,7 +39,7 @@ use Rattle.sdf_rows.specs.Stands.{HaveBlocks}
 use Rattle.sdf_rows.specs.Blocks.{IsResting}
 use Rattle.sdf_rows.specs.Collect.{AreCollected, AreKept}
 use Rattle.sdf_rows.proofs.Readings.{some_of}
-use Rattle.sdf_answer.specs.Laws.{HistoriesBegin, SinksMakeOutputs}
+use Rattle.sdf_answer.specs.Laws.{SinksMakeOutputs}
 use Rattle.sdf_answer.specs.Periods.{CanRun}
 
 -- the blocks of a job, firing by firing
@@ -51,7 +52,7 @@ have_blocks s n z sizes jobs places i d h = record {
       (mod_below f (cycle_of s (nets.node n a)) (sizes.some a l))).1;
 }
 
-module _ {A S T : Type 0} (s : Steps A S T) (begin : HistoriesBegin s) (n : Netlist A T) (good : IsNet s n)
+module _ {A S T : Type 0} (s : Steps A S T) (n : Netlist A T) (good : IsNet s n)
     (wired : IsWired (wiring s n)) (q : List ℕ) (j blocks : ℕ) (inputs : List (List T))
     (can : CanRun s n q (blocks * j) inputs) (short : j * sum q ≤ MOST_BLOCK) (few : blocks < 2 ^ 32) where
   abbrev many : ℕ → ℕ
@@ -109,7 +110,7 @@ module _ {A S T : Type 0} (s : Steps A S T) (begin : HistoriesBegin s) (n : Netl
       reach = reach;
       top = λ a l. omega (arith, none a);
       history = (wiring s n).starts;
-      is = begin n inputs (λ a. get_or done a 0) good (λ a l. none a);
+      is = histories_begin s n inputs (λ a. get_or done a 0) good (λ a l. none a);
       channels = channels;
       left = λ c l. ap (λ x. x.samples) (queues c l) ∙
           (ap (λ i. drop i (wire n c).initial) (sym (wired.sound.consumed_none c))
@@ -186,15 +187,15 @@ module _ {A S T : Type 0} (s : Steps A S T) (n : Netlist A T) (inputs : List (Li
       (length-map outputs (λ v. v.items) ∙ count) (sinks_took outputs collected)
 
   -- copies of the actors' states and of the samples on the channels are what is left
-  leaves : NodesKeepStates s → (rest : Rest T S) → length rest.states.items ≡ length n.nodes →
+  leaves : (rest : Rest T S) → length rest.states.items ≡ length n.nodes →
       AreKept n states rest.states.items → lists rest.held.items ≡ map (λ queue. queue.samples) ls →
       Leaves s n k over.between.history rest
-  leaves keep rest all copies held = record {
+  leaves rest all copies held = record {
     nodes = all;
     states = λ a l.
         let w : NodeState T S = some_of states a (omega (arith, over.between.nodes)) in
         copies a w l ∙
-        keep inputs (blocks * (j * get_or q a 0)) (nets.node n a)
+        nodes_keep_states s inputs (blocks * (j * get_or q a 0)) (nets.node n a)
         (taken_before (wiring s n) over.between.history a (k a))
         (get_or states a w) (node_at a (nets.node n a) w l refl);
     channels = sym (length-map rest.held.items (λ v. v.items))
@@ -206,15 +207,16 @@ module _ {A S T : Type 0} (s : Steps A S T) (n : Netlist A T) (inputs : List (Li
   }
 
   -- and that is a run
-  pub row_run : SinksMakeRuns s → NodesKeepStates s → IsNet s n → (outputs : List (Vec T Global)) →
+  pub row_run : IsNet s n → (outputs : List (Vec T Global)) →
       AreCollected n (length n.nodes) states outputs → length outputs ≡ list_count Outputs n.nodes →
       (rest : Rest T S) → length rest.states.items ≡ length n.nodes →
       AreKept n states rest.states.items → lists rest.held.items ≡ map (λ queue. queue.samples) ls →
       HasRun s n inputs (periods_of q (blocks * j)) (lists outputs) rest
-  row_run make keep good outputs collected count rest all copies held =
-      make n inputs q (blocks * j) k over.between.history (lists outputs) rest good over.between.is all_done
+  row_run good outputs collected count rest all copies held =
+      sinks_make_runs s n inputs q (blocks * j) k over.between.history (lists outputs) rest good
+      over.between.is all_done
       (length-map outputs (λ v. v.items) ∙ count) (sinks_took outputs collected)
-      (leaves keep rest all copies held)
+      (leaves rest all copies held)
 
 -- nobody has fired
 abbrev pub the_none : ℕ

@@ -5,18 +5,18 @@ use Rattle.std.proofs.lemmas.List.{same_lists, get_or-map, length-map}
 use Rattle.std.proofs.lemmas.List.Elements.{All-nil, All-from_get_or}
 use Rattle.sdf_actor.specs.Steps.{Steps}
 use Rattle.sdf_actor.specs.Histories.{taken, taken_before}
-use Rattle.sdf_actor.specs.Nets.{Netlist, node, wiring, answer_of}
+use Rattle.sdf_actor.specs.Nets.{Netlist, node, wiring, answer_of, IsNet}
 use Rattle.sdf_node.specs.Nodes.{phase_at, takes_of, puts_of, CanStep, IsAt}
-use Rattle.sdf_node.specs.Laws.{NodesCanStep, NodesKeepPhase}
 use Rattle.sdf_node.specs.declared.node.NodeState.{NodeState}
+use Rattle.sdf_node.proofs.Theorems.{nodes_can_step, nodes_keep_phase}
 use Rattle.sdf_rows.specs.declared.job.Job.{Job}
 use Rattle.sdf_answer.specs.Held.{Held}
 use Rattle.sdf_answer.specs.Blocks.{samples, front}
 use Rattle.sdf_answer.specs.Sizes.{Rows, AreSizes, at_phase, phase_of}
+use Rattle.sdf_answer.proofs.Theorems.{blocks_are_counted, blocks_stand}
 use Rattle.sdf_rows.specs.Jobs.{JobFits, HasFired, HaveFired}
 use Rattle.sdf_rows.specs.Stage.{actors_of}
 use Rattle.sdf_rows.specs.Stands.{IsLoaded, IsBack, IsFilling, IsSettling, IsBetween, KeepBlocks}
-use Rattle.sdf_rows.proofs.Known.{Known}
 use Rattle.sdf_rows.proofs.Settles.{AtPlace, plan, held, ports_in, in_cycle, takes_in, takes_are}
 
 -- all elements, each with a default of its own
@@ -25,8 +25,8 @@ pub all_from : {X : Type 0} (P : X → Type 0) (xs : List X) → ((i : ℕ) (d :
 all_from P [] each = All-nil P
 all_from P (x ∷ xs) each = All-from_get_or P (x ∷ xs) x (λ i h. each i x h)
 
-module _ {A S T : Type 0} (s : Steps A S T) (n : Netlist A T) (net : Known s n) (z : Rows) (sizes : AreSizes s n z)
-    (inputs : List (List T)) (steps : NodesCanStep s) (phases : NodesKeepPhase s)
+module _ {A S T : Type 0} (s : Steps A S T) (n : Netlist A T) (good : IsNet s n) (z : Rows) (sizes : AreSizes s n z)
+    (inputs : List (List T))
     (many low high : ℕ → ℕ) (acts : List ℕ) (k : ℕ → ℕ) (states : List (NodeState T S)) (ls : List (Held T))
     (jobs : List (Job A T S)) (st : IsFilling s n inputs many low high acts 0 k states ls jobs)
     (i : ℕ) (h : i < length acts) (d : Job A T S) where
@@ -43,12 +43,13 @@ module _ {A S T : Type 0} (s : Steps A S T) (n : Netlist A T) (net : Known s n) 
   has = st.jobs_are i d first h
 
   count : length (taken_before (wiring s n) st.history who (k who)) ≡ k who
-  count = net.counts n st.history who (k who)
+  count = blocks_are_counted s n st.history who (k who)
 
   -- the job is at the phase of its state
   at_phase_is : phase_at job.state ≡ job.phase
   at_phase_is =
-      phases inputs (node n who) (many who) (taken_before (wiring s n) st.history who (k who)) job.state has.state ∙
+      nodes_keep_phase s inputs (node n who) (many who) (taken_before (wiring s n) st.history who (k who))
+      job.state has.state ∙
       (ap (phase_of s (node n who)) count ∙ sym has.phase)
 
   same_job : record job { actor = who } ≡ job
@@ -58,7 +59,7 @@ module _ {A S T : Type 0} (s : Steps A S T) (n : Netlist A T) (net : Known s n) 
   left = let l = st.within i first h in omega (arith, l, st.top who (st.known i h))
 
   here : AtPlace s n z inputs many low high acts 0 i k states ls jobs (IsLoaded s n inputs many) job.phase
-  here = record { net = net; sizes = sizes; st = st; first = first; inside = h; phase_is = has.phase }
+  here = record { good = good; sizes = sizes; st = st; first = first; inside = h; phase_is = has.phase }
 
   fits_at : JobFits s n inputs z ls (record job { actor = who })
   fits_at =
@@ -66,7 +67,8 @@ module _ {A S T : Type 0} (s : Steps A S T) (n : Netlist A T) (net : Known s n) 
       let total_is : total ≡ takes_of s (node n who) job.phase = takes_are here in
       let can : CanStep s inputs (node n who) job.state (takes_of s (node n who) (phase_at job.state))
       (puts_of s (node n who) (phase_at job.state)) =
-      steps inputs (node n who) (many who) (taken_before (wiring s n) st.history who (k who)) job.state has.state
+      nodes_can_step s inputs (node n who) (many who) (taken_before (wiring s n) st.history who (k who)) job.state
+      has.state
       (sizes.some who (st.known i h)) (omega (arith, count, left)) in
       record {
         known = st.known i h;
@@ -92,8 +94,8 @@ module _ {A S T : Type 0} (s : Steps A S T) (n : Netlist A T) (net : Known s n) 
   -- what it takes is the node's next block
   block_is : front (at_phase z.takes job.phase) ((wiring s n).ins who) ls ≡ taken (wiring s n) st.history who (k who)
   block_is =
-      net.stand n k who st.history (at_phase z.takes job.phase) (at_phase z.puts job.phase) (samples ls)
-      net.good (st.known i h) (plan here) st.left
+      blocks_stand s n k who st.history (at_phase z.takes job.phase) (at_phase z.puts job.phase) (samples ls)
+      good (st.known i h) (plan here) st.left
 
   pub is_back : (job' : Job A T S) → HasFired s n inputs z ls job job' → IsBack s n inputs many k st.history who job'
   is_back job' fired =
@@ -116,8 +118,8 @@ module _ {A S T : Type 0} (s : Steps A S T) (n : Netlist A T) (net : Known s n) 
             (at.put (many who) past has.state ∙ ap (answer_of s inputs (node n who) past) block_is);
       }
 
-module _ {A S T : Type 0} (s : Steps A S T) (n : Netlist A T) (net : Known s n) (z : Rows) (sizes : AreSizes s n z)
-    (inputs : List (List T)) (steps : NodesCanStep s) (phases : NodesKeepPhase s)
+module _ {A S T : Type 0} (s : Steps A S T) (n : Netlist A T) (good : IsNet s n) (z : Rows) (sizes : AreSizes s n z)
+    (inputs : List (List T))
     (many low high : ℕ → ℕ) (k : ℕ → ℕ) (states : List (NodeState T S)) (ls : List (Held T)) (jobs : List (Job A T S))
     (st : IsFilling s n inputs many low high (actors_of jobs) 0 k states ls jobs) where
   acts_long : length (actors_of jobs) ≡ length jobs
@@ -125,7 +127,7 @@ module _ {A S T : Type 0} (s : Steps A S T) (n : Netlist A T) (net : Known s n) 
 
   pub all_fit : All (JobFits s n inputs z ls) jobs
   all_fit = all_from (JobFits s n inputs z ls) jobs
-      (λ i d h. job_fits s n net z sizes inputs steps phases many low high (actors_of jobs) k states ls jobs st i
+      (λ i d h. job_fits s n good z sizes inputs many low high (actors_of jobs) k states ls jobs st i
       (omega (arith, acts_long)) d)
 
   module _ (jobs' : List (Job A T S)) (all : length jobs' ≡ length jobs)
@@ -161,7 +163,7 @@ module _ {A S T : Type 0} (s : Steps A S T) (n : Netlist A T) (net : Known s n) 
       apart = st.apart;
       idle = st.idle;
       jobs_are = λ i j from h.
-          is_back s n net z sizes inputs steps phases many low high (actors_of jobs) k states ls jobs st i h j
+          is_back s n good z sizes inputs many low high (actors_of jobs) k states ls jobs st i h j
           (get_or jobs' i j) (fired i j (omega (arith, acts_long)));
       able = st.able;
       within = st.within;

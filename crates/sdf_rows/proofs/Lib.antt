@@ -1,4 +1,3 @@
-mod Known
 mod Readings
 mod Jobs
 mod Loads

@@ -8,13 +8,14 @@ use Rattle.std.proofs.lemmas.Nat.{mod_below}
 use Rattle.std.proofs.lemmas.Bool.{cases_eq}
 use Rattle.sdf_graph.specs.Rates.{Rates}
 use Rattle.sdf_graph.specs.Sequences.{IsEnabled, times}
-use Rattle.sdf_graph.specs.Laws.{LastCountsMore, OthersCountSame}
+use Rattle.sdf_graph.proofs.Theorems.{last_counts_more, others_count_same}
 use Rattle.sdf_actor.specs.declared.node.Node.{Node}
 use Rattle.sdf_actor.specs.declared.node.Node.TheVariants.{Source, Sink, Inner}
 use Rattle.sdf_actor.specs.Steps.{Steps}
 use Rattle.sdf_actor.specs.Histories.{taken, taken_before, spread}
-use Rattle.sdf_actor.specs.Nets.{Netlist, node, wiring, answers, cycle_of, SourceReaches, InputsReach}
+use Rattle.sdf_actor.specs.Nets.{Netlist, node, wiring, answers, cycle_of, IsNet, SourceReaches, InputsReach}
 use Rattle.sdf_actor.specs.Laws.{after_firing}
+use Rattle.sdf_actor.proofs.Theorems.{nets_are_wired}
 use Rattle.sdf_node.specs.Nodes.{takes_of, puts_of, IsAt}
 use Rattle.sdf_node.specs.declared.node.NodeState.{NodeState}
 use Rattle.sdf_rows.specs.declared.job.Job.{Job}
@@ -23,8 +24,9 @@ use Rattle.sdf_answer.specs.Blocks.{samples, room, at_ports, ArePorts, HoldBlock
 use Rattle.sdf_answer.specs.Sizes.{Rows, IsPlan, AreSizes, at_phase, phase_of, in_all, out_all}
 use Rattle.sdf_rows.specs.Stage.{CanSettle, HasSettled}
 use Rattle.sdf_rows.specs.Stands.{IsBack, IsStage, IsSettling}
+use Rattle.sdf_answer.specs.Laws.{FiringsMoveOn}
 use Rattle.sdf_answer.specs.Moves.{FitsPorts, MovesOn}
-use Rattle.sdf_rows.proofs.Known.{Known}
+use Rattle.sdf_answer.proofs.Theorems.{plans_fit}
 
 -- what a firing moves in all is that of its phase
 pub in_is : {A S T : Type 0} (s : Steps A S T) (x : Node A) (i : ℕ) → in_all s x i ≡ takes_of s x (phase_of s x i)
@@ -56,7 +58,7 @@ pub record AtPlace {A S T : Type 0} (s : Steps A S T) (n : Netlist A T) (z : Row
     (many low high : ℕ → ℕ) (acts : List ℕ) (from i : ℕ) (k : ℕ → ℕ) (states : List (NodeState T S))
     (ls : List (Held T)) (jobs : List (Job A T S)) (P : (ℕ → ℕ) → (ℕ → List T) → ℕ → Job A T S → Type 0)
     (phase : ℕ) : Type 0 where
-  pub net : Known s n
+  pub good : IsNet s n
   pub sizes : AreSizes s n z
   pub st : IsStage s n inputs many P low high acts from k states ls jobs
   pub first : from ≤ i
@@ -97,7 +99,7 @@ module _ {A S T : Type 0} {s : Steps A S T} {n : Netlist A T} {z : Rows} {inputs
   pub held : HoldBlocks ((wiring s n).ins who) (at_phase z.takes phase) ls
   held p l =
       let c : ℕ = get_or ((wiring s n).ins who) p 0 in
-      let is = x.net.wired.ins_are who p who_known l in
+      let is = (nets_are_wired s n x.good).ins_are who p who_known l in
       let own : (wiring s n).rates.consumed c (k ((wiring s n).rates.target c)) ≡
       (wiring s n).rates.consumed c (k who) = ap (λ b. (wiring s n).rates.consumed c (k b)) is.1 in
       omega (
@@ -108,28 +110,28 @@ module _ {A S T : Type 0} {s : Steps A S T} {n : Netlist A T} {z : Rows} {inputs
         plan.taken c is.0 is.1,
       )
 
-  pub fits : (p : ℕ) → p < length ((wiring s n).outs who) →
-      length (samples ls (get_or ((wiring s n).outs who) p 0))
+  pub fits : (p : ℕ) → p < length ((wiring s n).outs who) → length (samples ls (get_or ((wiring s n).outs who) p 0))
       + get_or (at_phase z.puts phase) (get_or ((wiring s n).outs who) p 0) 0 ≤
       room ls (get_or ((wiring s n).outs who) p 0)
   fits p l =
       let c : ℕ = get_or ((wiring s n).outs who) p 0 in
-      let is = x.net.wired.outs_are who p who_known l in
+      let is = (nets_are_wired s n x.good).outs_are who p who_known l in
       let was : (wiring s n).rates.produced c (k ((wiring s n).rates.source c)) ≡
       (wiring s n).rates.produced c (k who) = ap (λ b. (wiring s n).rates.produced c (k b)) is.1 in
       let end : (wiring s n).rates.produced c (high ((wiring s n).rates.source c)) ≡
       (wiring s n).rates.produced c (high who) = ap (λ b. (wiring s n).rates.produced c (high b)) is.1 in
       let left = x.st.within i x.first x.inside in
       let rise : (wiring s n).rates.produced c (k who + 1) ≤ (wiring s n).rates.produced c (high who) =
-      x.net.wired.sound.produced_rises c (k who + 1) (high who) (omega arith) in
+      (nets_are_wired s n x.good).sound.produced_rises c (k who + 1) (high who) (omega arith) in
       let drawn : (wiring s n).rates.consumed c (low ((wiring s n).rates.target c)) ≤
       (wiring s n).rates.consumed c (k ((wiring s n).rates.target c)) =
-      x.net.wired.sound.consumed_rises c (low ((wiring s n).rates.target c)) (k ((wiring s n).rates.target c))
-      (x.st.above ((wiring s n).rates.target c) (x.net.wired.sound.target_in c is.0)) in
+      (nets_are_wired s n x.good).sound.consumed_rises c (low ((wiring s n).rates.target c))
+      (k ((wiring s n).rates.target c))
+      (x.st.above ((wiring s n).rates.target c) ((nets_are_wired s n x.good).sound.target_in c is.0)) in
       omega (arith, was, end, rise, drawn, standing c is.0, x.st.fits c is.0, plan.put c is.0 is.1)
 
   own_ports : FitsPorts s n who (k who) (at_phase z.takes phase) (at_phase z.puts phase)
-  own_ports = x.net.fit n who (k who) (at_phase z.takes phase) (at_phase z.puts phase) x.net.good who_known plan
+  own_ports = plans_fit s n who (k who) (at_phase z.takes phase) (at_phase z.puts phase) x.good who_known plan
 
   pub ports_in : ArePorts ((wiring s n).ins who) (at_phase z.takes phase) (length ls)
   ports_in = subst (ArePorts ((wiring s n).ins who) (at_phase z.takes phase)) (sym x.st.channels) own_ports.ins_are
@@ -158,7 +160,8 @@ module _ {A S T : Type 0} {s : Steps A S T} {n : Netlist A T} {z : Rows} {inputs
 pub record Settling {A S T : Type 0} (s : Steps A S T) (n : Netlist A T) (z : Rows) (inputs : List (List T))
     (many low high : ℕ → ℕ) (acts : List ℕ) (i : ℕ) (done : List ℕ) (states : List (NodeState T S)) (ls : List (Held T))
     (jobs : List (Job A T S)) : Type 0 where
-  pub net : Known s n
+  pub good : IsNet s n
+  pub moves : FiringsMoveOn s
   pub sizes : AreSizes s n z
   pub so_far : IsSettling s n inputs many low high acts i (λ b. get_or done b 0) states ls jobs
   pub inside : i < length acts
@@ -197,7 +200,7 @@ module _ {A S T : Type 0} {s : Steps A S T} {n : Netlist A T} {z : Rows} {inputs
 
   here : AtPlace s n z inputs many low high acts i i k states ls jobs (IsBack s n inputs many) job.phase
   here = record {
-    net = x.net;
+    good = x.good;
     sizes = x.sizes;
     st = st;
     first = omega arith;
@@ -266,8 +269,8 @@ module _ {A S T : Type 0} {s : Steps A S T} {n : Netlist A T} {z : Rows} {inputs
     W = after_firing s n inputs k V a
 
     moves : MovesOn s n inputs k m a V (at_phase z.takes job.phase) (at_phase z.puts job.phase) (samples ls)
-    moves = x.net.moves n inputs k m a V (at_phase z.takes job.phase) (at_phase z.puts job.phase)
-        (samples ls) x.net.good
+    moves = x.moves n inputs k m a V (at_phase z.takes job.phase) (at_phase z.puts job.phase)
+        (samples ls) x.good
         known on one others reach st.is sized st.left
 
     left_then : (c : ℕ) → c < length n.wires → samples ls' c ≡
@@ -331,10 +334,11 @@ module _ {A S T : Type 0} {s : Steps A S T} {n : Netlist A T} {z : Rows} {inputs
 
       able_then : IsEnabled (wiring s n).rates m b
       able_then c l e =
-          let source_in = x.net.wired.sound.source_in c l in
+          let source_in = (nets_are_wired s n x.good).sound.source_in c l in
           let rise : (wiring s n).rates.produced c (k ((wiring s n).rates.source c)) ≤
           (wiring s n).rates.produced c (m ((wiring s n).rates.source c)) =
-          x.net.wired.sound.produced_rises c (k ((wiring s n).rates.source c)) (m ((wiring s n).rates.source c))
+          (nets_are_wired s n x.good).sound.produced_rises c (k ((wiring s n).rates.source c))
+          (m ((wiring s n).rates.source c))
           (more ((wiring s n).rates.source c) source_in) in
           let same : m ((wiring s n).rates.target c) ≡ k ((wiring s n).rates.target c) =
           ap m e ∙ (others b ne ∙ ap k (sym e)) in
@@ -394,15 +398,13 @@ module _ {A S T : Type 0} {s : Steps A S T} {n : Netlist A T} {z : Rows} {inputs
         ∙ get_or-set_other states a b job.state w (λ e. ne (sym e)))
         (λ p j ne. get_or-set_other jobs i p job' j (λ e. ne (sym e)))
 
-    pub counts_next : LastCountsMore → OthersCountSame → (was : List ℕ) →
-        ((b : ℕ) → get_or done b 0 ≡ get_or was b 0 + times (take i acts) b) →
+    pub counts_next : (was : List ℕ) → ((b : ℕ) → get_or done b 0 ≡ get_or was b 0 + times (take i acts) b) →
         (b : ℕ) → get_or done' b 0 ≡ get_or was b 0 + times (take (i + 1) acts) b
-    counts_next last same was before b = go (cases_eq a b)
+    counts_next was before b = go (cases_eq a b)
       where
-        go : (a ≡ b) ⊎ (a ≡ b → ⊥) →
-            get_or done' b 0 ≡ get_or was b 0 + times (take (i + 1) acts) b
+        go : (a ≡ b) ⊎ (a ≡ b → ⊥) → get_or done' b 0 ≡ get_or was b 0 + times (take (i + 1) acts) b
         go (inl e) =
             let here : get_or done' b 0 ≡ get_or done b 0 + 1 =
             subst (λ b. get_or done' b 0 ≡ get_or done b 0 + 1) e one in
-            omega (arith, here, last acts i b h e, before b)
-        go (inr ne) = omega (arith, others b ne, same acts i b h ne, before b)
+            omega (arith, here, last_counts_more acts i b h e, before b)
+        go (inr ne) = omega (arith, others b ne, others_count_same acts i b h ne, before b)

@@ -14,16 +14,13 @@ ghost use Rattle.sdf_rows.specs.Collect.{AreKept};
 
 use crate::collect::collect;
 use crate::fired::{TableBlocks, fire, rounds_of};
-use sdf_actor::{Actor, Begun, Net, Rest};
+use sdf_actor::{Actor, Net, Rest};
 use sdf_answer::inputs::{are_inputs, first_sample};
-use sdf_answer::laws::{
-    begun_nets_go_on, blocks_are_small, histories_make_runs, net_facts, nets_have_periods,
-};
+use sdf_answer::laws::{blocks_are_small, net_facts, nets_have_periods};
 use sdf_answer::outputs::make_outputs;
 use sdf_answer::queue::held;
 use sdf_answer::sizes::samples_of_blocks;
 use sdf_answer::{Ran, RunFault};
-use sdf_node::laws::nodes_keep_states;
 use sdf_node::{Gate, NodeState, kept};
 use std::alloc::{AllocError, Global};
 use std::thread::Threads;
@@ -61,8 +58,6 @@ fn fill<R: Threads + AllocGlobal + Sync, A: Actor, G: Gate>(
         (periods_of t.period.repetitions (plan.now.blocks * t.factor)) (lists made.0.items) made.1) }
 {
     net_facts(net);
-    histories_make_runs::<A>();
-    nodes_keep_states::<A>();
     let alloc = rt.alloc();
     let mut outputs = make_outputs(alloc, net.outputs(), 0)?;
     match first_sample(inputs) {
@@ -95,7 +90,6 @@ pub fn feed_rows<R: Threads + AllocGlobal + Sync, A: Actor, G: Gate>(
         × (fed.0.rounds ≡ plan.now.blocks * length t.table.rows))
         (IsRunFault net.now q periods (lists inputs.now)) }
 {
-    sdf_prec::laws::tables_count();
     blocks_are_small(net);
     let least = samples_of_blocks(plan.blocks, plan.table.factor, net.samples_in());
     if !are_inputs(inputs, net.inputs(), least) {
@@ -126,7 +120,6 @@ pub fn resume_rows<R: Threads + AllocGlobal + Sync, A: Actor, G: Gate>(
         (IsRunFault net.now q periods (lists inputs.now)) }
 {
     nets_have_periods(net);
-    begun_nets_go_on::<A, Begun<A>>();
     let begun = net.begun(rt.alloc(), rest)?;
     feed_rows(rt, &begun, plan, inputs, gate)
 }

@@ -15,9 +15,7 @@ use crate::scene::Scene;
 use crate::setup::{make_jobs, make_states};
 use crate::stage::Stage;
 use sdf_actor::{Actor, Net};
-use sdf_answer::laws::{
-    blocks_are_small, histories_make_outputs, net_facts, nets_can_run, nets_have_periods,
-};
+use sdf_answer::laws::net_facts;
 use sdf_answer::rooms::make_queues;
 use sdf_answer::sizes::samples_of_blocks;
 use sdf_answer::{BlockTable, Sizes};
@@ -56,11 +54,6 @@ pub(crate) fn fire<R: Threads + AllocGlobal + Sync, A: Actor, G: Gate>(
         t.period.repetitions t.factor plan.now.blocks stage.states.items stage.queues.items) }
 {
     net_facts(net);
-    nets_have_periods(net);
-    blocks_are_small(net);
-    nets_can_run::<A>();
-    histories_make_outputs::<A>();
-    sdf_actor::laws::nets_are_wired::<A>();
     let alloc = rt.alloc();
     let table = plan.table;
     let repetitions = table.period.repetitions();

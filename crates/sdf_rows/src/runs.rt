@@ -62,9 +62,6 @@ pub(crate) fn run_block<R: Threads + Sync, A: Actor, G: Gate>(
     ensures blocks { KeepBlocks jobs.old jobs.new }
 {
     net_facts(scene.net);
-    sdf_graph::laws::graphs_are_sound();
-    sdf_prec::laws::rows_may_fire();
-    sdf_prec::laws::orders_are_passes();
     for i in 0..timetable.table.rows() {
         run_row(rt, scene, timetable.table.row(i), jobs, stage);
     }
@@ -93,8 +90,6 @@ pub(crate) fn run_blocks<R: Threads + Sync, A: Actor, G: Gate>(
         timetable.now.j blocks blocks (slice_index stage.new.done.items) stage.new.states.items stage.new.queues.items }
 {
     net_facts(scene.net);
-    sdf_graph::laws::graphs_are_sound();
-    sdf_graph::laws::graphs_have_periods();
     for _ in 0..blocks {
         run_block(rt, scene, timetable, jobs, stage);
     }

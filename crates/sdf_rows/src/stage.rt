@@ -2,10 +2,7 @@
 
 ghost use Rattle.std.specs.Prelude.{◌≡◌, ◌+◌, ◌^◌, ◌≤◌, ◌<◌, ℕ, length, slice_index, slice_set, Some};
 ghost use Rattle.sdf_graph.specs.Sequences.{times};
-ghost use Rattle.sdf_actor.specs.Laws.{NetsAreWired};
-ghost use Rattle.sdf_answer.specs.Laws.{BlocksAreCounted, PlansFit, BlocksStand, FiringsMoveOn};
 ghost use Rattle.sdf_actor.specs.Wires.{lists};
-ghost use Rattle.sdf_node.specs.Laws.{NodesCanStep, NodesKeepPhase};
 ghost use Rattle.sdf_node.specs.Nodes.{phase_at};
 ghost use Rattle.sdf_prec.specs.declared.firing.Firing.{Firing};
 ghost use Rattle.sdf_prec.specs.Tables.{cell_of, firings};
@@ -14,6 +11,7 @@ ghost use Rattle.sdf_rows.specs.Stands.{HaveBlocks, KeepBlocks, IsFilling, IsSet
 
 use crate::job::{Job, fire_jobs};
 use crate::scene::Scene;
+use sdf_actor::laws::history_grows_by_firing;
 use sdf_actor::{Actor, Side};
 use sdf_answer::Queue;
 use sdf_answer::blocks::{Ports, put_block, skip_fronts};
@@ -128,22 +126,6 @@ fn settle<A: Actor, G>(
     mem::swap(&mut job.state, state);
 }
 
-/// The laws that a row stands on.
-pub(crate) fn row_laws<A: Actor>()
-    ensures wired { NetsAreWired A.steps }
-    ensures fit { PlansFit A.steps }
-    ensures counts { BlocksAreCounted A.steps }
-    ensures stand { BlocksStand A.steps }
-    ensures moves { FiringsMoveOn A.steps }
-    ensures steps { NodesCanStep A.steps }
-    ensures phases { NodesKeepPhase A.steps }
-{
-    sdf_actor::laws::nets_are_wired::<A>();
-    sdf_answer::laws::plans_fit::<A>();
-    sdf_answer::laws::firings_move_on::<A>();
-    sdf_node::laws::nodes_can_step::<A>();
-}
-
 /// Settles a firing, and counts it.
 fn settle_at<A: Actor, G>(scene: &Scene<A, G>, job: &mut Job<A>, stage: &mut Stage<A>)
     requires can { CanSettle A.steps scene.now.net.now scene.now.sizes job.old stage.old.queues.items }
@@ -184,8 +166,7 @@ pub(crate) fn settle_row<A: Actor, G>(
     ensures counts { length stage.new.done.items ≡ length stage.old.done.items }
     ensures blocks { KeepBlocks jobs.old jobs.new }
 {
-    row_laws::<A>();
-    sdf_graph::laws::counts_grow();
+    history_grows_by_firing::<A>();
     for place in 0..jobs.len() {
         settle_at(scene, &mut jobs[place], stage);
     }
@@ -213,7 +194,6 @@ pub(crate) fn fire_row<R: Threads + Sync, A: Actor, G: Gate>(
     ensures counts { length stage.new.done.items ≡ length stage.old.done.items }
     ensures blocks { KeepBlocks jobs.old jobs.new }
 {
-    row_laws::<A>();
     fire_jobs(rt, scene, &stage.queues, jobs);
     settle_row(scene, jobs, stage);
 }
@@ -243,7 +223,6 @@ pub(crate) fn run_row<R: Threads + Sync, A: Actor, G: Gate>(
     ensures counts { length stage.new.done.items ≡ length stage.old.done.items }
     ensures blocks { KeepBlocks jobs.old jobs.new }
 {
-    row_laws::<A>();
     let many = load_row(row, &stage.done, &mut stage.states, jobs);
     let (front, _) = jobs.split_at_mut(many);
     fire_row(rt, scene, front, stage);

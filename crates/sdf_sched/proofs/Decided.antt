@@ -4,7 +4,8 @@ use Rattle.std.proofs.Common.{subst, inl, inr, ◌⊎◌, arith}
 use Rattle.std.proofs.lemmas.Bool.{cases_lt, cases_eq}
 use Rattle.sdf_graph.specs.Rates.{Rates, IsSound, sum_to}
 use Rattle.sdf_graph.specs.Sequences.{times, IsReady, IsEnabled, IsRunnable, IsPass, IsDeadlocked}
-use Rattle.sdf_sched.specs.Laws.{StuckMeansDeadlock, PeriodOrDeadlock}
+use Rattle.sdf_sched.specs.Laws.{PeriodOrDeadlock}
+use Rattle.sdf_sched.proofs.Greedy.{stuck_counts}
 use Rattle.sdf_sched.proofs.Going.{times-last_same, times-last_other, each_more}
 
 -- below m each number is of one sort, or one is of the other
@@ -155,20 +156,19 @@ module _ (r : Rates) (q : ℕ → ℕ) where
       go (inl less) = inr less
       go (inr full) = inl (omega (arith, greedy.within a))
 
-  module _ (sound : IsSound r) (law : StuckMeansDeadlock) (v : List ℕ) (stops : StopsAt v) where
+  module _ (sound : IsSound r) (v : List ℕ) (stops : StopsAt v) where
     completes : ((a : ℕ) → a < r.actors → times v a ≡ q a) → IsPass r q v
     completes all = ((λ i h. ((stops.greedy.each i h).0, (stops.greedy.each i h).2)), all)
 
     ends : ((a : ℕ) → a < r.actors → times v a ≡ q a) ⊎ ((a : ℕ) × (a < r.actors) × (times v a < q a)) → Outcome
     ends (inl all) = inl (v, completes all)
-    ends (inr (a, h, less)) = inr (law r q v sound
-        (record { each = stops.greedy.each; none = λ b on. stops.none b on.0 on }) a h less)
+    ends (inr (a, h, less)) = inr (stuck_counts r q (times v) sound (λ b on. stops.none b on.0 on) a h less)
 
     outcome : Outcome
     outcome = ends (look_below (λ a. times v a ≡ q a) (λ a. times v a < q a) (full_or_not v stops.greedy) r.actors)
 
-  decided : IsSound r → StuckMeansDeadlock → Outcome
-  decided sound law = let last = go_on (left []) [] begins (omega arith) in outcome sound law last.0 last.1
+  decided : IsSound r → Outcome
+  decided sound = let last = go_on (left []) [] begins (omega arith) in outcome sound last.0 last.1
 
-pub period_or_deadlock : StuckMeansDeadlock → PeriodOrDeadlock
-period_or_deadlock law r q sound = decided r q sound law
+pub period_or_deadlock : PeriodOrDeadlock
+period_or_deadlock = decided

@@ -12,7 +12,7 @@ use Rattle.sdf_sched.specs.ClassS.{IsGoing}
 use Rattle.sdf_sched.specs.Period.{IsPeriodOf}
 use Rattle.sdf_sched.specs.Stuck.{IsShortList, IsStuckAt}
 use Rattle.sdf_sched.specs.declared.stuck.Stuck.{Stuck}
-use Rattle.sdf_sched.specs.Laws.{StuckCountsMeanDeadlock}
+use Rattle.sdf_sched.proofs.Greedy.{stuck_counts}
 use Rattle.sdf_sched.proofs.Going.{each_more}
 use Rattle.sdf_sched.proofs.Choices.{is_runnable}
 
@@ -40,14 +40,15 @@ module _ (P : Type 0) (chooses : Chooses P) (g : Shape) (q : List ℕ) (p : P) w
     count_of a = ap (λ (k : ℕ → ℕ). k a) now.counted
 
     -- where some sequence does all firings, this one does
-    module _ (sound : IsSound (rates g)) (stuck : StuckCountsMeanDeadlock) (v : List ℕ)
+    module _ (sound : IsSound (rates g)) (v : List ℕ)
         (pass : IsPass (rates g) (slice_index q) v) where
       done : (a : ℕ) → a < g.actors → get_or t.fired a 0 ≡ get_or q a 0
       done a h = go (cases_lt (get_or t.fired a 0) (get_or q a 0))
         where
           go : (get_or t.fired a 0 < get_or q a 0) ⊎ (get_or q a 0 ≤ get_or t.fired a 0) →
               get_or t.fired a 0 ≡ get_or q a 0
-          go (inl less) = absurd (stuck (rates g) (slice_index q) (slice_index t.fired) sound none_left a h less v pass)
+          go (inl less) = absurd
+              (stuck_counts (rates g) (slice_index q) (slice_index t.fired) sound none_left a h less v pass)
           go (inr full) = omega (arith, now.within a)
 
       pub is_pass : IsPass (rates g) (slice_index q) w
@@ -82,10 +83,10 @@ module _ (P : Type 0) (chooses : Chooses P) (g : Shape) (q : List ℕ) (p : P) w
         }
 
       -- else there is none
-      module _ (sound : IsSound (rates g)) (stuck : StuckCountsMeanDeadlock) (some : 0 < length short) where
+      module _ (sound : IsSound (rates g)) (some : 0 < length short) where
         pub is_deadlocked : IsDeadlocked (rates g) (slice_index q)
         is_deadlocked = let first = lacks.each 0 some in
-            stuck (rates g) (slice_index q) (slice_index t.fired) sound none_left _ first.known first.unfinished
+            stuck_counts (rates g) (slice_index q) (slice_index t.fired) sound none_left _ first.known first.unfinished
 
       pub is_stuck : (s : Stuck) → s.done.items ≡ t.fired → s.short.items ≡ short →
           IsStuckAt (rates g) (slice_index q) w s

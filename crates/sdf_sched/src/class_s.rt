@@ -14,7 +14,6 @@ ghost use Rattle.sdf_sched.specs.Stuck.{IsShortList, IsSchedFault};
 ghost use Rattle.sdf_sched.specs.ClassS.{IsGoing, IsUpdated, IsTold, IsTested, AreCandidates};
 
 use crate::fault::SchedFault;
-use crate::laws::stuck_counts_mean_deadlock;
 use crate::period::Period;
 use crate::pick::Pick;
 use crate::stuck::Stuck;
@@ -279,7 +278,6 @@ pub fn class_s<P: Pick>(
 {
     // the graph has a shape, so its rates are sound, and counts that are stuck mean a deadlock
     graph.channels();
-    stuck_counts_mean_deadlock();
     reps.period();
     let mut done = Vec::with_capacity(alloc, reps.len())?;
     let mut short = Vec::with_capacity(alloc, reps.len())?;
@@ -313,7 +311,6 @@ pub fn class_s_of<P: Pick>(
     ensures unmoved { IfErr result (λ _. pick.new ≡ pick.old) }
 {
     graph.channels();
-    stuck_counts_mean_deadlock();
     let (_, order) = fire_greedily(alloc, graph, firings, pick)?;
     Ok(order)
 }

@@ -6,18 +6,18 @@ use Rattle.std.proofs.lemmas.List.Sums.{sum_by-cons, sum_by_more}
 use Rattle.sdf_limits.specs.declared.TheConstants.{MOST_INITIAL, MOST_RATE, MOST_BLOCK}
 use Rattle.sdf_graph.specs.Rates.{Rates, Shape, IsShape, rates, rate_at, channel}
 use Rattle.sdf_graph.specs.Sequences.{times, tokens, repeated}
-use Rattle.sdf_graph.specs.Laws.{SumsAreSmall}
+use Rattle.sdf_graph.proofs.Theorems.{sums_are_small}
 use Rattle.sdf_prec.specs.declared.firing.Firing.{Firing}
-use Rattle.sdf_prec.specs.Counts.{TablesCount}
 use Rattle.sdf_prec.specs.Tables.{Tabled, order}
+use Rattle.sdf_prec.proofs.Theorems.{tables_count}
 use Rattle.sdf_times.specs.Times.{IsBlockTable}
 use Rattle.sdf_times.proofs.Cells.{rows_few}
 
-module _ (count : TablesCount) (r : Rates) (m : ℕ) (t : Tabled) (b : IsBlockTable r m t) where
+module _ (r : Rates) (m : ℕ) (t : Tabled) (b : IsBlockTable r m t) where
   pub order_few : length t.order ≤ MOST_BLOCK
   order_few =
       let all : length (repeated 1 t.order) ≡ 1 * (b.periods * sum b.reps) =
-      count r b.reps b.periods m t 1 b.all b.table in
+      tables_count r b.reps b.periods m t 1 b.all b.table in
       let one : length (repeated 1 t.order) ≡ length t.order = refl in
       omega (arith, all, one, b.short)
 
@@ -40,20 +40,20 @@ times_few (x ∷ w) a =
     let more : times (x ∷ w) a ≡ cond (eqb x a) 1 0 + times w a = sum_by-cons (λ b. cond (eqb b a) 1 0) x w in
     omega (arith, ih, more, one_small (eqb x a))
 
-pub cap_small : SumsAreSmall → TablesCount → (g : Shape) → IsShape g → (m : ℕ) (t : Tabled) →
+pub cap_small : (g : Shape) → IsShape g → (m : ℕ) (t : Tabled) →
     IsBlockTable (rates g) m t → (c : ℕ) → c < length g.channels →
     get_or t.caps c 0 ≤ MOST_INITIAL + MOST_RATE * MOST_BLOCK
-cap_small small count g ok m t b c l =
+cap_small g ok m t b c l =
     let most = b.table.exact.caps_each c l in
     let at = most.reached in
     let k : ℕ = times (take at.0 t.order) (channel g c).from in
     let few : k ≤ length (take at.0 t.order) = times_few (take at.0 t.order) (channel g c).from in
     let front : length (take at.0 t.order) ≤ length t.order = omega (arith, length-take at.0 t.order) in
     let made : (rates g).produced c k ≤ MOST_RATE * k =
-    small (rate_at (channel g c).put) MOST_RATE (λ i. (ok.put c l).small (i % length (channel g c).put)) k in
+    sums_are_small (rate_at (channel g c).put) MOST_RATE (λ i. (ok.put c l).small (i % length (channel g c).put)) k in
     let held : tokens (rates g) (times (take at.0 t.order)) c ≤ (rates g).initial c + (rates g).produced c k =
     omega arith in
-    omega (arith, at.2, held, made, few, front, order_few count (rates g) m t b, ok.initial_small c l)
+    omega (arith, at.2, held, made, few, front, order_few (rates g) m t b, ok.initial_small c l)
 
 pub sum_more : (xs : List ℕ) (i : ℕ) → i < length xs → sum (take (i + 1) xs) ≡ sum (take i xs) + get_or xs i 0
 sum_more xs i l = sum_by_more (λ x. x) xs i 0 l

@@ -2,11 +2,10 @@
 use Rattle.std.proofs.Common.{◌≡◌, ℕ, zero, suc, ◌+◌, ◌≤◌, ◌<◌, ◌⊎◌, List, [], ◌∷◌, length, inl, inr, ap, arith}
 use Rattle.std.proofs.Common.{refl, Option, Some, None}
 use Rattle.sdf_graph.specs.Rates.{Rates, sum_to}
-use Rattle.sdf_graph.specs.Laws.{SumsAreSmall}
+use Rattle.sdf_graph.proofs.Theorems.{sums_are_small}
 use Rattle.sdf_prec.specs.declared.firing.Firing.{Firing}
 use Rattle.sdf_prec.specs.Levels.{IsChain, total, IsLevel}
 use Rattle.sdf_prec.specs.Tables.{cell, IsOfBlock}
-use Rattle.sdf_prec.specs.Laws.{OrdersAreAdmissible}
 use Rattle.sdf_times.specs.Times.{IsInTable, ComesBefore, end_of, AreStarts, IsMakespan, IsSpan, cost_in, load_of}
 use Rattle.sdf_times.specs.Laws.{StartsAreLeast, StartsAreOne, BoundsHold}
 use Rattle.sdf_times.proofs.Greatest.{greatest_least}
@@ -105,10 +104,11 @@ module _ (r : Rates) (n cost : ℕ → ℕ) (rows : List (List (Option Firing)))
           let high : end_of cost start g ≤ makespan = last.above (end_of cost start g) (g, (k, j, at), refl) in
           omega arith
 
-pub bounds_hold : OrdersAreAdmissible → SumsAreSmall → BoundsHold
-bounds_hold passes small r n cost width rows start makespan span bound v wide starts last chains is =
+pub bounds_hold : BoundsHold
+bounds_hold r n cost width rows start makespan span bound v wide starts last chains is =
     let cells = are_cells r n rows v in
-    let loads = small (load_of cost rows) makespan (load_within r n cost rows start makespan cells starts last) width in
-    let work = columns_do_work cost passes r n rows width v wide in
+    let loads = sums_are_small (load_of cost rows) makespan
+    (load_within r n cost rows start makespan cells starts last) width in
+    let work = columns_do_work cost r n rows width v wide in
     is.least makespan (span_within r n cost rows start makespan cells starts last span chains)
     (omega (arith, loads, work))

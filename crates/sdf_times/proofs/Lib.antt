@@ -1,16 +1,16 @@
-pub mod Greatest
-pub mod Cells
-pub mod Waits
-pub mod Walks
-pub mod Fired
-pub mod Sums
-pub mod Least
-pub mod Spans
-pub mod Exists
-pub mod Caps
-pub mod Rules
-pub mod Decided
-pub mod Filling
-pub mod Homing
-pub mod Earlier
-pub mod OnTime
+mod Greatest
+mod Cells
+mod Waits
+mod Walks
+mod Fired
+mod Sums
+mod Least
+mod Spans
+mod Exists
+mod Caps
+mod Rules
+mod Decided
+mod Filling
+mod Homing
+mod Earlier
+mod OnTime

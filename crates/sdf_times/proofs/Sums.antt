@@ -7,7 +7,7 @@ use Rattle.sdf_graph.specs.Rates.{Rates, sum_to}
 use Rattle.sdf_graph.specs.Sequences.{times}
 use Rattle.sdf_prec.specs.declared.firing.Firing.{Firing}
 use Rattle.sdf_prec.specs.Tables.{firing, firings, row, cell, order, sequence, IsValid}
-use Rattle.sdf_prec.specs.Laws.{OrdersAreAdmissible}
+use Rattle.sdf_prec.proofs.Theorems.{orders_are_admissible}
 use Rattle.sdf_times.specs.Times.{cost_in, load_of, work_of}
 
 sum_same : (f g : ℕ → ℕ) (m : ℕ) → ((i : ℕ) → i < m → f i ≡ g i) → sum_to f m ≡ sum_to g m
@@ -112,12 +112,12 @@ module _ (cost : ℕ → ℕ) where
       omega (arith, ih, step, both, one)
 
   -- what the columns do together is the work of the block
-  pub columns_do_work : OrdersAreAdmissible → (r : Rates) (n : ℕ → ℕ) (rows : List (List (Option Firing))) (width : ℕ) →
+  pub columns_do_work : (r : Rates) (n : ℕ → ℕ) (rows : List (List (Option Firing))) (width : ℕ) →
       IsValid r n rows →
       ((i : ℕ) → i < length rows → length (row rows i) ≤ width) →
       sum_to (load_of cost rows) width ≡ work_of r.actors n cost
-  columns_do_work passes r n rows width v wide =
-      let pass = passes r n rows v in
+  columns_do_work r n rows width v wide =
+      let pass = orders_are_admissible r n rows v in
       let by_actor = actors_worth (order rows) r.actors (λ p h. (v.known p h).0) in
       let same = sum_same (λ a. times (sequence rows) a * cost a) (λ a. n a * cost a) r.actors
       (λ a h. ap (λ t. t * cost a) (pass.1 a h)) in

@@ -1,10 +1,7 @@
-//! Laws over the definitions, each the contract of a function that does nothing but call laws.
+//! Laws over the definitions, each the contract of a function that does nothing.
 
 ghost use Rattle.sdf_times.specs.Laws.{StartsExist, StartsAreLeast, StartsAreOne, BoundsHold, RowsAreNoSooner};
 ghost use Rattle.sdf_times.specs.Laws.{RowsAreOnTime};
-
-use sdf_graph::laws::cycles_begin_anew;
-use sdf_prec::laws::orders_are_passes;
 
 /// A valid table has times, and only one: the least at which each firing starts after those that come before it.
 pub fn starts_are_decided()
@@ -16,10 +13,7 @@ pub fn starts_are_decided()
 /// No table of a block in so many columns ends before the bound.
 pub fn bounds_hold()
     ensures { BoundsHold }
-{
-    cycles_begin_anew();
-    orders_are_passes();
-}
+{}
 
 /// In a table by Hu's rule no firing starts later than the rule starts its row.
 pub fn rows_are_no_sooner()

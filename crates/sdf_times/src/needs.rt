@@ -8,7 +8,6 @@ ghost use Rattle.sdf_times.specs.Walks.{IsNeedEnd, IsPrepared};
 
 use crate::starts::Starts;
 use sdf_graph::Graph;
-use sdf_graph::laws::graphs_are_sound;
 use sdf_prec::{Costs, Firing, needed};
 
 /// When the last of an actor's first `count` firings ends, or 0 where there is none.
@@ -44,7 +43,6 @@ pub(crate) fn ready(graph: &Graph, starts: &[Starts], costs: &Costs, firing: Fir
     requires prepared { IsPrepared (rates graph.now) (slice_index costs.now) starts.now firing }
     ensures { IsGreatest (IsNeedEnd (rates graph.now) (slice_index costs.now) (start_in starts.now) firing) result }
 {
-    graphs_are_sound();
     graph.channels();
     let mut time = ended(starts, costs, firing.actor, u64::from(firing.number));
     for number in graph.incoming(firing.actor) {

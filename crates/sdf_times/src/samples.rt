@@ -5,17 +5,13 @@ ghost use Rattle.sdf_graph.specs.Rates.{rates};
 ghost use Rattle.sdf_times.specs.Times.{IsBlockTable};
 
 use sdf_graph::Graph;
-use sdf_graph::laws::cycles_begin_anew;
 use sdf_prec::Table;
-use sdf_prec::laws::tables_count;
 
 /// The sum of the capacities of a table's channels, in samples.
 pub fn held(graph: &Graph, table: &Table) -> u64
     requires { (m : ℕ) × IsBlockTable (rates graph.now) m table.now }
     ensures { result ≡ sum table.now.caps }
 {
-    cycles_begin_anew();
-    tables_count();
     let mut held = 0;
     for channel in 0..graph.channels().len() {
         held += table.cap(channel);

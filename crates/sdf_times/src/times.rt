@@ -11,7 +11,6 @@ use crate::loads::loads;
 use crate::starts::{Starts, no_starts};
 use crate::walk::fire_row;
 use sdf_graph::Graph;
-use sdf_prec::laws::tables_count;
 use sdf_prec::{Costs, Firing, Table};
 use std::alloc::{AllocError, Global};
 use std::marker::Model;
@@ -65,7 +64,6 @@ impl Times {
         ensures loads { IfOk result (λ t. (j : ℕ) → j < m →
             slice_index t.loads j ≡ load_of (slice_index costs.now) table.now.rows j) }
     {
-        tables_count();
         let mut starts = no_starts(alloc, graph.actors())?;
         let mut until = vec![in alloc; 0u64; m]?;
         for i in 0..table.rows() {

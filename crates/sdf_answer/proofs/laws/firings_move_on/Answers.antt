@@ -1,15 +1,11 @@
-use Rattle.sdf_actor.proofs.Theorems.{nets_are_wired, ports_have_channels, taken_stays}
-use Rattle.sdf_answer.proofs.Moves.{blocks_are_counted, blocks_stand, firings_move_on}
+use Rattle.sdf_answer.proofs.Theorems.{blocks_are_counted, blocks_stand, firings_move_on}
 use Rattle.sdf_answer.proofs.laws.firings_move_on.Goals as goal
 
 pub returns-clause-counts : goal.returns-clause-counts
 returns-clause-counts g c = blocks_are_counted g.A.Actor.steps
 
 pub returns-clause-stand : goal.returns-clause-stand
-returns-clause-stand g c = blocks_stand g.A.Actor.steps (nets_are_wired g.A.Actor.steps)
-    (ports_have_channels g.A.Actor.steps)
+returns-clause-stand g c = blocks_stand g.A.Actor.steps
 
 pub returns-clause-moves : goal.returns-clause-moves
-returns-clause-moves g c =
-    firings_move_on g.A.Actor.steps (nets_are_wired g.A.Actor.steps) (ports_have_channels g.A.Actor.steps)
-    c.history_grows_by_firing.ensures (taken_stays g.A.Actor.steps)
+returns-clause-moves g c = firings_move_on g.A.Actor.steps c.history_grows_by_firing.ensures

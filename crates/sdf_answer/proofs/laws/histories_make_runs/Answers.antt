@@ -1,9 +1,8 @@
-use Rattle.sdf_actor.proofs.Theorems.{nets_are_wired}
-use Rattle.sdf_answer.proofs.Histories.{sinks_make_runs, nothing_runs}
+use Rattle.sdf_answer.proofs.Theorems.{nothing_runs, sinks_make_runs}
 use Rattle.sdf_answer.proofs.laws.histories_make_runs.Goals as goal
 
 pub returns-clause-runs : goal.returns-clause-runs
-returns-clause-runs g c = sinks_make_runs g.A.Actor.steps (nets_are_wired g.A.Actor.steps)
+returns-clause-runs g c = sinks_make_runs g.A.Actor.steps
 
 pub returns-clause-nothing : goal.returns-clause-nothing
-returns-clause-nothing g c = nothing_runs g.A.Actor.steps (nets_are_wired g.A.Actor.steps)
+returns-clause-nothing g c = nothing_runs g.A.Actor.steps

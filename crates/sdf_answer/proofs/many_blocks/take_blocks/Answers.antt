@@ -61,7 +61,7 @@ returns-clause-blocks g c =
     let past = c.loop-c-test.false in
     let none : sum_by (slice_index sizes) (drop i ports) ≡ 0 =
     ap (sum_by (slice_index sizes)) (drop_all i ports past) in
-    blocks_whole c.blocks_join.ensures (front_at sizes ports c.args.queues.now) c.args.size c.args.times c.loop-c.at
+    blocks_whole (front_at sizes ports c.args.queues.now) c.args.size c.args.times c.loop-c.at
     c.loop-c.blocks (c.loop-c.auto.blocks ∙ c.requires.length) (omega (arith, none, c.loop-c.invariant.at))
     (λ j m. c.loop-c.invariant.blocks j m
     ∙ ap (λ ps. front_at sizes ps c.args.queues.now j) (take_all i ports past))

@@ -4,6 +4,7 @@ use Rattle.sdf_graph.specs.Rates.{rates}
 use Rattle.sdf_graph.specs.Sequences.{repeated, IsPass}
 use Rattle.sdf_sched.specs.Pick.{IsPicked}
 use Rattle.sdf_sched.specs.Runs.{IsRunsChoice}
+use Rattle.sdf_sched.proofs.Theorems.{runs_stay}
 use Rattle.sdf_prec.specs.Blocks.{block}
 use Rattle.sdf_prec.specs.ByHomes.{AreByHomes}
 use Rattle.sdf_prec.proofs.Periods.{block_sum, block_pass}
@@ -25,7 +26,7 @@ class_s_of-requires-clause-some c =
     c.deref.ensures.value ∙ (c.in_ok-firings.ensures ∙ ap (block c.args.j) c.repetitions.ensures) in (
       w,
       subst (λ q. IsPass r (slice_index q) w) (sym firings_are)
-          (block_pass c.graph_laws.ensures c.args.graph.now c.channels.ensures.shape c.args.period.now
+          (block_pass c.args.graph.now c.channels.ensures.shape c.args.period.now
           c.requires.period c.args.j),
     )
 
@@ -77,7 +78,7 @@ returns-clause-runs c =
     c.in_ok-order.ensures.picked) in
     record {
       order = order;
-      in_runs = c.runs_stay.ensures g (slice_index q) order last picked;
+      in_runs = runs_stay g (slice_index q) order last picked;
       by = subst (λ w. AreByHomes c.args.homes.now c.args.m w c.in_ok-table.table.rows) c.deref-2.ensures.value
           c.in_ok-table.ensures.rows;
     }
@@ -91,7 +92,7 @@ returns-clause-homed c =
     let pass : IsPass r (slice_index q) c.deref-2.result.now = subst (IsPass r (slice_index q))
     (sym c.deref-2.ensures.value)
     (subst (λ q. IsPass r (slice_index q) c.in_ok-order.order.items) firings_are c.in_ok-order.ensures.pass) in
-    are_homed c.graph_laws.ensures r (slice_index q) c.deref-2.result.now pass c.args.homes.now c.args.m
+    are_homed r (slice_index q) c.deref-2.result.now pass c.args.homes.now c.args.m
     c.requires.homed c.in_ok-table.table c.in_ok-table.ensures.rows
     (c.in_ok-table.ensures.table (slice_index q) pass).exact
     (λ a l. block_fires c.args.j c.args.period.now.repetitions a c.requires.some

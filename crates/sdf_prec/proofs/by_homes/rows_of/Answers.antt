@@ -20,7 +20,7 @@ overflow_add-number c =
       arith,
       read,
       c.loop-actor.invariant.done a known,
-      times_small c.graph_laws.ensures w i a (omega (arith, c.loop-actor-test.true)),
+      times_small w i a (omega (arith, c.loop-actor-test.true)),
       c.loop-actor-test.true,
       c.requires.few,
     )
@@ -88,7 +88,7 @@ loop-actor-preserved c =
     c.deref.ensures.value ∙ (λ k. set (c.loop-actor.invariant.empty k) (at k) (Some (its k))) in
     record {
       each = length-set done a (number + 1) ∙ c.loop-actor.invariant.each;
-      done = counts_more c.graph_laws.ensures w done i c.args.actors (number + 1) c.loop-actor-test.true known
+      done = counts_more w done i c.args.actors (number + 1) c.loop-actor-test.true known
           c.loop-actor.invariant.each c.loop-actor.invariant.done (ap (λ k. k + 1) read);
       rows = rw c.in_ok-push.ensures.rows
           (by_homes_more c.args.homes.now c.args.m w i home.0 c.loop-actor.rows.rows

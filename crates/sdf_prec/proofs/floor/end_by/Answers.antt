@@ -1,6 +1,7 @@
 use Rattle.std.proofs.Common.{◌≡◌, ℕ, ◌+◌, ◌<◌, length, get_or, refl, sym, ◌∙◌, subst, arith}
 use Rattle.std.proofs.lemmas.List.{length-set}
 use Rattle.sdf_graph.specs.Rates.{Shape, rates}
+use Rattle.sdf_sched.proofs.Theorems.{enabled_stays}
 use Rattle.sdf_prec.specs.Queued.{IsApart}
 use Rattle.sdf_prec.proofs.Starts.{ending_begins, ending_more, ending_skips, rises_more}
 use Rattle.sdf_prec.proofs.Readies.{rested_more}
@@ -31,7 +32,7 @@ fire-requires-clause-enabled c =
     let same : get_or c.loop-column.counts.fired actor 0 ≡ get_or c.args.counts.now.fired actor 0 =
     v.ended.same actor (λ j l e is. let same = work.apart j i (omega (arith, c.loop-column-test.true))
     c.loop-column-test.true e its is in omega arith) in
-    rw v.same (c.enabled_stays.ensures (rates c.args.counts.now.graph) c.requires.sound
+    rw v.same (enabled_stays (rates c.args.counts.now.graph) c.requires.sound
     (λ a. get_or c.args.counts.now.fired a 0) (λ a. get_or c.loop-column.counts.fired a 0) actor (sym same)
     (λ b l. v.rises b) (work.on i c.loop-column-test.true its))
 

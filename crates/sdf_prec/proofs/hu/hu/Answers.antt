@@ -48,7 +48,7 @@ table_for-requires-clause-pass c =
     let p = c.args.period.now in
     let here = (goal.at.table_for-requires-clause-pass c).In_ok-firings in
     let pass = subst (λ n. IsPass (rates g) (λ a. get_or n a 0) (repeated c.args.j p.order)) (sym (firings_is here))
-    (block_pass c.graph_laws.ensures g c.channels.ensures.shape p c.requires.period c.args.j) in
+    (block_pass g c.channels.ensures.shape p c.requires.period c.args.j) in
     rw c.deref-2.ensures.value (repeated c.args.j p.order, pass)
 
 pub table_for-requires-clause-levels : goal.table_for-requires-clause-levels

@@ -1,5 +1,5 @@
-use Rattle.sdf_prec.proofs.RowFirings.{rows_may_fire}
+use Rattle.sdf_prec.proofs.Theorems.{rows_may_fire}
 use Rattle.sdf_prec.proofs.laws.rows_may_fire.Goals as goal
 
 pub returns : goal.returns
-returns c = rows_may_fire c.graph_laws.ensures
+returns c = rows_may_fire

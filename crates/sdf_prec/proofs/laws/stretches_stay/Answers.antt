@@ -1,4 +1,4 @@
-use Rattle.sdf_prec.proofs.Stays.{loops_stay, fed_stay}
+use Rattle.sdf_prec.proofs.Theorems.{fed_stay, loops_stay}
 use Rattle.sdf_prec.proofs.laws.stretches_stay.Goals as goal
 
 pub returns-clause-loops : goal.returns-clause-loops

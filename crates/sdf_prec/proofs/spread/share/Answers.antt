@@ -19,5 +19,5 @@ returns-clause-within c =
     ≡ share c.args.weights.now c.args.m c.args.first c.args.past =
     λ k. c.args.m * (c.weight_to.ensures.is k + c.weight_to-2.ensures.is k) / (2 * c.weight_to-all.ensures.is k) in
     subst (λ j. j < c.args.m) (sym is)
-    (share_within c.sums_rise.ensures.all c.args.weights.now c.requires.weights c.args.m c.args.first c.args.past
+    (share_within c.args.weights.now c.requires.weights c.args.m c.args.first c.args.past
     (omega (arith, c.requires.workers.0)) c.requires.order c.requires.known)

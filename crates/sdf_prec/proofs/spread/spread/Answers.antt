@@ -13,7 +13,7 @@ pub returns-clause-homed : goal.returns-clause-homed
 returns-clause-homed c =
     let end : c.loop-actor.actor ≡ c.args.graph.now.actors =
     omega (arith, c.loop-actor.auto.actor-end, c.loop-actor-test.false, c.actors-actor-end.ensures) in
-    spread_homed c.sums_rise.ensures.all (rates c.args.graph.now) c.args.weights.now c.args.m
+    spread_homed (rates c.args.graph.now) c.args.weights.now c.args.m
     c.loop-actor.homes.items c.requires.weights (omega (arith, c.requires.workers.0)) (record {
       all = c.loop-actor.invariant.all ∙ end;
       each = λ a l. c.loop-actor.invariant.each a (omega (arith, end));

@@ -13,7 +13,7 @@ overflow_add-moved c =
       rates.short,
       v.is,
       v.within,
-      few_moved c.cycles_begin_anew.ensures.small c.args.rates.now rates c.loop-moved.firings,
+      few_moved c.args.rates.now rates c.loop-moved.firings,
     )
 
 pub loop-moved-preserved : goal.loop-moved-preserved
@@ -26,7 +26,7 @@ loop-moved-preserved c =
     record {
       is = omega (arith, v.is, c.from-moved.ensures, one_more xs i within);
       within = omega (arith, within);
-      below = below_more c.sums_rise.ensures.all xs c.args.amount c.loop-moved.moved i v.is c.loop-moved-test.true;
+      below = below_more xs c.args.amount c.loop-moved.moved i v.is c.loop-moved-test.true;
     }
 
 pub returns-clause-least : goal.returns-clause-least

@@ -12,7 +12,7 @@ pub rounds_of-rounds-requires : goal.rounds_of-rounds-requires
 rounds_of-rounds-requires g c =
     omega (
       arith,
-      rows_few c.tables_count.ensures (rates (graph_of g.A.Actor.steps c.args.net.now))
+      rows_few (rates (graph_of g.A.Actor.steps c.args.net.now))
           c.args.plan.now.table.now.period.repetitions c.args.plan.now.table.now.factor c.args.plan.now.table.now.table
           c.requires.fits.period.least.is.all c.requires.fits.table,
       c.rows.ensures,

@@ -7,6 +7,7 @@ use Rattle.sdf_actor.specs.declared.sides.Lists.TheVariants.{Outputs}
 use Rattle.sdf_actor.specs.Sides.{list_count}
 use Rattle.sdf_answer.specs.Answer.{periods_of}
 use Rattle.sdf_answer.specs.Feeds.{HasRun}
+use Rattle.sdf_answer.proofs.Theorems.{nothing_runs}
 use Rattle.sdf_rows.specs.Collect.{AreCollected, AreKept}
 use Rattle.sdf_rows.proofs.Readings.{vec_long}
 use Rattle.sdf_rows.proofs.Ends.{row_run}
@@ -34,7 +35,7 @@ returns-in_ok-held-in-Some g c =
     subst (λ v. HasRun s n (lists c.args.inputs.now) (periods_of q (p.blocks * p.table.now.factor)) (lists v)
     rest) (sym whole)
     (row_run s n (lists c.args.inputs.now) q p.table.now.factor p.blocks over.0 run.states.items run.queues.items over.1
-    c.histories_make_runs.ensures.runs c.nodes_keep_states.ensures c.net_facts.ensures.net
+    c.net_facts.ensures.net
     made collected count rest c.in_ok-kept_by-in-Some.ensures.all
     (subst (λ ws. AreKept n ws rest.states.items) c.deref.ensures.value c.in_ok-kept_by-in-Some.ensures.each)
     (c.in_ok-held-in-Some.ensures ∙ ap (map (λ queue. queue.samples)) c.deref-in-Some.ensures.value))
@@ -44,7 +45,7 @@ returns-in_ok-first_rest-in-None g c =
     let n = c.args.net.now in
     let p = c.args.plan.now in
     let many_out = length-map c.in_ok-outputs.outputs.items (λ v. v.items) in
-    c.histories_make_runs.ensures.nothing n p.table.now.period.repetitions (p.blocks * p.table.now.factor)
+    nothing_runs g.A.Actor.steps n p.table.now.period.repetitions (p.blocks * p.table.now.factor)
     (lists c.args.inputs.now)
     (lists c.in_ok-outputs.outputs.items) c.in_ok-first_rest-in-None.field-0
     c.net_facts.ensures.net c.requires.inputs (omega

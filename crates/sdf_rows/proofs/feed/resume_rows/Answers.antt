@@ -4,6 +4,7 @@ use Rattle.sdf_graph.specs.Rates.{rates}
 use Rattle.sdf_actor.specs.Wires.{lists}
 use Rattle.sdf_answer.specs.Answer.{periods_of}
 use Rattle.sdf_answer.specs.Rows.{IsBlockTableOf}
+use Rattle.sdf_answer.proofs.Theorems.{begun_runs_fail, begun_runs_go_on, periods_may_leave}
 use Rattle.sdf_rows.proofs.feed.resume_rows.Goals as goal
 
 pub begun-requires-clause-rest : goal.begun-requires-clause-rest
@@ -11,7 +12,7 @@ begun-requires-clause-rest g c κs within =
     let q = c.args.plan.now.table.now.period.repetitions in (
       c.requires.rest.0,
       periods_of q c.requires.rest.1,
-      c.begun_nets_go_on.ensures.whole c.args.net.now c.args.plan.now.table.now.period c.requires.rest.1
+      periods_may_leave g.A.Actor.steps c.args.net.now c.args.plan.now.table.now.period c.requires.rest.1
           (c.nets_have_periods.ensures c.args.plan.now.table.now.period c.requires.fits.period),
       c.requires.rest.2,
     )
@@ -35,11 +36,11 @@ returns g c =
     let begins = c.in_ok-begun.ensures.begins in
     matched _ _ _ _
     (λ fed made. (
-      c.begun_nets_go_on.ensures.runs n m c.args.plan.now.table.now.period more later (lists fed.0.outputs.items)
+      begun_runs_go_on g.A.Actor.steps _ n m c.args.plan.now.table.now.period more later (lists fed.0.outputs.items)
           c.args.rest.now fed.1
           (c.nets_have_periods.ensures c.args.plan.now.table.now.period c.requires.fits.period) begins made.0 made.1,
       made.2,
     ))
-    (λ fault. c.begun_nets_go_on.ensures.faults n c.args.rest.now m c.args.plan.now.table.now.period.repetitions more
+    (λ fault. begun_runs_fail g.A.Actor.steps _ n c.args.rest.now m c.args.plan.now.table.now.period.repetitions more
     later fault begins)
     c.feed_rows.result c.feed_rows.ensures

@@ -9,8 +9,10 @@ use Rattle.sdf_graph.specs.Periods.{IsLeastPeriod}
 use Rattle.sdf_actor.specs.Graphs.{graph_of}
 use Rattle.sdf_actor.specs.Wires.{lists}
 use Rattle.sdf_actor.specs.declared.sides.Lists.TheVariants.{Outputs}
+use Rattle.sdf_actor.proofs.Theorems.{nets_are_wired}
 use Rattle.sdf_answer.specs.Periods.{CanRun}
 use Rattle.sdf_answer.specs.Rows.{IsTableOf}
+use Rattle.sdf_answer.proofs.Theorems.{blocks_are_small, nets_can_run, nets_have_periods}
 use Rattle.sdf_rows.specs.Blocks.{IsResting}
 use Rattle.sdf_prec.specs.Tables.{row}
 use Rattle.sdf_rows.proofs.Counts.{factor_few, firings_few}
@@ -29,12 +31,15 @@ run_blocks-requires-clause-start g c = λ κs within.
     let q = c.repetitions-repetitions.result.now in
     let same = c.repetitions-repetitions.ensures in
     let least = subst (IsLeastPeriod (rates (graph_of s n))) (sym same) c.requires.fits.period.least in
+    let facts = c.net_facts.ensures in
+    let has = nets_have_periods s n facts.net facts.graph facts.alike facts.accepted p.table.now.period
+    c.requires.fits.period in
     let can = subst (λ r. CanRun s n r (p.blocks * p.table.now.factor) (lists c.args.inputs.now)) (sym same)
-    (c.nets_can_run.ensures n p.table.now.period (p.blocks * p.table.now.factor) (lists c.args.inputs.now)
-    (c.nets_have_periods.ensures p.table.now.period c.requires.fits.period) c.requires.inputs) in
+    (nets_can_run g.A.Actor.steps n p.table.now.period (p.blocks * p.table.now.factor) (lists c.args.inputs.now)
+    has c.requires.inputs) in
     let short = subst (λ r. p.table.now.factor * sum r ≤ MOST_BLOCK) (sym same) c.requires.fits.table.short in
-    begins s c.histories_make_outputs.ensures.begin n c.net_facts.ensures.net
-    (c.nets_are_wired.ensures.wired n c.net_facts.ensures.net) q p.table.now.factor p.blocks
+    begins s n c.net_facts.ensures.net
+    (nets_are_wired g.A.Actor.steps n c.net_facts.ensures.net) q p.table.now.factor p.blocks
     (lists c.args.inputs.now) can
     short (omega arith)
     c.samples_of_blocks-room.result (c.samples_of_blocks-room.ensures
@@ -109,13 +114,15 @@ make_queues-requires-clause-short g c = λ κs within. λ a l.
 
 pub make_queues-requires-clause-few : goal.make_queues-requires-clause-few
 make_queues-requires-clause-few g c = λ κs within.
-    let has = c.nets_have_periods.ensures c.args.plan.now.table.now.period c.requires.fits.period in
-    factor_few c.args.plan.now.table.now.factor c.args.plan.now.table.now.period.repetitions has.shape.some
+    factor_few c.args.plan.now.table.now.factor c.args.plan.now.table.now.period.repetitions
+    c.net_facts.ensures.graph.some
     c.requires.fits.period.least.is.all c.requires.fits.period.least.is.positive c.requires.fits.table.short
 
 pub samples_of_blocks-room-requires : goal.samples_of_blocks-room-requires
 samples_of_blocks-room-requires g c =
     let j = c.args.plan.now.table.now.factor in
     let q = c.args.plan.now.table.now.period.repetitions in
-    let few = c.blocks_are_small.ensures j q Outputs c.requires.fits.period.least c.requires.fits.table.short in
+    let facts = c.net_facts.ensures in
+    let few = blocks_are_small g.A.Actor.steps c.args.net.now facts.net facts.graph facts.alike j q Outputs
+    c.requires.fits.period.least c.requires.fits.table.short in
     omega (arith, few, ap (λ m. j * m) (c.samples_out.ensures.value q c.requires.fits.period.least))

@@ -1,6 +1,7 @@
 use Rattle.std.proofs.Common.{◌+◌, ℕ, length, get_or, subst, sym, ap, ◌∙◌, arith}
 use Rattle.sdf_graph.specs.Rates.{rates}
 use Rattle.sdf_graph.specs.Sequences.{times}
+use Rattle.sdf_graph.proofs.Theorems.{graphs_are_sound}
 use Rattle.sdf_actor.specs.Graphs.{graph_of}
 use Rattle.sdf_prec.specs.Blocks.{block}
 use Rattle.sdf_prec.specs.Tables.{row, firings}
@@ -19,9 +20,9 @@ next : (g : Rattle.sdf_rows.proofs.runs.run_block.Given.Over) (c : In-loop-i g) 
     (row_actors (row c.args.timetable.now.table.now.rows c.loop-i.i))
 next g c =
     row_is g.A.Actor.steps c.args.scene.now.net.now (rates (graph_of g.A.Actor.steps c.args.scene.now.net.now))
-    c.net_facts.ensures.alike (c.graphs_are_sound.ensures (graph_of g.A.Actor.steps c.args.scene.now.net.now)
+    c.net_facts.ensures.alike (graphs_are_sound (graph_of g.A.Actor.steps c.args.scene.now.net.now)
     c.net_facts.ensures.graph)
-    c.rows_may_fire.ensures (λ a. get_or (block c.args.timetable.now.j c.args.timetable.now.repetitions.now) a 0)
+    (λ a. get_or (block c.args.timetable.now.j c.args.timetable.now.repetitions.now) a 0)
     c.args.timetable.now.table.now.rows c.requires.table.table.valid (λ a. get_or c.args.stage.now.done.items a 0)
     c.requires.round c.loop-i.i
     (omega (arith, c.loop-i-test.true, c.rows-i-end.ensures)) (λ a. get_or c.loop-i.stage.done.items a 0)
@@ -81,7 +82,7 @@ pub returns-clause-done : goal.returns-clause-done
 returns-clause-done g c = λ a l.
     let r = rates (graph_of g.A.Actor.steps c.args.scene.now.net.now) in
     c.loop-i.invariant.done a ∙ ap (λ t. get_or c.args.stage.now.done.items a 0 + t)
-    (block_counts c.orders_are_passes.ensures.admissible r
+    (block_counts r
     (λ a. get_or (block c.args.timetable.now.j c.args.timetable.now.repetitions.now) a 0)
     c.args.timetable.now.table.now.rows c.loop-i.i a
     c.requires.table.table.valid (omega (arith, c.loop-i-test.false, c.rows-i-end.ensures))

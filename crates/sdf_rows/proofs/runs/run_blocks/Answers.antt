@@ -1,5 +1,6 @@
 use Rattle.std.proofs.Common.{◌≡◌, ◌*◌, get_or, subst, ◌∙◌, arith}
 use Rattle.sdf_graph.specs.Rates.{rates}
+use Rattle.sdf_graph.proofs.Theorems.{graphs_are_sound, graphs_have_periods}
 use Rattle.sdf_actor.specs.Graphs.{graph_of}
 use Rattle.sdf_actor.specs.Wires.{lists}
 use Rattle.sdf_rows.specs.Blocks.{IsResting}
@@ -15,8 +16,8 @@ run_block-requires-clause-start g c = λ κs within.
     let j = c.args.timetable.now.j in (
       (λ a. c.args.blocks * (j * get_or q a 0)),
       block_begins s n (rates (graph_of s n)) c.net_facts.ensures.alike
-          (c.graphs_are_sound.ensures (graph_of s n) c.net_facts.ensures.graph) q
-          (c.graphs_have_periods.ensures (graph_of s n) q c.net_facts.ensures.graph c.requires.period.is)
+          (graphs_are_sound (graph_of s n) c.net_facts.ensures.graph) q
+          (graphs_have_periods (graph_of s n) q c.net_facts.ensures.graph c.requires.period.is)
           (lists c.args.scene.now.inputs.now) j c.args.blocks c.loop.counter (λ a. get_or c.loop.stage.done.items a 0)
           c.loop.stage.states.items
           c.loop.stage.queues.items c.loop.invariant.rests c.loop-test.true,
@@ -28,8 +29,8 @@ run_block-requires-clause-round g c = λ κs within.
     let n = c.args.scene.now.net.now in
     let q = c.args.timetable.now.repetitions.now in
     round_here s n (rates (graph_of s n)) c.net_facts.ensures.alike
-    (c.graphs_are_sound.ensures (graph_of s n) c.net_facts.ensures.graph)
-    q (c.graphs_have_periods.ensures (graph_of s n) q c.net_facts.ensures.graph c.requires.period.is)
+    (graphs_are_sound (graph_of s n) c.net_facts.ensures.graph)
+    q (graphs_have_periods (graph_of s n) q c.net_facts.ensures.graph c.requires.period.is)
     (lists c.args.scene.now.inputs.now) c.args.timetable.now.j c.args.blocks c.loop.counter
     (λ a. get_or c.loop.stage.done.items a 0)
     c.loop.stage.states.items c.loop.stage.queues.items c.loop.invariant.rests
@@ -47,15 +48,15 @@ loop-preserved g c =
     let j = c.args.timetable.now.j in
     let begins =
     block_begins s n (rates (graph_of s n)) c.net_facts.ensures.alike
-    (c.graphs_are_sound.ensures (graph_of s n) c.net_facts.ensures.graph) q
-    (c.graphs_have_periods.ensures (graph_of s n) q c.net_facts.ensures.graph c.requires.period.is)
+    (graphs_are_sound (graph_of s n) c.net_facts.ensures.graph) q
+    (graphs_have_periods (graph_of s n) q c.net_facts.ensures.graph c.requires.period.is)
     (lists c.args.scene.now.inputs.now) j c.args.blocks c.loop.counter (λ a. get_or c.loop.stage.done.items a 0)
     c.loop.stage.states.items
     c.loop.stage.queues.items c.loop.invariant.rests c.loop-test.true in
     record {
       rests = block_ends s n (rates (graph_of s n)) c.net_facts.ensures.alike
-          (c.graphs_are_sound.ensures (graph_of s n) c.net_facts.ensures.graph) q
-          (c.graphs_have_periods.ensures (graph_of s n) q c.net_facts.ensures.graph c.requires.period.is)
+          (graphs_are_sound (graph_of s n) c.net_facts.ensures.graph) q
+          (graphs_have_periods (graph_of s n) q c.net_facts.ensures.graph c.requires.period.is)
           (lists c.args.scene.now.inputs.now) j c.args.blocks c.loop.counter (λ a. get_or c.loop.stage.done.items a 0)
           c.loop.stage.states.items
           c.loop.stage.queues.items c.loop.invariant.rests

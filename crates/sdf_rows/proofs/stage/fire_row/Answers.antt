@@ -5,22 +5,10 @@ use Rattle.sdf_graph.specs.Sequences.{times}
 use Rattle.sdf_actor.specs.Wires.{lists}
 use Rattle.sdf_rows.specs.Jobs.{JobFits, HaveFired}
 use Rattle.sdf_rows.specs.Stage.{actors_of}
-use Rattle.sdf_rows.proofs.Known.{Known}
 use Rattle.sdf_rows.proofs.Fills.{all_fit, same_actors, all_back_here, fired_keep, row_over}
 use Rattle.sdf_rows.proofs.Keeps.{keep_twice}
 use Rattle.sdf_rows.proofs.stage.fire_row.Goals as goal
-use Rattle.sdf_rows.proofs.stage.fire_row.Goals.{After-row_laws, After-fire_jobs}
-
-net : (g : Rattle.sdf_rows.proofs.stage.fire_row.Given.Over) (c : After-row_laws g) →
-    Known g.A.Actor.steps c.args.scene.now.net.now
-net g c = record {
-  good = c.requires.scene.good;
-  wired = c.row_laws.ensures.wired c.args.scene.now.net.now c.requires.scene.good;
-  fit = c.row_laws.ensures.fit;
-  counts = c.row_laws.ensures.counts;
-  stand = c.row_laws.ensures.stand;
-  moves = c.row_laws.ensures.moves;
-}
+use Rattle.sdf_rows.proofs.stage.fire_row.Goals.{After-fire_jobs}
 
 -- each job has fired on the samples that stood on the channels
 fired : (g : Rattle.sdf_rows.proofs.stage.fire_row.Given.Over) (c : After-fire_jobs g) →
@@ -35,9 +23,9 @@ fire_jobs-requires-after_bounds g c = λ κs within.
     subst (λ qs. All (JobFits g.A.Actor.steps c.args.scene.now.net.now (lists c.args.scene.now.inputs.now)
     c.args.scene.now.sizes qs) c.args.jobs.now) (sym c.deref.ensures.value)
     (all_fit g.A.Actor.steps c.args.scene.now.net.now
-    (net g (goal.at.fire_jobs-requires-after_bounds g c).After-row_laws) c.args.scene.now.sizes
+    c.requires.scene.good c.args.scene.now.sizes
     c.requires.scene.sizes (lists c.args.scene.now.inputs.now)
-    c.row_laws.ensures.steps c.row_laws.ensures.phases b.0 b.1 b.2 (λ a. get_or c.args.stage.now.done.items a 0)
+    b.0 b.1 b.2 (λ a. get_or c.args.stage.now.done.items a 0)
     c.args.stage.now.states.items c.args.stage.now.queues.items c.args.jobs.now b.3)
 
 pub settle_row-requires-clause-back : goal.settle_row-requires-clause-back
@@ -47,9 +35,9 @@ settle_row-requires-clause-back g c = λ κs within.
       b.1,
       b.2,
       all_back_here g.A.Actor.steps c.args.scene.now.net.now
-          (net g (goal.at.settle_row-requires-clause-back g c).After-row_laws) c.args.scene.now.sizes
+          c.requires.scene.good c.args.scene.now.sizes
           c.requires.scene.sizes (lists c.args.scene.now.inputs.now)
-          c.row_laws.ensures.steps c.row_laws.ensures.phases b.0 b.1 b.2 (λ a. get_or c.args.stage.now.done.items a 0)
+          b.0 b.1 b.2 (λ a. get_or c.args.stage.now.done.items a 0)
           c.args.stage.now.states.items c.args.stage.now.queues.items c.args.jobs.now b.3
           c.fire_jobs.new.jobs c.fire_jobs.auto.jobs (fired g
           (goal.at.settle_row-requires-clause-back g c).After-fire_jobs),
@@ -61,9 +49,9 @@ returns-clause-settled g c = λ many low high was.
     let n = c.args.scene.now.net.now in
     let inputs = lists c.args.scene.now.inputs.now in
     let back =
-    all_back_here s n (net g (goal.at.returns-clause-settled g c).After-row_laws) c.args.scene.now.sizes
+    all_back_here s n c.requires.scene.good c.args.scene.now.sizes
     c.requires.scene.sizes inputs
-    c.row_laws.ensures.steps c.row_laws.ensures.phases many low high (λ a. get_or c.args.stage.now.done.items a 0)
+    many low high (λ a. get_or c.args.stage.now.done.items a 0)
     c.args.stage.now.states.items
     c.args.stage.now.queues.items c.args.jobs.now was
     c.fire_jobs.new.jobs c.fire_jobs.auto.jobs (fired g (goal.at.returns-clause-settled g c).After-fire_jobs) in
@@ -76,9 +64,9 @@ pub returns-clause-done : goal.returns-clause-done
 returns-clause-done g c = λ a.
     let b = c.requires.filled in
     let same =
-    same_actors g.A.Actor.steps c.args.scene.now.net.now (net g (goal.at.returns-clause-done g c).After-row_laws)
+    same_actors g.A.Actor.steps c.args.scene.now.net.now c.requires.scene.good
     c.args.scene.now.sizes c.requires.scene.sizes (lists c.args.scene.now.inputs.now)
-    c.row_laws.ensures.steps c.row_laws.ensures.phases b.0 b.1 b.2 (λ a. get_or c.args.stage.now.done.items a 0)
+    b.0 b.1 b.2 (λ a. get_or c.args.stage.now.done.items a 0)
     c.args.stage.now.states.items
     c.args.stage.now.queues.items c.args.jobs.now b.3
     c.fire_jobs.new.jobs c.fire_jobs.auto.jobs (fired g (goal.at.returns-clause-done g c).After-fire_jobs) in
@@ -88,9 +76,9 @@ pub returns-clause-blocks : goal.returns-clause-blocks
 returns-clause-blocks g c =
     let b = c.requires.filled in
     keep_twice c.args.jobs.now c.fire_jobs.new.jobs c.settle_row.new.jobs
-    (fired_keep g.A.Actor.steps c.args.scene.now.net.now (net g (goal.at.returns-clause-blocks g c).After-row_laws)
+    (fired_keep g.A.Actor.steps c.args.scene.now.net.now c.requires.scene.good
     c.args.scene.now.sizes c.requires.scene.sizes (lists c.args.scene.now.inputs.now)
-    c.row_laws.ensures.steps c.row_laws.ensures.phases b.0 b.1 b.2 (λ a. get_or c.args.stage.now.done.items a 0)
+    b.0 b.1 b.2 (λ a. get_or c.args.stage.now.done.items a 0)
     c.args.stage.now.states.items
     c.args.stage.now.queues.items c.args.jobs.now b.3
     c.fire_jobs.new.jobs c.fire_jobs.auto.jobs (fired g (goal.at.returns-clause-blocks g c).After-fire_jobs))

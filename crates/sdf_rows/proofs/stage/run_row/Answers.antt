@@ -49,8 +49,8 @@ fire_row-requires-clause-filled g c = λ κs within.
       subst (λ v. IsFilling s n (lists c.args.scene.now.inputs.now) b.0 b.1 b.2 (actors_of front) 0
           (λ a. get_or c.args.stage.now.done.items a 0) v c.args.stage.now.queues.items front)
           (sym (states g (goal.at.fire_row-requires-clause-filled g c).After-load_row-many))
-          (filling_front s n (lists c.args.scene.now.inputs.now) c.row_laws.ensures.phases
-          c.row_laws.ensures.counts b.0 b.1
+          (filling_front s n (lists c.args.scene.now.inputs.now)
+          b.0 b.1
           b.2 (λ a. get_or c.args.stage.now.done.items a 0) c.args.stage.now.states.items c.load_row-many.new.states
           c.args.stage.now.queues.items
           c.args.jobs.now c.load_row-many.new.jobs
@@ -71,8 +71,8 @@ returns-clause-between g c = λ many low high st is.
     (subst (λ v. IsFilling s n (lists c.args.scene.now.inputs.now) many low high (actors_of front) 0
     (λ a. get_or c.args.stage.now.done.items a 0) v c.args.stage.now.queues.items front)
     (sym (states g (goal.at.returns-clause-between g c).After-load_row-many))
-    (filling_front s n (lists c.args.scene.now.inputs.now) c.row_laws.ensures.phases
-    c.row_laws.ensures.counts many low
+    (filling_front s n (lists c.args.scene.now.inputs.now)
+    many low
     high (λ a. get_or c.args.stage.now.done.items a 0) c.args.stage.now.states.items c.load_row-many.new.states
     c.args.stage.now.queues.items
     c.args.jobs.now c.load_row-many.new.jobs
@@ -89,7 +89,7 @@ returns-clause-done g c = λ a.
     let s = g.A.Actor.steps in
     let n = c.args.scene.now.net.now in
     c.fire_row.ensures.done a ∙ ap (λ w. get_or c.args.stage.now.done.items a 0 + times w a)
-    (front_actors s n (lists c.args.scene.now.inputs.now) c.row_laws.ensures.phases c.row_laws.ensures.counts b.0 b.1
+    (front_actors s n (lists c.args.scene.now.inputs.now) b.0 b.1
     b.2 (λ a. get_or c.args.stage.now.done.items a 0) c.args.stage.now.states.items c.load_row-many.new.states
     c.args.stage.now.queues.items
     c.args.jobs.now c.load_row-many.new.jobs
@@ -105,7 +105,7 @@ returns-clause-blocks g c =
     let b = c.requires.between in
     let s = g.A.Actor.steps in
     let n = c.args.scene.now.net.now in
-    row_keeps s n (lists c.args.scene.now.inputs.now) c.row_laws.ensures.phases c.row_laws.ensures.counts b.0 b.1 b.2
+    row_keeps s n (lists c.args.scene.now.inputs.now) b.0 b.1 b.2
     (λ a. get_or c.args.stage.now.done.items a 0) c.args.stage.now.states.items c.load_row-many.new.states
     c.args.stage.now.queues.items c.args.jobs.now
     c.load_row-many.new.jobs

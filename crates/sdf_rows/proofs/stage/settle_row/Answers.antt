@@ -2,26 +2,15 @@ use Rattle.std.proofs.Common.{◌≡◌, ◌+◌, ℕ, length, get_or, slice_ind
 use Rattle.std.proofs.lemmas.List.{take_all, length-map, length-set}
 use Rattle.sdf_graph.specs.Sequences.{times}
 use Rattle.sdf_actor.specs.Wires.{lists}
+use Rattle.sdf_answer.proofs.Theorems.{firings_move_on}
 use Rattle.sdf_rows.specs.Stage.{actors_of}
 use Rattle.sdf_rows.specs.Stands.{IsSettling}
-use Rattle.sdf_rows.proofs.Known.{Known}
 use Rattle.sdf_rows.proofs.Settles.{Settling, can_settle, has_state, has_count, count_small, settled_next}
 use Rattle.sdf_rows.proofs.Settles.{counts_next}
 use Rattle.sdf_rows.proofs.Keeps.{kept_set}
 use Rattle.sdf_rows.proofs.stage.settle_row.Given.{Over}
 use Rattle.sdf_rows.proofs.stage.settle_row.Goals as goal
 use Rattle.sdf_rows.proofs.stage.settle_row.Goals.{In-loop-place}
-
-net : (g : Over) (c : In-loop-place g) →
-    Known g.A.Actor.steps c.args.scene.now.net.now
-net g c = record {
-  good = c.requires.scene.good;
-  wired = c.row_laws.ensures.wired c.args.scene.now.net.now c.requires.scene.good;
-  fit = c.row_laws.ensures.fit;
-  counts = c.row_laws.ensures.counts;
-  stand = c.row_laws.ensures.stand;
-  moves = c.row_laws.ensures.moves;
-}
 
 here : (g : Over) (c : In-loop-place g) (many low high : ℕ → ℕ) →
     IsSettling g.A.Actor.steps c.args.scene.now.net.now (lists c.args.scene.now.inputs.now) many low high
@@ -31,7 +20,8 @@ here : (g : Over) (c : In-loop-place g) (many low high : ℕ → ℕ) →
     low high (actors_of c.args.jobs.now) c.loop-place.place c.loop-place.stage.done.items
     c.loop-place.stage.states.items c.loop-place.stage.queues.items c.loop-place.jobs
 here g c many low high was = record {
-  net = net g c;
+  good = c.requires.scene.good;
+  moves = firings_move_on g.A.Actor.steps c.history_grows_by_firing.ensures;
   sizes = c.requires.scene.sizes;
   so_far = c.loop-place.invariant.settled many low high was;
   inside = omega (
@@ -80,7 +70,7 @@ loop-place-preserved g c =
       done = counts_next (now b.0 b.1 b.2 b.3) d c.settle_at.new.stage.queues.items c.settle_at.ensures.queues
           c.settle_at.new.stage.states.items c.settle_at.new.stage.done.items c.settle_at.new.job
           c.settle_at.ensures.states c.settle_at.ensures.done
-          c.counts_grow.ensures.last c.counts_grow.ensures.others c.args.stage.now.done.items
+          c.args.stage.now.done.items
           c.loop-place.invariant.done;
       counted = ap length c.settle_at.ensures.done
           ∙ (length-set _ _ _ ∙ c.loop-place.invariant.counted);

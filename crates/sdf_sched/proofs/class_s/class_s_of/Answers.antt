@@ -6,12 +6,12 @@ pub returns-clause-pass : goal.returns-clause-pass
 returns-clause-pass g c =
     is_pass _ g.P.Pick.chooses c.args.graph.now c.args.firings.now c.args.pick.now _ c.in_ok-order.order.items
     c.fire_greedily.new.pick c.in_ok-order.ensures
-    (graphs_are_sound c.args.graph.now c.channels.ensures.shape) c.stuck_counts_mean_deadlock.ensures
+    (graphs_are_sound c.args.graph.now c.channels.ensures.shape)
     c.requires.some.0 c.requires.some.1
 
 pub returns-clause-all : goal.returns-clause-all
 returns-clause-all g c =
     is_whole _ g.P.Pick.chooses c.args.graph.now c.args.firings.now c.args.pick.now _ c.in_ok-order.order.items
     c.fire_greedily.new.pick c.in_ok-order.ensures
-    (graphs_are_sound c.args.graph.now c.channels.ensures.shape) c.stuck_counts_mean_deadlock.ensures
+    (graphs_are_sound c.args.graph.now c.channels.ensures.shape)
     c.requires.some.0 c.requires.some.1 c.requires.all

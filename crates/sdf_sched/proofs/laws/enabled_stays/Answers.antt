@@ -1,5 +1,5 @@
-use Rattle.sdf_sched.proofs.Greedy.{IsEnabled_rises}
+use Rattle.sdf_sched.proofs.Theorems.{enabled_stays}
 use Rattle.sdf_sched.proofs.laws.enabled_stays.Goals as goal
 
 pub returns : goal.returns
-returns c = IsEnabled_rises
+returns c = enabled_stays

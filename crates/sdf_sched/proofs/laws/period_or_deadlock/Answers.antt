@@ -1,5 +1,5 @@
-use Rattle.sdf_sched.proofs.Decided.{period_or_deadlock}
+use Rattle.sdf_sched.proofs.Theorems.{period_or_deadlock}
 use Rattle.sdf_sched.proofs.laws.period_or_deadlock.Goals as goal
 
 pub returns : goal.returns
-returns c = period_or_deadlock c.stuck_means_deadlock.ensures
+returns c = period_or_deadlock

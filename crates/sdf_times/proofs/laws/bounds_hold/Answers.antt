@@ -2,4 +2,4 @@ use Rattle.sdf_times.proofs.Least.{bounds_hold}
 use Rattle.sdf_times.proofs.laws.bounds_hold.Goals as goal
 
 pub returns : goal.returns
-returns c = bounds_hold c.orders_are_passes.ensures.admissible c.cycles_begin_anew.ensures.small
+returns c = bounds_hold

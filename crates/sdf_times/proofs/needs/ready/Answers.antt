@@ -1,5 +1,6 @@
 use Rattle.std.proofs.Common.{ℕ, ◌+◌, get_or, arith, sym, subst}
 use Rattle.sdf_graph.specs.Rates.{rates}
+use Rattle.sdf_graph.proofs.Theorems.{graphs_are_sound}
 use Rattle.sdf_prec.specs.Costs.{AreCosts}
 use Rattle.sdf_times.specs.Times.{IsGreatest, start_in}
 use Rattle.sdf_times.specs.Walks.{IsAmongEnd}
@@ -55,7 +56,7 @@ loop-number-preserved c =
     let cost : ℕ → ℕ = λ a. get_or c.args.costs.now a 0 in
     let d : ℕ = get_or ins i 0 in
     let here = c.incoming-number-items.ensures.each i (omega (arith, c.loop-number-test.true)) in
-    let sound = c.graphs_are_sound.ensures c.args.graph.now c.channels.ensures.shape in
+    let sound = graphs_are_sound c.args.graph.now c.channels.ensures.shape in
     let more = need_more r cost c.args.starts.now c.args.firing c.requires.prepared ins sound i
     c.loop-number.time d c.needed-count.result c.source_of-source.result c.ended.result (λ _. d) here.0 here.1
     c.needed-count.ensures c.source_of-source.ensures

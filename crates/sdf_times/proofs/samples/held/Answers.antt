@@ -13,7 +13,7 @@ overflow_add-held c =
       c.loop-channel.auto.channel-end,
       ap length c.channels-channel-end.ensures.list,
     ) in
-    let low = cap_small c.cycles_begin_anew.ensures.small c.tables_count.ensures g shape c.requires.0 c.args.table.now
+    let low = cap_small g shape c.requires.0 c.args.table.now
     c.requires.1 c.loop-channel.channel known in
     omega (arith, low, c.cap-held.ensures, c.loop-channel.invariant.small, shape.narrow, known)
 
@@ -28,7 +28,7 @@ loop-channel-preserved c =
       c.loop-channel.auto.channel-end,
       ap length c.channels-channel-end.ensures.list,
     ) in
-    let low = cap_small c.cycles_begin_anew.ensures.small c.tables_count.ensures g shape c.requires.0 c.args.table.now
+    let low = cap_small g shape c.requires.0 c.args.table.now
     c.requires.1 i known in
     let more = sum_more c.args.table.now.caps i (omega (arith, known, c.requires.1.table.exact.caps_all)) in
     record {

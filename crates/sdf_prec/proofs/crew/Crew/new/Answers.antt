@@ -1,4 +1,5 @@
 use Rattle.std.proofs.Common.{rules, ◌≡◌, None, true, replicate, ap, ◌∙◌}
+use Rattle.sdf_graph.proofs.Theorems.{graphs_are_sound}
 use Rattle.sdf_prec.proofs.Crews.{idle_is}
 use Rattle.sdf_prec.proofs.crew.Crew.new.Goals as goal
 
@@ -12,4 +13,4 @@ invariant_of-result c =
     let homes : c.in_ok-vec-4.field-0.items ≡ replicate g.actors None = search rules in
     let marks = c.in_ok-of_all.ensures ∙ ap (λ n. replicate n true) c.actors-actors.ensures in
     rw (c.in_ok-new.ensures, started, whose, until, homes, c.new-2.ensures.items, marks)
-    (idle_is g c.args.width (c.graphs_are_sound.ensures g c.channels.ensures.shape))
+    (idle_is g c.args.width (graphs_are_sound g c.channels.ensures.shape))

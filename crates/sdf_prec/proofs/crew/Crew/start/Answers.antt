@@ -22,7 +22,7 @@ start-requires-clause-early c =
       arith,
       k.early,
       job.few,
-      few_ended _ _ _ _ _ _ _ _ _ _ row.floor k.fired_all job.firings_all c.sums_rise.ensures.lists,
+      few_ended _ _ _ _ _ _ _ _ _ _ row.floor k.fired_all job.firings_all,
     )
 
 pub start-requires-clause-known : goal.start-requires-clause-known

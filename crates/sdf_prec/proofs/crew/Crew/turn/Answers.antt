@@ -1,6 +1,7 @@
 use Rattle.std.proofs.Common.{ℕ, ◌<◌, length, get_or, sum, refl, Some, sym, ap, ◌∙◌, subst, arith}
 use Rattle.std.proofs.lemmas.Result.{IfOk-weaker}
 use Rattle.sdf_graph.specs.Rates.{Shape, rates}
+use Rattle.sdf_graph.proofs.Theorems.{lists_sum_within}
 use Rattle.sdf_prec.specs.Floor.{IsNextEnd}
 use Rattle.sdf_prec.specs.Numbers.{number}
 use Rattle.sdf_prec.specs.Floor.{IsNextReady}
@@ -26,7 +27,6 @@ end_by-requires-clause-room c =
     c.requires.done.2 in
     let job = subst (λ (x : Crewed). IsJobFor x.counts.graph c.args.job.now) (sym c.self.view_is) c.requires.job in
     room_left _ _ _ _ _ _ _ _ _ _ done.floor c.self.invariant.fired_all job.firings_all job.few
-    c.sums_rise.ensures.lists
 
 -- while the columns' firings end
 pub invariant_of-self : goal.invariant_of-self
@@ -45,7 +45,7 @@ invariant_of-self c =
       early = omega (
         arith,
         k.early,
-        c.sums_rise.ensures.lists i.counts.fired c.end_by.new.counts.fired (sym c.end_by.ensures.all)
+        lists_sum_within i.counts.fired c.end_by.new.counts.fired (sym c.end_by.ensures.all)
             c.end_by.ensures.rises,
       );
       soon = k.soon;
@@ -62,7 +62,7 @@ invariant_of-self-2 c =
     let ended = rw (c.deref.ensures.value, c.deref-2.ensures.value) at c.in_ok-end_by.ensures.ended in
     let early = shift_early (rates i.counts.graph) _ _ _ _ _ _ i.time c.args.next i.counts.fired
     c.end_by.new.counts.fired i.until.items _ _ _ k.sound done refl next ended c.end_by.ensures.rises
-    c.sums_rise.ensures.lists c.end_by.ensures.all k.early k.soon in
+    c.end_by.ensures.all k.early k.soon in
     let same = ap (λ (g : Shape). g.actors) (sym c.end_by.ensures.same) in
     record {
       sound = rw c.end_by.ensures.same k.sound;
@@ -86,7 +86,7 @@ add_row-requires-clause-due c =
     c.requires.next in
     let ended = rw (c.deref.ensures.value, c.deref-2.ensures.value) at c.in_ok-end_by.ensures.ended in
     let due = shift_due (rates i.counts.graph) _ _ _ _ _ _ i.time c.args.next i.counts.fired c.end_by.new.counts.fired
-    i.until.items _ _ _ k.sound done refl next ended c.end_by.ensures.rises c.enabled_stays.ensures in
+    i.until.items _ _ _ k.sound done refl next ended c.end_by.ensures.rises in
     (c.requires.done.0, c.requires.done.1, rw c.end_by.ensures.same due)
 
 pub returns-clause-more : goal.returns-clause-more
@@ -99,7 +99,7 @@ returns-clause-more c =
     c.requires.next in
     let ended = rw (c.deref.ensures.value, c.deref-2.ensures.value) at c.in_ok-end_by.ensures.ended in
     let more = shift_sum (rates i.counts.graph) _ _ _ _ _ _ i.time c.args.next i.counts.fired c.end_by.new.counts.fired
-    i.until.items _ _ _ k.sound done refl next ended c.end_by.ensures.rises c.sums_rise.ensures.lists
+    i.until.items _ _ _ k.sound done refl next ended c.end_by.ensures.rises
     c.end_by.ensures.all in
     rw c.add_row.ensures.counts (IfOk-weaker c.add_row.result _ _ (λ _ _. subst (λ (x : Crewed).
     sum x.counts.fired < sum c.end_by.new.counts.fired) c.self.view_is more) c.add_row.ensures.done)
@@ -121,7 +121,7 @@ add_row-requires-clause-queue c =
     let later = queue_later (number job.levels.now) (IsNextReady r n (λ a. get_or i.counts.fired a 0) started)
     (IsNextReady r n (λ a. get_or new a 0) started) i.queue.items q (IsUnmarked c.end_by.new.marks)
     (ready_on r n _ _ started _ _ i.counts.fired new ended c.end_by.ensures.rises
-    (at_next _ _ _ _ _ _ _ _ _ _ done.floor c.args.next next.0) c.enabled_stays.ensures k.sound)
+    (at_next _ _ _ _ _ _ _ _ _ _ done.floor c.args.next next.0) k.sound)
     (λ f h u. ready_before r n _ _ started _ _ i.counts.fired new ended c.end_by.ensures.rises
     (at_next _ _ _ _ _ _ _ _ _ _ done.floor c.args.next next.0) f h (c.in_ok-end_by.ensures.rested f.actor u)) in
     rw c.end_by.ensures.same later

@@ -1,6 +1,7 @@
 use Rattle.std.proofs.Common.{◌≡◌, ℕ, ◌+◌, ◌≤◌, List, get_or, sum, map, Option, sym, ap, ◌∙◌, subst, arith}
 use Rattle.sdf_limits.specs.declared.TheConstants.{MOST_BLOCK}
 use Rattle.sdf_graph.specs.Rates.{rates}
+use Rattle.sdf_graph.proofs.Theorems.{graphs_are_sound, graphs_have_periods}
 use Rattle.sdf_prec.specs.declared.firing.Firing.{Firing}
 use Rattle.sdf_prec.specs.Blocks.{block}
 use Rattle.sdf_prec.proofs.Periods.{block_sum}
@@ -25,8 +26,8 @@ rows_fault-requires-clause-enough c =
     let r = rates g in
     λ d l. subst (λ n. r.consumed d (get_or n (r.target d) 0) ≤ r.initial d + r.produced d (get_or n (r.source d) 0))
     (sym c.in_ok-firings.ensures)
-    (block_balanced r (c.graphs_are_sound.ensures g c.channels.ensures.shape) c.args.reps.now
-    (c.graphs_have_periods.ensures g c.args.reps.now c.channels.ensures.shape c.requires) c.args.j d l)
+    (block_balanced r (graphs_are_sound g c.channels.ensures.shape) c.args.reps.now
+    (graphs_have_periods g c.args.reps.now c.channels.ensures.shape c.requires) c.args.j d l)
 
 pub of_rows-requires : goal.of_rows-requires
 of_rows-requires c =
@@ -35,8 +36,8 @@ of_rows-requires c =
     let reps = c.args.reps.now in
     let n : ℕ → ℕ = λ a. get_or (block c.args.j reps) a 0 in
     let rs : List (List (Option Firing)) = map (λ r. r.items) c.args.rows.items in
-    let valid = valid_if_none c.tests_suffice.ensures c.needs_exist.ensures g c.channels.ensures.shape
-    (c.graphs_are_sound.ensures g c.channels.ensures.shape) reps c.args.j m
+    let valid = valid_if_none g c.channels.ensures.shape
+    (graphs_are_sound g c.channels.ensures.shape) reps c.args.j m
     c.in_ok-fault.field-0 (map (λ r. r.items) c.deref.result.now) rs c.in_ok-firings.firings.items c.in_default-2.is
     (ap (map (λ r. r.items)) c.deref.ensures.value) c.in_ok-firings.ensures c.in_ok-fault.ensures in
     let kept : c.in_ok-kept.kept.rows ≡ tidied m rs =
@@ -53,8 +54,8 @@ returns c =
     let reps = c.args.reps.now in
     let n : ℕ → ℕ = λ a. get_or (block c.args.j reps) a 0 in
     let rs : List (List (Option Firing)) = map (λ r. r.items) c.args.rows.items in
-    let valid = valid_if_none c.tests_suffice.ensures c.needs_exist.ensures g c.channels.ensures.shape
-    (c.graphs_are_sound.ensures g c.channels.ensures.shape) reps c.args.j m
+    let valid = valid_if_none g c.channels.ensures.shape
+    (graphs_are_sound g c.channels.ensures.shape) reps c.args.j m
     c.in_ok-fault.field-0 (map (λ r. r.items) c.deref.result.now) rs c.in_ok-firings.firings.items c.in_default-2.is
     (ap (map (λ r. r.items)) c.deref.ensures.value) c.in_ok-firings.ensures c.in_ok-fault.ensures in
     let kept : c.in_ok-kept.kept.rows ≡ tidied m rs =

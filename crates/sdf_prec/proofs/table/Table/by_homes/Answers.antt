@@ -17,7 +17,7 @@ by_order-requires-clause-pass c =
     c.deref.ensures.value ∙ (c.in_ok-order.ensures ∙ ap (λ w. repeated c.args.j w) c.order.ensures) in
     let size : IsSize c.args.j c.args.m c.args.period.now.repetitions =
     subst (IsSize c.args.j c.args.m) c.repetitions.ensures c.in_default.ensures.0 in
-    let pass = block_pass c.graph_laws.ensures c.args.graph.now c.channels.ensures.shape c.args.period.now
+    let pass = block_pass c.args.graph.now c.channels.ensures.shape c.args.period.now
     c.requires c.args.j in (
       n,
       subst (IsPass r n) (sym order_is) pass,
@@ -48,7 +48,7 @@ returns c =
     let n : ℕ → ℕ = λ a. get_or (block c.args.j c.args.period.now.repetitions) a 0 in
     let order_is : c.deref.result.now ≡ repeated c.args.j c.args.period.now.order =
     c.deref.ensures.value ∙ (c.in_ok-order.ensures ∙ ap (λ w. repeated c.args.j w) c.order.ensures) in
-    let pass = block_pass c.graph_laws.ensures c.args.graph.now c.channels.ensures.shape c.args.period.now
+    let pass = block_pass c.args.graph.now c.channels.ensures.shape c.args.period.now
     c.requires c.args.j in (
       subst (IsSize c.args.j c.args.m) c.repetitions.ensures c.in_default.ensures.0,
       c.in_ok-table.ensures.table n (subst (IsPass (rates c.args.graph.now) n) (sym order_is) pass),

@@ -1,9 +1,10 @@
-use Rattle.std.proofs.Common.{◌≡◌, length, get_or, ap, ◌∙◌, subst, arith}
+use Rattle.std.proofs.Common.{◌≡◌, length, get_or, sym, ap, ◌∙◌, subst, arith}
 use Rattle.std.proofs.lemmas.List.{take_all}
 use Rattle.sdf_graph.specs.Rates.{rates}
-use Rattle.sdf_graph.specs.Sequences.{times}
+use Rattle.sdf_graph.specs.Sequences.{times, IsAdmissible}
 use Rattle.sdf_prec.specs.Tables.{order, sequence, Stands, IsValid, IsOfBlock, IsGreatestHeld}
 use Rattle.sdf_prec.proofs.RowMarks.{in_order}
+use Rattle.sdf_prec.proofs.Theorems.{orders_are_admissible}
 use Rattle.sdf_prec.proofs.table.Table.of_rows.Goals as goal
 
 pub homes-requires : goal.homes-requires
@@ -17,6 +18,13 @@ homes-requires c =
     subst (IsOfBlock (rates c.args.graph.now) c.requires.0) all.2 (v.known all.0 all.1) in
     omega (arith, known.0, c.actors.ensures)
 
+pub capacities-requires-clause-admissible : goal.capacities-requires-clause-admissible
+capacities-requires-clause-admissible c =
+    let r = rates c.args.graph.now in
+    let rs = c.args.rows.rows in
+    subst (IsAdmissible r) (sym (c.deref.ensures.value ∙ c.in_ok-order.ensures))
+    (orders_are_admissible r c.requires.0 rs c.requires.1).0
+
 pub capacities-requires-clause-few : goal.capacities-requires-clause-few
 capacities-requires-clause-few c =
     let rs = c.args.rows.rows in
@@ -24,7 +32,7 @@ capacities-requires-clause-few c =
     λ a l. omega (
       arith,
       ap (λ w. times w a) order_is,
-      (c.orders_are_passes.ensures.admissible (rates c.args.graph.now) c.requires.0 rs c.requires.1).1 a l,
+      (orders_are_admissible (rates c.args.graph.now) c.requires.0 rs c.requires.1).1 a l,
       c.requires.2 a,
     )
 

@@ -31,7 +31,7 @@ fire_row-requires-clause-table c =
 pub fire_row-requires-clause-short : goal.fire_row-requires-clause-short
 fire_row-requires-clause-short c = omega (
   arith,
-  rows_small c.tables_count.ensures (rates c.args.graph.now) c.args.m c.args.table.now c.requires.table,
+  rows_small (rates c.args.graph.now) c.args.m c.args.table.now c.requires.table,
   c.loop-i-test.true,
 )
 
@@ -43,7 +43,7 @@ loads-requires-clause-known c =
     λ i j f e. omega (arith, (cells.known i j f e).0, c.requires.costs.all)
 
 pub loads-requires-clause-short : goal.loads-requires-clause-short
-loads-requires-clause-short c = rows_small c.tables_count.ensures (rates c.args.graph.now) c.args.m c.args.table.now
+loads-requires-clause-short c = rows_small (rates c.args.graph.now) c.args.m c.args.table.now
     c.requires.table
 
 -- the walk at the end of the table
