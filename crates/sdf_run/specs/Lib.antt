@@ -1,8 +1,1 @@
-pub mod Firings
-pub mod Runs
-pub mod AtOnce
-pub mod Cycles
-pub mod Many
-pub mod Sweeps
-pub mod Fired
 pub mod Sessions

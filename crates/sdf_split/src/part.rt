@@ -12,7 +12,7 @@ use crate::cut::cut;
 use sdf_actor::{Actor, Net, Rest};
 use sdf_answer::RunFault;
 use sdf_answer::laws::{histories_make_runs, net_facts, nets_can_run};
-use sdf_run::{Passage, Spares, resume_one_in};
+use sdf_one::{Passage, Spares, resume_one_in};
 use sdf_sched::Period;
 use std::alloc::Global;
 use std::mem;

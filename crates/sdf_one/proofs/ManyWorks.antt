@@ -1,0 +1,192 @@
+-- An actor's work over so many cycles, and what its firings take and put.
+use Rattle.std.proofs.Common.{◌≡◌, ℕ, zero, suc, ◌+◌, ◌*◌, ◌≤◌, ◌<◌, List, [], ◌∷◌, ◌++◌, length}
+use Rattle.std.proofs.Common.{get_or, refl, sym, ap, ◌∙◌, subst, inl, inr, ◌⊎◌, arith}
+use Rattle.std.specs.Borrow.{Bor}
+use Rattle.std.specs.Global.{Global}
+use Rattle.std.specs.List.{flat_map, sum_by}
+use Rattle.std.proofs.lemmas.Bool.{cases_eq, cases_lt}
+use Rattle.std.proofs.lemmas.List.{length-append}
+use Rattle.std.proofs.lemmas.List.{get_or_append_left, get_or_push}
+use Rattle.std.proofs.lemmas.List.Sums.{sum_by-cons}
+use Rattle.std.specs.declared.vec.Vec.{Vec}
+use Rattle.sdf_actor.specs.declared.node.Node.{Node}
+use Rattle.sdf_actor.specs.declared.node.Node.TheVariants as node
+use Rattle.sdf_actor.specs.Steps.{Steps, phase, sum_in, sum_out, block_at, state_at, puts_to}
+use Rattle.sdf_actor.specs.Steps.{state_after}
+use Rattle.sdf_actor.specs.Histories.{Wiring, taken, taken_before}
+use Rattle.sdf_actor.specs.Nets as nets
+use Rattle.sdf_actor.specs.Nets.{Netlist, wiring}
+use Rattle.sdf_one.specs.declared.cycles.Cycles.{Cycles}
+use Rattle.sdf_one.specs.declared.work.Work.{Work}
+use Rattle.sdf_one.specs.declared.work.Work.TheVariants.{Source, Sink, Inner}
+use Rattle.sdf_answer.specs.Held.{Held}
+use Rattle.sdf_answer.specs.Blocks.{samples}
+use Rattle.sdf_answer.specs.Sizes.{Rows, AreSizes}
+use Rattle.sdf_one.specs.Cycles.{AreCycles}
+use Rattle.sdf_node.specs.Many.{joined}
+use Rattle.sdf_one.specs.Many.{HasRows, Fit, HaveManyWorked}
+use Rattle.sdf_one.specs.Runs.{HasBlocks, IsWork, Stands}
+use Rattle.sdf_one.proofs.WholeCycles as cycle
+use Rattle.sdf_one.proofs.Known.{Known}
+
+-- what an actor's work says of its node
+pub inner_work : {A S T Z : Type 0} (s : Steps A S T) (inputs : List (List T)) (outputs : List (Vec T Z)) (many : ℕ)
+    (x : Node A) (past : List (List T)) (actor : Bor A) (j : ℕ) (state : S) (taken put : Vec T Global)
+    (lengths : Vec ℕ Global) →
+    IsWork s inputs outputs many x past (Inner actor j state taken put lengths) →
+    (x ≡ node.Inner actor.now) × (j ≡ phase s actor.now (length past)) × (state ≡ state_after s actor.now past)
+    × HasBlocks s actor.now taken put lengths
+inner_work s inputs outputs many (node.Source ext block) past actor j state taken put lengths is = absurd is
+inner_work s inputs outputs many (node.Sink ext block) past actor j state taken put lengths is = absurd is
+inner_work s inputs outputs many (node.Inner x) past actor j state taken put lengths is = (
+  ap node.Inner (sym is.0),
+  is.1 ∙ ap (λ y. phase s y (length past)) (sym is.0),
+  is.2 ∙ ap (λ y. state_after s y past) (sym is.0),
+  subst (λ y. HasBlocks s y taken put lengths) (sym is.0) is.3,
+)
+
+-- and stays where its blocks keep their room
+pub worked_same : {A S T Z : Type 0} (s : Steps A S T) (inputs : List (List T)) (outputs : List (Vec T Z))
+    (many times : ℕ)
+    (x : Node A) (past : List (List T)) (actor : Bor A) (j : ℕ) (state : S) (taken put : Vec T Global)
+    (lengths : Vec ℕ Global) (b : List T) (y : Work A T S) →
+    HaveManyWorked s times (Inner actor j state taken put lengths) b y →
+    IsWork s inputs outputs many x past
+    (Inner actor j (state_at s actor.now j state b (times * s.cycle actor.now)) taken put lengths) →
+    IsWork s inputs outputs many x past y
+worked_same s inputs outputs many times (node.Inner x) past actor j state taken put lengths b
+    (Inner actor' j' state' taken' put' lengths') worked is =
+    let same : lengths'.items ≡ lengths.items = ap (λ v. v.items) worked.5 in
+    let blocks = is.3 in (
+      ap (λ y. y.now) worked.0 ∙ is.0,
+      worked.1 ∙ is.1,
+      worked.2 ∙ is.2,
+      record {
+        some = blocks.some;
+        cycle = ap length same ∙ blocks.cycle;
+        taken_fits = λ i h. omega (arith, blocks.taken_fits i h, worked.3);
+        put_fits = λ i h. omega (arith, blocks.put_fits i h, worked.4);
+        taken_cycle = omega (arith, blocks.taken_cycle, worked.3);
+        put_cycle = omega (arith, blocks.put_cycle, worked.4);
+        lengths_are = λ i h. ap (λ ls. get_or ls i 0) same ∙ blocks.lengths_are i h;
+      },
+    )
+worked_same s inputs outputs many times (node.Source ext block) past actor j state taken put lengths b y worked is =
+    absurd is
+worked_same s inputs outputs many times (node.Sink ext block) past actor j state taken put lengths b y worked is =
+    absurd is
+worked_same s inputs outputs many times (node.Inner x) past actor j state taken put lengths b (Source ext next block)
+    worked is = absurd worked
+worked_same s inputs outputs many times (node.Inner x) past actor j state taken put lengths b (Sink ext) worked is =
+    absurd worked
+
+-- an actor's blocks have room for a cycle, and its phases have their rows
+module _ {A S T Z : Type 0} (s : Steps A S T) (n : Netlist A T) (net : Known s n) (z : Rows) (sizes : AreSizes s n z)
+    (y : Cycles) (cycles : AreCycles s n y) (inputs : List (List T)) (outputs : List (Vec T Z)) (many a : ℕ)
+    (known : a < length n.nodes) (past : List (List T)) where
+  pub its_blocks : (w : Work A T S) → IsWork s inputs outputs many (nets.node n a) past w →
+      Fit w (sum_by (λ c. get_or y.takes.items c 0) ((wiring s n).ins a))
+      (sum_by (λ c. get_or y.puts.items c 0) ((wiring s n).outs a)) 1
+  its_blocks (Source ext next block) is = tt
+  its_blocks (Sink ext) is = tt
+  its_blocks (Inner actor j state taken put lengths) is =
+      let it = inner_work s inputs outputs many (nets.node n a) past actor j state taken put lengths is in
+      let turn : 1 * s.cycle actor.now ≡ s.cycle actor.now = omega arith in (
+        omega (
+          arith,
+          it.3.taken_cycle,
+          cycle.all_in s n net z sizes y cycles a known actor.now it.0 1,
+          ap (sum_in s actor.now 0) turn,
+        ),
+        omega (
+          arith,
+          it.3.put_cycle,
+          cycle.all_out s n net z sizes y cycles a known actor.now it.0 1,
+          ap (sum_out s actor.now 0) turn,
+        ),
+      )
+
+  pub has_rows : (w : Work A T S) → IsWork s inputs outputs many (nets.node n a) past w →
+      HasRows s z w ((wiring s n).ins a) ((wiring s n).outs a)
+  has_rows (Source ext next block) is = tt
+  has_rows (Sink ext) is = tt
+  has_rows (Inner actor j state taken put lengths) is =
+      let it = inner_work s inputs outputs many (nets.node n a) past actor j state taken put lengths is in (
+        cycle.rows_in s n net z sizes y cycles a known actor.now it.0,
+        cycle.rows_out s n net z sizes y cycles a known actor.now it.0,
+      )
+
+-- a run stands where what it holds is the same
+pub stands_along : {A S T Z : Type 0} (s : Steps A S T) (n : Netlist A T) (inputs : List (List T)) (many k m : ℕ → ℕ)
+    (works works' : List (Work A T S)) (qs qs' : List (Held T)) (outputs : List (Vec T Z)) → k ≡ m →
+    (st : Stands s n inputs many k works qs outputs) → length works' ≡ length works → length qs' ≡ length qs →
+    ((c : ℕ) → c < length n.wires → samples qs' c ≡ samples qs c) →
+    ((b : ℕ) (d : Work A T S) → b < length n.nodes →
+    IsWork s inputs outputs (many b) (nets.node n b) (taken_before (wiring s n) st.history b (k b))
+    (get_or works b d) →
+    IsWork s inputs outputs (many b) (nets.node n b) (taken_before (wiring s n) st.history b (k b))
+    (get_or works' b d)) →
+    Stands s n inputs many m works' qs' outputs
+stands_along s n inputs many k m works works' qs qs' outputs same st same_works same_queues left each =
+    subst (λ j. Stands s n inputs many j works' qs' outputs) same
+    (record {
+      history = st.history;
+      is = st.is;
+      channels = same_queues ∙ st.channels;
+      left = λ c l. left c l ∙ st.left c l;
+      nodes = same_works ∙ st.nodes;
+      each = λ b d l. each b d l (st.each b d l);
+    })
+
+-- what so many firings put is what each puts, one after another
+pub puts_chained : {A S T : Type 0} (s : Steps A S T) (x : A) (j : ℕ) (state : S) (b : List T) (i : ℕ) →
+    puts_to s x j state b i ≡ joined (λ i. s.puts x (phase s x (j + i)) (state_at s x j state b i)
+    (block_at s x j b i)) i
+puts_chained s x j state b zero = refl
+puts_chained s x j state b (suc i) = ap (λ ys. ys
+    ++ s.puts x (phase s x (j + i)) (state_at s x j state b i) (block_at s x j b i)) (puts_chained s x j state b i)
+
+-- what a firing took, of those before another
+pub taken_at : {T : Type 0} (f : Wiring T) (V : ℕ → List T) (a : ℕ) → ((i : ℕ) → length (taken_before f V a i) ≡ i) →
+    (i e : ℕ) → e < i → get_or (taken_before f V a i) e [] ≡ taken f V a e
+taken_at f V a counts zero e l = absurd (omega arith)
+taken_at f V a counts (suc i) e l = go (λ less. taken_at f V a counts i e less) (cases_lt e i)
+  where
+    long : length (taken_before f V a i) ≡ i
+    long = counts i
+
+    go : (e < i → get_or (taken_before f V a i) e [] ≡ taken f V a e) → (e < i) ⊎ (i ≤ e) →
+        get_or (taken_before f V a i ++ taken f V a i ∷ []) e [] ≡ taken f V a e
+    go before (inl less) = get_or_append_left (taken_before f V a i) (taken f V a i ∷ []) [] e
+        (omega (arith, long)) ∙ before less
+    go before (inr last) =
+        let same : i ≡ e = omega arith in
+        get_or_push (taken_before f V a i) (taken f V a i) [] e (long ∙ same) ∙ ap (taken f V a) same
+
+-- parts that have their lengths, joined
+pub parts_long : {T : Type 0} (g : ℕ → List T) (size : ℕ → ℕ) (ds : List ℕ) →
+    ((i : ℕ) → i < length ds → length (g (get_or ds i 0)) ≡ size (get_or ds i 0)) →
+    length (flat_map g ds) ≡ sum_by size ds
+parts_long g size [] long = refl
+parts_long g size (d ∷ ds) long =
+    let one : length (g d) ≡ size d = long 0 (omega arith) in
+    let rest : length (flat_map g ds) ≡ sum_by size ds = parts_long g size ds (λ i l. long (suc i) (omega arith)) in
+    omega (arith, length-append (g d) (flat_map g ds), sum_by-cons size d ds)
+
+-- a channel is at one of the ports, or at none
+pub place : (ds : List ℕ) (c : ℕ) → ((p : ℕ) × (p < length ds) × (get_or ds p 0 ≡ c))
+    ⊎ ((p : ℕ) → p < length ds → get_or ds p 0 ≡ c → ⊥)
+place [] c = inr (λ p l e. absurd (omega arith))
+place (d ∷ ds) c = go (cases_eq d c) (place ds c)
+  where
+    go : (d ≡ c) ⊎ (d ≡ c → ⊥) → ((p : ℕ) × (p < length ds) × (get_or ds p 0 ≡ c))
+        ⊎ ((p : ℕ) → p < length ds → get_or ds p 0 ≡ c → ⊥) →
+        ((p : ℕ) × (p < length (d ∷ ds)) × (get_or (d ∷ ds) p 0 ≡ c))
+        ⊎ ((p : ℕ) → p < length (d ∷ ds) → get_or (d ∷ ds) p 0 ≡ c → ⊥)
+    go (inl e) later = inl (0, (let l : 0 < length (d ∷ ds) = omega arith in l), e)
+    go (inr ne) (inl at) = inl (suc at.0, (let l : suc at.0 < length (d ∷ ds) = omega (arith, at.1) in l), at.2)
+    go (inr ne) (inr none) = inr others
+      where
+        others : (p : ℕ) → p < length (d ∷ ds) → get_or (d ∷ ds) p 0 ≡ c → ⊥
+        others zero l e = ne e
+        others (suc p) l e = none p (omega arith) e

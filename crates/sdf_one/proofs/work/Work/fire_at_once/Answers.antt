@@ -1,0 +1,73 @@
+use Rattle.std.proofs.Common.{◌≡◌, ◌+◌, ◌-◌, ◌*◌, ◌≤◌, ◌<◌, ◌++◌, ℕ, length, get_or, arith, ap, sym, ◌∙◌}
+use Rattle.std.specs.List.{between}
+use Rattle.std.proofs.Math.Facts.{Fits-le}
+use Rattle.std.proofs.lemmas.List.{length-map, get_or_default}
+use Rattle.std.proofs.lemmas.List.Edits.{length-between}
+use Rattle.sdf_actor.specs.Wires.{lists}
+use Rattle.sdf_answer.specs.Blocks.{nothing}
+use Rattle.sdf_answer.specs.Lists.{list}
+use Rattle.sdf_one.proofs.FiringAtOnce.{fired_source, fired_sink}
+use Rattle.sdf_one.proofs.Readings.{list_fits, list_is}
+use Rattle.sdf_one.proofs.work.Work.fire_at_once.Goals as goal
+
+pub overflow_mul-last : goal.overflow_mul-last
+overflow_mul-last g c =
+    let can = rw c.in-Source.is at c.requires.work in
+    let less : c.in-Source.block * c.args.times ≤ length (list c.args.inputs.now c.in-Source.ext) =
+    omega (arith, can.4) in
+    Fits-le less (list_fits c.args.inputs.now c.in-Source.ext
+    (omega (arith, can.3, length-map c.args.inputs.now (λ v. v.items))))
+
+pub overflow_add-last : goal.overflow_add-last
+overflow_add-last g c =
+    let can = rw c.in-Source.is at c.requires.work in
+    Fits-le can.4 (list_fits c.args.inputs.now c.in-Source.ext
+    (omega (arith, can.3, length-map c.args.inputs.now (λ v. v.items))))
+
+pub put-requires : goal.put-requires
+put-requires g c =
+    let can = rw c.in-Source.is at c.requires.work in
+    let to : ℕ = get_or c.args.ports.now.outs.channels.now 0 0 in
+    let last : ℕ = c.in-Source.next + c.in-Source.block * c.args.times in
+    let known : to < length c.args.queues.now = c.requires.outs_are.known 0 (omega (arith, can.1)) in
+    let x = get_or_default c.args.queues.now to nothing c.index-queues-ports.result known in
+    let fits : length (get_or c.args.queues.now to c.index-queues-ports.result).samples
+    + c.args.times * get_or c.args.ports.now.outs.sizes.now to 0 ≤
+    (get_or c.args.queues.now to c.index-queues-ports.result).room =
+    rw (sym x) (c.requires.room 0 (omega (arith, can.1))) in
+    let items : list c.args.inputs.now c.in-Source.ext ≡ c.deref.result.now =
+    list_is c.args.inputs.now c.in-Source.ext c.index-inputs-ext.result
+    (omega (arith, can.3, length-map c.args.inputs.now (λ v. v.items)))
+    ∙ (ap (λ v. v.items) (sym c.index-inputs-ext.is) ∙ sym c.deref.ensures.value) in
+    let long : length (between c.in-Source.next last c.deref.result.now) ≡ last - c.in-Source.next =
+    length-between c.deref.result.now c.in-Source.next last (omega (arith, can.4, ap length items)) in
+    omega (arith, fits, can.2)
+
+pub returns-in-Source : goal.returns-in-Source
+returns-in-Source g c =
+    let can = rw c.in-Source.is at c.requires.work in
+    let last : ℕ = c.in-Source.next + c.in-Source.block * c.args.times in
+    let items : list c.args.inputs.now c.in-Source.ext ≡ c.deref.result.now =
+    list_is c.args.inputs.now c.in-Source.ext c.index-inputs-ext.result
+    (omega (arith, can.3, length-map c.args.inputs.now (λ v. v.items)))
+    ∙ (ap (λ v. v.items) (sym c.index-inputs-ext.is) ∙ sym c.deref.ensures.value) in
+    fired_source g.A.Actor.steps (lists c.args.inputs.now) c.args.times c.args.ports.now.ins.channels.now
+    c.args.ports.now.outs.channels.now c.args.ports.now.ins.sizes.now c.args.ports.now.outs.sizes.now c.args.queues.now
+    c.args.outputs.now
+    c.args.self.now c.in-Source.ext c.in-Source.next c.in-Source.block c.put.new.self c.index-queues-ports.result
+    c.in-Source.is c.requires
+    (ap (λ q. q.samples) c.put.ensures ∙ ap (λ ys.
+    (get_or c.args.queues.now (get_or c.args.ports.now.outs.channels.now 0 0) c.index-queues-ports.result).samples
+    ++ between c.in-Source.next last ys) (sym items))
+    (ap (λ q. q.room) c.put.ensures)
+
+pub returns-in-Sink : goal.returns-in-Sink
+returns-in-Sink g c =
+    let from : ℕ = get_or c.args.ports.now.ins.channels.now 0 0 in
+    fired_sink g.A.Actor.steps (lists c.args.inputs.now) c.args.times c.args.ports.now.ins.channels.now
+    c.args.ports.now.outs.channels.now c.args.ports.now.ins.sizes.now c.args.ports.now.outs.sizes.now c.args.queues.now
+    c.args.outputs.now
+    c.args.self.now c.in-Sink.ext c.take.new.list c.index-outputs-ext.result c.take.new.self
+    c.index-queues-from-in-Sink.result c.in-Sink.is c.requires
+    c.take.ensures.list c.take.ensures.capacity (ap (λ q. q.samples) c.take.ensures.queue)
+    (ap (λ q. q.room) c.take.ensures.queue)

@@ -1,0 +1,42 @@
+-- A run that has fired all its periods, and what it leaves.
+use Rattle.std.specs.Prelude.{◌≡◌, ℕ, ◌*◌, ◌<◌, List, length, slice_index, Option, Some, None}
+use Rattle.std.specs.declared.vec.Vec.{Vec}
+use Rattle.sdf_graph.specs.Rates.{rates}
+use Rattle.sdf_sched.specs.Period.{IsPeriodOf}
+use Rattle.sdf_actor.specs.declared.sides.Lists.TheVariants.{Outputs}
+use Rattle.sdf_actor.specs.Graphs.{graph_of}
+use Rattle.sdf_actor.specs.Nets.{Netlist}
+use Rattle.sdf_actor.specs.Sides.{list_count, period_samples}
+use Rattle.sdf_actor.specs.Steps.{Steps}
+use Rattle.sdf_actor.specs.Wires.{lists}
+use Rattle.sdf_answer.specs.Answer.{HasInputs, periods_of}
+use Rattle.sdf_answer.specs.Lists.{AreEmpty}
+use Rattle.sdf_one.specs.declared.fired.Passage.{Passage}
+use Rattle.sdf_one.specs.declared.run.Run.{Run}
+use Rattle.sdf_one.specs.declared.work.Work.{Work}
+use Rattle.sdf_one.specs.declared.work.Work.TheVariants.{Source, Sink, Inner}
+use Rattle.sdf_one.specs.Runs.{Stands}
+
+-- a period of the net, and inputs that hold so many
+pub record IsPassage {A S T : Type 0} (s : Steps A S T) (p : Passage A T S) : Type 0 where
+  pub period : IsPeriodOf (rates (graph_of s p.net.now)) p.period.now
+  pub inputs : HasInputs p.net.now p.period.now.repetitions p.periods (lists p.inputs.now)
+
+-- empty output lists, with room for what it makes
+abbrev pub TakeWhatItMakes : {A S T Z : Type 0} → Passage A T S → List (Vec T Z) → Type 0
+TakeWhatItMakes p outputs = AreEmpty outputs (list_count Outputs p.net.now.nodes)
+    (p.periods * period_samples p.net.now.nodes Outputs p.period.now.repetitions)
+
+-- each node has fired so many periods of q on these inputs, and all stands where the history ends
+pub record HasFiredPeriods {A S T : Type 0} (s : Steps A S T) (n : Netlist A T) (inputs : List (List T)) (q : List ℕ)
+    (periods : ℕ) (r : Run A T S) : Type 0 where
+  pub outputs : length r.outputs.items ≡ list_count Outputs n.nodes
+  pub done : (a : ℕ) → a < length n.nodes → slice_index r.done.items a ≡ periods_of q periods a
+  pub stands : Stands s n inputs (periods_of q periods) (slice_index r.done.items) r.works.items r.queues.items
+      r.outputs.items
+
+-- the state of an actor at work
+abbrev pub state_in : {A S T : Type 0} → Work A T S → Option S
+state_in (Source ext next size) = None
+state_in (Sink ext) = None
+state_in (Inner actor phase state taken put lengths) = Some state

@@ -1,0 +1,7 @@
+pub mod Firings
+pub mod Runs
+pub mod AtOnce
+pub mod Cycles
+pub mod Many
+pub mod Sweeps
+pub mod Fired

@@ -1,0 +1,212 @@
+//! A run on one thread that another one goes on from.
+
+ghost use Rattle.std.specs.Prelude.{◌≡◌, ◌^◌, ◌<◌, ℕ, List, map, MatchResult, IfOk};
+ghost use Rattle.sdf_graph.specs.Rates.{rates};
+ghost use Rattle.sdf_sched.specs.Period.{IsPeriodOf};
+ghost use Rattle.sdf_actor.specs.Graphs.{graph_of};
+ghost use Rattle.sdf_actor.specs.Rests.{IsRest};
+ghost use Rattle.sdf_actor.specs.Sides.{period_samples};
+ghost use Rattle.sdf_actor.specs.Wires.{lists};
+ghost use Rattle.sdf_actor.specs.declared.sides.Lists.TheVariants.{Inputs};
+ghost use Rattle.sdf_answer.specs.Answer.{HasInputs, periods_of, IsRunFault};
+ghost use Rattle.sdf_answer.specs.Feeds.{HasRun, GoesOnBy};
+ghost use Rattle.sdf_one.specs.Fired.{IsPassage, TakeWhatItMakes, state_in};
+
+use crate::fired::{Passage, fired};
+use crate::spares::Spares;
+use crate::work::Work;
+use sdf_actor::{Actor, Begun, Net, Rest};
+use sdf_answer::inputs::{are_inputs, first_sample};
+use sdf_answer::laws::{begun_nets_go_on, histories_make_runs, net_facts, nets_have_periods};
+use sdf_answer::queue::held;
+use sdf_answer::{Ran, RunFault};
+use sdf_sched::Period;
+use std::alloc::{AllocError, Global};
+
+/// A copy of the state of an actor at work.
+fn state_of<A: Actor>(alloc: Global, work: &Work<A>) -> Result<Option<A::State>, AllocError>
+    ensures { IfOk result (λ state. state ≡ state_in work.now) }
+{
+    match work {
+        Work::Inner { actor, state, .. } => Ok(Some(actor.again(alloc, state)?)),
+        _ => Ok(None),
+    }
+}
+
+/// Copies of the states of all actors.
+fn states_of<A: Actor>(
+    alloc: Global,
+    works: &[Work<A>],
+) -> Result<Vec<Option<A::State>>, AllocError>
+    ensures { IfOk result (λ v. v.items ≡ map state_in works.now) }
+{
+    let mut states = Vec::new(alloc);
+    for work in works {
+        states.push(state_of(alloc, work)?)?;
+    }
+    Ok(states)
+}
+
+/// What a run makes and leaves.
+fn run<A: Actor>(
+    alloc: Global,
+    passage: Passage<'_, A>,
+    filler: A::Token,
+    outputs: Vec<Vec<A::Token>>,
+    spares: &mut Spares<A::Token>,
+) -> Result<(Vec<Vec<A::Token>>, Rest<A::Token, A::State>), AllocError>
+    requires passage { IsPassage A.steps passage }
+    requires short { passage.periods < 2 ^ 32 }
+    requires outputs { TakeWhatItMakes passage outputs.items }
+    ensures { IfOk result (λ made. HasRun A.steps passage.entry.net.now (lists passage.entry.inputs.now)
+        (periods_of passage.entry.period.now.repetitions passage.entry.periods) (lists made.0.items) made.1) }
+{
+    net_facts(passage.net);
+    histories_make_runs::<A>();
+    sdf_actor::laws::nets_are_wired::<A>();
+    let finished = fired(alloc, passage, filler, outputs, &mut spares.queues)?;
+    let rest = Rest {
+        states: states_of(alloc, &finished.works)?,
+        held: held(alloc, &finished.queues)?,
+    };
+    spares.queues = finished.queues;
+    Ok((finished.outputs, rest))
+}
+
+/// Returns what a run makes and leaves. Without a sample nothing fires, and the memory of earlier queues is freed.
+fn fill<A: Actor>(
+    alloc: Global,
+    passage: Passage<'_, A>,
+    outputs: Vec<Vec<A::Token>>,
+    spares: &mut Spares<A::Token>,
+) -> Result<(Vec<Vec<A::Token>>, Rest<A::Token, A::State>), AllocError>
+    requires passage { IsPassage A.steps passage }
+    requires short { passage.periods < 2 ^ 32 }
+    requires some { 0 < period_samples passage.net.now.nodes Inputs passage.period.now.repetitions }
+    requires outputs { TakeWhatItMakes passage outputs.items }
+    ensures { IfOk result (λ made. HasRun A.steps passage.entry.net.now (lists passage.entry.inputs.now)
+        (periods_of passage.entry.period.now.repetitions passage.entry.periods) (lists made.0.items) made.1) }
+{
+    net_facts(passage.net);
+    histories_make_runs::<A>();
+    match first_sample(passage.inputs) {
+        Some(filler) => run(alloc, passage, filler, outputs, spares),
+        None => {
+            spares.queues = Vec::new(alloc);
+            Ok((outputs, passage.net.first_rest(alloc)?))
+        }
+    }
+}
+
+/// Runs a net as `run_one` does, and gives what the run leaves beside what it makes. `Net::begun` goes on from there.
+pub fn feed_one<A: Actor>(
+    alloc: Global,
+    net: &Net<A>,
+    period: &Period,
+    periods: u32,
+    inputs: &[Vec<A::Token>],
+) -> Result<(Ran<A::Token>, Rest<A::Token, A::State>), RunFault>
+    requires period { IsPeriodOf (rates (graph_of A.steps net.now)) period.now }
+    ensures { let q = period.now.repetitions in MatchResult result
+        (λ fed. HasInputs net.now q periods (lists inputs.now)
+        × HasRun A.steps net.now (lists inputs.now) (periods_of q periods) (lists fed.0.outputs.items) fed.1
+        × (fed.0.rounds ≡ 0))
+        (IsRunFault net.now q periods (lists inputs.now)) }
+{
+    feed_one_in(
+        alloc,
+        net,
+        period,
+        periods,
+        inputs,
+        &mut Spares::none(alloc),
+    )
+}
+
+/// Runs a net as `feed_one` does, in the memory that earlier runs left in `spares`.
+fn feed_one_in<A: Actor>(
+    alloc: Global,
+    net: &Net<A>,
+    period: &Period,
+    periods: u32,
+    inputs: &[Vec<A::Token>],
+    spares: &mut Spares<A::Token>,
+) -> Result<(Ran<A::Token>, Rest<A::Token, A::State>), RunFault>
+    requires period { IsPeriodOf (rates (graph_of A.steps net.now)) period.now }
+    ensures { let q = period.now.repetitions in MatchResult result
+        (λ fed. HasInputs net.now q periods (lists inputs.now)
+        × HasRun A.steps net.now (lists inputs.now) (periods_of q periods) (lists fed.0.outputs.items) fed.1
+        × (fed.0.rounds ≡ 0))
+        (IsRunFault net.now q periods (lists inputs.now)) }
+{
+    let least = periods as usize * net.samples_in();
+    if !are_inputs(inputs, net.inputs(), least) {
+        return Err(RunFault::InputLength);
+    }
+    let room = periods as usize * net.samples_out();
+    let outputs = spares.take_outputs(alloc, net.outputs(), room)?;
+    let passage = Passage {
+        net,
+        period,
+        periods,
+        inputs,
+    };
+    let (outputs, rest) = fill(alloc, passage, outputs, spares)?;
+    Ok((Ran { outputs, rounds: 0 }, rest))
+}
+
+/// Goes on from where runs of a net left it, with all samples read: by further periods on further inputs. What it
+/// makes, joined to what they made, is what one run on all inputs makes.
+pub fn resume_one<A: Actor>(
+    alloc: Global,
+    net: &Net<A>,
+    period: &Period,
+    rest: &Rest<A::Token, A::State>,
+    periods: u32,
+    inputs: &[Vec<A::Token>],
+) -> Result<(Ran<A::Token>, Rest<A::Token, A::State>), RunFault>
+    requires period { IsPeriodOf (rates (graph_of A.steps net.now)) period.now }
+    requires rest { (first : List (List A.Token)) × (few : ℕ)
+        × IsRest A.steps net.now first (periods_of period.now.repetitions few) rest.now }
+    ensures { let q = period.now.repetitions in MatchResult result
+        (λ fed. GoesOnBy A.steps net.now q rest.now periods (lists inputs.now) (lists fed.0.outputs.items) fed.1
+        × (fed.0.rounds ≡ 0))
+        (IsRunFault net.now q periods (lists inputs.now)) }
+{
+    let passage = Passage {
+        net,
+        period,
+        periods,
+        inputs,
+    };
+    resume_one_in(alloc, passage, rest, &mut Spares::none(alloc))
+}
+
+/// Goes on as `resume_one` does, in the memory that earlier runs left in `spares`, and leaves its own there. In this
+/// way a sound that is run in many pieces asks for most of its memory once.
+pub fn resume_one_in<A: Actor>(
+    alloc: Global,
+    passage: Passage<'_, A>,
+    rest: &Rest<A::Token, A::State>,
+    spares: &mut Spares<A::Token>,
+) -> Result<(Ran<A::Token>, Rest<A::Token, A::State>), RunFault>
+    requires period { IsPeriodOf (rates (graph_of A.steps passage.net.now)) passage.period.now }
+    requires rest { (first : List (List A.Token)) × (few : ℕ)
+        × IsRest A.steps passage.net.now first (periods_of passage.period.now.repetitions few) rest.now }
+    ensures { let q = passage.entry.period.now.repetitions in MatchResult result
+        (λ fed. GoesOnBy A.steps passage.entry.net.now q rest.now passage.entry.periods
+        (lists passage.entry.inputs.now) (lists fed.0.outputs.items) fed.1
+        × (fed.0.rounds ≡ 0))
+        (IsRunFault passage.entry.net.now q passage.entry.periods (lists passage.entry.inputs.now)) }
+{
+    let Passage {
+        net,
+        period,
+        periods,
+        inputs,
+    } = passage;
+    nets_have_periods(net);
+    begun_nets_go_on::<A, Begun<A>>();
+    let begun = net.begun(alloc, rest)?;
+    feed_one_in(alloc, &begun, period, periods, inputs, spares)
+}

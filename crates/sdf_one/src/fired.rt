@@ -1,0 +1,98 @@
+//! The firings of a run on one thread.
+
+ghost use Rattle.std.specs.Prelude.{◌≡◌, ◌^◌, ◌≤◌, ◌<◌, map, IfOk};
+ghost use Rattle.sdf_actor.specs.Wires.{lists};
+ghost use Rattle.sdf_one.specs.Fired.{IsPassage, TakeWhatItMakes, HasFiredPeriods};
+
+use crate::cycles::make_cycles;
+use crate::run::Run;
+use crate::setup::make_works;
+use sdf_actor::{Actor, Net};
+use sdf_answer::laws::{histories_make_outputs, net_facts, nets_can_run, nets_have_periods};
+use sdf_answer::rooms::renew_queues;
+use sdf_answer::{Queue, Sizes};
+use sdf_sched::Period;
+use std::alloc::{AllocError, Global};
+
+/// How many samples of an input a block of periods reads, where a period reads no more.
+const BLOCK: usize = 4096;
+
+/// How often each node has fired before a run.
+fn none_done(alloc: Global, repetitions: &[u32]) -> Result<Vec<usize>, AllocError>
+    ensures { IfOk result (λ v. v.items ≡ map (λ _. 0) repetitions.now) }
+{
+    repetitions.iter().map(|_| 0usize).collect(alloc)
+}
+
+/// How many periods make a block of some thousand samples, where a period reads so many.
+fn block_periods(samples: usize) -> u32
+    requires { 0 < samples }
+    ensures some { 0 < result }
+    ensures few { result ≤ 4096 }
+{
+    if samples > BLOCK {
+        1
+    } else {
+        (BLOCK / samples) as u32
+    }
+}
+
+/// A net, its period, and the inputs on which it is run for `periods` periods.
+#[derive_where(Clone, Copy)]
+pub struct Passage<'a, A: Actor> {
+    pub net: &'a Net<A>,
+    pub period: &'a Period,
+    pub periods: u32,
+    /// The input lists, by number.
+    pub inputs: &'a [Vec<A::Token>],
+}
+
+/// Fires all periods of a run, whose queues are made in the buffers of `spares`.
+pub(crate) fn fired<'a, A: Actor>(
+    alloc: Global,
+    passage: Passage<'a, A>,
+    filler: A::Token,
+    outputs: Vec<Vec<A::Token>>,
+    spares: &mut [Queue<A::Token>],
+) -> Result<Run<'a, A>, AllocError>
+    requires passage { IsPassage A.steps passage }
+    requires short { passage.periods < 2 ^ 32 }
+    requires outputs { TakeWhatItMakes passage outputs.items }
+    ensures { IfOk result (λ run. HasFiredPeriods A.steps passage.entry.net.now (lists passage.entry.inputs.now)
+        passage.entry.period.now.repetitions passage.entry.periods run) }
+{
+    let Passage {
+        net,
+        period,
+        periods,
+        inputs,
+    } = passage;
+    net_facts(net);
+    nets_have_periods(net);
+    nets_can_run::<A>();
+    histories_make_outputs::<A>();
+    sdf_actor::laws::nets_are_wired::<A>();
+    let sizes = Sizes::new(alloc, net)?;
+    let cycles = make_cycles(alloc, net)?;
+    let works = make_works(alloc, net, &sizes, filler)?;
+    let repetitions = period.repetitions();
+    let size = block_periods(net.samples_in());
+    let queues = renew_queues(alloc, net, repetitions, size, filler, spares)?;
+    let done = none_done(alloc, repetitions)?;
+    let mut run = Run {
+        net,
+        inputs,
+        sizes,
+        cycles,
+        repetitions,
+        periods,
+        high: 0,
+        done,
+        works,
+        queues,
+        outputs,
+        filler,
+    };
+    run.fire_all(size);
+    Ok(run)
+}

@@ -1,0 +1,302 @@
+//! A run on one thread.
+
+ghost use Rattle.std.specs.Prelude.{◌≡◌, ◌+◌, ◌*◌, ◌≤◌, ◌<◌, ◌↔◌, ℕ, true, false, length, slice_index};
+ghost use Rattle.std.specs.Prelude.{IsTrue};
+ghost use Rattle.sdf_actor.specs.Nets.{wiring};
+ghost use Rattle.sdf_actor.specs.Steps.{PutsFit};
+ghost use Rattle.sdf_answer.specs.Sizes.{at_phase};
+ghost use Rattle.sdf_one.specs.AtOnce.{CanFireAtOnceAt, AreFiredAt};
+ghost use Rattle.sdf_one.specs.Many.{CanFireManyAt, AreManyFiredAt, GoManyAt, firings_in};
+ghost use Rattle.sdf_one.specs.Runs.{FiringLaws, HoldsOfWork, CanFireAt, IsFiredAt};
+ghost use Rattle.sdf_one.specs.Sweeps.{IsSwept, MayFire, HasRoom, Keeps, IsMoved, IsLeft, AreHeld};
+
+use crate::block::{blocks_held, hold_blocks};
+use crate::cycles::Cycles;
+use crate::work::{NodePorts, Work};
+use sdf_actor::{Actor, Net, Side};
+use sdf_answer::blocks::Ports;
+use sdf_answer::{Queue, Sizes};
+
+/// What a run holds. Its net, inputs, sizes, cycles, period and length stay as they are.
+#[derive(Drop)]
+pub(crate) struct Run<'a, A: Actor> {
+    pub(crate) net: &'a Net<A>,
+    pub(crate) inputs: &'a [Vec<A::Token>],
+    pub(crate) sizes: Sizes,
+    pub(crate) cycles: Cycles,
+    /// How often each node fires in a period.
+    pub(crate) repetitions: &'a [u32],
+    /// How many periods there are in all.
+    pub(crate) periods: u32,
+    /// How many of them there are up to the end of the block.
+    pub(crate) high: u32,
+    /// How often each node has fired.
+    pub(crate) done: Vec<usize>,
+    /// The work of each node.
+    pub(crate) works: Vec<Work<'a, A>>,
+    /// The samples on each channel.
+    pub(crate) queues: Vec<Queue<A::Token>>,
+    pub(crate) outputs: Vec<Vec<A::Token>>,
+    /// A sample to fill up buffers with.
+    pub(crate) filler: A::Token,
+}
+
+/// The ports of a node, and what its firings at a phase move there.
+fn ports_at<'b, A: Actor>(net: &'b Net<A>, sizes: &'b Sizes, a: usize, phase: u32) -> NodePorts<'b>
+    requires known { a < length net.now.nodes }
+    requires takes { phase < length sizes.now.takes }
+    requires puts { phase < length sizes.now.puts }
+    ensures ins { result.ins.channels.now ≡ (wiring A.steps net.entry.now).ins a }
+    ensures takes { result.ins.sizes.now ≡ at_phase sizes.entry.now.takes phase }
+    ensures outs { result.outs.channels.now ≡ (wiring A.steps net.entry.now).outs a }
+    ensures puts { result.outs.sizes.now ≡ at_phase sizes.entry.now.puts phase }
+{
+    NodePorts {
+        ins: Ports {
+            channels: net.channels_in(a),
+            sizes: sizes.on(Side::Input, phase),
+        },
+        outs: Ports {
+            channels: net.channels_out(a),
+            sizes: sizes.on(Side::Output, phase),
+        },
+    }
+}
+
+/// The ports of a node, and what its cycles move there.
+fn ports_of<'b, A: Actor>(net: &'b Net<A>, cycles: &'b Cycles, a: usize) -> NodePorts<'b>
+    requires { a < length net.now.nodes }
+    ensures ins { result.ins.channels.now ≡ (wiring A.steps net.entry.now).ins a }
+    ensures takes { result.ins.sizes.now ≡ cycles.entry.now.takes.items }
+    ensures outs { result.outs.channels.now ≡ (wiring A.steps net.entry.now).outs a }
+    ensures puts { result.outs.sizes.now ≡ cycles.entry.now.puts.items }
+{
+    NodePorts {
+        ins: Ports {
+            channels: net.channels_in(a),
+            sizes: &cycles.takes,
+        },
+        outs: Ports {
+            channels: net.channels_out(a),
+            sizes: &cycles.puts,
+        },
+    }
+}
+
+/// The laws that a firing in a run stands on.
+fn step_laws<A: Actor>()
+    ensures laws { FiringLaws A.steps }
+    ensures fits { (x : A) → PutsFit A.steps x }
+{
+    sdf_actor::laws::nets_are_wired::<A>();
+    sdf_actor::laws::taken_stays::<A>();
+    sdf_actor::laws::history_grows_by_firing::<A>();
+    sdf_answer::laws::plans_fit::<A>();
+    sdf_answer::laws::nodes_take_theirs::<A>();
+    sdf_answer::laws::firings_move_on::<A>();
+    sdf_answer::laws::histories_make_outputs::<A>();
+}
+
+impl<'a, A: Actor> Run<'a, A> {
+    /// Fires an actor.
+    fn fire(&mut self, a: usize)
+        requires { CanFireAt A.steps self.old a }
+        ensures { IsFiredAt A.steps self.old self.new a }
+    {
+        let phase = self.works[a].phase();
+        let ports = ports_at(self.net, &self.sizes, a, phase);
+        self.works[a].fire(&ports, &mut self.queues);
+        self.done[a] += 1;
+    }
+
+    /// Fires a node so many times at once.
+    fn fire_at_once(&mut self, a: usize, times: usize)
+        requires { CanFireAtOnceAt A.steps self.old a times }
+        ensures { AreFiredAt A.steps self.old self.new a times }
+    {
+        let phase = self.works[a].phase();
+        let ports = ports_at(self.net, &self.sizes, a, phase);
+        self.works[a].fire_at_once(
+            times,
+            &ports,
+            self.inputs,
+            &mut self.queues,
+            &mut self.outputs,
+        );
+        self.done[a] += times;
+    }
+
+    /// Fires an actor for so many cycles through its blocks.
+    fn fire_many(&mut self, a: usize, times: usize)
+        requires { CanFireManyAt A.steps self.old a times }
+        ensures { AreManyFiredAt A.steps self.old self.new a times }
+    {
+        let ports = ports_of(self.net, &self.cycles, a);
+        self.works[a].fire_many(times, self.filler, &ports, &mut self.queues);
+        self.done[a] += times * self.net.node(a).cycle() as usize;
+    }
+
+    /// How many firings a node has left within the block.
+    fn left(&self, a: usize) -> usize
+        requires known { a < length self.now.net.now.nodes }
+        requires swept { IsSwept A.steps self.now }
+        ensures { IsLeft self.now a result }
+    {
+        self.high as usize * self.repetitions[a] as usize - self.done[a]
+    }
+
+    /// Whether a node may fire within the block: it has firings left there, and the channels into it hold what the next
+    /// one takes.
+    fn may_fire(&self, a: usize) -> bool
+        requires known { a < length self.now.net.now.nodes }
+        requires swept { IsSwept A.steps self.now }
+        ensures { IsTrue result ↔ MayFire A.steps self.now a }
+    {
+        step_laws::<A>();
+        if self.left(a) == 0 {
+            return false;
+        }
+        let sizes = self.sizes.on(Side::Input, self.works[a].phase());
+        hold_blocks(self.net.channels_in(a), sizes, &self.queues)
+    }
+
+    /// How many firings of a node can be done at once, within the block.
+    fn times(&self, a: usize) -> usize
+        requires may { MayFire A.steps self.now a }
+        requires swept { IsSwept A.steps self.now }
+        ensures some { 0 < result }
+        ensures left { slice_index self.now.done.items a + result ≤
+            self.now.high * slice_index self.now.repetitions.now a }
+        ensures held { AreHeld A.steps self.now a result }
+    {
+        step_laws::<A>();
+        let left = self.left(a);
+        let sizes = self.sizes.on(Side::Input, self.works[a].phase());
+        blocks_held(self.net.channels_in(a), sizes, &self.queues, left)
+    }
+
+    /// How many cycles of a node can be done through its blocks, within the block: none of one whose firings go one by
+    /// one.
+    fn cycles_in_blocks(&self, a: usize) -> usize
+        requires known { a < length self.now.net.now.nodes }
+        requires swept { IsSwept A.steps self.now }
+        ensures left { slice_index self.now.done.items a + firings_in A.steps self.now a result ≤
+            self.now.high * slice_index self.now.repetitions.now a }
+        ensures go { 0 < result → GoManyAt A.steps self.now a result }
+    {
+        step_laws::<A>();
+        let ports = ports_of(self.net, &self.cycles, a);
+        if !self.works[a].goes_by_many(ports.ins.channels, ports.outs.channels, &self.sizes) {
+            return 0;
+        }
+        let left = self.left(a) / self.net.node(a).cycle() as usize;
+        let most = blocks_held(ports.ins.channels, ports.ins.sizes, &self.queues, left);
+        self.works[a].fits(&ports, most)
+    }
+
+    /// Fires a node that may fire: once, or as often in one piece of work as its samples and the block allow.
+    fn fire_some(&mut self, a: usize)
+        requires may { MayFire A.steps self.old a }
+        requires swept { IsSwept A.steps self.old }
+        ensures swept { IsSwept A.steps self.new }
+        ensures moved { IsMoved self.old self.new true }
+        ensures further { slice_index self.old.done.items a < slice_index self.new.done.items a }
+    {
+        step_laws::<A>();
+        let ins = self.net.channels_in(a);
+        let outs = self.net.channels_out(a);
+        if self.works[a].goes_at_once(ins, outs) {
+            let times = self.times(a);
+            self.fire_at_once(a, times);
+        } else {
+            let cycles = self.cycles_in_blocks(a);
+            if cycles == 0 {
+                self.fire(a);
+            } else {
+                self.fire_many(a, cycles);
+            }
+        }
+    }
+
+    /// Fires a node as often as its samples and the block allow, and tells whether it fired.
+    fn fire_node(&mut self, a: usize) -> bool
+        requires known { a < length self.old.net.now.nodes }
+        requires swept { IsSwept A.steps self.old }
+        ensures swept { IsSwept A.steps self.new }
+        ensures moved { IsMoved self.old self.new result }
+        ensures stops { result ≡ false → MayFire A.steps self.old a → ⊥ }
+    {
+        let mut fired = false;
+        while self.may_fire(a) {
+            self.fire_some(a);
+            fired = true;
+        }
+        fired
+    }
+
+    /// Fires each node in turn, and tells whether any fired.
+    fn sweep(&mut self) -> bool
+        requires swept { IsSwept A.steps self.old }
+        ensures swept { IsSwept A.steps self.new }
+        ensures moved { IsMoved self.old self.new result }
+        ensures stops { result ≡ false → (a : ℕ) → MayFire A.steps self.new a → ⊥ }
+    {
+        let mut moved = false;
+        for a in 0..self.net.len() {
+            if self.fire_node(a) {
+                moved = true;
+            }
+        }
+        moved
+    }
+
+    /// Sweeps until each node has fired all periods of the block.
+    fn fire_block(&mut self)
+        requires swept { IsSwept A.steps self.old }
+        ensures swept { IsSwept A.steps self.new }
+        ensures keeps { Keeps self.old self.new }
+        ensures high { self.new.high ≡ self.old.high }
+        ensures done { (a : ℕ) → a < length self.old.net.now.nodes →
+            slice_index self.new.done.items a ≡ self.old.high * slice_index self.old.repetitions.now a }
+    {
+        sdf_actor::laws::nets_are_wired::<A>();
+        sdf_graph::laws::sums_rise();
+        sdf_sched::laws::stuck_counts_mean_deadlock();
+        let mut goes = true;
+        while goes {
+            goes = self.sweep();
+        }
+    }
+
+    /// Fires all periods, in blocks of so many and a last one of what is left.
+    pub(crate) fn fire_all(&mut self, size: u32)
+        requires size { 0 < size }
+        requires start { self.old.high ≡ 0 }
+        requires swept { IsSwept A.steps self.old }
+        requires room { HasRoom A.steps size self.old }
+        ensures keeps { Keeps self.old self.new }
+        ensures swept { IsSwept A.steps self.new }
+        ensures done { (a : ℕ) → a < length self.old.net.now.nodes →
+            slice_index self.new.done.items a ≡ self.old.periods * slice_index self.old.repetitions.now a }
+    {
+        while self.high < self.periods {
+            self.high = next_block(self.high, size, self.periods);
+            self.fire_block();
+        }
+    }
+}
+
+/// Where the next block ends.
+fn next_block(high: u32, size: u32, periods: u32) -> u32
+    requires left { high < periods }
+    requires some { 0 < size }
+    ensures more { high < result }
+    ensures within { result ≤ periods }
+    ensures step { result ≤ high + size }
+{
+    if periods - high < size {
+        periods
+    } else {
+        high + size
+    }
+}

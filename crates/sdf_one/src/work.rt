@@ -1,0 +1,350 @@
+//! Nodes at work.
+
+ghost use Rattle.std.specs.Prelude.{◌≡◌, ◌+◌, ◌*◌, ◌<◌, ◌≤◌, ◌++◌, ℕ, length, slice_index, take, drop, IsTrue, false};
+ghost use Rattle.sdf_actor.specs.Histories.{spread};
+ghost use Rattle.sdf_actor.specs.Steps.{total_in, total_out, sum_in, sum_out, state_at, puts_to};
+ghost use Rattle.sdf_actor.specs.Wires.{lists};
+ghost use Rattle.sdf_one.specs.AtOnce.{fronts};
+ghost use Rattle.sdf_answer.specs.Blocks.{samples, room, at_ports, ArePorts, KeepRoom};
+
+use crate::block::{block_size, put_front, put_fronts, take_fronts};
+use crate::cycles::is_in_turn;
+use sdf_actor::actor::next_phase;
+use sdf_actor::{Actor, Side};
+use sdf_answer::blocks::{Ports, take_block};
+use sdf_answer::many_blocks::whole_blocks;
+use sdf_answer::queue::{Firings, lengthen};
+use sdf_answer::{Queue, Sizes};
+
+/// What a node does in a firing.
+#[derive(Drop)]
+pub(crate) enum Work<'a, A: Actor> {
+    /// Reads the next block of an input list.
+    Source {
+        ext: usize,
+        next: usize,
+        block: usize,
+    },
+    /// Adds the block that it takes to an output list.
+    Sink {
+        ext: usize,
+    },
+    /// Fires an actor, from one block to the other. What it puts at each phase has its length.
+    Inner {
+        actor: &'a A,
+        phase: u32,
+        state: A::State,
+        taken: Vec<A::Token>,
+        put: Vec<A::Token>,
+        lengths: Vec<usize>,
+    },
+}
+
+/// The ports of a node on both sides.
+#[derive(Clone, Copy)]
+pub(crate) struct NodePorts<'a> {
+    pub(crate) ins: Ports<'a>,
+    pub(crate) outs: Ports<'a>,
+}
+
+/// Fires an actor at a phase on the block taken. What it puts stands at the front of the other block.
+fn fire_into<A: Actor>(
+    actor: &A,
+    phase: u32,
+    state: &mut A::State,
+    taken: &Vec<A::Token>,
+    put: &mut Vec<A::Token>,
+    many: usize,
+)
+    requires phase { phase < A.steps.cycle actor.now }
+    requires taken { length taken.now.items ≡ total_in A.steps actor.now phase }
+    requires put { total_out A.steps actor.now phase ≤ length put.old.items }
+    requires many { many ≡ total_out A.steps actor.now phase }
+    ensures state { state.new ≡ A.steps.next actor.now phase state.old taken.now.items }
+    ensures put { take many put.new.items ≡ A.steps.puts actor.now phase state.old taken.now.items }
+    ensures len { length put.new.items ≡ length put.old.items }
+{
+    let (front, _) = put.as_mut_slice().split_at_mut(many);
+    actor.fire(phase, state, taken.as_slice(), front);
+}
+
+/// Fires an actor so many times on the first samples of the block taken. What it puts stands at the front of the other
+/// block.
+fn fire_many_into<A: Actor>(
+    firings: Firings<'_, A>,
+    state: &mut A::State,
+    taken: &Vec<A::Token>,
+    all: usize,
+    put: &mut Vec<A::Token>,
+    many: usize,
+)
+    requires phase { firings.phase < A.steps.cycle firings.actor.now }
+    requires taken { all ≤ length taken.now.items }
+    requires all { all ≡ sum_in A.steps firings.actor.now firings.phase firings.times }
+    requires put { many ≤ length put.old.items }
+    requires many { many ≡ sum_out A.steps firings.actor.now firings.phase firings.times }
+    ensures state { state.new ≡ state_at A.steps firings.entry.actor.now firings.entry.phase state.old
+        (take all taken.now.items) firings.entry.times }
+    ensures put { take many put.new.items ≡ puts_to A.steps firings.entry.actor.now firings.entry.phase state.old
+        (take all taken.now.items) firings.entry.times }
+    ensures len { length put.new.items ≡ length put.old.items }
+{
+    let Firings {
+        actor,
+        phase,
+        times,
+    } = firings;
+    let (front, _) = put.as_mut_slice().split_at_mut(many);
+    actor.fire_many(phase, times, state, &taken[..all], front);
+}
+
+/// Whether no channel is on both sides.
+fn are_apart(ins: &[usize], outs: &[usize]) -> bool
+    ensures { IsTrue result → (i j : ℕ) → i < length ins.now → j < length outs.now →
+        slice_index ins.now i ≡ slice_index outs.now j → ⊥ }
+{
+    for from in ins {
+        if has(outs, *from) {
+            return false;
+        }
+    }
+    true
+}
+
+/// Whether a channel is among some.
+fn has(channels: &[usize], channel: usize) -> bool
+    ensures { result ≡ false → (j : ℕ) → j < length channels.now → channel ≡ slice_index channels.now j → ⊥ }
+{
+    for c in channels {
+        if *c == channel {
+            return true;
+        }
+    }
+    false
+}
+
+/// Fires an actor so many times at once, from one queue's memory to another's.
+fn fire_through<A: Actor>(
+    firings: Firings<'_, A>,
+    state: &mut A::State,
+    ports: &NodePorts,
+    queues: &mut [Queue<A::Token>],
+)
+    requires phase { firings.phase < A.steps.cycle firings.actor.now }
+    requires ins { ArePorts ports.now.ins.channels.now ports.now.ins.sizes.now (length queues.old) }
+    requires outs { ArePorts ports.now.outs.channels.now ports.now.outs.sizes.now (length queues.old) }
+    requires one_in { length ports.now.ins.channels.now ≡ 1 }
+    requires one_out { length ports.now.outs.channels.now ≡ 1 }
+    requires apart { slice_index ports.now.ins.channels.now 0 ≡ slice_index ports.now.outs.channels.now 0 → ⊥ }
+    requires taken { firings.times * slice_index ports.now.ins.sizes.now (slice_index ports.now.ins.channels.now 0) ≡
+        sum_in A.steps firings.actor.now firings.phase firings.times }
+    requires put { firings.times * slice_index ports.now.outs.sizes.now (slice_index ports.now.outs.channels.now 0) ≡
+        sum_out A.steps firings.actor.now firings.phase firings.times }
+    requires held { firings.times * slice_index ports.now.ins.sizes.now (slice_index ports.now.ins.channels.now 0) ≤
+        length (samples queues.old (slice_index ports.now.ins.channels.now 0)) }
+    requires room { length (samples queues.old (slice_index ports.now.outs.channels.now 0))
+        + firings.times * slice_index ports.now.outs.sizes.now (slice_index ports.now.outs.channels.now 0) ≤
+        room queues.old (slice_index ports.now.outs.channels.now 0) }
+    ensures state { state.new ≡ state_at A.steps firings.entry.actor.now firings.entry.phase state.old
+        (fronts firings.entry.times ports.now.ins.sizes.now ports.now.ins.channels.now queues.old)
+        firings.entry.times }
+    ensures queues { (c : ℕ) → c < length queues.old → samples queues.new c ≡
+        drop (at_ports ports.now.ins.channels.now (firings.entry.times * slice_index ports.now.ins.sizes.now c) c)
+        (samples queues.old c) ++
+        spread (λ d. firings.entry.times * slice_index ports.now.outs.sizes.now d) ports.now.outs.channels.now
+        (puts_to A.steps firings.entry.actor.now firings.entry.phase state.old
+        (fronts firings.entry.times ports.now.ins.sizes.now ports.now.ins.channels.now queues.old)
+        firings.entry.times) c }
+    ensures rooms { KeepRoom queues.old queues.new }
+{
+    let from = ports.ins.channels[0];
+    let to = ports.outs.channels[0];
+    queues[from].is_small();
+    queues[to].is_small();
+    let many = firings.times * ports.ins.sizes[from];
+    let more = firings.times * ports.outs.sizes[to];
+    let mut target = queues[to].lift();
+    target.put_fired(firings, state, queues[from].oldest(many), more);
+    queues[from].release(many);
+    queues[to] = target;
+}
+
+impl<'a, A: Actor> Work<'a, A> {
+    ghost use Rattle.sdf_one.specs.Firings.{phase_at, IsActor, ActorCanFire, IsFired};
+    ghost use Rattle.sdf_one.specs.AtOnce.{GoesAtOnce, CanFireAtOnce, AreFired};
+    ghost use Rattle.std.specs.List.{sum_by};
+    ghost use Rattle.sdf_one.specs.Many.{HasRows, GoesByMany, Fit, CanFireMany, AreManyFired};
+
+    /// The phase of the next firing.
+    pub(crate) fn phase(&self) -> u32
+        ensures { result ≡ phase_at self.now }
+    {
+        match self {
+            Work::Inner { phase, .. } => *phase,
+            _ => 0,
+        }
+    }
+
+    /// One firing of an actor: from each channel into it its block is taken, and on each channel out of it a block is
+    /// put.
+    pub(crate) fn fire(&mut self, ports: &NodePorts, queues: &mut [Queue<A::Token>])
+        requires { ActorCanFire A.steps ports.now.ins.channels.now ports.now.outs.channels.now ports.now.ins.sizes.now
+            ports.now.outs.sizes.now
+            self.old queues.old }
+        ensures { IsFired A.steps ports.now.ins.channels.now ports.now.outs.channels.now ports.now.ins.sizes.now
+            ports.now.outs.sizes.now
+            self.old self.new queues.old queues.new }
+    {
+        if let Work::Inner {
+            actor,
+            phase,
+            state,
+            taken,
+            put,
+            lengths,
+        } = self
+        {
+            taken.clear();
+            take_block(&ports.ins, queues, taken);
+            let many = lengths[*phase as usize];
+            fire_into(*actor, *phase, state, taken, put, many);
+            put_front(&ports.outs, put, many, queues);
+            *phase = next_phase(*phase, actor.cycle());
+        }
+    }
+
+    /// Whether its firings can be done at once, where these are its channels.
+    pub(crate) fn goes_at_once(&self, ins: &[usize], outs: &[usize]) -> bool
+        ensures goes { IsTrue result → GoesAtOnce A.steps self.now ins.now outs.now }
+        ensures others { result ≡ false → IsActor self.now }
+    {
+        match self {
+            Work::Inner { actor, .. } => {
+                actor.cycle() == 1 && ins.len() == 1 && outs.len() == 1 && ins[0] != outs[0]
+            }
+            _ => true,
+        }
+    }
+
+    /// So many firings at once: from the channel into the node all that they take is taken, and on the channel out of
+    /// it all that they put is put.
+    pub(crate) fn fire_at_once(
+        &mut self,
+        times: usize,
+        ports: &NodePorts,
+        inputs: &[Vec<A::Token>],
+        queues: &mut [Queue<A::Token>],
+        outputs: &mut [Vec<A::Token>],
+    )
+        requires { CanFireAtOnce A.steps (lists inputs.now) times ports.now.ins.channels.now ports.now.outs.channels.now
+            ports.now.ins.sizes.now ports.now.outs.sizes.now self.old queues.old outputs.old }
+        ensures { AreFired A.steps (lists inputs.now) times ports.now.ins.channels.now ports.now.outs.channels.now
+            ports.now.ins.sizes.now
+            ports.now.outs.sizes.now self.old self.new queues.old queues.new outputs.old outputs.new }
+    {
+        match self {
+            Work::Source { ext, next, block } => {
+                let last = *next + *block * times;
+                queues[ports.outs.channels[0]].put(&inputs[*ext][*next..last]);
+                *next = last;
+            }
+            Work::Sink { ext } => {
+                let from = ports.ins.channels[0];
+                queues[from].is_small();
+                let many = times * ports.ins.sizes[from];
+                queues[from].take(many, &mut outputs[*ext]);
+            }
+            Work::Inner {
+                actor,
+                phase,
+                state,
+                ..
+            } => {
+                let firings = Firings {
+                    actor: *actor,
+                    phase: *phase,
+                    times,
+                };
+                fire_through(firings, state, ports, queues);
+            }
+        }
+    }
+
+    /// Whether its cycles can be done through its blocks, where these are its channels: it is at the beginning of one,
+    /// and its ports are served in turn.
+    pub(crate) fn goes_by_many(&self, ins: &[usize], outs: &[usize], sizes: &Sizes) -> bool
+        requires { HasRows A.steps sizes.now self.now ins.now outs.now }
+        ensures { IsTrue result → GoesByMany A.steps sizes.now self.now ins.now outs.now }
+    {
+        match self {
+            Work::Inner { actor, phase, .. } => {
+                let cycle = actor.cycle();
+                *phase == 0
+                    && are_apart(ins, outs)
+                    && is_in_turn(ins, sizes, Side::Input, cycle)
+                    && is_in_turn(outs, sizes, Side::Output, cycle)
+            }
+            _ => false,
+        }
+    }
+
+    /// For how many cycles its blocks have room, up to a limit.
+    pub(crate) fn fits(&self, ports: &NodePorts, most: usize) -> usize
+        requires ins { ArePorts ports.now.ins.channels.now ports.now.ins.sizes.now (length ports.now.ins.sizes.now) }
+        requires outs { ArePorts ports.now.outs.channels.now ports.now.outs.sizes.now
+            (length ports.now.outs.sizes.now) }
+        requires blocks { Fit self.now (sum_by (slice_index ports.now.ins.sizes.now) ports.now.ins.channels.now)
+            (sum_by (slice_index ports.now.outs.sizes.now) ports.now.outs.channels.now) 1 }
+        ensures within { result ≤ most }
+        ensures fit { Fit self.now (sum_by (slice_index ports.now.ins.sizes.now) ports.now.ins.channels.now)
+            (sum_by (slice_index ports.now.outs.sizes.now) ports.now.outs.channels.now) result }
+    {
+        match self {
+            Work::Inner { taken, put, .. } => {
+                let many = whole_blocks(taken.capacity(), block_size(&ports.ins), most);
+                whole_blocks(put.len(), block_size(&ports.outs), many)
+            }
+            _ => most,
+        }
+    }
+
+    /// So many cycles of an actor: from each channel into it their blocks are taken, and on each channel out of it
+    /// their blocks are put.
+    pub(crate) fn fire_many(
+        &mut self,
+        times: usize,
+        filler: A::Token,
+        ports: &NodePorts,
+        queues: &mut [Queue<A::Token>],
+    )
+        requires { CanFireMany A.steps times ports.now.ins.channels.now ports.now.outs.channels.now
+            ports.now.ins.sizes.now
+            ports.now.outs.sizes.now self.old queues.old }
+        ensures { AreManyFired A.steps times ports.now.ins.channels.now ports.now.outs.channels.now
+            ports.now.ins.sizes.now
+            ports.now.outs.sizes.now self.old self.new queues.old queues.new }
+    {
+        if let Work::Inner {
+            actor,
+            phase,
+            state,
+            taken,
+            put,
+            ..
+        } = self
+        {
+            let size = block_size(&ports.ins);
+            let all = times * size;
+            lengthen(taken, all, filler);
+            take_fronts(&ports.ins, times, size, taken, queues);
+            let more = block_size(&ports.outs);
+            let firings = Firings {
+                actor: *actor,
+                phase: *phase,
+                times: times * actor.cycle() as usize,
+            };
+            fire_many_into(firings, state, taken, all, put, times * more);
+            put_fronts(&ports.outs, times, more, put, queues);
+        }
+    }
+}
