@@ -1,7 +1,7 @@
 -- What is told of a design that keeps its samples for ever: a loop of its links.
 use Rattle.std.specs.Prelude.{◌≡◌, ℕ, ◌<◌, List, [], ◌∷◌, ◌++◌, length, codes, Bool, true, false, slice_index_or}
-use Rattle.std.specs.Prelude.{Option, None, MatchOption}
-use Rattle.std.specs.List.{flat_map, reverse}
+use Rattle.std.specs.Prelude.{Option, None, MatchOption, reverse}
+use Rattle.std.specs.List.{flat_map}
 use Rattle.sdf_graph.specs.Rates.{Shape, channel}
 use Rattle.sdf_why.specs.declared.cycle.Halt.{Halt}
 use Rattle.sdf_why.specs.Cycles.{short_at}
@@ -31,6 +31,10 @@ pub record Feeds (g : Shape) (kept : List Bool) (a c : ℕ) : Type 0 where
 pub record IsUnfed (g : Shape) (kept : List Bool) (a : ℕ) : Type 0 where
   pub kept_yet : is_kept kept a ≡ true
   pub none : (c : ℕ) → Feeds g kept a c → ⊥
+
+-- each actor to which one of the first n channels leads is kept
+abbrev pub AreTargets : Shape → ℕ → List Bool → Type 0
+AreTargets g n kept = (c : ℕ) → c < n → is_kept kept (channel g c).to ≡ true
 
 -- each actor of each loop is kept
 abbrev pub HoldsLoops : Shape → List Bool → Type 0

@@ -5,7 +5,7 @@ ghost use Rattle.std.specs.Prelude.{None, IfOk, OnOk, MatchOption, string_bytes,
 ghost use Rattle.std.specs.List.{flat_map, All};
 ghost use Rattle.sdf_actor.specs.Graphs.{graph_of};
 ghost use Rattle.sdf_kit.specs.Kit.{kit_steps};
-ghost use Rattle.sdf_why.specs.Loops.{arrow_to, is_kept, name_at, AreFed, Feeds, HoldsLoops, IsLoop, IsLoopText, IsUnfed};
+ghost use Rattle.sdf_why.specs.Loops.{arrow_to, is_kept, loop_line, name_at, AreFed, AreTargets, Feeds, HoldsLoops, IsLoop, IsLoopText, IsUnfed};
 
 use crate::cycle::{Halt, cycle_of};
 use sdf_file::Design;
@@ -48,12 +48,23 @@ fn unfed(graph: &Graph, kept: &[bool]) -> Option<usize>
     None
 }
 
-/// Returns which actors are left if one is taken away as long as none that is left feeds it.
+/// Returns the actors to which channels lead.
+fn targets(alloc: Global, graph: &Graph) -> Result<Vec<bool>, AllocError>
+    ensures { IfOk result (λ v. AreTargets graph.now (length graph.now.channels) v.items) }
+{
+    let mut kept = vec![in alloc; false; graph.actors()]?;
+    for channel in graph.channels() {
+        kept[channel.to] = true;
+    }
+    Ok(kept)
+}
+
+/// Returns which actors are left if one after another is taken away that none of those left feeds.
 fn kept_by_loops(alloc: Global, graph: &Graph) -> Result<Vec<bool>, AllocError>
     ensures loops { IfOk result (λ v. HoldsLoops graph.now v.items) }
     ensures fed { IfOk result (λ v. (a : ℕ) → IsUnfed graph.now v.items a → ⊥) }
 {
-    let mut kept = vec![in alloc; true; graph.actors()]?;
+    let mut kept = targets(alloc, graph)?;
     while let Some(actor) = unfed(graph, &kept) {
         kept[actor] = false;
     }
@@ -92,7 +103,10 @@ fn loop_of(alloc: Global, graph: &Graph) -> Result<Option<Vec<usize>>, AllocErro
 {
     let kept = kept_by_loops(alloc, graph)?;
     let halts = halts_of(alloc, graph, &kept)?;
-    cycle_of(alloc, graph, &halts)
+    let Some(numbers) = cycle_of(alloc, graph, &halts)? else {
+        return Ok(None);
+    };
+    Ok(Some(numbers))
 }
 
 /// Adds the name of the actor from which a channel leads.
@@ -105,6 +119,17 @@ fn push_source(text: &mut String, design: &Design, number: usize) -> Result<(), 
     text.push_str(design.name(channel.from))
 }
 
+/// Adds an arrow to the actor from which a channel leads.
+#[tactic(auto, unfolding(crate::specs::Loops::arrow_to))]
+fn push_arrow(text: &mut String, design: &Design, number: usize) -> Result<(), AllocError>
+    requires { number < length (graph_of kit_steps design.now.net).channels }
+    ensures { OnOk result (string_bytes text.new ≡ string_bytes text.old
+        ++ arrow_to design.now.names (graph_of kit_steps design.now.net) number) }
+{
+    text.push_str(" -> ")?;
+    push_source(text, design, number)
+}
+
 /// Adds arrows to the actors from which channels lead.
 fn push_arrows(text: &mut String, design: &Design, numbers: &[usize]) -> Result<(), AllocError>
     requires { All (λ c. c < length (graph_of kit_steps design.now.net).channels) numbers.now }
@@ -112,10 +137,22 @@ fn push_arrows(text: &mut String, design: &Design, numbers: &[usize]) -> Result<
         ++ flat_map (arrow_to design.now.names (graph_of kit_steps design.now.net)) numbers.now) }
 {
     for number in numbers {
-        text.push_str(" -> ")?;
-        push_source(text, design, *number)?;
+        push_arrow(text, design, *number)?;
     }
     Ok(())
+}
+
+/// Adds the actors from which channels lead, with arrows between them.
+fn push_line(text: &mut String, design: &Design, numbers: &[usize]) -> Result<(), AllocError>
+    requires { All (λ c. c < length (graph_of kit_steps design.now.net).channels) numbers.now }
+    ensures { OnOk result (string_bytes text.new ≡ string_bytes text.old
+        ++ loop_line design.now.names (graph_of kit_steps design.now.net) numbers.now) }
+{
+    let Some((first, others)) = numbers.split_first() else {
+        return Ok(());
+    };
+    push_source(text, design, *first)?;
+    push_arrows(text, design, others)
 }
 
 /// Returns the actors of a loop of a design with its flow, by their names, or nothing if there is none.
@@ -128,9 +165,6 @@ pub fn loop_text(alloc: Global, design: &Design) -> Result<String, AllocError>
         return Ok(text);
     };
     numbers.reverse();
-    if let Some((first, others)) = numbers.split_first() {
-        push_source(&mut text, design, *first)?;
-        push_arrows(&mut text, design, others)?;
-    }
+    push_line(&mut text, design, &numbers)?;
     Ok(text)
 }
