@@ -1,9 +1,10 @@
 //! Commands over files in memory, and what is told of them.
 
 use crate::shelf::{HEADER, NEW_SOUND, SOUND, Shelf};
-use sdf_program::files::MOST_BYTES;
-use sdf_program::program::{World, serve};
-use sdf_program::storage::Storage;
+use sdf_files::files::MOST_BYTES;
+use sdf_files::storage::Storage;
+use sdf_files::world::World;
+use sdf_program::program::serve;
 use std::cell::RefCell;
 use std::io::{self, Error, ErrorKind, Write};
 use std::test::Fail;

@@ -2,10 +2,10 @@
 
 use crate::commands::{Stream, is_told, status_of};
 use crate::shelf::SOUND;
+use sdf_files::files::{MOST_BYTES, load, read_all};
+use sdf_files::storage::Disk;
+use sdf_files::world::World;
 use sdf_plan::fault_text;
-use sdf_program::files::{MOST_BYTES, load, read_all};
-use sdf_program::program::World;
-use sdf_program::storage::Disk;
 use std::alloc::Global;
 use std::io::{self, Error, ErrorKind, Read};
 use std::rt::Files;

@@ -2,7 +2,7 @@
 
 use crate::costs::COMMENTED;
 use crate::files::{FILTERED, PLAIN, TAPS};
-use sdf_program::storage::Storage;
+use sdf_files::storage::Storage;
 use std::alloc::Global;
 use std::cell::RefCell;
 use std::io::{self, Error, ErrorKind, Write};

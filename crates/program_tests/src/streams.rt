@@ -3,9 +3,10 @@
 use crate::commands::{Around, OPEN, is_told, told_around};
 use crate::files::{FILTERED, TAPS};
 use crate::shelf::{PADDED, SOUND, Shelf};
+use sdf_files::files::MOST_BYTES;
+use sdf_files::world::World;
 use sdf_options::WordFault;
-use sdf_program::files::MOST_BYTES;
-use sdf_program::program::{World, serve};
+use sdf_program::program::serve;
 use std::cell::RefCell;
 use std::io::ErrorKind;
 use std::test::Fail;

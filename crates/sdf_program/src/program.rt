@@ -5,15 +5,16 @@ ghost use Rattle.sdf_plan.specs.Statuses.{status_of};
 ghost use Rattle.sdf_plan.specs.declared.fault.Fault.TheVariants.{OutOfMemory};
 ghost use Rattle.sdf_words.specs.Limits.{IsTaskWithinLimits, IsWithinLimits};
 
-use crate::files::{Loaded, Sources, load_into};
-use crate::making::{fir, resample};
-use crate::printing::{
-    analyzed, checked, drawn, print_kinds, print_meaning, scheduled, show, show_made,
-};
 use crate::profiling::{Profiling, print_profile};
 use crate::running::{Running, run};
-use crate::storage::Storage;
-use crate::telling::Background;
+use sdf_commands::making::{fir, resample};
+use sdf_commands::printing::{
+    analyzed, checked, drawn, print_kinds, print_meaning, scheduled, show, show_made,
+};
+use sdf_commands::telling::Background;
+use sdf_files::files::{Loaded, Sources, load_into};
+use sdf_files::storage::Storage;
+use sdf_files::world::World;
 use sdf_json::fault_json;
 use sdf_options::WordFault;
 use sdf_plan::{Fault, fault_text, status};
@@ -22,20 +23,6 @@ use std::alloc::{AllocError, Global};
 use std::io::{Read, Write};
 use std::thread::Threads;
 use std::time::Clock;
-
-/// The word that names standard input in the place of IN, and standard output in that of OUT.
-pub(crate) const STANDARD: &str = "-";
-
-/// What commands are done with. The threads are for a run with workers, and bring the memory and the clock.
-#[derive_where(Clone, Copy)]
-pub struct World<'a, S, T> {
-    pub storage: &'a S,
-    pub threads: &'a T,
-    /// The most bytes of a graph file or a coefficient file.
-    pub most: u32,
-    /// Whether standard error is a terminal.
-    pub terminal: bool,
-}
 
 /// A task for a design, and when more is said than faults.
 #[derive(Clone, Copy)]

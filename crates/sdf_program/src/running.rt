@@ -5,20 +5,21 @@ ghost use Rattle.sdf_limits.specs.declared.TheConstants.{MOST_WORKERS};
 ghost use Rattle.sdf_plan.specs.Plans.{Suits};
 ghost use Rattle.sdf_words.specs.Limits.{IsCrew};
 
-use crate::files::{Loaded, Refused, Sources, refuse, refuse_kind};
-use crate::input::Input;
-use crate::levels::Levels;
-use crate::output::Output;
-use crate::overwriting::{Paths, keep_what_is_read};
-use crate::program::{STANDARD, World};
-use crate::storage::Storage;
 use sdf_file::Design;
+use sdf_files::Levels;
+use sdf_files::files::{Loaded, Refused, Sources, refuse, refuse_kind};
+use sdf_files::input::Input;
+use sdf_files::output::Output;
+use sdf_files::overwriting::{Paths, keep_what_is_read};
+use sdf_files::storage::Storage;
+use sdf_files::world::{STANDARD, World};
 use sdf_limits::MOST_WORKERS;
 use sdf_plan::parallel::{Pace, Paced, parallel_plan};
 use sdf_plan::planning::plan;
 use sdf_plan::{Fault, Plan};
 use sdf_process::process::process;
 use sdf_wav::{FromRead, ToWrite};
+use sdf_why::loop_text;
 use sdf_words::{Crew, Run};
 use std::alloc::{AllocError, Global};
 use std::io::{Read, Write};
@@ -196,8 +197,20 @@ fn workers_of<T: Threads>(threads: &T, crew: Crew) -> usize
     }
 }
 
-/// How a parallel run goes, on one line.
-fn pace_text(alloc: Global, pace: Pace) -> Result<String, AllocError> {
+/// Returns why a design that does not forget is run in one thread.
+fn lasting_text(alloc: Global, design: &Design) -> Result<String, AllocError> {
+    let told = loop_text(alloc, design)?;
+    if told.is_empty() {
+        return String::from_str(
+            alloc,
+            "one thread: the design keeps samples for too long\n",
+        );
+    }
+    format!(in alloc; "one thread: the loop {told} keeps its samples for ever\n")
+}
+
+/// Returns how a parallel run goes, on one line.
+fn pace_text(alloc: Global, design: &Design, pace: Pace) -> Result<String, AllocError> {
     match pace {
         Pace::Parts {
             workers,
@@ -209,17 +222,19 @@ fn pace_text(alloc: Global, pace: Pace) -> Result<String, AllocError> {
                  warm-up\n"
             )
         }
-        Pace::Lasting => String::from_str(
-            alloc,
-            "one thread: the design keeps samples for ever, or for too long\n",
-        ),
+        Pace::Lasting => lasting_text(alloc, design),
         Pace::Alone => String::from_str(alloc, "one thread: one worker is asked for\n"),
     }
 }
 
 /// Tells how a parallel run goes.
-fn tell_pace<E: Write>(alloc: Global, err: &mut E, pace: Pace) -> Result<(), AllocError> {
-    let text = pace_text(alloc, pace)?;
+fn tell_pace<E: Write>(
+    alloc: Global,
+    err: &mut E,
+    design: &Design,
+    pace: Pace,
+) -> Result<(), AllocError> {
+    let text = pace_text(alloc, design, pace)?;
     let _ = err.write_all(text.as_bytes());
     Ok(())
 }
@@ -238,7 +253,7 @@ fn crew_plan<T: Threads + AllocGlobal, E: Write>(
     let alloc = threads.alloc();
     let Paced { plan, pace } = parallel_plan(alloc, design, workers_of(threads, crew))?;
     if is_said {
-        tell_pace(alloc, err, pace)?;
+        tell_pace(alloc, err, design, pace)?;
     }
     Ok(plan)
 }

@@ -1,4 +1,5 @@
 pub mod Chains
+pub mod Rounds
 pub mod Items
 pub mod Lines
 pub mod Pieces

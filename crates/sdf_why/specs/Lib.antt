@@ -3,6 +3,7 @@ pub mod Words
 pub mod Tables
 pub mod Actors
 pub mod Links
+pub mod Loops
 pub mod Documents
 pub mod Nets
 pub mod Cycles

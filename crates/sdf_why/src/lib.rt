@@ -12,6 +12,7 @@ mod channels;
 mod cycle;
 mod document;
 mod limits;
+mod loops;
 mod links;
 mod marks;
 mod more;
@@ -24,6 +25,7 @@ mod words;
 
 pub use cycle::Halt;
 pub use document::document_text;
+pub use loops::loop_text;
 pub use said::{device_text, toml_text};
 pub use sound::Header;
 pub use told::{Sources, channels_text, file_text, home_text, net_text, rate_text, stall_text};

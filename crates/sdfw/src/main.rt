@@ -4,9 +4,10 @@
 //! has the arguments, and on `sdf_program`, which does the rest. Begin there, at `program::serve`.
 #![tactic(auto)]
 
-use sdf_program::files::MOST_BYTES;
-use sdf_program::program::{World, serve};
-use sdf_program::storage::Disk;
+use sdf_files::files::MOST_BYTES;
+use sdf_files::storage::Disk;
+use sdf_files::world::World;
+use sdf_program::program::serve;
 use sdf_words::arguments::arguments;
 use std::io::IsTerminal;
 use std::process::ExitCode;

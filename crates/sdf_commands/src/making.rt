@@ -1,11 +1,11 @@
 //! The commands that make filters and converters.
 
-use crate::files::{device_fault, write_at};
-use crate::overwriting::{keep_file, only_path};
 use crate::printing::{show, test_plan};
-use crate::program::World;
-use crate::storage::Storage;
 use sdf_file::{Design, read_design};
+use sdf_files::files::{device_fault, write_at};
+use sdf_files::overwriting::{keep_file, only_path};
+use sdf_files::storage::Storage;
+use sdf_files::world::World;
 use sdf_filters::{ConverterTexts, FilterFault, Wanted, converter_texts, filter_texts};
 use sdf_plan::Fault;
 use sdf_words::{Conversion, mistake};
@@ -24,7 +24,7 @@ fn filter_fault(alloc: Global, fault: FilterFault) -> Fault {
 }
 
 /// Prints the coefficient file of a filter, and on standard error what its taps do.
-pub(crate) fn fir<S, T: AllocGlobal, O: Write, E: Write>(
+pub fn fir<S, T: AllocGlobal, O: Write, E: Write>(
     world: &World<S, T>,
     out: &mut O,
     err: &mut E,
@@ -121,7 +121,7 @@ fn write_design<S: Storage, T: AllocGlobal, E: Write>(
 }
 
 /// Writes the design of a conversion.
-pub(crate) fn resample<S: Storage, T: AllocGlobal, E: Write>(
+pub fn resample<S: Storage, T: AllocGlobal, E: Write>(
     world: &World<S, T>,
     err: &mut E,
     conversion: Conversion<'_>,

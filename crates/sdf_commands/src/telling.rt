@@ -1,10 +1,10 @@
 //! What more is told of a fault.
 
-use crate::files::Sources;
-use crate::input::InputTrace;
 use crate::sounds::{format_text, header_of, unsuited_text};
 use sdf_document::DocumentFault;
 use sdf_file::FileFault;
+use sdf_files::files::Sources;
+use sdf_files::input::InputTrace;
 use sdf_options::Options;
 use sdf_plan::{Fault, Stalled};
 use sdf_prec::PrecFault;
@@ -148,8 +148,8 @@ fn telling_of(task: &Task<'_>, is_said: bool) -> Telling {
 
 /// What a fault can be told by: what was read, and how it is to be told.
 #[derive(Drop)]
-pub(crate) struct Background {
-    pub(crate) sources: Sources,
+pub struct Background {
+    pub sources: Sources,
     telling: Telling,
     /// Whether the words were read, so that a mistake is not theirs.
     is_read: bool,
@@ -157,7 +157,7 @@ pub(crate) struct Background {
 
 impl Background {
     /// Before anything is read or asked for.
-    pub(crate) fn new(alloc: Global) -> Background {
+    pub fn new(alloc: Global) -> Background {
         Background {
             sources: Sources::new(alloc),
             telling: Telling::Line,
@@ -166,7 +166,7 @@ impl Background {
     }
 
     /// A fault is told as is asked for. `terminal` is whether standard error is a terminal.
-    pub(crate) fn asked(&mut self, words: &Words<'_>, terminal: bool) {
+    pub fn asked(&mut self, words: &Words<'_>, terminal: bool) {
         self.is_read = true;
         if let Words::Design { task, why, .. } = words {
             self.telling = telling_of(task, why.is_said(terminal));
@@ -174,24 +174,24 @@ impl Background {
     }
 
     /// A mistake in the words of `line` is told in JSON if they ask for that.
-    pub(crate) fn misread(&mut self, line: &[&str]) {
+    pub fn misread(&mut self, line: &[&str]) {
         if line.iter().any(|word| *word == "--json") {
             self.telling = Telling::Json;
         }
     }
 
     /// Whether a fault is told in JSON.
-    pub(crate) fn is_json(&self) -> bool {
+    pub fn is_json(&self) -> bool {
         self.telling == Telling::Json
     }
 
     /// Whether the words were read.
-    pub(crate) fn is_read(&self) -> bool {
+    pub fn is_read(&self) -> bool {
         self.is_read
     }
 
     /// Tells what more is known of a fault, where that is asked for, unless memory is refused for it.
-    pub(crate) fn tell<E: Write>(&self, alloc: Global, err: &mut E, fault: &Fault) {
+    pub fn tell<E: Write>(&self, alloc: Global, err: &mut E, fault: &Fault) {
         let Telling::Why(options) = self.telling else {
             return;
         };

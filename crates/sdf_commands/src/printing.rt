@@ -2,12 +2,12 @@
 
 ghost use Rattle.sdf_options.specs.Limits.{AreWithinLimits};
 
-use crate::files::put;
-use crate::program::World;
 use sdf_analyze::{analyze, compare};
 use sdf_document::kinds_text;
 use sdf_draw::{dot, svg};
 use sdf_file::{Design, check_text};
+use sdf_files::files::put;
+use sdf_files::world::World;
 use sdf_json::{analysis_json, check_json, comparison_json, schedule_json};
 use sdf_options::Options;
 use sdf_plan::Fault;
@@ -18,12 +18,12 @@ use std::alloc::Global;
 use std::io::Write;
 
 /// Prints an answer.
-pub(crate) fn show<O: Write>(out: &mut O, answer: &str) -> Result<(), Fault> {
+pub fn show<O: Write>(out: &mut O, answer: &str) -> Result<(), Fault> {
     put(out, answer.as_bytes())
 }
 
 /// Prints an answer that was made, if it was.
-pub(crate) fn show_made<O: Write>(out: &mut O, answer: Result<String, Fault>) -> Result<(), Fault> {
+pub fn show_made<O: Write>(out: &mut O, answer: Result<String, Fault>) -> Result<(), Fault> {
     show(out, answer?.as_str())
 }
 
@@ -34,7 +34,7 @@ pub(crate) fn test_plan(alloc: Global, design: &Design) -> Result<(), Fault> {
 }
 
 /// What a design is, where it can be scheduled.
-pub(crate) fn checked(alloc: Global, design: &Design, json: bool) -> Result<String, Fault> {
+pub fn checked(alloc: Global, design: &Design, json: bool) -> Result<String, Fault> {
     test_plan(alloc, design)?;
     if json {
         Ok(check_json(alloc, design)?)
@@ -44,7 +44,7 @@ pub(crate) fn checked(alloc: Global, design: &Design, json: bool) -> Result<Stri
 }
 
 /// The schedule of a design.
-pub(crate) fn scheduled(
+pub fn scheduled(
     alloc: Global,
     design: &Design,
     options: &Options,
@@ -58,7 +58,7 @@ pub(crate) fn scheduled(
 }
 
 /// How long the schedule of a design takes, or its schedules compared.
-pub(crate) fn analyzed(
+pub fn analyzed(
     alloc: Global,
     design: &Design,
     options: &Options,
@@ -76,7 +76,7 @@ pub(crate) fn analyzed(
 }
 
 /// The picture of a design and its schedule, or its graph for Graphviz.
-pub(crate) fn drawn(
+pub fn drawn(
     alloc: Global,
     design: &Design,
     options: &Options,
@@ -90,7 +90,7 @@ pub(crate) fn drawn(
 }
 
 /// Prints the table of kinds.
-pub(crate) fn print_kinds<S, T: AllocGlobal, O: Write>(
+pub fn print_kinds<S, T: AllocGlobal, O: Write>(
     world: &World<S, T>,
     out: &mut O,
 ) -> Result<(), Fault> {
@@ -98,7 +98,7 @@ pub(crate) fn print_kinds<S, T: AllocGlobal, O: Write>(
 }
 
 /// Prints what the fault of this number means.
-pub(crate) fn print_meaning<S, T: AllocGlobal, O: Write>(
+pub fn print_meaning<S, T: AllocGlobal, O: Write>(
     world: &World<S, T>,
     out: &mut O,
     number: u32,

@@ -40,7 +40,7 @@ impl Level {
 
 /// The header of a sound that is written, as far as it was, and its outputs.
 #[derive(Clone, Copy)]
-pub(crate) struct Levels {
+pub struct Levels {
     header: [u8; HEADER],
     written: usize,
     /// The first byte of a sample whose second one has yet to come.
@@ -115,7 +115,7 @@ impl Levels {
     }
 
     /// What is said of the outputs, a line for each.
-    pub(crate) fn text(&self, alloc: Global) -> Result<String, AllocError> {
+    pub fn text(&self, alloc: Global) -> Result<String, AllocError> {
         let mut text = String::new(alloc);
         if self.is_open() {
             for output in 0..self.channels() {

@@ -1,8 +1,8 @@
 //! What a command would destroy: OUT is emptied before IN is read, so it may be no file that a run reads, no more may
 //! the FILE of a profile, and a design is written into no folder that has one.
 
-use crate::program::STANDARD;
 use crate::storage::Storage;
+use crate::world::STANDARD;
 use sdf_options::printable::printable;
 use sdf_plan::Fault;
 use sdf_words::mistake;
@@ -11,7 +11,7 @@ use std::io::ErrorKind;
 use std::path::{Path, PathBuf};
 
 /// The one path of a file, without dots and links, where a file is there.
-pub(crate) fn only_path<S: Storage>(
+pub fn only_path<S: Storage>(
     alloc: Global,
     storage: &S,
     path: &str,
@@ -33,10 +33,10 @@ fn leads_to<S: Storage>(alloc: Global, storage: &S, path: &str, file: &str) -> R
 
 /// What a run reads and writes, by their paths.
 #[derive(Clone, Copy)]
-pub(crate) struct Paths<'a> {
-    pub(crate) graph: &'a str,
-    pub(crate) input: &'a str,
-    pub(crate) output: &'a str,
+pub struct Paths<'a> {
+    pub graph: &'a str,
+    pub input: &'a str,
+    pub output: &'a str,
 }
 
 /// The refusal of a file to write, by the word for it, that is also a file that is read.
@@ -104,7 +104,7 @@ fn keep_files<S: Storage>(
 
 /// Refuses an output, by the word for it, that is the same file as IN, GRAPH or one of the coefficient files that
 /// `names` has. Standard input and standard output are no files here.
-pub(crate) fn keep_what_is_read<S: Storage>(
+pub fn keep_what_is_read<S: Storage>(
     alloc: Global,
     storage: &S,
     word: &str,
@@ -121,7 +121,7 @@ pub(crate) fn keep_what_is_read<S: Storage>(
 }
 
 /// Refuses a folder that has a file of this name.
-pub(crate) fn keep_file<S: Storage>(
+pub fn keep_file<S: Storage>(
     alloc: Global,
     storage: &S,
     folder: &str,

@@ -1,7 +1,7 @@
 //! What stands in a sound that is refused.
 
-use crate::input::InputTrace;
 use byteorder::{ByteOrder, LittleEndian};
+use sdf_files::input::InputTrace;
 use sdf_wav::FormatFault;
 use sdf_why::{Header, device_text};
 use std::alloc::{AllocError, Global};

@@ -5,16 +5,16 @@ use std::io::{self, ErrorKind, Write};
 
 /// A writer that hands on what it is given to another one, and counts it if there are levels.
 #[derive(Drop)]
-pub(crate) struct Output<'a, W> {
+pub struct Output<'a, W> {
     to: &'a mut W,
-    pub(crate) levels: Option<Levels>,
+    pub levels: Option<Levels>,
     /// How the system refused what was to be written last.
-    pub(crate) refused: Option<ErrorKind>,
+    pub refused: Option<ErrorKind>,
 }
 
 impl<'a, W: Write> Output<'a, W> {
     /// Returns a writer at the start of a sound. `counts` is whether it is counted.
-    pub(crate) fn new(to: &'a mut W, counts: bool) -> Output<'a, W> {
+    pub fn new(to: &'a mut W, counts: bool) -> Output<'a, W> {
         Output {
             to,
             levels: if counts { Some(Levels::new()) } else { None },

@@ -16,12 +16,12 @@ pub struct InputTrace {
     pub name: String,
     pub front: Vec<u8>,
     pub bytes: u64,
-    pub(crate) refused: Option<ErrorKind>,
+    pub refused: Option<ErrorKind>,
 }
 
 impl InputTrace {
     /// Before anything is read.
-    pub(crate) fn new(alloc: Global) -> InputTrace {
+    pub fn new(alloc: Global) -> InputTrace {
         InputTrace {
             name: String::new(alloc),
             front: Vec::new(alloc),
@@ -31,7 +31,7 @@ impl InputTrace {
     }
 
     /// Notes bytes that were read. The front ends where memory is refused for it.
-    pub(crate) fn note(&mut self, bytes: &[u8]) {
+    pub fn note(&mut self, bytes: &[u8]) {
         if self.front.len() as u64 == self.bytes {
             let room = MOST_FRONT.saturating_sub(self.front.len());
             let kept = bytes.len().min(room);
@@ -43,7 +43,7 @@ impl InputTrace {
 
 /// A reader that hands on what another one reads and notes it. With an opening the header says no size of the samples.
 #[derive(Drop)]
-pub(crate) struct Input<'a, R> {
+pub struct Input<'a, R> {
     from: &'a mut R,
     trace: &'a mut InputTrace,
     opening: Option<Opening>,
@@ -51,11 +51,7 @@ pub(crate) struct Input<'a, R> {
 
 impl<'a, R: Read> Input<'a, R> {
     /// Returns a reader at the start of a sound.
-    pub(crate) fn new(
-        from: &'a mut R,
-        trace: &'a mut InputTrace,
-        open_ended: bool,
-    ) -> Input<'a, R> {
+    pub fn new(from: &'a mut R, trace: &'a mut InputTrace, open_ended: bool) -> Input<'a, R> {
         Input {
             from,
             trace,

@@ -17,7 +17,7 @@ use std::path::Path;
 pub const MOST_BYTES: u32 = 1_073_741_824;
 
 /// The fault of a file: memory, or what its device is blamed with.
-pub(crate) fn device_fault(error: &io::Error, blamed: Fault) -> Fault
+pub fn device_fault(error: &io::Error, blamed: Fault) -> Fault
     ensures memory { error_kind error.now ≡ ErrorKind.OutOfMemory → result ≡ OutOfMemory }
     ensures device { error_kind error.now ≢ ErrorKind.OutOfMemory → result ≡ blamed }
 {
@@ -28,7 +28,7 @@ pub(crate) fn device_fault(error: &io::Error, blamed: Fault) -> Fault
 }
 
 /// All of a file's bytes, where they are at most `most`.
-pub(crate) fn bytes_of<F: Read + Drop>(alloc: Global, file: F, most: u32) -> io::Result<Vec<u8>> {
+pub fn bytes_of<F: Read + Drop>(alloc: Global, file: F, most: u32) -> io::Result<Vec<u8>> {
     let mut bytes = Vec::new(alloc);
     file.take(u64::from(most) + 1).read_to_end(&mut bytes)?;
     if bytes.len() <= most as usize {
@@ -47,7 +47,7 @@ pub fn read_all<F: Read + Drop>(alloc: Global, file: F, most: u32) -> Result<Vec
 }
 
 /// Writes bytes.
-pub(crate) fn put<W: Write>(to: &mut W, bytes: &[u8]) -> Result<(), Fault> {
+pub fn put<W: Write>(to: &mut W, bytes: &[u8]) -> Result<(), Fault> {
     match to.write_all(bytes) {
         Ok(()) => Ok(()),
         Err(error) => Err(device_fault(&error, Fault::Write)),
@@ -55,7 +55,7 @@ pub(crate) fn put<W: Write>(to: &mut W, bytes: &[u8]) -> Result<(), Fault> {
 }
 
 /// Makes a file of bytes, or fills it anew.
-pub(crate) fn write_at<S: Storage>(storage: &S, path: &str, bytes: &[u8]) -> Result<(), Fault> {
+pub fn write_at<S: Storage>(storage: &S, path: &str, bytes: &[u8]) -> Result<(), Fault> {
     match storage.create(path) {
         Ok(mut file) => put(&mut file, bytes),
         Err(error) => Err(device_fault(&error, Fault::Write)),
@@ -82,7 +82,7 @@ fn note(
 }
 
 /// The fault of a file that the system refused, which is noted.
-pub(crate) fn refuse(
+pub fn refuse(
     alloc: Global,
     refused: &mut Vec<Refused>,
     name: &str,
@@ -96,7 +96,7 @@ pub(crate) fn refuse(
 }
 
 /// Notes how the system refused a file that was open, unless memory is refused for it.
-pub(crate) fn refuse_kind(alloc: Global, refused: &mut Vec<Refused>, name: &str, kind: ErrorKind) {
+pub fn refuse_kind(alloc: Global, refused: &mut Vec<Refused>, name: &str, kind: ErrorKind) {
     let _ = note(alloc, refused, name, &io::Error::from(kind));
 }
 
@@ -188,7 +188,7 @@ fn loaded_from(alloc: Global, sources: &Sources) -> Result<Loaded, Fault> {
 }
 
 /// The bytes of a file, where they are at most `most`.
-pub(crate) fn read_at<S: Storage>(
+pub fn read_at<S: Storage>(
     alloc: Global,
     storage: &S,
     path: &str,
@@ -220,7 +220,7 @@ fn read_graph<S: Storage>(
 
 /// The design of a graph file and the coefficient files that it names, none of which has over `most` bytes. What is
 /// read stands in `sources`, also where there is a fault.
-pub(crate) fn load_into<S: Storage>(
+pub fn load_into<S: Storage>(
     alloc: Global,
     storage: &S,
     graph: &str,

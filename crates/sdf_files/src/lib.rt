@@ -1,0 +1,19 @@
+//! The files and streams of the program `sdfw`: what it reads of them, what it notes of what goes by, and what it must
+//! not overwrite.
+//!
+//! It depends on `sdf_file`, which reads a design, on `sdf_plan` for the faults, on `sdf_options` for texts that are
+//! safe to print, and on `sdf_words` for a mistake on the command line. Begin at `storage`, then `files` and
+//! `overwriting`. A run reads through `input`, where `opening` shows a size as not filled in, and writes through
+//! `output`, with `levels`. `world` is what commands are done with.
+#![tactic(auto)]
+
+pub mod files;
+pub mod input;
+mod levels;
+mod opening;
+pub mod output;
+pub mod overwriting;
+pub mod storage;
+pub mod world;
+
+pub use levels::Levels;
