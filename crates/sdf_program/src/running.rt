@@ -201,10 +201,7 @@ fn workers_of<T: Threads>(threads: &T, crew: Crew) -> usize
 fn lasting_text(alloc: Global, design: &Design) -> Result<String, AllocError> {
     let told = loop_text(alloc, design)?;
     if told.is_empty() {
-        return String::from_str(
-            alloc,
-            "one thread: the design keeps samples for too long\n",
-        );
+        return String::from_str(alloc, "one thread: the design keeps samples for too long\n");
     }
     format!(in alloc; "one thread: the loop {told} keeps its samples for ever\n")
 }
