@@ -2,6 +2,7 @@
 
 use anyhow::Result;
 use sdf_file::{Design, design_files, read_design};
+use std::alloc::Global;
 use std::fs;
 use std::rt::Files;
 
@@ -35,6 +36,15 @@ fn files_beside<R: AllocGlobal + Files>(
     Ok(files)
 }
 
+/// Reads the design of a graph file and the coefficient files that it names.
+pub(crate) fn design_in(
+    alloc: Global,
+    graph: &[u8],
+    files: &[(String, Vec<u8>)],
+) -> Result<Design> {
+    Ok(read_design(alloc, graph, files)?)
+}
+
 /// Reads the design of a graph file in a folder of `designs`.
 pub(crate) fn design_at<R: AllocGlobal + Files>(
     rt: &R,
@@ -43,5 +53,5 @@ pub(crate) fn design_at<R: AllocGlobal + Files>(
 ) -> Result<Design> {
     let graph = bytes_at(rt, folder, graph)?;
     let files = files_beside(rt, folder, &graph)?;
-    Ok(read_design(rt.alloc(), &graph, &files)?)
+    design_in(rt.alloc(), &graph, &files)
 }

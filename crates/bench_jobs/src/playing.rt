@@ -2,12 +2,12 @@
 
 ghost use Rattle.sdf_plan.specs.Plans.{Suits};
 
-use crate::files::design_at;
+use crate::files::{design_at, design_in};
 use anyhow::Result;
 use bench_inputs::graphs::Graph;
 use bench_inputs::noise::{Length, Level, Noise};
 use bench_inputs::numbers::{Numbers, show};
-use sdf_file::{Design, read_design};
+use sdf_file::Design;
 use sdf_options::{Options, Runner};
 use sdf_plan::Plan;
 use sdf_plan::parallel::parallel_plan;
@@ -78,7 +78,14 @@ impl<'a, R: AllocGlobal + Files + Print + Sync + Threads> Playing<'a, R> {
         requires { Suits design.now.net plan.now }
     {
         let file = noise.file(self.rt.alloc(), &mut self.numbers)?;
-        let made = made_of(self.rt, &file, design, plan)?;
+        self.play_file(name, design, plan, &file)
+    }
+
+    /// Runs a design by a plan on a WAV file.
+    fn play_file(&self, name: &str, design: &Design, plan: &Plan, file: &[u8]) -> Result<()>
+        requires { Suits design.now.net plan.now }
+    {
+        let made = made_of(self.rt, file, design, plan)?;
         Ok(show(self.rt, name, &made)?)
     }
 
@@ -129,14 +136,14 @@ impl<'a, R: AllocGlobal + Files + Print + Sync + Threads> Playing<'a, R> {
         match source {
             Source::Made(graph) => self.made(graph),
             Source::Shipped(folder, graph) => design_at(self.rt, folder, graph),
-            Source::Text(graph, files) => Ok(read_design(self.rt.alloc(), graph, files)?),
+            Source::Text(graph, files) => design_in(self.rt.alloc(), graph, files),
         }
     }
 
     /// Makes a design.
     fn made(&mut self, graph: Graph) -> Result<Design> {
         let text = graph.text(self.rt.alloc(), &mut self.numbers)?;
-        Ok(read_design(self.rt.alloc(), text.as_bytes(), &[])?)
+        design_in(self.rt.alloc(), text.as_bytes(), &[])
     }
 
     /// Makes or reads a design, and runs it.
@@ -209,6 +216,19 @@ impl<'a, R: AllocGlobal + Files + Print + Sync + Threads> Playing<'a, R> {
     }
 }
 
+/// Writes what a design makes of a WAV file by a plan.
+fn write_made<R: AllocGlobal + Sync + Threads>(
+    rt: &R,
+    file: &[u8],
+    writer: &mut ToWrite<Vec<u8>>,
+    design: &Design,
+    plan: &Plan,
+) -> Result<()>
+    requires { Suits design.now.net plan.now }
+{
+    Ok(process(rt, &mut FromRead::new(file), writer, design, plan)?)
+}
+
 /// Returns what a design makes of a WAV file by a plan.
 fn made_of<R: AllocGlobal + Sync + Threads>(
     rt: &R,
@@ -219,8 +239,7 @@ fn made_of<R: AllocGlobal + Sync + Threads>(
     requires { Suits design.now.net plan.now }
 {
     let room = file.len().saturating_mul(MOST_OUTPUTS);
-    let mut reader = FromRead::new(file);
     let mut writer = ToWrite::new(Vec::with_capacity(rt.alloc(), room)?);
-    process(rt, &mut reader, &mut writer, design, plan)?;
+    write_made(rt, file, &mut writer, design, plan)?;
     Ok(writer.into_inner())
 }
