@@ -1,7 +1,9 @@
 """The lists of the shipped program in which memory or a thread is refused, and what its runs ask for."""
+import struct
+
 import largest
 from judges import NO_MEMORY, NO_MEMORY_IN_JSON, NO_WORKER, ample_or, any_of, behind, is_text, only, timed
-from machine import Folder, describe, run
+from machine import Folder, describe, run, wav
 from words import COSTED, FAULTS, MADE, PRINTED, RUNNERS, RUNS, SDFW, SPREAD, run_words, stream_words
 
 
@@ -153,6 +155,30 @@ def limits_of_sdfw(lists):
     lists.cases("sdfw: a design at each limit", cases)
 
 
+# A design that makes 1,024 samples of one, and how many frames it is run on.
+WIDENED = """format = 1
+actor = [{ name = "in", kind = "input", channel = 0 }, { name = "by32", kind = "interpolate", factor = 32 },
+    { name = "again", kind = "interpolate", factor = 32 }, { name = "out", kind = "output", channel = 0, block = 1024 }]
+link = [{ from = "in", to = "by32" }, { from = "by32", to = "again" }, { from = "again", to = "out" }]
+"""
+FRAMES = 10000
+
+
+def makes_all(more):
+    """Whether a run on these frames is done, and makes each sample and the zeros behind it."""
+    ended = run([SDFW, "run", "widened.toml", "frames.wav", "out.wav", *more])
+    wanted = b"".join(struct.pack("<h", 7 * at % 1000 - 500) + bytes(2046) for at in range(FRAMES))
+    return True if ended.status == 0 and (ended.output or b"")[44:] == wanted else describe(ended)
+
+
+def outputs_of_sdfw(lists):
+    """Outputs of over 10,000,000 samples are never refused for want of memory."""
+    (Folder.here() / "widened.toml").write_text(WIDENED)
+    (Folder.here() / "frames.wav").write_bytes(wav([7 * at % 1000 - 500 for at in range(FRAMES)]))
+    ways = [*RUNNERS.values(), ["--parallel", "2"]]
+    lists.cases("sdfw: 10,240,000 samples", [(" ".join(more), lambda more=more: makes_all(more)) for more in ways])
+
+
 def asked_by_run(runner, samples, sound):
     """The bytes that a run of such a design asks for beyond those of reading the design, or how it ended."""
     (Folder.here() / "begun.toml").write_text(begun(samples))
@@ -168,3 +194,4 @@ def all_lists(lists):
     profile_of_sdfw(lists)
     rooms_of_sdfw(lists)
     limits_of_sdfw(lists)
+    outputs_of_sdfw(lists)

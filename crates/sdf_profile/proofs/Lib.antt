@@ -1,2 +1,5 @@
-mod Ranges
+mod FirstLines
+mod Pieces
 pub mod Profiled
+mod Ranges
+mod Unread

@@ -1,4 +1,5 @@
 pub mod Costs
 pub mod Times
+pub mod Places
 pub mod Written
 pub mod Profiles

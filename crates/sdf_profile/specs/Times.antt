@@ -1,5 +1,5 @@
 -- What the firings of actors took, and what is printed of it.
-use Rattle.std.specs.Prelude.{◌≡◌, ℕ, zero, suc, ◌+◌, ◌*◌, ◌/◌, ◌%◌, ◌==◌, if◌then◌else◌, min, List, [], ◌∷◌, ◌++◌}
+use Rattle.std.specs.Prelude.{◌≡◌, ℕ, zero, suc, ◌*◌, ◌/◌, ◌%◌, ◌==◌, if◌then◌else◌, min, List, [], ◌∷◌, ◌++◌}
 use Rattle.std.specs.Prelude.{length, map, slice_index, slice_index_or, codes, decimal}
 use Rattle.std.specs.List.{sum_by}
 use Rattle.sdf_profile.specs.declared.stopwatch.Spent.{Spent}

@@ -1,16 +1,15 @@
 -- A graph file's text with other costs in it, and what it says.
-use Rattle.std.specs.Prelude.{◌≡◌, ◌⊎◌, ℕ, List, [], ◌∷◌, ◌++◌, codes, decimal, Ok}
+use Rattle.std.specs.Prelude.{◌≡◌, ◌⊎◌, ℕ, List, [], ◌∷◌, ◌++◌, codes, decimal, Ok, Err}
 use Rattle.std.specs.List.{All}
 use Rattle.std.specs.Char.{IsAsciiDigit}
 use Rattle.sdf_document.specs.Lists.{Files}
 use Rattle.sdf_document.specs.Actors.{ActorValue}
 use Rattle.sdf_document.specs.Document.{DocumentValue, document_of}
+use Rattle.sdf_profile.specs.declared.unwritten.Unwritten.{Unwritten}
+use Rattle.sdf_profile.specs.declared.unwritten.Unwritten.TheVariants.{OutOfMemory, Reading}
+use Rattle.sdf_profile.specs.Places.{key, costed_text_of}
 
 -- ---- the text
-
--- what stands before a cost's number
-abbrev pub key : List ℕ
-key = codes "cost = "
 
 -- the key and a number
 pub record IsCost (text : List ℕ) : Type 0 where
@@ -40,17 +39,35 @@ pub data DifferInCosts : List ℕ → List ℕ → List ℕ → Type 0 where
 
 -- ---- what it says
 
--- these costs in the place of those of the actors, one each
-abbrev pub with_costs : List ℕ → List ActorValue → List ActorValue
-with_costs (n ∷ ns) (a ∷ actors) = record a { cost = n } ∷ with_costs ns actors
-with_costs ns actors = actors
+-- the second actor is the first one with this cost
+pub record IsCosted (n : ℕ) (old new : ActorValue) : Type 0 where
+  pub name : new.name ≡ old.name
+  pub kind : new.kind ≡ old.kind
+  pub processor : new.processor ≡ old.processor
+  pub cost : new.cost ≡ n
 
--- a document with the costs
-abbrev pub costed : List ℕ → DocumentValue → DocumentValue
-costed ns d = record d { actors = with_costs ns d.actors }
+-- the second actors are the first ones with these costs, one each
+abbrev pub AreCosted : List ℕ → List ActorValue → List ActorValue → Type 0
+AreCosted [] [] [] = Unit {0}
+AreCosted (n ∷ ns) (a ∷ old) (b ∷ new) = IsCosted n a b × AreCosted ns old new
+AreCosted ns old new = ⊥
+
+-- the second document is the first one with these costs
+pub record IsCostedDocument (ns : List ℕ) (old new : DocumentValue) : Type 0 where
+  pub actors : AreCosted ns old.actors new.actors
+  pub links : new.links ≡ old.links
 
 -- the second graph file says what the first one does, but for the costs
 pub record SaysWithCosts (ns : List ℕ) (old new : List ℕ) (files : Files) : Type 0 where
   pub document : DocumentValue
+  pub written : DocumentValue
   pub said : document_of old files ≡ Ok document
-  pub says : document_of new files ≡ Ok (costed ns document)
+  pub says : document_of new files ≡ Ok written
+  pub costed : IsCostedDocument ns document written
+
+-- why no text is written: memory was refused, it can't be made, or it does not say what the graph file says
+pub data IsUnwritten (ns : List ℕ) (graph : List ℕ) (files : Files) (fault : Unwritten) : Type 0 where
+  memory : fault ≡ OutOfMemory → IsUnwritten ns graph files fault
+  unmade : costed_text_of ns graph ≡ Err fault → IsUnwritten ns graph files fault
+  reading : (text : List ℕ) → costed_text_of ns graph ≡ Ok text → ¬ SaysWithCosts ns graph text files →
+      fault ≡ Reading → IsUnwritten ns graph files fault

@@ -1,15 +1,66 @@
 //! A graph file's text with measured costs in it.
 
-ghost use Rattle.std.specs.Prelude.{IfOk};
+ghost use Rattle.std.specs.Prelude.{◌≡◌, ◌⊎◌, IfOk, IsOk, MatchResult, Ok, Err};
 ghost use Rattle.sdf_document.specs.Lists.{files_view};
-ghost use Rattle.sdf_profile.specs.Written.{DifferInCosts, SaysWithCosts};
+ghost use Rattle.sdf_document.specs.Document.{document_of, document_view};
+ghost use Rattle.sdf_profile.specs.declared.unwritten.Unwritten.TheVariants.{OutOfMemory, Reading};
+ghost use Rattle.sdf_profile.specs.Places.{costed_text_of};
+ghost use Rattle.sdf_profile.specs.Written.{DifferInCosts, SaysWithCosts, IsUnwritten};
 
 use crate::places::places_of;
 use crate::replaced::text_with;
 use crate::same::is_costed;
 use crate::unwritten::Unwritten;
-use sdf_document::read_document;
+use sdf_document::{Document, ReadFault, read_document};
 use std::alloc::Global;
+
+/// Returns what a graph file says.
+fn document(alloc: Global, graph: &[u8], files: &[(String, Vec<u8>)]) -> Result<Document, Unwritten>
+    ensures { MatchResult result
+        (λ d. document_of graph.now (files_view files.now) ≡ Ok (document_view d))
+        (λ fault. (fault ≡ OutOfMemory)
+        ⊎ ((fault ≡ Reading) × ¬ IsOk (document_of graph.now (files_view files.now)))) }
+{
+    match read_document(alloc, graph, files) {
+        Ok(document) => Ok(document),
+        Err(ReadFault::OutOfMemory) => Err(Unwritten::OutOfMemory),
+        Err(ReadFault::Document(_)) => Err(Unwritten::Reading),
+    }
+}
+
+/// Tests that `text` says what `graph` says, with `costs`.
+fn test_costed(
+    alloc: Global,
+    graph: &[u8],
+    text: &[u8],
+    files: &[(String, Vec<u8>)],
+    costs: &[u32],
+) -> Result<(), Unwritten>
+    ensures { MatchResult result
+        (λ _. SaysWithCosts costs.now graph.now text.now (files_view files.now))
+        (λ fault. (fault ≡ OutOfMemory)
+        ⊎ ((fault ≡ Reading) × ¬ SaysWithCosts costs.now graph.now text.now (files_view files.now))) }
+{
+    let old = document(alloc, graph, files)?;
+    let new = document(alloc, text, files)?;
+    if is_costed(&old, &new, costs) {
+        Ok(())
+    } else {
+        Err(Unwritten::Reading)
+    }
+}
+
+/// Returns the text of `graph` with `costs`, before it is read again.
+#[tactic(auto, unfolding(crate::specs::Places::costed_text_of))]
+fn made_text(alloc: Global, graph: &[u8], costs: &[u32]) -> Result<Vec<u8>, Unwritten>
+    ensures exactly { MatchResult result
+        (λ text. costed_text_of costs.now graph.now ≡ Ok text.items)
+        (λ fault. (fault ≡ OutOfMemory) ⊎ (costed_text_of costs.now graph.now ≡ Err fault)) }
+    ensures differs { IfOk result (λ text. DifferInCosts costs.now graph.now text.items) }
+{
+    let places = places_of(alloc, graph)?;
+    text_with(alloc, graph, &places, costs)
+}
 
 /// The text of a graph file with these costs in the place of those of its actors. Each line stays as it is but for
 /// the numbers behind `cost = `, and where an actor has none a line is added behind the last key of its table.
@@ -24,14 +75,13 @@ pub fn costed_text(
 ) -> Result<Vec<u8>, Unwritten>
     ensures text { IfOk result (λ text. DifferInCosts costs.now graph.now text.items) }
     ensures says { IfOk result (λ text. SaysWithCosts costs.now graph.now text.items (files_view files.now)) }
+    ensures exactly { MatchResult result
+        (λ text. costed_text_of costs.now graph.now ≡ Ok text.items)
+        (IsUnwritten costs.now graph.now (files_view files.now)) }
 {
-    let places = places_of(alloc, graph)?;
-    let text = text_with(alloc, graph, &places, costs)?;
-    let old = read_document(alloc, graph, files)?;
-    let new = read_document(alloc, &text, files)?;
-    if is_costed(&old, &new, costs) {
-        Ok(text)
-    } else {
-        Err(Unwritten::Reading)
+    let text = made_text(alloc, graph, costs)?;
+    match test_costed(alloc, graph, &text, files, costs) {
+        Ok(()) => Ok(text),
+        Err(fault) => Err(fault),
     }
 }

@@ -6,7 +6,7 @@
 //! on `sdf_document`, which reads a graph file, and on `sdf_limits`.
 //! Begin with `measuring`. `stopwatch` measures, `lines` and `costs` make the report, and `costing` writes the costs
 //! into a graph file's text. Nothing is said of time itself. The definitions are in `specs/Profiles.antt`,
-//! `specs/Times.antt`, `specs/Costs.antt` and `specs/Written.antt`.
+//! `specs/Times.antt`, `specs/Costs.antt`, `specs/Places.antt` and `specs/Written.antt`.
 #![tactic(auto)]
 
 mod costing;

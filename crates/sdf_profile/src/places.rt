@@ -1,7 +1,13 @@
 //! Where the costs stand in a graph file's text, or may stand.
 
+ghost use Rattle.std.specs.Prelude.{◌≡◌, ◌≤◌, ◌<◌, ◌+◌, ◌⊎◌, length, Ok, Err, OnOk, MatchResult};
+ghost use Rattle.sdf_profile.specs.Places.{line_length, end_length, unindented, says_nothing, names_cost, digits};
+ghost use Rattle.sdf_profile.specs.Places.{cost_length, place_behind, found_view, closed, headed, keyed, line_found};
+ghost use Rattle.sdf_profile.specs.Places.{places_of};
+ghost use Rattle.sdf_profile.specs.declared.unwritten.Unwritten.TheVariants.{OutOfMemory};
+
 use crate::unwritten::Unwritten;
-use std::alloc::Global;
+use std::alloc::{AllocError, Global};
 
 /// The first line of an actor's table.
 const HEAD: &[u8] = b"[[actor]]";
@@ -9,7 +15,7 @@ const HEAD: &[u8] = b"[[actor]]";
 /// What stands before a cost.
 pub(crate) const KEY: &[u8] = b"cost = ";
 
-/// Where the cost of an actor stands: a key and a number of so many bytes, or none of them at the end of a line.
+/// Where the cost of an actor stands: a key and a number of `length` bytes, or none of them at the end of a line.
 #[derive(Clone, Copy)]
 pub(crate) struct Place {
     pub(crate) start: usize,
@@ -18,55 +24,97 @@ pub(crate) struct Place {
     pub(crate) long: bool,
 }
 
-/// A line without its end.
-fn without_end(line: &[u8]) -> &[u8] {
-    match line {
-        [text @ .., b'\r', b'\n'] => text,
-        [text @ .., b'\n'] => text,
-        text => text,
+/// Returns the length of the first line of `text`, its end included.
+#[tactic(auto, using(crate::proofs::FirstLines::line_within, crate::proofs::FirstLines::line_some))]
+fn line_length(text: &[u8]) -> usize
+    ensures exactly { result ≡ line_length text.now }
+    ensures within { result ≤ length text.now }
+    ensures some { 0 < length text.now → 0 < result }
+{
+    for (place, byte) in text.iter().enumerate() {
+        if *byte == b'\n' {
+            return place + 1;
+        }
+    }
+    text.len()
+}
+
+/// Returns the length of the end of `line`.
+fn end_length(line: &[u8]) -> usize
+    ensures { result ≡ end_length line.now }
+{
+    if line.ends_with(b"\r\n") {
+        2
+    } else if line.ends_with(b"\n") {
+        1
+    } else {
+        0
     }
 }
 
-/// Whether a line is blank or only a comment.
-fn says_nothing(line: &[u8]) -> bool {
-    matches!(line.trim_ascii_start(), [] | [b'#', ..])
+/// Returns `line` without the blanks at its front.
+fn unindented(line: &[u8]) -> &[u8]
+    ensures { result.now ≡ unindented line.now }
+{
+    line.trim_ascii_start()
 }
 
-/// Whether a line has the key `cost`, however it is written: no other key begins so.
-fn names_cost(line: &[u8]) -> bool {
-    match line.trim_ascii_start() {
-        [b'"' | b'\'', key @ ..] => key.starts_with(b"cost"),
-        key => key.starts_with(b"cost"),
+/// Tests whether `line` is blank or only a comment.
+#[tactic(auto, unfolding(crate::specs::Places::says_nothing))]
+fn says_nothing(line: &[u8]) -> bool
+    ensures { result ≡ says_nothing line.now }
+{
+    let text = unindented(line);
+    text.is_empty() || text.starts_with(b"#")
+}
+
+/// Tests whether `line` has the key `cost`, however it is written: no other key begins so.
+#[tactic(auto, unfolding(crate::specs::Places::names_cost))]
+fn names_cost(line: &[u8]) -> bool
+    ensures { result ≡ names_cost line.now }
+{
+    let text = unindented(line);
+    text.starts_with(b"cost") || text.starts_with(b"\"cost") || text.starts_with(b"'cost")
+}
+
+/// Returns the number of digits at the front of `text`.
+fn digits(text: &[u8]) -> usize
+    ensures exactly { result ≡ digits text.now }
+    ensures within { result ≤ length text.now }
+{
+    for (place, byte) in text.iter().enumerate() {
+        if !byte.is_ascii_digit() {
+            return place;
+        }
     }
+    text.len()
 }
 
-/// How many bytes of a line are the key and its number, or none where these are not all that it says.
-fn cost_length(line: &[u8]) -> Option<usize> {
-    let value = line.strip_prefix(KEY)?;
-    let digits = value
-        .iter()
-        .take_while(|byte| byte.is_ascii_digit())
-        .count();
-    if digits > 0 && says_nothing(value.get(digits..)?) {
+/// Returns how many bytes of `line` are the key and its number, if these are all that it says.
+#[tactic(auto, unfolding(crate::specs::Places::cost_length))]
+fn cost_length(line: &[u8]) -> Option<usize>
+    ensures { result ≡ cost_length line.now }
+{
+    if !line.starts_with(KEY) {
+        return None;
+    }
+    let (_key, value) = line.split_at(KEY.len());
+    let digits = digits(value);
+    let (_number, rest) = value.split_at(digits);
+    if digits > 0 && says_nothing(rest) {
         Some(KEY.len() + digits)
     } else {
         None
     }
 }
 
-/// The place of the cost that a line has, where it has it in that form.
-fn cost_in(start: usize, line: &[u8]) -> Option<Place> {
-    Some(Place {
-        start,
-        length: cost_length(line)?,
-        long: false,
-    })
-}
-
-/// The place behind a line.
-fn behind(start: usize, line: &[u8], long: bool) -> Place {
+/// Returns the place at the end of `line`, which begins at `start`.
+fn place_behind(start: usize, line: &[u8], long: bool) -> Place
+    requires { start + length line.now ≤ usize.MAX }
+    ensures { result ≡ place_behind start line.now long }
+{
     Place {
-        start: start.saturating_add(without_end(line).len()),
+        start: start + line.len().saturating_sub(end_length(line)),
         length: 0,
         long,
     }
@@ -76,58 +124,101 @@ fn behind(start: usize, line: &[u8], long: bool) -> Place {
 #[derive(Drop)]
 struct Found {
     places: Vec<Place>,
-    /// Whether the line before is one of an actor's table.
-    in_actor: bool,
+    /// The place in the table of the line before, if that is an actor's.
+    table: Option<Place>,
 }
 
 impl Found {
-    /// Goes on with a line that heads a table.
-    fn head(&mut self, start: usize, line: &[u8]) -> Result<(), Unwritten> {
-        self.in_actor = line.starts_with(HEAD);
-        if self.in_actor {
-            self.places
-                .push(behind(start, line, line.ends_with(b"\r\n")))?;
+    /// Ends the table of the line before.
+    fn close(&mut self) -> Result<(), AllocError>
+        ensures { OnOk result (self.new.places.items ≡ closed (found_view self.old)) }
+    {
+        if let Some(place) = self.table {
+            self.places.push(place)?;
         }
         Ok(())
     }
 
-    /// Goes on with a line that says something of an actor.
-    fn key(&mut self, start: usize, line: &[u8]) -> Result<(), Unwritten> {
-        let actor = self.places.len().saturating_sub(1);
-        let Some(last) = self.places.last_mut() else {
-            return Ok(());
+    /// Goes on with a line that heads a table.
+    #[tactic(auto, unfolding(crate::specs::Places::headed))]
+    fn head(&mut self, start: usize, line: &[u8]) -> Result<(), AllocError>
+        requires { start + length line.now ≤ usize.MAX }
+        ensures { OnOk result (found_view self.new ≡ headed start line.now (found_view self.old)) }
+    {
+        self.close()?;
+        self.table = if line.starts_with(HEAD) {
+            Some(place_behind(start, line, line.ends_with(b"\r\n")))
+        } else {
+            None
         };
+        Ok(())
+    }
+
+    /// Goes on with a line of an actor's table, in which `place` is the place so far.
+    #[tactic(auto, unfolding(crate::specs::Places::keyed))]
+    fn key(&mut self, start: usize, line: &[u8], place: Place) -> Result<(), Unwritten>
+        requires { start + length line.now ≤ usize.MAX }
+        ensures { MatchResult result
+            (λ _. keyed start line.now place (found_view self.old) ≡ Ok (found_view self.new))
+            (λ fault. keyed start line.now place (found_view self.old) ≡ Err fault) }
+    {
         if names_cost(line) {
-            *last = cost_in(start, line).ok_or(Unwritten::Cost(actor))?;
-        } else if last.length == 0 {
-            *last = behind(start, line, last.long);
+            let Some(length) = cost_length(line) else {
+                return Err(Unwritten::Cost(self.places.len()));
+            };
+            self.table = Some(Place {
+                start,
+                length,
+                long: false,
+            });
+        } else if place.length == 0 {
+            self.table = Some(place_behind(start, line, place.long));
         }
         Ok(())
     }
 
     /// Goes on with a line that starts here.
-    fn line(&mut self, start: usize, line: &[u8]) -> Result<(), Unwritten> {
+    #[tactic(auto, unfolding(crate::specs::Places::line_found))]
+    fn line(&mut self, start: usize, line: &[u8]) -> Result<(), Unwritten>
+        requires { start + length line.now ≤ usize.MAX }
+        ensures { MatchResult result
+            (λ _. line_found start line.now (found_view self.old) ≡ Ok (found_view self.new))
+            (λ fault. (fault ≡ OutOfMemory) ⊎ (line_found start line.now (found_view self.old) ≡ Err fault)) }
+    {
         if line.starts_with(b"[") {
-            self.head(start, line)
-        } else if self.in_actor && !says_nothing(line) {
-            self.key(start, line)
-        } else {
-            Ok(())
+            self.head(start, line)?;
+            return Ok(());
+        }
+        if says_nothing(line) {
+            return Ok(());
+        }
+        match self.table {
+            Some(place) => self.key(start, line, place),
+            None => Ok(()),
         }
     }
 }
 
-/// Where the cost of each actor stands in a graph file's text: behind the key `cost` of its table, and where there is
-/// none at the end of the table's last key.
-pub(crate) fn places_of(alloc: Global, graph: &[u8]) -> Result<Vec<Place>, Unwritten> {
+/// Returns where the cost of each actor stands in a graph file's text: behind the key `cost` of its table, and where
+/// there is none at the end of the table's last key.
+#[tactic(auto, unfolding(crate::specs::Places::places_of))]
+pub(crate) fn places_of(alloc: Global, graph: &[u8]) -> Result<Vec<Place>, Unwritten>
+    ensures { MatchResult result
+        (λ places. places_of graph.now ≡ Ok places.items)
+        (λ fault. (fault ≡ OutOfMemory) ⊎ (places_of graph.now ≡ Err fault)) }
+{
     let mut found = Found {
         places: Vec::new(alloc),
-        in_actor: false,
+        table: None,
     };
-    let mut start = 0usize;
-    for line in graph.split_inclusive(|byte| *byte == b'\n') {
+    let mut start = 0;
+    let mut rest = graph;
+    'lines: while !rest.is_empty() {
+        let (line, behind) = rest.split_at(line_length(rest));
         found.line(start, line)?;
-        start = start.saturating_add(line.len());
+        start += line.len();
+        rest = behind;
     }
+    found.close()?;
     Ok(found.places)
 }

@@ -1,25 +1,42 @@
 //! A text with other costs in it.
 
-ghost use Rattle.std.specs.Prelude.{◌≡◌, ◌≤◌, ◌∷◌, [], IsTrue, IfOk, IfSome, ◌++◌, string_bytes, length, take, ℕ, List};
+ghost use Rattle.std.specs.Prelude.{◌≡◌, ◌≤◌, ◌∷◌, ◌⊎◌, [], IsTrue, IfOk, IfSome, ◌++◌, string_bytes, length, take, ℕ};
+ghost use Rattle.std.specs.Prelude.{List, option_map, MatchOption, MatchResult, Some, None, Ok, Err};
+ghost use Rattle.sdf_profile.specs.declared.unwritten.Unwritten.TheVariants.{OutOfMemory};
+ghost use Rattle.std.specs.List.{All, list_all};
+ghost use Rattle.std.specs.Char.{IsAsciiDigit, is_ascii_digit};
+ghost use Rattle.sdf_profile.specs.Places.{is_cost, before, text_for, piece, costed_in};
 ghost use Rattle.sdf_profile.specs.Written.{IsCost, IsBefore, IsReplaced, DifferInCosts};
 
 use crate::places::{KEY, Place};
 use crate::unwritten::Unwritten;
 use std::alloc::{AllocError, Global};
 
-/// Whether a text is the key and a number.
+/// Tests that `text` has digits alone.
+fn are_digits(text: &[u8]) -> bool
+    ensures exactly { result ≡ list_all is_ascii_digit text.now }
+    ensures means { IsTrue result → All IsAsciiDigit text.now }
+{
+    text.iter().all(|digit| digit.is_ascii_digit())
+}
+
+/// Tests that `text` is the key and a number.
+#[tactic(auto, unfolding(crate::specs::Places::is_cost))]
 fn is_cost(text: &[u8]) -> bool
-    ensures { IsTrue result → IsCost text.now }
+    ensures exactly { result ≡ is_cost text.now }
+    ensures means { IsTrue result → IsCost text.now }
 {
     match text.strip_prefix(KEY) {
-        Some(digits) => digits.iter().all(|digit| digit.is_ascii_digit()),
+        Some(digits) => are_digits(digits),
         None => false,
     }
 }
 
-/// What comes before a cost that is written in the place of a text, if it may be.
+/// Returns what comes before a cost in the place of `old`, if one may be written there.
+#[tactic(auto, unfolding(crate::specs::Places::before))]
 fn before(old: &[u8], long: bool) -> Option<&'static str>
-    ensures { IfSome result (λ before. IsBefore old.now before.now) }
+    ensures exactly { option_map (λ before. before.now) result ≡ before old.now long }
+    ensures means { IfSome result (λ before. IsBefore old.now before.now) }
 {
     if is_cost(old) {
         Some("")
@@ -32,9 +49,11 @@ fn before(old: &[u8], long: bool) -> Option<&'static str>
     }
 }
 
-/// The cost that is written in the place of a text, if it may be.
+/// Returns the text of `cost` in the place of `old`, if it may be written there.
+#[tactic(auto, unfolding(crate::specs::Places::text_for))]
 fn text_for(alloc: Global, old: &[u8], long: bool, cost: u32) -> Result<Option<String>, AllocError>
-    ensures { IfOk result (λ text. IfSome text (λ new. IsReplaced cost old.now (string_bytes new))) }
+    ensures exactly { IfOk result (λ text. option_map string_bytes text ≡ text_for cost old.now long) }
+    ensures means { IfOk result (λ text. IfSome text (λ new. IsReplaced cost old.now (string_bytes new))) }
 {
     match before(old, long) {
         Some(before) => Ok(Some(format!(in alloc; "{before}cost = {cost}")?)),
@@ -42,7 +61,9 @@ fn text_for(alloc: Global, old: &[u8], long: bool, cost: u32) -> Result<Option<S
     }
 }
 
-/// Adds what stands up to a place, and the cost there, if it may be. Gives where the place ends.
+/// Adds to `text` what stands from `read` to `place`, and the cost there. Returns where the place ends, or nothing if
+/// no cost may be written there.
+#[tactic(auto, unfolding(crate::specs::Places::piece))]
 fn push_cost(
     alloc: Global,
     text: &mut Vec<u8>,
@@ -53,6 +74,10 @@ fn push_cost(
 ) -> Result<Option<usize>, AllocError>
     requires { read ≤ length graph.now }
     ensures within { IfOk result (λ end. IfSome end (λ end. end ≤ length graph.now)) }
+    ensures exactly { IfOk result (λ end. MatchOption end
+        (piece graph.now read place cost ≡ None)
+        (λ end. (new : List ℕ) × (piece graph.now read place cost ≡ Some (record { new = new; end = end }))
+        × (text.new.items ≡ text.old.items ++ new))) }
     ensures cost { (ns : List ℕ) → DifferInCosts ns (take read graph.now) text.old.items →
         IfOk result (λ end. IfSome end (λ end. DifferInCosts (ns ++ cost ∷ []) (take end graph.now) text.new.items)) }
 {
@@ -76,14 +101,18 @@ fn push_cost(
     Ok(Some(end))
 }
 
-/// A text with these costs at these places.
+/// Returns `graph` with `costs` at `places`, one each.
+#[tactic(auto, unfolding(crate::specs::Places::costed_in))]
 pub(crate) fn text_with(
     alloc: Global,
     graph: &[u8],
     places: &[Place],
     costs: &[u32],
 ) -> Result<Vec<u8>, Unwritten>
-    ensures { IfOk result (λ text. DifferInCosts costs.now graph.now text.items) }
+    ensures exactly { MatchResult result
+        (λ text. costed_in graph.now places.now costs.now ≡ Ok text.items)
+        (λ fault. (fault ≡ OutOfMemory) ⊎ (costed_in graph.now places.now costs.now ≡ Err fault)) }
+    ensures differs { IfOk result (λ text. DifferInCosts costs.now graph.now text.items) }
 {
     if places.len() != costs.len() {
         return Err(Unwritten::Tables(places.len()));

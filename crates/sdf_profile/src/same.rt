@@ -1,16 +1,16 @@
 //! Whether two documents say the same but for the costs.
 
-ghost use Rattle.std.specs.Prelude.{◌≡◌, IsTrue, map, option_map, string_bytes};
+ghost use Rattle.std.specs.Prelude.{◌≡◌, ◌↔◌, IsTrue, map, option_map, string_bytes};
 ghost use Rattle.sdf_document.specs.Actors.{actor_view, ActorValue};
 ghost use Rattle.sdf_document.specs.Links.{link_view};
 ghost use Rattle.sdf_document.specs.Document.{document_view};
-ghost use Rattle.sdf_profile.specs.Written.{with_costs, costed};
+ghost use Rattle.sdf_profile.specs.Written.{IsCosted, AreCosted, IsCostedDocument};
 
 use sdf_document::{ActorEntry, Document, KindEntry, LinkEntry, ListEntry};
 
-/// Whether two optional names are alike.
+/// Tests that two optional names are alike.
 fn same_name(one: &Option<String>, other: &Option<String>) -> bool
-    ensures { IsTrue result → option_map string_bytes one.now ≡ option_map string_bytes other.now }
+    ensures { IsTrue result ↔ option_map string_bytes one.now ≡ option_map string_bytes other.now }
 {
     match (one, other) {
         (Some(one), Some(other)) => one.as_str() == other.as_str(),
@@ -19,23 +19,23 @@ fn same_name(one: &Option<String>, other: &Option<String>) -> bool
     }
 }
 
-/// Whether numbers are alike.
+/// Tests that numbers are alike.
 fn same_numbers(one: &[i32], other: &[i32]) -> bool
-    ensures { IsTrue result → one.now ≡ other.now }
+    ensures { IsTrue result ↔ one.now ≡ other.now }
 {
     one == other
 }
 
-/// Whether two lists are alike.
+/// Tests that two lists are alike.
 fn same_list(one: &ListEntry, other: &ListEntry) -> bool
-    ensures { IsTrue result → one.now ≡ other.now }
+    ensures { IsTrue result ↔ one.now ≡ other.now }
 {
     same_name(&one.file, &other.file) && same_numbers(&one.values, &other.values)
 }
 
-/// Whether two kinds are alike.
+/// Tests that two kinds are alike.
 fn same_kind(one: &KindEntry, other: &KindEntry) -> bool
-    ensures { IsTrue result → one.now ≡ other.now }
+    ensures { IsTrue result ↔ one.now ≡ other.now }
 {
     match (one, other) {
         (
@@ -109,9 +109,9 @@ fn same_kind(one: &KindEntry, other: &KindEntry) -> bool
     }
 }
 
-/// Whether the second actor is the first one with this cost.
+/// Tests that the second actor is the first one with this cost.
 fn same_actor(old: &ActorEntry, new: &ActorEntry, cost: u32) -> bool
-    ensures { IsTrue result → actor_view new.now ≡ record (actor_view old.now) { cost = cost } }
+    ensures { IsTrue result ↔ IsCosted cost (actor_view old.now) (actor_view new.now) }
 {
     old.name.as_str() == new.name.as_str()
         && same_kind(&old.kind, &new.kind)
@@ -119,29 +119,32 @@ fn same_actor(old: &ActorEntry, new: &ActorEntry, cost: u32) -> bool
         && new.cost == cost
 }
 
-/// Whether the second actors are the first ones with these costs.
+/// Tests that the second actors are the first ones with these costs.
 fn same_actors(old: &[ActorEntry], new: &[ActorEntry], costs: &[u32]) -> bool
-    ensures { IsTrue result → map actor_view new.now ≡ with_costs costs.now (map actor_view old.now) }
+    ensures { IsTrue result ↔ AreCosted costs.now (map actor_view old.now) (map actor_view new.now) }
 {
-    match (old, new, costs) {
-        ([], [], []) => true,
-        ([one, old @ ..], [other, new @ ..], [cost, costs @ ..]) => {
-            same_actor(one, other, *cost) && same_actors(old, new, costs)
-        }
-        _ => false,
-    }
+    let Some((cost, costs)) = costs.split_first() else {
+        return old.is_empty() && new.is_empty();
+    };
+    let Some((one, old)) = old.split_first() else {
+        return false;
+    };
+    let Some((other, new)) = new.split_first() else {
+        return false;
+    };
+    same_actor(one, other, *cost) && same_actors(old, new, costs)
 }
 
-/// Whether two links are alike.
+/// Tests that two links are alike.
 fn same_link(one: &LinkEntry, other: &LinkEntry) -> bool
-    ensures { IsTrue result → link_view one.now ≡ link_view other.now }
+    ensures { IsTrue result ↔ link_view one.now ≡ link_view other.now }
 {
     one.from == other.from && one.to == other.to && same_numbers(&one.initial, &other.initial)
 }
 
-/// Whether links are alike.
+/// Tests that links are alike.
 fn same_links(one: &[LinkEntry], other: &[LinkEntry]) -> bool
-    ensures { IsTrue result → map link_view one.now ≡ map link_view other.now }
+    ensures { IsTrue result ↔ map link_view one.now ≡ map link_view other.now }
 {
     match (one, other) {
         ([], []) => true,
@@ -152,9 +155,9 @@ fn same_links(one: &[LinkEntry], other: &[LinkEntry]) -> bool
     }
 }
 
-/// Whether the second document is the first one with these costs.
+/// Tests that the second document is the first one with these costs.
 pub(crate) fn is_costed(old: &Document, new: &Document, costs: &[u32]) -> bool
-    ensures { IsTrue result → document_view new.now ≡ costed costs.now (document_view old.now) }
+    ensures { IsTrue result ↔ IsCostedDocument costs.now (document_view old.now) (document_view new.now) }
 {
     same_actors(&old.actors, &new.actors, costs) && same_links(&new.links, &old.links)
 }

@@ -1,6 +1,8 @@
 //! Why no text was made.
 
-use sdf_document::ReadFault;
+ghost use Rattle.std.specs.Prelude.{◌≡◌};
+ghost use Rattle.sdf_profile.specs.declared.unwritten.Unwritten.TheVariants.{OutOfMemory};
+
 use std::alloc::{AllocError, AllocFailed};
 
 /// Why costs can't be written into a graph file's text.
@@ -16,22 +18,17 @@ pub enum Unwritten {
 }
 
 impl From<AllocError> for Unwritten {
+    ghost from_gives = { λ _ e. e ≡ OutOfMemory };
+
     fn from(_e: AllocError) -> Unwritten {
         Unwritten::OutOfMemory
     }
 }
 
 impl<T: Drop> From<AllocFailed<T>> for Unwritten {
+    ghost from_gives = { λ _ e. e ≡ OutOfMemory };
+
     fn from(_e: AllocFailed<T>) -> Unwritten {
         Unwritten::OutOfMemory
-    }
-}
-
-impl From<ReadFault> for Unwritten {
-    fn from(fault: ReadFault) -> Unwritten {
-        match fault {
-            ReadFault::OutOfMemory => Unwritten::OutOfMemory,
-            ReadFault::Document(_) => Unwritten::Reading,
-        }
     }
 }

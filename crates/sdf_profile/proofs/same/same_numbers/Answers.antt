@@ -4,5 +4,4 @@ use Rattle.std.proofs.lemmas.Bool.Decides.{Decides-int_eq}
 use Rattle.sdf_profile.proofs.same.same_numbers.Goals as goal
 
 pub returns : goal.returns
-returns c alike = (slice_eq-Decides Decides-int_eq c.args.one.now c.args.other.now c.eq.result (search rules)).0
-    (search rules)
+returns c = slice_eq-Decides Decides-int_eq c.args.one.now c.args.other.now c.eq.result (search rules)
