@@ -11,8 +11,7 @@ use anyhow::Result;
 use sdf_actor::Net;
 use sdf_answer::BlockTable;
 use sdf_kit::Kit;
-use sdf_options::Runner;
-use sdf_plan::Plan;
+use sdf_plan::{Plan, Way};
 use sdf_run::{Gate, NoGate, Ran, RunFault, Workers, run_one, run_rings, run_rows};
 use std::alloc::{AllocError, Global};
 use std::io;
@@ -60,16 +59,26 @@ pub(crate) fn run_blocks<R: AllocGlobal + Sync + Threads, G: Gate>(
 ) -> Result<Ran<i32>, RunFault>
     requires fits { IsBlockTableOf (rates (graph_of kit_steps net.now)) table.now }
 {
-    match plan.runner() {
-        Runner::Rings => {
+    match plan.way() {
+        Way::Rings { patience, .. } => {
             let workers = Workers {
                 rt,
                 gate,
-                patience: plan.patience(),
+                patience: *patience,
             };
             run_rings(workers, net, table, BLOCKS, inputs)
         }
-        _ => run_rows(rt, net, table, BLOCKS, inputs, gate),
+        Way::One { .. } | Way::Parts { .. } | Way::Rows(_) => {
+            run_rows(rt, net, table, BLOCKS, inputs, gate)
+        }
+    }
+}
+
+/// Returns the periods of a block.
+fn blocking(plan: &Plan) -> u32 {
+    match plan.way() {
+        Way::One { blocking, .. } | Way::Parts { blocking, .. } => *blocking,
+        Way::Rows(table) | Way::Rings { table, .. } => table.factor,
     }
 }
 
@@ -81,7 +90,7 @@ pub(crate) fn run_twice<R: AllocGlobal + Print + Sync + Threads>(
 ) -> Result<()>
     requires { Suits net.now plan.now }
 {
-    let periods = BLOCKS.saturating_mul(plan.blocking());
+    let periods = BLOCKS.saturating_mul(blocking(plan));
     let inputs = inputs_of(rt.alloc(), net, periods)?;
     for turn in TURNS {
         println!(rt; "{turn}")?;

@@ -11,8 +11,7 @@ use anyhow::Result;
 use sdf_actor::Net;
 use sdf_answer::BlockTable;
 use sdf_kit::Kit;
-use sdf_options::Runner;
-use sdf_plan::Plan;
+use sdf_plan::{Plan, Way};
 use sdf_run::{Mode, NoGate, RunFault, Session};
 use std::alloc::Global;
 use std::io;
@@ -27,11 +26,11 @@ fn open<'a>(
 ) -> Result<Session<'a, Kit>, RunFault>
     requires fits { IsBlockTableOf (rates (graph_of kit_steps net.now)) table.now }
 {
-    let mode = match plan.runner() {
-        Runner::Rings => Mode::Rings {
-            patience: plan.patience(),
+    let mode = match plan.way() {
+        Way::Rings { patience, .. } => Mode::Rings {
+            patience: *patience,
         },
-        _ => Mode::Rows,
+        Way::One { .. } | Way::Parts { .. } | Way::Rows(_) => Mode::Rows,
     };
     Session::open(alloc, net, table, mode)
 }

@@ -3,6 +3,6 @@ pub mod Statuses
 pub mod Weights
 pub mod Placements
 pub mod Plans
-pub mod Followed
+pub mod Ways
 pub mod Paces
 pub mod Schedules

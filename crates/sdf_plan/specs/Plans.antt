@@ -36,8 +36,8 @@ use Rattle.sdf_plan.specs.declared.fault.Fault.TheVariants.{OutOfMemory, Patienc
 use Rattle.sdf_plan.specs.declared.fault.Fault.TheVariants.{Deadlock, Table, NotHomed}
 use Rattle.sdf_plan.specs.Placements.{ArePeriodsOf, IsTableBy, IsPlaceFault}
 
--- what runs a design, the periods of a block, a worker's repeated tests, how many parts of a sound one thread each runs
--- at once, the order of one period, and the table of a block
+-- what runs a design, the periods of a block, a worker's repeated tests over rings, how many parts of a sound one thread
+-- each runs at once, the order of one period, and the table of a block
 pub record PlanValue : Type 0 where
   pub blocking : ℕ
   pub runner : Runner
@@ -104,12 +104,29 @@ IsTableFor Rows d o s j (Some t) = IsTableBy d o s j t
 IsTableFor Rings d o s j (Some t) = IsTableBy d o s j t × IsHomed t
 IsTableFor runner d o s j None = ⊥
 
+-- a worker's repeated tests over rings. The other runners have none
+abbrev pub patience_for : Runner → ℕ → ℕ
+patience_for Rings patience = patience
+patience_for runner patience = 0
+
+-- what a design is run by, for blocks of j periods, by options: its period, and the table that the runner needs
+pub record IsRunBy (d : DesignValue) (o : Options) (s : Schedule) (j : ℕ) (p : PlanValue) : Type 0 where
+  pub is : p ≡ record {
+    blocking = j;
+    runner = o.runner;
+    patience = patience_for o.runner o.patience;
+    parts = 1;
+    period = s;
+    table = p.table;
+  }
+  pub by_placement : IsTableFor o.runner d o s j p.table
+
 -- the plan of a design by options that pass all tests
 pub record IsPlanOf (d : DesignValue) (o : Options) (p : PlanValue) : Type 0 where
   pub options : ArePassed o
   pub blocking : ArePeriodsOf d o p.period p.blocking
   pub same_runner : p.runner ≡ o.runner
-  pub same_patience : p.patience ≡ o.patience
+  pub same_patience : p.patience ≡ patience_for o.runner o.patience
   pub whole : p.parts ≡ 1
   pub schedule : IsScheduleBy o.policy (graph_of kit_steps d.net) p.period
   pub by_placement : IsTableFor o.runner d o p.period p.blocking p.table

@@ -17,4 +17,4 @@ pub mod schedule;
 mod weights;
 
 pub use fault::{Fault, Progress, Stalled, fault_text, status};
-pub use plan::Plan;
+pub use plan::{Plan, Way};

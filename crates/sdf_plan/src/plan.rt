@@ -7,139 +7,94 @@ ghost use Rattle.sdf_actor.specs.Nets.{Netlist};
 ghost use Rattle.sdf_answer.specs.Rows.{IsBlockTableOf};
 ghost use Rattle.sdf_kit.specs.declared.kit.Kit.{Kit};
 ghost use Rattle.sdf_kit.specs.Kit.{kit_steps};
-ghost use Rattle.sdf_plan.specs.Followed.{blocking_in, period_in, table_in, HasBlockTable};
+ghost use Rattle.sdf_plan.specs.Ways.{plan_by, HasBlockTable};
 ghost use Rattle.sdf_plan.specs.Plans.{Suits};
 
 use sdf_answer::BlockTable;
-use sdf_options::{Options, Runner};
-use sdf_prec::Table;
 use sdf_sched::Period;
 use std::marker::Model;
 
-/// What a runner follows.
+/// How a design is run: the runner, and what it follows.
 #[derive(Drop)]
-enum Followed {
-    /// One period, and how many a block has.
-    OneThread { period: Period, blocking: u32 },
-    Workers(BlockTable),
+pub enum Way {
+    /// On one thread, by the order of `period`. A block has `blocking` periods.
+    One {
+        period: Period,
+        blocking: u32,
+    },
+    /// In `parts` parts of the sound at once, each as `One` runs the whole sound.
+    Parts {
+        period: Period,
+        blocking: u32,
+        parts: u32,
+    },
+    /// By the rows of a table.
+    Rows(BlockTable),
+    /// Over rings, by a worker for each column of a table. A worker repeats at most `patience` tests in a round.
+    Rings {
+        table: BlockTable,
+        patience: u32,
+    },
 }
 
-/// What is followed with a table or without one.
-fn following(period: Period, blocking: u32, table: Option<Table>) -> Followed
-    ensures blocking { blocking_in result ≡ blocking }
-    ensures period { period_in result ≡ period }
-    ensures table { table_in result ≡ table }
-{
-    match table {
-        Some(table) => Followed::Workers(BlockTable {
-            period,
-            factor: blocking,
-            table,
-        }),
-        None => Followed::OneThread { period, blocking },
-    }
-}
-
-/// How a design is run: the firings of one period, and the table that a runner with workers needs.
+/// A way to run a design that passed the tests of `plan`.
 #[derive(Drop)]
 pub struct Plan {
-    runner: Runner,
-    patience: u32,
-    parts: u32,
-    followed: Followed,
+    way: Way,
 }
 
 impl Model for Plan {
-    ghost use Rattle.sdf_plan.specs.Followed.{blocking_in, period_in, table_in};
+    ghost use Rattle.sdf_plan.specs.Ways.{plan_by};
     ghost use Rattle.sdf_plan.specs.Plans.{PlanValue};
 
     ghost Value = { PlanValue };
 
-    ghost view = { λ p. record {
-      blocking = blocking_in p.followed;
-      runner = p.runner;
-      patience = p.patience;
-      parts = p.parts;
-      period = period_in p.followed;
-      table = table_in p.followed;
-    } };
+    ghost view = { λ p. plan_by p.way };
 }
 
 impl Plan {
-    /// A plan of these, for blocks of so many periods.
-    pub(crate) fn new(
-        options: &Options,
-        blocking: u32,
-        period: Period,
-        table: Option<Table>,
-    ) -> Plan
-        ensures { result ≡ record {
-          blocking = blocking;
-          runner = options.now.runner;
-          patience = options.now.patience;
-          parts = 1;
-          period = period;
-          table = table;
-        } }
+    /// Makes the plan that runs a design in this way.
+    pub(crate) fn new(way: Way) -> Plan
+        ensures { result ≡ plan_by way }
     {
-        Plan {
-            runner: options.runner,
-            patience: options.patience,
-            parts: 1,
-            followed: following(period, blocking, table),
-        }
+        Plan { way }
     }
 
     /// Cuts the sound of a plan for one thread into parts, so that `parts` of them can be run at once.
     pub(crate) fn in_parts(self, parts: u32) -> Plan
+        requires { self.table ≡ None }
         ensures { result ≡ record self { parts = parts } }
     {
-        Plan {
-            runner: self.runner,
-            patience: self.patience,
-            parts,
-            followed: self.followed,
-        }
+        let way = match self.way {
+            Way::One { period, blocking }
+            | Way::Parts {
+                period,
+                blocking,
+                ..
+            } => Way::Parts {
+                period,
+                blocking,
+                parts,
+            },
+            shared => shared,
+        };
+        Plan { way }
     }
 
-    /// Periods in a block.
-    pub fn blocking(&self) -> u32
-        ensures { result ≡ self.now.blocking }
+    /// Returns the way in which it runs a design.
+    pub fn way(&self) -> &Way
+        ensures { plan_by result.now ≡ self.now }
     {
-        match &self.followed {
-            Followed::OneThread { blocking, .. } => *blocking,
-            Followed::Workers(table) => table.factor,
-        }
-    }
-
-    /// What runs it.
-    pub fn runner(&self) -> Runner
-        ensures { result ≡ self.now.runner }
-    {
-        self.runner
-    }
-
-    /// Repeated tests in a worker's round.
-    pub fn patience(&self) -> u32
-        ensures { result ≡ self.now.patience }
-    {
-        self.patience
-    }
-
-    /// Returns how many parts of a sound run at once, if the plan is for one thread.
-    pub fn parts(&self) -> u32
-        ensures { result ≡ self.now.parts }
-    {
-        self.parts
+        &self.way
     }
 
     /// The firings of one period in their order.
     pub fn period(&self) -> &Period
         ensures { result.now ≡ self.now.period }
     {
-        match &self.followed {
-            Followed::OneThread { period, .. } => period,
-            Followed::Workers(table) => &table.period,
+        match &self.way {
+            Way::One { period, .. } | Way::Parts { period, .. } => period,
+            Way::Rows(table) | Way::Rings { table, .. } => &table.period,
         }
     }
 
@@ -150,9 +105,9 @@ impl Plan {
         ensures fits { (n : Netlist Kit ℤ) → Suits n self.now →
             IfSome result (λ t. IsBlockTableOf (rates (graph_of kit_steps n)) t.now) }
     {
-        match &self.followed {
-            Followed::OneThread { .. } => None,
-            Followed::Workers(table) => Some(table),
+        match &self.way {
+            Way::One { .. } | Way::Parts { .. } => None,
+            Way::Rows(table) | Way::Rings { table, .. } => Some(table),
         }
     }
 }

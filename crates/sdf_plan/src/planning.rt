@@ -7,20 +7,22 @@ ghost use Rattle.sdf_graph.specs.Periods.{IsLeastPeriod};
 ghost use Rattle.sdf_actor.specs.Graphs.{graph_of};
 ghost use Rattle.sdf_kit.specs.Kit.{kit_steps};
 ghost use Rattle.sdf_sched.specs.Period.{IsPeriodOf};
-ghost use Rattle.sdf_plan.specs.Placements.{rates_of};
+ghost use Rattle.sdf_plan.specs.Placements.{rates_of, IsPlaceFault, IsTableBy};
 ghost use Rattle.sdf_plan.specs.Plans.{AreSizes, IsSizeFault, ArePassed, IsOptionFault, IsPlanOf, IsPlanFault};
-ghost use Rattle.sdf_plan.specs.Plans.{IsTableFor, IsTableFault, Suits, Decides, IsScheduleBy, IsStuckFault};
+ghost use Rattle.sdf_plan.specs.Plans.{IsRunBy, IsTableFault, Suits, Decides, IsScheduleBy, IsStuckFault};
 ghost use Rattle.sdf_plan.specs.Plans.{IsScheduleFault, progress_of, progress_view, short_of};
+ghost use Rattle.sdf_plan.specs.Ways.{plan_by};
 
 use crate::fault::{Fault, Progress, Stalled};
 use crate::placement::{blocking_by, table_by};
-use crate::plan::Plan;
+use crate::plan::{Plan, Way};
+use sdf_answer::BlockTable;
 use sdf_file::Design;
 use sdf_graph::laws::{graphs_are_sound, one_least_period};
 use sdf_graph::{Graph, Repetitions};
 use sdf_limits::{MOST_BLOCKING, MOST_PATIENCE, MOST_WORKERS};
 use sdf_options::{Options, Policy, Runner};
-use sdf_prec::Table;
+use sdf_prec::PrecFault;
 use sdf_sched::class_s::class_s;
 use sdf_sched::laws::period_or_deadlock;
 use sdf_sched::{Lean, Period, Round, Runs, SchedFault, Stuck};
@@ -134,26 +136,56 @@ fn option_fault(options: &Options) -> Option<Fault>
     size_fault(options)
 }
 
-/// The table that a runner needs, for blocks of `j` periods.
-fn table_for(
+/// Makes the table of a block of `j` periods by the placement.
+fn block_table(
     alloc: Global,
     design: &Design,
-    period: &Period,
+    period: Period,
     options: &Options,
     j: u32,
-) -> Result<Option<Table>, Fault>
-    requires { IsPeriodOf (rates_of design.now) period.now }
-    ensures { MatchResult result (IsTableFor options.now.runner design.now options.now period.now j)
-        (IsTableFault design.now options.now period.now j) }
+) -> Result<BlockTable, PrecFault>
+    requires { IsPeriodOf (rates_of design.now) period }
+    ensures { MatchResult result
+        (λ t. (t.period ≡ period) × (t.factor ≡ j) × IsTableBy design.now options.now period j t.table)
+        (IsPlaceFault options.now.placement design.now j options.now.workers period) }
 {
-    if options.runner == Runner::One {
-        return Ok(None);
+    let table = table_by(alloc, design, &period, options, j)?;
+    Ok(BlockTable {
+        period,
+        factor: j,
+        table,
+    })
+}
+
+/// Returns the way in which the runner of the options runs a design, for blocks of `j` periods.
+fn way_for(
+    alloc: Global,
+    design: &Design,
+    period: Period,
+    options: &Options,
+    j: u32,
+) -> Result<Way, Fault>
+    requires { IsPeriodOf (rates_of design.now) period }
+    ensures { MatchResult result (λ way. IsRunBy design.now options.now period j (plan_by way))
+        (IsTableFault design.now options.now period j) }
+{
+    match options.runner {
+        Runner::One => Ok(Way::One {
+            period,
+            blocking: j,
+        }),
+        Runner::Rows => Ok(Way::Rows(block_table(alloc, design, period, options, j)?)),
+        Runner::Rings => {
+            let table = block_table(alloc, design, period, options, j)?;
+            if !table.table.homed() {
+                return Err(Fault::NotHomed);
+            }
+            Ok(Way::Rings {
+                table,
+                patience: options.patience,
+            })
+        }
     }
-    let table = table_by(alloc, design, period, options, j)?;
-    if options.runner == Runner::Rings && !table.homed() {
-        return Err(Fault::NotHomed);
-    }
-    Ok(Some(table))
 }
 
 /// The tests in their order, and then the plan.
@@ -166,8 +198,7 @@ fn planned(alloc: Global, design: &Design, options: &Options) -> Result<Plan, Fa
     }
     let period = period_by(alloc, design, options.policy)?;
     let blocking = blocking_by(design, options, &period);
-    let table = table_for(alloc, design, &period, options, blocking)?;
-    Ok(Plan::new(options, blocking, period, table))
+    Ok(Plan::new(way_for(alloc, design, period, options, blocking)?))
 }
 
 /// Plans a run. The tests in order: for the runner `rings` the patience is within its limit; the blocking factor and

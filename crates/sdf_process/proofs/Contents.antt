@@ -73,6 +73,17 @@ few_samples : (r : Reading) (samples : ℕ) → IsReading r → IsWithin (2 * r.
 few_samples r samples is (inl (known, sized, le)) less = omega (arith, is.size_fits, is.one_channel)
 few_samples r samples is (inr (unknown, fits)) less = omega (arith, is.one_channel)
 
+-- no content has more
+pub few_read : (c : Reading) (samples : ℕ) → c.gone ≡ 0 → (last : Reading) →
+    last ≡ record c { gone = c.gone + 2 * samples } → IsReading last → 2 * samples ≤ 0xFFFFFFFF
+few_read c samples gone last goes is = go (subst IsReading goes is)
+  where
+    go : IsReading (record c { gone = c.gone + 2 * samples }) → 2 * samples ≤ 0xFFFFFFFF
+    go r = elim r.within [
+      | inl sized ↦ omega (arith, sized.2, r.size_fits)
+      | inr open_ended ↦ omega (arith, open_ended.1)
+    ]
+
 all_sized : (frames channels size samples : ℕ) → frames ≡ 18446744073709551615 → 1 ≤ channels → size ≤ 0xFFFFFFFF →
     2 * samples ≡ min (2 * (frames * channels)) (size - 0) → 2 * samples ≡ size
 all_sized frames channels size samples e one fits is =

@@ -21,22 +21,21 @@ use Rattle.sdf_kit.specs.declared.kit.Kit.{Kit}
 use Rattle.sdf_kit.specs.Kit.{kit_steps}
 use Rattle.sdf_prec.specs.Tables.{Tabled}
 use Rattle.sdf_run.specs.Sessions.{SessionValue, AreBlocks, AreNone, FeedsBlocks, HasFed, IsFeedFault, IsLive}
-use Rattle.sdf_run.specs.Sessions.{IsModeFault, StandsAfter}
+use Rattle.sdf_run.specs.Sessions.{IsModeFault, MayRun, StandsAfter}
+use Rattle.sdf_run.specs.declared.mode.Mode.{Mode}
+use Rattle.sdf_run.specs.declared.mode.Mode.TheVariants.{Rings, Rows}
 use Rattle.sdf_sched.specs.Period.{Schedule}
 use Rattle.sdf_wav.specs.Canonical.{sample_bytes}
 use Rattle.sdf_wav.specs.PiecesOut.{Owed}
 use Rattle.sdf_wav.specs.Sound.{Sound}
-use Rattle.sdf_options.specs.declared.options.Runner.{Runner}
-use Rattle.sdf_options.specs.declared.options.Runner.TheVariants as runners
 use Rattle.sdf_process.specs.declared.exchange.Exchange.{Exchange}
 use Rattle.sdf_plan.specs.declared.fault.Fault.{Fault}
 use Rattle.sdf_plan.specs.declared.fault.Fault.TheVariants.{OutOfMemory}
 use Rattle.sdf_plan.specs.Faults.{of_run}
 use Rattle.sdf_process.specs.Output.{channel_samples, exchange_of, interleaved, lists_from, lists_to}
-use Rattle.sdf_plan.specs.Plans.{HasPatience, SuitsRunner}
 use Rattle.sdf_process.specs.Stages.{PutsFrames, SamplesJoin}
 use Rattle.sdf_process.specs.declared.streaming.Stream.{Stream}
-use Rattle.sdf_process.specs.Streams.{mode_of, IsReady, PutsBlocks, StandsAt, StandsWhole}
+use Rattle.sdf_process.specs.Streams.{IsReady, PutsBlocks, StandsAt, StandsWhole}
 use Rattle.sdf_process.proofs.Pieced.{blank, blank_at, blank_long, outputs_of}
 use Rattle.sdf_process.proofs.Played.{frames_on_join, from_at, join, joined_is, joined_long, lists_joined, lists_long}
 use Rattle.sdf_process.proofs.Played.{made_long}
@@ -245,27 +244,20 @@ module _ (n : Netlist Kit ℤ) (p : Schedule) (t : Stream) (ready : IsReady n p 
 
 -- ---- a session that was fed nothing
 
--- a plan's table can be run as its runner does, so memory alone may be refused
-pub opened_refused : (t : Tabled) (runner : Runner) (patience : ℕ) → SuitsRunner runner t →
-    HasPatience runner patience → (e : RunFault) → IsModeFault t (mode_of runner patience) e → of_run e ≡ OutOfMemory
-opened_refused t runners.One patience homes few run.OutOfMemory why = refl
-opened_refused t runners.One patience homes few run.InputLength why = absurd why
-opened_refused t runners.One patience homes few run.NotHomed why = absurd why
-opened_refused t runners.One patience homes few run.Patience why = absurd why
-opened_refused t runners.One patience homes few run.NoWorker why = absurd why
-opened_refused t runners.One patience homes few run.SessionFailed why = absurd why
-opened_refused t runners.Rows patience homes few run.OutOfMemory why = refl
-opened_refused t runners.Rows patience homes few run.InputLength why = absurd why
-opened_refused t runners.Rows patience homes few run.NotHomed why = absurd why
-opened_refused t runners.Rows patience homes few run.Patience why = absurd why
-opened_refused t runners.Rows patience homes few run.NoWorker why = absurd why
-opened_refused t runners.Rows patience homes few run.SessionFailed why = absurd why
-opened_refused t runners.Rings patience homes few run.OutOfMemory why = refl
-opened_refused t runners.Rings patience homes few run.InputLength why = absurd why
-opened_refused t runners.Rings patience homes few run.NotHomed why = absurd (why homes)
-opened_refused t runners.Rings patience homes few run.Patience why = absurd (omega (arith, few, why.1))
-opened_refused t runners.Rings patience homes few run.NoWorker why = absurd why
-opened_refused t runners.Rings patience homes few run.SessionFailed why = absurd why
+-- a table that can be run so is not refused, so memory alone may be
+pub opened_refused : (t : Tabled) (mode : Mode) → MayRun t mode → (e : RunFault) → IsModeFault t mode e →
+    of_run e ≡ OutOfMemory
+opened_refused t mode may run.OutOfMemory why = refl
+opened_refused t Rows may run.InputLength why = absurd why
+opened_refused t Rows may run.NotHomed why = absurd why
+opened_refused t Rows may run.Patience why = absurd why
+opened_refused t Rows may run.NoWorker why = absurd why
+opened_refused t Rows may run.SessionFailed why = absurd why
+opened_refused t (Rings patience) may run.InputLength why = absurd why
+opened_refused t (Rings patience) may run.NotHomed why = absurd (why may.0)
+opened_refused t (Rings patience) may run.Patience why = absurd (omega (arith, may.1, why.1))
+opened_refused t (Rings patience) may run.NoWorker why = absurd why
+opened_refused t (Rings patience) may run.SessionFailed why = absurd why
 
 -- it stands after nothing
 pub stands_first : (n : Netlist Kit ℤ) (p : Schedule) (j : ℕ) (v : SessionValue Kit (List ℤ) ℤ) → v.net ≡ n →

@@ -21,6 +21,7 @@ use Rattle.sdf_process.specs.Output.{announced_by, exchange_of, interleaved, inp
 use Rattle.sdf_process.specs.Output.{output_header, output_of, periods_of, IsExchange, IsExtent}
 use Rattle.sdf_process.specs.Run.{AreFrames, HasOutput, IsRun, IsText, Refuses}
 use Rattle.sdf_process.specs.Stages.{Hears, PutsOutput, WavLaws}
+use Rattle.sdf_process.specs.declared.source.Source.TheVariants.{Content}
 use Rattle.sdf_process.specs.Streams.{Streams}
 use Rattle.sdf_process.proofs.Outcomes.{appends_join, front_join}
 use Rattle.sdf_process.proofs.Refusals.{Begins, writer_failed, memory_failed, some_no_none}
@@ -162,7 +163,7 @@ pub streamed : (laws : WavLaws) (n : Netlist Kit ℤ) (q : List ℕ) (x : Exchan
       missing = e.periods * x.made;
       spent = false;
     } →
-    (result : Result (Unit {0}) Fault) → Streams n q c mid left begun after r r' w1 w' result →
+    (result : Result (Unit {0}) Fault) → Streams n q (Content c) mid left begun after r r' w1 w' result →
     IsRun n q read left before after r r' w w' result
 streamed laws n q x same limits read mid c said gone only frames is e extent left before begun after r r' w w1 w'
     written fine one o owed (Ok y) (s, reads, puts) =

@@ -1,8 +1,7 @@
--- What a run knows that reads and writes as it goes, before its first piece and between two.
+-- What a run knows that takes and writes as it goes, before its first piece and between two.
 use Rattle.std.proofs.Common.{mul-le-mul_left}
-use Rattle.std.proofs.Common.{false, ◌≡◌, ◌≢◌, ◌⊎◌, inl, inr, Err, ℕ, ◌+◌, ◌-◌, ◌*◌, ◌/◌, ◌%◌, ◌≤◌, ◌<◌, ℤ, List, []}
+use Rattle.std.proofs.Common.{◌≡◌, ◌≢◌, ◌⊎◌, inl, inr, Err, ℕ, ◌-◌, ◌*◌, ◌/◌, ◌%◌, ◌≤◌, ◌<◌, ℤ, List, []}
 use Rattle.std.proofs.Common.{length, map, sum, take, Option, Some, None, refl, sym, ap, ◌∙◌, subst, arith}
-use Rattle.std.specs.Prelude.{IfSome}
 use Rattle.std.specs.Io.KnownBytes.{Appends}
 use Rattle.std.proofs.Math.Nat.{div-mul-le_self, mod-eq-sub-div-mul}
 use Rattle.std.proofs.lemmas.Bool.{cases_lt, lt-ltb}
@@ -16,32 +15,33 @@ use Rattle.sdf_answer.specs.Periods.{HasPeriod}
 use Rattle.sdf_kit.specs.declared.kit.Kit.{Kit}
 use Rattle.sdf_kit.specs.Kit.{kit_steps}
 use Rattle.sdf_run.specs.Sessions.{SessionValue}
-use Rattle.sdf_answer.specs.Rows.{IsTableOf}
+use Rattle.sdf_answer.specs.Rows.{IsBlockTableOf}
+use Rattle.sdf_answer.specs.declared.block_table.BlockTable.{BlockTable}
 use Rattle.sdf_actor.specs.Graphs.{graph_of}
 use Rattle.sdf_graph.specs.Periods.{IsLeastPeriod}
 use Rattle.sdf_graph.specs.Rates.{rates}
-use Rattle.sdf_prec.specs.Tables.{Tabled}
 use Rattle.sdf_sched.specs.Period.{Schedule, IsPeriodOf}
 use Rattle.sdf_wav.specs.Canonical.{sample_bytes}
-use Rattle.sdf_wav.specs.Device.{Known, LosesFront}
-use Rattle.sdf_wav.specs.PiecesIn.{Reading, IsReading, IsReadTo, IsWithin, known_frames, sound_read}
+use Rattle.sdf_wav.specs.PiecesIn.{Reading, IsReading, IsWithin, sound_read}
 use Rattle.sdf_wav.specs.PiecesOut.{Owed}
 use Rattle.sdf_wav.specs.Sound.{Sound}
 use Rattle.sdf_wav.specs.declared.wav.TheConstants.{MOST_CHANNELS}
+use Rattle.sdf_process.specs.declared.begun.Begun.{Begun}
 use Rattle.sdf_process.specs.declared.exchange.Announced.{Announced}
 use Rattle.sdf_process.specs.declared.exchange.Exchange.{Exchange}
-use Rattle.sdf_process.specs.declared.exchange.Extent.{Extent}
 use Rattle.sdf_plan.specs.declared.fault.Fault.{Fault}
 use Rattle.sdf_plan.specs.declared.fault.Fault.TheVariants.{ChannelsMissing, OutOfMemory}
+use Rattle.sdf_process.specs.declared.source.Source.{Source}
 use Rattle.sdf_process.specs.Output.{announced_fault, exchange_of, interleaved, lists_to, periods_for, IsExchange}
-use Rattle.sdf_process.specs.Output.{IsExtent}
-use Rattle.sdf_plan.specs.Plans.{PlanValue, Suits}
-use Rattle.sdf_process.specs.Streams.{AreBehind, IsReady, IsStream, ReadsBy, StandsAt, StandsWhole, Streams}
+use Rattle.sdf_process.specs.Sources.{reading_of, source_behind, Takes, TakesAll}
+use Rattle.sdf_process.specs.Streams.{AreBehind, IsReady, IsStream, StandsAt, StandsWhole, Streams}
+use Rattle.sdf_process.specs.Tasks.{IsBegun}
 use Rattle.sdf_process.proofs.Fed.{run_at}
 use Rattle.sdf_process.proofs.Opened.{frames_known}
 use Rattle.sdf_process.proofs.Pieces.{appends_none}
 use Rattle.sdf_process.proofs.Rendering.{are_inputs, begin, interleaved_cut}
 use Rattle.sdf_process.proofs.Outcomes.{keeps_same}
+use Rattle.sdf_process.proofs.Taken.{takes_none, takes_refused}
 
 -- ---- what was written of the frames of a sound
 
@@ -74,25 +74,20 @@ module _ (runs : RunsGoOn kit_steps) (n : Netlist Kit ℤ) (p : Schedule) (has :
         (omega arith) refl);
   }
 
--- what was read is a front of what is left
-pub reads_lose : (c : Reading) (samples : List ℤ) (old new : Option (List ℕ)) → ReadsBy c samples old new →
-    Known old new LosesFront
-reads_lose c samples old new reads = record { at = λ bytes known. let y = reads.at bytes known in (y.0, y.1, y.2.1) }
-
 -- ---- the state between two pieces
 
-pub record Flows (n : Netlist Kit ℤ) (p : Schedule) (j : ℕ) (c : Reading) (frames all unread : ℕ)
-    (old now before after : Option (List ℕ)) (r r' w w' : ℕ) (kept : List ℤ) (content : Reading) (o : Owed)
+pub record Flows (n : Netlist Kit ℤ) (p : Schedule) (j : ℕ) (first : Source) (frames all unread : ℕ)
+    (old now before after : Option (List ℕ)) (r r' w w' : ℕ) (kept : List ℤ) (source : Source) (o : Owed)
     (v : SessionValue Kit (List ℤ) ℤ) : Type 0 where
   pub samples : List ℤ
   pub few : ℕ
   pub bytes : List ℕ
-  pub read : ReadsBy c samples old now
-  pub content_is : content ≡ record c { gone = c.gone + 2 * length samples }
-  pub count : length samples ≡ (frames - unread) * c.channels
-  pub stands : StandsWhole n p j (sound_read c samples) few bytes v
-  pub behind : AreBehind (exchange_of n p.repetitions) c samples (few * j) kept
-  pub less : length kept < j * (exchange_of n p.repetitions).taken * c.channels
+  pub takes : Takes first samples old now
+  pub source_is : source ≡ source_behind first samples
+  pub count : length samples ≡ (frames - unread) * (reading_of first).channels
+  pub stands : StandsWhole n p j (sound_read (reading_of first) samples) few bytes v
+  pub behind : AreBehind (exchange_of n p.repetitions) (reading_of first) samples (few * j) kept
+  pub less : length kept < j * (exchange_of n p.repetitions).taken * (reading_of first).channels
   pub written : Appends before after bytes
   pub missing : o.missing ≡ all - few * j * (exchange_of n p.repetitions).made
   pub reader : r' ≡ r
@@ -115,7 +110,7 @@ pub record CanFlow (n : Netlist Kit ℤ) (p : Schedule) (j : ℕ) (c : Reading) 
   pub all_is : all ≡ periods_for (exchange_of n p.repetitions) frames * (exchange_of n p.repetitions).made
 
 -- the output of what is announced reads channels that are there
-allowed_lower : (x : Exchange) (a : Announced) → announced_fault x a ≡ None → x.inputs ≤ a.channels
+pub allowed_lower : (x : Exchange) (a : Announced) → announced_fault x a ≡ None → x.inputs ≤ a.channels
 allowed_lower x a is = go (cases_lt a.channels x.inputs)
   where
     go : (a.channels < x.inputs) ⊎ (x.inputs ≤ a.channels) → x.inputs ≤ a.channels
@@ -139,17 +134,6 @@ whole_size c frames is known same = go is.within
         omega (arith, part, left, here, double, whole)
     go (inr (endless, there)) = absurd (known endless)
 
--- what is owed of an output of so many frames that are read
-abbrev pub IsOwed : Netlist Kit ℤ → Schedule → Reading → ℕ → Owed → Type 0
-IsOwed n p c frames o =
-    (e : Extent) × IsExtent (exchange_of n p.repetitions)
-    (record { rate = c.rate; channels = c.channels; frames = frames }) e
-    × (o ≡ record {
-      channels = (exchange_of n p.repetitions).outputs;
-      missing = e.periods * (exchange_of n p.repetitions).made;
-      spent = false;
-    })
-
 -- a period has firings
 some_firings : (n : Netlist Kit ℤ) (p : Schedule) → HasPeriod kit_steps n p → 1 ≤ sum p.repetitions
 some_firings n p has =
@@ -162,99 +146,91 @@ few_blocks j firings some short =
     let more : j * 1 ≤ j * firings = mul-le-mul_left j some in
     omega (arith, more, short)
 
-factor_fits : (n : Netlist Kit ℤ) (plan : PlanValue) (t : Tabled) → HasPeriod kit_steps n plan.period →
-    plan.table ≡ Some t → Suits n plan → (0 < plan.blocking) × (plan.blocking ≤ 4294967295)
-factor_fits n plan t has is suits =
-    let here : IsTableOf (rates (graph_of kit_steps n)) plan.period.repetitions plan.blocking t =
-    subst (λ (o : Option Tabled). IfSome o (IsTableOf (rates (graph_of kit_steps n)) plan.period.repetitions
-    plan.blocking)) is suits.table in
-    let few : plan.blocking ≤ MOST_BLOCK =
-    few_blocks plan.blocking (sum plan.period.repetitions) (some_firings n plan.period has) here.short in
-    (omega (arith, here.some), omega (arith, few))
-
-module _ (n : Netlist Kit ℤ) (plan : PlanValue) (t : Tabled) (is : plan.table ≡ Some t) (suits : Suits n plan)
-    (has : (p : Schedule) → IsPeriodOf (rates (graph_of kit_steps n)) p → HasPeriod kit_steps n p) (c : Reading)
-    (frames : ℕ) (o : Owed)
+module _ (n : Netlist Kit ℤ) (t : BlockTable) (is : IsBlockTableOf (rates (graph_of kit_steps n)) t)
+    (has : (p : Schedule) → IsPeriodOf (rates (graph_of kit_steps n)) p → HasPeriod kit_steps n p) (b : Begun)
+    (begun : IsBegun n t.period.repetitions b)
     (x : Exchange) (x_is : (q : List ℕ) → IsLeastPeriod (rates (graph_of kit_steps n)) q → x ≡ exchange_of n q)
-    (limits : IsExchange x) (owed : IsOwed n plan.period c frames o) where
-  there : x ≡ exchange_of n plan.period.repetitions
-  there = x_is plan.period.repetitions suits.period.least
+    (limits : IsExchange x) where
+  abbrev c : Reading
+  c = reading_of b.source
 
-  factors : (0 < plan.blocking) × (plan.blocking ≤ 4294967295)
-  factors = factor_fits n plan t (has plan.period suits.period) is suits
+  there : x ≡ exchange_of n t.period.repetitions
+  there = x_is t.period.repetitions is.period.least
 
-  pub can_flow : RunsGoOn kit_steps → IsReading c → c.gone ≡ 0 → known_frames c ≡ Some frames →
-      CanFlow n plan.period plan.blocking c frames o.missing
-  can_flow runs sound gone known =
-      let here = frames_known c.size c.channels frames known in
+  some_periods : 0 < t.factor
+  some_periods = omega (arith, is.table.some)
+
+  short_blocks : t.factor ≤ 4294967295
+  short_blocks = omega (
+    arith,
+    few_blocks t.factor (sum t.period.repetitions) (some_firings n t.period (has t.period is.period)) is.table.short,
+  )
+
+  pub can_flow : RunsGoOn kit_steps → CanFlow n t.period t.factor c b.frames b.output.missing
+  can_flow runs =
+      let here = frames_known c.size c.channels b.frames begun.unheard.known in
       record {
         runs = runs;
-        has = has plan.period suits.period;
-        unread = gone;
-        one = sound.one_channel;
-        lower = allowed_lower (exchange_of n plan.period.repetitions)
-            (record { rate = c.rate; channels = c.channels; frames = frames }) owed.1.is_allowed;
-        size = whole_size c frames sound here.0 here.1;
+        has = has t.period is.period;
+        unread = begun.unheard.unread;
+        one = begun.unheard.sound.one_channel;
+        lower = allowed_lower (exchange_of n t.period.repetitions)
+            (record { rate = c.rate; channels = c.channels; frames = b.frames }) begun.extent.is_allowed;
+        size = whole_size c b.frames begun.unheard.sound here.0 here.1;
         known = here.0;
-        fits = sound.size_fits;
-        some = factors.0;
-        few = factors.1;
+        fits = begun.unheard.sound.size_fits;
+        some = some_periods;
+        few = short_blocks;
         taken = subst (λ (y : Exchange). 0 < y.taken) there limits.some_taken;
         made = subst (λ (y : Exchange). 0 < y.made) there limits.some_made;
-        all_is = ap (λ (y : Owed). y.missing) owed.2
-            ∙ ap (λ (k : ℕ). k * (exchange_of n plan.period.repetitions).made) owed.1.periods;
+        all_is = ap (λ (y : Owed). y.missing) begun.owed
+            ∙ ap (λ (k : ℕ). k * (exchange_of n t.period.repetitions).made) begun.extent.periods;
       }
 
   -- a run that is begun can go on
-  pub ready_first : (k : ℕ) → k ≡ plan.blocking → (m e : ℕ) → 1 ≤ m → 1 ≤ e → e ≤ MOST_CHANNELS →
-      (v : SessionValue Kit (List ℤ) ℤ) (s : Sound) → StandsAt n plan.period plan.blocking s 0 0 [] v →
-      IsReady n plan.period
-      (record { session = v; output = o; exchange = x; blocking = k; rate = m; channels = e })
-  ready_first k blocking m e some_rate one few v s at = record {
+  pub ready_first : (m e : ℕ) → 1 ≤ m → 1 ≤ e → e ≤ MOST_CHANNELS →
+      (v : SessionValue Kit (List ℤ) ℤ) (s : Sound) → StandsAt n t.period t.factor s 0 0 [] v →
+      IsReady n t.period
+      (record { session = v; output = b.output; exchange = x; blocking = t.factor; rate = m; channels = e })
+  ready_first m e some_rate one few v s at = record {
     live = (at.stands.rest, at.stands.held);
     net = at.net;
     period = at.period;
-    factor = at.factor ∙ sym blocking;
-    has = has plan.period suits.period;
-    some = omega (arith, factors.0, blocking);
-    fits = omega (arith, factors.1, blocking);
+    factor = at.factor;
+    has = has t.period is.period;
+    some = some_periods;
+    fits = short_blocks;
     some_rate = some_rate;
     one_channel = one;
     few_channels = few;
     exchange = there;
     limits = limits;
-    unspent = ap (λ (y : Owed). y.spent) owed.2;
-    channels = ap (λ (y : Owed). y.channels) owed.2 ∙ sym (ap (λ (y : Exchange). y.outputs) there);
-    few = subst (λ (y : Exchange). 2 * (o.missing * y.outputs) ≤ 4294967259) (sym there)
-        (subst (λ (m : ℕ). 2 * (m * (exchange_of n plan.period.repetitions).outputs) ≤ 4294967259)
-        (sym (ap (λ (y : Owed). y.missing) owed.2)) owed.1.few_bytes);
+    unspent = ap (λ (y : Owed). y.spent) begun.owed;
+    channels = ap (λ (y : Owed). y.channels) begun.owed ∙ sym (ap (λ (y : Exchange). y.outputs) there);
+    few = subst (λ (y : Exchange). 2 * (b.output.missing * y.outputs) ≤ 4294967259) (sym there)
+        (subst (λ (m : ℕ). 2 * (m * (exchange_of n t.period.repetitions).outputs) ≤ 4294967259)
+        (sym (ap (λ (y : Owed). y.missing) begun.owed)) begun.extent.few_bytes);
   }
 
--- no session was opened
-pub unopened : (n : Netlist Kit ℤ) (q : List ℕ) (c : Reading) (old held : Option (List ℕ)) (r w : ℕ) (e f : Fault) →
-    e ≡ OutOfMemory → f ≡ e → Streams n q c old old held held r r w w (Err f)
-unopened n q c old held r w e f memory same =
-    let start : record c { gone = c.gone + 2 * 0 } ≡ c =
-    ap (λ (k : ℕ). record c { gone = k }) (let z : c.gone + 2 * 0 ≡ c.gone = omega arith in z) in (
-      [],
-      0,
-      [],
-      old,
-      record { within = omega arith; are_read = inl (omega arith); are_frames = inl (refl, refl) },
-      record {
-        at = λ bytes known. (
-          bytes,
-          known,
-          (
-            (λ input is. subst (λ (y : Reading). IsReadTo input y [] bytes)
-                (sym start) is),
-            (0, refl),
-          ),
-        );
-      },
-      inr (
-        inl (same ∙ memory, record { at = λ bytes known. (bytes, known, (0, refl)) }, refl),
-        appends_none held held (keeps_same held),
-        refl,
-      ),
-    )
+-- nothing was taken, or no session was opened
+pub untaken : (n : Netlist Kit ℤ) (q : List ℕ) (first : Source) (old new held : Option (List ℕ)) (r r' w : ℕ)
+    (e f : Fault) → f ≡ e → TakesAll first old new r r' (Err e) →
+    Streams n q first old new held held r r' w w (Err f)
+untaken n q first old new held r r' w e f same takes = (
+  [],
+  0,
+  [],
+  old,
+  record { within = omega arith; are_read = inl (omega arith); are_frames = inl (refl, refl) },
+  takes_none first old,
+  inr (
+    subst (λ (g : Fault). TakesAll first old new r r' (Err g)) (sym same) takes,
+    appends_none held held (keeps_same held),
+    refl,
+  ),
+)
+
+pub unopened : (n : Netlist Kit ℤ) (q : List ℕ) (first : Source) (old held : Option (List ℕ)) (r w : ℕ)
+    (e f : Fault) → e ≡ OutOfMemory → f ≡ e → Streams n q first old old held held r r w w (Err f)
+unopened n q first old held r w e f memory same =
+    untaken n q first old old held r r w e f same (takes_refused first [] old old r r e memory (takes_none first old) refl)

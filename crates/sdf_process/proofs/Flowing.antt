@@ -1,4 +1,4 @@
--- A run that reads and writes as it goes, from its first block to its last.
+-- A run that takes and writes as it goes, from its first block to its last.
 use Rattle.std.proofs.Common.{◌≡◌, ◌≢◌, inl, inr, Result, Ok, Err, ℕ, ◌+◌, ◌-◌, ◌*◌, ◌/◌, ◌%◌, ◌≤◌, ◌<◌, ℤ, List, []}
 use Rattle.std.proofs.Common.{◌++◌, length, drop, Option, None, append-nil, refl, sym, ap, ◌∙◌, subst, arith}
 use Rattle.std.specs.Io.KnownBytes.{Appends}
@@ -13,23 +13,27 @@ use Rattle.sdf_kit.specs.Kit.{kit_steps}
 use Rattle.sdf_run.specs.Sessions.{SessionValue}
 use Rattle.sdf_sched.specs.Period.{Schedule}
 use Rattle.sdf_wav.specs.Device.{one_more}
-use Rattle.sdf_wav.specs.PiecesIn.{Reading, IsReadTo, sound_read}
+use Rattle.sdf_wav.specs.PiecesIn.{Reading, sound_read}
 use Rattle.sdf_wav.specs.PiecesOut.{Owed}
 use Rattle.sdf_wav.specs.Sound.{Sound, frames_of}
 use Rattle.sdf_process.specs.declared.exchange.Exchange.{Exchange}
+use Rattle.sdf_process.specs.declared.source.Source.{Source}
 use Rattle.sdf_plan.specs.declared.fault.Fault.{Fault}
 use Rattle.sdf_process.specs.Output.{exchange_of, periods_for, periods_of}
-use Rattle.sdf_process.specs.Stages.{ReadsContent}
-use Rattle.sdf_process.specs.Streams.{AreBehind, IsStream, PutsBlocks, PutsWhole, ReadsMore, StandsAt, StandsWhole}
-use Rattle.sdf_process.specs.Streams.{Streams}
+use Rattle.sdf_process.specs.Sources.{reading_of, TakesAll, TakesMore}
+use Rattle.sdf_process.specs.Streams.{AreBehind, IsStream, PutsBlocks, PutsWhole, StandsAt, StandsWhole, Streams}
 use Rattle.sdf_process.proofs.Pieces.{appends_none}
 use Rattle.sdf_process.proofs.Sizes.{below_by, cancel, less_twice, minus, periods_end, periods_fit, positive}
 use Rattle.sdf_process.proofs.Outcomes.{appends_join, front_join, keeps_same}
 use Rattle.sdf_process.proofs.Streamed.{behind_on, stands_on}
-use Rattle.sdf_process.proofs.Flow.{came_to, reads_lose, stood, CanFlow, Flows}
+use Rattle.sdf_process.proofs.Flow.{came_to, stood, CanFlow, Flows}
+use Rattle.sdf_process.proofs.Taken.{behind_none, reading_behind, takes_none, takes_refused, takes_whole}
 
-module _ {n : Netlist Kit ℤ} {p : Schedule} {j : ℕ} {c : Reading} {frames all : ℕ}
-    (can : CanFlow n p j c frames all) where
+module _ {n : Netlist Kit ℤ} {p : Schedule} {j : ℕ} (first : Source) {frames all : ℕ}
+    (can : CanFlow n p j (reading_of first) frames all) where
+  abbrev c : Reading
+  c = reading_of first
+
   abbrev x : Exchange
   x = exchange_of n p.repetitions
 
@@ -46,30 +50,22 @@ module _ {n : Netlist Kit ℤ} {p : Schedule} {j : ℕ} {c : Reading} {frames al
   size = can.size
 
   abbrev Here : (unread : ℕ) (old now before after : Option (List ℕ)) (r r' w w' : ℕ) (kept : List ℤ)
-      (content : Reading) (o : Owed) (v : SessionValue Kit (List ℤ) ℤ) → Type 0
-  Here unread old now before after r r' w w' kept content o v =
-      Flows n p j c frames all unread old now before after r r' w w' kept content o v
+      (source : Source) (o : Owed) (v : SessionValue Kit (List ℤ) ℤ) → Type 0
+  Here unread old now before after r r' w w' kept source o v =
+      Flows n p j first frames all unread old now before after r r' w w' kept source o v
 
   -- nothing was read
   pub flows_first : (old before : Option (List ℕ)) (r w : ℕ) (kept : List ℤ) (o : Owed)
       (v : SessionValue Kit (List ℤ) ℤ) → kept ≡ [] → o.missing ≡ all → StandsAt n p j (sound_read c []) 0 0 [] v →
-      Here frames old old before before r r w w kept c o v
+      Here frames old old before before r r w w kept first o v
   flows_first old before r w kept o v empty owed at =
       let none : 0 ≡ 0 * j * x.made = omega arith in
-      let start : record c { gone = c.gone + 2 * 0 } ≡ c =
-      ap (λ (k : ℕ). record c { gone = k }) (let z : c.gone + 2 * 0 ≡ c.gone = omega arith in z) in
       record {
         samples = [];
         few = 0;
         bytes = [];
-        read = record {
-          at = λ bytes known. (
-            bytes,
-            known,
-            ((λ input is. subst (λ (y : Reading). IsReadTo input y [] bytes) (sym start) is), (0, refl)),
-          );
-        };
-        content_is = sym start;
+        takes = takes_none first old;
+        source_is = behind_none first;
         count = (let z : 0 ≡ 0 * c.channels = omega arith in z) ∙ ap (λ (k : ℕ). k * c.channels)
             (let y : 0 ≡ frames - frames = omega arith in y);
         stands = subst (λ (k : ℕ). StandsAt n p j (sound_read c []) 0 k [] v) none at;
@@ -93,8 +89,11 @@ module _ {n : Netlist Kit ℤ} {p : Schedule} {j : ℕ} {c : Reading} {frames al
       nothing k = sym (drop-nil k)
 
   module _ {unread : ℕ} (some_left : unread ≤ frames) {old now before after : Option (List ℕ)} {r r1 w w1 : ℕ}
-      {kept : List ℤ} {content : Reading} {o : Owed} {v : SessionValue Kit (List ℤ) ℤ}
-      (here : Here unread old now before after r r1 w w1 kept content o v) where
+      {kept : List ℤ} {source : Source} {o : Owed} {v : SessionValue Kit (List ℤ) ℤ}
+      (here : Here unread old now before after r r1 w w1 kept source o v) where
+    behind_here : reading_of source ≡ record c { gone = c.gone + 2 * length here.samples }
+    behind_here = ap reading_of here.source_is ∙ reading_behind first here.samples
+
     within : 2 * length here.samples ≤ c.size
     within =
         let some : (frames - unread) * c.channels ≤ frames * c.channels =
@@ -102,84 +101,88 @@ module _ {n : Netlist Kit ℤ} {p : Schedule} {j : ℕ} {c : Reading} {frames al
         omega (arith, here.count, size, some)
 
     -- what may be read
-    pub asks_enough : (many : ℕ) → many ≤ unread → content.gone + 2 * (many * content.channels) ≤ content.size
+    pub asks_enough : (many : ℕ) → many ≤ unread →
+        (reading_of source).gone + 2 * (many * (reading_of source).channels) ≤ (reading_of source).size
     asks_enough many less =
         let fits : (frames - unread + many) * c.channels ≤ frames * c.channels =
         mul-le-mul_right c.channels (let z : frames - unread + many ≤ frames =
         omega (arith, some_left, less) in z) in
         let split : (frames - unread + many) * c.channels ≡ (frames - unread) * c.channels + many * c.channels =
         omega arith in
-        subst (λ (y : Reading). y.gone + 2 * (many * y.channels) ≤ y.size) (sym here.content_is)
+        subst (λ (y : Reading). y.gone + 2 * (many * y.channels) ≤ y.size) (sym behind_here)
         (omega (arith, can.unread, here.count, size, fits, split))
 
-    pub unspoilt : c.fault ≡ None → content.fault ≡ None
-    unspoilt none = ap (λ (y : Reading). y.fault) here.content_is ∙ none
+    pub unspoilt : c.fault ≡ None → (reading_of source).fault ≡ None
+    unspoilt none = ap (λ (y : Reading). y.fault) behind_here ∙ none
 
-    pub sized : content.size ≢ 0xFFFFFFFF
-    sized is = can.known (sym (ap (λ (y : Reading). y.size) here.content_is) ∙ is)
+    pub sized : (reading_of source).size ≢ 0xFFFFFFFF
+    sized is = can.known (sym (ap (λ (y : Reading). y.size) behind_here) ∙ is)
+
+    pub short : (reading_of source).size ≤ 0xFFFFFFFF
+    short = subst (λ (y : Reading). y.size ≤ 0xFFFFFFFF) (sym behind_here) can.fits
 
     pub came_here : IsStream n p.repetitions c here.samples (here.few * j) here.bytes
     came_here = came_to can.runs n p can.has j c here.samples here.few here.bytes v within one here.behind.0 here.stands
 
-    -- the reading failed
-    pub reading_failed : (new : Option (List ℕ)) (r2 : ℕ) (e f : Fault) → f ≡ e → ReadsContent c old new r r2 (Err e) →
-        Streams n p.repetitions c old new before after r r2 w w1 (Err f)
-    reading_failed new r2 e f same reads = (
+    -- no more was taken
+    pub taking_failed : (new : Option (List ℕ)) (r2 : ℕ) (e f : Fault) → f ≡ e → TakesAll first old new r r2 (Err e) →
+        Streams n p.repetitions first old new before after r r2 w w1 (Err f)
+    taking_failed new r2 e f same takes = (
       here.samples,
       here.few * j,
       here.bytes,
       now,
       came_here,
-      here.read,
+      here.takes,
       inr (
-        subst (λ (g : Fault). ReadsContent c old new r r2 (Err g)) (sym same) reads,
+        subst (λ (g : Fault). TakesAll first old new r r2 (Err g)) (sym same) takes,
         here.written,
         here.writer,
       ),
     )
 
-    -- some more was read
-    module _ (many : ℕ) (fewer : many ≤ unread) (new : Option (List ℕ)) (r2 : ℕ) (next : Reading) (held : List ℤ)
-        (reads : ReadsMore c here.samples many kept old new r r2 next (Ok held)) where
-      abbrev all_read : List ℤ
-      all_read = here.samples ++ reads.0
+    -- some more was taken
+    module _ (many : ℕ) (fewer : many ≤ unread) (new : Option (List ℕ)) (r2 : ℕ) (next : Source) (held : List ℤ)
+        (takes : TakesMore first here.samples many kept old new r r2 next (Ok held)) where
+      abbrev all_taken : List ℤ
+      all_taken = here.samples ++ takes.0
 
-      pub count_more : length all_read ≡ (frames - (unread - many)) * c.channels
+      pub count_more : length all_taken ≡ (frames - (unread - many)) * c.channels
       count_more =
           let split : (frames - (unread - many)) * c.channels ≡ (frames - unread) * c.channels + many * c.channels =
           ap (λ (k : ℕ). k * c.channels) (let z : frames - (unread - many) ≡ frames - unread + many =
           omega (arith, some_left, fewer) in z) ∙ (let z : (frames - unread + many) * c.channels ≡
           (frames - unread) * c.channels + many * c.channels = omega arith in z) in
-          omega (arith, length-append here.samples reads.0, here.count, reads.2, split)
+          omega (arith, length-append here.samples takes.0, here.count, takes.2, split)
 
-      within_more : 2 * length all_read ≤ c.size
+      within_more : 2 * length all_taken ≤ c.size
       within_more =
           let some : (frames - (unread - many)) * c.channels ≤ frames * c.channels =
           mul-le-mul_right c.channels (let z : frames - (unread - many) ≤ frames = omega arith in z) in
           omega (arith, count_more, size, some)
 
-      behind_held : AreBehind x c all_read (here.few * j) held
-      behind_held = let b = behind_on x c here.samples reads.0 kept (here.few * j) here.behind in (b.0, reads.1 ∙ b.1)
+      behind_held : AreBehind x c all_taken (here.few * j) held
+      behind_held = let b = behind_on x c here.samples takes.0 kept (here.few * j) here.behind in (b.0, takes.1 ∙ b.1)
 
-      stands_held : StandsWhole n p j (sound_read c all_read) here.few here.bytes v
-      stands_held = stands_on n p j c here.samples reads.0 here.few (here.few * j * x.made) here.bytes v can.lower
+      stands_held : StandsWhole n p j (sound_read c all_taken) here.few here.bytes v
+      stands_held = stands_on n p j c here.samples takes.0 here.few (here.few * j * x.made) here.bytes v can.lower
           here.behind.0 here.stands
 
       -- what was put of them where the periods of a block have another name
       pub puts_held : (last : Option (List ℕ)) (w2 : ℕ) (o' : Owed) (v' : SessionValue Kit (List ℤ) ℤ)
           (made : Result (List ℤ) Fault) (b : ℕ) → b ≡ j →
-          (StandsWhole n p b (sound_read c all_read) here.few here.bytes v →
-          AreBehind x c all_read (here.few * b) held →
-          PutsWhole n p b c all_read here.few here.bytes after last w1 w2 o o' v' made) →
-          PutsWhole n p j c all_read here.few here.bytes after last w1 w2 o o' v' made
+          (StandsWhole n p b (sound_read c all_taken) here.few here.bytes v →
+          AreBehind x c all_taken (here.few * b) held →
+          PutsWhole n p b c all_taken here.few here.bytes after last w1 w2 o o' v' made) →
+          PutsWhole n p j c all_taken here.few here.bytes after last w1 w2 o o' v' made
       puts_held last w2 o' v' made b is puts =
-          subst (λ (k : ℕ). PutsWhole n p k c all_read here.few here.bytes after last w1 w2 o o' v' made) is
-          (puts (subst (λ (k : ℕ). StandsWhole n p k (sound_read c all_read) here.few here.bytes v)
+          subst (λ (k : ℕ). PutsWhole n p k c all_taken here.few here.bytes after last w1 w2 o o' v' made) is
+          (puts (subst (λ (k : ℕ). StandsWhole n p k (sound_read c all_taken) here.few here.bytes v)
           (sym is) stands_held)
-          (subst (λ (k : ℕ). AreBehind x c all_read (here.few * k) held) (sym is) behind_held))
+          (subst (λ (k : ℕ). AreBehind x c all_taken (here.few * k) held) (sym is) behind_held))
 
-      held_long : length held ≡ length all_read - here.few * j * x.taken * c.channels
-      held_long = ap length behind_held.1 ∙ length-drop (here.few * j * x.taken * c.channels) all_read
+      held_long : length held ≡ length all_taken - here.few * j * x.taken * c.channels
+      held_long = ap length behind_held.1 ∙ length-drop (here.few * j * x.taken * c.channels) all_taken
 
       pub held_whole : length held % c.channels ≡ 0
       held_whole =
@@ -210,20 +213,20 @@ module _ {n : Netlist Kit ℤ} {p : Schedule} {j : ℕ} {c : Reading} {frames al
       -- its whole blocks were not written
       pub putting_failed : (last : Option (List ℕ)) (w2 : ℕ) (o' : Owed) (v' : SessionValue Kit (List ℤ) ℤ)
           (e f : Fault) → f ≡ e →
-          PutsWhole n p j c all_read here.few here.bytes after last w1 w2 o o' v' (Err e) →
-          Streams n p.repetitions c old new before last r r2 w w2 (Err f)
+          PutsWhole n p j c all_taken here.few here.bytes after last w1 w2 o o' v' (Err e) →
+          Streams n p.repetitions first old new before last r r2 w w2 (Err f)
       putting_failed last w2 o' v' e f same (inl (is, (blocks, more, at, front, failed, there))) = (
-        all_read,
+        all_taken,
         (here.few + blocks) * j,
         here.bytes ++ more,
         new,
-        came_to runs n p has j c all_read (here.few + blocks) (here.bytes ++ more) v' within_more one there at,
-        reads.3,
+        came_to runs n p has j c all_taken (here.few + blocks) (here.bytes ++ more) v' within_more one there at,
+        takes.3,
         inl (
           same ∙ is,
           refl,
           front_join before after last here.bytes more here.written front,
-          reads.5,
+          takes.5,
           failed ∙ ap one_more here.writer,
         ),
       )
@@ -233,9 +236,9 @@ module _ {n : Netlist Kit ℤ} {p : Schedule} {j : ℕ} {c : Reading} {frames al
         here.bytes,
         now,
         came_here,
-        here.read,
+        here.takes,
         inr (
-          inl (same ∙ is, reads_lose c all_read old new reads.3, reads.5),
+          takes_refused first all_taken old new r r2 f (same ∙ is) takes.3 takes.5,
           subst (Appends before last) (append-nil here.bytes)
               (appends_join before after last here.bytes [] here.written (appends_none after last keeps)),
           fine ∙ here.writer,
@@ -244,14 +247,14 @@ module _ {n : Netlist Kit ℤ} {p : Schedule} {j : ℕ} {c : Reading} {frames al
 
       -- they were
       pub flows_on : (last : Option (List ℕ)) (w2 : ℕ) (o' : Owed) (v' : SessionValue Kit (List ℤ) ℤ) (rest : List ℤ) →
-          PutsWhole n p j c all_read here.few here.bytes after last w1 w2 o o' v' (Ok rest) →
+          PutsWhole n p j c all_taken here.few here.bytes after last w1 w2 o o' v' (Ok rest) →
           Here (unread - many) old new before last r r2 w w2 rest next o' v'
       flows_on last w2 o' v' rest (blocks, more, at, written, fine, behind, less, owed) = record {
-        samples = all_read;
+        samples = all_taken;
         few = here.few + blocks;
         bytes = here.bytes ++ more;
-        read = reads.3;
-        content_is = reads.4;
+        takes = takes.3;
+        source_is = takes.4;
         count = count_more;
         stands = at;
         behind = behind;
@@ -261,11 +264,11 @@ module _ {n : Netlist Kit ℤ} {p : Schedule} {j : ℕ} {c : Reading} {frames al
             ∙ (let z : all - here.few * j * x.made - blocks * j * x.made ≡ all - (here.few + blocks) * j * x.made =
             less_twice all (here.few * j * x.made) (blocks * j * x.made) ((here.few + blocks) * j * x.made)
             (omega arith) in z));
-        reader = reads.5;
+        reader = takes.5;
         writer = fine ∙ here.writer;
       }
 
-    -- ---- all was read
+    -- ---- all was taken
 
     module _ (end : unread ≡ 0) where
       all_there : length here.samples ≡ frames * c.channels
@@ -285,30 +288,11 @@ module _ {n : Netlist Kit ℤ} {p : Schedule} {j : ℕ} {c : Reading} {frames al
       sound : Sound
       sound = sound_read c here.samples
 
-      heard : ReadsContent c old now r r1 (Ok (sound_read c here.samples))
-      heard = (
-        record {
-          at = λ bytes is. let y = here.read.at bytes is in (
-            y.0,
-            y.1,
-            (
-              (λ input q. record {
-                read = y.2.0 input q;
-                ended = inl (
-                  can.known,
-                  (let z : c.gone + 2 * length here.samples ≡
-                      c.size = omega (arith, can.unread, all_there, size) in z),
-                );
-              }),
-              y.2.1,
-            ),
-          );
-        },
-        here.reader,
-        refl,
-        refl,
-        λ z. (let y : 2 * length here.samples ≡ c.size = omega (arith, all_there, size) in y),
-      )
+      size_there : 2 * length here.samples ≡ c.size
+      size_there = omega (arith, all_there, size)
+
+      heard : TakesAll first old now r r1 (Ok (sound_read c here.samples))
+      heard = takes_whole first here.samples old now r r1 can.unread can.known size_there here.takes here.reader
 
       frames_are : frames_of (sound_read c here.samples) ≡ frames
       frames_are = ap (λ (k : ℕ). k / c.channels) all_there ∙ mul-div_left frames one
@@ -326,7 +310,7 @@ module _ {n : Netlist Kit ℤ} {p : Schedule} {j : ℕ} {c : Reading} {frames al
           (w2 : ℕ) → StandsAt n p j (sound_read c here.samples) blocks many bytes v' →
           periods_for x frames ≤ blocks * j →
           many ≡ periods_for x frames * x.made → Appends before last bytes → w2 ≡ w →
-          Streams n p.repetitions c old now before last r r1 w w2 (Ok tt)
+          Streams n p.repetitions first old now before last r r1 w w2 (Ok tt)
       ended_by blocks many bytes v' last w2 at less same written fine =
           let s = stood runs n p has j (sound_read c here.samples) blocks many
           (periods_of x (sound_read c here.samples)) bytes v' at
@@ -335,7 +319,7 @@ module _ {n : Netlist Kit ℤ} {p : Schedule} {j : ℕ} {c : Reading} {frames al
           (sound_read c here.samples, heard, (s.0, s.1, subst (Appends before last) s.2 written, fine))
 
       -- nothing is missing
-      pub ended_whole : o.missing ≡ 0 → Streams n p.repetitions c old now before after r r1 w w1 (Ok tt)
+      pub ended_whole : o.missing ≡ 0 → Streams n p.repetitions first old now before after r r1 w w1 (Ok tt)
       ended_whole none =
           let made : here.few * j * x.made ≡ periods_for x frames * x.made =
           omega (arith, few_periods, here.missing, can.all_is, none) in
@@ -360,14 +344,14 @@ module _ {n : Netlist Kit ℤ} {p : Schedule} {j : ℕ} {c : Reading} {frames al
 
       pub ended_put : (last : Option (List ℕ)) (w2 : ℕ) (v' : SessionValue Kit (List ℤ) ℤ) →
           PutsBlocks n p j (sound_read c here.samples) here.few 1 o.missing here.bytes after last w1 w2 v' (Ok tt) →
-          Streams n p.repetitions c old now before last r r1 w w2 (Ok tt)
+          Streams n p.repetitions first old now before last r r1 w w2 (Ok tt)
       ended_put last w2 v' (more, at, written, fine) =
           ended_by (here.few + 1) (here.few * j * x.made + o.missing) (here.bytes ++ more) v' last w2 at last_block
           filled (appends_join before after last here.bytes more here.written written) (fine ∙ here.writer)
 
       pub ended_failed : (last : Option (List ℕ)) (w2 : ℕ) (v' : SessionValue Kit (List ℤ) ℤ) (f : Fault) →
           PutsBlocks n p j (sound_read c here.samples) here.few 1 o.missing here.bytes after last w1 w2 v' (Err f) →
-          Streams n p.repetitions c old now before last r r1 w w2 (Err f)
+          Streams n p.repetitions first old now before last r r1 w w2 (Err f)
       ended_failed last w2 v' f (inl (is_write, (more, at, front, failed))) =
           let periods = periods_of x (sound_read c here.samples) in (
             here.samples,
@@ -376,17 +360,13 @@ module _ {n : Netlist Kit ℤ} {p : Schedule} {j : ℕ} {c : Reading} {frames al
             now,
             record {
               within = within;
-              are_read = inr (
-                (let y : 2 * length here.samples ≡ c.size = omega (arith, all_there, size) in
-                    y),
-                omega arith,
-              );
+              are_read = inr (size_there, omega arith);
               are_frames = inr (stood runs n p has j (sound_read c here.samples) (here.few + 1)
                   (here.few * j * x.made + o.missing) periods (here.bytes ++ more) v' at
                   (subst (λ (k : ℕ). k ≤ (here.few + 1) * j) (sym periods_are) last_block)
                   (filled ∙ ap (λ (k : ℕ). k * x.made) (sym periods_are)));
             },
-            here.read,
+            here.takes,
             inl (
               is_write,
               refl,
@@ -401,9 +381,9 @@ module _ {n : Netlist Kit ℤ} {p : Schedule} {j : ℕ} {c : Reading} {frames al
         here.bytes,
         now,
         came_here,
-        here.read,
+        here.takes,
         inr (
-          inl (is_memory, reads_lose c here.samples old now here.read, here.reader),
+          takes_refused first here.samples old now r r1 f is_memory here.takes here.reader,
           subst (Appends before last) (append-nil here.bytes)
               (appends_join before after last here.bytes [] here.written (appends_none after last keeps)),
           fine ∙ here.writer,
@@ -414,6 +394,6 @@ module _ {n : Netlist Kit ℤ} {p : Schedule} {j : ℕ} {c : Reading} {frames al
       pub ended : (last : Option (List ℕ)) (w2 : ℕ) (v' : SessionValue Kit (List ℤ) ℤ)
           (result : Result (Unit {0}) Fault) →
           PutsBlocks n p j (sound_read c here.samples) here.few 1 o.missing here.bytes after last w1 w2 v' result →
-          Streams n p.repetitions c old now before last r r1 w w2 result
+          Streams n p.repetitions first old now before last r r1 w w2 result
       ended last w2 v' (Ok y) puts = ended_put last w2 v' puts
       ended last w2 v' (Err f) puts = ended_failed last w2 v' f puts

@@ -12,11 +12,11 @@ pub mod Pieces
 pub mod Sounds
 pub mod Rendering
 pub mod Outputs
-pub mod Fitting
 pub mod Played
 pub mod Pieced
 pub mod Parts
 pub mod Readings
+pub mod Taken
 pub mod Fed
 pub mod Streamed
 pub mod Flow

@@ -26,7 +26,8 @@ use Rattle.sdf_process.specs.Output.{announced_by, announced_fault, exchange_of,
 use Rattle.sdf_process.specs.Output.{IsExchange, IsExtent}
 use Rattle.sdf_process.specs.Run.{announced_size, AreRead, IsAllowed, IsRun, IsText, IsUnsized}
 use Rattle.sdf_process.specs.Stages.{Hears, IsHeard, ReadsContent, PutsHeader, WavLaws}
-use Rattle.sdf_process.specs.Streams.{IsStream, ReadsBy}
+use Rattle.sdf_process.specs.Sources.{ReadsBy}
+use Rattle.sdf_process.specs.Streams.{IsStream}
 use Rattle.sdf_process.proofs.Outcomes.{appends_join, front_join, lost_twice}
 use Rattle.sdf_process.proofs.Sizes.{fewer_frames, fewer_periods, periods_fit}
 use Rattle.sdf_process.proofs.Refusals.{some_no_none, AnnouncedAt, Begins, refused, writer_failed, memory_failed}

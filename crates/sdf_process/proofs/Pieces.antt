@@ -1,11 +1,11 @@
 -- Frames that are written some at a time.
-use Rattle.std.proofs.Common.{◌≡◌, inl, inr, ℕ, zero, suc, ◌+◌, ◌-◌, ◌*◌, ◌/◌, ◌%◌, ◌≤◌, ◌<◌, ℤ, List, [], ◌++◌, map}
-use Rattle.std.proofs.Common.{take, Option, Some, None, append-nil, Result, Ok, Err, refl, sym, ap, ◌∙◌, subst, arith}
+use Rattle.std.proofs.Common.{◌≡◌, inl, inr, ℕ, zero, suc, ◌+◌, ◌-◌, ◌*◌, ◌/◌, ◌%◌, ◌≤◌, ℤ, List, [], ◌++◌}
+use Rattle.std.proofs.Common.{Option, Some, None, append-nil, Result, Ok, Err, refl, sym, ap, ◌∙◌, subst, arith}
 use Rattle.std.proofs.Common.{append_assoc}
 use Rattle.std.specs.Prelude.{IsErrAnd}
 use Rattle.std.specs.List.{range_with_len}
 use Rattle.std.specs.Io.KnownBytes.{Appends, Keeps}
-use Rattle.std.proofs.Math.Nat.{mul-div_cancel, mul-le-mul_left, mul-le-mul_right, mul-mod_left}
+use Rattle.std.proofs.Math.Nat.{mul-div_cancel, mul-le-mul_right, mul-mod_left}
 use Rattle.std.proofs.lemmas.List.Concat.{flat_map-cons}
 use Rattle.sdf_actor.specs.Nets.{Netlist}
 use Rattle.sdf_kit.specs.declared.kit.Kit.{Kit}
@@ -18,10 +18,8 @@ use Rattle.sdf_wav.specs.declared.fault.WavFault.TheVariants as wav
 use Rattle.sdf_plan.specs.declared.fault.Fault.{Fault}
 use Rattle.sdf_plan.specs.Faults.{of_wav}
 use Rattle.sdf_plan.specs.declared.fault.Fault.TheVariants.{OutOfMemory}
-use Rattle.sdf_process.specs.Output.{exchange_of, frame, interleaved, interleaved_from, output_frames, periods_of}
-use Rattle.sdf_process.specs.Run.{BeginWithOutput}
+use Rattle.sdf_process.specs.Output.{frame, interleaved, interleaved_from}
 use Rattle.sdf_process.specs.Stages.{PutsFrames, PutsOutput, SamplesJoin}
-use Rattle.sdf_process.proofs.Rendering.{interleaved_cut}
 use Rattle.sdf_process.proofs.Outcomes.{front_join, keeps_same}
 use Rattle.sdf_process.proofs.Texts.{bytes_append}
 
@@ -128,46 +126,8 @@ unrun n q s held w e (Err f) memory is = (
 )
 unrun n q s held w e (Ok x) memory is = absurd is
 
--- they were made and written
-pub puts_output : (n : Netlist Kit ℤ) (q : List ℕ) (s : Sound) (lists : List (List ℤ)) (frames : ℕ) →
-    frames ≡ output_frames (exchange_of n q) s → BeginWithOutput n q s lists →
-    (before after : Option (List ℕ)) (w w' : ℕ) (r : Result (Unit {0}) Fault) →
-    PutsFrames before after w w' (sample_bytes (interleaved frames lists)) r → PutsOutput n q s before after w w' r
-puts_output n q s lists frames all begins before after w w' r puts = go r puts
-  where
-    cut : List (List ℤ)
-    cut = map (take (output_frames (exchange_of n q) s)) lists
-
-    same : sample_bytes (interleaved frames lists) ≡ sample_bytes (interleaved (output_frames (exchange_of n q) s) cut)
-    same = ap (λ (k : ℕ). sample_bytes (interleaved k lists)) all
-        ∙ ap sample_bytes (sym (interleaved_cut lists (output_frames (exchange_of n q) s)))
-
-    go : (r : Result (Unit {0}) Fault) → PutsFrames before after w w' (sample_bytes (interleaved frames lists)) r →
-        PutsOutput n q s before after w w' r
-    go (Ok x) (written, fine) = (cut, begins, subst (Appends before after) same written, fine)
-    go (Err f) (inl (is, front, failed)) = (
-      periods_of (exchange_of n q) s,
-      sample_bytes (interleaved frames lists),
-      omega arith,
-      inr (cut, begins, same),
-      inl (is, front, failed),
-    )
-    go (Err f) (inr (is, kept, fine)) = (
-      0,
-      [],
-      omega arith,
-      inl (refl, refl),
-      inr (is, appends_none before after kept, fine),
-    )
-
 -- a failed run
 pub run_fails : (P : Result (Unit {0}) Fault → Type 0) (f : Fault) (r : Result (Unit {0}) Fault) →
     IsErrAnd r (λ e. e ≡ f) → P (Err f) → P r
 run_fails P f (Err e) is p = subst (λ (z : Fault). P (Err z)) (sym is) p
 run_fails P f (Ok x) is p = absurd is
-
-pub few_periods : (p m o : ℕ) → 0 < m → 1 ≤ o → 2 * (p * m * o) ≤ 4294967259 → p ≤ 2147483629
-few_periods p m o some one few =
-    let more : p * 1 ≤ p * m = mul-le-mul_left p some in
-    let yet : p * m * 1 ≤ p * m * o = mul-le-mul_left (p * m) one in
-    omega (arith, few)

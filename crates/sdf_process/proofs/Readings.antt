@@ -13,7 +13,7 @@ use Rattle.sdf_plan.specs.declared.fault.Fault.{Fault}
 use Rattle.sdf_plan.specs.declared.fault.Fault.TheVariants.{OutOfMemory}
 use Rattle.sdf_plan.specs.Faults.{of_wav}
 use Rattle.sdf_process.specs.Stages.{ReadsContent}
-use Rattle.sdf_process.specs.Streams.{ReadsBy, ReadsMore}
+use Rattle.sdf_process.specs.Sources.{ReadsBy, ReadsMore}
 use Rattle.sdf_process.proofs.Outcomes.{lost_twice}
 
 module _ (c now : Reading) (before : List ℤ) (here : now ≡ record c { gone = c.gone + 2 * length before }) (frames : ℕ)

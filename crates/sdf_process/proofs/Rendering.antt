@@ -1,8 +1,7 @@
--- What a net makes of a sound, by what the runners gave.
+-- What the runners are given of a sound, and the frames of what they make.
 use Rattle.std.proofs.Common.{◌≡◌, ◌⊎◌, inl, inr, ℕ, zero, suc, ◌+◌, ◌*◌, ◌≤◌, ◌<◌, ℤ, pos, List, [], ◌∷◌, ◌++◌, length}
-use Rattle.std.proofs.Common.{map, take, get_or, MatchResult, Result, Ok, Err, refl, sym, ap, ◌∙◌, subst, arith}
+use Rattle.std.proofs.Common.{map, take, get_or, refl, sym, ap, ◌∙◌, arith}
 use Rattle.std.specs.Int.{w16, saturate_signed}
-use Rattle.std.specs.Prelude.{IsErrAnd}
 use Rattle.std.specs.List.{flat_map, range_with_len}
 use Rattle.std.proofs.Math.Nat.{mul-le-mul_right}
 use Rattle.std.proofs.lemmas.Bool.{cases_lt}
@@ -11,21 +10,15 @@ use Rattle.std.proofs.lemmas.List.Concat.{flat_map-cons}
 use Rattle.std.proofs.lemmas.List.FromFn.{length-map-range_with_len, get_or-map-range_with_len, take-map-range_with_len}
 use Rattle.sdf_actor.specs.Nets.{Netlist}
 use Rattle.sdf_kit.specs.declared.kit.Kit.{Kit}
-use Rattle.sdf_kit.specs.Kit.{kit_steps}
-use Rattle.sdf_answer.specs.Answer.{HasInputs, AreOutputs, periods_of as firings, IsRunFault}
-use Rattle.sdf_answer.specs.Periods.{HasPeriod}
-use Rattle.sdf_answer.specs.Laws.{Begin, RunsGoOn}
+use Rattle.sdf_answer.specs.Answer.{HasInputs, IsRunFault}
+use Rattle.sdf_answer.specs.Laws.{Begin}
 use Rattle.sdf_answer.specs.declared.fault.RunFault.{RunFault}
 use Rattle.sdf_answer.specs.declared.fault.RunFault.TheVariants as run
-use Rattle.sdf_sched.specs.Period.{Schedule}
 use Rattle.sdf_wav.specs.Sound.{Sound}
 use Rattle.sdf_process.specs.declared.exchange.Exchange.{Exchange}
-use Rattle.sdf_plan.specs.declared.fault.Fault.{Fault}
 use Rattle.sdf_plan.specs.declared.fault.Fault.TheVariants as fault
 use Rattle.sdf_plan.specs.Faults.{of_run}
-use Rattle.sdf_process.specs.Output.{exchange_of, periods_of, sample, channel_samples, lists_to, input_lists, frame}
-use Rattle.sdf_process.specs.Output.{interleaved}
-use Rattle.sdf_process.specs.Run.{BeginWithOutput}
+use Rattle.sdf_process.specs.Output.{exchange_of, sample, channel_samples, lists_to, frame, interleaved}
 
 -- ---- what the runners are given
 
@@ -81,40 +74,6 @@ run_fault_by n q periods inputs run.NotHomed given why = absurd why
 run_fault_by n q periods inputs run.Patience given why = absurd why
 run_fault_by n q periods inputs run.NoWorker given why = absurd why
 run_fault_by n q periods inputs run.SessionFailed given why = absurd why
-
-run_fault_is : (n : Netlist Kit ℤ) (q : List ℕ) (s : Sound) (periods : ℕ) (inputs : List (List ℤ)) (e : RunFault) →
-    inputs ≡ lists_to periods (exchange_of n q) s → IsRunFault n q periods inputs e → of_run e ≡ fault.OutOfMemory
-run_fault_is n q s periods inputs e given why = run_fault_by n q periods inputs e
-    (subst (HasInputs n q periods) (sym given) (are_inputs n q s periods)) why
-
--- and what they give begins with the output
-pub begins_with_output : RunsGoOn kit_steps → (n : Netlist Kit ℤ) (p : Schedule) → HasPeriod kit_steps n p →
-    (s : Sound) (many : ℕ) (inputs lists : List (List ℤ)) →
-    periods_of (exchange_of n p.repetitions) s ≤ many → inputs ≡ lists_to many (exchange_of n p.repetitions) s →
-    AreOutputs kit_steps n inputs (firings p.repetitions many) lists → BeginWithOutput n p.repetitions s lists
-begins_with_output runs n p has s many inputs lists less given made =
-    let x = exchange_of n p.repetitions in
-    runs n p (periods_of x s) many (input_lists x s) (lists_to many x s) lists has less
-    (are_inputs n p.repetitions s (periods_of x s)) (begin (periods_of x s) many x s less)
-    (subst (λ ins. AreOutputs kit_steps n ins (firings p.repetitions many) lists) given made)
-
--- the same where what was read off is not yet known to be it
-pub run_begins : RunsGoOn kit_steps → (n : Netlist Kit ℤ) (p : Schedule) → HasPeriod kit_steps n p →
-    (s : Sound) (x : Exchange) → x ≡ exchange_of n p.repetitions →
-    (periods many : ℕ) → periods ≡ periods_of (exchange_of n p.repetitions) s → periods ≤ many →
-    (inputs lists : List (List ℤ)) → inputs ≡ lists_to many x s →
-    AreOutputs kit_steps n inputs (firings p.repetitions many) lists → BeginWithOutput n p.repetitions s lists
-run_begins runs n p has s x is periods many all less inputs lists given made =
-    begins_with_output runs n p has s many inputs lists (subst (λ k. k ≤ many) all less)
-    (given ∙ ap (λ y. lists_to many y s) is) made
-
-pub run_refused : {X : Type 0} (n : Netlist Kit ℤ) (q : List ℕ) (s : Sound) (x : Exchange) → x ≡ exchange_of n q →
-    (periods : ℕ) (inputs : List (List ℤ)) → inputs ≡ lists_to periods x s →
-    (e : RunFault) (r : Result X Fault) (P : X → Type 0) → IsRunFault n q periods inputs e →
-    IsErrAnd r (λ f. f ≡ of_run e) → MatchResult r P (λ f. f ≡ fault.OutOfMemory)
-run_refused n q s x is periods inputs given e (Err f) P why from =
-    from ∙ run_fault_is n q s periods inputs e (given ∙ ap (λ y. lists_to periods y s) is) why
-run_refused n q s x is periods inputs given e (Ok v) P why from = absurd from
 
 -- ---- what is made of their lists
 

@@ -1,6 +1,7 @@
 pub mod Output
 pub mod Run
 pub mod Stages
+pub mod Sources
 pub mod Streams
 pub mod Tasks
 pub mod Laws

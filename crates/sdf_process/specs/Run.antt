@@ -1,6 +1,6 @@
 -- What a run of the program reads, answers and writes.
 use Rattle.std.specs.Prelude.{◌≡◌, ◌≢◌, ℕ, ◌*◌, ◌/◌, ◌≤◌, ◌⊎◌, [], ◌++◌, ℤ, List, Option, Some, None, Result, Ok, Err}
-use Rattle.std.specs.Prelude.{IfErr, map, take}
+use Rattle.std.specs.Prelude.{IfErr}
 use Rattle.std.specs.Io.KnownBytes.{Appends, Keeps}
 use Rattle.sdf_actor.specs.Nets.{Netlist}
 use Rattle.sdf_answer.specs.Answer.{AreOutputs, periods_of as firings}
@@ -12,7 +12,7 @@ use Rattle.sdf_wav.specs.Fault.{HasFault}
 use Rattle.sdf_wav.specs.Device.{AppendsFront, Known, LosesFront, one_more}
 use Rattle.sdf_wav.specs.Canonical.{canonical_wav, sample_bytes, IsCanonical}
 use Rattle.sdf_process.specs.Output.{exchange_of, announced_fault, output_header, periods_of, lists_to, input_lists}
-use Rattle.sdf_process.specs.Output.{interleaved, output_frames, output_of, output_fault}
+use Rattle.sdf_process.specs.Output.{interleaved, output_of, output_fault}
 use Rattle.sdf_wav.specs.PiecesIn.{Reading, Opens, IsReadTo, IsEnded, sound_read, known_frames}
 use Rattle.sdf_wav.specs.declared.fault.FormatFault.{FormatFault}
 use Rattle.sdf_wav.specs.declared.fault.FormatFault.TheVariants.{Truncated}
@@ -30,12 +30,6 @@ pub record IsOutput (n : Netlist Kit ℤ) (q : List ℕ) (s out : Sound) : Type 
   pub are_outputs : AreOutputs kit_steps n (input_lists (exchange_of n q) s)
       (firings q (periods_of (exchange_of n q) s)) lists
   pub output : out ≡ output_of (exchange_of n q) s lists
-
--- Lists whose first samples reach the sinks. A runner by whole blocks may make more of them.
-abbrev pub BeginWithOutput : Netlist Kit ℤ → List ℕ → Sound → List (List ℤ) → Type 0
-BeginWithOutput n q s lists =
-    AreOutputs kit_steps n (input_lists (exchange_of n q) s) (firings q (periods_of (exchange_of n q) s))
-    (map (take (output_frames (exchange_of n q) s)) lists)
 
 -- a WAV file stood in the input, and there is an output of it
 pub record HasOutput (n : Netlist Kit ℤ) (q : List ℕ) (input : List ℕ) (out : Sound) : Type 0 where

@@ -1,5 +1,5 @@
--- A run with workers that reads its input and writes its output as it goes.
-use Rattle.std.specs.Prelude.{◌≡◌, ◌⊎◌, ℕ, ◌+◌, ◌-◌, ◌*◌, ◌<◌, ◌≤◌, ℤ, List, [], ◌++◌, length, drop, Option, Result, Ok}
+-- A run that takes its input and writes its output as it goes.
+use Rattle.std.specs.Prelude.{◌≡◌, ◌⊎◌, ℕ, ◌+◌, ◌-◌, ◌*◌, ◌<◌, ◌≤◌, ℤ, List, ◌++◌, length, drop, Option, Result, Ok}
 use Rattle.std.specs.Prelude.{Err, false}
 use Rattle.std.specs.Io.KnownBytes.{Appends, Keeps}
 use Rattle.sdf_actor.specs.Nets.{Netlist}
@@ -7,44 +7,22 @@ use Rattle.sdf_answer.specs.Periods.{HasPeriod}
 use Rattle.sdf_kit.specs.declared.kit.Kit.{Kit}
 use Rattle.sdf_kit.specs.Kit.{kit_steps}
 use Rattle.sdf_run.specs.Sessions.{SessionValue, StandsAfter, IsLive}
-use Rattle.sdf_run.specs.declared.mode.Mode.{Mode}
-use Rattle.sdf_run.specs.declared.mode.Mode.TheVariants.{Rings, Rows}
 use Rattle.sdf_sched.specs.Period.{Schedule}
 use Rattle.sdf_wav.specs.Canonical.{sample_bytes}
-use Rattle.sdf_wav.specs.Device.{AppendsFront, Known, LosesFront, one_more}
-use Rattle.sdf_wav.specs.PiecesIn.{Reading, IsReadTo, sound_read}
+use Rattle.sdf_wav.specs.Device.{AppendsFront, one_more}
+use Rattle.sdf_wav.specs.PiecesIn.{Reading, sound_read}
 use Rattle.sdf_wav.specs.PiecesOut.{Owed}
 use Rattle.sdf_wav.specs.Sound.{Sound, frames_of}
 use Rattle.sdf_wav.specs.declared.wav.TheConstants.{MOST_CHANNELS}
-use Rattle.sdf_options.specs.declared.options.Runner.{Runner}
-use Rattle.sdf_options.specs.declared.options.Runner.TheVariants as runners
 use Rattle.sdf_process.specs.declared.exchange.Exchange.{Exchange}
 use Rattle.sdf_plan.specs.declared.fault.Fault.{Fault}
 use Rattle.sdf_plan.specs.declared.fault.Fault.TheVariants.{OutOfMemory, Write}
+use Rattle.sdf_process.specs.declared.source.Source.{Source}
 use Rattle.sdf_process.specs.declared.streaming.Stream.{Stream}
 use Rattle.sdf_process.specs.Output.{exchange_of, interleaved, lists_to, periods_of, IsExchange}
 use Rattle.sdf_process.specs.Run.{AreFrames}
-use Rattle.sdf_process.specs.Stages.{PutsOutput, ReadsContent}
-
--- the content c of an input was read on from its start by these samples
-abbrev pub ReadsBy : Reading → List ℤ → Option (List ℕ) → Option (List ℕ) → Type 0
-ReadsBy c samples old new =
-    Known old new (λ bytes left. ((input : List ℕ) → IsReadTo input c [] bytes →
-    IsReadTo input (record c { gone = c.gone + 2 * length samples }) samples left) × LosesFront bytes left)
-
--- So many frames behind these samples were read, and are kept behind others; or the reading of the content failed.
-abbrev pub ReadsMore : Reading → List ℤ → ℕ → List ℤ → Option (List ℕ) → Option (List ℕ) → ℕ → ℕ → Reading →
-    Result (List ℤ) Fault → Type 0
-ReadsMore c before frames kept old new r r' now (Ok all) =
-    (samples : List ℤ) × (all ≡ kept ++ samples) × (length samples ≡ frames * c.channels)
-    × ReadsBy c (before ++ samples) old new × (now ≡
-    record c { gone = c.gone + 2 * length (before ++ samples) }) × (r' ≡ r)
-ReadsMore c before frames kept old new r r' now (Err f) = ReadsContent c old new r r' (Err f)
-
--- how a session goes on that a runner with workers has
-abbrev pub mode_of : Runner → ℕ → Mode
-mode_of runners.Rings patience = Rings patience
-mode_of runner patience = Rows
+use Rattle.sdf_process.specs.Sources.{reading_of, Takes, TakesAll}
+use Rattle.sdf_process.specs.Stages.{PutsOutput}
 
 -- A session of net n stands after the first blocks of j periods of a sound, and these are the bytes of the first frames
 -- of what it made of them.
@@ -122,14 +100,14 @@ pub record IsStream (n : Netlist Kit ℤ) (q : List ℕ) (c : Reading) (samples 
       ⊎ ((2 * length samples ≡ c.size) × (periods ≤ periods_of (exchange_of n q) (sound_read c samples)))
   pub are_frames : AreFrames n q (sound_read c samples) periods frames
 
--- The content was read to its end and its whole output written; or the writer failed among the frames of what was read;
--- or the reading failed, or memory was refused, behind some frames that were written.
-abbrev pub Streams : Netlist Kit ℤ → List ℕ → Reading → Option (List ℕ) → Option (List ℕ) → Option (List ℕ) →
+-- The whole sound was taken from the source and its whole output written; or the writer failed among the frames of what
+-- was taken; or taking more failed, or memory was refused, behind some frames that were written.
+abbrev pub Streams : Netlist Kit ℤ → List ℕ → Source → Option (List ℕ) → Option (List ℕ) → Option (List ℕ) →
     Option (List ℕ) → ℕ → ℕ → ℕ → ℕ → Result (Unit {0}) Fault → Type 0
-Streams n q c old new before after r r' w w' (Ok x) =
-    (s : Sound) × ReadsContent c old new r r' (Ok s) × PutsOutput n q s before after w w' (Ok x)
-Streams n q c old new before after r r' w w' (Err f) =
+Streams n q first old new before after r r' w w' (Ok x) =
+    (s : Sound) × TakesAll first old new r r' (Ok s) × PutsOutput n q s before after w w' (Ok x)
+Streams n q first old new before after r r' w w' (Err f) =
     (samples : List ℤ) × (periods : ℕ) × (frames : List ℕ) × (mid : Option (List ℕ))
-    × IsStream n q c samples periods frames × ReadsBy c samples old mid
+    × IsStream n q (reading_of first) samples periods frames × Takes first samples old mid
     × (((f ≡ Write) × (mid ≡ new) × AppendsFront before after frames × (r' ≡ r) × (w' ≡ one_more w))
-    ⊎ (ReadsContent c old new r r' (Err f) × Appends before after frames × (w' ≡ w)))
+    ⊎ (TakesAll first old new r r' (Err f) × Appends before after frames × (w' ≡ w)))

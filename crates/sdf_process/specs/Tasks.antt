@@ -1,5 +1,5 @@
 -- What is run, and on what.
-use Rattle.std.specs.Prelude.{◌≡◌, ℕ, ℤ, ◌≤◌, List, Option, None, Some, IfSome}
+use Rattle.std.specs.Prelude.{◌≡◌, ℕ, ℤ, ◌*◌, ◌≤◌, List, Option, None, Some, IfSome, false}
 use Rattle.sdf_graph.specs.Rates.{rates}
 use Rattle.sdf_actor.specs.Graphs.{graph_of}
 use Rattle.sdf_actor.specs.Sides.{list_count}
@@ -8,14 +8,18 @@ use Rattle.sdf_actor.specs.Nets.{Netlist}
 use Rattle.sdf_fission.specs.WarmUps.{WarmsIn}
 use Rattle.sdf_kit.specs.Kit.{kit_steps}
 use Rattle.sdf_kit.specs.declared.kit.Kit.{Kit}
+use Rattle.sdf_answer.specs.Rows.{IsBlockTableOf}
+use Rattle.sdf_run.specs.Sessions.{MayRun}
 use Rattle.sdf_sched.specs.Period.{IsPeriodOf}
 use Rattle.sdf_wav.specs.PiecesIn.{Reading, known_frames, IsReading}
 use Rattle.sdf_wav.specs.declared.wav.TheConstants.{MOST_CHANNELS}
 use Rattle.sdf_process.specs.declared.playing.Cut.{Cut}
 use Rattle.sdf_process.specs.declared.playing.Player.{Player}
-use Rattle.sdf_process.specs.declared.task.SharedTask.{SharedTask}
+use Rattle.sdf_process.specs.declared.begun.Begun.{Begun}
+use Rattle.sdf_process.specs.declared.streaming.Shared.{Shared}
 use Rattle.sdf_process.specs.declared.task.Task.{Task}
-use Rattle.sdf_plan.specs.Followed.{HasBlockTable}
+use Rattle.sdf_process.specs.Output.{exchange_of, IsExtent}
+use Rattle.sdf_process.specs.Sources.{reading_of}
 use Rattle.sdf_plan.specs.Plans.{Suits}
 
 -- the plan is one of the net's, and a WAV file can have the channels of the net
@@ -24,10 +28,12 @@ pub record IsTask (t : Task) : Type 0 where
   pub inputs : list_count Inputs t.net.now.nodes ≤ MOST_CHANNELS
   pub outputs : list_count Outputs t.net.now.nodes ≤ MOST_CHANNELS
 
--- and the table is the plan's
-pub record IsSharedTask (t : SharedTask) : Type 0 where
-  pub task : IsTask t.task
-  pub table : HasBlockTable t.task.plan.now t.table.now
+-- the table is one of the net's blocks and can be run so, and a WAV file can have the channels of the net
+pub record IsShared (t : Shared) : Type 0 where
+  pub table : IsBlockTableOf (rates (graph_of kit_steps t.net.now)) t.table.now
+  pub may : MayRun t.table.now.table t.mode
+  pub inputs : list_count Inputs t.net.now.nodes ≤ MOST_CHANNELS
+  pub outputs : list_count Outputs t.net.now.nodes ≤ MOST_CHANNELS
 
 -- the period is one of the net's, and a WAV file can have the channels of the net
 pub record CanPlay (p : Player) : Type 0 where
@@ -45,3 +51,17 @@ pub record IsUnheard (c : Reading) (frames : ℕ) : Type 0 where
   pub unread : c.gone ≡ 0
   pub unspoilt : c.fault ≡ None
   pub known : known_frames c ≡ Some frames
+
+-- Nothing was taken from the source of a run of net n, and of its output nothing is written but the header.
+pub record IsBegun (n : Netlist Kit ℤ) (q : List ℕ) (b : Begun) : Type 0 where
+  pub unheard : IsUnheard (reading_of b.source) b.frames
+  pub extent : IsExtent (exchange_of n q) (record {
+    rate = (reading_of b.source).rate;
+    channels = (reading_of b.source).channels;
+    frames = b.frames;
+  }) b.extent
+  pub owed : b.output ≡ record {
+    channels = (exchange_of n q).outputs;
+    missing = b.extent.periods * (exchange_of n q).made;
+    spent = false;
+  }

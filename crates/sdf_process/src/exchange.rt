@@ -9,7 +9,7 @@ ghost use Rattle.sdf_actor.specs.Sides.{list_count};
 ghost use Rattle.sdf_actor.specs.Wires.{lists as items_of};
 ghost use Rattle.sdf_kit.specs.Kit.{kit_steps};
 ghost use Rattle.sdf_process.specs.Output.{exchange_of, announced_by, announced_fault, periods_for, rate_for};
-ghost use Rattle.sdf_process.specs.Output.{lists_from, lists_to, IsExchange, IsExtent};
+ghost use Rattle.sdf_process.specs.Output.{lists_from, IsExchange, IsExtent};
 
 use crate::samples::channel_lists;
 use sdf_actor::Net;
@@ -29,15 +29,6 @@ pub(crate) struct Exchange {
     pub(crate) taken: usize,
     /// Samples put on each channel that is made.
     pub(crate) made: usize,
-}
-
-/// How many blocks hold so many periods.
-pub(crate) fn blocks_for(periods: u32, blocking: u32) -> u32
-    requires { 0 < blocking }
-    ensures enough { periods ≤ result * blocking }
-    ensures few { result * blocking < periods + blocking }
-{
-    periods.div_ceil(blocking)
 }
 
 /// What is known of a sound before its samples are.
@@ -128,20 +119,6 @@ impl Exchange {
             rate: rate as u32,
             periods: periods as u32,
         })
-    }
-
-    /// The input lists for so many periods, with zeros past the end of the sound, which is gone then.
-    pub(crate) fn inputs_of(
-        self,
-        alloc: Global,
-        input: Wav,
-        periods: u32,
-    ) -> Result<Vec<Vec<i32>>, AllocError>
-        requires { IsExchange self }
-        ensures { IfOk result (λ all. items_of all.items ≡ lists_to periods self input) }
-    {
-        let len = periods as usize * self.taken;
-        channel_lists(alloc, &input, 0, len, self.inputs, &mut [])
     }
 
     /// Makes the input lists for `periods` periods behind the first `at`, with zeros past the end of the sound, in the

@@ -1,6 +1,6 @@
 //! Stages of a run: the header of its output, and a content that is read whole.
 
-ghost use Rattle.std.specs.Prelude.{◌≡◌, ◌*◌, ◌≤◌, ◌<◌, false, None, IfOk};
+ghost use Rattle.std.specs.Prelude.{◌≡◌, ◌*◌, ◌≤◌, ◌<◌, false, length, None, IfOk};
 ghost use Rattle.sdf_wav.specs.PiecesOut.{file_header};
 ghost use Rattle.sdf_process.specs.Output.{IsExchange};
 ghost use Rattle.sdf_process.specs.Stages.{PutsHeader, ReadsContent, WavLaws};
@@ -56,8 +56,9 @@ pub(crate) fn read_content<R: Reader>(
 ) -> Result<Wav, Fault>
     requires unread { content.gone ≡ 0 }
     requires unspoilt { content.fault ≡ None }
-    ensures { ReadsContent content (R.remaining reader.old) (R.remaining reader.new) (R.failures reader.old)
+    ensures reads { ReadsContent content (R.remaining reader.old) (R.remaining reader.new) (R.failures reader.old)
         (R.failures reader.new) result }
+    ensures few { IfOk result (λ s. 2 * length s.samples ≤ 0xFFFFFFFF) }
 {
     pieces_join();
     let samples = content.next(alloc, reader, usize::MAX)?;

@@ -6,12 +6,11 @@ ghost use Rattle.sdf_process.specs.Run.{IsRun};
 ghost use Rattle.sdf_process.specs.Stages.{RunsOn};
 ghost use Rattle.sdf_process.specs.Tasks.{IsUnheard, IsTask};
 
+use crate::begun::{Begun, run_begun};
 use crate::exchange::{Announced, Exchange};
-use crate::finishing::{Heard, finish};
 use crate::hearing::{begin, read_content, wav_laws};
-use crate::playing::{Player, put_pieces};
-use crate::streaming::{Hearing, run_stream};
-use crate::task::{SharedTask, Task};
+use crate::source::Source;
+use crate::task::Task;
 use sdf_plan::Fault;
 use sdf_run::Gate;
 use sdf_wav::{ContentIn, Reader, Writer};
@@ -40,35 +39,23 @@ fn run_ahead<T: Threads + AllocGlobal + Sync, R: Reader, W: Writer, G: Gate>(
         (R.remaining reader.old) (R.remaining reader.new) (W.contents writer.old) (W.contents writer.new)
         (R.failures reader.old) (R.failures reader.new) (W.failures writer.old) (W.failures writer.new) result }
 {
-    let Task { net, plan } = task;
     let Unheard { content, frames } = unheard;
     wav_laws();
-    let period = plan.period();
-    let exchange = Exchange::of_net(net);
+    let exchange = Exchange::of_net(task.net);
     let announced = Announced {
         rate: content.rate(),
         channels: content.channels(),
         frames,
     };
     let extent = exchange.extent(announced)?;
-    let mut output = begin(writer, exchange, extent)?;
-    let Some(table) = plan.table() else {
-        let input = read_content(rt.alloc(), reader, content)?;
-        let player = Player {
-            net,
-            period,
-            input: &input,
-            parts: plan.parts(),
-        };
-        return put_pieces(rt, writer, player, &mut output, extent.periods);
-    };
-    let shared = SharedTask { task, table };
-    let hearing = Hearing {
-        content,
+    let output = begin(writer, exchange, extent)?;
+    let begun = Begun {
+        source: Source::Content(content),
         frames,
+        extent,
         output,
     };
-    run_stream(rt, reader, writer, shared, gate, hearing)
+    run_begun(rt, reader, writer, task, gate, begun)
 }
 
 /// Runs a net on a content whose size was never filled in: it is read whole before the output is tested and begun.
@@ -90,15 +77,16 @@ fn run_behind<T: Threads + AllocGlobal + Sync, R: Reader, W: Writer, G: Gate>(
 {
     wav_laws();
     let exchange = Exchange::of_net(task.net);
-    let input = read_content(rt.alloc(), reader, content)?;
-    let extent = exchange.extent(Announced::by(&input))?;
+    let sound = read_content(rt.alloc(), reader, content)?;
+    let extent = exchange.extent(Announced::by(&sound))?;
     let output = begin(writer, exchange, extent)?;
-    let heard = Heard {
-        input,
+    let begun = Begun {
+        frames: sound.frames(),
+        source: Source::Heard { sound, taken: 0 },
         extent,
         output,
     };
-    finish(rt, writer, task, gate, heard)
+    run_begun(rt, reader, writer, task, gate, begun)
 }
 
 /// Runs a net on a WAV file, and writes the WAV file of its output.

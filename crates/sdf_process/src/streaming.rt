@@ -1,95 +1,55 @@
-//! A run with workers that reads its input and writes its output as it goes: what is held is what a piece of the input
-//! and a block need.
+//! A run with workers that takes its input and writes its output as it goes. It holds what a piece of the input and a
+//! block need.
 
-ghost use Rattle.std.specs.Prelude.{◌≡◌, ◌≢◌, ◌+◌, ◌-◌, ◌*◌, ◌%◌, ◌≤◌, ◌<◌, ℕ, ℤ, List, [], length, drop, Option, Some};
-ghost use Rattle.std.specs.Prelude.{None, Ok, Err, MatchResult, IfOk, false};
+ghost use Rattle.std.specs.Prelude.{◌≡◌, ◌-◌, ◌*◌, ◌%◌, ◌≤◌, ◌<◌, ℕ, ℤ, List, [], length, drop, Ok, Err, MatchResult};
+ghost use Rattle.std.specs.Prelude.{IfOk};
 ghost use Rattle.sdf_actor.specs.Nets.{Netlist};
 ghost use Rattle.sdf_kit.specs.declared.kit.Kit.{Kit as KitValue};
 ghost use Rattle.sdf_sched.specs.Period.{Schedule};
 ghost use Rattle.sdf_wav.specs.PiecesIn.{Reading, sound_read};
 ghost use Rattle.sdf_wav.specs.Sound.{Sound};
-ghost use Rattle.sdf_process.specs.declared.exchange.Extent.{Extent};
 ghost use Rattle.sdf_plan.specs.declared.fault.Fault.TheVariants.{OutOfMemory};
-ghost use Rattle.sdf_process.specs.Output.{exchange_of, lists_from, IsExtent};
-ghost use Rattle.sdf_plan.specs.Followed.{HasBlockTable};
-ghost use Rattle.sdf_plan.specs.Plans.{Suits};
-ghost use Rattle.sdf_process.specs.Streams.{AreBehind, IsReady, PutsBlocks, PutsWhole, mode_of, ReadsBy, ReadsMore};
-ghost use Rattle.sdf_process.specs.Streams.{StandsAt, StandsWhole, Streams};
-ghost use Rattle.sdf_process.specs.Tasks.{IsUnheard, IsSharedTask};
+ghost use Rattle.sdf_process.specs.Output.{exchange_of, lists_from};
+ghost use Rattle.sdf_process.specs.Streams.{AreBehind, IsReady, PutsBlocks, PutsWhole, StandsAt, StandsWhole};
+ghost use Rattle.sdf_process.specs.Streams.{Streams};
+ghost use Rattle.sdf_process.specs.Tasks.{IsBegun, IsShared};
 
+use crate::begun::Begun;
 use crate::exchange::Exchange;
 use crate::putting::put_frames;
-use crate::task::{SharedTask, Task};
 use sdf_actor::Net;
 use sdf_actor::laws::nets_are_wired;
 use sdf_answer::BlockTable;
 use sdf_kit::Kit;
-use sdf_options::Runner;
-use sdf_plan::{Fault, Plan};
+use sdf_plan::Fault;
 use sdf_run::laws::{nets_can_run, nets_have_periods, runs_go_on};
 use sdf_run::{Gate, Mode, Session};
-use sdf_wav::laws::{pieces_join, puts_join};
-use sdf_wav::{ContentIn, ContentOut, Reader, Wav, Writer};
+use sdf_wav::laws::puts_join;
+use sdf_wav::{ContentOut, Reader, Wav, Writer};
 use std::alloc::{AllocError, Global};
 use std::thread::Threads;
 
-/// Frames that are read at a time.
+/// Frames that are taken at a time.
 const FRAMES: usize = 4096;
 
-/// How the blocks of a plan are run.
-fn mode(plan: &Plan) -> Mode
-    ensures { result ≡ mode_of plan.now.runner plan.now.patience }
-{
-    match plan.runner() {
-        Runner::Rings => Mode::Rings {
-            patience: plan.patience(),
-        },
-        _ => Mode::Rows,
-    }
+/// A net, the table of blocks that its workers follow, and how they run them.
+#[derive(Clone, Copy)]
+pub(crate) struct Shared<'a> {
+    pub(crate) net: &'a Net<Kit>,
+    pub(crate) table: &'a BlockTable,
+    pub(crate) mode: Mode,
 }
 
-/// A session by the plan's runner that was fed nothing.
-fn open_session<'a>(
-    alloc: Global,
-    net: &'a Net<Kit>,
-    plan: &'a Plan,
-    table: &'a BlockTable,
-) -> Result<Session<'a, Kit>, Fault>
-    requires plan { Suits net.now plan.now }
-    requires table { HasBlockTable plan.now table.now }
-    ensures stands { MatchResult result
-        (λ v. (s : Sound) → StandsAt net.now plan.now.period plan.now.blocking s 0 0 [] v)
+/// A session that was fed nothing.
+fn open_session<'a>(alloc: Global, shared: Shared<'a>) -> Result<Session<'a, Kit>, Fault>
+    requires { IsShared shared }
+    ensures stands { let t = shared.entry.table.now in MatchResult result
+        (λ v. (s : Sound) → StandsAt shared.entry.net.now t.period t.factor s 0 0 [] v)
         (λ e. e ≡ OutOfMemory) }
-    ensures mode { IfOk result (λ v. v.mode ≡ mode_of plan.now.runner plan.now.patience) }
+    ensures mode { IfOk result (λ v. v.mode ≡ shared.entry.mode) }
 {
-    let session = Session::open(alloc, net, table, mode(plan))?;
+    let session = Session::open(alloc, shared.net, shared.table, shared.mode)?;
     Ok(session)
-}
-
-/// Reads the next frames, and keeps them behind others.
-fn read_more<R: Reader>(
-    alloc: Global,
-    reader: &mut R,
-    content: &mut ContentIn,
-    frames: usize,
-    mut kept: Vec<i16>,
-) -> Result<Vec<i16>, Fault>
-    requires unspoilt { content.old.fault ≡ None }
-    requires sized { content.old.size ≢ 0xFFFFFFFF }
-    requires enough { content.old.gone + 2 * (frames * content.old.channels) ≤ content.old.size }
-    ensures { (c : Reading) (before : List ℤ) (old : Option (List ℕ)) (r : ℕ) →
-        content.old ≡ record c { gone = c.gone + 2 * length before } → ReadsBy c before old (R.remaining reader.old) →
-        R.failures reader.old ≡ r →
-        MatchResult result
-        (λ all. ReadsMore c before frames kept.items old (R.remaining reader.new) r (R.failures reader.new) content.new
-        (Ok all.items))
-        (λ f. ReadsMore c before frames kept.items old (R.remaining reader.new) r (R.failures reader.new)
-        content.new (Err f)) }
-{
-    pieces_join();
-    let samples = content.next(alloc, reader, frames)?;
-    kept.extend_from_slice(&samples)?;
-    Ok(kept)
 }
 
 /// The samples behind the first ones.
@@ -100,14 +60,6 @@ fn behind(alloc: Global, samples: &[i16], from: usize) -> Result<Vec<i16>, Alloc
     let mut rest = Vec::new(alloc);
     rest.extend_from_slice(&samples[from..])?;
     Ok(rest)
-}
-
-/// A content of so many frames that is to be read in pieces, and its output as far as it is begun.
-#[derive(Drop)]
-pub(crate) struct Hearing {
-    pub(crate) content: ContentIn,
-    pub(crate) frames: usize,
-    pub(crate) output: ContentOut,
 }
 
 /// So many blocks of a sound, with zeros past its end, and how many frames of what they make are written.
@@ -257,53 +209,48 @@ impl<'a> Stream<'a> {
     }
 }
 
-/// Runs a net on a content of so many frames: reads some frames, feeds all whole blocks that there are, writes what
-/// they make, and so on; the last block is filled up with zeros.
+/// Runs a net on the frames of a source: takes some frames, feeds all whole blocks that there are, writes what they
+/// make, and so on. The last block is filled up with zeros.
 pub(crate) fn run_stream<T: Threads + AllocGlobal + Sync, R: Reader, W: Writer, G: Gate>(
     rt: &T,
     reader: &mut R,
     writer: &mut W,
-    shared: SharedTask<'_>,
+    shared: Shared<'_>,
     gate: &G,
-    hearing: Hearing,
+    begun: Begun,
 ) -> Result<(), Fault>
-    requires shared { IsSharedTask shared }
-    requires content { IsUnheard hearing.content hearing.frames }
-    requires owed { let x = exchange_of shared.task.net.now shared.task.plan.now.period.repetitions in
-        let c = hearing.content in
-        (e : Extent) × IsExtent x (record { rate = c.rate; channels = c.channels; frames = hearing.frames }) e
-        × (hearing.output ≡ record { channels = x.outputs; missing = e.periods * x.made; spent = false }) }
-    ensures { Streams shared.entry.task.net.now shared.entry.task.plan.now.period.repetitions hearing.content
+    requires shared { IsShared shared }
+    requires begun { IsBegun shared.net.now shared.table.now.period.repetitions begun }
+    ensures { Streams shared.entry.net.now shared.entry.table.now.period.repetitions begun.source
         (R.remaining reader.old) (R.remaining reader.new) (W.contents writer.old) (W.contents writer.new)
         (R.failures reader.old) (R.failures reader.new) (W.failures writer.old) (W.failures writer.new) result }
 {
     let alloc = rt.alloc();
-    let SharedTask { task, table } = shared;
-    let Task { net, plan } = task;
-    let Hearing {
-        mut content,
+    let Begun {
+        mut source,
         frames,
         output,
-    } = hearing;
+        ..
+    } = begun;
     runs_go_on::<Kit>();
-    nets_have_periods(net);
-    let exchange = Exchange::of_net(net);
-    let (rate, channels) = (content.rate(), content.channels());
+    nets_have_periods(shared.net);
+    let exchange = Exchange::of_net(shared.net);
+    let (rate, channels) = (source.rate(), source.channels());
     let mut stream = Stream {
-        session: open_session(alloc, net, plan, table)?,
+        session: open_session(alloc, shared)?,
         output,
         exchange,
-        blocking: plan.blocking(),
+        blocking: shared.table.factor,
         rate,
         channels,
     };
     let mut kept = Vec::new(alloc);
-    let mut unread = frames;
-    while unread > 0 {
-        let many = FRAMES.min(unread);
-        let samples = read_more(alloc, reader, &mut content, many, kept)?;
+    let mut left = frames;
+    while left > 0 {
+        let many = FRAMES.min(left);
+        let samples = source.take(alloc, reader, many, kept)?;
         kept = stream.put_whole(rt, writer, gate, samples)?;
-        unread -= many;
+        left -= many;
     }
     stream.put_rest(rt, writer, gate, kept)
 }

@@ -1,7 +1,6 @@
 //! What is run.
 
 use sdf_actor::Net;
-use sdf_answer::BlockTable;
 use sdf_kit::Kit;
 use sdf_plan::Plan;
 
@@ -10,11 +9,4 @@ use sdf_plan::Plan;
 pub(crate) struct Task<'a> {
     pub(crate) net: &'a Net<Kit>,
     pub(crate) plan: &'a Plan,
-}
-
-/// A task that workers share, and the table of blocks that they follow.
-#[derive(Clone, Copy)]
-pub(crate) struct SharedTask<'a> {
-    pub(crate) task: Task<'a>,
-    pub(crate) table: &'a BlockTable,
 }

@@ -5,9 +5,9 @@ ghost use Rattle.sdf_plan.specs.Plans.{Suits};
 use crate::designs::CHAIN;
 use sdf_file::{Design, read_design};
 use sdf_options::Options;
-use sdf_plan::Plan;
 use sdf_plan::parallel::{Paced, parallel_plan};
 use sdf_plan::planning::plan;
+use sdf_plan::{Plan, Way};
 use sdf_run::run_one;
 use std::alloc::Global;
 use std::test::Fail;
@@ -34,8 +34,11 @@ link = [{ from = "in", to = "add:0" }, { from = "add", to = "fork" }, { from = "
 fn parts_told(alloc: Global, text: &str) -> Result<String, Fail> {
     let design = read_design(alloc, text.as_bytes(), &[])?;
     let Paced { plan, pace } = parallel_plan(alloc, &design, 3)?;
-    let (runner, parts) = (plan.runner(), plan.parts());
-    Ok(format!(in alloc; "{runner:?} {parts} {pace:?}")?)
+    Ok(match plan.way() {
+        Way::One { .. } => format!(in alloc; "one {pace:?}")?,
+        Way::Parts { parts, .. } => format!(in alloc; "parts {parts} {pace:?}")?,
+        Way::Rows(_) | Way::Rings { .. } => format!(in alloc; "workers {pace:?}")?,
+    })
 }
 
 /// The fault of a run of two periods of the chain on one sample less.
@@ -62,17 +65,17 @@ fn plans_and_what_they_want(rt: HostRuntime) -> Result<(), Fail> {
     row_says(
         "parts begin warm",
         parts_told(rt.alloc(), KEPT),
-        "One 3 Parts { workers: 3, periods: 6, samples: 12 }",
+        "parts 3 Parts { workers: 3, periods: 6, samples: 12 }",
     )?;
     row_says(
         "a loop keeps its samples",
         parts_told(rt.alloc(), LASTING),
-        "One 1 Lasting",
+        "one Lasting",
     )?;
     row_says(
         "a chain that keeps no sample is warm at once",
         parts_told(rt.alloc(), CHAIN),
-        "One 3 Parts { workers: 3, periods: 0, samples: 0 }",
+        "parts 3 Parts { workers: 3, periods: 0, samples: 0 }",
     )?;
     row_says(
         "runs want whole periods",

@@ -1,16 +1,19 @@
-use Rattle.std.proofs.Common.{◌≡◌, ◌*◌, false, ℕ, Result, refl, ap, sym, ◌∙◌, subst}
+use Rattle.std.proofs.Common.{◌*◌, false, ℕ, List, Option, Result, refl, ap, sym, ◌∙◌, subst, rules}
 use Rattle.sdf_process.specs.declared.exchange.Announced.{Announced}
 use Rattle.sdf_process.specs.declared.exchange.Exchange.{Exchange}
 use Rattle.sdf_plan.specs.declared.fault.Fault.{Fault}
 use Rattle.sdf_process.specs.Output.{announced_by, announced_fault, exchange_of, IsExchange, IsExtent}
+use Rattle.sdf_process.specs.Run.{IsRun}
 use Rattle.sdf_process.specs.Stages.{RunsOn}
 use Rattle.sdf_process.proofs.Finished.{answered}
+use Rattle.sdf_process.proofs.Flow.{allowed_lower}
 use Rattle.sdf_process.proofs.Opened.{content_failed_behind, refused_behind, header_failed_behind, heard_behind}
 use Rattle.sdf_process.proofs.Pieces.{run_fails}
+use Rattle.sdf_process.proofs.Taken.{heard_puts, unheard_sound}
 use Rattle.sdf_process.proofs.running.run_behind.Goals as goal
 
-pub returns-in_err-input : goal.returns-in_err-input
-returns-in_err-input g c =
+pub returns-in_err-sound : goal.returns-in_err-sound
+returns-in_err-sound g c =
     let n = c.args.task.net.now in
     let q = c.args.task.plan.now.period.repetitions in
     let same = c.of_net-exchange.ensures.value q c.requires.task.suits.period.least in
@@ -19,14 +22,14 @@ returns-in_err-input g c =
     (g.W.Writer.contents c.args.writer.now)
     (g.R.Reader.failures c.args.reader.now) (g.R.Reader.failures c.read_content.new.reader)
     (g.W.Writer.failures c.args.writer.now) (g.W.Writer.failures c.args.writer.now) x)
-    c.in_err-input.field-0.0 c.from_residual.result c.from_residual.ensures.1
+    c.in_err-sound.field-0.0 c.from_residual.result c.from_residual.ensures.1
     (λ read opened. content_failed_behind c.wav_laws.ensures n q c.of_net-exchange.result same
     c.of_net-exchange.ensures.limits read (g.R.Reader.remaining c.args.reader.now) c.args.content opened.answers
     c.requires.unread opened.only
     c.requires.unknown (g.R.Reader.remaining c.read_content.new.reader) (g.W.Writer.contents c.args.writer.now)
     (g.R.Reader.failures c.args.reader.now) (g.R.Reader.failures c.args.reader.now)
     (g.R.Reader.failures c.read_content.new.reader) (g.W.Writer.failures c.args.writer.now)
-    c.in_err-input.field-0.0 refl c.in_err-input.ensures)
+    c.in_err-sound.field-0.0 refl c.in_err-sound.ensures.reads)
 
 pub returns-in_err-extent : goal.returns-in_err-extent
 returns-in_err-extent g c =
@@ -42,8 +45,8 @@ returns-in_err-extent g c =
     (λ read opened. refused_behind c.wav_laws.ensures n q c.of_net-exchange.result same c.of_net-exchange.ensures.limits
     read (g.R.Reader.remaining c.args.reader.now) c.args.content opened.answers c.requires.unread opened.only
     c.requires.unknown (g.R.Reader.remaining c.read_content.new.reader) (g.R.Reader.failures c.args.reader.now)
-    (g.R.Reader.failures c.args.reader.now) (g.R.Reader.failures c.read_content.new.reader) refl c.in_ok-input.input
-    c.in_ok-input.ensures
+    (g.R.Reader.failures c.args.reader.now) (g.R.Reader.failures c.read_content.new.reader) refl c.in_ok-sound.sound
+    c.in_ok-sound.ensures.reads
     (g.W.Writer.contents c.args.writer.now) (g.W.Writer.failures c.args.writer.now) c.in_err-extent.field-0.0
     (ap (announced_fault c.of_net-exchange.result) (sym c.by.ensures) ∙ c.in_err-extent.ensures))
 
@@ -62,51 +65,72 @@ returns-in_err-output g c =
     c.of_net-exchange.ensures.limits read (g.R.Reader.remaining c.args.reader.now) c.args.content opened.answers
     c.requires.unread opened.only
     c.requires.unknown (g.R.Reader.remaining c.read_content.new.reader) (g.R.Reader.failures c.args.reader.now)
-    (g.R.Reader.failures c.args.reader.now) (g.R.Reader.failures c.read_content.new.reader) refl c.in_ok-input.input
-    c.in_ok-input.ensures
+    (g.R.Reader.failures c.args.reader.now) (g.R.Reader.failures c.read_content.new.reader) refl c.in_ok-sound.sound
+    c.in_ok-sound.ensures.reads
     c.in_ok-extent.extent (subst (λ z. IsExtent c.of_net-exchange.result z c.in_ok-extent.extent) c.by.ensures
     c.in_ok-extent.ensures) (g.W.Writer.contents c.args.writer.now) (g.W.Writer.contents c.begin.new.writer)
     (g.W.Writer.failures c.args.writer.now) (g.W.Writer.failures c.begin.new.writer)
     c.in_err-output.field-0.0 c.in_err-output.ensures.puts)
 
-pub finish-requires-clause-extent : goal.finish-requires-clause-extent
-finish-requires-clause-extent g c κs within =
-    let same = c.of_net-exchange.ensures.value c.args.task.plan.now.period.repetitions
-    c.requires.task.suits.period.least in
-    subst (λ (y : Exchange). IsExtent y (announced_by c.in_ok-input.input) c.in_ok-extent.extent) same
+pub run_begun-requires-clause-begun : goal.run_begun-requires-clause-begun
+run_begun-requires-clause-begun g c κs within =
+    let s = c.in_ok-sound.sound in
+    let extent = subst (λ (y : Exchange). IsExtent y (announced_by c.in_ok-sound.sound) c.in_ok-extent.extent)
+    (c.of_net-exchange.ensures.value c.args.task.plan.now.period.repetitions c.requires.task.suits.period.least)
     (subst (λ (z : Announced). IsExtent c.of_net-exchange.result z c.in_ok-extent.extent) c.by.ensures
-    c.in_ok-extent.ensures)
-
-pub finish-requires-clause-owed : goal.finish-requires-clause-owed
-finish-requires-clause-owed g c κs within =
-    let q = c.args.task.plan.now.period.repetitions in
-    let x = exchange_of c.args.task.net.now q in
-    let same = c.of_net-exchange.ensures.value q c.requires.task.suits.period.least in
-    subst (λ (k : ℕ). c.in_ok-output.output ≡ record { channels = x.outputs; missing = k * x.made; spent = false })
-    (finish-requires-clause-extent g c κs within).periods
-    (subst (λ (y : Exchange). c.in_ok-output.output ≡
-    record { channels = y.outputs; missing = c.in_ok-extent.extent.periods * y.made; spent = false }) same
-    c.in_ok-output.ensures.owed)
+    c.in_ok-extent.ensures) in
+    record {
+      unheard = unheard_sound s c.frames.result (search rules) (search rules) (search rules) c.frames.ensures.whole
+          c.in_ok-sound.ensures.few;
+      extent = subst (λ (k : ℕ). IsExtent (exchange_of c.args.task.net.now c.args.task.plan.now.period.repetitions)
+          (record { rate = s.rate; channels = s.channels; frames = k }) c.in_ok-extent.extent)
+          (sym c.frames.ensures.value) extent;
+      owed = c.in_ok-output.ensures.owed ∙ ap (λ (y : Exchange). record {
+        channels = y.outputs;
+        missing = c.in_ok-extent.extent.periods * y.made;
+        spent = false;
+      }) (c.of_net-exchange.ensures.value c.args.task.plan.now.period.repetitions c.requires.task.suits.period.least);
+    }
 
 pub returns : goal.returns
 returns g c = λ read opened.
     let n = c.args.task.net.now in
     let q = c.args.task.plan.now.period.repetitions in
     let same = c.of_net-exchange.ensures.value q c.requires.task.suits.period.least in
-    answered c.wav_laws.ensures n q (subst IsExchange same c.of_net-exchange.ensures.limits)
-    read (g.R.Reader.remaining c.read_content.new.reader) (g.W.Writer.contents c.args.writer.now)
-    (g.W.Writer.contents c.begin.new.writer) (g.W.Writer.contents c.finish.new.writer)
-    (g.R.Reader.failures c.args.reader.now) (g.R.Reader.failures c.read_content.new.reader)
-    (g.W.Writer.failures c.args.writer.now) (g.W.Writer.failures c.begin.new.writer)
-    (g.W.Writer.failures c.finish.new.writer)
-    c.in_ok-input.input c.in_ok-extent.extent c.in_ok-output.output
-    (heard_behind c.wav_laws.ensures n q c.of_net-exchange.result same c.of_net-exchange.ensures.limits read
+    let limits = subst IsExchange same c.of_net-exchange.ensures.limits in
+    let s = c.in_ok-sound.sound in
+    let extent = subst (λ (y : Exchange). IsExtent y (announced_by c.in_ok-sound.sound) c.in_ok-extent.extent)
+    (c.of_net-exchange.ensures.value c.args.task.plan.now.period.repetitions c.requires.task.suits.period.least)
+    (subst (λ (z : Announced). IsExtent c.of_net-exchange.result z c.in_ok-extent.extent) c.by.ensures
+    c.in_ok-extent.ensures) in
+    let left = g.R.Reader.remaining c.read_content.new.reader in
+    let failed = g.R.Reader.failures c.read_content.new.reader in
+    let hears = heard_behind c.wav_laws.ensures n q c.of_net-exchange.result same c.of_net-exchange.ensures.limits read
     (g.R.Reader.remaining c.args.reader.now) c.args.content opened.answers c.requires.unread opened.only
-    c.requires.unknown (g.R.Reader.remaining c.read_content.new.reader) (g.R.Reader.failures c.args.reader.now)
-    (g.R.Reader.failures c.args.reader.now) (g.R.Reader.failures c.read_content.new.reader) refl c.in_ok-input.input
-    c.in_ok-input.ensures
+    c.requires.unknown left (g.R.Reader.failures c.args.reader.now)
+    (g.R.Reader.failures c.args.reader.now) failed refl s c.in_ok-sound.ensures.reads
     c.in_ok-extent.extent (subst (λ z. IsExtent c.of_net-exchange.result z c.in_ok-extent.extent) c.by.ensures
     c.in_ok-extent.ensures) (g.W.Writer.contents c.args.writer.now) (g.W.Writer.contents c.begin.new.writer)
     (g.W.Writer.failures c.args.writer.now) (g.W.Writer.failures c.begin.new.writer)
-    c.in_ok-output.output c.in_ok-output.ensures.puts.0 c.in_ok-output.ensures.puts.1 c.in_ok-output.ensures.owed)
-    c.finish.result c.finish.ensures
+    c.in_ok-output.output c.in_ok-output.ensures.puts.0 c.in_ok-output.ensures.puts.1 c.in_ok-output.ensures.owed in
+    let puts = heard_puts n q s (search rules)
+    (allowed_lower (exchange_of n q) (announced_by s) extent.is_allowed) limits.some_taken
+    left (g.R.Reader.remaining c.run_begun.new.reader)
+    (g.W.Writer.contents c.begin.new.writer) (g.W.Writer.contents c.run_begun.new.writer)
+    failed (g.R.Reader.failures c.run_begun.new.reader)
+    (g.W.Writer.failures c.begin.new.writer) (g.W.Writer.failures c.run_begun.new.writer)
+    c.run_begun.result c.run_begun.ensures in
+    subst (λ (x : Option (List ℕ)). IsRun n q read x (g.W.Writer.contents c.args.writer.now)
+    (g.W.Writer.contents c.run_begun.new.writer) (g.R.Reader.failures c.args.reader.now)
+    (g.R.Reader.failures c.run_begun.new.reader) (g.W.Writer.failures c.args.writer.now)
+    (g.W.Writer.failures c.run_begun.new.writer) c.run_begun.result) (sym puts.1)
+    (subst (λ (k : ℕ). IsRun n q read left (g.W.Writer.contents c.args.writer.now)
+    (g.W.Writer.contents c.run_begun.new.writer) (g.R.Reader.failures c.args.reader.now)
+    k (g.W.Writer.failures c.args.writer.now)
+    (g.W.Writer.failures c.run_begun.new.writer) c.run_begun.result) (sym puts.2)
+    (answered c.wav_laws.ensures n q limits read left (g.W.Writer.contents c.args.writer.now)
+    (g.W.Writer.contents c.begin.new.writer) (g.W.Writer.contents c.run_begun.new.writer)
+    (g.R.Reader.failures c.args.reader.now) failed
+    (g.W.Writer.failures c.args.writer.now) (g.W.Writer.failures c.begin.new.writer)
+    (g.W.Writer.failures c.run_begun.new.writer)
+    s c.in_ok-extent.extent c.in_ok-output.output hears c.run_begun.result puts.0))

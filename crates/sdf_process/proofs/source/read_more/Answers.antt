@@ -1,6 +1,6 @@
 use Rattle.std.proofs.Common.{rules}
 use Rattle.sdf_process.proofs.Readings.{more_failed, more_read}
-use Rattle.sdf_process.proofs.streaming.read_more.Goals as goal
+use Rattle.sdf_process.proofs.source.read_more.Goals as goal
 
 pub returns-in_err-samples : goal.returns-in_err-samples
 returns-in_err-samples g c = λ d before old r here reads counted.

@@ -1,0 +1,64 @@
+-- Where the frames of a sound come from, and what is taken of them.
+use Rattle.std.specs.Prelude.{◌≡◌, ℕ, ◌+◌, ◌*◌, ℤ, List, [], ◌++◌, length, take, drop, Option, None, Result, Ok, Err}
+use Rattle.sdf_wav.specs.Device.{Known, LosesFront}
+use Rattle.sdf_wav.specs.PiecesIn.{Reading, IsReadTo}
+use Rattle.sdf_wav.specs.Sound.{Sound}
+use Rattle.sdf_plan.specs.declared.fault.Fault.{Fault}
+use Rattle.sdf_plan.specs.declared.fault.Fault.TheVariants.{OutOfMemory}
+use Rattle.sdf_process.specs.declared.source.Source.{Source}
+use Rattle.sdf_process.specs.declared.source.Source.TheVariants.{Content, Heard}
+use Rattle.sdf_process.specs.Stages.{ReadsContent}
+
+-- ---- the content of a file
+
+-- the content c of an input was read on from its start by these samples
+abbrev pub ReadsBy : Reading → List ℤ → Option (List ℕ) → Option (List ℕ) → Type 0
+ReadsBy c samples old new =
+    Known old new (λ bytes left. ((input : List ℕ) → IsReadTo input c [] bytes →
+    IsReadTo input (record c { gone = c.gone + 2 * length samples }) samples left) × LosesFront bytes left)
+
+-- So many frames behind these samples were read, and are kept behind others; or the reading of the content failed.
+abbrev pub ReadsMore : Reading → List ℤ → ℕ → List ℤ → Option (List ℕ) → Option (List ℕ) → ℕ → ℕ → Reading →
+    Result (List ℤ) Fault → Type 0
+ReadsMore c before frames kept old new r r' now (Ok all) =
+    (samples : List ℤ) × (all ≡ kept ++ samples) × (length samples ≡ frames * c.channels)
+    × ReadsBy c (before ++ samples) old new × (now ≡
+    record c { gone = c.gone + 2 * length (before ++ samples) }) × (r' ≡ r)
+ReadsMore c before frames kept old new r r' now (Err f) = ReadsContent c old new r r' (Err f)
+
+-- ---- a content, or a sound that was read before
+
+-- a sound that was read before, as a content of the size of its samples
+abbrev pub reading_of : Source → Reading
+reading_of (Content c) = c
+reading_of (Heard s taken) = record {
+  rate = s.rate;
+  channels = s.channels;
+  size = 2 * length s.samples;
+  gone = 2 * taken;
+  fault = None;
+}
+
+-- what it becomes once these samples more are taken
+abbrev pub source_behind : Source → List ℤ → Source
+source_behind (Content c) samples = Content (record c { gone = c.gone + 2 * length samples })
+source_behind (Heard s taken) samples = Heard s (taken + length samples)
+
+-- These samples were taken from it. A sound that was read before leaves the reader alone.
+abbrev pub Takes : Source → List ℤ → Option (List ℕ) → Option (List ℕ) → Type 0
+Takes (Content c) samples old new = ReadsBy c samples old new
+Takes (Heard s taken) samples old new = (new ≡ old) × (samples ≡ take (length samples) (drop taken s.samples))
+
+-- the whole sound was taken from it, or that failed
+abbrev pub TakesAll : Source → Option (List ℕ) → Option (List ℕ) → ℕ → ℕ → Result Sound Fault → Type 0
+TakesAll (Content c) old new r r' result = ReadsContent c old new r r' result
+TakesAll (Heard s taken) old new r r' (Ok t) = (t ≡ s) × (new ≡ old) × (r' ≡ r)
+TakesAll (Heard s taken) old new r r' (Err f) = (f ≡ OutOfMemory) × (new ≡ old) × (r' ≡ r)
+
+-- So many frames behind these samples were taken, and are kept behind others; or that failed.
+abbrev pub TakesMore : Source → List ℤ → ℕ → List ℤ → Option (List ℕ) → Option (List ℕ) → ℕ → ℕ → Source →
+    Result (List ℤ) Fault → Type 0
+TakesMore first before frames kept old new r r' now (Ok all) =
+    (samples : List ℤ) × (all ≡ kept ++ samples) × (length samples ≡ frames * (reading_of first).channels)
+    × Takes first (before ++ samples) old new × (now ≡ source_behind first (before ++ samples)) × (r' ≡ r)
+TakesMore first before frames kept old new r r' now (Err f) = TakesAll first old new r r' (Err f)

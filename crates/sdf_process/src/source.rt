@@ -1,0 +1,117 @@
+//! Where the frames of a sound come from.
+
+ghost use Rattle.std.specs.Prelude.{◌≡◌, ◌≢◌, ◌+◌, ◌*◌, ◌≤◌, ℕ, ℤ, List, length, Option, Ok, Err, MatchResult, IfOk, None};
+ghost use Rattle.sdf_wav.specs.PiecesIn.{Reading};
+ghost use Rattle.sdf_wav.specs.declared.wav.TheConstants.{MOST_CHANNELS};
+ghost use Rattle.sdf_process.specs.Sources.{reading_of, source_behind, ReadsBy, ReadsMore, Takes, TakesAll, TakesMore};
+
+use crate::hearing::read_content;
+use sdf_plan::Fault;
+use sdf_wav::laws::pieces_join;
+use sdf_wav::{ContentIn, Reader, Wav};
+use std::alloc::Global;
+
+/// Where the frames of a sound come from.
+#[derive(Drop)]
+pub(crate) enum Source {
+    /// From the content of a file, before which the reader stands.
+    Content(ContentIn),
+    /// From a sound that was read before. `taken` of its samples were taken.
+    Heard { sound: Wav, taken: usize },
+}
+
+/// Reads the next frames of a content, and adds them to `kept`.
+fn read_more<R: Reader>(
+    alloc: Global,
+    reader: &mut R,
+    content: &mut ContentIn,
+    frames: usize,
+    mut kept: Vec<i16>,
+) -> Result<Vec<i16>, Fault>
+    requires unspoilt { content.old.fault ≡ None }
+    requires sized { content.old.size ≢ 0xFFFFFFFF }
+    requires enough { content.old.gone + 2 * (frames * content.old.channels) ≤ content.old.size }
+    ensures { (c : Reading) (before : List ℤ) (old : Option (List ℕ)) (r : ℕ) →
+        content.old ≡ record c { gone = c.gone + 2 * length before } → ReadsBy c before old (R.remaining reader.old) →
+        R.failures reader.old ≡ r →
+        MatchResult result
+        (λ all. ReadsMore c before frames kept.items old (R.remaining reader.new) r (R.failures reader.new) content.new
+        (Ok all.items))
+        (λ f. ReadsMore c before frames kept.items old (R.remaining reader.new) r (R.failures reader.new)
+        content.new (Err f)) }
+{
+    pieces_join();
+    let samples = content.next(alloc, reader, frames)?;
+    kept.extend_from_slice(&samples)?;
+    Ok(kept)
+}
+
+impl Source {
+    /// Returns the frames a second.
+    pub(crate) fn rate(&self) -> u32
+        ensures value { result ≡ (reading_of self.now).rate }
+        ensures above_0 { 1 ≤ result }
+    {
+        match self {
+            Source::Content(content) => content.rate(),
+            Source::Heard { sound, .. } => sound.rate(),
+        }
+    }
+
+    /// Returns the samples in a frame.
+    pub(crate) fn channels(&self) -> u16
+        ensures value { result ≡ (reading_of self.now).channels }
+        ensures above_0 { 1 ≤ result }
+        ensures few { result ≤ MOST_CHANNELS }
+    {
+        match self {
+            Source::Content(content) => content.channels(),
+            Source::Heard { sound, .. } => sound.channels(),
+        }
+    }
+
+    /// Takes the next `frames` frames, and adds them to `kept`.
+    pub(crate) fn take<R: Reader>(
+        &mut self,
+        alloc: Global,
+        reader: &mut R,
+        frames: usize,
+        mut kept: Vec<i16>,
+    ) -> Result<Vec<i16>, Fault>
+        requires unspoilt { (reading_of self.old).fault ≡ None }
+        requires sized { (reading_of self.old).size ≢ 0xFFFFFFFF }
+        requires short { (reading_of self.old).size ≤ 0xFFFFFFFF }
+        requires enough { let c = reading_of self.old in c.gone + 2 * (frames * c.channels) ≤ c.size }
+        ensures { (first : Source) (before : List ℤ) (old : Option (List ℕ)) (r : ℕ) →
+            self.old ≡ source_behind first before → Takes first before old (R.remaining reader.old) →
+            R.failures reader.old ≡ r →
+            MatchResult result
+            (λ all. TakesMore first before frames kept.items old (R.remaining reader.new) r (R.failures reader.new)
+            self.new (Ok all.items))
+            (λ f. TakesMore first before frames kept.items old (R.remaining reader.new) r (R.failures reader.new)
+            self.new (Err f)) }
+    {
+        match self {
+            Source::Content(content) => read_more(alloc, reader, content, frames, kept),
+            Source::Heard { sound, taken } => {
+                let end = *taken + frames * usize::from(sound.channels());
+                kept.extend_from_slice(&sound.samples()[*taken..end])?;
+                *taken = end;
+                Ok(kept)
+            }
+        }
+    }
+
+    /// Takes the whole sound.
+    pub(crate) fn take_all<R: Reader>(self, alloc: Global, reader: &mut R) -> Result<Wav, Fault>
+        requires unread { (reading_of self).gone ≡ 0 }
+        requires unspoilt { (reading_of self).fault ≡ None }
+        ensures { TakesAll self (R.remaining reader.old) (R.remaining reader.new) (R.failures reader.old)
+            (R.failures reader.new) result }
+    {
+        match self {
+            Source::Content(content) => read_content(alloc, reader, content),
+            Source::Heard { sound, .. } => Ok(sound),
+        }
+    }
+}
