@@ -4,14 +4,14 @@ use Rattle.std.specs.Prelude.{sum}
 use Rattle.std.proofs.Math.Nat.{mul-le-mul, mul-le-mul_left}
 use Rattle.std.proofs.lemmas.List.{get_or-map}
 use Rattle.sdf_limits.specs.declared.TheConstants.{MOST_BLOCK, MOST_PATIENCE}
-use Rattle.sdf_graph.specs.Laws.{GraphsAreSound, GraphsHavePeriods}
 use Rattle.sdf_graph.specs.Rates.{rates}
 use Rattle.sdf_graph.specs.Sequences.{times, repeated}
+use Rattle.sdf_graph.proofs.Theorems.{graphs_are_sound, graphs_have_periods}
 use Rattle.sdf_sched.specs.Period.{Schedule}
 use Rattle.sdf_prec.specs.Blocks.{block}
-use Rattle.sdf_prec.specs.Counts.{TablesCount}
-use Rattle.sdf_prec.specs.Laws.{TablesRepeat, AreBlocks}
+use Rattle.sdf_prec.specs.Laws.{AreBlocks}
 use Rattle.sdf_prec.specs.Tables.{Tabled, IsHomed}
+use Rattle.sdf_prec.proofs.Theorems.{tables_count, tables_repeat}
 use Rattle.sdf_actor.specs.declared.rest.Rest.{Rest}
 use Rattle.sdf_actor.specs.Graphs.{graph_of}
 use Rattle.sdf_actor.specs.Laws.{AreCountsOf}
@@ -28,15 +28,15 @@ use Rattle.sdf_rings.specs.Rests.{InHand, AreRings, HaveMet}
 use Rattle.sdf_rings.specs.Totals.{total_left}
 use Rattle.sdf_rings.proofs.Lengths.{left_few, left_some}
 
-module _ (sound : GraphsAreSound) (periods : GraphsHavePeriods) (repeats : TablesRepeat) (count : TablesCount)
-    {A S T : Type 0} (s : Steps A S T) (n : Netlist A T) (p : Schedule) (has : HasPeriod s n p) (j : ℕ) (t : Tabled)
+module _ {A S T : Type 0} (s : Steps A S T) (n : Netlist A T) (p : Schedule) (has : HasPeriod s n p) (j : ℕ)
+    (t : Tabled)
     (is : IsTableOf (rates (graph_of s n)) p.repetitions j t) (b : ℕ) where
   abbrev q : List ℕ
   q = p.repetitions
 
   blocks : AreBlocks (rates (graph_of s n)) (λ a. get_or (block j q) a 0) t b
-  blocks = repeats (rates (graph_of s n)) q j is.width t b (sound (graph_of s n) has.shape)
-      (periods (graph_of s n) q has.shape has.period.least.is) is.table
+  blocks = tables_repeat (rates (graph_of s n)) q j is.width t b (graphs_are_sound (graph_of s n) has.shape)
+      (graphs_have_periods (graph_of s n) q has.shape has.period.least.is) is.table
 
   pub counts_are : AreCountsOf n (repeated b t.order) (periods_of q (b * j))
   counts_are a l =
@@ -47,7 +47,7 @@ module _ (sound : GraphsAreSound) (periods : GraphsHavePeriods) (repeats : Table
       turn ∙ (ap (λ m. b * m) (sym each) ∙ sym (blocks.counts a known))
 
   pub order_long : length (repeated b t.order) ≡ b * (j * sum q)
-  order_long = count (rates (graph_of s n)) q j is.width t b has.period.least.is.all is.table
+  order_long = tables_count (rates (graph_of s n)) q j is.width t b has.period.least.is.all is.table
 
   pub order_few : b < 2 ^ 32 → length (repeated b t.order) < 2 ^ 64
   order_few few =

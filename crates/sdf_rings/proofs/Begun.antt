@@ -2,7 +2,7 @@
 use Rattle.std.proofs.Common.{◌≡◌, ℕ, zero, suc, ◌∷◌, true, false, rules, ◌%◌, ◌≤◌, ◌<◌, List, [], length, get_or, take}
 use Rattle.std.proofs.Common.{Option, Some, None, sym, ap, ◌∙◌, refl, subst, arith, vec_len}
 use Rattle.std.specs.Global.{Global}
-use Rattle.std.specs.Option.{IfSome, IsSome}
+use Rattle.std.specs.Option.{IfSome, IsSome, is_some as has_value}
 use Rattle.std.specs.declared.vec.Vec.{Vec}
 use Rattle.std.proofs.lemmas.Nat.{mod_below}
 use Rattle.std.proofs.lemmas.Option.{same_Some}
@@ -12,11 +12,10 @@ use Rattle.rtrb.specs.declared.consumer.Consumer.{Consumer}
 use Rattle.rtrb.specs.declared.AnyItems.{AnyItems}
 use Rattle.sdf_actor.specs.Steps.{Steps}
 use Rattle.sdf_actor.specs.Histories.{IsWired}
-use Rattle.sdf_actor.specs.Laws.{PortsHaveChannels}
-use Rattle.sdf_actor.specs.Locals.{LocalsBegin}
 use Rattle.sdf_actor.specs.Nets.{Netlist, wire, node, wiring, cycle_of, inputs_of, outputs_of, IsNet}
 use Rattle.sdf_actor.specs.Wires.{lists}
 use Rattle.sdf_actor.specs.declared.sides.Side.TheVariants.{Input, Output}
+use Rattle.sdf_actor.proofs.Theorems.{locals_begin}
 use Rattle.sdf_node.specs.Nodes.{takes_of, puts_of, IsAt}
 use Rattle.sdf_node.specs.declared.node.NodeState.{NodeState}
 use Rattle.sdf_answer.specs.Sizes.{AreRows}
@@ -33,7 +32,7 @@ filled : {T : Type 0} (filler : Option T) (asked many : ℕ) (v : Vec T Global) 
 filled (Some x) asked many v is none some = omega arith
 filled None asked many v is none some = let e = none refl in absurd (omega arith)
 
-module _ {A S T : Type 0} (s : Steps A S T) (begins : LocalsBegin s) (n : Netlist A T) (net : IsNet s n)
+module _ {A S T : Type 0} (s : Steps A S T) (n : Netlist A T) (net : IsNet s n)
     (wired : IsWired (wiring s n)) (inputs : List (List T)) (a : ℕ) (known : a < length n.nodes) where
   -- what has not fired knows what its channels begin with
   pub stand_begun : (state : NodeState T S) (ins : Vec (Consumer T Global AnyItems) Global)
@@ -64,7 +63,7 @@ module _ {A S T : Type 0} (s : Steps A S T) (begins : LocalsBegin s) (n : Netlis
         own_pairs = own;
         within = omega arith;
         own = (wiring s n).starts;
-        local = begins n inputs a net;
+        local = locals_begin s n inputs a net;
         at = at;
         ins_all = let e = has_ins.all in omega arith;
         outs_all = let e = has_outs.all in omega arith;
@@ -95,7 +94,6 @@ taken_out ends v ks cs same all each = subst (λ ds. TakenOut ends ds v.items) s
 -- a node of a wired net, and the ends of rings at its ports
 pub record AtNode {A S T : Type 0} (s : Steps A S T) (n : Netlist A T) (a : ℕ)
     (ps : List (Option (Producer T Global AnyItems))) (xs : List (Option (Consumer T Global AnyItems))) : Type 0 where
-  pub ports : PortsHaveChannels s
   pub good : IsNet s n
   pub wired : IsWired (wiring s n)
   pub known : a < length n.nodes
@@ -106,17 +104,35 @@ module _ {A S T : Type 0} {s : Steps A S T} {n : Netlist A T} {a : ℕ}
     {ps : List (Option (Producer T Global AnyItems))} {xs : List (Option (Consumer T Global AnyItems))}
     (x : AtNode s n a ps xs) where
   ins_all : length ((wiring s n).ins a) ≡ inputs_of s (node n a)
-  ins_all = ins_long s x.ports n x.good x.wired a x.known
+  ins_all = ins_long s n x.good x.wired a x.known
 
   outs_all : length ((wiring s n).outs a) ≡ outputs_of s (node n a)
-  outs_all = outs_long s x.ports n x.good x.wired a x.known
+  outs_all = outs_long s n x.good x.wired a x.known
+
+  -- the end at each of its ports is there
+  pub ins_there : (i : ℕ) → i < length ((wiring s n).ins a) → IsSome (end_at xs (get_or ((wiring s n).ins a) i 0))
+  ins_there i l = let is = x.wired.ins_are a i x.known l in
+      ap has_value (x.has.into (get_or ((wiring s n).ins a) i 0) is.0 is.1).1
+
+  pub outs_there : (i : ℕ) → i < length ((wiring s n).outs a) → IsSome (end_at ps (get_or ((wiring s n).outs a) i 0))
+  outs_there i l = let is = x.wired.outs_are a i x.known l in
+      ap has_value (x.has.out_of (get_or ((wiring s n).outs a) i 0) is.0 is.1).1
+
+  -- a channel that is not its own is at none
+  pub not_in : (c : ℕ) → ((wire n c).to.0 ≡ a → ⊥) → (i : ℕ) → i < length ((wiring s n).ins a) →
+      get_or ((wiring s n).ins a) i 0 ≡ c → ⊥
+  not_in c apart i l e = apart (subst (λ d. (wire n d).to.0 ≡ a) e (x.wired.ins_are a i x.known l).1)
+
+  pub not_out : (c : ℕ) → ((wire n c).from.0 ≡ a → ⊥) → (i : ℕ) → i < length ((wiring s n).outs a) →
+      get_or ((wiring s n).outs a) i 0 ≡ c → ⊥
+  not_out c apart i l e = apart (subst (λ d. (wire n d).from.0 ≡ a) e (x.wired.outs_are a i x.known l).1)
 
   -- none stands at two ports
   pub ins_once : (i k : ℕ) → i < length ((wiring s n).ins a) → k < length ((wiring s n).ins a) →
       get_or ((wiring s n).ins a) i 0 ≡ get_or ((wiring s n).ins a) k 0 → i ≡ k
   ins_once i k hi hk e =
-      let at_i = port_at s x.ports n x.good a i x.known (omega (arith, ins_all)) in
-      let at_k = port_at s x.ports n x.good a k x.known (omega (arith, ins_all)) in
+      let at_i = port_at s n x.good a i x.known (omega (arith, ins_all)) in
+      let at_k = port_at s n x.good a k x.known (omega (arith, ins_all)) in
       sym at_i.2 ∙ (ap (λ c. (wire n c).to.1) e ∙ at_k.2)
 
   module _ (ins : List (Consumer T Global AnyItems)) (taken : TakenOut xs ((wiring s n).ins a) ins) where
@@ -134,7 +150,7 @@ module _ {A S T : Type 0} {s : Steps A S T} {n : Netlist A T} {a : ℕ}
         end_at xs c ≡ Some (get_or ins (wire n c).to.1 d)
     ins_at c d l e =
         let at : get_or ((wiring s n).ins a) (wire n c).to.1 0 ≡ c =
-        ap (λ b. get_or ((wiring s n).ins b) (wire n c).to.1 0) (sym e) ∙ in_channel s x.ports n x.good c l in
+        ap (λ b. get_or ((wiring s n).ins b) (wire n c).to.1 0) (sym e) ∙ in_channel s n x.good c l in
         let long : (wire n c).to.1 < inputs_of s (node n a) =
         subst (λ b. (wire n c).to.1 < inputs_of s (node n b)) e (x.good.to_in c l).1 in
         subst (λ k. end_at xs k ≡ Some (get_or ins (wire n c).to.1 d)) at
@@ -155,7 +171,7 @@ module _ {A S T : Type 0} {s : Steps A S T} {n : Netlist A T} {a : ℕ}
         end_at ps c ≡ Some (get_or outs (wire n c).from.1 d)
     outs_at c d l e =
         let at : get_or ((wiring s n).outs a) (wire n c).from.1 0 ≡ c =
-        ap (λ b. get_or ((wiring s n).outs b) (wire n c).from.1 0) (sym e) ∙ out_channel s x.ports n x.good c l in
+        ap (λ b. get_or ((wiring s n).outs b) (wire n c).from.1 0) (sym e) ∙ out_channel s n x.good c l in
         let long : (wire n c).from.1 < outputs_of s (node n a) =
         subst (λ b. (wire n c).from.1 < outputs_of s (node n b)) e (x.good.from_in c l).1 in
         subst (λ k. end_at ps k ≡ Some (get_or outs (wire n c).from.1 d)) at

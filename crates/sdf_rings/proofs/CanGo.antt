@@ -12,12 +12,12 @@ use Rattle.rtrb.specs.declared.consumer.Consumer.{Consumer}
 use Rattle.rtrb.specs.declared.AnyItems.{AnyItems}
 use Rattle.sdf_graph.specs.Sequences.{times, IsEnabled, tokens}
 use Rattle.sdf_prec.specs.Next.{HasRoom}
-use Rattle.sdf_prec.specs.Laws.{NextMayFire}
+use Rattle.sdf_prec.proofs.Theorems.{next_may_fire}
 use Rattle.sdf_actor.specs.Steps.{Steps}
 use Rattle.sdf_actor.specs.Nets.{Netlist, wire, node, wiring, inputs_of, outputs_of, consumed_at, produced_at, to_port}
 use Rattle.sdf_actor.specs.Nets.{from_port}
-use Rattle.sdf_actor.specs.Laws.{NetsAreWired, PortsHaveChannels}
 use Rattle.sdf_actor.specs.declared.sides.Side.TheVariants.{Input, Output}
+use Rattle.sdf_actor.proofs.Theorems.{nets_are_wired, ports_have_channels}
 use Rattle.sdf_answer.specs.Sizes.{sizes}
 use Rattle.sdf_rings.specs.declared.stand.Stand.{Stand}
 use Rattle.sdf_rings.specs.declared.seat.Seat.{Seat}
@@ -33,8 +33,7 @@ use Rattle.sdf_rings.proofs.Looking.{vec_in}
 use Rattle.sdf_rings.proofs.Tells.{some}
 use Rattle.sdf_rings.proofs.Placed.{outs_of, ins_of, one_node}
 
-module _ {A S T : Type 0} (s : Steps A S T) (wired : NetsAreWired s) (ports : PortsHaveChannels s)
-    (may_fire : NextMayFire) (n : Netlist A T) (inputs : List (List T)) (seats : List (Seat A T S))
+module _ {A S T : Type 0} (s : Steps A S T) (n : Netlist A T) (inputs : List (List T)) (seats : List (Seat A T S))
     (places : List (ℕ × ℕ))
     (r : AreRings s (record { net = n; inputs = inputs; seats = seats; places = places }))
     (met : HaveMet n seats places) (at_rest : AreAtRest s n inputs seats places)
@@ -105,7 +104,8 @@ module _ {A S T : Type 0} (s : Steps A S T) (wired : NetsAreWired s) (ports : Po
 
         fires : (past first ≡ times (take f.at order) first) × IsEnabled (wiring s n).rates past first
             × HasRoom (wiring s n).rates cap past first
-        fires = may_fire (wiring s n).rates past cap order f.at (wired n r.is_net).sound plan.admissible plan.fits f.is
+        fires = next_may_fire (wiring s n).rates past cap order f.at (nets_are_wired s n r.is_net).sound plan.admissible
+            plan.fits f.is
 
         -- a channel holds what was put on it and not taken
         held : (c : ℕ) (x : Consumer T Global AnyItems) (y : Producer T Global AnyItems) → c < length n.wires →
@@ -208,7 +208,7 @@ module _ {A S T : Type 0} (s : Steps A S T) (wired : NetsAreWired s) (ports : Po
                   let l : p < inputs_of s (node n first) = let all =
                   ins_of s n inputs seats places r first e0 d0 known in omega arith in
                   let c : ℕ = to_port n first p in
-                  let at = (ports n first p r.is_net known).0 l in
+                  let at = (ports_have_channels s n first p r.is_net known).0 l in
                   let h' = hold_at c x (r.is_net.to_all first p known l) at.0 in
                   let moved : consumed_at s (node n first) p (k first + 1) - consumed_at s (node n first) p (k first) ≤
                   length (known_items (get_or z.ins.items p x)) =
@@ -222,7 +222,7 @@ module _ {A S T : Type 0} (s : Steps A S T) (wired : NetsAreWired s) (ports : Po
                   let l : p < outputs_of s (node n first) = let all =
                   outs_of s n inputs seats places r first e0 d0 known in omega arith in
                   let c : ℕ = from_port n first p in
-                  let at = (ports n first p r.is_net known).1 l in
+                  let at = (ports_have_channels s n first p r.is_net known).1 l in
                   let h' = room_at c y (r.is_net.from_all first p known l) at.0 in
                   let moved : produced_at s (node n first) p (k first + 1) - produced_at s (node n first) p (k first) ≤
                   known_free (get_or z.outs.items p y) =

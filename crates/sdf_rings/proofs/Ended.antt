@@ -15,12 +15,11 @@ use Rattle.sdf_actor.specs.Nets.{Netlist, node, wire, wiring, arrived}
 use Rattle.sdf_actor.specs.Sides.{list_count}
 use Rattle.sdf_actor.specs.Steps.{Steps}
 use Rattle.sdf_actor.specs.Wires.{lists}
+use Rattle.sdf_node.proofs.Theorems.{nodes_keep_states, sinks_hold_lists}
 use Rattle.sdf_answer.specs.Answer.{AreOutputs}
 use Rattle.sdf_answer.specs.Feeds.{HasRun}
-use Rattle.sdf_answer.specs.Laws.{SinksTakeAll}
-use Rattle.sdf_node.specs.Collected.{SinksHoldLists}
-use Rattle.sdf_node.specs.Kept.{NodesKeepStates}
 use Rattle.sdf_node.specs.Nodes.{IsAt}
+use Rattle.sdf_answer.proofs.Theorems.{sinks_take_all}
 use Rattle.sdf_rings.specs.declared.stand.Stand.{Stand}
 use Rattle.sdf_rings.specs.declared.seat.Seat.{Seat}
 use Rattle.sdf_rings.specs.Seats.{times_between}
@@ -59,7 +58,7 @@ module _ {A S T : Type 0} (s : Steps A S T) (n : Netlist A T) (inputs : List (Li
     at_end : StandAtRest s n inputs seats places k
     at_end = rest_at s n inputs seats places r at_rest q accepted k (λ a e d l. ended a e d l ∙ sym (counts a l))
 
-    module _ (hold : SinksHoldLists s) (take_all : SinksTakeAll s) (outputs : List (Vec T Global))
+    module _ (outputs : List (Vec T Global))
         (count : length outputs ≡ list_count Outputs n.nodes)
         (given : AreGiven n seats places (length n.nodes) outputs) where
       sink_given : (a ext block : ℕ) → a < length n.nodes → node n a ≡ kind.Sink ext block →
@@ -72,8 +71,10 @@ module _ {A S T : Type 0} (s : Steps A S T) (n : Netlist A T) (inputs : List (Li
           (taken_before (wiring s n) at_end.history a (k a)) z.state =
           subst (λ x. IsAt s inputs z.asked x (taken_before (wiring s n) at_end.history a (k a)) z.state) is
           (at_end.states a e d l) in
-          let found = hold inputs z.asked ext block (taken_before (wiring s n) at_end.history a (k a)) z.state at in
-          given a ext block found.0 e d l is found.1 ∙ (found.2 ∙ take_all n at_end.history k a ext block r.is_net is)
+          let past = taken_before (wiring s n) at_end.history a (k a) in
+          let found = sinks_hold_lists s inputs z.asked ext block past z.state at in
+          given a ext block found.0 e d l is found.1
+          ∙ (found.2 ∙ sinks_take_all s n at_end.history k a ext block r.is_net is)
 
       pub outputs_given : AreOutputs s n inputs k (lists outputs)
       outputs_given = record {
@@ -84,9 +85,8 @@ module _ {A S T : Type 0} (s : Steps A S T) (n : Netlist A T) (inputs : List (Li
       }
 
       -- and what the seats hold is left
-      pub run_given : NodesKeepStates s → (rest : Rest T S) → HoldRest n seats places rest →
-          HasRun s n inputs k (lists outputs) rest
-      run_given keep rest held = record {
+      pub run_given : (rest : Rest T S) → HoldRest n seats places rest → HasRun s n inputs k (lists outputs) rest
+      run_given rest held = record {
         history = at_end.history;
         is = at_end.is;
         count = length-map outputs (λ v. v.items) ∙ count;
@@ -98,7 +98,7 @@ module _ {A S T : Type 0} (s : Steps A S T) (n : Netlist A T) (inputs : List (Li
               let d = a_stand s n inputs seats places r a l in
               let z = stand_of n seats places e d a in
               held.states_held a e d l ∙
-              keep inputs z.asked (node n a) (taken_before (wiring s n) at_end.history a (k a)) z.state
+              nodes_keep_states s inputs z.asked (node n a) (taken_before (wiring s n) at_end.history a (k a)) z.state
               (at_end.states a e d l);
           channels = held.channels;
           held = λ c l.

@@ -13,6 +13,7 @@ use Rattle.sdf_actor.specs.Steps.{Steps}
 use Rattle.sdf_actor.specs.Histories.{IsWired, taken_before}
 use Rattle.sdf_actor.specs.Nets.{Netlist, wire, node, wiring, answer_of, inputs_of, outputs_of, IsNet}
 use Rattle.sdf_actor.specs.declared.sides.Side.TheVariants.{Input, Output}
+use Rattle.sdf_actor.proofs.Theorems.{nets_are_wired}
 use Rattle.sdf_node.specs.Nodes.{IsAt}
 use Rattle.sdf_node.specs.declared.node.NodeState.{NodeState}
 use Rattle.sdf_rings.specs.declared.stand.Stand.{Stand}
@@ -22,14 +23,13 @@ use Rattle.sdf_answer.specs.Sizes.{sizes}
 use Rattle.sdf_rings.specs.Stands.{OwnBegin, IsStand, HasMoved}
 use Rattle.sdf_rings.proofs.Blocks.{block_in}
 use Rattle.sdf_rings.proofs.Known.{out_in, in_in, sent_at, received_at}
-use Rattle.sdf_rings.specs.FiringLaws.{FiringLaws}
 use Rattle.sdf_rings.proofs.Knowing.{IsOneMore, one_more}
 use Rattle.sdf_rings.proofs.Onward.{stand_after, HasGoneOn, gone_on}
 use Rattle.sdf_rings.proofs.Tells.{some}
 use Rattle.sdf_rings.proofs.Looking.{vec_in}
 use Rattle.sdf_rings.proofs.PortBlocks.{outs_long, consumed_in, produced_out, out_block}
 
-module _ {A S T : Type 0} (s : Steps A S T) (laws : FiringLaws s) (n : Netlist A T) (good : IsNet s n)
+module _ {A S T : Type 0} (s : Steps A S T) (n : Netlist A T) (good : IsNet s n)
     (inputs : List (List T)) (x : Stand A T S) (st : IsStand s n inputs x) (left : x.done < x.asked)
     (t b : List T) (w : NodeState T S) (ins : Vec (Consumer T Global AnyItems) Global)
     (outs : Vec (Producer T Global AnyItems) Global) (tv pv : Vec T Global)
@@ -45,7 +45,7 @@ module _ {A S T : Type 0} (s : Steps A S T) (laws : FiringLaws s) (n : Netlist A
     (begin : OwnBegin n x.actor ins.items x.outs.items) (tv_is : length tv.items ≡ length x.taken.items)
     (pv_is : length pv.items ≡ length x.put.items) where
   wired : IsWired (wiring s n)
-  wired = laws.wired n good
+  wired = nets_are_wired s n good
 
   took_then : (c : ℕ) (d : Consumer T Global AnyItems) → c < length n.wires → (wire n c).to.0 ≡ x.actor →
       received (get_or ins.items (wire n c).to.1 d) ≡
@@ -53,28 +53,28 @@ module _ {A S T : Type 0} (s : Steps A S T) (laws : FiringLaws s) (n : Netlist A
       ++ block_of (sizes s Input (node n x.actor) x.done) (wire n c).to.1 t
   took_then c d l e =
       let at : (wire n c).to.1 < length x.ins.items =
-      vec_in x.ins (wire n c).to.1 (in_in s laws.ports n good inputs x st x.actor refl c l e) in
+      vec_in x.ins (wire n c).to.1 (in_in s n good inputs x st x.actor refl c l e) in
       (drew (wire n c).to.1 d at).received_then ∙ ap
       (λ r. r ++ block_of (sizes s Input (node n x.actor) x.done) (wire n c).to.1 t)
-      (received_at s laws.ports n good inputs x st x.actor refl c d l e)
+      (received_at s n good inputs x st x.actor refl c d l e)
 
   -- what it took of a channel to itself it had put there
   own_taken : (c : ℕ) → c < length n.wires → (wire n c).from.0 ≡ x.actor → (wire n c).to.0 ≡ x.actor →
       IsPrefix (take ((wiring s n).rates.consumed c x.done) (st.own c)
       ++ block_of (sizes s Input (node n x.actor) x.done) (wire n c).to.1 t) (st.own c)
   own_taken c l f e =
-      let at : (wire n c).to.1 < vec_len x.ins = in_in s laws.ports n good inputs x st x.actor refl c l e in
+      let at : (wire n c).to.1 < vec_len x.ins = in_in s n good inputs x st x.actor refl c l e in
       let after : (wire n c).to.1 < length ins.items = vec_in ins (wire n c).to.1 (omega arith) in
       let from : (wire n c).from.1 < length x.outs.items =
-      vec_in x.outs (wire n c).from.1 (out_in s laws.ports n good inputs x st x.actor refl c l f) in
+      vec_in x.outs (wire n c).from.1 (out_in s n good inputs x st x.actor refl c l f) in
       let d = some ins.items (wire n c).to.1 after in
       let y = some x.outs.items (wire n c).from.1 from in
       subst (λ xs. IsPrefix xs (st.own c)) (took_then c d l e)
       (subst (IsPrefix (received (get_or ins.items (wire n c).to.1 d)))
-      (sent_at s laws.ports n good inputs x st x.actor refl c y l f) (begin c d y l f e))
+      (sent_at s n good inputs x st x.actor refl c y l f) (begin c d y l f e))
 
   more : (W : ℕ → List T) × IsOneMore s n inputs x.actor x.done st.own W t b
-  more = one_more s laws n good inputs x.actor x.done st.known st.own st.local t b t_long b_long
+  more = one_more s n good inputs x.actor x.done st.known st.own st.local t b t_long b_long
       (puts x.asked (taken_before (wiring s n) st.own x.actor x.done) st.at) own_taken
 
   on : HasGoneOn s n inputs x st.own more.0 1 (λ i. block_of (sizes s Input (node n x.actor) x.done) i t)
@@ -84,11 +84,11 @@ module _ {A S T : Type 0} (s : Steps A S T) (laws : FiringLaws s) (n : Netlist A
     into = more.1.into;
     out = λ i p.
         let q : i < length ((wiring s n).outs x.actor) =
-        omega (arith, outs_long s laws.ports n good wired x.actor st.known) in
+        omega (arith, outs_long s n good wired x.actor st.known) in
         let is = wired.outs_are x.actor i st.known q in
         more.1.out (get_or ((wiring s n).outs x.actor) i 0) is.1 ∙
         ap (λ r. st.own (get_or ((wiring s n).outs x.actor) i 0) ++ r)
-        (out_block s laws.ports n good wired x.actor st.known x.done i b p);
+        (out_block s n good wired x.actor st.known x.done i b p);
     taken_count = λ i p.
         let h : ℕ → ℕ = sizes s Input (node n x.actor) x.done in
         let inside = block_in h i (inputs_of s (node n x.actor)) p in
@@ -98,8 +98,8 @@ module _ {A S T : Type 0} (s : Steps A S T) (laws : FiringLaws s) (n : Netlist A
         wired.sound.consumed_rises (get_or ((wiring s n).ins x.actor) i 0) x.done (x.done + 1) (omega arith) in
         omega (
           arith,
-          consumed_in s laws.ports n good wired x.actor st.known i x.done p,
-          consumed_in s laws.ports n good wired x.actor st.known i (x.done + 1) p,
+          consumed_in s n good wired x.actor st.known i x.done p,
+          consumed_in s n good wired x.actor st.known i (x.done + 1) p,
         );
     put_count = λ i p.
         let h : ℕ → ℕ = sizes s Output (node n x.actor) x.done in
@@ -110,8 +110,8 @@ module _ {A S T : Type 0} (s : Steps A S T) (laws : FiringLaws s) (n : Netlist A
         wired.sound.produced_rises (get_or ((wiring s n).outs x.actor) i 0) x.done (x.done + 1) (omega arith) in
         omega (
           arith,
-          produced_out s laws.ports n good wired x.actor st.known i x.done p,
-          produced_out s laws.ports n good wired x.actor st.known i (x.done + 1) p,
+          produced_out s n good wired x.actor st.known i x.done p,
+          produced_out s n good wired x.actor st.known i (x.done + 1) p,
         );
   }
 
@@ -120,7 +120,7 @@ module _ {A S T : Type 0} (s : Steps A S T) (laws : FiringLaws s) (n : Netlist A
 
   pub fired : IsStand s n inputs y × HasMoved s n x y
   fired =
-      gone_on s laws n good inputs x st 1 (omega arith) more.0
+      gone_on s n good inputs x st 1 (omega arith) more.0
       (λ i. block_of (sizes s Input (node n x.actor) x.done) i t)
       (λ i. block_of (sizes s Output (node n x.actor) x.done) i b) on
       w (subst (λ p. IsAt s inputs x.asked (node n x.actor) p w) (sym more.1.past)

@@ -8,17 +8,10 @@ use Rattle.std.proofs.lemmas.Bool.{eqb-true}
 use Rattle.sdf_actor.specs.Steps.{Steps}
 use Rattle.sdf_actor.specs.Histories.{Wiring, Answers, taken, put, taken_before, IsHistory, IsWired, spread}
 use Rattle.sdf_actor.specs.Nets.{Netlist, wiring, answers, IsNet}
-use Rattle.sdf_actor.specs.Laws.{NetsAreWired, TakenStays, PutIsDealt, PutStays}
+use Rattle.sdf_actor.proofs.Theorems.{nets_are_wired, put_is_dealt, taken_stays}
 use Rattle.sdf_rings.specs.Machine.{Machine, Event, Take, Put, block, at_start, happens, CanPut, IsAllowed, IsRun}
 use Rattle.sdf_rings.specs.Machine.{after}
 use Rattle.sdf_rings.proofs.Counts.{IsCounted, count_one, count_start}
-
--- the laws of nets that this stands on
-pub record NetLaws {A S T : Type 0} (s : Steps A S T) : Type 0 where
-  pub wired : NetsAreWired s
-  pub taken : TakenStays s
-  pub dealt : PutIsDealt s
-  pub puts : PutStays s
 
 -- what each run keeps, where R is the history
 pub record Keeps {A : Type 0} (f : Wiring A) (k cap : ℕ → ℕ) (R : ℕ → List A) (m : Machine A) : Type 0 where
@@ -45,7 +38,7 @@ last_agrees f V W a i past next = ap (λ b. get_or b 0 [])
     same : taken_before f V a i ++ taken f V a i ∷ [] ≡ taken_before f V a i ++ taken f W a i ∷ []
     same = more ∙ ap (λ b. b ++ taken f W a i ∷ []) (sym past)
 
-module _ {A S T : Type 0} (s : Steps A S T) (laws : NetLaws s) (n : Netlist A T) (good : IsNet s n)
+module _ {A S T : Type 0} (s : Steps A S T) (n : Netlist A T) (good : IsNet s n)
     (inputs : List (List T)) (k cap : ℕ → ℕ) (R : ℕ → List T)
     (r : IsHistory (wiring s n) (answers s n inputs) k R) where
   abbrev f : Wiring T
@@ -55,7 +48,7 @@ module _ {A S T : Type 0} (s : Steps A S T) (laws : NetLaws s) (n : Netlist A T)
   x = answers s n inputs
 
   wired : IsWired (wiring s n)
-  wired = laws.wired n good
+  wired = nets_are_wired s n good
 
   pub long : (m : Machine T) → Keeps f k cap R m → (c : ℕ) → c < f.rates.channels →
       length (m.lists c) ≡ f.rates.initial c + f.rates.produced c (m.gave c)
@@ -84,9 +77,9 @@ module _ {A S T : Type 0} (s : Steps A S T) (laws : NetLaws s) (n : Netlist A T)
       (λ d l e. let rise : f.rates.consumed d i ≤ f.rates.consumed d (i + 1) =
       wired.sound.consumed_rises d i (i + 1) (omega arith) in omega (arith, within d l e)) in
       let past : taken_before f m.lists a i ≡ taken_before f R a i =
-      laws.taken n m.lists R a i good known before (begins m keep) in
+      taken_stays s n m.lists R a i good known before (begins m keep) in
       let next : taken_before f m.lists a (i + 1) ≡ taken_before f R a (i + 1) =
-      laws.taken n m.lists R a (i + 1) good known within (begins m keep) in
+      taken_stays s n m.lists R a (i + 1) good known within (begins m keep) in
       let now : taken f m.lists a i ≡ taken f R a i = last_agrees f m.lists R a i past next in
       let step : put f R a i ≡ x a (taken_before f R a i) (taken f R a i) = r.steps a i known h.left in
       let whole : x a (taken_before f m.lists a i) (taken f m.lists a i) ≡ put f R a i =
@@ -102,7 +95,7 @@ module _ {A S T : Type 0} (s : Steps A S T) (laws : NetLaws s) (n : Netlist A T)
       omega (arith, r.lengths d l)) in
       let dealt : spread size (f.outs a) (put f R a i) c ≡
       between (f.rates.initial c + f.rates.produced c i) (f.rates.initial c + f.rates.produced c (i + 1)) (R c) =
-      laws.dealt n R c i good h.known far in
+      put_is_dealt s n R c i good h.known far in
       let piece : block f x m.lists i c ≡ between (f.rates.initial c + f.rates.produced c i)
       (f.rates.initial c + f.rates.produced c (i + 1)) (R c) =
       ap (λ b. spread size (f.outs a) b c) whole ∙ dealt in

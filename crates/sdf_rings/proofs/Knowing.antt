@@ -14,9 +14,9 @@ use Rattle.sdf_actor.specs.Histories.{Wiring, IsWired, taken, taken_before, spre
 use Rattle.sdf_actor.specs.Locals.{IsLocal}
 use Rattle.sdf_actor.specs.Nets.{Netlist, wire, node, wiring, answers, answer_of, inputs_of, outputs_of, to_port, IsNet}
 use Rattle.sdf_actor.specs.declared.sides.Side.TheVariants.{Input, Output}
+use Rattle.sdf_actor.proofs.Theorems.{locals_grow, nets_are_wired, ports_have_channels, taken_stays}
 use Rattle.sdf_rings.specs.Blocks.{start_at, block_of}
 use Rattle.sdf_answer.specs.Sizes.{sizes}
-use Rattle.sdf_rings.specs.FiringLaws.{FiringLaws}
 use Rattle.sdf_rings.proofs.Blocks.{block_in}
 use Rattle.sdf_rings.proofs.Spreads.{blocks_joined}
 use Rattle.sdf_rings.proofs.PortBlocks.{size_at, port_of, consumed_is, all_out}
@@ -37,7 +37,7 @@ pub record IsOneMore {A S T : Type 0} (s : Steps A S T) (n : Netlist A T) (input
       take ((wiring s n).rates.consumed c (k + 1)) (W c) ≡
       take ((wiring s n).rates.consumed c k) (V c) ++ block_of (sizes s Input (node n a) k) (wire n c).to.1 t
 
-module _ {A S T : Type 0} (s : Steps A S T) (laws : FiringLaws s) (n : Netlist A T) (good : IsNet s n)
+module _ {A S T : Type 0} (s : Steps A S T) (n : Netlist A T) (good : IsNet s n)
     (inputs : List (List T)) (a k : ℕ) (known : a < length n.nodes) (V : ℕ → List T)
     (local : IsLocal (wiring s n) (answers s n inputs) a k V) (t b : List T)
     (t_long : length t ≡ start_at (sizes s Input (node n a) k) (inputs_of s (node n a)))
@@ -48,7 +48,7 @@ module _ {A S T : Type 0} (s : Steps A S T) (laws : FiringLaws s) (n : Netlist A
     IsPrefix (take ((wiring s n).rates.consumed c k) (V c)
     ++ block_of (sizes s Input (node n a) k) (wire n c).to.1 t) (V c)) where
   wired : IsWired (wiring s n)
-  wired = laws.wired n good
+  wired = nets_are_wired s n good
 
   abbrev g : ℕ → ℕ
   g = sizes s Input (node n a) k
@@ -85,9 +85,9 @@ module _ {A S T : Type 0} (s : Steps A S T) (laws : FiringLaws s) (n : Netlist A
       length (now c) ≡ (wiring s n).rates.consumed c (k + 1) - (wiring s n).rates.consumed c k
   now_long c l e =
       let p : ℕ = (wire n c).to.1 in
-      let h = port_of s laws.ports n good wired a known c l e in
-      let before = consumed_is s laws.ports n good wired a known c k e in
-      let after = consumed_is s laws.ports n good wired a known c (k + 1) e in
+      let h = port_of s n good wired a known c l e in
+      let before = consumed_is s n good wired a known c k e in
+      let after = consumed_is s n good wired a known c (k + 1) e in
       omega (arith, block_long p h)
 
   all_long : (c : ℕ) → c < length n.wires → (wiring s n).rates.target c ≡ a →
@@ -148,7 +148,7 @@ module _ {A S T : Type 0} (s : Steps A S T) (laws : FiringLaws s) (n : Netlist A
       (λ p h.
       let c : ℕ = to_port n a p in
       let l = good.to_all a p known h in
-      let is = (laws.ports n a p good known).0 h in
+      let is = (ports_have_channels s n a p good known).0 h in
       let j : ℕ = (wiring s n).rates.consumed c k in
       let m : ℕ = (wiring s n).rates.consumed c (k + 1) in
       between_is (W c) j m ∙ (ap (drop j) (W_in c l is.0)
@@ -182,17 +182,17 @@ module _ {A S T : Type 0} (s : Steps A S T) (laws : FiringLaws s) (n : Netlist A
 
   past_same : taken_before (wiring s n) V a k ≡ taken_before (wiring s n) W a k
   past_same =
-      sym (laws.stays n front V a k good known enough (begins V (λ c l e. refl))) ∙
-      laws.stays n front W a k good known enough (begins W kept)
+      sym (taken_stays s n front V a k good known enough (begins V (λ c l e. refl))) ∙
+      taken_stays s n front W a k good known enough (begins W kept)
 
   grown : IsLocal (wiring s n) (answers s n inputs) a (k + 1) W
-  grown = laws.grows n inputs a k V W b good known local (record {
+  grown = locals_grow s n inputs a k V W b good known local (record {
     kept = kept;
     more = W_long;
     given = λ c l e. W_out c e;
     answers_it = answered ∙ (ap (λ p. answer_of s inputs (node n a) p t) past_same
         ∙ ap (λ u. answer_of s inputs (node n a) (taken_before (wiring s n) W a k) u) (sym now_t));
-    long = b_long ∙ all_out s laws.ports n good wired a known k;
+    long = b_long ∙ all_out s n good wired a known k;
   })
 
   past_is : taken_before (wiring s n) W a (k + 1) ≡ taken_before (wiring s n) V a k ++ t ∷ []

@@ -7,21 +7,21 @@ use Rattle.rtrb.specs.declared.producer.Producer.{Producer}
 use Rattle.rtrb.specs.declared.consumer.Consumer.{Consumer}
 use Rattle.rtrb.specs.declared.AnyItems.{AnyItems}
 use Rattle.sdf_actor.specs.Steps.{Steps}
-use Rattle.sdf_actor.specs.Laws.{PortsHaveChannels}
 use Rattle.sdf_actor.specs.Locals.{IsLocal}
 use Rattle.sdf_actor.specs.Nets.{Netlist, Wire, wire, node, wiring, answers, inputs_of, outputs_of, to_port, from_port}
 use Rattle.sdf_actor.specs.Nets.{IsNet}
+use Rattle.sdf_actor.proofs.Theorems.{ports_have_channels}
 use Rattle.sdf_rings.specs.declared.stand.Stand.{Stand}
 use Rattle.sdf_rings.specs.Stands.{IsStand}
 
-module _ {A S T : Type 0} (s : Steps A S T) (ports : PortsHaveChannels s) (n : Netlist A T) (good : IsNet s n) where
+module _ {A S T : Type 0} (s : Steps A S T) (n : Netlist A T) (good : IsNet s n) where
   -- the channel at its own port
   pub out_channel : (c : ℕ) → c < length n.wires → get_or ((wiring s n).outs (wire n c).from.0) (wire n c).from.1 0 ≡ c
   out_channel c l =
       let a : ℕ = (wire n c).from.0 in
       let p : ℕ = (wire n c).from.1 in
       let in_range = good.from_in c l in
-      let is = (ports n a p good in_range.0).1 in_range.1 in
+      let is = (ports_have_channels s n a p good in_range.0).1 in_range.1 in
       let same : (wire n (from_port n a p)).from ≡ (wire n c).from = λ i. (is.0 i, is.1 i) in
       get_or-map-range_with_len (from_port n a) 0 (outputs_of s (node n a)) p p 0 in_range.1 (omega arith)
       ∙ good.from_once (from_port n a p) c (good.from_all a p in_range.0 in_range.1) l same
@@ -31,7 +31,7 @@ module _ {A S T : Type 0} (s : Steps A S T) (ports : PortsHaveChannels s) (n : N
       let a : ℕ = (wire n c).to.0 in
       let p : ℕ = (wire n c).to.1 in
       let in_range = good.to_in c l in
-      let is = (ports n a p good in_range.0).0 in_range.1 in
+      let is = (ports_have_channels s n a p good in_range.0).0 in_range.1 in
       let same : (wire n (to_port n a p)).to ≡ (wire n c).to = λ i. (is.0 i, is.1 i) in
       get_or-map-range_with_len (to_port n a) 0 (inputs_of s (node n a)) p p 0 in_range.1 (omega arith)
       ∙ good.to_once (to_port n a p) c (good.to_all a p in_range.0 in_range.1) l same
@@ -47,7 +47,7 @@ module _ {A S T : Type 0} (s : Steps A S T) (ports : PortsHaveChannels s) (n : N
       (get_or ((wiring s n).ins a) p 0 < length n.wires) × ((wire n (get_or ((wiring s n).ins a) p 0)).to.0 ≡ a)
       × ((wire n (get_or ((wiring s n).ins a) p 0)).to.1 ≡ p)
   port_at a p known h =
-      let is = (ports n a p good known).0 h in
+      let is = (ports_have_channels s n a p good known).0 h in
       subst (λ c. (c < length n.wires) × ((wire n c).to.0 ≡ a) × ((wire n c).to.1 ≡ p))
       (sym (get_or-map-range_with_len (to_port n a) 0 (inputs_of s (node n a)) p p 0 h (omega arith)))
       (good.to_all a p known h, is.0, is.1)

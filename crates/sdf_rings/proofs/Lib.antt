@@ -1,59 +1,60 @@
-pub mod Counts
-pub mod Courses
-pub mod Kept
-pub mod Plans
-pub mod Runs
-pub mod Progress
-pub mod Going
-pub mod Reaches
-pub mod Folds
-pub mod Quiescent
-pub mod PairAtWork
-pub mod PairPlanned
-pub mod Own
-pub mod Blocks
-pub mod Each
-pub mod Walks
-pub mod Looks
-pub mod Spreads
-pub mod PortBlocks
-pub mod Known
-pub mod OwnEnds
-pub mod Knowing
-pub mod Onward
-pub mod Firing
-pub mod Running
-pub mod RunEnds
-pub mod RunFired
-pub mod Standing
-pub mod Looking
-pub mod Times
-pub mod Rounds
-pub mod Places
-pub mod Pairs
-pub mod Swaps
-pub mod Tells
-pub mod Placed
-pub mod Telling
-pub mod Rests
-pub mod Hands
-pub mod Lists
-pub mod Begun
-pub mod Seating
-pub mod Openings
-pub mod Dealing
-pub mod Dealt
-pub mod Prepared
-pub mod Planning
-pub mod Starting
-pub mod Totals
-pub mod Planned
-pub mod CanGo
-pub mod RoundsFire
-pub mod Collects
-pub mod Reading
-pub mod Ended
-pub mod Quiet
-pub mod Leaving
-pub mod Lengths
-pub mod Answered
+mod Counts
+mod Courses
+mod Kept
+mod Plans
+mod Runs
+mod Progress
+mod Going
+mod Reaches
+mod Folds
+mod Quiescent
+mod PairAtWork
+mod PairPlanned
+mod Own
+mod Blocks
+mod Each
+mod Walks
+mod Looks
+mod Spreads
+mod PortBlocks
+mod Known
+mod OwnEnds
+mod Knowing
+mod Onward
+mod Firing
+mod Running
+mod RunEnds
+mod RunFired
+mod Standing
+mod Looking
+mod Times
+mod Rounds
+mod Places
+mod Pairs
+mod Swaps
+mod Tells
+mod Placed
+mod Telling
+mod Rests
+mod Hands
+mod Lists
+mod Begun
+mod Seating
+mod Openings
+mod Dealing
+mod Dealt
+mod Prepared
+mod Planning
+mod Starting
+mod Totals
+mod Planned
+mod CanGo
+mod RoundsFire
+mod Collects
+mod Reading
+mod Ended
+mod Quiet
+mod Leaving
+mod Lengths
+mod Answered
+mod Parted

@@ -13,13 +13,13 @@ use Rattle.sdf_actor.specs.Locals.{IsLocal}
 use Rattle.sdf_actor.specs.Nets.{Netlist, wire, node, wiring, answers, inputs_of, outputs_of, IsNet}
 use Rattle.sdf_actor.specs.Sides.{moved_at}
 use Rattle.sdf_actor.specs.declared.sides.Side.TheVariants.{Input, Output}
+use Rattle.sdf_actor.proofs.Theorems.{nets_are_wired}
 use Rattle.sdf_node.specs.Nodes.{IsAt}
 use Rattle.sdf_node.specs.declared.node.NodeState.{NodeState}
 use Rattle.sdf_rings.specs.declared.stand.Stand.{Stand}
 use Rattle.sdf_rings.specs.Ends.{DrewEach, GaveEach}
 use Rattle.sdf_rings.specs.Stands.{IsStand, HasMoved}
 use Rattle.sdf_rings.proofs.Known.{received_at, in_in, port_at}
-use Rattle.sdf_rings.specs.FiringLaws.{FiringLaws}
 use Rattle.sdf_rings.proofs.OwnEnds.{own_pairs_kept}
 use Rattle.sdf_rings.proofs.Looking.{vec_in, items_long}
 
@@ -51,7 +51,7 @@ pub record HasGoneOn {A S T : Type 0} (s : Steps A S T) (n : Netlist A T) (input
       length (put i) + moved_at s Output (node n x.actor) i x.done ≡
       moved_at s Output (node n x.actor) i (x.done + more)
 
-module _ {A S T : Type 0} (s : Steps A S T) (laws : FiringLaws s) (n : Netlist A T) (good : IsNet s n)
+module _ {A S T : Type 0} (s : Steps A S T) (n : Netlist A T) (good : IsNet s n)
     (inputs : List (List T)) (x : Stand A T S) (st : IsStand s n inputs x)
     (more : ℕ) (left : x.done + more ≤ x.asked) (W : ℕ → List T) (taken put : ℕ → List T)
     (on : HasGoneOn s n inputs x st.own W more taken put)
@@ -63,15 +63,15 @@ module _ {A S T : Type 0} (s : Steps A S T) (laws : FiringLaws s) (n : Netlist A
     (ins_is : vec_len ins ≡ vec_len x.ins) (outs_is : vec_len outs ≡ vec_len x.outs)
     (tv_is : length tv.items ≡ length x.taken.items) (pv_is : length pv.items ≡ length x.put.items) where
   wired : IsWired (wiring s n)
-  wired = laws.wired n good
+  wired = nets_are_wired s n good
 
   took_then : (c : ℕ) (d : Consumer T Global AnyItems) → c < length n.wires → (wire n c).to.0 ≡ x.actor →
       received (get_or ins.items (wire n c).to.1 d) ≡ take ((wiring s n).rates.consumed c (x.done + more)) (W c)
   took_then c d l e =
       let h : (wire n c).to.1 < length x.ins.items =
-      vec_in x.ins (wire n c).to.1 (in_in s laws.ports n good inputs x st x.actor refl c l e) in
+      vec_in x.ins (wire n c).to.1 (in_in s n good inputs x st x.actor refl c l e) in
       (drew (wire n c).to.1 d h).received_then ∙ (ap (λ r. r ++ taken (wire n c).to.1)
-      (received_at s laws.ports n good inputs x st x.actor refl c d l e) ∙ sym (on.into c l e))
+      (received_at s n good inputs x st x.actor refl c d l e) ∙ sym (on.into c l e))
 
   abbrev y : Stand A T S
   y = stand_after x more w ins outs tv pv
@@ -90,7 +90,7 @@ module _ {A S T : Type 0} (s : Steps A S T) (laws : FiringLaws s) (n : Netlist A
     took = λ i d h.
         let l : i < inputs_of s (node n x.actor) = omega (arith, st.ins_all) in
         let c : ℕ = get_or ((wiring s n).ins x.actor) i 0 in
-        let is = port_at s laws.ports n good x.actor i st.known l in
+        let is = port_at s n good x.actor i st.known l in
         ap (λ j. received (get_or ins.items j d)) (sym is.2) ∙ took_then c d is.0 is.1;
     gave = λ i d h.
         let l : i < vec_len x.outs = omega arith in

@@ -12,19 +12,19 @@ use Rattle.rtrb.specs.declared.producer.Producer.{Producer}
 use Rattle.rtrb.specs.declared.consumer.Consumer.{Consumer}
 use Rattle.rtrb.specs.declared.AnyItems.{AnyItems}
 use Rattle.sdf_graph.specs.Rates.{Rates, Shape, rates, channel, rate_at, IsAlike}
-use Rattle.sdf_graph.specs.Laws.{SumsGrow}
+use Rattle.sdf_graph.proofs.Theorems.{sums_grow}
 use Rattle.sdf_actor.specs.Steps.{Steps}
 use Rattle.sdf_actor.specs.Nets.{Netlist, wire, wiring}
 use Rattle.sdf_rings.specs.Asks.{IsGreatestPut, IsRoomOf}
 use Rattle.sdf_rings.specs.Openings.{IsOpened, IsGreatestOf, HasRing, HaveRings, HasEnds}
 
 -- the greatest rate of a channel's source is the greatest number that a firing puts
-pub greatest_is : SumsGrow → (g : Shape) (t : Rates) → IsAlike (rates g) t → (c m : ℕ) → c < length g.channels →
+pub greatest_is : (g : Shape) (t : Rates) → IsAlike (rates g) t → (c m : ℕ) → c < length g.channels →
     0 < length (channel g c).put → IsGreatestOf (channel g c).put m → IsGreatestPut t c m
-greatest_is grow g t alike c m l some is =
+greatest_is g t alike c m l some is =
     let put : List ℕ = (channel g c).put in
     let step : (k : ℕ) → t.produced c (k + 1) - t.produced c k ≡ get_or put (k % length put) 0 = λ k.
-    (let a = alike.produced c (k + 1) l in let b = alike.produced c k l in let e = grow (rate_at put) k in
+    (let a = alike.produced c (k + 1) l in let b = alike.produced c k l in let e = sums_grow (rate_at put) k in
     omega arith) in
     record {
       above = λ k. let h = is.above (k % length put) (mod_below k (length put) some) in let e = step k in omega arith;

@@ -4,17 +4,16 @@ use Rattle.std.proofs.Common.{arith}
 use Rattle.std.proofs.lemmas.Bool.{cases_eq, eq-eqb, ne_eqb, cond-true, cond-false}
 use Rattle.sdf_graph.specs.Rates.{Rates, IsSound}
 use Rattle.sdf_graph.specs.Sequences.{times, IsEnabled}
-use Rattle.sdf_graph.specs.Laws.{AlikeSequences, LastCountsMore, FrontsCountWithin}
+use Rattle.sdf_graph.proofs.Theorems.{fronts_count_within, last_counts_more}
 use Rattle.sdf_prec.specs.Next.{IsNext, HasRoom}
-use Rattle.sdf_prec.specs.Laws.{TablesRepeat, SomeIsNext, NextMayFire}
+use Rattle.sdf_prec.proofs.Theorems.{next_may_fire, some_is_next}
 use Rattle.sdf_actor.specs.Steps.{Steps}
 use Rattle.sdf_actor.specs.Nets.{wiring}
-use Rattle.sdf_actor.specs.Laws.{NetsAreWired}
+use Rattle.sdf_actor.proofs.Theorems.{nets_are_wired}
 use Rattle.sdf_rings.specs.MachineLaws.{firings, capacity, OwnNeverWaits}
 use Rattle.sdf_rings.proofs.Plans.{IsSequence, plan_sequence, sequence_of}
 
-module _ (last : LastCountsMore) (front : FrontsCountWithin) (next : SomeIsNext) (may_fire : NextMayFire)
-    (r : Rates) (k cap : ℕ → ℕ) (w : List ℕ) (sound : IsSound r) (seq : IsSequence r k cap w) (c i : ℕ)
+module _ (r : Rates) (k cap : ℕ → ℕ) (w : List ℕ) (sound : IsSound r) (seq : IsSequence r k cap w) (c i : ℕ)
     (l : c < r.channels) (own : r.source c ≡ r.target c)
     (left : i < times w (r.target c)) where
   -- the counts at which all is done but the firings of the channel's actor from i on
@@ -28,7 +27,7 @@ module _ (last : LastCountsMore) (front : FrontsCountWithin) (next : SomeIsNext)
   at_others a ne = cond-false (eqb (r.target c) a) i (times w a) (ne_eqb (r.target c) a ne)
 
   found : (p : ℕ) × IsNext all_but w p
-  found = next all_but w (r.target c) (omega (arith, at_own))
+  found = some_is_next all_but w (r.target c) (omega (arith, at_own))
 
   -- the next firing there is that of the channel's actor
   is_own : r.target c ≡ get_or w found.0 0
@@ -39,17 +38,18 @@ module _ (last : LastCountsMore) (front : FrontsCountWithin) (next : SomeIsNext)
       go (inr ne) =
           let more : times (take (found.0 + 1) w) (get_or w found.0 0) ≡
           times (take found.0 w) (get_or w found.0 0) + 1 =
-          last w found.0 (get_or w found.0 0) found.1.within refl in
+          last_counts_more w found.0 (get_or w found.0 0) found.1.within refl in
           absurd (omega (
             arith,
             at_others (get_or w found.0 0) ne,
             found.1.left,
-            front w (found.0 + 1) (get_or w found.0 0),
+            fronts_count_within w (found.0 + 1) (get_or w found.0 0),
           ))
 
   fires : (all_but (get_or w found.0 0) ≡ times (take found.0 w) (get_or w found.0 0))
       × IsEnabled r all_but (get_or w found.0 0) × HasRoom r cap all_but (get_or w found.0 0)
-  fires = may_fire r all_but cap w found.0 sound seq.admissible (λ j h d m. omega (arith, seq.room j h d m)) found.1
+  fires = next_may_fire r all_but cap w found.0 sound seq.admissible
+      (λ j h d m. omega (arith, seq.room j h d m)) found.1
 
   pub samples : r.consumed c (i + 1) ≤ r.initial c + r.produced c i
   samples =
@@ -72,23 +72,22 @@ module _ (last : LastCountsMore) (front : FrontsCountWithin) (next : SomeIsNext)
       let taken = ap (r.consumed c) counted in
       omega (arith, enough, put, taken)
 
-pub own_never_waits : LastCountsMore → FrontsCountWithin → SomeIsNext → NextMayFire → AlikeSequences → TablesRepeat →
-    {A S T : Type 0} (s : Steps A S T) → NetsAreWired s → OwnNeverWaits s
-own_never_waits last front next may_fire alike repeats s wired n p b m c plan l own =
+pub own_never_waits : {A S T : Type 0} (s : Steps A S T) → OwnNeverWaits s
+own_never_waits s n p b m c plan l own =
     let r = (wiring s n).rates in
-    let sound = (wired n plan.net).sound in
-    let seq = plan_sequence alike repeats s n p b plan in
+    let sound = (nets_are_wired s n plan.net).sound in
+    let seq = plan_sequence s n p b plan in
     let count : times (sequence_of p b) (r.target c) ≡ firings p b (r.target c) =
     seq.counts (r.target c) (sound.target_in c l) in
     let same : firings p b (r.source c) ≡ firings p b (r.target c) = ap (firings p b) own in (
       λ left h.
-          let here = samples last front next may_fire r (firings p b) (capacity p) (sequence_of p b) sound seq c
+          let here = samples r (firings p b) (capacity p) (sequence_of p b) sound seq c
           (m.took c) l own (omega arith) in
           let rise : r.produced c (m.took c) ≤ r.produced c (m.gave c) =
           sound.produced_rises c (m.took c) (m.gave c) h in
           omega arith,
       λ left h.
-          let here = room last front next may_fire r (firings p b) (capacity p) (sequence_of p b) sound seq c (m.gave c)
+          let here = room r (firings p b) (capacity p) (sequence_of p b) sound seq c (m.gave c)
           l own (omega arith) in
           let rise : r.consumed c (m.gave c + 1) ≤ r.consumed c (m.took c) =
           sound.consumed_rises c (m.gave c + 1) (m.took c) (omega arith) in

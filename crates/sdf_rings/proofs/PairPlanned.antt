@@ -10,7 +10,7 @@ use Rattle.sdf_prec.specs.Tables.{firing, firings, row, cell_of, cell, order, St
 use Rattle.sdf_prec.specs.Tables.{IsGreatestHeld, IsHome, IsTable}
 use Rattle.sdf_actor.specs.Steps.{Steps}
 use Rattle.sdf_actor.specs.Nets.{wiring, IsNet, node, wire, from_port, to_port, inputs_of, outputs_of}
-use Rattle.sdf_actor.specs.Laws.{NetsAreWired}
+use Rattle.sdf_actor.proofs.Theorems.{nets_are_wired}
 use Rattle.sdf_rings.specs.Pair.{pair, plan, first, second, PairIsPlanned}
 
 abbrev put_firing : ℕ → Firing
@@ -273,8 +273,8 @@ module _ {A S T : Type 0} (s : Steps A S T) where
     };
   }
 
-  pub pair_is_planned : NetsAreWired s → PairIsPlanned s
-  pair_is_planned wired = record {
+  pub pair_is_planned : PairIsPlanned s
+  pair_is_planned = record {
     net = net;
     alike = record {
       actors = refl;
@@ -285,7 +285,7 @@ module _ {A S T : Type 0} (s : Steps A S T) where
       produced = λ c i l. refl;
       consumed = λ c i l. refl;
     };
-    sound = (wired pair net).sound;
+    sound = (nets_are_wired s pair net).sound;
     period = is_period;
     table = table;
   }

@@ -1,9 +1,7 @@
 -- What a plan says of the seats of its run.
 use Rattle.std.proofs.Common.{◌≡◌, ℕ, ◌≤◌, ◌<◌, length, get_or, Some, None, sym, ap, ◌∙◌, subst, arith}
 use Rattle.sdf_graph.specs.Sequences.{times, repeated, IsAdmissible, FitsIn}
-use Rattle.sdf_graph.specs.Laws.{AlikeSequences}
 use Rattle.sdf_prec.specs.Tables.{Tabled, row, home_in}
-use Rattle.sdf_prec.specs.Laws.{TablesRepeat}
 use Rattle.sdf_actor.specs.Steps.{Steps}
 use Rattle.sdf_actor.specs.Histories.{IsWired}
 use Rattle.sdf_actor.specs.Nets.{Netlist, wire, wiring}
@@ -12,11 +10,9 @@ use Rattle.sdf_rings.specs.Prepared.{IsAsked}
 use Rattle.sdf_rings.proofs.Begun.{some_in, is_some}
 use Rattle.sdf_rings.proofs.Plans.{IsSequence, plan_sequence, room_first}
 
--- a plan that is asked of a wired net, and the laws of its sequences
+-- a plan that is asked of a wired net
 pub record AskedPlan {A S T : Type 0} (s : Steps A S T) (n : Netlist A T) (t : Tabled) (blocks : ℕ)
     (asked : ℕ → ℕ) : Type 0 where
-  pub alike : AlikeSequences
-  pub repeats : TablesRepeat
   pub wired : IsWired (wiring s n)
   pub is : IsAsked s n t blocks asked
 
@@ -27,7 +23,7 @@ module _ {A S T : Type 0} {s : Steps A S T} {n : Netlist A T} {t : Tabled} {bloc
 
   sequence : (b : ℕ) → IsSequence (wiring s n).rates (firings is.plan b) (capacity is.plan)
       (repeated b is.plan.table.order)
-  sequence b = plan_sequence x.alike x.repeats s n is.plan b is.is
+  sequence b = plan_sequence s n is.plan b is.is
 
   pub admissible : IsAdmissible (wiring s n).rates (repeated blocks t.order)
   admissible = subst (λ (z : Tabled). IsAdmissible (wiring s n).rates (repeated blocks z.order)) is.table_is

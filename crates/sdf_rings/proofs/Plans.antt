@@ -5,9 +5,10 @@ use Rattle.std.proofs.lemmas.Bool.{cases_eq}
 use Rattle.std.proofs.lemmas.List.{take_all}
 use Rattle.sdf_graph.specs.Rates.{Rates, IsAlike, IsSound}
 use Rattle.sdf_graph.specs.Sequences.{times, tokens, IsAdmissible, repeated}
-use Rattle.sdf_graph.specs.Laws.{AlikeSequences, LastCountsMore, OthersCountSame}
+use Rattle.sdf_graph.proofs.Theorems.{alike_sequences, last_counts_more, others_count_same}
 use Rattle.sdf_prec.specs.Blocks.{block}
-use Rattle.sdf_prec.specs.Laws.{TablesRepeat, AreBlocks}
+use Rattle.sdf_prec.specs.Laws.{AreBlocks}
+use Rattle.sdf_prec.proofs.Theorems.{tables_repeat}
 use Rattle.sdf_actor.specs.Steps.{Steps}
 use Rattle.sdf_actor.specs.Nets.{Netlist, wiring}
 use Rattle.sdf_rings.specs.MachineLaws.{MachinePlan, IsMachinePlan, firings, capacity}
@@ -32,14 +33,14 @@ tokens_alike r t k c alike l =
     alike.consumed c (k (r.target c)) l ∙ ap (λ a. t.consumed c (k a)) (alike.target c l) in
     omega arith
 
-pub plan_sequence : AlikeSequences → TablesRepeat →
-    {A S T : Type 0} (s : Steps A S T) (n : Netlist A T) (p : MachinePlan) (b : ℕ) → IsMachinePlan s n p →
+pub plan_sequence : {A S T : Type 0} (s : Steps A S T) (n : Netlist A T) (p : MachinePlan) (b : ℕ) →
+    IsMachinePlan s n p →
     IsSequence (wiring s n).rates (firings p b) (capacity p) (sequence_of p b)
-plan_sequence alike repeats s n p b plan =
+plan_sequence s n p b plan =
     let all : AreBlocks p.rates (λ a. get_or (block p.factor p.period) a 0) p.table b =
-    repeats p.rates p.period p.factor p.width p.table b plan.sound plan.period plan.table in
+    tables_repeat p.rates p.period p.factor p.width p.table b plan.sound plan.period plan.table in
     record {
-      admissible = alike p.rates (wiring s n).rates (sequence_of p b) plan.alike all.admissible;
+      admissible = alike_sequences p.rates (wiring s n).rates (sequence_of p b) plan.alike all.admissible;
       counts = λ a l. all.counts a (subst (λ m. a < m) (sym plan.alike.actors) l);
       room = λ i h c l.
           let known : c < p.rates.channels = subst (λ m. c < m) (sym plan.alike.channels) l in
@@ -76,7 +77,7 @@ room_first r k cap w sound is c l = omega (
 )
 
 -- in an admissible sequence no more is taken than was put
-module _ (last : LastCountsMore) (others : OthersCountSame) (r : Rates) (w : List ℕ) (sound : IsSound r)
+module _ (r : Rates) (w : List ℕ) (sound : IsSound r)
     (adm : IsAdmissible r w) (c : ℕ) (l : c < r.channels) where
   enough_to : (i : ℕ) → i ≤ length w → r.consumed c (times (take i w) (r.target c)) ≤
       r.initial c + r.produced c (times (take i w) (r.source c))
@@ -87,9 +88,9 @@ module _ (last : LastCountsMore) (others : OthersCountSame) (r : Rates) (w : Lis
       rises : (get_or w i 0 ≡ r.source c) ⊎ (get_or w i 0 ≡ r.source c → ⊥) →
           r.produced c (times (take i w) (r.source c)) ≤ r.produced c (times (take (i + 1) w) (r.source c))
       rises (inl e) = sound.produced_rises c (times (take i w) (r.source c)) (times (take (i + 1) w) (r.source c))
-          (omega (arith, last w i (r.source c) h e))
+          (omega (arith, last_counts_more w i (r.source c) h e))
       rises (inr ne) = sound.produced_rises c (times (take i w) (r.source c)) (times (take (i + 1) w) (r.source c))
-          (omega (arith, others w i (r.source c) h ne))
+          (omega (arith, others_count_same w i (r.source c) h ne))
 
       go : r.consumed c (times (take i w) (r.target c)) ≤ r.initial c + r.produced c (times (take i w) (r.source c)) →
           (get_or w i 0 ≡ r.target c) ⊎ (get_or w i 0 ≡ r.target c → ⊥) →
@@ -100,21 +101,22 @@ module _ (last : LastCountsMore) (others : OthersCountSame) (r : Rates) (w : Lis
           let ready : r.consumed c (times (take i w) (r.target c) + 1) ≤
           r.initial c + r.produced c (times (take i w) (r.source c)) = (adm i h).1 c l (sym e) in
           let is : r.consumed c (times (take (i + 1) w) (r.target c)) ≡
-          r.consumed c (times (take i w) (r.target c) + 1) = ap (r.consumed c) (last w i (r.target c) h e) in
+          r.consumed c (times (take i w) (r.target c) + 1) =
+          ap (r.consumed c) (last_counts_more w i (r.target c) h e) in
           omega arith
       go before (inr ne) rise =
           let is : r.consumed c (times (take (i + 1) w) (r.target c)) ≡ r.consumed c (times (take i w) (r.target c)) =
-          ap (r.consumed c) (others w i (r.target c) h ne) in
+          ap (r.consumed c) (others_count_same w i (r.target c) h ne) in
           omega arith
 
-pub enough_all : LastCountsMore → OthersCountSame → (r : Rates) (k cap : ℕ → ℕ) (w : List ℕ) → IsSound r →
+pub enough_all : (r : Rates) (k cap : ℕ → ℕ) (w : List ℕ) → IsSound r →
     IsSequence r k cap w → (c : ℕ) → c < r.channels →
     r.consumed c (k (r.target c)) ≤ r.initial c + r.produced c (k (r.source c))
-enough_all last others r k cap w sound is c l =
+enough_all r k cap w sound is c l =
     let whole : take (length w) w ≡ w = take_all (length w) w (omega arith) in
     let end : r.consumed c (times w (r.target c)) ≤ r.initial c + r.produced c (times w (r.source c)) =
     subst (λ v. r.consumed c (times v (r.target c)) ≤ r.initial c + r.produced c (times v (r.source c))) whole
-    (enough_to last others r w sound is.admissible c l (length w) (omega arith)) in
+    (enough_to r w sound is.admissible c l (length w) (omega arith)) in
     let put : r.produced c (times w (r.source c)) ≡ r.produced c (k (r.source c)) =
     ap (r.produced c) (is.counts (r.source c) (sound.source_in c l)) in
     let taken : r.consumed c (times w (r.target c)) ≡ r.consumed c (k (r.target c)) =

@@ -6,7 +6,6 @@ use Rattle.std.proofs.lemmas.List.FromFn.{get_or-map-range_with_len, length-map-
 use Rattle.sdf_graph.specs.Rates.{sum_to}
 use Rattle.sdf_actor.specs.Steps.{Steps, phase}
 use Rattle.sdf_actor.specs.Histories.{Wiring, IsWired, spread}
-use Rattle.sdf_actor.specs.Laws.{PortsHaveChannels}
 use Rattle.sdf_actor.specs.Nets.{Netlist, wire, node, wiring, inputs_of, outputs_of, cycle_of, consumed_at, produced_at}
 use Rattle.sdf_actor.specs.Nets.{to_port, from_port, IsNet}
 use Rattle.sdf_actor.specs.declared.node.Node.{Node}
@@ -14,6 +13,7 @@ use Rattle.sdf_actor.specs.declared.node.Node.TheVariants.{Source, Sink, Inner}
 use Rattle.sdf_actor.specs.declared.sides.Side.{Side}
 use Rattle.sdf_actor.specs.declared.sides.Side.TheVariants.{Input, Output}
 use Rattle.sdf_actor.specs.Sides.{ports_of}
+use Rattle.sdf_actor.proofs.Theorems.{ports_have_channels}
 use Rattle.sdf_node.specs.Nodes.{takes_of, puts_of}
 use Rattle.sdf_rings.specs.Blocks.{start_at, block_of}
 use Rattle.sdf_answer.specs.Sizes.{sizes, at_phase, AreRows}
@@ -62,7 +62,7 @@ module _ {A S T : Type 0} (s : Steps A S T) where
 abbrev pub size_at : {A : Type 0} → Wiring A → ℕ → ℕ → ℕ
 size_at f k c = f.rates.produced c (k + 1) - f.rates.produced c k
 
-module _ {A S T : Type 0} (s : Steps A S T) (ports : PortsHaveChannels s) (n : Netlist A T) (good : IsNet s n)
+module _ {A S T : Type 0} (s : Steps A S T) (n : Netlist A T) (good : IsNet s n)
     (wired : IsWired (wiring s n)) (a : ℕ) (known : a < length n.nodes) where
   pub ins_long : length ((wiring s n).ins a) ≡ inputs_of s (node n a)
   ins_long = length-map-range_with_len (to_port n a) 0 (inputs_of s (node n a))
@@ -85,13 +85,13 @@ module _ {A S T : Type 0} (s : Steps A S T) (ports : PortsHaveChannels s) (n : N
   pub consumed_in : (p k : ℕ) → p < inputs_of s (node n a) →
       (wiring s n).rates.consumed (get_or ((wiring s n).ins a) p 0) k ≡ consumed_at s (node n a) p k
   consumed_in p k h =
-      let is = (ports n a p good known).0 h in
+      let is = (ports_have_channels s n a p good known).0 h in
       ap (λ c. (wiring s n).rates.consumed c k) (at_in p h) ∙ (λ j. consumed_at s (node n (is.0 j)) (is.1 j) k)
 
   pub produced_out : (p k : ℕ) → p < outputs_of s (node n a) →
       (wiring s n).rates.produced (get_or ((wiring s n).outs a) p 0) k ≡ produced_at s (node n a) p k
   produced_out p k h =
-      let is = (ports n a p good known).1 h in
+      let is = (ports_have_channels s n a p good known).1 h in
       ap (λ c. (wiring s n).rates.produced c k) (at_out p h) ∙ (λ j. produced_at s (node n (is.0 j)) (is.1 j) k)
 
   pub consumed_is : (c k : ℕ) → (wiring s n).rates.target c ≡ a →

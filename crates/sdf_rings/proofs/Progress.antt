@@ -4,7 +4,7 @@ use Rattle.std.proofs.Common.{◌∙◌, subst, inl, inr, ◌⊎◌, arith, add-
 use Rattle.std.proofs.lemmas.List.{take_all}
 use Rattle.std.proofs.lemmas.Bool.{cases_lt, cases_eq}
 use Rattle.sdf_graph.specs.Sequences.{times, IsReady, IsAdmissible}
-use Rattle.sdf_graph.specs.Laws.{LastCountsMore, OthersCountSame}
+use Rattle.sdf_graph.proofs.Theorems.{last_counts_more, others_count_same}
 use Rattle.sdf_actor.specs.Histories.{Wiring, IsWired}
 use Rattle.sdf_rings.specs.Machine.{Machine, Event, Take, Put, HasTaken, HasReceived, HasPut, HasKept, CanTake, CanPut}
 use Rattle.sdf_rings.specs.Machine.{IsAllowed}
@@ -55,7 +55,7 @@ apart : {P : Type 0} → P ⊎ (P → ⊥) → (P → ⊥) ⊎ ((P → ⊥) → 
 apart (inl p) = inr (λ not. not p)
 apart (inr fails) = inl fails
 
-module _ {A : Type 0} (last : LastCountsMore) (others : OthersCountSame) (f : Wiring A) (wired : IsWired f)
+module _ {A : Type 0} (f : Wiring A) (wired : IsWired f)
     (k cap : ℕ → ℕ) (w : List ℕ) (adm : IsAdmissible f.rates w)
     (k_enough : (c : ℕ) → c < f.rates.channels → f.rates.consumed c (k (f.rates.target c)) ≤
     f.rates.initial c + f.rates.produced c (k (f.rates.source c)))
@@ -92,7 +92,7 @@ module _ {A : Type 0} (last : LastCountsMore) (others : OthersCountSame) (f : Wi
       where
         go : (a ≡ d) ⊎ (a ≡ d → ⊥) → min (times (take (n + 1) w) d) (k d) ≤ x
         go (inl e) =
-            let next : times (take (n + 1) w) d ≡ times (take n w) d + 1 = last w n d h (letter ∙ e) in
+            let next : times (take (n + 1) w) d ≡ times (take n w) d + 1 = last_counts_more w n d h (letter ∙ e) in
             let count : times (take n w) d ≡ i = ap (times (take n w)) (sym e) ∙ number in
             let same : k a ≡ k d = ap k e in
             sub (at e) next count same
@@ -101,7 +101,7 @@ module _ {A : Type 0} (last : LastCountsMore) (others : OthersCountSame) (f : Wi
                 k a ≡ k d → min (times (take (n + 1) w) d) (k d) ≤ x
             sub (inl more) next count same = omega arith
             sub (inr full) next count same = omega arith
-        go (inr ne) = rw (others w n d h (λ e. ne (sym letter ∙ e))) was
+        go (inr ne) = rw (others_count_same w n d h (λ e. ne (sym letter ∙ e))) was
 
     -- the channels of the actor have had the firings before this one
     had_in : i < k a → HasTaken f s a i
@@ -177,7 +177,8 @@ module _ {A : Type 0} (last : LastCountsMore) (others : OthersCountSame) (f : Wi
         o = still (f.rates.target c) (s.took c) (before c l).0 (λ t. inl (taken c l (sym t)))
 
         next : times (take (n + 1) w) (f.rates.source c) ≡ i + 1
-        next = last w n (f.rates.source c) h (letter ∙ sym e) ∙ ap (λ j. j + 1) (ap (times (take n w)) e ∙ number)
+        next = last_counts_more w n (f.rates.source c) h (letter ∙ sym e)
+            ∙ ap (λ j. j + 1) (ap (times (take n w)) e ∙ number)
 
         go : s.gave c ≡ i → k (f.rates.source c) ≡ k a →
             (times (take (n + 1) w) (f.rates.target c) < k (f.rates.target c))

@@ -3,16 +3,15 @@ use Rattle.std.proofs.Common.{◌≡◌, ℕ, ◌+◌, ◌-◌, ◌≤◌, ◌<�
 use Rattle.std.proofs.Common.{◌⊎◌, arith}
 use Rattle.std.proofs.lemmas.List.{take_all, take-take}
 use Rattle.std.proofs.lemmas.Bool.{cases_lt}
-use Rattle.sdf_graph.specs.Laws.{AlikeSequences, LastCountsMore, OthersCountSame}
-use Rattle.sdf_prec.specs.Laws.{TablesRepeat}
 use Rattle.sdf_actor.specs.Steps.{Steps}
 use Rattle.sdf_actor.specs.Histories.{Wiring, Answers, taken, put, taken_before, IsWired}
 use Rattle.sdf_actor.specs.Nets.{Netlist, node, wiring, answers, IsNet, IsHistoryOf}
+use Rattle.sdf_actor.proofs.Theorems.{nets_are_wired, put_stays, taken_stays}
 use Rattle.sdf_rings.specs.Machine.{Machine, Event, Take, Put, at_start, happens, IsAllowed, IsRun, after}
 use Rattle.sdf_rings.specs.MachineLaws.{blocks_left, Idle, resting, firings, capacity, IsQuiescent, IsStateOf, HasGrown}
 use Rattle.sdf_rings.specs.MachineLaws.{IsWithin, IsMachinePlan, MachinePlan, IsLike, QuiescentReached}
 use Rattle.sdf_rings.specs.MachineLaws.{QuiescentIsReached}
-use Rattle.sdf_rings.proofs.Kept.{NetLaws, Keeps, keeps_start, keeps_run, last_agrees}
+use Rattle.sdf_rings.proofs.Kept.{Keeps, keeps_start, keeps_run, last_agrees}
 use Rattle.sdf_rings.proofs.Plans.{sequence_of, plan_sequence, room_first}
 use Rattle.sdf_rings.proofs.Progress.{goes_on}
 use Rattle.sdf_rings.proofs.Reaches.{runs_to_end}
@@ -48,14 +47,14 @@ run_more f ok x k m cap more s (e ∷ es) run = (
   run_more f ok x k m cap more (happens f x s e) es run.1,
 )
 
-module _ {A S T : Type 0} (s : Steps A S T) (laws : NetLaws s) (n : Netlist A T) (good : IsNet s n)
+module _ {A S T : Type 0} (s : Steps A S T) (n : Netlist A T) (good : IsNet s n)
     (inputs : List (List T)) (cap : ℕ → ℕ) (x y : Idle S T)
     (rest : IsQuiescent s n inputs cap x) (grown : HasGrown s n inputs x y) where
   abbrev f : Wiring T
   f = wiring s n
 
   ok : IsWired (wiring s n)
-  ok = laws.wired n good
+  ok = nets_are_wired s n good
 
   -- what node a took before stays
   taken_within : (a : ℕ) → a < length n.nodes → (c : ℕ) → c < length n.wires → f.rates.target c ≡ a →
@@ -64,7 +63,7 @@ module _ {A S T : Type 0} (s : Steps A S T) (laws : NetLaws s) (n : Netlist A T)
       (omega (arith, rest.history.enough c h, rest.history.lengths c h))
 
   past_stays : (a i : ℕ) → a < length n.nodes → i ≤ x.done a → taken_before f x.lists a i ≡ taken_before f y.lists a i
-  past_stays a i l h = laws.taken n x.lists y.lists a i good l
+  past_stays a i l h = taken_stays s n x.lists y.lists a i good l
       (λ c k e. let rise : f.rates.consumed c i ≤ f.rates.consumed c (x.done a) =
       ok.sound.consumed_rises c i (x.done a) h in omega (arith, taken_within a l c k e)) grown.kept
 
@@ -76,7 +75,7 @@ module _ {A S T : Type 0} (s : Steps A S T) (laws : NetLaws s) (n : Netlist A T)
       let next : taken_before f x.lists a (i + 1) ≡ taken_before f y.lists a (i + 1) =
       past_stays a (i + 1) l (omega arith) in
       let now : taken f x.lists a i ≡ taken f y.lists a i = last_agrees f x.lists y.lists a i past next in
-      let puts : put f x.lists a i ≡ put f y.lists a i = laws.puts n x.lists y.lists a i good l
+      let puts : put f x.lists a i ≡ put f y.lists a i = put_stays s n x.lists y.lists a i good l
       (λ c k e.
       let in_done : i + 1 ≤ x.done (f.rates.source c) =
       subst (λ b. i + 1 ≤ x.done b) (sym e) (let g : i + 1 ≤ x.done a = omega arith in g) in
@@ -141,8 +140,7 @@ module _ {A S T : Type 0} (s : Steps A S T) (laws : NetLaws s) (n : Netlist A T)
     lists = begins_longer;
   }
 
-module _ (last : LastCountsMore) (others : OthersCountSame) (alike : AlikeSequences) (repeats : TablesRepeat)
-    {A S T : Type 0} (s : Steps A S T) (laws : NetLaws s) where
+module _ {A S T : Type 0} (s : Steps A S T) where
   module _ (n : Netlist A T) (inputs : List (List T)) (p : MachinePlan) (b : ℕ)
       (plan : IsMachinePlan s n p) (y : Idle S T)
       (quiet : IsQuiescent s n inputs (capacity p) y)
@@ -153,20 +151,20 @@ module _ (last : LastCountsMore) (others : OthersCountSame) (alike : AlikeSequen
         × IsLike n (after (wiring s n) (answers s n inputs) start es) (resting s n y)
     leads start keeps =
         let f = wiring s n in
-        let ok = laws.wired n plan.net in
+        let ok = nets_are_wired s n plan.net in
         let cap : ℕ → ℕ = capacity p in
         let later = quiet.history in
-        let seq = plan_sequence alike repeats s n p b plan in
+        let seq = plan_sequence s n p b plan in
         let cap_y : (c : ℕ) → c < f.rates.channels →
         f.rates.initial c + f.rates.produced c (y.done (f.rates.source c)) ≤
         cap c + f.rates.consumed c (y.done (f.rates.target c)) =
         (λ c l. omega (arith, quiet.within c l, later.lengths c l)) in
-        let goes = (λ (m : Machine T). goes_on last others f ok y.done cap (sequence_of p b) seq.admissible later.enough
+        let goes = (λ (m : Machine T). goes_on f ok y.done cap (sequence_of p b) seq.admissible later.enough
         cap_y seq.room m (λ a l. omega (arith, short a l, seq.counts a l))) in
         let run = runs_to_end f (answers s n inputs) y.done cap goes (blocks_left f y.done start f.rates.channels) start
         (omega arith) in
         let end : Machine T = after f (answers s n inputs) start run.0 in
-        let kept : Keeps f y.done cap y.lists end = keeps_run s laws n plan.net inputs y.done cap y.lists later start
+        let kept : Keeps f y.done cap y.lists end = keeps_run s n plan.net inputs y.done cap y.lists later start
         run.0 keeps run.1 in
         let gave : (c : ℕ) → c < f.rates.channels → end.gave c ≡ y.done (f.rates.source c) =
         (λ c l. omega (arith, kept.counts.gave_in c l, (run.2 c l).1)) in (
@@ -184,15 +182,15 @@ module _ (last : LastCountsMore) (others : OthersCountSame) (alike : AlikeSequen
 
   pub quiescent_reached : QuiescentReached s
   quiescent_reached n inputs p b x y plan rest grown short within =
-      let quiet = quiescent_later s laws n plan.net inputs (capacity p) x y rest grown within in (
+      let quiet = quiescent_later s n plan.net inputs (capacity p) x y rest grown within in (
         quiet,
         leads n inputs p b plan y quiet short (resting s n x)
-            (keeps_resting s laws n plan.net inputs (capacity p) x y rest grown),
+            (keeps_resting s n plan.net inputs (capacity p) x y rest grown),
       )
 
   pub quiescent_is_reached : QuiescentIsReached s
   quiescent_is_reached n inputs p b x plan quiet short =
       leads n inputs p b plan x quiet short (at_start (wiring s n))
-      (keeps_start s laws n plan.net inputs x.done (capacity p) x.lists quiet.history
-      (room_first (wiring s n).rates (firings p b) (capacity p) (sequence_of p b) (laws.wired n plan.net).sound
-      (plan_sequence alike repeats s n p b plan)))
+      (keeps_start s n plan.net inputs x.done (capacity p) x.lists quiet.history
+      (room_first (wiring s n).rates (firings p b) (capacity p) (sequence_of p b) (nets_are_wired s n plan.net).sound
+      (plan_sequence s n p b plan)))

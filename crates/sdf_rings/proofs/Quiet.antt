@@ -9,7 +9,7 @@ use Rattle.rtrb.specs.Ring.{known_items, producer_capacity}
 use Rattle.rtrb.specs.declared.producer.Producer.{Producer}
 use Rattle.rtrb.specs.declared.consumer.Consumer.{Consumer}
 use Rattle.rtrb.specs.declared.AnyItems.{AnyItems}
-use Rattle.sdf_graph.specs.Sequences.{times}
+use Rattle.sdf_graph.specs.Sequences.{times, repeated}
 use Rattle.sdf_actor.specs.declared.node.Node.{Node}
 use Rattle.sdf_actor.specs.declared.node.Node.TheVariants as kind
 use Rattle.sdf_actor.specs.Histories.{taken_before}
@@ -22,13 +22,15 @@ use Rattle.sdf_rings.specs.declared.seat.Seat.{Seat}
 use Rattle.sdf_rings.specs.Asks.{IsPlanned}
 use Rattle.sdf_rings.specs.Ends.{IsMet}
 use Rattle.sdf_rings.specs.MachineLaws.{Idle, resting, state_on, taken_on, IsStateOf, IsWithin, IsQuiescent, HasGrown}
-use Rattle.sdf_rings.specs.Quiescence.{IsMadeOf}
+use Rattle.sdf_rings.specs.MachineLaws.{capacity}
+use Rattle.sdf_rings.specs.Quiescence.{IsMadeOf, AreQuiescent}
 use Rattle.sdf_rings.specs.Rests.{stand_of, state_in, producer_of, consumer_of, AreRings, HaveMet, StandAtRest}
 use Rattle.sdf_rings.specs.Rests.{AreAtRest}
 use Rattle.sdf_rings.proofs.Dealt.{bit, times_cons}
-use Rattle.sdf_rings.proofs.Kept.{NetLaws}
-use Rattle.sdf_rings.proofs.Quiescent.{quiescent_later}
+use Rattle.sdf_rings.proofs.Plans.{plan_sequence}
+use Rattle.sdf_rings.proofs.Quiescent.{quiescent_later, quiescent_is_reached}
 use Rattle.sdf_rings.proofs.Reading.{state_is, a_seat, a_stand, taker, putter, rest_at}
+use Rattle.sdf_rings.proofs.Rests.{are_at_rest}
 
 -- a front of a sequence has as many firings of an actor as one likes, up to all
 front_times : (a : ℕ) (w : List ℕ) (m : ℕ) → m ≤ times w a → (i : ℕ) × (i ≤ length w) × (times (take i w) a ≡ m)
@@ -74,7 +76,7 @@ state_made s inputs many (kind.Sink ext size) past w state at is = tt
 state_made s inputs many (kind.Inner z) past w state at is =
     same_Some state (state_after s z past) (sym (is z refl) ∙ state_is s inputs many z past w at)
 
-module _ {A S T : Type 0} (s : Steps A S T) (laws : NetLaws s) (n : Netlist A T) (inputs : List (List T))
+module _ {A S T : Type 0} (s : Steps A S T) (n : Netlist A T) (inputs : List (List T))
     (seats : List (Seat A T S)) (places : List (ℕ × ℕ))
     (r : AreRings s (record { net = n; inputs = inputs; seats = seats; places = places }))
     (met : HaveMet n seats places) (at_rest : AreAtRest s n inputs seats places)
@@ -179,4 +181,19 @@ module _ {A S T : Type 0} (s : Steps A S T) (laws : NetLaws s) (n : Netlist A T)
   }
 
   pub quiet : IsQuiescent s n inputs cap x
-  quiet = quiescent_later s laws n r.is_net inputs cap past x past_quiet grown within
+  quiet = quiescent_later s n r.is_net inputs cap past x past_quiet grown within
+
+-- where all ends have met, the machine's state that is made of the stands is quiescent, and a run leads to it
+pub are_quiescent : {A S T : Type 0} (s : Steps A S T) (n : Netlist A T) (inputs : List (List T))
+    (seats : List (Seat A T S)) (places : List (ℕ × ℕ)) →
+    AreRings s (record { net = n; inputs = inputs; seats = seats; places = places }) → HaveMet n seats places →
+    (q : List ℕ) → IsAccepted s n q →
+    AreQuiescent s (record { net = n; inputs = inputs; seats = seats; places = places })
+are_quiescent s n inputs seats places rings met q accepted p b x plan planned made =
+    let rest = are_at_rest s n inputs seats places rings met in
+    let order = repeated b p.table.order in
+    let cap = capacity p in
+    let is = quiet s n inputs seats places rings met rest q accepted order cap planned x made in
+    let few = done_few s n inputs seats places rings met rest q accepted order cap planned x made in
+    let seq = plan_sequence s n p b plan in
+    (is, quiescent_is_reached s n inputs p b x plan is (λ a l. omega (arith, few a l, seq.counts a l)))

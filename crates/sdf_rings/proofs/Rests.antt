@@ -11,14 +11,15 @@ use Rattle.rtrb.specs.declared.AnyItems.{AnyItems}
 use Rattle.sdf_actor.specs.Steps.{Steps}
 use Rattle.sdf_actor.specs.Histories.{taken_before}
 use Rattle.sdf_actor.specs.Nets.{Netlist, wire, node, wiring, answers, IsNet}
-use Rattle.sdf_actor.specs.Laws.{PortsHaveChannels, TakenStays}
-use Rattle.sdf_actor.specs.Locals.{IsLocal, LocalsMeet}
+use Rattle.sdf_actor.specs.Locals.{IsLocal}
+use Rattle.sdf_actor.proofs.Theorems.{locals_meet, taken_stays}
 use Rattle.sdf_node.specs.Nodes.{IsAt}
 use Rattle.sdf_rings.specs.declared.stand.Stand.{Stand}
 use Rattle.sdf_rings.specs.declared.seat.Seat.{Seat}
 use Rattle.sdf_rings.specs.Stands.{IsStand}
 use Rattle.sdf_rings.specs.Seats.{IsSeat}
-use Rattle.sdf_rings.specs.Rests.{stand_of, producer_of, consumer_of, IsPlaced, HaveMet, StandAtRest}
+use Rattle.sdf_rings.specs.Rests.{stand_of, producer_of, consumer_of, IsPlaced, HaveMet, StandAtRest, AreRings}
+use Rattle.sdf_rings.specs.Rests.{AreAtRest}
 use Rattle.sdf_rings.proofs.Looking.{vec_in}
 use Rattle.sdf_rings.proofs.Known.{as_local, sent_at, received_at}
 
@@ -28,7 +29,7 @@ begins : {X : Type 0} (t : Bool) (m : ℕ) (xs ys : List X) → (t ≡ true → 
 begins true m xs ys h = let is = h refl in is.1 ∙ ap (λ i. take i ys) (sym (length-take-le m xs is.0))
 begins false m xs ys h = refl
 
-module _ {A S T : Type 0} (s : Steps A S T) (ports : PortsHaveChannels s) (stays : TakenStays s) (meet : LocalsMeet s)
+module _ {A S T : Type 0} (s : Steps A S T)
     (n : Netlist A T) (good : IsNet s n) where
   module _ (inputs : List (List T)) (seats : List (Seat A T S)) (places : List (ℕ × ℕ))
       (ok : (i : ℕ) (e : Seat A T S) → i < length seats → IsSeat s n inputs (get_or seats i e))
@@ -51,13 +52,13 @@ module _ {A S T : Type 0} (s : Steps A S T) (ports : PortsHaveChannels s) (stays
     own_local : (a : ℕ) → a < length n.nodes → (t : (a < length n.nodes) ⊎ (length n.nodes ≤ a)) →
         IsLocal (wiring s n) (answers s n inputs) a (done a) (pick a t)
     own_local a l (inl h) = subst (λ i. IsLocal (wiring s n) (answers s n inputs) a i (stand a h).own) (counts a l)
-        (as_local s ports n good inputs (stand_of n seats places e0 d0 a) (stand a h) a (placed.is a e0 d0 h))
+        (as_local s n good inputs (stand_of n seats places e0 d0 a) (stand a h) a (placed.is a e0 d0 h))
     own_local a l (inr h) = absurd (omega arith)
 
     own_sent : (a : ℕ) → a < length n.nodes → (t : (a < length n.nodes) ⊎ (length n.nodes ≤ a)) →
         (c : ℕ) (y : Producer T Global AnyItems) → c < length n.wires → (wire n c).from.0 ≡ a →
         sent (get_or (stand_of n seats places e0 d0 a).outs.items (wire n c).from.1 y) ≡ pick a t c
-    own_sent a l (inl h) c y m e = sent_at s ports n good inputs (stand_of n seats places e0 d0 a) (stand a h) a
+    own_sent a l (inl h) c y m e = sent_at s n good inputs (stand_of n seats places e0 d0 a) (stand a h) a
         (placed.is a e0 d0 h) c y m e
     own_sent a l (inr h) c y m e = absurd (omega arith)
 
@@ -65,7 +66,7 @@ module _ {A S T : Type 0} (s : Steps A S T) (ports : PortsHaveChannels s) (stays
         (c : ℕ) (x : Consumer T Global AnyItems) → c < length n.wires → (wire n c).to.0 ≡ a →
         received (get_or (stand_of n seats places e0 d0 a).ins.items (wire n c).to.1 x) ≡
         take ((wiring s n).rates.consumed c (done a)) (pick a t c)
-    own_received a l (inl h) c x m e = received_at s ports n good inputs (stand_of n seats places e0 d0 a) (stand a h) a
+    own_received a l (inl h) c x m e = received_at s n good inputs (stand_of n seats places e0 d0 a) (stand a h) a
         (placed.is a e0 d0 h) c x m e ∙ ap (λ i. take ((wiring s n).rates.consumed c i)
         ((stand a h).own c)) (counts a l)
     own_received a l (inr h) c x m e = absurd (omega arith)
@@ -95,8 +96,7 @@ module _ {A S T : Type 0} (s : Steps A S T) (ports : PortsHaveChannels s) (stays
           take ((wiring s n).rates.consumed c (done (wire n c).to.0)) (own (wire n c).to.0 c)
       got_is x = own_received (wire n c).to.0 to_known (cases_lt (wire n c).to.0 (length n.nodes)) c x l refl
 
-      got_long : (x : Consumer T Global AnyItems) →
-          length (received (consumer_of n seats places e0 d0 x c)) ≡
+      got_long : (x : Consumer T Global AnyItems) → length (received (consumer_of n seats places e0 d0 x c)) ≡
           (wiring s n).rates.consumed c (done (wire n c).to.0)
       got_long x =
           ap length (got_is x) ∙
@@ -152,10 +152,10 @@ module _ {A S T : Type 0} (s : Steps A S T) (ports : PortsHaveChannels s) (stays
       same_taken : taken_before (wiring s n) (own a) a (done a) ≡
           taken_before (wiring s n) (λ c. own (wire n c).from.0 c) a (done a)
       same_taken =
-          sym (stays n front (own a) a (done a) good l front_long
+          sym (taken_stays s n front (own a) a (done a) good l front_long
           (λ c m. begins (eqb (wire n c).to.0 a) ((wiring s n).rates.consumed c (done a)) (own a c) (own a c)
           (λ t. (got c m (eqb-true (wire n c).to.0 a t), refl)))) ∙
-          stays n front (λ c. own (wire n c).from.0 c) a (done a) good l front_long
+          taken_stays s n front (λ c. own (wire n c).from.0 c) a (done a) good l front_long
           (λ c m. begins (eqb (wire n c).to.0 a) ((wiring s n).rates.consumed c (done a)) (own a c)
           (own (wire n c).from.0 c)
           (λ t. let e = eqb-true (wire n c).to.0 a t in (
@@ -177,7 +177,7 @@ module _ {A S T : Type 0} (s : Steps A S T) (ports : PortsHaveChannels s) (stays
     pub is_rest : StandAtRest s n inputs seats places done
     is_rest = record {
       history = λ c. own (wire n c).from.0 c;
-      is = meet n inputs done own good (λ a l. own_local a l (cases_lt a (length n.nodes))) enough meets;
+      is = locals_meet s n inputs done own good (λ a l. own_local a l (cases_lt a (length n.nodes))) enough meets;
       dones = λ a e d l. ap (λ (z : Stand A T S). z.done) (same_stand a e d l) ∙ counts a l;
       put = λ c e d y l. ap (λ (z : Stand A T S). sent (get_or z.outs.items (wire n c).from.1 y))
           (same_stand (wire n c).from.0 e d (from_known c l)) ∙ put_is c l y;
@@ -188,3 +188,11 @@ module _ {A S T : Type 0} (s : Steps A S T) (ports : PortsHaveChannels s) (stays
           (subst (λ past. IsAt s inputs (stand_of n seats places e0 d0 a).asked (node n a) past
           (stand_of n seats places e0 d0 a).state) (same_taken a l) (own_at a l (cases_lt a (length n.nodes))));
     }
+
+-- where all ends have met, each stand is at rest
+pub are_at_rest : {A S T : Type 0} (s : Steps A S T) (n : Netlist A T) (inputs : List (List T))
+    (seats : List (Seat A T S)) (places : List (ℕ × ℕ)) →
+    AreRings s (record { net = n; inputs = inputs; seats = seats; places = places }) →
+    HaveMet n seats places → AreAtRest s n inputs seats places
+are_at_rest s n inputs seats places rings met e d x y k counts =
+    is_rest s n rings.is_net inputs seats places rings.each rings.placed met e d x y k counts

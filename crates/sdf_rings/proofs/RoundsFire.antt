@@ -1,10 +1,7 @@
 -- A round of all seats does a firing, where all ends have met and firings of a plan are left.
 use Rattle.std.proofs.Common.{◌≡◌, ◌≤◌, List, length, ap, arith}
-use Rattle.sdf_prec.specs.Laws.{NextMayFire}
 use Rattle.sdf_actor.specs.Steps.{Steps}
 use Rattle.sdf_actor.specs.Nets.{Netlist}
-use Rattle.sdf_actor.specs.Laws.{NetsAreWired, PortsHaveChannels, TakenStays}
-use Rattle.sdf_actor.specs.Locals.{LocalsMeet}
 use Rattle.sdf_rings.specs.declared.seat.Seat.{Seat}
 use Rattle.sdf_rings.specs.Changes.{AllBecame}
 use Rattle.sdf_rings.specs.Laws.{SomeSeatGoesOn, RoundsFire}
@@ -15,23 +12,21 @@ use Rattle.sdf_rings.proofs.Rests.{is_rest}
 use Rattle.sdf_rings.proofs.Totals.{total_le, total_lt}
 
 module _ {A S T : Type 0} (s : Steps A S T) where
-  module _ (wired : NetsAreWired s) (ports : PortsHaveChannels s) (stays : TakenStays s) (meet : LocalsMeet s)
-      (may_fire : NextMayFire) where
-    pub some_seat_goes_on : SomeSeatGoesOn s
-    some_seat_goes_on r order cap left =
-        can_go_on s wired ports may_fire r.net r.inputs r.seats r.places left.rings left.met
-        (λ e d x y k counts. is_rest s ports stays meet r.net left.rings.is_net r.inputs r.seats r.places
-        left.rings.each left.rings.placed left.met e d x y k counts)
-        order cap left.planned left.some
+  pub some_seat_goes_on : SomeSeatGoesOn s
+  some_seat_goes_on r order cap left =
+      can_go_on s r.net r.inputs r.seats r.places left.rings left.met
+      (λ e d x y k counts. is_rest s r.net left.rings.is_net r.inputs r.seats r.places
+      left.rings.each left.rings.placed left.met e d x y k counts)
+      order cap left.planned left.some
 
-    pub rounds_fire : RoundsFire s
-    rounds_fire r order cap seats left len worked =
-        let first = some_seat_goes_on r order cap left in
-        total_lt r.seats seats first.which first.which_in len
-        (λ i e h. let w = (worked i e h).worked in let n = w.next_grows in let l = ap length w.left_kept in omega arith)
-        (λ e. let w = worked first.which e first.which_in in
-        let n = w.progress (first.which_left e) (first.which_can e) in let l = ap length w.worked.left_kept in
-        omega arith)
+  pub rounds_fire : RoundsFire s
+  rounds_fire r order cap seats left len worked =
+      let first = some_seat_goes_on r order cap left in
+      total_lt r.seats seats first.which first.which_in len
+      (λ i e h. let w = (worked i e h).worked in let n = w.next_grows in let l = ap length w.left_kept in omega arith)
+      (λ e. let w = worked first.which e first.which_in in
+      let n = w.progress (first.which_left e) (first.which_can e) in let l = ap length w.worked.left_kept in
+      omega arith)
 
   -- no more is left of seats that did nothing
   pub idle_leaves : (n : Netlist A T) (old new : List (Seat A T S)) → length new ≡ length old →

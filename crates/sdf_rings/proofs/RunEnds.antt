@@ -6,8 +6,8 @@ use Rattle.std.proofs.Math.Nat.{mul-suc, suc-mul}
 use Rattle.std.proofs.lemmas.List.{take_all, get_or_default}
 use Rattle.std.proofs.lemmas.List.Edits.{length-between}
 use Rattle.std.proofs.lemmas.Slice.{between_is, between_from_start}
-use Rattle.sdf_node.specs.Laws.{BlocksJoin}
 use Rattle.sdf_node.specs.Many.{nth_block, joined}
+use Rattle.sdf_node.proofs.Theorems.{blocks_join}
 use Rattle.sdf_rings.specs.Blocks.{start_at, block_of}
 use Rattle.sdf_rings.proofs.Blocks.{block_in, start_at_zero, start_at_next}
 
@@ -97,13 +97,13 @@ module _ {X T : Type 0} (R : X → X → List T → Type 0) (g : ℕ → ℕ) (s
       (block_long g k ports at size ys (omega arith) size_is inside)
 
 -- at a lone port they are the whole list
-pub lone_port : {T : Type 0} (g : ℕ → ℕ) (size many : ℕ) (xs : List T) → BlocksJoin T → size ≡ start_at g 1 →
+pub lone_port : {T : Type 0} (g : ℕ → ℕ) (size many : ℕ) (xs : List T) → size ≡ start_at g 1 →
     length xs ≡ size * many → joined (λ i. block_of g 0 (nth_block size xs i)) many ≡ xs
-lone_port g size many xs join size_is long =
+lone_port g size many xs size_is long =
     let z = start_at_zero g in
     let o : start_at g 1 ≡ start_at g 0 + g 0 = start_at_next g 0 in
     let end : start_at g 0 + g 0 ≡ size = omega arith in
-    let each = join size many xs long in
+    let each = blocks_join size many xs long in
     same_joined (λ i. block_of g 0 (nth_block size xs i)) (nth_block size xs) many (λ i l.
     (λ k. between (z k) (end k) (nth_block size xs i))
     ∙ (between_from_start (nth_block size xs i) size

@@ -20,10 +20,11 @@ use Rattle.sdf_actor.specs.Wires.{lists}
 use Rattle.sdf_actor.specs.declared.node.Node.{Node}
 use Rattle.sdf_actor.specs.declared.sides.Side.{Side}
 use Rattle.sdf_actor.specs.declared.sides.Side.TheVariants.{Input, Output}
-use Rattle.sdf_node.specs.Laws.{BlocksJoin, NodesKeepPhase, NodesCanStepMany}
+use Rattle.sdf_actor.proofs.Theorems.{nets_are_wired}
 use Rattle.sdf_node.specs.Many.{nth_block, listed, joined, AreFullBlocks, CanStepMany}
 use Rattle.sdf_node.specs.Nodes.{phase_at, takes_of, puts_of, IsAt}
 use Rattle.sdf_node.specs.declared.node.NodeState.{NodeState}
+use Rattle.sdf_node.proofs.Theorems.{blocks_join, nodes_can_step_many}
 use Rattle.sdf_answer.specs.Sizes.{sizes, phase_of, at_phase, AreRows}
 use Rattle.sdf_rings.specs.declared.run_ends.RunBlocks.{RunBlocks}
 use Rattle.sdf_rings.specs.declared.stand.Stand.{Stand}
@@ -34,7 +35,6 @@ use Rattle.sdf_rings.specs.Stands.{IsStand, HasMoved}
 use Rattle.sdf_rings.specs.Together.{GoesInRuns, CanRun}
 use Rattle.sdf_rings.proofs.Blocks.{block_in}
 use Rattle.sdf_rings.proofs.Spreads.{start_at_same, start_at_all}
-use Rattle.sdf_rings.specs.FiringLaws.{FiringLaws}
 use Rattle.sdf_rings.proofs.Knowing.{length_taken_before}
 use Rattle.sdf_rings.proofs.Onward.{stand_after, HasGoneOn, gone_on}
 use Rattle.sdf_rings.proofs.RunEnds.{same_joined, few_kept}
@@ -43,11 +43,11 @@ use Rattle.sdf_rings.proofs.PortBlocks.{sizes_taken, sizes_put, ins_long, consum
 use Rattle.sdf_rings.proofs.Running.{IsManyMore, many_more}
 
 -- the blocks of a port out of those of many firings have its size
-part_long : {T : Type 0} (g : ℕ → ℕ) (p ports size many : ℕ) (xs : List T) → BlocksJoin T → p < ports →
+part_long : {T : Type 0} (g : ℕ → ℕ) (p ports size many : ℕ) (xs : List T) → p < ports →
     size ≡ start_at g ports → length xs ≡ size * many → (i : ℕ) → i < many →
     length (block_of g p (nth_block size xs i)) ≡ g p
-part_long g p ports size many xs join l size_is long i h =
-    let each = (join size many xs long).0 i h in
+part_long g p ports size many xs l size_is long i h =
+    let each = (blocks_join size many xs long).0 i h in
     let inside = block_in g p ports l in
     length-between (nth_block size xs i) (start_at g p) (start_at g p + g p) (omega arith) ∙ omega arith
 
@@ -72,11 +72,11 @@ module _ {A S T : Type 0} (s : Steps A S T) (n : Netlist A T) (inputs : List (Li
       ∙ ((λ i. get_or (at_phase rows (one i k)) p 0)
       ∙ ((λ i. get_or (at_phase rows (sym one i x.done)) p 0) ∙ are.each x.done p l))
 
-module _ {A S T : Type 0} (s : Steps A S T) (laws : FiringLaws s) (join : BlocksJoin T) (n : Netlist A T)
+module _ {A S T : Type 0} (s : Steps A S T) (n : Netlist A T)
     (good : IsNet s n) (inputs : List (List T)) (x : Stand A T S) (st : IsStand s n inputs x)
     (many : ℕ) (can : CanRun s n x many) where
   wired : IsWired (wiring s n)
-  wired = laws.wired n good
+  wired = nets_are_wired s n good
 
   one : phase_of s (node n x.actor) ≡ λ i. 0
   one = λ k i. (ap (λ c. i % c) can.goes.one_phase ∙ mod-one i) k
@@ -101,14 +101,14 @@ module _ {A S T : Type 0} (s : Steps A S T) (laws : FiringLaws s) (join : Blocks
       let ins : List ℕ = (wiring s n).ins x.actor in
       let part : ℕ → List T = λ c. between ((wiring s n).rates.consumed c i)
       ((wiring s n).rates.consumed c (i + 1)) (st.own c) in
-      let all = ins_long s laws.ports n good wired x.actor st.known in
+      let all = ins_long s n good wired x.actor st.known in
       length-flat_map part ins ∙ (sym (start_at_all (λ c. length (part c)) ins) ∙
       (start_at_same (λ p. length (part (get_or ins p 0))) g (length ins) (λ p m.
       let c : ℕ = get_or ins p 0 in
       let q : p < inputs_of s (node n x.actor) = omega (arith, all) in
       let is = wired.ins_are x.actor p st.known m in
-      let before = consumed_in s laws.ports n good wired x.actor st.known p i q in
-      let after = consumed_in s laws.ports n good wired x.actor st.known p (i + 1) q in
+      let before = consumed_in s n good wired x.actor st.known p i q in
+      let after = consumed_in s n good wired x.actor st.known p (i + 1) q in
       let within : (wiring s n).rates.consumed c (i + 1) ≤ (wiring s n).rates.consumed c x.done =
       wired.sound.consumed_rises c (i + 1) x.done (omega arith) in
       let got = st.local.got c is.0 is.1 in
@@ -147,8 +147,8 @@ module _ {A S T : Type 0} (s : Steps A S T) (laws : FiringLaws s) (join : Blocks
   rise_in p l k =
       let c : ℕ = get_or ((wiring s n).ins x.actor) p 0 in
       let up = wired.sound.consumed_rises c k (k + 1) (omega arith) in
-      let before = consumed_in s laws.ports n good wired x.actor st.known p k l in
-      let after = consumed_in s laws.ports n good wired x.actor st.known p (k + 1) l in
+      let before = consumed_in s n good wired x.actor st.known p k l in
+      let after = consumed_in s n good wired x.actor st.known p (k + 1) l in
       let same = sizes_same s n inputs x st one Input _ st.takes k p l in
       omega (arith, up, before, after, same)
 
@@ -157,93 +157,92 @@ module _ {A S T : Type 0} (s : Steps A S T) (laws : FiringLaws s) (join : Blocks
   rise_out p l k =
       let c : ℕ = get_or ((wiring s n).outs x.actor) p 0 in
       let up = wired.sound.produced_rises c k (k + 1) (omega arith) in
-      let before = produced_out s laws.ports n good wired x.actor st.known p k l in
-      let after = produced_out s laws.ports n good wired x.actor st.known p (k + 1) l in
+      let before = produced_out s n good wired x.actor st.known p k l in
+      let after = produced_out s n good wired x.actor st.known p (k + 1) l in
       let same = sizes_same s n inputs x st one Output _ st.puts k p l in
       omega (arith, up, before, after, same)
 
   -- by the rows of its one phase
-  module _ (keep : NodesKeepPhase s) where
-    pub zero_phase : 0 ≡ phase_at x.state
-    zero_phase = sym (phase_is s keep n inputs x st ∙ (λ k. one k x.done))
+  pub zero_phase : 0 ≡ phase_at x.state
+  zero_phase = sym (phase_is s n inputs x st ∙ (λ k. one k x.done))
 
-    module _ (z : Node A) (z_is : z ≡ node n x.actor) (r : RunBlocks) where
-      pub in_ports : r.size ≡ takes_of s z 0 → r.sizes.now ≡ at_phase (lists x.takes.items) 0 → (ports : ℕ) →
-          ports ≡ inputs_of s (node n x.actor) → HasPorts r ports
-      in_ports size_is row_is ports all = record {
-        all = all
-            ∙ sym (row_all s keep n inputs x st Input (lists x.takes.items) st.takes 0 zero_phase r.sizes.now row_is);
-        size_is = size_is ∙ (ap (λ v. takes_of s v 0) z_is ∙ (in_all
-            ∙ (sym (row_sum s keep n inputs x st Input (lists x.takes.items) st.takes 0 zero_phase r.sizes.now row_is)
-            ∙ ap (start_at (λ p. get_or r.sizes.now p 0)) (sym all))));
-      }
+  module _ (z : Node A) (z_is : z ≡ node n x.actor) (r : RunBlocks) where
+    pub in_ports : r.size ≡ takes_of s z 0 → r.sizes.now ≡ at_phase (lists x.takes.items) 0 → (ports : ℕ) →
+        ports ≡ inputs_of s (node n x.actor) → HasPorts r ports
+    in_ports size_is row_is ports all = record {
+      all = all
+          ∙ sym (row_all s n inputs x st Input (lists x.takes.items) st.takes 0 zero_phase r.sizes.now row_is);
+      size_is = size_is ∙ (ap (λ v. takes_of s v 0) z_is ∙ (in_all
+          ∙ (sym (row_sum s n inputs x st Input (lists x.takes.items) st.takes 0 zero_phase r.sizes.now row_is)
+          ∙ ap (start_at (λ p. get_or r.sizes.now p 0)) (sym all))));
+    }
 
-      pub out_ports : r.size ≡ puts_of s z 0 → r.sizes.now ≡ at_phase (lists x.puts.items) 0 → (ports : ℕ) →
-          ports ≡ outputs_of s (node n x.actor) → HasPorts r ports
-      out_ports size_is row_is ports all = record {
-        all = all
-            ∙ sym (row_all s keep n inputs x st Output (lists x.puts.items) st.puts 0 zero_phase r.sizes.now row_is);
-        size_is = size_is ∙ (ap (λ v. puts_of s v 0) z_is ∙ (out_all
-            ∙ (sym (row_sum s keep n inputs x st Output (lists x.puts.items) st.puts 0 zero_phase r.sizes.now row_is)
-            ∙ ap (start_at (λ p. get_or r.sizes.now p 0)) (sym all))));
-      }
+    pub out_ports : r.size ≡ puts_of s z 0 → r.sizes.now ≡ at_phase (lists x.puts.items) 0 → (ports : ℕ) →
+        ports ≡ outputs_of s (node n x.actor) → HasPorts r ports
+    out_ports size_is row_is ports all = record {
+      all = all
+          ∙ sym (row_all s n inputs x st Output (lists x.puts.items) st.puts 0 zero_phase r.sizes.now row_is);
+      size_is = size_is ∙ (ap (λ v. puts_of s v 0) z_is ∙ (out_all
+          ∙ (sym (row_sum s n inputs x st Output (lists x.puts.items) st.puts 0 zero_phase r.sizes.now row_is)
+          ∙ ap (start_at (λ p. get_or r.sizes.now p 0)) (sym all))));
+    }
 
-    pub holds_run : (row : List ℕ) → row ≡ at_phase (lists x.takes.items) 0 →
-        (ends : List (Consumer T Global AnyItems)) → ends ≡ x.ins.items → HoldsEach (λ i. many * get_or row i 0) ends
-    holds_run row row_is ends ends_is = subst (HoldsEach (λ i. many * get_or row i 0)) (sym ends_is) (λ i d h.
-        let size = ap (λ v. many * v) (row_size s keep n inputs x st Input (lists x.takes.items) st.takes 0 zero_phase
-        row row_is i (omega (arith, st.ins_all))) in
-        let l = can.holds i d h in
-        omega (arith, size, l))
+  pub holds_run : (row : List ℕ) → row ≡ at_phase (lists x.takes.items) 0 →
+      (ends : List (Consumer T Global AnyItems)) → ends ≡ x.ins.items → HoldsEach (λ i. many * get_or row i 0) ends
+  holds_run row row_is ends ends_is = subst (HoldsEach (λ i. many * get_or row i 0)) (sym ends_is) (λ i d h.
+      let size = ap (λ v. many * v) (row_size s n inputs x st Input (lists x.takes.items) st.takes 0 zero_phase
+      row row_is i (omega (arith, st.ins_all))) in
+      let l = can.holds i d h in
+      omega (arith, size, l))
 
-    pub room_run : (row : List ℕ) → row ≡ at_phase (lists x.puts.items) 0 → (ends : List (Producer T Global AnyItems)) →
-        ends ≡ x.outs.items → HasRoomEach (λ i. many * get_or row i 0) ends
-    room_run row row_is ends ends_is = subst (HasRoomEach (λ i. many * get_or row i 0)) (sym ends_is) (λ i d h.
-        let size = ap (λ v. many * v) (row_size s keep n inputs x st Output (lists x.puts.items) st.puts 0 zero_phase
-        row row_is i (omega (arith, st.outs_all))) in
-        let l = can.has_room i d h in
-        omega (arith, size, l))
+  pub room_run : (row : List ℕ) → row ≡ at_phase (lists x.puts.items) 0 → (ends : List (Producer T Global AnyItems)) →
+      ends ≡ x.outs.items → HasRoomEach (λ i. many * get_or row i 0) ends
+  room_run row row_is ends ends_is = subst (HasRoomEach (λ i. many * get_or row i 0)) (sym ends_is) (λ i d h.
+      let size = ap (λ v. many * v) (row_size s n inputs x st Output (lists x.puts.items) st.puts 0 zero_phase
+      row row_is i (omega (arith, st.outs_all))) in
+      let l = can.has_room i d h in
+      omega (arith, size, l))
 
-    -- what moved by the rows is what the firings move
-    pub drew_run : (row : List ℕ) → row ≡ at_phase (lists x.takes.items) 0 → (size : ℕ) →
-        size ≡ takes_of s (node n x.actor) 0 → (ends after : List (Consumer T Global AnyItems)) → ends ≡ x.ins.items →
-        (t : List T) →
-        DrewEach ends after (λ p. joined (λ i. block_of (λ q. get_or row q 0) p (nth_block size t i)) many) →
-        DrewEach x.ins.items after (λ p. joined (λ i. block_of g p
-        (nth_block (takes_of s (node n x.actor) 0) t i)) many)
-    drew_run row row_is size size_is ends after ends_is t all = λ p d h.
-        subst (Drew (get_or x.ins.items p d) (get_or after p d))
-        (same_joined (λ i. block_of (λ q. get_or row q 0) p (nth_block size t i))
-        (λ i. block_of g p (nth_block (takes_of s (node n x.actor) 0) t i)) many (λ i l.
-        row_part s keep n inputs x st Input (lists x.takes.items) st.takes 0 zero_phase row row_is p
-        (nth_block size t i) (omega (arith, st.ins_all)) ∙ ap (λ m. block_of g p (nth_block m t i)) size_is))
-        (subst (λ es. DrewEach es after (λ r. joined (λ i. block_of (λ q. get_or row q 0) r (nth_block size t i)) many))
-        ends_is all p d h)
+  -- what moved by the rows is what the firings move
+  pub drew_run : (row : List ℕ) → row ≡ at_phase (lists x.takes.items) 0 → (size : ℕ) →
+      size ≡ takes_of s (node n x.actor) 0 → (ends after : List (Consumer T Global AnyItems)) → ends ≡ x.ins.items →
+      (t : List T) →
+      DrewEach ends after (λ p. joined (λ i. block_of (λ q. get_or row q 0) p (nth_block size t i)) many) →
+      DrewEach x.ins.items after (λ p. joined (λ i. block_of g p
+      (nth_block (takes_of s (node n x.actor) 0) t i)) many)
+  drew_run row row_is size size_is ends after ends_is t all = λ p d h.
+      subst (Drew (get_or x.ins.items p d) (get_or after p d))
+      (same_joined (λ i. block_of (λ q. get_or row q 0) p (nth_block size t i))
+      (λ i. block_of g p (nth_block (takes_of s (node n x.actor) 0) t i)) many (λ i l.
+      row_part s n inputs x st Input (lists x.takes.items) st.takes 0 zero_phase row row_is p
+      (nth_block size t i) (omega (arith, st.ins_all)) ∙ ap (λ m. block_of g p (nth_block m t i)) size_is))
+      (subst (λ es. DrewEach es after (λ r. joined (λ i. block_of (λ q. get_or row q 0) r (nth_block size t i)) many))
+      ends_is all p d h)
 
-    pub gave_run : (row : List ℕ) → row ≡ at_phase (lists x.puts.items) 0 → (size : ℕ) →
-        size ≡ puts_of s (node n x.actor) 0 → (ends after : List (Producer T Global AnyItems)) → ends ≡ x.outs.items →
-        (b : List T) →
-        GaveEach ends after (λ p. joined (λ i. block_of (λ q. get_or row q 0) p (nth_block size b i)) many) →
-        GaveEach x.outs.items after (λ p. joined (λ i. block_of h p
-        (nth_block (puts_of s (node n x.actor) 0) b i)) many)
-    gave_run row row_is size size_is ends after ends_is b all = λ p d l.
-        subst (Gave (get_or x.outs.items p d) (get_or after p d))
-        (same_joined (λ i. block_of (λ q. get_or row q 0) p (nth_block size b i))
-        (λ i. block_of h p (nth_block (puts_of s (node n x.actor) 0) b i)) many (λ i m.
-        row_part s keep n inputs x st Output (lists x.puts.items) st.puts 0 zero_phase row row_is p (nth_block size b i)
-        (omega (arith, st.outs_all)) ∙ ap (λ k. block_of h p (nth_block k b i)) size_is))
-        (subst (λ es. GaveEach es after (λ r. joined (λ i. block_of (λ q. get_or row q 0) r (nth_block size b i)) many))
-        ends_is all p d l)
+  pub gave_run : (row : List ℕ) → row ≡ at_phase (lists x.puts.items) 0 → (size : ℕ) →
+      size ≡ puts_of s (node n x.actor) 0 → (ends after : List (Producer T Global AnyItems)) → ends ≡ x.outs.items →
+      (b : List T) →
+      GaveEach ends after (λ p. joined (λ i. block_of (λ q. get_or row q 0) p (nth_block size b i)) many) →
+      GaveEach x.outs.items after (λ p. joined (λ i. block_of h p
+      (nth_block (puts_of s (node n x.actor) 0) b i)) many)
+  gave_run row row_is size size_is ends after ends_is b all = λ p d l.
+      subst (Gave (get_or x.outs.items p d) (get_or after p d))
+      (same_joined (λ i. block_of (λ q. get_or row q 0) p (nth_block size b i))
+      (λ i. block_of h p (nth_block (puts_of s (node n x.actor) 0) b i)) many (λ i m.
+      row_part s n inputs x st Output (lists x.puts.items) st.puts 0 zero_phase row row_is p (nth_block size b i)
+      (omega (arith, st.outs_all)) ∙ ap (λ k. block_of h p (nth_block k b i)) size_is))
+      (subst (λ es. GaveEach es after (λ r. joined (λ i. block_of (λ q. get_or row q 0) r (nth_block size b i)) many))
+      ends_is all p d l)
 
-  pub can_step_run : NodesCanStepMany s → (z : Node A) → z ≡ node n x.actor → (size made all put : ℕ) →
+  pub can_step_run : (z : Node A) → z ≡ node n x.actor → (size made all put : ℕ) →
       size ≡ takes_of s z 0 → made ≡ puts_of s z 0 → all ≡ size * many → put ≡ made * many →
       CanStepMany s inputs z x.state many all put
-  can_step_run can_many z z_is size made all put size_is made_is all_is put_is =
+  can_step_run z z_is size made all put size_is made_is all_is put_is =
       subst (λ m. CanStepMany s inputs z x.state many m put) (ap (λ m. m * many) (sym size_is) ∙ sym all_is)
       (subst (λ m. CanStepMany s inputs z x.state many (takes_of s z 0 * many) m)
       (ap (λ m. m * many) (sym made_is) ∙ sym put_is)
       (subst (λ v. CanStepMany s inputs v x.state many (takes_of s v 0 * many) (puts_of s v 0 * many)) (sym z_is)
-      (can_many inputs (node n x.actor) x.asked many past x.state st.at can.goes.one_phase
+      (nodes_can_step_many s inputs (node n x.actor) x.asked many past x.state st.at can.goes.one_phase
       (omega (arith, past_long, can.left)))))
 
   pub taken_within : (z : Node A) → z ≡ node n x.actor → (size : ℕ) → size ≡ takes_of s z 0 →
@@ -269,12 +268,12 @@ module _ {A S T : Type 0} (s : Steps A S T) (laws : FiringLaws s) (join : Blocks
     more : (W : ℕ → List T) × IsManyMore s n inputs x.actor x.done g h st.own W
         (nth_block (takes_of s (node n x.actor) 0) t) (nth_block (puts_of s (node n x.actor) 0) b) many
     more =
-        many_more s laws n good inputs x.actor st.known can.goes.apart g h
+        many_more s n good inputs x.actor st.known can.goes.apart g h
         (sizes_same s n inputs x st one Input _ st.takes) (sizes_same s n inputs x st one Output _ st.puts)
         x.done st.own st.local (nth_block (takes_of s (node n x.actor) 0) t)
         (nth_block (puts_of s (node n x.actor) 0) b) many
-        (λ i l. (join (takes_of s (node n x.actor) 0) many t t_long).0 i l ∙ in_all)
-        (λ i l. (join (puts_of s (node n x.actor) 0) many b b_long).0 i l ∙ out_all)
+        (λ i l. (blocks_join (takes_of s (node n x.actor) 0) many t t_long).0 i l ∙ in_all)
+        (λ i l. (blocks_join (puts_of s (node n x.actor) 0) many b b_long).0 i l ∙ out_all)
         (puts x.asked past st.at whole)
 
     on : HasGoneOn s n inputs x st.own more.0 many
@@ -286,10 +285,10 @@ module _ {A S T : Type 0} (s : Steps A S T) (laws : FiringLaws s) (join : Blocks
       out = more.1.out;
       taken_count = λ p l. count_on (moved_at s Input (node n x.actor) p) (g p) x.done
           (λ i. block_of g p (nth_block (takes_of s (node n x.actor) 0) t i)) many (rise_in p l)
-          (part_long g p (inputs_of s (node n x.actor)) (takes_of s (node n x.actor) 0) many t join l in_all t_long);
+          (part_long g p (inputs_of s (node n x.actor)) (takes_of s (node n x.actor) 0) many t l in_all t_long);
       put_count = λ p l. count_on (moved_at s Output (node n x.actor) p) (h p) x.done
           (λ i. block_of h p (nth_block (puts_of s (node n x.actor) 0) b i)) many (rise_out p l)
-          (part_long h p (outputs_of s (node n x.actor)) (puts_of s (node n x.actor) 0) many b join l out_all b_long);
+          (part_long h p (outputs_of s (node n x.actor)) (puts_of s (node n x.actor) 0) many b l out_all b_long);
     }
 
     pub run_fired : (ins : Vec (Consumer T Global AnyItems) Global) (outs : Vec (Producer T Global AnyItems) Global)
@@ -302,14 +301,14 @@ module _ {A S T : Type 0} (s : Steps A S T) (laws : FiringLaws s) (join : Blocks
         length pv.items ≡ length x.put.items →
         IsStand s n inputs (stand_after x many w ins outs tv pv) × HasMoved s n x (stand_after x many w ins outs tv pv)
     run_fired ins outs tv pv drew gave ins_is outs_is tv_is pv_is =
-        gone_on s laws n good inputs x st many can.left more.0
+        gone_on s n good inputs x st many can.left more.0
         (λ p. joined (λ i. block_of g p (nth_block (takes_of s (node n x.actor) 0) t i)) many)
         (λ p. joined (λ i. block_of h p (nth_block (puts_of s (node n x.actor) 0) b i)) many) on
         w (subst (λ p. IsAt s inputs x.asked (node n x.actor) p w) (sym more.1.past) (moved x.asked past st.at)) ins
         outs tv pv drew gave ins_is outs_is tv_is pv_is
 
 -- as many firings can run as each of the tests leaves
-module _ {A S T : Type 0} (s : Steps A S T) (keep : NodesKeepPhase s) (n : Netlist A T) (inputs : List (List T))
+module _ {A S T : Type 0} (s : Steps A S T) (n : Netlist A T) (inputs : List (List T))
     (x : Stand A T S) (st : IsStand s n inputs x) (goes : GoesInRuns s n x.actor)
     (z : Node A) (z_is : z ≡ node n x.actor) (takes puts : List ℕ) (takes_is : takes ≡ at_phase (lists x.takes.items) 0)
     (puts_is : puts ≡ at_phase (lists x.puts.items) 0) where
@@ -317,7 +316,7 @@ module _ {A S T : Type 0} (s : Steps A S T) (keep : NodesKeepPhase s) (n : Netli
   at_zero i = ap (λ c. i % c) goes.one_phase ∙ mod-one i
 
   first : 0 ≡ phase_at x.state
-  first = sym (phase_is s keep n inputs x st ∙ at_zero x.done)
+  first = sym (phase_is s n inputs x st ∙ at_zero x.done)
 
   pub can_run : (size made by_taken by_put held free most : ℕ) → size ≡ takes_of s z 0 → made ≡ puts_of s z 0 →
       x.done + most ≤ x.asked → by_taken ≤ most → by_taken * size ≤ length x.taken.items → by_put ≤ by_taken →
@@ -331,14 +330,14 @@ module _ {A S T : Type 0} (s : Steps A S T) (keep : NodesKeepPhase s) (n : Netli
         goes = goes;
         left = omega arith;
         holds = λ i e h.
-            let row = row_size s keep n inputs x st Input (lists x.takes.items) st.takes 0 first takes takes_is i
+            let row = row_size s n inputs x st Input (lists x.takes.items) st.takes 0 first takes takes_is i
             (omega (arith, st.ins_all)) in
             let there = subst (HoldsEach (λ i. held * get_or takes i 0)) ins_is holds i e h in
             let few = few_kept free held (get_or takes i 0) _ d there in
             let same = ap (λ v. free * v) row in
             omega (arith, same, few);
         has_room = λ i e h.
-            let row = row_size s keep n inputs x st Output (lists x.puts.items) st.puts 0 first puts puts_is i
+            let row = row_size s n inputs x st Output (lists x.puts.items) st.puts 0 first puts puts_is i
             (omega (arith, st.outs_all)) in
             let there = subst (HasRoomEach (λ i. free * get_or puts i 0)) outs_is room i e h in
             let same = ap (λ v. free * v) row in

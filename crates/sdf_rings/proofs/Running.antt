@@ -6,11 +6,11 @@ use Rattle.sdf_actor.specs.Histories.{IsWired, taken_before}
 use Rattle.sdf_actor.specs.Locals.{IsLocal}
 use Rattle.sdf_actor.specs.Nets.{Netlist, wire, node, wiring, answers, answer_of, inputs_of, outputs_of, IsNet}
 use Rattle.sdf_actor.specs.declared.sides.Side.TheVariants.{Input, Output}
+use Rattle.sdf_actor.proofs.Theorems.{nets_are_wired}
 use Rattle.sdf_node.specs.Many.{listed, joined}
 use Rattle.sdf_answer.specs.Sizes.{sizes}
 use Rattle.sdf_rings.specs.Blocks.{start_at, block_of}
 use Rattle.sdf_rings.proofs.Spreads.{start_at_same, block_same}
-use Rattle.sdf_rings.specs.FiringLaws.{FiringLaws}
 use Rattle.sdf_rings.proofs.Knowing.{IsOneMore, one_more}
 use Rattle.sdf_rings.proofs.PortBlocks.{outs_long, out_block, port_of}
 
@@ -26,7 +26,7 @@ pub record IsManyMore {A S T : Type 0} (s : Steps A S T) (n : Netlist A T) (inpu
       take ((wiring s n).rates.consumed c (k + many)) (W c) ≡
       take ((wiring s n).rates.consumed c k) (V c) ++ joined (λ j. block_of g (wire n c).to.1 (t j)) many
 
-module _ {A S T : Type 0} (s : Steps A S T) (laws : FiringLaws s) (n : Netlist A T) (good : IsNet s n)
+module _ {A S T : Type 0} (s : Steps A S T) (n : Netlist A T) (good : IsNet s n)
     (inputs : List (List T)) (a : ℕ) (known : a < length n.nodes)
     (apart : (c : ℕ) → c < length n.wires → (wire n c).from.0 ≡ a → (wire n c).to.0 ≡ a → ⊥)
     -- each firing moves the same
@@ -34,10 +34,9 @@ module _ {A S T : Type 0} (s : Steps A S T) (laws : FiringLaws s) (n : Netlist A
     (outs_same : (k p : ℕ) → p < outputs_of s (node n a) → sizes s Output (node n a) k p ≡ h p)
     (k : ℕ) (V : ℕ → List T) (local : IsLocal (wiring s n) (answers s n inputs) a k V) (t b : ℕ → List T) where
   wired : IsWired (wiring s n)
-  wired = laws.wired n good
+  wired = nets_are_wired s n good
 
-  pub many_more : (many : ℕ) →
-      ((i : ℕ) → i < many → length (t i) ≡ start_at g (inputs_of s (node n a))) →
+  pub many_more : (many : ℕ) → ((i : ℕ) → i < many → length (t i) ≡ start_at g (inputs_of s (node n a))) →
       ((i : ℕ) → i < many → length (b i) ≡ start_at h (outputs_of s (node n a))) →
       ((i : ℕ) → i < many → b i ≡ answer_of s inputs (node n a) (taken_before (wiring s n) V a k ++ listed t i) (t i)) →
       (W : ℕ → List T) × IsManyMore s n inputs a k g h V W t b many
@@ -61,7 +60,7 @@ module _ {A S T : Type 0} (s : Steps A S T) (laws : FiringLaws s) (n : Netlist A
           (X : ℕ → List T) × IsManyMore s n inputs a k g h V X t b (suc many)
       next (W, m) =
           let one : (X : ℕ → List T) × IsOneMore s n inputs a (k + many) W X (t many) (b many) =
-          one_more s laws n good inputs a (k + many) known W m.local (t many) (b many)
+          one_more s n good inputs a (k + many) known W m.local (t many) (b many)
           (t_long many (omega arith) ∙ start_at_same g (sizes s Input (node n a) (k + many)) (inputs_of s (node n a))
           (λ p l. sym (ins_same (k + many) p l)))
           (b_long many (omega arith) ∙ start_at_same h (sizes s Output (node n a) (k + many)) (outputs_of s (node n a))
@@ -78,15 +77,15 @@ module _ {A S T : Type 0} (s : Steps A S T) (laws : FiringLaws s) (n : Netlist A
               out = λ i p.
                   let c : ℕ = get_or ((wiring s n).outs a) i 0 in
                   let q : i < length ((wiring s n).outs a) =
-                  omega (arith, outs_long s laws.ports n good wired a known) in
+                  omega (arith, outs_long s n good wired a known) in
                   let is = wired.outs_are a i known q in
                   one.1.out c is.1 ∙
-                  ((λ j. m.out i p j ++ (out_block s laws.ports n good wired a known (k + many) i (b many) p ∙
+                  ((λ j. m.out i p j ++ (out_block s n good wired a known (k + many) i (b many) p ∙
                   block_same (sizes s Output (node n a) (k + many)) h i (b many)
                   (λ r l. outs_same (k + many) r (omega arith))) j) ∙
                   append_assoc (V c) (joined (λ j. block_of h i (b j)) many) (block_of h i (b many)));
               into = λ c l e.
-                  let port = port_of s laws.ports n good wired a known c l e in
+                  let port = port_of s n good wired a known c l e in
                   let was : List T = take ((wiring s n).rates.consumed c k) (V c) in
                   ap (λ i. take ((wiring s n).rates.consumed c i) (one.0 c)) further ∙ (one.1.into c l e ∙
                   ((λ j. m.into c l e j ++ block_same (sizes s Input (node n a) (k + many)) g (wire n c).to.1 (t many)

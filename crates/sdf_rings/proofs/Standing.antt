@@ -12,8 +12,8 @@ use Rattle.sdf_actor.specs.declared.sides.Side.{Side}
 use Rattle.sdf_actor.specs.declared.sides.Side.TheVariants.{Input, Output}
 use Rattle.sdf_actor.specs.Sides.{ports_of}
 use Rattle.sdf_actor.specs.Wires.{lists}
-use Rattle.sdf_node.specs.Laws.{NodesKeepPhase, NodesCanStep}
 use Rattle.sdf_node.specs.Nodes.{phase_at, takes_of, puts_of, CanStep}
+use Rattle.sdf_node.proofs.Theorems.{nodes_can_step, nodes_keep_phase}
 use Rattle.sdf_rings.specs.declared.stand.Stand.{Stand}
 use Rattle.sdf_rings.specs.Blocks.{start_at, block_of}
 use Rattle.sdf_rings.specs.Ends.{Drew, Gave, DrewEach, GaveEach, HoldsEach, HasRoomEach}
@@ -23,23 +23,24 @@ use Rattle.sdf_rings.proofs.Spreads.{start_at_same, block_same}
 use Rattle.sdf_rings.proofs.PortBlocks.{sizes_taken, sizes_put}
 use Rattle.sdf_rings.proofs.Knowing.{length_taken_before}
 
-module _ {A S T : Type 0} (s : Steps A S T) (keep : NodesKeepPhase s) (n : Netlist A T) (inputs : List (List T))
+module _ {A S T : Type 0} (s : Steps A S T) (n : Netlist A T) (inputs : List (List T))
     (x : Stand A T S) (st : IsStand s n inputs x) where
   pub phase_is : phase_at x.state ≡ x.done % cycle_of s (node n x.actor)
   phase_is =
-      keep inputs (node n x.actor) x.asked (taken_before (wiring s n) st.own x.actor x.done) x.state st.at ∙
+      nodes_keep_phase s inputs (node n x.actor) x.asked (taken_before (wiring s n) st.own x.actor x.done) x.state
+      st.at ∙
       ap (λ k. k % cycle_of s (node n x.actor)) (length_taken_before (wiring s n) st.own x.actor x.done)
 
   -- the node has a next firing
-  pub can_step : NodesCanStep s → x.done < x.asked → (y : Node A) (j many more : ℕ) → y ≡ node n x.actor →
+  pub can_step : x.done < x.asked → (y : Node A) (j many more : ℕ) → y ≡ node n x.actor →
       j ≡ phase_at x.state → many ≡ takes_of s y j → more ≡ puts_of s y j →
       CanStep s inputs y x.state many more
-  can_step can left y j many more y_is j_is many_is more_is =
+  can_step left y j many more y_is j_is many_is more_is =
       let past = taken_before (wiring s n) st.own x.actor x.done in
       let long = length_taken_before (wiring s n) st.own x.actor x.done in
       let all : CanStep s inputs (node n x.actor) x.state (takes_of s (node n x.actor) (phase_at x.state))
       (puts_of s (node n x.actor) (phase_at x.state)) =
-      can inputs (node n x.actor) x.asked past x.state st.at st.phases (omega arith) in
+      nodes_can_step s inputs (node n x.actor) x.asked past x.state st.at st.phases (omega arith) in
       let many_as : takes_of s (node n x.actor) (phase_at x.state) ≡ many =
       sym (many_is ∙ (λ i. takes_of s (y_is i) (j_is i))) in
       let more_as : puts_of s (node n x.actor) (phase_at x.state) ≡ more =

@@ -5,7 +5,7 @@ use Rattle.std.specs.Option.{IfNone}
 use Rattle.std.proofs.Math.Nat.{mul-le-mul_left}
 use Rattle.std.proofs.lemmas.List.{get_or-map, length-map}
 use Rattle.sdf_graph.specs.Rates.{rates}
-use Rattle.sdf_graph.specs.Laws.{GraphsAreSound, GraphsHavePeriods}
+use Rattle.sdf_graph.proofs.Theorems.{graphs_are_sound, graphs_have_periods}
 use Rattle.sdf_sched.specs.Period.{Schedule}
 use Rattle.sdf_prec.specs.Tables.{Tabled}
 use Rattle.sdf_actor.specs.Steps.{Steps}
@@ -16,14 +16,14 @@ use Rattle.sdf_actor.specs.declared.node.Node.{Node}
 use Rattle.sdf_actor.specs.declared.node.Node.TheVariants.{Source, Sink, Inner}
 use Rattle.sdf_actor.specs.declared.sides.Lists.TheVariants.{Inputs, Outputs}
 use Rattle.sdf_answer.specs.Answer.{HasInputs}
-use Rattle.sdf_answer.specs.Laws.{NetsCanRun}
 use Rattle.sdf_answer.specs.Periods.{HasPeriod, CanRun}
 use Rattle.sdf_answer.specs.Rows.{IsTableOf}
 use Rattle.sdf_node.specs.Nodes.{CanBegin}
+use Rattle.sdf_answer.proofs.Theorems.{nets_can_run}
 use Rattle.sdf_rings.specs.Begun.{CanStart}
 use Rattle.sdf_rings.specs.Prepared.{IsAsked}
 
-module _ {A S T : Type 0} (s : Steps A S T) (can : NetsCanRun s) (n : Netlist A T) (p : Schedule)
+module _ {A S T : Type 0} (s : Steps A S T) (n : Netlist A T) (p : Schedule)
     (period : HasPeriod s n p) (blocks j : ℕ)
     (asked : List ℕ) (asked_are : asked ≡ map (λ q. blocks * (j * q)) p.repetitions) where
   all : length p.repetitions ≡ length n.nodes
@@ -63,7 +63,7 @@ module _ {A S T : Type 0} (s : Steps A S T) (can : NetsCanRun s) (n : Netlist A 
   }
     where
       run : CanRun s n p.repetitions (blocks * j) inputs
-      run = can n p (blocks * j) inputs period has
+      run = nets_can_run s n p (blocks * j) inputs period has
 
       go : (a : ℕ) → a < length n.nodes → (x : Node A) → node n a ≡ x → CanBegin inputs (get_or asked a 0) room x
       go a l (Source ext block) x =
@@ -72,9 +72,9 @@ module _ {A S T : Type 0} (s : Steps A S T) (can : NetsCanRun s) (n : Netlist A 
       go a l (Sink ext block) x = omega (arith, run.makes a ext block l x, ap (λ m. block * m) (counted a l), room_is)
       go a l (Inner y) x = tt
 
-  pub is_asked : GraphsAreSound → GraphsHavePeriods → (t : Tabled) →
+  pub is_asked : (t : Tabled) →
       IsTableOf (rates (graph_of s n)) p.repetitions j t → IsAsked s n t blocks (λ a. get_or asked a 0)
-  is_asked sound periods t table = record {
+  is_asked t table = record {
     plan = record {
       rates = rates (graph_of s n);
       period = p.repetitions;
@@ -85,8 +85,8 @@ module _ {A S T : Type 0} (s : Steps A S T) (can : NetsCanRun s) (n : Netlist A 
     is = record {
       net = period.net;
       alike = period.alike;
-      sound = sound (graph_of s n) period.shape;
-      period = periods (graph_of s n) p.repetitions period.shape period.period.least.is;
+      sound = graphs_are_sound (graph_of s n) period.shape;
+      period = graphs_have_periods (graph_of s n) p.repetitions period.shape period.period.least.is;
       table = table.table;
     };
     table_is = refl;

@@ -5,7 +5,6 @@ pub mod Blocks
 pub mod RunBlocks
 pub mod Ends
 pub mod Changes
-pub mod FiringLaws
 pub mod Stands
 pub mod Seats
 pub mod Places
@@ -19,3 +18,4 @@ pub mod Outcome
 pub mod Together
 pub mod Quiescence
 pub mod Laws
+pub mod Busy

@@ -12,8 +12,8 @@ ghost use Rattle.sdf_rings.specs.Outcome.{HasRunInRounds, HasGoneOn, IsRingsFaul
 
 use crate::runner::run_through;
 use crate::workers::Workers;
-use sdf_actor::{Actor, Begun, Net, Rest};
-use sdf_answer::laws::{begun_nets_go_on, feeds_go_on, nets_have_periods};
+use sdf_actor::{Actor, Net, Rest};
+use sdf_answer::laws::nets_have_periods;
 use sdf_answer::{BlockTable, Ran, RunFault};
 use sdf_node::Gate;
 use std::alloc::AllocGlobal;
@@ -58,8 +58,6 @@ pub fn resume_rings<R: Threads + AllocGlobal + Sync, A: Actor, G: Gate>(
         (IsRingsFault net.now q (blocks * j) (lists inputs.now) t.table workers.entry.patience) }
 {
     nets_have_periods(net);
-    feeds_go_on::<A, Begun<A>>();
-    begun_nets_go_on::<A, Begun<A>>();
     let begun = net.begun(workers.rt.alloc(), rest)?;
     feed_rings(workers, &begun, table, blocks, inputs)
 }

@@ -9,80 +9,40 @@ use sdf_actor::Actor;
 /// What a run has put on each channel begins the channel's history.
 pub fn runs_put_prefixes<A: Actor>()
     ensures { RunsPutPrefixes A.steps }
-{
-    sdf_graph::laws::alike_sequences();
-    sdf_prec::laws::tables_repeat();
-    sdf_actor::laws::nets_are_wired::<A>();
-    sdf_actor::laws::taken_stays::<A>();
-    sdf_actor::laws::put_stays::<A>();
-}
+{}
 
 /// In a run no channel passes its capacity.
 pub fn runs_keep_within<A: Actor>()
     ensures { RunsKeepWithin A.steps }
 {
-    sdf_graph::laws::alike_sequences();
-    sdf_prec::laws::tables_repeat();
-    sdf_actor::laws::nets_are_wired::<A>();
-    sdf_actor::laws::taken_stays::<A>();
-    sdf_actor::laws::put_stays::<A>();
     sdf_actor::laws::one_history::<A>();
 }
 
 /// A run that is not over goes on.
 pub fn runs_go_on<A: Actor>()
     ensures { RunsGoOn A.steps }
-{
-    sdf_graph::laws::counts_grow();
-    sdf_graph::laws::alike_sequences();
-    sdf_prec::laws::tables_repeat();
-    sdf_actor::laws::nets_are_wired::<A>();
-}
+{}
 
 /// Each event of a run moves one of the blocks, and where all have moved the channels were given their histories.
 pub fn runs_end<A: Actor>()
     ensures count { RunsMoveBlocks A.steps }
     ensures histories { RunsEndInHistories A.steps }
-{
-    sdf_graph::laws::alike_sequences();
-    sdf_prec::laws::tables_repeat();
-    sdf_actor::laws::nets_are_wired::<A>();
-    sdf_actor::laws::taken_stays::<A>();
-    sdf_actor::laws::put_stays::<A>();
-}
+{}
 
 /// A channel from an actor to itself never keeps it waiting.
 pub fn own_never_waits<A: Actor>()
     ensures { OwnNeverWaits A.steps }
-{
-    sdf_graph::laws::counts_grow();
-    sdf_graph::laws::alike_sequences();
-    sdf_prec::laws::tables_repeat();
-    sdf_prec::laws::the_next_may_fire();
-    sdf_actor::laws::nets_are_wired::<A>();
-}
+{}
 
 /// From one quiescent state to the next there is a run, and from the start to each.
 pub fn quiescent_reached<A: Actor>()
     ensures next { QuiescentReached A.steps }
     ensures from_start { QuiescentIsReached A.steps }
-{
-    sdf_graph::laws::counts_grow();
-    sdf_graph::laws::alike_sequences();
-    sdf_prec::laws::tables_repeat();
-    sdf_actor::laws::nets_are_wired::<A>();
-    sdf_actor::laws::taken_stays::<A>();
-    sdf_actor::laws::put_stays::<A>();
-}
+{}
 
 /// If all ends have met and firings of a plan are left, some seat can do its first. A round of all seats, also one made
 /// by hand, then does at least one.
 pub fn rounds_go_on<A: Actor>()
     ensures some { SomeSeatGoesOn A.steps }
     ensures fires { RoundsFire A.steps }
-{
-    sdf_actor::laws::nets_are_wired::<A>();
-    sdf_actor::laws::taken_stays::<A>();
-    sdf_actor::laws::locals_are_history::<A>();
-    sdf_prec::laws::the_next_may_fire();
-}
+{}

@@ -6,15 +6,16 @@
 //! (`work`) through its list (`course`), over `stand`, a node with its ends of rings, and `together`, runs of a node's
 //! firings: `specs/Stands.antt`, `specs/Together.antt` and `specs/Seats.antt` say what a node knows of its own
 //! channels, and when its firings go as runs. `ends` moves the blocks of one firing, `run_ends` those of a run;
-//! `own_rings` is about the channels from a node to itself. `round` has all workers at once (`workers`), `meet` tells
-//! all ends, `rest` says what then stands where, and `rings` has rounds by hand and until nothing is left. `prepare`
-//! makes the seats of a run, `finish` gives out the lists of the sinks and `leave` what else the seats hold, and
-//! `runner` does all of it (`specs/Asks.antt`, `specs/Outcome.antt`); `feed` has runs that another one goes on from.
+//! `own_rings` is about the channels from a node to itself. `round` has all workers at once (`workers`), with a thread
+//! for each that has firings left (`busy`), `meet` tells all ends, and `rings` has rounds by hand and until nothing is
+//! left. `prepare` makes the seats of a run, `finish` gives out the lists of the sinks and `leave` what else the seats
+//! hold, and `runner` does all of it (`specs/Asks.antt`, `specs/Outcome.antt`); `feed` has runs that another one goes on
+//! from.
 #![tactic(auto)]
 
+pub mod busy;
 mod course;
 mod ends;
-mod facts;
 pub mod feed;
 mod finish;
 pub mod laws;
@@ -23,7 +24,6 @@ mod meet;
 mod own_rings;
 pub mod pair;
 pub mod prepare;
-mod rest;
 pub mod rings;
 mod round;
 mod run_ends;

@@ -29,7 +29,6 @@ pub(crate) fn tell_own<A: Actor>(
     ensures outs { GaveEach outs.old outs.new (λ _. []) }
     ensures begin { OwnBegin net.now actor ins.new outs.new }
 {
-    sdf_actor::laws::nets_are_wired::<A>();
     let channels = net.channels_in(actor);
     for i in 0..channels.len() {
         let link = net.link(channels[i]);

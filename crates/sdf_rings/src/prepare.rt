@@ -21,7 +21,7 @@ use crate::setup::seats::seats;
 use crate::setup::stands::Start;
 use sdf_actor::{Actor, Net};
 use sdf_answer::inputs::{are_inputs, first_sample};
-use sdf_answer::laws::{blocks_are_small, net_facts, nets_can_run, nets_have_periods};
+use sdf_answer::laws::{blocks_are_small, net_facts};
 use sdf_answer::outputs::make_outputs;
 use sdf_answer::sizes::samples_of_blocks;
 use sdf_answer::{BlockTable, RunFault, Sizes};
@@ -40,9 +40,6 @@ fn lay_out<'a, A: Actor>(
     requires homed { IsHomed table.now }
     ensures { IfOk result (IsPrepared A.steps start.now.net.now (lists start.now.inputs.now) table.now blocks) }
 {
-    sdf_actor::laws::nets_are_wired::<A>();
-    sdf_graph::laws::alike_sequences();
-    sdf_prec::laws::tables_repeat();
     let places = places(alloc, table, start.net.len())?;
     let mut ends = open_rings(alloc, start.net, table)?;
     let roster = Roster {
@@ -71,11 +68,6 @@ fn prepare_homed<'a, A: Actor>(
     ensures { IfOk result (IsPrepared A.steps net.now (lists inputs.now) table.now.table blocks) }
 {
     net_facts(net);
-    blocks_are_small(net);
-    nets_have_periods(net);
-    nets_can_run::<A>();
-    sdf_graph::laws::graphs_are_sound();
-    sdf_graph::laws::graphs_have_periods();
     let start = Start {
         net,
         inputs,

@@ -15,15 +15,13 @@ ghost use Rattle.sdf_answer.specs.Answer.{AreOutputs};
 ghost use Rattle.sdf_answer.specs.Feeds.{HasRun};
 
 use crate::finish::collect;
-use crate::laws::rounds_go_on;
 use crate::leave::leave;
 use crate::meet::meet_all;
-use crate::rest::{met_is_quiescent, met_is_rest};
 use crate::round::run_round;
 use crate::seat::{Seat, work};
 use crate::workers::Workers;
 use sdf_actor::{Actor, Net, Rest};
-use sdf_answer::laws::{histories_make_outputs, net_facts};
+use sdf_answer::laws::net_facts;
 use sdf_node::Gate;
 use std::alloc::{AllocError, Global};
 use std::marker::Model;
@@ -141,12 +139,11 @@ impl<'a, A: Actor> Rings<'a, A> {
     {
         let net = self.net;
         let inputs = self.inputs;
-        let _whole = net.graph();
         work(net, inputs, &mut self.seats[seat], patience, gate)
     }
 
-    /// Works all seats at once, each in a thread of its own. If all ends have met and firings of a plan are left, it
-    /// does at least one of them.
+    /// Works all seats at once, each that has firings left in a thread of its own. If all ends have met and firings of
+    /// a plan are left, it does at least one of them.
     pub fn work_all<R: Threads + Sync, G: Gate>(&mut self, workers: Workers<'_, R, G>)
         ensures rounded { AllBecame (HasRounded A.steps self.new.net self.new.inputs) self.old.seats self.new.seats }
         ensures fires { HaveMet self.old.net self.old.seats self.old.places → (order : List ℕ) (cap : ℕ → ℕ) →
@@ -158,10 +155,8 @@ impl<'a, A: Actor> Rings<'a, A> {
         ensures same { (self.new.net ≡ self.old.net) × (self.new.inputs ≡ self.old.inputs)
             × (self.new.places ≡ self.old.places) × (length self.new.seats ≡ length self.old.seats) }
     {
-        rounds_go_on::<A>();
         let net = self.net;
         let inputs = self.inputs;
-        let _whole = net.graph();
         run_round(workers, net, inputs, &mut self.seats);
     }
 
@@ -202,7 +197,6 @@ impl<'a, A: Actor> Rings<'a, A> {
     {
         let net = self.net;
         let inputs = self.inputs;
-        let _whole = net.graph();
         meet_all(self.alloc, net, inputs, &mut self.seats, &self.places);
         self.at_rest();
     }
@@ -214,8 +208,7 @@ impl<'a, A: Actor> Rings<'a, A> {
         ensures rest { AreAtRest A.steps self.now.net self.now.inputs self.now.seats self.now.places }
         ensures quiescent { AreQuiescent A.steps self.now }
     {
-        met_is_rest(self.net, self.inputs, &self.seats, &self.places);
-        met_is_quiescent(self.net, self.inputs, &self.seats, &self.places);
+        net_facts(self.net);
     }
 
     /// Makes one round and its end.
@@ -275,10 +268,7 @@ impl<'a, A: Actor> Rings<'a, A> {
             mut outputs,
         } = self;
         net_facts(net);
-        histories_make_outputs::<A>();
-        sdf_node::laws::sinks_hold_lists::<A>();
         meet_all(alloc, net, inputs, &mut seats, &places);
-        met_is_rest(net, inputs, &seats, &places);
         collect(net, &mut seats, &places, &mut outputs);
         outputs
     }
@@ -302,10 +292,6 @@ impl<'a, A: Actor> Rings<'a, A> {
             mut outputs,
         } = self;
         net_facts(net);
-        histories_make_outputs::<A>();
-        sdf_node::laws::sinks_hold_lists::<A>();
-        sdf_node::laws::nodes_keep_states::<A>();
-        met_is_rest(net, inputs, &seats, &places);
         let rest = leave(alloc, net, &mut seats, &places)?;
         collect(net, &mut seats, &places, &mut outputs);
         Ok((outputs, rest))

@@ -1,4 +1,4 @@
-//! A round: all seats at once.
+//! A round: all seats that have firings left at once.
 
 ghost use Rattle.std.specs.Prelude.{All};
 ghost use Rattle.sdf_actor.specs.Nets.{IsNet};
@@ -6,14 +6,14 @@ ghost use Rattle.sdf_actor.specs.Wires.{lists};
 ghost use Rattle.sdf_rings.specs.Changes.{AllBecame};
 ghost use Rattle.sdf_rings.specs.Seats.{IsSeat, HasRounded};
 
+use crate::busy::for_each_busy;
 use crate::seat::{Seat, work};
 use crate::workers::Workers;
 use sdf_actor::{Actor, Net};
 use sdf_node::Gate;
-use std::thread;
 use std::thread::Threads;
 
-/// Each seat works in a thread of its own.
+/// Works each seat: those that have firings left at once, each in a thread of its own.
 pub(crate) fn run_round<R: Threads + Sync, A: Actor, G: Gate>(
     workers: Workers<'_, R, G>,
     net: &Net<A>,
@@ -25,18 +25,15 @@ pub(crate) fn run_round<R: Threads + Sync, A: Actor, G: Gate>(
     ensures { AllBecame (HasRounded A.steps net.now (lists inputs.now)) seats.old seats.new }
 {
     let Workers { rt, gate, patience } = workers;
-    let threads = seats.len();
-    if threads > 0 {
-        thread::for_each_mut(
-            rt,
-            seats,
-            threads,
-            &|_: usize, seat: &mut Seat<A>|
-                requires { IsNet A.steps net.now × IsSeat A.steps net.now (lists inputs.now) seat.now }
-                ensures { HasRounded A.steps net.entry.now (lists inputs.entry.now) seat.entry.now seat.exit.now }
-            {
-                work(net, inputs, seat, patience, gate);
-            },
-        );
-    }
+    for_each_busy(
+        rt,
+        &|_: usize, seat: &mut Seat<A>|
+            requires { IsNet A.steps net.now × IsSeat A.steps net.now (lists inputs.now) seat.now }
+            ensures { HasRounded A.steps net.entry.now (lists inputs.entry.now) seat.entry.now seat.exit.now }
+        {
+            work(net, inputs, seat, patience, gate);
+        },
+        0,
+        seats,
+    );
 }

@@ -97,7 +97,6 @@ impl<'a> RunBlocks<'a> {
             slice_range (nth_block self.now.size taken.new i) a (a + w) ≡
             slice_range (nth_block self.now.size taken.old i) a (a + w) }
     {
-        sdf_node::laws::blocks_join::<T>();
         take_block(end, &mut scratch[..width * self.many]);
         let row = &scratch[..width * self.many];
         deal_row(row, taken, at, width, self.many, self.size);
@@ -133,7 +132,6 @@ impl<'a> RunBlocks<'a> {
         requires known { HoldsEach (sizes_of_run self.now) ends.old }
         ensures { DrewEach ends.old ends.new (port_blocks self.now taken.new) }
     {
-        sdf_node::laws::blocks_join::<T>();
         if ends.len() == 1 {
             take_block(&mut ends[0], taken);
         } else if taken.len() <= scratch.len() {
@@ -235,7 +233,6 @@ impl<'a> RunBlocks<'a> {
         requires room { HasRoomEach (sizes_of_run self.now) ends.old }
         ensures { GaveEach ends.old ends.new (port_blocks self.now put.now) }
     {
-        sdf_node::laws::blocks_join::<T>();
         if ends.len() == 1 {
             put_block(&mut ends[0], put);
         } else if put.len() <= scratch.len() {

@@ -32,10 +32,6 @@ pub(crate) fn run_through<'a, R: Threads + AllocGlobal + Sync, A: Actor, G: Gate
         workers.entry.patience ran.0 ran.1)
         (IsRingsFault net.now q (blocks * j) (lists inputs.now) t.table workers.entry.patience) }
 {
-    sdf_graph::laws::graphs_are_sound();
-    sdf_graph::laws::graphs_have_periods();
-    sdf_prec::laws::tables_repeat();
-    sdf_prec::laws::tables_count();
     nets_have_periods(net);
     if !table.table.homed() {
         return Err(RunFault::NotHomed);

@@ -6,6 +6,7 @@ ghost use Rattle.sdf_actor.specs.Wires.{lists};
 ghost use Rattle.sdf_rings.specs.Stands.{IsStand, CanFire, HasMoved};
 ghost use Rattle.sdf_rings.specs.Seats.{times_between, IsSeat, HasFirst, HasWorked};
 
+use crate::busy::Busy;
 use crate::course::Course;
 use crate::stand::{Stand, fire_one, is_ready};
 use crate::together::{fire_run, in_one_run};
@@ -23,6 +24,14 @@ pub struct Seat<A: Actor> {
     pub stands: Vec<Stand<A>>,
     pub left: Course,
     pub next: usize,
+}
+
+impl<A: Actor> Busy for Seat<A> {
+    ghost busy = { λ s. s.next < length s.left };
+
+    fn is_busy(&self) -> bool {
+        self.next < self.left.len()
+    }
 }
 
 /// What a worker goes by in a round.

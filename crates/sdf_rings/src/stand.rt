@@ -11,7 +11,6 @@ ghost use Rattle.sdf_answer.specs.Sizes.{at_phase};
 ghost use Rattle.sdf_rings.specs.Stands.{OwnArePairs, OwnBegin, IsStand, CanFire, HasMoved};
 
 use crate::ends::{have_room_each, hold_each, put_each, take_each};
-use crate::facts::firing_laws;
 use crate::own_rings::tell_own;
 use rtrb::{Consumer, Producer};
 use sdf_actor::{Actor, Net, Node};
@@ -117,8 +116,6 @@ fn fire_blocks<A: Actor>(net: &Net<A>, inputs: &[Vec<A::Token>], stand: &mut Sta
         × HasMoved A.steps net.now stand.old (record stand.new { done = stand.old.done + 1 }) }
     ensures done { stand.new.done ≡ stand.old.done }
 {
-    firing_laws::<A>();
-    sdf_node::laws::nodes_can_step::<A>();
     let node = net.node(stand.actor);
     let phase = stand.state.phase();
     let many = takes(node, phase);
@@ -174,7 +171,6 @@ pub(crate) fn is_ready<A: Actor>(
     ensures yes { IsTrue result → CanFire A.steps net.now stand.new }
     ensures no { IsFalse result → CanFire A.steps net.now stand.new → ⊥ }
 {
-    sdf_node::laws::nodes_can_step::<A>();
     let phase = stand.state.phase();
     if !hold_each(row(&stand.takes, phase), stand.ins.as_mut_slice()) {
         return false;

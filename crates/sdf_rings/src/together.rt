@@ -8,7 +8,6 @@ ghost use Rattle.sdf_node.specs.Many.{nth_block, listed, AreFullBlocks, CanStepM
 ghost use Rattle.sdf_rings.specs.Stands.{IsStand, HasMoved};
 ghost use Rattle.sdf_rings.specs.Together.{GoesInRuns, CanRun};
 
-use crate::facts::firing_laws;
 use crate::run_ends::{RunBlocks, blocks_free, blocks_held};
 use crate::stand::{Stand, row};
 use sdf_actor::{Actor, Net, Node};
@@ -22,7 +21,6 @@ fn is_apart<A: Actor>(net: &Net<A>, actor: ActorId) -> bool
     ensures { IsTrue result → (c : ℕ) → c < length net.now.wires → (wire net.now c).from.0 ≡ actor →
         (wire net.now c).to.0 ≡ actor → ⊥ }
 {
-    sdf_actor::laws::nets_are_wired::<A>();
     let channels = net.channels_in(actor);
     for i in 0..channels.len() {
         if net.link(channels[i]).from.0 == actor {
@@ -93,10 +91,6 @@ fn fire_run_blocks<A: Actor>(
     ensures done { stand.new.done ≡ stand.old.done }
     ensures asked { stand.new.asked ≡ stand.old.asked }
 {
-    firing_laws::<A>();
-    sdf_node::laws::nodes_can_step::<A>();
-    sdf_node::laws::nodes_can_step_many::<A>();
-    sdf_node::laws::blocks_join::<A::Token>();
     let node = net.node(stand.actor);
     let ins = RunBlocks {
         sizes: row(&stand.takes, 0),
@@ -142,7 +136,6 @@ fn possible<A: Actor>(
     ensures within { result ≤ most }
     ensures can { CanRun A.steps net.now stand.now result }
 {
-    sdf_node::laws::nodes_can_step::<A>();
     let node = net.node(stand.actor);
     let mut many = whole_blocks(stand.taken.len(), takes(node, 0), most);
     many = whole_blocks(stand.put.len(), puts(node, 0), many);

@@ -65,7 +65,6 @@ fn room_of<A: Actor>(net: &Net<A>, table: &Table, c: usize) -> Result<usize, All
     requires caps { length table.now.caps ≡ length net.now.wires }
     ensures { IfOk result (IsRoomOf (wiring A.steps net.now).rates (slice_index table.now.caps) c) }
 {
-    sdf_graph::laws::sums_rise();
     let link = net.link(c);
     let held = table.cap(c) as usize;
     if link.from.0 != link.to.0 {

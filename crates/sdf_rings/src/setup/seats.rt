@@ -36,7 +36,6 @@ fn stands<A: Actor>(
     ensures consumers { OnOk result ((c : ℕ) → ((place places.now (wire start.now.net.now c).to.0).0 ≡ seat → ⊥) →
         end_at ends.new.consumers.items c ≡ end_at ends.old.consumers.items c) }
 {
-    sdf_graph::laws::counts_grow();
     let mut stands = Vec::new(alloc);
     for a in 0..places.len() {
         if places[a].0 == seat {

@@ -96,8 +96,6 @@ fn make_stand<A: Actor>(
     ensures begun { IfOk result (λ x. (x.actor ≡ a) × (x.done ≡ 0) × (x.asked ≡ slice_index start.now.asked.items a)) }
     ensures ends { IfOk result (λ x. (x.ins ≡ ins) × (x.outs ≡ outs)) }
 {
-    sdf_actor::laws::nets_are_wired::<A>();
-    sdf_actor::laws::locals_grow::<A>();
     let node = start.net.node(a);
     let many = most(node).max(SAMPLES_AT_ONCE);
     Ok(Stand {
@@ -131,7 +129,6 @@ pub(crate) fn begin_stand<A: Actor>(
     ensures consumers { OnOk result ((c : ℕ) → ((wire start.now.net.now c).to.0 ≡ a → ⊥) →
         end_at ends.new.consumers.items c ≡ end_at ends.old.consumers.items c) }
 {
-    sdf_actor::laws::nets_are_wired::<A>();
     let ins = take_ends(alloc, &mut ends.consumers, start.net.channels_in(a))?;
     let outs = take_ends(alloc, &mut ends.producers, start.net.channels_out(a))?;
     make_stand(alloc, start, a, ins, outs)

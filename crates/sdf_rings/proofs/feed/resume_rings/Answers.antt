@@ -6,6 +6,7 @@ use Rattle.sdf_actor.specs.Nets.{Netlist}
 use Rattle.sdf_actor.specs.Wires.{lists}
 use Rattle.sdf_answer.specs.Answer.{HasInputs, periods_of}
 use Rattle.sdf_answer.specs.Rows.{IsBlockTableOf}
+use Rattle.sdf_answer.proofs.Theorems.{begun_nets_ask, begun_runs_go_on, periods_may_leave}
 use Rattle.sdf_answer.specs.declared.fault.RunFault.{RunFault}
 use Rattle.sdf_answer.specs.declared.fault.RunFault.TheVariants.{OutOfMemory, InputLength, NotHomed, Patience, NoWorker}
 use Rattle.sdf_answer.specs.declared.fault.RunFault.TheVariants.{SessionFailed}
@@ -17,7 +18,7 @@ begun-requires-clause-rest g c κs within =
     let q = c.args.table.now.period.repetitions in (
       c.requires.rest.0,
       periods_of q c.requires.rest.1,
-      c.begun_nets_go_on.ensures.whole c.args.net.now c.args.table.now.period c.requires.rest.1
+      periods_may_leave g.A.Actor.steps c.args.net.now c.args.table.now.period c.requires.rest.1
           (c.nets_have_periods.ensures c.args.table.now.period c.requires.fits.period),
       c.requires.rest.2,
     )
@@ -46,12 +47,12 @@ returns g c =
     let periods : ℕ = c.args.blocks * c.args.table.now.factor in
     let later = lists c.args.inputs.now in
     let begins = c.in_ok-begun.ensures.begins in
-    let asks = c.feeds_go_on.ensures.inputs n c.args.rest.now m q periods later begins in
+    let asks = begun_nets_ask g.A.Actor.steps _ n c.args.rest.now m q periods later begins in
     MatchResult-weaker c.feed_rings.result c.feed_rings.ensures
     (λ fed made. record {
       homed = made.0.homed;
       patient = made.0.patient;
-      goes_on = c.begun_nets_go_on.ensures.runs n m c.args.table.now.period periods later
+      goes_on = begun_runs_go_on g.A.Actor.steps _ n m c.args.table.now.period periods later
           (lists fed.0.outputs.items)
           c.args.rest.now fed.1 (c.nets_have_periods.ensures c.args.table.now.period
           c.requires.fits.period) begins

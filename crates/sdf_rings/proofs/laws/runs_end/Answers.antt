@@ -1,7 +1,6 @@
 use Rattle.sdf_actor.specs.Nets.{wiring, answers}
 use Rattle.sdf_rings.specs.Machine.{at_start}
 use Rattle.sdf_rings.specs.MachineLaws.{firings, capacity}
-use Rattle.sdf_rings.proofs.Kept.{NetLaws}
 use Rattle.sdf_rings.proofs.Reaches.{run_moves}
 use Rattle.sdf_rings.proofs.Runs.{runs_end_in_histories}
 use Rattle.sdf_rings.proofs.laws.runs_end.Goals as goal
@@ -13,10 +12,4 @@ returns-clause-count g c = λ n inputs p b es plan run.
 
 pub returns-clause-histories : goal.returns-clause-histories
 returns-clause-histories g c =
-    let laws : NetLaws g.A.Actor.steps = record {
-      wired = c.nets_are_wired.ensures.wired;
-      taken = c.taken_stays.ensures;
-      dealt = c.put_stays.ensures.dealt;
-      puts = c.put_stays.ensures.stays;
-    } in
-    runs_end_in_histories c.alike_sequences.ensures c.tables_repeat.ensures g.A.Actor.steps laws
+    runs_end_in_histories g.A.Actor.steps

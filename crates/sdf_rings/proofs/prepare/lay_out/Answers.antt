@@ -1,6 +1,7 @@
 use Rattle.std.proofs.Common.{◌≡◌, ◌<◌, ℕ, length, slice_index, slice_index_or, refl, sym, ◌∙◌, subst, ap, arith}
 use Rattle.sdf_graph.specs.Sequences.{repeated}
 use Rattle.sdf_actor.specs.Wires.{lists}
+use Rattle.sdf_actor.proofs.Theorems.{nets_are_wired}
 use Rattle.sdf_rings.specs.Begun.{place, IsBegun}
 use Rattle.sdf_rings.specs.Prepared.{IsPrepared}
 use Rattle.sdf_rings.proofs.Lists.{vec_long}
@@ -10,16 +11,14 @@ use Rattle.sdf_rings.proofs.Planning.{AskedPlan}
 use Rattle.sdf_rings.proofs.Prepared as begun
 use Rattle.sdf_rings.proofs.Prepared.{AreLaidOut}
 use Rattle.sdf_rings.proofs.prepare.lay_out.Given.{Over}
-use Rattle.sdf_rings.proofs.prepare.lay_out.Goals.{After-tables_repeat, In_ok-seats}
+use Rattle.sdf_rings.proofs.prepare.lay_out.Goals.{After-len, In_ok-seats}
 use Rattle.sdf_rings.proofs.prepare.lay_out.Goals as goal
 
-asked : (g : Over) (c : After-tables_repeat g) →
+asked : (g : Over) (c : After-len g) →
     AskedPlan g.A.Actor.steps c.args.start.now.net.now c.args.table.now c.args.blocks
     (slice_index c.args.start.now.asked.items)
 asked g c = record {
-  alike = c.alike_sequences.ensures;
-  repeats = c.tables_repeat.ensures;
-  wired = c.nets_are_wired.ensures.wired c.args.start.now.net.now c.requires.start.can.net;
+  wired = nets_are_wired g.A.Actor.steps c.args.start.now.net.now c.requires.start.can.net;
   is = c.requires.plan;
 }
 
@@ -69,16 +68,16 @@ laid g c plan =
 
 pub open_rings-requires-clause-held : goal.open_rings-requires-clause-held
 open_rings-requires-clause-held g c κs within =
-    plans.held (asked g (goal.at.open_rings-requires-clause-held g c).After-tables_repeat)
+    plans.held (asked g (goal.at.open_rings-requires-clause-held g c).After-len)
 
 pub columns-requires : goal.columns-requires
 columns-requires g c =
-    let plan = asked g (goal.at.columns-requires g c).After-tables_repeat in
+    let plan = asked g (goal.at.columns-requires g c).After-len in
     (plan.is.plan.width, plans.wide plan)
 
 pub seats-requires-clause-roster : goal.seats-requires-clause-roster
 seats-requires-clause-roster g c κs within =
-    let plan = asked g (goal.at.seats-requires-clause-roster g c).After-tables_repeat in
+    let plan = asked g (goal.at.seats-requires-clause-roster g c).After-len in
     let long = ap length c.deref.ensures.value ∙ (vec_long c.in_ok-places.places
     ∙ (c.in_ok-places.ensures.all ∙ c.len.ensures)) in
     subst (λ w. (i : ℕ) → i < length w → slice_index w i < length c.deref.result.now) (sym c.order.ensures)
@@ -93,12 +92,12 @@ seats-requires-clause-ends g c κs within = λ a h.
 pub new-requires-clause-rings : goal.new-requires-clause-rings
 new-requires-clause-rings g c κs within =
     let here = goal.at.new-requires-clause-rings g c in
-    begun.are_rings (laid g here.In_ok-seats (asked g here.After-tables_repeat))
+    begun.are_rings (laid g here.In_ok-seats (asked g here.After-len))
 
 pub returns : goal.returns
 returns g c =
     let here = goal.at.returns g c in
-    let plan = asked g here.After-tables_repeat in
+    let plan = asked g here.After-len in
     let all = laid g here.In_ok-seats plan in
     subst (λ r. IsPrepared g.A.Actor.steps c.args.start.now.net.now (lists c.args.start.now.inputs.now)
     c.args.table.now c.args.blocks r) (sym c.new.ensures)

@@ -3,6 +3,7 @@ use Rattle.std.specs.Prelude.{sum}
 use Rattle.std.proofs.lemmas.List.{length-map}
 use Rattle.sdf_actor.specs.Wires.{lists}
 use Rattle.sdf_actor.specs.declared.sides.Lists.TheVariants.{Outputs}
+use Rattle.sdf_answer.proofs.Theorems.{blocks_are_small, nets_have_periods}
 use Rattle.sdf_rings.proofs.Lists.{vec_long}
 use Rattle.sdf_rings.proofs.Starting.{can_start, is_asked}
 use Rattle.sdf_rings.proofs.prepare.prepare_homed.Goals as goal
@@ -17,13 +18,15 @@ asked-requires g c = omega (
 pub lay_out-requires-clause-start : goal.lay_out-requires-clause-start
 lay_out-requires-clause-start g c κs within =
     let n = c.args.net.now in
+    let facts = c.net_facts.ensures in
     let p = c.args.table.now.period in
     let b = c.args.blocks in
     let j = c.args.table.now.factor in
     let asked = c.in_ok-asked.ensures ∙ ap (map (λ q. b * (j * q))) c.repetitions.ensures in
     record {
-      can = can_start g.A.Actor.steps c.nets_can_run.ensures n p
-          (c.nets_have_periods.ensures c.args.table.now.period c.requires.fits.period) b j
+      can = can_start g.A.Actor.steps n p
+          (nets_have_periods g.A.Actor.steps n facts.net facts.graph facts.alike facts.accepted p
+          c.requires.fits.period) b j
           c.in_ok-asked.field-0.items asked
           (lists c.args.inputs.now) c.samples_of_blocks.result c.first_sample.result c.net_facts.ensures.phases
           c.requires.inputs
@@ -39,21 +42,24 @@ lay_out-requires-clause-start g c κs within =
 pub lay_out-requires-clause-plan : goal.lay_out-requires-clause-plan
 lay_out-requires-clause-plan g c κs within =
     let n = c.args.net.now in
+    let facts = c.net_facts.ensures in
     let p = c.args.table.now.period in
     let b = c.args.blocks in
     let j = c.args.table.now.factor in
-    is_asked g.A.Actor.steps c.nets_can_run.ensures n p
-    (c.nets_have_periods.ensures c.args.table.now.period c.requires.fits.period) b j
+    is_asked g.A.Actor.steps n p
+    (nets_have_periods g.A.Actor.steps n facts.net facts.graph facts.alike facts.accepted p
+    c.requires.fits.period) b j
     c.in_ok-asked.field-0.items
     (c.in_ok-asked.ensures ∙ ap (map (λ q. b * (j * q))) c.repetitions.ensures)
-    c.graphs_are_sound.ensures c.graphs_have_periods.ensures c.args.table.now.table
+    c.args.table.now.table
     c.requires.fits.table
 
 pub samples_of_blocks-requires : goal.samples_of_blocks-requires
 samples_of_blocks-requires g c =
     let q = c.args.table.now.period.repetitions in
-    let few = c.blocks_are_small.ensures c.args.table.now.factor q Outputs c.requires.fits.period.least
-    c.requires.fits.table.short in
+    let facts = c.net_facts.ensures in
+    let few = blocks_are_small g.A.Actor.steps c.args.net.now facts.net facts.graph facts.alike
+    c.args.table.now.factor q Outputs c.requires.fits.period.least c.requires.fits.table.short in
     omega (
       arith,
       few,

@@ -11,7 +11,7 @@ run-rounds-requires-clause-met g c κs within =
 
 pub run-rounds-requires-clause-count : goal.run-rounds-requires-clause-count
 run-rounds-requires-clause-count g c κs within =
-    few_rounds c.graphs_are_sound.ensures c.graphs_have_periods.ensures c.tables_repeat.ensures c.tables_count.ensures
+    few_rounds
     g.A.Actor.steps c.args.net.now c.args.table.now.period
     (c.nets_have_periods.ensures c.args.table.now.period c.requires.fits.period)
     c.args.table.now.factor c.args.table.now.table
@@ -22,7 +22,7 @@ run-rounds-requires-clause-count g c κs within =
 pub returns : goal.returns
 returns g c =
     let run = c.run-rounds.ensures in
-    has_ended c.graphs_are_sound.ensures c.graphs_have_periods.ensures c.tables_repeat.ensures c.tables_count.ensures
+    has_ended
     g.A.Actor.steps c.args.net.now c.args.table.now.period
     (c.nets_have_periods.ensures c.args.table.now.period c.requires.fits.period)
     c.args.table.now.factor c.args.table.now.table

@@ -21,10 +21,9 @@ take_front-requires-clause-many g c =
     let x = c.args.stand.now in
     let st = c.requires.stand in
     let inputs = lists c.args.inputs.now in
-    let keep = c.nodes_can_step.ensures.phases in
-    taken_is s keep n inputs x st c.node-node.result.now c.node-node.ensures c.phase-phase.result c.phase-phase.ensures
+    taken_is s n inputs x st c.node-node.result.now c.node-node.ensures c.phase-phase.result c.phase-phase.ensures
     c.takes-many.result c.takes-many.ensures ∙
-    (sym (row_sum s keep n inputs x st Input (lists x.takes.items) st.takes c.phase-phase.result c.phase-phase.ensures
+    (sym (row_sum s n inputs x st Input (lists x.takes.items) st.takes c.phase-phase.result c.phase-phase.ensures
     c.row.result.now c.row.ensures) ∙
     ap (start_at (slice_index c.row.result.now)) (sym (c.as_mut_slice.ensures.len ∙ st.ins_all)))
 
@@ -34,7 +33,7 @@ take_front-requires-clause-known g c =
     let n = c.args.net.now in
     let x = c.args.stand.now in
     let st = c.requires.stand in
-    holds_by_row s c.nodes_can_step.ensures.phases n (lists c.args.inputs.now) x st c.phase-phase.result
+    holds_by_row s n (lists c.args.inputs.now) x st c.phase-phase.result
     c.phase-phase.ensures c.row.result.now c.row.ensures c.as_mut_slice.result.now
     (c.as_mut_slice.ensures.len ∙ st.ins_all)
     (subst (HoldsEach (sizes s Input (node n x.actor) x.done)) (sym c.as_mut_slice.ensures.value) c.requires.can.holds)
@@ -42,7 +41,7 @@ take_front-requires-clause-known g c =
 pub slice_bounds-step_front-end : goal.slice_bounds-step_front-end
 slice_bounds-step_front-end g c =
     let x = c.args.stand.now in
-    let fits = taken_fits g.A.Actor.steps c.nodes_can_step.ensures.phases c.args.net.now (lists c.args.inputs.now) x
+    let fits = taken_fits g.A.Actor.steps c.args.net.now (lists c.args.inputs.now) x
     c.requires.stand c.node-node.result.now c.node-node.ensures c.phase-phase.result c.phase-phase.ensures
     c.takes-many.result c.requires.left c.takes-many.ensures in
     sym (length-take-le c.takes-many.result c.deref.result.now (omega arith))
@@ -50,11 +49,11 @@ slice_bounds-step_front-end g c =
 pub step_front-requires-clause-can : goal.step_front-requires-clause-can
 step_front-requires-clause-can g c = λ κs within.
     let x = c.args.stand.now in
-    let fits = taken_fits g.A.Actor.steps c.nodes_can_step.ensures.phases c.args.net.now (lists c.args.inputs.now) x
+    let fits = taken_fits g.A.Actor.steps c.args.net.now (lists c.args.inputs.now) x
     c.requires.stand c.node-node.result.now c.node-node.ensures c.phase-phase.result c.phase-phase.ensures
     c.takes-many.result c.requires.left c.takes-many.ensures in
-    can_step g.A.Actor.steps c.nodes_can_step.ensures.phases c.args.net.now (lists c.args.inputs.now) x c.requires.stand
-    c.nodes_can_step.ensures.steps c.requires.left
+    can_step g.A.Actor.steps c.args.net.now (lists c.args.inputs.now) x c.requires.stand
+    c.requires.left
     c.node-node.result.now c.phase-phase.result (length (take c.takes-many.result c.deref.result.now))
     c.puts-more.result c.node-node.ensures c.phase-phase.ensures
     (length-take-le c.takes-many.result c.deref.result.now (omega arith) ∙ c.takes-many.ensures) c.puts-more.ensures
@@ -62,7 +61,7 @@ step_front-requires-clause-can g c = λ κs within.
 pub slice_bounds-put_told-end : goal.slice_bounds-put_told-end
 slice_bounds-put_told-end g c =
     let x = c.args.stand.now in
-    let fits = put_fits g.A.Actor.steps c.nodes_can_step.ensures.phases c.args.net.now (lists c.args.inputs.now) x
+    let fits = put_fits g.A.Actor.steps c.args.net.now (lists c.args.inputs.now) x
     c.requires.stand c.node-node.result.now c.node-node.ensures c.phase-phase.result c.phase-phase.ensures
     c.puts-more.result c.requires.left c.puts-more.ensures in
     sym (length-take-le c.puts-more.result c.deref-2.result.now (omega arith))
@@ -70,7 +69,7 @@ slice_bounds-put_told-end g c =
 pub put_told-requires-clause-ports : goal.put_told-requires-clause-ports
 put_told-requires-clause-ports g c = λ κs within.
     let x = c.args.stand.now in
-    outs_row g.A.Actor.steps c.nodes_can_step.ensures.phases c.args.net.now (lists c.args.inputs.now) x c.requires.stand
+    outs_row g.A.Actor.steps c.args.net.now (lists c.args.inputs.now) x c.requires.stand
     c.phase-phase.result c.phase-phase.ensures c.row-2.result.now c.row-2.ensures c.as_mut_slice-5.result.now
     (c.as_mut_slice-5.ensures.len ∙ c.requires.stand.outs_all)
 
@@ -81,13 +80,12 @@ put_told-requires-clause-length g c = λ κs within.
     let x = c.args.stand.now in
     let st = c.requires.stand in
     let inputs = lists c.args.inputs.now in
-    let keep = c.nodes_can_step.ensures.phases in
-    let fits = put_fits s keep n inputs x st c.node-node.result.now c.node-node.ensures c.phase-phase.result
+    let fits = put_fits s n inputs x st c.node-node.result.now c.node-node.ensures c.phase-phase.result
     c.phase-phase.ensures c.puts-more.result c.requires.left c.puts-more.ensures in
     length-take-le c.puts-more.result c.deref-2.result.now (omega arith) ∙
-    (put_is s keep n inputs x st c.node-node.result.now c.node-node.ensures c.phase-phase.result c.phase-phase.ensures
+    (put_is s n inputs x st c.node-node.result.now c.node-node.ensures c.phase-phase.result c.phase-phase.ensures
     c.puts-more.result c.puts-more.ensures ∙
-    (sym (row_sum s keep n inputs x st Output (lists x.puts.items) st.puts c.phase-phase.result c.phase-phase.ensures
+    (sym (row_sum s n inputs x st Output (lists x.puts.items) st.puts c.phase-phase.result c.phase-phase.ensures
     c.row-2.result.now c.row-2.ensures) ∙
     ap (start_at (slice_index c.row-2.result.now)) (sym (c.as_mut_slice-5.ensures.len ∙ st.outs_all))))
 
@@ -97,7 +95,7 @@ put_told-requires-clause-room g c = λ κs within.
     let n = c.args.net.now in
     let x = c.args.stand.now in
     let st = c.requires.stand in
-    room_by_row s c.nodes_can_step.ensures.phases n (lists c.args.inputs.now) x st c.phase-phase.result
+    room_by_row s n (lists c.args.inputs.now) x st c.phase-phase.result
     c.phase-phase.ensures c.row-2.result.now c.row-2.ensures c.as_mut_slice-5.result.now
     (c.as_mut_slice-5.ensures.len ∙ st.outs_all)
     (subst (HasRoomEach (sizes s Output (node n x.actor) x.done)) (sym c.as_mut_slice-5.ensures.value)
@@ -110,15 +108,14 @@ returns-clause-fired g c =
     let x = c.args.stand.now in
     let st = c.requires.stand in
     let inputs = lists c.args.inputs.now in
-    let keep = c.nodes_can_step.ensures.phases in
     let y = c.node-node.result.now in
     let y_is = c.node-node.ensures in
     let j = c.phase-phase.result in
     let j_is = c.phase-phase.ensures in
     let many = c.takes-many.result in
     let more = c.puts-more.result in
-    let fits = taken_fits s keep n inputs x st y y_is j j_is many c.requires.left c.takes-many.ensures in
-    let holds = put_fits s keep n inputs x st y y_is j j_is more c.requires.left c.puts-more.ensures in
+    let fits = taken_fits s n inputs x st y y_is j j_is many c.requires.left c.takes-many.ensures in
+    let holds = put_fits s n inputs x st y y_is j j_is more c.requires.left c.puts-more.ensures in
     let taken = with_items_is x.taken c.take_front.new.taken (omega arith) in
     let put = with_items_is x.put c.step_front.new.put (omega arith) in
     let mid = with_items x.ins c.take_front.new.ends in
@@ -127,17 +124,17 @@ returns-clause-fired g c =
     let outs = with_items_is x.outs c.put_told.new.outs (omega arith) in
     let seen = ap (take many) (c.deref.ensures.value ∙ taken) in
     let out = ap (take more) (c.deref-2.ensures.value ∙ put) in
-    let took = drew_by_firing s keep n inputs x st j j_is c.row.result.now c.row.ensures c.as_mut_slice.result.now
+    let took = drew_by_firing s n inputs x st j j_is c.row.result.now c.row.ensures c.as_mut_slice.result.now
     (c.as_mut_slice.ensures.len ∙ st.ins_all) c.take_front.new.ends (take many c.take_front.new.taken)
     c.take_front.ensures in
     let drew = drew_then x.ins.items c.take_front.new.ends c.put_told.new.ins
     (λ i. block_of (sizes s Input (node n x.actor) x.done) i (take many c.take_front.new.taken)) (omega arith)
     (rw c.as_mut_slice.ensures.value at took) (rw (c.as_mut_slice-4.ensures.value ∙ ins) at
     c.put_told.ensures.looked) in
-    let gave = gave_by_firing s keep n inputs x st j j_is c.row-2.result.now c.row-2.ensures c.as_mut_slice-5.result.now
+    let gave = gave_by_firing s n inputs x st j j_is c.row-2.result.now c.row-2.ensures c.as_mut_slice-5.result.now
     (c.as_mut_slice-5.ensures.len ∙ st.outs_all) c.put_told.new.outs (take more c.step_front.new.put)
     (rw out at c.put_told.ensures.gave) in
-    fired s c.firing_laws.ensures n c.requires.net inputs x st
+    fired s n c.requires.net inputs x st
     c.requires.left
     (take many c.take_front.new.taken) (take more c.step_front.new.put) c.step_front.new.state
     (with_items mid c.put_told.new.ins) (with_items x.outs c.put_told.new.outs)
@@ -145,9 +142,9 @@ returns-clause-fired g c =
     (rw told drew)
     (rw outs (rw c.as_mut_slice-5.ensures.value at gave))
     (length-take-le many c.take_front.new.taken (omega arith)
-    ∙ taken_is s keep n inputs x st y y_is j j_is many c.takes-many.ensures)
+    ∙ taken_is s n inputs x st y y_is j j_is many c.takes-many.ensures)
     (length-take-le more c.step_front.new.put (omega arith)
-    ∙ put_is s keep n inputs x st y y_is j j_is more c.puts-more.ensures)
+    ∙ put_is s n inputs x st y y_is j j_is more c.puts-more.ensures)
     (rw (seen, y_is) at c.step_front.ensures.state)
     (rw (seen, y_is) at c.step_front.ensures.put)
     (omega arith) (omega arith) (rw told (rw c.as_mut_slice-5.ensures.value at c.put_told.ensures.begin))
@@ -166,12 +163,12 @@ put_told-requires-clause-pairs g c = λ κs within.
 
 pub row-requires : goal.row-requires
 row-requires g c =
-    row_known g.A.Actor.steps c.nodes_can_step.ensures.phases c.args.net.now (lists c.args.inputs.now) c.args.stand.now
+    row_known g.A.Actor.steps c.args.net.now (lists c.args.inputs.now) c.args.stand.now
     c.requires.stand Input (lists c.args.stand.now.takes.items) c.requires.stand.takes c.phase-phase.result
     c.phase-phase.ensures
 
 pub row-requires-2 : goal.row-requires-2
 row-requires-2 g c =
-    row_known g.A.Actor.steps c.nodes_can_step.ensures.phases c.args.net.now (lists c.args.inputs.now) c.args.stand.now
+    row_known g.A.Actor.steps c.args.net.now (lists c.args.inputs.now) c.args.stand.now
     c.requires.stand Output (lists c.args.stand.now.puts.items) c.requires.stand.puts c.phase-phase.result
     c.phase-phase.ensures

@@ -9,17 +9,17 @@ use Rattle.sdf_rings.proofs.together.fire_run_blocks.Goals as goal
 
 pub take_front-requires-clause-ports : goal.take_front-requires-clause-ports
 take_front-requires-clause-ports g c =
-    in_ports g.A.Actor.steps c.firing_laws.ensures c.blocks_join.ensures c.args.net.now c.requires.net
+    in_ports g.A.Actor.steps c.args.net.now c.requires.net
     (lists c.args.inputs.now)
-    c.args.stand.now c.requires.stand c.args.many c.requires.can c.nodes_can_step.ensures.phases
+    c.args.stand.now c.requires.stand c.args.many c.requires.can
     c.node-node.result.now c.node-node.ensures _ c.takes.ensures c.row.ensures
     (length c.as_mut_slice.result.now) (c.as_mut_slice.ensures.len ∙ c.requires.stand.ins_all)
 
 pub take_front-requires-clause-known : goal.take_front-requires-clause-known
 take_front-requires-clause-known g c =
-    holds_run g.A.Actor.steps c.firing_laws.ensures c.blocks_join.ensures c.args.net.now c.requires.net
+    holds_run g.A.Actor.steps c.args.net.now c.requires.net
     (lists c.args.inputs.now)
-    c.args.stand.now c.requires.stand c.args.many c.requires.can c.nodes_can_step.ensures.phases
+    c.args.stand.now c.requires.stand c.args.many c.requires.can
     c.row.result.now c.row.ensures c.as_mut_slice.result.now c.as_mut_slice.ensures.value
 
 pub step_front_many-requires-clause-can : goal.step_front_many-requires-clause-can
@@ -27,30 +27,30 @@ step_front_many-requires-clause-can g c κs within =
     let s = g.A.Actor.steps in
     let x = c.args.stand.now in
     let all = c.takes.result * c.args.many in
-    let fits = taken_within s c.firing_laws.ensures c.blocks_join.ensures c.args.net.now c.requires.net
+    let fits = taken_within s c.args.net.now c.requires.net
     (lists c.args.inputs.now) x
     c.requires.stand c.args.many c.requires.can c.node-node.result.now c.node-node.ensures c.takes.result
     c.takes.ensures in
-    can_step_run s c.firing_laws.ensures c.blocks_join.ensures c.args.net.now c.requires.net (lists c.args.inputs.now) x
+    can_step_run s c.args.net.now c.requires.net (lists c.args.inputs.now) x
     c.requires.stand
-    c.args.many c.requires.can c.nodes_can_step_many.ensures
+    c.args.many c.requires.can
     c.node-node.result.now c.node-node.ensures c.takes.result c.puts.result
     (length (take all c.deref.result.now)) (c.puts.result * c.args.many)
     c.takes.ensures c.puts.ensures (length-take-le all c.deref.result.now (omega arith)) refl
 
 pub put-requires-clause-ports : goal.put-requires-clause-ports
 put-requires-clause-ports g c =
-    out_ports g.A.Actor.steps c.firing_laws.ensures c.blocks_join.ensures c.args.net.now c.requires.net
+    out_ports g.A.Actor.steps c.args.net.now c.requires.net
     (lists c.args.inputs.now)
-    c.args.stand.now c.requires.stand c.args.many c.requires.can c.nodes_can_step.ensures.phases
+    c.args.stand.now c.requires.stand c.args.many c.requires.can
     c.node-node.result.now c.node-node.ensures _ c.puts.ensures c.row-2.ensures
     (length c.as_mut_slice-5.result.now) (c.as_mut_slice-5.ensures.len ∙ c.requires.stand.outs_all)
 
 pub put-requires-clause-room : goal.put-requires-clause-room
 put-requires-clause-room g c =
-    room_run g.A.Actor.steps c.firing_laws.ensures c.blocks_join.ensures c.args.net.now c.requires.net
+    room_run g.A.Actor.steps c.args.net.now c.requires.net
     (lists c.args.inputs.now)
-    c.args.stand.now c.requires.stand c.args.many c.requires.can c.nodes_can_step.ensures.phases
+    c.args.stand.now c.requires.stand c.args.many c.requires.can
     c.row-2.result.now c.row-2.ensures c.as_mut_slice-5.result.now c.as_mut_slice-5.ensures.value
 
 pub returns-clause-fired : goal.returns-clause-fired
@@ -60,19 +60,17 @@ returns-clause-fired g c =
     let x = c.args.stand.now in
     let st = c.requires.stand in
     let inputs = lists c.args.inputs.now in
-    let keep = c.nodes_can_step.ensures.phases in
     let y = c.node-node.result.now in
     let y_is = c.node-node.ensures in
     let many = c.args.many in
     let all = c.takes.result * many in
     let more = c.puts.result * many in
-    let join = c.blocks_join.ensures in
     let size_is = c.takes.ensures ∙ ap (λ v. takes_of s v 0) y_is in
     let made_is = c.puts.ensures ∙ ap (λ v. puts_of s v 0) y_is in
-    let fits = taken_within s c.firing_laws.ensures join n c.requires.net inputs x st many c.requires.can y
+    let fits = taken_within s n c.requires.net inputs x st many c.requires.can y
     y_is c.takes.result
     c.takes.ensures in
-    let holds = put_within s c.firing_laws.ensures join n c.requires.net inputs x st many c.requires.can y
+    let holds = put_within s n c.requires.net inputs x st many c.requires.can y
     y_is c.puts.result
     c.puts.ensures in
     let seen_taken = with_items x.taken c.take_front.new.taken in
@@ -87,16 +85,16 @@ returns-clause-fired g c =
     let out = ap (take more) (c.deref-2.ensures.value ∙ put) in
     let t = take all c.take_front.new.taken in
     let b = take more c.step_front_many.new.put in
-    let drew = drew_run s c.firing_laws.ensures join n c.requires.net inputs x st many c.requires.can keep
+    let drew = drew_run s n c.requires.net inputs x st many c.requires.can
     c.row.result.now c.row.ensures
     c.takes.result size_is c.as_mut_slice.result.now c.take_front.new.ends c.as_mut_slice.ensures.value t
     c.take_front.ensures in
-    let gave = gave_run s c.firing_laws.ensures join n c.requires.net inputs x st many c.requires.can keep
+    let gave = gave_run s n c.requires.net inputs x st many c.requires.can
     c.row-2.result.now
     c.row-2.ensures c.puts.result made_is c.as_mut_slice-5.result.now c.put.new.ends
     c.as_mut_slice-5.ensures.value b
     (rw out at c.put.ensures) in
-    run_fired s c.firing_laws.ensures join n c.requires.net inputs x st many c.requires.can t b
+    run_fired s n c.requires.net inputs x st many c.requires.can t b
     (length-take-le all c.take_front.new.taken (omega arith) ∙ ap (λ m. m * many) size_is)
     (length-take-le more c.step_front_many.new.put (omega arith) ∙ ap (λ m. m * many) made_is)
     c.step_front_many.new.state
@@ -111,7 +109,7 @@ pub take_front-requires-clause-long : goal.take_front-requires-clause-long
 take_front-requires-clause-long g c =
     let s = g.A.Actor.steps in
     let x = c.args.stand.now in
-    let fits = taken_within s c.firing_laws.ensures c.blocks_join.ensures c.args.net.now c.requires.net
+    let fits = taken_within s c.args.net.now c.requires.net
     (lists c.args.inputs.now) x
     c.requires.stand c.args.many c.requires.can c.node-node.result.now c.node-node.ensures c.takes.result
     c.takes.ensures in

@@ -5,7 +5,7 @@ use Rattle.sdf_rings.proofs.together.possible.Goals as goal
 
 pub returns-clause-can : goal.returns-clause-can
 returns-clause-can g c =
-    can_run g.A.Actor.steps c.nodes_can_step.ensures.phases c.args.net.now (lists c.args.inputs.now) c.args.stand.now
+    can_run g.A.Actor.steps c.args.net.now (lists c.args.inputs.now) c.args.stand.now
     c.requires.stand c.requires.goes
     c.node-node.result.now c.node-node.ensures c.row.result.now c.row-2.result.now c.row.ensures c.row-2.ensures
     c.takes.result c.puts.result c.whole_blocks-many.result c.whole_blocks-many-2.result c.blocks_held-many.result

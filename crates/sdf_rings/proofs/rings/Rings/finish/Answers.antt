@@ -3,40 +3,16 @@ use Rattle.std.proofs.lemmas.List.{with_items_is}
 use Rattle.sdf_actor.specs.Wires.{lists}
 use Rattle.sdf_answer.specs.Answer.{AreOutputs}
 use Rattle.sdf_rings.specs.Changes.{AllBecame}
-use Rattle.sdf_rings.specs.Rests.{InHand, AreRings, AreAtRest, AreGiven}
+use Rattle.sdf_rings.specs.Rests.{InHand, AreRings, HaveMet, AreGiven}
 use Rattle.sdf_rings.specs.Asks.{IsPlanned}
 use Rattle.sdf_rings.specs.Seats.{HasIdled}
 use Rattle.sdf_rings.specs.Totals.{total_left}
 use Rattle.sdf_actor.specs.Laws.{AreCountsOf}
 use Rattle.sdf_rings.proofs.Ended.{outputs_given}
 use Rattle.sdf_rings.proofs.Planned.{planned_kept}
+use Rattle.sdf_rings.proofs.Rests.{are_at_rest}
 use Rattle.sdf_rings.proofs.RoundsFire.{idle_leaves}
 use Rattle.sdf_rings.proofs.rings.Rings.finish.Goals as goal
-
-pub met_is_rest-requires-clause-seats : goal.met_is_rest-requires-clause-seats
-met_is_rest-requires-clause-seats g c κs within =
-    let x = c.self.inside in
-    let s = g.A.Actor.steps in
-    let l = c.meet_all.auto.seats in
-    let m = c.deref_mut.ensures.len in
-    let same = with_items_is x.seats c.meet_all.new.seats (omega arith) in
-    rw (c.deref-2.ensures.value, same) c.meet_all.ensures.rings.each
-
-pub met_is_rest-requires-clause-placed : goal.met_is_rest-requires-clause-placed
-met_is_rest-requires-clause-placed g c κs within =
-    let x = c.self.inside in
-    let l = c.meet_all.auto.seats in
-    let m = c.deref_mut.ensures.len in
-    let same = with_items_is x.seats c.meet_all.new.seats (omega arith) in
-    rw (c.deref-2.ensures.value, c.deref-3.ensures.value, same, ← c.deref.ensures.value) c.meet_all.ensures.rings.placed
-
-pub met_is_rest-requires-clause-met : goal.met_is_rest-requires-clause-met
-met_is_rest-requires-clause-met g c κs within =
-    let x = c.self.inside in
-    let l = c.meet_all.auto.seats in
-    let m = c.deref_mut.ensures.len in
-    let same = with_items_is x.seats c.meet_all.new.seats (omega arith) in
-    rw (c.deref-2.ensures.value, c.deref-3.ensures.value, same, ← c.deref.ensures.value) c.meet_all.ensures.met
 
 pub returns : goal.returns
 returns g c = λ order cap k plan counts.
@@ -63,10 +39,10 @@ returns g c = λ order cap k plan counts.
     idle_leaves s n x.seats.items c.meet_all.new.seats len idle in
     let left : total_left c.meet_all.new.seats ≡ 0 = omega arith in
     let times = subst (λ (v : InHand _ _ _). AreCountsOf v.net order k) (sym c.self.view_is) counts in
-    let rest : AreAtRest s n (lists x.inputs.now) c.meet_all.new.seats x.places.items =
-    rw (← same, ← c.deref-2.ensures.value, ← c.deref-3.ensures.value) c.met_is_rest.ensures in
+    let met : HaveMet n c.meet_all.new.seats x.places.items = rw (← c.deref.ensures.value) c.meet_all.ensures.met in
+    let rest = are_at_rest s n (lists x.inputs.now) c.meet_all.new.seats x.places.items rings met in
     let given : AreGiven n c.meet_all.new.seats x.places.items (length n.nodes) c.collect.new.outputs =
-    rw (← same, ← c.deref_mut-2.ensures.value, ← c.deref-4.ensures.value) c.collect.ensures.each in
+    rw (← same, ← c.deref_mut-2.ensures.value, ← c.deref-2.ensures.value) c.collect.ensures.each in
     let made = c.collect.ensures.count in
     let room = c.deref_mut-3.ensures.len in
     let outputs = with_items_is x.outputs c.collect.new.outputs (omega arith) in
@@ -74,5 +50,5 @@ returns g c = λ order cap k plan counts.
     let accepted = c.net_facts.ensures.accepted in
     rw outputs (subst (λ (v : InHand _ _ _). AreOutputs s v.net v.inputs k (lists c.collect.new.outputs)) c.self.view_is
     (outputs_given s n (lists x.inputs.now) c.meet_all.new.seats x.places.items rings order cap mine left rest
-    accepted.0 accepted.1 k times c.sinks_hold_lists.ensures c.histories_make_outputs.ensures.took
+    accepted.0 accepted.1 k times
     c.collect.new.outputs count given))

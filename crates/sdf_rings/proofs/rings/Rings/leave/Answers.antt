@@ -3,18 +3,14 @@ use Rattle.std.proofs.lemmas.List.{with_items_is}
 use Rattle.sdf_actor.specs.Wires.{lists}
 use Rattle.sdf_answer.specs.Feeds.{HasRun}
 use Rattle.sdf_rings.specs.Places.{SameButEnds}
-use Rattle.sdf_rings.specs.Rests.{InHand, HaveMet, AreAtRest, IsPlaced, HoldRest, AreGiven}
+use Rattle.sdf_rings.specs.Rests.{InHand, HaveMet, IsPlaced, HoldRest, AreGiven}
 use Rattle.sdf_rings.specs.Asks.{IsPlanned}
 use Rattle.sdf_rings.specs.Totals.{total_left}
 use Rattle.sdf_actor.specs.Laws.{AreCountsOf}
 use Rattle.sdf_rings.proofs.Ended.{run_given}
 use Rattle.sdf_rings.proofs.Leaving.{placed_kept, given_kept}
+use Rattle.sdf_rings.proofs.Rests.{are_at_rest}
 use Rattle.sdf_rings.proofs.rings.Rings.leave.Goals as goal
-
-pub met_is_rest-requires-clause-met : goal.met_is_rest-requires-clause-met
-met_is_rest-requires-clause-met g c κs within =
-    rw (c.deref.ensures.value, c.deref-2.ensures.value)
-    (subst (λ (v : InHand _ _ _). HaveMet v.net v.seats v.places) (sym c.self.view_is) c.requires.met)
 
 pub collect-requires-clause-placed : goal.collect-requires-clause-placed
 collect-requires-clause-placed g c κs within =
@@ -26,7 +22,7 @@ collect-requires-clause-placed g c κs within =
     let kept : SameButEnds x.seats.items c.leave.new.seats =
     subst (λ ss. SameButEnds ss c.leave.new.seats) c.deref_mut.ensures.value c.in_ok-rest.ensures.kept in
     let placed = placed_kept n x.seats.items c.leave.new.seats x.places.items c.self.invariant.0.placed kept in
-    subst (λ ps. IsPlaced n c.deref_mut-2.result.now ps) (sym c.deref-4.ensures.value)
+    subst (λ ps. IsPlaced n c.deref_mut-2.result.now ps) (sym c.deref-2.ensures.value)
     (subst (λ ss. IsPlaced n ss x.places.items) (sym (c.deref_mut-2.ensures.value ∙ same)) placed)
 
 pub returns : goal.returns
@@ -40,8 +36,8 @@ returns g c = λ order cap k plan counts.
     let kept : SameButEnds x.seats.items c.leave.new.seats =
     subst (λ ss. SameButEnds ss c.leave.new.seats) c.deref_mut.ensures.value c.in_ok-rest.ensures.kept in
     let held : HoldRest n x.seats.items x.places.items c.in_ok-rest.rest =
-    subst (λ ps. HoldRest n x.seats.items ps c.in_ok-rest.rest) c.deref-3.ensures.value
-    (subst (λ ss. HoldRest n ss c.deref-3.result.now c.in_ok-rest.rest) c.deref_mut.ensures.value
+    subst (λ ps. HoldRest n x.seats.items ps c.in_ok-rest.rest) c.deref.ensures.value
+    (subst (λ ss. HoldRest n ss c.deref.result.now c.in_ok-rest.rest) c.deref_mut.ensures.value
     c.in_ok-rest.ensures.rest) in
     let many = c.collect.ensures.count in
     let long = c.deref_mut-3.ensures.len in
@@ -50,11 +46,11 @@ returns g c = λ order cap k plan counts.
     let mine = subst (λ (v : InHand _ _ _). IsPlanned s v.net v.seats v.places order cap) (sym c.self.view_is) plan in
     let left = subst (λ (v : InHand _ _ _). total_left v.seats ≡ 0) (sym c.self.view_is) c.requires.left in
     let asked = subst (λ (v : InHand _ _ _). AreCountsOf v.net order k) (sym c.self.view_is) counts in
-    let rest : AreAtRest s n (lists x.inputs.now) x.seats.items x.places.items =
-    rw (← c.deref.ensures.value, ← c.deref-2.ensures.value) c.met_is_rest.ensures in
+    let met = subst (λ (v : InHand _ _ _). HaveMet v.net v.seats v.places) (sym c.self.view_is) c.requires.met in
+    let rest = are_at_rest s n (lists x.inputs.now) x.seats.items x.places.items c.self.invariant.0 met in
     let collected : AreGiven n c.leave.new.seats x.places.items (length n.nodes) c.collect.new.outputs =
-    subst (λ ps. AreGiven n c.leave.new.seats ps (length n.nodes) c.collect.new.outputs) c.deref-4.ensures.value
-    (subst (λ ss. AreGiven n ss c.deref-4.result.now (length n.nodes) c.collect.new.outputs)
+    subst (λ ps. AreGiven n c.leave.new.seats ps (length n.nodes) c.collect.new.outputs) c.deref-2.ensures.value
+    (subst (λ ss. AreGiven n ss c.deref-2.result.now (length n.nodes) c.collect.new.outputs)
     (c.deref_mut-2.ensures.value ∙ moved) c.collect.ensures.each) in
     let given = given_kept n x.seats.items c.leave.new.seats x.places.items c.self.invariant.0.placed kept
     (length n.nodes) c.collect.new.outputs collected in
@@ -62,5 +58,5 @@ returns g c = λ order cap k plan counts.
     rw same (subst (λ (v : InHand _ _ _). HasRun s v.net v.inputs k (lists c.collect.new.outputs)
     c.in_ok-rest.rest) c.self.view_is
     (run_given s n (lists x.inputs.now) x.seats.items x.places.items c.self.invariant.0 order cap mine left rest
-    accepted.0 accepted.1 k asked c.sinks_hold_lists.ensures c.histories_make_outputs.ensures.took
-    c.collect.new.outputs count given c.nodes_keep_states.ensures c.in_ok-rest.rest held))
+    accepted.0 accepted.1 k asked
+    c.collect.new.outputs count given c.in_ok-rest.rest held))

@@ -7,6 +7,7 @@ use Rattle.sdf_rings.specs.Laws.{AreLeft}
 use Rattle.sdf_rings.specs.Totals.{total_left}
 use Rattle.sdf_rings.specs.Asks.{IsPlanned}
 use Rattle.sdf_rings.proofs.Planned.{planned_kept}
+use Rattle.sdf_rings.proofs.RoundsFire.{rounds_fire}
 use Rattle.sdf_rings.proofs.rings.Rings.work_all.Goals as goal
 
 pub invariant_of-self : goal.invariant_of-self
@@ -65,5 +66,8 @@ returns-clause-fires g c = λ met order cap plan some.
       some = subst (λ (v : InHand _ _ _). 0 < total_left v.seats) (sym c.self.view_is) some;
     } in
     let rounded = rw v at c.run_round.ensures in
-    rw (same, ← c.self.view_is) (c.rounds_go_on.ensures.fires old order cap c.run_round.new.seats left len
+    rw (same, ← c.self.view_is) (rounds_fire s old order cap c.run_round.new.seats left len
     (λ i e h. let w = rounded i e h in record { worked = w.worked; progress = w.progress }))
+
+pub run_round-requires-clause-net : goal.run_round-requires-clause-net
+run_round-requires-clause-net g c κs within = c.self.invariant.0.is_net

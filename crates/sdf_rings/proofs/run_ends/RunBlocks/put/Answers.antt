@@ -16,5 +16,5 @@ returns-then-ends-eq1 g c =
     let r = c.args.self.now in
     lone_end Gave c.args.ends.now c.index-ends-0.result c.put_block.new.end c.args.put.now
     _ c.if-ends-eq1.true c.put_block.ensures
-    (lone_port (slice_index r.sizes.now) r.size r.many c.args.put.now c.blocks_join.ensures
+    (lone_port (slice_index r.sizes.now) r.size r.many c.args.put.now
     (c.requires.ports.size_is ∙ ap (start_at (slice_index r.sizes.now)) c.if-ends-eq1.true) c.requires.length)

@@ -16,5 +16,5 @@ returns-then-ends-eq1 g c =
     let r = c.args.self.now in
     lone_end Drew c.args.ends.now c.index-ends-0.result c.take_block.new.end
     c.take_block.new.block _ c.if-ends-eq1.true c.take_block.ensures
-    (lone_port (slice_index r.sizes.now) r.size r.many c.take_block.new.block c.blocks_join.ensures
+    (lone_port (slice_index r.sizes.now) r.size r.many c.take_block.new.block
     (c.requires.ports.size_is ∙ ap (start_at (slice_index r.sizes.now)) c.if-ends-eq1.true) (omega arith))

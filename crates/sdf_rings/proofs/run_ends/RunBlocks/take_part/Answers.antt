@@ -2,6 +2,7 @@ use Rattle.std.proofs.Common.{ℕ, ◌+◌, ◌*◌, ◌≤◌, ◌∙◌, drop,
 use Rattle.std.proofs.Math.Nat.{mul-le-mul_right}
 use Rattle.std.proofs.lemmas.List.{take_at, length-take-le}
 use Rattle.sdf_node.specs.Many.{nth_block}
+use Rattle.sdf_node.proofs.Theorems.{blocks_join}
 use Rattle.sdf_rings.specs.Ends.{Drew}
 use Rattle.sdf_rings.proofs.RunEnds.{same_joined}
 use Rattle.sdf_rings.proofs.run_ends.RunBlocks.take_part.Goals as goal
@@ -16,7 +17,7 @@ returns-clause-drew g c =
     let long = length-take-le all c.args.scratch.now (omega arith) in
     let row = take_at block rest all (omega (arith, long)) in
     subst (Drew c.args.end.now c.take_block.new.end)
-    (sym ((c.blocks_join.ensures c.args.width r.many block (omega (arith, long))).1)
+    (sym ((blocks_join c.args.width r.many block (omega (arith, long))).1)
     ∙ same_joined (nth_block c.args.width block)
     (λ (i : ℕ). slice_range (nth_block r.size c.deal_row.new.blocks i) c.args.at (c.args.at + c.args.width))
     r.many

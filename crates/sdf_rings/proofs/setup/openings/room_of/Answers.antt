@@ -21,7 +21,7 @@ returns-in-Some g c =
       between_two = λ ne. absurd (ne own);
       own = λ e. (
         c.greatest_put-block.result,
-        greatest_is c.sums_rise.ensures.one shape (wiring g.A.Actor.steps n).rates c.graph.ensures.rates c.args.c
+        greatest_is shape (wiring g.A.Actor.steps n).rates c.graph.ensures.rates c.args.c
             c.greatest_put-block.result inside (omega (arith, put.all, put.some)) greatest,
         omega (arith, c.in-Some.ensures.1, c.cap-held.ensures),
       );

@@ -2,6 +2,7 @@ use Rattle.std.proofs.Common.{◌≤◌, ◌<◌, ℕ, [], sym, ◌∙◌, subst
 use Rattle.std.proofs.lemmas.List.{get_or_default}
 use Rattle.sdf_actor.specs.Nets.{node, cycle_of}
 use Rattle.sdf_actor.specs.Wires.{lists}
+use Rattle.sdf_actor.proofs.Theorems.{nets_are_wired}
 use Rattle.sdf_node.specs.Nodes.{takes_of, puts_of, CanBegin, IsAt}
 use Rattle.sdf_rings.proofs.Begun.{stand_begun}
 use Rattle.sdf_rings.proofs.Lists.{vec_long}
@@ -20,8 +21,8 @@ returns-clause-stand g c =
     (omega (arith, vec_long x.asked, c.requires.start.asked_all, c.requires.known)) in
     let can = subst (λ m. CanBegin inputs m x.room (node n a)) (sym asked_is)
     (c.requires.start.can.begin a c.requires.known) in
-    stand_begun s c.locals_grow.ensures.begins n c.requires.start.can.net
-    (c.nets_are_wired.ensures.wired n c.requires.start.can.net) inputs a c.requires.known
+    stand_begun s n c.requires.start.can.net
+    (nets_are_wired g.A.Actor.steps n c.requires.start.can.net) inputs a c.requires.known
     c.in_ok-begin.field-0 c.args.ins c.args.outs c.in_ok-rows.field-0 c.in_ok-rows-2.field-0 c.in_ok-fillers.field-0
     c.in_ok-fillers-2.field-0 asked x.filler c.max-many.result
     c.requires.ins c.requires.outs c.requires.own (c.requires.start.can.phases a c.requires.known)
