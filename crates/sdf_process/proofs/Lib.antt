@@ -15,6 +15,8 @@ pub mod Outputs
 pub mod Fitting
 pub mod Played
 pub mod Pieced
+pub mod InTurn
+pub mod InParts
 pub mod Parts
 pub mod Readings
 pub mod Fed

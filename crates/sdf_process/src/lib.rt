@@ -7,6 +7,7 @@
 //! `specs/Output.antt` and `specs/Run.antt`.
 #![tactic(auto)]
 
+mod ends;
 mod exchange;
 mod finishing;
 mod hearing;
